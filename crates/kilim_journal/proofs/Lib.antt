@@ -1,0 +1,5 @@
+pub mod Joined
+pub mod Parted
+pub mod Units
+pub mod Tokens
+pub mod Journals

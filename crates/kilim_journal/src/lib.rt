@@ -1,0 +1,9 @@
+//! The journal of a run: its entries, and its text.
+#![tactic(auto)]
+
+mod entry;
+mod lines;
+mod pieces;
+
+pub use entry::{Act, Entry};
+pub use lines::{text, texts_differ, values_are_joined};

@@ -1,0 +1,177 @@
+//! The parts of a line.
+
+ghost use Rattle.std.specs.Prelude.{◌≡◌, ◌<◌, ◌++◌, ◌∷◌, [], length, OnOk};
+ghost use Rattle.std.specs.List.{flat_map};
+ghost use Rattle.std.specs.Fmt.{decimal, signed_decimal};
+ghost use Rattle.kilim_journal.specs.Text.{box_text, hex_digit, escape, stands_in_text, stands_in_name, text_unit, name_unit, name_text, token_text, comma_before, is_followed, tokens_text, shape_text};
+
+use itoa::Buffer;
+use kilim_program::{BoxName, Token};
+use std::alloc::AllocError;
+
+// A number in decimal.
+pub fn push_number(out: &mut Vec<u8>, n: u64) -> Result<(), AllocError>
+    ensures { OnOk result (out.new.items ≡ out.old.items ++ decimal n) }
+{
+    let mut buffer = Buffer::new();
+    out.extend_from_slice(buffer.format(n).as_bytes())
+}
+
+// A signed number in decimal.
+pub fn push_signed(out: &mut Vec<u8>, n: i64) -> Result<(), AllocError>
+    ensures { OnOk result (out.new.items ≡ out.old.items ++ signed_decimal n) }
+{
+    let mut buffer = Buffer::new();
+    out.extend_from_slice(buffer.format(n).as_bytes())
+}
+
+// A mailbox.
+pub fn push_box(out: &mut Vec<u8>, name: BoxName) -> Result<(), AllocError>
+    ensures { OnOk result (out.new.items ≡ out.old.items ++ box_text name) }
+{
+    push_number(out, u64::from(name.task))?;
+    out.push(b'.')?;
+    push_number(out, u64::from(name.number))
+}
+
+fn hex_digit(d: u16) -> u8
+    requires { d < 16 }
+    ensures { result ≡ hex_digit d }
+{
+    if d < 10 {
+        b'0' + d as u8
+    } else {
+        b'a' - 10 + d as u8
+    }
+}
+
+// A unit that doesn't stand for itself.
+fn push_escape(out: &mut Vec<u8>, unit: u16) -> Result<(), AllocError>
+    ensures { OnOk result (out.new.items ≡ out.old.items ++ escape unit) }
+{
+    out.extend_from_slice(&[
+        b'\\',
+        b'u',
+        hex_digit(unit / 4096),
+        hex_digit(unit / 256 % 16),
+        hex_digit(unit / 16 % 16),
+        hex_digit(unit % 16),
+    ])
+}
+
+fn stands_in_text(unit: u16) -> bool
+    ensures { result ≡ stands_in_text unit }
+{
+    (32..=126).contains(&unit) && !(unit == 34 || unit == 92)
+}
+
+fn stands_in_name(unit: u16) -> bool
+    ensures { result ≡ stands_in_name unit }
+{
+    (97 <= unit && unit <= 122)
+        || (65 <= unit && unit <= 90)
+        || (48 <= unit && unit <= 57)
+        || unit == 95
+        || unit == 36
+        || unit == 47
+        || unit == 91
+        || unit == 59
+}
+
+fn push_text_unit(out: &mut Vec<u8>, unit: u16) -> Result<(), AllocError>
+    ensures { OnOk result (out.new.items ≡ out.old.items ++ text_unit unit) }
+{
+    if stands_in_text(unit) {
+        out.push(unit as u8)?;
+        Ok(())
+    } else {
+        push_escape(out, unit)
+    }
+}
+
+fn push_name_unit(out: &mut Vec<u8>, unit: u16) -> Result<(), AllocError>
+    ensures { OnOk result (out.new.items ≡ out.old.items ++ name_unit unit) }
+{
+    if stands_in_name(unit) {
+        out.push(unit as u8)?;
+        Ok(())
+    } else {
+        push_escape(out, unit)
+    }
+}
+
+// The units of a text, without its quotation marks.
+fn push_text(out: &mut Vec<u8>, units: &[u16]) -> Result<(), AllocError>
+    ensures { OnOk result (out.new.items ≡ out.old.items ++ flat_map text_unit units.now) }
+{
+    for unit in units {
+        push_text_unit(out, *unit)?;
+    }
+    Ok(())
+}
+
+// A name.
+pub fn push_name(out: &mut Vec<u8>, units: &[u16]) -> Result<(), AllocError>
+    ensures { OnOk result (out.new.items ≡ out.old.items ++ name_text units.now) }
+{
+    for unit in units {
+        push_name_unit(out, *unit)?;
+    }
+    Ok(())
+}
+
+fn push_token(out: &mut Vec<u8>, token: &Token) -> Result<(), AllocError>
+    ensures { OnOk result (out.new.items ≡ out.old.items ++ token_text token.now) }
+{
+    match token {
+        Token::Open(name) => {
+            push_name(out, name.as_slice())?;
+            out.push(b'(')?;
+        }
+        Token::Close => out.push(b')')?,
+        Token::Int(n) => push_signed(out, i64::from(*n))?,
+        Token::Long(n) => {
+            push_signed(out, *n)?;
+            out.push(b'L')?;
+        }
+        Token::Null => out.extend_from_slice(b"null")?,
+        Token::Text(units) => {
+            out.push(b'"')?;
+            push_text(out, units.as_slice())?;
+            out.push(b'"')?;
+        }
+        Token::Box(name) => {
+            out.push(b'@')?;
+            push_box(out, *name)?;
+        }
+    }
+    Ok(())
+}
+
+fn push_comma(out: &mut Vec<u8>, follows: bool, token: &Token) -> Result<(), AllocError>
+    ensures { OnOk result (out.new.items ≡ out.old.items ++ comma_before follows token.now) }
+{
+    if follows && !matches!(token, Token::Close) {
+        out.push(b',')?;
+    }
+    Ok(())
+}
+
+fn is_followed(token: &Token) -> bool
+    ensures { result ≡ is_followed token.now }
+{
+    !matches!(token, Token::Open(_))
+}
+
+// The tokens of a shape.
+pub fn push_shape(out: &mut Vec<u8>, shape: &[Token]) -> Result<(), AllocError>
+    ensures { OnOk result (out.new.items ≡ out.old.items ++ shape_text shape.now) }
+{
+    let mut follows = false;
+    for token in shape {
+        push_comma(out, follows, token)?;
+        push_token(out, token)?;
+        follows = is_followed(token);
+    }
+    Ok(())
+}

@@ -1,0 +1,80 @@
+//! Files by their names.
+
+ghost use Rattle.std.specs.Prelude.{◌≡◌, List, ℕ, Option, OnOk};
+ghost use Rattle.std.specs.Io.{StartsWith};
+ghost use Rattle.kilim_outside.specs.Files.{Files, ReadsFile, KeepsOthers, HasFile};
+ghost use Rattle.kilim_outside.specs.Causes.{FolderCause};
+ghost use Rattle.kilim_outside.specs.declared.folder.FailedCall.{FailedCall};
+ghost use Rattle.kilim_outside.specs.declared.folder.FailedCall.TheVariants.{Read, Write};
+
+use kilim_program::Seq;
+use std::alloc::{AllocError, AllocFailed};
+use thiserror::Error;
+
+/// Why a folder didn't read or write.
+#[derive(Clone, Copy, Debug, PartialEq, Eq, Error)]
+pub enum FolderFault {
+    /// The file isn't there, or can't be read or written.
+    #[error("a file can't be read or written")]
+    Failed,
+    /// Want of memory.
+    #[error("out of memory")]
+    NoMemory,
+}
+
+impl From<AllocError> for FolderFault {
+    ghost use Rattle.kilim_outside.specs.declared.folder.FolderFault.TheVariants as folder;
+
+    ghost from_gives = { λ _ e. e ≡ folder.NoMemory };
+
+    fn from(_: AllocError) -> FolderFault {
+        FolderFault::NoMemory
+    }
+}
+
+impl<T: Drop> From<AllocFailed<T>> for FolderFault {
+    ghost use Rattle.kilim_outside.specs.declared.folder.FolderFault.TheVariants as folder;
+
+    ghost from_gives = { λ _ e. e ≡ folder.NoMemory };
+
+    fn from(_: AllocFailed<T>) -> FolderFault {
+        FolderFault::NoMemory
+    }
+}
+
+/// A call of a folder that failed, with the name that it was given, as its bytes.
+#[derive(Debug, Drop)]
+pub enum FailedCall {
+    /// A call of `read`.
+    Read(Seq<u8>),
+    /// A call of `write`.
+    Write(Seq<u8>),
+}
+
+/// Files that can be read and written by their names.
+///
+/// Contracts see what it holds, where it tells that, and the list of its failed calls.
+pub trait Folder {
+    /// What it holds, where it tells that.
+    ghost contents: { Self → Option Files };
+    /// Its calls that failed, the last one last.
+    ghost faults: { Self → List FailedCall };
+
+    /// Appends the first 16,777,217 bytes of a file, or all of it, to `into`. A name that isn't there is
+    /// a fault, or counts as an empty file.
+    ///
+    /// After a refusal `into` has what it had and some further bytes. No content changes.
+    fn read(&mut self, name: &str, into: &mut Vec<u8>) -> Result<(), FolderFault>
+        ensures bytes { OnOk result (ReadsFile (contents self.old) name.now into.old.items into.new.items) }
+        ensures front { StartsWith into.new.items into.old.items }
+        ensures contents { contents self.new ≡ contents self.old }
+        ensures cause { FolderCause (Read name.now) (faults self.old) (faults self.new) result };
+
+    /// Makes a file of that name with these bytes, in place of one that is there.
+    ///
+    /// After a refusal that file's content is open. No other file changes.
+    fn write(&mut self, name: &str, bytes: &[u8]) -> Result<(), FolderFault>
+        ensures file { OnOk result (HasFile (contents self.new) name.now bytes.now) }
+        ensures others { KeepsOthers (contents self.old) (contents self.new) name.now }
+        ensures cause { FolderCause (Write name.now) (faults self.old) (faults self.new) result };
+}

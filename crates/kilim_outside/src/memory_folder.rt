@@ -1,0 +1,175 @@
+//! Folders in memory, which tell what they hold.
+
+ghost use Rattle.std.specs.Prelude.{◌≡◌, ◌≢◌, ◌∷◌, ◌++◌, List, ℕ, [], Option, Some, take, unwrap_or, OnOk, OnErr, IfOk};
+ghost use Rattle.std.specs.Prelude.{find, nat_eq};
+ghost use Rattle.std.specs.Cmp.Lexicographic.{pointwise};
+ghost use Rattle.std.specs.Option.{option_copied};
+ghost use Rattle.std.specs.FinMap.{get};
+ghost use Rattle.kilim_outside.specs.Files.{files_of, file_limit, content_of};
+ghost use Rattle.kilim_outside.specs.declared.memory_folder.NamedFile.{NamedFile};
+
+use crate::folder::{FailedCall, Folder, FolderFault};
+use crate::limits::file_limit;
+use kilim_program::Seq;
+use std::alloc::AllocError;
+
+/// A file in memory: its name and its content, both as bytes.
+#[derive(Debug, Drop)]
+pub struct NamedFile {
+    pub name: Seq<u8>,
+    pub bytes: Seq<u8>,
+}
+
+// The first file of that name.
+fn first_named<'a>(files: &'a [NamedFile], name: &[u8]) -> Option<&'a NamedFile>
+    ensures { option_copied result ≡ find (λ file. pointwise nat_eq name.now file.name) files.now }
+{
+    files.iter().find(|file| name == file.name.as_slice())
+}
+
+// The content of the first file of that name.
+#[tactic(auto, using(crate::proofs::FileLemmas::content_some, crate::proofs::FileLemmas::content_none))]
+fn content<'a>(files: &'a [NamedFile], name: &[u8]) -> &'a [u8]
+    ensures { result.now ≡ content_of (files_of files.now) name.now }
+{
+    match first_named(files, name) {
+        Some(file) => file.bytes.as_slice(),
+        None => &[],
+    }
+}
+
+// At most that many bytes of the front.
+fn front(bytes: &[u8], most: usize) -> &[u8]
+    ensures { result.now ≡ take most bytes.now }
+{
+    if bytes.len() > most {
+        &bytes[..most]
+    } else {
+        bytes
+    }
+}
+
+// Appends what a file holds, up to the limit.
+fn append_content(files: &[NamedFile], name: &[u8], into: &mut Vec<u8>) -> Result<(), AllocError>
+    ensures ok { OnOk result (into.new.items ≡ into.old.items ++ take file_limit (content_of (files_of files.now) name.now)) }
+    ensures err { OnErr result (into.new.items ≡ into.old.items) }
+{
+    into.extend_from_slice(front(content(files, name), file_limit()))
+}
+
+// A copy of the file in front of the others: of one name the first counts.
+fn put_file(files: &mut Seq<NamedFile>, name: &[u8], bytes: &[u8]) -> Result<(), AllocError>
+    ensures ok { OnOk result (files.new ≡ record { name = name.now; bytes = bytes.now } ∷ files.old) }
+    ensures err { OnErr result (files.new ≡ files.old) }
+{
+    let alloc = *files.items.allocator();
+    let file = NamedFile {
+        name: Seq::from_vec(Vec::from_slice(alloc, name)?),
+        bytes: Seq::from_vec(Vec::from_slice(alloc, bytes)?),
+    };
+    files.items.insert(0, file)?;
+    Ok(())
+}
+
+/// A folder in memory in which no call fails but for want of memory: a name that wasn't given is an
+/// empty file. Its list of failed calls is always empty.
+#[derive(Debug, Drop)]
+pub struct SteadyFolder {
+    /// The files; of one name the first counts. A file that is written again stands in front.
+    pub files: Seq<NamedFile>,
+}
+
+impl Folder for SteadyFolder {
+    ghost contents = { λ folder. Some (files_of folder.files) };
+
+    ghost faults = { λ _. [] };
+
+    fn read(&mut self, name: &str, into: &mut Vec<u8>) -> Result<(), FolderFault> {
+        append_content(self.files.as_slice(), name.as_bytes(), into)?;
+        Ok(())
+    }
+
+    #[tactic(auto, using(crate::proofs::FileLemmas::get_put, crate::proofs::FileLemmas::get_other))]
+    fn write(&mut self, name: &str, bytes: &[u8]) -> Result<(), FolderFault> {
+        put_file(&mut self.files, name.as_bytes(), bytes)?;
+        Ok(())
+    }
+}
+
+/// A folder in memory whose calls fail as a test asks. A name that isn't there is a fault.
+#[derive(Debug, Drop)]
+pub struct MapFolder {
+    /// The files; of one name the first counts. A file that is written again stands in front.
+    pub files: Seq<NamedFile>,
+    /// The calls that failed, the last one last.
+    pub faults: Seq<FailedCall>,
+    /// How many calls were made.
+    pub calls: u64,
+    /// The numbers of the calls that fail, counted from 0.
+    pub fails: Seq<u64>,
+}
+
+// The fault of a call that fails, which is noted; for want of memory it isn't.
+fn refusal(faults: &mut Seq<FailedCall>, call: FailedCall) -> FolderFault
+    ensures failed { result ≡ FolderFault.Failed → faults.new ≡ faults.old ++ call ∷ [] }
+    ensures memory { result ≡ FolderFault.NoMemory → faults.new ≡ faults.old }
+{
+    match faults.push(call) {
+        Ok(()) => FolderFault::Failed,
+        Err(_) => FolderFault::NoMemory,
+    }
+}
+
+impl MapFolder {
+    // Counts a call, and says whether it is one that fails.
+    fn fails_now(&mut self) -> bool
+        ensures files { self.new.files ≡ self.old.files }
+        ensures faults { self.new.faults ≡ self.old.faults }
+    {
+        let number = self.calls;
+        self.calls = number.saturating_add(1);
+        self.fails.as_slice().contains(&number)
+    }
+
+    // Whether a file has that name.
+    fn has(&self, name: &str) -> bool {
+        let name = name.as_bytes();
+        self.files
+            .as_slice()
+            .iter()
+            .any(|file| name == file.name.as_slice())
+    }
+
+    // A copy of a name.
+    fn copy_of(&self, name: &str) -> Result<Seq<u8>, AllocError>
+        ensures { IfOk result (λ copy. copy ≡ name.now) }
+    {
+        let alloc = *self.files.items.allocator();
+        Ok(Seq::from_vec(Vec::from_slice(alloc, name.as_bytes())?))
+    }
+}
+
+impl Folder for MapFolder {
+    ghost contents = { λ folder. Some (files_of folder.files) };
+
+    ghost faults = { λ folder. folder.faults };
+
+    fn read(&mut self, name: &str, into: &mut Vec<u8>) -> Result<(), FolderFault> {
+        let call = FailedCall::Read(self.copy_of(name)?);
+        if self.fails_now() || !self.has(name) {
+            return Err(refusal(&mut self.faults, call));
+        }
+        append_content(self.files.as_slice(), name.as_bytes(), into)?;
+        Ok(())
+    }
+
+    #[tactic(auto, using(crate::proofs::FileLemmas::get_put, crate::proofs::FileLemmas::get_other))]
+    fn write(&mut self, name: &str, bytes: &[u8]) -> Result<(), FolderFault> {
+        let call = FailedCall::Write(self.copy_of(name)?);
+        if self.fails_now() {
+            return Err(refusal(&mut self.faults, call));
+        }
+        put_file(&mut self.files, name.as_bytes(), bytes)?;
+        Ok(())
+    }
+}

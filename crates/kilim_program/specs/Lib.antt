@@ -1,0 +1,7 @@
+pub mod Cause
+pub mod Machine
+pub mod Names
+pub mod Effect
+pub mod Does
+pub mod Moves
+pub mod BuiltIn

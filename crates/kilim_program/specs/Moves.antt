@@ -1,0 +1,106 @@
+-- One instruction of a task, with all of its frames.
+use Rattle.std.specs.Prelude.{ℕ, ◌-◌, ◌==◌, nat_lt, if◌then◌else◌, List, [], ◌∷◌, ◌++◌, Option, Some, None, length, replicate}
+use Rattle.kilim_program.specs.declared.cause.EndCause.{EndCause}
+use Rattle.kilim_program.specs.declared.cause.EndCause.TheVariants as cause
+use Rattle.kilim_program.specs.declared.class.Method.{Method}
+use Rattle.kilim_program.specs.declared.class.Program.{Program}
+use Rattle.kilim_program.specs.declared.instr.Instr.{Instr}
+use Rattle.kilim_program.specs.declared.names.MethodId.{MethodId}
+use Rattle.kilim_program.specs.declared.value.Object.{Object}
+use Rattle.kilim_program.specs.declared.value.Value.{Value}
+use Rattle.kilim_program.specs.declared.value.Value.TheVariants.{Null, Long}
+use Rattle.kilim_program.specs.Machine.{Objects, Activation}
+use Rattle.kilim_program.specs.Names.{method_at}
+use Rattle.kilim_program.specs.Effect.{Effect, Goes, Makes, Draws, Calls, Native, Returns, Ends, Stuck}
+use Rattle.kilim_program.specs.Does.{does}
+
+-- the most frames of a task
+abbrev pub frame_limit : ℕ
+frame_limit = 512
+
+-- the instruction at a place, and the place behind it
+abbrev pub first_place : List (ℕ × Instr) → ℕ → ℕ
+first_place [] end = end
+first_place (entry ∷ entries) end = entry.0
+
+abbrev pub fetched : List (ℕ × Instr) → ℕ → ℕ → Option (Instr × ℕ)
+fetched [] end place = None
+fetched (entry ∷ entries) end place = if entry.0 == place then Some (entry.1, first_place entries end) else fetched entries end place
+
+-- what the instruction does at which a frame stands
+abbrev pub effect_found : Program → Activation → Objects → Option (Instr × ℕ) → Effect
+effect_found p top heap None = Stuck
+effect_found p top heap (Some found) = does p found.0 found.1 top.locals top.stack heap
+
+abbrev pub effect_in : Program → Activation → Objects → Option Method → Effect
+effect_in p top heap None = Stuck
+effect_in p top heap (Some method) = effect_found p top heap (fetched method.code method.code_length top.place)
+
+abbrev pub effect_of : Program → Activation → Objects → Effect
+effect_of p top heap = effect_in p top heap (method_at p top.method)
+
+-- arguments as locals: a long takes two slots
+abbrev pub slots_of : List Value → List Value
+slots_of [] = []
+slots_of (Long n ∷ vs) = Long n ∷ Null ∷ slots_of vs
+slots_of (v ∷ vs) = v ∷ slots_of vs
+
+-- how many local slots a method has
+abbrev pub slots_in : Option Method → ℕ
+slots_in None = 0
+slots_in (Some method) = method.max_locals
+
+-- the frame with which a method begins; a local that nothing was stored into is null
+abbrev pub entered : Program → MethodId → List Value → Activation
+entered p m args =
+    let slots = slots_of args in
+    record { method = m; place = 0; locals = slots ++ replicate (slots_in (method_at p m) - length slots) Null; stack = [] }
+
+-- A task's next state, as far as its own frames and the heap go. The frames are the top first.
+pub data Move : Type 0 where
+  -- the task goes on
+  Runs : (frames : List Activation) (heap : Objects) → Move
+  -- a new object, whose name goes on top of the top frame's stack
+  Adds : (object : Object) (frames : List Activation) (heap : Objects) → Move
+  -- a new mailbox, whose name goes on top of the top frame's stack
+  Opens : (frames : List Activation) (heap : Objects) → Move
+  -- a built-in method that reaches out of the task, whose result goes on top of the top frame's stack
+  Asks : (method : MethodId) (args : List Value) (frames : List Activation) (heap : Objects) → Move
+  -- the last frame returned
+  Finishes : (heap : Objects) → Move
+  -- the task ended
+  Over : (cause : EndCause) → Move
+  -- what no verified code does
+  Lost : Move
+
+abbrev pub goes_on : Activation → ℕ → List Value → List Value → Activation
+goes_on top place locals stack = record { method = top.method; place = place; locals = locals; stack = stack }
+
+-- on top of the top frame's stack
+abbrev pub push_value : Value → List Activation → List Activation
+push_value v [] = []
+push_value v (top ∷ below) = record top { stack = v ∷ top.stack } ∷ below
+
+abbrev pub push_result : Option Value → List Activation → List Activation
+push_result None frames = frames
+push_result (Some v) frames = push_value v frames
+
+abbrev pub called : Program → MethodId → List Value → List Activation → Objects → Move
+called p m args frames heap = if nat_lt (length frames) frame_limit then Runs (entered p m args ∷ frames) heap else Over cause.Depth
+
+abbrev pub returned : Option Value → List Activation → Objects → Move
+returned value [] heap = Finishes heap
+returned value (caller ∷ below) heap = Runs (push_result value (caller ∷ below)) heap
+
+abbrev pub move_by : Program → Effect → Activation → List Activation → Move
+move_by p (Goes place locals stack heap) top below = Runs (goes_on top place locals stack ∷ below) heap
+move_by p (Makes object place locals stack heap) top below = Adds object (goes_on top place locals stack ∷ below) heap
+move_by p (Draws place locals stack heap) top below = Opens (goes_on top place locals stack ∷ below) heap
+move_by p (Calls m args place locals stack heap) top below = called p m args (goes_on top place locals stack ∷ below) heap
+move_by p (Native m args place locals stack heap) top below = Asks m args (goes_on top place locals stack ∷ below) heap
+move_by p (Returns value heap) top below = returned value below heap
+move_by p (Ends cause) top below = Over cause
+move_by p Stuck top below = Lost
+
+unfoldable pub moves : Program → Activation → List Activation → Objects → Move
+moves p top below heap = move_by p (effect_of p top heap) top below

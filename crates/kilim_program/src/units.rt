@@ -1,0 +1,76 @@
+//! Texts as UTF-16 units.
+
+ghost use Rattle.std.specs.Prelude.{◌≡◌, ◌↔◌, List, ℕ, length, IsTrue, IfOk};
+
+use std::alloc::{AllocError, Global};
+use std::marker::Model;
+
+/// A name or a text as its UTF-16 units (JVMS 4.4.7): a class name in its internal form, as
+/// `java/lang/Object`, a member's name, a descriptor, or a string. Surrogates stand for themselves.
+#[derive(Debug, Drop)]
+pub struct Units {
+    /// The units.
+    pub units: Vec<u16>,
+}
+
+impl Model for Units {
+    ghost Value = { List ℕ };
+
+    ghost view = { λ u. u.units.items };
+}
+
+impl Clone for Units {
+    ghost is_clone = { λ a b. b ≡ a };
+
+    fn clone(&self) -> Result<Units, AllocError> {
+        Ok(Units {
+            units: self.units.clone()?,
+        })
+    }
+}
+
+impl Units {
+    /// The text of a vector of units. Takes no memory.
+    pub fn from_vec(units: Vec<u16>) -> Self
+        ensures { result ≡ units.items }
+    {
+        Units { units }
+    }
+
+    /// The text of a slice of units.
+    pub fn from_slice(alloc: Global, units: &[u16]) -> Result<Self, AllocError>
+        ensures { IfOk result (λ text. text ≡ units.now) }
+    {
+        Ok(Units {
+            units: Vec::from_slice(alloc, units)?,
+        })
+    }
+
+    /// The number of units.
+    pub fn len(&self) -> usize
+        ensures { result ≡ length self.now }
+    {
+        self.units.len()
+    }
+
+    /// Whether there is no unit.
+    pub fn is_empty(&self) -> bool
+        ensures { IsTrue result ↔ (length self.now ≡ 0) }
+    {
+        self.units.is_empty()
+    }
+
+    /// The units as a slice.
+    pub fn as_slice(&self) -> &[u16]
+        ensures { result.now ≡ self.now }
+    {
+        self.units.as_slice()
+    }
+
+    /// Whether two texts have the same units.
+    pub fn is_same(&self, other: &Units) -> bool
+        ensures { IsTrue result ↔ (self.now ≡ other.now) }
+    {
+        self.units.as_slice() == other.units.as_slice()
+    }
+}

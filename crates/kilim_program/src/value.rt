@@ -1,0 +1,52 @@
+//! Values, objects, and the shapes of trees.
+
+use crate::names::{BoxName, FieldId};
+use crate::seq::Seq;
+use crate::ty::Ty;
+use crate::units::Units;
+
+/// A value of a local, of the operand stack, of a field or of an element (JVMS 2.6). The types boolean,
+/// byte, char, short and int are all `Int`. Strings and mailboxes are values and no objects.
+#[derive(Clone, Debug, Drop)]
+pub enum Value {
+    Int(i32),
+    Long(i64),
+    Null,
+    /// An object, by its place in a heap.
+    Ref(u32),
+    /// A string, by its contents.
+    Text(Units),
+    /// A mailbox, by its name.
+    Box(BoxName),
+    /// The fiber that woven code is handed.
+    Fiber,
+}
+
+/// One token of a shape: a tree is its tokens in preorder, without the names of objects.
+#[derive(Clone, Debug, Drop)]
+pub enum Token {
+    /// An object begins: its class name, or for an array its descriptor.
+    Open(Units),
+    /// The object that began last ends.
+    Close,
+    Int(i32),
+    Long(i64),
+    Null,
+    Text(Units),
+    Box(BoxName),
+}
+
+/// A value without the names of its objects: its tokens in preorder. The fields of superclasses come
+/// first, each class in declared order.
+pub type Shape = Seq<Token>;
+
+/// An object or an array: its class or array type, the fields with their values, the elements.
+#[derive(Clone, Debug, Drop)]
+pub struct Object {
+    /// The class of the object, or the type of the array.
+    pub class: Ty,
+    /// The fields of its class and superclasses; none for an array.
+    pub fields: Seq<(FieldId, Value)>,
+    /// The elements of an array; none for another object.
+    pub elements: Seq<Value>,
+}

@@ -1,0 +1,57 @@
+-- One move of a thread, taken apart.
+use Rattle.std.proofs.Common.{◌≡◌, ℕ, zero, suc, ◌<◌, Bool, true, cond, List, ◌∷◌, Some, refl, ap, ◌∙◌}
+use Rattle.std.specs.Prelude.{slice_get}
+use Rattle.std.proofs.lemmas.Bool.{lt-leb}
+use Rattle.kilim_program.specs.declared.cause.EndCause.{EndCause}
+use Rattle.kilim_program.specs.declared.cause.EndCause.TheVariants as cause
+use Rattle.kilim_program.specs.declared.class.Method.{Method}
+use Rattle.kilim_program.specs.declared.class.Program.{Program}
+use Rattle.kilim_program.specs.declared.instr.Instr.{Instr}
+use Rattle.kilim_program.specs.Machine.{Objects, Activation}
+use Rattle.kilim_program.specs.Names.{method_at}
+use Rattle.kilim_program.specs.Effect.{Effect}
+use Rattle.kilim_program.specs.Does.{does}
+use Rattle.kilim_program.specs.Moves.{fetched, effect_found, effect_in, effect_of, move_by, moves}
+use Rattle.kilim_thread_model.specs.State.{Setting, Alive, Ended, State}
+use Rattle.kilim_thread_model.specs.Turn.{quiet, ends, moved_by, frames_moved, thread_moved, moved}
+use Rattle.kilim_thread_model.specs.Runs.{acted_within, before_action}
+
+-- the effect is that of the instruction that stands at the frame's place
+effect_at : (p : Program) (top : Activation) (heap : Objects) (method : Method) (found : Instr × ℕ) → method_at p top.method ≡ Some method → fetched method.code method.code_length top.place ≡ Some found →
+    effect_of p top heap ≡ does p found.0 found.1 top.locals top.stack heap
+effect_at p top heap method found is-method is-found = ap (effect_in p top heap) is-method ∙ ap (effect_found p top heap) is-found
+
+moves_at : (p : Program) (top : Activation) (below : List Activation) (heap : Objects) (e : Effect) → effect_of p top heap ≡ e → moves p top below heap ≡ move_by p e top below
+unfolding moves
+moves_at p top below heap e is = ap (λ (x : Effect). move_by p x top below) is
+
+-- a thread that has instructions left does that of its top frame
+pub step : (set : Setting) (s : State) (t : ℕ) (top : Activation) (below : List Activation) (done boxes : ℕ) (method : Method) (found : Instr × ℕ) →
+    slice_get s.threads t ≡ Some (Alive (top ∷ below) done boxes) → done < set.limits.steps →
+    method_at set.program top.method ≡ Some method → fetched method.code method.code_length top.place ≡ Some found →
+    moved set s t ≡ moved_by set s t done boxes (move_by set.program (does set.program found.0 found.1 top.locals top.stack s.heap) top below)
+unfolding moved
+step set s t top below done boxes method found is-alive left is-method is-found =
+    ap (thread_moved set s t) is-alive
+    ∙ (ap (λ (b : Bool). cond b (ends s t cause.Spent) (frames_moved set s t done boxes (top ∷ below))) (lt-leb set.limits.steps done left)
+    ∙ ap (moved_by set s t done boxes) (moves_at set.program top below s.heap (does set.program found.0 found.1 top.locals top.stack s.heap) (effect_at set.program top s.heap method found is-method is-found)))
+
+-- a move without an action, on the way to the next action
+pub quietly : (set : Setting) (n : ℕ) (s s' : State) (t : ℕ) → moved set s t ≡ quiet s' → acted_within set (suc n) s t ≡ acted_within set n s' t
+unfolding acted_within
+quietly set n s s' t e = rw e refl
+
+-- the next action
+pub at_once : (set : Setting) (n : ℕ) (s s' : State) (t : ℕ) → moved set s t ≡ record { state = s'; acted = true } → acted_within set (suc n) s t ≡ Some s'
+unfolding acted_within
+at_once set n s s' t e = rw e refl
+
+-- a thread that has ended doesn't move any more
+ended_stays : (set : Setting) (s : State) (t : ℕ) (cause : EndCause) → slice_get s.threads t ≡ Some (Ended cause) → moved set s t ≡ quiet s
+unfolding moved
+ended_stays set s t cause e = ap (thread_moved set s t) e
+
+pub ended_settles : (set : Setting) (n : ℕ) (s : State) (t : ℕ) (cause : EndCause) → slice_get s.threads t ≡ Some (Ended cause) → before_action set n s t ≡ s
+unfolding before_action
+ended_settles set zero s t cause e = refl
+ended_settles set (suc n) s t cause e = rw (ended_stays set s t cause e) (ended_settles set n s t cause e)

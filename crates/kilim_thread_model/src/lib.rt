@@ -1,0 +1,10 @@
+//! What a run is: threads over one shared heap, their moves, and whole runs. Definitions in `specs/`, and
+//! laws about them. No program calls it to do work.
+#![tactic(auto)]
+
+ghost use Rattle.kilim_thread_model.specs.Small.{SmallRunIsWhole};
+
+/// A law, and no work: the run of a small program prints its numbers in order, and is done.
+pub fn small_run_is_whole()
+    ensures { SmallRunIsWhole }
+{}
