@@ -3,3 +3,4 @@ pub mod Parted
 pub mod Units
 pub mod Tokens
 pub mod Journals
+pub mod Preorder

@@ -197,7 +197,7 @@ is_ended Close ts x = tt
 is_ended (Text units) ts x = tt
 is_ended t ts x = after_tokens ts x
 
-nothing : (ts : List Token) → is_empty ts ≡ true → ts ≡ []
+pub nothing : (ts : List Token) → is_empty ts ≡ true → ts ≡ []
 nothing [] h = refl
 nothing (t ∷ ts) h = absurd cc
 

@@ -109,6 +109,25 @@ ArePlain Nothing = Unit {0}
 ArePlain (Plain t after) = IsPlain t × ArePlain after
 ArePlain (Object name fields after) = ArePlain fields × ArePlain after
 
+-- one value alone
+abbrev pub IsSingle : Values → Type 0
+IsSingle Nothing = ⊥
+IsSingle (Plain t Nothing) = Unit {0}
+IsSingle (Plain t after) = ⊥
+IsSingle (Object name fields Nothing) = Unit {0}
+IsSingle (Object name fields after) = ⊥
+
+-- the shape is one value in preorder
+pub record IsOneValue (shape : List Token) : Type 0 where
+  pub value : Values
+  pub plain : ArePlain value
+  pub single : IsSingle value
+  pub tokens : preorder value ≡ shape
+
+-- the test of a shape tells whether it is one value in preorder
+abbrev pub ShapesAreValues : Type 0
+ShapesAreValues = (shape : List Token) → (is_value shape ≡ true → IsOneValue shape) × (IsOneValue shape → is_value shape ≡ true)
+
 -- texts with commas between them
 abbrev pub after_commas : List (List ℕ) → List ℕ
 after_commas [] = []

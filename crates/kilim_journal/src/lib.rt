@@ -6,4 +6,5 @@ mod lines;
 mod pieces;
 
 pub use entry::{Act, Entry};
-pub use lines::{text, texts_differ, values_are_joined};
+pub use lines::{shapes_are_values, text, texts_differ, values_are_joined};
+pub use pieces::name_text;

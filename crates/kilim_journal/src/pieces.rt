@@ -1,28 +1,27 @@
 //! The parts of a line.
 
-ghost use Rattle.std.specs.Prelude.{◌≡◌, ◌<◌, ◌++◌, ◌∷◌, [], length, OnOk};
+ghost use Rattle.std.specs.Prelude.{◌≡◌, ◌<◌, ◌++◌, ◌∷◌, [], length, OnOk, IfOk};
 ghost use Rattle.std.specs.List.{flat_map};
 ghost use Rattle.std.specs.Fmt.{decimal, signed_decimal};
 ghost use Rattle.kilim_journal.specs.Text.{box_text, hex_digit, escape, stands_in_text, stands_in_name, text_unit, name_unit, name_text, token_text, comma_before, is_followed, tokens_text, shape_text};
 
-use itoa::Buffer;
-use kilim_program::{BoxName, Token};
-use std::alloc::AllocError;
+use kilim_program::{BoxName, NoMemory, Token};
+use std::alloc::{AllocError, Global};
 
 // A number in decimal.
 pub fn push_number(out: &mut Vec<u8>, n: u64) -> Result<(), AllocError>
     ensures { OnOk result (out.new.items ≡ out.old.items ++ decimal n) }
 {
-    let mut buffer = Buffer::new();
-    out.extend_from_slice(buffer.format(n).as_bytes())
+    let text = format!(in *out.allocator(); "{n}")?;
+    out.extend_from_slice(text.as_bytes())
 }
 
 // A signed number in decimal.
 pub fn push_signed(out: &mut Vec<u8>, n: i64) -> Result<(), AllocError>
     ensures { OnOk result (out.new.items ≡ out.old.items ++ signed_decimal n) }
 {
-    let mut buffer = Buffer::new();
-    out.extend_from_slice(buffer.format(n).as_bytes())
+    let text = format!(in *out.allocator(); "{n}")?;
+    out.extend_from_slice(text.as_bytes())
 }
 
 // A mailbox.
@@ -111,13 +110,25 @@ fn push_text(out: &mut Vec<u8>, units: &[u16]) -> Result<(), AllocError>
 }
 
 // A name.
-pub fn push_name(out: &mut Vec<u8>, units: &[u16]) -> Result<(), AllocError>
+fn push_name(out: &mut Vec<u8>, units: &[u16]) -> Result<(), AllocError>
     ensures { OnOk result (out.new.items ≡ out.old.items ++ name_text units.now) }
 {
     for unit in units {
         push_name_unit(out, *unit)?;
     }
     Ok(())
+}
+
+/// The text of a name: of a class name, a member's name or a descriptor, in ASCII.
+///
+/// The ASCII letters and digits stand for themselves, and `_`, `$`, `/`, `[`, `;`. Every other UTF-16 unit is
+/// `\u` and four lower-case hexadecimal digits.
+pub fn name_text(alloc: Global, units: &[u16]) -> Result<Vec<u8>, NoMemory>
+    ensures { IfOk result (λ text. text.items ≡ name_text units.now) }
+{
+    let mut out = Vec::new(alloc);
+    push_name(&mut out, units)?;
+    Ok(out)
 }
 
 fn push_token(out: &mut Vec<u8>, token: &Token) -> Result<(), AllocError>

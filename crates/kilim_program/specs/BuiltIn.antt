@@ -25,7 +25,7 @@ class_type n = plain_type (base.Class (class_id n))
 abbrev pub int_type : Ty
 int_type = plain_type base.Int
 
--- the methods from one number up to before another
+-- the methods at these distances from a first one
 abbrev pub methods_from : ℕ → List ℕ → List MethodId
 methods_from first [] = []
 methods_from first (n ∷ ns) = method_id (first + n) ∷ methods_from first ns

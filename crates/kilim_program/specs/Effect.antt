@@ -17,8 +17,9 @@ pub data Effect : Type 0 where
   Draws : (place : ℕ) (locals stack : List Value) (heap : Objects) → Effect
   -- a call of a method with code; the receiver is the first argument
   Calls : (method : MethodId) (args : List Value) (place : ℕ) (locals stack : List Value) (heap : Objects) → Effect
-  -- a call of a built-in method that reaches out of the task; its result goes on top of the stack
-  Native : (method : MethodId) (args : List Value) (place : ℕ) (locals stack : List Value) (heap : Objects) → Effect
+  -- a call of a built-in method that reaches out of the task; the receiver is the first argument, and isn't
+  -- null; the result goes on top of the stack
+  CallsNative : (method : MethodId) (args : List Value) (place : ℕ) (locals stack : List Value) (heap : Objects) → Effect
   Returns : (value : Option Value) (heap : Objects) → Effect
   Ends : (cause : EndCause) → Effect
   -- what no verified code does

@@ -1,6 +1,7 @@
 pub mod Cause
 pub mod Machine
 pub mod Names
+pub mod Natives
 pub mod Effect
 pub mod Does
 pub mod Moves

@@ -11,18 +11,19 @@ use Rattle.kilim_program.specs.declared.value.Value.{Value}
 use Rattle.kilim_program.specs.declared.value.Value.TheVariants.{Null, Long}
 use Rattle.kilim_program.specs.Machine.{Objects, Activation}
 use Rattle.kilim_program.specs.Names.{method_at}
-use Rattle.kilim_program.specs.Effect.{Effect, Goes, Makes, Draws, Calls, Native, Returns, Ends, Stuck}
+use Rattle.kilim_program.specs.Effect.{Effect, Goes, Makes, Draws, Calls, CallsNative, Returns, Ends, Stuck}
 use Rattle.kilim_program.specs.Does.{does}
 
 -- the most frames of a task
 abbrev pub frame_limit : ℕ
 frame_limit = 512
 
--- the instruction at a place, and the place behind it
+-- the place of the first instruction, or that behind the code
 abbrev pub first_place : List (ℕ × Instr) → ℕ → ℕ
 first_place [] end = end
 first_place (entry ∷ entries) end = entry.0
 
+-- the instruction at a place, and the place behind it
 abbrev pub fetched : List (ℕ × Instr) → ℕ → ℕ → Option (Instr × ℕ)
 fetched [] end place = None
 fetched (entry ∷ entries) end place = if entry.0 == place then Some (entry.1, first_place entries end) else fetched entries end place
@@ -50,7 +51,8 @@ abbrev pub slots_in : Option Method → ℕ
 slots_in None = 0
 slots_in (Some method) = method.max_locals
 
--- the frame with which a method begins; a local that nothing was stored into is null
+-- The frame with which a method begins. A local that nothing was stored into yet is null here; verified code
+-- never reads one.
 abbrev pub entered : Program → MethodId → List Value → Activation
 entered p m args =
     let slots = slots_of args in
@@ -97,7 +99,7 @@ move_by p (Goes place locals stack heap) top below = Runs (goes_on top place loc
 move_by p (Makes object place locals stack heap) top below = Adds object (goes_on top place locals stack ∷ below) heap
 move_by p (Draws place locals stack heap) top below = Opens (goes_on top place locals stack ∷ below) heap
 move_by p (Calls m args place locals stack heap) top below = called p m args (goes_on top place locals stack ∷ below) heap
-move_by p (Native m args place locals stack heap) top below = Asks m args (goes_on top place locals stack ∷ below) heap
+move_by p (CallsNative m args place locals stack heap) top below = Asks m args (goes_on top place locals stack ∷ below) heap
 move_by p (Returns value heap) top below = returned value below heap
 move_by p (Ends cause) top below = Over cause
 move_by p Stuck top below = Lost

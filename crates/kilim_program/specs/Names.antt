@@ -1,6 +1,6 @@
 -- Finding classes and methods in a program. Texts are lists of UTF-16 units.
 use Rattle.std.specs.Prelude.{ℕ, zero, suc, Bool, true, false, ◌&&◌, not, ◌==◌, if◌then◌else◌, List, [], ◌∷◌, ◌++◌, Option, Some, None, is_none, length, slice_get, reverse, filter, codes}
-use Rattle.std.specs.List.{flat_map}
+use Rattle.std.specs.List.{flat_map, list_any}
 use Rattle.std.specs.Str.{bytes_eq}
 use Rattle.kilim_program.specs.declared.names.ClassId.{ClassId}
 use Rattle.kilim_program.specs.declared.names.MethodId.{MethodId}
@@ -80,10 +80,27 @@ class_from (class ∷ classes) name n = if bytes_eq class.name name then Some (r
 abbrev pub class_named : Program → List ℕ → Option ClassId
 class_named p name = class_from p.classes name 0
 
--- a type's descriptor (JVMS 4.3.2)
 abbrev pub class_name : Program → ClassId → List ℕ
 class_name p c = elim (class_at p c) [ None ↦ [] | Some class ↦ class.name ]
 
+-- a subclass of `kilim/Task`, or that class
+abbrev pub is_task : Program → ClassId → Bool
+is_task p c = list_any (λ d. bytes_eq (class_name p d) (codes "kilim/Task")) (line_of p c)
+
+abbrev pub is_own_constructor : Option Method → Bool
+is_own_constructor None = false
+is_own_constructor (Some method) = not method.is_static && not method.built_in
+
+abbrev pub is_concrete : Option Class → Bool
+is_concrete None = false
+is_concrete (Some class) = not class.is_abstract
+
+-- A main class is fit where it is a class of the files, a subclass of `kilim/Task`, not abstract, and declares
+-- a constructor without arguments.
+abbrev pub is_fit_main : Program → ClassId → Bool
+is_fit_main p c = is_concrete (class_at p c) && (is_task p c && is_own_constructor (constructor_of p c >>= method_at p))
+
+-- a type's descriptor (JVMS 4.3.2)
 abbrev pub base_descriptor : Program → Base → List ℕ
 base_descriptor p base.Bool = codes "Z"
 base_descriptor p base.Byte = codes "B"

@@ -37,7 +37,8 @@ pub struct Method {
     pub built_in: bool,
     /// Whether its Exceptions attribute lists `kilim/Pausable`.
     pub pausable: bool,
-    /// What it may do with its receiver. Safe where it is static or its receiver is no tree.
+    /// What it may do with its receiver. Cuttable for a constructor, always; else Safe where it is static
+    /// or its receiver is no tree.
     pub receiver: Qualifier,
     /// What it may do with each parameter.
     pub qualifiers: Seq<Qualifier>,
@@ -60,7 +61,7 @@ pub struct Class {
     /// The direct superclass; none for `java/lang/Object` alone.
     pub superclass: Option<ClassId>,
     pub is_abstract: bool,
-    /// Whether it implements `kilim/Message`, itself or by a superclass.
+    /// Whether it is `kilim/Message`, or implements it, itself or by a superclass.
     pub message: bool,
     /// The fields that it declares, in order.
     pub fields: Seq<FieldId>,

@@ -18,7 +18,7 @@ pub enum Instr {
     Lconst(i64),
     Bipush(i8),
     Sipush(i16),
-    /// An Integer, Long or String constant; `ldc` takes no Long.
+    /// An Integer, Long or String constant. Verification refuses a Long here, and the others at `ldc2_w`.
     Ldc(Value),
     LdcW(Value),
     Ldc2W(Value),

@@ -1,6 +1,8 @@
 -- The run of a small program, instruction by instruction.
 use Rattle.std.proofs.Common.{◌≡◌, ℕ, suc, ◌+◌, ◌-◌, ◌*◌, ◌<◌, ◌≤◌, ℤ, Bool, true, false, cond, eqb, List, [], ◌∷◌, ◌++◌, map, length, Option, Some, None, refl, sym, ap, ◌∙◌, append_assoc, arith}
-use Rattle.std.specs.Prelude.{replicate}
+use Rattle.std.specs.Prelude.{replicate, ◌||◌, ◌&&◌, codes}
+use Rattle.std.specs.Str.{bytes_eq}
+use Rattle.kilim_program.specs.Names.{◌>>=◌, is_own_constructor, constructor_of, method_at}
 use Rattle.std.specs.FinMap.{empty, insert}
 use Rattle.std.proofs.lemmas.Bool.{ne_eqb, eq-eqb}
 use Rattle.std.proofs.lemmas.List.{append-nil}
@@ -10,12 +12,14 @@ use Rattle.kilim_program.specs.declared.instr.Instr.TheVariants.{Aload, Bipush, 
 use Rattle.kilim_program.specs.declared.value.Value.{Value}
 use Rattle.kilim_program.specs.declared.value.Value.TheVariants.{Int, Null, Ref}
 use Rattle.kilim_journal.specs.declared.entry.Entry.{Entry}
+use Rattle.kilim_journal.specs.declared.entry.Act.TheVariants.{Print, End}
+use Rattle.kilim_program.specs.declared.value.Token.TheVariants as token
 use Rattle.kilim_program.specs.BuiltIn.{class_id, method_id}
 use Rattle.kilim_program.specs.Does.{does}
 use Rattle.kilim_program.specs.Moves.{fetched, first_place}
-use Rattle.kilim_thread_model.specs.State.{Setting, Alive, Ended, State, new_object, first_state}
+use Rattle.kilim_thread_model.specs.State.{is_fit, Setting, Alive, Ended, State, new_object, first_state}
 use Rattle.kilim_thread_model.specs.Turn.{moved, quiet, acted}
-use Rattle.kilim_thread_model.specs.Runs.{acted_within, Replays, Whole, is_at_rest, closing_waits}
+use Rattle.kilim_thread_model.specs.Runs.{acted_within, before_action, Replays, AtRest, Whole}
 use Rattle.kilim_thread_model.specs.Small.{Small, print_int, print_code, small_constructor, small_execute, small_program, small_setting, print_entry, done_entry, small_journal}
 use Rattle.kilim_thread_model.proofs.Steps.{step, quietly, at_once, ended_settles}
 
@@ -132,27 +136,27 @@ module _ (s : Small) (steps : ℕ) where
       step set (running place done [] journal) 0 _ [] done 0 (small_execute s) (Bipush n, place + 2) refl left refl (all_code front (n ∷ ns) parts place _ (push_there front ns n _ place at))
 
   prints : (front ns : List ℤ) (n : ℤ) → s.prints ≡ front ++ n ∷ ns → (place done : ℕ) (journal : List Entry) → place ≡ 5 * length front → done < steps →
-      moved set (running (place + 2) done (Int n ∷ []) journal) 0 ≡ acted (running (place + 5) (done + 1) [] (journal ++ print_entry n ∷ []))
+      moved set (running (place + 2) done (Int n ∷ []) journal) 0 ≡ acted (running (place + 5) (done + 1) [] journal) (Print (token.Int n ∷ []))
   unfolding does
   prints front ns n parts place done journal at left =
       step set (running (place + 2) done (Int n ∷ []) journal) 0 _ [] done 0 (small_execute s) (Invokestatic (method_id print_int), place + 5) refl left refl (all_code front (n ∷ ns) parts (place + 2) _ (print_there front ns n _ place at))
 
   returns : (front : List ℤ) → s.prints ≡ front ++ [] → (place done : ℕ) (journal : List Entry) → place ≡ 5 * length front → done < steps →
-      moved set (running place done [] journal) 0 ≡ acted (final (journal ++ done_entry ∷ []))
+      moved set (running place done [] journal) 0 ≡ acted (final journal) (End Done)
   unfolding does
   returns front parts place done journal at left =
       step set (running place done [] journal) 0 _ [] done 0 (small_execute s) (Return, 5 * length s.prints + 1) refl left refl (all_code front [] parts place _ (return_there front _ place at))
 
-  -- the next line, with any fuel that is enough
-  prints_next : (k : ℕ) (front ns : List ℤ) (n : ℤ) → s.prints ≡ front ++ n ∷ ns → (place done : ℕ) (journal : List Entry) → place ≡ 5 * length front → done + 1 < steps →
-      acted_within set (suc (suc k)) (running place done [] journal) 0 ≡ Some (running (place + 5) (done + 1 + 1) [] (journal ++ print_entry n ∷ []))
-  prints_next k front ns n parts place done journal at left =
-      quietly set (suc k) (running place done [] journal) (running (place + 2) (done + 1) (Int n ∷ []) journal) 0 (pushes front ns n parts place done journal at (omega arith))
-      ∙ at_once set k (running (place + 2) (done + 1) (Int n ∷ []) journal) _ 0 (prints front ns n parts place (done + 1) journal at left)
+  -- the next line
+  prints_next : (front ns : List ℤ) (n : ℤ) → s.prints ≡ front ++ n ∷ ns → (place done : ℕ) (journal : List Entry) → place ≡ 5 * length front → done + 1 < steps →
+      acted_within set 2 (running place done [] journal) 0 ≡ Some (running (place + 5) (done + 1 + 1) [] (journal ++ print_entry n ∷ []))
+  prints_next front ns n parts place done journal at left =
+      quietly set 1 (running place done [] journal) (running (place + 2) (done + 1) (Int n ∷ []) journal) 0 (pushes front ns n parts place done journal at (omega arith))
+      ∙ at_once set 0 (running (place + 2) (done + 1) (Int n ∷ []) journal) _ 0 (Print (token.Int n ∷ [])) (prints front ns n parts place (done + 1) journal at left)
 
-  returns_next : (k : ℕ) (front : List ℤ) → s.prints ≡ front ++ [] → (place done : ℕ) (journal : List Entry) → place ≡ 5 * length front → done < steps →
-      acted_within set (suc k) (running place done [] journal) 0 ≡ Some (final (journal ++ done_entry ∷ []))
-  returns_next k front parts place done journal at left = at_once set k (running place done [] journal) _ 0 (returns front parts place done journal at left)
+  returns_next : (front : List ℤ) → s.prints ≡ front ++ [] → (place done : ℕ) (journal : List Entry) → place ≡ 5 * length front → done < steps →
+      acted_within set 1 (running place done [] journal) 0 ≡ Some (final (journal ++ done_entry ∷ []))
+  returns_next front parts place done journal at left = at_once set 0 (running place done [] journal) _ 0 (End Done) (returns front parts place done journal at left)
 
   -- what is left of the journal
   abbrev pub lines_of : List ℤ → List Entry
@@ -169,44 +173,40 @@ module _ (s : Small) (steps : ℕ) where
       Ends (running place done [] journal) (lines_of ns)
   unfolding Ends
   replays_rest front [] parts place done journal at left =
-      (journal ++ done_entry ∷ [], (final (journal ++ done_entry ∷ []), (let k : steps + 1 ≡ suc steps = omega arith in rw k (returns_next steps front parts place done journal at (omega arith))), refl, refl))
+      (journal ++ done_entry ∷ [], (1, final (journal ++ done_entry ∷ []), returns_next front parts place done journal at (omega arith), refl, refl))
   replays_rest front (n ∷ ns) parts place done journal at left =
-      let fuel : steps + 1 ≡ suc (suc (steps - 1)) = omega arith in
-      let first = prints_next (steps - 1) front ns n parts place done journal at (omega arith) in
+      let first = prints_next front ns n parts place done journal at (omega arith) in
       let len = length_push front n in
       let rest = replays_rest (front ++ n ∷ []) ns (parts ∙ sym (append_assoc front (n ∷ []) ns)) (place + 5) (done + 1 + 1) (journal ++ print_entry n ∷ []) (omega arith) (omega arith) in
-      (rest.0, (running (place + 5) (done + 1 + 1) [] (journal ++ print_entry n ∷ []), rw fuel first, refl, rest.1))
+      (rest.0, (2, running (place + 5) (done + 1 + 1) [] (journal ++ print_entry n ∷ []), first, refl, rest.1))
 
   -- the first line comes behind the constructor
   replays_all : (ns : List ℤ) → s.prints ≡ ns → 2 * length ns + 4 ≤ steps → Ends (first_state set) (lines_of ns)
   unfolding Ends
   replays_all [] parts left =
-      let fuel : steps + 1 ≡ suc (suc (suc (suc (steps - 3)))) = omega arith in
-      (done_entry ∷ [], (final (done_entry ∷ []), rw fuel (makes (suc (steps - 3)) (omega arith) ∙ returns_next (steps - 3) [] parts 0 3 [] refl (omega arith)), refl, refl))
+      (done_entry ∷ [], (4, final (done_entry ∷ []), makes 1 (omega arith) ∙ returns_next [] parts 0 3 [] refl (omega arith), refl, refl))
   replays_all (n ∷ ns) parts left =
-      let fuel : steps + 1 ≡ suc (suc (suc (suc (suc (steps - 4))))) = omega arith in
       let rest = replays_rest (n ∷ []) ns parts 5 5 (print_entry n ∷ []) refl (omega arith) in
-      (rest.0, (running 5 5 [] (print_entry n ∷ []), rw fuel (makes (suc (suc (steps - 4))) (omega arith) ∙ prints_next (steps - 4) [] ns n parts 0 3 [] refl (omega arith)), refl, rest.1))
+      (rest.0, (5, running 5 5 [] (print_entry n ∷ []), makes 2 (omega arith) ∙ prints_next [] ns n parts 0 3 [] refl (omega arith), refl, rest.1))
 
-  -- nothing is left to do, and nobody waits
-  rests : (journal : List Entry) → is_at_rest set (final journal) ≡ true
-  unfolding is_at_rest
-  rests journal = rw (ended_settles set (steps + 1) (final journal) 0 Done refl) refl
+  or_true : (b c : Bool) → c ≡ true → (b || c) ≡ true
+  or_true true c e = refl
+  or_true false c e = e
 
-  no_waits : (journal : List Entry) → closing_waits set (final journal) ≡ []
-  unfolding closing_waits
-  no_waits journal = rw (ended_settles set (steps + 1) (final journal) 0 Done refl) refl
+  -- the class is a task, whatever its name is
+  fits : is_fit set ≡ true
+  fits = ap (λ (b : Bool). b && is_own_constructor (constructor_of set.program set.main >>= method_at set.program)) (or_true (bytes_eq s.name (codes "kilim/Task")) _ refl)
 
   pub is_whole : 2 * length s.prints + 4 ≤ steps → Whole set (small_journal s)
-  unfolding Ends
+  unfolding Ends before_action
   is_whole left =
       let all = replays_all s.prints refl left in
       record {
+        fit = fits;
         acts = small_journal s;
         waits = [];
         parts = sym (append-nil (small_journal s));
         last = final all.0;
         replays = all.1;
-        at_rest = rests all.0;
-        closing = sym (no_waits all.0);
+        at_rest = record { moves = 0; rest = refl; waiting = refl };
       }

@@ -1,5 +1,5 @@
 -- One move of a thread, taken apart.
-use Rattle.std.proofs.Common.{◌≡◌, ℕ, zero, suc, ◌<◌, Bool, true, cond, List, ◌∷◌, Some, refl, ap, ◌∙◌}
+use Rattle.std.proofs.Common.{◌≡◌, ℕ, zero, suc, ◌<◌, Bool, cond, List, [], ◌∷◌, Option, Some, None, refl, ap, ◌∙◌}
 use Rattle.std.specs.Prelude.{slice_get}
 use Rattle.std.proofs.lemmas.Bool.{lt-leb}
 use Rattle.kilim_program.specs.declared.cause.EndCause.{EndCause}
@@ -7,14 +7,15 @@ use Rattle.kilim_program.specs.declared.cause.EndCause.TheVariants as cause
 use Rattle.kilim_program.specs.declared.class.Method.{Method}
 use Rattle.kilim_program.specs.declared.class.Program.{Program}
 use Rattle.kilim_program.specs.declared.instr.Instr.{Instr}
+use Rattle.kilim_journal.specs.declared.entry.Act.{Act}
 use Rattle.kilim_program.specs.Machine.{Objects, Activation}
 use Rattle.kilim_program.specs.Names.{method_at}
 use Rattle.kilim_program.specs.Effect.{Effect}
 use Rattle.kilim_program.specs.Does.{does}
 use Rattle.kilim_program.specs.Moves.{fetched, effect_found, effect_in, effect_of, move_by, moves}
-use Rattle.kilim_thread_model.specs.State.{Setting, Alive, Ended, State}
-use Rattle.kilim_thread_model.specs.Turn.{quiet, ends, moved_by, frames_moved, thread_moved, moved}
-use Rattle.kilim_thread_model.specs.Runs.{acted_within, before_action}
+use Rattle.kilim_thread_model.specs.State.{Setting, Alive, Ended, State, noted}
+use Rattle.kilim_thread_model.specs.Turn.{Moved, Runner, quiet, acted, ends, moved_by, frames_moved, thread_moved, moved}
+use Rattle.kilim_thread_model.specs.Runs.{acted_or, acted_within, before_action}
 
 -- the effect is that of the instruction that stands at the frame's place
 effect_at : (p : Program) (top : Activation) (heap : Objects) (method : Method) (found : Instr × ℕ) → method_at p top.method ≡ Some method → fetched method.code method.code_length top.place ≡ Some found →
@@ -26,15 +27,18 @@ unfolding moves
 moves_at p top below heap e is = ap (λ (x : Effect). move_by p x top below) is
 
 -- a thread that has instructions left does that of its top frame
+abbrev pub runner : ℕ → List Activation → ℕ → ℕ → Runner
+runner t frames done boxes = record { task = t; frames = frames; done = done; boxes = boxes }
+
 pub step : (set : Setting) (s : State) (t : ℕ) (top : Activation) (below : List Activation) (done boxes : ℕ) (method : Method) (found : Instr × ℕ) →
     slice_get s.threads t ≡ Some (Alive (top ∷ below) done boxes) → done < set.limits.steps →
     method_at set.program top.method ≡ Some method → fetched method.code method.code_length top.place ≡ Some found →
-    moved set s t ≡ moved_by set s t done boxes (move_by set.program (does set.program found.0 found.1 top.locals top.stack s.heap) top below)
+    moved set s t ≡ moved_by set s (runner t (top ∷ below) done boxes) (move_by set.program (does set.program found.0 found.1 top.locals top.stack s.heap) top below)
 unfolding moved
 step set s t top below done boxes method found is-alive left is-method is-found =
     ap (thread_moved set s t) is-alive
-    ∙ (ap (λ (b : Bool). cond b (ends s t cause.Spent) (frames_moved set s t done boxes (top ∷ below))) (lt-leb set.limits.steps done left)
-    ∙ ap (moved_by set s t done boxes) (moves_at set.program top below s.heap (does set.program found.0 found.1 top.locals top.stack s.heap) (effect_at set.program top s.heap method found is-method is-found)))
+    ∙ (ap (λ (b : Bool). cond b (ends s t cause.Spent) (frames_moved set s (runner t (top ∷ below) done boxes) (top ∷ below))) (lt-leb set.limits.steps done left)
+    ∙ ap (moved_by set s (runner t (top ∷ below) done boxes)) (moves_at set.program top below s.heap (does set.program found.0 found.1 top.locals top.stack s.heap) (effect_at set.program top s.heap method found is-method is-found)))
 
 -- a move without an action, on the way to the next action
 pub quietly : (set : Setting) (n : ℕ) (s s' : State) (t : ℕ) → moved set s t ≡ quiet s' → acted_within set (suc n) s t ≡ acted_within set n s' t
@@ -42,9 +46,9 @@ unfolding acted_within
 quietly set n s s' t e = rw e refl
 
 -- the next action
-pub at_once : (set : Setting) (n : ℕ) (s s' : State) (t : ℕ) → moved set s t ≡ record { state = s'; acted = true } → acted_within set (suc n) s t ≡ Some s'
+pub at_once : (set : Setting) (n : ℕ) (s s' : State) (t : ℕ) (act : Act) → moved set s t ≡ acted s' act → acted_within set (suc n) s t ≡ Some (noted s' t act)
 unfolding acted_within
-at_once set n s s' t e = rw e refl
+at_once set n s s' t act e = rw e refl
 
 -- a thread that has ended doesn't move any more
 ended_stays : (set : Setting) (s : State) (t : ℕ) (cause : EndCause) → slice_get s.threads t ≡ Some (Ended cause) → moved set s t ≡ quiet s
@@ -55,3 +59,16 @@ pub ended_settles : (set : Setting) (n : ℕ) (s : State) (t : ℕ) (cause : End
 unfolding before_action
 ended_settles set zero s t cause e = refl
 ended_settles set (suc n) s t cause e = rw (ended_stays set s t cause e) (ended_settles set n s t cause e)
+
+-- the first action is the same, however many moves are granted
+pub same_action : (set : Setting) (m n : ℕ) (s a b : State) (t : ℕ) → acted_within set m s t ≡ Some a → acted_within set n s t ≡ Some b → a ≡ b
+unfolding acted_within
+same_action set zero n s a b t p q = absurd (cc)
+same_action set (suc m) zero s a b t p q = absurd (cc)
+same_action set (suc m) (suc n) s a b t p q =
+    elim (moved set s t).act as (λ (act : Option Act).
+    acted_or (moved set s t).state t act (acted_within set m (moved set s t).state t) ≡ Some a →
+    acted_or (moved set s t).state t act (acted_within set n (moved set s t).state t) ≡ Some b → a ≡ b) [
+      | None ↦ λ x y. same_action set m n (moved set s t).state a b t x y
+      | Some act ↦ λ x y. cc
+    ] p q

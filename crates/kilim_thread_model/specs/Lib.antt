@@ -1,6 +1,6 @@
 pub mod State
 pub mod Shapes
-pub mod Natives
 pub mod Turn
 pub mod Runs
 pub mod Small
+pub mod Examples

@@ -3,13 +3,16 @@ use Rattle.std.specs.Prelude.{◌≡◌, ℕ, zero, suc, ◌+◌, Bool, true, fa
 use Rattle.kilim_program.specs.declared.names.BoxName.{BoxName}
 use Rattle.kilim_program.specs.declared.value.Value.{Value}
 use Rattle.kilim_program.specs.declared.value.Value.TheVariants.{Box}
+use Rattle.kilim_journal.specs.declared.entry.Act.{Act}
 use Rattle.kilim_journal.specs.declared.entry.Act.TheVariants.{Wait}
 use Rattle.kilim_journal.specs.declared.entry.Entry.{Entry}
+use Rattle.kilim_program.specs.Natives.{Native, native_of}
+use Rattle.kilim_program.specs.Natives as native
 use Rattle.kilim_program.specs.Moves.{Move, Asks, moves}
-use Rattle.kilim_thread_model.specs.State.{Setting, Thread, Alive, Ended, State, first_state}
-use Rattle.kilim_thread_model.specs.Natives.{Native, native_of}
-use Rattle.kilim_thread_model.specs.Natives as native
-use Rattle.kilim_thread_model.specs.Turn.{moved, turn}
+use Rattle.kilim_thread_model.specs.State.{Setting, is_fit, Thread, Alive, Ended, State, first_state, noted}
+use Rattle.kilim_thread_model.specs.Turn.{Moved, moved, turn}
+
+-- ---- any order
 
 -- the state after the threads of a list of numbers have moved, each once, in that order; any list is allowed
 abbrev pub played_from : Setting → State → List ℕ → State
@@ -19,87 +22,102 @@ played_from setting s (t ∷ ts) = played_from setting (turn setting s t) ts
 abbrev pub played : Setting → List ℕ → State
 played setting schedule = played_from setting (first_state setting) schedule
 
--- the state right after a thread's next action, where it comes within so many moves
+-- ---- up to a thread's next action
+
+-- The thread moves until it has acted: the state right after its next action, where that comes within so many
+-- moves. Whatever is enough gives the same state.
+abbrev pub acted_or : State → ℕ → Option Act → Option State → Option State
+acted_or s t None later = later
+acted_or s t (Some act) later = Some (noted s t act)
+
 unfoldable pub acted_within : Setting → ℕ → State → ℕ → Option State
 acted_within setting zero s t = None
-acted_within setting (suc n) s t = if (moved setting s t).acted then Some (moved setting s t).state else acted_within setting n (moved setting s t).state t
+acted_within setting (suc n) s t = acted_or (moved setting s t).state t (moved setting s t).act (acted_within setting n (moved setting s t).state t)
 
--- the state right before a thread's next action, after as many moves at the most
+-- The thread makes at most so many moves, but not its next action.
+abbrev pub unless_acted : State → Option Act → State → State
+unless_acted s None later = later
+unless_acted s (Some act) later = s
+
 unfoldable pub before_action : Setting → ℕ → State → ℕ → State
 before_action setting zero s t = s
-before_action setting (suc n) s t = if (moved setting s t).acted then s else before_action setting n (moved setting s t).state t
+before_action setting (suc n) s t = unless_acted s (moved setting s t).act (before_action setting n (moved setting s t).state t)
 
--- A thread's next action comes after at most as many moves as it may do instructions, or never: each move of a
--- thread but its last is an instruction.
-abbrev pub enough : Setting → ℕ
-enough setting = setting.limits.steps + 1
+-- ---- in the order of a journal
 
 -- For each entry in order, the entry's task moves until it makes its next action, which is that entry.
 abbrev pub Replays : Setting → State → List Entry → State → Type 0
 Replays setting s [] last = s ≡ last
 Replays setting s (e ∷ es) last =
-    (mid : State) × (acted_within setting (enough setting) s e.task ≡ Some mid) × (mid.journal ≡ s.journal ++ e ∷ []) × Replays setting mid es last
+    (n : ℕ) × (mid : State) × (acted_within setting n s e.task ≡ Some mid) × (mid.journal ≡ s.journal ++ e ∷ []) × Replays setting mid es last
 
--- each thread, by increasing number, has made the moves that come before its next action
-abbrev pub settled_from : Setting → State → ℕ → List Thread → State
-settled_from setting s t [] = s
-settled_from setting s t (thread ∷ threads) = settled_from setting (before_action setting (enough setting) s t) (t + 1) threads
+-- ---- at rest
 
-abbrev pub settled : Setting → State → State
-settled setting s = settled_from setting s 0 s.threads
+-- each thread, by increasing number, has made so many of the moves that come before its next action
+abbrev pub settled_from : Setting → ℕ → State → ℕ → List Thread → State
+settled_from setting n s t [] = s
+settled_from setting n s t (thread ∷ threads) = settled_from setting n (before_action setting n s t) (t + 1) threads
+
+abbrev pub settled : Setting → ℕ → State → State
+settled setting n s = settled_from setting n s 0 s.threads
 
 -- the mailbox at whose `get` a thread stands
-abbrev pub asked_box : Native → List Value → Option BoxName
-asked_box native.Get (Box box ∷ []) = Some box
-asked_box n args = None
+abbrev pub get_of : List Value → Option Native → Option BoxName
+get_of (Box box ∷ []) (Some native.Get) = Some box
+get_of args n = None
 
-abbrev pub box_of : Setting → Move → Option BoxName
-box_of setting (Asks m args frames heap) = elim (native_of setting.program m) [ None ↦ None | Some n ↦ asked_box n args ]
-box_of setting m = None
+abbrev pub asked_box : Setting → Move → Option BoxName
+asked_box setting (Asks m args frames heap) = get_of args (native_of setting.program m)
+asked_box setting m = None
 
-abbrev pub is_queue_empty : List (ℕ × ℕ) → Bool
-is_queue_empty [] = true
-is_queue_empty (first ∷ rest) = false
+abbrev pub where_empty : List (ℕ × ℕ) → BoxName → Option BoxName
+where_empty [] box = Some box
+where_empty (first ∷ rest) box = None
+
+abbrev pub if_empty : State → Option BoxName → Option BoxName
+if_empty s None = None
+if_empty s (Some box) = where_empty (s.mailboxes box).queue box
 
 -- the empty mailbox at which a thread waits: it stands at its `get`, and has instructions left
 abbrev pub waits_at : Setting → State → Thread → Option BoxName
 waits_at setting s (Ended cause) = None
 waits_at setting s (Alive [] done boxes) = None
 waits_at setting s (Alive (top ∷ below) done boxes) =
-    if nat_lt done setting.limits.steps then
-    elim (box_of setting (moves setting.program top below s.heap)) [ None ↦ None | Some box ↦ if is_queue_empty (s.mailboxes box).queue then Some box else None ]
-    else None
+    if nat_lt done setting.limits.steps then if_empty s (asked_box setting (moves setting.program top below s.heap)) else None
 
-abbrev pub has_ended : Thread → Bool
-has_ended (Ended cause) = true
-has_ended (Alive frames done boxes) = false
+-- a thread has ended or waits
+abbrev pub is_at_rest : Setting → State → Thread → Bool
+is_at_rest setting s (Ended cause) = true
+is_at_rest setting s (Alive frames done boxes) = is_some (waits_at setting s (Alive frames done boxes))
 
--- every thread has ended or waits
-abbrev pub all_rest : Setting → State → List Thread → Bool
-all_rest setting s [] = true
-all_rest setting s (thread ∷ threads) = (if has_ended thread then true else is_some (waits_at setting s thread)) && all_rest setting s threads
-
-unfoldable pub is_at_rest : Setting → State → Bool
-is_at_rest setting s = all_rest setting (settled setting s) (settled setting s).threads
+abbrev pub all_at_rest : Setting → State → List Thread → Bool
+all_at_rest setting s [] = true
+all_at_rest setting s (thread ∷ threads) = is_at_rest setting s thread && all_at_rest setting s threads
 
 -- an entry for each thread that waits, by increasing number
+abbrev pub wait_entry : ℕ → Option BoxName → List Entry
+wait_entry t None = []
+wait_entry t (Some box) = record { task = t; act = Wait box } ∷ []
+
 abbrev pub waits_from : Setting → State → ℕ → List Thread → List Entry
 waits_from setting s t [] = []
-waits_from setting s t (thread ∷ threads) = elim (waits_at setting s thread) [
-  | None ↦ waits_from setting s (t + 1) threads
-  | Some box ↦ record { task = t; act = Wait box } ∷ waits_from setting s (t + 1) threads
-]
+waits_from setting s t (thread ∷ threads) = wait_entry t (waits_at setting s thread) ++ waits_from setting s (t + 1) threads
 
-unfoldable pub closing_waits : Setting → State → List Entry
-closing_waits setting s = waits_from setting (settled setting s) 0 (settled setting s).threads
+-- From this state each thread makes the moves that come before its next action, at most so many, and then all
+-- have ended or wait, with these entries. A thread that has ended or waits doesn't move, so with more moves it is
+-- the same.
+pub record AtRest (setting : Setting) (s : State) (waits : List Entry) : Type 0 where
+  pub moves : ℕ
+  pub rest : all_at_rest setting (settled setting moves s) (settled setting moves s).threads ≡ true
+  pub waiting : waits ≡ waits_from setting (settled setting moves s) 0 (settled setting moves s).threads
 
 -- The journal of a whole run: replayed, its entries lead to a state in which nothing is left to do, and then it
 -- says who waits.
 pub record Whole (setting : Setting) (journal : List Entry) : Type 0 where
+  pub fit : is_fit setting ≡ true
   pub acts : List Entry
   pub waits : List Entry
   pub parts : journal ≡ acts ++ waits
   pub last : State
   pub replays : Replays setting (first_state setting) acts last
-  pub at_rest : is_at_rest setting last ≡ true
-  pub closing : waits ≡ closing_waits setting last
+  pub at_rest : AtRest setting last waits

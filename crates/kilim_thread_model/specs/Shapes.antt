@@ -57,7 +57,8 @@ is_open (token.Open name) = true
 is_open t = false
 
 -- The shape of what is below a name: its objects in preorder, each as often as it is met. There is one where
--- at most 65,536 objects are met.
+-- at most 65,536 objects are met. Objects that lie deeper below each other than that are more than that, so the
+-- bound on the depth cuts nothing off. In a run every object and field that is named is there.
 unfoldable pub shape_of : Program → Objects → ℕ → Option (List Token)
 shape_of p heap n = do
   tokens ← value_tokens p heap tree_limit (Ref n)

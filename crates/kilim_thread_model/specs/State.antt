@@ -3,6 +3,7 @@
 use Rattle.std.specs.Prelude.{ℕ, Bool, ◌&&◌, ◌==◌, if◌then◌else◌, List, [], ◌∷◌, ◌++◌, Option, Some, None, map, slice_set, pos}
 use Rattle.std.specs.FinMap.{empty, insert}
 use Rattle.kilim_program.specs.declared.cause.EndCause.{EndCause}
+use Rattle.kilim_program.specs.declared.class.Method.{Method}
 use Rattle.kilim_program.specs.declared.class.Program.{Program}
 use Rattle.kilim_program.specs.declared.names.BoxName.{BoxName}
 use Rattle.kilim_program.specs.declared.names.ClassId.{ClassId}
@@ -18,15 +19,19 @@ use Rattle.kilim_program.specs.declared.value.Value.TheVariants.{Int, Long, Null
 use Rattle.kilim_journal.specs.declared.entry.Act.{Act}
 use Rattle.kilim_journal.specs.declared.entry.Entry.{Entry}
 use Rattle.kilim_program.specs.Machine.{Objects, Activation}
-use Rattle.kilim_program.specs.Names.{field_of, object_fields, constructor_of}
+use Rattle.kilim_program.specs.Names.{method_at, field_of, object_fields, constructor_of, is_fit_main}
 use Rattle.kilim_program.specs.Moves.{entered}
 
--- what a run is of: a program, its main class, the steps that a task may do, and the numbers of the
--- command line
+-- What a run is of: a program, its main class, the steps that a task may do, and the numbers of the command
+-- line.
 pub record Setting : Type 0 where
   pub program : Program
   pub main : ClassId
   pub limits : Limits
+
+-- the main class is fit to be one
+abbrev pub is_fit : Setting → Bool
+is_fit setting = is_fit_main setting.program setting.main
 
 -- a mailbox: how many messages were put into it, and those that wait there, with their numbers
 pub record Mailbox : Type 0 where
@@ -67,17 +72,27 @@ new_object p c = record { class = record { dims = 0; base = base.Class c }; fiel
 abbrev pub same_box : BoxName → BoxName → Bool
 same_box a b = a.task == b.task && a.number == b.number
 
--- the frames of a method that begins on an object
-abbrev pub begun_on : Program → Option MethodId → ℕ → List Activation
-begun_on p None n = []
-begun_on p (Some m) n = entered p m (Ref n ∷ []) ∷ []
+-- The frames with which a method begins on an object. A built-in method has no frame. Without a method there is
+-- nothing to begin with.
+abbrev pub begun_in : Program → MethodId → ℕ → Option Method → Option (List Activation)
+begun_in p m n None = None
+begun_in p m n (Some method) = Some (if method.built_in then [] else entered p m (Ref n ∷ []) ∷ [])
+
+abbrev pub begun_on : Program → Option MethodId → ℕ → Option (List Activation)
+begun_on p None n = None
+begun_on p (Some m) n = begun_in p m n (method_at p m)
+
+-- a thread that has done nothing yet
+abbrev pub new_thread : Option (List Activation) → List Thread
+new_thread None = []
+new_thread (Some frames) = Alive frames 0 0 ∷ []
 
 -- One new object of the main class, with the name 0, and task 0 at the beginning of its constructor.
 abbrev pub first_state : Setting → State
 first_state setting = record {
   heap = insert empty 0 (new_object setting.program setting.main);
   next = 1;
-  threads = Alive (begun_on setting.program (constructor_of setting.program setting.main) 0) 0 0 ∷ [];
+  threads = new_thread (begun_on setting.program (constructor_of setting.program setting.main) 0);
   mailboxes = λ box. record { puts = 0; queue = [] };
   journal = [];
   kept = Some 0;

@@ -2,9 +2,16 @@
 //! laws about them. No program calls it to do work.
 #![tactic(auto)]
 
+ghost use Rattle.kilim_thread_model.specs.Examples.{ExamplesHold};
 ghost use Rattle.kilim_thread_model.specs.Small.{SmallRunIsWhole};
 
 /// A law, and no work: the run of a small program prints its numbers in order, and is done.
 pub fn small_run_is_whole()
     ensures { SmallRunIsWhole }
+{}
+
+/// A law, and no work: of the program that prints 7, the right journal is that of a whole run, and wrong
+/// ones aren't.
+pub fn examples_hold()
+    ensures { ExamplesHold }
 {}

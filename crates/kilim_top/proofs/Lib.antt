@@ -1,0 +1,9 @@
+pub mod Loops
+pub mod Texts
+pub mod Fields
+pub mod ClassFormat
+pub mod MethodFormat
+pub mod SmallLaws
+pub mod WholeRun
+pub mod Written
+pub mod TopLaws

@@ -1,0 +1,17 @@
+use Rattle.std.proofs.lemmas.Result.{err_from_is_err_and}
+use Rattle.kilim_top.specs.Reader.{many}
+use Rattle.kilim_top.specs.Reading.{constant_at}
+use Rattle.kilim_top.proofs.Loops.{goes_on, stops, is_done}
+use Rattle.kilim_top.proofs.reading.constants_at.Goals as goal
+
+pub returns-in_err-constant : goal.returns-in_err-constant
+returns-in_err-constant c =
+    let p = err_from_is_err_and c.from_residual.result c.from_residual.ensures.1 in
+    rw (p.1, p.2) (stops constant_at c.in_err-constant.field-0.0 c.loop.constants.items c.args.count c.loop.counter c.loop.rest.now (many constant_at c.args.count c.args.bytes.now) c.loop-test.true c.in_err-constant.ensures c.loop.invariant)
+
+pub loop-preserved : goal.loop-preserved
+loop-preserved c =
+    rw c.in_ok-push.ensures.items (goes_on constant_at c.loop.constants.items c.args.count c.loop.counter c.loop.rest.now c.in_ok-constant.constant c.in_ok-constant.after.now (many constant_at c.args.count c.args.bytes.now) c.loop-test.true c.in_ok-constant.ensures c.loop.invariant)
+
+pub returns : goal.returns
+returns c = rw c.from_vec.ensures (is_done constant_at c.loop.constants.items c.args.count c.loop.counter c.loop.rest.now (many constant_at c.args.count c.args.bytes.now) c.loop-test.false c.loop.invariant)

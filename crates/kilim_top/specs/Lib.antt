@@ -1,0 +1,9 @@
+pub mod Words
+pub mod Reader
+pub mod ClassText
+pub mod SmallFile
+pub mod Reading
+pub mod Report
+pub mod Writing
+pub mod Outcome
+pub mod Respond

@@ -1,0 +1,135 @@
+-- What each status of the top call means: what was read, and what was written.
+use Rattle.std.specs.Prelude.{◌≡◌, ◌≢◌, ℕ, ◌≤◌, ℤ, List, [], ◌∷◌, ◌++◌, take, Option, Some, None, Contains, codes, ◌⊎◌}
+use Rattle.kilim_program.specs.declared.class.Program.{Program}
+use Rattle.kilim_program.specs.declared.names.ClassId.{ClassId}
+use Rattle.kilim_program.specs.Names.{class_named}
+use Rattle.kilim_journal.specs.declared.entry.Entry.{Entry}
+use Rattle.kilim_journal.specs.Text.{journal_text}
+use Rattle.kilim_journal.specs.Readable.{IsReadable, JournalFits}
+use Rattle.kilim_outside.specs.declared.folder.FailedCall.{FailedCall}
+use Rattle.kilim_outside.specs.declared.folder.FailedCall.TheVariants.{Read, Write}
+use Rattle.kilim_outside.specs.Files.{Files, content_of, file_limit}
+use Rattle.kilim_outside.specs.Causes.{Appended, Rose}
+use Rattle.kilim_thread_model.specs.State.{Setting}
+use Rattle.kilim_thread_model.specs.Runs.{Whole}
+use Rattle.kilim_top.specs.declared.parts.SmallClass.{SmallClass}
+use Rattle.kilim_top.specs.SmallFile.{IsSmallFile, IsProgramOf, own_name}
+use Rattle.kilim_top.specs.Writing.{AppendedFront}
+use Rattle.kilim_top.specs.Report.{utf16_of, later_line, main_line}
+use Rattle.kilim_top.specs.Words.{Request, Run, files_read, files_written}
+
+-- how many instructions a task may do where the words don't say
+unfoldable pub step_limit : ℕ
+step_limit = 1000000
+
+abbrev pub setting_of : Program → ClassId → Setting
+setting_of program main = record { program = program; main = main; limits = record { steps = step_limit; args = [] } }
+
+-- the text is that of the journal of a whole run, of these class files and that main class
+pub record IsWholeRun (main : List ℕ) (files : List (List ℕ)) (text : List ℕ) : Type 0 where
+  pub program : Program
+  pub of_files : IsProgramOf files program
+  pub class : ClassId
+  pub named : class_named program (utf16_of main) ≡ Some class
+  pub journal : List Entry
+  pub whole : Whole (setting_of program class) journal
+  pub readable : IsReadable journal
+  pub fits : JournalFits journal
+  pub is_text : text ≡ journal_text journal
+
+-- ---- reports: one line with its line feed
+
+-- the class file can't be run yet
+abbrev pub IsLater : List (List ℕ) → List ℕ → Type 0
+IsLater (bytes ∷ []) text = (text ≡ later_line) × ((class : SmallClass) → IsSmallFile bytes class → ⊥)
+IsLater files text = ⊥
+
+-- the class file can be run, and its class isn't the main class
+pub record IsMain (main bytes text : List ℕ) : Type 0 where
+  pub class : SmallClass
+  pub small : IsSmallFile bytes class
+  pub other : own_name class ≢ main
+  pub is_text : text ≡ main_line main
+
+abbrev pub IsMainOf : List ℕ → List (List ℕ) → List ℕ → Type 0
+IsMainOf main (bytes ∷ []) text = IsMain main bytes text
+IsMainOf main files text = ⊥
+
+abbrev pub IsReport : List ℕ → List (List ℕ) → List ℕ → Type 0
+IsReport main files text = IsLater files text ⊎ IsMainOf main files text
+
+-- ---- what was read
+
+-- where the folder tells: what was read is what it held, of each file
+abbrev pub WereRead : Option Files → List (List ℕ) → List (List ℕ) → Type 0
+WereRead contents [] [] = Unit {0}
+WereRead None (name ∷ names) (bytes ∷ files) = WereRead None names files
+WereRead (Some held) (name ∷ names) (bytes ∷ files) = (bytes ≡ take file_limit (content_of held name)) × WereRead (Some held) names files
+WereRead contents names files = ⊥
+
+-- the text that the call writes at status 0, and at status 1
+pub record IsRunText (contents : Option Files) (main : List ℕ) (names : List (List ℕ)) (text : List ℕ) : Type 0 where
+  pub files : List (List ℕ)
+  pub were_read : WereRead contents names files
+  pub run : IsWholeRun main files text
+
+pub record IsReportText (contents : Option Files) (main : List ℕ) (names : List (List ℕ)) (text : List ℕ) : Type 0 where
+  pub files : List (List ℕ)
+  pub were_read : WereRead contents names files
+  pub report : IsReport main files text
+
+abbrev pub IsTextAt0 : Option Files → Option Request → List ℕ → Type 0
+IsTextAt0 contents None text = ⊥
+IsTextAt0 contents (Some (Run main names)) text = IsRunText contents main names text
+
+abbrev pub IsTextAt1 : Option Files → Option Request → List ℕ → Type 0
+IsTextAt1 contents None text = ⊥
+IsTextAt1 contents (Some (Run main names)) text = IsReportText contents main names text
+
+-- ---- what was written
+
+-- the text for status 0 was written, or that for status 1
+pub record WroteRun (contents : Option Files) (request : Option Request) (old new : Option (List ℕ)) : Type 0 where
+  pub text : List ℕ
+  pub is_text : IsTextAt0 contents request text
+  pub written : Appended old new text
+
+pub record WroteReport (contents : Option Files) (request : Option Request) (old new : Option (List ℕ)) : Type 0 where
+  pub text : List ℕ
+  pub is_text : IsTextAt1 contents request text
+  pub written : Appended old new text
+
+-- a front of one of the two was written
+pub record WroteFront (contents : Option Files) (request : Option Request) (old new : Option (List ℕ)) : Type 0 where
+  pub text : List ℕ
+  pub is_text : IsTextAt0 contents request text ⊎ IsTextAt1 contents request text
+  pub written : AppendedFront old new text
+
+-- ---- which calls of the folder failed
+
+-- a read of a name that the words give to be read
+abbrev pub ReadFailed : Option Request → List FailedCall → List FailedCall → Type 0
+ReadFailed None before now = ⊥
+ReadFailed (Some request) before now = (name : List ℕ) × Contains (files_read request) name × (now ≡ before ++ Read name ∷ [])
+
+-- a write of a file that the command writes
+abbrev pub WriteFailed : Option Request → List FailedCall → List FailedCall → Type 0
+WriteFailed None before now = ⊥
+WriteFailed (Some request) before now = (name : List ℕ) × Contains (files_written request) name × (now ≡ before ++ Write name ∷ [])
+
+-- No call of the folder failed but these: so no other name was read or written.
+abbrev pub FailedAtMost : Option Request → List FailedCall → List FailedCall → Type 0
+FailedAtMost request before now = (now ≡ before) ⊎ (ReadFailed request before now ⊎ WriteFailed request before now)
+
+-- ---- when the work can be done
+
+-- The words are in the grammar, and no stage has a fault: the class file can be run, and its class is the main
+-- class. This speaks of a folder that tells what it holds.
+pub record IsFitFile (main bytes : List ℕ) : Type 0 where
+  pub class : SmallClass
+  pub small : IsSmallFile bytes class
+  pub named : own_name class ≡ main
+
+abbrev pub IsFit : Option Files → Option Request → Type 0
+IsFit (Some held) (Some (Run main (name ∷ []))) = IsFitFile main (take file_limit (content_of held name))
+IsFit contents request = ⊥

@@ -1,0 +1,15 @@
+//! The top call of the program: from the words of the command line, through the files that they name, to the
+//! text and the status.
+#![tactic(auto)]
+
+mod answer;
+mod parts;
+mod reading;
+mod report;
+mod run;
+mod small;
+mod top;
+mod words;
+mod writing;
+
+pub use top::{kilim, kilim_alone, kilim_in_memory};
