@@ -1,0 +1,45 @@
+//! Why bytes aren't text.
+
+ghost use Rattle.std.specs.Prelude.{◌≡◌};
+
+use std::alloc::{AllocError, AllocFailed};
+use thiserror::Error;
+
+/// Why bytes aren't modified UTF-8. Places are byte offsets from the first byte, and the fault is that of the
+/// first unit that isn't spelled.
+#[derive(Clone, Copy, Debug, PartialEq, Eq, Error)]
+pub enum TextFault {
+    /// The byte at this place can't stand there: a first byte that begins no unit, or a later byte of a unit
+    /// that isn't 0x80 to 0xBF.
+    #[error("a byte at {0} that can't stand there")]
+    BadByte(usize),
+    /// The bytes end inside a unit.
+    #[error("the bytes end inside a unit")]
+    Cut,
+    /// At this place begins a unit that is spelled in more bytes than it takes, or U+0000 in three.
+    #[error("a second spelling of a unit at {0}")]
+    SecondSpelling(usize),
+    /// Want of memory.
+    #[error("out of memory")]
+    Memory,
+}
+
+impl From<AllocError> for TextFault {
+    ghost use Rattle.kilim_mutf8.specs.declared.fault.TextFault.TheVariants as fault;
+
+    ghost from_gives = { λ _ e. e ≡ fault.Memory };
+
+    fn from(_: AllocError) -> TextFault {
+        TextFault::Memory
+    }
+}
+
+impl<T: Drop> From<AllocFailed<T>> for TextFault {
+    ghost use Rattle.kilim_mutf8.specs.declared.fault.TextFault.TheVariants as fault;
+
+    ghost from_gives = { λ _ e. e ≡ fault.Memory };
+
+    fn from(_: AllocFailed<T>) -> TextFault {
+        TextFault::Memory
+    }
+}
