@@ -1,5 +1,5 @@
 -- Why a call of the outside failed.
-use Rattle.std.specs.Prelude.{◌≡◌, ℕ, ◌+◌, ◌-◌, ◌^◌, ◌≤◌, List, [], ◌∷◌, ◌++◌, min, Option, Some, None, Result, IsErrOf, ◌⊎◌}
+use Rattle.std.specs.Prelude.{◌≡◌, ℕ, ◌+◌, ◌-◌, ◌^◌, ◌≤◌, List, [], ◌∷◌, ◌++◌, min, Option, Some, None, Result, IsErrOf, OnOk, ◌⊎◌}
 use Rattle.kilim_outside.specs.declared.folder.FailedCall.{FailedCall}
 use Rattle.kilim_outside.specs.declared.folder.FolderFault.{FolderFault}
 use Rattle.kilim_outside.specs.declared.folder.FolderFault.TheVariants as folder
@@ -11,6 +11,7 @@ use Rattle.kilim_outside.specs.declared.sink.SinkFault.TheVariants as sink
 pub record FolderCause {T : Type 0} (call : FailedCall) (before now : List FailedCall) (result : Result T FolderFault) : Type 0 where
   pub own : (now ≡ before) ⊎ (now ≡ before ++ call ∷ [])
   pub failed : IsErrOf result folder.Failed → now ≡ before ++ call ∷ []
+  pub ok : OnOk result (now ≡ before)
 
 -- a sink's count of faults rose, or stands at the last value of its type
 abbrev pub Rose : ℕ → ℕ → Type 0

@@ -1,6 +1,6 @@
 //! Where text goes.
 
-ghost use Rattle.std.specs.Prelude.{◌≡◌, ◌≢◌, ◌≤◌, List, ℕ, [], Option, Ok, take, length, IfOk, OnErr};
+ghost use Rattle.std.specs.Prelude.{◌≡◌, ◌≢◌, ◌≤◌, ◌<◌, List, ℕ, [], Option, Ok, take, length, IfOk, OnErr};
 ghost use Rattle.kilim_outside.specs.Causes.{Appended, Rose, SinkCause};
 
 use std::alloc::{AllocError, AllocFailed};
@@ -47,12 +47,15 @@ pub trait TextSink {
     /// How many of its calls failed.
     ghost faults: { Self → ℕ };
 
-    /// Writes a front of the piece, and answers how many bytes it took, at most the piece's length.
-    /// Taking nothing of a piece that isn't empty is a fault too. After a refusal nothing was written.
+    /// Writes a front of the piece, which has at most 4,096 bytes, and answers how many bytes it took, at most
+    /// the piece's length. Taking nothing of a piece that isn't empty is a fault too, and taking some of it is
+    /// none. After a refusal nothing was written.
     fn write(&mut self, piece: &[u8]) -> Result<usize, SinkFault>
+        requires few { length piece.now ≤ 4096 }
         ensures most { IfOk result (λ n. n ≤ length piece.now) }
         ensures taken { IfOk result (λ n. Appended (written self.old) (written self.new) (take n piece.now)) }
         ensures nothing { result ≡ Ok 0 → piece.now ≢ [] → Rose (faults self.old) (faults self.new) }
+        ensures quiet { IfOk result (λ n. 0 < n → faults self.new ≡ faults self.old) }
         ensures err { OnErr result (written self.new ≡ written self.old) }
         ensures cause { SinkCause (faults self.old) (faults self.new) result };
 }

@@ -1,5 +1,5 @@
 -- One move of a thread, taken apart.
-use Rattle.std.proofs.Common.{◌≡◌, ℕ, zero, suc, ◌<◌, Bool, cond, List, [], ◌∷◌, Option, Some, None, refl, ap, ◌∙◌}
+use Rattle.std.proofs.Common.{◌≡◌, ℕ, zero, suc, ◌<◌, Bool, cond, List, [], ◌∷◌, Option, Some, None, refl, sym, ap, subst, ◌∙◌}
 use Rattle.std.specs.Prelude.{slice_get}
 use Rattle.std.proofs.lemmas.Bool.{lt-leb}
 use Rattle.kilim_program.specs.declared.cause.EndCause.{EndCause}
@@ -8,6 +8,7 @@ use Rattle.kilim_program.specs.declared.class.Method.{Method}
 use Rattle.kilim_program.specs.declared.class.Program.{Program}
 use Rattle.kilim_program.specs.declared.instr.Instr.{Instr}
 use Rattle.kilim_journal.specs.declared.entry.Act.{Act}
+use Rattle.kilim_journal.specs.declared.entry.Entry.{Entry}
 use Rattle.kilim_program.specs.Machine.{Objects, Activation}
 use Rattle.kilim_program.specs.Names.{method_at}
 use Rattle.kilim_program.specs.Effect.{Effect}
@@ -15,7 +16,7 @@ use Rattle.kilim_program.specs.Does.{does}
 use Rattle.kilim_program.specs.Moves.{fetched, effect_found, effect_in, effect_of, move_by, moves}
 use Rattle.kilim_thread_model.specs.State.{Setting, Alive, Ended, State, noted}
 use Rattle.kilim_thread_model.specs.Turn.{Moved, Runner, quiet, acted, ends, moved_by, frames_moved, thread_moved, moved}
-use Rattle.kilim_thread_model.specs.Runs.{acted_or, acted_within, before_action}
+use Rattle.kilim_thread_model.specs.Runs.{acted_or, acted_within, before_action, Replays}
 
 -- the effect is that of the instruction that stands at the frame's place
 effect_at : (p : Program) (top : Activation) (heap : Objects) (method : Method) (found : Instr × ℕ) → method_at p top.method ≡ Some method → fetched method.code method.code_length top.place ≡ Some found →
@@ -72,3 +73,9 @@ same_action set (suc m) (suc n) s a b t p q =
       | None ↦ λ x y. same_action set m n (moved set s t).state a b t x y
       | Some act ↦ λ x y. cc
     ] p q
+
+-- no journal leads to two states
+pub one_replay : (set : Setting) (s : State) (es : List Entry) (a b : State) → Replays set s es a → Replays set s es b → a ≡ b
+one_replay set s [] a b p q = sym p ∙ q
+one_replay set s (e ∷ es) a b (m, mid, acts, said, rest) (n, mid', acts', said', rest') =
+    one_replay set mid es a b rest (subst (λ (x : State). Replays set x es b) (same_action set n m s mid' mid e.task acts' acts) rest')

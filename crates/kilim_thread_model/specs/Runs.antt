@@ -25,7 +25,7 @@ played setting schedule = played_from setting (first_state setting) schedule
 -- ---- up to a thread's next action
 
 -- The thread moves until it has acted: the state right after its next action, where that comes within so many
--- moves. Whatever is enough gives the same state.
+-- moves. Whatever is enough gives the same state (the law `one_next_action`).
 abbrev pub acted_or : State → ℕ → Option Act → Option State → Option State
 acted_or s t None later = later
 acted_or s t (Some act) later = Some (noted s t act)
@@ -33,6 +33,10 @@ acted_or s t (Some act) later = Some (noted s t act)
 unfoldable pub acted_within : Setting → ℕ → State → ℕ → Option State
 acted_within setting zero s t = None
 acted_within setting (suc n) s t = acted_or (moved setting s t).state t (moved setting s t).act (acted_within setting n (moved setting s t).state t)
+
+-- Two numbers of moves that are enough give one state.
+abbrev pub OneNextAction : Type 0
+OneNextAction = (setting : Setting) (m n : ℕ) (s a b : State) (t : ℕ) → acted_within setting m s t ≡ Some a → acted_within setting n s t ≡ Some b → a ≡ b
 
 -- The thread makes at most so many moves, but not its next action.
 abbrev pub unless_acted : State → Option Act → State → State
@@ -50,6 +54,10 @@ abbrev pub Replays : Setting → State → List Entry → State → Type 0
 Replays setting s [] last = s ≡ last
 Replays setting s (e ∷ es) last =
     (n : ℕ) × (mid : State) × (acted_within setting n s e.task ≡ Some mid) × (mid.journal ≡ s.journal ++ e ∷ []) × Replays setting mid es last
+
+-- No journal leads to two states, however many moves are granted on the way.
+abbrev pub OneReplay : Type 0
+OneReplay = (setting : Setting) (s : State) (es : List Entry) (a b : State) → Replays setting s es a → Replays setting s es b → a ≡ b
 
 -- ---- at rest
 

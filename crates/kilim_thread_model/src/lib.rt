@@ -3,6 +3,7 @@
 #![tactic(auto)]
 
 ghost use Rattle.kilim_thread_model.specs.Examples.{ExamplesHold};
+ghost use Rattle.kilim_thread_model.specs.Runs.{OneNextAction, OneReplay};
 ghost use Rattle.kilim_thread_model.specs.Small.{SmallRunIsWhole};
 
 /// A law, and no work: the run of a small program prints its numbers in order, and is done.
@@ -14,4 +15,14 @@ pub fn small_run_is_whole()
 /// ones aren't.
 pub fn examples_hold()
     ensures { ExamplesHold }
+{}
+
+/// A law, and no work: a thread's next action leads to one state, however many moves are granted for it.
+pub fn one_next_action()
+    ensures { OneNextAction }
+{}
+
+/// A law, and no work: a journal is replayed to one state.
+pub fn one_replay()
+    ensures { OneReplay }
 {}

@@ -45,22 +45,23 @@ IsLater (bytes ∷ []) text = (text ≡ later_line) × ((class : SmallClass) →
 IsLater files text = ⊥
 
 -- the class file can be run, and its class isn't the main class
-pub record IsMain (main bytes text : List ℕ) : Type 0 where
+pub record IsMainReport (main bytes text : List ℕ) : Type 0 where
   pub class : SmallClass
   pub small : IsSmallFile bytes class
   pub other : own_name class ≢ main
   pub is_text : text ≡ main_line main
 
-abbrev pub IsMainOf : List ℕ → List (List ℕ) → List ℕ → Type 0
-IsMainOf main (bytes ∷ []) text = IsMain main bytes text
-IsMainOf main files text = ⊥
+abbrev pub IsMainReportOf : List ℕ → List (List ℕ) → List ℕ → Type 0
+IsMainReportOf main (bytes ∷ []) text = IsMainReport main bytes text
+IsMainReportOf main files text = ⊥
 
 abbrev pub IsReport : List ℕ → List (List ℕ) → List ℕ → Type 0
-IsReport main files text = IsLater files text ⊎ IsMainOf main files text
+IsReport main files text = IsLater files text ⊎ IsMainReportOf main files text
 
 -- ---- what was read
 
--- where the folder tells: what was read is what it held, of each file
+-- Where the folder tells, what was read is what it held, of each file. Where it doesn't, this says only how many
+-- files were read.
 abbrev pub WereRead : Option Files → List (List ℕ) → List (List ℕ) → Type 0
 WereRead contents [] [] = Unit {0}
 WereRead None (name ∷ names) (bytes ∷ files) = WereRead None names files
@@ -117,7 +118,8 @@ abbrev pub WriteFailed : Option Request → List FailedCall → List FailedCall 
 WriteFailed None before now = ⊥
 WriteFailed (Some request) before now = (name : List ℕ) × Contains (files_written request) name × (now ≡ before ++ Write name ∷ [])
 
--- No call of the folder failed but these: so no other name was read or written.
+-- No call of the folder failed but these. The call is the same for every folder, and in some folder every call
+-- fails: so no other name was read or written in any.
 abbrev pub FailedAtMost : Option Request → List FailedCall → List FailedCall → Type 0
 FailedAtMost request before now = (now ≡ before) ⊎ (ReadFailed request before now ⊎ WriteFailed request before now)
 

@@ -122,6 +122,7 @@ pub record IsSmallFile (bytes : List ℕ) (class : SmallClass) : Type 0 where
   pub short : length bytes ≤ 16777216
   pub small : is_small class ≡ true
 
+-- the name of the class; a small class has one
 abbrev pub own_name : SmallClass → List ℕ
 own_name c = unwrap_or (name_of c.pool c.this_class) []
 

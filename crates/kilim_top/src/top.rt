@@ -28,6 +28,7 @@ fn respond<K: TextSink>(alloc: Global, main: &str, bytes: &[u8], out: &mut K) ->
     ensures memory { result ≡ 5 → (K.written out.new ≡ K.written out.old) ⊎ WroteFrontOf main.now bytes.now (K.written out.old) (K.written out.new) }
     ensures write { result ≡ 4 → Rose (K.faults out.old) (K.faults out.new) }
     ensures fit { result ≡ 1 → IsFitFile main.now bytes.now → ⊥ }
+    ensures quiet { (result ≡ 0) ⊎ (result ≡ 1) → K.faults out.new ≡ K.faults out.old }
 {
     let Ok(reply) = answer(alloc, main, bytes) else {
         return 5;
@@ -59,6 +60,9 @@ fn work<F: Folder, K: TextSink>(
     ensures memory { result ≡ 5 → (K.written out.new ≡ K.written out.old) ⊎ WroteFront (F.contents files.old) (Some (Run main.now (file.now ∷ []))) (K.written out.old) (K.written out.new) }
     ensures contents { F.contents files.new ≡ F.contents files.old }
     ensures calls { FailedAtMost (Some (Run main.now (file.now ∷ []))) (F.faults files.old) (F.faults files.new) }
+    ensures quiet { (result ≡ 0) ⊎ (result ≡ 1) → K.faults out.new ≡ K.faults out.old }
+    ensures were_read { (result ≡ 0) ⊎ (result ≡ 1) ⊎ (result ≡ 4) → F.faults files.new ≡ F.faults files.old }
+    ensures untouched { result ≡ 3 → out.new ≡ out.old }
     ensures fit { result ≡ 1 → IsFit (F.contents files.old) (Some (Run main.now (file.now ∷ []))) → ⊥ }
 {
     let mut bytes = Vec::new(alloc);
@@ -101,6 +105,13 @@ pub fn kilim_alone<F: Folder, K: TextSink, G: Gate>(
     ensures front { result ≡ Some 4 → WroteFront (F.contents files.old) (request_of (map string_bytes words.now.items)) (K.written out.old) (K.written out.new) }
     ensures memory { result ≡ Some 5 → (K.written out.new ≡ K.written out.old) ⊎ WroteFront (F.contents files.old) (request_of (map string_bytes words.now.items)) (K.written out.old) (K.written out.new) }
 
+    // No fault of the outside is passed over: the first one ends the work. The sink is left alone before all
+    // files are read, and the files before all words are.
+    ensures quiet { (result ≡ Some 0) ⊎ (result ≡ Some 1) → K.faults out.new ≡ K.faults out.old }
+    ensures were_read { (result ≡ Some 0) ⊎ (result ≡ Some 1) ⊎ (result ≡ Some 4) → F.faults files.new ≡ F.faults files.old }
+    ensures untouched { (result ≡ Some 2) ⊎ (result ≡ Some 3) → out.new ≡ out.old }
+    ensures unread { result ≡ Some 2 → files.new ≡ files.old }
+
     // No file changes, and no other name is read.
     ensures contents { F.contents files.new ≡ F.contents files.old }
     ensures calls { FailedAtMost (request_of (map string_bytes words.now.items)) (F.faults files.old) (F.faults files.new) }
@@ -115,7 +126,7 @@ pub fn kilim_alone<F: Folder, K: TextSink, G: Gate>(
     Some(work(alloc, asked.main, asked.file, files, out))
 }
 
-/// The same over files and a sink in memory in which nothing fails: there is no status 3 and no status 4.
+/// The same over files and a sink in memory in which nothing fails: the status is 0, 1, 2 or 5.
 pub fn kilim_in_memory<G: Gate>(
     alloc: Global,
     words: &Vec<String>,
@@ -124,6 +135,10 @@ pub fn kilim_in_memory<G: Gate>(
     gate: &G,
 ) -> Option<u8>
     ensures answers { IsSome result }
+    ensures one_of { (result ≡ Some 0) ⊎ (result ≡ Some 1) ⊎ (result ≡ Some 2) ⊎ (result ≡ Some 5) }
+    ensures contents { files_of files.new.files ≡ files_of files.old.files }
+    ensures nothing { result ≡ Some 2 → out.new ≡ out.old }
+    ensures memory { result ≡ Some 5 → (out.new.bytes ≡ out.old.bytes) ⊎ WroteFront (Some (files_of files.old.files)) (request_of (map string_bytes words.now.items)) (Some out.old.bytes) (Some out.new.bytes) }
     ensures no_read { result ≡ Some 3 → ⊥ }
     ensures no_write { result ≡ Some 4 → ⊥ }
     ensures complete { IsFit (Some (files_of files.old.files)) (request_of (map string_bytes words.now.items)) → (result ≡ Some 0) ⊎ (result ≡ Some 5) }
@@ -161,6 +176,13 @@ pub fn kilim<R: Threads + Wait + Sync, F: Folder, K: TextSink, G: Gate>(
     ensures write { result ≡ 4 → Rose (K.faults out.old) (K.faults out.new) ⊎ WriteFailed (request_of (map string_bytes words.now.items)) (F.faults files.old) (F.faults files.new) }
     ensures front { result ≡ 4 → WroteFront (F.contents files.old) (request_of (map string_bytes words.now.items)) (K.written out.old) (K.written out.new) }
     ensures memory { result ≡ 5 → (K.written out.new ≡ K.written out.old) ⊎ WroteFront (F.contents files.old) (request_of (map string_bytes words.now.items)) (K.written out.old) (K.written out.new) }
+
+    // No fault of the outside is passed over: the first one ends the work. The sink is left alone before all
+    // files are read, and the files before all words are.
+    ensures quiet { (result ≡ 0) ⊎ (result ≡ 1) → K.faults out.new ≡ K.faults out.old }
+    ensures were_read { (result ≡ 0) ⊎ (result ≡ 1) ⊎ (result ≡ 4) → F.faults files.new ≡ F.faults files.old }
+    ensures untouched { (result ≡ 2) ⊎ (result ≡ 3) → out.new ≡ out.old }
+    ensures unread { result ≡ 2 → files.new ≡ files.old }
 
     // No file changes, and no other name is read.
     ensures contents { F.contents files.new ≡ F.contents files.old }

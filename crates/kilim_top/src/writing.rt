@@ -10,6 +10,7 @@ use kilim_outside::{SinkFault, TextSink};
 fn piece_limit() -> usize
     ensures limit { result ≡ piece_limit }
     ensures some { 0 < result }
+    ensures few { result ≤ 4096 }
 {
     4096
 }
@@ -18,6 +19,7 @@ fn piece_limit() -> usize
 fn piece(bytes: &[u8]) -> &[u8]
     ensures piece { result.now ≡ take piece_limit bytes.now }
     ensures some { bytes.now ≢ [] → result.now ≢ [] }
+    ensures few { length result.now ≤ 4096 }
 {
     let most = piece_limit();
     if bytes.len() > most {
@@ -33,6 +35,7 @@ fn write_piece<K: TextSink>(out: &mut K, bytes: &[u8]) -> Result<usize, SinkFaul
     ensures some { IfOk result (λ n. 0 < n) }
     ensures most { IfOk result (λ n. n ≤ length bytes.now) }
     ensures taken { IfOk result (λ n. Appended (K.written out.old) (K.written out.new) (take n bytes.now)) }
+    ensures quiet { OnOk result (K.faults out.new ≡ K.faults out.old) }
     ensures err { OnErr result (Appended (K.written out.old) (K.written out.new) []) }
     ensures cause { SinkCause (K.faults out.old) (K.faults out.new) result }
 {
@@ -47,6 +50,7 @@ fn write_piece<K: TextSink>(out: &mut K, bytes: &[u8]) -> Result<usize, SinkFaul
 /// written.
 pub fn write_all<K: TextSink>(out: &mut K, bytes: &[u8]) -> Result<(), SinkFault>
     ensures ok { OnOk result (Appended (K.written out.old) (K.written out.new) bytes.now) }
+    ensures quiet { OnOk result (K.faults out.new ≡ K.faults out.old) }
     ensures err { OnErr result (AppendedFront (K.written out.old) (K.written out.new) bytes.now) }
     ensures cause { SinkCause (K.faults out.old) (K.faults out.new) result }
 {

@@ -12,5 +12,6 @@ loop-rest-preserved g c =
     append_assoc before.0 piece (drop n c.loop-rest.rest.now) ∙ (ap (λ (xs : List ℕ). before.0 ++ xs) (take-append-drop n c.loop-rest.rest.now) ∙ before.1) in
     record {
       later = omega arith;
+      quiet = c.in_ok-count.ensures.quiet ∙ c.loop-rest.invariant.quiet;
       so_far = (before.0 ++ piece, rw c.split_at.ensures.back whole, more _ _ _ before.0 piece before.2 c.in_ok-count.ensures.taken);
     }
