@@ -1,0 +1,25 @@
+-- What is answered for a text.
+use Rattle.std.specs.Prelude.{◌≡◌, ℕ, ◌+◌, ◌<◌, ◌≤◌, List, length, Result, Ok, Err}
+use Rattle.kilim_descriptors.specs.declared.types.FieldText.{FieldText}
+use Rattle.kilim_descriptors.specs.declared.types.MethodText.{MethodText}
+use Rattle.kilim_descriptors.specs.declared.fault.DescriptorFault.{DescriptorFault}
+use Rattle.kilim_descriptors.specs.declared.fault.DescriptorFault.TheVariants.{Malformed, TooManySlots, Memory}
+use Rattle.kilim_descriptors.specs.Text.{slots_of}
+use Rattle.kilim_descriptors.specs.Reading.{whole_field, whole_method}
+
+-- reading stops at this place
+abbrev pub StopsAt : {A : Type 0} → List ℕ → Result A ℕ → ℕ → Type 0
+StopsAt text read at = (left : ℕ) × (read ≡ Err left) × (at + left ≡ length text)
+
+abbrev pub FieldGives : List ℕ → Result FieldText DescriptorFault → Type 0
+FieldGives text (Ok f) = whole_field text ≡ Ok f
+FieldGives text (Err (Malformed at)) = StopsAt text (whole_field text) at
+FieldGives text (Err (TooManySlots n)) = ⊥
+FieldGives text (Err Memory) = Unit {0}
+
+-- too many slots is a fault of a text that is a descriptor otherwise
+abbrev pub MethodGives : List ℕ → Result MethodText DescriptorFault → Type 0
+MethodGives text (Ok m) = (whole_method text ≡ Ok m) × (slots_of m ≤ 255)
+MethodGives text (Err (Malformed at)) = StopsAt text (whole_method text) at
+MethodGives text (Err (TooManySlots n)) = (m : MethodText) × (whole_method text ≡ Ok m) × (slots_of m ≡ n) × (255 < n)
+MethodGives text (Err Memory) = Unit {0}

@@ -1,0 +1,46 @@
+//! Why a text is no descriptor.
+
+use std::alloc::{AllocError, AllocFailed};
+
+/// Why a text is no descriptor.
+#[derive(Clone, Copy, Debug, PartialEq, Eq)]
+pub enum DescriptorFault {
+    /// No descriptor goes on like this at this place, counted in UTF-16 units from 0; the text's length where it
+    /// ends too early. The 256th dimension of an array is such a place.
+    Malformed(usize),
+    /// The parameters take so many argument slots, more than 255. A long and a double take two; `this` isn't
+    /// counted (JVMS 4.3.3).
+    TooManySlots(usize),
+    /// Want of memory.
+    Memory,
+}
+
+/// Why no descriptor stands at the front of some units.
+#[derive(Clone, Copy)]
+pub enum Stop {
+    Memory,
+    /// No descriptor goes on like this where so many units are left.
+    Left(usize),
+}
+
+impl From<AllocError> for Stop {
+    ghost use Rattle.std.specs.Prelude.{◌≡◌};
+    ghost use Rattle.kilim_descriptors.specs.declared.fault.Stop.TheVariants as stop;
+
+    ghost from_gives = { λ _ e. e ≡ stop.Memory };
+
+    fn from(_: AllocError) -> Stop {
+        Stop::Memory
+    }
+}
+
+impl<T: Drop> From<AllocFailed<T>> for Stop {
+    ghost use Rattle.std.specs.Prelude.{◌≡◌};
+    ghost use Rattle.kilim_descriptors.specs.declared.fault.Stop.TheVariants as stop;
+
+    ghost from_gives = { λ _ e. e ≡ stop.Memory };
+
+    fn from(_: AllocFailed<T>) -> Stop {
+        Stop::Memory
+    }
+}

@@ -1,0 +1,138 @@
+//! Types of methods.
+
+ghost use Rattle.std.specs.Prelude.{◌≡◌, ◌<◌, ◌≤◌, ◌^◌, length, sum_by, IfOk, MatchResult};
+ghost use Rattle.kilim_descriptors.specs.declared.types.MethodText.{MethodText};
+ghost use Rattle.kilim_descriptors.specs.declared.fault.DescriptorFault.TheVariants.{Memory};
+ghost use Rattle.kilim_descriptors.specs.Text.{method_text, MethodFits, is_wide, slots, slots_of};
+ghost use Rattle.kilim_descriptors.specs.Reading.{Gives, param_at, params_at, result_at, whole_method};
+ghost use Rattle.kilim_descriptors.specs.Exact.{MethodGives};
+
+use crate::fault::{DescriptorFault, Stop};
+use crate::fields::field_at;
+use crate::types::{BaseText, FieldText, MethodText};
+use kilim_program::{Seq, Units};
+use std::alloc::Global;
+
+// The next parameter, or none at the closing parenthesis.
+#[tactic(auto, unfolding(crate::specs::Reading::param_at))]
+fn param_at(alloc: Global, units: &[u16]) -> Result<(Option<FieldText>, &[u16]), Stop>
+    ensures { Gives (λ x. (x.0, x.1.now)) result (param_at units.now) }
+{
+    match units {
+        [] => Err(Stop::Left(0)),
+        [41, rest @ ..] => Ok((None, rest)),
+        _ => {
+            let (param, rest) = field_at(alloc, units)?;
+            Ok((Some(param), rest))
+        }
+    }
+}
+
+// The parameters up to the closing parenthesis.
+fn params_at(alloc: Global, units: &[u16]) -> Result<(Seq<FieldText>, &[u16]), Stop>
+    ensures { Gives (λ x. (x.0, x.1.now)) result (params_at (length units.now) units.now) }
+{
+    let mut params = Vec::new(alloc);
+    let mut rest = units;
+    for _ in 0..units.len() {
+        let (param, after) = param_at(alloc, rest)?;
+        let Some(param) = param else {
+            return Ok((Seq::from_vec(params), after));
+        };
+        params.push(param)?;
+        rest = after;
+    }
+    Err(Stop::Left(rest.len()))
+}
+
+#[tactic(auto, unfolding(crate::specs::Reading::result_at))]
+fn result_at(alloc: Global, units: &[u16]) -> Result<(Option<FieldText>, &[u16]), Stop>
+    ensures { Gives (λ x. (x.0, x.1.now)) result (result_at units.now) }
+{
+    match units {
+        [] => Err(Stop::Left(0)),
+        [86, rest @ ..] => Ok((None, rest)),
+        _ => {
+            let (found, rest) = field_at(alloc, units)?;
+            Ok((Some(found), rest))
+        }
+    }
+}
+
+#[tactic(auto, unfolding(crate::specs::Reading::whole_method))]
+fn whole_method(alloc: Global, units: &[u16]) -> Result<MethodText, Stop>
+    ensures { Gives (λ m. m) result (whole_method units.now) }
+{
+    let [unit, rest @ ..] = units else {
+        return Err(Stop::Left(0));
+    };
+    if *unit != 40 {
+        return Err(Stop::Left(units.len()));
+    }
+    let (params, rest) = params_at(alloc, rest)?;
+    let (result, rest) = result_at(alloc, rest)?;
+    if rest.is_empty() {
+        Ok(MethodText { params, result })
+    } else {
+        Err(Stop::Left(rest.len()))
+    }
+}
+
+fn is_wide(base: &BaseText) -> bool
+    ensures { result ≡ is_wide base.now }
+{
+    matches!(base, BaseText::Long | BaseText::Double)
+}
+
+fn slots(found: &FieldText) -> usize
+    ensures slots { result ≡ slots found.now }
+    ensures few { result ≤ 2 }
+{
+    if found.dims == 0 && is_wide(&found.base) {
+        2
+    } else {
+        1
+    }
+}
+
+// The argument slots of some parameters.
+fn slots_of(params: &[FieldText]) -> usize
+    requires { length params.now < 2 ^ 63 }
+    ensures { result ≡ sum_by slots params.now }
+{
+    let mut sum = 0;
+    for param in params {
+        sum += slots(param);
+    }
+    sum
+}
+
+/// The types that a method's descriptor spells, all of the text (JVMS 4.3.3).
+///
+/// It answers `Ok` exactly for the text of types whose parameters take at most 255 argument slots; a long and a
+/// double take two, `this` isn't counted. Else it is `Malformed` at the first place where no descriptor goes on
+/// like this, counted in UTF-16 units, or `TooManySlots` for the text of a descriptor with so many slots. Where
+/// memory runs out it is `Memory`.
+pub fn method(alloc: Global, text: &Units) -> Result<MethodText, DescriptorFault>
+    // What is read is spelled so, and has few enough slots.
+    ensures found { IfOk result (λ m. MethodFits m × (text.now ≡ method_text m) × (slots_of m ≤ 255)) }
+
+    // What is spelled so, and has few enough slots, is read.
+    ensures only { (m : MethodText) → MethodFits m → text.now ≡ method_text m → slots_of m ≤ 255 → MatchResult result (λ g. g ≡ m) (λ e. e ≡ Memory) }
+
+    // Which fault it is, and at which place.
+    ensures exact { MethodGives text.now result }
+{
+    let units = text.as_slice();
+    match whole_method(alloc, units) {
+        Ok(found) => {
+            let slots = slots_of(found.params.as_slice());
+            if slots > 255 {
+                return Err(DescriptorFault::TooManySlots(slots));
+            }
+            Ok(found)
+        }
+        Err(Stop::Left(left)) => Err(DescriptorFault::Malformed(units.len() - left)),
+        Err(Stop::Memory) => Err(DescriptorFault::Memory),
+    }
+}
