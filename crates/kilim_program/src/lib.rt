@@ -12,6 +12,8 @@ mod memory;
 mod names;
 mod run;
 mod seq;
+#[cfg(test)]
+mod tests;
 mod ty;
 mod units;
 mod value;
