@@ -1,3 +1,5 @@
 pub mod Steps
 pub mod Spelled
 pub mod SpelledMethods
+pub mod Places
+pub mod PlacesMethods

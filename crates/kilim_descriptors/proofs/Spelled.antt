@@ -51,16 +51,16 @@ all_takes text Fits units (Ok x) h =
 
 -- ---- names
 
-abbrev Splits : List ℕ → Option (List ℕ × List ℕ) → Type 0
-Splits units None = Unit {0}
+abbrev pub Splits : List ℕ → Option (List ℕ × List ℕ) → Type 0
+Splits units None = list_all (λ u. not (eqb u 59)) units ≡ true
 Splits units (Some x) = (units ≡ x.0 ++ 59 ∷ x.1) × (list_all (λ u. not (eqb u 59)) x.0 ≡ true)
 
 with_unit_splits : (u : ℕ) (us : List ℕ) (s : Option (List ℕ × List ℕ)) → eqb u 59 ≡ false → Splits us s → Splits (u ∷ us) (with_unit u s)
-with_unit_splits u us None e h = tt
+with_unit_splits u us None e h = rw (e, h) refl
 with_unit_splits u us (Some x) e h = (ap (λ (t : List ℕ). u ∷ t) h.0, rw (e, h.1) refl)
 
-splits : (us : List ℕ) → Splits us (split_name us)
-splits [] = tt
+pub splits : (us : List ℕ) → Splits us (split_name us)
+splits [] = refl
 splits (u ∷ us) =
     either (Splits (u ∷ us)) (eqb u 59) (Some ([], us)) (with_unit u (split_name us))
     (λ e. (ap (λ (n : ℕ). n ∷ us) (eqb-true u 59 e), refl))
@@ -123,7 +123,7 @@ dims_takes : (units : List ℕ) (dims : ℕ) (behind : List ℕ) (r : Result (Ba
 dims_takes units dims behind (Ok x) parts lt h = (parts ∙ (ap (λ (t : List ℕ). replicate dims 91 ++ t) h.0 ∙ sym (append_assoc (replicate dims 91) (base_text x.0) x.1)), (lt, h.1))
 dims_takes units dims behind (Err left) parts lt h = omega (arith, ap length parts, length-append (replicate dims 91) behind)
 
-one_more : (n : ℕ) (rest : List ℕ) → replicate n 91 ++ 91 ∷ rest ≡ replicate (n + 1) 91 ++ rest
+pub one_more : (n : ℕ) (rest : List ℕ) → replicate n 91 ++ 91 ∷ rest ≡ replicate (n + 1) 91 ++ rest
 one_more zero rest = refl
 one_more (suc n) rest =
     let k : suc (n + 1) ≡ suc n + 1 = omega arith in

@@ -18,10 +18,10 @@ abbrev pub param_text : Option FieldText → List ℕ
 param_text None = 41 ∷ []
 param_text (Some f) = field_text f
 
-abbrev ParamTakes : List ℕ → Result (Option FieldText × List ℕ) ℕ → Type 0
+abbrev pub ParamTakes : List ℕ → Result (Option FieldText × List ℕ) ℕ → Type 0
 ParamTakes = Takes param_text ResultFits
 
-abbrev ResultTakes : List ℕ → Result (Option FieldText × List ℕ) ℕ → Type 0
+abbrev pub ResultTakes : List ℕ → Result (Option FieldText × List ℕ) ℕ → Type 0
 ResultTakes = Takes result_text ResultFits
 
 some_takes : (text : Option FieldText → List ℕ) (units : List ℕ) (r : Result (FieldText × List ℕ) ℕ) → ((f : FieldText) → text (Some f) ≡ field_text f) → FieldTakes units r → Takes text ResultFits units (r >>= λ f. Ok (Some f.0, f.1))
@@ -45,14 +45,14 @@ result_takes (u ∷ rest) =
     (λ e. some_takes result_text (u ∷ rest) (field_at (u ∷ rest)) (λ f. refl) (field_takes (u ∷ rest)))
 
 -- the text of a type starts with none of the signs that stand for something else
-record Starts (text : List ℕ) : Type 0 where
+pub record Starts (text : List ℕ) : Type 0 where
   pub first : ℕ
   pub others : List ℕ
   pub parts : text ≡ first ∷ others
   pub no_end : eqb first 41 ≡ false
   pub no_void : eqb first 86 ≡ false
 
-starts : (dims : ℕ) (b : BaseText) → Starts (replicate dims 91 ++ base_text b)
+pub starts : (dims : ℕ) (b : BaseText) → Starts (replicate dims 91 ++ base_text b)
 starts (suc n) b = record { first = 91; others = replicate n 91 ++ base_text b; parts = refl; no_end = refl; no_void = refl }
 starts zero Boolean = record { first = 90; others = []; parts = refl; no_end = refl; no_void = refl }
 starts zero Byte = record { first = 66; others = []; parts = refl; no_end = refl; no_void = refl }
@@ -73,7 +73,7 @@ some_param f rest fits =
     let step : param_at (s.first ∷ (s.others ++ rest)) ≡ read (Some f) rest = rw (s.no_end, one) refl in
     ap param_at parts ∙ step
 
-some_result : (f : FieldText) (rest : List ℕ) → FieldFits f → result_at (field_text f ++ rest) ≡ read (Some f) rest
+pub some_result : (f : FieldText) (rest : List ℕ) → FieldFits f → result_at (field_text f ++ rest) ≡ read (Some f) rest
 unfolding result_at
 some_result f rest fits =
     let s = starts f.dims f.base in
@@ -92,10 +92,10 @@ result_again (Some f) fits = ap result_at (sym (append-nil (field_text f))) ∙ 
 abbrev pub params_text : List FieldText → List ℕ
 params_text fs = flat_map field_text fs ++ 41 ∷ []
 
-abbrev ParamsTakes : List ℕ → Result (List FieldText × List ℕ) ℕ → Type 0
+abbrev pub ParamsTakes : List ℕ → Result (List FieldText × List ℕ) ℕ → Type 0
 ParamsTakes = Takes params_text (AllByRecursion FieldFits)
 
-regroup : (a b c d : List ℕ) → a ++ ((b ++ c) ++ d) ≡ ((a ++ b) ++ c) ++ d
+pub regroup : (a b c d : List ℕ) → a ++ ((b ++ c) ++ d) ≡ ((a ++ b) ++ c) ++ d
 regroup a b c d = simp append_assoc
 
 more_takes : (units : List ℕ) (f : FieldText) (rest : List ℕ) (r : Result (List FieldText × List ℕ) ℕ) → units ≡ field_text f ++ rest → FieldFits f → ParamsTakes rest r → ParamsTakes units (r >>= λ x. Ok (f ∷ x.0, x.1))

@@ -1,4 +1,5 @@
--- The text of a descriptor (JVMS 4.3.2, 4.3.3), in UTF-16 units: each type has one.
+-- The text of a descriptor (JVMS 4.3.2, 4.3.3), in UTF-16 units: each type has one. Of a class name it asks only that
+-- it is not empty and has no semicolon (own).
 use Rattle.std.specs.Prelude.{◌≡◌, ℕ, ◌^◌, ◌<◌, Bool, true, false, ◌==◌, not, if◌then◌else◌, List, [], ◌∷◌, ◌++◌, replicate, Option, Some, None, sum_by}
 use Rattle.std.specs.List.{flat_map, list_all, AllByRecursion}
 use Rattle.kilim_descriptors.specs.declared.types.BaseText.{BaseText}

@@ -1,10 +1,10 @@
 //! Types of fields.
 
-ghost use Rattle.std.specs.Prelude.{◌≡◌, IfOk, MatchResult};
+ghost use Rattle.std.specs.Prelude.{◌≡◌, IfOk, IfErr, MatchResult};
 ghost use Rattle.kilim_descriptors.specs.declared.types.FieldText.{FieldText};
 ghost use Rattle.kilim_descriptors.specs.declared.fault.DescriptorFault.TheVariants.{Memory};
 ghost use Rattle.kilim_descriptors.specs.Text.{field_text, FieldFits};
-ghost use Rattle.kilim_descriptors.specs.Exact.{FieldGives};
+ghost use Rattle.kilim_descriptors.specs.Exact.{AtFirstPlace, FieldGives};
 ghost use Rattle.std.specs.Option.{option_map};
 ghost use Rattle.kilim_descriptors.specs.Reading.{Gives, split_name, class_at, base_at, field_behind, field_at, whole_field, Dims};
 
@@ -124,6 +124,9 @@ pub fn field(alloc: Global, text: &Units) -> Result<FieldText, DescriptorFault>
 
     // Which fault it is, and at which place.
     ensures exact { FieldGives text.now result }
+
+    // What that place is: a descriptor begins with what stands before it, and none with the unit there too.
+    ensures place { IfErr result (λ e. AtFirstPlace field_text FieldFits text.now e) }
 {
     let units = text.as_slice();
     match whole_field(alloc, units) {

@@ -1,11 +1,11 @@
 //! Types of methods.
 
-ghost use Rattle.std.specs.Prelude.{◌≡◌, ◌<◌, ◌≤◌, ◌^◌, length, sum_by, IfOk, MatchResult};
+ghost use Rattle.std.specs.Prelude.{◌≡◌, ◌⊎◌, ◌<◌, ◌≤◌, ◌^◌, length, sum_by, IfOk, IfErr, MatchResult};
 ghost use Rattle.kilim_descriptors.specs.declared.types.MethodText.{MethodText};
-ghost use Rattle.kilim_descriptors.specs.declared.fault.DescriptorFault.TheVariants.{Memory};
+ghost use Rattle.kilim_descriptors.specs.declared.fault.DescriptorFault.TheVariants.{Memory, TooManySlots};
 ghost use Rattle.kilim_descriptors.specs.Text.{method_text, MethodFits, is_wide, slots, slots_of};
 ghost use Rattle.kilim_descriptors.specs.Reading.{Gives, param_at, params_at, result_at, whole_method};
-ghost use Rattle.kilim_descriptors.specs.Exact.{MethodGives};
+ghost use Rattle.kilim_descriptors.specs.Exact.{AtFirstPlace, MethodGives};
 
 use crate::fault::{DescriptorFault, Stop};
 use crate::fields::field_at;
@@ -109,7 +109,7 @@ fn slots_of(params: &[FieldText]) -> usize
 
 /// The types that a method's descriptor spells, all of the text (JVMS 4.3.3).
 ///
-/// It answers `Ok` exactly for the text of types whose parameters take at most 255 argument slots; a long and a
+/// It answers `Ok` exactly for a descriptor whose parameters take at most 255 argument slots; a long and a
 /// double take two, `this` isn't counted. Else it is `Malformed` at the first place where no descriptor goes on
 /// like this, counted in UTF-16 units, or `TooManySlots` for the text of a descriptor with so many slots. Where
 /// memory runs out it is `Memory`.
@@ -120,8 +120,15 @@ pub fn method(alloc: Global, text: &Units) -> Result<MethodText, DescriptorFault
     // What is spelled so, and has few enough slots, is read.
     ensures only { (m : MethodText) → MethodFits m → text.now ≡ method_text m → slots_of m ≤ 255 → MatchResult result (λ g. g ≡ m) (λ e. e ≡ Memory) }
 
+    // What is spelled so, and has more, has too many.
+    ensures many { (m : MethodText) → MethodFits m → text.now ≡ method_text m → 255 < slots_of m → MatchResult result (λ g. ⊥) (λ e. (e ≡ Memory) ⊎ (e ≡ TooManySlots (slots_of m))) }
+
     // Which fault it is, and at which place.
     ensures exact { MethodGives text.now result }
+
+    // What that place is: a descriptor, of however many slots, begins with what stands before it, and none with the
+    // unit there too.
+    ensures place { IfErr result (λ e. AtFirstPlace method_text MethodFits text.now e) }
 {
     let units = text.as_slice();
     match whole_method(alloc, units) {

@@ -85,7 +85,10 @@ fn fields_are_read(rt: HostRuntime) -> Result<(), Fail> {
 #[test]
 fn classes_are_read(rt: HostRuntime) -> Result<(), Fail> {
     let alloc = rt.alloc();
-    let table: [(&[u8], u8, &[u8]); 5] = [
+    let table: [(&[u8], u8, &[u8]); 8] = [
+        (b"La.b;", 0, b"a.b"),
+        (b"L[;", 0, b"["),
+        (b"L/(;", 0, b"/("),
         (b"Ljava/lang/String;", 0, b"java/lang/String"),
         (b"[Ljava/lang/Object;", 1, b"java/lang/Object"),
         (b"[[LA;", 2, b"A"),
@@ -123,8 +126,9 @@ fn units_of_a_name_stand_for_themselves(rt: HostRuntime) -> Result<(), Fail> {
 #[test]
 fn no_other_fields_are_read(rt: HostRuntime) -> Result<(), Fail> {
     let alloc = rt.alloc();
-    let table: [(&[u8], usize); 16] = [
+    let table: [(&[u8], usize); 17] = [
         (b"", 0),
+        (b"L;;", 1),
         (b"V", 0),
         (b"Q", 0),
         (b"i", 0),

@@ -1,4 +1,5 @@
 use Rattle.kilim_descriptors.proofs.Spelled as spelled
+use Rattle.kilim_descriptors.proofs.Places.{place, whole_halts}
 use Rattle.kilim_descriptors.proofs.fields.field.Goals as goal
 
 pub overflow_sub-result : goal.overflow_sub-result
@@ -15,3 +16,6 @@ returns-in-Err-Left-clause-only c = λ f fits e. absurd (spelled.never spelled.w
 
 pub returns-in-Err-Left-clause-exact : goal.returns-in-Err-Left-clause-exact
 returns-in-Err-Left-clause-exact c = spelled.stops spelled.whole c.as_slice-units.result.now c.args.text.now c.as_slice-units.ensures c.in-Err-Left.field-0 c.in-Err-Left.left c.in-Err-Left.field-0-is c.in-Err-Left.ensures
+
+pub returns-in-Err-Left-clause-place : goal.returns-in-Err-Left-clause-place
+returns-in-Err-Left-clause-place c = place spelled.whole whole_halts c.as_slice-units.result.now c.args.text.now c.as_slice-units.ensures c.in-Err-Left.field-0 c.in-Err-Left.left c.in-Err-Left.field-0-is c.in-Err-Left.ensures

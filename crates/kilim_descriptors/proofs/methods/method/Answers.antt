@@ -1,8 +1,11 @@
-use Rattle.std.proofs.Common.{◌≡◌, ap, ◌∙◌, arith}
+use Rattle.std.proofs.Common.{◌≡◌, ap, ◌∙◌, arith, inr}
+use Rattle.kilim_descriptors.specs.declared.fault.DescriptorFault.TheVariants.{TooManySlots}
 use Rattle.std.specs.Prelude.{sum_by}
 use Rattle.kilim_descriptors.specs.Text.{slots, slots_of}
 use Rattle.kilim_descriptors.proofs.Spelled as spelled
 use Rattle.kilim_descriptors.proofs.SpelledMethods.{whole}
+use Rattle.kilim_descriptors.proofs.Places.{place}
+use Rattle.kilim_descriptors.proofs.PlacesMethods.{method_halts}
 use Rattle.kilim_descriptors.proofs.methods.method.Goals as goal
 
 pub returns-then-slots-gt255-clause-only : goal.returns-then-slots-gt255-clause-only
@@ -28,3 +31,21 @@ returns-in-Err-Left-clause-only c = λ m fits e le. absurd (spelled.never whole 
 
 pub returns-in-Err-Left-clause-exact : goal.returns-in-Err-Left-clause-exact
 returns-in-Err-Left-clause-exact c = spelled.stops whole c.as_slice-units.result.now c.args.text.now c.as_slice-units.ensures c.in-Err-Left.field-0 c.in-Err-Left.left c.in-Err-Left.field-0-is c.in-Err-Left.ensures
+
+pub returns-then-slots-gt255-clause-many : goal.returns-then-slots-gt255-clause-many
+returns-then-slots-gt255-clause-many c = λ m fits e gt.
+    let same = spelled.only whole c.as_slice-units.result.now c.args.text.now c.as_slice-units.ensures c.in-Ok.found c.in-Ok.ensures m fits e in
+    let counted : c.slots_of-slots.result ≡ slots_of c.in-Ok.found = c.slots_of-slots.ensures ∙ ap (sum_by slots) c.as_slice.ensures in
+    inr (ap TooManySlots (counted ∙ ap slots_of same))
+
+pub returns-else-slots-gt255-clause-many : goal.returns-else-slots-gt255-clause-many
+returns-else-slots-gt255-clause-many c = λ m fits e gt.
+    let same = spelled.only whole c.as_slice-units.result.now c.args.text.now c.as_slice-units.ensures c.in-Ok.found c.in-Ok.ensures m fits e in
+    let counted : c.slots_of-slots.result ≡ slots_of c.in-Ok.found = c.slots_of-slots.ensures ∙ ap (sum_by slots) c.as_slice.ensures in
+    absurd (omega (arith, gt, counted, ap slots_of same, c.if-slots-gt255.false))
+
+pub returns-in-Err-Left-clause-many : goal.returns-in-Err-Left-clause-many
+returns-in-Err-Left-clause-many c = λ m fits e gt. absurd (spelled.never whole c.as_slice-units.result.now c.args.text.now c.as_slice-units.ensures c.in-Err-Left.field-0 c.in-Err-Left.left c.in-Err-Left.field-0-is c.in-Err-Left.ensures m fits e)
+
+pub returns-in-Err-Left-clause-place : goal.returns-in-Err-Left-clause-place
+returns-in-Err-Left-clause-place c = place whole method_halts c.as_slice-units.result.now c.args.text.now c.as_slice-units.ensures c.in-Err-Left.field-0 c.in-Err-Left.left c.in-Err-Left.field-0-is c.in-Err-Left.ensures
