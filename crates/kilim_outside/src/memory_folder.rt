@@ -1,11 +1,16 @@
 //! Folders in memory, which tell what they hold.
 
-ghost use Rattle.std.specs.Prelude.{◌≡◌, ◌≢◌, ◌∷◌, ◌++◌, List, ℕ, [], Option, Some, take, unwrap_or, OnOk, OnErr, IfOk};
+ghost use Rattle.std.specs.Prelude.{◌≡◌, ◌≢◌, ◌⊎◌, ◌∷◌, ◌++◌, List, ℕ, [], Option, Some, None, Err, true, false, is_some, take, unwrap_or, OnOk, OnErr, IfOk};
 ghost use Rattle.std.specs.Prelude.{find, nat_eq};
 ghost use Rattle.std.specs.Cmp.Lexicographic.{pointwise};
 ghost use Rattle.std.specs.Option.{option_copied};
 ghost use Rattle.std.specs.FinMap.{get};
+ghost use Rattle.std.specs.List.{list_any};
+ghost use Rattle.std.specs.Io.{StartsWith};
 ghost use Rattle.kilim_outside.specs.Files.{files_of, file_limit, content_of};
+ghost use Rattle.kilim_outside.specs.Causes.{FolderCause};
+ghost use Rattle.kilim_outside.specs.Asked.{is_asked, counted};
+ghost use Rattle.kilim_outside.specs.declared.folder.FailedCall.TheVariants.{Read, Write};
 ghost use Rattle.kilim_outside.specs.declared.memory_folder.NamedFile.{NamedFile};
 
 use crate::folder::{FailedCall, Folder, FolderFault};
@@ -123,6 +128,9 @@ fn refusal(faults: &mut Seq<FailedCall>, call: FailedCall) -> FolderFault
 impl MapFolder {
     // Counts a call, and says whether it is one that fails.
     fn fails_now(&mut self) -> bool
+        ensures answer { result ≡ is_asked self.old.fails self.old.calls }
+        ensures calls { self.new.calls ≡ counted self.old.calls }
+        ensures fails { self.new.fails ≡ self.old.fails }
         ensures files { self.new.files ≡ self.old.files }
         ensures faults { self.new.faults ≡ self.old.faults }
     {
@@ -132,7 +140,9 @@ impl MapFolder {
     }
 
     // Whether a file has that name.
-    fn has(&self, name: &str) -> bool {
+    fn has(&self, name: &str) -> bool
+        ensures { result ≡ list_any (λ file. pointwise nat_eq name.now file.name) self.now.files }
+    {
         let name = name.as_bytes();
         self.files
             .as_slice()
@@ -154,7 +164,17 @@ impl Folder for MapFolder {
 
     ghost faults = { λ folder. folder.faults };
 
-    fn read(&mut self, name: &str, into: &mut Vec<u8>) -> Result<(), FolderFault> {
+    #[tactic(auto, using(crate::proofs::FileLemmas::is_there, crate::proofs::FileLemmas::is_absent))]
+    fn read(&mut self, name: &str, into: &mut Vec<u8>) -> Result<(), FolderFault>
+        ensures bytes { OnOk result (into.new.items ≡ into.old.items ++ take file_limit (content_of (files_of self.old.files) name.now)) }
+        ensures ok { OnOk result ((is_asked self.old.fails self.old.calls ≡ false) × (is_some (get (files_of self.old.files) name.now) ≡ true)) }
+        ensures failed { result ≡ Err FolderFault.Failed → (is_asked self.old.fails self.old.calls ≡ true) ⊎ (get (files_of self.old.files) name.now ≡ None) }
+        ensures calls { result ≢ Err FolderFault.NoMemory → self.new.calls ≡ counted self.old.calls }
+        ensures fails { self.new.fails ≡ self.old.fails }
+        ensures front { StartsWith into.new.items into.old.items }
+        ensures files { self.new.files ≡ self.old.files }
+        ensures cause { FolderCause (Read name.now) self.old.faults self.new.faults result }
+    {
         let call = FailedCall::Read(self.copy_of(name)?);
         if self.fails_now() || !self.has(name) {
             return Err(refusal(&mut self.faults, call));
@@ -164,7 +184,15 @@ impl Folder for MapFolder {
     }
 
     #[tactic(auto, using(crate::proofs::FileLemmas::get_put, crate::proofs::FileLemmas::get_other))]
-    fn write(&mut self, name: &str, bytes: &[u8]) -> Result<(), FolderFault> {
+    fn write(&mut self, name: &str, bytes: &[u8]) -> Result<(), FolderFault>
+        ensures file { OnOk result (get (files_of self.new.files) name.now ≡ Some bytes.now) }
+        ensures others { (other : List ℕ) → other ≢ name.now → get (files_of self.new.files) other ≡ get (files_of self.old.files) other }
+        ensures ok { OnOk result (is_asked self.old.fails self.old.calls ≡ false) }
+        ensures failed { result ≡ Err FolderFault.Failed → is_asked self.old.fails self.old.calls ≡ true }
+        ensures calls { result ≢ Err FolderFault.NoMemory → self.new.calls ≡ counted self.old.calls }
+        ensures fails { self.new.fails ≡ self.old.fails }
+        ensures cause { FolderCause (Write name.now) self.old.faults self.new.faults result }
+    {
         let call = FailedCall::Write(self.copy_of(name)?);
         if self.fails_now() {
             return Err(refusal(&mut self.faults, call));

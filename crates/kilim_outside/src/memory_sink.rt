@@ -1,6 +1,8 @@
 //! Sinks in memory, which tell what was written.
 
-ghost use Rattle.std.specs.Prelude.{Some};
+ghost use Rattle.std.specs.Prelude.{◌≡◌, ◌≢◌, ◌<◌, ◌⊎◌, ◌++◌, [], Some, Ok, Err, true, false, length, min, take, IfOk, OnOk, OnErr, IfErr};
+ghost use Rattle.kilim_outside.specs.Causes.{SinkCause};
+ghost use Rattle.kilim_outside.specs.Asked.{is_asked, counted};
 
 use crate::sink::{SinkFault, TextSink};
 use kilim_program::Seq;
@@ -18,7 +20,12 @@ impl TextSink for SteadySink {
 
     ghost faults = { λ _. 0 };
 
-    fn write(&mut self, piece: &[u8]) -> Result<usize, SinkFault> {
+    fn write(&mut self, piece: &[u8]) -> Result<usize, SinkFault>
+        ensures whole { IfOk result (λ n. n ≡ length piece.now) }
+        ensures bytes { OnOk result (self.new.bytes ≡ self.old.bytes ++ piece.now) }
+        ensures err { OnErr result (self.new.bytes ≡ self.old.bytes) }
+        ensures memory { IfErr result (λ fault. fault ≡ SinkFault.NoMemory) }
+    {
         self.bytes.items.extend_from_slice(piece)?;
         Ok(piece.len())
     }
@@ -44,7 +51,19 @@ impl TextSink for VecSink {
 
     ghost faults = { λ sink. sink.faults };
 
-    fn write(&mut self, piece: &[u8]) -> Result<usize, SinkFault> {
+    fn write(&mut self, piece: &[u8]) -> Result<usize, SinkFault>
+        ensures ok { OnOk result (is_asked self.old.fails self.old.calls ≡ false) }
+        ensures failed { result ≡ Err SinkFault.Failed → is_asked self.old.fails self.old.calls ≡ true }
+        ensures memory { result ≡ Err SinkFault.NoMemory → is_asked self.old.fails self.old.calls ≡ false }
+        ensures most { IfOk result (λ n. n ≡ min (length piece.now) self.old.most) }
+        ensures bytes { IfOk result (λ n. self.new.bytes ≡ self.old.bytes ++ take n piece.now) }
+        ensures err { OnErr result (self.new.bytes ≡ self.old.bytes) }
+        ensures calls { self.new.calls ≡ counted self.old.calls }
+        ensures settings { (self.new.fails ≡ self.old.fails) × (self.new.most ≡ self.old.most) }
+        ensures nothing { result ≡ Ok 0 → piece.now ≢ [] → self.new.faults ≡ counted self.old.faults }
+        ensures quiet { IfOk result (λ n. (0 < n) ⊎ (piece.now ≡ []) → self.new.faults ≡ self.old.faults) }
+        ensures cause { SinkCause self.old.faults self.new.faults result }
+    {
         let number = self.calls;
         self.calls = number.saturating_add(1);
         if self.fails.as_slice().contains(&number) {

@@ -1,6 +1,6 @@
 //! The real disk and standard output: the trusted edge. They tell nothing but their faults.
 
-ghost use Rattle.std.specs.Prelude.{◌≡◌, ◌≤◌, ◌+◌, ◌++◌, None, vec_len, vec_capacity, OnOk, IfOk, IfErr};
+ghost use Rattle.std.specs.Prelude.{◌≡◌, ◌≤◌, ◌+◌, ◌++◌, [], None, vec_len, vec_capacity, OnOk, IfOk, IfErr};
 ghost use Rattle.std.specs.Io.{StartsWith};
 
 use crate::folder::{FailedCall, Folder, FolderFault};
@@ -23,7 +23,9 @@ pub struct DiskFolder<'a, R: Files> {
 
 impl<'a, R: Files> DiskFolder<'a, R> {
     /// The files of the disk; no call has failed yet.
-    pub fn new(rt: &'a R, alloc: Global) -> Self {
+    pub fn new(rt: &'a R, alloc: Global) -> Self
+        ensures { ⟦<DiskFolder<'a, R> as Folder>⟧.faults result ≡ [] }
+    {
         DiskFolder {
             rt,
             faults: Vec::new(alloc),
@@ -99,7 +101,9 @@ pub struct OutSink<'a, R: Print> {
 
 impl<'a, R: Print> OutSink<'a, R> {
     /// Standard output; no call has failed yet.
-    pub fn new(rt: &'a R) -> Self {
+    pub fn new(rt: &'a R) -> Self
+        ensures { ⟦<OutSink<'a, R> as TextSink>⟧.faults result ≡ 0 }
+    {
         OutSink { rt, faults: 0 }
     }
 }
