@@ -29,7 +29,8 @@ pub record HasFault (bytes : List ℕ) (fault : TextFault) : Type 0 where
 abbrev pub IsUnlessMemory : TextFault → TextFault → Type 0
 IsUnlessMemory fault e = (e ≡ Memory) ⊎ (e ≡ fault)
 
--- no two lists of units have one spelling, and what was written is read again, whatever follows in another part
+-- no two lists of units have one spelling, and no other units are spelled by bytes that were written, whatever
+-- follows in another part
 pub record OneSpelling : Type 0 where
   pub apart : (a b : List ℕ) → UnitsFit a → UnitsFit b → spelling a ≡ spelling b → a ≡ b
   pub again : (units others rest : List ℕ) → UnitsFit units → UnitsFit others → take (length (spelling units)) (spelling units ++ rest) ≡ spelling others → others ≡ units

@@ -38,7 +38,7 @@ fn texts_are_read_and_written(rt: HostRuntime) -> Result<(), Fail> {
 #[test]
 fn faults_stand_at_their_places(rt: HostRuntime) {
     let alloc = rt.alloc();
-    let table: [(&[u8], TextFault); 16] = [
+    let table: [(&[u8], TextFault); 20] = [
         (&[0xc1, 0x81], TextFault::SecondSpelling(0)),
         (&[0x00], TextFault::BadByte(0)),
         (&[0xc3], TextFault::Cut),
@@ -55,6 +55,10 @@ fn faults_stand_at_their_places(rt: HostRuntime) {
         (&[0x41, 0xe0, 0x9f, 0xbf], TextFault::SecondSpelling(1)),
         (&[0xe0, 0x80, 0x80], TextFault::SecondSpelling(0)),
         (&[0x41, 0xc0, 0x81, 0x00], TextFault::SecondSpelling(1)),
+        (&[0xc1, 0x41], TextFault::BadByte(1)),
+        (&[0xe0, 0x80, 0x41], TextFault::BadByte(2)),
+        (&[0x41, 0xc3], TextFault::Cut),
+        (&[0xc3, 0x00], TextFault::BadByte(1)),
     ];
     for (bytes, want) in table {
         let fault = read(alloc, bytes).err();

@@ -41,8 +41,8 @@ pub fn write(units: &Units, into: &mut Vec<u8>) -> Result<(), NoMemory>
     Ok(())
 }
 
-/// A law, and no work: no two lists of units have one spelling, and what was written is read again, whatever
-/// follows in another part.
+/// A law, and no work: no two lists of units have one spelling, and no other units are spelled by bytes that were
+/// written, whatever follows in another part.
 pub fn one_spelling()
     ensures { OneSpelling }
 {}
