@@ -8,6 +8,8 @@ mod reading;
 mod report;
 mod run;
 mod small;
+#[cfg(test)]
+mod tests;
 mod top;
 mod words;
 mod writing;

@@ -1,0 +1,367 @@
+//! The statuses and texts of known words, files and sinks.
+
+ghost use Rattle.std.specs.Prelude.{ℕ, ◌<◌, length};
+
+use crate::{kilim, kilim_alone, kilim_in_memory};
+use kilim_outside::{
+    FailedCall, MapFolder, NamedFile, OpenGate, SteadyFolder, SteadySink, VecSink,
+};
+use kilim_program::Seq;
+use std::alloc::{AllocError, AllocGlobal, Global};
+use std::process::Abort;
+use std::test::Fail;
+
+// The class file of the smallest task, as javac writes it: `execute` of the class `A` prints 7.
+static CLASS_A: [u8; 235] = [
+    0xca, 0xfe, 0xba, 0xbe, 0x00, 0x00, 0x00, 0x34, 0x00, 0x14, 0x01, 0x00, 0x01, 0x41, 0x07, 0x00,
+    0x01, 0x01, 0x00, 0x0a, 0x6b, 0x69, 0x6c, 0x69, 0x6d, 0x2f, 0x54, 0x61, 0x73, 0x6b, 0x07, 0x00,
+    0x03, 0x01, 0x00, 0x06, 0x3c, 0x69, 0x6e, 0x69, 0x74, 0x3e, 0x01, 0x00, 0x03, 0x28, 0x29, 0x56,
+    0x0c, 0x00, 0x05, 0x00, 0x06, 0x0a, 0x00, 0x04, 0x00, 0x07, 0x01, 0x00, 0x07, 0x65, 0x78, 0x65,
+    0x63, 0x75, 0x74, 0x65, 0x01, 0x00, 0x04, 0x43, 0x6f, 0x64, 0x65, 0x01, 0x00, 0x0a, 0x45, 0x78,
+    0x63, 0x65, 0x70, 0x74, 0x69, 0x6f, 0x6e, 0x73, 0x01, 0x00, 0x0e, 0x6b, 0x69, 0x6c, 0x69, 0x6d,
+    0x2f, 0x50, 0x61, 0x75, 0x73, 0x61, 0x62, 0x6c, 0x65, 0x07, 0x00, 0x0c, 0x01, 0x00, 0x09, 0x6b,
+    0x69, 0x6c, 0x69, 0x6d, 0x2f, 0x53, 0x79, 0x73, 0x07, 0x00, 0x0e, 0x01, 0x00, 0x05, 0x70, 0x72,
+    0x69, 0x6e, 0x74, 0x01, 0x00, 0x04, 0x28, 0x49, 0x29, 0x56, 0x0c, 0x00, 0x10, 0x00, 0x11, 0x0a,
+    0x00, 0x0f, 0x00, 0x12, 0x00, 0x20, 0x00, 0x02, 0x00, 0x04, 0x00, 0x00, 0x00, 0x00, 0x00, 0x02,
+    0x00, 0x00, 0x00, 0x05, 0x00, 0x06, 0x00, 0x01, 0x00, 0x0a, 0x00, 0x00, 0x00, 0x11, 0x00, 0x01,
+    0x00, 0x01, 0x00, 0x00, 0x00, 0x05, 0x2a, 0xb7, 0x00, 0x08, 0xb1, 0x00, 0x00, 0x00, 0x00, 0x00,
+    0x01, 0x00, 0x09, 0x00, 0x06, 0x00, 0x02, 0x00, 0x0a, 0x00, 0x00, 0x00, 0x12, 0x00, 0x01, 0x00,
+    0x01, 0x00, 0x00, 0x00, 0x06, 0x10, 0x07, 0xb8, 0x00, 0x13, 0xb1, 0x00, 0x00, 0x00, 0x00, 0x00,
+    0x0b, 0x00, 0x00, 0x00, 0x04, 0x00, 0x01, 0x00, 0x0d, 0x00, 0x00,
+];
+
+// The journal of its run.
+const JOURNAL: &str = "0 print 7\n0 end done\n";
+
+// The words that run it.
+const RUN_A: [&str; 3] = ["run", "--main=A", "A.class"];
+
+fn words_of(alloc: Global, words: &[&str]) -> Result<Vec<String>, AllocError> {
+    let mut all = Vec::new(alloc);
+    for word in words {
+        all.push(String::from_str(alloc, word)?)?;
+    }
+    Ok(all)
+}
+
+// One file, named `A.class`.
+fn one_file(alloc: Global, bytes: &[u8]) -> Result<Seq<NamedFile>, AllocError> {
+    let file = NamedFile {
+        name: Seq::from_vec(Vec::from_slice(alloc, b"A.class")?),
+        bytes: Seq::from_vec(Vec::from_slice(alloc, bytes)?),
+    };
+    let mut files = Seq::new(alloc);
+    files.push(file)?;
+    Ok(files)
+}
+
+fn is_name_of_a(name: &[u8]) -> bool {
+    name == b"A.class".as_slice()
+}
+
+fn is_one_file(files: &[NamedFile], bytes: &[u8]) -> bool {
+    match files {
+        [file] => is_name_of_a(file.name.as_slice()) && file.bytes.as_slice() == bytes,
+        _ => false,
+    }
+}
+
+fn map_folder(files: Seq<NamedFile>, fails: Seq<u64>, alloc: Global) -> MapFolder {
+    MapFolder {
+        files,
+        faults: Seq::new(alloc),
+        calls: 0,
+        fails,
+    }
+}
+
+// A sink that takes so many bytes a call, and whose calls of these numbers fail.
+fn vec_sink(alloc: Global, most: usize, fails: &[u64]) -> Result<VecSink, AllocError> {
+    Ok(VecSink {
+        bytes: Seq::new(alloc),
+        calls: 0,
+        fails: Seq::from_vec(Vec::from_slice(alloc, fails)?),
+        most,
+        faults: 0,
+    })
+}
+
+// Over one file and a sink in memory: the status is this, the text is that, and the file stays as it was.
+fn assert_answer(
+    rt: &(impl Abort + AllocGlobal),
+    words: &[&str],
+    bytes: &[u8],
+    status: u8,
+    text: &str,
+) -> Result<(), Fail> {
+    let alloc = rt.alloc();
+    let owned = words_of(alloc, words)?;
+    let mut files = SteadyFolder {
+        files: one_file(alloc, bytes)?,
+    };
+    let mut out = SteadySink {
+        bytes: Seq::new(alloc),
+    };
+    let found = kilim_in_memory(alloc, &owned, &mut files, &mut out, &OpenGate::new());
+    assert_eq!(rt; found, Some(status), "at {words:?}");
+    assert_eq!(rt; out.bytes.as_slice(), text.as_bytes(), "at {words:?}");
+    assert!(rt; is_one_file(files.files.as_slice(), bytes), "at {words:?}");
+    Ok(())
+}
+
+// The class file with one byte changed.
+fn with_byte(alloc: Global, at: usize, byte: u8) -> Result<Vec<u8>, AllocError> {
+    let mut bytes = Vec::from_slice(alloc, CLASS_A.as_slice())?;
+    if let Some(place) = bytes.get_mut(at) {
+        *place = byte;
+    }
+    Ok(bytes)
+}
+
+// The class file with one more byte behind it.
+fn with_byte_behind(alloc: Global) -> Result<Vec<u8>, AllocError> {
+    let mut bytes = Vec::from_slice(alloc, CLASS_A.as_slice())?;
+    bytes.push(0)?;
+    Ok(bytes)
+}
+
+// The class file with the two attributes of `execute` in the other order: Code stands at 0xC7, Exceptions behind it.
+fn exceptions_first(alloc: Global) -> Result<Vec<u8>, AllocError> {
+    let mut bytes = Vec::from_slice(alloc, &CLASS_A[..0xC7])?;
+    bytes.extend_from_slice(&CLASS_A[0xDF..0xE9])?;
+    bytes.extend_from_slice(&CLASS_A[0xC7..0xDF])?;
+    bytes.extend_from_slice(&CLASS_A[0xE9..])?;
+    Ok(bytes)
+}
+
+// The class file whose `execute` prints these numbers in turn. The length of its Code attribute stands at 0xC9, the
+// length of the code at 0xD1, and the code, which prints one number, at 0xD5.
+fn with_prints(alloc: Global, numbers: &[u8]) -> Result<Vec<u8>, AllocError>
+    requires { length numbers.now < 20000 }
+{
+    let len = 5 * numbers.len() as u32 + 1;
+    let mut bytes = Vec::from_slice(alloc, &CLASS_A[..0xC9])?;
+    bytes.extend_from_slice((len + 12).to_be_bytes().as_slice())?;
+    bytes.extend_from_slice(&CLASS_A[0xCD..0xD1])?;
+    bytes.extend_from_slice(len.to_be_bytes().as_slice())?;
+    for number in numbers {
+        bytes.extend_from_slice(&[0x10, *number, 0xB8, 0x00, 0x13])?;
+    }
+    bytes.extend_from_slice(&CLASS_A[0xDA..])?;
+    Ok(bytes)
+}
+
+// A text of so many letters as a constant of the pool.
+fn push_text(bytes: &mut Vec<u8>, len: u16) -> Result<(), AllocError> {
+    bytes.push(1)?;
+    bytes.extend_from_slice(len.to_be_bytes().as_slice())?;
+    let letters = vec![in *bytes.allocator(); b'a'; usize::from(len)]?;
+    bytes.extend_from_slice(letters.as_slice())
+}
+
+// The class file with 256 further constants behind the 19 of its pool, which ends at 0x94: 255 texts of 65,535
+// letters and one of so many.
+fn with_texts(alloc: Global, last: u16) -> Result<Vec<u8>, AllocError> {
+    let mut bytes = Vec::from_slice(alloc, &CLASS_A[..8])?;
+    bytes.extend_from_slice(&[0x01, 0x14])?;
+    bytes.extend_from_slice(&CLASS_A[10..0x94])?;
+    for _ in 0..255 {
+        push_text(&mut bytes, 65535)?;
+    }
+    push_text(&mut bytes, last)?;
+    bytes.extend_from_slice(&CLASS_A[0x94..])?;
+    Ok(bytes)
+}
+
+#[test]
+fn refuses_words(rt: HostRuntime) -> Result<(), Fail> {
+    let refused: [&[&str]; 15] = [
+        &[],
+        &["compile", "A.class"],
+        &["run", "A.class"],
+        &["run"],
+        &["run", "--main=A"],
+        &["run", "--main=", "A.class"],
+        &["run", "--main=A", "--main=A", "A.class"],
+        &["run", "--main", "A", "A.class"],
+        &["run", "--main=A", "A.class", "--steps=5"],
+        &["run", "--main=A", "-A.class"],
+        &["run", "--main=A", ""],
+        &["run", "--main=A", "A.class", "B.class"],
+        &["run", "A.class", "--main=A"],
+        &["--help"],
+        &["Run", "--main=A", "A.class"],
+    ];
+    for words in refused {
+        assert_answer(&rt, words, CLASS_A.as_slice(), 2, "")?;
+    }
+    Ok(())
+}
+
+#[test]
+fn runs_small_class_files(rt: HostRuntime) -> Result<(), Fail> {
+    let alloc = rt.alloc();
+    let small = [
+        Vec::from_slice(alloc, CLASS_A.as_slice())?,
+        exceptions_first(alloc)?,
+        // a public constructor, and a public class
+        with_byte(alloc, 0xA1, 1)?,
+        with_byte(alloc, 0x95, 0x21)?,
+    ];
+    for bytes in &small {
+        assert_answer(&rt, RUN_A.as_slice(), bytes.as_slice(), 0, JOURNAL)?;
+    }
+    let none = with_prints(alloc, &[])?;
+    assert_answer(&rt, RUN_A.as_slice(), none.as_slice(), 0, "0 end done\n")?;
+    let four = with_prints(alloc, &[0x7F, 0x80, 0, 0xFF])?;
+    let text = "0 print 127\n0 print -128\n0 print 0\n0 print -1\n0 end done\n";
+    assert_answer(&rt, RUN_A.as_slice(), four.as_slice(), 0, text)
+}
+
+// Code has at most 65,535 bytes. The text goes to the sink in pieces of at most 4,096 bytes.
+#[test]
+fn writes_the_longest_journal(rt: HostRuntime) -> Result<(), Fail> {
+    let alloc = rt.alloc();
+    let gate = OpenGate::new();
+    let words = words_of(alloc, RUN_A.as_slice())?;
+    for (count, status, len, calls) in [(13106, 0, 131_071, 32), (13107, 1, 6, 1)] {
+        let numbers = vec![in alloc; 7; count]?;
+        let bytes = with_prints(alloc, numbers.as_slice())?;
+        let mut files = map_folder(one_file(alloc, bytes.as_slice())?, Seq::new(alloc), alloc);
+        let mut out = vec_sink(alloc, usize::MAX, &[])?;
+        let found = kilim(&rt, alloc, &words, &mut files, &mut out, &gate);
+        assert_eq!(rt; found, status, "at {count}");
+        assert_eq!(rt; out.bytes.len(), len, "at {count}");
+        assert_eq!(rt; out.calls, calls, "at {count}");
+    }
+    Ok(())
+}
+
+#[test]
+fn reports_other_class_files(rt: HostRuntime) -> Result<(), Fail> {
+    let alloc = rt.alloc();
+    let other = [
+        Vec::new(alloc),
+        with_byte_behind(alloc)?,
+        Vec::from_slice(alloc, &CLASS_A[..234])?,
+        // version 53, an abstract class, a private constructor, another instruction
+        with_byte(alloc, 7, 0x35)?,
+        with_byte(alloc, 0x94, 4)?,
+        with_byte(alloc, 0xA1, 2)?,
+        with_byte(alloc, 0xD5, 0x11)?,
+        vec![in alloc; 0; 17_000_000]?,
+    ];
+    for bytes in &other {
+        assert_answer(&rt, RUN_A.as_slice(), bytes.as_slice(), 1, "later\n")?;
+    }
+    Ok(())
+}
+
+#[test]
+fn reports_other_main_classes(rt: HostRuntime) -> Result<(), Fail> {
+    for (option, text) in [
+        ("--main=B", "main B\n"),
+        ("--main=kilim/Task", "main kilim/Task\n"),
+        ("--main=a.B", "main a\\u002eB\n"),
+        ("--main=\u{1F600}", "main \\ud83d\\ude00\n"),
+    ] {
+        let words = ["run", option, "A.class"];
+        assert_answer(&rt, words.as_slice(), CLASS_A.as_slice(), 1, text)?;
+    }
+    Ok(())
+}
+
+// A class file has at most 16,777,216 bytes.
+#[test]
+fn runs_the_longest_class_file(rt: HostRuntime) -> Result<(), Fail> {
+    for (last, len, status, text) in [
+        (64788, 16_777_216, 0, JOURNAL),
+        (64789, 16_777_217, 1, "later\n"),
+    ] {
+        let bytes = with_texts(rt.alloc(), last)?;
+        assert_eq!(rt; bytes.len(), len);
+        assert_answer(&rt, RUN_A.as_slice(), bytes.as_slice(), status, text)?;
+    }
+    Ok(())
+}
+
+#[test]
+fn runs_in_each_way(rt: HostRuntime) -> Result<(), Fail> {
+    let alloc = rt.alloc();
+    let words = words_of(alloc, RUN_A.as_slice())?;
+    let gate = OpenGate::new();
+    let mut files = map_folder(one_file(alloc, CLASS_A.as_slice())?, Seq::new(alloc), alloc);
+    let mut out = vec_sink(alloc, 1000, &[])?;
+    let alone = kilim_alone(alloc, &words, &mut files, &mut out, &gate);
+    assert_eq!(rt; alone, Some(0));
+    assert_eq!(rt; out.bytes.as_slice(), JOURNAL.as_bytes());
+    // what is written stands behind what was there
+    assert_eq!(rt; kilim(&rt, alloc, &words, &mut files, &mut out, &gate), 0);
+    assert_eq!(rt;
+        out.bytes.as_slice(),
+        b"0 print 7\n0 end done\n0 print 7\n0 end done\n".as_slice()
+    );
+    assert_eq!(rt; files.calls, 2);
+    assert!(rt; files.faults.is_empty());
+    assert!(rt; is_one_file(files.files.as_slice(), CLASS_A.as_slice()));
+    Ok(())
+}
+
+// Over a folder that doesn't read the file: nothing is written, and the one call was for its name.
+fn assert_unread(rt: &(impl Abort + AllocGlobal), files: &mut MapFolder) -> Result<(), Fail> {
+    let alloc = rt.alloc();
+    let words = words_of(alloc, RUN_A.as_slice())?;
+    let mut out = vec_sink(alloc, 1000, &[])?;
+    let found = kilim_alone(alloc, &words, files, &mut out, &OpenGate::new());
+    assert_eq!(rt; found, Some(3));
+    assert_eq!(rt; out.calls, 0);
+    assert_eq!(rt; files.calls, 1);
+    assert!(rt;
+        matches!(files.faults.as_slice(), [FailedCall::Read(name)] if is_name_of_a(name.as_slice()))
+    );
+    Ok(())
+}
+
+#[test]
+fn reads_only_the_file(rt: HostRuntime) -> Result<(), Fail> {
+    let alloc = rt.alloc();
+    // the file isn't there
+    let mut none = map_folder(Seq::new(alloc), Seq::new(alloc), alloc);
+    assert_unread(&rt, &mut none)?;
+    assert!(rt; none.files.is_empty());
+    // the first call fails
+    let fails = Seq::from_vec(Vec::from_slice(alloc, &[0])?);
+    let mut failing = map_folder(one_file(alloc, CLASS_A.as_slice())?, fails, alloc);
+    assert_unread(&rt, &mut failing)?;
+    assert!(rt; is_one_file(failing.files.as_slice(), CLASS_A.as_slice()));
+    Ok(())
+}
+
+#[test]
+fn writes_a_front(rt: HostRuntime) -> Result<(), Fail> {
+    let alloc = rt.alloc();
+    let gate = OpenGate::new();
+    let words = words_of(alloc, RUN_A.as_slice())?;
+    // the most bytes of a call, the call that fails, the status, what was written
+    for (most, fails, status, text) in [
+        (4, 0, 4, ""),
+        (4, 1, 4, "0 pr"),
+        (4, 2, 4, "0 print "),
+        (4, 3, 4, "0 print 7\n0 "),
+        (4, 4, 4, "0 print 7\n0 end "),
+        (0, 99, 4, ""),
+        (1, 99, 0, JOURNAL),
+    ] {
+        let mut files = map_folder(one_file(alloc, CLASS_A.as_slice())?, Seq::new(alloc), alloc);
+        let mut out = vec_sink(alloc, most, &[fails])?;
+        let found = kilim(&rt, alloc, &words, &mut files, &mut out, &gate);
+        assert_eq!(rt; found, status, "at {most} and {fails}");
+        assert_eq!(rt;
+            out.bytes.as_slice(),
+            text.as_bytes(),
+            "at {most} and {fails}"
+        );
+        assert!(rt; is_one_file(files.files.as_slice(), CLASS_A.as_slice()));
+    }
+    Ok(())
+}
