@@ -1,2 +1,3 @@
 pub mod OneUnit
 pub mod Texts
+pub mod Wholes

@@ -11,7 +11,7 @@ mod writing;
 
 pub use fault::TextFault;
 pub use reading::read;
-pub use writing::{one_spelling, write};
+pub use writing::{one_spelling, units_are_spelled, write};
 
 #[cfg(test)]
 mod tests;

@@ -4,6 +4,7 @@ ghost use Rattle.std.specs.Prelude.{◌≡◌, ◌⊎◌, ◌+◌, ◌<◌, ◌^
 ghost use Rattle.kilim_mutf8.specs.declared.fault.TextFault.{TextFault};
 ghost use Rattle.kilim_mutf8.specs.declared.fault.TextFault.TheVariants.{Memory};
 ghost use Rattle.kilim_mutf8.specs.Spelling.{spelling, UnitsFit};
+ghost use Rattle.kilim_mutf8.specs.Whole.{units_of, ReadsUnits};
 ghost use Rattle.kilim_mutf8.specs.Text.{HasFault, placed, IsUnlessMemory};
 
 use crate::fault::TextFault;
@@ -33,6 +34,9 @@ pub fn read(alloc: Global, bytes: &[u8]) -> Result<Units, TextFault>
 
     // What is spelled so is read.
     ensures only { (units : List ℕ) → UnitsFit units → bytes.now ≡ spelling units → MatchResult result (λ read. read ≡ units) (λ e. e ≡ Memory) }
+
+    // So the answer is determined by the units of the bytes.
+    ensures units { ReadsUnits result (units_of bytes.now) }
 
     // A fault is the first one, and the first one is found.
     ensures fault { IfErr result (λ e. (e ≡ Memory) ⊎ HasFault bytes.now e) }

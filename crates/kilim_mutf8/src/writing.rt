@@ -3,6 +3,7 @@
 ghost use Rattle.std.specs.Prelude.{◌≡◌, ◌++◌, OnOk, OnErr};
 ghost use Rattle.kilim_mutf8.specs.Spelling.{unit_text, spelling};
 ghost use Rattle.kilim_mutf8.specs.Text.{OneSpelling};
+ghost use Rattle.kilim_mutf8.specs.Whole.{UnitsAreSpelled};
 
 use kilim_program::{NoMemory, Units};
 use std::alloc::AllocError;
@@ -45,4 +46,9 @@ pub fn write(units: &Units, into: &mut Vec<u8>) -> Result<(), NoMemory>
 /// written, whatever follows in another part.
 pub fn one_spelling()
     ensures { OneSpelling }
+{}
+
+/// A law, and no work: bytes have units exactly where they are the spelling of these units.
+pub fn units_are_spelled()
+    ensures { UnitsAreSpelled }
 {}

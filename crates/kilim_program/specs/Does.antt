@@ -7,7 +7,7 @@
 use Rattle.std.specs.Prelude.{ℕ, Bool, ◌&&◌, if◌then◌else◌, List, ◌∷◌, None, is_some, length, reverse, slice_get, codes}
 use Rattle.std.specs.Str.{bytes_eq}
 use Rattle.kilim_program.specs.declared.class.Method.{Method}
-use Rattle.kilim_program.specs.declared.class.Program.{Program}
+use Rattle.kilim_program.specs.Program.{Program}
 use Rattle.kilim_program.specs.declared.instr.Instr.{Instr}
 use Rattle.kilim_program.specs.declared.instr.Instr.TheVariants.{Aload, Bipush, Invokespecial, Invokestatic, Return}
 use Rattle.kilim_program.specs.declared.value.Value.{Value}

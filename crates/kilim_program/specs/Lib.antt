@@ -1,4 +1,5 @@
 pub mod Cause
+pub mod Program
 pub mod Machine
 pub mod Names
 pub mod Natives
@@ -6,3 +7,8 @@ pub mod Effect
 pub mod Does
 pub mod Moves
 pub mod BuiltIn
+pub mod Kinds
+pub mod Same
+pub mod Lengths
+pub mod Keeps
+pub mod Examples

@@ -7,6 +7,7 @@ use crate::ty::{Qualifier, Ty};
 use crate::units::Units;
 use crate::value::Value;
 use crate::verified::Frame;
+use std::marker::Model;
 
 /// A field (JVMS 4.5).
 #[derive(Drop)]
@@ -37,8 +38,8 @@ pub struct Method {
     pub built_in: bool,
     /// Whether its Exceptions attribute lists `kilim/Pausable`.
     pub pausable: bool,
-    /// What it may do with its receiver. Cuttable for a constructor, always; else Safe where it is static
-    /// or its receiver is no tree.
+    /// What it may do with its receiver. Safe where it is static; else Cuttable for a constructor, always; else
+    /// Safe where its receiver is no tree.
     pub receiver: Qualifier,
     /// What it may do with each parameter.
     pub qualifiers: Seq<Qualifier>,
@@ -76,12 +77,33 @@ pub enum Form {
     Woven,
 }
 
-/// Classes with their members, linked: an id in it is a place in its lists. The built-in classes come
-/// last.
+/// Classes with their members, linked. The built-in classes come last. Its type keeps what a program is: each id
+/// in it is a place in its lists, no class is its own ancestor, code is whole, and the rules on kinds and on
+/// overriding hold (`specs/Keeps.antt` lists the facts). The fields are public for reading.
 #[derive(Drop)]
 pub struct Program {
     pub classes: Seq<Class>,
     pub methods: Seq<Method>,
     pub fields: Seq<Field>,
     pub form: Form,
+}
+
+impl Model for Program {
+    ghost use Rattle.kilim_program.specs.Program as parts;
+
+    ghost Value = { parts.Program };
+
+    ghost use Rattle.kilim_program.specs.Keeps.{Keeps};
+
+    ghost view = { λ p. record { classes = p.classes; methods = p.methods; fields = p.fields; form = p.form } };
+
+    ghost invariant = { λ p. Keeps (record { classes = p.classes; methods = p.methods; fields = p.fields; form = p.form }) };
+}
+
+/// A woven program, and which of its instructions count.
+#[derive(Drop)]
+pub struct Woven {
+    pub program: Program,
+    /// For each method, for each of its instructions, whether it counts as one of the task's own.
+    pub counted: Seq<Seq<bool>>,
 }

@@ -8,6 +8,8 @@
 mod cause;
 mod class;
 mod instr;
+mod kinds;
+mod laws;
 mod memory;
 mod names;
 mod run;
@@ -20,8 +22,9 @@ mod value;
 mod verified;
 
 pub use cause::EndCause;
-pub use class::{Class, Field, Form, Method, Program};
+pub use class::{Class, Field, Form, Method, Program, Woven};
 pub use instr::Instr;
+pub use laws::built_in_keeps;
 pub use memory::NoMemory;
 pub use names::{BoxName, ClassId, FieldId, MethodId};
 pub use run::Limits;

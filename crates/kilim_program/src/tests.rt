@@ -25,6 +25,8 @@ fn each_function_answers(rt: HostRuntime) -> Result<(), Fail> {
     assert!(rt; !text.is_empty() && none.is_empty());
     assert!(rt; text.is_same(&text.clone()?));
     assert!(rt; !text.is_same(&other) && !text.is_same(&none));
+    let task = Units::from_slice(alloc, &[107, 105, 108, 105, 109])?;
+    assert!(rt; task.is_text(b"kilim") && !task.is_text(b"kili") && !task.is_text(b"Kilim"));
 
     assert_eq!(rt; EndCause::Spent.word(), "spent");
     Ok(())

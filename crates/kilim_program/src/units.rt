@@ -1,6 +1,7 @@
 //! Texts as UTF-16 units.
 
 ghost use Rattle.std.specs.Prelude.{◌≡◌, ◌↔◌, List, ℕ, length, IsTrue, IfOk};
+ghost use Rattle.std.specs.Str.{bytes_eq};
 
 use std::alloc::{AllocError, Global};
 use std::marker::Model;
@@ -73,4 +74,25 @@ impl Units {
     {
         self.units.as_slice() == other.units.as_slice()
     }
+
+    /// Whether these are the units of an ASCII text.
+    pub fn is_text(&self, text: &[u8]) -> bool
+        ensures { result ≡ bytes_eq self.now text.now }
+    {
+        is_ascii(self.as_slice(), text)
+    }
+}
+
+fn is_ascii(units: &[u16], text: &[u8]) -> bool
+    ensures { result ≡ bytes_eq units.now text.now }
+{
+    if units.len() != text.len() {
+        return false;
+    }
+    for (i, unit) in units.iter().enumerate() {
+        if *unit != u16::from(text[i]) {
+            return false;
+        }
+    }
+    true
 }

@@ -1,9 +1,7 @@
-pub mod Loops
 pub mod Texts
-pub mod Fields
-pub mod ClassFormat
-pub mod MethodFormat
-pub mod SmallLaws
+pub mod Prints
 pub mod WholeRun
+pub mod Replies
 pub mod Written
 pub mod TopLaws
+pub mod Named

@@ -1,12 +1,10 @@
 -- Texts as bytes, characters and units.
-use Rattle.std.proofs.Common.{◌≡◌, ℕ, true, false, List, cond, Option, Some, None, refl, sym, ap, ◌∙◌, drop, length, eqb, Bor}
+use Rattle.std.proofs.Common.{◌≡◌, ℕ, true, false, List, Option, Some, None, refl, ap, ◌∙◌, drop, Bor}
 use Rattle.std.specs.Prelude.{MatchOption}
-use Rattle.std.specs.List.{starts_with}
 use Rattle.std.specs.Option.{option_copied}
-use Rattle.std.specs.Str.Pattern.{FindsTextPrefix, StripsPrefix, HasPrefixMatch}
+use Rattle.std.specs.Str.Pattern.{FindsTextPrefix, StripsPrefix}
 use Rattle.std.proofs.lemmas.Str.{chars_from_encodes}
 use Rattle.std.proofs.lemmas.Str.Pattern.{starts_text}
-use Rattle.kilim_top.proofs.WholeRun.{small_is_readable}
 use Rattle.kilim_top.specs.Words.{value_behind}
 
 pub ruleset of_text = (chars_from_encodes)

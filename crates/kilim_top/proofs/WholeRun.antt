@@ -1,29 +1,31 @@
 -- The text of a small run is the journal of a whole run.
-use Rattle.std.proofs.Common.{◌≡◌, ℕ, zero, suc, ◌+◌, ◌*◌, ◌^◌, ◌<◌, ◌≤◌, ℤ, Bool, true, false, cond, ltb, List, [], ◌∷◌, ◌++◌, length, map, Option, Some, None, Result, Ok, Err, refl, sym, ap, subst, ◌∙◌, arith, rules, inl, inr, ◌⊎◌}
-use Rattle.std.specs.Prelude.{FitsSigned, ◌≢◌, IfOk, unwrap_or, slice_get, codes}
+use Rattle.std.proofs.Common.{◌≡◌, ℕ, suc, ◌+◌, ◌*◌, ◌<◌, ℤ, Bool, true, false, cond, eqb, List, [], ◌∷◌, ◌++◌, length, map, Option, Some, None, refl, sym, ap, subst, ◌∙◌, arith}
+use Rattle.std.specs.Prelude.{FitsSigned, ◌&&◌}
 use Rattle.std.specs.Int.{w8, w32}
-use Rattle.std.specs.List.{flat_map, AllByRecursion}
-use Rattle.std.specs.Char.Escape.{encode_utf16}
-use Rattle.std.specs.Str.{bytes_eq, chars, IsAscii}
-use Rattle.std.proofs.lemmas.Bool.{lt-ltb, eq-eqb}
+use Rattle.std.specs.List.{AllByRecursion, list_all}
+use Rattle.std.specs.Str.{bytes_eq}
+use Rattle.std.proofs.lemmas.Bool.{eq-eqb}
 use Rattle.std.proofs.lemmas.Int.{ints}
-use Rattle.std.proofs.lemmas.Str.{chars-IsAscii}
 use Rattle.kilim_program.specs.declared.names.ClassId.{ClassId}
 use Rattle.kilim_program.specs.Names.{class_named}
-use Rattle.kilim_journal.specs.declared.entry.Entry.{Entry}
-use Rattle.kilim_journal.specs.Text.{journal_text}
-use Rattle.kilim_journal.specs.Readable.{is_readable_act, IsReadable, JournalFits}
+use Rattle.kilim_journal.specs.Readable.{IsReadable, JournalFits}
 use Rattle.kilim_thread_model.specs.Small.{Small, small_program, print_entry, done_entry, small_journal, SmallRunIsWhole}
-use Rattle.kilim_top.specs.declared.parts.Constant.{Constant}
-use Rattle.kilim_top.specs.declared.parts.Constant.TheVariants.{Utf8, Class, NameAndType, Methodref}
-use Rattle.kilim_top.specs.declared.parts.SmallClass.{SmallClass}
-use Rattle.kilim_top.specs.ClassText.{ConstantFits, PrintFits}
-use Rattle.kilim_top.specs.SmallFile.{constant_of, text_in, text_of, name_in, name_of, own_name, printed_numbers, small_of, IsSmallFile, is_small, is_class_head, is_own_name}
-use Rattle.kilim_top.specs.declared.answer.Reply.{Reply}
-use Rattle.kilim_program.specs.declared.memory.NoMemory.{NoMemory}
-use Rattle.kilim_top.proofs.SmallLaws.{one_class}
-use Rattle.kilim_top.specs.Report.{utf16_of, main_line}
-use Rattle.kilim_top.specs.Outcome.{IsWholeRun, IsReport, IsFitFile, step_limit}
+use Rattle.kilim_constant_pool.specs.declared.entry.Entry.{Entry}
+use Rattle.kilim_attributes.specs.declared.attribute.Place.{Place}
+use Rattle.kilim_attributes.specs.declared.attribute.Code.{Code}
+use Rattle.kilim_attributes.specs.declared.attribute.Info.{Info}
+use Rattle.kilim_attributes.specs.declared.attribute.Info.TheVariants as info
+use Rattle.kilim_attributes.specs.declared.attribute.Attribute.{Attribute}
+use Rattle.kilim_attributes.specs.Lists.{EachAfter}
+use Rattle.kilim_attributes.specs.Codes.{CodeFits}
+use Rattle.kilim_attributes.specs.Attributes.{InfoFits, AttributeFits}
+use Rattle.kilim_classfile.specs.declared.class_file.MemberInfo.{MemberInfo}
+use Rattle.kilim_classfile.specs.declared.class_file.ClassFile.{ClassFile}
+use Rattle.kilim_classfile.specs.Text.{MethodFits, PartsFit}
+use Rattle.kilim_top.specs.SmallFile.{or_else, code_of, code_in, and_print, prints_in, given, is_plain, is_print, all_prints, code_prints, is_execute_head, execute_prints, is_constructor, method_prints, is_class_head, small_prints, PrintsFit, own_name, printed_numbers, small_of_methods, small_of, IsFile}
+use Rattle.kilim_top.specs.Report.{utf16_of}
+use Rattle.kilim_top.specs.Answer.{IsRunOf}
+use Rattle.kilim_top.specs.Outcome.{IsWholeRun, step_limit}
 
 -- ---- the journal can be read, and its numbers fit
 
@@ -37,68 +39,129 @@ small_is_readable s = readable_from s.prints
 widened : (n : ℤ) → FitsSigned w8 n → FitsSigned w32 n
 widened n fits = omega (arith, ints)
 
-fits_from : (ps : List (ℤ × ℕ)) → AllByRecursion PrintFits ps → JournalFits (map print_entry (printed_numbers ps) ++ done_entry ∷ [])
+fits_from : (ps : List (ℤ × ℕ)) → AllByRecursion (λ p. FitsSigned w8 p.0) ps → JournalFits (map print_entry (map (λ p. p.0) ps) ++ done_entry ∷ [])
 fits_from [] fits = ((omega arith, tt), tt)
-fits_from (p ∷ ps) fits = ((omega arith, (widened p.0 fits.0.0, tt)), fits_from ps fits.1)
+fits_from (p ∷ ps) fits = ((omega arith, (widened p.0 fits.0, tt)), fits_from ps fits.1)
 
--- ---- a class name in ASCII is its units
+journal_fits : (o : Option (List (ℤ × ℕ))) → PrintsFit o → JournalFits (map print_entry (printed_numbers o) ++ done_entry ∷ [])
+journal_fits None fits = ((omega arith, tt), tt)
+journal_fits (Some ps) fits = fits_from ps fits
 
-below_128 : (us : List ℕ) → AllByRecursion (λ u. u < 128) us → IsAscii us
-below_128 [] fits i = omega arith
-below_128 (u ∷ us) fits zero = fits.0
-below_128 (u ∷ us) fits (suc i) = below_128 us fits.1 i
+-- ---- how many prints there are
 
-one_unit : (u : ℕ) → u < 128 → encode_utf16 u ≡ u ∷ []
-one_unit u lt = rw (lt-ltb u 0x10000 (omega arith)) refl
+abbrev just : {A : Type 0} → A → Option A
+just x = Some x
 
-same_units : (us : List ℕ) → AllByRecursion (λ u. u < 128) us → flat_map encode_utf16 us ≡ us
-same_units [] fits = refl
-same_units (u ∷ us) fits = rw (one_unit u fits.0) (ap (λ (xs : List ℕ). u ∷ xs) (same_units us fits.1))
+abbrev nothing : {A : Type 0} → Option A
+nothing = None
 
-ascii_units : (us : List ℕ) → AllByRecursion (λ u. u < 128) us → utf16_of us ≡ us
-ascii_units us fits = ap (flat_map encode_utf16) (chars-IsAscii us (below_128 us fits)) ∙ same_units us fits
+just_is : {A : Type 0} (x y : A) → just x ≡ just y → x ≡ y
+just_is x y e = cc
 
--- ---- the name of a class of the pool is in ASCII
+not_just : {A : Type 0} (x : A) → nothing ≡ just x → ⊥
+not_just x e = cc
 
-abbrev AsciiIn : Option (List ℕ) → Type 0
-AsciiIn None = Unit {0}
-AsciiIn (Some us) = AllByRecursion (λ u. u < 128) us
+given_some : {A : Type 0} (b : Bool) (r : Option A) (y : A) → given b r ≡ just y → (b ≡ true) × (r ≡ just y)
+given_some true r y e = (refl, e)
+given_some false r y e = absurd (not_just y e)
 
-abbrev FitsIn : Option Constant → Type 0
-FitsIn None = Unit {0}
-FitsIn (Some c) = ConstantFits c
+taken : (b : Bool) (x y : Option (List (ℤ × ℕ))) (z : List (ℤ × ℕ)) → y ≡ None → cond b x y ≡ just z → x ≡ just z
+taken true x y z n e = e
+taken false x y z n e = absurd (not_just z (sym n ∙ e))
 
-constant_fits : (pool : List Constant) (i : ℕ) → AllByRecursion ConstantFits pool → FitsIn (slice_get pool i)
-constant_fits [] i fits = tt
-constant_fits (c ∷ pool) zero fits = fits.0
-constant_fits (c ∷ pool) (suc i) fits = constant_fits pool i fits.1
+and_print_some : (p : ℤ × ℕ) (o : Option (List (ℤ × ℕ))) (ps : List (ℤ × ℕ)) → and_print p o ≡ just ps → (qs : List (ℤ × ℕ)) × (o ≡ just qs) × (p ∷ qs ≡ ps)
+and_print_some p None ps e = absurd (not_just ps e)
+and_print_some p (Some qs) ps e = (qs, refl, just_is (p ∷ qs) ps e)
 
-named_fits : (pool : List Constant) (i : ℕ) → AllByRecursion ConstantFits pool → FitsIn (constant_of pool i)
-named_fits pool zero fits = tt
-named_fits pool (suc i) fits = constant_fits pool i fits
+prints_length : (code : List ℕ) (ps : List (ℤ × ℕ)) → prints_in code ≡ just ps → 5 * length ps + 1 ≡ length code
+unfolding prints_in
+prints_length [] ps e = absurd (not_just ps e)
+prints_length (a ∷ []) ps e =
+    let nil : [] ≡ ps = just_is [] ps (taken (eqb a 177) (Some []) None ps refl e) in
+    subst (λ (qs : List (ℤ × ℕ)). 5 * length qs + 1 ≡ 1) nil refl
+prints_length (a ∷ b ∷ []) ps e = absurd (not_just ps e)
+prints_length (a ∷ b ∷ c ∷ []) ps e = absurd (not_just ps e)
+prints_length (a ∷ b ∷ c ∷ d ∷ []) ps e = absurd (not_just ps e)
+prints_length (a ∷ n ∷ b ∷ h ∷ l ∷ code) ps e =
+    let more = and_print_some _ (prints_in code) ps (taken (eqb a 16 && eqb b 184) _ None ps refl e) in
+    let below = prints_length code more.0 more.1 in
+    let len : length ps ≡ suc (length more.0) = ap length (sym more.2) in
+    omega arith
 
-text_fits : (c : Option Constant) → FitsIn c → AsciiIn (text_in c)
-text_fits None fits = tt
-text_fits (Some (Utf8 us)) fits = fits.0
-text_fits (Some (Class n)) fits = tt
-text_fits (Some (NameAndType n d)) fits = tt
-text_fits (Some (Methodref c m)) fits = tt
+module _ (pool : List Entry) where
+  CodeInFits : Option Code → Type 0
+  CodeInFits None = Unit {0}
+  CodeInFits (Some c) = CodeFits pool c
 
-name_fits : (pool : List Constant) (c : Option Constant) → AllByRecursion ConstantFits pool → AsciiIn (name_in pool c)
-name_fits pool None fits = tt
-name_fits pool (Some (Utf8 us)) fits = tt
-name_fits pool (Some (Class n)) fits = text_fits (constant_of pool n) (named_fits pool n fits)
-name_fits pool (Some (NameAndType n d)) fits = tt
-name_fits pool (Some (Methodref c m)) fits = tt
+  code_or : (i : Info) (later : Option Code) → InfoFits pool i → CodeInFits later → CodeInFits (or_else (code_of i) later)
+  unfolding CodeInFits
+  code_or (info.ConstantValue index) later fits rest = rest
+  code_or (info.Code c) later fits rest = fits
+  code_or (info.StackMapTable frames) later fits rest = rest
+  code_or (info.Exceptions classes) later fits rest = rest
+  code_or (info.RuntimeVisibleAnnotations parts) later fits rest = rest
+  code_or (info.RuntimeInvisibleAnnotations parts) later fits rest = rest
+  code_or (info.RuntimeVisibleParameterAnnotations parts) later fits rest = rest
+  code_or (info.RuntimeInvisibleParameterAnnotations parts) later fits rest = rest
+  code_or (info.Raw bytes) later fits rest = rest
 
-or_empty : (o : Option (List ℕ)) → AsciiIn o → AllByRecursion (λ u. u < 128) (unwrap_or o [])
-or_empty None fits = tt
-or_empty (Some us) fits = fits
+  code_fits : (at : Place) (before attributes : List Attribute) → EachAfter (AttributeFits pool at) before attributes → CodeInFits (code_in attributes)
+  unfolding CodeInFits
+  code_fits at before [] fits = tt
+  code_fits at before (a ∷ attributes) fits = code_or a.info (code_in attributes) fits.0.info (code_fits at (before ++ a ∷ []) attributes fits.1)
 
-own_name_ascii : (bytes : List ℕ) (c : SmallClass) → IsSmallFile bytes c → AllByRecursion (λ u. u < 128) (own_name c)
-own_name_ascii bytes c small = or_empty (name_of c.pool c.this_class) (name_fits c.pool (constant_of c.pool c.this_class) small.fits.0.1)
+  some_prints : (o : Option (List (ℤ × ℕ))) (ps : List (ℤ × ℕ)) → all_prints pool o ≡ just ps → o ≡ just ps
+  some_prints None ps e = absurd (not_just ps e)
+  some_prints (Some qs) ps e = (let all = list_all (is_print pool) qs in given_some all (Some qs) ps e).1
 
--- ---- the run
+  few_in_code : (o : Option Code) (ps : List (ℤ × ℕ)) → CodeInFits o → code_prints pool o ≡ just ps → 5 * length ps + 1 < 65536
+  unfolding CodeInFits
+  few_in_code None ps fits e = absurd (not_just ps e)
+  few_in_code (Some c) ps fits e =
+      let g = given_some (is_plain c) (all_prints pool (prints_in c.code)) ps e in
+      let len = prints_length c.code ps (some_prints (prints_in c.code) ps g.1) in
+      let few = fits.few in
+      omega arith
+
+  few_in_methods : (methods : List MemberInfo) (ps : List (ℤ × ℕ)) → AllByRecursion (MethodFits pool) methods → method_prints pool methods ≡ just ps → 5 * length ps + 1 < 65536
+  few_in_methods [] ps fits e = absurd (not_just ps e)
+  few_in_methods (c ∷ []) ps fits e = absurd (not_just ps e)
+  few_in_methods (c ∷ m ∷ []) ps fits e =
+      let g = given_some (is_constructor pool c) (execute_prints pool m) ps e in
+      let h = given_some (is_execute_head pool m) (code_prints pool (code_in m.attributes)) ps g.1 in
+      few_in_code (code_in m.attributes) ps (code_fits _ [] m.attributes fits.1.0.member.attributes.each) h.1
+  few_in_methods (c ∷ m ∷ n ∷ more) ps fits e = absurd (not_just ps e)
+
+few_prints : (f : ClassFile) → PartsFit f → (ps : List (ℤ × ℕ)) → small_prints f ≡ just ps → 5 * length ps + 1 < 65536
+unfolding small_prints
+few_prints f fits ps e =
+    let g = given_some (is_class_head f) (method_prints f.constant_pool f.methods) ps e in
+    few_in_methods f.constant_pool f.methods ps fits.methods.1 g.1
+
+length_map : (ps : List (ℤ × ℕ)) → length (map (λ (p : ℤ × ℕ). p.0) ps) ≡ length ps
+length_map [] = refl
+length_map (p ∷ ps) = ap suc (length_map ps)
+
+few_numbers : (f : ClassFile) → PartsFit f → (o : Option (List (ℤ × ℕ))) → small_prints f ≡ o → length (printed_numbers o) < 65536
+few_numbers f fits None e = omega arith
+few_numbers f fits (Some ps) e = let few = few_prints f fits ps e in let len = length_map ps in omega arith
+
+-- ---- the program
+
+small_name : (name : List ℕ) (ns : List ℤ) (methods : List MemberInfo) → (small_of_methods name ns methods).name ≡ name
+small_name name ns [] = refl
+small_name name ns (c ∷ []) = refl
+small_name name ns (c ∷ m ∷ []) = refl
+small_name name ns (c ∷ m ∷ n ∷ more) = refl
+
+small_numbers : (name : List ℕ) (ns : List ℤ) (methods : List MemberInfo) → (small_of_methods name ns methods).prints ≡ ns
+small_numbers name ns [] = refl
+small_numbers name ns (c ∷ []) = refl
+small_numbers name ns (c ∷ m ∷ []) = refl
+small_numbers name ns (c ∷ m ∷ n ∷ more) = refl
+
+pub numbers_are : (f : ClassFile) → (small_of f).prints ≡ printed_numbers (small_prints f)
+numbers_are f = small_numbers (own_name f) (printed_numbers (small_prints f)) f.methods
 
 same_bytes : (xs : List ℕ) → bytes_eq xs xs ≡ true
 same_bytes [] = refl
@@ -107,51 +170,28 @@ same_bytes (x ∷ xs) = rw (eq-eqb x x refl) (same_bytes xs)
 bytes_eq_same : (xs ys : List ℕ) → xs ≡ ys → bytes_eq xs ys ≡ true
 bytes_eq_same xs ys e = subst (λ (zs : List ℕ). bytes_eq xs zs ≡ true) e (same_bytes xs)
 
-length_printed : (ps : List (ℤ × ℕ)) → length (printed_numbers ps) ≡ length ps
-length_printed [] = refl
-length_printed (p ∷ ps) = ap suc (length_printed ps)
-
 chosen_class : (b : Bool) (x y : Option ClassId) → b ≡ true → cond b x y ≡ x
 chosen_class b x y e = rw e refl
 
-pub whole_run : SmallRunIsWhole → (bytes main : List ℕ) (c : SmallClass) (text : List ℕ) → IsSmallFile bytes c → own_name c ≡ main → text ≡ journal_text (small_journal (small_of c)) → IsWholeRun main (bytes ∷ []) text
+first_class : (s : Small) (units : List ℕ) → s.name ≡ units → class_named (small_program s) units ≡ Some (record { 0 = 0 })
+first_class s units e = chosen_class (bytes_eq s.name units) _ _ (bytes_eq_same s.name units e)
+
+-- ---- the run
+
+pub whole_run : SmallRunIsWhole → (bytes main : List ℕ) (f : ClassFile) (text : List ℕ) → IsFile bytes f → IsRunOf f main text → IsWholeRun main (bytes ∷ []) text
 unfolding step_limit
-whole_run law bytes main c text small named is = record {
-  program = small_program (small_of c);
-  of_files = (c, small, refl);
+whole_run law bytes main f text is run = record {
+  program = small_program (small_of f);
+  of_files = (f, record { is_file = is; small = run.small }, refl);
   class = record { 0 = 0 };
-  named = chosen_class (bytes_eq (own_name c) (utf16_of main)) _ _ (bytes_eq_same (own_name c) (utf16_of main) (sym (ascii_units (own_name c) (own_name_ascii bytes c small)) ∙ ap utf16_of named));
-  journal = small_journal (small_of c);
-  whole = law (small_of c) 1000000 (let len = length_printed c.execute.prints in let few = small.fits.5.2 in omega arith);
-  readable = small_is_readable (small_of c);
-  fits = fits_from c.execute.prints small.fits.5.3;
-  is_text = is;
+  named = first_class (small_of f) (utf16_of main) (small_name (own_name f) (printed_numbers (small_prints f)) f.methods ∙ run.named);
+  journal = small_journal (small_of f);
+  whole = law (small_of f) 1000000 (let len = ap length (numbers_are f) in let few = few_numbers f is.fits.parts (small_prints f) refl in omega arith);
+  readable = small_is_readable (small_of f);
+  fits = subst (λ (ns : List ℤ). JournalFits (map print_entry ns ++ done_entry ∷ [])) (sym (numbers_are f)) (journal_fits (small_prints f) run.fit);
+  is_text = run.is_text;
 }
 
--- ---- what is answered for a class file that can be run
-
-pub small_whole : SmallRunIsWhole → (bytes main : List ℕ) (c : SmallClass) (r : Result Reply NoMemory) → IsSmallFile bytes c →
-    IfOk r (λ reply. reply.status ≡ 0 → (own_name c ≡ main) × (reply.text.items ≡ journal_text (small_journal (small_of c)))) → IfOk r (λ reply. reply.status ≡ 0 → IsWholeRun main (bytes ∷ []) reply.text.items)
-small_whole law bytes main c (Ok reply) small h = λ e. whole_run law bytes main c reply.text.items small (h e).0 (h e).1
-small_whole law bytes main c (Err e) small h = tt
-
-pub small_unfit : (bytes main : List ℕ) (c : SmallClass) (r : Result Reply NoMemory) → IsSmallFile bytes c →
-    IfOk r (λ reply. reply.status ≡ 1 → (own_name c ≢ main) × (reply.text.items ≡ main_line main)) → IfOk r (λ reply. reply.status ≡ 1 → IsFitFile main bytes → ⊥)
-small_unfit bytes main c (Ok reply) small h = λ e fit. (h e).0 (ap own_name (one_class bytes c fit.class small fit.small) ∙ fit.named)
-small_unfit bytes main c (Err e) small h = tt
-
-one_of : {A B : Type 0} (n : ℕ) → n ≤ 1 → (n ≡ 0 → A) → (n ≡ 1 → B) → A ⊎ B
-one_of zero le a b = inl (a refl)
-one_of (suc zero) le a b = inr (b refl)
-one_of (suc (suc n)) le a b = absurd (omega arith)
-
-report_of : (bytes main : List ℕ) (c : SmallClass) (text : List ℕ) → IsSmallFile bytes c → (own_name c ≢ main) × (text ≡ main_line main) → IsReport main (bytes ∷ []) text
-report_of bytes main c text small h = inr (record { class = c; small = small; other = h.0; is_text = h.1 })
-
-pub small_text : SmallRunIsWhole → (bytes main : List ℕ) (c : SmallClass) (r : Result Reply NoMemory) → IsSmallFile bytes c → IfOk r (λ reply. reply.status ≤ 1) →
-    IfOk r (λ reply. reply.status ≡ 0 → (own_name c ≡ main) × (reply.text.items ≡ journal_text (small_journal (small_of c)))) →
-    IfOk r (λ reply. reply.status ≡ 1 → (own_name c ≢ main) × (reply.text.items ≡ main_line main)) →
-    IfOk r (λ reply. IsWholeRun main (bytes ∷ []) reply.text.items ⊎ IsReport main (bytes ∷ []) reply.text.items)
-small_text law bytes main c (Ok reply) small le run no_main =
-    one_of reply.status le (λ e. whole_run law bytes main c reply.text.items small (run e).0 (run e).1) (λ e. report_of bytes main c reply.text.items small (no_main e))
-small_text law bytes main c (Err e) small le run no_main = tt
+-- the journal of its run, where it prints these
+pub journal_is : (f : ClassFile) (ps : List (ℤ × ℕ)) → small_prints f ≡ just ps → small_journal (small_of f) ≡ map print_entry (map (λ (p : ℤ × ℕ). p.0) ps) ++ done_entry ∷ []
+journal_is f ps e = ap (λ (ns : List ℤ). map print_entry ns ++ done_entry ∷ []) (numbers_are f ∙ ap printed_numbers e)

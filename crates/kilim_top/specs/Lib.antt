@@ -1,9 +1,8 @@
 pub mod Words
-pub mod Reader
-pub mod ClassText
 pub mod SmallFile
-pub mod Reading
 pub mod Report
 pub mod Writing
 pub mod Outcome
+pub mod Answer
 pub mod Respond
+pub mod Reads

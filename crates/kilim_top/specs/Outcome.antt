@@ -1,5 +1,5 @@
 -- What each status of the top call means: what was read, and what was written.
-use Rattle.std.specs.Prelude.{◌≡◌, ◌≢◌, ℕ, ◌≤◌, ℤ, List, [], ◌∷◌, ◌++◌, take, Option, Some, None, Contains, codes, ◌⊎◌}
+use Rattle.std.specs.Prelude.{◌≡◌, ◌≢◌, ℕ, List, [], ◌∷◌, ◌++◌, take, map, Option, Some, None, Contains, ◌⊎◌, Result, Ok, Err}
 use Rattle.kilim_program.specs.declared.class.Program.{Program}
 use Rattle.kilim_program.specs.declared.names.ClassId.{ClassId}
 use Rattle.kilim_program.specs.Names.{class_named}
@@ -9,11 +9,14 @@ use Rattle.kilim_journal.specs.Readable.{IsReadable, JournalFits}
 use Rattle.kilim_outside.specs.declared.folder.FailedCall.{FailedCall}
 use Rattle.kilim_outside.specs.declared.folder.FailedCall.TheVariants.{Read, Write}
 use Rattle.kilim_outside.specs.Files.{Files, content_of, file_limit}
-use Rattle.kilim_outside.specs.Causes.{Appended, Rose}
+use Rattle.kilim_outside.specs.Causes.{Appended}
 use Rattle.kilim_thread_model.specs.State.{Setting}
 use Rattle.kilim_thread_model.specs.Runs.{Whole}
-use Rattle.kilim_top.specs.declared.parts.SmallClass.{SmallClass}
-use Rattle.kilim_top.specs.SmallFile.{IsSmallFile, IsProgramOf, own_name}
+use Rattle.kilim_classfile.specs.declared.class_file.ClassFile.{ClassFile}
+use Rattle.kilim_classfile.specs.declared.fault.ClassFault.{ClassFault}
+use Rattle.kilim_classfile.specs.Reading.{read_class}
+use Rattle.kilim_reports.specs.ClassLines.{class_line}
+use Rattle.kilim_top.specs.SmallFile.{IsFile, IsSmallFile, IsProgramOf, own_name, small_prints}
 use Rattle.kilim_top.specs.Writing.{AppendedFront}
 use Rattle.kilim_top.specs.Report.{utf16_of, later_line, main_line}
 use Rattle.kilim_top.specs.Words.{Request, Run, files_read, files_written}
@@ -39,33 +42,60 @@ pub record IsWholeRun (main : List ℕ) (files : List (List ℕ)) (text : List �
 
 -- ---- reports: one line with its line feed
 
+-- the first file, in the order of the words, that can't be read, with its fault
+abbrev pub or_fault : List ℕ → Result ClassFile ClassFault → Option (List ℕ × ClassFault) → Option (List ℕ × ClassFault)
+or_fault name (Err fault) later = Some (name, fault)
+or_fault name (Ok file) later = later
+
+abbrev pub first_fault : List (List ℕ) → List (List ℕ) → Option (List ℕ × ClassFault)
+first_fault (name ∷ names) (bytes ∷ files) = or_fault name (read_class bytes) (first_fault names files)
+first_fault names files = None
+
+-- a file isn't a class file that is accepted
+pub record IsClassReport (names files : List (List ℕ)) (text : List ℕ) : Type 0 where
+  pub name : List ℕ
+  pub fault : ClassFault
+  pub first : first_fault names files ≡ Some (name, fault)
+  pub is_text : text ≡ class_line name fault
+
 -- the class file can't be run yet
-abbrev pub IsLater : List (List ℕ) → List ℕ → Type 0
-IsLater (bytes ∷ []) text = (text ≡ later_line) × ((class : SmallClass) → IsSmallFile bytes class → ⊥)
-IsLater files text = ⊥
+pub record IsLater (bytes text : List ℕ) : Type 0 where
+  pub file : ClassFile
+  pub is_file : IsFile bytes file
+  pub not_small : small_prints file ≡ None
+  pub is_text : text ≡ later_line
 
 -- the class file can be run, and its class isn't the main class
 pub record IsMainReport (main bytes text : List ℕ) : Type 0 where
-  pub class : SmallClass
-  pub small : IsSmallFile bytes class
-  pub other : own_name class ≢ main
+  pub file : ClassFile
+  pub small : IsSmallFile bytes file
+  pub other : own_name file ≢ utf16_of main
   pub is_text : text ≡ main_line main
 
-abbrev pub IsMainReportOf : List ℕ → List (List ℕ) → List ℕ → Type 0
-IsMainReportOf main (bytes ∷ []) text = IsMainReport main bytes text
-IsMainReportOf main files text = ⊥
+-- all are class files, and several can't be run yet
+pub record AreLater (names files : List (List ℕ)) (text : List ℕ) : Type 0 where
+  pub are_read : first_fault names files ≡ None
+  pub is_text : text ≡ later_line
 
-abbrev pub IsReport : List ℕ → List (List ℕ) → List ℕ → Type 0
-IsReport main files text = IsLater files text ⊎ IsMainReportOf main files text
+abbrev pub IsFileReport : List ℕ → List (List ℕ) → List (List ℕ) → List ℕ → Type 0
+IsFileReport main names (bytes ∷ []) text = IsLater bytes text ⊎ IsMainReport main bytes text
+IsFileReport main names files text = AreLater names files text
+
+-- the report of the first stage that has a fault
+abbrev pub IsReport : List ℕ → List (List ℕ) → List (List ℕ) → List ℕ → Type 0
+IsReport main names files text = IsClassReport names files text ⊎ IsFileReport main names files text
 
 -- ---- what was read
 
 -- Where the folder tells, what was read is what it held, of each file. Where it doesn't, this says only how many
 -- files were read.
+abbrev pub WasRead : Option Files → List ℕ → List ℕ → Type 0
+WasRead None name bytes = Unit {0}
+WasRead (Some held) name bytes = bytes ≡ take file_limit (content_of held name)
+
 abbrev pub WereRead : Option Files → List (List ℕ) → List (List ℕ) → Type 0
 WereRead contents [] [] = Unit {0}
-WereRead None (name ∷ names) (bytes ∷ files) = WereRead None names files
-WereRead (Some held) (name ∷ names) (bytes ∷ files) = (bytes ≡ take file_limit (content_of held name)) × WereRead (Some held) names files
+WereRead contents (name ∷ names) (bytes ∷ files) = WasRead contents name bytes × WereRead contents names files
 WereRead contents names files = ⊥
 
 -- the text that the call writes at status 0, and at status 1
@@ -77,7 +107,7 @@ pub record IsRunText (contents : Option Files) (main : List ℕ) (names : List (
 pub record IsReportText (contents : Option Files) (main : List ℕ) (names : List (List ℕ)) (text : List ℕ) : Type 0 where
   pub files : List (List ℕ)
   pub were_read : WereRead contents names files
-  pub report : IsReport main files text
+  pub report : IsReport main names files text
 
 abbrev pub IsTextAt0 : Option Files → Option Request → List ℕ → Type 0
 IsTextAt0 contents None text = ⊥
@@ -128,10 +158,23 @@ FailedAtMost request before now = (now ≡ before) ⊎ (ReadFailed request befor
 -- The words are in the grammar, and no stage has a fault: the class file can be run, and its class is the main
 -- class. This speaks of a folder that tells what it holds.
 pub record IsFitFile (main bytes : List ℕ) : Type 0 where
-  pub class : SmallClass
-  pub small : IsSmallFile bytes class
-  pub named : own_name class ≡ main
+  pub file : ClassFile
+  pub small : IsSmallFile bytes file
+  pub named : own_name file ≡ utf16_of main
+
+abbrev pub IsFitList : List ℕ → List (List ℕ) → Type 0
+IsFitList main (bytes ∷ []) = IsFitFile main bytes
+IsFitList main files = ⊥
+
+-- what is read of the files with these names
+abbrev pub read_of : Files → List (List ℕ) → List (List ℕ)
+read_of held names = map (λ name. take file_limit (content_of held name)) names
 
 abbrev pub IsFit : Option Files → Option Request → Type 0
-IsFit (Some held) (Some (Run main (name ∷ []))) = IsFitFile main (take file_limit (content_of held name))
+IsFit (Some held) (Some (Run main names)) = IsFitList main (read_of held names)
 IsFit contents request = ⊥
+
+-- A stage has a fault. This speaks of a folder that tells what it holds.
+abbrev pub HasReport : Option Files → Option Request → Type 0
+HasReport (Some held) (Some (Run main names)) = (text : List ℕ) × IsReport main names (read_of held names) text
+HasReport contents request = ⊥

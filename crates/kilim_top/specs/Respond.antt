@@ -1,20 +1,20 @@
--- What was written for the bytes of a class file.
-use Rattle.std.specs.Prelude.{◌≡◌, ℕ, List, [], ◌∷◌, Option, ◌⊎◌}
+-- What was written for the bytes of files with these names.
+use Rattle.std.specs.Prelude.{ℕ, List, Option, ◌⊎◌}
 use Rattle.kilim_outside.specs.Causes.{Appended}
 use Rattle.kilim_top.specs.Writing.{AppendedFront}
 use Rattle.kilim_top.specs.Outcome.{IsWholeRun, IsReport}
 
-pub record Wrote0 (main bytes : List ℕ) (old new : Option (List ℕ)) : Type 0 where
+pub record Wrote0 (main : List ℕ) (files : List (List ℕ)) (old new : Option (List ℕ)) : Type 0 where
   pub text : List ℕ
-  pub run : IsWholeRun main (bytes ∷ []) text
+  pub run : IsWholeRun main files text
   pub written : Appended old new text
 
-pub record Wrote1 (main bytes : List ℕ) (old new : Option (List ℕ)) : Type 0 where
+pub record Wrote1 (main : List ℕ) (names files : List (List ℕ)) (old new : Option (List ℕ)) : Type 0 where
   pub text : List ℕ
-  pub report : IsReport main (bytes ∷ []) text
+  pub report : IsReport main names files text
   pub written : Appended old new text
 
-pub record WroteFrontOf (main bytes : List ℕ) (old new : Option (List ℕ)) : Type 0 where
+pub record WroteFrontOf (main : List ℕ) (names files : List (List ℕ)) (old new : Option (List ℕ)) : Type 0 where
   pub text : List ℕ
-  pub is_text : IsWholeRun main (bytes ∷ []) text ⊎ IsReport main (bytes ∷ []) text
+  pub is_text : IsWholeRun main files text ⊎ IsReport main names files text
   pub written : AppendedFront old new text

@@ -1,6 +1,6 @@
 -- The grammar of the words after the program's name. Words are lists of bytes.
-use Rattle.std.specs.Prelude.{ℕ, Bool, true, false, ◌&&◌, not, ◌==◌, nat_eq, if◌then◌else◌, length, drop, List, [], ◌∷◌, ◌++◌, Option, Some, None, codes}
-use Rattle.std.specs.List.{starts_with}
+use Rattle.std.specs.Prelude.{ℕ, Bool, true, false, ◌&&◌, not, ◌==◌, nat_eq, nat_lt, if◌then◌else◌, length, drop, List, [], ◌∷◌, Option, Some, None, codes}
+use Rattle.std.specs.List.{starts_with, list_all}
 use Rattle.std.specs.Str.{bytes_eq}
 
 -- what the words ask for
@@ -21,14 +21,22 @@ is_name (b ∷ bs) = true
 abbrev pub value_behind : List ℕ → List ℕ → Option (List ℕ)
 value_behind front word = if starts_with nat_eq word front then Some (drop (length front) word) else None
 
-abbrev pub run_of : Option (List ℕ) → List ℕ → Option Request
-run_of None file = None
-run_of (Some main) file = if is_name main && is_file file then Some (Run main (file ∷ [])) else None
+-- the most files of a command
+unfoldable pub most_files : ℕ
+most_files = 1000
 
--- run --main=NAME FILE
+-- at least one file, and at most so many
+abbrev pub are_files : List (List ℕ) → Bool
+are_files files = nat_lt 0 (length files) && (not (nat_lt most_files (length files)) && list_all is_file files)
+
+abbrev pub run_of : Option (List ℕ) → List (List ℕ) → Option Request
+run_of None files = None
+run_of (Some main) files = if is_name main && are_files files then Some (Run main files) else None
+
+-- run --main=NAME FILE..
 abbrev pub run_request : List (List ℕ) → Option Request
-run_request (option ∷ file ∷ []) = run_of (value_behind (codes "--main=") option) file
-run_request words = None
+run_request [] = None
+run_request (option ∷ files) = run_of (value_behind (codes "--main=") option) files
 
 -- The command is the first word. A list of words that asks for nothing isn't in the grammar.
 abbrev pub request_of : List (List ℕ) → Option Request

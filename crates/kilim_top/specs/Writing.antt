@@ -1,5 +1,5 @@
 -- Text goes to the sink in pieces.
-use Rattle.std.specs.Prelude.{◌≡◌, ℕ, List, ◌++◌, Option, Some, None}
+use Rattle.std.specs.Prelude.{◌≡◌, ℕ, List, ◌++◌, Option}
 use Rattle.kilim_outside.specs.Causes.{Appended}
 
 -- the most bytes of a piece

@@ -3,8 +3,7 @@
 #![tactic(auto)]
 
 mod answer;
-mod parts;
-mod reading;
+mod inputs;
 mod report;
 mod run;
 mod small;

@@ -1,10 +1,8 @@
 //! The run of a class file of the kind that runs today.
 
 ghost use Rattle.std.specs.Prelude.{◌≡◌, ◌∷◌, ◌++◌, [], map, IfOk};
-ghost use Rattle.kilim_thread_model.specs.Small.{print_entry, done_entry, small_journal};
-ghost use Rattle.kilim_top.specs.SmallFile.{printed_numbers, small_of};
+ghost use Rattle.kilim_thread_model.specs.Small.{print_entry, done_entry};
 
-use crate::parts::SmallClass;
 use kilim_journal::{Act, Entry};
 use kilim_program::{EndCause, Seq, Token};
 use std::alloc::{AllocError, Global};
@@ -30,7 +28,7 @@ fn done_entry() -> Entry
 }
 
 fn print_entries(alloc: Global, prints: &[(i8, u16)]) -> Result<Vec<Entry>, AllocError>
-    ensures { IfOk result (λ entries. entries.items ≡ map print_entry (printed_numbers prints.now)) }
+    ensures { IfOk result (λ entries. entries.items ≡ map print_entry (map (λ p. p.0) prints.now)) }
 {
     let mut entries = Vec::new(alloc);
     for (number, _) in prints {
@@ -40,10 +38,10 @@ fn print_entries(alloc: Global, prints: &[(i8, u16)]) -> Result<Vec<Entry>, Allo
 }
 
 // The constructor returns, each print is done in turn, and `execute` returns.
-pub fn journal_of(alloc: Global, class: &SmallClass) -> Result<Vec<Entry>, AllocError>
-    ensures { IfOk result (λ entries. entries.items ≡ small_journal (small_of class.now)) }
+pub fn journal_of(alloc: Global, prints: &[(i8, u16)]) -> Result<Vec<Entry>, AllocError>
+    ensures { IfOk result (λ entries. entries.items ≡ map print_entry (map (λ p. p.0) prints.now) ++ done_entry ∷ []) }
 {
-    let mut entries = print_entries(alloc, class.execute.prints.as_slice())?;
+    let mut entries = print_entries(alloc, prints)?;
     entries.push(done_entry())?;
     Ok(entries)
 }

@@ -187,7 +187,7 @@ fn refuses_words(rt: HostRuntime) -> Result<(), Fail> {
         &["run", "--main=A", "A.class", "--steps=5"],
         &["run", "--main=A", "-A.class"],
         &["run", "--main=A", ""],
-        &["run", "--main=A", "A.class", "B.class"],
+        &["run", "--main=A", "A.class", "-B.class"],
         &["run", "A.class", "--main=A"],
         &["--help"],
         &["Run", "--main=A", "A.class"],
@@ -224,7 +224,7 @@ fn writes_the_longest_journal(rt: HostRuntime) -> Result<(), Fail> {
     let alloc = rt.alloc();
     let gate = OpenGate::new();
     let words = words_of(alloc, RUN_A.as_slice())?;
-    for (count, status, len, calls) in [(13106, 0, 131_071, 32), (13107, 1, 6, 1)] {
+    for (count, status, len, calls) in [(13106, 0, 131_071, 32), (13107, 1, 36, 1)] {
         let numbers = vec![in alloc; 7; count]?;
         let bytes = with_prints(alloc, numbers.as_slice())?;
         let mut files = map_folder(one_file(alloc, bytes.as_slice())?, Seq::new(alloc), alloc);
@@ -237,22 +237,57 @@ fn writes_the_longest_journal(rt: HostRuntime) -> Result<(), Fail> {
     Ok(())
 }
 
+// Damaged files, and files that can't be run yet.
 #[test]
 fn reports_other_class_files(rt: HostRuntime) -> Result<(), Fail> {
     let alloc = rt.alloc();
-    let other = [
-        Vec::new(alloc),
-        with_byte_behind(alloc)?,
-        Vec::from_slice(alloc, &CLASS_A[..234])?,
-        // version 53, an abstract class, a private constructor, another instruction
-        with_byte(alloc, 7, 0x35)?,
-        with_byte(alloc, 0x94, 4)?,
-        with_byte(alloc, 0xA1, 2)?,
-        with_byte(alloc, 0xD5, 0x11)?,
-        vec![in alloc; 0; 17_000_000]?,
+    let table = [
+        (with_byte_behind(alloc)?, "class A.class extra 235\n"),
+        (with_byte(alloc, 0, 0xcb)?, "class A.class magic\n"),
+        (with_byte(alloc, 7, 0x35)?, "class A.class version 53 0\n"),
+        (with_byte(alloc, 10, 0x02)?, "class A.class pool tag 1 2\n"),
+        (with_byte(alloc, 13, 0x00)?, "class A.class pool text 1\n"),
+        (with_byte(alloc, 16, 0x02)?, "class A.class pool index 2\n"),
+        (vec![in alloc; 0; 17_000_000]?, "class A.class too-large\n"),
+        // an abstract class, a private constructor, another instruction
+        (with_byte(alloc, 0x94, 4)?, "later\n"),
+        (with_byte(alloc, 0xA1, 2)?, "later\n"),
+        (with_byte(alloc, 0xD5, 0x11)?, "later\n"),
     ];
-    for bytes in &other {
-        assert_answer(&rt, RUN_A.as_slice(), bytes.as_slice(), 1, "later\n")?;
+    for (bytes, text) in &table {
+        assert_answer(&rt, RUN_A.as_slice(), bytes.as_slice(), 1, text)?;
+    }
+    Ok(())
+}
+
+// Each proper front of a class file is cut where it ends.
+#[test]
+fn reports_cut_class_files(rt: HostRuntime) -> Result<(), Fail> {
+    let alloc = rt.alloc();
+    for n in 0..235 {
+        let text = format!(in alloc; "class A.class cut {n}\n")?;
+        assert_answer(&rt, RUN_A.as_slice(), &CLASS_A[..n], 1, text.as_str())?;
+    }
+    Ok(())
+}
+
+// The first of several files that is no class file; a file that isn't there counts as empty here. Several class files
+// can't be run yet.
+#[test]
+fn reports_several_files(rt: HostRuntime) -> Result<(), Fail> {
+    let table: [(&[&str], &str); 3] = [
+        (&["run", "--main=A", "A.class", "A.class"], "later\n"),
+        (
+            &["run", "--main=A", "A.class", "B.class"],
+            "class B.class cut 0\n",
+        ),
+        (
+            &["run", "--main=A", "C.class", "A.class", "B.class"],
+            "class C.class cut 0\n",
+        ),
+    ];
+    for (words, text) in table {
+        assert_answer(&rt, words, CLASS_A.as_slice(), 1, text)?;
     }
     Ok(())
 }
@@ -276,7 +311,7 @@ fn reports_other_main_classes(rt: HostRuntime) -> Result<(), Fail> {
 fn runs_the_longest_class_file(rt: HostRuntime) -> Result<(), Fail> {
     for (last, len, status, text) in [
         (64788, 16_777_216, 0, JOURNAL),
-        (64789, 16_777_217, 1, "later\n"),
+        (64789, 16_777_217, 1, "class A.class too-large\n"),
     ] {
         let bytes = with_texts(rt.alloc(), last)?;
         assert_eq!(rt; bytes.len(), len);

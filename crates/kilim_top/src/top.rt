@@ -1,36 +1,46 @@
 //! The top call.
 
-ghost use Rattle.std.specs.Prelude.{◌≡◌, ◌≤◌, ◌↔◌, ◌⊎◌, Some, None, [], ◌∷◌, length, map, take, IsSome, IfSome};
+ghost use Rattle.std.specs.Prelude.{◌≡◌, ◌≤◌, ◌↔◌, ◌⊎◌, Some, None, [], ◌∷◌, length, map, take, List, ℕ, IsSome, IfSome};
 ghost use Rattle.std.specs.String.{string_bytes};
 ghost use Rattle.kilim_outside.specs.Causes.{Rose};
 ghost use Rattle.kilim_outside.specs.Files.{files_of};
 ghost use Rattle.kilim_top.specs.Words.{request_of, Run};
 ghost use Rattle.kilim_top.specs.Writing.{AppendedFront};
 ghost use Rattle.kilim_top.specs.Respond.{Wrote0, Wrote1, WroteFrontOf};
-ghost use Rattle.kilim_top.specs.Outcome.{IsFitFile, WroteRun, WroteReport, WroteFront, ReadFailed, WriteFailed, FailedAtMost, IsFit};
+ghost use Rattle.kilim_top.specs.Outcome.{IsFitList, WroteRun, WroteReport, WroteFront, ReadFailed, WriteFailed, FailedAtMost, IsFit, IsReport, HasReport};
 
 use crate::answer::answer;
+use crate::inputs::read_all;
 use crate::words::{Asked, request};
 use crate::writing::write_all;
 use kilim_outside::{Folder, FolderFault, Gate, SinkFault, SteadyFolder, SteadySink, TextSink};
+use kilim_program::Seq;
 use std::alloc::Global;
 use std::sync::Wait;
 use std::thread::Threads;
 
 // Writes what is answered for these bytes, and says with which status.
-fn respond<K: TextSink>(alloc: Global, main: &str, bytes: &[u8], out: &mut K) -> u8
+fn respond<K: TextSink>(
+    alloc: Global,
+    main: &str,
+    names: &[String],
+    files: &[Seq<u8>],
+    out: &mut K,
+) -> u8
+    requires { length names.now ≡ length files.now }
     ensures status { result ≤ 5 }
     ensures not_usage { result ≡ 2 → ⊥ }
     ensures not_read { result ≡ 3 → ⊥ }
-    ensures whole { result ≡ 0 → Wrote0 main.now bytes.now (K.written out.old) (K.written out.new) }
-    ensures report { result ≡ 1 → Wrote1 main.now bytes.now (K.written out.old) (K.written out.new) }
-    ensures front { result ≡ 4 → WroteFrontOf main.now bytes.now (K.written out.old) (K.written out.new) }
-    ensures memory { result ≡ 5 → (K.written out.new ≡ K.written out.old) ⊎ WroteFrontOf main.now bytes.now (K.written out.old) (K.written out.new) }
+    ensures whole { result ≡ 0 → Wrote0 main.now files.now (K.written out.old) (K.written out.new) }
+    ensures report { result ≡ 1 → Wrote1 main.now (map string_bytes names.now) files.now (K.written out.old) (K.written out.new) }
+    ensures front { result ≡ 4 → WroteFrontOf main.now (map string_bytes names.now) files.now (K.written out.old) (K.written out.new) }
+    ensures memory { result ≡ 5 → (K.written out.new ≡ K.written out.old) ⊎ WroteFrontOf main.now (map string_bytes names.now) files.now (K.written out.old) (K.written out.new) }
     ensures write { result ≡ 4 → Rose (K.faults out.old) (K.faults out.new) }
-    ensures fit { result ≡ 1 → IsFitFile main.now bytes.now → ⊥ }
+    ensures fit { result ≡ 1 → IsFitList main.now files.now → ⊥ }
+    ensures unreported { result ≡ 0 → (text : List ℕ) → IsReport main.now (map string_bytes names.now) files.now text → ⊥ }
     ensures quiet { (result ≡ 0) ⊎ (result ≡ 1) → K.faults out.new ≡ K.faults out.old }
 {
-    let Ok(reply) = answer(alloc, main, bytes) else {
+    let Ok(reply) = answer(alloc, main, names, files) else {
         return 5;
     };
     match write_all(out, reply.text.as_slice()) {
@@ -40,34 +50,34 @@ fn respond<K: TextSink>(alloc: Global, main: &str, bytes: &[u8], out: &mut K) ->
     }
 }
 
-// Reads the file, and writes what is answered for it.
-#[tactic(auto, using(crate::proofs::TopLaws::wrote_run, crate::proofs::TopLaws::wrote_report, crate::proofs::TopLaws::wrote_front, crate::proofs::TopLaws::wrote_some, crate::proofs::TopLaws::unfit))]
+// Reads the files, and writes what is answered for them.
+#[tactic(auto, using(crate::proofs::TopLaws::same_length, crate::proofs::TopLaws::wrote_run, crate::proofs::TopLaws::wrote_report, crate::proofs::TopLaws::wrote_front, crate::proofs::TopLaws::wrote_some, crate::proofs::TopLaws::unfit, crate::proofs::TopLaws::unreported))]
 fn work<F: Folder, K: TextSink>(
     alloc: Global,
     main: &str,
-    file: &str,
+    names: &[String],
     files: &mut F,
     out: &mut K,
 ) -> u8
     ensures status { result ≤ 5 }
     ensures not_usage { result ≡ 2 → ⊥ }
-    ensures whole { result ≡ 0 → WroteRun (F.contents files.old) (Some (Run main.now (file.now ∷ []))) (K.written out.old) (K.written out.new) }
-    ensures report { result ≡ 1 → WroteReport (F.contents files.old) (Some (Run main.now (file.now ∷ []))) (K.written out.old) (K.written out.new) }
-    ensures read { result ≡ 3 → ReadFailed (Some (Run main.now (file.now ∷ []))) (F.faults files.old) (F.faults files.new) }
+    ensures whole { result ≡ 0 → WroteRun (F.contents files.old) (Some (Run main.now (map string_bytes names.now))) (K.written out.old) (K.written out.new) }
+    ensures report { result ≡ 1 → WroteReport (F.contents files.old) (Some (Run main.now (map string_bytes names.now))) (K.written out.old) (K.written out.new) }
+    ensures read { result ≡ 3 → ReadFailed (Some (Run main.now (map string_bytes names.now))) (F.faults files.old) (F.faults files.new) }
     ensures nothing { result ≡ 3 → K.written out.new ≡ K.written out.old }
-    ensures write { result ≡ 4 → Rose (K.faults out.old) (K.faults out.new) ⊎ WriteFailed (Some (Run main.now (file.now ∷ []))) (F.faults files.old) (F.faults files.new) }
-    ensures front { result ≡ 4 → WroteFront (F.contents files.old) (Some (Run main.now (file.now ∷ []))) (K.written out.old) (K.written out.new) }
-    ensures memory { result ≡ 5 → (K.written out.new ≡ K.written out.old) ⊎ WroteFront (F.contents files.old) (Some (Run main.now (file.now ∷ []))) (K.written out.old) (K.written out.new) }
+    ensures write { result ≡ 4 → Rose (K.faults out.old) (K.faults out.new) ⊎ WriteFailed (Some (Run main.now (map string_bytes names.now))) (F.faults files.old) (F.faults files.new) }
+    ensures front { result ≡ 4 → WroteFront (F.contents files.old) (Some (Run main.now (map string_bytes names.now))) (K.written out.old) (K.written out.new) }
+    ensures memory { result ≡ 5 → (K.written out.new ≡ K.written out.old) ⊎ WroteFront (F.contents files.old) (Some (Run main.now (map string_bytes names.now))) (K.written out.old) (K.written out.new) }
     ensures contents { F.contents files.new ≡ F.contents files.old }
-    ensures calls { FailedAtMost (Some (Run main.now (file.now ∷ []))) (F.faults files.old) (F.faults files.new) }
+    ensures calls { FailedAtMost (Some (Run main.now (map string_bytes names.now))) (F.faults files.old) (F.faults files.new) }
     ensures quiet { (result ≡ 0) ⊎ (result ≡ 1) → K.faults out.new ≡ K.faults out.old }
     ensures were_read { (result ≡ 0) ⊎ (result ≡ 1) ⊎ (result ≡ 4) → F.faults files.new ≡ F.faults files.old }
     ensures untouched { result ≡ 3 → out.new ≡ out.old }
-    ensures fit { result ≡ 1 → IsFit (F.contents files.old) (Some (Run main.now (file.now ∷ []))) → ⊥ }
+    ensures fit { result ≡ 1 → IsFit (F.contents files.old) (Some (Run main.now (map string_bytes names.now))) → ⊥ }
+    ensures unreported { result ≡ 0 → HasReport (F.contents files.old) (Some (Run main.now (map string_bytes names.now))) → ⊥ }
 {
-    let mut bytes = Vec::new(alloc);
-    match files.read(file, &mut bytes) {
-        Ok(()) => respond(alloc, main, bytes.as_slice(), out),
+    match read_all(alloc, names, files) {
+        Ok(read) => respond(alloc, main, names, read.as_slice(), out),
         Err(FolderFault::Failed) => 3,
         Err(FolderFault::NoMemory) => 5,
     }
@@ -76,8 +86,9 @@ fn work<F: Folder, K: TextSink>(
 /// Does what the words ask for, by itself: it takes no runtime, waits for nobody and returns. It answers the
 /// status, and None nowhere yet.
 ///
-/// The words are those after the program's name: `run --main=NAME FILE`. The status is 0 where the run's journal
-/// was written whole; 1 where a report was; 2 where the words aren't in the grammar; 3 where the file can't be
+/// The words are those after the program's name: `run --main=NAME FILE..`, with at most 1,000 files. The status is 0 where the run's journal
+/// was written whole; 1 where a report was: that a file is no class file, or the files can't be run yet, or the class
+/// is another one; 2 where the words aren't in the grammar; 3 where a file can't be
 /// read; 4 where the text can't be written; 5 for want of memory.
 pub fn kilim_alone<F: Folder, K: TextSink, G: Gate>(
     alloc: Global,
@@ -118,12 +129,15 @@ pub fn kilim_alone<F: Folder, K: TextSink, G: Gate>(
 
     // The work is done, or memory is short, where it can be done and nothing outside fails.
     ensures complete { IsFit (F.contents files.old) (request_of (map string_bytes words.now.items)) → F.faults files.new ≡ F.faults files.old → (Rose (K.faults out.old) (K.faults out.new) → ⊥) → (result ≡ Some 0) ⊎ (result ≡ Some 5) }
+
+    // The report of a stage that has a fault is written, or memory is short, where nothing outside fails.
+    ensures reported { HasReport (F.contents files.old) (request_of (map string_bytes words.now.items)) → F.faults files.new ≡ F.faults files.old → (Rose (K.faults out.old) (K.faults out.new) → ⊥) → (result ≡ Some 1) ⊎ (result ≡ Some 5) }
 {
     let _gate = gate;
     let Some(asked) = request(words.as_slice()) else {
         return Some(2);
     };
-    Some(work(alloc, asked.main, asked.file, files, out))
+    Some(work(alloc, asked.main, asked.files, files, out))
 }
 
 /// The same over files and a sink in memory in which nothing fails: the status is 0, 1, 2 or 5.
@@ -142,6 +156,7 @@ pub fn kilim_in_memory<G: Gate>(
     ensures no_read { result ≡ Some 3 → ⊥ }
     ensures no_write { result ≡ Some 4 → ⊥ }
     ensures complete { IsFit (Some (files_of files.old.files)) (request_of (map string_bytes words.now.items)) → (result ≡ Some 0) ⊎ (result ≡ Some 5) }
+    ensures reported { HasReport (Some (files_of files.old.files)) (request_of (map string_bytes words.now.items)) → (result ≡ Some 1) ⊎ (result ≡ Some 5) }
     ensures whole { result ≡ Some 0 → WroteRun (Some (files_of files.old.files)) (request_of (map string_bytes words.now.items)) (Some out.old.bytes) (Some out.new.bytes) }
     ensures report { result ≡ Some 1 → WroteReport (Some (files_of files.old.files)) (request_of (map string_bytes words.now.items)) (Some out.old.bytes) (Some out.new.bytes) }
     ensures usage { (result ≡ Some 2) ↔ (request_of (map string_bytes words.now.items) ≡ None) }
@@ -190,6 +205,9 @@ pub fn kilim<R: Threads + Wait + Sync, F: Folder, K: TextSink, G: Gate>(
 
     // The work is done, or memory is short, where it can be done and nothing outside fails.
     ensures complete { IsFit (F.contents files.old) (request_of (map string_bytes words.now.items)) → F.faults files.new ≡ F.faults files.old → (Rose (K.faults out.old) (K.faults out.new) → ⊥) → (result ≡ 0) ⊎ (result ≡ 5) }
+
+    // The report of a stage that has a fault is written, or memory is short, where nothing outside fails.
+    ensures reported { HasReport (F.contents files.old) (request_of (map string_bytes words.now.items)) → F.faults files.new ≡ F.faults files.old → (Rose (K.faults out.old) (K.faults out.new) → ⊥) → (result ≡ 1) ⊎ (result ≡ 5) }
 {
     let _rt = rt;
     kilim_alone(alloc, words, files, out, gate).unwrap()

@@ -1,6 +1,7 @@
 use Rattle.std.proofs.Common.{ap, sym, ◌∙◌, inr}
 use Rattle.kilim_mutf8.specs.Text.{placed}
 use Rattle.kilim_mutf8.proofs.Texts.{all_read, none_left, has_fault, no_text, same_fault, one_more, shorter, filled, emptied, place}
+use Rattle.kilim_mutf8.proofs.Wholes.{all_units, no_units}
 use Rattle.kilim_mutf8.proofs.reading.read.Goals as goal
 
 pub loop-rest-smaller : goal.loop-rest-smaller
@@ -28,3 +29,12 @@ returns-clause-only c = λ units fit e.
 pub returns-clause-first : goal.returns-clause-first
 returns-clause-first c = λ fault h.
     none_left c.args.bytes.now c.loop-rest.units.items c.loop-rest.rest.now c.loop-rest.invariant.parts c.loop-rest.invariant.fit (emptied c.loop-rest.rest.now c.loop-rest-test.ensures) fault h
+
+pub returns-in-Err-clause-units : goal.returns-in-Err-clause-units
+returns-in-Err-clause-units c =
+    inr (no_units c.args.bytes.now c.loop-rest.units.items c.loop-rest.rest.now c.loop-rest.invariant.parts c.loop-rest.invariant.fit c.in-Err.fault c.in-Err.ensures
+    (filled c.loop-rest.rest.now c.is_empty.result c.is_empty.ensures c.loop-rest-test.true))
+
+pub returns-clause-units : goal.returns-clause-units
+returns-clause-units c =
+    rw c.from_vec.ensures (all_units c.args.bytes.now c.loop-rest.units.items c.loop-rest.rest.now c.loop-rest.invariant.parts c.loop-rest.invariant.fit (emptied c.loop-rest.rest.now c.loop-rest-test.ensures))

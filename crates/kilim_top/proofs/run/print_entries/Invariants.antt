@@ -1,7 +1,6 @@
 use Rattle.std.proofs.Common.{◌≡◌, map, take}
 use Rattle.kilim_thread_model.specs.Small.{print_entry}
-use Rattle.kilim_top.specs.SmallFile.{printed_numbers}
 use Rattle.kilim_top.proofs.run.print_entries.Given as goal
 
 abbrev pub invariant-loop-number : goal.invariant-loop-number
-invariant-loop-number l = l.entries.items ≡ map print_entry (printed_numbers (take l.number-index l.prints))
+invariant-loop-number l = l.entries.items ≡ map print_entry (map (λ p. p.0) (take l.number-index l.prints))

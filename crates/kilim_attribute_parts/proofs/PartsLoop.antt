@@ -1,0 +1,64 @@
+-- Reading the parts of annotations with a list of what is still to come.
+use Rattle.std.proofs.Common.{◌≡◌, ℕ, ◌-◌, ◌<◌, List, [], ◌∷◌, ◌++◌, length, replicate, Result, Ok, Err, refl, sym, ap, subst, ◌∙◌, arith}
+use Rattle.kilim_grammar.proofs.Bytes.{IsBytes}
+use Rattle.kilim_grammar.proofs.Loops.{with_front, FailsUnless}
+use Rattle.kilim_constant_pool.specs.declared.entry.Entry.{Entry}
+use Rattle.kilim_attribute_parts.specs.declared.fault.AttributeFault.{AttributeFault}
+use Rattle.kilim_attribute_parts.specs.declared.fault.AttributeFault.TheVariants.{Memory}
+use Rattle.kilim_attribute_parts.specs.declared.annotation.Asked.{Asked}
+use Rattle.kilim_attribute_parts.specs.declared.annotation.PartKind.{PartKind}
+use Rattle.kilim_attribute_parts.specs.declared.annotation.AnnotationPart.{AnnotationPart}
+use Rattle.kilim_attribute_parts.specs.Choices.{sentence_at}
+use Rattle.kilim_attribute_parts.specs.Annotations.{asked, kinds_of, asks, part_at, parts_at}
+use Rattle.kilim_attribute_parts.proofs.AnnotationFormats.{part_shorter, part_cut}
+use Rattle.kilim_attribute_parts.proofs.Pending.{pending, pending_last, first_kind}
+use Rattle.kilim_attribute_parts.proofs.Sentences.{LeadsTo, goes_on, stops, is_done}
+
+no_front : {F A : Type 0} (read : Result (List A × List ℕ) F) → with_front [] read ≡ read
+no_front (Err e) = refl
+no_front (Ok x) = refl
+
+module _ (pool : List Entry) (ends : AttributeFault) (kind : PartKind) (bytes : List ℕ) where
+  abbrev Leads : List AnnotationPart → List PartKind → List ℕ → Type 0
+  Leads front kinds rest = LeadsTo ends (part_at pool ends) asks front kinds rest (parts_at pool ends kind bytes)
+
+  pub begins : Leads [] (pending (record { kind = kind; count = 1 } ∷ [])) bytes
+  unfolding parts_at
+  begins = record { most = length bytes; room = omega arith; so_far = no_front (sentence_at ends (part_at pool ends) asks (length bytes) (kind ∷ []) bytes) }
+
+  module _ (front : List AnnotationPart) (to_come popped : List Asked) (next : Asked) (rest : List ℕ) (is : to_come ≡ popped ++ next ∷ []) (some : 0 < next.count) (leads : Leads front (pending to_come) rest) where
+    others : List PartKind
+    others = replicate (next.count - 1) next.kind ++ pending popped
+
+    next_first : pending to_come ≡ next.kind ∷ others
+    unfolding others
+    next_first = ap pending is ∙ (pending_last popped next ∙ ap (λ (kinds : List PartKind). kinds ++ pending popped) (first_kind next.kind next.count some))
+
+    leads_next : Leads front (next.kind ∷ others) rest
+    leads_next = subst (λ (kinds : List PartKind). Leads front kinds rest) next_first leads
+
+    pub fails : (e : AttributeFault) → part_at pool ends next.kind rest ≡ Err e → FailsUnless Memory e (parts_at pool ends kind bytes)
+    fails e f = stops ends (part_at pool ends) asks Memory e front next.kind others rest (parts_at pool ends kind bytes) (part_cut pool ends next.kind) f leads_next
+
+    module _ (part : AnnotationPart) (after : List ℕ) (fit : IsBytes rest) (read : part_at pool ends next.kind rest ≡ Ok (part, after)) where
+      pub behind : (length after < length rest) × IsBytes after
+      behind = part_shorter pool ends next.kind rest part after fit read
+
+      after_part : Leads (front ++ part ∷ []) (asks part ++ others) after
+      after_part = goes_on ends (part_at pool ends) asks front next.kind others rest part after (parts_at pool ends kind bytes) behind.0 read leads_next
+
+      pub leads_on : (less then_asked : Asked) (first second : List Asked) (parts : List AnnotationPart) → less ≡ record next { count = next.count - 1 } → first ≡ popped ++ less ∷ [] → then_asked ≡ asked part → second ≡ first ++ then_asked ∷ [] → parts ≡ front ++ part ∷ []
+          → Leads parts (pending second) after
+      unfolding others
+      leads_on less then_asked first second parts less_is first_is asked_is second_is parts_is =
+          let a : pending first ≡ others = ap pending first_is ∙ (pending_last popped less ∙ ap (λ (x : Asked). kinds_of x ++ pending popped) less_is) in
+          let b : pending second ≡ asks part ++ others = ap pending second_is ∙ (pending_last first then_asked ∙ (ap (λ (x : Asked). kinds_of x ++ pending first) asked_is ∙ ap (λ (kinds : List PartKind). asks part ++ kinds) a)) in
+          subst (λ (kinds : List PartKind). Leads parts kinds after) (sym b) (subst (λ (ps : List AnnotationPart). Leads ps (asks part ++ others) after) (sym parts_is) after_part)
+
+  nothing : (to_come : List Asked) → length to_come ≡ 0 → to_come ≡ []
+  nothing [] e = refl
+  nothing (x ∷ xs) e = absurd (omega arith)
+
+  pub all_read : (front : List AnnotationPart) (to_come : List Asked) (rest : List ℕ) → length to_come ≡ 0 → Leads front (pending to_come) rest → parts_at pool ends kind bytes ≡ Ok (front, rest)
+  all_read front to_come rest e leads =
+      is_done ends (part_at pool ends) asks front rest (parts_at pool ends kind bytes) (subst (λ (kinds : List PartKind). Leads front kinds rest) (ap pending (nothing to_come e)) leads)

@@ -1,0 +1,69 @@
+//! Writing the parts of annotations.
+
+ghost use Rattle.std.specs.Prelude.{◌≡◌, ◌++◌, OnOk};
+ghost use Rattle.kilim_attribute_parts.specs.Annotations.{value_tag, behind_value_tag, value_text, part_text, parts_text};
+
+use crate::annotation::AnnotationPart;
+use kilim_grammar::{push_u8, push_u16};
+use kilim_program::Seq;
+use std::alloc::AllocError;
+
+fn value_tag(part: &AnnotationPart) -> u8
+    ensures { result ≡ value_tag part.now }
+{
+    match part {
+        AnnotationPart::Constant(tag, _) => *tag,
+        AnnotationPart::EnumConstant(_, _) => b'e',
+        AnnotationPart::Class(_) => b'c',
+        AnnotationPart::Nested => b'@',
+        AnnotationPart::Array(_) => b'[',
+        _ => 0,
+    }
+}
+
+fn push_behind_value_tag(part: &AnnotationPart, into: &mut Vec<u8>) -> Result<(), AllocError>
+    ensures { OnOk result (into.new.items ≡ into.old.items ++ behind_value_tag part.now) }
+{
+    match part {
+        AnnotationPart::Constant(_, index) => push_u16(into, *index),
+        AnnotationPart::EnumConstant(class, name) => {
+            push_u16(into, *class)?;
+            push_u16(into, *name)
+        }
+        AnnotationPart::Class(descriptor) => push_u16(into, *descriptor),
+        AnnotationPart::Array(count) => push_u16(into, *count),
+        _ => Ok(()),
+    }
+}
+
+fn push_value(part: &AnnotationPart, into: &mut Vec<u8>) -> Result<(), AllocError>
+    ensures { OnOk result (into.new.items ≡ into.old.items ++ value_text part.now) }
+{
+    push_u8(into, value_tag(part))?;
+    push_behind_value_tag(part, into)
+}
+
+fn push_part(part: &AnnotationPart, into: &mut Vec<u8>) -> Result<(), AllocError>
+    ensures { OnOk result (into.new.items ≡ into.old.items ++ part_text part.now) }
+{
+    match part {
+        AnnotationPart::Parameters(count) => push_u8(into, *count),
+        AnnotationPart::Annotations(count) => push_u16(into, *count),
+        AnnotationPart::Annotation(class, count) => {
+            push_u16(into, *class)?;
+            push_u16(into, *count)
+        }
+        AnnotationPart::ElementName(name) => push_u16(into, *name),
+        _ => push_value(part, into),
+    }
+}
+
+/// Appends the text of parts of annotations (JVMS 4.7.16). For want of memory a front of it may stand at the end.
+pub fn push_parts(parts: &Seq<AnnotationPart>, into: &mut Vec<u8>) -> Result<(), AllocError>
+    ensures { OnOk result (into.new.items ≡ into.old.items ++ parts_text parts.now) }
+{
+    for part in parts.as_slice() {
+        push_part(part, into)?;
+    }
+    Ok(())
+}

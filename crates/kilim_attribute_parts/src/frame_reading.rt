@@ -1,0 +1,217 @@
+//! Reading frames.
+
+ghost use Rattle.std.specs.Prelude.{◌≡◌, ◌<◌, IfOk};
+ghost use Rattle.kilim_grammar.specs.Reader.{Reads, ReadsUnless, many};
+ghost use Rattle.kilim_attribute_parts.specs.declared.fault.AttributeFault.TheVariants.{Memory};
+ghost use Rattle.kilim_attribute_parts.specs.Frames.{type_behind, type_at, delta_and_type_at, counted_types_at, appended_at, full_at, frame_behind, frame_at, frames_at, FramesAreSized};
+
+use crate::fault::AttributeFault;
+use crate::frame::{Frame, VerificationType};
+use crate::index::{EntryKind, index_at};
+use crate::name::AttributeName;
+use kilim_constant_pool::Pool;
+use kilim_grammar::{u8_at, u16_at};
+use kilim_program::Seq;
+use std::alloc::Global;
+
+const ENDS: AttributeFault = AttributeFault::Length(AttributeName::StackMapTable);
+
+#[tactic(auto, unfolding(crate::specs::Frames::type_behind))]
+fn type_behind<'a>(
+    pool: &Pool,
+    tag: u8,
+    bytes: &'a [u8],
+) -> Result<(VerificationType, &'a [u8]), AttributeFault>
+    ensures { Reads (λ x. (x.0, x.1.now)) result (type_behind pool.now tag bytes.now) }
+{
+    if tag == 0 {
+        Ok((VerificationType::Top, bytes))
+    } else if tag == 1 {
+        Ok((VerificationType::Integer, bytes))
+    } else if tag == 2 {
+        Ok((VerificationType::Float, bytes))
+    } else if tag == 3 {
+        Ok((VerificationType::Double, bytes))
+    } else if tag == 4 {
+        Ok((VerificationType::Long, bytes))
+    } else if tag == 5 {
+        Ok((VerificationType::Null, bytes))
+    } else if tag == 6 {
+        Ok((VerificationType::UninitializedThis, bytes))
+    } else if tag == 7 {
+        let (class, rest) = index_at(pool, EntryKind::Class, ENDS, bytes)?;
+        Ok((VerificationType::Object(class), rest))
+    } else if tag == 8 {
+        let (place, rest) = u16_at(ENDS, bytes)?;
+        Ok((VerificationType::Uninitialized(place), rest))
+    } else {
+        Err(AttributeFault::FrameTag(tag))
+    }
+}
+
+#[tactic(auto, unfolding(crate::specs::Frames::type_at))]
+fn type_at<'a>(pool: &Pool, bytes: &'a [u8]) -> Result<(VerificationType, &'a [u8]), AttributeFault>
+    ensures { Reads (λ x. (x.0, x.1.now)) result (type_at pool.now bytes.now) }
+{
+    let (tag, rest) = u8_at(ENDS, bytes)?;
+    type_behind(pool, tag, rest)
+}
+
+#[tactic(auto, unfolding(crate::specs::Frames::delta_and_type_at))]
+fn delta_and_type_at<'a>(
+    pool: &Pool,
+    bytes: &'a [u8],
+) -> Result<((u16, VerificationType), &'a [u8]), AttributeFault>
+    ensures { Reads (λ x. (x.0, x.1.now)) result (delta_and_type_at pool.now bytes.now) }
+{
+    let (delta, rest) = u16_at(ENDS, bytes)?;
+    let (item, rest) = type_at(pool, rest)?;
+    Ok(((delta, item), rest))
+}
+
+fn types_at<'a>(
+    alloc: Global,
+    pool: &Pool,
+    count: u16,
+    bytes: &'a [u8],
+) -> Result<(Seq<VerificationType>, &'a [u8]), AttributeFault>
+    ensures { ReadsUnless Memory (λ x. (x.0, x.1.now)) result (many (type_at pool.now) count bytes.now) }
+{
+    let mut types = Vec::new(alloc);
+    let mut rest = bytes;
+    for _ in 0..count {
+        let (item, after) = type_at(pool, rest)?;
+        types.push(item)?;
+        rest = after;
+    }
+    Ok((Seq::from_vec(types), rest))
+}
+
+#[tactic(auto, unfolding(crate::specs::Frames::counted_types_at))]
+fn counted_types_at<'a>(
+    alloc: Global,
+    pool: &Pool,
+    bytes: &'a [u8],
+) -> Result<(Seq<VerificationType>, &'a [u8]), AttributeFault>
+    ensures { ReadsUnless Memory (λ x. (x.0, x.1.now)) result (counted_types_at pool.now bytes.now) }
+{
+    let (count, rest) = u16_at(ENDS, bytes)?;
+    types_at(alloc, pool, count, rest)
+}
+
+#[tactic(auto, unfolding(crate::specs::Frames::appended_at))]
+fn appended_at<'a>(
+    alloc: Global,
+    pool: &Pool,
+    count: u16,
+    bytes: &'a [u8],
+) -> Result<((u16, Seq<VerificationType>), &'a [u8]), AttributeFault>
+    ensures { ReadsUnless Memory (λ x. (x.0, x.1.now)) result (appended_at pool.now count bytes.now) }
+{
+    let (delta, rest) = u16_at(ENDS, bytes)?;
+    let (locals, rest) = types_at(alloc, pool, count, rest)?;
+    Ok(((delta, locals), rest))
+}
+
+#[tactic(auto, unfolding(crate::specs::Frames::full_at))]
+fn full_at<'a>(
+    alloc: Global,
+    pool: &Pool,
+    bytes: &'a [u8],
+) -> Result<
+    (
+        (u16, (Seq<VerificationType>, Seq<VerificationType>)),
+        &'a [u8],
+    ),
+    AttributeFault,
+>
+    ensures { ReadsUnless Memory (λ x. (x.0, x.1.now)) result (full_at pool.now bytes.now) }
+{
+    let (delta, rest) = u16_at(ENDS, bytes)?;
+    let (locals, rest) = counted_types_at(alloc, pool, rest)?;
+    let (stack, rest) = counted_types_at(alloc, pool, rest)?;
+    Ok(((delta, (locals, stack)), rest))
+}
+
+#[tactic(auto, unfolding(crate::specs::Frames::frame_behind))]
+fn frame_behind<'a>(
+    alloc: Global,
+    pool: &Pool,
+    tag: u8,
+    bytes: &'a [u8],
+) -> Result<(Frame, &'a [u8]), AttributeFault>
+    ensures { ReadsUnless Memory (λ x. (x.0, x.1.now)) result (frame_behind pool.now tag bytes.now) }
+{
+    if tag < 64 {
+        Ok((Frame::Same(tag), bytes))
+    } else if tag < 128 {
+        let (item, rest) = type_at(pool, bytes)?;
+        Ok((Frame::SameLocals1StackItem(tag - 64, item), rest))
+    } else if tag < 247 {
+        Err(AttributeFault::FrameTag(tag))
+    } else if tag == 247 {
+        let ((delta, item), rest) = delta_and_type_at(pool, bytes)?;
+        Ok((Frame::SameLocals1StackItemExtended(delta, item), rest))
+    } else if tag < 251 {
+        let (delta, rest) = u16_at(ENDS, bytes)?;
+        Ok((Frame::Chop(251 - tag, delta), rest))
+    } else if tag == 251 {
+        let (delta, rest) = u16_at(ENDS, bytes)?;
+        Ok((Frame::SameExtended(delta), rest))
+    } else if tag < 255 {
+        let ((delta, locals), rest) = appended_at(alloc, pool, u16::from(tag - 251), bytes)?;
+        Ok((Frame::Append(delta, locals), rest))
+    } else {
+        let ((delta, (locals, stack)), rest) = full_at(alloc, pool, bytes)?;
+        Ok((Frame::Full(delta, locals, stack), rest))
+    }
+}
+
+#[tactic(auto, unfolding(crate::specs::Frames::frame_at))]
+fn frame_at<'a>(
+    alloc: Global,
+    pool: &Pool,
+    bytes: &'a [u8],
+) -> Result<(Frame, &'a [u8]), AttributeFault>
+    ensures { ReadsUnless Memory (λ x. (x.0, x.1.now)) result (frame_at pool.now bytes.now) }
+{
+    let (tag, rest) = u8_at(ENDS, bytes)?;
+    frame_behind(alloc, pool, tag, rest)
+}
+
+fn so_many_frames_at<'a>(
+    alloc: Global,
+    pool: &Pool,
+    count: u16,
+    bytes: &'a [u8],
+) -> Result<(Seq<Frame>, &'a [u8]), AttributeFault>
+    ensures { ReadsUnless Memory (λ x. (x.0, x.1.now)) result (many (frame_at pool.now) count bytes.now) }
+{
+    let mut frames = Vec::new(alloc);
+    let mut rest = bytes;
+    for _ in 0..count {
+        let (frame, after) = frame_at(alloc, pool, rest)?;
+        frames.push(frame)?;
+        rest = after;
+    }
+    Ok((Seq::from_vec(frames), rest))
+}
+
+/// The frames at the front of the bytes of a StackMapTable (JVMS 4.7.4), a count and so many, and the bytes behind
+/// them: Length(StackMapTable) where the bytes end inside them, FrameTag where no frame or no type has such a tag,
+/// BadIndex where an Object type names no Class; whichever is the first.
+#[tactic(auto, unfolding(crate::specs::Frames::frames_at))]
+pub fn frames_at<'a>(
+    alloc: Global,
+    pool: &Pool,
+    bytes: &'a [u8],
+) -> Result<(Seq<Frame>, &'a [u8]), AttributeFault>
+    ensures read { ReadsUnless Memory (λ x. (x.0, x.1.now)) result (frames_at pool.now bytes.now) }
+
+    // They can be written.
+    ensures sized { IfOk result (λ x. FramesAreSized x.0) }
+{
+    let (count, rest) = u16_at(ENDS, bytes)?;
+    let (frames, rest) = so_many_frames_at(alloc, pool, count, rest)?;
+    Ok((frames, rest))
+}

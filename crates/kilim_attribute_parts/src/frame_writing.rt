@@ -1,0 +1,129 @@
+//! Writing frames.
+
+ghost use Rattle.std.specs.Prelude.{◌≡◌, ◌++◌, ◌<◌, ◌^◌, length, OnOk};
+ghost use Rattle.std.specs.List.{flat_map, AllByRecursion};
+ghost use Rattle.kilim_grammar.specs.Spelling.{u1, u2};
+ghost use Rattle.kilim_attribute_parts.specs.Frames.{type_tag, behind_type_tag, type_text, types_text, counted_types_text, frame_tag, behind_frame_tag, frame_text, frames_text, FrameIsSized, FramesAreSized};
+
+use crate::frame::{Frame, VerificationType};
+use kilim_grammar::{push_u8, push_u16};
+use kilim_program::Seq;
+use std::alloc::AllocError;
+
+fn type_tag(item: VerificationType) -> u8
+    ensures { result ≡ type_tag item }
+{
+    match item {
+        VerificationType::Top => 0,
+        VerificationType::Integer => 1,
+        VerificationType::Float => 2,
+        VerificationType::Double => 3,
+        VerificationType::Long => 4,
+        VerificationType::Null => 5,
+        VerificationType::UninitializedThis => 6,
+        VerificationType::Object(_) => 7,
+        VerificationType::Uninitialized(_) => 8,
+    }
+}
+
+fn push_behind_type_tag(item: VerificationType, into: &mut Vec<u8>) -> Result<(), AllocError>
+    ensures { OnOk result (into.new.items ≡ into.old.items ++ behind_type_tag item) }
+{
+    match item {
+        VerificationType::Object(class) => push_u16(into, class),
+        VerificationType::Uninitialized(place) => push_u16(into, place),
+        _ => Ok(()),
+    }
+}
+
+fn push_type(item: VerificationType, into: &mut Vec<u8>) -> Result<(), AllocError>
+    ensures { OnOk result (into.new.items ≡ into.old.items ++ type_text item) }
+{
+    push_u8(into, type_tag(item))?;
+    push_behind_type_tag(item, into)
+}
+
+fn push_types(types: &[VerificationType], into: &mut Vec<u8>) -> Result<(), AllocError>
+    ensures { OnOk result (into.new.items ≡ into.old.items ++ types_text types.now) }
+{
+    for item in types {
+        push_type(*item, into)?;
+    }
+    Ok(())
+}
+
+fn push_counted_types(types: &[VerificationType], into: &mut Vec<u8>) -> Result<(), AllocError>
+    requires { length types.now < 2 ^ 16 }
+    ensures { OnOk result (into.new.items ≡ into.old.items ++ counted_types_text types.now) }
+{
+    push_u16(into, types.len() as u16)?;
+    push_types(types, into)
+}
+
+fn frame_tag(frame: &Frame) -> u8
+    requires { FrameIsSized frame.now }
+    ensures { result ≡ frame_tag frame.now }
+{
+    match frame {
+        Frame::Same(delta) => *delta,
+        Frame::SameLocals1StackItem(delta, _) => 64 + *delta,
+        Frame::SameLocals1StackItemExtended(_, _) => 247,
+        Frame::Chop(absent, _) => 251 - *absent,
+        Frame::SameExtended(_) => 251,
+        Frame::Append(_, locals) => 251 + locals.len() as u8,
+        Frame::Full(_, _, _) => 255,
+    }
+}
+
+fn push_behind_frame_tag(frame: &Frame, into: &mut Vec<u8>) -> Result<(), AllocError>
+    requires { FrameIsSized frame.now }
+    ensures { OnOk result (into.new.items ≡ into.old.items ++ behind_frame_tag frame.now) }
+{
+    match frame {
+        Frame::Same(_) => Ok(()),
+        Frame::SameLocals1StackItem(_, item) => push_type(*item, into),
+        Frame::SameLocals1StackItemExtended(delta, item) => {
+            push_u16(into, *delta)?;
+            push_type(*item, into)
+        }
+        Frame::Chop(_, delta) => push_u16(into, *delta),
+        Frame::SameExtended(delta) => push_u16(into, *delta),
+        Frame::Append(delta, locals) => {
+            push_u16(into, *delta)?;
+            push_types(locals.as_slice(), into)
+        }
+        Frame::Full(delta, locals, stack) => {
+            push_u16(into, *delta)?;
+            push_counted_types(locals.as_slice(), into)?;
+            push_counted_types(stack.as_slice(), into)
+        }
+    }
+}
+
+fn push_frame(frame: &Frame, into: &mut Vec<u8>) -> Result<(), AllocError>
+    requires { FrameIsSized frame.now }
+    ensures { OnOk result (into.new.items ≡ into.old.items ++ frame_text frame.now) }
+{
+    push_u8(into, frame_tag(frame))?;
+    push_behind_frame_tag(frame, into)
+}
+
+fn push_each_frame(frames: &[Frame], into: &mut Vec<u8>) -> Result<(), AllocError>
+    requires { AllByRecursion FrameIsSized frames.now }
+    ensures { OnOk result (into.new.items ≡ into.old.items ++ flat_map frame_text frames.now) }
+{
+    for frame in frames {
+        push_frame(frame, into)?;
+    }
+    Ok(())
+}
+
+/// Appends the count and the text of frames (JVMS 4.7.4), each in its form. For want of memory a front of it may
+/// stand at the end.
+pub fn push_frames(frames: &Seq<Frame>, into: &mut Vec<u8>) -> Result<(), AllocError>
+    requires { FramesAreSized frames.now }
+    ensures { OnOk result (into.new.items ≡ into.old.items ++ frames_text frames.now) }
+{
+    push_u16(into, frames.len() as u16)?;
+    push_each_frame(frames.as_slice(), into)
+}

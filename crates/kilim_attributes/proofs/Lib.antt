@@ -1,0 +1,6 @@
+pub mod Loops
+pub mod Lists
+pub mod Named
+pub mod CodeFormat
+pub mod AttributeFormat
+pub mod Sized

@@ -1,0 +1,11 @@
+use Rattle.std.proofs.Common.{◌≡◌, ◌-◌}
+use Rattle.kilim_grammar.specs.Reader.{many}
+use Rattle.kilim_grammar.proofs.Loops.{with_front}
+use Rattle.kilim_attribute_parts.specs.declared.fault.AttributeFault.TheVariants as fault
+use Rattle.kilim_attribute_parts.specs.declared.name.AttributeName.TheVariants as name
+use Rattle.kilim_attribute_parts.specs.declared.index.EntryKind.TheVariants as kind
+use Rattle.kilim_attribute_parts.specs.Indices.{index_at}
+use Rattle.kilim_attributes.proofs.info_reading.classes_at.Given as goal
+
+abbrev pub invariant-loop : goal.invariant-loop
+invariant-loop l = with_front l.classes.items (many (index_at l.pool kind.Class (fault.Length name.Exceptions)) (l.count - l.counter) l.rest) ≡ many (index_at l.pool kind.Class (fault.Length name.Exceptions)) l.count l.bytes

@@ -1,0 +1,5 @@
+pub mod Lists
+pub mod Forms
+pub mod Codes
+pub mod Attributes
+pub mod Laws

@@ -1,0 +1,238 @@
+//! Reading Code attributes.
+
+ghost use Rattle.std.specs.Prelude.{◌≡◌, []};
+ghost use Rattle.kilim_grammar.specs.Reader.{Reads, ReadsUnless, many, filled};
+ghost use Rattle.kilim_attribute_parts.specs.declared.fault.AttributeFault.TheVariants as fault;
+ghost use Rattle.kilim_attribute_parts.specs.declared.name.AttributeName.TheVariants as name;
+ghost use Rattle.kilim_attribute_parts.specs.Frames.{frames_at};
+ghost use Rattle.kilim_attributes.specs.Lists.{many_after, listed};
+ghost use Rattle.kilim_attributes.specs.Forms.{unless_twice};
+ghost use Rattle.kilim_attributes.specs.Codes.{code_info_is, code_repeats, code_info_of, code_attribute_of, code_attribute_at, code_bytes_at, two_at, handler_at, handlers_at, code_at};
+
+use crate::attribute::{Code, CodeAttribute, CodeInfo, ExceptionHandler, Place};
+use crate::form::{form_at, named_bytes_at};
+use kilim_attribute_parts::{AttributeFault, AttributeName, EntryKind, Frame, frames_at, index_at};
+use kilim_constant_pool::Pool;
+use kilim_grammar::{bytes_at, u16_at, u32_at};
+use kilim_program::Seq;
+use std::alloc::Global;
+
+const ENDS: AttributeFault = AttributeFault::Length(AttributeName::Code);
+
+/// The frames that fill the bytes of a StackMapTable.
+pub fn whole_frames(alloc: Global, pool: &Pool, bytes: &[u8]) -> Result<Seq<Frame>, AttributeFault>
+    ensures { ReadsUnless fault.Memory (λ x. x) result (filled (fault.Length name.StackMapTable) (frames_at pool.now) bytes.now) }
+{
+    let (frames, rest) = frames_at(alloc, pool, bytes)?;
+    if !rest.is_empty() {
+        return Err(AttributeFault::Length(AttributeName::StackMapTable));
+    }
+    Ok(frames)
+}
+
+#[tactic(auto, unfolding(crate::specs::Codes::code_info_of))]
+fn code_info_of(
+    alloc: Global,
+    pool: &Pool,
+    form: Option<AttributeName>,
+    bytes: &[u8],
+) -> Result<CodeInfo, AttributeFault>
+    ensures { ReadsUnless fault.Memory (λ x. x) result (code_info_of pool.now form bytes.now) }
+{
+    match form {
+        Some(AttributeName::StackMapTable) => {
+            Ok(CodeInfo::StackMapTable(whole_frames(alloc, pool, bytes)?))
+        }
+        _ => Ok(CodeInfo::Raw(Seq::from_vec(Vec::from_slice(alloc, bytes)?))),
+    }
+}
+
+// Whether an attribute has a form that may stand once.
+fn is_of(form: AttributeName, attribute: &CodeAttribute) -> bool
+    ensures { result ≡ code_info_is form attribute.now.info }
+{
+    match form {
+        AttributeName::StackMapTable => matches!(attribute.info, CodeInfo::StackMapTable(_)),
+        _ => false,
+    }
+}
+
+fn code_repeats(form: AttributeName, before: &[CodeAttribute]) -> bool
+    ensures { result ≡ code_repeats form before.now }
+{
+    before.iter().any(|attribute| is_of(form, attribute))
+}
+
+fn code_unless_twice(
+    form: Option<AttributeName>,
+    before: &[CodeAttribute],
+) -> Result<Option<AttributeName>, AttributeFault>
+    ensures { Reads (λ x. x) result (unless_twice code_repeats form before.now) }
+{
+    match form {
+        Some(name) => {
+            if code_repeats(name, before) {
+                Err(AttributeFault::Twice(name))
+            } else {
+                Ok(Some(name))
+            }
+        }
+        None => Ok(None),
+    }
+}
+
+#[tactic(auto, unfolding(crate::specs::Codes::code_attribute_of))]
+fn code_attribute_of(
+    alloc: Global,
+    pool: &Pool,
+    before: &[CodeAttribute],
+    name: u16,
+    content: &[u8],
+) -> Result<CodeAttribute, AttributeFault>
+    ensures { ReadsUnless fault.Memory (λ x. x) result (code_attribute_of pool.now before.now (name, content.now)) }
+{
+    let form = form_at(pool, Place::Code, name)?;
+    let once = code_unless_twice(form, before)?;
+    let info = code_info_of(alloc, pool, once, content)?;
+    Ok(CodeAttribute {
+        attribute_name_index: name,
+        info,
+    })
+}
+
+#[tactic(auto, unfolding(crate::specs::Codes::code_attribute_at))]
+fn code_attribute_at<'a>(
+    alloc: Global,
+    pool: &Pool,
+    before: &[CodeAttribute],
+    bytes: &'a [u8],
+) -> Result<(CodeAttribute, &'a [u8]), AttributeFault>
+    ensures { ReadsUnless fault.Memory (λ x. (x.0, x.1.now)) result (code_attribute_at pool.now before.now bytes.now) }
+{
+    let ((name, content), rest) = named_bytes_at(ENDS, bytes)?;
+    let attribute = code_attribute_of(alloc, pool, before, name, content)?;
+    Ok((attribute, rest))
+}
+
+fn so_many_attributes_at<'a>(
+    alloc: Global,
+    pool: &Pool,
+    count: u16,
+    bytes: &'a [u8],
+) -> Result<(Seq<CodeAttribute>, &'a [u8]), AttributeFault>
+    ensures { ReadsUnless fault.Memory (λ x. (x.0, x.1.now)) result (many_after (code_attribute_at pool.now) [] count bytes.now) }
+{
+    let mut attributes = Vec::new(alloc);
+    let mut rest = bytes;
+    for _ in 0..count {
+        let (attribute, after) = code_attribute_at(alloc, pool, attributes.as_slice(), rest)?;
+        attributes.push(attribute)?;
+        rest = after;
+    }
+    Ok((Seq::from_vec(attributes), rest))
+}
+
+#[tactic(auto, unfolding(crate::specs::Lists::listed))]
+fn code_attributes_at<'a>(
+    alloc: Global,
+    pool: &Pool,
+    bytes: &'a [u8],
+) -> Result<(Seq<CodeAttribute>, &'a [u8]), AttributeFault>
+    ensures { ReadsUnless fault.Memory (λ x. (x.0, x.1.now)) result (listed (fault.Length name.Code) (code_attribute_at pool.now) bytes.now) }
+{
+    let (count, rest) = u16_at(ENDS, bytes)?;
+    so_many_attributes_at(alloc, pool, count, rest)
+}
+
+#[tactic(auto, unfolding(crate::specs::Codes::code_bytes_at))]
+fn code_bytes_at(alloc: Global, bytes: &[u8]) -> Result<(Seq<u8>, &[u8]), AttributeFault>
+    ensures { ReadsUnless fault.Memory (λ x. (x.0, x.1.now)) result (code_bytes_at bytes.now) }
+{
+    let (size, rest) = u32_at(ENDS, bytes)?;
+    if size > 0 && size < 65536 {
+        let (code, rest) = bytes_at(ENDS, size as usize, rest)?;
+        Ok((Seq::from_vec(Vec::from_slice(alloc, code)?), rest))
+    } else {
+        Err(ENDS)
+    }
+}
+
+fn two_at(bytes: &[u8]) -> Result<((u16, u16), &[u8]), AttributeFault>
+    ensures { Reads (λ x. (x.0, x.1.now)) result (two_at bytes.now) }
+{
+    let (first, rest) = u16_at(ENDS, bytes)?;
+    let (second, rest) = u16_at(ENDS, rest)?;
+    Ok(((first, second), rest))
+}
+
+#[tactic(auto, unfolding(crate::specs::Codes::handler_at))]
+fn handler_at<'a>(
+    pool: &Pool,
+    bytes: &'a [u8],
+) -> Result<(ExceptionHandler, &'a [u8]), AttributeFault>
+    ensures { Reads (λ x. (x.0, x.1.now)) result (handler_at pool.now bytes.now) }
+{
+    let ((start_pc, end_pc), rest) = two_at(bytes)?;
+    let (handler_pc, rest) = u16_at(ENDS, rest)?;
+    let (catch_type, rest) = index_at(pool, EntryKind::CatchType, ENDS, rest)?;
+    let handler = ExceptionHandler {
+        start_pc,
+        end_pc,
+        handler_pc,
+        catch_type,
+    };
+    Ok((handler, rest))
+}
+
+fn so_many_handlers_at<'a>(
+    alloc: Global,
+    pool: &Pool,
+    count: u16,
+    bytes: &'a [u8],
+) -> Result<(Seq<ExceptionHandler>, &'a [u8]), AttributeFault>
+    ensures { ReadsUnless fault.Memory (λ x. (x.0, x.1.now)) result (many (handler_at pool.now) count bytes.now) }
+{
+    let mut handlers = Vec::new(alloc);
+    let mut rest = bytes;
+    for _ in 0..count {
+        let (handler, after) = handler_at(pool, rest)?;
+        handlers.push(handler)?;
+        rest = after;
+    }
+    Ok((Seq::from_vec(handlers), rest))
+}
+
+#[tactic(auto, unfolding(crate::specs::Codes::handlers_at))]
+fn handlers_at<'a>(
+    alloc: Global,
+    pool: &Pool,
+    bytes: &'a [u8],
+) -> Result<(Seq<ExceptionHandler>, &'a [u8]), AttributeFault>
+    ensures { ReadsUnless fault.Memory (λ x. (x.0, x.1.now)) result (handlers_at pool.now bytes.now) }
+{
+    let (count, rest) = u16_at(ENDS, bytes)?;
+    so_many_handlers_at(alloc, pool, count, rest)
+}
+
+/// A Code attribute at the front of its bytes, and the bytes behind it.
+#[tactic(auto, unfolding(crate::specs::Codes::code_at))]
+pub fn code_at<'a>(
+    alloc: Global,
+    pool: &Pool,
+    bytes: &'a [u8],
+) -> Result<(Code, &'a [u8]), AttributeFault>
+    ensures { ReadsUnless fault.Memory (λ x. (x.0, x.1.now)) result (code_at pool.now bytes.now) }
+{
+    let ((max_stack, max_locals), rest) = two_at(bytes)?;
+    let (code, rest) = code_bytes_at(alloc, rest)?;
+    let (exception_table, rest) = handlers_at(alloc, pool, rest)?;
+    let (attributes, rest) = code_attributes_at(alloc, pool, rest)?;
+    let code = Code {
+        max_stack,
+        max_locals,
+        code,
+        exception_table,
+        attributes,
+    };
+    Ok((code, rest))
+}

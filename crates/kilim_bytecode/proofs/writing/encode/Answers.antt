@@ -1,0 +1,12 @@
+use Rattle.std.proofs.Common.{◌≡◌, ap, subst, List, length, get_or, ◌<◌, ◌∙◌}
+use Rattle.kilim_bytecode.specs.Code.{Placed, code_text}
+use Rattle.kilim_bytecode.proofs.Steps.{item_fits}
+use Rattle.kilim_bytecode.proofs.writing.encode.Goals as goal
+
+pub write_instr-requires : goal.write_instr-requires
+write_instr-requires c =
+    let code = c.args.body.now.code in
+    let at : c.as_slice-at-items.result.now ≡ code = c.as_slice-at-items.ensures in
+    let item : c.loop-at-item.result ≡ get_or code c.loop-at.at-index c.loop-at-item.result = c.loop-at-item.is ∙ ap (λ (xs : List Placed). get_or xs c.loop-at.at-index c.loop-at-item.result) at in
+    let within : c.loop-at.at-index < length code = subst (λ (xs : List Placed). c.loop-at.at-index < length xs) at c.loop-at-test.true in
+    item_fits code (length (code_text code)) c.loop-at.at-index c.loop-at-item.result item c.requires.stands within

@@ -1,0 +1,12 @@
+//! What a code array holds.
+
+use kilim_opcodes::RawInstr;
+use kilim_program::Seq;
+
+/// The instructions of a code array.
+#[derive(Clone, Debug, Drop)]
+pub struct Body {
+    /// The instructions in their order, each with its place. The first stands at 0, and each next one behind the
+    /// bytes of the one before.
+    pub code: Seq<(u32, RawInstr)>,
+}

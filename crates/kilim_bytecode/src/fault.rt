@@ -1,0 +1,42 @@
+//! Why bytes aren't a code array.
+
+ghost use Rattle.std.specs.Prelude.{◌≡◌};
+
+use kilim_opcodes::OpFault;
+use std::alloc::{AllocError, AllocFailed};
+
+/// Why bytes aren't a code array. Places are byte offsets from the first byte. The first fault of one instruction
+/// comes first, then a target that is no place, in the order of the code, and of a switch its default and then its
+/// targets in order; then the end.
+#[derive(Clone, Copy, Debug, PartialEq, Eq)]
+pub enum CodeFault {
+    /// No instruction begins at this place, which is behind the one before. The fault in it is never want of memory.
+    Op(OpFault, u32),
+    /// The instruction at this place jumps to what is no place of an instruction.
+    MidTarget(u32, i64),
+    /// Control goes on past the last instruction, which stands at this place: it is none of goto, goto_w, the
+    /// switches and the returns. In code without instructions the place is 0.
+    FallsOff(u32),
+    /// Want of memory.
+    Memory,
+}
+
+impl From<AllocError> for CodeFault {
+    ghost use Rattle.kilim_bytecode.specs.declared.fault.CodeFault.TheVariants as fault;
+
+    ghost from_gives = { λ _ e. e ≡ fault.Memory };
+
+    fn from(_: AllocError) -> CodeFault {
+        CodeFault::Memory
+    }
+}
+
+impl<T: Drop> From<AllocFailed<T>> for CodeFault {
+    ghost use Rattle.kilim_bytecode.specs.declared.fault.CodeFault.TheVariants as fault;
+
+    ghost from_gives = { λ _ e. e ≡ fault.Memory };
+
+    fn from(_: AllocFailed<T>) -> CodeFault {
+        CodeFault::Memory
+    }
+}

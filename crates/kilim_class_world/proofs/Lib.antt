@@ -1,0 +1,8 @@
+mod ClassA
+mod SmallFiles
+mod MoreFiles
+mod Decoding
+mod First
+mod MorePrograms
+mod Agreeing
+mod Parts

@@ -1,0 +1,14 @@
+pub mod Annotations
+pub mod World
+pub mod Types
+pub mod Qualified
+pub mod Code
+pub mod Frames
+pub mod Linked
+pub mod Mentions
+pub mod Faults
+pub mod Examples
+pub mod Details
+pub mod Laws
+pub mod Programs
+pub mod Agreement

@@ -1,0 +1,154 @@
+-- What a class file names, in the order of its bytes: the superclass, the interfaces, the fields' descriptors, then for
+-- each method its descriptor, its code and its frames. Code that has a fault names nothing, nor does an index that names
+-- no entry of a kind that its instruction takes. Entries of the pool that nothing refers to name nothing.
+use Rattle.std.specs.Prelude.{ℕ, suc, Bool, false, ◌==◌, if◌then◌else◌, List, [], ◌∷◌, ◌++◌, map, Option, Some, None, Result, Ok, Err}
+use Rattle.std.specs.List.{flat_map}
+use Rattle.kilim_attribute_parts.specs.declared.frame.Frame.{Frame as FrameForm}
+use Rattle.kilim_attribute_parts.specs.declared.frame.Frame.TheVariants.{SameLocals1StackItem, SameLocals1StackItemExtended, Append, Full}
+use Rattle.kilim_attribute_parts.specs.declared.frame.VerificationType.{VerificationType}
+use Rattle.kilim_attribute_parts.specs.declared.frame.VerificationType.TheVariants as entry
+use Rattle.kilim_attributes.specs.declared.attribute.Code.{Code}
+use Rattle.kilim_bytecode.specs.declared.fault.CodeFault.{CodeFault}
+use Rattle.kilim_bytecode.specs.Code.{Placed}
+use Rattle.kilim_classfile.specs.declared.class_file.ClassFile.{ClassFile}
+use Rattle.kilim_classfile.specs.declared.class_file.MemberInfo.{MemberInfo}
+use Rattle.kilim_constant_pool.specs.declared.entry.Entry.{Entry}
+use Rattle.kilim_descriptors.specs.declared.types.BaseText.TheVariants as text
+use Rattle.kilim_descriptors.specs.declared.types.FieldText.{FieldText}
+use Rattle.kilim_opcodes.specs.declared.instr.RawInstr.{RawInstr}
+use Rattle.kilim_program.specs.Names.{◌>>=◌}
+use Rattle.kilim_class_world.specs.World.{acc_static, has_flag, super_name, interface_names, member_descriptor, class_text}
+use Rattle.kilim_class_world.specs.Types.{Named, AClass, AnArray, Malformed, named_by, field_text, method_text, type_names, types_of_field, types_of_method}
+use Rattle.kilim_class_world.specs.Code.{MemberRef, Operand, AConstant, AField, AMethod, AType, index_in, operand_at, decoded}
+use Rattle.kilim_class_world.specs.Frames.{tables_in}
+use Rattle.kilim_class_world.specs.Linked.{code_attribute}
+
+pub data Mention : Type 0 where
+  -- a class, or an array by its descriptor
+  OfClass : (class : Named) → Mention
+  -- an array of such elements
+  OfElement : (class : Named) → Mention
+  -- the descriptor of a field, and that of a method with the slots that its arguments take beside it
+  OfField : (descriptor : List ℕ) → Mention
+  OfMethod : (slots : ℕ) (descriptor : List ℕ) → Mention
+  -- a float or double type of a frame
+  OfFloat : Mention
+
+-- ---- in code
+
+-- the instructions of a method's code that has no fault
+abbrev pub instrs_if : Result (List Placed) CodeFault → List Placed
+instrs_if (Ok code) = code
+instrs_if (Err fault) = []
+
+abbrev pub instrs_in : Option Code → List Placed
+instrs_in None = []
+instrs_in (Some code) = instrs_if (decoded code.code)
+
+abbrev pub instrs_of : MemberInfo → List Placed
+instrs_of method = instrs_in (code_attribute method)
+
+-- the number of an instruction and what its index names
+abbrev pub operand_of : List Entry → RawInstr → Option Operand
+operand_of pool instr = index_in instr >>= operand_at pool
+
+-- the elements of an array that is made: `anewarray`
+abbrev pub is_anewarray : Option (ℕ × ℕ) → Bool
+is_anewarray None = false
+is_anewarray (Some x) = x.0 == 189
+
+-- the owner first, and then the descriptor
+abbrev pub mentions_of_operand : Bool → Option Operand → List Mention
+mentions_of_operand makes_array None = []
+mentions_of_operand makes_array (Some (AConstant value)) = []
+mentions_of_operand makes_array (Some (AField member)) = OfClass (named_by member.owner) ∷ OfField member.descriptor ∷ []
+mentions_of_operand makes_array (Some (AMethod member)) = OfClass (named_by member.owner) ∷ OfMethod 0 member.descriptor ∷ []
+mentions_of_operand makes_array (Some (AType class)) = if makes_array then OfElement class ∷ [] else OfClass class ∷ []
+
+abbrev pub mentions_of_instr : List Entry → RawInstr → List Mention
+mentions_of_instr pool instr = mentions_of_operand (is_anewarray (index_in instr)) (operand_of pool instr)
+
+-- the members that code names, a field or a method, in order
+pub data Member : Type 0 where
+  Field : (member : MemberRef) → Member
+  Method : (member : MemberRef) → Member
+
+abbrev pub members_of_operand : Option Operand → List Member
+members_of_operand (Some (AField member)) = Field member ∷ []
+members_of_operand (Some (AMethod member)) = Method member ∷ []
+members_of_operand _ = []
+
+unfoldable pub members_named : ClassFile → List Member
+members_named file = flat_map (λ m. flat_map (λ p. members_of_operand (operand_of file.constant_pool p.1)) (instrs_of m)) file.methods
+
+-- ---- in frames, the locals before the stack
+
+abbrev pub slots_of_frame : FrameForm → List VerificationType
+slots_of_frame (SameLocals1StackItem delta item) = item ∷ []
+slots_of_frame (SameLocals1StackItemExtended delta item) = item ∷ []
+slots_of_frame (Append delta locals) = locals
+slots_of_frame (Full delta locals stack) = locals ++ stack
+slots_of_frame _ = []
+
+abbrev pub mentions_of_slot : List Entry → VerificationType → List Mention
+mentions_of_slot pool (entry.Object class) = OfClass (named_by (class_text pool class)) ∷ []
+mentions_of_slot pool entry.Float = OfFloat ∷ []
+mentions_of_slot pool entry.Double = OfFloat ∷ []
+mentions_of_slot pool _ = []
+
+abbrev pub frames_if : Option Code → List FrameForm
+frames_if None = []
+frames_if (Some code) = tables_in code
+
+-- ---- in a file
+
+-- `this` is an argument of an instance method
+abbrev pub this_slots : MemberInfo → ℕ
+this_slots method = if has_flag acc_static method.access_flags then 0 else 1
+
+abbrev pub mentions_of_method : ClassFile → MemberInfo → List Mention
+mentions_of_method file method =
+    OfMethod (this_slots method) (member_descriptor file method)
+    ∷ (flat_map (λ p. mentions_of_instr file.constant_pool p.1) (instrs_of method)
+    ++ flat_map (λ f. flat_map (mentions_of_slot file.constant_pool) (slots_of_frame f)) (frames_if (code_attribute method)))
+
+unfoldable pub mentions_of : ClassFile → List Mention
+mentions_of file =
+    OfClass (AClass (super_name file))
+    ∷ (map (λ name. OfClass (AClass name)) (interface_names file)
+    ++ (map (λ f. OfField (member_descriptor file f)) file.fields
+    ++ flat_map (mentions_of_method file) file.methods))
+
+-- ---- what mentions come to
+
+-- the types in it, by their texts
+abbrev pub named_types : Named → List FieldText
+named_types (AClass name) = []
+named_types (AnArray type) = type ∷ []
+named_types (Malformed name) = []
+
+abbrev pub element_types : Named → List FieldText
+element_types (AClass name) = record { dims = 1; base = text.Class name } ∷ []
+element_types (AnArray type) = record type { dims = suc type.dims } ∷ []
+element_types (Malformed name) = []
+
+abbrev pub types_mentioned : Mention → List FieldText
+types_mentioned (OfClass class) = named_types class
+types_mentioned (OfElement class) = element_types class
+types_mentioned (OfField descriptor) = types_of_field (field_text descriptor)
+types_mentioned (OfMethod slots descriptor) = types_of_method (method_text descriptor)
+types_mentioned OfFloat = []
+
+-- the names of classes in it
+abbrev pub plain_names : Mention → List (List ℕ)
+plain_names (OfClass (AClass name)) = name ∷ []
+plain_names _ = []
+
+abbrev pub names_mentioned : Mention → List (List ℕ)
+names_mentioned mention = plain_names mention ++ flat_map type_names (types_mentioned mention)
+
+unfoldable pub class_names : ClassFile → List (List ℕ)
+class_names file = flat_map names_mentioned (mentions_of file)
+
+unfoldable pub all_types : ClassFile → List FieldText
+all_types file = flat_map types_mentioned (mentions_of file)

@@ -1,0 +1,113 @@
+-- Types by the texts of descriptors and class names, and what they are in a program.
+use Rattle.std.specs.Prelude.{ℕ, ◌==◌, if◌then◌else◌, List, [], ◌∷◌, ◌++◌, Option, Some, None, option_map, Result, Ok, Err}
+use Rattle.kilim_descriptors.specs.declared.types.BaseText.{BaseText}
+use Rattle.kilim_descriptors.specs.declared.types.BaseText.TheVariants as text
+use Rattle.kilim_descriptors.specs.declared.types.FieldText.{FieldText}
+use Rattle.kilim_descriptors.specs.declared.types.MethodText.{MethodText}
+use Rattle.kilim_descriptors.specs.Reading.{whole_field, whole_method}
+use Rattle.kilim_program.specs.declared.names.ClassId.{ClassId}
+use Rattle.kilim_program.specs.declared.ty.Base.{Base}
+use Rattle.kilim_program.specs.declared.ty.Base.TheVariants as base
+use Rattle.kilim_program.specs.declared.ty.Ty.{Ty}
+use Rattle.kilim_class_world.specs.World.{World, class_of}
+
+-- what a text reads as, if it is a descriptor
+abbrev pub read_as : {A : Type 0} → Result A ℕ → Option A
+read_as (Ok x) = Some x
+read_as (Err left) = None
+
+abbrev pub field_text : List ℕ → Option FieldText
+field_text units = read_as (whole_field units)
+
+abbrev pub method_text : List ℕ → Option MethodText
+method_text units = read_as (whole_method units)
+
+-- ---- what a class entry names (JVMS 4.4.1)
+
+pub data Named : Type 0 where
+  AClass : (name : List ℕ) → Named
+  AnArray : (type : FieldText) → Named
+  -- it begins as an array's descriptor, and is none
+  Malformed : (name : List ℕ) → Named
+
+abbrev pub array_or_malformed : List ℕ → Option FieldText → Named
+array_or_malformed name None = Malformed name
+array_or_malformed name (Some type) = AnArray type
+
+abbrev pub named_by : List ℕ → Named
+named_by [] = AClass []
+named_by (u ∷ us) = if u == 91 then array_or_malformed (u ∷ us) (field_text (u ∷ us)) else AClass (u ∷ us)
+
+-- ---- in a program; there are no float and double types in one
+
+abbrev pub base_in : World → BaseText → Option Base
+base_in w text.Bool = Some base.Bool
+base_in w text.Byte = Some base.Byte
+base_in w text.Char = Some base.Char
+base_in w text.Short = Some base.Short
+base_in w text.Int = Some base.Int
+base_in w text.Long = Some base.Long
+base_in w text.Float = None
+base_in w text.Double = None
+base_in w (text.Class name) = option_map base.Class (class_of w name)
+
+abbrev pub typed : ℕ → Base → Ty
+typed dims b = record { dims = dims; base = b }
+
+abbrev pub type_in : World → FieldText → Option Ty
+type_in w f = option_map (typed f.dims) (base_in w f.base)
+
+-- all of them, where there are all
+abbrev pub with_first : {A : Type 0} → Option A → Option (List A) → Option (List A)
+with_first (Some x) (Some xs) = Some (x ∷ xs)
+with_first _ _ = None
+
+abbrev pub each_of : {A B : Type 0} → (A → Option B) → List A → Option (List B)
+each_of make [] = Some []
+each_of make (x ∷ xs) = with_first (make x) (each_of make xs)
+
+abbrev pub itself : {A : Type 0} → A → A
+itself x = x
+
+abbrev pub types_in : World → List FieldText → Option (List Ty)
+types_in w fs = each_of (type_in w) fs
+
+abbrev pub result_in : World → Option FieldText → Option (Option Ty)
+result_in w None = Some None
+result_in w (Some f) = option_map Some (type_in w f)
+
+-- the type that a class entry names
+abbrev pub type_named : World → Named → Option Ty
+type_named w (AClass name) = option_map (λ c. typed 0 (base.Class c)) (class_of w name)
+type_named w (AnArray type) = type_in w type
+type_named w (Malformed name) = None
+
+-- a class, and no array
+abbrev pub class_named_by : World → Named → Option ClassId
+class_named_by w (AClass name) = class_of w name
+class_named_by w _ = None
+
+-- ---- the class names in types
+
+abbrev pub base_names : BaseText → List (List ℕ)
+base_names (text.Class name) = name ∷ []
+base_names b = []
+
+abbrev pub type_names : FieldText → List (List ℕ)
+type_names f = base_names f.base
+
+abbrev pub result_types : Option FieldText → List FieldText
+result_types None = []
+result_types (Some f) = f ∷ []
+
+-- the types of a method's descriptor in order
+abbrev pub method_types : MethodText → List FieldText
+method_types m = m.params ++ result_types m.result
+
+abbrev pub types_of_field : Option FieldText → List FieldText
+types_of_field None = []
+types_of_field (Some f) = f ∷ []
+
+abbrev pub types_of_method : Option MethodText → List FieldText
+types_of_method None = []
+types_of_method (Some m) = method_types m

@@ -1,0 +1,2 @@
+pub mod ClassFormat
+pub mod WholeClass

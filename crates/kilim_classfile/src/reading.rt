@@ -1,0 +1,356 @@
+//! Bytes to a class file.
+
+ghost use Rattle.std.specs.Prelude.{◌≡◌, ◌⊎◌, ◌++◌, List, ℕ, length, IfOk, IfErr, MatchResult};
+ghost use Rattle.kilim_grammar.specs.Reader.{Reads, ReadsUnless, counted, many};
+ghost use Rattle.kilim_grammar.specs.Format.{Format};
+ghost use Rattle.kilim_constant_pool.specs.Entries.{is_utf8, is_class};
+ghost use Rattle.kilim_attributes.specs.declared.attribute.Place.TheVariants as place;
+ghost use Rattle.kilim_classfile.specs.declared.class_file.ClassFile.{ClassFile};
+ghost use Rattle.kilim_classfile.specs.declared.fault.ClassFault.{ClassFault};
+ghost use Rattle.kilim_classfile.specs.declared.fault.ClassFault.TheVariants as fault;
+ghost use Rattle.kilim_classfile.specs.Text.{class_text, ClassFits, size_limit};
+ghost use Rattle.kilim_classfile.specs.Law.{ClassFilesAreSpelled, PartsAreSpelled};
+ghost use Rattle.kilim_classfile.specs.Reading.{pool_fault, attribute_fault, u2_at, index_at, class_index_at, utf8_index_at, attributes_in, member_at, field_at, method_at, magic_at, version_at, front_at, names_at, lists_at, class_at, read_class};
+
+use crate::class_file::{ClassFile, MemberInfo};
+use crate::fault::ClassFault;
+use crate::members::{has_its_code, is_class, is_utf8, name_of};
+use kilim_attributes::{Attribute, AttributeFault, Place, read_all};
+use kilim_constant_pool::{Pool, PoolFault};
+use kilim_grammar::{u16_at, u32_at};
+use kilim_program::Seq;
+use std::alloc::Global;
+
+fn pool_fault(len: usize, fault: PoolFault) -> ClassFault
+    ensures { result ≡ pool_fault len fault }
+{
+    match fault {
+        PoolFault::Cut => ClassFault::Cut(len),
+        PoolFault::Memory => ClassFault::Memory,
+        PoolFault::Tag(_, _) | PoolFault::BadIndex(_) | PoolFault::Text(_) => {
+            ClassFault::Pool(fault)
+        }
+    }
+}
+
+fn attribute_fault(len: usize, fault: AttributeFault) -> ClassFault
+    ensures { result ≡ attribute_fault len fault }
+{
+    match fault {
+        AttributeFault::Cut => ClassFault::Cut(len),
+        AttributeFault::Memory => ClassFault::Memory,
+        AttributeFault::Length(_)
+        | AttributeFault::FrameTag(_)
+        | AttributeFault::BadIndex(_)
+        | AttributeFault::Twice(_) => ClassFault::Attribute(fault),
+    }
+}
+
+fn u2_at(len: usize, bytes: &[u8]) -> Result<(u16, &[u8]), ClassFault>
+    ensures { Reads (λ x. (x.0, x.1.now)) result (u2_at len bytes.now) }
+{
+    u16_at(ClassFault::Cut(len), bytes)
+}
+
+#[tactic(auto, unfolding(crate::specs::Reading::index_at))]
+fn class_index_at<'a>(
+    len: usize,
+    pool: &Pool,
+    bytes: &'a [u8],
+) -> Result<(u16, &'a [u8]), ClassFault>
+    ensures { Reads (λ x. (x.0, x.1.now)) result (class_index_at len pool.now bytes.now) }
+{
+    let (index, rest) = u2_at(len, bytes)?;
+    if is_class(pool.entry(index)) {
+        Ok((index, rest))
+    } else {
+        Err(ClassFault::Pool(PoolFault::BadIndex(index)))
+    }
+}
+
+#[tactic(auto, unfolding(crate::specs::Reading::index_at))]
+fn utf8_index_at<'a>(
+    len: usize,
+    pool: &Pool,
+    bytes: &'a [u8],
+) -> Result<(u16, &'a [u8]), ClassFault>
+    ensures { Reads (λ x. (x.0, x.1.now)) result (utf8_index_at len pool.now bytes.now) }
+{
+    let (index, rest) = u2_at(len, bytes)?;
+    if is_utf8(pool.entry(index)) {
+        Ok((index, rest))
+    } else {
+        Err(ClassFault::Pool(PoolFault::BadIndex(index)))
+    }
+}
+
+fn attributes_in<'a>(
+    alloc: Global,
+    len: usize,
+    pool: &Pool,
+    place: Place,
+    bytes: &'a [u8],
+) -> Result<(Seq<Attribute>, &'a [u8]), ClassFault>
+    ensures { ReadsUnless fault.Memory (λ x. (x.0, x.1.now)) result (attributes_in len pool.now place bytes.now) }
+{
+    match read_all(alloc, pool, bytes, place) {
+        Ok((attributes, end)) => Ok((attributes, bytes.split_at(end).1)),
+        Err(fault) => Err(attribute_fault(len, fault)),
+    }
+}
+
+#[tactic(auto, unfolding(crate::specs::Reading::member_at))]
+fn member_at<'a>(
+    alloc: Global,
+    len: usize,
+    pool: &Pool,
+    place: Place,
+    bytes: &'a [u8],
+) -> Result<(MemberInfo, &'a [u8]), ClassFault>
+    ensures { ReadsUnless fault.Memory (λ x. (x.0, x.1.now)) result (member_at len pool.now place bytes.now) }
+{
+    let (access_flags, rest) = u2_at(len, bytes)?;
+    let (name_index, rest) = utf8_index_at(len, pool, rest)?;
+    let (descriptor_index, rest) = utf8_index_at(len, pool, rest)?;
+    let (attributes, rest) = attributes_in(alloc, len, pool, place, rest)?;
+    let member = MemberInfo {
+        access_flags,
+        name_index,
+        descriptor_index,
+        attributes,
+    };
+    Ok((member, rest))
+}
+
+#[tactic(auto, unfolding(crate::specs::Reading::method_at))]
+fn method_at<'a>(
+    alloc: Global,
+    len: usize,
+    pool: &Pool,
+    bytes: &'a [u8],
+) -> Result<(MemberInfo, &'a [u8]), ClassFault>
+    ensures { ReadsUnless fault.Memory (λ x. (x.0, x.1.now)) result (method_at len pool.now bytes.now) }
+{
+    let (method, rest) = member_at(alloc, len, pool, Place::Method, bytes)?;
+    if has_its_code(&method) {
+        Ok((method, rest))
+    } else {
+        Err(ClassFault::CodePresence(name_of(alloc, pool, &method)?))
+    }
+}
+
+fn so_many_classes_at<'a>(
+    alloc: Global,
+    len: usize,
+    pool: &Pool,
+    count: u16,
+    bytes: &'a [u8],
+) -> Result<(Seq<u16>, &'a [u8]), ClassFault>
+    ensures { ReadsUnless fault.Memory (λ x. (x.0, x.1.now)) result (many (class_index_at len pool.now) count bytes.now) }
+{
+    let mut classes = Vec::new(alloc);
+    let mut rest = bytes;
+    for _ in 0..count {
+        let (class, after) = class_index_at(len, pool, rest)?;
+        classes.push(class)?;
+        rest = after;
+    }
+    Ok((Seq::from_vec(classes), rest))
+}
+
+fn so_many_fields_at<'a>(
+    alloc: Global,
+    len: usize,
+    pool: &Pool,
+    count: u16,
+    bytes: &'a [u8],
+) -> Result<(Seq<MemberInfo>, &'a [u8]), ClassFault>
+    ensures { ReadsUnless fault.Memory (λ x. (x.0, x.1.now)) result (many (field_at len pool.now) count bytes.now) }
+{
+    let mut fields = Vec::new(alloc);
+    let mut rest = bytes;
+    for _ in 0..count {
+        let (field, after) = member_at(alloc, len, pool, Place::Field, rest)?;
+        fields.push(field)?;
+        rest = after;
+    }
+    Ok((Seq::from_vec(fields), rest))
+}
+
+fn so_many_methods_at<'a>(
+    alloc: Global,
+    len: usize,
+    pool: &Pool,
+    count: u16,
+    bytes: &'a [u8],
+) -> Result<(Seq<MemberInfo>, &'a [u8]), ClassFault>
+    ensures { ReadsUnless fault.Memory (λ x. (x.0, x.1.now)) result (many (method_at len pool.now) count bytes.now) }
+{
+    let mut methods = Vec::new(alloc);
+    let mut rest = bytes;
+    for _ in 0..count {
+        let (method, after) = method_at(alloc, len, pool, rest)?;
+        methods.push(method)?;
+        rest = after;
+    }
+    Ok((Seq::from_vec(methods), rest))
+}
+
+#[tactic(auto, unfolding(crate::specs::Reading::magic_at))]
+fn magic_at(len: usize, bytes: &[u8]) -> Result<(u32, &[u8]), ClassFault>
+    ensures { Reads (λ x. (x.0, x.1.now)) result (magic_at len bytes.now) }
+{
+    let (magic, rest) = u32_at(ClassFault::Cut(len), bytes)?;
+    if magic == 0xCAFE_BABE {
+        Ok((magic, rest))
+    } else {
+        Err(ClassFault::Magic)
+    }
+}
+
+#[tactic(auto, unfolding(crate::specs::Reading::version_at))]
+fn version_at(len: usize, bytes: &[u8]) -> Result<((u16, u16), &[u8]), ClassFault>
+    ensures { Reads (λ x. (x.0, x.1.now)) result (version_at len bytes.now) }
+{
+    let (minor, rest) = u2_at(len, bytes)?;
+    let (major, rest) = u2_at(len, rest)?;
+    if minor == 0 && major == 52 {
+        Ok(((minor, major), rest))
+    } else {
+        Err(ClassFault::Version(major, minor))
+    }
+}
+
+type Front = ((u32, (u16, u16)), Pool);
+
+#[tactic(auto, unfolding(crate::specs::Reading::front_at))]
+fn front_at(alloc: Global, len: usize, bytes: &[u8]) -> Result<(Front, &[u8]), ClassFault>
+    ensures { ReadsUnless fault.Memory (λ x. (x.0, x.1.now)) result (front_at len bytes.now) }
+{
+    let (magic, rest) = magic_at(len, bytes)?;
+    let (version, rest) = version_at(len, rest)?;
+    match Pool::read(alloc, rest) {
+        Ok((pool, end)) => Ok((((magic, version), pool), rest.split_at(end).1)),
+        Err(fault) => Err(pool_fault(len, fault)),
+    }
+}
+
+#[tactic(auto, unfolding(crate::specs::Reading::names_at))]
+fn names_at<'a>(
+    len: usize,
+    pool: &Pool,
+    bytes: &'a [u8],
+) -> Result<((u16, (u16, u16)), &'a [u8]), ClassFault>
+    ensures { Reads (λ x. (x.0, x.1.now)) result (names_at len pool.now bytes.now) }
+{
+    let (access_flags, rest) = u2_at(len, bytes)?;
+    let (this_class, rest) = class_index_at(len, pool, rest)?;
+    let (super_class, rest) = class_index_at(len, pool, rest)?;
+    Ok(((access_flags, (this_class, super_class)), rest))
+}
+
+type Lists = (
+    (Seq<u16>, Seq<MemberInfo>),
+    (Seq<MemberInfo>, Seq<Attribute>),
+);
+
+#[tactic(auto, unfolding(crate::specs::Reading::lists_at))]
+fn lists_at<'a>(
+    alloc: Global,
+    len: usize,
+    pool: &Pool,
+    bytes: &'a [u8],
+) -> Result<(Lists, &'a [u8]), ClassFault>
+    ensures { ReadsUnless fault.Memory (λ x. (x.0, x.1.now)) result (lists_at len pool.now bytes.now) }
+{
+    let (count, rest) = u2_at(len, bytes)?;
+    let (interfaces, rest) = so_many_classes_at(alloc, len, pool, count, rest)?;
+    let (count, rest) = u2_at(len, rest)?;
+    let (fields, rest) = so_many_fields_at(alloc, len, pool, count, rest)?;
+    let (count, rest) = u2_at(len, rest)?;
+    let (methods, rest) = so_many_methods_at(alloc, len, pool, count, rest)?;
+    let (attributes, rest) = attributes_in(alloc, len, pool, Place::Class, rest)?;
+    Ok((((interfaces, fields), (methods, attributes)), rest))
+}
+
+#[tactic(auto, unfolding(crate::specs::Reading::class_at))]
+fn class_at(alloc: Global, len: usize, bytes: &[u8]) -> Result<(ClassFile, &[u8]), ClassFault>
+    ensures { ReadsUnless fault.Memory (λ x. (x.0, x.1.now)) result (class_at len bytes.now) }
+{
+    let (((_, version), pool), rest) = front_at(alloc, len, bytes)?;
+    let (names, rest) = names_at(len, &pool, rest)?;
+    let (((interfaces, fields), (methods, attributes)), rest) = lists_at(alloc, len, &pool, rest)?;
+    let file = ClassFile {
+        minor_version: version.0,
+        major_version: version.1,
+        constant_pool: pool,
+        access_flags: names.0,
+        this_class: names.1.0,
+        super_class: names.1.1,
+        interfaces,
+        fields,
+        methods,
+        attributes,
+    };
+    Ok((file, rest))
+}
+
+#[tactic(auto, unfolding(crate::specs::Text::size_limit))]
+fn size_limit() -> usize
+    ensures { result ≡ size_limit }
+{
+    16_777_216
+}
+
+// A law: what is read as the parts of a file is spelled so, and what is spelled is read again.
+fn parts_are_spelled()
+    ensures { PartsAreSpelled }
+{
+    kilim_constant_pool::pool_is_spelled();
+    kilim_attributes::attributes_are_spelled();
+}
+
+// The class file that bytes are.
+#[tactic(auto, unfolding(crate::specs::Reading::read_class))]
+fn class_of(alloc: Global, bytes: &[u8]) -> Result<ClassFile, ClassFault>
+    ensures { ReadsUnless fault.Memory (λ file. file) result (read_class bytes.now) }
+{
+    parts_are_spelled();
+    if bytes.len() > size_limit() {
+        return Err(ClassFault::TooLarge);
+    }
+    let (file, rest) = class_at(alloc, bytes.len(), bytes)?;
+    if rest.is_empty() {
+        Ok(file)
+    } else {
+        Err(ClassFault::Extra(bytes.len() - rest.len()))
+    }
+}
+
+/// The class file that bytes are, all of the bytes (JVMS 4.1), in time linear in their number.
+///
+/// It answers `Ok` exactly where the bytes are the text of a class file: at most 16,777,216 bytes, version 52.0, and
+/// nothing behind the last attribute. Else the fault is `TooLarge`, or that of the first part in file order that isn't
+/// spelled. A part that the bytes end in is `Cut`, whatever it holds.
+pub fn read(alloc: Global, bytes: &[u8]) -> Result<ClassFile, ClassFault>
+    // What is read is spelled so.
+    ensures found { IfOk result (λ file. (bytes.now ≡ class_text file) × ClassFits file) }
+
+    // What is spelled so is read.
+    ensures only { (file : ClassFile) → ClassFits file → bytes.now ≡ class_text file → MatchResult result (λ read. read ≡ file) (λ e. e ≡ fault.Memory) }
+
+    // The answer is that of reading the parts in order; of no memory it says nothing.
+    ensures reads { ReadsUnless fault.Memory (λ file. file) result (read_class bytes.now) }
+{
+    class_file_is_spelled();
+    let _bytes = bytes.first();
+    class_of(alloc, bytes)
+}
+
+/// A law, and no work: what is read as a class file is spelled so and has a text, and what is spelled is read again.
+pub fn class_file_is_spelled()
+    ensures { ClassFilesAreSpelled }
+{
+    kilim_constant_pool::pool_is_spelled();
+    kilim_attributes::attributes_are_spelled();
+}

@@ -1,0 +1,5 @@
+pub mod SlotLaws
+pub mod EntryLoop
+pub mod EntryFormat
+pub mod PoolFormat
+pub mod AddLaws

@@ -1,0 +1,5 @@
+pub mod Entries
+pub mod Spelling
+pub mod Slots
+pub mod Reading
+pub mod Adding

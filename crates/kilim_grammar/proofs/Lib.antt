@@ -1,0 +1,4 @@
+pub mod Bytes
+pub mod Formats
+pub mod Loops
+pub mod Calls

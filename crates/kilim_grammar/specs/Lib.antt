@@ -1,0 +1,3 @@
+pub mod Reader
+pub mod Spelling
+pub mod Format

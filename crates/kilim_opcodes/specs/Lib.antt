@@ -1,0 +1,4 @@
+pub mod Table
+pub mod Instr
+pub mod Reading
+pub mod Exact

@@ -1,0 +1,67 @@
+//! The files that the words name: their bytes, and the first of them that is no class file.
+
+ghost use Rattle.std.specs.Prelude.{◌≡◌, Option, None, length, map, IfOk, IfSome};
+ghost use Rattle.std.specs.String.{string_bytes};
+ghost use Rattle.kilim_outside.specs.Causes.{FolderCause};
+ghost use Rattle.kilim_outside.specs.declared.folder.FailedCall.TheVariants.{Read};
+ghost use Rattle.kilim_top.specs.Outcome.{WereRead, WasRead, IsClassReport, first_fault};
+ghost use Rattle.kilim_top.specs.Reads.{ReadsCause};
+
+use kilim_classfile::ClassFault;
+use kilim_outside::{Folder, FolderFault};
+use kilim_program::{NoMemory, Seq};
+use std::alloc::Global;
+
+#[tactic(auto, using(crate::proofs::Named::was_read))]
+fn read_one<F: Folder>(alloc: Global, name: &str, files: &mut F) -> Result<Seq<u8>, FolderFault>
+    ensures read { IfOk result (λ bytes. WasRead (F.contents files.old) name.now bytes) }
+    ensures contents { F.contents files.new ≡ F.contents files.old }
+    ensures cause { FolderCause (Read name.now) (F.faults files.old) (F.faults files.new) result }
+{
+    let mut bytes = Vec::new(alloc);
+    files.read(name, &mut bytes)?;
+    Ok(Seq::from_vec(bytes))
+}
+
+/// Reads the files of these names in order, up to the first that can't be read.
+pub fn read_all<F: Folder>(
+    alloc: Global,
+    names: &[String],
+    files: &mut F,
+) -> Result<Vec<Seq<u8>>, FolderFault>
+    ensures read { IfOk result (λ read. WereRead (F.contents files.old) (map string_bytes names.now) read.items) }
+    ensures contents { F.contents files.new ≡ F.contents files.old }
+    ensures cause { ReadsCause (map string_bytes names.now) (F.faults files.old) (F.faults files.new) result }
+{
+    let mut read = Vec::new(alloc);
+    for name in names {
+        match read_one(alloc, name.as_str(), files) {
+            Ok(bytes) => read.push(bytes)?,
+            Err(fault) => return Err(fault),
+        }
+    }
+    Ok(read)
+}
+
+/// The report of the first file that is no class file.
+pub fn class_report(
+    alloc: Global,
+    names: &[String],
+    files: &[Seq<u8>],
+) -> Result<Option<Vec<u8>>, NoMemory>
+    requires { length names.now ≡ length files.now }
+    ensures none { IfOk result (λ found. found ≡ None → first_fault (map string_bytes names.now) files.now ≡ None) }
+    ensures some { IfOk result (λ found. IfSome found (λ text. IsClassReport (map string_bytes names.now) files.now text.items)) }
+{
+    for (i, name) in names.iter().enumerate() {
+        match kilim_classfile::read(alloc, files[i].as_slice()) {
+            Ok(_) => {}
+            Err(ClassFault::Memory) => return Err(NoMemory),
+            Err(fault) => {
+                let text = kilim_reports::class_line(alloc, name.as_str(), &fault)?;
+                return Ok(Some(text));
+            }
+        }
+    }
+    Ok(None)
+}

@@ -1,0 +1,15 @@
+use Rattle.std.proofs.Common.{length, sym, refl, ap, ◌∙◌}
+use Rattle.kilim_turn.specs.Rule.{Lies}
+use Rattle.kilim_turn.proofs.Keeps.{begins}
+use Rattle.kilim_turn.proofs.Passes.{shown_all}
+use Rattle.kilim_turn.proofs.lending.Turn.open.Goals as goal
+
+pub vacant-requires : goal.vacant-requires
+vacant-requires g c = begins (Lies g.B.Cells.cells) (length (g.B.Cells.cells c.of-key.result.value)) _ _ (c.requires.seats ∙ ap (λ b. length (g.B.Cells.cells b)) (sym c.of-key.ensures)) refl
+
+pub returns-clause-cells : goal.returns-clause-cells
+returns-clause-cells g c =
+    let f = c.fill-passes.ensures in
+    let key = c.in-Ok-vacant.ensures in
+    let same = ap g.B.Cells.cells (ap (λ k. k.value) key.5 ∙ c.of-key.ensures) in
+    shown_all _ _ _ _ (f.count ∙ (c.requires.seats ∙ ap length (sym same))) f.made ∙ same

@@ -1,0 +1,11 @@
+use Rattle.std.proofs.Common.{length, arith, refl}
+use Rattle.kilim_turn.specs.Rule.{Lies}
+use Rattle.kilim_turn.proofs.Keeps.{names}
+use Rattle.kilim_turn.proofs.opening.name.Goals as goal
+
+pub load-requires : goal.load-requires
+load-requires g c = let w = c.requires.at.words in (
+  c.requires.at.same,
+  omega arith,
+  names (Lies g.B.Cells.cells) (length (g.B.Cells.cells c.args.shelf.now.key.value)) _ _ g.W.TableName.table _ _ c.requires.fresh refl c.requires.some,
+)

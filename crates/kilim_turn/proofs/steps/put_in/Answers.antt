@@ -1,0 +1,29 @@
+use Rattle.std.proofs.Common.{length, arith, ap, ◌∙◌, [], ◌∷◌}
+use Rattle.kilim_turn.specs.declared.view.View.{View}
+use Rattle.kilim_turn.specs.Views.{note_of}
+use Rattle.kilim_turn.specs.Rule.{Lies}
+use Rattle.kilim_turn.proofs.Keeps.{lays_down, gives_back}
+use Rattle.kilim_turn.proofs.Hands.{filled_is}
+use Rattle.kilim_turn.proofs.steps.put_in.Goals as goal
+
+pub split_seat-requires : goal.split_seat-requires
+split_seat-requires g c = let w = c.requires.at.words in (
+  c.requires.at.same,
+  omega arith,
+  lays_down (Lies g.B.Cells.cells) (length (g.B.Cells.cells c.args.shelf.now.key.value)) _ _ _ _ _ _ _ (ap (λ m. m.0) c.requires.inside),
+)
+
+pub store-requires : goal.store-requires
+store-requires g c =
+    let w = c.requires.at.words in
+    let n = c.requires.at.slots in
+    let h = c.into_badge-note.ensures in
+    let k = c.split_seat.ensures in
+    let x = c.exchange-left.ensures in
+    let e = c.requires.inside in (
+      x.0 ∙ (k.0 ∙ c.requires.at.same),
+      omega arith,
+      gives_back (Lies g.B.Cells.cells) (length (g.B.Cells.cells c.args.shelf.now.key.value)) _ _ _ _ _ _ _ _ (filled_is _ _ _ _ _ _ _ _ _ _ e k.2 x.3)
+          (h.0 ∙ (k.3 ∙ c.requires.at.same), h.2 ∙ ap (λ (v : View). v ∷ []) (ap (λ m. m.0) k.4 ∙ ap (λ m. note_of m.0) e))
+          (omega arith),
+    )
