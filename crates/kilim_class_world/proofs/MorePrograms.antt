@@ -17,7 +17,7 @@ use Rattle.kilim_descriptors.specs.Reading.{base_at, field_behind, field_at, par
 use Rattle.kilim_grammar.specs.Reader.{many}
 use Rattle.kilim_opcodes.specs.Reading.{target_at, zeros_at, range_at, table_at, count_at, pairs_at, lookup_at, wide_operands_at, wide_at, operands_at, instr_at, pair_at as opcodes_pair_at}
 use Rattle.kilim_opcodes.specs.Table.{rows, form_of as opcodes_form_of}
-use Rattle.kilim_program.specs.Keeps.{ids_are_places, none_is_its_ancestor, code_is_whole, members_are_owned, names_differ, method_is_sound, overriding_agrees, none_is_left_abstract, none_is_both, no_task_arrays, superclasses_fit, fields_fit, constants_fit}
+use Rattle.kilim_program.specs.Keeps.{ids_are_places, none_is_its_ancestor, code_is_whole, members_are_owned, names_differ, method_is_sound, overriding_agrees, none_is_left_abstract, none_is_both, no_task_arrays, superclasses_fit, own_classes_fit, fields_fit, constants_fit}
 use Rattle.kilim_program.specs.Lengths.{has_length, jump_targets, ends_path, code_stands, targets_stand, code_ends, places_increase}
 use Rattle.kilim_program.specs.Keeps.{Keeps}
 use Rattle.kilim_class_world.specs.Examples.{a_class, a_constructor}
@@ -32,7 +32,7 @@ unfolding types_in params_in class_text world_of qualified instrs_from decoded i
 woven_fault = refl
 
 woven_keeps : Keeps woven_program
-unfolding ids_are_places none_is_its_ancestor code_is_whole members_are_owned names_differ method_is_sound overriding_agrees none_is_left_abstract none_is_both no_task_arrays superclasses_fit fields_fit constants_fit has_length jump_targets ends_path code_stands targets_stand code_ends places_increase
+unfolding ids_are_places none_is_its_ancestor code_is_whole members_are_owned names_differ method_is_sound overriding_agrees none_is_left_abstract none_is_both no_task_arrays superclasses_fit own_classes_fit fields_fit constants_fit has_length jump_targets ends_path code_stands targets_stand code_ends places_increase
 woven_keeps = record {
   ids = refl;
   ancestors = refl;
@@ -45,6 +45,7 @@ woven_keeps = record {
   both = refl;
   task_arrays = refl;
   superclasses = refl;
+  own_classes = refl;
   fields = refl;
   overriding = refl;
   abstract_left = refl;
@@ -60,7 +61,7 @@ unfolding types_in params_in class_text world_of qualified instrs_from decoded i
 pair_fault = refl
 
 pair_keeps : Keeps pair_program
-unfolding ids_are_places none_is_its_ancestor code_is_whole members_are_owned names_differ method_is_sound overriding_agrees none_is_left_abstract none_is_both no_task_arrays superclasses_fit fields_fit constants_fit has_length jump_targets ends_path code_stands targets_stand code_ends places_increase
+unfolding ids_are_places none_is_its_ancestor code_is_whole members_are_owned names_differ method_is_sound overriding_agrees none_is_left_abstract none_is_both no_task_arrays superclasses_fit own_classes_fit fields_fit constants_fit has_length jump_targets ends_path code_stands targets_stand code_ends places_increase
 pair_keeps = record {
   ids = refl;
   ancestors = refl;
@@ -73,6 +74,7 @@ pair_keeps = record {
   both = refl;
   task_arrays = refl;
   superclasses = refl;
+  own_classes = refl;
   fields = refl;
   overriding = refl;
   abstract_left = refl;

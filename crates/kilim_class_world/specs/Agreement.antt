@@ -5,7 +5,7 @@ use Rattle.std.specs.List.{list_all}
 use Rattle.kilim_program.specs.declared.class.Form.TheVariants.{Plain}
 use Rattle.kilim_program.specs.declared.class.Method.{Method}
 use Rattle.kilim_program.specs.Program.{Program}
-use Rattle.kilim_program.specs.Keeps.{ids_are_places, none_is_its_ancestor, code_is_whole, members_are_owned, names_differ, method_is_sound, overriding_agrees, none_is_left_abstract, none_is_both, no_task_arrays, superclasses_fit, fields_fit, constants_fit}
+use Rattle.kilim_program.specs.Keeps.{ids_are_places, none_is_its_ancestor, code_is_whole, members_are_owned, names_differ, method_is_sound, overriding_agrees, none_is_left_abstract, none_is_both, no_task_arrays, superclasses_fit, own_classes_fit, fields_fit, constants_fit}
 use Rattle.kilim_program.specs.Lengths.{places_increase}
 use Rattle.kilim_program.specs.Same.{same_flag}
 use Rattle.kilim_classfile.specs.declared.class_file.ClassFile.{ClassFile}
@@ -33,10 +33,11 @@ keeps_facts p =
     && (none_is_both p
     && (no_task_arrays p
     && (superclasses_fit p
+    && (own_classes_fit p
     && (fields_fit p
     && (overriding_agrees p
     && (none_is_left_abstract p
-    && constants_fit p)))))))))))))
+    && constants_fit p))))))))))))))
 
 -- there is a program, and it keeps them, or doesn't
 abbrev pub links_well : Option Program → Bool
