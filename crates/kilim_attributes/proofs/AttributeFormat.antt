@@ -44,7 +44,7 @@ module _ (given : PartsAreSpelled) (pool : List Entry) where
 
   content_takes : (f : Option AttributeName) (bytes : List ℕ) (i : Info) → IsBytes bytes → info_of pool f bytes ≡ Ok i → InfoHolds f bytes i
   unfolding info_of whole_parts
-  content_takes None bytes i fits e = subst (λ (x : Info). InfoHolds None bytes x) (well_is {F = AttributeFault} (Raw bytes) i e) (record { spelled = refl; formed = refl; fit = tt })
+  content_takes None bytes i fits e = subst (λ (x : Info). InfoHolds None bytes x) (well_is {F = AttributeFault} (Raw bytes) i e) (record { spelled = refl; formed = refl; fit = fits })
   content_takes (Some name.ConstantValue) bytes i fits e = holds (given.indices pool kind.Constant (fault.Length name.ConstantValue)) (Some name.ConstantValue) (fault.Length name.ConstantValue) ConstantValue (λ x. refl) (λ x. refl) (λ x fit. fit) bytes i fits e
   content_takes (Some name.Code) bytes i fits e = holds (code_format given pool) (Some name.Code) (fault.Length name.Code) Code (λ x. refl) (λ x. refl) (λ x fit. fit) bytes i fits e
   content_takes (Some name.StackMapTable) bytes i fits e = holds (given.frames pool) (Some name.StackMapTable) (fault.Length name.StackMapTable) StackMapTable (λ x. refl) (λ x. refl) (λ x fit. fit) bytes i fits e
