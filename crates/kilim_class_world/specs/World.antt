@@ -23,6 +23,11 @@ use Rattle.kilim_classfile.specs.declared.class_file.ClassFile.{ClassFile}
 use Rattle.kilim_classfile.specs.declared.class_file.MemberInfo.{MemberInfo}
 use Rattle.kilim_classfile.specs.Parts.{text_of}
 use Rattle.kilim_class_world.specs.Annotations.{types_in, params_in}
+pub use Rattle.kilim_class_world.specs.declared.view.Marks.{Marks}
+pub use Rattle.kilim_class_world.specs.declared.view.Marks.TheVariants.{Stated, Annotated}
+pub use Rattle.kilim_class_world.specs.declared.view.DeclaredMethod.{DeclaredMethod}
+pub use Rattle.kilim_class_world.specs.declared.view.DeclaredField.{DeclaredField}
+pub use Rattle.kilim_class_world.specs.declared.view.ClassView.{ClassView}
 
 -- ---- names and flags of a file
 
@@ -77,43 +82,6 @@ acc_interface = 0x0200
 
 abbrev pub acc_abstract : ℕ
 acc_abstract = 0x0400
-
--- ---- members
-
--- What a method may do with what it is handed, as it is known before the kinds of classes are: of a built-in method
--- the qualifiers themselves, of another one the types of the annotations on it, and for each of its attributes of
--- parameters those on each parameter (JVMS 4.7.16 to 4.7.19).
-pub data Marks : Type 0 where
-  Stated : (receiver : Qualifier) (params : List Qualifier) → Marks
-  Annotated : (receiver : List (List ℕ)) (params : List (List (List (List ℕ)))) → Marks
-
--- a method as it is declared
-pub record DeclaredMethod : Type 0 where
-  pub name : List ℕ
-  pub descriptor : List ℕ
-  pub is_static : Bool
-  pub is_private : Bool
-  pub is_abstract : Bool
-  pub is_final : Bool
-  pub pausable : Bool
-  pub marks : Marks
-
-pub record DeclaredField : Type 0 where
-  pub name : List ℕ
-  pub descriptor : List ℕ
-
--- a class: a file's, or a built-in one
-pub record ClassView : Type 0 where
-  pub name : List ℕ
-  -- none for `java/lang/Object` alone
-  pub superclass : Option (List ℕ)
-  -- it is `kilim/Message`, or lists it as an interface
-  pub is_marked : Bool
-  pub is_abstract : Bool
-  pub is_final : Bool
-  pub is_built_in : Bool
-  pub fields : List DeclaredField
-  pub methods : List DeclaredMethod
 
 -- ---- of a file
 

@@ -3,6 +3,7 @@
 
 mod fault;
 mod laws;
+mod view;
 
 pub use fault::{LeftOutPart, LinkFault, MemberOf, Problem};
 pub use laws::{
@@ -10,3 +11,4 @@ pub use laws::{
     linked_in_parts, none_has_a_problem, none_is_named, none_of_each_kind, one_program,
     programs_are_linked,
 };
+pub use view::{ClassView, DeclaredField, DeclaredMethod, Marks};
