@@ -22,6 +22,9 @@ use Rattle.kilim_program.specs.declared.value.Value.{Value}
 use Rattle.kilim_program.specs.declared.value.Value.TheVariants.{Int, Long, Text}
 use Rattle.kilim_class_world.specs.World.{World, class_text, find_field, find_method}
 use Rattle.kilim_class_world.specs.Types.{Named, AClass, named_by, type_named, class_named_by, each_of}
+pub use Rattle.kilim_class_world.specs.declared.fault.MemberOf.{MemberOf as MemberRef}
+pub use Rattle.kilim_class_world.specs.declared.named.Operand.{Operand}
+pub use Rattle.kilim_class_world.specs.declared.named.Operand.TheVariants.{AConstant, AField, AMethod, AType}
 
 -- ---- the instructions of a code array (JVMS 4.7.3, 4.9), or its first fault
 
@@ -46,12 +49,6 @@ unfoldable pub decoded : List ℕ → Result (List Placed) CodeFault
 decoded bytes = checked_body (instrs_from (length bytes) 0 bytes)
 
 -- ---- what an index names
-
--- a class, and a member's name and descriptor
-pub record MemberRef : Type 0 where
-  pub owner : List ℕ
-  pub name : List ℕ
-  pub descriptor : List ℕ
 
 abbrev pub ref_with : List Entry → ℕ → Option Entry → Option MemberRef
 ref_with pool class (Some (entry.NameAndType name descriptor)) = Some (record { owner = class_text pool class; name = text_of pool name; descriptor = text_of pool descriptor })
@@ -87,15 +84,8 @@ constant_ref pool (Some (entry.String text)) = Some (Text (text_of pool text))
 constant_ref pool _ = None
 
 -- What the index of an instruction names: a constant, a field, a method or a class; none where it names no entry of a
--- kind that the instruction takes.
-pub data Operand : Type 0 where
-  AConstant : (value : Value) → Operand
-  AField : (member : MemberRef) → Operand
-  AMethod : (member : MemberRef) → Operand
-  AType : (class : Named) → Operand
-
--- `ldc_w`, `ldc2_w`; `getstatic`, `getfield`, `putfield`; `invokevirtual`; `invokespecial`, `invokestatic`; `new`;
--- `anewarray`, `checkcast`, `instanceof`
+-- kind that the instruction takes. The numbers are those of the ldc forms; `getstatic`, `getfield`, `putfield`;
+-- `invokevirtual`; `invokespecial`, `invokestatic`; `new`; `anewarray`, `checkcast`, `instanceof`.
 abbrev pub index_operand : List Entry → ℕ → Option Entry → Option Operand
 index_operand pool number e =
     if number == 18 || number == 19 || number == 20 then option_map AConstant (constant_ref pool e)

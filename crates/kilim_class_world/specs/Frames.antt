@@ -21,6 +21,7 @@ use Rattle.kilim_class_world.specs.World.{World, DeclaredMethod, class_text}
 use Rattle.kilim_class_world.specs.Types.{method_text, typed, type_in, type_named, named_by, each_of, itself}
 use Rattle.kilim_class_world.specs.Qualified.{is_constructor_name, params_of}
 use Rattle.kilim_class_world.specs.Code.{applied}
+pub use Rattle.kilim_class_world.specs.declared.named.Entries.{Entries}
 
 -- the frames of a StackMapTable
 abbrev pub table_in : CodeInfo → List FrameForm
@@ -63,10 +64,6 @@ abbrev pub entry_locals : World → ClassId → DeclaredMethod → List (Option 
 entry_locals w c m = receiver_entry c m ++ map (λ f. option_map slot_of_type (type_in w f)) (params_of (method_text m.descriptor))
 
 -- ---- what each frame says
-
-pub record Entries : Type 0 where
-  pub locals : List (Option VType)
-  pub stack : List (Option VType)
 
 abbrev pub delta_of : FrameForm → ℕ
 delta_of (Same delta) = delta

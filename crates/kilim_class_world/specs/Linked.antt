@@ -28,6 +28,7 @@ use Rattle.kilim_class_world.specs.Types.{field_text, method_text, type_in, type
 use Rattle.kilim_class_world.specs.Qualified.{qualified}
 use Rattle.kilim_class_world.specs.Code.{constant_ref, decoded, code_of}
 use Rattle.kilim_class_world.specs.Frames.{frames_in}
+pub use Rattle.kilim_class_world.specs.declared.named.Body.{Body}
 
 -- ---- fields
 
@@ -71,13 +72,6 @@ abbrev pub code_attribute : MemberInfo → Option Code
 code_attribute method = first_of (filter_map (λ a. code_in a.info) method.attributes)
 
 -- what code comes to: without a Code attribute nothing
-pub record Body : Type 0 where
-  pub max_stack : ℕ
-  pub max_locals : ℕ
-  pub code_length : ℕ
-  pub code : List (ℕ × Instr)
-  pub frames : List (ℕ × Frame)
-
 abbrev pub no_body : Body
 no_body = record { max_stack = 0; max_locals = 0; code_length = 0; code = []; frames = [] }
 

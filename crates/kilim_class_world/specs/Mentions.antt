@@ -22,17 +22,10 @@ use Rattle.kilim_class_world.specs.Types.{Named, AClass, AnArray, Malformed, nam
 use Rattle.kilim_class_world.specs.Code.{MemberRef, Operand, AConstant, AField, AMethod, AType, index_in, operand_at, decoded}
 use Rattle.kilim_class_world.specs.Frames.{tables_in}
 use Rattle.kilim_class_world.specs.Linked.{code_attribute}
-
-pub data Mention : Type 0 where
-  -- a class, or an array by its descriptor
-  OfClass : (class : Named) → Mention
-  -- an array of such elements
-  OfElement : (class : Named) → Mention
-  -- the descriptor of a field, and that of a method with the slots that its arguments take beside it
-  OfField : (descriptor : List ℕ) → Mention
-  OfMethod : (slots : ℕ) (descriptor : List ℕ) → Mention
-  -- a float or double type of a frame
-  OfFloat : Mention
+pub use Rattle.kilim_class_world.specs.declared.named.Mention.{Mention}
+pub use Rattle.kilim_class_world.specs.declared.named.Mention.TheVariants.{OfClass, OfElement, OfField, OfMethod, OfFloat}
+pub use Rattle.kilim_class_world.specs.declared.named.Member.{Member}
+pub use Rattle.kilim_class_world.specs.declared.named.Member.TheVariants.{Field, Method}
 
 -- ---- in code
 
@@ -69,10 +62,6 @@ abbrev pub mentions_of_instr : List Entry → RawInstr → List Mention
 mentions_of_instr pool instr = mentions_of_operand (is_anewarray (index_in instr)) (operand_of pool instr)
 
 -- the members that code names, a field or a method, in order
-pub data Member : Type 0 where
-  Field : (member : MemberRef) → Member
-  Method : (member : MemberRef) → Member
-
 abbrev pub members_of_operand : Option Operand → List Member
 members_of_operand (Some (AField member)) = Field member ∷ []
 members_of_operand (Some (AMethod member)) = Method member ∷ []

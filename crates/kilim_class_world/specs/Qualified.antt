@@ -14,6 +14,7 @@ use Rattle.kilim_program.specs.Names.{is_task}
 use Rattle.kilim_program.specs.Kinds.{class_kind, kind_of, is_tree_kind}
 use Rattle.kilim_class_world.specs.World.{World, DeclaredMethod, Marks, Stated, Annotated}
 use Rattle.kilim_class_world.specs.Types.{method_text, type_in}
+pub use Rattle.kilim_class_world.specs.declared.named.Qualified.{Qualified}
 
 abbrev pub names_one : List (List ℕ) → List ℕ → Bool
 names_one types type = list_any (bytes_eq type) types
@@ -81,10 +82,6 @@ params_of None = []
 params_of (Some m) = m.params
 
 -- ---- of a method that a class declares
-
-pub record Qualified : Type 0 where
-  pub receiver : Qualifier
-  pub params : List Qualifier
 
 abbrev pub qualified_by : World → ClassId → DeclaredMethod → Marks → Qualified
 qualified_by w c m (Stated receiver params) = record { receiver = receiver; params = params }

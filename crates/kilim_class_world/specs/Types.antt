@@ -10,6 +10,8 @@ use Rattle.kilim_program.specs.declared.ty.Base.{Base}
 use Rattle.kilim_program.specs.declared.ty.Base.TheVariants as base
 use Rattle.kilim_program.specs.declared.ty.Ty.{Ty}
 use Rattle.kilim_class_world.specs.World.{World, class_of}
+pub use Rattle.kilim_class_world.specs.declared.named.Named.{Named}
+pub use Rattle.kilim_class_world.specs.declared.named.Named.TheVariants.{AClass, AnArray, Malformed}
 
 -- what a text reads as, if it is a descriptor
 abbrev pub read_as : {A : Type 0} → Result A ℕ → Option A
@@ -23,12 +25,6 @@ abbrev pub method_text : List ℕ → Option MethodText
 method_text units = read_as (whole_method units)
 
 -- ---- what a class entry names (JVMS 4.4.1)
-
-pub data Named : Type 0 where
-  AClass : (name : List ℕ) → Named
-  AnArray : (type : FieldText) → Named
-  -- it begins as an array's descriptor, and is none
-  Malformed : (name : List ℕ) → Named
 
 abbrev pub array_or_malformed : List ℕ → Option FieldText → Named
 array_or_malformed name None = Malformed name

@@ -3,6 +3,7 @@
 
 mod fault;
 mod laws;
+mod named;
 mod view;
 
 pub use fault::{LeftOutPart, LinkFault, MemberOf, Problem};
@@ -12,3 +13,4 @@ pub use laws::{
     programs_are_linked,
 };
 pub use view::{ClassView, DeclaredField, DeclaredMethod, Marks};
+pub use named::{Body, Entries, Member, Mention, Named, Operand, Qualified};
