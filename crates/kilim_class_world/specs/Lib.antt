@@ -10,5 +10,6 @@ pub mod Faults
 pub mod Examples
 pub mod Details
 pub mod Laws
+pub mod LinksWell
 pub mod Programs
 pub mod Agreement
