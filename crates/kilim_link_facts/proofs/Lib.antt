@@ -1,0 +1,7 @@
+mod Lists
+mod Bared
+mod Made
+mod Linking
+mod Named
+mod Unique
+mod Outline

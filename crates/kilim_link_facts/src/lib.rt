@@ -1,0 +1,6 @@
+//! Class files that link well are a program: the facts of its classes and members. Definitions in `specs/`, and laws.
+#![tactic(auto)]
+
+mod laws;
+
+pub use laws::bared_agrees;
