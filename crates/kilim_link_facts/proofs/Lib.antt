@@ -5,3 +5,4 @@ mod Linking
 mod Named
 mod Unique
 mod Outline
+mod Bridge

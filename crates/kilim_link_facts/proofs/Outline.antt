@@ -122,7 +122,7 @@ module _ (files : List ClassFile) (form : Form) (classes : List Class) (fields :
       let number : 0 + n ≡ n = omega arith in
       outlined_at vs m 0 vs n ∙ (ap (option_map (outlined_one vs m (0 + n))) there ∙ ap (λ (k : ℕ). Some (outlined_one vs m k v)) number)
 
-  built_super : (k : ℕ) (class : Class) → slice_get (built_in_classes_in form 0 0) k ≡ Some class →
+  pub built_super : (k : ℕ) (class : Class) → slice_get (built_in_classes_in form 0 0) k ≡ Some class →
       (option_map (class_name (built_ins form)) class.superclass >>= number_of vs) ≡ option_map (λ (c : ClassId). class_id (length files)) class.superclass
   built_super k class there =
       ap (λ (s : Option (List ℕ)). s >>= number_of vs) (super_is_object form k class there) ∙ super_placed (number_of vs) (class_id (length files)) class.superclass object_number
@@ -137,7 +137,7 @@ module _ (files : List ClassFile) (form : Form) (classes : List Class) (fields :
       ∙ (ap (λ (a : Option Class). one.message || (is_marked_class a || false)) at_top
       ∙ (ap (λ (b : Bool). one.message || (b || false)) no_mark ∙ or_none one.message)))
 
-  built_mark : (k : ℕ) (class : Class) → slice_get (built_in_classes_in form 0 0) k ≡ Some class → is_message_by marked (class_id (length files + k)) ≡ class.message
+  pub built_mark : (k : ℕ) (class : Class) → slice_get (built_in_classes_in form 0 0) k ≡ Some class → is_message_by marked (class_id (length files + k)) ≡ class.message
   built_mark k class there =
       let b = begins form in
       let m : ClassId → ClassView → Bool = λ c v. v.is_marked in

@@ -3,4 +3,4 @@
 
 mod laws;
 
-pub use laws::bared_agrees;
+pub use laws::{bared_agrees, outline_agrees, outline_is_bared};
