@@ -6,3 +6,5 @@ mod Named
 mod Unique
 mod Outline
 mod Bridge
+mod Origins
+mod Classes

@@ -85,7 +85,7 @@ super_placed : (number : List ℕ → Option ClassId) (o : ClassId) (s : Option 
 super_placed number o None e = refl
 super_placed number o (Some c) e = e
 
-or_none : (b : Bool) → (b || false) ≡ b
+pub or_none : (b : Bool) → (b || false) ≡ b
 or_none true = refl
 or_none false = refl
 

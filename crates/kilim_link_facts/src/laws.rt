@@ -1,6 +1,7 @@
 //! Laws about the definitions. No program calls them to do work.
 
 ghost use Rattle.kilim_link_facts.specs.Bridge.{BaredAgrees, OutlineAgrees, OutlineIsBared};
+ghost use Rattle.kilim_link_facts.specs.Facts.{NoneIsBoth, NoneIsItsAncestor, SuperclassesFit};
 
 use kilim_class_world::{linked_in_parts, none_has_a_problem, none_of_each_kind};
 
@@ -24,4 +25,31 @@ pub fn outline_agrees()
 {
     bared_agrees();
     outline_is_bared();
+}
+
+/// A law, and no work: no class of files that link well is its own ancestor.
+pub fn none_is_its_ancestor()
+    ensures { NoneIsItsAncestor }
+{
+    linked_in_parts();
+    none_has_a_problem();
+    none_of_each_kind();
+}
+
+/// A law, and no work: of files that link well no class is a task and a message.
+pub fn none_is_both()
+    ensures { NoneIsBoth }
+{
+    linked_in_parts();
+    none_has_a_problem();
+    none_of_each_kind();
+}
+
+/// A law, and no work: of files that link well each superclass is of a kind that its class may extend.
+pub fn superclasses_fit()
+    ensures { SuperclassesFit }
+{
+    linked_in_parts();
+    none_has_a_problem();
+    none_of_each_kind();
 }

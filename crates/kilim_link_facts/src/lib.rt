@@ -3,4 +3,7 @@
 
 mod laws;
 
-pub use laws::{bared_agrees, outline_agrees, outline_is_bared};
+pub use laws::{
+    bared_agrees, none_is_both, none_is_its_ancestor, outline_agrees, outline_is_bared,
+    superclasses_fit,
+};
