@@ -8,3 +8,7 @@ mod Outline
 mod Bridge
 mod Origins
 mod Classes
+mod Members
+mod Flags
+mod LinkedMembers
+mod Bodies

@@ -1,7 +1,7 @@
 //! Laws about the definitions. No program calls them to do work.
 
 ghost use Rattle.kilim_link_facts.specs.Bridge.{BaredAgrees, OutlineAgrees, OutlineIsBared};
-ghost use Rattle.kilim_link_facts.specs.Facts.{NoneIsBoth, NoneIsItsAncestor, SuperclassesFit};
+ghost use Rattle.kilim_link_facts.specs.Facts.{BuiltInIsLast, NoneIsBoth, NoneIsItsAncestor, SuperclassesFit};
 
 use kilim_class_world::{linked_in_parts, none_has_a_problem, none_of_each_kind};
 
@@ -48,6 +48,15 @@ pub fn none_is_both()
 /// A law, and no work: of files that link well each superclass is of a kind that its class may extend.
 pub fn superclasses_fit()
     ensures { SuperclassesFit }
+{
+    linked_in_parts();
+    none_has_a_problem();
+    none_of_each_kind();
+}
+
+/// A law, and no work: the last classes of a program are the built-in ones, and of its other methods exactly the abstract ones have no code.
+pub fn built_in_is_last()
+    ensures { BuiltInIsLast }
 {
     linked_in_parts();
     none_has_a_problem();
