@@ -12,3 +12,5 @@ mod Members
 mod Flags
 mod LinkedMembers
 mod Bodies
+mod Owners
+mod Owned

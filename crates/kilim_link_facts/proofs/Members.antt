@@ -27,6 +27,14 @@ module _ {A : Type 0} (list : ClassFile → List MemberInfo) (make : ClassFile �
   length-of_class : (file : ClassFile) (c : ClassId) → length (of_class file c) ≡ length (list file)
   length-of_class file c = length-map (list file) (make file c)
 
+  pub length-made : (n : ℕ) (files : List ClassFile) → length (made_from n files) ≡ before list files (length files)
+  length-made n [] = refl
+  length-made n (f ∷ files) =
+      let both = length-append (of_class f (class_id n)) (made_from (suc n) files) in
+      let front = length-of_class f (class_id n) in
+      let rest = length-made (suc n) files in
+      omega (arith, both, front, rest)
+
   -- where a member goes
   goes : (n : ℕ) (files : List ClassFile) (k i : ℕ) (file : ClassFile) (member : MemberInfo) → slice_get files k ≡ Some file → slice_get (list file) i ≡ Some member →
       slice_get (made_from n files) (before list files k + i) ≡ Some (make file (class_id (n + k)) member)
