@@ -14,3 +14,4 @@ mod LinkedMembers
 mod Bodies
 mod Owners
 mod Owned
+mod Descriptors
