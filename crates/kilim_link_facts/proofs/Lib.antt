@@ -15,3 +15,4 @@ mod Bodies
 mod Owners
 mod Owned
 mod Descriptors
+mod Resolved
