@@ -16,3 +16,5 @@ mod Owners
 mod Owned
 mod Descriptors
 mod Resolved
+mod Shifted
+mod Differ

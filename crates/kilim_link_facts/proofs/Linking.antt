@@ -74,7 +74,7 @@ pub not_so : (b : Bool) (p : Problem) → if_so b p ≡ [] → b ≡ false
 not_so true p e = absurd (cc)
 not_so false p e = refl
 
-cond_none : {A : Type 0} (b : Bool) (y : A) (zs : List A) → cond b (y ∷ zs) zs ≡ [] → (b ≡ false) × (zs ≡ [])
+pub cond_none : {A : Type 0} (b : Bool) (y : A) (zs : List A) → cond b (y ∷ zs) zs ≡ [] → (b ≡ false) × (zs ≡ [])
 cond_none true y zs e = absurd (cc)
 cond_none false y zs e = (refl, e)
 
