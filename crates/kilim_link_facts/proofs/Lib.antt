@@ -18,3 +18,4 @@ mod Descriptors
 mod Resolved
 mod Shifted
 mod Differ
+mod FieldKinds
