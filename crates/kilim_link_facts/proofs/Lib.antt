@@ -19,3 +19,4 @@ mod Resolved
 mod Shifted
 mod Differ
 mod FieldKinds
+mod Seen

@@ -57,7 +57,7 @@ pub bare_built_in : (form : Form) (first method : ℕ) → map bare (built_in_cl
 bare_built_in Plain first method = refl
 bare_built_in Woven first method = refl
 
-map_same_at : {A B : Type 0} (f g : A → B) (xs : List A) → map f xs ≡ map g xs → (n : ℕ) (x : A) → slice_get xs n ≡ Some x → f x ≡ g x
+pub map_same_at : {A B : Type 0} (f g : A → B) (xs : List A) → map f xs ≡ map g xs → (n : ℕ) (x : A) → slice_get xs n ≡ Some x → f x ≡ g x
 map_same_at f g xs e n x there = some_same (f x) (g x) (sym (mapped_at f xs n x there) ∙ (ap (λ (ys : List _). slice_get ys n) e ∙ mapped_at g xs n x there))
 
 supers_are_object : (form : Form) → map (λ (class : Class). option_map (class_name (built_ins form)) class.superclass) (built_in_classes_in form 0 0) ≡ map (λ (class : Class). option_map (λ (c : ClassId). object_name) class.superclass) (built_in_classes_in form 0 0)
