@@ -32,7 +32,7 @@ use Rattle.kilim_class_world.specs.Faults.{abstract_left, has_fiber_name, has_fl
 use Rattle.kilim_class_world.specs.Frames.{frames_in}
 use Rattle.kilim_class_world.specs.Laws.{LinkedInParts, NoProblem, NoneHasAProblem, NoneOfEachKind}
 use Rattle.kilim_class_world.specs.Linked.{Body, body_in, body_with, code_attribute, code_in, first_of, linked_method, no_body, program_with}
-use Rattle.kilim_class_world.specs.World.{World, acc_abstract, acc_native, acc_super, acc_synchronized, declared_method, ClassView, declared_methods, has_flag, methods_at, view_of_file, world_of}
+use Rattle.kilim_class_world.specs.World.{DeclaredMethod, World, acc_abstract, acc_native, acc_super, acc_synchronized, declared_method, ClassView, declared_methods, has_flag, methods_at, view_of_file, world_of}
 use Rattle.kilim_link_facts.specs.Facts.{BuiltInIsLast}
 use Rattle.kilim_link_facts.proofs.Flags.{bodiless_is_abstract}
 use Rattle.kilim_link_facts.proofs.LinkedMembers.{LinkedMethod, bound, linked_method_is}
@@ -127,11 +127,12 @@ module _ (files : List ClassFile) (form : Form) (classes : List Class) (fields :
   abbrev is_whole : Method → Bool
   is_whole m = not m.built_in && (same_flag (m.code_length == 0) m.is_abstract && not (m.is_abstract && (m.is_private || m.is_static)))
 
-  methods_there : (n : ℕ) (file : ClassFile) (i : ℕ) (member : MemberInfo) → slice_get files n ≡ Some file → slice_get file.methods i ≡ Some member → slice_get (declared_methods w (class_id n)) i ≡ Some (declared_method file member)
+  pub file_methods : (n : ℕ) (file : ClassFile) → slice_get files n ≡ Some file → declared_methods w (class_id n) ≡ map (declared_method file) file.methods
   unfolding world_of
-  methods_there n file i member there inside =
-      ap (λ (v : Option ClassView). slice_get (methods_at v) i) (get_left (map view_of_file files) (built_views form) n (view_of_file file) (mapped_at view_of_file files n file there))
-      ∙ mapped_at (declared_method file) file.methods i member inside
+  file_methods n file there = ap methods_at (get_left (map view_of_file files) (built_views form) n (view_of_file file) (mapped_at view_of_file files n file there))
+
+  pub methods_there : (n : ℕ) (file : ClassFile) (i : ℕ) (member : MemberInfo) → slice_get files n ≡ Some file → slice_get file.methods i ≡ Some member → slice_get (declared_methods w (class_id n)) i ≡ Some (declared_method file member)
+  methods_there n file i member there inside = ap (λ (ds : List DeclaredMethod). slice_get ds i) (file_methods n file there) ∙ mapped_at (declared_method file) file.methods i member inside
 
   whole_body : (c : ℕ) (i : ℕ) (file : ClassFile) (member : MemberInfo) (method : Method) → slice_get files c ≡ Some file → slice_get file.methods i ≡ Some member → LinkedMethod w file (class_id c) member method → is_whole method ≡ true
   unfolding has_its_code

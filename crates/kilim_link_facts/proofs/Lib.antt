@@ -20,3 +20,4 @@ mod Shifted
 mod Differ
 mod FieldKinds
 mod Seen
+mod Positions

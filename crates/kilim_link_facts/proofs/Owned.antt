@@ -94,10 +94,10 @@ method_numbers (x ∷ xs) = ap (λ (ys : List ℕ). x ∷ ys) (method_numbers xs
 
 -- ---- built-in classes
 
-abbrev numbers_of : Class → List ℕ
+abbrev pub numbers_of : Class → List ℕ
 numbers_of class = map (λ (m : MethodId). m.0) class.methods
 
-numbers_shifted : (form : Form) (first method : ℕ) → map numbers_of (built_in_classes_in form first method) ≡ map (λ (class : Class). map (λ (i : ℕ). method + i) (numbers_of class)) (built_in_classes_in form 0 0)
+pub numbers_shifted : (form : Form) (first method : ℕ) → map numbers_of (built_in_classes_in form first method) ≡ map (λ (class : Class). map (λ (i : ℕ). method + i) (numbers_of class)) (built_in_classes_in form 0 0)
 numbers_shifted Plain first method = refl
 numbers_shifted Woven first method = refl
 
