@@ -21,3 +21,5 @@ mod Differ
 mod FieldKinds
 mod Seen
 mod Positions
+mod Flat
+mod Overriding

@@ -46,7 +46,7 @@ not_given : (w : World) (file : ClassFile) (c : ClassId) → NoProblem w file c 
 unfolding declared_twice
 not_given w file c n = let parts = or_parts _ _ (not_so _ _ (front_none _ _ n.not_twice)) in record { before = parts.0; built_in = parts.1 }
 
-true_and : (a b : Bool) → a ≡ true → (a && b) ≡ false → b ≡ false
+pub true_and : (a b : Bool) → a ≡ true → (a && b) ≡ false → b ≡ false
 true_and true b e both = both
 true_and false b e both = absurd (cc)
 

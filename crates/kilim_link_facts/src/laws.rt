@@ -1,7 +1,7 @@
 //! Laws about the definitions. No program calls them to do work.
 
 ghost use Rattle.kilim_link_facts.specs.Bridge.{BaredAgrees, OutlineAgrees, OutlineIsBared};
-ghost use Rattle.kilim_link_facts.specs.Facts.{BuiltInIsLast, FieldsFit, MembersAreOwned, NamesDiffer, NoneIsBoth, NoneIsItsAncestor, SuperclassesFit};
+ghost use Rattle.kilim_link_facts.specs.Facts.{BuiltInIsLast, FieldsFit, MembersAreOwned, NamesDiffer, NoneIsBoth, NoneIsItsAncestor, OverridingAgrees, SuperclassesFit};
 
 use kilim_class_world::{linked_in_parts, none_has_a_problem, none_of_each_kind};
 
@@ -84,6 +84,15 @@ pub fn names_differ()
 /// A law, and no work: of files that link well each field holds what its class's kind allows.
 pub fn fields_fit()
     ensures { FieldsFit }
+{
+    linked_in_parts();
+    none_has_a_problem();
+    none_of_each_kind();
+}
+
+/// A law, and no work: of files that link well an overriding method agrees with what it overrides.
+pub fn overriding_agrees()
+    ensures { OverridingAgrees }
 {
     linked_in_parts();
     none_has_a_problem();
