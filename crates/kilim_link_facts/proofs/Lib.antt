@@ -23,3 +23,4 @@ mod Seen
 mod Positions
 mod Flat
 mod Overriding
+mod LeftAbstract

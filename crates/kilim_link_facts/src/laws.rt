@@ -1,7 +1,7 @@
 //! Laws about the definitions. No program calls them to do work.
 
 ghost use Rattle.kilim_link_facts.specs.Bridge.{BaredAgrees, OutlineAgrees, OutlineIsBared};
-ghost use Rattle.kilim_link_facts.specs.Facts.{BuiltInIsLast, FieldsFit, MembersAreOwned, NamesDiffer, NoneIsBoth, NoneIsItsAncestor, OverridingAgrees, SuperclassesFit};
+ghost use Rattle.kilim_link_facts.specs.Facts.{BuiltInIsLast, FieldsFit, MembersAreOwned, NamesDiffer, NoneIsBoth, NoneIsItsAncestor, NoneIsLeftAbstract, OverridingAgrees, SuperclassesFit};
 
 use kilim_class_world::{linked_in_parts, none_has_a_problem, none_of_each_kind};
 
@@ -93,6 +93,15 @@ pub fn fields_fit()
 /// A law, and no work: of files that link well an overriding method agrees with what it overrides.
 pub fn overriding_agrees()
     ensures { OverridingAgrees }
+{
+    linked_in_parts();
+    none_has_a_problem();
+    none_of_each_kind();
+}
+
+/// A law, and no work: of files that link well a class that isn't abstract neither declares nor inherits an abstract method.
+pub fn none_is_left_abstract()
+    ensures { NoneIsLeftAbstract }
 {
     linked_in_parts();
     none_has_a_problem();
