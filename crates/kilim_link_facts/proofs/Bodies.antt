@@ -1,19 +1,19 @@
 -- The last classes are the built-in ones, and of the other methods exactly the abstract ones have no code.
-use Rattle.std.proofs.Common.{◌≡◌, ℕ, zero, suc, ◌+◌, ◌<◌, Bool, true, false, ◌&&◌, ◌||◌, ◌==◌, not, List, [], ◌∷◌, ◌++◌, map, length, slice_get, Option, Some, None, filter, filter_map, is_some, refl, sym, ap, subst, ◌∙◌, ne_eqb, arith}
-use Rattle.std.specs.List.{cons_option, list_all, list_any}
-use Rattle.std.proofs.lemmas.Bool.{and_cases, and_from, and_left, and_right, or_parts, not_from_false}
+use Rattle.std.proofs.Common.{◌≡◌, ℕ, ◌<◌, Bool, true, false, ◌&&◌, ◌||◌, ◌==◌, not, List, [], ◌∷◌, ◌++◌, map, length, slice_get, Option, Some, None, filter, filter_map, is_some, refl, sym, ap, subst, ◌∙◌, ne_eqb, arith}
+use Rattle.std.specs.List.{cons_option, list_all}
+use Rattle.std.proofs.lemmas.Bool.{and_from, not_from_false}
 use Rattle.kilim_attributes.specs.declared.attribute.Attribute.{Attribute}
 use Rattle.kilim_attributes.specs.declared.attribute.Code.{Code}
 use Rattle.kilim_attributes.specs.declared.attribute.Info.{Info}
 use Rattle.kilim_attributes.specs.declared.attribute.Info.TheVariants as info
 use Rattle.kilim_attributes.specs.declared.attribute.Place.TheVariants as place
-use Rattle.kilim_attributes.specs.Attributes.{AttributeFits, AttributesFit, InfoFits}
+use Rattle.kilim_attributes.specs.Attributes.{AttributeFits, InfoFits}
 use Rattle.kilim_attributes.specs.Codes.{CodeFits}
 use Rattle.kilim_attributes.specs.Lists.{EachAfter}
 use Rattle.kilim_classfile.specs.declared.class_file.ClassFile.{ClassFile}
 use Rattle.kilim_classfile.specs.declared.class_file.MemberInfo.{MemberInfo}
 use Rattle.kilim_classfile.specs.Parts.{differs, has_code, has_its_code, is_bodiless, is_code}
-use Rattle.kilim_classfile.specs.Text.{ClassFits, MethodFits}
+use Rattle.kilim_classfile.specs.Text.{MethodFits}
 use Rattle.kilim_constant_pool.specs.declared.entry.Entry.{Entry}
 use Rattle.kilim_program.specs.declared.class.Class.{Class}
 use Rattle.kilim_program.specs.declared.class.Field.{Field}
@@ -23,7 +23,6 @@ use Rattle.kilim_program.specs.declared.names.ClassId.{ClassId}
 use Rattle.kilim_program.specs.Program.{Program}
 use Rattle.kilim_program.specs.BuiltIn.{built_in_classes_in, built_in_methods_in, class_id}
 use Rattle.kilim_program.specs.Keeps.{EndsBuiltIn}
-use Rattle.kilim_program.specs.Names.{◌>>=◌}
 use Rattle.kilim_program.specs.Same.{same_flag}
 use Rattle.kilim_class_world.specs.declared.fault.LeftOutPart.{LeftOutPart}
 use Rattle.kilim_class_world.specs.declared.fault.LeftOutPart.TheVariants as part
@@ -32,13 +31,13 @@ use Rattle.kilim_class_world.specs.Faults.{abstract_left, has_fiber_name, has_fl
 use Rattle.kilim_class_world.specs.Frames.{frames_in}
 use Rattle.kilim_class_world.specs.Laws.{LinkedInParts, NoProblem, NoneHasAProblem, NoneOfEachKind}
 use Rattle.kilim_class_world.specs.Linked.{Body, body_in, body_with, code_attribute, code_in, first_of, linked_method, no_body, program_with}
-use Rattle.kilim_class_world.specs.World.{DeclaredMethod, World, acc_abstract, acc_native, acc_super, acc_synchronized, declared_method, ClassView, declared_methods, has_flag, methods_at, view_of_file, world_of}
+use Rattle.kilim_class_world.specs.World.{DeclaredMethod, World, acc_abstract, acc_native, acc_super, acc_synchronized, declared_method, declared_methods, has_flag, methods_at, view_of_file, world_of}
 use Rattle.kilim_link_facts.specs.Facts.{BuiltInIsLast}
 use Rattle.kilim_link_facts.proofs.Flags.{bodiless_is_abstract}
 use Rattle.kilim_link_facts.proofs.LinkedMembers.{LinkedMethod, bound, linked_method_is}
 use Rattle.kilim_link_facts.proofs.Linking.{Linking, front_none, linking, map_none, none_passes, of_each, rest_none}
 use Rattle.kilim_link_facts.proofs.Lists.{all_by_places, get_left, mapped_at, none_at, none_is_some, some_same}
-use Rattle.kilim_link_facts.proofs.Members.{MemberMade, member_made}
+use Rattle.kilim_link_facts.proofs.Members.{member_made}
 use Rattle.kilim_link_facts.proofs.Origins as origins
 use Rattle.kilim_link_facts.proofs.Unique.{built_views}
 
@@ -57,14 +56,14 @@ unfolding left_out left_out_parts
 not_native w file c n =
     let parts = map_none _ (left_out_parts w file) n.none_left_out in
     not_left (has_method_flag acc_native file) part.Native (sixth_none (map part.Opcode (left_out_ops file)) (if_left (has_float file) part.Float) (if_left (has_initializer file) part.ClassInitializer)
-      (if_left (has_static_field w file) part.StaticField) (if_left (has_method_flag acc_synchronized file) part.Synchronized) (if_left (has_method_flag acc_native file) part.Native)
-      (if_left (has_interface file) part.Interface
-      ++ (if_left (not (has_flag acc_super file.access_flags)) part.NoSuperFlag
-      ++ (if_left (has_pausable_constructor file) part.PausableConstructor
-      ++ (if_left (has_handlers file) part.Handlers
-      ++ (if_left (has_task_array w file) part.TaskArray
-      ++ (if_left (has_fiber_name w file) part.Fiber
-      ++ if_left (has_other_parameters file) part.ParameterAnnotations)))))) parts)
+    (if_left (has_static_field w file) part.StaticField) (if_left (has_method_flag acc_synchronized file) part.Synchronized) (if_left (has_method_flag acc_native file) part.Native)
+    (if_left (has_interface file) part.Interface
+    ++ (if_left (not (has_flag acc_super file.access_flags)) part.NoSuperFlag
+    ++ (if_left (has_pausable_constructor file) part.PausableConstructor
+    ++ (if_left (has_handlers file) part.Handlers
+    ++ (if_left (has_task_array w file) part.TaskArray
+    ++ (if_left (has_fiber_name w file) part.Fiber
+    ++ if_left (has_other_parameters file) part.ParameterAnnotations)))))) parts)
 
 -- none is abstract where its class isn't, and none abstract is private or static
 not_left_here : (w : World) (file : ClassFile) (c : ClassId) → NoProblem w file c → filter (is_left_here (has_flag acc_abstract file.access_flags)) (declared_methods w c) ≡ []
@@ -143,7 +142,7 @@ module _ (files : List ClassFile) (form : Form) (classes : List Class) (fields :
       let plain = none_at (λ (m : MemberInfo). has_flag acc_native m.access_flags) file.methods (not_native w file (class_id c) n) i member inside in
       let is_abstract = has_flag acc_abstract member.access_flags in
       let own = ap (λ (b : Bool). differs b (is_some (code_attribute member))) (sym (bodiless_is_abstract member.access_flags plain))
-        ∙ (ap (differs (is_bodiless member.access_flags)) (found_code member.attributes) ∙ fits.code) in
+      ∙ (ap (differs (is_bodiless member.access_flags)) (found_code member.attributes) ∙ fits.code) in
       let body = body_by w file (class_id c) member (code_attribute member) made.body is_abstract made.body_is (λ code is. (code_fits file.constant_pool [] member.attributes code fits.member.attributes.each is).some) own in
       let declared = none_passes (is_left_here (has_flag acc_abstract file.access_flags)) (declared_methods w (class_id c)) (not_left_here w file (class_id c) n) i (declared_method file member) (methods_there c file i member there inside) in
       ap is_whole (sym made.is) ∙ and_from _ _ body (left_here is_abstract (has_flag acc_abstract file.access_flags) (declared_method file member).is_private (declared_method file member).is_static declared)

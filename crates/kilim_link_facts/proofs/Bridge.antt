@@ -1,5 +1,5 @@
 -- The outline of a world is the program that its files link to, without its members: class for class.
-use Rattle.std.proofs.Common.{◌≡◌, ℕ, zero, suc, ◌+◌, ◌-◌, ◌<◌, ◌≤◌, Bool, true, false, List, [], ◌∷◌, ◌++◌, map, length, slice_get, Option, Some, None, option_map, refl, sym, ap, subst, ◌∙◌, ⊎_elim, arith}
+use Rattle.std.proofs.Common.{◌≡◌, ℕ, ◌+◌, ◌-◌, ◌<◌, ◌≤◌, Bool, List, [], map, length, slice_get, Option, Some, None, option_map, refl, sym, ap, subst, ◌∙◌, ⊎_elim, arith}
 use Rattle.std.specs.List.{range_with_len}
 use Rattle.std.proofs.lemmas.Bool.{cases_lt}
 use Rattle.std.proofs.lemmas.List.{length-map}
@@ -12,14 +12,13 @@ use Rattle.kilim_program.specs.declared.names.ClassId.{ClassId}
 use Rattle.kilim_program.specs.Program.{Program}
 use Rattle.kilim_program.specs.BuiltIn.{built_in_classes_in, class_id, method_id}
 use Rattle.kilim_program.specs.Kinds.{is_marked, is_message}
-use Rattle.kilim_program.specs.Names.{◌>>=◌, class_at, class_name}
+use Rattle.kilim_program.specs.Names.{◌>>=◌}
 use Rattle.kilim_class_world.specs.Laws.{LinkedInParts, NoneHasAProblem, NoneOfEachKind}
 use Rattle.kilim_class_world.specs.Linked.{linked_class, program_with}
-use Rattle.kilim_class_world.specs.LinksWell.{LinksWell}
-use Rattle.kilim_class_world.specs.World.{ClassView, World, acc_abstract, built_ins, class_of, field_id, first_field, first_method, has_flag, is_message_by, number_of, outline_of, outline_with, outlined, own_name, super_name, view_of_built_in, view_of_file, world_of}
+use Rattle.kilim_class_world.specs.World.{ClassView, World, acc_abstract, built_ins, class_of, field_id, first_field, first_method, has_flag, is_message_by, number_of, outline_with, outlined, own_name, super_name, view_of_built_in, view_of_file, world_of}
 use Rattle.kilim_link_facts.specs.Bridge.{Agree, BaredAgrees, OutlineAgrees, OutlineIsBared, bare, bared}
 use Rattle.kilim_link_facts.proofs.Linking.{Linking, linking}
-use Rattle.kilim_link_facts.proofs.Lists.{get_left, get_map, get_past, get_right, get_there, mapped_at, none_is_some, same_by_places, some_same}
+use Rattle.kilim_link_facts.proofs.Lists.{get_left, get_map, get_right, get_there, mapped_at, none_is_some, same_by_places, some_same}
 use Rattle.kilim_link_facts.proofs.Made.{each_length, file_makes, length-numbered}
 use Rattle.kilim_link_facts.proofs.Named.{outlined_at, outlined_one}
 use Rattle.kilim_link_facts.proofs.Outline as outline
@@ -93,7 +92,7 @@ module _ (files : List ClassFile) (form : Form) (classes : List Class) (fields :
   of_built_in n k class is there =
       ap (λ (s : Option ClassId). headed class.name s class.is_abstract (mark (class_id n) (view_of_built_in (built_ins form) class))) (outline.built_super files form classes fields methods l k class there)
       ∙ ap (λ (b : Bool). headed class.name (option_map (λ (c : ClassId). class_id (length files)) class.superclass) class.is_abstract b)
-        (ap (λ (m : ℕ). mark (class_id m) (view_of_built_in (built_ins form) class)) is ∙ outline.built_mark files form classes fields methods l k class there)
+      (ap (λ (m : ℕ). mark (class_id m) (view_of_built_in (built_ins form) class)) is ∙ outline.built_mark files form classes fields methods l k class there)
 
   at_file : (n : ℕ) → n < length files → option_map (outlined_one vs mark n) (slice_get vs n) ≡ option_map bare (slice_get p.classes n)
   at_file n less =

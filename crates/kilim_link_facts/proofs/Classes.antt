@@ -1,7 +1,7 @@
 -- The facts of the classes of files that link well: ancestors, kinds and superclasses.
-use Rattle.std.proofs.Common.{◌≡◌, ℕ, zero, suc, ◌+◌, Bool, true, false, ◌&&◌, ◌||◌, ◌==◌, not, if◌then◌else◌, cond, List, [], ◌∷◌, ◌++◌, map, length, slice_get, Option, Some, None, option_map, is_some, bytes_eq, codes, refl, sym, ap, subst, ◌∙◌, ne_eqb, arith}
+use Rattle.std.proofs.Common.{◌≡◌, ℕ, zero, suc, ◌+◌, Bool, true, false, ◌&&◌, ◌||◌, ◌==◌, not, if◌then◌else◌, List, length, slice_get, Option, Some, None, option_map, is_some, bytes_eq, codes, refl, sym, ap, ◌∙◌, ne_eqb, arith}
 use Rattle.std.specs.List.{list_all, list_any}
-use Rattle.std.proofs.lemmas.Bool.{and_left, and_parts, and_right, not-false, not-true, not_from_false, or_left, or_right}
+use Rattle.std.proofs.lemmas.Bool.{and_parts, not-false, not_from_false, or_left, or_right}
 use Rattle.kilim_classfile.specs.declared.class_file.ClassFile.{ClassFile}
 use Rattle.kilim_program.specs.declared.class.Class.{Class}
 use Rattle.kilim_program.specs.declared.class.Field.{Field}
@@ -9,7 +9,6 @@ use Rattle.kilim_program.specs.declared.class.Form.{Form}
 use Rattle.kilim_program.specs.declared.class.Form.TheVariants.{Plain, Woven}
 use Rattle.kilim_program.specs.declared.class.Method.{Method}
 use Rattle.kilim_program.specs.declared.names.ClassId.{ClassId}
-use Rattle.kilim_program.specs.declared.ty.Kind.{Kind}
 use Rattle.kilim_program.specs.declared.ty.Kind.TheVariants.{Value, Tree, Private}
 use Rattle.kilim_program.specs.Program.{Program}
 use Rattle.kilim_program.specs.BuiltIn.{built_in_classes_in, class_id}
@@ -21,7 +20,6 @@ use Rattle.kilim_class_world.specs.Laws.{LinkedInParts, NoProblem, NoneHasAProbl
 use Rattle.kilim_class_world.specs.Linked.{program_with}
 use Rattle.kilim_class_world.specs.World.{World, class_of, super_name, view_at, world_of}
 use Rattle.kilim_link_facts.specs.Facts.{NoneIsBoth, NoneIsItsAncestor, SuperclassesFit}
-use Rattle.kilim_link_facts.proofs.Bridge.{LinkedClass}
 use Rattle.kilim_link_facts.proofs.Linking.{Linking, linking, not_so}
 use Rattle.kilim_link_facts.proofs.Lists.{all_at, some_same}
 use Rattle.kilim_link_facts.proofs.Origins as origins
@@ -145,7 +143,7 @@ module _ (files : List ClassFile) (form : Form) (classes : List Class) (fields :
   top_private =
       let t = origins.top_class files form classes fields methods l in
       ap is_private_kind (kind_by p (class_id len) object_name false false (origins.top_name files form classes fields methods l)
-        (origins.top_task files form classes fields methods l) (ap is_marked t.at ∙ t.unmarked))
+      (origins.top_task files form classes fields methods l) (ap is_marked t.at ∙ t.unmarked))
 
   fits_built : (c : ClassId) (of : Class) → class_name p c ≡ of.name → (is_some of.superclass || bytes_eq of.name object_name) ≡ true → (s : Option ClassId) → of.superclass ≡ s →
       superclass_fits p c (option_map (λ (d : ClassId). class_id len) s) ≡ true
@@ -163,7 +161,7 @@ module _ (files : List ClassFile) (form : Form) (classes : List Class) (fields :
       ap (λ (m : ℕ). superclass_fits p (class_id m) class.superclass) is
       ∙ (ap (λ (b : Class). superclass_fits p (class_id (len + k)) b.superclass) (sym o.is)
       ∙ fits_built (class_id (len + k)) o.of (origins.built_name files form classes fields methods l k class there o)
-        (all_at (λ (c : Class). is_some c.superclass || bytes_eq c.name object_name) (built_in_classes_in form 0 0) (one_top form) k o.of o.at) o.of.superclass refl)
+      (all_at (λ (c : Class). is_some c.superclass || bytes_eq c.name object_name) (built_in_classes_in form 0 0) (one_top form) k o.of o.at) o.of.superclass refl)
 
   pub superclasses : superclasses_fit p ≡ true
   unfolding superclasses_fit

@@ -1,10 +1,10 @@
 -- A text that reads as a descriptor is the text of what is read. (kilim_descriptors proves more, with no law to call.)
-use Rattle.std.proofs.Common.{◌≡◌, ℕ, zero, suc, ◌+◌, Bool, true, false, cond, ltb, eqb, List, [], ◌∷◌, ◌++◌, length, Option, Some, None, Result, Ok, Err, refl, sym, ap, subst, ◌∙◌, append_assoc, append-nil, arith}
+use Rattle.std.proofs.Common.{◌≡◌, ℕ, zero, suc, ◌+◌, Bool, true, false, cond, ltb, eqb, List, [], ◌∷◌, ◌++◌, length, Option, Some, None, Result, Ok, Err, refl, sym, ap, ◌∙◌, append_assoc, append-nil, arith}
 use Rattle.std.specs.Prelude.{replicate}
 use Rattle.std.specs.List.{flat_map}
 use Rattle.std.proofs.lemmas.Bool.{eqb-true}
 use Rattle.kilim_descriptors.specs.declared.types.BaseText.{BaseText}
-use Rattle.kilim_descriptors.specs.declared.types.BaseText.TheVariants.{Bool as Boolean, Byte, Char, Short, Int, Long, Float, Double, Class}
+use Rattle.kilim_descriptors.specs.declared.types.BaseText.TheVariants.{Bool as Boolean, Byte, Char, Short, Int, Long, Float, Double}
 use Rattle.kilim_descriptors.specs.declared.types.FieldText.{FieldText}
 use Rattle.kilim_descriptors.specs.declared.types.MethodText.{MethodText}
 use Rattle.kilim_descriptors.specs.Text.{base_text, result_text, field_text as text_of_field, method_text as text_of_method}

@@ -1,5 +1,5 @@
 -- No two classes have one name, and no two members of a class one name and descriptor.
-use Rattle.std.proofs.Common.{◌≡◌, ℕ, zero, suc, ◌+◌, ◌<◌, ◌≤◌, Bool, true, false, ◌&&◌, ◌==◌, cond, List, [], ◌∷◌, ◌++◌, map, length, slice_get, Option, Some, None, option_map, bytes_eq, refl, sym, ap, subst, ◌∙◌, eqb-true, arith}
+use Rattle.std.proofs.Common.{◌≡◌, ℕ, zero, suc, ◌+◌, ◌<◌, ◌≤◌, Bool, true, false, ◌&&◌, ◌==◌, List, [], ◌∷◌, length, slice_get, Option, Some, None, option_map, bytes_eq, refl, sym, ap, ◌∙◌, eqb-true, arith}
 use Rattle.std.specs.List.{list_any}
 use Rattle.std.proofs.lemmas.Bool.{and_from, and_parts, both_ways, false_from_ne_true, or_parts}
 use Rattle.kilim_classfile.specs.declared.class_file.ClassFile.{ClassFile}
@@ -16,19 +16,17 @@ use Rattle.kilim_program.specs.Same.{all_differ, same_field, same_method, same_r
 use Rattle.kilim_class_world.specs.Faults.{declared_twice, repeated, repeated_names, same_member}
 use Rattle.kilim_class_world.specs.Laws.{LinkedInParts, NoProblem, NoneHasAProblem, NoneOfEachKind}
 use Rattle.kilim_class_world.specs.Linked.{linked_field, linked_method, program_with}
-use Rattle.kilim_class_world.specs.World.{ClassView, World, is_message_by, member_descriptor, member_name, outline_with, outlined, world_of}
-use Rattle.kilim_link_facts.specs.Bridge.{bare, bared}
+use Rattle.kilim_class_world.specs.World.{ClassView, World, is_message_by, member_descriptor, member_name, outline_with, world_of}
+use Rattle.kilim_link_facts.specs.Bridge.{bare}
 use Rattle.kilim_link_facts.specs.Facts.{NamesDiffer}
 use Rattle.kilim_link_facts.proofs.Bridge as bridge
-use Rattle.kilim_link_facts.proofs.LinkedMembers.{LinkedField, LinkedMethod, linked_field_is, linked_method_is}
+use Rattle.kilim_link_facts.proofs.LinkedMembers.{LinkedMethod, linked_field_is, linked_method_is}
 use Rattle.kilim_link_facts.proofs.Linking.{Linking, cond_none, front_none, linking, map_none, rest_none}
 use Rattle.kilim_link_facts.proofs.Lists.{Left, Right, Side, differ_at, differ_by_places, get_map, get_within, none_is_some, side, some_same}
 use Rattle.kilim_link_facts.proofs.Members.{MemberMade, before, member_made}
 use Rattle.kilim_link_facts.proofs.Named.{outlined_at, outlined_one, same_text, text_same}
-use Rattle.kilim_link_facts.proofs.Origins as origins
-use Rattle.kilim_link_facts.proofs.Owners.{before_all}
 use Rattle.kilim_link_facts.proofs.Resolved.{Resolves, result_same, same_descriptor, same_field_text, type_same, types_same}
-use Rattle.kilim_link_facts.proofs.Shifted.{BuiltInMethod, built_in_method_of, methods_differ, same_method_shifted, shift_method}
+use Rattle.kilim_link_facts.proofs.Shifted.{built_in_method_of, methods_differ, same_method_shifted, shift_method}
 use Rattle.kilim_link_facts.proofs.Unique as unique
 use Rattle.kilim_link_facts.proofs.Unique.{views}
 
@@ -77,8 +75,8 @@ module _ {A : Type 0} (list : ClassFile → List MemberInfo) (make : ClassFile �
       let name : member_name o.file o.member ≡ member_name o.file m.member = sym names ∙ ap (λ (f : ClassFile). member_name f m.member) file in
       let descriptor : member_descriptor o.file o.member ≡ member_descriptor o.file m.member = sym descriptors ∙ ap (λ (f : ClassFile). member_descriptor f m.member) file in
       both_ways (same_member o.file o.member m.member)
-        (none_repeated (same_member o.file) [] (list o.file) (once o.class o.file o.file_at) m.place o.place m.member o.member (omega (arith, start, first, second, less)) here o.member_at)
-        (and_from _ _ (same_text _ _ name) (same_text _ _ descriptor))
+      (none_repeated (same_member o.file) [] (list o.file) (once o.class o.file o.file_at) m.place o.place m.member o.member (omega (arith, start, first, second, less)) here o.member_at)
+      (and_from _ _ (same_text _ _ name) (same_text _ _ descriptor))
 
 -- ---- what same members are
 
@@ -130,7 +128,7 @@ module _ (files : List ClassFile) (form : Form) (classes : List Class) (fields :
   view_of n class there =
       let outline = ap (λ (q : Program). slice_get q.classes n) (bridge.outline_is_bared files form classes fields methods l) in
       view_by n class (slice_get (views files form) n) refl
-        (sym (outlined_at (views files form) mark 0 (views files form) n) ∙ (outline ∙ (get_map bare p.classes n ∙ ap (option_map bare) there)))
+      (sym (outlined_at (views files form) mark 0 (views files form) n) ∙ (outline ∙ (get_map bare p.classes n ∙ ap (option_map bare) there)))
 
   pub classes_differ : all_differ (λ (a b : Class). bytes_eq a.name b.name) p.classes ≡ true
   classes_differ = differ_by_places (λ (a b : Class). bytes_eq a.name b.name) p.classes (λ i j a b less first second.
@@ -150,7 +148,7 @@ module _ (files : List ClassFile) (form : Form) (classes : List Class) (fields :
       let names : member_name m.file m.member ≡ member_name o.file o.member = ap (λ (x : Field). x.name) f.is ∙ (same.names ∙ sym (ap (λ (x : Field). x.name) g.is)) in
       let types : f.ty ≡ g.ty = ap (λ (x : Field). x.ty) f.is ∙ (same.types ∙ sym (ap (λ (x : Field). x.ty) g.is)) in
       apart (λ file. file.fields) (linked_field w) files (λ n file at. (none_twice w file (class_id n) (l.none n file at)).fields) i j a b less m o class names
-        (same_field_text files form _ _ f.text g.text f.ty g.ty f.text_is g.text_is f.ty_is g.ty_is types)
+      (same_field_text files form _ _ f.text g.text f.ty g.ty f.text_is g.text_is f.ty_is g.ty_is types)
 
   pub fields_differ : all_differ same_field fields ≡ true
   fields_differ = differ_by_places same_field fields (λ i j a b less first second. false_from_ne_true (same_field a b) (λ e. two_fields i j a b less first second (same_field_is a b e)))
@@ -172,7 +170,7 @@ module _ (files : List ClassFile) (form : Form) (classes : List Class) (fields :
       let class : m.class ≡ o.class = ap (λ (x : Method). x.owner.0) f.is ∙ (owners ∙ sym (ap (λ (x : Method). x.owner.0) g.is)) in
       let names : member_name m.file m.member ≡ member_name o.file o.member = ap (λ (x : Method). x.name) f.is ∙ (same.names ∙ sym (ap (λ (x : Method). x.name) g.is)) in
       apart (λ file. file.methods) (linked_method w) files (λ n file at. (none_twice w file (class_id n) (l.none n file at)).methods) i j a b less m o class names
-        (same_descriptor files form _ _ a.params b.params a.result b.result (resolves m.file (class_id m.class) m.member a f) (resolves o.file (class_id o.class) o.member b g) same.params same.results)
+      (same_descriptor files form _ _ a.params b.params a.result b.result (resolves m.file (class_id m.class) m.member a f) (resolves o.file (class_id o.class) o.member b g) same.params same.results)
 
   abbrev built : List Method
   built = built_in_methods_in form (length files)
@@ -205,7 +203,7 @@ module _ (files : List ClassFile) (form : Form) (classes : List Class) (fields :
       let o = built_in_method_of form (length files) k a e in
       let q = built_in_method_of form (length files) n b f in
       both_ways (same_method o.of q.of) (differ_at same_method (built_in_methods_in form 0) (methods_differ form) k n o.of q.of (omega (arith, is, at, less)) o.at q.at)
-        (sym (same_method_shifted (length files) o.of q.of) ∙ (ap (λ (x : Method). same_method x (shift_method (length files) q.of)) o.is ∙ (ap (same_method a) q.is ∙ same)))
+      (sym (same_method_shifted (length files) o.of q.of) ∙ (ap (λ (x : Method). same_method x (shift_method (length files) q.of)) o.is ∙ (ap (same_method a) q.is ∙ same)))
 
   pub all_methods_differ : all_differ same_method p.methods ≡ true
   all_methods_differ = differ_by_places same_method p.methods (λ i j a b less first second. false_from_ne_true (same_method a b) (λ e. two_by i j a b less (side methods built i a first) (side methods built j b second) e))

@@ -1,7 +1,7 @@
 -- A class that isn't abstract neither declares nor inherits an abstract method.
-use Rattle.std.proofs.Common.{◌≡◌, ◌⊎◌, inl, inr, ℕ, zero, suc, ◌+◌, ◌<◌, Bool, true, false, ◌&&◌, ◌||◌, ◌==◌, not, List, [], ◌∷◌, ◌++◌, map, length, slice_get, Option, Some, None, option_map, filter, bytes_eq, refl, sym, ap, subst, ◌∙◌, append_assoc, append-nil, eq-eqb, eqb-true, arith}
+use Rattle.std.proofs.Common.{◌≡◌, ℕ, zero, suc, ◌+◌, Bool, true, false, ◌&&◌, ◌||◌, ◌==◌, not, List, [], ◌∷◌, ◌++◌, length, slice_get, Option, Some, None, option_map, filter, bytes_eq, refl, sym, ap, subst, ◌∙◌, append_assoc, append-nil, eq-eqb, eqb-true, arith}
 use Rattle.std.specs.List.{flat_map, list_all, list_any}
-use Rattle.std.proofs.lemmas.Bool.{and_cases, and_from, and_left, and_parts, both_ways, cases_Bool, false_from_ne_true, not-false, not-true, not_from_false, or_left, or_right}
+use Rattle.std.proofs.lemmas.Bool.{and_from, and_left, and_parts, both_ways, false_from_ne_true, not-false, not-true, not_from_false, or_left, or_right}
 use Rattle.std.proofs.lemmas.List.{length-append}
 use Rattle.kilim_classfile.specs.declared.class_file.ClassFile.{ClassFile}
 use Rattle.kilim_program.specs.declared.class.Class.{Class}
@@ -27,7 +27,7 @@ use Rattle.kilim_link_facts.specs.Facts.{NoneIsLeftAbstract}
 use Rattle.kilim_link_facts.specs.Bridge.{bare}
 use Rattle.kilim_link_facts.proofs.Bridge as bridge
 use Rattle.kilim_link_facts.proofs.Bridge.{LinkedClass}
-use Rattle.kilim_link_facts.proofs.Flat.{First, any_at, append_none, first_left, first_none, first_passes, flat_map-append, none_flat}
+use Rattle.kilim_link_facts.proofs.Flat.{any_at, append_none, first_left, first_none, first_passes, flat_map-append}
 use Rattle.kilim_link_facts.proofs.Linking.{Linking, front_none, linking, map_none, none_passes, rest_none}
 use Rattle.kilim_link_facts.proofs.Lists.{Left, Right, Side, all_at, get_left, get_map, get_right, get_there, get_within, none_at, none_by_places, none_is_some, side, some_same}
 use Rattle.kilim_link_facts.proofs.Named.{outlined_at, outlined_one, same_text, text_same}
@@ -236,9 +236,9 @@ module _ (files : List ClassFile) (form : Form) (classes : List Class) (fields :
       let near = any_at (is_nearer s.declared) nearer some in
       let among = all near.1.place near.0 near.1.at in
       let found : first_that (answered m) (flat_map (methods_of p) front ++ flat_map (methods_of p) (d ∷ rest)) ≡ Some id =
-        ap (first_that (answered m)) (sym (flat_map-append (methods_of p) front (d ∷ rest)) ∙ ap (flat_map (methods_of p)) (sym line)) ∙ chosen in
+      ap (first_that (answered m)) (sym (flat_map-append (methods_of p) front (d ∷ rest)) ∙ ap (flat_map (methods_of p)) (sym line)) ∙ chosen in
       nearer_found c id (flat_map (methods_of p) front) (flat_map (methods_of p) (d ∷ rest)) m e none found (first_that (answered m) (flat_map (methods_of p) front)) refl
-        among.place among.id among.at (nearer_answers d s.declared m s.seen near.0 (flat_map (methods_of p) front) among near.1.passes)
+      among.place among.id among.at (nearer_answers d s.declared m s.seen near.0 (flat_map (methods_of p) front) among near.1.passes)
 
   none_here : (c : ClassId) (front rest : List ClassId) (d : ClassId) (nearer : List DeclaredMethod) → line_of p c ≡ front ++ d ∷ rest → All nearer (flat_map (methods_of p) front) →
       list_any (left c) (flat_map (methods_of p) front) ≡ false → filter (is_left_above nearer) (declared_methods w d) ≡ [] →
@@ -254,12 +254,12 @@ module _ (files : List ClassFile) (form : Form) (classes : List Class) (fields :
       let here = front_none (filter (is_left_above nearer) (declared_methods w d)) (left_above w (nearer ++ declared_methods w d) (rest ++ extra)) above in
       let own = none_here c front rest d nearer line all none here (class_at p d) refl in
       let flat : flat_map (methods_of p) front ++ methods_of p d ≡ flat_map (methods_of p) (front ++ d ∷ []) =
-        ap (λ (ids : List MethodId). flat_map (methods_of p) front ++ ids) (sym (append-nil (methods_of p d))) ∙ sym (flat_map-append (methods_of p) front (d ∷ [])) in
+      ap (λ (ids : List MethodId). flat_map (methods_of p) front ++ ids) (sym (append-nil (methods_of p d))) ∙ sym (flat_map-append (methods_of p) front (d ∷ [])) in
       append_none (left c) (methods_of p d) (flat_map (methods_of p) rest) own
-        (none_above c (front ++ d ∷ []) (nearer ++ declared_methods w d) rest extra (line ∙ sym (append_assoc front (d ∷ []) rest))
-          (subst (All (nearer ++ declared_methods w d)) flat (all_more nearer (declared_methods w d) (flat_map (methods_of p) front) (methods_of p d) all (all_of_class d)))
-          (ap (list_any (left c)) (sym flat) ∙ append_none (left c) (flat_map (methods_of p) front) (methods_of p d) none own)
-          (rest_none (filter (is_left_above nearer) (declared_methods w d)) (left_above w (nearer ++ declared_methods w d) (rest ++ extra)) above))
+      (none_above c (front ++ d ∷ []) (nearer ++ declared_methods w d) rest extra (line ∙ sym (append_assoc front (d ∷ []) rest))
+      (subst (All (nearer ++ declared_methods w d)) flat (all_more nearer (declared_methods w d) (flat_map (methods_of p) front) (methods_of p d) all (all_of_class d)))
+      (ap (list_any (left c)) (sym flat) ∙ append_none (left c) (flat_map (methods_of p) front) (methods_of p d) none own)
+      (rest_none (filter (is_left_above nearer) (declared_methods w d)) (left_above w (nearer ++ declared_methods w d) (rest ++ extra)) above))
 
   more : (n : ℕ) × (length p.classes ≡ suc n)
   more =
@@ -276,10 +276,10 @@ module _ (files : List ClassFile) (form : Form) (classes : List Class) (fields :
   own_left c file class is concrete here =
       ap (λ (o : Option Class). list_any (left c) (elim o [ None ↦ [] | Some k ↦ k.methods ])) is
       ∙ none_by_places (left c) class.methods (λ i id inside.
-        let s = positions.seen_at files form classes fields methods l c.0 class is i id inside in
-        let passes = none_passes (is_left_here (has_flag acc_abstract file.access_flags)) (declared_methods w c) here i s.declared s.at in
-        let no_abstract : s.declared.is_abstract ≡ false = and_true s.declared.is_abstract (ap (λ (b : Bool). s.declared.is_abstract && (not b || (s.declared.is_private || s.declared.is_static))) (sym concrete) ∙ passes) in
-        ap (is_left_abstract p c id) s.method_is ∙ and_left s.method.is_abstract (is_same_id id (selected p c s.method)) (sym s.seen.abstracts ∙ no_abstract))
+      let s = positions.seen_at files form classes fields methods l c.0 class is i id inside in
+      let passes = none_passes (is_left_here (has_flag acc_abstract file.access_flags)) (declared_methods w c) here i s.declared s.at in
+      let no_abstract : s.declared.is_abstract ≡ false = and_true s.declared.is_abstract (ap (λ (b : Bool). s.declared.is_abstract && (not b || (s.declared.is_private || s.declared.is_static))) (sym concrete) ∙ passes) in
+      ap (is_left_abstract p c id) s.method_is ∙ and_left s.method.is_abstract (is_same_id id (selected p c s.method)) (sym s.seen.abstracts ∙ no_abstract))
 
   concrete_file : (n : ℕ) (file : ClassFile) (class : Class) → slice_get files n ≡ Some file → slice_get p.classes n ≡ Some class → LinkedClass w file (class_id n) class → has_flag acc_abstract file.access_flags ≡ false →
       list_any (left (class_id n)) (flat_map (methods_of p) (line_of p (class_id n))) ≡ false
@@ -292,14 +292,14 @@ module _ (files : List ClassFile) (form : Form) (classes : List Class) (fields :
       let prefix = line_prefix p m.0 made.up in
       let rest = line_up_to p m.0 made.up in
       let line : line_of p c ≡ c ∷ rest =
-        ap (λ (k : ℕ). line_up_to p k c) m.1
-        ∙ (ap (λ (o : Option Class). c ∷ line_from p m.0 (super_in o)) up ∙ ap (λ (o : Option ClassId). c ∷ line_from p m.0 o) super) in
+      ap (λ (k : ℕ). line_up_to p k c) m.1
+      ∙ (ap (λ (o : Option Class). c ∷ line_from p m.0 (super_in o)) up ∙ ap (λ (o : Option ClassId). c ∷ line_from p m.0 o) super) in
       let ancestors : ancestors_of w.outline c ≡ rest ++ prefix.0 =
-        a.ancestors c ∙ (ap (λ (o : Option Class). line_above p (superclass_of o)) up ∙ (ap (line_above p) super
-        ∙ (ap (λ (k : ℕ). line_up_to p k made.up) m.1 ∙ prefix.1))) in
+      a.ancestors c ∙ (ap (λ (o : Option Class). line_above p (superclass_of o)) up ∙ (ap (line_above p) super
+      ∙ (ap (λ (k : ℕ). line_up_to p k made.up) m.1 ∙ prefix.1))) in
       let left_none = none_left_of w file c (l.none n file there) in
       let above : left_above w (declared_methods w c) (rest ++ prefix.0) ≡ [] =
-        ap (left_above w (declared_methods w c)) (sym ancestors) ∙ (ap (left_inherited w c) (sym concrete) ∙ left_none.above) in
+      ap (left_above w (declared_methods w c)) (sym ancestors) ∙ (ap (left_inherited w c) (sym concrete) ∙ left_none.above) in
       let own = own_left c file class up concrete left_none.here in
       let all : All (declared_methods w c) (methods_of p c ++ []) = λ i d inside. among_left (methods_of p c) [] d (all_of_class c i d inside) in
       let none : list_any (left c) (methods_of p c ++ []) ≡ false = append_none (left c) (methods_of p c) [] own refl in
@@ -313,9 +313,9 @@ module _ (files : List ClassFile) (form : Form) (classes : List Class) (fields :
       let o = built_in_of form len (length methods) k class there in
       ap (λ (x : Option Class). list_any (left c) (elim x [ None ↦ [] | Some y ↦ y.methods ])) (origins.built_at files form classes fields methods l k class there)
       ∙ none_by_places (left c) class.methods (λ i id inside.
-        let m = positions.built_at files form classes fields methods l k class there o i id inside in
-        let no_abstract = not-true _ (all_at (λ (x : Method). not x.is_abstract) (built_in_methods_in form 0) (none_abstract form) m.id0.0 m.of m.of_is) in
-        ap (is_left_abstract p c id) m.method_is ∙ and_left m.of.is_abstract (is_same_id id (selected p c (shift_method len m.of))) no_abstract)
+      let m = positions.built_at files form classes fields methods l k class there o i id inside in
+      let no_abstract = not-true _ (all_at (λ (x : Method). not x.is_abstract) (built_in_methods_in form 0) (none_abstract form) m.id0.0 m.of m.of_is) in
+      ap (is_left_abstract p c id) m.method_is ∙ and_left m.of.is_abstract (is_same_id id (selected p c (shift_method len m.of))) no_abstract)
 
   top_none : (c : ClassId) → list_any (left c) (methods_of p (class_id len)) ≡ false
   top_none c =
@@ -345,7 +345,7 @@ module _ (files : List ClassFile) (form : Form) (classes : List Class) (fields :
   fits_by n class is (OfBuiltIn k place there) =
       let o = built_in_of form len (length methods) k class there in
       let none = ap (λ (ds : List ClassId). list_any (left (class_id (len + k))) (flat_map (methods_of p) ds)) (origins.built_line files form classes fields methods l k class there o)
-        ∙ built_line_none (class_id (len + k)) o.of.superclass (built_none (class_id (len + k)) k class there) in
+      ∙ built_line_none (class_id (len + k)) o.of.superclass (built_none (class_id (len + k)) k class there) in
       ap (λ (m : ℕ). fits (class_id m) class) place ∙ or_right class.is_abstract _ (not_from_false _ none)
 
   pub none_abstract_left : none_is_left_abstract p ≡ true

@@ -1,5 +1,5 @@
 -- What is known of files that link well: the parts of their program, and that no class has a problem.
-use Rattle.std.proofs.Common.{◌≡◌, ℕ, zero, suc, ◌+◌, Bool, true, false, cond, List, [], ◌∷◌, ◌++◌, map, slice_get, Option, Some, None, refl, sym, ap, subst, ◌∙◌, arith, filter}
+use Rattle.std.proofs.Common.{◌≡◌, ℕ, zero, suc, ◌+◌, Bool, true, false, cond, List, [], ◌∷◌, ◌++◌, map, slice_get, Some, refl, sym, ap, subst, ◌∙◌, arith, filter}
 use Rattle.std.specs.List.{AllByRecursion}
 use Rattle.kilim_classfile.specs.declared.class_file.ClassFile.{ClassFile}
 use Rattle.kilim_classfile.specs.Text.{ClassFits}
@@ -50,8 +50,8 @@ linking in_parts none_has of_each_kind Fact files form p well of_parts =
       fields_are = parts.fields_are;
       methods_are = parts.methods_are;
       none = λ n file there.
-        let number : 0 + n ≡ n = omega arith in
-        of_each_kind w file (class_id n) (ap (λ (m : ℕ). problems_of w file (class_id m)) (sym number) ∙ without_at w 0 files (none_has files form well.none) n file there);
+          let number : 0 + n ≡ n = omega arith in
+          of_each_kind w file (class_id n) (ap (λ (m : ℕ). problems_of w file (class_id m)) (sym number) ∙ without_at w 0 files (none_has files form well.none) n file there);
       fit = of_each ClassFits files well.fit;
     } in
     subst Fact (sym parts.is) (of_parts parts.classes parts.fields parts.methods l)

@@ -1,6 +1,6 @@
 -- Lists by the places of their elements.
-use Rattle.std.proofs.Common.{◌≡◌, ℕ, zero, suc, ◌+◌, ◌<◌, ◌≤◌, Bool, true, false, ◌&&◌, ◌||◌, not, List, [], ◌∷◌, ◌++◌, map, length, take, slice_get, Option, Some, None, option_map, filter, refl, sym, ap, ◌∙◌, ◌⊎◌, inl, inr, arith}
-use Rattle.std.specs.List.{list_all, list_any, flat_map}
+use Rattle.std.proofs.Common.{◌≡◌, ℕ, zero, suc, ◌+◌, ◌<◌, ◌≤◌, Bool, true, false, ◌||◌, not, List, [], ◌∷◌, ◌++◌, map, length, take, slice_get, Some, None, option_map, refl, sym, ap, ◌∙◌, arith}
+use Rattle.std.specs.List.{list_all, list_any}
 use Rattle.std.proofs.lemmas.Bool.{and_from, and_parts, or_parts, or_from, not_from_false, not-true}
 use Rattle.kilim_program.specs.Same.{all_differ}
 
@@ -117,8 +117,8 @@ pub differ_by_places : {A : Type 0} (same : A → A → Bool) (xs : List A) →
 differ_by_places same [] each = refl
 differ_by_places same (x ∷ xs) each =
     and_from (not (list_any (same x) xs)) (all_differ same xs)
-      (not_from_false _ (none_by_places (same x) xs (λ n y e. each 0 (suc n) x y (omega arith) refl e)))
-      (differ_by_places same xs (λ i j y z l e f. each (suc i) (suc j) y z (omega (arith, l)) e f))
+    (not_from_false _ (none_by_places (same x) xs (λ n y e. each 0 (suc n) x y (omega arith) refl e)))
+    (differ_by_places same xs (λ i j y z l e f. each (suc i) (suc j) y z (omega (arith, l)) e f))
 
 pub differ_at : {A : Type 0} (same : A → A → Bool) (xs : List A) → all_differ same xs ≡ true →
     (i j : ℕ) (x y : A) → i < j → slice_get xs i ≡ Some x → slice_get xs j ≡ Some y → same x y ≡ false

@@ -1,14 +1,14 @@
 -- Classes by their names: which one has a number, and which one has a name.
-use Rattle.std.proofs.Common.{◌≡◌, ℕ, zero, suc, ◌+◌, ◌<◌, Bool, true, false, cond, List, [], ◌∷◌, ◌++◌, map, length, slice_get, Option, Some, None, option_map, bytes_eq, codes, refl, sym, ap, ◌∙◌, ⊎_elim, arith}
+use Rattle.std.proofs.Common.{◌≡◌, ℕ, zero, suc, ◌+◌, ◌<◌, Bool, true, false, cond, List, [], ◌∷◌, length, slice_get, Option, Some, option_map, bytes_eq, refl, sym, ap, ◌∙◌, arith}
 use Rattle.std.specs.List.{position_from}
-use Rattle.std.proofs.lemmas.Bool.{cases_order, both_ways, true_from_ne_false, false_from_ne_true}
+use Rattle.std.proofs.lemmas.Bool.{both_ways, false_from_ne_true}
 use Rattle.std.proofs.lemmas.Slice.Eq.{bytes_eq-Decides}
 use Rattle.kilim_program.specs.declared.class.Class.{Class}
 use Rattle.kilim_program.specs.declared.names.ClassId.{ClassId}
 use Rattle.kilim_program.specs.BuiltIn.{class_id}
 use Rattle.kilim_program.specs.Names.{◌>>=◌, class_from}
 use Rattle.kilim_class_world.specs.World.{ClassView, number_of, outlined}
-use Rattle.kilim_link_facts.proofs.Lists.{some_same, none_is_some, get_there, get_within}
+use Rattle.kilim_link_facts.proofs.Lists.{some_same, none_is_some}
 
 -- ---- texts
 

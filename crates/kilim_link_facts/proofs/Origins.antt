@@ -1,5 +1,5 @@
 -- Where a class of a linked program comes from: a file, or the built-in classes.
-use Rattle.std.proofs.Common.{◌≡◌, ℕ, zero, suc, ◌+◌, ◌<◌, Bool, true, false, ◌||◌, List, [], ◌∷◌, ◌++◌, map, length, slice_get, Option, Some, None, option_map, bytes_eq, codes, refl, sym, ap, subst, ◌∙◌, arith}
+use Rattle.std.proofs.Common.{◌≡◌, ℕ, suc, ◌+◌, Bool, true, false, ◌||◌, List, [], ◌∷◌, length, slice_get, Option, Some, None, option_map, bytes_eq, codes, refl, sym, ap, subst, ◌∙◌, arith}
 use Rattle.std.specs.List.{list_any}
 use Rattle.std.proofs.lemmas.Bool.{and_from}
 use Rattle.std.proofs.lemmas.List.{length-append, length-map}
@@ -17,14 +17,14 @@ use Rattle.kilim_program.specs.Names.{class_at, class_name, is_named_task, is_ta
 use Rattle.kilim_class_world.specs.Linked.{linked_class, program_with}
 use Rattle.kilim_class_world.specs.Types.{itself}
 use Rattle.kilim_class_world.specs.World.{World, world_of}
-use Rattle.kilim_link_facts.specs.Bridge.{Agree, bare, bared}
+use Rattle.kilim_link_facts.specs.Bridge.{Agree, bare}
 use Rattle.kilim_link_facts.proofs.Bared.{bared_agrees}
 use Rattle.kilim_link_facts.proofs.Bridge as bridge
 use Rattle.kilim_link_facts.proofs.Bridge.{LinkedClass, linked_class_is}
 use Rattle.kilim_link_facts.proofs.Linking.{Linking}
 use Rattle.kilim_link_facts.proofs.Lists.{Left, Right, Side, get_right, get_there, mapped_at, origin, side, some_same}
 use Rattle.kilim_link_facts.proofs.Made.{each_length, file_made, length-numbered}
-use Rattle.kilim_link_facts.proofs.Outline.{Begins, bare_built_in, begins, object_name, or_none, placed, short_line, up_to}
+use Rattle.kilim_link_facts.proofs.Outline.{bare_built_in, begins, object_name, or_none, placed, short_line, up_to}
 
 -- ---- a test of each class
 
@@ -33,7 +33,7 @@ each_from test n [] each = refl
 each_from test n (class ∷ classes) each =
     let number : n ≡ n + 0 = omega arith in
     and_from (test (class_id n) class) (each_class_from test (suc n) classes) (ap (λ (m : ℕ). test (class_id m) class) number ∙ each 0 class refl)
-      (each_from test (suc n) classes (λ k other there. let number : suc n + k ≡ n + suc k = omega arith in ap (λ (m : ℕ). test (class_id m) other) number ∙ each (suc k) other there))
+    (each_from test (suc n) classes (λ k other there. let number : suc n + k ≡ n + suc k = omega arith in ap (λ (m : ℕ). test (class_id m) other) number ∙ each (suc k) other there))
 
 pub each_by_places : (p : Program) (test : ClassId → Class → Bool) → ((n : ℕ) (class : Class) → slice_get p.classes n ≡ Some class → test (class_id n) class ≡ true) → each_class p test ≡ true
 each_by_places p test each = each_from test 0 p.classes (λ k class there. let number : 0 + k ≡ k = omega arith in ap (λ (m : ℕ). test (class_id m) class) number ∙ each k class there)
@@ -49,7 +49,7 @@ pub record BuiltIn (form : Form) (first k : ℕ) (class : Class) : Type 0 where
 pub built_in_of : (form : Form) (first method k : ℕ) (class : Class) → slice_get (built_in_classes_in form first method) k ≡ Some class → BuiltIn form first k class
 built_in_of form first method k class there =
     let o = origin (placed first) (built_in_classes_in form 0 0) k (bare class)
-      (ap (λ (cs : List Class). slice_get cs k) (sym (bare_built_in form first method)) ∙ mapped_at bare (built_in_classes_in form first method) k class there) in
+    (ap (λ (cs : List Class). slice_get cs k) (sym (bare_built_in form first method)) ∙ mapped_at bare (built_in_classes_in form first method) k class there) in
     record { of = o.of; at = o.at; is = o.is }
 
 pub length-built_in : (form : Form) (first method : ℕ) → length (built_in_classes_in form first method) ≡ length (built_in_classes_in form 0 0)
@@ -127,8 +127,8 @@ module _ (files : List ClassFile) (form : Form) (classes : List Class) (fields :
       let b = begins form in
       let t = top_class in
       let number : length p.classes ≡ suc (suc (length files + b.more)) =
-        let both = length-append classes built in let c = count in let len = length-built_in form (length files) (length methods) in let some = b.count in
-        omega (arith, both, c, len, some) in
+      let both = length-append classes built in let c = count in let len = length-built_in form (length files) (length methods) in let some = b.count in
+      omega (arith, both, c, len, some) in
       short_line p (length files + b.more) (class_id (length files + k)) (class_id (length files)) class t.class o.of.superclass number (built_at k class there) (ap (λ (c : Class). c.superclass) (sym o.is)) t.at t.top
 
   top_line : line_of p (class_id (length files)) ≡ class_id (length files) ∷ []
@@ -136,8 +136,8 @@ module _ (files : List ClassFile) (form : Form) (classes : List Class) (fields :
       let b = begins form in
       let t = top_class in
       let number : length p.classes ≡ suc (suc (length files + b.more)) =
-        let both = length-append classes built in let c = count in let len = length-built_in form (length files) (length methods) in let some = b.count in
-        omega (arith, both, c, len, some) in
+      let both = length-append classes built in let c = count in let len = length-built_in form (length files) (length methods) in let some = b.count in
+      omega (arith, both, c, len, some) in
       short_line p (length files + b.more) (class_id (length files)) (class_id (length files)) t.class t.class None number t.at t.top t.at t.top
 
   above_by : (s : Option ClassId) → line_above p (option_map (λ (d : ClassId). class_id (length files)) s) ≡ only_up (option_map (λ (d : ClassId). class_id (length files)) s)

@@ -1,6 +1,5 @@
 -- The outline of a world is the program that its files link to, without its members.
-use Rattle.std.proofs.Common.{◌≡◌, ℕ, zero, suc, ◌+◌, ◌-◌, ◌<◌, ◌≤◌, Bool, true, false, ◌||◌, List, [], ◌∷◌, ◌++◌, map, length, slice_get, Option, Some, None, option_map, codes, refl, sym, ap, subst, ◌∙◌, ⊎_elim, arith}
-use Rattle.std.proofs.lemmas.Bool.{cases_lt}
+use Rattle.std.proofs.Common.{◌≡◌, ℕ, suc, ◌+◌, Bool, true, false, ◌||◌, List, [], ◌∷◌, ◌++◌, map, length, slice_get, Option, Some, None, option_map, codes, refl, sym, ap, ◌∙◌, arith}
 use Rattle.std.proofs.lemmas.List.{length-append, length-map}
 use Rattle.kilim_classfile.specs.declared.class_file.ClassFile.{ClassFile}
 use Rattle.kilim_program.specs.declared.class.Class.{Class}
@@ -11,18 +10,14 @@ use Rattle.kilim_program.specs.declared.class.Method.{Method}
 use Rattle.kilim_program.specs.declared.names.ClassId.{ClassId}
 use Rattle.kilim_program.specs.Program.{Program}
 use Rattle.kilim_program.specs.BuiltIn.{built_in_classes_in, class_id}
-use Rattle.kilim_program.specs.Kinds.{is_marked, is_message}
 use Rattle.kilim_program.specs.Names.{◌>>=◌, class_at, class_name, line_of, line_up_to}
-use Rattle.kilim_class_world.specs.Linked.{linked_class, linked_field, linked_method, program_with}
-use Rattle.kilim_class_world.specs.World.{ClassView, World, built_ins, class_of, field_id, first_field, first_method, has_flag, acc_abstract, is_marked_class, is_message_by, number_of, outline_of, outline_with, outlined, own_name, super_name, view_of_built_in, view_of_file, world_of}
-use Rattle.std.specs.List.{list_any, range_with_len}
-use Rattle.kilim_program.specs.BuiltIn.{method_id}
-use Rattle.kilim_link_facts.specs.Bridge.{bare, bared}
+use Rattle.kilim_class_world.specs.World.{ClassView, World, built_ins, is_marked_class, is_message_by, number_of, outline_with, outlined, view_of_built_in, view_of_file, world_of}
+use Rattle.std.specs.List.{list_any}
+use Rattle.kilim_link_facts.specs.Bridge.{bare}
 use Rattle.kilim_link_facts.proofs.Linking.{Linking}
-use Rattle.kilim_link_facts.proofs.Lists.{get_left, get_map, get_right, get_there, mapped_at, none_is_some, same_by_places, some_same}
-use Rattle.kilim_link_facts.proofs.Made.{each_length, file_makes, length-numbered}
+use Rattle.kilim_link_facts.proofs.Lists.{get_right, mapped_at, some_same}
 use Rattle.kilim_link_facts.proofs.Named.{length-outlined, outlined_at, outlined_one}
-use Rattle.kilim_link_facts.proofs.Unique.{built_views, class_of_is, number_at, views}
+use Rattle.kilim_link_facts.proofs.Unique.{built_views, number_at, views}
 
 -- ---- lines of two classes at most
 
@@ -144,9 +139,9 @@ module _ (files : List ClassFile) (form : Form) (classes : List Class) (fields :
       let number : length files + 0 ≡ length files = omega arith in
       let at : class_at marked (class_id (length files + k)) ≡ Some (outlined_one vs m (length files + k) (view_of_built_in (built_ins form) class)) = one_at m (length files + k) _ (built_view_at k class there) in
       let at_top : class_at marked (class_id (length files)) ≡ Some (outlined_one vs m (length files + 0) (view_of_built_in (built_ins form) b.object)) =
-        ap (λ (n : ℕ). slice_get (outlined vs m 0 vs) n) (sym number) ∙ one_at m (length files + 0) _ (built_view_at 0 b.object b.at) in
+      ap (λ (n : ℕ). slice_get (outlined vs m 0 vs) n) (sym number) ∙ one_at m (length files + 0) _ (built_view_at 0 b.object b.at) in
       let top = built_super 0 b.object b.at ∙ ap (option_map (λ (c : ClassId). class_id (length files))) b.top in
       let count : length marked.classes ≡ suc (suc (length files + b.more)) =
-        let views_count = length-views in let built_count = b.count in let all = length-outlined vs m 0 vs in omega (arith, views_count, built_count, all) in
+      let views_count = length-views in let built_count = b.count in let all = length-outlined vs m 0 vs in omega (arith, views_count, built_count, all) in
       mark_of class.superclass (class_id (length files + k)) (line_of marked (class_id (length files + k))) _ _ at at_top b.unmarked
-        (short_line marked (length files + b.more) (class_id (length files + k)) (class_id (length files)) _ _ class.superclass count at (built_super k class there) at_top top)
+      (short_line marked (length files + b.more) (class_id (length files + k)) (class_id (length files)) _ _ class.superclass count at (built_super k class there) at_top top)

@@ -1,9 +1,8 @@
 -- An overriding method agrees with what it overrides.
-use Rattle.std.proofs.Common.{◌≡◌, ℕ, zero, suc, ◌+◌, Bool, true, false, ◌&&◌, ◌||◌, not, nat_lt, List, [], ◌∷◌, ◌++◌, map, length, slice_get, Option, Some, None, option_map, filter, bytes_eq, codes, refl, sym, ap, subst, ◌∙◌, ltb-true, arith}
-use Rattle.std.specs.List.{flat_map, list_all, list_any}
-use Rattle.std.proofs.lemmas.Bool.{and_from, and_parts, both_ways, false_from_ne_true, not-false, not-true, not_from_false, or_left, or_right}
+use Rattle.std.proofs.Common.{◌≡◌, ℕ, ◌+◌, Bool, true, false, ◌&&◌, not, nat_lt, List, [], map, length, slice_get, Option, Some, None, option_map, filter, bytes_eq, codes, refl, sym, ap, ◌∙◌, ltb-true, arith}
+use Rattle.std.specs.List.{flat_map, list_all}
+use Rattle.std.proofs.lemmas.Bool.{and_from, and_parts, both_ways, not-false, not-true, not_from_false, or_left, or_right}
 use Rattle.kilim_classfile.specs.declared.class_file.ClassFile.{ClassFile}
-use Rattle.kilim_classfile.specs.declared.class_file.MemberInfo.{MemberInfo}
 use Rattle.kilim_program.specs.declared.class.Class.{Class}
 use Rattle.kilim_program.specs.declared.class.Field.{Field}
 use Rattle.kilim_program.specs.declared.class.Form.{Form}
@@ -15,8 +14,8 @@ use Rattle.kilim_program.specs.Program.{Program}
 use Rattle.kilim_program.specs.BuiltIn.{built_in_classes_in, built_in_methods_in, class_id}
 use Rattle.kilim_program.specs.Keeps.{agrees as method_agrees, agrees_with, ancestors_of, overriding_agrees, overrides}
 use Rattle.kilim_program.specs.Names.{class_at, method_at, methods_of}
-use Rattle.kilim_program.specs.Same.{is_constructor, same_flag, same_qualifier, same_qualifiers, same_signature}
-use Rattle.kilim_class_world.specs.Faults.{agrees, differs_from, inherited, override_differs, overrides_badly, same_qualified}
+use Rattle.kilim_program.specs.Same.{is_constructor, same_flag, same_signature}
+use Rattle.kilim_class_world.specs.Faults.{agrees, differs_from, override_differs, overrides_badly, same_qualified}
 use Rattle.kilim_class_world.specs.Laws.{LinkedInParts, NoProblem, NoneHasAProblem, NoneOfEachKind}
 use Rattle.kilim_class_world.specs.Linked.{linked_method, program_with}
 use Rattle.kilim_class_world.specs.Qualified.{Qualified, is_constructor_name, qualified}
@@ -27,16 +26,16 @@ use Rattle.kilim_link_facts.proofs.Differ.{same_signature_is}
 use Rattle.kilim_link_facts.proofs.Flat.{all_append, all_flat, none_flat_at}
 use Rattle.kilim_link_facts.proofs.LinkedMembers.{linked_method_is}
 use Rattle.kilim_link_facts.proofs.Linking.{Linking, linking, map_none, none_passes}
-use Rattle.kilim_link_facts.proofs.Lists.{Left, Right, Side, all_at, all_by_places, get_there, mapped_at, none_at, none_is_some, side, some_same}
+use Rattle.kilim_link_facts.proofs.Lists.{Left, Right, Side, all_at, all_by_places, get_there, mapped_at, none_at, side, some_same}
 use Rattle.kilim_link_facts.proofs.Members.{member_made}
-use Rattle.kilim_link_facts.proofs.Named.{same_text, text_same}
+use Rattle.kilim_link_facts.proofs.Named.{same_text}
 use Rattle.kilim_link_facts.proofs.Origins as origins
 use Rattle.kilim_link_facts.proofs.Origins.{built_in_of, length-built_in, only_up}
 use Rattle.kilim_link_facts.proofs.Outline.{begins}
 use Rattle.kilim_link_facts.proofs.Positions as positions
 use Rattle.kilim_link_facts.proofs.Resolved.{same_descriptor}
 use Rattle.kilim_link_facts.proofs.Seen.{Seen, seen_own}
-use Rattle.kilim_link_facts.proofs.Shifted.{BuiltInMethod, built_in_method_of, shift_method}
+use Rattle.kilim_link_facts.proofs.Shifted.{built_in_method_of, shift_method}
 use Rattle.kilim_link_facts.proofs.Unique.{true_and}
 
 -- ---- no problem
@@ -150,12 +149,12 @@ module _ (files : List ClassFile) (form : Form) (classes : List Class) (fields :
       let dm = declared_method made.file made.member in
       let owner : m.owner ≡ c = ap (λ (x : Method). x.owner) (sym f.is) in
       let badly = none_passes (overrides_badly w c) (declared_methods w c) (none_badly w made.file c (l.none made.class made.file made.file_at)) made.place dm
-        (bodies.methods_there files form classes fields methods l made.class made.file made.place made.member made.file_at made.member_at) in
+      (bodies.methods_there files form classes fields methods l made.class made.file made.place made.member made.file_at made.member_at) in
       let a = origins.agree files form classes fields methods l in
       ap (λ (d : ClassId). list_all (λ (o : MethodId). agrees_with m (method_at p o)) (flat_map (methods_of p) (ancestors_of p d))) owner
       ∙ (ap (λ (ds : List ClassId). list_all (λ (o : MethodId). agrees_with m (method_at p o)) (flat_map (methods_of p) ds)) (sym (a.ancestors c))
       ∙ all_flat (methods_of p) (λ (o : MethodId). agrees_with m (method_at p o)) (ancestors_of w.outline c)
-        (λ n d above. all_agree c dm m (seen_own w made.file c made.member m f) badly n d above (class_at p d) refl))
+      (λ n d above. all_agree c dm m (seen_own w made.file c made.member m f) badly n d above (class_at p d) refl))
 
   -- of `java/lang/Object` nothing is overridden
   object_open : (a : Method) → list_all (λ (id : MethodId). agrees_with a (method_at p id)) (methods_of p (class_id len)) ≡ true
@@ -170,9 +169,9 @@ module _ (files : List ClassFile) (form : Form) (classes : List Class) (fields :
       let at : class_at p (class_id len) ≡ Some t.0 = ap (λ (n : ℕ). class_at p (class_id n)) (sym number) ∙ origins.built_at files form classes fields methods l 0 t.0 t.1 in
       ap (λ (c : Option Class). list_all (λ (id : MethodId). agrees_with a (method_at p id)) (elim c [ None ↦ [] | Some class ↦ class.methods ])) at
       ∙ all_by_places (λ (id : MethodId). agrees_with a (method_at p id)) t.0.methods (λ i id inside.
-        let m = positions.built_at files form classes fields methods l 0 t.0 t.1 o i id inside in
-        let constructor = all_at (λ (d : MethodId). constructs (method_at (built_ins form) d)) o.of.methods (object_constructs form o.of o.at) i m.id0 m.at in
-        ap (agrees_with a) m.method_is ∙ no_override a (shift_method len m.of) (ap constructs (sym m.of_is) ∙ constructor))
+      let m = positions.built_at files form classes fields methods l 0 t.0 t.1 o i id inside in
+      let constructor = all_at (λ (d : MethodId). constructs (method_at (built_ins form) d)) o.of.methods (object_constructs form o.of o.at) i m.id0 m.at in
+      ap (agrees_with a) m.method_is ∙ no_override a (shift_method len m.of) (ap constructs (sym m.of_is) ∙ constructor))
 
   up_open : (a : Method) (s : Option ClassId) → list_all (λ (id : MethodId). agrees_with a (method_at p id)) (flat_map (methods_of p) (only_up (option_map (λ (d : ClassId). class_id len) s))) ≡ true
   up_open a None = refl

@@ -1,5 +1,5 @@
 -- A class's members are those that name it as owner, in their order.
-use Rattle.std.proofs.Common.{◌≡◌, ℕ, zero, suc, ◌+◌, ◌<◌, ◌≤◌, Bool, true, false, ◌&&◌, List, [], ◌∷◌, ◌++◌, map, length, slice_get, take, Option, Some, None, bytes_eq, refl, sym, ap, subst, ◌∙◌, ⊎_elim, ne_eqb, ◌==◌, arith}
+use Rattle.std.proofs.Common.{◌≡◌, ℕ, zero, suc, ◌+◌, ◌<◌, ◌≤◌, Bool, true, ◌&&◌, List, [], ◌∷◌, ◌++◌, map, length, slice_get, Option, Some, bytes_eq, refl, sym, ap, subst, ◌∙◌, ⊎_elim, ne_eqb, ◌==◌, arith}
 use Rattle.std.specs.List.{list_all, range_with_len}
 use Rattle.kilim_program.specs.Names.{is_empty}
 use Rattle.std.proofs.lemmas.Bool.{and_from, and_parts, cond-false, cases_order}
@@ -20,12 +20,12 @@ use Rattle.kilim_program.specs.Keeps.{each_class_from, members_are_owned, owned_
 use Rattle.kilim_class_world.specs.Laws.{LinkedInParts, NoneHasAProblem, NoneOfEachKind}
 use Rattle.kilim_class_world.specs.Linked.{linked_field, linked_method, members, program_with}
 use Rattle.kilim_class_world.specs.Types.{each_of, itself}
-use Rattle.kilim_class_world.specs.World.{ClassView, World, declared_field, declared_method, field_id, first_field, first_method, view_of_file, world_of}
+use Rattle.kilim_class_world.specs.World.{World, declared_field, declared_method, field_id, first_field, first_method, view_of_file, world_of}
 use Rattle.kilim_link_facts.specs.Facts.{MembersAreOwned}
 use Rattle.kilim_link_facts.proofs.Bridge.{LinkedClass}
 use Rattle.kilim_link_facts.proofs.LinkedMembers.{linked_field_is, linked_method_is}
 use Rattle.kilim_link_facts.proofs.Linking.{Linking, linking}
-use Rattle.kilim_link_facts.proofs.Lists.{all_at, get_left, get_there, get_within, mapped_at, none_is_some, some_same}
+use Rattle.kilim_link_facts.proofs.Lists.{all_at, get_within, mapped_at, none_is_some, some_same}
 use Rattle.kilim_link_facts.proofs.Made.{each_length}
 use Rattle.kilim_link_facts.proofs.Members.{MemberMade, before, length-made, member_made}
 use Rattle.kilim_link_facts.proofs.Named.{same_text, text_same}
@@ -54,8 +54,8 @@ module _ {A : Type 0} (list : ClassFile → List MemberInfo) (make : ClassFile �
   owned_row n file there =
       let number : 0 + before list files n ≡ before list files n = omega arith in
       row_owned owner (class_id n) 0 (before list files n) (length (list file)) ys (row_within n file there)
-        (λ j y at low high. let m = member_made list make files ys all j y at in inside j y m low high)
-        (λ j y at is. let m = member_made list make files ys all j y at in outside j y m is)
+      (λ j y at low high. let m = member_made list make files ys all j y at in inside j y m low high)
+      (λ j y at is. let m = member_made list make files ys all j y at in outside j y m is)
       ∙ ap (λ (k : ℕ). range_with_len k (length (list file))) number
     where
       inside : (j : ℕ) (y : A) (m : MemberMade list make files j y) → before list files n ≤ j → j < before list files n + length (list file) → (owner y).0 ≡ n
@@ -64,8 +64,9 @@ module _ {A : Type 0} (list : ClassFile → List MemberInfo) (make : ClassFile �
           let is = m.is in
           owner_is j y m
           ∙ ⊎_elim (λ (same : m.class ≡ n). same)
-            (⊎_elim (λ (less : m.class < n). let past = before_all list files n m.class m.file m.file_at less in absurd (omega (arith, past, place, is, low)))
-            (λ (more : n < m.class). let past = before_all list files m.class n file there more in absurd (omega (arith, past, place, is, high)))) (cases_order m.class n)
+          (⊎_elim (λ (less : m.class < n). let past = before_all list files n m.class m.file m.file_at less in absurd (omega (arith, past, place, is, low)))
+          (λ (more : n < m.class). let past = before_all list files m.class n file there more in absurd (omega (arith, past, place, is, high)))) (cases_order m.class n)
+
       outside : (j : ℕ) (y : A) (m : MemberMade list make files j y) → (owner y).0 ≡ n → (before list files n ≤ j) × (j < before list files n + length (list file))
       outside j y m owned =
           let class : m.class ≡ n = sym (owner_is j y m) ∙ owned in
@@ -180,11 +181,11 @@ module _ (files : List ClassFile) (form : Form) (classes : List Class) (fields :
   of_file n file class there made =
       let within = get_within files n file there in
       let fields_are = ap (λ (c : Class). map (λ (f : FieldId). f.0) c.fields) (sym made.is) ∙ (field_numbers _ ∙ (ap (λ (k : ℕ). range_with_len k (length file.fields)) (first_field_is n (omega (arith, within)))
-        ∙ sym (owned_row (λ f. f.fields) (linked_field w) (λ (f : Field). f.owner) own_field files fields l.fields_are n file there))) in
+      ∙ sym (owned_row (λ f. f.fields) (linked_field w) (λ (f : Field). f.owner) own_field files fields l.fields_are n file there))) in
       let row = owned_row (λ f. f.methods) (linked_method w) (λ (m : Method). m.owner) own_method files methods l.methods_are n file there in
       let rest = built_owners n (0 + length methods) ∙ none_before n (0 + length methods) within (map owner_of (built_in_methods_in form 0)) in
       let all = owned-append (λ (m : Method). m.owner) (class_id n) 0 methods (built_in_methods_in form len)
-        ∙ (ap (λ (xs : List ℕ). owned_from (λ (m : Method). m.owner) (class_id n) 0 methods ++ xs) rest ∙ (append-nil _ ∙ row)) in
+      ∙ (ap (λ (xs : List ℕ). owned_from (λ (m : Method). m.owner) (class_id n) 0 methods ++ xs) rest ∙ (append-nil _ ∙ row)) in
       let methods_are = ap numbers_of (sym made.is) ∙ (method_numbers _ ∙ (ap (λ (k : ℕ). range_with_len k (length file.methods)) (first_method_is n (omega (arith, within))) ∙ sym all)) in
       and_from _ _ (same_text _ _ fields_are) (same_text _ _ methods_are)
 
@@ -208,11 +209,11 @@ module _ (files : List ClassFile) (form : Form) (classes : List Class) (fields :
       let o = built_in_of form len (length methods) k class there in
       let place : 0 + k ≡ k = omega arith in
       let own : numbers_of o.of ≡ owned_numbers k 0 owners =
-        text_same _ _ (each_class_at (λ c class. bytes_eq (numbers_of class) (owned_numbers c.0 0 owners)) 0 (built_in_classes_in form 0 0) (table form) k o.of o.at)
-        ∙ ap (λ (n : ℕ). owned_numbers n 0 owners) place in
+      text_same _ _ (each_class_at (λ c class. bytes_eq (numbers_of class) (owned_numbers c.0 0 owners)) 0 (built_in_classes_in form 0 0) (table form) k o.of o.at)
+      ∙ ap (λ (n : ℕ). owned_numbers n 0 owners) place in
       let shifted : numbers_of class ≡ map (λ (i : ℕ). length methods + i) (numbers_of o.of) = some_same _ _
-        (sym (mapped_at numbers_of (built_in_classes_in form len (length methods)) k class there) ∙ (ap (λ (xs : List (List ℕ)). slice_get xs k) (numbers_shifted form len (length methods))
-        ∙ mapped_at (λ (c : Class). map (λ (i : ℕ). length methods + i) (numbers_of c)) (built_in_classes_in form 0 0) k o.of o.at)) in
+      (sym (mapped_at numbers_of (built_in_classes_in form len (length methods)) k class there) ∙ (ap (λ (xs : List (List ℕ)). slice_get xs k) (numbers_shifted form len (length methods))
+      ∙ mapped_at (λ (c : Class). map (λ (i : ℕ). length methods + i) (numbers_of c)) (built_in_classes_in form 0 0) k o.of o.at)) in
       shifted ∙ ap (map (λ (i : ℕ). length methods + i)) own
 
   built_fields : (k : ℕ) (class : Class) → slice_get (built_in_classes_in form len (length methods)) k ≡ Some class → map (λ (f : FieldId). f.0) class.fields ≡ fields_of (len + k)

@@ -1,5 +1,5 @@
 -- The numbers of the members that name a class as owner.
-use Rattle.std.proofs.Common.{◌≡◌, ℕ, zero, suc, ◌+◌, ◌<◌, ◌≤◌, Bool, true, false, cond, ◌==◌, if◌then◌else◌, List, [], ◌∷◌, ◌++◌, map, length, take, slice_get, Option, Some, None, sum_by, refl, sym, ap, ◌∙◌, ⊎_elim, eq-eqb, ne_eqb, eqb-true, arith}
+use Rattle.std.proofs.Common.{◌≡◌, ℕ, zero, suc, ◌+◌, ◌<◌, ◌≤◌, Bool, true, false, cond, ◌==◌, if◌then◌else◌, List, [], ◌∷◌, ◌++◌, map, length, take, slice_get, Some, sum_by, refl, sym, ap, ◌∙◌, ⊎_elim, eq-eqb, ne_eqb, arith}
 use Rattle.std.specs.List.{range_with_len}
 use Rattle.std.proofs.lemmas.Bool.{cases_eq, cond-true, cond-false}
 use Rattle.std.proofs.lemmas.List.Sums.{sum_by-cons}
@@ -32,13 +32,13 @@ module _ {A : Type 0} (owner : A → ClassId) (c : ClassId) where
       owned_here n x xs (inside 0 x refl (omega arith) (omega arith))
       ∙ (ap (λ (m : ℕ). m ∷ owned_from owner c (suc n) xs) (sym number)
       ∙ ap (λ (ms : List ℕ). (n + 0) ∷ ms)
-        (row_owned (suc n) 0 len xs (omega (arith, within)) (λ j y e l r. inside (suc j) y e (omega arith) (omega (arith, r))) (λ j y e is. let o = outside (suc j) y e is in let r = o.1 in (omega arith, omega (arith, r)))
-        ∙ ap (λ (m : ℕ). range_with_len m len) next))
+      (row_owned (suc n) 0 len xs (omega (arith, within)) (λ j y e l r. inside (suc j) y e (omega arith) (omega (arith, r))) (λ j y e is. let o = outside (suc j) y e is in let r = o.1 in (omega arith, omega (arith, r)))
+      ∙ ap (λ (m : ℕ). range_with_len m len) next))
   row_owned n (suc a) (suc len) (x ∷ xs) within inside outside =
       let next : suc n + a ≡ n + suc a = omega arith in
       owned_later n x xs (λ is. let o = outside 0 x refl is in let l = o.0 in omega (arith, l))
       ∙ (row_owned (suc n) a (suc len) xs (omega (arith, within)) (λ j y e l r. inside (suc j) y e (omega (arith, l)) (omega (arith, r)))
-          (λ j y e is. let o = outside (suc j) y e is in let l = o.0 in let r = o.1 in (omega (arith, l), omega (arith, r)))
+      (λ j y e is. let o = outside (suc j) y e is in let l = o.0 in let r = o.1 in (omega (arith, l), omega (arith, r)))
       ∙ ap (λ (m : ℕ). range_with_len m (suc len)) next)
 
   owned_so : (b : Bool) (n : ℕ) (ms zs : List ℕ) → cond b (n ∷ (ms ++ zs)) (ms ++ zs) ≡ cond b (n ∷ ms) ms ++ zs

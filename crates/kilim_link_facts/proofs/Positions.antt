@@ -1,10 +1,9 @@
 -- The methods of a class in a linked program stand as its class declares them.
-use Rattle.std.proofs.Common.{◌≡◌, ℕ, zero, suc, ◌+◌, ◌<◌, ◌≤◌, Bool, true, false, ◌&&◌, List, [], ◌∷◌, ◌++◌, map, length, slice_get, filter_map, Option, Some, None, is_some, refl, sym, ap, subst, ◌∙◌, arith}
+use Rattle.std.proofs.Common.{◌≡◌, ℕ, zero, suc, ◌+◌, ◌<◌, Bool, true, List, [], ◌∷◌, map, length, slice_get, filter_map, Option, Some, None, is_some, refl, sym, ap, subst, ◌∙◌, arith}
 use Rattle.std.specs.List.{cons_option, list_all, range_with_len}
 use Rattle.std.proofs.lemmas.Bool.{and_parts}
 use Rattle.std.proofs.lemmas.List.{length-map}
 use Rattle.kilim_classfile.specs.declared.class_file.ClassFile.{ClassFile}
-use Rattle.kilim_classfile.specs.declared.class_file.MemberInfo.{MemberInfo}
 use Rattle.kilim_program.specs.declared.class.Class.{Class}
 use Rattle.kilim_program.specs.declared.class.Field.{Field}
 use Rattle.kilim_program.specs.declared.class.Form.{Form}
@@ -16,7 +15,7 @@ use Rattle.kilim_program.specs.Program.{Program}
 use Rattle.kilim_program.specs.BuiltIn.{built_in_classes_in, built_in_methods_in, class_id, method_id}
 use Rattle.kilim_program.specs.Names.{method_at}
 use Rattle.kilim_class_world.specs.Linked.{linked_method, program_with}
-use Rattle.kilim_class_world.specs.World.{ClassView, DeclaredMethod, World, built_ins, declared_built_in, declared_method, declared_methods, first_method, methods_at, view_of_built_in, world_of}
+use Rattle.kilim_class_world.specs.World.{DeclaredMethod, World, built_ins, declared_built_in, declared_method, declared_methods, first_method, methods_at, world_of}
 use Rattle.kilim_link_facts.proofs.Bodies as bodies
 use Rattle.kilim_link_facts.proofs.Bridge.{LinkedClass}
 use Rattle.kilim_link_facts.proofs.LinkedMembers.{linked_method_is}
@@ -30,7 +29,6 @@ use Rattle.kilim_link_facts.proofs.Owned as owned
 use Rattle.kilim_link_facts.proofs.Owned.{numbers_of, numbers_shifted}
 use Rattle.kilim_link_facts.proofs.Seen.{Seen, seen_built_in, seen_own}
 use Rattle.kilim_link_facts.proofs.Shifted.{methods_shifted, shift_method}
-use Rattle.kilim_link_facts.proofs.Unique.{views}
 
 -- ---- lists
 
@@ -108,7 +106,7 @@ module _ (files : List ClassFile) (form : Form) (classes : List Class) (fields :
       let m = member_makes (λ f. f.methods) (linked_method w) files methods l.methods_are n i file member.0 there member.1 in
       let within = get_within files n file there in
       let number : id.0 ≡ before (λ f. f.methods) files n + i =
-        ap (λ (d : MethodId). d.0) (sym o.is) ∙ (place.0 ∙ ap (λ (s : ℕ). s + i) (owned.first_method_is files form classes fields methods l n (omega (arith, within)))) in
+      ap (λ (d : MethodId). d.0) (sym o.is) ∙ (place.0 ∙ ap (λ (s : ℕ). s + i) (owned.first_method_is files form classes fields methods l n (omega (arith, within)))) in
       record {
         declared = declared_method file member.0;
         at = bodies.methods_there files form classes fields methods l n file i member.0 there member.1;
@@ -143,8 +141,8 @@ module _ (files : List ClassFile) (form : Form) (classes : List Class) (fields :
         of = some.0;
         of_is = some.1;
         method_is = ap (slice_get p.methods) place
-          ∙ (get_right methods (built_in_methods_in form len) (length methods + first.of.0) first.of.0 refl
-          ∙ (ap (λ (ms : List Method). slice_get ms first.of.0) (methods_shifted form len) ∙ mapped_at (shift_method len) (built_in_methods_in form 0) first.of.0 some.0 some.1));
+            ∙ (get_right methods (built_in_methods_in form len) (length methods + first.of.0) first.of.0 refl
+            ∙ (ap (λ (ms : List Method). slice_get ms first.of.0) (methods_shifted form len) ∙ mapped_at (shift_method len) (built_in_methods_in form 0) first.of.0 some.0 some.1));
       }
 
   view_methods : (k : ℕ) (class0 : Class) → slice_get (built_in_classes_in form 0 0) k ≡ Some class0 → declared_methods w (class_id (len + k)) ≡ map (declared_built_in (built_ins form)) (filter_map (method_at (built_ins form)) class0.methods)
@@ -158,7 +156,7 @@ module _ (files : List ClassFile) (form : Form) (classes : List Class) (fields :
       record {
         declared = declared_built_in (built_ins form) b.of;
         at = ap (λ (ds : List DeclaredMethod). slice_get ds i) (view_methods k o.of o.at)
-          ∙ mapped_at (declared_built_in (built_ins form)) (filter_map (method_at (built_ins form)) o.of.methods) i b.of
+            ∙ mapped_at (declared_built_in (built_ins form)) (filter_map (method_at (built_ins form)) o.of.methods) i b.of
             (filtered_at (method_at (built_ins form)) o.of.methods (all_at (methods_there form) (built_in_classes_in form 0 0) (all_there form) k o.of o.at) i b.id0 b.of b.at b.of_is);
         method = shift_method len b.of;
         method_is = b.method_is;

@@ -1,5 +1,5 @@
 -- A type in a world says its text: no two class names have one number.
-use Rattle.std.proofs.Common.{◌≡◌, ℕ, Bool, true, false, ◌&&◌, ◌==◌, List, [], ◌∷◌, map, slice_get, Option, Some, None, option_map, refl, sym, ap, ◌∙◌, eqb-true}
+use Rattle.std.proofs.Common.{◌≡◌, ℕ, true, ◌==◌, List, [], ◌∷◌, map, slice_get, Option, Some, None, option_map, refl, sym, ap, ◌∙◌, eqb-true}
 use Rattle.std.proofs.lemmas.Bool.{and_parts}
 use Rattle.kilim_classfile.specs.declared.class_file.ClassFile.{ClassFile}
 use Rattle.kilim_descriptors.specs.declared.types.BaseText.{BaseText}
@@ -152,6 +152,7 @@ same_field_text files form d e f g a b read also is too same =
 
 pub same_types_of : (w : World) (d e : List ℕ) (params others : List Ty) (result other : Option Ty) → Resolves w d params result → Resolves w e others other → d ≡ e → (params ≡ others) × (result ≡ other)
 same_types_of w d e params others result other r s same =
-    let texts : r.text ≡ s.text = some_same r.text s.text (sym r.text_is ∙ (ap method_text same ∙ s.text_is)) in
-    (some_same params others (sym r.params_are ∙ (ap (λ (t : MethodText). types_in w t.params) texts ∙ s.params_are)),
-    some_same result other (sym r.result_is ∙ (ap (λ (t : MethodText). result_in w t.result) texts ∙ s.result_is)))
+    let texts : r.text ≡ s.text = some_same r.text s.text (sym r.text_is ∙ (ap method_text same ∙ s.text_is)) in (
+      some_same params others (sym r.params_are ∙ (ap (λ (t : MethodText). types_in w t.params) texts ∙ s.params_are)),
+      some_same result other (sym r.result_is ∙ (ap (λ (t : MethodText). result_in w t.result) texts ∙ s.result_is)),
+    )

@@ -1,5 +1,5 @@
 -- A method of a linked program, and the method as its class declares it in the world.
-use Rattle.std.proofs.Common.{◌≡◌, ℕ, zero, suc, ◌+◌, ◌<◌, ◌≤◌, Bool, true, false, ◌&&◌, nat_lt, List, [], ◌∷◌, ◌++◌, map, length, slice_get, Option, Some, None, option_map, option_to_list, refl, sym, ap, subst, ◌∙◌, ltb-true, arith}
+use Rattle.std.proofs.Common.{◌≡◌, ℕ, ◌+◌, Bool, true, ◌&&◌, List, [], ◌∷◌, map, length, slice_get, Option, Some, None, option_map, option_to_list, refl, ap, subst, ◌∙◌, ltb-true}
 use Rattle.std.specs.List.{list_all}
 use Rattle.std.proofs.lemmas.Bool.{and_parts}
 use Rattle.kilim_classfile.specs.declared.class_file.ClassFile.{ClassFile}
@@ -18,21 +18,20 @@ use Rattle.kilim_program.specs.declared.names.ClassId.{ClassId}
 use Rattle.kilim_program.specs.declared.ty.Base.{Base}
 use Rattle.kilim_program.specs.declared.ty.Base.TheVariants as base
 use Rattle.kilim_program.specs.declared.ty.Ty.{Ty}
-use Rattle.kilim_program.specs.BuiltIn.{built_in_classes_in, built_in_methods_in, class_id}
+use Rattle.kilim_program.specs.BuiltIn.{built_in_classes_in, built_in_methods_in}
 use Rattle.kilim_program.specs.Keeps.{has_base, has_type}
 use Rattle.kilim_program.specs.Names.{class_name}
-use Rattle.kilim_class_world.specs.Linked.{method_with}
-use Rattle.kilim_class_world.specs.Qualified.{Qualified, qualified}
-use Rattle.kilim_class_world.specs.Types.{base_in, each_of, method_text, result_in, type_in, typed, types_in, with_first}
-use Rattle.kilim_class_world.specs.World.{ClassView, DeclaredMethod, World, built_ins, class_of, declared_built_in, declared_method, method_descriptor, view_of_built_in, world_of}
+use Rattle.kilim_class_world.specs.Qualified.{qualified}
+use Rattle.kilim_class_world.specs.Types.{base_in, method_text, result_in, type_in, typed, types_in, with_first}
+use Rattle.kilim_class_world.specs.World.{DeclaredMethod, World, built_ins, class_of, declared_built_in, declared_method, method_descriptor, view_of_built_in, world_of}
 use Rattle.kilim_link_facts.proofs.LinkedMembers.{LinkedMethod}
 use Rattle.kilim_link_facts.proofs.Linking.{Linking}
-use Rattle.kilim_link_facts.proofs.Lists.{all_at, get_there, mapped_at, some_same}
+use Rattle.kilim_link_facts.proofs.Lists.{all_at, get_there}
 use Rattle.kilim_link_facts.proofs.Outline as outline
 use Rattle.kilim_link_facts.proofs.Outline.{map_same_at}
 use Rattle.kilim_link_facts.proofs.Resolved.{Resolves}
 use Rattle.kilim_link_facts.proofs.Shifted.{shift_base, shift_class, shift_method, shift_type}
-use Rattle.kilim_link_facts.proofs.Unique.{class_of_is, number_at, views}
+use Rattle.kilim_link_facts.proofs.Unique.{class_of_is, number_at}
 
 pub record Seen (w : World) (c : ClassId) (d : DeclaredMethod) (m : Method) : Type 0 where
   pub name : d.name ≡ m.name

@@ -1,5 +1,5 @@
 -- The built-in methods where the first class has a number are those where it has number 0, with all class numbers so much higher.
-use Rattle.std.proofs.Common.{◌≡◌, ℕ, zero, suc, ◌+◌, Bool, true, false, ◌&&◌, ◌==◌, List, [], ◌∷◌, map, slice_get, Option, Some, None, option_map, bytes_eq, refl, sym, ap, ◌∙◌, ⊎_elim, add-zero, eq-eqb, ne_eqb, arith}
+use Rattle.std.proofs.Common.{◌≡◌, ℕ, ◌+◌, Bool, true, ◌&&◌, ◌==◌, List, [], ◌∷◌, map, slice_get, Option, Some, None, option_map, bytes_eq, refl, sym, ap, ◌∙◌, ⊎_elim, add-zero, eq-eqb, ne_eqb, arith}
 use Rattle.std.proofs.lemmas.Bool.{cases_eq}
 use Rattle.kilim_program.specs.declared.class.Form.{Form}
 use Rattle.kilim_program.specs.declared.class.Form.TheVariants.{Plain, Woven}

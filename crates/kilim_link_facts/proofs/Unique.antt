@@ -1,8 +1,7 @@
 -- The classes of a world: no two have one name, so a class is found by its name.
-use Rattle.std.proofs.Common.{◌≡◌, ℕ, zero, suc, ◌+◌, ◌<◌, Bool, true, false, ◌&&◌, List, [], ◌∷◌, ◌++◌, map, length, take, slice_get, Option, Some, None, option_map, bytes_eq, refl, sym, ap, ◌∙◌, arith}
+use Rattle.std.proofs.Common.{◌≡◌, ℕ, ◌+◌, ◌<◌, Bool, true, false, ◌&&◌, List, ◌++◌, map, length, take, slice_get, Option, Some, None, option_map, bytes_eq, refl, sym, ap, ◌∙◌, arith}
 use Rattle.std.specs.List.{list_any, position_from}
 use Rattle.std.proofs.lemmas.Bool.{or_parts}
-use Rattle.std.proofs.lemmas.List.{length-map}
 use Rattle.kilim_classfile.specs.declared.class_file.ClassFile.{ClassFile}
 use Rattle.kilim_program.specs.declared.class.Class.{Class}
 use Rattle.kilim_program.specs.declared.class.Field.{Field}
@@ -16,7 +15,7 @@ use Rattle.kilim_class_world.specs.Faults.{declared_twice, is_built_in_name}
 use Rattle.kilim_class_world.specs.Laws.{NoProblem}
 use Rattle.kilim_class_world.specs.World.{ClassView, World, built_ins, class_of, is_message_by, number_of, outline_with, own_name, view_of_built_in, view_of_file, world_of}
 use Rattle.kilim_link_facts.proofs.Linking.{Linking, front_none, not_so}
-use Rattle.kilim_link_facts.proofs.Lists.{Left, Origin, Right, Side, differ_at, get_left, get_right, get_take, mapped_at, none_at, origin, side, some_same}
+use Rattle.kilim_link_facts.proofs.Lists.{Left, Origin, Right, Side, differ_at, get_take, none_at, origin, side, some_same}
 use Rattle.kilim_link_facts.proofs.Named.{class_from_outlined, position, position_at, same_text, text_same, texts_back}
 
 abbrev pub built_views : Form → List ClassView

@@ -1,5 +1,5 @@
 -- What the outline of a world says of the program that its files link to.
-use Rattle.std.specs.Prelude.{◌≡◌, Bool, List, [], map, Option}
+use Rattle.std.specs.Prelude.{◌≡◌, List, [], map, Option}
 use Rattle.kilim_classfile.specs.declared.class_file.ClassFile.{ClassFile}
 use Rattle.kilim_program.specs.declared.class.Class.{Class}
 use Rattle.kilim_program.specs.declared.class.Form.{Form}
