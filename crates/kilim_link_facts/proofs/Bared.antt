@@ -16,7 +16,7 @@ use Rattle.kilim_program.specs.Program.{Program}
 use Rattle.kilim_link_facts.specs.Bridge.{BaredAgrees, bare, bared}
 use Rattle.kilim_link_facts.proofs.Lists.{any_same, get_map}
 
-abbrev super_in : Option Class → Option ClassId
+abbrev pub super_in : Option Class → Option ClassId
 super_in o = o >>= λ (class : Class). class.superclass
 
 abbrev name_in : Option Class → List ℕ
@@ -38,7 +38,7 @@ is_marked_same : (o : Option Class) → is_marked (option_map bare o) ≡ is_mar
 is_marked_same None = refl
 is_marked_same (Some class) = refl
 
-abbrev line_from : Program → ℕ → Option ClassId → List ClassId
+abbrev pub line_from : Program → ℕ → Option ClassId → List ClassId
 line_from p n o = elim o [ None ↦ [] | Some up ↦ line_up_to p n up ]
 
 class_same : (p : Program) (c : ClassId) → class_at (bared p) c ≡ option_map bare (class_at p c)

@@ -66,7 +66,7 @@ module _ (files : List ClassFile) (form : Form) (classes : List Class) (fields :
   abbrev mark : ClassId → ClassView → Bool
   mark c v = is_message_by (outline_with form vs (λ d u. u.is_marked)) c
 
-  length-classes : length classes ≡ length files
+  pub length-classes : length classes ≡ length files
   length-classes = each_length itself _ classes l.classes_are ∙ length-numbered (linked_class w) 0 files
 
   file_view_at : (n : ℕ) (file : ClassFile) → slice_get files n ≡ Some file → slice_get vs n ≡ Some (view_of_file file)

@@ -26,6 +26,7 @@ use Rattle.kilim_link_facts.proofs.Lists.{Left, Right, Side, differ_at, differ_b
 use Rattle.kilim_link_facts.proofs.Members.{MemberMade, before, member_made}
 use Rattle.kilim_link_facts.proofs.Named.{outlined_at, outlined_one, same_text, text_same}
 use Rattle.kilim_link_facts.proofs.Resolved.{Resolves, result_same, same_descriptor, same_field_text, type_same, types_same}
+use Rattle.kilim_link_facts.proofs.Seen.{seen_own}
 use Rattle.kilim_link_facts.proofs.Shifted.{built_in_method_of, methods_differ, same_method_shifted, shift_method}
 use Rattle.kilim_link_facts.proofs.Unique as unique
 use Rattle.kilim_link_facts.proofs.Unique.{views}
@@ -155,11 +156,8 @@ module _ (files : List ClassFile) (form : Form) (classes : List Class) (fields :
 
   -- ---- methods
 
-  pub resolves : (file : ClassFile) (c : ClassId) (member : MemberInfo) (method : Method) → LinkedMethod w file c member method → Resolves w (member_descriptor file member) method.params method.result
-  resolves file c member method m =
-      let params : m.params ≡ method.params = ap (λ (x : Method). x.params) m.is in
-      let result : m.result ≡ method.result = ap (λ (x : Method). x.result) m.is in
-      record { text = m.text; text_is = m.text_is; params_are = m.params_are ∙ ap Some params; result_is = m.result_is ∙ ap Some result }
+  resolves : (file : ClassFile) (c : ClassId) (member : MemberInfo) (method : Method) → LinkedMethod w file c member method → Resolves w (member_descriptor file member) method.params method.result
+  resolves file c member method m = (seen_own w file c member method m).types
 
   own_methods : (i j : ℕ) (a b : Method) → i < j → slice_get methods i ≡ Some a → slice_get methods j ≡ Some b → a.owner.0 ≡ b.owner.0 → SameSignature a b → ⊥
   own_methods i j a b less first second owners same =

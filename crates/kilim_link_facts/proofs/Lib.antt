@@ -23,4 +23,5 @@ mod Seen
 mod Positions
 mod Flat
 mod Overriding
+mod Nearer
 mod LeftAbstract

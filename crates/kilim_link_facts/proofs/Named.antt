@@ -1,7 +1,7 @@
 -- Classes by their names: which one has a number, and which one has a name.
 use Rattle.std.proofs.Common.{◌≡◌, ℕ, zero, suc, ◌+◌, ◌<◌, Bool, true, false, cond, List, [], ◌∷◌, length, slice_get, Option, Some, option_map, bytes_eq, refl, sym, ap, ◌∙◌, arith}
 use Rattle.std.specs.List.{position_from}
-use Rattle.std.proofs.lemmas.Bool.{both_ways, false_from_ne_true}
+use Rattle.std.proofs.lemmas.Bool.{both_ways, cond-false, cond-true, false_from_ne_true}
 use Rattle.std.proofs.lemmas.Slice.Eq.{bytes_eq-Decides}
 use Rattle.kilim_program.specs.declared.class.Class.{Class}
 use Rattle.kilim_program.specs.declared.names.ClassId.{ClassId}
@@ -63,23 +63,15 @@ class_from_outlined all mark name n (v ∷ vs) =
     ∙ found_so (bytes_eq v.name name) n (position_from (is_named name) (n + 1) vs))
 
 -- the place of the first one that passes
-cond_at_true : {A : Type 0} (b : Bool) (x y : A) → b ≡ true → cond b x y ≡ x
-cond_at_true true x y e = refl
-cond_at_true false x y e = absurd (both_ways false refl e)
-
-cond_at_false : {A : Type 0} (b : Bool) (x y : A) → b ≡ false → cond b x y ≡ y
-cond_at_false true x y e = absurd (both_ways true e refl)
-cond_at_false false x y e = refl
-
 pub position_at : {A : Type 0} (test : A → Bool) (n : ℕ) (xs : List A) (k : ℕ) (x : A) → slice_get xs k ≡ Some x → test x ≡ true →
     ((i : ℕ) (y : A) → i < k → slice_get xs i ≡ Some y → test y ≡ false) → position_from test n xs ≡ Some (n + k)
 position_at test n [] k x there passes before = absurd (none_is_some x there)
 position_at test n (y ∷ xs) zero x there passes before =
     let number : n ≡ n + 0 = omega arith in
-    cond_at_true (test y) (Some n) (position_from test (n + 1) xs) (ap test (some_same y x there) ∙ passes) ∙ ap Some number
+    cond-true (test y) (Some n) (position_from test (n + 1) xs) (ap test (some_same y x there) ∙ passes) ∙ ap Some number
 position_at test n (y ∷ xs) (suc k) x there passes before =
     let number : n + 1 + k ≡ n + suc k = omega arith in
-    cond_at_false (test y) (Some n) (position_from test (n + 1) xs) (before 0 y (omega arith) refl)
+    cond-false (test y) (Some n) (position_from test (n + 1) xs) (before 0 y (omega arith) refl)
     ∙ (position_at test (n + 1) xs k x there passes (λ i z l e. before (suc i) z (omega (arith, l)) e) ∙ ap Some number)
 
 pub record Position {A : Type 0} (test : A → Bool) (n : ℕ) (xs : List A) (m : ℕ) : Type 0 where

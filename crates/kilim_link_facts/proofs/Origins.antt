@@ -15,7 +15,6 @@ use Rattle.kilim_program.specs.Keeps.{ancestors_of, each_class, each_class_from,
 use Rattle.kilim_program.specs.Kinds.{is_marked, is_message}
 use Rattle.kilim_program.specs.Names.{class_at, class_name, is_named_task, is_task, line_of}
 use Rattle.kilim_class_world.specs.Linked.{linked_class, program_with}
-use Rattle.kilim_class_world.specs.Types.{itself}
 use Rattle.kilim_class_world.specs.World.{World, world_of}
 use Rattle.kilim_link_facts.specs.Bridge.{Agree, bare}
 use Rattle.kilim_link_facts.proofs.Bared.{bared_agrees}
@@ -23,7 +22,7 @@ use Rattle.kilim_link_facts.proofs.Bridge as bridge
 use Rattle.kilim_link_facts.proofs.Bridge.{LinkedClass, linked_class_is}
 use Rattle.kilim_link_facts.proofs.Linking.{Linking}
 use Rattle.kilim_link_facts.proofs.Lists.{Left, Right, Side, get_right, get_there, mapped_at, origin, side, some_same}
-use Rattle.kilim_link_facts.proofs.Made.{each_length, file_made, length-numbered}
+use Rattle.kilim_link_facts.proofs.Made.{file_made}
 use Rattle.kilim_link_facts.proofs.Outline.{bare_built_in, begins, object_name, or_none, placed, short_line, up_to}
 
 -- ---- a test of each class
@@ -88,7 +87,7 @@ module _ (files : List ClassFile) (form : Form) (classes : List Class) (fields :
   agree = subst (λ (q : Program). Agree q p) (sym (bridge.outline_is_bared files form classes fields methods l)) (bared_agrees p)
 
   pub count : length classes ≡ length files
-  count = each_length itself _ classes l.classes_are ∙ length-numbered (linked_class w) 0 files
+  count = bridge.length-classes files form classes fields methods l
 
   origin_by : (n : ℕ) (class : Class) → Side classes built n class → ClassOrigin files form (length methods) n class
   origin_by n class (Left e) =

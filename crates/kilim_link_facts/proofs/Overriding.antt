@@ -186,7 +186,8 @@ module _ (files : List ClassFile) (form : Form) (classes : List Class) (fields :
       let less = ltb-true c (length (built_in_classes_in form 0 0)) (all_at (λ (x : Method). nat_lt x.owner.0 (length (built_in_classes_in form 0 0))) (built_in_methods_in form 0) (owners_there form) k o.of o.at) in
       let class = get_there built c (omega (arith, count, less)) in
       let q = built_in_of form len (length methods) c class.0 class.1 in
-      ap (λ (d : ClassId). list_all (λ (id : MethodId). agrees_with m (method_at p id)) (flat_map (methods_of p) (ancestors_of p d))) (ap (λ (x : Method). x.owner) (sym o.is))
+      let owner : m.owner ≡ class_id (len + c) = ap (λ (x : Method). x.owner) (sym o.is) in
+      ap (λ (d : ClassId). list_all (λ (id : MethodId). agrees_with m (method_at p id)) (flat_map (methods_of p) (ancestors_of p d))) owner
       ∙ (ap (λ (ds : List ClassId). list_all (λ (id : MethodId). agrees_with m (method_at p id)) (flat_map (methods_of p) ds)) (origins.built_ancestors files form classes fields methods l c class.0 class.1 q)
       ∙ up_open m q.of.superclass)
 

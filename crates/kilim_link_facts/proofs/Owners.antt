@@ -1,7 +1,7 @@
 -- The numbers of the members that name a class as owner.
-use Rattle.std.proofs.Common.{◌≡◌, ℕ, zero, suc, ◌+◌, ◌<◌, ◌≤◌, Bool, true, false, cond, ◌==◌, if◌then◌else◌, List, [], ◌∷◌, ◌++◌, map, length, take, slice_get, Some, sum_by, refl, sym, ap, ◌∙◌, ⊎_elim, eq-eqb, ne_eqb, arith}
+use Rattle.std.proofs.Common.{◌≡◌, ℕ, zero, suc, ◌+◌, ◌<◌, ◌≤◌, Bool, true, false, cond, ◌==◌, if◌then◌else◌, List, [], ◌∷◌, ◌++◌, map, length, take, slice_get, Some, sum_by, refl, sym, ap, ◌∙◌, eq-eqb, ne_eqb, arith}
 use Rattle.std.specs.List.{range_with_len}
-use Rattle.std.proofs.lemmas.Bool.{cases_eq, cond-true, cond-false}
+use Rattle.std.proofs.lemmas.Bool.{cond-true, cond-false}
 use Rattle.std.proofs.lemmas.List.Sums.{sum_by-cons}
 use Rattle.kilim_classfile.specs.declared.class_file.ClassFile.{ClassFile}
 use Rattle.kilim_classfile.specs.declared.class_file.MemberInfo.{MemberInfo}
@@ -9,6 +9,7 @@ use Rattle.kilim_program.specs.declared.names.ClassId.{ClassId}
 use Rattle.kilim_program.specs.Keeps.{owned_from}
 use Rattle.kilim_link_facts.proofs.Lists.{none_is_some, some_same}
 use Rattle.kilim_link_facts.proofs.Members.{before}
+use Rattle.kilim_link_facts.proofs.Shifted.{same_number_shifted}
 
 module _ {A : Type 0} (owner : A → ClassId) (c : ClassId) where
   owned_here : (n : ℕ) (x : A) (xs : List A) → (owner x).0 ≡ c.0 → owned_from owner c n (x ∷ xs) ≡ n ∷ owned_from owner c (suc n) xs
@@ -62,11 +63,6 @@ pub owned_by_numbers : {A : Type 0} (owner : A → ClassId) (c : ClassId) (n : �
 owned_by_numbers owner c n [] = refl
 owned_by_numbers owner c n (x ∷ xs) = ap (λ (ms : List ℕ). if (owner x).0 == c.0 then n ∷ ms else ms) (owned_by_numbers owner c (suc n) xs)
 
-same_shifted : (first x c : ℕ) → (first + x == first + c) ≡ (x == c)
-same_shifted first x c =
-    ⊎_elim (λ (same : x ≡ c). eq-eqb (first + x) (first + c) (ap (λ (m : ℕ). first + m) same) ∙ sym (eq-eqb x c same))
-    (λ (other : x ≡ c → ⊥). ne_eqb (first + x) (first + c) (λ e. other (omega (arith, e))) ∙ sym (ne_eqb x c other)) (cases_eq x c)
-
 shifted_so : (b : Bool) (n m : ℕ) (ms : List ℕ) → cond b ((m + n) ∷ map (λ (i : ℕ). m + i) ms) (map (λ (i : ℕ). m + i) ms) ≡ map (λ (i : ℕ). m + i) (cond b (n ∷ ms) ms)
 shifted_so true n m ms = refl
 shifted_so false n m ms = refl
@@ -77,7 +73,7 @@ owned_shifted first m c n [] = refl
 owned_shifted first m c n (x ∷ xs) =
     let number : suc (m + n) ≡ m + suc n = omega arith in
     let rest = ap (λ (k : ℕ). owned_numbers (first + c) k (map (λ (y : ℕ). first + y) xs)) number ∙ owned_shifted first m c (suc n) xs in
-    ap (λ (b : Bool). cond b ((m + n) ∷ owned_numbers (first + c) (suc (m + n)) (map (λ (y : ℕ). first + y) xs)) (owned_numbers (first + c) (suc (m + n)) (map (λ (y : ℕ). first + y) xs))) (same_shifted first x c)
+    ap (λ (b : Bool). cond b ((m + n) ∷ owned_numbers (first + c) (suc (m + n)) (map (λ (y : ℕ). first + y) xs)) (owned_numbers (first + c) (suc (m + n)) (map (λ (y : ℕ). first + y) xs))) (same_number_shifted first x c)
     ∙ (ap (λ (ms : List ℕ). cond (x == c) ((m + n) ∷ ms) ms) rest ∙ shifted_so (x == c) n m (owned_numbers c (suc n) xs))
 
 -- ---- the members before those of a file

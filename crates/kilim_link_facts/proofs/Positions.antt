@@ -128,22 +128,22 @@ module _ (files : List ClassFile) (form : Form) (classes : List Class) (fields :
       (sym (mapped_at numbers_of built k class there) ∙ (ap (λ (xs : List (List ℕ)). slice_get xs k) (numbers_shifted form len (length methods))
       ∙ mapped_at (λ (c : Class). map (λ (x : ℕ). length methods + x) (numbers_of c)) (built_in_classes_in form 0 0) k o.of o.at))
 
+  -- a built-in method of the program, by the place where the first one has number 0
+  shifted_at : (id id0 : MethodId) (m : Method) → id.0 ≡ length methods + id0.0 → method_at (built_ins form) id0 ≡ Some m → method_at p id ≡ Some (shift_method len m)
+  shifted_at id id0 m place there =
+      let here : slice_get p.methods id.0 ≡ slice_get (built_in_methods_in form len) id0.0 = get_right methods (built_in_methods_in form len) id.0 id0.0 place in
+      let shifted : slice_get (built_in_methods_in form len) id0.0 ≡ slice_get (map (shift_method len) (built_in_methods_in form 0)) id0.0 = ap (λ (ms : List Method). slice_get ms id0.0) (methods_shifted form len) in
+      here ∙ (shifted ∙ mapped_at (shift_method len) (built_in_methods_in form 0) id0.0 m there)
+
   pub built_at : (k : ℕ) (class : Class) → slice_get built k ≡ Some class → (o : BuiltIn form len k class) → (i : ℕ) (id : MethodId) → slice_get class.methods i ≡ Some id → BuiltAt o.of i id
   built_at k class there o i id inside =
       let shifted = numbers_are k class there o in
       let number = origin (λ (x : ℕ). length methods + x) (numbers_of o.of) i id.0 (ap (λ (xs : List ℕ). slice_get xs i) (sym shifted) ∙ mapped_at (λ (m : MethodId). m.0) class.methods i id inside) in
       let first = origin (λ (m : MethodId). m.0) o.of.methods i number.of number.at in
-      let some = some_of (method_at (built_ins form) first.of) (all_at (λ (d : MethodId). is_some (method_at (built_ins form) d)) o.of.methods (all_at (methods_there form) (built_in_classes_in form 0 0) (all_there form) k o.of o.at) i first.of first.at) in
+      let all = all_at (methods_there form) (built_in_classes_in form 0 0) (all_there form) k o.of o.at in
+      let some = some_of (method_at (built_ins form) first.of) (all_at (λ (d : MethodId). is_some (method_at (built_ins form) d)) o.of.methods all i first.of first.at) in
       let place : id.0 ≡ length methods + first.of.0 = sym number.is ∙ ap (λ (x : ℕ). length methods + x) (sym first.is) in
-      record {
-        id0 = first.of;
-        at = first.at;
-        of = some.0;
-        of_is = some.1;
-        method_is = ap (slice_get p.methods) place
-            ∙ (get_right methods (built_in_methods_in form len) (length methods + first.of.0) first.of.0 refl
-            ∙ (ap (λ (ms : List Method). slice_get ms first.of.0) (methods_shifted form len) ∙ mapped_at (shift_method len) (built_in_methods_in form 0) first.of.0 some.0 some.1));
-      }
+      record { id0 = first.of; at = first.at; of = some.0; of_is = some.1; method_is = shifted_at id first.of some.0 place some.1 }
 
   view_methods : (k : ℕ) (class0 : Class) → slice_get (built_in_classes_in form 0 0) k ≡ Some class0 → declared_methods w (class_id (len + k)) ≡ map (declared_built_in (built_ins form)) (filter_map (method_at (built_ins form)) class0.methods)
   unfolding world_of
