@@ -6,3 +6,4 @@ mod First
 mod MorePrograms
 mod Agreeing
 mod Parts
+mod InstructionTable

@@ -13,3 +13,4 @@ pub mod Laws
 pub mod LinksWell
 pub mod Programs
 pub mod Agreement
+pub mod Instructions

@@ -3,6 +3,7 @@
 ghost use Rattle.kilim_class_world.specs.Agreement.{FaultsAndFactsAgree};
 ghost use Rattle.kilim_class_world.specs.Details.{DetailsHold};
 ghost use Rattle.kilim_class_world.specs.Examples.{AIsLinked, ExamplesHold};
+ghost use Rattle.kilim_class_world.specs.Instructions.{InstructionsAgree};
 ghost use Rattle.kilim_class_world.specs.Laws.{DecodedIsDecode, LinkedInParts, NoneHasAProblem, NoneIsNamed, NoneOfEachKind};
 ghost use Rattle.kilim_class_world.specs.Linked.{OneProgram};
 ghost use Rattle.kilim_class_world.specs.Programs.{ProgramsAreLinked};
@@ -66,4 +67,10 @@ pub fn none_of_each_kind()
 /// A law, and no work: where files have no fault of linking, no class has a problem.
 pub fn none_has_a_problem()
     ensures { NoneHasAProblem }
+{}
+
+/// A law, and no work: of all 256 numbers, which ones the tables of instructions have, which instruction each is, and
+/// which entries of the pool it takes.
+pub fn instructions_agree()
+    ensures { InstructionsAgree }
 {}
