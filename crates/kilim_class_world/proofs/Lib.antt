@@ -7,3 +7,4 @@ mod MorePrograms
 mod Agreeing
 mod Parts
 mod InstructionTable
+mod Searching

@@ -14,3 +14,4 @@ pub mod LinksWell
 pub mod Programs
 pub mod Agreement
 pub mod Instructions
+pub mod Search

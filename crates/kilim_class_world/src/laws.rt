@@ -7,6 +7,7 @@ ghost use Rattle.kilim_class_world.specs.Instructions.{InstructionsAgree};
 ghost use Rattle.kilim_class_world.specs.Laws.{DecodedIsDecode, LinkedInParts, NoneHasAProblem, NoneIsNamed, NoneOfEachKind};
 ghost use Rattle.kilim_class_world.specs.Linked.{OneProgram};
 ghost use Rattle.kilim_class_world.specs.Programs.{ProgramsAreLinked};
+ghost use Rattle.kilim_class_world.specs.Search.{SearchesHold};
 
 use kilim_opcodes::{lengths, one_spelling};
 
@@ -73,4 +74,9 @@ pub fn none_has_a_problem()
 /// which entries of the pool it takes.
 pub fn instructions_agree()
     ensures { InstructionsAgree }
+{}
+
+/// A law, and no work: numbers by order, members of the nearest ancestor, and what class files name, place by place.
+pub fn searches_hold()
+    ensures { SearchesHold }
 {}
