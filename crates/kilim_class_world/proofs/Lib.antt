@@ -8,3 +8,5 @@ mod Agreeing
 mod Parts
 mod InstructionTable
 mod Searching
+mod EdgeFiles
+mod RelatedFiles

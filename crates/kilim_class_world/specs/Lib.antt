@@ -15,3 +15,5 @@ pub mod Programs
 pub mod Agreement
 pub mod Instructions
 pub mod Search
+pub mod Edges
+pub mod Relations

@@ -2,11 +2,13 @@
 
 ghost use Rattle.kilim_class_world.specs.Agreement.{FaultsAndFactsAgree};
 ghost use Rattle.kilim_class_world.specs.Details.{DetailsHold};
+ghost use Rattle.kilim_class_world.specs.Edges.{EdgesHold};
 ghost use Rattle.kilim_class_world.specs.Examples.{AIsLinked, ExamplesHold};
 ghost use Rattle.kilim_class_world.specs.Instructions.{InstructionsAgree};
 ghost use Rattle.kilim_class_world.specs.Laws.{DecodedIsDecode, LinkedInParts, NoneHasAProblem, NoneIsNamed, NoneOfEachKind};
 ghost use Rattle.kilim_class_world.specs.Linked.{OneProgram};
 ghost use Rattle.kilim_class_world.specs.Programs.{ProgramsAreLinked};
+ghost use Rattle.kilim_class_world.specs.Relations.{RelationsHold};
 ghost use Rattle.kilim_class_world.specs.Search.{SearchesHold};
 
 use kilim_opcodes::{lengths, one_spelling};
@@ -79,4 +81,15 @@ pub fn instructions_agree()
 /// A law, and no work: numbers by order, members of the nearest ancestor, and what class files name, place by place.
 pub fn searches_hold()
     ensures { SearchesHold }
+{}
+
+/// A law, and no work: code, descriptors and names of classes at their edges.
+pub fn edges_hold()
+    ensures { EdgesHold }
+{}
+
+/// A law, and no work: what is declared twice, overrides, stays abstract, is extended or left out, and how methods are
+/// qualified and pause.
+pub fn relations_hold()
+    ensures { RelationsHold }
 {}
