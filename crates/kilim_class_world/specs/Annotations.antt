@@ -32,8 +32,8 @@ annotation_type (Annotation type count) = type ∷ []
 annotation_type _ = []
 
 -- the types of the annotations on a member
-unfoldable pub types_in : List AnnotationPart → List ℕ
-types_in parts = flat_map annotation_type (outermost zero parts)
+unfoldable pub types_on_member : List AnnotationPart → List ℕ
+types_on_member parts = flat_map annotation_type (outermost zero parts)
 
 -- for each parameter the types of the annotations on it
 unfoldable pub params_in : List AnnotationPart → List (List ℕ)

@@ -22,7 +22,7 @@ use Rattle.kilim_attributes.specs.declared.attribute.Info.TheVariants as info
 use Rattle.kilim_classfile.specs.declared.class_file.ClassFile.{ClassFile}
 use Rattle.kilim_classfile.specs.declared.class_file.MemberInfo.{MemberInfo}
 use Rattle.kilim_classfile.specs.Parts.{text_of}
-use Rattle.kilim_class_world.specs.Annotations.{types_in, params_in}
+use Rattle.kilim_class_world.specs.Annotations.{types_on_member, params_in}
 
 -- ---- names and flags of a file
 
@@ -132,7 +132,7 @@ annotation_parts (info.RuntimeInvisibleAnnotations parts) = parts
 annotation_parts _ = []
 
 abbrev pub annotation_types : List Entry → MemberInfo → List (List ℕ)
-annotation_types pool member = flat_map (λ a. map (text_of pool) (types_in (annotation_parts a.info))) member.attributes
+annotation_types pool member = flat_map (λ a. map (text_of pool) (types_on_member (annotation_parts a.info))) member.attributes
 
 -- of each attribute of parameters, the types of the annotations on each parameter
 abbrev pub parameter_parts : Info → Option (List AnnotationPart)
