@@ -12,6 +12,7 @@ use Rattle.kilim_program.specs.declared.ty.Qualifier.{Qualifier}
 use Rattle.kilim_program.specs.declared.ty.Ty.{Ty}
 use Rattle.kilim_program.specs.Program.{Program}
 use Rattle.kilim_program.specs.BuiltIn.{class_id, method_id, built_in_classes_in, built_in_methods_in, is_final_built_in}
+use Rattle.kilim_program.specs.Kinds.{is_marked}
 use Rattle.kilim_program.specs.Names.{◌>>=◌, class_at, class_name, class_named, descriptor, line_of, method_at}
 use Rattle.kilim_constant_pool.specs.declared.entry.Entry.{Entry}
 use Rattle.kilim_constant_pool.specs.declared.entry.Entry.TheVariants as entry
@@ -228,14 +229,9 @@ outlined all mark n (v ∷ vs) =
 abbrev pub outline_with : Form → List ClassView → (ClassId → ClassView → Bool) → Program
 outline_with form classes mark = record { classes = outlined classes mark 0 classes; methods = []; fields = []; form = form }
 
--- marked itself
-abbrev pub is_marked_class : Option Class → Bool
-is_marked_class None = false
-is_marked_class (Some class) = class.message
-
 -- A message class implements `kilim/Message`, itself or by a superclass.
 abbrev pub is_message_by : Program → ClassId → Bool
-is_message_by marked c = list_any (λ d. is_marked_class (class_at marked d)) (line_of marked c)
+is_message_by marked c = list_any (λ d. is_marked (class_at marked d)) (line_of marked c)
 
 abbrev pub outline_of : Form → List ClassView → Program
 outline_of form classes =
