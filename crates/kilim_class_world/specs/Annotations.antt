@@ -27,6 +27,7 @@ lists_of [] = []
 lists_of (Annotations count ∷ parts) = types_before parts ∷ lists_of parts
 lists_of (part ∷ parts) = lists_of parts
 
+-- the type of a part that is an annotation
 abbrev pub annotation_type : AnnotationPart → List ℕ
 annotation_type (Annotation type count) = type ∷ []
 annotation_type _ = []
