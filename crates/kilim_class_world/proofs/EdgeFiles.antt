@@ -47,6 +47,8 @@ edges_hold = record {
   has_cast_to_255 = refl;
   has_cast_to_256 = refl;
   has_elements_of_255 = refl;
+  has_called_with_255 = refl;
+  has_called_with_256 = refl;
   has_malformed_owner = refl;
   has_name_with_dot = refl;
   has_name_with_semicolon = refl;
@@ -61,4 +63,5 @@ edges_hold = record {
   has_name_of_65001 = refl;
   has_wide_name_of_65000 = refl;
   has_wide_name_of_65001 = refl;
+  has_frames_of_static = refl;
 }

@@ -51,4 +51,10 @@ searches_hold = record {
   has_broken_code_with_frames = refl;
   has_index_of_wrong_kind = refl;
   has_first_class_first = refl;
+  has_members_by_place = refl;
+  has_descriptors_by_place = refl;
+  has_fields_by_place = refl;
+  has_code_by_place = refl;
+  has_plain_members = refl;
+  has_woven_members = refl;
 }

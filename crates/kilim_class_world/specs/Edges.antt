@@ -1,6 +1,11 @@
--- Examples at the edges: code, descriptors and names of classes.
-use Rattle.std.specs.Prelude.{◌≡◌, ℕ, pos, true, false, List, [], ◌∷◌, ◌++◌, replicate, codes}
+-- Examples at the edges: code, descriptors, names of classes and frames.
+use Rattle.std.specs.Prelude.{◌≡◌, ℕ, pos, true, false, List, [], ◌∷◌, ◌++◌, replicate, Some, codes}
+use Rattle.kilim_attribute_parts.specs.declared.frame.Frame.{Frame as FrameForm}
+use Rattle.kilim_attribute_parts.specs.declared.frame.Frame.TheVariants as form
+use Rattle.kilim_attribute_parts.specs.declared.frame.VerificationType.TheVariants as slot
 use Rattle.kilim_attributes.specs.declared.attribute.Attribute.{Attribute}
+use Rattle.kilim_attributes.specs.declared.attribute.Code.{Code}
+use Rattle.kilim_attributes.specs.declared.attribute.CodeInfo.TheVariants.{StackMapTable}
 use Rattle.kilim_bytecode.specs.declared.fault.CodeFault.{CodeFault}
 use Rattle.kilim_bytecode.specs.declared.fault.CodeFault.TheVariants as code
 use Rattle.kilim_classfile.specs.declared.class_file.ClassFile.{ClassFile}
@@ -8,10 +13,18 @@ use Rattle.kilim_constant_pool.specs.declared.entry.Entry.{Entry}
 use Rattle.kilim_constant_pool.specs.declared.entry.Entry.TheVariants as entry
 use Rattle.kilim_opcodes.specs.declared.fault.OpFault.TheVariants as op
 use Rattle.kilim_program.specs.declared.class.Form.TheVariants.{Plain}
+use Rattle.kilim_program.specs.declared.ty.Base.TheVariants as base
+use Rattle.kilim_program.specs.declared.verified.Frame.{Frame}
+use Rattle.kilim_program.specs.declared.verified.VType.TheVariants.{Top, Int, Long, Null, UninitThis, Uninit, Object}
+use Rattle.kilim_program.specs.BuiltIn.{class_id}
 use Rattle.kilim_class_world.specs.declared.fault.LeftOutPart.TheVariants as part
+use Rattle.kilim_class_world.specs.declared.fault.Problem.{Problem}
 use Rattle.kilim_class_world.specs.declared.fault.Problem.TheVariants as problem
-use Rattle.kilim_class_world.specs.Faults.{is_class_name}
-use Rattle.kilim_class_world.specs.Examples.{file, object, p_name, member, texts, with_field, with_code, Named}
+use Rattle.kilim_class_world.specs.World.{world_of, declared_method}
+use Rattle.kilim_class_world.specs.Types.{typed}
+use Rattle.kilim_class_world.specs.Frames.{frames_in}
+use Rattle.kilim_class_world.specs.Faults.{descriptor_broken, is_class_name}
+use Rattle.kilim_class_world.specs.Examples.{file, object, p_name, member, texts, with_field, with_method, with_code, Named}
 use Rattle.kilim_class_world.specs.Details.{Fits, LeftOutOf, class_with, nothing, returns, m_name}
 use Rattle.kilim_class_world.specs.Search.{calls}
 
@@ -137,6 +150,17 @@ cast_to_256 = Named (casts_to (in_dims 256) ∷ []) p_name (problem.Descriptor (
 abbrev pub elements_of_255 : Type 0
 elements_of_255 = Fits (with_code (189 ∷ 0 ∷ 9 ∷ 177 ∷ []) (entry.Utf8 (in_dims 255) ∷ entry.Class 8 ∷ []) ∷ []) Plain
 
+-- A descriptor that code names is counted without `this`: as `print` of `kilim/Sys`, which isn't there, but whose
+-- descriptor is asked as well.
+abbrev pub of_called : ℕ → List Problem
+of_called n = let f = calls p_name object 182 (codes "kilim/Sys") (codes "print") (with_ints n) in descriptor_broken (world_of (f ∷ []) Plain) f (class_id 0)
+
+abbrev pub called_with_255 : Type 0
+called_with_255 = of_called 255 ≡ []
+
+abbrev pub called_with_256 : Type 0
+called_with_256 = of_called 256 ≡ problem.Descriptor (with_ints 256) ∷ []
+
 -- a malformed array has no member
 abbrev pub malformed_owner : Type 0
 malformed_owner = Named (calls p_name object 182 (codes "[V") m_name nothing ∷ []) p_name (problem.NoMember (record { owner = codes "[V"; name = m_name; descriptor = nothing }))
@@ -189,6 +213,36 @@ wide_name_of_65000 = is_class_name (97 ∷ 97 ∷ replicate 21666 0x4E2D) ≡ tr
 abbrev pub wide_name_of_65001 : Type 0
 wide_name_of_65001 = is_class_name (replicate 21667 0x4E2D) ≡ false
 
+-- ---- frames: of a static method `m(JI)V` its arguments alone, by taking away all of them, and in full
+
+abbrev pub static_file : ClassFile
+static_file = with_method (file p_name object (texts m_name (codes "(JI)V") ++ (entry.Utf8 (codes "[[I") ∷ entry.Class 7 ∷ []))) (member 0x0008 [])
+
+abbrev pub static_table : List FrameForm
+static_table =
+    form.SameExtended 7
+    ∷ form.Chop 2 0
+    ∷ form.Append 65535 (slot.Null ∷ slot.Top ∷ slot.Uninitialized 9 ∷ [])
+    ∷ form.Full 1 (slot.UninitializedThis ∷ slot.Long ∷ slot.Top ∷ []) (slot.Object 8 ∷ slot.Object 2 ∷ [])
+    ∷ form.SameLocals1StackItemExtended 2 slot.Long
+    ∷ []
+
+abbrev pub static_frames : List (ℕ × Frame)
+static_frames =
+    (7, record { locals = Long ∷ Top ∷ Int ∷ []; stack = [] })
+    ∷ (8, record { locals = []; stack = [] })
+    ∷ (65544, record { locals = Null ∷ Top ∷ Uninit 9 ∷ []; stack = [] })
+    ∷ (65546, record { locals = UninitThis ∷ Long ∷ Top ∷ Top ∷ []; stack = Object (typed 2 base.Int) ∷ Object (typed 0 (base.Class (class_id 0))) ∷ [] })
+    ∷ (65549, record { locals = UninitThis ∷ Long ∷ Top ∷ Top ∷ []; stack = Long ∷ [] })
+    ∷ []
+
+abbrev pub framed_with : List FrameForm → Code
+framed_with frames = record { max_stack = 0; max_locals = 0; code = []; exception_table = []; attributes = record { attribute_name_index = 7; info = StackMapTable frames } ∷ [] }
+
+abbrev pub frames_of_static : Type 0
+frames_of_static =
+    frames_in (world_of (static_file ∷ []) Plain) static_file (class_id 0) (declared_method static_file (member 0x0008 [])) (framed_with static_table) ≡ Some static_frames
+
 pub record EdgesHold : Type 0 where
   pub has_target_inside : target_inside
   pub has_unknown_number : unknown_number
@@ -218,6 +272,8 @@ pub record EdgesHold : Type 0 where
   pub has_cast_to_255 : cast_to_255
   pub has_cast_to_256 : cast_to_256
   pub has_elements_of_255 : elements_of_255
+  pub has_called_with_255 : called_with_255
+  pub has_called_with_256 : called_with_256
   pub has_malformed_owner : malformed_owner
   pub has_name_with_dot : name_with_dot
   pub has_name_with_semicolon : name_with_semicolon
@@ -232,3 +288,4 @@ pub record EdgesHold : Type 0 where
   pub has_name_of_65001 : name_of_65001
   pub has_wide_name_of_65000 : wide_name_of_65000
   pub has_wide_name_of_65001 : wide_name_of_65001
+  pub has_frames_of_static : frames_of_static

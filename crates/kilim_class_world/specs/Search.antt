@@ -12,7 +12,9 @@ use Rattle.kilim_classfile.specs.declared.class_file.ClassFile.{ClassFile}
 use Rattle.kilim_classfile.specs.declared.class_file.MemberInfo.{MemberInfo}
 use Rattle.kilim_constant_pool.specs.declared.entry.Entry.{Entry}
 use Rattle.kilim_constant_pool.specs.declared.entry.Entry.TheVariants as entry
-use Rattle.kilim_program.specs.declared.class.Form.TheVariants.{Plain}
+use Rattle.kilim_opcodes.specs.declared.fault.OpFault.TheVariants as op
+use Rattle.kilim_program.specs.declared.class.Form.{Form}
+use Rattle.kilim_program.specs.declared.class.Form.TheVariants.{Plain, Woven}
 use Rattle.kilim_program.specs.declared.instr.Instr.{Instr}
 use Rattle.kilim_program.specs.declared.instr.Instr.TheVariants.{Getfield, Invokevirtual, Invokespecial, Invokestatic, Aload, Pop, Return}
 use Rattle.kilim_program.specs.Program.{Program}
@@ -21,9 +23,9 @@ use Rattle.kilim_class_world.specs.declared.fault.Problem.TheVariants as problem
 use Rattle.kilim_class_world.specs.World.{field_id, world_of}
 use Rattle.kilim_class_world.specs.Linked.{program_of}
 use Rattle.kilim_class_world.specs.Mentions.{class_names}
-use Rattle.kilim_class_world.specs.Faults.{class_missing}
+use Rattle.kilim_class_world.specs.Faults.{class_missing, member_missing, field_kinds, code_broken, descriptor_broken}
 use Rattle.kilim_class_world.specs.Examples.{file, object, p_name, member, code_attribute, texts, with_field, with_method, with_code, Named}
-use Rattle.kilim_class_world.specs.Details.{class_with, nothing, returns, q_name, m_name}
+use Rattle.kilim_class_world.specs.Details.{class_with, nothing, returns, q_name, m_name, task}
 
 abbrev pub r_name : List ℕ
 r_name = codes "R"
@@ -249,6 +251,78 @@ index_of_wrong_kind =
 abbrev pub first_class_first : Type 0
 first_class_first = Named (file (codes "a//b") object [] ∷ file p_name x_name [] ∷ []) (codes "a//b") problem.Name
 
+-- ---- the first place of other kinds
+
+-- the members that code names, in its order; an owner that isn't there lacks each
+abbrev pub members_by_place : Type 0
+members_by_place =
+    member_missing (world_of (names_many ∷ []) Plain) names_many (class_id 0)
+    ≡ problem.NoMember (record { owner = codes "O1"; name = m_name; descriptor = codes "(LB1;)LB2;" })
+    ∷ problem.NoMember (record { owner = codes "O2"; name = codes "f"; descriptor = codes "LB3;" }) ∷ []
+
+-- P with two fields, which are none, and two methods; the code of the first one is `invokestatic P.m` of what is none,
+-- `checkcast` of an array that is none, `return`, with a frame of another one
+abbrev pub malformed : ClassFile
+malformed =
+    record (file p_name object (texts m_name (codes "Q1") ++ (entry.Utf8 (codes "Code") ∷ entry.Utf8 (codes "Q2") ∷ entry.Utf8 (codes "(Q)V") ∷ entry.Utf8 (codes "()D;") ∷ entry.NameAndType 5 10 ∷ entry.Methodref 2 11 ∷ entry.Utf8 (codes "[V") ∷ entry.Class 13 ∷ entry.Utf8 (codes "[E") ∷ entry.Class 15 ∷ entry.Utf8 (codes "(F") ∷ [])))
+    { fields = member_at 0 5 6 [] ∷ member_at 0 5 8 [] ∷ [];
+      methods = member_at 0x0008 5 9 (framed (184 ∷ 0 ∷ 12 ∷ 192 ∷ 0 ∷ 14 ∷ 177 ∷ []) (form.Append 0 (slot.Object 16 ∷ []) ∷ []) ∷ []) ∷ member_at 0x0401 5 17 [] ∷ [] }
+
+abbrev pub descriptors_by_place : Type 0
+descriptors_by_place =
+    descriptor_broken (world_of (malformed ∷ []) Plain) malformed (class_id 0)
+    ≡ map problem.Descriptor (codes "Q1" ∷ codes "Q2" ∷ codes "(Q)V" ∷ codes "()D;" ∷ codes "[V" ∷ codes "[E" ∷ codes "(F" ∷ [])
+
+-- a task with three fields, the second one an int and the others of a private type, and with three methods, of which
+-- the first and the last have code that fails
+abbrev pub fails_often : ClassFile
+fails_often =
+    record (file p_name task (texts m_name object ++ (entry.Utf8 (codes "n") ∷ entry.Utf8 (codes "Ljava/lang/Object;") ∷ entry.Utf8 (codes "I") ∷ entry.Utf8 (codes "o") ∷ entry.Utf8 nothing ∷ [])))
+    { fields = member_at 0 7 8 [] ∷ member_at 0 5 9 [] ∷ member_at 0 10 8 [] ∷ [];
+      methods = member_at 0x0008 7 11 (framed (0 ∷ []) [] ∷ []) ∷ member_at 0x0008 5 11 returns ∷ member_at 0x0008 10 11 (framed (202 ∷ []) [] ∷ []) ∷ [] }
+
+abbrev pub fields_by_place : Type 0
+fields_by_place =
+    field_kinds (world_of (fails_often ∷ []) Plain) fails_often (class_id 0)
+    ≡ problem.FieldKind (record { name = codes "n"; descriptor = codes "Ljava/lang/Object;" }) ∷ problem.FieldKind (record { name = codes "o"; descriptor = codes "Ljava/lang/Object;" }) ∷ []
+
+abbrev pub code_by_place : Type 0
+code_by_place =
+    code_broken (world_of (fails_often ∷ []) Plain) fails_often (class_id 0)
+    ≡ problem.Code (record { name = codes "n"; descriptor = nothing }) (code.FallsOff 0) ∷ problem.Code (record { name = codes "o"; descriptor = nothing }) (code.Op (op.Unknown 202) 0) ∷ []
+
+-- ---- the built-in members by name and descriptor, as code names them
+
+abbrev pub built_in_members : Form → List (List ℕ × List (List ℕ))
+built_in_members form = map (λ v. (v.name, map (λ m. m.name ++ m.descriptor) v.methods)) (world_of [] form).classes
+
+abbrev pub plain_members : Type 0
+plain_members =
+    built_in_members Plain
+    ≡ (object, codes "<init>()V" ∷ [])
+    ∷ (codes "java/lang/String", codes "length()I" ∷ codes "charAt(I)C" ∷ codes "equals(Ljava/lang/Object;)Z" ∷ [])
+    ∷ (codes "kilim/Message", [])
+    ∷ (codes "kilim/Pausable", [])
+    ∷ (task, codes "<init>()V" ∷ codes "start()V" ∷ codes "execute()V" ∷ [])
+    ∷ (codes "kilim/Mailbox", codes "<init>()V" ∷ codes "put(Lkilim/Message;)V" ∷ codes "get()Lkilim/Message;" ∷ codes "getnb()Lkilim/Message;" ∷ [])
+    ∷ (codes "kilim/Sys", codes "print(I)V" ∷ codes "print(J)V" ∷ codes "print(Ljava/lang/String;)V" ∷ codes "yield()V" ∷ codes "argCount()I" ∷ codes "arg(I)I" ∷ codes "take([Lkilim/Message;I)Lkilim/Message;" ∷ [])
+    ∷ []
+
+abbrev pub woven_members : Type 0
+woven_members =
+    built_in_members Woven
+    ≡ (object, codes "<init>()V" ∷ [])
+    ∷ (codes "java/lang/String", codes "length()I" ∷ codes "charAt(I)C" ∷ codes "equals(Ljava/lang/Object;)Z" ∷ [])
+    ∷ (codes "kilim/Message", [])
+    ∷ (codes "kilim/Pausable", [])
+    ∷ (task, codes "<init>()V" ∷ codes "start()V" ∷ codes "execute(Lkilim/Fiber;)V" ∷ [])
+    ∷ (codes "kilim/Mailbox", codes "<init>()V" ∷ codes "put(Lkilim/Message;)V" ∷ codes "get(Lkilim/Fiber;)Lkilim/Message;" ∷ codes "getnb()Lkilim/Message;" ∷ [])
+    ∷ (codes "kilim/Sys", codes "print(I)V" ∷ codes "print(J)V" ∷ codes "print(Ljava/lang/String;)V" ∷ codes "yield(Lkilim/Fiber;)V" ∷ codes "argCount()I" ∷ codes "arg(I)I" ∷ codes "take([Lkilim/Message;I)Lkilim/Message;" ∷ [])
+    ∷ (codes "kilim/Fiber",
+      codes "pc()I" ∷ codes "down()Lkilim/Fiber;" ∷ codes "up()I" ∷ codes "saveI(ILkilim/Fiber;)V" ∷ codes "saveJ(JLkilim/Fiber;)V" ∷ codes "saveA(Ljava/lang/Object;Lkilim/Fiber;)V"
+      ∷ codes "place(ILjava/lang/Object;Lkilim/Fiber;)V" ∷ codes "restI()I" ∷ codes "restJ()J" ∷ codes "restA()Ljava/lang/Object;" ∷ codes "receiver()Ljava/lang/Object;" ∷ [])
+    ∷ []
+
 pub record SearchesHold : Type 0 where
   pub has_classes_in_order : classes_in_order
   pub has_fields_in_order : fields_in_order
@@ -282,3 +356,9 @@ pub record SearchesHold : Type 0 where
   pub has_broken_code_with_frames : broken_code_with_frames
   pub has_index_of_wrong_kind : index_of_wrong_kind
   pub has_first_class_first : first_class_first
+  pub has_members_by_place : members_by_place
+  pub has_descriptors_by_place : descriptors_by_place
+  pub has_fields_by_place : fields_by_place
+  pub has_code_by_place : code_by_place
+  pub has_plain_members : plain_members
+  pub has_woven_members : woven_members
