@@ -1,9 +1,12 @@
 -- Examples of members and classes beside each other: declared twice, overriding, abstract methods, superclasses, what is
 -- left out, qualifiers and pausing.
-use Rattle.std.specs.Prelude.{◌≡◌, ℕ, true, false, List, [], ◌∷◌, ◌++◌, map, length, codes}
+use Rattle.std.specs.Prelude.{◌≡◌, ℕ, true, false, List, [], ◌∷◌, ◌++◌, map, length, replicate, pos, negsuc, Some, None, codes}
 use Rattle.kilim_attribute_parts.specs.declared.annotation.AnnotationPart.{AnnotationPart}
 use Rattle.kilim_attribute_parts.specs.declared.annotation.AnnotationPart.TheVariants.{Parameters, Annotations, Annotation}
+use Rattle.kilim_attribute_parts.specs.declared.frame.Frame.TheVariants as form
+use Rattle.kilim_attribute_parts.specs.declared.frame.VerificationType.TheVariants as slot
 use Rattle.kilim_attributes.specs.declared.attribute.Attribute.{Attribute}
+use Rattle.kilim_attributes.specs.declared.attribute.CodeInfo.TheVariants.{StackMapTable}
 use Rattle.kilim_attributes.specs.declared.attribute.Info.TheVariants as info
 use Rattle.kilim_classfile.specs.declared.class_file.ClassFile.{ClassFile}
 use Rattle.kilim_classfile.specs.declared.class_file.MemberInfo.{MemberInfo}
@@ -14,12 +17,13 @@ use Rattle.kilim_program.specs.declared.class.Form.TheVariants.{Plain, Woven}
 use Rattle.kilim_program.specs.declared.ty.Qualifier.TheVariants.{Free, Cuttable, Safe}
 use Rattle.kilim_program.specs.BuiltIn.{class_id}
 use Rattle.kilim_class_world.specs.declared.fault.LeftOutPart.TheVariants as part
+use Rattle.kilim_class_world.specs.declared.fault.LinkFault.TheVariants as fault
 use Rattle.kilim_class_world.specs.declared.fault.Problem.TheVariants as problem
 use Rattle.kilim_class_world.specs.World.{world_of, declared_method}
 use Rattle.kilim_class_world.specs.Qualified.{Qualified, qualified}
-use Rattle.kilim_class_world.specs.Faults.{abstract_left, declared_twice}
+use Rattle.kilim_class_world.specs.Faults.{abstract_left, declared_twice, first_fault}
 use Rattle.kilim_class_world.specs.Examples.{file_with, file, object, p_file, p_name, member, code_attribute, texts, with_field, with_method, with_code, Named}
-use Rattle.kilim_class_world.specs.Details.{Fits, NamedIn, LeftOutOf, class_with, pair, annotated_file, qualified_as, nothing, returns, q_name, m_name, task}
+use Rattle.kilim_class_world.specs.Details.{Fits, NamedIn, LeftOutOf, class_with, pair, annotated_file, qualified_as, nothing, returns, q_name, m_name, task, message}
 use Rattle.kilim_class_world.specs.Search.{r_name, member_at}
 
 -- ---- declared twice
@@ -176,6 +180,25 @@ below_final = Named (file r_name p_name [] ∷ file p_name q_name [] ∷ file_wi
 abbrev pub extends_itself : Type 0
 extends_itself = Named (file p_name p_name [] ∷ []) p_name problem.Circular
 
+-- ---- kinds
+
+-- a class below one that is a task and a message is both too
+abbrev pub below_both : Type 0
+below_both = Named (file p_name q_name [] ∷ message q_name task ∷ []) p_name problem.Both
+
+-- an array of ints is a tree, which a private class doesn't hold; an array of a private type is private
+abbrev pub private_holds : List ℕ → ClassFile
+private_holds descriptor = with_field (file p_name object (texts m_name descriptor)) (member 0 [])
+
+abbrev pub private_holds_ints : Type 0
+private_holds_ints = Named (private_holds (codes "[I") ∷ []) p_name (problem.FieldKind (record { name = m_name; descriptor = codes "[I" }))
+
+abbrev pub private_holds_privates : Type 0
+private_holds_privates = Fits (private_holds (codes "[[Lkilim/Sys;") ∷ []) Plain
+
+abbrev pub private_holds_value : Type 0
+private_holds_value = Fits (private_holds (codes "Lkilim/Mailbox;") ∷ []) Plain
+
 -- ---- left out
 
 abbrev pub double_result : Type 0
@@ -183,6 +206,43 @@ double_result = LeftOutOf (class_with 0x0420 p_name object (codes "()D") [] 0x04
 
 abbrev pub float_cast : Type 0
 float_cast = LeftOutOf (with_code (192 ∷ 0 ∷ 9 ∷ 177 ∷ []) (entry.Utf8 (codes "[[F") ∷ entry.Class 8 ∷ []) ∷ []) (problem.LeftOut part.Float)
+
+-- a float type in a frame
+abbrev pub float_frame : Type 0
+float_frame =
+    let attribute : Attribute = record {
+      attribute_name_index = 7;
+      info = info.Code (record { max_stack = 0; max_locals = 0; code = 177 ∷ []; exception_table = []; attributes = record { attribute_name_index = 7; info = StackMapTable (form.Append 0 (slot.Float ∷ []) ∷ []) } ∷ [] });
+    } in
+    LeftOutOf (class_with 0x0020 p_name object nothing [] 0x0008 (attribute ∷ []) ∷ []) (problem.LeftOut part.Float)
+
+-- a static field of this type, whose constant is this entry
+abbrev pub static_of : List ℕ → Entry → ClassFile
+static_of descriptor constant =
+    with_field (file p_name object (texts m_name descriptor ++ (constant ∷ entry.Utf8 (codes "s") ∷ [])))
+    (member 0x0008 (record { attribute_name_index = 5; info = info.ConstantValue 7 } ∷ []))
+
+-- an int for each int-like type, which isn't narrowed; a long; a string
+abbrev pub its_constants : Type 0
+its_constants =
+    map (λ f. first_fault (f ∷ []) Plain) (
+      static_of (codes "Z") (entry.Integer (pos 2)) ∷ static_of (codes "B") (entry.Integer (pos 300)) ∷ static_of (codes "C") (entry.Integer (negsuc 0)) ∷ static_of (codes "S") (entry.Integer (pos 70000)) ∷ static_of (codes "I") (entry.Integer (pos 7)) ∷ []
+    )
+    ≡ None ∷ None ∷ None ∷ None ∷ None ∷ []
+
+abbrev pub long_constant : Type 0
+long_constant = Fits (static_of (codes "J") (entry.Long (pos 7)) ∷ []) Plain
+
+abbrev pub string_constant : Type 0
+string_constant = Fits (static_of (codes "Ljava/lang/String;") (entry.String 8) ∷ []) Plain
+
+-- a long for an int, an int for a long, a string for another class, an int for an array, a float
+abbrev pub other_constants : Type 0
+other_constants =
+    map (λ f. first_fault (f ∷ []) Plain) (
+      static_of (codes "I") (entry.Long (pos 7)) ∷ static_of (codes "J") (entry.Integer (pos 7)) ∷ static_of (codes "Ljava/lang/Object;") (entry.String 8) ∷ static_of (codes "[I") (entry.Integer (pos 7)) ∷ static_of (codes "I") (entry.Float 0) ∷ []
+    )
+    ≡ replicate 5 (Some (fault.InClass p_name (problem.LeftOut part.StaticField)))
 
 -- a class that is given, listed as an interface
 abbrev pub listed_class : Type 0
@@ -301,8 +361,17 @@ pub record RelationsHold : Type 0 where
   pub has_extends_fiber_woven : extends_fiber_woven
   pub has_below_final : below_final
   pub has_extends_itself : extends_itself
+  pub has_below_both : below_both
+  pub has_private_holds_ints : private_holds_ints
+  pub has_private_holds_privates : private_holds_privates
+  pub has_private_holds_value : private_holds_value
   pub has_double_result : double_result
   pub has_float_cast : float_cast
+  pub has_float_frame : float_frame
+  pub has_its_constants : its_constants
+  pub has_long_constant : long_constant
+  pub has_string_constant : string_constant
+  pub has_other_constants : other_constants
   pub has_listed_class : listed_class
   pub has_array_of_subclass : array_of_subclass
   pub has_parts_by_list : parts_by_list
