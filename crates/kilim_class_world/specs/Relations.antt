@@ -226,7 +226,7 @@ static_of descriptor constant =
 abbrev pub its_constants : Type 0
 its_constants =
     map (λ f. first_fault (f ∷ []) Plain) (
-      static_of (codes "Z") (entry.Integer (pos 2)) ∷ static_of (codes "B") (entry.Integer (pos 300)) ∷ static_of (codes "C") (entry.Integer (negsuc 0)) ∷ static_of (codes "S") (entry.Integer (pos 70000)) ∷ static_of (codes "I") (entry.Integer (pos 7)) ∷ []
+    static_of (codes "Z") (entry.Integer (pos 2)) ∷ static_of (codes "B") (entry.Integer (pos 300)) ∷ static_of (codes "C") (entry.Integer (negsuc 0)) ∷ static_of (codes "S") (entry.Integer (pos 70000)) ∷ static_of (codes "I") (entry.Integer (pos 7)) ∷ []
     )
     ≡ None ∷ None ∷ None ∷ None ∷ None ∷ []
 
@@ -240,7 +240,7 @@ string_constant = Fits (static_of (codes "Ljava/lang/String;") (entry.String 8) 
 abbrev pub other_constants : Type 0
 other_constants =
     map (λ f. first_fault (f ∷ []) Plain) (
-      static_of (codes "I") (entry.Long (pos 7)) ∷ static_of (codes "J") (entry.Integer (pos 7)) ∷ static_of (codes "Ljava/lang/Object;") (entry.String 8) ∷ static_of (codes "[I") (entry.Integer (pos 7)) ∷ static_of (codes "I") (entry.Float 0) ∷ []
+    static_of (codes "I") (entry.Long (pos 7)) ∷ static_of (codes "J") (entry.Integer (pos 7)) ∷ static_of (codes "Ljava/lang/Object;") (entry.String 8) ∷ static_of (codes "[I") (entry.Integer (pos 7)) ∷ static_of (codes "I") (entry.Float 0) ∷ []
     )
     ≡ replicate 5 (Some (fault.InClass p_name (problem.LeftOut part.StaticField)))
 

@@ -202,17 +202,20 @@ many_names =
 -- `getstatic O2.fLB3;`, `new N`, `checkcast [LE;`, `anewarray D`, `return`, with three frames
 abbrev pub names_many : ClassFile
 names_many =
-    record (file p_name (codes "S") many_names)
-    { interfaces = 6 ∷ []; fields = member_at 0 7 8 [] ∷ member_at 0 7 9 [] ∷ []; methods =
-      member_at 0x0008 10 11 (framed (184 ∷ 0 ∷ 17 ∷ 178 ∷ 0 ∷ 22 ∷ 187 ∷ 0 ∷ 24 ∷ 192 ∷ 0 ∷ 26 ∷ 189 ∷ 0 ∷ 28 ∷ 177 ∷ []) (form.Append 0 (slot.Object 30 ∷ []) ∷ form.Full 0 (slot.Object 32 ∷ []) (slot.Object 34 ∷ []) ∷ form.SameLocals1StackItem 0 (slot.Object 36) ∷ []) ∷ [])
-      ∷ member_at 0x0401 10 37 [] ∷ [] }
+    record (file p_name (codes "S") many_names) {
+      interfaces = 6 ∷ [];
+      fields = member_at 0 7 8 [] ∷ member_at 0 7 9 [] ∷ [];
+      methods =
+          member_at 0x0008 10 11 (framed (184 ∷ 0 ∷ 17 ∷ 178 ∷ 0 ∷ 22 ∷ 187 ∷ 0 ∷ 24 ∷ 192 ∷ 0 ∷ 26 ∷ 189 ∷ 0 ∷ 28 ∷ 177 ∷ []) (form.Append 0 (slot.Object 30 ∷ []) ∷ form.Full 0 (slot.Object 32 ∷ []) (slot.Object 34 ∷ []) ∷ form.SameLocals1StackItem 0 (slot.Object 36) ∷ []) ∷ [])
+          ∷ member_at 0x0401 10 37 [] ∷ [];
+    }
 
 abbrev pub missing_by_place : Type 0
 missing_by_place =
     class_missing (world_of (names_many ∷ []) Plain) names_many (class_id 0)
     ≡ map problem.Missing (
-      codes "S" ∷ codes "I1" ∷ codes "F1" ∷ codes "F2" ∷ codes "A1" ∷ codes "A2" ∷ codes "A3" ∷ codes "O1" ∷ codes "B1" ∷ codes "B2" ∷ codes "O2" ∷ codes "B3"
-      ∷ codes "N" ∷ codes "E" ∷ codes "D" ∷ codes "V1" ∷ codes "V2" ∷ codes "V3" ∷ codes "V4" ∷ codes "A4" ∷ [])
+    codes "S" ∷ codes "I1" ∷ codes "F1" ∷ codes "F2" ∷ codes "A1" ∷ codes "A2" ∷ codes "A3" ∷ codes "O1" ∷ codes "B1" ∷ codes "B2" ∷ codes "O2" ∷ codes "B3"
+    ∷ codes "N" ∷ codes "E" ∷ codes "D" ∷ codes "V1" ∷ codes "V2" ∷ codes "V3" ∷ codes "V4" ∷ codes "A4" ∷ [])
 
 abbrev pub first_of_two : Type 0
 first_of_two = Named (names_many ∷ []) p_name (problem.Missing (codes "S"))
@@ -264,9 +267,10 @@ members_by_place =
 -- `checkcast` of an array that is none, `return`, with a frame of another one
 abbrev pub malformed : ClassFile
 malformed =
-    record (file p_name object (texts m_name (codes "Q1") ++ (entry.Utf8 (codes "Code") ∷ entry.Utf8 (codes "Q2") ∷ entry.Utf8 (codes "(Q)V") ∷ entry.Utf8 (codes "()D;") ∷ entry.NameAndType 5 10 ∷ entry.Methodref 2 11 ∷ entry.Utf8 (codes "[V") ∷ entry.Class 13 ∷ entry.Utf8 (codes "[E") ∷ entry.Class 15 ∷ entry.Utf8 (codes "(F") ∷ [])))
-    { fields = member_at 0 5 6 [] ∷ member_at 0 5 8 [] ∷ [];
-      methods = member_at 0x0008 5 9 (framed (184 ∷ 0 ∷ 12 ∷ 192 ∷ 0 ∷ 14 ∷ 177 ∷ []) (form.Append 0 (slot.Object 16 ∷ []) ∷ []) ∷ []) ∷ member_at 0x0401 5 17 [] ∷ [] }
+    record (file p_name object (texts m_name (codes "Q1") ++ (entry.Utf8 (codes "Code") ∷ entry.Utf8 (codes "Q2") ∷ entry.Utf8 (codes "(Q)V") ∷ entry.Utf8 (codes "()D;") ∷ entry.NameAndType 5 10 ∷ entry.Methodref 2 11 ∷ entry.Utf8 (codes "[V") ∷ entry.Class 13 ∷ entry.Utf8 (codes "[E") ∷ entry.Class 15 ∷ entry.Utf8 (codes "(F") ∷ []))) {
+      fields = member_at 0 5 6 [] ∷ member_at 0 5 8 [] ∷ [];
+      methods = member_at 0x0008 5 9 (framed (184 ∷ 0 ∷ 12 ∷ 192 ∷ 0 ∷ 14 ∷ 177 ∷ []) (form.Append 0 (slot.Object 16 ∷ []) ∷ []) ∷ []) ∷ member_at 0x0401 5 17 [] ∷ [];
+    }
 
 abbrev pub descriptors_by_place : Type 0
 descriptors_by_place =
@@ -277,9 +281,10 @@ descriptors_by_place =
 -- the first and the last have code that fails
 abbrev pub fails_often : ClassFile
 fails_often =
-    record (file p_name task (texts m_name object ++ (entry.Utf8 (codes "n") ∷ entry.Utf8 (codes "Ljava/lang/Object;") ∷ entry.Utf8 (codes "I") ∷ entry.Utf8 (codes "o") ∷ entry.Utf8 nothing ∷ [])))
-    { fields = member_at 0 7 8 [] ∷ member_at 0 5 9 [] ∷ member_at 0 10 8 [] ∷ [];
-      methods = member_at 0x0008 7 11 (framed (0 ∷ []) [] ∷ []) ∷ member_at 0x0008 5 11 returns ∷ member_at 0x0008 10 11 (framed (202 ∷ []) [] ∷ []) ∷ [] }
+    record (file p_name task (texts m_name object ++ (entry.Utf8 (codes "n") ∷ entry.Utf8 (codes "Ljava/lang/Object;") ∷ entry.Utf8 (codes "I") ∷ entry.Utf8 (codes "o") ∷ entry.Utf8 nothing ∷ []))) {
+      fields = member_at 0 7 8 [] ∷ member_at 0 5 9 [] ∷ member_at 0 10 8 [] ∷ [];
+      methods = member_at 0x0008 7 11 (framed (0 ∷ []) [] ∷ []) ∷ member_at 0x0008 5 11 returns ∷ member_at 0x0008 10 11 (framed (202 ∷ []) [] ∷ []) ∷ [];
+    }
 
 abbrev pub fields_by_place : Type 0
 fields_by_place =
@@ -318,9 +323,11 @@ woven_members =
     ∷ (task, codes "<init>()V" ∷ codes "start()V" ∷ codes "execute(Lkilim/Fiber;)V" ∷ [])
     ∷ (codes "kilim/Mailbox", codes "<init>()V" ∷ codes "put(Lkilim/Message;)V" ∷ codes "get(Lkilim/Fiber;)Lkilim/Message;" ∷ codes "getnb()Lkilim/Message;" ∷ [])
     ∷ (codes "kilim/Sys", codes "print(I)V" ∷ codes "print(J)V" ∷ codes "print(Ljava/lang/String;)V" ∷ codes "yield(Lkilim/Fiber;)V" ∷ codes "argCount()I" ∷ codes "arg(I)I" ∷ codes "take([Lkilim/Message;I)Lkilim/Message;" ∷ [])
-    ∷ (codes "kilim/Fiber",
+    ∷ (
+      codes "kilim/Fiber",
       codes "pc()I" ∷ codes "down()Lkilim/Fiber;" ∷ codes "up()I" ∷ codes "saveI(ILkilim/Fiber;)V" ∷ codes "saveJ(JLkilim/Fiber;)V" ∷ codes "saveA(Ljava/lang/Object;Lkilim/Fiber;)V"
-      ∷ codes "place(ILjava/lang/Object;Lkilim/Fiber;)V" ∷ codes "restI()I" ∷ codes "restJ()J" ∷ codes "restA()Ljava/lang/Object;" ∷ codes "receiver()Ljava/lang/Object;" ∷ [])
+          ∷ codes "place(ILjava/lang/Object;Lkilim/Fiber;)V" ∷ codes "restI()I" ∷ codes "restJ()J" ∷ codes "restA()Ljava/lang/Object;" ∷ codes "receiver()Ljava/lang/Object;" ∷ [],
+    )
     ∷ []
 
 pub record SearchesHold : Type 0 where
