@@ -1,15 +1,21 @@
--- What was written is read again, whatever follows.
-use Rattle.std.specs.Prelude.{◌≡◌, ℕ, List, ◌++◌, Ok}
+-- What reading and writing come to.
+use Rattle.std.specs.Prelude.{List}
+use Rattle.kilim_grammar.specs.Format.{Format}
+use Rattle.kilim_grammar.specs.Spelling.{u2}
 use Rattle.kilim_constant_pool.specs.declared.entry.Entry.{Entry}
 use Rattle.kilim_attribute_parts.specs.declared.fault.AttributeFault.{AttributeFault}
 use Rattle.kilim_attribute_parts.specs.declared.frame.Frame.{Frame}
-use Rattle.kilim_attribute_parts.specs.declared.annotation.AnnotationPart.{AnnotationPart}
+use Rattle.kilim_attribute_parts.specs.declared.index.EntryKind.{EntryKind}
 use Rattle.kilim_attribute_parts.specs.declared.annotation.PartKind.{PartKind}
-use Rattle.kilim_attribute_parts.specs.Frames.{frames_text, FramesFit, frames_at}
+use Rattle.kilim_attribute_parts.specs.Indices.{index_at, IndexFits}
+use Rattle.kilim_attribute_parts.specs.Frames.{frames_text, FramesAreSized, FramesFit, frames_at}
 use Rattle.kilim_attribute_parts.specs.Annotations.{parts_text, PartsFit, parts_at}
 
-abbrev pub FramesAreReadAgain : Type 0
-FramesAreReadAgain = (pool : List Entry) (frames : List Frame) (rest : List ℕ) → FramesFit pool frames → frames_at pool (frames_text frames ++ rest) ≡ Ok (frames, rest)
-
-abbrev pub PartsAreReadAgain : Type 0
-PartsAreReadAgain = (pool : List Entry) (ends : AttributeFault) (kind : PartKind) (parts : List AnnotationPart) (rest : List ℕ) → PartsFit pool kind parts → parts_at pool ends kind (parts_text parts ++ rest) ≡ Ok (parts, rest)
+-- Over each pool, what is read as an index of a kind, as frames, or as the parts of annotations is spelled so and has a
+-- text, and what is spelled is read again, whatever follows.
+pub record PartsAreSpelled : Type 0 where
+  pub indices : (pool : List Entry) (kind : EntryKind) (cut : AttributeFault) → Format u2 (index_at pool kind cut) (IndexFits pool kind)
+  pub frames : (pool : List Entry) → Format frames_text (frames_at pool) (FramesFit pool)
+  pub parts : (pool : List Entry) (ends : AttributeFault) (kind : PartKind) → Format parts_text (parts_at pool ends kind) (PartsFit pool kind)
+  -- frames that have a text can be written
+  pub sized : (pool : List Entry) (frames : List Frame) → FramesFit pool frames → FramesAreSized frames

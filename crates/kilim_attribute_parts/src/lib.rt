@@ -24,7 +24,7 @@ pub use frame::{Frame, VerificationType};
 pub use frame_reading::frames_at;
 pub use frame_writing::push_frames;
 pub use index::{EntryKind, index_at};
-pub use laws::parts_are_read_again;
+pub use laws::parts_are_spelled;
 pub use name::{AttributeName, named};
 
 #[cfg(test)]

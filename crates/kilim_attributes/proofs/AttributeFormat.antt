@@ -4,7 +4,7 @@ use Rattle.std.specs.List.{AllByRecursion}
 use Rattle.std.specs.Int.{w16}
 use Rattle.std.proofs.lemmas.List.{length-append, drop_at}
 use Rattle.kilim_grammar.specs.Reader.{filled}
-use Rattle.kilim_grammar.specs.Spelling.{u2}
+use Rattle.kilim_grammar.specs.Spelling.{u2, list_text}
 use Rattle.kilim_grammar.proofs.Bytes.{IsBytes, wide16}
 use Rattle.kilim_grammar.proofs.Formats.{Format, well_is, refitted, so_many, filled_takes, filled_again}
 use Rattle.kilim_grammar.proofs.Loops.{FailsUnless}
@@ -15,25 +15,23 @@ use Rattle.kilim_attribute_parts.specs.declared.name.AttributeName.{AttributeNam
 use Rattle.kilim_attribute_parts.specs.declared.name.AttributeName.TheVariants as name
 use Rattle.kilim_attribute_parts.specs.declared.index.EntryKind.TheVariants as kind
 use Rattle.kilim_attribute_parts.specs.declared.annotation.PartKind.TheVariants.{AnnotationList, ParameterCount}
+use Rattle.kilim_attribute_parts.specs.Laws.{PartsAreSpelled}
 use Rattle.kilim_attribute_parts.specs.Indices.{IndexFits}
-use Rattle.kilim_attribute_parts.proofs.Indices.{index_format}
-use Rattle.kilim_attribute_parts.proofs.FrameFormats.{frames_format}
-use Rattle.kilim_attribute_parts.proofs.PartsFormat.{parts_format}
 use Rattle.kilim_attributes.specs.declared.attribute.Place.{Place}
 use Rattle.kilim_attributes.specs.declared.attribute.Info.{Info}
 use Rattle.kilim_attributes.specs.declared.attribute.Info.TheVariants.{ConstantValue, Code, StackMapTable, Exceptions, RuntimeVisibleAnnotations, RuntimeInvisibleAnnotations, RuntimeVisibleParameterAnnotations, RuntimeInvisibleParameterAnnotations, Raw}
 use Rattle.kilim_attributes.specs.declared.attribute.Attribute.{Attribute}
-use Rattle.kilim_attributes.specs.Lists.{as_a, list_text}
+use Rattle.kilim_attributes.specs.Lists.{as_a}
 use Rattle.kilim_attributes.specs.Attributes.{info_text, attribute_text, attributes_text, info_form, repeats, InfoFits, AttributeFits, AttributesFit, exceptions_at, whole_parts, info_of, attribute_of, attribute_at, attributes_at}
 use Rattle.kilim_attributes.specs.Laws.{Stands, IsReadAgain}
 use Rattle.kilim_attributes.proofs.Lists.{listed_format, as_ok}
 use Rattle.kilim_attributes.proofs.Named.{Holds, by_name}
 use Rattle.kilim_attributes.proofs.CodeFormat.{code_format}
 
-module _ (pool : List Entry) where
+module _ (given : PartsAreSpelled) (pool : List Entry) where
   exceptions_format : Format (list_text u2) (exceptions_at pool) (λ classes. (length classes < 2 ^ 16) × AllByRecursion (IndexFits pool kind.Class) classes)
   unfolding exceptions_at
-  exceptions_format = so_many (index_format pool kind.Class (fault.Length name.Exceptions)) (fault.Length name.Exceptions) w16 (2 ^ 16) wide16
+  exceptions_format = so_many (given.indices pool kind.Class (fault.Length name.Exceptions)) (fault.Length name.Exceptions) w16 (2 ^ 16) wide16
 
   abbrev InfoHolds : Option AttributeName → List ℕ → Info → Type 0
   InfoHolds = Holds info_text info_form (InfoFits pool)
@@ -50,25 +48,25 @@ module _ (pool : List Entry) where
   content_takes : (f : Option AttributeName) (bytes : List ℕ) (i : Info) → IsBytes bytes → info_of pool f bytes ≡ Ok i → InfoHolds f bytes i
   unfolding info_of whole_parts
   content_takes None bytes i fits e = subst (λ (x : Info). InfoHolds None bytes x) (well_is {F = AttributeFault} (Raw bytes) i e) (record { spelled = refl; formed = refl; fit = tt })
-  content_takes (Some name.ConstantValue) bytes i fits e = holds (index_format pool kind.Constant (fault.Length name.ConstantValue)) (Some name.ConstantValue) (fault.Length name.ConstantValue) ConstantValue (λ x. refl) (λ x. refl) (λ x fit. fit) bytes i fits e
-  content_takes (Some name.Code) bytes i fits e = holds (code_format pool) (Some name.Code) (fault.Length name.Code) Code (λ x. refl) (λ x. refl) (λ x fit. fit) bytes i fits e
-  content_takes (Some name.StackMapTable) bytes i fits e = holds (frames_format pool) (Some name.StackMapTable) (fault.Length name.StackMapTable) StackMapTable (λ x. refl) (λ x. refl) (λ x fit. fit) bytes i fits e
+  content_takes (Some name.ConstantValue) bytes i fits e = holds (given.indices pool kind.Constant (fault.Length name.ConstantValue)) (Some name.ConstantValue) (fault.Length name.ConstantValue) ConstantValue (λ x. refl) (λ x. refl) (λ x fit. fit) bytes i fits e
+  content_takes (Some name.Code) bytes i fits e = holds (code_format given pool) (Some name.Code) (fault.Length name.Code) Code (λ x. refl) (λ x. refl) (λ x fit. fit) bytes i fits e
+  content_takes (Some name.StackMapTable) bytes i fits e = holds (given.frames pool) (Some name.StackMapTable) (fault.Length name.StackMapTable) StackMapTable (λ x. refl) (λ x. refl) (λ x fit. fit) bytes i fits e
   content_takes (Some name.Exceptions) bytes i fits e = holds exceptions_format (Some name.Exceptions) (fault.Length name.Exceptions) Exceptions (λ x. refl) (λ x. refl) (λ x fit. fit) bytes i fits e
-  content_takes (Some name.RuntimeVisibleAnnotations) bytes i fits e = holds (parts_format pool (fault.Length name.RuntimeVisibleAnnotations) AnnotationList) (Some name.RuntimeVisibleAnnotations) (fault.Length name.RuntimeVisibleAnnotations) RuntimeVisibleAnnotations (λ x. refl) (λ x. refl) (λ x fit. fit) bytes i fits e
-  content_takes (Some name.RuntimeInvisibleAnnotations) bytes i fits e = holds (parts_format pool (fault.Length name.RuntimeInvisibleAnnotations) AnnotationList) (Some name.RuntimeInvisibleAnnotations) (fault.Length name.RuntimeInvisibleAnnotations) RuntimeInvisibleAnnotations (λ x. refl) (λ x. refl) (λ x fit. fit) bytes i fits e
-  content_takes (Some name.RuntimeVisibleParameterAnnotations) bytes i fits e = holds (parts_format pool (fault.Length name.RuntimeVisibleParameterAnnotations) ParameterCount) (Some name.RuntimeVisibleParameterAnnotations) (fault.Length name.RuntimeVisibleParameterAnnotations) RuntimeVisibleParameterAnnotations (λ x. refl) (λ x. refl) (λ x fit. fit) bytes i fits e
-  content_takes (Some name.RuntimeInvisibleParameterAnnotations) bytes i fits e = holds (parts_format pool (fault.Length name.RuntimeInvisibleParameterAnnotations) ParameterCount) (Some name.RuntimeInvisibleParameterAnnotations) (fault.Length name.RuntimeInvisibleParameterAnnotations) RuntimeInvisibleParameterAnnotations (λ x. refl) (λ x. refl) (λ x fit. fit) bytes i fits e
+  content_takes (Some name.RuntimeVisibleAnnotations) bytes i fits e = holds (given.parts pool (fault.Length name.RuntimeVisibleAnnotations) AnnotationList) (Some name.RuntimeVisibleAnnotations) (fault.Length name.RuntimeVisibleAnnotations) RuntimeVisibleAnnotations (λ x. refl) (λ x. refl) (λ x fit. fit) bytes i fits e
+  content_takes (Some name.RuntimeInvisibleAnnotations) bytes i fits e = holds (given.parts pool (fault.Length name.RuntimeInvisibleAnnotations) AnnotationList) (Some name.RuntimeInvisibleAnnotations) (fault.Length name.RuntimeInvisibleAnnotations) RuntimeInvisibleAnnotations (λ x. refl) (λ x. refl) (λ x fit. fit) bytes i fits e
+  content_takes (Some name.RuntimeVisibleParameterAnnotations) bytes i fits e = holds (given.parts pool (fault.Length name.RuntimeVisibleParameterAnnotations) ParameterCount) (Some name.RuntimeVisibleParameterAnnotations) (fault.Length name.RuntimeVisibleParameterAnnotations) RuntimeVisibleParameterAnnotations (λ x. refl) (λ x. refl) (λ x fit. fit) bytes i fits e
+  content_takes (Some name.RuntimeInvisibleParameterAnnotations) bytes i fits e = holds (given.parts pool (fault.Length name.RuntimeInvisibleParameterAnnotations) ParameterCount) (Some name.RuntimeInvisibleParameterAnnotations) (fault.Length name.RuntimeInvisibleParameterAnnotations) RuntimeInvisibleParameterAnnotations (λ x. refl) (λ x. refl) (λ x fit. fit) bytes i fits e
 
   content_again : (i : Info) → InfoFits pool i → info_of pool (info_form i) (info_text i) ≡ Ok i
   unfolding info_of whole_parts
-  content_again (ConstantValue index) fit = rw (filled_again (index_format pool kind.Constant (fault.Length name.ConstantValue)) (fault.Length name.ConstantValue) index fit) refl
-  content_again (Code code) fit = rw (filled_again (code_format pool) (fault.Length name.Code) code fit) refl
-  content_again (StackMapTable frames) fit = rw (filled_again (frames_format pool) (fault.Length name.StackMapTable) frames fit) refl
+  content_again (ConstantValue index) fit = rw (filled_again (given.indices pool kind.Constant (fault.Length name.ConstantValue)) (fault.Length name.ConstantValue) index fit) refl
+  content_again (Code code) fit = rw (filled_again (code_format given pool) (fault.Length name.Code) code fit) refl
+  content_again (StackMapTable frames) fit = rw (filled_again (given.frames pool) (fault.Length name.StackMapTable) frames fit) refl
   content_again (Exceptions classes) fit = rw (filled_again exceptions_format (fault.Length name.Exceptions) classes fit) refl
-  content_again (RuntimeVisibleAnnotations parts) fit = rw (filled_again (parts_format pool (fault.Length name.RuntimeVisibleAnnotations) AnnotationList) (fault.Length name.RuntimeVisibleAnnotations) parts fit) refl
-  content_again (RuntimeInvisibleAnnotations parts) fit = rw (filled_again (parts_format pool (fault.Length name.RuntimeInvisibleAnnotations) AnnotationList) (fault.Length name.RuntimeInvisibleAnnotations) parts fit) refl
-  content_again (RuntimeVisibleParameterAnnotations parts) fit = rw (filled_again (parts_format pool (fault.Length name.RuntimeVisibleParameterAnnotations) ParameterCount) (fault.Length name.RuntimeVisibleParameterAnnotations) parts fit) refl
-  content_again (RuntimeInvisibleParameterAnnotations parts) fit = rw (filled_again (parts_format pool (fault.Length name.RuntimeInvisibleParameterAnnotations) ParameterCount) (fault.Length name.RuntimeInvisibleParameterAnnotations) parts fit) refl
+  content_again (RuntimeVisibleAnnotations parts) fit = rw (filled_again (given.parts pool (fault.Length name.RuntimeVisibleAnnotations) AnnotationList) (fault.Length name.RuntimeVisibleAnnotations) parts fit) refl
+  content_again (RuntimeInvisibleAnnotations parts) fit = rw (filled_again (given.parts pool (fault.Length name.RuntimeInvisibleAnnotations) AnnotationList) (fault.Length name.RuntimeInvisibleAnnotations) parts fit) refl
+  content_again (RuntimeVisibleParameterAnnotations parts) fit = rw (filled_again (given.parts pool (fault.Length name.RuntimeVisibleParameterAnnotations) ParameterCount) (fault.Length name.RuntimeVisibleParameterAnnotations) parts fit) refl
+  content_again (RuntimeInvisibleParameterAnnotations parts) fit = rw (filled_again (given.parts pool (fault.Length name.RuntimeInvisibleParameterAnnotations) ParameterCount) (fault.Length name.RuntimeInvisibleParameterAnnotations) parts fit) refl
   content_again (Raw bytes) fit = refl
 
   module _ (place : Place) where
@@ -85,39 +83,3 @@ module _ (pool : List Entry) where
     unfolding attributes_at
     attributes_format = refitted (listed_format attribute_format fault.Cut) (AttributesFit pool place)
         (λ xs fit. record { count = fit.0; each = fit.1 }) (λ xs fit. (fit.count, fit.each))
-
-    -- the place behind attributes that were read
-    pub no_longer : (bytes : List ℕ) (xs : List Attribute) (rest : List ℕ) → IsBytes bytes → attributes_at pool place bytes ≡ Ok (xs, rest) → length rest ≤ length bytes
-    no_longer bytes xs rest fits e =
-        let t = attributes_format.takes bytes xs rest fits e in
-        let len : length bytes ≡ length (attributes_text xs) + length rest = ap length t.0.parts ∙ length-append (attributes_text xs) rest in
-        omega arith
-
-    pub stands : (bytes : List ℕ) (xs : List Attribute) (rest : List ℕ) → IsBytes bytes → attributes_at pool place bytes ≡ Ok (xs, rest) → Stands pool place bytes xs (length bytes - length rest) × (drop (length bytes - length rest) bytes ≡ rest)
-    stands bytes xs rest fits e =
-        let t = attributes_format.takes bytes xs rest fits e in
-        let len : length bytes ≡ length (attributes_text xs) + length rest = ap length t.0.parts ∙ length-append (attributes_text xs) rest in
-        let end : length bytes - length rest ≡ length (attributes_text xs) = omega arith in
-        let behind : drop (length bytes - length rest) bytes ≡ rest =
-        ap (λ (n : ℕ). drop n bytes) end ∙ (ap (drop (length (attributes_text xs))) t.0.parts ∙ drop_at (attributes_text xs) rest (length (attributes_text xs)) refl) in
-        (record { fit = t.1; parts = t.0.parts ∙ ap (λ (r : List ℕ). attributes_text xs ++ r) (sym behind); at = end }, behind)
-
-module _ (pool : List Entry) (place : Place) (bytes : List ℕ) (xs : List Attribute) (rest : List ℕ) (fit : AttributesFit pool place xs) (spelled : bytes ≡ attributes_text xs ++ rest) where
-  is_read : attributes_at pool place bytes ≡ Ok (xs, rest)
-  is_read = ap (attributes_at pool place) spelled ∙ (attributes_format pool place).again xs rest fit
-
-  pub only_memory : (e : AttributeFault) → FailsUnless fault.Memory e (attributes_at pool place bytes) → e ≡ fault.Memory
-  only_memory e (inl m) = m
-  only_memory e (inr f) = absurd (let both = sym is_read ∙ f in cc)
-
-  pub only_these : (ys : List Attribute) (behind : List ℕ) → attributes_at pool place bytes ≡ Ok (ys, behind) → (ys ≡ xs) × (length bytes - length behind ≡ length (attributes_text xs))
-  only_these ys behind e =
-      let read : List Attribute × List ℕ = (ys, behind) in
-      let same : read ≡ (xs, rest) = well_is {F = AttributeFault} read (xs, rest) (sym e ∙ is_read) in
-      let rests : behind ≡ rest = ap (λ (q : List Attribute × List ℕ). q.1) same in
-      let len : length bytes ≡ length (attributes_text xs) + length rest = ap length spelled ∙ length-append (attributes_text xs) rest in
-      let lens = ap length rests in
-      (ap (λ (q : List Attribute × List ℕ). q.0) same, omega arith)
-
-pub is_read_again : IsReadAgain
-is_read_again pool place xs rest fit = (attributes_format pool place).again xs rest fit

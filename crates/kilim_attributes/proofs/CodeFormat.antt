@@ -5,7 +5,7 @@ use Rattle.std.specs.List.{AllByRecursion}
 use Rattle.std.specs.Int.{w16, w32}
 use Rattle.std.proofs.lemmas.Bool.{ltb-true, lt-ltb}
 use Rattle.kilim_grammar.specs.Reader.{Reader, number_at, bytes_at, followed, made, tested, filled}
-use Rattle.kilim_grammar.specs.Spelling.{u2, u4}
+use Rattle.kilim_grammar.specs.Spelling.{u2, u4, list_text}
 use Rattle.kilim_grammar.proofs.Bytes.{IsBytes, Takes, wide16}
 use Rattle.kilim_grammar.proofs.Formats.{Format, well_is, n16, n32, raw, bytes_again, pair, follow, passed, made_of, dressed, refitted, so_many, filled_takes, filled_again}
 use Rattle.kilim_constant_pool.specs.declared.entry.Entry.{Entry}
@@ -18,13 +18,11 @@ use Rattle.kilim_attribute_parts.specs.declared.name.AttributeName.TheVariants a
 use Rattle.kilim_attribute_parts.specs.declared.index.EntryKind.TheVariants.{CatchType}
 use Rattle.kilim_attribute_parts.specs.Names.{named}
 use Rattle.kilim_attribute_parts.specs.Frames.{frames_at}
-use Rattle.kilim_attribute_parts.proofs.Indices.{index_format}
-use Rattle.kilim_attribute_parts.proofs.FrameFormats.{frames_format}
+use Rattle.kilim_attribute_parts.specs.Laws.{PartsAreSpelled}
 use Rattle.kilim_attributes.specs.declared.attribute.Place.TheVariants as place
 use Rattle.kilim_attributes.specs.declared.attribute.CodeInfo.{CodeInfo}
 use Rattle.kilim_attributes.specs.declared.attribute.CodeInfo.TheVariants.{StackMapTable, Raw}
 use Rattle.kilim_attributes.specs.declared.attribute.CodeAttribute.{CodeAttribute}
-use Rattle.kilim_attributes.specs.Lists.{list_text}
 use Rattle.kilim_attributes.specs.Forms.{form_in, form_of, form_by, form_at}
 use Rattle.kilim_attributes.specs.Codes.{code_info_text, code_attribute_text, handler_text, code_text, code_info_form, code_repeats, CodeInfoFits, CodeAttributeFits, HandlerFits, CodeFits, ends, code_info_of, code_attribute_of, code_attribute_at, is_code_length, code_bytes_at, two_at, handler_at, handlers_at, code_at}
 use Rattle.kilim_attributes.proofs.Lists.{listed_format, as_ok}
@@ -49,7 +47,7 @@ code_forms index (Some (entry.Utf8 units)) f h =
     subst (λ (g : Option AttributeName). (g ≡ None) ⊎ (g ≡ Some name.StackMapTable)) (well_is {F = AttributeFault} (form_in place.Code (named units)) f h) (in_code (named units))
 code_forms index _ f h = absurd cc
 
-module _ (pool : List Entry) where
+module _ (given : PartsAreSpelled) (pool : List Entry) where
   abbrev CodeHolds : Option AttributeName → List ℕ → CodeInfo → Type 0
   CodeHolds = Holds code_info_text code_info_form (CodeInfoFits pool)
 
@@ -61,7 +59,7 @@ module _ (pool : List Entry) where
   unfolding code_info_of
   holds_frames bytes i fits e =
       let a = as_ok StackMapTable (filled (fault.Length name.StackMapTable) (frames_at pool) bytes) i e in
-      let t = filled_takes (frames_format pool) (fault.Length name.StackMapTable) bytes a.0 fits a.1 in
+      let t = filled_takes (given.frames pool) (fault.Length name.StackMapTable) bytes a.0 fits a.1 in
       subst (λ (x : CodeInfo). CodeHolds (Some name.StackMapTable) bytes x) a.2 (record { spelled = t.0; formed = refl; fit = t.1 })
 
   content_takes : (f : Option AttributeName) (n : ℕ) (bytes : List ℕ) (i : CodeInfo) → form_at pool place.Code n ≡ Ok f → IsBytes bytes → code_info_of pool f bytes ≡ Ok i → CodeHolds f bytes i
@@ -76,7 +74,7 @@ module _ (pool : List Entry) where
 
   content_again : (i : CodeInfo) → CodeInfoFits pool i → code_info_of pool (code_info_form i) (code_info_text i) ≡ Ok i
   unfolding code_info_of
-  content_again (StackMapTable frames) fit = rw (filled_again (frames_format pool) (fault.Length name.StackMapTable) frames fit) refl
+  content_again (StackMapTable frames) fit = rw (filled_again (given.frames pool) (fault.Length name.StackMapTable) frames fit) refl
   content_again (Raw bytes) fit = refl
 
   code_attribute_format : (before : List CodeAttribute) → Format code_attribute_text (code_attribute_at pool before) (CodeAttributeFits pool before)
@@ -96,7 +94,7 @@ module _ (pool : List Entry) where
   handler_format : Format handler_text (handler_at pool) (HandlerFits pool)
   unfolding handler_at
   handler_format =
-      refitted (dressed (pair two_format (pair (n16 ends) (index_format pool CatchType ends)))
+      refitted (dressed (pair two_format (pair (n16 ends) (given.indices pool CatchType ends)))
       (λ x. record { start_pc = x.0.0; end_pc = x.0.1; handler_pc = x.1.0; catch_type = x.1.1 })
       (λ h. ((h.start_pc, h.end_pc), (h.handler_pc, h.catch_type))) (λ h. refl) (λ x fit. refl))
       (HandlerFits pool)

@@ -4,3 +4,4 @@ pub mod Named
 pub mod CodeFormat
 pub mod AttributeFormat
 pub mod Sized
+pub mod Fronts

@@ -4,10 +4,10 @@ use Rattle.std.specs.List.{flat_map}
 use Rattle.std.specs.Int.{w16, w32}
 use Rattle.std.proofs.lemmas.List.{append-nil}
 use Rattle.kilim_grammar.specs.Reader.{Reader, ◌>>=◌, number_at, bytes_at}
-use Rattle.kilim_grammar.specs.Spelling.{u2, u4}
+use Rattle.kilim_grammar.specs.Spelling.{u2, u4, list_text}
 use Rattle.kilim_grammar.proofs.Bytes.{IsBytes, Takes, Takes-then}
 use Rattle.kilim_grammar.proofs.Formats.{Format, bind_ok, well, well_is, n16, n32, raw, bytes_again}
-use Rattle.kilim_attributes.specs.Lists.{as_a, many_after, listed, EachAfter, list_text, named_bytes_at, named_text}
+use Rattle.kilim_attributes.specs.Lists.{as_a, many_after, listed, EachAfter, named_bytes_at, named_text}
 
 -- ---- values that know those before them
 

@@ -2,7 +2,7 @@
 use Rattle.std.proofs.Common.{List, [], ◌∷◌, ◌++◌, arith}
 use Rattle.std.specs.List.{AllByRecursion}
 use Rattle.kilim_constant_pool.specs.declared.entry.Entry.{Entry}
-use Rattle.kilim_attribute_parts.proofs.FrameFormats.{frames_sized}
+use Rattle.kilim_attribute_parts.specs.Laws.{PartsAreSpelled}
 use Rattle.kilim_attributes.specs.declared.attribute.CodeInfo.{CodeInfo}
 use Rattle.kilim_attributes.specs.declared.attribute.CodeInfo.TheVariants as code_info
 use Rattle.kilim_attributes.specs.declared.attribute.Code.{Code}
@@ -18,9 +18,9 @@ module _ {A : Type 0} {P : A → Type 0} where
   each_after_of there before [] fit = tt
   each_after_of there before (x ∷ xs) fit = (there before x fit.0, each_after_of there (before ++ x ∷ []) xs fit.1)
 
-module _ (pool : List Entry) where
+module _ (given : PartsAreSpelled) (pool : List Entry) where
   code_info_sized : (i : CodeInfo) → CodeInfoFits pool i → CodeInfoIsSized i
-  code_info_sized (code_info.StackMapTable frames) fit = frames_sized pool frames fit
+  code_info_sized (code_info.StackMapTable frames) fit = given.sized pool frames fit
   code_info_sized (code_info.Raw bytes) fit = tt
 
   code_sized : (code : Code) → CodeFits pool code → CodeIsSized code
@@ -34,7 +34,7 @@ module _ (pool : List Entry) where
   info_sized : (i : Info) → InfoFits pool i → InfoIsSized i
   info_sized (info.ConstantValue index) fit = tt
   info_sized (info.Code code) fit = code_sized code fit
-  info_sized (info.StackMapTable frames) fit = frames_sized pool frames fit
+  info_sized (info.StackMapTable frames) fit = given.sized pool frames fit
   info_sized (info.Exceptions classes) fit = fit.0
   info_sized (info.RuntimeVisibleAnnotations parts) fit = tt
   info_sized (info.RuntimeInvisibleAnnotations parts) fit = tt
@@ -42,8 +42,8 @@ module _ (pool : List Entry) where
   info_sized (info.RuntimeInvisibleParameterAnnotations parts) fit = tt
   info_sized (info.Raw bytes) fit = tt
 
-pub fit_is_sized : FitIsSized
-fit_is_sized pool place attributes fit = record {
+pub fit_is_sized : PartsAreSpelled → FitIsSized
+fit_is_sized given pool place attributes fit = record {
   count = fit.count;
-  each = each_after_of {P = AttributeIsSized} {Fits = AttributeFits pool place} (λ before a f. record { size = f.size; info = info_sized pool a.info f.info }) [] attributes fit.each;
+  each = each_after_of {P = AttributeIsSized} {Fits = AttributeFits pool place} (λ before a f. record { size = f.size; info = info_sized given pool a.info f.info }) [] attributes fit.each;
 }

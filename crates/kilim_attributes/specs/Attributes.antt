@@ -3,7 +3,7 @@ use Rattle.std.specs.Prelude.{◌≡◌, ℕ, ◌<◌, ◌^◌, Bool, true, fals
 use Rattle.std.specs.List.{list_any, AllByRecursion}
 use Rattle.std.specs.Int.{w16}
 use Rattle.kilim_grammar.specs.Reader.{Reader, ◌>>=◌, counted, filled}
-use Rattle.kilim_grammar.specs.Spelling.{u2}
+use Rattle.kilim_grammar.specs.Spelling.{u2, list_text}
 use Rattle.kilim_constant_pool.specs.declared.entry.Entry.{Entry}
 use Rattle.kilim_attribute_parts.specs.declared.fault.AttributeFault.{AttributeFault}
 use Rattle.kilim_attribute_parts.specs.declared.fault.AttributeFault.TheVariants as fault
@@ -20,7 +20,7 @@ use Rattle.kilim_attributes.specs.declared.attribute.Place.{Place}
 use Rattle.kilim_attributes.specs.declared.attribute.Info.{Info}
 use Rattle.kilim_attributes.specs.declared.attribute.Info.TheVariants.{ConstantValue, Code, StackMapTable, Exceptions, RuntimeVisibleAnnotations, RuntimeInvisibleAnnotations, RuntimeVisibleParameterAnnotations, RuntimeInvisibleParameterAnnotations, Raw}
 use Rattle.kilim_attributes.specs.declared.attribute.Attribute.{Attribute}
-use Rattle.kilim_attributes.specs.Lists.{turned, as_a, listed, EachAfter, list_text, named_bytes_at, named_text}
+use Rattle.kilim_attributes.specs.Lists.{turned, as_a, listed, EachAfter, named_bytes_at, named_text}
 use Rattle.kilim_attributes.specs.Forms.{form_at, stands_once, unless_twice}
 use Rattle.kilim_attributes.specs.Codes.{code_text, CodeIsSized, CodeFits, code_at}
 

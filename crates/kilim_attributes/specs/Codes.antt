@@ -3,7 +3,7 @@ use Rattle.std.specs.Prelude.{◌≡◌, ℕ, ◌<◌, ◌^◌, nat_lt, Bool, tr
 use Rattle.std.specs.List.{list_any, AllByRecursion}
 use Rattle.std.specs.Int.{w16, w32}
 use Rattle.kilim_grammar.specs.Reader.{Reader, ◌>>=◌, number_at, bytes_at, both, followed, made, tested, counted, filled}
-use Rattle.kilim_grammar.specs.Spelling.{u2, u4}
+use Rattle.kilim_grammar.specs.Spelling.{u2, u4, list_text}
 use Rattle.kilim_constant_pool.specs.declared.entry.Entry.{Entry}
 use Rattle.kilim_attribute_parts.specs.declared.fault.AttributeFault.{AttributeFault}
 use Rattle.kilim_attribute_parts.specs.declared.fault.AttributeFault.TheVariants as fault
@@ -18,7 +18,7 @@ use Rattle.kilim_attributes.specs.declared.attribute.CodeInfo.{CodeInfo}
 use Rattle.kilim_attributes.specs.declared.attribute.CodeInfo.TheVariants.{StackMapTable, Raw}
 use Rattle.kilim_attributes.specs.declared.attribute.CodeAttribute.{CodeAttribute}
 use Rattle.kilim_attributes.specs.declared.attribute.Code.{Code}
-use Rattle.kilim_attributes.specs.Lists.{turned, as_a, listed, EachAfter, list_text, named_bytes_at, named_text}
+use Rattle.kilim_attributes.specs.Lists.{turned, as_a, listed, EachAfter, named_bytes_at, named_text}
 use Rattle.kilim_attributes.specs.Forms.{form_at, unless_twice}
 
 -- ---- text

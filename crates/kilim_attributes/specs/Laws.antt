@@ -1,16 +1,10 @@
 -- What reading and writing come to.
-use Rattle.std.specs.Prelude.{◌≡◌, ℕ, List, ◌++◌, length, drop, Ok}
+use Rattle.std.specs.Prelude.{◌≡◌, ℕ, List, ◌++◌, Ok}
 use Rattle.kilim_constant_pool.specs.declared.entry.Entry.{Entry}
 use Rattle.kilim_attributes.specs.declared.attribute.Place.{Place}
 use Rattle.kilim_attributes.specs.declared.attribute.Attribute.{Attribute}
 use Rattle.kilim_grammar.specs.Format.{Format}
 use Rattle.kilim_attributes.specs.Attributes.{attributes_text, AttributesAreSized, AttributesFit, attributes_at}
-
--- at the front of the bytes stand these attributes, up to a place
-pub record Stands (pool : List Entry) (place : Place) (bytes : List ℕ) (attributes : List Attribute) (end : ℕ) : Type 0 where
-  pub fit : AttributesFit pool place attributes
-  pub parts : bytes ≡ attributes_text attributes ++ drop end bytes
-  pub at : end ≡ length (attributes_text attributes)
 
 -- what was written is read again, whatever follows
 abbrev pub IsReadAgain : Type 0

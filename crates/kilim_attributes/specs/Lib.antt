@@ -3,3 +3,4 @@ pub mod Forms
 pub mod Codes
 pub mod Attributes
 pub mod Laws
+pub mod Fronts

@@ -35,9 +35,6 @@ abbrev pub EachAfter : {A : Type 0} → (List A → A → Type 0) → List A →
 EachAfter Fits before [] = Unit {0}
 EachAfter Fits before (x ∷ xs) = Fits before x × EachAfter Fits (before ++ x ∷ []) xs
 
-abbrev pub list_text : {A : Type 0} → (A → List ℕ) → List A → List ℕ
-list_text text xs = u2 (length xs) ++ flat_map text xs
-
 -- The index of a name, a length of four bytes, and so many bytes (JVMS 4.7). The bytes are cut where they end before
 -- that length does, whatever they are.
 unfoldable pub named_bytes_at : {F : Type 0} → F → Reader F (ℕ × List ℕ)

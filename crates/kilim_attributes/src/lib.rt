@@ -17,7 +17,7 @@ pub use attribute::{Attribute, Code, CodeAttribute, CodeInfo, ExceptionHandler, 
 pub use kilim_attribute_parts::{
     AnnotationPart, AttributeFault, AttributeName, Frame, VerificationType,
 };
-pub use laws::attributes_are_spelled;
+pub use laws::{attributes_are_cut_or_broken, attributes_are_spelled};
 pub use reading::{read_again, read_all};
 pub use writing::write_all;
 

@@ -2,18 +2,20 @@
 
 ghost use Rattle.std.specs.Prelude.{◌≡◌, ◌≤◌, List, [], ◌++◌, ℕ, length, drop, IfOk, MatchResult};
 ghost use Rattle.std.specs.List.{list_any};
+ghost use Rattle.kilim_grammar.specs.Format.{IsAtFront};
 ghost use Rattle.kilim_grammar.specs.Reader.{Reads, ReadsUnless};
 ghost use Rattle.kilim_attribute_parts.specs.declared.fault.AttributeFault.TheVariants as fault;
 ghost use Rattle.kilim_attributes.specs.Lists.{many_after};
 ghost use Rattle.kilim_attributes.specs.Forms.{stands_once, unless_twice};
 ghost use Rattle.kilim_attributes.specs.declared.attribute.Attribute.{Attribute};
 ghost use Rattle.kilim_attributes.specs.Attributes.{info_is, repeats, attribute_of, attribute_at, attributes_at, attributes_text, AttributesAreSized, AttributesFit};
-ghost use Rattle.kilim_attributes.specs.Laws.{Stands, IsReadAgain, FitIsSized};
+ghost use Rattle.kilim_attributes.specs.Laws.{IsReadAgain, FitIsSized};
 
 use crate::attribute::{Attribute, Info, Place};
 use crate::form::{form_at, named_bytes_at};
 use crate::info_reading::info_of;
-use kilim_attribute_parts::{AttributeFault, AttributeName};
+use crate::laws::attributes_are_spelled;
+use kilim_attribute_parts::{AttributeFault, AttributeName, parts_are_spelled};
 use kilim_constant_pool::Pool;
 use kilim_grammar::u16_at;
 use kilim_program::Seq;
@@ -159,7 +161,7 @@ pub fn read_all(
     ensures read { ReadsUnless fault.Memory (λ x. (x.0, drop x.1 bytes.now)) result (attributes_at pool.now place bytes.now) }
 
     // What is read is spelled so.
-    ensures found { IfOk result (λ x. Stands pool.now place bytes.now x.0 x.1) }
+    ensures found { IfOk result (λ x. IsAtFront attributes_text (AttributesFit pool.now place) bytes.now x.0 x.1) }
     ensures within { IfOk result (λ x. x.1 ≤ length bytes.now) }
 
     // It can be written.
@@ -168,6 +170,8 @@ pub fn read_all(
     // What is spelled so is read.
     ensures only { (attributes : List Attribute) (rest : List ℕ) → AttributesFit pool.now place attributes → bytes.now ≡ attributes_text attributes ++ rest → MatchResult result (λ x. (x.0 ≡ attributes) × (x.1 ≡ length (attributes_text attributes))) (λ e. e ≡ fault.Memory) }
 {
+    parts_are_spelled();
+    attributes_are_spelled();
     let (attributes, rest) = attributes_at(alloc, pool, place, bytes)?;
     let end = bytes.len() - rest.len();
     Ok((attributes, end))
@@ -177,4 +181,7 @@ pub fn read_all(
 pub fn read_again()
     ensures again { IsReadAgain }
     ensures sized { FitIsSized }
-{}
+{
+    parts_are_spelled();
+    attributes_are_spelled();
+}

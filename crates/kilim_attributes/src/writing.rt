@@ -2,8 +2,8 @@
 
 ghost use Rattle.std.specs.Prelude.{◌≡◌, ◌++◌, ◌<◌, ◌^◌, length, OnOk, OnErr, IfOk};
 ghost use Rattle.std.specs.List.{flat_map, AllByRecursion};
-ghost use Rattle.kilim_grammar.specs.Spelling.{u2, u4};
-ghost use Rattle.kilim_attributes.specs.Lists.{list_text, named_text};
+ghost use Rattle.kilim_grammar.specs.Spelling.{u2, u4, list_text};
+ghost use Rattle.kilim_attributes.specs.Lists.{named_text};
 ghost use Rattle.kilim_attributes.specs.Codes.{code_info_text, code_attribute_text, handler_text, code_text, CodeInfoIsSized, CodeAttributeIsSized, CodeIsSized};
 ghost use Rattle.kilim_attributes.specs.Attributes.{info_text, attribute_text, attributes_text, InfoIsSized, AttributeIsSized, AttributesAreSized};
 

@@ -5,7 +5,7 @@ use Rattle.std.specs.List.{flat_map, AllByRecursion}
 use Rattle.std.specs.Int.{w16}
 use Rattle.std.proofs.lemmas.Bool.{eqb-true, eq-eqb}
 use Rattle.kilim_grammar.specs.Reader.{Reader}
-use Rattle.kilim_grammar.specs.Spelling.{u2, u4}
+use Rattle.kilim_grammar.specs.Spelling.{u2, u4, list_text}
 use Rattle.kilim_grammar.proofs.Bytes.{wide16}
 use Rattle.kilim_grammar.proofs.Formats.{Format, n16, n32, pair, follow, passed, dressed, reworded, refitted, faulted, so_many}
 use Rattle.kilim_constant_pool.specs.declared.entry.Entry.{Entry}
@@ -22,7 +22,7 @@ use Rattle.kilim_classfile.specs.declared.class_file.ClassFile.{ClassFile}
 use Rattle.kilim_classfile.specs.declared.fault.ClassFault.{ClassFault}
 use Rattle.kilim_classfile.specs.declared.fault.ClassFault.TheVariants as fault
 use Rattle.kilim_classfile.specs.Parts.{has_its_code, name_of}
-use Rattle.kilim_classfile.specs.Text.{list_text, member_text, class_text, Names, MemberFits, MethodFits, ListFits, PartsFit}
+use Rattle.kilim_classfile.specs.Text.{member_text, class_text, Names, MemberFits, MethodFits, ListFits, PartsFit}
 use Rattle.kilim_classfile.specs.Reading.{pool_fault, attribute_fault, u2_at, index_at, class_index_at, utf8_index_at, attributes_in, member_of, member_at, field_at, method_at, list_at, magic_at, version_at, Front, front_at, names_at, Lists, lists_at, class_of, class_at}
 
 conj : (a b : Bool) → (a && b) ≡ true → (a ≡ true) × (b ≡ true)

@@ -1,2 +1,4 @@
 pub mod ClassFormat
 pub mod WholeClass
+pub mod Fronts
+pub mod FaultLaws

@@ -3,3 +3,4 @@ pub mod Text
 pub mod Reading
 pub mod Law
 pub mod Writing
+pub mod Faults

@@ -1,7 +1,7 @@
 -- The bytes of a class file (JVMS 4.1, 4.5, 4.6): each file has one spelling.
 use Rattle.std.specs.Prelude.{◌≡◌, ℕ, ◌<◌, ◌≤◌, ◌^◌, Bool, true, List, [], ◌++◌, length, Option}
 use Rattle.std.specs.List.{flat_map, AllByRecursion}
-use Rattle.kilim_grammar.specs.Spelling.{u2, u4}
+use Rattle.kilim_grammar.specs.Spelling.{u2, u4, list_text}
 use Rattle.kilim_constant_pool.specs.declared.entry.Entry.{Entry}
 use Rattle.kilim_constant_pool.specs.Entries.{entry_at, is_utf8, is_class}
 use Rattle.kilim_constant_pool.specs.Spelling.{pool_text, PoolFits}
@@ -11,10 +11,6 @@ use Rattle.kilim_attributes.specs.Attributes.{attributes_text, AttributesFit}
 use Rattle.kilim_classfile.specs.declared.class_file.MemberInfo.{MemberInfo}
 use Rattle.kilim_classfile.specs.declared.class_file.ClassFile.{ClassFile}
 use Rattle.kilim_classfile.specs.Parts.{has_its_code}
-
--- a count of two bytes, and the text of each
-abbrev pub list_text : {A : Type 0} → (A → List ℕ) → List A → List ℕ
-list_text text xs = u2 (length xs) ++ flat_map text xs
 
 abbrev pub member_text : MemberInfo → List ℕ
 member_text m = u2 m.access_flags ++ (u2 m.name_index ++ (u2 m.descriptor_index ++ attributes_text m.attributes))

@@ -1,12 +1,12 @@
 -- What writing a class file needs, and its two halves.
 use Rattle.std.specs.Prelude.{◌≡◌, ℕ, ◌<◌, ◌^◌, List, ◌++◌, length}
 use Rattle.std.specs.List.{AllByRecursion}
-use Rattle.kilim_grammar.specs.Spelling.{u2, u4}
+use Rattle.kilim_grammar.specs.Spelling.{u2, u4, list_text}
 use Rattle.kilim_constant_pool.specs.Spelling.{pool_text}
 use Rattle.kilim_attributes.specs.Attributes.{attributes_text, AttributesAreSized}
 use Rattle.kilim_classfile.specs.declared.class_file.MemberInfo.{MemberInfo}
 use Rattle.kilim_classfile.specs.declared.class_file.ClassFile.{ClassFile}
-use Rattle.kilim_classfile.specs.Text.{list_text, member_text}
+use Rattle.kilim_classfile.specs.Text.{member_text}
 
 abbrev pub front_text : ClassFile → List ℕ
 front_text f = u4 0xCAFEBABE ++ (u2 f.minor_version ++ (u2 f.major_version ++ (pool_text f.constant_pool ++ (u2 f.access_flags ++ (u2 f.this_class ++ u2 f.super_class)))))

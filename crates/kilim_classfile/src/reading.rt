@@ -11,6 +11,7 @@ ghost use Rattle.kilim_classfile.specs.declared.fault.ClassFault.TheVariants as 
 ghost use Rattle.kilim_classfile.specs.Text.{class_text, ClassFits, size_limit};
 ghost use Rattle.kilim_classfile.specs.Law.{ClassFilesAreSpelled, PartsAreSpelled};
 ghost use Rattle.kilim_classfile.specs.Reading.{pool_fault, attribute_fault, u2_at, index_at, class_index_at, utf8_index_at, attributes_in, member_at, field_at, method_at, magic_at, version_at, front_at, names_at, lists_at, class_at, read_class};
+ghost use Rattle.kilim_classfile.specs.Faults.{Says, FaultsAreTrue};
 
 use crate::class_file::{ClassFile, MemberInfo};
 use crate::fault::ClassFault;
@@ -341,8 +342,14 @@ pub fn read(alloc: Global, bytes: &[u8]) -> Result<ClassFile, ClassFault>
 
     // The answer is that of reading the parts in order; of no memory it says nothing.
     ensures reads { ReadsUnless fault.Memory (λ file. file) result (read_class bytes.now) }
+
+    // What each fault says: `Cut` names the number of the bytes; `Extra` has the parts of a file in front of its place;
+    // `Pool` and `Attribute` never hold a Cut or want of memory.
+    ensures says { IfErr result (Says bytes.now) }
 {
     class_file_is_spelled();
+    faults_are_true();
+    // With the bytes read, the proof knows that each is below 256.
     let _bytes = bytes.first();
     class_of(alloc, bytes)
 }
@@ -353,4 +360,15 @@ pub fn class_file_is_spelled()
 {
     kilim_constant_pool::pool_is_spelled();
     kilim_attributes::attributes_are_spelled();
+}
+
+/// A law, and no work: what each fault of `read` says, by the bytes and by those that may follow. Each proper front of a
+/// class file is `Cut`; a part that is broken can't be spelled, whatever follows; `Extra` and `TooLarge` come exactly
+/// where bytes stand behind the parts of a file, and where there are too many.
+pub fn faults_are_true()
+    ensures { FaultsAreTrue }
+{
+    parts_are_spelled();
+    kilim_constant_pool::pool_is_cut_or_broken();
+    kilim_attributes::attributes_are_cut_or_broken();
 }

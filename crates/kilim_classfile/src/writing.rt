@@ -2,9 +2,9 @@
 
 ghost use Rattle.std.specs.Prelude.{◌≡◌, ◌++◌, ◌<◌, ◌^◌, length, IfOk, OnOk};
 ghost use Rattle.std.specs.List.{flat_map, AllByRecursion};
-ghost use Rattle.kilim_grammar.specs.Spelling.{u2};
+ghost use Rattle.kilim_grammar.specs.Spelling.{u2, list_text};
 ghost use Rattle.kilim_constant_pool.specs.Spelling.{PoolFits};
-ghost use Rattle.kilim_classfile.specs.Text.{list_text, member_text, class_text, ClassFits};
+ghost use Rattle.kilim_classfile.specs.Text.{member_text, class_text, ClassFits};
 ghost use Rattle.kilim_classfile.specs.Writing.{front_text, lists_text, MemberIsSized, MembersAreSized, ListsAreSized};
 
 use crate::class_file::{ClassFile, MemberInfo};

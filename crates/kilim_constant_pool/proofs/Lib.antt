@@ -3,3 +3,4 @@ pub mod EntryLoop
 pub mod EntryFormat
 pub mod PoolFormat
 pub mod AddLaws
+pub mod Fronts

@@ -3,3 +3,4 @@ pub mod Spelling
 pub mod Slots
 pub mod Reading
 pub mod Adding
+pub mod Fronts

@@ -15,7 +15,7 @@ mod writing;
 pub use entry::Entry;
 pub use fault::{AddFault, PoolFault};
 pub use pool::Pool;
-pub use reading::pool_is_spelled;
+pub use reading::{pool_is_cut_or_broken, pool_is_spelled};
 
 #[cfg(test)]
 mod tests;

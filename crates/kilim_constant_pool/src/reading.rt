@@ -8,6 +8,7 @@ ghost use Rattle.kilim_constant_pool.specs.Entries.{is_wide};
 ghost use Rattle.kilim_constant_pool.specs.Spelling.{pool_text, PoolFits};
 ghost use Rattle.kilim_constant_pool.specs.declared.fault.PoolFault.TheVariants as pool;
 ghost use Rattle.kilim_constant_pool.specs.Reading.{text_at, pair_at, index_at, handle_at, reference_at, content_at, entry_at_index, entries_at, pool_at};
+ghost use Rattle.kilim_constant_pool.specs.Fronts.{PoolStays, PoolIsCutOrBroken};
 
 use crate::entry::Entry;
 use crate::fault::PoolFault;
@@ -197,4 +198,13 @@ pub fn pool_is_spelled()
     ensures { Format pool_text pool_at PoolFits }
 {
     kilim_mutf8::units_are_spelled();
+}
+
+/// A law, and no work: each proper front of a pool's text is cut, and what is read and every other fault stays, whatever
+/// follows: then nothing that follows could spell a pool.
+pub fn pool_is_cut_or_broken()
+    ensures stays { PoolStays }
+    ensures fronts { PoolIsCutOrBroken }
+{
+    pool_is_spelled();
 }

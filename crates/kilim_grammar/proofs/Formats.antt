@@ -8,7 +8,7 @@ use Rattle.std.specs.List.{flat_map, AllByRecursion}
 use Rattle.std.specs.Int.{Width, w8, w16, w32, w64, byte_len, from_be_bytes, to_be_bytes, cast_signed, cast_unsigned}
 use Rattle.std.proofs.lemmas.Bool.{ltb-false, le-ltb}
 use Rattle.std.proofs.lemmas.List.{take_at, drop_at, take-append-drop, length-append, length-take, append-nil}
-use Rattle.kilim_grammar.specs.Reader.{Reader, ◌>>=◌, checked, number_at, signed_at, bytes_at, both, followed, made, tested, with_fault, refaulted, many, counted, is_empty, filled, sized}
+use Rattle.kilim_grammar.specs.Reader.{Reader, ◌>>=◌, checked, number_at, signed_at, bytes_at, both, followed, made, tested, with_fault, refaulted, many, counted, is_empty, filled}
 pub use Rattle.kilim_grammar.specs.Format.{Format}
 use Rattle.kilim_grammar.specs.Spelling.{u1, u2, u4, two_u4, signed}
 use Rattle.kilim_grammar.proofs.Bytes.{IsBytes, IsBytes-drop, IsBytes-take, Takes, Takes-then, IsWide, wide8, wide16, wide32, wide64}
@@ -291,28 +291,3 @@ module _ {F A : Type 0} {text : A → List ℕ} {at : Reader F A} {Fits : A → 
     filled_again x fits =
         let e : at (text x) ≡ Ok (x, []) = ap at (sym (append-nil (text x))) ∙ one.again x [] fits in
         rw e refl
-
-    -- behind its length in bytes
-    module _ (cut : F) (w : Width) (limit : ℕ) (wide : IsWide w limit) where
-      sized_takes : (bytes : List ℕ) (x : A) (rest : List ℕ) → IsBytes bytes → sized cut own w at bytes ≡ Ok (x, rest) → Takes bytes (to_be_bytes w (length (text x)) ++ text x) rest × ((length (text x) < limit) × Fits x)
-      sized_takes bytes x rest fits e =
-          let a = bind_ok (number_at cut w bytes) (λ n. bytes_at cut n.0 n.1 >>= λ c. filled own at c.0 >>= λ y. Ok (y, c.1)) (x, rest) e in
-          let b = bind_ok (bytes_at cut a.0.0 a.0.1) (λ c. filled own at c.0 >>= λ y. Ok (y, c.1)) (x, rest) a.2 in
-          let d = bind_ok (filled own at b.0.0) (λ y. Ok (y, b.0.1)) (x, rest) b.2 in
-          let t = (number cut w limit wide).takes bytes a.0.0 a.0.1 fits a.1 in
-          let u = (raw cut a.0.0).takes a.0.1 b.0.0 b.0.1 t.0.rest_fits b.1 in
-          let v = filled_takes b.0.0 d.0 u.1.1 d.1 in
-          let len : a.0.0 ≡ length (text d.0) = sym u.1.0 ∙ ap length v.0 in
-          let first : Takes bytes (to_be_bytes w (length (text d.0))) a.0.1 = subst (λ (k : ℕ). Takes bytes (to_be_bytes w k) a.0.1) len t.0 in
-          let second : Takes a.0.1 (text d.0) b.0.1 = subst (λ (c : List ℕ). Takes a.0.1 c b.0.1) v.0 u.0 in
-          let found : A × List ℕ = (d.0, b.0.1) in
-          subst (λ (q : A × List ℕ). Takes bytes (to_be_bytes w (length (text q.0)) ++ text q.0) q.1 × ((length (text q.0) < limit) × Fits q.0)) (well_is {F = F} found (x, rest) d.2)
-          (Takes-then bytes (to_be_bytes w (length (text d.0))) a.0.1 (text d.0) b.0.1 first second, (subst (λ (k : ℕ). k < limit) len t.1, v.1))
-
-      sized_again : (x : A) (rest : List ℕ) → (length (text x) < limit) × Fits x → sized cut own w at ((to_be_bytes w (length (text x)) ++ text x) ++ rest) ≡ Ok (x, rest)
-      sized_again x rest fits =
-          ap (sized cut own w at) (append_assoc (to_be_bytes w (length (text x))) (text x) rest)
-          ∙ rw ((number cut w limit wide).again (length (text x)) (text x ++ rest) fits.0, bytes_again cut (length (text x)) (text x) rest refl, filled_again x fits.1) refl
-
-      pub of_length : Format (λ x. to_be_bytes w (length (text x)) ++ text x) (sized cut own w at) (λ x. (length (text x) < limit) × Fits x)
-      of_length = record { takes = sized_takes; again = sized_again }

@@ -2,3 +2,4 @@ pub mod Bytes
 pub mod Formats
 pub mod Loops
 pub mod Calls
+pub mod Fronts

@@ -1,3 +1,4 @@
 pub mod Reader
 pub mod Spelling
 pub mod Format
+pub mod Fronts

@@ -91,15 +91,6 @@ filled own one bytes = do
   x ← one bytes
   checked (is_empty x.1) own (Ok x.0)
 
--- A length in bytes, and a value of just that length. The bytes are cut where they end before that length does,
--- whatever they are.
-abbrev pub sized : {F A : Type 0} → F → F → Width → Reader F A → Reader F A
-sized cut own w one bytes = do
-  n ← number_at cut w bytes
-  content ← bytes_at cut n.0 n.1
-  x ← filled own one content.0
-  Ok (x, content.1)
-
 -- ---- what a function returned, seen by `view`, is what is read; `memory` is want of memory, the one free answer
 
 abbrev pub Reads : {F X Y : Type 0} → (X → Y) → Result X F → Result Y F → Type 0

@@ -9,36 +9,16 @@ ghost use Rattle.kilim_opcodes.specs.Instr.{integer_text, target_text, TargetFit
 
 use crate::instr::RawInstr;
 use crate::switches::padding;
+use kilim_grammar::{push_u8, push_u16, push_u32};
 use kilim_program::NoMemory;
 use std::alloc::AllocError;
-
-fn put_u8(into: &mut Vec<u8>, number: u8) -> Result<(), AllocError>
-    ensures ok { OnOk result (into.new.items ≡ into.old.items ++ u1 number) }
-    ensures err { OnErr result (into.new.items ≡ into.old.items) }
-{
-    into.extend_from_slice(&number.to_be_bytes())
-}
-
-fn put_u16(into: &mut Vec<u8>, number: u16) -> Result<(), AllocError>
-    ensures ok { OnOk result (into.new.items ≡ into.old.items ++ u2 number) }
-    ensures err { OnErr result (into.new.items ≡ into.old.items) }
-{
-    into.extend_from_slice(&number.to_be_bytes())
-}
-
-fn put_u32(into: &mut Vec<u8>, number: u32) -> Result<(), AllocError>
-    ensures ok { OnOk result (into.new.items ≡ into.old.items ++ u4 number) }
-    ensures err { OnErr result (into.new.items ≡ into.old.items) }
-{
-    into.extend_from_slice(&number.to_be_bytes())
-}
 
 #[tactic(auto, unfolding(crate::specs::Instr::integer_text))]
 fn put_i8(into: &mut Vec<u8>, number: i8) -> Result<(), AllocError>
     ensures ok { OnOk result (into.new.items ≡ into.old.items ++ integer_text w8 number) }
     ensures err { OnErr result (into.new.items ≡ into.old.items) }
 {
-    put_u8(into, number.cast_unsigned())
+    push_u8(into, number.cast_unsigned())
 }
 
 #[tactic(auto, unfolding(crate::specs::Instr::integer_text))]
@@ -46,7 +26,7 @@ fn put_i16(into: &mut Vec<u8>, number: i16) -> Result<(), AllocError>
     ensures ok { OnOk result (into.new.items ≡ into.old.items ++ integer_text w16 number) }
     ensures err { OnErr result (into.new.items ≡ into.old.items) }
 {
-    put_u16(into, number.cast_unsigned())
+    push_u16(into, number.cast_unsigned())
 }
 
 #[tactic(auto, unfolding(crate::specs::Instr::integer_text))]
@@ -54,7 +34,7 @@ fn put_i32(into: &mut Vec<u8>, number: i32) -> Result<(), AllocError>
     ensures ok { OnOk result (into.new.items ≡ into.old.items ++ integer_text w32 number) }
     ensures err { OnErr result (into.new.items ≡ into.old.items) }
 {
-    put_u32(into, number.cast_unsigned())
+    push_u32(into, number.cast_unsigned())
 }
 
 // The distance from an instruction's place to a target.
@@ -191,7 +171,7 @@ fn put_lookup(
     ensures err { OnErr result (StartsWith into.new.items into.old.items) }
 {
     put_target(into, at, default)?;
-    put_u32(into, pairs.len() as u32)?;
+    push_u32(into, pairs.len() as u32)?;
     put_pairs(into, at, pairs)
 }
 
@@ -232,7 +212,7 @@ fn put_iinc(into: &mut Vec<u8>, slot: u8, number: i8) -> Result<(), AllocError>
     ensures ok { OnOk result (into.new.items ≡ into.old.items ++ (u1 slot ++ integer_text w8 number)) }
     ensures err { OnErr result (StartsWith into.new.items into.old.items) }
 {
-    put_u8(into, slot)?;
+    push_u8(into, slot)?;
     put_i8(into, number)
 }
 
@@ -240,16 +220,16 @@ fn put_wide_local(into: &mut Vec<u8>, op: u8, slot: u16) -> Result<(), AllocErro
     ensures ok { OnOk result (into.new.items ≡ into.old.items ++ (u1 op ++ u2 slot)) }
     ensures err { OnErr result (StartsWith into.new.items into.old.items) }
 {
-    put_u8(into, op)?;
-    put_u16(into, slot)
+    push_u8(into, op)?;
+    push_u16(into, slot)
 }
 
 fn put_wide_iinc(into: &mut Vec<u8>, op: u8, slot: u16, number: i16) -> Result<(), AllocError>
     ensures ok { OnOk result (into.new.items ≡ into.old.items ++ (u1 op ++ (u2 slot ++ integer_text w16 number))) }
     ensures err { OnErr result (StartsWith into.new.items into.old.items) }
 {
-    put_u8(into, op)?;
-    put_u16(into, slot)?;
+    push_u8(into, op)?;
+    push_u16(into, slot)?;
     put_i16(into, number)
 }
 
@@ -284,13 +264,13 @@ fn put_operands(into: &mut Vec<u8>, instr: &RawInstr, at: usize) -> Result<(), A
         RawInstr::Plain(_) => Ok(()),
         RawInstr::Byte(_, number) => put_i8(into, *number),
         RawInstr::Short(_, number) => put_i16(into, *number),
-        RawInstr::Local(_, slot) => put_u8(into, *slot),
-        RawInstr::Constant(_, index) => put_u8(into, *index),
-        RawInstr::Index(_, index) => put_u16(into, *index),
+        RawInstr::Local(_, slot) => push_u8(into, *slot),
+        RawInstr::Constant(_, index) => push_u8(into, *index),
+        RawInstr::Index(_, index) => push_u16(into, *index),
         RawInstr::Iinc(_, slot, number) => put_iinc(into, *slot, *number),
         RawInstr::Jump(_, to) => put_near_target(into, at, *to),
         RawInstr::WideJump(_, to) => put_target(into, at, *to),
-        RawInstr::NewArray(_, code) => put_u8(into, *code),
+        RawInstr::NewArray(_, code) => push_u8(into, *code),
         RawInstr::TableSwitch(_, default, low, targets) => {
             put_table_switch(into, at, *default, *low, targets.as_slice())
         }
@@ -308,7 +288,7 @@ fn put_instr(into: &mut Vec<u8>, instr: &RawInstr, at: usize) -> Result<(), Allo
     ensures ok { OnOk result (into.new.items ≡ into.old.items ++ instr_text at instr.now) }
     ensures err { OnErr result (StartsWith into.new.items into.old.items) }
 {
-    put_u8(into, number_of(instr))?;
+    push_u8(into, number_of(instr))?;
     put_operands(into, instr, at)
 }
 

@@ -2,11 +2,11 @@
 use Rattle.std.proofs.Common.{[], refl}
 use Rattle.kilim_program.specs.declared.class.Form.TheVariants.{Plain, Woven}
 use Rattle.kilim_program.specs.Examples.{BuiltInKeeps, built_in_program}
-use Rattle.kilim_program.specs.Keeps.{Keeps, ids_are_places, none_is_its_ancestor, code_is_whole, members_are_owned, names_differ, method_is_sound, overriding_agrees, none_is_left_abstract, none_is_both, no_task_arrays, superclasses_fit, fields_fit, constants_fit}
+use Rattle.kilim_program.specs.Keeps.{Keeps, ids_are_places, none_is_its_ancestor, code_is_whole, members_are_owned, names_differ, method_is_sound, overriding_agrees, none_is_left_abstract, none_is_both, no_task_arrays, superclasses_fit, own_classes_fit, fields_fit, constants_fit}
 use Rattle.kilim_program.specs.Lengths.{code_stands, targets_stand, code_ends, places_increase}
 
 plain_keeps : Keeps (built_in_program Plain)
-unfolding ids_are_places none_is_its_ancestor code_is_whole members_are_owned names_differ method_is_sound overriding_agrees none_is_left_abstract none_is_both no_task_arrays superclasses_fit fields_fit constants_fit code_stands targets_stand code_ends places_increase
+unfolding ids_are_places none_is_its_ancestor code_is_whole members_are_owned names_differ method_is_sound overriding_agrees none_is_left_abstract none_is_both no_task_arrays superclasses_fit own_classes_fit fields_fit constants_fit code_stands targets_stand code_ends places_increase
 plain_keeps = record {
   ids = refl;
   ancestors = refl;
@@ -19,6 +19,7 @@ plain_keeps = record {
   both = refl;
   task_arrays = refl;
   superclasses = refl;
+  own_classes = refl;
   fields = refl;
   overriding = refl;
   abstract_left = refl;
@@ -26,7 +27,7 @@ plain_keeps = record {
 }
 
 woven_keeps : Keeps (built_in_program Woven)
-unfolding ids_are_places none_is_its_ancestor code_is_whole members_are_owned names_differ method_is_sound overriding_agrees none_is_left_abstract none_is_both no_task_arrays superclasses_fit fields_fit constants_fit code_stands targets_stand code_ends places_increase
+unfolding ids_are_places none_is_its_ancestor code_is_whole members_are_owned names_differ method_is_sound overriding_agrees none_is_left_abstract none_is_both no_task_arrays superclasses_fit own_classes_fit fields_fit constants_fit code_stands targets_stand code_ends places_increase
 woven_keeps = record {
   ids = refl;
   ancestors = refl;
@@ -39,6 +40,7 @@ woven_keeps = record {
   both = refl;
   task_arrays = refl;
   superclasses = refl;
+  own_classes = refl;
   fields = refl;
   overriding = refl;
   abstract_left = refl;

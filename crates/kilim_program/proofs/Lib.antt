@@ -1,1 +1,2 @@
 mod BuiltInPrograms
+mod BrokenPrograms

@@ -12,3 +12,4 @@ pub mod Same
 pub mod Lengths
 pub mod Keeps
 pub mod Examples
+pub mod Broken

@@ -24,7 +24,7 @@ mod verified;
 pub use cause::EndCause;
 pub use class::{Class, Field, Form, Method, Program, Woven};
 pub use instr::Instr;
-pub use laws::built_in_keeps;
+pub use laws::{built_in_keeps, facts_are_broken};
 pub use memory::NoMemory;
 pub use names::{BoxName, ClassId, FieldId, MethodId};
 pub use run::Limits;
