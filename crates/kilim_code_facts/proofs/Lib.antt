@@ -1,0 +1,16 @@
+mod Lists
+mod Members
+mod Frames
+mod Decoded
+mod Rows
+mod Instrs
+mod Targets
+mod Codes
+mod Nothing
+mod Mentions
+mod LeftOut
+mod Files
+mod Methods
+mod WholeCode
+mod ClassNames
+mod Constants
