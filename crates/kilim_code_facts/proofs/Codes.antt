@@ -115,16 +115,16 @@ last_ends w pool at end (p ∷ q ∷ code) es is e h =
 
 -- ---- without a fault
 
-record NoBodyFault (code : List Placed) : Type 0 where
-  targets : mid_target code ≡ None
-  last : falls_off code ≡ None
+pub record NoBodyFault (code : List Placed) : Type 0 where
+  pub targets : mid_target code ≡ None
+  pub last : falls_off code ≡ None
 
 by_parts : (code : List Placed) (mid : Option (ℕ × ℤ)) (last : Option ℕ) → mid_target code ≡ mid → falls_off code ≡ last → target_or_end mid last ≡ None → NoBodyFault code
 by_parts code None None m l e = record { targets = m; last = l }
 by_parts code None (Some at) m l e = absurd (cc)
 by_parts code (Some jump) last m l e = absurd (cc)
 
-no_body_fault : (code : List Placed) → body_fault code ≡ None → NoBodyFault code
+pub no_body_fault : (code : List Placed) → body_fault code ≡ None → NoBodyFault code
 unfolding body_fault
 no_body_fault code e = by_parts code (mid_target code) (falls_off code) refl refl e
 

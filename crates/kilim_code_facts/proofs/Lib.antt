@@ -14,3 +14,11 @@ mod Methods
 mod WholeCode
 mod ClassNames
 mod Constants
+mod There
+mod Good
+mod TypesThere
+mod Forms
+mod InstrsThere
+mod FramesThere
+mod CodeThere
+mod ProgramThere

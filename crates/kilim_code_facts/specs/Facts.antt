@@ -1,9 +1,10 @@
 -- Facts of programs that are linked.
-use Rattle.std.specs.Prelude.{◌≡◌, true, List, Option, Some, None}
+use Rattle.std.specs.Prelude.{◌≡◌, true, List, [], Option, Some, None}
 use Rattle.std.specs.List.{list_all, AllByRecursion}
 use Rattle.kilim_attributes.specs.declared.attribute.Code.{Code}
 use Rattle.kilim_classfile.specs.declared.class_file.ClassFile.{ClassFile}
-use Rattle.kilim_class_world.specs.Linked.{code_attribute}
+use Rattle.kilim_class_world.specs.Faults.{link_faults}
+use Rattle.kilim_class_world.specs.Linked.{Linked, code_attribute}
 use Rattle.kilim_class_world.specs.LinksWell.{LinksWell}
 use Rattle.kilim_grammar.specs.Format.{IsBytes}
 use Rattle.kilim_program.specs.declared.class.Form.{Form}
@@ -34,3 +35,7 @@ CodeIsWhole = (files : List ClassFile) (form : Form) (p : Program) → LinksWell
 -- A static field has a constant of its type.
 abbrev pub ConstantsFit : Type 0
 ConstantsFit = (files : List ClassFile) (form : Form) (p : Program) → LinksWell files form p → constants_fit p ≡ true
+
+-- Where there is no fault there is a program.
+abbrev pub NoFaultLinks : Type 0
+NoFaultLinks = (files : List ClassFile) (form : Form) → link_faults files form ≡ [] → (p : Program) × Linked files form p

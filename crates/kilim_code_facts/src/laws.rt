@@ -1,6 +1,6 @@
 //! Laws about linked programs. No program calls them to do work.
 
-ghost use Rattle.kilim_code_facts.specs.Facts.{CodeIsWhole, ConstantsFit, FramesIncrease, MethodsAreSound};
+ghost use Rattle.kilim_code_facts.specs.Facts.{CodeIsWhole, ConstantsFit, FramesIncrease, MethodsAreSound, NoFaultLinks};
 
 use kilim_bytecode::targets_are_places;
 use kilim_class_world::{linked_in_parts, none_has_a_problem, none_of_each_kind};
@@ -37,6 +37,15 @@ pub fn constants_fit()
     ensures { ConstantsFit }
 {
     linked_in_parts();
+    none_has_a_problem();
+    none_of_each_kind();
+}
+
+/// A law, and no work: class files without a fault link to a program.
+pub fn no_fault_links()
+    ensures { NoFaultLinks }
+{
+    targets_are_places();
     none_has_a_problem();
     none_of_each_kind();
 }
