@@ -22,11 +22,11 @@ use Rattle.kilim_code_facts.proofs.Targets.{same_targets, same_end}
 
 -- ---- an instruction with its place
 
-record PlacedParts (w : World) (pool : List Entry) (p : Placed) (e : ℕ × Instr) : Type 0 where
-  there : instr_in w pool p.1 ≡ Some e.1
-  at : e.0 ≡ p.0
+pub record PlacedParts (w : World) (pool : List Entry) (p : Placed) (e : ℕ × Instr) : Type 0 where
+  pub there : instr_in w pool p.1 ≡ Some e.1
+  pub at : e.0 ≡ p.0
 
-placed_parts : (w : World) (pool : List Entry) (p : Placed) (e : ℕ × Instr) → placed_in w pool p ≡ Some e → PlacedParts w pool p e
+pub placed_parts : (w : World) (pool : List Entry) (p : Placed) (e : ℕ × Instr) → placed_in w pool p ≡ Some e → PlacedParts w pool p e
 placed_parts w pool p e is =
     let m = mapped (λ (instr : Instr). (p.0, instr)) (instr_in w pool p.1) e is in
     record { there = m.there ∙ ap (λ (x : ℕ × Instr). Some x.1) m.is; at = ap (λ (x : ℕ × Instr). x.0) (sym m.is) }

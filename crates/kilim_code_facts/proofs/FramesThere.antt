@@ -27,7 +27,7 @@ use Rattle.kilim_code_facts.proofs.Nothing.{all_front, all_rest}
 use Rattle.kilim_code_facts.proofs.There.{There, there, map_there, applied_there, each_there, AllThere, all_append, all_to_map}
 use Rattle.kilim_code_facts.proofs.TypesThere.{named_there}
 
-abbrev Slots : Type 0
+abbrev pub Slots : Type 0
 Slots = List (Option VType)
 
 abbrev SlotsThere : Slots → Type 0
@@ -50,7 +50,7 @@ slot_there w pool (entry.Uninitialized place) g = there (Uninit place)
 slots_there : (w : World) (pool : List Entry) (ss : List VerificationType) → AllByRecursion (SlotMentions w pool) ss → SlotsThere (map (slot_in w pool) ss)
 slots_there w pool ss g = all_to_map (λ o. There o) (slot_in w pool) ss (all_map (SlotMentions w pool) (λ s. There (slot_in w pool s)) (slot_there w pool) ss g)
 
-taken_there : {A : Type 0} (P : A → Type 0) (n : ℕ) (xs : List A) → AllByRecursion P xs → AllByRecursion P (take n xs)
+pub taken_there : {A : Type 0} (P : A → Type 0) (n : ℕ) (xs : List A) → AllByRecursion P xs → AllByRecursion P (take n xs)
 taken_there P zero [] all = tt
 taken_there P zero (x ∷ xs) all = tt
 taken_there P (suc n) [] all = tt

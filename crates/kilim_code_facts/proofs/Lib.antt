@@ -22,3 +22,7 @@ mod InstrsThere
 mod FramesThere
 mod CodeThere
 mod ProgramThere
+mod TaskTypes
+mod TaskInstrs
+mod TaskFrames
+mod NoTaskArrays

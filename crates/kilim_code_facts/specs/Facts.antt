@@ -7,9 +7,12 @@ use Rattle.kilim_class_world.specs.Faults.{link_faults}
 use Rattle.kilim_class_world.specs.Linked.{Linked, code_attribute}
 use Rattle.kilim_class_world.specs.LinksWell.{LinksWell}
 use Rattle.kilim_grammar.specs.Format.{IsBytes}
+use Rattle.kilim_class_world.specs.World.{world_of}
 use Rattle.kilim_program.specs.declared.class.Form.{Form}
-use Rattle.kilim_program.specs.Keeps.{code_is_whole, constants_fit, method_is_sound}
+use Rattle.kilim_program.specs.declared.names.ClassId.{ClassId}
+use Rattle.kilim_program.specs.Keeps.{code_is_whole, constants_fit, method_is_sound, no_task_arrays}
 use Rattle.kilim_program.specs.Lengths.{places_increase}
+use Rattle.kilim_program.specs.Names.{is_task}
 use Rattle.kilim_program.specs.Program.{Program}
 
 -- The places of each method's frames increase.
@@ -39,3 +42,7 @@ ConstantsFit = (files : List ClassFile) (form : Form) (p : Program) → LinksWel
 -- Where there is no fault there is a program.
 abbrev pub NoFaultLinks : Type 0
 NoFaultLinks = (files : List ClassFile) (form : Form) → link_faults files form ≡ [] → (p : Program) × Linked files form p
+
+-- There is no array of tasks, where the tasks of the outline are those of the program.
+abbrev pub NoTaskArrays : Type 0
+NoTaskArrays = (files : List ClassFile) (form : Form) (p : Program) → LinksWell files form p → ((c : ClassId) → is_task (world_of files form).outline c ≡ is_task p c) → no_task_arrays p ≡ true

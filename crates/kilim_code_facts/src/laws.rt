@@ -1,6 +1,6 @@
 //! Laws about linked programs. No program calls them to do work.
 
-ghost use Rattle.kilim_code_facts.specs.Facts.{CodeIsWhole, ConstantsFit, FramesIncrease, MethodsAreSound, NoFaultLinks};
+ghost use Rattle.kilim_code_facts.specs.Facts.{CodeIsWhole, ConstantsFit, FramesIncrease, MethodsAreSound, NoFaultLinks, NoTaskArrays};
 
 use kilim_bytecode::targets_are_places;
 use kilim_class_world::{linked_in_parts, none_has_a_problem, none_of_each_kind};
@@ -46,6 +46,15 @@ pub fn no_fault_links()
     ensures { NoFaultLinks }
 {
     targets_are_places();
+    none_has_a_problem();
+    none_of_each_kind();
+}
+
+/// A law, and no work: no type of a program is an array of tasks.
+pub fn no_task_arrays()
+    ensures { NoTaskArrays }
+{
+    linked_in_parts();
     none_has_a_problem();
     none_of_each_kind();
 }

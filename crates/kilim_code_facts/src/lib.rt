@@ -3,4 +3,7 @@
 
 mod laws;
 
-pub use laws::{code_is_whole, constants_fit, frames_increase, methods_are_sound, no_fault_links};
+pub use laws::{
+    code_is_whole, constants_fit, frames_increase, methods_are_sound, no_fault_links,
+    no_task_arrays,
+};
