@@ -26,3 +26,4 @@ mod TaskTypes
 mod TaskInstrs
 mod TaskFrames
 mod NoTaskArrays
+mod Bytes

@@ -3,6 +3,7 @@ use Rattle.std.specs.Prelude.{◌≡◌, true, List, [], Option, Some, None}
 use Rattle.std.specs.List.{list_all, AllByRecursion}
 use Rattle.kilim_attributes.specs.declared.attribute.Code.{Code}
 use Rattle.kilim_classfile.specs.declared.class_file.ClassFile.{ClassFile}
+use Rattle.kilim_classfile.specs.Text.{class_text}
 use Rattle.kilim_class_world.specs.Faults.{link_faults}
 use Rattle.kilim_class_world.specs.Linked.{Linked, code_attribute}
 use Rattle.kilim_class_world.specs.LinksWell.{LinksWell}
@@ -30,6 +31,10 @@ CodeIsBytes (Some code) = IsBytes code.code
 
 abbrev pub CodesAreBytes : List ClassFile → Type 0
 CodesAreBytes files = AllByRecursion (λ (file : ClassFile). AllByRecursion (λ m. CodeIsBytes (code_attribute m)) file.methods) files
+
+-- The code in a class file whose text is bytes is bytes.
+abbrev pub CodesOfText : Type 0
+CodesOfText = (file : ClassFile) → IsBytes (class_text file) → AllByRecursion (λ m. CodeIsBytes (code_attribute m)) file.methods
 
 -- The code of each method is whole.
 abbrev pub CodeIsWhole : Type 0
