@@ -1,5 +1,5 @@
 -- The code in a class file whose text is bytes is bytes.
-use Rattle.std.proofs.Common.{◌≡◌, ℕ, zero, suc, ◌<◌, List, [], ◌∷◌, ◌++◌, length, get_or, Option, Some, None, arith}
+use Rattle.std.proofs.Common.{ℕ, zero, suc, ◌<◌, List, [], ◌∷◌, ◌++◌, length, arith}
 use Rattle.std.specs.List.{flat_map, filter_map, cons_option, AllByRecursion}
 use Rattle.kilim_attributes.specs.declared.attribute.Attribute.{Attribute}
 use Rattle.kilim_attributes.specs.declared.attribute.Code.{Code}
@@ -8,7 +8,6 @@ use Rattle.kilim_attributes.specs.declared.attribute.Info.TheVariants as info
 use Rattle.kilim_attributes.specs.Attributes.{attribute_text, attributes_text, info_text}
 use Rattle.kilim_attributes.specs.Codes.{code_text, code_attribute_text, handler_text}
 use Rattle.kilim_attributes.specs.Lists.{list_text as listed_text}
-use Rattle.kilim_classfile.specs.declared.class_file.ClassFile.{ClassFile}
 use Rattle.kilim_classfile.specs.declared.class_file.MemberInfo.{MemberInfo}
 use Rattle.kilim_classfile.specs.Text.{class_text, list_text, member_text}
 use Rattle.kilim_constant_pool.specs.Spelling.{pool_text}

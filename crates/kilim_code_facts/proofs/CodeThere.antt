@@ -1,5 +1,5 @@
 -- The code of a method without a fault is code of the program.
-use Rattle.std.proofs.Common.{◌≡◌, ℕ, Bool, true, false, List, [], ◌∷◌, Option, Some, None, Result, Ok, Err, refl, ap, sym, subst, ◌∙◌}
+use Rattle.std.proofs.Common.{◌≡◌, ℕ, true, List, [], ◌∷◌, Option, Some, None, Result, Ok, Err, refl}
 use Rattle.std.specs.List.{flat_map, AllByRecursion}
 use Rattle.kilim_attributes.specs.declared.attribute.Code.{Code}
 use Rattle.kilim_bytecode.specs.declared.fault.CodeFault.{CodeFault}
@@ -14,11 +14,11 @@ use Rattle.kilim_program.specs.declared.instr.Instr.{Instr}
 use Rattle.kilim_program.specs.declared.names.ClassId.{ClassId}
 use Rattle.kilim_class_world.specs.Code.{decoded, code_of, index_in, placed_in, instr_in}
 use Rattle.kilim_class_world.specs.Faults.{bad_index, code_fault, decoded_in, left_out_op}
-use Rattle.kilim_class_world.specs.Linked.{Body, body_in, body_with, first_of, no_body}
+use Rattle.kilim_class_world.specs.Linked.{body_in, body_with, first_of, no_body}
 use Rattle.kilim_class_world.specs.Frames.{frames_in}
 use Rattle.kilim_class_world.specs.Mentions.{instrs_in, instrs_if, frames_if, operand_of}
 use Rattle.kilim_class_world.specs.Qualified.{params_of}
-use Rattle.kilim_class_world.specs.Types.{method_text, type_in, each_of}
+use Rattle.kilim_class_world.specs.Types.{method_text, type_in}
 use Rattle.kilim_class_world.specs.World.{World, declared_method, member_descriptor}
 use Rattle.kilim_code_facts.proofs.Codes.{no_body_fault}
 use Rattle.kilim_code_facts.proofs.Forms.{HasItsForm, decoded_forms, decoded_body}
@@ -28,7 +28,7 @@ use Rattle.kilim_code_facts.proofs.InstrsThere.{KnownInstr, IsPlace, MembersTher
 use Rattle.kilim_code_facts.proofs.Lists.{all_both, all_map}
 use Rattle.kilim_code_facts.proofs.Mentions.{InstrMentions, FrameMentions}
 use Rattle.kilim_code_facts.proofs.Nothing.{flat_map_none}
-use Rattle.kilim_code_facts.proofs.There.{There, there, same_there, map_there, next_there, each_there, AllThere}
+use Rattle.kilim_code_facts.proofs.There.{There, there, map_there, next_there, each_there, AllThere}
 
 -- ---- decoded
 

@@ -1,16 +1,14 @@
 -- Linked code is whole where the written code stands and has no fault.
-use Rattle.std.proofs.Common.{◌≡◌, ℕ, suc, ◌+◌, ◌-◌, Bool, true, false, ℤ, pos, List, [], ◌∷◌, length, map, Option, Some, None, refl, ap, sym, subst, ◌∙◌, arith, inl, inr, ⊎_elim}
-use Rattle.std.specs.Prelude.{◌≢◌, ◌&&◌, ◌||◌, ◌==◌, if◌then◌else◌, slice_get}
-use Rattle.std.specs.List.{list_all, list_any, AllByRecursion}
-use Rattle.std.specs.Option.{option_map}
+use Rattle.std.proofs.Common.{◌≡◌, ℕ, suc, ◌+◌, ◌-◌, Bool, true, false, ℤ, pos, List, [], ◌∷◌, length, map, Option, Some, None, refl, ap, sym, subst, ◌∙◌, arith, ⊎_elim}
+use Rattle.std.specs.Prelude.{◌&&◌, ◌==◌, if◌then◌else◌, slice_get}
+use Rattle.std.specs.List.{list_all, AllByRecursion}
 use Rattle.std.proofs.lemmas.Bool.{and_from, or_cases, or_left, or_right, eq-eqb, eqb-true, false≢true}
 use Rattle.kilim_constant_pool.specs.declared.entry.Entry.{Entry}
-use Rattle.kilim_opcodes.specs.declared.instr.RawInstr.{RawInstr}
 use Rattle.kilim_opcodes.specs.Instr.{instr_len}
 use Rattle.kilim_bytecode.specs.Code.{Placed, StandsFrom, is_place, targets_of, ends, falls, falls_off, mid_target}
 use Rattle.kilim_bytecode.specs.Exact.{body_fault, target_or_end, TargetsArePlaces}
 use Rattle.kilim_program.specs.declared.instr.Instr.{Instr}
-use Rattle.kilim_program.specs.Lengths.{has_length, code_stands, is_code_place, targets_stand, jump_targets, code_ends, ends_path}
+use Rattle.kilim_program.specs.Lengths.{has_length, code_stands, is_code_place, targets_stand, jump_targets, code_ends}
 use Rattle.kilim_program.specs.Moves.{first_place}
 use Rattle.kilim_class_world.specs.Code.{instr_in, placed_in}
 use Rattle.kilim_class_world.specs.Types.{each_of}

@@ -1,9 +1,8 @@
 -- What is decoded is what the bytes are the text of.
-use Rattle.std.proofs.Common.{◌≡◌, ℕ, zero, suc, ◌+◌, ◌-◌, ◌<◌, ◌≤◌, List, [], ◌∷◌, ◌++◌, length, Option, Some, None, Result, Ok, Err, refl, sym, ap, subst, ◌∙◌, arith}
+use Rattle.std.proofs.Common.{◌≡◌, ℕ, zero, suc, ◌+◌, ◌-◌, ◌<◌, ◌≤◌, List, [], ◌∷◌, ◌++◌, length, Option, Some, None, Result, Ok, Err, refl, ap, subst, ◌∙◌, arith}
 use Rattle.std.proofs.lemmas.List.{length-append}
 use Rattle.kilim_grammar.specs.Format.{IsBytes}
 use Rattle.kilim_grammar.specs.Reader.{◌>>=◌, with_fault}
-use Rattle.kilim_opcodes.specs.declared.fault.OpFault.{OpFault}
 use Rattle.kilim_opcodes.specs.declared.instr.RawInstr.{RawInstr}
 use Rattle.kilim_opcodes.specs.declared.instr.RawInstr.TheVariants.{Plain}
 use Rattle.kilim_opcodes.specs.Instr.{instr_text, instr_len}

@@ -3,7 +3,7 @@ use Rattle.std.proofs.Common.{◌≡◌, ℕ, zero, suc, Bool, true, false, ℤ,
 use Rattle.std.specs.Prelude.{◌-◌, ◌+◌}
 use Rattle.std.specs.Int.{w8, w16, w32}
 use Rattle.std.specs.List.{AllByRecursion}
-use Rattle.kilim_grammar.specs.Reader.{Reader, ◌>>=◌, with_fault, checked, made, tested, given, both, followed, many}
+use Rattle.kilim_grammar.specs.Reader.{Reader, ◌>>=◌, with_fault, checked, made, tested, both, followed, many}
 use Rattle.kilim_opcodes.specs.declared.fault.OpFault.{OpFault}
 use Rattle.kilim_opcodes.specs.declared.forms.OpForm.{OpForm}
 use Rattle.kilim_opcodes.specs.declared.forms.OpForm.TheVariants as form
@@ -16,7 +16,7 @@ use Rattle.kilim_bytecode.specs.declared.fault.CodeFault.{CodeFault}
 use Rattle.kilim_bytecode.specs.Code.{Placed}
 use Rattle.kilim_bytecode.specs.Exact.{op_fault, body_fault}
 use Rattle.kilim_class_world.specs.Code.{instrs_from, decoded, checked_body, unless_fault}
-use Rattle.kilim_code_facts.proofs.Decoded.{ok, ok_is, Bound, bound, without_fault}
+use Rattle.kilim_code_facts.proofs.Decoded.{ok, ok_is, bound, without_fault}
 
 -- the number has the instruction's form
 abbrev pub HasItsForm : RawInstr → Type 0

@@ -1,7 +1,7 @@
 -- The places of frames increase: each stands behind the place of the one before.
-use Rattle.std.proofs.Common.{◌≡◌, ℕ, ◌<◌, Bool, true, false, List, [], ◌∷◌, ◌++◌, length, Option, Some, None, refl, ap, sym, subst, ◌∙◌, arith}
-use Rattle.std.specs.Prelude.{nat_lt, option_map}
-use Rattle.std.specs.List.{list_all, AllByRecursion}
+use Rattle.std.proofs.Common.{◌≡◌, ℕ, ◌<◌, Bool, true, List, [], ◌∷◌, length, Option, Some, None, refl, ap, sym, subst, ◌∙◌, arith}
+use Rattle.std.specs.Prelude.{option_map}
+use Rattle.std.specs.List.{list_all}
 use Rattle.std.proofs.lemmas.Bool.{and_from, lt-ltb}
 use Rattle.std.proofs.lemmas.List.Folds.{list_all-append}
 use Rattle.kilim_attribute_parts.specs.declared.frame.Frame.{Frame as FrameForm}
@@ -17,7 +17,6 @@ use Rattle.kilim_program.specs.declared.verified.Frame.{Frame}
 use Rattle.kilim_program.specs.declared.verified.VType.{VType}
 use Rattle.kilim_program.specs.BuiltIn.{built_in_methods_in}
 use Rattle.kilim_program.specs.Lengths.{places_increase}
-use Rattle.kilim_program.specs.Program.{Program}
 use Rattle.kilim_class_world.specs.Laws.{LinkedInParts}
 use Rattle.kilim_class_world.specs.Linked.{Body, no_body, body_in, code_attribute, linked_method}
 use Rattle.kilim_class_world.specs.Frames.{frames_from, entries_of, placed_frame, place_after, delta_of, frame_of, entry_locals, tables_in}

@@ -1,5 +1,5 @@
 -- The frames of a method without a fault are frames of the program.
-use Rattle.std.proofs.Common.{◌≡◌, ℕ, zero, suc, ◌-◌, Bool, true, false, List, [], ◌∷◌, ◌++◌, length, take, map, Option, Some, None, refl, sym, subst, option_map}
+use Rattle.std.proofs.Common.{ℕ, zero, suc, ◌-◌, Bool, true, false, List, [], ◌∷◌, length, take, map, Option, Some, None, sym, option_map}
 use Rattle.std.specs.Prelude.{if◌then◌else◌}
 use Rattle.std.specs.List.{AllByRecursion}
 use Rattle.std.proofs.lemmas.Bool.{false≢true}
@@ -14,9 +14,8 @@ use Rattle.kilim_program.specs.declared.names.ClassId.{ClassId}
 use Rattle.kilim_program.specs.declared.verified.Frame.{Frame}
 use Rattle.kilim_program.specs.declared.verified.VType.{VType}
 use Rattle.kilim_program.specs.declared.verified.VType.TheVariants.{Top, Int, Long, Null, UninitThis, Uninit, Object}
-use Rattle.kilim_class_world.specs.Code.{applied}
-use Rattle.kilim_class_world.specs.Frames.{Entries, slot_in, slot_of_type, receiver_entry, entry_locals, entries_of, delta_of, place_after, placed_frame, frame_of, frame_with, frames_from, frames_in, tables_in}
-use Rattle.kilim_class_world.specs.Mentions.{mentions_of_slot, slots_of_frame}
+use Rattle.kilim_class_world.specs.Frames.{Entries, slot_in, slot_of_type, receiver_entry, entry_locals, entries_of, delta_of, place_after, frame_of, frame_with, frames_from, frames_in, tables_in}
+use Rattle.kilim_class_world.specs.Mentions.{mentions_of_slot}
 use Rattle.kilim_class_world.specs.Qualified.{is_constructor_name, params_of}
 use Rattle.kilim_class_world.specs.Types.{each_of, itself, named_by, type_named, type_in, method_text}
 use Rattle.kilim_class_world.specs.World.{World, DeclaredMethod, class_text}

@@ -1,14 +1,14 @@
 -- What is known of each mention of a class without a problem: the classes that it names are there, its descriptors are
 -- whole, and there is no float or double in it.
-use Rattle.std.proofs.Common.{◌≡◌, ℕ, Bool, true, false, List, [], ◌∷◌, ◌++◌, map, Option, Some, None, refl, sym, subst, is_none}
+use Rattle.std.proofs.Common.{◌≡◌, ℕ, Bool, true, false, List, [], refl, sym, is_none}
 use Rattle.std.specs.Prelude.{◌&&◌, ◌||◌, not}
-use Rattle.std.specs.List.{list_any, flat_map, AllByRecursion}
+use Rattle.std.specs.List.{list_any, AllByRecursion}
 use Rattle.std.proofs.lemmas.Bool.{or_parts, false≢true}
 use Rattle.kilim_classfile.specs.declared.class_file.ClassFile.{ClassFile}
 use Rattle.kilim_descriptors.specs.declared.types.FieldText.{FieldText}
 use Rattle.kilim_program.specs.declared.names.ClassId.{ClassId}
 use Rattle.kilim_class_world.specs.declared.fault.Problem.TheVariants as problem
-use Rattle.kilim_class_world.specs.Faults.{class_missing, descriptor_broken, has_float, has_fiber_name, is_fiber, is_float_base, is_float_mention, is_missing, no_descriptors}
+use Rattle.kilim_class_world.specs.Faults.{class_missing, descriptor_broken, has_float, is_fiber, is_float_base, is_float_mention, is_missing, no_descriptors}
 use Rattle.kilim_class_world.specs.Laws.{NoProblem}
 use Rattle.kilim_class_world.specs.Mentions.{Mention, mentions_of, names_mentioned, types_mentioned, class_names, all_types}
 use Rattle.kilim_class_world.specs.Qualified.{has_fiber}

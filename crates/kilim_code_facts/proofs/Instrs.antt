@@ -1,28 +1,27 @@
 -- A linked instruction has the length, the targets and the end of the instruction that is written.
-use Rattle.std.proofs.Common.{◌≡◌, ℕ, zero, suc, ◌+◌, ◌-◌, ◌*◌, ◌%◌, ◌^◌, ◌<◌, ◌≤◌, Bool, true, false, ℤ, pos, negsuc, ◌-ℤ◌, ◌≤ℤ◌, ◌<ℤ◌, List, [], ◌∷◌, length, map, Option, Some, None, refl, ap, sym, subst, ◌∙◌, arith}
+use Rattle.std.proofs.Common.{◌≡◌, ℕ, ◌+◌, ◌*◌, ◌^◌, ◌<◌, Bool, true, false, ℤ, pos, negsuc, ◌-ℤ◌, ◌<ℤ◌, List, [], ◌∷◌, length, Option, Some, None, refl, ap, sym, subst, ◌∙◌, arith}
 use Rattle.std.specs.Prelude.{◌&&◌, ◌||◌, ◌==◌, not, nat_lt, int_le, if◌then◌else◌, FitsSigned}
-use Rattle.std.specs.Int.{w8, w16, w32}
+use Rattle.std.specs.Int.{w8, w16}
 use Rattle.std.specs.List.{AllByRecursion, list_all}
 use Rattle.std.specs.Option.{option_map}
-use Rattle.std.proofs.lemmas.Bool.{false≢true, and_from, or_left, or_right, lt-ltb, eq-eqb, eqb-true, or_cases}
+use Rattle.std.proofs.lemmas.Bool.{false≢true, and_from, or_left, or_right, lt-ltb, eq-eqb, eqb-true}
 use Rattle.std.proofs.lemmas.Int.{ints}
 use Rattle.kilim_constant_pool.specs.declared.entry.Entry.{Entry}
 use Rattle.kilim_opcodes.specs.declared.forms.OpForm.{OpForm}
 use Rattle.kilim_opcodes.specs.declared.forms.OpForm.TheVariants as form
 use Rattle.kilim_opcodes.specs.declared.instr.RawInstr.{RawInstr}
 use Rattle.kilim_opcodes.specs.declared.instr.RawInstr.TheVariants as raw
-use Rattle.kilim_opcodes.specs.Instr.{padding, instr_len, InstrFits, TargetFits, PairsFit, IsAbove}
+use Rattle.kilim_opcodes.specs.Instr.{padding, instr_len, InstrFits, PairsFit, IsAbove}
 use Rattle.kilim_opcodes.specs.Table.{rows, form_of}
 use Rattle.kilim_program.specs.declared.instr.Instr.{Instr}
 use Rattle.kilim_program.specs.declared.instr.Instr.TheVariants.{Bipush, Sipush, Iinc, Tableswitch, Lookupswitch, Newarray, New}
 use Rattle.kilim_program.specs.declared.names.ClassId.{ClassId}
-use Rattle.kilim_program.specs.declared.ty.Base.{Base}
 use Rattle.kilim_program.specs.Lengths.{has_length, is_local_length, is_iinc_length, is_jump_length, is_primitive, matches_increase}
 use Rattle.kilim_class_world.specs.Code.{instr_in, instr_with, typed_instr, applied, row, place_of, pair_in, plain_instrs, local_instrs, jump_instrs, field_instrs, method_instrs, type_instrs, constant_instrs, array_codes, Operand, AConstant, AField, AMethod, AType, operand_at, field_found, method_found}
 use Rattle.kilim_class_world.specs.Types.{Named, each_of, type_named, class_named_by}
 use Rattle.kilim_class_world.specs.World.{World}
 use Rattle.kilim_code_facts.proofs.Lists.{some_is, none_is_some, first_and, each_of_length}
-use Rattle.kilim_code_facts.proofs.Rows.{each_passes, rows_hold, if_cases, rows_pass, forms_pass, Mapped, mapped}
+use Rattle.kilim_code_facts.proofs.Rows.{each_passes, rows_hold, rows_pass, forms_pass, mapped}
 
 -- a function and its argument that are there
 pub record Applied {A B : Type 0} (f : Option (A → B)) (x : Option A) (y : B) : Type 0 where

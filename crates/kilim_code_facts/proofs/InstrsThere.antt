@@ -1,10 +1,10 @@
 -- Each instruction of a code without a fault is one of the program.
-use Rattle.std.proofs.Common.{◌≡◌, ℕ, ◌<◌, ◌≤◌, Bool, true, false, ℤ, pos, negsuc, List, [], ◌∷◌, ◌++◌, Option, Some, None, refl, ap, sym, subst, ◌∙◌, arith, is_some, is_none, option_map, option_and_then, inl, inr, ⊎_elim}
-use Rattle.std.specs.Prelude.{◌&&◌, ◌||◌, ◌==◌, not, nat_le, if◌then◌else◌}
+use Rattle.std.proofs.Common.{◌≡◌, ℕ, ◌<◌, Bool, true, false, ℤ, pos, negsuc, List, [], ◌∷◌, Option, Some, None, refl, ap, sym, subst, arith, is_some, is_none, option_map, option_and_then, ⊎_elim}
+use Rattle.std.specs.Prelude.{◌&&◌, ◌||◌, ◌==◌, not, if◌then◌else◌}
 use Rattle.std.specs.List.{AllByRecursion}
 use Rattle.std.proofs.lemmas.Bool.Decides.{nat_tests}
-use Rattle.std.proofs.lemmas.Bool.{or_cases, and_parts, eqb-true, leb-true, agree_below, agree_below_at, false≢true}
-use Rattle.kilim_bytecode.specs.Code.{Placed, targets_of, is_place, is_at}
+use Rattle.std.proofs.lemmas.Bool.{or_cases, eqb-true, agree_below_at, false≢true}
+use Rattle.kilim_bytecode.specs.Code.{Placed, targets_of, is_place}
 use Rattle.kilim_classfile.specs.declared.class_file.ClassFile.{ClassFile}
 use Rattle.kilim_constant_pool.specs.declared.entry.Entry.{Entry}
 use Rattle.kilim_constant_pool.specs.Entries.{entry_at}
@@ -14,24 +14,23 @@ use Rattle.kilim_opcodes.specs.declared.instr.RawInstr.{RawInstr}
 use Rattle.kilim_opcodes.specs.declared.instr.RawInstr.TheVariants as raw
 use Rattle.kilim_opcodes.specs.Instr.{is_array_code}
 use Rattle.kilim_opcodes.specs.Table.{rows, form_of}
-use Rattle.kilim_program.specs.declared.instr.Instr.{Instr}
 use Rattle.kilim_program.specs.declared.instr.Instr.TheVariants.{Bipush, Sipush, Iinc, New}
 use Rattle.kilim_program.specs.declared.value.Value.{Value}
 use Rattle.kilim_program.specs.declared.names.ClassId.{ClassId}
-use Rattle.kilim_class_world.specs.Code.{instr_in, instr_with, typed_instr, applied, row, place_of, pair_in, plain_instrs, local_instrs, jump_instrs, field_instrs, method_instrs, type_instrs, constant_instrs, array_codes, Operand, AConstant, AField, AMethod, AType, MemberRef, index_operand, index_in, operand_at, field_found, method_found, constant_ref, field_ref, method_ref, any_method_ref, class_ref, unless_array}
-use Rattle.kilim_class_world.specs.Faults.{is_fiber, bad_index, bad_operand, is_no_member, owner_lacks, lacks_member, class_lacks, ref_of}
+use Rattle.kilim_class_world.specs.Code.{instr_in, instr_with, applied, row, place_of, pair_in, plain_instrs, local_instrs, jump_instrs, field_instrs, method_instrs, type_instrs, constant_instrs, array_codes, Operand, AConstant, AField, AMethod, AType, MemberRef, index_operand, index_in, operand_at, field_found, method_found, constant_ref, field_ref, method_ref, any_method_ref, class_ref, unless_array}
+use Rattle.kilim_class_world.specs.Faults.{is_fiber, bad_index, bad_operand, is_no_member, owner_lacks, class_lacks}
 use Rattle.kilim_class_world.specs.Mentions.{OfClass, mentions_of_operand, members_of_operand, operand_of}
 use Rattle.kilim_class_world.specs.Qualified.{has_fiber}
 use Rattle.kilim_class_world.specs.Types.{Named, AClass, AnArray, Malformed, named_by, each_of, type_named, class_named_by}
 use Rattle.kilim_class_world.specs.World.{World, find_field, find_method, class_of}
 use Rattle.kilim_code_facts.proofs.Forms.{HasItsForm}
-use Rattle.kilim_code_facts.proofs.Good.{Good, NameIsGood}
+use Rattle.kilim_code_facts.proofs.Good.{Good}
 use Rattle.kilim_code_facts.proofs.Instrs.{either_way}
 use Rattle.kilim_code_facts.proofs.Lists.{some_is, none_is_some, all_map}
 use Rattle.kilim_code_facts.proofs.Nothing.{all_mapped}
 use Rattle.kilim_code_facts.proofs.Mentions.{InstrMentions}
-use Rattle.kilim_code_facts.proofs.Rows.{forms_pass, mapped, if_cases}
-use Rattle.kilim_code_facts.proofs.There.{There, there, same_there, some_there, not_none_there, map_there, applied_there, each_there, AllThere}
+use Rattle.kilim_code_facts.proofs.Rows.{forms_pass, mapped}
+use Rattle.kilim_code_facts.proofs.There.{There, there, same_there, some_there, not_none_there, map_there, applied_there, each_there}
 use Rattle.kilim_code_facts.proofs.TypesThere.{named_there, element_there}
 
 -- ---- tables

@@ -1,5 +1,5 @@
 -- The parts of a linked field, method and body.
-use Rattle.std.proofs.Common.{◌≡◌, ℕ, List, [], ◌∷◌, Option, Some, None, refl, sym}
+use Rattle.std.proofs.Common.{◌≡◌, ℕ, List, Option, Some, None, refl, sym}
 use Rattle.kilim_attributes.specs.declared.attribute.Code.{Code}
 use Rattle.kilim_classfile.specs.declared.class_file.ClassFile.{ClassFile}
 use Rattle.kilim_classfile.specs.declared.class_file.MemberInfo.{MemberInfo}
@@ -72,7 +72,7 @@ method_parts w file c method y e =
       params_are = b.there;
       result_is = d.there;
       body_is = f.there;
-      is = sym (some_is (method_with w file c method b.x d.x f.x) y f.then);
+      is = sym {a = method_with w file c method b.x d.x f.x} (some_is (method_with w file c method b.x d.x f.x) y f.then);
     }
 
 pub record BodyParts (w : World) (file : ClassFile) (c : ClassId) (method : MemberInfo) (code : Code) (body : Body) : Type 0 where

@@ -1,5 +1,5 @@
 -- What holds of each mention of a file holds of those of its parts.
-use Rattle.std.proofs.Common.{◌≡◌, ℕ, List, [], ◌∷◌, ◌++◌, map}
+use Rattle.std.proofs.Common.{ℕ, List, ◌++◌, map}
 use Rattle.std.specs.List.{flat_map, AllByRecursion}
 use Rattle.kilim_attribute_parts.specs.declared.frame.Frame.{Frame as FrameForm}
 use Rattle.kilim_attribute_parts.specs.declared.frame.VerificationType.{VerificationType}

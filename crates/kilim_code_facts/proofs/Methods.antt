@@ -1,8 +1,7 @@
 -- Methods are sound: a qualifier for each parameter, few argument slots, and no constructor pauses.
 use Rattle.std.proofs.Common.{◌≡◌, ℕ, suc, ◌+◌, ◌≤◌, Bool, true, false, List, [], ◌∷◌, length, map, Option, Some, None, refl, ap, sym, subst, ◌∙◌, arith, sum_by}
-use Rattle.std.specs.Prelude.{◌&&◌, ◌==◌, not, nat_le, nat_lt, if◌then◌else◌}
-use Rattle.std.specs.List.{list_all, flat_map, AllByRecursion}
-use Rattle.std.specs.Option.{option_map}
+use Rattle.std.specs.Prelude.{◌&&◌, ◌==◌, if◌then◌else◌}
+use Rattle.std.specs.List.{list_all, AllByRecursion}
 use Rattle.std.proofs.lemmas.Bool.{and_from, eq-eqb, le-leb, ltb-false, not_from_false}
 use Rattle.std.proofs.lemmas.List.Folds.{list_all-append}
 use Rattle.std.proofs.lemmas.List.Sums.{sum_by-cons}
@@ -22,13 +21,12 @@ use Rattle.kilim_program.specs.declared.ty.Base.TheVariants as base
 use Rattle.kilim_program.specs.declared.ty.Ty.{Ty}
 use Rattle.kilim_program.specs.BuiltIn.{built_in_methods_in}
 use Rattle.kilim_program.specs.Keeps.{method_is_sound}
-use Rattle.kilim_program.specs.Program.{Program}
-use Rattle.kilim_program.specs.Same.{argument_slots, type_slots, is_wide_base, is_constructor}
+use Rattle.kilim_program.specs.Same.{argument_slots, type_slots, is_wide_base}
 use Rattle.kilim_class_world.specs.Faults.{no_descriptors, is_no_method, descriptor_broken}
 use Rattle.kilim_class_world.specs.declared.fault.Problem.TheVariants as problem
 use Rattle.kilim_class_world.specs.Laws.{LinkedInParts, NoProblem, NoneHasAProblem, NoneOfEachKind}
 use Rattle.kilim_class_world.specs.Linked.{linked_method, method_with}
-use Rattle.kilim_class_world.specs.Mentions.{Mention, OfMethod, mentions_of, this_slots}
+use Rattle.kilim_class_world.specs.Mentions.{Mention, mentions_of, this_slots}
 use Rattle.kilim_class_world.specs.Qualified.{qualified, params_by, behind_first, params_of, is_constructor_name}
 use Rattle.kilim_class_world.specs.Types.{method_text, type_in, types_in, base_in, typed, each_of}
 use Rattle.kilim_class_world.specs.World.{World, world_of, declared_method, member_descriptor, member_name, parameter_types}

@@ -9,8 +9,6 @@ use Rattle.kilim_bytecode.specs.declared.fault.CodeFault.{CodeFault}
 use Rattle.kilim_bytecode.specs.Code.{Placed}
 use Rattle.kilim_classfile.specs.declared.class_file.ClassFile.{ClassFile}
 use Rattle.kilim_classfile.specs.declared.class_file.MemberInfo.{MemberInfo}
-use Rattle.kilim_descriptors.specs.declared.types.FieldText.{FieldText}
-use Rattle.kilim_descriptors.specs.declared.types.MethodText.{MethodText}
 use Rattle.kilim_program.specs.declared.class.Class.{Class}
 use Rattle.kilim_program.specs.declared.class.Field.{Field}
 use Rattle.kilim_program.specs.declared.class.Form.{Form}
@@ -23,28 +21,28 @@ use Rattle.kilim_program.specs.declared.ty.Base.TheVariants as base
 use Rattle.kilim_program.specs.declared.ty.Ty.{Ty}
 use Rattle.kilim_program.specs.declared.verified.Frame.{Frame}
 use Rattle.kilim_program.specs.BuiltIn.{class_id, built_in_classes_in, built_in_methods_in}
-use Rattle.kilim_program.specs.Keeps.{all_types, no_task_arrays, types_of_frame, types_of_instr, types_of_method}
+use Rattle.kilim_program.specs.Keeps.{no_task_arrays, types_of_frame, types_of_instr, types_of_method}
 use Rattle.kilim_program.specs.Kinds.{is_task_base}
 use Rattle.kilim_program.specs.Names.{◌>>=◌, class_at, is_named_task, is_task, line_up_to}
 use Rattle.kilim_program.specs.Program.{Program}
-use Rattle.kilim_class_world.specs.Code.{decoded, code_of, instr_in, placed_in}
+use Rattle.kilim_class_world.specs.Code.{decoded, code_of, placed_in}
 use Rattle.kilim_class_world.specs.Faults.{has_task_array, is_task_base as is_task_text}
-use Rattle.kilim_class_world.specs.Laws.{LinkedInParts, NoProblem, NoneHasAProblem, NoneOfEachKind, Parts}
-use Rattle.kilim_class_world.specs.Linked.{Body, body_in, no_body, code_attribute, linked_class, linked_field, linked_method, method_with, numbered}
-use Rattle.kilim_class_world.specs.Mentions.{OfField, OfMethod, all_types as file_types, mentions_of, types_mentioned, instrs_in, instrs_if, frames_if, this_slots}
+use Rattle.kilim_class_world.specs.Laws.{LinkedInParts, NoProblem, NoneHasAProblem, NoneOfEachKind}
+use Rattle.kilim_class_world.specs.Linked.{Body, body_in, no_body, code_attribute, linked_class, linked_field, linked_method, numbered}
+use Rattle.kilim_class_world.specs.Mentions.{OfField, all_types as file_types, mentions_of, types_mentioned, instrs_in, instrs_if, frames_if}
 use Rattle.kilim_class_world.specs.Qualified.{params_of}
-use Rattle.kilim_class_world.specs.Types.{each_of, itself, field_text, method_text, method_types, result_types, type_in, types_of_field, types_of_method as types_of_text}
+use Rattle.kilim_class_world.specs.Types.{itself, method_text, result_types, types_of_field, types_of_method as types_of_text}
 use Rattle.kilim_class_world.specs.World.{World, world_of, declared_method, member_descriptor}
 use Rattle.kilim_code_facts.proofs.Codes.{placed_parts}
 use Rattle.kilim_code_facts.proofs.Files.{each_without, each_file_map}
 use Rattle.kilim_code_facts.proofs.LeftOut.{nothing_left_out}
-use Rattle.kilim_code_facts.proofs.Lists.{some_is, none_is_some, first_and, all_map, each_of_all, each_of_length, members_pass}
+use Rattle.kilim_code_facts.proofs.Lists.{some_is, none_is_some, all_map, each_of_all, each_of_length, members_pass}
 use Rattle.kilim_code_facts.proofs.Members.{field_parts, method_parts, body_parts}
 use Rattle.kilim_code_facts.proofs.Mentions.{FileMentions, MethodMentions, InstrMentions, FrameMentions, file_mentions}
 use Rattle.kilim_code_facts.proofs.Nothing.{none_any, all_flat, all_front, all_rest}
 use Rattle.kilim_code_facts.proofs.TaskFrames.{frames_fit}
 use Rattle.kilim_code_facts.proofs.TaskInstrs.{instr_fits}
-use Rattle.kilim_code_facts.proofs.TaskTypes.{NoTasks, TaskFree, Fits, fits, SameTasks, flat_fits, type_fits, types_fit, result_fits}
+use Rattle.kilim_code_facts.proofs.TaskTypes.{NoTasks, TaskFree, fits, SameTasks, flat_fits, type_fits, types_fit, result_fits}
 use Rattle.kilim_code_facts.specs.Facts.{NoTaskArrays}
 
 -- ---- what is known of a file

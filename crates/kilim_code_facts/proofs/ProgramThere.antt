@@ -1,5 +1,5 @@
 -- Where there is no fault there is a program.
-use Rattle.std.proofs.Common.{◌≡◌, ℕ, Bool, true, false, List, [], ◌∷◌, map, Option, Some, None, refl, ap, sym, subst, ◌∙◌}
+use Rattle.std.proofs.Common.{◌≡◌, false, List, [], ◌∷◌, Option, Some, None, refl, ap, sym, subst}
 use Rattle.std.specs.List.{flat_map, filter_map, cons_option, AllByRecursion}
 use Rattle.kilim_bytecode.specs.Code.{Placed}
 use Rattle.kilim_bytecode.specs.Exact.{TargetsArePlaces}
@@ -13,7 +13,7 @@ use Rattle.kilim_program.specs.declared.class.Method.{Method}
 use Rattle.kilim_program.specs.declared.names.ClassId.{ClassId}
 use Rattle.kilim_program.specs.declared.ty.Ty.{Ty}
 use Rattle.kilim_program.specs.Names.{◌>>=◌}
-use Rattle.kilim_class_world.specs.Faults.{code_broken, code_fault, code_faults, decoded_in, is_no_member, left_out_op, left_out_ops, member_missing}
+use Rattle.kilim_class_world.specs.Faults.{code_broken, code_fault, code_faults, decoded_in, is_no_member, left_out_op, member_missing}
 use Rattle.kilim_class_world.specs.Laws.{NoProblem, NoneHasAProblem, NoneOfEachKind}
 use Rattle.kilim_class_world.specs.Linked.{Body, body_in, code_attribute, linked_class, linked_field, linked_method, method_with, field_with, members, numbered, program_of, program_with}
 use Rattle.kilim_class_world.specs.Mentions.{Member, OfField, this_slots, members_named, members_of_operand, operand_of, instrs_of}

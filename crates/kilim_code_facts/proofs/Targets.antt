@@ -1,7 +1,6 @@
 -- A linked instruction goes where the written one goes, and ends a path where that one does.
-use Rattle.std.proofs.Common.{◌≡◌, ℕ, Bool, true, false, ℤ, pos, List, [], ◌∷◌, length, map, Option, Some, None, refl, ap, sym, subst, ◌∙◌, arith}
+use Rattle.std.proofs.Common.{◌≡◌, ℕ, Bool, true, false, ℤ, pos, List, [], ◌∷◌, map, Option, Some, None, refl, ap, sym, subst, ◌∙◌}
 use Rattle.std.specs.Prelude.{◌||◌, ◌==◌, not, if◌then◌else◌}
-use Rattle.std.specs.List.{list_all}
 use Rattle.std.specs.Option.{option_map}
 use Rattle.std.proofs.lemmas.Bool.{false≢true}
 use Rattle.kilim_constant_pool.specs.declared.entry.Entry.{Entry}
@@ -15,12 +14,12 @@ use Rattle.kilim_program.specs.declared.instr.Instr.TheVariants.{Bipush, Sipush,
 use Rattle.kilim_program.specs.declared.names.ClassId.{ClassId}
 use Rattle.kilim_program.specs.Names.{is_empty}
 use Rattle.kilim_program.specs.Lengths.{jump_targets, ends_path}
-use Rattle.kilim_class_world.specs.Code.{instr_in, instr_with, typed_instr, applied, row, place_of, pair_in, plain_instrs, local_instrs, jump_instrs, field_instrs, method_instrs, type_instrs, constant_instrs, array_codes, Operand, AConstant, AField, AMethod, AType, operand_at, field_found, method_found}
+use Rattle.kilim_class_world.specs.Code.{instr_in, instr_with, applied, row, place_of, pair_in, plain_instrs, local_instrs, jump_instrs, field_instrs, method_instrs, type_instrs, constant_instrs, array_codes, Operand, AConstant, AField, AMethod, AType, operand_at, field_found, method_found}
 use Rattle.kilim_class_world.specs.Types.{Named, each_of, type_named, class_named_by}
 use Rattle.kilim_class_world.specs.World.{World}
 use Rattle.kilim_code_facts.proofs.Instrs.{either_way, has_number, table_holds, table_passes, place_is, pair_parts, table_parts, lookup_parts}
 use Rattle.kilim_code_facts.proofs.Lists.{some_is, none_is_some, first_and}
-use Rattle.kilim_code_facts.proofs.Rows.{each_passes, rows_pass, mapped}
+use Rattle.kilim_code_facts.proofs.Rows.{rows_pass, mapped}
 
 abbrev has_none : Instr → Bool
 has_none y = is_empty (jump_targets y)

@@ -1,10 +1,8 @@
 -- No instruction of a linked method names an array of tasks.
-use Rattle.std.proofs.Common.{◌≡◌, ℕ, Bool, true, false, ℤ, List, [], ◌∷◌, Option, Some, None, refl, ap, sym, subst, ◌∙◌, option_map}
-use Rattle.std.specs.Prelude.{◌&&◌, ◌==◌, not, nat_lt, if◌then◌else◌}
+use Rattle.std.proofs.Common.{◌≡◌, ℕ, Bool, true, false, ℤ, List, [], ◌∷◌, Option, Some, None, refl, subst, option_map}
+use Rattle.std.specs.Prelude.{◌==◌, not, if◌then◌else◌}
 use Rattle.std.specs.List.{list_all, AllByRecursion}
-use Rattle.std.proofs.lemmas.Bool.{and_from, not_from_false, false≢true}
-use Rattle.kilim_bytecode.specs.Code.{Placed}
-use Rattle.kilim_classfile.specs.declared.class_file.ClassFile.{ClassFile}
+use Rattle.std.proofs.lemmas.Bool.{and_from, false≢true}
 use Rattle.kilim_constant_pool.specs.declared.entry.Entry.{Entry}
 use Rattle.kilim_opcodes.specs.declared.instr.RawInstr.{RawInstr}
 use Rattle.kilim_opcodes.specs.declared.instr.RawInstr.TheVariants as raw
@@ -12,19 +10,18 @@ use Rattle.kilim_program.specs.declared.instr.Instr.{Instr}
 use Rattle.kilim_program.specs.declared.instr.Instr.TheVariants.{Bipush, Sipush, Iinc, Newarray, New}
 use Rattle.kilim_program.specs.declared.names.ClassId.{ClassId}
 use Rattle.kilim_program.specs.declared.ty.Base.{Base}
-use Rattle.kilim_program.specs.declared.ty.Ty.{Ty}
 use Rattle.kilim_program.specs.Keeps.{array_of, types_of_instr}
 use Rattle.kilim_program.specs.Kinds.{is_task_base}
 use Rattle.kilim_program.specs.Names.{is_empty}
 use Rattle.kilim_program.specs.Program.{Program}
-use Rattle.kilim_class_world.specs.Code.{instr_in, instr_with, typed_instr, applied, row, place_of, pair_in, plain_instrs, local_instrs, jump_instrs, field_instrs, method_instrs, type_instrs, constant_instrs, array_codes, Operand, AConstant, AField, AMethod, AType, operand_at, field_found, method_found}
+use Rattle.kilim_class_world.specs.Code.{instr_in, instr_with, applied, row, place_of, plain_instrs, local_instrs, jump_instrs, field_instrs, method_instrs, type_instrs, constant_instrs, array_codes, Operand, AConstant, AField, AMethod, AType, operand_at, field_found, method_found}
 use Rattle.kilim_class_world.specs.Mentions.{mentions_of_operand, mentions_of_instr}
-use Rattle.kilim_class_world.specs.Types.{Named, each_of, type_named, class_named_by}
+use Rattle.kilim_class_world.specs.Types.{Named, type_named, class_named_by}
 use Rattle.kilim_class_world.specs.World.{World}
 use Rattle.kilim_code_facts.proofs.Instrs.{table_holds, table_passes, table_parts, lookup_parts}
 use Rattle.kilim_code_facts.proofs.Lists.{some_is, none_is_some}
 use Rattle.kilim_code_facts.proofs.Rows.{rows_pass, mapped}
-use Rattle.kilim_code_facts.proofs.TaskTypes.{TaskFree, Fits, fits, SameTasks, one_fits, class_fits, element_fits}
+use Rattle.kilim_code_facts.proofs.TaskTypes.{TaskFree, fits, SameTasks, one_fits, class_fits, element_fits}
 
 abbrev has_none : Instr → Bool
 has_none y = is_empty (types_of_instr y)

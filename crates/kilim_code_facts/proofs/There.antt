@@ -1,5 +1,5 @@
 -- Options that have a value, and lists of them.
-use Rattle.std.proofs.Common.{◌≡◌, ℕ, suc, Bool, true, false, List, [], ◌∷◌, ◌++◌, map, Option, Some, None, refl, ap, sym, subst, ◌∙◌, is_some, is_none}
+use Rattle.std.proofs.Common.{◌≡◌, ℕ, suc, true, false, List, [], ◌∷◌, ◌++◌, map, Option, Some, None, refl, ap, ◌∙◌, is_some, is_none}
 use Rattle.std.specs.List.{flat_map, AllByRecursion}
 use Rattle.std.specs.Option.{option_map}
 use Rattle.kilim_classfile.specs.declared.class_file.ClassFile.{ClassFile}
@@ -10,7 +10,7 @@ use Rattle.kilim_program.specs.Names.{◌>>=◌}
 use Rattle.kilim_class_world.specs.Code.{applied}
 use Rattle.kilim_class_world.specs.Linked.{numbered}
 use Rattle.kilim_class_world.specs.Types.{each_of, itself, with_first}
-use Rattle.kilim_code_facts.proofs.Lists.{EachFile, each_of_map}
+use Rattle.kilim_code_facts.proofs.Lists.{EachFile}
 
 -- there is a value
 pub record There {A : Type 0} (o : Option A) : Type 0 where

@@ -2,17 +2,15 @@
 use Rattle.std.proofs.Common.{◌≡◌, ℕ, Bool, true, false, List, [], ◌∷◌, ◌++◌, Option, Some, None, refl, sym, subst, is_none}
 use Rattle.std.specs.Prelude.{if◌then◌else◌}
 use Rattle.std.specs.List.{flat_map, AllByRecursion}
-use Rattle.std.specs.Option.{option_map}
 use Rattle.std.proofs.lemmas.Bool.{false≢true}
 use Rattle.kilim_descriptors.specs.declared.types.BaseText.{BaseText}
 use Rattle.kilim_descriptors.specs.declared.types.BaseText.TheVariants as text
 use Rattle.kilim_descriptors.specs.declared.types.FieldText.{FieldText}
 use Rattle.kilim_descriptors.specs.declared.types.MethodText.{MethodText}
-use Rattle.kilim_program.specs.declared.names.ClassId.{ClassId}
 use Rattle.kilim_program.specs.declared.ty.Base.TheVariants as base
 use Rattle.kilim_class_world.specs.Faults.{is_float_base, is_no_method}
 use Rattle.kilim_class_world.specs.Mentions.{Mention, OfClass, OfElement, OfField, OfMethod, plain_names, types_mentioned}
-use Rattle.kilim_class_world.specs.Types.{Named, AClass, AnArray, Malformed, field_text, method_text, base_in, type_in, types_in, result_in, type_named, class_named_by, typed, type_names, base_names, types_of_field, types_of_method, method_types, result_types, each_of}
+use Rattle.kilim_class_world.specs.Types.{Named, AClass, AnArray, Malformed, field_text, method_text, base_in, type_in, types_in, result_in, type_named, typed, type_names, base_names, types_of_field, types_of_method, result_types}
 use Rattle.kilim_class_world.specs.World.{World}
 use Rattle.kilim_code_facts.proofs.Good.{Good, NameIsGood, NoFloat}
 use Rattle.kilim_code_facts.proofs.Nothing.{all_front, all_rest}

@@ -1,7 +1,7 @@
 -- The code of each linked method is whole.
-use Rattle.std.proofs.Common.{◌≡◌, ℕ, Bool, true, List, [], length, Option, Some, None, Result, Ok, Err, refl, sym, subst, ◌∙◌}
+use Rattle.std.proofs.Common.{◌≡◌, ℕ, Bool, true, List, length, Option, Some, None, Result, Ok, Err, refl, sym, subst, ◌∙◌}
 use Rattle.std.specs.Prelude.{◌&&◌}
-use Rattle.std.specs.List.{list_all, AllByRecursion}
+use Rattle.std.specs.List.{list_all}
 use Rattle.std.proofs.lemmas.Bool.{and_from}
 use Rattle.std.proofs.lemmas.List.Folds.{list_all-append}
 use Rattle.kilim_attributes.specs.declared.attribute.Code.{Code}
@@ -20,7 +20,6 @@ use Rattle.kilim_program.specs.declared.names.ClassId.{ClassId}
 use Rattle.kilim_program.specs.BuiltIn.{built_in_methods_in}
 use Rattle.kilim_program.specs.Keeps.{code_is_whole}
 use Rattle.kilim_program.specs.Lengths.{code_stands, targets_stand, code_ends}
-use Rattle.kilim_program.specs.Program.{Program}
 use Rattle.kilim_class_world.specs.Code.{decoded, code_of, placed_in}
 use Rattle.kilim_class_world.specs.Laws.{LinkedInParts}
 use Rattle.kilim_class_world.specs.Linked.{Body, body_in, no_body, code_attribute, linked_method}
