@@ -3,6 +3,7 @@ mod Members
 mod Frames
 mod Decoded
 mod Rows
+mod Loaded
 mod Instrs
 mod Targets
 mod Codes
@@ -11,6 +12,7 @@ mod Mentions
 mod LeftOut
 mod Files
 mod Methods
+mod Bytes
 mod WholeCode
 mod ClassNames
 mod Constants
@@ -26,4 +28,3 @@ mod TaskTypes
 mod TaskInstrs
 mod TaskFrames
 mod NoTaskArrays
-mod Bytes

@@ -10,6 +10,7 @@ use Rattle.kilim_bytecode.specs.Code.{Placed}
 use Rattle.kilim_bytecode.specs.Exact.{TargetsArePlaces}
 use Rattle.kilim_classfile.specs.declared.class_file.ClassFile.{ClassFile}
 use Rattle.kilim_classfile.specs.declared.class_file.MemberInfo.{MemberInfo}
+use Rattle.kilim_classfile.specs.Text.{ClassFits}
 use Rattle.kilim_constant_pool.specs.declared.entry.Entry.{Entry}
 use Rattle.kilim_opcodes.specs.Exact.{OneSpelling, Lengths}
 use Rattle.kilim_program.specs.declared.class.Form.{Form}
@@ -25,12 +26,13 @@ use Rattle.kilim_class_world.specs.Laws.{LinkedInParts}
 use Rattle.kilim_class_world.specs.Linked.{Body, body_in, no_body, code_attribute, linked_method}
 use Rattle.kilim_class_world.specs.Types.{each_of}
 use Rattle.kilim_class_world.specs.World.{World, world_of}
+use Rattle.kilim_code_facts.proofs.Bytes.{CodeIsBytes, codes_are_bytes}
 use Rattle.kilim_code_facts.proofs.Codes.{code_stands_there}
 use Rattle.kilim_code_facts.proofs.Decoded.{decoded_stands}
 use Rattle.kilim_code_facts.proofs.Files.{each_file_of}
 use Rattle.kilim_code_facts.proofs.Lists.{some_is, none_is_some, all_map, members_pass}
 use Rattle.kilim_code_facts.proofs.Members.{body_parts, method_parts}
-use Rattle.kilim_code_facts.specs.Facts.{CodeIsBytes, CodeIsWhole}
+use Rattle.kilim_code_facts.specs.Facts.{CodeIsWhole}
 
 record CodeParts (w : World) (pool : List Entry) (r : Result (List Placed) CodeFault) (es : List (ℕ × Instr)) : Type 0 where
   code : List Placed
@@ -70,10 +72,10 @@ module _ (spelling : OneSpelling) (lengths : Lengths) (places : TargetsArePlaces
 
   module _ (in_parts : LinkedInParts) where
     pub code_is_whole_there : CodeIsWhole
-    code_is_whole_there files form p l are =
+    code_is_whole_there files form p l =
         let parts = in_parts files form p l.linked in
         let w = world_of files form in
-        let each = each_file_of _ _ (λ file c bytes. all_map (λ m. CodeIsBytes (code_attribute m)) _ (whole_method w file c) file.methods bytes) 0 files are in
+        let each = each_file_of ClassFits _ (λ file c fits. all_map (λ m. CodeIsBytes (code_attribute m)) _ (whole_method w file c) file.methods (codes_are_bytes file fits)) 0 files l.fit in
         let own = members_pass code_is_whole (λ file. file.methods) (linked_method w) 0 files parts.methods each parts.methods_are in
         subst (λ q. list_all code_is_whole q.methods ≡ true) (sym parts.is)
         (list_all-append code_is_whole parts.methods (built_in_methods_in form (length files)) ∙ and_from _ _ own (built_in_whole form (length files)))

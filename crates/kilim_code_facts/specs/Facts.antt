@@ -1,13 +1,10 @@
 -- Facts of programs that are linked.
-use Rattle.std.specs.Prelude.{◌≡◌, true, List, [], Option, Some, None}
-use Rattle.std.specs.List.{list_all, AllByRecursion}
-use Rattle.kilim_attributes.specs.declared.attribute.Code.{Code}
+use Rattle.std.specs.Prelude.{◌≡◌, true, List, []}
+use Rattle.std.specs.List.{list_all}
 use Rattle.kilim_classfile.specs.declared.class_file.ClassFile.{ClassFile}
-use Rattle.kilim_classfile.specs.Text.{class_text}
 use Rattle.kilim_class_world.specs.Faults.{link_faults}
-use Rattle.kilim_class_world.specs.Linked.{Linked, code_attribute}
+use Rattle.kilim_class_world.specs.Linked.{Linked}
 use Rattle.kilim_class_world.specs.LinksWell.{LinksWell}
-use Rattle.kilim_grammar.specs.Format.{IsBytes}
 use Rattle.kilim_class_world.specs.World.{world_of}
 use Rattle.kilim_program.specs.declared.class.Form.{Form}
 use Rattle.kilim_program.specs.declared.names.ClassId.{ClassId}
@@ -24,21 +21,9 @@ FramesIncrease = (files : List ClassFile) (form : Form) (p : Program) → LinksW
 abbrev pub MethodsAreSound : Type 0
 MethodsAreSound = (files : List ClassFile) (form : Form) (p : Program) → LinksWell files form p → list_all method_is_sound p.methods ≡ true
 
--- the bytes of a method's code are bytes
-abbrev pub CodeIsBytes : Option Code → Type 0
-CodeIsBytes None = Unit {0}
-CodeIsBytes (Some code) = IsBytes code.code
-
-abbrev pub CodesAreBytes : List ClassFile → Type 0
-CodesAreBytes files = AllByRecursion (λ (file : ClassFile). AllByRecursion (λ m. CodeIsBytes (code_attribute m)) file.methods) files
-
--- The code in a class file whose text is bytes is bytes.
-abbrev pub CodesOfText : Type 0
-CodesOfText = (file : ClassFile) → IsBytes (class_text file) → AllByRecursion (λ m. CodeIsBytes (code_attribute m)) file.methods
-
 -- The code of each method is whole.
 abbrev pub CodeIsWhole : Type 0
-CodeIsWhole = (files : List ClassFile) (form : Form) (p : Program) → LinksWell files form p → CodesAreBytes files → list_all code_is_whole p.methods ≡ true
+CodeIsWhole = (files : List ClassFile) (form : Form) (p : Program) → LinksWell files form p → list_all code_is_whole p.methods ≡ true
 
 -- A static field has a constant of its type.
 abbrev pub ConstantsFit : Type 0

@@ -1,6 +1,6 @@
 //! Laws about linked programs. No program calls them to do work.
 
-ghost use Rattle.kilim_code_facts.specs.Facts.{CodeIsWhole, CodesOfText, ConstantsFit, FramesIncrease, MethodsAreSound, NoFaultLinks, NoTaskArrays};
+ghost use Rattle.kilim_code_facts.specs.Facts.{CodeIsWhole, ConstantsFit, FramesIncrease, MethodsAreSound, NoFaultLinks, NoTaskArrays};
 
 use kilim_bytecode::targets_are_places;
 use kilim_class_world::{linked_in_parts, none_has_a_problem, none_of_each_kind};
@@ -58,8 +58,3 @@ pub fn no_task_arrays()
     none_has_a_problem();
     none_of_each_kind();
 }
-
-/// A law, and no work: the code in a class file whose text is bytes is bytes.
-pub fn codes_of_text()
-    ensures { CodesOfText }
-{}
