@@ -24,7 +24,8 @@ mod InstrsThere
 mod FramesThere
 mod CodeThere
 mod ProgramThere
-mod TaskTypes
-mod TaskInstrs
-mod TaskFrames
+mod TestedTypes
+mod TestedInstrs
+mod TestedFrames
+mod TestedMethods
 mod NoTaskArrays
