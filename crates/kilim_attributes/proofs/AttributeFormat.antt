@@ -1,13 +1,11 @@
 -- Attributes both ways (JVMS 4.7).
-use Rattle.std.proofs.Common.{◌≡◌, ℕ, ◌+◌, ◌-◌, ◌^◌, ◌<◌, ◌≤◌, List, ◌++◌, length, drop, Option, Some, None, Result, Ok, refl, sym, ap, subst, ◌∙◌, arith, inl, inr}
+use Rattle.std.proofs.Common.{◌≡◌, ℕ, ◌^◌, ◌<◌, List, length, Option, Some, None, Result, Ok, refl, subst, ◌∙◌}
 use Rattle.std.specs.List.{AllByRecursion}
 use Rattle.std.specs.Int.{w16}
-use Rattle.std.proofs.lemmas.List.{length-append, drop_at}
 use Rattle.kilim_grammar.specs.Reader.{filled}
 use Rattle.kilim_grammar.specs.Spelling.{u2, list_text}
 use Rattle.kilim_grammar.proofs.Bytes.{IsBytes, wide16}
 use Rattle.kilim_grammar.proofs.Formats.{Format, well_is, refitted, so_many, filled_takes, filled_again}
-use Rattle.kilim_grammar.proofs.Loops.{FailsUnless}
 use Rattle.kilim_constant_pool.specs.declared.entry.Entry.{Entry}
 use Rattle.kilim_attribute_parts.specs.declared.fault.AttributeFault.{AttributeFault}
 use Rattle.kilim_attribute_parts.specs.declared.fault.AttributeFault.TheVariants as fault
@@ -23,7 +21,6 @@ use Rattle.kilim_attributes.specs.declared.attribute.Info.TheVariants.{ConstantV
 use Rattle.kilim_attributes.specs.declared.attribute.Attribute.{Attribute}
 use Rattle.kilim_attributes.specs.Lists.{as_a}
 use Rattle.kilim_attributes.specs.Attributes.{info_text, attribute_text, attributes_text, info_form, repeats, InfoFits, AttributeFits, AttributesFit, exceptions_at, whole_parts, info_of, attribute_of, attribute_at, attributes_at}
-use Rattle.kilim_attributes.specs.Laws.{Stands, IsReadAgain}
 use Rattle.kilim_attributes.proofs.Lists.{listed_format, as_ok}
 use Rattle.kilim_attributes.proofs.Named.{Holds, by_name}
 use Rattle.kilim_attributes.proofs.CodeFormat.{code_format}
@@ -47,7 +44,7 @@ module _ (given : PartsAreSpelled) (pool : List Entry) where
 
   content_takes : (f : Option AttributeName) (bytes : List ℕ) (i : Info) → IsBytes bytes → info_of pool f bytes ≡ Ok i → InfoHolds f bytes i
   unfolding info_of whole_parts
-  content_takes None bytes i fits e = subst (λ (x : Info). InfoHolds None bytes x) (well_is {F = AttributeFault} (Raw bytes) i e) (record { spelled = refl; formed = refl; fit = tt })
+  content_takes None bytes i fits e = subst (λ (x : Info). InfoHolds None bytes x) (well_is {F = AttributeFault} (Raw bytes) i e) (record { spelled = refl; formed = refl; fit = fits })
   content_takes (Some name.ConstantValue) bytes i fits e = holds (given.indices pool kind.Constant (fault.Length name.ConstantValue)) (Some name.ConstantValue) (fault.Length name.ConstantValue) ConstantValue (λ x. refl) (λ x. refl) (λ x fit. fit) bytes i fits e
   content_takes (Some name.Code) bytes i fits e = holds (code_format given pool) (Some name.Code) (fault.Length name.Code) Code (λ x. refl) (λ x. refl) (λ x fit. fit) bytes i fits e
   content_takes (Some name.StackMapTable) bytes i fits e = holds (given.frames pool) (Some name.StackMapTable) (fault.Length name.StackMapTable) StackMapTable (λ x. refl) (λ x. refl) (λ x fit. fit) bytes i fits e

@@ -51,9 +51,9 @@ module _ (given : PartsAreSpelled) (pool : List Entry) where
   abbrev CodeHolds : Option AttributeName → List ℕ → CodeInfo → Type 0
   CodeHolds = Holds code_info_text code_info_form (CodeInfoFits pool)
 
-  holds_raw : (bytes : List ℕ) (i : CodeInfo) → code_info_of pool None bytes ≡ Ok i → CodeHolds None bytes i
+  holds_raw : (bytes : List ℕ) (i : CodeInfo) → IsBytes bytes → code_info_of pool None bytes ≡ Ok i → CodeHolds None bytes i
   unfolding code_info_of
-  holds_raw bytes i e = subst (λ (x : CodeInfo). CodeHolds None bytes x) (well_is {F = AttributeFault} (Raw bytes) i e) (record { spelled = refl; formed = refl; fit = tt })
+  holds_raw bytes i fits e = subst (λ (x : CodeInfo). CodeHolds None bytes x) (well_is {F = AttributeFault} (Raw bytes) i e) (record { spelled = refl; formed = refl; fit = fits })
 
   holds_frames : (bytes : List ℕ) (i : CodeInfo) → IsBytes bytes → code_info_of pool (Some name.StackMapTable) bytes ≡ Ok i → CodeHolds (Some name.StackMapTable) bytes i
   unfolding code_info_of
@@ -67,7 +67,7 @@ module _ (given : PartsAreSpelled) (pool : List Entry) where
   content_takes f n bytes i formed fits e =
       elim (code_forms n (entry_at pool n) f formed) [
         | inl none ↦
-            subst (λ (g : Option AttributeName). CodeHolds g bytes i) (sym none) (holds_raw bytes i (subst (λ (g : Option AttributeName). code_info_of pool g bytes ≡ Ok i) none e))
+            subst (λ (g : Option AttributeName). CodeHolds g bytes i) (sym none) (holds_raw bytes i fits (subst (λ (g : Option AttributeName). code_info_of pool g bytes ≡ Ok i) none e))
         | inr some ↦
             subst (λ (g : Option AttributeName). CodeHolds g bytes i) (sym some) (holds_frames bytes i fits (subst (λ (g : Option AttributeName). code_info_of pool g bytes ≡ Ok i) some e))
       ]
@@ -110,6 +110,7 @@ module _ (given : PartsAreSpelled) (pool : List Entry) where
   pub record IsCode (code : List ℕ) : Type 0 where
     pub some : 0 < length code
     pub few : length code < 65536
+    pub bytes : IsBytes code
 
   both_pass : (a b : Bool) → (a && b) ≡ true → (a ≡ true) × (b ≡ true)
   both_pass true b e = (refl, e)
@@ -130,7 +131,7 @@ module _ (given : PartsAreSpelled) (pool : List Entry) where
       let low : 0 < m.0.0 = ltb-true _ _ p.0 in
       let high : m.0.0 < 65536 = ltb-true _ _ p.1 in (
         subst (λ (k : ℕ). Takes bytes (u4 k ++ code) rest) (sym len) (subst (λ (c : List ℕ). Takes bytes (u4 m.0.0 ++ c) rest) m.1 m.2),
-        record { some = omega arith; few = omega arith },
+        record { some = omega arith; few = omega arith; bytes = subst IsBytes m.1 m.3.1.1 },
       )
 
   code_bytes_again : (code rest : List ℕ) → IsCode code → code_bytes_at ((u4 (length code) ++ code) ++ rest) ≡ Ok (code, rest)
@@ -152,5 +153,5 @@ module _ (given : PartsAreSpelled) (pool : List Entry) where
       (λ x. record { max_stack = x.0.0; max_locals = x.0.1; code = x.1.0; exception_table = x.1.1.0; attributes = x.1.1.1 })
       (λ c. ((c.max_stack, c.max_locals), (c.code, (c.exception_table, c.attributes)))) (λ c. refl) (λ x fit. refl))
       (CodeFits pool)
-      (λ c fit. record { max_stack = fit.0.0; max_locals = fit.0.1; some = fit.1.0.some; few = fit.1.0.few; handlers = fit.1.1.0.0; each_handler = fit.1.1.0.1; count = fit.1.1.1.0; each = fit.1.1.1.1 })
-      (λ c fit. ((fit.max_stack, fit.max_locals), (record { some = fit.some; few = fit.few }, ((fit.handlers, fit.each_handler), (fit.count, fit.each)))))
+      (λ c fit. record { max_stack = fit.0.0; max_locals = fit.0.1; some = fit.1.0.some; few = fit.1.0.few; bytes = fit.1.0.bytes; handlers = fit.1.1.0.0; each_handler = fit.1.1.0.1; count = fit.1.1.1.0; each = fit.1.1.1.1 })
+      (λ c fit. ((fit.max_stack, fit.max_locals), (record { some = fit.some; few = fit.few; bytes = fit.bytes }, ((fit.handlers, fit.each_handler), (fit.count, fit.each)))))

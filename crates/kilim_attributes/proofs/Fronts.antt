@@ -1,9 +1,9 @@
 -- What stays of reading attributes, whatever follows. What an attribute holds stands in as many bytes as it states, so
 -- that only these bytes decide on it.
-use Rattle.std.proofs.Common.{◌≡◌, ℕ, zero, suc, List, [], ◌∷◌, ◌++◌, Result, Ok, Err, refl}
+use Rattle.std.proofs.Common.{ℕ, zero, suc, List, [], ◌∷◌, ◌++◌, Result, refl}
 use Rattle.std.specs.Int.{w16, w32}
-use Rattle.kilim_grammar.specs.Reader.{Reader, ◌>>=◌, number_at, bytes_at}
-use Rattle.kilim_grammar.specs.Fronts.{Stays, StaysRead}
+use Rattle.kilim_grammar.specs.Reader.{Reader, number_at, bytes_at}
+use Rattle.kilim_grammar.specs.Fronts.{StaysRead}
 use Rattle.kilim_grammar.proofs.Fronts.{then_stays, also_stays, bytes_stay, number_stays}
 use Rattle.kilim_constant_pool.specs.declared.entry.Entry.{Entry}
 use Rattle.kilim_attribute_parts.specs.declared.fault.AttributeFault.{AttributeFault}

@@ -2,6 +2,7 @@
 use Rattle.std.specs.Prelude.{◌≡◌, ℕ, ◌<◌, ◌^◌, Bool, true, false, ◌&&◌, List, [], length, Option, Some, None, Result, Ok}
 use Rattle.std.specs.List.{list_any, AllByRecursion}
 use Rattle.std.specs.Int.{w16}
+use Rattle.kilim_grammar.specs.Format.{IsBytes}
 use Rattle.kilim_grammar.specs.Reader.{Reader, ◌>>=◌, counted, filled}
 use Rattle.kilim_grammar.specs.Spelling.{u2, list_text}
 use Rattle.kilim_constant_pool.specs.declared.entry.Entry.{Entry}
@@ -93,7 +94,7 @@ InfoFits pool (RuntimeVisibleAnnotations parts) = PartsFit pool AnnotationList p
 InfoFits pool (RuntimeInvisibleAnnotations parts) = PartsFit pool AnnotationList parts
 InfoFits pool (RuntimeVisibleParameterAnnotations parts) = PartsFit pool ParameterCount parts
 InfoFits pool (RuntimeInvisibleParameterAnnotations parts) = PartsFit pool ParameterCount parts
-InfoFits pool (Raw bytes) = Unit {0}
+InfoFits pool (Raw bytes) = IsBytes bytes
 
 pub record AttributeFits (pool : List Entry) (place : Place) (before : List Attribute) (attribute : Attribute) : Type 0 where
   pub below : attribute.attribute_name_index < 2 ^ 16

@@ -2,6 +2,7 @@
 use Rattle.std.specs.Prelude.{◌≡◌, ℕ, ◌<◌, ◌^◌, nat_lt, Bool, true, false, ◌&&◌, List, [], ◌++◌, length, Option, Some, None, Result, Ok}
 use Rattle.std.specs.List.{list_any, AllByRecursion}
 use Rattle.std.specs.Int.{w16, w32}
+use Rattle.kilim_grammar.specs.Format.{IsBytes}
 use Rattle.kilim_grammar.specs.Reader.{Reader, ◌>>=◌, number_at, bytes_at, both, followed, made, tested, counted, filled}
 use Rattle.kilim_grammar.specs.Spelling.{u2, u4, list_text}
 use Rattle.kilim_constant_pool.specs.declared.entry.Entry.{Entry}
@@ -70,7 +71,7 @@ code_repeats form before = list_any (λ a. code_info_is form a.info) before
 
 abbrev pub CodeInfoFits : List Entry → CodeInfo → Type 0
 CodeInfoFits pool (StackMapTable frames) = FramesFit pool frames
-CodeInfoFits pool (Raw bytes) = Unit {0}
+CodeInfoFits pool (Raw bytes) = IsBytes bytes
 
 pub record CodeAttributeFits (pool : List Entry) (before : List CodeAttribute) (attribute : CodeAttribute) : Type 0 where
   pub below : attribute.attribute_name_index < 2 ^ 16
@@ -90,6 +91,7 @@ pub record CodeFits (pool : List Entry) (code : Code) : Type 0 where
   pub max_locals : code.max_locals < 2 ^ 16
   pub some : 0 < length code.code
   pub few : length code.code < 65536
+  pub bytes : IsBytes code.code
   pub handlers : length code.exception_table < 2 ^ 16
   pub each_handler : AllByRecursion (HandlerFits pool) code.exception_table
   pub count : length code.attributes < 2 ^ 16

@@ -1,6 +1,5 @@
 -- Lists of attributes: readers that know what stands before, and bytes behind a name and a length.
 use Rattle.std.specs.Prelude.{ℕ, zero, suc, List, [], ◌∷◌, ◌++◌, length, Result, Ok, Err}
-use Rattle.std.specs.List.{flat_map}
 use Rattle.std.specs.Int.{w16, w32}
 use Rattle.kilim_grammar.specs.Reader.{Reader, ◌>>=◌, number_at, bytes_at}
 use Rattle.kilim_grammar.specs.Spelling.{u2, u4}

@@ -28,6 +28,7 @@ abbrev if_large : Bool → Result ClassFile ClassFault → Result ClassFile Clas
 if_large large r = cond large (Err fault.TooLarge) r
 
 says_of_part : (bytes : List ℕ) (found : ClassFault) → IsOfPart (length bytes) found → Says bytes found
+unfolding Says
 says_of_part bytes fault.Magic h = h
 says_of_part bytes (fault.Version major minor) h = h
 says_of_part bytes (fault.Pool held) h = h
@@ -60,6 +61,7 @@ module _ (spelled : PartsAreSpelled) where
       record { file = x.0; rest = x.1; fits = t.1; parts = t.0.parts; some = is_some x.1 left; place = omega arith }
 
   said_behind : (bytes : List ℕ) (x : ClassFile × List ℕ) (empty : Bool) (found : ClassFault) → (empty ≡ false → HasExtra bytes (length bytes - length x.1)) → checked empty (fault.Extra (length bytes - length x.1)) (Ok x.0) ≡ Err found → Says bytes found
+  unfolding Says
   said_behind bytes x true found extra e = absurd (let h : well {F = ClassFault} x.0 ≡ Err found = e in cc)
   said_behind bytes x false found extra e = subst (Says bytes) (failed_is (fault.Extra (length bytes - length x.1)) found e) (extra refl)
 
@@ -68,6 +70,7 @@ module _ (spelled : PartsAreSpelled) where
   said_by bytes found (Err fault) fits read h e = subst (Says bytes) (failed_is fault found e) (says_of_part bytes fault h)
 
   said : (bytes : List ℕ) (found : ClassFault) (large : Bool) → ltb size_limit (length bytes) ≡ large → IsBytes bytes → if_large large (class_at (length bytes) bytes >>= ended bytes) ≡ Err found → Says bytes found
+  unfolding Says
   said bytes found true big fits e = subst (Says bytes) (failed_is fault.TooLarge found e) (ltb-true size_limit (length bytes) big)
   said bytes found false big fits e = said_by bytes found (class_at (length bytes) bytes) fits refl (class_is (length bytes) bytes) e
 
@@ -133,6 +136,7 @@ module _ (spelled : PartsAreSpelled) where
 
 module _ (law : FaultsAreTrue) (bytes : List ℕ) where
   pub told : (r : Result ClassFile ClassFault) → IsBytes bytes → ReadsUnless fault.Memory (λ file. file) r (read_class bytes) → IfErr r (Says bytes)
+  unfolding Says
   told (Ok file) fits read = tt
   told (Err found) fits (inl m) = subst (Says bytes) (sym m) tt
   told (Err found) fits (inr e) = law.says bytes found fits e

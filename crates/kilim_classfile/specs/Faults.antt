@@ -43,7 +43,8 @@ pub record HasExtra (bytes : List ℕ) (at : ℕ) : Type 0 where
   pub some : rest ≢ []
   pub place : at ≡ length (class_text file)
 
-abbrev pub Says : List ℕ → ClassFault → Type 0
+-- what a fault says of the bytes
+unfoldable pub Says : List ℕ → ClassFault → Type 0
 Says bytes fault.TooLarge = size_limit < length bytes
 Says bytes (fault.Extra at) = HasExtra bytes at
 Says bytes found = IsOfPart (length bytes) found

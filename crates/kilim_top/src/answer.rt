@@ -2,6 +2,10 @@
 
 ghost use Rattle.std.specs.Prelude.{◌≡◌, ◌⊎◌, ◌↔◌, ◌≤◌, ◌∷◌, [], Some, is_some, true, List, ℕ, IfOk, IsTrue, length, map};
 ghost use Rattle.std.specs.String.{string_bytes};
+ghost use Rattle.kilim_grammar.specs.Reader.{ReadsUnless};
+ghost use Rattle.kilim_classfile.specs.declared.fault.ClassFault.TheVariants as fault;
+ghost use Rattle.kilim_classfile.specs.Text.{class_text, ClassFits};
+ghost use Rattle.kilim_classfile.specs.Reading.{read_class};
 ghost use Rattle.kilim_journal.specs.Text.{journal_text};
 ghost use Rattle.kilim_thread_model.specs.Small.{small_journal};
 ghost use Rattle.kilim_top.specs.SmallFile.{own_name, small_prints, small_of, PrintsFit};
@@ -90,6 +94,14 @@ fn file_reply(alloc: Global, main: &str, file: &ClassFile) -> Result<Reply, NoMe
     }
 }
 
+// The class file that bytes are, or the fault that is reported.
+fn class_file(alloc: Global, bytes: &[u8]) -> Result<ClassFile, ClassFault>
+    ensures found { IfOk result (λ file. (bytes.now ≡ class_text file) × ClassFits file) }
+    ensures reads { ReadsUnless fault.Memory (λ file. file) result (read_class bytes.now) }
+{
+    kilim_classfile::read(alloc, bytes)
+}
+
 // What is answered for a file with this name and these bytes, and that main class: the journal of its run with
 // status 0, or a report with status 1.
 fn answer_one(alloc: Global, main: &str, name: &str, bytes: &[u8]) -> Result<Reply, NoMemory>
@@ -102,7 +114,7 @@ fn answer_one(alloc: Global, main: &str, name: &str, bytes: &[u8]) -> Result<Rep
 {
     small_run_is_whole();
     kilim_classfile::class_file_is_spelled();
-    match kilim_classfile::read(alloc, bytes) {
+    match class_file(alloc, bytes) {
         Ok(file) => file_reply(alloc, main, &file),
         Err(ClassFault::Memory) => Err(NoMemory),
         Err(fault) => {

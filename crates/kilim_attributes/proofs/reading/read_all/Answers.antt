@@ -1,4 +1,4 @@
-use Rattle.std.proofs.Common.{◌×◌, arith}
+use Rattle.std.proofs.Common.{arith}
 use Rattle.std.proofs.lemmas.Result.{err_from_is_err_and}
 use Rattle.kilim_grammar.proofs.Calls.{at_front, within, read_so, only_one, only_free, only_place}
 use Rattle.kilim_attribute_parts.specs.declared.fault.AttributeFault.TheVariants as fault
