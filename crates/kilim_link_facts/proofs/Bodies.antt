@@ -43,7 +43,7 @@ use Rattle.kilim_link_facts.proofs.Unique.{built_views}
 
 -- ---- no problem
 
-not_left : (b : Bool) (p : LeftOutPart) → if_left b p ≡ [] → b ≡ false
+pub not_left : (b : Bool) (p : LeftOutPart) → if_left b p ≡ [] → b ≡ false
 not_left true p e = absurd (cc)
 not_left false p e = refl
 

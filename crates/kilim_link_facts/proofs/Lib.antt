@@ -25,3 +25,4 @@ mod Flat
 mod Overriding
 mod Nearer
 mod LeftAbstract
+mod OwnClasses

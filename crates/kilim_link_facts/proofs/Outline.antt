@@ -10,8 +10,9 @@ use Rattle.kilim_program.specs.declared.class.Method.{Method}
 use Rattle.kilim_program.specs.declared.names.ClassId.{ClassId}
 use Rattle.kilim_program.specs.Program.{Program}
 use Rattle.kilim_program.specs.BuiltIn.{built_in_classes_in, class_id}
+use Rattle.kilim_program.specs.Kinds.{is_marked}
 use Rattle.kilim_program.specs.Names.{◌>>=◌, class_at, class_name, line_of, line_up_to}
-use Rattle.kilim_class_world.specs.World.{ClassView, World, built_ins, is_marked_class, is_message_by, number_of, outline_with, outlined, view_of_built_in, view_of_file, world_of}
+use Rattle.kilim_class_world.specs.World.{ClassView, World, built_ins, is_message_by, number_of, outline_with, outlined, view_of_built_in, view_of_file, world_of}
 use Rattle.std.specs.List.{list_any}
 use Rattle.kilim_link_facts.specs.Bridge.{bare}
 use Rattle.kilim_link_facts.proofs.Linking.{Linking}
@@ -123,13 +124,13 @@ module _ (files : List ClassFile) (form : Form) (classes : List Class) (fields :
       ap (λ (s : Option (List ℕ)). s >>= number_of vs) (super_is_object form k class there) ∙ super_placed (number_of vs) (class_id (length files)) class.superclass object_number
 
   mark_of : (s : Option ClassId) (c : ClassId) (ks : List ClassId) (one top : Class) → class_at marked c ≡ Some one → class_at marked (class_id (length files)) ≡ Some top → top.message ≡ false →
-      ks ≡ up_to (c ∷ []) (option_map (λ (d : ClassId). class_id (length files)) s) → list_any (λ d. is_marked_class (class_at marked d)) ks ≡ one.message
+      ks ≡ up_to (c ∷ []) (option_map (λ (d : ClassId). class_id (length files)) s) → list_any (λ d. is_marked (class_at marked d)) ks ≡ one.message
   mark_of None c ks one top at at_top no_mark is =
-      ap (list_any (λ d. is_marked_class (class_at marked d))) is ∙ (ap (λ (a : Option Class). is_marked_class a || false) at ∙ or_none one.message)
+      ap (list_any (λ d. is_marked (class_at marked d))) is ∙ (ap (λ (a : Option Class). is_marked a || false) at ∙ or_none one.message)
   mark_of (Some d) c ks one top at at_top no_mark is =
-      ap (list_any (λ d. is_marked_class (class_at marked d))) is
-      ∙ (ap (λ (a : Option Class). is_marked_class a || (is_marked_class (class_at marked (class_id (length files))) || false)) at
-      ∙ (ap (λ (a : Option Class). one.message || (is_marked_class a || false)) at_top
+      ap (list_any (λ d. is_marked (class_at marked d))) is
+      ∙ (ap (λ (a : Option Class). is_marked a || (is_marked (class_at marked (class_id (length files))) || false)) at
+      ∙ (ap (λ (a : Option Class). one.message || (is_marked a || false)) at_top
       ∙ (ap (λ (b : Bool). one.message || (b || false)) no_mark ∙ or_none one.message)))
 
   pub built_mark : (k : ℕ) (class : Class) → slice_get (built_in_classes_in form 0 0) k ≡ Some class → is_message_by marked (class_id (length files + k)) ≡ class.message

@@ -2,7 +2,7 @@
 use Rattle.std.specs.Prelude.{◌≡◌, true, List}
 use Rattle.kilim_classfile.specs.declared.class_file.ClassFile.{ClassFile}
 use Rattle.kilim_program.specs.declared.class.Form.{Form}
-use Rattle.kilim_program.specs.Keeps.{EndsBuiltIn, fields_fit, members_are_owned, names_differ, none_is_both, none_is_its_ancestor, none_is_left_abstract, overriding_agrees, superclasses_fit}
+use Rattle.kilim_program.specs.Keeps.{EndsBuiltIn, fields_fit, members_are_owned, names_differ, none_is_both, none_is_its_ancestor, none_is_left_abstract, overriding_agrees, own_classes_fit, superclasses_fit}
 use Rattle.kilim_program.specs.Program.{Program}
 use Rattle.kilim_class_world.specs.LinksWell.{LinksWell}
 
@@ -17,6 +17,10 @@ NoneIsBoth = (files : List ClassFile) (form : Form) (p : Program) → LinksWell 
 -- each superclass is of a kind that its class may extend
 abbrev pub SuperclassesFit : Type 0
 SuperclassesFit = (files : List ClassFile) (form : Form) (p : Program) → LinksWell files form p → superclasses_fit p ≡ true
+
+-- no class of the files is `kilim/Fiber`, and their superclasses are of the files, `java/lang/Object` or `kilim/Task`
+abbrev pub OwnClassesFit : Type 0
+OwnClassesFit = (files : List ClassFile) (form : Form) (p : Program) → LinksWell files form p → own_classes_fit p ≡ true
 
 -- the last classes are the built-in ones; of the other methods exactly the abstract ones have no code
 abbrev pub BuiltInIsLast : Type 0

@@ -1,7 +1,7 @@
 //! Laws about the definitions. No program calls them to do work.
 
 ghost use Rattle.kilim_link_facts.specs.Bridge.{BaredAgrees, OutlineAgrees, OutlineIsBared};
-ghost use Rattle.kilim_link_facts.specs.Facts.{BuiltInIsLast, FieldsFit, MembersAreOwned, NamesDiffer, NoneIsBoth, NoneIsItsAncestor, NoneIsLeftAbstract, OverridingAgrees, SuperclassesFit};
+ghost use Rattle.kilim_link_facts.specs.Facts.{BuiltInIsLast, FieldsFit, MembersAreOwned, NamesDiffer, NoneIsBoth, NoneIsItsAncestor, NoneIsLeftAbstract, OverridingAgrees, OwnClassesFit, SuperclassesFit};
 
 use kilim_class_world::{linked_in_parts, none_has_a_problem, none_of_each_kind};
 
@@ -102,6 +102,15 @@ pub fn overriding_agrees()
 /// A law, and no work: of files that link well a class that isn't abstract neither declares nor inherits an abstract method.
 pub fn none_is_left_abstract()
     ensures { NoneIsLeftAbstract }
+{
+    linked_in_parts();
+    none_has_a_problem();
+    none_of_each_kind();
+}
+
+/// A law, and no work: of files that link well no class is `kilim/Fiber`, and each extends a class of the files, `java/lang/Object` or `kilim/Task`.
+pub fn own_classes_fit()
+    ensures { OwnClassesFit }
 {
     linked_in_parts();
     none_has_a_problem();
