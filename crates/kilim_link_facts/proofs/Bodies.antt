@@ -24,46 +24,23 @@ use Rattle.kilim_program.specs.Program.{Program}
 use Rattle.kilim_program.specs.BuiltIn.{built_in_classes_in, built_in_methods_in, class_id}
 use Rattle.kilim_program.specs.Keeps.{EndsBuiltIn}
 use Rattle.kilim_program.specs.Same.{same_flag}
-use Rattle.kilim_class_world.specs.declared.fault.LeftOutPart.{LeftOutPart}
-use Rattle.kilim_class_world.specs.declared.fault.LeftOutPart.TheVariants as part
 use Rattle.kilim_class_world.specs.Code.{code_of, decoded}
-use Rattle.kilim_class_world.specs.Faults.{abstract_left, has_fiber_name, has_float, has_handlers, has_initializer, has_interface, has_method_flag, has_other_parameters, has_pausable_constructor, has_static_field, has_task_array, if_left, is_left_here, left_out, left_out_ops, left_out_parts}
+use Rattle.kilim_class_world.specs.Faults.{abstract_left, is_left_here}
 use Rattle.kilim_class_world.specs.Frames.{frames_in}
 use Rattle.kilim_class_world.specs.Laws.{LinkedInParts, NoProblem, NoneHasAProblem, NoneOfEachKind}
 use Rattle.kilim_class_world.specs.Linked.{Body, body_in, body_with, code_attribute, code_in, first_of, linked_method, no_body, program_with}
-use Rattle.kilim_class_world.specs.World.{DeclaredMethod, World, acc_abstract, acc_native, acc_super, acc_synchronized, declared_method, declared_methods, has_flag, methods_at, view_of_file, world_of}
+use Rattle.kilim_class_world.specs.World.{DeclaredMethod, World, acc_abstract, acc_native, declared_method, declared_methods, has_flag, methods_at, view_of_file, world_of}
 use Rattle.kilim_link_facts.specs.Facts.{BuiltInIsLast}
 use Rattle.kilim_link_facts.proofs.Flags.{bodiless_is_abstract}
+use Rattle.kilim_link_facts.proofs.LeftOut.{nothing_left_out}
 use Rattle.kilim_link_facts.proofs.LinkedMembers.{LinkedMethod, bound, linked_method_is}
-use Rattle.kilim_link_facts.proofs.Linking.{Linking, front_none, linking, map_none, none_passes, of_each, rest_none}
+use Rattle.kilim_link_facts.proofs.Linking.{Linking, front_none, linking, map_none, none_passes, of_each}
 use Rattle.kilim_link_facts.proofs.Lists.{all_by_places, get_left, mapped_at, none_at, none_is_some, some_same}
 use Rattle.kilim_link_facts.proofs.Members.{member_made}
 use Rattle.kilim_link_facts.proofs.Origins as origins
 use Rattle.kilim_link_facts.proofs.Unique.{built_views}
 
 -- ---- no problem
-
-pub not_left : (b : Bool) (p : LeftOutPart) → if_left b p ≡ [] → b ≡ false
-not_left true p e = absurd (cc)
-not_left false p e = refl
-
-sixth_none : {A : Type 0} (a b c d e f g : List A) → a ++ (b ++ (c ++ (d ++ (e ++ (f ++ g))))) ≡ [] → f ≡ []
-sixth_none a b c d e f g is = front_none f g (rest_none e (f ++ g) (rest_none d (e ++ (f ++ g)) (rest_none c (d ++ (e ++ (f ++ g))) (rest_none b (c ++ (d ++ (e ++ (f ++ g)))) (rest_none a (b ++ (c ++ (d ++ (e ++ (f ++ g))))) is)))))
-
--- no method of a class without a problem is native
-not_native : (w : World) (file : ClassFile) (c : ClassId) → NoProblem w file c → has_method_flag acc_native file ≡ false
-unfolding left_out left_out_parts
-not_native w file c n =
-    let parts = map_none _ (left_out_parts w file) n.none_left_out in
-    not_left (has_method_flag acc_native file) part.Native (sixth_none (map part.Opcode (left_out_ops file)) (if_left (has_float file) part.Float) (if_left (has_initializer file) part.ClassInitializer)
-    (if_left (has_static_field w file) part.StaticField) (if_left (has_method_flag acc_synchronized file) part.Synchronized) (if_left (has_method_flag acc_native file) part.Native)
-    (if_left (has_interface file) part.Interface
-    ++ (if_left (not (has_flag acc_super file.access_flags)) part.NoSuperFlag
-    ++ (if_left (has_pausable_constructor file) part.PausableConstructor
-    ++ (if_left (has_handlers file) part.Handlers
-    ++ (if_left (has_task_array w file) part.TaskArray
-    ++ (if_left (has_fiber_name w file) part.Fiber
-    ++ if_left (has_other_parameters file) part.ParameterAnnotations)))))) parts)
 
 -- none is abstract where its class isn't, and none abstract is private or static
 not_left_here : (w : World) (file : ClassFile) (c : ClassId) → NoProblem w file c → filter (is_left_here (has_flag acc_abstract file.access_flags)) (declared_methods w c) ≡ []
@@ -139,7 +116,7 @@ module _ (files : List ClassFile) (form : Form) (classes : List Class) (fields :
       let n = l.none c file there in
       let parts = (l.fit c file there).parts in
       let fits = of_each (MethodFits file.constant_pool) file.methods parts.methods.1 i member inside in
-      let plain = none_at (λ (m : MemberInfo). has_flag acc_native m.access_flags) file.methods (not_native w file (class_id c) n) i member inside in
+      let plain = none_at (λ (m : MemberInfo). has_flag acc_native m.access_flags) file.methods (nothing_left_out w file (class_id c) n).native i member inside in
       let is_abstract = has_flag acc_abstract member.access_flags in
       let own = ap (λ (b : Bool). differs b (is_some (code_attribute member))) (sym (bodiless_is_abstract member.access_flags plain))
       ∙ (ap (differs (is_bodiless member.access_flags)) (found_code member.attributes) ∙ fits.code) in

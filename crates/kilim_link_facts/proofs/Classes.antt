@@ -36,7 +36,7 @@ not_both : (w : World) (file : ClassFile) (c : ClassId) → NoProblem w file c �
 unfolding both_kinds
 not_both w file c n = not_so _ _ n.not_both
 
-extends : (w : World) (file : ClassFile) (c : ClassId) → NoProblem w file c → may_extend w c (class_of w (super_name file)) ≡ true
+pub extends : (w : World) (file : ClassFile) (c : ClassId) → NoProblem w file c → may_extend w c (class_of w (super_name file)) ≡ true
 unfolding super_kind
 extends w file c n = not-false _ (not_so _ _ n.super_fits)
 

@@ -11,15 +11,16 @@ mod Classes
 mod Members
 mod Flags
 mod LinkedMembers
+mod LeftOut
 mod Bodies
 mod Owners
 mod Owned
 mod Descriptors
 mod Resolved
 mod Shifted
+mod Seen
 mod Differ
 mod FieldKinds
-mod Seen
 mod Positions
 mod Flat
 mod Overriding

@@ -177,19 +177,21 @@ module _ (files : List ClassFile) (form : Form) (classes : List Class) (fields :
   up_open a None = refl
   up_open a (Some d) = all_append (λ (id : MethodId). agrees_with a (method_at p id)) (methods_of p (class_id len)) [] (object_open a) refl
 
+  -- one of a built-in class
+  fits_of_class : (m : Method) (c : ℕ) (class : Class) → slice_get (built_in_classes_in form len (length methods)) c ≡ Some class → m.owner ≡ class_id (len + c) → fits m ≡ true
+  fits_of_class m c class there owner =
+      let q = built_in_of form len (length methods) c class there in
+      ap (λ (d : ClassId). list_all (λ (id : MethodId). agrees_with m (method_at p id)) (flat_map (methods_of p) (ancestors_of p d))) owner
+      ∙ (ap (λ (ds : List ClassId). list_all (λ (id : MethodId). agrees_with m (method_at p id)) (flat_map (methods_of p) ds)) (origins.built_ancestors files form classes fields methods l c class there q)
+      ∙ up_open m q.of.superclass)
+
   built_fits : (k : ℕ) (m : Method) → slice_get (built_in_methods_in form len) k ≡ Some m → fits m ≡ true
   built_fits k m there =
-      let built = built_in_classes_in form len (length methods) in
       let o = built_in_method_of form len k m there in
-      let c = o.of.owner.0 in
       let count = length-built_in form len (length methods) in
-      let less = ltb-true c (length (built_in_classes_in form 0 0)) (all_at (λ (x : Method). nat_lt x.owner.0 (length (built_in_classes_in form 0 0))) (built_in_methods_in form 0) (owners_there form) k o.of o.at) in
-      let class = get_there built c (omega (arith, count, less)) in
-      let q = built_in_of form len (length methods) c class.0 class.1 in
-      let owner : m.owner ≡ class_id (len + c) = ap (λ (x : Method). x.owner) (sym o.is) in
-      ap (λ (d : ClassId). list_all (λ (id : MethodId). agrees_with m (method_at p id)) (flat_map (methods_of p) (ancestors_of p d))) owner
-      ∙ (ap (λ (ds : List ClassId). list_all (λ (id : MethodId). agrees_with m (method_at p id)) (flat_map (methods_of p) ds)) (origins.built_ancestors files form classes fields methods l c class.0 class.1 q)
-      ∙ up_open m q.of.superclass)
+      let less = ltb-true o.of.owner.0 (length (built_in_classes_in form 0 0)) (all_at (λ (x : Method). nat_lt x.owner.0 (length (built_in_classes_in form 0 0))) (built_in_methods_in form 0) (owners_there form) k o.of o.at) in
+      let class = get_there (built_in_classes_in form len (length methods)) o.of.owner.0 (omega (arith, count, less)) in
+      fits_of_class m o.of.owner.0 class.0 class.1 (ap (λ (x : Method). x.owner) (sym o.is))
 
   fits_by : (j : ℕ) (m : Method) → Side methods (built_in_methods_in form len) j m → fits m ≡ true
   fits_by j m (Left e) = own_fits j m e

@@ -1,7 +1,7 @@
 -- No class of the files is `kilim/Fiber`, and their superclasses are of the files, `java/lang/Object` or `kilim/Task`.
-use Rattle.std.proofs.Common.{◌≡◌, ℕ, zero, suc, ◌+◌, ◌-◌, ◌<◌, Bool, true, false, ◌&&◌, ◌||◌, not, nat_lt, List, [], ◌∷◌, ◌++◌, map, length, take, slice_get, Option, Some, None, option_map, bytes_eq, codes, refl, sym, ap, ◌∙◌, arith}
+use Rattle.std.proofs.Common.{◌≡◌, ℕ, ◌+◌, Bool, true, false, ◌||◌, not, nat_lt, List, [], map, length, take, slice_get, Option, Some, None, option_map, bytes_eq, codes, refl, sym, ap, ◌∙◌, arith}
 use Rattle.std.specs.List.{list_all, list_any}
-use Rattle.std.proofs.lemmas.Bool.{and_from, and_parts, lt-ltb, not-false, not-true, not_from_false, or_left, or_parts, or_right}
+use Rattle.std.proofs.lemmas.Bool.{and_from, and_parts, lt-ltb, not_from_false, or_left, or_parts, or_right}
 use Rattle.std.proofs.lemmas.List.{length-append, length-map, take_at}
 use Rattle.kilim_classfile.specs.declared.class_file.ClassFile.{ClassFile}
 use Rattle.kilim_program.specs.declared.class.Class.{Class}
@@ -12,58 +12,28 @@ use Rattle.kilim_program.specs.declared.class.Method.{Method}
 use Rattle.kilim_program.specs.declared.names.ClassId.{ClassId}
 use Rattle.kilim_program.specs.Program.{Program}
 use Rattle.kilim_program.specs.BuiltIn.{built_in_classes_in, class_id}
-use Rattle.kilim_program.specs.Keeps.{is_object, is_open_superclass, own_class_fits, own_classes_fit, own_count}
-use Rattle.kilim_program.specs.Names.{class_at, class_name, is_named_task}
-use Rattle.kilim_class_world.specs.declared.fault.LeftOutPart.{LeftOutPart}
-use Rattle.kilim_class_world.specs.declared.fault.LeftOutPart.TheVariants as part
-use Rattle.kilim_class_world.specs.Faults.{has_fiber_name, has_float, has_handlers, has_initializer, has_interface, has_method_flag, has_other_parameters, has_pausable_constructor, has_static_field, has_task_array, if_left, is_fiber, is_open, is_open_class, left_out, left_out_ops, left_out_parts, may_extend, super_kind}
-use Rattle.kilim_class_world.specs.Laws.{LinkedInParts, NoProblem, NoneHasAProblem, NoneOfEachKind}
+use Rattle.kilim_program.specs.Keeps.{is_open_superclass, own_class_fits, own_classes_fit, own_count}
+use Rattle.kilim_program.specs.Names.{class_name}
+use Rattle.kilim_class_world.specs.Faults.{is_fiber, is_open, is_open_class, may_extend}
+use Rattle.kilim_class_world.specs.Laws.{LinkedInParts, NoneHasAProblem, NoneOfEachKind}
 use Rattle.kilim_class_world.specs.Linked.{linked_class, program_with}
 use Rattle.kilim_class_world.specs.Mentions.{class_names}
 use Rattle.kilim_class_world.specs.Qualified.{has_fiber}
-use Rattle.kilim_class_world.specs.World.{ClassView, World, acc_native, acc_super, acc_synchronized, built_ins, class_of, has_flag, is_message_by, outline_with, own_name, super_name, view_at, view_of_built_in, view_of_file, world_of}
+use Rattle.kilim_class_world.specs.World.{ClassView, World, built_ins, class_of, is_message_by, outline_with, own_name, super_name, view_at, view_of_built_in, view_of_file, world_of}
 use Rattle.kilim_link_facts.specs.Facts.{OwnClassesFit}
-use Rattle.kilim_link_facts.proofs.Bodies.{not_left}
 use Rattle.kilim_link_facts.proofs.Bridge.{LinkedClass, linked_class_is}
-use Rattle.kilim_link_facts.proofs.Linking.{Linking, front_none, linking, map_none, not_so, rest_none}
+use Rattle.kilim_link_facts.proofs.Classes.{extends}
+use Rattle.kilim_link_facts.proofs.LeftOut.{nothing_left_out}
+use Rattle.kilim_link_facts.proofs.Linking.{Linking, linking}
 use Rattle.kilim_link_facts.proofs.Lists.{Left, Right, Side, all_by_places, get_left, get_right, get_within, mapped_at, origin, side, some_same}
 use Rattle.kilim_link_facts.proofs.Made.{file_made}
 use Rattle.kilim_link_facts.proofs.Named.{outlined_at, outlined_one}
 use Rattle.kilim_link_facts.proofs.Origins as origins
 use Rattle.kilim_link_facts.proofs.Origins.{length-built_in}
-use Rattle.kilim_link_facts.proofs.Outline as outline
 use Rattle.kilim_link_facts.proofs.Unique as unique
 use Rattle.kilim_link_facts.proofs.Unique.{built_views, found_view, true_and, views}
 
 -- ---- no problem
-
-twelfth_none : {A : Type 0} (a b c d e f g h i j k x rest : List A) →
-    a ++ (b ++ (c ++ (d ++ (e ++ (f ++ (g ++ (h ++ (i ++ (j ++ (k ++ (x ++ rest))))))))))) ≡ [] → x ≡ []
-twelfth_none a b c d e f g h i j k x rest is =
-    let r1 = rest_none a (b ++ (c ++ (d ++ (e ++ (f ++ (g ++ (h ++ (i ++ (j ++ (k ++ (x ++ rest))))))))))) is in
-    let r2 = rest_none b (c ++ (d ++ (e ++ (f ++ (g ++ (h ++ (i ++ (j ++ (k ++ (x ++ rest)))))))))) r1 in
-    let r3 = rest_none c (d ++ (e ++ (f ++ (g ++ (h ++ (i ++ (j ++ (k ++ (x ++ rest))))))))) r2 in
-    let r4 = rest_none d (e ++ (f ++ (g ++ (h ++ (i ++ (j ++ (k ++ (x ++ rest)))))))) r3 in
-    let r5 = rest_none e (f ++ (g ++ (h ++ (i ++ (j ++ (k ++ (x ++ rest))))))) r4 in
-    let r6 = rest_none f (g ++ (h ++ (i ++ (j ++ (k ++ (x ++ rest)))))) r5 in
-    let r7 = rest_none g (h ++ (i ++ (j ++ (k ++ (x ++ rest))))) r6 in
-    let r8 = rest_none h (i ++ (j ++ (k ++ (x ++ rest)))) r7 in
-    let r9 = rest_none i (j ++ (k ++ (x ++ rest))) r8 in
-    let r10 = rest_none j (k ++ (x ++ rest)) r9 in
-    front_none x rest (rest_none k (x ++ rest) r10)
-
-no_fiber_name : (w : World) (file : ClassFile) (c : ClassId) → NoProblem w file c → has_fiber_name w file ≡ false
-unfolding left_out left_out_parts
-no_fiber_name w file c n =
-    not_left (has_fiber_name w file) part.Fiber (twelfth_none (map part.Opcode (left_out_ops file)) (if_left (has_float file) part.Float) (if_left (has_initializer file) part.ClassInitializer)
-      (if_left (has_static_field w file) part.StaticField) (if_left (has_method_flag acc_synchronized file) part.Synchronized) (if_left (has_method_flag acc_native file) part.Native)
-      (if_left (has_interface file) part.Interface) (if_left (not (has_flag acc_super file.access_flags)) part.NoSuperFlag) (if_left (has_pausable_constructor file) part.PausableConstructor)
-      (if_left (has_handlers file) part.Handlers) (if_left (has_task_array w file) part.TaskArray) (if_left (has_fiber_name w file) part.Fiber)
-      (if_left (has_other_parameters file) part.ParameterAnnotations) (map_none _ (left_out_parts w file) n.none_left_out))
-
-extends : (w : World) (file : ClassFile) (c : ClassId) → NoProblem w file c → may_extend w c (class_of w (super_name file)) ≡ true
-unfolding super_kind
-extends w file c n = not-false _ (not_so _ _ n.super_fits)
 
 open_up : (w : World) (c up : ClassId) (o : Option ClassId) → o ≡ Some up → may_extend w c o ≡ true → is_open_class (view_at w up) ≡ true
 open_up w c up None is e = absurd (cc)
@@ -136,7 +106,7 @@ module _ (files : List ClassFile) (form : Form) (classes : List Class) (fields :
   unfolding world_of
   no_fiber_by Plain is n file there =
       let plain : not (has_fiber form) ≡ true = ap (λ (f : Form). not (has_fiber f)) is in
-      (or_parts (is_fiber (own_name file)) (list_any is_fiber (class_names file)) (true_and _ _ plain (no_fiber_name w file (class_id n) (l.none n file there)))).0
+      (or_parts (is_fiber (own_name file)) (list_any is_fiber (class_names file)) (true_and _ _ plain (nothing_left_out w file (class_id n) (l.none n file there)).fiber)).0
   no_fiber_by Woven is n file there =
       let v = fiber_view in
       let within = get_within files n file there in
