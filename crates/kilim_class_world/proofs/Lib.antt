@@ -6,3 +6,7 @@ mod First
 mod MorePrograms
 mod Agreeing
 mod Parts
+mod InstructionTable
+mod Searching
+mod EdgeFiles
+mod RelatedFiles

@@ -2,7 +2,8 @@
 -- keep them, and of files with a fault of a fact the program breaks one.
 use Rattle.std.specs.Prelude.{◌≡◌, Bool, true, false, ◌&&◌, ◌||◌, not, ◌==◌, List, [], ◌∷◌, ◌++◌, Option, Some, None, is_some, codes}
 use Rattle.std.specs.List.{list_all}
-use Rattle.kilim_program.specs.declared.class.Form.TheVariants.{Plain}
+use Rattle.kilim_program.specs.declared.class.Form.{Form}
+use Rattle.kilim_program.specs.declared.class.Form.TheVariants.{Plain, Woven}
 use Rattle.kilim_program.specs.declared.class.Method.{Method}
 use Rattle.kilim_program.specs.Program.{Program}
 use Rattle.kilim_program.specs.Keeps.{ids_are_places, none_is_its_ancestor, code_is_whole, members_are_owned, names_differ, method_is_sound, overriding_agrees, none_is_left_abstract, none_is_both, no_task_arrays, superclasses_fit, own_classes_fit, fields_fit, constants_fit}
@@ -19,9 +20,9 @@ use Rattle.kilim_class_world.specs.Details.{task, q_name, m_name, nothing, retur
 abbrev pub has_its_body : Method → Bool
 has_its_body m = m.built_in || (same_flag (m.code_length == 0) m.is_abstract && not (m.is_abstract && (m.is_private || m.is_static)))
 
--- the facts of programs as one test, but for the built-in classes
-abbrev pub keeps_facts : Program → Bool
-keeps_facts p =
+-- the facts of programs as one test, but for the built-in classes and what classes of the files are named and extend
+abbrev pub keeps_other_facts : Program → Bool
+keeps_other_facts p =
     ids_are_places p
     && (none_is_its_ancestor p
     && (list_all code_is_whole p.methods
@@ -33,11 +34,14 @@ keeps_facts p =
     && (none_is_both p
     && (no_task_arrays p
     && (superclasses_fit p
-    && (own_classes_fit p
     && (fields_fit p
     && (overriding_agrees p
     && (none_is_left_abstract p
-    && constants_fit p))))))))))))))
+    && constants_fit p)))))))))))))
+
+-- and with that
+abbrev pub keeps_facts : Program → Bool
+keeps_facts p = own_classes_fit p && keeps_other_facts p
 
 -- there is a program, and it keeps them, or doesn't
 abbrev pub links_well : Option Program → Bool
@@ -47,6 +51,11 @@ links_well (Some p) = keeps_facts p
 abbrev pub links_badly : Option Program → Bool
 links_badly None = false
 links_badly (Some p) = not (keeps_facts p)
+
+-- there is a program, and this fact alone is broken
+abbrev pub breaks_own_classes : Option Program → Bool
+breaks_own_classes None = false
+breaks_own_classes (Some p) = not (own_classes_fit p) && keeps_other_facts p
 
 -- ---- files without a fault
 
@@ -87,9 +96,24 @@ bad_files =
     ∷ (static_field [] ∷ [])
     ∷ []
 
-abbrev pub has_fault : List ClassFile → Bool
-has_fault files = is_some (first_fault files Plain)
+-- ---- files with a class that is named `kilim/Fiber`, or extends a built-in class that none may extend
+
+abbrev pub foreign_files : List (List ClassFile)
+foreign_files =
+    (file (codes "kilim/Fiber") object [] ∷ [])
+    ∷ (file p_name (codes "kilim/Pausable") [] ∷ [])
+    ∷ (file p_name (codes "kilim/Sys") [] ∷ [])
+    ∷ []
+
+-- in woven form there is one more
+abbrev pub foreign_woven_files : List (List ClassFile)
+foreign_woven_files = (file p_name (codes "kilim/Fiber") [] ∷ []) ∷ (file p_name (codes "kilim/Pausable") [] ∷ []) ∷ []
+
+abbrev pub has_fault : Form → List ClassFile → Bool
+has_fault form files = is_some (first_fault files form)
 
 pub record FaultsAndFactsAgree : Type 0 where
-  pub good : list_all (λ files. not (has_fault files) && links_well (program_of files Plain)) good_files ≡ true
-  pub bad : list_all (λ files. has_fault files && links_badly (program_of files Plain)) bad_files ≡ true
+  pub good : list_all (λ files. not (has_fault Plain files) && links_well (program_of files Plain)) good_files ≡ true
+  pub bad : list_all (λ files. has_fault Plain files && links_badly (program_of files Plain)) bad_files ≡ true
+  pub foreign : list_all (λ files. has_fault Plain files && breaks_own_classes (program_of files Plain)) foreign_files ≡ true
+  pub foreign_woven : list_all (λ files. has_fault Woven files && breaks_own_classes (program_of files Woven)) foreign_woven_files ≡ true

@@ -27,13 +27,14 @@ lists_of [] = []
 lists_of (Annotations count ∷ parts) = types_before parts ∷ lists_of parts
 lists_of (part ∷ parts) = lists_of parts
 
+-- the type of a part that is an annotation
 abbrev pub annotation_type : AnnotationPart → List ℕ
 annotation_type (Annotation type count) = type ∷ []
 annotation_type _ = []
 
 -- the types of the annotations on a member
-unfoldable pub types_in : List AnnotationPart → List ℕ
-types_in parts = flat_map annotation_type (outermost zero parts)
+unfoldable pub types_on_member : List AnnotationPart → List ℕ
+types_on_member parts = flat_map annotation_type (outermost zero parts)
 
 -- for each parameter the types of the annotations on it
 unfoldable pub params_in : List AnnotationPart → List (List ℕ)

@@ -37,27 +37,33 @@ instrs_from (suc turns) at (b ∷ bytes) = do
   others ← instrs_from turns (at + (length (b ∷ bytes) - length first.1)) first.1
   Ok ((at, first.0) ∷ others)
 
+-- the instructions, or a fault of them
 abbrev pub unless_fault : List Placed → Option CodeFault → Result (List Placed) CodeFault
 unless_fault code None = Ok code
 unless_fault code (Some fault) = Err fault
 
+-- the instructions where all targets and the end are right (JVMS 4.9.1)
 abbrev pub checked_body : Result (List Placed) CodeFault → Result (List Placed) CodeFault
 checked_body (Ok code) = unless_fault code (body_fault code)
 checked_body (Err fault) = Err fault
 
+-- the instructions of a code array with their places, or its first fault
 unfoldable pub decoded : List ℕ → Result (List Placed) CodeFault
 decoded bytes = checked_body (instrs_from (length bytes) 0 bytes)
 
 -- ---- what an index names
 
+-- a member by its class and its entry of name and descriptor (JVMS 4.4.6)
 abbrev pub ref_with : List Entry → ℕ → Option Entry → Option MemberRef
 ref_with pool class (Some (entry.NameAndType name descriptor)) = Some (record { owner = class_text pool class; name = text_of pool name; descriptor = text_of pool descriptor })
 ref_with pool class _ = None
 
+-- what a Fieldref names (JVMS 4.4.2)
 abbrev pub field_ref : List Entry → Option Entry → Option MemberRef
 field_ref pool (Some (entry.Fieldref class member)) = ref_with pool class (entry_at pool member)
 field_ref pool _ = None
 
+-- what a Methodref names
 abbrev pub method_ref : List Entry → Option Entry → Option MemberRef
 method_ref pool (Some (entry.Methodref class member)) = ref_with pool class (entry_at pool member)
 method_ref pool _ = None
@@ -67,6 +73,7 @@ abbrev pub any_method_ref : List Entry → Option Entry → Option MemberRef
 any_method_ref pool (Some (entry.InterfaceMethodref class member)) = ref_with pool class (entry_at pool member)
 any_method_ref pool e = method_ref pool e
 
+-- what a Class entry names (JVMS 4.4.1)
 abbrev pub class_ref : List Entry → Option Entry → Option Named
 class_ref pool (Some (entry.Class name)) = Some (named_by (text_of pool name))
 class_ref pool _ = None
@@ -102,6 +109,7 @@ index_in (raw.Constant number index) = Some (number, index)
 index_in (raw.Index number index) = Some (number, index)
 index_in _ = None
 
+-- what an index names for the instruction of this number
 abbrev pub operand_at : List Entry → ℕ × ℕ → Option Operand
 operand_at pool x = index_operand pool x.0 (entry_at pool x.1)
 
@@ -142,16 +150,19 @@ jump_instrs =
     ∷ (165, IfAcmpeq) ∷ (166, IfAcmpne) ∷ (167, Goto) ∷ (198, Ifnull) ∷ (199, Ifnonnull) ∷ (200, GotoW)
     ∷ []
 
--- those with a member or a type, by what it is in the program
+-- those with a field, by what it is in the program
 abbrev pub field_instrs : List (ℕ × (FieldId → Instr))
 field_instrs = (178, Getstatic) ∷ (180, Getfield) ∷ (181, Putfield) ∷ []
 
+-- those with a method
 abbrev pub method_instrs : List (ℕ × (MethodId → Instr))
 method_instrs = (182, Invokevirtual) ∷ (183, Invokespecial) ∷ (184, Invokestatic) ∷ []
 
+-- those with a type
 abbrev pub type_instrs : List (ℕ × (Ty → Instr))
 type_instrs = (189, Anewarray) ∷ (192, Checkcast) ∷ (193, Instanceof) ∷ []
 
+-- those with a constant
 abbrev pub constant_instrs : List (ℕ × (Value → Instr))
 constant_instrs = (18, Ldc) ∷ (19, LdcW) ∷ (20, Ldc2W) ∷ []
 
@@ -159,6 +170,7 @@ constant_instrs = (18, Ldc) ∷ (19, LdcW) ∷ (20, Ldc2W) ∷ []
 abbrev pub array_codes : List (ℕ × Base)
 array_codes = (4, base.Bool) ∷ (5, base.Char) ∷ (8, base.Byte) ∷ (9, base.Short) ∷ (10, base.Int) ∷ (11, base.Long) ∷ []
 
+-- what a table has for a number
 abbrev pub row : {A : Type 0} → List (ℕ × A) → ℕ → Option A
 row [] number = None
 row (r ∷ rows) number = if r.0 == number then Some r.1 else row rows number
@@ -168,10 +180,12 @@ abbrev pub place_of : ℤ → Option ℕ
 place_of (pos n) = Some n
 place_of (negsuc n) = None
 
+-- a function at a value, where both are there
 abbrev pub applied : {A B : Type 0} → Option (A → B) → Option A → Option B
 applied (Some f) (Some x) = Some (f x)
 applied _ _ = None
 
+-- a match of a `lookupswitch` with its target
 abbrev pub pair_in : ℤ × ℤ → Option (ℤ × ℕ)
 pair_in pair = option_map (λ to. (pair.0, to)) (place_of pair.1)
 
@@ -179,12 +193,15 @@ pair_in pair = option_map (λ to. (pair.0, to)) (place_of pair.1)
 abbrev pub field_found : World → MemberRef → Option FieldId
 field_found w ref = option_and_then (λ c. find_field w c ref.name ref.descriptor) (class_named_by w (named_by ref.owner))
 
+-- the same of a method
 abbrev pub method_found : World → MemberRef → Option MethodId
 method_found w ref = option_and_then (λ c. find_method w c ref.name ref.descriptor) (class_named_by w (named_by ref.owner))
 
+-- an instruction with a class or a type: `new` takes a class alone
 abbrev pub typed_instr : World → ℕ → Named → Option Instr
 typed_instr w number class = if number == 187 then option_map New (class_named_by w class) else applied (row type_instrs number) (type_named w class)
 
+-- an instruction with what its index names
 abbrev pub instr_with : World → ℕ → Option Operand → Option Instr
 instr_with w number None = None
 instr_with w number (Some (AConstant value)) = applied (row constant_instrs number) (Some value)
@@ -210,9 +227,11 @@ instr_in w pool (raw.LookupSwitch number default pairs) = applied (option_map (�
 instr_in w pool (raw.Constant number index) = instr_with w number (operand_at pool (number, index))
 instr_in w pool (raw.Index number index) = instr_with w number (operand_at pool (number, index))
 
+-- an instruction in a program, with its place
 abbrev pub placed_in : World → List Entry → Placed → Option (ℕ × Instr)
 placed_in w pool p = option_map (λ instr. (p.0, instr)) (instr_in w pool p.1)
 
+-- the code in a program, where it has no fault and all that it names is there
 abbrev pub code_of : World → List Entry → Result (List Placed) CodeFault → Option (List (ℕ × Instr))
 code_of w pool (Ok code) = each_of (placed_in w pool) code
 code_of w pool (Err fault) = None

@@ -28,11 +28,13 @@ abbrev pub table_in : CodeInfo → List FrameForm
 table_in (StackMapTable frames) = frames
 table_in (Raw bytes) = []
 
+-- the frames of code, of each such table
 abbrev pub tables_in : Code → List FrameForm
 tables_in code = flat_map (λ a. table_in a.info) code.attributes
 
 -- ---- a slot in a program; there are no float and double types in one
 
+-- the type of a slot in a program, where it is there (JVMS 4.7.4)
 abbrev pub slot_in : World → List PoolEntry → VerificationType → Option VType
 slot_in w pool entry.Top = Some Top
 slot_in w pool entry.Integer = Some Int
@@ -50,21 +52,25 @@ slot_of_base base.Long = Long
 slot_of_base (base.Class c) = Object (typed 0 (base.Class c))
 slot_of_base b = Int
 
+-- the same of a type, where an array is a reference
 abbrev pub slot_of_type : Ty → VType
 slot_of_type ty = if ty.dims == 0 then slot_of_base ty.base else Object ty
 
 -- ---- the locals by entries, of which a long is one: those with which a method begins (JVMS 4.10.1.6)
 
+-- `this`, which in a constructor isn't initialized yet
 abbrev pub receiver_entry : ClassId → DeclaredMethod → List (Option VType)
 receiver_entry c m =
     if m.is_static then []
     else (if is_constructor_name m.name then Some UninitThis ∷ [] else Some (Object (typed 0 (base.Class c))) ∷ [])
 
+-- `this` and the arguments
 abbrev pub entry_locals : World → ClassId → DeclaredMethod → List (Option VType)
 entry_locals w c m = receiver_entry c m ++ map (λ f. option_map slot_of_type (type_in w f)) (params_of (method_text m.descriptor))
 
 -- ---- what each frame says
 
+-- the distance that a frame writes down
 abbrev pub delta_of : FrameForm → ℕ
 delta_of (Same delta) = delta
 delta_of (SameLocals1StackItem delta item) = delta
@@ -89,9 +95,11 @@ abbrev pub local_slots : VType → List VType
 local_slots Long = Long ∷ Top ∷ []
 local_slots t = t ∷ []
 
+-- a frame with these locals, by slots, and this stack
 abbrev pub frame_with : List VType → List VType → Frame
 frame_with locals stack = record { locals = flat_map local_slots locals; stack = stack }
 
+-- the frame of entries, where all their types are there
 abbrev pub frame_of : Entries → Option Frame
 frame_of e = applied (option_map frame_with (each_of itself e.locals)) (each_of itself e.stack)
 
@@ -102,9 +110,11 @@ abbrev pub place_after : Option ℕ → ℕ → ℕ
 place_after None delta = delta
 place_after (Some at) delta = at + (delta + 1)
 
+-- a frame with its place
 abbrev pub placed_frame : ℕ → Entries → Option (ℕ × Frame)
 placed_frame at e = option_map (λ frame. (at, frame)) (frame_of e)
 
+-- the frames from one on, where the one before stood at a place and left these locals
 unfoldable pub frames_from : World → List PoolEntry → Option ℕ → List (Option VType) → List FrameForm → List (Option (ℕ × Frame))
 frames_from w pool before locals [] = []
 frames_from w pool before locals (f ∷ fs) =
@@ -112,5 +122,6 @@ frames_from w pool before locals (f ∷ fs) =
     let e = entries_of w pool locals f in
     placed_frame at e ∷ frames_from w pool (Some at) e.locals fs
 
+-- the declared frames of the code of a method, where all types are there
 abbrev pub frames_in : World → ClassFile → ClassId → DeclaredMethod → Code → Option (List (ℕ × Frame))
 frames_in w file c m code = each_of itself (frames_from w file.constant_pool None (entry_locals w c m) (tables_in code))

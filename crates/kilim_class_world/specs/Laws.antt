@@ -36,6 +36,7 @@ pub record Parts (files : List ClassFile) (form : Form) (p : Program) : Type 0 w
   pub methods_are : each_of itself (members (λ file. file.methods) (linked_method (world_of files form)) files) ≡ Some methods
   pub is : p ≡ program_with files form classes fields methods
 
+-- a program to which files link has these parts
 abbrev pub LinkedInParts : Type 0
 LinkedInParts = (files : List ClassFile) (form : Form) (p : Program) → Linked files form p → Parts files form p
 
@@ -64,5 +65,6 @@ EachIsWithout w n (file ∷ files) = (problems_of w file (class_id n) ≡ []) ×
 abbrev pub NoneHasAProblem : Type 0
 NoneHasAProblem = (files : List ClassFile) (form : Form) → link_faults files form ≡ [] → EachIsWithout (world_of files form) 0 files
 
+-- so has a class without any problem
 abbrev pub NoneOfEachKind : Type 0
 NoneOfEachKind = (w : World) (file : ClassFile) (c : ClassId) → problems_of w file c ≡ [] → NoProblem w file c

@@ -13,3 +13,7 @@ pub mod Laws
 pub mod LinksWell
 pub mod Programs
 pub mod Agreement
+pub mod Instructions
+pub mod Search
+pub mod Edges
+pub mod Relations

@@ -37,10 +37,12 @@ abbrev pub constant_by : List Entry → Info → Option Value
 constant_by pool (info.ConstantValue index) = constant_ref pool (entry_at pool index)
 constant_by pool _ = None
 
+-- the first one, where there is one
 abbrev pub first_of : {A : Type 0} → List A → Option A
 first_of [] = None
 first_of (x ∷ xs) = Some x
 
+-- the constant of a field, by its ConstantValue
 abbrev pub constant_of : List Entry → MemberInfo → Option Value
 constant_of pool field = first_of (filter_map (λ a. constant_by pool a.info) field.attributes)
 
@@ -55,6 +57,7 @@ field_with file c field ty = record {
   constant = if has_flag acc_static field.access_flags then constant_of file.constant_pool field else None;
 }
 
+-- a field of a class in a program, where its type is there
 abbrev pub linked_field : World → ClassFile → ClassId → MemberInfo → Option Field
 linked_field w file c field = do
   text ← field_text (member_descriptor file field)
@@ -63,6 +66,7 @@ linked_field w file c field = do
 
 -- ---- methods
 
+-- the code in an attribute
 abbrev pub code_in : Info → Option Code
 code_in (info.Code code) = Some code
 code_in _ = None
@@ -71,13 +75,15 @@ code_in _ = None
 abbrev pub code_attribute : MemberInfo → Option Code
 code_attribute method = first_of (filter_map (λ a. code_in a.info) method.attributes)
 
--- what code comes to: without a Code attribute nothing
+-- what the code of a method comes to: without a Code attribute nothing
 abbrev pub no_body : Body
 no_body = record { max_stack = 0; max_locals = 0; code_length = 0; code = []; frames = [] }
 
+-- with code of these instructions and frames
 abbrev pub body_with : Code → List (ℕ × Instr) → List (ℕ × Frame) → Body
 body_with code instrs frames = record { max_stack = code.max_stack; max_locals = code.max_locals; code_length = length code.code; code = instrs; frames = frames }
 
+-- what the code of a method comes to, where it has no fault and all that it names is there
 abbrev pub body_in : World → ClassFile → ClassId → MemberInfo → Option Code → Option Body
 body_in w file c method None = Some no_body
 body_in w file c method (Some code) = do
@@ -85,6 +91,7 @@ body_in w file c method (Some code) = do
   frames ← frames_in w file c (declared_method file method) code
   Some (body_with code instrs frames)
 
+-- a method with its types and its body
 abbrev pub method_with : World → ClassFile → ClassId → MemberInfo → List Ty → Option Ty → Body → Method
 method_with w file c method params result body =
     let m = declared_method file method in
@@ -108,6 +115,7 @@ method_with w file c method params result body =
       frames = body.frames;
     }
 
+-- a method of a class in a program, where its types and its body are there
 abbrev pub linked_method : World → ClassFile → ClassId → MemberInfo → Option Method
 linked_method w file c method = do
   text ← method_text (member_descriptor file method)
@@ -118,6 +126,7 @@ linked_method w file c method = do
 
 -- ---- classes
 
+-- a class in a program, where its superclass is there
 abbrev pub linked_class : World → ClassFile → ClassId → Option Class
 linked_class w file c = do
   up ← class_of w (super_name file)
@@ -141,6 +150,7 @@ numbered make n (file ∷ files) = make file (class_id n) ∷ numbered make (suc
 abbrev pub members : {A : Type 0} → (ClassFile → List MemberInfo) → (ClassFile → ClassId → MemberInfo → A) → List ClassFile → List A
 members list make files = flat_map itself (numbered (λ file c. map (make file c) (list file)) 0 files)
 
+-- the classes, fields and methods of files, and behind them the built-in ones
 abbrev pub program_with : List ClassFile → Form → List Class → List Field → List Method → Program
 program_with files form classes fields methods = record {
   classes = classes ++ built_in_classes_in form (length files) (length methods);
@@ -149,8 +159,9 @@ program_with files form classes fields methods = record {
   form = form;
 }
 
--- The program of some files in a form. There is none where something that they name isn't there, or isn't part of
--- this profile.
+-- The program of some files in a form. There is none where a class, a member or a type that they name isn't there, a type
+-- is float or double, a descriptor is malformed, or code has a fault. Files with other faults have one too: that there is
+-- a program doesn't say that there is no fault.
 unfoldable pub program_of : List ClassFile → Form → Option Program
 program_of files form =
     let w = world_of files form in do

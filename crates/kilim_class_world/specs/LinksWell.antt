@@ -8,6 +8,7 @@ use Rattle.kilim_program.specs.Program.{Program}
 use Rattle.kilim_class_world.specs.Faults.{link_faults}
 use Rattle.kilim_class_world.specs.Linked.{Linked}
 
+-- The files have a text each, have no fault, and link to the program.
 pub record LinksWell (files : List ClassFile) (form : Form) (p : Program) : Type 0 where
   -- not more than a program takes
   pub few : length files ≤ 1000

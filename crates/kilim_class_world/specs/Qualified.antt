@@ -16,6 +16,7 @@ use Rattle.kilim_class_world.specs.World.{World, DeclaredMethod, Marks, Stated, 
 use Rattle.kilim_class_world.specs.Types.{method_text, type_in}
 pub use Rattle.kilim_class_world.specs.declared.named.Qualified.{Qualified}
 
+-- one of these annotations is of this type
 abbrev pub names_one : List (List ℕ) → List ℕ → Bool
 names_one types type = list_any (bytes_eq type) types
 
@@ -29,11 +30,12 @@ annotated_as types default =
 
 -- ---- the receiver
 
--- `execute()V`, in woven form also with the fiber as its argument
+-- in woven form `kilim/Fiber` is a class
 abbrev pub has_fiber : Form → Bool
 has_fiber Plain = false
 has_fiber Woven = true
 
+-- `execute()V`, in woven form also with the fiber as its argument
 abbrev pub is_execute : Form → DeclaredMethod → Bool
 is_execute form m =
     bytes_eq m.name (codes "execute")
@@ -43,6 +45,7 @@ is_execute form m =
 abbrev pub default_receiver : World → ClassId → DeclaredMethod → Qualifier
 default_receiver w c m = if is_task w.outline c && is_execute w.form m then Cuttable else Safe
 
+-- the name of a constructor (JVMS 2.9)
 abbrev pub is_constructor_name : List ℕ → Bool
 is_constructor_name name = bytes_eq name (codes "<init>")
 
@@ -57,35 +60,42 @@ receiver_by w c m types =
 
 -- ---- parameters
 
+-- a type that is there, and a tree
 abbrev pub is_tree : World → Option Ty → Bool
 is_tree w None = false
 is_tree w (Some ty) = is_tree_kind (kind_of w.outline ty)
 
+-- the qualifier of a parameter of this type, with these annotations on it
 abbrev pub param_by : World → FieldText → List (List ℕ) → Qualifier
 param_by w f types = if is_tree w (type_in w f) then annotated_as types Safe else Safe
 
--- what all attributes say of the first parameter, and of those behind it
+-- what an attribute says of the first parameter
 abbrev pub first_types : List (List (List ℕ)) → List (List ℕ)
 first_types [] = []
 first_types (types ∷ rest) = types
 
+-- what it says of those behind that
 abbrev pub behind_first : List (List (List ℕ)) → List (List (List ℕ))
 behind_first [] = []
 behind_first (types ∷ rest) = rest
 
+-- the qualifiers of all parameters in order
 abbrev pub params_by : World → List FieldText → List (List (List (List ℕ))) → List Qualifier
 params_by w [] attributes = []
 params_by w (f ∷ fs) attributes = param_by w f (flat_map first_types attributes) ∷ params_by w fs (map behind_first attributes)
 
+-- the parameters of a descriptor; none where it is malformed
 abbrev pub params_of : Option MethodText → List FieldText
 params_of None = []
 params_of (Some m) = m.params
 
 -- ---- of a method that a class declares
 
+-- those that are stated, or those by the annotations
 abbrev pub qualified_by : World → ClassId → DeclaredMethod → Marks → Qualified
 qualified_by w c m (Stated receiver params) = record { receiver = receiver; params = params }
 qualified_by w c m (Annotated receiver params) = record { receiver = receiver_by w c m receiver; params = params_by w (params_of (method_text m.descriptor)) params }
 
+-- The qualifiers of a method that a class declares.
 unfoldable pub qualified : World → ClassId → DeclaredMethod → Qualified
 qualified w c m = qualified_by w c m m.marks

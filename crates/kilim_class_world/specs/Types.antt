@@ -18,24 +18,29 @@ abbrev pub read_as : {A : Type 0} → Result A ℕ → Option A
 read_as (Ok x) = Some x
 read_as (Err left) = None
 
+-- the type that the descriptor of a field is (JVMS 4.3.2)
 abbrev pub field_text : List ℕ → Option FieldText
 field_text units = read_as (whole_field units)
 
+-- the types of the descriptor of a method (JVMS 4.3.3)
 abbrev pub method_text : List ℕ → Option MethodText
 method_text units = read_as (whole_method units)
 
 -- ---- what a class entry names (JVMS 4.4.1)
 
+-- a text that begins with `[`, by what it reads as
 abbrev pub array_or_malformed : List ℕ → Option FieldText → Named
 array_or_malformed name None = Malformed name
 array_or_malformed name (Some type) = AnArray type
 
+-- what a text names: an array where it begins with `[`
 abbrev pub named_by : List ℕ → Named
 named_by [] = AClass []
 named_by (u ∷ us) = if u == 91 then array_or_malformed (u ∷ us) (field_text (u ∷ us)) else AClass (u ∷ us)
 
 -- ---- in a program; there are no float and double types in one
 
+-- the type of an element in a program, where it is there
 abbrev pub base_in : World → BaseText → Option Base
 base_in w text.Bool = Some base.Bool
 base_in w text.Byte = Some base.Byte
@@ -47,9 +52,11 @@ base_in w text.Float = None
 base_in w text.Double = None
 base_in w (text.Class name) = option_map base.Class (class_of w name)
 
+-- an array of so many dimensions; without any of them the element itself
 abbrev pub typed : ℕ → Base → Ty
 typed dims b = record { dims = dims; base = b }
 
+-- the type of a descriptor in a program, where it is there
 abbrev pub type_in : World → FieldText → Option Ty
 type_in w f = option_map (typed f.dims) (base_in w f.base)
 
@@ -58,16 +65,20 @@ abbrev pub with_first : {A : Type 0} → Option A → Option (List A) → Option
 with_first (Some x) (Some xs) = Some (x ∷ xs)
 with_first _ _ = None
 
+-- what is made of each, where it can be made of all
 abbrev pub each_of : {A B : Type 0} → (A → Option B) → List A → Option (List B)
 each_of make [] = Some []
 each_of make (x ∷ xs) = with_first (make x) (each_of make xs)
 
+-- what is there already: `each_of itself` asks that all are
 abbrev pub itself : {A : Type 0} → A → A
 itself x = x
 
+-- the types of several descriptors, where all are there
 abbrev pub types_in : World → List FieldText → Option (List Ty)
 types_in w fs = each_of (type_in w) fs
 
+-- the type of a result, or none for void
 abbrev pub result_in : World → Option FieldText → Option (Option Ty)
 result_in w None = Some None
 result_in w (Some f) = option_map Some (type_in w f)
@@ -85,13 +96,16 @@ class_named_by w _ = None
 
 -- ---- the class names in types
 
+-- the name of the class of a type, where it has one
 abbrev pub base_names : BaseText → List (List ℕ)
 base_names (text.Class name) = name ∷ []
 base_names b = []
 
+-- the same of a type, which may be an array of them
 abbrev pub type_names : FieldText → List (List ℕ)
 type_names f = base_names f.base
 
+-- the type of a result as a list
 abbrev pub result_types : Option FieldText → List FieldText
 result_types None = []
 result_types (Some f) = f ∷ []
@@ -100,10 +114,12 @@ result_types (Some f) = f ∷ []
 abbrev pub method_types : MethodText → List FieldText
 method_types m = m.params ++ result_types m.result
 
+-- the type of a text that is a descriptor of a field
 abbrev pub types_of_field : Option FieldText → List FieldText
 types_of_field None = []
 types_of_field (Some f) = f ∷ []
 
+-- the types of a text that is a descriptor of a method
 abbrev pub types_of_method : Option MethodText → List FieldText
 types_of_method None = []
 types_of_method (Some m) = method_types m

@@ -2,10 +2,14 @@
 
 ghost use Rattle.kilim_class_world.specs.Agreement.{FaultsAndFactsAgree};
 ghost use Rattle.kilim_class_world.specs.Details.{DetailsHold};
+ghost use Rattle.kilim_class_world.specs.Edges.{EdgesHold};
 ghost use Rattle.kilim_class_world.specs.Examples.{AIsLinked, ExamplesHold};
+ghost use Rattle.kilim_class_world.specs.Instructions.{InstructionsAgree};
 ghost use Rattle.kilim_class_world.specs.Laws.{DecodedIsDecode, LinkedInParts, NoneHasAProblem, NoneIsNamed, NoneOfEachKind};
 ghost use Rattle.kilim_class_world.specs.Linked.{OneProgram};
 ghost use Rattle.kilim_class_world.specs.Programs.{ProgramsAreLinked};
+ghost use Rattle.kilim_class_world.specs.Relations.{RelationsHold};
+ghost use Rattle.kilim_class_world.specs.Search.{SearchesHold};
 
 use kilim_opcodes::{lengths, one_spelling};
 
@@ -66,4 +70,26 @@ pub fn none_of_each_kind()
 /// A law, and no work: where files have no fault of linking, no class has a problem.
 pub fn none_has_a_problem()
     ensures { NoneHasAProblem }
+{}
+
+/// A law, and no work: of all 256 numbers, which ones the tables of instructions have, which instruction each is, and
+/// which entries of the pool it takes.
+pub fn instructions_agree()
+    ensures { InstructionsAgree }
+{}
+
+/// A law, and no work: numbers by order, members of the nearest ancestor, and what class files name, place by place.
+pub fn searches_hold()
+    ensures { SearchesHold }
+{}
+
+/// A law, and no work: code, descriptors and names of classes at their edges.
+pub fn edges_hold()
+    ensures { EdgesHold }
+{}
+
+/// A law, and no work: what is declared twice, overrides, stays abstract, is extended or left out, and how methods are
+/// qualified and pause.
+pub fn relations_hold()
+    ensures { RelationsHold }
 {}

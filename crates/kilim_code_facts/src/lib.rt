@@ -1,0 +1,9 @@
+//! Facts of methods, code and frames of programs that are linked: laws about definitions of the crates below.
+#![tactic(auto)]
+
+mod laws;
+
+pub use laws::{
+    code_is_whole, constants_fit, frames_increase, methods_are_sound, no_fault_links,
+    no_task_arrays,
+};
