@@ -17,7 +17,7 @@ use Rattle.kilim_class_world.specs.World.{World, ClassView, world_of, own_name, 
 use Rattle.kilim_code_facts.proofs.Lists.{some_is, first_and}
 use Rattle.kilim_code_facts.proofs.Members.{bound}
 
-abbrev name_of : Class → List ℕ
+abbrev pub name_of : Class → List ℕ
 name_of class = class.name
 
 map_append : {A B : Type 0} (f : A → B) (xs ys : List A) → map f (xs ++ ys) ≡ map f xs ++ map f ys

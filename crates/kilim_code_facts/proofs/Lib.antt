@@ -29,3 +29,8 @@ mod TestedInstrs
 mod TestedFrames
 mod TestedMethods
 mod NoTaskArrays
+mod Counts
+mod FoundIds
+mod NamedMembers
+mod BuiltInIds
+mod IdsArePlaces

@@ -31,7 +31,7 @@ use Rattle.kilim_class_world.specs.Types.{base_in, itself, type_in, typed}
 use Rattle.kilim_class_world.specs.World.{World, class_of, world_of, member_descriptor}
 use Rattle.kilim_code_facts.proofs.Files.{each_without, each_file_map}
 use Rattle.kilim_code_facts.proofs.LeftOut.{nothing_left_out}
-use Rattle.kilim_code_facts.proofs.Lists.{some_is, none_is_some, all_map, each_of_length, members_pass}
+use Rattle.kilim_code_facts.proofs.Lists.{some_is, none_is_some, all_map, each_of_length, list_all_same, members_pass, numbered_length}
 use Rattle.kilim_code_facts.proofs.Mentions.{FileMentions, MethodMentions, file_mentions}
 use Rattle.kilim_code_facts.proofs.Nothing.{none_any, all_flat}
 use Rattle.kilim_code_facts.proofs.Rows.{mapped}
@@ -96,10 +96,6 @@ built_in_by : (form : Form) (n : ℕ) (task : ClassId → Bool) → task (class_
 built_in_by Plain n task e = rw e refl
 built_in_by Woven n task e = rw e refl
 
-list_all_same : {A : Type 0} (f g : A → Bool) → ((x : A) → f x ≡ g x) → (xs : List A) → list_all f xs ≡ list_all g xs
-list_all_same f g same [] = refl
-list_all_same f g same (x ∷ xs) = ap (λ (b : Bool). b && list_all f xs) (same x) ∙ ap (λ (b : Bool). g x && b) (list_all_same f g same xs)
-
 same_base : (p : Program) (b : Base) → task_by (is_task p) b ≡ is_task_base p b
 same_base p (base.Class c) = refl
 same_base p b = refl
@@ -151,10 +147,6 @@ message_is_no_task p classes form n m len are =
     (ap (λ (o : Option Class). o >>= λ (class : Class). class.superclass) object) (ap named_task object)
 
 -- ---- all of it
-
-numbered_length : {A : Type 0} (make : ClassFile → ClassId → A) (n : ℕ) (files : List ClassFile) → length (numbered make n files) ≡ length files
-numbered_length make n [] = refl
-numbered_length make n (file ∷ files) = ap suc (numbered_length make (suc n) files)
 
 module _ (in_parts : LinkedInParts) (none_has : NoneHasAProblem) (of_each_kind : NoneOfEachKind) where
   pub no_task_arrays_there : NoTaskArrays

@@ -1,6 +1,6 @@
 //! Laws about linked programs. No program calls them to do work.
 
-ghost use Rattle.kilim_code_facts.specs.Facts.{CodeIsWhole, ConstantsFit, FramesIncrease, MethodsAreSound, NoFaultLinks, NoTaskArrays};
+ghost use Rattle.kilim_code_facts.specs.Facts.{CodeIsWhole, ConstantsFit, FramesIncrease, IdsArePlaces, MethodsAreSound, NoFaultLinks, NoTaskArrays};
 
 use kilim_bytecode::targets_are_places;
 use kilim_class_world::{linked_in_parts, none_has_a_problem, none_of_each_kind};
@@ -57,4 +57,11 @@ pub fn no_task_arrays()
     linked_in_parts();
     none_has_a_problem();
     none_of_each_kind();
+}
+
+/// A law, and no work: each id in a program is a place in its list.
+pub fn ids_are_places()
+    ensures { IdsArePlaces }
+{
+    linked_in_parts();
 }
