@@ -33,6 +33,14 @@ abbrev pub method_count : Form → ℕ
 method_count Plain = 18
 method_count Woven = 29
 
+pub class_total : (form : Form) (n m : ℕ) → length (built_in_classes_in form n m) ≡ class_count form
+class_total Plain n m = refl
+class_total Woven n m = refl
+
+pub method_total : (form : Form) (n : ℕ) → length (built_in_methods_in form n) ≡ method_count form
+method_total Plain n = refl
+method_total Woven n = refl
+
 abbrev AreThere : Form → ℕ → (ClassId → Bool) → Type 0
 AreThere form n there = (k : ℕ) → k < class_count form → there (class_id (n + k)) ≡ true
 

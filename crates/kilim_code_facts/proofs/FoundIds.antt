@@ -69,10 +69,17 @@ abbrev pub any_text : FieldText → Type 0
 any_text f = Unit {0}
 
 module _ (w : World) (p : Program) (counts : Counts w p) where
-  pub class_there : (name : List ℕ) (c : ClassId) → class_of w name ≡ Some c → has_class p c ≡ true
-  class_there name c e =
+  pub place_within : (name : List ℕ) (c : ClassId) → class_of w name ≡ Some c → c.0 < length w.classes
+  place_within name c e =
       let l = class_within w.outline.classes name 0 c e in
       let same = counts.outline in
+      let views = counts.classes in
+      omega (arith, l, same, views)
+
+  pub class_there : (name : List ℕ) (c : ClassId) → class_of w name ≡ Some c → has_class p c ≡ true
+  class_there name c e =
+      let l = place_within name c e in
+      let same = counts.classes in
       lt-ltb c.0 (length p.classes) (omega (arith, l, same))
 
   method_there : (name descriptor : List ℕ) (c : ClassId) (m : MethodId) → method_in w name descriptor c ≡ Some m → has_method p m ≡ true

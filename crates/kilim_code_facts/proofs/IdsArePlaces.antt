@@ -11,7 +11,6 @@ use Rattle.kilim_classfile.specs.declared.class_file.MemberInfo.{MemberInfo}
 use Rattle.kilim_program.specs.declared.class.Class.{Class}
 use Rattle.kilim_program.specs.declared.class.Field.{Field}
 use Rattle.kilim_program.specs.declared.class.Form.{Form}
-use Rattle.kilim_program.specs.declared.class.Form.TheVariants.{Plain, Woven}
 use Rattle.kilim_program.specs.declared.class.Method.{Method}
 use Rattle.kilim_program.specs.declared.names.ClassId.{ClassId}
 use Rattle.kilim_program.specs.BuiltIn.{built_in_classes_in, built_in_methods_in, method_id}
@@ -23,7 +22,7 @@ use Rattle.kilim_class_world.specs.Linked.{Body, body_in, code_attribute, linked
 use Rattle.kilim_class_world.specs.Mentions.{OfField, mentions_of, types_mentioned}
 use Rattle.kilim_class_world.specs.Types.{itself}
 use Rattle.kilim_class_world.specs.World.{World, class_of, declared_field, declared_method, field_id, first_field, first_method, member_descriptor, super_name, view_of_file, world_of}
-use Rattle.kilim_code_facts.proofs.BuiltInIds.{built_in_classes_there, built_in_owned, built_in_typed, class_count, method_count}
+use Rattle.kilim_code_facts.proofs.BuiltInIds.{built_in_classes_there, built_in_owned, built_in_typed, class_count, class_total, method_count, method_total}
 use Rattle.kilim_code_facts.proofs.Counts.{Counts, ViewAt, count_fields, count_methods, counts, sum_within, views_there, within}
 use Rattle.kilim_code_facts.proofs.Files.{each_file_map}
 use Rattle.kilim_code_facts.proofs.FoundIds.{any_text, class_there, types_there}
@@ -101,14 +100,6 @@ module _ (w : World) (p : Program) (c : Counts w p) where
       all_map (λ f. GoodMention any_text (OfField (member_descriptor file f))) _ (field_passes w any_text (has_type p) (types_there w p c) file class) file.fields (nothing_asked file).fields
 
 -- ---- all of it
-
-class_total : (form : Form) (n m : ℕ) → length (built_in_classes_in form n m) ≡ class_count form
-class_total Plain n m = refl
-class_total Woven n m = refl
-
-method_total : (form : Form) (n : ℕ) → length (built_in_methods_in form n) ≡ method_count form
-method_total Plain n = refl
-method_total Woven n = refl
 
 module _ (files : List ClassFile) (form : Form) (p : Program) (parts : Parts files form p) where
   abbrev w : World

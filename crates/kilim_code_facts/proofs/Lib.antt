@@ -34,3 +34,4 @@ mod FoundIds
 mod NamedMembers
 mod BuiltInIds
 mod IdsArePlaces
+mod OwnClasses
