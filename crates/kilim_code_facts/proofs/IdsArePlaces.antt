@@ -18,15 +18,14 @@ use Rattle.kilim_program.specs.Keeps.{class_ids_there, has_class, has_field, has
 use Rattle.kilim_program.specs.Program.{Program}
 use Rattle.kilim_class_world.specs.Code.{decoded}
 use Rattle.kilim_class_world.specs.Laws.{LinkedInParts, Parts}
-use Rattle.kilim_class_world.specs.Linked.{Body, body_in, code_attribute, linked_class, linked_field, linked_method, no_body, numbered}
+use Rattle.kilim_class_world.specs.Linked.{Body, body_in, code_attribute, linked_class, linked_field, linked_method, no_body}
 use Rattle.kilim_class_world.specs.Mentions.{OfField, mentions_of, types_mentioned}
-use Rattle.kilim_class_world.specs.Types.{itself}
 use Rattle.kilim_class_world.specs.World.{World, class_of, declared_field, declared_method, field_id, first_field, first_method, member_descriptor, super_name, view_of_file, world_of}
 use Rattle.kilim_code_facts.proofs.BuiltInIds.{built_in_classes_there, built_in_owned, built_in_typed, class_count, class_total, method_count, method_total}
 use Rattle.kilim_code_facts.proofs.Counts.{Counts, ViewAt, count_fields, count_methods, counts, sum_within, views_there, within}
 use Rattle.kilim_code_facts.proofs.Files.{each_file_map}
 use Rattle.kilim_code_facts.proofs.FoundIds.{any_text, class_there, types_there}
-use Rattle.kilim_code_facts.proofs.Lists.{EachFile, some_is, all_from, all_map, each_of_length, members_pass, numbered_pass, numbered_length}
+use Rattle.kilim_code_facts.proofs.Lists.{EachFile, some_is, all_from, all_map, members_pass, numbered_pass, made_length}
 use Rattle.kilim_code_facts.proofs.Members.{body_parts, bound, field_parts, method_parts}
 use Rattle.kilim_code_facts.proofs.Mentions.{FileMentions, MethodMentions, file_mentions}
 use Rattle.kilim_code_facts.proofs.NamedMembers.{code_there}
@@ -116,7 +115,7 @@ module _ (files : List ClassFile) (form : Form) (p : Program) (parts : Parts fil
 
   class_room : n + class_count form ≤ length p.classes
   class_room =
-      let own = each_of_length itself (numbered (linked_class w) 0 files) parts.classes parts.classes_are ∙ numbered_length (linked_class w) 0 files in
+      let own = made_length (linked_class w) 0 files parts.classes parts.classes_are in
       let all : length p.classes ≡ length (parts.classes ++ built_in_classes_in form n (length parts.methods)) = ap (λ (q : Program). length q.classes) parts.is in
       let both = length-append parts.classes (built_in_classes_in form n (length parts.methods)) in
       let built = class_total form n (length parts.methods) in

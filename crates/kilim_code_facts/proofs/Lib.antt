@@ -3,6 +3,7 @@ mod Members
 mod Frames
 mod Decoded
 mod Rows
+mod Tables
 mod Loaded
 mod Instrs
 mod Targets

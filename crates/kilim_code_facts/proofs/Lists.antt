@@ -117,6 +117,10 @@ numbered_pass test make n (file ∷ files) ys each e =
     let f = first_and (make file (class_id n)) (each_of itself (numbered make (suc n) files)) ys e in
     subst (λ zs. list_all test zs ≡ true) (sym f.is) (and_from _ _ (each.0 f.x f.first_is) (numbered_pass test make (suc n) files f.xs each.1 f.others_are))
 
-pub numbered_length : {A : Type 0} (make : ClassFile → ClassId → A) (n : ℕ) (files : List ClassFile) → length (numbered make n files) ≡ length files
+numbered_length : {A : Type 0} (make : ClassFile → ClassId → A) (n : ℕ) (files : List ClassFile) → length (numbered make n files) ≡ length files
 numbered_length make n [] = refl
 numbered_length make n (file ∷ files) = ap suc (numbered_length make (suc n) files)
+
+-- as many as there are files
+pub made_length : {A : Type 0} (make : ClassFile → ClassId → Option A) (n : ℕ) (files : List ClassFile) (ys : List A) → each_of itself (numbered make n files) ≡ Some ys → length ys ≡ length files
+made_length make n files ys e = each_of_length itself (numbered make n files) ys e ∙ numbered_length make n files

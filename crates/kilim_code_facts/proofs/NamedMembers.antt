@@ -17,7 +17,7 @@ use Rattle.kilim_class_world.specs.World.{World}
 use Rattle.kilim_code_facts.proofs.Codes.{placed_parts}
 use Rattle.kilim_code_facts.proofs.Counts.{Counts}
 use Rattle.kilim_code_facts.proofs.FoundIds.{found_field, found_method}
-use Rattle.kilim_code_facts.proofs.Instrs.{table_holds, table_passes, table_parts, lookup_parts}
+use Rattle.kilim_code_facts.proofs.Tables.{table_holds, table_passes, table_parts, lookup_parts}
 use Rattle.kilim_code_facts.proofs.Lists.{some_is, none_is_some, all_from, each_of_all}
 use Rattle.kilim_code_facts.proofs.Rows.{rows_pass, mapped}
 

@@ -19,8 +19,7 @@ use Rattle.kilim_class_world.specs.declared.fault.Problem.{Problem}
 use Rattle.kilim_class_world.specs.declared.fault.Problem.TheVariants as problem
 use Rattle.kilim_class_world.specs.Faults.{declared_twice, if_so, is_given_before, is_open, is_open_class, may_extend, repeated_names, super_kind, link_faults}
 use Rattle.kilim_class_world.specs.Laws.{LinkedInParts, NoProblem, NoneHasAProblem, NoneOfEachKind, Parts}
-use Rattle.kilim_class_world.specs.Linked.{linked_class, numbered}
-use Rattle.kilim_class_world.specs.Types.{itself}
+use Rattle.kilim_class_world.specs.Linked.{linked_class}
 use Rattle.kilim_class_world.specs.World.{ClassView, World, built_ins, class_of, own_name, super_name, view_at, view_of_built_in, view_of_file, world_of}
 use Rattle.kilim_code_facts.proofs.BuiltInIds.{class_total}
 use Rattle.kilim_code_facts.proofs.ClassNames.{shown_name}
@@ -28,7 +27,7 @@ use Rattle.kilim_code_facts.proofs.Counts.{counts}
 use Rattle.kilim_code_facts.proofs.Files.{each_file_map, each_without}
 use Rattle.kilim_code_facts.proofs.FoundIds.{place_within}
 use Rattle.kilim_code_facts.proofs.LeftOut.{nothing_left_out}
-use Rattle.kilim_code_facts.proofs.Lists.{some_is, none_is_some, each_of_length, numbered_length, numbered_pass}
+use Rattle.kilim_code_facts.proofs.Lists.{some_is, none_is_some, made_length, numbered_pass}
 use Rattle.kilim_code_facts.proofs.Members.{bound}
 use Rattle.kilim_code_facts.proofs.Nothing.{all_rest, front_none, none_any}
 use Rattle.kilim_code_facts.proofs.There.{There, there}
@@ -100,7 +99,7 @@ module _ (files : List ClassFile) (form : Form) (p : Program) (parts : Parts fil
 
   own_number : own_count p ≡ length files
   own_number =
-      let own = each_of_length itself (numbered (linked_class w) 0 files) parts.classes parts.classes_are ∙ numbered_length (linked_class w) 0 files in
+      let own = made_length (linked_class w) 0 files parts.classes parts.classes_are in
       let built = built_in_classes_in form (length files) (length parts.methods) in
       let all : length p.classes ≡ length (parts.classes ++ built) = ap (λ (q : Program). length q.classes) parts.is in
       let form_is : length (built_in_classes_in p.form 0 0) ≡ length (built_in_classes_in form 0 0) = ap (λ (q : Program). length (built_in_classes_in q.form 0 0)) parts.is in
@@ -133,7 +132,7 @@ module _ (files : List ClassFile) (form : Form) (p : Program) (parts : Parts fil
 
   own_list : take (own_count p) p.classes ≡ parts.classes
   own_list =
-      let own = each_of_length itself (numbered (linked_class w) 0 files) parts.classes parts.classes_are ∙ numbered_length (linked_class w) 0 files in
+      let own = made_length (linked_class w) 0 files parts.classes parts.classes_are in
       let built = built_in_classes_in form (length files) (length parts.methods) in
       ap (λ (k : ℕ). take k p.classes) (own_number ∙ sym own) ∙ (ap (λ (q : Program). take (length parts.classes) q.classes) parts.is ∙ take-append_seam parts.classes built)
 
