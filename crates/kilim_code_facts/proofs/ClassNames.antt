@@ -17,7 +17,7 @@ use Rattle.kilim_class_world.specs.World.{World, ClassView, world_of, own_name, 
 use Rattle.kilim_code_facts.proofs.Lists.{some_is, first_and}
 use Rattle.kilim_code_facts.proofs.Members.{bound}
 
-abbrev name_of : Class → List ℕ
+abbrev pub name_of : Class → List ℕ
 name_of class = class.name
 
 map_append : {A B : Type 0} (f : A → B) (xs ys : List A) → map f (xs ++ ys) ≡ map f xs ++ map f ys
@@ -83,3 +83,18 @@ program_names files form p parts =
 -- A class has one name in a program and in the outline.
 pub same_class_name : (files : List ClassFile) (form : Form) (p : Program) → Parts files form p → (c : ClassId) → class_name (world_of files form).outline c ≡ class_name p c
 same_class_name files form p parts c = named_at (world_of files form).outline.classes p.classes c.0 (sym (program_names files form p parts))
+
+view_names : (files : List ClassFile) (form : Form) → map name_of (world_of files form).outline.classes ≡ map (λ v. v.name) (world_of files form).classes
+unfolding world_of
+view_names files form =
+    let views = map view_of_file files ++ map (view_of_built_in (built_ins form)) (built_in_classes_in form 0 0) in
+    let marked = outline_with form views (λ c v. v.is_marked) in
+    outlined_names views (λ c v. is_message_by marked c) 0 views
+
+-- the name that a class has in the world
+pub shown_name : (files : List ClassFile) (form : Form) (p : Program) → Parts files form p → (c : ClassId) (v : ClassView) → slice_get (world_of files form).classes c.0 ≡ Some v → class_name p c ≡ v.name
+shown_name files form p parts c v at =
+    let w = world_of files form in
+    let same : map name_of p.classes ≡ map (λ (u : ClassView). u.name) w.classes = program_names files form p parts ∙ view_names files form in
+    shown (slice_get p.classes c.0)
+    ∙ ap text_or_none (sym (slice_get-map name_of p.classes c.0) ∙ (ap (λ (names : List (List ℕ)). slice_get names c.0) same ∙ (slice_get-map (λ (u : ClassView). u.name) w.classes c.0 ∙ ap (option_map (λ (u : ClassView). u.name)) at)))

@@ -1,6 +1,6 @@
 -- A linked instruction has the length, the targets and the end of the instruction that is written.
-use Rattle.std.proofs.Common.{◌≡◌, ℕ, ◌+◌, ◌*◌, ◌^◌, ◌<◌, Bool, true, false, ℤ, pos, negsuc, ◌+ℤ◌, ◌-ℤ◌, ◌<ℤ◌, List, [], ◌∷◌, length, map, Option, Some, None, refl, ap, sym, subst, ◌∙◌, arith}
-use Rattle.std.specs.Prelude.{◌&&◌, ◌||◌, ◌==◌, not, nat_lt, int_le, if◌then◌else◌, FitsSigned}
+use Rattle.std.proofs.Common.{◌≡◌, ℕ, ◌+◌, ◌*◌, ◌^◌, ◌<◌, Bool, true, false, ℤ, pos, negsuc, ◌+ℤ◌, ◌-ℤ◌, ◌<ℤ◌, List, [], ◌∷◌, length, map, Option, Some, None, refl, sym, subst, arith}
+use Rattle.std.specs.Prelude.{◌&&◌, ◌==◌, not, nat_lt, int_le, if◌then◌else◌, FitsSigned}
 use Rattle.std.specs.Int.{w8, w16, w32}
 use Rattle.std.specs.List.{AllByRecursion, list_all}
 use Rattle.std.specs.Option.{option_map}
@@ -22,31 +22,8 @@ use Rattle.kilim_class_world.specs.Types.{Named, each_of, type_named, class_name
 use Rattle.kilim_class_world.specs.World.{World}
 use Rattle.kilim_code_facts.proofs.Loaded.{IsLoaded, operand_loaded}
 use Rattle.kilim_code_facts.proofs.Lists.{some_is, none_is_some, all_map, first_and, each_of_all, each_of_length}
-use Rattle.kilim_code_facts.proofs.Rows.{each_passes, rows_hold, rows_pass, forms_pass, mapped}
-
--- a function and its argument that are there
-pub record Applied {A B : Type 0} (f : Option (A → B)) (x : Option A) (y : B) : Type 0 where
-  pub fn : A → B
-  pub arg : A
-  pub fn_is : f ≡ Some fn
-  pub arg_is : x ≡ Some arg
-  pub is : fn arg ≡ y
-
-pub applied_parts : {A B : Type 0} (f : Option (A → B)) (x : Option A) (y : B) → applied f x ≡ Some y → Applied f x y
-applied_parts None x y e = absurd (none_is_some y e)
-applied_parts (Some f) None y e = absurd (none_is_some y e)
-applied_parts (Some f) (Some x) y e = record { fn = f; arg = x; fn_is = refl; arg_is = refl; is = some_is (f x) y e }
-
--- what holds of each row's function at an argument
-pub table_holds : {A B : Type 0} (P : ℕ → B → Type 0) (table : List (ℕ × (A → B))) (x : Option A) (number : ℕ) (y : B)
-    → ((arg : A) → x ≡ Some arg → AllByRecursion (λ r. P r.0 (r.1 arg)) table) → applied (row table number) x ≡ Some y → P number y
-table_holds P table x number y all e =
-    let a = applied_parts (row table number) x y e in
-    subst (λ z. P number z) a.is (rows_hold (λ k f. P k (f a.arg)) table (all a.arg a.arg_is) number a.fn a.fn_is)
-
-pub table_passes : {A B : Type 0} (test : ℕ → B → Bool) (table : List (ℕ × (A → B))) (x : Option A) (number : ℕ) (y : B)
-    → ((arg : A) → list_all (λ r. test r.0 (r.1 arg)) table ≡ true) → applied (row table number) x ≡ Some y → test number y ≡ true
-table_passes test table x number y all e = table_holds (λ k z. test k z ≡ true) table x number y (λ arg there. each_passes (λ r. test r.0 (r.1 arg)) table (all arg)) e
+use Rattle.kilim_code_facts.proofs.Tables.{lookup_parts, pair_parts, place_is, table_holds, table_parts, table_passes}
+use Rattle.kilim_code_facts.proofs.Rows.{rows_pass, forms_pass, mapped}
 
 -- ---- what the number says: `ldc` alone has an index of one byte, `goto_w` alone a target of four
 
@@ -97,10 +74,6 @@ short_iinc slot n h fits = or_left _ _ (and_from _ _ (lt-ltb slot 256 h) (and_fr
 wide_iinc : (slot : ℕ) (n : ℤ) → is_iinc_length slot n 6 ≡ true
 wide_iinc slot n = or_right _ _ refl
 
-pub place_is : (to : ℤ) (n : ℕ) → place_of to ≡ Some n → pos n ≡ to
-place_is (pos k) n e = ap (λ (x : ℕ). pos x) (sym (some_is k n e))
-place_is (negsuc k) n e = absurd (none_is_some n e)
-
 near : (at n : ℕ) → FitsSigned w16 (pos n -ℤ pos at) → is_jump_length at n 3 ≡ true
 near at n fits = and_from _ _ (lt-ltb n (at + 32768) (omega (arith, ints))) (and_from _ _ (lt-ltb at (n + 32769) (omega (arith, ints))) refl)
 
@@ -115,10 +88,6 @@ jump_length at number to instr fits e =
     let j : is_jump_length at arg 3 ≡ true = near at arg (subst (λ z. FitsSigned w16 (z -ℤ pos at)) (sym (place_is to arg there)) fits) in
     let k = λ (h : true ≡ true). j in
     (k, (k, (k, (k, (k, (k, (k, (k, (k, (k, (k, (k, (k, (k, (k, (k, (k, ((λ h. absurd (false≢true h)), tt))))))))))))))))))) e
-
-pub either_way : (a b : Bool) → a ≡ true → (not a || b) ≡ true → b ≡ true
-either_way true b e f = f
-either_way false b e f = absurd (false≢true e)
 
 far : (at n : ℕ) → FitsSigned w32 (pos n -ℤ pos at) → is_far at n ≡ true
 far at n fits = and_from _ _ (lt-ltb n (at + 2 ^ 31) (omega (arith, ints))) (lt-ltb at (n + (2 ^ 31 + 1)) (omega (arith, ints)))
@@ -169,15 +138,6 @@ all_far at targets ts fit e =
     each_of_all place_of (is_far at) targets ts (all_map (TargetFits w32 at) _ (λ to fits n there. far_by at n to (place_is to n there) fits) targets fit) e
 
 -- ---- matches that increase
-
-pub record PairParts (pair : ℤ × ℤ) (y : ℤ × ℕ) : Type 0 where
-  pub key : pair.0 ≡ y.0
-  pub to : pos y.1 ≡ pair.1
-
-pub pair_parts : (pair : ℤ × ℤ) (y : ℤ × ℕ) → pair_in pair ≡ Some y → PairParts pair y
-pair_parts pair y e =
-    let m = mapped (λ (n : ℕ). (pair.0, n)) (place_of pair.1) y e in
-    record { key = ap (λ (x : ℤ × ℕ). x.0) m.is; to = ap (λ (x : ℤ × ℕ). pos x.1) (sym m.is) ∙ place_is pair.1 m.x m.there }
 
 abbrev AreAbove : Option ℤ → List (ℤ × ℕ) → Type 0
 AreAbove least [] = Unit {0}
@@ -247,35 +207,6 @@ index_length w at number (Some (AType class)) instr is e = typed_length w at num
 index_has : (w : World) (at number index len : ℕ) (pool : List Entry) (instr : Instr) → (index_len number == len) ≡ true → instr_with w number (operand_at pool (number, index)) ≡ Some instr → Has at len instr
 index_has w at number index len pool instr is e =
     subst (λ k. Has at k instr) (eqb-true (index_len number) len is) (index_length w at number (operand_at pool (number, index)) instr (operand_loaded pool (number, index)) e)
-
--- ---- a switch
-
-pub record TableParts (default : ℤ) (low : ℤ) (targets : List ℤ) (y : Instr) : Type 0 where
-  pub first : ℕ
-  pub ts : List ℕ
-  pub first_is : pos first ≡ default
-  pub ts_are : each_of place_of targets ≡ Some ts
-  pub is : Tableswitch first low ts ≡ y
-
-pub table_parts : (default : ℤ) (low : ℤ) (targets : List ℤ) (y : Instr) → applied (option_map (λ to. Tableswitch to low) (place_of default)) (each_of place_of targets) ≡ Some y → TableParts default low targets y
-table_parts default low targets y e =
-    let a = applied_parts (option_map (λ (to : ℕ). Tableswitch to low) (place_of default)) (each_of place_of targets) y e in
-    let m = mapped (λ (to : ℕ). Tableswitch to low) (place_of default) a.fn a.fn_is in
-    record { first = m.x; ts = a.arg; first_is = place_is default m.x m.there; ts_are = a.arg_is; is = ap (λ (f : List ℕ → Instr). f a.arg) m.is ∙ a.is }
-
-pub record LookupParts (default : ℤ) (pairs : List (ℤ × ℤ)) (y : Instr) : Type 0 where
-  pub first : ℕ
-  pub ts : List (ℤ × ℕ)
-  pub first_is : pos first ≡ default
-  pub ts_are : each_of pair_in pairs ≡ Some ts
-  pub is : Lookupswitch first ts ≡ y
-
-pub lookup_parts : (default : ℤ) (pairs : List (ℤ × ℤ)) (y : Instr) → applied (option_map (λ to. λ each. Lookupswitch to each) (place_of default)) (each_of pair_in pairs) ≡ Some y → LookupParts default pairs y
-lookup_parts default pairs y e =
-    let make = λ (to : ℕ) (each : List (ℤ × ℕ)). Lookupswitch to each in
-    let a = applied_parts (option_map make (place_of default)) (each_of pair_in pairs) y e in
-    let m = mapped make (place_of default) a.fn a.fn_is in
-    record { first = m.x; ts = a.arg; first_is = place_is default m.x m.there; ts_are = a.arg_is; is = ap (λ (f : List (ℤ × ℕ) → Instr). f a.arg) m.is ∙ a.is }
 
 -- ---- all of them
 

@@ -25,7 +25,7 @@ use Rattle.kilim_class_world.specs.Types.{Named, AClass, AnArray, Malformed, nam
 use Rattle.kilim_class_world.specs.World.{World, find_field, find_method, class_of}
 use Rattle.kilim_code_facts.proofs.Forms.{HasItsForm}
 use Rattle.kilim_code_facts.proofs.Good.{Good}
-use Rattle.kilim_code_facts.proofs.Instrs.{either_way}
+use Rattle.kilim_code_facts.proofs.Tables.{either_way}
 use Rattle.kilim_code_facts.proofs.Lists.{some_is, none_is_some, all_map}
 use Rattle.kilim_code_facts.proofs.Nothing.{all_mapped}
 use Rattle.kilim_code_facts.proofs.Mentions.{InstrMentions}

@@ -3,6 +3,7 @@ mod Members
 mod Frames
 mod Decoded
 mod Rows
+mod Tables
 mod Loaded
 mod Instrs
 mod Targets
@@ -29,3 +30,9 @@ mod TestedInstrs
 mod TestedFrames
 mod TestedMethods
 mod NoTaskArrays
+mod Counts
+mod FoundIds
+mod NamedMembers
+mod BuiltInIds
+mod IdsArePlaces
+mod OwnClasses

@@ -1,5 +1,6 @@
 -- What holds of each element of a list that was made of another, where there are all.
 use Rattle.std.proofs.Common.{◌≡◌, ℕ, suc, Bool, true, List, [], ◌∷◌, ◌++◌, length, map, Option, Some, None, refl, ap, sym, subst, ◌∙◌}
+use Rattle.std.specs.Prelude.{◌&&◌}
 use Rattle.std.specs.List.{list_all, flat_map, AllByRecursion}
 use Rattle.std.proofs.lemmas.Bool.{and_from}
 use Rattle.std.proofs.lemmas.List.Folds.{list_all-append}
@@ -45,6 +46,10 @@ all_map P Q each (x ∷ xs) all = (each x all.0, all_map P Q each xs all.1)
 pub all_both : {A : Type 0} (P Q R : A → Type 0) → ((x : A) → P x → Q x → R x) → (xs : List A) → AllByRecursion P xs → AllByRecursion Q xs → AllByRecursion R xs
 all_both P Q R each [] ps qs = tt
 all_both P Q R each (x ∷ xs) ps qs = (each x ps.0 qs.0, all_both P Q R each xs ps.1 qs.1)
+
+pub list_all_same : {A : Type 0} (f g : A → Bool) → ((x : A) → f x ≡ g x) → (xs : List A) → list_all f xs ≡ list_all g xs
+list_all_same f g same [] = refl
+list_all_same f g same (x ∷ xs) = ap (λ (b : Bool). b && list_all f xs) (same x) ∙ ap (λ (b : Bool). g x && b) (list_all_same f g same xs)
 
 pub each_of_all : {A B : Type 0} (make : A → Option B) (test : B → Bool) (xs : List A) (ys : List B) → AllByRecursion (λ x. (y : B) → make x ≡ Some y → test y ≡ true) xs → each_of make xs ≡ Some ys → list_all test ys ≡ true
 each_of_all make test [] ys all e = subst (λ zs. list_all test zs ≡ true) (some_is [] ys e) refl
@@ -103,3 +108,19 @@ members_pass test list make n (file ∷ files) ys each e =
     let front = each_of_all (make file (class_id n)) test (list file) h.front each.0 (sym (each_of_map (make file (class_id n)) (list file)) ∙ h.front_is) in
     let back = members_pass test list make (suc n) files h.back each.1 h.back_is in
     subst (λ zs. list_all test zs ≡ true) (sym h.is) (list_all-append test h.front h.back ∙ and_from _ _ front back)
+
+-- what is made of the files passes a test, where that of each file does
+pub numbered_pass : {A : Type 0} (test : A → Bool) (make : ClassFile → ClassId → Option A) (n : ℕ) (files : List ClassFile) (ys : List A) → EachFile (λ file c. (y : A) → make file c ≡ Some y → test y ≡ true) n files
+    → each_of itself (numbered make n files) ≡ Some ys → list_all test ys ≡ true
+numbered_pass test make n [] ys each e = subst (λ zs. list_all test zs ≡ true) (some_is [] ys e) refl
+numbered_pass test make n (file ∷ files) ys each e =
+    let f = first_and (make file (class_id n)) (each_of itself (numbered make (suc n) files)) ys e in
+    subst (λ zs. list_all test zs ≡ true) (sym f.is) (and_from _ _ (each.0 f.x f.first_is) (numbered_pass test make (suc n) files f.xs each.1 f.others_are))
+
+numbered_length : {A : Type 0} (make : ClassFile → ClassId → A) (n : ℕ) (files : List ClassFile) → length (numbered make n files) ≡ length files
+numbered_length make n [] = refl
+numbered_length make n (file ∷ files) = ap suc (numbered_length make (suc n) files)
+
+-- as many as there are files
+pub made_length : {A : Type 0} (make : ClassFile → ClassId → Option A) (n : ℕ) (files : List ClassFile) (ys : List A) → each_of itself (numbered make n files) ≡ Some ys → length ys ≡ length files
+made_length make n files ys e = each_of_length itself (numbered make n files) ys e ∙ numbered_length make n files

@@ -25,13 +25,13 @@ use Rattle.kilim_program.specs.Names.{◌>>=◌, class_at, is_named_task, is_tas
 use Rattle.kilim_program.specs.Program.{Program}
 use Rattle.kilim_class_world.specs.Faults.{has_task_array, is_task_name, is_task_base as is_task_text}
 use Rattle.kilim_class_world.specs.Laws.{LinkedInParts, NoProblem, NoneHasAProblem, NoneOfEachKind}
-use Rattle.kilim_class_world.specs.Linked.{linked_class, linked_field, linked_method, numbered}
+use Rattle.kilim_class_world.specs.Linked.{linked_class, linked_field, linked_method}
 use Rattle.kilim_class_world.specs.Mentions.{OfField, all_types as file_types, mentions_of, types_mentioned}
-use Rattle.kilim_class_world.specs.Types.{base_in, itself, type_in, typed}
+use Rattle.kilim_class_world.specs.Types.{base_in, type_in, typed}
 use Rattle.kilim_class_world.specs.World.{World, class_of, world_of, member_descriptor}
 use Rattle.kilim_code_facts.proofs.Files.{each_without, each_file_map}
 use Rattle.kilim_code_facts.proofs.LeftOut.{nothing_left_out}
-use Rattle.kilim_code_facts.proofs.Lists.{some_is, none_is_some, all_map, each_of_length, members_pass}
+use Rattle.kilim_code_facts.proofs.Lists.{some_is, none_is_some, all_map, list_all_same, members_pass, made_length}
 use Rattle.kilim_code_facts.proofs.Mentions.{FileMentions, MethodMentions, file_mentions}
 use Rattle.kilim_code_facts.proofs.Nothing.{none_any, all_flat}
 use Rattle.kilim_code_facts.proofs.Rows.{mapped}
@@ -96,10 +96,6 @@ built_in_by : (form : Form) (n : ℕ) (task : ClassId → Bool) → task (class_
 built_in_by Plain n task e = rw e refl
 built_in_by Woven n task e = rw e refl
 
-list_all_same : {A : Type 0} (f g : A → Bool) → ((x : A) → f x ≡ g x) → (xs : List A) → list_all f xs ≡ list_all g xs
-list_all_same f g same [] = refl
-list_all_same f g same (x ∷ xs) = ap (λ (b : Bool). b && list_all f xs) (same x) ∙ ap (λ (b : Bool). g x && b) (list_all_same f g same xs)
-
 same_base : (p : Program) (b : Base) → task_by (is_task p) b ≡ is_task_base p b
 same_base p (base.Class c) = refl
 same_base p b = refl
@@ -152,10 +148,6 @@ message_is_no_task p classes form n m len are =
 
 -- ---- all of it
 
-numbered_length : {A : Type 0} (make : ClassFile → ClassId → A) (n : ℕ) (files : List ClassFile) → length (numbered make n files) ≡ length files
-numbered_length make n [] = refl
-numbered_length make n (file ∷ files) = ap suc (numbered_length make (suc n) files)
-
 module _ (in_parts : LinkedInParts) (none_has : NoneHasAProblem) (of_each_kind : NoneOfEachKind) where
   pub no_task_arrays_there : NoTaskArrays
   unfolding no_task_arrays
@@ -170,7 +162,7 @@ module _ (in_parts : LinkedInParts) (none_has : NoneHasAProblem) (of_each_kind :
       let field_test = λ (f : Field). fits p f.ty in
       let own_methods = members_pass method_test (λ file. file.methods) (linked_method w) 0 files parts.methods of_methods parts.methods_are in
       let own_fields = members_pass field_test (λ file. file.fields) (linked_field w) 0 files parts.fields of_fields parts.fields_are in
-      let len = each_of_length itself (numbered (linked_class w) 0 files) parts.classes parts.classes_are ∙ numbered_length (linked_class w) 0 files in
+      let len = made_length (linked_class w) 0 files parts.classes parts.classes_are in
       let no_task = message_is_no_task p parts.classes form n (length parts.methods) len (ap (λ (q : Program). q.classes) parts.is) in
       let methods_fit : list_all method_test (parts.methods ++ built_in_methods_in form n) ≡ true = list_all-append method_test parts.methods (built_in_methods_in form n) ∙ and_from _ _ own_methods (built_in_fits p form n no_task) in
       let in_fields = list_all-map (fits p) (λ (f : Field). f.ty) p.fields ∙ (ap (list_all field_test) (ap (λ (q : Program). q.fields) parts.is) ∙ own_fields) in

@@ -26,7 +26,7 @@ use Rattle.kilim_class_world.specs.Qualified.{is_constructor_name, params_of}
 use Rattle.kilim_class_world.specs.Types.{Named, each_of, itself, named_by, type_named, type_in, typed, method_text}
 use Rattle.kilim_class_world.specs.World.{World, DeclaredMethod, class_text}
 use Rattle.kilim_code_facts.proofs.FramesThere.{Slots, taken_there}
-use Rattle.kilim_code_facts.proofs.Instrs.{applied_parts}
+use Rattle.kilim_code_facts.proofs.Tables.{applied_parts}
 use Rattle.kilim_code_facts.proofs.Lists.{some_is, none_is_some, first_and, all_map, each_of_all}
 use Rattle.kilim_code_facts.proofs.Mentions.{FrameMentions}
 use Rattle.kilim_code_facts.proofs.Nothing.{all_front, all_rest}

@@ -18,7 +18,7 @@ use Rattle.kilim_class_world.specs.Code.{instr_in, instr_with, applied, row, pla
 use Rattle.kilim_class_world.specs.Mentions.{mentions_of_operand, mentions_of_instr}
 use Rattle.kilim_class_world.specs.Types.{Named, type_named, class_named_by, typed}
 use Rattle.kilim_class_world.specs.World.{World}
-use Rattle.kilim_code_facts.proofs.Instrs.{table_holds, table_passes, table_parts, lookup_parts}
+use Rattle.kilim_code_facts.proofs.Tables.{table_holds, table_passes, table_parts, lookup_parts}
 use Rattle.kilim_code_facts.proofs.Lists.{some_is, none_is_some}
 use Rattle.kilim_code_facts.proofs.Rows.{rows_pass, mapped}
 use Rattle.kilim_code_facts.proofs.TestedTypes.{GoodMention, Tested, class_passes, element_passes, named_passes, one_passes}
