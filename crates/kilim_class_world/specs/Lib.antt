@@ -6,6 +6,7 @@ pub mod Code
 pub mod Frames
 pub mod Linked
 pub mod Mentions
+pub mod LeftOut
 pub mod Faults
 pub mod Examples
 pub mod Details

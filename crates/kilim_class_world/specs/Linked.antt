@@ -159,9 +159,9 @@ program_with files form classes fields methods = record {
   form = form;
 }
 
--- The program of some files in a form. There is none where a class, a member or a type that they name isn't there, a type
--- is float or double, a descriptor is malformed, or code has a fault. Files with other faults have one too: that there is
--- a program doesn't say that there is no fault.
+-- The program of some files in a form. There is none where a superclass, a type or what code names isn't there, a type is
+-- float or double, a descriptor is malformed, or code has a fault. Files with other faults have one too: that there is a
+-- program doesn't say that there is no fault.
 unfoldable pub program_of : List ClassFile → Form → Option Program
 program_of files form =
     let w = world_of files form in do
