@@ -13,7 +13,8 @@ use Rattle.kilim_program.specs.Program.{Program}
 use Rattle.kilim_class_world.specs.Laws.{Parts}
 use Rattle.kilim_class_world.specs.Linked.{linked_class, numbered}
 use Rattle.kilim_class_world.specs.Types.{each_of, itself}
-use Rattle.kilim_class_world.specs.World.{World, ClassView, world_of, own_name, class_of, super_name, outlined, outline_with, is_message_by, view_of_file, view_of_built_in, built_ins}
+use Rattle.kilim_class_world.specs.World.{World, world_of, own_name, class_of, super_name, outlined, outline_with, is_message_by, view_of_file, view_of_built_in, built_ins}
+use Rattle.kilim_class_world.specs.declared.view.ClassView.{ClassView}
 use Rattle.kilim_code_facts.proofs.Lists.{some_is, first_and}
 use Rattle.kilim_code_facts.proofs.Members.{bound}
 

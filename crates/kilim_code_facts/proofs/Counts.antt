@@ -13,7 +13,8 @@ use Rattle.kilim_program.specs.Program.{Program}
 use Rattle.kilim_class_world.specs.Laws.{Parts}
 use Rattle.kilim_class_world.specs.Linked.{linked_field, linked_method, numbered}
 use Rattle.kilim_class_world.specs.Types.{itself}
-use Rattle.kilim_class_world.specs.World.{ClassView, World, built_ins, declared_field, declared_method, is_message_by, outline_with, outlined, view_of_built_in, view_of_file, world_of}
+use Rattle.kilim_class_world.specs.World.{World, built_ins, declared_field, declared_method, is_message_by, outline_with, outlined, view_of_built_in, view_of_file, world_of}
+use Rattle.kilim_class_world.specs.declared.view.ClassView.{ClassView}
 use Rattle.kilim_code_facts.proofs.ClassNames.{name_of, program_names}
 use Rattle.kilim_code_facts.proofs.Lists.{EachFile, some_is, none_is_some, each_of_length}
 use Rattle.kilim_code_facts.proofs.Rows.{if_cases}

@@ -18,9 +18,11 @@ use Rattle.kilim_program.specs.Keeps.{has_base, has_class, has_field, has_method
 use Rattle.kilim_program.specs.Lengths.{is_primitive}
 use Rattle.kilim_program.specs.Names.{class_from, line_of}
 use Rattle.kilim_program.specs.Program.{Program}
-use Rattle.kilim_class_world.specs.Code.{MemberRef, field_found, method_found}
+use Rattle.kilim_class_world.specs.Code.{field_found, method_found}
+use Rattle.kilim_class_world.specs.declared.fault.MemberOf.{MemberOf as MemberRef}
 use Rattle.kilim_class_world.specs.Types.{base_in, class_named_by, named_by, type_in, typed}
-use Rattle.kilim_class_world.specs.World.{ClassView, World, class_of, field_id, field_in, fields_at, find_field, find_method, first_field, first_found, first_method, is_field, is_method, method_in, methods_at, or_else, view_at}
+use Rattle.kilim_class_world.specs.World.{World, class_of, field_id, field_in, fields_at, find_field, find_method, first_field, first_found, first_method, is_field, is_method, method_in, methods_at, or_else, view_at}
+use Rattle.kilim_class_world.specs.declared.view.ClassView.{ClassView}
 use Rattle.kilim_code_facts.proofs.Counts.{Counts, count_fields, count_methods, position_within, sum_within}
 use Rattle.kilim_code_facts.proofs.Lists.{some_is, none_is_some}
 use Rattle.kilim_code_facts.proofs.Rows.{if_cases, mapped}

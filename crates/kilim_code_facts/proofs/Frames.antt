@@ -18,7 +18,8 @@ use Rattle.kilim_program.specs.declared.verified.VType.{VType}
 use Rattle.kilim_program.specs.BuiltIn.{built_in_methods_in}
 use Rattle.kilim_program.specs.Lengths.{places_increase}
 use Rattle.kilim_class_world.specs.Laws.{LinkedInParts}
-use Rattle.kilim_class_world.specs.Linked.{Body, no_body, body_in, code_attribute, linked_method}
+use Rattle.kilim_class_world.specs.Linked.{no_body, body_in, code_attribute, linked_method}
+use Rattle.kilim_class_world.specs.declared.named.Body.{Body}
 use Rattle.kilim_class_world.specs.Frames.{frames_from, entries_of, placed_frame, place_after, delta_of, frame_of, entry_locals, tables_in}
 use Rattle.kilim_class_world.specs.Types.{each_of, itself}
 use Rattle.kilim_class_world.specs.World.{World, world_of, declared_method}

@@ -14,11 +14,13 @@ use Rattle.kilim_program.specs.declared.names.ClassId.{ClassId}
 use Rattle.kilim_program.specs.declared.verified.Frame.{Frame}
 use Rattle.kilim_program.specs.declared.verified.VType.{VType}
 use Rattle.kilim_program.specs.declared.verified.VType.TheVariants.{Top, Int, Long, Null, UninitThis, Uninit, Object}
-use Rattle.kilim_class_world.specs.Frames.{Entries, slot_in, slot_of_type, receiver_entry, entry_locals, entries_of, delta_of, place_after, frame_of, frame_with, frames_from, frames_in, tables_in}
+use Rattle.kilim_class_world.specs.Frames.{slot_in, slot_of_type, receiver_entry, entry_locals, entries_of, delta_of, place_after, frame_of, frame_with, frames_from, frames_in, tables_in}
+use Rattle.kilim_class_world.specs.declared.named.Entries.{Entries}
 use Rattle.kilim_class_world.specs.Mentions.{mentions_of_slot}
 use Rattle.kilim_class_world.specs.Qualified.{is_constructor_name, params_of}
 use Rattle.kilim_class_world.specs.Types.{each_of, itself, named_by, type_named, type_in, method_text}
-use Rattle.kilim_class_world.specs.World.{World, DeclaredMethod, class_text}
+use Rattle.kilim_class_world.specs.World.{World, class_text}
+use Rattle.kilim_class_world.specs.declared.view.DeclaredMethod.{DeclaredMethod}
 use Rattle.kilim_code_facts.proofs.Good.{Good}
 use Rattle.kilim_code_facts.proofs.Lists.{all_map}
 use Rattle.kilim_code_facts.proofs.Mentions.{FrameMentions}

@@ -10,7 +10,8 @@ use Rattle.kilim_program.specs.declared.names.ClassId.{ClassId}
 use Rattle.kilim_class_world.specs.declared.fault.Problem.TheVariants as problem
 use Rattle.kilim_class_world.specs.Faults.{class_missing, descriptor_broken, has_float, is_fiber, is_float_base, is_float_mention, is_missing, no_descriptors}
 use Rattle.kilim_class_world.specs.Laws.{NoProblem}
-use Rattle.kilim_class_world.specs.Mentions.{Mention, mentions_of, names_mentioned, types_mentioned, class_names, all_types}
+use Rattle.kilim_class_world.specs.Mentions.{mentions_of, names_mentioned, types_mentioned, class_names, all_types}
+use Rattle.kilim_class_world.specs.declared.named.Mention.{Mention}
 use Rattle.kilim_class_world.specs.Qualified.{has_fiber}
 use Rattle.kilim_class_world.specs.World.{World, class_of, own_name}
 use Rattle.kilim_code_facts.proofs.LeftOut.{NothingLeftOut, nothing_left_out}

@@ -18,8 +18,10 @@ use Rattle.kilim_program.specs.Keeps.{class_ids_there, has_class, has_field, has
 use Rattle.kilim_program.specs.Program.{Program}
 use Rattle.kilim_class_world.specs.Code.{decoded}
 use Rattle.kilim_class_world.specs.Laws.{LinkedInParts, Parts}
-use Rattle.kilim_class_world.specs.Linked.{Body, body_in, code_attribute, linked_class, linked_field, linked_method, no_body}
-use Rattle.kilim_class_world.specs.Mentions.{OfField, mentions_of, types_mentioned}
+use Rattle.kilim_class_world.specs.Linked.{body_in, code_attribute, linked_class, linked_field, linked_method, no_body}
+use Rattle.kilim_class_world.specs.declared.named.Body.{Body}
+use Rattle.kilim_class_world.specs.Mentions.{mentions_of, types_mentioned}
+use Rattle.kilim_class_world.specs.declared.named.Mention.TheVariants.{OfField}
 use Rattle.kilim_class_world.specs.World.{World, class_of, declared_field, declared_method, field_id, first_field, first_method, member_descriptor, super_name, view_of_file, world_of}
 use Rattle.kilim_code_facts.proofs.BuiltInIds.{built_in_classes_there, built_in_owned, built_in_typed, class_count, class_total, method_count, method_total}
 use Rattle.kilim_code_facts.proofs.Counts.{Counts, ViewAt, count_fields, count_methods, counts, sum_within, views_there, within}

@@ -17,8 +17,11 @@ use Rattle.kilim_program.specs.declared.instr.Instr.{Instr}
 use Rattle.kilim_program.specs.declared.instr.Instr.TheVariants.{Bipush, Sipush, Iinc, Tableswitch, Lookupswitch, Newarray, New}
 use Rattle.kilim_program.specs.declared.names.ClassId.{ClassId}
 use Rattle.kilim_program.specs.Lengths.{has_length, is_far, is_iinc_length, is_jump_length, is_loaded, is_local_length, is_primitive, is_table, matches_increase}
-use Rattle.kilim_class_world.specs.Code.{instr_in, instr_with, typed_instr, applied, row, place_of, pair_in, plain_instrs, local_instrs, jump_instrs, field_instrs, method_instrs, type_instrs, constant_instrs, array_codes, Operand, AConstant, AField, AMethod, AType, operand_at, field_found, method_found}
-use Rattle.kilim_class_world.specs.Types.{Named, each_of, type_named, class_named_by}
+use Rattle.kilim_class_world.specs.Code.{instr_in, instr_with, typed_instr, applied, row, place_of, pair_in, plain_instrs, local_instrs, jump_instrs, field_instrs, method_instrs, type_instrs, constant_instrs, array_codes, operand_at, field_found, method_found}
+use Rattle.kilim_class_world.specs.declared.named.Operand.{Operand}
+use Rattle.kilim_class_world.specs.declared.named.Operand.TheVariants.{AConstant, AField, AMethod, AType}
+use Rattle.kilim_class_world.specs.Types.{each_of, type_named, class_named_by}
+use Rattle.kilim_class_world.specs.declared.named.Named.{Named}
 use Rattle.kilim_class_world.specs.World.{World}
 use Rattle.kilim_code_facts.proofs.Loaded.{IsLoaded, operand_loaded}
 use Rattle.kilim_code_facts.proofs.Lists.{some_is, none_is_some, all_map, first_and, each_of_all, each_of_length}

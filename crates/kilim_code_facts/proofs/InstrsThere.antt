@@ -17,11 +17,17 @@ use Rattle.kilim_opcodes.specs.Table.{rows, form_of}
 use Rattle.kilim_program.specs.declared.instr.Instr.TheVariants.{Bipush, Sipush, Iinc, New}
 use Rattle.kilim_program.specs.declared.value.Value.{Value}
 use Rattle.kilim_program.specs.declared.names.ClassId.{ClassId}
-use Rattle.kilim_class_world.specs.Code.{instr_in, instr_with, applied, row, place_of, pair_in, plain_instrs, local_instrs, jump_instrs, field_instrs, method_instrs, type_instrs, constant_instrs, array_codes, Operand, AConstant, AField, AMethod, AType, MemberRef, index_operand, index_in, operand_at, field_found, method_found, constant_ref, field_ref, method_ref, any_method_ref, class_ref, unless_array}
+use Rattle.kilim_class_world.specs.Code.{instr_in, instr_with, applied, row, place_of, pair_in, plain_instrs, local_instrs, jump_instrs, field_instrs, method_instrs, type_instrs, constant_instrs, array_codes, index_operand, index_in, operand_at, field_found, method_found, constant_ref, field_ref, method_ref, any_method_ref, class_ref, unless_array}
+use Rattle.kilim_class_world.specs.declared.named.Operand.{Operand}
+use Rattle.kilim_class_world.specs.declared.named.Operand.TheVariants.{AConstant, AField, AMethod, AType}
+use Rattle.kilim_class_world.specs.declared.fault.MemberOf.{MemberOf as MemberRef}
 use Rattle.kilim_class_world.specs.Faults.{is_fiber, bad_index, bad_operand, is_no_member, owner_lacks, class_lacks}
-use Rattle.kilim_class_world.specs.Mentions.{OfClass, mentions_of_operand, members_of_operand, operand_of}
+use Rattle.kilim_class_world.specs.Mentions.{mentions_of_operand, members_of_operand, operand_of}
+use Rattle.kilim_class_world.specs.declared.named.Mention.TheVariants.{OfClass}
 use Rattle.kilim_class_world.specs.Qualified.{has_fiber}
-use Rattle.kilim_class_world.specs.Types.{Named, AClass, AnArray, Malformed, named_by, each_of, type_named, class_named_by}
+use Rattle.kilim_class_world.specs.Types.{named_by, each_of, type_named, class_named_by}
+use Rattle.kilim_class_world.specs.declared.named.Named.{Named}
+use Rattle.kilim_class_world.specs.declared.named.Named.TheVariants.{AClass, AnArray, Malformed}
 use Rattle.kilim_class_world.specs.World.{World, find_field, find_method, class_of}
 use Rattle.kilim_code_facts.proofs.Forms.{HasItsForm}
 use Rattle.kilim_code_facts.proofs.Good.{Good}

@@ -14,7 +14,8 @@ use Rattle.kilim_program.specs.declared.verified.Frame.{Frame}
 use Rattle.kilim_program.specs.Names.{◌>>=◌}
 use Rattle.kilim_class_world.specs.Code.{decoded, code_of}
 use Rattle.kilim_class_world.specs.Frames.{frames_in}
-use Rattle.kilim_class_world.specs.Linked.{Body, body_in, body_with, code_attribute, field_with, linked_field, linked_method, method_with}
+use Rattle.kilim_class_world.specs.Linked.{body_in, body_with, code_attribute, field_with, linked_field, linked_method, method_with}
+use Rattle.kilim_class_world.specs.declared.named.Body.{Body}
 use Rattle.kilim_class_world.specs.Types.{field_text, method_text, type_in, types_in, result_in}
 use Rattle.kilim_class_world.specs.World.{World, declared_method, member_descriptor}
 use Rattle.kilim_code_facts.proofs.Lists.{some_is, none_is_some}

@@ -7,8 +7,10 @@ use Rattle.kilim_bytecode.specs.Code.{Placed}
 use Rattle.kilim_classfile.specs.declared.class_file.ClassFile.{ClassFile}
 use Rattle.kilim_classfile.specs.declared.class_file.MemberInfo.{MemberInfo}
 use Rattle.kilim_class_world.specs.Linked.{code_attribute}
-use Rattle.kilim_class_world.specs.Mentions.{Mention, OfClass, OfField, OfMethod, mentions_of, mentions_of_method, mentions_of_instr, mentions_of_slot, instrs_of, frames_if, slots_of_frame, this_slots}
-use Rattle.kilim_class_world.specs.Types.{AClass}
+use Rattle.kilim_class_world.specs.Mentions.{mentions_of, mentions_of_method, mentions_of_instr, mentions_of_slot, instrs_of, frames_if, slots_of_frame, this_slots}
+use Rattle.kilim_class_world.specs.declared.named.Mention.{Mention}
+use Rattle.kilim_class_world.specs.declared.named.Mention.TheVariants.{OfClass, OfField, OfMethod}
+use Rattle.kilim_class_world.specs.declared.named.Named.TheVariants.{AClass}
 use Rattle.kilim_class_world.specs.World.{super_name, interface_names, member_descriptor}
 use Rattle.kilim_code_facts.proofs.Lists.{all_map}
 use Rattle.kilim_code_facts.proofs.Nothing.{all_front, all_rest, all_mapped, all_flat}

@@ -26,7 +26,8 @@ use Rattle.kilim_class_world.specs.Faults.{no_descriptors, is_no_method, descrip
 use Rattle.kilim_class_world.specs.declared.fault.Problem.TheVariants as problem
 use Rattle.kilim_class_world.specs.Laws.{LinkedInParts, NoProblem, NoneHasAProblem, NoneOfEachKind}
 use Rattle.kilim_class_world.specs.Linked.{linked_method, method_with}
-use Rattle.kilim_class_world.specs.Mentions.{Mention, mentions_of, this_slots}
+use Rattle.kilim_class_world.specs.Mentions.{mentions_of, this_slots}
+use Rattle.kilim_class_world.specs.declared.named.Mention.{Mention}
 use Rattle.kilim_class_world.specs.Qualified.{qualified, params_by, behind_first, params_of, is_constructor_name}
 use Rattle.kilim_class_world.specs.Types.{method_text, type_in, types_in, base_in, typed, each_of}
 use Rattle.kilim_class_world.specs.World.{World, world_of, declared_method, member_descriptor, member_name, parameter_types}

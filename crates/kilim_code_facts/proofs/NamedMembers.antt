@@ -11,8 +11,11 @@ use Rattle.kilim_program.specs.declared.instr.Instr.{Instr}
 use Rattle.kilim_program.specs.declared.instr.Instr.TheVariants.{Bipush, Sipush, Iinc, Newarray, New}
 use Rattle.kilim_program.specs.Keeps.{members_there}
 use Rattle.kilim_program.specs.Program.{Program}
-use Rattle.kilim_class_world.specs.Code.{instr_in, instr_with, code_of, placed_in, applied, row, plain_instrs, local_instrs, jump_instrs, field_instrs, method_instrs, type_instrs, constant_instrs, array_codes, place_of, Operand, AConstant, AField, AMethod, AType, operand_at, field_found, method_found}
-use Rattle.kilim_class_world.specs.Types.{Named, type_named, class_named_by}
+use Rattle.kilim_class_world.specs.Code.{instr_in, instr_with, code_of, placed_in, applied, row, plain_instrs, local_instrs, jump_instrs, field_instrs, method_instrs, type_instrs, constant_instrs, array_codes, place_of, operand_at, field_found, method_found}
+use Rattle.kilim_class_world.specs.declared.named.Operand.{Operand}
+use Rattle.kilim_class_world.specs.declared.named.Operand.TheVariants.{AConstant, AField, AMethod, AType}
+use Rattle.kilim_class_world.specs.Types.{type_named, class_named_by}
+use Rattle.kilim_class_world.specs.declared.named.Named.{Named}
 use Rattle.kilim_class_world.specs.World.{World}
 use Rattle.kilim_code_facts.proofs.Codes.{placed_parts}
 use Rattle.kilim_code_facts.proofs.Counts.{Counts}

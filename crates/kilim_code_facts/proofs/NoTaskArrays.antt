@@ -26,7 +26,8 @@ use Rattle.kilim_program.specs.Program.{Program}
 use Rattle.kilim_class_world.specs.Faults.{has_task_array, is_task_name, is_task_base as is_task_text}
 use Rattle.kilim_class_world.specs.Laws.{LinkedInParts, NoProblem, NoneHasAProblem, NoneOfEachKind}
 use Rattle.kilim_class_world.specs.Linked.{linked_class, linked_field, linked_method}
-use Rattle.kilim_class_world.specs.Mentions.{OfField, all_types as file_types, mentions_of, types_mentioned}
+use Rattle.kilim_class_world.specs.Mentions.{all_types as file_types, mentions_of, types_mentioned}
+use Rattle.kilim_class_world.specs.declared.named.Mention.TheVariants.{OfField}
 use Rattle.kilim_class_world.specs.Types.{base_in, type_in, typed}
 use Rattle.kilim_class_world.specs.World.{World, class_of, world_of, member_descriptor}
 use Rattle.kilim_code_facts.proofs.Files.{each_without, each_file_map}

@@ -20,7 +20,8 @@ use Rattle.kilim_class_world.specs.declared.fault.Problem.TheVariants as problem
 use Rattle.kilim_class_world.specs.Faults.{declared_twice, if_so, is_given_before, is_open, is_open_class, may_extend, repeated_names, super_kind, link_faults}
 use Rattle.kilim_class_world.specs.Laws.{LinkedInParts, NoProblem, NoneHasAProblem, NoneOfEachKind, Parts}
 use Rattle.kilim_class_world.specs.Linked.{linked_class}
-use Rattle.kilim_class_world.specs.World.{ClassView, World, built_ins, class_of, own_name, super_name, view_at, view_of_built_in, view_of_file, world_of}
+use Rattle.kilim_class_world.specs.World.{World, built_ins, class_of, own_name, super_name, view_at, view_of_built_in, view_of_file, world_of}
+use Rattle.kilim_class_world.specs.declared.view.ClassView.{ClassView}
 use Rattle.kilim_code_facts.proofs.BuiltInIds.{class_total}
 use Rattle.kilim_code_facts.proofs.ClassNames.{shown_name}
 use Rattle.kilim_code_facts.proofs.Counts.{counts}

@@ -15,8 +15,11 @@ use Rattle.kilim_program.specs.declared.ty.Ty.{Ty}
 use Rattle.kilim_program.specs.Names.{◌>>=◌}
 use Rattle.kilim_class_world.specs.Faults.{code_broken, code_fault, code_faults, decoded_in, is_no_member, left_out_op, member_missing}
 use Rattle.kilim_class_world.specs.Laws.{NoProblem, NoneHasAProblem, NoneOfEachKind}
-use Rattle.kilim_class_world.specs.Linked.{Body, body_in, code_attribute, linked_class, linked_field, linked_method, method_with, field_with, members, numbered, program_of, program_with}
-use Rattle.kilim_class_world.specs.Mentions.{Member, OfField, this_slots, members_named, members_of_operand, operand_of, instrs_of}
+use Rattle.kilim_class_world.specs.Linked.{body_in, code_attribute, linked_class, linked_field, linked_method, method_with, field_with, members, numbered, program_of, program_with}
+use Rattle.kilim_class_world.specs.declared.named.Body.{Body}
+use Rattle.kilim_class_world.specs.Mentions.{this_slots, members_named, members_of_operand, operand_of, instrs_of}
+use Rattle.kilim_class_world.specs.declared.named.Member.{Member}
+use Rattle.kilim_class_world.specs.declared.named.Mention.TheVariants.{OfField}
 use Rattle.kilim_class_world.specs.Qualified.{params_of}
 use Rattle.kilim_class_world.specs.Types.{each_of, itself, field_text, method_text, type_in, types_in, result_in}
 use Rattle.kilim_class_world.specs.World.{World, world_of, class_of, super_name, member_descriptor}

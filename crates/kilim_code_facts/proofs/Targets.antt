@@ -14,8 +14,11 @@ use Rattle.kilim_program.specs.declared.instr.Instr.TheVariants.{Bipush, Sipush,
 use Rattle.kilim_program.specs.declared.names.ClassId.{ClassId}
 use Rattle.kilim_program.specs.Names.{is_empty}
 use Rattle.kilim_program.specs.Lengths.{jump_targets, ends_path}
-use Rattle.kilim_class_world.specs.Code.{instr_in, instr_with, applied, row, place_of, pair_in, plain_instrs, local_instrs, jump_instrs, field_instrs, method_instrs, type_instrs, constant_instrs, array_codes, Operand, AConstant, AField, AMethod, AType, operand_at, field_found, method_found}
-use Rattle.kilim_class_world.specs.Types.{Named, each_of, type_named, class_named_by}
+use Rattle.kilim_class_world.specs.Code.{instr_in, instr_with, applied, row, place_of, pair_in, plain_instrs, local_instrs, jump_instrs, field_instrs, method_instrs, type_instrs, constant_instrs, array_codes, operand_at, field_found, method_found}
+use Rattle.kilim_class_world.specs.declared.named.Operand.{Operand}
+use Rattle.kilim_class_world.specs.declared.named.Operand.TheVariants.{AConstant, AField, AMethod, AType}
+use Rattle.kilim_class_world.specs.Types.{each_of, type_named, class_named_by}
+use Rattle.kilim_class_world.specs.declared.named.Named.{Named}
 use Rattle.kilim_class_world.specs.World.{World}
 use Rattle.kilim_code_facts.proofs.Instrs.{has_number}
 use Rattle.kilim_code_facts.proofs.Tables.{either_way, lookup_parts, pair_parts, place_is, table_holds, table_parts, table_passes}

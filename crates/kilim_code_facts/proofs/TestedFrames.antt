@@ -20,11 +20,15 @@ use Rattle.kilim_program.specs.declared.verified.Frame.{Frame}
 use Rattle.kilim_program.specs.declared.verified.VType.{VType}
 use Rattle.kilim_program.specs.declared.verified.VType.TheVariants.{Top, Int, Long, Null, UninitThis, Uninit, Object}
 use Rattle.kilim_program.specs.Keeps.{types_of_slot, types_of_frame}
-use Rattle.kilim_class_world.specs.Frames.{Entries, slot_in, slot_of_type, slot_of_base, receiver_entry, entry_locals, entries_of, delta_of, place_after, placed_frame, frame_of, frame_with, local_slots, frames_from, frames_in, tables_in}
-use Rattle.kilim_class_world.specs.Mentions.{OfClass, mentions_of_slot}
+use Rattle.kilim_class_world.specs.Frames.{slot_in, slot_of_type, slot_of_base, receiver_entry, entry_locals, entries_of, delta_of, place_after, placed_frame, frame_of, frame_with, local_slots, frames_from, frames_in, tables_in}
+use Rattle.kilim_class_world.specs.declared.named.Entries.{Entries}
+use Rattle.kilim_class_world.specs.Mentions.{mentions_of_slot}
+use Rattle.kilim_class_world.specs.declared.named.Mention.TheVariants.{OfClass}
 use Rattle.kilim_class_world.specs.Qualified.{is_constructor_name, params_of}
-use Rattle.kilim_class_world.specs.Types.{Named, each_of, itself, named_by, type_named, type_in, typed, method_text}
-use Rattle.kilim_class_world.specs.World.{World, DeclaredMethod, class_text}
+use Rattle.kilim_class_world.specs.Types.{each_of, itself, named_by, type_named, type_in, typed, method_text}
+use Rattle.kilim_class_world.specs.declared.named.Named.{Named}
+use Rattle.kilim_class_world.specs.World.{World, class_text}
+use Rattle.kilim_class_world.specs.declared.view.DeclaredMethod.{DeclaredMethod}
 use Rattle.kilim_code_facts.proofs.FramesThere.{Slots, taken_there}
 use Rattle.kilim_code_facts.proofs.Tables.{applied_parts}
 use Rattle.kilim_code_facts.proofs.Lists.{some_is, none_is_some, first_and, all_map, each_of_all}

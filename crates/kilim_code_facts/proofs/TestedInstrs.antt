@@ -14,9 +14,12 @@ use Rattle.kilim_program.specs.declared.ty.Ty.{Ty}
 use Rattle.kilim_program.specs.Keeps.{array_of, types_of_instr}
 use Rattle.kilim_program.specs.Lengths.{is_primitive}
 use Rattle.kilim_program.specs.Names.{is_empty}
-use Rattle.kilim_class_world.specs.Code.{instr_in, instr_with, applied, row, place_of, plain_instrs, local_instrs, jump_instrs, field_instrs, method_instrs, type_instrs, constant_instrs, array_codes, Operand, AConstant, AField, AMethod, AType, operand_at, field_found, method_found}
+use Rattle.kilim_class_world.specs.Code.{instr_in, instr_with, applied, row, place_of, plain_instrs, local_instrs, jump_instrs, field_instrs, method_instrs, type_instrs, constant_instrs, array_codes, operand_at, field_found, method_found}
+use Rattle.kilim_class_world.specs.declared.named.Operand.{Operand}
+use Rattle.kilim_class_world.specs.declared.named.Operand.TheVariants.{AConstant, AField, AMethod, AType}
 use Rattle.kilim_class_world.specs.Mentions.{mentions_of_operand, mentions_of_instr}
-use Rattle.kilim_class_world.specs.Types.{Named, type_named, class_named_by, typed}
+use Rattle.kilim_class_world.specs.Types.{type_named, class_named_by, typed}
+use Rattle.kilim_class_world.specs.declared.named.Named.{Named}
 use Rattle.kilim_class_world.specs.World.{World}
 use Rattle.kilim_code_facts.proofs.Tables.{table_holds, table_passes, table_parts, lookup_parts}
 use Rattle.kilim_code_facts.proofs.Lists.{some_is, none_is_some}

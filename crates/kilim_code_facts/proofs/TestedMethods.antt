@@ -18,8 +18,10 @@ use Rattle.kilim_program.specs.declared.ty.Ty.{Ty}
 use Rattle.kilim_program.specs.declared.verified.Frame.{Frame}
 use Rattle.kilim_program.specs.Keeps.{types_of_frame, types_of_instr, types_of_method}
 use Rattle.kilim_class_world.specs.Code.{decoded, code_of, placed_in}
-use Rattle.kilim_class_world.specs.Linked.{Body, body_in, no_body, code_attribute, linked_field, linked_method}
-use Rattle.kilim_class_world.specs.Mentions.{OfField, instrs_in, instrs_if, frames_if}
+use Rattle.kilim_class_world.specs.Linked.{body_in, no_body, code_attribute, linked_field, linked_method}
+use Rattle.kilim_class_world.specs.declared.named.Body.{Body}
+use Rattle.kilim_class_world.specs.Mentions.{instrs_in, instrs_if, frames_if}
+use Rattle.kilim_class_world.specs.declared.named.Mention.TheVariants.{OfField}
 use Rattle.kilim_class_world.specs.Qualified.{params_of}
 use Rattle.kilim_class_world.specs.Types.{method_text, result_types, typed, types_of_field, types_of_method as types_of_text}
 use Rattle.kilim_class_world.specs.World.{World, declared_method, member_descriptor}

@@ -11,8 +11,12 @@ use Rattle.kilim_program.specs.declared.ty.Base.TheVariants as base
 use Rattle.kilim_program.specs.declared.ty.Ty.{Ty}
 use Rattle.kilim_program.specs.Keeps.{array_of}
 use Rattle.kilim_program.specs.Lengths.{is_primitive}
-use Rattle.kilim_class_world.specs.Mentions.{Mention, OfClass, OfElement, types_mentioned}
-use Rattle.kilim_class_world.specs.Types.{Named, AClass, AnArray, Malformed, base_in, type_in, type_named, class_named_by, result_in, result_types, typed, each_of}
+use Rattle.kilim_class_world.specs.Mentions.{types_mentioned}
+use Rattle.kilim_class_world.specs.declared.named.Mention.{Mention}
+use Rattle.kilim_class_world.specs.declared.named.Mention.TheVariants.{OfClass, OfElement}
+use Rattle.kilim_class_world.specs.Types.{base_in, type_in, type_named, class_named_by, result_in, result_types, typed, each_of}
+use Rattle.kilim_class_world.specs.declared.named.Named.{Named}
+use Rattle.kilim_class_world.specs.declared.named.Named.TheVariants.{AClass, AnArray, Malformed}
 use Rattle.kilim_class_world.specs.World.{World, class_of}
 use Rattle.kilim_code_facts.proofs.Lists.{some_is, none_is_some, all_map, each_of_all}
 use Rattle.kilim_code_facts.proofs.Rows.{mapped}

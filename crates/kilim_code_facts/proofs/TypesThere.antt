@@ -9,8 +9,12 @@ use Rattle.kilim_descriptors.specs.declared.types.FieldText.{FieldText}
 use Rattle.kilim_descriptors.specs.declared.types.MethodText.{MethodText}
 use Rattle.kilim_program.specs.declared.ty.Base.TheVariants as base
 use Rattle.kilim_class_world.specs.Faults.{is_float_base, is_no_method}
-use Rattle.kilim_class_world.specs.Mentions.{Mention, OfClass, OfElement, OfField, OfMethod, plain_names, types_mentioned}
-use Rattle.kilim_class_world.specs.Types.{Named, AClass, AnArray, Malformed, field_text, method_text, base_in, type_in, types_in, result_in, type_named, typed, type_names, base_names, types_of_field, types_of_method, result_types}
+use Rattle.kilim_class_world.specs.Mentions.{plain_names, types_mentioned}
+use Rattle.kilim_class_world.specs.declared.named.Mention.{Mention}
+use Rattle.kilim_class_world.specs.declared.named.Mention.TheVariants.{OfClass, OfElement, OfField, OfMethod}
+use Rattle.kilim_class_world.specs.Types.{field_text, method_text, base_in, type_in, types_in, result_in, type_named, typed, type_names, base_names, types_of_field, types_of_method, result_types}
+use Rattle.kilim_class_world.specs.declared.named.Named.{Named}
+use Rattle.kilim_class_world.specs.declared.named.Named.TheVariants.{AClass, AnArray, Malformed}
 use Rattle.kilim_class_world.specs.World.{World}
 use Rattle.kilim_code_facts.proofs.Good.{Good, NameIsGood, NoFloat}
 use Rattle.kilim_code_facts.proofs.Nothing.{all_front, all_rest}

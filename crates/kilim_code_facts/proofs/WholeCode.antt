@@ -23,7 +23,8 @@ use Rattle.kilim_program.specs.Keeps.{code_is_whole}
 use Rattle.kilim_program.specs.Lengths.{code_stands, targets_stand, code_ends}
 use Rattle.kilim_class_world.specs.Code.{decoded, code_of, placed_in}
 use Rattle.kilim_class_world.specs.Laws.{LinkedInParts}
-use Rattle.kilim_class_world.specs.Linked.{Body, body_in, no_body, code_attribute, linked_method}
+use Rattle.kilim_class_world.specs.Linked.{body_in, no_body, code_attribute, linked_method}
+use Rattle.kilim_class_world.specs.declared.named.Body.{Body}
 use Rattle.kilim_class_world.specs.Types.{each_of}
 use Rattle.kilim_class_world.specs.World.{World, world_of}
 use Rattle.kilim_code_facts.proofs.Bytes.{CodeIsBytes, codes_are_bytes}

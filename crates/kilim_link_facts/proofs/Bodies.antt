@@ -28,8 +28,10 @@ use Rattle.kilim_class_world.specs.Code.{code_of, decoded}
 use Rattle.kilim_class_world.specs.Faults.{abstract_left, is_left_here}
 use Rattle.kilim_class_world.specs.Frames.{frames_in}
 use Rattle.kilim_class_world.specs.Laws.{LinkedInParts, NoProblem, NoneHasAProblem, NoneOfEachKind}
-use Rattle.kilim_class_world.specs.Linked.{Body, body_in, body_with, code_attribute, code_in, first_of, linked_method, no_body, program_with}
-use Rattle.kilim_class_world.specs.World.{DeclaredMethod, World, acc_abstract, acc_native, declared_method, declared_methods, has_flag, methods_at, view_of_file, world_of}
+use Rattle.kilim_class_world.specs.Linked.{body_in, body_with, code_attribute, code_in, first_of, linked_method, no_body, program_with}
+use Rattle.kilim_class_world.specs.declared.named.Body.{Body}
+use Rattle.kilim_class_world.specs.World.{World, acc_abstract, acc_native, declared_method, declared_methods, has_flag, methods_at, view_of_file, world_of}
+use Rattle.kilim_class_world.specs.declared.view.DeclaredMethod.{DeclaredMethod}
 use Rattle.kilim_link_facts.specs.Facts.{BuiltInIsLast}
 use Rattle.kilim_link_facts.proofs.Flags.{bodiless_is_abstract}
 use Rattle.kilim_link_facts.proofs.LeftOut.{nothing_left_out}

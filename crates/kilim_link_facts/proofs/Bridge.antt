@@ -15,7 +15,8 @@ use Rattle.kilim_program.specs.Kinds.{is_marked, is_message}
 use Rattle.kilim_program.specs.Names.{◌>>=◌}
 use Rattle.kilim_class_world.specs.Laws.{LinkedInParts, NoneHasAProblem, NoneOfEachKind}
 use Rattle.kilim_class_world.specs.Linked.{linked_class, program_with}
-use Rattle.kilim_class_world.specs.World.{ClassView, World, acc_abstract, built_ins, class_of, field_id, first_field, first_method, has_flag, is_message_by, number_of, outline_with, outlined, own_name, super_name, view_of_built_in, view_of_file, world_of}
+use Rattle.kilim_class_world.specs.World.{World, acc_abstract, built_ins, class_of, field_id, first_field, first_method, has_flag, is_message_by, number_of, outline_with, outlined, own_name, super_name, view_of_built_in, view_of_file, world_of}
+use Rattle.kilim_class_world.specs.declared.view.ClassView.{ClassView}
 use Rattle.kilim_link_facts.specs.Bridge.{Agree, BaredAgrees, OutlineAgrees, OutlineIsBared, bare, bared}
 use Rattle.kilim_link_facts.proofs.Linking.{Linking, linking}
 use Rattle.kilim_link_facts.proofs.Lists.{get_left, get_map, get_right, get_there, mapped_at, none_is_some, same_by_places, some_same}

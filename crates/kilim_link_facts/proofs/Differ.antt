@@ -16,7 +16,8 @@ use Rattle.kilim_program.specs.Same.{all_differ, same_field, same_method, same_r
 use Rattle.kilim_class_world.specs.Faults.{declared_twice, repeated, repeated_names, same_member}
 use Rattle.kilim_class_world.specs.Laws.{LinkedInParts, NoProblem, NoneHasAProblem, NoneOfEachKind}
 use Rattle.kilim_class_world.specs.Linked.{linked_field, linked_method, program_with}
-use Rattle.kilim_class_world.specs.World.{ClassView, World, is_message_by, member_descriptor, member_name, outline_with, world_of}
+use Rattle.kilim_class_world.specs.World.{World, is_message_by, member_descriptor, member_name, outline_with, world_of}
+use Rattle.kilim_class_world.specs.declared.view.ClassView.{ClassView}
 use Rattle.kilim_link_facts.specs.Bridge.{bare}
 use Rattle.kilim_link_facts.specs.Facts.{NamesDiffer}
 use Rattle.kilim_link_facts.proofs.Bridge as bridge

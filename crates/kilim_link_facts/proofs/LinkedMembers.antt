@@ -9,7 +9,8 @@ use Rattle.kilim_program.specs.declared.class.Method.{Method}
 use Rattle.kilim_program.specs.declared.names.ClassId.{ClassId}
 use Rattle.kilim_program.specs.declared.ty.Ty.{Ty}
 use Rattle.kilim_program.specs.Names.{◌>>=◌}
-use Rattle.kilim_class_world.specs.Linked.{Body, body_in, code_attribute, field_with, linked_field, linked_method, method_with}
+use Rattle.kilim_class_world.specs.Linked.{body_in, code_attribute, field_with, linked_field, linked_method, method_with}
+use Rattle.kilim_class_world.specs.declared.named.Body.{Body}
 use Rattle.kilim_class_world.specs.Types.{field_text, method_text, result_in, type_in, types_in}
 use Rattle.kilim_class_world.specs.World.{World, member_descriptor}
 use Rattle.kilim_link_facts.proofs.Lists.{none_is_some, some_same}

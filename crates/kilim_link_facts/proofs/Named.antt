@@ -7,7 +7,8 @@ use Rattle.kilim_program.specs.declared.class.Class.{Class}
 use Rattle.kilim_program.specs.declared.names.ClassId.{ClassId}
 use Rattle.kilim_program.specs.BuiltIn.{class_id}
 use Rattle.kilim_program.specs.Names.{◌>>=◌, class_from}
-use Rattle.kilim_class_world.specs.World.{ClassView, number_of, outlined}
+use Rattle.kilim_class_world.specs.World.{number_of, outlined}
+use Rattle.kilim_class_world.specs.declared.view.ClassView.{ClassView}
 use Rattle.kilim_link_facts.proofs.Lists.{some_same, none_is_some}
 
 -- ---- texts

@@ -18,7 +18,9 @@ use Rattle.kilim_program.specs.Names.{class_at, first_that, line_of, method_at, 
 use Rattle.kilim_program.specs.Same.{answers, same_base, same_result, same_signature, same_type, same_types, selected}
 use Rattle.kilim_class_world.specs.Faults.{is_left_above, left_above}
 use Rattle.kilim_class_world.specs.Linked.{program_with}
-use Rattle.kilim_class_world.specs.World.{ClassView, DeclaredMethod, World, declared_methods, is_message_by, is_method, methods_at, outline_with, world_of}
+use Rattle.kilim_class_world.specs.World.{World, declared_methods, is_message_by, is_method, methods_at, outline_with, world_of}
+use Rattle.kilim_class_world.specs.declared.view.ClassView.{ClassView}
+use Rattle.kilim_class_world.specs.declared.view.DeclaredMethod.{DeclaredMethod}
 use Rattle.kilim_link_facts.specs.Bridge.{bare}
 use Rattle.kilim_link_facts.proofs.Bridge as bridge
 use Rattle.kilim_link_facts.proofs.Bridge.{LinkedClass}

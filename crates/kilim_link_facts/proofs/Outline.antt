@@ -12,7 +12,8 @@ use Rattle.kilim_program.specs.Program.{Program}
 use Rattle.kilim_program.specs.BuiltIn.{built_in_classes_in, class_id}
 use Rattle.kilim_program.specs.Kinds.{is_marked}
 use Rattle.kilim_program.specs.Names.{◌>>=◌, class_at, class_name, line_of, line_up_to}
-use Rattle.kilim_class_world.specs.World.{ClassView, World, built_ins, is_message_by, number_of, outline_with, outlined, view_of_built_in, view_of_file, world_of}
+use Rattle.kilim_class_world.specs.World.{World, built_ins, is_message_by, number_of, outline_with, outlined, view_of_built_in, view_of_file, world_of}
+use Rattle.kilim_class_world.specs.declared.view.ClassView.{ClassView}
 use Rattle.std.specs.List.{list_any}
 use Rattle.kilim_link_facts.specs.Bridge.{bare}
 use Rattle.kilim_link_facts.proofs.Linking.{Linking}

@@ -18,8 +18,10 @@ use Rattle.kilim_program.specs.Same.{is_constructor, same_flag, same_signature}
 use Rattle.kilim_class_world.specs.Faults.{agrees, differs_from, override_differs, overrides_badly, same_qualified}
 use Rattle.kilim_class_world.specs.Laws.{LinkedInParts, NoProblem, NoneHasAProblem, NoneOfEachKind}
 use Rattle.kilim_class_world.specs.Linked.{linked_method, program_with}
-use Rattle.kilim_class_world.specs.Qualified.{Qualified, is_constructor_name, qualified}
-use Rattle.kilim_class_world.specs.World.{DeclaredMethod, World, built_ins, declared_method, declared_methods, is_method, world_of}
+use Rattle.kilim_class_world.specs.Qualified.{is_constructor_name, qualified}
+use Rattle.kilim_class_world.specs.declared.named.Qualified.{Qualified}
+use Rattle.kilim_class_world.specs.World.{World, built_ins, declared_method, declared_methods, is_method, world_of}
+use Rattle.kilim_class_world.specs.declared.view.DeclaredMethod.{DeclaredMethod}
 use Rattle.kilim_link_facts.specs.Facts.{OverridingAgrees}
 use Rattle.kilim_link_facts.proofs.Bodies as bodies
 use Rattle.kilim_link_facts.proofs.Differ.{same_signature_is}

@@ -19,7 +19,8 @@ use Rattle.kilim_class_world.specs.Laws.{LinkedInParts, NoneHasAProblem, NoneOfE
 use Rattle.kilim_class_world.specs.Linked.{linked_class, program_with}
 use Rattle.kilim_class_world.specs.Mentions.{class_names}
 use Rattle.kilim_class_world.specs.Qualified.{has_fiber}
-use Rattle.kilim_class_world.specs.World.{ClassView, World, built_ins, class_of, is_message_by, outline_with, own_name, super_name, view_at, view_of_built_in, view_of_file, world_of}
+use Rattle.kilim_class_world.specs.World.{World, built_ins, class_of, is_message_by, outline_with, own_name, super_name, view_at, view_of_built_in, view_of_file, world_of}
+use Rattle.kilim_class_world.specs.declared.view.ClassView.{ClassView}
 use Rattle.kilim_link_facts.specs.Facts.{OwnClassesFit}
 use Rattle.kilim_link_facts.proofs.Bridge.{LinkedClass, linked_class_is}
 use Rattle.kilim_link_facts.proofs.Classes.{extends}

@@ -15,7 +15,8 @@ use Rattle.kilim_program.specs.Program.{Program}
 use Rattle.kilim_program.specs.BuiltIn.{built_in_classes_in, built_in_methods_in, class_id, method_id}
 use Rattle.kilim_program.specs.Names.{method_at}
 use Rattle.kilim_class_world.specs.Linked.{linked_method, program_with}
-use Rattle.kilim_class_world.specs.World.{DeclaredMethod, World, built_ins, declared_built_in, declared_method, declared_methods, first_method, methods_at, world_of}
+use Rattle.kilim_class_world.specs.World.{World, built_ins, declared_built_in, declared_method, declared_methods, first_method, methods_at, world_of}
+use Rattle.kilim_class_world.specs.declared.view.DeclaredMethod.{DeclaredMethod}
 use Rattle.kilim_link_facts.proofs.Bodies as bodies
 use Rattle.kilim_link_facts.proofs.Bridge.{LinkedClass}
 use Rattle.kilim_link_facts.proofs.LinkedMembers.{linked_method_is}

@@ -14,7 +14,8 @@ use Rattle.kilim_program.specs.declared.ty.Base.TheVariants as base
 use Rattle.kilim_program.specs.declared.ty.Ty.{Ty}
 use Rattle.kilim_program.specs.Same.{same_base, same_result, same_type, same_types}
 use Rattle.kilim_class_world.specs.Types.{base_in, each_of, field_text, method_text, result_in, type_in, typed, types_in}
-use Rattle.kilim_class_world.specs.World.{ClassView, World, class_of, world_of}
+use Rattle.kilim_class_world.specs.World.{World, class_of, world_of}
+use Rattle.kilim_class_world.specs.declared.view.ClassView.{ClassView}
 use Rattle.kilim_link_facts.proofs.Descriptors.{field_text_is, method_text_is}
 use Rattle.kilim_link_facts.proofs.Lists.{none_is_some, some_same}
 use Rattle.kilim_link_facts.proofs.Made.{first_of}

@@ -23,7 +23,8 @@ use Rattle.kilim_program.specs.Keeps.{has_base, has_type}
 use Rattle.kilim_program.specs.Names.{class_name}
 use Rattle.kilim_class_world.specs.Qualified.{qualified}
 use Rattle.kilim_class_world.specs.Types.{base_in, method_text, result_in, type_in, typed, types_in, with_first}
-use Rattle.kilim_class_world.specs.World.{DeclaredMethod, World, built_ins, class_of, declared_built_in, declared_method, method_descriptor, view_of_built_in, world_of}
+use Rattle.kilim_class_world.specs.World.{World, built_ins, class_of, declared_built_in, declared_method, method_descriptor, view_of_built_in, world_of}
+use Rattle.kilim_class_world.specs.declared.view.DeclaredMethod.{DeclaredMethod}
 use Rattle.kilim_link_facts.proofs.LinkedMembers.{LinkedMethod}
 use Rattle.kilim_link_facts.proofs.Linking.{Linking}
 use Rattle.kilim_link_facts.proofs.Lists.{all_at, get_there}

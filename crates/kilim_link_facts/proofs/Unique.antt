@@ -13,7 +13,8 @@ use Rattle.kilim_program.specs.BuiltIn.{built_in_classes_in, class_id}
 use Rattle.kilim_program.specs.Same.{all_differ}
 use Rattle.kilim_class_world.specs.Faults.{declared_twice, is_built_in_name}
 use Rattle.kilim_class_world.specs.Laws.{NoProblem}
-use Rattle.kilim_class_world.specs.World.{ClassView, World, built_ins, class_of, is_message_by, number_of, outline_with, own_name, view_of_built_in, view_of_file, world_of}
+use Rattle.kilim_class_world.specs.World.{World, built_ins, class_of, is_message_by, number_of, outline_with, own_name, view_of_built_in, view_of_file, world_of}
+use Rattle.kilim_class_world.specs.declared.view.ClassView.{ClassView}
 use Rattle.kilim_link_facts.proofs.Linking.{Linking, front_none, not_so}
 use Rattle.kilim_link_facts.proofs.Lists.{Left, Origin, Right, Side, differ_at, get_take, none_at, origin, side, some_same}
 use Rattle.kilim_link_facts.proofs.Named.{class_from_outlined, position, position_at, same_text, text_same, texts_back}
