@@ -35,4 +35,3 @@ mod FoundIds
 mod NamedMembers
 mod BuiltInIds
 mod IdsArePlaces
-mod OwnClasses

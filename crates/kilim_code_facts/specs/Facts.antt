@@ -8,7 +8,7 @@ use Rattle.kilim_class_world.specs.LinksWell.{LinksWell}
 use Rattle.kilim_class_world.specs.World.{world_of}
 use Rattle.kilim_program.specs.declared.class.Form.{Form}
 use Rattle.kilim_program.specs.declared.names.ClassId.{ClassId}
-use Rattle.kilim_program.specs.Keeps.{code_is_whole, constants_fit, ids_are_places, method_is_sound, no_task_arrays, own_classes_fit}
+use Rattle.kilim_program.specs.Keeps.{code_is_whole, constants_fit, ids_are_places, method_is_sound, no_task_arrays}
 use Rattle.kilim_program.specs.Lengths.{places_increase}
 use Rattle.kilim_program.specs.Names.{is_task}
 use Rattle.kilim_program.specs.Program.{Program}
@@ -40,7 +40,3 @@ NoTaskArrays = (files : List ClassFile) (form : Form) (p : Program) → LinksWel
 -- Each id is a place in its list.
 abbrev pub IdsArePlaces : Type 0
 IdsArePlaces = (files : List ClassFile) (form : Form) (p : Program) → LinksWell files form p → ids_are_places p ≡ true
-
--- No class of the files is the fiber, and each extends a class of the files, `java/lang/Object` or `kilim/Task`.
-abbrev pub OwnClassesFit : Type 0
-OwnClassesFit = (files : List ClassFile) (form : Form) (p : Program) → LinksWell files form p → own_classes_fit p ≡ true

@@ -1,6 +1,6 @@
 //! Laws about linked programs. No program calls them to do work.
 
-ghost use Rattle.kilim_code_facts.specs.Facts.{CodeIsWhole, ConstantsFit, FramesIncrease, IdsArePlaces, MethodsAreSound, NoFaultLinks, NoTaskArrays, OwnClassesFit};
+ghost use Rattle.kilim_code_facts.specs.Facts.{CodeIsWhole, ConstantsFit, FramesIncrease, IdsArePlaces, MethodsAreSound, NoFaultLinks, NoTaskArrays};
 
 use kilim_bytecode::targets_are_places;
 use kilim_class_world::{linked_in_parts, none_has_a_problem, none_of_each_kind};
@@ -64,13 +64,4 @@ pub fn ids_are_places()
     ensures { IdsArePlaces }
 {
     linked_in_parts();
-}
-
-/// A law, and no work: no class of the files is the fiber, and none extends a built-in class but Object and Task.
-pub fn own_classes_fit()
-    ensures { OwnClassesFit }
-{
-    linked_in_parts();
-    none_has_a_problem();
-    none_of_each_kind();
 }
