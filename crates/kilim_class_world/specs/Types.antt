@@ -4,6 +4,7 @@ use Rattle.kilim_descriptors.specs.declared.types.BaseText.{BaseText}
 use Rattle.kilim_descriptors.specs.declared.types.BaseText.TheVariants as text
 use Rattle.kilim_descriptors.specs.declared.types.FieldText.{FieldText}
 use Rattle.kilim_descriptors.specs.declared.types.MethodText.{MethodText}
+use Rattle.kilim_descriptors.specs.Exact.{spelled_by}
 use Rattle.kilim_descriptors.specs.Reading.{whole_field, whole_method}
 use Rattle.kilim_program.specs.declared.names.ClassId.{ClassId}
 use Rattle.kilim_program.specs.declared.ty.Base.{Base}
@@ -13,18 +14,13 @@ use Rattle.kilim_class_world.specs.World.{World, class_of}
 pub use Rattle.kilim_class_world.specs.declared.named.Named.{Named}
 pub use Rattle.kilim_class_world.specs.declared.named.Named.TheVariants.{AClass, AnArray, Malformed}
 
--- what a text reads as, if it is a descriptor
-abbrev pub read_as : {A : Type 0} → Result A ℕ → Option A
-read_as (Ok x) = Some x
-read_as (Err left) = None
-
 -- the type that the descriptor of a field is (JVMS 4.3.2)
 abbrev pub field_text : List ℕ → Option FieldText
-field_text units = read_as (whole_field units)
+field_text units = spelled_by (whole_field units)
 
 -- the types of the descriptor of a method (JVMS 4.3.3)
 abbrev pub method_text : List ℕ → Option MethodText
-method_text units = read_as (whole_method units)
+method_text units = spelled_by (whole_method units)
 
 -- ---- what a class entry names (JVMS 4.4.1)
 

@@ -1,5 +1,5 @@
 -- What is answered for a text.
-use Rattle.std.specs.Prelude.{◌≡◌, ℕ, ◌+◌, ◌<◌, ◌≤◌, List, ◌++◌, length, take, Result, Ok, Err}
+use Rattle.std.specs.Prelude.{◌≡◌, ℕ, ◌+◌, ◌<◌, ◌≤◌, List, ◌++◌, length, take, Option, Some, None, Result, Ok, Err}
 use Rattle.kilim_descriptors.specs.declared.types.FieldText.{FieldText}
 use Rattle.kilim_descriptors.specs.declared.types.MethodText.{MethodText}
 use Rattle.kilim_descriptors.specs.declared.fault.DescriptorFault.{DescriptorFault}
@@ -42,3 +42,8 @@ abbrev pub AtFirstPlace : {A : Type 0} → (A → List ℕ) → (A → Type 0) �
 AtFirstPlace text Fits units (Malformed at) = IsFirstPlace text Fits units at
 AtFirstPlace text Fits units (TooManySlots n) = Unit {0}
 AtFirstPlace text Fits units Memory = Unit {0}
+
+-- what a text reads as, if it is a descriptor
+abbrev pub spelled_by : {A : Type 0} → Result A ℕ → Option A
+spelled_by (Ok x) = Some x
+spelled_by (Err left) = None

@@ -4,13 +4,13 @@ ghost use Rattle.std.specs.Prelude.{◌≡◌, IfOk, IfErr, MatchResult};
 ghost use Rattle.kilim_descriptors.specs.declared.types.FieldText.{FieldText};
 ghost use Rattle.kilim_descriptors.specs.declared.fault.DescriptorFault.TheVariants.{Memory};
 ghost use Rattle.kilim_descriptors.specs.Text.{field_text, FieldFits};
-ghost use Rattle.kilim_descriptors.specs.Exact.{AtFirstPlace, FieldGives};
+ghost use Rattle.kilim_descriptors.specs.Exact.{AtFirstPlace, FieldGives, spelled_by};
 ghost use Rattle.std.specs.Option.{option_map};
 ghost use Rattle.kilim_descriptors.specs.Reading.{Gives, split_name, class_at, base_at, field_behind, field_at, whole_field, Dims};
 
 use crate::fault::{DescriptorFault, Stop};
 use crate::types::{BaseText, FieldText};
-use kilim_program::Units;
+use kilim_program::{NoMemory, Units};
 use std::alloc::Global;
 
 // A name up to the first semicolon, and the units behind that.
@@ -133,5 +133,16 @@ pub fn field(alloc: Global, text: &Units) -> Result<FieldText, DescriptorFault>
         Ok(found) => Ok(found),
         Err(Stop::Left(left)) => Err(DescriptorFault::Malformed(units.len() - left)),
         Err(Stop::Memory) => Err(DescriptorFault::Memory),
+    }
+}
+
+/// The type that a text spells as a field's descriptor; nothing where it spells none.
+pub fn any_field(alloc: Global, text: &Units) -> Result<Option<FieldText>, NoMemory>
+    ensures { IfOk result (λ f. f ≡ spelled_by (whole_field text.now)) }
+{
+    match whole_field(alloc, text.as_slice()) {
+        Ok(found) => Ok(Some(found)),
+        Err(Stop::Left(_)) => Ok(None),
+        Err(Stop::Memory) => Err(NoMemory),
     }
 }

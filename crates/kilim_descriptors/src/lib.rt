@@ -7,8 +7,8 @@ mod methods;
 mod types;
 
 pub use fault::DescriptorFault;
-pub use fields::field;
-pub use methods::method;
+pub use fields::{any_field, field};
+pub use methods::{any_method, argument_slots, method};
 pub use types::{BaseText, FieldText, MethodText};
 
 #[cfg(test)]

@@ -5,12 +5,12 @@ ghost use Rattle.kilim_descriptors.specs.declared.types.MethodText.{MethodText};
 ghost use Rattle.kilim_descriptors.specs.declared.fault.DescriptorFault.TheVariants.{Memory, TooManySlots};
 ghost use Rattle.kilim_descriptors.specs.Text.{method_text, MethodFits, is_wide, slots, slots_of};
 ghost use Rattle.kilim_descriptors.specs.Reading.{Gives, param_at, params_at, result_at, whole_method};
-ghost use Rattle.kilim_descriptors.specs.Exact.{AtFirstPlace, MethodGives};
+ghost use Rattle.kilim_descriptors.specs.Exact.{AtFirstPlace, MethodGives, spelled_by};
 
 use crate::fault::{DescriptorFault, Stop};
 use crate::fields::field_at;
 use crate::types::{BaseText, FieldText, MethodText};
-use kilim_program::{Seq, Units};
+use kilim_program::{NoMemory, Seq, Units};
 use std::alloc::Global;
 
 // The next parameter, or none at the closing parenthesis.
@@ -141,5 +141,26 @@ pub fn method(alloc: Global, text: &Units) -> Result<MethodText, DescriptorFault
         }
         Err(Stop::Left(left)) => Err(DescriptorFault::Malformed(units.len() - left)),
         Err(Stop::Memory) => Err(DescriptorFault::Memory),
+    }
+}
+
+/// The argument slots that the parameters of a method take (JVMS 4.3.3): a long and a double take two, `this` isn't
+/// counted.
+pub fn argument_slots(method: &MethodText) -> usize
+    requires { length method.now.params < 2 ^ 63 }
+    ensures { result ≡ slots_of method.now }
+{
+    slots_of(method.params.as_slice())
+}
+
+/// The types that a text spells as a method's descriptor, however many argument slots they take; nothing where it
+/// spells none.
+pub fn any_method(alloc: Global, text: &Units) -> Result<Option<MethodText>, NoMemory>
+    ensures { IfOk result (λ m. m ≡ spelled_by (whole_method text.now)) }
+{
+    match whole_method(alloc, text.as_slice()) {
+        Ok(found) => Ok(Some(found)),
+        Err(Stop::Left(_)) => Ok(None),
+        Err(Stop::Memory) => Err(NoMemory),
     }
 }

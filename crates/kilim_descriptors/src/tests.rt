@@ -249,3 +249,17 @@ fn parameters_take_at_most_255_slots(rt: HostRuntime) -> Result<(), Fail> {
     }
     Ok(())
 }
+
+#[test]
+fn descriptors_of_any_size_are_read(rt: HostRuntime) -> Result<(), Fail> {
+    let alloc = rt.alloc();
+    let many = repeated(alloc, b"(", 300, b"J", b")I")?;
+    match any_method(alloc, &many)? {
+        Some(found) => assert_eq!(rt; argument_slots(&found), 600),
+        None => assert!(rt; false),
+    }
+    assert!(rt; any_method(alloc, &text(alloc, b"(V)V")?)?.is_none());
+    assert!(rt; any_field(alloc, &text(alloc, b"[J")?)?.is_some());
+    assert!(rt; any_field(alloc, &text(alloc, b"[")?)?.is_none());
+    Ok(())
+}

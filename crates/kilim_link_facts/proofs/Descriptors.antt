@@ -9,7 +9,8 @@ use Rattle.kilim_descriptors.specs.declared.types.FieldText.{FieldText}
 use Rattle.kilim_descriptors.specs.declared.types.MethodText.{MethodText}
 use Rattle.kilim_descriptors.specs.Text.{base_text, result_text, field_text as text_of_field, method_text as text_of_method}
 use Rattle.kilim_descriptors.specs.Reading.{◌>>=◌, after_param, all_of, base_at, class_at, class_of, field_at, field_behind, in_dims, param_at, params_at, result_at, split_name, whole_field, whole_method, with_unit}
-use Rattle.kilim_class_world.specs.Types.{field_text, method_text, read_as}
+use Rattle.kilim_class_world.specs.Types.{field_text, method_text}
+use Rattle.kilim_descriptors.specs.Exact.{spelled_by}
 use Rattle.kilim_link_facts.proofs.Lists.{none_is_some, some_same}
 
 -- what was taken from the front is spelled there
@@ -175,7 +176,7 @@ whole_takes units = took_all text_of_field units (field_at units) (field_takes u
 
 -- ---- what is read
 
-read_by : {A : Type 0} (text : A → List ℕ) (units : List ℕ) (r : Result A ℕ) (x : A) → TookAll text units r → read_as r ≡ Some x → units ≡ text x
+read_by : {A : Type 0} (text : A → List ℕ) (units : List ℕ) (r : Result A ℕ) (x : A) → TookAll text units r → spelled_by r ≡ Some x → units ≡ text x
 read_by text units (Ok y) x h e = h ∙ ap text (some_same y x e)
 read_by text units (Err left) x h e = absurd (none_is_some x e)
 
