@@ -1,0 +1,4 @@
+mod Any
+mod Dimensions
+mod Found
+mod Keeping

@@ -1,0 +1,15 @@
+-- Lists put together in order, by appending each behind the last.
+use Rattle.std.proofs.Common.{◌≡◌, ℕ, ◌+◌, ◌<◌, List, [], ◌∷◌, ◌++◌, length, get_or, take, append_assoc, arith}
+use Rattle.std.specs.List.{flat_map}
+use Rattle.std.proofs.lemmas.Grind.{common_steps}
+
+pub three : {A : Type 0} (before : List A) (x : A) (xs ys : List A) → before ++ x ∷ [] ++ xs ++ ys ≡ before ++ (x ∷ (xs ++ ys))
+three before x xs ys = simp append_assoc
+
+pub four : {A : Type 0} (before : List A) (x : A) (xs ys zs : List A) → before ++ x ∷ [] ++ xs ++ ys ++ zs ≡ before ++ (x ∷ (xs ++ (ys ++ zs)))
+four before x xs ys zs = simp append_assoc
+
+-- a loop that appends a list for each element
+pub pushed : {X A : Type 0} (f : X → List A) (before now next : List A) (xs : List X) (i : ℕ) (x : X) → i < length xs → x ≡ get_or xs i x
+    → now ≡ before ++ flat_map f (take i xs) → next ≡ now ++ f x → next ≡ before ++ flat_map f (take (i + 1) xs)
+pushed f before now next xs i x lt is so_far step = grind (arith, common_steps)
