@@ -12,5 +12,5 @@ pub use laws::{
     faults_and_facts_agree, instructions_agree, linked_in_parts, none_has_a_problem, none_is_named,
     none_of_each_kind, one_program, programs_are_linked, relations_hold, searches_hold,
 };
-pub use view::{ClassView, DeclaredField, DeclaredMethod, Marks};
 pub use named::{Body, Entries, Member, Mention, Named, Operand, Qualified};
+pub use view::{ClassView, DeclaredField, DeclaredMethod, Marks};
