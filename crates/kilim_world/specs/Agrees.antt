@@ -1,0 +1,66 @@
+-- What a world keeps beside its classes, so that names are looked up in maps.
+use Rattle.std.specs.Prelude.{◌≡◌, ℕ, zero, suc, ◌+◌, ◌<◌, ◌^◌, Bool, List, [], ◌∷◌, ◌++◌, length, take, sum_by, slice_get, Option, Some, None}
+use Rattle.std.specs.List.{position_from}
+use Rattle.kilim_program.specs.declared.class.Form.{Form}
+use Rattle.kilim_program.specs.declared.names.ClassId.{ClassId}
+use Rattle.kilim_program.specs.BuiltIn.{class_id}
+use Rattle.kilim_program.specs.Names.{line_of}
+use Rattle.kilim_program.specs.Program.{Program}
+use Rattle.kilim_class_world.specs.World.{outline_of, methods_at, fields_at, is_method, is_field, first_found}
+use Rattle.kilim_class_world.specs.declared.view.ClassView.{ClassView}
+use Rattle.kilim_world.specs.declared.ids.Ids.{Ids}
+use Rattle.kilim_world.specs.declared.index.Index.{Index}
+use Rattle.kilim_world.specs.Ids.{id_in, named_in}
+use Rattle.kilim_world.specs.Index.{positions, places_from}
+
+-- what is made of each number below a bound, in order
+abbrev pub each_below : {A : Type 0} → (ℕ → A) → ℕ → List A
+each_below make zero = []
+each_below make (suc n) = each_below make n ++ make n ∷ []
+
+-- how many methods a class declares
+abbrev pub method_count : ClassView → ℕ
+method_count v = length v.methods
+
+-- how many fields
+abbrev pub field_count : ClassView → ℕ
+field_count v = length v.fields
+
+-- the line of each class
+abbrev pub lines_in : Program → ℕ → List (List ClassId)
+lines_in outline count = each_below (λ c. line_of outline (class_id c)) count
+
+-- the number of the first member of each class, and of one behind the last
+abbrev pub firsts_of : (ClassView → ℕ) → List ClassView → List ℕ
+firsts_of count classes = each_below (λ c. sum_by count (take c classes)) (length classes + 1)
+
+-- the places that an index has, none where there is no index
+abbrev pub places_at : Option Index → List ℕ → List ℕ → List ℕ
+places_at None name descriptor = []
+places_at (Some index) name descriptor = positions index.places name descriptor
+
+-- the places of a member in a class
+abbrev pub indexed : List Index → ℕ → List ℕ → List ℕ → List ℕ
+indexed indices c name descriptor = places_at (slice_get indices c) name descriptor
+
+-- a number behind a first one
+abbrev pub behind : Option ℕ → Option ℕ → Option ℕ
+behind (Some first) (Some place) = Some (first + place)
+behind _ _ = None
+
+-- the number of a member in a class
+abbrev pub number_in : List Index → List ℕ → List ℕ → List ℕ → ClassId → Option ℕ
+number_in indices firsts name descriptor c = behind (slice_get firsts c.0) (slice_get (indexed indices c.0 name descriptor) 0)
+
+-- Lines, names, and the places and first numbers of members agree with the classes, and all numbers fit.
+pub record Agrees (form : Form) (classes : List ClassView) (outline : Program) (ids : Ids) (lines : List (List ClassId)) (methods fields : List Index) (first_methods first_fields : List ℕ) : Type 0 where
+  pub outlined : outline ≡ outline_of form classes
+  pub named : (name : List ℕ) → id_in ids.places name ≡ named_in name classes
+  pub lined : lines ≡ lines_in outline (length classes)
+  pub methods_are : (c : ℕ) (name descriptor : List ℕ) → indexed methods c name descriptor ≡ places_from (is_method name descriptor) 0 (methods_at (slice_get classes c))
+  pub fields_are : (c : ℕ) (name descriptor : List ℕ) → indexed fields c name descriptor ≡ places_from (is_field name descriptor) 0 (fields_at (slice_get classes c))
+  pub first_methods_are : first_methods ≡ firsts_of method_count classes
+  pub first_fields_are : first_fields ≡ firsts_of field_count classes
+  pub classes_fit : length classes < 2 ^ 32
+  pub methods_fit : sum_by method_count classes < 2 ^ 32
+  pub fields_fit : sum_by field_count classes < 2 ^ 32

@@ -1,0 +1,4 @@
+pub mod Index
+pub mod Ids
+pub mod Agrees
+pub mod Outlining
