@@ -1,0 +1,5 @@
+pub mod Firsts
+pub mod Interfaces
+pub mod Lefts
+pub mod Shaped
+pub mod Slashes

@@ -1,0 +1,3 @@
+pub mod Lefts
+pub mod Shapes
+pub mod Slashes

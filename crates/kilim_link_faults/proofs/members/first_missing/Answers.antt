@@ -1,0 +1,10 @@
+use Rattle.kilim_class_world.specs.Faults.{is_no_member}
+use Rattle.kilim_class_world.specs.Linked.{first_of}
+use Rattle.std.proofs.Common.{filter}
+use Rattle.kilim_link_faults.proofs.Firsts.{found_at}
+use Rattle.kilim_link_faults.proofs.members.first_missing.Goals as goal
+
+pub returns-then-branch : goal.returns-then-branch
+returns-then-branch c =
+    found_at (is_no_member c.args.world.now) c.args.members.now c.loop-member.member-index c.member-item.result (first_of (filter (is_no_member c.args.world.now) c.args.members.now)) c.in_ok-is_no_member.field-0
+    c.loop-member-test.true c.member-item.is c.in_ok-is_no_member.ensures c.loop-member.invariant c.if-branch.true

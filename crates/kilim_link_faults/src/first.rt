@@ -1,0 +1,192 @@
+//! The first fault of all.
+
+ghost use Rattle.std.specs.Prelude.{◌≡◌, ◌++◌, ◌<◌, ◌≤◌, ◌^◌, IfOk, length};
+ghost use Rattle.kilim_class_world.specs.Faults.{problems_of, first_fault, faults_in, circular, member_missing};
+ghost use Rattle.kilim_class_world.specs.Linked.{first_of};
+ghost use Rattle.kilim_class_world.specs.Mentions.{mentions_of, class_names};
+ghost use Rattle.kilim_class_world.specs.World.{world_of};
+ghost use Rattle.kilim_link_faults.specs.Parts.{last_kinds, code_kinds, later_kinds};
+
+use crate::class::{both_kinds, circular, class_missing, super_kind};
+use crate::fields::field_kinds;
+use crate::members::member_missing;
+use crate::twice::declared_twice;
+use kilim_class_views::own_name;
+use kilim_class_world::{LinkFault, Mention, Problem};
+use kilim_classfile::ClassFile;
+use kilim_file_faults::{code_broken, descriptor_broken, left_out_problem, name_broken};
+use kilim_member_faults::{abstract_left, override_differs};
+use kilim_mentions::{class_names, members_named, mentions_of};
+use kilim_program::{ClassId, Form, NoMemory, Seq, Units};
+use kilim_world::World;
+use std::alloc::Global;
+
+#[tactic(auto, using(crate::proofs::Firsts::here, crate::proofs::Firsts::later))]
+fn last_kinds(
+    alloc: Global,
+    world: &World,
+    file: &ClassFile,
+    class: ClassId,
+) -> Result<Option<Problem>, NoMemory>
+    ensures { IfOk result (λ found. found ≡ first_of (last_kinds world.now file.now class)) }
+{
+    if let Some(problem) = super_kind(alloc, world, file, class)? {
+        return Ok(Some(problem));
+    }
+    if let Some(problem) = name_broken(file)? {
+        return Ok(Some(problem));
+    }
+    abstract_left(world, file, class)
+}
+
+#[tactic(auto, using(crate::proofs::Firsts::here, crate::proofs::Firsts::later))]
+fn code_kinds(
+    alloc: Global,
+    world: &World,
+    file: &ClassFile,
+    class: ClassId,
+    mentions: &[Mention],
+) -> Result<Option<Problem>, NoMemory>
+    requires { mentions.now ≡ mentions_of file.now }
+    ensures { IfOk result (λ found. found ≡ first_of (code_kinds world.now file.now class)) }
+{
+    if let Some(problem) = override_differs(alloc, world, file, class)? {
+        return Ok(Some(problem));
+    }
+    if let Some(problem) = code_broken(alloc, file)? {
+        return Ok(Some(problem));
+    }
+    if let Some(problem) = descriptor_broken(alloc, mentions, file)? {
+        return Ok(Some(problem));
+    }
+    last_kinds(alloc, world, file, class)
+}
+
+#[tactic(auto, using(crate::proofs::Firsts::here, crate::proofs::Firsts::later))]
+fn later_kinds(
+    alloc: Global,
+    world: &World,
+    file: &ClassFile,
+    class: ClassId,
+    mentions: &[Mention],
+    names: &[Units],
+) -> Result<Option<Problem>, NoMemory>
+    requires mentioned { mentions.now ≡ mentions_of file.now }
+    requires named { names.now ≡ class_names file.now }
+    ensures { IfOk result (λ found. found ≡ first_of (later_kinds world.now file.now class)) }
+{
+    if let Some(problem) = left_out_problem(alloc, world, file, mentions, names)? {
+        return Ok(Some(problem));
+    }
+    if let Some(problem) = both_kinds(world, file, class)? {
+        return Ok(Some(problem));
+    }
+    if let Some(problem) = field_kinds(alloc, world, file, class)? {
+        return Ok(Some(problem));
+    }
+    code_kinds(alloc, world, file, class, mentions)
+}
+
+// The kinds from its own ancestor on.
+#[tactic(auto, using(crate::proofs::Firsts::here, crate::proofs::Firsts::later))]
+fn from_circular(
+    alloc: Global,
+    world: &World,
+    file: &ClassFile,
+    class: ClassId,
+    mentions: &[Mention],
+    names: &[Units],
+) -> Result<Option<Problem>, NoMemory>
+    requires mentioned { mentions.now ≡ mentions_of file.now }
+    requires named { names.now ≡ class_names file.now }
+    ensures { IfOk result (λ found. found ≡ first_of (circular world.now file.now class ++ (member_missing world.now file.now class ++ later_kinds world.now file.now class))) }
+{
+    if let Some(problem) = circular(world, file, class)? {
+        return Ok(Some(problem));
+    }
+    let members = members_named(alloc, file)?;
+    if let Some(problem) = member_missing(alloc, world, file, class, members.as_slice())? {
+        return Ok(Some(problem));
+    }
+    later_kinds(alloc, world, file, class, mentions, names)
+}
+
+#[tactic(auto, unfolding(kilim_class_world::specs::Mentions::class_names))]
+fn names_of(alloc: Global, file: &ClassFile, mentions: &[Mention]) -> Result<Seq<Units>, NoMemory>
+    requires { mentions.now ≡ mentions_of file.now }
+    ensures { IfOk result (λ names. names ≡ class_names file.now) }
+{
+    class_names(alloc, mentions)
+}
+
+/// The first problem of a class: of its kinds the first, and of one kind the first place in the order of the file's
+/// bytes (own).
+#[tactic(auto, using(crate::proofs::Firsts::here, crate::proofs::Firsts::later), unfolding(kilim_class_world::specs::Faults::problems_of))]
+pub fn first_problem(
+    alloc: Global,
+    world: &World,
+    file: &ClassFile,
+    class: ClassId,
+) -> Result<Option<Problem>, NoMemory>
+    requires few { length world.now.classes < 2 ^ 32 }
+    ensures { IfOk result (λ found. found ≡ first_of (problems_of world.now file.now class)) }
+{
+    if let Some(problem) = declared_twice(alloc, world, file, class)? {
+        return Ok(Some(problem));
+    }
+    let mentions = mentions_of(alloc, file)?;
+    let names = names_of(alloc, file, mentions.as_slice())?;
+    if let Some(problem) = class_missing(world, file, class, names.as_slice())? {
+        return Ok(Some(problem));
+    }
+    from_circular(
+        alloc,
+        world,
+        file,
+        class,
+        mentions.as_slice(),
+        names.as_slice(),
+    )
+}
+
+// The same with the name of the class.
+fn fault_in(
+    alloc: Global,
+    world: &World,
+    file: &ClassFile,
+    class: ClassId,
+) -> Result<Option<LinkFault>, NoMemory>
+    requires few { length world.now.classes < 2 ^ 32 }
+    ensures { IfOk result (λ found. found ≡ first_of (faults_in world.now file.now class)) }
+{
+    match first_problem(alloc, world, file, class)? {
+        Some(problem) => {
+            let name = Units::from_slice(alloc, own_name(file))?;
+            Ok(Some(LinkFault::InClass(name, problem)))
+        }
+        None => Ok(None),
+    }
+}
+
+/// Why files don't link (own): the first problem of the first class that has one. Files without one link.
+pub fn first_fault(
+    alloc: Global,
+    world: &World,
+    files: &[ClassFile],
+    form: Form,
+) -> Result<Option<LinkFault>, NoMemory>
+    requires few { length files.now ≤ 1000 }
+    requires whole { world.now ≡ world_of files.now form }
+    ensures { IfOk result (λ found. found ≡ first_fault files.now form) }
+{
+    let mut i: u32 = 0;
+    while (i as usize) < files.len() {
+        match fault_in(alloc, world, &files[i as usize], ClassId(i)) {
+            Ok(Some(fault)) => return Ok(Some(fault)),
+            Ok(None) => {}
+            Err(fault) => return Err(fault),
+        }
+        i += 1;
+    }
+    Ok(None)
+}

@@ -1,0 +1,3 @@
+pub mod Firsts
+pub mod Agreeing
+pub mod Places

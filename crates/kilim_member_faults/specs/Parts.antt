@@ -1,0 +1,48 @@
+-- Parts of the lists of problems with methods, as the code goes over them.
+use Rattle.std.specs.Prelude.{ℕ, Bool, false, not, ◌&&◌, List, ◌++◌, map, Option, Some, None, slice_get}
+use Rattle.std.specs.List.{list_any, flat_map}
+use Rattle.kilim_program.specs.declared.names.ClassId.{ClassId}
+use Rattle.kilim_class_world.specs.Faults.{is_left_above, agrees, differs_from}
+use Rattle.kilim_class_world.specs.World.{World, declared_methods, is_method}
+use Rattle.kilim_class_world.specs.declared.view.DeclaredMethod.{DeclaredMethod}
+
+-- ---- members by their places
+
+-- the element at a place is there and passes a test
+abbrev pub is_so : {A : Type 0} → (A → Bool) → Option A → Bool
+is_so test None = false
+is_so test (Some x) = test x
+
+abbrev pub passes_at : {A : Type 0} → (A → Bool) → List A → ℕ → Bool
+passes_at test xs place = is_so test (slice_get xs place)
+
+-- ---- overriding
+
+-- a method differs from that one of its name and descriptor, which isn't private
+abbrev pub other_differs : World → ClassId → DeclaredMethod → ClassId → DeclaredMethod → Bool
+other_differs w c m d other = not other.is_private && not (agrees w c m d other)
+
+-- a method differs from one that a class above declares
+abbrev pub differs_in : World → ClassId → DeclaredMethod → ClassId → Bool
+differs_in w c m d = list_any (differs_from w c m) (map (λ other. (d, other)) (declared_methods w d))
+
+-- ---- abstract methods
+
+abbrev pub is_shared : DeclaredMethod → Bool
+is_shared m = not m.is_private
+
+-- a class declares a method of that name and descriptor that isn't private
+abbrev pub stands_in : World → List ℕ → List ℕ → ClassId → Bool
+stands_in w name descriptor d = list_any (λ o. not o.is_private && is_method name descriptor o) (declared_methods w d)
+
+-- the methods of a class and of these ancestors
+abbrev pub nearer_than : World → ClassId → List ClassId → List DeclaredMethod
+nearer_than w c ds = declared_methods w c ++ flat_map (declared_methods w) ds
+
+-- one of them has that name and descriptor, and isn't private
+abbrev pub is_nearer : World → ClassId → List ClassId → List ℕ → List ℕ → Bool
+is_nearer w c ds name descriptor = list_any (λ o. not o.is_private && is_method name descriptor o) (nearer_than w c ds)
+
+-- an abstract method of an ancestor is left, where these are nearer
+abbrev pub is_left_over : World → ClassId → List ClassId → DeclaredMethod → Bool
+is_left_over w c ds m = is_left_above (nearer_than w c ds) m
