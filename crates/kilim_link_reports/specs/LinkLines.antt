@@ -1,4 +1,5 @@
--- The line of class files that don't link: the class, and its first problem.
+-- The line of class files that don't link: the class, and its first problem. A name that is exactly `<init>` keeps its
+-- brackets, whatever it names.
 use Rattle.std.specs.Prelude.{ℕ, List, [], ◌++◌, codes}
 use Rattle.std.specs.Fmt.{decimal}
 use Rattle.kilim_bytecode.specs.declared.fault.CodeFault.{CodeFault}
@@ -8,7 +9,6 @@ use Rattle.kilim_class_world.specs.declared.fault.LeftOutPart.TheVariants as par
 use Rattle.kilim_class_world.specs.declared.fault.MemberOf.{MemberOf}
 use Rattle.kilim_class_world.specs.declared.fault.Problem.{Problem}
 use Rattle.kilim_class_world.specs.declared.fault.Problem.TheVariants as problem
-use Rattle.kilim_journal.specs.Text.{name_text}
 use Rattle.kilim_reports.specs.Names.{member_name_text, descriptor_text, method_text}
 
 -- a left-out part by its word; an instruction by its number
@@ -36,16 +36,16 @@ fault_place code.Memory = 0
 
 -- the owner, a dot, and the member's name and descriptor, one behind the other
 abbrev pub member_text : MemberOf → List ℕ
-member_text m = name_text m.owner ++ (codes "." ++ (member_name_text m.name ++ descriptor_text m.descriptor))
+member_text m = member_name_text m.owner ++ (codes "." ++ (member_name_text m.name ++ descriptor_text m.descriptor))
 
 abbrev pub problem_words : Problem → List ℕ
 problem_words (problem.Twice name) = codes "twice " ++ member_name_text name
-problem_words (problem.Missing name) = codes "missing " ++ name_text name
+problem_words (problem.Missing name) = codes "missing " ++ member_name_text name
 problem_words problem.Circular = codes "circular"
 problem_words (problem.NoMember member) = codes "no-member " ++ member_text member
 problem_words (problem.LeftOut part) = codes "left-out " ++ part_word part
 problem_words problem.Both = codes "both"
-problem_words (problem.FieldKind field) = codes "field-kind " ++ name_text field.name
+problem_words (problem.FieldKind field) = codes "field-kind " ++ member_name_text field.name
 problem_words (problem.OverrideDiffers method) = codes "override " ++ method_text method
 problem_words (problem.Code method fault) = codes "code " ++ (method_text method ++ (codes " " ++ decimal (fault_place fault)))
 problem_words (problem.Descriptor text) = codes "descriptor " ++ descriptor_text text
@@ -55,4 +55,4 @@ problem_words (problem.AbstractLeft method) = codes "abstract " ++ method_text m
 
 -- the line, with its line feed
 abbrev pub link_line : List ℕ → Problem → List ℕ
-link_line class of = codes "link " ++ (name_text class ++ (codes " " ++ (problem_words of ++ codes "\n")))
+link_line class of = codes "link " ++ (member_name_text class ++ (codes " " ++ (problem_words of ++ codes "\n")))

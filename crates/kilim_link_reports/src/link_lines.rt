@@ -9,7 +9,6 @@ ghost use Rattle.kilim_link_reports.specs.LinkLines.{part_word, fault_place, mem
 use kilim_bytecode::CodeFault;
 use kilim_class_world::{LeftOutPart, MemberOf, Problem};
 use kilim_classfile::MemberName;
-use kilim_journal::name_text;
 use kilim_program::{NoMemory, Units};
 use kilim_reports::{descriptor_text, member_name_text};
 use std::alloc::{AllocError, Global};
@@ -34,7 +33,7 @@ fn method_text(alloc: Global, method: &MemberName) -> Result<Vec<u8>, NoMemory>
 fn member_text(alloc: Global, member: &MemberOf) -> Result<Vec<u8>, NoMemory>
     ensures { IfOk result (λ text. text.items ≡ member_text member.now) }
 {
-    let mut text = name_text(alloc, member.owner.as_slice())?;
+    let mut text = member_name_text(alloc, &member.owner)?;
     let name = member_name_text(alloc, &member.name)?;
     let descriptor = descriptor_text(alloc, &member.descriptor)?;
     text.push(b'.')?;
@@ -97,12 +96,12 @@ fn problem_words(alloc: Global, problem: &Problem) -> Result<Vec<u8>, NoMemory>
 {
     let (word, told): (&[u8], Vec<u8>) = match problem {
         Problem::Twice(name) => (b"twice ", member_name_text(alloc, name)?),
-        Problem::Missing(name) => (b"missing ", name_text(alloc, name.as_slice())?),
+        Problem::Missing(name) => (b"missing ", member_name_text(alloc, name)?),
         Problem::Circular => (b"circular", Vec::new(alloc)),
         Problem::NoMember(member) => (b"no-member ", member_text(alloc, member)?),
         Problem::LeftOut(part) => (b"left-out ", part_word(alloc, *part)?),
         Problem::Both => (b"both", Vec::new(alloc)),
-        Problem::FieldKind(field) => (b"field-kind ", name_text(alloc, field.name.as_slice())?),
+        Problem::FieldKind(field) => (b"field-kind ", member_name_text(alloc, &field.name)?),
         Problem::OverrideDiffers(method) => (b"override ", method_text(alloc, method)?),
         Problem::Code(method, fault) => (b"", code_words(alloc, method, *fault)?),
         Problem::Descriptor(text) => (b"descriptor ", descriptor_text(alloc, text)?),
@@ -113,11 +112,12 @@ fn problem_words(alloc: Global, problem: &Problem) -> Result<Vec<u8>, NoMemory>
     Ok(joined(alloc, word, told.as_slice())?)
 }
 
-/// The line of class files that don't link: `link`, the name of the class, and the words of its first problem.
+/// The line of class files that don't link: `link`, the name of the class, and the words of its first problem. A name that
+/// is exactly `<init>` keeps its brackets, whatever it names.
 pub fn link_line(alloc: Global, class: &Units, problem: &Problem) -> Result<Vec<u8>, NoMemory>
     ensures { IfOk result (λ text. text.items ≡ link_line class.now problem.now) }
 {
-    let name = name_text(alloc, class.as_slice())?;
+    let name = member_name_text(alloc, class)?;
     let words = problem_words(alloc, problem)?;
     let mut text = Vec::from_slice(alloc, b"link ")?;
     text.extend_from_slice(name.as_slice())?;

@@ -24,8 +24,8 @@ fn member(alloc: Global, name: &[u8], descriptor: &[u8]) -> Result<MemberName, A
     })
 }
 
-fn line_of(alloc: Global, problem: &Problem) -> Result<Vec<u8>, Fail> {
-    let class = units_of(alloc, b"a/A$1")?;
+fn line_of(alloc: Global, class: &[u8], problem: &Problem) -> Result<Vec<u8>, Fail> {
+    let class = units_of(alloc, class)?;
     Ok(
         link_line(alloc, &class, problem)
             .ok()
@@ -64,6 +64,10 @@ fn problems_have_their_lines(rt: HostRuntime) -> Result<(), Fail> {
             "field-kind x",
         ),
         (
+            Problem::FieldKind(member(alloc, b"<init>", b"LP;")?),
+            "field-kind <init>",
+        ),
+        (
             Problem::OverrideDiffers(member(alloc, b"execute", b"()V")?),
             "override execute()V",
         ),
@@ -88,11 +92,14 @@ fn problems_have_their_lines(rt: HostRuntime) -> Result<(), Fail> {
         (Problem::AbstractLeft(method()?), "abstract f()V"),
     ];
     for (problem, want) in &table {
-        let line = line_of(alloc, problem)?;
+        let line = line_of(alloc, b"a/A$1", problem)?;
         let mut whole = Vec::from_slice(alloc, b"link a/A$1 ")?;
         whole.extend_from_slice(want.as_bytes())?;
         whole.push(b'\n')?;
         assert_eq!(rt; line.as_slice(), whole.as_slice());
     }
+    let missing = Problem::Missing(units_of(alloc, b"<init>")?);
+    let line = line_of(alloc, b"<init>", &missing)?;
+    assert_eq!(rt; line.as_slice(), b"link <init> missing <init>\n".as_slice());
     Ok(())
 }
