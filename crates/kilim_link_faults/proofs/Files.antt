@@ -26,6 +26,10 @@ few_classes w files form few is =
     let four = length-map (built_in_classes_in form 0 0) (view_of_built_in (built_ins form)) in
     omega arith
 
+pub in_own_form : (w : World) (files : List ClassFile) (form : Form) → w ≡ world_of files form → w ≡ world_of files w.form
+unfolding world_of
+in_own_form w files form is = is ∙ ap (world_of files) (sym (ap (λ (v : World). v.form) is))
+
 pub starts : (w : World) (files : List ClassFile) (form : Form) → w ≡ world_of files form → first_of (faults_from w 0 files) ≡ first_fault files form
 unfolding first_fault link_faults
 starts w files form is = ap (λ (v : World). first_of (faults_from v 0 files)) is

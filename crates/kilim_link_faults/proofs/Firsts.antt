@@ -68,12 +68,6 @@ reverse_at xs i x lt is = ap reverse (take_at xs i x lt is) ∙ reverse-append (
 
 -- ---- a test of the elements before a place
 
-pub any_at : {A : Type 0} (test : A → Bool) (xs : List A) (i n : ℕ) (x : A) → Some x ≡ slice_get xs i → i < n → test x ≡ true → true ≡ list_any test (take n xs)
-any_at test [] i n x is lt t = absurd cc
-any_at test (y ∷ ys) i zero x is lt t = absurd (omega arith)
-any_at test (y ∷ ys) zero (suc n) x is lt t = true_or (test y) (list_any test (take n ys)) (sym t ∙ ap test (some_is x y is))
-any_at test (y ∷ ys) (suc i) (suc n) x is lt t = or_true (test y) (list_any test (take n ys)) (any_at test ys i n x is (omega arith) t)
-
 pub none_at : {A : Type 0} (test : A → Bool) (xs : List A) (i : ℕ) (x : A) → Some x ≡ slice_get xs i → test x ≡ false → list_any test (take i xs) ≡ false → list_any test (take (i + 1) xs) ≡ false
 none_at test [] i x is t before = absurd cc
 none_at test (y ∷ ys) zero x is t before = or_false (test y) (ap test (sym (some_is x y is)) ∙ t)
@@ -85,3 +79,9 @@ pub any_in : {A : Type 0} (test : A → Bool) (xs : List A) (i : ℕ) (x : A) �
 any_in test [] i x is t = absurd cc
 any_in test (y ∷ ys) zero x is t = true_or (test y) (list_any test ys) (sym t ∙ ap test (some_is x y is))
 any_in test (y ∷ ys) (suc i) x is t = or_true (test y) (list_any test ys) (any_in test ys i x is t)
+
+-- where there are no more
+pub none_all : {A : Type 0} (test : A → Bool) (xs : List A) (i : ℕ) → None ≡ slice_get xs i → list_any test (take i xs) ≡ false → false ≡ list_any test xs
+none_all test [] i is before = refl
+none_all test (y ∷ ys) zero is before = absurd cc
+none_all test (y ∷ ys) (suc i) is before = sym (or_both (test y) (list_any test (take i ys)) (list_any test ys) before (λ e. sym (none_all test ys i is e)))

@@ -1,3 +1,4 @@
 pub mod Firsts
 pub mod Files
 pub mod Repeats
+pub mod Earlier

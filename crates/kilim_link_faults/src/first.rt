@@ -125,13 +125,15 @@ fn names_of(alloc: Global, file: &ClassFile, mentions: &[Mention]) -> Result<Seq
 pub fn first_problem(
     alloc: Global,
     world: &World,
+    files: &[ClassFile],
     file: &ClassFile,
     class: ClassId,
 ) -> Result<Option<Problem>, NoMemory>
     requires few { length world.now.classes < 2 ^ 32 }
+    requires whole { world.now ≡ world_of files.now world.now.form }
     ensures { IfOk result (λ found. found ≡ first_of (problems_of world.now file.now class)) }
 {
-    if let Some(problem) = declared_twice(alloc, world, file, class)? {
+    if let Some(problem) = declared_twice(alloc, world, files, file, class)? {
         return Ok(Some(problem));
     }
     let mentions = mentions_of(alloc, file)?;
@@ -153,13 +155,15 @@ pub fn first_problem(
 fn fault_in(
     alloc: Global,
     world: &World,
+    files: &[ClassFile],
     file: &ClassFile,
     class: ClassId,
 ) -> Result<Option<LinkFault>, NoMemory>
     requires few { length world.now.classes < 2 ^ 32 }
+    requires whole { world.now ≡ world_of files.now world.now.form }
     ensures { IfOk result (λ found. found ≡ first_of (faults_in world.now file.now class)) }
 {
-    match first_problem(alloc, world, file, class)? {
+    match first_problem(alloc, world, files, file, class)? {
         Some(problem) => {
             let name = Units::from_slice(alloc, own_name(file))?;
             Ok(Some(LinkFault::InClass(name, problem)))
@@ -181,7 +185,7 @@ pub fn first_fault(
 {
     let mut i: u32 = 0;
     while (i as usize) < files.len() {
-        match fault_in(alloc, world, &files[i as usize], ClassId(i)) {
+        match fault_in(alloc, world, files, &files[i as usize], ClassId(i)) {
             Ok(Some(fault)) => return Ok(Some(fault)),
             Ok(None) => {}
             Err(fault) => return Err(fault),

@@ -5,7 +5,7 @@ ghost use Rattle.std.specs.List.{list_any};
 ghost use Rattle.std.specs.Str.{bytes_eq};
 ghost use Rattle.kilim_class_world.specs.Faults.{declared_twice, is_given_before, is_built_in_name, repeated, repeated_names, same_member};
 ghost use Rattle.kilim_class_world.specs.Linked.{first_of};
-ghost use Rattle.kilim_class_world.specs.World.{member_name, member_descriptor};
+ghost use Rattle.kilim_class_world.specs.World.{member_name, member_descriptor, outline_of, world_of};
 ghost use Rattle.kilim_link_faults.specs.Seen.{seen_in};
 
 use kilim_class_views::{member_descriptor, member_name, own_name};
@@ -34,29 +34,24 @@ fn is_built_in_named(view: &ClassView, name: &[u16]) -> bool
     view.is_built_in && is_named(view, name)
 }
 
-// Whether a class of that name stands before this one.
-fn is_earlier(world: &World, class: ClassId, name: &[u16]) -> bool
+// Whether a class of that name stands before this one, as the first of that name then does.
+fn is_earlier(world: &World, class: ClassId, name: &Units) -> bool
+    requires outlined { world.now.outline ≡ outline_of world.now.form world.now.classes }
     ensures { result ≡ list_any (λ v. bytes_eq v.name name.now) (take class.0 world.now.classes) }
 {
-    let mut i: u32 = 0;
-    while i < class.0 {
-        let Some(view) = world.view_at(ClassId(i)) else {
-            return false;
-        };
-        if is_named(view, name) {
-            return true;
-        }
-        i += 1;
+    match world.class_of(name) {
+        Some(first) => first.0 < class.0,
+        None => false,
     }
-    false
 }
 
-// Whether a built-in class of the form has that name.
-fn is_built_in_name(world: &World, name: &[u16]) -> bool
+// Whether a built-in class of the form has that name; those stand behind the classes of the files.
+fn is_built_in_name(world: &World, files: &[ClassFile], name: &[u16]) -> bool
     requires few { length world.now.classes < 2 ^ 32 }
+    requires whole { world.now ≡ world_of files.now world.now.form }
     ensures { result ≡ is_built_in_name world.now name.now }
 {
-    let mut i: u32 = 0;
+    let mut i = files.len() as u32;
     while i < u32::MAX {
         let Some(view) = world.view_at(ClassId(i)) else {
             return false;
@@ -69,11 +64,12 @@ fn is_built_in_name(world: &World, name: &[u16]) -> bool
     false
 }
 
-fn is_given_before(world: &World, class: ClassId, name: &[u16]) -> bool
+fn is_given_before(world: &World, files: &[ClassFile], class: ClassId, name: &Units) -> bool
     requires few { length world.now.classes < 2 ^ 32 }
+    requires whole { world.now ≡ world_of files.now world.now.form }
     ensures { result ≡ is_given_before world.now class name.now }
 {
-    is_earlier(world, class, name) || is_built_in_name(world, name)
+    is_earlier(world, class, name) || is_built_in_name(world, files, name.as_slice())
 }
 
 fn signature_in(alloc: Global, file: &ClassFile, member: &MemberInfo) -> Result<Signature, NoMemory>
@@ -149,14 +145,17 @@ fn repeated_in_either(alloc: Global, file: &ClassFile) -> Result<Option<Problem>
 pub fn declared_twice(
     alloc: Global,
     world: &World,
+    files: &[ClassFile],
     file: &ClassFile,
     class: ClassId,
 ) -> Result<Option<Problem>, NoMemory>
     requires few { length world.now.classes < 2 ^ 32 }
+    requires whole { world.now ≡ world_of files.now world.now.form }
     ensures { IfOk result (λ found. found ≡ first_of (declared_twice world.now file.now class)) }
 {
-    if is_given_before(world, class, own_name(file)) {
-        return Ok(Some(Problem::Twice(Units::from_slice(alloc, own_name(file))?)));
+    let name = Units::from_slice(alloc, own_name(file))?;
+    if is_given_before(world, files, class, &name) {
+        return Ok(Some(Problem::Twice(name)));
     }
     repeated_in_either(alloc, file)
 }
