@@ -12,6 +12,8 @@ mod outlining;
 mod parts;
 mod search;
 mod signature;
+#[cfg(test)]
+mod tests;
 mod views;
 mod world;
 

@@ -64,8 +64,8 @@ impl World {
         World::of_views(alloc, form, classes)
     }
 
-    // Of the classes that are declared.
-    fn of_views(alloc: Global, form: Form, classes: Seq<ClassView>) -> Result<World, NoMemory>
+    /// Of classes as they are declared, in a form.
+    pub fn of_views(alloc: Global, form: Form, classes: Seq<ClassView>) -> Result<World, NoMemory>
         requires few { length classes < 2 ^ 32 }
         requires methods_fit { sum_by method_count classes < 2 ^ 32 }
         requires fields_fit { sum_by field_count classes < 2 ^ 32 }

@@ -3,6 +3,8 @@
 
 mod marks;
 mod methods;
+#[cfg(test)]
+mod tests;
 mod types;
 
 pub use methods::qualified;
