@@ -1,5 +1,7 @@
 -- The programs that run today: one task class, whose `execute` prints numbers.
-use Rattle.std.specs.Prelude.{ℕ, ◌+◌, ◌*◌, ◌≤◌, ℤ, Bool, true, false, List, [], ◌∷◌, ◌++◌, Some, None, map, length, codes}
+use Rattle.std.specs.Prelude.{◌≡◌, ℕ, ◌+◌, ◌*◌, ◌<◌, ◌≤◌, ℤ, Bool, true, false, List, [], ◌∷◌, ◌++◌, Some, None, FitsSigned, map, length, codes}
+use Rattle.std.specs.Int.{w8}
+use Rattle.std.specs.List.{AllByRecursion}
 use Rattle.kilim_program.specs.declared.cause.EndCause.TheVariants.{Done}
 use Rattle.kilim_program.specs.declared.class.Class.{Class}
 use Rattle.kilim_program.specs.declared.class.Method.{Method}
@@ -14,16 +16,7 @@ use Rattle.kilim_journal.specs.declared.entry.Entry.{Entry}
 use Rattle.kilim_program.specs.BuiltIn.{class_id, method_id, built_in_classes, built_in_methods}
 use Rattle.kilim_thread_model.specs.State.{Setting}
 use Rattle.kilim_thread_model.specs.Runs.{Whole}
-
--- What differs between these programs: the class name, the room of the two methods' frames, and the numbers
--- that are printed.
-pub record Small : Type 0 where
-  pub name : List ℕ
-  pub constructor_stack : ℕ
-  pub constructor_locals : ℕ
-  pub execute_stack : ℕ
-  pub execute_locals : ℕ
-  pub prints : List ℤ
+pub use Rattle.kilim_thread_model.specs.declared.small_programs.Small.{Small}
 
 -- the numbers of the built-in members that they call: `kilim/Task` is the fifth class behind the one of the file
 abbrev pub task_class : ℕ
@@ -88,6 +81,23 @@ small_program s = record {
   fields = [];
   form = Plain;
 }
+
+-- There is room for a word and a local at least, and the numbers are bytes.
+pub record SmallFits (s : Small) : Type 0 where
+  pub constructor_stack : 0 < s.constructor_stack
+  pub constructor_locals : 0 < s.constructor_locals
+  pub execute_stack : 0 < s.execute_stack
+  pub execute_locals : 0 < s.execute_locals
+  pub numbers : AllByRecursion (FitsSigned w8) s.prints
+
+-- the program is that one
+pub record IsSmallBy (p : Program) (s : Small) : Type 0 where
+  pub is : p ≡ small_program s
+  pub fits : SmallFits s
+
+-- the program is one of these
+abbrev pub IsSmall : Program → Type 0
+IsSmall p = (s : Small) × IsSmallBy p s
 
 -- the run of that class, where a task may do so many instructions
 abbrev pub small_setting : Small → ℕ → Setting

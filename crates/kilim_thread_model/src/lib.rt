@@ -1,10 +1,14 @@
 //! What a run is: threads over one shared heap, their moves, and whole runs. Definitions in `specs/`, and
-//! laws about them. No program calls it to do work.
+//! laws about them, which no program calls to do work.
 #![tactic(auto)]
 
 ghost use Rattle.kilim_thread_model.specs.Examples.{ExamplesHold};
 ghost use Rattle.kilim_thread_model.specs.Runs.{OneNextAction, OneReplay};
 ghost use Rattle.kilim_thread_model.specs.Small.{SmallRunIsWhole};
+
+mod small_programs;
+
+pub use small_programs::Small;
 
 /// A law, and no work: the run of a small program prints its numbers in order, and is done.
 pub fn small_run_is_whole()

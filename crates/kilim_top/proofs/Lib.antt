@@ -1,4 +1,6 @@
 pub mod Texts
+pub mod SmallLaws
+pub mod CodeLengths
 pub mod Prints
 pub mod WholeRun
 pub mod Replies

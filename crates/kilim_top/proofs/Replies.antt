@@ -1,110 +1,169 @@
--- What is answered for a file: the journal of a whole run or a report, and never both.
-use Rattle.std.proofs.Common.{◌≡◌, ◌⊎◌, ℕ, zero, suc, ◌≤◌, ℤ, true, List, [], ◌∷◌, Option, Some, None, Result, Ok, Err, refl, sym, ap, subst, ◌∙◌, arith, inl, inr}
-use Rattle.std.specs.Prelude.{IfOk, is_some}
+-- What is answered for files: the journal of a whole run or a report, and never both.
+use Rattle.std.proofs.Common.{◌≡◌, ◌⊎◌, ℕ, suc, ◌≤◌, List, [], ◌∷◌, length, Option, Some, None, Result, Ok, Err, refl, sym, ap, subst, ◌∙◌, arith, inl, inr}
+use Rattle.std.specs.Prelude.{IfOk}
+use Rattle.std.specs.List.{AllByRecursion}
+use Rattle.kilim_program.specs.declared.class.Class.{Class}
+use Rattle.kilim_program.specs.declared.class.Form.TheVariants.{Plain}
 use Rattle.kilim_program.specs.declared.memory.NoMemory.{NoMemory}
-use Rattle.kilim_thread_model.specs.Small.{SmallRunIsWhole}
+use Rattle.kilim_program.specs.Program.{Program}
+use Rattle.kilim_thread_model.specs.declared.small_programs.Small.{Small}
+use Rattle.kilim_thread_model.specs.Small.{IsSmallBy, small_program, SmallRunIsWhole}
 use Rattle.kilim_classfile.specs.declared.class_file.ClassFile.{ClassFile}
 use Rattle.kilim_classfile.specs.declared.fault.ClassFault.{ClassFault}
-use Rattle.kilim_classfile.specs.Text.{class_text, ClassFits}
+use Rattle.kilim_classfile.specs.Text.{ClassFits}
 use Rattle.kilim_classfile.specs.Reading.{read_class}
 use Rattle.kilim_classfile.specs.Law.{ClassFilesAreSpelled}
-use Rattle.kilim_reports.specs.ClassLines.{class_line}
+use Rattle.kilim_class_world.specs.declared.fault.LinkFault.{LinkFault}
+use Rattle.kilim_class_world.specs.Faults as link
+use Rattle.kilim_class_world.specs.Linked.{Linked, OneProgram, first_of}
 use Rattle.kilim_top.specs.declared.answer.Reply.{Reply}
-use Rattle.kilim_top.specs.SmallFile.{own_name, small_prints, IsFile}
-use Rattle.kilim_top.specs.Report.{utf16_of}
-use Rattle.kilim_top.specs.Answer.{IsRunOf, IsReportOf}
-use Rattle.kilim_top.specs.Outcome.{IsWholeRun, IsReport, IsFitFile, or_fault, first_fault}
+use Rattle.kilim_top.specs.ProgramOf.{IsFile, AreFiles, IsProgramOf}
+use Rattle.kilim_top.specs.Answer.{IsReportOf, LinksTo, IsReplyOf, IsReplyOfClasses, IsReplyOfFiles}
+use Rattle.kilim_top.specs.Outcome.{IsDone, IsReport, IsFitRun, or_fault, first_fault}
 use Rattle.kilim_top.proofs.WholeRun.{whole_run}
+
+-- ---- class files
+
+pub all_fit : (files : List (List ℕ)) (classes : List ClassFile) → AreFiles files classes → AllByRecursion ClassFits classes
+all_fit [] [] are = tt
+all_fit (b ∷ files) (c ∷ classes) are = (are.0.fits, all_fit files classes are.1)
+all_fit [] (c ∷ classes) are = absurd are
+all_fit (b ∷ files) [] are = absurd are
+
+pub as_many : (files : List (List ℕ)) (classes : List ClassFile) → AreFiles files classes → length classes ≡ length files
+as_many [] [] are = refl
+as_many (b ∷ files) (c ∷ classes) are = ap suc (as_many files classes are.1)
+as_many [] (c ∷ classes) are = absurd are
+as_many (b ∷ files) [] are = absurd are
 
 abbrev well : ClassFile → Result ClassFile ClassFault
 well file = Ok file
 
-abbrev bad : ClassFault → Result ClassFile ClassFault
-bad fault = Err fault
-
 well_is : (f g : ClassFile) → well f ≡ well g → f ≡ g
 well_is f g e = cc
 
-not_bad : (f : ClassFile) (e : ClassFault) → well f ≡ bad e → ⊥
-not_bad f e p = cc
-
-not_none : (o : Option (List (ℤ × ℕ))) → is_some o ≡ true → o ≡ None → ⊥
-not_none None s e = absurd cc
-not_none (Some ps) s e = cc
-
-abbrev Reported : Type 0
-Reported = Option (List ℕ × ClassFault)
-
-none_some : (x : List ℕ × ClassFault) (o : Reported) → o ≡ None → o ≡ Some x → ⊥
+none_some : {A : Type 0} (x : A) (o : Option A) → o ≡ None → o ≡ Some x → ⊥
 none_some x o p q = cc
 
-pub is_file : (bytes : List ℕ) (f : ClassFile) → (bytes ≡ class_text f) × ClassFits f → IsFile bytes f
-is_file bytes f h = record { fits = h.1; spelled = h.0 }
+-- ---- never both
 
-module _ (law : ClassFilesAreSpelled) (bytes : List ℕ) where
-  is_read : (f : ClassFile) → IsFile bytes f → read_class bytes ≡ well f
-  is_read f is = ap read_class is.spelled ∙ law.again f is.fits
+first_name : List Class → List ℕ
+first_name [] = []
+first_name (c ∷ classes) = c.name
 
-  same_file : (f g : ClassFile) → IsFile bytes f → IsFile bytes g → f ≡ g
-  same_file f g p q = well_is f g (sym (is_read f p) ∙ is_read g q)
+same_name : (s t : Small) → small_program s ≡ small_program t → s.name ≡ t.name
+unfolding first_name
+same_name s t e = ap (λ (p : Program). first_name p.classes) e
 
-  -- ---- a file that was read
+module _ (law : ClassFilesAreSpelled) where
+  is_read : (bytes : List ℕ) (f : ClassFile) → IsFile bytes f → read_class bytes ≡ well f
+  is_read bytes f is = ap read_class is.spelled ∙ law.again f is.fits
 
-  pub unfit_file : (f : ClassFile) (main text : List ℕ) → IsFile bytes f → IsReportOf f main text → IsFitFile main bytes → ⊥
-  unfit_file f main text is (inl later) fit =
-      let same = same_file fit.file f fit.small.is_file is in
-      not_none (small_prints f) (subst (λ (g : ClassFile). is_some (small_prints g) ≡ true) same fit.small.small) later.not_small
-  unfit_file f main text is (inr other) fit =
-      let same = same_file fit.file f fit.small.is_file is in
-      other.other (subst (λ (g : ClassFile). own_name g ≡ utf16_of main) same fit.named)
+  same_file : (bytes : List ℕ) (f g : ClassFile) → IsFile bytes f → IsFile bytes g → f ≡ g
+  same_file bytes f g p q = well_is f g (sym (is_read bytes f p) ∙ is_read bytes g q)
 
-  pub no_report : (f : ClassFile) (main name text said : List ℕ) → IsFile bytes f → IsRunOf f main text → IsReport main (name ∷ []) (bytes ∷ []) said → ⊥
-  no_report f main name text said is run (inl class) = none_some (class.name, class.fault) (first_fault (name ∷ []) (bytes ∷ [])) (ap (λ (r : Result ClassFile ClassFault). or_fault name r None) (is_read f is)) class.first
-  no_report f main name text said is run (inr (inl later)) =
-      let same = same_file f later.file is later.is_file in
-      not_none (small_prints later.file) (subst (λ (g : ClassFile). is_some (small_prints g) ≡ true) same run.small) later.not_small
-  no_report f main name text said is run (inr (inr other)) =
-      let same = same_file f other.file is other.small.is_file in
-      other.other (subst (λ (g : ClassFile). own_name g ≡ utf16_of main) same run.named)
+  same_classes : (files : List (List ℕ)) (cs ds : List ClassFile) → AreFiles files cs → AreFiles files ds → cs ≡ ds
+  same_classes [] [] [] p q = refl
+  same_classes (b ∷ files) (c ∷ cs) (d ∷ ds) p q =
+      ap (λ (x : ClassFile). x ∷ cs) (same_file b c d p.0 q.0) ∙ ap (λ (xs : List ClassFile). d ∷ xs) (same_classes files cs ds p.1 q.1)
+  same_classes [] (c ∷ cs) ds p q = absurd p
+  same_classes [] [] (d ∷ ds) p q = absurd q
+  same_classes (b ∷ files) [] ds p q = absurd p
+  same_classes (b ∷ files) (c ∷ cs) [] p q = absurd q
 
-  -- ---- a file that can't be read
+  none_refused : (names files : List (List ℕ)) (classes : List ClassFile) → AreFiles files classes → first_fault names files ≡ None
+  none_refused [] files classes are = refl
+  none_refused (n ∷ names) [] classes are = refl
+  none_refused (n ∷ names) (b ∷ files) [] are = absurd are
+  none_refused (n ∷ names) (b ∷ files) (c ∷ classes) are =
+      ap (λ (r : Result ClassFile ClassFault). or_fault n r (first_fault names files)) (is_read b c are.0) ∙ none_refused names files classes are.1
 
-  pub unfit_fault : (fault : ClassFault) (main : List ℕ) → read_class bytes ≡ Err fault → IsFitFile main bytes → ⊥
-  unfit_fault fault main e fit = not_bad fit.file fault (sym (is_read fit.file fit.small.is_file) ∙ e)
+  module _ (one : OneProgram) where
+    same_program : (files : List (List ℕ)) (p q : Program) → IsProgramOf files p → IsProgramOf files q → p ≡ q
+    same_program files p q a b =
+        let same = same_classes files b.classes a.classes b.are_files a.are_files in
+        one a.classes Plain p q a.linked (subst (λ (cs : List ClassFile). Linked cs Plain q) same b.linked)
 
-pub class_report : (main name bytes text : List ℕ) (fault : ClassFault) → read_class bytes ≡ Err fault → text ≡ class_line name fault → IsReport main (name ∷ []) (bytes ∷ []) text
-class_report main name bytes text fault e is = inl (record { name = name; fault = fault; first = ap (λ (r : Result ClassFile ClassFault). or_fault name r None) e; is_text = is })
+    pub never_both : (main : List ℕ) (names files : List (List ℕ)) (text : List ℕ) → IsFitRun main files → IsReport main names files text → ⊥
+    unfolding link.first_fault
+    never_both main names files text fit (inl class) = none_some (class.name, class.fault) (first_fault names files) (none_refused names files fit.of_files.classes fit.of_files.are_files) class.first
+    never_both main names files text fit (inr (inl report)) =
+        let same = same_classes files fit.of_files.classes report.classes fit.of_files.are_files report.are_files in
+        let none = subst (λ (cs : List ClassFile). link.link_faults cs Plain ≡ []) same fit.of_files.none in
+        none_some _ (link.first_fault report.classes Plain) (ap (λ (faults : List LinkFault). first_of faults) none) report.first
+    never_both main names files text fit (inr (inr (inl later))) =
+        later.not_small (fit.small, subst (λ (p : Program). IsSmallBy p fit.small) (same_program files fit.program later.program fit.of_files later.of_files) fit.is_small)
+    never_both main names files text fit (inr (inr (inr other))) =
+        let same = same_program files other.program fit.program other.of_files fit.of_files in
+        other.other (same_name other.small fit.small (sym other.is_small.is ∙ (same ∙ fit.is_small.is)) ∙ fit.named)
 
-file_report : (main name bytes text : List ℕ) (f : ClassFile) → IsFile bytes f → IsReportOf f main text → IsReport main (name ∷ []) (bytes ∷ []) text
-file_report main name bytes text f is (inl later) = inr (inl (record { file = f; is_file = is; not_small = later.not_small; is_text = later.is_text }))
-file_report main name bytes text f is (inr other) = inr (inr (record { file = f; small = record { is_file = is; small = other.small }; other = other.other; is_text = other.is_text }))
+-- ---- from a program to its class files, and to the bytes
 
--- ---- replies for a file that was read
+either : {A B C D : Type 0} → (A → C) → (B → D) → A ⊎ B → C ⊎ D
+either f g (inl a) = inl (f a)
+either f g (inr b) = inr (g b)
 
-one_of : {A B : Type 0} (n : ℕ) → n ≤ 1 → (n ≡ 0 → A) → (n ≡ 1 → B) → A ⊎ B
-one_of zero le a b = inl (a refl)
-one_of (suc zero) le a b = inr (b refl)
-one_of (suc (suc n)) le a b = absurd (omega arith)
+pub of_classes : (classes : List ClassFile) (p : Program) (main : List ℕ) (status : ℕ) (text : List ℕ) → LinksTo classes p → IsReplyOf p main status text → IsReplyOfClasses classes main status text
+of_classes classes p main status text links (inl run) = inl (run.0, record { program = p; links = links; run = run.1 })
+of_classes classes p main status text links (inr report) = inr (report.0, inr (record { program = p; links = links; report = report.1 }))
 
-module _ (runs : SmallRunIsWhole) (law : ClassFilesAreSpelled) (main name bytes : List ℕ) (f : ClassFile) (is : IsFile bytes f) where
-  pub reply_whole : (r : Result Reply NoMemory) → IfOk r (λ reply. reply.status ≡ 0 → IsRunOf f main reply.text.items) → IfOk r (λ reply. reply.status ≡ 0 → IsWholeRun main (bytes ∷ []) reply.text.items)
-  reply_whole (Ok reply) h = λ e. whole_run runs bytes main f reply.text.items is (h e)
+program_of : (files : List (List ℕ)) (classes : List ClassFile) (p : Program) → AreFiles files classes → LinksTo classes p → IsProgramOf files p
+program_of files classes p are links = record { classes = classes; are_files = are; none = links.none; linked = links.linked }
+
+report_of : (main : List ℕ) (names files : List (List ℕ)) (p : Program) (text : List ℕ) → IsProgramOf files p → IsReportOf p main text → IsReport main names files text
+report_of main names files p text of (inl later) = inr (inr (inl (record { program = p; of_files = of; not_small = later.not_small; is_text = later.is_text })))
+report_of main names files p text of (inr other) = inr (inr (inr (record { program = p; of_files = of; small = other.small; is_small = other.is_small; other = other.other; is_text = other.is_text })))
+
+pub of_files : SmallRunIsWhole → (main : List ℕ) (names files : List (List ℕ)) (classes : List ClassFile) (status : ℕ) (text : List ℕ) → AreFiles files classes → IsReplyOfClasses classes main status text → IsReplyOfFiles main names files status text
+of_files runs main names files classes status text are (inl done) =
+    let of = program_of files classes done.1.program are done.1.links in
+    let run = done.1.run in
+    inl (done.0, record { fit = record { program = done.1.program; of_files = of; small = run.small; is_small = run.is_small; named = run.named }; whole = whole_run runs main files done.1.program text of run })
+of_files runs main names files classes status text are (inr (one, inl report)) =
+    inr (one, inr (inl (record { classes = classes; are_files = are; class = report.class; problem = report.problem; first = report.first; is_text = report.is_text })))
+of_files runs main names files classes status text are (inr (one, inr report)) =
+    inr (one, report_of main names files report.program text (program_of files classes report.program are report.links) report.report)
+
+pub reply_of_files : SmallRunIsWhole → (main : List ℕ) (names files : List (List ℕ)) (classes : List ClassFile) (r : Result Reply NoMemory) → AreFiles files classes →
+    IfOk r (λ reply. IsReplyOfClasses classes main reply.status reply.text.items) → IfOk r (λ reply. IsReplyOfFiles main names files reply.status reply.text.items)
+reply_of_files runs main names files classes (Ok reply) are h = of_files runs main names files classes reply.status reply.text.items are h
+reply_of_files runs main names files classes (Err e) are h = tt
+
+-- ---- what a reply says
+
+zero_one : (n : ℕ) → n ≡ 0 → n ≡ 1 → ⊥
+zero_one n a b = omega (arith, a, b)
+
+module _ (main : List ℕ) (names files : List (List ℕ)) where
+  abbrev Answered : Result Reply NoMemory → Type 0
+  Answered r = IfOk r (λ reply. IsReplyOfFiles main names files reply.status reply.text.items)
+
+  pub reply_status : (r : Result Reply NoMemory) → Answered r → IfOk r (λ reply. reply.status ≤ 1)
+  reply_status (Ok reply) (inl run) = let e = run.0 in omega (arith, e)
+  reply_status (Ok reply) (inr report) = let e = report.0 in omega (arith, e)
+  reply_status (Err e) h = tt
+
+  pub reply_whole : (r : Result Reply NoMemory) → Answered r → IfOk r (λ reply. reply.status ≡ 0 → IsDone main files reply.text.items)
+  reply_whole (Ok reply) (inl run) = λ e. run.1
+  reply_whole (Ok reply) (inr report) = λ e. absurd (zero_one reply.status e report.0)
   reply_whole (Err e) h = tt
 
-  pub reply_report : (r : Result Reply NoMemory) → IfOk r (λ reply. reply.status ≡ 1 → IsReportOf f main reply.text.items) → IfOk r (λ reply. reply.status ≡ 1 → IsReport main (name ∷ []) (bytes ∷ []) reply.text.items)
-  reply_report (Ok reply) h = λ e. file_report main name bytes reply.text.items f is (h e)
+  pub reply_report : (r : Result Reply NoMemory) → Answered r → IfOk r (λ reply. reply.status ≡ 1 → IsReport main names files reply.text.items)
+  reply_report (Ok reply) (inl run) = λ e. absurd (zero_one reply.status run.0 e)
+  reply_report (Ok reply) (inr report) = λ e. report.1
   reply_report (Err e) h = tt
 
-  pub reply_text : (r : Result Reply NoMemory) → IfOk r (λ reply. reply.status ≤ 1) → IfOk r (λ reply. reply.status ≡ 0 → IsRunOf f main reply.text.items) → IfOk r (λ reply. reply.status ≡ 1 → IsReportOf f main reply.text.items)
-      → IfOk r (λ reply. IsWholeRun main (bytes ∷ []) reply.text.items ⊎ IsReport main (name ∷ []) (bytes ∷ []) reply.text.items)
-  reply_text (Ok reply) le run report =
-      one_of reply.status le (λ e. whole_run runs bytes main f reply.text.items is (run e)) (λ e. file_report main name bytes reply.text.items f is (report e))
-  reply_text (Err e) le run report = tt
+  pub reply_text : (r : Result Reply NoMemory) → Answered r → IfOk r (λ reply. IsDone main files reply.text.items ⊎ IsReport main names files reply.text.items)
+  reply_text (Ok reply) (inl run) = inl run.1
+  reply_text (Ok reply) (inr report) = inr report.1
+  reply_text (Err e) h = tt
 
-  pub reply_fit : (r : Result Reply NoMemory) → IfOk r (λ reply. reply.status ≡ 1 → IsReportOf f main reply.text.items) → IfOk r (λ reply. reply.status ≡ 1 → IsFitFile main bytes → ⊥)
-  reply_fit (Ok reply) h = λ e. unfit_file law bytes f main reply.text.items is (h e)
-  reply_fit (Err e) h = tt
+  pub reply_fit : ClassFilesAreSpelled → OneProgram → (r : Result Reply NoMemory) → Answered r → IfOk r (λ reply. reply.status ≡ 1 → IsFitRun main files → ⊥)
+  reply_fit law one (Ok reply) (inl run) = λ e fit. zero_one reply.status run.0 e
+  reply_fit law one (Ok reply) (inr report) = λ e fit. never_both law one main names files reply.text.items fit report.1
+  reply_fit law one (Err e) h = tt
 
-  pub reply_unreported : (r : Result Reply NoMemory) → IfOk r (λ reply. reply.status ≡ 0 → IsRunOf f main reply.text.items) → IfOk r (λ reply. reply.status ≡ 0 → (text : List ℕ) → IsReport main (name ∷ []) (bytes ∷ []) text → ⊥)
-  reply_unreported (Ok reply) h = λ e text. no_report law bytes f main name reply.text.items text is (h e)
-  reply_unreported (Err e) h = tt
+  pub reply_unreported : ClassFilesAreSpelled → OneProgram → (r : Result Reply NoMemory) → Answered r → IfOk r (λ reply. reply.status ≡ 0 → (text : List ℕ) → IsReport main names files text → ⊥)
+  reply_unreported law one (Ok reply) (inl run) = λ e text report. never_both law one main names files text run.1.fit report
+  reply_unreported law one (Ok reply) (inr report) = λ e text said. zero_one reply.status e report.0
+  reply_unreported law one (Err e) h = tt

@@ -5,7 +5,7 @@ use Rattle.kilim_outside.specs.Files.{Files}
 use Rattle.kilim_top.specs.Words.{Run}
 use Rattle.kilim_top.specs.Reads.{OneFailed}
 use Rattle.kilim_top.specs.Respond.{Wrote0, Wrote1, WroteFrontOf}
-use Rattle.kilim_top.specs.Outcome.{WereRead, IsTextAt0, IsTextAt1, IsWholeRun, IsReport, IsFitList, read_of, IsFit, HasReport, FailedAtMost, WroteRun, WroteReport, WroteFront}
+use Rattle.kilim_top.specs.Outcome.{WereRead, IsTextAt0, IsTextAt1, IsDone, IsReport, IsFitRun, read_of, IsFit, HasReport, FailedAtMost, WroteRun, WroteReport, WroteFront}
 
 pub same_length : {A : Type 0} (f : A → List ℕ) (contents : Option Files) (names : List A) (files : List (List ℕ)) → WereRead contents (map f names) files → length names ≡ length files
 same_length f contents [] [] were = refl
@@ -33,7 +33,7 @@ wrote_report contents main names files old new were wrote = record {
   written = wrote.written;
 }
 
-either_text : (contents : Option Files) (main : List ℕ) (names files : List (List ℕ)) (text : List ℕ) → WereRead contents names files → IsWholeRun main files text ⊎ IsReport main names files text →
+either_text : (contents : Option Files) (main : List ℕ) (names files : List (List ℕ)) (text : List ℕ) → WereRead contents names files → IsDone main files text ⊎ IsReport main names files text →
     IsTextAt0 contents (Some (Run main names)) text ⊎ IsTextAt1 contents (Some (Run main names)) text
 either_text contents main names files text were (inl run) = inl (record { files = files; were_read = were; run = run })
 either_text contents main names files text were (inr report) = inr (record { files = files; were_read = were; report = report })
@@ -49,9 +49,9 @@ pub wrote_some : (contents : Option Files) (main : List ℕ) (names files : List
 wrote_some contents main names files old new were (inl same) = inl same
 wrote_some contents main names files old new were (inr wrote) = inr (wrote_front contents main names files old new were wrote)
 
-pub unfit : (contents : Option Files) (main : List ℕ) (names files : List (List ℕ)) → WereRead contents names files → (IsFitList main files → ⊥) → IsFit contents (Some (Run main names)) → ⊥
+pub unfit : (contents : Option Files) (main : List ℕ) (names files : List (List ℕ)) → WereRead contents names files → (IsFitRun main files → ⊥) → IsFit contents (Some (Run main names)) → ⊥
 unfit None main names files were not_fit fit = fit
-unfit (Some held) main names files were not_fit fit = not_fit (subst (λ (bs : List (List ℕ)). IsFitList main bs) (read_is held names files were) fit)
+unfit (Some held) main names files were not_fit fit = not_fit (subst (λ (bs : List (List ℕ)). IsFitRun main bs) (read_is held names files were) fit)
 
 pub unreported : (contents : Option Files) (main : List ℕ) (names files : List (List ℕ)) → WereRead contents names files → ((text : List ℕ) → IsReport main names files text → ⊥) → HasReport contents (Some (Run main names)) → ⊥
 unreported None main names files were none has = has

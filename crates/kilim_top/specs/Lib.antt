@@ -1,5 +1,7 @@
 pub mod Words
-pub mod SmallFile
+pub mod SmallProgram
+pub mod SmallFound
+pub mod ProgramOf
 pub mod Report
 pub mod Writing
 pub mod Outcome

@@ -1,6 +1,7 @@
 -- What each status of the top call means: what was read, and what was written.
 use Rattle.std.specs.Prelude.{◌≡◌, ◌≢◌, ℕ, List, [], ◌∷◌, ◌++◌, take, map, Option, Some, None, Contains, ◌⊎◌, Result, Ok, Err}
-use Rattle.kilim_program.specs.declared.class.Program.{Program}
+use Rattle.kilim_program.specs.declared.class.Form.TheVariants.{Plain}
+use Rattle.kilim_program.specs.Program.{Program}
 use Rattle.kilim_program.specs.declared.names.ClassId.{ClassId}
 use Rattle.kilim_program.specs.Names.{class_named}
 use Rattle.kilim_journal.specs.declared.entry.Entry.{Entry}
@@ -12,11 +13,17 @@ use Rattle.kilim_outside.specs.Files.{Files, content_of, file_limit}
 use Rattle.kilim_outside.specs.Causes.{Appended}
 use Rattle.kilim_thread_model.specs.State.{Setting}
 use Rattle.kilim_thread_model.specs.Runs.{Whole}
+use Rattle.kilim_thread_model.specs.declared.small_programs.Small.{Small}
+use Rattle.kilim_thread_model.specs.Small.{IsSmall, IsSmallBy}
 use Rattle.kilim_classfile.specs.declared.class_file.ClassFile.{ClassFile}
 use Rattle.kilim_classfile.specs.declared.fault.ClassFault.{ClassFault}
 use Rattle.kilim_classfile.specs.Reading.{read_class}
 use Rattle.kilim_reports.specs.ClassLines.{class_line}
-use Rattle.kilim_top.specs.SmallFile.{IsFile, IsSmallFile, IsProgramOf, own_name, small_prints}
+use Rattle.kilim_class_world.specs.declared.fault.LinkFault.TheVariants.{InClass}
+use Rattle.kilim_class_world.specs.declared.fault.Problem.{Problem}
+use Rattle.kilim_class_world.specs.Faults as link
+use Rattle.kilim_link_reports.specs.LinkLines.{link_line}
+use Rattle.kilim_top.specs.ProgramOf.{AreFiles, IsProgramOf}
 use Rattle.kilim_top.specs.Writing.{AppendedFront}
 use Rattle.kilim_top.specs.Report.{utf16_of, later_line, main_line}
 use Rattle.kilim_top.specs.Words.{Request, Run, files_read, files_written}
@@ -28,7 +35,7 @@ step_limit = 1000000
 abbrev pub setting_of : Program → ClassId → Setting
 setting_of program main = record { program = program; main = main; limits = record { steps = step_limit; args = [] } }
 
--- the text is that of the journal of a whole run, of these class files and that main class
+-- the text is that of the journal of a whole run, of the program to which these class files link and that main class
 pub record IsWholeRun (main : List ℕ) (files : List (List ℕ)) (text : List ℕ) : Type 0 where
   pub program : Program
   pub of_files : IsProgramOf files program
@@ -39,6 +46,20 @@ pub record IsWholeRun (main : List ℕ) (files : List (List ℕ)) (text : List �
   pub readable : IsReadable journal
   pub fits : JournalFits journal
   pub is_text : text ≡ journal_text journal
+
+-- The work can be done: no stage has a fault. The class files link to a program that can be run, and its own class is the
+-- main class.
+pub record IsFitRun (main : List ℕ) (files : List (List ℕ)) : Type 0 where
+  pub program : Program
+  pub of_files : IsProgramOf files program
+  pub small : Small
+  pub is_small : IsSmallBy program small
+  pub named : small.name ≡ utf16_of main
+
+-- the text of the work that was done
+pub record IsDone (main : List ℕ) (files : List (List ℕ)) (text : List ℕ) : Type 0 where
+  pub fit : IsFitRun main files
+  pub whole : IsWholeRun main files text
 
 -- ---- reports: one line with its line feed
 
@@ -58,37 +79,39 @@ pub record IsClassReport (names files : List (List ℕ)) (text : List ℕ) : Typ
   pub first : first_fault names files ≡ Some (name, fault)
   pub is_text : text ≡ class_line name fault
 
--- the class file can't be run yet
-pub record IsLater (bytes text : List ℕ) : Type 0 where
-  pub file : ClassFile
-  pub is_file : IsFile bytes file
-  pub not_small : small_prints file ≡ None
+-- All are class files, and linked in their order they have a fault: the first class that has a problem, with the first one.
+pub record IsLinkReport (files : List (List ℕ)) (text : List ℕ) : Type 0 where
+  pub classes : List ClassFile
+  pub are_files : AreFiles files classes
+  pub class : List ℕ
+  pub problem : Problem
+  pub first : link.first_fault classes Plain ≡ Some (InClass class problem)
+  pub is_text : text ≡ link_line class problem
+
+-- they link to a program, which can't be run yet
+pub record IsLater (files : List (List ℕ)) (text : List ℕ) : Type 0 where
+  pub program : Program
+  pub of_files : IsProgramOf files program
+  pub not_small : IsSmall program → ⊥
   pub is_text : text ≡ later_line
 
--- the class file can be run, and its class isn't the main class
-pub record IsMainReport (main bytes text : List ℕ) : Type 0 where
-  pub file : ClassFile
-  pub small : IsSmallFile bytes file
-  pub other : own_name file ≢ utf16_of main
+-- they link to a program that can be run, and its own class isn't the main class
+pub record IsMainReport (main : List ℕ) (files : List (List ℕ)) (text : List ℕ) : Type 0 where
+  pub program : Program
+  pub of_files : IsProgramOf files program
+  pub small : Small
+  pub is_small : IsSmallBy program small
+  pub other : small.name ≢ utf16_of main
   pub is_text : text ≡ main_line main
-
--- all are class files, and several can't be run yet
-pub record AreLater (names files : List (List ℕ)) (text : List ℕ) : Type 0 where
-  pub are_read : first_fault names files ≡ None
-  pub is_text : text ≡ later_line
-
-abbrev pub IsFileReport : List ℕ → List (List ℕ) → List (List ℕ) → List ℕ → Type 0
-IsFileReport main names (bytes ∷ []) text = IsLater bytes text ⊎ IsMainReport main bytes text
-IsFileReport main names files text = AreLater names files text
 
 -- the report of the first stage that has a fault
 abbrev pub IsReport : List ℕ → List (List ℕ) → List (List ℕ) → List ℕ → Type 0
-IsReport main names files text = IsClassReport names files text ⊎ IsFileReport main names files text
+IsReport main names files text = IsClassReport names files text ⊎ (IsLinkReport files text ⊎ (IsLater files text ⊎ IsMainReport main files text))
 
 -- ---- what was read
 
--- Where the folder tells, what was read is what it held, of each file. Where it doesn't, this says only how many
--- files were read.
+-- Where the folder tells, what was read is what it held, of each file. Where it doesn't, this says only that there are
+-- bytes for each name.
 abbrev pub WasRead : Option Files → List ℕ → List ℕ → Type 0
 WasRead None name bytes = Unit {0}
 WasRead (Some held) name bytes = bytes ≡ take file_limit (content_of held name)
@@ -102,7 +125,7 @@ WereRead contents names files = ⊥
 pub record IsRunText (contents : Option Files) (main : List ℕ) (names : List (List ℕ)) (text : List ℕ) : Type 0 where
   pub files : List (List ℕ)
   pub were_read : WereRead contents names files
-  pub run : IsWholeRun main files text
+  pub run : IsDone main files text
 
 pub record IsReportText (contents : Option Files) (main : List ℕ) (names : List (List ℕ)) (text : List ℕ) : Type 0 where
   pub files : List (List ℕ)
@@ -155,23 +178,13 @@ FailedAtMost request before now = (now ≡ before) ⊎ (ReadFailed request befor
 
 -- ---- when the work can be done
 
--- The words are in the grammar, and no stage has a fault: the class file can be run, and its class is the main
--- class. This speaks of a folder that tells what it holds.
-pub record IsFitFile (main bytes : List ℕ) : Type 0 where
-  pub file : ClassFile
-  pub small : IsSmallFile bytes file
-  pub named : own_name file ≡ utf16_of main
-
-abbrev pub IsFitList : List ℕ → List (List ℕ) → Type 0
-IsFitList main (bytes ∷ []) = IsFitFile main bytes
-IsFitList main files = ⊥
-
 -- what is read of the files with these names
 abbrev pub read_of : Files → List (List ℕ) → List (List ℕ)
 read_of held names = map (λ name. take file_limit (content_of held name)) names
 
+-- The words are in the grammar, and the work can be done. This speaks of a folder that tells what it holds.
 abbrev pub IsFit : Option Files → Option Request → Type 0
-IsFit (Some held) (Some (Run main names)) = IsFitList main (read_of held names)
+IsFit (Some held) (Some (Run main names)) = IsFitRun main (read_of held names)
 IsFit contents request = ⊥
 
 -- A stage has a fault. This speaks of a folder that tells what it holds.

@@ -9,7 +9,7 @@ use Rattle.kilim_journal.specs.Text.{name_text}
 abbrev pub utf16_of : List ℕ → List ℕ
 utf16_of text = flat_map encode_utf16 (chars text)
 
--- the class file can't be run yet
+-- the class files can't be run yet
 abbrev pub later_line : List ℕ
 later_line = codes "later\n"
 

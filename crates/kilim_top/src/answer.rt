@@ -1,25 +1,25 @@
-//! From the bytes of a class file to the text that is written.
+//! From the bytes of class files to the text that is written.
 
-ghost use Rattle.std.specs.Prelude.{◌≡◌, ◌⊎◌, ◌↔◌, ◌≤◌, ◌∷◌, [], Some, is_some, true, List, ℕ, IfOk, IsTrue, length, map};
+ghost use Rattle.std.specs.Prelude.{◌≡◌, ◌⊎◌, ◌↔◌, ◌≤◌, List, ℕ, IfOk, IsTrue, length, map};
+ghost use Rattle.std.specs.List.{AllByRecursion};
 ghost use Rattle.std.specs.String.{string_bytes};
-ghost use Rattle.kilim_grammar.specs.Reader.{ReadsUnless};
-ghost use Rattle.kilim_classfile.specs.declared.fault.ClassFault.TheVariants as fault;
-ghost use Rattle.kilim_classfile.specs.Text.{class_text, ClassFits};
-ghost use Rattle.kilim_classfile.specs.Reading.{read_class};
+ghost use Rattle.kilim_classfile.specs.Text.{ClassFits};
 ghost use Rattle.kilim_journal.specs.Text.{journal_text};
 ghost use Rattle.kilim_thread_model.specs.Small.{small_journal};
-ghost use Rattle.kilim_top.specs.SmallFile.{own_name, small_prints, small_of, PrintsFit};
+ghost use Rattle.kilim_top.specs.SmallFound.{CodeIsShort, IsFoundAs};
 ghost use Rattle.kilim_top.specs.Report.{utf16_of};
-ghost use Rattle.kilim_top.specs.Answer.{IsRunOf, IsReportOf};
-ghost use Rattle.kilim_top.specs.Outcome.{IsWholeRun, IsReport, IsFitFile, IsFitList, IsClassReport, AreLater};
+ghost use Rattle.kilim_top.specs.Answer.{IsReplyOf, IsReplyOfClasses, IsReplyOfFiles};
+ghost use Rattle.kilim_top.specs.Outcome.{IsDone, IsReport, IsFitRun};
 
-use crate::inputs::class_report;
+use crate::classes::classes_of;
+use crate::refusal::Refusal;
 use crate::report::{later, no_main, utf16_of};
 use crate::run::journal_of;
-use crate::small::{name_of, small_prints};
-use kilim_classfile::{ClassFault, ClassFile};
-use kilim_program::{NoMemory, Seq};
-use kilim_thread_model::small_run_is_whole;
+use crate::small::small_of;
+use kilim_class_world::{LinkFault, linked_in_parts, one_program};
+use kilim_classfile::{ClassFile, class_file_is_spelled};
+use kilim_program::{Form, NoMemory, Program, Seq};
+use kilim_thread_model::{Small, small_run_is_whole};
 use std::alloc::Global;
 
 /// A text to be written, and the status where it was written whole.
@@ -29,49 +29,35 @@ pub struct Reply {
     pub text: Vec<u8>,
 }
 
-// Whether units are the name of the class.
-fn is_own_name(file: &ClassFile, units: &[u16]) -> bool
-    ensures { IsTrue result ↔ (own_name file.now ≡ units.now) }
-{
-    match name_of(&file.constant_pool, file.this_class) {
-        Some(name) => name.as_slice() == units,
-        None => units.is_empty(),
-    }
-}
-
-fn is_main(alloc: Global, file: &ClassFile, main: &str) -> Result<bool, NoMemory>
-    ensures { IfOk result (λ is. IsTrue is ↔ (own_name file.now ≡ utf16_of main.now)) }
+fn is_main(alloc: Global, small: &Small, main: &str) -> Result<bool, NoMemory>
+    ensures { IfOk result (λ is. IsTrue is ↔ (small.now.name ≡ utf16_of main.now)) }
 {
     let units = utf16_of(alloc, main)?;
-    Ok(is_own_name(file, units.as_slice()))
+    Ok(small.name.as_slice() == units.as_slice())
 }
 
 // The text of the run's journal.
 #[tactic(auto, using(crate::proofs::WholeRun::small_is_readable))]
-fn run_text(alloc: Global, file: &ClassFile, prints: &[(i8, u16)]) -> Result<Vec<u8>, NoMemory>
-    requires { small_prints file.now ≡ Some prints.now }
-    ensures { IfOk result (λ text. text.items ≡ journal_text (small_journal (small_of file.now))) }
+fn run_text(alloc: Global, small: &Small) -> Result<Vec<u8>, NoMemory>
+    ensures { IfOk result (λ text. text.items ≡ journal_text (small_journal small.now)) }
 {
-    let _file = file;
-    let entries = journal_of(alloc, prints)?;
+    let entries = journal_of(alloc, small.prints.as_slice())?;
     kilim_journal::text(alloc, &entries)
 }
 
-// What is answered for a class file that can be run.
+// What is answered for a program that can be run.
 fn small_reply(
     alloc: Global,
     main: &str,
-    file: &ClassFile,
-    prints: &[(i8, u16)],
+    program: &Program,
+    small: &Small,
 ) -> Result<Reply, NoMemory>
-    requires prints { small_prints file.now ≡ Some prints.now }
-    requires fit { PrintsFit (small_prints file.now) }
-    ensures status { IfOk result (λ reply. reply.status ≤ 1) }
-    ensures run { IfOk result (λ reply. reply.status ≡ 0 → IsRunOf file.now main.now reply.text.items) }
-    ensures report { IfOk result (λ reply. reply.status ≡ 1 → IsReportOf file.now main.now reply.text.items) }
+    requires { IsFoundAs program.now small.now }
+    ensures { IfOk result (λ reply. IsReplyOf program.now main.now reply.status reply.text.items) }
 {
-    if is_main(alloc, file, main)? {
-        let text = run_text(alloc, file, prints)?;
+    let _program = program;
+    if is_main(alloc, small, main)? {
+        let text = run_text(alloc, small)?;
         Ok(Reply { status: 0, text })
     } else {
         let text = no_main(alloc, main)?;
@@ -79,14 +65,13 @@ fn small_reply(
     }
 }
 
-// What is answered for a class file that was read.
-fn file_reply(alloc: Global, main: &str, file: &ClassFile) -> Result<Reply, NoMemory>
-    ensures status { IfOk result (λ reply. reply.status ≤ 1) }
-    ensures run { IfOk result (λ reply. reply.status ≡ 0 → IsRunOf file.now main.now reply.text.items) }
-    ensures report { IfOk result (λ reply. reply.status ≡ 1 → IsReportOf file.now main.now reply.text.items) }
+// What is answered for a program.
+fn program_reply(alloc: Global, main: &str, program: &Program) -> Result<Reply, NoMemory>
+    requires { CodeIsShort program.now }
+    ensures { IfOk result (λ reply. IsReplyOf program.now main.now reply.status reply.text.items) }
 {
-    match small_prints(alloc, file)? {
-        Some(prints) => small_reply(alloc, main, file, prints.as_slice()),
+    match small_of(alloc, program)? {
+        Some(small) => small_reply(alloc, main, program, &small),
         None => {
             let text = later(alloc)?;
             Ok(Reply { status: 1, text })
@@ -94,47 +79,41 @@ fn file_reply(alloc: Global, main: &str, file: &ClassFile) -> Result<Reply, NoMe
     }
 }
 
-// The class file that bytes are, or the fault that is reported.
-fn class_file(alloc: Global, bytes: &[u8]) -> Result<ClassFile, ClassFault>
-    ensures found { IfOk result (λ file. (bytes.now ≡ class_text file) × ClassFits file) }
-    ensures reads { ReadsUnless fault.Memory (λ file. file) result (read_class bytes.now) }
+// What is answered for class files that were read.
+#[tactic(auto, using(crate::proofs::CodeLengths::code_is_short))]
+fn classes_reply(alloc: Global, main: &str, classes: &[ClassFile]) -> Result<Reply, NoMemory>
+    requires few { length classes.now ≤ 1000 }
+    requires fit { AllByRecursion ClassFits classes.now }
+    ensures { IfOk result (λ reply. IsReplyOfClasses classes.now main.now reply.status reply.text.items) }
 {
-    kilim_classfile::read(alloc, bytes)
-}
-
-// What is answered for a file with this name and these bytes, and that main class: the journal of its run with
-// status 0, or a report with status 1.
-fn answer_one(alloc: Global, main: &str, name: &str, bytes: &[u8]) -> Result<Reply, NoMemory>
-    ensures status { IfOk result (λ reply. reply.status ≤ 1) }
-    ensures whole { IfOk result (λ reply. reply.status ≡ 0 → IsWholeRun main.now (bytes.now ∷ []) reply.text.items) }
-    ensures report { IfOk result (λ reply. reply.status ≡ 1 → IsReport main.now (name.now ∷ []) (bytes.now ∷ []) reply.text.items) }
-    ensures text { IfOk result (λ reply. IsWholeRun main.now (bytes.now ∷ []) reply.text.items ⊎ IsReport main.now (name.now ∷ []) (bytes.now ∷ []) reply.text.items) }
-    ensures fit { IfOk result (λ reply. reply.status ≡ 1 → IsFitFile main.now bytes.now → ⊥) }
-    ensures unreported { IfOk result (λ reply. reply.status ≡ 0 → (text : List ℕ) → IsReport main.now (name.now ∷ []) (bytes.now ∷ []) text → ⊥) }
-{
-    small_run_is_whole();
-    kilim_classfile::class_file_is_spelled();
-    match class_file(alloc, bytes) {
-        Ok(file) => file_reply(alloc, main, &file),
-        Err(ClassFault::Memory) => Err(NoMemory),
-        Err(fault) => {
-            let text = kilim_reports::class_line(alloc, name, &fault)?;
+    linked_in_parts();
+    match kilim_link::link(alloc, classes, Form::Plain) {
+        Ok(program) => program_reply(alloc, main, &program),
+        Err(LinkFault::InClass(class, problem)) => {
+            let text = kilim_link_reports::link_line(alloc, &class, &problem)?;
             Ok(Reply { status: 1, text })
         }
+        Err(LinkFault::Memory) => Err(NoMemory),
     }
 }
 
-// What is answered for several files: the report of the first that is no class file, or that they can't be run yet.
-fn answer_several(alloc: Global, names: &[String], files: &[Seq<u8>]) -> Result<Reply, NoMemory>
-    requires { length names.now ≡ length files.now }
-    ensures status { IfOk result (λ reply. reply.status ≡ 1) }
-    ensures report { IfOk result (λ reply. IsClassReport (map string_bytes names.now) files.now reply.text.items ⊎ AreLater (map string_bytes names.now) files.now reply.text.items) }
+// What is answered for files with these names and bytes.
+fn files_reply(
+    alloc: Global,
+    main: &str,
+    names: &[String],
+    files: &[Seq<u8>],
+) -> Result<Reply, NoMemory>
+    requires few { length files.now ≤ 1000 }
+    requires same { length names.now ≡ length files.now }
+    ensures { IfOk result (λ reply. IsReplyOfFiles main.now (map string_bytes names.now) files.now reply.status reply.text.items) }
 {
-    let text = match class_report(alloc, names, files)? {
-        Some(text) => text,
-        None => later(alloc)?,
-    };
-    Ok(Reply { status: 1, text })
+    small_run_is_whole();
+    match classes_of(alloc, names, files) {
+        Ok(classes) => classes_reply(alloc, main, classes.as_slice()),
+        Err(Refusal::Report(text)) => Ok(Reply { status: 1, text }),
+        Err(Refusal::NoMemory) => Err(NoMemory),
+    }
 }
 
 /// What is answered for files with these names and bytes, and that main class: the journal of a run with status 0, or
@@ -145,17 +124,16 @@ pub fn answer(
     names: &[String],
     files: &[Seq<u8>],
 ) -> Result<Reply, NoMemory>
-    requires { length names.now ≡ length files.now }
+    requires few { length files.now ≤ 1000 }
+    requires same { length names.now ≡ length files.now }
     ensures status { IfOk result (λ reply. reply.status ≤ 1) }
-    ensures whole { IfOk result (λ reply. reply.status ≡ 0 → IsWholeRun main.now files.now reply.text.items) }
+    ensures whole { IfOk result (λ reply. reply.status ≡ 0 → IsDone main.now files.now reply.text.items) }
     ensures report { IfOk result (λ reply. reply.status ≡ 1 → IsReport main.now (map string_bytes names.now) files.now reply.text.items) }
-    ensures text { IfOk result (λ reply. IsWholeRun main.now files.now reply.text.items ⊎ IsReport main.now (map string_bytes names.now) files.now reply.text.items) }
-    ensures fit { IfOk result (λ reply. reply.status ≡ 1 → IsFitList main.now files.now → ⊥) }
+    ensures text { IfOk result (λ reply. IsDone main.now files.now reply.text.items ⊎ IsReport main.now (map string_bytes names.now) files.now reply.text.items) }
+    ensures fit { IfOk result (λ reply. reply.status ≡ 1 → IsFitRun main.now files.now → ⊥) }
     ensures unreported { IfOk result (λ reply. reply.status ≡ 0 → (text : List ℕ) → IsReport main.now (map string_bytes names.now) files.now text → ⊥) }
 {
-    match files {
-        [bytes] => answer_one(alloc, main, names[0].as_str(), bytes.as_slice()),
-        [] => answer_several(alloc, names, files),
-        [_, _, ..] => answer_several(alloc, names, files),
-    }
+    class_file_is_spelled();
+    one_program();
+    files_reply(alloc, main, names, files)
 }

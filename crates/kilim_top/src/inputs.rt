@@ -1,15 +1,14 @@
-//! The files that the words name: their bytes, and the first of them that is no class file.
+//! The bytes of the files that the words name.
 
-ghost use Rattle.std.specs.Prelude.{◌≡◌, Option, None, length, map, IfOk, IfSome};
+ghost use Rattle.std.specs.Prelude.{◌≡◌, map, IfOk};
 ghost use Rattle.std.specs.String.{string_bytes};
 ghost use Rattle.kilim_outside.specs.Causes.{FolderCause};
 ghost use Rattle.kilim_outside.specs.declared.folder.FailedCall.TheVariants.{Read};
-ghost use Rattle.kilim_top.specs.Outcome.{WereRead, WasRead, IsClassReport, first_fault};
+ghost use Rattle.kilim_top.specs.Outcome.{WereRead, WasRead};
 ghost use Rattle.kilim_top.specs.Reads.{ReadsCause};
 
-use kilim_classfile::ClassFault;
 use kilim_outside::{Folder, FolderFault};
-use kilim_program::{NoMemory, Seq};
+use kilim_program::Seq;
 use std::alloc::Global;
 
 #[tactic(auto, using(crate::proofs::Named::was_read))]
@@ -41,27 +40,4 @@ pub fn read_all<F: Folder>(
         }
     }
     Ok(read)
-}
-
-/// The report of the first file that is no class file.
-pub fn class_report(
-    alloc: Global,
-    names: &[String],
-    files: &[Seq<u8>],
-) -> Result<Option<Vec<u8>>, NoMemory>
-    requires { length names.now ≡ length files.now }
-    ensures none { IfOk result (λ found. found ≡ None → first_fault (map string_bytes names.now) files.now ≡ None) }
-    ensures some { IfOk result (λ found. IfSome found (λ text. IsClassReport (map string_bytes names.now) files.now text.items)) }
-{
-    for (i, name) in names.iter().enumerate() {
-        match kilim_classfile::read(alloc, files[i].as_slice()) {
-            Ok(_) => {}
-            Err(ClassFault::Memory) => return Err(NoMemory),
-            Err(fault) => {
-                let text = kilim_reports::class_line(alloc, name.as_str(), &fault)?;
-                return Ok(Some(text));
-            }
-        }
-    }
-    Ok(None)
 }

@@ -3,7 +3,9 @@
 #![tactic(auto)]
 
 mod answer;
+mod classes;
 mod inputs;
+mod refusal;
 mod report;
 mod run;
 mod small;

@@ -1,4 +1,4 @@
-//! The run of a class file of the kind that runs today.
+//! The run of a program of the kind that runs today.
 
 ghost use Rattle.std.specs.Prelude.{◌≡◌, ◌∷◌, ◌++◌, [], map, IfOk};
 ghost use Rattle.kilim_thread_model.specs.Small.{print_entry, done_entry};
@@ -27,19 +27,19 @@ fn done_entry() -> Entry
     }
 }
 
-fn print_entries(alloc: Global, prints: &[(i8, u16)]) -> Result<Vec<Entry>, AllocError>
-    ensures { IfOk result (λ entries. entries.items ≡ map print_entry (map (λ p. p.0) prints.now)) }
+fn print_entries(alloc: Global, prints: &[i8]) -> Result<Vec<Entry>, AllocError>
+    ensures { IfOk result (λ entries. entries.items ≡ map print_entry prints.now) }
 {
     let mut entries = Vec::new(alloc);
-    for (number, _) in prints {
+    for number in prints {
         entries.push(print_entry(alloc, *number)?)?;
     }
     Ok(entries)
 }
 
-// The constructor returns, each print is done in turn, and `execute` returns.
-pub fn journal_of(alloc: Global, prints: &[(i8, u16)]) -> Result<Vec<Entry>, AllocError>
-    ensures { IfOk result (λ entries. entries.items ≡ map print_entry (map (λ p. p.0) prints.now) ++ done_entry ∷ []) }
+/// The constructor returns, each print is done in turn, and `execute` returns.
+pub fn journal_of(alloc: Global, prints: &[i8]) -> Result<Vec<Entry>, AllocError>
+    ensures { IfOk result (λ entries. entries.items ≡ map print_entry prints.now ++ done_entry ∷ []) }
 {
     let mut entries = print_entries(alloc, prints)?;
     entries.push(done_entry())?;

@@ -1,390 +1,353 @@
-//! Which class files run today.
+//! Which programs run today.
 
-ghost use Rattle.std.specs.Prelude.{◌≡◌, IfOk, IfSome, List, Option, FitsSigned};
+ghost use Rattle.std.specs.Prelude.{◌≡◌, ◌<◌, ◌^◌, ◌&&◌, true, codes, IfOk, IfSome, FitsSigned};
 ghost use Rattle.std.specs.Int.{w8};
-ghost use Rattle.std.specs.List.{list_all};
-ghost use Rattle.std.specs.Option.{option_copied, option_map};
-ghost use Rattle.kilim_constant_pool.specs.Entries.{entry_at};
-ghost use Rattle.kilim_top.specs.SmallFile.{text_of, name_of, is_named, is_text, is_class, is_typed_in, is_method, is_raw, is_code, is_exceptions, all_raw, only_code, only_code_and_exceptions, code_in, classes_in, called_in, print_at, ends, prints_in, is_no_part, is_plain, is_built_in_name, is_own_name, is_class_head, is_head, is_call, is_constructor_code, is_constructor, is_print, all_prints, code_prints, is_pausable_list, is_execute_head, execute_prints, method_prints, small_prints, PrintsFit};
+ghost use Rattle.std.specs.Option.{option_map};
+ghost use Rattle.kilim_program.specs.Keeps.{EndsBuiltIn};
+ghost use Rattle.kilim_top.specs.SmallProgram.{byte_of, is_load, is_construct, is_print, is_return, stands, byte_at, is_constructor_code, print_at, ends, prints_from, is_plain, is_task_id, are_first_two, is_small_class, is_cuttable, takes_nothing, is_plain_method, has_room, is_small_method, is_small_constructor, is_outline, is_length, small_with, small_members, small_parts, small_in};
+ghost use Rattle.kilim_top.specs.SmallFound.{AreBytes, AreBytesOf, CodeIsShort, IsFound};
 
-use kilim_attributes::{Attribute, Code, CodeAttribute, CodeInfo, Info};
-use kilim_classfile::{ClassFile, MemberInfo};
-use kilim_constant_pool::{Entry, Pool};
-use kilim_program::{Seq, Units};
+use kilim_program::{
+    Class, ClassId, Form, Instr, Method, MethodId, Program, Qualifier, Seq, Units,
+};
+use kilim_thread_model::Small;
 use std::alloc::{AllocError, Global};
 
-fn text_of(pool: &Pool, index: u16) -> Option<&Units>
-    ensures { option_copied result ≡ text_of pool.now index }
+// ---- code (JVMS chapter 6)
+
+fn byte_of(instr: &Instr) -> Option<i8>
+    ensures byte { result ≡ byte_of instr.now }
+    ensures fit { IfSome result (FitsSigned w8) }
 {
-    match pool.entry(index) {
-        Some(Entry::Utf8(units)) => Some(units),
+    match instr {
+        Instr::Bipush(number) => Some(*number),
         _ => None,
     }
 }
 
-fn is_text(pool: &Pool, index: u16, text: &[u8]) -> bool
-    ensures { result ≡ is_text pool.now index text.now }
+fn is_load(instr: &Instr) -> bool
+    ensures { result ≡ is_load instr.now }
 {
-    match text_of(pool, index) {
-        Some(units) => units.is_text(text),
-        None => false,
-    }
-}
-
-// The name of a class.
-pub fn name_of(pool: &Pool, index: u16) -> Option<&Units>
-    ensures { option_copied result ≡ name_of pool.now index }
-{
-    match pool.entry(index) {
-        Some(Entry::Class(name)) => text_of(pool, *name),
-        _ => None,
-    }
-}
-
-fn is_class(pool: &Pool, index: u16, text: &[u8]) -> bool
-    ensures { result ≡ is_class pool.now index text.now }
-{
-    match name_of(pool, index) {
-        Some(units) => units.is_text(text),
-        None => false,
-    }
-}
-
-fn is_typed(pool: &Pool, index: u16, name: &[u8], descriptor: &[u8]) -> bool
-    ensures { result ≡ is_typed_in pool.now name.now descriptor.now (entry_at pool.now index) }
-{
-    match pool.entry(index) {
-        Some(Entry::NameAndType(n, d)) => is_text(pool, *n, name) && is_text(pool, *d, descriptor),
+    match instr {
+        Instr::Aload(slot) => *slot == 0,
         _ => false,
     }
 }
 
-#[tactic(auto, unfolding(crate::specs::SmallFile::is_method))]
-fn is_method(pool: &Pool, index: u16, class: &[u8], name: &[u8], descriptor: &[u8]) -> bool
-    ensures { result ≡ is_method pool.now index class.now name.now descriptor.now }
+// A call of the constructor of `kilim/Task`.
+fn is_construct(instr: &Instr) -> bool
+    ensures { result ≡ is_construct instr.now }
 {
-    match pool.entry(index) {
-        Some(Entry::Methodref(c, m)) => {
-            is_class(pool, *c, class) && is_typed(pool, *m, name, descriptor)
+    match instr {
+        Instr::Invokespecial(method) => method.0 == 6,
+        _ => false,
+    }
+}
+
+// A call of `print` with an int.
+fn is_print(instr: &Instr) -> bool
+    ensures { result ≡ is_print instr.now }
+{
+    match instr {
+        Instr::Invokestatic(method) => method.0 == 13,
+        _ => false,
+    }
+}
+
+fn is_return(instr: &Instr) -> bool
+    ensures { result ≡ is_return instr.now }
+{
+    matches!(instr, Instr::Return)
+}
+
+fn is_constructor_code(code: &[(u32, Instr)]) -> bool
+    ensures { result ≡ is_constructor_code code.now }
+{
+    match code {
+        [(at_load, load), (at_call, call), (at_end, end)] => {
+            *at_load == 0
+                && is_load(load)
+                && *at_call == 1
+                && is_construct(call)
+                && *at_end == 4
+                && is_return(end)
         }
         _ => false,
     }
 }
 
-// An attribute that wasn't read into parts.
-#[tactic(auto, unfolding(crate::specs::SmallFile::is_raw))]
-fn is_raw(info: &Info) -> bool
-    ensures { result ≡ is_raw info.now }
+// The byte that the instruction at a place pushes.
+fn byte_at(at: u64, entry: &(u32, Instr)) -> Option<i8>
+    ensures byte { result ≡ byte_at at entry.now }
+    ensures fit { IfSome result (FitsSigned w8) }
+    ensures near { IfSome result (λ _. at < 2 ^ 32) }
 {
-    matches!(info, Info::Raw(_))
-}
-
-#[tactic(auto, unfolding(crate::specs::SmallFile::is_code))]
-fn is_code(info: &Info) -> bool
-    ensures { result ≡ is_code info.now }
-{
-    matches!(info, Info::Code(_))
-}
-
-#[tactic(auto, unfolding(crate::specs::SmallFile::is_exceptions))]
-fn is_exceptions(info: &Info) -> bool
-    ensures { result ≡ is_exceptions info.now }
-{
-    matches!(info, Info::Exceptions(_))
-}
-
-#[tactic(auto, unfolding(crate::specs::SmallFile::all_raw))]
-fn all_raw(attributes: &[Attribute]) -> bool
-    ensures { result ≡ all_raw attributes.now }
-{
-    attributes.iter().all(|a| is_raw(&a.info))
-}
-
-#[tactic(auto, unfolding(crate::specs::SmallFile::only_code))]
-fn only_code(attributes: &[Attribute]) -> bool
-    ensures { result ≡ only_code attributes.now }
-{
-    attributes
-        .iter()
-        .all(|a| is_raw(&a.info) || is_code(&a.info))
-}
-
-#[tactic(auto, unfolding(crate::specs::SmallFile::only_code_and_exceptions))]
-fn only_code_and_exceptions(attributes: &[Attribute]) -> bool
-    ensures { result ≡ only_code_and_exceptions attributes.now }
-{
-    attributes.iter().all(|a| is_raw(&a.info) || is_code(&a.info) || is_exceptions(&a.info))
-}
-
-fn code_in(attributes: &[Attribute]) -> Option<&Code>
-    ensures { option_copied result ≡ code_in attributes.now }
-{
-    for attribute in attributes {
-        if let Info::Code(code) = &attribute.info {
-            return Some(code);
-        }
+    let (place, instr) = entry;
+    if u64::from(*place) == at {
+        byte_of(instr)
+    } else {
+        None
     }
-    None
 }
 
-fn classes_in(attributes: &[Attribute]) -> Option<&[u16]>
-    ensures { option_copied result ≡ classes_in attributes.now }
+fn is_print_at(at: u64, entry: &(u32, Instr)) -> bool
+    ensures { result ≡ stands is_print at entry.now }
 {
-    for attribute in attributes {
-        if let Info::Exceptions(classes) = &attribute.info {
-            return Some(classes.as_slice());
-        }
-    }
-    None
+    let (place, instr) = entry;
+    u64::from(*place) == at && is_print(instr)
 }
 
-fn called_in(code: &[u8]) -> Option<u16>
-    ensures { result ≡ called_in code.now }
+fn is_return_at(at: u64, entry: &(u32, Instr)) -> bool
+    ensures { result ≡ stands is_return at entry.now }
+{
+    let (place, instr) = entry;
+    u64::from(*place) == at && is_return(instr)
+}
+
+// One pair of bipush and invokestatic at a place, and the code behind it.
+fn print_at(at: u64, code: &[(u32, Instr)]) -> Option<(i8, &[(u32, Instr)])>
+    requires { at < 2 ^ 33 }
+    ensures print { option_map (λ x. (x.0, x.1.now)) result ≡ print_at at code.now }
+    ensures fit { IfSome result (λ x. FitsSigned w8 x.0) }
+    ensures near { IfSome result (λ _. at < 2 ^ 32) }
 {
     match code {
-        [42, 183, high, low, 177] => Some(u16::from_be_bytes([*high, *low])),
+        [push, call, after @ ..] if is_print_at(at + 2, call) => match byte_at(at, push) {
+            Some(number) => Some((number, after)),
+            None => None,
+        },
         _ => None,
     }
 }
 
-// One pair of bipush and invokestatic, and the code behind it.
-fn print_at(code: &[u8]) -> Option<((i8, u16), &[u8])>
-    ensures print { option_map (λ x. (x.0, x.1.now)) result ≡ print_at code.now }
-    ensures fit { IfSome result (λ x. FitsSigned w8 x.0.0) }
+fn ends(at: u64, code: &[(u32, Instr)]) -> bool
+    ensures { result ≡ ends at code.now }
 {
     match code {
-        [a, number, b, high, low, after @ ..] => {
-            if *a == 16 && *b == 184 {
-                let called = u16::from_be_bytes([*high, *low]);
-                Some(((number.cast_signed(), called), after))
-            } else {
-                None
-            }
-        }
-        _ => None,
-    }
-}
-
-fn ends(code: &[u8]) -> bool
-    ensures { result ≡ ends code.now }
-{
-    match code {
-        [a] => *a == 177,
+        [end] => is_return_at(at, end),
         _ => false,
     }
 }
 
-// The bytes that a code of prints pushes, and the indices that it calls; nothing where it isn't one.
-fn prints_in(alloc: Global, code: &[u8]) -> Result<Option<Seq<(i8, u16)>>, AllocError>
-    ensures prints { IfOk result (λ prints. prints ≡ prints_in code.now) }
-    ensures fit { IfOk result (λ prints. PrintsFit prints) }
+// The bytes that a code of prints pushes; nothing where it isn't one.
+fn prints_in(alloc: Global, code: &[(u32, Instr)]) -> Result<Option<Seq<i8>>, AllocError>
+    ensures prints { IfOk result (λ prints. prints ≡ prints_from 0 code.now) }
+    ensures fit { IfOk result (λ prints. AreBytes prints) }
 {
     let mut prints = Vec::new(alloc);
+    let mut at = 0u64;
     let mut rest = code;
-    while let Some((print, after)) = print_at(rest) {
-        prints.push(print)?;
+    while let Some((number, after)) = print_at(at, rest) {
+        prints.push(number)?;
+        at += 5;
         rest = after;
     }
-    if ends(rest) {
+    if ends(at, rest) {
         Ok(Some(Seq::from_vec(prints)))
     } else {
         Ok(None)
     }
 }
 
-fn is_no_part(info: &CodeInfo) -> bool
-    ensures { result ≡ is_no_part info.now }
-{
-    matches!(info, CodeInfo::Raw(_))
-}
+// ---- the class and its methods
 
-fn all_raw_in_code(attributes: &[CodeAttribute]) -> bool
-    ensures { result ≡ list_all (λ a. is_no_part a.info) attributes.now }
+fn is_plain(form: Form) -> bool
+    ensures { result ≡ is_plain form }
 {
-    attributes.iter().all(|a| is_no_part(&a.info))
-}
-
-fn is_plain(code: &Code) -> bool
-    ensures { result ≡ is_plain code.now }
-{
-    code.max_stack > 0
-        && code.max_locals > 0
-        && code.exception_table.len() == 0
-        && all_raw_in_code(code.attributes.as_slice())
-}
-
-fn is_built_in_name(name: &Units) -> bool
-    ensures { result ≡ is_built_in_name name.now }
-{
-    name.is_text(b"java/lang/Object")
-        || name.is_text(b"java/lang/String")
-        || name.is_text(b"kilim/Message")
-        || name.is_text(b"kilim/Pausable")
-        || name.is_text(b"kilim/Task")
-        || name.is_text(b"kilim/Mailbox")
-        || name.is_text(b"kilim/Sys")
-        || name.is_text(b"kilim/Fiber")
-}
-
-fn is_own_name(name: Option<&Units>) -> bool
-    ensures { result ≡ is_own_name (option_copied name.entry) }
-{
-    match name {
-        None => false,
-        Some(name) => !is_built_in_name(name),
+    match form {
+        Form::Plain => true,
+        Form::Woven => false,
     }
 }
 
-#[tactic(auto, unfolding(crate::specs::SmallFile::is_class_head))]
-fn is_class_head(f: &ClassFile) -> bool
-    ensures { result ≡ is_class_head f.now }
+fn is_task_id(class: Option<ClassId>) -> bool
+    ensures { result ≡ is_task_id class }
 {
-    let pool = &f.constant_pool;
-    (f.access_flags == 0x20 || f.access_flags == 0x21)
-        && is_own_name(name_of(pool, f.this_class))
-        && is_class(pool, f.super_class, b"kilim/Task")
-        && f.interfaces.len() == 0
-        && f.fields.len() == 0
-        && all_raw(f.attributes.as_slice())
-}
-
-fn is_head(pool: &Pool, m: &MemberInfo, name: &[u8]) -> bool
-    ensures { result ≡ is_head pool.now m.now name.now }
-{
-    is_text(pool, m.name_index, name) && is_text(pool, m.descriptor_index, b"()V")
-}
-
-fn is_call(pool: &Pool, index: Option<u16>) -> bool
-    ensures { result ≡ is_call pool.now index }
-{
-    match index {
-        Some(index) => is_method(pool, index, b"kilim/Task", b"<init>", b"()V"),
+    match class {
+        Some(class) => class.0 == 5,
         None => false,
     }
 }
 
-fn is_constructor_code(pool: &Pool, code: Option<&Code>) -> bool
-    ensures { result ≡ is_constructor_code pool.now (option_copied code.entry) }
+fn are_first_two(methods: &[MethodId]) -> bool
+    ensures { result ≡ are_first_two methods.now }
 {
-    match code {
-        Some(code) => is_plain(code) && is_call(pool, called_in(code.code.as_slice())),
-        None => false,
-    }
-}
-
-#[tactic(auto, unfolding(crate::specs::SmallFile::is_constructor))]
-fn is_constructor(pool: &Pool, m: &MemberInfo) -> bool
-    ensures { result ≡ is_constructor pool.now m.now }
-{
-    let attributes = m.attributes.as_slice();
-    (m.access_flags == 0 || m.access_flags == 1)
-        && is_head(pool, m, b"<init>")
-        && only_code(attributes)
-        && is_constructor_code(pool, code_in(attributes))
-}
-
-fn is_print(pool: &Pool, print: (i8, u16)) -> bool
-    ensures { result ≡ is_print pool.now print }
-{
-    is_method(pool, print.1, b"kilim/Sys", b"print", b"(I)V")
-}
-
-fn all_print(pool: &Pool, prints: &[(i8, u16)]) -> bool
-    ensures { result ≡ list_all (is_print pool.now) prints.now }
-{
-    prints.iter().all(|print| is_print(pool, *print))
-}
-
-// The prints, where they are calls of `print` each.
-fn all_prints(pool: &Pool, prints: Option<Seq<(i8, u16)>>) -> Option<Seq<(i8, u16)>>
-    requires { PrintsFit prints }
-    ensures prints { result ≡ all_prints pool.now prints }
-    ensures fit { PrintsFit result }
-{
-    match prints {
-        Some(prints) if all_print(pool, prints.as_slice()) => Some(prints),
-        _ => None,
-    }
-}
-
-fn code_prints(
-    alloc: Global,
-    pool: &Pool,
-    code: Option<&Code>,
-) -> Result<Option<Seq<(i8, u16)>>, AllocError>
-    ensures prints { IfOk result (λ prints. prints ≡ code_prints pool.now (option_copied code.entry)) }
-    ensures fit { IfOk result (λ prints. PrintsFit prints) }
-{
-    match code {
-        Some(code) if is_plain(code) => {
-            let prints = prints_in(alloc, code.code.as_slice())?;
-            Ok(all_prints(pool, prints))
-        }
-        _ => Ok(None),
-    }
-}
-
-fn is_pausable_list(pool: &Pool, classes: Option<&[u16]>) -> bool
-    ensures { result ≡ is_pausable_list pool.now (option_copied classes.entry) }
-{
-    match classes {
-        Some([class]) => is_class(pool, *class, b"kilim/Pausable"),
+    match methods {
+        [a, b] => a.0 == 0 && b.0 == 1,
         _ => false,
     }
 }
 
-#[tactic(auto, unfolding(crate::specs::SmallFile::is_execute_head))]
-fn is_execute_head(pool: &Pool, m: &MemberInfo) -> bool
-    ensures { result ≡ is_execute_head pool.now m.now }
+#[tactic(auto, unfolding(crate::specs::SmallProgram::is_small_class))]
+fn is_small_class(class: &Class) -> bool
+    ensures { result ≡ is_small_class class.now }
 {
-    let attributes = m.attributes.as_slice();
-    m.access_flags == 1
-        && is_head(pool, m, b"execute")
-        && only_code_and_exceptions(attributes)
-        && is_pausable_list(pool, classes_in(attributes))
+    is_task_id(class.superclass)
+        && !class.is_abstract
+        && !class.message
+        && class.fields.len() == 0
+        && are_first_two(class.methods.as_slice())
 }
 
-fn execute_prints(
-    alloc: Global,
-    pool: &Pool,
-    m: &MemberInfo,
-) -> Result<Option<Seq<(i8, u16)>>, AllocError>
-    ensures prints { IfOk result (λ prints. prints ≡ execute_prints pool.now m.now) }
-    ensures fit { IfOk result (λ prints. PrintsFit prints) }
+fn is_cuttable(qualifier: Qualifier) -> bool
+    ensures { result ≡ is_cuttable qualifier }
 {
-    if is_execute_head(pool, m) {
-        code_prints(alloc, pool, code_in(m.attributes.as_slice()))
-    } else {
-        Ok(None)
+    match qualifier {
+        Qualifier::Cuttable => true,
+        Qualifier::Free | Qualifier::Safe => false,
     }
 }
 
-fn method_prints(
-    alloc: Global,
-    pool: &Pool,
-    methods: &[MemberInfo],
-) -> Result<Option<Seq<(i8, u16)>>, AllocError>
-    ensures prints { IfOk result (λ prints. prints ≡ method_prints pool.now methods.now) }
-    ensures fit { IfOk result (λ prints. PrintsFit prints) }
+#[tactic(auto, unfolding(crate::specs::SmallProgram::takes_nothing))]
+fn takes_nothing(method: &Method) -> bool
+    ensures { result ≡ takes_nothing method.now }
 {
-    match methods {
-        [constructor, execute] if is_constructor(pool, constructor) => {
-            execute_prints(alloc, pool, execute)
+    method.params.len() == 0
+        && method.result.is_none()
+        && method.qualifiers.len() == 0
+        && is_cuttable(method.receiver)
+}
+
+#[tactic(auto, unfolding(crate::specs::SmallProgram::is_plain_method))]
+fn is_plain_method(method: &Method) -> bool
+    ensures { result ≡ is_plain_method method.now }
+{
+    !method.is_static && !method.is_private && !method.is_abstract && !method.built_in
+}
+
+#[tactic(auto, unfolding(crate::specs::SmallProgram::has_room))]
+fn has_room(method: &Method) -> bool
+    ensures { result ≡ has_room method.now }
+{
+    method.max_stack > 0 && method.max_locals > 0 && method.frames.len() == 0
+}
+
+#[tactic(auto, unfolding(crate::specs::SmallProgram::is_small_method))]
+fn is_small_method(method: &Method, name: &[u8], pausable: bool) -> bool
+    ensures { result ≡ is_small_method name.now pausable method.now }
+{
+    method.name.is_text(name)
+        && method.owner.0 == 0
+        && method.pausable == pausable
+        && takes_nothing(method)
+        && is_plain_method(method)
+        && has_room(method)
+}
+
+#[tactic(auto, unfolding(crate::specs::SmallProgram::is_small_constructor))]
+fn is_small_constructor(method: &Method) -> bool
+    ensures { result ≡ is_small_constructor method.now }
+{
+    is_small_method(method, b"<init>", false)
+        && method.code_length == 5
+        && is_constructor_code(method.code.as_slice())
+}
+
+// ---- the program
+
+#[tactic(auto, unfolding(crate::specs::SmallProgram::is_outline))]
+fn is_outline(program: &Program) -> bool
+    ensures outline { result ≡ is_outline program.now }
+    ensures built_in { EndsBuiltIn program.now }
+{
+    is_plain(program.form)
+        && program.classes.len() == 8
+        && program.methods.len() == 20
+        && program.fields.len() == 0
+}
+
+fn is_length(count: usize, len: u32) -> bool
+    ensures { result ≡ is_length count len }
+{
+    count < 13107 && u64::from(len) == 5 * (count as u64) + 1
+}
+
+fn small_with(
+    alloc: Global,
+    class: &Class,
+    constructor: &Method,
+    execute: &Method,
+    prints: Option<Seq<i8>>,
+) -> Result<Option<Small>, AllocError>
+    requires { AreBytes prints }
+    ensures small { IfOk result (λ small. small ≡ small_with class.now constructor.now execute.now prints) }
+    ensures fit { IfOk result (λ small. AreBytesOf small) }
+{
+    match prints {
+        Some(prints) if is_length(prints.len(), execute.code_length) => Ok(Some(Small {
+            name: Units::from_slice(alloc, class.name.as_slice())?,
+            constructor_stack: constructor.max_stack,
+            constructor_locals: constructor.max_locals,
+            execute_stack: execute.max_stack,
+            execute_locals: execute.max_locals,
+            prints,
+        })),
+        _ => Ok(None),
+    }
+}
+
+fn are_small(class: &Class, constructor: &Method, execute: &Method) -> bool
+    ensures { result ≡ (is_small_class class.now && (is_small_constructor constructor.now && is_small_method (codes "execute") true execute.now)) }
+{
+    is_small_class(class)
+        && is_small_constructor(constructor)
+        && is_small_method(execute, b"execute", true)
+}
+
+fn small_members(
+    alloc: Global,
+    class: &Class,
+    constructor: &Method,
+    execute: &Method,
+) -> Result<Option<Small>, AllocError>
+    ensures small { IfOk result (λ small. small ≡ small_members class.now constructor.now execute.now) }
+    ensures fit { IfOk result (λ small. AreBytesOf small) }
+{
+    if !are_small(class, constructor, execute) {
+        return Ok(None);
+    }
+    let prints = prints_in(alloc, execute.code.as_slice())?;
+    small_with(alloc, class, constructor, execute, prints)
+}
+
+fn small_parts(
+    alloc: Global,
+    classes: &[Class],
+    methods: &[Method],
+) -> Result<Option<Small>, AllocError>
+    ensures small { IfOk result (λ small. small ≡ small_parts classes.now methods.now) }
+    ensures fit { IfOk result (λ small. AreBytesOf small) }
+{
+    match (classes, methods) {
+        ([class, ..], [constructor, execute, ..]) => {
+            small_members(alloc, class, constructor, execute)
         }
         _ => Ok(None),
     }
 }
 
-/// What a class file of the kind that runs today prints, each number beside the index of the method that it calls;
-/// nothing where it isn't one.
-#[tactic(auto, unfolding(crate::specs::SmallFile::small_prints))]
-pub fn small_prints(alloc: Global, file: &ClassFile) -> Result<Option<Seq<(i8, u16)>>, AllocError>
-    ensures prints { IfOk result (λ prints. prints ≡ small_prints file.now) }
-    ensures fit { IfOk result (λ prints. PrintsFit prints) }
+#[tactic(auto, unfolding(crate::specs::SmallProgram::small_in))]
+fn small_in(alloc: Global, program: &Program) -> Result<Option<Small>, AllocError>
+    ensures small { IfOk result (λ small. small ≡ small_in program.now) }
+    ensures fit { IfOk result (λ small. AreBytesOf small) }
+    ensures built_in { EndsBuiltIn program.now }
 {
-    if is_class_head(file) {
-        method_prints(alloc, &file.constant_pool, file.methods.as_slice())
+    if is_outline(program) {
+        small_parts(
+            alloc,
+            program.classes.as_slice(),
+            program.methods.as_slice(),
+        )
     } else {
         Ok(None)
     }
+}
+
+/// Which of the programs that run today this is; nothing exactly where it isn't one of them.
+#[tactic(auto, using(crate::proofs::SmallLaws::is_found))]
+pub fn small_of(alloc: Global, program: &Program) -> Result<Option<Small>, AllocError>
+    requires { CodeIsShort program.now }
+    ensures { IfOk result (IsFound program.now) }
+{
+    small_in(alloc, program)
 }

@@ -30,7 +30,14 @@ static CLASS_A: [u8; 235] = [
     0x0b, 0x00, 0x00, 0x00, 0x04, 0x00, 0x01, 0x00, 0x0d, 0x00, 0x00,
 ];
 
-// The journal of its run.
+// The class file of a class `A` without members, whose superclass is `X`. The two names stand at 0x0D and 0x14.
+static CLASS_A_OF_X: [u8; 38] = [
+    0xca, 0xfe, 0xba, 0xbe, 0x00, 0x00, 0x00, 0x34, 0x00, 0x05, 0x01, 0x00, 0x01, 0x41, 0x07, 0x00,
+    0x01, 0x01, 0x00, 0x01, 0x58, 0x07, 0x00, 0x03, 0x00, 0x20, 0x00, 0x02, 0x00, 0x04, 0x00, 0x00,
+    0x00, 0x00, 0x00, 0x00, 0x00, 0x00,
+];
+
+// The journal of the run of the class `A` that prints 7.
 const JOURNAL: &str = "0 print 7\n0 end done\n";
 
 // The words that run it.
@@ -44,19 +51,53 @@ fn words_of(alloc: Global, words: &[&str]) -> Result<Vec<String>, AllocError> {
     Ok(all)
 }
 
+fn named_file(alloc: Global, name: &str, bytes: &[u8]) -> Result<NamedFile, AllocError> {
+    Ok(NamedFile {
+        name: Seq::from_vec(Vec::from_slice(alloc, name.as_bytes())?),
+        bytes: Seq::from_vec(Vec::from_slice(alloc, bytes)?),
+    })
+}
+
 // One file, named `A.class`.
 fn one_file(alloc: Global, bytes: &[u8]) -> Result<Seq<NamedFile>, AllocError> {
-    let file = NamedFile {
-        name: Seq::from_vec(Vec::from_slice(alloc, b"A.class")?),
-        bytes: Seq::from_vec(Vec::from_slice(alloc, bytes)?),
-    };
     let mut files = Seq::new(alloc);
-    files.push(file)?;
+    files.push(named_file(alloc, "A.class", bytes)?)?;
+    Ok(files)
+}
+
+// The class file of a class without members, by its name and that of its superclass, a letter each.
+fn empty_class(alloc: Global, name: u8, superclass: u8) -> Result<Vec<u8>, AllocError> {
+    let mut bytes = Vec::from_slice(alloc, &CLASS_A_OF_X[..0x0D])?;
+    bytes.push(name)?;
+    bytes.extend_from_slice(&CLASS_A_OF_X[0x0E..0x14])?;
+    bytes.push(superclass)?;
+    bytes.extend_from_slice(&CLASS_A_OF_X[0x15..])?;
+    Ok(bytes)
+}
+
+// Four files: the class `A` that prints 7; `P` and `Q`, each of which is the other's superclass; and `R`, whose
+// superclass isn't there.
+fn four_files(alloc: Global) -> Result<Seq<NamedFile>, AllocError> {
+    let p = empty_class(alloc, b'P', b'Q')?;
+    let q = empty_class(alloc, b'Q', b'P')?;
+    let r = empty_class(alloc, b'R', b'X')?;
+    let mut files = one_file(alloc, CLASS_A.as_slice())?;
+    files.push(named_file(alloc, "P.class", p.as_slice())?)?;
+    files.push(named_file(alloc, "Q.class", q.as_slice())?)?;
+    files.push(named_file(alloc, "R.class", r.as_slice())?)?;
     Ok(files)
 }
 
 fn is_name_of_a(name: &[u8]) -> bool {
     name == b"A.class".as_slice()
+}
+
+// Whether the one call that failed was to read this file.
+fn is_read_fault(faults: &[FailedCall], name: &str) -> bool {
+    match faults {
+        [FailedCall::Read(failed)] => failed.as_slice() == name.as_bytes(),
+        _ => false,
+    }
 }
 
 fn is_one_file(files: &[NamedFile], bytes: &[u8]) -> bool {
@@ -249,10 +290,10 @@ fn reports_other_class_files(rt: HostRuntime) -> Result<(), Fail> {
         (with_byte(alloc, 13, 0x00)?, "class A.class pool text 1\n"),
         (with_byte(alloc, 16, 0x02)?, "class A.class pool index 2\n"),
         (vec![in alloc; 0; 17_000_000]?, "class A.class too-large\n"),
-        // an abstract class, a private constructor, another instruction
+        // an abstract class, a private constructor, another `print`
         (with_byte(alloc, 0x94, 4)?, "later\n"),
         (with_byte(alloc, 0xA1, 2)?, "later\n"),
-        (with_byte(alloc, 0xD5, 0x11)?, "later\n"),
+        (with_byte(alloc, 0x87, b'J')?, "later\n"),
     ];
     for (bytes, text) in &table {
         assert_answer(&rt, RUN_A.as_slice(), bytes.as_slice(), 1, text)?;
@@ -271,23 +312,113 @@ fn reports_cut_class_files(rt: HostRuntime) -> Result<(), Fail> {
     Ok(())
 }
 
-// The first of several files that is no class file; a file that isn't there counts as empty here. Several class files
-// can't be run yet.
+// Class files that don't link.
+#[test]
+fn reports_class_files_that_dont_link(rt: HostRuntime) -> Result<(), Fail> {
+    let alloc = rt.alloc();
+    let table = [
+        (empty_class(alloc, b'A', b'X')?, "link A missing X\n"),
+        (empty_class(alloc, b'B', b'B')?, "link B circular\n"),
+        // the names of the superclass, of the method that prints and of the class
+        (with_byte(alloc, 0x1D, b'l')?, "link A missing kilim/Tasl\n"),
+        (
+            with_byte(alloc, 0x82, b's')?,
+            "link A no-member kilim/Sys.prins(I)V\n",
+        ),
+        (with_byte(alloc, 0x0D, b'.')?, "link \\u002e name\n"),
+        // without the flag ACC_SUPER
+        (
+            with_byte(alloc, 0x95, 0)?,
+            "link A left-out no-super-flag\n",
+        ),
+        // the class itself in the list of exceptions
+        (with_byte(alloc, 0xE8, 2)?, "link A override execute()V\n"),
+        // sipush, nop and a part of ldc_w; nop as the last instruction
+        (with_byte(alloc, 0xD5, 0x11)?, "link A code execute()V 4\n"),
+        (with_byte(alloc, 0xDA, 0)?, "link A code execute()V 5\n"),
+    ];
+    for (bytes, text) in &table {
+        assert_answer(&rt, RUN_A.as_slice(), bytes.as_slice(), 1, text)?;
+    }
+    Ok(())
+}
+
+// The words give this report of these files.
+fn assert_report(
+    rt: &(impl Abort + AllocGlobal),
+    words: &Vec<String>,
+    files: Seq<NamedFile>,
+    text: &str,
+) -> Result<(), Fail> {
+    let alloc = rt.alloc();
+    let mut files = SteadyFolder { files };
+    let mut out = SteadySink {
+        bytes: Seq::new(alloc),
+    };
+    let found = kilim_in_memory(alloc, words, &mut files, &mut out, &OpenGate::new());
+    assert_eq!(rt; found, Some(1), "at {words:?}");
+    assert_eq!(rt; out.bytes.as_slice(), text.as_bytes(), "at {words:?}");
+    Ok(())
+}
+
+// The first of several files that is no class file; a file that isn't there counts as empty here. Where all are class
+// files, they are linked in the order of the words.
 #[test]
 fn reports_several_files(rt: HostRuntime) -> Result<(), Fail> {
-    let table: [(&[&str], &str); 3] = [
-        (&["run", "--main=A", "A.class", "A.class"], "later\n"),
-        (
-            &["run", "--main=A", "A.class", "B.class"],
-            "class B.class cut 0\n",
-        ),
-        (
-            &["run", "--main=A", "C.class", "A.class", "B.class"],
-            "class C.class cut 0\n",
-        ),
+    let alloc = rt.alloc();
+    let table: [(&[&str], &str); 9] = [
+        (&["A.class", "B.class"], "class B.class cut 0\n"),
+        (&["C.class", "A.class", "B.class"], "class C.class cut 0\n"),
+        (&["P.class", "Q.class", "B.class"], "class B.class cut 0\n"),
+        (&["P.class", "Q.class"], "link P circular\n"),
+        (&["Q.class", "A.class", "P.class"], "link Q circular\n"),
+        (&["A.class", "R.class", "P.class"], "link R missing X\n"),
+        (&["A.class", "P.class"], "link P missing Q\n"),
+        (&["A.class", "A.class"], "link A twice A\n"),
+        (&["R.class", "P.class", "Q.class"], "link R missing X\n"),
     ];
-    for (words, text) in table {
-        assert_answer(&rt, words, CLASS_A.as_slice(), 1, text)?;
+    for (names, text) in table {
+        let mut words = words_of(alloc, &["run", "--main=A"])?;
+        for name in names {
+            words.push(String::from_str(alloc, name)?)?;
+        }
+        assert_report(&rt, &words, four_files(alloc)?, text)?;
+    }
+    Ok(())
+}
+
+// The class that prints 7, under another name of at most 255 letters.
+fn renamed(alloc: Global, name: &[u8]) -> Result<Vec<u8>, AllocError> {
+    let mut bytes = Vec::from_slice(alloc, &CLASS_A[..0x0C])?;
+    bytes.push(name.len().min(255) as u8)?;
+    bytes.extend_from_slice(name)?;
+    bytes.extend_from_slice(&CLASS_A[0x0E..])?;
+    Ok(bytes)
+}
+
+// A thousand files named `0` to `999`; each holds the class of its own name, or all hold that of one name.
+fn thousand_files(alloc: Global, one: Option<&str>) -> Result<Seq<NamedFile>, AllocError> {
+    let mut files = Seq::new(alloc);
+    for i in 0..1000 {
+        let name = format!(in alloc; "{i}")?;
+        let class = one.unwrap_or(name.as_str());
+        let bytes = renamed(alloc, class.as_bytes())?;
+        files.push(named_file(alloc, name.as_str(), bytes.as_slice())?)?;
+    }
+    Ok(files)
+}
+
+// A thousand copies of a class link where each has a name of its own.
+#[test]
+fn links_a_thousand_classes(rt: HostRuntime) -> Result<(), Fail> {
+    let alloc = rt.alloc();
+    let mut words = words_of(alloc, &["run", "--main=A"])?;
+    for i in 0..1000 {
+        words.push(format!(in alloc; "{i}")?)?;
+    }
+    let table = [(None, "later\n"), (Some("A"), "link A twice A\n")];
+    for (one, text) in table {
+        assert_report(&rt, &words, thousand_files(alloc, one)?, text)?;
     }
     Ok(())
 }
@@ -351,9 +482,7 @@ fn assert_unread(rt: &(impl Abort + AllocGlobal), files: &mut MapFolder) -> Resu
     assert_eq!(rt; found, Some(3));
     assert_eq!(rt; out.calls, 0);
     assert_eq!(rt; files.calls, 1);
-    assert!(rt;
-        matches!(files.faults.as_slice(), [FailedCall::Read(name)] if is_name_of_a(name.as_slice()))
-    );
+    assert!(rt; is_read_fault(files.faults.as_slice(), "A.class"));
     Ok(())
 }
 
@@ -369,6 +498,28 @@ fn reads_only_the_file(rt: HostRuntime) -> Result<(), Fail> {
     let mut failing = map_folder(one_file(alloc, CLASS_A.as_slice())?, fails, alloc);
     assert_unread(&rt, &mut failing)?;
     assert!(rt; is_one_file(failing.files.as_slice(), CLASS_A.as_slice()));
+    Ok(())
+}
+
+// All files are read, in order, before one is looked at: the first that can't be read ends the work, though the one before
+// it is no class file.
+#[test]
+fn reads_all_files_first(rt: HostRuntime) -> Result<(), Fail> {
+    let alloc = rt.alloc();
+    let words = words_of(alloc, &["run", "--main=A", "A.class", "B.class"])?;
+    // the call that fails, how many were made, whose file couldn't be read
+    for (fails, calls, name) in [(0, 1, "A.class"), (1, 2, "B.class")] {
+        let mut held = one_file(alloc, b"abc")?;
+        held.push(named_file(alloc, "B.class", b"abc")?)?;
+        let fails = Seq::from_vec(Vec::from_slice(alloc, &[fails])?);
+        let mut files = map_folder(held, fails, alloc);
+        let mut out = vec_sink(alloc, 1000, &[])?;
+        let found = kilim_alone(alloc, &words, &mut files, &mut out, &OpenGate::new());
+        assert_eq!(rt; found, Some(3), "at {name}");
+        assert_eq!(rt; out.calls, 0, "at {name}");
+        assert_eq!(rt; files.calls, calls, "at {name}");
+        assert!(rt; is_read_fault(files.faults.as_slice(), name), "at {name}");
+    }
     Ok(())
 }
 

@@ -7,7 +7,7 @@ ghost use Rattle.kilim_outside.specs.Files.{files_of};
 ghost use Rattle.kilim_top.specs.Words.{request_of, Run};
 ghost use Rattle.kilim_top.specs.Writing.{AppendedFront};
 ghost use Rattle.kilim_top.specs.Respond.{Wrote0, Wrote1, WroteFrontOf};
-ghost use Rattle.kilim_top.specs.Outcome.{IsFitList, WroteRun, WroteReport, WroteFront, ReadFailed, WriteFailed, FailedAtMost, IsFit, IsReport, HasReport};
+ghost use Rattle.kilim_top.specs.Outcome.{IsFitRun, WroteRun, WroteReport, WroteFront, ReadFailed, WriteFailed, FailedAtMost, IsFit, IsReport, HasReport};
 
 use crate::answer::answer;
 use crate::inputs::read_all;
@@ -27,7 +27,8 @@ fn respond<K: TextSink>(
     files: &[Seq<u8>],
     out: &mut K,
 ) -> u8
-    requires { length names.now ≡ length files.now }
+    requires few { length files.now ≤ 1000 }
+    requires same { length names.now ≡ length files.now }
     ensures status { result ≤ 5 }
     ensures not_usage { result ≡ 2 → ⊥ }
     ensures not_read { result ≡ 3 → ⊥ }
@@ -36,7 +37,7 @@ fn respond<K: TextSink>(
     ensures front { result ≡ 4 → WroteFrontOf main.now (map string_bytes names.now) files.now (K.written out.old) (K.written out.new) }
     ensures memory { result ≡ 5 → (K.written out.new ≡ K.written out.old) ⊎ WroteFrontOf main.now (map string_bytes names.now) files.now (K.written out.old) (K.written out.new) }
     ensures write { result ≡ 4 → Rose (K.faults out.old) (K.faults out.new) }
-    ensures fit { result ≡ 1 → IsFitList main.now files.now → ⊥ }
+    ensures fit { result ≡ 1 → IsFitRun main.now files.now → ⊥ }
     ensures unreported { result ≡ 0 → (text : List ℕ) → IsReport main.now (map string_bytes names.now) files.now text → ⊥ }
     ensures quiet { (result ≡ 0) ⊎ (result ≡ 1) → K.faults out.new ≡ K.faults out.old }
 {
@@ -59,6 +60,7 @@ fn work<F: Folder, K: TextSink>(
     files: &mut F,
     out: &mut K,
 ) -> u8
+    requires { length names.now ≤ 1000 }
     ensures status { result ≤ 5 }
     ensures not_usage { result ≡ 2 → ⊥ }
     ensures whole { result ≡ 0 → WroteRun (F.contents files.old) (Some (Run main.now (map string_bytes names.now))) (K.written out.old) (K.written out.new) }
@@ -86,10 +88,10 @@ fn work<F: Folder, K: TextSink>(
 /// Does what the words ask for, by itself: it takes no runtime, waits for nobody and returns. It answers the
 /// status, and None nowhere yet.
 ///
-/// The words are those after the program's name: `run --main=NAME FILE..`, with at most 1,000 files. The status is 0 where the run's journal
-/// was written whole; 1 where a report was: that a file is no class file, or the files can't be run yet, or the class
-/// is another one; 2 where the words aren't in the grammar; 3 where a file can't be
-/// read; 4 where the text can't be written; 5 for want of memory.
+/// The words are those after the program's name: `run --main=NAME FILE..`, with at most 1,000 files. The status is 0
+/// where the run's journal was written whole; 1 where a report was: that a file is no class file, or the class files
+/// don't link, or their program can't be run yet, or its own class is another one; 2 where the words aren't in the
+/// grammar; 3 where a file can't be read; 4 where the text can't be written; 5 for want of memory.
 pub fn kilim_alone<F: Folder, K: TextSink, G: Gate>(
     alloc: Global,
     words: &Vec<String>,

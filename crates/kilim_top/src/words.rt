@@ -1,6 +1,6 @@
 //! The words after the program's name.
 
-ghost use Rattle.std.specs.Prelude.{◌≡◌, ◌&&◌, not, nat_lt, length, Option, map};
+ghost use Rattle.std.specs.Prelude.{◌≡◌, ◌≤◌, ◌&&◌, true, not, nat_lt, length, map, IfSome};
 ghost use Rattle.std.specs.Option.{option_map, option_copied};
 ghost use Rattle.std.specs.List.{list_all};
 ghost use Rattle.std.specs.String.{string_bytes};
@@ -40,7 +40,8 @@ fn value_behind<'a>(front: &str, word: &'a str) -> Option<&'a str>
 
 #[tactic(auto, unfolding(crate::specs::Words::most_files))]
 fn most_files() -> usize
-    ensures { result ≡ most_files }
+    ensures most { result ≡ most_files }
+    ensures few { result ≤ 1000 }
 {
     1000
 }
@@ -52,20 +53,23 @@ fn all_files(files: &[String]) -> bool
 }
 
 fn are_words(files: &[String]) -> bool
-    ensures { result ≡ (nat_lt 0 (length files.now) && (not (nat_lt most_files (length files.now)) && list_all (λ file. is_file (string_bytes file)) files.now)) }
+    ensures few { result ≡ true → length files.now ≤ 1000 }
+    ensures are { result ≡ (nat_lt 0 (length files.now) && (not (nat_lt most_files (length files.now)) && list_all (λ file. is_file (string_bytes file)) files.now)) }
 {
     !files.is_empty() && files.len() <= most_files() && all_files(files)
 }
 
 #[tactic(auto, using(crate::proofs::Named::are_words))]
 fn are_files(files: &[String]) -> bool
-    ensures { result ≡ are_files (map string_bytes files.now) }
+    ensures are { result ≡ are_files (map string_bytes files.now) }
+    ensures few { result ≡ true → length files.now ≤ 1000 }
 {
     are_words(files)
 }
 
 fn run_of<'a>(main: Option<&'a str>, files: &'a [String]) -> Option<Asked<'a>>
-    ensures { option_map (λ asked. Run asked.main.now (map string_bytes asked.files.now)) result ≡ run_of (option_copied main.entry) (map string_bytes files.now) }
+    ensures few { IfSome result (λ asked. length asked.files.now ≤ 1000) }
+    ensures request { option_map (λ asked. Run asked.main.now (map string_bytes asked.files.now)) result ≡ run_of (option_copied main.entry) (map string_bytes files.now) }
 {
     match main {
         Some(main) if is_name(main) && are_files(files) => Some(Asked { main, files }),
@@ -74,7 +78,8 @@ fn run_of<'a>(main: Option<&'a str>, files: &'a [String]) -> Option<Asked<'a>>
 }
 
 fn run_request(words: &[String]) -> Option<Asked<'_>>
-    ensures { option_map (λ asked. Run asked.main.now (map string_bytes asked.files.now)) result ≡ run_request (map string_bytes words.now) }
+    ensures few { IfSome result (λ asked. length asked.files.now ≤ 1000) }
+    ensures request { option_map (λ asked. Run asked.main.now (map string_bytes asked.files.now)) result ≡ run_request (map string_bytes words.now) }
 {
     match words {
         [option, files @ ..] => run_of(value_behind("--main=", option.as_str()), files),
@@ -84,7 +89,8 @@ fn run_request(words: &[String]) -> Option<Asked<'_>>
 
 /// What the words ask for, or nothing where they aren't in the grammar.
 pub fn request(words: &[String]) -> Option<Asked<'_>>
-    ensures { option_map (λ asked. Run asked.main.now (map string_bytes asked.files.now)) result ≡ request_of (map string_bytes words.now) }
+    ensures few { IfSome result (λ asked. length asked.files.now ≤ 1000) }
+    ensures request { option_map (λ asked. Run asked.main.now (map string_bytes asked.files.now)) result ≡ request_of (map string_bytes words.now) }
 {
     match words {
         [command, rest @ ..] if command.as_str() == "run" => run_request(rest),

@@ -3,4 +3,4 @@ use Rattle.kilim_thread_model.specs.Small.{print_entry}
 use Rattle.kilim_top.proofs.run.print_entries.Given as goal
 
 abbrev pub invariant-loop-number : goal.invariant-loop-number
-invariant-loop-number l = l.entries.items ≡ map print_entry (map (λ p. p.0) (take l.number-index l.prints))
+invariant-loop-number l = l.entries.items ≡ map print_entry (take l.number-index l.prints)
