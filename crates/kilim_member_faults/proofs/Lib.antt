@@ -1,3 +1,4 @@
 pub mod Firsts
 pub mod Agreeing
 pub mod Places
+pub mod Unmarked

@@ -1,9 +1,13 @@
 -- Parts of the lists of problems with methods, as the code goes over them.
-use Rattle.std.specs.Prelude.{ℕ, Bool, false, not, ◌&&◌, List, ◌++◌, map, Option, Some, None, slice_get}
+use Rattle.std.specs.Prelude.{ℕ, Bool, true, false, not, ◌&&◌, List, [], ◌++◌, map, Option, Some, None, slice_get, codes}
 use Rattle.std.specs.List.{list_any, flat_map}
+use Rattle.std.specs.Str.{bytes_eq}
 use Rattle.kilim_program.specs.declared.names.ClassId.{ClassId}
 use Rattle.kilim_class_world.specs.Faults.{is_left_above, agrees, differs_from}
+use Rattle.kilim_class_world.specs.Qualified.{is_constructor_name}
 use Rattle.kilim_class_world.specs.World.{World, declared_methods, is_method}
+use Rattle.kilim_class_world.specs.declared.view.Marks.{Marks}
+use Rattle.kilim_class_world.specs.declared.view.Marks.TheVariants.{Annotated}
 use Rattle.kilim_class_world.specs.declared.view.DeclaredMethod.{DeclaredMethod}
 
 -- ---- members by their places
@@ -21,6 +25,19 @@ passes_at test xs place = is_so test (slice_get xs place)
 -- a method differs from that one of its name and descriptor, which isn't private
 abbrev pub other_differs : World → ClassId → DeclaredMethod → ClassId → DeclaredMethod → Bool
 other_differs w c m d other = not other.is_private && not (agrees w c m d other)
+
+-- no annotation stands on a method or on its parameters
+abbrev pub has_no_marks : Marks → Bool
+has_no_marks (Annotated [] []) = true
+has_no_marks marks = false
+
+-- It has no annotation and is neither `execute` nor a constructor: its receiver is safe, in every class.
+abbrev pub is_unmarked : DeclaredMethod → Bool
+is_unmarked m = has_no_marks m.marks && (not (bytes_eq m.name (codes "execute")) && not (is_constructor_name m.name))
+
+-- both are so and have one descriptor: they have the same qualifiers
+abbrev pub are_unmarked : DeclaredMethod → DeclaredMethod → Bool
+are_unmarked m other = is_unmarked m && (is_unmarked other && bytes_eq m.descriptor other.descriptor)
 
 -- a method differs from one that a class above declares
 abbrev pub differs_in : World → ClassId → DeclaredMethod → ClassId → Bool

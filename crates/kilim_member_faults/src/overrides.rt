@@ -7,10 +7,10 @@ ghost use Rattle.kilim_class_world.specs.World.{declared_methods};
 ghost use Rattle.kilim_class_world.specs.Qualified.{qualified};
 ghost use Rattle.kilim_class_world.specs.Faults.{override_differs, overrides_badly, agrees, same_qualified, declared_of, differs_from, inherited};
 ghost use Rattle.kilim_class_world.specs.Linked.{first_of};
-ghost use Rattle.kilim_member_faults.specs.Parts.{other_differs, passes_at, differs_in};
+ghost use Rattle.kilim_member_faults.specs.Parts.{has_no_marks, is_unmarked, are_unmarked, other_differs, passes_at, differs_in};
 
 use crate::signature::signature_of;
-use kilim_class_world::{DeclaredMethod, Problem, Qualified};
+use kilim_class_world::{DeclaredMethod, Marks, Problem, Qualified};
 use kilim_classfile::{ClassFile, MemberName};
 use kilim_mentions::method_text;
 use kilim_program::{ClassId, NoMemory, Qualifier};
@@ -97,6 +97,32 @@ fn flags_agree(method: &DeclaredMethod, other: &DeclaredMethod) -> bool
         && (same_flag(method.is_static, other.is_static) && !other.is_final)
 }
 
+fn has_no_marks(marks: &Marks) -> bool
+    ensures { result ≡ has_no_marks marks.now }
+{
+    match marks {
+        Marks::Annotated(on_it, on_parameters) => on_it.is_empty() && on_parameters.is_empty(),
+        Marks::Stated(_, _) => false,
+    }
+}
+
+// Whether a method has no annotation and is neither `execute` nor a constructor.
+fn is_unmarked(method: &DeclaredMethod) -> bool
+    ensures { result ≡ is_unmarked method.now }
+{
+    has_no_marks(&method.marks)
+        && (!method.name.is_text(b"execute") && !method.name.is_text(b"<init>"))
+}
+
+// Whether both are so and have one descriptor.
+fn are_unmarked(method: &DeclaredMethod, other: &DeclaredMethod) -> bool
+    ensures { result ≡ are_unmarked method.now other.now }
+{
+    is_unmarked(method) && (is_unmarked(other) && method.descriptor == other.descriptor)
+}
+
+// Most methods have no annotation, so that nothing has to be made out.
+#[tactic(auto, using(crate::proofs::Unmarked::agree))]
 fn qualifiers_agree(
     alloc: Global,
     world: &World,
@@ -107,6 +133,9 @@ fn qualifiers_agree(
 ) -> Result<bool, NoMemory>
     ensures { IfOk result (λ agree. agree ≡ same_qualified (qualified world.now class method.now) (qualified world.now above other.now)) }
 {
+    if are_unmarked(method, other) {
+        return Ok(true);
+    }
     let one = qualified_of(alloc, world, class, method)?;
     let another = qualified_of(alloc, world, above, other)?;
     Ok(same_qualified(&one, &another))
