@@ -14,8 +14,8 @@ use Rattle.kilim_classfile.specs.declared.class_file.MemberInfo.{MemberInfo}
 use Rattle.kilim_class_world.specs.World.{member_name, member_descriptor}
 use Rattle.kilim_class_world.specs.Faults.{repeated, same_member}
 use Rattle.kilim_class_world.specs.Linked.{first_of}
-use Rattle.kilim_world.specs.declared.signature.Signature.{Signature}
-use Rattle.kilim_world.specs.Index.{signature_cmp, same_signature}
+use Rattle.kilim_signatures.specs.declared.signature.Signature.{Signature}
+use Rattle.kilim_signatures.specs.Index.{signature_cmp, same_signature}
 use Rattle.kilim_link_faults.specs.Seen.{met_in}
 use Rattle.kilim_link_faults.proofs.Firsts.{drop_at, reverse_at}
 

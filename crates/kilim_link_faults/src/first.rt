@@ -5,6 +5,7 @@ ghost use Rattle.kilim_class_world.specs.Faults.{problems_of, first_fault, fault
 ghost use Rattle.kilim_class_world.specs.Linked.{first_of};
 ghost use Rattle.kilim_class_world.specs.Mentions.{mentions_of, class_names};
 ghost use Rattle.kilim_class_world.specs.World.{world_of};
+ghost use Rattle.kilim_member_faults.specs.Ancestry.{Knows};
 ghost use Rattle.kilim_link_faults.specs.Parts.{last_kinds, code_kinds, later_kinds};
 
 use crate::class::{both_kinds, circular, class_missing, super_kind};
@@ -15,7 +16,7 @@ use kilim_class_views::own_name;
 use kilim_class_world::{LinkFault, Mention, Problem};
 use kilim_classfile::ClassFile;
 use kilim_file_faults::{code_broken, descriptor_broken, left_out_problem, name_broken};
-use kilim_member_faults::{abstract_left, override_differs};
+use kilim_member_faults::{Ancestry, abstract_left, override_differs};
 use kilim_mentions::{class_names, members_named, mentions_of};
 use kilim_program::{ClassId, Form, NoMemory, Seq, Units};
 use kilim_world::World;
@@ -27,7 +28,9 @@ fn last_kinds(
     world: &World,
     file: &ClassFile,
     class: ClassId,
+    ancestry: &Ancestry,
 ) -> Result<Option<Problem>, NoMemory>
+    requires { Knows world.now ancestry.now }
     ensures { IfOk result (λ found. found ≡ first_of (last_kinds world.now file.now class)) }
 {
     if let Some(problem) = super_kind(alloc, world, file, class)? {
@@ -36,7 +39,7 @@ fn last_kinds(
     if let Some(problem) = name_broken(file)? {
         return Ok(Some(problem));
     }
-    abstract_left(world, file, class)
+    abstract_left(world, ancestry, file, class)
 }
 
 #[tactic(auto, using(crate::proofs::Firsts::here, crate::proofs::Firsts::later))]
@@ -46,11 +49,13 @@ fn code_kinds(
     file: &ClassFile,
     class: ClassId,
     mentions: &[Mention],
+    ancestry: &Ancestry,
 ) -> Result<Option<Problem>, NoMemory>
-    requires { mentions.now ≡ mentions_of file.now }
+    requires mentioned { mentions.now ≡ mentions_of file.now }
+    requires known { Knows world.now ancestry.now }
     ensures { IfOk result (λ found. found ≡ first_of (code_kinds world.now file.now class)) }
 {
-    if let Some(problem) = override_differs(alloc, world, file, class)? {
+    if let Some(problem) = override_differs(alloc, world, file, class, ancestry)? {
         return Ok(Some(problem));
     }
     if let Some(problem) = code_broken(alloc, file)? {
@@ -59,7 +64,7 @@ fn code_kinds(
     if let Some(problem) = descriptor_broken(alloc, mentions, file)? {
         return Ok(Some(problem));
     }
-    last_kinds(alloc, world, file, class)
+    last_kinds(alloc, world, file, class, ancestry)
 }
 
 #[tactic(auto, using(crate::proofs::Firsts::here, crate::proofs::Firsts::later))]
@@ -70,9 +75,11 @@ fn later_kinds(
     class: ClassId,
     mentions: &[Mention],
     names: &[Units],
+    ancestry: &Ancestry,
 ) -> Result<Option<Problem>, NoMemory>
     requires mentioned { mentions.now ≡ mentions_of file.now }
     requires named { names.now ≡ class_names file.now }
+    requires known { Knows world.now ancestry.now }
     ensures { IfOk result (λ found. found ≡ first_of (later_kinds world.now file.now class)) }
 {
     if let Some(problem) = left_out_problem(alloc, world, file, mentions, names)? {
@@ -84,7 +91,7 @@ fn later_kinds(
     if let Some(problem) = field_kinds(alloc, world, file, class)? {
         return Ok(Some(problem));
     }
-    code_kinds(alloc, world, file, class, mentions)
+    code_kinds(alloc, world, file, class, mentions, ancestry)
 }
 
 // The kinds from its own ancestor on.
@@ -96,9 +103,11 @@ fn from_circular(
     class: ClassId,
     mentions: &[Mention],
     names: &[Units],
+    ancestry: &Ancestry,
 ) -> Result<Option<Problem>, NoMemory>
     requires mentioned { mentions.now ≡ mentions_of file.now }
     requires named { names.now ≡ class_names file.now }
+    requires known { Knows world.now ancestry.now }
     ensures { IfOk result (λ found. found ≡ first_of (circular world.now file.now class ++ (member_missing world.now file.now class ++ later_kinds world.now file.now class))) }
 {
     if let Some(problem) = circular(world, file, class)? {
@@ -108,7 +117,7 @@ fn from_circular(
     if let Some(problem) = member_missing(alloc, world, file, class, members.as_slice())? {
         return Ok(Some(problem));
     }
-    later_kinds(alloc, world, file, class, mentions, names)
+    later_kinds(alloc, world, file, class, mentions, names, ancestry)
 }
 
 #[tactic(auto, unfolding(kilim_class_world::specs::Mentions::class_names))]
@@ -128,8 +137,10 @@ pub fn first_problem(
     files: &[ClassFile],
     file: &ClassFile,
     class: ClassId,
+    ancestry: &Ancestry,
 ) -> Result<Option<Problem>, NoMemory>
     requires few { length world.now.classes < 2 ^ 32 }
+    requires known { Knows world.now ancestry.now }
     requires whole { world.now ≡ world_of files.now world.now.form }
     ensures { IfOk result (λ found. found ≡ first_of (problems_of world.now file.now class)) }
 {
@@ -148,6 +159,7 @@ pub fn first_problem(
         class,
         mentions.as_slice(),
         names.as_slice(),
+        ancestry,
     )
 }
 
@@ -158,18 +170,52 @@ fn fault_in(
     files: &[ClassFile],
     file: &ClassFile,
     class: ClassId,
+    ancestry: &Ancestry,
 ) -> Result<Option<LinkFault>, NoMemory>
     requires few { length world.now.classes < 2 ^ 32 }
+    requires known { Knows world.now ancestry.now }
     requires whole { world.now ≡ world_of files.now world.now.form }
     ensures { IfOk result (λ found. found ≡ first_of (faults_in world.now file.now class)) }
 {
-    match first_problem(alloc, world, files, file, class)? {
+    match first_problem(alloc, world, files, file, class, ancestry)? {
         Some(problem) => {
             let name = Units::from_slice(alloc, own_name(file))?;
             Ok(Some(LinkFault::InClass(name, problem)))
         }
         None => Ok(None),
     }
+}
+
+// The first problem of the first class that has one, by what is known of methods beside those of superclasses.
+fn first_known(
+    alloc: Global,
+    world: &World,
+    files: &[ClassFile],
+    form: Form,
+    ancestry: &Ancestry,
+) -> Result<Option<LinkFault>, NoMemory>
+    requires few { length files.now ≤ 1000 }
+    requires whole { world.now ≡ world_of files.now form }
+    requires known { Knows world.now ancestry.now }
+    ensures { IfOk result (λ found. found ≡ first_fault files.now form) }
+{
+    let mut i: u32 = 0;
+    while (i as usize) < files.len() {
+        match fault_in(
+            alloc,
+            world,
+            files,
+            &files[i as usize],
+            ClassId(i),
+            ancestry,
+        ) {
+            Ok(Some(fault)) => return Ok(Some(fault)),
+            Ok(None) => {}
+            Err(fault) => return Err(fault),
+        }
+        i += 1;
+    }
+    Ok(None)
 }
 
 /// Why files don't link (own): the first problem of the first class that has one. Files without one link.
@@ -183,14 +229,6 @@ pub fn first_fault(
     requires whole { world.now ≡ world_of files.now form }
     ensures { IfOk result (λ found. found ≡ first_fault files.now form) }
 {
-    let mut i: u32 = 0;
-    while (i as usize) < files.len() {
-        match fault_in(alloc, world, files, &files[i as usize], ClassId(i)) {
-            Ok(Some(fault)) => return Ok(Some(fault)),
-            Ok(None) => {}
-            Err(fault) => return Err(fault),
-        }
-        i += 1;
-    }
-    Ok(None)
+    let ancestry = Ancestry::new(alloc, world)?;
+    first_known(alloc, world, files, form, &ancestry)
 }

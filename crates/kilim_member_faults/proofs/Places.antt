@@ -11,7 +11,7 @@ use Rattle.kilim_class_world.specs.declared.view.DeclaredMethod.{DeclaredMethod}
 use Rattle.kilim_class_world.specs.World.{World, declared_methods, is_method}
 use Rattle.kilim_class_world.specs.Faults.{agrees, differs_from, inherited, left_above}
 use Rattle.kilim_class_world.specs.Linked.{first_of}
-use Rattle.kilim_world.specs.Index.{places_from}
+use Rattle.kilim_signatures.specs.Index.{places_from}
 use Rattle.kilim_member_faults.specs.Parts.{is_so, passes_at, other_differs, differs_in, is_shared, stands_in, nearer_than, is_nearer, is_left_over}
 use Rattle.kilim_member_faults.proofs.Agreeing.{swapped, turned}
 use Rattle.kilim_member_faults.proofs.Firsts.{drop_at, flat_map_at, here, later}
@@ -41,7 +41,7 @@ module _ {A : Type 0} (test good whole : A → Bool) (splits : (x : A) → whole
 
 -- ---- overriding
 
-any_map : {A B : Type 0} (test : B → Bool) (f : A → B) (xs : List A) → list_any test (map f xs) ≡ list_any (λ x. test (f x)) xs
+pub any_map : {A B : Type 0} (test : B → Bool) (f : A → B) (xs : List A) → list_any test (map f xs) ≡ list_any (λ x. test (f x)) xs
 any_map test f [] = refl
 any_map test f (x ∷ xs) = ap (λ (b : Bool). test (f x) || b) (any_map test f xs)
 

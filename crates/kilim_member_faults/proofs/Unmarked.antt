@@ -23,7 +23,7 @@ same_one Free = refl
 same_one Cuttable = refl
 same_one Safe = refl
 
-both_true : (a b : Bool) → a ≡ true → b ≡ true → (a && b) ≡ true
+pub both_true : (a b : Bool) → a ≡ true → b ≡ true → (a && b) ≡ true
 both_true true b ea eb = eb
 both_true false b ea eb = ea
 
@@ -45,11 +45,11 @@ receiver_is_safe w c m ni ne =
     safe_of m.is_static (is_constructor_name m.name) (is_tree_kind (class_kind w.outline c)) (is_task w.outline c) (bytes_eq m.name (codes "execute"))
     (bytes_eq m.descriptor (codes "()V") || (has_fiber w.form && bytes_eq m.descriptor (codes "(Lkilim/Fiber;)V"))) ni ne
 
-first_of_both : (a b : Bool) → (a && b) ≡ true → a ≡ true
+pub first_of_both : (a b : Bool) → (a && b) ≡ true → a ≡ true
 first_of_both true b e = refl
 first_of_both false b e = e
 
-second_of_both : (a b : Bool) → (a && b) ≡ true → b ≡ true
+pub second_of_both : (a b : Bool) → (a && b) ≡ true → b ≡ true
 second_of_both true b e = e
 second_of_both false b e = absurd cc
 
@@ -74,7 +74,7 @@ receiver_of w c m u =
     let rest = second_of_both (has_no_marks m.marks) (not (bytes_eq m.name (codes "execute")) && not (is_constructor_name m.name)) u in
     receiver_is_safe w c m (second_of_both (not (bytes_eq m.name (codes "execute"))) (not (is_constructor_name m.name)) rest) (first_of_both (not (bytes_eq m.name (codes "execute"))) (not (is_constructor_name m.name)) rest)
 
-same_texts : (xs ys : List ℕ) → bytes_eq xs ys ≡ true → xs ≡ ys
+pub same_texts : (xs ys : List ℕ) → bytes_eq xs ys ≡ true → xs ≡ ys
 same_texts xs ys e = (bytes_eq-Decides xs ys).0 e
 
 pub agree : (w : World) (c : ClassId) (m : DeclaredMethod) (d : ClassId) (o : DeclaredMethod) → are_unmarked m o ≡ true → true ≡ same_qualified (qualified w c m) (qualified w d o)

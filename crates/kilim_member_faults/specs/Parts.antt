@@ -1,9 +1,9 @@
 -- Parts of the lists of problems with methods, as the code goes over them.
-use Rattle.std.specs.Prelude.{ℕ, Bool, true, false, not, ◌&&◌, List, [], ◌++◌, map, Option, Some, None, slice_get, codes}
+use Rattle.std.specs.Prelude.{◌≡◌, ℕ, Bool, true, false, not, ◌&&◌, List, [], ◌++◌, map, Option, Some, None, slice_get, slice_index_or, codes}
 use Rattle.std.specs.List.{list_any, flat_map}
 use Rattle.std.specs.Str.{bytes_eq}
 use Rattle.kilim_program.specs.declared.names.ClassId.{ClassId}
-use Rattle.kilim_class_world.specs.Faults.{is_left_above, agrees, differs_from}
+use Rattle.kilim_class_world.specs.Faults.{is_left_above, agrees, differs_from, overrides_badly}
 use Rattle.kilim_class_world.specs.Qualified.{is_constructor_name}
 use Rattle.kilim_class_world.specs.World.{World, declared_methods, is_method}
 use Rattle.kilim_class_world.specs.declared.view.Marks.{Marks}
@@ -42,6 +42,17 @@ are_unmarked m other = is_unmarked m && (is_unmarked other && bytes_eq m.descrip
 -- a method differs from one that a class above declares
 abbrev pub differs_in : World → ClassId → DeclaredMethod → ClassId → Bool
 differs_in w c m d = list_any (differs_from w c m) (map (λ other. (d, other)) (declared_methods w d))
+
+-- no method of a class differs from one that it overrides
+abbrev pub is_clean : World → ClassId → Bool
+is_clean w c = not (list_any (overrides_badly w c) (declared_methods w c))
+
+abbrev pub is_marked : List Bool → ClassId → Bool
+is_marked marks c = slice_index_or marks c.0 false
+
+-- each class that is marked is so
+unfoldable pub Marked : World → List Bool → Type 0
+Marked w marks = (c : ClassId) → is_marked marks c ≡ true → is_clean w c ≡ true
 
 -- ---- abstract methods
 

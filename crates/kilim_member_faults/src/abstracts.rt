@@ -1,13 +1,17 @@
 //! Abstract methods that a class is left with.
 
-ghost use Rattle.std.specs.Prelude.{◌≡◌, ◌++◌, ◌||◌, IfOk, filter, option_copied};
+ghost use Rattle.std.specs.Prelude.{◌≡◌, ◌++◌, ◌||◌, [], true, IfOk, filter, option_copied};
 ghost use Rattle.std.specs.List.{list_any};
 ghost use Rattle.kilim_class_world.specs.World.{declared_methods};
 ghost use Rattle.kilim_class_world.specs.Faults.{abstract_left, is_left_here, left_above, left_inherited};
 ghost use Rattle.kilim_class_world.specs.Linked.{first_of};
 ghost use Rattle.kilim_program.specs.Keeps.{ancestors_of};
 ghost use Rattle.kilim_member_faults.specs.Parts.{is_shared, stands_in, is_nearer, is_left_over, passes_at};
+ghost use Rattle.kilim_member_faults.specs.Ancestry.{Knows};
+ghost use Rattle.kilim_member_faults.specs.Heritage.{Inherits};
 
+use crate::ancestry::Ancestry;
+use crate::heritage::Heritage;
 use crate::overrides::{declared_of, methods_of};
 use crate::signature::signature_of;
 use kilim_class_views::has_flag;
@@ -56,8 +60,8 @@ fn is_shared_at_any(methods: &[DeclaredMethod], places: &[u32]) -> bool
     places.iter().any(|place| is_shared_at(methods, *place))
 }
 
-// Whether a class declares a method of that name and descriptor that isn't private.
-fn stands_in(world: &World, signature: &Signature, class: ClassId) -> bool
+/// Whether a class declares a method of that name and descriptor that isn't private.
+pub fn stands_in(world: &World, signature: &Signature, class: ClassId) -> bool
     ensures { result ≡ stands_in world.now signature.now.name signature.now.descriptor class }
 {
     let places = world.methods_named(class, signature);
@@ -146,14 +150,32 @@ fn first_left_above<'a>(
     Ok(None)
 }
 
+// Whether it is known that no abstract method is left above a class. Its line has the same ancestors unless it is its own
+// ancestor.
+fn leaves_none(world: &World, heritage: &Heritage, class: ClassId) -> bool
+    requires inherits { Inherits world.now heritage.now }
+    ensures { result ≡ true → left_above world.now (declared_methods world.now class) (ancestors_of world.now.outline class) ≡ [] }
+{
+    if (class.0 as usize) < world.classes().len() {
+        heritage.leaves_none(class) && world.line(class).len() == world.ancestors(class).len() + 1
+    } else {
+        false
+    }
+}
+
 fn first_inherited<'a>(
     world: &'a World,
+    heritage: &Heritage,
     class: ClassId,
     class_is_abstract: bool,
 ) -> Result<Option<&'a DeclaredMethod>, NoMemory>
+    requires inherits { Inherits world.now heritage.now }
     ensures { IfOk result (λ found. option_copied found ≡ first_of (left_inherited world.now class class_is_abstract)) }
 {
     if class_is_abstract {
+        return Ok(None);
+    }
+    if leaves_none(world, heritage, class) {
         return Ok(None);
     }
     first_left_above(world, class, world.ancestors(class))
@@ -162,15 +184,17 @@ fn first_inherited<'a>(
 #[tactic(auto, using(crate::proofs::Firsts::here, crate::proofs::Firsts::later))]
 fn first_left<'a>(
     world: &'a World,
+    heritage: &Heritage,
     class: ClassId,
     class_is_abstract: bool,
 ) -> Result<Option<&'a DeclaredMethod>, NoMemory>
+    requires inherits { Inherits world.now heritage.now }
     ensures { IfOk result (λ found. option_copied found ≡ first_of (filter (is_left_here class_is_abstract) (declared_methods world.now class) ++ left_inherited world.now class class_is_abstract)) }
 {
     if let Some(method) = first_left_here(class_is_abstract, methods_of(world, class)) {
         return Ok(Some(method));
     }
-    first_inherited(world, class, class_is_abstract)
+    first_inherited(world, heritage, class, class_is_abstract)
 }
 
 /// The first abstract method that a class is left with, where it isn't abstract, or its own one that is private or
@@ -178,12 +202,19 @@ fn first_left<'a>(
 #[tactic(auto, unfolding(kilim_class_world::specs::Faults::abstract_left))]
 pub fn abstract_left(
     world: &World,
+    ancestry: &Ancestry,
     file: &ClassFile,
     class: ClassId,
 ) -> Result<Option<Problem>, NoMemory>
+    requires { Knows world.now ancestry.now }
     ensures { IfOk result (λ found. found ≡ first_of (abstract_left world.now file.now class)) }
 {
-    match first_left(world, class, has_flag(ABSTRACT, file.access_flags))? {
+    match first_left(
+        world,
+        &ancestry.heritage,
+        class,
+        has_flag(ABSTRACT, file.access_flags),
+    )? {
         Some(method) => Ok(Some(Problem::AbstractLeft(declared_of(method)?))),
         None => Ok(None),
     }

@@ -2,9 +2,16 @@
 #![tactic(auto)]
 
 mod abstracts;
+mod ancestry;
+mod clean;
+mod heritage;
+mod marks;
 mod overrides;
 mod signature;
+#[cfg(test)]
+mod tests;
 
 pub use abstracts::abstract_left;
+pub use ancestry::Ancestry;
 pub use overrides::override_differs;
 pub use signature::signature_of;

@@ -7,8 +7,10 @@ ghost use Rattle.kilim_class_world.specs.World.{declared_methods};
 ghost use Rattle.kilim_class_world.specs.Qualified.{qualified};
 ghost use Rattle.kilim_class_world.specs.Faults.{override_differs, overrides_badly, agrees, same_qualified, declared_of, differs_from, inherited};
 ghost use Rattle.kilim_class_world.specs.Linked.{first_of};
+ghost use Rattle.kilim_member_faults.specs.Ancestry.{Knows};
 ghost use Rattle.kilim_member_faults.specs.Parts.{has_no_marks, is_unmarked, are_unmarked, other_differs, passes_at, differs_in};
 
+use crate::ancestry::Ancestry;
 use crate::signature::signature_of;
 use kilim_class_world::{DeclaredMethod, Marks, Problem, Qualified};
 use kilim_classfile::{ClassFile, MemberName};
@@ -211,8 +213,8 @@ fn differs_at_any(
     Ok(false)
 }
 
-// Whether a method differs from one that a class above declares.
-fn differs_in(
+/// Whether a method differs from one that a class above declares.
+pub fn differs_in(
     alloc: Global,
     world: &World,
     class: ClassId,
@@ -296,18 +298,38 @@ fn first_bad<'a>(
     Ok(None)
 }
 
+// The same, where it is known of some classes that they have none.
+#[tactic(auto, using(crate::proofs::Marking::none_bad))]
+fn first_bad_unless<'a>(
+    alloc: Global,
+    world: &'a World,
+    class: ClassId,
+    ancestry: &Ancestry,
+) -> Result<Option<&'a DeclaredMethod>, NoMemory>
+    requires { Knows world.now ancestry.now }
+    ensures { IfOk result (λ found. option_copied found ≡ first_of (filter (overrides_badly world.now class) (declared_methods world.now class))) }
+{
+    if ancestry.is_clean(class) {
+        return Ok(None);
+    }
+    first_bad(alloc, world, class, methods_of(world, class))
+}
+
 /// The first method of a class, in declared order, that differs from one that it overrides in pausability, in a
-/// qualifier or in being static (own), or overrides a final one (JVMS 4.10, 5.4.5).
+/// qualifier or in being static (own), or overrides a final one (JVMS 4.10, 5.4.5). Classes of
+/// which it is known that they have none need no search.
 #[tactic(auto, unfolding(kilim_class_world::specs::Faults::override_differs))]
 pub fn override_differs(
     alloc: Global,
     world: &World,
     file: &ClassFile,
     class: ClassId,
+    ancestry: &Ancestry,
 ) -> Result<Option<Problem>, NoMemory>
+    requires { Knows world.now ancestry.now }
     ensures { IfOk result (λ found. found ≡ first_of (override_differs world.now file.now class)) }
 {
-    match first_bad(alloc, world, class, methods_of(world, class))? {
+    match first_bad_unless(alloc, world, class, ancestry)? {
         Some(method) => Ok(Some(Problem::OverrideDiffers(declared_of(method)?))),
         None => Ok(None),
     }

@@ -1,5 +1,5 @@
 -- Members by their numbers.
-use Rattle.std.proofs.Common.{◌≡◌, ℕ, zero, suc, ◌+◌, ◌<◌, ◌≤◌, ◌^◌, Bool, true, false, cond, List, [], ◌∷◌, ◌++◌, length, take, Option, Some, None, refl, sym, ap, ◌∙◌, subst, arith}
+use Rattle.std.proofs.Common.{◌≡◌, ℕ, suc, ◌+◌, ◌<◌, ◌^◌, Bool, true, false, cond, List, [], ◌∷◌, length, take, Option, Some, None, refl, sym, ap, ◌∙◌, subst, arith}
 use Rattle.std.specs.Prelude.{if◌then◌else◌, option_map, slice_get, sum_by, IfSome}
 use Rattle.std.specs.List.{position_from}
 use Rattle.std.proofs.lemmas.Option.{slice_get_within, get_or_from_slice_get}
@@ -7,9 +7,9 @@ use Rattle.std.proofs.lemmas.List.Sums.{sum_by_more_le}
 use Rattle.kilim_program.specs.declared.names.ClassId.{ClassId}
 use Rattle.kilim_class_world.specs.declared.view.ClassView.{ClassView}
 use Rattle.kilim_class_world.specs.World.{first_found, or_else}
-use Rattle.kilim_world.specs.declared.index.Index.{Index}
+use Rattle.kilim_signatures.specs.declared.index.Index.{Index}
 use Rattle.kilim_world.specs.Agrees.{firsts_of, indexed, behind, number_in}
-use Rattle.kilim_world.specs.Index.{places_from}
+use Rattle.kilim_signatures.specs.Index.{places_from}
 use Rattle.kilim_world.proofs.Below.{get_below}
 use Rattle.kilim_world.proofs.Lists.{some_is}
 

@@ -1,4 +1,3 @@
-mod Signatures
 mod Lists
 mod Outlines
 mod Below
@@ -6,3 +5,6 @@ mod Finding
 mod Worlds
 mod Upward
 mod Counts
+mod Saying
+mod Marked
+mod Telling

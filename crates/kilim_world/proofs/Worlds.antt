@@ -1,20 +1,18 @@
 -- What a world answers, by what it keeps.
-use Rattle.std.proofs.Common.{◌≡◌, ℕ, zero, suc, ◌+◌, ◌-◌, ◌<◌, ◌≤◌, ◌^◌, Bool, true, false, List, [], ◌∷◌, ◌++◌, length, take, min, Option, Some, None, refl, sym, ap, ◌∙◌, subst, inl, inr, arith}
+use Rattle.std.proofs.Common.{◌≡◌, ℕ, zero, suc, ◌+◌, ◌-◌, ◌<◌, ◌≤◌, ◌^◌, List, [], length, take, min, Option, Some, None, refl, sym, ap, ◌∙◌, arith}
 use Rattle.std.specs.Prelude.{option_map, slice_get, slice_index, sum_by, unwrap_or, IfSome}
 use Rattle.std.specs.List.{position_from}
 use Rattle.std.proofs.lemmas.List.{take_min}
 use Rattle.std.proofs.lemmas.Option.{slice_get_past, get_or_from_slice_get}
 use Rattle.kilim_program.specs.declared.names.ClassId.{ClassId}
-use Rattle.kilim_program.specs.declared.names.FieldId.{FieldId}
-use Rattle.kilim_program.specs.declared.names.MethodId.{MethodId}
 use Rattle.kilim_program.specs.BuiltIn.{class_id, method_id}
-use Rattle.kilim_program.specs.Names.{class_at, line_of, line_up_to}
+use Rattle.kilim_program.specs.Names.{line_of, line_up_to}
 use Rattle.kilim_program.specs.Program.{Program}
 use Rattle.kilim_class_world.specs.World as worlds
 use Rattle.kilim_class_world.specs.World.{outline_of, outline_with, is_message_by, field_id, declared_methods, methods_at, fields_at, is_method, is_field, method_in, field_in, find_method, find_field, first_found}
 use Rattle.kilim_class_world.specs.declared.view.ClassView.{ClassView}
 use Rattle.kilim_world.specs.declared.world.World.TheInside.{Inside}
-use Rattle.kilim_world.specs.Agrees.{Agrees, each_below, firsts_of, lines_in, method_count, field_count, number_in}
+use Rattle.kilim_world.specs.Agrees.{Agrees, firsts_of, lines_in, method_count, field_count, number_in}
 use Rattle.kilim_world.proofs.Below.{get_below, length_below}
 use Rattle.kilim_world.proofs.Finding.{number_is, number_fits, found_as}
 use Rattle.kilim_world.proofs.Outlines.{length_outlined}
@@ -44,7 +42,7 @@ no_line outline lines count c is past =
 
 -- ---- members
 
-module _ (w : Inside) (ok : Agrees w.form w.classes w.outline w.ids w.lines w.methods w.fields w.first_methods w.first_fields) where
+module _ (w : Inside) (ok : Agrees w.form w.classes w.outline w.ids w.lines w.methods w.fields w.first_methods w.first_fields w.nearest_methods w.nearest_fields) where
   abbrev pub seen : worlds.World
   seen = record { form = w.form; classes = w.classes; outline = w.outline }
 

@@ -1,6 +1,5 @@
 -- What a world keeps beside its classes, so that names are looked up in maps.
-use Rattle.std.specs.Prelude.{◌≡◌, ℕ, zero, suc, ◌+◌, ◌<◌, ◌^◌, Bool, List, [], ◌∷◌, ◌++◌, length, take, sum_by, slice_get, Option, Some, None}
-use Rattle.std.specs.List.{position_from}
+use Rattle.std.specs.Prelude.{◌≡◌, ℕ, zero, suc, ◌+◌, ◌<◌, ◌^◌, List, [], ◌∷◌, ◌++◌, length, take, sum_by, slice_get, option_map, Option, Some, None, IfSome}
 use Rattle.kilim_program.specs.declared.class.Form.{Form}
 use Rattle.kilim_program.specs.declared.names.ClassId.{ClassId}
 use Rattle.kilim_program.specs.BuiltIn.{class_id}
@@ -8,10 +7,13 @@ use Rattle.kilim_program.specs.Names.{line_of}
 use Rattle.kilim_program.specs.Program.{Program}
 use Rattle.kilim_class_world.specs.World.{outline_of, methods_at, fields_at, is_method, is_field, first_found}
 use Rattle.kilim_class_world.specs.declared.view.ClassView.{ClassView}
+use Rattle.kilim_inherited.specs.Inherited.{line_at}
+use Rattle.kilim_nearest.specs.declared.nearest.Nearest.{Nearest}
+use Rattle.kilim_nearest.specs.Known.{known}
 use Rattle.kilim_world.specs.declared.ids.Ids.{Ids}
-use Rattle.kilim_world.specs.declared.index.Index.{Index}
+use Rattle.kilim_signatures.specs.declared.index.Index.{Index}
 use Rattle.kilim_world.specs.Ids.{id_in, named_in}
-use Rattle.kilim_world.specs.Index.{positions, places_from}
+use Rattle.kilim_signatures.specs.Index.{positions, places_from}
 
 -- what is made of each number below a bound, in order
 abbrev pub each_below : {A : Type 0} → (ℕ → A) → ℕ → List A
@@ -48,12 +50,17 @@ abbrev pub behind : Option ℕ → Option ℕ → Option ℕ
 behind (Some first) (Some place) = Some (first + place)
 behind _ _ = None
 
+-- the number of a member at a place of a class, where the class says something of it
+abbrev pub placed : ℕ → Option ℕ → Option (Option ℕ)
+placed first place = option_map (λ k. Some (first + k)) place
+
 -- the number of a member in a class
 abbrev pub number_in : List Index → List ℕ → List ℕ → List ℕ → ClassId → Option ℕ
 number_in indices firsts name descriptor c = behind (slice_get firsts c.0) (slice_get (indexed indices c.0 name descriptor) 0)
 
--- Lines, names, and the places and first numbers of members agree with the classes, and all numbers fit.
-pub record Agrees (form : Form) (classes : List ClassView) (outline : Program) (ids : Ids) (lines : List (List ClassId)) (methods fields : List Index) (first_methods first_fields : List ℕ) : Type 0 where
+-- Lines, names, and the places and first numbers of members agree with the classes, all numbers fit, and what is known
+-- of nearest members is right.
+pub record Agrees (form : Form) (classes : List ClassView) (outline : Program) (ids : Ids) (lines : List (List ClassId)) (methods fields : List Index) (first_methods first_fields : List ℕ) (nearest_methods nearest_fields : Nearest) : Type 0 where
   pub outlined : outline ≡ outline_of form classes
   pub named : (name : List ℕ) → id_in ids.places name ≡ named_in name classes
   pub lined : lines ≡ lines_in outline (length classes)
@@ -61,6 +68,8 @@ pub record Agrees (form : Form) (classes : List ClassView) (outline : Program) (
   pub fields_are : (c : ℕ) (name descriptor : List ℕ) → indexed fields c name descriptor ≡ places_from (is_field name descriptor) 0 (fields_at (slice_get classes c))
   pub first_methods_are : first_methods ≡ firsts_of method_count classes
   pub first_fields_are : first_fields ≡ firsts_of field_count classes
+  pub nearest_methods_are : (c : ClassId) (name descriptor : List ℕ) → IfSome (known nearest_methods c name descriptor) (λ v. v ≡ first_found (number_in methods first_methods name descriptor) (line_at lines c))
+  pub nearest_fields_are : (c : ClassId) (name descriptor : List ℕ) → IfSome (known nearest_fields c name descriptor) (λ v. v ≡ first_found (number_in fields first_fields name descriptor) (line_at lines c))
   pub classes_fit : length classes < 2 ^ 32
   pub methods_fit : sum_by method_count classes < 2 ^ 32
   pub fields_fit : sum_by field_count classes < 2 ^ 32

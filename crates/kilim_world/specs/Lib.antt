@@ -1,4 +1,3 @@
-pub mod Index
 pub mod Ids
 pub mod Agrees
 pub mod Outlining

@@ -1,14 +1,14 @@
 //! The kinds of classes and types, by classes without members.
 
 ghost use Rattle.std.specs.Prelude.{◌≡◌, Some, codes, length, option_copied};
-ghost use Rattle.std.specs.List.{list_any};
 ghost use Rattle.std.specs.Str.{bytes_eq};
 ghost use Rattle.kilim_program.specs.declared.ty.Kind.TheVariants as kind;
-ghost use Rattle.kilim_program.specs.Names.{class_at, class_name, line_up_to, is_task, is_named_task};
+ghost use Rattle.kilim_program.specs.Names.{class_at, class_name, is_task};
 ghost use Rattle.kilim_program.specs.Kinds.{is_value_class, class_kind, base_kind, kind_of, array_kind, is_message, is_task_base, is_task_type, is_task_array, is_value_kind, is_tree_kind, is_private_kind, field_may_hold};
 ghost use Rattle.kilim_program.specs.Keeps.{superclass_of, is_object, superclass_fits, is_int_like, is_long, is_string_base, constant_fits};
 
 use crate::outline::Outline;
+use crate::tasks::mark_in;
 use kilim_program::{Base, Class, ClassId, Kind, Ty, Units, Value};
 
 fn is_value_class(name: &Units) -> bool
@@ -99,33 +99,11 @@ impl Outline {
         }
     }
 
-    // Whether a class, or one of its superclasses, is `kilim/Task`, among so many classes from it up.
-    fn is_task_within(&self, class: ClassId, most: usize) -> bool
-        ensures { result ≡ list_any (is_named_task self.now) (line_up_to self.now most class) }
-    {
-        let mut at = class;
-        let mut left = most;
-        while left > 0 {
-            let Some(found) = self.class_at(at) else {
-                return false;
-            };
-            if found.name.is_text(b"kilim/Task") {
-                return true;
-            }
-            let Some(up) = found.superclass else {
-                return false;
-            };
-            at = up;
-            left -= 1;
-        }
-        false
-    }
-
     /// Whether a class is `kilim/Task` or a subclass of it (own).
     pub fn is_task(&self, class: ClassId) -> bool
         ensures { result ≡ is_task self.now class }
     {
-        self.is_task_within(class, self.classes.len())
+        mark_in(&self.tasks, class)
     }
 
     /// Whether a class is a message: it is `kilim/Message`, or implements it, itself or by a superclass (own).
@@ -147,7 +125,7 @@ impl Outline {
         };
         if is_value_class(&found.name) {
             Kind::Value
-        } else if self.is_task_within(class, self.classes.len()) || found.message {
+        } else if self.is_task(class) || found.message {
             Kind::Tree
         } else {
             Kind::Private

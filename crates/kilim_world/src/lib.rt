@@ -3,22 +3,21 @@
 
 mod facts;
 mod ids;
-mod index;
 mod kinds;
 mod lines;
 mod members;
+mod nearest;
 mod outline;
 mod outlining;
 mod parts;
 mod search;
-mod signature;
+mod tasks;
 #[cfg(test)]
 mod tests;
 mod views;
 mod world;
 
 pub use ids::Ids;
-pub use index::Index;
+pub use kilim_signatures::{Index, Signature};
 pub use outline::Outline;
-pub use signature::Signature;
 pub use world::World;

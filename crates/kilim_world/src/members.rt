@@ -3,12 +3,11 @@
 ghost use Rattle.std.specs.Prelude.{◌≡◌, ◌<◌, ◌^◌, List, ℕ, IfOk, length, slice_get, sum_by};
 ghost use Rattle.kilim_class_world.specs.World.{is_method, is_field, methods_at, fields_at};
 ghost use Rattle.kilim_world.specs.Agrees.{method_count, field_count, firsts_of, indexed};
-ghost use Rattle.kilim_world.specs.Index.{positions, places_from};
+ghost use Rattle.kilim_signatures.specs.Index.{positions, places_from};
 
-use crate::index::Index;
-use crate::signature::Signature;
 use kilim_class_world::{ClassView, DeclaredField, DeclaredMethod};
 use kilim_program::{NoMemory, Seq};
+use kilim_signatures::{Index, Signature};
 use std::alloc::Global;
 
 // Where some methods stand.

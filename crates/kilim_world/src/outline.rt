@@ -8,13 +8,21 @@ use std::marker::Model;
 pub struct Outline {
     pub classes: Seq<Class>,
     pub form: Form,
+    /// Which of them are tasks.
+    pub tasks: Seq<bool>,
 }
 
 impl Model for Outline {
-    ghost use Rattle.std.specs.Prelude.{[]};
+    ghost use Rattle.std.specs.Prelude.{◌≡◌, length};
+    ghost use Rattle.kilim_program.specs.BuiltIn.{class_id};
+    ghost use Rattle.kilim_program.specs.Names.{is_task};
     ghost use Rattle.kilim_program.specs.Program as parts;
+    ghost use Rattle.kilim_world.specs.Agrees.{each_below};
+    ghost use Rattle.kilim_world.specs.Outlining.{bare};
 
     ghost Value = { parts.Program };
 
-    ghost view = { λ o. record { classes = o.classes; methods = []; fields = []; form = o.form } };
+    ghost view = { λ o. bare o.classes o.form };
+
+    ghost invariant = { λ o. o.tasks ≡ each_below (λ k. is_task (bare o.classes o.form) (class_id k)) (length o.classes) };
 }

@@ -12,6 +12,7 @@ ghost use Rattle.kilim_world.specs.Outlining.{superclass_in, without_members, ma
 
 use crate::ids::Ids;
 use crate::outline::Outline;
+use crate::tasks::task_marks;
 use kilim_class_world::ClassView;
 use kilim_program::{Class, ClassId, Form, NoMemory, Seq, Units};
 use std::alloc::Global;
@@ -74,12 +75,18 @@ fn outline_with(
     ids: &Ids,
     marks: &Seq<bool>,
 ) -> Result<Outline, NoMemory>
+    requires few { length classes.now < 2 ^ 32 }
     requires marked { length marks.now ≡ length classes.now }
     requires named { (name : List ℕ) → id_in ids.now.places name ≡ named_in name classes.now }
     ensures { IfOk result (λ outline. outline ≡ outline_with form classes.now (λ c v. mark_at marks.now c)) }
 {
     let classes = outlined(alloc, classes, ids, marks)?;
-    Ok(Outline { classes, form })
+    let tasks = task_marks(alloc, classes.as_slice(), form)?;
+    Ok(Outline {
+        classes,
+        form,
+        tasks,
+    })
 }
 
 // Which classes are marked themselves.

@@ -4,11 +4,13 @@ ghost use Rattle.std.specs.Prelude.{◌≡◌, ◌<◌, ◌-◌, ◌^◌, [], So
 ghost use Rattle.kilim_program.specs.declared.names.ClassId.{ClassId};
 ghost use Rattle.kilim_program.specs.BuiltIn.{method_id};
 ghost use Rattle.kilim_class_world.specs.World.{field_id, first_found};
+ghost use Rattle.kilim_inherited.specs.Inherited.{line_at};
+ghost use Rattle.kilim_nearest.specs.Known.{known};
 ghost use Rattle.kilim_world.specs.Agrees.{indexed, number_in};
 
-use crate::index::Index;
-use crate::signature::Signature;
+use kilim_nearest::Nearest;
 use kilim_program::{ClassId, FieldId, MethodId, Seq};
+use kilim_signatures::{Index, Signature};
 
 /// The places of a member among those of its class, none where it has none.
 pub fn places_in<'a>(indices: &'a Seq<Index>, class: ClassId, signature: &Signature) -> &'a [u32]
@@ -57,6 +59,25 @@ pub fn first_number(
     None
 }
 
+/// The number of a member of the nearest class that declares it: as it is known, or else by going up the line.
+pub fn nearest_number(
+    nearest: &Nearest,
+    indices: &Seq<Index>,
+    firsts: &Seq<u32>,
+    lines: &Seq<Seq<ClassId>>,
+    class: ClassId,
+    signature: &Signature,
+) -> Option<u32>
+    requires fits { (c : ClassId) → IfSome (number_in indices.now firsts.now signature.now.name signature.now.descriptor c) (λ n. n < 2 ^ 32) }
+    requires told { IfSome (known nearest.now class signature.now.name signature.now.descriptor) (λ v. v ≡ first_found (number_in indices.now firsts.now signature.now.name signature.now.descriptor) (line_at lines.now class)) }
+    ensures { result ≡ first_found (number_in indices.now firsts.now signature.now.name signature.now.descriptor) (line_at lines.now class) }
+{
+    match nearest.find(class, signature) {
+        Some(number) => number,
+        None => first_number(indices, firsts, line_in(lines, class), signature),
+    }
+}
+
 /// The number of a class's first member; past the end the last one.
 pub fn first_in(firsts: &Seq<u32>, class: ClassId) -> u32
     requires { 0 < length firsts.now }
@@ -70,7 +91,7 @@ pub fn first_in(firsts: &Seq<u32>, class: ClassId) -> u32
 
 /// The line of a class, none past the end.
 pub fn line_in(lines: &Seq<Seq<ClassId>>, class: ClassId) -> &[ClassId]
-    ensures { result.now ≡ unwrap_or (slice_get lines.now class.0) [] }
+    ensures { result.now ≡ line_at lines.now class }
 {
     match lines.as_slice().get(class.0 as usize) {
         Some(line) => line.as_slice(),

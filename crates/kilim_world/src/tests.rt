@@ -158,6 +158,13 @@ fn ancestors_are(w: &World, class: u32, expected: &[u32]) -> bool {
     numbers(w.ancestors(ClassId(class)), expected)
 }
 
+fn line_is(w: &World, class: usize, expected: &[u32]) -> bool {
+    match w.lines().get(class) {
+        Some(line) => numbers(line.as_slice(), expected),
+        None => expected.is_empty(),
+    }
+}
+
 fn class_is(alloc: Global, w: &World, name: &[u8], expected: Option<u32>) -> Result<bool, Fail> {
     let name = text(alloc, name)?;
     Ok(w.class_of(&name) == expected.map(ClassId))
@@ -166,6 +173,7 @@ fn class_is(alloc: Global, w: &World, name: &[u8], expected: Option<u32>) -> Res
 fn classes_are_there(w: &World, form: Form) -> bool {
     w.form() == form
         && w.outline().classes.len() == 8
+        && w.classes().len() == 8
         && w.view_at(ClassId(7)).is_some()
         && w.view_at(ClassId(8)).is_none()
 }
@@ -194,6 +202,7 @@ fn ancestors_are_found(rt: HostRuntime) -> Result<(), Fail> {
     assert!(rt; ancestors_are(&w, 3, &[3, 3, 3, 3, 3, 3, 3, 3]));
     assert!(rt; ancestors_are(&w, 4, &[]));
     assert!(rt; ancestors_are(&w, 8, &[]));
+    assert!(rt; line_is(&w, 1, &[1, 0, 6, 4]) && line_is(&w, 8, &[]));
     assert!(rt; !w.is_circular(ClassId(1)) && w.is_circular(ClassId(3)));
     Ok(())
 }

@@ -4,21 +4,23 @@ ghost use Rattle.std.specs.Prelude.{◌≡◌, ◌<◌, ◌≤◌, ◌^◌, [], 
 ghost use Rattle.std.specs.List.{AllByRecursion};
 ghost use Rattle.kilim_classfile.specs.Text.{ClassFits};
 ghost use Rattle.kilim_class_world.specs.World.{world_of, world_with, class_of, view_at, declared_methods, first_method, first_field, is_method, find_method, find_field};
+ghost use Rattle.kilim_program.specs.declared.names.ClassId as ids;
 ghost use Rattle.kilim_program.specs.Names.{line_of};
+ghost use Rattle.kilim_inherited.specs.Inherited.{line_at};
 ghost use Rattle.kilim_program.specs.Keeps.{ancestors_of};
 ghost use Rattle.kilim_world.specs.Agrees.{method_count, field_count};
-ghost use Rattle.kilim_world.specs.Index.{places_from};
+ghost use Rattle.kilim_signatures.specs.Index.{places_from};
 
 use crate::ids::Ids;
-use crate::index::Index;
 use crate::outline::Outline;
 use crate::parts::parts_of;
-use crate::search::{field_of, first_in, first_number, line_in, method_of, places_in};
-use crate::signature::Signature;
+use crate::search::{field_of, first_in, line_in, method_of, nearest_number, places_in};
 use crate::views::views_of;
 use kilim_class_world::ClassView;
 use kilim_classfile::ClassFile;
+use kilim_nearest::Nearest;
 use kilim_program::{ClassId, FieldId, Form, MethodId, NoMemory, Seq, Units};
+use kilim_signatures::{Index, Signature};
 use std::alloc::Global;
 use std::marker::Model;
 
@@ -39,6 +41,9 @@ pub struct World {
     // The number of each class's first method and field, and of one behind the last.
     first_methods: Seq<u32>,
     first_fields: Seq<u32>,
+    // The numbers of the nearest ones.
+    nearest_methods: Nearest,
+    nearest_fields: Nearest,
 }
 
 impl Model for World {
@@ -50,7 +55,7 @@ impl Model for World {
 
     ghost view = { λ w. record { form = w.form; classes = w.classes; outline = w.outline } };
 
-    ghost invariant = { λ w. Agrees w.form w.classes w.outline w.ids w.lines w.methods w.fields w.first_methods w.first_fields };
+    ghost invariant = { λ w. Agrees w.form w.classes w.outline w.ids w.lines w.methods w.fields w.first_methods w.first_fields w.nearest_methods w.nearest_fields };
 }
 
 impl World {
@@ -82,6 +87,8 @@ impl World {
             fields: parts.fields,
             first_methods: parts.first_methods,
             first_fields: parts.first_fields,
+            nearest_methods: parts.nearest_methods,
+            nearest_fields: parts.nearest_fields,
         })
     }
 
@@ -111,6 +118,20 @@ impl World {
         ensures { option_copied result ≡ view_at self.now class }
     {
         self.classes.as_slice().get(class.0 as usize)
+    }
+
+    /// The classes as they are declared.
+    pub fn classes(&self) -> &[ClassView]
+        ensures { result.now ≡ self.now.classes }
+    {
+        self.classes.as_slice()
+    }
+
+    /// The line of each class: it, its superclass, and so on up.
+    pub fn lines(&self) -> &[Seq<ClassId>]
+        ensures { (c : ids.ClassId) → c.0 < length self.now.classes → line_at result.now c ≡ line_of self.now.outline c }
+    {
+        self.lines.as_slice()
     }
 
     // The line of a class, none past the end.
@@ -168,8 +189,14 @@ impl World {
     pub fn find_method(&self, class: ClassId, signature: &Signature) -> Option<MethodId>
         ensures { result ≡ find_method self.now class signature.now.name signature.now.descriptor }
     {
-        let line = self.line_there(class);
-        method_of(first_number(&self.methods, &self.first_methods, line, signature))
+        method_of(nearest_number(
+            &self.nearest_methods,
+            &self.methods,
+            &self.first_methods,
+            &self.lines,
+            class,
+            signature,
+        ))
     }
 
     /// The field of that name and descriptor of a class, or of its nearest ancestor that has one (JVMS 5.4.3.2, own);
@@ -177,7 +204,13 @@ impl World {
     pub fn find_field(&self, class: ClassId, signature: &Signature) -> Option<FieldId>
         ensures { result ≡ find_field self.now class signature.now.name signature.now.descriptor }
     {
-        let line = self.line_there(class);
-        field_of(first_number(&self.fields, &self.first_fields, line, signature))
+        field_of(nearest_number(
+            &self.nearest_fields,
+            &self.fields,
+            &self.first_fields,
+            &self.lines,
+            class,
+            signature,
+        ))
     }
 }

@@ -2,7 +2,7 @@ use Rattle.std.proofs.Common.{◌≡◌, ◌-◌, ◌≤◌, List, ℕ, length, 
 use Rattle.std.specs.Prelude.{slice_get}
 use Rattle.kilim_class_world.specs.World.{is_field, fields_at}
 use Rattle.kilim_world.specs.Agrees.{indexed}
-use Rattle.kilim_world.specs.Index.{places_from}
+use Rattle.kilim_signatures.specs.Index.{places_from}
 use Rattle.kilim_world.proofs.members.field_indices.Given as goal
 
 abbrev pub invariant-loop-i : goal.invariant-loop-i

@@ -1,9 +1,9 @@
-use Rattle.std.proofs.Common.{◌≡◌, ◌<◌, Bool, List, ℕ, length, refl, ap, ◌∙◌, arith}
+use Rattle.std.proofs.Common.{◌<◌, Bool, List, ℕ, length, refl, ap, ◌∙◌, arith}
 use Rattle.std.specs.Prelude.{◌&&◌}
 use Rattle.std.specs.Str.{bytes_eq}
 use Rattle.std.proofs.lemmas.Option.{slice_get_read}
 use Rattle.kilim_class_world.specs.World.{is_field}
-use Rattle.kilim_world.specs.Index.{positions, same_signature}
+use Rattle.kilim_signatures.specs.Index.{positions}
 use Rattle.kilim_world.proofs.Lists.{index_next}
 use Rattle.kilim_world.proofs.members.index_of_fields.Goals as goal
 

@@ -1,4 +1,4 @@
-use Rattle.std.proofs.Common.{◌≡◌, ◌-◌, ◌≤◌, length}
+use Rattle.std.proofs.Common.{◌≡◌, ◌-◌, ◌≤◌}
 use Rattle.kilim_world.specs.Agrees.{lines_in}
 use Rattle.kilim_world.proofs.outline.Outline.lines.Given as goal
 

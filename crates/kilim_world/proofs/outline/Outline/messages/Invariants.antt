@@ -1,4 +1,4 @@
-use Rattle.std.proofs.Common.{◌≡◌, ◌-◌, ◌≤◌, length}
+use Rattle.std.proofs.Common.{◌≡◌, ◌-◌, ◌≤◌}
 use Rattle.kilim_program.specs.BuiltIn.{class_id}
 use Rattle.kilim_class_world.specs.World.{is_message_by}
 use Rattle.kilim_world.specs.Agrees.{each_below}

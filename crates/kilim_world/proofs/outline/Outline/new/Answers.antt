@@ -1,7 +1,7 @@
-use Rattle.std.proofs.Common.{◌≡◌, ◌<◌, ◌^◌, Bool, List, length, map, Ok, Err, sym, ap, ◌∙◌, arith}
+use Rattle.std.proofs.Common.{◌≡◌, Bool, List, length, ap, ◌∙◌, arith}
 use Rattle.kilim_program.specs.BuiltIn.{class_id}
 use Rattle.kilim_program.specs.Program.{Program}
-use Rattle.kilim_class_world.specs.World.{outline_with, outline_of, is_message_by}
+use Rattle.kilim_class_world.specs.World.{outline_with, is_message_by}
 use Rattle.kilim_world.specs.Outlining.{mark_at}
 use Rattle.kilim_world.proofs.Outlines.{length_outlined, own_outline, message_outline, length_messages}
 use Rattle.kilim_world.proofs.outline.Outline.new.Goals as goal

@@ -1,7 +1,7 @@
 use Rattle.std.proofs.Common.{◌<◌, ◌^◌, List, sym, subst}
 use Rattle.std.specs.Prelude.{sum_by}
 use Rattle.kilim_class_world.specs.declared.view.ClassView.{ClassView}
-use Rattle.kilim_class_world.specs.World.{world_of, world_with}
+use Rattle.kilim_class_world.specs.World.{world_of}
 use Rattle.kilim_world.specs.Agrees.{method_count, field_count}
 use Rattle.kilim_world.proofs.Counts.{methods_fit, fields_fit}
 use Rattle.kilim_world.proofs.world.World.new.Goals as goal

@@ -1,0 +1,4 @@
+mod Halves
+mod Growing
+mod Putting
+mod Inheriting

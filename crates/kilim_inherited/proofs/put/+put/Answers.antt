@@ -1,0 +1,52 @@
+use Rattle.std.proofs.Common.{◌≡◌, ℕ, ◌-◌, ◌<◌, ◌%◌, ◌==◌, true, false, arith, rules}
+use Rattle.kilim_inherited.specs.Trees.{Makes, Has, Joins, changed_at, value_at}
+use Rattle.kilim_inherited.proofs.Putting.{ok_then, put_even, put_odd, at_levels, rest_fits}
+use Rattle.kilim_inherited.proofs.put.+put.Goals as goal
+
+pub put-requires : goal.put-requires
+put-requires t c =
+    let some : 0 < c.args.levels = omega arith in
+    (omega arith, (c.in_ok-even.ensures.table, rest_fits c.args.levels c.args.key some c.requires.fits))
+
+pub put-requires-else-key-eq0 : goal.put-requires-else-key-eq0
+put-requires-else-key-eq0 t c =
+    let some : 0 < c.args.levels = omega arith in
+    (omega arith, (c.in_ok-even.ensures.table, rest_fits c.args.levels c.args.key some c.requires.fits))
+
+pub returns-in_ok-even-2 : goal.returns-in_ok-even-2
+returns-in_ok-even-2 t c =
+    let old = c.args.nodes.now in
+    let mid = c.opened.new.nodes in
+    let low = c.put.new.nodes in
+    let new = c.branch-nodes.new.nodes in
+    let levels = c.args.levels in
+    let key = c.args.key in
+    let value = c.args.value in
+    let tree = c.args.tree in
+    let made_side = c.in_ok-even-2.even in
+    let some : 0 < levels = omega arith in
+    let is : (key % 2 == 0) ≡ true = search rules in
+    ok_then c.branch-nodes.result
+    (λ (made : ℕ). Makes low new made × Joins low new made_side c.in_ok-even.odd made)
+    (λ (made : ℕ). Makes old new made × Has new levels made (changed_at key value (value_at old levels tree)))
+    (λ made h. at_levels old new levels tree made key value some (put_even old mid low new tree (levels - 1) key value c.in_ok-even.even c.in_ok-even.odd made_side made c.in_ok-even.ensures c.in_ok-even-2.ensures.0 h.0 is c.in_ok-even-2.ensures.1 h.1))
+    c.branch-nodes.ensures
+
+pub returns-in_ok-odd : goal.returns-in_ok-odd
+returns-in_ok-odd t c =
+    let old = c.args.nodes.now in
+    let mid = c.opened.new.nodes in
+    let low = c.put-else-key-eq0.new.nodes in
+    let new = c.branch-nodes-else-key-eq0.new.nodes in
+    let levels = c.args.levels in
+    let key = c.args.key in
+    let value = c.args.value in
+    let tree = c.args.tree in
+    let made_side = c.in_ok-odd.odd in
+    let some : 0 < levels = omega arith in
+    let isnt : (key % 2 == 0) ≡ false = search rules in
+    ok_then c.branch-nodes-else-key-eq0.result
+    (λ (made : ℕ). Makes low new made × Joins low new c.in_ok-even.even made_side made)
+    (λ (made : ℕ). Makes old new made × Has new levels made (changed_at key value (value_at old levels tree)))
+    (λ made h. at_levels old new levels tree made key value some (put_odd old mid low new tree (levels - 1) key value c.in_ok-even.even c.in_ok-even.odd made_side made c.in_ok-even.ensures c.in_ok-odd.ensures.0 h.0 isnt c.in_ok-odd.ensures.1 h.1))
+    c.branch-nodes-else-key-eq0.ensures

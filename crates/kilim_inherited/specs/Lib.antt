@@ -1,0 +1,3 @@
+pub mod Inherited
+pub mod Trees
+pub mod Roots

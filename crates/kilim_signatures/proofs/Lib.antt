@@ -1,0 +1,2 @@
+mod Signatures
+mod Numbering

@@ -1,0 +1,12 @@
+//! Names of members with their descriptors: where they stand in lists, and numbers for them.
+#![tactic(auto)]
+
+mod index;
+mod numbers;
+mod signature;
+#[cfg(test)]
+mod tests;
+
+pub use index::Index;
+pub use numbers::Numbers;
+pub use signature::Signature;
