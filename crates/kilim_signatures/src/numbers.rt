@@ -35,8 +35,8 @@ impl Numbers {
         self.places.get(signature).copied()
     }
 
-    /// The number of a signature, a new one where it has none. For want of memory, or where there are as many as
-    /// numbers of 32 bits, all is as it was.
+    /// The number of a signature, a new one where it has none. Numbers that were given stay, for want of memory too;
+    /// that is answered as well where there are as many as numbers of 32 bits.
     pub fn add(&mut self, signature: &Signature) -> Result<u32, NoMemory>
         requires { Numbered self.old.places self.old.next }
         ensures here { IfOk result (λ k. number_at self.new.places signature.now.name signature.now.descriptor ≡ Some k) }

@@ -22,25 +22,18 @@ fn signature(alloc: Global, name: &[u8], descriptor: &[u8]) -> Result<Signature,
     })
 }
 
-// Each name with its descriptor, and the number that it has once all before it were added.
-const NUMBERED: [(&[u8], &[u8], u32); 6] = [
-    (b"get", b"()I", 0),
-    (b"get", b"()J", 1),
-    (b"put", b"()I", 2),
-    (b"get", b"()I", 0),
-    (b"", b"", 3),
-    (b"put", b"()I", 2),
-];
-
-fn numbers_are_given(alloc: Global, numbers: &mut Numbers) -> Result<bool, Fail>
+fn is_given(
+    alloc: Global,
+    numbers: &mut Numbers,
+    name: &[u8],
+    descriptor: &[u8],
+    number: u32,
+) -> Result<bool, Fail>
     requires { Numbered numbers.old.places numbers.old.next }
+    ensures { Numbered numbers.new.places numbers.new.next }
 {
-    for (name, descriptor, number) in NUMBERED {
-        if numbers.add(&signature(alloc, name, descriptor)?)? != number {
-            return Ok(false);
-        }
-    }
-    Ok(true)
+    let signature = signature(alloc, name, descriptor)?;
+    Ok(numbers.add(&signature)? == number)
 }
 
 fn is_numbered(
@@ -58,7 +51,12 @@ fn signatures_have_numbers(rt: HostRuntime) -> Result<(), Fail> {
     let alloc = rt.alloc();
     let mut numbers = Numbers::new(alloc);
     assert!(rt; is_numbered(alloc, &numbers, b"get", b"()I", None)?);
-    assert!(rt; numbers_are_given(alloc, &mut numbers)?);
+    assert!(rt; is_given(alloc, &mut numbers, b"get", b"()I", 0)?);
+    assert!(rt; is_given(alloc, &mut numbers, b"get", b"()J", 1)?);
+    assert!(rt; is_given(alloc, &mut numbers, b"put", b"()I", 2)?);
+    assert!(rt; is_given(alloc, &mut numbers, b"get", b"()I", 0)?);
+    assert!(rt; is_given(alloc, &mut numbers, b"", b"", 3)?);
+    assert!(rt; is_given(alloc, &mut numbers, b"put", b"()I", 2)?);
     assert!(rt; is_numbered(alloc, &numbers, b"put", b"()I", Some(2))?);
     assert!(rt; is_numbered(alloc, &numbers, b"put", b"()J", None)?);
     assert!(rt; is_numbered(alloc, &numbers, b"()I", b"put", None)?);
