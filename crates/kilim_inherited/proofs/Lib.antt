@@ -1,4 +1,6 @@
 mod Halves
 mod Growing
 mod Putting
+mod Stable
+mod Fronts
 mod Inheriting

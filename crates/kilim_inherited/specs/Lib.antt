@@ -1,3 +1,4 @@
 pub mod Inherited
 pub mod Trees
 pub mod Roots
+pub mod Fronts

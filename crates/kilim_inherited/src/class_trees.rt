@@ -1,9 +1,11 @@
-//! The trees of classes, each from its superclass's tree.
+//! The trees of classes, each from its superclass's.
 
-ghost use Rattle.std.specs.Prelude.{◌≡◌, ◌↔◌, IsTrue, ◌≤◌, ℕ, None, Some, IfOk, IfSome, length, slice_set};
+ghost use Rattle.std.specs.Prelude.{◌≡◌, ◌≤◌, ◌<◌, ◌^◌, ℕ, true, None, Some, IfOk, OnOk, is_some, length, slice_set};
 ghost use Rattle.kilim_program.specs.declared.names.ClassId.{ClassId};
-ghost use Rattle.kilim_inherited.specs.Inherited.{line_at, said_at, said_in};
-ghost use Rattle.kilim_inherited.specs.Roots.{root_at, IsBase, Sound};
+ghost use Rattle.kilim_inherited.specs.Fronts.{IsFront, said_onto};
+ghost use Rattle.kilim_inherited.specs.Inherited.{said_at, said_in, up_in};
+ghost use Rattle.kilim_inherited.specs.Roots.{root_at, MadeBelow, Keeps, Sound};
+ghost use Rattle.kilim_inherited.specs.Trees.{IsTable, Makes, Has, value_at, key_levels};
 
 use crate::entry::Entry;
 use crate::node::Node;
@@ -21,13 +23,13 @@ pub fn root_of(roots: &[Option<u32>], class: ClassId) -> Option<u32>
     }
 }
 
-/// The line of a class, none past the end.
-pub fn line_of(lines: &[Seq<ClassId>], class: ClassId) -> &[ClassId]
-    ensures { result.now ≡ line_at lines.now class }
+/// The superclass of a class, none past the end.
+pub fn superclass_in(ups: &[Option<ClassId>], class: ClassId) -> Option<ClassId>
+    ensures { result ≡ up_in ups.now class }
 {
-    match lines.get(class.0 as usize) {
-        Some(line) => line.as_slice(),
-        None => &[],
+    match ups.get(class.0 as usize) {
+        Some(up) => *up,
+        None => None,
     }
 }
 
@@ -41,49 +43,67 @@ pub fn entries_of(entries: &[Seq<Entry>], class: ClassId) -> &[Entry]
     }
 }
 
-/// Whether this is the line of a class.
-pub fn is_line(lines: &[Seq<ClassId>], line: &[ClassId], class: ClassId) -> bool
-    ensures { IsTrue result ↔ (line.now ≡ line_at lines.now class) }
-{
-    line == line_of(lines, class)
+/// The first classes of a line, and the tree that their entries are put onto.
+#[derive(Drop)]
+pub struct Front {
+    pub classes: Seq<ClassId>,
+    pub base: u32,
 }
 
-/// The tree of a class, where this is its line and the tree is made.
-pub fn root_above(
+/// The front of a class's line up to the first class above it whose tree is made. Where the line ends before that, comes
+/// back to the class or has as many classes as there are, it says no more, and the front is put onto the empty tree.
+pub fn front_of(
+    alloc: Global,
     roots: &[Option<u32>],
-    lines: &[Seq<ClassId>],
-    line: &[ClassId],
+    ups: &[Option<ClassId>],
     class: ClassId,
-) -> Option<u32>
-    ensures { IfSome result (λ root. (line.now ≡ line_at lines.now class) × (root_at roots.now class ≡ Some root)) }
+) -> Result<Front, NoMemory>
+    ensures { IfOk result (λ front. IsFront ups.now roots.now class front.classes front.base) }
 {
-    if is_line(lines, line, class) {
-        root_of(roots, class)
-    } else {
-        None
+    let mut classes: Seq<ClassId> = Seq::new(alloc);
+    let mut at = class;
+    let mut left = ups.len();
+    while left > 0 {
+        classes.push(at)?;
+        let Some(up) = superclass_in(ups, at) else {
+            return Ok(Front { classes, base: 0 });
+        };
+        if up == class {
+            return Ok(Front { classes, base: 0 });
+        }
+        if let Some(base) = root_of(roots, up) {
+            return Ok(Front { classes, base });
+        }
+        at = up;
+        left -= 1;
     }
+    Ok(Front { classes, base: 0 })
 }
 
-/// The tree that a class's entries are put onto: its superclass's, the empty one where it has none.
-/// None where the rest of its line isn't its superclass's line, or the superclass's tree isn't made.
-pub fn base_of(roots: &[Option<u32>], lines: &[Seq<ClassId>], class: ClassId) -> Option<u32>
-    ensures { IfSome result (λ base. IsBase lines.now roots.now class base) }
+/// The tree where the entries of classes stand before what the tree has, those of the first class before the others.
+pub fn put_classes(
+    nodes: &mut Seq<Node>,
+    tree: u32,
+    entries: &[Seq<Entry>],
+    classes: &[ClassId],
+) -> Result<u32, NoMemory>
+    requires table { IsTable nodes.old }
+    requires inside { tree < length nodes.old }
+    ensures { IfOk result (λ made. Makes nodes.old nodes.new made × Has nodes.new key_levels made (λ k. said_onto entries.now k classes.now (value_at nodes.old key_levels tree k))) }
 {
-    let Some((first, rest)) = line_of(lines, class).split_first() else {
-        return None;
-    };
-    if *first != class {
-        return None;
+    let mut made = tree;
+    let mut left = classes.len();
+    while left > 0 {
+        left -= 1;
+        made = put_entries(nodes, made, entries_of(entries, classes[left]))?;
     }
-    match rest.first() {
-        Some(up) => root_above(roots, lines, rest, *up),
-        None => Some(0),
-    }
+    Ok(made)
 }
 
 /// No class's tree is made.
 pub fn no_roots(alloc: Global, count: usize) -> Result<Seq<Option<u32>>, NoMemory>
-    ensures { IfOk result (λ roots. (c : ClassId) → root_at roots c ≡ None) }
+    ensures none { IfOk result (λ roots. (c : ClassId) → root_at roots c ≡ None) }
+    ensures count { IfOk result (λ roots. length roots ≡ count) }
 {
     let mut roots: Seq<Option<u32>> = Seq::new(alloc);
     for _ in 0..count {
@@ -102,56 +122,68 @@ pub fn set_root(roots: &mut Seq<Option<u32>>, class: ClassId, root: u32)
     }
 }
 
-/// Makes a class's tree, where its superclass's is made. Answers whether it did.
-pub fn make_root(
+/// Makes a class's tree.
+pub fn make_tree(
+    alloc: Global,
     nodes: &mut Seq<Node>,
     roots: &mut Seq<Option<u32>>,
-    lines: &[Seq<ClassId>],
+    ups: &[Option<ClassId>],
     entries: &[Seq<Entry>],
     class: ClassId,
-) -> Result<bool, NoMemory>
-    requires { Sound lines.now entries.now nodes.old roots.old }
-    ensures { IfOk result (λ _. Sound lines.now entries.now nodes.new roots.new) }
+) -> Result<(), NoMemory>
+    requires said { length entries.now ≤ length ups.now }
+    requires sound { Sound ups.now entries.now nodes.old roots.old }
+    ensures sound { OnOk result (Sound ups.now entries.now nodes.new roots.new) }
+    ensures kept { OnOk result (Keeps roots.old roots.new) }
+    ensures made { OnOk result (class.0 < length roots.old → is_some (root_at roots.new class) ≡ true) }
 {
-    match base_of(roots.as_slice(), lines, class) {
-        Some(base) => {
-            let root = put_entries(nodes, base, entries_of(entries, class))?;
-            set_root(roots, class, root);
-            Ok(true)
-        }
-        None => Ok(false),
+    if root_of(roots.as_slice(), class).is_some() {
+        return Ok(());
     }
+    let front = front_of(alloc, roots.as_slice(), ups, class)?;
+    let root = put_classes(nodes, front.base, entries, front.classes.as_slice())?;
+    set_root(roots, class, root);
+    Ok(())
 }
 
-/// How many classes of a line stand before the first one whose tree is made.
-pub fn unmade(roots: &[Option<u32>], line: &[ClassId]) -> usize
-    ensures { result ≤ length line.now }
-{
-    for (i, class) in line.iter().enumerate() {
-        if root_of(roots, *class).is_some() {
-            return i;
-        }
-    }
-    line.len()
-}
-
-/// Makes the trees of a line's classes, the farthest first, as long as that goes.
-pub fn make_line(
+/// Makes the trees of some classes, one after the other.
+pub fn make_trees(
+    alloc: Global,
     nodes: &mut Seq<Node>,
     roots: &mut Seq<Option<u32>>,
-    lines: &[Seq<ClassId>],
+    ups: &[Option<ClassId>],
     entries: &[Seq<Entry>],
-    line: &[ClassId],
+    classes: &[ClassId],
 ) -> Result<(), NoMemory>
-    requires { Sound lines.now entries.now nodes.old roots.old }
-    ensures { IfOk result (λ _. Sound lines.now entries.now nodes.new roots.new) }
+    requires said { length entries.now ≤ length ups.now }
+    requires sound { Sound ups.now entries.now nodes.old roots.old }
+    ensures sound { OnOk result (Sound ups.now entries.now nodes.new roots.new) }
+    ensures kept { OnOk result (Keeps roots.old roots.new) }
 {
-    let mut left = unmade(roots.as_slice(), line);
-    while left > 0 {
-        left -= 1;
-        if !make_root(nodes, roots, lines, entries, line[left])? {
-            return Ok(());
-        }
+    for class in classes {
+        make_tree(alloc, nodes, roots, ups, entries, *class)?;
+    }
+    Ok(())
+}
+
+/// Makes the trees of all classes that aren't made.
+pub fn make_all(
+    alloc: Global,
+    nodes: &mut Seq<Node>,
+    roots: &mut Seq<Option<u32>>,
+    ups: &[Option<ClassId>],
+    entries: &[Seq<Entry>],
+) -> Result<(), NoMemory>
+    requires said { length entries.now ≤ length ups.now }
+    requires sound { Sound ups.now entries.now nodes.old roots.old }
+    ensures sound { OnOk result (Sound ups.now entries.now nodes.new roots.new) }
+    ensures made { OnOk result (MadeBelow (length roots.old) roots.new) }
+{
+    for place in 0..roots.len() {
+        let Ok(number) = u32::try_from(place) else {
+            return Err(NoMemory);
+        };
+        make_tree(alloc, nodes, roots, ups, entries, ClassId(number))?;
     }
     Ok(())
 }

@@ -9,6 +9,7 @@ mod entry;
 mod inherited;
 mod lookup;
 mod node;
+mod order;
 mod put;
 #[cfg(test)]
 mod tests;

@@ -5,20 +5,15 @@ use kilim_program::{ClassId, Seq};
 use std::alloc::Global;
 use std::test::Fail;
 
-fn line(alloc: Global, places: &[u32]) -> Result<Seq<ClassId>, Fail> {
-    let mut line: Seq<ClassId> = Seq::new(alloc);
-    for place in places {
-        line.push(ClassId(*place))?;
+fn superclasses(alloc: Global, table: &[Option<u32>]) -> Result<Seq<Option<ClassId>>, Fail> {
+    let mut ups: Seq<Option<ClassId>> = Seq::new(alloc);
+    for row in table {
+        ups.push(match row {
+            Some(place) => Some(ClassId(*place)),
+            None => None,
+        })?;
     }
-    Ok(line)
-}
-
-fn lines(alloc: Global, table: &[&[u32]]) -> Result<Seq<Seq<ClassId>>, Fail> {
-    let mut lines: Seq<Seq<ClassId>> = Seq::new(alloc);
-    for places in table {
-        lines.push(line(alloc, places)?)?;
-    }
-    Ok(lines)
+    Ok(ups)
 }
 
 fn said(alloc: Global, table: &[(u32, Option<u32>)]) -> Result<Seq<Entry>, Fail> {
@@ -41,7 +36,7 @@ fn entries(alloc: Global, table: &[&[(u32, Option<u32>)]]) -> Result<Seq<Seq<Ent
 }
 
 // Whether each class has these answers at these keys.
-fn answers(inherited: &Inherited, table: &[(u32, u32, Option<Option<u32>>)]) -> bool {
+fn answers(inherited: &Inherited, table: &[(u32, u32, Option<u32>)]) -> bool {
     for (class, key, answer) in table {
         if inherited.find(ClassId(*class), *key) != *answer {
             return false;
@@ -54,7 +49,7 @@ fn answers(inherited: &Inherited, table: &[(u32, u32, Option<Option<u32>>)]) -> 
 #[test]
 fn a_line_of_three(rt: HostRuntime) -> Result<(), Fail> {
     let alloc = rt.alloc();
-    let lines = lines(alloc, &[&[0], &[1, 0], &[2, 1, 0]])?;
+    let ups = superclasses(alloc, &[None, Some(0), Some(1)])?;
     let entries = entries(
         alloc,
         &[
@@ -63,35 +58,36 @@ fn a_line_of_three(rt: HostRuntime) -> Result<(), Fail> {
             &[(0xffff_ffff, Some(7)), (5, None), (4, Some(41))],
         ],
     )?;
-    let inherited = Inherited::new(alloc, lines.as_slice(), entries.as_slice())?;
+    assert!(rt; entries.len() <= ups.len());
+    let inherited = Inherited::new(alloc, ups.as_slice(), entries.as_slice())?;
     assert!(rt;
         answers(
             &inherited,
             &[
-                (0, 5, Some(Some(50))),
-                (0, 4, Some(Some(40))),
-                (0, 1, Some(None)),
-                (1, 5, Some(Some(60))),
-                (1, 4, Some(None)),
-                (2, 5, Some(None)),
-                (2, 4, Some(Some(41))),
-                (2, 0xffff_ffff, Some(Some(7))),
-                (2, 0x7fff_ffff, Some(None)),
+                (0, 5, Some(50)),
+                (0, 4, Some(40)),
+                (0, 1, None),
+                (1, 5, Some(60)),
+                (1, 4, None),
+                (2, 5, None),
+                (2, 4, Some(41)),
+                (2, 0xffff_ffff, Some(7)),
+                (2, 0x7fff_ffff, None),
                 (3, 5, None),
             ]
         )
     );
     assert!(rt; !inherited.has_none(ClassId(0)));
     assert!(rt; !inherited.has_none(ClassId(2)));
-    assert!(rt; !inherited.has_none(ClassId(3)));
+    assert!(rt; inherited.has_none(ClassId(3)));
     Ok(())
 }
 
-// Classes 0, 1 and 3 extend 2, which stands behind the first two; 3 takes away what 2 has.
+// Classes 0, 1 and 3 extend 2, which stands behind the first two; 3 takes away what 2 has. Of 4 nothing is said.
 #[test]
 fn branches_of_one_root(rt: HostRuntime) -> Result<(), Fail> {
     let alloc = rt.alloc();
-    let lines = lines(alloc, &[&[0, 2], &[1, 2], &[2], &[3, 2]])?;
+    let ups = superclasses(alloc, &[Some(2), Some(2), None, Some(2), Some(0)])?;
     let entries = entries(
         alloc,
         &[
@@ -101,20 +97,23 @@ fn branches_of_one_root(rt: HostRuntime) -> Result<(), Fail> {
             &[(12, None), (8, None), (3, None)],
         ],
     )?;
-    let inherited = Inherited::new(alloc, lines.as_slice(), entries.as_slice())?;
+    assert!(rt; entries.len() <= ups.len());
+    let inherited = Inherited::new(alloc, ups.as_slice(), entries.as_slice())?;
     assert!(rt;
         answers(
             &inherited,
             &[
-                (0, 8, Some(Some(80))),
-                (0, 12, Some(Some(83))),
-                (0, 24, Some(None)),
-                (1, 8, Some(Some(82))),
-                (1, 24, Some(Some(81))),
-                (2, 8, Some(Some(82))),
-                (2, 24, Some(None)),
-                (3, 8, Some(None)),
-                (3, 12, Some(None)),
+                (0, 8, Some(80)),
+                (0, 12, Some(83)),
+                (0, 24, None),
+                (1, 8, Some(82)),
+                (1, 24, Some(81)),
+                (2, 8, Some(82)),
+                (2, 24, None),
+                (3, 8, None),
+                (3, 12, None),
+                (4, 8, Some(80)),
+                (4, 12, Some(83)),
             ]
         )
     );
@@ -123,34 +122,49 @@ fn branches_of_one_root(rt: HostRuntime) -> Result<(), Fail> {
     Ok(())
 }
 
-// Classes 0 and 1 stand in a circle, 2 extends one of them; the lines of 4, 5 and 6 are none; 7 has no entries.
+// Class 0 extends 2; 1, 2 and 3 stand in a circle in that order; 4 extends itself, and 5 what is past the end.
 #[test]
-fn lines_that_are_none(rt: HostRuntime) -> Result<(), Fail> {
+fn circles(rt: HostRuntime) -> Result<(), Fail> {
     let alloc = rt.alloc();
-    let circle: &[u32] = &[0, 1, 0, 1, 0, 1, 0, 1];
-    let other: &[u32] = &[1, 0, 1, 0, 1, 0, 1, 0];
-    let lines = lines(
+    let ups = superclasses(
+        alloc,
+        &[Some(2), Some(2), Some(3), Some(1), Some(4), Some(9)],
+    )?;
+    let entries = entries(
         alloc,
         &[
-            circle,
-            other,
-            &[2, 0, 1, 0, 1, 0, 1, 0],
-            &[3],
-            &[4, 7],
-            &[3],
-            &[],
-            &[7, 3],
+            &[(7, Some(70))],
+            &[(8, Some(81)), (9, Some(91))],
+            &[(8, Some(82)), (7, Some(72))],
+            &[(9, None), (6, Some(63))],
+            &[(8, Some(84))],
+            &[(8, Some(85))],
         ],
     )?;
-    let said: &[(u32, Option<u32>)] = &[(8, Some(1))];
-    let entries = entries(alloc, &[said, said, said, said, said, said, said])?;
-    let inherited = Inherited::new(alloc, lines.as_slice(), entries.as_slice())?;
-    for class in 0..9 {
-        let known = class == 3 || class == 7;
-        let answer = if known { Some(Some(1)) } else { None };
-        assert!(rt; inherited.find(ClassId(class), 8) == answer);
-        assert!(rt; !inherited.has_none(ClassId(class)));
-    }
+    assert!(rt; entries.len() <= ups.len());
+    let inherited = Inherited::new(alloc, ups.as_slice(), entries.as_slice())?;
+    assert!(rt;
+        answers(
+            &inherited,
+            &[
+                (0, 7, Some(70)),
+                (0, 8, Some(82)),
+                (0, 9, None),
+                (0, 6, Some(63)),
+                (1, 7, Some(72)),
+                (1, 8, Some(81)),
+                (1, 9, Some(91)),
+                (2, 8, Some(82)),
+                (2, 9, None),
+                (3, 8, Some(81)),
+                (3, 9, None),
+                (4, 8, Some(84)),
+                (5, 8, Some(85)),
+                (5, 9, None),
+                (9, 8, None),
+            ]
+        )
+    );
     Ok(())
 }
 
@@ -168,7 +182,7 @@ fn multiples(alloc: Global, count: u32) -> Result<Seq<Entry>, Fail> {
 
 fn has_multiples(inherited: &Inherited, class: ClassId, count: u32) -> bool {
     for i in 0..count {
-        if inherited.find(class, i << 16) != Some(Some(i)) {
+        if inherited.find(class, i << 16) != Some(i) {
             return false;
         }
     }
@@ -178,16 +192,17 @@ fn has_multiples(inherited: &Inherited, class: ClassId, count: u32) -> bool {
 #[test]
 fn many_keys_with_equal_digits(rt: HostRuntime) -> Result<(), Fail> {
     let alloc = rt.alloc();
-    let lines = lines(alloc, &[&[0], &[1, 0]])?;
+    let ups = superclasses(alloc, &[None, Some(0)])?;
     let mut entries: Seq<Seq<Entry>> = Seq::new(alloc);
     entries.push(multiples(alloc, 300)?)?;
     entries.push(said(alloc, &[(7 << 16, Some(1)), (300 << 16, Some(2))])?)?;
-    let inherited = Inherited::new(alloc, lines.as_slice(), entries.as_slice())?;
+    assert!(rt; entries.len() <= ups.len());
+    let inherited = Inherited::new(alloc, ups.as_slice(), entries.as_slice())?;
     assert!(rt; has_multiples(&inherited, ClassId(0), 300));
-    assert_eq!(rt; inherited.find(ClassId(0), 300 << 16), Some(None));
-    assert_eq!(rt; inherited.find(ClassId(0), 1), Some(None));
-    assert_eq!(rt; inherited.find(ClassId(1), 7 << 16), Some(Some(1)));
-    assert_eq!(rt; inherited.find(ClassId(1), 8 << 16), Some(Some(8)));
-    assert_eq!(rt; inherited.find(ClassId(1), 300 << 16), Some(Some(2)));
+    assert_eq!(rt; inherited.find(ClassId(0), 300 << 16), None);
+    assert_eq!(rt; inherited.find(ClassId(0), 1), None);
+    assert_eq!(rt; inherited.find(ClassId(1), 7 << 16), Some(1));
+    assert_eq!(rt; inherited.find(ClassId(1), 8 << 16), Some(8));
+    assert_eq!(rt; inherited.find(ClassId(1), 300 << 16), Some(2));
     Ok(())
 }

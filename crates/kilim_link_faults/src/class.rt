@@ -3,7 +3,7 @@
 ghost use Rattle.std.specs.Prelude.{◌≡◌, ◌&&◌, IfOk, filter, option_copied};
 ghost use Rattle.kilim_class_world.specs.Mentions.{class_names};
 ghost use Rattle.kilim_class_world.specs.World.{class_of};
-ghost use Rattle.kilim_class_world.specs.Faults.{class_missing, circular, is_circular, both_kinds, super_kind, if_so, is_missing, is_open, is_open_class, may_extend};
+ghost use Rattle.kilim_class_world.specs.Faults.{class_missing, circular, both_kinds, super_kind, if_so, is_missing, is_open, is_open_class, may_extend};
 ghost use Rattle.kilim_class_world.specs.Qualified.{has_fiber};
 ghost use Rattle.kilim_class_world.specs.Linked.{first_of};
 
@@ -67,16 +67,6 @@ fn if_so(test: bool, problem: Problem) -> Option<Problem>
     if test { Some(problem) } else { None }
 }
 
-#[tactic(auto, unfolding(kilim_class_world::specs::Faults::is_circular))]
-fn is_circular(world: &World, class: ClassId) -> bool
-    ensures { result ≡ is_circular world.now class }
-{
-    world
-        .ancestors(class)
-        .iter()
-        .any(|above| above.0 == class.0)
-}
-
 /// Whether the class is its own ancestor (JVMS 5.3.5).
 #[tactic(auto, unfolding(kilim_class_world::specs::Faults::circular))]
 pub fn circular(
@@ -86,7 +76,7 @@ pub fn circular(
 ) -> Result<Option<Problem>, NoMemory>
     ensures { IfOk result (λ found. found ≡ first_of (circular world.now file.now class)) }
 {
-    Ok(if_so(is_circular(world, class), Problem::Circular))
+    Ok(if_so(world.is_circular(class), Problem::Circular))
 }
 
 /// Whether the class is a task and a message, itself or by its ancestors (own).

@@ -39,7 +39,7 @@ fn last_kinds(
     if let Some(problem) = name_broken(file)? {
         return Ok(Some(problem));
     }
-    abstract_left(world, ancestry, file, class)
+    abstract_left(alloc, world, ancestry, file, class)
 }
 
 #[tactic(auto, using(crate::proofs::Firsts::here, crate::proofs::Firsts::later))]

@@ -1,9 +1,10 @@
 -- The first of a list, in loops and of lists that are put together.
-use Rattle.std.proofs.Common.{◌≡◌, ℕ, zero, suc, ◌+◌, ◌<◌, List, [], ◌∷◌, ◌++◌, length, get_or, take, drop, Option, Some, None, sym, ap, ◌∙◌, arith, drop-cons}
-use Rattle.std.specs.List.{flat_map}
+use Rattle.std.proofs.Common.{◌≡◌, ℕ, zero, suc, ◌+◌, ◌<◌, Bool, true, false, List, [], ◌∷◌, ◌++◌, length, get_or, take, drop, Option, Some, None, refl, sym, ap, ◌∙◌, arith, drop-cons, filter}
+use Rattle.std.specs.List.{flat_map, list_any}
 use Rattle.std.proofs.lemmas.List.{append-nil}
 use Rattle.std.proofs.lemmas.Grind.{flat_map-append}
 use Rattle.kilim_class_world.specs.Linked.{first_of}
+use Rattle.kilim_member_faults.proofs.Truth.{none_here, none_later}
 
 pub drop_at : {A : Type 0} (xs : List A) (i : ℕ) (x : A) → i < length xs → x ≡ get_or xs i x → drop i xs ≡ x ∷ drop (i + 1) xs
 drop_at xs i x lt is =
@@ -28,3 +29,17 @@ take_at (y ∷ ys) (suc i) x lt is =
 
 pub flat_map_at : {A B : Type 0} (f : A → List B) (xs : List A) (i : ℕ) (x : A) → i < length xs → x ≡ get_or xs i x → flat_map f (take i xs) ++ f x ≡ flat_map f (take (i + 1) xs)
 flat_map_at f xs i x lt is = sym (ap (flat_map f) (take_at xs i x lt is) ∙ (flat_map-append f (take i xs) (x ∷ []) ∙ ap (λ ys. flat_map f (take i xs) ++ ys) (append-nil (f x))))
+
+-- ---- the first of a list that passes a test
+
+pub first_is : {A : Type 0} (test : A → Bool) (x : A) (xs : List A) → test x ≡ true → first_of (filter test (x ∷ xs)) ≡ Some x
+first_is test x xs t = rw t refl
+
+pub first_isnt : {A : Type 0} (test : A → Bool) (x : A) (xs : List A) → test x ≡ false → first_of (filter test (x ∷ xs)) ≡ first_of (filter test xs)
+first_isnt test x xs t = rw t refl
+
+-- behind some that don't
+pub first_behind : {A : Type 0} (test : A → Bool) (xs : List A) (x : A) (ys : List A) → list_any test xs ≡ false → test x ≡ true → first_of (filter test (xs ++ x ∷ ys)) ≡ Some x
+first_behind test [] x ys none is = first_is test x ys is
+first_behind test (z ∷ zs) x ys none is =
+    first_isnt test z (zs ++ x ∷ ys) (none_here (test z) (list_any test zs) none) ∙ first_behind test zs x ys (none_later (test z) (list_any test zs) none) is

@@ -1,64 +1,26 @@
 -- Where no abstract method is left in a line, none is left above its first class.
-use Rattle.std.proofs.Common.{◌≡◌, ℕ, zero, suc, ◌+◌, ◌<◌, Bool, true, false, List, [], ◌∷◌, ◌++◌, length, filter, Option, Some, None, refl, sym, ap, ◌∙◌, subst, arith}
-use Rattle.std.specs.Prelude.{◌&&◌, ◌||◌, not, if◌then◌else◌, IfSome}
+use Rattle.std.proofs.Common.{◌≡◌, ℕ, ◌+◌, ◌<◌, Bool, true, false, List, [], ◌∷◌, ◌++◌, length, take, drop, get_or, filter, Option, Some, None, refl, sym, ap, ◌∙◌}
+use Rattle.std.specs.Prelude.{◌&&◌, ◌||◌, not, if◌then◌else◌, Contains}
 use Rattle.std.specs.List.{list_any}
 use Rattle.std.specs.Str.{bytes_eq}
-use Rattle.std.proofs.lemmas.Bool.{and_from}
+use Rattle.std.proofs.lemmas.Bool.{and_from, eq-eqb}
+use Rattle.std.proofs.lemmas.List.{take-append-drop}
 use Rattle.std.proofs.lemmas.List.Folds.{list_any-append}
 use Rattle.std.proofs.lemmas.Slice.Eq.{bytes_eq-Decides}
 use Rattle.kilim_program.specs.declared.names.ClassId.{ClassId}
-use Rattle.kilim_program.specs.Keeps.{ancestors_of, line_above, superclass_of}
-use Rattle.kilim_program.specs.Names.{◌>>=◌, class_at, line_of, line_up_to}
-use Rattle.kilim_program.specs.Program.{Program}
-use Rattle.kilim_program.specs.declared.class.Class.{Class}
+use Rattle.kilim_program.specs.Keeps.{ancestors_of}
 use Rattle.kilim_class_world.specs.declared.view.DeclaredMethod.{DeclaredMethod}
 use Rattle.kilim_class_world.specs.Faults.{is_left_above, left_above}
 use Rattle.kilim_class_world.specs.World.{World, declared_methods, is_method}
 use Rattle.kilim_inherited.specs.Inherited.{said_or}
 use Rattle.kilim_nearest.specs.Known.{known}
 use Rattle.kilim_member_faults.specs.declared.heritage.Heritage.{Heritage}
-use Rattle.kilim_member_faults.specs.Parts.{stands_in}
-use Rattle.kilim_member_faults.specs.Heritage.{Inherits, is_shared_abstract, asks_for, left_in}
-
--- ---- a line and the ancestors of its first class
-
--- as the definition of lines goes on
-abbrev after : Program → ℕ → Option ClassId → List ClassId
-after p n o = elim o [ None ↦ [] | Some up ↦ line_up_to p n up ]
-
-same_after : (p : Program) (n : ℕ) → ((up : ClassId) → length (line_up_to p n up) ≡ length (line_up_to p (suc n) up) → line_up_to p n up ≡ line_up_to p (suc n) up)
-    → (o : Option ClassId) → length (after p n o) ≡ length (after p (suc n) o) → after p n o ≡ after p (suc n) o
-same_after p n lines None e = refl
-same_after p n lines (Some up) e = lines up e
-
-same_line : (p : Program) (n : ℕ) (up : ClassId) → length (line_up_to p n up) ≡ length (line_up_to p (suc n) up) → line_up_to p n up ≡ line_up_to p (suc n) up
-same_line p zero up e = absurd (omega (arith, e))
-same_line p (suc n) up e =
-    let o = class_at p up >>= (λ (class : Class). class.superclass) in
-    let len : length (after p n o) ≡ length (after p (suc n) o) = omega (arith, e) in
-    ap (λ line. up ∷ line) (same_after p n (same_line p n) o len)
-
-front : (p : Program) (n : ℕ) (c : ClassId) (o : Option ClassId) → (class_at p c >>= (λ (class : Class). class.superclass)) ≡ o → length (line_up_to p n c) ≡ length (after p n o) + 1 → line_up_to p n c ≡ c ∷ after p n o
-front p zero c o is e = absurd (omega (arith, e))
-front p (suc n) c o is e =
-    let step : line_up_to p (suc n) c ≡ c ∷ after p n o = ap (λ u. c ∷ after p n u) is in
-    let len : length (after p n o) ≡ length (after p (suc n) o) = (let l = ap length step in omega (arith, e, l)) in
-    step ∙ ap (λ line. c ∷ line) (same_after p n (same_line p n) o len)
-
-above_is : (p : Program) (o : Option ClassId) → line_above p o ≡ after p (length p.classes) o
-above_is p None = refl
-above_is p (Some up) = refl
-
-up_is : (o : Option Class) → (o >>= (λ (class : Class). class.superclass)) ≡ superclass_of o
-up_is None = refl
-up_is (Some class) = refl
-
-pub line_is : (p : Program) (c : ClassId) → length (line_of p c) ≡ length (ancestors_of p c) + 1 → line_of p c ≡ c ∷ ancestors_of p c
-line_is p c e =
-    let o = superclass_of (class_at p c) in
-    let same = above_is p o in
-    let len : length (line_of p c) ≡ length (after p (length p.classes) o) + 1 = (let l = ap length same in omega (arith, e, l)) in
-    front p (length p.classes) c o (up_is (class_at p c)) len ∙ ap (λ line. c ∷ line) (sym same)
+use Rattle.kilim_member_faults.specs.Parts.{stands_in, is_nearer, is_left_over, is_class, StandsBehind}
+use Rattle.kilim_member_faults.specs.Heritage.{Inherits, is_shared_abstract, asks_for, left_in, first_shared}
+use Rattle.kilim_member_faults.proofs.Firsts.{drop_at, first_behind}
+use Rattle.kilim_member_faults.proofs.Places.{nearer_is}
+use Rattle.kilim_member_faults.proofs.Truth.{cases, some_of_contained}
+use Rattle.kilim_member_faults.proofs.Unmarked.{both_true}
 
 -- ---- the methods of a class
 
@@ -72,7 +34,7 @@ neither : (a b : Bool) → (a || b) ≡ false → (a ≡ false) × (b ≡ false)
 neither true b e = absurd cc
 neither false b e = (refl, e)
 
-is_itself : (m : DeclaredMethod) → is_method m.name m.descriptor m ≡ true
+pub is_itself : (m : DeclaredMethod) → is_method m.name m.descriptor m ≡ true
 is_itself m = and_from (bytes_eq m.name m.name) (bytes_eq m.descriptor m.descriptor) ((bytes_eq-Decides m.name m.name).1 refl) ((bytes_eq-Decides m.descriptor m.descriptor).1 refl)
 
 by_tests : (a p n i : Bool) → i ≡ true → (n ≡ false → ((a && p) && i) ≡ false) → (a && (p && not n)) ≡ false
@@ -114,13 +76,39 @@ module _ (w : World) where
       (goes_on (asks_for w name descriptor d) (stands_in w name descriptor d) (left_in w name descriptor ds) (none name descriptor both.0)).1 both.1) in
       ap (λ (ms : List DeclaredMethod). ms ++ left_above w (nearer ++ methods) ds) own ∙ rest
 
-  pub none_left : (c : ClassId) (ds : List ClassId) → ((name descriptor : List ℕ) → left_in w name descriptor (c ∷ ds) ≡ None) → left_above w (declared_methods w c) ds ≡ []
+  none_left : (c : ClassId) (ds : List ClassId) → ((name descriptor : List ℕ) → left_in w name descriptor (c ∷ ds) ≡ None) → left_above w (declared_methods w c) ds ≡ []
   none_left c ds none = none_above ds (declared_methods w c) (λ name descriptor e. (goes_on (asks_for w name descriptor c) (stands_in w name descriptor c) (left_in w name descriptor ds) (none name descriptor)).1 e)
 
-  -- of a class of which it is known
-  pub none_known : (h : Heritage) (c : ClassId) → Inherits w h → c.0 < length w.classes → length (line_of w.outline c) ≡ length (ancestors_of w.outline c) + 1
-      → ((name descriptor : List ℕ) → known h.left c name descriptor ≡ Some None) → left_above w (declared_methods w c) (ancestors_of w.outline c) ≡ []
-  none_known h c inherits lt len none =
-      none_left c (ancestors_of w.outline c) (λ name descriptor.
-      let is : None ≡ left_in w name descriptor (line_of w.outline c) = subst (λ (o : Option (Option ℕ)). IfSome o (λ v. v ≡ left_in w name descriptor (line_of w.outline c))) (none name descriptor) (inherits.left_is c name descriptor lt) in
-      sym (is ∙ ap (left_in w name descriptor) (line_is w.outline c len)))
+  -- of a class that has none of any name
+  pub none_known : (h : Heritage) (c : ClassId) → Inherits w h → ((name descriptor : List ℕ) → known h.left c name descriptor ≡ None) → left_above w (declared_methods w c) (ancestors_of w.outline c) ≡ []
+  none_known h c inherits none = none_left c (ancestors_of w.outline c) (λ name descriptor. sym (inherits.left.in_longer c name descriptor) ∙ none name descriptor)
+
+  -- ---- one method of an ancestor
+
+  left_test : (abstract shared later : Bool) → (abstract && (shared && not later)) ≡ true → later ≡ false
+  left_test true true true e = absurd cc
+  left_test true true false e = refl
+  left_test true false later e = absurd cc
+  left_test false shared later e = absurd cc
+
+  -- where the nearest class that declares such a method is another
+  pub not_left : (c : ClassId) (nearer : List ClassId) (d : ClassId) (m : DeclaredMethod) (name descriptor : List ℕ) → name ≡ m.name → descriptor ≡ m.descriptor → StandsBehind (ancestors_of w.outline c) nearer d
+      → Contains (declared_methods w d) m → m.is_private ≡ false → false ≡ is_class d (first_shared w name descriptor (c ∷ ancestors_of w.outline c)) → false ≡ is_left_over w c nearer m
+  not_left c nearer d m name descriptor named described behind there shared other =
+      cases (is_left_over w c nearer m)
+      (λ left.
+      let none : list_any (stands_in w m.name m.descriptor) (c ∷ nearer) ≡ false =
+      nearer_is w c nearer m.name m.descriptor ∙ left_test m.is_abstract (not m.is_private) (is_nearer w c nearer m.name m.descriptor) left in
+      let stands : stands_in w m.name m.descriptor d ≡ true =
+      some_of_contained (shared_as m.name m.descriptor) (declared_methods w d) m there (both_true (not m.is_private) (is_method m.name m.descriptor m) (ap not shared) (is_itself m)) in
+      let first : first_shared w m.name m.descriptor (c ∷ ancestors_of w.outline c) ≡ Some d =
+      ap (λ (ds : List ClassId). first_shared w m.name m.descriptor (c ∷ ds)) behind.1 ∙ first_behind (stands_in w m.name m.descriptor) (c ∷ nearer) d behind.0 none stands in
+      let same : first_shared w name descriptor (c ∷ ancestors_of w.outline c) ≡ Some d =
+      ap (λ (k : List ℕ). first_shared w k descriptor (c ∷ ancestors_of w.outline c)) named ∙ (ap (λ (k : List ℕ). first_shared w m.name k (c ∷ ancestors_of w.outline c)) described ∙ first) in
+      absurd (let wrong : false ≡ true = other ∙ (ap (is_class d) same ∙ eq-eqb d.0 d.0 refl) in cc))
+      (λ is. sym is)
+
+-- a class of a list stands behind the ones before it
+pub stands_behind : (all ds : List ClassId) (i : ℕ) (d : ClassId) → ds ≡ all → i < length ds → d ≡ get_or ds i d → StandsBehind all (take i ds) d
+stands_behind all ds i d is lt at =
+    (drop (i + 1) ds, sym is ∙ (sym (take-append-drop i ds) ∙ ap (λ (later : List ClassId). take i ds ++ later) (drop_at ds i d lt at)))

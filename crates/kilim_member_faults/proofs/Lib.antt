@@ -8,5 +8,3 @@ pub mod Truth
 pub mod Passing
 pub mod Lines
 pub mod Settling
-pub mod Marking
-pub mod Steps

@@ -1,12 +1,13 @@
 -- Lines of classes that are cut.
-use Rattle.std.proofs.Common.{◌≡◌, ℕ, zero, suc, ◌≤◌, Bool, false, List, [], ◌∷◌, Option, Some, None, refl, sym, ap, ◌∙◌, length, arith}
-use Rattle.std.specs.List.{list_any}
+use Rattle.std.proofs.Common.{◌≡◌, ℕ, zero, suc, ◌≤◌, Bool, List, [], ◌∷◌, Option, Some, None, refl, sym, ap, ◌∙◌, length, filter, arith}
 use Rattle.kilim_program.specs.declared.class.Class.{Class}
 use Rattle.kilim_program.specs.declared.names.ClassId.{ClassId}
 use Rattle.kilim_program.specs.Keeps.{superclass_of, line_above, ancestors_of}
 use Rattle.kilim_program.specs.Names.{◌>>=◌, class_at, line_up_to}
 use Rattle.kilim_program.specs.Program.{Program}
-use Rattle.kilim_member_faults.proofs.Truth.{none_here, none_later, none_of_two}
+use Rattle.kilim_class_world.specs.Linked.{first_of}
+use Rattle.kilim_member_faults.proofs.Firsts.{first_is, first_isnt}
+use Rattle.kilim_member_faults.proofs.Truth.{cases}
 
 abbrev pub line_rest : Program → ℕ → Option ClassId → List ClassId
 line_rest p n None = []
@@ -31,15 +32,16 @@ above_is p (Some up) = refl
 pub ancestors_are : (p : Program) (c : ClassId) → ancestors_of p c ≡ line_rest p (length p.classes) (superclass_of (class_at p c))
 ancestors_are p c = above_is p (superclass_of (class_at p c))
 
--- what holds of no class of a line holds of none where it is cut earlier
-pub none_cut : (p : Program) (test : ClassId → Bool) (n k : ℕ) (o : Option ClassId) → n ≤ k → list_any test (line_rest p k o) ≡ false → list_any test (line_rest p n o) ≡ false
-none_cut p test n k None le e = refl
-none_cut p test zero k (Some up) le e = refl
-none_cut p test (suc n) zero (Some up) le e = absurd (omega arith)
-none_cut p test (suc n) (suc k) (Some up) le e =
-    let whole = sym (ap (list_any test) (line_more p k up)) ∙ e in
-    let later = none_later (test up) (list_any test (line_rest p k (superclass_of (class_at p up)))) whole in
-    ap (list_any test) (line_more p n up)
-    ∙ none_of_two (test up) (list_any test (line_rest p n (superclass_of (class_at p up))))
-    (none_here (test up) (list_any test (line_rest p k (superclass_of (class_at p up)))) whole)
-    (none_cut p test n k (superclass_of (class_at p up)) (omega arith) later)
+-- the first class of a line that passes a test is the same where it is cut later
+pub first_cut : (p : Program) (test : ClassId → Bool) (n k : ℕ) (o : Option ClassId) (d : ClassId) → n ≤ k → Some d ≡ first_of (filter test (line_rest p n o)) → Some d ≡ first_of (filter test (line_rest p k o))
+first_cut p test n k None d le e = e
+first_cut p test zero k (Some up) d le e = absurd (let wrong : Some d ≡ None = e in cc)
+first_cut p test (suc n) zero (Some up) d le e = absurd (omega arith)
+first_cut p test (suc n) (suc k) (Some up) d le e =
+    let above = superclass_of (class_at p up) in
+    let first : List ClassId → Option ClassId = λ ds. first_of (filter test ds) in
+    let found : Some d ≡ first (up ∷ line_rest p n above) = e ∙ ap first (line_more p n up) in
+    let whole : first (line_rest p (suc k) (Some up)) ≡ first (up ∷ line_rest p k above) = ap first (line_more p k up) in
+    cases (test up)
+    (λ is. found ∙ (first_is test up (line_rest p n above) is ∙ sym (whole ∙ first_is test up (line_rest p k above) is)))
+    (λ isnt. first_cut p test n k above d (omega arith) (found ∙ first_isnt test up (line_rest p n above) isnt) ∙ sym (whole ∙ first_isnt test up (line_rest p k above) isnt))

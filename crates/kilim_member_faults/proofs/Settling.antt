@@ -1,117 +1,129 @@
--- A method that agrees with the nearest one that it overrides, whose class is clean, overrides none badly.
-use Rattle.std.proofs.Common.{◌≡◌, ℕ, zero, suc, ◌≤◌, Bool, true, false, List, [], ◌∷◌, Option, Some, None, refl, sym, ap, ◌∙◌, length, filter, arith}
-use Rattle.std.specs.Prelude.{◌&&◌, not}
+-- A method that agrees with the nearest one that it overrides, where none above differs from its nearest, agrees with all.
+use Rattle.std.proofs.Common.{◌≡◌, ℕ, zero, suc, ◌≤◌, Bool, true, false, List, ◌∷◌, Option, Some, None, refl, sym, ap, ◌∙◌, length, filter, arith}
+use Rattle.std.specs.Prelude.{◌&&◌, not, Contains}
 use Rattle.std.specs.List.{list_any}
+use Rattle.std.specs.Str.{bytes_eq}
 use Rattle.kilim_program.specs.declared.names.ClassId.{ClassId}
 use Rattle.kilim_program.specs.Keeps.{superclass_of, ancestors_of}
 use Rattle.kilim_program.specs.Names.{class_at}
-use Rattle.kilim_class_world.specs.Faults.{agrees, differs_from, inherited, overrides_badly}
+use Rattle.kilim_class_world.specs.Faults.{agrees, differs_from, inherited}
 use Rattle.kilim_class_world.specs.Linked.{first_of}
 use Rattle.kilim_class_world.specs.Qualified.{is_constructor_name}
 use Rattle.kilim_class_world.specs.World.{World, is_method, declared_methods}
 use Rattle.kilim_class_world.specs.declared.view.DeclaredMethod.{DeclaredMethod}
-use Rattle.kilim_member_faults.specs.Parts.{differs_in, is_clean, stands_in}
-use Rattle.kilim_member_faults.proofs.Lines.{line_rest, line_more, ancestors_are, none_cut}
-use Rattle.kilim_member_faults.proofs.Passing.{same_name, differs_passes}
+use Rattle.kilim_member_faults.specs.Apart.{differs_there, differs_nearest, is_apart, has_apart}
+use Rattle.kilim_member_faults.specs.Heritage.{first_shared}
+use Rattle.kilim_member_faults.specs.Parts.{differs_in, stands_in}
+use Rattle.kilim_member_faults.proofs.Firsts.{first_is, first_isnt}
+use Rattle.kilim_member_faults.proofs.Leaving.{is_itself}
+use Rattle.kilim_member_faults.proofs.Lines.{line_rest, line_more, ancestors_are, first_cut}
+use Rattle.kilim_member_faults.proofs.Passing.{differs_passes}
 use Rattle.kilim_member_faults.proofs.Places.{any_map, differs_above}
-use Rattle.kilim_member_faults.proofs.Truth.{cases, none_of_two, none_of_less, by_found, rest_is_false, isnt, is_it}
-use Rattle.kilim_member_faults.proofs.Unmarked.{first_of_both, second_of_both}
-
--- ---- the first of a list that passes a test
-
-first_is : {A : Type 0} (test : A → Bool) (x : A) (xs : List A) → test x ≡ true → first_of (filter test (x ∷ xs)) ≡ Some x
-first_is test x xs t = rw t refl
-
-first_isnt : {A : Type 0} (test : A → Bool) (x : A) (xs : List A) → test x ≡ false → first_of (filter test (x ∷ xs)) ≡ first_of (filter test xs)
-first_isnt test x xs t = rw t refl
-
-some_is : {A : Type 0} (x y : A) → Some x ≡ Some y → x ≡ y
-some_is x y e = cc
-
-none_first : {A : Type 0} (test : A → Bool) (xs : List A) → None ≡ first_of (filter test xs) → list_any test xs ≡ false
-none_first test [] e = refl
-none_first test (x ∷ xs) e =
-    cases (test x)
-    (λ is. absurd (let wrong = e ∙ first_is test x xs is in cc))
-    (λ is. none_of_two (test x) (list_any test xs) is (none_first test xs (e ∙ first_isnt test x xs is)))
-
--- ---- classes without such a method
+use Rattle.kilim_member_faults.proofs.Truth.{cases, none_here, none_later, none_of_two, none_of_less, none_of_contained, by_found, rest_is_false, first_is_false, is_it}
+use Rattle.kilim_member_faults.proofs.Unmarked.{first_of_both, second_of_both, same_texts}
 
 isnt_one : (private named apart : Bool) → (private && named) ≡ false → (private && (named && apart)) ≡ false
 isnt_one true true apart e = absurd cc
 isnt_one true false apart e = refl
 isnt_one false named apart e = refl
 
-module _ (w : World) (c : ClassId) (m : DeclaredMethod) where
-  stands : ClassId → Bool
-  stands = stands_in w m.name m.descriptor
+-- of a method that overrides
+agrees_near : (constructor private apart : Bool) → constructor ≡ false → private ≡ false → (not constructor && (not private && apart)) ≡ false → apart ≡ false
+agrees_near constructor private apart ordinary shared e =
+    rest_is_false (not private) apart (ap not shared) (rest_is_false (not constructor) (not private && apart) (ap not ordinary) e)
 
-  differs_there : (d : ClassId) → differs_in w c m d ≡ list_any (λ o. differs_from w c m (d, o)) (declared_methods w d)
-  differs_there d = any_map (differs_from w c m) (λ o. (d, o)) (declared_methods w d)
+module _ (w : World) where
+  module _ (c : ClassId) (m : DeclaredMethod) where
+    differs_by_one : (d : ClassId) → differs_in w c m d ≡ list_any (λ o. differs_from w c m (d, o)) (declared_methods w d)
+    differs_by_one d = any_map (differs_from w c m) (λ o. (d, o)) (declared_methods w d)
 
-  differs_nowhere : (d : ClassId) → stands_in w m.name m.descriptor d ≡ false → differs_in w c m d ≡ false
-  differs_nowhere d e =
-      differs_there d
-      ∙ none_of_less (λ o. not o.is_private && is_method m.name m.descriptor o) (λ o. differs_from w c m (d, o))
-      (λ o. isnt_one (not o.is_private) (is_method m.name m.descriptor o) (not (agrees w c m d o))) (declared_methods w d) e
+    -- a class without such a method
+    differs_nowhere : (d : ClassId) → stands_in w m.name m.descriptor d ≡ false → differs_in w c m d ≡ false
+    differs_nowhere d e =
+        differs_by_one d
+        ∙ none_of_less (λ o. not o.is_private && is_method m.name m.descriptor o) (λ o. differs_from w c m (d, o))
+        (λ o. isnt_one (not o.is_private) (is_method m.name m.descriptor o) (not (agrees w c m d o))) (declared_methods w d) e
 
-  -- where no class has one
-  pub settled_alone : (ds : List ClassId) → None ≡ first_of (filter (stands_in w m.name m.descriptor) ds) → list_any (differs_in w c m) ds ≡ false
-  settled_alone ds e = none_of_less (stands_in w m.name m.descriptor) (differs_in w c m) differs_nowhere ds (none_first (stands_in w m.name m.descriptor) ds e)
+    -- the nearest one of a cut line is the nearest of all
+    nearest_agrees : (n : ℕ) → n ≤ length w.outline.classes → differs_nearest w c m ≡ false
+        → (d : ClassId) → Some d ≡ first_of (filter (stands_in w m.name m.descriptor) (line_rest w.outline n (superclass_of (class_at w.outline c)))) → differs_in w c m d ≡ false
+    nearest_agrees n le e d found =
+        let all : Some d ≡ first_shared w m.name m.descriptor (ancestors_of w.outline c) =
+        first_cut w.outline (stands_in w m.name m.descriptor) n (length w.outline.classes) (superclass_of (class_at w.outline c)) d le found
+        ∙ ap (first_shared w m.name m.descriptor) (sym (ancestors_are w.outline c)) in
+        ap (differs_there w c m) all ∙ e
 
-  -- ---- a class with one, and what stands behind it
+  -- ---- lines that are cut after so many classes
 
-  module _ (ordinary : is_constructor_name m.name ≡ false) (d : ClassId) where
-    by_one : (n : ℕ) (o : DeclaredMethod) → n ≤ length w.outline.classes → (not o.is_private && is_method m.name m.descriptor o) ≡ true → overrides_badly w d o ≡ false
-        → differs_from w c m (d, o) ≡ false → list_any (differs_in w c m) (line_rest w.outline n (superclass_of (class_at w.outline d))) ≡ false
-    by_one n o le is good same =
+  abbrev Settles : ℕ → Type 0
+  Settles n = (c : ClassId) (m : DeclaredMethod) (o : Option ClassId) → is_constructor_name m.name ≡ false
+      → ((d : ClassId) → Some d ≡ first_of (filter (stands_in w m.name m.descriptor) (line_rest w.outline n o)) → differs_in w c m d ≡ false)
+      → list_any (has_apart w m.name m.descriptor) (line_rest w.outline n o) ≡ false → list_any (differs_in w c m) (line_rest w.outline n o) ≡ false
+
+  -- behind a class with such a method
+  module _ (n : ℕ) (le : n ≤ length w.outline.classes) (settled : Settles n) (c : ClassId) (m : DeclaredMethod) (ordinary : is_constructor_name m.name ≡ false) (up : ClassId) where
+    by_one : list_any (has_apart w m.name m.descriptor) (line_rest w.outline n (superclass_of (class_at w.outline up))) ≡ false → (o : DeclaredMethod) → (not o.is_private && is_method m.name m.descriptor o) ≡ true
+        → (is_apart w up o && is_method m.name m.descriptor o) ≡ false → differs_from w c m (up, o) ≡ false → list_any (differs_in w c m) (line_rest w.outline n (superclass_of (class_at w.outline up))) ≡ false
+    by_one none o is near same =
+        let rest = line_rest w.outline n (superclass_of (class_at w.outline up)) in
         let shared = first_of_both (not o.is_private) (is_method m.name m.descriptor o) is in
         let named = second_of_both (not o.is_private) (is_method m.name m.descriptor o) is in
-        let agreed : agrees w c m d o ≡ true =
-        is_it (agrees w c m d o) (rest_is_false (is_method m.name m.descriptor o) (not (agrees w c m d o)) named (rest_is_false (not o.is_private) (is_method m.name m.descriptor o && not (agrees w c m d o)) shared same)) in
-        let no_constructor : not (is_constructor_name o.name) ≡ true = ap (λ k. not (is_constructor_name k)) (same_name w c m d o named agreed) ∙ ap not ordinary in
-        let all = ancestors_of w.outline d in
-        let none : list_any (differs_from w d o) (inherited w d) ≡ false =
-        rest_is_false (not o.is_private) (list_any (differs_from w d o) (inherited w d)) shared
-        (rest_is_false (not (is_constructor_name o.name)) (not o.is_private && list_any (differs_from w d o) (inherited w d)) no_constructor good) in
-        let above : list_any (differs_in w d o) (line_rest w.outline (length w.outline.classes) (superclass_of (class_at w.outline d))) ≡ false =
-        sym (ap (list_any (differs_in w d o)) (ancestors_are w.outline d)) ∙ (differs_above w d o (ancestors_of w.outline d) refl ∙ none) in
-        differs_passes w c m d o named agreed (line_rest w.outline n (superclass_of (class_at w.outline d)))
-        (none_cut w.outline (differs_in w d o) n (length w.outline.classes) (superclass_of (class_at w.outline d)) le above)
+        let agreed : agrees w c m up o ≡ true =
+        is_it (agrees w c m up o) (rest_is_false (is_method m.name m.descriptor o) (not (agrees w c m up o)) named (rest_is_false (not o.is_private) (is_method m.name m.descriptor o && not (agrees w c m up o)) shared same)) in
+        let name : o.name ≡ m.name = same_texts o.name m.name (first_of_both (bytes_eq o.name m.name) (bytes_eq o.descriptor m.descriptor) named) in
+        let descriptor : o.descriptor ≡ m.descriptor = same_texts o.descriptor m.descriptor (second_of_both (bytes_eq o.name m.name) (bytes_eq o.descriptor m.descriptor) named) in
+        let no_constructor : is_constructor_name o.name ≡ false = ap is_constructor_name name ∙ ordinary in
+        let nearest : differs_nearest w up o ≡ false =
+        rest_is_false (not o.is_private) (differs_nearest w up o) shared
+        (rest_is_false (not (is_constructor_name o.name)) (not o.is_private && differs_nearest w up o) (ap not no_constructor) (first_is_false (is_apart w up o) (is_method m.name m.descriptor o) named near)) in
+        let above : list_any (has_apart w o.name o.descriptor) rest ≡ false =
+        ap (λ (k : List ℕ). list_any (has_apart w k o.descriptor) rest) name ∙ (ap (λ (k : List ℕ). list_any (has_apart w m.name k) rest) descriptor ∙ none) in
+        differs_passes w c m up o named agreed rest (settled up o (superclass_of (class_at w.outline up)) no_constructor (nearest_agrees up o n le nearest) above)
 
-    behind : (n : ℕ) → n ≤ length w.outline.classes → stands_in w m.name m.descriptor d ≡ true → is_clean w d ≡ true → differs_in w c m d ≡ false
-        → list_any (differs_in w c m) (line_rest w.outline n (superclass_of (class_at w.outline d))) ≡ false
-    behind n le is clean same =
-        by_found (λ o. not o.is_private && is_method m.name m.descriptor o) (overrides_badly w d) (λ o. differs_from w c m (d, o))
-        (list_any (differs_in w c m) (line_rest w.outline n (superclass_of (class_at w.outline d))))
-        (λ o. by_one n o le) (declared_methods w d) is (isnt (list_any (overrides_badly w d) (declared_methods w d)) clean) (sym (differs_there d) ∙ same)
-
-  settled_from : is_constructor_name m.name ≡ false → (n : ℕ) (o : Option ClassId) (d : ClassId) → n ≤ length w.outline.classes
-      → Some d ≡ first_of (filter (stands_in w m.name m.descriptor) (line_rest w.outline n o)) → is_clean w d ≡ true → differs_in w c m d ≡ false
-      → list_any (differs_in w c m) (line_rest w.outline n o) ≡ false
-  settled_from ordinary n None d le found clean same = refl
-  settled_from ordinary zero (Some up) d le found clean same = refl
-  settled_from ordinary (suc n) (Some up) d le found clean same =
-      let rest = line_rest w.outline n (superclass_of (class_at w.outline up)) in
-      let first : Some d ≡ first_of (filter (stands_in w m.name m.descriptor) (up ∷ rest)) = found ∙ ap (λ ds. first_of (filter (stands_in w m.name m.descriptor) ds)) (line_more w.outline n up) in
+  settles : (n : ℕ) → n ≤ length w.outline.classes → Settles n
+  settles n le c m None ordinary near none = refl
+  settles zero le c m (Some up) ordinary near none = refl
+  settles (suc n) le c m (Some up) ordinary near none =
+      let stands : ClassId → Bool = stands_in w m.name m.descriptor in
+      let bad : ClassId → Bool = has_apart w m.name m.descriptor in
+      let above = superclass_of (class_at w.outline up) in
+      let rest = line_rest w.outline n above in
       let less : n ≤ length w.outline.classes = omega arith in
-      ap (list_any (differs_in w c m)) (line_more w.outline n up)
+      let cut = line_more w.outline n up in
+      let all : list_any bad (up ∷ rest) ≡ false = sym (ap (list_any bad) cut) ∙ none in
+      let later = none_later (bad up) (list_any bad rest) all in
+      ap (list_any (differs_in w c m)) cut
       ∙ cases (stands_in w m.name m.descriptor up)
       (λ is.
-      let here : d ≡ up = some_is d up (first ∙ first_is (stands_in w m.name m.descriptor) up rest is) in
-      let same_up : differs_in w c m up ≡ false = sym (ap (differs_in w c m) here) ∙ same in
-      let clean_up : is_clean w up ≡ true = sym (ap (is_clean w) here) ∙ clean in
-      none_of_two (differs_in w c m up) (list_any (differs_in w c m) rest) same_up (behind ordinary up n less is clean_up same_up))
+      let same : differs_in w c m up ≡ false = near up (sym (ap (λ ds. first_of (filter stands ds)) cut ∙ first_is stands up rest is)) in
+      none_of_two (differs_in w c m up) (list_any (differs_in w c m) rest) same
+      (by_found (λ o. not o.is_private && is_method m.name m.descriptor o) (λ o. is_apart w up o && is_method m.name m.descriptor o) (λ o. differs_from w c m (up, o)) (list_any (differs_in w c m) rest)
+      (by_one n less (settles n less) c m ordinary up later) (declared_methods w up) is (none_here (bad up) (list_any bad rest) all) (sym (differs_by_one c m up) ∙ same)))
       (λ is.
-      none_of_two (differs_in w c m up) (list_any (differs_in w c m) rest) (differs_nowhere up is)
-      (settled_from ordinary n (superclass_of (class_at w.outline up)) d less (first ∙ first_isnt (stands_in w m.name m.descriptor) up rest is) clean same))
+      none_of_two (differs_in w c m up) (list_any (differs_in w c m) rest) (differs_nowhere c m up is)
+      (settles n less c m above ordinary (λ d found. near d (found ∙ sym (ap (λ ds. first_of (filter stands ds)) cut ∙ first_isnt stands up rest is))) later))
 
-  -- where the nearest one is in a clean class and agrees
-  pub settled_by : is_constructor_name m.name ≡ false → (d : ClassId) → Some d ≡ first_of (filter (stands_in w m.name m.descriptor) (ancestors_of w.outline c)) → is_clean w d ≡ true
-      → differs_in w c m d ≡ false → list_any (differs_in w c m) (ancestors_of w.outline c) ≡ false
-  settled_by ordinary d found clean same =
-      let is = ancestors_are w.outline c in
-      let n = length w.outline.classes in
-      let enough : n ≤ n = omega arith in
-      ap (list_any (differs_in w c m)) is
-      ∙ settled_from ordinary n (superclass_of (class_at w.outline c)) d enough (found ∙ ap (λ ds. first_of (filter (stands_in w m.name m.descriptor) ds)) is) clean same
+  -- ---- a method of a class
+
+  module _ (c : ClassId) (m : DeclaredMethod) (ordinary : is_constructor_name m.name ≡ false) (shared : m.is_private ≡ false) where
+    agrees_above : is_apart w c m ≡ false → list_any (has_apart w m.name m.descriptor) (ancestors_of w.outline c) ≡ false → list_any (differs_in w c m) (ancestors_of w.outline c) ≡ false
+    agrees_above near none =
+        let is = ancestors_are w.outline c in
+        let n = length w.outline.classes in
+        let enough : n ≤ n = omega arith in
+        let nearest = agrees_near (is_constructor_name m.name) m.is_private (differs_nearest w c m) ordinary shared near in
+        ap (list_any (differs_in w c m)) is
+        ∙ settles n enough c m (superclass_of (class_at w.outline c)) ordinary (nearest_agrees c m n enough nearest) (sym (ap (list_any (has_apart w m.name m.descriptor)) is) ∙ none)
+
+    -- where the class declares it, and neither the class nor an ancestor has one that differs from its nearest
+    pub agrees_with_all : (name descriptor : List ℕ) → name ≡ m.name → descriptor ≡ m.descriptor → Contains (declared_methods w c) m
+        → false ≡ list_any (has_apart w name descriptor) (c ∷ ancestors_of w.outline c) → false ≡ list_any (differs_from w c m) (inherited w c)
+    agrees_with_all name descriptor named described there e =
+        let bad : ClassId → Bool = has_apart w m.name m.descriptor in
+        let line = c ∷ ancestors_of w.outline c in
+        let none : list_any bad line ≡ false =
+        sym (e ∙ (ap (λ (k : List ℕ). list_any (has_apart w k descriptor) line) named ∙ ap (λ (k : List ℕ). list_any (has_apart w m.name k) line) described)) in
+        let here = none_here (bad c) (list_any bad (ancestors_of w.outline c)) none in
+        let own = none_of_contained (λ o. is_apart w c o && is_method m.name m.descriptor o) (declared_methods w c) m there here in
+        sym (sym (differs_above w c m (ancestors_of w.outline c) refl)
+        ∙ agrees_above (first_is_false (is_apart w c m) (is_method m.name m.descriptor m) (is_itself m) own) (none_later (bad c) (list_any bad (ancestors_of w.outline c)) none))

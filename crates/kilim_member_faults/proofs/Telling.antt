@@ -1,22 +1,26 @@
 -- What is said of each class is what it says.
-use Rattle.std.proofs.Common.{◌≡◌, ℕ, zero, suc, ◌+◌, ◌<◌, Bool, true, false, List, [], ◌∷◌, ◌++◌, length, filter, map, Option, Some, None, refl, sym, ap, ◌∙◌, arith}
-use Rattle.std.specs.Prelude.{◌&&◌, ◌||◌, if◌then◌else◌, IfSome, option_map, slice_get}
+use Rattle.std.proofs.Common.{◌≡◌, ℕ, zero, suc, ◌+◌, ◌≤◌, Bool, true, false, List, [], ◌∷◌, ◌++◌, length, filter, map, Option, Some, None, Result, Ok, Err, refl, sym, ap, ◌∙◌, subst, arith}
+use Rattle.std.specs.Prelude.{◌&&◌, ◌||◌, if◌then◌else◌, IfOk, is_some, option_map, slice_get}
 use Rattle.std.specs.List.{list_any}
 use Rattle.std.proofs.lemmas.List.{append-nil}
+use Rattle.kilim_program.specs.declared.memory.NoMemory.{NoMemory}
 use Rattle.kilim_program.specs.declared.names.ClassId.{ClassId}
 use Rattle.kilim_program.specs.BuiltIn.{class_id}
-use Rattle.kilim_program.specs.Names.{line_of}
+use Rattle.kilim_program.specs.Keeps.{superclass_of, line_above, ancestors_of}
+use Rattle.kilim_program.specs.Names.{class_at, line_of}
 use Rattle.kilim_class_world.specs.declared.view.ClassView.{ClassView}
 use Rattle.kilim_class_world.specs.declared.view.DeclaredMethod.{DeclaredMethod}
 use Rattle.kilim_class_world.specs.Linked.{first_of}
-use Rattle.kilim_class_world.specs.World.{World, methods_at, is_method}
-use Rattle.kilim_inherited.specs.Inherited.{said_or, line_at}
+use Rattle.kilim_class_world.specs.World.{World, declared_methods, methods_at, is_method}
+use Rattle.kilim_inherited.specs.Inherited.{said_or, line_in, up_in, from_above}
+use Rattle.kilim_nearest.specs.declared.nearest.Nearest.{Nearest}
 use Rattle.kilim_nearest.specs.declared.said.Said.{Said}
 use Rattle.kilim_nearest.specs.Nearest.{said_by, said_of, says, nearest}
 use Rattle.kilim_nearest.specs.Known.{known, Tells}
 use Rattle.kilim_member_faults.specs.declared.heritage.Heritage.{Heritage}
+use Rattle.kilim_member_faults.specs.Apart.{is_apart, has_apart, says_apart, apart_from}
 use Rattle.kilim_member_faults.specs.Parts.{is_shared, stands_in}
-use Rattle.kilim_member_faults.specs.Heritage.{Inherits, is_shared_abstract, says_shared, says_left, first_said, first_shared, left_in, saying, sayings, shared_from, left_by_class}
+use Rattle.kilim_member_faults.specs.Heritage.{Finds, Inherits, is_shared_abstract, says_shared, says_left, first_said, first_shared, saying, sayings, shared_from, left_by_class}
 
 -- ---- of one class
 
@@ -63,6 +67,42 @@ module _ (name descriptor : List ℕ) where
       ∙ ap (λ (o : Option (Option ℕ)). if passes is_shared_abstract name descriptor v.methods then Some (Some 0) else o) (said_alone is_shared None name descriptor v.methods)
   class_left (v ∷ vs) (suc k) = class_left vs k
 
+module _ (w : World) (name descriptor : List ℕ) where
+  class_apart : (n : ℕ) (vs : List ClassView) (k : ℕ) → said_of (slice_get (apart_from w n vs) k) name descriptor ≡ (if passes (is_apart w (class_id (n + k))) name descriptor (methods_at (slice_get vs k)) then Some (Some 0) else None)
+  class_apart n [] k = refl
+  class_apart n (v ∷ vs) zero =
+      said_alone (is_apart w (class_id n)) (Some 0) name descriptor v.methods
+      ∙ (let at : n ≡ n + 0 = omega arith in ap (λ (i : ℕ). if passes (is_apart w (class_id i)) name descriptor v.methods then Some (Some 0) else None) at)
+  class_apart n (v ∷ vs) (suc k) =
+      class_apart (n + 1) vs k
+      ∙ (let at : (n + 1) + k ≡ n + suc k = omega arith in ap (λ (i : ℕ). if passes (is_apart w (class_id i)) name descriptor (methods_at (slice_get vs k)) then Some (Some 0) else None) at)
+
+-- ---- how many
+
+shared_length : (n : ℕ) (vs : List ClassView) → length (shared_from n vs) ≡ length vs
+shared_length n [] = refl
+shared_length n (v ∷ vs) = ap suc (shared_length (n + 1) vs)
+
+apart_length : (w : World) (n : ℕ) (vs : List ClassView) → length (apart_from w n vs) ≡ length vs
+apart_length w n [] = refl
+apart_length w n (v ∷ vs) = ap suc (apart_length w (n + 1) vs)
+
+left_length : (vs : List ClassView) → length (left_by_class vs) ≡ length vs
+left_length [] = refl
+left_length (v ∷ vs) = ap suc (left_length vs)
+
+no_more : (n k m : ℕ) → n ≡ k → k ≡ m → n ≤ m
+no_more n k m e f = omega arith
+
+pub shared_fits : (said : List (List Said)) (ups : List (Option ClassId)) (vs : List ClassView) → said ≡ shared_from 0 vs → length ups ≡ length vs → length said ≤ length ups
+shared_fits said ups vs is count = no_more (length said) (length vs) (length ups) (ap length is ∙ shared_length 0 vs) (sym count)
+
+pub left_fits : (said : List (List Said)) (ups : List (Option ClassId)) (vs : List ClassView) → said ≡ left_by_class vs → length ups ≡ length vs → length said ≤ length ups
+left_fits said ups vs is count = no_more (length said) (length vs) (length ups) (ap length is ∙ left_length vs) (sym count)
+
+pub apart_fits : (w : World) (said : List (List Said)) (ups : List (Option ClassId)) (vs : List ClassView) → said ≡ apart_from w 0 vs → length ups ≡ length vs → length said ≤ length ups
+apart_fits w said ups vs is count = no_more (length said) (length vs) (length ups) (ap length is ∙ apart_length w 0 vs) (sym count)
+
 -- ---- in lines
 
 nearest_said : (said : List (List Said)) (name descriptor : List ℕ) (each : ClassId → Option (Option ℕ)) → ((c : ClassId) → says said name descriptor c ≡ each c) → (line : List ClassId) → nearest said name descriptor line ≡ first_said each line
@@ -76,36 +116,88 @@ found_or : (stands : Bool) (c : ClassId) (line : List ClassId) (later : Option �
 found_or true c line later e = refl
 found_or false c line later e = e
 
-shared_first : (w : World) (name descriptor : List ℕ) (line : List ClassId) → first_said (says_shared w name descriptor) line ≡ option_map (λ (d : ClassId). d.0) (first_shared w name descriptor line)
+pub shared_first : (w : World) (name descriptor : List ℕ) (line : List ClassId) → first_said (says_shared w name descriptor) line ≡ option_map (λ (d : ClassId). d.0) (first_shared w name descriptor line)
 shared_first w name descriptor [] = refl
 shared_first w name descriptor (c ∷ line) =
     found_or (stands_in w name descriptor c) c (filter (stands_in w name descriptor) line) (first_said (says_shared w name descriptor) line) (shared_first w name descriptor line)
 
-right : (o : Option (Option ℕ)) (a b : Option ℕ) → a ≡ b → IfSome o (λ v. v ≡ a) → IfSome o (λ v. v ≡ b)
-right None a b e is = is
-right (Some v) a b e is = is ∙ e
+-- ---- in maps
 
-says_number : (w : World) (name descriptor : List ℕ) (d : ClassId) → says (shared_from 0 w.classes) name descriptor d ≡ says_shared w name descriptor d
-says_number w name descriptor d =
-    class_shared name descriptor 0 w.classes d.0
-    ∙ (let at : 0 + d.0 ≡ d.0 = omega arith in ap (λ (i : ℕ). if stands_in w name descriptor d then Some (Some i) else None) at)
+module _ (w : World) (it : Nearest) (ups : List (Option ClassId)) (said : List (List Said)) (each : List ℕ → List ℕ → ClassId → Option (Option ℕ))
+    (upped : (c : ClassId) → up_in ups c ≡ superclass_of (class_at w.outline c)) (lined : (c : ClassId) → line_in ups c ≡ line_of w.outline c)
+    (are : (name descriptor : List ℕ) (c : ClassId) → says said name descriptor c ≡ each name descriptor c) (tells : Tells it ups said) where
+  by_line : (c : ClassId) (name descriptor : List ℕ) → known it c name descriptor ≡ first_said (each name descriptor) (line_of w.outline c)
+  by_line c name descriptor =
+      tells.nearest_is c name descriptor
+      ∙ (nearest_said said name descriptor (each name descriptor) (are name descriptor) (line_in ups c)
+      ∙ ap (first_said (each name descriptor)) (lined c))
 
-pub inherits : (w : World) (h : Heritage) (lines : List (List ClassId)) → ((c : ClassId) → c.0 < length w.classes → line_at lines c ≡ line_of w.outline c)
-    → Tells h.shared lines (shared_from 0 w.classes) → Tells h.left lines (left_by_class w.classes) → Inherits w h
-inherits w h lines lined shared left = record {
-  shared_is = λ c name descriptor lt.
-      right (known h.shared c name descriptor) (nearest (shared_from 0 w.classes) name descriptor (line_at lines c)) (option_map (λ (d : ClassId). d.0) (first_shared w name descriptor (line_of w.outline c)))
-      (nearest_said (shared_from 0 w.classes) name descriptor (says_shared w name descriptor) (says_number w name descriptor) (line_at lines c)
-      ∙ (shared_first w name descriptor (line_at lines c)
-      ∙ ap (λ (line : List ClassId). option_map (λ (d : ClassId). d.0) (first_shared w name descriptor line)) (lined c lt)))
-      (shared c name descriptor);
-  left_is = λ c name descriptor lt.
-      right (known h.left c name descriptor) (nearest (left_by_class w.classes) name descriptor (line_at lines c)) (left_in w name descriptor (line_of w.outline c))
-      (nearest_said (left_by_class w.classes) name descriptor (says_left w name descriptor) (λ d. class_left name descriptor w.classes d.0) (line_at lines c)
-      ∙ ap (left_in w name descriptor) (lined c lt))
-      (left c name descriptor);
-}
+  above : (name descriptor : List ℕ) (o : Option ClassId) → from_above (λ up. known it up name descriptor) o ≡ first_said (each name descriptor) (line_above w.outline o)
+  above name descriptor None = refl
+  above name descriptor (Some up) = by_line up name descriptor
 
-pub some_class : (o : Option ClassId) → option_map class_id (option_map (λ (d : ClassId). d.0) o) ≡ o
+  finds : Finds w it each
+  finds = record {
+    in_line = by_line;
+    in_longer = λ c name descriptor.
+        tells.by_one c name descriptor
+        ∙ (ap (λ (o : Option (Option ℕ)). said_or o (from_above (λ up. known it up name descriptor) (up_in ups c))) (are name descriptor c)
+        ∙ ap (said_or (each name descriptor c)) (ap (from_above (λ up. known it up name descriptor)) (upped c) ∙ above name descriptor (superclass_of (class_at w.outline c))));
+  }
+
+module _ (w : World) (name descriptor : List ℕ) (d : ClassId) where
+  at_first : 0 + d.0 ≡ d.0
+  at_first = omega arith
+
+  says_number : says (shared_from 0 w.classes) name descriptor d ≡ says_shared w name descriptor d
+  says_number = class_shared name descriptor 0 w.classes d.0 ∙ ap (λ (i : ℕ). if stands_in w name descriptor d then Some (Some i) else None) at_first
+
+  says_zero : says (apart_from w 0 w.classes) name descriptor d ≡ says_apart w name descriptor d
+  says_zero = class_apart w name descriptor 0 w.classes d.0 ∙ ap (λ (i : ℕ). if passes (is_apart w (class_id i)) name descriptor (declared_methods w d) then Some (Some 0) else None) at_first
+
+module _ (w : World) (it : Nearest) (ups : List (Option ClassId)) (said : List (List Said))
+    (upped : (c : ClassId) → up_in ups c ≡ superclass_of (class_at w.outline c)) (lined : (c : ClassId) → line_in ups c ≡ line_of w.outline c) (tells : Tells it ups said) where
+  pub finds_shared : said ≡ shared_from 0 w.classes → Finds w it (says_shared w)
+  finds_shared is = finds w it ups (shared_from 0 w.classes) (says_shared w) upped lined (says_number w) (subst (Tells it ups) is tells)
+
+  pub finds_left : said ≡ left_by_class w.classes → Finds w it (says_left w)
+  finds_left is = finds w it ups (left_by_class w.classes) (says_left w) upped lined (λ name descriptor d. class_left name descriptor w.classes d.0) (subst (Tells it ups) is tells)
+
+  pub finds_apart : said ≡ apart_from w 0 w.classes → Finds w it (says_apart w)
+  finds_apart is = finds w it ups (apart_from w 0 w.classes) (says_apart w) upped lined (says_zero w) (subst (Tells it ups) is tells)
+
+pub ok_then : {T : Type 0} (A B : T → Type 0) (r : Result T NoMemory) → ((x : T) → A x → B x) → IfOk r A → IfOk r B
+ok_then A B (Ok x) f is = f x is
+ok_then A B (Err fault) f is = is
+
+-- ---- what is found
+
+some_class : (o : Option ClassId) → option_map class_id (option_map (λ (d : ClassId). d.0) o) ≡ o
 some_class None = refl
 some_class (Some d) = refl
+
+-- the nearest ancestor, by the map of the superclass
+pub nearest_known : (w : World) (h : Heritage) (up : ClassId) (name descriptor : List ℕ) → Inherits w h → option_map class_id (known h.shared up name descriptor) ≡ first_shared w name descriptor (line_of w.outline up)
+nearest_known w h up name descriptor inherits =
+    ap (option_map class_id) (inherits.shared.in_line up name descriptor ∙ shared_first w name descriptor (line_of w.outline up))
+    ∙ some_class (first_shared w name descriptor (line_of w.outline up))
+
+-- from a class up, by its own map
+pub shared_known : (w : World) (h : Heritage) (c : ClassId) (name descriptor : List ℕ) → Inherits w h → option_map class_id (known h.shared c name descriptor) ≡ first_shared w name descriptor (c ∷ ancestors_of w.outline c)
+shared_known w h c name descriptor inherits =
+    let line = c ∷ ancestors_of w.outline c in
+    ap (option_map class_id) (inherits.shared.in_longer c name descriptor ∙ shared_first w name descriptor line) ∙ some_class (first_shared w name descriptor line)
+
+some_or : (apart : Bool) (later : Option ℕ) → is_some (said_or (if apart then Some (Some 0) else None) later) ≡ (apart || is_some later)
+some_or true later = refl
+some_or false later = refl
+
+some_said : (w : World) (name descriptor : List ℕ) (line : List ClassId) → is_some (first_said (says_apart w name descriptor) line) ≡ list_any (has_apart w name descriptor) line
+some_said w name descriptor [] = refl
+some_said w name descriptor (c ∷ line) =
+    some_or (has_apart w name descriptor c) (first_said (says_apart w name descriptor) line)
+    ∙ ap (λ (b : Bool). has_apart w name descriptor c || b) (some_said w name descriptor line)
+
+-- whether a class or an ancestor has one that differs from its nearest
+pub apart_known : (w : World) (it : Nearest) (c : ClassId) (name descriptor : List ℕ) → Finds w it (says_apart w) → is_some (known it c name descriptor) ≡ list_any (has_apart w name descriptor) (c ∷ ancestors_of w.outline c)
+apart_known w it c name descriptor found = ap is_some (found.in_longer c name descriptor) ∙ some_said w name descriptor (c ∷ ancestors_of w.outline c)

@@ -1,6 +1,6 @@
 -- Tests that hold of no element.
-use Rattle.std.proofs.Common.{◌≡◌, Bool, true, false, refl, List, [], ◌∷◌}
-use Rattle.std.specs.Prelude.{◌&&◌, ◌||◌, not}
+use Rattle.std.proofs.Common.{◌≡◌, ℕ, zero, suc, ◌<◌, Bool, true, false, refl, sym, ap, ◌∙◌, List, [], ◌∷◌, length, arith}
+use Rattle.std.specs.Prelude.{◌&&◌, ◌||◌, not, slice_index_or, Contains}
 use Rattle.std.specs.List.{list_any}
 
 pub cases : {G : Type 0} (v : Bool) → (v ≡ true → G) → (v ≡ false → G) → G
@@ -27,9 +27,9 @@ pub rest_is_false : (a b : Bool) → a ≡ true → (a && b) ≡ false → b ≡
 rest_is_false true b ea e = e
 rest_is_false false b ea e = absurd cc
 
-pub isnt : (a : Bool) → not a ≡ true → a ≡ false
-isnt true e = absurd cc
-isnt false e = refl
+pub first_is_false : (a b : Bool) → b ≡ true → (a && b) ≡ false → a ≡ false
+first_is_false true b eb e = sym eb ∙ e
+first_is_false false b eb e = refl
 
 pub is_it : (a : Bool) → not a ≡ false → a ≡ true
 is_it true e = refl
@@ -49,3 +49,18 @@ by_found test one other goal f (x ∷ xs) t a b =
     cases (test x)
     (λ is. f x is (none_here (one x) (list_any one xs) a) (none_here (other x) (list_any other xs) b))
     (λ is. by_found test one other goal f xs (some_later (test x) (list_any test xs) t is) (none_later (one x) (list_any one xs) a) (none_later (other x) (list_any other xs) b))
+
+-- of an element of a list
+none_at : {A : Type 0} (test : A → Bool) (xs : List A) (k : ℕ) (x : A) → k < length xs → slice_index_or xs k x ≡ x → list_any test xs ≡ false → test x ≡ false
+none_at test [] k x lt is e = absurd (omega arith)
+none_at test (y ∷ ys) zero x lt is e = sym (ap test is) ∙ none_here (test y) (list_any test ys) e
+none_at test (y ∷ ys) (suc k) x lt is e = none_at test ys k x (omega arith) is (none_later (test y) (list_any test ys) e)
+
+pub none_of_contained : {A : Type 0} (test : A → Bool) (xs : List A) (x : A) → Contains xs x → list_any test xs ≡ false → test x ≡ false
+none_of_contained test xs x there e = none_at test xs there.0 x there.1 there.2 e
+
+pub some_of_contained : {A : Type 0} (test : A → Bool) (xs : List A) (x : A) → Contains xs x → test x ≡ true → list_any test xs ≡ true
+some_of_contained test xs x there is =
+    cases (list_any test xs)
+    (λ e. e)
+    (λ e. absurd (let wrong : true ≡ false = sym is ∙ none_of_contained test xs x there e in cc))

@@ -1,10 +1,10 @@
 -- What is known of methods beside those of superclasses.
 use Rattle.kilim_class_world.specs.World.{World}
 use Rattle.kilim_member_faults.specs.declared.ancestry.Ancestry.{Ancestry}
-use Rattle.kilim_member_faults.specs.Heritage.{Inherits}
-use Rattle.kilim_member_faults.specs.Parts.{Marked}
+use Rattle.kilim_member_faults.specs.Apart.{says_apart}
+use Rattle.kilim_member_faults.specs.Heritage.{Finds, Inherits}
 
 -- What is known is right.
 pub record Knows (w : World) (a : Ancestry) : Type 0 where
   pub inherits : Inherits w a.heritage
-  pub marked : Marked w a.clean
+  pub apart : Finds w a.apart (says_apart w)

@@ -1,13 +1,15 @@
 -- What classes say of methods by name and descriptor, and what the nearest class of a line says.
-use Rattle.std.specs.Prelude.{◌≡◌, ℕ, ◌+◌, ◌<◌, Bool, ◌&&◌, not, if◌then◌else◌, List, [], ◌∷◌, ◌++◌, map, filter, length, Option, Some, None, IfSome, option_map}
+use Rattle.std.specs.Prelude.{◌≡◌, ℕ, ◌+◌, Bool, ◌&&◌, not, if◌then◌else◌, List, [], ◌∷◌, ◌++◌, map, filter, Option, Some, None}
 use Rattle.std.specs.List.{list_any}
 use Rattle.kilim_program.specs.declared.names.ClassId.{ClassId}
+use Rattle.kilim_program.specs.Keeps.{ancestors_of}
 use Rattle.kilim_program.specs.Names.{line_of}
 use Rattle.kilim_class_world.specs.declared.view.ClassView.{ClassView}
 use Rattle.kilim_class_world.specs.declared.view.DeclaredMethod.{DeclaredMethod}
 use Rattle.kilim_class_world.specs.Linked.{first_of}
 use Rattle.kilim_class_world.specs.World.{World, declared_methods, is_method}
 use Rattle.kilim_inherited.specs.Inherited.{said_or}
+use Rattle.kilim_nearest.specs.declared.nearest.Nearest.{Nearest}
 use Rattle.kilim_nearest.specs.declared.said.Said.{Said}
 use Rattle.kilim_nearest.specs.Known.{known}
 use Rattle.kilim_member_faults.specs.declared.heritage.Heritage.{Heritage}
@@ -46,10 +48,16 @@ first_shared w name descriptor line = first_of (filter (stands_in w name descrip
 abbrev pub left_in : World → List ℕ → List ℕ → List ClassId → Option ℕ
 left_in w name descriptor line = first_said (says_left w name descriptor) line
 
--- What is known of the classes is right.
+-- What a map has of each class is what the first class of its line says that says something; the same where its
+-- ancestors are put behind the class, which is longer than its line where it is its own ancestor.
+pub record Finds (w : World) (it : Nearest) (each : List ℕ → List ℕ → ClassId → Option (Option ℕ)) : Type 0 where
+  pub in_line : (c : ClassId) (name descriptor : List ℕ) → known it c name descriptor ≡ first_said (each name descriptor) (line_of w.outline c)
+  pub in_longer : (c : ClassId) (name descriptor : List ℕ) → known it c name descriptor ≡ first_said (each name descriptor) (c ∷ ancestors_of w.outline c)
+
+-- What each class inherits is right.
 pub record Inherits (w : World) (h : Heritage) : Type 0 where
-  pub shared_is : (c : ClassId) (name descriptor : List ℕ) → c.0 < length w.classes → IfSome (known h.shared c name descriptor) (λ v. v ≡ option_map (λ d. d.0) (first_shared w name descriptor (line_of w.outline c)))
-  pub left_is : (c : ClassId) (name descriptor : List ℕ) → c.0 < length w.classes → IfSome (known h.left c name descriptor) (λ v. v ≡ left_in w name descriptor (line_of w.outline c))
+  pub shared : Finds w h.shared (says_shared w)
+  pub left : Finds w h.left (says_left w)
 
 -- ---- in lists
 

@@ -1,9 +1,9 @@
 -- Parts of the lists of problems with methods, as the code goes over them.
-use Rattle.std.specs.Prelude.{◌≡◌, ℕ, Bool, true, false, not, ◌&&◌, List, [], ◌++◌, map, Option, Some, None, slice_get, slice_index_or, codes}
+use Rattle.std.specs.Prelude.{◌≡◌, ℕ, Bool, true, false, not, ◌&&◌, ◌==◌, List, [], ◌∷◌, ◌++◌, map, Option, Some, None, slice_get, codes}
 use Rattle.std.specs.List.{list_any, flat_map}
 use Rattle.std.specs.Str.{bytes_eq}
 use Rattle.kilim_program.specs.declared.names.ClassId.{ClassId}
-use Rattle.kilim_class_world.specs.Faults.{is_left_above, agrees, differs_from, overrides_badly}
+use Rattle.kilim_class_world.specs.Faults.{is_left_above, agrees, differs_from}
 use Rattle.kilim_class_world.specs.Qualified.{is_constructor_name}
 use Rattle.kilim_class_world.specs.World.{World, declared_methods, is_method}
 use Rattle.kilim_class_world.specs.declared.view.Marks.{Marks}
@@ -43,17 +43,6 @@ are_unmarked m other = is_unmarked m && (is_unmarked other && bytes_eq m.descrip
 abbrev pub differs_in : World → ClassId → DeclaredMethod → ClassId → Bool
 differs_in w c m d = list_any (differs_from w c m) (map (λ other. (d, other)) (declared_methods w d))
 
--- no method of a class differs from one that it overrides
-abbrev pub is_clean : World → ClassId → Bool
-is_clean w c = not (list_any (overrides_badly w c) (declared_methods w c))
-
-abbrev pub is_marked : List Bool → ClassId → Bool
-is_marked marks c = slice_index_or marks c.0 false
-
--- each class that is marked is so
-unfoldable pub Marked : World → List Bool → Type 0
-Marked w marks = (c : ClassId) → is_marked marks c ≡ true → is_clean w c ≡ true
-
 -- ---- abstract methods
 
 abbrev pub is_shared : DeclaredMethod → Bool
@@ -74,3 +63,12 @@ is_nearer w c ds name descriptor = list_any (λ o. not o.is_private && is_method
 -- an abstract method of an ancestor is left, where these are nearer
 abbrev pub is_left_over : World → ClassId → List ClassId → DeclaredMethod → Bool
 is_left_over w c ds m = is_left_above (nearer_than w c ds) m
+
+-- it is this class
+abbrev pub is_class : ClassId → Option ClassId → Bool
+is_class d None = false
+is_class d (Some e) = e.0 == d.0
+
+-- in a list of classes these stand before this one
+abbrev pub StandsBehind : List ClassId → List ClassId → ClassId → Type 0
+StandsBehind ds nearer d = (later : List ClassId) × (ds ≡ nearer ++ d ∷ later)

@@ -1,14 +1,14 @@
 //! Abstract methods that a class is left with.
 
-ghost use Rattle.std.specs.Prelude.{◌≡◌, ◌++◌, ◌||◌, [], true, IfOk, filter, option_copied};
+ghost use Rattle.std.specs.Prelude.{◌≡◌, ◌++◌, ◌∷◌, ◌||◌, Contains, IfOk, filter, option_copied};
 ghost use Rattle.std.specs.List.{list_any};
 ghost use Rattle.kilim_class_world.specs.World.{declared_methods};
 ghost use Rattle.kilim_class_world.specs.Faults.{abstract_left, is_left_here, left_above, left_inherited};
 ghost use Rattle.kilim_class_world.specs.Linked.{first_of};
+ghost use Rattle.kilim_member_faults.specs.Parts.{is_shared, stands_in, is_nearer, is_left_over, passes_at, is_class, StandsBehind};
 ghost use Rattle.kilim_program.specs.Keeps.{ancestors_of};
-ghost use Rattle.kilim_member_faults.specs.Parts.{is_shared, stands_in, is_nearer, is_left_over, passes_at};
 ghost use Rattle.kilim_member_faults.specs.Ancestry.{Knows};
-ghost use Rattle.kilim_member_faults.specs.Heritage.{Inherits};
+ghost use Rattle.kilim_member_faults.specs.Heritage.{Inherits, first_shared};
 
 use crate::ancestry::Ancestry;
 use crate::heritage::Heritage;
@@ -94,13 +94,37 @@ fn is_nearer(world: &World, signature: &Signature, class: ClassId, nearer: &[Cla
     stands_in_either(world, signature, class, nearer)
 }
 
-// Whether an abstract method of an ancestor is left, where these classes are nearer.
+// Whether this ancestor is the nearest class from a class up that declares such a method.
+fn comes_from(
+    world: &World,
+    heritage: &Heritage,
+    class: ClassId,
+    signature: &Signature,
+    above: ClassId,
+) -> bool
+    requires { Inherits world.now heritage.now }
+    ensures { result ≡ is_class above (first_shared world.now signature.now.name signature.now.descriptor (class ∷ ancestors_of world.now.outline class)) }
+{
+    match heritage.first_shared(world, class, signature) {
+        Some(nearest) => nearest.0 == above.0,
+        None => false,
+    }
+}
+
+// Whether an abstract method of an ancestor is left, where these classes are nearer: not where the nearest class that
+// declares such a method is another.
+#[tactic(auto, using(crate::proofs::Leaving::not_left))]
 fn is_left_over(
     world: &World,
+    heritage: &Heritage,
     class: ClassId,
     nearer: &[ClassId],
+    above: ClassId,
     method: &DeclaredMethod,
 ) -> Result<bool, NoMemory>
+    requires inherits { Inherits world.now heritage.now }
+    requires behind { StandsBehind (ancestors_of world.now.outline class) nearer.now above }
+    requires declared { Contains (declared_methods world.now above) method.now }
     ensures { IfOk result (λ left. left ≡ is_left_over world.now class nearer.now method.now) }
 {
     if !method.is_abstract {
@@ -110,19 +134,28 @@ fn is_left_over(
         return Ok(false);
     }
     let signature = signature_of(&method.name, &method.descriptor)?;
-    Ok(!is_nearer(world, &signature, class, nearer))
+    if comes_from(world, heritage, class, &signature, above) {
+        Ok(!is_nearer(world, &signature, class, nearer))
+    } else {
+        Ok(false)
+    }
 }
 
 fn first_left_over<'a>(
     world: &World,
+    heritage: &Heritage,
     class: ClassId,
     nearer: &[ClassId],
+    above: ClassId,
     methods: &'a [DeclaredMethod],
 ) -> Result<Option<&'a DeclaredMethod>, NoMemory>
+    requires inherits { Inherits world.now heritage.now }
+    requires behind { StandsBehind (ancestors_of world.now.outline class) nearer.now above }
+    requires declared { methods.now ≡ declared_methods world.now above }
     ensures { IfOk result (λ found. option_copied found ≡ first_of (filter (is_left_over world.now class nearer.now) methods.now)) }
 {
     for method in methods {
-        if is_left_over(world, class, nearer, method)? {
+        if is_left_over(world, heritage, class, nearer, above, method)? {
             return Ok(Some(method));
         }
     }
@@ -132,15 +165,20 @@ fn first_left_over<'a>(
 // The first abstract method of an ancestor that is left.
 fn first_left_above<'a>(
     world: &'a World,
+    heritage: &Heritage,
     class: ClassId,
     ancestors: &[ClassId],
 ) -> Result<Option<&'a DeclaredMethod>, NoMemory>
+    requires inherits { Inherits world.now heritage.now }
+    requires all { ancestors.now ≡ ancestors_of world.now.outline class }
     ensures { IfOk result (λ found. option_copied found ≡ first_of (left_above world.now (declared_methods world.now class) ancestors.now)) }
 {
     let mut i: usize = 0;
     while i < ancestors.len() {
         let nearer = &ancestors[..i];
-        match first_left_over(world, class, nearer, methods_of(world, ancestors[i])) {
+        let above = ancestors[i];
+        let methods = methods_of(world, above);
+        match first_left_over(world, heritage, class, nearer, above, methods) {
             Ok(Some(method)) => return Ok(Some(method)),
             Ok(None) => {}
             Err(fault) => return Err(fault),
@@ -150,20 +188,8 @@ fn first_left_above<'a>(
     Ok(None)
 }
 
-// Whether it is known that no abstract method is left above a class. Its line has the same ancestors unless it is its own
-// ancestor.
-fn leaves_none(world: &World, heritage: &Heritage, class: ClassId) -> bool
-    requires inherits { Inherits world.now heritage.now }
-    ensures { result ≡ true → left_above world.now (declared_methods world.now class) (ancestors_of world.now.outline class) ≡ [] }
-{
-    if (class.0 as usize) < world.classes().len() {
-        heritage.leaves_none(class) && world.line(class).len() == world.ancestors(class).len() + 1
-    } else {
-        false
-    }
-}
-
 fn first_inherited<'a>(
+    alloc: Global,
     world: &'a World,
     heritage: &Heritage,
     class: ClassId,
@@ -175,14 +201,16 @@ fn first_inherited<'a>(
     if class_is_abstract {
         return Ok(None);
     }
-    if leaves_none(world, heritage, class) {
+    if heritage.leaves_none(world, class) {
         return Ok(None);
     }
-    first_left_above(world, class, world.ancestors(class))
+    let ancestors = world.ancestors(alloc, class)?;
+    first_left_above(world, heritage, class, ancestors.as_slice())
 }
 
 #[tactic(auto, using(crate::proofs::Firsts::here, crate::proofs::Firsts::later))]
 fn first_left<'a>(
+    alloc: Global,
     world: &'a World,
     heritage: &Heritage,
     class: ClassId,
@@ -194,13 +222,14 @@ fn first_left<'a>(
     if let Some(method) = first_left_here(class_is_abstract, methods_of(world, class)) {
         return Ok(Some(method));
     }
-    first_inherited(world, heritage, class, class_is_abstract)
+    first_inherited(alloc, world, heritage, class, class_is_abstract)
 }
 
 /// The first abstract method that a class is left with, where it isn't abstract, or its own one that is private or
 /// static (JVMS 4.6, own): its own ones in order, then those of the nearest ancestor, and so on.
 #[tactic(auto, unfolding(kilim_class_world::specs::Faults::abstract_left))]
 pub fn abstract_left(
+    alloc: Global,
     world: &World,
     ancestry: &Ancestry,
     file: &ClassFile,
@@ -210,6 +239,7 @@ pub fn abstract_left(
     ensures { IfOk result (λ found. found ≡ first_of (abstract_left world.now file.now class)) }
 {
     match first_left(
+        alloc,
         world,
         &ancestry.heritage,
         class,

@@ -1,14 +1,16 @@
 //! What is known of a world's methods beside those of superclasses.
 
-ghost use Rattle.std.specs.Prelude.{◌≡◌, ◌<◌, ◌^◌, IfOk, length, true};
+ghost use Rattle.std.specs.Prelude.{◌≡◌, ◌∷◌, ◌<◌, ◌^◌, IfOk, length};
+ghost use Rattle.std.specs.List.{list_any};
+ghost use Rattle.kilim_program.specs.Keeps.{ancestors_of};
 ghost use Rattle.kilim_member_faults.specs.Ancestry.{Knows};
-ghost use Rattle.kilim_member_faults.specs.Parts.{is_marked};
+ghost use Rattle.kilim_member_faults.specs.Apart.{has_apart};
 
-use crate::clean::clean_classes;
+use crate::apart::apart_of;
 use crate::heritage::Heritage;
-use crate::marks::is_marked;
-use kilim_program::{ClassId, NoMemory, Seq};
-use kilim_world::World;
+use kilim_nearest::Nearest;
+use kilim_program::{ClassId, NoMemory};
+use kilim_world::{Signature, World};
 use std::alloc::Global;
 
 /// What is known of a world's methods beside those of superclasses, made once for all classes, so that no line of
@@ -17,8 +19,8 @@ use std::alloc::Global;
 pub struct Ancestry {
     // What each class inherits.
     pub heritage: Heritage,
-    // Classes of which no method differs from one that it overrides.
-    pub clean: Seq<bool>,
+    // Where a method differs from the nearest one that it overrides.
+    pub apart: Nearest,
 }
 
 impl Ancestry {
@@ -28,14 +30,17 @@ impl Ancestry {
         ensures { IfOk result (λ a. Knows world.now a) }
     {
         let heritage = Heritage::new(alloc, world)?;
-        let clean = clean_classes(alloc, world, &heritage)?;
-        Ok(Ancestry { heritage, clean })
+        let apart = apart_of(alloc, world, &heritage)?;
+        Ok(Ancestry { heritage, apart })
     }
 
-    /// Whether it is known of a class that no method differs from one that it overrides.
-    pub fn is_clean(&self, class: ClassId) -> bool
-        ensures { result ≡ is_marked self.now.clean class }
+    /// Whether a class or an ancestor declares a method of that name and descriptor that differs from the nearest one
+    /// that it overrides.
+    #[tactic(auto, using(crate::proofs::Telling::apart_known))]
+    pub fn has_apart(&self, world: &World, class: ClassId, signature: &Signature) -> bool
+        requires { Knows world.now self.now }
+        ensures { result ≡ list_any (has_apart world.now signature.now.name signature.now.descriptor) (class ∷ ancestors_of world.now.outline class) }
     {
-        is_marked(self.clean.as_slice(), class)
+        self.apart.find(class, signature).is_some()
     }
 }

@@ -1,14 +1,13 @@
 //! What classes inherit: the nearest one that declares a method, and whether an abstract one is left.
 
-ghost use Rattle.std.specs.Prelude.{◌≡◌, ◌<◌, ◌^◌, ◌++◌, ℕ, List, Some, None, true, IfOk, OnOk, IfSome, length, option_map};
-ghost use Rattle.kilim_program.specs.Names.{line_of};
+ghost use Rattle.std.specs.Prelude.{◌≡◌, ◌<◌, ◌^◌, ◌++◌, ◌∷◌, [], Some, None, true, IfOk, OnOk, length, option_map};
 ghost use Rattle.kilim_program.specs.Keeps.{ancestors_of};
 ghost use Rattle.kilim_program.specs.BuiltIn.{class_id};
-ghost use Rattle.kilim_nearest.specs.Known.{known};
+ghost use Rattle.kilim_class_world.specs.Faults.{left_above};
+ghost use Rattle.kilim_class_world.specs.World.{declared_methods};
 ghost use Rattle.kilim_member_faults.specs.Parts.{is_shared};
 ghost use Rattle.kilim_member_faults.specs.Heritage.{Inherits, first_shared, is_shared_abstract, saying, sayings, left_sayings, shared_from, left_by_class};
 
-use crate::abstracts::stands_in;
 use crate::signature::signature_of;
 use kilim_class_world::{ClassView, DeclaredMethod};
 use kilim_nearest::{Nearest, Said};
@@ -25,7 +24,8 @@ pub struct Heritage {
     left: Nearest,
 }
 
-fn saying(method: &DeclaredMethod, value: Option<u32>) -> Result<Said, NoMemory>
+/// What is said of a method.
+pub fn saying(method: &DeclaredMethod, value: Option<u32>) -> Result<Said, NoMemory>
     ensures { IfOk result (λ s. s ≡ saying value method.now) }
 {
     let signature = signature_of(&method.name, &method.descriptor)?;
@@ -111,50 +111,22 @@ fn class_of(number: Option<u32>) -> Option<ClassId>
     }
 }
 
-fn first_shared(world: &World, signature: &Signature, line: &[ClassId]) -> Option<ClassId>
-    ensures { result ≡ first_shared world.now signature.now.name signature.now.descriptor line.now }
-{
-    for class in line {
-        if stands_in(world, signature, *class) {
-            return Some(*class);
-        }
-    }
-    None
-}
-
 impl Heritage {
     /// Of the classes of a world.
     pub fn new(alloc: Global, world: &World) -> Result<Heritage, NoMemory>
         requires few { length world.now.classes < 2 ^ 32 }
         ensures { IfOk result (λ h. Inherits world.now h) }
     {
-        let lines = world.lines();
+        let ups = world.superclasses();
         let shared_said = all_shared_said(alloc, world.classes())?;
         let left_said = all_left_said(alloc, world.classes())?;
-        let shared = Nearest::new(alloc, lines, shared_said.as_slice())?;
-        let left = Nearest::new(alloc, lines, left_said.as_slice())?;
+        let shared = Nearest::new(alloc, ups, shared_said.as_slice())?;
+        let left = Nearest::new(alloc, ups, left_said.as_slice())?;
         Ok(Heritage { shared, left })
     }
 
-    // What is known of a class and those above it.
-    fn known_shared(
-        &self,
-        world: &World,
-        class: ClassId,
-        signature: &Signature,
-    ) -> Option<Option<u32>>
-        requires { Inherits world.now self.now }
-        ensures { IfSome result (λ v. v ≡ option_map (λ d. d.0) (first_shared world.now signature.now.name signature.now.descriptor (line_of world.now.outline class))) }
-    {
-        if (class.0 as usize) < world.classes().len() {
-            self.shared.find(class, signature)
-        } else {
-            None
-        }
-    }
-
     /// The nearest ancestor of a class that declares a method of that name and descriptor that isn't private.
-    #[tactic(auto, using(crate::proofs::Telling::some_class))]
+    #[tactic(auto, using(crate::proofs::Telling::nearest_known))]
     pub fn nearest_shared(
         &self,
         world: &World,
@@ -167,15 +139,28 @@ impl Heritage {
         let Some(up) = world.outline().superclass_of(class) else {
             return None;
         };
-        match self.known_shared(world, up, signature) {
-            Some(found) => class_of(found),
-            None => first_shared(world, signature, world.ancestors(class)),
-        }
+        class_of(self.shared.find(up, signature))
     }
 
-    /// Whether it is known that no abstract method is left in the line of a class.
-    pub fn leaves_none(&self, class: ClassId) -> bool
-        ensures { result ≡ true → (name descriptor : List ℕ) → known self.now.left class name descriptor ≡ Some None }
+    /// The nearest class from a class up that declares a method of that name and descriptor that isn't private.
+    #[tactic(auto, using(crate::proofs::Telling::shared_known))]
+    pub fn first_shared(
+        &self,
+        world: &World,
+        class: ClassId,
+        signature: &Signature,
+    ) -> Option<ClassId>
+        requires { Inherits world.now self.now }
+        ensures { result ≡ first_shared world.now signature.now.name signature.now.descriptor (class ∷ ancestors_of world.now.outline class) }
+    {
+        class_of(self.shared.find(class, signature))
+    }
+
+    /// Whether it is known that no abstract method of an ancestor is left to a class.
+    #[tactic(auto, using(crate::proofs::Leaving::none_known))]
+    pub fn leaves_none(&self, world: &World, class: ClassId) -> bool
+        requires { Inherits world.now self.now }
+        ensures { result ≡ true → left_above world.now (declared_methods world.now class) (ancestors_of world.now.outline class) ≡ [] }
     {
         self.left.has_none(class)
     }

@@ -3,9 +3,8 @@
 
 mod abstracts;
 mod ancestry;
-mod clean;
+mod apart;
 mod heritage;
-mod marks;
 mod overrides;
 mod signature;
 #[cfg(test)]

@@ -1,10 +1,10 @@
 //! Methods that differ from one that they override.
 
-ghost use Rattle.std.specs.Prelude.{◌≡◌, ◌&&◌, not, IfOk, filter, option_copied};
+ghost use Rattle.std.specs.Prelude.{◌≡◌, ◌&&◌, not, false, Contains, IfOk, filter, option_copied};
 ghost use Rattle.std.specs.List.{list_any};
 ghost use Rattle.kilim_program.specs.Same.{same_flag, same_qualifier, same_qualifiers};
 ghost use Rattle.kilim_class_world.specs.World.{declared_methods};
-ghost use Rattle.kilim_class_world.specs.Qualified.{qualified};
+ghost use Rattle.kilim_class_world.specs.Qualified.{qualified, is_constructor_name};
 ghost use Rattle.kilim_class_world.specs.Faults.{override_differs, overrides_badly, agrees, same_qualified, declared_of, differs_from, inherited};
 ghost use Rattle.kilim_class_world.specs.Linked.{first_of};
 ghost use Rattle.kilim_member_faults.specs.Ancestry.{Knows};
@@ -250,27 +250,56 @@ fn differs_in_any(
     Ok(false)
 }
 
-// Whether a method differs from one of its name and descriptor of any ancestor, which isn't private.
+// The same of any ancestor.
+fn differs_in_some(
+    alloc: Global,
+    world: &World,
+    class: ClassId,
+    method: &DeclaredMethod,
+    signature: &Signature,
+) -> Result<bool, NoMemory>
+    requires name { signature.now.name ≡ method.now.name }
+    requires descriptor { signature.now.descriptor ≡ method.now.descriptor }
+    ensures { IfOk result (λ apart. apart ≡ list_any (differs_from world.now class method.now) (inherited world.now class)) }
+{
+    let ancestors = world.ancestors(alloc, class)?;
+    differs_in_any(alloc, world, class, method, signature, ancestors.as_slice())
+}
+
+// Whether a method that overrides differs from one of any ancestor: not where none of them, nor it, differs from the
+// nearest one.
+#[tactic(auto, using(crate::proofs::Settling::agrees_with_all))]
 fn differs_above(
     alloc: Global,
     world: &World,
     class: ClassId,
     method: &DeclaredMethod,
+    ancestry: &Ancestry,
 ) -> Result<bool, NoMemory>
+    requires knows { Knows world.now ancestry.now }
+    requires declared { Contains (declared_methods world.now class) method.now }
+    requires ordinary { is_constructor_name method.now.name ≡ false }
+    requires shared { method.now.is_private ≡ false }
     ensures { IfOk result (λ apart. apart ≡ list_any (differs_from world.now class method.now) (inherited world.now class)) }
 {
     let signature = signature_of(&method.name, &method.descriptor)?;
-    let ancestors = world.ancestors(class);
-    differs_in_any(alloc, world, class, method, &signature, ancestors)
+    if ancestry.has_apart(world, class, &signature) {
+        differs_in_some(alloc, world, class, method, &signature)
+    } else {
+        Ok(false)
+    }
 }
 
-// Whether a method differs from one that it overrides, of any ancestor.
+// Whether a method of a class differs from one that it overrides, of any ancestor.
 fn overrides_badly(
     alloc: Global,
     world: &World,
     class: ClassId,
     method: &DeclaredMethod,
+    ancestry: &Ancestry,
 ) -> Result<bool, NoMemory>
+    requires knows { Knows world.now ancestry.now }
+    requires declared { Contains (declared_methods world.now class) method.now }
     ensures { IfOk result (λ bad. bad ≡ overrides_badly world.now class method.now) }
 {
     if method.name.is_text(b"<init>") {
@@ -279,7 +308,7 @@ fn overrides_badly(
     if method.is_private {
         return Ok(false);
     }
-    differs_above(alloc, world, class, method)
+    differs_above(alloc, world, class, method, ancestry)
 }
 
 fn first_bad<'a>(
@@ -287,37 +316,22 @@ fn first_bad<'a>(
     world: &World,
     class: ClassId,
     methods: &'a [DeclaredMethod],
+    ancestry: &Ancestry,
 ) -> Result<Option<&'a DeclaredMethod>, NoMemory>
+    requires knows { Knows world.now ancestry.now }
+    requires declared { methods.now ≡ declared_methods world.now class }
     ensures { IfOk result (λ found. option_copied found ≡ first_of (filter (overrides_badly world.now class) methods.now)) }
 {
     for method in methods {
-        if overrides_badly(alloc, world, class, method)? {
+        if overrides_badly(alloc, world, class, method, ancestry)? {
             return Ok(Some(method));
         }
     }
     Ok(None)
 }
 
-// The same, where it is known of some classes that they have none.
-#[tactic(auto, using(crate::proofs::Marking::none_bad))]
-fn first_bad_unless<'a>(
-    alloc: Global,
-    world: &'a World,
-    class: ClassId,
-    ancestry: &Ancestry,
-) -> Result<Option<&'a DeclaredMethod>, NoMemory>
-    requires { Knows world.now ancestry.now }
-    ensures { IfOk result (λ found. option_copied found ≡ first_of (filter (overrides_badly world.now class) (declared_methods world.now class))) }
-{
-    if ancestry.is_clean(class) {
-        return Ok(None);
-    }
-    first_bad(alloc, world, class, methods_of(world, class))
-}
-
 /// The first method of a class, in declared order, that differs from one that it overrides in pausability, in a
-/// qualifier or in being static (own), or overrides a final one (JVMS 4.10, 5.4.5). Classes of
-/// which it is known that they have none need no search.
+/// qualifier or in being static (own), or overrides a final one (JVMS 4.10, 5.4.5).
 #[tactic(auto, unfolding(kilim_class_world::specs::Faults::override_differs))]
 pub fn override_differs(
     alloc: Global,
@@ -329,7 +343,8 @@ pub fn override_differs(
     requires { Knows world.now ancestry.now }
     ensures { IfOk result (λ found. found ≡ first_of (override_differs world.now file.now class)) }
 {
-    match first_bad_unless(alloc, world, class, ancestry)? {
+    let methods = methods_of(world, class);
+    match first_bad(alloc, world, class, methods, ancestry)? {
         Some(method) => Ok(Some(Problem::OverrideDiffers(declared_of(method)?))),
         None => Ok(None),
     }

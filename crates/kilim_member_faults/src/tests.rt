@@ -1,13 +1,14 @@
-//! Marks of a small world, each worked out by hand.
+//! What is known of small worlds, each worked out by hand.
 
 ghost use Rattle.std.specs.Prelude.{◌≤◌, IfOk, length, sum_by};
 ghost use Rattle.std.specs.Bool.{OnTrue};
 ghost use Rattle.kilim_world.specs.Agrees.{method_count, field_count};
+ghost use Rattle.kilim_member_faults.specs.Ancestry.{Knows};
 
 use crate::Ancestry;
 use kilim_class_world::{ClassView, DeclaredMethod, Marks};
-use kilim_program::{Form, Qualifier, Seq, Units};
-use kilim_world::World;
+use kilim_program::{ClassId, Form, Qualifier, Seq, Units};
+use kilim_world::{Signature, World};
 use std::alloc::Global;
 use std::test::Fail;
 
@@ -19,25 +20,25 @@ fn text(alloc: Global, ascii: &[u8]) -> Result<Units, Fail> {
     Ok(Units::from_vec(units))
 }
 
-// One method `m()V`, static or not.
-fn methods(alloc: Global, is_static: bool) -> Result<Seq<DeclaredMethod>, Fail> {
+// One method `m()V`, both abstract and pausable or neither.
+fn methods(alloc: Global, asks: bool) -> Result<Seq<DeclaredMethod>, Fail> {
     let mut list: Seq<DeclaredMethod> = Seq::new(alloc);
     list.push(DeclaredMethod {
         name: text(alloc, b"m")?,
         descriptor: text(alloc, b"()V")?,
-        is_static,
+        is_static: false,
         is_private: false,
-        is_abstract: false,
+        is_abstract: asks,
         is_final: false,
-        pausable: false,
+        pausable: asks,
         marks: Marks::Stated(Qualifier::Safe, Seq::new(alloc)),
     })?;
     Ok(list)
 }
 
-// A class by its name, its superclass and whether its method is static.
+// A class by its name, its superclass and whether its method is so.
 fn class(alloc: Global, row: &(&[u8], &[u8], bool)) -> Result<ClassView, Fail> {
-    let (name, up, is_static) = row;
+    let (name, up, asks) = row;
     Ok(ClassView {
         name: text(alloc, name)?,
         superclass: Some(text(alloc, up)?),
@@ -46,7 +47,7 @@ fn class(alloc: Global, row: &(&[u8], &[u8], bool)) -> Result<ClassView, Fail> {
         is_final: false,
         is_built_in: false,
         fields: Seq::new(alloc),
-        methods: methods(alloc, *is_static)?,
+        methods: methods(alloc, *asks)?,
     })
 }
 
@@ -81,22 +82,84 @@ fn world(alloc: Global, table: &[(&[u8], &[u8], bool)]) -> Result<World, Fail>
     }
 }
 
-// Subclasses stand before their superclasses. D differs from A, so that E, below it, isn't marked; X is its own
-// superclass.
+fn mark(is_so: bool) -> u16 {
+    if is_so { 120 } else { 46 }
+}
+
+// Of each class `x` where it or an ancestor has a method `m()V` that differs from the nearest one that it overrides.
+fn apart(alloc: Global, world: &World, ancestry: &Ancestry, count: u32) -> Result<Units, Fail>
+    requires { Knows world.now ancestry.now }
+{
+    let signature = Signature {
+        name: text(alloc, b"m")?,
+        descriptor: text(alloc, b"()V")?,
+    };
+    let mut marks = Vec::new(alloc);
+    for i in 0..count {
+        marks.push(mark(ancestry.has_apart(world, ClassId(i), &signature)))?;
+    }
+    Ok(Units::from_vec(marks))
+}
+
+// Of each class `x` where it is known that no abstract method is left to it.
+fn without_abstract(
+    alloc: Global,
+    world: &World,
+    ancestry: &Ancestry,
+    count: u32,
+) -> Result<Units, Fail>
+    requires { Knows world.now ancestry.now }
+{
+    let mut marks = Vec::new(alloc);
+    for i in 0..count {
+        marks.push(mark(ancestry.heritage.leaves_none(world, ClassId(i))))?;
+    }
+    Ok(Units::from_vec(marks))
+}
+
+fn apart_in(alloc: Global, table: &[(&[u8], &[u8], bool)]) -> Result<Units, Fail> {
+    let world = world(alloc, table)?;
+    let ancestry = Ancestry::new(alloc, &world)?;
+    apart(alloc, &world, &ancestry, 6)
+}
+
+fn without_abstract_in(alloc: Global, table: &[(&[u8], &[u8], bool)]) -> Result<Units, Fail> {
+    let world = world(alloc, table)?;
+    let ancestry = Ancestry::new(alloc, &world)?;
+    without_abstract(alloc, &world, &ancestry, 6)
+}
+
+// Subclasses stand before their superclasses. D differs from A, and E is below it. P and Q are each other's superclass, and
+// differ.
 #[test]
-fn superclasses_are_marked_first(rt: HostRuntime) -> Result<(), Fail> {
+fn differing_methods_are_known_below(rt: HostRuntime) -> Result<(), Fail> {
     let alloc = rt.alloc();
     let table: [(&[u8], &[u8], bool); 6] = [
-        (b"C", b"B", false),
         (b"B", b"A", false),
         (b"E", b"D", true),
         (b"D", b"A", true),
         (b"A", b"Z", false),
-        (b"X", b"X", false),
+        (b"P", b"Q", false),
+        (b"Q", b"P", true),
     ];
-    let world = world(alloc, &table)?;
-    let ancestry = Ancestry::new(alloc, &world)?;
-    let expected: [bool; 6] = [true, true, false, false, true, false];
-    assert_eq!(rt; ancestry.clean.as_slice(), expected.as_slice());
+    let found = apart_in(alloc, &table)?;
+    assert!(rt; found.is_text(b".xx.xx"));
+    Ok(())
+}
+
+// A and N declare an abstract method, I implements it, and J is below I. X implements in a circle what Y asks for.
+#[test]
+fn implemented_methods_are_known_below(rt: HostRuntime) -> Result<(), Fail> {
+    let alloc = rt.alloc();
+    let table: [(&[u8], &[u8], bool); 6] = [
+        (b"J", b"I", false),
+        (b"I", b"A", false),
+        (b"A", b"Z", true),
+        (b"N", b"I", true),
+        (b"X", b"Y", false),
+        (b"Y", b"X", true),
+    ];
+    let found = without_abstract_in(alloc, &table)?;
+    assert!(rt; found.is_text(b"xx..x."));
     Ok(())
 }

@@ -1,5 +1,5 @@
 -- Lists of entries that grow at their end, by numbers that stay.
-use Rattle.std.proofs.Common.{◌≡◌, ℕ, zero, suc, ◌+◌, ◌<◌, List, [], ◌∷◌, ◌++◌, length, get_or, take, Option, Some, sym, ap, ◌∙◌, subst, arith}
+use Rattle.std.proofs.Common.{◌≡◌, ℕ, zero, suc, ◌+◌, ◌<◌, List, [], ◌∷◌, ◌++◌, length, get_or, take, Option, Some, refl, sym, ap, ◌∙◌, subst, arith}
 use Rattle.kilim_inherited.specs.declared.entry.Entry.{Entry}
 use Rattle.kilim_signatures.specs.Numbers.{Keeps}
 use Rattle.kilim_nearest.specs.declared.said.Said.{Said}
@@ -26,6 +26,12 @@ module _ (before after : List ℕ → List ℕ → Option ℕ) (keeps : Keeps be
   all_kept [] (es ∷ ess) are = are
 
 module _ (number : List ℕ → List ℕ → Option ℕ) where
+  pub keyed_length : (sss : List (List Said)) (ess : List (List Entry)) → AllKeyed number sss ess → length ess ≡ length sss
+  keyed_length [] [] are = refl
+  keyed_length (ss ∷ sss) (es ∷ ess) are = ap suc (keyed_length sss ess are.1)
+  keyed_length (ss ∷ sss) [] are = absurd are
+  keyed_length [] (es ∷ ess) are = absurd are
+
   pub keyed_more : (ss : List Said) (es : List Entry) (s : Said) (e : Entry) → Keyed number ss es → number s.signature.name s.signature.descriptor ≡ Some e.key → e.value ≡ s.value → Keyed number (ss ++ s ∷ []) (es ++ e ∷ [])
   keyed_more [] [] s e are key value = (key, (value, tt))
   keyed_more (t ∷ ss) (f ∷ es) s e are key value = (are.0, (are.1.0, keyed_more ss es s e are.1.1 key value))

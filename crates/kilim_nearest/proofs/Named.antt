@@ -66,7 +66,7 @@ module _ (number : List ℕ → List ℕ → Option ℕ) (name descriptor : List
     nothing_said (s ∷ ss) [] are = absurd are
     nothing_said [] (e ∷ es) are = absurd are
 
-    no_class_says : (sss : List (List Said)) (ess : List (List Entry)) (c : ℕ) → AllKeyed number sss ess → names.said_of (slice_get sss c) name descriptor ≡ None
+    pub no_class_says : (sss : List (List Said)) (ess : List (List Entry)) (c : ℕ) → AllKeyed number sss ess → names.said_of (slice_get sss c) name descriptor ≡ None
     no_class_says [] ess c are = refl
     no_class_says (ss ∷ sss) (es ∷ ess) zero are = nothing_said ss es are.0
     no_class_says (ss ∷ sss) (es ∷ ess) (suc c) are = no_class_says sss ess c are.1
@@ -99,7 +99,7 @@ module _ (number : List ℕ → List ℕ → Option ℕ) (name descriptor : List
     said_is (s ∷ ss) [] are = absurd are
     said_is [] (e ∷ es) are = absurd are
 
-    class_says : (sss : List (List Said)) (ess : List (List Entry)) (c : ℕ) → AllKeyed number sss ess → numbers.said_of (slice_get ess c) k ≡ names.said_of (slice_get sss c) name descriptor
+    pub class_says : (sss : List (List Said)) (ess : List (List Entry)) (c : ℕ) → AllKeyed number sss ess → numbers.said_of (slice_get ess c) k ≡ names.said_of (slice_get sss c) name descriptor
     class_says [] [] c are = refl
     class_says (ss ∷ sss) (es ∷ ess) zero are = said_is ss es are.0
     class_says (ss ∷ sss) (es ∷ ess) (suc c) are = class_says sss ess c are.1

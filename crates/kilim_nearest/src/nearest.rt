@@ -1,6 +1,6 @@
 //! The nearest class that says something of a member.
 
-ghost use Rattle.std.specs.Prelude.{◌≡◌, true, Some, None, List, ℕ, IfOk};
+ghost use Rattle.std.specs.Prelude.{◌≡◌, ◌≤◌, true, None, List, ℕ, IfOk, length};
 ghost use Rattle.kilim_nearest.specs.Known.{known, Tells};
 
 use crate::entries::all_entries;
@@ -18,35 +18,35 @@ pub struct Nearest {
 }
 
 impl Nearest {
-    /// Of the line of each class (it, its superclass, and so on) and of what each class says.
+    /// Of the superclass of each class and of what each class says. A class may be its own ancestor.
     pub fn new(
         alloc: Global,
-        lines: &[Seq<ClassId>],
+        ups: &[Option<ClassId>],
         said: &[Seq<Said>],
     ) -> Result<Nearest, NoMemory>
-        ensures { IfOk result (λ it. Tells it lines.now said.now) }
+        requires { length said.now ≤ length ups.now }
+        ensures { IfOk result (λ it. Tells it ups.now said.now) }
     {
         let mut numbers = Numbers::new(alloc);
         let entries = all_entries(alloc, &mut numbers, said)?;
-        let inherited = Inherited::new(alloc, lines, entries.as_slice())?;
+        let inherited = Inherited::new(alloc, ups, entries.as_slice())?;
         Ok(Nearest { numbers, inherited })
     }
 
-    /// What the first class of a class's line says of a member that says something of it. None where that isn't known:
-    /// the class's line is circular, or there is no such class; none inside where it says that there is none, or where
-    /// no class says anything.
-    pub fn find(&self, class: ClassId, signature: &Signature) -> Option<Option<u32>>
+    /// What the first class of a class's line says of a member that says something of it; none where it says that there
+    /// is none, where no class says anything, and past the end.
+    pub fn find(&self, class: ClassId, signature: &Signature) -> Option<u32>
         ensures { result ≡ known self.now class signature.now.name signature.now.descriptor }
     {
         match self.numbers.number(signature) {
             Some(number) => self.inherited.find(class, number),
-            None => Some(None),
+            None => None,
         }
     }
 
-    /// Whether it is known that a class inherits nothing at all.
+    /// Whether a class is known to inherit nothing at all.
     pub fn has_none(&self, class: ClassId) -> bool
-        ensures { result ≡ true → (name descriptor : List ℕ) → known self.now class name descriptor ≡ Some None }
+        ensures { result ≡ true → (name descriptor : List ℕ) → known self.now class name descriptor ≡ None }
     {
         self.inherited.has_none(class)
     }

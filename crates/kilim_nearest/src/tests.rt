@@ -1,4 +1,4 @@
-//! Three classes in a line, two in a circle, and one by itself.
+//! Three classes in a line, two in a circle, one by itself, and one below the circle.
 
 use crate::{Nearest, Said};
 use kilim_program::{ClassId, Seq, Units};
@@ -21,16 +21,12 @@ fn signature(alloc: Global, name: &[u8]) -> Result<Signature, Fail> {
     })
 }
 
-fn lines(alloc: Global, table: &[&[u32]]) -> Result<Seq<Seq<ClassId>>, Fail> {
-    let mut lines: Seq<Seq<ClassId>> = Seq::new(alloc);
-    for row in table {
-        let mut line: Seq<ClassId> = Seq::new(alloc);
-        for class in *row {
-            line.push(ClassId(*class))?;
-        }
-        lines.push(line)?;
+fn ups(alloc: Global, table: &[Option<u32>]) -> Result<Seq<Option<ClassId>>, Fail> {
+    let mut ups: Seq<Option<ClassId>> = Seq::new(alloc);
+    for up in table {
+        ups.push(up.map(ClassId))?;
     }
-    Ok(lines)
+    Ok(ups)
 }
 
 fn said(alloc: Global, table: &[&[(&[u8], Option<u32>)]]) -> Result<Seq<Seq<Said>>, Fail> {
@@ -48,9 +44,9 @@ fn said(alloc: Global, table: &[&[(&[u8], Option<u32>)]]) -> Result<Seq<Seq<Said
 }
 
 fn nearest(alloc: Global) -> Result<Nearest, Fail> {
-    let lines = lines(
+    let ups = ups(
         alloc,
-        &[&[0], &[1, 0], &[2, 1, 0], &[3, 4, 3], &[4, 3, 4], &[5]],
+        &[None, Some(0), Some(1), Some(4), Some(3), None, Some(4)],
     )?;
     let said = said(
         alloc,
@@ -61,23 +57,31 @@ fn nearest(alloc: Global) -> Result<Nearest, Fail> {
             &[(b"get", Some(12))],
             &[],
             &[(b"put", None)],
+            &[(b"put", Some(21))],
         ],
     )?;
-    Ok(Nearest::new(alloc, lines.as_slice(), said.as_slice())?)
+    if said.len() > ups.len() {
+        return Err("a class without a superclass".into());
+    }
+    Ok(Nearest::new(alloc, ups.as_slice(), said.as_slice())?)
 }
 
 // A class, a name, and what is found.
-const FOUND: [(u32, &[u8], Option<Option<u32>>); 10] = [
-    (0, b"get", Some(Some(10))),
-    (1, b"get", Some(Some(11))),
-    (2, b"get", Some(Some(11))),
-    (0, b"put", Some(Some(20))),
-    (1, b"put", Some(Some(20))),
-    (2, b"put", Some(None)),
-    (2, b"other", Some(None)),
-    (3, b"get", None),
-    (5, b"get", Some(None)),
-    (6, b"get", None),
+const FOUND: [(u32, &[u8], Option<u32>); 14] = [
+    (0, b"get", Some(10)),
+    (1, b"get", Some(11)),
+    (2, b"get", Some(11)),
+    (0, b"put", Some(20)),
+    (1, b"put", Some(20)),
+    (2, b"put", None),
+    (2, b"other", None),
+    (3, b"get", Some(12)),
+    (4, b"get", Some(12)),
+    (4, b"put", None),
+    (5, b"get", None),
+    (6, b"get", Some(12)),
+    (6, b"put", Some(21)),
+    (7, b"get", None),
 ];
 
 fn all_are_found(alloc: Global, nearest: &Nearest) -> Result<bool, Fail> {

@@ -1,5 +1,5 @@
 -- Lists that are made of the numbers below a bound.
-use Rattle.std.proofs.Common.{◌≡◌, ℕ, zero, suc, ◌+◌, ◌<◌, List, [], ◌∷◌, ◌++◌, length, Some, refl, ap, ◌∙◌, inl, inr, arith, length-append}
+use Rattle.std.proofs.Common.{◌≡◌, ℕ, zero, suc, ◌<◌, List, [], ◌∷◌, ◌++◌, length, Some, refl, ap, ◌∙◌, inl, inr, arith, length-append}
 use Rattle.std.specs.Prelude.{slice_get}
 use Rattle.std.proofs.lemmas.Bool.{cases_lt}
 use Rattle.kilim_world.specs.Agrees.{each_below}
@@ -28,6 +28,3 @@ module _ {A : Type 0} (make : ℕ → A) where
             let is : n ≡ k = omega arith in
             ap (slice_get (each_below make n ++ make n ∷ [])) at ∙ (get_last (each_below make n) (make n) ∙ ap (λ (i : ℕ). Some (make i)) is)
       ]
-
-  pub below_more : (n : ℕ) → each_below make (n + 1) ≡ each_below make n ++ make n ∷ []
-  below_more n = let next : n + 1 ≡ suc n = omega arith in ap (each_below make) next

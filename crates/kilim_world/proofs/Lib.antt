@@ -1,9 +1,9 @@
 mod Lists
 mod Outlines
 mod Below
-mod Finding
 mod Worlds
 mod Upward
+mod Climbing
 mod Counts
 mod Saying
 mod Marked

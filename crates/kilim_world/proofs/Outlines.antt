@@ -1,5 +1,5 @@
 -- The classes without their members: names, and places.
-use Rattle.std.proofs.Common.{◌≡◌, ℕ, zero, suc, ◌+◌, ◌<◌, Bool, true, false, cond, List, [], ◌∷◌, ◌++◌, length, take, map, Option, Some, None, refl, sym, ap, ◌∙◌, subst, arith}
+use Rattle.std.proofs.Common.{◌≡◌, ℕ, suc, ◌+◌, ◌<◌, Bool, true, false, cond, List, [], ◌∷◌, ◌++◌, length, take, map, Option, Some, None, refl, sym, ap, ◌∙◌, subst, arith}
 use Rattle.std.specs.Prelude.{option_map, slice_get, unwrap_or}
 use Rattle.std.specs.List.{position_from}
 use Rattle.std.specs.Str.{bytes_eq}
@@ -9,18 +9,16 @@ use Rattle.kilim_program.specs.declared.class.Form.{Form}
 use Rattle.kilim_program.specs.declared.class.Class.{Class}
 use Rattle.kilim_program.specs.declared.names.ClassId.{ClassId}
 use Rattle.kilim_program.specs.BuiltIn.{class_id}
-use Rattle.kilim_program.specs.Names.{◌>>=◌, class_at, class_from, class_named}
+use Rattle.kilim_program.specs.Names.{◌>>=◌, class_from, class_named}
 use Rattle.kilim_program.specs.Program.{Program}
 use Rattle.kilim_class_world.specs.declared.view.ClassView.{ClassView}
 use Rattle.kilim_class_world.specs.World.{number_of, outlined, outline_of, outline_with, is_message_by}
-use Rattle.kilim_program.specs.Keeps.{superclass_of}
 use Rattle.kilim_world.specs.declared.ids.Ids.{Ids}
 use Rattle.kilim_world.specs.Agrees.{each_below}
 use Rattle.kilim_world.specs.Ids.{id_in, named_in}
 use Rattle.kilim_world.specs.Outlining.{superclass_in, without_members, mark_at}
 use Rattle.kilim_world.proofs.Below.{get_below, length_below}
-use Rattle.kilim_world.proofs.Lists.{some_is, take_more}
-use Rattle.kilim_world.proofs.Finding.{position_below}
+use Rattle.kilim_world.proofs.Lists.{take_more}
 
 first_named : (found : Bool) (n : ℕ) (others : Option ClassId) (more : Option ℕ) → others ≡ option_map class_id more → cond found (Some (class_id n)) others ≡ option_map class_id (cond found (Some n) more)
 first_named true n others more e = refl
@@ -37,25 +35,6 @@ named_from all mark name n (v ∷ vs) =
 -- the class of a name is the first one that has it
 pub class_named_is : (form : Form) (classes : List ClassView) (outline : Program) (name : List ℕ) → outline ≡ outline_of form classes → class_named outline name ≡ option_map class_id (named_in name classes)
 class_named_is form classes outline name is = ap (λ (o : Program). class_named o name) is ∙ named_from classes (λ c v. is_message_by (outline_with form classes (λ d u. u.is_marked)) c) name 0 classes
-
--- ---- superclasses are there
-
-class_there : (o : Option ℕ) (count : ℕ) (up : ClassId) → ((k : ℕ) → o ≡ Some k → k < count) → option_map class_id o ≡ Some up → up.0 < count
-class_there None count up below e = absurd cc
-class_there (Some k) count up below e = subst (λ (c : ClassId). c.0 < count) (some_is (class_id k) up e) (below k refl)
-
-named_there : (all : List ClassView) (name : Option (List ℕ)) (up : ClassId) → (name >>= number_of all) ≡ Some up → up.0 < length all
-named_there all None up e = absurd cc
-named_there all (Some name) up e = class_there (position_from (λ v. bytes_eq v.name name) 0 all) (length all) up (λ k is. let lt = position_below (λ v. bytes_eq v.name name) 0 all k is in omega arith) e
-
-up_there : (all : List ClassView) (mark : ClassId → ClassView → Bool) (n : ℕ) (vs : List ClassView) (k : ℕ) (up : ClassId) → superclass_of (slice_get (outlined all mark n vs) k) ≡ Some up → up.0 < length all
-up_there all mark n [] k up e = absurd cc
-up_there all mark n (v ∷ vs) zero up e = named_there all v.superclass up e
-up_there all mark n (v ∷ vs) (suc k) up e = up_there all mark (n + 1) vs k up e
-
-pub superclass_there : (form : Form) (classes : List ClassView) (outline : Program) (c up : ClassId) → outline ≡ outline_of form classes → superclass_of (class_at outline c) ≡ Some up → up.0 < length classes
-superclass_there form classes outline c up is e =
-    up_there classes (λ d v. is_message_by (outline_with form classes (λ d u. u.is_marked)) d) 0 classes c.0 up (ap (λ (o : Program). superclass_of (class_at o c)) (sym is) ∙ e)
 
 pub length_outlined : (all : List ClassView) (mark : ClassId → ClassView → Bool) (n : ℕ) (vs : List ClassView) → length (outlined all mark n vs) ≡ length vs
 length_outlined all mark n [] = refl

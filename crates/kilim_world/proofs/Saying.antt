@@ -1,18 +1,16 @@
 -- What classes say of members, one by one.
 use Rattle.std.proofs.Common.{◌≡◌, ℕ, ◌+◌, Bool, true, false, List, [], ◌∷◌, ◌++◌, length, take, Option, Some, None, refl, sym, ap, ◌∙◌, inl, inr, arith}
-use Rattle.std.specs.Prelude.{if◌then◌else◌, option_map, slice_get, sum_by}
+use Rattle.std.specs.Prelude.{if◌then◌else◌, slice_get, sum_by}
 use Rattle.std.specs.List.{position_from}
 use Rattle.std.proofs.lemmas.Bool.{cases_lt}
 use Rattle.std.proofs.lemmas.Option.{slice_get_past, slice_get_within}
 use Rattle.std.proofs.lemmas.List.{length-append, length-take}
 use Rattle.std.proofs.lemmas.List.Sums.{sum_by-append, sum_by-cons}
-use Rattle.kilim_program.specs.declared.names.ClassId.{ClassId}
-use Rattle.kilim_inherited.specs.Inherited.{said_or}
-use Rattle.kilim_class_world.specs.World.{or_else, first_found}
+use Rattle.kilim_class_world.specs.World.{or_else}
 use Rattle.kilim_class_world.specs.declared.view.ClassView.{ClassView}
 use Rattle.kilim_signatures.specs.Index.{same_signature}
 use Rattle.kilim_nearest.specs.declared.said.Said.{Said}
-use Rattle.kilim_nearest.specs.Nearest.{said_by, said_of, says, nearest}
+use Rattle.kilim_nearest.specs.Nearest.{said_by, said_of}
 use Rattle.kilim_world.specs.Agrees.{placed}
 use Rattle.kilim_world.proofs.Below.{get_front, get_last}
 use Rattle.kilim_world.proofs.Lists.{take_more, position_next}
@@ -88,27 +86,6 @@ module _ {M : Type 0} (test : M → Bool) (members : Option ClassView → List M
       said (take i classes) of_class v same
       (one ∙ ap (λ (k : ℕ). place_in k (Some v)) (sym front)) before c
       ∙ ap (λ (vs : List ClassView). place_in c (slice_get vs c)) (sym (take_more classes i v is))
-
--- ---- the nearest class
-
-map_or_said : (o later : Option ℕ) → said_or (option_map (λ n. Some n) o) later ≡ or_else o later
-map_or_said None later = refl
-map_or_said (Some n) later = refl
-
-pub nearest_found : (said : List (List Said)) (name descriptor : List ℕ) (number : ClassId → Option ℕ) → ((c : ClassId) → says said name descriptor c ≡ option_map (λ n. Some n) (number c)) → (line : List ClassId) → nearest said name descriptor line ≡ first_found number line
-nearest_found said name descriptor number are [] = refl
-nearest_found said name descriptor number are (c ∷ line) =
-    ap (λ (o : Option (Option ℕ)). said_or o (nearest said name descriptor line)) (are c)
-    ∙ (map_or_said (number c) (nearest said name descriptor line)
-    ∙ ap (or_else (number c)) (nearest_found said name descriptor number are line))
-
-placed_is : (first : ℕ) (place : Option ℕ) → placed first place ≡ option_map (λ n. Some n) (option_map (λ k. first + k) place)
-placed_is first None = refl
-placed_is first (Some k) = refl
-
--- what a class says is the number that it has
-pub says_number : (o : Option (Option ℕ)) (first : ℕ) (place number : Option ℕ) → o ≡ placed first place → number ≡ option_map (λ k. first + k) place → o ≡ option_map (λ n. Some n) number
-says_number o first place number is has = is ∙ (placed_is first place ∙ ap (option_map (λ n. Some n)) (sym has))
 
 -- ---- lengths and totals
 

@@ -1,7 +1,5 @@
 -- Lines of classes, step by step.
-use Rattle.std.proofs.Common.{◌≡◌, ℕ, zero, suc, ◌-◌, ◌<◌, Bool, true, false, List, [], ◌∷◌, ◌++◌, Option, Some, None, refl, sym, ap, ◌∙◌, arith, append_assoc}
-use Rattle.std.specs.Prelude.{◌||◌}
-use Rattle.std.specs.List.{list_any}
+use Rattle.std.proofs.Common.{◌≡◌, ℕ, zero, suc, ◌-◌, ◌<◌, List, [], ◌∷◌, ◌++◌, Option, Some, None, refl, sym, ap, ◌∙◌, arith, append_assoc}
 use Rattle.kilim_program.specs.declared.class.Class.{Class}
 use Rattle.kilim_program.specs.declared.names.ClassId.{ClassId}
 use Rattle.kilim_program.specs.Keeps.{superclass_of}
@@ -16,7 +14,7 @@ up_is : (p : Program) (n : ℕ) (o : Option ClassId) → elim o [ None ↦ [] | 
 up_is p n None = refl
 up_is p n (Some up) = refl
 
-rest_is : (p : Program) (n : ℕ) (o : Option Class) → elim (o >>= λ (class : Class). class.superclass) [ None ↦ [] | Some up ↦ line_up_to p n up ] ≡ line_rest p n (superclass_of o)
+pub rest_is : (p : Program) (n : ℕ) (o : Option Class) → elim (o >>= λ (class : Class). class.superclass) [ None ↦ [] | Some up ↦ line_up_to p n up ] ≡ line_rest p n (superclass_of o)
 rest_is p n None = refl
 rest_is p n (Some class) = up_is p n class.superclass
 
@@ -27,25 +25,8 @@ line_more p (suc n) c lt =
     let less : n ≡ suc n - 1 = omega arith in
     ap (λ (ds : List ClassId). c ∷ ds) (rest_is p n (class_at p c) ∙ ap (λ (k : ℕ). line_rest p k (superclass_of (class_at p c))) less)
 
-module _ (p : Program) (left : ℕ) (at : ClassId) (some : 0 < left) where
-  module _ (test : ClassId → Bool) where
-    any_is : list_any test (line_up_to p left at) ≡ (test at || list_any test (line_rest p (left - 1) (superclass_of (class_at p at))))
-    any_is = ap (list_any test) (line_more p left at some)
-
-    pub any_here : test at ≡ true → list_any test (line_up_to p left at) ≡ true
-    any_here is = any_is ∙ rw is refl
-
-    pub any_up : (up : ClassId) → test at ≡ false → superclass_of (class_at p at) ≡ Some up → list_any test (line_up_to p (left - 1) up) ≡ list_any test (line_up_to p left at)
-    any_up up isnt is = sym (any_is ∙ (ap (λ (b : Bool). b || list_any test (line_rest p (left - 1) (superclass_of (class_at p at)))) isnt ∙ ap (λ (o : Option ClassId). list_any test (line_rest p (left - 1) o)) is))
-
-    pub none_up : test at ≡ false → superclass_of (class_at p at) ≡ None → list_any test (line_up_to p left at) ≡ false
-    none_up isnt is = any_is ∙ (ap (λ (b : Bool). b || list_any test (line_rest p (left - 1) (superclass_of (class_at p at)))) isnt ∙ ap (λ (o : Option ClassId). list_any test (line_rest p (left - 1) o)) is)
-
-  module _ (done : List ClassId) where
-    pub line_up : (up : ClassId) → superclass_of (class_at p at) ≡ Some up → (done ++ at ∷ []) ++ line_up_to p (left - 1) up ≡ done ++ line_up_to p left at
-    line_up up is =
-        append_assoc done (at ∷ []) (line_up_to p (left - 1) up)
-        ∙ ap (λ (ds : List ClassId). done ++ ds) (sym (line_more p left at some ∙ ap (λ (o : Option ClassId). at ∷ line_rest p (left - 1) o) is))
-
-    pub line_end : superclass_of (class_at p at) ≡ None → done ++ at ∷ [] ≡ done ++ line_up_to p left at
-    line_end is = ap (λ (ds : List ClassId). done ++ ds) (sym (line_more p left at some ∙ ap (λ (o : Option ClassId). at ∷ line_rest p (left - 1) o) is))
+module _ (p : Program) (left : ℕ) (at : ClassId) (some : 0 < left) (done : List ClassId) where
+  pub line_up : (up : ClassId) → superclass_of (class_at p at) ≡ Some up → (done ++ at ∷ []) ++ line_up_to p (left - 1) up ≡ done ++ line_up_to p left at
+  line_up up is =
+      append_assoc done (at ∷ []) (line_up_to p (left - 1) up)
+      ∙ ap (λ (ds : List ClassId). done ++ ds) (sym (line_more p left at some ∙ ap (λ (o : Option ClassId). at ∷ line_rest p (left - 1) o) is))

@@ -1,18 +1,21 @@
 -- What a world keeps beside its classes, so that names are looked up in maps.
-use Rattle.std.specs.Prelude.{◌≡◌, ℕ, zero, suc, ◌+◌, ◌<◌, ◌^◌, List, [], ◌∷◌, ◌++◌, length, take, sum_by, slice_get, option_map, Option, Some, None, IfSome}
+use Rattle.std.specs.Prelude.{◌≡◌, ℕ, zero, suc, ◌+◌, ◌<◌, ◌==◌, List, [], ◌∷◌, ◌++◌, length, take, sum_by, slice_get, option_map, Option, Some, None, is_some}
+use Rattle.std.specs.List.{list_any}
 use Rattle.kilim_program.specs.declared.class.Form.{Form}
 use Rattle.kilim_program.specs.declared.names.ClassId.{ClassId}
-use Rattle.kilim_program.specs.BuiltIn.{class_id}
+use Rattle.kilim_program.specs.BuiltIn.{method_id}
 use Rattle.kilim_program.specs.Names.{line_of}
 use Rattle.kilim_program.specs.Program.{Program}
-use Rattle.kilim_class_world.specs.World.{outline_of, methods_at, fields_at, is_method, is_field, first_found}
+use Rattle.kilim_class_world.specs.World.{outline_of, methods_at, is_method, field_id, find_method, find_field}
 use Rattle.kilim_class_world.specs.declared.view.ClassView.{ClassView}
-use Rattle.kilim_inherited.specs.Inherited.{line_at}
+use Rattle.kilim_inherited.specs.declared.inherited.Inherited.{Inherited}
+use Rattle.kilim_inherited.specs.Roots.{inherits}
 use Rattle.kilim_nearest.specs.declared.nearest.Nearest.{Nearest}
 use Rattle.kilim_nearest.specs.Known.{known}
 use Rattle.kilim_world.specs.declared.ids.Ids.{Ids}
 use Rattle.kilim_signatures.specs.declared.index.Index.{Index}
 use Rattle.kilim_world.specs.Ids.{id_in, named_in}
+use Rattle.kilim_world.specs.Superclasses.{AreSuperclasses}
 use Rattle.kilim_signatures.specs.Index.{positions, places_from}
 
 -- what is made of each number below a bound, in order
@@ -28,10 +31,6 @@ method_count v = length v.methods
 abbrev pub field_count : ClassView → ℕ
 field_count v = length v.fields
 
--- the line of each class
-abbrev pub lines_in : Program → ℕ → List (List ClassId)
-lines_in outline count = each_below (λ c. line_of outline (class_id c)) count
-
 -- the number of the first member of each class, and of one behind the last
 abbrev pub firsts_of : (ClassView → ℕ) → List ClassView → List ℕ
 firsts_of count classes = each_below (λ c. sum_by count (take c classes)) (length classes + 1)
@@ -45,31 +44,19 @@ places_at (Some index) name descriptor = positions index.places name descriptor
 abbrev pub indexed : List Index → ℕ → List ℕ → List ℕ → List ℕ
 indexed indices c name descriptor = places_at (slice_get indices c) name descriptor
 
--- a number behind a first one
-abbrev pub behind : Option ℕ → Option ℕ → Option ℕ
-behind (Some first) (Some place) = Some (first + place)
-behind _ _ = None
-
 -- the number of a member at a place of a class, where the class says something of it
 abbrev pub placed : ℕ → Option ℕ → Option (Option ℕ)
 placed first place = option_map (λ k. Some (first + k)) place
 
--- the number of a member in a class
-abbrev pub number_in : List Index → List ℕ → List ℕ → List ℕ → ClassId → Option ℕ
-number_in indices firsts name descriptor c = behind (slice_get firsts c.0) (slice_get (indexed indices c.0 name descriptor) 0)
-
--- Lines, names, and the places and first numbers of members agree with the classes, all numbers fit, and what is known
--- of nearest members is right.
-pub record Agrees (form : Form) (classes : List ClassView) (outline : Program) (ids : Ids) (lines : List (List ClassId)) (methods fields : List Index) (first_methods first_fields : List ℕ) (nearest_methods nearest_fields : Nearest) : Type 0 where
+-- Superclasses, names, and the places and first numbers of members agree with the classes, and what is known of
+-- lines and of nearest members is what is found by going up.
+pub record Agrees (form : Form) (classes : List ClassView) (outline : Program) (ids : Ids) (superclasses : List (Option ClassId)) (lineages : Inherited) (methods : List Index) (first_methods first_fields : List ℕ) (nearest_methods nearest_fields : Nearest) : Type 0 where
   pub outlined : outline ≡ outline_of form classes
   pub named : (name : List ℕ) → id_in ids.places name ≡ named_in name classes
-  pub lined : lines ≡ lines_in outline (length classes)
+  pub superclasses_are : AreSuperclasses outline superclasses
+  pub lineages_are : (c : ClassId) (k : ℕ) → k < length classes → is_some (inherits lineages c k) ≡ list_any (λ d. d.0 == k) (line_of outline c)
   pub methods_are : (c : ℕ) (name descriptor : List ℕ) → indexed methods c name descriptor ≡ places_from (is_method name descriptor) 0 (methods_at (slice_get classes c))
-  pub fields_are : (c : ℕ) (name descriptor : List ℕ) → indexed fields c name descriptor ≡ places_from (is_field name descriptor) 0 (fields_at (slice_get classes c))
   pub first_methods_are : first_methods ≡ firsts_of method_count classes
   pub first_fields_are : first_fields ≡ firsts_of field_count classes
-  pub nearest_methods_are : (c : ClassId) (name descriptor : List ℕ) → IfSome (known nearest_methods c name descriptor) (λ v. v ≡ first_found (number_in methods first_methods name descriptor) (line_at lines c))
-  pub nearest_fields_are : (c : ClassId) (name descriptor : List ℕ) → IfSome (known nearest_fields c name descriptor) (λ v. v ≡ first_found (number_in fields first_fields name descriptor) (line_at lines c))
-  pub classes_fit : length classes < 2 ^ 32
-  pub methods_fit : sum_by method_count classes < 2 ^ 32
-  pub fields_fit : sum_by field_count classes < 2 ^ 32
+  pub nearest_methods_are : (c : ClassId) (name descriptor : List ℕ) → option_map method_id (known nearest_methods c name descriptor) ≡ find_method (record { form = form; classes = classes; outline = outline }) c name descriptor
+  pub nearest_fields_are : (c : ClassId) (name descriptor : List ℕ) → option_map field_id (known nearest_fields c name descriptor) ≡ find_field (record { form = form; classes = classes; outline = outline }) c name descriptor

@@ -1,3 +1,4 @@
 pub mod Ids
+pub mod Superclasses
 pub mod Agrees
 pub mod Outlining

@@ -1,31 +1,14 @@
 //! What the classes of a world are.
 
-ghost use Rattle.std.specs.Prelude.{◌≡◌, ◌==◌, option_copied};
-ghost use Rattle.std.specs.List.{list_any};
+ghost use Rattle.std.specs.Prelude.{◌≡◌, option_copied};
 ghost use Rattle.kilim_program.specs.Names.{is_task};
 ghost use Rattle.kilim_program.specs.Kinds.{class_kind, kind_of, is_message, is_task_array, field_may_hold};
 ghost use Rattle.kilim_program.specs.Keeps.{superclass_fits, constant_fits};
-ghost use Rattle.kilim_class_world.specs.Faults.{is_circular};
 
 use crate::world::World;
 use kilim_program::{ClassId, Kind, Ty, Value};
 
-// Whether a class is among some.
-fn is_among(classes: &[ClassId], class: ClassId) -> bool
-    ensures { result ≡ list_any (λ d. d.0 == class.0) classes.now }
-{
-    classes.iter().any(|d| d.0 == class.0)
-}
-
 impl World {
-    /// Whether a class is its own ancestor (JVMS 5.3.5).
-    #[tactic(auto, unfolding(kilim_class_world::specs::Faults::is_circular))]
-    pub fn is_circular(&self, class: ClassId) -> bool
-        ensures { result ≡ is_circular self.now class }
-    {
-        is_among(self.ancestors(class), class)
-    }
-
     /// Whether a class is `kilim/Task` or a subclass of it (own).
     pub fn is_task(&self, class: ClassId) -> bool
         ensures { result ≡ is_task self.now.outline class }

@@ -4,7 +4,9 @@
 mod facts;
 mod ids;
 mod kinds;
+mod lineages;
 mod lines;
+mod marks;
 mod members;
 mod nearest;
 mod outline;

@@ -1,12 +1,23 @@
-//! Classes with all their superclasses.
+//! Superclasses: of each class, and all the way up.
 
-ghost use Rattle.std.specs.Prelude.{◌≡◌, ◌<◌, ◌^◌, IfOk, length};
+ghost use Rattle.std.specs.Prelude.{◌≡◌, IfOk, map};
 ghost use Rattle.kilim_program.specs.Names.{line_of};
-ghost use Rattle.kilim_world.specs.Agrees.{lines_in};
+ghost use Rattle.kilim_world.specs.Superclasses.{AreSuperclasses};
 
 use crate::outline::Outline;
-use kilim_program::{ClassId, NoMemory, Seq};
+use kilim_program::{Class, ClassId, NoMemory, Seq};
 use std::alloc::Global;
+
+/// The superclass of each class.
+pub fn superclasses_of(alloc: Global, classes: &[Class]) -> Result<Seq<Option<ClassId>>, NoMemory>
+    ensures { IfOk result (λ ups. ups ≡ map (λ class. class.superclass) classes.now) }
+{
+    let mut ups: Seq<Option<ClassId>> = Seq::new(alloc);
+    for class in classes {
+        ups.push(class.superclass)?;
+    }
+    Ok(ups)
+}
 
 impl Outline {
     /// A class, its superclass, and so on up, at most as many as there are classes.
@@ -27,18 +38,10 @@ impl Outline {
         Ok(line)
     }
 
-    /// The line of each class.
-    pub fn lines(&self, alloc: Global) -> Result<Seq<Seq<ClassId>>, NoMemory>
-        requires { length self.now.classes < 2 ^ 32 }
-        ensures { IfOk result (λ lines. lines ≡ lines_in self.now (length self.now.classes)) }
+    /// The superclass of each class.
+    pub fn superclasses(&self, alloc: Global) -> Result<Seq<Option<ClassId>>, NoMemory>
+        ensures { IfOk result (λ ups. AreSuperclasses self.now ups) }
     {
-        let count = self.classes.len();
-        let mut lines: Seq<Seq<ClassId>> = Seq::new(alloc);
-        let mut i: u32 = 0;
-        while (i as usize) < count {
-            lines.push(self.line(alloc, ClassId(i))?)?;
-            i += 1;
-        }
-        Ok(lines)
+        superclasses_of(alloc, self.classes.as_slice())
     }
 }

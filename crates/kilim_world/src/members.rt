@@ -1,11 +1,11 @@
-//! Where each class has its members, and the numbers of the first ones.
+//! Where each class has its methods, and the numbers of the first members.
 
 ghost use Rattle.std.specs.Prelude.{◌≡◌, ◌<◌, ◌^◌, List, ℕ, IfOk, length, slice_get, sum_by};
-ghost use Rattle.kilim_class_world.specs.World.{is_method, is_field, methods_at, fields_at};
+ghost use Rattle.kilim_class_world.specs.World.{is_method, methods_at};
 ghost use Rattle.kilim_world.specs.Agrees.{method_count, field_count, firsts_of, indexed};
 ghost use Rattle.kilim_signatures.specs.Index.{positions, places_from};
 
-use kilim_class_world::{ClassView, DeclaredField, DeclaredMethod};
+use kilim_class_world::{ClassView, DeclaredMethod};
 use kilim_program::{NoMemory, Seq};
 use kilim_signatures::{Index, Signature};
 use std::alloc::Global;
@@ -27,23 +27,6 @@ fn index_of_methods(alloc: Global, methods: &[DeclaredMethod]) -> Result<Index, 
     Ok(index)
 }
 
-// Where some fields stand.
-fn index_of_fields(alloc: Global, fields: &[DeclaredField]) -> Result<Index, NoMemory>
-    requires { length fields.now < 2 ^ 32 }
-    ensures { IfOk result (λ index. (name descriptor : List ℕ) → positions index.places name descriptor ≡ places_from (is_field name descriptor) 0 fields.now) }
-{
-    let mut index = Index::new(alloc);
-    let mut i: u32 = 0;
-    while (i as usize) < fields.len() {
-        let field = &fields[i as usize];
-        let name = field.name.clone()?;
-        let descriptor = field.descriptor.clone()?;
-        index.add(alloc, Signature { name, descriptor }, i)?;
-        i += 1;
-    }
-    Ok(index)
-}
-
 /// Where each class has its methods.
 pub fn method_indices(alloc: Global, classes: &[ClassView]) -> Result<Seq<Index>, NoMemory>
     requires { sum_by method_count classes.now < 2 ^ 32 }
@@ -53,20 +36,6 @@ pub fn method_indices(alloc: Global, classes: &[ClassView]) -> Result<Seq<Index>
     let mut i = 0;
     while i < classes.len() {
         indices.push(index_of_methods(alloc, classes[i].methods.as_slice())?)?;
-        i += 1;
-    }
-    Ok(indices)
-}
-
-/// Where each class has its fields.
-pub fn field_indices(alloc: Global, classes: &[ClassView]) -> Result<Seq<Index>, NoMemory>
-    requires { sum_by field_count classes.now < 2 ^ 32 }
-    ensures { IfOk result (λ indices. (c : ℕ) (name descriptor : List ℕ) → indexed indices c name descriptor ≡ places_from (is_field name descriptor) 0 (fields_at (slice_get classes.now c))) }
-{
-    let mut indices: Seq<Index> = Seq::new(alloc);
-    let mut i = 0;
-    while i < classes.len() {
-        indices.push(index_of_fields(alloc, classes[i].fields.as_slice())?)?;
         i += 1;
     }
     Ok(indices)

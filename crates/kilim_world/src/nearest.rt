@@ -61,7 +61,8 @@ fn fields_said(alloc: Global, fields: &[DeclaredField], first: u32) -> Result<Se
 /// What each class says of its methods: their numbers.
 pub fn all_methods_said(alloc: Global, classes: &[ClassView]) -> Result<Seq<Seq<Said>>, NoMemory>
     requires { sum_by method_count classes.now < 2 ^ 32 }
-    ensures { IfOk result (λ said. (c : ids.ClassId) (name descriptor : List ℕ) → says said name descriptor c ≡ placed (sum_by method_count (take c.0 classes.now)) (position_from (is_method name descriptor) 0 (methods_at (slice_get classes.now c.0)))) }
+    ensures counted { IfOk result (λ said. length said ≡ length classes.now) }
+    ensures said { IfOk result (λ said. (c : ids.ClassId) (name descriptor : List ℕ) → says said name descriptor c ≡ placed (sum_by method_count (take c.0 classes.now)) (position_from (is_method name descriptor) 0 (methods_at (slice_get classes.now c.0)))) }
 {
     let mut said: Seq<Seq<Said>> = Seq::new(alloc);
     let mut total: u32 = 0;
@@ -78,7 +79,8 @@ pub fn all_methods_said(alloc: Global, classes: &[ClassView]) -> Result<Seq<Seq<
 /// What each class says of its fields: their numbers.
 pub fn all_fields_said(alloc: Global, classes: &[ClassView]) -> Result<Seq<Seq<Said>>, NoMemory>
     requires { sum_by field_count classes.now < 2 ^ 32 }
-    ensures { IfOk result (λ said. (c : ids.ClassId) (name descriptor : List ℕ) → says said name descriptor c ≡ placed (sum_by field_count (take c.0 classes.now)) (position_from (is_field name descriptor) 0 (fields_at (slice_get classes.now c.0)))) }
+    ensures counted { IfOk result (λ said. length said ≡ length classes.now) }
+    ensures said { IfOk result (λ said. (c : ids.ClassId) (name descriptor : List ℕ) → says said name descriptor c ≡ placed (sum_by field_count (take c.0 classes.now)) (position_from (is_field name descriptor) 0 (fields_at (slice_get classes.now c.0)))) }
 {
     let mut said: Seq<Seq<Said>> = Seq::new(alloc);
     let mut total: u32 = 0;
@@ -92,13 +94,14 @@ pub fn all_fields_said(alloc: Global, classes: &[ClassView]) -> Result<Seq<Seq<S
     Ok(said)
 }
 
-/// What is known of the nearest classes, of the line of each class and of what each class says.
+/// What is known of the nearest classes, of the superclass of each class and of what each class says.
 pub fn nearest_of(
     alloc: Global,
-    lines: &Seq<Seq<ClassId>>,
+    ups: &Seq<Option<ClassId>>,
     said: &Seq<Seq<Said>>,
 ) -> Result<Nearest, NoMemory>
-    ensures { IfOk result (λ it. Tells it lines.now said.now) }
+    requires { length said.now ≤ length ups.now }
+    ensures { IfOk result (λ it. Tells it ups.now said.now) }
 {
-    Nearest::new(alloc, lines.as_slice(), said.as_slice())
+    Nearest::new(alloc, ups.as_slice(), said.as_slice())
 }

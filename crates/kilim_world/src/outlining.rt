@@ -1,18 +1,13 @@
 //! Classes without their members, from those that are declared.
 
 ghost use Rattle.std.specs.Prelude.{◌≡◌, ◌<◌, ◌^◌, List, ℕ, IfOk, length, map};
-ghost use Rattle.std.specs.List.{list_any};
-ghost use Rattle.kilim_program.specs.BuiltIn.{class_id};
-ghost use Rattle.kilim_program.specs.Kinds.{is_marked};
-ghost use Rattle.kilim_program.specs.Names.{class_at, line_up_to};
-ghost use Rattle.kilim_class_world.specs.World.{outlined, outline_with, outline_of, is_message_by};
-ghost use Rattle.kilim_world.specs.Agrees.{each_below};
+ghost use Rattle.kilim_class_world.specs.World.{outlined, outline_with, outline_of};
 ghost use Rattle.kilim_world.specs.Ids.{id_in, named_in};
 ghost use Rattle.kilim_world.specs.Outlining.{superclass_in, without_members, mark_at};
 
 use crate::ids::Ids;
 use crate::outline::Outline;
-use crate::tasks::task_marks;
+use crate::tasks::{message_marks, task_marks};
 use kilim_class_world::ClassView;
 use kilim_program::{Class, ClassId, Form, NoMemory, Seq, Units};
 use std::alloc::Global;
@@ -81,7 +76,7 @@ fn outline_with(
     ensures { IfOk result (λ outline. outline ≡ outline_with form classes.now (λ c v. mark_at marks.now c)) }
 {
     let classes = outlined(alloc, classes, ids, marks)?;
-    let tasks = task_marks(alloc, classes.as_slice(), form)?;
+    let tasks = task_marks(alloc, classes.as_slice())?;
     Ok(Outline {
         classes,
         form,
@@ -101,40 +96,6 @@ fn own_marks(alloc: Global, classes: &[ClassView]) -> Result<Seq<bool>, NoMemory
 }
 
 impl Outline {
-    // Whether a class, or one of its superclasses, is marked, among so many classes from it up.
-    fn is_marked_within(&self, class: ClassId, most: usize) -> bool
-        ensures { result ≡ list_any (λ d. is_marked (class_at self.now d)) (line_up_to self.now most class) }
-    {
-        let mut at = class;
-        let mut left = most;
-        while left > 0 {
-            if self.is_message(at) {
-                return true;
-            }
-            let Some(up) = self.superclass_of(at) else {
-                return false;
-            };
-            at = up;
-            left -= 1;
-        }
-        false
-    }
-
-    // Which classes are marked, themselves or by a superclass.
-    fn messages(&self, alloc: Global) -> Result<Seq<bool>, NoMemory>
-        requires { length self.now.classes < 2 ^ 32 }
-        ensures { IfOk result (λ marks. marks ≡ each_below (λ k. is_message_by self.now (class_id k)) (length self.now.classes)) }
-    {
-        let count = self.classes.len();
-        let mut marks: Seq<bool> = Seq::new(alloc);
-        let mut i: u32 = 0;
-        while (i as usize) < count {
-            marks.push(self.is_marked_within(ClassId(i), count))?;
-            i += 1;
-        }
-        Ok(marks)
-    }
-
     /// Of the classes that are declared: a superclass is there where its name is, and those are messages that are
     /// marked, themselves or by a superclass.
     pub fn new(
@@ -148,8 +109,8 @@ impl Outline {
         ensures { IfOk result (λ outline. outline ≡ outline_of form classes.now) }
     {
         let own = own_marks(alloc, classes)?;
-        let marked = outline_with(alloc, form, classes, ids, &own)?;
-        let marks = marked.messages(alloc)?;
+        let marked = outlined(alloc, classes, ids, &own)?;
+        let marks = message_marks(alloc, marked.as_slice())?;
         outline_with(alloc, form, classes, ids, &marks)
     }
 }

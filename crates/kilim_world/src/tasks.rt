@@ -1,57 +1,56 @@
-//! Which classes are tasks.
+//! Which classes are tasks, and which are messages.
 
-ghost use Rattle.std.specs.Prelude.{◌≡◌, ◌<◌, ◌^◌, IfOk, length, option_copied};
-ghost use Rattle.std.specs.List.{list_any};
+ghost use Rattle.std.specs.Prelude.{◌≡◌, ◌<◌, ◌^◌, IfOk, codes, length, map};
+ghost use Rattle.std.specs.Str.{bytes_eq};
+ghost use Rattle.kilim_program.specs.declared.class.Form.{Form};
 ghost use Rattle.kilim_program.specs.BuiltIn.{class_id};
-ghost use Rattle.kilim_program.specs.Names.{class_at, line_up_to, is_task, is_named_task};
+ghost use Rattle.kilim_program.specs.Names.{is_task};
+ghost use Rattle.kilim_class_world.specs.World.{is_message_by};
 ghost use Rattle.kilim_world.specs.Agrees.{each_below};
 ghost use Rattle.kilim_world.specs.Outlining.{bare, mark_at};
 
-use kilim_program::{Class, ClassId, Form, NoMemory, Seq};
+use crate::marks::inherited_marks;
+use kilim_program::{Class, ClassId, NoMemory, Seq};
 use std::alloc::Global;
 
-// The class of an id, none past the end.
-fn class_among(classes: &[Class], form: Form, class: ClassId) -> Option<&Class>
-    ensures { option_copied result ≡ class_at (bare classes.now form) class }
+// Which classes have the name `kilim/Task`.
+fn named_tasks(alloc: Global, classes: &[Class]) -> Result<Seq<bool>, NoMemory>
+    ensures { IfOk result (λ marks. marks ≡ map (λ class. bytes_eq class.name (codes "kilim/Task")) classes.now) }
 {
-    classes.get(class.0 as usize)
-}
-
-// Whether a class, or one of its superclasses, is `kilim/Task`, among so many classes from it up.
-fn is_task_within(classes: &[Class], form: Form, class: ClassId, most: usize) -> bool
-    ensures { result ≡ list_any (is_named_task (bare classes.now form)) (line_up_to (bare classes.now form) most class) }
-{
-    let mut at = class;
-    let mut left = most;
-    while left > 0 {
-        let Some(found) = class_among(classes, form, at) else {
-            return false;
-        };
-        if found.name.is_text(b"kilim/Task") {
-            return true;
-        }
-        let Some(up) = found.superclass else {
-            return false;
-        };
-        at = up;
-        left -= 1;
+    let mut marks: Seq<bool> = Seq::new(alloc);
+    for class in classes {
+        marks.push(class.name.is_text(b"kilim/Task"))?;
     }
-    false
+    Ok(marks)
 }
 
 /// Which classes are `kilim/Task` or a subclass of it (own).
-pub fn task_marks(alloc: Global, classes: &[Class], form: Form) -> Result<Seq<bool>, NoMemory>
+pub fn task_marks(alloc: Global, classes: &[Class]) -> Result<Seq<bool>, NoMemory>
     requires { length classes.now < 2 ^ 32 }
-    ensures { IfOk result (λ marks. marks ≡ each_below (λ k. is_task (bare classes.now form) (class_id k)) (length classes.now)) }
+    ensures { IfOk result (λ marks. (form : Form) → marks ≡ each_below (λ k. is_task (bare classes.now form) (class_id k)) (length classes.now)) }
 {
-    let count = classes.len();
+    let own = named_tasks(alloc, classes)?;
+    inherited_marks(alloc, classes, &own)
+}
+
+// Which classes are messages themselves.
+fn own_messages(alloc: Global, classes: &[Class]) -> Result<Seq<bool>, NoMemory>
+    ensures { IfOk result (λ marks. marks ≡ map (λ class. class.message) classes.now) }
+{
     let mut marks: Seq<bool> = Seq::new(alloc);
-    let mut i: u32 = 0;
-    while (i as usize) < count {
-        marks.push(is_task_within(classes, form, ClassId(i), count))?;
-        i += 1;
+    for class in classes {
+        marks.push(class.message)?;
     }
     Ok(marks)
+}
+
+/// Which classes are messages, themselves or by a superclass (own).
+pub fn message_marks(alloc: Global, classes: &[Class]) -> Result<Seq<bool>, NoMemory>
+    requires { length classes.now < 2 ^ 32 }
+    ensures { IfOk result (λ marks. (form : Form) → marks ≡ each_below (λ k. is_message_by (bare classes.now form) (class_id k)) (length classes.now)) }
+{
+    let own = own_messages(alloc, classes)?;
+    inherited_marks(alloc, classes, &own)
 }
 
 /// The mark of a class, none past the end.

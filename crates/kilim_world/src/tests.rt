@@ -154,15 +154,26 @@ fn numbers(line: &[ClassId], expected: &[u32]) -> bool {
     true
 }
 
-fn ancestors_are(w: &World, class: u32, expected: &[u32]) -> bool {
-    numbers(w.ancestors(ClassId(class)), expected)
+fn ancestors_are(alloc: Global, w: &World, class: u32, expected: &[u32]) -> Result<bool, Fail> {
+    let ancestors = w.ancestors(alloc, ClassId(class))?;
+    Ok(numbers(ancestors.as_slice(), expected))
 }
 
-fn line_is(w: &World, class: usize, expected: &[u32]) -> bool {
-    match w.lines().get(class) {
-        Some(line) => numbers(line.as_slice(), expected),
-        None => expected.is_empty(),
+// A class and its ancestors.
+const ANCESTORS: [(u32, &[u32]); 4] = [
+    (1, &[0, 6, 4]),
+    (3, &[3, 3, 3, 3, 3, 3, 3, 3]),
+    (4, &[]),
+    (8, &[]),
+];
+
+fn all_ancestors_are(alloc: Global, w: &World) -> Result<bool, Fail> {
+    for (class, expected) in ANCESTORS {
+        if !ancestors_are(alloc, w, class, expected)? {
+            return Ok(false);
+        }
     }
+    Ok(true)
 }
 
 fn class_is(alloc: Global, w: &World, name: &[u8], expected: Option<u32>) -> Result<bool, Fail> {
@@ -197,13 +208,9 @@ fn forms_are_kept(rt: HostRuntime) -> Result<(), Fail> {
 
 #[test]
 fn ancestors_are_found(rt: HostRuntime) -> Result<(), Fail> {
-    let w = world(rt.alloc(), Form::Plain)?;
-    assert!(rt; ancestors_are(&w, 1, &[0, 6, 4]));
-    assert!(rt; ancestors_are(&w, 3, &[3, 3, 3, 3, 3, 3, 3, 3]));
-    assert!(rt; ancestors_are(&w, 4, &[]));
-    assert!(rt; ancestors_are(&w, 8, &[]));
-    assert!(rt; line_is(&w, 1, &[1, 0, 6, 4]) && line_is(&w, 8, &[]));
-    assert!(rt; !w.is_circular(ClassId(1)) && w.is_circular(ClassId(3)));
+    let alloc = rt.alloc();
+    let w = world(alloc, Form::Plain)?;
+    assert!(rt; all_ancestors_are(alloc, &w)?);
     Ok(())
 }
 
@@ -243,6 +250,74 @@ fn methods_are_found(rt: HostRuntime) -> Result<(), Fail> {
     let w = world(alloc, Form::Woven)?;
     assert!(rt; methods_are_nearest(alloc, &w)?);
     assert!(rt; no_others_are_found(alloc, &w)?);
+    Ok(())
+}
+
+// 0 M and 1 kilim/Task are above each other, 2 D stands below them, and 3 E by itself.
+fn circle(alloc: Global) -> Result<World, Fail> {
+    let mut classes: Seq<ClassView> = Seq::new(alloc);
+    let task: &[u8] = b"kilim/Task";
+    add(alloc, &mut classes, (b"M", task), &[], &[(b"x", b"I")])?;
+    add(alloc, &mut classes, (task, b"M"), &[(b"get", b"()I")], &[])?;
+    add(alloc, &mut classes, (b"D", b"M"), &[], &[])?;
+    add(alloc, &mut classes, (b"E", b""), &[], &[])?;
+    small(alloc, Form::Plain, classes)
+}
+
+fn superclasses_are(w: &World, expected: &[Option<u32>]) -> bool {
+    let ups = w.superclasses();
+    if ups.len() != expected.len() {
+        return false;
+    }
+    for (i, up) in ups.iter().enumerate() {
+        if *up != expected[i].map(ClassId) {
+            return false;
+        }
+    }
+    true
+}
+
+fn are_circular(w: &World, table: &[bool]) -> bool {
+    for (i, is) in table.iter().enumerate() {
+        if i < 100 && w.is_circular(ClassId(i as u32)) != *is {
+            return false;
+        }
+    }
+    true
+}
+
+fn inherits_all(alloc: Global, w: &World, class: u32) -> Result<bool, Fail> {
+    Ok(
+        w.is_task(ClassId(class))
+            && w.is_message(ClassId(class))
+            && method_is(alloc, w, class, (b"get", b"()I"), Some(0))?
+            && field_is(alloc, w, class, (b"x", b"I"), Some(0))?,
+    )
+}
+
+#[test]
+fn circles_are_found(rt: HostRuntime) -> Result<(), Fail> {
+    let w = circle(rt.alloc())?;
+    assert!(rt; superclasses_are(&w, &[Some(1), Some(0), Some(0), None]));
+    assert!(rt; are_circular(&w, &[true, true, false, false, false]));
+    assert!(rt; !w.is_task(ClassId(3)) && !w.is_message(ClassId(3)));
+    Ok(())
+}
+
+fn first_three_inherit(alloc: Global, w: &World) -> Result<bool, Fail> {
+    for class in [0, 1, 2] {
+        if !inherits_all(alloc, w, class)? {
+            return Ok(false);
+        }
+    }
+    Ok(true)
+}
+
+#[test]
+fn circles_inherit(rt: HostRuntime) -> Result<(), Fail> {
+    let alloc = rt.alloc();
+    let w = circle(alloc)?;
+    assert!(rt; first_three_inherit(alloc, &w)?);
     Ok(())
 }
 

@@ -1,23 +1,23 @@
 //! The classes of some files and the built-in ones.
 
-ghost use Rattle.std.specs.Prelude.{◌≡◌, ◌<◌, ◌≤◌, ◌^◌, [], IfOk, length, option_copied, sum_by};
+ghost use Rattle.std.specs.Prelude.{◌≡◌, ◌<◌, ◌≤◌, ◌^◌, IfOk, length, option_copied, sum_by};
 ghost use Rattle.std.specs.List.{AllByRecursion};
 ghost use Rattle.kilim_classfile.specs.Text.{ClassFits};
+ghost use Rattle.kilim_class_world.specs.Faults.{is_circular};
 ghost use Rattle.kilim_class_world.specs.World.{world_of, world_with, class_of, view_at, declared_methods, first_method, first_field, is_method, find_method, find_field};
-ghost use Rattle.kilim_program.specs.declared.names.ClassId as ids;
-ghost use Rattle.kilim_program.specs.Names.{line_of};
-ghost use Rattle.kilim_inherited.specs.Inherited.{line_at};
 ghost use Rattle.kilim_program.specs.Keeps.{ancestors_of};
 ghost use Rattle.kilim_world.specs.Agrees.{method_count, field_count};
+ghost use Rattle.kilim_world.specs.Superclasses.{AreSuperclasses};
 ghost use Rattle.kilim_signatures.specs.Index.{places_from};
 
 use crate::ids::Ids;
 use crate::outline::Outline;
 use crate::parts::parts_of;
-use crate::search::{field_of, first_in, line_in, method_of, nearest_number, places_in};
+use crate::search::{field_of, first_in, method_of, places_in};
 use crate::views::views_of;
 use kilim_class_world::ClassView;
 use kilim_classfile::ClassFile;
+use kilim_inherited::Inherited;
 use kilim_nearest::Nearest;
 use kilim_program::{ClassId, FieldId, Form, MethodId, NoMemory, Seq, Units};
 use kilim_signatures::{Index, Signature};
@@ -33,11 +33,12 @@ pub struct World {
     classes: Seq<ClassView>,
     outline: Outline,
     ids: Ids,
-    // The line of each class: it, its superclass, and so on.
-    lines: Seq<Seq<ClassId>>,
-    // Where each class has its methods and its fields.
+    // The superclass of each class.
+    superclasses: Seq<Option<ClassId>>,
+    // Which classes stand in the lines of others.
+    lineages: Inherited,
+    // Where each class has its methods.
     methods: Seq<Index>,
-    fields: Seq<Index>,
     // The number of each class's first method and field, and of one behind the last.
     first_methods: Seq<u32>,
     first_fields: Seq<u32>,
@@ -55,7 +56,7 @@ impl Model for World {
 
     ghost view = { λ w. record { form = w.form; classes = w.classes; outline = w.outline } };
 
-    ghost invariant = { λ w. Agrees w.form w.classes w.outline w.ids w.lines w.methods w.fields w.first_methods w.first_fields w.nearest_methods w.nearest_fields };
+    ghost invariant = { λ w. Agrees w.form w.classes w.outline w.ids w.superclasses w.lineages w.methods w.first_methods w.first_fields w.nearest_methods w.nearest_fields };
 }
 
 impl World {
@@ -82,9 +83,9 @@ impl World {
             classes,
             outline: parts.outline,
             ids: parts.ids,
-            lines: parts.lines,
+            superclasses: parts.superclasses,
+            lineages: parts.lineages,
             methods: parts.methods,
-            fields: parts.fields,
             first_methods: parts.first_methods,
             first_fields: parts.first_fields,
             nearest_methods: parts.nearest_methods,
@@ -127,37 +128,33 @@ impl World {
         self.classes.as_slice()
     }
 
-    /// The line of each class: it, its superclass, and so on up.
-    pub fn lines(&self) -> &[Seq<ClassId>]
-        ensures { (c : ids.ClassId) → c.0 < length self.now.classes → line_at result.now c ≡ line_of self.now.outline c }
+    /// The superclass of each class.
+    pub fn superclasses(&self) -> &[Option<ClassId>]
+        ensures are { AreSuperclasses self.now.outline result.now }
+        ensures counted { length result.now ≡ length self.now.classes }
     {
-        self.lines.as_slice()
+        self.superclasses.as_slice()
     }
 
-    // The line of a class, none past the end.
-    fn line_there(&self, class: ClassId) -> &[ClassId]
-        ensures there { class.0 < length self.now.classes → result.now ≡ line_of self.now.outline class }
-        ensures past { length self.now.classes ≤ class.0 → result.now ≡ [] }
+    /// The superclass of a class, its superclass, and so on up, at most as many as there are classes: one that is its
+    /// own ancestor is met again. None past the end.
+    pub fn ancestors(&self, alloc: Global, class: ClassId) -> Result<Seq<ClassId>, NoMemory>
+        ensures { IfOk result (λ classes. classes ≡ ancestors_of self.now.outline class) }
     {
-        line_in(&self.lines, class)
+        match self.outline().superclass_of(class) {
+            Some(up) => self.outline().line(alloc, up),
+            None => Ok(Seq::new(alloc)),
+        }
     }
 
-    /// A class, its superclass, and so on up; one that is its own ancestor is met again, until there are as many as
-    /// there are classes.
-    pub fn line(&self, class: ClassId) -> &[ClassId]
-        requires { class.0 < length self.now.classes }
-        ensures { result.now ≡ line_of self.now.outline class }
+    /// Whether a class is its own ancestor (JVMS 5.3.5).
+    #[tactic(auto, unfolding(kilim_class_world::specs::Faults::is_circular))]
+    pub fn is_circular(&self, class: ClassId) -> bool
+        ensures { result ≡ is_circular self.now class }
     {
-        self.line_there(class)
-    }
-
-    /// The superclass of a class, its superclass, and so on up; none past the end.
-    pub fn ancestors(&self, class: ClassId) -> &[ClassId]
-        ensures { result.now ≡ ancestors_of self.now.outline class }
-    {
-        match self.outline.superclass_of(class) {
-            Some(up) => self.line_there(up),
-            None => &[],
+        match self.outline().superclass_of(class) {
+            Some(up) => self.lineages.find(up, class.0).is_some(),
+            None => false,
         }
     }
 
@@ -189,14 +186,7 @@ impl World {
     pub fn find_method(&self, class: ClassId, signature: &Signature) -> Option<MethodId>
         ensures { result ≡ find_method self.now class signature.now.name signature.now.descriptor }
     {
-        method_of(nearest_number(
-            &self.nearest_methods,
-            &self.methods,
-            &self.first_methods,
-            &self.lines,
-            class,
-            signature,
-        ))
+        method_of(self.nearest_methods.find(class, signature))
     }
 
     /// The field of that name and descriptor of a class, or of its nearest ancestor that has one (JVMS 5.4.3.2, own);
@@ -204,13 +194,6 @@ impl World {
     pub fn find_field(&self, class: ClassId, signature: &Signature) -> Option<FieldId>
         ensures { result ≡ find_field self.now class signature.now.name signature.now.descriptor }
     {
-        field_of(nearest_number(
-            &self.nearest_fields,
-            &self.fields,
-            &self.first_fields,
-            &self.lines,
-            class,
-            signature,
-        ))
+        field_of(self.nearest_fields.find(class, signature))
     }
 }

@@ -1,5 +1,7 @@
-use Rattle.kilim_inherited.proofs.Inheriting.{inherits_is}
+use Rattle.std.proofs.Common.{ℕ, subst, ◌∙◌}
+use Rattle.kilim_inherited.proofs.Inheriting.{is_right}
+use Rattle.kilim_inherited.specs.Roots.{MadeBelow}
 use Rattle.kilim_inherited.proofs.inherited.Inherited.new.Goals as goal
 
 pub returns : goal.returns
-returns c = λ d k fits. inherits_is (record { nodes = c.loop-line.nodes; roots = c.loop-line.roots }) c.args.lines.now c.args.entries.now c.loop-line.invariant d k fits
+returns c = is_right c.args.ups.now c.args.entries.now c.requires c.make_all.new.nodes c.make_all.new.roots c.in_ok-make_all.ensures.sound (subst (λ (n : ℕ). MadeBelow n c.make_all.new.roots) (c.in_ok-make_trees.ensures.kept.count ∙ c.in_ok-roots.ensures.count) c.in_ok-make_all.ensures.made)

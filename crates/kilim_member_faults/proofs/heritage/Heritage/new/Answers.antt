@@ -1,13 +1,22 @@
-use Rattle.std.proofs.Common.{List, ap, ◌∙◌, subst}
-use Rattle.kilim_nearest.specs.declared.said.Said.{Said}
-use Rattle.kilim_nearest.specs.Known.{Tells}
+use Rattle.std.proofs.Common.{ap, ◌∙◌}
 use Rattle.kilim_member_faults.specs.Heritage.{shared_from, left_by_class}
-use Rattle.kilim_member_faults.proofs.Telling.{inherits}
+use Rattle.kilim_member_faults.proofs.Telling.{shared_fits, left_fits, finds_shared, finds_left}
 use Rattle.kilim_member_faults.proofs.heritage.Heritage.new.Goals as goal
+
+pub new-requires : goal.new-requires
+new-requires c =
+    shared_fits c.as_slice.result.now c.superclasses-ups.result.now c.args.world.now.classes (c.as_slice.ensures ∙ (c.in_ok-shared_said.ensures ∙ ap (shared_from 0) c.classes.ensures)) c.superclasses-ups.ensures.counted
+
+pub new-requires-2 : goal.new-requires-2
+new-requires-2 c =
+    left_fits c.as_slice-2.result.now c.superclasses-ups.result.now c.args.world.now.classes (c.as_slice-2.ensures ∙ (c.in_ok-left_said.ensures ∙ ap left_by_class c.classes-2.ensures)) c.superclasses-ups.ensures.counted
 
 pub returns : goal.returns
 returns c =
-    let lines = c.lines-lines.result.now in
-    let shared = subst (λ (said : List (List Said)). Tells c.in_ok-shared.shared lines said) (c.as_slice.ensures ∙ (c.in_ok-shared_said.ensures ∙ ap (shared_from 0) c.classes.ensures)) c.in_ok-shared.ensures in
-    let left = subst (λ (said : List (List Said)). Tells c.in_ok-left.left lines said) (c.as_slice-2.ensures ∙ (c.in_ok-left_said.ensures ∙ ap left_by_class c.classes-2.ensures)) c.in_ok-left.ensures in
-    inherits c.args.world.now (record { shared = c.in_ok-shared.shared; left = c.in_ok-left.left }) lines c.lines-lines.ensures shared left
+    let w = c.args.world.now in
+    let ups = c.superclasses-ups.result.now in
+    let are = c.superclasses-ups.ensures.are in
+    record {
+      shared = finds_shared w c.in_ok-shared.shared ups c.as_slice.result.now are.up_is are.line_is c.in_ok-shared.ensures (c.as_slice.ensures ∙ (c.in_ok-shared_said.ensures ∙ ap (shared_from 0) c.classes.ensures));
+      left = finds_left w c.in_ok-left.left ups c.as_slice-2.result.now are.up_is are.line_is c.in_ok-left.ensures (c.as_slice-2.ensures ∙ (c.in_ok-left_said.ensures ∙ ap left_by_class c.classes-2.ensures));
+    }

@@ -1,17 +1,31 @@
-use Rattle.std.proofs.Common.{◌≡◌, List, subst}
-use Rattle.std.specs.Prelude.{IfSome}
+use Rattle.std.proofs.Common.{List, length, ap, subst, arith}
 use Rattle.kilim_inherited.specs.declared.entry.Entry.{Entry}
-use Rattle.kilim_inherited.specs.Inherited.{inherited, line_at}
-use Rattle.kilim_inherited.specs.Roots.{inherits}
+use Rattle.kilim_inherited.specs.Roots.{inherits, IsRight}
 use Rattle.kilim_signatures.specs.Numbers.{number_at}
-use Rattle.kilim_nearest.proofs.Telling.{told_is}
+use Rattle.kilim_nearest.proofs.Growing.{keyed_length}
+use Rattle.kilim_nearest.proofs.Telling.{nearest_told, one_told}
 use Rattle.kilim_nearest.proofs.nearest.Nearest.new.Goals as goal
 
+pub new-requires : goal.new-requires
+new-requires c =
+    let same = keyed_length (number_at c.all_entries.new.numbers.places) c.args.said.now c.in_ok-entries.entries c.in_ok-entries.ensures.keyed in
+    let listed = ap (λ (ess : List (List Entry)). length ess) c.as_slice.ensures in
+    let few = c.requires in
+    omega arith
+
 pub returns : goal.returns
-returns c = λ d name descriptor.
+returns c =
     let numbers = c.all_entries.new.numbers in
-    let line = line_at c.args.lines.now d in
-    told_is (number_at numbers.places) numbers.next (inherits c.in_ok-inherited.inherited d) c.args.said.now c.in_ok-entries.entries line
-    c.in_ok-entries.ensures.numbered.apart c.in_ok-entries.ensures.numbered.below c.in_ok-entries.ensures.numbered.fits c.in_ok-entries.ensures.keyed
-    (λ k lt. subst (λ (es : List (List Entry)). IfSome (inherits c.in_ok-inherited.inherited d k) (λ v. v ≡ inherited es k line)) c.as_slice.ensures (c.in_ok-inherited.ensures d k lt))
-    name descriptor
+    let it = c.in_ok-inherited.inherited in
+    let ups = c.args.ups.now in
+    let ess = c.in_ok-entries.entries in
+    let numbered = c.in_ok-entries.ensures.numbered in
+    let right = subst (λ (es : List (List Entry)). IsRight ups es it) c.as_slice.ensures c.in_ok-inherited.ensures in
+    record {
+      nearest_is = λ d name descriptor.
+          nearest_told (number_at numbers.places) numbers.next (inherits it) c.args.said.now ess ups numbered.apart numbered.below numbered.fits c.in_ok-entries.ensures.keyed name descriptor d
+          (right.inherited_is d);
+      by_one = λ d name descriptor.
+          one_told (number_at numbers.places) numbers.next (inherits it) c.args.said.now ess ups numbered.apart numbered.below numbered.fits c.in_ok-entries.ensures.keyed name descriptor d
+          (right.by_one d);
+    }

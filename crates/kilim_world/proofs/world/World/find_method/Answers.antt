@@ -1,37 +1,14 @@
-use Rattle.std.proofs.Common.{◌<◌, ◌≤◌, length, sym, ap, ◌∙◌, subst, inl, inr}
+use Rattle.std.proofs.Common.{ap, ◌∙◌}
 use Rattle.std.specs.Prelude.{option_map}
-use Rattle.std.proofs.lemmas.Bool.{cases_lt}
 use Rattle.kilim_program.specs.BuiltIn.{method_id}
-use Rattle.kilim_program.specs.Names.{line_of}
-use Rattle.kilim_inherited.specs.Inherited.{line_at}
-use Rattle.kilim_class_world.specs.World.{first_found, find_method, method_in}
-use Rattle.kilim_world.proofs.Worlds.{seen, line_is, no_line, method_fits, method_found, no_method}
+use Rattle.kilim_class_world.specs.World.{find_method}
 use Rattle.kilim_world.proofs.world.World.find_method.Goals as goal
-
-pub nearest_number-requires-clause-fits : goal.nearest_number-requires-clause-fits
-nearest_number-requires-clause-fits c = λ d. method_fits c.self.inside c.self.invariant c.args.signature.now.name c.args.signature.now.descriptor d
-
-pub nearest_number-requires-clause-told : goal.nearest_number-requires-clause-told
-nearest_number-requires-clause-told c = c.self.invariant.nearest_methods_are c.args.class c.args.signature.now.name c.args.signature.now.descriptor
 
 pub returns : goal.returns
 returns c =
-    let w = c.self.inside in
-    let class = c.args.class in
     let name = c.args.signature.now.name in
     let descriptor = c.args.signature.now.descriptor in
-    let found = c.method_of.ensures ∙ (ap (option_map method_id) c.nearest_number.ensures ∙ method_found w c.self.invariant name descriptor (line_at w.lines class)) in
-    elim (cases_lt class.0 (length c.args.self.now.classes)) [
-      | inl within ↦
-          let there = line_is w.outline w.lines (length w.classes) class c.self.invariant.lined (subst (λ v. class.0 < length v.classes) (sym c.self.view_is) within) in
-          found
-          ∙ (ap (first_found (method_in (seen w c.self.invariant) name descriptor)) there
-          ∙ ap (λ v. first_found (method_in v name descriptor) (line_of v.outline class)) c.self.view_is)
-      | inr past ↦
-          let beyond = subst (λ v. length v.classes ≤ class.0) (sym c.self.view_is) past in
-          let nothing = no_line w.outline w.lines (length w.classes) class c.self.invariant.lined beyond in
-          found
-          ∙ (ap (first_found (method_in (seen w c.self.invariant) name descriptor)) nothing
-          ∙ (sym (no_method w c.self.invariant name descriptor class beyond)
-          ∙ ap (λ v. find_method v class name descriptor) c.self.view_is))
-    ]
+    c.method_of.ensures
+    ∙ (ap (option_map method_id) c.find.ensures
+    ∙ (c.self.invariant.nearest_methods_are c.args.class name descriptor
+    ∙ ap (λ v. find_method v c.args.class name descriptor) c.self.view_is))

@@ -1,0 +1,67 @@
+//! The order in which trees are made.
+
+use crate::class_trees::superclass_in;
+use kilim_program::{ClassId, NoMemory, Seq};
+use std::alloc::Global;
+
+/// Whether a class is seen for the first time; never past the end.
+fn is_new(seen: &mut Vec<bool>, class: ClassId) -> bool {
+    let place = class.0 as usize;
+    if place >= seen.len() || seen[place] {
+        return false;
+    }
+    seen[place] = true;
+    true
+}
+
+// A class, its superclass, and so on up to the first one that was seen.
+fn unseen_line(
+    alloc: Global,
+    ups: &[Option<ClassId>],
+    class: ClassId,
+    seen: &mut Vec<bool>,
+) -> Result<Seq<ClassId>, NoMemory> {
+    let mut line: Seq<ClassId> = Seq::new(alloc);
+    let mut at = class;
+    let mut left = ups.len();
+    while left > 0 {
+        left -= 1;
+        if !is_new(seen, at) {
+            return Ok(line);
+        }
+        line.push(at)?;
+        let Some(up) = superclass_in(ups, at) else {
+            return Ok(line);
+        };
+        at = up;
+    }
+    Ok(line)
+}
+
+fn add_back(order: &mut Seq<ClassId>, line: &[ClassId]) -> Result<(), NoMemory> {
+    let mut left = line.len();
+    while left > 0 {
+        left -= 1;
+        order.push(line[left])?;
+    }
+    Ok(())
+}
+
+/// Each class once, behind its superclass; in a circle the one that the order begins with is behind its superclass last.
+/// No answer hangs on the order, only time: where a class's tree is made behind its superclass's, it has its own
+/// entries put onto that.
+pub fn superclasses_first(
+    alloc: Global,
+    ups: &[Option<ClassId>],
+) -> Result<Seq<ClassId>, NoMemory> {
+    let mut seen: Vec<bool> = vec![in alloc; false; ups.len()]?;
+    let mut order: Seq<ClassId> = Seq::new(alloc);
+    for place in 0..ups.len() {
+        let Ok(number) = u32::try_from(place) else {
+            return Ok(order);
+        };
+        let line = unseen_line(alloc, ups, ClassId(number), &mut seen)?;
+        add_back(&mut order, line.as_slice())?;
+    }
+    Ok(order)
+}

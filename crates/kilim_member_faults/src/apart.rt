@@ -1,0 +1,103 @@
+//! Methods that differ from the nearest one that they override, each by one comparison.
+
+ghost use Rattle.std.specs.Prelude.{◌≡◌, ◌<◌, ◌^◌, Some, false, IfOk, length};
+ghost use Rattle.kilim_class_world.specs.Qualified.{is_constructor_name};
+ghost use Rattle.kilim_member_faults.specs.Apart.{differs_nearest, is_apart, says_apart, apart_from};
+ghost use Rattle.kilim_member_faults.specs.Heritage.{Finds, Inherits, sayings};
+
+use crate::heritage::{Heritage, saying};
+use crate::overrides::differs_in;
+use crate::signature::signature_of;
+use kilim_class_world::{ClassView, DeclaredMethod};
+use kilim_nearest::{Nearest, Said};
+use kilim_program::{ClassId, NoMemory, Seq};
+use kilim_world::World;
+use std::alloc::Global;
+
+// Whether a method differs from one of the nearest ancestor that declares one that it overrides.
+fn differs_nearest(
+    alloc: Global,
+    world: &World,
+    heritage: &Heritage,
+    class: ClassId,
+    method: &DeclaredMethod,
+) -> Result<bool, NoMemory>
+    requires { Inherits world.now heritage.now }
+    ensures { IfOk result (λ apart. apart ≡ differs_nearest world.now class method.now) }
+{
+    let signature = signature_of(&method.name, &method.descriptor)?;
+    match heritage.nearest_shared(world, class, &signature) {
+        Some(nearest) => differs_in(alloc, world, class, method, &signature, nearest),
+        None => Ok(false),
+    }
+}
+
+// The same of a method that overrides: constructors and private ones override nothing.
+fn is_apart(
+    alloc: Global,
+    world: &World,
+    heritage: &Heritage,
+    class: ClassId,
+    method: &DeclaredMethod,
+) -> Result<bool, NoMemory>
+    requires { Inherits world.now heritage.now }
+    ensures { IfOk result (λ apart. apart ≡ is_apart world.now class method.now) }
+{
+    if method.name.is_text(b"<init>") {
+        return Ok(false);
+    }
+    if method.is_private {
+        return Ok(false);
+    }
+    differs_nearest(alloc, world, heritage, class, method)
+}
+
+// Says 0 of each such method of a class.
+fn apart_said(
+    alloc: Global,
+    world: &World,
+    heritage: &Heritage,
+    class: ClassId,
+    methods: &[DeclaredMethod],
+) -> Result<Seq<Said>, NoMemory>
+    requires { Inherits world.now heritage.now }
+    ensures { IfOk result (λ said. said ≡ sayings (is_apart world.now class) (Some 0) methods.now) }
+{
+    let mut said: Seq<Said> = Seq::new(alloc);
+    for method in methods {
+        if is_apart(alloc, world, heritage, class, method)? {
+            said.push(saying(method, Some(0))?)?;
+        }
+    }
+    Ok(said)
+}
+
+fn all_apart_said(
+    alloc: Global,
+    world: &World,
+    heritage: &Heritage,
+    classes: &[ClassView],
+) -> Result<Seq<Seq<Said>>, NoMemory>
+    requires few { length classes.now < 2 ^ 32 }
+    requires inherits { Inherits world.now heritage.now }
+    ensures { IfOk result (λ said. said ≡ apart_from world.now 0 classes.now) }
+{
+    let mut said: Seq<Seq<Said>> = Seq::new(alloc);
+    let mut i: u32 = 0;
+    while (i as usize) < classes.len() {
+        let methods = classes[i as usize].methods.as_slice();
+        said.push(apart_said(alloc, world, heritage, ClassId(i), methods)?)?;
+        i += 1;
+    }
+    Ok(said)
+}
+
+/// Where each class inherits a method that differs from the nearest one that it overrides.
+pub fn apart_of(alloc: Global, world: &World, heritage: &Heritage) -> Result<Nearest, NoMemory>
+    requires few { length world.now.classes < 2 ^ 32 }
+    requires inherits { Inherits world.now heritage.now }
+    ensures { IfOk result (λ it. Finds world.now it (says_apart world.now)) }
+{
+    let said = all_apart_said(alloc, world, heritage, world.classes())?;
+    Nearest::new(alloc, world.superclasses(), said.as_slice())
+}
