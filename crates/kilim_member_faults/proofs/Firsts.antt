@@ -4,7 +4,8 @@ use Rattle.std.specs.List.{flat_map, list_any}
 use Rattle.std.proofs.lemmas.List.{append-nil}
 use Rattle.std.proofs.lemmas.Grind.{flat_map-append}
 use Rattle.kilim_class_world.specs.Linked.{first_of}
-use Rattle.kilim_member_faults.proofs.Truth.{none_here, none_later}
+use Rattle.kilim_member_faults.specs.Parts.{is_so}
+use Rattle.kilim_member_faults.proofs.Truth.{cases, none_here, none_later, none_of_two}
 
 pub drop_at : {A : Type 0} (xs : List A) (i : ℕ) (x : A) → i < length xs → x ≡ get_or xs i x → drop i xs ≡ x ∷ drop (i + 1) xs
 drop_at xs i x lt is =
@@ -43,3 +44,18 @@ pub first_behind : {A : Type 0} (test : A → Bool) (xs : List A) (x : A) (ys : 
 first_behind test [] x ys none is = first_is test x ys is
 first_behind test (z ∷ zs) x ys none is =
     first_isnt test z (zs ++ x ∷ ys) (none_here (test z) (list_any test zs) none) ∙ first_behind test zs x ys (none_later (test z) (list_any test zs) none) is
+
+-- where none passes another test, neither does the first
+pub first_passes : {A : Type 0} (test bad : A → Bool) (xs : List A) → list_any bad xs ≡ false → is_so bad (first_of (filter test xs)) ≡ false
+first_passes test bad [] none = refl
+first_passes test bad (x ∷ xs) none =
+    cases (test x)
+    (λ is. rw is (none_here (bad x) (list_any bad xs) none))
+    (λ isnt. rw isnt (first_passes test bad xs (none_later (bad x) (list_any bad xs) none)))
+
+pub first_isnt_there : {A : Type 0} (test : A → Bool) (xs : List A) → first_of (filter test xs) ≡ None → list_any test xs ≡ false
+first_isnt_there test [] none = refl
+first_isnt_there test (x ∷ xs) none =
+    cases (test x)
+    (λ is. absurd (let wrong : Some x ≡ None = sym (first_is test x xs is) ∙ none in cc))
+    (λ isnt. none_of_two (test x) (list_any test xs) isnt (first_isnt_there test xs (sym (first_isnt test x xs isnt) ∙ none)))

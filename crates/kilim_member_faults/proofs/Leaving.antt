@@ -15,7 +15,7 @@ use Rattle.kilim_class_world.specs.World.{World, declared_methods, is_method}
 use Rattle.kilim_inherited.specs.Inherited.{said_or}
 use Rattle.kilim_nearest.specs.Known.{known}
 use Rattle.kilim_member_faults.specs.declared.heritage.Heritage.{Heritage}
-use Rattle.kilim_member_faults.specs.Parts.{stands_in, is_nearer, is_left_over, is_class, StandsBehind}
+use Rattle.kilim_member_faults.specs.Parts.{shared_as, stands_in, is_nearer, is_left_over, is_class, StandsBehind}
 use Rattle.kilim_member_faults.specs.Heritage.{Inherits, is_shared_abstract, asks_for, left_in, first_shared}
 use Rattle.kilim_member_faults.proofs.Firsts.{drop_at, first_behind}
 use Rattle.kilim_member_faults.proofs.Places.{nearer_is}
@@ -23,9 +23,6 @@ use Rattle.kilim_member_faults.proofs.Truth.{cases, some_of_contained}
 use Rattle.kilim_member_faults.proofs.Unmarked.{both_true}
 
 -- ---- the methods of a class
-
-abbrev shared_as : List ℕ → List ℕ → DeclaredMethod → Bool
-shared_as name descriptor o = not o.is_private && is_method name descriptor o
 
 abbrev asked_as : List ℕ → List ℕ → DeclaredMethod → Bool
 asked_as name descriptor o = is_shared_abstract o && is_method name descriptor o

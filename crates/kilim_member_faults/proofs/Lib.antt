@@ -1,6 +1,7 @@
 pub mod Firsts
 pub mod Agreeing
 pub mod Places
+pub mod Placing
 pub mod Unmarked
 pub mod Leaving
 pub mod Telling

@@ -12,7 +12,7 @@ use Rattle.kilim_class_world.specs.Qualified.{qualified}
 use Rattle.kilim_class_world.specs.declared.named.Qualified.{Qualified}
 use Rattle.kilim_class_world.specs.World.{World, is_method, declared_methods}
 use Rattle.kilim_class_world.specs.declared.view.DeclaredMethod.{DeclaredMethod}
-use Rattle.kilim_member_faults.specs.Parts.{differs_in}
+use Rattle.kilim_member_faults.specs.Parts.{alike, differs_in}
 use Rattle.kilim_member_faults.proofs.Unmarked.{both_true, first_of_both, second_of_both, same_texts}
 use Rattle.kilim_member_faults.proofs.Truth.{none_of_less}
 
@@ -53,6 +53,57 @@ qualified_pass : (a b c : Qualified) → same_qualified a b ≡ true → same_qu
 qualified_pass a b c e f =
     both_pass (same_qualifier a.receiver b.receiver) (same_qualifiers a.params b.params) (same_qualifier b.receiver c.receiver) (same_qualifiers b.params c.params) (same_qualifier a.receiver c.receiver) (same_qualifiers a.params c.params)
     (qualifier_passes a.receiver b.receiver c.receiver) (qualifiers_pass a.params b.params c.params) e f
+
+-- ---- the other way
+
+flags_turn : (a b c : Bool) → same_flag a b ≡ true → same_flag c b ≡ true → same_flag a c ≡ true
+flags_turn true true true e f = f
+flags_turn true true false e f = absurd cc
+flags_turn true false c e f = absurd cc
+flags_turn false true c e f = absurd cc
+flags_turn false false true e f = absurd cc
+flags_turn false false false e f = f
+
+both_turn : (a b c d : Bool) → (a ≡ true → c ≡ true) → (b ≡ true → d ≡ true) → (a && b) ≡ true → (c && d) ≡ true
+both_turn a b c d one two e = both_true c d (one (first_of_both a b e)) (two (second_of_both a b e))
+
+qualifier_turns : (a b : Qualifier) → same_qualifier a b ≡ true → same_qualifier b a ≡ true
+qualifier_turns a b e = ap (same_qualifier b) (qualifier_is a b e) ∙ (ap (λ q. same_qualifier q b) (sym (qualifier_is a b e)) ∙ e)
+
+qualifiers_turn : (xs ys : List Qualifier) → same_qualifiers xs ys ≡ true → same_qualifiers ys xs ≡ true
+qualifiers_turn [] [] e = e
+qualifiers_turn [] (y ∷ ys) e = absurd cc
+qualifiers_turn (x ∷ xs) [] e = absurd cc
+qualifiers_turn (x ∷ xs) (y ∷ ys) e =
+    both_turn (same_qualifier x y) (same_qualifiers xs ys) (same_qualifier y x) (same_qualifiers ys xs) (qualifier_turns x y) (qualifiers_turn xs ys) e
+
+qualified_turns : (a b : Qualified) → same_qualified a b ≡ true → same_qualified b a ≡ true
+qualified_turns a b e =
+    both_turn (same_qualifier a.receiver b.receiver) (same_qualifiers a.params b.params) (same_qualifier b.receiver a.receiver) (same_qualifiers b.params a.params)
+    (qualifier_turns a.receiver b.receiver) (qualifiers_turn a.params b.params) e
+
+not_final : (other final : Bool) → not other ≡ true → same_flag final other ≡ true → not final ≡ true
+not_final true final e f = absurd cc
+not_final false true e f = absurd cc
+not_final false false e f = refl
+
+-- what agrees with one of two that are alike agrees with the other
+pub agrees_alike : (w : World) (c : ClassId) (m : DeclaredMethod) (d : ClassId) (x o : DeclaredMethod) → agrees w c m d x ≡ true → alike w d o x ≡ true → agrees w c m d o ≡ true
+agrees_alike w c m d x o =
+    let q = λ (e : same_qualified (qualified w c m) (qualified w d x) ≡ true) (f : same_qualified (qualified w d o) (qualified w d x) ≡ true).
+    qualified_pass (qualified w c m) (qualified w d x) (qualified w d o) e (qualified_turns (qualified w d o) (qualified w d x) f) in
+    both_pass (same_flag m.pausable x.pausable) (same_flag m.is_static x.is_static && (not x.is_final && same_qualified (qualified w c m) (qualified w d x)))
+    (same_flag o.pausable x.pausable) (same_flag o.is_static x.is_static && (same_flag o.is_final x.is_final && same_qualified (qualified w d o) (qualified w d x)))
+    (same_flag m.pausable o.pausable) (same_flag m.is_static o.is_static && (not o.is_final && same_qualified (qualified w c m) (qualified w d o)))
+    (flags_turn m.pausable x.pausable o.pausable)
+    (both_pass (same_flag m.is_static x.is_static) (not x.is_final && same_qualified (qualified w c m) (qualified w d x))
+    (same_flag o.is_static x.is_static) (same_flag o.is_final x.is_final && same_qualified (qualified w d o) (qualified w d x))
+    (same_flag m.is_static o.is_static) (not o.is_final && same_qualified (qualified w c m) (qualified w d o))
+    (flags_turn m.is_static x.is_static o.is_static)
+    (both_pass (not x.is_final) (same_qualified (qualified w c m) (qualified w d x))
+    (same_flag o.is_final x.is_final) (same_qualified (qualified w d o) (qualified w d x))
+    (not o.is_final) (same_qualified (qualified w c m) (qualified w d o))
+    (not_final x.is_final o.is_final) q))
 
 kept : (private named a b : Bool) → (a ≡ true → b ≡ true) → (private && (named && not a)) ≡ false → (private && (named && not b)) ≡ false
 kept false named a b f e = refl

@@ -16,7 +16,7 @@ use Rattle.kilim_member_faults.specs.Parts.{is_so, passes_at, other_differs, dif
 use Rattle.kilim_member_faults.proofs.Agreeing.{swapped, turned}
 use Rattle.kilim_member_faults.proofs.Firsts.{drop_at, flat_map_at, here, later}
 
-there : {A : Type 0} (before : List A) (x : A) (xs : List A) → slice_get (before ++ x ∷ xs) (length before) ≡ Some x
+pub there : {A : Type 0} (before : List A) (x : A) (xs : List A) → slice_get (before ++ x ∷ xs) (length before) ≡ Some x
 there [] x xs = refl
 there (y ∷ ys) x xs = there ys x xs
 

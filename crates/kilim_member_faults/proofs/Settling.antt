@@ -1,6 +1,6 @@
 -- A method that agrees with the nearest one that it overrides, where none above differs from its nearest, agrees with all.
 use Rattle.std.proofs.Common.{◌≡◌, ℕ, zero, suc, ◌≤◌, Bool, true, false, List, ◌∷◌, Option, Some, None, refl, sym, ap, ◌∙◌, length, filter, arith}
-use Rattle.std.specs.Prelude.{◌&&◌, not, Contains}
+use Rattle.std.specs.Prelude.{◌&&◌, ◌||◌, not, Contains}
 use Rattle.std.specs.List.{list_any}
 use Rattle.std.specs.Str.{bytes_eq}
 use Rattle.kilim_program.specs.declared.names.ClassId.{ClassId}
@@ -11,13 +11,13 @@ use Rattle.kilim_class_world.specs.Linked.{first_of}
 use Rattle.kilim_class_world.specs.Qualified.{is_constructor_name}
 use Rattle.kilim_class_world.specs.World.{World, is_method, declared_methods}
 use Rattle.kilim_class_world.specs.declared.view.DeclaredMethod.{DeclaredMethod}
-use Rattle.kilim_member_faults.specs.Apart.{differs_there, differs_nearest, is_apart, has_apart}
-use Rattle.kilim_member_faults.specs.Heritage.{first_shared}
-use Rattle.kilim_member_faults.specs.Parts.{differs_in, stands_in}
-use Rattle.kilim_member_faults.proofs.Firsts.{first_is, first_isnt}
+use Rattle.kilim_member_faults.specs.Apart.{disagrees, differs_there, differs_nearest, is_unlike, differs_here, is_apart, has_apart}
+use Rattle.kilim_member_faults.specs.Heritage.{first_shared, first_declared}
+use Rattle.kilim_member_faults.specs.Parts.{is_so, alike, differs_in, shared_as, stands_in}
+use Rattle.kilim_member_faults.proofs.Firsts.{first_is, first_isnt, first_passes, first_isnt_there}
 use Rattle.kilim_member_faults.proofs.Leaving.{is_itself}
 use Rattle.kilim_member_faults.proofs.Lines.{line_rest, line_more, ancestors_are, first_cut}
-use Rattle.kilim_member_faults.proofs.Passing.{differs_passes}
+use Rattle.kilim_member_faults.proofs.Passing.{agrees_alike, differs_passes}
 use Rattle.kilim_member_faults.proofs.Places.{any_map, differs_above}
 use Rattle.kilim_member_faults.proofs.Truth.{cases, none_here, none_later, none_of_two, none_of_less, none_of_contained, by_found, rest_is_false, first_is_false, is_it}
 use Rattle.kilim_member_faults.proofs.Unmarked.{first_of_both, second_of_both, same_texts}
@@ -27,10 +27,17 @@ isnt_one true true apart e = absurd cc
 isnt_one true false apart e = refl
 isnt_one false named apart e = refl
 
+none_differs : (shared named agree : Bool) → agree ≡ true → (shared && (named && not agree)) ≡ false
+none_differs true true true e = refl
+none_differs true true false e = absurd cc
+none_differs true false agree e = refl
+none_differs false named agree e = refl
+
 -- of a method that overrides
-agrees_near : (constructor private apart : Bool) → constructor ≡ false → private ≡ false → (not constructor && (not private && apart)) ≡ false → apart ≡ false
-agrees_near constructor private apart ordinary shared e =
-    rest_is_false (not private) apart (ap not shared) (rest_is_false (not constructor) (not private && apart) (ap not ordinary) e)
+apart_of_two : (w : World) (d : ClassId) (o : DeclaredMethod) → is_constructor_name o.name ≡ false → not o.is_private ≡ true → is_apart w d o ≡ false → (differs_here w d o || differs_nearest w d o) ≡ false
+apart_of_two w d o ordinary shared e =
+    rest_is_false (not o.is_private) (differs_here w d o || differs_nearest w d o) shared
+    (rest_is_false (not (is_constructor_name o.name)) (not o.is_private && (differs_here w d o || differs_nearest w d o)) (ap not ordinary) e)
 
 module _ (w : World) where
   module _ (c : ClassId) (m : DeclaredMethod) where
@@ -44,14 +51,43 @@ module _ (w : World) where
         ∙ none_of_less (λ o. not o.is_private && is_method m.name m.descriptor o) (λ o. differs_from w c m (d, o))
         (λ o. isnt_one (not o.is_private) (is_method m.name m.descriptor o) (not (agrees w c m d o))) (declared_methods w d) e
 
+    -- another method of a class whose first one agrees
+    one_agrees : (d : ClassId) (x o : DeclaredMethod) → is_constructor_name m.name ≡ false → first_declared w m.name m.descriptor d ≡ Some x → agrees w c m d x ≡ true
+        → (is_apart w d o && is_method m.name m.descriptor o) ≡ false → differs_from w c m (d, o) ≡ false
+    one_agrees d x o ordinary first agreed near =
+        cases (shared_as m.name m.descriptor o)
+        (λ is.
+        let shared = first_of_both (not o.is_private) (is_method m.name m.descriptor o) is in
+        let named = second_of_both (not o.is_private) (is_method m.name m.descriptor o) is in
+        let name : o.name ≡ m.name = same_texts o.name m.name (first_of_both (bytes_eq o.name m.name) (bytes_eq o.descriptor m.descriptor) named) in
+        let descriptor : o.descriptor ≡ m.descriptor = same_texts o.descriptor m.descriptor (second_of_both (bytes_eq o.name m.name) (bytes_eq o.descriptor m.descriptor) named) in
+        let its : first_declared w o.name o.descriptor d ≡ Some x =
+        ap (λ (k : List ℕ). first_declared w k o.descriptor d) name ∙ (ap (λ (k : List ℕ). first_declared w m.name k d) descriptor ∙ first) in
+        let like : alike w d o x ≡ true =
+        is_it (alike w d o x) (sym (ap (is_unlike w d o) its) ∙ none_here (differs_here w d o) (differs_nearest w d o) (apart_of_two w d o (ap is_constructor_name name ∙ ordinary) shared (first_is_false (is_apart w d o) (is_method m.name m.descriptor o) named near))) in
+        none_differs (not o.is_private) (is_method m.name m.descriptor o) (agrees w c m d o) (agrees_alike w c m d x o agreed like))
+        (λ isnt. isnt_one (not o.is_private) (is_method m.name m.descriptor o) (not (agrees w c m d o)) isnt)
+
+    -- all of them
+    all_agree : (d : ClassId) (r : Option DeclaredMethod) → is_constructor_name m.name ≡ false → first_declared w m.name m.descriptor d ≡ r → disagrees w c m d r ≡ false
+        → has_apart w m.name m.descriptor d ≡ false → differs_in w c m d ≡ false
+    all_agree d None ordinary first near none = differs_nowhere d (first_isnt_there (shared_as m.name m.descriptor) (declared_methods w d) first)
+    all_agree d (Some x) ordinary first near none =
+        differs_by_one d
+        ∙ none_of_less (λ o. is_apart w d o && is_method m.name m.descriptor o) (λ o. differs_from w c m (d, o))
+        (λ o. one_agrees d x o ordinary first (is_it (agrees w c m d x) near)) (declared_methods w d) none
+
     -- the nearest one of a cut line is the nearest of all
-    nearest_agrees : (n : ℕ) → n ≤ length w.outline.classes → differs_nearest w c m ≡ false
+    nearest_agrees : (n : ℕ) → n ≤ length w.outline.classes → is_constructor_name m.name ≡ false → differs_nearest w c m ≡ false
+        → list_any (has_apart w m.name m.descriptor) (line_rest w.outline n (superclass_of (class_at w.outline c))) ≡ false
         → (d : ClassId) → Some d ≡ first_of (filter (stands_in w m.name m.descriptor) (line_rest w.outline n (superclass_of (class_at w.outline c)))) → differs_in w c m d ≡ false
-    nearest_agrees n le e d found =
+    nearest_agrees n le ordinary e none d found =
+        let line = line_rest w.outline n (superclass_of (class_at w.outline c)) in
         let all : Some d ≡ first_shared w m.name m.descriptor (ancestors_of w.outline c) =
         first_cut w.outline (stands_in w m.name m.descriptor) n (length w.outline.classes) (superclass_of (class_at w.outline c)) d le found
         ∙ ap (first_shared w m.name m.descriptor) (sym (ancestors_are w.outline c)) in
-        ap (differs_there w c m) all ∙ e
+        all_agree d (first_declared w m.name m.descriptor d) ordinary refl (ap (differs_there w c m) all ∙ e)
+        (ap (is_so (has_apart w m.name m.descriptor)) found ∙ first_passes (stands_in w m.name m.descriptor) (has_apart w m.name m.descriptor) line none)
 
   -- ---- lines that are cut after so many classes
 
@@ -74,11 +110,10 @@ module _ (w : World) where
         let descriptor : o.descriptor ≡ m.descriptor = same_texts o.descriptor m.descriptor (second_of_both (bytes_eq o.name m.name) (bytes_eq o.descriptor m.descriptor) named) in
         let no_constructor : is_constructor_name o.name ≡ false = ap is_constructor_name name ∙ ordinary in
         let nearest : differs_nearest w up o ≡ false =
-        rest_is_false (not o.is_private) (differs_nearest w up o) shared
-        (rest_is_false (not (is_constructor_name o.name)) (not o.is_private && differs_nearest w up o) (ap not no_constructor) (first_is_false (is_apart w up o) (is_method m.name m.descriptor o) named near)) in
+        none_later (differs_here w up o) (differs_nearest w up o) (apart_of_two w up o no_constructor shared (first_is_false (is_apart w up o) (is_method m.name m.descriptor o) named near)) in
         let above : list_any (has_apart w o.name o.descriptor) rest ≡ false =
         ap (λ (k : List ℕ). list_any (has_apart w k o.descriptor) rest) name ∙ (ap (λ (k : List ℕ). list_any (has_apart w m.name k) rest) descriptor ∙ none) in
-        differs_passes w c m up o named agreed rest (settled up o (superclass_of (class_at w.outline up)) no_constructor (nearest_agrees up o n le nearest) above)
+        differs_passes w c m up o named agreed rest (settled up o (superclass_of (class_at w.outline up)) no_constructor (nearest_agrees up o n le no_constructor nearest above) above)
 
   settles : (n : ℕ) → n ≤ length w.outline.classes → Settles n
   settles n le c m None ordinary near none = refl
@@ -111,9 +146,10 @@ module _ (w : World) where
         let is = ancestors_are w.outline c in
         let n = length w.outline.classes in
         let enough : n ≤ n = omega arith in
-        let nearest = agrees_near (is_constructor_name m.name) m.is_private (differs_nearest w c m) ordinary shared near in
+        let nearest = none_later (differs_here w c m) (differs_nearest w c m) (apart_of_two w c m ordinary (ap not shared) near) in
+        let above = sym (ap (list_any (has_apart w m.name m.descriptor)) is) ∙ none in
         ap (list_any (differs_in w c m)) is
-        ∙ settles n enough c m (superclass_of (class_at w.outline c)) ordinary (nearest_agrees c m n enough nearest) (sym (ap (list_any (has_apart w m.name m.descriptor)) is) ∙ none)
+        ∙ settles n enough c m (superclass_of (class_at w.outline c)) ordinary (nearest_agrees c m n enough ordinary nearest above) above
 
     -- where the class declares it, and neither the class nor an ancestor has one that differs from its nearest
     pub agrees_with_all : (name descriptor : List ℕ) → name ≡ m.name → descriptor ≡ m.descriptor → Contains (declared_methods w c) m

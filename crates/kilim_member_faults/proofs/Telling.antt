@@ -1,6 +1,6 @@
 -- What is said of each class is what it says.
 use Rattle.std.proofs.Common.{◌≡◌, ℕ, zero, suc, ◌+◌, ◌≤◌, Bool, true, false, List, [], ◌∷◌, ◌++◌, length, filter, map, Option, Some, None, Result, Ok, Err, refl, sym, ap, ◌∙◌, subst, arith}
-use Rattle.std.specs.Prelude.{◌&&◌, ◌||◌, if◌then◌else◌, IfOk, is_some, option_map, slice_get}
+use Rattle.std.specs.Prelude.{◌&&◌, ◌||◌, if◌then◌else◌, IfOk, is_some, slice_get}
 use Rattle.std.specs.List.{list_any}
 use Rattle.std.proofs.lemmas.List.{append-nil}
 use Rattle.kilim_program.specs.declared.memory.NoMemory.{NoMemory}
@@ -10,17 +10,17 @@ use Rattle.kilim_program.specs.Keeps.{superclass_of, line_above, ancestors_of}
 use Rattle.kilim_program.specs.Names.{class_at, line_of}
 use Rattle.kilim_class_world.specs.declared.view.ClassView.{ClassView}
 use Rattle.kilim_class_world.specs.declared.view.DeclaredMethod.{DeclaredMethod}
-use Rattle.kilim_class_world.specs.Linked.{first_of}
 use Rattle.kilim_class_world.specs.World.{World, declared_methods, methods_at, is_method}
 use Rattle.kilim_inherited.specs.Inherited.{said_or, line_in, up_in, from_above}
 use Rattle.kilim_nearest.specs.declared.nearest.Nearest.{Nearest}
 use Rattle.kilim_nearest.specs.declared.said.Said.{Said}
 use Rattle.kilim_nearest.specs.Nearest.{said_by, said_of, says, nearest}
 use Rattle.kilim_nearest.specs.Known.{known, Tells}
-use Rattle.kilim_member_faults.specs.declared.heritage.Heritage.{Heritage}
+use Rattle.kilim_member_faults.specs.declared.heritage.Place.{Place}
 use Rattle.kilim_member_faults.specs.Apart.{is_apart, has_apart, says_apart, apart_from}
-use Rattle.kilim_member_faults.specs.Parts.{is_shared, stands_in}
-use Rattle.kilim_member_faults.specs.Heritage.{Finds, Inherits, is_shared_abstract, says_shared, says_left, first_said, first_shared, saying, sayings, shared_from, left_by_class}
+use Rattle.kilim_member_faults.specs.Parts.{is_shared}
+use Rattle.kilim_member_faults.specs.Heritage.{Finds, Places, is_shared_abstract, says_left, first_said, saying, sayings, all_numbered, all_places, left_by_class}
+use Rattle.kilim_member_faults.proofs.Placing.{finds_places}
 
 -- ---- of one class
 
@@ -50,15 +50,6 @@ said_alone test value name descriptor ms = ap (λ (ss : List Said). said_by ss n
 -- ---- of each class
 
 module _ (name descriptor : List ℕ) where
-  class_shared : (n : ℕ) (vs : List ClassView) (k : ℕ) → said_of (slice_get (shared_from n vs) k) name descriptor ≡ (if passes is_shared name descriptor (methods_at (slice_get vs k)) then Some (Some (n + k)) else None)
-  class_shared n [] k = refl
-  class_shared n (v ∷ vs) zero =
-      said_alone is_shared (Some n) name descriptor v.methods
-      ∙ (let at : n ≡ n + 0 = omega arith in ap (λ (i : ℕ). if passes is_shared name descriptor v.methods then Some (Some i) else None) at)
-  class_shared n (v ∷ vs) (suc k) =
-      class_shared (n + 1) vs k
-      ∙ (let at : (n + 1) + k ≡ n + suc k = omega arith in ap (λ (i : ℕ). if passes is_shared name descriptor (methods_at (slice_get vs k)) then Some (Some i) else None) at)
-
   class_left : (vs : List ClassView) (k : ℕ) → said_of (slice_get (left_by_class vs) k) name descriptor
       ≡ (if passes is_shared_abstract name descriptor (methods_at (slice_get vs k)) then Some (Some 0) else (if passes is_shared name descriptor (methods_at (slice_get vs k)) then Some None else None))
   class_left [] k = refl
@@ -79,9 +70,9 @@ module _ (w : World) (name descriptor : List ℕ) where
 
 -- ---- how many
 
-shared_length : (n : ℕ) (vs : List ClassView) → length (shared_from n vs) ≡ length vs
+shared_length : (n : ℕ) (vs : List ClassView) → length (all_numbered n vs) ≡ length vs
 shared_length n [] = refl
-shared_length n (v ∷ vs) = ap suc (shared_length (n + 1) vs)
+shared_length n (v ∷ vs) = ap suc (shared_length (n + length (filter is_shared v.methods)) vs)
 
 apart_length : (w : World) (n : ℕ) (vs : List ClassView) → length (apart_from w n vs) ≡ length vs
 apart_length w n [] = refl
@@ -94,7 +85,7 @@ left_length (v ∷ vs) = ap suc (left_length vs)
 no_more : (n k m : ℕ) → n ≡ k → k ≡ m → n ≤ m
 no_more n k m e f = omega arith
 
-pub shared_fits : (said : List (List Said)) (ups : List (Option ClassId)) (vs : List ClassView) → said ≡ shared_from 0 vs → length ups ≡ length vs → length said ≤ length ups
+pub shared_fits : (said : List (List Said)) (ups : List (Option ClassId)) (vs : List ClassView) → said ≡ all_numbered 0 vs → length ups ≡ length vs → length said ≤ length ups
 shared_fits said ups vs is count = no_more (length said) (length vs) (length ups) (ap length is ∙ shared_length 0 vs) (sym count)
 
 pub left_fits : (said : List (List Said)) (ups : List (Option ClassId)) (vs : List ClassView) → said ≡ left_by_class vs → length ups ≡ length vs → length said ≤ length ups
@@ -110,16 +101,6 @@ nearest_said said name descriptor each are [] = refl
 nearest_said said name descriptor each are (c ∷ line) =
     ap (λ (o : Option (Option ℕ)). said_or o (nearest said name descriptor line)) (are c)
     ∙ ap (said_or (each c)) (nearest_said said name descriptor each are line)
-
-found_or : (stands : Bool) (c : ClassId) (line : List ClassId) (later : Option ℕ) → later ≡ option_map (λ (d : ClassId). d.0) (first_of line)
-    → said_or (if stands then Some (Some c.0) else None) later ≡ option_map (λ (d : ClassId). d.0) (first_of (if stands then c ∷ line else line))
-found_or true c line later e = refl
-found_or false c line later e = e
-
-pub shared_first : (w : World) (name descriptor : List ℕ) (line : List ClassId) → first_said (says_shared w name descriptor) line ≡ option_map (λ (d : ClassId). d.0) (first_shared w name descriptor line)
-shared_first w name descriptor [] = refl
-shared_first w name descriptor (c ∷ line) =
-    found_or (stands_in w name descriptor c) c (filter (stands_in w name descriptor) line) (first_said (says_shared w name descriptor) line) (shared_first w name descriptor line)
 
 -- ---- in maps
 
@@ -149,16 +130,15 @@ module _ (w : World) (name descriptor : List ℕ) (d : ClassId) where
   at_first : 0 + d.0 ≡ d.0
   at_first = omega arith
 
-  says_number : says (shared_from 0 w.classes) name descriptor d ≡ says_shared w name descriptor d
-  says_number = class_shared name descriptor 0 w.classes d.0 ∙ ap (λ (i : ℕ). if stands_in w name descriptor d then Some (Some i) else None) at_first
-
   says_zero : says (apart_from w 0 w.classes) name descriptor d ≡ says_apart w name descriptor d
   says_zero = class_apart w name descriptor 0 w.classes d.0 ∙ ap (λ (i : ℕ). if passes (is_apart w (class_id i)) name descriptor (declared_methods w d) then Some (Some 0) else None) at_first
 
 module _ (w : World) (it : Nearest) (ups : List (Option ClassId)) (said : List (List Said))
     (upped : (c : ClassId) → up_in ups c ≡ superclass_of (class_at w.outline c)) (lined : (c : ClassId) → line_in ups c ≡ line_of w.outline c) (tells : Tells it ups said) where
-  pub finds_shared : said ≡ shared_from 0 w.classes → Finds w it (says_shared w)
-  finds_shared is = finds w it ups (shared_from 0 w.classes) (says_shared w) upped lined (says_number w) (subst (Tells it ups) is tells)
+  pub finds_shared : (places : List Place) → said ≡ all_numbered 0 w.classes → places ≡ all_places 0 w.classes → Places w places it
+  finds_shared places is are =
+      finds_places w places it are
+      (finds w it ups (all_numbered 0 w.classes) (says (all_numbered 0 w.classes)) upped lined (λ name descriptor d. refl) (subst (Tells it ups) is tells))
 
   pub finds_left : said ≡ left_by_class w.classes → Finds w it (says_left w)
   finds_left is = finds w it ups (left_by_class w.classes) (says_left w) upped lined (λ name descriptor d. class_left name descriptor w.classes d.0) (subst (Tells it ups) is tells)
@@ -171,22 +151,6 @@ ok_then A B (Ok x) f is = f x is
 ok_then A B (Err fault) f is = is
 
 -- ---- what is found
-
-some_class : (o : Option ClassId) → option_map class_id (option_map (λ (d : ClassId). d.0) o) ≡ o
-some_class None = refl
-some_class (Some d) = refl
-
--- the nearest ancestor, by the map of the superclass
-pub nearest_known : (w : World) (h : Heritage) (up : ClassId) (name descriptor : List ℕ) → Inherits w h → option_map class_id (known h.shared up name descriptor) ≡ first_shared w name descriptor (line_of w.outline up)
-nearest_known w h up name descriptor inherits =
-    ap (option_map class_id) (inherits.shared.in_line up name descriptor ∙ shared_first w name descriptor (line_of w.outline up))
-    ∙ some_class (first_shared w name descriptor (line_of w.outline up))
-
--- from a class up, by its own map
-pub shared_known : (w : World) (h : Heritage) (c : ClassId) (name descriptor : List ℕ) → Inherits w h → option_map class_id (known h.shared c name descriptor) ≡ first_shared w name descriptor (c ∷ ancestors_of w.outline c)
-shared_known w h c name descriptor inherits =
-    let line = c ∷ ancestors_of w.outline c in
-    ap (option_map class_id) (inherits.shared.in_longer c name descriptor ∙ shared_first w name descriptor line) ∙ some_class (first_shared w name descriptor line)
 
 some_or : (apart : Bool) (later : Option ℕ) → is_some (said_or (if apart then Some (Some 0) else None) later) ≡ (apart || is_some later)
 some_or true later = refl

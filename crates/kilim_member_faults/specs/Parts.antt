@@ -3,8 +3,9 @@ use Rattle.std.specs.Prelude.{◌≡◌, ℕ, Bool, true, false, not, ◌&&◌, 
 use Rattle.std.specs.List.{list_any, flat_map}
 use Rattle.std.specs.Str.{bytes_eq}
 use Rattle.kilim_program.specs.declared.names.ClassId.{ClassId}
-use Rattle.kilim_class_world.specs.Faults.{is_left_above, agrees, differs_from}
-use Rattle.kilim_class_world.specs.Qualified.{is_constructor_name}
+use Rattle.kilim_program.specs.Same.{same_flag}
+use Rattle.kilim_class_world.specs.Faults.{is_left_above, agrees, differs_from, same_qualified}
+use Rattle.kilim_class_world.specs.Qualified.{is_constructor_name, qualified}
 use Rattle.kilim_class_world.specs.World.{World, declared_methods, is_method}
 use Rattle.kilim_class_world.specs.declared.view.Marks.{Marks}
 use Rattle.kilim_class_world.specs.declared.view.Marks.TheVariants.{Annotated}
@@ -39,6 +40,10 @@ is_unmarked m = has_no_marks m.marks && (not (bytes_eq m.name (codes "execute"))
 abbrev pub are_unmarked : DeclaredMethod → DeclaredMethod → Bool
 are_unmarked m other = is_unmarked m && (is_unmarked other && bytes_eq m.descriptor other.descriptor)
 
+-- two of one name and descriptor are alike: what may override one may override the other
+abbrev pub alike : World → ClassId → DeclaredMethod → DeclaredMethod → Bool
+alike w c m other = same_flag m.pausable other.pausable && (same_flag m.is_static other.is_static && (same_flag m.is_final other.is_final && same_qualified (qualified w c m) (qualified w c other)))
+
 -- a method differs from one that a class above declares
 abbrev pub differs_in : World → ClassId → DeclaredMethod → ClassId → Bool
 differs_in w c m d = list_any (differs_from w c m) (map (λ other. (d, other)) (declared_methods w d))
@@ -48,9 +53,13 @@ differs_in w c m d = list_any (differs_from w c m) (map (λ other. (d, other)) (
 abbrev pub is_shared : DeclaredMethod → Bool
 is_shared m = not m.is_private
 
--- a class declares a method of that name and descriptor that isn't private
+-- it has that name and descriptor, and isn't private
+abbrev pub shared_as : List ℕ → List ℕ → DeclaredMethod → Bool
+shared_as name descriptor o = not o.is_private && is_method name descriptor o
+
+-- a class declares such a method
 abbrev pub stands_in : World → List ℕ → List ℕ → ClassId → Bool
-stands_in w name descriptor d = list_any (λ o. not o.is_private && is_method name descriptor o) (declared_methods w d)
+stands_in w name descriptor d = list_any (shared_as name descriptor) (declared_methods w d)
 
 -- the methods of a class and of these ancestors
 abbrev pub nearer_than : World → ClassId → List ClassId → List DeclaredMethod
@@ -58,7 +67,7 @@ nearer_than w c ds = declared_methods w c ++ flat_map (declared_methods w) ds
 
 -- one of them has that name and descriptor, and isn't private
 abbrev pub is_nearer : World → ClassId → List ClassId → List ℕ → List ℕ → Bool
-is_nearer w c ds name descriptor = list_any (λ o. not o.is_private && is_method name descriptor o) (nearer_than w c ds)
+is_nearer w c ds name descriptor = list_any (shared_as name descriptor) (nearer_than w c ds)
 
 -- an abstract method of an ancestor is left, where these are nearer
 abbrev pub is_left_over : World → ClassId → List ClassId → DeclaredMethod → Bool

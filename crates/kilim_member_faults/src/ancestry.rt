@@ -19,7 +19,7 @@ use std::alloc::Global;
 pub struct Ancestry {
     // What each class inherits.
     pub heritage: Heritage,
-    // Where a method differs from the nearest one that it overrides.
+    // Where a method differs from the nearest one that it overrides, or from the first one beside it.
     pub apart: Nearest,
 }
 
@@ -35,7 +35,7 @@ impl Ancestry {
     }
 
     /// Whether a class or an ancestor declares a method of that name and descriptor that differs from the nearest one
-    /// that it overrides.
+    /// that it overrides, or from the first one of its name and descriptor beside it.
     #[tactic(auto, using(crate::proofs::Telling::apart_known))]
     pub fn has_apart(&self, world: &World, class: ClassId, signature: &Signature) -> bool
         requires { Knows world.now self.now }

@@ -1,21 +1,65 @@
-//! Methods that differ from the nearest one that they override, each by one comparison.
+//! Methods that differ from the nearest one that they override or from one beside them, each by two comparisons,
+//! however many have one name and descriptor.
 
-ghost use Rattle.std.specs.Prelude.{◌≡◌, ◌<◌, ◌^◌, Some, false, IfOk, length};
+ghost use Rattle.std.specs.Prelude.{◌≡◌, ◌<◌, ◌^◌, ◌||◌, Some, false, IfOk, length};
 ghost use Rattle.kilim_class_world.specs.Qualified.{is_constructor_name};
-ghost use Rattle.kilim_member_faults.specs.Apart.{differs_nearest, is_apart, says_apart, apart_from};
+ghost use Rattle.kilim_member_faults.specs.Apart.{differs_nearest, differs_here, is_apart, says_apart, apart_from};
 ghost use Rattle.kilim_member_faults.specs.Heritage.{Finds, Inherits, sayings};
 
 use crate::heritage::{Heritage, saying};
-use crate::overrides::differs_in;
+use crate::overrides::{agrees, alike};
 use crate::signature::signature_of;
 use kilim_class_world::{ClassView, DeclaredMethod};
 use kilim_nearest::{Nearest, Said};
 use kilim_program::{ClassId, NoMemory, Seq};
-use kilim_world::World;
+use kilim_world::{Signature, World};
 use std::alloc::Global;
 
-// Whether a method differs from one of the nearest ancestor that declares one that it overrides.
+// Whether a method differs from the first one of the nearest ancestor that declares one that it overrides.
 fn differs_nearest(
+    alloc: Global,
+    world: &World,
+    heritage: &Heritage,
+    class: ClassId,
+    method: &DeclaredMethod,
+    signature: &Signature,
+) -> Result<bool, NoMemory>
+    requires inherits { Inherits world.now heritage.now }
+    requires name { signature.now.name ≡ method.now.name }
+    requires descriptor { signature.now.descriptor ≡ method.now.descriptor }
+    ensures { IfOk result (λ apart. apart ≡ differs_nearest world.now class method.now) }
+{
+    let Some(above) = heritage.nearest_shared(world, class, signature) else {
+        return Ok(false);
+    };
+    match heritage.first_declared(world, above, signature) {
+        Some(other) => Ok(!agrees(alloc, world, class, method, above, other)?),
+        None => Ok(false),
+    }
+}
+
+// Whether a method is unlike the first one of its name and descriptor beside it.
+fn differs_here(
+    alloc: Global,
+    world: &World,
+    heritage: &Heritage,
+    class: ClassId,
+    method: &DeclaredMethod,
+    signature: &Signature,
+) -> Result<bool, NoMemory>
+    requires inherits { Inherits world.now heritage.now }
+    requires name { signature.now.name ≡ method.now.name }
+    requires descriptor { signature.now.descriptor ≡ method.now.descriptor }
+    ensures { IfOk result (λ apart. apart ≡ differs_here world.now class method.now) }
+{
+    match heritage.first_declared(world, class, signature) {
+        Some(first) => Ok(!alike(alloc, world, class, method, first)?),
+        None => Ok(false),
+    }
+}
+
+// Either.
+fn differs(
     alloc: Global,
     world: &World,
     heritage: &Heritage,
@@ -23,13 +67,13 @@ fn differs_nearest(
     method: &DeclaredMethod,
 ) -> Result<bool, NoMemory>
     requires { Inherits world.now heritage.now }
-    ensures { IfOk result (λ apart. apart ≡ differs_nearest world.now class method.now) }
+    ensures { IfOk result (λ apart. apart ≡ (differs_here world.now class method.now || differs_nearest world.now class method.now)) }
 {
     let signature = signature_of(&method.name, &method.descriptor)?;
-    match heritage.nearest_shared(world, class, &signature) {
-        Some(nearest) => differs_in(alloc, world, class, method, &signature, nearest),
-        None => Ok(false),
+    if differs_here(alloc, world, heritage, class, method, &signature)? {
+        return Ok(true);
     }
+    differs_nearest(alloc, world, heritage, class, method, &signature)
 }
 
 // The same of a method that overrides: constructors and private ones override nothing.
@@ -49,7 +93,7 @@ fn is_apart(
     if method.is_private {
         return Ok(false);
     }
-    differs_nearest(alloc, world, heritage, class, method)
+    differs(alloc, world, heritage, class, method)
 }
 
 // Says 0 of each such method of a class.
@@ -92,7 +136,7 @@ fn all_apart_said(
     Ok(said)
 }
 
-/// Where each class inherits a method that differs from the nearest one that it overrides.
+/// Where each class inherits a method that differs from the nearest one that it overrides, or from one beside it.
 pub fn apart_of(alloc: Global, world: &World, heritage: &Heritage) -> Result<Nearest, NoMemory>
     requires few { length world.now.classes < 2 ^ 32 }
     requires inherits { Inherits world.now heritage.now }

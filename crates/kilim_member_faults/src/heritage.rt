@@ -1,13 +1,13 @@
 //! What classes inherit: the nearest one that declares a method, and whether an abstract one is left.
 
-ghost use Rattle.std.specs.Prelude.{◌≡◌, ◌<◌, ◌^◌, ◌++◌, ◌∷◌, [], Some, None, true, IfOk, OnOk, length, option_map};
+ghost use Rattle.std.specs.Prelude.{◌≡◌, ◌<◌, ◌^◌, ◌++◌, ◌∷◌, [], Some, None, true, IfOk, OnOk, length, option_copied, option_map};
 ghost use Rattle.kilim_program.specs.Keeps.{ancestors_of};
-ghost use Rattle.kilim_program.specs.BuiltIn.{class_id};
 ghost use Rattle.kilim_class_world.specs.Faults.{left_above};
 ghost use Rattle.kilim_class_world.specs.World.{declared_methods};
 ghost use Rattle.kilim_member_faults.specs.Parts.{is_shared};
-ghost use Rattle.kilim_member_faults.specs.Heritage.{Inherits, first_shared, is_shared_abstract, saying, sayings, left_sayings, shared_from, left_by_class};
+ghost use Rattle.kilim_member_faults.specs.Heritage.{Inherits, first_shared, first_declared, is_shared_abstract, saying, sayings, left_sayings, numbered, places_in, all_numbered, all_places, own_at, placed, left_by_class};
 
+use crate::overrides::methods_of;
 use crate::signature::signature_of;
 use kilim_class_world::{ClassView, DeclaredMethod};
 use kilim_nearest::{Nearest, Said};
@@ -15,10 +15,19 @@ use kilim_program::{ClassId, NoMemory, Seq};
 use kilim_world::{Signature, World};
 use std::alloc::Global;
 
+/// Where a method is declared: its class, and its index among the methods of that class.
+#[derive(Clone, Copy)]
+pub struct Place {
+    pub class: ClassId,
+    pub index: usize,
+}
+
 /// What each class inherits, by name and descriptor.
 #[derive(Drop)]
 pub struct Heritage {
-    // The nearest class that declares a method that isn't private.
+    // The methods that aren't private, in order.
+    places: Seq<Place>,
+    // The first such method of the nearest class that declares one: its number among them.
     shared: Nearest,
     // Whether that class declares an abstract one.
     left: Nearest,
@@ -32,17 +41,13 @@ pub fn saying(method: &DeclaredMethod, value: Option<u32>) -> Result<Said, NoMem
     Ok(Said { signature, value })
 }
 
-// Says the same of each method that isn't private.
-fn say_shared(
-    said: &mut Seq<Said>,
-    methods: &[DeclaredMethod],
-    value: Option<u32>,
-) -> Result<(), NoMemory>
-    ensures { OnOk result (said.new ≡ said.old ++ sayings is_shared value methods.now) }
+// Says of each method that isn't private that none is left.
+fn say_shared(said: &mut Seq<Said>, methods: &[DeclaredMethod]) -> Result<(), NoMemory>
+    ensures { OnOk result (said.new ≡ said.old ++ sayings is_shared None methods.now) }
 {
     for method in methods {
         if !method.is_private {
-            said.push(saying(method, value)?)?;
+            said.push(saying(method, None)?)?;
         }
     }
     Ok(())
@@ -60,11 +65,33 @@ fn say_abstract(said: &mut Seq<Said>, methods: &[DeclaredMethod]) -> Result<(), 
     Ok(())
 }
 
-fn shared_said(alloc: Global, methods: &[DeclaredMethod], class: u32) -> Result<Seq<Said>, NoMemory>
-    ensures { IfOk result (λ said. said ≡ sayings is_shared (Some class) methods.now) }
+// The number of the next place. So many that it fits no `u32` are taken for want of memory.
+fn next_number(places: &Seq<Place>) -> Result<u32, NoMemory>
+    ensures { IfOk result (λ number. number ≡ length places.now) }
+{
+    match u32::try_from(places.len()) {
+        Ok(number) => Ok(number),
+        Err(_) => Err(NoMemory),
+    }
+}
+
+// Says of each method of a class that isn't private its number, and keeps where it stands.
+fn shared_said(
+    alloc: Global,
+    places: &mut Seq<Place>,
+    class: ClassId,
+    methods: &[DeclaredMethod],
+) -> Result<Seq<Said>, NoMemory>
+    ensures said { IfOk result (λ said. said ≡ numbered (length places.old) methods.now) }
+    ensures kept { OnOk result (places.new ≡ places.old ++ places_in class 0 methods.now) }
 {
     let mut said: Seq<Said> = Seq::new(alloc);
-    say_shared(&mut said, methods, Some(class))?;
+    for index in 0..methods.len() {
+        if !methods[index].is_private {
+            said.push(saying(&methods[index], Some(next_number(places)?))?)?;
+            places.push(Place { class, index })?;
+        }
+    }
     Ok(said)
 }
 
@@ -74,19 +101,25 @@ fn left_said(alloc: Global, methods: &[DeclaredMethod]) -> Result<Seq<Said>, NoM
 {
     let mut said: Seq<Said> = Seq::new(alloc);
     say_abstract(&mut said, methods)?;
-    say_shared(&mut said, methods, None)?;
+    say_shared(&mut said, methods)?;
     Ok(said)
 }
 
-fn all_shared_said(alloc: Global, classes: &[ClassView]) -> Result<Seq<Seq<Said>>, NoMemory>
-    requires { length classes.now < 2 ^ 32 }
-    ensures { IfOk result (λ said. said ≡ shared_from 0 classes.now) }
+fn all_shared_said(
+    alloc: Global,
+    places: &mut Seq<Place>,
+    classes: &[ClassView],
+) -> Result<Seq<Seq<Said>>, NoMemory>
+    requires few { length classes.now < 2 ^ 32 }
+    requires none { places.now ≡ [] }
+    ensures said { IfOk result (λ said. said ≡ all_numbered 0 classes.now) }
+    ensures kept { OnOk result (places.new ≡ all_places 0 classes.now) }
 {
     let mut said: Seq<Seq<Said>> = Seq::new(alloc);
     let mut i: u32 = 0;
     while (i as usize) < classes.len() {
         let methods = classes[i as usize].methods.as_slice();
-        said.push(shared_said(alloc, methods, i)?)?;
+        said.push(shared_said(alloc, places, ClassId(i), methods)?)?;
         i += 1;
     }
     Ok(said)
@@ -102,12 +135,26 @@ fn all_left_said(alloc: Global, classes: &[ClassView]) -> Result<Seq<Seq<Said>>,
     Ok(said)
 }
 
-fn class_of(number: Option<u32>) -> Option<ClassId>
-    ensures { result ≡ option_map class_id number }
+fn class_of(place: Option<Place>) -> Option<ClassId>
+    ensures { result ≡ option_map (λ p. p.class) place }
 {
-    match number {
-        Some(number) => Some(ClassId(number)),
+    match place {
+        Some(place) => Some(place.class),
         None => None,
+    }
+}
+
+// The method that stands there, where it is one of that class.
+fn own_at(world: &World, class: ClassId, place: Option<Place>) -> Option<&DeclaredMethod>
+    ensures { option_copied result ≡ own_at world.now class place }
+{
+    let Some(place) = place else {
+        return None;
+    };
+    if place.class.0 == class.0 {
+        methods_of(world, class).get(place.index)
+    } else {
+        None
     }
 }
 
@@ -118,15 +165,31 @@ impl Heritage {
         ensures { IfOk result (λ h. Inherits world.now h) }
     {
         let ups = world.superclasses();
-        let shared_said = all_shared_said(alloc, world.classes())?;
+        let mut places: Seq<Place> = Seq::new(alloc);
+        let shared_said = all_shared_said(alloc, &mut places, world.classes())?;
         let left_said = all_left_said(alloc, world.classes())?;
         let shared = Nearest::new(alloc, ups, shared_said.as_slice())?;
         let left = Nearest::new(alloc, ups, left_said.as_slice())?;
-        Ok(Heritage { shared, left })
+        Ok(Heritage {
+            places,
+            shared,
+            left,
+        })
+    }
+
+    // Where the first method of that name and descriptor that isn't private stands in the nearest class from a class
+    // up that declares one.
+    fn place(&self, class: ClassId, signature: &Signature) -> Option<Place>
+        ensures { result ≡ placed self.now.places self.now.shared class signature.now.name signature.now.descriptor }
+    {
+        match self.shared.find(class, signature) {
+            Some(number) => self.places.as_slice().get(number as usize).copied(),
+            None => None,
+        }
     }
 
     /// The nearest ancestor of a class that declares a method of that name and descriptor that isn't private.
-    #[tactic(auto, using(crate::proofs::Telling::nearest_known))]
+    #[tactic(auto, using(crate::proofs::Placing::nearest_known))]
     pub fn nearest_shared(
         &self,
         world: &World,
@@ -139,11 +202,11 @@ impl Heritage {
         let Some(up) = world.outline().superclass_of(class) else {
             return None;
         };
-        class_of(self.shared.find(up, signature))
+        class_of(self.place(up, signature))
     }
 
     /// The nearest class from a class up that declares a method of that name and descriptor that isn't private.
-    #[tactic(auto, using(crate::proofs::Telling::shared_known))]
+    #[tactic(auto, using(crate::proofs::Placing::shared_known))]
     pub fn first_shared(
         &self,
         world: &World,
@@ -153,7 +216,21 @@ impl Heritage {
         requires { Inherits world.now self.now }
         ensures { result ≡ first_shared world.now signature.now.name signature.now.descriptor (class ∷ ancestors_of world.now.outline class) }
     {
-        class_of(self.shared.find(class, signature))
+        class_of(self.place(class, signature))
+    }
+
+    /// The first method of that name and descriptor that a class declares and that isn't private.
+    #[tactic(auto, using(crate::proofs::Placing::first_known))]
+    pub fn first_declared<'a>(
+        &self,
+        world: &'a World,
+        class: ClassId,
+        signature: &Signature,
+    ) -> Option<&'a DeclaredMethod>
+        requires { Inherits world.now self.now }
+        ensures { option_copied result ≡ first_declared world.now signature.now.name signature.now.descriptor class }
+    {
+        own_at(world, class, self.place(class, signature))
     }
 
     /// Whether it is known that no abstract method of an ancestor is left to a class.

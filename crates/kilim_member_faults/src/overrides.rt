@@ -8,7 +8,7 @@ ghost use Rattle.kilim_class_world.specs.Qualified.{qualified, is_constructor_na
 ghost use Rattle.kilim_class_world.specs.Faults.{override_differs, overrides_badly, agrees, same_qualified, declared_of, differs_from, inherited};
 ghost use Rattle.kilim_class_world.specs.Linked.{first_of};
 ghost use Rattle.kilim_member_faults.specs.Ancestry.{Knows};
-ghost use Rattle.kilim_member_faults.specs.Parts.{has_no_marks, is_unmarked, are_unmarked, other_differs, passes_at, differs_in};
+ghost use Rattle.kilim_member_faults.specs.Parts.{has_no_marks, is_unmarked, are_unmarked, other_differs, alike, passes_at, differs_in};
 
 use crate::ancestry::Ancestry;
 use crate::signature::signature_of;
@@ -143,9 +143,9 @@ fn qualifiers_agree(
     Ok(same_qualified(&one, &another))
 }
 
-// Whether a method may override that one.
+/// Whether a method may override that one.
 #[tactic(auto, using(crate::proofs::Agreeing::both_of, crate::proofs::Agreeing::none_of))]
-fn agrees(
+pub fn agrees(
     alloc: Global,
     world: &World,
     class: ClassId,
@@ -157,6 +157,33 @@ fn agrees(
 {
     if flags_agree(method, other) {
         qualifiers_agree(alloc, world, class, method, above, other)
+    } else {
+        Ok(false)
+    }
+}
+
+// Whether both pause or neither, both are static or neither, and both are final or neither.
+fn flags_alike(method: &DeclaredMethod, other: &DeclaredMethod) -> bool
+    ensures { result ≡ (same_flag method.now.pausable other.now.pausable && (same_flag method.now.is_static other.now.is_static && same_flag method.now.is_final other.now.is_final)) }
+{
+    same_flag(method.pausable, other.pausable)
+        && (same_flag(method.is_static, other.is_static)
+            && same_flag(method.is_final, other.is_final))
+}
+
+/// Whether two methods of a class, of one name and descriptor, are alike: what may override one may override the other.
+#[tactic(auto, using(crate::proofs::Agreeing::both_of, crate::proofs::Agreeing::none_of))]
+pub fn alike(
+    alloc: Global,
+    world: &World,
+    class: ClassId,
+    method: &DeclaredMethod,
+    other: &DeclaredMethod,
+) -> Result<bool, NoMemory>
+    ensures { IfOk result (λ is. is ≡ alike world.now class method.now other.now) }
+{
+    if flags_alike(method, other) {
+        qualifiers_agree(alloc, world, class, method, class, other)
     } else {
         Ok(false)
     }
@@ -213,8 +240,8 @@ fn differs_at_any(
     Ok(false)
 }
 
-/// Whether a method differs from one that a class above declares.
-pub fn differs_in(
+// Whether a method differs from one that a class above declares.
+fn differs_in(
     alloc: Global,
     world: &World,
     class: ClassId,

@@ -20,25 +20,31 @@ fn text(alloc: Global, ascii: &[u8]) -> Result<Units, Fail> {
     Ok(Units::from_vec(units))
 }
 
-// One method `m()V`, both abstract and pausable or neither.
-fn methods(alloc: Global, asks: bool) -> Result<Seq<DeclaredMethod>, Fail> {
-    let mut list: Seq<DeclaredMethod> = Seq::new(alloc);
-    list.push(DeclaredMethod {
+// A method `m()V` by a letter: `x` abstract and pausable, `f` final, `p` private and pausable, another none of these.
+fn method(alloc: Global, letter: u8) -> Result<DeclaredMethod, Fail> {
+    Ok(DeclaredMethod {
         name: text(alloc, b"m")?,
         descriptor: text(alloc, b"()V")?,
         is_static: false,
-        is_private: false,
-        is_abstract: asks,
-        is_final: false,
-        pausable: asks,
+        is_private: letter == b'p',
+        is_abstract: letter == b'x',
+        is_final: letter == b'f',
+        pausable: letter == b'x' || letter == b'p',
         marks: Marks::Stated(Qualifier::Safe, Seq::new(alloc)),
-    })?;
+    })
+}
+
+fn methods(alloc: Global, letters: &[u8]) -> Result<Seq<DeclaredMethod>, Fail> {
+    let mut list: Seq<DeclaredMethod> = Seq::new(alloc);
+    for letter in letters {
+        list.push(method(alloc, *letter)?)?;
+    }
     Ok(list)
 }
 
-// A class by its name, its superclass and whether its method is so.
-fn class(alloc: Global, row: &(&[u8], &[u8], bool)) -> Result<ClassView, Fail> {
-    let (name, up, asks) = row;
+// A class by its name, its superclass and the letters of its methods.
+fn class(alloc: Global, row: &(&[u8], &[u8], &[u8])) -> Result<ClassView, Fail> {
+    let (name, up, letters) = row;
     Ok(ClassView {
         name: text(alloc, name)?,
         superclass: Some(text(alloc, up)?),
@@ -47,7 +53,7 @@ fn class(alloc: Global, row: &(&[u8], &[u8], bool)) -> Result<ClassView, Fail> {
         is_final: false,
         is_built_in: false,
         fields: Seq::new(alloc),
-        methods: methods(alloc, *asks)?,
+        methods: methods(alloc, letters)?,
     })
 }
 
@@ -68,7 +74,7 @@ fn are_few(classes: &[ClassView]) -> bool
     true
 }
 
-fn world(alloc: Global, table: &[(&[u8], &[u8], bool)]) -> Result<World, Fail>
+fn world(alloc: Global, table: &[(&[u8], &[u8], &[u8])]) -> Result<World, Fail>
     ensures { IfOk result (λ w. length w.classes ≤ 100) }
 {
     let mut classes: Seq<ClassView> = Seq::new(alloc);
@@ -117,13 +123,13 @@ fn without_abstract(
     Ok(Units::from_vec(marks))
 }
 
-fn apart_in(alloc: Global, table: &[(&[u8], &[u8], bool)]) -> Result<Units, Fail> {
+fn apart_in(alloc: Global, table: &[(&[u8], &[u8], &[u8])]) -> Result<Units, Fail> {
     let world = world(alloc, table)?;
     let ancestry = Ancestry::new(alloc, &world)?;
     apart(alloc, &world, &ancestry, 6)
 }
 
-fn without_abstract_in(alloc: Global, table: &[(&[u8], &[u8], bool)]) -> Result<Units, Fail> {
+fn without_abstract_in(alloc: Global, table: &[(&[u8], &[u8], &[u8])]) -> Result<Units, Fail> {
     let world = world(alloc, table)?;
     let ancestry = Ancestry::new(alloc, &world)?;
     without_abstract(alloc, &world, &ancestry, 6)
@@ -134,13 +140,13 @@ fn without_abstract_in(alloc: Global, table: &[(&[u8], &[u8], bool)]) -> Result<
 #[test]
 fn differing_methods_are_known_below(rt: HostRuntime) -> Result<(), Fail> {
     let alloc = rt.alloc();
-    let table: [(&[u8], &[u8], bool); 6] = [
-        (b"B", b"A", false),
-        (b"E", b"D", true),
-        (b"D", b"A", true),
-        (b"A", b"Z", false),
-        (b"P", b"Q", false),
-        (b"Q", b"P", true),
+    let table: [(&[u8], &[u8], &[u8]); 6] = [
+        (b"B", b"A", b"."),
+        (b"E", b"D", b"x"),
+        (b"D", b"A", b"x"),
+        (b"A", b"Z", b"."),
+        (b"P", b"Q", b"."),
+        (b"Q", b"P", b"x"),
     ];
     let found = apart_in(alloc, &table)?;
     assert!(rt; found.is_text(b".xx.xx"));
@@ -151,15 +157,33 @@ fn differing_methods_are_known_below(rt: HostRuntime) -> Result<(), Fail> {
 #[test]
 fn implemented_methods_are_known_below(rt: HostRuntime) -> Result<(), Fail> {
     let alloc = rt.alloc();
-    let table: [(&[u8], &[u8], bool); 6] = [
-        (b"J", b"I", false),
-        (b"I", b"A", false),
-        (b"A", b"Z", true),
-        (b"N", b"I", true),
-        (b"X", b"Y", false),
-        (b"Y", b"X", true),
+    let table: [(&[u8], &[u8], &[u8]); 6] = [
+        (b"J", b"I", b"."),
+        (b"I", b"A", b"."),
+        (b"A", b"Z", b"x"),
+        (b"N", b"I", b"x"),
+        (b"X", b"Y", b"."),
+        (b"Y", b"X", b"x"),
     ];
     let found = without_abstract_in(alloc, &table)?;
     assert!(rt; found.is_text(b"xx..x."));
+    Ok(())
+}
+
+// A method is declared several times. Those of B agree with those of A. One of C is final, and D is below C. E has a
+// private one first, which F doesn't override.
+#[test]
+fn repeated_methods_are_compared(rt: HostRuntime) -> Result<(), Fail> {
+    let alloc = rt.alloc();
+    let table: [(&[u8], &[u8], &[u8]); 6] = [
+        (b"A", b"Z", b".."),
+        (b"B", b"A", b".."),
+        (b"C", b"Z", b".f"),
+        (b"D", b"C", b"."),
+        (b"E", b"Z", b"p."),
+        (b"F", b"E", b"."),
+    ];
+    let found = apart_in(alloc, &table)?;
+    assert!(rt; found.is_text(b"..xx.."));
     Ok(())
 }
