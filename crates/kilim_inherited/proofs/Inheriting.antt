@@ -1,8 +1,8 @@
 -- Trees of classes, each from its superclass's.
-use Rattle.std.proofs.Common.{◌≡◌, ℕ, zero, suc, ◌^◌, ◌<◌, ◌≤◌, true, List, [], ◌∷◌, Option, Some, None, is_some, length, refl, sym, ap, subst, ◌∙◌, arith, inl, inr, ◌⊎◌, unwrap_or}
-use Rattle.std.specs.Prelude.{slice_set}
+use Rattle.std.proofs.Common.{◌≡◌, ℕ, zero, suc, ◌^◌, ◌<◌, ◌≤◌, Bool, true, List, [], ◌∷◌, Option, Some, None, is_some, length, refl, sym, ap, subst, ◌∙◌, arith, inl, inr, ◌⊎◌, unwrap_or}
+use Rattle.std.specs.Prelude.{slice_set, if◌then◌else◌}
 use Rattle.std.specs.List.{slice_get}
-use Rattle.std.proofs.lemmas.Bool.{cases_lt}
+use Rattle.std.proofs.lemmas.Bool.{cases_lt, lt-ltb}
 use Rattle.std.proofs.lemmas.Option.{slice_get_past}
 use Rattle.kilim_program.specs.declared.names.ClassId.{ClassId}
 use Rattle.kilim_inherited.specs.declared.entry.Entry.{Entry}
@@ -182,7 +182,9 @@ module _ (ups : List (Option ClassId)) (entries : List (List Entry)) (fit : leng
 
   has : (c : ClassId) (k : ℕ) → k < 2 ^ 32 → inherits (record { nodes = nodes; roots = roots }) c k ≡ inherited entries k (line_in ups c)
   unfolding inherits
-  has c k lt = value_is c k (fits_levels k lt) (root_at roots c) refl
+  has c k lt =
+      let fits = fits_levels k lt in
+      ap (λ (b : Bool). if b then value_in nodes k (root_at roots c) else None) (lt-ltb k (2 ^ key_levels) fits) ∙ value_is c k fits (root_at roots c) refl
 
   pub is_right : IsRight ups entries (record { nodes = nodes; roots = roots })
   is_right = record {

@@ -1,6 +1,7 @@
 mod Halves
 mod Growing
 mod Putting
+mod Some
 mod Stable
 mod Fronts
 mod Inheriting

@@ -90,10 +90,10 @@ alone_leaf nodes tree key rest value is same levels k differ =
     let other : (rest == k) ≡ false = ap (λ (n : ℕ). n == k) same ∙ differ in
     at_known nodes levels tree k (Some (Leaf rest value)) is ∙ rw other refl
 
-side_even : (even odd k : ℕ) → (k % 2 == 0) ≡ true → side even odd k ≡ even
+pub side_even : (even odd k : ℕ) → (k % 2 == 0) ≡ true → side even odd k ≡ even
 side_even even odd k is = rw is refl
 
-side_odd : (even odd k : ℕ) → (k % 2 == 0) ≡ false → side even odd k ≡ odd
+pub side_odd : (even odd k : ℕ) → (k % 2 == 0) ≡ false → side even odd k ≡ odd
 side_odd even odd k isnt = rw isnt refl
 
 even_is : (k : ℕ) → (k % 2 == 0) ≡ true → k % 2 ≡ 0

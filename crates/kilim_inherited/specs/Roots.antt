@@ -1,5 +1,5 @@
 -- The trees of classes, each by its topmost node.
-use Rattle.std.specs.Prelude.{◌≡◌, ℕ, ◌<◌, ◌^◌, true, is_some, List, Option, Some, None, length, slice_get, unwrap_or}
+use Rattle.std.specs.Prelude.{◌≡◌, ℕ, ◌<◌, ◌^◌, ltb, if◌then◌else◌, true, is_some, List, Option, Some, None, length, slice_get, unwrap_or}
 use Rattle.kilim_program.specs.declared.names.ClassId.{ClassId}
 use Rattle.kilim_inherited.specs.declared.entry.Entry.{Entry}
 use Rattle.kilim_inherited.specs.declared.inherited.Inherited.{Inherited}
@@ -31,9 +31,17 @@ abbrev pub value_in : List Node → ℕ → Option ℕ → Option ℕ
 value_in nodes k None = None
 value_in nodes k (Some root) = value_at nodes key_levels root k
 
--- what a class inherits of a key
+-- what a class inherits of a key; nothing of a number that is no key, having more digits
 unfoldable pub inherits : Inherited → ClassId → ℕ → Option ℕ
-inherits it c k = value_in it.nodes k (root_at it.roots c)
+inherits it c k = if ltb k (2 ^ key_levels) then value_in it.nodes k (root_at it.roots c) else None
+
+-- a class inherits no value of any key
+abbrev pub InheritsNone : Inherited → ClassId → Type 0
+InheritsNone it c = (k : ℕ) → inherits it c k ≡ None
+
+-- it inherits one of some key
+abbrev pub InheritsSome : Inherited → ClassId → Type 0
+InheritsSome it c = (k : ℕ) × (k < 2 ^ 32) × (is_some (inherits it c k) ≡ true)
 
 -- Each class inherits what the first class of its line says that says something; which is what it says itself, or else
 -- what its superclass inherits, in a circle too.

@@ -1,12 +1,12 @@
 //! What each class inherits.
 
-ghost use Rattle.std.specs.Prelude.{◌≡◌, ◌≤◌, ◌<◌, ◌^◌, ℕ, None, true, IfOk, length};
-ghost use Rattle.kilim_inherited.specs.Roots.{inherits, IsRight};
+ghost use Rattle.std.specs.Prelude.{◌≡◌, ◌≤◌, true, false, IfOk, length};
+ghost use Rattle.kilim_inherited.specs.Roots.{inherits, InheritsNone, InheritsSome, IsRight};
 
 use crate::class_trees::{make_all, make_trees, no_roots, root_of};
 use crate::entry::Entry;
-use crate::lookup::{key_levels, value_at};
-use crate::node::{Node, add, node_at};
+use crate::lookup::{has_any, key_levels, value_at};
+use crate::node::{Node, add};
 use crate::order::superclasses_first;
 use kilim_program::{ClassId, NoMemory, Seq};
 use std::alloc::Global;
@@ -56,17 +56,14 @@ impl Inherited {
         }
     }
 
-    /// Whether a class is known to inherit no value of any key.
+    /// Whether a class inherits no value of any key.
     #[tactic(auto, unfolding(crate::specs::Roots::inherits))]
     pub fn has_none(&self, class: ClassId) -> bool
-        ensures { result ≡ true → (k : ℕ) → inherits self.now class k ≡ None }
+        ensures none { result ≡ true → InheritsNone self.now class }
+        ensures some { result ≡ false → InheritsSome self.now class }
     {
         match root_of(self.roots.as_slice(), class) {
-            Some(root) => match node_at(self.nodes.as_slice(), root) {
-                Some(Node::Leaf(_, _)) => false,
-                Some(Node::Branch(_, _)) => false,
-                _ => true,
-            },
+            Some(root) => !has_any(self.nodes.as_slice(), key_levels(), root),
             None => true,
         }
     }

@@ -165,6 +165,8 @@ fn circles(rt: HostRuntime) -> Result<(), Fail> {
             ]
         )
     );
+    assert!(rt; !inherited.has_none(ClassId(3)));
+    assert!(rt; inherited.has_none(ClassId(9)));
     Ok(())
 }
 

@@ -1,5 +1,5 @@
 -- Where no abstract method is left in a line, none is left above its first class.
-use Rattle.std.proofs.Common.{◌≡◌, ℕ, ◌+◌, ◌<◌, Bool, true, false, List, [], ◌∷◌, ◌++◌, length, take, drop, get_or, filter, Option, Some, None, refl, sym, ap, ◌∙◌}
+use Rattle.std.proofs.Common.{◌≡◌, ℕ, ◌+◌, ◌<◌, Bool, true, false, List, [], ◌∷◌, ◌++◌, length, take, drop, get_or, filter, Option, Some, None, is_some, refl, sym, ap, ◌∙◌}
 use Rattle.std.specs.Prelude.{◌&&◌, ◌||◌, not, if◌then◌else◌, Contains}
 use Rattle.std.specs.List.{list_any}
 use Rattle.std.specs.Str.{bytes_eq}
@@ -13,10 +13,10 @@ use Rattle.kilim_class_world.specs.declared.view.DeclaredMethod.{DeclaredMethod}
 use Rattle.kilim_class_world.specs.Faults.{is_left_above, left_above}
 use Rattle.kilim_class_world.specs.World.{World, declared_methods, is_method}
 use Rattle.kilim_inherited.specs.Inherited.{said_or}
-use Rattle.kilim_nearest.specs.Known.{known}
+use Rattle.kilim_nearest.specs.Known.{known, KnowsNone, KnowsSome}
 use Rattle.kilim_member_faults.specs.declared.heritage.Heritage.{Heritage}
 use Rattle.kilim_member_faults.specs.Parts.{shared_as, stands_in, is_nearer, is_left_over, is_class, StandsBehind}
-use Rattle.kilim_member_faults.specs.Heritage.{Inherits, is_shared_abstract, asks_for, left_in, first_shared}
+use Rattle.kilim_member_faults.specs.Heritage.{Inherits, LeavesNone, LeavesSome, is_shared_abstract, asks_for, left_in, first_shared}
 use Rattle.kilim_member_faults.proofs.Firsts.{drop_at, first_behind}
 use Rattle.kilim_member_faults.proofs.Places.{nearer_is}
 use Rattle.kilim_member_faults.proofs.Truth.{cases, some_of_contained}
@@ -79,6 +79,13 @@ module _ (w : World) where
   -- of a class that has none of any name
   pub none_known : (h : Heritage) (c : ClassId) → Inherits w h → ((name descriptor : List ℕ) → known h.left c name descriptor ≡ None) → left_above w (declared_methods w c) (ancestors_of w.outline c) ≡ []
   none_known h c inherits none = none_left c (ancestors_of w.outline c) (λ name descriptor. sym (inherits.left.in_longer c name descriptor) ∙ none name descriptor)
+
+  pub none_is_left : (h : Heritage) (c : ClassId) → Inherits w h → KnowsNone h.left c → LeavesNone w c
+  none_is_left h c inherits none name descriptor = sym (inherits.left.in_longer c name descriptor) ∙ none name descriptor
+
+  -- of one that has some of a name
+  pub some_is_left : (h : Heritage) (c : ClassId) → Inherits w h → KnowsSome h.left c → LeavesSome w c
+  some_is_left h c inherits some = (some.0, some.1, sym (ap is_some (inherits.left.in_longer c some.0 some.1)) ∙ some.2)
 
   -- ---- one method of an ancestor
 

@@ -124,6 +124,7 @@ module _ (w : World) (it : Nearest) (ups : List (Option ClassId)) (said : List (
         tells.by_one c name descriptor
         ∙ (ap (λ (o : Option (Option ℕ)). said_or o (from_above (λ up. known it up name descriptor) (up_in ups c))) (are name descriptor c)
         ∙ ap (said_or (each name descriptor c)) (ap (from_above (λ up. known it up name descriptor)) (upped c) ∙ above name descriptor (superclass_of (class_at w.outline c))));
+    named = tells.named;
   }
 
 module _ (w : World) (name descriptor : List ℕ) (d : ClassId) where

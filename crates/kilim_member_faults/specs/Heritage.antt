@@ -1,5 +1,5 @@
 -- What classes say of methods by name and descriptor, and what the nearest class of a line says.
-use Rattle.std.specs.Prelude.{◌≡◌, ℕ, ◌+◌, ◌==◌, Bool, ◌&&◌, not, if◌then◌else◌, List, [], ◌∷◌, ◌++◌, map, filter, length, slice_get, Option, Some, None, option_map}
+use Rattle.std.specs.Prelude.{◌≡◌, ℕ, ◌+◌, ◌==◌, Bool, true, ◌&&◌, not, is_some, if◌then◌else◌, List, [], ◌∷◌, ◌++◌, map, filter, length, slice_get, Option, Some, None, option_map}
 use Rattle.std.specs.List.{list_any, position_from}
 use Rattle.std.specs.Option.{option_and_then, option_or}
 use Rattle.kilim_program.specs.declared.names.ClassId.{ClassId}
@@ -13,7 +13,7 @@ use Rattle.kilim_class_world.specs.World.{World, declared_methods, is_method}
 use Rattle.kilim_inherited.specs.Inherited.{said_or}
 use Rattle.kilim_nearest.specs.declared.nearest.Nearest.{Nearest}
 use Rattle.kilim_nearest.specs.declared.said.Said.{Said}
-use Rattle.kilim_nearest.specs.Known.{known}
+use Rattle.kilim_nearest.specs.Known.{known, AllNamed}
 use Rattle.kilim_member_faults.specs.declared.heritage.Heritage.{Heritage}
 use Rattle.kilim_member_faults.specs.declared.heritage.Place.{Place}
 use Rattle.kilim_member_faults.specs.Parts.{is_shared, shared_as, stands_in}
@@ -65,11 +65,20 @@ own_at w c (Some p) = if p.class.0 == c.0 then slice_get (declared_methods w c) 
 abbrev pub left_in : World → List ℕ → List ℕ → List ClassId → Option ℕ
 left_in w name descriptor line = first_said (says_left w name descriptor) line
 
+-- no method of any name is left so in a class and its ancestors
+abbrev pub LeavesNone : World → ClassId → Type 0
+LeavesNone w c = (name descriptor : List ℕ) → left_in w name descriptor (c ∷ ancestors_of w.outline c) ≡ None
+
+-- one is
+abbrev pub LeavesSome : World → ClassId → Type 0
+LeavesSome w c = (name : List ℕ) × (descriptor : List ℕ) × (is_some (left_in w name descriptor (c ∷ ancestors_of w.outline c)) ≡ true)
+
 -- What a map has of each class is what the first class of its line says that says something; the same where its
 -- ancestors are put behind the class, which is longer than its line where it is its own ancestor.
 pub record Finds (w : World) (it : Nearest) (each : List ℕ → List ℕ → ClassId → Option (Option ℕ)) : Type 0 where
   pub in_line : (c : ClassId) (name descriptor : List ℕ) → known it c name descriptor ≡ first_said (each name descriptor) (line_of w.outline c)
   pub in_longer : (c : ClassId) (name descriptor : List ℕ) → known it c name descriptor ≡ first_said (each name descriptor) (c ∷ ancestors_of w.outline c)
+  pub named : AllNamed it
 
 -- what a map of numbers has of a class, in a list of places
 abbrev pub placed : List Place → Nearest → ClassId → List ℕ → List ℕ → Option Place

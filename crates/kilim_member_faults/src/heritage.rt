@@ -1,11 +1,11 @@
 //! What classes inherit: the nearest one that declares a method, and whether an abstract one is left.
 
-ghost use Rattle.std.specs.Prelude.{◌≡◌, ◌<◌, ◌^◌, ◌++◌, ◌∷◌, [], Some, None, true, IfOk, OnOk, length, option_copied, option_map};
+ghost use Rattle.std.specs.Prelude.{◌≡◌, ◌<◌, ◌^◌, ◌++◌, ◌∷◌, [], Some, None, true, false, IfOk, OnOk, length, option_copied, option_map};
 ghost use Rattle.kilim_program.specs.Keeps.{ancestors_of};
 ghost use Rattle.kilim_class_world.specs.Faults.{left_above};
 ghost use Rattle.kilim_class_world.specs.World.{declared_methods};
 ghost use Rattle.kilim_member_faults.specs.Parts.{is_shared};
-ghost use Rattle.kilim_member_faults.specs.Heritage.{Inherits, first_shared, first_declared, is_shared_abstract, saying, sayings, left_sayings, numbered, places_in, all_numbered, all_places, own_at, placed, left_by_class};
+ghost use Rattle.kilim_member_faults.specs.Heritage.{Inherits, LeavesNone, LeavesSome, first_shared, first_declared, is_shared_abstract, saying, sayings, left_sayings, numbered, places_in, all_numbered, all_places, own_at, placed, left_by_class};
 
 use crate::overrides::methods_of;
 use crate::signature::signature_of;
@@ -233,11 +233,14 @@ impl Heritage {
         own_at(world, class, self.place(class, signature))
     }
 
-    /// Whether it is known that no abstract method of an ancestor is left to a class.
-    #[tactic(auto, using(crate::proofs::Leaving::none_known))]
+    /// Whether of each name and descriptor the nearest class from a class up that declares such a method that isn't
+    /// private declares no abstract one. Then no abstract method of an ancestor is left to it.
+    #[tactic(auto, using(crate::proofs::Leaving::none_known, crate::proofs::Leaving::none_is_left, crate::proofs::Leaving::some_is_left))]
     pub fn leaves_none(&self, world: &World, class: ClassId) -> bool
         requires { Inherits world.now self.now }
-        ensures { result ≡ true → left_above world.now (declared_methods world.now class) (ancestors_of world.now.outline class) ≡ [] }
+        ensures above { result ≡ true → left_above world.now (declared_methods world.now class) (ancestors_of world.now.outline class) ≡ [] }
+        ensures none { result ≡ true → LeavesNone world.now class }
+        ensures some { result ≡ false → LeavesSome world.now class }
     {
         self.left.has_none(class)
     }

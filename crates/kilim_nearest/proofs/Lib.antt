@@ -1,3 +1,4 @@
 mod Growing
 mod Named
+mod Numbered
 mod Telling

@@ -1,5 +1,5 @@
 -- What classes inherit, by names with descriptors.
-use Rattle.std.specs.Prelude.{◌≡◌, ℕ, List, Option, Some, None}
+use Rattle.std.specs.Prelude.{◌≡◌, ◌<◌, ◌^◌, ℕ, true, is_some, List, Option, Some, None}
 use Rattle.kilim_program.specs.declared.names.ClassId.{ClassId}
 use Rattle.kilim_inherited.specs.Inherited.{said_or, line_in, up_in, from_above}
 use Rattle.kilim_inherited.specs.Roots.{inherits}
@@ -17,8 +17,21 @@ by_number of_number (Some k) = of_number k
 abbrev pub known : Nearest → ClassId → List ℕ → List ℕ → Option ℕ
 known it c name descriptor = by_number (inherits it.inherited c) (number_at it.numbers.places name descriptor)
 
+-- a class inherits nothing of any name
+abbrev pub KnowsNone : Nearest → ClassId → Type 0
+KnowsNone it c = (name descriptor : List ℕ) → known it c name descriptor ≡ None
+
+-- it inherits something of some name
+abbrev pub KnowsSome : Nearest → ClassId → Type 0
+KnowsSome it c = (name : List ℕ) × (descriptor : List ℕ) × (is_some (known it c name descriptor) ≡ true)
+
+-- each number that some class inherits something of is the number of a name with its descriptor
+abbrev pub AllNamed : Nearest → Type 0
+AllNamed it = (c : ClassId) (k : ℕ) → k < 2 ^ 32 → is_some (inherits it.inherited c k) ≡ true → (name : List ℕ) × (descriptor : List ℕ) × (number_at it.numbers.places name descriptor ≡ Some k)
+
 -- Each class inherits what the nearest class of its line says; which is what it says itself, or else what its superclass
 -- inherits, in a circle too.
 pub record Tells (it : Nearest) (ups : List (Option ClassId)) (said : List (List Said)) : Type 0 where
   pub nearest_is : (c : ClassId) (name descriptor : List ℕ) → known it c name descriptor ≡ nearest said name descriptor (line_in ups c)
   pub by_one : (c : ClassId) (name descriptor : List ℕ) → known it c name descriptor ≡ said_or (says said name descriptor c) (from_above (λ up. known it up name descriptor) (up_in ups c))
+  pub named : AllNamed it

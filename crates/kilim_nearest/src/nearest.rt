@@ -1,7 +1,7 @@
 //! The nearest class that says something of a member.
 
-ghost use Rattle.std.specs.Prelude.{◌≡◌, ◌≤◌, true, None, List, ℕ, IfOk, length};
-ghost use Rattle.kilim_nearest.specs.Known.{known, Tells};
+ghost use Rattle.std.specs.Prelude.{◌≡◌, ◌≤◌, true, false, IfOk, length};
+ghost use Rattle.kilim_nearest.specs.Known.{known, AllNamed, KnowsNone, KnowsSome, Tells};
 
 use crate::entries::all_entries;
 use crate::said::Said;
@@ -44,9 +44,10 @@ impl Nearest {
         }
     }
 
-    /// Whether a class is known to inherit nothing at all.
+    /// Whether a class inherits nothing at all.
     pub fn has_none(&self, class: ClassId) -> bool
-        ensures { result ≡ true → (name descriptor : List ℕ) → known self.now class name descriptor ≡ None }
+        ensures none { result ≡ true → KnowsNone self.now class }
+        ensures some { AllNamed self.now → result ≡ false → KnowsSome self.now class }
     {
         self.inherited.has_none(class)
     }

@@ -101,5 +101,6 @@ fn nearest_classes_are_found(rt: HostRuntime) -> Result<(), Fail> {
     assert!(rt; nearest.has_none(ClassId(5)));
     assert!(rt; !nearest.has_none(ClassId(2)));
     assert!(rt; !nearest.has_none(ClassId(3)));
+    assert!(rt; nearest.has_none(ClassId(7)));
     Ok(())
 }

@@ -1,8 +1,10 @@
-use Rattle.std.proofs.Common.{List, length, ap, subst, arith}
+use Rattle.std.proofs.Common.{List, length, is_some, ap, sym, ◌∙◌, subst, arith}
 use Rattle.kilim_inherited.specs.declared.entry.Entry.{Entry}
 use Rattle.kilim_inherited.specs.Roots.{inherits, IsRight}
 use Rattle.kilim_signatures.specs.Numbers.{number_at}
 use Rattle.kilim_nearest.proofs.Growing.{keyed_length}
+use Rattle.kilim_inherited.specs.Inherited.{line_in}
+use Rattle.kilim_nearest.proofs.Numbered.{in_line}
 use Rattle.kilim_nearest.proofs.Telling.{nearest_told, one_told}
 use Rattle.kilim_nearest.proofs.nearest.Nearest.new.Goals as goal
 
@@ -28,4 +30,5 @@ returns c =
       by_one = λ d name descriptor.
           one_told (number_at numbers.places) numbers.next (inherits it) c.args.said.now ess ups numbered.apart numbered.below numbered.fits c.in_ok-entries.ensures.keyed name descriptor d
           (right.by_one d);
+      named = λ d k fits is. in_line (number_at numbers.places) k c.args.said.now ess c.in_ok-entries.ensures.keyed (line_in ups d) (sym (ap is_some (right.inherited_is d k fits)) ∙ is);
     }
