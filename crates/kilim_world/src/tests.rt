@@ -189,31 +189,6 @@ fn classes_are_there(w: &World, form: Form) -> bool {
         && w.view_at(ClassId(8)).is_none()
 }
 
-#[test]
-fn classes_are_found(rt: HostRuntime) -> Result<(), Fail> {
-    let alloc = rt.alloc();
-    let w = world(alloc, Form::Plain)?;
-    assert!(rt; classes_are_there(&w, Form::Plain));
-    assert!(rt; class_is(alloc, &w, b"B", Some(1))?);
-    assert!(rt; class_is(alloc, &w, b"D", None)?);
-    Ok(())
-}
-
-#[test]
-fn forms_are_kept(rt: HostRuntime) -> Result<(), Fail> {
-    let w = world(rt.alloc(), Form::Woven)?;
-    assert!(rt; classes_are_there(&w, Form::Woven));
-    Ok(())
-}
-
-#[test]
-fn ancestors_are_found(rt: HostRuntime) -> Result<(), Fail> {
-    let alloc = rt.alloc();
-    let w = world(alloc, Form::Plain)?;
-    assert!(rt; all_ancestors_are(alloc, &w)?);
-    Ok(())
-}
-
 fn method_is(
     alloc: Global,
     w: &World,
@@ -242,15 +217,6 @@ fn no_others_are_found(alloc: Global, w: &World) -> Result<bool, Fail> {
             && method_is(alloc, w, 3, (b"<init>", b"()V"), None)?
             && method_is(alloc, w, 8, (b"<init>", b"()V"), None)?,
     )
-}
-
-#[test]
-fn methods_are_found(rt: HostRuntime) -> Result<(), Fail> {
-    let alloc = rt.alloc();
-    let w = world(alloc, Form::Woven)?;
-    assert!(rt; methods_are_nearest(alloc, &w)?);
-    assert!(rt; no_others_are_found(alloc, &w)?);
-    Ok(())
 }
 
 // 0 M and 1 kilim/Task are above each other, 2 D stands below them, and 3 E by itself.
@@ -295,15 +261,6 @@ fn inherits_all(alloc: Global, w: &World, class: u32) -> Result<bool, Fail> {
     )
 }
 
-#[test]
-fn circles_are_found(rt: HostRuntime) -> Result<(), Fail> {
-    let w = circle(rt.alloc())?;
-    assert!(rt; superclasses_are(&w, &[Some(1), Some(0), Some(0), None]));
-    assert!(rt; are_circular(&w, &[true, true, false, false, false]));
-    assert!(rt; !w.is_task(ClassId(3)) && !w.is_message(ClassId(3)));
-    Ok(())
-}
-
 fn first_three_inherit(alloc: Global, w: &World) -> Result<bool, Fail> {
     for class in [0, 1, 2] {
         if !inherits_all(alloc, w, class)? {
@@ -311,14 +268,6 @@ fn first_three_inherit(alloc: Global, w: &World) -> Result<bool, Fail> {
         }
     }
     Ok(true)
-}
-
-#[test]
-fn circles_inherit(rt: HostRuntime) -> Result<(), Fail> {
-    let alloc = rt.alloc();
-    let w = circle(alloc)?;
-    assert!(rt; first_three_inherit(alloc, &w)?);
-    Ok(())
 }
 
 fn places_are(
@@ -331,15 +280,6 @@ fn places_are(
     let (name, descriptor) = names;
     let signature = signature(alloc, name, descriptor)?;
     Ok(w.methods_named(ClassId(class), &signature) == expected)
-}
-
-#[test]
-fn places_are_found(rt: HostRuntime) -> Result<(), Fail> {
-    let alloc = rt.alloc();
-    let w = world(alloc, Form::Woven)?;
-    assert!(rt; places_are(alloc, &w, 1, (b"get", b"()I"), &[0, 2])?);
-    assert!(rt; places_are(alloc, &w, 0, (b"get", b"()I"), &[])?);
-    Ok(())
 }
 
 fn first_methods_are(w: &World, table: &[u32]) -> bool {
@@ -372,24 +312,6 @@ fn field_is(
     Ok(found == expected.map(FieldId))
 }
 
-#[test]
-fn fields_are_found(rt: HostRuntime) -> Result<(), Fail> {
-    let alloc = rt.alloc();
-    let w = world(alloc, Form::Plain)?;
-    assert!(rt; field_is(alloc, &w, 1, (b"x", b"I"), Some(0))?);
-    assert!(rt; field_is(alloc, &w, 1, (b"y", b"J"), Some(1))?);
-    assert!(rt; field_is(alloc, &w, 0, (b"y", b"J"), None)?);
-    Ok(())
-}
-
-#[test]
-fn numbers_are_counted(rt: HostRuntime) -> Result<(), Fail> {
-    let w = world(rt.alloc(), Form::Plain)?;
-    assert!(rt; first_methods_are(&w, &[0, 2, 5, 5, 5, 6, 6, 8, 8, 8]));
-    assert!(rt; first_fields_are(&w, &[0, 1, 2, 2, 2, 2, 2, 2, 2, 2]));
-    Ok(())
-}
-
 fn of(dims: u8, base: Base) -> Ty {
     Ty { dims, base }
 }
@@ -414,16 +336,6 @@ fn is_neither(w: &World, class: u32, kind: Kind) -> bool {
     !w.is_task(ClassId(class)) && !w.is_message(ClassId(class)) && kind_is(w, class, kind)
 }
 
-#[test]
-fn kinds_of_classes_are_told(rt: HostRuntime) -> Result<(), Fail> {
-    let w = world(rt.alloc(), Form::Plain)?;
-    assert!(rt; is_only_task(&w, 0) && is_only_task(&w, 1) && is_only_task(&w, 6));
-    assert!(rt; is_only_message(&w, 2) && is_only_message(&w, 5));
-    assert!(rt; is_neither(&w, 3, Kind::Private) && is_neither(&w, 4, Kind::Private));
-    assert!(rt; is_neither(&w, 7, Kind::Value) && is_neither(&w, 8, Kind::Private));
-    Ok(())
-}
-
 fn kinds_of_types(w: &World) -> bool {
     w.kind_of(&of(0, Base::Int)) == Kind::Value
         && w.kind_of(&of(2, Base::Int)) == Kind::Tree
@@ -435,14 +347,6 @@ fn task_arrays(w: &World) -> bool {
     w.is_task_array(&object(1, 1))
         && !w.is_task_array(&object(0, 1))
         && !w.is_task_array(&object(1, 2))
-}
-
-#[test]
-fn kinds_of_types_are_told(rt: HostRuntime) -> Result<(), Fail> {
-    let w = world(rt.alloc(), Form::Plain)?;
-    assert!(rt; kinds_of_types(&w));
-    assert!(rt; task_arrays(&w));
-    Ok(())
 }
 
 fn may_hold(w: &World, kind: Kind, class: u32) -> bool {
@@ -472,14 +376,6 @@ fn superclasses_that_fit(w: &World) -> bool {
         && !w.superclass_fits(ClassId(2), None)
 }
 
-#[test]
-fn what_fits_is_told(rt: HostRuntime) -> Result<(), Fail> {
-    let w = world(rt.alloc(), Form::Plain)?;
-    assert!(rt; fields_that_fit(&w));
-    assert!(rt; superclasses_that_fit(&w));
-    Ok(())
-}
-
 fn constants_that_fit(w: &World, empty: &Value) -> bool {
     w.constant_fits(&of(0, Base::Char), Some(&Value::Int(7)))
         && !w.constant_fits(&of(0, Base::Long), Some(&Value::Int(7)))
@@ -489,11 +385,108 @@ fn constants_that_fit(w: &World, empty: &Value) -> bool {
         && !w.constant_fits(&of(0, Base::Int), None)
 }
 
+fn classes_are_found(alloc: Global, w: &World) -> Result<bool, Fail> {
+    Ok(
+        classes_are_there(w, Form::Plain)
+            && class_is(alloc, w, b"B", Some(1))?
+            && class_is(alloc, w, b"D", None)?
+            && all_ancestors_are(alloc, w)?,
+    )
+}
+
+fn fields_are_found(alloc: Global, w: &World) -> Result<bool, Fail> {
+    Ok(
+        field_is(alloc, w, 1, (b"x", b"I"), Some(0))?
+            && field_is(alloc, w, 1, (b"y", b"J"), Some(1))?
+            && field_is(alloc, w, 0, (b"y", b"J"), None)?,
+    )
+}
+
+fn numbers_are_counted(w: &World) -> bool {
+    first_methods_are(w, &[0, 2, 5, 5, 5, 6, 6, 8, 8, 8])
+        && first_fields_are(w, &[0, 1, 2, 2, 2, 2, 2, 2, 2, 2])
+}
+
+fn tasks_and_messages_are_told(w: &World) -> bool {
+    is_only_task(w, 0)
+        && is_only_task(w, 1)
+        && is_only_task(w, 6)
+        && is_only_message(w, 2)
+        && is_only_message(w, 5)
+}
+
+fn others_are_told(w: &World) -> bool {
+    is_neither(w, 3, Kind::Private)
+        && is_neither(w, 4, Kind::Private)
+        && is_neither(w, 7, Kind::Value)
+        && is_neither(w, 8, Kind::Private)
+}
+
+fn kinds_are_told(w: &World) -> bool {
+    tasks_and_messages_are_told(w)
+        && others_are_told(w)
+        && kinds_of_types(w)
+        && task_arrays(w)
+        && fields_that_fit(w)
+        && superclasses_that_fit(w)
+}
+
+fn constants_are_told(alloc: Global, w: &World) -> Result<bool, Fail> {
+    let empty = Value::Text(text(alloc, b"")?);
+    Ok(constants_that_fit(w, &empty))
+}
+
+fn plain_world_answers(alloc: Global, w: &World) -> Result<bool, Fail> {
+    Ok(
+        classes_are_found(alloc, w)?
+            && fields_are_found(alloc, w)?
+            && numbers_are_counted(w)
+            && kinds_are_told(w)
+            && constants_are_told(alloc, w)?,
+    )
+}
+
+fn woven_world_answers(alloc: Global, w: &World) -> Result<bool, Fail> {
+    Ok(
+        classes_are_there(w, Form::Woven)
+            && methods_are_nearest(alloc, w)?
+            && no_others_are_found(alloc, w)?
+            && places_are(alloc, w, 1, (b"get", b"()I"), &[0, 2])?
+            && places_are(alloc, w, 0, (b"get", b"()I"), &[])?,
+    )
+}
+
+fn circle_answers(alloc: Global, w: &World) -> Result<bool, Fail> {
+    Ok(
+        superclasses_are(w, &[Some(1), Some(0), Some(0), None])
+            && are_circular(w, &[true, true, false, false, false])
+            && !w.is_task(ClassId(3))
+            && !w.is_message(ClassId(3))
+            && first_three_inherit(alloc, w)?,
+    )
+}
+
+// A test that drops a world at many ends is dear to prove, so each makes one and asks all of it at once.
 #[test]
-fn constants_that_fit_are_told(rt: HostRuntime) -> Result<(), Fail> {
+fn a_plain_world_answers(rt: HostRuntime) -> Result<(), Fail> {
     let alloc = rt.alloc();
     let w = world(alloc, Form::Plain)?;
-    let empty = Value::Text(text(alloc, b"")?);
-    assert!(rt; constants_that_fit(&w, &empty));
+    assert!(rt; plain_world_answers(alloc, &w)?);
+    Ok(())
+}
+
+#[test]
+fn a_woven_world_answers(rt: HostRuntime) -> Result<(), Fail> {
+    let alloc = rt.alloc();
+    let w = world(alloc, Form::Woven)?;
+    assert!(rt; woven_world_answers(alloc, &w)?);
+    Ok(())
+}
+
+#[test]
+fn a_world_with_a_circle_answers(rt: HostRuntime) -> Result<(), Fail> {
+    let alloc = rt.alloc();
+    let w = circle(alloc)?;
+    assert!(rt; circle_answers(alloc, &w)?);
     Ok(())
 }
