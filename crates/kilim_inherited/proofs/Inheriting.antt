@@ -1,8 +1,8 @@
 -- Trees of classes, each from its superclass's.
-use Rattle.std.proofs.Common.{◌≡◌, ℕ, zero, suc, ◌^◌, ◌<◌, ◌≤◌, Bool, true, List, [], ◌∷◌, Option, Some, None, is_some, length, refl, sym, ap, subst, ◌∙◌, arith, inl, inr, ◌⊎◌, unwrap_or}
-use Rattle.std.specs.Prelude.{slice_set, if◌then◌else◌}
+use Rattle.std.proofs.Common.{◌≡◌, ℕ, zero, suc, ◌^◌, ◌<◌, ◌≤◌, true, List, [], ◌∷◌, Option, Some, None, is_some, length, refl, sym, ap, subst, ◌∙◌, arith, inl, inr, ◌⊎◌, unwrap_or}
+use Rattle.std.specs.Prelude.{slice_set}
 use Rattle.std.specs.List.{slice_get}
-use Rattle.std.proofs.lemmas.Bool.{cases_lt, lt-ltb}
+use Rattle.std.proofs.lemmas.Bool.{cases_lt}
 use Rattle.std.proofs.lemmas.Option.{slice_get_past}
 use Rattle.kilim_program.specs.declared.names.ClassId.{ClassId}
 use Rattle.kilim_inherited.specs.declared.entry.Entry.{Entry}
@@ -10,7 +10,7 @@ use Rattle.kilim_inherited.specs.declared.node.Node.{Node}
 use Rattle.kilim_inherited.specs.declared.node.Node.TheVariants.{Empty}
 use Rattle.kilim_inherited.specs.Fronts.{class_after, said_onto, SaysNoMore, IsBase, IsFront}
 use Rattle.kilim_inherited.specs.Inherited.{said_of, said_at, said_or, inherited, line_up, line_in, up_in, from_above}
-use Rattle.kilim_inherited.specs.Trees.{IsTable, Makes, Has, value_at, key_levels, ChildrenWithin}
+use Rattle.kilim_inherited.specs.Trees.{IsTable, Makes, Has, Fits, value_at, key_levels, ChildrenWithin}
 use Rattle.kilim_inherited.specs.Roots.{root_at, value_in, Sound, MadeBelow, Keeps, IsRight, inherits}
 use Rattle.kilim_inherited.proofs.Growing.{stays, grown_length}
 use Rattle.kilim_inherited.proofs.Putting.{empty_has}
@@ -106,28 +106,37 @@ module _ (ups : List (Option ClassId)) (entries : List (List Entry)) (fit : leng
     base_inside c m base (inr h) = sound.inside h.0 base h.2
 
     -- what is put onto the base is what the class inherits
-    base_has : (c : ClassId) (m base k : ℕ) → k < 2 ^ key_levels → IsBase ups roots c m base → said_onto entries k (line_up ups m c) (value_at nodes key_levels base k) ≡ inherited entries k (line_in ups c)
-    base_has c m base k fits (inl h) =
+    base_has : (c : ClassId) (m base k : ℕ) → IsBase ups roots c m base → said_onto entries k (line_up ups m c) (value_at nodes key_levels base k) ≡ inherited entries k (line_in ups c)
+    base_has c m base k (inl h) =
         ap (said_onto entries k (line_up ups m c)) (ap (λ (t : ℕ). value_at nodes key_levels t k) h.0 ∙ empty_has nodes sound.table key_levels k)
         ∙ (onto_none k (line_up ups m c) ∙ no_more k c m h.1)
-    base_has c m base k fits (inr h) =
-        ap (said_onto entries k (line_up ups m c)) (sound.values h.0 base h.2 k fits)
+    base_has c m base k (inr h) =
+        ap (said_onto entries k (line_up ups m c)) (sound.values h.0 base h.2 k)
         ∙ (onto_is k (line_up ups m c) (inherited entries k (line_in ups h.0)) ∙ made_is_same ups entries k fit c h.0 m h.1)
 
-    pub sound_more : (new : List Node) (c : ClassId) (classes : List ClassId) (base made : ℕ) → IsFront ups roots c classes base → Makes nodes new made → Has new key_levels made (λ k. said_onto entries k classes (value_at nodes key_levels base k)) → Sound ups entries new (slice_set roots c.0 (Some made))
-    sound_more new c classes base made front makes has = record {
+    pub base_fits : (c : ClassId) (m base : ℕ) → IsBase ups roots c m base → Fits nodes key_levels base
+    base_fits c m base (inl h) = λ k le. ap (λ (t : ℕ). value_at nodes key_levels t k) h.0 ∙ empty_has nodes sound.table key_levels k
+    base_fits c m base (inr h) = sound.fits h.0 base h.2
+
+    pub sound_more : (new : List Node) (c : ClassId) (classes : List ClassId) (base made : ℕ) → IsFront ups roots c classes base → Makes nodes new made → Has new key_levels made (λ k. said_onto entries k classes (value_at nodes key_levels base k)) → Fits new key_levels made → Sound ups entries new (slice_set roots c.0 (Some made))
+    sound_more new c classes base made front makes has fits = record {
       table = makes.table;
       inside = λ d root e.
           elim (root_set roots c d made root e) [
             | inl h ↦ subst (λ (n : ℕ). n < length new) h.1 makes.inside
             | inr h ↦ grown_length nodes new makes.grown root (sound.inside d root h)
           ];
-      values = λ d root e k fits.
+      values = λ d root e k.
           elim (root_set roots c d made root e) [
             | inl h ↦
                 ap (λ (t : ℕ). value_at new key_levels t k) (sym h.1)
-                ∙ (has k fits ∙ (ap (λ (cs : List ClassId). said_onto entries k cs (value_at nodes key_levels base k)) front.classes_are ∙ (base_has c front.count base k fits front.base_is ∙ ap (λ (x : ClassId). inherited entries k (line_in ups x)) (sym h.0))))
-            | inr h ↦ stays nodes new sound.table makes.grown key_levels root k (sound.inside d root h) ∙ sound.values d root h k fits
+                ∙ (has k ∙ (ap (λ (cs : List ClassId). said_onto entries k cs (value_at nodes key_levels base k)) front.classes_are ∙ (base_has c front.count base k front.base_is ∙ ap (λ (x : ClassId). inherited entries k (line_in ups x)) (sym h.0))))
+            | inr h ↦ stays nodes new sound.table makes.grown key_levels root k (sound.inside d root h) ∙ sound.values d root h k
+          ];
+      fits = λ d root e k le.
+          elim (root_set roots c d made root e) [
+            | inl h ↦ ap (λ (t : ℕ). value_at new key_levels t k) (sym h.1) ∙ fits k le
+            | inr h ↦ stays nodes new sound.table makes.grown key_levels root k (sound.inside d root h) ∙ sound.fits d root h k le
           ];
     }
 
@@ -140,7 +149,8 @@ pub sound_first : (ups : List (Option ClassId)) (entries : List (List Entry)) (n
 sound_first ups entries nodes roots is none = record {
   table = subst IsTable (sym is) (record { begins = refl; inside = first_inside });
   inside = λ c root e. absurd (let n = none c in cc);
-  values = λ c root e k fits. absurd (let n = none c in cc);
+  values = λ c root e k. absurd (let n = none c in cc);
+  fits = λ c root e k le. absurd (let n = none c in cc);
 }
 
 -- ---- all of them
@@ -168,29 +178,36 @@ module _ (ups : List (Option ClassId)) (entries : List (List Entry)) (fit : leng
         | inr ge ↦ past_is c k (omega arith)
       ]
 
-  value_is : (c : ClassId) (k : ℕ) → k < 2 ^ key_levels → (found : Option ℕ) → root_at roots c ≡ found → value_in nodes k found ≡ inherited entries k (line_in ups c)
-  value_is c k fits (Some root) is = sound.values c root is k fits
-  value_is c k fits None is = not_made c k is
+  value_is : (c : ClassId) (k : ℕ) (found : Option ℕ) → root_at roots c ≡ found → value_in nodes k found ≡ inherited entries k (line_in ups c)
+  value_is c k (Some root) is = sound.values c root is k
+  value_is c k None is = not_made c k is
 
   above_is : (k : ℕ) (f g : ClassId → Option ℕ) → ((c : ClassId) → f c ≡ g c) → (o : Option ClassId) → from_above f o ≡ from_above g o
   above_is k f g same None = refl
   above_is k f g same (Some up) = same up
 
-  fits_levels : (k : ℕ) → k < 2 ^ 32 → k < 2 ^ key_levels
-  unfolding key_levels
-  fits_levels k lt = lt
-
-  has : (c : ClassId) (k : ℕ) → k < 2 ^ 32 → inherits (record { nodes = nodes; roots = roots }) c k ≡ inherited entries k (line_in ups c)
+  has : (c : ClassId) (k : ℕ) → inherits (record { nodes = nodes; roots = roots }) c k ≡ inherited entries k (line_in ups c)
   unfolding inherits
-  has c k lt =
-      let fits = fits_levels k lt in
-      ap (λ (b : Bool). if b then value_in nodes k (root_at roots c) else None) (lt-ltb k (2 ^ key_levels) fits) ∙ value_is c k fits (root_at roots c) refl
+  has c k = value_is c k (root_at roots c) refl
+
+  more_digits : (k : ℕ) → 2 ^ 32 ≤ k → 2 ^ key_levels ≤ k
+  unfolding key_levels
+  more_digits k le = le
+
+  nothing_is : (c : ClassId) (k : ℕ) → 2 ^ key_levels ≤ k → (found : Option ℕ) → root_at roots c ≡ found → value_in nodes k found ≡ None
+  nothing_is c k le (Some root) is = sound.fits c root is k le
+  nothing_is c k le None is = refl
+
+  no_more_keys : (c : ClassId) (k : ℕ) → 2 ^ 32 ≤ k → inherits (record { nodes = nodes; roots = roots }) c k ≡ None
+  unfolding inherits
+  no_more_keys c k le = nothing_is c k (more_digits k le) (root_at roots c) refl
 
   pub is_right : IsRight ups entries (record { nodes = nodes; roots = roots })
   is_right = record {
     inherited_is = has;
-    by_one = λ c k lt.
-        has c k lt
+    by_one = λ c k.
+        has c k
         ∙ (sym (one_more ups entries k fit c)
-        ∙ ap (said_or (said_at entries k c)) (above_is k (λ up. inherited entries k (line_in ups up)) (λ up. inherits (record { nodes = nodes; roots = roots }) up k) (λ up. sym (has up k lt)) (up_in ups c)));
+        ∙ ap (said_or (said_at entries k c)) (above_is k (λ up. inherited entries k (line_in ups up)) (λ up. inherits (record { nodes = nodes; roots = roots }) up k) (λ up. sym (has up k)) (up_in ups c)));
+    only_keys = no_more_keys;
   }

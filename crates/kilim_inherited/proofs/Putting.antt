@@ -1,13 +1,13 @@
 -- Trees with one more key, step by step.
-use Rattle.std.proofs.Common.{◌≡◌, ℕ, zero, suc, ◌+◌, ◌-◌, ◌/◌, ◌%◌, ◌^◌, ◌<◌, ◌==◌, Bool, true, false, List, [], ◌∷◌, ◌++◌, Option, Some, None, Result, Ok, Err, length, refl, sym, ap, subst, ◌∙◌, arith, inl, inr}
+use Rattle.std.proofs.Common.{◌≡◌, ℕ, zero, suc, ◌+◌, ◌-◌, ◌/◌, ◌%◌, ◌^◌, ◌*◌, ◌<◌, ◌≤◌, ◌==◌, pow-suc, Bool, true, false, List, [], ◌∷◌, ◌++◌, Option, Some, None, Result, Ok, Err, length, refl, sym, ap, subst, ◌∙◌, arith, inl, inr}
 use Rattle.std.specs.Prelude.{if◌then◌else◌, IfOk}
 use Rattle.std.specs.List.{slice_get}
 use Rattle.std.proofs.lemmas.List.{length-append}
-use Rattle.std.proofs.lemmas.Bool.{cases_Bool, eqb-true}
+use Rattle.std.proofs.lemmas.Bool.{cases_Bool, eqb-true, eqb-false, eq-eqb, ne_eqb}
 use Rattle.std.proofs.lemmas.Bool.Decides.{eqb_tells}
 use Rattle.kilim_inherited.specs.declared.node.Node.{Node}
 use Rattle.kilim_inherited.specs.declared.node.Node.TheVariants.{Empty, Leaf, Branch}
-use Rattle.kilim_inherited.specs.Trees.{only_at, side, value_by, value_at, ChildrenWithin, IsTable, Grows, Makes, Has, HasOnly, IsAlone, Joins, Opens, changed_at}
+use Rattle.kilim_inherited.specs.Trees.{only_at, side, value_by, value_at, ChildrenWithin, IsTable, Grows, Makes, Has, Fits, HasOnly, IsAlone, Joins, Opens, changed_at}
 use Rattle.kilim_inherited.proofs.Halves.{half_fits, same_half, apart, is_odd}
 use Rattle.kilim_inherited.proofs.Growing.{get_last, side_within, stays, table_more, grows_more, grows_none}
 
@@ -200,13 +200,13 @@ module _ (old mid low new : List Node) (tree levels key : ℕ) (value : Option �
   put_even is has joins =
       let z = even_is key is in (
         makes_all,
-        λ k fits.
+        λ k.
             joins levels k
             ∙ elim (cases_Bool (k % 2 == 0)) [
               | inl yes_even ↦
                   let e = even_is k yes_even in
                   ap (λ (t : ℕ). value_at low levels t (k / 2)) (side_even side_made odd k yes_even)
-                  ∙ (has (k / 2) (half_fits levels k fits) ∙ changed k even (sym (side_even even odd k yes_even)) (omega arith))
+                  ∙ (has (k / 2) ∙ changed k even (sym (side_even even odd k yes_even)) (omega arith))
               | inr not_even ↦
                   let o = is_odd k not_even in
                   ap (λ (t : ℕ). value_at low levels t (k / 2)) (side_odd side_made odd k not_even)
@@ -218,7 +218,7 @@ module _ (old mid low new : List Node) (tree levels key : ℕ) (value : Option �
   put_odd isnt has joins =
       let z = is_odd key isnt in (
         makes_all,
-        λ k fits.
+        λ k.
             joins levels k
             ∙ elim (cases_Bool (k % 2 == 0)) [
               | inl yes_even ↦
@@ -228,7 +228,7 @@ module _ (old mid low new : List Node) (tree levels key : ℕ) (value : Option �
               | inr not_even ↦
                   let o = is_odd k not_even in
                   ap (λ (t : ℕ). value_at low levels t (k / 2)) (side_odd even side_made k not_even)
-                  ∙ (has (k / 2) (half_fits levels k fits) ∙ changed k odd (sym (side_odd even odd k not_even)) (omega arith))
+                  ∙ (has (k / 2) ∙ changed k odd (sym (side_odd even odd k not_even)) (omega arith))
             ],
       )
 
@@ -243,11 +243,43 @@ rest_fits levels key some fits =
     let e : levels ≡ suc (levels - 1) = omega arith in
     half_fits (levels - 1) key (subst (λ (n : ℕ). key < 2 ^ n) e fits)
 
+-- ---- no value of a number with more digits
+
+module _ (old mid : List Node) (tree even odd levels : ℕ) (opens : Opens old mid tree even odd) (fits : Fits old (suc levels) tree) where
+  doubled : (j r : ℕ) → 2 ^ levels ≤ j → 2 ^ suc levels ≤ 2 * j + r
+  doubled j r le = let e = pow-suc 2 levels in omega arith
+
+  even_fits : Fits mid levels even
+  even_fits j le =
+      let k = 2 * j + 0 in
+      let half : k / 2 ≡ j = omega arith in
+      sym (ap (λ (t : ℕ). value_at mid levels t (k / 2)) (side_even even odd k (eq-eqb (k % 2) 0 (omega arith))) ∙ ap (value_at mid levels even) half)
+      ∙ (opens.values levels k ∙ fits k (doubled j 0 le))
+
+  odd_fits : Fits mid levels odd
+  odd_fits j le =
+      let k = 2 * j + 1 in
+      let half : k / 2 ≡ j = omega arith in
+      sym (ap (λ (t : ℕ). value_at mid levels t (k / 2)) (side_odd even odd k (ne_eqb (k % 2) 0 (λ e. omega arith))) ∙ ap (value_at mid levels odd) half)
+      ∙ (opens.values levels k ∙ fits k (doubled j 1 le))
+
+-- both trees of an opened one
+pub opened_fits : (old mid : List Node) (tree even odd levels : ℕ) → 0 < levels → Opens old mid tree even odd → Fits old levels tree → Fits mid (levels - 1) even × Fits mid (levels - 1) odd
+opened_fits old mid tree even odd levels some opens fits =
+    let e : levels ≡ suc (levels - 1) = omega arith in
+    let fit : Fits old (suc (levels - 1)) tree = subst (λ (n : ℕ). Fits old n tree) e fits in
+    (even_fits old mid tree even odd (levels - 1) opens fit, odd_fits old mid tree even odd (levels - 1) opens fit)
+
+-- a key that fits is put
+pub changed_fits : (old new : List Node) (levels tree made key : ℕ) (value : Option ℕ) → key < 2 ^ levels → Fits old levels tree → Has new levels made (changed_at key value (value_at old levels tree)) → Fits new levels made
+changed_fits old new levels tree made key value lt fits has k le =
+    has k ∙ (ap (λ (b : Bool). if b then value else value_at old levels tree k) (ne_eqb key k (λ e. omega arith)) ∙ fits k le)
+
 -- where the value is what it was, nothing changes
 pub unchanged : (nodes : List Node) (levels tree key : ℕ) (value : Option ℕ) → IsTable nodes → tree < length nodes → value_at nodes levels tree key ≡ value → Makes nodes nodes tree × Has nodes levels tree (changed_at key value (value_at nodes levels tree))
 unchanged nodes levels tree key value table inside is = (
   record { table = table; grown = grows_none nodes; inside = inside },
-  λ k fits.
+  λ k.
       elim (eqb_tells key k) [
         | inl same ↦ ap (value_at nodes levels tree) (sym same.1) ∙ (is ∙ sym (ap (λ (b : Bool). if b then value else value_at nodes levels tree k) same.0))
         | inr differ ↦ sym (ap (λ (b : Bool). if b then value else value_at nodes levels tree k) differ.0)

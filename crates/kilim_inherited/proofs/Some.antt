@@ -8,16 +8,11 @@ use Rattle.kilim_inherited.specs.declared.node.Node.TheVariants.{Leaf, Branch}
 use Rattle.kilim_inherited.specs.Trees.{side, value_at, HasSome}
 use Rattle.kilim_inherited.proofs.Putting.{at_known, side_even, side_odd}
 
--- a key with one digit more
-double_fits : (d k r : ℕ) → r < 2 → k < 2 ^ d → 2 * k + r < 2 ^ suc d
-double_fits d k r few lt = let e = pow-suc 2 d in omega arith
-
 module _ (nodes : List Node) (tree : ℕ) where
   module _ (levels rest value : ℕ) (is : slice_get nodes tree ≡ Some (Leaf rest value)) where
-    pub leaf_has : rest < 2 ^ levels → HasSome nodes levels tree
-    leaf_has fits = (
+    pub leaf_has : HasSome nodes levels tree
+    leaf_has = (
       rest,
-      fits,
       ap is_some (at_known nodes levels tree rest (Some (Leaf rest value)) is ∙ ap (λ (b : Bool). if b then Some value else None) (eq-eqb rest rest refl)),
     )
 
@@ -30,8 +25,7 @@ module _ (nodes : List Node) (tree : ℕ) where
         let k = 2 * h.0 + 0 in
         let half : k / 2 ≡ h.0 = omega arith in (
           k,
-          double_fits levels h.0 0 (omega arith) h.1,
-          ap is_some (at_side levels k ∙ (ap (λ (t : ℕ). value_at nodes levels t (k / 2)) (side_even even odd k (eq-eqb (k % 2) 0 (omega arith))) ∙ ap (value_at nodes levels even) half)) ∙ h.2,
+          ap is_some (at_side levels k ∙ (ap (λ (t : ℕ). value_at nodes levels t (k / 2)) (side_even even odd k (eq-eqb (k % 2) 0 (omega arith))) ∙ ap (value_at nodes levels even) half)) ∙ h.1,
         )
 
     odd_has : (levels : ℕ) → HasSome nodes levels odd → HasSome nodes (suc levels) tree
@@ -39,8 +33,7 @@ module _ (nodes : List Node) (tree : ℕ) where
         let k = 2 * h.0 + 1 in
         let half : k / 2 ≡ h.0 = omega arith in (
           k,
-          double_fits levels h.0 1 (omega arith) h.1,
-          ap is_some (at_side levels k ∙ (ap (λ (t : ℕ). value_at nodes levels t (k / 2)) (side_odd even odd k (ne_eqb (k % 2) 0 (λ e. omega arith))) ∙ ap (value_at nodes levels odd) half)) ∙ h.2,
+          ap is_some (at_side levels k ∙ (ap (λ (t : ℕ). value_at nodes levels t (k / 2)) (side_odd even odd k (ne_eqb (k % 2) 0 (λ e. omega arith))) ∙ ap (value_at nodes levels odd) half)) ∙ h.1,
         )
 
     pub some_has : (levels below : ℕ) → 0 < levels → (below ≡ even) ⊎ (below ≡ odd) → HasSome nodes (levels - 1) below → HasSome nodes levels tree

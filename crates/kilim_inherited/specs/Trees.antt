@@ -1,5 +1,5 @@
 -- Trees of keys in a list of nodes, each tree by its place.
-use Rattle.std.specs.Prelude.{◌≡◌, ℕ, zero, suc, ◌/◌, ◌%◌, ◌^◌, ◌<◌, ◌==◌, true, false, ◌++◌, if◌then◌else◌, List, Option, Some, None, is_some, length, slice_get}
+use Rattle.std.specs.Prelude.{◌≡◌, ℕ, zero, suc, ◌/◌, ◌%◌, ◌^◌, ◌<◌, ◌≤◌, ◌==◌, true, false, ◌++◌, if◌then◌else◌, List, Option, Some, None, is_some, length, slice_get}
 use Rattle.kilim_inherited.specs.declared.node.Node.{Node}
 use Rattle.kilim_inherited.specs.declared.node.Node.TheVariants.{Empty, Leaf, Branch}
 
@@ -45,17 +45,21 @@ pub record Makes (old new : List Node) (made : ℕ) : Type 0 where
   pub grown : Grows old new
   pub inside : made < length new
 
--- a tree has these values at keys with so many levels
+-- a tree has these values
 abbrev pub Has : List Node → ℕ → ℕ → (ℕ → Option ℕ) → Type 0
-Has nodes levels tree value = (k : ℕ) → k < 2 ^ levels → value_at nodes levels tree k ≡ value k
+Has nodes levels tree value = (k : ℕ) → value_at nodes levels tree k ≡ value k
 
--- a tree has a value at no key with so many levels
+-- a tree has no value of any number
 abbrev pub HasNone : List Node → ℕ → ℕ → Type 0
-HasNone nodes levels tree = (k : ℕ) → k < 2 ^ levels → value_at nodes levels tree k ≡ None
+HasNone nodes levels tree = (k : ℕ) → value_at nodes levels tree k ≡ None
 
--- it has one at some
+-- it has one of some number
 abbrev pub HasSome : List Node → ℕ → ℕ → Type 0
-HasSome nodes levels tree = (k : ℕ) × (k < 2 ^ levels) × (is_some (value_at nodes levels tree k) ≡ true)
+HasSome nodes levels tree = (k : ℕ) × (is_some (value_at nodes levels tree k) ≡ true)
+
+-- a tree has no value of a number with more digits than it has levels
+abbrev pub Fits : List Node → ℕ → ℕ → Type 0
+Fits nodes levels tree = (k : ℕ) → 2 ^ levels ≤ k → value_at nodes levels tree k ≡ None
 
 -- a value at one key, and others as they were
 abbrev pub changed_at : ℕ → Option ℕ → (ℕ → Option ℕ) → ℕ → Option ℕ

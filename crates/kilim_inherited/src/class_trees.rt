@@ -5,7 +5,7 @@ ghost use Rattle.kilim_program.specs.declared.names.ClassId.{ClassId};
 ghost use Rattle.kilim_inherited.specs.Fronts.{IsFront, said_onto};
 ghost use Rattle.kilim_inherited.specs.Inherited.{said_at, said_in, up_in};
 ghost use Rattle.kilim_inherited.specs.Roots.{root_at, MadeBelow, Keeps, Sound};
-ghost use Rattle.kilim_inherited.specs.Trees.{IsTable, Makes, Has, value_at, key_levels};
+ghost use Rattle.kilim_inherited.specs.Trees.{IsTable, Makes, Has, Fits, value_at, key_levels};
 
 use crate::entry::Entry;
 use crate::node::Node;
@@ -89,7 +89,8 @@ pub fn put_classes(
 ) -> Result<u32, NoMemory>
     requires table { IsTable nodes.old }
     requires inside { tree < length nodes.old }
-    ensures { IfOk result (λ made. Makes nodes.old nodes.new made × Has nodes.new key_levels made (λ k. said_onto entries.now k classes.now (value_at nodes.old key_levels tree k))) }
+    requires fits { Fits nodes.old key_levels tree }
+    ensures { IfOk result (λ made. Makes nodes.old nodes.new made × Has nodes.new key_levels made (λ k. said_onto entries.now k classes.now (value_at nodes.old key_levels tree k)) × Fits nodes.new key_levels made) }
 {
     let mut made = tree;
     let mut left = classes.len();

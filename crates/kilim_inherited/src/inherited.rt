@@ -56,7 +56,7 @@ impl Inherited {
         }
     }
 
-    /// Whether a class inherits no value of any key.
+    /// Whether a class inherits no value of any number.
     #[tactic(auto, unfolding(crate::specs::Roots::inherits))]
     pub fn has_none(&self, class: ClassId) -> bool
         ensures none { result ≡ true → InheritsNone self.now class }

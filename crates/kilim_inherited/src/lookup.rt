@@ -1,6 +1,6 @@
 //! Look-up in a tree of keys.
 
-ghost use Rattle.std.specs.Prelude.{◌≡◌, ◌≤◌, ◌<◌, ◌^◌, true, false};
+ghost use Rattle.std.specs.Prelude.{◌≡◌, ◌^◌, true, false};
 ghost use Rattle.kilim_inherited.specs.Trees.{HasNone, HasSome, value_at, key_levels};
 
 use crate::node::{Node, node_at};
@@ -33,22 +33,14 @@ pub fn value_at(nodes: &[Node], levels: u32, tree: u32, key: u32) -> Option<u32>
     }
 }
 
-// Whether a number has at most so many binary digits.
-fn has_digits(number: u32, digits: u32) -> bool
-    ensures few { result ≡ true → number < 2 ^ digits }
-    ensures more { result ≡ false → 2 ^ digits ≤ number }
-{
-    number == 0 || (digits > 0 && has_digits(number / 2, digits - 1))
-}
-
-/// Whether some key has a value in a tree with so many levels. Both trees of a branch are searched, so that it is true
-/// of each list of nodes; as trees are made, the first one that isn't empty has a value.
+/// Whether some number has a value in a tree with so many levels. Both trees of a branch are searched, so that it is
+/// true of each list of nodes; as trees are made, the first one that isn't empty has a value.
 pub fn has_any(nodes: &[Node], levels: u32, tree: u32) -> bool
     ensures some { result ≡ true → HasSome nodes.now levels tree }
     ensures none { result ≡ false → HasNone nodes.now levels tree }
 {
     match node_at(nodes, tree) {
-        Some(Node::Leaf(rest, _)) => has_digits(rest, levels),
+        Some(Node::Leaf(_, _)) => true,
         Some(Node::Branch(even, odd)) => {
             levels > 0 && (has_any(nodes, levels - 1, even) || has_any(nodes, levels - 1, odd))
         }

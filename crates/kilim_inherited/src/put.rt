@@ -2,7 +2,7 @@
 
 ghost use Rattle.std.specs.Prelude.{◌≡◌, ◌<◌, ◌^◌, true, length, IfOk};
 ghost use Rattle.kilim_inherited.specs.Inherited.{said_in, said_or};
-ghost use Rattle.kilim_inherited.specs.Trees.{IsTable, Makes, Has, HasOnly, IsAlone, Joins, Opens, changed_at, value_at, key_levels};
+ghost use Rattle.kilim_inherited.specs.Trees.{IsTable, Makes, Has, Fits, HasOnly, IsAlone, Joins, Opens, changed_at, value_at, key_levels};
 
 use crate::entry::Entry;
 use crate::lookup::{key_levels, value_at};
@@ -74,7 +74,8 @@ pub fn put(
     value: Option<u32>,
 ) -> Result<u32, NoMemory>
     requires table { IsTable nodes.old }
-    requires fits { key < 2 ^ levels }
+    requires fits { Fits nodes.old levels tree }
+    requires key { key < 2 ^ levels }
     ensures { IfOk result (λ made. Makes nodes.old nodes.new made × Has nodes.new levels made (changed_at key value (value_at nodes.old levels tree))) }
 {
     if levels == 0 || is_alone(nodes.as_slice(), tree, key) {
@@ -94,7 +95,8 @@ pub fn put(
 pub fn put_entry(nodes: &mut Seq<Node>, tree: u32, entry: Entry) -> Result<u32, NoMemory>
     requires table { IsTable nodes.old }
     requires inside { tree < length nodes.old }
-    ensures { IfOk result (λ made. Makes nodes.old nodes.new made × Has nodes.new key_levels made (changed_at entry.key entry.value (value_at nodes.old key_levels tree))) }
+    requires fits { Fits nodes.old key_levels tree }
+    ensures { IfOk result (λ made. Makes nodes.old nodes.new made × Has nodes.new key_levels made (changed_at entry.key entry.value (value_at nodes.old key_levels tree)) × Fits nodes.new key_levels made) }
 {
     if value_at(nodes.as_slice(), key_levels(), tree, entry.key) == entry.value {
         return Ok(tree);
@@ -106,7 +108,8 @@ pub fn put_entry(nodes: &mut Seq<Node>, tree: u32, entry: Entry) -> Result<u32, 
 pub fn put_entries(nodes: &mut Seq<Node>, tree: u32, entries: &[Entry]) -> Result<u32, NoMemory>
     requires table { IsTable nodes.old }
     requires inside { tree < length nodes.old }
-    ensures { IfOk result (λ made. Makes nodes.old nodes.new made × Has nodes.new key_levels made (λ k. said_or (said_in entries.now k) (value_at nodes.old key_levels tree k))) }
+    requires fits { Fits nodes.old key_levels tree }
+    ensures { IfOk result (λ made. Makes nodes.old nodes.new made × Has nodes.new key_levels made (λ k. said_or (said_in entries.now k) (value_at nodes.old key_levels tree k)) × Fits nodes.new key_levels made) }
 {
     let mut made = tree;
     let mut left = entries.len();

@@ -1,5 +1,5 @@
 -- What classes inherit, by names with descriptors.
-use Rattle.std.specs.Prelude.{◌≡◌, ◌<◌, ◌^◌, ℕ, true, is_some, List, Option, Some, None}
+use Rattle.std.specs.Prelude.{◌≡◌, ℕ, true, is_some, List, Option, Some, None}
 use Rattle.kilim_program.specs.declared.names.ClassId.{ClassId}
 use Rattle.kilim_inherited.specs.Inherited.{said_or, line_in, up_in, from_above}
 use Rattle.kilim_inherited.specs.Roots.{inherits}
@@ -27,7 +27,7 @@ KnowsSome it c = (name : List ℕ) × (descriptor : List ℕ) × (is_some (known
 
 -- each number that some class inherits something of is the number of a name with its descriptor
 abbrev pub AllNamed : Nearest → Type 0
-AllNamed it = (c : ClassId) (k : ℕ) → k < 2 ^ 32 → is_some (inherits it.inherited c k) ≡ true → (name : List ℕ) × (descriptor : List ℕ) × (number_at it.numbers.places name descriptor ≡ Some k)
+AllNamed it = (c : ClassId) (k : ℕ) → is_some (inherits it.inherited c k) ≡ true → (name : List ℕ) × (descriptor : List ℕ) × (number_at it.numbers.places name descriptor ≡ Some k)
 
 -- Each class inherits what the nearest class of its line says; which is what it says itself, or else what its superclass
 -- inherits, in a circle too.

@@ -1,5 +1,5 @@
 -- Lines of superclasses, and which classes stand in them.
-use Rattle.std.proofs.Common.{◌≡◌, ℕ, zero, suc, ◌<◌, ◌^◌, Bool, true, false, List, [], ◌∷◌, length, map, Option, Some, None, Result, Ok, Err, refl, sym, ap, ◌∙◌, inl, inr, arith}
+use Rattle.std.proofs.Common.{◌≡◌, ℕ, zero, suc, ◌<◌, Bool, true, false, List, [], ◌∷◌, length, map, Option, Some, None, Result, Ok, Err, refl, sym, ap, ◌∙◌, inl, inr, arith}
 use Rattle.std.specs.Prelude.{◌==◌, ◌||◌, ◌++◌, codes, IfOk, if◌then◌else◌, is_some, option_map, slice_get, unwrap_or}
 use Rattle.std.specs.List.{list_any}
 use Rattle.std.specs.Str.{bytes_eq}
@@ -82,7 +82,7 @@ mark_said (Some false) = refl
 
 pub marks_are : (own : List Bool) (ups : List (Option ClassId)) (it : Inherited) → IsRight ups (map mark_entries own) it → (c : ClassId) → is_some (inherits it c 0) ≡ list_any (mark_at own) (line_in ups c)
 marks_are own ups it right c =
-    ap (λ (o : Option ℕ). is_some o) (right.inherited_is c 0 (omega arith))
+    ap (λ (o : Option ℕ). is_some o) (right.inherited_is c 0)
     ∙ any_says (mark_at own) (map mark_entries own) 0 (λ d. ap (λ (o : Option (List Entry)). said_of o 0) (slice_get-map mark_entries own d.0) ∙ mark_said (slice_get own d.0)) (line_in ups c)
 
 any_same : {A : Type 0} (f g : A → Bool) → ((x : A) → f x ≡ g x) → (xs : List A) → list_any f xs ≡ list_any g xs
@@ -130,8 +130,8 @@ own_said count k c lt =
           ap (λ (o : Option (List Entry)). said_of o k) out ∙ sym (ap (λ (b : Bool). if b then Some (Some 0) else None) isnt)
     ]
 
-pub lineages_are : (p : Program) (ups : List (Option ClassId)) (it : Inherited) (count : ℕ) → AreSuperclasses p ups → count < 2 ^ 32 → IsRight ups (each_below own_key count) it → (c : ClassId) (k : ℕ) → k < count → is_some (inherits it c k) ≡ list_any (λ d. d.0 == k) (line_of p c)
-lineages_are p ups it count are few right c k lt =
-    ap (λ (o : Option ℕ). is_some o) (right.inherited_is c k (omega arith))
+pub lineages_are : (p : Program) (ups : List (Option ClassId)) (it : Inherited) (count : ℕ) → AreSuperclasses p ups → IsRight ups (each_below own_key count) it → (c : ClassId) (k : ℕ) → k < count → is_some (inherits it c k) ≡ list_any (λ d. d.0 == k) (line_of p c)
+lineages_are p ups it count are right c k lt =
+    ap (λ (o : Option ℕ). is_some o) (right.inherited_is c k)
     ∙ (any_says (λ d. d.0 == k) (each_below own_key count) k (λ d. own_said count k d lt) _
     ∙ ap (list_any (λ d. d.0 == k)) (are.line_is c))

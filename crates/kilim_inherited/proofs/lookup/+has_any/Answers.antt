@@ -6,8 +6,8 @@ use Rattle.kilim_inherited.proofs.lookup.+has_any.Goals as goal
 
 pub returns-in-Some-Leaf-clause-some : goal.returns-in-Some-Leaf-clause-some
 returns-in-Some-Leaf-clause-some t c = λ yes.
-    let is : slice_get c.args.nodes.now c.args.tree ≡ Some (Leaf c.in-Some-Leaf.rest c.in-Some-Leaf.field-0-1) = cc in
-    leaf_has c.args.nodes.now c.args.tree c.args.levels c.in-Some-Leaf.rest c.in-Some-Leaf.field-0-1 is (c.has_digits.ensures.few yes)
+    let is : slice_get c.args.nodes.now c.args.tree ≡ Some (Leaf c.in-Some-Leaf.field-0-0 c.in-Some-Leaf.field-0-1) = cc in
+    leaf_has c.args.nodes.now c.args.tree c.args.levels c.in-Some-Leaf.field-0-0 c.in-Some-Leaf.field-0-1 is
 
 pub returns-then-has_any-clause-some : goal.returns-then-has_any-clause-some
 returns-then-has_any-clause-some t c = λ yes.

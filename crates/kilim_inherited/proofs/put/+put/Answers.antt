@@ -1,17 +1,19 @@
 use Rattle.std.proofs.Common.{◌≡◌, ℕ, ◌-◌, ◌<◌, ◌%◌, ◌==◌, true, false, arith, rules}
 use Rattle.kilim_inherited.specs.Trees.{Makes, Has, Joins, changed_at, value_at}
-use Rattle.kilim_inherited.proofs.Putting.{ok_then, put_even, put_odd, at_levels, rest_fits}
+use Rattle.kilim_inherited.proofs.Putting.{ok_then, put_even, put_odd, at_levels, rest_fits, opened_fits}
 use Rattle.kilim_inherited.proofs.put.+put.Goals as goal
 
 pub put-requires : goal.put-requires
 put-requires t c =
     let some : 0 < c.args.levels = omega arith in
-    (omega arith, (c.in_ok-even.ensures.table, rest_fits c.args.levels c.args.key some c.requires.fits))
+    let below = opened_fits c.args.nodes.now c.opened.new.nodes c.args.tree c.in_ok-even.even c.in_ok-even.odd c.args.levels some c.in_ok-even.ensures c.requires.fits in
+    (omega arith, (c.in_ok-even.ensures.table, (below.0, rest_fits c.args.levels c.args.key some c.requires.key)))
 
 pub put-requires-else-key-eq0 : goal.put-requires-else-key-eq0
 put-requires-else-key-eq0 t c =
     let some : 0 < c.args.levels = omega arith in
-    (omega arith, (c.in_ok-even.ensures.table, rest_fits c.args.levels c.args.key some c.requires.fits))
+    let below = opened_fits c.args.nodes.now c.opened.new.nodes c.args.tree c.in_ok-even.even c.in_ok-even.odd c.args.levels some c.in_ok-even.ensures c.requires.fits in
+    (omega arith, (c.in_ok-even.ensures.table, (below.1, rest_fits c.args.levels c.args.key some c.requires.key)))
 
 pub returns-in_ok-even-2 : goal.returns-in_ok-even-2
 returns-in_ok-even-2 t c =

@@ -43,7 +43,7 @@ returns c =
       outlined = c.in_ok-outline.ensures;
       named = c.in_ok-ids.ensures;
       superclasses_are = are;
-      lineages_are = λ d k lt. lineages_are outline ups c.in_ok-lineages.lineages (length ups) are (let few = c.requires.few in omega arith) right d k (omega arith);
+      lineages_are = λ d k lt. lineages_are outline ups c.in_ok-lineages.lineages (length ups) are right d k (omega arith);
       methods_are = c.in_ok-methods.ensures;
       first_methods_are = c.in_ok-first_methods.ensures;
       first_fields_are = c.in_ok-first_fields.ensures;

@@ -25,10 +25,10 @@ returns c =
     let right = subst (λ (es : List (List Entry)). IsRight ups es it) c.as_slice.ensures c.in_ok-inherited.ensures in
     record {
       nearest_is = λ d name descriptor.
-          nearest_told (number_at numbers.places) numbers.next (inherits it) c.args.said.now ess ups numbered.apart numbered.below numbered.fits c.in_ok-entries.ensures.keyed name descriptor d
+          nearest_told (number_at numbers.places) (inherits it) c.args.said.now ess ups numbered.apart c.in_ok-entries.ensures.keyed name descriptor d
           (right.inherited_is d);
       by_one = λ d name descriptor.
-          one_told (number_at numbers.places) numbers.next (inherits it) c.args.said.now ess ups numbered.apart numbered.below numbered.fits c.in_ok-entries.ensures.keyed name descriptor d
+          one_told (number_at numbers.places) (inherits it) c.args.said.now ess ups numbered.apart c.in_ok-entries.ensures.keyed name descriptor d
           (right.by_one d);
-      named = λ d k fits is. in_line (number_at numbers.places) k c.args.said.now ess c.in_ok-entries.ensures.keyed (line_in ups d) (sym (ap is_some (right.inherited_is d k fits)) ∙ is);
+      named = λ d k is. in_line (number_at numbers.places) k c.args.said.now ess c.in_ok-entries.ensures.keyed (line_in ups d) (sym (ap is_some (right.inherited_is d k)) ∙ is);
     }

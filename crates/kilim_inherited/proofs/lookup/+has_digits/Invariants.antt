@@ -1,4 +1,0 @@
-use Rattle.kilim_inherited.proofs.lookup.+has_digits.Given as goal
-
-abbrev pub decreases-has_digits : goal.decreases-has_digits
-decreases-has_digits l = l.digits
