@@ -100,33 +100,22 @@ fn classes_are_known(alloc: Global, w: &World) -> Result<bool, Fail> {
     Ok(there && missing)
 }
 
-#[test]
-fn types_are_found(rt: HostRuntime) -> Result<(), Fail> {
-    let alloc = rt.alloc();
-    let w = world(alloc, Form::Plain)?;
-    assert!(rt; bases_are_known(&w));
-    assert!(rt; classes_are_known(alloc, &w)?);
-    Ok(())
-}
-
 fn named_is(w: &World, named: &Named, ty: Option<Ty>, class: Option<ClassId>) -> bool {
     type_named(w, named) == ty && class_named_by(w, named) == class
 }
 
-#[test]
-fn names_are_found(rt: HostRuntime) -> Result<(), Fail> {
-    let alloc = rt.alloc();
-    let w = world(alloc, Form::Plain)?;
+fn names_are_known(alloc: Global, w: &World) -> Result<bool, Fail> {
     let class = Named::AClass(text(alloc, b"M")?);
-    assert!(rt; named_is(&w, &class, object(0, 1), Some(ClassId(1))));
     let array = Named::AnArray(FieldText {
         dims: 1,
         base: BaseText::Class(text(alloc, b"M")?),
     });
-    assert!(rt; named_is(&w, &array, object(1, 1), None));
     let malformed = Named::Malformed(text(alloc, b"[M")?);
-    assert!(rt; named_is(&w, &malformed, None, None));
-    Ok(())
+    Ok(
+        named_is(w, &class, object(0, 1), Some(ClassId(1)))
+            && named_is(w, &array, object(1, 1), None)
+            && named_is(w, &malformed, None, None),
+    )
 }
 
 fn one(alloc: Global, ascii: &[u8]) -> Result<Seq<Units>, Fail> {
@@ -195,85 +184,99 @@ fn qualifiers_are(
 // Two parameters, a message and one of the private class, with these annotations on the method and on both.
 fn two_are(
     alloc: Global,
+    w: &World,
     class: u32,
     marks: [&[u8]; 3],
     expected: [Qualifier; 3],
 ) -> Result<bool, Fail> {
-    let w = world(alloc, Form::Plain)?;
     let [on, first, second] = marks;
     let marks = marked(alloc, on, first, second)?;
     let method = declared(alloc, b"m", b"(LM;LP;)V", marks)?;
-    qualifiers_are(alloc, &w, class, &method, &expected)
+    qualifiers_are(alloc, w, class, &method, &expected)
 }
 
-#[test]
-fn annotations_are_read(rt: HostRuntime) -> Result<(), Fail> {
-    let alloc = rt.alloc();
+fn annotations_are_read(alloc: Global, w: &World) -> Result<bool, Fail> {
     let free: &[u8] = b"Lkilim/Free;";
     let cuttable: &[u8] = b"Lkilim/Cuttable;";
     let is_free = [Qualifier::Cuttable, Qualifier::Free, Qualifier::Safe];
-    assert!(rt; two_are(alloc, 1, [cuttable, free, free], is_free)?);
     let is_safe = [Qualifier::Safe, Qualifier::Safe, Qualifier::Safe];
-    assert!(rt; two_are(alloc, 1, [b"", b"", cuttable], is_safe)?);
     let of_private = [Qualifier::Safe, Qualifier::Cuttable, Qualifier::Safe];
-    assert!(rt; two_are(alloc, 2, [free, cuttable, b""], of_private)?);
-    Ok(())
+    Ok(
+        two_are(alloc, w, 1, [cuttable, free, free], is_free)?
+            && two_are(alloc, w, 1, [b"", b"", cuttable], is_safe)?
+            && two_are(alloc, w, 2, [free, cuttable, b""], of_private)?,
+    )
 }
 
 // No parameters that are trees, and no annotations.
 fn plain_is(
     alloc: Global,
-    form: Form,
+    w: &World,
     class: u32,
     names: (&[u8], &[u8]),
     expected: &[Qualifier],
 ) -> Result<bool, Fail> {
-    let w = world(alloc, form)?;
     let (name, descriptor) = names;
     let method = declared(alloc, name, descriptor, marked(alloc, b"", b"", b"")?)?;
-    qualifiers_are(alloc, &w, class, &method, expected)
+    qualifiers_are(alloc, w, class, &method, expected)
 }
 
-#[test]
-fn receivers_have_defaults(rt: HostRuntime) -> Result<(), Fail> {
-    let alloc = rt.alloc();
+fn receivers_have_defaults(alloc: Global, w: &World) -> Result<bool, Fail> {
     let cuttable = [Qualifier::Cuttable];
     let safe = [Qualifier::Safe];
-    assert!(rt; plain_is(alloc, Form::Plain, 0, (b"execute", b"()V"), &cuttable)?);
-    assert!(rt; plain_is(alloc, Form::Plain, 1, (b"execute", b"()V"), &safe)?);
-    assert!(rt; plain_is(alloc, Form::Plain, 2, (b"<init>", b"()V"), &cuttable)?);
-    assert!(rt; plain_is(alloc, Form::Plain, 0, (b"put", b"()V"), &safe)?);
-    Ok(())
+    Ok(
+        plain_is(alloc, w, 0, (b"execute", b"()V"), &cuttable)?
+            && plain_is(alloc, w, 1, (b"execute", b"()V"), &safe)?
+            && plain_is(alloc, w, 2, (b"<init>", b"()V"), &cuttable)?
+            && plain_is(alloc, w, 0, (b"put", b"()V"), &safe)?,
+    )
 }
 
-#[test]
-fn fibers_have_defaults(rt: HostRuntime) -> Result<(), Fail> {
-    let alloc = rt.alloc();
+// With a fiber, `execute` is a task's own in the woven form alone.
+fn fiber_has_default(alloc: Global, w: &World, receiver: Qualifier) -> Result<bool, Fail> {
     let woven: (&[u8], &[u8]) = (b"execute", b"(Lkilim/Fiber;)V");
-    let cuttable = [Qualifier::Cuttable, Qualifier::Safe];
-    let safe = [Qualifier::Safe, Qualifier::Safe];
-    assert!(rt; plain_is(alloc, Form::Woven, 0, woven, &cuttable)?);
-    assert!(rt; plain_is(alloc, Form::Plain, 0, woven, &safe)?);
-    Ok(())
+    plain_is(alloc, w, 0, woven, &[receiver, Qualifier::Safe])
 }
 
-fn stated(alloc: Global) -> Result<bool, Fail> {
-    let w = world(alloc, Form::Plain)?;
+fn stated_are_kept(alloc: Global, w: &World) -> Result<bool, Fail> {
     let mut params: Seq<Qualifier> = Seq::new(alloc);
     params.push(Qualifier::Free)?;
     let marks = Marks::Stated(Qualifier::Cuttable, params);
     let method = declared(alloc, b"put", b"(I)V", marks)?;
     qualifiers_are(
         alloc,
-        &w,
+        w,
         2,
         &method,
         &[Qualifier::Cuttable, Qualifier::Free],
     )
 }
 
+fn plain_world_answers(alloc: Global, w: &World) -> Result<bool, Fail> {
+    Ok(
+        bases_are_known(w)
+            && classes_are_known(alloc, w)?
+            && names_are_known(alloc, w)?
+            && annotations_are_read(alloc, w)?
+            && receivers_have_defaults(alloc, w)?
+            && fiber_has_default(alloc, w, Qualifier::Safe)?
+            && stated_are_kept(alloc, w)?,
+    )
+}
+
+// A test that drops a world at many ends is dear to prove, so each makes one and asks all of it at once.
 #[test]
-fn stated_ones_are_kept(rt: HostRuntime) -> Result<(), Fail> {
-    assert!(rt; stated(rt.alloc())?);
+fn a_plain_world_answers(rt: HostRuntime) -> Result<(), Fail> {
+    let alloc = rt.alloc();
+    let w = world(alloc, Form::Plain)?;
+    assert!(rt; plain_world_answers(alloc, &w)?);
+    Ok(())
+}
+
+#[test]
+fn a_woven_world_answers(rt: HostRuntime) -> Result<(), Fail> {
+    let alloc = rt.alloc();
+    let w = world(alloc, Form::Woven)?;
+    assert!(rt; fiber_has_default(alloc, &w, Qualifier::Cuttable)?);
     Ok(())
 }
