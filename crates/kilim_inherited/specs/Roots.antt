@@ -11,7 +11,7 @@ use Rattle.kilim_inherited.specs.Trees.{IsTable, Has, Fits, value_at, key_levels
 abbrev pub root_at : List (Option ℕ) → ClassId → Option ℕ
 root_at roots c = unwrap_or (slice_get roots c.0) None
 
--- each tree that is made has what its class inherits
+-- each tree that is made has what its class inherits, and nothing of numbers with more digits than keys have
 pub record Sound (ups : List (Option ClassId)) (entries : List (List Entry)) (nodes : List Node) (roots : List (Option ℕ)) : Type 0 where
   pub table : IsTable nodes
   pub inside : (c : ClassId) (root : ℕ) → root_at roots c ≡ Some root → root < length nodes

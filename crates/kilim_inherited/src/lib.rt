@@ -1,4 +1,4 @@
-//! What the classes of a program inherit, key by key, found in about as many steps as the number of keys has binary digits.
+//! What the classes of a program inherit, key by key, found in at most as many steps as the greatest key has binary digits.
 //!
 //! Each class's tree of keys is its superclass's tree with its own entries put onto it: old trees stay, and what is
 //! equal is shared. So a look-up takes no longer where the line of superclasses is long.

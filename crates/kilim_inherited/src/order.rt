@@ -4,7 +4,7 @@ use crate::class_trees::superclass_in;
 use kilim_program::{ClassId, NoMemory, Seq};
 use std::alloc::Global;
 
-/// Whether a class is seen for the first time; never past the end.
+// Whether a class is seen for the first time; never past the end.
 fn is_new(seen: &mut Vec<bool>, class: ClassId) -> bool {
     let place = class.0 as usize;
     if place >= seen.len() || seen[place] {

@@ -31,7 +31,7 @@ pub fn leaf(nodes: &mut Seq<Node>, key: u32, value: Option<u32>) -> Result<u32, 
     }
 }
 
-/// The tree of two trees, the empty one where both are.
+/// The tree of two trees.
 pub fn branch(nodes: &mut Seq<Node>, even: u32, odd: u32) -> Result<u32, NoMemory>
     requires table { IsTable nodes.old }
     requires even { even < length nodes.old }
@@ -39,6 +39,7 @@ pub fn branch(nodes: &mut Seq<Node>, even: u32, odd: u32) -> Result<u32, NoMemor
     ensures { IfOk result (λ made. Makes nodes.old nodes.new made × Joins nodes.old nodes.new even odd made) }
 {
     if even == 0 && odd == 0 {
+        // The empty tree has no second node.
         Ok(0)
     } else {
         add(nodes, Node::Branch(even, odd))
@@ -91,7 +92,7 @@ pub fn put(
     }
 }
 
-/// The tree where one entry stands before what the tree has. Where it changes nothing, it is the tree itself.
+/// The tree where one entry stands before what the tree has.
 pub fn put_entry(nodes: &mut Seq<Node>, tree: u32, entry: Entry) -> Result<u32, NoMemory>
     requires table { IsTable nodes.old }
     requires inside { tree < length nodes.old }
@@ -99,6 +100,7 @@ pub fn put_entry(nodes: &mut Seq<Node>, tree: u32, entry: Entry) -> Result<u32, 
     ensures { IfOk result (λ made. Makes nodes.old nodes.new made × Has nodes.new key_levels made (changed_at entry.key entry.value (value_at nodes.old key_levels tree)) × Fits nodes.new key_levels made) }
 {
     if value_at(nodes.as_slice(), key_levels(), tree, entry.key) == entry.value {
+        // Nothing changes, and nothing is made.
         return Ok(tree);
     }
     put(nodes, key_levels(), tree, entry.key, entry.value)

@@ -35,6 +35,20 @@ fn entries(alloc: Global, table: &[&[(u32, Option<u32>)]]) -> Result<Seq<Seq<Ent
     Ok(entries)
 }
 
+// Of the superclass of each class and of what each class says.
+fn inherited(
+    alloc: Global,
+    ups: &[Option<u32>],
+    table: &[&[(u32, Option<u32>)]],
+) -> Result<Inherited, Fail> {
+    let ups = superclasses(alloc, ups)?;
+    let entries = entries(alloc, table)?;
+    if entries.len() > ups.len() {
+        return Err("a class without a superclass".into());
+    }
+    Ok(Inherited::new(alloc, ups.as_slice(), entries.as_slice())?)
+}
+
 // Whether each class has these answers at these keys.
 fn answers(inherited: &Inherited, table: &[(u32, u32, Option<u32>)]) -> bool {
     for (class, key, answer) in table {
@@ -45,51 +59,61 @@ fn answers(inherited: &Inherited, table: &[(u32, u32, Option<u32>)]) -> bool {
     true
 }
 
+// A class, a key and the answer.
+const LINE: [(u32, u32, Option<u32>); 10] = [
+    (0, 5, Some(50)),
+    (0, 4, Some(40)),
+    (0, 1, None),
+    (1, 5, Some(60)),
+    (1, 4, None),
+    (2, 5, None),
+    (2, 4, Some(41)),
+    (2, 0xffff_ffff, Some(7)),
+    (2, 0x7fff_ffff, None),
+    (3, 5, None),
+];
+
 // Class 2 extends 1, which extends 0.
 #[test]
 fn a_line_of_three(rt: HostRuntime) -> Result<(), Fail> {
     let alloc = rt.alloc();
-    let ups = superclasses(alloc, &[None, Some(0), Some(1)])?;
-    let entries = entries(
+    let inherited = inherited(
         alloc,
+        &[None, Some(0), Some(1)],
         &[
             &[(5, Some(50)), (4, Some(40)), (5, Some(51))],
             &[(5, Some(60)), (4, None)],
             &[(0xffff_ffff, Some(7)), (5, None), (4, Some(41))],
         ],
     )?;
-    assert!(rt; entries.len() <= ups.len());
-    let inherited = Inherited::new(alloc, ups.as_slice(), entries.as_slice())?;
-    assert!(rt;
-        answers(
-            &inherited,
-            &[
-                (0, 5, Some(50)),
-                (0, 4, Some(40)),
-                (0, 1, None),
-                (1, 5, Some(60)),
-                (1, 4, None),
-                (2, 5, None),
-                (2, 4, Some(41)),
-                (2, 0xffff_ffff, Some(7)),
-                (2, 0x7fff_ffff, None),
-                (3, 5, None),
-            ]
-        )
-    );
+    assert!(rt; answers(&inherited, &LINE));
     assert!(rt; !inherited.has_none(ClassId(0)));
     assert!(rt; !inherited.has_none(ClassId(2)));
     assert!(rt; inherited.has_none(ClassId(3)));
     Ok(())
 }
 
+const BRANCHES: [(u32, u32, Option<u32>); 11] = [
+    (0, 8, Some(80)),
+    (0, 12, Some(83)),
+    (0, 24, None),
+    (1, 8, Some(82)),
+    (1, 24, Some(81)),
+    (2, 8, Some(82)),
+    (2, 24, None),
+    (3, 8, None),
+    (3, 12, None),
+    (4, 8, Some(80)),
+    (4, 12, Some(83)),
+];
+
 // Classes 0, 1 and 3 extend 2, which stands behind the first two; 3 takes away what 2 has. Of 4 nothing is said.
 #[test]
 fn branches_of_one_root(rt: HostRuntime) -> Result<(), Fail> {
     let alloc = rt.alloc();
-    let ups = superclasses(alloc, &[Some(2), Some(2), None, Some(2), Some(0)])?;
-    let entries = entries(
+    let inherited = inherited(
         alloc,
+        &[Some(2), Some(2), None, Some(2), Some(0)],
         &[
             &[(8, Some(80))],
             &[(24, Some(81))],
@@ -97,41 +121,37 @@ fn branches_of_one_root(rt: HostRuntime) -> Result<(), Fail> {
             &[(12, None), (8, None), (3, None)],
         ],
     )?;
-    assert!(rt; entries.len() <= ups.len());
-    let inherited = Inherited::new(alloc, ups.as_slice(), entries.as_slice())?;
-    assert!(rt;
-        answers(
-            &inherited,
-            &[
-                (0, 8, Some(80)),
-                (0, 12, Some(83)),
-                (0, 24, None),
-                (1, 8, Some(82)),
-                (1, 24, Some(81)),
-                (2, 8, Some(82)),
-                (2, 24, None),
-                (3, 8, None),
-                (3, 12, None),
-                (4, 8, Some(80)),
-                (4, 12, Some(83)),
-            ]
-        )
-    );
+    assert!(rt; answers(&inherited, &BRANCHES));
     assert!(rt; inherited.has_none(ClassId(3)));
     assert!(rt; !inherited.has_none(ClassId(2)));
     Ok(())
 }
 
+const CIRCLES: [(u32, u32, Option<u32>); 15] = [
+    (0, 7, Some(70)),
+    (0, 8, Some(82)),
+    (0, 9, None),
+    (0, 6, Some(63)),
+    (1, 7, Some(72)),
+    (1, 8, Some(81)),
+    (1, 9, Some(91)),
+    (2, 8, Some(82)),
+    (2, 9, None),
+    (3, 8, Some(81)),
+    (3, 9, None),
+    (4, 8, Some(84)),
+    (5, 8, Some(85)),
+    (5, 9, None),
+    (9, 8, None),
+];
+
 // Class 0 extends 2; 1, 2 and 3 stand in a circle in that order; 4 extends itself, and 5 what is past the end.
 #[test]
 fn circles(rt: HostRuntime) -> Result<(), Fail> {
     let alloc = rt.alloc();
-    let ups = superclasses(
+    let inherited = inherited(
         alloc,
         &[Some(2), Some(2), Some(3), Some(1), Some(4), Some(9)],
-    )?;
-    let entries = entries(
-        alloc,
         &[
             &[(7, Some(70))],
             &[(8, Some(81)), (9, Some(91))],
@@ -141,30 +161,7 @@ fn circles(rt: HostRuntime) -> Result<(), Fail> {
             &[(8, Some(85))],
         ],
     )?;
-    assert!(rt; entries.len() <= ups.len());
-    let inherited = Inherited::new(alloc, ups.as_slice(), entries.as_slice())?;
-    assert!(rt;
-        answers(
-            &inherited,
-            &[
-                (0, 7, Some(70)),
-                (0, 8, Some(82)),
-                (0, 9, None),
-                (0, 6, Some(63)),
-                (1, 7, Some(72)),
-                (1, 8, Some(81)),
-                (1, 9, Some(91)),
-                (2, 8, Some(82)),
-                (2, 9, None),
-                (3, 8, Some(81)),
-                (3, 9, None),
-                (4, 8, Some(84)),
-                (5, 8, Some(85)),
-                (5, 9, None),
-                (9, 8, None),
-            ]
-        )
-    );
+    assert!(rt; answers(&inherited, &CIRCLES));
     assert!(rt; !inherited.has_none(ClassId(3)));
     assert!(rt; inherited.has_none(ClassId(9)));
     Ok(())

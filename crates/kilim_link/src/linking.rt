@@ -135,7 +135,7 @@ fn program_of(
 ///
 /// It answers `Ok` exactly where no class has a problem; else the first class in the order of the files that has one,
 /// with the first of its problems. Where memory runs out it is `Memory`. It takes time n log n in the number of
-/// classes and members, times the length of the longest line of superclasses.
+/// classes and members.
 pub fn link(alloc: Global, files: &[ClassFile], form: Form) -> Result<Program, LinkFault>
     requires few { length files.now ≤ 1000 }
     requires fit { AllByRecursion ClassFits files.now }

@@ -30,7 +30,7 @@ abbrev pub AllNamed : Nearest → Type 0
 AllNamed it = (c : ClassId) (k : ℕ) → is_some (inherits it.inherited c k) ≡ true → (name : List ℕ) × (descriptor : List ℕ) × (number_at it.numbers.places name descriptor ≡ Some k)
 
 -- Each class inherits what the nearest class of its line says; which is what it says itself, or else what its superclass
--- inherits, in a circle too.
+-- inherits, in a circle too. Each number that something is inherited of is a name's.
 pub record Tells (it : Nearest) (ups : List (Option ClassId)) (said : List (List Said)) : Type 0 where
   pub nearest_is : (c : ClassId) (name descriptor : List ℕ) → known it c name descriptor ≡ nearest said name descriptor (line_in ups c)
   pub by_one : (c : ClassId) (name descriptor : List ℕ) → known it c name descriptor ≡ said_or (says said name descriptor c) (from_above (λ up. known it up name descriptor) (up_in ups c))

@@ -44,7 +44,8 @@ impl Nearest {
         }
     }
 
-    /// Whether a class inherits nothing at all.
+    /// Whether a class inherits nothing of any name; exactly so where each number that something is inherited of is a
+    /// name's, as `new` makes it.
     pub fn has_none(&self, class: ClassId) -> bool
         ensures none { result ≡ true → KnowsNone self.now class }
         ensures some { AllNamed self.now → result ≡ false → KnowsSome self.now class }

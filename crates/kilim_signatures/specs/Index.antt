@@ -8,6 +8,7 @@ use Rattle.std.specs.Str.{bytes_eq}
 use Rattle.std.specs.Global.{Vec}
 use Rattle.kilim_signatures.specs.declared.signature.Signature.{Signature}
 
+-- the order of names with descriptors: by name, then by descriptor
 abbrev pub signature_cmp : Signature → Signature → Ordering
 signature_cmp = then_cmp (on (λ s. s.name) (slice_cmp nat_cmp)) (on (λ s. s.descriptor) (slice_cmp nat_cmp))
 
@@ -16,9 +17,11 @@ abbrev pub items_of : Option (Vec ℕ) → List ℕ
 items_of None = []
 items_of (Some v) = v.items
 
+-- the places that a map has for a name with its descriptor
 abbrev pub positions : BTreeMap Signature (Vec ℕ) → List ℕ → List ℕ → List ℕ
 positions m name descriptor = items_of (get signature_cmp m (record { name = name; descriptor = descriptor }))
 
+-- whether a name and a descriptor are these
 abbrev pub same_signature : Signature → List ℕ → List ℕ → Bool
 same_signature s name descriptor = bytes_eq s.name name && bytes_eq s.descriptor descriptor
 

@@ -29,9 +29,10 @@ fn methods_said(
         let method = &methods[i as usize];
         let name = method.name.clone()?;
         let descriptor = method.descriptor.clone()?;
+        let number = first + i;
         said.push(Said {
             signature: Signature { name, descriptor },
-            value: Some(first + i),
+            value: Some(number),
         })?;
         i += 1;
     }
