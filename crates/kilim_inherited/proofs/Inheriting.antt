@@ -10,8 +10,8 @@ use Rattle.kilim_inherited.specs.declared.node.Node.{Node}
 use Rattle.kilim_inherited.specs.declared.node.Node.TheVariants.{Empty}
 use Rattle.kilim_inherited.specs.Fronts.{class_after, said_onto, SaysNoMore, IsBase, IsFront}
 use Rattle.kilim_inherited.specs.Inherited.{said_of, said_at, said_or, inherited, line_up, line_in, up_in, from_above}
-use Rattle.kilim_inherited.specs.Trees.{IsTable, Makes, Has, Fits, value_at, key_levels, ChildrenWithin}
-use Rattle.kilim_inherited.specs.Roots.{root_at, value_in, Sound, MadeBelow, Keeps, IsRight, inherits}
+use Rattle.kilim_inherited.specs.Trees.{Forest, IsTable, Makes, Has, Fits, value_at, key_levels, ChildrenWithin}
+use Rattle.kilim_inherited.specs.Roots.{root_at, value_in, Sound, MadeBelow, Keeps, IsRight, OnlyKeys, inherits}
 use Rattle.kilim_inherited.proofs.Growing.{stays, grown_length}
 use Rattle.kilim_inherited.proofs.Putting.{empty_has}
 use Rattle.kilim_inherited.proofs.Stable.{first_in, first_or, closed_is_same, ended_is_same, made_is_same, one_more}
@@ -153,6 +153,14 @@ sound_first ups entries nodes roots is none = record {
   fits = λ c root e k le. absurd (let n = none c in cc);
 }
 
+-- what has something is a key
+pub some_key : (it : Forest) (c : ClassId) (k : ℕ) → OnlyKeys it → is_some (inherits it c k) ≡ true → k < 2 ^ 32
+some_key it c k keys is =
+    elim (cases_lt k (2 ^ 32)) [
+      | inl lt ↦ lt
+      | inr ge ↦ absurd (let none = keys c k ge in cc)
+    ]
+
 -- ---- all of them
 
 module _ (ups : List (Option ClassId)) (entries : List (List Entry)) (fit : length entries ≤ length ups) (nodes : List Node) (roots : List (Option ℕ)) (sound : Sound ups entries nodes roots)
@@ -198,7 +206,7 @@ module _ (ups : List (Option ClassId)) (entries : List (List Entry)) (fit : leng
   nothing_is c k le (Some root) is = sound.fits c root is k le
   nothing_is c k le None is = refl
 
-  no_more_keys : (c : ClassId) (k : ℕ) → 2 ^ 32 ≤ k → inherits (record { nodes = nodes; roots = roots }) c k ≡ None
+  pub no_more_keys : (c : ClassId) (k : ℕ) → 2 ^ 32 ≤ k → inherits (record { nodes = nodes; roots = roots }) c k ≡ None
   unfolding inherits
   no_more_keys c k le = nothing_is c k (more_digits k le) (root_at roots c) refl
 

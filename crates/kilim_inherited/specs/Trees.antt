@@ -3,6 +3,11 @@ use Rattle.std.specs.Prelude.{◌≡◌, ℕ, zero, suc, ◌/◌, ◌%◌, ◌^�
 use Rattle.kilim_inherited.specs.declared.node.Node.{Node}
 use Rattle.kilim_inherited.specs.declared.node.Node.TheVariants.{Empty, Leaf, Branch}
 
+-- the trees of all classes: their nodes, and the topmost one of each class
+pub record Forest : Type 0 where
+  pub nodes : List Node
+  pub roots : List (Option ℕ)
+
 -- a value at one key alone
 abbrev pub only_at : ℕ → Option ℕ → ℕ → Option ℕ
 only_at key value k = if key == k then value else None

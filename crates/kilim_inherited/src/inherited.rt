@@ -1,7 +1,7 @@
 //! What each class inherits.
 
 ghost use Rattle.std.specs.Prelude.{◌≡◌, ◌≤◌, true, false, IfOk, length};
-ghost use Rattle.kilim_inherited.specs.Roots.{inherits, InheritsNone, InheritsSome, IsRight};
+ghost use Rattle.kilim_inherited.specs.Roots.{inherits, InheritsNone, InheritsSome, IsRight, OnlyKeys};
 
 use crate::class_trees::{make_all, make_trees, no_roots, root_of};
 use crate::entry::Entry;
@@ -10,12 +10,24 @@ use crate::node::{Node, add};
 use crate::order::superclasses_first;
 use kilim_program::{ClassId, NoMemory, Seq};
 use std::alloc::Global;
+use std::marker::Model;
 
 /// What each class inherits, of each key.
 #[derive(Drop)]
 pub struct Inherited {
     nodes: Seq<Node>,
     roots: Seq<Option<u32>>,
+}
+
+impl Model for Inherited {
+    ghost use Rattle.kilim_inherited.specs.Roots.{OnlyKeys};
+    ghost use Rattle.kilim_inherited.specs.Trees.{Forest};
+
+    ghost Value = { Forest };
+
+    ghost view = { λ it. record { nodes = it.nodes; roots = it.roots } };
+
+    ghost invariant = { λ it. OnlyKeys (record { nodes = it.nodes; roots = it.roots }) };
 }
 
 impl Inherited {
@@ -45,10 +57,12 @@ impl Inherited {
     }
 
     /// What a class inherits of a key: what the first class of its line says that says something; none where that says
-    /// that there is none, where no class says anything, and past the end.
+    /// that there is none, where no class says anything, and past the end. Of a number that is no key, being 2^32 or more,
+    /// no class inherits anything.
     #[tactic(auto, unfolding(crate::specs::Roots::inherits))]
     pub fn find(&self, class: ClassId, key: u32) -> Option<u32>
-        ensures { result ≡ inherits self.now class key }
+        ensures found { result ≡ inherits self.now class key }
+        ensures keys { OnlyKeys self.now }
     {
         match root_of(self.roots.as_slice(), class) {
             Some(root) => value_at(self.nodes.as_slice(), key_levels(), root, key),
@@ -56,7 +70,7 @@ impl Inherited {
         }
     }
 
-    /// Whether a class inherits no value of any number.
+    /// Whether a class inherits no value of any number; where it does, then one of some key.
     #[tactic(auto, unfolding(crate::specs::Roots::inherits))]
     pub fn has_none(&self, class: ClassId) -> bool
         ensures none { result ≡ true → InheritsNone self.now class }

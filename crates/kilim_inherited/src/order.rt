@@ -47,7 +47,7 @@ fn add_back(order: &mut Seq<ClassId>, line: &[ClassId]) -> Result<(), NoMemory> 
     Ok(())
 }
 
-/// Each class once, behind its superclass; in a circle the one that the order begins with is behind its superclass last.
+/// Each class once, behind its superclass; of a circle one stands before its superclass.
 /// No answer hangs on the order, only time: where a class's tree is made behind its superclass's, it has its own
 /// entries put onto that.
 pub fn superclasses_first(

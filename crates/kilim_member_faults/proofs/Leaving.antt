@@ -13,7 +13,7 @@ use Rattle.kilim_class_world.specs.declared.view.DeclaredMethod.{DeclaredMethod}
 use Rattle.kilim_class_world.specs.Faults.{is_left_above, left_above}
 use Rattle.kilim_class_world.specs.World.{World, declared_methods, is_method}
 use Rattle.kilim_inherited.specs.Inherited.{said_or}
-use Rattle.kilim_nearest.specs.Known.{known, KnowsNone, KnowsSome}
+use Rattle.kilim_nearest.specs.Known.{known, KeysNamed, KnowsNone, KnowsSome}
 use Rattle.kilim_member_faults.specs.declared.heritage.Heritage.{Heritage}
 use Rattle.kilim_member_faults.specs.Parts.{shared_as, stands_in, is_nearer, is_left_over, is_class, StandsBehind}
 use Rattle.kilim_member_faults.specs.Heritage.{Inherits, LeavesNone, LeavesSome, is_shared_abstract, asks_for, left_in, first_shared}
@@ -83,7 +83,11 @@ module _ (w : World) where
   pub none_is_left : (h : Heritage) (c : ClassId) → Inherits w h → KnowsNone h.left c → LeavesNone w c
   none_is_left h c inherits none name descriptor = sym (inherits.left.in_longer c name descriptor) ∙ none name descriptor
 
-  -- of one that has some of a name
+  -- what has something is a name's number, of a key too
+  pub keys_named : (h : Heritage) → Inherits w h → KeysNamed h.left
+  keys_named h inherits c k fits is = inherits.left.named c k is
+
+  -- of a class that has some of a name
   pub some_is_left : (h : Heritage) (c : ClassId) → Inherits w h → KnowsSome h.left c → LeavesSome w c
   some_is_left h c inherits some = (some.0, some.1, sym (ap is_some (inherits.left.in_longer c some.0 some.1)) ∙ some.2)
 

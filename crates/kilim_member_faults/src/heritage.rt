@@ -235,7 +235,7 @@ impl Heritage {
 
     /// Whether of each name and descriptor the nearest class from a class up that declares such a method that isn't
     /// private declares no abstract one. Then no abstract method of an ancestor is left to it.
-    #[tactic(auto, using(crate::proofs::Leaving::none_known, crate::proofs::Leaving::none_is_left, crate::proofs::Leaving::some_is_left))]
+    #[tactic(auto, using(crate::proofs::Leaving::none_known, crate::proofs::Leaving::none_is_left, crate::proofs::Leaving::keys_named, crate::proofs::Leaving::some_is_left))]
     pub fn leaves_none(&self, world: &World, class: ClassId) -> bool
         requires { Inherits world.now self.now }
         ensures above { result ≡ true → left_above world.now (declared_methods world.now class) (ancestors_of world.now.outline class) ≡ [] }

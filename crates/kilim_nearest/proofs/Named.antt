@@ -7,7 +7,7 @@ use Rattle.std.proofs.lemmas.Slice.Eq.{bytes_eq-Decides}
 use Rattle.kilim_program.specs.declared.names.ClassId.{ClassId}
 use Rattle.kilim_inherited.specs.declared.entry.Entry.{Entry}
 use Rattle.kilim_inherited.specs.Inherited as numbers
-use Rattle.kilim_inherited.specs.Inherited.{said_in, said_at, said_or, inherited}
+use Rattle.kilim_inherited.specs.Inherited.{said_in, said_or, inherited}
 use Rattle.kilim_signatures.specs.declared.signature.Signature.{Signature}
 use Rattle.kilim_signatures.specs.Index.{same_signature}
 use Rattle.kilim_signatures.specs.Numbers.{Apart}

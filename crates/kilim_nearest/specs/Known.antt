@@ -1,5 +1,5 @@
 -- What classes inherit, by names with descriptors.
-use Rattle.std.specs.Prelude.{◌≡◌, ℕ, true, is_some, List, Option, Some, None}
+use Rattle.std.specs.Prelude.{◌≡◌, ◌<◌, ◌^◌, ℕ, true, is_some, List, Option, Some, None}
 use Rattle.kilim_program.specs.declared.names.ClassId.{ClassId}
 use Rattle.kilim_inherited.specs.Inherited.{said_or, line_in, up_in, from_above}
 use Rattle.kilim_inherited.specs.Roots.{inherits}
@@ -25,9 +25,17 @@ KnowsNone it c = (name descriptor : List ℕ) → known it c name descriptor ≡
 abbrev pub KnowsSome : Nearest → ClassId → Type 0
 KnowsSome it c = (name : List ℕ) × (descriptor : List ℕ) × (is_some (known it c name descriptor) ≡ true)
 
--- each number that some class inherits something of is the number of a name with its descriptor
+-- a number is that of a name with its descriptor
+abbrev pub IsNamed : Nearest → ℕ → Type 0
+IsNamed it k = (name : List ℕ) × (descriptor : List ℕ) × (number_at it.numbers.places name descriptor ≡ Some k)
+
+-- each number that some class inherits something of is one
 abbrev pub AllNamed : Nearest → Type 0
-AllNamed it = (c : ClassId) (k : ℕ) → is_some (inherits it.inherited c k) ≡ true → (name : List ℕ) × (descriptor : List ℕ) × (number_at it.numbers.places name descriptor ≡ Some k)
+AllNamed it = (c : ClassId) (k : ℕ) → is_some (inherits it.inherited c k) ≡ true → IsNamed it k
+
+-- each such key is one
+abbrev pub KeysNamed : Nearest → Type 0
+KeysNamed it = (c : ClassId) (k : ℕ) → k < 2 ^ 32 → is_some (inherits it.inherited c k) ≡ true → IsNamed it k
 
 -- Each class inherits what the nearest class of its line says; which is what it says itself, or else what its superclass
 -- inherits, in a circle too. Each number that something is inherited of is a name's.

@@ -1,7 +1,7 @@
 //! The nearest class that says something of a member.
 
 ghost use Rattle.std.specs.Prelude.{◌≡◌, ◌≤◌, true, false, IfOk, length};
-ghost use Rattle.kilim_nearest.specs.Known.{known, AllNamed, KnowsNone, KnowsSome, Tells};
+ghost use Rattle.kilim_nearest.specs.Known.{known, KeysNamed, KnowsNone, KnowsSome, Tells};
 
 use crate::entries::all_entries;
 use crate::said::Said;
@@ -44,11 +44,11 @@ impl Nearest {
         }
     }
 
-    /// Whether a class inherits nothing of any name; exactly so where each number that something is inherited of is a
-    /// name's, as `new` makes it.
+    /// Whether a class inherits nothing of any name; exactly so where each key that something is inherited of is the number
+    /// of a name, as `new` makes it.
     pub fn has_none(&self, class: ClassId) -> bool
         ensures none { result ≡ true → KnowsNone self.now class }
-        ensures some { AllNamed self.now → result ≡ false → KnowsSome self.now class }
+        ensures some { KeysNamed self.now → result ≡ false → KnowsSome self.now class }
     {
         self.inherited.has_none(class)
     }

@@ -13,7 +13,7 @@ use Rattle.kilim_program.specs.Kinds.{is_marked}
 use Rattle.kilim_program.specs.Names.{class_at, line_of, line_up_to}
 use Rattle.kilim_program.specs.Program.{Program}
 use Rattle.kilim_inherited.specs.declared.entry.Entry.{Entry}
-use Rattle.kilim_inherited.specs.declared.inherited.Inherited.{Inherited}
+use Rattle.kilim_inherited.specs.Trees.{Forest}
 use Rattle.kilim_inherited.specs.Inherited.{inherited, line_in, line_up, said_at, said_of, said_or, up_in}
 use Rattle.kilim_inherited.specs.Roots.{inherits, IsRight}
 use Rattle.kilim_world.specs.Agrees.{each_below}
@@ -80,7 +80,7 @@ mark_said None = refl
 mark_said (Some true) = refl
 mark_said (Some false) = refl
 
-pub marks_are : (own : List Bool) (ups : List (Option ClassId)) (it : Inherited) → IsRight ups (map mark_entries own) it → (c : ClassId) → is_some (inherits it c 0) ≡ list_any (mark_at own) (line_in ups c)
+pub marks_are : (own : List Bool) (ups : List (Option ClassId)) (it : Forest) → IsRight ups (map mark_entries own) it → (c : ClassId) → is_some (inherits it c 0) ≡ list_any (mark_at own) (line_in ups c)
 marks_are own ups it right c =
     ap (λ (o : Option ℕ). is_some o) (right.inherited_is c 0)
     ∙ any_says (mark_at own) (map mark_entries own) 0 (λ d. ap (λ (o : Option (List Entry)). said_of o 0) (slice_get-map mark_entries own d.0) ∙ mark_said (slice_get own d.0)) (line_in ups c)
@@ -130,7 +130,7 @@ own_said count k c lt =
           ap (λ (o : Option (List Entry)). said_of o k) out ∙ sym (ap (λ (b : Bool). if b then Some (Some 0) else None) isnt)
     ]
 
-pub lineages_are : (p : Program) (ups : List (Option ClassId)) (it : Inherited) (count : ℕ) → AreSuperclasses p ups → IsRight ups (each_below own_key count) it → (c : ClassId) (k : ℕ) → k < count → is_some (inherits it c k) ≡ list_any (λ d. d.0 == k) (line_of p c)
+pub lineages_are : (p : Program) (ups : List (Option ClassId)) (it : Forest) (count : ℕ) → AreSuperclasses p ups → IsRight ups (each_below own_key count) it → (c : ClassId) (k : ℕ) → k < count → is_some (inherits it c k) ≡ list_any (λ d. d.0 == k) (line_of p c)
 lineages_are p ups it count are right c k lt =
     ap (λ (o : Option ℕ). is_some o) (right.inherited_is c k)
     ∙ (any_says (λ d. d.0 == k) (each_below own_key count) k (λ d. own_said count k d lt) _

@@ -8,7 +8,7 @@ use Rattle.kilim_program.specs.Names.{line_of}
 use Rattle.kilim_program.specs.Program.{Program}
 use Rattle.kilim_class_world.specs.World.{outline_of, methods_at, is_method, field_id, find_method, find_field}
 use Rattle.kilim_class_world.specs.declared.view.ClassView.{ClassView}
-use Rattle.kilim_inherited.specs.declared.inherited.Inherited.{Inherited}
+use Rattle.kilim_inherited.specs.Trees.{Forest}
 use Rattle.kilim_inherited.specs.Roots.{inherits}
 use Rattle.kilim_nearest.specs.declared.nearest.Nearest.{Nearest}
 use Rattle.kilim_nearest.specs.Known.{known}
@@ -50,7 +50,7 @@ placed first place = option_map (λ k. Some (first + k)) place
 
 -- Superclasses, names, and the places and first numbers of members agree with the classes, and what is known of
 -- lines and of nearest members is what is found by going up.
-pub record Agrees (form : Form) (classes : List ClassView) (outline : Program) (ids : Ids) (superclasses : List (Option ClassId)) (lineages : Inherited) (methods : List Index) (first_methods first_fields : List ℕ) (nearest_methods nearest_fields : Nearest) : Type 0 where
+pub record Agrees (form : Form) (classes : List ClassView) (outline : Program) (ids : Ids) (superclasses : List (Option ClassId)) (lineages : Forest) (methods : List Index) (first_methods first_fields : List ℕ) (nearest_methods nearest_fields : Nearest) : Type 0 where
   pub outlined : outline ≡ outline_of form classes
   pub named : (name : List ℕ) → id_in ids.places name ≡ named_in name classes
   pub superclasses_are : AreSuperclasses outline superclasses

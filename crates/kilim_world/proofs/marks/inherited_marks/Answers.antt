@@ -6,6 +6,7 @@ use Rattle.kilim_program.specs.BuiltIn.{class_id}
 use Rattle.kilim_inherited.specs.declared.entry.Entry.{Entry}
 use Rattle.kilim_inherited.specs.Inherited.{line_in}
 use Rattle.kilim_inherited.specs.Roots.{inherits, IsRight}
+use Rattle.kilim_inherited.specs.Trees.{Forest}
 use Rattle.kilim_world.specs.Agrees.{each_below}
 use Rattle.kilim_world.specs.Outlining.{mark_at}
 use Rattle.kilim_world.specs.Superclasses.{mark_entries}
@@ -27,5 +28,6 @@ returns c =
     let going_up : ℕ → Bool = λ k. list_any (mark_at own) (line_in ups (class_id k)) in
     let all : c.loop-i.i ≡ length classes = omega (arith, c.loop-i-test.false) in
     c.loop-i.invariant.1
+    ∙ (ap (λ (it : Forest). each_below (λ k. is_some (inherits it (class_id k) 0)) c.loop-i.i) c.inherited.view_is
     ∙ (same_below known going_up (λ k. marks_are own ups inherited right (class_id k)) c.loop-i.i
-    ∙ ap (each_below going_up) all)
+    ∙ ap (each_below going_up) all))

@@ -22,7 +22,7 @@ returns-in-Some c =
     let within : class.0 < length w.outline.classes = class_within w.outline class up (ap (λ (p : Program). superclass_of (class_at p class)) same ∙ is) in
     let lt : class.0 < length w.classes = (let len = length_outline w.form w.classes w.outline c.self.invariant.outlined in omega arith) in
     c.is_some.ensures
-    ∙ (ap (λ (o : Option ℕ). is_some o) c.find.ensures
+    ∙ (ap (λ (o : Option ℕ). is_some o) c.find.ensures.found
     ∙ (c.self.invariant.lineages_are up class.0 lt
     ∙ (ap (λ (p : Program). list_any (λ d. d.0 == class.0) (line_of p up)) same
     ∙ ap (λ (o : Option ClassId). list_any (λ d. d.0 == class.0) (line_above outline o)) (sym is))))
