@@ -42,26 +42,17 @@ fn parts_of(
 {
     no_fault_is_a_program();
     linked_in_parts();
-    let classes = match linked_classes(alloc, world, files)? {
-        Some(classes) => classes,
-        None => {
-            prove!(false);
-            return Err(NoMemory);
-        }
+    let Some(classes) = linked_classes(alloc, world, files)? else {
+        prove!(false);
+        return Err(NoMemory);
     };
-    let fields = match linked_fields(alloc, world, files)? {
-        Some(fields) => fields,
-        None => {
-            prove!(false);
-            return Err(NoMemory);
-        }
+    let Some(fields) = linked_fields(alloc, world, files)? else {
+        prove!(false);
+        return Err(NoMemory);
     };
-    let methods = match linked_methods(alloc, world, files)? {
-        Some(methods) => methods,
-        None => {
-            prove!(false);
-            return Err(NoMemory);
-        }
+    let Some(methods) = linked_methods(alloc, world, files)? else {
+        prove!(false);
+        return Err(NoMemory);
     };
     Ok(Parts {
         classes,
