@@ -27,5 +27,3 @@ pub use index::{EntryKind, index_at};
 pub use laws::parts_are_spelled;
 pub use name::{AttributeName, named};
 
-#[cfg(test)]
-mod tests;

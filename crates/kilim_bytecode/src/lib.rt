@@ -17,5 +17,3 @@ pub use laws::{one_code, one_fault, targets_are_places};
 pub use reading::decode;
 pub use writing::encode;
 
-#[cfg(test)]
-mod tests;

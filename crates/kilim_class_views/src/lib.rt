@@ -16,5 +16,3 @@ pub use names::{
     super_name, text_of,
 };
 
-#[cfg(test)]
-mod tests;

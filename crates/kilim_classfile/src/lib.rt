@@ -15,5 +15,3 @@ pub use fault::{ClassFault, MemberName};
 pub use reading::{class_file_is_spelled, faults_are_true, read};
 pub use writing::write;
 
-#[cfg(test)]
-mod tests;

@@ -17,5 +17,3 @@ pub use fault::{AddFault, PoolFault};
 pub use pool::Pool;
 pub use reading::{pool_is_cut_or_broken, pool_is_spelled};
 
-#[cfg(test)]
-mod tests;

@@ -11,5 +11,3 @@ pub use fields::{any_field, field};
 pub use methods::{any_method, argument_slots, method};
 pub use types::{BaseText, FieldText, MethodText};
 
-#[cfg(test)]
-mod tests;

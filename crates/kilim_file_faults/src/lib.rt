@@ -16,5 +16,3 @@ pub use descriptors::descriptor_broken;
 pub use name::name_broken;
 pub use parts::{left_out, left_out_problem};
 
-#[cfg(test)]
-mod tests;

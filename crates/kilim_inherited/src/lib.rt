@@ -11,8 +11,6 @@ mod lookup;
 mod node;
 mod order;
 mod put;
-#[cfg(test)]
-mod tests;
 
 pub use entry::Entry;
 pub use inherited::Inherited;

@@ -5,5 +5,3 @@ mod link_lines;
 
 pub use link_lines::link_line;
 
-#[cfg(test)]
-mod tests;

@@ -10,5 +10,3 @@ mod tables;
 pub use code::code_of;
 pub use instr::instr_in;
 
-#[cfg(test)]
-mod tests;

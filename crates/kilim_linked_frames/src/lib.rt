@@ -8,5 +8,3 @@ mod slots;
 
 pub use frames::frames_in;
 
-#[cfg(test)]
-mod tests;

@@ -7,8 +7,6 @@ mod apart;
 mod heritage;
 mod overrides;
 mod signature;
-#[cfg(test)]
-mod tests;
 
 pub use abstracts::abstract_left;
 pub use ancestry::Ancestry;

@@ -22,5 +22,3 @@ pub use mentions::mentions_of;
 pub use names::{class_names, names_mentioned};
 pub use operands::operand_at;
 
-#[cfg(test)]
-mod tests;

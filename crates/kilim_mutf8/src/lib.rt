@@ -13,5 +13,3 @@ pub use fault::TextFault;
 pub use reading::read;
 pub use writing::{one_spelling, units_are_spelled, write};
 
-#[cfg(test)]
-mod tests;

@@ -5,8 +5,6 @@
 mod entries;
 mod nearest;
 mod said;
-#[cfg(test)]
-mod tests;
 
 pub use nearest::Nearest;
 pub use said::Said;

@@ -20,5 +20,3 @@ pub use laws::{lengths, one_spelling};
 pub use reading::read_instr;
 pub use writing::write_instr;
 
-#[cfg(test)]
-mod tests;

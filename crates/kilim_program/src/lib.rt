@@ -14,8 +14,6 @@ mod memory;
 mod names;
 mod run;
 mod seq;
-#[cfg(test)]
-mod tests;
 mod ty;
 mod units;
 mod value;

@@ -4,8 +4,6 @@
 mod index;
 mod numbers;
 mod signature;
-#[cfg(test)]
-mod tests;
 
 pub use index::Index;
 pub use numbers::Numbers;

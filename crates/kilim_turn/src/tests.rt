@@ -143,18 +143,3 @@ fn one_seat_and_sixteen(rt: HostRuntime) -> Result<(), Fail> {
     assert!(rt; is_full(&board, 16, 50));
     Ok(())
 }
-
-#[test]
-fn passes_are_in_order(rt: HostRuntime) -> Result<(), Fail> {
-    let board = make_board(rt.alloc(), 3)?;
-    assert_eq!(rt; board.seats(), 3);
-    let Ok((turn, passes)) = Turn::open(rt.alloc(), board, 3) else {
-        return Err(Fail::from("no memory"));
-    };
-    for (i, pass) in passes.iter().enumerate() {
-        assert_eq!(rt; pass.seat(), i);
-    }
-    let board = turn.close(passes);
-    assert!(rt; is_full(&board, 3, 0));
-    Ok(())
-}

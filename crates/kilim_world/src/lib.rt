@@ -14,8 +14,6 @@ mod outlining;
 mod parts;
 mod search;
 mod tasks;
-#[cfg(test)]
-mod tests;
 mod views;
 mod world;
 

@@ -3,8 +3,6 @@
 
 mod marks;
 mod methods;
-#[cfg(test)]
-mod tests;
 mod types;
 
 pub use methods::qualified;
