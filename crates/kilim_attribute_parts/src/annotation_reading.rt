@@ -10,7 +10,7 @@ use crate::fault::AttributeFault;
 use crate::index::{EntryKind, index_at};
 use kilim_constant_pool::Pool;
 use kilim_grammar::{u8_at, u16_at};
-use kilim_program::Seq;
+use kilim_units::Seq;
 use std::alloc::Global;
 
 fn is_integer_tag(tag: u8) -> bool

@@ -5,7 +5,7 @@ ghost use Rattle.kilim_attribute_parts.specs.Annotations.{value_tag, behind_valu
 
 use crate::annotation::AnnotationPart;
 use kilim_grammar::{push_u8, push_u16};
-use kilim_program::Seq;
+use kilim_units::Seq;
 use std::alloc::AllocError;
 
 fn value_tag(part: &AnnotationPart) -> u8

@@ -1,6 +1,6 @@
 //! The frames of a StackMapTable.
 
-use kilim_program::Seq;
+use kilim_units::Seq;
 
 /// A verification type of a frame (JVMS 4.7.4). A long or a double stands for both of its places.
 #[derive(Clone, Copy, Debug, PartialEq, Eq)]

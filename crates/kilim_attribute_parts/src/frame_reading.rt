@@ -11,7 +11,7 @@ use crate::index::{EntryKind, index_at};
 use crate::name::AttributeName;
 use kilim_constant_pool::Pool;
 use kilim_grammar::{u8_at, u16_at};
-use kilim_program::Seq;
+use kilim_units::Seq;
 use std::alloc::Global;
 
 const ENDS: AttributeFault = AttributeFault::Length(AttributeName::StackMapTable);

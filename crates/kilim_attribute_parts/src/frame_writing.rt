@@ -7,7 +7,7 @@ ghost use Rattle.kilim_attribute_parts.specs.Frames.{type_tag, behind_type_tag, 
 
 use crate::frame::{Frame, VerificationType};
 use kilim_grammar::{push_u8, push_u16};
-use kilim_program::Seq;
+use kilim_units::Seq;
 use std::alloc::AllocError;
 
 fn type_tag(item: VerificationType) -> u8

@@ -3,7 +3,7 @@
 ghost use Rattle.std.specs.Prelude.{◌≡◌};
 ghost use Rattle.kilim_attribute_parts.specs.Names.{name_text, named};
 
-use kilim_program::Units;
+use kilim_units::Units;
 
 /// The name of an attribute that is read into parts (JVMS 4.7).
 #[derive(Clone, Copy, Debug, PartialEq, Eq)]

@@ -1,7 +1,7 @@
 //! Attributes.
 
 use kilim_attribute_parts::{AnnotationPart, Frame};
-use kilim_program::Seq;
+use kilim_units::Seq;
 
 /// Where a list of attributes stands.
 #[derive(Clone, Copy, Debug, PartialEq, Eq)]

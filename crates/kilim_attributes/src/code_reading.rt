@@ -14,7 +14,7 @@ use crate::form::{form_at, named_bytes_at};
 use kilim_attribute_parts::{AttributeFault, AttributeName, EntryKind, Frame, frames_at, index_at};
 use kilim_constant_pool::Pool;
 use kilim_grammar::{bytes_at, u16_at, u32_at};
-use kilim_program::Seq;
+use kilim_units::Seq;
 use std::alloc::Global;
 
 const ENDS: AttributeFault = AttributeFault::Length(AttributeName::Code);

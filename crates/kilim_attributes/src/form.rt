@@ -9,7 +9,7 @@ use crate::attribute::Place;
 use kilim_attribute_parts::{AttributeFault, AttributeName, named};
 use kilim_constant_pool::{Entry, Pool};
 use kilim_grammar::{bytes_at, u16_at, u32_at};
-use kilim_program::Units;
+use kilim_units::Units;
 
 // Whether attributes of a name are read into parts at a place.
 fn stands_in(place: Place, name: AttributeName) -> bool

@@ -16,7 +16,7 @@ use kilim_attribute_parts::{
 };
 use kilim_constant_pool::Pool;
 use kilim_grammar::u16_at;
-use kilim_program::Seq;
+use kilim_units::Seq;
 use std::alloc::Global;
 
 const EXCEPTIONS_END: AttributeFault = AttributeFault::Length(AttributeName::Exceptions);

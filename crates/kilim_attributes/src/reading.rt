@@ -18,7 +18,7 @@ use crate::laws::attributes_are_spelled;
 use kilim_attribute_parts::{AttributeFault, AttributeName, parts_are_spelled};
 use kilim_constant_pool::Pool;
 use kilim_grammar::u16_at;
-use kilim_program::Seq;
+use kilim_units::Seq;
 use std::alloc::Global;
 
 // Whether an attribute has this form, of those that may stand once.

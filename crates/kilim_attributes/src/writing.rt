@@ -10,7 +10,7 @@ ghost use Rattle.kilim_attributes.specs.Attributes.{info_text, attribute_text, a
 use crate::attribute::{Attribute, Code, CodeAttribute, CodeInfo, ExceptionHandler, Info};
 use kilim_attribute_parts::{push_frames, push_parts};
 use kilim_grammar::{push_u16, push_u32};
-use kilim_program::{NoMemory, Seq};
+use kilim_units::{NoMemory, Seq};
 use std::alloc::{AllocError, Global};
 
 // Appends the index of a name, a length, and so many bytes.

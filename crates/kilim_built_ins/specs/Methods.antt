@@ -1,11 +1,11 @@
 -- The methods of each built-in class, in the order of the list of all.
 use Rattle.std.specs.Prelude.{ℕ, ◌+◌, true, false, List, [], ◌∷◌, Some, None, codes}
-use Rattle.kilim_program.specs.declared.ty.Base.TheVariants as base
-use Rattle.kilim_program.specs.declared.ty.Ty.{Ty}
-use Rattle.kilim_program.specs.declared.ty.Qualifier.TheVariants.{Free, Cuttable, Safe}
-use Rattle.kilim_program.specs.declared.class.Form.{Form}
-use Rattle.kilim_program.specs.declared.class.Method.{Method}
-use Rattle.kilim_program.specs.BuiltIn.{class_id, plain_type, class_type, int_type, built_in_method, built_in_constructor, fiber_type, fiber_params, fiber_qualifiers, of_fiber, on_fiber}
+use Rattle.kilim_classes.specs.declared.ty.Base.TheVariants as base
+use Rattle.kilim_classes.specs.declared.ty.Ty.{Ty}
+use Rattle.kilim_classes.specs.declared.ty.Qualifier.TheVariants.{Free, Cuttable, Safe}
+use Rattle.kilim_classes.specs.declared.class.Form.{Form}
+use Rattle.kilim_classes.specs.declared.class.Method.{Method}
+use Rattle.kilim_classes.specs.BuiltIn.{class_id, plain_type, class_type, int_type, built_in_method, built_in_constructor, fiber_type, fiber_params, fiber_qualifiers, of_fiber, on_fiber}
 
 -- of `java/lang/String`
 abbrev pub string_methods : ℕ → List Method

@@ -1,10 +1,11 @@
 //! The classes.
 
 ghost use Rattle.std.specs.Prelude.{◌≡◌, ◌<◌, ◌^◌, [], ◌∷◌, ◌++◌, false, Some, OnOk, IfOk};
-ghost use Rattle.kilim_program.specs.BuiltIn.{class_id, methods_from, built_in_class, fiber_classes, built_in_classes_in};
+ghost use Rattle.kilim_classes.specs.BuiltIn.{class_id, methods_from, built_in_class, fiber_classes, built_in_classes_in};
 
 use crate::parts::text;
-use kilim_program::{Class, ClassId, Form, MethodId, NoMemory, Seq};
+use kilim_classes::{Class, ClassId, Form, MethodId};
+use kilim_units::{NoMemory, Seq};
 use std::alloc::Global;
 
 // The methods at these distances from a first one.

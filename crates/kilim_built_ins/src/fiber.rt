@@ -1,13 +1,14 @@
 //! The methods of `kilim/Fiber`.
 
 ghost use Rattle.std.specs.Prelude.{◌≡◌, ◌+◌, ◌<◌, ◌^◌, List, [], ◌∷◌, ◌++◌, Some, OnOk, codes};
-ghost use Rattle.kilim_program.specs.BuiltIn.{class_type, of_fiber, on_fiber, fiber_methods};
+ghost use Rattle.kilim_classes.specs.BuiltIn.{class_type, of_fiber, on_fiber, fiber_methods};
 ghost use Rattle.kilim_built_ins.specs.Methods.{place_methods, save_methods, rest_methods};
 
 use crate::parts::{
     OF_AN_OBJECT, STATIC, Signature, behind, class_type, fiber_type, plain, push_method,
 };
-use kilim_program::{Base, ClassId, Form, Method, NoMemory, Qualifier, Seq, Ty};
+use kilim_classes::{Base, ClassId, Form, Method, Qualifier, Ty};
+use kilim_units::{NoMemory, Seq};
 use std::alloc::Global;
 
 // Appends a method of the fiber, which takes nothing.

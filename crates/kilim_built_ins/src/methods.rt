@@ -1,8 +1,8 @@
 //! The methods, class by class.
 
 ghost use Rattle.std.specs.Prelude.{◌≡◌, ◌+◌, ◌<◌, ◌^◌, List, [], ◌∷◌, ◌++◌, OnOk, IfOk};
-ghost use Rattle.kilim_program.specs.declared.ty.Qualifier.TheVariants.{Safe};
-ghost use Rattle.kilim_program.specs.BuiltIn.{class_id, built_in_method, built_in_constructor, built_in_methods_in, fiber_params, fiber_qualifiers};
+ghost use Rattle.kilim_classes.specs.declared.ty.Qualifier.TheVariants.{Safe};
+ghost use Rattle.kilim_classes.specs.BuiltIn.{class_id, built_in_method, built_in_constructor, built_in_methods_in, fiber_params, fiber_qualifiers};
 ghost use Rattle.kilim_built_ins.specs.Methods.{string_methods, task_methods, mailbox_methods, print_method, print_methods, yield_method, argument_methods, take_method};
 
 use crate::fiber::push_fiber_methods;
@@ -10,7 +10,8 @@ use crate::parts::{
     Manner, OF_AN_OBJECT, STATIC, Signature, behind, class_type, fiber_params, fiber_qualifiers,
     plain, push_method,
 };
-use kilim_program::{Base, ClassId, Form, Method, NoMemory, Qualifier, Seq, Ty};
+use kilim_classes::{Base, ClassId, Form, Method, Qualifier, Ty};
+use kilim_units::{NoMemory, Seq};
 use std::alloc::Global;
 
 const PAUSING: Manner = Manner {

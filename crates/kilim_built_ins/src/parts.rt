@@ -1,10 +1,11 @@
 //! Texts, types and single methods.
 
 ghost use Rattle.std.specs.Prelude.{◌≡◌, ◌+◌, ◌<◌, ◌^◌, List, [], ◌∷◌, OnOk, IfOk, ◌++◌};
-ghost use Rattle.kilim_program.specs.BuiltIn.{class_id, plain_type, class_type, int_type, fiber_type, fiber_params, fiber_qualifiers, built_in_method};
-ghost use Rattle.kilim_program.specs.declared.names.ClassId.{ClassId};
+ghost use Rattle.kilim_classes.specs.BuiltIn.{class_id, plain_type, class_type, int_type, fiber_type, fiber_params, fiber_qualifiers, built_in_method};
+ghost use Rattle.kilim_classes.specs.declared.names.ClassId.{ClassId};
 
-use kilim_program::{Base, ClassId, Form, Method, NoMemory, Qualifier, Seq, Ty, Units};
+use kilim_classes::{Base, ClassId, Form, Method, Qualifier, Ty};
+use kilim_units::{NoMemory, Seq, Units};
 use std::alloc::Global;
 
 /// The units of an ASCII text.

@@ -1,7 +1,7 @@
 //! What a code array holds.
 
 use kilim_opcodes::RawInstr;
-use kilim_program::Seq;
+use kilim_units::Seq;
 
 /// The instructions of a code array.
 #[derive(Clone, Debug, Drop)]

@@ -12,7 +12,7 @@ use crate::body::Body;
 use crate::fault::CodeFault;
 use crate::marks::mid_target;
 use kilim_opcodes::{OpFault, RawInstr, lengths, one_spelling, read_instr};
-use kilim_program::Seq;
+use kilim_units::Seq;
 use std::alloc::{AllocError, Global};
 
 fn op_fault(fault: OpFault, at: u32) -> CodeFault

@@ -6,7 +6,7 @@ ghost use Rattle.kilim_bytecode.specs.Exact.{BodyFits};
 
 use crate::body::Body;
 use kilim_opcodes::write_instr;
-use kilim_program::NoMemory;
+use kilim_units::NoMemory;
 use std::alloc::Global;
 
 /// The bytes of a code array, in time linear in their number. Each instruction has a text at its place and stands

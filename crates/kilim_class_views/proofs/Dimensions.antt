@@ -1,6 +1,6 @@
 -- The descriptor of an array, one dimension at a time.
 use Rattle.std.proofs.Common.{◌≡◌, ℕ, zero, suc, ◌-◌, ◌<◌, List, [], ◌∷◌, ◌++◌, refl, ap, arith}
-use Rattle.kilim_program.specs.Names.{array_descriptor}
+use Rattle.kilim_classes.specs.Names.{array_descriptor}
 
 pub one_dimension : (text : List ℕ) (n : ℕ) (element : List ℕ) → 0 < n → (text ++ 91 ∷ []) ++ array_descriptor (n - 1) element ≡ text ++ array_descriptor n element
 one_dimension [] zero element lt = absurd (omega (arith, lt))

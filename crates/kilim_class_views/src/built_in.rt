@@ -3,16 +3,15 @@
 ghost use Rattle.std.specs.Prelude.{◌≡◌, ◌++◌, map, option_map, option_to_list, codes, IfOk, OnOk};
 ghost use Rattle.std.specs.List.{flat_map, filter_map};
 ghost use Rattle.std.specs.Option.{option_copied};
-ghost use Rattle.kilim_program.specs.BuiltIn.{built_in_classes_in, is_final_built_in};
-ghost use Rattle.kilim_program.specs.Names.{class_name, base_descriptor, array_descriptor, descriptor, method_at};
+ghost use Rattle.kilim_classes.specs.BuiltIn.{built_in_classes_in, is_final_built_in};
+ghost use Rattle.kilim_classes.specs.Names.{class_name, base_descriptor, array_descriptor, descriptor, method_at};
 ghost use Rattle.kilim_class_world.specs.declared.view.Marks.TheVariants.{Stated};
 ghost use Rattle.kilim_class_world.specs.World.{result_descriptor, method_descriptor, declared_built_in, view_of_built_in, built_ins};
 
 use kilim_built_ins::{built_in_classes, built_in_methods};
 use kilim_class_world::{ClassView, DeclaredMethod, Marks};
-use kilim_program::{
-    Base, Class, ClassId, Form, Method, MethodId, NoMemory, Program, Seq, Ty, Units, built_in_keeps,
-};
+use kilim_classes::{Base, Class, ClassId, Form, Method, MethodId, Program, Ty, built_in_keeps};
+use kilim_units::{NoMemory, Seq, Units};
 use std::alloc::Global;
 
 // The built-in classes and methods of a form, as a program of their own.

@@ -9,7 +9,7 @@ use crate::members::{declared_fields, declared_methods};
 use crate::names::{has_flag, is_any_named, own_name, super_name};
 use kilim_class_world::ClassView;
 use kilim_classfile::ClassFile;
-use kilim_program::{NoMemory, Units};
+use kilim_units::{NoMemory, Units};
 use std::alloc::Global;
 
 // ACC_FINAL and ACC_ABSTRACT (JVMS table 4.1-A).

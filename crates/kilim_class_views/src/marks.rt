@@ -14,7 +14,7 @@ use kilim_attribute_parts::AnnotationPart;
 use kilim_attributes::Info;
 use kilim_classfile::MemberInfo;
 use kilim_constant_pool::Pool;
-use kilim_program::{NoMemory, Seq, Units};
+use kilim_units::{NoMemory, Seq, Units};
 use std::alloc::Global;
 
 // How many parts a part asks for.

@@ -10,7 +10,7 @@ use kilim_attributes::Info;
 use kilim_class_world::{DeclaredField, DeclaredMethod, Marks};
 use kilim_classfile::{ClassFile, MemberInfo};
 use kilim_constant_pool::Pool;
-use kilim_program::{NoMemory, Seq, Units};
+use kilim_units::{NoMemory, Seq, Units};
 use std::alloc::Global;
 
 // ACC_PRIVATE, ACC_STATIC, ACC_FINAL and ACC_ABSTRACT (JVMS table 4.6-A).

@@ -15,8 +15,8 @@ use Rattle.kilim_descriptors.specs.Reading.{base_at, field_behind, field_at, par
 use Rattle.kilim_grammar.specs.Reader.{many}
 use Rattle.kilim_opcodes.specs.Reading.{target_at, zeros_at, range_at, table_at, count_at, pairs_at, lookup_at, wide_operands_at, wide_at, operands_at, instr_at, pair_at as opcodes_pair_at}
 use Rattle.kilim_opcodes.specs.Table.{rows, form_of as opcodes_form_of}
-use Rattle.kilim_program.specs.Keeps.{ids_are_places, none_is_its_ancestor, code_is_whole, members_are_owned, names_differ, method_is_sound, overriding_agrees, none_is_left_abstract, none_is_both, no_task_arrays, superclasses_fit, own_classes_fit, fields_fit, constants_fit}
-use Rattle.kilim_program.specs.Lengths.{has_length, jump_targets, ends_path, code_stands, targets_stand, code_ends, places_increase}
+use Rattle.kilim_classes.specs.Keeps.{ids_are_places, none_is_its_ancestor, code_is_whole, members_are_owned, names_differ, method_is_sound, overriding_agrees, none_is_left_abstract, none_is_both, no_task_arrays, superclasses_fit, own_classes_fit, fields_fit, constants_fit}
+use Rattle.kilim_classes.specs.Lengths.{has_length, jump_targets, ends_path, code_stands, targets_stand, code_ends, places_increase}
 use Rattle.kilim_class_world.specs.Agreement.{FaultsAndFactsAgree}
 
 pub faults_and_facts_agree : FaultsAndFactsAgree

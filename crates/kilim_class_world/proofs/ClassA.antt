@@ -1,7 +1,7 @@
 -- The class file of 235 bytes, computed.
 use Rattle.std.proofs.Common.{[], ◌∷◌, ◌≡◌, refl}
 use Rattle.std.specs.Prelude.{None, Ok}
-use Rattle.kilim_program.specs.declared.class.Form.TheVariants.{Plain}
+use Rattle.kilim_classes.specs.declared.class.Form.TheVariants.{Plain}
 use Rattle.kilim_attribute_parts.specs.Indices.{has_kind, index_at as attribute_parts_index_at}
 use Rattle.kilim_attribute_parts.specs.Names.{named}
 use Rattle.kilim_attributes.specs.Attributes.{exceptions_at, whole_parts, info_of, attribute_of, attribute_at, attributes_at}
@@ -29,9 +29,9 @@ use Rattle.kilim_mutf8.specs.Whole.{units_of, units_within}
 use Rattle.kilim_mutf8.specs.Reading.{two_at, three_at, unit_at}
 use Rattle.kilim_opcodes.specs.Reading.{target_at, zeros_at, range_at, table_at, count_at, pairs_at, lookup_at, wide_operands_at, wide_at, operands_at, instr_at, pair_at as opcodes_pair_at}
 use Rattle.kilim_opcodes.specs.Table.{rows, form_of as opcodes_form_of}
-use Rattle.kilim_program.specs.Keeps.{ids_are_places, none_is_its_ancestor, code_is_whole, members_are_owned, names_differ, method_is_sound, overriding_agrees, none_is_left_abstract, none_is_both, no_task_arrays, superclasses_fit, own_classes_fit, fields_fit, constants_fit}
-use Rattle.kilim_program.specs.Lengths.{has_length, jump_targets, ends_path, code_stands, targets_stand, code_ends, places_increase}
-use Rattle.kilim_program.specs.Keeps.{Keeps}
+use Rattle.kilim_classes.specs.Keeps.{ids_are_places, none_is_its_ancestor, code_is_whole, members_are_owned, names_differ, method_is_sound, overriding_agrees, none_is_left_abstract, none_is_both, no_task_arrays, superclasses_fit, own_classes_fit, fields_fit, constants_fit}
+use Rattle.kilim_classes.specs.Lengths.{has_length, jump_targets, ends_path, code_stands, targets_stand, code_ends, places_increase}
+use Rattle.kilim_classes.specs.Keeps.{Keeps}
 use Rattle.kilim_class_world.specs.Examples.{AIsLinked, a_bytes, a_file, a_class, a_constructor, a_execute, a_program}
 
 is_read : read_class a_bytes ≡ Ok a_file

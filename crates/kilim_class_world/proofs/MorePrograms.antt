@@ -1,7 +1,7 @@
 -- More programs, computed.
 use Rattle.std.proofs.Common.{[], ◌∷◌, ◌≡◌, refl}
 use Rattle.std.specs.Prelude.{None}
-use Rattle.kilim_program.specs.declared.class.Form.TheVariants.{Plain, Woven}
+use Rattle.kilim_classes.specs.declared.class.Form.TheVariants.{Plain, Woven}
 use Rattle.kilim_bytecode.specs.Code.{targets_of, is_place, first_failing, mid_target, ends, falls_off}
 use Rattle.kilim_bytecode.specs.Exact.{body_fault}
 use Rattle.kilim_class_world.specs.Annotations.{types_on_member, params_in}
@@ -17,9 +17,9 @@ use Rattle.kilim_descriptors.specs.Reading.{base_at, field_behind, field_at, par
 use Rattle.kilim_grammar.specs.Reader.{many}
 use Rattle.kilim_opcodes.specs.Reading.{target_at, zeros_at, range_at, table_at, count_at, pairs_at, lookup_at, wide_operands_at, wide_at, operands_at, instr_at, pair_at as opcodes_pair_at}
 use Rattle.kilim_opcodes.specs.Table.{rows, form_of as opcodes_form_of}
-use Rattle.kilim_program.specs.Keeps.{ids_are_places, none_is_its_ancestor, code_is_whole, members_are_owned, names_differ, method_is_sound, overriding_agrees, none_is_left_abstract, none_is_both, no_task_arrays, superclasses_fit, own_classes_fit, fields_fit, constants_fit}
-use Rattle.kilim_program.specs.Lengths.{has_length, jump_targets, ends_path, code_stands, targets_stand, code_ends, places_increase}
-use Rattle.kilim_program.specs.Keeps.{Keeps}
+use Rattle.kilim_classes.specs.Keeps.{ids_are_places, none_is_its_ancestor, code_is_whole, members_are_owned, names_differ, method_is_sound, overriding_agrees, none_is_left_abstract, none_is_both, no_task_arrays, superclasses_fit, own_classes_fit, fields_fit, constants_fit}
+use Rattle.kilim_classes.specs.Lengths.{has_length, jump_targets, ends_path, code_stands, targets_stand, code_ends, places_increase}
+use Rattle.kilim_classes.specs.Keeps.{Keeps}
 use Rattle.kilim_class_world.specs.Examples.{a_class, a_constructor}
 use Rattle.kilim_class_world.specs.Programs.{ProgramsAreLinked, woven_file, woven_program, woven_execute, q_file, p_linked, q_class, p_class, m_method, pair_program}
 

@@ -2,13 +2,13 @@
 -- keep them, and of files with a fault of a fact the program breaks one.
 use Rattle.std.specs.Prelude.{◌≡◌, Bool, true, false, ◌&&◌, ◌||◌, not, ◌==◌, List, [], ◌∷◌, ◌++◌, Option, Some, None, is_some, codes}
 use Rattle.std.specs.List.{list_all}
-use Rattle.kilim_program.specs.declared.class.Form.{Form}
-use Rattle.kilim_program.specs.declared.class.Form.TheVariants.{Plain, Woven}
-use Rattle.kilim_program.specs.declared.class.Method.{Method}
-use Rattle.kilim_program.specs.Program.{Program}
-use Rattle.kilim_program.specs.Keeps.{ids_are_places, none_is_its_ancestor, code_is_whole, members_are_owned, names_differ, method_is_sound, overriding_agrees, none_is_left_abstract, none_is_both, no_task_arrays, superclasses_fit, own_classes_fit, fields_fit, constants_fit}
-use Rattle.kilim_program.specs.Lengths.{places_increase}
-use Rattle.kilim_program.specs.Same.{same_flag}
+use Rattle.kilim_classes.specs.declared.class.Form.{Form}
+use Rattle.kilim_classes.specs.declared.class.Form.TheVariants.{Plain, Woven}
+use Rattle.kilim_classes.specs.declared.class.Method.{Method}
+use Rattle.kilim_classes.specs.Program.{Program}
+use Rattle.kilim_classes.specs.Keeps.{ids_are_places, none_is_its_ancestor, code_is_whole, members_are_owned, names_differ, method_is_sound, overriding_agrees, none_is_left_abstract, none_is_both, no_task_arrays, superclasses_fit, own_classes_fit, fields_fit, constants_fit}
+use Rattle.kilim_classes.specs.Lengths.{places_increase}
+use Rattle.kilim_classes.specs.Same.{same_flag}
 use Rattle.kilim_classfile.specs.declared.class_file.ClassFile.{ClassFile}
 use Rattle.kilim_constant_pool.specs.declared.entry.Entry.TheVariants as entry
 use Rattle.kilim_class_world.specs.Linked.{program_of}

@@ -15,13 +15,13 @@ use Rattle.kilim_classfile.specs.declared.class_file.ClassFile.{ClassFile}
 use Rattle.kilim_constant_pool.specs.declared.entry.Entry.{Entry}
 use Rattle.kilim_constant_pool.specs.declared.entry.Entry.TheVariants as entry
 use Rattle.kilim_opcodes.specs.declared.fault.OpFault.TheVariants as op
-use Rattle.kilim_program.specs.declared.class.Form.{Form}
-use Rattle.kilim_program.specs.declared.class.Form.TheVariants.{Plain, Woven}
-use Rattle.kilim_program.specs.declared.ty.Base.TheVariants as base
-use Rattle.kilim_program.specs.declared.ty.Qualifier.TheVariants.{Free, Cuttable, Safe}
-use Rattle.kilim_program.specs.declared.verified.Frame.{Frame}
-use Rattle.kilim_program.specs.declared.verified.VType.TheVariants.{Top, Int, Long, UninitThis, Object}
-use Rattle.kilim_program.specs.BuiltIn.{class_id}
+use Rattle.kilim_classes.specs.declared.class.Form.{Form}
+use Rattle.kilim_classes.specs.declared.class.Form.TheVariants.{Plain, Woven}
+use Rattle.kilim_classes.specs.declared.ty.Base.TheVariants as base
+use Rattle.kilim_classes.specs.declared.ty.Qualifier.TheVariants.{Free, Cuttable, Safe}
+use Rattle.kilim_classes.specs.declared.verified.Frame.{Frame}
+use Rattle.kilim_classes.specs.declared.verified.VType.TheVariants.{Top, Int, Long, UninitThis, Object}
+use Rattle.kilim_classes.specs.BuiltIn.{class_id}
 use Rattle.kilim_class_world.specs.declared.fault.LeftOutPart.TheVariants as part
 use Rattle.kilim_class_world.specs.declared.fault.LinkFault.TheVariants as fault
 use Rattle.kilim_class_world.specs.declared.fault.Problem.{Problem}

@@ -12,11 +12,11 @@ use Rattle.kilim_classfile.specs.declared.class_file.ClassFile.{ClassFile}
 use Rattle.kilim_constant_pool.specs.declared.entry.Entry.{Entry}
 use Rattle.kilim_constant_pool.specs.declared.entry.Entry.TheVariants as entry
 use Rattle.kilim_opcodes.specs.declared.fault.OpFault.TheVariants as op
-use Rattle.kilim_program.specs.declared.class.Form.TheVariants.{Plain}
-use Rattle.kilim_program.specs.declared.ty.Base.TheVariants as base
-use Rattle.kilim_program.specs.declared.verified.Frame.{Frame}
-use Rattle.kilim_program.specs.declared.verified.VType.TheVariants.{Top, Int, Long, Null, UninitThis, Uninit, Object}
-use Rattle.kilim_program.specs.BuiltIn.{class_id}
+use Rattle.kilim_classes.specs.declared.class.Form.TheVariants.{Plain}
+use Rattle.kilim_classes.specs.declared.ty.Base.TheVariants as base
+use Rattle.kilim_classes.specs.declared.verified.Frame.{Frame}
+use Rattle.kilim_classes.specs.declared.verified.VType.TheVariants.{Top, Int, Long, Null, UninitThis, Uninit, Object}
+use Rattle.kilim_classes.specs.BuiltIn.{class_id}
 use Rattle.kilim_class_world.specs.declared.fault.LeftOutPart.TheVariants as part
 use Rattle.kilim_class_world.specs.declared.fault.Problem.{Problem}
 use Rattle.kilim_class_world.specs.declared.fault.Problem.TheVariants as problem

@@ -8,15 +8,15 @@ use Rattle.kilim_classfile.specs.declared.class_file.MemberInfo.{MemberInfo}
 use Rattle.kilim_classfile.specs.Reading.{read_class}
 use Rattle.kilim_constant_pool.specs.declared.entry.Entry.{Entry}
 use Rattle.kilim_constant_pool.specs.declared.entry.Entry.TheVariants as entry
-use Rattle.kilim_program.specs.declared.class.Class.{Class}
-use Rattle.kilim_program.specs.declared.class.Form.TheVariants.{Plain}
-use Rattle.kilim_program.specs.declared.class.Method.{Method}
-use Rattle.kilim_program.specs.declared.instr.Instr.{Instr}
-use Rattle.kilim_program.specs.declared.instr.Instr.TheVariants.{Aload, Bipush, Invokespecial, Invokestatic, Return}
-use Rattle.kilim_program.specs.declared.ty.Qualifier.TheVariants.{Cuttable}
-use Rattle.kilim_program.specs.Program.{Program}
-use Rattle.kilim_program.specs.BuiltIn.{class_id, method_id, built_in_classes, built_in_methods}
-use Rattle.kilim_program.specs.Keeps.{Keeps}
+use Rattle.kilim_classes.specs.declared.class.Class.{Class}
+use Rattle.kilim_classes.specs.declared.class.Form.TheVariants.{Plain}
+use Rattle.kilim_classes.specs.declared.class.Method.{Method}
+use Rattle.kilim_classes.specs.declared.instr.Instr.{Instr}
+use Rattle.kilim_classes.specs.declared.instr.Instr.TheVariants.{Aload, Bipush, Invokespecial, Invokestatic, Return}
+use Rattle.kilim_classes.specs.declared.ty.Qualifier.TheVariants.{Cuttable}
+use Rattle.kilim_classes.specs.Program.{Program}
+use Rattle.kilim_classes.specs.BuiltIn.{class_id, method_id, built_in_classes, built_in_methods}
+use Rattle.kilim_classes.specs.Keeps.{Keeps}
 use Rattle.kilim_class_world.specs.declared.fault.LeftOutPart.TheVariants as part
 use Rattle.kilim_class_world.specs.declared.fault.LinkFault.TheVariants as fault
 use Rattle.kilim_class_world.specs.declared.fault.Problem.{Problem}

@@ -14,13 +14,13 @@ use Rattle.kilim_descriptors.specs.declared.types.MethodText.{MethodText}
 use Rattle.kilim_descriptors.specs.Text.{slots_of}
 use Rattle.kilim_mutf8.specs.Spelling.{spelling}
 use Rattle.kilim_opcodes.specs.declared.fault.OpFault.TheVariants as op
-use Rattle.kilim_program.specs.declared.class.Form.{Form}
-use Rattle.kilim_program.specs.declared.names.ClassId.{ClassId}
-use Rattle.kilim_program.specs.declared.ty.Ty.{Ty}
-use Rattle.kilim_program.specs.Names.{◌>>=◌, is_task, is_empty}
-use Rattle.kilim_program.specs.Kinds.{class_kind, field_may_hold, is_message}
-use Rattle.kilim_program.specs.Keeps.{ancestors_of, superclass_fits}
-use Rattle.kilim_program.specs.Same.{same_flag, same_qualifier, same_qualifiers}
+use Rattle.kilim_classes.specs.declared.class.Form.{Form}
+use Rattle.kilim_classes.specs.declared.names.ClassId.{ClassId}
+use Rattle.kilim_classes.specs.declared.ty.Ty.{Ty}
+use Rattle.kilim_classes.specs.Names.{◌>>=◌, is_task, is_empty}
+use Rattle.kilim_classes.specs.Kinds.{class_kind, field_may_hold, is_message}
+use Rattle.kilim_classes.specs.Keeps.{ancestors_of, superclass_fits}
+use Rattle.kilim_classes.specs.Same.{same_flag, same_qualifier, same_qualifiers}
 use Rattle.kilim_class_world.specs.declared.fault.LinkFault.{LinkFault}
 use Rattle.kilim_class_world.specs.declared.fault.LinkFault.TheVariants as fault
 use Rattle.kilim_class_world.specs.declared.fault.Problem.{Problem}

@@ -10,13 +10,13 @@ use Rattle.kilim_attributes.specs.declared.attribute.CodeInfo.{CodeInfo}
 use Rattle.kilim_attributes.specs.declared.attribute.CodeInfo.TheVariants.{StackMapTable, Raw}
 use Rattle.kilim_classfile.specs.declared.class_file.ClassFile.{ClassFile}
 use Rattle.kilim_constant_pool.specs.declared.entry.Entry.{Entry as PoolEntry}
-use Rattle.kilim_program.specs.declared.names.ClassId.{ClassId}
-use Rattle.kilim_program.specs.declared.ty.Base.{Base}
-use Rattle.kilim_program.specs.declared.ty.Base.TheVariants as base
-use Rattle.kilim_program.specs.declared.ty.Ty.{Ty}
-use Rattle.kilim_program.specs.declared.verified.Frame.{Frame}
-use Rattle.kilim_program.specs.declared.verified.VType.{VType}
-use Rattle.kilim_program.specs.declared.verified.VType.TheVariants.{Top, Int, Long, Null, UninitThis, Uninit, Object}
+use Rattle.kilim_classes.specs.declared.names.ClassId.{ClassId}
+use Rattle.kilim_classes.specs.declared.ty.Base.{Base}
+use Rattle.kilim_classes.specs.declared.ty.Base.TheVariants as base
+use Rattle.kilim_classes.specs.declared.ty.Ty.{Ty}
+use Rattle.kilim_classes.specs.declared.verified.Frame.{Frame}
+use Rattle.kilim_classes.specs.declared.verified.VType.{VType}
+use Rattle.kilim_classes.specs.declared.verified.VType.TheVariants.{Top, Int, Long, Null, UninitThis, Uninit, Object}
 use Rattle.kilim_class_world.specs.World.{World, DeclaredMethod, class_text}
 use Rattle.kilim_class_world.specs.Types.{method_text, typed, type_in, type_named, named_by, each_of, itself}
 use Rattle.kilim_class_world.specs.Qualified.{is_constructor_name, params_of}

@@ -12,10 +12,10 @@ use Rattle.kilim_descriptors.specs.declared.types.BaseText.{BaseText}
 use Rattle.kilim_descriptors.specs.declared.types.BaseText.TheVariants as text
 use Rattle.kilim_descriptors.specs.declared.types.MethodText.{MethodText}
 use Rattle.kilim_opcodes.specs.declared.fault.OpFault.TheVariants as op
-use Rattle.kilim_program.specs.declared.names.ClassId.{ClassId}
-use Rattle.kilim_program.specs.declared.ty.Ty.{Ty}
-use Rattle.kilim_program.specs.Names.{◌>>=◌, is_task, is_empty}
-use Rattle.kilim_program.specs.Keeps.{constant_fits}
+use Rattle.kilim_classes.specs.declared.names.ClassId.{ClassId}
+use Rattle.kilim_classes.specs.declared.ty.Ty.{Ty}
+use Rattle.kilim_classes.specs.Names.{◌>>=◌, is_task, is_empty}
+use Rattle.kilim_classes.specs.Keeps.{constant_fits}
 use Rattle.kilim_class_world.specs.declared.fault.LeftOutPart.{LeftOutPart}
 use Rattle.kilim_class_world.specs.declared.fault.LeftOutPart.TheVariants as part
 use Rattle.kilim_class_world.specs.World.{World, own_name, interface_names, member_name, member_descriptor, has_flag, acc_static, acc_synchronized, acc_native, acc_interface, acc_super, declared_method, parameter_parts, class_of}

@@ -16,7 +16,7 @@ use Rattle.kilim_constant_pool.specs.declared.entry.Entry.{Entry}
 use Rattle.kilim_descriptors.specs.declared.types.BaseText.TheVariants as text
 use Rattle.kilim_descriptors.specs.declared.types.FieldText.{FieldText}
 use Rattle.kilim_opcodes.specs.declared.instr.RawInstr.{RawInstr}
-use Rattle.kilim_program.specs.Names.{◌>>=◌}
+use Rattle.kilim_classes.specs.Names.{◌>>=◌}
 use Rattle.kilim_class_world.specs.World.{acc_static, has_flag, super_name, interface_names, member_descriptor, class_text}
 use Rattle.kilim_class_world.specs.Types.{Named, AClass, AnArray, Malformed, named_by, field_text, method_text, type_names, types_of_field, types_of_method}
 use Rattle.kilim_class_world.specs.Code.{MemberRef, Operand, AConstant, AField, AMethod, AType, index_in, operand_at, decoded}

@@ -4,18 +4,18 @@ use Rattle.kilim_attributes.specs.declared.attribute.Attribute.{Attribute}
 use Rattle.kilim_attributes.specs.declared.attribute.Info.TheVariants as info
 use Rattle.kilim_classfile.specs.declared.class_file.ClassFile.{ClassFile}
 use Rattle.kilim_constant_pool.specs.declared.entry.Entry.TheVariants as entry
-use Rattle.kilim_program.specs.declared.class.Class.{Class}
-use Rattle.kilim_program.specs.declared.class.Field.{Field}
-use Rattle.kilim_program.specs.declared.class.Form.TheVariants.{Plain, Woven}
-use Rattle.kilim_program.specs.declared.class.Method.{Method}
-use Rattle.kilim_program.specs.declared.instr.Instr.{Instr}
-use Rattle.kilim_program.specs.declared.instr.Instr.TheVariants.{Aload, Getfield, Ldc, Pop, Iload, Iinc, Tableswitch, Newarray, Anewarray, GotoW, Return}
-use Rattle.kilim_program.specs.declared.ty.Base.TheVariants as base
-use Rattle.kilim_program.specs.declared.ty.Qualifier.TheVariants.{Safe}
-use Rattle.kilim_program.specs.declared.value.Value.TheVariants.{Text}
-use Rattle.kilim_program.specs.Program.{Program}
-use Rattle.kilim_program.specs.BuiltIn.{class_id, method_id, class_type, int_type, built_in_classes, built_in_methods, built_in_classes_in, built_in_methods_in}
-use Rattle.kilim_program.specs.Keeps.{Keeps}
+use Rattle.kilim_classes.specs.declared.class.Class.{Class}
+use Rattle.kilim_classes.specs.declared.class.Field.{Field}
+use Rattle.kilim_classes.specs.declared.class.Form.TheVariants.{Plain, Woven}
+use Rattle.kilim_classes.specs.declared.class.Method.{Method}
+use Rattle.kilim_classes.specs.declared.instr.Instr.{Instr}
+use Rattle.kilim_classes.specs.declared.instr.Instr.TheVariants.{Aload, Getfield, Ldc, Pop, Iload, Iinc, Tableswitch, Newarray, Anewarray, GotoW, Return}
+use Rattle.kilim_classes.specs.declared.ty.Base.TheVariants as base
+use Rattle.kilim_classes.specs.declared.ty.Qualifier.TheVariants.{Safe}
+use Rattle.kilim_classes.specs.declared.value.Value.TheVariants.{Text}
+use Rattle.kilim_classes.specs.Program.{Program}
+use Rattle.kilim_classes.specs.BuiltIn.{class_id, method_id, class_type, int_type, built_in_classes, built_in_methods, built_in_classes_in, built_in_methods_in}
+use Rattle.kilim_classes.specs.Keeps.{Keeps}
 use Rattle.kilim_class_world.specs.World.{field_id}
 use Rattle.kilim_class_world.specs.Types.{typed}
 use Rattle.kilim_class_world.specs.Linked.{Linked}

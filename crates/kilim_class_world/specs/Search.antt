@@ -13,12 +13,12 @@ use Rattle.kilim_classfile.specs.declared.class_file.MemberInfo.{MemberInfo}
 use Rattle.kilim_constant_pool.specs.declared.entry.Entry.{Entry}
 use Rattle.kilim_constant_pool.specs.declared.entry.Entry.TheVariants as entry
 use Rattle.kilim_opcodes.specs.declared.fault.OpFault.TheVariants as op
-use Rattle.kilim_program.specs.declared.class.Form.{Form}
-use Rattle.kilim_program.specs.declared.class.Form.TheVariants.{Plain, Woven}
-use Rattle.kilim_program.specs.declared.instr.Instr.{Instr}
-use Rattle.kilim_program.specs.declared.instr.Instr.TheVariants.{Getfield, Invokevirtual, Invokespecial, Invokestatic, Aload, Pop, Return}
-use Rattle.kilim_program.specs.Program.{Program}
-use Rattle.kilim_program.specs.BuiltIn.{class_id, method_id}
+use Rattle.kilim_classes.specs.declared.class.Form.{Form}
+use Rattle.kilim_classes.specs.declared.class.Form.TheVariants.{Plain, Woven}
+use Rattle.kilim_classes.specs.declared.instr.Instr.{Instr}
+use Rattle.kilim_classes.specs.declared.instr.Instr.TheVariants.{Getfield, Invokevirtual, Invokespecial, Invokestatic, Aload, Pop, Return}
+use Rattle.kilim_classes.specs.Program.{Program}
+use Rattle.kilim_classes.specs.BuiltIn.{class_id, method_id}
 use Rattle.kilim_class_world.specs.declared.fault.Problem.TheVariants as problem
 use Rattle.kilim_class_world.specs.World.{field_id, world_of}
 use Rattle.kilim_class_world.specs.Linked.{program_of}

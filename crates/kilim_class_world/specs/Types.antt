@@ -6,10 +6,10 @@ use Rattle.kilim_descriptors.specs.declared.types.FieldText.{FieldText}
 use Rattle.kilim_descriptors.specs.declared.types.MethodText.{MethodText}
 use Rattle.kilim_descriptors.specs.Exact.{spelled_by}
 use Rattle.kilim_descriptors.specs.Reading.{whole_field, whole_method}
-use Rattle.kilim_program.specs.declared.names.ClassId.{ClassId}
-use Rattle.kilim_program.specs.declared.ty.Base.{Base}
-use Rattle.kilim_program.specs.declared.ty.Base.TheVariants as base
-use Rattle.kilim_program.specs.declared.ty.Ty.{Ty}
+use Rattle.kilim_classes.specs.declared.names.ClassId.{ClassId}
+use Rattle.kilim_classes.specs.declared.ty.Base.{Base}
+use Rattle.kilim_classes.specs.declared.ty.Base.TheVariants as base
+use Rattle.kilim_classes.specs.declared.ty.Ty.{Ty}
 use Rattle.kilim_class_world.specs.World.{World, class_of}
 pub use Rattle.kilim_class_world.specs.declared.named.Named.{Named}
 pub use Rattle.kilim_class_world.specs.declared.named.Named.TheVariants.{AClass, AnArray, Malformed}

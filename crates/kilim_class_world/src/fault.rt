@@ -4,7 +4,7 @@ ghost use Rattle.std.specs.Prelude.{◌≡◌};
 
 use kilim_bytecode::CodeFault;
 use kilim_classfile::MemberName;
-use kilim_program::Units;
+use kilim_units::Units;
 use std::alloc::{AllocError, AllocFailed};
 
 /// A part of class files that this project leaves out. Where a class has several, the first of this list is named.

@@ -2,7 +2,8 @@
 
 use crate::fault::MemberOf;
 use kilim_descriptors::FieldText;
-use kilim_program::{Frame, Instr, Qualifier, Seq, Units, VType, Value};
+use kilim_classes::{Frame, Instr, Qualifier, VType, Value};
+use kilim_units::{Seq, Units};
 
 /// What a class entry of a pool names (JVMS 4.4.1).
 #[derive(Drop)]

@@ -2,7 +2,7 @@
 
 use kilim_attributes::Attribute;
 use kilim_constant_pool::Pool;
-use kilim_program::Seq;
+use kilim_units::Seq;
 
 /// A field (JVMS 4.5) or a method (JVMS 4.6): the two structures have the same items.
 #[derive(Debug, Drop)]

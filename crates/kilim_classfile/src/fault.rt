@@ -4,7 +4,7 @@ ghost use Rattle.std.specs.Prelude.{◌≡◌};
 
 use kilim_attributes::AttributeFault;
 use kilim_constant_pool::PoolFault;
-use kilim_program::Units;
+use kilim_units::Units;
 use std::alloc::{AllocError, AllocFailed};
 
 /// A field or a method, by its name and its descriptor.

@@ -10,7 +10,7 @@ use crate::class_file::MemberInfo;
 use crate::fault::{ClassFault, MemberName};
 use kilim_attributes::{Attribute, Info};
 use kilim_constant_pool::{Entry, Pool};
-use kilim_program::Units;
+use kilim_units::Units;
 use std::alloc::{AllocError, Global};
 
 /// Whether an entry is a text.

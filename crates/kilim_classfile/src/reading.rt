@@ -19,7 +19,7 @@ use crate::members::{has_its_code, is_class, is_utf8, name_of};
 use kilim_attributes::{Attribute, AttributeFault, Place, read_all};
 use kilim_constant_pool::{Pool, PoolFault};
 use kilim_grammar::{u16_at, u32_at};
-use kilim_program::Seq;
+use kilim_units::Seq;
 use std::alloc::Global;
 
 fn pool_fault(len: usize, fault: PoolFault) -> ClassFault

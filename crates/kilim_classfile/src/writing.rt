@@ -10,7 +10,7 @@ ghost use Rattle.kilim_classfile.specs.Writing.{front_text, lists_text, MemberIs
 use crate::class_file::{ClassFile, MemberInfo};
 use kilim_attributes::write_all;
 use kilim_grammar::{push_u16, push_u32};
-use kilim_program::{NoMemory, Seq};
+use kilim_units::{NoMemory, Seq};
 use std::alloc::Global;
 
 fn push_each_class(into: &mut Vec<u8>, classes: &[u16]) -> Result<(), NoMemory>

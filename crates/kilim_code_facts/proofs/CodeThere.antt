@@ -10,8 +10,8 @@ use Rattle.kilim_classfile.specs.declared.class_file.ClassFile.{ClassFile}
 use Rattle.kilim_classfile.specs.declared.class_file.MemberInfo.{MemberInfo}
 use Rattle.kilim_constant_pool.specs.declared.entry.Entry.{Entry}
 use Rattle.kilim_opcodes.specs.declared.fault.OpFault.TheVariants as op
-use Rattle.kilim_program.specs.declared.instr.Instr.{Instr}
-use Rattle.kilim_program.specs.declared.names.ClassId.{ClassId}
+use Rattle.kilim_classes.specs.declared.instr.Instr.{Instr}
+use Rattle.kilim_classes.specs.declared.names.ClassId.{ClassId}
 use Rattle.kilim_class_world.specs.Code.{decoded, code_of, index_in, placed_in, instr_in}
 use Rattle.kilim_class_world.specs.Faults.{bad_index, code_fault, decoded_in, left_out_op}
 use Rattle.kilim_class_world.specs.Linked.{body_in, body_with, first_of, no_body}

@@ -7,9 +7,9 @@ use Rattle.kilim_constant_pool.specs.declared.entry.Entry.{Entry}
 use Rattle.kilim_opcodes.specs.Instr.{instr_len}
 use Rattle.kilim_bytecode.specs.Code.{Placed, StandsFrom, is_place, targets_of, ends, falls, falls_off, mid_target}
 use Rattle.kilim_bytecode.specs.Exact.{body_fault, target_or_end, TargetsArePlaces}
-use Rattle.kilim_program.specs.declared.instr.Instr.{Instr}
-use Rattle.kilim_program.specs.Lengths.{has_length, code_stands, is_code_place, targets_stand, jump_targets, code_ends}
-use Rattle.kilim_program.specs.Moves.{first_place}
+use Rattle.kilim_classes.specs.declared.instr.Instr.{Instr}
+use Rattle.kilim_classes.specs.Lengths.{has_length, code_stands, is_code_place, targets_stand, jump_targets, code_ends}
+use Rattle.kilim_classes.specs.Lengths.{first_place}
 use Rattle.kilim_class_world.specs.Code.{instr_in, placed_in}
 use Rattle.kilim_class_world.specs.Types.{each_of}
 use Rattle.kilim_class_world.specs.World.{World}

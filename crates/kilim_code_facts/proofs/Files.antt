@@ -2,8 +2,8 @@
 use Rattle.std.proofs.Common.{ℕ, suc, List, [], ◌∷◌}
 use Rattle.std.specs.List.{AllByRecursion}
 use Rattle.kilim_classfile.specs.declared.class_file.ClassFile.{ClassFile}
-use Rattle.kilim_program.specs.BuiltIn.{class_id}
-use Rattle.kilim_program.specs.declared.names.ClassId.{ClassId}
+use Rattle.kilim_classes.specs.BuiltIn.{class_id}
+use Rattle.kilim_classes.specs.declared.names.ClassId.{ClassId}
 use Rattle.kilim_class_world.specs.Laws.{NoProblem, NoneOfEachKind, EachIsWithout}
 use Rattle.kilim_class_world.specs.World.{World}
 use Rattle.kilim_code_facts.proofs.Lists.{EachFile}

@@ -9,14 +9,14 @@ use Rattle.kilim_attributes.specs.declared.attribute.Code.{Code}
 use Rattle.kilim_classfile.specs.declared.class_file.ClassFile.{ClassFile}
 use Rattle.kilim_classfile.specs.declared.class_file.MemberInfo.{MemberInfo}
 use Rattle.kilim_constant_pool.specs.declared.entry.Entry.{Entry}
-use Rattle.kilim_program.specs.declared.class.Form.{Form}
-use Rattle.kilim_program.specs.declared.class.Form.TheVariants.{Plain, Woven}
-use Rattle.kilim_program.specs.declared.class.Method.{Method}
-use Rattle.kilim_program.specs.declared.names.ClassId.{ClassId}
-use Rattle.kilim_program.specs.declared.verified.Frame.{Frame}
-use Rattle.kilim_program.specs.declared.verified.VType.{VType}
-use Rattle.kilim_program.specs.BuiltIn.{built_in_methods_in}
-use Rattle.kilim_program.specs.Lengths.{places_increase}
+use Rattle.kilim_classes.specs.declared.class.Form.{Form}
+use Rattle.kilim_classes.specs.declared.class.Form.TheVariants.{Plain, Woven}
+use Rattle.kilim_classes.specs.declared.class.Method.{Method}
+use Rattle.kilim_classes.specs.declared.names.ClassId.{ClassId}
+use Rattle.kilim_classes.specs.declared.verified.Frame.{Frame}
+use Rattle.kilim_classes.specs.declared.verified.VType.{VType}
+use Rattle.kilim_classes.specs.BuiltIn.{built_in_methods_in}
+use Rattle.kilim_classes.specs.Lengths.{places_increase}
 use Rattle.kilim_class_world.specs.Laws.{LinkedInParts}
 use Rattle.kilim_class_world.specs.Linked.{no_body, body_in, code_attribute, linked_method}
 use Rattle.kilim_class_world.specs.declared.named.Body.{Body}

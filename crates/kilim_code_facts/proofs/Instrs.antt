@@ -13,10 +13,10 @@ use Rattle.kilim_opcodes.specs.declared.instr.RawInstr.{RawInstr}
 use Rattle.kilim_opcodes.specs.declared.instr.RawInstr.TheVariants as raw
 use Rattle.kilim_opcodes.specs.Instr.{padding, instr_len, high_of, InstrFits, TargetFits, PairsFit, IsAbove}
 use Rattle.kilim_opcodes.specs.Table.{rows, form_of}
-use Rattle.kilim_program.specs.declared.instr.Instr.{Instr}
-use Rattle.kilim_program.specs.declared.instr.Instr.TheVariants.{Bipush, Sipush, Iinc, Tableswitch, Lookupswitch, Newarray, New}
-use Rattle.kilim_program.specs.declared.names.ClassId.{ClassId}
-use Rattle.kilim_program.specs.Lengths.{has_length, is_far, is_iinc_length, is_jump_length, is_loaded, is_local_length, is_primitive, is_table, matches_increase}
+use Rattle.kilim_classes.specs.declared.instr.Instr.{Instr}
+use Rattle.kilim_classes.specs.declared.instr.Instr.TheVariants.{Bipush, Sipush, Iinc, Tableswitch, Lookupswitch, Newarray, New}
+use Rattle.kilim_classes.specs.declared.names.ClassId.{ClassId}
+use Rattle.kilim_classes.specs.Lengths.{has_length, is_far, is_iinc_length, is_jump_length, is_loaded, is_local_length, is_primitive, is_table, matches_increase}
 use Rattle.kilim_class_world.specs.Code.{instr_in, instr_with, typed_instr, applied, row, place_of, pair_in, plain_instrs, local_instrs, jump_instrs, field_instrs, method_instrs, type_instrs, constant_instrs, array_codes, operand_at, field_found, method_found}
 use Rattle.kilim_class_world.specs.declared.named.Operand.{Operand}
 use Rattle.kilim_class_world.specs.declared.named.Operand.TheVariants.{AConstant, AField, AMethod, AType}

@@ -14,9 +14,9 @@ use Rattle.kilim_opcodes.specs.declared.instr.RawInstr.{RawInstr}
 use Rattle.kilim_opcodes.specs.declared.instr.RawInstr.TheVariants as raw
 use Rattle.kilim_opcodes.specs.Instr.{is_array_code}
 use Rattle.kilim_opcodes.specs.Table.{rows, form_of}
-use Rattle.kilim_program.specs.declared.instr.Instr.TheVariants.{Bipush, Sipush, Iinc, New}
-use Rattle.kilim_program.specs.declared.value.Value.{Value}
-use Rattle.kilim_program.specs.declared.names.ClassId.{ClassId}
+use Rattle.kilim_classes.specs.declared.instr.Instr.TheVariants.{Bipush, Sipush, Iinc, New}
+use Rattle.kilim_classes.specs.declared.value.Value.{Value}
+use Rattle.kilim_classes.specs.declared.names.ClassId.{ClassId}
 use Rattle.kilim_class_world.specs.Code.{instr_in, instr_with, applied, row, place_of, pair_in, plain_instrs, local_instrs, jump_instrs, field_instrs, method_instrs, type_instrs, constant_instrs, array_codes, index_operand, index_in, operand_at, field_found, method_found, constant_ref, field_ref, method_ref, any_method_ref, class_ref, unless_array}
 use Rattle.kilim_class_world.specs.declared.named.Operand.{Operand}
 use Rattle.kilim_class_world.specs.declared.named.Operand.TheVariants.{AConstant, AField, AMethod, AType}

@@ -5,7 +5,7 @@ use Rattle.std.specs.Option.{option_map}
 use Rattle.kilim_constant_pool.specs.declared.entry.Entry.{Entry}
 use Rattle.kilim_constant_pool.specs.declared.entry.Entry.TheVariants as entry
 use Rattle.kilim_constant_pool.specs.Entries.{entry_at}
-use Rattle.kilim_program.specs.Lengths.{is_loaded}
+use Rattle.kilim_classes.specs.Lengths.{is_loaded}
 use Rattle.kilim_class_world.specs.Code.{constant_ref, field_ref, method_ref, any_method_ref, class_ref, unless_array, operand_at}
 use Rattle.kilim_class_world.specs.declared.fault.MemberOf.{MemberOf as MemberRef}
 use Rattle.kilim_class_world.specs.declared.named.Operand.{Operand}

@@ -12,16 +12,16 @@ use Rattle.kilim_descriptors.specs.declared.types.BaseText.TheVariants as text
 use Rattle.kilim_descriptors.specs.declared.types.FieldText.{FieldText}
 use Rattle.kilim_descriptors.specs.declared.types.MethodText.{MethodText}
 use Rattle.kilim_descriptors.specs.Text.{slots, slots_of, base_slots, is_wide}
-use Rattle.kilim_program.specs.declared.class.Form.{Form}
-use Rattle.kilim_program.specs.declared.class.Form.TheVariants.{Plain, Woven}
-use Rattle.kilim_program.specs.declared.class.Method.{Method}
-use Rattle.kilim_program.specs.declared.names.ClassId.{ClassId}
-use Rattle.kilim_program.specs.declared.ty.Base.{Base}
-use Rattle.kilim_program.specs.declared.ty.Base.TheVariants as base
-use Rattle.kilim_program.specs.declared.ty.Ty.{Ty}
-use Rattle.kilim_program.specs.BuiltIn.{built_in_methods_in}
-use Rattle.kilim_program.specs.Keeps.{method_is_sound}
-use Rattle.kilim_program.specs.Same.{argument_slots, type_slots, is_wide_base}
+use Rattle.kilim_classes.specs.declared.class.Form.{Form}
+use Rattle.kilim_classes.specs.declared.class.Form.TheVariants.{Plain, Woven}
+use Rattle.kilim_classes.specs.declared.class.Method.{Method}
+use Rattle.kilim_classes.specs.declared.names.ClassId.{ClassId}
+use Rattle.kilim_classes.specs.declared.ty.Base.{Base}
+use Rattle.kilim_classes.specs.declared.ty.Base.TheVariants as base
+use Rattle.kilim_classes.specs.declared.ty.Ty.{Ty}
+use Rattle.kilim_classes.specs.BuiltIn.{built_in_methods_in}
+use Rattle.kilim_classes.specs.Keeps.{method_is_sound}
+use Rattle.kilim_classes.specs.Same.{argument_slots, type_slots, is_wide_base}
 use Rattle.kilim_class_world.specs.Faults.{no_descriptors, is_no_method, descriptor_broken}
 use Rattle.kilim_class_world.specs.declared.fault.Problem.TheVariants as problem
 use Rattle.kilim_class_world.specs.Laws.{LinkedInParts, NoProblem, NoneHasAProblem, NoneOfEachKind}

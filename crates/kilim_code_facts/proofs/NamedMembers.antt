@@ -7,10 +7,10 @@ use Rattle.kilim_bytecode.specs.Code.{Placed}
 use Rattle.kilim_constant_pool.specs.declared.entry.Entry.{Entry}
 use Rattle.kilim_opcodes.specs.declared.instr.RawInstr.{RawInstr}
 use Rattle.kilim_opcodes.specs.declared.instr.RawInstr.TheVariants as raw
-use Rattle.kilim_program.specs.declared.instr.Instr.{Instr}
-use Rattle.kilim_program.specs.declared.instr.Instr.TheVariants.{Bipush, Sipush, Iinc, Newarray, New}
-use Rattle.kilim_program.specs.Keeps.{members_there}
-use Rattle.kilim_program.specs.Program.{Program}
+use Rattle.kilim_classes.specs.declared.instr.Instr.{Instr}
+use Rattle.kilim_classes.specs.declared.instr.Instr.TheVariants.{Bipush, Sipush, Iinc, Newarray, New}
+use Rattle.kilim_classes.specs.Keeps.{members_there}
+use Rattle.kilim_classes.specs.Program.{Program}
 use Rattle.kilim_class_world.specs.Code.{instr_in, instr_with, code_of, placed_in, applied, row, plain_instrs, local_instrs, jump_instrs, field_instrs, method_instrs, type_instrs, constant_instrs, array_codes, place_of, operand_at, field_found, method_found}
 use Rattle.kilim_class_world.specs.declared.named.Operand.{Operand}
 use Rattle.kilim_class_world.specs.declared.named.Operand.TheVariants.{AConstant, AField, AMethod, AType}

@@ -6,13 +6,13 @@ use Rattle.kilim_bytecode.specs.Exact.{TargetsArePlaces}
 use Rattle.kilim_classfile.specs.declared.class_file.ClassFile.{ClassFile}
 use Rattle.kilim_classfile.specs.declared.class_file.MemberInfo.{MemberInfo}
 use Rattle.kilim_descriptors.specs.declared.types.FieldText.{FieldText}
-use Rattle.kilim_program.specs.declared.class.Class.{Class}
-use Rattle.kilim_program.specs.declared.class.Field.{Field}
-use Rattle.kilim_program.specs.declared.class.Form.{Form}
-use Rattle.kilim_program.specs.declared.class.Method.{Method}
-use Rattle.kilim_program.specs.declared.names.ClassId.{ClassId}
-use Rattle.kilim_program.specs.declared.ty.Ty.{Ty}
-use Rattle.kilim_program.specs.Names.{◌>>=◌}
+use Rattle.kilim_classes.specs.declared.class.Class.{Class}
+use Rattle.kilim_classes.specs.declared.class.Field.{Field}
+use Rattle.kilim_classes.specs.declared.class.Form.{Form}
+use Rattle.kilim_classes.specs.declared.class.Method.{Method}
+use Rattle.kilim_classes.specs.declared.names.ClassId.{ClassId}
+use Rattle.kilim_classes.specs.declared.ty.Ty.{Ty}
+use Rattle.kilim_classes.specs.Names.{◌>>=◌}
 use Rattle.kilim_class_world.specs.Faults.{code_broken, code_fault, code_faults, decoded_in, is_no_member, left_out_op, member_missing}
 use Rattle.kilim_class_world.specs.Laws.{NoProblem, NoneHasAProblem, NoneOfEachKind}
 use Rattle.kilim_class_world.specs.Linked.{body_in, code_attribute, linked_class, linked_field, linked_method, method_with, field_with, members, numbered, program_of, program_with}

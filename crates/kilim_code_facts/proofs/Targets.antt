@@ -9,11 +9,11 @@ use Rattle.kilim_opcodes.specs.declared.instr.RawInstr.{RawInstr}
 use Rattle.kilim_opcodes.specs.declared.instr.RawInstr.TheVariants as raw
 use Rattle.kilim_opcodes.specs.Instr.{InstrFits}
 use Rattle.kilim_bytecode.specs.Code.{targets_of, ends}
-use Rattle.kilim_program.specs.declared.instr.Instr.{Instr}
-use Rattle.kilim_program.specs.declared.instr.Instr.TheVariants.{Bipush, Sipush, Iinc, Tableswitch, Lookupswitch, Newarray, New}
-use Rattle.kilim_program.specs.declared.names.ClassId.{ClassId}
-use Rattle.kilim_program.specs.Names.{is_empty}
-use Rattle.kilim_program.specs.Lengths.{jump_targets, ends_path}
+use Rattle.kilim_classes.specs.declared.instr.Instr.{Instr}
+use Rattle.kilim_classes.specs.declared.instr.Instr.TheVariants.{Bipush, Sipush, Iinc, Tableswitch, Lookupswitch, Newarray, New}
+use Rattle.kilim_classes.specs.declared.names.ClassId.{ClassId}
+use Rattle.kilim_classes.specs.Names.{is_empty}
+use Rattle.kilim_classes.specs.Lengths.{jump_targets, ends_path}
 use Rattle.kilim_class_world.specs.Code.{instr_in, instr_with, applied, row, place_of, pair_in, plain_instrs, local_instrs, jump_instrs, field_instrs, method_instrs, type_instrs, constant_instrs, array_codes, operand_at, field_found, method_found}
 use Rattle.kilim_class_world.specs.declared.named.Operand.{Operand}
 use Rattle.kilim_class_world.specs.declared.named.Operand.TheVariants.{AConstant, AField, AMethod, AType}

@@ -12,14 +12,14 @@ use Rattle.kilim_attributes.specs.declared.attribute.Code.{Code}
 use Rattle.kilim_classfile.specs.declared.class_file.ClassFile.{ClassFile}
 use Rattle.kilim_constant_pool.specs.declared.entry.Entry.{Entry}
 use Rattle.kilim_descriptors.specs.declared.types.FieldText.{FieldText}
-use Rattle.kilim_program.specs.declared.names.ClassId.{ClassId}
-use Rattle.kilim_program.specs.declared.ty.Base.{Base}
-use Rattle.kilim_program.specs.declared.ty.Base.TheVariants as base
-use Rattle.kilim_program.specs.declared.ty.Ty.{Ty}
-use Rattle.kilim_program.specs.declared.verified.Frame.{Frame}
-use Rattle.kilim_program.specs.declared.verified.VType.{VType}
-use Rattle.kilim_program.specs.declared.verified.VType.TheVariants.{Top, Int, Long, Null, UninitThis, Uninit, Object}
-use Rattle.kilim_program.specs.Keeps.{types_of_slot, types_of_frame}
+use Rattle.kilim_classes.specs.declared.names.ClassId.{ClassId}
+use Rattle.kilim_classes.specs.declared.ty.Base.{Base}
+use Rattle.kilim_classes.specs.declared.ty.Base.TheVariants as base
+use Rattle.kilim_classes.specs.declared.ty.Ty.{Ty}
+use Rattle.kilim_classes.specs.declared.verified.Frame.{Frame}
+use Rattle.kilim_classes.specs.declared.verified.VType.{VType}
+use Rattle.kilim_classes.specs.declared.verified.VType.TheVariants.{Top, Int, Long, Null, UninitThis, Uninit, Object}
+use Rattle.kilim_classes.specs.Keeps.{types_of_slot, types_of_frame}
 use Rattle.kilim_class_world.specs.Frames.{slot_in, slot_of_type, slot_of_base, receiver_entry, entry_locals, entries_of, delta_of, place_after, placed_frame, frame_of, frame_with, local_slots, frames_from, frames_in, tables_in}
 use Rattle.kilim_class_world.specs.declared.named.Entries.{Entries}
 use Rattle.kilim_class_world.specs.Mentions.{mentions_of_slot}

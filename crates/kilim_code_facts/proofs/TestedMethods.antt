@@ -9,14 +9,14 @@ use Rattle.kilim_bytecode.specs.Code.{Placed}
 use Rattle.kilim_classfile.specs.declared.class_file.ClassFile.{ClassFile}
 use Rattle.kilim_classfile.specs.declared.class_file.MemberInfo.{MemberInfo}
 use Rattle.kilim_descriptors.specs.declared.types.FieldText.{FieldText}
-use Rattle.kilim_program.specs.declared.class.Field.{Field}
-use Rattle.kilim_program.specs.declared.class.Method.{Method}
-use Rattle.kilim_program.specs.declared.instr.Instr.{Instr}
-use Rattle.kilim_program.specs.declared.names.ClassId.{ClassId}
-use Rattle.kilim_program.specs.declared.ty.Base.TheVariants as base
-use Rattle.kilim_program.specs.declared.ty.Ty.{Ty}
-use Rattle.kilim_program.specs.declared.verified.Frame.{Frame}
-use Rattle.kilim_program.specs.Keeps.{types_of_frame, types_of_instr, types_of_method}
+use Rattle.kilim_classes.specs.declared.class.Field.{Field}
+use Rattle.kilim_classes.specs.declared.class.Method.{Method}
+use Rattle.kilim_classes.specs.declared.instr.Instr.{Instr}
+use Rattle.kilim_classes.specs.declared.names.ClassId.{ClassId}
+use Rattle.kilim_classes.specs.declared.ty.Base.TheVariants as base
+use Rattle.kilim_classes.specs.declared.ty.Ty.{Ty}
+use Rattle.kilim_classes.specs.declared.verified.Frame.{Frame}
+use Rattle.kilim_classes.specs.Keeps.{types_of_frame, types_of_instr, types_of_method}
 use Rattle.kilim_class_world.specs.Code.{decoded, code_of, placed_in}
 use Rattle.kilim_class_world.specs.Linked.{body_in, no_body, code_attribute, linked_field, linked_method}
 use Rattle.kilim_class_world.specs.declared.named.Body.{Body}

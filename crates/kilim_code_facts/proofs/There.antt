@@ -4,9 +4,9 @@ use Rattle.std.specs.List.{flat_map, AllByRecursion}
 use Rattle.std.specs.Option.{option_map}
 use Rattle.kilim_classfile.specs.declared.class_file.ClassFile.{ClassFile}
 use Rattle.kilim_classfile.specs.declared.class_file.MemberInfo.{MemberInfo}
-use Rattle.kilim_program.specs.BuiltIn.{class_id}
-use Rattle.kilim_program.specs.declared.names.ClassId.{ClassId}
-use Rattle.kilim_program.specs.Names.{◌>>=◌}
+use Rattle.kilim_classes.specs.BuiltIn.{class_id}
+use Rattle.kilim_classes.specs.declared.names.ClassId.{ClassId}
+use Rattle.kilim_classes.specs.Names.{◌>>=◌}
 use Rattle.kilim_class_world.specs.Code.{applied}
 use Rattle.kilim_class_world.specs.Linked.{numbered}
 use Rattle.kilim_class_world.specs.Types.{each_of, itself, with_first}

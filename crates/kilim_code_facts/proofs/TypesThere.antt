@@ -7,7 +7,7 @@ use Rattle.kilim_descriptors.specs.declared.types.BaseText.{BaseText}
 use Rattle.kilim_descriptors.specs.declared.types.BaseText.TheVariants as text
 use Rattle.kilim_descriptors.specs.declared.types.FieldText.{FieldText}
 use Rattle.kilim_descriptors.specs.declared.types.MethodText.{MethodText}
-use Rattle.kilim_program.specs.declared.ty.Base.TheVariants as base
+use Rattle.kilim_classes.specs.declared.ty.Base.TheVariants as base
 use Rattle.kilim_class_world.specs.Faults.{is_float_base, is_no_method}
 use Rattle.kilim_class_world.specs.Mentions.{plain_names, types_mentioned}
 use Rattle.kilim_class_world.specs.declared.named.Mention.{Mention}

@@ -13,14 +13,14 @@ use Rattle.kilim_classfile.specs.declared.class_file.MemberInfo.{MemberInfo}
 use Rattle.kilim_classfile.specs.Text.{ClassFits}
 use Rattle.kilim_constant_pool.specs.declared.entry.Entry.{Entry}
 use Rattle.kilim_opcodes.specs.Exact.{OneSpelling, Lengths}
-use Rattle.kilim_program.specs.declared.class.Form.{Form}
-use Rattle.kilim_program.specs.declared.class.Form.TheVariants.{Plain, Woven}
-use Rattle.kilim_program.specs.declared.class.Method.{Method}
-use Rattle.kilim_program.specs.declared.instr.Instr.{Instr}
-use Rattle.kilim_program.specs.declared.names.ClassId.{ClassId}
-use Rattle.kilim_program.specs.BuiltIn.{built_in_methods_in}
-use Rattle.kilim_program.specs.Keeps.{code_is_whole}
-use Rattle.kilim_program.specs.Lengths.{code_stands, targets_stand, code_ends}
+use Rattle.kilim_classes.specs.declared.class.Form.{Form}
+use Rattle.kilim_classes.specs.declared.class.Form.TheVariants.{Plain, Woven}
+use Rattle.kilim_classes.specs.declared.class.Method.{Method}
+use Rattle.kilim_classes.specs.declared.instr.Instr.{Instr}
+use Rattle.kilim_classes.specs.declared.names.ClassId.{ClassId}
+use Rattle.kilim_classes.specs.BuiltIn.{built_in_methods_in}
+use Rattle.kilim_classes.specs.Keeps.{code_is_whole}
+use Rattle.kilim_classes.specs.Lengths.{code_stands, targets_stand, code_ends}
 use Rattle.kilim_class_world.specs.Code.{decoded, code_of, placed_in}
 use Rattle.kilim_class_world.specs.Laws.{LinkedInParts}
 use Rattle.kilim_class_world.specs.Linked.{body_in, no_body, code_attribute, linked_method}

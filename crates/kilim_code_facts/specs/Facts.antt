@@ -6,12 +6,12 @@ use Rattle.kilim_class_world.specs.Faults.{link_faults}
 use Rattle.kilim_class_world.specs.Linked.{Linked}
 use Rattle.kilim_class_world.specs.LinksWell.{LinksWell}
 use Rattle.kilim_class_world.specs.World.{world_of}
-use Rattle.kilim_program.specs.declared.class.Form.{Form}
-use Rattle.kilim_program.specs.declared.names.ClassId.{ClassId}
-use Rattle.kilim_program.specs.Keeps.{code_is_whole, constants_fit, ids_are_places, method_is_sound, no_task_arrays}
-use Rattle.kilim_program.specs.Lengths.{places_increase}
-use Rattle.kilim_program.specs.Names.{is_task}
-use Rattle.kilim_program.specs.Program.{Program}
+use Rattle.kilim_classes.specs.declared.class.Form.{Form}
+use Rattle.kilim_classes.specs.declared.names.ClassId.{ClassId}
+use Rattle.kilim_classes.specs.Keeps.{code_is_whole, constants_fit, ids_are_places, method_is_sound, no_task_arrays}
+use Rattle.kilim_classes.specs.Lengths.{places_increase}
+use Rattle.kilim_classes.specs.Names.{is_task}
+use Rattle.kilim_classes.specs.Program.{Program}
 
 -- The places of each method's frames increase.
 abbrev pub FramesIncrease : Type 0

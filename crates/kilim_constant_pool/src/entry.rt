@@ -2,7 +2,7 @@
 
 ghost use Rattle.std.specs.Prelude.{◌≡◌, ◌↔◌, IsTrue};
 
-use kilim_program::Units;
+use kilim_units::Units;
 
 /// An entry of a constant pool (JVMS 4.4), with indices of other entries as they stand in the file. Float and Double
 /// constants are their bits.

@@ -15,7 +15,7 @@ use crate::fault::PoolFault;
 use crate::pool::{Pool, is_wide};
 use crate::refers::first_bad;
 use kilim_grammar::{bytes_at, u8_at, u16_at, u32_at, u64_at};
-use kilim_program::Units;
+use kilim_units::Units;
 use std::alloc::Global;
 
 #[tactic(auto, unfolding(crate::specs::Reading::text_at))]

@@ -9,7 +9,7 @@ ghost use Rattle.kilim_constant_pool.specs.Slots.{slot_text, SlotFits};
 use crate::entry::Entry;
 use crate::pool::Pool;
 use kilim_grammar::{push_u8, push_u16, push_u32, push_u64};
-use kilim_program::{NoMemory, Units};
+use kilim_units::{NoMemory, Units};
 
 // Two numbers of two bytes.
 fn push_pair(into: &mut Vec<u8>, first: u16, second: u16) -> Result<(), NoMemory>

@@ -10,7 +10,7 @@ ghost use Rattle.kilim_descriptors.specs.Reading.{Gives, split_name, class_at, b
 
 use crate::fault::{DescriptorFault, Stop};
 use crate::types::{BaseText, FieldText};
-use kilim_program::{NoMemory, Units};
+use kilim_units::{NoMemory, Units};
 use std::alloc::Global;
 
 // A name up to the first semicolon, and the units behind that.

@@ -10,7 +10,7 @@ ghost use Rattle.kilim_descriptors.specs.Exact.{AtFirstPlace, MethodGives, spell
 use crate::fault::{DescriptorFault, Stop};
 use crate::fields::field_at;
 use crate::types::{BaseText, FieldText, MethodText};
-use kilim_program::{NoMemory, Seq, Units};
+use kilim_units::{NoMemory, Seq, Units};
 use std::alloc::Global;
 
 // The next parameter, or none at the closing parenthesis.

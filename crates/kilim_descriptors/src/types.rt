@@ -1,6 +1,6 @@
 //! What descriptors say.
 
-use kilim_program::{Seq, Units};
+use kilim_units::{Seq, Units};
 
 /// The base of a type in a descriptor (JVMS 4.3.2).
 #[derive(Clone, Debug, Drop)]

@@ -2,8 +2,8 @@
 use Rattle.std.specs.Prelude.{not, ◌++◌, List, Option}
 use Rattle.kilim_classfile.specs.declared.class_file.ClassFile.{ClassFile}
 use Rattle.kilim_classfile.specs.declared.class_file.MemberInfo.{MemberInfo}
-use Rattle.kilim_program.specs.declared.ty.Ty.{Ty}
-use Rattle.kilim_program.specs.Names.{◌>>=◌}
+use Rattle.kilim_classes.specs.declared.ty.Ty.{Ty}
+use Rattle.kilim_classes.specs.Names.{◌>>=◌}
 use Rattle.kilim_class_world.specs.declared.fault.LeftOutPart.{LeftOutPart}
 use Rattle.kilim_class_world.specs.declared.fault.LeftOutPart.TheVariants as part
 use Rattle.kilim_class_world.specs.World.{World, member_descriptor, has_flag, acc_synchronized, acc_native, acc_super}

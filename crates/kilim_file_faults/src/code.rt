@@ -2,7 +2,7 @@
 
 ghost use Rattle.std.specs.Prelude.{◌≡◌, IfOk, map};
 ghost use Rattle.std.specs.List.{flat_map, filter_map};
-ghost use Rattle.kilim_program.specs.declared.names.ClassId.{ClassId};
+ghost use Rattle.kilim_classes.specs.declared.names.ClassId.{ClassId};
 ghost use Rattle.kilim_mentions.specs.Decoded.{code_found};
 ghost use Rattle.kilim_class_world.specs.World.{World};
 ghost use Rattle.kilim_class_world.specs.Code.{index_in};
@@ -17,7 +17,7 @@ use kilim_classfile::{ClassFile, MemberInfo, MemberName};
 use kilim_constant_pool::Pool;
 use kilim_mentions::{code_attribute, decoded, index_in, operand_at};
 use kilim_opcodes::{OpFault, RawInstr};
-use kilim_program::{NoMemory, Units};
+use kilim_units::{NoMemory, Units};
 use std::alloc::Global;
 
 // A fault where the index of an instruction names no entry of a kind that the instruction takes.

@@ -3,7 +3,7 @@
 ghost use Rattle.std.specs.Prelude.{◌≡◌, ◌+◌, nat_lt, IfOk};
 ghost use Rattle.std.specs.List.{flat_map};
 ghost use Rattle.kilim_descriptors.specs.Text.{slots_of};
-ghost use Rattle.kilim_program.specs.declared.names.ClassId.{ClassId};
+ghost use Rattle.kilim_classes.specs.declared.names.ClassId.{ClassId};
 ghost use Rattle.kilim_class_world.specs.World.{World};
 ghost use Rattle.kilim_class_world.specs.Linked.{first_of};
 ghost use Rattle.kilim_class_world.specs.declared.named.Mention.TheVariants.{OfField, OfMethod};
@@ -14,7 +14,7 @@ use kilim_class_world::{Mention, Named, Problem};
 use kilim_classfile::ClassFile;
 use kilim_descriptors::{MethodText, argument_slots};
 use kilim_mentions::{field_text, method_text};
-use kilim_program::{NoMemory, Units};
+use kilim_units::{NoMemory, Units};
 use std::alloc::Global;
 
 // Whether a method has more than 255 argument slots with those beside it.

@@ -3,7 +3,7 @@
 ghost use Rattle.std.specs.Prelude.{◌≡◌, ◌&&◌, not, IfOk};
 ghost use Rattle.std.specs.List.{list_any, filter_map};
 ghost use Rattle.std.specs.Option.{option_copied};
-ghost use Rattle.kilim_program.specs.Keeps.{constant_fits};
+ghost use Rattle.kilim_classes.specs.Keeps.{constant_fits};
 ghost use Rattle.kilim_class_world.specs.Code.{constant_ref};
 ghost use Rattle.kilim_class_world.specs.Linked.{constant_by, constant_of, first_of};
 ghost use Rattle.kilim_class_world.specs.LeftOut.{has_its_constant, has_static_field};
@@ -15,7 +15,8 @@ use kilim_class_views::{has_flag, member_descriptor, text_of};
 use kilim_classfile::{ClassFile, MemberInfo};
 use kilim_constant_pool::{Entry, Pool};
 use kilim_mentions::field_text;
-use kilim_program::{NoMemory, Ty, Units, Value};
+use kilim_classes::{Ty, Value};
+use kilim_units::{NoMemory, Units};
 use kilim_world::World;
 use kilim_world_types::type_in;
 use std::alloc::Global;

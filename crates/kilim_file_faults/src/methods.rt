@@ -18,7 +18,8 @@ use kilim_class_views::{class_text, has_flag, is_pausable, is_text, member_name,
 use kilim_classfile::{ClassFile, MemberInfo};
 use kilim_mentions::{code_attribute, decoded};
 use kilim_opcodes::OpFault;
-use kilim_program::{Form, NoMemory, Units};
+use kilim_classes::Form;
+use kilim_units::{NoMemory, Units};
 use kilim_world::World;
 use std::alloc::Global;
 

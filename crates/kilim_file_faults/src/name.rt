@@ -2,8 +2,8 @@
 
 ghost use Rattle.std.specs.Prelude.{◌≡◌, ◌==◌, ◌||◌, not, length, true, false, IfOk};
 ghost use Rattle.std.specs.List.{list_all, slice_split};
-ghost use Rattle.kilim_program.specs.declared.names.ClassId.{ClassId};
-ghost use Rattle.kilim_program.specs.Names.{is_empty};
+ghost use Rattle.kilim_classes.specs.declared.names.ClassId.{ClassId};
+ghost use Rattle.kilim_classes.specs.Names.{is_empty};
 ghost use Rattle.kilim_mutf8.specs.Spelling.{spelling, unit_text};
 ghost use Rattle.kilim_class_world.specs.World.{World};
 ghost use Rattle.kilim_class_world.specs.Linked.{first_of};
@@ -13,7 +13,7 @@ ghost use Rattle.kilim_file_faults.specs.Slashes.{parts_from};
 use kilim_class_views::own_name;
 use kilim_class_world::Problem;
 use kilim_classfile::ClassFile;
-use kilim_program::NoMemory;
+use kilim_units::NoMemory;
 
 fn is_high(unit: u16) -> bool
     ensures { result ≡ is_high unit }

@@ -14,7 +14,7 @@ use kilim_class_views::{member_descriptor, params_in};
 use kilim_classfile::{ClassFile, MemberInfo};
 use kilim_descriptors::MethodText;
 use kilim_mentions::method_text;
-use kilim_program::{NoMemory, Seq, Units};
+use kilim_units::{NoMemory, Seq, Units};
 use std::alloc::Global;
 
 // The annotations that an attribute puts on parameters (JVMS 4.7.18, 4.7.19).

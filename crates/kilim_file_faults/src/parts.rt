@@ -2,7 +2,7 @@
 
 ghost use Rattle.std.specs.Prelude.{◌≡◌, IfOk};
 ghost use Rattle.std.specs.List.{flat_map};
-ghost use Rattle.kilim_program.specs.declared.names.ClassId.{ClassId};
+ghost use Rattle.kilim_classes.specs.declared.names.ClassId.{ClassId};
 ghost use Rattle.kilim_class_world.specs.Linked.{first_of};
 ghost use Rattle.kilim_class_world.specs.LeftOut.{if_left, left_out_parts};
 ghost use Rattle.kilim_class_world.specs.Mentions.{class_names, mentions_of};
@@ -19,7 +19,7 @@ use crate::types::{has_float, has_task_array, shapes};
 use kilim_class_views::has_flag;
 use kilim_class_world::{LeftOutPart, Mention, Problem};
 use kilim_classfile::ClassFile;
-use kilim_program::{NoMemory, Units};
+use kilim_units::{NoMemory, Units};
 use kilim_world::World;
 use std::alloc::Global;
 

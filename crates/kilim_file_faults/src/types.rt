@@ -12,7 +12,7 @@ use kilim_class_world::{Mention, Named};
 use kilim_classfile::ClassFile;
 use kilim_descriptors::{BaseText, FieldText, MethodText};
 use kilim_mentions::{field_text, method_text};
-use kilim_program::{NoMemory, Units};
+use kilim_units::{NoMemory, Units};
 use kilim_world::World;
 use std::alloc::Global;
 

@@ -1,7 +1,7 @@
 -- Fronts of lines, one class more at a time.
 use Rattle.std.proofs.Common.{◌≡◌, ℕ, zero, suc, true, ◌==◌, ◌-◌, ◌<◌, ◌≤◌, List, [], ◌∷◌, ◌++◌, Option, Some, None, option_and_then, length, refl, sym, ap, ◌∙◌, inl, inr, arith}
 use Rattle.std.proofs.lemmas.Bool.{eqb-true}
-use Rattle.kilim_program.specs.declared.names.ClassId.{ClassId}
+use Rattle.kilim_classes.specs.declared.names.ClassId.{ClassId}
 use Rattle.kilim_inherited.specs.Inherited.{up_in, line_up}
 use Rattle.kilim_inherited.specs.Fronts.{class_after, IsFront}
 use Rattle.kilim_inherited.specs.Roots.{root_at}

@@ -1,6 +1,6 @@
 -- Fronts of lines of classes, which trees are made of.
 use Rattle.std.specs.Prelude.{◌≡◌, ℕ, zero, suc, ◌⊎◌, List, [], ◌∷◌, Option, Some, None, length, option_and_then}
-use Rattle.kilim_program.specs.declared.names.ClassId.{ClassId}
+use Rattle.kilim_classes.specs.declared.names.ClassId.{ClassId}
 use Rattle.kilim_inherited.specs.declared.entry.Entry.{Entry}
 use Rattle.kilim_inherited.specs.Inherited.{said_at, said_or, up_in, line_up}
 use Rattle.kilim_inherited.specs.Roots.{root_at}

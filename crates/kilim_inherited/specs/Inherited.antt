@@ -1,6 +1,6 @@
 -- What classes inherit, by their lines and what each class says.
 use Rattle.std.specs.Prelude.{ℕ, zero, suc, length, ◌==◌, if◌then◌else◌, List, [], ◌∷◌, Option, Some, None, slice_get, unwrap_or}
-use Rattle.kilim_program.specs.declared.names.ClassId.{ClassId}
+use Rattle.kilim_classes.specs.declared.names.ClassId.{ClassId}
 use Rattle.kilim_inherited.specs.declared.entry.Entry.{Entry}
 
 -- what some entries say of a key: the first that has it

@@ -1,6 +1,6 @@
 -- The trees of classes, each by its topmost node.
 use Rattle.std.specs.Prelude.{◌≡◌, ℕ, ◌<◌, ◌≤◌, ◌^◌, true, is_some, List, Option, Some, None, length, slice_get, unwrap_or}
-use Rattle.kilim_program.specs.declared.names.ClassId.{ClassId}
+use Rattle.kilim_classes.specs.declared.names.ClassId.{ClassId}
 use Rattle.kilim_inherited.specs.declared.entry.Entry.{Entry}
 use Rattle.kilim_inherited.specs.declared.node.Node.{Node}
 use Rattle.kilim_inherited.specs.Inherited.{said_at, said_or, inherited, line_in, up_in, from_above}

@@ -1,7 +1,7 @@
 //! The trees of classes, each from its superclass's.
 
 ghost use Rattle.std.specs.Prelude.{◌≡◌, ◌≤◌, ◌<◌, ◌^◌, ℕ, true, None, Some, IfOk, OnOk, is_some, length, slice_set};
-ghost use Rattle.kilim_program.specs.declared.names.ClassId.{ClassId};
+ghost use Rattle.kilim_classes.specs.declared.names.ClassId.{ClassId};
 ghost use Rattle.kilim_inherited.specs.Fronts.{IsFront, said_onto};
 ghost use Rattle.kilim_inherited.specs.Inherited.{said_at, said_in, up_in};
 ghost use Rattle.kilim_inherited.specs.Roots.{root_at, MadeBelow, Keeps, Sound};
@@ -10,7 +10,8 @@ ghost use Rattle.kilim_inherited.specs.Trees.{IsTable, Makes, Has, Fits, value_a
 use crate::entry::Entry;
 use crate::node::Node;
 use crate::put::put_entries;
-use kilim_program::{ClassId, NoMemory, Seq};
+use kilim_classes::ClassId;
+use kilim_units::{NoMemory, Seq};
 use std::alloc::Global;
 
 /// The tree of a class, none where it isn't made.

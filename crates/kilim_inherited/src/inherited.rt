@@ -8,7 +8,8 @@ use crate::entry::Entry;
 use crate::lookup::{has_any, key_levels, value_at};
 use crate::node::{Node, add};
 use crate::order::superclasses_first;
-use kilim_program::{ClassId, NoMemory, Seq};
+use kilim_classes::ClassId;
+use kilim_units::{NoMemory, Seq};
 use std::alloc::Global;
 use std::marker::Model;
 

@@ -2,7 +2,7 @@
 
 ghost use Rattle.std.specs.Prelude.{◌≡◌, ◌++◌, ◌∷◌, [], length, slice_get, IfOk};
 
-use kilim_program::{NoMemory, Seq};
+use kilim_units::{NoMemory, Seq};
 
 /// A node of a tree of keys. A key goes down by its binary digits, the lowest first.
 #[derive(Clone, Copy, Debug)]

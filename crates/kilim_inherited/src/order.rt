@@ -1,7 +1,8 @@
 //! The order in which trees are made.
 
 use crate::class_trees::superclass_in;
-use kilim_program::{ClassId, NoMemory, Seq};
+use kilim_classes::ClassId;
+use kilim_units::{NoMemory, Seq};
 use std::alloc::Global;
 
 // Whether a class is seen for the first time; never past the end.

@@ -7,7 +7,7 @@ ghost use Rattle.kilim_inherited.specs.Trees.{IsTable, Makes, Has, Fits, HasOnly
 use crate::entry::Entry;
 use crate::lookup::{key_levels, value_at};
 use crate::node::{Node, add, node_at};
-use kilim_program::{NoMemory, Seq};
+use kilim_units::{NoMemory, Seq};
 
 /// Whether no other key than this one has a value, as is seen at the topmost node.
 pub fn is_alone(nodes: &[Node], tree: u32, key: u32) -> bool

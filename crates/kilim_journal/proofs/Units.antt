@@ -5,7 +5,8 @@ use Rattle.std.specs.List.{flat_map, list_all}
 use Rattle.std.proofs.lemmas.Bool.{both_ways, cases_Bool, and_from}
 use Rattle.std.proofs.lemmas.Bool.Decides.{nat_tests}
 use Rattle.std.proofs.lemmas.List.Folds.{list_all-append}
-use Rattle.kilim_journal.specs.Text.{hex_digit, escape, stands_in_name, stands_in_text, name_unit, text_unit, name_text}
+use Rattle.kilim_units.specs.NameText.{hex_digit, escape, stands_in_name, name_unit, name_text}
+use Rattle.kilim_journal.specs.Text.{stands_in_text, text_unit}
 
 -- a unit that stands for itself, or its escape
 abbrev unit_text : (ℕ → Bool) → ℕ → List ℕ

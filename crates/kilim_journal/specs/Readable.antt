@@ -3,13 +3,14 @@ use Rattle.std.specs.Prelude.{◌≡◌, ℕ, zero, suc, ◌<◌, ◌^◌, Bool,
 use Rattle.std.specs.List.{AllByRecursion}
 use Rattle.std.specs.Int.{w32, w64}
 use Rattle.std.specs.Prelude.{FitsSigned}
-use Rattle.kilim_program.specs.declared.names.BoxName.{BoxName}
+use Rattle.kilim_classes.specs.declared.names.BoxName.{BoxName}
 use Rattle.kilim_program.specs.declared.value.Token.{Token}
 use Rattle.kilim_program.specs.declared.value.Token.TheVariants.{Open, Close, Int, Long, Null, Text, Box}
 use Rattle.kilim_journal.specs.declared.entry.Act.{Act}
 use Rattle.kilim_journal.specs.declared.entry.Act.TheVariants.{Put, Take, Empty, Start, Print, End, Wait}
 use Rattle.kilim_journal.specs.declared.entry.Entry.{Entry}
-use Rattle.kilim_journal.specs.Text.{name_text, token_text, tokens_text, journal_text}
+use Rattle.kilim_units.specs.NameText.{name_text}
+use Rattle.kilim_journal.specs.Text.{token_text, tokens_text, journal_text}
 
 abbrev pub is_empty : List Token → Bool
 is_empty [] = true

@@ -2,10 +2,11 @@
 use Rattle.std.specs.Prelude.{ℕ, ◌+◌, ◌/◌, ◌%◌, Bool, true, false, ◌&&◌, ◌||◌, not, nat_le, nat_lt, ◌==◌, if◌then◌else◌, List, [], ◌∷◌, ◌++◌, codes}
 use Rattle.std.specs.List.{flat_map}
 use Rattle.std.specs.Fmt.{decimal, signed_decimal}
-use Rattle.kilim_program.specs.declared.names.BoxName.{BoxName}
+use Rattle.kilim_classes.specs.declared.names.BoxName.{BoxName}
 use Rattle.kilim_program.specs.declared.value.Token.{Token}
 use Rattle.kilim_program.specs.declared.value.Token.TheVariants.{Open, Close, Int, Long, Null, Text, Box}
 use Rattle.kilim_program.specs.Cause.{word_of}
+use Rattle.kilim_units.specs.NameText.{escape, is_within, name_text}
 use Rattle.kilim_journal.specs.declared.entry.Act.{Act}
 use Rattle.kilim_journal.specs.declared.entry.Act.TheVariants.{Put, Take, Empty, Start, Print, End, Wait}
 use Rattle.kilim_journal.specs.declared.entry.Entry.{Entry}
@@ -14,33 +15,12 @@ use Rattle.kilim_journal.specs.declared.entry.Entry.{Entry}
 abbrev pub box_text : BoxName → List ℕ
 box_text box = decimal box.task ++ (codes "." ++ decimal box.number)
 
--- a hexadecimal digit, in lower case
-abbrev pub hex_digit : ℕ → ℕ
-hex_digit d = if nat_lt d 10 then 48 + d else 87 + d
-
--- a unit that doesn't stand for itself: \u and four hexadecimal digits
-abbrev pub escape : ℕ → List ℕ
-escape u = 92 ∷ 117 ∷ hex_digit (u / 4096) ∷ hex_digit (u / 256 % 16) ∷ hex_digit (u / 16 % 16) ∷ hex_digit (u % 16) ∷ []
-
-abbrev pub is_within : ℕ → ℕ → ℕ → Bool
-is_within low high u = nat_le low u && nat_le u high
-
 -- in a text the units 0x20 to 0x7E stand for themselves, but not the quotation mark and the backslash
 abbrev pub stands_in_text : ℕ → Bool
 stands_in_text u = is_within 32 126 u && not (u == 34 || u == 92)
 
--- in a name the ASCII letters and digits stand for themselves, and _ $ / [ ;
-abbrev pub stands_in_name : ℕ → Bool
-stands_in_name u = is_within 97 122 u || is_within 65 90 u || is_within 48 57 u || u == 95 || u == 36 || u == 47 || u == 91 || u == 59
-
 abbrev pub text_unit : ℕ → List ℕ
 text_unit u = if stands_in_text u then u ∷ [] else escape u
-
-abbrev pub name_unit : ℕ → List ℕ
-name_unit u = if stands_in_name u then u ∷ [] else escape u
-
-abbrev pub name_text : List ℕ → List ℕ
-name_text units = flat_map name_unit units
 
 -- a token: a value, the beginning of an object with its name, or its end
 abbrev pub token_text : Token → List ℕ

@@ -1,6 +1,7 @@
 //! What the journal of a run is made of.
 
-use kilim_program::{BoxName, EndCause, Shape};
+use kilim_classes::BoxName;
+use kilim_program::{EndCause, Shape};
 
 /// One event of a run.
 #[derive(Clone, Debug, Drop)]

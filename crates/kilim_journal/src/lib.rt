@@ -7,4 +7,3 @@ mod pieces;
 
 pub use entry::{Act, Entry};
 pub use lines::{shapes_are_values, text, texts_differ, values_are_joined};
-pub use pieces::name_text;

@@ -6,7 +6,7 @@ ghost use Rattle.kilim_journal.specs.Readable.{IsReadable, HasOneJournal, Shapes
 
 use crate::entry::{Act, Entry};
 use crate::pieces::{push_box, push_number, push_shape};
-use kilim_program::NoMemory;
+use kilim_units::NoMemory;
 use std::alloc::{AllocError, Global};
 
 fn push_act(out: &mut Vec<u8>, act: &Act) -> Result<(), AllocError>

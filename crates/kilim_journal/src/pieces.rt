@@ -3,10 +3,13 @@
 ghost use Rattle.std.specs.Prelude.{◌≡◌, ◌<◌, ◌++◌, ◌∷◌, [], length, OnOk, IfOk};
 ghost use Rattle.std.specs.List.{flat_map};
 ghost use Rattle.std.specs.Fmt.{decimal, signed_decimal};
-ghost use Rattle.kilim_journal.specs.Text.{box_text, hex_digit, escape, stands_in_text, stands_in_name, text_unit, name_unit, name_text, token_text, comma_before, is_followed, tokens_text, shape_text};
+ghost use Rattle.kilim_units.specs.NameText.{escape, name_text};
+ghost use Rattle.kilim_journal.specs.Text.{box_text, stands_in_text, text_unit, token_text, comma_before, is_followed, tokens_text, shape_text};
 
-use kilim_program::{BoxName, NoMemory, Token};
-use std::alloc::{AllocError, Global};
+use kilim_classes::BoxName;
+use kilim_program::Token;
+use kilim_units::{push_escape, push_name};
+use std::alloc::AllocError;
 
 // A number in decimal.
 pub fn push_number(out: &mut Vec<u8>, n: u64) -> Result<(), AllocError>
@@ -33,65 +36,16 @@ pub fn push_box(out: &mut Vec<u8>, name: BoxName) -> Result<(), AllocError>
     push_number(out, u64::from(name.number))
 }
 
-fn hex_digit(d: u16) -> u8
-    requires { d < 16 }
-    ensures { result ≡ hex_digit d }
-{
-    if d < 10 {
-        b'0' + d as u8
-    } else {
-        b'a' - 10 + d as u8
-    }
-}
-
-// A unit that doesn't stand for itself.
-fn push_escape(out: &mut Vec<u8>, unit: u16) -> Result<(), AllocError>
-    ensures { OnOk result (out.new.items ≡ out.old.items ++ escape unit) }
-{
-    out.extend_from_slice(&[
-        b'\\',
-        b'u',
-        hex_digit(unit / 4096),
-        hex_digit(unit / 256 % 16),
-        hex_digit(unit / 16 % 16),
-        hex_digit(unit % 16),
-    ])
-}
-
 fn stands_in_text(unit: u16) -> bool
     ensures { result ≡ stands_in_text unit }
 {
     (32..=126).contains(&unit) && !(unit == 34 || unit == 92)
 }
 
-fn stands_in_name(unit: u16) -> bool
-    ensures { result ≡ stands_in_name unit }
-{
-    (97 <= unit && unit <= 122)
-        || (65 <= unit && unit <= 90)
-        || (48 <= unit && unit <= 57)
-        || unit == 95
-        || unit == 36
-        || unit == 47
-        || unit == 91
-        || unit == 59
-}
-
 fn push_text_unit(out: &mut Vec<u8>, unit: u16) -> Result<(), AllocError>
     ensures { OnOk result (out.new.items ≡ out.old.items ++ text_unit unit) }
 {
     if stands_in_text(unit) {
-        out.push(unit as u8)?;
-        Ok(())
-    } else {
-        push_escape(out, unit)
-    }
-}
-
-fn push_name_unit(out: &mut Vec<u8>, unit: u16) -> Result<(), AllocError>
-    ensures { OnOk result (out.new.items ≡ out.old.items ++ name_unit unit) }
-{
-    if stands_in_name(unit) {
         out.push(unit as u8)?;
         Ok(())
     } else {
@@ -107,28 +61,6 @@ fn push_text(out: &mut Vec<u8>, units: &[u16]) -> Result<(), AllocError>
         push_text_unit(out, *unit)?;
     }
     Ok(())
-}
-
-// A name.
-fn push_name(out: &mut Vec<u8>, units: &[u16]) -> Result<(), AllocError>
-    ensures { OnOk result (out.new.items ≡ out.old.items ++ name_text units.now) }
-{
-    for unit in units {
-        push_name_unit(out, *unit)?;
-    }
-    Ok(())
-}
-
-/// The text of a name: of a class name, a member's name or a descriptor, in ASCII.
-///
-/// The ASCII letters and digits stand for themselves, and `_`, `$`, `/`, `[`, `;`. Every other UTF-16 unit is
-/// `\u` and four lower-case hexadecimal digits.
-pub fn name_text(alloc: Global, units: &[u16]) -> Result<Vec<u8>, NoMemory>
-    ensures { IfOk result (λ text. text.items ≡ name_text units.now) }
-{
-    let mut out = Vec::new(alloc);
-    push_name(&mut out, units)?;
-    Ok(out)
 }
 
 fn push_token(out: &mut Vec<u8>, token: &Token) -> Result<(), AllocError>

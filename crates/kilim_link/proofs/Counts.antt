@@ -5,8 +5,8 @@ use Rattle.std.proofs.lemmas.List.{length-append, length-map}
 use Rattle.kilim_classfile.specs.declared.class_file.ClassFile.{ClassFile}
 use Rattle.kilim_classfile.specs.declared.class_file.MemberInfo.{MemberInfo}
 use Rattle.kilim_classfile.specs.Text.{ClassFits}
-use Rattle.kilim_program.specs.declared.names.ClassId.{ClassId}
-use Rattle.kilim_program.specs.BuiltIn.{class_id}
+use Rattle.kilim_classes.specs.declared.names.ClassId.{ClassId}
+use Rattle.kilim_classes.specs.BuiltIn.{class_id}
 use Rattle.kilim_class_world.specs.Linked.{numbered, members}
 use Rattle.kilim_class_world.specs.Types.{each_of, itself, with_first}
 

@@ -3,9 +3,9 @@ use Rattle.std.specs.Prelude.{◌≡◌, ◌≤◌, List, [], length}
 use Rattle.std.specs.List.{AllByRecursion}
 use Rattle.kilim_classfile.specs.declared.class_file.ClassFile.{ClassFile}
 use Rattle.kilim_classfile.specs.Text.{ClassFits}
-use Rattle.kilim_program.specs.declared.class.Form.{Form}
-use Rattle.kilim_program.specs.Keeps.{Keeps}
-use Rattle.kilim_program.specs.Program.{Program}
+use Rattle.kilim_classes.specs.declared.class.Form.{Form}
+use Rattle.kilim_classes.specs.Keeps.{Keeps}
+use Rattle.kilim_classes.specs.Program.{Program}
 use Rattle.kilim_class_world.specs.Faults.{link_faults}
 use Rattle.kilim_class_world.specs.Linked.{Linked}
 use Rattle.kilim_class_world.specs.LinksWell.{LinksWell}

@@ -1,8 +1,8 @@
 -- What `link` answers.
 use Rattle.std.specs.Prelude.{◌≡◌, ◌⊎◌, List, [], Option, Some, Result, Ok, Err}
 use Rattle.kilim_classfile.specs.declared.class_file.ClassFile.{ClassFile}
-use Rattle.kilim_program.specs.declared.class.Form.{Form}
-use Rattle.kilim_program.specs.Program.{Program}
+use Rattle.kilim_classes.specs.declared.class.Form.{Form}
+use Rattle.kilim_classes.specs.Program.{Program}
 use Rattle.kilim_class_world.specs.declared.fault.LinkFault.{LinkFault}
 use Rattle.kilim_class_world.specs.declared.fault.LinkFault.TheVariants as fault
 use Rattle.kilim_class_world.specs.Faults.{link_faults, first_fault}

@@ -3,7 +3,7 @@
 ghost use Rattle.std.specs.Prelude.{◌≡◌, ◌<◌, ◌≤◌, ◌^◌, ◌++◌, [], length, IfOk};
 ghost use Rattle.std.specs.List.{AllByRecursion};
 ghost use Rattle.kilim_classfile.specs.Text.{ClassFits};
-ghost use Rattle.kilim_program.specs.BuiltIn.{built_in_classes_in, built_in_methods_in};
+ghost use Rattle.kilim_classes.specs.BuiltIn.{built_in_classes_in, built_in_methods_in};
 ghost use Rattle.kilim_class_world.specs.Faults.{link_faults};
 ghost use Rattle.kilim_class_world.specs.Linked.{Linked, program_with};
 ghost use Rattle.kilim_class_world.specs.World.{world_of};
@@ -15,7 +15,8 @@ use kilim_class_world::{LinkFault, linked_in_parts, none_is_named};
 use kilim_classfile::ClassFile;
 use kilim_link_faults::first_fault;
 use kilim_linked_members::{linked_classes, linked_fields, linked_methods};
-use kilim_program::{Class, Field, Form, Method, NoMemory, Program, Seq};
+use kilim_classes::{Class, Field, Form, Method, Program};
+use kilim_units::{NoMemory, Seq};
 use kilim_world::World;
 use std::alloc::Global;
 

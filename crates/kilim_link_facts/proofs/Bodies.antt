@@ -15,15 +15,15 @@ use Rattle.kilim_classfile.specs.declared.class_file.MemberInfo.{MemberInfo}
 use Rattle.kilim_classfile.specs.Parts.{differs, has_code, has_its_code, is_bodiless, is_code}
 use Rattle.kilim_classfile.specs.Text.{MethodFits}
 use Rattle.kilim_constant_pool.specs.declared.entry.Entry.{Entry}
-use Rattle.kilim_program.specs.declared.class.Class.{Class}
-use Rattle.kilim_program.specs.declared.class.Field.{Field}
-use Rattle.kilim_program.specs.declared.class.Form.{Form}
-use Rattle.kilim_program.specs.declared.class.Method.{Method}
-use Rattle.kilim_program.specs.declared.names.ClassId.{ClassId}
-use Rattle.kilim_program.specs.Program.{Program}
-use Rattle.kilim_program.specs.BuiltIn.{built_in_classes_in, built_in_methods_in, class_id}
-use Rattle.kilim_program.specs.Keeps.{EndsBuiltIn}
-use Rattle.kilim_program.specs.Same.{same_flag}
+use Rattle.kilim_classes.specs.declared.class.Class.{Class}
+use Rattle.kilim_classes.specs.declared.class.Field.{Field}
+use Rattle.kilim_classes.specs.declared.class.Form.{Form}
+use Rattle.kilim_classes.specs.declared.class.Method.{Method}
+use Rattle.kilim_classes.specs.declared.names.ClassId.{ClassId}
+use Rattle.kilim_classes.specs.Program.{Program}
+use Rattle.kilim_classes.specs.BuiltIn.{built_in_classes_in, built_in_methods_in, class_id}
+use Rattle.kilim_classes.specs.Keeps.{EndsBuiltIn}
+use Rattle.kilim_classes.specs.Same.{same_flag}
 use Rattle.kilim_class_world.specs.Code.{code_of, decoded}
 use Rattle.kilim_class_world.specs.Faults.{abstract_left, is_left_here}
 use Rattle.kilim_class_world.specs.Frames.{frames_in}

@@ -3,12 +3,12 @@ use Rattle.std.proofs.Common.{◌≡◌, ℕ, zero, suc, ◌+◌, Bool, true, fa
 use Rattle.std.specs.List.{AllByRecursion}
 use Rattle.kilim_classfile.specs.declared.class_file.ClassFile.{ClassFile}
 use Rattle.kilim_classfile.specs.Text.{ClassFits}
-use Rattle.kilim_program.specs.declared.class.Class.{Class}
-use Rattle.kilim_program.specs.declared.class.Field.{Field}
-use Rattle.kilim_program.specs.declared.class.Form.{Form}
-use Rattle.kilim_program.specs.declared.class.Method.{Method}
-use Rattle.kilim_program.specs.BuiltIn.{class_id}
-use Rattle.kilim_program.specs.Program.{Program}
+use Rattle.kilim_classes.specs.declared.class.Class.{Class}
+use Rattle.kilim_classes.specs.declared.class.Field.{Field}
+use Rattle.kilim_classes.specs.declared.class.Form.{Form}
+use Rattle.kilim_classes.specs.declared.class.Method.{Method}
+use Rattle.kilim_classes.specs.BuiltIn.{class_id}
+use Rattle.kilim_classes.specs.Program.{Program}
 use Rattle.kilim_class_world.specs.declared.fault.Problem.{Problem}
 use Rattle.kilim_class_world.specs.Faults.{if_so, problems_of}
 use Rattle.kilim_class_world.specs.Laws.{EachIsWithout, LinkedInParts, NoProblem, NoneHasAProblem, NoneOfEachKind}

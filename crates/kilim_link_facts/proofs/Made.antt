@@ -1,8 +1,8 @@
 -- What is made of each element of a list, of each file with its number, and of each member.
 use Rattle.std.proofs.Common.{◌≡◌, ℕ, zero, suc, ◌+◌, List, [], ◌∷◌, ◌++◌, length, slice_get, Option, Some, None, refl, sym, ap, ◌∙◌, arith}
 use Rattle.kilim_classfile.specs.declared.class_file.ClassFile.{ClassFile}
-use Rattle.kilim_program.specs.declared.names.ClassId.{ClassId}
-use Rattle.kilim_program.specs.BuiltIn.{class_id}
+use Rattle.kilim_classes.specs.declared.names.ClassId.{ClassId}
+use Rattle.kilim_classes.specs.BuiltIn.{class_id}
 use Rattle.kilim_class_world.specs.Linked.{numbered}
 use Rattle.kilim_class_world.specs.Types.{each_of, itself, with_first}
 use Rattle.kilim_link_facts.proofs.Lists.{some_same, none_is_some, get_there, get_within}

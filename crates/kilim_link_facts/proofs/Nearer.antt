@@ -3,19 +3,19 @@ use Rattle.std.proofs.Common.{◌≡◌, ℕ, ◌+◌, Bool, true, false, ◌&&�
 use Rattle.std.specs.List.{flat_map, list_any}
 use Rattle.std.proofs.lemmas.Bool.{and_from, and_parts, both_ways, false_from_ne_true, not-false}
 use Rattle.kilim_classfile.specs.declared.class_file.ClassFile.{ClassFile}
-use Rattle.kilim_program.specs.declared.class.Class.{Class}
-use Rattle.kilim_program.specs.declared.class.Field.{Field}
-use Rattle.kilim_program.specs.declared.class.Form.{Form}
-use Rattle.kilim_program.specs.declared.class.Method.{Method}
-use Rattle.kilim_program.specs.declared.names.ClassId.{ClassId}
-use Rattle.kilim_program.specs.declared.names.MethodId.{MethodId}
-use Rattle.kilim_program.specs.declared.ty.Base.{Base}
-use Rattle.kilim_program.specs.declared.ty.Base.TheVariants as base
-use Rattle.kilim_program.specs.declared.ty.Ty.{Ty}
-use Rattle.kilim_program.specs.Program.{Program}
-use Rattle.kilim_program.specs.Keeps.{is_left_abstract, is_same_id}
-use Rattle.kilim_program.specs.Names.{class_at, first_that, line_of, method_at, methods_of}
-use Rattle.kilim_program.specs.Same.{answers, same_base, same_result, same_signature, same_type, same_types, selected}
+use Rattle.kilim_classes.specs.declared.class.Class.{Class}
+use Rattle.kilim_classes.specs.declared.class.Field.{Field}
+use Rattle.kilim_classes.specs.declared.class.Form.{Form}
+use Rattle.kilim_classes.specs.declared.class.Method.{Method}
+use Rattle.kilim_classes.specs.declared.names.ClassId.{ClassId}
+use Rattle.kilim_classes.specs.declared.names.MethodId.{MethodId}
+use Rattle.kilim_classes.specs.declared.ty.Base.{Base}
+use Rattle.kilim_classes.specs.declared.ty.Base.TheVariants as base
+use Rattle.kilim_classes.specs.declared.ty.Ty.{Ty}
+use Rattle.kilim_classes.specs.Program.{Program}
+use Rattle.kilim_classes.specs.Keeps.{is_left_abstract, is_same_id}
+use Rattle.kilim_classes.specs.Names.{class_at, first_that, line_of, method_at, methods_of}
+use Rattle.kilim_classes.specs.Same.{answers, same_base, same_result, same_signature, same_type, same_types, selected}
 use Rattle.kilim_class_world.specs.Faults.{is_left_above, left_above}
 use Rattle.kilim_class_world.specs.Linked.{program_with}
 use Rattle.kilim_class_world.specs.World.{World, declared_methods, is_message_by, is_method, methods_at, outline_with, world_of}

@@ -4,16 +4,16 @@ use Rattle.std.specs.List.{list_all, list_any}
 use Rattle.std.proofs.lemmas.Bool.{and_from, and_parts, lt-ltb, not_from_false, or_left, or_parts, or_right}
 use Rattle.std.proofs.lemmas.List.{length-append, length-map, take_at}
 use Rattle.kilim_classfile.specs.declared.class_file.ClassFile.{ClassFile}
-use Rattle.kilim_program.specs.declared.class.Class.{Class}
-use Rattle.kilim_program.specs.declared.class.Field.{Field}
-use Rattle.kilim_program.specs.declared.class.Form.{Form}
-use Rattle.kilim_program.specs.declared.class.Form.TheVariants.{Plain, Woven}
-use Rattle.kilim_program.specs.declared.class.Method.{Method}
-use Rattle.kilim_program.specs.declared.names.ClassId.{ClassId}
-use Rattle.kilim_program.specs.Program.{Program}
-use Rattle.kilim_program.specs.BuiltIn.{built_in_classes_in, class_id}
-use Rattle.kilim_program.specs.Keeps.{is_open_superclass, own_class_fits, own_classes_fit, own_count}
-use Rattle.kilim_program.specs.Names.{class_name}
+use Rattle.kilim_classes.specs.declared.class.Class.{Class}
+use Rattle.kilim_classes.specs.declared.class.Field.{Field}
+use Rattle.kilim_classes.specs.declared.class.Form.{Form}
+use Rattle.kilim_classes.specs.declared.class.Form.TheVariants.{Plain, Woven}
+use Rattle.kilim_classes.specs.declared.class.Method.{Method}
+use Rattle.kilim_classes.specs.declared.names.ClassId.{ClassId}
+use Rattle.kilim_classes.specs.Program.{Program}
+use Rattle.kilim_classes.specs.BuiltIn.{built_in_classes_in, class_id}
+use Rattle.kilim_classes.specs.Keeps.{is_open_superclass, own_class_fits, own_classes_fit, own_count}
+use Rattle.kilim_classes.specs.Names.{class_name}
 use Rattle.kilim_class_world.specs.Faults.{is_fiber, is_open, is_open_class, may_extend}
 use Rattle.kilim_class_world.specs.Laws.{LinkedInParts, NoneHasAProblem, NoneOfEachKind}
 use Rattle.kilim_class_world.specs.Linked.{linked_class, program_with}

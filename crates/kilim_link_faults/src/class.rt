@@ -10,7 +10,8 @@ ghost use Rattle.kilim_class_world.specs.Linked.{first_of};
 use kilim_class_views::super_name;
 use kilim_class_world::{ClassView, Problem};
 use kilim_classfile::ClassFile;
-use kilim_program::{ClassId, Form, NoMemory, Units};
+use kilim_classes::{ClassId, Form};
+use kilim_units::{NoMemory, Units};
 use kilim_world::World;
 use std::alloc::Global;
 

@@ -18,7 +18,8 @@ use kilim_classfile::ClassFile;
 use kilim_file_faults::{code_broken, descriptor_broken, left_out_problem, name_broken};
 use kilim_member_faults::{Ancestry, abstract_left, override_differs};
 use kilim_mentions::{class_names, members_named, mentions_of};
-use kilim_program::{ClassId, Form, NoMemory, Seq, Units};
+use kilim_classes::{ClassId, Form};
+use kilim_units::{NoMemory, Seq, Units};
 use kilim_world::World;
 use std::alloc::Global;
 

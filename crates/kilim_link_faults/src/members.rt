@@ -12,7 +12,8 @@ use kilim_class_world::{Member, MemberOf, Named, Problem};
 use kilim_classfile::ClassFile;
 use kilim_member_faults::signature_of;
 use kilim_mentions::named_by;
-use kilim_program::{ClassId, NoMemory, Units};
+use kilim_classes::ClassId;
+use kilim_units::{NoMemory, Units};
 use kilim_world::World;
 use std::alloc::Global;
 

@@ -9,7 +9,7 @@ ghost use Rattle.kilim_link_reports.specs.LinkLines.{part_word, fault_place, mem
 use kilim_bytecode::CodeFault;
 use kilim_class_world::{LeftOutPart, MemberOf, Problem};
 use kilim_classfile::MemberName;
-use kilim_program::{NoMemory, Units};
+use kilim_units::{NoMemory, Units};
 use kilim_reports::{descriptor_text, member_name_text};
 use std::alloc::{AllocError, Global};
 

@@ -8,7 +8,7 @@ use kilim_class_world::LinkFault;
 use kilim_classfile::ClassFile;
 use kilim_link::link;
 use kilim_link_reports::link_line;
-use kilim_program::{Form, Program};
+use kilim_classes::{Form, Program};
 use std::alloc::Global;
 use std::fs::File;
 use std::io;

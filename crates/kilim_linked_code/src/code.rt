@@ -7,7 +7,8 @@ ghost use Rattle.kilim_class_world.specs.Code.{placed_in};
 use crate::instr::instr_in;
 use kilim_constant_pool::Pool;
 use kilim_opcodes::RawInstr;
-use kilim_program::{Instr, NoMemory, Seq};
+use kilim_classes::Instr;
+use kilim_units::{NoMemory, Seq};
 use kilim_world::World;
 use std::alloc::Global;
 

@@ -1,7 +1,7 @@
 //! Instructions, linked.
 
 ghost use Rattle.std.specs.Prelude.{◌≡◌, Some, option_map, IfOk};
-ghost use Rattle.kilim_program.specs.declared.instr.Instr.TheVariants.{Tableswitch, Lookupswitch, Newarray};
+ghost use Rattle.kilim_classes.specs.declared.instr.Instr.TheVariants.{Tableswitch, Lookupswitch, Newarray};
 ghost use Rattle.kilim_class_world.specs.Types.{each_of};
 ghost use Rattle.kilim_class_world.specs.Code.{row, jump_instrs, array_codes, applied, place_of, pair_in, operand_at, instr_with, instr_in};
 
@@ -11,7 +11,8 @@ use crate::tables::{array_code, jump_instr, local_instr, plain_instr};
 use kilim_constant_pool::Pool;
 use kilim_mentions::operand_at;
 use kilim_opcodes::RawInstr;
-use kilim_program::{Instr, NoMemory, Seq};
+use kilim_classes::Instr;
+use kilim_units::{NoMemory, Seq};
 use kilim_world::World;
 use std::alloc::Global;
 

@@ -7,7 +7,8 @@ ghost use Rattle.kilim_class_world.specs.declared.named.Operand.TheVariants.{AFi
 use crate::tables::{constant_instr, field_instr, method_instr, type_instr};
 use kilim_class_world::{MemberOf, Named, Operand};
 use kilim_mentions::named_by;
-use kilim_program::{FieldId, Instr, MethodId, NoMemory};
+use kilim_classes::{FieldId, Instr, MethodId};
+use kilim_units::NoMemory;
 use kilim_world::{Signature, World};
 use kilim_world_types::{class_named_by, type_named};
 use std::alloc::Global;

@@ -4,7 +4,7 @@ ghost use Rattle.std.specs.Prelude.{◌≡◌, IfOk};
 ghost use Rattle.kilim_class_world.specs.Types.{each_of};
 ghost use Rattle.kilim_class_world.specs.Code.{place_of, pair_in};
 
-use kilim_program::{NoMemory, Seq};
+use kilim_units::{NoMemory, Seq};
 use std::alloc::Global;
 
 /// A target as a place in bytes of the code, none where it is before the code. One of 4,294,967,296 or more, which no

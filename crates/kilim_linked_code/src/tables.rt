@@ -5,7 +5,7 @@ ghost use Rattle.kilim_class_world.specs.Code.{row, plain_instrs, local_instrs, 
 ghost use Rattle.kilim_class_world.specs.World.{or_else};
 ghost use Rattle.kilim_linked_code.specs.Groups.{constants, int_and_long_loads, reference_loads, array_loads, int_and_long_stores, reference_stores, array_stores, stack_moves, sums_and_products, remainders_and_negations, shifts, bit_operations, conversions, returns_and_length};
 
-use kilim_program::{Base, FieldId, Instr, MethodId, Ty, Value};
+use kilim_classes::{Base, FieldId, Instr, MethodId, Ty, Value};
 
 fn constants(number: u8) -> Option<Instr>
     ensures { result ≡ row constants number }

@@ -7,7 +7,8 @@ use crate::slots::{push_slots, slot_in};
 use kilim_attribute_parts::{Frame, VerificationType};
 use kilim_class_world::Entries;
 use kilim_constant_pool::Pool;
-use kilim_program::{NoMemory, Seq, VType};
+use kilim_classes::VType;
+use kilim_units::{NoMemory, Seq};
 use kilim_world::World;
 use std::alloc::Global;
 

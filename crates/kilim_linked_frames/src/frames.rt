@@ -14,7 +14,8 @@ use kilim_attributes::{Code, CodeAttribute, CodeInfo};
 use kilim_class_world::{DeclaredMethod, Entries};
 use kilim_classfile::ClassFile;
 use kilim_constant_pool::Pool;
-use kilim_program::{ClassId, Frame, NoMemory, Seq, VType};
+use kilim_classes::{ClassId, Frame, VType};
+use kilim_units::{NoMemory, Seq};
 use kilim_world::World;
 use std::alloc::Global;
 

@@ -2,7 +2,7 @@
 
 ghost use Rattle.std.specs.Prelude.{◌≡◌, ◌++◌, map, option_map, IfOk, OnOk};
 ghost use Rattle.std.specs.List.{flat_map};
-ghost use Rattle.kilim_program.specs.declared.verified.VType.TheVariants.{Object};
+ghost use Rattle.kilim_classes.specs.declared.verified.VType.TheVariants.{Object};
 ghost use Rattle.kilim_class_world.specs.World.{class_text};
 ghost use Rattle.kilim_class_world.specs.Types.{each_of, itself, named_by, type_named};
 ghost use Rattle.kilim_class_world.specs.Frames.{slot_in, slot_of_base, slot_of_type, local_slots};
@@ -11,7 +11,8 @@ use kilim_attribute_parts::VerificationType;
 use kilim_class_views::class_text;
 use kilim_constant_pool::Pool;
 use kilim_mentions::named_by;
-use kilim_program::{Base, NoMemory, Seq, Ty, VType};
+use kilim_classes::{Base, Ty, VType};
+use kilim_units::{NoMemory, Seq};
 use kilim_world::World;
 use kilim_world_types::type_named;
 use std::alloc::Global;

@@ -12,7 +12,8 @@ use kilim_constant_pool::Pool;
 use kilim_linked_code::code_of;
 use kilim_linked_frames::frames_in;
 use kilim_mentions::decoded;
-use kilim_program::{ClassId, Frame, Instr, NoMemory, Seq};
+use kilim_classes::{ClassId, Frame, Instr};
+use kilim_units::{NoMemory, Seq};
 use kilim_world::World;
 use std::alloc::Global;
 

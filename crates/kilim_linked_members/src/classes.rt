@@ -2,13 +2,14 @@
 
 ghost use Rattle.std.specs.Prelude.{◌≡◌, ◌+◌, Some, map, IfOk};
 ghost use Rattle.std.specs.List.{range_with_len};
-ghost use Rattle.kilim_program.specs.BuiltIn.{method_id};
+ghost use Rattle.kilim_classes.specs.BuiltIn.{method_id};
 ghost use Rattle.kilim_class_world.specs.World.{class_of, super_name, field_id};
 ghost use Rattle.kilim_class_world.specs.Linked.{linked_class};
 
 use kilim_class_views::{has_flag, own_name, super_name};
 use kilim_classfile::ClassFile;
-use kilim_program::{Class, ClassId, FieldId, MethodId, NoMemory, Seq, Units};
+use kilim_classes::{Class, ClassId, FieldId, MethodId};
+use kilim_units::{NoMemory, Seq, Units};
 use kilim_world::World;
 use std::alloc::Global;
 

@@ -10,7 +10,8 @@ use crate::classes::{linked_class, next};
 use crate::fields::linked_field;
 use crate::methods::linked_method;
 use kilim_classfile::ClassFile;
-use kilim_program::{Class, ClassId, Field, Method, NoMemory, Seq};
+use kilim_classes::{Class, ClassId, Field, Method};
+use kilim_units::{NoMemory, Seq};
 use kilim_world::World;
 use std::alloc::Global;
 

@@ -4,7 +4,8 @@ ghost use Rattle.std.specs.Prelude.{◌≡◌, IfOk, option_copied};
 ghost use Rattle.kilim_class_world.specs.Types.{types_in, result_in};
 
 use kilim_descriptors::FieldText;
-use kilim_program::{NoMemory, Seq, Ty};
+use kilim_classes::Ty;
+use kilim_units::{NoMemory, Seq};
 use kilim_world::World;
 use kilim_world_types::type_in;
 use std::alloc::Global;

@@ -3,10 +3,10 @@ use Rattle.std.proofs.Common.{◌≡◌, Bool, true, false, refl, sym, ap, ◌�
 use Rattle.std.specs.Prelude.{◌&&◌, not}
 use Rattle.std.specs.List.{list_any}
 use Rattle.std.specs.Str.{bytes_eq}
-use Rattle.kilim_program.specs.declared.names.ClassId.{ClassId}
-use Rattle.kilim_program.specs.declared.ty.Qualifier.{Qualifier}
-use Rattle.kilim_program.specs.declared.ty.Qualifier.TheVariants.{Free, Cuttable, Safe}
-use Rattle.kilim_program.specs.Same.{same_flag, same_qualifier, same_qualifiers}
+use Rattle.kilim_classes.specs.declared.names.ClassId.{ClassId}
+use Rattle.kilim_classes.specs.declared.ty.Qualifier.{Qualifier}
+use Rattle.kilim_classes.specs.declared.ty.Qualifier.TheVariants.{Free, Cuttable, Safe}
+use Rattle.kilim_classes.specs.Same.{same_flag, same_qualifier, same_qualifiers}
 use Rattle.kilim_class_world.specs.Faults.{agrees, differs_from, same_qualified}
 use Rattle.kilim_class_world.specs.Qualified.{qualified}
 use Rattle.kilim_class_world.specs.declared.named.Qualified.{Qualified}

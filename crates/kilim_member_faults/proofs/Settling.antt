@@ -3,9 +3,9 @@ use Rattle.std.proofs.Common.{◌≡◌, ℕ, zero, suc, ◌≤◌, Bool, true, 
 use Rattle.std.specs.Prelude.{◌&&◌, ◌||◌, not, Contains}
 use Rattle.std.specs.List.{list_any}
 use Rattle.std.specs.Str.{bytes_eq}
-use Rattle.kilim_program.specs.declared.names.ClassId.{ClassId}
-use Rattle.kilim_program.specs.Keeps.{superclass_of, ancestors_of}
-use Rattle.kilim_program.specs.Names.{class_at}
+use Rattle.kilim_classes.specs.declared.names.ClassId.{ClassId}
+use Rattle.kilim_classes.specs.Keeps.{superclass_of, ancestors_of}
+use Rattle.kilim_classes.specs.Names.{class_at}
 use Rattle.kilim_class_world.specs.Faults.{agrees, differs_from, inherited}
 use Rattle.kilim_class_world.specs.Linked.{first_of}
 use Rattle.kilim_class_world.specs.Qualified.{is_constructor_name}

@@ -3,11 +3,11 @@ use Rattle.std.proofs.Common.{◌≡◌, ℕ, zero, suc, ◌+◌, ◌≤◌, Boo
 use Rattle.std.specs.Prelude.{◌&&◌, ◌||◌, if◌then◌else◌, IfOk, is_some, slice_get}
 use Rattle.std.specs.List.{list_any}
 use Rattle.std.proofs.lemmas.List.{append-nil}
-use Rattle.kilim_program.specs.declared.memory.NoMemory.{NoMemory}
-use Rattle.kilim_program.specs.declared.names.ClassId.{ClassId}
-use Rattle.kilim_program.specs.BuiltIn.{class_id}
-use Rattle.kilim_program.specs.Keeps.{superclass_of, line_above, ancestors_of}
-use Rattle.kilim_program.specs.Names.{class_at, line_of}
+use Rattle.kilim_units.specs.declared.memory.NoMemory.{NoMemory}
+use Rattle.kilim_classes.specs.declared.names.ClassId.{ClassId}
+use Rattle.kilim_classes.specs.BuiltIn.{class_id}
+use Rattle.kilim_classes.specs.Keeps.{superclass_of, line_above, ancestors_of}
+use Rattle.kilim_classes.specs.Names.{class_at, line_of}
 use Rattle.kilim_class_world.specs.declared.view.ClassView.{ClassView}
 use Rattle.kilim_class_world.specs.declared.view.DeclaredMethod.{DeclaredMethod}
 use Rattle.kilim_class_world.specs.World.{World, declared_methods, methods_at, is_method}

@@ -1,9 +1,9 @@
 -- Methods that differ from the nearest one that they override, or from one beside them.
 use Rattle.std.specs.Prelude.{ℕ, ◌+◌, Bool, false, ◌&&◌, ◌||◌, not, if◌then◌else◌, List, [], ◌∷◌, Option, Some, None}
 use Rattle.std.specs.List.{list_any}
-use Rattle.kilim_program.specs.declared.names.ClassId.{ClassId}
-use Rattle.kilim_program.specs.BuiltIn.{class_id}
-use Rattle.kilim_program.specs.Keeps.{ancestors_of}
+use Rattle.kilim_classes.specs.declared.names.ClassId.{ClassId}
+use Rattle.kilim_classes.specs.BuiltIn.{class_id}
+use Rattle.kilim_classes.specs.Keeps.{ancestors_of}
 use Rattle.kilim_class_world.specs.Faults.{agrees}
 use Rattle.kilim_class_world.specs.Qualified.{is_constructor_name}
 use Rattle.kilim_class_world.specs.declared.view.ClassView.{ClassView}

@@ -6,7 +6,7 @@ ghost use Rattle.kilim_class_world.specs.World.{declared_methods};
 ghost use Rattle.kilim_class_world.specs.Faults.{abstract_left, is_left_here, left_above, left_inherited};
 ghost use Rattle.kilim_class_world.specs.Linked.{first_of};
 ghost use Rattle.kilim_member_faults.specs.Parts.{is_shared, stands_in, is_nearer, is_left_over, passes_at, is_class, StandsBehind};
-ghost use Rattle.kilim_program.specs.Keeps.{ancestors_of};
+ghost use Rattle.kilim_classes.specs.Keeps.{ancestors_of};
 ghost use Rattle.kilim_member_faults.specs.Ancestry.{Knows};
 ghost use Rattle.kilim_member_faults.specs.Heritage.{Inherits, first_shared};
 
@@ -17,7 +17,8 @@ use crate::signature::signature_of;
 use kilim_class_views::has_flag;
 use kilim_class_world::{DeclaredMethod, Problem};
 use kilim_classfile::ClassFile;
-use kilim_program::{ClassId, NoMemory};
+use kilim_classes::ClassId;
+use kilim_units::NoMemory;
 use kilim_world::{Signature, World};
 use std::alloc::Global;
 

@@ -11,7 +11,8 @@ use crate::overrides::{agrees, alike};
 use crate::signature::signature_of;
 use kilim_class_world::{ClassView, DeclaredMethod};
 use kilim_nearest::{Nearest, Said};
-use kilim_program::{ClassId, NoMemory, Seq};
+use kilim_classes::ClassId;
+use kilim_units::{NoMemory, Seq};
 use kilim_world::{Signature, World};
 use std::alloc::Global;
 

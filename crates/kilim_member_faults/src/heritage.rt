@@ -1,7 +1,7 @@
 //! What classes inherit: the nearest one that declares a method, and whether an abstract one is left.
 
 ghost use Rattle.std.specs.Prelude.{◌≡◌, ◌<◌, ◌^◌, ◌++◌, ◌∷◌, [], Some, None, true, false, IfOk, OnOk, length, option_copied, option_map};
-ghost use Rattle.kilim_program.specs.Keeps.{ancestors_of};
+ghost use Rattle.kilim_classes.specs.Keeps.{ancestors_of};
 ghost use Rattle.kilim_class_world.specs.Faults.{left_above};
 ghost use Rattle.kilim_class_world.specs.World.{declared_methods};
 ghost use Rattle.kilim_member_faults.specs.Parts.{is_shared};
@@ -11,7 +11,8 @@ use crate::overrides::methods_of;
 use crate::signature::signature_of;
 use kilim_class_world::{ClassView, DeclaredMethod};
 use kilim_nearest::{Nearest, Said};
-use kilim_program::{ClassId, NoMemory, Seq};
+use kilim_classes::ClassId;
+use kilim_units::{NoMemory, Seq};
 use kilim_world::{Signature, World};
 use std::alloc::Global;
 

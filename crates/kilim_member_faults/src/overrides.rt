@@ -2,7 +2,7 @@
 
 ghost use Rattle.std.specs.Prelude.{◌≡◌, ◌&&◌, not, false, Contains, IfOk, filter, option_copied};
 ghost use Rattle.std.specs.List.{list_any};
-ghost use Rattle.kilim_program.specs.Same.{same_flag, same_qualifier, same_qualifiers};
+ghost use Rattle.kilim_classes.specs.Same.{same_flag, same_qualifier, same_qualifiers};
 ghost use Rattle.kilim_class_world.specs.World.{declared_methods};
 ghost use Rattle.kilim_class_world.specs.Qualified.{qualified, is_constructor_name};
 ghost use Rattle.kilim_class_world.specs.Faults.{override_differs, overrides_badly, agrees, same_qualified, declared_of, differs_from, inherited};
@@ -15,7 +15,8 @@ use crate::signature::signature_of;
 use kilim_class_world::{DeclaredMethod, Marks, Problem, Qualified};
 use kilim_classfile::{ClassFile, MemberName};
 use kilim_mentions::method_text;
-use kilim_program::{ClassId, NoMemory, Qualifier};
+use kilim_classes::{ClassId, Qualifier};
+use kilim_units::NoMemory;
 use kilim_world::{Signature, World};
 use kilim_world_types::qualified;
 use std::alloc::Global;

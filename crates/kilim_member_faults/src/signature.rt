@@ -2,7 +2,7 @@
 
 ghost use Rattle.std.specs.Prelude.{◌≡◌, IfOk};
 
-use kilim_program::{NoMemory, Units};
+use kilim_units::{NoMemory, Units};
 use kilim_world::Signature;
 
 /// A name and a descriptor as a key.

@@ -13,7 +13,7 @@ use kilim_bytecode::{Body, CodeFault, decode};
 use kilim_class_world::decoded_is_decode;
 use kilim_classfile::MemberInfo;
 use kilim_opcodes::RawInstr;
-use kilim_program::{NoMemory, Seq};
+use kilim_units::{NoMemory, Seq};
 use std::alloc::Global;
 
 fn code_in(info: &Info) -> Option<&Code>

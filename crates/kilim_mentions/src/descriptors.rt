@@ -5,7 +5,7 @@ ghost use Rattle.kilim_class_world.specs.Types.{field_text, method_text, named_b
 
 use kilim_class_world::Named;
 use kilim_descriptors::{FieldText, MethodText, any_field, any_method};
-use kilim_program::{NoMemory, Units};
+use kilim_units::{NoMemory, Units};
 use std::alloc::Global;
 
 /// The type that the descriptor of a field is, or none where the text is no such descriptor (JVMS 4.3.2).

@@ -11,7 +11,7 @@ use crate::texts::class_text;
 use kilim_attributes::{Code, CodeAttribute, CodeInfo, Frame, VerificationType};
 use kilim_class_world::Mention;
 use kilim_constant_pool::Pool;
-use kilim_program::NoMemory;
+use kilim_units::NoMemory;
 use std::alloc::Global;
 
 fn push_slot(

@@ -10,7 +10,7 @@ use kilim_class_world::{Member, Operand};
 use kilim_classfile::{ClassFile, MemberInfo};
 use kilim_constant_pool::Pool;
 use kilim_opcodes::RawInstr;
-use kilim_program::{NoMemory, Seq};
+use kilim_units::{NoMemory, Seq};
 use std::alloc::Global;
 
 fn push_member(into: &mut Vec<Member>, operand: Option<Operand>) -> Result<(), NoMemory>

@@ -17,7 +17,7 @@ use kilim_class_world::{Mention, Named, Operand};
 use kilim_classfile::{ClassFile, MemberInfo};
 use kilim_constant_pool::Pool;
 use kilim_opcodes::RawInstr;
-use kilim_program::{NoMemory, Seq, Units};
+use kilim_units::{NoMemory, Seq, Units};
 use std::alloc::Global;
 
 // `anewarray` makes an array of what its index names.

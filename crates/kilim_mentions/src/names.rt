@@ -8,7 +8,7 @@ ghost use Rattle.kilim_class_world.specs.Mentions.{element_types, names_mentione
 use crate::types::types_mentioned;
 use kilim_class_world::{Mention, Named};
 use kilim_descriptors::{BaseText, FieldText};
-use kilim_program::{NoMemory, Seq, Units};
+use kilim_units::{NoMemory, Seq, Units};
 use std::alloc::Global;
 
 fn push_base(into: &mut Vec<Units>, base: &BaseText) -> Result<(), NoMemory>

@@ -11,7 +11,8 @@ use crate::texts::{class_text, text_of};
 use kilim_class_world::{MemberOf, Named, Operand};
 use kilim_constant_pool::{Entry, Pool};
 use kilim_opcodes::RawInstr;
-use kilim_program::{NoMemory, Units, Value};
+use kilim_classes::Value;
+use kilim_units::{NoMemory, Units};
 use std::alloc::Global;
 
 // A member by its class and its entry of name and descriptor (JVMS 4.4.6).

@@ -8,7 +8,7 @@ ghost use Rattle.kilim_class_world.specs.Mentions.{element_types, named_types, n
 use crate::descriptors::{field_text, method_text};
 use kilim_class_world::{Mention, Named};
 use kilim_descriptors::{BaseText, FieldText, MethodText};
-use kilim_program::{NoMemory, Seq, Units};
+use kilim_units::{NoMemory, Seq, Units};
 use std::alloc::Global;
 
 fn push_each(into: &mut Vec<FieldText>, types: &[FieldText]) -> Result<(), NoMemory>

@@ -9,7 +9,7 @@ ghost use Rattle.kilim_mutf8.specs.Text.{HasFault, placed, IsUnlessMemory};
 
 use crate::fault::TextFault;
 use crate::unit::{UnitFault, unit_at};
-use kilim_program::Units;
+use kilim_units::Units;
 use std::alloc::Global;
 
 // A fault of the unit that begins at a place.

@@ -5,7 +5,7 @@ ghost use Rattle.kilim_mutf8.specs.Spelling.{unit_text, spelling};
 ghost use Rattle.kilim_mutf8.specs.Text.{OneSpelling};
 ghost use Rattle.kilim_mutf8.specs.Whole.{UnitsAreSpelled};
 
-use kilim_program::{NoMemory, Units};
+use kilim_units::{NoMemory, Units};
 use std::alloc::AllocError;
 
 // One unit, or nothing for want of memory.

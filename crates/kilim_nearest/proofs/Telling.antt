@@ -1,6 +1,6 @@
 -- What is known of names is what is known of their numbers.
 use Rattle.std.proofs.Common.{◌≡◌, ℕ, List, Option, Some, None, refl, sym, ap, ◌∙◌}
-use Rattle.kilim_program.specs.declared.names.ClassId.{ClassId}
+use Rattle.kilim_classes.specs.declared.names.ClassId.{ClassId}
 use Rattle.kilim_inherited.specs.declared.entry.Entry.{Entry}
 use Rattle.kilim_inherited.specs.Inherited.{inherited, said_at, said_or, line_in, up_in, from_above}
 use Rattle.kilim_signatures.specs.Numbers.{Apart}

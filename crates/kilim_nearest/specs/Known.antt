@@ -1,6 +1,6 @@
 -- What classes inherit, by names with descriptors.
 use Rattle.std.specs.Prelude.{◌≡◌, ◌<◌, ◌^◌, ℕ, true, is_some, List, Option, Some, None}
-use Rattle.kilim_program.specs.declared.names.ClassId.{ClassId}
+use Rattle.kilim_classes.specs.declared.names.ClassId.{ClassId}
 use Rattle.kilim_inherited.specs.Inherited.{said_or, line_in, up_in, from_above}
 use Rattle.kilim_inherited.specs.Roots.{inherits}
 use Rattle.kilim_signatures.specs.Numbers.{number_at}

@@ -1,6 +1,6 @@
 -- What the first class of a line that says something of a member says.
 use Rattle.std.specs.Prelude.{ℕ, if◌then◌else◌, List, [], ◌∷◌, Option, Some, None, slice_get}
-use Rattle.kilim_program.specs.declared.names.ClassId.{ClassId}
+use Rattle.kilim_classes.specs.declared.names.ClassId.{ClassId}
 use Rattle.kilim_inherited.specs.Inherited.{said_or}
 use Rattle.kilim_signatures.specs.Index.{same_signature}
 use Rattle.kilim_nearest.specs.declared.said.Said.{Said}

@@ -6,7 +6,7 @@ ghost use Rattle.kilim_nearest.specs.Keyed.{Keyed, AllKeyed};
 
 use crate::said::Said;
 use kilim_inherited::Entry;
-use kilim_program::{NoMemory, Seq};
+use kilim_units::{NoMemory, Seq};
 use kilim_signatures::Numbers;
 use std::alloc::Global;
 

@@ -6,7 +6,8 @@ ghost use Rattle.kilim_nearest.specs.Known.{known, KeysNamed, KnowsNone, KnowsSo
 use crate::entries::all_entries;
 use crate::said::Said;
 use kilim_inherited::Inherited;
-use kilim_program::{ClassId, NoMemory, Seq};
+use kilim_classes::ClassId;
+use kilim_units::{NoMemory, Seq};
 use kilim_signatures::{Numbers, Signature};
 use std::alloc::Global;
 

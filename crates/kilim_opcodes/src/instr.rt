@@ -1,6 +1,6 @@
 //! Instructions as they are written.
 
-use kilim_program::Seq;
+use kilim_units::Seq;
 
 /// An instruction in the form in which it is written. First stands its number; in the two wide variants that is
 /// the number behind `wide`. Targets are places, byte offsets in the code array.

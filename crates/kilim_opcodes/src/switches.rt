@@ -12,7 +12,7 @@ use crate::fault::OpFault;
 use crate::instr::RawInstr;
 use crate::reading::{i32_at, target_at};
 use kilim_grammar::{u8_at, u32_at};
-use kilim_program::Seq;
+use kilim_units::Seq;
 use std::alloc::Global;
 
 /// How many bytes stand between the number of a switch at a place and its default, which begins at a multiple of

@@ -10,7 +10,7 @@ ghost use Rattle.kilim_opcodes.specs.Instr.{integer_text, target_text, TargetFit
 use crate::instr::RawInstr;
 use crate::switches::padding;
 use kilim_grammar::{push_u8, push_u16, push_u32};
-use kilim_program::NoMemory;
+use kilim_units::NoMemory;
 use std::alloc::AllocError;
 
 #[tactic(auto, unfolding(crate::specs::Instr::integer_text))]

@@ -7,7 +7,7 @@ ghost use Rattle.kilim_outside.specs.Causes.{FolderCause};
 ghost use Rattle.kilim_outside.specs.declared.folder.FailedCall.{FailedCall};
 ghost use Rattle.kilim_outside.specs.declared.folder.FailedCall.TheVariants.{Read, Write};
 
-use kilim_program::Seq;
+use kilim_units::Seq;
 use std::alloc::{AllocError, AllocFailed};
 use thiserror::Error;
 

@@ -15,7 +15,7 @@ ghost use Rattle.kilim_outside.specs.declared.memory_folder.NamedFile.{NamedFile
 
 use crate::folder::{FailedCall, Folder, FolderFault};
 use crate::limits::file_limit;
-use kilim_program::Seq;
+use kilim_units::Seq;
 use std::alloc::AllocError;
 
 /// A file in memory: its name and its content, both as bytes.

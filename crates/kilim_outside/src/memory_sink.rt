@@ -5,7 +5,7 @@ ghost use Rattle.kilim_outside.specs.Causes.{SinkCause};
 ghost use Rattle.kilim_outside.specs.Asked.{is_asked, counted};
 
 use crate::sink::{SinkFault, TextSink};
-use kilim_program::Seq;
+use kilim_units::Seq;
 
 /// A sink in memory in which no call fails but for want of memory. It takes every piece whole, and its
 /// count of faults is always 0.

@@ -6,7 +6,7 @@ ghost use Rattle.std.specs.Io.{StartsWith};
 use crate::folder::{FailedCall, Folder, FolderFault};
 use crate::limits::file_limit;
 use crate::sink::{SinkFault, TextSink};
-use kilim_program::Seq;
+use kilim_units::Seq;
 use std::alloc::Global;
 use std::fs::File;
 use std::io::{Read, Write};

@@ -6,14 +6,14 @@
 -- those whose row isn't there yet are stuck.
 use Rattle.std.specs.Prelude.{ℕ, Bool, ◌&&◌, if◌then◌else◌, List, ◌∷◌, None, is_some, length, reverse, slice_get, codes}
 use Rattle.std.specs.Str.{bytes_eq}
-use Rattle.kilim_program.specs.declared.class.Method.{Method}
-use Rattle.kilim_program.specs.Program.{Program}
-use Rattle.kilim_program.specs.declared.instr.Instr.{Instr}
-use Rattle.kilim_program.specs.declared.instr.Instr.TheVariants.{Aload, Bipush, Invokespecial, Invokestatic, Return}
-use Rattle.kilim_program.specs.declared.value.Value.{Value}
-use Rattle.kilim_program.specs.declared.value.Value.TheVariants.{Int}
+use Rattle.kilim_classes.specs.declared.class.Method.{Method}
+use Rattle.kilim_classes.specs.Program.{Program}
+use Rattle.kilim_classes.specs.declared.instr.Instr.{Instr}
+use Rattle.kilim_classes.specs.declared.instr.Instr.TheVariants.{Aload, Bipush, Invokespecial, Invokestatic, Return}
+use Rattle.kilim_classes.specs.declared.value.Value.{Value}
+use Rattle.kilim_classes.specs.declared.value.Value.TheVariants.{Int}
 use Rattle.kilim_program.specs.Machine.{Objects}
-use Rattle.kilim_program.specs.Names.{method_at}
+use Rattle.kilim_classes.specs.Names.{method_at}
 use Rattle.kilim_program.specs.Natives.{native_method}
 use Rattle.kilim_program.specs.Effect.{Effect, Goes, CallsNative, Returns, Stuck, with_some, on_values, on_receiver, as_reference}
 

@@ -1,10 +1,10 @@
 -- What an instruction does with a frame and a heap, and words for how it takes its operands.
 use Rattle.std.specs.Prelude.{ℕ, zero, suc, List, [], ◌∷◌, Option, Some, None}
-use Rattle.kilim_program.specs.declared.names.MethodId.{MethodId}
+use Rattle.kilim_classes.specs.declared.names.MethodId.{MethodId}
 use Rattle.kilim_program.specs.declared.cause.EndCause.{EndCause}
 use Rattle.kilim_program.specs.declared.cause.EndCause.TheVariants as cause
-use Rattle.kilim_program.specs.declared.value.Value.{Value}
-use Rattle.kilim_program.specs.declared.value.Value.TheVariants.{Int, Long, Null, Ref, Text, Box, Fiber}
+use Rattle.kilim_classes.specs.declared.value.Value.{Value}
+use Rattle.kilim_classes.specs.declared.value.Value.TheVariants.{Int, Long, Null, Ref, Text, Box, Fiber}
 use Rattle.kilim_program.specs.declared.value.Object.{Object}
 use Rattle.kilim_program.specs.Machine.{Objects}
 

@@ -1,15 +1,7 @@
 pub mod Cause
-pub mod Program
 pub mod Machine
-pub mod Names
+pub mod Members
 pub mod Natives
 pub mod Effect
 pub mod Does
 pub mod Moves
-pub mod BuiltIn
-pub mod Kinds
-pub mod Same
-pub mod Lengths
-pub mod Keeps
-pub mod Examples
-pub mod Broken

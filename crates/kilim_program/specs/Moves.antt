@@ -2,31 +2,22 @@
 use Rattle.std.specs.Prelude.{ℕ, ◌-◌, ◌==◌, nat_lt, if◌then◌else◌, List, [], ◌∷◌, ◌++◌, Option, Some, None, length, replicate}
 use Rattle.kilim_program.specs.declared.cause.EndCause.{EndCause}
 use Rattle.kilim_program.specs.declared.cause.EndCause.TheVariants as cause
-use Rattle.kilim_program.specs.declared.class.Method.{Method}
-use Rattle.kilim_program.specs.Program.{Program}
-use Rattle.kilim_program.specs.declared.instr.Instr.{Instr}
-use Rattle.kilim_program.specs.declared.names.MethodId.{MethodId}
+use Rattle.kilim_classes.specs.declared.class.Method.{Method}
+use Rattle.kilim_classes.specs.Program.{Program}
+use Rattle.kilim_classes.specs.declared.instr.Instr.{Instr}
+use Rattle.kilim_classes.specs.declared.names.MethodId.{MethodId}
 use Rattle.kilim_program.specs.declared.value.Object.{Object}
-use Rattle.kilim_program.specs.declared.value.Value.{Value}
-use Rattle.kilim_program.specs.declared.value.Value.TheVariants.{Null, Long}
+use Rattle.kilim_classes.specs.declared.value.Value.{Value}
+use Rattle.kilim_classes.specs.declared.value.Value.TheVariants.{Null, Long}
+use Rattle.kilim_classes.specs.Lengths.{fetched}
 use Rattle.kilim_program.specs.Machine.{Objects, Activation}
-use Rattle.kilim_program.specs.Names.{method_at}
+use Rattle.kilim_classes.specs.Names.{method_at}
 use Rattle.kilim_program.specs.Effect.{Effect, Goes, Makes, Draws, Calls, CallsNative, Returns, Ends, Stuck}
 use Rattle.kilim_program.specs.Does.{does}
 
 -- the most frames of a task
 abbrev pub frame_limit : ℕ
 frame_limit = 512
-
--- the place of the first instruction, or that behind the code
-abbrev pub first_place : List (ℕ × Instr) → ℕ → ℕ
-first_place [] end = end
-first_place (entry ∷ entries) end = entry.0
-
--- the instruction at a place, and the place behind it
-abbrev pub fetched : List (ℕ × Instr) → ℕ → ℕ → Option (Instr × ℕ)
-fetched [] end place = None
-fetched (entry ∷ entries) end place = if entry.0 == place then Some (entry.1, first_place entries end) else fetched entries end place
 
 -- what the instruction does at which a frame stands
 abbrev pub effect_found : Program → Activation → Objects → Option (Instr × ℕ) → Effect

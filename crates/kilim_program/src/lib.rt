@@ -1,33 +1,20 @@
-//! What a program is: classes, methods, fields, instructions, values and the words of a run.
+//! What a program does: the meaning of instructions, objects, shapes of trees, and why a task ends.
 //!
-//! The types follow the Java Virtual Machine Specification, Java SE 8 (JVMS), as far as this
-//! project's profile goes. They are plain data with public fields. What an instruction does stands in
-//! `specs/`, as a function over lists and a finite map.
+//! The types of programs (`kilim_classes`) and of texts (`kilim_units`) are given out again. What an instruction does
+//! stands in `specs/`, as a function over lists and a finite map.
 #![tactic(auto)]
 
 mod cause;
-mod class;
-mod instr;
-mod kinds;
-mod laws;
-mod memory;
-mod names;
 mod run;
-mod seq;
-mod ty;
-mod units;
 mod value;
-mod verified;
+mod woven;
 
 pub use cause::EndCause;
-pub use class::{Class, Field, Form, Method, Program, Woven};
-pub use instr::Instr;
-pub use laws::{built_in_keeps, facts_are_broken};
-pub use memory::NoMemory;
-pub use names::{BoxName, ClassId, FieldId, MethodId};
+pub use kilim_classes::{
+    Base, BoxName, Class, ClassId, Field, FieldId, Form, Frame, Instr, Kind, Method, MethodId,
+    Program, Qualifier, Ty, VType, Value, built_in_keeps, facts_are_broken,
+};
+pub use kilim_units::{NoMemory, Seq, Units};
 pub use run::Limits;
-pub use seq::Seq;
-pub use ty::{Base, Kind, Qualifier, Ty};
-pub use units::Units;
-pub use value::{Object, Shape, Token, Value};
-pub use verified::{Frame, VType};
+pub use value::{Object, Shape, Token};
+pub use woven::Woven;

@@ -1,6 +1,6 @@
 //! What bounds a run.
 
-use crate::seq::Seq;
+use kilim_units::Seq;
 
 /// What a run is given beside its program and main class.
 #[derive(Debug, Drop)]

@@ -1,26 +1,7 @@
-//! Values, objects, and the shapes of trees.
+//! Objects, and the shapes of trees.
 
-use crate::names::{BoxName, FieldId};
-use crate::seq::Seq;
-use crate::ty::Ty;
-use crate::units::Units;
-
-/// A value of a local, of the operand stack, of a field or of an element (JVMS 2.6). The types boolean,
-/// byte, char, short and int are all `Int`. Strings and mailboxes are values and no objects.
-#[derive(Clone, Debug, Drop)]
-pub enum Value {
-    Int(i32),
-    Long(i64),
-    Null,
-    /// An object, by its place in a heap.
-    Ref(u32),
-    /// A string, by its contents.
-    Text(Units),
-    /// A mailbox, by its name.
-    Box(BoxName),
-    /// The fiber that woven code is handed.
-    Fiber,
-}
+use kilim_classes::{BoxName, FieldId, Ty, Value};
+use kilim_units::{Seq, Units};
 
 /// One token of a shape: a tree is its tokens in preorder, without the names of objects.
 #[derive(Clone, Debug, Drop)]

@@ -3,7 +3,7 @@
 use Rattle.std.specs.Prelude.{◌≡◌, ℕ, Bool, ◌||◌, ◌==◌, if◌then◌else◌, List, [], ◌∷◌, ◌++◌, codes}
 use Rattle.std.specs.List.{flat_map}
 use Rattle.std.specs.Str.{bytes_eq}
-use Rattle.kilim_journal.specs.Text.{name_unit, name_text}
+use Rattle.kilim_units.specs.NameText.{name_unit, name_text}
 use Rattle.kilim_classfile.specs.declared.fault.MemberName.{MemberName}
 
 unfoldable pub member_name_text : List ℕ → List ℕ

@@ -7,7 +7,7 @@ use crate::names::method_text;
 use kilim_attribute_parts::AttributeFault;
 use kilim_classfile::ClassFault;
 use kilim_constant_pool::PoolFault;
-use kilim_program::NoMemory;
+use kilim_units::NoMemory;
 use std::alloc::{AllocError, Global};
 
 fn one_number(alloc: Global, word: &str, number: u64) -> Result<Vec<u8>, NoMemory>

@@ -5,7 +5,7 @@ ghost use Rattle.std.specs.List.{flat_map};
 ghost use Rattle.kilim_reports.specs.Names.{member_name_text, descriptor_unit, descriptor_text, method_text};
 
 use kilim_classfile::MemberName;
-use kilim_program::{NoMemory, Units};
+use kilim_units::{NoMemory, Units};
 use std::alloc::Global;
 
 /// The name of a method as it stands in a report: in ASCII, as names stand in a journal, but `<init>` as it is.
@@ -16,7 +16,7 @@ pub fn member_name_text(alloc: Global, name: &Units) -> Result<Vec<u8>, NoMemory
     if name.is_text(b"<init>") {
         Ok(Vec::from_slice(alloc, b"<init>")?)
     } else {
-        kilim_journal::name_text(alloc, name.as_slice())
+        kilim_units::name_text(alloc, name.as_slice())
     }
 }
 
@@ -28,7 +28,7 @@ fn push_descriptor_unit(into: &mut Vec<u8>, unit: u16) -> Result<(), NoMemory>
     } else if unit == 41 {
         into.push(b')')?;
     } else {
-        let text = kilim_journal::name_text(*into.allocator(), &[unit])?;
+        let text = kilim_units::name_text(*into.allocator(), &[unit])?;
         into.extend_from_slice(text.as_slice())?;
     }
     Ok(())

@@ -4,7 +4,7 @@ ghost use Rattle.std.specs.Prelude.{◌≡◌, List, ℕ, Some, None, IfOk};
 ghost use Rattle.kilim_signatures.specs.Numbers.{number_at, Numbered, Keeps};
 
 use crate::signature::Signature;
-use kilim_program::NoMemory;
+use kilim_units::NoMemory;
 use std::alloc::Global;
 use std::collections::BTreeMap;
 

@@ -2,7 +2,7 @@
 
 ghost use Rattle.std.specs.Prelude.{◌≡◌, IfOk};
 
-use kilim_program::{NoMemory, Units};
+use kilim_units::{NoMemory, Units};
 use std::cmp::Ordering;
 
 /// The name and the descriptor of a member (JVMS 4.3), as a key of maps.

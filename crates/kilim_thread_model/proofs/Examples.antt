@@ -5,7 +5,7 @@ use Rattle.std.proofs.lemmas.List.{append_cancel_left}
 use Rattle.kilim_program.specs.declared.cause.EndCause.{EndCause}
 use Rattle.kilim_program.specs.declared.cause.EndCause.TheVariants.{Done, Spent}
 use Rattle.kilim_program.specs.declared.value.Token.TheVariants as token
-use Rattle.kilim_program.specs.declared.value.Value.TheVariants.{Int}
+use Rattle.kilim_classes.specs.declared.value.Value.TheVariants.{Int}
 use Rattle.kilim_journal.specs.declared.entry.Act.{Act}
 use Rattle.kilim_journal.specs.declared.entry.Act.TheVariants.{Print, End}
 use Rattle.kilim_journal.specs.declared.entry.Entry.{Entry}

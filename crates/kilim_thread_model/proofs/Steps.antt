@@ -4,16 +4,17 @@ use Rattle.std.specs.Prelude.{slice_get}
 use Rattle.std.proofs.lemmas.Bool.{lt-leb}
 use Rattle.kilim_program.specs.declared.cause.EndCause.{EndCause}
 use Rattle.kilim_program.specs.declared.cause.EndCause.TheVariants as cause
-use Rattle.kilim_program.specs.declared.class.Method.{Method}
-use Rattle.kilim_program.specs.declared.class.Program.{Program}
-use Rattle.kilim_program.specs.declared.instr.Instr.{Instr}
+use Rattle.kilim_classes.specs.declared.class.Method.{Method}
+use Rattle.kilim_classes.specs.declared.class.Program.{Program}
+use Rattle.kilim_classes.specs.declared.instr.Instr.{Instr}
 use Rattle.kilim_journal.specs.declared.entry.Act.{Act}
 use Rattle.kilim_journal.specs.declared.entry.Entry.{Entry}
 use Rattle.kilim_program.specs.Machine.{Objects, Activation}
-use Rattle.kilim_program.specs.Names.{method_at}
+use Rattle.kilim_classes.specs.Names.{method_at}
 use Rattle.kilim_program.specs.Effect.{Effect}
 use Rattle.kilim_program.specs.Does.{does}
-use Rattle.kilim_program.specs.Moves.{fetched, effect_found, effect_in, effect_of, move_by, moves}
+use Rattle.kilim_classes.specs.Lengths.{fetched}
+use Rattle.kilim_program.specs.Moves.{effect_found, effect_in, effect_of, move_by, moves}
 use Rattle.kilim_thread_model.specs.State.{Setting, Alive, Ended, State, noted}
 use Rattle.kilim_thread_model.specs.Turn.{Moved, Runner, quiet, acted, ends, moved_by, frames_moved, thread_moved, moved}
 use Rattle.kilim_thread_model.specs.Runs.{acted_or, acted_within, before_action, Replays}

@@ -2,16 +2,16 @@
 use Rattle.std.specs.Prelude.{◌≡◌, ℕ, suc, pos, Bool, true, false, ◌&&◌, ◌==◌, List, [], ◌∷◌, Some, None, codes}
 use Rattle.std.specs.List.{list_all}
 use Rattle.kilim_program.specs.declared.cause.EndCause.TheVariants.{Spent}
-use Rattle.kilim_program.specs.declared.class.Class.{Class}
-use Rattle.kilim_program.specs.declared.class.Method.{Method}
-use Rattle.kilim_program.specs.declared.class.Program.{Program}
-use Rattle.kilim_program.specs.declared.names.BoxName.{BoxName}
-use Rattle.kilim_program.specs.declared.names.MethodId.{MethodId}
-use Rattle.kilim_program.specs.declared.ty.Ty.{Ty}
+use Rattle.kilim_classes.specs.declared.class.Class.{Class}
+use Rattle.kilim_classes.specs.declared.class.Method.{Method}
+use Rattle.kilim_classes.specs.declared.class.Program.{Program}
+use Rattle.kilim_classes.specs.declared.names.BoxName.{BoxName}
+use Rattle.kilim_classes.specs.declared.names.MethodId.{MethodId}
+use Rattle.kilim_classes.specs.declared.ty.Ty.{Ty}
 use Rattle.kilim_journal.specs.declared.entry.Act.TheVariants.{End, Wait}
 use Rattle.kilim_journal.specs.declared.entry.Entry.{Entry}
-use Rattle.kilim_program.specs.BuiltIn.{class_id, method_id, int_type}
-use Rattle.kilim_program.specs.Names.{method_at, class_name}
+use Rattle.kilim_classes.specs.BuiltIn.{class_id, method_id, int_type}
+use Rattle.kilim_classes.specs.Names.{method_at, class_name}
 use Rattle.kilim_thread_model.specs.State.{Setting}
 use Rattle.kilim_thread_model.specs.Runs.{Whole}
 use Rattle.kilim_thread_model.specs.Small.{Small, task_class, task_constructor, print_int, small_program, small_setting, print_entry, done_entry}

@@ -1,8 +1,8 @@
 -- Runs: in any order, and in that of a journal; and which journals are those of whole runs.
 use Rattle.std.specs.Prelude.{◌≡◌, ℕ, zero, suc, ◌+◌, Bool, true, false, ◌&&◌, nat_lt, if◌then◌else◌, List, [], ◌∷◌, ◌++◌, Option, Some, None, is_some}
-use Rattle.kilim_program.specs.declared.names.BoxName.{BoxName}
-use Rattle.kilim_program.specs.declared.value.Value.{Value}
-use Rattle.kilim_program.specs.declared.value.Value.TheVariants.{Box}
+use Rattle.kilim_classes.specs.declared.names.BoxName.{BoxName}
+use Rattle.kilim_classes.specs.declared.value.Value.{Value}
+use Rattle.kilim_classes.specs.declared.value.Value.TheVariants.{Box}
 use Rattle.kilim_journal.specs.declared.entry.Act.{Act}
 use Rattle.kilim_journal.specs.declared.entry.Act.TheVariants.{Wait}
 use Rattle.kilim_journal.specs.declared.entry.Entry.{Entry}

@@ -1,17 +1,18 @@
 -- A tree without the names of its objects.
 use Rattle.std.specs.Prelude.{ℕ, zero, suc, Bool, true, false, ◌==◌, nat_le, if◌then◌else◌, List, [], ◌∷◌, ◌++◌, Option, Some, None, count_by}
 use Rattle.std.specs.FinMap.{get}
-use Rattle.kilim_program.specs.declared.class.Program.{Program}
-use Rattle.kilim_program.specs.declared.names.FieldId.{FieldId}
-use Rattle.kilim_program.specs.declared.ty.Base.{Base}
-use Rattle.kilim_program.specs.declared.ty.Base.TheVariants as base
+use Rattle.kilim_classes.specs.declared.class.Program.{Program}
+use Rattle.kilim_classes.specs.declared.names.FieldId.{FieldId}
+use Rattle.kilim_classes.specs.declared.ty.Base.{Base}
+use Rattle.kilim_classes.specs.declared.ty.Base.TheVariants as base
 use Rattle.kilim_program.specs.declared.value.Object.{Object}
 use Rattle.kilim_program.specs.declared.value.Token.{Token}
 use Rattle.kilim_program.specs.declared.value.Token.TheVariants as token
-use Rattle.kilim_program.specs.declared.value.Value.{Value}
-use Rattle.kilim_program.specs.declared.value.Value.TheVariants.{Int, Long, Null, Ref, Text, Box, Fiber}
+use Rattle.kilim_classes.specs.declared.value.Value.{Value}
+use Rattle.kilim_classes.specs.declared.value.Value.TheVariants.{Int, Long, Null, Ref, Text, Box, Fiber}
 use Rattle.kilim_program.specs.Machine.{Objects}
-use Rattle.kilim_program.specs.Names.{◌>>=◌, object_fields, shown_name}
+use Rattle.kilim_classes.specs.Names.{◌>>=◌}
+use Rattle.kilim_program.specs.Members.{object_fields, shown_name}
 
 -- the most objects of a tree that is put or started
 unfoldable pub tree_limit : ℕ

@@ -4,20 +4,21 @@ use Rattle.std.specs.Int.{w32, cast_signed}
 use Rattle.std.specs.FinMap.{get, insert}
 use Rattle.kilim_program.specs.declared.cause.EndCause.{EndCause}
 use Rattle.kilim_program.specs.declared.cause.EndCause.TheVariants as cause
-use Rattle.kilim_program.specs.declared.class.Program.{Program}
-use Rattle.kilim_program.specs.declared.names.BoxName.{BoxName}
-use Rattle.kilim_program.specs.declared.names.ClassId.{ClassId}
-use Rattle.kilim_program.specs.declared.ty.Base.{Base}
-use Rattle.kilim_program.specs.declared.ty.Base.TheVariants as base
+use Rattle.kilim_classes.specs.declared.class.Program.{Program}
+use Rattle.kilim_classes.specs.declared.names.BoxName.{BoxName}
+use Rattle.kilim_classes.specs.declared.names.ClassId.{ClassId}
+use Rattle.kilim_classes.specs.declared.ty.Base.{Base}
+use Rattle.kilim_classes.specs.declared.ty.Base.TheVariants as base
 use Rattle.kilim_program.specs.declared.value.Object.{Object}
 use Rattle.kilim_program.specs.declared.value.Token.{Token}
 use Rattle.kilim_program.specs.declared.value.Token.TheVariants as token
-use Rattle.kilim_program.specs.declared.value.Value.{Value}
-use Rattle.kilim_program.specs.declared.value.Value.TheVariants.{Int, Long, Null, Ref, Text, Box, Fiber}
+use Rattle.kilim_classes.specs.declared.value.Value.{Value}
+use Rattle.kilim_classes.specs.declared.value.Value.TheVariants.{Int, Long, Null, Ref, Text, Box, Fiber}
 use Rattle.kilim_journal.specs.declared.entry.Act.{Act}
 use Rattle.kilim_journal.specs.declared.entry.Act.TheVariants.{Put, Take, Empty, Start, Print, End}
 use Rattle.kilim_program.specs.Machine.{Objects, Activation}
-use Rattle.kilim_program.specs.Names.{◌>>=◌, execute_of}
+use Rattle.kilim_classes.specs.Names.{◌>>=◌}
+use Rattle.kilim_program.specs.Members.{execute_of}
 use Rattle.kilim_program.specs.Natives.{Native, native_of}
 use Rattle.kilim_program.specs.Natives as native
 use Rattle.kilim_program.specs.Moves.{Move, Runs, Adds, Opens, Asks, Finishes, Over, Lost, moves, push_value, push_result}

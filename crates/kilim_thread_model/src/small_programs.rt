@@ -1,6 +1,6 @@
 //! The programs that run today.
 
-use kilim_program::{Seq, Units};
+use kilim_units::{Seq, Units};
 
 /// What differs between the programs that run today: one task class beside the built-in ones, whose constructor does
 /// nothing more and whose `execute` prints bytes.

@@ -6,21 +6,21 @@ use Rattle.std.specs.List.{AllByRecursion}
 use Rattle.std.specs.Str.{bytes_eq}
 use Rattle.std.proofs.lemmas.Bool.{and_parts, and_from, not-true, eqb-true, eq-eqb, ltb-true, lt-ltb}
 use Rattle.std.proofs.lemmas.List.{length-append}
-use Rattle.kilim_program.specs.declared.class.Class.{Class}
-use Rattle.kilim_program.specs.declared.class.Form.{Form}
-use Rattle.kilim_program.specs.declared.class.Form.TheVariants.{Plain, Woven}
-use Rattle.kilim_program.specs.declared.class.Method.{Method}
-use Rattle.kilim_program.specs.declared.instr.Instr.{Instr}
-use Rattle.kilim_program.specs.declared.instr.Instr.TheVariants.{Aload, Bipush, Invokespecial, Invokestatic, Return}
-use Rattle.kilim_program.specs.declared.names.ClassId.{ClassId}
-use Rattle.kilim_program.specs.declared.names.FieldId.{FieldId}
-use Rattle.kilim_program.specs.declared.names.MethodId.{MethodId}
-use Rattle.kilim_program.specs.declared.ty.Qualifier.{Qualifier}
-use Rattle.kilim_program.specs.declared.ty.Qualifier.TheVariants.{Free, Cuttable, Safe}
-use Rattle.kilim_program.specs.BuiltIn.{class_id, method_id, built_in_classes, built_in_classes_in, built_in_methods, built_in_methods_in}
-use Rattle.kilim_program.specs.Keeps.{EndsBuiltIn}
-use Rattle.kilim_program.specs.Program.{Program}
-use Rattle.kilim_program.specs.Same.{same_flag}
+use Rattle.kilim_classes.specs.declared.class.Class.{Class}
+use Rattle.kilim_classes.specs.declared.class.Form.{Form}
+use Rattle.kilim_classes.specs.declared.class.Form.TheVariants.{Plain, Woven}
+use Rattle.kilim_classes.specs.declared.class.Method.{Method}
+use Rattle.kilim_classes.specs.declared.instr.Instr.{Instr}
+use Rattle.kilim_classes.specs.declared.instr.Instr.TheVariants.{Aload, Bipush, Invokespecial, Invokestatic, Return}
+use Rattle.kilim_classes.specs.declared.names.ClassId.{ClassId}
+use Rattle.kilim_classes.specs.declared.names.FieldId.{FieldId}
+use Rattle.kilim_classes.specs.declared.names.MethodId.{MethodId}
+use Rattle.kilim_classes.specs.declared.ty.Qualifier.{Qualifier}
+use Rattle.kilim_classes.specs.declared.ty.Qualifier.TheVariants.{Free, Cuttable, Safe}
+use Rattle.kilim_classes.specs.BuiltIn.{class_id, method_id, built_in_classes, built_in_classes_in, built_in_methods, built_in_methods_in}
+use Rattle.kilim_classes.specs.Keeps.{EndsBuiltIn}
+use Rattle.kilim_classes.specs.Program.{Program}
+use Rattle.kilim_classes.specs.Same.{same_flag}
 use Rattle.kilim_thread_model.specs.declared.small_programs.Small.{Small}
 use Rattle.kilim_thread_model.specs.Small.{SmallFits, task_constructor, print_int, constructor_code, print_code, small_method, small_constructor, small_execute, small_class, small_program}
 use Rattle.kilim_top.specs.SmallProgram.{given, byte_of, is_load, is_construct, is_print, is_return, stands, byte_at, is_constructor_code, and_print, prints_from, is_plain, is_task_id, are_first_two, is_small_class, is_cuttable, takes_nothing, is_plain_method, has_room, is_small_method, is_small_constructor, is_outline, is_length, small_with, small_members, small_parts, small_in}

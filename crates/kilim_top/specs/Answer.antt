@@ -10,8 +10,8 @@ use Rattle.kilim_class_world.specs.Faults.{link_faults, first_fault}
 use Rattle.kilim_class_world.specs.Linked.{Linked}
 use Rattle.kilim_reports.specs.ClassLines.{class_line}
 use Rattle.kilim_link_reports.specs.LinkLines.{link_line}
-use Rattle.kilim_program.specs.declared.class.Form.TheVariants.{Plain}
-use Rattle.kilim_program.specs.Program.{Program}
+use Rattle.kilim_classes.specs.declared.class.Form.TheVariants.{Plain}
+use Rattle.kilim_classes.specs.Program.{Program}
 use Rattle.kilim_thread_model.specs.declared.small_programs.Small.{Small}
 use Rattle.kilim_thread_model.specs.Small.{IsSmall, IsSmallBy, small_journal}
 use Rattle.kilim_top.specs.declared.refusal.Refusal.{Refusal}

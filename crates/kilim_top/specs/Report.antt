@@ -3,7 +3,7 @@ use Rattle.std.specs.Prelude.{ℕ, List, ◌++◌, codes}
 use Rattle.std.specs.List.{flat_map}
 use Rattle.std.specs.Char.Escape.{encode_utf16}
 use Rattle.std.specs.Str.{chars}
-use Rattle.kilim_journal.specs.Text.{name_text}
+use Rattle.kilim_units.specs.NameText.{name_text}
 
 -- a text as UTF-16 units
 abbrev pub utf16_of : List ℕ → List ℕ

@@ -2,8 +2,8 @@
 use Rattle.std.specs.Prelude.{ℤ, ◌+◌, ◌*◌, ◌<◌, List, Option, Some, None, FitsSigned, length}
 use Rattle.std.specs.Int.{w8}
 use Rattle.std.specs.List.{AllByRecursion}
-use Rattle.kilim_program.specs.declared.class.Method.{Method}
-use Rattle.kilim_program.specs.Program.{Program}
+use Rattle.kilim_classes.specs.declared.class.Method.{Method}
+use Rattle.kilim_classes.specs.Program.{Program}
 use Rattle.kilim_thread_model.specs.declared.small_programs.Small.{Small}
 use Rattle.kilim_thread_model.specs.Small.{IsSmall, IsSmallBy}
 

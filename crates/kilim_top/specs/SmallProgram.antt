@@ -2,18 +2,18 @@
 -- and whose `execute` prints bytes.
 use Rattle.std.specs.Prelude.{ℕ, ◌+◌, ◌*◌, ℤ, Bool, true, false, ◌&&◌, not, ◌==◌, nat_lt, if◌then◌else◌, List, [], ◌∷◌, Option, Some, None, is_none, length, codes}
 use Rattle.std.specs.Str.{bytes_eq}
-use Rattle.kilim_program.specs.declared.class.Class.{Class}
-use Rattle.kilim_program.specs.declared.class.Form.{Form}
-use Rattle.kilim_program.specs.declared.class.Form.TheVariants.{Plain, Woven}
-use Rattle.kilim_program.specs.declared.class.Method.{Method}
-use Rattle.kilim_program.specs.declared.instr.Instr.{Instr}
-use Rattle.kilim_program.specs.declared.instr.Instr.TheVariants.{Aload, Bipush, Invokespecial, Invokestatic, Return}
-use Rattle.kilim_program.specs.declared.names.ClassId.{ClassId}
-use Rattle.kilim_program.specs.declared.names.MethodId.{MethodId}
-use Rattle.kilim_program.specs.declared.ty.Qualifier.{Qualifier}
-use Rattle.kilim_program.specs.declared.ty.Qualifier.TheVariants.{Free, Cuttable, Safe}
-use Rattle.kilim_program.specs.Program.{Program}
-use Rattle.kilim_program.specs.Same.{same_flag}
+use Rattle.kilim_classes.specs.declared.class.Class.{Class}
+use Rattle.kilim_classes.specs.declared.class.Form.{Form}
+use Rattle.kilim_classes.specs.declared.class.Form.TheVariants.{Plain, Woven}
+use Rattle.kilim_classes.specs.declared.class.Method.{Method}
+use Rattle.kilim_classes.specs.declared.instr.Instr.{Instr}
+use Rattle.kilim_classes.specs.declared.instr.Instr.TheVariants.{Aload, Bipush, Invokespecial, Invokestatic, Return}
+use Rattle.kilim_classes.specs.declared.names.ClassId.{ClassId}
+use Rattle.kilim_classes.specs.declared.names.MethodId.{MethodId}
+use Rattle.kilim_classes.specs.declared.ty.Qualifier.{Qualifier}
+use Rattle.kilim_classes.specs.declared.ty.Qualifier.TheVariants.{Free, Cuttable, Safe}
+use Rattle.kilim_classes.specs.Program.{Program}
+use Rattle.kilim_classes.specs.Same.{same_flag}
 use Rattle.kilim_thread_model.specs.declared.small_programs.Small.{Small}
 use Rattle.kilim_thread_model.specs.Small.{task_class, task_constructor, print_int}
 

@@ -18,7 +18,8 @@ use crate::run::journal_of;
 use crate::small::small_of;
 use kilim_class_world::{LinkFault, linked_in_parts, one_program};
 use kilim_classfile::{ClassFile, class_file_is_spelled};
-use kilim_program::{Form, NoMemory, Program, Seq};
+use kilim_classes::{Form, Program};
+use kilim_units::{NoMemory, Seq};
 use kilim_thread_model::{Small, small_run_is_whole};
 use std::alloc::Global;
 

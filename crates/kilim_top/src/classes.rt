@@ -11,7 +11,7 @@ ghost use Rattle.kilim_top.specs.ProgramOf.{IsFile, AreFiles};
 
 use crate::refusal::Refusal;
 use kilim_classfile::{ClassFault, ClassFile};
-use kilim_program::Seq;
+use kilim_units::Seq;
 use std::alloc::Global;
 
 // The line of a file that is no class file.

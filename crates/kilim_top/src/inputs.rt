@@ -8,7 +8,7 @@ ghost use Rattle.kilim_top.specs.Outcome.{WereRead, WasRead};
 ghost use Rattle.kilim_top.specs.Reads.{ReadsCause};
 
 use kilim_outside::{Folder, FolderFault};
-use kilim_program::Seq;
+use kilim_units::Seq;
 use std::alloc::Global;
 
 #[tactic(auto, using(crate::proofs::Named::was_read))]

@@ -6,7 +6,7 @@ ghost use Rattle.std.specs.Char.Escape.{encode_utf16};
 ghost use Rattle.std.specs.Str.{chars};
 ghost use Rattle.kilim_top.specs.Report.{utf16_of, later_line, main_line};
 
-use kilim_program::NoMemory;
+use kilim_units::NoMemory;
 use std::alloc::{AllocError, Global};
 
 #[tactic(auto, using(crate::proofs::Texts::of_text))]
@@ -57,6 +57,6 @@ pub fn no_main(alloc: Global, main: &str) -> Result<Vec<u8>, NoMemory>
     ensures { IfOk result (λ text. text.items ≡ main_line main.now) }
 {
     let units = utf16_of(alloc, main)?;
-    let name = kilim_journal::name_text(alloc, units.as_slice())?;
+    let name = kilim_units::name_text(alloc, units.as_slice())?;
     Ok(line_of(alloc, name.as_slice())?)
 }

@@ -4,7 +4,8 @@ ghost use Rattle.std.specs.Prelude.{◌≡◌, ◌∷◌, ◌++◌, [], map, IfO
 ghost use Rattle.kilim_thread_model.specs.Small.{print_entry, done_entry};
 
 use kilim_journal::{Act, Entry};
-use kilim_program::{EndCause, Seq, Token};
+use kilim_program::{EndCause, Token};
+use kilim_units::Seq;
 use std::alloc::{AllocError, Global};
 
 fn print_entry(alloc: Global, number: i8) -> Result<Entry, AllocError>

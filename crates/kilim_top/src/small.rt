@@ -3,13 +3,12 @@
 ghost use Rattle.std.specs.Prelude.{◌≡◌, ◌<◌, ◌^◌, ◌&&◌, true, codes, IfOk, IfSome, FitsSigned};
 ghost use Rattle.std.specs.Int.{w8};
 ghost use Rattle.std.specs.Option.{option_map};
-ghost use Rattle.kilim_program.specs.Keeps.{EndsBuiltIn};
+ghost use Rattle.kilim_classes.specs.Keeps.{EndsBuiltIn};
 ghost use Rattle.kilim_top.specs.SmallProgram.{byte_of, is_load, is_construct, is_print, is_return, stands, byte_at, is_constructor_code, print_at, ends, prints_from, is_plain, is_task_id, are_first_two, is_small_class, is_cuttable, takes_nothing, is_plain_method, has_room, is_small_method, is_small_constructor, is_outline, is_length, small_with, small_members, small_parts, small_in};
 ghost use Rattle.kilim_top.specs.SmallFound.{AreBytes, AreBytesOf, CodeIsShort, IsFound};
 
-use kilim_program::{
-    Class, ClassId, Form, Instr, Method, MethodId, Program, Qualifier, Seq, Units,
-};
+use kilim_classes::{Class, ClassId, Form, Instr, Method, MethodId, Program, Qualifier};
+use kilim_units::{Seq, Units};
 use kilim_thread_model::Small;
 use std::alloc::{AllocError, Global};
 

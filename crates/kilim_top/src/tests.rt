@@ -2,7 +2,7 @@
 
 use crate::{kilim, kilim_alone};
 use kilim_outside::{FailedCall, MapFolder, NamedFile, OpenGate, VecSink};
-use kilim_program::Seq;
+use kilim_units::Seq;
 use std::alloc::{AllocError, AllocGlobal, Global};
 use std::process::Abort;
 use std::test::Fail;

@@ -14,7 +14,7 @@ use crate::inputs::read_all;
 use crate::words::{Asked, request};
 use crate::writing::write_all;
 use kilim_outside::{Folder, FolderFault, Gate, SinkFault, SteadyFolder, SteadySink, TextSink};
-use kilim_program::Seq;
+use kilim_units::Seq;
 use std::alloc::Global;
 use std::sync::Wait;
 use std::thread::Threads;

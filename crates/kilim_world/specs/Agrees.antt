@@ -1,11 +1,11 @@
 -- What a world keeps beside its classes, so that names are looked up in maps.
 use Rattle.std.specs.Prelude.{◌≡◌, ℕ, zero, suc, ◌+◌, ◌<◌, ◌==◌, List, [], ◌∷◌, ◌++◌, length, take, sum_by, slice_get, option_map, Option, Some, None, is_some}
 use Rattle.std.specs.List.{list_any}
-use Rattle.kilim_program.specs.declared.class.Form.{Form}
-use Rattle.kilim_program.specs.declared.names.ClassId.{ClassId}
-use Rattle.kilim_program.specs.BuiltIn.{method_id}
-use Rattle.kilim_program.specs.Names.{line_of}
-use Rattle.kilim_program.specs.Program.{Program}
+use Rattle.kilim_classes.specs.declared.class.Form.{Form}
+use Rattle.kilim_classes.specs.declared.names.ClassId.{ClassId}
+use Rattle.kilim_classes.specs.BuiltIn.{method_id}
+use Rattle.kilim_classes.specs.Names.{line_of}
+use Rattle.kilim_classes.specs.Program.{Program}
 use Rattle.kilim_class_world.specs.World.{outline_of, methods_at, is_method, field_id, find_method, find_field}
 use Rattle.kilim_class_world.specs.declared.view.ClassView.{ClassView}
 use Rattle.kilim_inherited.specs.Trees.{Forest}

@@ -1,9 +1,9 @@
 -- The superclass of each class, and which class is above which.
 use Rattle.std.specs.Prelude.{◌≡◌, ℕ, Bool, true, false, List, [], ◌∷◌, length, Option, Some}
-use Rattle.kilim_program.specs.declared.names.ClassId.{ClassId}
-use Rattle.kilim_program.specs.Keeps.{superclass_of}
-use Rattle.kilim_program.specs.Names.{class_at, line_of}
-use Rattle.kilim_program.specs.Program.{Program}
+use Rattle.kilim_classes.specs.declared.names.ClassId.{ClassId}
+use Rattle.kilim_classes.specs.Keeps.{superclass_of}
+use Rattle.kilim_classes.specs.Names.{class_at, line_of}
+use Rattle.kilim_classes.specs.Program.{Program}
 use Rattle.kilim_inherited.specs.declared.entry.Entry.{Entry}
 use Rattle.kilim_inherited.specs.Inherited.{line_in, up_in}
 

@@ -1,12 +1,12 @@
 //! What the classes of a world are.
 
 ghost use Rattle.std.specs.Prelude.{◌≡◌, option_copied};
-ghost use Rattle.kilim_program.specs.Names.{is_task};
-ghost use Rattle.kilim_program.specs.Kinds.{class_kind, kind_of, is_message, is_task_array, field_may_hold};
-ghost use Rattle.kilim_program.specs.Keeps.{superclass_fits, constant_fits};
+ghost use Rattle.kilim_classes.specs.Names.{is_task};
+ghost use Rattle.kilim_classes.specs.Kinds.{class_kind, kind_of, is_message, is_task_array, field_may_hold};
+ghost use Rattle.kilim_classes.specs.Keeps.{superclass_fits, constant_fits};
 
 use crate::world::World;
-use kilim_program::{ClassId, Kind, Ty, Value};
+use kilim_classes::{ClassId, Kind, Ty, Value};
 
 impl World {
     /// Whether a class is `kilim/Task` or a subclass of it (own).

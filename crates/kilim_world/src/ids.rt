@@ -2,12 +2,13 @@
 
 ghost use Rattle.std.specs.Prelude.{◌≡◌, ◌<◌, ◌^◌, List, ℕ, length, if◌then◌else◌, Some, None, option_map, IfOk, OnOk};
 ghost use Rattle.std.specs.Str.{bytes_eq};
-ghost use Rattle.kilim_program.specs.BuiltIn.{class_id};
+ghost use Rattle.kilim_classes.specs.BuiltIn.{class_id};
 ghost use Rattle.kilim_class_world.specs.World.{or_else};
 ghost use Rattle.kilim_world.specs.Ids.{id_in, named_in};
 
 use kilim_class_world::ClassView;
-use kilim_program::{ClassId, NoMemory, Units};
+use kilim_classes::ClassId;
+use kilim_units::{NoMemory, Units};
 use std::alloc::Global;
 use std::collections::BTreeMap;
 

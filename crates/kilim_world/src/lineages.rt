@@ -6,7 +6,8 @@ ghost use Rattle.kilim_world.specs.Agrees.{each_below};
 ghost use Rattle.kilim_world.specs.Superclasses.{own_key};
 
 use kilim_inherited::{Entry, Inherited};
-use kilim_program::{ClassId, NoMemory, Seq};
+use kilim_classes::ClassId;
+use kilim_units::{NoMemory, Seq};
 use std::alloc::Global;
 
 // What a class says: its own number.

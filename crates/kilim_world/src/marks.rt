@@ -2,7 +2,7 @@
 
 ghost use Rattle.std.specs.Prelude.{◌≡◌, ◌<◌, ◌^◌, IfOk, length, map};
 ghost use Rattle.std.specs.List.{list_any};
-ghost use Rattle.kilim_program.specs.BuiltIn.{class_id};
+ghost use Rattle.kilim_classes.specs.BuiltIn.{class_id};
 ghost use Rattle.kilim_inherited.specs.Inherited.{line_in};
 ghost use Rattle.kilim_world.specs.Agrees.{each_below};
 ghost use Rattle.kilim_world.specs.Outlining.{mark_at};
@@ -10,7 +10,8 @@ ghost use Rattle.kilim_world.specs.Superclasses.{mark_entries};
 
 use crate::lines::superclasses_of;
 use kilim_inherited::{Entry, Inherited};
-use kilim_program::{Class, ClassId, NoMemory, Seq};
+use kilim_classes::{Class, ClassId};
+use kilim_units::{NoMemory, Seq};
 use std::alloc::Global;
 
 // What a class says that is marked, or isn't: marks have one key.

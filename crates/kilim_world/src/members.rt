@@ -6,7 +6,7 @@ ghost use Rattle.kilim_world.specs.Agrees.{method_count, field_count, firsts_of,
 ghost use Rattle.kilim_signatures.specs.Index.{positions, places_from};
 
 use kilim_class_world::{ClassView, DeclaredMethod};
-use kilim_program::{NoMemory, Seq};
+use kilim_units::{NoMemory, Seq};
 use kilim_signatures::{Index, Signature};
 use std::alloc::Global;
 

@@ -2,7 +2,7 @@
 
 ghost use Rattle.std.specs.Prelude.{◌≡◌, ◌+◌, ◌<◌, ◌≤◌, ◌^◌, List, ℕ, IfOk, length, slice_get, sum_by, take};
 ghost use Rattle.std.specs.List.{position_from};
-ghost use Rattle.kilim_program.specs.declared.names.ClassId as ids;
+ghost use Rattle.kilim_classes.specs.declared.names.ClassId as ids;
 ghost use Rattle.kilim_class_world.specs.World.{is_method, is_field, methods_at, fields_at};
 ghost use Rattle.kilim_nearest.specs.Known.{Tells};
 ghost use Rattle.kilim_nearest.specs.Nearest.{said_by, says};
@@ -10,7 +10,8 @@ ghost use Rattle.kilim_world.specs.Agrees.{method_count, field_count, placed};
 
 use kilim_class_world::{ClassView, DeclaredField, DeclaredMethod};
 use kilim_nearest::{Nearest, Said};
-use kilim_program::{ClassId, NoMemory, Seq};
+use kilim_classes::ClassId;
+use kilim_units::{NoMemory, Seq};
 use kilim_signatures::Signature;
 use std::alloc::Global;
 

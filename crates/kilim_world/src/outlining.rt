@@ -9,7 +9,8 @@ use crate::ids::Ids;
 use crate::outline::Outline;
 use crate::tasks::{message_marks, task_marks};
 use kilim_class_world::ClassView;
-use kilim_program::{Class, ClassId, Form, NoMemory, Seq, Units};
+use kilim_classes::{Class, ClassId, Form};
+use kilim_units::{NoMemory, Seq, Units};
 use std::alloc::Global;
 
 // The class of a name, where there is a name.

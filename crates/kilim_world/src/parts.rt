@@ -11,7 +11,8 @@ use crate::outline::Outline;
 use kilim_class_world::ClassView;
 use kilim_inherited::Inherited;
 use kilim_nearest::Nearest;
-use kilim_program::{ClassId, Form, NoMemory, Seq};
+use kilim_classes::{ClassId, Form};
+use kilim_units::{NoMemory, Seq};
 use kilim_signatures::Index;
 use std::alloc::Global;
 

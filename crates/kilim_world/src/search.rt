@@ -1,11 +1,12 @@
 //! Members by their places and numbers.
 
 ghost use Rattle.std.specs.Prelude.{◌≡◌, ◌<◌, ◌-◌, length, min, option_map, slice_index};
-ghost use Rattle.kilim_program.specs.BuiltIn.{method_id};
+ghost use Rattle.kilim_classes.specs.BuiltIn.{method_id};
 ghost use Rattle.kilim_class_world.specs.World.{field_id};
 ghost use Rattle.kilim_world.specs.Agrees.{indexed};
 
-use kilim_program::{ClassId, FieldId, MethodId, Seq};
+use kilim_classes::{ClassId, FieldId, MethodId};
+use kilim_units::Seq;
 use kilim_signatures::{Index, Signature};
 
 /// The places of a member among those of its class, none where it has none.

@@ -1,13 +1,14 @@
 //! The classes as they are declared.
 
 ghost use Rattle.std.specs.Prelude.{◌≡◌, ◌++◌, IfOk, map};
-ghost use Rattle.kilim_program.specs.BuiltIn.{built_in_classes_in};
+ghost use Rattle.kilim_classes.specs.BuiltIn.{built_in_classes_in};
 ghost use Rattle.kilim_class_world.specs.World.{built_ins, view_of_built_in, view_of_file};
 
 use kilim_class_views::{built_in_views, view_of_file};
 use kilim_class_world::ClassView;
 use kilim_classfile::ClassFile;
-use kilim_program::{Form, NoMemory, Seq};
+use kilim_classes::Form;
+use kilim_units::{NoMemory, Seq};
 use std::alloc::Global;
 
 // The classes of files, in their order.

@@ -9,7 +9,7 @@ use Rattle.std.proofs.lemmas.List.Folds.{list_any-append, flat_map-map}
 use Rattle.std.proofs.lemmas.Slice.Eq.{bytes_eq-Decides}
 use Rattle.std.proofs.lemmas.Bool.Decides.{same_from_decides}
 use Rattle.kilim_descriptors.specs.declared.types.FieldText.{FieldText}
-use Rattle.kilim_program.specs.declared.ty.Qualifier.{Qualifier}
+use Rattle.kilim_classes.specs.declared.ty.Qualifier.{Qualifier}
 use Rattle.kilim_class_world.specs.World.{World}
 use Rattle.kilim_class_world.specs.Qualified.{names_one, first_types, behind_first, param_by, params_by}
 use Rattle.kilim_world_types.specs.Params.{types_at, all_at, params_from}

@@ -6,7 +6,8 @@ ghost use Rattle.std.specs.Str.{bytes_eq};
 ghost use Rattle.kilim_class_world.specs.Qualified.{names_one, annotated_as};
 ghost use Rattle.kilim_world_types.specs.Params.{first_mark, types_at, all_at};
 
-use kilim_program::{Qualifier, Seq, Units};
+use kilim_classes::Qualifier;
+use kilim_units::{Seq, Units};
 
 // The qualifier of the first of three marks that is there.
 fn first_mark(free: bool, cuttable: bool, safe: bool, default: Qualifier) -> Qualifier

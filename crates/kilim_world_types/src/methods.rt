@@ -3,14 +3,15 @@
 ghost use Rattle.std.specs.Prelude.{◌≡◌, IfOk, option_copied};
 ghost use Rattle.kilim_class_world.specs.Types.{method_text, type_in};
 ghost use Rattle.kilim_class_world.specs.Qualified.{qualified, has_fiber, is_execute, default_receiver, is_constructor_name, receiver_by, is_tree, param_by, params_by, params_of};
-ghost use Rattle.kilim_program.specs.Kinds.{is_tree_kind};
+ghost use Rattle.kilim_classes.specs.Kinds.{is_tree_kind};
 ghost use Rattle.kilim_world_types.specs.Params.{all_at, params_from};
 
 use crate::marks::{annotated_as, annotated_at};
 use crate::types::type_in;
 use kilim_class_world::{DeclaredMethod, Marks, Qualified};
 use kilim_descriptors::{FieldText, MethodText};
-use kilim_program::{ClassId, Form, Kind, NoMemory, Qualifier, Seq, Units};
+use kilim_classes::{ClassId, Form, Kind, Qualifier};
+use kilim_units::{NoMemory, Seq, Units};
 use kilim_world::World;
 use std::alloc::Global;
 

@@ -7,7 +7,8 @@ ghost use Rattle.kilim_class_world.specs.Types.{base_in, type_in, type_named, cl
 
 use kilim_class_world::Named;
 use kilim_descriptors::{BaseText, FieldText};
-use kilim_program::{Base, ClassId, Ty, Units};
+use kilim_classes::{Base, ClassId, Ty};
+use kilim_units::Units;
 use kilim_world::World;
 
 // The type of a class, where it is there.

@@ -1,4 +1,4 @@
-use Rattle.kilim_program.specs.Names.{method_at}
+use Rattle.kilim_classes.specs.Names.{method_at}
 use Rattle.kilim_class_world.specs.World.{declared_built_in}
 use Rattle.kilim_class_views.proofs.Found.{found_step}
 use Rattle.kilim_class_views.proofs.built_in.declared_methods.Goals as goal

@@ -1,5 +1,5 @@
 use Rattle.std.proofs.Common.{◌≡◌, ◌++◌}
-use Rattle.kilim_program.specs.Names.{base_descriptor, array_descriptor}
+use Rattle.kilim_classes.specs.Names.{base_descriptor, array_descriptor}
 use Rattle.kilim_class_views.proofs.built_in.push_type.Given as goal
 
 abbrev pub invariant-loop-left : goal.invariant-loop-left

@@ -1,5 +1,5 @@
 use Rattle.std.proofs.Common.{◌≡◌, true, is_some, List, Option, ℕ, sym, subst}
-use Rattle.kilim_program.specs.declared.names.ClassId.{ClassId}
+use Rattle.kilim_classes.specs.declared.names.ClassId.{ClassId}
 use Rattle.kilim_inherited.specs.Fronts.{IsFront, said_onto}
 use Rattle.kilim_inherited.specs.Roots.{root_at, Keeps, Sound}
 use Rattle.kilim_inherited.specs.Trees.{Makes, Has, Fits, value_at, key_levels}

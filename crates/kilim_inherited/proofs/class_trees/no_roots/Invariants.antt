@@ -1,5 +1,5 @@
 use Rattle.std.proofs.Common.{◌≡◌, None, length}
-use Rattle.kilim_program.specs.declared.names.ClassId.{ClassId}
+use Rattle.kilim_classes.specs.declared.names.ClassId.{ClassId}
 use Rattle.kilim_inherited.specs.Roots.{root_at}
 use Rattle.kilim_inherited.proofs.class_trees.no_roots.Given as goal
 

@@ -1,5 +1,5 @@
 use Rattle.std.proofs.Common.{ℕ, ◌++◌, length, ap, ◌∙◌, arith}
-use Rattle.kilim_program.specs.BuiltIn.{built_in_classes_in}
+use Rattle.kilim_classes.specs.BuiltIn.{built_in_classes_in}
 use Rattle.kilim_link.proofs.Whole.{classes_are_files, methods_are_few, is_linked}
 use Rattle.kilim_link.proofs.linking.program_of.Goals as goal
 

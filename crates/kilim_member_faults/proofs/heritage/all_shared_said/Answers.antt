@@ -1,5 +1,5 @@
 use Rattle.std.proofs.Common.{◌≡◌, ◌+◌, ◌++◌, List, length, get_or, drop, ap, ◌∙◌, arith}
-use Rattle.kilim_program.specs.BuiltIn.{class_id}
+use Rattle.kilim_classes.specs.BuiltIn.{class_id}
 use Rattle.kilim_class_world.specs.declared.view.DeclaredMethod.{DeclaredMethod}
 use Rattle.kilim_nearest.specs.declared.said.Said.{Said}
 use Rattle.kilim_member_faults.specs.Heritage.{numbered, places_in, all_numbered}

@@ -1,6 +1,6 @@
 use Rattle.std.proofs.Common.{◌≡◌, ◌-◌, ◌≤◌, length}
 use Rattle.std.specs.Prelude.{is_some}
-use Rattle.kilim_program.specs.BuiltIn.{class_id}
+use Rattle.kilim_classes.specs.BuiltIn.{class_id}
 use Rattle.kilim_inherited.specs.Roots.{inherits}
 use Rattle.kilim_world.specs.Agrees.{each_below}
 use Rattle.kilim_world.proofs.marks.inherited_marks.Given as goal

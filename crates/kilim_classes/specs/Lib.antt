@@ -1,0 +1,9 @@
+pub mod Program
+pub mod Names
+pub mod BuiltIn
+pub mod Kinds
+pub mod Same
+pub mod Lengths
+pub mod Keeps
+pub mod Examples
+pub mod Broken
