@@ -1,6 +1,8 @@
 pub mod Cause
 pub mod Machine
 pub mod Members
+pub mod Objects
+pub mod Shapes
 pub mod Natives
 pub mod Effect
 pub mod Does

@@ -11,6 +11,7 @@ use Rattle.kilim_classes.specs.declared.ty.Ty.{Ty}
 use Rattle.kilim_classes.specs.declared.class.Method.{Method}
 use Rattle.kilim_classes.specs.declared.class.Class.{Class}
 use Rattle.kilim_classes.specs.Program.{Program}
+use Rattle.kilim_classes.specs.Same.{selected}
 use Rattle.kilim_classes.specs.Names.{◌>>=◌, class_at, method_at, field_of, line_of, methods_of, fields_of, first_that, is_empty, class_name, is_task, base_descriptor, descriptor}
 
 abbrev pub is_instance_field : Program → FieldId → Bool
@@ -28,12 +29,13 @@ is_plain_method p name m = elim (method_at p m) [ None ↦ false | Some method �
 abbrev pub constructor_of : Program → ClassId → Option MethodId
 constructor_of p c = first_that (is_plain_method p (codes "<init>")) (methods_of p c)
 
-abbrev pub is_private : Program → MethodId → Bool
-is_private p m = elim (method_at p m) [ None ↦ false | Some method ↦ method.is_private ]
+-- the built-in `execute`, of `kilim/Task`: in woven form it takes a fiber
+abbrev pub is_task_execute : Method → Bool
+is_task_execute method = method.built_in && bytes_eq method.name (codes "execute")
 
--- the method `execute()V` of an object of that class: the first one from its class up that isn't private
+-- the method `execute` that objects of that class have: the one that a call of the built-in one selects
 abbrev pub execute_of : Program → ClassId → Option MethodId
-execute_of p c = first_that (λ m. is_plain_method p (codes "execute") m && not (is_private p m)) (flat_map (methods_of p) (line_of p c))
+execute_of p c = first_that is_task_execute p.methods >>= selected p c
 
 abbrev pub is_own_constructor : Option Method → Bool
 is_own_constructor None = false
@@ -44,7 +46,7 @@ is_concrete None = false
 is_concrete (Some class) = not class.is_abstract
 
 -- A main class is fit where it is a class of the files, a subclass of `kilim/Task`, not abstract, and declares
--- a constructor without arguments.
+-- a constructor without arguments that isn't static.
 abbrev pub is_fit_main : Program → ClassId → Bool
 is_fit_main p c = is_concrete (class_at p c) && (is_task p c && is_own_constructor (constructor_of p c >>= method_at p))
 

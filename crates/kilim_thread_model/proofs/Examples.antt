@@ -1,7 +1,6 @@
 -- A run in which task 0 alone acts has one journal; the runs of the program that prints 7.
 use Rattle.std.proofs.Common.{◌≡◌, ℕ, zero, suc, Bool, false, pos, List, [], ◌∷◌, ◌++◌, Option, Some, None, refl, sym, ap, ◌∙◌, subst, arith}
 use Rattle.std.specs.Prelude.{slice_get}
-use Rattle.std.proofs.lemmas.List.{append_cancel_left}
 use Rattle.kilim_program.specs.declared.cause.EndCause.{EndCause}
 use Rattle.kilim_program.specs.declared.cause.EndCause.TheVariants.{Done, Spent}
 use Rattle.kilim_program.specs.declared.value.Token.TheVariants as token
@@ -12,6 +11,7 @@ use Rattle.kilim_journal.specs.declared.entry.Entry.{Entry}
 use Rattle.kilim_program.specs.Does.{does}
 use Rattle.kilim_program.specs.Moves.{moves}
 use Rattle.kilim_thread_model.specs.State.{Setting, Ended, State, first_state}
+use Rattle.kilim_thread_model.specs.Lone.{next_move}
 use Rattle.kilim_thread_model.specs.Turn.{moved, quiet, thread_moved}
 use Rattle.kilim_thread_model.specs.Runs.{acted_within, unless_acted, before_action, Replays, settled, all_at_rest, waits_from, AtRest, Whole}
 use Rattle.kilim_thread_model.specs.Small.{done_entry}
@@ -33,7 +33,7 @@ unfolding moved
 absent set s t e = still set s t (ap (thread_moved set s t) e)
 
 ended : (set : Setting) (s : State) (t : ℕ) (cause : EndCause) → slice_get s.threads t ≡ Some (Ended cause) → (n : ℕ) → acted_within set n s t ≡ None
-unfolding moved
+unfolding moved next_move
 ended set s t cause e = still set s t (ap (thread_moved set s t) e)
 
 -- right before its next action a thread makes no more moves without it
@@ -46,13 +46,12 @@ stays set s t act e (suc n) = ap (λ (a : Option Act). unless_acted s a (before_
 
 -- all threads are at rest
 abbrev rests : Setting → State → Bool
-rests set s = all_at_rest set s s.threads
+rests set s = all_at_rest set s 0 s.threads
 
 -- only task 0 acts next: it makes this entry and comes to that state, and until then it doesn't wait
 record Acts (set : Setting) (s : State) (e : Entry) (next : State) : Type 0 where
   enough : ℕ
-  does_act : acted_within set enough s 0 ≡ Some next
-  is_noted : next.journal ≡ s.journal ++ e ∷ []
+  does_act : acted_within set enough s 0 ≡ Some (e.act, next)
   no_others : (t n : ℕ) → acted_within set n s (suc t) ≡ None
   is_busy : (n : ℕ) → rests set (settled set n s) ≡ false
 
@@ -73,25 +72,31 @@ unfolding Only
 stops_only set s stops [] waits last r rest = let here = at_rest_at set s last waits r rest in here.waiting ∙ stops.none_waits here.moves
 stops_only set s stops (e ∷ es) waits last r rest = absurd (cc (r.2, stops.none_acts e.task r.0))
 
--- the state after the next action is that one, whoever's it is said to be
-next_is : (set : Setting) (s next mid : State) (e : Entry) (t n : ℕ) → Acts set s e next → acted_within set n s t ≡ Some mid → next ≡ mid
-next_is set s next mid e zero n acts is = same_action set acts.enough n s next mid 0 acts.does_act is
-next_is set s next mid e (suc t) n acts is = absurd (cc (is, acts.no_others t n))
+abbrev action : Act → State → Act × State
+action act s = (act, s)
 
--- and so is its entry
-same_entry : (set : Setting) (s next mid : State) (e e' : Entry) → Acts set s e next → next ≡ mid → mid.journal ≡ s.journal ++ e' ∷ [] → e' ≡ e
-same_entry set s next mid e e' acts same is-noted =
-    let both : s.journal ++ e' ∷ [] ≡ s.journal ++ e ∷ [] = cc (acts.is_noted) in cc (append_cancel_left s.journal (e' ∷ []) (e ∷ []) both)
+-- the next action and the state after it are those, whoever's it is said to be
+next_is : (set : Setting) (s next mid : State) (e : Entry) (act : Act) (t n : ℕ) → Acts set s e next → acted_within set n s t ≡ Some (act, mid) → action e.act next ≡ action act mid
+next_is set s next mid e act zero n acts is = same_action set acts.enough n s (action e.act next) (action act mid) 0 acts.does_act is
+next_is set s next mid e act (suc t) n acts is = absurd (cc (is, acts.no_others t n))
 
-acts_only : (set : Setting) (s next : State) (e : Entry) (es : List Entry) → Acts set s e next → Only set next es → Only set s (e ∷ es)
+-- and the task is the one that acts
+same_task : (set : Setting) (s next mid : State) (e : Entry) (act : Act) (t n : ℕ) → Acts set s e next → acted_within set n s t ≡ Some (act, mid) → t ≡ 0
+same_task set s next mid e act zero n acts is = refl
+same_task set s next mid e act (suc t) n acts is = absurd (cc (is, acts.no_others t n))
+
+acts_only : (set : Setting) (s next : State) (e : Entry) (es : List Entry) → e.task ≡ 0 → Acts set s e next → Only set next es → Only set s (e ∷ es)
 unfolding Only
-acts_only set s next e es acts only [] waits last r rest =
+acts_only set s next e es first acts only [] waits last r rest =
     let here = at_rest_at set s last waits r rest in absurd (cc (here.rest, acts.is_busy here.moves))
-acts_only set s next e es acts only (e' ∷ es') waits last r rest =
-    let same = next_is set s next r.1 e e'.task r.0 acts r.2 in
+acts_only set s next e es first acts only (e' ∷ es') waits last r rest =
+    let same = next_is set s next r.1 e e'.act e'.task r.0 acts r.2 in
+    let task = same_task set s next r.1 e e'.act e'.task r.0 acts r.2 in
     let P : State → Type 0 = λ (u : State). Replays set u es' last in
-    let others = only es' waits last (subst P (sym same) r.4) rest in
-    cc (same_entry set s next r.1 e e' acts same r.3)
+    let others = only es' waits last (subst P (sym (ap (λ (x : Act × State). x.1) same)) r.3) rest in
+    let act : e'.act ≡ e.act = sym (ap (λ (x : Act × State). x.0) same) in
+    let entry : e' ≡ e = ap (λ (k : ℕ). record { task = k; act = e'.act }) (task ∙ sym first) ∙ ap (λ (a : Act). record { task = e.task; act = a }) act in
+    cc
 
 whole_only : (set : Setting) (journal others : List Entry) → Only set (first_state set) others → Whole set journal → journal ≡ others
 unfolding Only
@@ -110,6 +115,7 @@ abbrev over : ℕ → EndCause → State
 over steps cause = record (printed steps) { threads = Ended cause ∷ []; journal = print_seven ∷ record { task = 0; act = End cause } ∷ [] }
 
 over_stops : (set : Setting) (steps : ℕ) (cause : EndCause) → Stops set (over steps cause)
+unfolding next_move
 over_stops set steps cause = record {
   none_acts = λ t. elim t as (λ (k : ℕ). (n : ℕ) → acted_within set n (over steps cause) k ≡ None) [ zero ↦ ended set (over steps cause) 0 cause refl | suc t' ↦ absent set (over steps cause) (suc t') refl ];
   none_waits = λ n. ap (λ (u : State). waits_from set u 0 u.threads) (ended_settles set n (over steps cause) 0 cause refl);
@@ -117,7 +123,7 @@ over_stops set steps cause = record {
 
 -- the constructor, and the push of the number
 busy_first : (n : ℕ) → rests seven_setting (settled seven_setting n (first_state seven_setting)) ≡ false
-unfolding moved moves does before_action
+unfolding moved next_move moves does before_action
 busy_first zero = refl
 busy_first (suc zero) = refl
 busy_first (suc (suc zero)) = refl
@@ -125,7 +131,7 @@ busy_first (suc (suc (suc zero))) = refl
 busy_first (suc (suc (suc (suc n)))) = ap (rests seven_setting) (stays seven_setting (asking 10) 0 (Print (token.Int (pos 7) ∷ [])) refl n)
 
 busy_short : (n : ℕ) → rests short_setting (settled short_setting n (first_state short_setting)) ≡ false
-unfolding moved moves does before_action
+unfolding moved next_move moves does before_action
 busy_short zero = refl
 busy_short (suc zero) = refl
 busy_short (suc (suc zero)) = refl
@@ -133,62 +139,58 @@ busy_short (suc (suc (suc zero))) = refl
 busy_short (suc (suc (suc (suc n)))) = ap (rests short_setting) (stays short_setting (asking 5) 0 (Print (token.Int (pos 7) ∷ [])) refl n)
 
 seven_prints : Acts seven_setting (first_state seven_setting) print_seven (printed 10)
-unfolding acted_within moved moves does
+unfolding acted_within moved next_move moves does
 seven_prints = record {
   enough = 5;
   does_act = refl;
-  is_noted = refl;
   no_others = λ t. absent seven_setting (first_state seven_setting) (suc t) refl;
   is_busy = busy_first;
 }
 
 short_prints : Acts short_setting (first_state short_setting) print_seven (printed 5)
-unfolding acted_within moved moves does
+unfolding acted_within moved next_move moves does
 short_prints = record {
   enough = 5;
   does_act = refl;
-  is_noted = refl;
   no_others = λ t. absent short_setting (first_state short_setting) (suc t) refl;
   is_busy = busy_short;
 }
 
 seven_ends : Acts seven_setting (printed 10) done_entry (over 10 Done)
-unfolding acted_within moved moves does
+unfolding acted_within moved next_move moves does
 seven_ends = record {
   enough = 1;
   does_act = refl;
-  is_noted = refl;
   no_others = λ t. absent seven_setting (printed 10) (suc t) refl;
   is_busy = λ n. ap (rests seven_setting) (stays seven_setting (printed 10) 0 (End Done) refl n);
 }
 
 short_ends : Acts short_setting (printed 5) spent_entry (over 5 Spent)
-unfolding acted_within moved moves does
+unfolding acted_within moved next_move moves does
 short_ends = record {
   enough = 1;
   does_act = refl;
-  is_noted = refl;
   no_others = λ t. absent short_setting (printed 5) (suc t) refl;
   is_busy = λ n. ap (rests short_setting) (stays short_setting (printed 5) 0 (End Spent) refl n);
 }
 
 only_seven : (journal : List Entry) → Whole seven_setting journal → journal ≡ print_seven ∷ done_entry ∷ []
 only_seven journal =
-    whole_only seven_setting journal _ (acts_only _ _ _ _ _ seven_prints (acts_only _ _ _ _ _ seven_ends (stops_only _ _ (over_stops seven_setting 10 Done))))
+    whole_only seven_setting journal _ (acts_only _ _ _ _ _ refl seven_prints (acts_only _ _ _ _ _ refl seven_ends (stops_only _ _ (over_stops seven_setting 10 Done))))
 
 only_short : (journal : List Entry) → Whole short_setting journal → journal ≡ print_seven ∷ spent_entry ∷ []
 only_short journal =
-    whole_only short_setting journal _ (acts_only _ _ _ _ _ short_prints (acts_only _ _ _ _ _ short_ends (stops_only _ _ (over_stops short_setting 5 Spent))))
+    whole_only short_setting journal _ (acts_only _ _ _ _ _ refl short_prints (acts_only _ _ _ _ _ refl short_ends (stops_only _ _ (over_stops short_setting 5 Spent))))
 
 short_is_whole : Whole short_setting (print_seven ∷ spent_entry ∷ [])
-unfolding before_action short_prints short_ends
+unfolding before_action next_move short_prints short_ends
 short_is_whole = record {
   fit = refl;
   acts = print_seven ∷ spent_entry ∷ [];
   waits = [];
   parts = refl;
   last = over 5 Spent;
-  replays = (5, printed 5, short_prints.does_act, refl, (1, over 5 Spent, short_ends.does_act, refl, refl));
+  replays = (5, printed 5, short_prints.does_act, (1, over 5 Spent, short_ends.does_act, refl));
   at_rest = record { moves = 0; rest = refl; waiting = refl };
 }
 

@@ -18,7 +18,9 @@ use Rattle.kilim_program.specs.declared.value.Token.TheVariants as token
 use Rattle.kilim_classes.specs.BuiltIn.{class_id, method_id}
 use Rattle.kilim_program.specs.Does.{does}
 use Rattle.kilim_classes.specs.Lengths.{fetched, first_place}
-use Rattle.kilim_thread_model.specs.State.{is_fit, Setting, Alive, Ended, State, new_object, first_state}
+use Rattle.kilim_program.specs.Objects.{new_object}
+use Rattle.kilim_thread_model.specs.State.{is_fit, Setting, Alive, Ended, State, empty_mailbox, first_state}
+use Rattle.kilim_thread_model.specs.Lone.{next_move}
 use Rattle.kilim_thread_model.specs.Turn.{moved, quiet, acted}
 use Rattle.kilim_thread_model.specs.Runs.{acted_within, before_action, Replays, AtRest, Whole}
 use Rattle.kilim_thread_model.specs.Small.{Small, print_int, print_code, small_constructor, small_execute, small_program, small_setting, print_entry, done_entry, small_journal}
@@ -81,7 +83,7 @@ module _ (s : Small) (steps : ℕ) where
     heap = insert empty 0 (new_object (small_program s) (class_id 0));
     next = 1;
     threads = Alive (record { method = method_id method; place = place; locals = locals; stack = stack } ∷ []) done boxes ∷ [];
-    mailboxes = λ box. record { puts = 0; queue = [] };
+    mailboxes = λ box. empty_mailbox;
     journal = journal;
     kept = kept;
   }
@@ -99,7 +101,7 @@ module _ (s : Small) (steps : ℕ) where
     heap = insert empty 0 (new_object (small_program s) (class_id 0));
     next = 1;
     threads = Ended Done ∷ [];
-    mailboxes = λ box. record { puts = 0; queue = [] };
+    mailboxes = λ box. empty_mailbox;
     journal = journal;
     kept = None;
   }
@@ -150,13 +152,13 @@ module _ (s : Small) (steps : ℕ) where
 
   -- the next line
   prints_next : (front ns : List ℤ) (n : ℤ) → s.prints ≡ front ++ n ∷ ns → (place done : ℕ) (journal : List Entry) → place ≡ 5 * length front → done + 1 < steps →
-      acted_within set 2 (running place done [] journal) 0 ≡ Some (running (place + 5) (done + 1 + 1) [] (journal ++ print_entry n ∷ []))
+      acted_within set 2 (running place done [] journal) 0 ≡ Some (Print (token.Int n ∷ []), running (place + 5) (done + 1 + 1) [] (journal ++ print_entry n ∷ []))
   prints_next front ns n parts place done journal at left =
       quietly set 1 (running place done [] journal) (running (place + 2) (done + 1) (Int n ∷ []) journal) 0 (pushes front ns n parts place done journal at (omega arith))
       ∙ at_once set 0 (running (place + 2) (done + 1) (Int n ∷ []) journal) _ 0 (Print (token.Int n ∷ [])) (prints front ns n parts place (done + 1) journal at left)
 
   returns_next : (front : List ℤ) → s.prints ≡ front ++ [] → (place done : ℕ) (journal : List Entry) → place ≡ 5 * length front → done < steps →
-      acted_within set 1 (running place done [] journal) 0 ≡ Some (final (journal ++ done_entry ∷ []))
+      acted_within set 1 (running place done [] journal) 0 ≡ Some (End Done, final (journal ++ done_entry ∷ []))
   returns_next front parts place done journal at left = at_once set 0 (running place done [] journal) _ 0 (End Done) (returns front parts place done journal at left)
 
   -- what is left of the journal
@@ -174,21 +176,21 @@ module _ (s : Small) (steps : ℕ) where
       Ends (running place done [] journal) (lines_of ns)
   unfolding Ends
   replays_rest front [] parts place done journal at left =
-      (journal ++ done_entry ∷ [], (1, final (journal ++ done_entry ∷ []), returns_next front parts place done journal at (omega arith), refl, refl))
+      (journal ++ done_entry ∷ [], (1, final (journal ++ done_entry ∷ []), returns_next front parts place done journal at (omega arith), refl))
   replays_rest front (n ∷ ns) parts place done journal at left =
       let first = prints_next front ns n parts place done journal at (omega arith) in
       let len = length_push front n in
       let rest = replays_rest (front ++ n ∷ []) ns (parts ∙ sym (append_assoc front (n ∷ []) ns)) (place + 5) (done + 1 + 1) (journal ++ print_entry n ∷ []) (omega arith) (omega arith) in
-      (rest.0, (2, running (place + 5) (done + 1 + 1) [] (journal ++ print_entry n ∷ []), first, refl, rest.1))
+      (rest.0, (2, running (place + 5) (done + 1 + 1) [] (journal ++ print_entry n ∷ []), first, rest.1))
 
   -- the first line comes behind the constructor
   replays_all : (ns : List ℤ) → s.prints ≡ ns → 2 * length ns + 4 ≤ steps → Ends (first_state set) (lines_of ns)
   unfolding Ends
   replays_all [] parts left =
-      (done_entry ∷ [], (4, final (done_entry ∷ []), makes 1 (omega arith) ∙ returns_next [] parts 0 3 [] refl (omega arith), refl, refl))
+      (done_entry ∷ [], (4, final (done_entry ∷ []), makes 1 (omega arith) ∙ returns_next [] parts 0 3 [] refl (omega arith), refl))
   replays_all (n ∷ ns) parts left =
       let rest = replays_rest (n ∷ []) ns parts 5 5 (print_entry n ∷ []) refl (omega arith) in
-      (rest.0, (5, running 5 5 [] (print_entry n ∷ []), makes 2 (omega arith) ∙ prints_next [] ns n parts 0 3 [] refl (omega arith), refl, rest.1))
+      (rest.0, (5, running 5 5 [] (print_entry n ∷ []), makes 2 (omega arith) ∙ prints_next [] ns n parts 0 3 [] refl (omega arith), rest.1))
 
   or_true : (b c : Bool) → c ≡ true → (b || c) ≡ true
   or_true true c e = refl
@@ -199,7 +201,7 @@ module _ (s : Small) (steps : ℕ) where
   fits = ap (λ (b : Bool). b && is_own_constructor (constructor_of set.program set.main >>= method_at set.program)) (or_true (bytes_eq s.name (codes "kilim/Task")) _ refl)
 
   pub is_whole : 2 * length s.prints + 4 ≤ steps → Whole set (small_journal s)
-  unfolding Ends before_action
+  unfolding Ends before_action next_move
   is_whole left =
       let all = replays_all s.prints refl left in
       record {

@@ -1,5 +1,5 @@
 pub mod State
-pub mod Shapes
+pub mod Lone
 pub mod Turn
 pub mod Runs
 pub mod Small

@@ -1,16 +1,12 @@
 -- Runs: in any order, and in that of a journal; and which journals are those of whole runs.
-use Rattle.std.specs.Prelude.{◌≡◌, ℕ, zero, suc, ◌+◌, Bool, true, false, ◌&&◌, nat_lt, if◌then◌else◌, List, [], ◌∷◌, ◌++◌, Option, Some, None, is_some}
+use Rattle.std.specs.Prelude.{◌≡◌, ℕ, zero, suc, ◌+◌, Bool, true, false, ◌&&◌, List, [], ◌∷◌, ◌++◌, Option, Some, None, is_some}
 use Rattle.kilim_classes.specs.declared.names.BoxName.{BoxName}
-use Rattle.kilim_classes.specs.declared.value.Value.{Value}
-use Rattle.kilim_classes.specs.declared.value.Value.TheVariants.{Box}
 use Rattle.kilim_journal.specs.declared.entry.Act.{Act}
 use Rattle.kilim_journal.specs.declared.entry.Act.TheVariants.{Wait}
 use Rattle.kilim_journal.specs.declared.entry.Entry.{Entry}
-use Rattle.kilim_program.specs.Natives.{Native, native_of}
-use Rattle.kilim_program.specs.Natives as native
-use Rattle.kilim_program.specs.Moves.{Move, Asks, moves}
 use Rattle.kilim_thread_model.specs.State.{Setting, is_fit, Thread, Alive, Ended, State, first_state, noted}
-use Rattle.kilim_thread_model.specs.Turn.{Moved, moved, turn}
+use Rattle.kilim_thread_model.specs.Lone.{next_move, get_at}
+use Rattle.kilim_thread_model.specs.Turn.{lone_of, moved, turn}
 
 -- ---- any order
 
@@ -24,19 +20,19 @@ played setting schedule = played_from setting (first_state setting) schedule
 
 -- ---- up to a thread's next action
 
--- The thread moves until it has acted: the state right after its next action, where that comes within so many
--- moves. Whatever is enough gives the same state (the law `one_next_action`).
-abbrev pub acted_or : State → ℕ → Option Act → Option State → Option State
+-- The thread moves until it has acted: its next action, and the state right after it, where that comes within so many
+-- moves. Whatever is enough gives the same (the law `one_next_action`).
+abbrev pub acted_or : State → ℕ → Option Act → Option (Act × State) → Option (Act × State)
 acted_or s t None later = later
-acted_or s t (Some act) later = Some (noted s t act)
+acted_or s t (Some act) later = Some (act, noted s t act)
 
-unfoldable pub acted_within : Setting → ℕ → State → ℕ → Option State
+unfoldable pub acted_within : Setting → ℕ → State → ℕ → Option (Act × State)
 acted_within setting zero s t = None
 acted_within setting (suc n) s t = acted_or (moved setting s t).state t (moved setting s t).act (acted_within setting n (moved setting s t).state t)
 
--- Two numbers of moves that are enough give one state.
+-- Two numbers of moves that are enough give one action and one state.
 abbrev pub OneNextAction : Type 0
-OneNextAction = (setting : Setting) (m n : ℕ) (s a b : State) (t : ℕ) → acted_within setting m s t ≡ Some a → acted_within setting n s t ≡ Some b → a ≡ b
+OneNextAction = (setting : Setting) (m n : ℕ) (s : State) (a b : Act × State) (t : ℕ) → acted_within setting m s t ≡ Some a → acted_within setting n s t ≡ Some b → a ≡ b
 
 -- The thread makes at most so many moves, but not its next action.
 abbrev pub unless_acted : State → Option Act → State → State
@@ -49,11 +45,10 @@ before_action setting (suc n) s t = unless_acted s (moved setting s t).act (befo
 
 -- ---- in the order of a journal
 
--- For each entry in order, the entry's task moves until it makes its next action, which is that entry.
+-- For each entry in order, the entry's task moves until it makes its next action, which is that of the entry.
 abbrev pub Replays : Setting → State → List Entry → State → Type 0
 Replays setting s [] last = s ≡ last
-Replays setting s (e ∷ es) last =
-    (n : ℕ) × (mid : State) × (acted_within setting n s e.task ≡ Some mid) × (mid.journal ≡ s.journal ++ e ∷ []) × Replays setting mid es last
+Replays setting s (e ∷ es) last = (n : ℕ) × (mid : State) × (acted_within setting n s e.task ≡ Some (e.act, mid)) × Replays setting mid es last
 
 -- No journal leads to two states, however many moves are granted on the way.
 abbrev pub OneReplay : Type 0
@@ -69,16 +64,7 @@ settled_from setting n s t (thread ∷ threads) = settled_from setting n (before
 abbrev pub settled : Setting → ℕ → State → State
 settled setting n s = settled_from setting n s 0 s.threads
 
--- the mailbox at whose `get` a thread stands
-abbrev pub get_of : List Value → Option Native → Option BoxName
-get_of (Box box ∷ []) (Some native.Get) = Some box
-get_of args n = None
-
-abbrev pub asked_box : Setting → Move → Option BoxName
-asked_box setting (Asks m args frames heap) = get_of args (native_of setting.program m)
-asked_box setting m = None
-
-abbrev pub where_empty : List (ℕ × ℕ) → BoxName → Option BoxName
+abbrev pub where_empty : {A : Type 0} → List A → BoxName → Option BoxName
 where_empty [] box = Some box
 where_empty (first ∷ rest) box = None
 
@@ -87,20 +73,17 @@ if_empty s None = None
 if_empty s (Some box) = where_empty (s.mailboxes box).queue box
 
 -- the empty mailbox at which a thread waits: it stands at its `get`, and has instructions left
-abbrev pub waits_at : Setting → State → Thread → Option BoxName
-waits_at setting s (Ended cause) = None
-waits_at setting s (Alive [] done boxes) = None
-waits_at setting s (Alive (top ∷ below) done boxes) =
-    if nat_lt done setting.limits.steps then if_empty s (asked_box setting (moves setting.program top below s.heap)) else None
+abbrev pub waits_at : Setting → State → ℕ → Thread → Option BoxName
+waits_at setting s t thread = if_empty s (get_at (next_move setting t (lone_of s t thread)))
 
 -- a thread has ended or waits
-abbrev pub is_at_rest : Setting → State → Thread → Bool
-is_at_rest setting s (Ended cause) = true
-is_at_rest setting s (Alive frames done boxes) = is_some (waits_at setting s (Alive frames done boxes))
+abbrev pub is_at_rest : Setting → State → ℕ → Thread → Bool
+is_at_rest setting s t (Ended cause) = true
+is_at_rest setting s t (Alive frames done boxes) = is_some (waits_at setting s t (Alive frames done boxes))
 
-abbrev pub all_at_rest : Setting → State → List Thread → Bool
-all_at_rest setting s [] = true
-all_at_rest setting s (thread ∷ threads) = is_at_rest setting s thread && all_at_rest setting s threads
+abbrev pub all_at_rest : Setting → State → ℕ → List Thread → Bool
+all_at_rest setting s t [] = true
+all_at_rest setting s t (thread ∷ threads) = is_at_rest setting s t thread && all_at_rest setting s (t + 1) threads
 
 -- an entry for each thread that waits, by increasing number
 abbrev pub wait_entry : ℕ → Option BoxName → List Entry
@@ -109,14 +92,14 @@ wait_entry t (Some box) = record { task = t; act = Wait box } ∷ []
 
 abbrev pub waits_from : Setting → State → ℕ → List Thread → List Entry
 waits_from setting s t [] = []
-waits_from setting s t (thread ∷ threads) = wait_entry t (waits_at setting s thread) ++ waits_from setting s (t + 1) threads
+waits_from setting s t (thread ∷ threads) = wait_entry t (waits_at setting s t thread) ++ waits_from setting s (t + 1) threads
 
 -- From this state each thread makes the moves that come before its next action, at most so many, and then all
 -- have ended or wait, with these entries. A thread that has ended or waits doesn't move, so with more moves it is
--- the same.
+-- the same (the law `one_rest`).
 pub record AtRest (setting : Setting) (s : State) (waits : List Entry) : Type 0 where
   pub moves : ℕ
-  pub rest : all_at_rest setting (settled setting moves s) (settled setting moves s).threads ≡ true
+  pub rest : all_at_rest setting (settled setting moves s) 0 (settled setting moves s).threads ≡ true
   pub waiting : waits ≡ waits_from setting (settled setting moves s) 0 (settled setting moves s).threads
 
 -- The journal of a whole run: replayed, its entries lead to a state in which nothing is left to do, and then it
