@@ -1,2 +1,3 @@
 mod BuiltInPrograms
 mod BrokenPrograms
+pub mod Upward

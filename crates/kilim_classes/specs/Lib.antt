@@ -3,6 +3,7 @@ pub mod Names
 pub mod BuiltIn
 pub mod Kinds
 pub mod Same
+pub mod Fits
 pub mod Lengths
 pub mod Keeps
 pub mod Examples

@@ -27,7 +27,7 @@ fn array_kind(kind: Kind) -> Kind
 
 impl Program {
     // The class of an id, none past the end.
-    fn class_at(&self, class: ClassId) -> Option<&Class>
+    pub(crate) fn class_at(&self, class: ClassId) -> Option<&Class>
         ensures { option_copied result ≡ class_at self.now class }
     {
         self.classes.as_slice().get(class.0 as usize)

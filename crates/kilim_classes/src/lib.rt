@@ -6,6 +6,7 @@
 #![tactic(auto)]
 
 mod class;
+mod fits;
 mod instr;
 mod kinds;
 mod laws;

@@ -1,0 +1,6 @@
+pub mod Step
+pub mod Typed
+pub mod Faults
+pub mod Paths
+pub mod Samples
+pub mod Examples

@@ -1,0 +1,13 @@
+//! What it means that a program is well typed: definitions, and no code that does work (JVMS 4.10.1).
+//!
+//! `specs/Step.antt` says what an instruction makes of the types of locals and stack, `specs/Typed.antt` which methods and programs are
+//! well typed and what the frame at each place is, `specs/Faults.antt` which type fault comes first, `specs/Paths.antt` where
+//! control goes.
+#![tactic(auto)]
+
+ghost use Rattle.kilim_typing.specs.Examples.{ExamplesHold};
+
+/// A law, and no work: the examples of `specs/Examples.antt`.
+pub fn examples_hold()
+    ensures { ExamplesHold }
+{}
