@@ -1,0 +1,10 @@
+pub mod Lists
+pub mod Reach
+pub mod Rows
+pub mod Notes
+pub mod Steps
+pub mod Takes
+pub mod Loops
+pub mod Same
+pub mod Ends
+pub mod Accepted

@@ -1,0 +1,16 @@
+use Rattle.std.proofs.Common.{arith, subst, List}
+use Rattle.std.specs.List.{AllZip}
+use Rattle.std.proofs.lemmas.Option.{slice_get-get_or}
+use Rattle.kilim_paths.specs.Search.{IsReportOf}
+use Rattle.kilim_paths.specs.declared.found.Found.{Found}
+use Rattle.kilim_paths.proofs.Lists.{take_whole}
+use Rattle.kilim_paths.proofs.Ends.{reports_step}
+use Rattle.kilim_paths.proofs.report.reports.Goals as goal
+
+pub loop-fault-preserved : goal.loop-fault-preserved
+loop-fault-preserved g c =
+    reports_step c.args.store.now.entries c.args.found.now c.loop-fault.fault-index _ c.in_ok-path.path c.loop-fault.reports.items c.push.new.self.items c.loop-fault.invariant
+    (slice_get-get_or c.args.found.now c.loop-fault.fault-index _ (omega arith)) c.in_ok-path.ensures c.in_ok-push.ensures.items
+
+pub returns : goal.returns
+returns g c m l i = subst (λ (fs : List Found). AllZip (IsReportOf m) fs c.loop-fault.reports.items) (take_whole c.args.found.now c.loop-fault.fault-index (omega arith)) (c.loop-fault.invariant m l i)

@@ -1,0 +1,14 @@
+use Rattle.std.proofs.Common.{◌≡◌, ap, arith, rules, length, refl}
+use Rattle.std.proofs.lemmas.Grind.{common_steps}
+use Rattle.kilim_paths.proofs.Rows.{rows_pushed, rows_back}
+use Rattle.kilim_paths.proofs.store.Store.push.Goals as goal
+
+pub invariant_of-self-in-Ok : goal.invariant_of-self-in-Ok
+invariant_of-self-in-Ok g c =
+    let size : length c.self.inside.rows.items ≡ c.args.self.now.size = ap (λ v. v.size) c.self.view_is in
+    rows_pushed c.self.inside.entries.items c.push.new.self.items _ c.self.inside.rows.items c.len-at.result c.args.place c.index_mut.result.now c.push-2.new.self c.self.invariant (omega arith) c.index_mut.ensures.value c.in-Ok.ensures.items (search rules) c.in_ok-push.ensures.items refl
+
+pub invariant_of-self-in-Err : goal.invariant_of-self-in-Err
+invariant_of-self-in-Err g c =
+    let size : length c.self.inside.rows.items ≡ c.args.self.now.size = ap (λ v. v.size) c.self.view_is in
+    rows_back c.self.inside.entries.items c.truncate.new.self.items c.self.inside.rows.items c.args.place c.index_mut.result.now c.push-2.new.self c.self.invariant (omega arith) c.index_mut.ensures.value c.in-Err.ensures.items (grind (arith, common_steps))

@@ -1,0 +1,5 @@
+pub mod Paths
+pub mod Folds
+pub mod Stored
+pub mod Search
+pub mod Answer

@@ -1,0 +1,84 @@
+//! Reports, and the call that makes them.
+
+ghost use Rattle.std.specs.Prelude.{◌≡◌, ◌<◌, ◌≤◌, ◌++◌, ◌∷◌, [], ℕ, List, Option, Result, length, slice_get, IsTrue, ◌↔◌, IfOk, OnOk, OnErr, IfSome};
+ghost use Rattle.std.specs.List.{AllByRecursion, AllZip};
+ghost use Rattle.kilim_paths.specs.Paths.{Machine, Has, ArrivesBy};
+ghost use Rattle.kilim_paths.specs.Search.{AreLinked, IsFound, IsAt, IsReportOf};
+ghost use Rattle.kilim_paths.specs.Answer.{IsAnswer};
+ghost use Rattle.kilim_paths.specs.declared.store.Reached.{Reached};
+
+use crate::found::Found;
+use crate::machine::{Moves, State};
+use crate::search::search;
+use crate::store::Store;
+use kilim_units::{NoMemory, Seq};
+use std::alloc::Global;
+
+/// A rule that is broken at a place, and a path that breaks it.
+#[derive(Debug, Drop)]
+pub struct Report {
+    pub pc: u32,
+    pub rule: u8,
+    pub path: Seq<u32>,
+}
+
+/// What the exploration answers.
+#[derive(Debug, Drop)]
+pub enum Explored {
+    Faults(Seq<Report>),
+    Crowded(u32),
+}
+
+/// The path by which an entry was reached.
+fn path_to<S: State>(alloc: Global, store: &Store<S>, at: usize) -> Result<Seq<u32>, NoMemory>
+    requires linked { (m : Machine S) × AreLinked m store.now.entries }
+    requires at { at < length store.now.entries }
+    ensures { IfOk result (λ path. (m : Machine S) (e : Reached S) → AreLinked m store.now.entries → IsAt store.now.entries at e → ArrivesBy m path e.place e.state) }
+{
+    let mut path = Vec::new(alloc);
+    let mut k = at;
+    path.push(store.get(k).place)?;
+    while k > 0 {
+        k = store.get(k).from;
+        path.push(store.get(k).place)?;
+    }
+    path.reverse();
+    Ok(Seq::from_vec(path))
+}
+
+/// A report for each fault.
+fn reports<S: State>(
+    alloc: Global,
+    store: &Store<S>,
+    found: &[Found],
+) -> Result<Vec<Report>, NoMemory>
+    requires linked { (m : Machine S) × AreLinked m store.now.entries }
+    requires found { (m : Machine S) × AllByRecursion (IsFound m store.now.entries) found.now }
+    ensures { IfOk result (λ rs. (m : Machine S) → AreLinked m store.now.entries → AllByRecursion (IsFound m store.now.entries) found.now → AllZip (IsReportOf m) found.now rs.items) }
+{
+    let mut reports = Vec::new(alloc);
+    for fault in found {
+        let path = path_to(alloc, store, fault.at)?;
+        reports.push(Report {
+            pc: fault.pc,
+            rule: fault.rule,
+            path,
+        })?;
+    }
+    Ok(reports)
+}
+
+/// Exactly the faults of all paths, or a place that more than 256 states reach.
+pub fn explore<M: Moves>(alloc: Global, machine: &M) -> Result<Explored, NoMemory>
+    ensures { IfOk result (λ answer. IsAnswer (M.means machine.now) answer) }
+{
+    let entry = machine.entry()?;
+    let mut store = Store::new(alloc, machine.size())?;
+    store.push(0, entry, 0)?;
+    let mut found = Vec::new(alloc);
+    if let Some(place) = search(machine, &mut store, &mut found)? {
+        return Ok(Explored::Crowded(place));
+    }
+    let reports = reports(alloc, &store, &found)?;
+    Ok(Explored::Faults(Seq::from_vec(reports)))
+}
