@@ -1,95 +1,44 @@
-//! Laws about the definitions. No program calls them to do work.
+//! Laws about linked programs. No program calls them to do work.
 
-ghost use Rattle.kilim_class_world.specs.Agreement.{FaultsAndFactsAgree};
-ghost use Rattle.kilim_class_world.specs.Details.{DetailsHold};
-ghost use Rattle.kilim_class_world.specs.Edges.{EdgesHold};
-ghost use Rattle.kilim_class_world.specs.Examples.{AIsLinked, ExamplesHold};
-ghost use Rattle.kilim_class_world.specs.Instructions.{InstructionsAgree};
-ghost use Rattle.kilim_class_world.specs.Laws.{DecodedIsDecode, LinkedInParts, NoneHasAProblem, NoneIsNamed, NoneOfEachKind};
-ghost use Rattle.kilim_class_world.specs.Linked.{OneProgram};
-ghost use Rattle.kilim_class_world.specs.Programs.{ProgramsAreLinked};
-ghost use Rattle.kilim_class_world.specs.Relations.{RelationsHold};
-ghost use Rattle.kilim_class_world.specs.Search.{SearchesHold};
+ghost use Rattle.kilim_class_world.specs.Keeping.{LinksKeep, NoFaultIsAProgram};
 
-use kilim_opcodes::{lengths, one_spelling};
+use kilim_link_class_laws::{
+    built_in_is_last, fields_fit, members_are_owned, names_differ, none_is_both,
+    none_is_its_ancestor, none_is_left_abstract, outline_agrees, overriding_agrees,
+    own_classes_fit, superclasses_fit,
+};
+use kilim_link_code_laws::{
+    code_is_whole, constants_fit, frames_increase, ids_are_places, methods_are_sound,
+    no_fault_links, no_task_arrays,
+};
 
-/// A law, and no work: no class files link to two programs.
-pub fn one_program()
-    ensures { OneProgram }
-{}
-
-/// A law, and no work: the class file of 235 bytes links to the program that prints 7, which is a program.
-pub fn a_is_linked()
-    ensures { AIsLinked }
-{}
-
-/// A law, and no work: small class files with each kind of fault have that fault.
-pub fn examples_hold()
-    ensures { ExamplesHold }
-{}
-
-/// A law, and no work: what members, kinds, names, frames and qualifiers of small class files come to.
-pub fn details_hold()
-    ensures { DetailsHold }
-{}
-
-/// A law, and no work: the definition of decoded code is met by what `kilim_bytecode::decode` answers.
-pub fn decoded_is_decode()
-    ensures { DecodedIsDecode }
+/// A law, and no work: a program to which class files link, of which none has a fault, keeps the facts of programs.
+pub fn links_keep()
+    ensures { LinksKeep }
 {
-    one_spelling();
-    lengths();
+    ids_are_places();
+    none_is_its_ancestor();
+    code_is_whole();
+    frames_increase();
+    built_in_is_last();
+    members_are_owned();
+    names_differ();
+    methods_are_sound();
+    none_is_both();
+    no_task_arrays();
+    outline_agrees();
+    superclasses_fit();
+    own_classes_fit();
+    fields_fit();
+    overriding_agrees();
+    none_is_left_abstract();
+    constants_fit();
 }
 
-/// A law, and no work: where no fault is named there is none.
-pub fn none_is_named()
-    ensures { NoneIsNamed }
-{}
-
-/// A law, and no work: a woven class file and two class files link to their programs, which are programs.
-pub fn programs_are_linked()
-    ensures { ProgramsAreLinked }
-{}
-
-/// A law, and no work: of examples, those without a fault link to programs that keep the facts of programs, and those
-/// with a fault of a fact don't.
-pub fn faults_and_facts_agree()
-    ensures { FaultsAndFactsAgree }
-{}
-
-/// A law, and no work: the classes, fields and methods of a program to which files link.
-pub fn linked_in_parts()
-    ensures { LinkedInParts }
-{}
-
-/// A law, and no work: a class without a problem has none of each kind.
-pub fn none_of_each_kind()
-    ensures { NoneOfEachKind }
-{}
-
-/// A law, and no work: where files have no fault of linking, no class has a problem.
-pub fn none_has_a_problem()
-    ensures { NoneHasAProblem }
-{}
-
-/// A law, and no work: of all 256 numbers, which ones the tables of instructions have, which instruction each is, and
-/// which entries of the pool it takes.
-pub fn instructions_agree()
-    ensures { InstructionsAgree }
-{}
-
-/// A law, and no work: numbers by order, members of the nearest ancestor, and what class files name, place by place.
-pub fn searches_hold()
-    ensures { SearchesHold }
-{}
-
-/// A law, and no work: code, descriptors and names of classes at their edges.
-pub fn edges_hold()
-    ensures { EdgesHold }
-{}
-
-/// A law, and no work: what is declared twice, overrides, stays abstract, is extended or left out, and how methods are
-/// qualified and pause.
-pub fn relations_hold()
-    ensures { RelationsHold }
-{}
+/// A law, and no work: class files without a fault link to a program, and it keeps the facts of programs.
+pub fn no_fault_is_a_program()
+    ensures { NoFaultIsAProgram }
+{
+    no_fault_links();
+    links_keep();
+}

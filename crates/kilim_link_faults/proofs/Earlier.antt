@@ -12,8 +12,8 @@ use Rattle.kilim_classes.specs.declared.names.ClassId.{ClassId}
 use Rattle.kilim_classes.specs.BuiltIn.{class_id, built_in_classes_in}
 use Rattle.kilim_classes.specs.Names.{class_from, class_named}
 use Rattle.kilim_classes.specs.Program.{Program}
-use Rattle.kilim_class_world.specs.declared.view.ClassView.{ClassView}
-use Rattle.kilim_class_world.specs.World.{World, class_of, outlined, outline_with, outline_of, is_message_by, world_of, view_of_file, view_of_built_in, built_ins}
+use Rattle.kilim_link_spec.specs.declared.view.ClassView.{ClassView}
+use Rattle.kilim_link_spec.specs.World.{World, class_of, outlined, outline_with, outline_of, is_message_by, world_of, view_of_file, view_of_built_in, built_ins}
 
 -- a class stands before a place
 abbrev pub is_before : ℕ → Option ClassId → Bool

@@ -5,10 +5,10 @@ use Rattle.kilim_classfile.specs.declared.class_file.ClassFile.{ClassFile}
 use Rattle.kilim_classes.specs.declared.class.Form.{Form}
 use Rattle.kilim_classes.specs.declared.class.Form.TheVariants.{Plain, Woven}
 use Rattle.kilim_classes.specs.BuiltIn.{class_id, built_in_classes_in}
-use Rattle.kilim_class_world.specs.World.{World, world_of, view_of_file, view_of_built_in, built_ins}
-use Rattle.kilim_class_world.specs.declared.fault.LinkFault.{LinkFault}
-use Rattle.kilim_class_world.specs.Faults.{faults_in, first_fault, link_faults}
-use Rattle.kilim_class_world.specs.Linked.{first_of}
+use Rattle.kilim_link_spec.specs.World.{World, world_of, view_of_file, view_of_built_in, built_ins}
+use Rattle.kilim_link_spec.specs.declared.fault.LinkFault.{LinkFault}
+use Rattle.kilim_link_spec.specs.Faults.{faults_in, first_fault, link_faults}
+use Rattle.kilim_link_spec.specs.Linked.{first_of}
 use Rattle.kilim_link_faults.specs.Parts.{faults_from}
 use Rattle.kilim_link_faults.proofs.Firsts.{drop_at, here, later}
 

@@ -11,9 +11,9 @@ use Rattle.std.proofs.lemmas.Map.Text.{is_eq-slice_cmp}
 use Rattle.std.proofs.lemmas.Slice.Eq.{bytes_eq-Decides}
 use Rattle.kilim_classfile.specs.declared.class_file.ClassFile.{ClassFile}
 use Rattle.kilim_classfile.specs.declared.class_file.MemberInfo.{MemberInfo}
-use Rattle.kilim_class_world.specs.World.{member_name, member_descriptor}
-use Rattle.kilim_class_world.specs.Faults.{repeated, same_member}
-use Rattle.kilim_class_world.specs.Linked.{first_of}
+use Rattle.kilim_link_spec.specs.World.{member_name, member_descriptor}
+use Rattle.kilim_link_spec.specs.Faults.{repeated, same_member}
+use Rattle.kilim_link_spec.specs.Linked.{first_of}
 use Rattle.kilim_signatures.specs.declared.signature.Signature.{Signature}
 use Rattle.kilim_signatures.specs.Index.{signature_cmp, same_signature}
 use Rattle.kilim_link_faults.specs.Seen.{met_in}

@@ -7,12 +7,12 @@ use Rattle.kilim_descriptors.specs.declared.types.FieldText.{FieldText}
 use Rattle.kilim_classes.specs.declared.names.ClassId.{ClassId}
 use Rattle.kilim_classes.specs.declared.ty.Ty.{Ty}
 use Rattle.kilim_classes.specs.Names.{◌>>=◌}
-use Rattle.kilim_class_world.specs.declared.fault.Problem.{Problem}
-use Rattle.kilim_class_world.specs.Faults.{may_hold, faults_in, left_out, both_kinds, field_kinds, override_differs, code_broken, descriptor_broken, super_kind, name_broken, abstract_left}
-use Rattle.kilim_class_world.specs.declared.fault.LinkFault.{LinkFault}
-use Rattle.kilim_class_world.specs.Linked.{numbered}
-use Rattle.kilim_class_world.specs.Types.{field_text, type_in}
-use Rattle.kilim_class_world.specs.World.{World, member_descriptor}
+use Rattle.kilim_link_spec.specs.declared.fault.Problem.{Problem}
+use Rattle.kilim_link_spec.specs.Faults.{may_hold, faults_in, left_out, both_kinds, field_kinds, override_differs, code_broken, descriptor_broken, super_kind, name_broken, abstract_left}
+use Rattle.kilim_link_spec.specs.declared.fault.LinkFault.{LinkFault}
+use Rattle.kilim_link_spec.specs.Linked.{numbered}
+use Rattle.kilim_link_spec.specs.Types.{field_text, type_in}
+use Rattle.kilim_link_spec.specs.World.{World, member_descriptor}
 
 -- the type of a descriptor, where it is one and its class is there
 abbrev pub type_of : World → Option FieldText → Option Ty

@@ -5,7 +5,7 @@ use Rattle.std.specs.List.{list_any}
 use Rattle.std.specs.Str.{bytes_eq}
 use Rattle.kilim_classfile.specs.declared.class_file.ClassFile.{ClassFile}
 use Rattle.kilim_classfile.specs.declared.class_file.MemberInfo.{MemberInfo}
-use Rattle.kilim_class_world.specs.World.{member_name, member_descriptor}
+use Rattle.kilim_link_spec.specs.World.{member_name, member_descriptor}
 use Rattle.kilim_signatures.specs.declared.signature.Signature.{Signature}
 use Rattle.kilim_signatures.specs.Index.{signature_cmp}
 

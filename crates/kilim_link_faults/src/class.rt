@@ -1,18 +1,18 @@
 //! Problems of a class itself, and of the classes that it names.
 
 ghost use Rattle.std.specs.Prelude.{◌≡◌, ◌&&◌, IfOk, filter, option_copied};
-ghost use Rattle.kilim_class_world.specs.Mentions.{class_names};
-ghost use Rattle.kilim_class_world.specs.World.{class_of};
-ghost use Rattle.kilim_class_world.specs.Faults.{class_missing, circular, both_kinds, super_kind, if_so, is_missing, is_open, is_open_class, may_extend};
-ghost use Rattle.kilim_class_world.specs.Qualified.{has_fiber};
-ghost use Rattle.kilim_class_world.specs.Linked.{first_of};
+ghost use Rattle.kilim_link_spec.specs.Mentions.{class_names};
+ghost use Rattle.kilim_link_spec.specs.World.{class_of};
+ghost use Rattle.kilim_link_spec.specs.Faults.{class_missing, circular, both_kinds, super_kind, if_so, is_missing, is_open, is_open_class, may_extend};
+ghost use Rattle.kilim_link_spec.specs.Qualified.{has_fiber};
+ghost use Rattle.kilim_link_spec.specs.Linked.{first_of};
 
-use kilim_class_views::super_name;
-use kilim_class_world::{ClassView, Problem};
-use kilim_classfile::ClassFile;
 use kilim_classes::{ClassId, Form};
+use kilim_classfile::ClassFile;
+use kilim_link_spec::{ClassView, Problem};
+use kilim_link_views::super_name;
+use kilim_link_world::World;
 use kilim_units::{NoMemory, Units};
-use kilim_world::World;
 use std::alloc::Global;
 
 /// Whether a form has the class `kilim/Fiber`.
@@ -45,7 +45,7 @@ fn first_missing<'a>(world: &World, names: &'a [Units]) -> Option<&'a Units>
 
 /// The first class that a file names and that is neither given nor built in (JVMS 5.3), where `names` are those that
 /// it names. In plain form `kilim/Fiber` is left out instead.
-#[tactic(auto, unfolding(kilim_class_world::specs::Faults::class_missing))]
+#[tactic(auto, unfolding(kilim_link_spec::specs::Faults::class_missing))]
 pub fn class_missing(
     world: &World,
     file: &ClassFile,
@@ -69,7 +69,7 @@ fn if_so(test: bool, problem: Problem) -> Option<Problem>
 }
 
 /// Whether the class is its own ancestor (JVMS 5.3.5).
-#[tactic(auto, unfolding(kilim_class_world::specs::Faults::circular))]
+#[tactic(auto, unfolding(kilim_link_spec::specs::Faults::circular))]
 pub fn circular(
     world: &World,
     file: &ClassFile,
@@ -81,7 +81,7 @@ pub fn circular(
 }
 
 /// Whether the class is a task and a message, itself or by its ancestors (own).
-#[tactic(auto, unfolding(kilim_class_world::specs::Faults::both_kinds))]
+#[tactic(auto, unfolding(kilim_link_spec::specs::Faults::both_kinds))]
 pub fn both_kinds(
     world: &World,
     file: &ClassFile,
@@ -125,7 +125,7 @@ fn may_extend(world: &World, class: ClassId, superclass: Option<ClassId>) -> boo
 
 /// Whether the superclass is final (JVMS 4.10), built in and not open, or of a kind that the class may not extend
 /// (own).
-#[tactic(auto, unfolding(kilim_class_world::specs::Faults::super_kind))]
+#[tactic(auto, unfolding(kilim_link_spec::specs::Faults::super_kind))]
 pub fn super_kind(
     alloc: Global,
     world: &World,

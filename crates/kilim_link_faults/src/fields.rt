@@ -1,19 +1,19 @@
 //! Fields that the kind of their class doesn't allow.
 
 ghost use Rattle.std.specs.Prelude.{◌≡◌, IfOk, filter, option_copied};
-ghost use Rattle.kilim_class_world.specs.Faults.{field_kinds, may_hold, member_of};
-ghost use Rattle.kilim_class_world.specs.Linked.{first_of};
+ghost use Rattle.kilim_link_spec.specs.Faults.{field_kinds, may_hold, member_of};
+ghost use Rattle.kilim_link_spec.specs.Linked.{first_of};
 ghost use Rattle.kilim_link_faults.specs.Parts.{holds_badly, type_of};
 
-use kilim_class_views::{member_descriptor, member_name};
-use kilim_class_world::Problem;
+use kilim_classes::{ClassId, Ty};
 use kilim_classfile::{ClassFile, MemberInfo, MemberName};
 use kilim_descriptors::FieldText;
-use kilim_mentions::field_text;
-use kilim_classes::{ClassId, Ty};
+use kilim_link_mentions::field_text;
+use kilim_link_spec::Problem;
+use kilim_link_types::type_in;
+use kilim_link_views::{member_descriptor, member_name};
+use kilim_link_world::World;
 use kilim_units::{NoMemory, Units};
-use kilim_world::World;
-use kilim_world_types::type_in;
 use std::alloc::Global;
 
 // The name and the descriptor of a member of a file.
@@ -81,7 +81,7 @@ fn first_held_badly<'a>(
 }
 
 /// The first field of a class that its kind doesn't allow (own).
-#[tactic(auto, unfolding(kilim_class_world::specs::Faults::field_kinds))]
+#[tactic(auto, unfolding(kilim_link_spec::specs::Faults::field_kinds))]
 pub fn field_kinds(
     alloc: Global,
     world: &World,

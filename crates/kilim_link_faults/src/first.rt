@@ -1,26 +1,26 @@
 //! The first fault of all.
 
 ghost use Rattle.std.specs.Prelude.{◌≡◌, ◌++◌, ◌<◌, ◌≤◌, ◌^◌, IfOk, length};
-ghost use Rattle.kilim_class_world.specs.Faults.{problems_of, first_fault, faults_in, circular, member_missing};
-ghost use Rattle.kilim_class_world.specs.Linked.{first_of};
-ghost use Rattle.kilim_class_world.specs.Mentions.{mentions_of, class_names};
-ghost use Rattle.kilim_class_world.specs.World.{world_of};
-ghost use Rattle.kilim_member_faults.specs.Ancestry.{Knows};
+ghost use Rattle.kilim_link_spec.specs.Faults.{problems_of, first_fault, faults_in, circular, member_missing};
+ghost use Rattle.kilim_link_spec.specs.Linked.{first_of};
+ghost use Rattle.kilim_link_spec.specs.Mentions.{mentions_of, class_names};
+ghost use Rattle.kilim_link_spec.specs.World.{world_of};
+ghost use Rattle.kilim_link_override_faults.specs.Ancestry.{Knows};
 ghost use Rattle.kilim_link_faults.specs.Parts.{last_kinds, code_kinds, later_kinds};
 
 use crate::class::{both_kinds, circular, class_missing, super_kind};
 use crate::fields::field_kinds;
 use crate::members::member_missing;
 use crate::twice::declared_twice;
-use kilim_class_views::own_name;
-use kilim_class_world::{LinkFault, Mention, Problem};
-use kilim_classfile::ClassFile;
-use kilim_file_faults::{code_broken, descriptor_broken, left_out_problem, name_broken};
-use kilim_member_faults::{Ancestry, abstract_left, override_differs};
-use kilim_mentions::{class_names, members_named, mentions_of};
 use kilim_classes::{ClassId, Form};
+use kilim_classfile::ClassFile;
+use kilim_link_file_faults::{code_broken, descriptor_broken, left_out_problem, name_broken};
+use kilim_link_mentions::{class_names, members_named, mentions_of};
+use kilim_link_override_faults::{Ancestry, abstract_left, override_differs};
+use kilim_link_spec::{LinkFault, Mention, Problem};
+use kilim_link_views::own_name;
+use kilim_link_world::World;
 use kilim_units::{NoMemory, Seq, Units};
-use kilim_world::World;
 use std::alloc::Global;
 
 #[tactic(auto, using(crate::proofs::Firsts::here, crate::proofs::Firsts::later))]
@@ -121,7 +121,7 @@ fn from_circular(
     later_kinds(alloc, world, file, class, mentions, names, ancestry)
 }
 
-#[tactic(auto, unfolding(kilim_class_world::specs::Mentions::class_names))]
+#[tactic(auto, unfolding(kilim_link_spec::specs::Mentions::class_names))]
 fn names_of(alloc: Global, file: &ClassFile, mentions: &[Mention]) -> Result<Seq<Units>, NoMemory>
     requires { mentions.now ≡ mentions_of file.now }
     ensures { IfOk result (λ names. names ≡ class_names file.now) }
@@ -131,7 +131,7 @@ fn names_of(alloc: Global, file: &ClassFile, mentions: &[Mention]) -> Result<Seq
 
 /// The first problem of a class: of its kinds the first, and of one kind the first place in the order of the file's
 /// bytes (own).
-#[tactic(auto, using(crate::proofs::Firsts::here, crate::proofs::Firsts::later), unfolding(kilim_class_world::specs::Faults::problems_of))]
+#[tactic(auto, using(crate::proofs::Firsts::here, crate::proofs::Firsts::later), unfolding(kilim_link_spec::specs::Faults::problems_of))]
 pub fn first_problem(
     alloc: Global,
     world: &World,

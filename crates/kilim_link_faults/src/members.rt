@@ -1,20 +1,20 @@
 //! Members that code names and that aren't there.
 
 ghost use Rattle.std.specs.Prelude.{◌≡◌, IfOk, filter, option_copied};
-ghost use Rattle.kilim_class_world.specs.Mentions.{members_named};
-ghost use Rattle.kilim_class_world.specs.declared.named.Member.TheVariants.{Field, Method};
-ghost use Rattle.kilim_class_world.specs.declared.named.Named.TheVariants.{AClass};
-ghost use Rattle.kilim_class_world.specs.Faults.{member_missing, lacks_member, owner_lacks, class_lacks, is_no_member, ref_of, no_member_of};
-ghost use Rattle.kilim_class_world.specs.Linked.{first_of};
+ghost use Rattle.kilim_link_spec.specs.Mentions.{members_named};
+ghost use Rattle.kilim_link_spec.specs.declared.named.Member.TheVariants.{Field, Method};
+ghost use Rattle.kilim_link_spec.specs.declared.named.Named.TheVariants.{AClass};
+ghost use Rattle.kilim_link_spec.specs.Faults.{member_missing, lacks_member, owner_lacks, class_lacks, is_no_member, ref_of, no_member_of};
+ghost use Rattle.kilim_link_spec.specs.Linked.{first_of};
 
 use crate::class::has_fiber;
-use kilim_class_world::{Member, MemberOf, Named, Problem};
-use kilim_classfile::ClassFile;
-use kilim_member_faults::signature_of;
-use kilim_mentions::named_by;
 use kilim_classes::ClassId;
+use kilim_classfile::ClassFile;
+use kilim_link_mentions::named_by;
+use kilim_link_override_faults::signature_of;
+use kilim_link_spec::{Member, MemberOf, Named, Problem};
+use kilim_link_world::World;
 use kilim_units::{NoMemory, Units};
-use kilim_world::World;
 use std::alloc::Global;
 
 fn lacks_field(world: &World, member: &MemberOf, class: ClassId) -> Result<bool, NoMemory>
@@ -116,7 +116,7 @@ fn no_member_of(member: &MemberOf) -> Result<Problem, NoMemory>
 /// The first member that the code of a class names and that neither its owner nor an ancestor of it has (JVMS 5.4.3.2,
 /// 5.4.3.3), where `members` are those that its code names. An array has none; of `kilim/Fiber` in plain form nothing
 /// is asked.
-#[tactic(auto, unfolding(kilim_class_world::specs::Faults::member_missing))]
+#[tactic(auto, unfolding(kilim_link_spec::specs::Faults::member_missing))]
 pub fn member_missing(
     alloc: Global,
     world: &World,

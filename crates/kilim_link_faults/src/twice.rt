@@ -3,17 +3,17 @@
 ghost use Rattle.std.specs.Prelude.{◌≡◌, ◌<◌, ◌^◌, ◌++◌, ◌&&◌, ◌||◌, IfOk, OnOk, [], List, ℕ, length, take, option_copied};
 ghost use Rattle.std.specs.List.{list_any};
 ghost use Rattle.std.specs.Str.{bytes_eq};
-ghost use Rattle.kilim_class_world.specs.Faults.{declared_twice, is_given_before, is_built_in_name, repeated, repeated_names, same_member};
-ghost use Rattle.kilim_class_world.specs.Linked.{first_of};
-ghost use Rattle.kilim_class_world.specs.World.{member_name, member_descriptor, outline_of, world_of};
+ghost use Rattle.kilim_link_spec.specs.Faults.{declared_twice, is_given_before, is_built_in_name, repeated, repeated_names, same_member};
+ghost use Rattle.kilim_link_spec.specs.Linked.{first_of};
+ghost use Rattle.kilim_link_spec.specs.World.{member_name, member_descriptor, outline_of, world_of};
 ghost use Rattle.kilim_link_faults.specs.Seen.{seen_in};
 
-use kilim_class_views::{member_descriptor, member_name, own_name};
-use kilim_class_world::{ClassView, Problem};
-use kilim_classfile::{ClassFile, MemberInfo};
 use kilim_classes::ClassId;
+use kilim_classfile::{ClassFile, MemberInfo};
+use kilim_link_spec::{ClassView, Problem};
+use kilim_link_views::{member_descriptor, member_name, own_name};
+use kilim_link_world::{Signature, World};
 use kilim_units::{NoMemory, Units};
-use kilim_world::{Signature, World};
 use std::alloc::Global;
 use std::collections::BTreeMap;
 
@@ -142,7 +142,7 @@ fn repeated_in_either(alloc: Global, file: &ClassFile) -> Result<Option<Problem>
 
 /// The first of these: a class of the name of this one was given before it or is built in, a field has the name and the
 /// descriptor of an earlier one, a method has (JVMS 4.5, 4.6).
-#[tactic(auto, unfolding(kilim_class_world::specs::Faults::declared_twice))]
+#[tactic(auto, unfolding(kilim_link_spec::specs::Faults::declared_twice))]
 pub fn declared_twice(
     alloc: Global,
     world: &World,

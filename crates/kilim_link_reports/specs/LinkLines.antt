@@ -4,11 +4,11 @@ use Rattle.std.specs.Prelude.{ℕ, List, [], ◌++◌, codes}
 use Rattle.std.specs.Fmt.{decimal}
 use Rattle.kilim_bytecode.specs.declared.fault.CodeFault.{CodeFault}
 use Rattle.kilim_bytecode.specs.declared.fault.CodeFault.TheVariants as code
-use Rattle.kilim_class_world.specs.declared.fault.LeftOutPart.{LeftOutPart}
-use Rattle.kilim_class_world.specs.declared.fault.LeftOutPart.TheVariants as part
-use Rattle.kilim_class_world.specs.declared.fault.MemberOf.{MemberOf}
-use Rattle.kilim_class_world.specs.declared.fault.Problem.{Problem}
-use Rattle.kilim_class_world.specs.declared.fault.Problem.TheVariants as problem
+use Rattle.kilim_link_spec.specs.declared.fault.LeftOutPart.{LeftOutPart}
+use Rattle.kilim_link_spec.specs.declared.fault.LeftOutPart.TheVariants as part
+use Rattle.kilim_link_spec.specs.declared.fault.MemberOf.{MemberOf}
+use Rattle.kilim_link_spec.specs.declared.fault.Problem.{Problem}
+use Rattle.kilim_link_spec.specs.declared.fault.Problem.TheVariants as problem
 use Rattle.kilim_reports.specs.Names.{member_name_text, descriptor_text, method_text}
 
 -- a left-out part by its word; an instruction by its number

@@ -4,4 +4,3 @@
 mod link_lines;
 
 pub use link_lines::link_line;
-

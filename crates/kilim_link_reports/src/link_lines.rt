@@ -2,15 +2,15 @@
 
 ghost use Rattle.std.specs.Prelude.{◌≡◌, ◌++◌, IfOk, codes};
 ghost use Rattle.std.specs.Fmt.{decimal};
-ghost use Rattle.kilim_class_world.specs.declared.fault.LeftOutPart.TheVariants as part;
+ghost use Rattle.kilim_link_spec.specs.declared.fault.LeftOutPart.TheVariants as part;
 ghost use Rattle.kilim_reports.specs.Names.{method_text};
 ghost use Rattle.kilim_link_reports.specs.LinkLines.{part_word, fault_place, member_text, problem_words, link_line};
 
 use kilim_bytecode::CodeFault;
-use kilim_class_world::{LeftOutPart, MemberOf, Problem};
 use kilim_classfile::MemberName;
-use kilim_units::{NoMemory, Units};
+use kilim_link_spec::{LeftOutPart, MemberOf, Problem};
 use kilim_reports::{descriptor_text, member_name_text};
+use kilim_units::{NoMemory, Units};
 use std::alloc::{AllocError, Global};
 
 // Two texts, one behind the other.

@@ -4,11 +4,11 @@ ghost use Rattle.std.specs.Prelude.{◌≤◌, length, IfSome};
 ghost use Rattle.std.specs.List.{AllByRecursion};
 ghost use Rattle.kilim_classfile.specs.Text.{ClassFits};
 
-use kilim_class_world::LinkFault;
-use kilim_classfile::ClassFile;
-use kilim_link::link;
-use kilim_link_reports::link_line;
+use kilim_class_world::link;
 use kilim_classes::{Form, Program};
+use kilim_classfile::ClassFile;
+use kilim_link_reports::link_line;
+use kilim_link_spec::LinkFault;
 use std::alloc::Global;
 use std::fs::File;
 use std::io;

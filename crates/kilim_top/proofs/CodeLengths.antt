@@ -24,13 +24,13 @@ use Rattle.kilim_classes.specs.declared.ty.Ty.{Ty}
 use Rattle.kilim_classes.specs.BuiltIn.{class_id, built_in_methods_in}
 use Rattle.kilim_classes.specs.Names.{◌>>=◌}
 use Rattle.kilim_classes.specs.Program.{Program}
-use Rattle.kilim_class_world.specs.declared.named.Body.{Body}
-use Rattle.kilim_class_world.specs.Code.{decoded, code_of}
-use Rattle.kilim_class_world.specs.Frames.{frames_in}
-use Rattle.kilim_class_world.specs.Laws.{LinkedInParts}
-use Rattle.kilim_class_world.specs.Linked.{Linked, numbered, body_in, body_with, code_attribute, code_in, first_of, linked_method, method_with}
-use Rattle.kilim_class_world.specs.Types.{each_of, itself, with_first, method_text, types_in, result_in}
-use Rattle.kilim_class_world.specs.World.{World, world_of, declared_method, member_descriptor}
+use Rattle.kilim_link_spec.specs.declared.named.Body.{Body}
+use Rattle.kilim_link_spec.specs.Code.{decoded, code_of}
+use Rattle.kilim_link_spec.specs.Frames.{frames_in}
+use Rattle.kilim_link_spec.specs.Laws.{LinkedInParts}
+use Rattle.kilim_link_spec.specs.Linked.{Linked, numbered, body_in, body_with, code_attribute, code_in, first_of, linked_method, method_with}
+use Rattle.kilim_link_spec.specs.Types.{each_of, itself, with_first, method_text, types_in, result_in}
+use Rattle.kilim_link_spec.specs.World.{World, world_of, declared_method, member_descriptor}
 use Rattle.kilim_top.specs.SmallFound.{IsShort, CodeIsShort}
 
 -- ---- the code of a class file that has a text

@@ -13,9 +13,9 @@ use Rattle.kilim_classfile.specs.declared.fault.ClassFault.{ClassFault}
 use Rattle.kilim_classfile.specs.Text.{ClassFits}
 use Rattle.kilim_classfile.specs.Reading.{read_class}
 use Rattle.kilim_classfile.specs.Law.{ClassFilesAreSpelled}
-use Rattle.kilim_class_world.specs.declared.fault.LinkFault.{LinkFault}
-use Rattle.kilim_class_world.specs.Faults as link
-use Rattle.kilim_class_world.specs.Linked.{Linked, OneProgram, first_of}
+use Rattle.kilim_link_spec.specs.declared.fault.LinkFault.{LinkFault}
+use Rattle.kilim_link_spec.specs.Faults as link
+use Rattle.kilim_link_spec.specs.Linked.{Linked, OneProgram, first_of}
 use Rattle.kilim_top.specs.declared.answer.Reply.{Reply}
 use Rattle.kilim_top.specs.ProgramOf.{IsFile, AreFiles, IsProgramOf}
 use Rattle.kilim_top.specs.Answer.{IsReportOf, LinksTo, IsReplyOf, IsReplyOfClasses, IsReplyOfFiles}

@@ -19,9 +19,9 @@ use Rattle.kilim_classfile.specs.declared.class_file.ClassFile.{ClassFile}
 use Rattle.kilim_classfile.specs.declared.fault.ClassFault.{ClassFault}
 use Rattle.kilim_classfile.specs.Reading.{read_class}
 use Rattle.kilim_reports.specs.ClassLines.{class_line}
-use Rattle.kilim_class_world.specs.declared.fault.LinkFault.TheVariants.{InClass}
-use Rattle.kilim_class_world.specs.declared.fault.Problem.{Problem}
-use Rattle.kilim_class_world.specs.Faults as link
+use Rattle.kilim_link_spec.specs.declared.fault.LinkFault.TheVariants.{InClass}
+use Rattle.kilim_link_spec.specs.declared.fault.Problem.{Problem}
+use Rattle.kilim_link_spec.specs.Faults as link
 use Rattle.kilim_link_reports.specs.LinkLines.{link_line}
 use Rattle.kilim_top.specs.ProgramOf.{AreFiles, IsProgramOf}
 use Rattle.kilim_top.specs.Writing.{AppendedFront}

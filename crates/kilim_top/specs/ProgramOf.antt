@@ -4,8 +4,8 @@ use Rattle.kilim_classfile.specs.declared.class_file.ClassFile.{ClassFile}
 use Rattle.kilim_classfile.specs.Text.{class_text, ClassFits}
 use Rattle.kilim_classes.specs.declared.class.Form.TheVariants.{Plain}
 use Rattle.kilim_classes.specs.Program.{Program}
-use Rattle.kilim_class_world.specs.Faults.{link_faults}
-use Rattle.kilim_class_world.specs.Linked.{Linked}
+use Rattle.kilim_link_spec.specs.Faults.{link_faults}
+use Rattle.kilim_link_spec.specs.Linked.{Linked}
 
 -- the bytes are those of this class file
 pub record IsFile (bytes : List ℕ) (file : ClassFile) : Type 0 where

@@ -16,11 +16,11 @@ use crate::refusal::Refusal;
 use crate::report::{later, no_main, utf16_of};
 use crate::run::journal_of;
 use crate::small::small_of;
-use kilim_class_world::{LinkFault, linked_in_parts, one_program};
-use kilim_classfile::{ClassFile, class_file_is_spelled};
 use kilim_classes::{Form, Program};
-use kilim_units::{NoMemory, Seq};
+use kilim_classfile::{ClassFile, class_file_is_spelled};
+use kilim_link_spec::{LinkFault, linked_in_parts, one_program};
 use kilim_thread_model::{Small, small_run_is_whole};
+use kilim_units::{NoMemory, Seq};
 use std::alloc::Global;
 
 /// A text to be written, and the status where it was written whole.
@@ -88,7 +88,7 @@ fn classes_reply(alloc: Global, main: &str, classes: &[ClassFile]) -> Result<Rep
     ensures { IfOk result (λ reply. IsReplyOfClasses classes.now main.now reply.status reply.text.items) }
 {
     linked_in_parts();
-    match kilim_link::link(alloc, classes, Form::Plain) {
+    match kilim_class_world::link(alloc, classes, Form::Plain) {
         Ok(program) => program_reply(alloc, main, &program),
         Err(LinkFault::InClass(class, problem)) => {
             let text = kilim_link_reports::link_line(alloc, &class, &problem)?;

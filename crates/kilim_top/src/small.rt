@@ -8,8 +8,8 @@ ghost use Rattle.kilim_top.specs.SmallProgram.{byte_of, is_load, is_construct, i
 ghost use Rattle.kilim_top.specs.SmallFound.{AreBytes, AreBytesOf, CodeIsShort, IsFound};
 
 use kilim_classes::{Class, ClassId, Form, Instr, Method, MethodId, Program, Qualifier};
-use kilim_units::{Seq, Units};
 use kilim_thread_model::Small;
+use kilim_units::{Seq, Units};
 use std::alloc::{AllocError, Global};
 
 // ---- code (JVMS chapter 6)

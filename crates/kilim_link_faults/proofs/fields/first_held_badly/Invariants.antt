@@ -1,5 +1,5 @@
 use Rattle.std.proofs.Common.{◌≡◌, filter, drop}
-use Rattle.kilim_class_world.specs.Linked.{first_of}
+use Rattle.kilim_link_spec.specs.Linked.{first_of}
 use Rattle.kilim_link_faults.specs.Parts.{holds_badly}
 use Rattle.kilim_link_faults.proofs.fields.first_held_badly.Given as goal
 

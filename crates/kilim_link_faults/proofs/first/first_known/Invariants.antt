@@ -1,6 +1,6 @@
 use Rattle.std.proofs.Common.{◌≡◌, ◌-◌, length, drop}
-use Rattle.kilim_class_world.specs.Faults.{first_fault}
-use Rattle.kilim_class_world.specs.Linked.{first_of}
+use Rattle.kilim_link_spec.specs.Faults.{first_fault}
+use Rattle.kilim_link_spec.specs.Linked.{first_of}
 use Rattle.kilim_link_faults.specs.Parts.{faults_from}
 use Rattle.kilim_link_faults.proofs.first.first_known.Given as goal
 

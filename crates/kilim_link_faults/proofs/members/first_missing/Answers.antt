@@ -1,5 +1,5 @@
-use Rattle.kilim_class_world.specs.Faults.{is_no_member}
-use Rattle.kilim_class_world.specs.Linked.{first_of}
+use Rattle.kilim_link_spec.specs.Faults.{is_no_member}
+use Rattle.kilim_link_spec.specs.Linked.{first_of}
 use Rattle.std.proofs.Common.{filter}
 use Rattle.kilim_link_faults.proofs.Firsts.{found_at}
 use Rattle.kilim_link_faults.proofs.members.first_missing.Goals as goal

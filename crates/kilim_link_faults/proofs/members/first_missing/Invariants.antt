@@ -1,6 +1,6 @@
 use Rattle.std.proofs.Common.{◌≡◌, filter, drop}
-use Rattle.kilim_class_world.specs.Faults.{is_no_member}
-use Rattle.kilim_class_world.specs.Linked.{first_of}
+use Rattle.kilim_link_spec.specs.Faults.{is_no_member}
+use Rattle.kilim_link_spec.specs.Linked.{first_of}
 use Rattle.kilim_link_faults.proofs.members.first_missing.Given as goal
 
 abbrev pub invariant-loop-member : goal.invariant-loop-member

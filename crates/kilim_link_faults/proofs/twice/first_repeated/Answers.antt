@@ -2,9 +2,9 @@ use Rattle.std.proofs.Common.{[], sym, ap, ◌∙◌, reverse, take, List}
 use Rattle.std.specs.Prelude.{◌||◌, ◌&&◌, Bool}
 use Rattle.std.specs.Str.{bytes_eq}
 use Rattle.kilim_classfile.specs.declared.class_file.MemberInfo.{MemberInfo}
-use Rattle.kilim_class_world.specs.Faults.{repeated, same_member}
-use Rattle.kilim_class_world.specs.Linked.{first_of}
-use Rattle.kilim_class_world.specs.World.{member_name}
+use Rattle.kilim_link_spec.specs.Faults.{repeated, same_member}
+use Rattle.kilim_link_spec.specs.Linked.{first_of}
+use Rattle.kilim_link_spec.specs.World.{member_name}
 use Rattle.kilim_link_faults.specs.Seen.{met_in}
 use Rattle.kilim_link_faults.proofs.Firsts.{reverse_at}
 use Rattle.kilim_link_faults.proofs.Repeats.{found_again, is_fresh}

@@ -1,6 +1,6 @@
 use Rattle.std.proofs.Common.{◌≡◌, ℕ, List, [], take, drop, reverse}
-use Rattle.kilim_class_world.specs.Faults.{repeated, same_member}
-use Rattle.kilim_class_world.specs.Linked.{first_of}
+use Rattle.kilim_link_spec.specs.Faults.{repeated, same_member}
+use Rattle.kilim_link_spec.specs.Linked.{first_of}
 use Rattle.kilim_link_faults.specs.Seen.{seen_in, met_in}
 use Rattle.kilim_link_faults.proofs.twice.first_repeated.Given as goal
 

@@ -1,7 +1,0 @@
-use Rattle.kilim_classes.specs.Names.{method_at}
-use Rattle.kilim_class_world.specs.World.{declared_built_in}
-use Rattle.kilim_class_views.proofs.Found.{found_step}
-use Rattle.kilim_class_views.proofs.built_in.declared_methods.Goals as goal
-
-pub loop-id-preserved : goal.loop-id-preserved
-loop-id-preserved c = found_step (declared_built_in c.args.program.now) (method_at c.args.program.now) c.args.ids.now c.loop-id.id-index (record { 0 = 0 }) c.loop-id.methods c.push_declared.new.methods c.loop-id-test.true c.loop-id.invariant c.in_ok-push_declared.ensures

@@ -1,8 +1,0 @@
-use Rattle.std.proofs.Common.{◌≡◌, map, take}
-use Rattle.std.specs.List.{filter_map}
-use Rattle.kilim_classes.specs.Names.{method_at}
-use Rattle.kilim_class_world.specs.World.{declared_built_in}
-use Rattle.kilim_class_views.proofs.built_in.declared_methods.Given as goal
-
-abbrev pub invariant-loop-id : goal.invariant-loop-id
-invariant-loop-id l = l.methods ≡ map (declared_built_in l.program) (filter_map (method_at l.program) (take l.id-index l.ids))

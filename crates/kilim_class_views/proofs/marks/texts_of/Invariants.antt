@@ -1,6 +1,0 @@
-use Rattle.std.proofs.Common.{◌≡◌, map, take}
-use Rattle.kilim_classfile.specs.Parts.{text_of}
-use Rattle.kilim_class_views.proofs.marks.texts_of.Given as goal
-
-abbrev pub invariant-loop-index : goal.invariant-loop-index
-invariant-loop-index l = l.texts ≡ map (text_of l.pool) (take l.index-index l.indices)

@@ -1,6 +1,0 @@
-use Rattle.std.proofs.Common.{◌≡◌, map, take}
-use Rattle.kilim_class_world.specs.World.{declared_method}
-use Rattle.kilim_class_views.proofs.members.declared_methods.Given as goal
-
-abbrev pub invariant-loop-method : goal.invariant-loop-method
-invariant-loop-method l = l.methods ≡ map (declared_method l.file) (take l.method-index l.file.methods)

@@ -1,5 +1,0 @@
-use Rattle.kilim_class_world.proofs.Parts as parts
-use Rattle.kilim_class_world.proofs.laws.linked_in_parts.Goals as goal
-
-pub returns : goal.returns
-returns c = parts.linked_in_parts

@@ -1,5 +1,0 @@
-use Rattle.kilim_class_world.proofs.Parts as parts
-use Rattle.kilim_class_world.proofs.laws.none_of_each_kind.Goals as goal
-
-pub returns : goal.returns
-returns c = parts.none_of_each_kind

@@ -1,8 +1,0 @@
-use Rattle.std.proofs.Common.{◌≡◌, drop}
-use Rattle.std.specs.List.{flat_map}
-use Rattle.kilim_class_world.specs.Linked.{first_of}
-use Rattle.kilim_class_world.specs.Faults.{code_faults}
-use Rattle.kilim_file_faults.proofs.code.first_in_methods.Given as goal
-
-abbrev pub invariant-loop-method : goal.invariant-loop-method
-invariant-loop-method l = first_of (flat_map (code_faults l.file) (drop l.method-index l.methods)) ≡ first_of (flat_map (code_faults l.file) l.methods)

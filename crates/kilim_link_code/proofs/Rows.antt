@@ -1,0 +1,15 @@
+-- Looking numbers up in tables.
+use Rattle.std.proofs.Common.{◌≡◌, ℕ, Bool, true, false, List, [], ◌∷◌, ◌++◌, Option, Some, refl, ap, ◌∙◌}
+use Rattle.std.specs.Prelude.{◌==◌, if◌then◌else◌}
+use Rattle.kilim_link_spec.specs.Code.{row}
+use Rattle.kilim_link_spec.specs.World.{or_else}
+
+module _ {A : Type 0} (number : ℕ) where
+  found_or : (is : Bool) (x : A) (others later : Option A) → (if is then Some x else or_else others later) ≡ or_else (if is then Some x else others) later
+  found_or true x others later = refl
+  found_or false x others later = refl
+
+  -- of two tables the first one counts first
+  pub row_append : (xs ys : List (ℕ × A)) → row (xs ++ ys) number ≡ or_else (row xs number) (row ys number)
+  row_append [] ys = refl
+  row_append (x ∷ xs) ys = ap (λ later. if x.0 == number then Some x.1 else later) (row_append xs ys) ∙ found_or (x.0 == number) x.1 (row xs number) (row ys number)

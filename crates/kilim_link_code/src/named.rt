@@ -1,0 +1,113 @@
+//! What the index of an instruction names, in a program.
+
+ghost use Rattle.std.specs.Prelude.{◌≡◌, Some, IfOk};
+ghost use Rattle.kilim_link_spec.specs.Code.{field_found, method_found, typed_instr, instr_with};
+ghost use Rattle.kilim_link_spec.specs.declared.named.Operand.TheVariants.{AField, AMethod};
+
+use crate::tables::{constant_instr, field_instr, method_instr, type_instr};
+use kilim_classes::{FieldId, Instr, MethodId};
+use kilim_link_mentions::named_by;
+use kilim_link_spec::{MemberOf, Named, Operand};
+use kilim_link_types::{class_named_by, type_named};
+use kilim_link_world::{Signature, World};
+use kilim_units::NoMemory;
+use std::alloc::Global;
+
+// The field of a member that code names, where its class, which is no array, or an ancestor has it (JVMS 5.4.3.2).
+fn field_found(alloc: Global, world: &World, member: MemberOf) -> Result<Option<FieldId>, NoMemory>
+    ensures { IfOk result (λ found. found ≡ field_found world.now member) }
+{
+    let owner = named_by(alloc, member.owner.as_slice())?;
+    let signature = Signature {
+        name: member.name,
+        descriptor: member.descriptor,
+    };
+    match class_named_by(world, &owner) {
+        Some(class) => Ok(world.find_field(class, &signature)),
+        None => Ok(None),
+    }
+}
+
+// The method of a member that code names, where its class, which is no array, or an ancestor has it (JVMS 5.4.3.3).
+fn method_found(
+    alloc: Global,
+    world: &World,
+    member: MemberOf,
+) -> Result<Option<MethodId>, NoMemory>
+    ensures { IfOk result (λ found. found ≡ method_found world.now member) }
+{
+    let owner = named_by(alloc, member.owner.as_slice())?;
+    let signature = Signature {
+        name: member.name,
+        descriptor: member.descriptor,
+    };
+    match class_named_by(world, &owner) {
+        Some(class) => Ok(world.find_method(class, &signature)),
+        None => Ok(None),
+    }
+}
+
+// `new`, which takes a class alone, or an instruction over a type.
+fn typed_instr(world: &World, number: u8, class: &Named) -> Option<Instr>
+    ensures { result ≡ typed_instr world.now number class.now }
+{
+    if number == 187 {
+        match class_named_by(world, class) {
+            Some(found) => Some(Instr::New(found)),
+            None => None,
+        }
+    } else {
+        match type_named(world, class) {
+            Some(ty) => type_instr(number, ty),
+            None => None,
+        }
+    }
+}
+
+fn access(
+    alloc: Global,
+    world: &World,
+    number: u8,
+    member: MemberOf,
+) -> Result<Option<Instr>, NoMemory>
+    ensures { IfOk result (λ instr. instr ≡ instr_with world.now number (Some (AField member))) }
+{
+    match field_found(alloc, world, member)? {
+        Some(field) => Ok(field_instr(number, field)),
+        None => Ok(None),
+    }
+}
+
+fn call(
+    alloc: Global,
+    world: &World,
+    number: u8,
+    member: MemberOf,
+) -> Result<Option<Instr>, NoMemory>
+    ensures { IfOk result (λ instr. instr ≡ instr_with world.now number (Some (AMethod member))) }
+{
+    match method_found(alloc, world, member)? {
+        Some(method) => Ok(method_instr(number, method)),
+        None => Ok(None),
+    }
+}
+
+/// The instruction of a number with what its index names; none where that isn't there (JVMS 6.5).
+pub fn instr_with(
+    alloc: Global,
+    world: &World,
+    number: u8,
+    operand: Option<Operand>,
+) -> Result<Option<Instr>, NoMemory>
+    ensures { IfOk result (λ instr. instr ≡ instr_with world.now number operand) }
+{
+    let Some(operand) = operand else {
+        return Ok(None);
+    };
+    match operand {
+        Operand::AConstant(value) => Ok(constant_instr(number, value)),
+        Operand::AField(member) => access(alloc, world, number, member),
+        Operand::AMethod(member) => call(alloc, world, number, member),
+        Operand::AType(class) => Ok(typed_instr(world, number, &class)),
+    }
+}

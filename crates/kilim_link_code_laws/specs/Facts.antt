@@ -1,0 +1,42 @@
+-- Facts of programs that are linked.
+use Rattle.std.specs.Prelude.{◌≡◌, true, List, []}
+use Rattle.std.specs.List.{list_all}
+use Rattle.kilim_classfile.specs.declared.class_file.ClassFile.{ClassFile}
+use Rattle.kilim_link_spec.specs.Faults.{link_faults}
+use Rattle.kilim_link_spec.specs.Linked.{Linked}
+use Rattle.kilim_link_spec.specs.LinksWell.{LinksWell}
+use Rattle.kilim_link_spec.specs.World.{world_of}
+use Rattle.kilim_classes.specs.declared.class.Form.{Form}
+use Rattle.kilim_classes.specs.declared.names.ClassId.{ClassId}
+use Rattle.kilim_classes.specs.Keeps.{code_is_whole, constants_fit, ids_are_places, method_is_sound, no_task_arrays}
+use Rattle.kilim_classes.specs.Lengths.{places_increase}
+use Rattle.kilim_classes.specs.Names.{is_task}
+use Rattle.kilim_classes.specs.Program.{Program}
+
+-- The places of each method's frames increase.
+abbrev pub FramesIncrease : Type 0
+FramesIncrease = (files : List ClassFile) (form : Form) (p : Program) → LinksWell files form p → list_all (λ m. places_increase m.frames) p.methods ≡ true
+
+-- A method has a qualifier for each parameter and few argument slots, and no constructor pauses.
+abbrev pub MethodsAreSound : Type 0
+MethodsAreSound = (files : List ClassFile) (form : Form) (p : Program) → LinksWell files form p → list_all method_is_sound p.methods ≡ true
+
+-- The code of each method is whole.
+abbrev pub CodeIsWhole : Type 0
+CodeIsWhole = (files : List ClassFile) (form : Form) (p : Program) → LinksWell files form p → list_all code_is_whole p.methods ≡ true
+
+-- A static field has a constant of its type.
+abbrev pub ConstantsFit : Type 0
+ConstantsFit = (files : List ClassFile) (form : Form) (p : Program) → LinksWell files form p → constants_fit p ≡ true
+
+-- Where there is no fault there is a program.
+abbrev pub NoFaultLinks : Type 0
+NoFaultLinks = (files : List ClassFile) (form : Form) → link_faults files form ≡ [] → (p : Program) × Linked files form p
+
+-- There is no array of tasks, where the tasks of the outline are those of the program.
+abbrev pub NoTaskArrays : Type 0
+NoTaskArrays = (files : List ClassFile) (form : Form) (p : Program) → LinksWell files form p → ((c : ClassId) → is_task (world_of files form).outline c ≡ is_task p c) → no_task_arrays p ≡ true
+
+-- Each id is a place in its list.
+abbrev pub IdsArePlaces : Type 0
+IdsArePlaces = (files : List ClassFile) (form : Form) (p : Program) → LinksWell files form p → ids_are_places p ≡ true

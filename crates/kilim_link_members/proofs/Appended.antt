@@ -1,0 +1,90 @@
+-- Making the elements of one list, and then of others behind it.
+use Rattle.std.proofs.Common.{◌≡◌, Bool, true, false, ℕ, ◌+◌, ◌<◌, zero, suc, List, [], ◌∷◌, ◌++◌, length, drop, get_or, map, Option, Some, None, refl, sym, ap, ◌∙◌, append_assoc, arith}
+use Rattle.std.specs.List.{flat_map}
+use Rattle.kilim_classfile.specs.declared.class_file.ClassFile.{ClassFile}
+use Rattle.kilim_classes.specs.BuiltIn.{class_id}
+use Rattle.kilim_classes.specs.declared.names.ClassId.{ClassId}
+use Rattle.kilim_link_spec.specs.Types.{each_of, itself, with_first}
+use Rattle.kilim_link_spec.specs.Linked.{numbered}
+use Rattle.kilim_link_code.specs.Each.{behind}
+use Rattle.kilim_link_members.specs.Each.{if_all}
+
+-- those of one list where there are all, and then the others
+abbrev joined : {B : Type 0} → Option (List B) → Option (List B) → Option (List B)
+joined None others = None
+joined (Some ys) others = behind ys others
+
+begins : {B : Type 0} (others : Option (List B)) → others ≡ behind [] others
+begins None = refl
+begins (Some ys) = refl
+
+first_of_joined : {B : Type 0} (y : Option B) (ys others : Option (List B)) → with_first y (joined ys others) ≡ joined (with_first y ys) others
+first_of_joined None ys others = refl
+first_of_joined (Some y) None others = refl
+first_of_joined (Some y) (Some ys) None = refl
+first_of_joined (Some y) (Some ys) (Some zs) = refl
+
+behind_both : {B : Type 0} (made ys : List B) (others : Option (List B)) → behind made (behind ys others) ≡ behind (made ++ ys) others
+behind_both made ys None = refl
+behind_both {B} made ys (Some zs) = ap (λ (all : List B). Some all) (sym (append_assoc made ys zs))
+
+some_is : {A : Type 0} (x y : A) → Some x ≡ Some y → x ≡ y
+some_is x y e = cc
+
+goes_behind : {B : Type 0} (made new : List B) (found others : Option (List B)) → behind made found ≡ Some new → behind made (joined found others) ≡ behind new others
+goes_behind made new None others e = absurd cc
+goes_behind made new (Some ys) others e = behind_both made ys others ∙ ap (λ all. behind all others) (some_is (made ++ ys) new e)
+
+stops_behind : {B : Type 0} (made : List B) (found others : Option (List B)) → behind made found ≡ None → behind made (joined found others) ≡ None
+stops_behind made None others e = refl
+stops_behind made (Some ys) others e = absurd cc
+
+module _ {A B : Type 0} (make : A → Option B) where
+  each_joined : (xs : List A) (others : List (Option B)) → each_of itself (map make xs ++ others) ≡ joined (each_of make xs) (each_of itself others)
+  each_joined [] others = begins (each_of itself others)
+  each_joined (x ∷ xs) others = ap (with_first (make x)) (each_joined xs others) ∙ first_of_joined (make x) (each_of make xs) (each_of itself others)
+
+  pub all_then : (made new : List B) (xs : List A) (others : List (Option B)) → behind made (each_of make xs) ≡ Some new
+      → behind made (each_of itself (map make xs ++ others)) ≡ behind new (each_of itself others)
+  all_then made new xs others e = ap (behind made) (each_joined xs others) ∙ goes_behind made new (each_of make xs) (each_of itself others) e
+
+  pub none_then : (made : List B) (xs : List A) (others : List (Option B)) → behind made (each_of make xs) ≡ None
+      → behind made (each_of itself (map make xs ++ others)) ≡ None
+  none_then made xs others e = ap (behind made) (each_joined xs others) ∙ stops_behind made (each_of make xs) (each_of itself others) e
+
+drop_one : {A : Type 0} (xs : List A) (i : ℕ) (d : A) → i < length xs → drop i xs ≡ get_or xs i d ∷ drop (i + 1) xs
+drop_one [] i d lt = absurd (omega arith)
+drop_one (x ∷ xs) zero d lt = refl
+drop_one (x ∷ xs) (suc i) d lt =
+    let n : suc i + 1 ≡ suc (i + 1) = omega arith in
+    drop_one xs i d (omega arith) ∙ ap (λ (k : ℕ). get_or xs i d ∷ drop k (x ∷ xs)) (sym n)
+
+-- ---- a loop over files, which makes something of each member of each
+
+module _ {A B : Type 0} (list : ClassFile → List A) (make : ClassFile → ClassId → A → Option B) where
+  abbrev in_each : ℕ → List ClassFile → List (Option B)
+  in_each n files = flat_map itself (numbered (λ file c. map (make file c) (list file)) n files)
+
+  here : (files : List ClassFile) (i n : ℕ) (file : ClassFile) (made : List B) {total : Option (List B)} → i < length files → file ≡ get_or files i file
+      → behind made (each_of itself (in_each n (drop i files))) ≡ total
+      → behind made (each_of itself (map (make file (class_id n)) (list file) ++ in_each (suc n) (drop (i + 1) files))) ≡ total
+  here files i n file made lt is so_far =
+      let at : drop i files ≡ file ∷ drop (i + 1) files = drop_one files i file lt ∙ ap (λ f. f ∷ drop (i + 1) files) (sym is) in
+      ap (λ fs. behind made (each_of itself (in_each n fs))) (sym at) ∙ so_far
+
+  pub goes_on : (files : List ClassFile) (i n next : ℕ) (file : ClassFile) (made new : List B) (all : Bool) {total : Option (List B)} → i < length files → file ≡ get_or files i file
+      → next ≡ n + 1 → all ≡ true → behind made (each_of (make file (class_id n)) (list file)) ≡ if_all all new
+      → behind made (each_of itself (in_each n (drop i files))) ≡ total
+      → behind new (each_of itself (in_each next (drop (i + 1) files))) ≡ total
+  goes_on files i n next file made new all lt is after yes_all e so_far =
+      let k : next ≡ suc n = omega arith in
+      let there = e ∙ ap (λ b. if_all b new) yes_all in
+      rw k (sym (all_then (make file (class_id n)) made new (list file) (in_each (suc n) (drop (i + 1) files)) there) ∙ here files i n file made lt is so_far)
+
+  pub stops : (files : List ClassFile) (i n : ℕ) (file : ClassFile) (made new : List B) (all : Bool) {total : Option (List B)} → i < length files → file ≡ get_or files i file
+      → all ≡ false → behind made (each_of (make file (class_id n)) (list file)) ≡ if_all all new
+      → behind made (each_of itself (in_each n (drop i files))) ≡ total
+      → None ≡ total
+  stops files i n file made new all lt is not_all e so_far =
+      let none = e ∙ ap (λ b. if_all b new) not_all in
+      sym (none_then (make file (class_id n)) made (list file) (in_each (suc n) (drop (i + 1) files)) none) ∙ here files i n file made lt is so_far

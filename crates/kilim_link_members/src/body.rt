@@ -1,0 +1,108 @@
+//! What the code of a method comes to.
+
+ghost use Rattle.std.specs.Prelude.{◌≡◌, Some, IfOk, option_copied};
+ghost use Rattle.kilim_link_spec.specs.World.{declared_method};
+ghost use Rattle.kilim_link_spec.specs.Code.{decoded, code_of};
+ghost use Rattle.kilim_link_spec.specs.Linked.{no_body, body_with, body_in};
+
+use kilim_attributes::Code;
+use kilim_classes::{ClassId, Frame, Instr};
+use kilim_classfile::{ClassFile, MemberInfo};
+use kilim_constant_pool::Pool;
+use kilim_link_code::code_of;
+use kilim_link_frames::frames_in;
+use kilim_link_mentions::decoded;
+use kilim_link_spec::{Body, DeclaredMethod};
+use kilim_link_world::World;
+use kilim_units::{NoMemory, Seq};
+use std::alloc::Global;
+
+fn no_body(alloc: Global) -> Body
+    ensures { result ≡ no_body }
+{
+    Body {
+        max_stack: 0,
+        max_locals: 0,
+        code_length: 0,
+        code: Seq::new(alloc),
+        frames: Seq::new(alloc),
+    }
+}
+
+// The instructions of code, where it has no fault and all that it names is there.
+fn instrs_in(
+    alloc: Global,
+    world: &World,
+    pool: &Pool,
+    code: &[u8],
+) -> Result<Option<Seq<(u32, Instr)>>, NoMemory>
+    ensures { IfOk result (λ found. found ≡ code_of world.now pool.now (decoded code.now)) }
+{
+    match decoded(alloc, code)? {
+        Ok(body) => code_of(alloc, world, pool, body.code.as_slice()),
+        Err(_) => Ok(None),
+    }
+}
+
+// With code of these instructions and frames. Code of 4,294,967,296 bytes or more is answered as want of memory.
+fn body_with(
+    code: &Code,
+    instrs: Seq<(u32, Instr)>,
+    frames: Seq<(u32, Frame)>,
+) -> Result<Body, NoMemory>
+    ensures { IfOk result (λ body. body ≡ body_with code.now instrs frames) }
+{
+    match u32::try_from(code.code.len()) {
+        Ok(code_length) => Ok(Body {
+            max_stack: code.max_stack,
+            max_locals: code.max_locals,
+            code_length,
+            code: instrs,
+            frames,
+        }),
+        Err(_) => Err(NoMemory),
+    }
+}
+
+// Of a method with code.
+fn body_of(
+    alloc: Global,
+    world: &World,
+    file: &ClassFile,
+    class: ClassId,
+    method: &MemberInfo,
+    declared: &DeclaredMethod,
+    code: &Code,
+) -> Result<Option<Body>, NoMemory>
+    requires { declared.now ≡ declared_method file.now method.now }
+    ensures { IfOk result (λ body. body ≡ body_in world.now file.now class method.now (Some code.now)) }
+{
+    let instrs = instrs_in(alloc, world, &file.constant_pool, code.code.as_slice())?;
+    let Some(instrs) = instrs else {
+        return Ok(None);
+    };
+    match frames_in(alloc, world, file, class, declared, code)? {
+        Some(frames) => Ok(Some(body_with(code, instrs, frames)?)),
+        None => Ok(None),
+    }
+}
+
+/// What the code of a method comes to in a program, where it has no fault and all that it and its frames name is there;
+/// without code nothing (JVMS 4.7.3).
+pub fn body_in(
+    alloc: Global,
+    world: &World,
+    file: &ClassFile,
+    class: ClassId,
+    method: &MemberInfo,
+    declared: &DeclaredMethod,
+    code: Option<&Code>,
+) -> Result<Option<Body>, NoMemory>
+    requires { declared.now ≡ declared_method file.now method.now }
+    ensures { IfOk result (λ body. body ≡ body_in world.now file.now class method.now (option_copied code.entry)) }
+{
+    match code {
+        Some(code) => body_of(alloc, world, file, class, method, declared, code),
+        None => Ok(Some(no_body(alloc))),
+    }
+}

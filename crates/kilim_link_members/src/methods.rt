@@ -1,0 +1,105 @@
+//! Methods.
+
+ghost use Rattle.std.specs.Prelude.{◌≡◌, Some, IfOk};
+ghost use Rattle.kilim_link_spec.specs.World.{declared_method};
+ghost use Rattle.kilim_link_spec.specs.Types.{method_text};
+ghost use Rattle.kilim_link_spec.specs.Linked.{method_with, linked_method};
+
+use crate::body::body_in;
+use crate::types::{result_in, types_in};
+use kilim_classes::{ClassId, Method, Ty};
+use kilim_classfile::{ClassFile, MemberInfo};
+use kilim_descriptors::MethodText;
+use kilim_link_mentions::{code_attribute, method_text};
+use kilim_link_spec::{Body, DeclaredMethod};
+use kilim_link_types::qualified;
+use kilim_link_views::declared_method;
+use kilim_link_world::World;
+use kilim_units::{NoMemory, Seq};
+use std::alloc::Global;
+
+// A method with its types and its body.
+fn method_with(
+    alloc: Global,
+    world: &World,
+    file: &ClassFile,
+    class: ClassId,
+    method: &MemberInfo,
+    declared: DeclaredMethod,
+    text: &MethodText,
+    params: Seq<Ty>,
+    gives: Option<Ty>,
+    body: Body,
+) -> Result<Method, NoMemory>
+    requires declared { declared ≡ declared_method file.now method.now }
+    requires text { Some text.now ≡ method_text declared.descriptor }
+    ensures { IfOk result (λ found. found ≡ method_with world.now file.now class method.now params gives body) }
+{
+    let q = qualified(alloc, world, class, &declared, Some(text))?;
+    Ok(Method {
+        name: declared.name,
+        owner: class,
+        params,
+        result: gives,
+        is_static: declared.is_static,
+        is_private: declared.is_private,
+        is_abstract: declared.is_abstract,
+        built_in: false,
+        pausable: declared.pausable,
+        receiver: q.receiver,
+        qualifiers: q.params,
+        max_stack: body.max_stack,
+        max_locals: body.max_locals,
+        code_length: body.code_length,
+        code: body.code,
+        frames: body.frames,
+    })
+}
+
+// A method of which the descriptor is well formed.
+fn linked_with(
+    alloc: Global,
+    world: &World,
+    file: &ClassFile,
+    class: ClassId,
+    method: &MemberInfo,
+    declared: DeclaredMethod,
+    text: &MethodText,
+) -> Result<Option<Method>, NoMemory>
+    requires declared { declared ≡ declared_method file.now method.now }
+    requires text { Some text.now ≡ method_text declared.descriptor }
+    ensures { IfOk result (λ found. found ≡ linked_method world.now file.now class method.now) }
+{
+    let Some(params) = types_in(alloc, world, text.params.as_slice())? else {
+        return Ok(None);
+    };
+    let Some(gives) = result_in(world, text.result.as_ref()) else {
+        return Ok(None);
+    };
+    let code = code_attribute(method);
+    let Some(body) = body_in(alloc, world, file, class, method, &declared, code)? else {
+        return Ok(None);
+    };
+    let found = method_with(
+        alloc, world, file, class, method, declared, text, params, gives, body,
+    )?;
+    Ok(Some(found))
+}
+
+/// A method of a class in a program (JVMS 4.6), where its types, and all that its code and its frames name, are there.
+/// Code of 4,294,967,296 bytes or more, which no class file has, is answered as want of memory.
+pub fn linked_method(
+    alloc: Global,
+    world: &World,
+    file: &ClassFile,
+    class: ClassId,
+    method: &MemberInfo,
+) -> Result<Option<Method>, NoMemory>
+    ensures { IfOk result (λ found. found ≡ linked_method world.now file.now class method.now) }
+{
+    let declared = declared_method(alloc, file, method)?;
+    match method_text(alloc, &declared.descriptor)? {
+        Some(text) => linked_with(alloc, world, file, class, method, declared, &text),
+        None => Ok(None),
+    }
+}

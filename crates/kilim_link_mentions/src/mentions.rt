@@ -1,0 +1,193 @@
+//! What a class file names, in the order of its bytes.
+
+ghost use Rattle.std.specs.Prelude.{◌≡◌, ◌++◌, IfOk, OnOk, map};
+ghost use Rattle.std.specs.List.{flat_map};
+ghost use Rattle.std.specs.Option.{option_copied};
+ghost use Rattle.kilim_link_spec.specs.World.{class_text, member_descriptor};
+ghost use Rattle.kilim_link_spec.specs.declared.named.Mention.TheVariants.{OfClass, OfField};
+ghost use Rattle.kilim_link_spec.specs.declared.named.Named.TheVariants.{AClass};
+ghost use Rattle.kilim_link_spec.specs.Mentions.{is_anewarray, mentions_of, mentions_of_operand, mentions_of_instr, mentions_of_method, instrs_of, this_slots};
+
+use crate::code::{code_attribute, index_in, instrs_of};
+use crate::descriptors::named_by;
+use crate::frames::push_frames;
+use crate::operands::operand_of;
+use crate::texts::{class_text, has_flag, member_descriptor, super_name};
+use kilim_classfile::{ClassFile, MemberInfo};
+use kilim_constant_pool::Pool;
+use kilim_link_spec::{Mention, Named, Operand};
+use kilim_opcodes::RawInstr;
+use kilim_units::{NoMemory, Seq, Units};
+use std::alloc::Global;
+
+// `anewarray` makes an array of what its index names.
+fn is_anewarray(x: Option<(u8, u16)>) -> bool
+    ensures { result ≡ is_anewarray x }
+{
+    match x {
+        Some((number, _)) => number == 189,
+        None => false,
+    }
+}
+
+fn push_operand(
+    alloc: Global,
+    into: &mut Vec<Mention>,
+    makes_array: bool,
+    operand: Option<Operand>,
+) -> Result<(), NoMemory>
+    ensures { OnOk result (into.new.items ≡ into.old.items ++ mentions_of_operand makes_array operand) }
+{
+    let Some(operand) = operand else {
+        return Ok(());
+    };
+    match operand {
+        Operand::AConstant(_value) => {}
+        Operand::AField(member) => {
+            into.push(Mention::OfClass(named_by(alloc, member.owner.as_slice())?))?;
+            into.push(Mention::OfField(member.descriptor))?;
+        }
+        Operand::AMethod(member) => {
+            into.push(Mention::OfClass(named_by(alloc, member.owner.as_slice())?))?;
+            into.push(Mention::OfMethod(0, member.descriptor))?;
+        }
+        Operand::AType(class) => {
+            if makes_array {
+                into.push(Mention::OfElement(class))?;
+            } else {
+                into.push(Mention::OfClass(class))?;
+            }
+        }
+    }
+    Ok(())
+}
+
+fn push_instr(
+    alloc: Global,
+    into: &mut Vec<Mention>,
+    pool: &Pool,
+    instr: &RawInstr,
+) -> Result<(), NoMemory>
+    ensures { OnOk result (into.new.items ≡ into.old.items ++ mentions_of_instr pool.now instr.now) }
+{
+    let operand = operand_of(alloc, pool, instr)?;
+    push_operand(alloc, into, is_anewarray(index_in(instr)), operand)
+}
+
+fn push_code(
+    alloc: Global,
+    into: &mut Vec<Mention>,
+    pool: &Pool,
+    instrs: &[(u32, RawInstr)],
+) -> Result<(), NoMemory>
+    ensures { OnOk result (into.new.items ≡ into.old.items ++ flat_map (λ p. mentions_of_instr pool.now p.1) instrs.now) }
+{
+    for (_, instr) in instrs {
+        push_instr(alloc, into, pool, instr)?;
+    }
+    Ok(())
+}
+
+fn push_code_of(
+    alloc: Global,
+    into: &mut Vec<Mention>,
+    pool: &Pool,
+    method: &MemberInfo,
+) -> Result<(), NoMemory>
+    ensures { OnOk result (into.new.items ≡ into.old.items ++ flat_map (λ p. mentions_of_instr pool.now p.1) (instrs_of method.now)) }
+{
+    let instrs = instrs_of(alloc, method)?;
+    push_code(alloc, into, pool, instrs.as_slice())
+}
+
+// `this` is an argument of an instance method.
+fn this_slots(method: &MemberInfo) -> u8
+    ensures { result ≡ this_slots method.now }
+{
+    if has_flag(0x0008, method.access_flags) {
+        0
+    } else {
+        1
+    }
+}
+
+#[tactic(auto, using(crate::proofs::Joined::three))]
+fn push_method(
+    alloc: Global,
+    into: &mut Vec<Mention>,
+    file: &ClassFile,
+    method: &MemberInfo,
+) -> Result<(), NoMemory>
+    ensures { OnOk result (into.new.items ≡ into.old.items ++ mentions_of_method file.now method.now) }
+{
+    let descriptor = Units::from_slice(alloc, member_descriptor(file, method))?;
+    into.push(Mention::OfMethod(this_slots(method), descriptor))?;
+    push_code_of(alloc, into, &file.constant_pool, method)?;
+    push_frames(alloc, into, &file.constant_pool, code_attribute(method))
+}
+
+fn push_methods(
+    alloc: Global,
+    into: &mut Vec<Mention>,
+    file: &ClassFile,
+    methods: &[MemberInfo],
+) -> Result<(), NoMemory>
+    ensures { OnOk result (into.new.items ≡ into.old.items ++ flat_map (mentions_of_method file.now) methods.now) }
+{
+    for method in methods {
+        push_method(alloc, into, file, method)?;
+    }
+    Ok(())
+}
+
+fn push_interfaces(
+    alloc: Global,
+    into: &mut Vec<Mention>,
+    pool: &Pool,
+    interfaces: &[u16],
+) -> Result<(), NoMemory>
+    ensures { OnOk result (into.new.items ≡ into.old.items ++ map (λ name. OfClass (AClass name)) (map (class_text pool.now) interfaces.now)) }
+{
+    for index in interfaces {
+        let name = Units::from_slice(alloc, class_text(pool, *index))?;
+        into.push(Mention::OfClass(Named::AClass(name)))?;
+    }
+    Ok(())
+}
+
+fn push_fields(
+    alloc: Global,
+    into: &mut Vec<Mention>,
+    file: &ClassFile,
+    fields: &[MemberInfo],
+) -> Result<(), NoMemory>
+    ensures { OnOk result (into.new.items ≡ into.old.items ++ map (λ f. OfField (member_descriptor file.now f)) fields.now) }
+{
+    for field in fields {
+        let descriptor = Units::from_slice(alloc, member_descriptor(file, field))?;
+        into.push(Mention::OfField(descriptor))?;
+    }
+    Ok(())
+}
+
+#[tactic(auto, using(crate::proofs::Joined::four), unfolding(kilim_link_spec::specs::Mentions::mentions_of))]
+fn push_file(alloc: Global, into: &mut Vec<Mention>, file: &ClassFile) -> Result<(), NoMemory>
+    ensures { OnOk result (into.new.items ≡ into.old.items ++ mentions_of file.now) }
+{
+    let superclass = Units::from_slice(alloc, super_name(file))?;
+    into.push(Mention::OfClass(Named::AClass(superclass)))?;
+    push_interfaces(alloc, into, &file.constant_pool, file.interfaces.as_slice())?;
+    push_fields(alloc, into, file, file.fields.as_slice())?;
+    push_methods(alloc, into, file, file.methods.as_slice())
+}
+
+/// What a class file names, in the order of its bytes: the superclass, the interfaces, the descriptors of the fields,
+/// then for each method its descriptor, its code and its frames (own). Code that has a fault names nothing, nor does an
+/// index that names no entry of a kind that its instruction takes.
+pub fn mentions_of(alloc: Global, file: &ClassFile) -> Result<Seq<Mention>, NoMemory>
+    ensures { IfOk result (λ mentions. mentions ≡ mentions_of file.now) }
+{
+    let mut mentions = Vec::new(alloc);
+    push_file(alloc, &mut mentions, file)?;
+    Ok(Seq::from_vec(mentions))
+}

@@ -1,0 +1,21 @@
+use Rattle.std.proofs.Common.{ap, ◌∙◌}
+use Rattle.kilim_nearest.specs.declared.nearest.Nearest.{Nearest}
+use Rattle.kilim_nearest.specs.Known.{Tells}
+use Rattle.kilim_link_override_faults.specs.Apart.{says_apart, apart_from}
+use Rattle.kilim_link_override_faults.specs.Heritage.{Finds}
+use Rattle.kilim_link_override_faults.proofs.Telling.{ok_then, apart_fits, finds_apart}
+use Rattle.kilim_link_override_faults.proofs.apart.apart_of.Goals as goal
+
+pub new-requires : goal.new-requires
+new-requires c =
+    let w = c.args.world.now in
+    apart_fits w c.as_slice.result.now c.superclasses.result.now w.classes (c.as_slice.ensures ∙ (c.in_ok-said.ensures ∙ ap (apart_from w 0) c.classes.ensures)) c.superclasses.ensures.counted
+
+pub returns : goal.returns
+returns c =
+    let w = c.args.world.now in
+    let ups = c.superclasses.result.now in
+    let said = c.as_slice.result.now in
+    let are = c.superclasses.ensures.are in
+    ok_then (λ (it : Nearest). Tells it ups said) (λ (it : Nearest). Finds w it (says_apart w)) c.new.result
+    (λ it tells. finds_apart w it ups said are.up_is are.line_is tells (c.as_slice.ensures ∙ (c.in_ok-said.ensures ∙ ap (apart_from w 0) c.classes.ensures))) c.new.ensures

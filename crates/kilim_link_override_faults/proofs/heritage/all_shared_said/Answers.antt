@@ -1,0 +1,24 @@
+use Rattle.std.proofs.Common.{◌≡◌, ◌+◌, ◌++◌, List, length, get_or, drop, ap, ◌∙◌, arith}
+use Rattle.kilim_classes.specs.BuiltIn.{class_id}
+use Rattle.kilim_link_spec.specs.declared.view.DeclaredMethod.{DeclaredMethod}
+use Rattle.kilim_nearest.specs.declared.said.Said.{Said}
+use Rattle.kilim_link_override_faults.specs.Heritage.{numbered, places_in, all_numbered}
+use Rattle.kilim_link_override_faults.proofs.Placing.{said_more, places_more}
+use Rattle.kilim_link_override_faults.proofs.heritage.all_shared_said.Goals as goal
+
+pub loop-i-preserved : goal.loop-i-preserved
+loop-i-preserved c =
+    let i = c.loop-i.i in
+    let classes = c.args.classes.now in
+    let v = get_or classes i c.index-classes-i.result in
+    let is = ap (get_or classes i) c.index-classes-i.is in
+    let lt = c.loop-i-test.true in
+    let places = c.loop-i.places in
+    let more = c.shared_said.new.places in
+    let kept : more ≡ places ++ places_in (class_id i) 0 v.methods = c.in_ok-shared_said.ensures.kept ∙ ap (λ (ms : List DeclaredMethod). places ++ places_in (class_id i) 0 ms) c.as_slice-methods.ensures in
+    let one : c.in_ok-shared_said.field-0 ≡ numbered (length places) v.methods = c.in_ok-shared_said.ensures.said ∙ ap (numbered (length places)) c.as_slice-methods.ensures in (
+      omega (arith, lt),
+      ap (λ (ss : List (List Said)). ss ++ all_numbered (length more) (drop (i + 1) classes)) c.in_ok-push.ensures.ok
+          ∙ said_more i classes v lt is places more kept c.loop-i.said c.in_ok-shared_said.field-0 one c.loop-i.invariant.1,
+      places_more i classes v lt is places more kept c.loop-i.invariant.2,
+    )

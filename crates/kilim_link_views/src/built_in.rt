@@ -1,0 +1,236 @@
+//! The built-in classes.
+
+ghost use Rattle.std.specs.Prelude.{◌≡◌, ◌++◌, map, option_map, option_to_list, codes, IfOk, OnOk};
+ghost use Rattle.std.specs.List.{flat_map, filter_map};
+ghost use Rattle.std.specs.Option.{option_copied};
+ghost use Rattle.kilim_classes.specs.BuiltIn.{built_in_classes_in, is_final_built_in};
+ghost use Rattle.kilim_classes.specs.Names.{class_name, base_descriptor, array_descriptor, descriptor, method_at};
+ghost use Rattle.kilim_link_spec.specs.declared.view.Marks.TheVariants.{Stated};
+ghost use Rattle.kilim_link_spec.specs.World.{result_descriptor, method_descriptor, declared_built_in, view_of_built_in, built_ins};
+
+use kilim_built_ins::{built_in_classes, built_in_methods};
+use kilim_classes::{Base, Class, ClassId, Form, Method, MethodId, Program, Ty, built_in_keeps};
+use kilim_link_spec::{ClassView, DeclaredMethod, Marks};
+use kilim_units::{NoMemory, Seq, Units};
+use std::alloc::Global;
+
+// The built-in classes and methods of a form, as a program of their own.
+fn built_ins(alloc: Global, form: Form) -> Result<Program, NoMemory>
+    ensures { IfOk result (λ program. program ≡ built_ins form) }
+{
+    built_in_keeps();
+    let classes = built_in_classes(alloc, form, 0, 0)?;
+    let methods = built_in_methods(alloc, form, 0)?;
+    Ok(Program {
+        classes,
+        methods,
+        fields: Seq::new(alloc),
+        form,
+    })
+}
+
+// The name of a class; none past the end.
+fn class_name(program: &Program, class: ClassId) -> &[u16]
+    ensures { result.now ≡ class_name program.now class }
+{
+    match program.classes.as_slice().get(class.0 as usize) {
+        Some(found) => found.name.as_slice(),
+        None => &[],
+    }
+}
+
+// Appends the descriptor of a base (JVMS 4.3.2).
+fn push_base(text: &mut Vec<u16>, program: &Program, base: Base) -> Result<(), NoMemory>
+    ensures { OnOk result (text.new.items ≡ text.old.items ++ base_descriptor program.now base) }
+{
+    match base {
+        Base::Bool => text.push(90)?,
+        Base::Byte => text.push(66)?,
+        Base::Char => text.push(67)?,
+        Base::Short => text.push(83)?,
+        Base::Int => text.push(73)?,
+        Base::Long => text.push(74)?,
+        Base::Class(class) => push_class(text, class_name(program, class))?,
+    }
+    Ok(())
+}
+
+// Appends the descriptor of a class of that name.
+fn push_class(text: &mut Vec<u16>, name: &[u16]) -> Result<(), NoMemory>
+    ensures { OnOk result (text.new.items ≡ text.old.items ++ (codes "L" ++ (name.now ++ codes ";"))) }
+{
+    text.push(76)?;
+    text.extend_from_slice(name)?;
+    text.push(59)?;
+    Ok(())
+}
+
+// Appends the descriptor of a type.
+#[tactic(auto, using(crate::proofs::Dimensions::one_dimension))]
+fn push_type(text: &mut Vec<u16>, program: &Program, ty: Ty) -> Result<(), NoMemory>
+    ensures { OnOk result (text.new.items ≡ text.old.items ++ descriptor program.now ty) }
+{
+    let mut left = ty.dims;
+    while left > 0 {
+        text.push(91)?;
+        left -= 1;
+    }
+    push_base(text, program, ty.base)
+}
+
+// Appends the descriptors of types.
+fn push_types(text: &mut Vec<u16>, program: &Program, types: &[Ty]) -> Result<(), NoMemory>
+    ensures { OnOk result (text.new.items ≡ text.old.items ++ flat_map (descriptor program.now) types.now) }
+{
+    for ty in types {
+        push_type(text, program, *ty)?;
+    }
+    Ok(())
+}
+
+// Appends the descriptor of a result (JVMS 4.3.3).
+fn push_result(text: &mut Vec<u16>, program: &Program, gives: Option<Ty>) -> Result<(), NoMemory>
+    ensures { OnOk result (text.new.items ≡ text.old.items ++ result_descriptor program.now gives) }
+{
+    match gives {
+        None => text.push(86)?,
+        Some(ty) => push_type(text, program, ty)?,
+    }
+    Ok(())
+}
+
+// The descriptor of a method.
+fn method_descriptor(alloc: Global, program: &Program, method: &Method) -> Result<Units, NoMemory>
+    ensures { IfOk result (λ text. text ≡ method_descriptor program.now method.now) }
+{
+    let mut text = Vec::new(alloc);
+    text.push(40)?;
+    push_types(&mut text, program, method.params.as_slice())?;
+    text.push(41)?;
+    push_result(&mut text, program, method.result)?;
+    Ok(Units::from_vec(text))
+}
+
+// What a built-in method may do with what it is handed.
+fn stated(alloc: Global, method: &Method) -> Result<Marks, NoMemory>
+    ensures { IfOk result (λ marks. marks ≡ Stated method.now.receiver method.now.qualifiers) }
+{
+    let qualifiers = Vec::from_slice(alloc, method.qualifiers.as_slice())?;
+    Ok(Marks::Stated(method.receiver, Seq::from_vec(qualifiers)))
+}
+
+// A built-in method as if it were declared.
+fn declared_built_in(
+    alloc: Global,
+    program: &Program,
+    method: &Method,
+) -> Result<DeclaredMethod, NoMemory>
+    ensures { IfOk result (λ declared. declared ≡ declared_built_in program.now method.now) }
+{
+    Ok(DeclaredMethod {
+        name: Units::from_slice(alloc, method.name.as_slice())?,
+        descriptor: method_descriptor(alloc, program, method)?,
+        is_static: method.is_static,
+        is_private: method.is_private,
+        is_abstract: method.is_abstract,
+        is_final: false,
+        pausable: method.pausable,
+        marks: stated(alloc, method)?,
+    })
+}
+
+// The method of a number, none past the end.
+fn method_at(program: &Program, id: MethodId) -> Option<&Method>
+    ensures { option_copied result ≡ method_at program.now id }
+{
+    program.methods.as_slice().get(id.0 as usize)
+}
+
+// Appends the method of a number, where there is one, as if it were declared.
+fn push_declared(
+    alloc: Global,
+    methods: &mut Seq<DeclaredMethod>,
+    program: &Program,
+    id: MethodId,
+) -> Result<(), NoMemory>
+    ensures { OnOk result (methods.new ≡ methods.old ++ map (declared_built_in program.now) (option_to_list (method_at program.now id))) }
+{
+    match method_at(program, id) {
+        Some(method) => methods.push(declared_built_in(alloc, program, method)?)?,
+        None => {}
+    }
+    Ok(())
+}
+
+// The methods of these numbers as if they were declared.
+fn declared_methods(
+    alloc: Global,
+    program: &Program,
+    ids: &[MethodId],
+) -> Result<Seq<DeclaredMethod>, NoMemory>
+    ensures { IfOk result (λ methods. methods ≡ map (declared_built_in program.now) (filter_map (method_at program.now) ids.now)) }
+{
+    let mut methods = Seq::new(alloc);
+    for id in ids {
+        push_declared(alloc, &mut methods, program, *id)?;
+    }
+    Ok(methods)
+}
+
+// The name of a superclass.
+fn superclass_name(
+    alloc: Global,
+    program: &Program,
+    superclass: Option<ClassId>,
+) -> Result<Option<Units>, NoMemory>
+    ensures { IfOk result (λ name. name ≡ option_map (class_name program.now) superclass) }
+{
+    match superclass {
+        None => Ok(None),
+        Some(class) => Ok(Some(Units::from_slice(alloc, class_name(program, class))?)),
+    }
+}
+
+// Whether no class may have it as its superclass.
+fn is_final(name: &Units) -> bool
+    ensures { result ≡ is_final_built_in name.now }
+{
+    name.is_text(b"java/lang/String")
+        || name.is_text(b"kilim/Mailbox")
+        || name.is_text(b"kilim/Sys")
+}
+
+// A built-in class as if it were given.
+fn view_of_built_in(alloc: Global, program: &Program, class: &Class) -> Result<ClassView, NoMemory>
+    ensures { IfOk result (λ view. view ≡ view_of_built_in program.now class.now) }
+{
+    Ok(ClassView {
+        name: Units::from_slice(alloc, class.name.as_slice())?,
+        superclass: superclass_name(alloc, program, class.superclass)?,
+        is_marked: class.message,
+        is_abstract: class.is_abstract,
+        is_final: is_final(&class.name),
+        is_built_in: true,
+        fields: Seq::new(alloc),
+        methods: declared_methods(alloc, program, class.methods.as_slice())?,
+    })
+}
+
+// The classes of a program as if they were given.
+fn views_of(alloc: Global, program: &Program) -> Result<Seq<ClassView>, NoMemory>
+    ensures { IfOk result (λ views. views ≡ map (view_of_built_in program.now) program.now.classes) }
+{
+    let mut views = Seq::new(alloc);
+    for class in program.classes.as_slice() {
+        views.push(view_of_built_in(alloc, program, class)?)?;
+    }
+    Ok(views)
+}
+
+/// The built-in classes of a form as if they were given, in their order (own).
+pub fn built_in_views(alloc: Global, form: Form) -> Result<Seq<ClassView>, NoMemory>
+    ensures { IfOk result (λ views. views ≡ map (view_of_built_in (built_ins form)) (built_in_classes_in form 0 0)) }
+{
+    let program = built_ins(alloc, form)?;
+    views_of(alloc, &program)
+}

@@ -1,0 +1,30 @@
+-- Lists that are made of the numbers below a bound.
+use Rattle.std.proofs.Common.{◌≡◌, ℕ, zero, suc, ◌<◌, List, [], ◌∷◌, ◌++◌, length, Some, refl, ap, ◌∙◌, inl, inr, arith, length-append}
+use Rattle.std.specs.Prelude.{slice_get}
+use Rattle.std.proofs.lemmas.Bool.{cases_lt}
+use Rattle.kilim_link_world.specs.Agrees.{each_below}
+
+pub get_front : {A : Type 0} (xs ys : List A) (k : ℕ) → k < length xs → slice_get (xs ++ ys) k ≡ slice_get xs k
+get_front [] ys k lt = absurd (omega arith)
+get_front (x ∷ xs) ys zero lt = refl
+get_front (x ∷ xs) ys (suc k) lt = get_front xs ys k (omega arith)
+
+pub get_last : {A : Type 0} (xs : List A) (y : A) → slice_get (xs ++ y ∷ []) (length xs) ≡ Some y
+get_last [] y = refl
+get_last (x ∷ xs) y = get_last xs y
+
+module _ {A : Type 0} (make : ℕ → A) where
+  pub length_below : (n : ℕ) → length (each_below make n) ≡ n
+  length_below zero = refl
+  length_below (suc n) = length-append (each_below make n) (make n ∷ []) ∙ omega (arith, length_below n)
+
+  pub get_below : (n k : ℕ) → k < n → slice_get (each_below make n) k ≡ Some (make k)
+  get_below zero k lt = absurd (omega arith)
+  get_below (suc n) k lt =
+      elim (cases_lt k n) [
+        | inl before ↦ get_front (each_below make n) (make n ∷ []) k (let len = length_below n in omega arith) ∙ get_below n k before
+        | inr last ↦
+            let at : k ≡ length (each_below make n) = let len = length_below n in omega arith in
+            let is : n ≡ k = omega arith in
+            ap (slice_get (each_below make n ++ make n ∷ [])) at ∙ (get_last (each_below make n) (make n) ∙ ap (λ (i : ℕ). Some (make i)) is)
+      ]

@@ -1,0 +1,33 @@
+use Rattle.std.proofs.Common.{◌≡◌, ℕ, Bool, List, Option, length, map, ap, ◌∙◌, subst, arith}
+use Rattle.std.specs.Prelude.{is_some}
+use Rattle.std.specs.List.{list_any}
+use Rattle.kilim_classes.specs.declared.names.ClassId.{ClassId}
+use Rattle.kilim_classes.specs.BuiltIn.{class_id}
+use Rattle.kilim_inherited.specs.declared.entry.Entry.{Entry}
+use Rattle.kilim_inherited.specs.Inherited.{line_in}
+use Rattle.kilim_inherited.specs.Roots.{inherits, IsRight}
+use Rattle.kilim_inherited.specs.Trees.{Forest}
+use Rattle.kilim_link_world.specs.Agrees.{each_below}
+use Rattle.kilim_link_world.specs.Outlining.{mark_at}
+use Rattle.kilim_link_world.specs.Superclasses.{mark_entries}
+use Rattle.kilim_link_world.proofs.Climbing.{marks_are, same_below}
+use Rattle.kilim_link_world.proofs.marks.inherited_marks.Goals as goal
+
+pub returns : goal.returns
+returns c =
+    let inherited = c.in_ok-inherited.inherited in
+    let own = c.args.own.now in
+    let classes = c.args.classes.now in
+    let ups : List (Option ClassId) = map (λ class. class.superclass) classes in
+    let entries : List (List Entry) = map mark_entries own in
+    let ups_are : c.as_slice-2.result.now ≡ ups = c.as_slice-2.ensures ∙ c.in_ok-ups.ensures in
+    let entries_are : c.as_slice-3.result.now ≡ entries = c.as_slice-3.ensures ∙ (c.in_ok-entries.ensures ∙ ap (map mark_entries) c.as_slice.ensures) in
+    let right : IsRight ups entries inherited =
+    subst (λ (us : List (Option ClassId)). IsRight us entries inherited) ups_are (subst (λ (es : List (List Entry)). IsRight c.as_slice-2.result.now es inherited) entries_are c.in_ok-inherited.ensures) in
+    let known : ℕ → Bool = λ k. is_some (inherits inherited (class_id k) 0) in
+    let going_up : ℕ → Bool = λ k. list_any (mark_at own) (line_in ups (class_id k)) in
+    let all : c.loop-i.i ≡ length classes = omega (arith, c.loop-i-test.false) in
+    c.loop-i.invariant.1
+    ∙ (ap (λ (it : Forest). each_below (λ k. is_some (inherits it (class_id k) 0)) c.loop-i.i) c.inherited.view_is
+    ∙ (same_below known going_up (λ k. marks_are own ups inherited right (class_id k)) c.loop-i.i
+    ∙ ap (each_below going_up) all))

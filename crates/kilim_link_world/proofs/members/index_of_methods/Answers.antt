@@ -1,0 +1,25 @@
+use Rattle.std.proofs.Common.{◌<◌, Bool, List, ℕ, length, refl, ap, ◌∙◌, arith}
+use Rattle.std.specs.Prelude.{◌&&◌}
+use Rattle.std.specs.Str.{bytes_eq}
+use Rattle.std.proofs.lemmas.Option.{slice_get_read}
+use Rattle.kilim_link_spec.specs.World.{is_method}
+use Rattle.kilim_signatures.specs.Index.{positions}
+use Rattle.kilim_link_world.proofs.Lists.{index_next}
+use Rattle.kilim_link_world.proofs.members.index_of_methods.Goals as goal
+
+pub loop-i-preserved : goal.loop-i-preserved
+loop-i-preserved c =
+    let xs = c.args.methods.now in
+    let i = c.loop-i.i in
+    let lt : i < length xs = omega (arith, c.loop-i-test.true) in
+    let at = c.index-methods-i.result in
+    let s : List ℕ → List ℕ → List ℕ → List ℕ → Bool = λ n d name descriptor. bytes_eq n name && bytes_eq d descriptor in (
+      omega (arith, c.loop-i-test.true),
+      λ name descriptor.
+          c.in_ok-add.ensures name descriptor
+          ∙ index_next (is_method name descriptor) xs i at (slice_get_read xs (length xs) i at refl lt c.index-methods-i.is)
+          (s c.in_ok-name.name c.in_ok-descriptor.descriptor name descriptor) (positions c.loop-i.index.places name descriptor)
+          (c.loop-i.invariant.1 name descriptor)
+          (ap (λ (n : List ℕ). s n c.in_ok-descriptor.descriptor name descriptor) c.in_ok-name.ensures.cases
+          ∙ ap (λ (d : List ℕ). s at.name d name descriptor) c.in_ok-descriptor.ensures.cases),
+    )

@@ -1,0 +1,39 @@
+use Rattle.std.proofs.Common.{◌≡◌, ◌<◌, List, ℕ, length, get_or, take, refl, ap, ◌∙◌, arith}
+use Rattle.std.specs.Prelude.{slice_get, sum_by}
+use Rattle.std.specs.List.{position_from}
+use Rattle.std.proofs.lemmas.Option.{slice_get-get_or}
+use Rattle.kilim_link_spec.specs.declared.view.DeclaredField.{DeclaredField}
+use Rattle.kilim_link_spec.specs.World.{is_field, fields_at}
+use Rattle.kilim_nearest.specs.declared.said.Said.{Said}
+use Rattle.kilim_nearest.specs.Nearest.{said_by, said_of}
+use Rattle.kilim_link_world.specs.Agrees.{field_count, placed}
+use Rattle.kilim_link_world.proofs.Saying.{class_next, total_next, length_next}
+use Rattle.kilim_link_world.proofs.nearest.all_fields_said.Goals as goal
+
+pub loop-i-preserved : goal.loop-i-preserved
+loop-i-preserved c =
+    let classes = c.args.classes.now in
+    let i = c.loop-i.i in
+    let lt : i < length classes = omega (arith, c.loop-i-test.true) in
+    let at = get_or classes i c.index-classes-i.result in
+    let is = slice_get-get_or classes i c.index-classes-i.result lt in
+    let own = c.in_ok-fields_said.field-0 in
+    let first : c.loop-i.total ≡ sum_by field_count (take i classes) = c.loop-i.invariant.1.1.0 in
+    let listed = c.as_slice-fields.ensures in
+    let said_first : (name descriptor : List ℕ) → said_by own name descriptor ≡ placed (sum_by field_count (take i classes)) (position_from (is_field name descriptor) 0 at.fields) =
+    λ name descriptor.
+    c.in_ok-fields_said.ensures name descriptor
+    ∙ (ap (λ (n : ℕ). placed n (position_from (is_field name descriptor) 0 c.as_slice-fields.result.now)) first
+    ∙ ap (λ (ms : List DeclaredField). placed (sum_by field_count (take i classes)) (position_from (is_field name descriptor) 0 ms)) listed) in (
+      omega (arith, c.loop-i-test.true),
+      (
+        length_next c.loop-i.said own c.push.new.self i c.in_ok-push.ensures.ok c.loop-i.invariant.1.0,
+        (
+          total_next field_count classes i at c.loop-i.total is first (length c.as_slice-fields.result.now) (ap length listed),
+          λ d name descriptor.
+              ap (λ (ss : List (List Said)). said_of (slice_get ss d) name descriptor) c.in_ok-push.ensures.ok
+              ∙ class_next (is_field name descriptor) fields_at refl name descriptor (λ k. sum_by field_count (take k classes)) classes i at c.loop-i.said own is c.loop-i.invariant.1.0 (said_first name descriptor)
+              (λ k. c.loop-i.invariant.1.1.1 k name descriptor) d,
+        ),
+      ),
+    )

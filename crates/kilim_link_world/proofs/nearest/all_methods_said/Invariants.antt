@@ -1,0 +1,15 @@
+use Rattle.std.proofs.Common.{◌≡◌, ◌-◌, ◌≤◌, List, ℕ, length, take}
+use Rattle.std.specs.Prelude.{slice_get, sum_by}
+use Rattle.std.specs.List.{position_from}
+use Rattle.kilim_link_spec.specs.World.{is_method, methods_at}
+use Rattle.kilim_nearest.specs.Nearest.{said_of}
+use Rattle.kilim_link_world.specs.Agrees.{method_count, placed}
+use Rattle.kilim_link_world.proofs.nearest.all_methods_said.Given as goal
+
+abbrev pub invariant-loop-i : goal.invariant-loop-i
+invariant-loop-i l =
+    (l.i ≤ length l.classes) × ((length l.said ≡ l.i) × ((l.total ≡ sum_by method_count (take l.i l.classes))
+    × ((c : ℕ) (name descriptor : List ℕ) → said_of (slice_get l.said c) name descriptor ≡ placed (sum_by method_count (take c l.classes)) (position_from (is_method name descriptor) 0 (methods_at (slice_get (take l.i l.classes) c))))))
+
+abbrev pub decreases-loop-i : goal.decreases-loop-i
+decreases-loop-i l = length l.classes - l.i

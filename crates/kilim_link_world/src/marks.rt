@@ -1,0 +1,60 @@
+//! Marks that classes inherit.
+
+ghost use Rattle.std.specs.Prelude.{◌≡◌, ◌<◌, ◌^◌, IfOk, length, map};
+ghost use Rattle.std.specs.List.{list_any};
+ghost use Rattle.kilim_classes.specs.BuiltIn.{class_id};
+ghost use Rattle.kilim_inherited.specs.Inherited.{line_in};
+ghost use Rattle.kilim_link_world.specs.Agrees.{each_below};
+ghost use Rattle.kilim_link_world.specs.Outlining.{mark_at};
+ghost use Rattle.kilim_link_world.specs.Superclasses.{mark_entries};
+
+use crate::lines::superclasses_of;
+use kilim_classes::{Class, ClassId};
+use kilim_inherited::{Entry, Inherited};
+use kilim_units::{NoMemory, Seq};
+use std::alloc::Global;
+
+// What a class says that is marked, or isn't: marks have one key.
+fn mark_entries(alloc: Global, mark: bool) -> Result<Seq<Entry>, NoMemory>
+    ensures { IfOk result (λ entries. entries ≡ mark_entries mark) }
+{
+    let mut entries: Seq<Entry> = Seq::new(alloc);
+    if mark {
+        let value = Some(0);
+        entries.push(Entry { key: 0, value })?;
+    }
+    Ok(entries)
+}
+
+// The same of each class.
+fn all_mark_entries(alloc: Global, own: &[bool]) -> Result<Seq<Seq<Entry>>, NoMemory>
+    ensures { IfOk result (λ entries. entries ≡ map mark_entries own.now) }
+{
+    let mut entries: Seq<Seq<Entry>> = Seq::new(alloc);
+    for mark in own {
+        entries.push(mark_entries(alloc, *mark)?)?;
+    }
+    Ok(entries)
+}
+
+/// Which classes are marked themselves or by a superclass, by which are marked themselves.
+pub fn inherited_marks(
+    alloc: Global,
+    classes: &[Class],
+    own: &Seq<bool>,
+) -> Result<Seq<bool>, NoMemory>
+    requires few { length classes.now < 2 ^ 32 }
+    requires one_each { length own.now ≡ length classes.now }
+    ensures { IfOk result (λ marks. marks ≡ each_below (λ k. list_any (mark_at own.now) (line_in (map (λ class. class.superclass) classes.now) (class_id k))) (length classes.now)) }
+{
+    let ups = superclasses_of(alloc, classes)?;
+    let entries = all_mark_entries(alloc, own.as_slice())?;
+    let inherited = Inherited::new(alloc, ups.as_slice(), entries.as_slice())?;
+    let mut marks: Seq<bool> = Seq::new(alloc);
+    let mut i: u32 = 0;
+    while (i as usize) < classes.len() {
+        marks.push(inherited.find(ClassId(i), 0).is_some())?;
+        i += 1;
+    }
+    Ok(marks)
+}

@@ -1,0 +1,109 @@
+//! What each class says of its members: their numbers.
+
+ghost use Rattle.std.specs.Prelude.{◌≡◌, ◌+◌, ◌<◌, ◌≤◌, ◌^◌, List, ℕ, IfOk, length, slice_get, sum_by, take};
+ghost use Rattle.std.specs.List.{position_from};
+ghost use Rattle.kilim_classes.specs.declared.names.ClassId as ids;
+ghost use Rattle.kilim_link_spec.specs.World.{is_method, is_field, methods_at, fields_at};
+ghost use Rattle.kilim_nearest.specs.Known.{Tells};
+ghost use Rattle.kilim_nearest.specs.Nearest.{said_by, says};
+ghost use Rattle.kilim_link_world.specs.Agrees.{method_count, field_count, placed};
+
+use kilim_classes::ClassId;
+use kilim_link_spec::{ClassView, DeclaredField, DeclaredMethod};
+use kilim_nearest::{Nearest, Said};
+use kilim_signatures::Signature;
+use kilim_units::{NoMemory, Seq};
+use std::alloc::Global;
+
+// What a class says of its methods, the first of which has this number.
+fn methods_said(
+    alloc: Global,
+    methods: &[DeclaredMethod],
+    first: u32,
+) -> Result<Seq<Said>, NoMemory>
+    requires { first + length methods.now < 2 ^ 32 }
+    ensures { IfOk result (λ said. (name descriptor : List ℕ) → said_by said name descriptor ≡ placed first (position_from (is_method name descriptor) 0 methods.now)) }
+{
+    let mut said: Seq<Said> = Seq::new(alloc);
+    let mut i: u32 = 0;
+    while (i as usize) < methods.len() {
+        let method = &methods[i as usize];
+        let name = method.name.clone()?;
+        let descriptor = method.descriptor.clone()?;
+        let number = first + i;
+        said.push(Said {
+            signature: Signature { name, descriptor },
+            value: Some(number),
+        })?;
+        i += 1;
+    }
+    Ok(said)
+}
+
+// The same of its fields.
+fn fields_said(alloc: Global, fields: &[DeclaredField], first: u32) -> Result<Seq<Said>, NoMemory>
+    requires { first + length fields.now < 2 ^ 32 }
+    ensures { IfOk result (λ said. (name descriptor : List ℕ) → said_by said name descriptor ≡ placed first (position_from (is_field name descriptor) 0 fields.now)) }
+{
+    let mut said: Seq<Said> = Seq::new(alloc);
+    let mut i: u32 = 0;
+    while (i as usize) < fields.len() {
+        let field = &fields[i as usize];
+        let name = field.name.clone()?;
+        let descriptor = field.descriptor.clone()?;
+        said.push(Said {
+            signature: Signature { name, descriptor },
+            value: Some(first + i),
+        })?;
+        i += 1;
+    }
+    Ok(said)
+}
+
+/// What each class says of its methods: their numbers.
+pub fn all_methods_said(alloc: Global, classes: &[ClassView]) -> Result<Seq<Seq<Said>>, NoMemory>
+    requires { sum_by method_count classes.now < 2 ^ 32 }
+    ensures counted { IfOk result (λ said. length said ≡ length classes.now) }
+    ensures said { IfOk result (λ said. (c : ids.ClassId) (name descriptor : List ℕ) → says said name descriptor c ≡ placed (sum_by method_count (take c.0 classes.now)) (position_from (is_method name descriptor) 0 (methods_at (slice_get classes.now c.0)))) }
+{
+    let mut said: Seq<Seq<Said>> = Seq::new(alloc);
+    let mut total: u32 = 0;
+    let mut i = 0;
+    while i < classes.len() {
+        let methods = classes[i].methods.as_slice();
+        said.push(methods_said(alloc, methods, total)?)?;
+        total += methods.len() as u32;
+        i += 1;
+    }
+    Ok(said)
+}
+
+/// What each class says of its fields: their numbers.
+pub fn all_fields_said(alloc: Global, classes: &[ClassView]) -> Result<Seq<Seq<Said>>, NoMemory>
+    requires { sum_by field_count classes.now < 2 ^ 32 }
+    ensures counted { IfOk result (λ said. length said ≡ length classes.now) }
+    ensures said { IfOk result (λ said. (c : ids.ClassId) (name descriptor : List ℕ) → says said name descriptor c ≡ placed (sum_by field_count (take c.0 classes.now)) (position_from (is_field name descriptor) 0 (fields_at (slice_get classes.now c.0)))) }
+{
+    let mut said: Seq<Seq<Said>> = Seq::new(alloc);
+    let mut total: u32 = 0;
+    let mut i = 0;
+    while i < classes.len() {
+        let fields = classes[i].fields.as_slice();
+        said.push(fields_said(alloc, fields, total)?)?;
+        total += fields.len() as u32;
+        i += 1;
+    }
+    Ok(said)
+}
+
+/// What is known of the nearest classes, of the superclass of each class and of what each class says.
+pub fn nearest_of(
+    alloc: Global,
+    ups: &Seq<Option<ClassId>>,
+    said: &Seq<Seq<Said>>,
+) -> Result<Nearest, NoMemory>
+    requires { length said.now ≤ length ups.now }
+    ensures { IfOk result (λ it. Tells it ups.now said.now) }
+{
+    Nearest::new(alloc, ups.as_slice(), said.as_slice())
+}

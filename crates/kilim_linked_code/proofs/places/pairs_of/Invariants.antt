@@ -1,8 +1,0 @@
-use Rattle.std.proofs.Common.{◌≡◌, drop}
-use Rattle.kilim_class_world.specs.Types.{each_of}
-use Rattle.kilim_class_world.specs.Code.{pair_in}
-use Rattle.kilim_linked_code.specs.Each.{behind}
-use Rattle.kilim_linked_code.proofs.places.pairs_of.Given as goal
-
-abbrev pub invariant-loop-pair : goal.invariant-loop-pair
-invariant-loop-pair l = behind l.found (each_of pair_in (drop l.pair-index l.pairs)) ≡ each_of pair_in l.pairs

@@ -1,7 +1,0 @@
-use Rattle.std.proofs.Common.{◌≡◌, ◌+◌, map}
-use Rattle.std.specs.List.{range_with_len}
-use Rattle.kilim_class_world.specs.World.{field_id}
-use Rattle.kilim_linked_members.proofs.classes.field_ids.Given as goal
-
-abbrev pub invariant-loop : goal.invariant-loop
-invariant-loop l = (l.number ≡ l.first + l.counter) × (l.ids ≡ map field_id (range_with_len l.first l.counter))

@@ -1,7 +1,0 @@
-use Rattle.std.proofs.Common.{◌≡◌, drop}
-use Rattle.std.specs.List.{filter_map}
-use Rattle.kilim_class_world.specs.Linked.{constant_by, first_of}
-use Rattle.kilim_linked_members.proofs.fields.first_constant.Given as goal
-
-abbrev pub invariant-loop-attribute : goal.invariant-loop-attribute
-invariant-loop-attribute l = first_of (filter_map (λ a. constant_by l.pool a.info) (drop l.attribute-index l.attributes)) ≡ first_of (filter_map (λ a. constant_by l.pool a.info) l.attributes)

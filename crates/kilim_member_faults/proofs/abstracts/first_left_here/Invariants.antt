@@ -1,7 +1,0 @@
-use Rattle.std.proofs.Common.{◌≡◌, filter, drop}
-use Rattle.kilim_class_world.specs.Faults.{is_left_here}
-use Rattle.kilim_class_world.specs.Linked.{first_of}
-use Rattle.kilim_member_faults.proofs.abstracts.first_left_here.Given as goal
-
-abbrev pub invariant-loop-method : goal.invariant-loop-method
-invariant-loop-method l = first_of (filter (is_left_here l.class_is_abstract) (drop l.method-index l.methods)) ≡ first_of (filter (is_left_here l.class_is_abstract) l.methods)

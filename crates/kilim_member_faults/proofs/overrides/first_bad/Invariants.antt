@@ -1,7 +1,0 @@
-use Rattle.std.proofs.Common.{◌≡◌, filter, drop}
-use Rattle.kilim_class_world.specs.Faults.{overrides_badly}
-use Rattle.kilim_class_world.specs.Linked.{first_of}
-use Rattle.kilim_member_faults.proofs.overrides.first_bad.Given as goal
-
-abbrev pub invariant-loop-method : goal.invariant-loop-method
-invariant-loop-method l = first_of (filter (overrides_badly l.world l.class) (drop l.method-index l.methods)) ≡ first_of (filter (overrides_badly l.world l.class) l.methods)

@@ -1,7 +1,0 @@
-use Rattle.std.proofs.Common.{◌≡◌, ◌++◌, take}
-use Rattle.std.specs.List.{flat_map}
-use Rattle.kilim_class_world.specs.Mentions.{mentions_of_slot}
-use Rattle.kilim_mentions.proofs.frames.push_slots.Given as goal
-
-abbrev pub invariant-loop-slot : goal.invariant-loop-slot
-invariant-loop-slot l = l.into.items ≡ l.fn.into.items ++ flat_map (mentions_of_slot l.pool) (take l.slot-index l.slots)

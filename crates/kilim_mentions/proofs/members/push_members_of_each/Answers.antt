@@ -1,7 +1,0 @@
-use Rattle.std.specs.List.{flat_map}
-use Rattle.kilim_class_world.specs.Mentions.{instrs_of, members_of_operand, operand_of}
-use Rattle.kilim_mentions.proofs.Joined.{pushed}
-use Rattle.kilim_mentions.proofs.members.push_members_of_each.Goals as goal
-
-pub loop-method-preserved : goal.loop-method-preserved
-loop-method-preserved c = pushed (λ m. flat_map (λ p. members_of_operand (operand_of c.args.pool.now p.1)) (instrs_of m)) c.args.into.now.items c.loop-method.into.items c.push_members_of.new.into.items c.args.methods.now c.loop-method.method-index c.method-item.result c.loop-method-test.true c.method-item.is c.loop-method.invariant c.in_ok-push_members_of.ensures

@@ -1,7 +1,0 @@
-use Rattle.std.proofs.Common.{◌≡◌, ◌++◌, take}
-use Rattle.std.specs.List.{flat_map}
-use Rattle.kilim_class_world.specs.Mentions.{instrs_of, members_of_operand, operand_of}
-use Rattle.kilim_mentions.proofs.members.push_members_of_each.Given as goal
-
-abbrev pub invariant-loop-method : goal.invariant-loop-method
-invariant-loop-method l = l.into.items ≡ l.fn.into.items ++ flat_map (λ m. flat_map (λ p. members_of_operand (operand_of l.pool p.1)) (instrs_of m)) (take l.method-index l.methods)

@@ -1,7 +1,0 @@
-use Rattle.std.proofs.Common.{◌≡◌, ◌++◌, map, take}
-use Rattle.kilim_class_world.specs.declared.named.Mention.TheVariants.{OfField}
-use Rattle.kilim_class_world.specs.World.{member_descriptor}
-use Rattle.kilim_mentions.proofs.mentions.push_fields.Given as goal
-
-abbrev pub invariant-loop-field : goal.invariant-loop-field
-invariant-loop-field l = l.into.items ≡ l.fn.into.items ++ map (λ f. OfField (member_descriptor l.file f)) (take l.field-index l.fields)

@@ -1,7 +1,0 @@
-use Rattle.std.proofs.Common.{◌≡◌, ◌++◌, take}
-use Rattle.std.specs.List.{flat_map}
-use Rattle.kilim_class_world.specs.Mentions.{mentions_of_method}
-use Rattle.kilim_mentions.proofs.mentions.push_methods.Given as goal
-
-abbrev pub invariant-loop-method : goal.invariant-loop-method
-invariant-loop-method l = l.into.items ≡ l.fn.into.items ++ flat_map (mentions_of_method l.file) (take l.method-index l.methods)

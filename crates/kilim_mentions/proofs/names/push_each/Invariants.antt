@@ -1,7 +1,0 @@
-use Rattle.std.proofs.Common.{◌≡◌, ◌++◌, take}
-use Rattle.std.specs.List.{flat_map}
-use Rattle.kilim_class_world.specs.Types.{type_names}
-use Rattle.kilim_mentions.proofs.names.push_each.Given as goal
-
-abbrev pub invariant-loop-found : goal.invariant-loop-found
-invariant-loop-found l = l.into.items ≡ l.fn.into.items ++ flat_map type_names (take l.found-index l.types)
