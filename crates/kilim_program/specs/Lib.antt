@@ -7,3 +7,4 @@ pub mod Natives
 pub mod Effect
 pub mod Does
 pub mod Moves
+pub mod Trees

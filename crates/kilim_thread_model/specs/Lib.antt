@@ -2,5 +2,9 @@ pub mod State
 pub mod Lone
 pub mod Turn
 pub mod Runs
+pub mod Course
+pub mod Moving
+pub mod Reach
+pub mod Kept
 pub mod Small
 pub mod Examples

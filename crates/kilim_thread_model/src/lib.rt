@@ -6,8 +6,10 @@ ghost use Rattle.kilim_thread_model.specs.Examples.{ExamplesHold};
 ghost use Rattle.kilim_thread_model.specs.Runs.{OneNextAction, OneReplay};
 ghost use Rattle.kilim_thread_model.specs.Small.{SmallRunIsWhole};
 
+mod deed;
 mod small_programs;
 
+pub use deed::{Beginning, Deed};
 pub use small_programs::Small;
 
 /// A law, and no work: the run of a small program prints its numbers in order, and is done.
