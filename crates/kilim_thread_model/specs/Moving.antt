@@ -36,14 +36,14 @@ with_deed courses t c d = slice_set courses t (further c d)
 abbrev pub books_put : Books → ℕ → Course → BoxName → ℕ → List Token → Option Books
 books_put b t c box n shape =
     if n == (b.mailboxes box).puts then
-      Some (record { courses = with_deed b.courses t c (plain (Put box n shape)); mailboxes = with_mailbox b.mailboxes box (with_message (b.mailboxes box) shape) })
+    Some (record { courses = with_deed b.courses t c (plain (Put box n shape)); mailboxes = with_mailbox b.mailboxes box (with_message (b.mailboxes box) shape) })
     else None
 
 abbrev pub books_taken : Books → ℕ → Course → BoxName → ℕ → List (ℕ × List Token) → Option Books
 books_taken b t c box n [] = None
 books_taken b t c box n (first ∷ rest) =
     if first.0 == n then
-      Some (record { courses = with_deed b.courses t c (record { act = Take box n; taken = first.1 }); mailboxes = with_mailbox b.mailboxes box (with_queue (b.mailboxes box) rest) })
+    Some (record { courses = with_deed b.courses t c (record { act = Take box n; taken = first.1 }); mailboxes = with_mailbox b.mailboxes box (with_queue (b.mailboxes box) rest) })
     else None
 
 abbrev pub books_empty : Books → ℕ → Course → BoxName → List (ℕ × List Token) → Option Books
@@ -60,7 +60,7 @@ books_by b t c (Take box n) = books_taken b t c box n (b.mailboxes box).queue
 books_by b t c (Empty box) = books_empty b t c box (b.mailboxes box).queue
 books_by b t c (Start n shape) =
     if n == length b.courses && nat_lt n task_limit then
-      Some (record b { courses = with_deed b.courses t c (plain (Start n shape)) ++ record { beginning = Begun shape; deeds = [] } ∷ [] })
+    Some (record b { courses = with_deed b.courses t c (plain (Start n shape)) ++ record { beginning = Begun shape; deeds = [] } ∷ [] })
     else None
 books_by b t c (Print shape) = Some (record b { courses = with_deed b.courses t c (plain (Print shape)) })
 books_by b t c (End why) =
