@@ -11,4 +11,3 @@ mod parts;
 
 pub use classes::built_in_classes;
 pub use methods::built_in_methods;
-

@@ -149,6 +149,7 @@ pub fn built_in_method(
         code_length: 0,
         code: Seq::new(alloc),
         frames: Seq::new(alloc),
+        handlers: Seq::new(alloc),
     })
 }
 

@@ -84,6 +84,7 @@ built_in_method name owner params result is_static pausable receiver qualifiers 
   code_length = 0;
   code = [];
   frames = [];
+  handlers = [];
 }
 
 abbrev pub built_in_constructor : ClassId → Method

@@ -3,7 +3,7 @@
 use Rattle.std.specs.Prelude.{ℕ, ◌+◌, ◌-◌, ◌*◌, ◌%◌, ◌^◌, ◌+ℤ◌, Bool, true, false, not, ◌||◌, ◌&&◌, ◌==◌, nat_lt, ℤ, pos, negsuc, int_le, if◌then◌else◌, List, [], ◌∷◌, Option, Some, None, length, map}
 use Rattle.std.specs.List.{list_all, list_any}
 use Rattle.kilim_classes.specs.declared.instr.Instr.{Instr}
-use Rattle.kilim_classes.specs.declared.instr.Instr.TheVariants.{Iconst, Lconst, Bipush, Sipush, Ldc, LdcW, Ldc2W, Iload, Lload, Aload, Istore, Lstore, Astore, Iinc, Ifeq, Ifne, Iflt, Ifge, Ifgt, Ifle, IfIcmpeq, IfIcmpne, IfIcmplt, IfIcmpge, IfIcmpgt, IfIcmple, IfAcmpeq, IfAcmpne, Goto, Tableswitch, Lookupswitch, Ireturn, Lreturn, Areturn, Return, Getstatic, Getfield, Putfield, Invokevirtual, Invokespecial, Invokestatic, New, Newarray, Anewarray, Checkcast, Instanceof, Ifnull, Ifnonnull, GotoW}
+use Rattle.kilim_classes.specs.declared.instr.Instr.TheVariants.{Iconst, Lconst, Bipush, Sipush, Ldc, LdcW, Ldc2W, Iload, Lload, Aload, Istore, Lstore, Astore, Iinc, Ifeq, Ifne, Iflt, Ifge, Ifgt, Ifle, IfIcmpeq, IfIcmpne, IfIcmplt, IfIcmpge, IfIcmpgt, IfIcmple, IfAcmpeq, IfAcmpne, Goto, Tableswitch, Lookupswitch, Ireturn, Lreturn, Areturn, Return, Getstatic, Getfield, Putfield, Invokevirtual, Invokespecial, Invokestatic, New, Newarray, Anewarray, Checkcast, Instanceof, Ifnull, Ifnonnull, GotoW, Athrow}
 use Rattle.kilim_classes.specs.declared.ty.Base.{Base}
 use Rattle.kilim_classes.specs.declared.ty.Base.TheVariants as base
 use Rattle.kilim_classes.specs.declared.value.Value.{Value}
@@ -137,7 +137,7 @@ jump_targets (Ifnonnull to) = to ∷ []
 jump_targets (GotoW to) = to ∷ []
 jump_targets _ = []
 
--- goto, goto_w, the switches and the returns: control doesn't go on to the next instruction
+-- goto, goto_w, the switches, the returns and `athrow`: control doesn't go on to the next instruction
 unfoldable pub ends_path : Instr → Bool
 ends_path (Goto to) = true
 ends_path (GotoW to) = true
@@ -147,6 +147,7 @@ ends_path Ireturn = true
 ends_path Lreturn = true
 ends_path Areturn = true
 ends_path Return = true
+ends_path Athrow = true
 ends_path _ = false
 
 -- The first instruction stands at a place, and the distance from each one to the next, and from the last to the end,

@@ -52,6 +52,21 @@ pub struct Method {
     pub code: Seq<(u32, Instr)>,
     /// The declared frames with their places, in order (JVMS 4.7.4).
     pub frames: Seq<(u32, Frame)>,
+    /// The exception table, in order (JVMS 4.7.3). Every program keeps that it is empty: linking refuses such tables.
+    pub handlers: Seq<Handler>,
+}
+
+/// An entry of an exception table (JVMS 4.7.3).
+#[derive(Clone, Copy, Debug, PartialEq, Eq)]
+pub struct Handler {
+    /// The place of the first instruction of its range.
+    pub start: u32,
+    /// The place behind its range.
+    pub end: u32,
+    /// The place where it begins.
+    pub at: u32,
+    /// The class of what it catches; none where it catches everything.
+    pub catch: Option<ClassId>,
 }
 
 /// A class (JVMS 4.1).

@@ -121,4 +121,6 @@ pub enum Instr {
     Ifnull(u32),
     Ifnonnull(u32),
     GotoW(u32),
+    /// Throws an exception. Linking refuses it.
+    Athrow,
 }

@@ -15,7 +15,7 @@ mod ty;
 mod value;
 mod verified;
 
-pub use class::{Class, Field, Form, Method, Program};
+pub use class::{Class, Field, Form, Handler, Method, Program};
 pub use instr::Instr;
 pub use laws::{built_in_keeps, facts_are_broken};
 pub use names::{BoxName, ClassId, FieldId, MethodId};

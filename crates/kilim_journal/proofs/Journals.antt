@@ -7,10 +7,10 @@ use Rattle.std.proofs.lemmas.List.{append_cancel_left}
 use Rattle.kilim_program.specs.declared.value.Token.{Token}
 use Rattle.kilim_program.specs.declared.value.Token.TheVariants.{Open}
 use Rattle.kilim_program.specs.declared.cause.EndCause.{EndCause}
-use Rattle.kilim_program.specs.declared.cause.EndCause.TheVariants.{Done, Spent, Depth, Null, Index, Size, Large, Cast, Store, Zero, Boxes, Tasks}
+use Rattle.kilim_program.specs.declared.cause.EndCause.TheVariants.{Done, Spent, Depth, Null, Index, Size, Large, Cast, Store, Zero, Boxes, Tasks, Full, Thrown}
 use Rattle.kilim_program.specs.Cause.{word_of}
 use Rattle.kilim_journal.specs.declared.entry.Act.{Act}
-use Rattle.kilim_journal.specs.declared.entry.Act.TheVariants.{Put, Take, Empty, Start, Print, End, Wait}
+use Rattle.kilim_journal.specs.declared.entry.Act.TheVariants.{Put, Take, Empty, Start, Print, End, Wait, Bound}
 use Rattle.kilim_journal.specs.declared.entry.Entry.{Entry}
 use Rattle.kilim_journal.specs.Text.{box_text, shape_text, act_text, entry_text, journal_text}
 use Rattle.kilim_journal.specs.Readable.{is_value, is_object, is_plain_value, is_readable_act, ActFits, HasOneJournal}
@@ -32,7 +32,7 @@ named (c ∷ cs) word = if same_word (word_of c) word then c else named cs word
 
 -- the cause that a word stands for
 abbrev cause_of : List ℕ → EndCause
-cause_of word = named (Done ∷ Spent ∷ Depth ∷ Null ∷ Index ∷ Size ∷ Large ∷ Cast ∷ Store ∷ Zero ∷ Boxes ∷ Tasks ∷ []) word
+cause_of word = named (Done ∷ Spent ∷ Depth ∷ Null ∷ Index ∷ Size ∷ Large ∷ Cast ∷ Store ∷ Zero ∷ Boxes ∷ Tasks ∷ Full ∷ Thrown ∷ []) word
 
 cause_again : (c : EndCause) → cause_of (word_of c) ≡ c
 cause_again Done = refl
@@ -47,6 +47,8 @@ cause_again Store = refl
 cause_again Zero = refl
 cause_again Boxes = refl
 cause_again Tasks = refl
+cause_again Full = refl
+cause_again Thrown = refl
 
 -- a cause is one word
 cause_in_word : (c : EndCause) → list_all is_in_word (word_of c) ≡ true
@@ -62,6 +64,8 @@ cause_in_word Store = refl
 cause_in_word Zero = refl
 cause_in_word Boxes = refl
 cause_in_word Tasks = refl
+cause_in_word Full = refl
+cause_in_word Thrown = refl
 
 -- equal texts that begin with a cause and a line feed begin with the same cause
 causes_parted : (c d : EndCause) (x y : List ℕ) → word_of c ++ (10 ∷ x) ≡ word_of d ++ (10 ∷ y) → (c ≡ d) × (x ≡ y)
@@ -90,6 +94,9 @@ three_grouped b n t x = simp append_assoc
 
 two_grouped : (b n x : List ℕ) → (b ++ (codes " #" ++ n)) ++ x ≡ b ++ (codes " #" ++ (n ++ x))
 two_grouped b n x = simp append_assoc
+
+bound_grouped : (b n x : List ℕ) → (b ++ (codes " " ++ n)) ++ x ≡ b ++ (codes " " ++ (n ++ x))
+bound_grouped b n x = simp append_assoc
 
 task_grouped : (n t x : List ℕ) → (n ++ (codes " " ++ t)) ++ x ≡ n ++ (codes " " ++ (t ++ x))
 task_grouped n t x = simp append_assoc
@@ -127,6 +134,12 @@ acts_parted (End cause) (End other) x y ha hb fa fb e =
 acts_parted (Wait box) (Wait other) x y ha hb fa fb e =
     let boxes = boxes_parted box other (10 ∷ x) (10 ∷ y) fa fb refl refl (append_cancel_left (codes "waits ") _ _ e) in
     (ap Wait boxes.0, cc boxes.1)
+acts_parted (Bound box n) (Bound other m) x y ha hb fa fb e =
+    let left = bound_grouped (box_text box) (decimal n) (10 ∷ x) in
+    let right = bound_grouped (box_text other) (decimal m) (10 ∷ y) in
+    let boxes = boxes_parted box other (codes " " ++ (decimal n ++ (10 ∷ x))) (codes " " ++ (decimal m ++ (10 ∷ y))) fa.0 fb.0 refl refl (sym left ∙ (append_cancel_left (codes "bound ") _ _ e ∙ right)) in
+    let numbers = decimals_parted n m (10 ∷ x) (10 ∷ y) (omega arith) (omega arith) refl refl (append_cancel_left (codes " ") _ _ boxes.1) in
+    (λ i. Bound (boxes.0 i) (numbers.0 i), cc numbers.1)
 acts_parted a b x y ha hb fa fb e = absurd (omega (arith, ap first_two e))
 
 -- ---- entries and journals

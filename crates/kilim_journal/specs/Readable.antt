@@ -7,7 +7,7 @@ use Rattle.kilim_classes.specs.declared.names.BoxName.{BoxName}
 use Rattle.kilim_program.specs.declared.value.Token.{Token}
 use Rattle.kilim_program.specs.declared.value.Token.TheVariants.{Open, Close, Int, Long, Null, Text, Box}
 use Rattle.kilim_journal.specs.declared.entry.Act.{Act}
-use Rattle.kilim_journal.specs.declared.entry.Act.TheVariants.{Put, Take, Empty, Start, Print, End, Wait}
+use Rattle.kilim_journal.specs.declared.entry.Act.TheVariants.{Put, Take, Empty, Start, Print, End, Wait, Bound}
 use Rattle.kilim_journal.specs.declared.entry.Entry.{Entry}
 use Rattle.kilim_units.specs.NameText.{name_text}
 use Rattle.kilim_journal.specs.Text.{token_text, tokens_text, journal_text}
@@ -79,6 +79,7 @@ ActFits (Start task shape) = (task < 2 ^ 32) × ShapeFits shape
 ActFits (Print shape) = ShapeFits shape
 ActFits (End cause) = Unit {0}
 ActFits (Wait box) = BoxFits box
+ActFits (Bound box most) = BoxFits box × (most < 2 ^ 32)
 
 abbrev pub JournalFits : List Entry → Type 0
 JournalFits es = AllByRecursion (λ (e : Entry). (e.task < 2 ^ 32) × ActFits e.act) es

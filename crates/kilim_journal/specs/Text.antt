@@ -8,7 +8,7 @@ use Rattle.kilim_program.specs.declared.value.Token.TheVariants.{Open, Close, In
 use Rattle.kilim_program.specs.Cause.{word_of}
 use Rattle.kilim_units.specs.NameText.{escape, is_within, name_text}
 use Rattle.kilim_journal.specs.declared.entry.Act.{Act}
-use Rattle.kilim_journal.specs.declared.entry.Act.TheVariants.{Put, Take, Empty, Start, Print, End, Wait}
+use Rattle.kilim_journal.specs.declared.entry.Act.TheVariants.{Put, Take, Empty, Start, Print, End, Wait, Bound}
 use Rattle.kilim_journal.specs.declared.entry.Entry.{Entry}
 
 -- a mailbox: the task that made it, a point, its number
@@ -58,6 +58,7 @@ act_text (Start task shape) = codes "start " ++ (decimal task ++ (codes " " ++ s
 act_text (Print shape) = codes "print " ++ shape_text shape
 act_text (End cause) = codes "end " ++ word_of cause
 act_text (Wait box) = codes "waits " ++ box_text box
+act_text (Bound box most) = codes "bound " ++ (box_text box ++ (codes " " ++ decimal most))
 
 -- a line: the task, a space, the act, a line feed
 abbrev pub entry_text : Entry → List ℕ

@@ -21,6 +21,9 @@ pub enum Act {
     End(EndCause),
     /// The run is over, and the task waits at this mailbox.
     Wait(BoxName),
+    /// A mailbox got a bound: the mailbox, and how many messages it may hold. No run has this entry: mailboxes have no
+    /// bound yet.
+    Bound(BoxName, u32),
 }
 
 /// An event, with the task whose event it is.

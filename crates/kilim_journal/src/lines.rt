@@ -49,6 +49,12 @@ fn push_act(out: &mut Vec<u8>, act: &Act) -> Result<(), AllocError>
             out.extend_from_slice(b"waits ")?;
             push_box(out, *name)
         }
+        Act::Bound(name, most) => {
+            out.extend_from_slice(b"bound ")?;
+            push_box(out, *name)?;
+            out.push(b' ')?;
+            push_number(out, u64::from(*most))
+        }
     }
 }
 

@@ -65,6 +65,7 @@ a_constructor = record {
   code_length = 5;
   code = a_constructor_code;
   frames = [];
+  handlers = [];
 }
 
 abbrev pub a_execute : Method

@@ -113,6 +113,7 @@ method_with w file c method params result body =
       code_length = body.code_length;
       code = body.code;
       frames = body.frames;
+      handlers = [];
     }
 
 -- a method of a class in a program, where its types and its body are there

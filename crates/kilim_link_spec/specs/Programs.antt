@@ -96,6 +96,7 @@ m_method = record {
   code_length = 47;
   code = p_instrs;
   frames = [];
+  handlers = [];
 }
 
 abbrev pub q_class : Class

@@ -31,6 +31,10 @@ pub enum EndCause {
     Boxes,
     /// A start would make the 10,001st task.
     Tasks,
+    /// A message was put into a full mailbox. No run ends so.
+    Full,
+    /// An exception was thrown that nothing caught. No run ends so.
+    Thrown,
 }
 
 impl EndCause {
@@ -51,6 +55,8 @@ impl EndCause {
             EndCause::Zero => "zero",
             EndCause::Boxes => "boxes",
             EndCause::Tasks => "tasks",
+            EndCause::Full => "full",
+            EndCause::Thrown => "thrown",
         }
     }
 }

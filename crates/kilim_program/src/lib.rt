@@ -11,8 +11,8 @@ mod woven;
 
 pub use cause::EndCause;
 pub use kilim_classes::{
-    Base, BoxName, Class, ClassId, Field, FieldId, Form, Frame, Instr, Kind, Method, MethodId,
-    Program, Qualifier, Ty, VType, Value, built_in_keeps, facts_are_broken,
+    Base, BoxName, Class, ClassId, Field, FieldId, Form, Frame, Handler, Instr, Kind, Method,
+    MethodId, Program, Qualifier, Ty, VType, Value, built_in_keeps, facts_are_broken,
 };
 pub use kilim_units::{NoMemory, Seq, Units};
 pub use run::Limits;

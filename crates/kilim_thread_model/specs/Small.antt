@@ -56,6 +56,7 @@ small_method name pausable stack locals len code = record {
   code_length = len;
   code = code;
   frames = [];
+  handlers = [];
 }
 
 abbrev pub small_constructor : Small → Method
