@@ -16,7 +16,7 @@ pub fn text(alloc: Global, ascii: &[u8]) -> Result<Units, NoMemory>
     for byte in ascii {
         units.push(u16::from(*byte))?;
     }
-    Ok(Units::from_vec(units))
+    Ok(Units::from_vec(alloc, units)?)
 }
 
 /// The class so far behind a first one.

@@ -66,7 +66,7 @@ fn text_of(alloc: Global, pool: &Pool, index: u16) -> Result<Units, AllocError>
 {
     match pool.entry(index) {
         Some(Entry::Utf8(units)) => units.clone(),
-        _ => Ok(Units::from_vec(Vec::new(alloc))),
+        _ => Units::from_vec(alloc, Vec::new(alloc)),
     }
 }
 

@@ -108,7 +108,7 @@ fn method_descriptor(alloc: Global, program: &Program, method: &Method) -> Resul
     push_types(&mut text, program, method.params.as_slice())?;
     text.push(41)?;
     push_result(&mut text, program, method.result)?;
-    Ok(Units::from_vec(text))
+    Ok(Units::from_vec(alloc, text)?)
 }
 
 // What a built-in method may do with what it is handed.

@@ -53,5 +53,5 @@ pub fn read(alloc: Global, bytes: &[u8]) -> Result<Units, TextFault>
             Err(fault) => return Err(placed(bytes.len() - rest.len(), fault)),
         }
     }
-    Ok(Units::from_vec(units))
+    Ok(Units::from_vec(alloc, units)?)
 }

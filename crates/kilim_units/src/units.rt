@@ -6,19 +6,20 @@ ghost use Rattle.std.specs.Str.{bytes_eq};
 use std::alloc::{AllocError, Global};
 use std::cmp::Ordering;
 use std::marker::Model;
+use std::sync::Arc;
 
 /// A name or a text as its UTF-16 units (JVMS 4.4.7): a class name in its internal form, as
-/// `java/lang/Object`, a member's name, a descriptor, or a string. Surrogates stand for themselves.
-#[derive(Debug, Drop)]
+/// `java/lang/Object`, a member's name, a descriptor, or a string. Surrogates stand for themselves. The units are
+/// shared: a clone has the same ones, and no copy of them is made.
+#[derive(Drop)]
 pub struct Units {
-    /// The units.
-    pub units: Vec<u16>,
+    units: Arc<Vec<u16>, Global>,
 }
 
 impl Model for Units {
     ghost Value = { List ℕ };
 
-    ghost view = { λ u. u.units.items };
+    ghost view = { λ u. u.units.value.items };
 }
 
 impl Clone for Units {
@@ -26,7 +27,7 @@ impl Clone for Units {
 
     fn clone(&self) -> Result<Units, AllocError> {
         Ok(Units {
-            units: self.units.clone()?,
+            units: Arc::try_clone(&self.units)?,
         })
     }
 }
@@ -42,7 +43,7 @@ impl PartialEq for Units {
     ghost laws = { Prim.search (comparing, rules) };
 
     fn eq(&self, other: &Units) -> bool {
-        self.units == other.units
+        *self.units == *other.units
     }
 }
 
@@ -69,7 +70,7 @@ impl Ord for Units {
     ghost matches_eq = { Prim.search (comparing, rules) };
 
     fn cmp(&self, other: &Units) -> Ordering {
-        self.units.cmp(&other.units)
+        (*self.units).cmp(&*other.units)
     }
 }
 
@@ -90,20 +91,20 @@ impl PartialOrd for Units {
 }
 
 impl Units {
-    /// The text of a vector of units. Takes no memory.
-    pub fn from_vec(units: Vec<u16>) -> Self
-        ensures { result ≡ units.items }
+    /// The text of a vector of units. For want of memory the vector is dropped.
+    pub fn from_vec(alloc: Global, units: Vec<u16>) -> Result<Self, AllocError>
+        ensures { IfOk result (λ text. text ≡ units.items) }
     {
-        Units { units }
+        Ok(Units {
+            units: Arc::new(alloc, units)?,
+        })
     }
 
     /// The text of a slice of units.
     pub fn from_slice(alloc: Global, units: &[u16]) -> Result<Self, AllocError>
         ensures { IfOk result (λ text. text ≡ units.now) }
     {
-        Ok(Units {
-            units: Vec::from_slice(alloc, units)?,
-        })
+        Units::from_vec(alloc, Vec::from_slice(alloc, units)?)
     }
 
     /// The number of units.
