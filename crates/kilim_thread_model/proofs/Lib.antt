@@ -1,3 +1,4 @@
 pub mod Steps
 pub mod SmallRun
 pub mod Examples
+pub mod Edges

@@ -8,3 +8,4 @@ pub mod Reach
 pub mod Kept
 pub mod Small
 pub mod Examples
+pub mod Edges

@@ -2,6 +2,7 @@
 //! laws about them, which no program calls to do work.
 #![tactic(auto)]
 
+ghost use Rattle.kilim_thread_model.specs.Edges.{EdgesHold};
 ghost use Rattle.kilim_thread_model.specs.Examples.{ExamplesHold};
 ghost use Rattle.kilim_thread_model.specs.Runs.{OneNextAction, OneReplay};
 ghost use Rattle.kilim_thread_model.specs.Small.{SmallRunIsWhole};
@@ -21,6 +22,12 @@ pub fn small_run_is_whole()
 /// ones aren't.
 pub fn examples_hold()
     ensures { ExamplesHold }
+{}
+
+/// A law, and no work: what the machine does at its limits, and right beyond them; in which order messages are taken and
+/// causes count; who waits.
+pub fn edges_hold()
+    ensures { EdgesHold }
 {}
 
 /// A law, and no work: a thread's next action leads to one state, however many moves are granted for it.
