@@ -8,3 +8,4 @@ pub mod Effect
 pub mod Does
 pub mod Moves
 pub mod Trees
+pub mod Found

@@ -5,6 +5,7 @@
 #![tactic(auto)]
 
 mod cause;
+mod laws;
 mod run;
 mod value;
 mod woven;
@@ -15,6 +16,7 @@ pub use kilim_classes::{
     MethodId, Program, Qualifier, Ty, VType, Value, built_in_keeps, facts_are_broken,
 };
 pub use kilim_units::{NoMemory, Seq, Units};
+pub use laws::is_found;
 pub use run::Limits;
 pub use value::{Object, Shape, Token};
 pub use woven::Woven;
