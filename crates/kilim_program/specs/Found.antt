@@ -48,12 +48,12 @@ own_execute owner is_private = record (built_in_method (codes "execute") (class_
 abbrev pub by_hand : Program
 by_hand = record {
   classes =
-    class_with (codes "A") 5 (field_id 0 ∷ field_id 1 ∷ []) []
-    ∷ class_with (codes "B") 0 (field_id 2 ∷ []) []
-    ∷ class_with (codes "T") 9 [] (0 ∷ [])
-    ∷ class_with (codes "N") 2 [] []
-    ∷ class_with (codes "P") 9 [] (1 ∷ [])
-    ∷ built_in_classes_in Plain 5 2;
+      class_with (codes "A") 5 (field_id 0 ∷ field_id 1 ∷ []) []
+      ∷ class_with (codes "B") 0 (field_id 2 ∷ []) []
+      ∷ class_with (codes "T") 9 [] (0 ∷ [])
+      ∷ class_with (codes "N") 2 [] []
+      ∷ class_with (codes "P") 9 [] (1 ∷ [])
+      ∷ built_in_classes_in Plain 5 2;
   methods = own_execute 2 false ∷ own_execute 4 true ∷ built_in_methods_in Plain 5;
   fields = field_of_class 0 (codes "a") int_type false ∷ field_of_class 0 (codes "s") int_type true ∷ field_of_class 1 (codes "b") (plain_type base.Long) false ∷ [];
   form = Plain;

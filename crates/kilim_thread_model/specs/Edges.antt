@@ -106,8 +106,8 @@ Printed = (n : ℕ) (x : ℤ) (units : List ℕ) →
 abbrev pub WhoWaits : Type 0
 WhoWaits = (setting : Setting) (s : State) (t : ℕ) (box : BoxName) (frames : List Activation) (done boxes : ℕ) →
     ((after : Lone) → next_move setting t (lone_of s t (Alive frames done boxes)) ≡ Gets box after →
-        ((s.mailboxes box).queue ≡ [] → waits_at setting s t (Alive frames done boxes) ≡ Some box)
-        × ((first : ℕ × ℕ) (rest : List (ℕ × ℕ)) → (s.mailboxes box).queue ≡ first ∷ rest → waits_at setting s t (Alive frames done boxes) ≡ None))
+    ((s.mailboxes box).queue ≡ [] → waits_at setting s t (Alive frames done boxes) ≡ Some box)
+    × ((first : ℕ × ℕ) (rest : List (ℕ × ℕ)) → (s.mailboxes box).queue ≡ first ∷ rest → waits_at setting s t (Alive frames done boxes) ≡ None))
     × (setting.limits.steps ≤ done → waits_at setting s t (Alive frames done boxes) ≡ None)
 
 pub record EdgesHold : Type 0 where

@@ -6,7 +6,7 @@ use Rattle.kilim_program.specs.declared.cause.EndCause.TheVariants as cause
 use Rattle.kilim_classes.specs.declared.names.BoxName.{BoxName}
 use Rattle.kilim_program.specs.declared.value.Token.{Token}
 use Rattle.kilim_journal.specs.declared.entry.Act.{Act}
-use Rattle.kilim_journal.specs.declared.entry.Act.TheVariants.{Put, Take, Empty, Start, Print, End, Wait}
+use Rattle.kilim_journal.specs.declared.entry.Act.TheVariants.{Put, Take, Empty, Start, Print, End, Wait, Bound}
 use Rattle.kilim_journal.specs.declared.entry.Entry.{Entry}
 use Rattle.kilim_classes.specs.Names.{◌>>=◌}
 use Rattle.kilim_thread_model.specs.State.{Setting, Mailbox, empty_mailbox, with_message, with_queue, with_mailbox}
@@ -67,6 +67,8 @@ books_by b t c (End why) =
     if is_tasks why && not (length b.courses == task_limit) then None
     else Some (record b { courses = with_deed b.courses t c (plain (End why)) })
 books_by b t c (Wait box) = None
+-- no thread bounds a mailbox yet
+books_by b t c (Bound box n) = None
 
 abbrev pub books_after : Books → Entry → Option Books
 books_after b e = slice_get b.courses e.task >>= λ (c : Course). books_by b e.task c e.act
