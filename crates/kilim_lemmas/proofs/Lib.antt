@@ -3,3 +3,4 @@ pub mod Options
 pub mod Lists
 pub mod Texts
 pub mod Orders
+pub mod Maps

@@ -1,6 +1,6 @@
 -- Lists: their elements by place, their beginnings and their ends.
-use Rattle.std.proofs.Common.{◌≡◌, ℕ, zero, suc, ◌+◌, ◌<◌, Bool, true, false, List, [], ◌∷◌, ◌++◌, length, take, drop, map, get_or, slice_get, Option, Some, None, cond, refl, ap, sym, ◌∙◌, arith, drop-cons}
-use Rattle.std.specs.Prelude.{◌||◌}
+use Rattle.std.proofs.Common.{◌≡◌, ℕ, zero, suc, ◌+◌, ◌<◌, Bool, true, false, List, [], ◌∷◌, ◌++◌, length, take, drop, map, get_or, slice_get, Option, Some, None, cond, refl, ap, sym, ◌∙◌, ◌≢◌, arith, drop-cons}
+use Rattle.std.specs.Prelude.{◌||◌, slice_set}
 use Rattle.std.specs.List.{list_any}
 
 -- ---- elements by place
@@ -28,6 +28,25 @@ pub get_some : {A : Type 0} (xs : List A) (k : ℕ) → k < length xs → (x : A
 get_some [] k h = absurd (omega arith)
 get_some (x ∷ xs) zero h = (x, refl)
 get_some (x ∷ xs) (suc k) h = get_some xs k (omega arith)
+
+-- ---- another element at a place
+
+pub set_there : {A : Type 0} (xs : List A) (i : ℕ) (x y : A) → slice_get xs i ≡ Some x → slice_get (slice_set xs i y) i ≡ Some y
+set_there [] i x y e = absurd (cc)
+set_there (z ∷ xs) zero x y e = refl
+set_there (z ∷ xs) (suc i) x y e = set_there xs i x y e
+
+pub set_other : {A : Type 0} (xs : List A) (i j : ℕ) (y : A) → j ≢ i → slice_get (slice_set xs i y) j ≡ slice_get xs j
+set_other [] i j y n = refl
+set_other (z ∷ xs) zero zero y n = absurd (n refl)
+set_other (z ∷ xs) zero (suc j) y n = refl
+set_other (z ∷ xs) (suc i) zero y n = refl
+set_other (z ∷ xs) (suc i) (suc j) y n = set_other xs i j y (λ e. n (ap suc e))
+
+pub set_length : {A : Type 0} (xs : List A) (i : ℕ) (y : A) → length (slice_set xs i y) ≡ length xs
+set_length [] i y = refl
+set_length (z ∷ xs) zero y = refl
+set_length (z ∷ xs) (suc i) y = ap suc (set_length xs i y)
 
 -- ---- one more element
 
