@@ -16,7 +16,7 @@ mod sink;
 mod tests;
 
 pub use folder::{FailedCall, Folder, FolderFault};
-pub use gate::{Gate, OpenGate};
+pub use gate::{Gate, HoldGate, NoteGate, OpenGate};
 pub use limits::file_limit;
 pub use memory_folder::{MapFolder, NamedFile, SteadyFolder};
 pub use memory_sink::{SteadySink, VecSink};
