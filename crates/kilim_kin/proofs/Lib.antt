@@ -1,0 +1,5 @@
+pub mod Kins
+pub mod Renamed
+pub mod Words
+pub mod Rows
+pub mod Moving
