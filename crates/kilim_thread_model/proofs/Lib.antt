@@ -2,3 +2,4 @@ pub mod Steps
 pub mod SmallRun
 pub mod Examples
 pub mod Edges
+pub mod Alone

@@ -9,3 +9,4 @@ pub mod Kept
 pub mod Small
 pub mod Examples
 pub mod Edges
+pub mod Alone

@@ -95,8 +95,7 @@ waits_from setting s t [] = []
 waits_from setting s t (thread ∷ threads) = wait_entry t (waits_at setting s t thread) ++ waits_from setting s (t + 1) threads
 
 -- From this state each thread makes the moves that come before its next action, at most so many, and then all
--- have ended or wait, with these entries. A thread that has ended or waits doesn't move, so with more moves it is
--- the same (the law `one_rest`).
+-- have ended or wait, with these entries. (A thread that has ended or waits doesn't move: the law `rests_still`.)
 pub record AtRest (setting : Setting) (s : State) (waits : List Entry) : Type 0 where
   pub moves : ℕ
   pub rest : all_at_rest setting (settled setting moves s) 0 (settled setting moves s).threads ≡ true

@@ -2,6 +2,7 @@
 //! laws about them, which no program calls to do work.
 #![tactic(auto)]
 
+ghost use Rattle.kilim_thread_model.specs.Alone.{NextComes, OneLone, RestsStill};
 ghost use Rattle.kilim_thread_model.specs.Edges.{EdgesHold};
 ghost use Rattle.kilim_thread_model.specs.Examples.{ExamplesHold};
 ghost use Rattle.kilim_thread_model.specs.Runs.{OneNextAction, OneReplay};
@@ -38,4 +39,19 @@ pub fn one_next_action()
 /// A law, and no work: a journal is replayed to one state.
 pub fn one_replay()
     ensures { OneReplay }
+{}
+
+/// A law, and no work: more moves than a thread may do instructions lead it to its next action.
+pub fn next_comes()
+    ensures { NextComes }
+{}
+
+/// A law, and no work: a course is that of one thread.
+pub fn one_lone()
+    ensures { OneLone }
+{}
+
+/// A law, and no work: a thread that has ended or waits doesn't move.
+pub fn rests_still()
+    ensures { RestsStill }
 {}

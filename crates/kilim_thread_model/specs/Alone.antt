@@ -1,0 +1,19 @@
+-- Laws of a thread that is alone, and of one that rests.
+use Rattle.std.specs.Prelude.{◌≡◌, ℕ, ◌<◌, true, List, Option, Some, slice_get}
+use Rattle.kilim_thread_model.specs.State.{Setting, Thread, State}
+use Rattle.kilim_thread_model.specs.Lone.{Lone}
+use Rattle.kilim_thread_model.specs.Turn.{moved, quiet}
+use Rattle.kilim_thread_model.specs.Runs.{is_at_rest}
+use Rattle.kilim_thread_model.specs.Course.{Course, next_within, next_action, IsLone}
+
+-- More moves than a thread may do instructions lead it to its next action, and whatever is enough to the same.
+abbrev pub NextComes : Type 0
+NextComes = (setting : Setting) (t n : ℕ) (l : Lone) → setting.limits.steps < n → next_within setting t n l ≡ next_action setting t l
+
+-- a course is that of one thread
+abbrev pub OneLone : Type 0
+OneLone = (setting : Setting) (t : ℕ) (c : Course) (a b : Lone) → IsLone setting t c a → IsLone setting t c b → a ≡ b
+
+-- a thread that has ended or waits doesn't move
+abbrev pub RestsStill : Type 0
+RestsStill = (setting : Setting) (s : State) (t : ℕ) (thread : Thread) → slice_get s.threads t ≡ Some thread → is_at_rest setting s t thread ≡ true → moved setting s t ≡ quiet s
