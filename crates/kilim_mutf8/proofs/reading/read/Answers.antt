@@ -24,7 +24,7 @@ returns-in-Err-clause-first c = λ fault h.
 
 pub returns-clause-only : goal.returns-clause-only
 returns-clause-only c = λ units fit e.
-    c.from_vec.ensures ∙ all_read c.args.bytes.now c.loop-rest.units.items c.loop-rest.rest.now c.loop-rest.invariant.parts c.loop-rest.invariant.fit (emptied c.loop-rest.rest.now c.loop-rest-test.ensures) units fit e
+    c.in_ok-from_vec.ensures ∙ all_read c.args.bytes.now c.loop-rest.units.items c.loop-rest.rest.now c.loop-rest.invariant.parts c.loop-rest.invariant.fit (emptied c.loop-rest.rest.now c.loop-rest-test.ensures) units fit e
 
 pub returns-clause-first : goal.returns-clause-first
 returns-clause-first c = λ fault h.
@@ -37,4 +37,4 @@ returns-in-Err-clause-units c =
 
 pub returns-clause-units : goal.returns-clause-units
 returns-clause-units c =
-    rw c.from_vec.ensures (all_units c.args.bytes.now c.loop-rest.units.items c.loop-rest.rest.now c.loop-rest.invariant.parts c.loop-rest.invariant.fit (emptied c.loop-rest.rest.now c.loop-rest-test.ensures))
+    rw c.in_ok-from_vec.ensures (all_units c.args.bytes.now c.loop-rest.units.items c.loop-rest.rest.now c.loop-rest.invariant.parts c.loop-rest.invariant.fit (emptied c.loop-rest.rest.now c.loop-rest-test.ensures))
