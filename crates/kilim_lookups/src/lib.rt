@@ -1,0 +1,10 @@
+//! What a run looks up in a program: classes by name, the method that a call selects, the instruction at a place.
+#![tactic(auto)]
+
+mod classes;
+mod code;
+mod methods;
+
+pub use classes::{class_at, class_named};
+pub use code::{code_rises, fetch, instr_at, number_after, number_at};
+pub use methods::{method_at, selected};
