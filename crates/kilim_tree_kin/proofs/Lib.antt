@@ -1,0 +1,4 @@
+pub mod Copied
+pub mod ReadBack
+pub mod Shaped
+pub mod NamedTypes

@@ -1,0 +1,2 @@
+pub mod TreeKin
+pub mod Laws
