@@ -3,3 +3,4 @@ pub mod SmallRun
 pub mod Examples
 pub mod Edges
 pub mod Alone
+pub mod Anywhere

@@ -1,5 +1,9 @@
 -- Laws of a thread that is alone, and of one that rests.
-use Rattle.std.specs.Prelude.{◌≡◌, ℕ, ◌<◌, true, List, Option, Some, slice_get}
+use Rattle.std.specs.Prelude.{◌≡◌, ℕ, ◌<◌, true, List, Option, Some, length, slice_get}
+use Rattle.kilim_classes.specs.Program.{Program}
+use Rattle.kilim_program.specs.declared.value.Object.{Object}
+use Rattle.kilim_program.specs.declared.value.Token.{Token}
+use Rattle.kilim_program.specs.Trees.{Root, built}
 use Rattle.kilim_thread_model.specs.State.{Setting, Thread, State}
 use Rattle.kilim_thread_model.specs.Lone.{Lone}
 use Rattle.kilim_thread_model.specs.Turn.{moved, quiet}
@@ -17,3 +21,8 @@ OneLone = (setting : Setting) (t : ℕ) (c : Course) (a b : Lone) → IsLone set
 -- a thread that has ended or waits doesn't move
 abbrev pub RestsStill : Type 0
 RestsStill = (setting : Setting) (s : State) (t : ℕ) (thread : Thread) → slice_get s.threads t ≡ Some thread → is_at_rest setting s t thread ≡ true → moved setting s t ≡ quiet s
+
+-- a shape of which there is a tree under some names has one under any, of as many objects
+abbrev pub BuiltAnywhere : Type 0
+BuiltAnywhere = (p : Program) (root : Root) (base other : ℕ) (shape : List Token) (objects : List Object) → built p root base shape ≡ Some objects →
+    (others : List Object) × (built p root other shape ≡ Some others) × (length others ≡ length objects)

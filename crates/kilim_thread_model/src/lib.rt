@@ -2,7 +2,7 @@
 //! laws about them, which no program calls to do work.
 #![tactic(auto)]
 
-ghost use Rattle.kilim_thread_model.specs.Alone.{NextComes, OneLone, RestsStill};
+ghost use Rattle.kilim_thread_model.specs.Alone.{BuiltAnywhere, NextComes, OneLone, RestsStill};
 ghost use Rattle.kilim_thread_model.specs.Edges.{EdgesHold};
 ghost use Rattle.kilim_thread_model.specs.Examples.{ExamplesHold};
 ghost use Rattle.kilim_thread_model.specs.Runs.{OneNextAction, OneReplay};
@@ -54,4 +54,9 @@ pub fn one_lone()
 /// A law, and no work: a thread that has ended or waits doesn't move.
 pub fn rests_still()
     ensures { RestsStill }
+{}
+
+/// A law, and no work: a shape of which there is a tree under some names has one under any.
+pub fn built_anywhere()
+    ensures { BuiltAnywhere }
 {}
