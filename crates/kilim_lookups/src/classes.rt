@@ -1,11 +1,12 @@
 //! Classes by their ids and by their names.
 
-ghost use Rattle.std.specs.Prelude.{◌≡◌, option_copied, IfOk};
-ghost use Rattle.kilim_classes.specs.Names.{class_at, class_named};
+ghost use Rattle.std.specs.Prelude.{◌≡◌, ◌∷◌, [], ◌++◌, option_copied, IfOk, OnOk};
+ghost use Rattle.kilim_classes.specs.Names.{class_at, class_named, line_of};
 ghost use Rattle.kilim_classes.specs.Same.{same_base};
 
 use kilim_classes::{Base, Class, ClassId, Program};
 use kilim_units::NoMemory;
+use std::alloc::Global;
 
 /// The class of an id, none past the end.
 pub fn class_at(program: &Program, class: ClassId) -> Option<&Class>
@@ -44,4 +45,32 @@ pub fn same_base(a: Base, b: Base) -> bool
         (Base::Class(c), Base::Class(d)) => c.0 == d.0,
         _ => false,
     }
+}
+
+/// The class, its superclass, and so on up.
+pub fn line_of(alloc: Global, program: &Program, class: ClassId) -> Result<Vec<ClassId>, NoMemory>
+    ensures { IfOk result (λ line. line.items ≡ line_of program.now class) }
+{
+    let mut line = Vec::new(alloc);
+    let mut at = class;
+    let mut left = program.classes.len();
+    while left > 0 {
+        push_class(&mut line, at)?;
+        let Some(found) = class_at(program, at) else {
+            return Ok(line);
+        };
+        let Some(up) = found.superclass else {
+            return Ok(line);
+        };
+        at = up;
+        left -= 1;
+    }
+    Ok(line)
+}
+
+fn push_class(line: &mut Vec<ClassId>, class: ClassId) -> Result<(), NoMemory>
+    ensures { OnOk result (line.new.items ≡ line.old.items ++ class ∷ []) }
+{
+    line.push(class)?;
+    Ok(())
 }
