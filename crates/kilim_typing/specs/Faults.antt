@@ -85,11 +85,11 @@ abbrev pub fault_or : ℕ → Option ℕ → Option (ℕ × ℕ) → Option (ℕ
 fault_or at None behind = behind
 fault_or at (Some rule) behind = Some (at, rule)
 
--- the first place and rule, but for rule 12
-abbrev pub walk_fault : Program → Method → Option Types → List (ℕ × Instr) → Option (ℕ × ℕ)
-walk_fault p m flow [] = None
-walk_fault p m flow (e ∷ es) =
-    fault_or e.0 (place_rule p m e es (arriving flow (declared m e.0))) (walk_fault p m (left_by p m e (arriving flow (declared m e.0))) es)
+-- The first place and rule, but for rule 12; `pending` is a further rule that fails at the first place.
+abbrev pub walk_fault : Program → Method → (pending : Option ℕ) → Option Types → List (ℕ × Instr) → Option (ℕ × ℕ)
+walk_fault p m pending flow [] = None
+walk_fault p m pending flow (e ∷ es) =
+    fault_or e.0 (lesser pending (place_rule p m e es (arriving flow (declared m e.0)))) (walk_fault p m None (left_by p m e (arriving flow (declared m e.0))) es)
 
 -- ---- a method
 
@@ -98,9 +98,7 @@ entry_rule p m first = lesser (fails_unless (flows_into_declared p (entry m) (de
 
 abbrev pub body_fault : Program → Method → List (ℕ × Instr) → Option (ℕ × ℕ)
 body_fault p m [] = None
-body_fault p m (e ∷ es) =
-    fault_or e.0 (lesser (entry_rule p m e.0) (place_rule p m e es (arriving (Some (entry m)) (declared m e.0))))
-    (walk_fault p m (left_by p m e (arriving (Some (entry m)) (declared m e.0))) es)
+body_fault p m (e ∷ es) = walk_fault p m (entry_rule p m e.0) (Some (entry m)) (e ∷ es)
 
 -- rule 12
 abbrev pub frame_fault : Method → List (ℕ × Frame) → Option (ℕ × ℕ)

@@ -52,7 +52,7 @@ sample_field name owner ty is_private =
 -- a method of a class with four words of stack and three locals, without code
 abbrev pub sample_method : List ℕ → ℕ → List Ty → Option Ty → Bool → Bool → Method
 sample_method name owner params result is_static is_private =
-    record { name = name; owner = class_id owner; params = params; result = result; is_static = is_static; is_private = is_private; is_abstract = false; built_in = false; pausable = false; receiver = Safe; qualifiers = []; max_stack = 4; max_locals = 3; code_length = 0; code = []; frames = [] }
+    record { name = name; owner = class_id owner; params = params; result = result; is_static = is_static; is_private = is_private; is_abstract = false; built_in = false; pausable = false; receiver = Safe; qualifiers = []; max_stack = 4; max_locals = 3; code_length = 0; code = []; frames = []; handlers = [] }
 
 -- their methods: 0 M's constructor, 1 N's, 2 P's private one, 3 P's, 4 Q's, 5 the abstract one of Q, 6 a static one of P
 abbrev pub own_methods : List Method
