@@ -1,0 +1,2 @@
+pub mod Lones
+pub mod Laws

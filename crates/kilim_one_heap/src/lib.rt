@@ -1,0 +1,11 @@
+//! Threads over one shared heap, and the same threads each on a heap of its own. Definitions in `specs/`, and laws about
+//! them, which no program calls to do work.
+#![tactic(auto)]
+
+ghost use Rattle.kilim_one_heap.specs.Laws.{NextMovesAreKin};
+
+/// A law, and no work: a thread does next the same on a heap of its own as on a heap that it shares, but for the names
+/// of objects.
+pub fn next_moves_are_kin()
+    ensures { NextMovesAreKin }
+{}
