@@ -1,12 +1,3 @@
-mod ClassA
-mod SmallFiles
-mod MoreFiles
 mod Decoding
 mod First
-mod MorePrograms
-mod Agreeing
 mod Parts
-mod InstructionTable
-mod Searching
-mod EdgeFiles
-mod RelatedFiles

@@ -8,13 +8,5 @@ pub mod Linked
 pub mod Mentions
 pub mod LeftOut
 pub mod Faults
-pub mod Examples
-pub mod Details
 pub mod Laws
 pub mod LinksWell
-pub mod Programs
-pub mod Agreement
-pub mod Instructions
-pub mod Search
-pub mod Edges
-pub mod Relations

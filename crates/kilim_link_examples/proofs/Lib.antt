@@ -1,0 +1,9 @@
+mod ClassA
+mod SmallFiles
+mod MoreFiles
+mod MorePrograms
+mod Agreeing
+mod InstructionTable
+mod Searching
+mod EdgeFiles
+mod RelatedFiles
