@@ -10,10 +10,7 @@ use Rattle.kilim_kin.specs.Kin.{Names, Owner, OfTask, OfNobody, ObjectsKin, Alik
 use Rattle.kilim_lemmas.proofs.Maps.{put_there, put_other}
 use Rattle.std.proofs.lemmas.Option.{same_Some}
 use Rattle.kilim_kin.proofs.Kins.{object_up}
-
--- an object of nobody isn't one of a task's
-task_nobody : {A : Type 0} (t : ℕ) → OfTask t ≡ OfNobody → A
-task_nobody t e = absurd (cc)
+use Rattle.kilim_one_heap.proofs.Owners.{task_nobody}
 
 pub added : Names → ℕ → ℕ → Names
 added of base y n = cond (n == base) (Some y) (of n)

@@ -74,10 +74,10 @@ module _ (setting : Setting) (of : Names) (owner : ℕ → Owner) (t : ℕ) (a b
   -- ---- the two at other frames, with the same heaps
 
   at_frames : (fs gs : List Activation) (done boxes : ℕ) → FramesKin of fs gs → LonesKin of owner t b.heap (went a fs done boxes) (went b gs done boxes)
-  at_frames fs gs done boxes e = record { threads = (e, refl, refl); heaps = kin.heaps; kept = kin.kept; below = kin.below; free = kin.free }
+  at_frames fs gs done boxes e = record { threads = (e, refl, refl); heaps = kin.heaps; kept = kin.kept; below = kin.below; free = kin.free; keeps = kin.keeps }
 
   ended_kin : (c : EndCause) → LonesKin of owner t b.heap (ended a c) (ended b c)
-  ended_kin c = record { threads = refl; heaps = kin.heaps; kept = tt; below = kin.below; free = kin.free }
+  ended_kin c = record { threads = refl; heaps = kin.heaps; kept = tt; below = kin.below; free = kin.free; keeps = λ n. refl }
 
   over_kin : (c : EndCause) → Fits (over a c) (over b c)
   over_kin c = (refl, record { of = of; kin = ended_kin c })
@@ -89,7 +89,7 @@ module _ (setting : Setting) (of : Names) (owner : ℕ → Owner) (t : ℕ) (a b
 
   -- other heaps, in which the thread's own objects may have changed
   runs_kin : (h k : Objects) (fs gs : List Activation) (done boxes : ℕ) → FramesKin of fs gs → Alike of owner t b.heap h k → Fits (next.Goes (went (on_heap a h) fs done boxes)) (next.Goes (went (on_heap b k) gs done boxes))
-  runs_kin h k fs gs done boxes e alike = record { of = of; later = owner; only = λ z. inl refl; kin = record { threads = (e, refl, refl); heaps = alike; kept = kin.kept; below = kin.below; free = kin.free } }
+  runs_kin h k fs gs done boxes e alike = record { of = of; later = owner; only = λ z. inl refl; kin = record { threads = (e, refl, refl); heaps = alike; kept = kin.kept; below = kin.below; free = kin.free; keeps = kin.keeps } }
 
   makes_kin : (o q : Object) (fs gs : List Activation) (done boxes : ℕ) → ObjectsKin of o q → FramesKin of fs gs →
       Fits (next.Goes (went (record a { heap = insert a.heap a.next o; next = a.next + 1 }) (push_value (Ref a.next) fs) done boxes))
@@ -108,6 +108,7 @@ module _ (setting : Setting) (of : Names) (owner : ℕ → Owner) (t : ℕ) (a b
           kept = name_up of more up a.kept b.kept kin.kept;
           below = added_bound of a.next b.next kin.below;
           free = λ x le. owner_old owner b.next (owned.OfTask t) x (λ e. absurd (omega (arith, le, e))) ∙ kin.free x (omega (arith, le));
+          keeps = kin.keeps;
         };
       }
 
@@ -127,7 +128,7 @@ module _ (setting : Setting) (of : Names) (owner : ℕ → Owner) (t : ℕ) (a b
     of = of;
     later = owner;
     only = λ z. inl refl;
-    kin = record { threads = (e, refl, refl); heaps = kin.heaps; kept = tt; below = kin.below; free = kin.free };
+    kin = record { threads = (e, refl, refl); heaps = kin.heaps; kept = tt; below = kin.below; free = kin.free; keeps = λ n. refl };
   }
   begins_kin done boxes _ _ e = absurd e
 
@@ -150,10 +151,10 @@ module _ (setting : Setting) (of : Names) (owner : ℕ → Owner) (t : ℕ) (a b
     both = at_frames fs gs done boxes frames
 
     ends_so : (why : EndCause) → Fits (over c why) (over d why)
-    ends_so why = (refl, record { of = of; kin = record { threads = refl; heaps = kin.heaps; kept = tt; below = kin.below; free = kin.free } })
+    ends_so why = (refl, record { of = of; kin = record { threads = refl; heaps = kin.heaps; kept = tt; below = kin.below; free = kin.free; keeps = λ n. refl } })
 
     onward_with : (v w : Value) → IsKin of v w → Fits (next.Goes (pushed v c)) (next.Goes (pushed w d))
-    onward_with v w e = goes_kin _ _ (record { threads = (kin_push of v w fs gs e frames, refl, refl); heaps = kin.heaps; kept = kin.kept; below = kin.below; free = kin.free })
+    onward_with v w e = goes_kin _ _ (record { threads = (kin_push of v w fs gs e frames, refl, refl); heaps = kin.heaps; kept = kin.kept; below = kin.below; free = kin.free; keeps = kin.keeps })
 
     put_kin : (box : BoxName) (n x : ℕ) → of n ≡ Some x → IsWholeTree p OfMessage a.heap n → (s : Option (List Token)) → shape_of p a.heap n ≡ s → Fits (put_next c box n s) (put_next d box x s)
     put_kin box n x e whole None is = ends_so cause.Large

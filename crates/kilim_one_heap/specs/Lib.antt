@@ -1,2 +1,4 @@
 pub mod Lones
 pub mod Laws
+pub mod Parted
+pub mod Tied

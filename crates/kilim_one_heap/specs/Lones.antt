@@ -1,6 +1,6 @@
 -- A thread on a heap of its own, and the same thread on a heap that it shares with others: the same but for the names of
 -- objects.
-use Rattle.std.specs.Prelude.{◌≡◌, ◌⊎◌, ◌<◌, ◌≤◌, ℕ, List, [], ◌∷◌, Some}
+use Rattle.std.specs.Prelude.{None, ◌≡◌, ◌⊎◌, ◌<◌, ◌≤◌, ℕ, List, [], ◌∷◌, Some}
 use Rattle.kilim_classes.specs.Program.{Program}
 use Rattle.kilim_program.specs.declared.value.Token.{Token}
 use Rattle.kilim_program.specs.Machine.{Objects}
@@ -30,6 +30,8 @@ pub record LonesKin (of : Names) (owner : ℕ → Owner) (t : ℕ) (k0 : Objects
   pub kept : NameKin of a.kept b.kept
   pub below : (n x : ℕ) → of n ≡ Some x → n < a.next
   pub free : (x : ℕ) → b.next ≤ x → owner x ≡ OfNobody
+  -- only task 0 keeps an object
+  pub keeps : (t ≡ 0 → ⊥) → b.kept ≡ None
 
 -- the same after a move, in which objects that nobody had may have become the thread's
 pub record Onward (owner : ℕ → Owner) (t : ℕ) (k0 : Objects) (a b : Lone) : Type 0 where

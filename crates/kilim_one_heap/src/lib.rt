@@ -2,10 +2,16 @@
 //! them, which no program calls to do work.
 #![tactic(auto)]
 
-ghost use Rattle.kilim_one_heap.specs.Laws.{NextMovesAreKin};
+ghost use Rattle.kilim_one_heap.specs.Laws.{MovesMatch, NextMovesAreKin};
 
 /// A law, and no work: a thread does next the same on a heap of its own as on a heap that it shares, but for the names
 /// of objects.
 pub fn next_moves_are_kin()
     ensures { NextMovesAreKin }
+{}
+
+/// A law, and no work: a move of a thread over the one heap is its move over its own heap, and leaves all threads and
+/// mailboxes alike but for the names of objects.
+pub fn moves_match()
+    ensures { MovesMatch }
 {}
