@@ -15,7 +15,7 @@ use Rattle.kilim_journal.specs.declared.entry.Entry.{Entry}
 use Rattle.kilim_journal.specs.Text.{box_text, shape_text, act_text, entry_text, journal_text}
 use Rattle.kilim_journal.specs.Readable.{is_value, is_object, is_plain_value, is_readable_act, ActFits, HasOneJournal}
 use Rattle.kilim_journal.proofs.Parted.{parted, decimals_parted}
-use Rattle.kilim_journal.proofs.Units.{is_in_word}
+use Rattle.kilim_journal.specs.Fronts.{is_in_word}
 use Rattle.kilim_journal.proofs.Tokens.{boxes_parted, tokens_parted}
 
 -- ---- causes
@@ -30,9 +30,13 @@ abbrev named : List EndCause → List ℕ → EndCause
 named [] word = Done
 named (c ∷ cs) word = if same_word (word_of c) word then c else named cs word
 
+-- all causes
+abbrev pub causes : List EndCause
+causes = Done ∷ Spent ∷ Depth ∷ Null ∷ Index ∷ Size ∷ Large ∷ Cast ∷ Store ∷ Zero ∷ Boxes ∷ Tasks ∷ Full ∷ Thrown ∷ []
+
 -- the cause that a word stands for
 abbrev cause_of : List ℕ → EndCause
-cause_of word = named (Done ∷ Spent ∷ Depth ∷ Null ∷ Index ∷ Size ∷ Large ∷ Cast ∷ Store ∷ Zero ∷ Boxes ∷ Tasks ∷ Full ∷ Thrown ∷ []) word
+cause_of word = named causes word
 
 cause_again : (c : EndCause) → cause_of (word_of c) ≡ c
 cause_again Done = refl
@@ -51,7 +55,11 @@ cause_again Full = refl
 cause_again Thrown = refl
 
 -- a cause is one word
-cause_in_word : (c : EndCause) → list_all is_in_word (word_of c) ≡ true
+-- a cause is one word
+pub same_cause : (c d : EndCause) → word_of c ≡ word_of d → c ≡ d
+same_cause c d e = sym (cause_again c) ∙ (ap cause_of e ∙ cause_again d)
+
+pub cause_in_word : (c : EndCause) → list_all is_in_word (word_of c) ≡ true
 cause_in_word Done = refl
 cause_in_word Spent = refl
 cause_in_word Depth = refl
@@ -148,7 +156,7 @@ entry_grouped : (n a x : List ℕ) → (n ++ (codes " " ++ (a ++ codes "\n"))) +
 entry_grouped n a x = simp append_assoc
 
 -- equal texts that begin with an entry begin with the same entry
-entries_parted : (d f : Entry) (x y : List ℕ) → is_readable_act d.act ≡ true → is_readable_act f.act ≡ true → (d.task < 2 ^ 32) × ActFits d.act → (f.task < 2 ^ 32) × ActFits f.act → entry_text d ++ x ≡ entry_text f ++ y → (d ≡ f) × (x ≡ y)
+pub entries_parted : (d f : Entry) (x y : List ℕ) → is_readable_act d.act ≡ true → is_readable_act f.act ≡ true → (d.task < 2 ^ 32) × ActFits d.act → (f.task < 2 ^ 32) × ActFits f.act → entry_text d ++ x ≡ entry_text f ++ y → (d ≡ f) × (x ≡ y)
 entries_parted d f x y hd hf gd gf e =
     let grouped : decimal d.task ++ (codes " " ++ (act_text d.act ++ (10 ∷ x))) ≡ decimal f.task ++ (codes " " ++ (act_text f.act ++ (10 ∷ y))) = sym (entry_grouped (decimal d.task) (act_text d.act) x) ∙ (e ∙ entry_grouped (decimal f.task) (act_text f.act) y) in
     let tasks = decimals_parted d.task f.task (codes " " ++ (act_text d.act ++ (10 ∷ x))) (codes " " ++ (act_text f.act ++ (10 ∷ y))) (omega arith) (omega arith) refl refl grouped in
@@ -159,7 +167,7 @@ not_nothing : (a : List ℕ) (c : ℕ) (x : List ℕ) → a ++ (c ∷ x) ≡ [] 
 not_nothing [] c x e = cc
 not_nothing (d ∷ a) c x e = cc
 
-entry_is_some : (d : Entry) (x : List ℕ) → entry_text d ++ x ≡ [] → ⊥
+pub entry_is_some : (d : Entry) (x : List ℕ) → entry_text d ++ x ≡ [] → ⊥
 entry_is_some d x e = not_nothing (decimal d.task) 32 (act_text d.act ++ (10 ∷ x)) (sym (entry_grouped (decimal d.task) (act_text d.act) x) ∙ e)
 
 -- no two journals have one text

@@ -4,3 +4,8 @@ pub mod Units
 pub mod Tokens
 pub mod Journals
 pub mod Preorder
+pub mod Readings
+pub mod TokensRead
+pub mod ShapesRead
+pub mod ActsRead
+pub mod TextRead

@@ -1,5 +1,5 @@
 -- Where a part of a text ends: words of units that pass a test, and numbers among them.
-use Rattle.std.proofs.Common.{◌≡◌, ℕ, suc, length, ◌<◌, ◌^◌, Bool, true, not, ◌||◌, List, [], ◌∷◌, ◌++◌, refl, arith, pos, negsuc, ℤ}
+use Rattle.std.proofs.Common.{◌≡◌, ℕ, suc, length, ◌<◌, ◌^◌, Bool, true, not, List, [], ◌∷◌, ◌++◌, refl, arith, pos, negsuc, ℤ}
 use Rattle.std.specs.Prelude.{FitsSigned, ◌==◌}
 use Rattle.std.specs.Int.{w32, w64}
 use Rattle.std.specs.List.{list_all}
@@ -10,15 +10,11 @@ use Rattle.std.proofs.lemmas.Bool.{both_ways, not-true, and_parts, and_from, or_
 use Rattle.std.proofs.lemmas.Fmt.{digits_decimal, decimal_injective, signed_decimal_injective, decimal_nonempty}
 use Rattle.std.proofs.lemmas.Str.Parse.{numerals_by_value, tells_all_ascii_digits}
 use Rattle.std.specs.Int.Signed.{mag}
+use Rattle.kilim_journal.specs.Fronts.{is_number_unit, ends_at}
 
 -- equal texts begin with one unit
 pub first_units : (c d : ℕ) (x y : List ℕ) → c ∷ x ≡ d ∷ y → c ≡ d
 first_units c d x y e = cc
-
--- whether a text is empty or begins with a unit that fails the test
-abbrev pub ends_at : (ℕ → Bool) → List ℕ → Bool
-ends_at test [] = true
-ends_at test (c ∷ cs) = not (test c)
 
 -- words that end at a unit that fails the test are equal if the texts that begin with them are
 pub parted : (test : ℕ → Bool) (a b x y : List ℕ) → list_all test a ≡ true → list_all test b ≡ true → ends_at test x ≡ true → ends_at test y ≡ true → a ++ x ≡ b ++ y → (a ≡ b) × (x ≡ y)
@@ -35,10 +31,6 @@ parted test (c ∷ a) (d ∷ b) x y ha hb hx hy e =
     let both : (a ≡ b) × (x ≡ y) = parted test a b x y (and_parts (test c) (list_all test a) ha).1 (and_parts (test d) (list_all test b) hb).1 hx hy tail in
     let front : a ≡ b = both.0 in
     (cc, both.1)
-
--- the units of a number: digits and the minus sign
-abbrev pub is_number_unit : ℕ → Bool
-is_number_unit c = is_ascii_digit c || c == 45
 
 digits_pass : (ds : List ℕ) → all_ascii_digits ds ≡ true → list_all is_number_unit ds ≡ true
 digits_pass [] h = refl

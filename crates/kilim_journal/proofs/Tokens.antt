@@ -12,27 +12,17 @@ use Rattle.kilim_program.specs.declared.value.Token.TheVariants.{Open, Close, In
 use Rattle.kilim_units.specs.NameText.{name_text}
 use Rattle.kilim_journal.specs.Text.{box_text, text_unit, token_text, comma_before, is_followed, tokens_text}
 use Rattle.kilim_journal.specs.Readable.{BoxFits, TokenFits, ShapeFits, is_empty, ends_with_its_value}
-use Rattle.kilim_journal.proofs.Parted.{first_units, ends_at, is_number_unit, decimal_pass, signed_pass, decimals_parted, signed_parted, fits_32, fits_64, signed_begins}
-use Rattle.kilim_journal.proofs.Units.{is_in_word, name_in_word, names_parted, texts_parted}
-
--- what comes after a value: another one, the end of its object, or the end of the line
-data AfterValue : List ℕ → Type 0 where
-  comma : (x : List ℕ) → AfterValue (44 ∷ x)
-  parenthesis : (x : List ℕ) → AfterValue (41 ∷ x)
-  line_feed : (x : List ℕ) → AfterValue (10 ∷ x)
-
--- whether the first word is the name of an object
-abbrev opens : List ℕ → Bool
-opens [] = false
-opens (c ∷ cs) = if is_in_word c then opens cs else c == 40
+use Rattle.kilim_journal.specs.Fronts.{ends_at, is_number_unit, is_in_word, AfterValue, comma, parenthesis, line_feed, IsEnded, opens}
+use Rattle.kilim_journal.proofs.Parted.{first_units, decimal_pass, signed_pass, decimals_parted, signed_parted, fits_32, fits_64, signed_begins}
+use Rattle.kilim_journal.proofs.Units.{name_in_word, names_parted, texts_parted}
 
 -- whether the first number is a Long
-abbrev is_long : List ℕ → Bool
+abbrev pub is_long : List ℕ → Bool
 is_long [] = false
 is_long (c ∷ cs) = if is_number_unit c then is_long cs else c == 76
 
 -- Which of its variants a token is. A text tells it.
-data Kind : Type 0 where
+pub data Kind : Type 0 where
   Opens : Kind
   Closes : Kind
   Ints : Kind
@@ -41,7 +31,7 @@ data Kind : Type 0 where
   Texts : Kind
   Boxes : Kind
 
-abbrev kind : Token → Kind
+abbrev pub kind : Token → Kind
 kind (Open name) = Opens
 kind Close = Closes
 kind (Int n) = Ints
@@ -51,20 +41,13 @@ kind (Text units) = Texts
 kind (Box box) = Boxes
 
 -- the kind of the first token of a text whose first word is no name
-abbrev kind_at : List ℕ → Kind
+abbrev pub kind_at : List ℕ → Kind
 kind_at [] = Nulls
 kind_at (c ∷ cs) = if is_number_unit c then (if is_long (c ∷ cs) then Longs else Ints) else if c == 34 then Texts else if c == 41 then Closes else if c == 64 then Boxes else Nulls
 
 -- the kind of the first token
-abbrev kind_of : List ℕ → Kind
+abbrev pub kind_of : List ℕ → Kind
 kind_of text = if opens text then Opens else kind_at text
-
--- a number, null or a mailbox ends where its text is followed by what comes after a value
-abbrev IsEnded : Token → List ℕ → Type 0
-IsEnded (Open name) x = Unit {0}
-IsEnded Close x = Unit {0}
-IsEnded (Text units) x = Unit {0}
-IsEnded t x = AfterValue x
 
 opens_past : (a x : List ℕ) → list_all is_in_word a ≡ true → opens (a ++ x) ≡ opens x
 opens_past [] x h = refl
@@ -102,10 +85,10 @@ number_in_word (c ∷ a) h =
     let both = and_parts (is_number_unit c) (list_all is_number_unit a) h in
     and_from (is_in_word c) (list_all is_in_word a) (unit_in_word c both.0) (number_in_word a both.1)
 
-opens_is : (text : List ℕ) → opens text ≡ true → kind_of text ≡ Opens
+pub opens_is : (text : List ℕ) → opens text ≡ true → kind_of text ≡ Opens
 opens_is text h = rw h refl
 
-word_is : (text : List ℕ) → opens text ≡ false → kind_of text ≡ kind_at text
+pub word_is : (text : List ℕ) → opens text ≡ false → kind_of text ≡ kind_at text
 word_is text h = rw h refl
 
 number_is : (z : ℤ) (x : List ℕ) → mag z < 2 ^ 63 → kind_at (signed_decimal z ++ x) ≡ if is_long (signed_decimal z ++ x) then Longs else Ints
@@ -129,7 +112,7 @@ box_word box x h =
     ap opens (append_assoc (decimal box.task) (46 ∷ decimal box.number) x) ∙ (first ∙ second)
 
 -- the text of a token tells its kind
-kind_is : (t : Token) (x : List ℕ) → TokenFits t → IsEnded t x → kind_of (token_text t ++ x) ≡ kind t
+pub kind_is : (t : Token) (x : List ℕ) → TokenFits t → IsEnded t x → kind_of (token_text t ++ x) ≡ kind t
 kind_is (Open name) x h ended = opens_is ((name_text name ++ 40 ∷ []) ++ x) (ap opens (append_assoc (name_text name) (40 ∷ []) x) ∙ opens_past (name_text name) (40 ∷ x) (name_in_word name))
 kind_is Close x h ended = refl
 kind_is (Int n) x h ended = number_word n x (fits_32 n h) (after_opens x ended) ∙ rw (after_is_long x ended) refl
@@ -174,7 +157,7 @@ same_token t u x y ht hu tx uy k e = absurd cc
 token_parted : (t u : Token) (x y : List ℕ) → TokenFits t → TokenFits u → IsEnded t x → IsEnded u y → token_text t ++ x ≡ token_text u ++ y → (t ≡ u) × (x ≡ y)
 token_parted t u x y ht hu tx uy e = same_token t u x y ht hu tx uy (sym (kind_is t x ht tx) ∙ (ap kind_of e ∙ kind_is u y hu uy)) e
 
-none_before : (t : Token) → comma_before false t ≡ []
+pub none_before : (t : Token) → comma_before false t ≡ []
 none_before Close = refl
 none_before t = refl
 
@@ -192,7 +175,7 @@ after_tokens [] x = line_feed x
 after_tokens (Close ∷ ts) x = parenthesis _
 after_tokens (t ∷ ts) x = comma _
 
-is_ended : (t : Token) (ts : List Token) (x : List ℕ) → IsEnded t (tokens_text (is_followed t) ts ++ (10 ∷ x))
+pub is_ended : (t : Token) (ts : List Token) (x : List ℕ) → IsEnded t (tokens_text (is_followed t) ts ++ (10 ∷ x))
 is_ended (Open name) ts x = tt
 is_ended Close ts x = tt
 is_ended (Text units) ts x = tt
@@ -203,7 +186,7 @@ nothing [] h = refl
 nothing (t ∷ ts) h = absurd cc
 
 -- after a token the value has ended, or is still to end behind so many objects
-next : (begun : ℕ) (t : Token) → ((ts : List Token) → ends_with_its_value begun (t ∷ ts) ≡ true → ts ≡ []) ⊎ ((still : ℕ) × ((ts : List Token) → ends_with_its_value begun (t ∷ ts) ≡ true → ends_with_its_value still ts ≡ true))
+pub next : (begun : ℕ) (t : Token) → ((ts : List Token) → ends_with_its_value begun (t ∷ ts) ≡ true → ts ≡ []) ⊎ ((still : ℕ) × ((ts : List Token) → ends_with_its_value begun (t ∷ ts) ≡ true → ends_with_its_value still ts ≡ true))
 next begun (Open name) = inr (suc begun, λ ts h. h)
 next zero Close = inl (λ ts h. absurd cc)
 next (suc zero) Close = inl nothing
@@ -211,7 +194,7 @@ next (suc (suc begun)) Close = inr (suc begun, λ ts h. h)
 next zero t = inl nothing
 next (suc begun) t = inr (suc begun, λ ts h. h)
 
-tokens_grouped : (follows : Bool) (t : Token) (ts : List Token) (x : List ℕ) → tokens_text follows (t ∷ ts) ++ x ≡ comma_before follows t ++ (token_text t ++ (tokens_text (is_followed t) ts ++ x))
+pub tokens_grouped : (follows : Bool) (t : Token) (ts : List Token) (x : List ℕ) → tokens_text follows (t ∷ ts) ++ x ≡ comma_before follows t ++ (token_text t ++ (tokens_text (is_followed t) ts ++ x))
 tokens_grouped follows t ts x = append_assoc (comma_before follows t) (token_text t ++ tokens_text (is_followed t) ts) x ∙ ap (λ (rest : List ℕ). comma_before follows t ++ rest) (append_assoc (token_text t) (tokens_text (is_followed t) ts) x)
 
 -- equal texts that begin with a value, or the rest of one, and a line feed begin with the same

@@ -1,16 +1,12 @@
 -- The units of names and texts: what a unit is written as, it is read as.
-use Rattle.std.proofs.Common.{◌≡◌, ℕ, ◌/◌, ◌%◌, Bool, true, false, not, ◌||◌, List, [], ◌∷◌, ◌++◌, refl, sym, ◌∙◌, inl, inr, append_assoc, arith}
-use Rattle.std.specs.Prelude.{if◌then◌else◌, ◌==◌}
+use Rattle.std.proofs.Common.{◌≡◌, ℕ, ◌/◌, ◌%◌, Bool, true, false, List, [], ◌∷◌, ◌++◌, refl, sym, ◌∙◌, inl, inr, append_assoc, arith}
 use Rattle.std.specs.List.{flat_map, list_all}
 use Rattle.std.proofs.lemmas.Bool.{both_ways, cases_Bool, and_from}
 use Rattle.std.proofs.lemmas.Bool.Decides.{nat_tests}
 use Rattle.std.proofs.lemmas.List.Folds.{list_all-append}
 use Rattle.kilim_units.specs.NameText.{hex_digit, escape, stands_in_name, name_unit, name_text}
+use Rattle.kilim_journal.specs.Fronts.{unit_text, is_in_word}
 use Rattle.kilim_journal.specs.Text.{stands_in_text, text_unit}
-
--- a unit that stands for itself, or its escape
-abbrev unit_text : (ℕ → Bool) → ℕ → List ℕ
-unit_text stands u = if stands u then u ∷ [] else escape u
 
 unit_stands : (stands : ℕ → Bool) (u : ℕ) → stands u ≡ true → unit_text stands u ≡ u ∷ []
 unit_stands stands u h = rw h refl
@@ -53,7 +49,7 @@ unit_parted stands slash u v x y e =
     ]
 
 -- what ends a text's units begins no unit's text
-unit_goes_on : (stands : ℕ → Bool) (last : ℕ) → stands last ≡ false → (last ≡ 92 → ⊥) → (u : ℕ) (x y : List ℕ) → last ∷ x ≡ unit_text stands u ++ y → ⊥
+pub unit_goes_on : (stands : ℕ → Bool) (last : ℕ) → stands last ≡ false → (last ≡ 92 → ⊥) → (u : ℕ) (x y : List ℕ) → last ∷ x ≡ unit_text stands u ++ y → ⊥
 unit_goes_on stands last ends other u x y e =
     elim (cases_Bool (stands u)) [
       | inl hu ↦
@@ -87,10 +83,6 @@ names_parted us vs x y e = units_parted stands_in_name refl 40 refl (λ h. absur
 -- the same of a text, which a quotation mark ends
 pub texts_parted : (us vs x y : List ℕ) → flat_map text_unit us ++ (34 ∷ x) ≡ flat_map text_unit vs ++ (34 ∷ y) → (us ≡ vs) × (x ≡ y)
 texts_parted us vs x y e = units_parted stands_in_text refl 34 refl (λ h. absurd cc) us vs x y e
-
--- a quotation mark, a parenthesis, a comma or a line feed ends a word
-abbrev pub is_in_word : ℕ → Bool
-is_in_word c = not (c == 34 || c == 40 || c == 41 || c == 44 || c == 10)
 
 hex_in_word : (d : ℕ) → is_in_word (hex_digit d) ≡ true
 hex_in_word d = grind (arith, nat_tests)

@@ -58,7 +58,7 @@ fn push_act(out: &mut Vec<u8>, act: &Act) -> Result<(), AllocError>
     }
 }
 
-fn push_entry(out: &mut Vec<u8>, entry: &Entry) -> Result<(), AllocError>
+pub(crate) fn push_entry(out: &mut Vec<u8>, entry: &Entry) -> Result<(), AllocError>
     ensures { OnOk result (out.new.items ≡ out.old.items ++ entry_text entry.now) }
 {
     push_number(out, u64::from(entry.task))?;

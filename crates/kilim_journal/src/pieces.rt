@@ -100,7 +100,7 @@ fn push_comma(out: &mut Vec<u8>, follows: bool, token: &Token) -> Result<(), All
     Ok(())
 }
 
-fn is_followed(token: &Token) -> bool
+pub fn is_followed(token: &Token) -> bool
     ensures { result ≡ is_followed token.now }
 {
     !matches!(token, Token::Open(_))
