@@ -1,4 +1,4 @@
 mod Lists
 mod Numbers
-mod Rising
+pub mod Rising
 mod Steps

@@ -20,7 +20,7 @@ or_zero : (a b : Bool) → a ≡ false → b ≡ false → (a || b) ≡ false
 or_zero true b e f = e
 or_zero false b e f = f
 
-same_number : (a b : ℕ) → (a == b) ≡ true → a ≡ b
+pub same_number : (a b : ℕ) → (a == b) ≡ true → a ≡ b
 same_number a b e = grind (arith, e)
 
 not_zero_by : (n : ℕ) (b : Bool) → (0 == n) ≡ b → 0 < n → b ≡ false
@@ -88,7 +88,7 @@ no_length at (Ifnonnull to) = jump_zero at to
 no_length at (GotoW to) = and_zero (is_far at to) _ refl
 no_length at _ = refl
 
-longer_by : (at n k : ℕ) (i : Instr) → n - at ≡ k → has_length at i k ≡ true → at < n
+pub longer_by : (at n k : ℕ) (i : Instr) → n - at ≡ k → has_length at i k ≡ true → at < n
 longer_by at n zero i e h = absurd (let f = no_length at i in cc)
 longer_by at n (suc k) i e h = omega (arith, e)
 
@@ -121,7 +121,7 @@ risen at (e ∷ es) end stands =
     let less : at < first_place es end = longer_by at (first_place es end) (first_place es end - at) e.1 refl long.0 in
     record { rising = (above_all e.0 (first_place es end) es (omega (arith, less, same)) rest.least, rest.rising); least = (omega (arith, same), lower at (first_place es end) es (omega (arith, less)) rest.least) }
 
-all_there : {A : Type 0} (test : A → Bool) (xs : List A) (n : ℕ) (x : A) → list_all test xs ≡ true → slice_get xs n ≡ Some x → test x ≡ true
+pub all_there : {A : Type 0} (test : A → Bool) (xs : List A) (n : ℕ) (x : A) → list_all test xs ≡ true → slice_get xs n ≡ Some x → test x ≡ true
 all_there test [] n x all there = absurd (cc)
 all_there test (y ∷ xs) zero x all there = let e : y ≡ x = grind (arith, there) in ap test (sym e) ∙ (and_parts (test y) _ all).0
 all_there test (y ∷ xs) (suc n) x all there = all_there test xs n x (and_parts (test y) _ all).1 there

@@ -4,7 +4,7 @@ ghost use Rattle.std.specs.Prelude.{◌≡◌, ◌<◌, ◌≤◌, ◌++◌, ◌
 ghost use Rattle.std.specs.List.{AllByRecursion, AllZip};
 ghost use Rattle.kilim_paths.specs.Paths.{Machine, Has};
 
-use kilim_units::NoMemory;
+use kilim_units::{NoMemory, Seq};
 
 /// A state that can be compared.
 pub trait State: Drop {
@@ -29,10 +29,11 @@ pub trait Moves {
         ensures place { 0 < (means self.now).size }
         ensures state { IfOk result (λ s. (s ≡ (means self.now).entry) × fits self.now 0 s) };
 
-    fn exits(&self, place: u32) -> &[Option<u32>]
+    /// The exits of a place: to a next place, or out.
+    fn exits(&self, place: u32) -> Result<Seq<Option<u32>>, NoMemory>
         requires { place < (means self.now).size }
-        ensures exits { result.now ≡ (means self.now).exits place }
-        ensures within { AllByRecursion (λ x. IfSome x (λ q. q < (means self.now).size)) result.now };
+        ensures exits { IfOk result (λ xs. xs ≡ (means self.now).exits place) }
+        ensures within { IfOk result (λ xs. AllByRecursion (λ x. IfSome x (λ q. q < (means self.now).size)) xs) };
 
     fn step(
         &self,

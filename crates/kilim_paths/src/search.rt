@@ -71,7 +71,8 @@ fn visit<M: Moves>(
     ensures { IfOk result (Visited (M.means machine.now) (M.fits machine.now) store.old store.new found.old.items found.new.items at) }
 {
     let place = store.get(at).place;
-    for exit in machine.exits(place) {
+    let exits = machine.exits(place)?;
+    for exit in exits.as_slice() {
         let full = take(machine, store, found, at, *exit)?;
         if full.is_some() {
             return Ok(full);
