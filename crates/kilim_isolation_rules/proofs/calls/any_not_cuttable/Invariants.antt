@@ -1,0 +1,7 @@
+use Rattle.std.proofs.Common.{◌≡◌, drop}
+use Rattle.std.specs.List.{list_any}
+use Rattle.kilim_isolation_rules.specs.Calls.{is_not_cuttable}
+use Rattle.kilim_isolation_rules.proofs.calls.any_not_cuttable.Given as goal
+
+abbrev pub invariant-loop-argument : goal.invariant-loop-argument
+invariant-loop-argument l = list_any (is_not_cuttable l.program l.graph) (drop l.argument-index l.arguments) ≡ list_any (is_not_cuttable l.program l.graph) l.arguments

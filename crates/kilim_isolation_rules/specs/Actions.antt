@@ -1,0 +1,69 @@
+-- The table of steps by what an instruction does, as the code reads it: no clause of `transfer` cites this.
+use Rattle.std.specs.Prelude.{ℕ, suc, Bool, true, false, List, [], ◌∷◌, ◌++◌, Option, Some, None, length, drop, replicate}
+use Rattle.kilim_classes.specs.declared.class.Method.{Method}
+use Rattle.kilim_classes.specs.declared.ty.Kind.TheVariants as kind
+use Rattle.kilim_classes.specs.declared.class.Field.{Field}
+use Rattle.kilim_classes.specs.declared.ty.Ty.{Ty}
+use Rattle.kilim_classes.specs.declared.verified.VType.{VType}
+use Rattle.kilim_classes.specs.declared.verified.VType.TheVariants.{Object}
+use Rattle.kilim_classes.specs.Program.{Program}
+use Rattle.kilim_classes.specs.Names.{method_at, field_of}
+use Rattle.kilim_classes.specs.Kinds.{class_kind, kind_of}
+use Rattle.kilim_classes.specs.declared.instr.Instr.TheVariants.{Getstatic}
+use Rattle.kilim_typing.specs.Step.{Types, peek, array_ty, field_row}
+use Rattle.kilim_typing.specs.Step as type
+use Rattle.kilim_shape_graph.specs.declared.graph.Graph.{Graph}
+use Rattle.kilim_shape_graph.specs.Graphs.{slot, with_slot, push, popped}
+use Rattle.kilim_isolation_rules.specs.declared.action.Action.{Action}
+use Rattle.kilim_isolation_rules.specs.declared.action.Action.TheVariants.{Passes, LoadsReference, StoresReference, StoresValue, Shuffles, MakesObject, MakesValues, MakesReferences, GetsStatic, GetsField, PutsField, GetsElement, PutsElement, Calls, ReturnsReference, Returns, Casts}
+use Rattle.kilim_isolation_rules.specs.declared.action.Words.{Words}
+use Rattle.kilim_isolation_rules.specs.declared.action.Words.TheVariants.{Drops, Copies, Swaps}
+use Rattle.kilim_isolation_rules.specs.declared.deed.Deed.{Deed}
+use Rattle.kilim_isolation_rules.specs.Marks.{names_gone, plain, given}
+use Rattle.kilim_isolation_rules.specs.Fields.{gets_field, puts_field, gets_element, puts_element}
+use Rattle.kilim_isolation_rules.specs.Calls.{calls}
+use Rattle.kilim_isolation_rules.specs.Rules.{by_types, passed_by, shuffled, returns, cast_mixes}
+
+abbrev pub form_of : Words → type.Form
+form_of (Drops n) = type.Drops n
+form_of (Copies n passed) = type.Copies n passed
+form_of Swaps = type.Swaps
+
+-- a store of a value; a long takes two locals
+abbrev pub value_stored : ℕ → Bool → Graph → Graph
+value_stored k true g = record (popped 1 g) { locals = with_slot (with_slot g.locals k None) (suc k) None }
+value_stored k false g = record (popped 1 g) { locals = with_slot g.locals k None }
+
+abbrev pub reference_loaded : Graph → ℕ → Deed
+reference_loaded g k = record (plain (push (slot g.locals k) g)) { gone = names_gone g (slot g.locals k) }
+
+abbrev pub reference_stored : Graph → ℕ → Deed
+reference_stored g k = plain (record (popped 1 g) { locals = with_slot g.locals k (slot g.stack 0) })
+
+abbrev pub words_shuffled : Graph → (types : List VType) → Words → Deed
+words_shuffled g ts words = plain (record g { stack = shuffled (form_of words) ts g.stack })
+
+abbrev pub references_made : Program → Graph → Ty → Deed
+references_made p g ty = plain (given (kind_of p (array_ty ty)) (popped 1 g))
+
+abbrev pub cast : Program → Graph → (types : List VType) → Ty → Deed
+cast p g ts ty = record (plain g) { mixed = cast_mixes p (peek ts 0) (Object ty) }
+
+abbrev pub deed_by : Program → Method → Graph → Types → Action → Deed
+deed_by p m g f (Passes takes gives) = plain (passed_by takes gives g)
+deed_by p m g f (LoadsReference k) = reference_loaded g k
+deed_by p m g f (StoresReference k) = reference_stored g k
+deed_by p m g f (StoresValue k is_long) = plain (value_stored k is_long g)
+deed_by p m g f (Shuffles words) = words_shuffled g f.stack words
+deed_by p m g f (MakesObject c) = plain (given (class_kind p c) g)
+deed_by p m g f MakesValues = plain (given kind.Tree (popped 1 g))
+deed_by p m g f (MakesReferences ty) = references_made p g ty
+deed_by p m g f (GetsStatic field) = plain (by_types g f (field_row (Getstatic field) m (field_of p field)))
+deed_by p m g f (GetsField field) = gets_field p g field (field_of p field)
+deed_by p m g f (PutsField field) = puts_field p g f.stack field (field_of p field)
+deed_by p m g f GetsElement = gets_element p g f.stack
+deed_by p m g f PutsElement = puts_element p g f.stack
+deed_by p m g f (Calls id) = calls p g f.stack (method_at p id)
+deed_by p m g f ReturnsReference = returns p m g f.stack
+deed_by p m g f Returns = plain (record g { stack = [] })
+deed_by p m g f (Casts ty) = cast p g f.stack ty

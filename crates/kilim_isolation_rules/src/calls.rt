@@ -1,0 +1,333 @@
+//! Calls: the arguments with their rules, and then the result.
+
+ghost use Rattle.std.specs.Prelude.{◌≡◌, ◌++◌, [], reverse, take, IfOk, option_copied};
+ghost use Rattle.std.specs.List.{list_any};
+ghost use Rattle.kilim_classes.specs.Same.{is_constructor};
+ghost use Rattle.kilim_isolation_rules.specs.Calls as spec;
+ghost use Rattle.kilim_shape_graph.specs.Graphs.{popped};
+
+use crate::deed::{Deed, Passed};
+use crate::fields::plain;
+use crate::growth::{given, popped, with_nodes};
+use crate::marks::{mixes, names_no_root, names_safe};
+use crate::steps::{cut, give_away};
+use kilim_classes::{Base, Method, Program, Qualifier, Ty, VType};
+use kilim_shape_graph::{Graph, quality, slot_at, type_at};
+use kilim_units::{NoMemory, Seq};
+use std::alloc::Global;
+
+fn is_free(quality: Option<Qualifier>) -> bool
+    ensures { result ≡ spec.is_free quality }
+{
+    match quality {
+        Some(Qualifier::Free) => true,
+        Some(Qualifier::Cuttable | Qualifier::Safe) | None => false,
+    }
+}
+
+fn is_cuttable(quality: Option<Qualifier>) -> bool
+    ensures { result ≡ spec.is_cuttable quality }
+{
+    match quality {
+        Some(Qualifier::Cuttable) => true,
+        Some(Qualifier::Free | Qualifier::Safe) | None => false,
+    }
+}
+
+fn quality_in(program: &Program, argument: &Passed) -> Option<Qualifier>
+    ensures { result ≡ spec.quality_in program.now argument.now }
+{
+    quality(program, &argument.into, argument.qualifier)
+}
+
+fn is_not_free(program: &Program, graph: &Graph, argument: &Passed) -> bool
+    ensures { result ≡ spec.is_not_free program.now graph.now argument.now }
+{
+    is_free(quality_in(program, argument)) && names_no_root(graph, argument.name)
+}
+
+fn is_mixed(program: &Program, argument: &Passed) -> bool
+    ensures { result ≡ spec.is_mixed program.now argument.now }
+{
+    !argument.is_begun && mixes(program, argument.ty, VType::Object(argument.into))
+}
+
+fn is_not_cuttable(program: &Program, graph: &Graph, argument: &Passed) -> bool
+    ensures { result ≡ spec.is_not_cuttable program.now graph.now argument.now }
+{
+    is_cuttable(quality_in(program, argument)) && names_safe(graph, argument.name)
+}
+
+fn same_region(graph: &Graph, a: Option<usize>, b: Option<usize>) -> bool
+    ensures { result ≡ spec.same_region graph.now a b }
+{
+    match (a, b) {
+        (Some(a), Some(b)) => graph.region(a) == graph.region(b),
+        (Some(_), None) | (None, _) => false,
+    }
+}
+
+fn is_owned(quality: Option<Qualifier>) -> bool
+    ensures { result ≡ spec.is_owned quality }
+{
+    is_free(quality) || is_cuttable(quality)
+}
+
+fn shares(program: &Program, graph: &Graph, a: &Passed, b: &Passed) -> bool
+    ensures { result ≡ spec.shares program.now graph.now a.now b.now }
+{
+    same_region(graph, a.name, b.name)
+        && (is_owned(quality_in(program, a)) || is_owned(quality_in(program, b)))
+}
+
+fn any_not_free(program: &Program, graph: &Graph, arguments: &[Passed]) -> bool
+    ensures { result ≡ list_any (spec.is_not_free program.now graph.now) arguments.now }
+{
+    for argument in arguments {
+        if is_not_free(program, graph, argument) {
+            return true;
+        }
+    }
+    false
+}
+
+fn any_mixed(program: &Program, arguments: &[Passed]) -> bool
+    ensures { result ≡ list_any (spec.is_mixed program.now) arguments.now }
+{
+    for argument in arguments {
+        if is_mixed(program, argument) {
+            return true;
+        }
+    }
+    false
+}
+
+fn any_not_cuttable(program: &Program, graph: &Graph, arguments: &[Passed]) -> bool
+    ensures { result ≡ list_any (spec.is_not_cuttable program.now graph.now) arguments.now }
+{
+    for argument in arguments {
+        if is_not_cuttable(program, graph, argument) {
+            return true;
+        }
+    }
+    false
+}
+
+fn shares_any(program: &Program, graph: &Graph, a: &Passed, others: &[Passed]) -> bool
+    ensures { result ≡ list_any (spec.shares program.now graph.now a.now) others.now }
+{
+    for b in others {
+        if shares(program, graph, a, b) {
+            return true;
+        }
+    }
+    false
+}
+
+fn any_shared(program: &Program, graph: &Graph, arguments: &[Passed]) -> bool
+    ensures { result ≡ spec.any_two (spec.shares program.now graph.now) arguments.now }
+{
+    let mut left = arguments;
+    while let Some((first, others)) = left.split_first() {
+        if shares_any(program, graph, first, others) {
+            return true;
+        }
+        left = others;
+    }
+    false
+}
+
+// The parameters with what is passed for them, behind those that are there.
+fn push_passed(
+    tys: &[Ty],
+    qualifiers: &[Qualifier],
+    names: &[Option<usize>],
+    types: &[VType],
+    passed: &mut Seq<Passed>,
+) -> Result<(), NoMemory>
+    ensures { IfOk result (λ u. passed.new ≡ passed.old ++ spec.parameters tys.now qualifiers.now names.now types.now) }
+{
+    let count = tys
+        .len()
+        .min(qualifiers.len())
+        .min(names.len())
+        .min(types.len());
+    for at in 0..count {
+        passed.push(Passed {
+            name: names[at],
+            ty: types[at],
+            into: tys[at],
+            qualifier: qualifiers[at],
+            is_begun: false,
+        })?;
+    }
+    Ok(())
+}
+
+// The first items, the last of them first.
+fn turned<T: Copy + Drop>(alloc: Global, items: &[T], count: usize) -> Result<Vec<T>, NoMemory>
+    ensures { IfOk result (λ v. v.items ≡ reverse (take count items.now)) }
+{
+    Ok(
+        items[..count.min(items.len())]
+            .iter()
+            .rev()
+            .copied()
+            .collect(alloc)?,
+    )
+}
+
+fn is_constructor(method: &Method) -> bool
+    ensures { result ≡ is_constructor method.now }
+{
+    method.name.is_text(b"<init>")
+}
+
+fn all_passed(
+    alloc: Global,
+    callee: &Method,
+    graph: &Graph,
+    types: &[VType],
+) -> Result<Seq<Passed>, NoMemory>
+    ensures { IfOk result (λ passed. passed ≡ spec.all_passed callee.now graph.now types.now) }
+{
+    let count = callee.params.len();
+    let names: Vec<Option<usize>> = turned(alloc, graph.stack.as_slice(), count)?;
+    let above: Vec<VType> = turned(alloc, types, count)?;
+    let mut passed = Seq::new(alloc);
+    if !callee.is_static {
+        passed.push(Passed {
+            name: slot_at(graph.stack.as_slice(), count),
+            ty: type_at(types, count),
+            into: Ty {
+                dims: 0,
+                base: Base::Class(callee.owner),
+            },
+            qualifier: callee.receiver,
+            is_begun: is_constructor(callee),
+        })?;
+    }
+    push_passed(
+        callee.params.as_slice(),
+        callee.qualifiers.as_slice(),
+        &names,
+        &above,
+        &mut passed,
+    )?;
+    Ok(passed)
+}
+
+// What is left of a graph by one argument.
+fn after_passed(
+    alloc: Global,
+    program: &Program,
+    graph: Graph,
+    argument: &Passed,
+) -> Result<Graph, NoMemory>
+    ensures { IfOk result (λ new. new ≡ spec.after_arguments (spec.more_arguments (spec.quality_in program.now argument.now) argument.now.name []) graph) }
+{
+    let Some(name) = argument.name else {
+        return Ok(graph);
+    };
+    match quality_in(program, argument) {
+        Some(Qualifier::Free) => {
+            let nodes = give_away(alloc, graph.nodes.as_slice(), name)?;
+            Ok(with_nodes(graph, nodes))
+        }
+        Some(Qualifier::Cuttable) => {
+            let nodes = cut(alloc, graph.nodes.as_slice(), name, None, 0)?;
+            Ok(with_nodes(graph, nodes))
+        }
+        Some(Qualifier::Safe) | None => Ok(graph),
+    }
+}
+
+// What is left of a graph by the arguments of a call.
+fn after_call(
+    alloc: Global,
+    program: &Program,
+    arguments: &[Passed],
+    graph: Graph,
+) -> Result<Graph, NoMemory>
+    ensures { IfOk result (λ new. new ≡ spec.after_call program.now arguments.now graph) }
+{
+    let mut after = graph;
+    for argument in arguments {
+        after = after_passed(alloc, program, after, argument)?;
+    }
+    Ok(after)
+}
+
+// The graph without the arguments of a call.
+#[tactic(auto, using(crate::proofs::Slots::drop_both, crate::proofs::Slots::drop_none))]
+fn without_arguments(alloc: Global, callee: &Method, graph: &Graph) -> Result<Graph, NoMemory>
+    ensures { IfOk result (λ new. new ≡ popped (spec.takes_from callee.now) graph.now) }
+{
+    let below = popped(alloc, graph, callee.params.len())?;
+    if callee.is_static {
+        return Ok(below);
+    }
+    popped(alloc, &below, 1)
+}
+
+fn given_result(program: &Program, result_ty: Option<Ty>, graph: Graph) -> Result<Graph, NoMemory>
+    ensures { IfOk result (λ new. new ≡ spec.given_result program.now result_ty graph) }
+{
+    match result_ty {
+        None => Ok(graph),
+        Some(ty) => given(graph, program.kind(&ty)),
+    }
+}
+
+// The graph after a call.
+fn after(
+    alloc: Global,
+    program: &Program,
+    callee: &Method,
+    arguments: &[Passed],
+    graph: &Graph,
+) -> Result<Graph, NoMemory>
+    ensures { IfOk result (λ new. new ≡ spec.given_result program.now callee.now.result (popped (spec.takes_from callee.now) (spec.after_call program.now arguments.now graph.now))) }
+{
+    let passed = after_call(alloc, program, arguments, popped(alloc, graph, 0)?)?;
+    given_result(
+        program,
+        callee.result,
+        without_arguments(alloc, callee, &passed)?,
+    )
+}
+
+// A call with these arguments.
+fn call_with(
+    alloc: Global,
+    program: &Program,
+    callee: &Method,
+    arguments: &[Passed],
+    graph: &Graph,
+) -> Result<Deed, NoMemory>
+    ensures { IfOk result (λ new. new ≡ spec.calls_with program.now callee.now arguments.now graph.now) }
+{
+    let mut deed = plain(after(alloc, program, callee, arguments, graph)?);
+    deed.not_free = any_not_free(program, graph, arguments);
+    deed.shared = any_shared(program, graph, arguments);
+    deed.mixed = any_mixed(program, arguments);
+    deed.not_cuttable = any_not_cuttable(program, graph, arguments);
+    Ok(deed)
+}
+
+/// A call; one of no method changes nothing.
+pub fn call_method(
+    alloc: Global,
+    program: &Program,
+    graph: &Graph,
+    types: &[VType],
+    callee: Option<&Method>,
+) -> Result<Deed, NoMemory>
+    ensures { IfOk result (λ new. new ≡ spec.calls program.now graph.now types.now (option_copied callee.entry)) }
+{
+    let Some(callee) = callee else {
+        return Ok(plain(popped(alloc, graph, 0)?));
+    };
+    let arguments = all_passed(alloc, callee, graph, types)?;
+    call_with(alloc, program, callee, arguments.as_slice(), graph)
+}

@@ -1,0 +1,39 @@
+//! What an instruction makes of a graph, and which rules it breaks.
+
+use kilim_classes::{Qualifier, Ty, VType};
+use kilim_shape_graph::Graph;
+
+/// What one instruction does to a graph: a mark for each rule that it breaks, and the graph that it leaves. That the stack
+/// it leaves names nothing that is gone is asked of the graph.
+#[derive(Debug, Drop)]
+pub struct Deed {
+    /// A tree that isn't a known root is put, started, stored, returned or passed as free.
+    pub not_free: bool,
+    /// A local is read whose object was given away or may have moved.
+    pub gone: bool,
+    /// A tree field or an element of a safe object is stored.
+    pub safe_changed: bool,
+    /// A root is stored into its own tree.
+    pub cycle: bool,
+    /// A call gets two arguments of one region, one of them free or cuttable.
+    pub shared: bool,
+    /// A tree becomes private, or a private object a tree.
+    pub mixed: bool,
+    /// A safe object is passed as cuttable.
+    pub not_cuttable: bool,
+    pub graph: Graph,
+}
+
+/// An argument of a call; the receiver is one.
+#[derive(Clone, Copy, Debug)]
+pub struct Passed {
+    /// The node that it names.
+    pub name: Option<usize>,
+    /// Its verified type.
+    pub ty: VType,
+    /// The parameter's type.
+    pub into: Ty,
+    pub qualifier: Qualifier,
+    /// Whether it is the receiver of a constructor.
+    pub is_begun: bool,
+}

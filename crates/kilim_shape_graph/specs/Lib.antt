@@ -1,0 +1,4 @@
+pub mod Nodes
+pub mod Graphs
+pub mod Canonical
+pub mod Entry

@@ -1,0 +1,14 @@
+//! Shape graphs: which node each slot names, and what is known of the nodes.
+#![tactic(auto)]
+
+mod canonical;
+mod entry;
+mod graph;
+mod node;
+mod numbers;
+mod types;
+
+pub use entry::{Parameter, parameters_of, quality};
+pub use graph::{Graph, Slot, slot_at};
+pub use node::{Label, Node, Standing, node_at};
+pub use types::type_at;
