@@ -1,0 +1,209 @@
+//! The shape of a tree.
+
+ghost use Rattle.std.specs.Prelude.{◌≡◌, ◌<◌, ◌≤◌, ◌++◌, ◌∷◌, [], Some, length, IfOk, OnOk, MatchOption, slice_index_or, codes};
+ghost use Rattle.std.specs.List.{AllByRecursion};
+ghost use Rattle.kilim_classes.specs.Names.{class_name, base_descriptor, descriptor};
+ghost use Rattle.kilim_program.specs.Members.{name_in_base, shown_name};
+ghost use Rattle.kilim_program.specs.Shapes.{shape_of, tree_limit};
+ghost use Rattle.kilim_tree_move.specs.Moved.{tree_heap};
+ghost use Rattle.kilim_tree_move.specs.Shaping.{Suits};
+ghost use Rattle.kilim_tree_move.specs.Emitted.{plain_tokens, held_at, brackets, opening, RefWithin, Emits, HasShape, AreTokens};
+
+use crate::tree::Tree;
+use kilim_classes::{Base, ClassId, Program, Ty, Value};
+use kilim_program::{Object, Shape, Token};
+use kilim_units::{NoMemory, Seq, Units};
+use std::alloc::{AllocError, Global};
+
+/// The unit with which an array's descriptor begins, once for each dimension.
+const BRACKET: u16 = 91;
+
+fn push_class_name(out: &mut Vec<u16>, program: &Program, class: ClassId) -> Result<(), AllocError>
+    ensures { OnOk result (out.new.items ≡ out.old.items ++ class_name program.now class) }
+{
+    let at = class.0 as usize;
+    if at < program.classes.len() {
+        out.extend_from_slice(program.classes.get(at).name.as_slice())?;
+    }
+    Ok(())
+}
+
+fn push_base(out: &mut Vec<u16>, program: &Program, base: Base) -> Result<(), AllocError>
+    ensures { OnOk result (out.new.items ≡ out.old.items ++ base_descriptor program.now base) }
+{
+    match base {
+        Base::Bool => out.push(u16::from(b'Z'))?,
+        Base::Byte => out.push(u16::from(b'B'))?,
+        Base::Char => out.push(u16::from(b'C'))?,
+        Base::Short => out.push(u16::from(b'S'))?,
+        Base::Int => out.push(u16::from(b'I'))?,
+        Base::Long => out.push(u16::from(b'J'))?,
+        Base::Class(class) => {
+            out.push(u16::from(b'L'))?;
+            push_class_name(out, program, class)?;
+            out.push(u16::from(b';'))?;
+        }
+    }
+    Ok(())
+}
+
+fn push_brackets(out: &mut Vec<u16>, dims: u8) -> Result<(), AllocError>
+    ensures { OnOk result (out.new.items ≡ out.old.items ++ brackets dims) }
+{
+    for k in 0..dims {
+        let _ = k;
+        out.push(BRACKET)?;
+    }
+    Ok(())
+}
+
+fn push_descriptor(out: &mut Vec<u16>, program: &Program, ty: Ty) -> Result<(), AllocError>
+    ensures { OnOk result (out.new.items ≡ out.old.items ++ descriptor program.now ty) }
+{
+    push_brackets(out, ty.dims)?;
+    push_base(out, program, ty.base)?;
+    Ok(())
+}
+
+// The name of a class, which isn't copied.
+fn class_shown(alloc: Global, program: &Program, class: ClassId) -> Result<Units, AllocError>
+    ensures { IfOk result (λ name. name ≡ class_name program.now class) }
+{
+    let at = class.0 as usize;
+    if at < program.classes.len() {
+        program.classes.get(at).name.clone()
+    } else {
+        Units::from_vec(alloc, Vec::new(alloc))
+    }
+}
+
+fn base_shown(alloc: Global, program: &Program, base: Base) -> Result<Units, AllocError>
+    ensures { IfOk result (λ name. name ≡ name_in_base program.now base) }
+{
+    match base {
+        Base::Class(class) => class_shown(alloc, program, class),
+        _ => {
+            let mut out = Vec::new(alloc);
+            push_base(&mut out, program, base)?;
+            Units::from_vec(alloc, out)
+        }
+    }
+}
+
+fn shown(alloc: Global, program: &Program, ty: Ty) -> Result<Units, AllocError>
+    ensures { IfOk result (λ name. name ≡ shown_name program.now ty) }
+{
+    if ty.dims == 0 {
+        return base_shown(alloc, program, ty.base);
+    }
+    let mut out = Vec::new(alloc);
+    push_descriptor(&mut out, program, ty)?;
+    Units::from_vec(alloc, out)
+}
+
+// A value that is no object has one token.
+fn push_plain(tokens: &mut Vec<Token>, value: &Value) -> Result<(), AllocError>
+    ensures { OnOk result (tokens.new.items ≡ tokens.old.items ++ plain_tokens value.now) }
+{
+    match value {
+        Value::Int(n) => tokens.push(Token::Int(*n))?,
+        Value::Long(n) => tokens.push(Token::Long(*n))?,
+        Value::Null => tokens.push(Token::Null)?,
+        Value::Ref(_) => {}
+        Value::Text(units) => tokens.push(Token::Text(units.clone()?))?,
+        Value::Box(name) => tokens.push(Token::Box(*name))?,
+        Value::Fiber => {}
+    }
+    Ok(())
+}
+
+// The value of an object at a place among its fields and elements.
+fn value_at(objects: &[Object], at: usize, next: usize) -> Option<&Value>
+    ensures { MatchOption result (length (held_at objects.now at) ≤ next) (λ v. (next < length (held_at objects.now at)) × (v.now ≡ slice_index_or (held_at objects.now at) next v.now)) }
+{
+    if at >= objects.len() {
+        return None;
+    }
+    let object = &objects[at];
+    let fields = object.fields.as_slice();
+    if next < fields.len() {
+        return Some(&fields[next].1);
+    }
+    let rest = next - fields.len();
+    let elements = object.elements.as_slice();
+    if rest < elements.len() {
+        Some(&elements[rest])
+    } else {
+        None
+    }
+}
+
+// An object begins.
+fn begin(
+    alloc: Global,
+    program: &Program,
+    objects: &[Object],
+    at: u32,
+    tokens: &mut Vec<Token>,
+    frames: &mut Vec<(u32, usize)>,
+) -> Result<(), NoMemory>
+    requires { at < length objects.now }
+    ensures tokens { OnOk result (tokens.new.items ≡ tokens.old.items ++ opening program.now objects.now at) }
+    ensures frames { OnOk result (frames.new.items ≡ frames.old.items ++ (at, 0) ∷ []) }
+{
+    let name = shown(alloc, program, objects[at as usize].class)?;
+    tokens.push(Token::Open(name))?;
+    frames.push((at, 0))?;
+    Ok(())
+}
+
+// One token, or the beginning of an object.
+fn emit(
+    alloc: Global,
+    program: &Program,
+    objects: &[Object],
+    value: &Value,
+    tokens: &mut Vec<Token>,
+    frames: &mut Vec<(u32, usize)>,
+) -> Result<(), NoMemory>
+    requires { RefWithin value.now (length objects.now) }
+    ensures { OnOk result (Emits program.now objects.now value.now tokens.old.items tokens.new.items frames.old.items frames.new.items) }
+{
+    match value {
+        Value::Ref(at) => begin(alloc, program, objects, *at, tokens, frames),
+        _ => Ok(push_plain(tokens, value)?),
+    }
+}
+
+// The tokens of the first object.
+fn emit_all(alloc: Global, program: &Program, objects: &[Object]) -> Result<Vec<Token>, NoMemory>
+    requires { HasShape program.now objects.now }
+    ensures { IfOk result (λ tokens. AreTokens program.now objects.now tokens.items) }
+{
+    let mut tokens = Vec::new(alloc);
+    let mut frames = Vec::new(alloc);
+    begin(alloc, program, objects, 0, &mut tokens, &mut frames)?;
+    while let Some((at, next)) = frames.pop() {
+        match value_at(objects, at as usize, next) {
+            None => tokens.push(Token::Close)?,
+            Some(value) => {
+                let Some(after) = next.checked_add(1) else {
+                    return Err(NoMemory);
+                };
+                frames.push((at, after))?;
+                emit(alloc, program, objects, value, &mut tokens, &mut frames)?;
+            }
+        }
+    }
+    Ok(tokens)
+}
+
+/// The shape of a tree under a program.
+pub fn shape(program: &Program, tree: &Tree) -> Result<Shape, NoMemory>
+    requires { AllByRecursion (Suits program.now) tree.now }
+    ensures { IfOk result (λ shape. shape_of program.now (tree_heap tree.now) 0 ≡ Some shape) }
+{
+    let objects = tree.objects.as_slice();
+    let alloc = *tree.objects.allocator();
+    Ok(Seq::from_vec(emit_all(alloc, program, objects)?))
+}
