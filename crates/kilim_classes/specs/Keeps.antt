@@ -16,12 +16,13 @@ use Rattle.kilim_classes.specs.declared.value.Value.{Value}
 use Rattle.kilim_classes.specs.declared.value.Value.TheVariants.{Int, Long, Text}
 use Rattle.kilim_classes.specs.declared.verified.Frame.{Frame}
 use Rattle.kilim_classes.specs.declared.verified.VType.{VType}
-use Rattle.kilim_classes.specs.declared.verified.VType.TheVariants.{Object}
+use Rattle.kilim_classes.specs.declared.verified.VType.TheVariants.{Top, Object}
+use Rattle.kilim_classes.specs.declared.verified.VType.TheVariants as slot
 use Rattle.kilim_classes.specs.Program.{Program}
 use Rattle.kilim_classes.specs.BuiltIn.{class_id, class_type, built_in_classes_in, built_in_methods_in}
-use Rattle.kilim_classes.specs.Names.{class_at, method_at, line_of, methods_of, class_name, is_task, is_named_task}
+use Rattle.kilim_classes.specs.Names.{is_empty, class_at, method_at, line_of, methods_of, class_name, is_task, is_named_task}
 use Rattle.kilim_classes.specs.Kinds.{class_kind, is_message, is_private_kind, is_task_array, field_may_hold}
-use Rattle.kilim_classes.specs.Lengths.{code_stands, targets_stand, code_ends, places_increase}
+use Rattle.kilim_classes.specs.Lengths.{is_reference, code_stands, targets_stand, code_ends, places_increase}
 use Rattle.kilim_classes.specs.Same.{same_method, same_field, same_signature, same_flag, same_qualifier, same_qualifiers, all_differ, is_constructor, argument_slots, selected}
 
 -- ---- ids are places
@@ -123,6 +124,32 @@ none_is_its_ancestor p = each_class p (λ c class. not (list_any (λ d. d.0 == c
 unfoldable pub code_is_whole : Method → Bool
 code_is_whole method = code_stands 0 method.code method.code_length && (targets_stand method.code && code_ends method.code)
 
+-- ---- declared frames
+
+-- what an object is declared as is a class or an array
+abbrev pub is_proper : VType → Bool
+is_proper (Object ty) = is_reference ty
+is_proper t = true
+
+abbrev pub begins_with_top : List VType → Bool
+begins_with_top (Top ∷ ts) = true
+begins_with_top ts = false
+
+-- a long takes two locals: its second half stands behind it (JVMS 4.10.1.2)
+abbrev pub has_its_half : VType → List VType → Bool
+has_its_half slot.Long behind = begins_with_top behind
+has_its_half t behind = true
+
+abbrev pub halves_stand : List VType → Bool
+halves_stand [] = true
+halves_stand (t ∷ ts) = has_its_half t ts && halves_stand ts
+
+abbrev pub frame_is_proper : Frame → Bool
+frame_is_proper frame = list_all is_proper frame.locals && (list_all is_proper frame.stack && halves_stand frame.locals)
+
+unfoldable pub frames_are_proper : Method → Bool
+frames_are_proper method = list_all (λ e. frame_is_proper e.1) method.frames
+
 -- ---- built-in classes
 
 -- The last classes are the built-in ones of the form, with their members.
@@ -149,6 +176,14 @@ members_are_owned p = each_class p (λ c class.
 unfoldable pub names_differ : Program → Bool
 names_differ p =
     all_differ (λ a b. bytes_eq a.name b.name) p.classes && (all_differ same_field p.fields && all_differ same_method p.methods)
+
+-- a text that begins with `[`, as the descriptors of arrays do and no name of a class (JVMS 4.2.1, 4.3.2)
+abbrev pub begins_as_array : List ℕ → Bool
+begins_as_array [] = false
+begins_as_array (u ∷ us) = u == 91
+
+unfoldable pub none_is_named_as_array : Program → Bool
+none_is_named_as_array p = list_all (λ class. not (begins_as_array class.name)) p.classes
 
 -- ---- methods
 
@@ -266,12 +301,18 @@ pub record Keeps (p : Program) : Type 0 where
   pub code : list_all code_is_whole p.methods ≡ true
   -- the places of a method's frames increase
   pub frames : list_all (λ m. places_increase m.frames) p.methods ≡ true
+  -- each object in a declared frame is a class or an array, and each long in its locals has its second half
+  pub frame_types : list_all frames_are_proper p.methods ≡ true
+  -- no method has an exception table
+  pub handlers : list_all (λ m. is_empty m.handlers) p.methods ≡ true
   -- the last classes are the built-in ones; of the other methods exactly the abstract ones have no code
   pub built_in : EndsBuiltIn p
   -- a class's members are those that name it as owner, each once, in their order
   pub members : members_are_owned p ≡ true
   -- no two classes have one name, and no two fields or methods of a class one name and descriptor
   pub names : names_differ p ≡ true
+  -- no class's name begins with `[`
+  pub class_names : none_is_named_as_array p ≡ true
   -- qualifiers, argument slots, constructors
   pub methods : list_all method_is_sound p.methods ≡ true
   pub both : none_is_both p ≡ true

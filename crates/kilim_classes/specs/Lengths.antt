@@ -1,13 +1,15 @@
 -- The code of a method (JVMS 4.7.3, 4.9.1): how long an instruction is in each of its forms, where it may go, and which
 -- instructions control doesn't go past.
-use Rattle.std.specs.Prelude.{ℕ, ◌+◌, ◌-◌, ◌*◌, ◌%◌, ◌^◌, ◌+ℤ◌, Bool, true, false, not, ◌||◌, ◌&&◌, ◌==◌, nat_lt, ℤ, pos, negsuc, int_le, if◌then◌else◌, List, [], ◌∷◌, Option, Some, None, length, map}
+use Rattle.std.specs.Prelude.{ℕ, zero, suc, ◌+◌, ◌-◌, ◌*◌, ◌%◌, ◌^◌, ◌+ℤ◌, Bool, true, false, not, ◌||◌, ◌&&◌, ◌==◌, nat_lt, ℤ, pos, negsuc, int_le, if◌then◌else◌, List, [], ◌∷◌, Option, Some, None, length, map}
 use Rattle.std.specs.List.{list_all, list_any}
 use Rattle.kilim_classes.specs.declared.instr.Instr.{Instr}
 use Rattle.kilim_classes.specs.declared.instr.Instr.TheVariants.{Iconst, Lconst, Bipush, Sipush, Ldc, LdcW, Ldc2W, Iload, Lload, Aload, Istore, Lstore, Astore, Iinc, Ifeq, Ifne, Iflt, Ifge, Ifgt, Ifle, IfIcmpeq, IfIcmpne, IfIcmplt, IfIcmpge, IfIcmpgt, IfIcmple, IfAcmpeq, IfAcmpne, Goto, Tableswitch, Lookupswitch, Ireturn, Lreturn, Areturn, Return, Getstatic, Getfield, Putfield, Invokevirtual, Invokespecial, Invokestatic, New, Newarray, Anewarray, Checkcast, Instanceof, Ifnull, Ifnonnull, GotoW, Athrow}
 use Rattle.kilim_classes.specs.declared.ty.Base.{Base}
 use Rattle.kilim_classes.specs.declared.ty.Base.TheVariants as base
+use Rattle.kilim_classes.specs.declared.ty.Ty.{Ty}
 use Rattle.kilim_classes.specs.declared.value.Value.{Value}
 use Rattle.kilim_classes.specs.declared.value.Value.TheVariants.{Int, Long, Text}
+use Rattle.kilim_classes.specs.Fits.{is_reference_base}
 
 -- ---- finding an instruction
 
@@ -58,6 +60,14 @@ abbrev pub is_primitive : Base → Bool
 is_primitive (base.Class c) = false
 is_primitive element = true
 
+-- a class or an array (JVMS 2.4)
+abbrev pub is_reference_type : ℕ → Base → Bool
+is_reference_type zero b = is_reference_base b
+is_reference_type (suc n) b = true
+
+abbrev pub is_reference : Ty → Bool
+is_reference ty = is_reference_type ty.dims ty.base
+
 -- the matches of a `lookupswitch` increase
 unfoldable pub matches_increase : List (ℤ × ℕ) → Bool
 matches_increase [] = true
@@ -105,9 +115,9 @@ has_length at (Invokespecial m) len = len == 3
 has_length at (Invokestatic m) len = len == 3
 has_length at (New c) len = len == 3
 has_length at (Newarray element) len = is_primitive element && len == 2
-has_length at (Anewarray element) len = len == 3
-has_length at (Checkcast ty) len = len == 3
-has_length at (Instanceof ty) len = len == 3
+has_length at (Anewarray element) len = is_reference element && len == 3
+has_length at (Checkcast ty) len = is_reference ty && len == 3
+has_length at (Instanceof ty) len = is_reference ty && len == 3
 has_length at (Ifnull to) len = is_jump_length at to len
 has_length at (Ifnonnull to) len = is_jump_length at to len
 has_length at (GotoW to) len = is_far at to && len == 5

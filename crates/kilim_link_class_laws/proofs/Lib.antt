@@ -27,3 +27,4 @@ mod Overriding
 mod Nearer
 mod LeftAbstract
 mod OwnClasses
+mod ClassNames

@@ -2,7 +2,7 @@
 use Rattle.std.specs.Prelude.{◌≡◌, true, List}
 use Rattle.kilim_classfile.specs.declared.class_file.ClassFile.{ClassFile}
 use Rattle.kilim_classes.specs.declared.class.Form.{Form}
-use Rattle.kilim_classes.specs.Keeps.{EndsBuiltIn, fields_fit, members_are_owned, names_differ, none_is_both, none_is_its_ancestor, none_is_left_abstract, overriding_agrees, own_classes_fit, superclasses_fit}
+use Rattle.kilim_classes.specs.Keeps.{EndsBuiltIn, fields_fit, members_are_owned, names_differ, none_is_both, none_is_its_ancestor, none_is_left_abstract, none_is_named_as_array, overriding_agrees, own_classes_fit, superclasses_fit}
 use Rattle.kilim_classes.specs.Program.{Program}
 use Rattle.kilim_link_spec.specs.LinksWell.{LinksWell}
 
@@ -33,6 +33,10 @@ MembersAreOwned = (files : List ClassFile) (form : Form) (p : Program) → Links
 -- no two classes have one name, and no two members of a class one name and descriptor
 abbrev pub NamesDiffer : Type 0
 NamesDiffer = (files : List ClassFile) (form : Form) (p : Program) → LinksWell files form p → names_differ p ≡ true
+
+-- no class's name begins with `[`
+abbrev pub NoneIsNamedAsArray : Type 0
+NoneIsNamedAsArray = (files : List ClassFile) (form : Form) (p : Program) → LinksWell files form p → none_is_named_as_array p ≡ true
 
 -- fields hold what their class's kind allows
 abbrev pub FieldsFit : Type 0

@@ -1,7 +1,7 @@
 //! Laws about the definitions. No program calls them to do work.
 
 ghost use Rattle.kilim_link_class_laws.specs.Bridge.{BaredAgrees, OutlineAgrees, OutlineIsBared};
-ghost use Rattle.kilim_link_class_laws.specs.Facts.{BuiltInIsLast, FieldsFit, MembersAreOwned, NamesDiffer, NoneIsBoth, NoneIsItsAncestor, NoneIsLeftAbstract, OverridingAgrees, OwnClassesFit, SuperclassesFit};
+ghost use Rattle.kilim_link_class_laws.specs.Facts.{BuiltInIsLast, FieldsFit, MembersAreOwned, NamesDiffer, NoneIsBoth, NoneIsItsAncestor, NoneIsLeftAbstract, NoneIsNamedAsArray, OverridingAgrees, OwnClassesFit, SuperclassesFit};
 
 use kilim_link_spec::{linked_in_parts, none_has_a_problem, none_of_each_kind};
 
@@ -75,6 +75,15 @@ pub fn members_are_owned()
 /// A law, and no work: of files that link well no two classes have one name, and no two members of a class one name and descriptor.
 pub fn names_differ()
     ensures { NamesDiffer }
+{
+    linked_in_parts();
+    none_has_a_problem();
+    none_of_each_kind();
+}
+
+/// A law, and no work: of files that link well no class has a name that begins with `[`.
+pub fn none_is_named_as_array()
+    ensures { NoneIsNamedAsArray }
 {
     linked_in_parts();
     none_has_a_problem();

@@ -16,7 +16,7 @@ use Rattle.kilim_opcodes.specs.Table.{rows, form_of}
 use Rattle.kilim_classes.specs.declared.instr.Instr.{Instr}
 use Rattle.kilim_classes.specs.declared.instr.Instr.TheVariants.{Bipush, Sipush, Iinc, Tableswitch, Lookupswitch, Newarray, New}
 use Rattle.kilim_classes.specs.declared.names.ClassId.{ClassId}
-use Rattle.kilim_classes.specs.Lengths.{has_length, is_far, is_iinc_length, is_jump_length, is_loaded, is_local_length, is_primitive, is_table, matches_increase}
+use Rattle.kilim_classes.specs.Lengths.{has_length, is_far, is_iinc_length, is_jump_length, is_loaded, is_local_length, is_primitive, is_reference, is_table, matches_increase}
 use Rattle.kilim_link_spec.specs.Code.{instr_in, instr_with, typed_instr, applied, row, place_of, pair_in, plain_instrs, local_instrs, jump_instrs, field_instrs, method_instrs, type_instrs, constant_instrs, array_codes, operand_at, field_found, method_found}
 use Rattle.kilim_link_spec.specs.declared.named.Operand.{Operand}
 use Rattle.kilim_link_spec.specs.declared.named.Operand.TheVariants.{AConstant, AField, AMethod, AType}
@@ -26,6 +26,7 @@ use Rattle.kilim_link_spec.specs.World.{World}
 use Rattle.kilim_link_code_laws.proofs.Loaded.{IsLoaded, operand_loaded}
 use Rattle.kilim_link_code_laws.proofs.Lists.{some_is, none_is_some, all_map, first_and, each_of_all, each_of_length}
 use Rattle.kilim_link_code_laws.proofs.Tables.{lookup_parts, pair_parts, place_is, table_holds, table_parts, table_passes}
+use Rattle.kilim_link_code_laws.proofs.References.{HasDims, is_reference_named}
 use Rattle.kilim_link_code_laws.proofs.Rows.{rows_pass, forms_pass, mapped}
 
 -- ---- what the number says: `ldc` alone has an index of one byte, `goto_w` alone a target of four
@@ -186,14 +187,18 @@ new_length : (at : ℕ) (class : Option ClassId) (instr : Instr) → option_map 
 unfolding has_length
 new_length at class instr e = subst (λ i. Has at 3 i) (mapped New class instr e).is refl
 
-typed_by : (w : World) (at number : ℕ) (class : Named) (instr : Instr) (is_new : Bool) → (number == 187) ≡ is_new
+typed_by : (w : World) (at number : ℕ) (class : Named) (instr : Instr) (is_new : Bool) → HasDims class → (number == 187) ≡ is_new
     → (if is_new then option_map New (class_named_by w class) else applied (row type_instrs number) (type_named w class)) ≡ Some instr → HasIndexed at number instr
 unfolding has_length
-typed_by w at number class instr true is e = subst (λ k. HasIndexed at k instr) (sym (eqb-true number 187 is)) (new_length at (class_named_by w class) instr e)
-typed_by w at number class instr false is e = table_passes (λ k i. has_length at i (index_len k)) type_instrs (type_named w class) number instr (λ arg. refl) e
+typed_by w at number class instr true dims is e = subst (λ k. HasIndexed at k instr) (sym (eqb-true number 187 is)) (new_length at (class_named_by w class) instr e)
+typed_by w at number class instr false dims is e =
+    table_holds (HasIndexed at) type_instrs (type_named w class) number instr
+    (λ arg there.
+    let h : (is_reference arg && true) ≡ true = and_from _ _ (is_reference_named w class arg dims there) refl in
+    (h, (h, (h, tt)))) e
 
-typed_length : (w : World) (at number : ℕ) (class : Named) (instr : Instr) → typed_instr w number class ≡ Some instr → HasIndexed at number instr
-typed_length w at number class instr e = typed_by w at number class instr (number == 187) refl e
+typed_length : (w : World) (at number : ℕ) (class : Named) (instr : Instr) → HasDims class → typed_instr w number class ≡ Some instr → HasIndexed at number instr
+typed_length w at number class instr dims e = typed_by w at number class instr (number == 187) dims refl e
 
 index_length : (w : World) (at number : ℕ) (o : Option Operand) (instr : Instr) → IsLoaded o → instr_with w number o ≡ Some instr → HasIndexed at number instr
 unfolding has_length
@@ -205,7 +210,7 @@ index_length w at number (Some (AConstant value)) instr is e =
     (h, (h, (h, tt)))) e
 index_length w at number (Some (AField member)) instr is e = table_passes (λ k i. has_length at i (index_len k)) field_instrs (field_found w member) number instr (λ arg. refl) e
 index_length w at number (Some (AMethod member)) instr is e = table_passes (λ k i. has_length at i (index_len k)) method_instrs (method_found w member) number instr (λ arg. refl) e
-index_length w at number (Some (AType class)) instr is e = typed_length w at number class instr e
+index_length w at number (Some (AType class)) instr is e = typed_length w at number class instr is e
 
 index_has : (w : World) (at number index len : ℕ) (pool : List Entry) (instr : Instr) → (index_len number == len) ≡ true → instr_with w number (operand_at pool (number, index)) ≡ Some instr → Has at len instr
 index_has w at number index len pool instr is e =

@@ -4,6 +4,7 @@ mod Frames
 mod Decoded
 mod Rows
 mod Tables
+mod References
 mod Loaded
 mod Instrs
 mod Targets
@@ -24,6 +25,7 @@ mod Forms
 mod InstrsThere
 mod FramesThere
 mod CodeThere
+mod ProperFrames
 mod ProgramThere
 mod TestedTypes
 mod TestedInstrs

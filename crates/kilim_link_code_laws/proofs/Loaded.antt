@@ -1,4 +1,4 @@
--- What an instruction loads is an int, a long or a string.
+-- What an instruction loads is an int, a long or a string; an array that it names has a dimension at least.
 use Rattle.std.proofs.Common.{◌≡◌, ℕ, Bool, true, false, List, Option, Some, None, refl}
 use Rattle.std.specs.Prelude.{◌||◌, ◌==◌, if◌then◌else◌}
 use Rattle.std.specs.Option.{option_map}
@@ -11,10 +11,14 @@ use Rattle.kilim_link_spec.specs.declared.fault.MemberOf.{MemberOf as MemberRef}
 use Rattle.kilim_link_spec.specs.declared.named.Operand.{Operand}
 use Rattle.kilim_link_spec.specs.declared.named.Operand.TheVariants.{AConstant, AField, AMethod, AType}
 use Rattle.kilim_link_spec.specs.declared.named.Named.{Named}
+use Rattle.kilim_link_spec.specs.declared.named.Named.TheVariants.{AClass, AnArray, Malformed}
+use Rattle.kilim_classfile.specs.Parts.{text_of}
+use Rattle.kilim_link_code_laws.proofs.References.{HasDims, named_has_dims}
 
--- a constant that an instruction loads
+-- a constant that an instruction loads, and a type that it names
 abbrev pub IsLoaded : Option Operand → Type 0
 IsLoaded (Some (AConstant value)) = is_loaded value ≡ true
+IsLoaded (Some (AType class)) = HasDims class
 IsLoaded _ = Unit {0}
 
 constant_loaded : (pool : List Entry) (e : Option Entry) → IsLoaded (option_map AConstant (constant_ref pool e))
@@ -31,9 +35,15 @@ method_loaded : (o : Option MemberRef) → IsLoaded (option_map AMethod o)
 method_loaded None = tt
 method_loaded (Some member) = tt
 
-type_loaded : (o : Option Named) → IsLoaded (option_map AType o)
-type_loaded None = tt
-type_loaded (Some class) = tt
+type_loaded : (pool : List Entry) (e : Option Entry) → IsLoaded (option_map AType (class_ref pool e))
+type_loaded pool (Some (entry.Class name)) = named_has_dims (text_of pool name)
+type_loaded pool _ = tt
+
+class_loaded : (o : Option Named) → IsLoaded (option_map AType (unless_array o))
+class_loaded None = tt
+class_loaded (Some (AClass name)) = tt
+class_loaded (Some (AnArray type)) = tt
+class_loaded (Some (Malformed name)) = tt
 
 loaded_if : (test : Bool) (a b : Option Operand) → IsLoaded a → IsLoaded b → IsLoaded (if test then a else b)
 loaded_if true a b x y = x
@@ -56,5 +66,5 @@ operand_loaded pool x =
     (loaded_if (x.0 == 178 || x.0 == 180 || x.0 == 181) of_field from_method (field_loaded (field_ref pool e))
     (loaded_if (x.0 == 182) of_method from_any_method (method_loaded (method_ref pool e))
     (loaded_if (x.0 == 183 || x.0 == 184) of_any_method from_class (method_loaded (any_method_ref pool e))
-    (loaded_if (x.0 == 187) of_class from_type (type_loaded (unless_array (class_ref pool e)))
-    (loaded_if (x.0 == 189 || x.0 == 192 || x.0 == 193) of_type None (type_loaded (class_ref pool e)) tt)))))
+    (loaded_if (x.0 == 187) of_class from_type (class_loaded (class_ref pool e))
+    (loaded_if (x.0 == 189 || x.0 == 192 || x.0 == 193) of_type None (type_loaded pool e) tt)))))

@@ -8,14 +8,22 @@ use Rattle.kilim_link_spec.specs.LinksWell.{LinksWell}
 use Rattle.kilim_link_spec.specs.World.{world_of}
 use Rattle.kilim_classes.specs.declared.class.Form.{Form}
 use Rattle.kilim_classes.specs.declared.names.ClassId.{ClassId}
-use Rattle.kilim_classes.specs.Keeps.{code_is_whole, constants_fit, ids_are_places, method_is_sound, no_task_arrays}
+use Rattle.kilim_classes.specs.Keeps.{code_is_whole, constants_fit, frames_are_proper, ids_are_places, method_is_sound, no_task_arrays}
 use Rattle.kilim_classes.specs.Lengths.{places_increase}
-use Rattle.kilim_classes.specs.Names.{is_task}
+use Rattle.kilim_classes.specs.Names.{is_empty, is_task}
 use Rattle.kilim_classes.specs.Program.{Program}
 
 -- The places of each method's frames increase.
 abbrev pub FramesIncrease : Type 0
 FramesIncrease = (files : List ClassFile) (form : Form) (p : Program) → LinksWell files form p → list_all (λ m. places_increase m.frames) p.methods ≡ true
+
+-- Each object in a declared frame is a class or an array, and each long in its locals has its second half.
+abbrev pub FramesAreProper : Type 0
+FramesAreProper = (files : List ClassFile) (form : Form) (p : Program) → LinksWell files form p → list_all frames_are_proper p.methods ≡ true
+
+-- No method has an exception table.
+abbrev pub NoneHasHandlers : Type 0
+NoneHasHandlers = (files : List ClassFile) (form : Form) (p : Program) → LinksWell files form p → list_all (λ m. is_empty m.handlers) p.methods ≡ true
 
 -- A method has a qualifier for each parameter and few argument slots, and no constructor pauses.
 abbrev pub MethodsAreSound : Type 0

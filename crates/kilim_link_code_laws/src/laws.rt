@@ -1,6 +1,6 @@
 //! Laws about linked programs. No program calls them to do work.
 
-ghost use Rattle.kilim_link_code_laws.specs.Facts.{CodeIsWhole, ConstantsFit, FramesIncrease, IdsArePlaces, MethodsAreSound, NoFaultLinks, NoTaskArrays};
+ghost use Rattle.kilim_link_code_laws.specs.Facts.{CodeIsWhole, ConstantsFit, FramesAreProper, FramesIncrease, IdsArePlaces, MethodsAreSound, NoFaultLinks, NoTaskArrays, NoneHasHandlers};
 
 use kilim_bytecode::targets_are_places;
 use kilim_link_spec::{linked_in_parts, none_has_a_problem, none_of_each_kind};
@@ -9,6 +9,20 @@ use kilim_opcodes::{lengths, one_spelling};
 /// A law, and no work: the places of a method's frames increase.
 pub fn frames_increase()
     ensures { FramesIncrease }
+{
+    linked_in_parts();
+}
+
+/// A law, and no work: each object in a declared frame is a class or an array, and each long in its locals has its second half.
+pub fn frames_are_proper()
+    ensures { FramesAreProper }
+{
+    linked_in_parts();
+}
+
+/// A law, and no work: no method has an exception table.
+pub fn none_has_handlers()
+    ensures { NoneHasHandlers }
 {
     linked_in_parts();
 }

@@ -9,7 +9,7 @@ use Rattle.kilim_classes.specs.declared.names.MethodId.{MethodId}
 use Rattle.kilim_classes.specs.Program.{Program}
 use Rattle.kilim_classes.specs.Names.{method_at}
 use Rattle.kilim_classes.specs.Keeps.{Keeps, code_is_whole}
-use Rattle.kilim_classes.specs.Lengths.{has_length, is_loaded, is_local_length, is_iinc_length, is_jump_length, is_far, is_table, is_primitive, matches_increase, switch_padding, code_stands, first_place}
+use Rattle.kilim_classes.specs.Lengths.{has_length, is_loaded, is_local_length, is_iinc_length, is_jump_length, is_far, is_table, is_primitive, is_reference, matches_increase, switch_padding, code_stands, first_place}
 use Rattle.kilim_lookups.specs.Places.{Above, Rising}
 
 and_zero : (a b : Bool) → b ≡ false → (a && b) ≡ false
@@ -80,9 +80,9 @@ no_length at (Invokespecial m) = refl
 no_length at (Invokestatic m) = refl
 no_length at (New c) = refl
 no_length at (Newarray element) = and_zero (is_primitive element) _ refl
-no_length at (Anewarray element) = refl
-no_length at (Checkcast ty) = refl
-no_length at (Instanceof ty) = refl
+no_length at (Anewarray element) = and_zero (is_reference element) _ refl
+no_length at (Checkcast ty) = and_zero (is_reference ty) _ refl
+no_length at (Instanceof ty) = and_zero (is_reference ty) _ refl
 no_length at (Ifnull to) = jump_zero at to
 no_length at (Ifnonnull to) = jump_zero at to
 no_length at (GotoW to) = and_zero (is_far at to) _ refl
