@@ -5,3 +5,5 @@ pub mod Given
 pub mod Taken
 pub mod Ties
 pub mod Steps
+pub mod Booking
+pub mod OwnEnds

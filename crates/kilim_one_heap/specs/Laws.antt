@@ -1,7 +1,11 @@
 -- What threads over one heap, and threads on heaps of their own, have to do with each other.
-use Rattle.std.specs.Prelude.{◌≡◌, ℕ, Some, slice_get}
+use Rattle.std.specs.Prelude.{false, None, Option, ◌≡◌, ℕ, Some, slice_get}
 use Rattle.kilim_thread_model.specs.State.{Setting, State}
-use Rattle.kilim_thread_model.specs.Lone.{Lone, next_move}
+use Rattle.kilim_program.specs.declared.cause.EndCause.{EndCause}
+use Rattle.kilim_journal.specs.declared.entry.Act.{Act}
+use Rattle.kilim_thread_model.specs.Lone.{Lone, Ends, next_move}
+use Rattle.kilim_thread_model.specs.Moving.{Books, is_tasks, books_after}
+use Rattle.kilim_one_heap.specs.Booked.{Booked}
 use Rattle.kilim_thread_model.specs.Turn.{moved}
 use Rattle.kilim_kin.specs.Kin.{Names, Owner}
 use Rattle.kilim_one_heap.specs.Lones.{LonesKin, NextKin, IsWholeThread}
@@ -16,3 +20,16 @@ NextMovesAreKin = (setting : Setting) (of : Names) (owner : ℕ → Owner) (t : 
 -- A move of a thread over the one heap is its move over its own heap, and leaves all threads and mailboxes alike.
 abbrev pub MovesMatch : Type 0
 MovesMatch = (setting : Setting) (m : Parted) (s : State) → Tied setting m s → (t : ℕ) → ((l : Lone) → slice_get m.lones t ≡ Some l → IsWholeThread setting l.heap l.thread) → Match setting (parts setting m t) (moved setting s t)
+
+-- A thread's own end is never that for want of tasks: that is decided at its start.
+abbrev pub NoOwnTasks : Type 0
+NoOwnTasks = (setting : Setting) (t : ℕ) (l : Lone) (why : EndCause) (after : Lone) → next_move setting t l ≡ Ends why after → is_tasks why ≡ false
+
+-- Without an action the books are the same, with one they are those after its entry.
+abbrev pub KeepsBooks : Setting → Books → ℕ → Parted → Option Act → Type 0
+KeepsBooks setting b t after None = Booked setting after b
+KeepsBooks setting b t after (Some act) = (later : Books) × (books_after b (record { task = t; act = act }) ≡ Some later) × Booked setting after later
+
+-- A move keeps each thread that of its course, and the mailboxes those of the books.
+abbrev pub MovesAreBooked : Type 0
+MovesAreBooked = (setting : Setting) (m : Parted) (b : Books) (t : ℕ) → Booked setting m b → KeepsBooks setting b t (parts setting m t).state (parts setting m t).act

@@ -2,7 +2,7 @@
 //! them, which no program calls to do work.
 #![tactic(auto)]
 
-ghost use Rattle.kilim_one_heap.specs.Laws.{MovesMatch, NextMovesAreKin};
+ghost use Rattle.kilim_one_heap.specs.Laws.{MovesAreBooked, MovesMatch, NextMovesAreKin, NoOwnTasks};
 
 /// A law, and no work: a thread does next the same on a heap of its own as on a heap that it shares, but for the names
 /// of objects.
@@ -14,4 +14,15 @@ pub fn next_moves_are_kin()
 /// mailboxes alike but for the names of objects.
 pub fn moves_match()
     ensures { MovesMatch }
+{}
+
+/// A law, and no work: a thread's own end is never that for want of tasks.
+pub fn no_own_tasks()
+    ensures { NoOwnTasks }
+{}
+
+/// A law, and no work: a move over many heaps keeps each thread that of its course, and the mailboxes those that the
+/// journal gives.
+pub fn moves_are_booked()
+    ensures { MovesAreBooked }
 {}
