@@ -2,6 +2,7 @@
 #![tactic(auto)]
 
 ghost use Rattle.std.specs.Prelude.{◌≡◌, ◌+◌, ◌<◌, ◌≤◌, ◌^◌, ◌++◌, ◌∷◌, [], ◌==◌, not, length, OnOk, OnErr, MatchOption, None, Some};
+ghost use Rattle.kilim_mailbox.specs.Calls.{CallsAreOneThread};
 
 use kilim_tree_move::Tree;
 use kilim_units::NoMemory;
@@ -79,3 +80,8 @@ impl Mailbox {
         !self.queue.is_empty()
     }
 }
+
+/// A law, and no work: whatever is called on a new mailbox, what there is to say of the calls is one thread of messages.
+pub fn calls_are_one_thread()
+    ensures { CallsAreOneThread }
+{}
