@@ -1,0 +1,189 @@
+-- Giving back, the first board, and the close.
+use Rattle.std.proofs.Common.{◌≡◌, ℕ, zero, suc, ◌+◌, ◌<◌, ◌≤◌, nat_lt, Bool, true, false, cond, ◌==◌, List, [], ◌∷◌, ◌++◌, Option, Some, None, refl, sym, ap, subst, ◌∙◌, inl, inr, arith, get_or}
+use Rattle.std.specs.Prelude.{length, slice_get, if◌then◌else◌, replicate}
+use Rattle.std.proofs.lemmas.Bool.Decides.{nat_tests}
+use Rattle.std.proofs.lemmas.Option.{get_or_from_slice_get}
+use Rattle.kilim_classes.specs.declared.names.BoxName.{BoxName}
+use Rattle.kilim_journal.specs.declared.entry.Entry.{Entry}
+use Rattle.kilim_thread_model.specs.State.{Setting}
+use Rattle.kilim_thread_model.specs.Runs.{wait_entry}
+use Rattle.kilim_fibers.specs.Fibers.{StandsFor}
+use Rattle.kilim_exchange.specs.declared.board.Waiter.{Waiter}
+use Rattle.kilim_exchange.specs.Places.{Ready, is_task, Stood}
+use Rattle.kilim_exchange.specs.Board.{Board, BoardStands, is_alive, stands_in, to_serve, lent_of, closing, parked_box, IsQuiet}
+use Rattle.kilim_exchange.specs.Seen.{CourseAt, GiveAnswers, gives_at, RestsAs, IsNewBoard, MovedWhole}
+use Rattle.kilim_exchange.proofs.Places.{both_ways, front}
+use Rattle.kilim_exchange.proofs.Boards.{same_board, quiet_at_rest}
+use Rattle.kilim_exchange.proofs.Calls.{gives_back_stands, parks_stands}
+use Rattle.kilim_thread_model.specs.Lone.{Lone}
+use Rattle.kilim_thread_model.specs.Course.{Course, IsLone}
+use Rattle.kilim_thread_model.specs.declared.deed.Beginning.TheVariants.{Boot}
+use Rattle.kilim_thread_model.specs.Moving.{first_books}
+
+nothing_there : {A : Type 0} (xs : List A) → (length xs == 0) ≡ true → xs ≡ []
+nothing_there [] e = refl
+nothing_there (x ∷ xs) e = absurd (let h : suc (length xs) ≡ 0 = grind (arith, nat_tests) in omega arith)
+
+one_after : {A : Type 0} (n : ℕ) (x : A) → replicate n x ++ x ∷ [] ≡ replicate (suc n) x
+one_after zero x = refl
+one_after (suc n) x = ap (λ l. x ∷ l) (one_after n x)
+
+pub one_more : {A : Type 0} (n : ℕ) (x : A) → replicate n x ++ x ∷ [] ≡ replicate (n + 1) x
+one_more n x = one_after n x ∙ ap (λ m. replicate m x) (let e : suc n ≡ n + 1 = omega arith in e)
+
+pub none_lent : (n : ℕ) → lent_of (replicate n None) ≡ []
+none_lent zero = refl
+none_lent (suc n) = none_lent n
+
+module _ {F : Type 0} (task : F → ℕ) (course : F → Course) (holds : Setting → F → Lone → Type 0) (set : Setting) where
+  abbrev Stand : Board F → Type 0
+  Stand b = BoardStands task course holds set b
+
+  pub give_stands : (b b' : Board F) (seat : ℕ) (f : F) (waits : Option BoxName) → slice_get b.cells seat ≡ Some (Some (task f)) → GiveAnswers b seat b' f waits → Stand b → RestsAs task course holds set f waits → CourseAt b (task f) (course f) → Stand b'
+  give_stands b b' seat f None lent did st rests at = gives_back_stands task course holds set b b' seat f lent rests at did st
+  give_stands b b' seat f (Some box) lent did st rests at = given_by (length (b.mails box).queue == 0) refl did
+    where
+      given_by : (y : Bool) → (length (b.mails box).queue == 0) ≡ y → gives_at y b seat b' f box → Stand b'
+      given_by true e parks = parks_stands task course holds set b b' seat f box lent rests.stands at rests.at (nothing_there (b.mails box).queue e) parks st
+      given_by false e gives = gives_back_stands task course holds set b b' seat f lent rests.stands at gives st
+
+  -- ---- the first board
+
+  pub new_stands : (b : Board F) (f : F) (seats : ℕ) → IsNewBoard b f seats → task f ≡ 0 → course f ≡ record { beginning = Boot; deeds = [] } → StandsFor task course holds set f → Stand b
+  new_stands b f seats new zero-it-is boots stands =
+      let b1 : Board F = record { journal = []; tasks = 1; ready = f ∷ []; parked = []; cells = replicate seats None; mails = λ box. record { puts = 0; queue = [] }; stopped = false } in
+      same_board task course holds set b1 b new.journal new.tasks new.ready new.parked new.cells new.mails new.stopped (first_stands b1 refl)
+    where
+      lone-of-f : IsLone set 0 (record { beginning = Boot; deeds = [] }) stands.lone
+      lone-of-f = subst (λ n. IsLone set n (record { beginning = Boot; deeds = [] }) stands.lone) zero-it-is (subst (λ x. IsLone set (task f) x stands.lone) boots stands.is)
+
+      lones : (t : ℕ) (c : Course) (l : Lone) → slice_get (record { beginning = Boot; deeds = [] } ∷ []) t ≡ Some c → slice_get (stands.lone ∷ []) t ≡ Some l → IsLone set t c l
+      lones zero c l e g =
+          let same-c : record { beginning = Boot; deeds = [] } ≡ c = some_is c e in
+          let same-l : stands.lone ≡ l = cc in
+          subst (λ x. IsLone set 0 x l) same-c (subst (λ x. IsLone set 0 (record { beginning = Boot; deeds = [] }) x) same-l lone-of-f)
+        where
+          some_is : (c : Course) → Some (record { beginning = Boot; deeds = [] }) ≡ Some c → record { beginning = Boot; deeds = [] } ≡ c
+          some_is c e = cc
+      lones (suc t) c l e g = absurd (cc)
+
+      first_stood : Stood (λ u. 0 == u) (stands_in set (stands.lone ∷ [])) (to_serve false first_books.mailboxes) (record { spot = Ready; task = task f } ∷ (lent_of (replicate seats None) ++ []))
+      first_stood = subst (λ l. Stood (λ u. 0 == u) (stands_in set (stands.lone ∷ [])) (to_serve false first_books.mailboxes) (record { spot = Ready; task = task f } ∷ (l ++ []))) (sym (none_lent seats))
+          (record {
+            placed = λ u. front (is_task u) (record { spot = Ready; task = task f }) [] ∙ ap (λ b. cond b 1 0 + 0) (ap (λ n. n == u) zero-it-is) ∙ plus_none (cond (0 == u) 1 0);
+            astray = refl;
+            served = λ box some. absurd (omega arith);
+          })
+        where
+          plus_none : (n : ℕ) → n + 0 ≡ n
+          plus_none n = omega arith
+
+      only_alive : (t : ℕ) → (0 == t) ≡ true → is_alive first_books t ≡ true
+      only_alive zero e = refl
+      only_alive (suc t) e = absurd (let h : 0 ≡ suc t = grind (arith, nat_tests) in omega arith)
+
+      only_found : (t : ℕ) → is_alive first_books t ≡ true → (0 == t) ≡ true
+      only_found zero e = refl
+      only_found (suc t) e = absurd (cc)
+
+      first_stands : (b1 : Board F) → b1 ≡ record { journal = []; tasks = 1; ready = f ∷ []; parked = []; cells = replicate seats None; mails = λ box. record { puts = 0; queue = [] }; stopped = false } → Stand b1
+      first_stands b1 e = subst Stand (sym e) (record {
+        state = record { books = first_books; lones = stands.lone ∷ [] };
+        replay = record { books = refl; each = refl; lones = lones };
+        tasks = refl;
+        mails = λ box. record { puts = refl; queue = tt };
+        there = λ u. 0 == u;
+        alive = only_alive;
+        found = λ _. only_found;
+        stood = first_stood;
+        ready = (record { stands = stands; own = ap (slice_get (record { beginning = Boot; deeds = [] } ∷ [])) zero-it-is ∙ ap (λ x. Some x) (sym boots) }, tt);
+        parked = tt;
+      })
+
+  -- ---- the close
+
+  pub finished : (b : Board F) (es : List Entry) → Stand b → b.stopped ≡ false → IsQuiet b → es ≡ b.journal ++ closing task b.parked 0 b.tasks → MovedWhole set es
+  finished b es st running quiet e = record {
+    entries = b.journal;
+    waits = closing task b.parked 0 b.tasks;
+    parts = e;
+    state = st.state;
+    replay = st.replay;
+    at_rest = quiet_at_rest task course holds set b st running quiet.0 quiet.1;
+  }
+
+module _ {F : Type 0} (task : F → ℕ) where
+  abbrev pub NoneAt : List (Waiter F) → ℕ → ℕ → Type 0
+  NoneAt ws t i = (k : ℕ) → k < i → (w : Waiter F) → slice_get ws k ≡ Some w → (task w.fiber == t) ≡ false
+
+  pub parked_first : (ws : List (Waiter F)) (t i : ℕ) (w : Waiter F) → NoneAt ws t i → slice_get ws i ≡ Some w → (task w.fiber == t) ≡ true → parked_box task ws t ≡ Some w.mailbox
+  parked_first [] t i w before at same = absurd (cc)
+  parked_first (q ∷ qs) t zero w before at same =
+      let e : q ≡ w = cc in
+      ap (λ b. if b then Some q.mailbox else parked_box task qs t) (ap (λ (x : Waiter F). task x.fiber == t) e ∙ same) ∙ ap (λ (x : Waiter F). Some x.mailbox) e
+  parked_first (q ∷ qs) t (suc i) w before at same =
+      ap (λ b. if b then Some q.mailbox else parked_box task qs t) (before 0 (omega arith) q refl) ∙ parked_first qs t i w (λ k h x e. before (suc k) (omega arith) x e) at same
+
+  pub parked_nowhere : (ws : List (Waiter F)) (t : ℕ) → NoneAt ws t (length ws) → parked_box task ws t ≡ None
+  parked_nowhere [] t before = refl
+  parked_nowhere (q ∷ qs) t before = ap (λ b. if b then Some q.mailbox else parked_box task qs t) (before 0 (omega arith) q refl) ∙ parked_nowhere qs t (λ k h x e. before (suc k) (omega arith) x e)
+
+  pub none_at_more : (ws : List (Waiter F)) (t i : ℕ) (w : Waiter F) → NoneAt ws t i → slice_get ws i ≡ Some w → (task w.fiber == t) ≡ false → NoneAt ws t (i + 1)
+  none_at_more ws t i w before at other k h x e = elim (both_ways (nat_lt k i)) [
+    | inl below ↦ before k (grind (arith, nat_tests)) x e
+    | inr above ↦
+        let a : i ≤ k = grind (arith, nat_tests) in
+        let same : k ≡ i = omega arith in
+        let f : Some w ≡ Some x = sym at ∙ (ap (slice_get ws) (sym same) ∙ e) in
+        let g : w ≡ x = cc in ap (λ (y : Waiter F). task y.fiber == t) (sym g) ∙ other
+  ]
+
+  closing_apart : (ws : List (Waiter F)) (t n : ℕ) → closing task ws t (suc n) ≡ closing task ws t n ++ wait_entry (t + n) (parked_box task ws (t + n))
+  closing_apart ws t zero = empty_end (wait_entry t (parked_box task ws t)) ∙ ap (λ u. wait_entry u (parked_box task ws u)) (let e : t ≡ t + 0 = omega arith in e)
+    where
+      empty_end : (es : List Entry) → es ++ [] ≡ es
+      empty_end [] = refl
+      empty_end (e ∷ es) = ap (λ l. e ∷ l) (empty_end es)
+  closing_apart ws t (suc n) =
+      ap (λ es. wait_entry t (parked_box task ws t) ++ es) (closing_apart ws (suc t) n)
+      ∙ (joined (wait_entry t (parked_box task ws t)) (closing task ws (suc t) n) (wait_entry (suc t + n) (parked_box task ws (suc t + n)))
+      ∙ ap (λ u. (wait_entry t (parked_box task ws t) ++ closing task ws (suc t) n) ++ wait_entry u (parked_box task ws u)) (let e : suc t + n ≡ t + suc n = omega arith in e))
+    where
+      joined : (a b c : List Entry) → a ++ (b ++ c) ≡ (a ++ b) ++ c
+      joined [] b c = refl
+      joined (x ∷ xs) b c = ap (λ l. x ∷ l) (joined xs b c)
+
+  pub closing_more : (j : List Entry) (ws : List (Waiter F)) (n : ℕ) → (j ++ closing task ws 0 n) ++ wait_entry n (parked_box task ws n) ≡ j ++ closing task ws 0 (n + 1)
+  closing_more j ws n = sym (joined j (closing task ws 0 n) (wait_entry n (parked_box task ws n))) ∙ (ap (λ es. j ++ es) (sym (closing_apart ws 0 n ∙ ap (λ u. closing task ws 0 n ++ wait_entry u (parked_box task ws u)) (let e : 0 + n ≡ n = omega arith in e))) ∙ ap (λ m. j ++ closing task ws 0 m) (let e : suc n ≡ n + 1 = omega arith in e))
+    where
+      joined : (a b c : List Entry) → a ++ (b ++ c) ≡ (a ++ b) ++ c
+      joined [] b c = refl
+      joined (x ∷ xs) b c = ap (λ l. x ∷ l) (joined xs b c)
+
+pub same_task : (cells : List (Option ℕ)) (seat t u : ℕ) → slice_get cells seat ≡ Some (Some t) → get_or cells seat None ≡ Some u → u ≡ t
+same_task [] seat t u e f = absurd (cc)
+same_task (x ∷ xs) zero t u e f = cc
+same_task (x ∷ xs) (suc n) t u e f = same_task xs n t u e f
+
+pub not_same : (a b : ℕ) → (a ≡ b → ⊥) → (a == b) ≡ false
+not_same a b n = elim (both_ways (a == b)) [ inl is ↦ absurd (n (grind (arith, nat_tests))) | inr isnt ↦ isnt ]
+
+pub is_same : (a b : ℕ) → a ≡ b → (a == b) ≡ true
+is_same a b e = grind (arith, nat_tests)
+
+pub same_cell : (cells : List (Option ℕ)) (seat t u : ℕ) (o : Option ℕ) → slice_get cells seat ≡ Some (Some t) → o ≡ get_or cells seat o → o ≡ Some u → u ≡ t
+same_cell cells seat t u o e f g = let h : get_or cells seat o ≡ Some t = get_or_from_slice_get cells seat (Some t) o e in let k : Some u ≡ Some t = sym g ∙ (f ∙ h) in cc
+
+module _ {F : Type 0} (task : F → ℕ) where
+  nothing_more : (es : List Entry) → es ≡ es ++ []
+  nothing_more [] = refl
+  nothing_more (e ∷ es) = ap (λ l. e ∷ l) (nothing_more es)
+
+  pub closes : (j l l' : List Entry) (ws : List (Waiter F)) (n : ℕ) (o : Option BoxName) → o ≡ parked_box task ws n → l ≡ j ++ closing task ws 0 n → l' ≡ l ++ wait_entry n o → l' ≡ j ++ closing task ws 0 (n + 1)
+  closes j l l' ws n o is e f = f ∙ (ap (λ x. l ++ wait_entry n x) is ∙ (ap (λ x. x ++ wait_entry n (parked_box task ws n)) e ∙ closing_more task j ws n))
+
+  pub closes_none : (j l l' : List Entry) (ws : List (Waiter F)) (n : ℕ) (o : Option BoxName) → o ≡ parked_box task ws n → o ≡ None → l ≡ j ++ closing task ws 0 n → l' ≡ l → l' ≡ j ++ closing task ws 0 (n + 1)
+  closes_none j l l' ws n o is none e f = closes j l l' ws n o is e (f ∙ (nothing_more l ∙ ap (λ x. l ++ wait_entry n x) (sym none)))
+
+  pub closes_some : (j l l' : List Entry) (ws : List (Waiter F)) (n : ℕ) (o : Option BoxName) (box : BoxName) → o ≡ parked_box task ws n → o ≡ Some box → l ≡ j ++ closing task ws 0 n → l' ≡ l ++ wait_entry n (Some box) → l' ≡ j ++ closing task ws 0 (n + 1)
+  closes_some j l l' ws n o box is some e f = closes j l l' ws n o is e (f ∙ ap (λ x. l ++ wait_entry n x) (sym some))

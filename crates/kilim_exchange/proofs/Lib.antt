@@ -1,0 +1,12 @@
+pub mod Places
+pub mod Lists
+pub mod Named
+pub mod Allowed
+pub mod Replays
+pub mod Seats
+pub mod WaitLists
+pub mod Deeds
+pub mod Boards
+pub mod Calls
+pub mod Closing
+pub mod Queues

@@ -1,0 +1,14 @@
+use Rattle.std.proofs.Common.{arith, length, refl}
+use Rattle.kilim_exchange.proofs.Seats.{lent_no_more}
+use Rattle.kilim_exchange.specs.Mailboxes.{mail_of}
+use Rattle.kilim_exchange.proofs.Named.{counted_same}
+use Rattle.kilim_exchange.proofs.Lists.{longer}
+use Rattle.kilim_exchange.proofs.board.Board.end.Goals as goal
+
+pub returns-clause-roomy : goal.returns-clause-roomy
+returns-clause-roomy g c =
+    let r = c.requires.roomy in
+    let h = lent_no_more c.args.self.now.cells.items c.args.seat in
+    let f = r.fits in
+    let l = longer c.args.self.now.journal.items c.note.new.journal.items _ c.note.ensures in
+    record { fits = omega arith; ready = r.ready; parked = r.parked; few = r.few; counted = counted_same (mail_of c.args.self.now.mailboxes) (mail_of c.args.self.now.mailboxes) (length c.args.self.now.journal.items) (length c.note.new.journal.items) r.counted (λ box. refl) (omega arith) }

@@ -1,0 +1,5 @@
+pub mod Places
+pub mod Mailboxes
+pub mod Board
+pub mod Seen
+pub mod Laws
