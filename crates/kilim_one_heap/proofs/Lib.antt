@@ -7,3 +7,7 @@ pub mod Ties
 pub mod Steps
 pub mod Booking
 pub mod OwnEnds
+pub mod Wholes
+pub mod First
+pub mod Beside
+pub mod Isolation

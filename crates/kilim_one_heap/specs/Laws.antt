@@ -1,6 +1,8 @@
 -- What threads over one heap, and threads on heaps of their own, have to do with each other.
-use Rattle.std.specs.Prelude.{false, None, Option, ◌≡◌, ℕ, Some, slice_get}
-use Rattle.kilim_thread_model.specs.State.{Setting, State}
+use Rattle.std.specs.Prelude.{true, false, None, Option, ◌≡◌, ℕ, Some, slice_get}
+use Rattle.kilim_thread_model.specs.State.{Setting, State, is_fit}
+use Rattle.kilim_thread_model.specs.Reach.{Liveness, PlaysIsolated}
+use Rattle.kilim_thread_model.specs.Kept.{Kept}
 use Rattle.kilim_program.specs.declared.cause.EndCause.{EndCause}
 use Rattle.kilim_journal.specs.declared.entry.Act.{Act}
 use Rattle.kilim_thread_model.specs.Lone.{Lone, Ends, next_move}
@@ -33,3 +35,7 @@ KeepsBooks setting b t after (Some act) = (later : Books) × (books_after b (rec
 -- A move keeps each thread that of its course, and the mailboxes those of the books.
 abbrev pub MovesAreBooked : Type 0
 MovesAreBooked = (setting : Setting) (m : Parted) (b : Books) (t : ℕ) → Booked setting m b → KeepsBooks setting b t (parts setting m t).state (parts setting m t).act
+
+-- In no interleaving of a program whose threads are kept is an object reached from two sides.
+abbrev pub NoneShares : Type 0
+NoneShares = (live : Liveness) (setting : Setting) → is_fit setting ≡ true → Kept live setting → PlaysIsolated live setting

@@ -2,7 +2,7 @@
 //! them, which no program calls to do work.
 #![tactic(auto)]
 
-ghost use Rattle.kilim_one_heap.specs.Laws.{MovesAreBooked, MovesMatch, NextMovesAreKin, NoOwnTasks};
+ghost use Rattle.kilim_one_heap.specs.Laws.{MovesAreBooked, MovesMatch, NextMovesAreKin, NoOwnTasks, NoneShares};
 
 /// A law, and no work: a thread does next the same on a heap of its own as on a heap that it shares, but for the names
 /// of objects.
@@ -25,4 +25,10 @@ pub fn no_own_tasks()
 /// journal gives.
 pub fn moves_are_booked()
     ensures { MovesAreBooked }
+{}
+
+/// A law, and no work: in no interleaving of a program whose threads are kept is an object reached by two threads, by a
+/// thread and a place in a queue, or by two places in queues.
+pub fn none_shares()
+    ensures { NoneShares }
 {}
