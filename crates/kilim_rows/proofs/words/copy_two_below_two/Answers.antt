@@ -1,0 +1,26 @@
+use Rattle.std.proofs.Common.{◌≡◌, ◌∙◌, sym, ap, List, ◌∷◌, false, arith}
+use Rattle.kilim_classes.specs.declared.value.Value.{Value}
+use Rattle.kilim_frames.specs.Stacked.{Stacked}
+use Rattle.kilim_frames.specs.declared.frame.Frame.{Frame}
+use Rattle.kilim_program.specs.Effect.{is_wide}
+use Rattle.kilim_rows.proofs.Pairs.{pair_below_pair}
+use Rattle.kilim_rows.proofs.words.copy_two_below_two.Goals as goal
+
+pub returns-clause-step : goal.returns-clause-step
+returns-clause-step c =
+    let pa : c.args.frame.now.stack.values ≡ c.pop-a.result ∷ c.pop-a.new.self.values = ap (λ (s : Stacked). s.values) c.pop-a.ensures in
+    let pb : c.pop-a.new.self.values ≡ c.pop-b.result ∷ c.pop-b.new.self.values = ap (λ (s : Stacked). s.values) c.pop-b.ensures in
+    let pc : c.pop-b.new.self.values ≡ c.pop-c-2.result ∷ c.pop-c-2.new.self.values = ap (λ (s : Stacked). s.values) c.pop-c-2.ensures in
+    let wide : is_wide c.pop-a.result ≡ false = sym c.is_long.ensures ∙ c.if-is_long.false in
+    let pd : c.pop-c-2.new.self.values ≡ c.pop-d.result ∷ c.pop-d.new.self.values = ap (λ (s : Stacked). s.values) c.pop-d.ensures in
+    let below : is_wide c.pop-c-2.result ≡ false = sym c.is_long-2.ensures ∙ c.if-is_long-3.false in
+    let stack : c.args.frame.now.stack.values ≡ c.pop-a.result ∷ c.pop-b.result ∷ c.pop-c-2.result ∷ c.pop-d.result ∷ c.pop-d.new.self.values =
+    pa ∙ ap (λ (t : List Value). c.pop-a.result ∷ t) (pb ∙ ap (λ (t : List Value). c.pop-b.result ∷ t) (pc ∙ ap (λ (t : List Value). c.pop-c-2.result ∷ t) pd)) in
+    let e = pair_below_pair c.args.program.now c.args.own.now c.args.next c.args.frame.now.locals c.args.frame.now.stack.values c.pop-d.new.self.values c.pop-a.result c.pop-b.result c.pop-c-2.result c.pop-d.result c.args.heap.now stack wide below c.requires.fine in
+    let two : c.push_three-2.new.frame.stack.values ≡ c.pop-d.result ∷ c.in-Ok.copy ∷ c.in-Ok-copy_of.other ∷ c.pop-d.new.self.values = ap (λ (f : Frame). f.stack.values) c.push_three-2.ensures in
+    let three : c.push_three-3.new.frame.stack.values ≡ c.pop-a.result ∷ c.pop-b.result ∷ c.pop-c-2.result ∷ c.push_three-2.new.frame.stack.values = ap (λ (f : Frame). f.stack.values) c.push_three-3.ensures in
+    let ls_two : c.push_three-2.new.frame.locals ≡ c.args.frame.now.locals = ap (λ (f : Frame). f.locals) c.push_three-2.ensures in
+    let ls_three : c.push_three-3.new.frame.locals ≡ c.push_three-2.new.frame.locals = ap (λ (f : Frame). f.locals) c.push_three-3.ensures in
+    let all : c.push_three-3.new.frame.stack.values ≡ c.pop-a.result ∷ c.pop-b.result ∷ c.pop-c-2.result ∷ c.pop-d.result ∷ c.pop-a.result ∷ c.pop-b.result ∷ c.pop-d.new.self.values = grind (arith, two, three, c.in-Ok.ensures, c.in-Ok-copy_of.ensures) in
+    let ls : c.push_three-3.new.frame.locals ≡ c.args.frame.now.locals = ls_three ∙ ls_two in
+    rw (all, ls) e
