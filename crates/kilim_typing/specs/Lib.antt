@@ -4,3 +4,4 @@ pub mod Faults
 pub mod Paths
 pub mod Samples
 pub mod Examples
+pub mod Laws

@@ -6,8 +6,14 @@
 #![tactic(auto)]
 
 ghost use Rattle.kilim_typing.specs.Examples.{ExamplesHold};
+ghost use Rattle.kilim_typing.specs.Laws.{NoFaultIsWellTyped};
 
 /// A law, and no work: the examples of `specs/Examples.antt`.
 pub fn examples_hold()
     ensures { ExamplesHold }
+{}
+
+/// A law, and no work: a method without a type fault is well typed.
+pub fn no_fault_is_well_typed()
+    ensures { NoFaultIsWellTyped }
 {}
