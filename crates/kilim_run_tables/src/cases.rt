@@ -1,0 +1,16 @@
+//! The words of the cases.
+
+use crate::journals::{journal_case, line_case, open_case};
+use std::alloc::Global;
+use std::rt::Files;
+
+/// The answer of a case: nothing where its words aren't those of a case, a file can't be read, or memory runs out.
+pub fn answer<R: Files>(rt: &R, alloc: Global, words: &[String]) -> Option<String> {
+    let (word, rest) = words.split_first()?;
+    match word.as_str() {
+        "journal" => journal_case(rt, alloc, rest),
+        "line" => line_case(alloc, rest),
+        "open" => open_case(alloc, rest),
+        _ => None,
+    }
+}
