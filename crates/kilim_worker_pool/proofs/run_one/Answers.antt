@@ -1,0 +1,12 @@
+use Rattle.std.proofs.Common.{◌≡◌}
+use Rattle.kilim_worker_pool.specs.Pool.{IsOf}
+use Rattle.kilim_worker_pool.proofs.Steps.{lending, quiet_now}
+use Rattle.kilim_worker_pool.proofs.run_one.Goals as goal
+
+pub run_fiber-requires-clause-lending : goal.run_fiber-requires-clause-lending
+run_fiber-requires-clause-lending g c = lending g.F.Fibers.task_of g.F.Fibers.course_of g.F.Fibers.holds (IsOf g.F.Fibers.serves c.args.code.now c.args.main c.args.limits.now) c.loop-fiber.board c.lend.new.self c.in-Fiber.fiber c.loop-fiber.invariant.0 c.in-Fiber.ensures.roomy c.in-Fiber.ensures.effect c.in-Fiber.ensures.stands
+
+pub returns-in_default : goal.returns-in_default
+returns-in_default g c = λ set is.
+    let q = quiet_now g.F.Fibers.task_of g.F.Fibers.course_of g.F.Fibers.holds (IsOf g.F.Fibers.serves c.args.code.now c.args.main c.args.limits.now) c.loop-fiber.board c.lend.new.self c.lend.result c.in_default.not-Fiber c.lend.ensures.effect c.loop-fiber.invariant.0 in
+    c.finish.ensures.rest set (c.lend.ensures.stands set (c.loop-fiber.invariant.0.stands set is)).0 q.0 q.1
