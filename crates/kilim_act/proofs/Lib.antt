@@ -1,0 +1,4 @@
+mod Fields
+mod Invokes
+mod News
+mod Operands
