@@ -1,5 +1,5 @@
 -- How much is left to do: a number that falls with each step of the runner.
-use Rattle.std.proofs.Common.{◌≡◌, ℕ, zero, suc, ◌+◌, ◌-◌, ◌*◌, ◌<◌, ◌≤◌, Bool, true, false, List, [], ◌∷◌, ◌++◌, Option, Some, None, refl, sym, ap, subst, ◌∙◌, arith}
+use Rattle.std.proofs.Common.{◌≡◌, ℕ, suc, ◌+◌, ◌-◌, ◌*◌, ◌<◌, ◌≤◌, Bool, true, false, List, [], ◌∷◌, ◌++◌, Option, Some, None, refl, sym, ap, subst, ◌∙◌, arith}
 use Rattle.std.specs.List.{sum_by, AllByRecursion}
 use Rattle.std.specs.Prelude.{if◌then◌else◌}
 use Rattle.std.proofs.lemmas.List.Sums.{sum_by-cons, sum_by_push}
@@ -9,7 +9,6 @@ use Rattle.kilim_thread_model.specs.State.{same_box}
 use Rattle.kilim_thread_model.specs.Turn.{task_limit}
 use Rattle.kilim_exchange.specs.declared.board.Waiter.{Waiter}
 use Rattle.kilim_worker_pool.specs.Pool as pool
-use Rattle.kilim_program.specs.declared.cause.EndCause.{EndCause}
 use Rattle.kilim_fibers.specs.Fibers.{StartsFresh}
 use Rattle.kilim_fibers.specs.declared.Wants.{Wants}
 use Rattle.kilim_fibers.specs.declared.Wants.TheVariants as wants
@@ -17,7 +16,7 @@ use Rattle.kilim_fibers.specs.declared.Answer.TheVariants as answer
 use Rattle.kilim_exchange.specs.declared.board.Acted.{Acted}
 use Rattle.kilim_exchange.specs.declared.board.Acted.TheVariants as acted
 use Rattle.kilim_exchange.specs.Seen.{ActAnswers}
-use Rattle.kilim_exchange.specs.Board.{Board, Lends, GivesBack, Parks, PutsMessage, StartsTask, SameSpots, woken, ready_after, parked_after}
+use Rattle.kilim_exchange.specs.Board.{Board, PutsMessage, StartsTask, woken, ready_after, parked_after}
 use Rattle.kilim_exchange.specs.Mailboxes.{Tree, Mail}
 
 module _ {F : Type 0} (task : F → ℕ) (count : F → ℕ) (n : ℕ) where

@@ -1,5 +1,5 @@
 -- From one step of the runner to the next.
-use Rattle.std.proofs.Common.{◌<◌, ◌≤◌, ◌+◌, ◌==◌, ◌⊎◌, inl, inr, arith, length, ◌≡◌, ℕ, Bool, true, false, List, [], ◌∷◌, Option, Some, None, refl, sym, ap, subst, ◌∙◌}
+use Rattle.std.proofs.Common.{◌<◌, ◌≤◌, ◌+◌, ◌==◌, ◌⊎◌, inl, inr, arith, ◌≡◌, ℕ, Bool, false, [], ◌∷◌, Option, Some, None, refl, sym, ap, subst, ◌∙◌}
 use Rattle.std.specs.Prelude.{slice_get, slice_set}
 use Rattle.kilim_program.specs.declared.cause.EndCause.{EndCause}
 use Rattle.kilim_classes.specs.declared.names.BoxName.{BoxName}
@@ -16,16 +16,15 @@ use Rattle.kilim_program.specs.declared.run.Limits.{Limits}
 use Rattle.kilim_exchange.specs.declared.board.Board as kept
 use Rattle.kilim_exchange.specs.declared.board.Lent.{Lent}
 use Rattle.kilim_exchange.specs.declared.board.Lent.TheVariants as lent
-use Rattle.kilim_exchange.specs.Board.{Board, BoardStands, EndsTask, IsQuiet, lent_of, Parks}
-use Rattle.kilim_exchange.specs.Mailboxes.{Tree}
+use Rattle.kilim_exchange.specs.Board.{Board, BoardStands, IsQuiet, lent_of}
 use Rattle.kilim_worker_pool.specs.Pool.{IsOf, IsLending, IsResting, IsCalm, EmptyAt, todo, left, one_if_none}
 use Rattle.kilim_worker_pool.proofs.Measures.{same_left, act_left, nothing_left, same_calm, act_calm}
-use Rattle.kilim_exchange.specs.Seen.{seen, GiveAnswers, gives_at, IsRoomy, LendAnswers, LentStands, CourseAt, SameBoard, ActAnswers, ActMeets, IsActable, IsAnswered, wish_in}
+use Rattle.kilim_exchange.specs.Seen.{seen, IsRoomy, LendAnswers, LentStands, CourseAt, SameBoard, ActAnswers, ActMeets, IsActable, IsAnswered, wish_in}
 use Rattle.kilim_thread_model.specs.Lone.{Lone}
 use Rattle.kilim_thread_model.specs.Course.{Course}
 use Rattle.kilim_thread_model.specs.declared.deed.Deed.{Deed}
 use Rattle.kilim_thread_model.specs.Moving.{books_from, first_books}
-use Rattle.kilim_fibers.specs.Wishes.{Wish, ToPut, ToTake, ToProbe, ToStart, ToPrint, ToEnd, Wishes}
+use Rattle.kilim_fibers.specs.Wishes.{Wish, ToPut, ToTake, ToProbe, ToStart, ToPrint, ToEnd}
 
 -- it is an act but no end
 abbrev pub IsGoing : {F : Type 0} → Wants F → Type 0

@@ -2,18 +2,17 @@
 use Rattle.std.specs.List.{sum_by, AllByRecursion}
 use Rattle.kilim_thread_model.specs.Turn.{task_limit}
 use Rattle.kilim_exchange.specs.declared.board.Waiter.{Waiter}
-use Rattle.std.specs.Prelude.{◌≡◌, ◌+◌, ◌-◌, ◌*◌, ◌<◌, ◌≤◌, ℕ, Bool, true, false, List, [], ◌∷◌, Option, Some, None}
+use Rattle.std.specs.Prelude.{◌≡◌, ◌+◌, ◌-◌, ◌*◌, ◌<◌, ◌≤◌, ℕ, false, [], ◌∷◌, Option, Some, None}
 use Rattle.kilim_classes.specs.declared.names.BoxName.{BoxName}
 use Rattle.kilim_classes.specs.declared.names.ClassId.{ClassId}
 use Rattle.kilim_program.specs.declared.run.Limits.{Limits}
 use Rattle.kilim_thread_model.specs.State.{Setting}
 use Rattle.kilim_fibers.specs.Fibers.{IsOfRun, StandsFor}
-use Rattle.kilim_fibers.specs.declared.Wants.{Wants}
 use Rattle.kilim_fibers.specs.declared.Wants.TheVariants as wants
 use Rattle.kilim_exchange.specs.declared.board.Board as kept
 use Rattle.kilim_exchange.specs.Board.{Board, BoardStands}
 use Rattle.kilim_exchange.specs.Mailboxes.{mail_of}
-use Rattle.kilim_exchange.specs.Seen.{seen, IsRoomy, CourseAt, ActMeets}
+use Rattle.kilim_exchange.specs.Seen.{seen, IsRoomy, CourseAt}
 use Rattle.kilim_worker_pool.specs.declared.Turn.{Turn}
 use Rattle.kilim_worker_pool.specs.declared.Turn.TheVariants as turn
 use Rattle.kilim_thread_model.specs.Lone.{Lone}

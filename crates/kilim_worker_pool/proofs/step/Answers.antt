@@ -1,5 +1,5 @@
-use Rattle.std.proofs.Common.{◌≡◌, ap, sym, ◌∙◌, Some, None, ◌∷◌, [], refl, subst}
-use Rattle.std.specs.Prelude.{slice_get, slice_set}
+use Rattle.std.proofs.Common.{◌≡◌, ap, ◌∙◌, ◌∷◌, [], subst}
+use Rattle.std.specs.Prelude.{slice_get}
 use Rattle.kilim_exchange.specs.Seen.{IsNumbered}
 use Rattle.kilim_worker_pool.proofs.Steps.{going, actable, resumed, lent_now, done_now, asked_by, can_answer, goes_on, is_full, is_ended, counted, going_none, falls_on, falls_over}
 use Rattle.kilim_worker_pool.proofs.Measures.{full_left, act_calm, same_calm}
