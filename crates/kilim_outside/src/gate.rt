@@ -52,12 +52,9 @@ impl Gate for NoteGate {
             if now >= records {
                 return;
             }
-            let tried = self.deepest.compare_exchange(
-                now,
-                records,
-                Ordering::SeqCst,
-                Ordering::SeqCst,
-            );
+            let tried = self
+                .deepest
+                .compare_exchange(now, records, Ordering::SeqCst, Ordering::SeqCst);
             if tried.is_ok() {
                 return;
             }
