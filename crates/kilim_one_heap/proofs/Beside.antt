@@ -124,7 +124,7 @@ tied_noted set m s t act w = record {
   };
 }
 
-booked_noted : (set : Setting) (m : Parted) (t : ℕ) (act : Act) (b : Books) → Booked set m b → Booked set (parted.noted m t act) b
+pub booked_noted : (set : Setting) (m : Parted) (t : ℕ) (act : Act) (b : Books) → Booked set m b → Booked set (parted.noted m t act) b
 booked_noted set m t act b w = record { count = w.count; few = w.few; each = w.each; mail = w.mail }
 
 -- each thread is one that there can be

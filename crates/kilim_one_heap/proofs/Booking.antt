@@ -55,7 +55,7 @@ or_act (Prints token after) go e = refl
 or_act (Ends why after) go e = refl
 or_act Stands go e = refl
 
-action_is : (set : Setting) (t : ℕ) (a l : Lone) (x : Next) → Quiet set t a l → next_move set t l ≡ x → is_act x ≡ true → next_action set t a ≡ x
+pub action_is : (set : Setting) (t : ℕ) (a l : Lone) (x : Next) → Quiet set t a l → next_move set t l ≡ x → is_act x ≡ true → next_action set t a ≡ x
 action_is set t a l x q e act =
     let w = moves_in set t a l q in
     let enough : set.limits.steps < w.0 + suc set.limits.steps = omega arith in

@@ -11,3 +11,9 @@ pub mod Wholes
 pub mod First
 pub mod Beside
 pub mod Isolation
+pub mod Ends
+pub mod Rests
+pub mod Settled
+pub mod Same
+pub mod Back
+pub mod OneHeap

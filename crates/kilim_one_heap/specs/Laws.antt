@@ -1,12 +1,14 @@
 -- What threads over one heap, and threads on heaps of their own, have to do with each other.
-use Rattle.std.specs.Prelude.{true, false, None, Option, ◌≡◌, ℕ, Some, slice_get}
-use Rattle.kilim_thread_model.specs.State.{Setting, State, is_fit}
+use Rattle.std.specs.Prelude.{List, ◌++◌, true, false, None, Option, ◌≡◌, ℕ, Some, slice_get}
+use Rattle.kilim_thread_model.specs.State.{Setting, State, is_fit, first_state}
+use Rattle.kilim_thread_model.specs.Runs.{Replays, AtRest, Whole, played}
+use Rattle.kilim_journal.specs.declared.entry.Entry.{Entry}
 use Rattle.kilim_thread_model.specs.Reach.{Liveness, PlaysIsolated}
 use Rattle.kilim_thread_model.specs.Kept.{Kept}
 use Rattle.kilim_program.specs.declared.cause.EndCause.{EndCause}
 use Rattle.kilim_journal.specs.declared.entry.Act.{Act}
 use Rattle.kilim_thread_model.specs.Lone.{Lone, Ends, next_move}
-use Rattle.kilim_thread_model.specs.Moving.{Books, is_tasks, books_after}
+use Rattle.kilim_thread_model.specs.Moving.{Books, Moving, MovedReplay, MovedAtRest, is_tasks, books_after}
 use Rattle.kilim_one_heap.specs.Booked.{Booked}
 use Rattle.kilim_thread_model.specs.Turn.{moved}
 use Rattle.kilim_kin.specs.Kin.{Names, Owner}
@@ -39,3 +41,26 @@ MovesAreBooked = (setting : Setting) (m : Parted) (b : Books) (t : ℕ) → Book
 -- In no interleaving of a program whose threads are kept is an object reached from two sides.
 abbrev pub NoneShares : Type 0
 NoneShares = (live : Liveness) (setting : Setting) → is_fit setting ≡ true → Kept live setting → PlaysIsolated live setting
+
+-- The one state is at rest exactly where the other is, with the same waits.
+abbrev pub SameRests : Setting → State → Moving → Type 0
+SameRests setting last v = (waits : List Entry) → (AtRest setting last waits → MovedAtRest setting v waits) × (MovedAtRest setting v waits → AtRest setting last waits)
+
+-- A list of entries is replayed over one heap exactly where it is over many, and the one state is at rest exactly where
+-- the other is.
+abbrev pub SameReplays : Setting → List Entry → Type 0
+SameReplays setting es =
+    ((last : State) → Replays setting (first_state setting) es last → (v : Moving) × MovedReplay setting es v × SameRests setting last v)
+    × ((v : Moving) → MovedReplay setting es v → (last : State) × Replays setting (first_state setting) es last × SameRests setting last v)
+
+abbrev pub OneHeapIsMany : Type 0
+OneHeapIsMany = (live : Liveness) (setting : Setting) → is_fit setting ≡ true → Kept live setting → (es : List Entry) → SameReplays setting es
+
+-- What the moved machine replays and has at rest is the journal of a whole run over one heap.
+abbrev pub MovedIsWhole : Type 0
+MovedIsWhole = (live : Liveness) (setting : Setting) → is_fit setting ≡ true → Kept live setting → (es waits : List Entry) (v : Moving) → MovedReplay setting es v → MovedAtRest setting v waits → Whole setting (es ++ waits)
+
+-- The journal of any play is replayed, to a state with that journal.
+abbrev pub PlaysReplay : Type 0
+PlaysReplay = (live : Liveness) (setting : Setting) → is_fit setting ≡ true → Kept live setting → (schedule : List ℕ) →
+    (last : State) × Replays setting (first_state setting) (played setting schedule).journal last × (last.journal ≡ (played setting schedule).journal)

@@ -2,7 +2,7 @@
 //! them, which no program calls to do work.
 #![tactic(auto)]
 
-ghost use Rattle.kilim_one_heap.specs.Laws.{MovesAreBooked, MovesMatch, NextMovesAreKin, NoOwnTasks, NoneShares};
+ghost use Rattle.kilim_one_heap.specs.Laws.{MovedIsWhole, MovesAreBooked, MovesMatch, NextMovesAreKin, NoOwnTasks, NoneShares, OneHeapIsMany, PlaysReplay};
 
 /// A law, and no work: a thread does next the same on a heap of its own as on a heap that it shares, but for the names
 /// of objects.
@@ -31,4 +31,20 @@ pub fn moves_are_booked()
 /// thread and a place in a queue, or by two places in queues.
 pub fn none_shares()
     ensures { NoneShares }
+{}
+
+/// A law, and no work: a list of entries is replayed over one heap exactly where it is over many heaps, and the one
+/// state is at rest exactly where the other is, with the same waits.
+pub fn one_heap_is_many()
+    ensures { OneHeapIsMany }
+{}
+
+/// A law, and no work: what is replayed over many heaps and at rest there is the journal of a whole run over one heap.
+pub fn moved_is_whole()
+    ensures { MovedIsWhole }
+{}
+
+/// A law, and no work: the journal of any play is replayed, to a state with that journal.
+pub fn plays_replay()
+    ensures { PlaysReplay }
 {}

@@ -112,7 +112,7 @@ alive_counts set t l frames done boxes = either (done + 1) (nat_le set.limits.st
 
 -- ---- so many instructions are left at most
 
-abbrev AreLeft : ℕ → ℕ → Thread → Type 0
+abbrev pub AreLeft : ℕ → ℕ → Thread → Type 0
 AreLeft steps k (Alive frames done boxes) = steps ≤ done + k
 AreLeft steps k (Ended cause) = Unit {0}
 
@@ -125,11 +125,11 @@ not_spent set t l after frames done boxes goes le =
     let spent : over l cause.Spent ≡ Goes after = sym (ap (λ (b : Bool). cond b (over l cause.Spent) (frames_next set t l frames done boxes)) (le-leb set.limits.steps done le)) ∙ goes in
     absurd (cc)
 
-none_left : (set : Setting) (t : ℕ) (l after : Lone) (th : Thread) → AreLeft set.limits.steps 0 th → thread_next set t l th ≡ Goes after → ⊥
+pub none_left : (set : Setting) (t : ℕ) (l after : Lone) (th : Thread) → AreLeft set.limits.steps 0 th → thread_next set t l th ≡ Goes after → ⊥
 none_left set t l after (Ended cause) left goes = absurd (cc)
 none_left set t l after (Alive frames done boxes) left goes = not_spent set t l after frames done boxes goes (omega arith)
 
-one_less : (set : Setting) (t : ℕ) (l after : Lone) (th : Thread) (k : ℕ) → AreLeft set.limits.steps (suc k) th → thread_next set t l th ≡ Goes after → AreLeft set.limits.steps k after.thread
+pub one_less : (set : Setting) (t : ℕ) (l after : Lone) (th : Thread) (k : ℕ) → AreLeft set.limits.steps (suc k) th → thread_next set t l th ≡ Goes after → AreLeft set.limits.steps k after.thread
 one_less set t l after (Ended cause) k left goes = absurd (cc)
 one_less set t l after (Alive frames done boxes) k left goes =
     let counted : Counts (done + 1) (Goes after) = subst (Counts (done + 1)) goes (alive_counts set t l frames done boxes) in
@@ -155,7 +155,7 @@ same_next set t (suc k) (suc m) zero l left km kn = absurd (omega arith)
 same_next set t (suc k) (suc m) (suc n) l left km kn =
     same_by set t (suc m) (suc n) l (λ after goes. same_next set t k m n after (one_less set t l after l.thread k left goes) (omega arith) (omega arith)) (next_move set t l) refl
 
-all_left : (steps : ℕ) (th : Thread) → AreLeft steps steps th
+pub all_left : (steps : ℕ) (th : Thread) → AreLeft steps steps th
 all_left steps (Alive frames done boxes) = omega arith
 all_left steps (Ended cause) = tt
 
