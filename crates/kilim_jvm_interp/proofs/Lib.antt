@@ -1,0 +1,4 @@
+mod Entering
+mod Reading
+mod Results
+mod Settling

@@ -1,0 +1,6 @@
+//! The interpreter: instructions of a task, with all of its frames.
+#![tactic(auto)]
+
+mod machine;
+
+pub use machine::{MOST_FRAMES, NativeCall, Stepped, answer, step};
