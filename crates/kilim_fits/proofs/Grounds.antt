@@ -1,0 +1,34 @@
+-- What the step rests on, from what every program keeps.
+use Rattle.kilim_fits.specs.Law.{AreVerified, AreWanted, FactsHold}
+use Rattle.kilim_fits.proofs.Bodies as bodies
+use Rattle.kilim_fits.proofs.BuiltInMembers as members
+use Rattle.kilim_fits.proofs.FromKeeps as keeping
+use Rattle.kilim_fits.proofs.Tables.{all_wants, live_wants}
+use Rattle.kilim_fits.proofs.TextClass as texts
+use Rattle.kilim_fits.proofs.ValueClasses as values
+
+pub facts_hold : FactsHold
+facts_hold p keeps given = record {
+  texts = texts.texts p keeps;
+  takes = members.takes p keeps;
+  fields = given.fields;
+  no_fields = values.no_fields p keeps;
+  constants = keeping.constants p keeps;
+  text_class = values.text_class p keeps;
+  order = record { itself = keeping.itself p keeps; through = given.through };
+  superclass = keeping.superclass p keeps;
+  values = values.values p keeps;
+  string = values.string p keeps;
+  bodies = bodies.bodies p keeps;
+  statics = keeping.statics p keeps;
+  constructors = keeping.constructors p keeps;
+  mailbox = values.mailbox p keeps;
+  selects = given.selects;
+  specials = given.specials;
+}
+
+pub are_verified : AreVerified
+are_verified p typing live keeps typed wants = record { typed = typed; starts = bodies.starts p keeps; wants = wants; proper = bodies.proper p keeps }
+
+pub are_wanted : AreWanted
+are_wanted = record { all = all_wants; live = live_wants }
