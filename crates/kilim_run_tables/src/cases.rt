@@ -1,6 +1,7 @@
 //! The words of the cases.
 
 use crate::journals::{journal_case, line_case, open_case};
+use crate::trees::list_case;
 use std::alloc::Global;
 use std::rt::Files;
 
@@ -11,6 +12,7 @@ pub fn answer<R: Files>(rt: &R, alloc: Global, words: &[String]) -> Option<Strin
         "journal" => journal_case(rt, alloc, rest),
         "line" => line_case(alloc, rest),
         "open" => open_case(alloc, rest),
+        "list" => list_case(alloc, rest),
         _ => None,
     }
 }

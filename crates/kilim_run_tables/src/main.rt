@@ -1,10 +1,11 @@
-//! Answers of the public calls on journals for a table of cases: `kilim_run_tables of FILE` for the cases of a file, a line
+//! Answers of the public calls on journals and trees for a table of cases: `kilim_run_tables of FILE` for the cases of a file, a line
 //! each, or `kilim_run_tables CASE` for one, a word each. README.md has the cases. The status is 0, or 1 where a case can't be
 //! answered: it then stands on standard error, and the answers before it were written.
 #![tactic(auto)]
 
 mod cases;
 mod journals;
+mod trees;
 
 use cases::answer;
 use std::alloc::Global;

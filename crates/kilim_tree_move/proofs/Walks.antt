@@ -22,7 +22,7 @@ leads_join from [] fs mid to h k = subst (λ from. Leads from fs to) (sym h) k
 leads_join [] (e ∷ es) fs mid to h k = absurd h
 leads_join (n ∷ ns) (e ∷ es) fs mid to h k = (h.0, leads_join (refs e.1 ++ ns) es fs mid to h.1 k)
 
-one_object : (heap : Objects) (m n : ℕ) (a b : Object) → m ≡ n → get heap m ≡ Some a → get heap n ≡ Some b → a ≡ b
+pub one_object : (heap : Objects) (m n : ℕ) (a b : Object) → m ≡ n → get heap m ≡ Some a → get heap n ≡ Some b → a ≡ b
 one_object heap m n a b e p q = let r : get heap m ≡ Some b = subst (λ n. get heap n ≡ Some b) (sym e) q in let s : Some a ≡ Some b = sym p ∙ r in cc
 
 -- a walk that isn't at its end is shorter than the whole one

@@ -1,0 +1,21 @@
+-- Trees that are made for a case.
+use Rattle.std.specs.Prelude.{◌≡◌, ℕ, List, [], ◌∷◌}
+use Rattle.std.specs.List.{AllByRecursion}
+use Rattle.kilim_classes.specs.declared.value.Value.{Value}
+use Rattle.kilim_program.specs.declared.value.Object.{Object}
+use Rattle.kilim_program.specs.Machine.{Objects}
+use Rattle.kilim_private_heap.specs.Places.{AllDiffer}
+use Rattle.kilim_tree_move.specs.Walk.{value_refs, Leads, AreIn, IsTree, places}
+
+-- objects below a value, none of which is met twice
+pub record IsBelow (heap : Objects) (value : Value) : Type 0 where
+  pub entries : List (ℕ × Object)
+  pub leads : Leads (value_refs value) entries []
+  pub are_in : AreIn heap entries
+  pub once : AllDiffer (places entries)
+
+-- a tree in which none is met twice
+pub record IsOwn (heap : Objects) (root : ℕ) : Type 0 where
+  pub entries : List (ℕ × Object)
+  pub tree : IsTree heap root entries
+  pub once : AllDiffer (places entries)
