@@ -1,0 +1,5 @@
+pub mod Walks
+pub mod Faults
+pub mod Answers
+pub mod IsolatedProgram
+pub mod Examples
