@@ -1,0 +1,4 @@
+pub mod Quiet
+pub mod Asked
+pub mod Stays
+pub mod Rest
