@@ -182,7 +182,7 @@ loads_int next locals stack heap = on_int stack (λ i below. on_object below hea
 abbrev pub stores_int : ℕ → List Value → List Value → Objects → Effect
 stores_int next locals stack heap =
     on_int stack (λ x above. on_int above (λ i below. on_object below heap (λ n object rest.
-        at_index object.elements i (λ k old. Goes next locals rest (insert heap n (with_element object k (Int (narrowed_int object.class.base x))))))))
+    at_index object.elements i (λ k old. Goes next locals rest (insert heap n (with_element object k (Int (narrowed_int object.class.base x))))))))
 
 -- ---- classes
 
@@ -278,7 +278,7 @@ calls_text named args next locals rest heap receiver =
 abbrev pub takes_element : ℕ → List Value → List Value → Objects → Effect
 takes_element next locals stack heap =
     on_int stack (λ i below. on_object below heap (λ n object rest. at_index object.elements i (λ k v.
-        Goes next locals (v ∷ rest) (insert heap n (with_element object k Null)))))
+    Goes next locals (v ∷ rest) (insert heap n (with_element object k Null)))))
 
 -- ---- the table
 
@@ -309,14 +309,14 @@ does p own Caload next locals stack heap = loads_int next locals stack heap
 does p own Saload next locals stack heap = loads_int next locals stack heap
 does p own Iastore next locals stack heap =
     on_int stack (λ x above. on_int above (λ i below. on_object below heap (λ n object rest.
-        at_index object.elements i (λ k old. Goes next locals rest (insert heap n (with_element object k (Int x)))))))
+    at_index object.elements i (λ k old. Goes next locals rest (insert heap n (with_element object k (Int x)))))))
 does p own Lastore next locals stack heap =
     on_long stack (λ x above. on_int above (λ i below. on_object below heap (λ n object rest.
-        at_index object.elements i (λ k old. Goes next locals rest (insert heap n (with_element object k (Long x)))))))
+    at_index object.elements i (λ k old. Goes next locals rest (insert heap n (with_element object k (Long x)))))))
 does p own Aastore next locals stack heap =
     on_value stack (λ v above. on_int above (λ i below. on_object below heap (λ n object rest.
-        at_index object.elements i (λ k old. as_class p v heap (λ class.
-            if cast_fits p class (element_type object.class) then Goes next locals rest (insert heap n (with_element object k v)) else Raises cause.Store)))))
+    at_index object.elements i (λ k old. as_class p v heap (λ class.
+    if cast_fits p class (element_type object.class) then Goes next locals rest (insert heap n (with_element object k v)) else Raises cause.Store)))))
 does p own Bastore next locals stack heap = stores_int next locals stack heap
 does p own Castore next locals stack heap = stores_int next locals stack heap
 does p own Sastore next locals stack heap = stores_int next locals stack heap
@@ -391,21 +391,21 @@ does p own (Getstatic f) next locals stack heap = with_some (field_of p f) (λ f
 does p own (Getfield f) next locals stack heap = on_object stack heap (λ n object rest. with_some (field_in object.fields f) (λ v. Goes next locals (v ∷ rest) heap))
 does p own (Putfield f) next locals stack heap =
     on_value stack (λ v below. on_object below heap (λ n object rest.
-        with_some (field_of p f) (λ field. with_some (field_in object.fields f) (λ old.
-            Goes next locals rest (insert heap n (record object { fields = with_field object.fields f (narrowed_to field.ty v) }))))))
+    with_some (field_of p f) (λ field. with_some (field_in object.fields f) (λ old.
+    Goes next locals rest (insert heap n (record object { fields = with_field object.fields f (narrowed_to field.ty v) }))))))
 -- calls: the arguments are taken off, the last one first, and then the receiver
 does p own (Invokevirtual m) next locals stack heap =
     with_some (method_at p m) (λ method. on_values (length method.params) stack (λ args below. on_value below (λ receiver rest.
-        if is_text_method p method then calls_text method (reverse args) next locals rest heap receiver
-        else as_class p receiver heap (calls_on p method m (reverse args) next locals rest heap receiver))))
+    if is_text_method p method then calls_text method (reverse args) next locals rest heap receiver
+    else as_class p receiver heap (calls_on p method m (reverse args) next locals rest heap receiver))))
 does p own (Invokespecial m) next locals stack heap =
     with_some (method_at p m) (λ method. if is_built_in_constructor method then on_receiver stack (λ receiver rest. Goes next locals rest heap) else
-        on_values (length method.params) stack (λ args below. on_receiver below (λ receiver rest.
-            calls_method (method_at p (special p own method m)) (special p own method m) (receiver ∷ reverse args) next locals rest heap)))
+    on_values (length method.params) stack (λ args below. on_receiver below (λ receiver rest.
+    calls_method (method_at p (special p own method m)) (special p own method m) (receiver ∷ reverse args) next locals rest heap)))
 -- the static built-in method that isn't handed out is `kilim/Sys.take`
 does p own (Invokestatic m) next locals stack heap =
     with_some (method_at p m) (λ method. if is_handed_out p method then on_values (length method.params) stack (λ args rest. Asks m (reverse args) next locals rest heap) else
-        (if method.built_in then takes_element next locals stack heap else on_values (length method.params) stack (λ args rest. Calls m (reverse args) next locals rest heap)))
+    (if method.built_in then takes_element next locals stack heap else on_values (length method.params) stack (λ args rest. Calls m (reverse args) next locals rest heap)))
 -- objects and arrays
 does p own (New c) next locals stack heap = if is_mailbox p c then Opens next locals stack heap else Makes (new_object p c) next locals stack heap
 does p own (Newarray b) next locals stack heap = on_int stack (λ n rest. makes_array (record { dims = 1; base = b }) (first_value_of b) n next locals rest heap)
