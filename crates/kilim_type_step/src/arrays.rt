@@ -1,0 +1,125 @@
+//! Elements and lengths of arrays.
+
+ghost use Rattle.std.specs.Prelude.{◌≡◌, true, Option};
+ghost use Rattle.kilim_typing.specs.Step.{by_row, type_step, Element};
+ghost use Rattle.kilim_type_step.specs.Answers.{answers, element_by};
+ghost use Rattle.kilim_type_step.specs.Families.{is_array};
+
+use crate::apply::{MISSING_OPERAND, STACK_TOO_HIGH, WRONG_OPERAND, all_meet, apply, has_room_for};
+use crate::constants::object_type;
+use crate::fault::StepFault;
+use crate::operands::{Taken, vtype};
+use crate::state::State;
+use kilim_classes::{Base, Instr, Method, Program, Ty, VType};
+
+const INT: Taken = Taken::Is(VType::Int);
+
+const LONG: Taken = Taken::Is(VType::Long);
+
+const INTS: Taken = Taken::ArrayOf(Base::Int);
+
+const LONGS: Taken = Taken::ArrayOf(Base::Long);
+
+const CHARS: Taken = Taken::ArrayOf(Base::Char);
+
+const SHORTS: Taken = Taken::ArrayOf(Base::Short);
+
+// The type of an element of an array of references.
+fn element_by(t: Option<VType>) -> Option<VType>
+    ensures { result ≡ element_by t }
+{
+    match t {
+        Some(VType::Null) => Some(VType::Null),
+        Some(VType::Object(ty)) => Some(vtype(Ty {
+            dims: ty.dims.saturating_sub(1),
+            base: ty.base,
+        })),
+        Some(VType::Top | VType::Int | VType::Long | VType::UninitThis | VType::Uninit(_)) | None =>
+            None,
+    }
+}
+
+#[tactic(auto, using(crate::proofs::Forms::element_found, crate::proofs::Forms::element_lacks))]
+fn take_element(program: &Program, method: &Method, state: &mut State) -> Result<(), StepFault>
+    ensures { answers (by_row program.now method.now 0 Element state.old) result state.new }
+{
+    if state.height() < 2 {
+        return Err(StepFault::Rule(MISSING_OPERAND));
+    }
+    if !all_meet(program, &[INT, Taken::References], state) {
+        return Err(StepFault::Rule(WRONG_OPERAND));
+    }
+    let Some(t) = element_by(state.below(1)) else {
+        return Err(StepFault::Rule(WRONG_OPERAND));
+    };
+    if !has_room_for(method, state, 2, t) {
+        return Err(StepFault::Rule(STACK_TOO_HIGH));
+    }
+    state.drop_top(2);
+    state.push(t)?;
+    Ok(())
+}
+
+/// Loads and stores of elements, and the length.
+#[tactic(auto, unfolding(kilim_typing::specs::Step::row))]
+pub fn on_array(
+    program: &Program,
+    method: &Method,
+    at: u32,
+    instr: &Instr,
+    state: &mut State,
+) -> Result<(), StepFault>
+    requires { is_array instr.now ≡ true }
+    ensures { answers (type_step program.now method.now at instr.now state.old) result state.new }
+{
+    match instr {
+        Instr::Iaload => apply(program, method, state, &[INT, INTS], Some(VType::Int), &[]),
+        Instr::Laload => apply(
+            program,
+            method,
+            state,
+            &[INT, LONGS],
+            Some(VType::Long),
+            &[],
+        ),
+        Instr::Aaload => take_element(program, method, state),
+        Instr::Baload => apply(
+            program,
+            method,
+            state,
+            &[INT, Taken::Bytes],
+            Some(VType::Int),
+            &[],
+        ),
+        Instr::Caload => apply(program, method, state, &[INT, CHARS], Some(VType::Int), &[]),
+        Instr::Saload => apply(
+            program,
+            method,
+            state,
+            &[INT, SHORTS],
+            Some(VType::Int),
+            &[],
+        ),
+        Instr::Iastore => apply(program, method, state, &[INT, INT, INTS], None, &[]),
+        Instr::Lastore => apply(program, method, state, &[LONG, INT, LONGS], None, &[]),
+        Instr::Aastore => {
+            let object = object_type(program)?;
+            let takes = [Taken::Is(object), INT, Taken::References];
+            apply(program, method, state, &takes, None, &[])
+        }
+        Instr::Bastore => apply(program, method, state, &[INT, INT, Taken::Bytes], None, &[]),
+        Instr::Castore => apply(program, method, state, &[INT, INT, CHARS], None, &[]),
+        Instr::Sastore => apply(program, method, state, &[INT, INT, SHORTS], None, &[]),
+        Instr::Arraylength => {
+            apply(
+                program,
+                method,
+                state,
+                &[Taken::Array],
+                Some(VType::Int),
+                &[],
+            )
+        }
+        _ => unreachable!(),
+    }
+}

@@ -1,0 +1,106 @@
+//! Constants.
+
+ghost use Rattle.std.specs.Prelude.{◌≡◌, true, IfOk, IfErr};
+ghost use Rattle.kilim_typing.specs.Step.{by_row, type_step, text_type, object_type, constant_row, long_constant_row};
+ghost use Rattle.kilim_type_step.specs.Answers.{answers};
+ghost use Rattle.kilim_type_step.specs.Families.{is_constant};
+
+use crate::apply::{WRONG_CONSTANT, apply};
+use crate::fault::StepFault;
+use crate::operands::{Also, class_vtype};
+use crate::state::State;
+use kilim_classes::{Instr, Method, Program, VType, Value};
+use kilim_lookups::class_named;
+use kilim_units::NoMemory;
+
+// The type of strings.
+fn text_type(program: &Program) -> Result<VType, StepFault>
+    ensures memory { IfErr result (λ e. e ≡ StepFault.Memory) }
+    ensures found { IfOk result (λ t. t ≡ text_type program.now) }
+{
+    match class_named(program, b"java/lang/String") {
+        Ok(Some(class)) => Ok(class_vtype(class)),
+        Ok(None) => Ok(VType::Null),
+        Err(NoMemory) => Err(StepFault::Memory),
+    }
+}
+
+/// The type of all references. Want of memory comes only where there are too many classes.
+pub fn object_type(program: &Program) -> Result<VType, StepFault>
+    ensures found { IfOk result (λ t. t ≡ object_type program.now) }
+    ensures memory { IfErr result (λ e. e ≡ StepFault.Memory) }
+{
+    match class_named(program, b"java/lang/Object") {
+        Ok(Some(class)) => Ok(class_vtype(class)),
+        Ok(None) => Ok(VType::Null),
+        Err(NoMemory) => Err(StepFault::Memory),
+    }
+}
+
+fn on_word(
+    program: &Program,
+    method: &Method,
+    value: &Value,
+    state: &mut State,
+) -> Result<(), StepFault>
+    ensures { answers (by_row program.now method.now 0 (constant_row program.now value.now) state.old) result state.new }
+{
+    match value {
+        Value::Int(_) => apply(program, method, state, &[], Some(VType::Int), &[]),
+        Value::Text(_) => {
+            let text = text_type(program)?;
+            apply(program, method, state, &[], Some(text), &[])
+        }
+        Value::Long(_) | Value::Null | Value::Ref(_) | Value::Box(_) | Value::Fiber => {
+            let wrong = Also::Needs(WRONG_CONSTANT, false);
+            apply(program, method, state, &[], Some(VType::Int), &[wrong])
+        }
+    }
+}
+
+fn on_two_words(
+    program: &Program,
+    method: &Method,
+    value: &Value,
+    state: &mut State,
+) -> Result<(), StepFault>
+    ensures { answers (by_row program.now method.now 0 (long_constant_row value.now) state.old) result state.new }
+{
+    match value {
+        Value::Long(_) => apply(program, method, state, &[], Some(VType::Long), &[]),
+        Value::Int(_)
+        | Value::Text(_)
+        | Value::Null
+        | Value::Ref(_)
+        | Value::Box(_)
+        | Value::Fiber => {
+            let wrong = Also::Needs(WRONG_CONSTANT, false);
+            apply(program, method, state, &[], Some(VType::Long), &[wrong])
+        }
+    }
+}
+
+/// Constants, and `nop`.
+#[tactic(auto, unfolding(kilim_typing::specs::Step::row), using(crate::proofs::Places::constant_place, crate::proofs::Places::long_place))]
+pub fn on_constant(
+    program: &Program,
+    method: &Method,
+    at: u32,
+    instr: &Instr,
+    state: &mut State,
+) -> Result<(), StepFault>
+    requires { is_constant instr.now ≡ true }
+    ensures { answers (type_step program.now method.now at instr.now state.old) result state.new }
+{
+    match instr {
+        Instr::Nop => apply(program, method, state, &[], None, &[]),
+        Instr::AconstNull => apply(program, method, state, &[], Some(VType::Null), &[]),
+        Instr::Iconst(_) | Instr::Bipush(_) | Instr::Sipush(_) => {
+            apply(program, method, state, &[], Some(VType::Int), &[])
+        }
+        Instr::Lconst(_) => apply(program, method, state, &[], Some(VType::Long), &[]),
+        Instr::Ldc(value) | Instr::LdcW(value) => on_word(program, method, value, state),
+        Instr::Ldc2W(value) => on_two_words(program, method, value, state),
+        _ => unreachable!(),
+    }
+}

@@ -1,0 +1,24 @@
+//! What an instruction makes of the types of locals and stack, or the least rule that it breaks (JVMS 4.10.1.9).
+#![tactic(auto)]
+
+mod apply;
+mod arrays;
+mod constants;
+mod construct;
+mod fault;
+mod instr;
+mod locals;
+mod makes;
+mod members;
+mod operands;
+mod returns;
+mod shuffles;
+mod simple;
+mod state;
+
+pub use construct::made_at;
+pub use fault::StepFault;
+pub use instr::type_step;
+pub use members::is_constructor;
+pub use operands::{class_vtype, vtype};
+pub use state::{State, are_within, size, type_at};

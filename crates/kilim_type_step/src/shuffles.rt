@@ -1,0 +1,286 @@
+//! Pop, dup and swap forms.
+
+ghost use Rattle.std.specs.Prelude.{◌≡◌, ◌+◌, ◌≤◌, ◌++◌, true, MatchResult, OnOk, Ok};
+ghost use Rattle.kilim_typing.specs.Step.{by_row, type_step, off, shuffled, with_stack, Shuffles, form_words, form_adds};
+ghost use Rattle.kilim_type_step.specs.Answers.{answers};
+ghost use Rattle.kilim_type_step.specs.Forms.{form_of, count_off, number, SplitFails};
+ghost use Rattle.kilim_type_step.specs.Families.{is_shuffle};
+
+use crate::apply::{MISSING_OPERAND, STACK_TOO_HIGH};
+use crate::fault::StepFault;
+use crate::state::State;
+use kilim_classes::{Instr, Method, Program, VType};
+use std::alloc::{AllocError, Global};
+
+const SPLIT_LONG: u8 = 7;
+
+/// A number of words.
+#[derive(Clone, Copy, Debug, PartialEq, Eq)]
+pub enum Words {
+    Zero,
+    One,
+    Two,
+}
+
+/// Which words a form takes, passes over and gives.
+#[derive(Clone, Copy, Debug, PartialEq, Eq)]
+pub enum Shuffle {
+    /// So many words go.
+    Drops(Words),
+    /// So many words are copied below so many others.
+    Copies(Words, Words),
+    Swaps,
+}
+
+fn number(words: Words) -> u16
+    ensures value { result ≡ number words }
+    ensures small { result ≤ 2 }
+{
+    match words {
+        Words::Zero => 0,
+        Words::One => 1,
+        Words::Two => 2,
+    }
+}
+
+// How many types so many words are, by the two topmost ones.
+fn count_off(words: Words, first: Option<VType>, second: Option<VType>) -> Result<usize, u8>
+    ensures { result ≡ count_off (number words) first second }
+{
+    match words {
+        Words::Zero => Ok(0),
+        Words::One => match first {
+            None => Err(MISSING_OPERAND),
+            Some(VType::Long) => Err(SPLIT_LONG),
+            Some(
+                VType::Top
+                | VType::Int
+                | VType::Null
+                | VType::UninitThis
+                | VType::Uninit(_)
+                | VType::Object(_),
+            ) => Ok(1),
+        },
+        Words::Two => match first {
+            None => Err(MISSING_OPERAND),
+            Some(VType::Long) => Ok(1),
+            Some(
+                VType::Top
+                | VType::Int
+                | VType::Null
+                | VType::UninitThis
+                | VType::Uninit(_)
+                | VType::Object(_),
+            ) => match second {
+                None => Err(MISSING_OPERAND),
+                Some(VType::Long) => Err(SPLIT_LONG),
+                Some(
+                    VType::Top
+                    | VType::Int
+                    | VType::Null
+                    | VType::UninitThis
+                    | VType::Uninit(_)
+                    | VType::Object(_),
+                ) => Ok(2),
+            },
+        },
+    }
+}
+
+// The types of so many words from the top, which are taken away.
+#[tactic(auto, using(crate::proofs::Shuffled::off_ok, crate::proofs::Shuffled::off_err))]
+fn split(alloc: Global, state: &mut State, words: Words) -> Result<Vec<VType>, StepFault>
+    ensures split { MatchResult result (λ parts. off (number words) state.old.stack ≡ Ok (parts.items, state.new.stack)) (SplitFails (number words) state.old.stack) }
+    ensures rest { state.new ≡ record state.old { stack = state.new.stack } }
+{
+    match count_off(words, state.below(0), state.below(1)) {
+        Ok(count) => {
+            let parts = state.top(alloc, count)?;
+            state.drop_top(count);
+            Ok(parts)
+        }
+        Err(rule) => Err(StepFault::Rule(rule)),
+    }
+}
+
+#[tactic(auto, using(crate::proofs::Shuffled::drops_ok, crate::proofs::Shuffled::drops_err))]
+fn drop_words(alloc: Global, state: &mut State, words: Words) -> Result<(), StepFault>
+    ensures { answers (with_stack state.old (shuffled (form_of (Shuffle.Drops words)) state.old.stack)) result state.new }
+{
+    match split(alloc, state, words) {
+        Ok(_) => Ok(()),
+        Err(StepFault::Rule(rule)) => Err(StepFault::Rule(rule)),
+        Err(StepFault::Memory) => Err(StepFault::Memory),
+    }
+}
+
+fn push_all(
+    state: &mut State,
+    first: &[VType],
+    then: &[VType],
+    last: &[VType],
+) -> Result<(), AllocError>
+    ensures { OnOk result (state.new ≡ record state.old { stack = last.now ++ (then.now ++ (first.now ++ state.old.stack)) }) }
+{
+    state.push_all(first)?;
+    state.push_all(then)?;
+    state.push_all(last)?;
+    Ok(())
+}
+
+#[tactic(auto, using(crate::proofs::Shuffled::copies_ok, crate::proofs::Shuffled::copies_first, crate::proofs::Shuffled::copies_second))]
+fn copy_words(
+    alloc: Global,
+    state: &mut State,
+    words: Words,
+    passed: Words,
+) -> Result<(), StepFault>
+    ensures { answers (with_stack state.old (shuffled (form_of (Shuffle.Copies words passed)) state.old.stack)) result state.new }
+{
+    let copied = match split(alloc, state, words) {
+        Ok(parts) => parts,
+        Err(StepFault::Rule(rule)) => return Err(StepFault::Rule(rule)),
+        Err(StepFault::Memory) => return Err(StepFault::Memory),
+    };
+    let below = match split(alloc, state, passed) {
+        Ok(parts) => parts,
+        Err(StepFault::Rule(rule)) => return Err(StepFault::Rule(rule)),
+        Err(StepFault::Memory) => return Err(StepFault::Memory),
+    };
+    match push_all(state, &copied, &below, &copied) {
+        Ok(()) => Ok(()),
+        Err(_) => Err(StepFault::Memory),
+    }
+}
+
+#[tactic(auto, using(crate::proofs::Shuffled::swaps_ok, crate::proofs::Shuffled::swaps_first, crate::proofs::Shuffled::swaps_second))]
+fn swap_words(alloc: Global, state: &mut State) -> Result<(), StepFault>
+    ensures { answers (with_stack state.old (shuffled (form_of Shuffle.Swaps) state.old.stack)) result state.new }
+{
+    let top = match split(alloc, state, Words::One) {
+        Ok(parts) => parts,
+        Err(StepFault::Rule(rule)) => return Err(StepFault::Rule(rule)),
+        Err(StepFault::Memory) => return Err(StepFault::Memory),
+    };
+    let below = match split(alloc, state, Words::One) {
+        Ok(parts) => parts,
+        Err(StepFault::Rule(rule)) => return Err(StepFault::Rule(rule)),
+        Err(StepFault::Memory) => return Err(StepFault::Memory),
+    };
+    match push_all(state, &[], &top, &below) {
+        Ok(()) => Ok(()),
+        Err(_) => Err(StepFault::Memory),
+    }
+}
+
+fn move_words(alloc: Global, state: &mut State, form: Shuffle) -> Result<(), StepFault>
+    ensures { answers (with_stack state.old (shuffled (form_of form) state.old.stack)) result state.new }
+{
+    match form {
+        Shuffle::Drops(words) => drop_words(alloc, state, words),
+        Shuffle::Copies(words, passed) => copy_words(alloc, state, words, passed),
+        Shuffle::Swaps => swap_words(alloc, state),
+    }
+}
+
+fn words_of(form: Shuffle) -> u16
+    ensures value { result ≡ form_words (form_of form) }
+    ensures small { result ≤ 4 }
+{
+    match form {
+        Shuffle::Drops(words) => number(words),
+        Shuffle::Copies(words, passed) => number(words) + number(passed),
+        Shuffle::Swaps => 2,
+    }
+}
+
+fn added(form: Shuffle) -> u16
+    ensures value { result ≡ form_adds (form_of form) }
+    ensures small { result ≤ 2 }
+{
+    match form {
+        Shuffle::Drops(_) | Shuffle::Swaps => 0,
+        Shuffle::Copies(words, _) => number(words),
+    }
+}
+
+fn shuffle_words(
+    alloc: Global,
+    program: &Program,
+    method: &Method,
+    state: &mut State,
+    form: Shuffle,
+) -> Result<(), StepFault>
+    ensures { answers (by_row program.now method.now 0 (Shuffles (form_of form)) state.old) result state.new }
+{
+    if !state.has_words(words_of(form)) {
+        return Err(StepFault::Rule(MISSING_OPERAND));
+    }
+    if !state.has_room(added(form), method.max_stack) {
+        return Err(StepFault::Rule(STACK_TOO_HIGH));
+    }
+    move_words(alloc, state, form)
+}
+
+/// Pop, dup and swap forms.
+#[tactic(auto, unfolding(kilim_typing::specs::Step::row))]
+pub fn on_shuffle(
+    alloc: Global,
+    program: &Program,
+    method: &Method,
+    at: u32,
+    instr: &Instr,
+    state: &mut State,
+) -> Result<(), StepFault>
+    requires { is_shuffle instr.now ≡ true }
+    ensures { answers (type_step program.now method.now at instr.now state.old) result state.new }
+{
+    match instr {
+        Instr::Pop => shuffle_words(alloc, program, method, state, Shuffle::Drops(Words::One)),
+        Instr::Pop2 => shuffle_words(alloc, program, method, state, Shuffle::Drops(Words::Two)),
+        Instr::Dup => shuffle_words(
+            alloc,
+            program,
+            method,
+            state,
+            Shuffle::Copies(Words::One, Words::Zero),
+        ),
+        Instr::DupX1 => shuffle_words(
+            alloc,
+            program,
+            method,
+            state,
+            Shuffle::Copies(Words::One, Words::One),
+        ),
+        Instr::DupX2 => shuffle_words(
+            alloc,
+            program,
+            method,
+            state,
+            Shuffle::Copies(Words::One, Words::Two),
+        ),
+        Instr::Dup2 => shuffle_words(
+            alloc,
+            program,
+            method,
+            state,
+            Shuffle::Copies(Words::Two, Words::Zero),
+        ),
+        Instr::Dup2X1 => shuffle_words(
+            alloc,
+            program,
+            method,
+            state,
+            Shuffle::Copies(Words::Two, Words::One),
+        ),
+        Instr::Dup2X2 => shuffle_words(
+            alloc,
+            program,
+            method,
+            state,
+            Shuffle::Copies(Words::Two, Words::Two),
+        ),
+        Instr::Swap => shuffle_words(alloc, program, method, state, Shuffle::Swaps),
+        _ => unreachable!(),
+    }
+}
