@@ -1,3 +1,4 @@
 pub mod Inside
 pub mod Merging
 pub mod Frames
+pub mod Accepting

@@ -3,3 +3,4 @@ pub mod Faults
 pub mod Answers
 pub mod IsolatedProgram
 pub mod Examples
+pub mod Laws

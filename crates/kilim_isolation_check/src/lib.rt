@@ -9,7 +9,7 @@ mod walk;
 
 pub use exits::exits_of;
 pub use kilim_pausable_graph::Report;
-pub use laws::examples_hold;
+pub use laws::{accepted_goes_on, examples_hold};
 pub use merge::{append, merged};
 pub use shape::Shape;
 pub use walk::{declared_at, exits_at, frame_at, whole};
