@@ -3,6 +3,8 @@ use Rattle.kilim_fits.specs.Law.{AreVerified, AreWanted, FactsHold}
 use Rattle.kilim_fits.proofs.Bodies as bodies
 use Rattle.kilim_fits.proofs.BuiltInMembers as members
 use Rattle.kilim_fits.proofs.FromKeeps as keeping
+use Rattle.kilim_fits.proofs.OwnFields as owned
+use Rattle.kilim_fits.proofs.Through as lines
 use Rattle.kilim_fits.proofs.Tables.{all_wants, live_wants}
 use Rattle.kilim_fits.proofs.TextClass as texts
 use Rattle.kilim_fits.proofs.ValueClasses as values
@@ -11,11 +13,11 @@ pub facts_hold : FactsHold
 facts_hold p keeps given = record {
   texts = texts.texts p keeps;
   takes = members.takes p keeps;
-  fields = given.fields;
+  fields = owned.fields p keeps;
   no_fields = values.no_fields p keeps;
   constants = keeping.constants p keeps;
   text_class = values.text_class p keeps;
-  order = record { itself = keeping.itself p keeps; through = given.through };
+  order = record { itself = keeping.itself p keeps; through = lines.through p keeps };
   superclass = keeping.superclass p keeps;
   values = values.values p keeps;
   string = values.string p keeps;

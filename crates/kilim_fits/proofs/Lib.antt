@@ -23,4 +23,6 @@ pub mod Bodies
 pub mod ValueClasses
 pub mod BuiltInMembers
 pub mod TextClass
+pub mod Through
+pub mod OwnFields
 pub mod Grounds

@@ -103,9 +103,6 @@ pub record Facts (p : Program) : Type 0 where
 
 -- The facts that aren't derived from what every program keeps: premises of the laws until they are.
 pub record Premises (p : Program) : Type 0 where
-  pub through : (a b c : Ty) → fits_type p a b ≡ true → fits_type p b c ≡ true → fits_type p a c ≡ true
-  -- an object of a class or a subclass has the instance fields that the class declares
-  pub fields : (x : FieldId) (field : Field) → field_of p x ≡ Some field → field.is_static ≡ false → (d : ℕ) (b : Base) → fits_type p (record { dims = d; base = b }) (class_type field.owner.0) ≡ true → OwnsField p d b x
   -- what a call on an object selects
   pub selects : (id : MethodId) (named : Method) → method_at p id ≡ Some named → named.is_static ≡ false → is_constructor named ≡ false → (c : Ty) → has_instances p c.dims c.base ≡ true → fits_type p c (class_type named.owner.0) ≡ true →
       (s : Selected p named (chosen p named id c)) × (fits_type p c (class_type s.method.owner.0) ≡ true)
