@@ -119,7 +119,6 @@ impl<F: Fibers> Board<F> {
     /// is empty; else it is ready, behind the others. Takes no memory.
     pub fn give_back(&mut self, seat: usize, fiber: F, waits: Option<BoxName>)
         requires lent { slice_get self.old.cells.items seat ≡ Some (Some (F.task_of fiber)) }
-        requires rests { F.rests fiber ≡ true }
         requires roomy { IsRoomy self.old }
         ensures effect { GiveAnswers (seen self.old) seat (seen self.new) fiber waits }
         ensures stands { (set : Setting) → BoardStands F.task_of F.course_of F.holds set (seen self.old) → RestsAs F.task_of F.course_of F.holds set fiber waits → CourseAt (seen self.old) (F.task_of fiber) (F.course_of fiber) → BoardStands F.task_of F.course_of F.holds set (seen self.new) }

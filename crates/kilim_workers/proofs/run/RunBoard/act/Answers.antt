@@ -1,0 +1,37 @@
+use Rattle.std.proofs.Common.{ap, ◌∙◌, subst}
+use Rattle.kilim_exchange.specs.Seen.{seen, IsNumbered}
+use Rattle.kilim_turn.specs.Views.{cell_at}
+use Rattle.kilim_turn.specs.Turns.{KeepsOthers}
+use Rattle.kilim_workers.specs.Codes.{board_cells}
+use Rattle.kilim_workers.proofs.Effects.{lent_now, stands_now, others_now, acted_now, is_actable}
+use Rattle.kilim_workers.proofs.run.RunBoard.act.Goals as goal
+
+pub act-requires-clause-lent : goal.act-requires-clause-lent
+act-requires-clause-lent g c = (
+  _,
+  (lent_now (seen c.self.inside.board) (seen c.reserve.new.self) c.args.seat (g.F.Fibers.task_of c.args.fiber.now) (g.F.Fibers.course_of c.args.fiber.now) c.args.wants g.F.Fibers.task_of g.F.Fibers.course_of g.F.Fibers.holds g.K.Run.of c.requires.some
+      (ap (λ b. cell_at (board_cells b) c.args.seat) c.self.view_is ∙ c.requires.lent) c.in_ok-reserve.ensures.same c.requires.meets (λ set is. c.in_ok-reserve.ensures.stands set (c.self.invariant.1 set is))).0,
+)
+
+pub act-requires-clause-acts : goal.act-requires-clause-acts
+act-requires-clause-acts g c = is_actable (seen c.self.inside.board) (seen c.self.inside.board) c.args.seat g.F.Fibers.task_of g.F.Fibers.course_of g.F.Fibers.holds g.K.Run.of c.requires.some (g.F.Fibers.task_of c.args.fiber.now) (g.F.Fibers.course_of c.args.fiber.now) c.args.wants c.requires.meets
+
+pub invariant_of-self-2 : goal.invariant_of-self-2
+invariant_of-self-2 g c = (
+  c.act.ensures.roomy,
+  λ set is. (stands_now (seen c.self.inside.board) (seen c.reserve.new.self) c.args.seat (g.F.Fibers.task_of c.args.fiber.now) (g.F.Fibers.course_of c.args.fiber.now) c.args.wants g.F.Fibers.task_of g.F.Fibers.course_of g.F.Fibers.holds g.K.Run.of c.requires.some
+      (ap (λ b. cell_at (board_cells b) c.args.seat) c.self.view_is ∙ c.requires.lent) c.in_ok-reserve.ensures.same c.requires.meets (λ set is. c.in_ok-reserve.ensures.stands set (c.self.invariant.1 set is)) (seen c.act.new.self) c.act.result c.act.ensures.stands set is).0,
+)
+
+pub returns-clause-others : goal.returns-clause-others
+returns-clause-others g c =
+    subst (λ b. KeepsOthers c.args.seat (board_cells b) (board_cells c.act.new.self)) c.self.view_is
+    (others_now (seen c.self.inside.board) (seen c.reserve.new.self) c.args.seat (g.F.Fibers.task_of c.args.fiber.now) (g.F.Fibers.course_of c.args.fiber.now) c.args.wants g.F.Fibers.task_of g.F.Fibers.course_of g.F.Fibers.holds g.K.Run.of c.requires.some
+    (ap (λ b. cell_at (board_cells b) c.args.seat) c.self.view_is ∙ c.requires.lent) c.in_ok-reserve.ensures.same c.requires.meets (λ set is. c.in_ok-reserve.ensures.stands set (c.self.invariant.1 set is)) (seen c.act.new.self) c.act.result c.act.ensures.stands
+    (IsNumbered g.F.Fibers.task_of g.F.Fibers.course_of g.F.Fibers.count_of g.F.Fibers.refused g.F.Fibers.holds) c.act.ensures.effect)
+
+pub returns-clause-acted : goal.returns-clause-acted
+returns-clause-acted g c =
+    acted_now (seen c.self.inside.board) (seen c.reserve.new.self) c.args.seat (g.F.Fibers.task_of c.args.fiber.now) (g.F.Fibers.course_of c.args.fiber.now) c.args.wants g.F.Fibers.task_of g.F.Fibers.course_of g.F.Fibers.holds g.K.Run.of c.requires.some
+    (ap (λ b. cell_at (board_cells b) c.args.seat) c.self.view_is ∙ c.requires.lent) c.in_ok-reserve.ensures.same c.requires.meets (λ set is. c.in_ok-reserve.ensures.stands set (c.self.invariant.1 set is)) (seen c.act.new.self) c.act.result c.act.ensures.stands
+    (IsNumbered g.F.Fibers.task_of g.F.Fibers.course_of g.F.Fibers.count_of g.F.Fibers.refused g.F.Fibers.holds) c.act.ensures.effect

@@ -1,0 +1,26 @@
+use Rattle.std.proofs.Common.{subst}
+use Rattle.kilim_fibers.specs.Fibers.{Resumed}
+use Rattle.kilim_worker_pool.proofs.Steps.{going}
+use Rattle.kilim_exchange.specs.Seen.{wish_in}
+use Rattle.kilim_turn.specs.Turns.{shows}
+use Rattle.kilim_workers.specs.Runs.{ActedAs}
+use Rattle.kilim_workers.proofs.Steps.{went_on}
+use Rattle.kilim_workers.proofs.worker.go_on.Goals as goal
+
+pub act-requires-clause-meets : goal.act-requires-clause-meets
+act-requires-clause-meets g c = λ set is.
+    let r = c.requires.run set is in
+    subst (λ w. Resumed g.F.Fibers.task_of g.F.Fibers.course_of g.F.Fibers.holds g.F.Fibers.asked set c.resume.new.self w) c.in-End.is (c.in-Ok.ensures.wants set r.0 r.1 (c.requires.stands set is))
+
+pub returns-in-Ok-answer : goal.returns-in-Ok-answer
+returns-in-Ok-answer g c = record {
+  pass = c.in-Ok-Answer.ensures.pass;
+  seat = c.in-Ok-Answer.ensures.seat;
+  step =
+      went_on g.F.Fibers.task_of g.F.Fibers.course_of g.F.Fibers.holds g.F.Fibers.asked g.F.Fibers.serves g.K.Run.of c.args.code.now c.args.limits.now c.resume.new.self c.answer.new.self c.in-Ok.wants c.in-Ok-Answer.answer (shows c.act-in_default.new.pass) c.requires.some c.requires.run
+      (going c.in-Ok.wants c.in_default.not-Rest c.in_default.not-End)
+      (λ set is. let r = c.requires.run set is in c.in-Ok.ensures.wants set r.0 r.1 (c.requires.stands set is))
+      (subst (λ a. ActedAs g.K.Run.of (g.F.Fibers.task_of c.resume.new.self) (g.F.Fibers.course_of c.resume.new.self) (shows c.act-in_default.new.pass) (wish_in c.in-Ok.wants) a) c.in-Ok-Answer.field-0-is c.in-Ok-Answer.ensures.acted)
+      c.in-Ok-answer.ensures.task
+      (λ set wish deed served asks fits. let r = c.in-Ok-answer.ensures.goes set wish deed served asks fits in (r.0, r.1));
+}

@@ -1,0 +1,9 @@
+//! The workers.
+#![tactic(auto)]
+
+mod pool;
+mod run;
+mod worker;
+
+pub use pool::run_pool;
+pub use run::{Run, RunBoard};

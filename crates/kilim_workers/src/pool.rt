@@ -1,0 +1,159 @@
+//! All workers.
+
+ghost use Rattle.std.specs.Prelude.{◌≡◌, ◌<◌, ◌≤◌, ℕ, List, [], All, IfOk, length, replicate, slice_index_or};
+ghost use Rattle.kilim_thread_model.specs.State.{Setting};
+ghost use Rattle.kilim_exchange.specs.Seen.{MovedWhole};
+ghost use Rattle.kilim_turn.specs.declared.pass.Pass.{Pass};
+ghost use Rattle.kilim_turn.specs.Turns.{seat_of, shows, IsPassOf, AreAllOf};
+ghost use Rattle.kilim_workers.specs.Codes.{board_cells};
+ghost use Rattle.kilim_worker_pool.specs.Pool.{IsOf};
+ghost use Rattle.kilim_workers.specs.Runs.{RunsOn};
+
+use crate::run::{Run, RunBoard};
+use crate::worker::run_worker;
+use kilim_classes::ClassId;
+use kilim_exchange::Lent;
+use kilim_fibers::Fibers;
+use kilim_journal::Entry;
+use kilim_outside::Gate;
+use kilim_program::Limits;
+use kilim_turn::{Pass, Turn};
+use kilim_units::NoMemory;
+use std::alloc::Global;
+use std::marker::Brand;
+use std::sync::Wait;
+use std::thread;
+use std::thread::Threads;
+
+// A worker for each pass.
+fn work_each<F: Fibers + Send, K: Run + Send, R: Threads + Wait + Sync, G: Gate>(
+    rt: &R,
+    turn: &Turn<RunBoard<F, K>>,
+    passes: &mut [Pass],
+    workers: usize,
+    code: &F::Code,
+    limits: &Limits,
+    gate: &G,
+)
+where
+    F::Code: Sync,
+    requires workers { 0 < workers }
+    requires some { (set : Setting) × K.of set }
+    requires run { RunsOn F.serves K.of code.now limits.now }
+    requires all { AreAllOf board_cells turn.now passes.old }
+    requires free { All (λ p. shows p ≡ []) passes.old }
+    ensures each { (i : ℕ) (d : Pass) → i < length passes.old → IsPassOf board_cells turn.now (slice_index_or passes.new i d) }
+    ensures order { (i : ℕ) (d : Pass) → i < length passes.old → seat_of (slice_index_or passes.new i d) ≡ i }
+    ensures empty { (i : ℕ) (d : Pass) → i < length passes.old → shows (slice_index_or passes.new i d) ≡ [] }
+{
+    thread::for_each_mut(
+        rt,
+        passes,
+        workers,
+        &|_, pass: &mut Pass|
+            requires some { (set : Setting) × K.of set }
+            requires run { RunsOn F.serves K.of code.now limits.now }
+            requires pass { IsPassOf board_cells turn.now pass.now }
+            requires free { shows pass.now ≡ [] }
+            ensures { IsPassOf board_cells turn.entry.now pass.exit.now × (seat_of pass.exit.now ≡ seat_of pass.entry.now) × (shows pass.exit.now ≡ []) }
+        { run_worker(rt, turn, pass, code, limits, gate) },
+    );
+}
+
+// The same over all passes.
+fn work_all<F: Fibers + Send, K: Run + Send, R: Threads + Wait + Sync, G: Gate>(
+    rt: &R,
+    turn: &Turn<RunBoard<F, K>>,
+    passes: &mut Vec<Pass>,
+    workers: usize,
+    code: &F::Code,
+    limits: &Limits,
+    gate: &G,
+)
+where
+    F::Code: Sync,
+    requires workers { 0 < workers }
+    requires some { (set : Setting) × K.of set }
+    requires run { RunsOn F.serves K.of code.now limits.now }
+    requires all { AreAllOf board_cells turn.now passes.old.items }
+    requires free { All (λ p. shows p ≡ []) passes.old.items }
+    ensures all { AreAllOf board_cells turn.now passes.new.items }
+    ensures empty { All (λ p. shows p ≡ []) passes.new.items }
+{
+    work_each(rt, turn, passes.as_mut_slice(), workers, code, limits, gate);
+}
+
+// Puts the board away, lets all workers work, and takes it out again.
+fn run_round<F: Fibers + Send, K: Run + Send, R: Threads + Wait + Sync, G: Gate>(
+    rt: &R,
+    alloc: Global,
+    board: RunBoard<F, K>,
+    workers: usize,
+    code: &F::Code,
+    limits: &Limits,
+    gate: &G,
+) -> Result<RunBoard<F, K>, NoMemory>
+where
+    F::Code: Sync,
+    requires workers { (1 ≤ workers) × (workers ≤ 16) }
+    requires some { (set : Setting) × K.of set }
+    requires run { RunsOn F.serves K.of code.now limits.now }
+    requires free { board_cells board ≡ replicate workers [] }
+    ensures { IfOk result (λ b. board_cells b ≡ replicate workers []) }
+{
+    let Ok((turn, mut passes)) = Turn::open(alloc, board, workers) else {
+        return Err(NoMemory);
+    };
+    work_all(rt, &turn, &mut passes, workers, code, limits, gate);
+    Ok(turn.close(passes))
+}
+
+// A run that `K` names.
+fn run_of<F: Fibers + Send, K: Run + Send, R: Threads + Wait + Sync, G: Gate>(
+    rt: &R,
+    alloc: Global,
+    code: &F::Code,
+    main: ClassId,
+    limits: &Limits,
+    workers: usize,
+    gate: &G,
+) -> Result<Vec<Entry>, NoMemory>
+where
+    F::Code: Sync,
+    requires workers { (1 ≤ workers) × (workers ≤ 16) }
+    requires some { (set : Setting) × K.of set }
+    requires run { (set : Setting) → K.of set → IsOf F.serves code.now main limits.now set }
+    ensures { (set : Setting) → K.of set → IfOk result (λ es. MovedWhole set es.items) }
+{
+    let fiber: F = F::boot(alloc, code, main)?;
+    let mut board: RunBoard<F, K> = RunBoard::new(alloc, fiber, workers)?;
+    for _ in rt.forever() {
+        board = run_round(rt, alloc, board, workers, code, limits, gate)?;
+        match board.lend(0) {
+            Lent::Fiber(fiber) => board.give_back(0, fiber, None),
+            Lent::Idle => unreachable!(),
+            Lent::Quiet => return board.finish(),
+            Lent::Stopped => return Err(NoMemory),
+        }
+    }
+    unreachable!()
+}
+
+/// Runs a program with so many workers. It may wait.
+pub fn run_pool<F: Fibers + Send, R: Threads + Wait + Sync, G: Gate>(
+    rt: &R,
+    alloc: Global,
+    code: &F::Code,
+    main: ClassId,
+    limits: &Limits,
+    workers: usize,
+    gate: &G,
+) -> Result<Vec<Entry>, NoMemory>
+where
+    F::Code: Sync,
+    requires workers { (1 ≤ workers) × (workers ≤ 16) }
+    requires some { (set : Setting) × IsOf F.serves code.now main limits.now set }
+    ensures { (set : Setting) → IsOf F.serves code.now main limits.now set → IfOk result (λ es. MovedWhole set es.items) }
+{
+    run_of::<F, Brand, R, G>(rt, alloc, code, main, limits, workers, gate)
+}
