@@ -1,5 +1,5 @@
 -- No class's name begins with `[`.
-use Rattle.std.proofs.Common.{◌≡◌, ℕ, Bool, true, false, ◌||◌, ◌&&◌, not, ◌==◌, List, [], ◌∷◌, length, slice_get, Some, refl, sym, ap, ◌∙◌}
+use Rattle.std.proofs.Common.{◌≡◌, ℕ, Bool, true, false, ◌||◌, not, ◌==◌, List, [], ◌∷◌, length, slice_get, Some, refl, sym, ap, ◌∙◌}
 use Rattle.std.specs.List.{list_all, slice_split}
 use Rattle.std.proofs.lemmas.Bool.{and_from, and_parts, not-true, not_from_false, or_parts}
 use Rattle.std.proofs.lemmas.List.Folds.{list_all-append}
@@ -13,7 +13,7 @@ use Rattle.kilim_classes.specs.declared.names.ClassId.{ClassId}
 use Rattle.kilim_classes.specs.BuiltIn.{built_in_classes_in, class_id}
 use Rattle.kilim_classes.specs.Keeps.{begins_as_array, none_is_named_as_array}
 use Rattle.kilim_classes.specs.Names.{is_empty}
-use Rattle.kilim_link_spec.specs.Faults.{are_paired, is_class_name, name_broken}
+use Rattle.kilim_link_spec.specs.Faults.{is_class_name, name_broken}
 use Rattle.kilim_link_spec.specs.Laws.{LinkedInParts, NoProblem, NoneHasAProblem, NoneOfEachKind}
 use Rattle.kilim_link_spec.specs.Linked.{linked_class, program_with}
 use Rattle.kilim_link_spec.specs.World.{World, own_name, world_of}
