@@ -1,5 +1,5 @@
 -- The names of a tree's objects, as the definitions of a run have them, are the places of its objects in preorder.
-use Rattle.std.proofs.Common.{◌≡◌, ℕ, zero, suc, ◌+◌, ◌≤◌, Bool, true, false, List, [], ◌∷◌, ◌++◌, Option, Some, None, length, map, refl, sym, ap, subst, ◌∙◌, arith, append_assoc, length-append}
+use Rattle.std.proofs.Common.{◌≡◌, ℕ, zero, suc, ◌+◌, ◌≤◌, Bool, true, false, List, [], ◌∷◌, ◌++◌, Option, Some, length, map, refl, sym, ap, subst, ◌∙◌, arith, append_assoc, length-append}
 use Rattle.std.specs.Prelude.{◌==◌, if◌then◌else◌}
 use Rattle.std.specs.List.{AllByRecursion}
 use Rattle.std.specs.FinMap.{get}
@@ -12,7 +12,7 @@ use Rattle.kilim_program.specs.declared.value.Object.{Object}
 use Rattle.kilim_program.specs.Machine.{Objects}
 use Rattle.kilim_program.specs.Shapes.{tree_limit, field_in, fields_in_order}
 use Rattle.kilim_program.specs.Trees.{joined_names, names_where, content_names, names_in, value_names, tree_names}
-use Rattle.kilim_tree_move.specs.Walk.{value_refs, element_refs, refs, Leads, AreIn, IsTree, places}
+use Rattle.kilim_tree_move.specs.Walk.{value_refs, element_refs, refs, Leads, IsTree, places}
 use Rattle.kilim_tree_move.specs.Shaping.{held, Suits}
 use Rattle.kilim_tree_move.proofs.Tokens.{EachSuits, held_refs}
 
