@@ -1,5 +1,5 @@
 -- Calls and returns.
-use Rattle.std.proofs.Common.{◌≡◌, ◌∙◌, sym, ap, refl, ℕ, ◌<◌, Bool, true, false, List, [], ◌∷◌, Option, Some, None, length, map, nat_le, nat_lt, suc, arith}
+use Rattle.std.proofs.Common.{◌≡◌, ◌∙◌, sym, ap, true, false, List, [], ◌∷◌, Option, Some, length, map, nat_le, nat_lt, suc, arith}
 use Rattle.std.proofs.lemmas.List.{length-map}
 use Rattle.kilim_classes.specs.declared.class.Method.{Method}
 use Rattle.kilim_program.specs.Does.{narrowed_result}

@@ -1,4 +1,6 @@
 mod Entering
+mod Frames
 mod Reading
 mod Results
+mod Running
 mod Settling

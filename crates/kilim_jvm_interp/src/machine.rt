@@ -233,7 +233,7 @@ fn narrowed_result(own: &Method, value: Value) -> Value
 }
 
 // What an outcome makes of the frames.
-fn settle(
+pub(crate) fn settle(
     alloc: Global,
     program: &Program,
     own: &Method,

@@ -1,4 +1,4 @@
-use Rattle.std.proofs.Common.{◌≡◌, ◌∙◌, sym, ap, refl, List, ◌∷◌, None, map}
+use Rattle.std.proofs.Common.{◌∙◌, sym, ap, refl, List, ◌∷◌, None, map}
 use Rattle.kilim_frames.specs.declared.frame.Frame.{Frame}
 use Rattle.kilim_frames.specs.Calls.{activation}
 use Rattle.kilim_jvm_interp.proofs.Entering.{leaves, ends_all}

@@ -1,4 +1,4 @@
-use Rattle.std.proofs.Common.{◌≡◌, ◌∙◌, sym, ap, refl, List, ◌∷◌, Option, Some, map}
+use Rattle.std.proofs.Common.{◌≡◌, ◌∙◌, sym, ap, refl, List, ◌∷◌, Option, map}
 use Rattle.kilim_classes.specs.declared.value.Value.{Value}
 use Rattle.kilim_program.specs.Does.{narrowed_result}
 use Rattle.kilim_program.specs.Machine.{Activation}

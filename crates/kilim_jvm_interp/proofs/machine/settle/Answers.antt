@@ -1,4 +1,4 @@
-use Rattle.std.proofs.Common.{◌≡◌, ◌∙◌, sym, ap, refl, subst, None, List, ◌∷◌, reverse, take, drop, arith}
+use Rattle.std.proofs.Common.{refl, None, List, ◌∷◌, reverse, take, drop}
 use Rattle.kilim_classes.specs.declared.value.Value.{Value}
 use Rattle.kilim_program.specs.Effect as effect
 use Rattle.kilim_program.specs.Effect.{Effect}

@@ -1,13 +1,12 @@
-use Rattle.std.proofs.Common.{◌≡◌, ◌∙◌, sym, ap, subst, false, Some, ◌≤◌, IfOk, arith}
+use Rattle.std.proofs.Common.{◌≡◌, sym, subst, Some, IfOk, arith}
 use Rattle.kilim_classes.specs.Names.{method_at}
 use Rattle.kilim_program.specs.Effect.{Effect}
 use Rattle.kilim_program.specs.Does.{does}
-use Rattle.kilim_program.specs.Moves.{effect_of, move_by, moves}
+use Rattle.kilim_program.specs.Moves.{move_by, moves}
 use Rattle.kilim_frames.specs.Calls.{activation, below_of, calls_of}
-use Rattle.kilim_rows.specs.Outcome.{is_stuck, height}
-use Rattle.kilim_jvm_interp.specs.Step.{Steps, stack_limit}
+use Rattle.kilim_jvm_interp.specs.Step.{Steps}
 use Rattle.kilim_jvm_interp.specs.declared.machine.Stepped.{Stepped}
-use Rattle.kilim_jvm_interp.proofs.Reading.{effect_is, height_fits, can_settle}
+use Rattle.kilim_jvm_interp.proofs.Reading.{effect_is, can_settle}
 use Rattle.kilim_jvm_interp.proofs.machine.step.Goals as goal
 
 pub settle-requires-clause-can : goal.settle-requires-clause-can
