@@ -53,8 +53,8 @@ use Rattle.kilim_link_code_laws.specs.Facts.{FramesAreProper, NoneHasHandlers}
 abbrev IsProper : Option VType → Type 0
 IsProper o = (v : VType) → o ≡ Some v → is_proper v ≡ true
 
-abbrev ArePropers : Slots → Type 0
-ArePropers slots = AllByRecursion IsProper slots
+abbrev AreProper : Slots → Type 0
+AreProper slots = AllByRecursion IsProper slots
 
 given : (x : VType) → is_proper x ≡ true → IsProper (Some x)
 given x f v e = subst (λ y. is_proper y ≡ true) (some_is x v e) f
@@ -76,7 +76,7 @@ slot_proper w pool (entry.Object class) = λ v e.
     let m = mapped Object (type_named w named) v e in
     subst (λ y. is_proper y ≡ true) m.is (is_reference_named w named m.x (named_has_dims (class_text pool class)) m.there)
 
-slots_proper : (w : World) (pool : List Entry) (ss : List VerificationType) → ArePropers (map (slot_in w pool) ss)
+slots_proper : (w : World) (pool : List Entry) (ss : List VerificationType) → AreProper (map (slot_in w pool) ss)
 slots_proper w pool ss = all_to_map IsProper (slot_in w pool) ss (all_from _ (slot_proper w pool) ss)
 
 -- ---- an argument
@@ -103,12 +103,12 @@ argument_proper w f v e =
     let m = mapped slot_of_type (type_in w f) v e in
     subst (λ y. is_proper y ≡ true) m.is (argument_by m.x (m.x.dims == 0) refl)
 
-receiver_proper : (c : ClassId) (static constructor : Bool) → ArePropers (if static then [] else (if constructor then Some UninitThis ∷ [] else Some (Object (typed 0 (base.Class c))) ∷ []))
+receiver_proper : (c : ClassId) (static constructor : Bool) → AreProper (if static then [] else (if constructor then Some UninitThis ∷ [] else Some (Object (typed 0 (base.Class c))) ∷ []))
 receiver_proper c true constructor = tt
 receiver_proper c false true = (given UninitThis refl, tt)
 receiver_proper c false false = (given (Object (typed 0 (base.Class c))) refl, tt)
 
-entry_proper : (w : World) (c : ClassId) (m : DeclaredMethod) → ArePropers (entry_locals w c m)
+entry_proper : (w : World) (c : ClassId) (m : DeclaredMethod) → AreProper (entry_locals w c m)
 entry_proper w c m =
     let params = params_of (method_text m.descriptor) in
     let argument = λ (f : FieldText). option_map slot_of_type (type_in w f) in
@@ -137,8 +137,8 @@ locals_proper (Uninit place ∷ vs) all = locals_proper vs all
 locals_proper (Object ty ∷ vs) all = let parts = and_parts (is_reference ty) (list_all is_proper vs) all in and_from _ _ parts.0 (locals_proper vs parts.1)
 
 record EntriesProper (e : Entries) : Type 0 where
-  locals : ArePropers e.locals
-  stack : ArePropers e.stack
+  locals : AreProper e.locals
+  stack : AreProper e.stack
 
 frame_proper : (e : Entries) (frame : Frame) → EntriesProper e → frame_of e ≡ Some frame → frame_is_proper frame ≡ true
 frame_proper e frame f there =
@@ -156,7 +156,7 @@ placed_proper at e x f there =
 
 -- ---- all frames
 
-entries_proper : (w : World) (pool : List Entry) (locals : Slots) (f : FrameForm) → ArePropers locals → EntriesProper (entries_of w pool locals f)
+entries_proper : (w : World) (pool : List Entry) (locals : Slots) (f : FrameForm) → AreProper locals → EntriesProper (entries_of w pool locals f)
 entries_proper w pool locals (Same delta) l = record { locals = l; stack = tt }
 entries_proper w pool locals (SameLocals1StackItem delta item) l = record { locals = l; stack = slots_proper w pool (item ∷ []) }
 entries_proper w pool locals (SameLocals1StackItemExtended delta item) l = record { locals = l; stack = slots_proper w pool (item ∷ []) }
@@ -168,7 +168,7 @@ entries_proper w pool locals (Full delta all stack) l = record { locals = slots_
 abbrev all_proper : List (ℕ × Frame) → Bool
 all_proper frames = list_all (λ e. frame_is_proper e.1) frames
 
-all_are : (w : World) (pool : List Entry) (before : Option ℕ) (locals : Slots) (fs : List FrameForm) (frames : List (ℕ × Frame)) → ArePropers locals → each_of itself (frames_from w pool before locals fs) ≡ Some frames → all_proper frames ≡ true
+all_are : (w : World) (pool : List Entry) (before : Option ℕ) (locals : Slots) (fs : List FrameForm) (frames : List (ℕ × Frame)) → AreProper locals → each_of itself (frames_from w pool before locals fs) ≡ Some frames → all_proper frames ≡ true
 unfolding frames_from
 all_are w pool before locals [] frames l e = subst (λ xs. all_proper xs ≡ true) (some_is [] frames e) refl
 all_are w pool before locals (f ∷ fs) frames l e =
