@@ -24,9 +24,9 @@ lesser_none None b e = (refl, e)
 lesser_none (Some a) None e = absurd (cc)
 lesser_none (Some a) (Some b) e = absurd (by (nat_le a b) e)
   where
-  by : (t : Bool) → cond t (Some a) (Some b) ≡ None → ⊥
-  by true x = cc
-  by false x = cc
+    by : (t : Bool) → cond t (Some a) (Some b) ≡ None → ⊥
+    by true x = cc
+    by false x = cc
 
 unless_none : (b : Bool) (n : ℕ) → fails_unless b n ≡ None → b ≡ true
 unless_none true n e = refl
@@ -41,9 +41,9 @@ earlier_none None b e = (refl, e)
 earlier_none (Some a) None e = absurd (cc)
 earlier_none (Some a) (Some b) e = absurd (by (comes_first a b) e)
   where
-  by : (t : Bool) → cond t (Some a) (Some b) ≡ None → ⊥
-  by true x = cc
-  by false x = cc
+    by : (t : Bool) → cond t (Some a) (Some b) ≡ None → ⊥
+    by true x = cc
+    by false x = cc
 
 result_ok : (r : Result Types ℕ) → rule_of r ≡ None → (g : Types) × (r ≡ Ok g)
 result_ok (Ok g) e = (g, refl)
@@ -158,7 +158,7 @@ passes p m e es f none =
     let two = lesser_none (fails_unless (targets_declared m e.1 es) 2) (rule_of r) one.1 in
     let made = result_ok r two.1 in
     let all : list_all (λ to. flows_into_declared p made.0 (declared m to)) tos ≡ true =
-        unless_none (list_all (λ to. flows_into_declared p made.0 (declared m to)) tos) 1 (sym (ap (flow_rule p m tos) made.1) ∙ one.0) in
+    unless_none (list_all (λ to. flows_into_declared p made.0 (declared m to)) tos) 1 (sym (ap (flow_rule p m tos) made.1) ∙ one.0) in
     let parts = all_parts (λ to. flows_into_declared p made.0 (declared m to)) (jump_targets e.1) (next_places (ends_path e.1) es) all in
     let there = and_parts (list_all (λ to. is_some (declared m to)) (jump_targets e.1)) (not (ends_path e.1) || begins_declared m es) (unless_none (targets_declared m e.1 es) 2 two.0) in
     record { after = made.0; steps = made.1; jump = jumps p m made.0 (jump_targets e.1) there.0 parts.0; next = parts.1; behind = there.1 }
@@ -174,9 +174,14 @@ typed_from p m pending flow (e ∷ es) c r w =
     let parts = fault_none e.0 (lesser pending (place_rule p m e es o)) (walk_fault p m None (left_by p m e o) es) w in
     let rule : place_rule p m e es (Some here.0) ≡ None = sym (ap (place_rule p m e es) here.1) ∙ (lesser_none pending (place_rule p m e es o) parts.0).1 in
     let done = passes p m e es here.0 rule in
-    let left : left_by p m e o ≡ goes_on (ends_path e.1) done.after = left_is p m e here.0 done.after o here.1 done.steps in
-    (here.0, here.2, done.after, done.steps, done.jump,
-        typed_from p m None (goes_on (ends_path e.1) done.after) es (rest_ends e es c) (ready_behind p m done.after e es c done.next done.behind) (sym (ap (λ g. walk_fault p m None g es) left) ∙ parts.1))
+    let left : left_by p m e o ≡ goes_on (ends_path e.1) done.after = left_is p m e here.0 done.after o here.1 done.steps in (
+      here.0,
+      here.2,
+      done.after,
+      done.steps,
+      done.jump,
+      typed_from p m None (goes_on (ends_path e.1) done.after) es (rest_ends e es c) (ready_behind p m done.after e es c done.next done.behind) (sym (ap (λ g. walk_fault p m None g es) left) ∙ parts.1),
+    )
 
 frames_fit : (m : Method) (fs : List (ℕ × Frame)) → frame_fault m fs ≡ None → list_all (frame_fits m) fs ≡ true
 frames_fit m [] e = refl
@@ -199,7 +204,8 @@ body_passes p m e es c w =
     let both = lesser_none (fails_unless (flows_into_declared p (entry m) (declared m e.0)) 1) (fails_unless (nat_le (argument_slots m) m.max_locals) 6) first in
     record {
       arguments = unless_none (nat_le (argument_slots m) m.max_locals) 6 both.1;
-      walk = typed_from p m (entry_rule p m e.0) (Some (entry m)) (e ∷ es) c (may_stand p (entry m) (declared m e.0) (unless_none (flows_into_declared p (entry m) (declared m e.0)) 1 both.0)) w }
+      walk = typed_from p m (entry_rule p m e.0) (Some (entry m)) (e ∷ es) c (may_stand p (entry m) (declared m e.0) (unless_none (flows_into_declared p (entry m) (declared m e.0)) 1 both.0)) w;
+    }
 
 body_of : (p : Program) (m : Method) (es : List (ℕ × Instr)) → not (is_empty es) ≡ true → code_ends es ≡ true → body_fault p m es ≡ None → BodyPasses p m es
 body_of p m [] n c w = absurd (cc)
