@@ -3,6 +3,7 @@
 use crate::classes::{class_case, fronts_case};
 use crate::code::{code_case, instr_case};
 use crate::descriptors::descriptor_case;
+use crate::links::link_case;
 use crate::pools::pool_case;
 use std::alloc::Global;
 use std::rt::Files;
@@ -14,6 +15,7 @@ pub fn answer<R: Files>(rt: &R, alloc: Global, words: &[String]) -> Option<Vec<u
     match word.as_str() {
         "class" => class_case(rt, alloc, rest),
         "fronts" => fronts_case(rt, alloc, rest),
+        "link" => link_case(rt, alloc, rest),
         "pool" => pool_case(rt, alloc, rest),
         "code" => code_case(alloc, rest),
         "instr" => instr_case(alloc, rest),

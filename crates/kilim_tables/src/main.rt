@@ -8,6 +8,7 @@ mod cases;
 mod classes;
 mod code;
 mod descriptors;
+mod links;
 mod pools;
 
 use cases::answer;
