@@ -9,7 +9,7 @@ use Rattle.kilim_classes.specs.declared.verified.VType.TheVariants.{Top, Int, Lo
 use Rattle.kilim_classes.specs.Names.{class_at}
 use Rattle.kilim_classes.specs.Program.{Program}
 use Rattle.kilim_typing.specs.Step.{Types, Further, needs, rule, further, constructed, replaced, class_vtype, is_class, superclass_at, made_at, made_by}
-use Rattle.kilim_type_step.specs.Answers.{class_made, initialized, left_by_made}
+use Rattle.kilim_type_step.specs.Answers.{class_made, left_by_made}
 use Rattle.kilim_type_step.proofs.Rows.{front_is, past, operands_long}
 use Rattle.kilim_type_step.specs.Operands.{operands_of}
 use Rattle.kilim_type_step.specs.declared.operands.Taken.{Taken}

@@ -1,13 +1,13 @@
 -- Types of arrays; stacks and locals as lists.
-use Rattle.std.proofs.Common.{◌≡◌, ℕ, zero, suc, ◌+◌, ◌-◌, ◌<◌, ◌≤◌, Bool, true, false, ◌||◌, refl, ap, sym, ◌∙◌, inl, inr, arith, List, [], ◌∷◌, ◌++◌, length, take, drop, reverse, get_or, set, Option, Some, None}
+use Rattle.std.proofs.Common.{◌≡◌, ℕ, zero, suc, ◌+◌, ◌-◌, ◌<◌, ◌≤◌, Bool, true, false, ◌||◌, refl, ap, sym, ◌∙◌, inl, inr, arith, List, [], ◌∷◌, ◌++◌, length, take, drop, reverse, get_or, set}
 use Rattle.std.proofs.lemmas.List.{reverse-append, length-reverse, length-take, length-drop, drop_at, drop_all, take-append-drop, drop_more, take_more, get_or_at, set_at, append_assoc, append-nil, take_all}
-use Rattle.std.proofs.lemmas.Bool.{cases_lt, lt-leb, le-leb}
+use Rattle.std.proofs.lemmas.Bool.{cases_lt}
 use Rattle.std.proofs.lemmas.List.Folds.{list_any-append}
 use Rattle.std.specs.List.{list_any}
 use Rattle.kilim_classes.specs.declared.ty.Ty.{Ty}
 use Rattle.kilim_classes.specs.declared.verified.VType.{VType}
 use Rattle.kilim_classes.specs.declared.verified.VType.TheVariants.{Top, Int, Long, Null, UninitThis, Uninit, Object}
-use Rattle.kilim_typing.specs.Step.{vtype, dims_vtype, words, size, replaced, one_replaced, is_same, is_long, poke, peek, split_at, split_long, with_half}
+use Rattle.kilim_typing.specs.Step.{dims_vtype, words, size, replaced, one_replaced, is_same, is_long, poke, peek, split_at, split_long, with_half}
 
 pub array_vtype : (ty : Ty) (n : ℕ) → 0 < n → dims_vtype ty n ≡ Object ty
 array_vtype ty zero lt = absurd (omega arith)
