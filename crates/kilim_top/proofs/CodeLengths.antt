@@ -31,7 +31,7 @@ use Rattle.kilim_link_spec.specs.Laws.{LinkedInParts}
 use Rattle.kilim_link_spec.specs.Linked.{Linked, numbered, body_in, body_with, code_attribute, code_in, first_of, linked_method, method_with}
 use Rattle.kilim_link_spec.specs.Types.{each_of, itself, with_first, method_text, types_in, result_in}
 use Rattle.kilim_link_spec.specs.World.{World, world_of, declared_method, member_descriptor}
-use Rattle.kilim_top.specs.SmallFound.{IsShort, CodeIsShort}
+use Rattle.kilim_top.specs.Inside.SmallFound.{IsShort, CodeIsShort}
 
 -- ---- the code of a class file that has a text
 

@@ -8,7 +8,7 @@ use Rattle.kilim_outside.specs.declared.folder.FolderFault.{FolderFault}
 use Rattle.kilim_outside.specs.declared.folder.FolderFault.TheVariants as folder
 use Rattle.kilim_outside.specs.Causes.{FolderCause}
 use Rattle.kilim_top.specs.Words.{most_files, is_file, are_files}
-use Rattle.kilim_top.specs.Reads.{OneFailed, ReadsCause}
+use Rattle.kilim_top.specs.Inside.Reads.{OneFailed, ReadsCause}
 use Rattle.kilim_outside.specs.Files.{Files, ReadsFile, content_of, file_limit}
 use Rattle.kilim_classfile.specs.declared.class_file.ClassFile.{ClassFile}
 use Rattle.kilim_top.specs.ProgramOf.{IsFile, AreFiles}
@@ -16,7 +16,7 @@ use Rattle.kilim_classfile.specs.declared.fault.ClassFault.{ClassFault}
 use Rattle.kilim_classfile.specs.Reading.{read_class}
 use Rattle.kilim_top.specs.declared.refusal.Refusal.{Refusal}
 use Rattle.kilim_top.specs.declared.refusal.Refusal.TheVariants as refusals
-use Rattle.kilim_top.specs.Answer.{Refused, IsFaultLine}
+use Rattle.kilim_top.specs.Inside.Answer.{Refused, IsFaultLine}
 use Rattle.kilim_top.specs.Outcome.{WasRead, WereRead, or_fault, first_fault, IsClassReport}
 
 pub all_map : {A B : Type 0} (f : A → B) (test : B → Bool) (xs : List A) → list_all (λ x. test (f x)) xs ≡ list_all test (map f xs)

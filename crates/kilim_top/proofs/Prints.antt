@@ -3,7 +3,7 @@ use Rattle.std.proofs.Common.{◌≡◌, ℕ, ◌+◌, ◌<◌, ℤ, Bool, true,
 use Rattle.std.specs.List.{AllByRecursion}
 use Rattle.std.proofs.lemmas.List.{append-nil}
 use Rattle.kilim_classes.specs.declared.instr.Instr.{Instr}
-use Rattle.kilim_top.specs.SmallProgram.{given, stands, is_print, byte_at, and_code, and_print, print_at, ends, prints_from}
+use Rattle.kilim_top.specs.Inside.SmallProgram.{given, stands, is_print, byte_at, and_code, and_print, print_at, ends, prints_from}
 
 abbrev Code : Type 0
 Code = List (ℕ × Instr)

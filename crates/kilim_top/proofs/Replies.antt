@@ -18,7 +18,7 @@ use Rattle.kilim_link_spec.specs.Faults as link
 use Rattle.kilim_link_spec.specs.Linked.{Linked, OneProgram, first_of}
 use Rattle.kilim_top.specs.declared.answer.Reply.{Reply}
 use Rattle.kilim_top.specs.ProgramOf.{IsFile, AreFiles, IsProgramOf}
-use Rattle.kilim_top.specs.Answer.{IsReportOf, LinksTo, IsReplyOf, IsReplyOfClasses, IsReplyOfFiles}
+use Rattle.kilim_top.specs.Inside.Answer.{IsReportOf, LinksTo, IsReplyOf, IsReplyOfClasses, IsReplyOfFiles}
 use Rattle.kilim_top.specs.Outcome.{IsDone, IsReport, IsFitRun, or_fault, first_fault}
 use Rattle.kilim_top.proofs.WholeRun.{whole_run}
 

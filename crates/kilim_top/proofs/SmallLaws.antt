@@ -23,8 +23,8 @@ use Rattle.kilim_classes.specs.Program.{Program}
 use Rattle.kilim_classes.specs.Same.{same_flag}
 use Rattle.kilim_thread_model.specs.declared.small_programs.Small.{Small}
 use Rattle.kilim_thread_model.specs.Small.{SmallFits, task_constructor, print_int, constructor_code, print_code, small_method, small_constructor, small_execute, small_class, small_program}
-use Rattle.kilim_top.specs.SmallProgram.{given, byte_of, is_load, is_construct, is_print, is_return, stands, byte_at, is_constructor_code, and_print, prints_from, is_plain, is_task_id, are_first_two, is_small_class, is_cuttable, takes_nothing, is_plain_method, has_room, is_small_method, is_small_constructor, is_outline, is_length, small_with, small_members, small_parts, small_in}
-use Rattle.kilim_top.specs.SmallFound.{AreBytesOf, CodeIsShort, IsFound}
+use Rattle.kilim_top.specs.Inside.SmallProgram.{given, byte_of, is_load, is_construct, is_print, is_return, stands, byte_at, is_constructor_code, and_print, prints_from, is_plain, is_task_id, are_first_two, is_small_class, is_cuttable, takes_nothing, is_plain_method, has_room, is_small_method, is_small_constructor, is_outline, is_length, small_with, small_members, small_parts, small_in}
+use Rattle.kilim_top.specs.Inside.SmallFound.{AreBytesOf, CodeIsShort, IsFound}
 
 -- ---- what is found
 
@@ -186,8 +186,8 @@ pub record IsMethod (name : List ℕ) (pausable : Bool) (m : Method) : Type 0 wh
   locals : 0 < m.max_locals
 
 same_method : (m : Method) (name : List ℕ) (pausable : Bool) → m.name ≡ name → m.owner ≡ class_id 0 → m.params ≡ [] → m.result ≡ None → m.is_static ≡ false → m.is_private ≡ false → m.is_abstract ≡ false → m.built_in ≡ false →
-    m.pausable ≡ pausable → m.receiver ≡ Cuttable → m.qualifiers ≡ [] → m.frames ≡ [] → m ≡ small_method name pausable m.max_stack m.max_locals m.code_length m.code
-same_method m name pausable a b c d e f g h i j k l =
+    m.pausable ≡ pausable → m.receiver ≡ Cuttable → m.qualifiers ≡ [] → m.frames ≡ [] → m.handlers ≡ [] → m ≡ small_method name pausable m.max_stack m.max_locals m.code_length m.code
+same_method m name pausable a b c d e f g h i j k l n =
     let same : record {
       name = m.name;
       owner = m.owner;
@@ -205,7 +205,8 @@ same_method m name pausable a b c d e f g h i j k l =
       code_length = m.code_length;
       code = m.code;
       frames = m.frames;
-    } ≡ small_method name pausable m.max_stack m.max_locals m.code_length m.code = rw (a, b, c, d, e, f, g, h, i, j, k, l) refl in
+      handlers = m.handlers;
+    } ≡ small_method name pausable m.max_stack m.max_locals m.code_length m.code = rw (a, b, c, d, e, f, g, h, i, j, k, l, n) refl in
     same
 
 method_is : (m : Method) (name : List ℕ) (pausable : Bool) → is_small_method name pausable m ≡ true → IsMethod name pausable m
@@ -222,11 +223,12 @@ method_is m name pausable e =
     let plain = and_parts (not m.is_static && not m.is_private) (not m.is_abstract && not m.built_in) t.0 in
     let instance = and_parts (not m.is_static) (not m.is_private) plain.0 in
     let concrete = and_parts (not m.is_abstract) (not m.built_in) plain.1 in
-    let room = and_parts (nat_lt 0 m.max_stack) (nat_lt 0 m.max_locals && eqb (length m.frames) 0) t.1 in
-    let locals = and_parts (nat_lt 0 m.max_locals) (eqb (length m.frames) 0) room.1 in
+    let room = and_parts (nat_lt 0 m.max_stack) (nat_lt 0 m.max_locals && (eqb (length m.frames) 0 && eqb (length m.handlers) 0)) t.1 in
+    let locals = and_parts (nat_lt 0 m.max_locals) (eqb (length m.frames) 0 && eqb (length m.handlers) 0) room.1 in
+    let tables = and_parts (eqb (length m.frames) 0) (eqb (length m.handlers) 0) locals.1 in
     record {
       is = same_method m name pausable (bytes_are m.name name q.0) (owner_is m.owner 0 (eqb-true m.owner.0 0 r.0)) (nothing_is m.params params.0) (none_is m.result params.1) (not-true m.is_static instance.0) (not-true m.is_private instance.1)
-          (not-true m.is_abstract concrete.0) (not-true m.built_in concrete.1) (flag_is m.pausable pausable r.1) (cuttable_is m.receiver qualifiers.1) (nothing_is m.qualifiers qualifiers.0) (nothing_is m.frames locals.1);
+          (not-true m.is_abstract concrete.0) (not-true m.built_in concrete.1) (flag_is m.pausable pausable r.1) (cuttable_is m.receiver qualifiers.1) (nothing_is m.qualifiers qualifiers.0) (nothing_is m.frames tables.0) (nothing_is m.handlers tables.1);
       stack = ltb-true 0 m.max_stack room.0;
       locals = ltb-true 0 m.max_locals locals.0;
     }

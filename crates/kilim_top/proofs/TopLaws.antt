@@ -1,11 +1,12 @@
 -- From the bytes that were read to what the folder held.
-use Rattle.std.proofs.Common.{◌≡◌, ℕ, suc, List, [], ◌∷◌, length, map, Option, Some, None, refl, sym, ap, subst, ◌∙◌, inl, inr, ◌⊎◌}
+use Rattle.std.proofs.Common.{◌≡◌, ℕ, zero, suc, ◌<◌, ◌≤◌, lit≤, arith, List, [], ◌∷◌, ◌++◌, length, length-append, map, Option, Some, None, refl, sym, ap, subst, ◌∙◌, inl, inr, ◌⊎◌}
 use Rattle.kilim_outside.specs.declared.folder.FailedCall.{FailedCall}
+use Rattle.kilim_outside.specs.declared.folder.FailedCall.TheVariants.{Read}
 use Rattle.kilim_outside.specs.Files.{Files}
-use Rattle.kilim_top.specs.Words.{Run}
-use Rattle.kilim_top.specs.Reads.{OneFailed}
-use Rattle.kilim_top.specs.Respond.{Wrote0, Wrote1, WroteFrontOf}
-use Rattle.kilim_top.specs.Outcome.{WereRead, IsTextAt0, IsTextAt1, IsDone, IsReport, IsFitRun, read_of, IsFit, HasReport, FailedAtMost, WroteRun, WroteReport, WroteFront}
+use Rattle.kilim_top.specs.Words.{Request, Run}
+use Rattle.kilim_top.specs.Inside.Reads.{OneFailed}
+use Rattle.kilim_top.specs.Inside.Respond.{Wrote0, Wrote1, WroteFrontOf, Responded}
+use Rattle.kilim_top.specs.Outcome.{WereRead, IsDone, IsReport, IsFitRun, read_of, IsFit, HasReport, FailedAtMost, WroteRun, WroteReport, WroteFront, Outside, shown, Promises}
 
 pub same_length : {A : Type 0} (f : A → List ℕ) (contents : Option Files) (names : List A) (files : List (List ℕ)) → WereRead contents (map f names) files → length names ≡ length files
 same_length f contents [] [] were = refl
@@ -19,29 +20,41 @@ read_is held (n ∷ names) (b ∷ files) were = ap (λ (bs : List ℕ). bs ∷ r
 read_is held [] (b ∷ files) were = absurd were
 read_is held (n ∷ names) [] were = absurd were
 
+-- what was written for the bytes, of what was asked
 pub wrote_run : (contents : Option Files) (main : List ℕ) (names files : List (List ℕ)) (old new : Option (List ℕ)) → WereRead contents names files → Wrote0 main files old new → WroteRun contents (Some (Run main names)) old new
 wrote_run contents main names files old new were wrote = record {
+  main = main;
+  names = names;
+  asked = refl;
+  files = files;
+  were_read = were;
+  fit = wrote.run.fit;
   text = wrote.text;
-  is_text = record { files = files; were_read = were; run = wrote.run };
+  whole = wrote.run.whole;
   written = wrote.written;
 }
 
 pub wrote_report : (contents : Option Files) (main : List ℕ) (names files : List (List ℕ)) (old new : Option (List ℕ)) → WereRead contents names files → Wrote1 main names files old new → WroteReport contents (Some (Run main names)) old new
 wrote_report contents main names files old new were wrote = record {
+  main = main;
+  names = names;
+  asked = refl;
+  files = files;
+  were_read = were;
   text = wrote.text;
-  is_text = record { files = files; were_read = were; report = wrote.report };
+  report = wrote.report;
   written = wrote.written;
 }
 
-either_text : (contents : Option Files) (main : List ℕ) (names files : List (List ℕ)) (text : List ℕ) → WereRead contents names files → IsDone main files text ⊎ IsReport main names files text →
-    IsTextAt0 contents (Some (Run main names)) text ⊎ IsTextAt1 contents (Some (Run main names)) text
-either_text contents main names files text were (inl run) = inl (record { files = files; were_read = were; run = run })
-either_text contents main names files text were (inr report) = inr (record { files = files; were_read = were; report = report })
-
 pub wrote_front : (contents : Option Files) (main : List ℕ) (names files : List (List ℕ)) (old new : Option (List ℕ)) → WereRead contents names files → WroteFrontOf main names files old new → WroteFront contents (Some (Run main names)) old new
 wrote_front contents main names files old new were wrote = record {
+  main = main;
+  names = names;
+  asked = refl;
+  files = files;
+  were_read = were;
   text = wrote.text;
-  is_text = either_text contents main names files wrote.text were wrote.is_text;
+  is_text = wrote.is_text;
   written = wrote.written;
 }
 
@@ -57,7 +70,42 @@ pub unreported : (contents : Option Files) (main : List ℕ) (names files : List
 unreported None main names files were none has = has
 unreported (Some held) main names files were none has = none has.0 (subst (λ (bs : List (List ℕ)). IsReport main names bs has.0) (read_is held names files were) has.1)
 
--- a call of the folder that failed is a read of a file
-pub failed_at_most : (main : List ℕ) (names : List (List ℕ)) (before now : List FailedCall) → (now ≡ before) ⊎ OneFailed names before now → FailedAtMost (Some (Run main names)) before now
-failed_at_most main names before now (inl same) = inl same
-failed_at_most main names before now (inr one) = inr (inl one)
+-- ---- the promises, at each end of the work
+
+-- one of six
+six : {A : Type 0} (n : ℕ) → n ≤ 5 → (n ≡ 0 → A) → (n ≡ 1 → A) → (n ≡ 2 → A) → (n ≡ 3 → A) → (n ≡ 4 → A) → (n ≡ 5 → A) → A
+six zero le a b c d e f = a refl
+six (suc zero) le a b c d e f = b refl
+six (suc (suc zero)) le a b c d e f = c refl
+six (suc (suc (suc zero))) le a b c d e f = d refl
+six (suc (suc (suc (suc zero)))) le a b c d e f = e refl
+six (suc (suc (suc (suc (suc zero))))) le a b c d e f = f refl
+six (suc (suc (suc (suc (suc (suc n)))))) le a b c d e f = absurd (omega arith)
+
+neither : (n : ℕ) → (n ≡ 2) ⊎ (n ≡ 3) → (n ≡ 2 → ⊥) → (n ≡ 3 → ⊥) → ⊥
+neither n (inl e) two three = two e
+neither n (inr e) two three = three e
+
+-- what was answered for the bytes was written, or as much of it as could be
+pub responded : (contents now_contents : Option Files) (main : List ℕ) (names files : List (List ℕ)) (before now : List FailedCall) (w w' : Option (List ℕ)) (n n' status : ℕ) →
+    now_contents ≡ contents → now ≡ before → WereRead contents names files → Responded main names files w w' n n' status →
+    Promises (Some (Run main names)) (shown contents before w n) (shown now_contents now w' n') status
+responded contents now_contents main names files before now w w' n n' status kept same were r = record {
+  known = r.known;
+  usage = (λ e. absurd (r.not_usage e), λ e. absurd (cc));
+  whole = λ e. wrote_run contents main names files w w' were (r.whole e);
+  report = λ e. wrote_report contents main names files w w' were (r.report e);
+  read = λ e. absurd (r.not_unread e);
+  nothing = λ e. absurd (neither status e r.not_usage r.not_unread);
+  write = λ e. inl (r.write e);
+  front = λ e. wrote_front contents main names files w w' were (r.front e);
+  memory = λ e. wrote_some contents main names files w w' were (r.memory e);
+  quiet = r.quiet;
+  were_read = λ e. same;
+  contents = kept;
+  calls = inl same;
+  complete = λ fit still calm.
+      six status r.known (λ e. inl e) (λ e. absurd (unfit contents main names files were (r.fit e) fit)) (λ e. absurd (r.not_usage e)) (λ e. absurd (r.not_unread e)) (λ e. absurd (calm (r.write e))) (λ e. inr e);
+  reported = λ has still calm.
+      six status r.known (λ e. absurd (unreported contents main names files were (r.unreported e) has)) (λ e. inl e) (λ e. absurd (r.not_usage e)) (λ e. absurd (r.not_unread e)) (λ e. absurd (calm (r.write e))) (λ e. inr e);
+}

@@ -15,7 +15,7 @@ use Rattle.kilim_thread_model.specs.Runs.{Whole}
 use Rattle.kilim_thread_model.specs.Small.{small_program, print_entry, done_entry, small_journal, SmallRunIsWhole}
 use Rattle.kilim_top.specs.ProgramOf.{IsProgramOf}
 use Rattle.kilim_top.specs.Report.{utf16_of}
-use Rattle.kilim_top.specs.Answer.{IsRunOf}
+use Rattle.kilim_top.specs.Inside.Answer.{IsRunOf}
 use Rattle.kilim_top.specs.Outcome.{IsWholeRun, setting_of, step_limit}
 
 -- ---- the journal can be read, and its numbers fit

@@ -1,10 +1,6 @@
 pub mod Words
-pub mod SmallProgram
-pub mod SmallFound
 pub mod ProgramOf
 pub mod Report
 pub mod Writing
 pub mod Outcome
-pub mod Answer
-pub mod Respond
-pub mod Reads
+pub mod Inside

@@ -1,5 +1,6 @@
--- What each status of the top call means: what was read, and what was written.
-use Rattle.std.specs.Prelude.{◌≡◌, ◌≢◌, ℕ, List, [], ◌∷◌, ◌++◌, take, map, Option, Some, None, Contains, ◌⊎◌, Result, Ok, Err}
+-- What the top call promises: what each status says of what was read, and of what was written. From `Promises` it is three
+-- steps to what a whole run is: `WroteRun`, `IsWholeRun`, and `Whole` of kilim_thread_model.
+use Rattle.std.specs.Prelude.{◌≡◌, ◌≢◌, ℕ, List, [], ◌∷◌, ◌++◌, take, map, Option, Some, None, Contains, ◌≤◌, ◌↔◌, ◌⊎◌, Result, Ok, Err}
 use Rattle.kilim_classes.specs.declared.class.Form.TheVariants.{Plain}
 use Rattle.kilim_classes.specs.Program.{Program}
 use Rattle.kilim_classes.specs.declared.names.ClassId.{ClassId}
@@ -10,7 +11,7 @@ use Rattle.kilim_journal.specs.Readable.{IsReadable, JournalFits}
 use Rattle.kilim_outside.specs.declared.folder.FailedCall.{FailedCall}
 use Rattle.kilim_outside.specs.declared.folder.FailedCall.TheVariants.{Read, Write}
 use Rattle.kilim_outside.specs.Files.{Files, content_of, file_limit}
-use Rattle.kilim_outside.specs.Causes.{Appended}
+use Rattle.kilim_outside.specs.Causes.{Appended, Rose}
 use Rattle.kilim_thread_model.specs.State.{Setting}
 use Rattle.kilim_thread_model.specs.Runs.{Whole}
 use Rattle.kilim_thread_model.specs.declared.small_programs.Small.{Small}
@@ -23,6 +24,7 @@ use Rattle.kilim_link_spec.specs.declared.fault.LinkFault.TheVariants.{InClass}
 use Rattle.kilim_link_spec.specs.declared.fault.Problem.{Problem}
 use Rattle.kilim_link_spec.specs.Faults as link
 use Rattle.kilim_link_reports.specs.LinkLines.{link_line}
+use Rattle.kilim_top.specs.declared.status.TheConstants.{DONE, REPORTED, USAGE, UNREAD, UNWRITTEN, NO_MEMORY}
 use Rattle.kilim_top.specs.ProgramOf.{AreFiles, IsProgramOf}
 use Rattle.kilim_top.specs.Writing.{AppendedFront}
 use Rattle.kilim_top.specs.Report.{utf16_of, later_line, main_line}
@@ -121,42 +123,40 @@ WereRead contents [] [] = Unit {0}
 WereRead contents (name ∷ names) (bytes ∷ files) = WasRead contents name bytes × WereRead contents names files
 WereRead contents names files = ⊥
 
--- the text that the call writes at status 0, and at status 1
-pub record IsRunText (contents : Option Files) (main : List ℕ) (names : List (List ℕ)) (text : List ℕ) : Type 0 where
-  pub files : List (List ℕ)
-  pub were_read : WereRead contents names files
-  pub run : IsDone main files text
-
-pub record IsReportText (contents : Option Files) (main : List ℕ) (names : List (List ℕ)) (text : List ℕ) : Type 0 where
-  pub files : List (List ℕ)
-  pub were_read : WereRead contents names files
-  pub report : IsReport main names files text
-
-abbrev pub IsTextAt0 : Option Files → Option Request → List ℕ → Type 0
-IsTextAt0 contents None text = ⊥
-IsTextAt0 contents (Some (Run main names)) text = IsRunText contents main names text
-
-abbrev pub IsTextAt1 : Option Files → Option Request → List ℕ → Type 0
-IsTextAt1 contents None text = ⊥
-IsTextAt1 contents (Some (Run main names)) text = IsReportText contents main names text
-
 -- ---- what was written
 
--- the text for status 0 was written, or that for status 1
+-- the journal of a whole run, of the files that the words name
 pub record WroteRun (contents : Option Files) (request : Option Request) (old new : Option (List ℕ)) : Type 0 where
+  pub main : List ℕ
+  pub names : List (List ℕ)
+  pub asked : request ≡ Some (Run main names)
+  pub files : List (List ℕ)
+  pub were_read : WereRead contents names files
+  pub fit : IsFitRun main files
   pub text : List ℕ
-  pub is_text : IsTextAt0 contents request text
+  pub whole : IsWholeRun main files text
   pub written : Appended old new text
 
+-- the report of the first stage that has a fault
 pub record WroteReport (contents : Option Files) (request : Option Request) (old new : Option (List ℕ)) : Type 0 where
+  pub main : List ℕ
+  pub names : List (List ℕ)
+  pub asked : request ≡ Some (Run main names)
+  pub files : List (List ℕ)
+  pub were_read : WereRead contents names files
   pub text : List ℕ
-  pub is_text : IsTextAt1 contents request text
+  pub report : IsReport main names files text
   pub written : Appended old new text
 
--- a front of one of the two was written
+-- a front of one of the two
 pub record WroteFront (contents : Option Files) (request : Option Request) (old new : Option (List ℕ)) : Type 0 where
+  pub main : List ℕ
+  pub names : List (List ℕ)
+  pub asked : request ≡ Some (Run main names)
+  pub files : List (List ℕ)
+  pub were_read : WereRead contents names files
   pub text : List ℕ
-  pub is_text : IsTextAt0 contents request text ⊎ IsTextAt1 contents request text
+  pub is_text : IsDone main files text ⊎ IsReport main names files text
   pub written : AppendedFront old new text
 
 -- ---- which calls of the folder failed
@@ -191,3 +191,42 @@ IsFit contents request = ⊥
 abbrev pub HasReport : Option Files → Option Request → Type 0
 HasReport (Some held) (Some (Run main names)) = (text : List ℕ) × IsReport main names (read_of held names) text
 HasReport contents request = ⊥
+
+-- ---- the promises of the top call
+
+-- What the outside shows: what the files hold and which calls on them failed, what came to the sink and how often it
+-- failed.
+pub record Outside : Type 0 where
+  pub contents : Option Files
+  pub failed : List FailedCall
+  pub written : Option (List ℕ)
+  pub faults : ℕ
+
+abbrev pub shown : Option Files → List FailedCall → Option (List ℕ) → ℕ → Outside
+shown contents failed written faults = record { contents = contents; failed = failed; written = written; faults = faults }
+
+-- What a status says, of what the words ask for, and of the outside before and after.
+pub record Promises (request : Option Request) (old new : Outside) (status : ℕ) : Type 0 where
+  pub known : status ≤ NO_MEMORY
+  -- where the words aren't in the grammar, and only there
+  pub usage : (status ≡ USAGE) ↔ (request ≡ None)
+  -- what was written: the journal of a whole run, or one report
+  pub whole : status ≡ DONE → WroteRun old.contents request old.written new.written
+  pub report : status ≡ REPORTED → WroteReport old.contents request old.written new.written
+  -- only where a file that the words name can't be read
+  pub read : status ≡ UNREAD → ReadFailed request old.failed new.failed
+  pub nothing : (status ≡ USAGE) ⊎ (status ≡ UNREAD) → new.written ≡ old.written
+  -- only where the sink failed, or a file that the command writes
+  pub write : status ≡ UNWRITTEN → Rose old.faults new.faults ⊎ WriteFailed request old.failed new.failed
+  pub front : status ≡ UNWRITTEN → WroteFront old.contents request old.written new.written
+  pub memory : status ≡ NO_MEMORY → (new.written ≡ old.written) ⊎ WroteFront old.contents request old.written new.written
+  -- no fault of the outside is passed over: the first one ends the work
+  pub quiet : (status ≡ DONE) ⊎ (status ≡ REPORTED) → new.faults ≡ old.faults
+  pub were_read : (status ≡ DONE) ⊎ (status ≡ REPORTED) ⊎ (status ≡ UNWRITTEN) → new.failed ≡ old.failed
+  -- no file changes, and no other name is read
+  pub contents : new.contents ≡ old.contents
+  pub calls : FailedAtMost request old.failed new.failed
+  -- The work is done, or memory is short, where it can be done and nothing outside fails. So it is with the report of a
+  -- stage that has a fault.
+  pub complete : IsFit old.contents request → new.failed ≡ old.failed → (Rose old.faults new.faults → ⊥) → (status ≡ DONE) ⊎ (status ≡ NO_MEMORY)
+  pub reported : HasReport old.contents request → new.failed ≡ old.failed → (Rose old.faults new.faults → ⊥) → (status ≡ REPORTED) ⊎ (status ≡ NO_MEMORY)

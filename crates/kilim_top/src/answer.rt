@@ -6,9 +6,9 @@ ghost use Rattle.std.specs.String.{string_bytes};
 ghost use Rattle.kilim_classfile.specs.Text.{ClassFits};
 ghost use Rattle.kilim_journal.specs.Text.{journal_text};
 ghost use Rattle.kilim_thread_model.specs.Small.{small_journal};
-ghost use Rattle.kilim_top.specs.SmallFound.{CodeIsShort, IsFoundAs};
+ghost use Rattle.kilim_top.specs.Inside.SmallFound.{CodeIsShort, IsFoundAs};
 ghost use Rattle.kilim_top.specs.Report.{utf16_of};
-ghost use Rattle.kilim_top.specs.Answer.{IsReplyOf, IsReplyOfClasses, IsReplyOfFiles};
+ghost use Rattle.kilim_top.specs.Inside.Answer.{IsReplyOf, IsReplyOfClasses, IsReplyOfFiles};
 ghost use Rattle.kilim_top.specs.Outcome.{IsDone, IsReport, IsFitRun};
 
 use crate::classes::classes_of;

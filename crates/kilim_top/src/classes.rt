@@ -5,7 +5,7 @@ ghost use Rattle.std.specs.List.{AllByRecursion};
 ghost use Rattle.std.specs.String.{string_bytes};
 ghost use Rattle.kilim_classfile.specs.Reading.{read_class};
 ghost use Rattle.kilim_reports.specs.ClassLines.{class_line};
-ghost use Rattle.kilim_top.specs.Answer.{Refused, IfReport, IsFaultLine};
+ghost use Rattle.kilim_top.specs.Inside.Answer.{Refused, IfReport, IsFaultLine};
 ghost use Rattle.kilim_top.specs.Outcome.{IsClassReport};
 ghost use Rattle.kilim_top.specs.ProgramOf.{IsFile, AreFiles};
 

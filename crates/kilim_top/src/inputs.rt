@@ -5,7 +5,7 @@ ghost use Rattle.std.specs.String.{string_bytes};
 ghost use Rattle.kilim_outside.specs.Causes.{FolderCause};
 ghost use Rattle.kilim_outside.specs.declared.folder.FailedCall.TheVariants.{Read};
 ghost use Rattle.kilim_top.specs.Outcome.{WereRead, WasRead};
-ghost use Rattle.kilim_top.specs.Reads.{ReadsCause};
+ghost use Rattle.kilim_top.specs.Inside.Reads.{ReadsCause};
 
 use kilim_outside::{Folder, FolderFault};
 use kilim_units::Seq;

@@ -9,10 +9,12 @@ mod refusal;
 mod report;
 mod run;
 mod small;
+mod status;
 #[cfg(test)]
 mod tests;
 mod top;
 mod words;
 mod writing;
 
+pub use status::{DONE, NO_MEMORY, REPORTED, UNREAD, UNWRITTEN, USAGE};
 pub use top::{kilim, kilim_alone, kilim_in_memory};

@@ -4,8 +4,8 @@ ghost use Rattle.std.specs.Prelude.{◌≡◌, ◌<◌, ◌^◌, ◌&&◌, true,
 ghost use Rattle.std.specs.Int.{w8};
 ghost use Rattle.std.specs.Option.{option_map};
 ghost use Rattle.kilim_classes.specs.Keeps.{EndsBuiltIn};
-ghost use Rattle.kilim_top.specs.SmallProgram.{byte_of, is_load, is_construct, is_print, is_return, stands, byte_at, is_constructor_code, print_at, ends, prints_from, is_plain, is_task_id, are_first_two, is_small_class, is_cuttable, takes_nothing, is_plain_method, has_room, is_small_method, is_small_constructor, is_outline, is_length, small_with, small_members, small_parts, small_in};
-ghost use Rattle.kilim_top.specs.SmallFound.{AreBytes, AreBytesOf, CodeIsShort, IsFound};
+ghost use Rattle.kilim_top.specs.Inside.SmallProgram.{byte_of, is_load, is_construct, is_print, is_return, stands, byte_at, is_constructor_code, print_at, ends, prints_from, is_plain, is_task_id, are_first_two, is_small_class, is_cuttable, takes_nothing, is_plain_method, has_room, is_small_method, is_small_constructor, is_outline, is_length, small_with, small_members, small_parts, small_in};
+ghost use Rattle.kilim_top.specs.Inside.SmallFound.{AreBytes, AreBytesOf, CodeIsShort, IsFound};
 
 use kilim_classes::{Class, ClassId, Form, Instr, Method, MethodId, Program, Qualifier};
 use kilim_thread_model::Small;
@@ -177,7 +177,7 @@ fn are_first_two(methods: &[MethodId]) -> bool
     }
 }
 
-#[tactic(auto, unfolding(crate::specs::SmallProgram::is_small_class))]
+#[tactic(auto, unfolding(crate::specs::Inside::SmallProgram::is_small_class))]
 fn is_small_class(class: &Class) -> bool
     ensures { result ≡ is_small_class class.now }
 {
@@ -197,7 +197,7 @@ fn is_cuttable(qualifier: Qualifier) -> bool
     }
 }
 
-#[tactic(auto, unfolding(crate::specs::SmallProgram::takes_nothing))]
+#[tactic(auto, unfolding(crate::specs::Inside::SmallProgram::takes_nothing))]
 fn takes_nothing(method: &Method) -> bool
     ensures { result ≡ takes_nothing method.now }
 {
@@ -207,21 +207,23 @@ fn takes_nothing(method: &Method) -> bool
         && is_cuttable(method.receiver)
 }
 
-#[tactic(auto, unfolding(crate::specs::SmallProgram::is_plain_method))]
+#[tactic(auto, unfolding(crate::specs::Inside::SmallProgram::is_plain_method))]
 fn is_plain_method(method: &Method) -> bool
     ensures { result ≡ is_plain_method method.now }
 {
     !method.is_static && !method.is_private && !method.is_abstract && !method.built_in
 }
 
-#[tactic(auto, unfolding(crate::specs::SmallProgram::has_room))]
+#[tactic(auto, unfolding(crate::specs::Inside::SmallProgram::has_room))]
 fn has_room(method: &Method) -> bool
     ensures { result ≡ has_room method.now }
 {
-    method.max_stack > 0 && method.max_locals > 0 && method.frames.len() == 0
+    method.max_stack > 0
+        && method.max_locals > 0
+        && (method.frames.len() == 0 && method.handlers.len() == 0)
 }
 
-#[tactic(auto, unfolding(crate::specs::SmallProgram::is_small_method))]
+#[tactic(auto, unfolding(crate::specs::Inside::SmallProgram::is_small_method))]
 fn is_small_method(method: &Method, name: &[u8], pausable: bool) -> bool
     ensures { result ≡ is_small_method name.now pausable method.now }
 {
@@ -233,7 +235,7 @@ fn is_small_method(method: &Method, name: &[u8], pausable: bool) -> bool
         && has_room(method)
 }
 
-#[tactic(auto, unfolding(crate::specs::SmallProgram::is_small_constructor))]
+#[tactic(auto, unfolding(crate::specs::Inside::SmallProgram::is_small_constructor))]
 fn is_small_constructor(method: &Method) -> bool
     ensures { result ≡ is_small_constructor method.now }
 {
@@ -244,7 +246,7 @@ fn is_small_constructor(method: &Method) -> bool
 
 // ---- the program
 
-#[tactic(auto, unfolding(crate::specs::SmallProgram::is_outline))]
+#[tactic(auto, unfolding(crate::specs::Inside::SmallProgram::is_outline))]
 fn is_outline(program: &Program) -> bool
     ensures outline { result ≡ is_outline program.now }
     ensures built_in { EndsBuiltIn program.now }
@@ -325,7 +327,7 @@ fn small_parts(
     }
 }
 
-#[tactic(auto, unfolding(crate::specs::SmallProgram::small_in))]
+#[tactic(auto, unfolding(crate::specs::Inside::SmallProgram::small_in))]
 fn small_in(alloc: Global, program: &Program) -> Result<Option<Small>, AllocError>
     ensures small { IfOk result (λ small. small ≡ small_in program.now) }
     ensures fit { IfOk result (λ small. AreBytesOf small) }

@@ -1,16 +1,16 @@
 //! The top call.
 
-ghost use Rattle.std.specs.Prelude.{◌≡◌, ◌≤◌, ◌↔◌, ◌⊎◌, Some, None, [], ◌∷◌, length, map, take, List, ℕ, IsSome, IfSome};
+ghost use Rattle.std.specs.Prelude.{◌≡◌, ◌≤◌, ◌⊎◌, Some, [], length, map, List, ℕ, IsSome, IfSome};
 ghost use Rattle.std.specs.String.{string_bytes};
 ghost use Rattle.kilim_outside.specs.Causes.{Rose};
 ghost use Rattle.kilim_outside.specs.Files.{files_of};
 ghost use Rattle.kilim_top.specs.Words.{request_of, Run};
-ghost use Rattle.kilim_top.specs.Writing.{AppendedFront};
-ghost use Rattle.kilim_top.specs.Respond.{Wrote0, Wrote1, WroteFrontOf};
-ghost use Rattle.kilim_top.specs.Outcome.{IsFitRun, WroteRun, WroteReport, WroteFront, ReadFailed, WriteFailed, FailedAtMost, IsFit, IsReport, HasReport};
+ghost use Rattle.kilim_top.specs.Inside.Respond.{Wrote0, Wrote1, WroteFrontOf};
+ghost use Rattle.kilim_top.specs.Outcome.{IsFitRun, IsFit, IsReport, HasReport, Promises, shown};
 
 use crate::answer::answer;
 use crate::inputs::read_all;
+use crate::status::{DONE, NO_MEMORY, REPORTED, UNREAD, UNWRITTEN, USAGE};
 use crate::words::{Asked, request};
 use crate::writing::write_all;
 use kilim_outside::{Folder, FolderFault, Gate, SinkFault, SteadyFolder, SteadySink, TextSink};
@@ -42,17 +42,17 @@ fn respond<K: TextSink>(
     ensures quiet { (result ≡ 0) ⊎ (result ≡ 1) → K.faults out.new ≡ K.faults out.old }
 {
     let Ok(reply) = answer(alloc, main, names, files) else {
-        return 5;
+        return NO_MEMORY;
     };
     match write_all(out, reply.text.as_slice()) {
         Ok(()) => reply.status,
-        Err(SinkFault::Failed) => 4,
-        Err(SinkFault::NoMemory) => 5,
+        Err(SinkFault::Failed) => UNWRITTEN,
+        Err(SinkFault::NoMemory) => NO_MEMORY,
     }
 }
 
 // Reads the files, and writes what is answered for them.
-#[tactic(auto, using(crate::proofs::TopLaws::same_length, crate::proofs::TopLaws::wrote_run, crate::proofs::TopLaws::wrote_report, crate::proofs::TopLaws::wrote_front, crate::proofs::TopLaws::wrote_some, crate::proofs::TopLaws::unfit, crate::proofs::TopLaws::unreported))]
+#[tactic(auto, using(crate::proofs::TopLaws::same_length))]
 fn work<F: Folder, K: TextSink>(
     alloc: Global,
     main: &str,
@@ -61,27 +61,13 @@ fn work<F: Folder, K: TextSink>(
     out: &mut K,
 ) -> u8
     requires { length names.now ≤ 1000 }
-    ensures status { result ≤ 5 }
-    ensures not_usage { result ≡ 2 → ⊥ }
-    ensures whole { result ≡ 0 → WroteRun (F.contents files.old) (Some (Run main.now (map string_bytes names.now))) (K.written out.old) (K.written out.new) }
-    ensures report { result ≡ 1 → WroteReport (F.contents files.old) (Some (Run main.now (map string_bytes names.now))) (K.written out.old) (K.written out.new) }
-    ensures read { result ≡ 3 → ReadFailed (Some (Run main.now (map string_bytes names.now))) (F.faults files.old) (F.faults files.new) }
-    ensures nothing { result ≡ 3 → K.written out.new ≡ K.written out.old }
-    ensures write { result ≡ 4 → Rose (K.faults out.old) (K.faults out.new) ⊎ WriteFailed (Some (Run main.now (map string_bytes names.now))) (F.faults files.old) (F.faults files.new) }
-    ensures front { result ≡ 4 → WroteFront (F.contents files.old) (Some (Run main.now (map string_bytes names.now))) (K.written out.old) (K.written out.new) }
-    ensures memory { result ≡ 5 → (K.written out.new ≡ K.written out.old) ⊎ WroteFront (F.contents files.old) (Some (Run main.now (map string_bytes names.now))) (K.written out.old) (K.written out.new) }
-    ensures contents { F.contents files.new ≡ F.contents files.old }
-    ensures calls { FailedAtMost (Some (Run main.now (map string_bytes names.now))) (F.faults files.old) (F.faults files.new) }
-    ensures quiet { (result ≡ 0) ⊎ (result ≡ 1) → K.faults out.new ≡ K.faults out.old }
-    ensures were_read { (result ≡ 0) ⊎ (result ≡ 1) ⊎ (result ≡ 4) → F.faults files.new ≡ F.faults files.old }
-    ensures untouched { result ≡ 3 → out.new ≡ out.old }
-    ensures fit { result ≡ 1 → IsFit (F.contents files.old) (Some (Run main.now (map string_bytes names.now))) → ⊥ }
-    ensures unreported { result ≡ 0 → HasReport (F.contents files.old) (Some (Run main.now (map string_bytes names.now))) → ⊥ }
+    ensures promises { Promises (Some (Run main.now (map string_bytes names.now))) (shown (F.contents files.old) (F.faults files.old) (K.written out.old) (K.faults out.old)) (shown (F.contents files.new) (F.faults files.new) (K.written out.new) (K.faults out.new)) result }
+    ensures untouched { result ≡ UNREAD → out.new ≡ out.old }
 {
     match read_all(alloc, names, files) {
         Ok(read) => respond(alloc, main, names, read.as_slice(), out),
-        Err(FolderFault::Failed) => 3,
-        Err(FolderFault::NoMemory) => 5,
+        Err(FolderFault::Failed) => UNREAD,
+        Err(FolderFault::NoMemory) => NO_MEMORY,
     }
 }
 
@@ -92,6 +78,9 @@ fn work<F: Folder, K: TextSink>(
 /// where the run's journal was written whole; 1 where a report was: that a file is no class file, or the class files
 /// don't link, or their program can't be run yet, or its own class is another one; 2 where the words aren't in the
 /// grammar; 3 where a file can't be read; 4 where the text can't be written; 5 for want of memory.
+///
+/// `Promises` (specs/Outcome.antt) has what each status says. The sink is left alone before all files are read, and the
+/// files before all words are.
 pub fn kilim_alone<F: Folder, K: TextSink, G: Gate>(
     alloc: Global,
     words: &Vec<String>,
@@ -100,44 +89,13 @@ pub fn kilim_alone<F: Folder, K: TextSink, G: Gate>(
     gate: &G,
 ) -> Option<u8>
     ensures answers { IsSome result }
-    ensures status { IfSome result (λ status. status ≤ 5) }
-
-    // Where the words aren't in the grammar, and only there.
-    ensures usage { (result ≡ Some 2) ↔ (request_of (map string_bytes words.now.items) ≡ None) }
-
-    // What was written at status 0 and 1: the journal of a whole run, and one report.
-    ensures whole { result ≡ Some 0 → WroteRun (F.contents files.old) (request_of (map string_bytes words.now.items)) (K.written out.old) (K.written out.new) }
-    ensures report { result ≡ Some 1 → WroteReport (F.contents files.old) (request_of (map string_bytes words.now.items)) (K.written out.old) (K.written out.new) }
-
-    // Only where a file that the words name can't be read.
-    ensures read { result ≡ Some 3 → ReadFailed (request_of (map string_bytes words.now.items)) (F.faults files.old) (F.faults files.new) }
-    ensures nothing { (result ≡ Some 2) ⊎ (result ≡ Some 3) → K.written out.new ≡ K.written out.old }
-
-    // Only where the sink failed, or a file that the command writes.
-    ensures write { result ≡ Some 4 → Rose (K.faults out.old) (K.faults out.new) ⊎ WriteFailed (request_of (map string_bytes words.now.items)) (F.faults files.old) (F.faults files.new) }
-    ensures front { result ≡ Some 4 → WroteFront (F.contents files.old) (request_of (map string_bytes words.now.items)) (K.written out.old) (K.written out.new) }
-    ensures memory { result ≡ Some 5 → (K.written out.new ≡ K.written out.old) ⊎ WroteFront (F.contents files.old) (request_of (map string_bytes words.now.items)) (K.written out.old) (K.written out.new) }
-
-    // No fault of the outside is passed over: the first one ends the work. The sink is left alone before all
-    // files are read, and the files before all words are.
-    ensures quiet { (result ≡ Some 0) ⊎ (result ≡ Some 1) → K.faults out.new ≡ K.faults out.old }
-    ensures were_read { (result ≡ Some 0) ⊎ (result ≡ Some 1) ⊎ (result ≡ Some 4) → F.faults files.new ≡ F.faults files.old }
-    ensures untouched { (result ≡ Some 2) ⊎ (result ≡ Some 3) → out.new ≡ out.old }
-    ensures unread { result ≡ Some 2 → files.new ≡ files.old }
-
-    // No file changes, and no other name is read.
-    ensures contents { F.contents files.new ≡ F.contents files.old }
-    ensures calls { FailedAtMost (request_of (map string_bytes words.now.items)) (F.faults files.old) (F.faults files.new) }
-
-    // The work is done, or memory is short, where it can be done and nothing outside fails.
-    ensures complete { IsFit (F.contents files.old) (request_of (map string_bytes words.now.items)) → F.faults files.new ≡ F.faults files.old → (Rose (K.faults out.old) (K.faults out.new) → ⊥) → (result ≡ Some 0) ⊎ (result ≡ Some 5) }
-
-    // The report of a stage that has a fault is written, or memory is short, where nothing outside fails.
-    ensures reported { HasReport (F.contents files.old) (request_of (map string_bytes words.now.items)) → F.faults files.new ≡ F.faults files.old → (Rose (K.faults out.old) (K.faults out.new) → ⊥) → (result ≡ Some 1) ⊎ (result ≡ Some 5) }
+    ensures promises { IfSome result (λ status. Promises (request_of (map string_bytes words.now.items)) (shown (F.contents files.old) (F.faults files.old) (K.written out.old) (K.faults out.old)) (shown (F.contents files.new) (F.faults files.new) (K.written out.new) (K.faults out.new)) status) }
+    ensures untouched { (result ≡ Some USAGE) ⊎ (result ≡ Some UNREAD) → out.new ≡ out.old }
+    ensures unread { result ≡ Some USAGE → files.new ≡ files.old }
 {
     let _gate = gate;
     let Some(asked) = request(words.as_slice()) else {
-        return Some(2);
+        return Some(USAGE);
     };
     Some(work(alloc, asked.main, asked.files, files, out))
 }
@@ -151,17 +109,11 @@ pub fn kilim_in_memory<G: Gate>(
     gate: &G,
 ) -> Option<u8>
     ensures answers { IsSome result }
-    ensures one_of { (result ≡ Some 0) ⊎ (result ≡ Some 1) ⊎ (result ≡ Some 2) ⊎ (result ≡ Some 5) }
-    ensures contents { files_of files.new.files ≡ files_of files.old.files }
-    ensures nothing { result ≡ Some 2 → out.new ≡ out.old }
-    ensures memory { result ≡ Some 5 → (out.new.bytes ≡ out.old.bytes) ⊎ WroteFront (Some (files_of files.old.files)) (request_of (map string_bytes words.now.items)) (Some out.old.bytes) (Some out.new.bytes) }
-    ensures no_read { result ≡ Some 3 → ⊥ }
-    ensures no_write { result ≡ Some 4 → ⊥ }
-    ensures complete { IsFit (Some (files_of files.old.files)) (request_of (map string_bytes words.now.items)) → (result ≡ Some 0) ⊎ (result ≡ Some 5) }
-    ensures reported { HasReport (Some (files_of files.old.files)) (request_of (map string_bytes words.now.items)) → (result ≡ Some 1) ⊎ (result ≡ Some 5) }
-    ensures whole { result ≡ Some 0 → WroteRun (Some (files_of files.old.files)) (request_of (map string_bytes words.now.items)) (Some out.old.bytes) (Some out.new.bytes) }
-    ensures report { result ≡ Some 1 → WroteReport (Some (files_of files.old.files)) (request_of (map string_bytes words.now.items)) (Some out.old.bytes) (Some out.new.bytes) }
-    ensures usage { (result ≡ Some 2) ↔ (request_of (map string_bytes words.now.items) ≡ None) }
+    ensures promises { IfSome result (λ status. Promises (request_of (map string_bytes words.now.items)) (shown (Some (files_of files.old.files)) [] (Some out.old.bytes) 0) (shown (Some (files_of files.new.files)) [] (Some out.new.bytes) 0) status) }
+    ensures one_of { (result ≡ Some DONE) ⊎ (result ≡ Some REPORTED) ⊎ (result ≡ Some USAGE) ⊎ (result ≡ Some NO_MEMORY) }
+    ensures untouched { result ≡ Some USAGE → out.new ≡ out.old }
+    ensures complete { IsFit (Some (files_of files.old.files)) (request_of (map string_bytes words.now.items)) → (result ≡ Some DONE) ⊎ (result ≡ Some NO_MEMORY) }
+    ensures reported { HasReport (Some (files_of files.old.files)) (request_of (map string_bytes words.now.items)) → (result ≡ Some REPORTED) ⊎ (result ≡ Some NO_MEMORY) }
 {
     kilim_alone(alloc, words, files, out, gate)
 }
@@ -176,40 +128,9 @@ pub fn kilim<R: Threads + Wait + Sync, F: Folder, K: TextSink, G: Gate>(
     out: &mut K,
     gate: &G,
 ) -> u8
-    ensures status { result ≤ 5 }
-
-    // Where the words aren't in the grammar, and only there.
-    ensures usage { (result ≡ 2) ↔ (request_of (map string_bytes words.now.items) ≡ None) }
-
-    // What was written at status 0 and 1: the journal of a whole run, and one report.
-    ensures whole { result ≡ 0 → WroteRun (F.contents files.old) (request_of (map string_bytes words.now.items)) (K.written out.old) (K.written out.new) }
-    ensures report { result ≡ 1 → WroteReport (F.contents files.old) (request_of (map string_bytes words.now.items)) (K.written out.old) (K.written out.new) }
-
-    // Only where a file that the words name can't be read.
-    ensures read { result ≡ 3 → ReadFailed (request_of (map string_bytes words.now.items)) (F.faults files.old) (F.faults files.new) }
-    ensures nothing { (result ≡ 2) ⊎ (result ≡ 3) → K.written out.new ≡ K.written out.old }
-
-    // Only where the sink failed, or a file that the command writes.
-    ensures write { result ≡ 4 → Rose (K.faults out.old) (K.faults out.new) ⊎ WriteFailed (request_of (map string_bytes words.now.items)) (F.faults files.old) (F.faults files.new) }
-    ensures front { result ≡ 4 → WroteFront (F.contents files.old) (request_of (map string_bytes words.now.items)) (K.written out.old) (K.written out.new) }
-    ensures memory { result ≡ 5 → (K.written out.new ≡ K.written out.old) ⊎ WroteFront (F.contents files.old) (request_of (map string_bytes words.now.items)) (K.written out.old) (K.written out.new) }
-
-    // No fault of the outside is passed over: the first one ends the work. The sink is left alone before all
-    // files are read, and the files before all words are.
-    ensures quiet { (result ≡ 0) ⊎ (result ≡ 1) → K.faults out.new ≡ K.faults out.old }
-    ensures were_read { (result ≡ 0) ⊎ (result ≡ 1) ⊎ (result ≡ 4) → F.faults files.new ≡ F.faults files.old }
-    ensures untouched { (result ≡ 2) ⊎ (result ≡ 3) → out.new ≡ out.old }
-    ensures unread { result ≡ 2 → files.new ≡ files.old }
-
-    // No file changes, and no other name is read.
-    ensures contents { F.contents files.new ≡ F.contents files.old }
-    ensures calls { FailedAtMost (request_of (map string_bytes words.now.items)) (F.faults files.old) (F.faults files.new) }
-
-    // The work is done, or memory is short, where it can be done and nothing outside fails.
-    ensures complete { IsFit (F.contents files.old) (request_of (map string_bytes words.now.items)) → F.faults files.new ≡ F.faults files.old → (Rose (K.faults out.old) (K.faults out.new) → ⊥) → (result ≡ 0) ⊎ (result ≡ 5) }
-
-    // The report of a stage that has a fault is written, or memory is short, where nothing outside fails.
-    ensures reported { HasReport (F.contents files.old) (request_of (map string_bytes words.now.items)) → F.faults files.new ≡ F.faults files.old → (Rose (K.faults out.old) (K.faults out.new) → ⊥) → (result ≡ 1) ⊎ (result ≡ 5) }
+    ensures promises { Promises (request_of (map string_bytes words.now.items)) (shown (F.contents files.old) (F.faults files.old) (K.written out.old) (K.faults out.old)) (shown (F.contents files.new) (F.faults files.new) (K.written out.new) (K.faults out.new)) result }
+    ensures untouched { (result ≡ USAGE) ⊎ (result ≡ UNREAD) → out.new ≡ out.old }
+    ensures unread { result ≡ USAGE → files.new ≡ files.old }
 {
     let _rt = rt;
     kilim_alone(alloc, words, files, out, gate).unwrap()

@@ -2,7 +2,7 @@ use Rattle.std.proofs.Common.{sym, arith}
 use Rattle.std.specs.Prelude.{FitsSigned}
 use Rattle.std.specs.Int.{w8}
 use Rattle.std.proofs.lemmas.Int.{to_z-of_z}
-use Rattle.kilim_top.specs.SmallProgram.{prints_from}
+use Rattle.kilim_top.specs.Inside.SmallProgram.{prints_from}
 use Rattle.kilim_top.proofs.Prints.{goes_on, is_over, is_none, all_push}
 use Rattle.kilim_top.proofs.small.prints_in.Goals as goal
 

@@ -2,7 +2,7 @@ use Rattle.std.proofs.Common.{◌≡◌, ◌<◌, ◌^◌, length}
 use Rattle.std.specs.Prelude.{FitsSigned}
 use Rattle.std.specs.List.{AllByRecursion}
 use Rattle.std.specs.Int.{w8}
-use Rattle.kilim_top.specs.SmallProgram.{prints_from}
+use Rattle.kilim_top.specs.Inside.SmallProgram.{prints_from}
 use Rattle.kilim_top.proofs.Prints.{with_prints}
 use Rattle.kilim_top.proofs.small.prints_in.Given as goal
 

@@ -110,9 +110,9 @@ takes_nothing m = (length m.params == 0 && is_none m.result) && (length m.qualif
 unfoldable pub is_plain_method : Method → Bool
 is_plain_method m = (not m.is_static && not m.is_private) && (not m.is_abstract && not m.built_in)
 
--- there is room for a word and a local at least, and no frame is declared
+-- there is room for a word and a local at least, and no frame and no handler is declared
 unfoldable pub has_room : Method → Bool
-has_room m = nat_lt 0 m.max_stack && (nat_lt 0 m.max_locals && length m.frames == 0)
+has_room m = nat_lt 0 m.max_stack && (nat_lt 0 m.max_locals && (length m.frames == 0 && length m.handlers == 0))
 
 -- a method of the class with that name, without parameters and result
 unfoldable pub is_small_method : List ℕ → Bool → Method → Bool
