@@ -12,4 +12,4 @@ pub use kilim_pausable_graph::Report;
 pub use laws::{accepted_goes_on, examples_hold};
 pub use merge::{append, merged};
 pub use shape::Shape;
-pub use walk::{declared_at, exits_at, frame_at, whole};
+pub use walk::{declared_at, exits_at, frame_at, step, whole};

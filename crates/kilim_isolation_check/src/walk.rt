@@ -8,11 +8,15 @@ ghost use Rattle.kilim_classes.specs.Keeps.{code_is_whole};
 ghost use Rattle.kilim_classes.specs.Lengths.{fetched, first_place};
 ghost use Rattle.kilim_classes.specs.Names.{method_at};
 ghost use Rattle.kilim_typing.specs.Typed.{declared, frame_types};
-ghost use Rattle.kilim_isolation_check.specs.Answers.{looked};
+ghost use Rattle.kilim_isolation_rules.specs.Answers.{IsStep};
+ghost use Rattle.kilim_isolation_check.specs.Answers.{IsStepOf, looked};
 ghost use Rattle.kilim_isolation_check.specs.Walks as spec;
 
 use crate::exits::exits_of;
 use kilim_classes::{Frame, Instr, Method, MethodId, Program};
+use kilim_isolation_rules::StepFault;
+use kilim_isolation_step::transfer;
+use kilim_shape_graph::Graph;
 use kilim_units::{NoMemory, Seq};
 use std::alloc::Global;
 
@@ -84,5 +88,56 @@ pub fn exits_at(alloc: Global, method: &Method, place: u32) -> Result<Seq<Option
     match fetch(method, place) {
         None => Ok(Seq::new(alloc)),
         Some((instr, next)) => exits_of(alloc, instr, next),
+    }
+}
+
+// A step of an instruction, with the verified frame there.
+fn step_by(
+    alloc: Global,
+    program: &Program,
+    method: &Method,
+    graph: &Graph,
+    before: &Frame,
+    instr: &Instr,
+    after: Option<&Frame>,
+) -> Result<Graph, StepFault>
+    ensures { IsStepOf program.now method.now graph.now (frame_types before.now) instr.now (option_map frame_types (option_copied after.entry)) result }
+{
+    let graph = transfer(alloc, program, method, graph, before, instr, after)?;
+    match graph.canonical(alloc, after) {
+        Ok(graph) => Ok(graph),
+        Err(NoMemory) => Err(StepFault::Memory),
+    }
+}
+
+/// The step at a place towards an exit: the graph there in its canonical form, or the least rule that is broken.
+#[tactic(auto, unfolding(crate::specs::Walks::step))]
+pub fn step(
+    alloc: Global,
+    program: &Program,
+    method: &Method,
+    frames: &[Frame],
+    place: u32,
+    graph: &Graph,
+    exit: Option<u32>,
+) -> Result<Graph, StepFault>
+    ensures { IsStep (spec.step program.now method.now frames.now place graph.now exit) result }
+{
+    let Some((instr, _)) = fetch(method, place) else {
+        return Err(StepFault::Rule(0));
+    };
+    let after = match exit {
+        None => None,
+        Some(to) => declared_at(method, to),
+    };
+    match frame_at(method, frames, place) {
+        Some(before) => step_by(alloc, program, method, graph, before, instr, after),
+        None => {
+            let nothing = Frame {
+                locals: Seq::new(alloc),
+                stack: Seq::new(alloc),
+            };
+            step_by(alloc, program, method, graph, &nothing, instr, after)
+        }
     }
 }
