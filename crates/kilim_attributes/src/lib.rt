@@ -20,4 +20,3 @@ pub use kilim_attribute_parts::{
 pub use laws::{attributes_are_cut_or_broken, attributes_are_spelled};
 pub use reading::{read_again, read_all};
 pub use writing::write_all;
-

@@ -16,4 +16,3 @@ pub use entry::Entry;
 pub use fault::{AddFault, PoolFault};
 pub use pool::Pool;
 pub use reading::{pool_is_cut_or_broken, pool_is_spelled};
-

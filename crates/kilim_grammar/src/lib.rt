@@ -10,4 +10,3 @@ mod writing;
 
 pub use numbers::{bytes_at, u8_at, u16_at, u32_at, u64_at};
 pub use writing::{push_u8, push_u16, push_u32, push_u64};
-

@@ -53,7 +53,13 @@ fn is_new(instr: &Instr) -> bool
 
 // The types that an instruction leaves, or none where it breaks a rule of typing.
 #[tactic(auto, using(crate::proofs::Left::left_new, crate::proofs::Left::left_else))]
-fn left(alloc: Global, program: &Program, method: &Method, before: &Frame, instr: &Instr) -> Result<Option<State>, NoMemory>
+fn left(
+    alloc: Global,
+    program: &Program,
+    method: &Method,
+    before: &Frame,
+    instr: &Instr,
+) -> Result<Option<State>, NoMemory>
     ensures { IfOk result (λ left. IsLeft (spec.left_by program.now method.now instr.now (frame_types before.now)) left) }
 {
     let mut state = state_of(alloc, before)?;
@@ -76,7 +82,14 @@ fn turned(alloc: Global, types: &[VType]) -> Result<Vec<VType>, NoMemory>
 }
 
 // Whether a tree becomes private in the frame that is declared at the next place, where one is.
-fn flows_mix(alloc: Global, program: &Program, method: &Method, before: &Frame, instr: &Instr, after: Option<&Frame>) -> Result<bool, NoMemory>
+fn flows_mix(
+    alloc: Global,
+    program: &Program,
+    method: &Method,
+    before: &Frame,
+    instr: &Instr,
+    after: Option<&Frame>,
+) -> Result<bool, NoMemory>
     ensures { IfOk result (λ mix. mix ≡ spec.any_flow_mixes program.now (spec.left_by program.now method.now instr.now (frame_types before.now)) (option_map frame_types (option_copied after.entry))) }
 {
     let Some(frame) = after else {
@@ -87,14 +100,25 @@ fn flows_mix(alloc: Global, program: &Program, method: &Method, before: &Frame, 
     };
     let from = turned(alloc, state.stack())?;
     let into = turned(alloc, frame.stack.as_slice())?;
-    Ok(any_mixes(program, state.locals(), frame.locals.as_slice()) || any_mixes(program, &from, &into))
+    Ok(
+        any_mixes(program, state.locals(), frame.locals.as_slice())
+            || any_mixes(program, &from, &into),
+    )
 }
 
 /// The graph that an instruction leaves, or the least of the rules 1 to 7 and 9 that it breaks. `before` is the verified frame at
 /// the instruction, `after` the one that is declared at the next place of the path, or none. The graph is the one before its
 /// canonical form at the next place is taken.
 #[tactic(auto, unfolding(kilim_isolation_rules::specs::Rules::moves))]
-pub fn transfer(alloc: Global, program: &Program, method: &Method, graph: &Graph, before: &Frame, instr: &Instr, after: Option<&Frame>) -> Result<Graph, StepFault>
+pub fn transfer(
+    alloc: Global,
+    program: &Program,
+    method: &Method,
+    graph: &Graph,
+    before: &Frame,
+    instr: &Instr,
+    after: Option<&Frame>,
+) -> Result<Graph, StepFault>
     ensures { IsStep (spec.moves program.now method.now graph.now (frame_types before.now) instr.now (option_map frame_types (option_copied after.entry))) result }
 {
     let types = match turned(alloc, before.stack.as_slice()) {

@@ -6,4 +6,3 @@ mod names;
 
 pub use class_lines::class_line;
 pub use names::{descriptor_text, member_name_text};
-
