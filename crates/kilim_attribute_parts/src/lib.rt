@@ -26,4 +26,3 @@ pub use frame_writing::push_frames;
 pub use index::{EntryKind, index_at};
 pub use laws::parts_are_spelled;
 pub use name::{AttributeName, named};
-

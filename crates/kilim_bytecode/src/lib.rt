@@ -16,4 +16,3 @@ pub use fault::CodeFault;
 pub use laws::{one_code, one_fault, targets_are_places};
 pub use reading::decode;
 pub use writing::encode;
-

@@ -14,4 +14,3 @@ pub use class_file::{ClassFile, MemberInfo};
 pub use fault::{ClassFault, MemberName};
 pub use reading::{class_file_is_spelled, faults_are_true, read};
 pub use writing::write;
-

@@ -10,4 +10,3 @@ pub use fault::DescriptorFault;
 pub use fields::{any_field, field};
 pub use methods::{any_method, argument_slots, method};
 pub use types::{BaseText, FieldText, MethodText};
-

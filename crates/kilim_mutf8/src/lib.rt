@@ -12,4 +12,3 @@ mod writing;
 pub use fault::TextFault;
 pub use reading::read;
 pub use writing::{one_spelling, units_are_spelled, write};
-

@@ -6,8 +6,8 @@ ghost use Rattle.kilim_nearest.specs.Keyed.{Keyed, AllKeyed};
 
 use crate::said::Said;
 use kilim_inherited::Entry;
-use kilim_units::{NoMemory, Seq};
 use kilim_signatures::Numbers;
+use kilim_units::{NoMemory, Seq};
 use std::alloc::Global;
 
 /// What a class says; its names get numbers where they have none.

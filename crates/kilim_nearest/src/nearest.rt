@@ -5,10 +5,10 @@ ghost use Rattle.kilim_nearest.specs.Known.{known, KeysNamed, KnowsNone, KnowsSo
 
 use crate::entries::all_entries;
 use crate::said::Said;
-use kilim_inherited::Inherited;
 use kilim_classes::ClassId;
-use kilim_units::{NoMemory, Seq};
+use kilim_inherited::Inherited;
 use kilim_signatures::{Numbers, Signature};
+use kilim_units::{NoMemory, Seq};
 use std::alloc::Global;
 
 /// What each class inherits of each member that some class says something of.

@@ -19,4 +19,3 @@ pub use instr::RawInstr;
 pub use laws::{lengths, one_spelling};
 pub use reading::read_instr;
 pub use writing::write_instr;
-
