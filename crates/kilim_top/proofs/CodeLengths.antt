@@ -3,7 +3,6 @@ use Rattle.std.proofs.Common.{◌≡◌, ℕ, suc, ◌<◌, true, List, [], ◌�
 use Rattle.std.specs.Prelude.{nat_lt}
 use Rattle.std.specs.List.{filter_map, cons_option, flat_map, list_all, AllByRecursion}
 use Rattle.std.proofs.lemmas.Bool.{and_parts, ltb-true}
-use Rattle.std.proofs.lemmas.Option.{same_Some}
 use Rattle.kilim_attributes.specs.declared.attribute.Attribute.{Attribute}
 use Rattle.kilim_attributes.specs.declared.attribute.Code.{Code}
 use Rattle.kilim_attributes.specs.declared.attribute.Info.{Info}
@@ -107,17 +106,20 @@ short_members w n (file ∷ files) fit =
     all_append ShortMethod (map (linked_method w file (class_id n)) file.methods) (flat_map itself (numbered (λ file c. map (linked_method w file c) file.methods) (suc n) files))
     (short_methods w file (class_id n) file.methods fit.0.parts.methods.1) (short_members w (suc n) files fit.1)
 
+some_is : {A : Type 0} (x y : A) → Some x ≡ Some y → x ≡ y
+some_is x y e = cc
+
 not_some : {A : Type 0} (o : Option A) (y : A) → o ≡ None → o ≡ Some y → ⊥
 not_some o y n e = cc
 
 first_is : (x : Option Method) (others : Option (List Method)) (ys : List Method) → with_first x others ≡ Some ys → (m : Method) × (ms : List Method) × (x ≡ Some m) × (others ≡ Some ms) × (m ∷ ms ≡ ys)
-first_is (Some m) (Some ms) ys e = (m, ms, refl, refl, same_Some (m ∷ ms) ys e)
+first_is (Some m) (Some ms) ys e = (m, ms, refl, refl, some_is (m ∷ ms) ys e)
 first_is (Some m) None ys e = absurd (not_some None ys refl e)
 first_is None (Some ms) ys e = absurd (not_some None ys refl e)
 first_is None None ys e = absurd (not_some None ys refl e)
 
 each_short : (xs : List (Option Method)) (ys : List Method) → each_of itself xs ≡ Some ys → AllByRecursion ShortMethod xs → AllByRecursion IsShort ys
-each_short [] ys e all = subst (λ (ms : List Method). AllByRecursion IsShort ms) (same_Some [] ys e) tt
+each_short [] ys e all = subst (λ (ms : List Method). AllByRecursion IsShort ms) (some_is [] ys e) tt
 each_short (x ∷ xs) ys e all =
     let f = first_is x (each_of itself xs) ys e in
     subst (λ (ms : List Method). AllByRecursion IsShort ms) f.4 (subst (λ (o : Option Method). ShortMethod o) f.2 all.0, each_short xs f.1 f.3 all.1)

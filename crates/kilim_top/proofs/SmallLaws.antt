@@ -6,8 +6,6 @@ use Rattle.std.specs.List.{AllByRecursion}
 use Rattle.std.specs.Str.{bytes_eq}
 use Rattle.std.proofs.lemmas.Bool.{and_parts, and_from, not-true, eqb-true, eq-eqb, ltb-true, lt-ltb}
 use Rattle.std.proofs.lemmas.List.{length-append}
-use Rattle.std.proofs.lemmas.Option.{same_Some}
-use Rattle.kilim_lemmas.proofs.Texts.{text_is}
 use Rattle.kilim_classes.specs.declared.class.Class.{Class}
 use Rattle.kilim_classes.specs.declared.class.Form.{Form}
 use Rattle.kilim_classes.specs.declared.class.Form.TheVariants.{Plain, Woven}
@@ -30,6 +28,9 @@ use Rattle.kilim_top.specs.SmallFound.{AreBytesOf, CodeIsShort, IsFound}
 
 -- ---- what is found
 
+some_is : {A : Type 0} (x y : A) → Some x ≡ Some y → x ≡ y
+some_is x y e = cc
+
 not_some : {A : Type 0} (o : Option A) (y : A) → o ≡ None → o ≡ Some y → ⊥
 not_some o y n e = cc
 
@@ -40,7 +41,7 @@ given_some false r y e = absurd (not_some None y refl e)
 -- ---- instructions
 
 byte_is : (i : Instr) (n : ℤ) → byte_of i ≡ Some n → i ≡ Bipush n
-byte_is (Bipush k) n e = ap (λ (m : ℤ). Bipush m) (same_Some k n e)
+byte_is (Bipush k) n e = ap (λ (m : ℤ). Bipush m) (some_is k n e)
 byte_is i n e = absurd (not_some None n refl e)
 
 load_is : (i : Instr) → is_load i ≡ true → i ≡ Aload 0
@@ -83,14 +84,14 @@ byte_stands at e n t =
 and_print_some : (first : Option ℤ) (rest : Option (List ℤ)) (ns : List ℤ) → and_print first rest ≡ Some ns → (m : ℤ) × (ms : List ℤ) × (first ≡ Some m) × (rest ≡ Some ms) × (m ∷ ms ≡ ns)
 and_print_some None rest ns e = absurd (not_some None ns refl e)
 and_print_some (Some m) None ns e = absurd (not_some None ns refl e)
-and_print_some (Some m) (Some ms) ns e = (m, ms, refl, refl, same_Some (m ∷ ms) ns e)
+and_print_some (Some m) (Some ms) ns e = (m, ms, refl, refl, some_is (m ∷ ms) ns e)
 
 prints_are : (at : ℕ) (code : List Placed) (ns : List ℤ) → prints_from at code ≡ Some ns → code ≡ print_code at ns
 unfolding prints_from
 prints_are at [] ns e = absurd (not_some None ns refl e)
 prints_are at (a ∷ []) ns e =
     let parts = given_some (stands is_return at a) (Some []) ns e in
-    subst (λ (ms : List ℤ). a ∷ [] ≡ print_code at ms) (same_Some [] ns parts.1) (ap (λ (x : Placed). x ∷ []) (stands_is is_return Return return_is at a parts.0))
+    subst (λ (ms : List ℤ). a ∷ [] ≡ print_code at ms) (some_is [] ns parts.1) (ap (λ (x : Placed). x ∷ []) (stands_is is_return Return return_is at a parts.0))
 prints_are at (a ∷ b ∷ code) ns e =
     let parts = given_some (stands is_print (at + 2) b) (and_print (byte_at at a) (prints_from (at + 5) code)) ns e in
     let more = and_print_some (byte_at at a) (prints_from (at + 5) code) ns parts.1 in
@@ -151,6 +152,14 @@ class_is c s named e =
     same
 
 -- ---- its methods
+
+bytes_are : (xs ys : List ℕ) → bytes_eq xs ys ≡ true → xs ≡ ys
+bytes_are [] [] e = refl
+bytes_are [] (y ∷ ys) e = absurd (cc)
+bytes_are (x ∷ xs) [] e = absurd (cc)
+bytes_are (x ∷ xs) (y ∷ ys) e =
+    let p = and_parts (eqb x y) (bytes_eq xs ys) e in
+    ap (λ (n : ℕ). n ∷ xs) (eqb-true x y p.0) ∙ ap (λ (zs : List ℕ). y ∷ zs) (bytes_are xs ys p.1)
 
 none_is : {A : Type 0} (o : Option A) → is_none o ≡ true → o ≡ None
 none_is None e = refl
@@ -216,7 +225,7 @@ method_is m name pausable e =
     let room = and_parts (nat_lt 0 m.max_stack) (nat_lt 0 m.max_locals && eqb (length m.frames) 0) t.1 in
     let locals = and_parts (nat_lt 0 m.max_locals) (eqb (length m.frames) 0) room.1 in
     record {
-      is = same_method m name pausable (text_is m.name name q.0) (owner_is m.owner 0 (eqb-true m.owner.0 0 r.0)) (nothing_is m.params params.0) (none_is m.result params.1) (not-true m.is_static instance.0) (not-true m.is_private instance.1)
+      is = same_method m name pausable (bytes_are m.name name q.0) (owner_is m.owner 0 (eqb-true m.owner.0 0 r.0)) (nothing_is m.params params.0) (none_is m.result params.1) (not-true m.is_static instance.0) (not-true m.is_private instance.1)
           (not-true m.is_abstract concrete.0) (not-true m.built_in concrete.1) (flag_is m.pausable pausable r.1) (cuttable_is m.receiver qualifiers.1) (nothing_is m.qualifiers qualifiers.0) (nothing_is m.frames locals.1);
       stack = ltb-true 0 m.max_stack room.0;
       locals = ltb-true 0 m.max_locals locals.0;
@@ -250,7 +259,7 @@ with_some : (c : Class) (m n : Method) (o : Option (List ℤ)) (s : Small) → s
 with_some c m n None s e = absurd (not_some None s refl e)
 with_some c m n (Some ns) s e =
     let p = given_some (is_length (length ns) n.code_length) (Some (made c m n ns)) s e in
-    (ns, refl, p.0, same_Some (made c m n ns) s p.1)
+    (ns, refl, p.0, some_is (made c m n ns) s p.1)
 
 constructor_is : (m : Method) (s : Small) → m.max_stack ≡ s.constructor_stack → m.max_locals ≡ s.constructor_locals → IsMethod (codes "<init>") false m → m.code_length ≡ 5 → m.code ≡ constructor_code → m ≡ small_constructor s
 constructor_is m s a b is len code = is.is ∙ rw (a, b, len, code) refl

@@ -6,7 +6,6 @@ use Rattle.std.specs.List.{AllByRecursion}
 use Rattle.std.specs.Str.{bytes_eq}
 use Rattle.std.proofs.lemmas.Bool.{eq-eqb}
 use Rattle.std.proofs.lemmas.Int.{ints}
-use Rattle.kilim_lemmas.proofs.Texts.{same_text}
 use Rattle.kilim_classes.specs.declared.names.ClassId.{ClassId}
 use Rattle.kilim_classes.specs.Names.{class_named}
 use Rattle.kilim_classes.specs.Program.{Program}
@@ -41,11 +40,14 @@ same_bytes : (xs : List ℕ) → bytes_eq xs xs ≡ true
 same_bytes [] = refl
 same_bytes (x ∷ xs) = rw (eq-eqb x x refl) (same_bytes xs)
 
+bytes_eq_same : (xs ys : List ℕ) → xs ≡ ys → bytes_eq xs ys ≡ true
+bytes_eq_same xs ys e = subst (λ (zs : List ℕ). bytes_eq xs zs ≡ true) e (same_bytes xs)
+
 chosen_class : (b : Bool) (x y : Option ClassId) → b ≡ true → cond b x y ≡ x
 chosen_class b x y e = rw e refl
 
 first_class : (s : Small) (units : List ℕ) → s.name ≡ units → class_named (small_program s) units ≡ Some (record { 0 = 0 })
-first_class s units e = chosen_class (bytes_eq s.name units) _ _ (same_text s.name units e)
+first_class s units e = chosen_class (bytes_eq s.name units) _ _ (bytes_eq_same s.name units e)
 
 -- ---- the run
 
