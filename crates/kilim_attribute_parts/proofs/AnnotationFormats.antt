@@ -2,7 +2,7 @@
 use Rattle.std.proofs.Common.{◌≡◌, ℕ, ◌+◌, ◌^◌, ◌<◌, Bool, true, false, eqb, List, [], ◌++◌, length, Ok, Err, refl, sym, ap, ◌∙◌, arith, inl, inr, ◌⊎◌}
 use Rattle.std.specs.Prelude.{◌||◌}
 use Rattle.std.specs.Int.{w16}
-use Rattle.std.proofs.lemmas.Bool.{eqb-true}
+use Rattle.std.proofs.lemmas.Bool.{eqb-true, or_cases}
 use Rattle.std.proofs.lemmas.List.{length-append}
 use Rattle.kilim_grammar.specs.Reader.{number_at, both}
 use Rattle.kilim_grammar.specs.Spelling.{u2}
@@ -20,26 +20,21 @@ use Rattle.kilim_attribute_parts.specs.Annotations.{is_integer_tag, is_constant_
 use Rattle.kilim_attribute_parts.proofs.Choices.{Spelled, either, by_refused, by_given, by_made, Tagged, by_tag}
 use Rattle.kilim_attribute_parts.proofs.Indices.{index_format}
 
--- a test of two that passed
-one_passed : (a b : Bool) → (a || b) ≡ true → (a ≡ true) ⊎ (b ≡ true)
-one_passed true b e = inl refl
-one_passed false b e = inr e
-
 -- such a tag is no other one
 constant_tags : (tag : ℕ) → is_constant_tag tag ≡ true → tag < 2 ^ 8
 constant_tags tag h =
-    elim (one_passed (is_integer_tag tag) _ h) [
+    elim (or_cases (is_integer_tag tag) _ h) [
       | inl i ↦
-          elim (one_passed (eqb tag 66) _ i) [
+          elim (or_cases (eqb tag 66) _ i) [
             | inl e ↦ let is = eqb-true tag 66 e in omega arith
             | inr n ↦
-                elim (one_passed (eqb tag 67) _ n) [
+                elim (or_cases (eqb tag 67) _ n) [
                   | inl e ↦ let is = eqb-true tag 67 e in omega arith
                   | inr n ↦
-                      elim (one_passed (eqb tag 73) _ n) [
+                      elim (or_cases (eqb tag 73) _ n) [
                         | inl e ↦ let is = eqb-true tag 73 e in omega arith
                         | inr n ↦
-                            elim (one_passed (eqb tag 83) _ n) [
+                            elim (or_cases (eqb tag 83) _ n) [
                               | inl e ↦ let is = eqb-true tag 83 e in omega arith
                               | inr e ↦ let is = eqb-true tag 90 e in omega arith
                             ]
@@ -47,13 +42,13 @@ constant_tags tag h =
                 ]
           ]
       | inr n ↦
-          elim (one_passed (eqb tag 68) _ n) [
+          elim (or_cases (eqb tag 68) _ n) [
             | inl e ↦ let is = eqb-true tag 68 e in omega arith
             | inr n ↦
-                elim (one_passed (eqb tag 70) _ n) [
+                elim (or_cases (eqb tag 70) _ n) [
                   | inl e ↦ let is = eqb-true tag 70 e in omega arith
                   | inr n ↦
-                      elim (one_passed (eqb tag 74) _ n) [
+                      elim (or_cases (eqb tag 74) _ n) [
                         | inl e ↦ let is = eqb-true tag 74 e in omega arith
                         | inr e ↦ let is = eqb-true tag 115 e in omega arith
                       ]

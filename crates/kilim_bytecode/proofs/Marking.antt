@@ -3,22 +3,15 @@ use Rattle.std.proofs.Common.{◌≡◌, ℕ, zero, suc, ◌+◌, ◌<◌, ◌�
 use Rattle.std.specs.Prelude.{not}
 use Rattle.std.specs.List.{find, AllByRecursion}
 use Rattle.std.proofs.Math.Seq.{take-suc}
-use Rattle.std.proofs.lemmas.Bool.{eqb-true, eq-eqb}
+use Rattle.std.proofs.lemmas.Bool.{eqb-true, eq-eqb, cases_Bool}
 use Rattle.std.proofs.lemmas.List.{length-drop, nil_from_length}
+use Rattle.kilim_lemmas.proofs.Truth.{differ, or_false}
 use Rattle.kilim_bytecode.specs.Code.{Placed, targets_of, is_at, is_place, with_place, first_failing}
 use Rattle.kilim_bytecode.specs.Marks.{is_marked, PlacesBelow}
-
-test : (b : Bool) → (b ≡ true) ⊎ (b ≡ false)
-test true = inl refl
-test false = inr refl
 
 or_true : (b : Bool) → (b || true) ≡ true
 or_true true = refl
 or_true false = refl
-
-or_false : (b : Bool) → (b || false) ≡ b
-or_false true = refl
-or_false false = refl
 
 or_assoc : (a b c : Bool) → (a || (b || c)) ≡ ((a || b) || c)
 or_assoc true b c = refl
@@ -30,13 +23,10 @@ unfolding is_place
 place_more [] p to = or_false (is_at to p.0)
 place_more (q ∷ code) p to = ap (λ (b : Bool). is_at to q.0 || b) (place_more code p to) ∙ or_assoc (is_at to q.0) (is_place code to) (is_at to p.0)
 
-differ : (b : Bool) → b ≡ true → b ≡ false → ⊥
-differ b e f = let both : true ≡ false = sym e ∙ f in cc
-
 mark_more : (marks : List Bool) (at : ℕ) (to : ℤ) → at < length marks → is_marked (set marks at true) to ≡ (is_marked marks to || is_at to at)
 mark_more marks at (negsuc n) lt = refl
 mark_more marks at (pos k) lt =
-    elim (test (eqb k at)) [
+    elim (cases_Bool (eqb k at)) [
       | inl same ↦
           let is : k ≡ at = eqb-true k at same in
           rw (same, is) (get_or-set_same marks at true false lt ∙ sym (or_true (get_or marks at false)))

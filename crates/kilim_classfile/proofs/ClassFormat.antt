@@ -3,7 +3,7 @@ use Rattle.std.proofs.Common.{◌≡◌, ◌==◌, ℕ, ◌+◌, ◌^◌, ◌<�
 use Rattle.std.specs.Prelude.{◌&&◌}
 use Rattle.std.specs.List.{flat_map, AllByRecursion}
 use Rattle.std.specs.Int.{w16}
-use Rattle.std.proofs.lemmas.Bool.{eqb-true, eq-eqb}
+use Rattle.std.proofs.lemmas.Bool.{eqb-true, eq-eqb, and_parts, and_from}
 use Rattle.kilim_grammar.specs.Reader.{Reader}
 use Rattle.kilim_grammar.specs.Spelling.{u2, u4, list_text}
 use Rattle.kilim_grammar.proofs.Bytes.{wide16}
@@ -24,13 +24,6 @@ use Rattle.kilim_classfile.specs.declared.fault.ClassFault.TheVariants as fault
 use Rattle.kilim_classfile.specs.Parts.{has_its_code, name_of}
 use Rattle.kilim_classfile.specs.Text.{member_text, class_text, Names, MemberFits, MethodFits, ListFits, PartsFit}
 use Rattle.kilim_classfile.specs.Reading.{pool_fault, attribute_fault, u2_at, index_at, class_index_at, utf8_index_at, attributes_in, member_of, member_at, field_at, method_at, list_at, magic_at, version_at, Front, front_at, names_at, Lists, lists_at, class_of, class_at}
-
-conj : (a b : Bool) → (a && b) ≡ true → (a ≡ true) × (b ≡ true)
-conj true b e = (refl, e)
-conj false b e = absurd cc
-
-both_true : (a b : Bool) → a ≡ true → b ≡ true → (a && b) ≡ true
-both_true a b e f = rw (e, f) refl
 
 module _ (pools : Format pool_text pool_at PoolFits) (lists : (pool : List Entry) (at : Place) → Format attributes_text (attributes_at pool at) (AttributesFit pool at)) (len : ℕ) where
   number : Format u2 (u2_at len) (λ n. n < 2 ^ 16)
@@ -137,7 +130,7 @@ module _ (pools : Format pool_text pool_at PoolFits) (lists : (pool : List Entry
   parts_fit : (f : ClassFile) → WholeFits (parts_of f) → PartsFit f
   unfolding FrontFits NamesFit ListsFit
   parts_fit f fits =
-      let v = conj (eqb f.minor_version 0) (eqb f.major_version 52) fits.0.0.1.1 in
+      let v = and_parts (eqb f.minor_version 0) (eqb f.major_version 52) fits.0.0.1.1 in
       record {
         minor = eqb-true f.minor_version 0 v.0;
         major = eqb-true f.major_version 52 v.1;
@@ -154,7 +147,7 @@ module _ (pools : Format pool_text pool_at PoolFits) (lists : (pool : List Entry
   fit_parts : (f : ClassFile) → PartsFit f → WholeFits (parts_of f)
   unfolding FrontFits NamesFit ListsFit
   fit_parts f fits =
-      let v = both_true (eqb f.minor_version 0) (eqb f.major_version 52) (eq-eqb f.minor_version 0 fits.minor) (eq-eqb f.major_version 52 fits.major) in
+      let v = and_from (eqb f.minor_version 0) (eqb f.major_version 52) (eq-eqb f.minor_version 0 fits.minor) (eq-eqb f.major_version 52 fits.major) in
       let minor = fits.minor in
       let major = fits.major in
       ((((omega arith, refl), ((omega arith, omega arith), v)), fits.pool), ((fits.flags, (fits.this_class, fits.super_class)), ((fits.interfaces, fits.fields), (fits.methods, fits.attributes))))

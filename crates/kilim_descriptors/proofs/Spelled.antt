@@ -2,7 +2,7 @@
 use Rattle.std.proofs.Common.{◌≡◌, ℕ, zero, suc, ◌+◌, ◌-◌, ◌^◌, ◌<◌, ◌≤◌, Bool, true, false, cond, ◌&&◌, ltb, eqb, List, [], ◌∷◌, ◌++◌, length, Option, Some, None, Result, Ok, Err, refl, sym, ap, subst, ◌∙◌, append_assoc, arith}
 use Rattle.std.specs.Prelude.{not, replicate}
 use Rattle.std.specs.List.{list_all}
-use Rattle.std.proofs.lemmas.Bool.{ltb-true, lt-ltb, eqb-true}
+use Rattle.std.proofs.lemmas.Bool.{ltb-true, lt-ltb, eqb-true, and_parts}
 use Rattle.std.proofs.lemmas.List.{append-nil, length-append}
 use Rattle.kilim_descriptors.specs.declared.types.BaseText.{BaseText}
 use Rattle.kilim_descriptors.specs.declared.types.BaseText.TheVariants.{Bool as Boolean, Byte, Char, Short, Int, Long, Float, Double, Class}
@@ -29,10 +29,6 @@ read x rest = Ok (x, rest)
 pub either : {A : Type 0} (P : A → Type 0) (b : Bool) (x y : A) → (b ≡ true → P x) → (b ≡ false → P y) → P (cond b x y)
 either P true x y p q = p refl
 either P false x y p q = q refl
-
-pub conj : (a b : Bool) → (a && b) ≡ true → (a ≡ true) × (b ≡ true)
-conj true b e = (refl, e)
-conj false b e = absurd cc
 
 not_true : (b : Bool) → not b ≡ true → b ≡ false
 not_true true e = absurd cc
@@ -69,7 +65,7 @@ splits (u ∷ us) =
 split_again : (name rest : List ℕ) → list_all (λ u. not (eqb u 59)) name ≡ true → split_name (name ++ 59 ∷ rest) ≡ Some (name, rest)
 split_again [] rest h = refl
 split_again (u ∷ us) rest h =
-    let t = conj (not (eqb u 59)) (list_all (λ u. not (eqb u 59)) us) h in
+    let t = and_parts (not (eqb u 59)) (list_all (λ u. not (eqb u 59)) us) h in
     rw (not_true (eqb u 59) t.0, split_again us rest t.1) refl
 
 -- ---- bases

@@ -3,18 +3,10 @@ use Rattle.std.proofs.Common.{◌≡◌, ℕ, zero, suc, ◌+◌, ◌/◌, ◌%�
 use Rattle.std.specs.List.{slice_get}
 use Rattle.std.proofs.lemmas.List.{length-append}
 use Rattle.std.proofs.lemmas.Bool.{cases_Bool}
+use Rattle.kilim_lemmas.proofs.Lists.{get_front}
 use Rattle.kilim_inherited.specs.declared.node.Node.{Node}
 use Rattle.kilim_inherited.specs.declared.node.Node.TheVariants.{Empty, Leaf, Branch}
 use Rattle.kilim_inherited.specs.Trees.{side, value_by, value_at, ChildrenWithin, IsTable, Grows}
-
-pub get_front : {A : Type 0} (xs ys : List A) (i : ℕ) → i < length xs → slice_get (xs ++ ys) i ≡ slice_get xs i
-get_front [] ys i lt = absurd (omega arith)
-get_front (x ∷ xs) ys zero lt = refl
-get_front (x ∷ xs) ys (suc i) lt = get_front xs ys i (omega arith)
-
-pub get_last : {A : Type 0} (xs : List A) (y : A) → slice_get (xs ++ y ∷ []) (length xs) ≡ Some y
-get_last [] y = refl
-get_last (x ∷ xs) y = get_last xs y
 
 pub side_within : (n even odd k : ℕ) → even < n → odd < n → side even odd k < n
 side_within n even odd k e o =

@@ -5,11 +5,12 @@ use Rattle.std.specs.List.{slice_get}
 use Rattle.std.proofs.lemmas.List.{length-append}
 use Rattle.std.proofs.lemmas.Bool.{cases_Bool, eqb-true, eq-eqb, ne_eqb}
 use Rattle.std.proofs.lemmas.Bool.Decides.{eqb_tells}
+use Rattle.kilim_lemmas.proofs.Lists.{get_last}
 use Rattle.kilim_inherited.specs.declared.node.Node.{Node}
 use Rattle.kilim_inherited.specs.declared.node.Node.TheVariants.{Empty, Leaf, Branch}
 use Rattle.kilim_inherited.specs.Trees.{only_at, side, value_by, value_at, ChildrenWithin, IsTable, Grows, Makes, Has, Fits, HasOnly, IsAlone, Joins, Opens, changed_at}
 use Rattle.kilim_inherited.proofs.Halves.{half_fits, same_half, apart, is_odd}
-use Rattle.kilim_inherited.proofs.Growing.{get_last, side_within, stays, table_more, grows_more, grows_none}
+use Rattle.kilim_inherited.proofs.Growing.{side_within, stays, table_more, grows_more, grows_none}
 
 -- what the trees below a node have
 abbrev pub below_at : List Node → ℕ → ℕ → ℕ → Option ℕ

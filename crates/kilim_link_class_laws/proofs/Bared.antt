@@ -2,6 +2,7 @@
 use Rattle.std.proofs.Common.{◌≡◌, ℕ, zero, suc, ◌==◌, nat_lt, Bool, ◌&&◌, ◌||◌, not, if◌then◌else◌, List, [], ◌∷◌, length, Option, Some, None, option_map, codes, refl, ap, ◌∙◌, bytes_eq}
 use Rattle.std.proofs.lemmas.List.{length-map}
 use Rattle.std.specs.List.{list_any}
+use Rattle.kilim_lemmas.proofs.Lists.{any_same}
 use Rattle.kilim_classes.specs.declared.class.Class.{Class}
 use Rattle.kilim_classes.specs.declared.names.ClassId.{ClassId}
 use Rattle.kilim_classes.specs.declared.ty.Base.{Base}
@@ -14,7 +15,7 @@ use Rattle.kilim_classes.specs.Kinds.{array_kind, base_kind, class_kind, field_m
 use Rattle.kilim_classes.specs.Names.{◌>>=◌, class_at, class_name, is_named_task, is_task, line_of, line_up_to}
 use Rattle.kilim_classes.specs.Program.{Program}
 use Rattle.kilim_link_class_laws.specs.Bridge.{BaredAgrees, bare, bared}
-use Rattle.kilim_link_class_laws.proofs.Lists.{any_same, get_map}
+use Rattle.kilim_link_class_laws.proofs.Lists.{get_map}
 
 abbrev pub super_in : Option Class → Option ClassId
 super_in o = o >>= λ (class : Class). class.superclass

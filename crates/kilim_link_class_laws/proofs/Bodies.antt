@@ -2,6 +2,8 @@
 use Rattle.std.proofs.Common.{◌≡◌, ℕ, ◌<◌, Bool, true, false, ◌&&◌, ◌||◌, ◌==◌, not, List, [], ◌∷◌, ◌++◌, map, length, slice_get, Option, Some, None, filter, filter_map, is_some, refl, sym, ap, subst, ◌∙◌, ne_eqb, arith}
 use Rattle.std.specs.List.{cons_option, list_all}
 use Rattle.std.proofs.lemmas.Bool.{and_from, not_from_false}
+use Rattle.std.proofs.lemmas.Option.{same_Some, none-some}
+use Rattle.kilim_lemmas.proofs.Lists.{front_none, map_none, get_left}
 use Rattle.kilim_attributes.specs.declared.attribute.Attribute.{Attribute}
 use Rattle.kilim_attributes.specs.declared.attribute.Code.{Code}
 use Rattle.kilim_attributes.specs.declared.attribute.Info.{Info}
@@ -36,8 +38,8 @@ use Rattle.kilim_link_class_laws.specs.Facts.{BuiltInIsLast}
 use Rattle.kilim_link_class_laws.proofs.Flags.{bodiless_is_abstract}
 use Rattle.kilim_link_class_laws.proofs.LeftOut.{nothing_left_out}
 use Rattle.kilim_link_class_laws.proofs.LinkedMembers.{LinkedMethod, bound, linked_method_is}
-use Rattle.kilim_link_class_laws.proofs.Linking.{Linking, front_none, linking, map_none, none_passes, of_each}
-use Rattle.kilim_link_class_laws.proofs.Lists.{all_by_places, get_left, mapped_at, none_at, none_is_some, some_same}
+use Rattle.kilim_link_class_laws.proofs.Linking.{Linking, linking, none_passes, of_each}
+use Rattle.kilim_link_class_laws.proofs.Lists.{all_by_places, mapped_at, none_at}
 use Rattle.kilim_link_class_laws.proofs.Members.{member_made}
 use Rattle.kilim_link_class_laws.proofs.Origins as origins
 use Rattle.kilim_link_class_laws.proofs.Unique.{built_views}
@@ -52,12 +54,12 @@ not_left_here w file c n = front_none _ _ (map_none _ _ n.none_abstract)
 -- ---- code
 
 code_by : (pool : List Entry) (i : Info) (rest : List Code) (code : Code) → InfoFits pool i → (first_of rest ≡ Some code → CodeFits pool code) → first_of (cons_option (code_in i) rest) ≡ Some code → CodeFits pool code
-code_by pool (info.Code c) rest code fits later e = subst (CodeFits pool) (some_same c code e) fits
+code_by pool (info.Code c) rest code fits later e = subst (CodeFits pool) (same_Some c code e) fits
 code_by pool _ rest code fits later e = later e
 
 -- a Code attribute that is found has a text
 code_fits : (pool : List Entry) (before attributes : List Attribute) (code : Code) → EachAfter (AttributeFits pool place.Method) before attributes → first_of (filter_map (λ (a : Attribute). code_in a.info) attributes) ≡ Some code → CodeFits pool code
-code_fits pool before [] code each e = absurd (none_is_some code e)
+code_fits pool before [] code each e = absurd (none-some code e)
 code_fits pool before (a ∷ attributes) code each e =
     code_by pool a.info (filter_map (λ (b : Attribute). code_in b.info) attributes) code each.0.info (code_fits pool (before ++ a ∷ []) attributes code each.1) e
 
@@ -81,12 +83,12 @@ concrete_with false e = refl
 body_by : (w : World) (file : ClassFile) (c : ClassId) (member : MemberInfo) (o : Option Code) (body : Body) (is_abstract : Bool) → body_in w file c member o ≡ Some body →
     ((code : Code) → o ≡ Some code → 0 < length code.code) → differs is_abstract (is_some o) ≡ true → same_flag (body.code_length == 0) is_abstract ≡ true
 body_by w file c member None body is_abstract made some e =
-    ap (λ (b : Body). same_flag (b.code_length == 0) is_abstract) (sym (some_same no_body body made)) ∙ abstract_alone is_abstract e
+    ap (λ (b : Body). same_flag (b.code_length == 0) is_abstract) (sym (same_Some no_body body made)) ∙ abstract_alone is_abstract e
 body_by w file c member (Some code) body is_abstract made some e =
     let instrs = bound (code_of w file.constant_pool (decoded code.code)) _ body made in
     let frames = bound (frames_in w file c (declared_method file member) code) _ body instrs.is in
     let size = some code refl in
-    ap (λ (b : Body). same_flag (b.code_length == 0) is_abstract) (sym (some_same (body_with code instrs.of frames.of) body frames.is))
+    ap (λ (b : Body). same_flag (b.code_length == 0) is_abstract) (sym (same_Some (body_with code instrs.of frames.of) body frames.is))
     ∙ (ap (λ (b : Bool). same_flag b is_abstract) (ne_eqb (length code.code) 0 (λ none. omega (arith, none, size)))
     ∙ not_from_false is_abstract (concrete_with is_abstract e))
 

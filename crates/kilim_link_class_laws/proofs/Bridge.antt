@@ -3,6 +3,8 @@ use Rattle.std.proofs.Common.{◌≡◌, ℕ, ◌+◌, ◌-◌, ◌<◌, ◌≤�
 use Rattle.std.specs.List.{range_with_len}
 use Rattle.std.proofs.lemmas.Bool.{cases_lt}
 use Rattle.std.proofs.lemmas.List.{length-map}
+use Rattle.std.proofs.lemmas.Option.{same_Some, none-some}
+use Rattle.kilim_lemmas.proofs.Lists.{get_right, get_left, get_some}
 use Rattle.kilim_classfile.specs.declared.class_file.ClassFile.{ClassFile}
 use Rattle.kilim_classes.specs.declared.class.Class.{Class}
 use Rattle.kilim_classes.specs.declared.class.Field.{Field}
@@ -19,7 +21,7 @@ use Rattle.kilim_link_spec.specs.World.{World, acc_abstract, built_ins, class_of
 use Rattle.kilim_link_spec.specs.declared.view.ClassView.{ClassView}
 use Rattle.kilim_link_class_laws.specs.Bridge.{Agree, BaredAgrees, OutlineAgrees, OutlineIsBared, bare, bared}
 use Rattle.kilim_link_class_laws.proofs.Linking.{Linking, linking}
-use Rattle.kilim_link_class_laws.proofs.Lists.{get_left, get_map, get_right, get_there, mapped_at, none_is_some, same_by_places, some_same}
+use Rattle.kilim_link_class_laws.proofs.Lists.{get_map, mapped_at, same_by_places}
 use Rattle.kilim_link_class_laws.proofs.Made.{each_length, file_makes, length-numbered}
 use Rattle.kilim_link_class_laws.proofs.Named.{outlined_at, outlined_one}
 use Rattle.kilim_link_class_laws.proofs.Outline as outline
@@ -44,8 +46,8 @@ pub record LinkedClass (w : World) (file : ClassFile) (c : ClassId) (class : Cla
   pub is : linked_with w file c up ≡ class
 
 linked_by : (w : World) (file : ClassFile) (c : ClassId) (class : Class) (o : Option ClassId) → class_of w (super_name file) ≡ o → (o >>= λ (up : ClassId). Some (linked_with w file c up)) ≡ Some class → LinkedClass w file c class
-linked_by w file c class None is e = absurd (none_is_some class e)
-linked_by w file c class (Some up) is e = record { up = up; up_is = is; is = some_same (linked_with w file c up) class e }
+linked_by w file c class None is e = absurd (none-some class e)
+linked_by w file c class (Some up) is e = record { up = up; up_is = is; is = same_Some (linked_with w file c up) class e }
 
 pub linked_class_is : (w : World) (file : ClassFile) (c : ClassId) (class : Class) → linked_class w file c ≡ Some class → LinkedClass w file c class
 linked_class_is w file c class e = linked_by w file c class (class_of w (super_name file)) refl e
@@ -97,7 +99,7 @@ module _ (files : List ClassFile) (form : Form) (classes : List Class) (fields :
 
   at_file : (n : ℕ) → n < length files → option_map (outlined_one vs mark n) (slice_get vs n) ≡ option_map bare (slice_get p.classes n)
   at_file n less =
-      let f = get_there files n less in
+      let f = get_some files n less in
       let m = file_makes (linked_class w) files classes l.classes_are n f.0 f.1 in
       let built = built_in_classes_in form (length files) (length methods) in
       ap (option_map (outlined_one vs mark n)) (file_view_at n f.0 f.1)

@@ -2,6 +2,7 @@
 use Rattle.std.proofs.Common.{◌≡◌, ℕ, zero, suc, ◌+◌, Bool, true, false, ◌&&◌, ◌||◌, ◌==◌, not, if◌then◌else◌, List, length, slice_get, Option, Some, None, option_map, is_some, bytes_eq, codes, refl, sym, ap, ◌∙◌, ne_eqb, arith}
 use Rattle.std.specs.List.{list_all, list_any}
 use Rattle.std.proofs.lemmas.Bool.{and_parts, not-false, not_from_false, or_left, or_right}
+use Rattle.std.proofs.lemmas.Option.{same_Some}
 use Rattle.kilim_classfile.specs.declared.class_file.ClassFile.{ClassFile}
 use Rattle.kilim_classes.specs.declared.class.Class.{Class}
 use Rattle.kilim_classes.specs.declared.class.Field.{Field}
@@ -21,7 +22,7 @@ use Rattle.kilim_link_spec.specs.Linked.{program_with}
 use Rattle.kilim_link_spec.specs.World.{World, class_of, super_name, view_at, world_of}
 use Rattle.kilim_link_class_laws.specs.Facts.{NoneIsBoth, NoneIsItsAncestor, SuperclassesFit}
 use Rattle.kilim_link_class_laws.proofs.Linking.{Linking, linking, not_so}
-use Rattle.kilim_link_class_laws.proofs.Lists.{all_at, some_same}
+use Rattle.kilim_link_class_laws.proofs.Lists.{all_at}
 use Rattle.kilim_link_class_laws.proofs.Origins as origins
 use Rattle.kilim_link_class_laws.proofs.Origins.{BuiltIn, ClassOrigin, OfBuiltIn, OfFile, built_in_of, each_by_places, only_up}
 use Rattle.kilim_link_class_laws.proofs.Outline.{begins, object_name}
@@ -43,7 +44,7 @@ extends w file c n = not-false _ (not_so _ _ n.super_fits)
 fits_up : (w : World) (c up : ClassId) (o : Option ClassId) → o ≡ Some up → may_extend w c o ≡ true → superclass_fits w.outline c (Some up) ≡ true
 fits_up w c up None is e = absurd (cc)
 fits_up w c up (Some d) is e =
-    ap (λ (f : ClassId). superclass_fits w.outline c (Some f)) (sym (some_same d up is)) ∙ (and_parts (is_open_class (view_at w d)) (superclass_fits w.outline c (Some d)) e).1
+    ap (λ (f : ClassId). superclass_fits w.outline c (Some f)) (sym (same_Some d up is)) ∙ (and_parts (is_open_class (view_at w d)) (superclass_fits w.outline c (Some d)) e).1
 
 -- ---- built-in classes, by their table
 
@@ -93,7 +94,7 @@ module _ (files : List ClassFile) (form : Form) (classes : List Class) (fields :
   first_top : (k : ℕ) (class : Class) (o : BuiltIn form len k class) → k ≡ 0 → o.of.superclass ≡ None
   first_top k class o is =
       let b = begins form in
-      ap (λ (c : Class). c.superclass) (some_same o.of b.object (sym o.at ∙ (ap (slice_get (built_in_classes_in form 0 0)) is ∙ b.at))) ∙ b.top
+      ap (λ (c : Class). c.superclass) (same_Some o.of b.object (sym o.at ∙ (ap (slice_get (built_in_classes_in form 0 0)) is ∙ b.at))) ∙ b.top
 
   abbrev no_ancestor : ClassId → Bool
   no_ancestor c = not (list_any (λ d. d.0 == c.0) (ancestors_of p c))

@@ -3,6 +3,7 @@ use Rattle.std.proofs.Common.{◌≡◌, ℕ, zero, suc, ◌+◌, Bool, true, fa
 use Rattle.std.specs.Prelude.{replicate}
 use Rattle.std.specs.List.{flat_map}
 use Rattle.std.proofs.lemmas.Bool.{eqb-true}
+use Rattle.std.proofs.lemmas.Option.{same_Some, none-some}
 use Rattle.kilim_descriptors.specs.declared.types.BaseText.{BaseText}
 use Rattle.kilim_descriptors.specs.declared.types.BaseText.TheVariants.{Bool as Boolean, Byte, Char, Short, Int, Long, Float, Double}
 use Rattle.kilim_descriptors.specs.declared.types.FieldText.{FieldText}
@@ -11,7 +12,6 @@ use Rattle.kilim_descriptors.specs.Text.{base_text, result_text, field_text as t
 use Rattle.kilim_descriptors.specs.Reading.{◌>>=◌, after_param, all_of, base_at, class_at, class_of, field_at, field_behind, in_dims, param_at, params_at, result_at, split_name, whole_field, whole_method, with_unit}
 use Rattle.kilim_link_spec.specs.Types.{field_text, method_text}
 use Rattle.kilim_descriptors.specs.Exact.{spelled_by}
-use Rattle.kilim_link_class_laws.proofs.Lists.{none_is_some, some_same}
 
 -- what was taken from the front is spelled there
 abbrev Took : {A : Type 0} → (A → List ℕ) → List ℕ → Result (A × List ℕ) ℕ → Type 0
@@ -177,8 +177,8 @@ whole_takes units = took_all text_of_field units (field_at units) (field_takes u
 -- ---- what is read
 
 read_by : {A : Type 0} (text : A → List ℕ) (units : List ℕ) (r : Result A ℕ) (x : A) → TookAll text units r → spelled_by r ≡ Some x → units ≡ text x
-read_by text units (Ok y) x h e = h ∙ ap text (some_same y x e)
-read_by text units (Err left) x h e = absurd (none_is_some x e)
+read_by text units (Ok y) x h e = h ∙ ap text (same_Some y x e)
+read_by text units (Err left) x h e = absurd (none-some x e)
 
 pub field_text_is : (units : List ℕ) (f : FieldText) → field_text units ≡ Some f → units ≡ text_of_field f
 field_text_is units f e = read_by text_of_field units (whole_field units) f (whole_takes units) e

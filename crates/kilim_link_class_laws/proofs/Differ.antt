@@ -2,6 +2,9 @@
 use Rattle.std.proofs.Common.{◌≡◌, ℕ, zero, suc, ◌+◌, ◌<◌, ◌≤◌, Bool, true, false, ◌&&◌, ◌==◌, List, [], ◌∷◌, length, slice_get, Option, Some, None, option_map, bytes_eq, refl, sym, ap, ◌∙◌, eqb-true, arith}
 use Rattle.std.specs.List.{list_any}
 use Rattle.std.proofs.lemmas.Bool.{and_from, and_parts, both_ways, false_from_ne_true, or_parts}
+use Rattle.std.proofs.lemmas.Option.{same_Some, none-some, slice_get_within}
+use Rattle.kilim_lemmas.proofs.Lists.{front_none, rest_none, map_none, cond_none}
+use Rattle.kilim_lemmas.proofs.Texts.{text_is, same_text}
 use Rattle.kilim_classfile.specs.declared.class_file.ClassFile.{ClassFile}
 use Rattle.kilim_classfile.specs.declared.class_file.MemberInfo.{MemberInfo}
 use Rattle.kilim_classes.specs.declared.class.Class.{Class}
@@ -22,10 +25,10 @@ use Rattle.kilim_link_class_laws.specs.Bridge.{bare}
 use Rattle.kilim_link_class_laws.specs.Facts.{NamesDiffer}
 use Rattle.kilim_link_class_laws.proofs.Bridge as bridge
 use Rattle.kilim_link_class_laws.proofs.LinkedMembers.{LinkedMethod, linked_field_is, linked_method_is}
-use Rattle.kilim_link_class_laws.proofs.Linking.{Linking, cond_none, front_none, linking, map_none, rest_none}
-use Rattle.kilim_link_class_laws.proofs.Lists.{Left, Right, Side, differ_at, differ_by_places, get_map, get_within, none_is_some, side, some_same}
+use Rattle.kilim_link_class_laws.proofs.Linking.{Linking, linking}
+use Rattle.kilim_link_class_laws.proofs.Lists.{Left, Right, Side, differ_at, differ_by_places, get_map, side}
 use Rattle.kilim_link_class_laws.proofs.Members.{MemberMade, before, member_made}
-use Rattle.kilim_link_class_laws.proofs.Named.{outlined_at, outlined_one, same_text, text_same}
+use Rattle.kilim_link_class_laws.proofs.Named.{outlined_at, outlined_one}
 use Rattle.kilim_link_class_laws.proofs.Resolved.{Resolves, result_same, same_descriptor, same_field_text, type_same, types_same}
 use Rattle.kilim_link_class_laws.proofs.Seen.{seen_own}
 use Rattle.kilim_link_class_laws.proofs.Shifted.{built_in_method_of, methods_differ, same_method_shifted, shift_method}
@@ -35,18 +38,18 @@ use Rattle.kilim_link_class_laws.proofs.Unique.{views}
 -- ---- none is repeated
 
 no_before : {A : Type 0} (same : A → A → Bool) (front xs : List A) → repeated same front xs ≡ [] → (j : ℕ) (y : A) → slice_get xs j ≡ Some y → list_any (same y) front ≡ false
-no_before same front [] e j y there = absurd (none_is_some y there)
-no_before same front (x ∷ xs) e zero y there = ap (λ (z : _). list_any (same z) front) (sym (some_same x y there)) ∙ (cond_none (list_any (same x) front) x (repeated same (x ∷ front) xs) e).0
+no_before same front [] e j y there = absurd (none-some y there)
+no_before same front (x ∷ xs) e zero y there = ap (λ (z : _). list_any (same z) front) (sym (same_Some x y there)) ∙ (cond_none (list_any (same x) front) x (repeated same (x ∷ front) xs) e).0
 no_before same front (x ∷ xs) e (suc j) y there =
     let rest = (cond_none (list_any (same x) front) x (repeated same (x ∷ front) xs) e).1 in
     (or_parts (same y x) (list_any (same y) front) (no_before same (x ∷ front) xs rest j y there)).1
 
 none_repeated : {A : Type 0} (same : A → A → Bool) (front xs : List A) → repeated same front xs ≡ [] → (i j : ℕ) (x y : A) → i < j → slice_get xs i ≡ Some x → slice_get xs j ≡ Some y → same y x ≡ false
-none_repeated same front [] e i j x y less first second = absurd (none_is_some x first)
+none_repeated same front [] e i j x y less first second = absurd (none-some x first)
 none_repeated same front (z ∷ xs) e i zero x y less first second = absurd (omega (arith, less))
 none_repeated same front (z ∷ xs) e zero (suc j) x y less first second =
     let rest = (cond_none (list_any (same z) front) z (repeated same (z ∷ front) xs) e).1 in
-    ap (same y) (sym (some_same z x first)) ∙ (or_parts (same y z) (list_any (same y) front) (no_before same (z ∷ front) xs rest j y second)).0
+    ap (same y) (sym (same_Some z x first)) ∙ (or_parts (same y z) (list_any (same y) front) (no_before same (z ∷ front) xs rest j y second)).0
 none_repeated same front (z ∷ xs) e (suc i) (suc j) x y less first second =
     let rest = (cond_none (list_any (same z) front) z (repeated same (z ∷ front) xs) e).1 in
     none_repeated same (z ∷ front) xs rest i j x y (omega (arith, less)) first second
@@ -69,7 +72,7 @@ module _ {A : Type 0} (list : ClassFile → List MemberInfo) (make : ClassFile �
   apart : (i j : ℕ) (x y : A) → i < j → (m : MemberMade list make files i x) → (o : MemberMade list make files j y) → m.class ≡ o.class →
       member_name m.file m.member ≡ member_name o.file o.member → member_descriptor m.file m.member ≡ member_descriptor o.file o.member → ⊥
   apart i j x y less m o class names descriptors =
-      let file : m.file ≡ o.file = some_same m.file o.file (sym m.file_at ∙ (ap (slice_get files) class ∙ o.file_at)) in
+      let file : m.file ≡ o.file = same_Some m.file o.file (sym m.file_at ∙ (ap (slice_get files) class ∙ o.file_at)) in
       let here : slice_get (list o.file) m.place ≡ Some m.member = ap (λ (f : ClassFile). slice_get (list f) m.place) (sym file) ∙ m.member_at in
       let start : before list files m.class ≡ before list files o.class = ap (before list files) class in
       let first = m.is in
@@ -91,7 +94,7 @@ same_field_is : (a b : Field) → same_field a b ≡ true → SameField a b
 same_field_is a b e =
     let parts = and_parts (a.owner.0 == b.owner.0) (bytes_eq a.name b.name && same_type a.ty b.ty) e in
     let rest = and_parts (bytes_eq a.name b.name) (same_type a.ty b.ty) parts.1 in
-    record { owners = eqb-true a.owner.0 b.owner.0 parts.0; names = text_same a.name b.name rest.0; types = type_same a.ty b.ty rest.1 }
+    record { owners = eqb-true a.owner.0 b.owner.0 parts.0; names = text_is a.name b.name rest.0; types = type_same a.ty b.ty rest.1 }
 
 pub record SameSignature (a b : Method) : Type 0 where
   pub names : a.name ≡ b.name
@@ -102,7 +105,7 @@ pub same_signature_is : (a b : Method) → same_signature a b ≡ true → SameS
 same_signature_is a b e =
     let parts = and_parts (bytes_eq a.name b.name) (same_types a.params b.params && same_result a.result b.result) e in
     let rest = and_parts (same_types a.params b.params) (same_result a.result b.result) parts.1 in
-    record { names = text_same a.name b.name parts.0; params = types_same a.params b.params rest.0; results = result_same a.result b.result rest.1 }
+    record { names = text_is a.name b.name parts.0; params = types_same a.params b.params rest.0; results = result_same a.result b.result rest.1 }
 
 module _ (files : List ClassFile) (form : Form) (classes : List Class) (fields : List Field) (methods : List Method) (l : Linking files form classes fields methods) where
   abbrev w : World
@@ -122,8 +125,8 @@ module _ (files : List ClassFile) (form : Form) (classes : List Class) (fields :
     pub name : view.name ≡ class.name
 
   view_by : (n : ℕ) (class : Class) (o : Option ClassView) → slice_get (views files form) n ≡ o → option_map (outlined_one (views files form) mark (0 + n)) o ≡ Some (bare class) → ViewOf n class
-  view_by n class None at e = absurd (none_is_some (bare class) e)
-  view_by n class (Some v) at e = record { view = v; at = at; name = ap (λ (c : Class). c.name) (some_same (outlined_one (views files form) mark (0 + n) v) (bare class) e) }
+  view_by n class None at e = absurd (none-some (bare class) e)
+  view_by n class (Some v) at e = record { view = v; at = at; name = ap (λ (c : Class). c.name) (same_Some (outlined_one (views files form) mark (0 + n) v) (bare class) e) }
 
   pub view_of : (n : ℕ) (class : Class) → slice_get p.classes n ≡ Some class → ViewOf n class
   unfolding world_of
@@ -179,7 +182,7 @@ module _ (files : List ClassFile) (form : Form) (classes : List Class) (fields :
       let m = member_made (λ file. file.methods) (linked_method w) files methods l.methods_are i a there in
       let f = linked_method_is w m.file (class_id m.class) m.member a m.made in
       let owner : m.class ≡ a.owner.0 = ap (λ (x : Method). x.owner.0) f.is in
-      let within = get_within files m.class m.file m.file_at in
+      let within = slice_get_within files m.class m.file m.file_at in
       omega (arith, owner, within)
 
   built_owner : (k : ℕ) (a : Method) → slice_get built k ≡ Some a → length files ≤ a.owner.0
@@ -197,7 +200,7 @@ module _ (files : List ClassFile) (form : Form) (classes : List Class) (fields :
       let other = built_owner k b f in
       let owners = eqb-true a.owner.0 b.owner.0 (and_parts (a.owner.0 == b.owner.0) (same_signature a b) same).0 in
       omega (arith, own, other, owners)
-  two_by i j a b less (Right k is e) (Left f) same = let within = get_within methods j b f in omega (arith, is, within, less)
+  two_by i j a b less (Right k is e) (Left f) same = let within = slice_get_within methods j b f in omega (arith, is, within, less)
   two_by i j a b less (Right k is e) (Right n at f) same =
       let o = built_in_method_of form (length files) k a e in
       let q = built_in_method_of form (length files) n b f in

@@ -1,6 +1,7 @@
 -- Fields hold what their class's kind allows.
 use Rattle.std.proofs.Common.{◌≡◌, ℕ, Bool, true, not, List, slice_get, Option, Some, sym, ap, ◌∙◌}
 use Rattle.std.proofs.lemmas.Bool.{not-false}
+use Rattle.kilim_lemmas.proofs.Lists.{map_none}
 use Rattle.kilim_classfile.specs.declared.class_file.ClassFile.{ClassFile}
 use Rattle.kilim_classfile.specs.declared.class_file.MemberInfo.{MemberInfo}
 use Rattle.kilim_descriptors.specs.declared.types.FieldText.{FieldText}
@@ -22,7 +23,7 @@ use Rattle.kilim_link_spec.specs.Types.{field_text, type_in}
 use Rattle.kilim_link_spec.specs.World.{World, member_descriptor, world_of}
 use Rattle.kilim_link_class_laws.specs.Facts.{FieldsFit}
 use Rattle.kilim_link_class_laws.proofs.LinkedMembers.{LinkedField, linked_field_is}
-use Rattle.kilim_link_class_laws.proofs.Linking.{Linking, linking, map_none, none_passes}
+use Rattle.kilim_link_class_laws.proofs.Linking.{Linking, linking, none_passes}
 use Rattle.kilim_link_class_laws.proofs.Lists.{all_by_places}
 use Rattle.kilim_link_class_laws.proofs.Members.{member_made}
 use Rattle.kilim_link_class_laws.proofs.Origins as origins

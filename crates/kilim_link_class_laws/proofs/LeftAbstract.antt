@@ -3,6 +3,7 @@ use Rattle.std.proofs.Common.{◌≡◌, ℕ, zero, suc, ◌+◌, Bool, true, fa
 use Rattle.std.specs.List.{flat_map, list_all, list_any}
 use Rattle.std.proofs.lemmas.Bool.{and_left, not-true, not_from_false, or_left, or_right}
 use Rattle.std.proofs.lemmas.List.{length-append}
+use Rattle.kilim_lemmas.proofs.Lists.{front_none, rest_none, map_none, get_some}
 use Rattle.kilim_classfile.specs.declared.class_file.ClassFile.{ClassFile}
 use Rattle.kilim_classes.specs.declared.class.Class.{Class}
 use Rattle.kilim_classes.specs.declared.class.Field.{Field}
@@ -24,8 +25,8 @@ use Rattle.kilim_link_class_laws.specs.Facts.{NoneIsLeftAbstract}
 use Rattle.kilim_link_class_laws.proofs.Bared.{line_from, super_in}
 use Rattle.kilim_link_class_laws.proofs.Bridge.{LinkedClass}
 use Rattle.kilim_link_class_laws.proofs.Flat.{append_none}
-use Rattle.kilim_link_class_laws.proofs.Linking.{Linking, front_none, linking, map_none, none_passes, rest_none}
-use Rattle.kilim_link_class_laws.proofs.Lists.{all_at, get_there, none_by_places}
+use Rattle.kilim_link_class_laws.proofs.Linking.{Linking, linking, none_passes}
+use Rattle.kilim_link_class_laws.proofs.Lists.{all_at, none_by_places}
 use Rattle.kilim_link_class_laws.proofs.Nearer as nearer
 use Rattle.kilim_link_class_laws.proofs.Origins as origins
 use Rattle.kilim_link_class_laws.proofs.Origins.{ClassOrigin, OfBuiltIn, OfFile, built_in_of, each_by_places, length-built_in}
@@ -144,7 +145,7 @@ module _ (files : List ClassFile) (form : Form) (classes : List Class) (fields :
       let b = begins form in
       let some = b.count in
       let count = length-built_in form len (length methods) in
-      let t = get_there built 0 (omega (arith, some, count)) in
+      let t = get_some built 0 (omega (arith, some, count)) in
       let number : len ≡ len + 0 = omega arith in
       ap (λ (n : ℕ). list_any (left c) (methods_of p (class_id n))) number ∙ built_none c 0 t.0 t.1
 

@@ -1,5 +1,6 @@
 -- What a field and a method of a file are linked to, in their parts.
 use Rattle.std.proofs.Common.{◌≡◌, List, Option, Some, None, refl}
+use Rattle.std.proofs.lemmas.Option.{same_Some, none-some}
 use Rattle.kilim_classfile.specs.declared.class_file.ClassFile.{ClassFile}
 use Rattle.kilim_classfile.specs.declared.class_file.MemberInfo.{MemberInfo}
 use Rattle.kilim_descriptors.specs.declared.types.FieldText.{FieldText}
@@ -13,7 +14,6 @@ use Rattle.kilim_link_spec.specs.Linked.{body_in, code_attribute, field_with, li
 use Rattle.kilim_link_spec.specs.declared.named.Body.{Body}
 use Rattle.kilim_link_spec.specs.Types.{field_text, method_text, result_in, type_in, types_in}
 use Rattle.kilim_link_spec.specs.World.{World, member_descriptor}
-use Rattle.kilim_link_class_laws.proofs.Lists.{none_is_some, some_same}
 
 -- one thing after another
 pub record Bound {A B : Type 0} (a : Option A) (f : A → Option B) (y : B) : Type 0 where
@@ -22,7 +22,7 @@ pub record Bound {A B : Type 0} (a : Option A) (f : A → Option B) (y : B) : Ty
   pub is : f of ≡ Some y
 
 pub bound : {A B : Type 0} (a : Option A) (f : A → Option B) (y : B) → (a >>= f) ≡ Some y → Bound a f y
-bound None f y e = absurd (none_is_some y e)
+bound None f y e = absurd (none-some y e)
 bound (Some x) f y e = record { of = x; at = refl; is = e }
 
 pub record LinkedField (w : World) (file : ClassFile) (c : ClassId) (member : MemberInfo) (field : Field) : Type 0 where
@@ -36,7 +36,7 @@ pub linked_field_is : (w : World) (file : ClassFile) (c : ClassId) (member : Mem
 linked_field_is w file c member field e =
     let t = bound (field_text (member_descriptor file member)) _ field e in
     let u = bound (type_in w t.of) _ field t.is in
-    record { text = t.of; text_is = t.at; ty = u.of; ty_is = u.at; is = some_same (field_with file c member u.of) field u.is }
+    record { text = t.of; text_is = t.at; ty = u.of; ty_is = u.at; is = same_Some (field_with file c member u.of) field u.is }
 
 pub record LinkedMethod (w : World) (file : ClassFile) (c : ClassId) (member : MemberInfo) (method : Method) : Type 0 where
   pub text : MethodText
@@ -64,5 +64,5 @@ linked_method_is w file c member method e =
       result_is = r.at;
       body = b.of;
       body_is = b.at;
-      is = some_same (method_with w file c member ps.of r.of b.of) method b.is;
+      is = same_Some (method_with w file c member ps.of r.of b.of) method b.is;
     }

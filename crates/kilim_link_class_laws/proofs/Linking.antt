@@ -1,6 +1,8 @@
 -- What is known of files that link well: the parts of their program, and that no class has a problem.
 use Rattle.std.proofs.Common.{◌≡◌, ℕ, zero, suc, ◌+◌, Bool, true, false, cond, List, [], ◌∷◌, ◌++◌, map, slice_get, Some, refl, sym, ap, subst, ◌∙◌, arith, filter}
 use Rattle.std.specs.List.{AllByRecursion}
+use Rattle.std.proofs.lemmas.Option.{same_Some, none-some}
+use Rattle.kilim_lemmas.proofs.Lists.{cond_none}
 use Rattle.kilim_classfile.specs.declared.class_file.ClassFile.{ClassFile}
 use Rattle.kilim_classfile.specs.Text.{ClassFits}
 use Rattle.kilim_classes.specs.declared.class.Class.{Class}
@@ -16,7 +18,6 @@ use Rattle.kilim_link_spec.specs.Linked.{linked_class, linked_field, linked_meth
 use Rattle.kilim_link_spec.specs.LinksWell.{LinksWell}
 use Rattle.kilim_link_spec.specs.Types.{each_of, itself}
 use Rattle.kilim_link_spec.specs.World.{World, world_of}
-use Rattle.kilim_link_class_laws.proofs.Lists.{none_is_some, some_same}
 
 pub record Linking (files : List ClassFile) (form : Form) (classes : List Class) (fields : List Field) (methods : List Method) : Type 0 where
   pub classes_are : each_of itself (numbered (linked_class (world_of files form)) 0 files) ≡ Some classes
@@ -26,17 +27,17 @@ pub record Linking (files : List ClassFile) (form : Form) (classes : List Class)
   pub fit : (n : ℕ) (file : ClassFile) → slice_get files n ≡ Some file → ClassFits file
 
 without_at : (w : World) (n : ℕ) (files : List ClassFile) → EachIsWithout w n files → (k : ℕ) (file : ClassFile) → slice_get files k ≡ Some file → problems_of w file (class_id (n + k)) ≡ []
-without_at w n [] each k file there = absurd (none_is_some file there)
+without_at w n [] each k file there = absurd (none-some file there)
 without_at w n (f ∷ files) each zero file there =
     let number : n + 0 ≡ n = omega arith in
-    ap (λ (m : ℕ). problems_of w file (class_id m)) number ∙ (ap (λ (g : ClassFile). problems_of w g (class_id n)) (sym (some_same f file there)) ∙ each.0)
+    ap (λ (m : ℕ). problems_of w file (class_id m)) number ∙ (ap (λ (g : ClassFile). problems_of w g (class_id n)) (sym (same_Some f file there)) ∙ each.0)
 without_at w n (f ∷ files) each (suc k) file there =
     let number : n + suc k ≡ suc n + k = omega arith in
     ap (λ (m : ℕ). problems_of w file (class_id m)) number ∙ without_at w (suc n) files each.1 k file there
 
 pub of_each : {A : Type 0} (P : A → Type 0) (xs : List A) → AllByRecursion P xs → (n : ℕ) (x : A) → slice_get xs n ≡ Some x → P x
-of_each P [] all n x there = absurd (none_is_some x there)
-of_each P (y ∷ xs) all zero x there = subst P (some_same y x there) all.0
+of_each P [] all n x there = absurd (none-some x there)
+of_each P (y ∷ xs) all zero x there = subst P (same_Some y x there) all.0
 of_each P (y ∷ xs) all (suc n) x there = of_each P xs all.1 n x there
 
 -- A fact of the parts of a program is one of the program.
@@ -58,28 +59,12 @@ linking in_parts none_has of_each_kind Fact files form p well of_parts =
 
 -- ---- nothing in lists
 
-pub front_none : {A : Type 0} (xs ys : List A) → xs ++ ys ≡ [] → xs ≡ []
-front_none [] ys e = refl
-front_none (x ∷ xs) ys e = absurd (cc)
-
-pub rest_none : {A : Type 0} (xs ys : List A) → xs ++ ys ≡ [] → ys ≡ []
-rest_none [] ys e = e
-rest_none (x ∷ xs) ys e = absurd (cc)
-
-pub map_none : {A B : Type 0} (f : A → B) (xs : List A) → map f xs ≡ [] → xs ≡ []
-map_none f [] e = refl
-map_none f (x ∷ xs) e = absurd (cc)
-
 pub not_so : (b : Bool) (p : Problem) → if_so b p ≡ [] → b ≡ false
 not_so true p e = absurd (cc)
 not_so false p e = refl
 
-pub cond_none : {A : Type 0} (b : Bool) (y : A) (zs : List A) → cond b (y ∷ zs) zs ≡ [] → (b ≡ false) × (zs ≡ [])
-cond_none true y zs e = absurd (cc)
-cond_none false y zs e = (refl, e)
-
 -- nothing passes a filter
 pub none_passes : {A : Type 0} (test : A → Bool) (xs : List A) → filter test xs ≡ [] → (n : ℕ) (x : A) → slice_get xs n ≡ Some x → test x ≡ false
-none_passes test [] e n x there = absurd (none_is_some x there)
-none_passes test (y ∷ xs) e zero x there = ap test (sym (some_same y x there)) ∙ (cond_none (test y) y (filter test xs) e).0
+none_passes test [] e n x there = absurd (none-some x there)
+none_passes test (y ∷ xs) e zero x there = ap test (sym (same_Some y x there)) ∙ (cond_none (test y) y (filter test xs) e).0
 none_passes test (y ∷ xs) e (suc n) x there = none_passes test xs (cond_none (test y) y (filter test xs) e).1 n x there

@@ -2,25 +2,10 @@
 use Rattle.std.proofs.Common.{◌≡◌, ℕ, zero, suc, ◌+◌, ◌<◌, ◌≤◌, Bool, true, false, ◌||◌, not, List, [], ◌∷◌, ◌++◌, map, length, take, slice_get, Some, None, option_map, refl, sym, ap, ◌∙◌, arith}
 use Rattle.std.specs.List.{list_all, list_any}
 use Rattle.std.proofs.lemmas.Bool.{and_from, and_parts, or_parts, or_from, not_from_false, not-true}
+use Rattle.std.proofs.lemmas.Option.{same_Some, none-some}
 use Rattle.kilim_classes.specs.Same.{all_differ}
 
-pub some_same : {A : Type 0} (x y : A) → Some x ≡ Some y → x ≡ y
-some_same x y e = cc
-
-pub none_is_some : {A : Type 0} (x : A) → None ≡ Some x → ⊥
-none_is_some x e = cc
-
 -- ---- elements at places
-
-pub get_left : {A : Type 0} (xs ys : List A) (n : ℕ) (x : A) → slice_get xs n ≡ Some x → slice_get (xs ++ ys) n ≡ Some x
-get_left [] ys n x e = absurd (none_is_some x e)
-get_left (y ∷ xs) ys zero x e = e
-get_left (y ∷ xs) ys (suc n) x e = get_left xs ys n x e
-
-pub get_right : {A : Type 0} (xs ys : List A) (n k : ℕ) → n ≡ length xs + k → slice_get (xs ++ ys) n ≡ slice_get ys k
-get_right [] ys n k e = ap (slice_get ys) (let f : n ≡ k = omega (arith, e) in f)
-get_right (x ∷ xs) ys zero k e = absurd (omega (arith, e))
-get_right (x ∷ xs) ys (suc n) k e = get_right xs ys n k (omega (arith, e))
 
 -- where an element of two lists stands
 pub data Side {A : Type 0} (xs ys : List A) (n : ℕ) (x : A) : Type 0 where
@@ -51,19 +36,9 @@ pub record Origin {A B : Type 0} (f : A → B) (xs : List A) (n : ℕ) (y : B) :
   pub is : f of ≡ y
 
 pub origin : {A B : Type 0} (f : A → B) (xs : List A) (n : ℕ) (y : B) → slice_get (map f xs) n ≡ Some y → Origin f xs n y
-origin f [] n y e = absurd (none_is_some y e)
-origin f (x ∷ xs) zero y e = record { of = x; at = refl; is = some_same (f x) y e }
+origin f [] n y e = absurd (none-some y e)
+origin f (x ∷ xs) zero y e = record { of = x; at = refl; is = same_Some (f x) y e }
 origin f (x ∷ xs) (suc n) y e = let o = origin f xs n y e in record { of = o.of; at = o.at; is = o.is }
-
-pub get_within : {A : Type 0} (xs : List A) (n : ℕ) (x : A) → slice_get xs n ≡ Some x → n < length xs
-get_within [] n x e = absurd (none_is_some x e)
-get_within (y ∷ xs) zero x e = omega arith
-get_within (y ∷ xs) (suc n) x e = let l = get_within xs n x e in omega (arith, l)
-
-pub get_there : {A : Type 0} (xs : List A) (n : ℕ) → n < length xs → (x : A) × (slice_get xs n ≡ Some x)
-get_there [] n l = absurd (omega (arith, l))
-get_there (x ∷ xs) zero l = (x, refl)
-get_there (x ∷ xs) (suc n) l = get_there xs n (omega (arith, l))
 
 pub get_past : {A : Type 0} (xs : List A) (n : ℕ) → length xs ≤ n → slice_get xs n ≡ None
 get_past [] n l = refl
@@ -79,10 +54,10 @@ get_take (x ∷ xs) (suc m) (suc n) l = get_take xs m n (omega (arith, l))
 
 pub same_by_places : {A : Type 0} (xs ys : List A) → ((n : ℕ) → slice_get xs n ≡ slice_get ys n) → xs ≡ ys
 same_by_places [] [] each = refl
-same_by_places [] (y ∷ ys) each = absurd (none_is_some y (each 0))
-same_by_places (x ∷ xs) [] each = absurd (none_is_some x (sym (each 0)))
+same_by_places [] (y ∷ ys) each = absurd (none-some y (each 0))
+same_by_places (x ∷ xs) [] each = absurd (none-some x (sym (each 0)))
 same_by_places (x ∷ xs) (y ∷ ys) each =
-    let front = some_same x y (each 0) in
+    let front = same_Some x y (each 0) in
     let rest = same_by_places xs ys (λ n. each (suc n)) in
     ap (λ (z : _). z ∷ xs) front ∙ ap (λ (zs : List _). y ∷ zs) rest
 
@@ -93,8 +68,8 @@ all_by_places test [] each = refl
 all_by_places test (x ∷ xs) each = and_from (test x) (list_all test xs) (each 0 x refl) (all_by_places test xs (λ n y e. each (suc n) y e))
 
 pub all_at : {A : Type 0} (test : A → Bool) (xs : List A) → list_all test xs ≡ true → (n : ℕ) (x : A) → slice_get xs n ≡ Some x → test x ≡ true
-all_at test [] all n x e = absurd (none_is_some x e)
-all_at test (y ∷ xs) all zero x e = ap test (sym (some_same y x e)) ∙ (and_parts (test y) (list_all test xs) all).0
+all_at test [] all n x e = absurd (none-some x e)
+all_at test (y ∷ xs) all zero x e = ap test (sym (same_Some y x e)) ∙ (and_parts (test y) (list_all test xs) all).0
 all_at test (y ∷ xs) all (suc n) x e = all_at test xs (and_parts (test y) (list_all test xs) all).1 n x e
 
 pub none_by_places : {A : Type 0} (test : A → Bool) (xs : List A) → ((n : ℕ) (x : A) → slice_get xs n ≡ Some x → test x ≡ false) → list_any test xs ≡ false
@@ -102,13 +77,9 @@ none_by_places test [] each = refl
 none_by_places test (x ∷ xs) each = or_from (test x) (list_any test xs) (each 0 x refl) (none_by_places test xs (λ n y e. each (suc n) y e))
 
 pub none_at : {A : Type 0} (test : A → Bool) (xs : List A) → list_any test xs ≡ false → (n : ℕ) (x : A) → slice_get xs n ≡ Some x → test x ≡ false
-none_at test [] none n x e = absurd (none_is_some x e)
-none_at test (y ∷ xs) none zero x e = ap test (sym (some_same y x e)) ∙ (or_parts (test y) (list_any test xs) none).0
+none_at test [] none n x e = absurd (none-some x e)
+none_at test (y ∷ xs) none zero x e = ap test (sym (same_Some y x e)) ∙ (or_parts (test y) (list_any test xs) none).0
 none_at test (y ∷ xs) none (suc n) x e = none_at test xs (or_parts (test y) (list_any test xs) none).1 n x e
-
-pub any_same : {A : Type 0} (f g : A → Bool) → ((x : A) → f x ≡ g x) → (xs : List A) → list_any f xs ≡ list_any g xs
-any_same f g each [] = refl
-any_same f g each (x ∷ xs) = ap (λ (b : Bool). b || list_any f xs) (each x) ∙ ap (λ (b : Bool). g x || b) (any_same f g each xs)
 
 -- ---- no two are the same
 
@@ -122,11 +93,11 @@ differ_by_places same (x ∷ xs) each =
 
 pub differ_at : {A : Type 0} (same : A → A → Bool) (xs : List A) → all_differ same xs ≡ true →
     (i j : ℕ) (x y : A) → i < j → slice_get xs i ≡ Some x → slice_get xs j ≡ Some y → same x y ≡ false
-differ_at same [] all i j x y l e f = absurd (none_is_some x e)
+differ_at same [] all i j x y l e f = absurd (none-some x e)
 differ_at same (z ∷ xs) all i zero x y l e f = absurd (omega (arith, l))
 differ_at same (z ∷ xs) all zero (suc j) x y l e f =
     let parts = and_parts (not (list_any (same z) xs)) (all_differ same xs) all in
-    ap (λ (t : _). same t y) (sym (some_same z x e)) ∙ none_at (same z) xs (not-true _ parts.0) j y f
+    ap (λ (t : _). same t y) (sym (same_Some z x e)) ∙ none_at (same z) xs (not-true _ parts.0) j y f
 differ_at same (z ∷ xs) all (suc i) (suc j) x y l e f =
     let parts = and_parts (not (list_any (same z) xs)) (all_differ same xs) all in
     differ_at same xs parts.1 i j x y (omega (arith, l)) e f

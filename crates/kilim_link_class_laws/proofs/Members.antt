@@ -2,13 +2,15 @@
 use Rattle.std.proofs.Common.{◌≡◌, ℕ, zero, suc, ◌+◌, List, [], ◌∷◌, map, length, slice_get, Option, Some, refl, ap, ◌∙◌, arith}
 use Rattle.std.specs.List.{flat_map}
 use Rattle.std.proofs.lemmas.List.{length-append, length-map}
+use Rattle.std.proofs.lemmas.Option.{same_Some, none-some}
+use Rattle.kilim_lemmas.proofs.Lists.{get_right, get_left}
 use Rattle.kilim_classfile.specs.declared.class_file.ClassFile.{ClassFile}
 use Rattle.kilim_classfile.specs.declared.class_file.MemberInfo.{MemberInfo}
 use Rattle.kilim_classes.specs.declared.names.ClassId.{ClassId}
 use Rattle.kilim_classes.specs.BuiltIn.{class_id}
 use Rattle.kilim_link_spec.specs.Linked.{members, numbered}
 use Rattle.kilim_link_spec.specs.Types.{each_of, itself}
-use Rattle.kilim_link_class_laws.proofs.Lists.{Left, Right, Side, get_left, get_right, mapped_at, none_is_some, origin, side, some_same}
+use Rattle.kilim_link_class_laws.proofs.Lists.{Left, Right, Side, mapped_at, origin, side}
 use Rattle.kilim_link_class_laws.proofs.Made.{made_at, made_of}
 
 -- the number of members before those of a file
@@ -38,9 +40,9 @@ module _ {A : Type 0} (list : ClassFile → List MemberInfo) (make : ClassFile �
   -- where a member goes
   goes : (n : ℕ) (files : List ClassFile) (k i : ℕ) (file : ClassFile) (member : MemberInfo) → slice_get files k ≡ Some file → slice_get (list file) i ≡ Some member →
       slice_get (made_from n files) (before list files k + i) ≡ Some (make file (class_id (n + k)) member)
-  goes n [] k i file member there inside = absurd (none_is_some file there)
+  goes n [] k i file member there inside = absurd (none-some file there)
   goes n (f ∷ files) zero i file member there inside =
-      let same = some_same f file there in
+      let same = same_Some f file there in
       let number : n ≡ n + 0 = omega arith in
       let place : 0 + i ≡ i = omega arith in
       let here : slice_get (list f) i ≡ Some member = ap (λ (g : ClassFile). slice_get (list g) i) same ∙ inside in
@@ -78,7 +80,7 @@ module _ {A : Type 0} (list : ClassFile → List MemberInfo) (make : ClassFile �
       record { class = suc c.class; place = c.place; file = c.file; member = c.member; file_at = c.file_at; member_at = c.member_at; is = omega (arith, is, len, place); made = ap (λ (m : ℕ). make c.file (class_id m) c.member) number ∙ c.made }
 
   comes : (n : ℕ) (files : List ClassFile) (j : ℕ) (x : Option A) → slice_get (made_from n files) j ≡ Some x → Comes n files j x
-  comes n [] j x there = absurd (none_is_some x there)
+  comes n [] j x there = absurd (none-some x there)
   comes n (f ∷ files) j x there = comes_by n f files j x (λ k e. comes (suc n) files k x e) (side (of_class f (class_id n)) (made_from (suc n) files) j x there)
 
   -- ---- of the members that are there

@@ -3,27 +3,22 @@ use Rattle.std.proofs.Common.{◌≡◌, ℕ, zero, suc, ◌+◌, ◌<◌, Bool,
 use Rattle.std.specs.List.{position_from}
 use Rattle.std.proofs.lemmas.Bool.{both_ways, cond-false, cond-true, false_from_ne_true}
 use Rattle.std.proofs.lemmas.Slice.Eq.{bytes_eq-Decides}
+use Rattle.std.proofs.lemmas.Option.{same_Some, none-some}
+use Rattle.kilim_lemmas.proofs.Texts.{text_is, same_text}
 use Rattle.kilim_classes.specs.declared.class.Class.{Class}
 use Rattle.kilim_classes.specs.declared.names.ClassId.{ClassId}
 use Rattle.kilim_classes.specs.BuiltIn.{class_id}
 use Rattle.kilim_classes.specs.Names.{◌>>=◌, class_from}
 use Rattle.kilim_link_spec.specs.World.{number_of, outlined}
 use Rattle.kilim_link_spec.specs.declared.view.ClassView.{ClassView}
-use Rattle.kilim_link_class_laws.proofs.Lists.{some_same, none_is_some}
 
 -- ---- texts
-
-pub text_same : (xs ys : List ℕ) → bytes_eq xs ys ≡ true → xs ≡ ys
-text_same xs ys e = (bytes_eq-Decides xs ys).0 e
-
-pub same_text : (xs ys : List ℕ) → xs ≡ ys → bytes_eq xs ys ≡ true
-same_text xs ys e = (bytes_eq-Decides xs ys).1 e
 
 pub texts_differ : (xs ys : List ℕ) → bytes_eq xs ys ≡ false → xs ≡ ys → ⊥
 texts_differ xs ys e same = both_ways (bytes_eq xs ys) e (same_text xs ys same)
 
 pub differ_texts : (xs ys : List ℕ) → (xs ≡ ys → ⊥) → bytes_eq xs ys ≡ false
-differ_texts xs ys ne = false_from_ne_true (bytes_eq xs ys) (λ e. ne (text_same xs ys e))
+differ_texts xs ys ne = false_from_ne_true (bytes_eq xs ys) (λ e. ne (text_is xs ys e))
 
 pub texts_back : (xs ys : List ℕ) → bytes_eq xs ys ≡ false → bytes_eq ys xs ≡ false
 texts_back xs ys e = differ_texts ys xs (λ same. texts_differ xs ys e (sym same))
@@ -66,10 +61,10 @@ class_from_outlined all mark name n (v ∷ vs) =
 -- the place of the first one that passes
 pub position_at : {A : Type 0} (test : A → Bool) (n : ℕ) (xs : List A) (k : ℕ) (x : A) → slice_get xs k ≡ Some x → test x ≡ true →
     ((i : ℕ) (y : A) → i < k → slice_get xs i ≡ Some y → test y ≡ false) → position_from test n xs ≡ Some (n + k)
-position_at test n [] k x there passes before = absurd (none_is_some x there)
+position_at test n [] k x there passes before = absurd (none-some x there)
 position_at test n (y ∷ xs) zero x there passes before =
     let number : n ≡ n + 0 = omega arith in
-    cond-true (test y) (Some n) (position_from test (n + 1) xs) (ap test (some_same y x there) ∙ passes) ∙ ap Some number
+    cond-true (test y) (Some n) (position_from test (n + 1) xs) (ap test (same_Some y x there) ∙ passes) ∙ ap Some number
 position_at test n (y ∷ xs) (suc k) x there passes before =
     let number : n + 1 + k ≡ n + suc k = omega arith in
     cond-false (test y) (Some n) (position_from test (n + 1) xs) (before 0 y (omega arith) refl)
@@ -84,9 +79,9 @@ pub record Position {A : Type 0} (test : A → Bool) (n : ℕ) (xs : List A) (m 
 
 position_by : {A : Type 0} (test : A → Bool) (n : ℕ) (x : A) (xs : List A) (m : ℕ) → (position_from test (n + 1) xs ≡ Some m → Position test (n + 1) xs m) →
     (b : Bool) → test x ≡ b → cond b (Some n) (position_from test (n + 1) xs) ≡ Some m → Position test n (x ∷ xs) m
-position_by test n x xs m later true is e = let same = some_same n m e in record { place = 0; of = x; at = refl; passes = is; is = omega (arith, same) }
+position_by test n x xs m later true is e = let same = same_Some n m e in record { place = 0; of = x; at = refl; passes = is; is = omega (arith, same) }
 position_by test n x xs m later false is e = let p = later e in record { place = suc p.place; of = p.of; at = p.at; passes = p.passes; is = let q = p.is in omega (arith, q) }
 
 pub position : {A : Type 0} (test : A → Bool) (n : ℕ) (xs : List A) (m : ℕ) → position_from test n xs ≡ Some m → Position test n xs m
-position test n [] m e = absurd (none_is_some m e)
+position test n [] m e = absurd (none-some m e)
 position test n (x ∷ xs) m e = position_by test n x xs m (position test (n + 1) xs m) (test x) refl e

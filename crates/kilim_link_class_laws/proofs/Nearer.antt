@@ -2,6 +2,10 @@
 use Rattle.std.proofs.Common.{◌≡◌, ℕ, ◌+◌, Bool, true, false, ◌&&◌, ◌==◌, not, List, [], ◌∷◌, ◌++◌, length, slice_get, Option, Some, None, option_map, filter, bytes_eq, refl, sym, ap, subst, ◌∙◌, append_assoc, append-nil, eq-eqb, eqb-true, arith}
 use Rattle.std.specs.List.{flat_map, list_any}
 use Rattle.std.proofs.lemmas.Bool.{and_from, and_parts, both_ways, false_from_ne_true, not-false}
+use Rattle.std.proofs.lemmas.Option.{same_Some, none-some, slice_get_within}
+use Rattle.kilim_lemmas.proofs.Lists.{front_none, rest_none, get_right, get_left, get_some}
+use Rattle.kilim_lemmas.proofs.Truth.{rest_is_false}
+use Rattle.kilim_lemmas.proofs.Texts.{text_is, same_text}
 use Rattle.kilim_classfile.specs.declared.class_file.ClassFile.{ClassFile}
 use Rattle.kilim_classes.specs.declared.class.Class.{Class}
 use Rattle.kilim_classes.specs.declared.class.Field.{Field}
@@ -25,13 +29,13 @@ use Rattle.kilim_link_class_laws.specs.Bridge.{bare}
 use Rattle.kilim_link_class_laws.proofs.Bridge as bridge
 use Rattle.kilim_link_class_laws.proofs.Bridge.{LinkedClass}
 use Rattle.kilim_link_class_laws.proofs.Flat.{any_at, append_none, first_left, first_none, first_passes, flat_map-append}
-use Rattle.kilim_link_class_laws.proofs.Linking.{Linking, front_none, none_passes, rest_none}
-use Rattle.kilim_link_class_laws.proofs.Lists.{Left, Right, Side, get_left, get_map, get_right, get_there, get_within, none_at, none_by_places, none_is_some, side, some_same}
-use Rattle.kilim_link_class_laws.proofs.Named.{outlined_at, outlined_one, same_text, text_same}
+use Rattle.kilim_link_class_laws.proofs.Linking.{Linking, none_passes}
+use Rattle.kilim_link_class_laws.proofs.Lists.{Left, Right, Side, get_map, none_at, none_by_places, side}
+use Rattle.kilim_link_class_laws.proofs.Named.{outlined_at, outlined_one}
 use Rattle.kilim_link_class_laws.proofs.Positions as positions
 use Rattle.kilim_link_class_laws.proofs.Resolved.{Resolves, same_types_of}
 use Rattle.kilim_link_class_laws.proofs.Seen.{Seen}
-use Rattle.kilim_link_class_laws.proofs.Unique.{true_and, views}
+use Rattle.kilim_link_class_laws.proofs.Unique.{views}
 
 -- ---- types are the same as themselves
 
@@ -63,7 +67,7 @@ same_id_is id (Some other) e = ap (λ (n : ℕ). Some (record { 0 = n })) (sym (
 
 none_of_none : {A B : Type 0} (f : A → B) (o : Option A) → option_map f o ≡ None → o ≡ None
 none_of_none f None e = refl
-none_of_none f (Some x) e = absurd (none_is_some (f x) (sym e))
+none_of_none f (Some x) e = absurd (none-some (f x) (sym e))
 
 module _ (files : List ClassFile) (form : Form) (classes : List Class) (fields : List Field) (methods : List Method) (l : Linking files form classes fields methods) where
   abbrev w : World
@@ -110,10 +114,10 @@ module _ (files : List ClassFile) (form : Form) (classes : List Class) (fields :
   all_there : (d : ClassId) (class : Class) → class_at p d ≡ Some class → All (declared_methods w d) class.methods
   all_there d class is i m inside =
       let many = positions.as_many files form classes fields methods l d.0 class is in
-      let within = get_within (declared_methods w d) i m inside in
-      let id = get_there class.methods i (omega (arith, many, within)) in
+      let within = slice_get_within (declared_methods w d) i m inside in
+      let id = get_some class.methods i (omega (arith, many, within)) in
       let s = positions.seen_at files form classes fields methods l d.0 class is i id.0 id.1 in
-      let same : s.declared ≡ m = some_same s.declared m (sym s.at ∙ inside) in
+      let same : s.declared ≡ m = same_Some s.declared m (sym s.at ∙ inside) in
       record {
         place = i;
         id = id.0;
@@ -136,7 +140,7 @@ module _ (files : List ClassFile) (form : Form) (classes : List Class) (fields :
       ap methods_at (none_of_none (outlined_one (views files form) mark (0 + d.0)) (slice_get (views files form) d.0) none)
 
   all_by : (d : ClassId) (o : Option Class) → class_at p d ≡ o → All (declared_methods w d) (elim o [ None ↦ [] | Some class ↦ class.methods ])
-  all_by d None is i m inside = absurd (none_is_some m (ap (λ (ds : List DeclaredMethod). slice_get ds i) (sym (no_view d is)) ∙ inside))
+  all_by d None is i m inside = absurd (none-some m (ap (λ (ds : List DeclaredMethod). slice_get ds i) (sym (no_view d is)) ∙ inside))
   all_by d (Some class) is i m inside = all_there d class is i m inside
 
   pub all_of_class : (d : ClassId) → All (declared_methods w d) (methods_of p d)
@@ -156,8 +160,8 @@ module _ (files : List ClassFile) (form : Form) (classes : List Class) (fields :
       let parts = and_parts (not o.is_private) (is_method d.name d.descriptor o) e in
       let same = and_parts (bytes_eq o.name d.name) (bytes_eq o.descriptor d.descriptor) parts.1 in
       let open_one : not a.method.is_private ≡ true = ap not (sym a.private) ∙ parts.0 in
-      let names : m.name ≡ a.method.name = sym s.name ∙ (sym (text_same _ _ same.0) ∙ a.name) in
-      let types = same_types_of w d.descriptor o.descriptor m.params a.method.params m.result a.method.result s.types a.types (sym (text_same _ _ same.1)) in
+      let names : m.name ≡ a.method.name = sym s.name ∙ (sym (text_is _ _ same.0) ∙ a.name) in
+      let types = same_types_of w d.descriptor o.descriptor m.params a.method.params m.result a.method.result s.types a.types (sym (text_is _ _ same.1)) in
       let params : same_types m.params a.method.params ≡ true = ap (same_types m.params) (sym types.0) ∙ types_themselves m.params in
       let result : same_result m.result a.method.result ≡ true = ap (same_result m.result) (sym types.1) ∙ result_itself m.result in
       ap (answers m) a.method_is ∙ and_from _ _ open_one (and_from _ _ (same_text _ _ names) (and_from _ _ params result))
@@ -167,7 +171,7 @@ module _ (files : List ClassFile) (form : Form) (classes : List Class) (fields :
       (o : Option MethodId) → first_that (answered m) ids ≡ o → (j : ℕ) (x : MethodId) → slice_get ids j ≡ Some x → answered m x ≡ true → ⊥
   nearer_found c id ids more m is none found None first j x at passes = both_ways (answered m x) (first_none (answered m) ids first j x at) passes
   nearer_found c id ids more m is none found (Some y) first j x at passes =
-      let same : y ≡ id = some_same y id (sym (first_left (answered m) ids more y first) ∙ found) in
+      let same : y ≡ id = same_Some y id (sym (first_left (answered m) ids more y first) ∙ found) in
       let f = first_passes (answered m) ids y first in
       both_ways (left c y) (none_at (left c) ids none f.place y f.at) (ap (left c) same ∙ is)
 
@@ -183,7 +187,7 @@ module _ (files : List ClassFile) (form : Form) (classes : List Class) (fields :
       let open_one : not m.is_private ≡ true = (and_parts (not m.is_private) (same_signature m m) (sym (ap (answers m) s.method_is) ∙ passes.passes)).0 in
       let not_above = none_passes (is_left_above nearer) (declared_methods w d) above i s.declared s.at in
       let declared_open : not s.declared.is_private ≡ true = ap not s.seen.private ∙ open_one in
-      let some : list_any (is_nearer s.declared) nearer ≡ true = not-false _ (true_and _ _ declared_open (true_and _ _ (s.seen.abstracts ∙ parts.0) not_above)) in
+      let some : list_any (is_nearer s.declared) nearer ≡ true = not-false _ (rest_is_false _ _ declared_open (rest_is_false _ _ (s.seen.abstracts ∙ parts.0) not_above)) in
       let near = any_at (is_nearer s.declared) nearer some in
       let among = all near.1.place near.0 near.1.at in
       let found : first_that (answered m) (flat_map (methods_of p) front ++ flat_map (methods_of p) (d ∷ rest)) ≡ Some id =

@@ -3,6 +3,9 @@ use Rattle.std.proofs.Common.{◌≡◌, ℕ, suc, ◌+◌, Bool, true, false, �
 use Rattle.std.specs.List.{list_any}
 use Rattle.std.proofs.lemmas.Bool.{and_from}
 use Rattle.std.proofs.lemmas.List.{length-append, length-map}
+use Rattle.std.proofs.lemmas.Option.{same_Some}
+use Rattle.kilim_lemmas.proofs.Lists.{get_right, get_some}
+use Rattle.kilim_lemmas.proofs.Truth.{or_false}
 use Rattle.kilim_classfile.specs.declared.class_file.ClassFile.{ClassFile}
 use Rattle.kilim_classes.specs.declared.class.Class.{Class}
 use Rattle.kilim_classes.specs.declared.class.Field.{Field}
@@ -21,9 +24,9 @@ use Rattle.kilim_link_class_laws.proofs.Bared.{bared_agrees}
 use Rattle.kilim_link_class_laws.proofs.Bridge as bridge
 use Rattle.kilim_link_class_laws.proofs.Bridge.{LinkedClass, linked_class_is}
 use Rattle.kilim_link_class_laws.proofs.Linking.{Linking}
-use Rattle.kilim_link_class_laws.proofs.Lists.{Left, Right, Side, get_right, get_there, mapped_at, origin, side, some_same}
+use Rattle.kilim_link_class_laws.proofs.Lists.{Left, Right, Side, mapped_at, origin, side}
 use Rattle.kilim_link_class_laws.proofs.Made.{file_made}
-use Rattle.kilim_link_class_laws.proofs.Outline.{bare_built_in, begins, object_name, or_none, placed, short_line, up_to}
+use Rattle.kilim_link_class_laws.proofs.Outline.{bare_built_in, begins, object_name, placed, short_line, up_to}
 
 -- ---- a test of each class
 
@@ -106,9 +109,9 @@ module _ (files : List ClassFile) (form : Form) (classes : List Class) (fields :
       let b = begins form in
       let len = length-built_in form (length files) (length methods) in
       let some = b.count in
-      let t = get_there built 0 (omega (arith, len, some)) in
+      let t = get_some built 0 (omega (arith, len, some)) in
       let o = built_in_of form (length files) (length methods) 0 t.0 t.1 in
-      let same : o.of ≡ b.object = some_same o.of b.object (sym o.at ∙ b.at) in
+      let same : o.of ≡ b.object = same_Some o.of b.object (sym o.at ∙ b.at) in
       let number : length files + 0 ≡ length files = omega arith in
       record {
         class = t.0;
@@ -162,8 +165,8 @@ module _ (files : List ClassFile) (form : Form) (classes : List Class) (fields :
   top_no_task = ap (λ (name : List ℕ). bytes_eq name (codes "kilim/Task")) top_name
 
   tasks_by : (c : ClassId) (s : Option ClassId) → list_any (is_named_task p) (up_to (c ∷ []) (option_map (λ (d : ClassId). class_id (length files)) s)) ≡ is_named_task p c
-  tasks_by c None = or_none (is_named_task p c)
-  tasks_by c (Some d) = ap (λ (b : Bool). is_named_task p c || (b || false)) top_no_task ∙ or_none (is_named_task p c)
+  tasks_by c None = or_false (is_named_task p c)
+  tasks_by c (Some d) = ap (λ (b : Bool). is_named_task p c || (b || false)) top_no_task ∙ or_false (is_named_task p c)
 
   pub built_task : (k : ℕ) (class : Class) → slice_get built k ≡ Some class → (o : BuiltIn form (length files) k class) → is_task p (class_id (length files + k)) ≡ bytes_eq o.of.name (codes "kilim/Task")
   built_task k class there o =

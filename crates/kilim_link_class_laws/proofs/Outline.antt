@@ -15,9 +15,12 @@ use Rattle.kilim_classes.specs.Names.{◌>>=◌, class_at, class_name, line_of, 
 use Rattle.kilim_link_spec.specs.World.{World, built_ins, is_message_by, number_of, outline_with, outlined, view_of_built_in, view_of_file, world_of}
 use Rattle.kilim_link_spec.specs.declared.view.ClassView.{ClassView}
 use Rattle.std.specs.List.{list_any}
+use Rattle.std.proofs.lemmas.Option.{same_Some}
+use Rattle.kilim_lemmas.proofs.Lists.{get_right}
+use Rattle.kilim_lemmas.proofs.Truth.{or_false}
 use Rattle.kilim_link_class_laws.specs.Bridge.{bare}
 use Rattle.kilim_link_class_laws.proofs.Linking.{Linking}
-use Rattle.kilim_link_class_laws.proofs.Lists.{get_right, mapped_at, some_same}
+use Rattle.kilim_link_class_laws.proofs.Lists.{mapped_at}
 use Rattle.kilim_link_class_laws.proofs.Named.{length-outlined, outlined_at, outlined_one}
 use Rattle.kilim_link_class_laws.proofs.Unique.{built_views, number_at, views}
 
@@ -55,7 +58,7 @@ bare_built_in Plain first method = refl
 bare_built_in Woven first method = refl
 
 pub map_same_at : {A B : Type 0} (f g : A → B) (xs : List A) → map f xs ≡ map g xs → (n : ℕ) (x : A) → slice_get xs n ≡ Some x → f x ≡ g x
-map_same_at f g xs e n x there = some_same (f x) (g x) (sym (mapped_at f xs n x there) ∙ (ap (λ (ys : List _). slice_get ys n) e ∙ mapped_at g xs n x there))
+map_same_at f g xs e n x there = same_Some (f x) (g x) (sym (mapped_at f xs n x there) ∙ (ap (λ (ys : List _). slice_get ys n) e ∙ mapped_at g xs n x there))
 
 supers_are_object : (form : Form) → map (λ (class : Class). option_map (class_name (built_ins form)) class.superclass) (built_in_classes_in form 0 0) ≡ map (λ (class : Class). option_map (λ (c : ClassId). object_name) class.superclass) (built_in_classes_in form 0 0)
 supers_are_object Plain = refl
@@ -81,10 +84,6 @@ begins Woven = record { object = _; at = refl; name = refl; top = refl; unmarked
 super_placed : (number : List ℕ → Option ClassId) (o : ClassId) (s : Option ClassId) → number object_name ≡ Some o → (option_map (λ (c : ClassId). object_name) s >>= number) ≡ option_map (λ (c : ClassId). o) s
 super_placed number o None e = refl
 super_placed number o (Some c) e = e
-
-pub or_none : (b : Bool) → (b || false) ≡ b
-or_none true = refl
-or_none false = refl
 
 module _ (files : List ClassFile) (form : Form) (classes : List Class) (fields : List Field) (methods : List Method) (l : Linking files form classes fields methods) where
   abbrev w : World
@@ -127,12 +126,12 @@ module _ (files : List ClassFile) (form : Form) (classes : List Class) (fields :
   mark_of : (s : Option ClassId) (c : ClassId) (ks : List ClassId) (one top : Class) → class_at marked c ≡ Some one → class_at marked (class_id (length files)) ≡ Some top → top.message ≡ false →
       ks ≡ up_to (c ∷ []) (option_map (λ (d : ClassId). class_id (length files)) s) → list_any (λ d. is_marked (class_at marked d)) ks ≡ one.message
   mark_of None c ks one top at at_top no_mark is =
-      ap (list_any (λ d. is_marked (class_at marked d))) is ∙ (ap (λ (a : Option Class). is_marked a || false) at ∙ or_none one.message)
+      ap (list_any (λ d. is_marked (class_at marked d))) is ∙ (ap (λ (a : Option Class). is_marked a || false) at ∙ or_false one.message)
   mark_of (Some d) c ks one top at at_top no_mark is =
       ap (list_any (λ d. is_marked (class_at marked d))) is
       ∙ (ap (λ (a : Option Class). is_marked a || (is_marked (class_at marked (class_id (length files))) || false)) at
       ∙ (ap (λ (a : Option Class). one.message || (is_marked a || false)) at_top
-      ∙ (ap (λ (b : Bool). one.message || (b || false)) no_mark ∙ or_none one.message)))
+      ∙ (ap (λ (b : Bool). one.message || (b || false)) no_mark ∙ or_false one.message)))
 
   pub built_mark : (k : ℕ) (class : Class) → slice_get (built_in_classes_in form 0 0) k ≡ Some class → is_message_by marked (class_id (length files + k)) ≡ class.message
   built_mark k class there =

@@ -2,6 +2,10 @@
 use Rattle.std.proofs.Common.{◌≡◌, ℕ, ◌+◌, Bool, true, false, ◌&&◌, not, nat_lt, List, [], map, length, slice_get, Option, Some, None, option_map, filter, bytes_eq, codes, refl, sym, ap, ◌∙◌, ltb-true, arith}
 use Rattle.std.specs.List.{flat_map, list_all}
 use Rattle.std.proofs.lemmas.Bool.{and_from, and_parts, both_ways, not-false, not-true, not_from_false, or_left, or_right}
+use Rattle.std.proofs.lemmas.Option.{same_Some}
+use Rattle.kilim_lemmas.proofs.Lists.{map_none, get_some}
+use Rattle.kilim_lemmas.proofs.Texts.{same_text}
+use Rattle.kilim_lemmas.proofs.Truth.{rest_is_false}
 use Rattle.kilim_classfile.specs.declared.class_file.ClassFile.{ClassFile}
 use Rattle.kilim_classes.specs.declared.class.Class.{Class}
 use Rattle.kilim_classes.specs.declared.class.Field.{Field}
@@ -27,10 +31,9 @@ use Rattle.kilim_link_class_laws.proofs.Bodies as bodies
 use Rattle.kilim_link_class_laws.proofs.Differ.{same_signature_is}
 use Rattle.kilim_link_class_laws.proofs.Flat.{all_append, all_flat, none_flat_at}
 use Rattle.kilim_link_class_laws.proofs.LinkedMembers.{linked_method_is}
-use Rattle.kilim_link_class_laws.proofs.Linking.{Linking, linking, map_none, none_passes}
-use Rattle.kilim_link_class_laws.proofs.Lists.{Left, Right, Side, all_at, all_by_places, get_there, mapped_at, none_at, side, some_same}
+use Rattle.kilim_link_class_laws.proofs.Linking.{Linking, linking, none_passes}
+use Rattle.kilim_link_class_laws.proofs.Lists.{Left, Right, Side, all_at, all_by_places, mapped_at, none_at, side}
 use Rattle.kilim_link_class_laws.proofs.Members.{member_made}
-use Rattle.kilim_link_class_laws.proofs.Named.{same_text}
 use Rattle.kilim_link_class_laws.proofs.Origins as origins
 use Rattle.kilim_link_class_laws.proofs.Origins.{built_in_of, length-built_in, only_up}
 use Rattle.kilim_link_class_laws.proofs.Outline.{begins}
@@ -38,7 +41,6 @@ use Rattle.kilim_link_class_laws.proofs.Positions as positions
 use Rattle.kilim_link_class_laws.proofs.Resolved.{same_descriptor}
 use Rattle.kilim_link_class_laws.proofs.Seen.{Seen, seen_own}
 use Rattle.kilim_link_class_laws.proofs.Shifted.{built_in_method_of, shift_method}
-use Rattle.kilim_link_class_laws.proofs.Unique.{true_and}
 
 -- ---- no problem
 
@@ -95,8 +97,8 @@ constructs (Some m) = is_constructor m
 
 -- those of `java/lang/Object` are constructors
 object_constructs : (form : Form) (class : Class) → slice_get (built_in_classes_in form 0 0) 0 ≡ Some class → list_all (λ (id : MethodId). constructs (method_at (built_ins form) id)) class.methods ≡ true
-object_constructs Plain class there = ap (λ (c : Class). list_all (λ (id : MethodId). constructs (method_at (built_ins Plain) id)) c.methods) (sym (some_same _ class there))
-object_constructs Woven class there = ap (λ (c : Class). list_all (λ (id : MethodId). constructs (method_at (built_ins Woven) id)) c.methods) (sym (some_same _ class there))
+object_constructs Plain class there = ap (λ (c : Class). list_all (λ (id : MethodId). constructs (method_at (built_ins Plain) id)) c.methods) (sym (same_Some _ class there))
+object_constructs Woven class there = ap (λ (c : Class). list_all (λ (id : MethodId). constructs (method_at (built_ins Woven) id)) c.methods) (sym (same_Some _ class there))
 
 -- nothing overrides a constructor
 no_override : (a b : Method) → is_constructor b ≡ true → agrees_with a (Some b) ≡ true
@@ -123,14 +125,14 @@ module _ (files : List ClassFile) (form : Form) (classes : List Class) (fields :
       let same = same_signature_is a b o.same in
       let no_constructor : not (is_constructor_name dm.name) ≡ true = not_from_false _ (ap is_constructor_name s.name ∙ o.no_constructor) in
       let not_private : not dm.is_private ≡ true = not_from_false _ (s.private ∙ o.not_private) in
-      let none = true_and _ _ not_private (true_and _ _ no_constructor badly) in
+      let none = rest_is_false _ _ not_private (rest_is_false _ _ no_constructor badly) in
       let here = none_flat_at (λ (k : ClassId). map (λ (m : DeclaredMethod). (k, m)) (declared_methods w k)) (differs_from w c dm) (ancestors_of w.outline c) none j d above in
       let differs = none_at (differs_from w c dm) (map (λ (m : DeclaredMethod). (d, m)) (declared_methods w d)) here i (d, other) (mapped_at (λ (m : DeclaredMethod). (d, m)) (declared_methods w d) i other inside) in
       let other_open : not other.is_private ≡ true = not_from_false _ (t.private ∙ o.other_not_private) in
       let names : other.name ≡ dm.name = t.name ∙ (sym same.names ∙ sym s.name) in
       let descriptors : other.descriptor ≡ dm.descriptor = same_descriptor files form _ _ b.params a.params b.result a.result t.types s.types (sym same.params) (sym same.results) in
       let is_it : is_method dm.name dm.descriptor other ≡ true = and_from _ _ (same_text _ _ names) (same_text _ _ descriptors) in
-      agree_so w c d dm other a b s t (not-false _ (true_and _ _ is_it (true_and _ _ other_open differs)))
+      agree_so w c d dm other a b s t (not-false _ (rest_is_false _ _ is_it (rest_is_false _ _ other_open differs)))
 
   -- all of an ancestor
   all_agree : (c : ClassId) (dm : DeclaredMethod) (a : Method) → Seen w c dm a → overrides_badly w c dm ≡ false → (j : ℕ) (d : ClassId) → slice_get (ancestors_of w.outline c) j ≡ Some d →
@@ -165,7 +167,7 @@ module _ (files : List ClassFile) (form : Form) (classes : List Class) (fields :
       let b = begins form in
       let some = b.count in
       let count = length-built_in form len (length methods) in
-      let t = get_there built 0 (omega (arith, some, count)) in
+      let t = get_some built 0 (omega (arith, some, count)) in
       let o = built_in_of form len (length methods) 0 t.0 t.1 in
       let number : len + 0 ≡ len = omega arith in
       let at : class_at p (class_id len) ≡ Some t.0 = ap (λ (n : ℕ). class_at p (class_id n)) (sym number) ∙ origins.built_at files form classes fields methods l 0 t.0 t.1 in
@@ -192,7 +194,7 @@ module _ (files : List ClassFile) (form : Form) (classes : List Class) (fields :
       let o = built_in_method_of form len k m there in
       let count = length-built_in form len (length methods) in
       let less = ltb-true o.of.owner.0 (length (built_in_classes_in form 0 0)) (all_at (λ (x : Method). nat_lt x.owner.0 (length (built_in_classes_in form 0 0))) (built_in_methods_in form 0) (owners_there form) k o.of o.at) in
-      let class = get_there (built_in_classes_in form len (length methods)) o.of.owner.0 (omega (arith, count, less)) in
+      let class = get_some (built_in_classes_in form len (length methods)) o.of.owner.0 (omega (arith, count, less)) in
       fits_of_class m o.of.owner.0 class.0 class.1 (ap (λ (x : Method). x.owner) (sym o.is))
 
   fits_by : (j : ℕ) (m : Method) → Side methods (built_in_methods_in form len) j m → fits m ≡ true

@@ -3,6 +3,9 @@ use Rattle.std.proofs.Common.{◌≡◌, ℕ, ◌+◌, Bool, true, false, ◌||�
 use Rattle.std.specs.List.{list_all, list_any}
 use Rattle.std.proofs.lemmas.Bool.{and_from, and_parts, lt-ltb, not_from_false, or_left, or_parts, or_right}
 use Rattle.std.proofs.lemmas.List.{length-append, length-map, take_at}
+use Rattle.std.proofs.lemmas.Option.{same_Some, slice_get_within}
+use Rattle.kilim_lemmas.proofs.Lists.{get_right, get_left}
+use Rattle.kilim_lemmas.proofs.Truth.{rest_is_false}
 use Rattle.kilim_classfile.specs.declared.class_file.ClassFile.{ClassFile}
 use Rattle.kilim_classes.specs.declared.class.Class.{Class}
 use Rattle.kilim_classes.specs.declared.class.Field.{Field}
@@ -26,19 +29,19 @@ use Rattle.kilim_link_class_laws.proofs.Bridge.{LinkedClass, linked_class_is}
 use Rattle.kilim_link_class_laws.proofs.Classes.{extends}
 use Rattle.kilim_link_class_laws.proofs.LeftOut.{nothing_left_out}
 use Rattle.kilim_link_class_laws.proofs.Linking.{Linking, linking}
-use Rattle.kilim_link_class_laws.proofs.Lists.{Left, Right, Side, all_by_places, get_left, get_right, get_within, mapped_at, origin, side, some_same}
+use Rattle.kilim_link_class_laws.proofs.Lists.{Left, Right, Side, all_by_places, mapped_at, origin, side}
 use Rattle.kilim_link_class_laws.proofs.Made.{file_made}
 use Rattle.kilim_link_class_laws.proofs.Named.{outlined_at, outlined_one}
 use Rattle.kilim_link_class_laws.proofs.Origins as origins
 use Rattle.kilim_link_class_laws.proofs.Origins.{length-built_in}
 use Rattle.kilim_link_class_laws.proofs.Unique as unique
-use Rattle.kilim_link_class_laws.proofs.Unique.{built_views, found_view, true_and, views}
+use Rattle.kilim_link_class_laws.proofs.Unique.{built_views, found_view, views}
 
 -- ---- no problem
 
 open_up : (w : World) (c up : ClassId) (o : Option ClassId) → o ≡ Some up → may_extend w c o ≡ true → is_open_class (view_at w up) ≡ true
 open_up w c up None is e = absurd (cc)
-open_up w c up (Some d) is e = ap (λ (f : ClassId). is_open_class (view_at w f)) (sym (some_same d up is)) ∙ (and_parts (is_open_class (view_at w d)) _ e).0
+open_up w c up (Some d) is e = ap (λ (f : ClassId). is_open_class (view_at w f)) (sym (same_Some d up is)) ∙ (and_parts (is_open_class (view_at w d)) _ e).0
 
 -- in woven form the fiber is the eighth of the built-in classes
 fiber_view : (view : ClassView) × (slice_get (built_views Woven) 7 ≡ Some view) × (view.name ≡ codes "kilim/Fiber")
@@ -84,7 +87,7 @@ module _ (files : List ClassFile) (form : Form) (classes : List Class) (fields :
 
   open_by : (up : ClassId) (v : ClassView) → slice_get (views files form) up.0 ≡ Some v → is_open v ≡ true → Side (map view_of_file files) (built_views form) up.0 v → is_open_superclass p (Some up) ≡ true
   open_by up v there e (Left at) =
-      let within = get_within (map view_of_file files) up.0 v at in
+      let within = slice_get_within (map view_of_file files) up.0 v at in
       let views_count = length-map files view_of_file in
       let count = own in
       or_left _ _ (lt-ltb up.0 (own_count p) (omega (arith, within, views_count, count)))
@@ -107,10 +110,10 @@ module _ (files : List ClassFile) (form : Form) (classes : List Class) (fields :
   unfolding world_of
   no_fiber_by Plain is n file there =
       let plain : not (has_fiber form) ≡ true = ap (λ (f : Form). not (has_fiber f)) is in
-      (or_parts (is_fiber (own_name file)) (list_any is_fiber (class_names file)) (true_and _ _ plain (nothing_left_out w file (class_id n) (l.none n file there)).fiber)).0
+      (or_parts (is_fiber (own_name file)) (list_any is_fiber (class_names file)) (rest_is_false _ _ plain (nothing_left_out w file (class_id n) (l.none n file there)).fiber)).0
   no_fiber_by Woven is n file there =
       let v = fiber_view in
-      let within = get_within files n file there in
+      let within = slice_get_within files n file there in
       let views_count = length-map files view_of_file in
       let here = get_left (map view_of_file files) (built_views form) n (view_of_file file) (mapped_at view_of_file files n file there) in
       let place = length (map view_of_file files) + 7 in

@@ -4,6 +4,8 @@ use Rattle.std.specs.List.{list_all, range_with_len}
 use Rattle.kilim_classes.specs.Names.{is_empty}
 use Rattle.std.proofs.lemmas.Bool.{and_from, and_parts, cond-false, cases_order}
 use Rattle.std.proofs.lemmas.List.{append-nil, length-map}
+use Rattle.std.proofs.lemmas.Option.{same_Some, none-some, slice_get_within}
+use Rattle.kilim_lemmas.proofs.Texts.{text_is, same_text}
 use Rattle.kilim_classfile.specs.declared.class_file.ClassFile.{ClassFile}
 use Rattle.kilim_classfile.specs.declared.class_file.MemberInfo.{MemberInfo}
 use Rattle.kilim_classes.specs.declared.class.Class.{Class}
@@ -25,10 +27,9 @@ use Rattle.kilim_link_class_laws.specs.Facts.{MembersAreOwned}
 use Rattle.kilim_link_class_laws.proofs.Bridge.{LinkedClass}
 use Rattle.kilim_link_class_laws.proofs.LinkedMembers.{linked_field_is, linked_method_is}
 use Rattle.kilim_link_class_laws.proofs.Linking.{Linking, linking}
-use Rattle.kilim_link_class_laws.proofs.Lists.{all_at, get_within, mapped_at, none_is_some, some_same}
+use Rattle.kilim_link_class_laws.proofs.Lists.{all_at, mapped_at}
 use Rattle.kilim_link_class_laws.proofs.Made.{each_length}
 use Rattle.kilim_link_class_laws.proofs.Members.{MemberMade, before, length-made, member_made}
-use Rattle.kilim_link_class_laws.proofs.Named.{same_text, text_same}
 use Rattle.kilim_link_class_laws.proofs.Origins as origins
 use Rattle.kilim_link_class_laws.proofs.Origins.{ClassOrigin, OfBuiltIn, OfFile, built_in_of, each_by_places}
 use Rattle.kilim_link_class_laws.proofs.Owners.{before_all, before_is_sum, none_owned, owned-append, owned_by_numbers, owned_numbers, owned_shifted, row_owned}
@@ -44,7 +45,7 @@ module _ {A : Type 0} (list : ClassFile → List MemberInfo) (make : ClassFile �
   row_within n file there =
       let len = each_length itself (members list make files) ys all in
       let total = length-made list make 0 files in
-      let past = before_all list files (length files) n file there (get_within files n file there) in
+      let past = before_all list files (length files) n file there (slice_get_within files n file there) in
       omega (arith, len, total, past)
 
   owner_is : (j : ℕ) (y : A) (m : MemberMade list make files j y) → (owner y).0 ≡ m.class
@@ -60,7 +61,7 @@ module _ {A : Type 0} (list : ClassFile → List MemberInfo) (make : ClassFile �
     where
       inside : (j : ℕ) (y : A) (m : MemberMade list make files j y) → before list files n ≤ j → j < before list files n + length (list file) → (owner y).0 ≡ n
       inside j y m low high =
-          let place = get_within (list m.file) m.place m.member m.member_at in
+          let place = slice_get_within (list m.file) m.place m.member m.member_at in
           let is = m.is in
           owner_is j y m
           ∙ ⊎_elim (λ (same : m.class ≡ n). same)
@@ -70,8 +71,8 @@ module _ {A : Type 0} (list : ClassFile → List MemberInfo) (make : ClassFile �
       outside : (j : ℕ) (y : A) (m : MemberMade list make files j y) → (owner y).0 ≡ n → (before list files n ≤ j) × (j < before list files n + length (list file))
       outside j y m owned =
           let class : m.class ≡ n = sym (owner_is j y m) ∙ owned in
-          let same_file : m.file ≡ file = some_same m.file file (sym m.file_at ∙ (ap (slice_get files) class ∙ there)) in
-          let place : m.place < length (list file) = subst (λ (f : ClassFile). m.place < length (list f)) same_file (get_within (list m.file) m.place m.member m.member_at) in
+          let same_file : m.file ≡ file = same_Some m.file file (sym m.file_at ∙ (ap (slice_get files) class ∙ there)) in
+          let place : m.place < length (list file) = subst (λ (f : ClassFile). m.place < length (list f)) same_file (slice_get_within (list m.file) m.place m.member m.member_at) in
           let start : before list files m.class ≡ before list files n = ap (before list files) class in
           let is = m.is in
           (omega (arith, start, is), omega (arith, start, is, place))
@@ -79,7 +80,7 @@ module _ {A : Type 0} (list : ClassFile → List MemberInfo) (make : ClassFile �
   pub none_of_later : (n : ℕ) → length files ≤ n → owned_from owner (class_id n) 0 ys ≡ []
   none_of_later n late = none_owned owner (class_id n) 0 ys (λ j y at owned.
       let m = member_made list make files ys all j y at in
-      let within = get_within files m.class m.file m.file_at in
+      let within = slice_get_within files m.class m.file m.file_at in
       let class = sym (owner_is j y m) ∙ owned in
       omega (arith, within, class, late))
 
@@ -129,10 +130,10 @@ table Plain = refl
 table Woven = refl
 
 each_class_at : (test : ClassId → Class → Bool) (n : ℕ) (classes : List Class) → each_class_from test n classes ≡ true → (k : ℕ) (class : Class) → slice_get classes k ≡ Some class → test (class_id (n + k)) class ≡ true
-each_class_at test n [] all k class there = absurd (none_is_some class there)
+each_class_at test n [] all k class there = absurd (none-some class there)
 each_class_at test n (other ∷ classes) all zero class there =
     let number : n + 0 ≡ n = omega arith in
-    ap (λ (m : ℕ). test (class_id m) class) number ∙ (ap (test (class_id n)) (sym (some_same other class there)) ∙ (and_parts (test (class_id n) other) (each_class_from test (suc n) classes) all).0)
+    ap (λ (m : ℕ). test (class_id m) class) number ∙ (ap (test (class_id n)) (sym (same_Some other class there)) ∙ (and_parts (test (class_id n) other) (each_class_from test (suc n) classes) all).0)
 each_class_at test n (other ∷ classes) all (suc k) class there =
     let number : n + suc k ≡ suc n + k = omega arith in
     ap (λ (m : ℕ). test (class_id m) class) number ∙ each_class_at test (suc n) classes (and_parts (test (class_id n) other) (each_class_from test (suc n) classes) all).1 k class there
@@ -179,7 +180,7 @@ module _ (files : List ClassFile) (form : Form) (classes : List Class) (fields :
 
   of_file : (n : ℕ) (file : ClassFile) (class : Class) → slice_get files n ≡ Some file → LinkedClass w file (class_id n) class → is_owned n class ≡ true
   of_file n file class there made =
-      let within = get_within files n file there in
+      let within = slice_get_within files n file there in
       let fields_are = ap (λ (c : Class). map (λ (f : FieldId). f.0) c.fields) (sym made.is) ∙ (field_numbers _ ∙ (ap (λ (k : ℕ). range_with_len k (length file.fields)) (first_field_is n (omega (arith, within)))
       ∙ sym (owned_row (λ f. f.fields) (linked_field w) (λ (f : Field). f.owner) own_field files fields l.fields_are n file there))) in
       let row = owned_row (λ f. f.methods) (linked_method w) (λ (m : Method). m.owner) own_method files methods l.methods_are n file there in
@@ -209,9 +210,9 @@ module _ (files : List ClassFile) (form : Form) (classes : List Class) (fields :
       let o = built_in_of form len (length methods) k class there in
       let place : 0 + k ≡ k = omega arith in
       let own : numbers_of o.of ≡ owned_numbers k 0 owners =
-      text_same _ _ (each_class_at (λ c class. bytes_eq (numbers_of class) (owned_numbers c.0 0 owners)) 0 (built_in_classes_in form 0 0) (table form) k o.of o.at)
+      text_is _ _ (each_class_at (λ c class. bytes_eq (numbers_of class) (owned_numbers c.0 0 owners)) 0 (built_in_classes_in form 0 0) (table form) k o.of o.at)
       ∙ ap (λ (n : ℕ). owned_numbers n 0 owners) place in
-      let shifted : numbers_of class ≡ map (λ (i : ℕ). length methods + i) (numbers_of o.of) = some_same _ _
+      let shifted : numbers_of class ≡ map (λ (i : ℕ). length methods + i) (numbers_of o.of) = same_Some _ _
       (sym (mapped_at numbers_of (built_in_classes_in form len (length methods)) k class there) ∙ (ap (λ (xs : List (List ℕ)). slice_get xs k) (numbers_shifted form len (length methods))
       ∙ mapped_at (λ (c : Class). map (λ (i : ℕ). length methods + i) (numbers_of c)) (built_in_classes_in form 0 0) k o.of o.at)) in
       shifted ∙ ap (map (λ (i : ℕ). length methods + i)) own

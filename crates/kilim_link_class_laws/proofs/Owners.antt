@@ -3,11 +3,11 @@ use Rattle.std.proofs.Common.{◌≡◌, ℕ, zero, suc, ◌+◌, ◌<◌, ◌�
 use Rattle.std.specs.List.{range_with_len}
 use Rattle.std.proofs.lemmas.Bool.{cond-true, cond-false}
 use Rattle.std.proofs.lemmas.List.Sums.{sum_by-cons}
+use Rattle.std.proofs.lemmas.Option.{same_Some, none-some}
 use Rattle.kilim_classfile.specs.declared.class_file.ClassFile.{ClassFile}
 use Rattle.kilim_classfile.specs.declared.class_file.MemberInfo.{MemberInfo}
 use Rattle.kilim_classes.specs.declared.names.ClassId.{ClassId}
 use Rattle.kilim_classes.specs.Keeps.{owned_from}
-use Rattle.kilim_link_class_laws.proofs.Lists.{none_is_some, some_same}
 use Rattle.kilim_link_class_laws.proofs.Members.{before}
 use Rattle.kilim_link_class_laws.proofs.Shifted.{same_number_shifted}
 
@@ -79,10 +79,10 @@ owned_shifted first m c n (x ∷ xs) =
 -- ---- the members before those of a file
 
 pub before_all : (list : ClassFile → List MemberInfo) (files : List ClassFile) (n k : ℕ) (file : ClassFile) → slice_get files k ≡ Some file → k < n → before list files k + length (list file) ≤ before list files n
-before_all list [] n k file there less = absurd (none_is_some file there)
+before_all list [] n k file there less = absurd (none-some file there)
 before_all list (f ∷ files) zero k file there less = absurd (omega (arith, less))
 before_all list (f ∷ files) (suc n) zero file there less =
-    let same : length (list f) ≡ length (list file) = ap (λ (g : ClassFile). length (list g)) (some_same f file there) in omega (arith, same)
+    let same : length (list f) ≡ length (list file) = ap (λ (g : ClassFile). length (list g)) (same_Some f file there) in omega (arith, same)
 before_all list (f ∷ files) (suc n) (suc k) file there less = let rest = before_all list files n k file there (omega (arith, less)) in omega (arith, rest)
 
 -- a sum over as many views

@@ -3,6 +3,8 @@ use Rattle.std.proofs.Common.{◌≡◌, ℕ, zero, suc, ◌+◌, ◌<◌, Bool,
 use Rattle.std.specs.List.{cons_option, list_all, range_with_len}
 use Rattle.std.proofs.lemmas.Bool.{and_parts}
 use Rattle.std.proofs.lemmas.List.{length-map}
+use Rattle.std.proofs.lemmas.Option.{same_Some, none-some, slice_get_within}
+use Rattle.kilim_lemmas.proofs.Lists.{get_right, get_left, get_some}
 use Rattle.kilim_classfile.specs.declared.class_file.ClassFile.{ClassFile}
 use Rattle.kilim_classes.specs.declared.class.Class.{Class}
 use Rattle.kilim_classes.specs.declared.class.Field.{Field}
@@ -21,7 +23,7 @@ use Rattle.kilim_link_class_laws.proofs.Bodies as bodies
 use Rattle.kilim_link_class_laws.proofs.Bridge.{LinkedClass}
 use Rattle.kilim_link_class_laws.proofs.LinkedMembers.{linked_method_is}
 use Rattle.kilim_link_class_laws.proofs.Linking.{Linking}
-use Rattle.kilim_link_class_laws.proofs.Lists.{all_at, get_left, get_right, get_there, get_within, mapped_at, none_is_some, origin, some_same}
+use Rattle.kilim_link_class_laws.proofs.Lists.{all_at, mapped_at, origin}
 use Rattle.kilim_link_class_laws.proofs.Members.{before, member_makes}
 use Rattle.kilim_link_class_laws.proofs.Origins as origins
 use Rattle.kilim_link_class_laws.proofs.Origins.{BuiltIn, ClassOrigin, OfBuiltIn, OfFile, built_in_of}
@@ -34,8 +36,8 @@ use Rattle.kilim_link_class_laws.proofs.Shifted.{methods_shifted, shift_method}
 -- ---- lists
 
 range_at : (s len i x : ℕ) → slice_get (range_with_len s len) i ≡ Some x → (x ≡ s + i) × (i < len)
-range_at s zero i x there = absurd (none_is_some x there)
-range_at s (suc len) zero x there = let same = some_same s x there in (omega (arith, same), omega arith)
+range_at s zero i x there = absurd (none-some x there)
+range_at s (suc len) zero x there = let same = same_Some s x there in (omega (arith, same), omega arith)
 range_at s (suc len) (suc i) x there = let rest = range_at (s + 1) len i x there in let number = rest.0 in let within = rest.1 in (omega (arith, number), omega (arith, within))
 
 length-range : (s len : ℕ) → length (range_with_len s len) ≡ len
@@ -48,8 +50,8 @@ kept_at h x xs i y (Some z) is some rest = ap (λ (o : Option _). slice_get (con
 
 -- where something is made of each
 filtered_at : {A B : Type 0} (h : A → Option B) (xs : List A) → list_all (λ (x : A). is_some (h x)) xs ≡ true → (i : ℕ) (x : A) (y : B) → slice_get xs i ≡ Some x → h x ≡ Some y → slice_get (filter_map h xs) i ≡ Some y
-filtered_at h [] all i x y there is = absurd (none_is_some x there)
-filtered_at h (z ∷ xs) all zero x y there is = ap (λ (o : Option _). slice_get (cons_option o (filter_map h xs)) 0) (ap h (some_same z x there) ∙ is)
+filtered_at h [] all i x y there is = absurd (none-some x there)
+filtered_at h (z ∷ xs) all zero x y there is = ap (λ (o : Option _). slice_get (cons_option o (filter_map h xs)) 0) (ap h (same_Some z x there) ∙ is)
 filtered_at h (z ∷ xs) all (suc i) x y there is =
     let parts = and_parts (is_some (h z)) (list_all (λ x. is_some (h x)) xs) all in
     kept_at h z xs i y (h z) refl parts.0 (filtered_at h xs parts.1 i x y there is)
@@ -103,9 +105,9 @@ module _ (files : List ClassFile) (form : Form) (classes : List Class) (fields :
       let numbers = range_with_len (first_method w (class_id n)) (length file.methods) in
       let o = origin method_id numbers i id (ap (λ (c : Class). slice_get c.methods i) made.is ∙ inside) in
       let place = range_at (first_method w (class_id n)) (length file.methods) i o.of o.at in
-      let member = get_there file.methods i place.1 in
+      let member = get_some file.methods i place.1 in
       let m = member_makes (λ f. f.methods) (linked_method w) files methods l.methods_are n i file member.0 there member.1 in
-      let within = get_within files n file there in
+      let within = slice_get_within files n file there in
       let number : id.0 ≡ before (λ f. f.methods) files n + i =
       ap (λ (d : MethodId). d.0) (sym o.is) ∙ (place.0 ∙ ap (λ (s : ℕ). s + i) (owned.first_method_is files form classes fields methods l n (omega (arith, within)))) in
       record {
@@ -125,7 +127,7 @@ module _ (files : List ClassFile) (form : Form) (classes : List Class) (fields :
     pub method_is : method_at p id ≡ Some (shift_method len of)
 
   numbers_are : (k : ℕ) (class : Class) → slice_get built k ≡ Some class → (o : BuiltIn form len k class) → numbers_of class ≡ map (λ (x : ℕ). length methods + x) (numbers_of o.of)
-  numbers_are k class there o = some_same _ _
+  numbers_are k class there o = same_Some _ _
       (sym (mapped_at numbers_of built k class there) ∙ (ap (λ (xs : List (List ℕ)). slice_get xs k) (numbers_shifted form len (length methods))
       ∙ mapped_at (λ (c : Class). map (λ (x : ℕ). length methods + x) (numbers_of c)) (built_in_classes_in form 0 0) k o.of o.at))
 

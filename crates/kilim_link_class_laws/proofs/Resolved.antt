@@ -1,6 +1,7 @@
 -- A type in a world says its text: no two class names have one number.
 use Rattle.std.proofs.Common.{◌≡◌, ℕ, true, ◌==◌, List, [], ◌∷◌, map, slice_get, Option, Some, None, option_map, refl, sym, ap, ◌∙◌, eqb-true}
 use Rattle.std.proofs.lemmas.Bool.{and_parts}
+use Rattle.std.proofs.lemmas.Option.{same_Some, none-some}
 use Rattle.kilim_classfile.specs.declared.class_file.ClassFile.{ClassFile}
 use Rattle.kilim_descriptors.specs.declared.types.BaseText.{BaseText}
 use Rattle.kilim_descriptors.specs.declared.types.BaseText.TheVariants as text
@@ -17,7 +18,6 @@ use Rattle.kilim_link_spec.specs.Types.{base_in, each_of, field_text, method_tex
 use Rattle.kilim_link_spec.specs.World.{World, class_of, world_of}
 use Rattle.kilim_link_spec.specs.declared.view.ClassView.{ClassView}
 use Rattle.kilim_link_class_laws.proofs.Descriptors.{field_text_is, method_text_is}
-use Rattle.kilim_link_class_laws.proofs.Lists.{none_is_some, some_same}
 use Rattle.kilim_link_class_laws.proofs.Made.{first_of}
 use Rattle.kilim_link_class_laws.proofs.Unique.{found_view, views}
 
@@ -78,42 +78,42 @@ module _ (files : List ClassFile) (form : Form) where
   back ty = record { dims = ty.dims; base = base_back ty.base }
 
   class_back : (name : List ℕ) (b : Base) (o : Option ClassId) → class_of w name ≡ o → option_map base.Class o ≡ Some b → text.Class name ≡ base_back b
-  class_back name b None is e = absurd (none_is_some b e)
+  class_back name b None is e = absurd (none-some b e)
   class_back name b (Some c) is e =
       let v = found_view files form name c is in
-      ap text.Class (sym v.is ∙ ap name_of_view (sym v.at)) ∙ ap base_back (some_same (base.Class c) b e)
+      ap text.Class (sym v.is ∙ ap name_of_view (sym v.at)) ∙ ap base_back (same_Some (base.Class c) b e)
 
   base_is : (x : BaseText) (b : Base) → base_in w x ≡ Some b → x ≡ base_back b
-  base_is text.Bool b e = ap base_back (some_same base.Bool b e)
-  base_is text.Byte b e = ap base_back (some_same base.Byte b e)
-  base_is text.Char b e = ap base_back (some_same base.Char b e)
-  base_is text.Short b e = ap base_back (some_same base.Short b e)
-  base_is text.Int b e = ap base_back (some_same base.Int b e)
-  base_is text.Long b e = ap base_back (some_same base.Long b e)
-  base_is text.Float b e = absurd (none_is_some b e)
-  base_is text.Double b e = absurd (none_is_some b e)
+  base_is text.Bool b e = ap base_back (same_Some base.Bool b e)
+  base_is text.Byte b e = ap base_back (same_Some base.Byte b e)
+  base_is text.Char b e = ap base_back (same_Some base.Char b e)
+  base_is text.Short b e = ap base_back (same_Some base.Short b e)
+  base_is text.Int b e = ap base_back (same_Some base.Int b e)
+  base_is text.Long b e = ap base_back (same_Some base.Long b e)
+  base_is text.Float b e = absurd (none-some b e)
+  base_is text.Double b e = absurd (none-some b e)
   base_is (text.Class name) b e = class_back name b (class_of w name) refl e
 
   type_by : (f : FieldText) (ty : Ty) (o : Option Base) → base_in w f.base ≡ o → option_map (typed f.dims) o ≡ Some ty → f ≡ back ty
-  type_by f ty None is e = absurd (none_is_some ty e)
-  type_by f ty (Some b) is e = ap (λ (x : BaseText). record { dims = f.dims; base = x }) (base_is f.base b is) ∙ ap back (some_same (typed f.dims b) ty e)
+  type_by f ty None is e = absurd (none-some ty e)
+  type_by f ty (Some b) is e = ap (λ (x : BaseText). record { dims = f.dims; base = x }) (base_is f.base b is) ∙ ap back (same_Some (typed f.dims b) ty e)
 
   pub type_is : (f : FieldText) (ty : Ty) → type_in w f ≡ Some ty → f ≡ back ty
   type_is f ty e = type_by f ty (base_in w f.base) refl e
 
   pub types_are : (fs : List FieldText) (tys : List Ty) → types_in w fs ≡ Some tys → fs ≡ map back tys
-  types_are [] tys e = ap (map back) (some_same [] tys e)
+  types_are [] tys e = ap (map back) (same_Some [] tys e)
   types_are (f ∷ fs) tys e =
       let parts = first_of (type_in w f) (each_of (type_in w) fs) tys e in
       ap (λ (x : FieldText). x ∷ fs) (type_is f parts.first parts.first_is)
       ∙ (ap (λ (xs : List FieldText). back parts.first ∷ xs) (types_are fs parts.rest parts.rest_is) ∙ ap (map back) (sym parts.is))
 
   result_by : (f : FieldText) (result : Option Ty) (o : Option Ty) → type_in w f ≡ o → option_map Some o ≡ Some result → Some f ≡ option_map back result
-  result_by f result None is e = absurd (none_is_some result e)
-  result_by f result (Some ty) is e = ap Some (type_is f ty is) ∙ ap (option_map back) (some_same (Some ty) result e)
+  result_by f result None is e = absurd (none-some result e)
+  result_by f result (Some ty) is e = ap Some (type_is f ty is) ∙ ap (option_map back) (same_Some (Some ty) result e)
 
   pub result_is : (f : Option FieldText) (result : Option Ty) → result_in w f ≡ Some result → f ≡ option_map back result
-  result_is None result e = ap (option_map back) (some_same None result e)
+  result_is None result e = ap (option_map back) (same_Some None result e)
   result_is (Some f) result e = result_by f result (type_in w f) refl e
 
 -- ---- descriptors
@@ -153,7 +153,7 @@ same_field_text files form d e f g a b read also is too same =
 
 pub same_types_of : (w : World) (d e : List ℕ) (params others : List Ty) (result other : Option Ty) → Resolves w d params result → Resolves w e others other → d ≡ e → (params ≡ others) × (result ≡ other)
 same_types_of w d e params others result other r s same =
-    let texts : r.text ≡ s.text = some_same r.text s.text (sym r.text_is ∙ (ap method_text same ∙ s.text_is)) in (
-      some_same params others (sym r.params_are ∙ (ap (λ (t : MethodText). types_in w t.params) texts ∙ s.params_are)),
-      some_same result other (sym r.result_is ∙ (ap (λ (t : MethodText). result_in w t.result) texts ∙ s.result_is)),
+    let texts : r.text ≡ s.text = same_Some r.text s.text (sym r.text_is ∙ (ap method_text same ∙ s.text_is)) in (
+      same_Some params others (sym r.params_are ∙ (ap (λ (t : MethodText). types_in w t.params) texts ∙ s.params_are)),
+      same_Some result other (sym r.result_is ∙ (ap (λ (t : MethodText). result_in w t.result) texts ∙ s.result_is)),
     )

@@ -2,6 +2,7 @@
 use Rattle.std.proofs.Common.{◌≡◌, ℕ, ◌+◌, Bool, true, ◌&&◌, List, [], ◌∷◌, map, length, slice_get, Option, Some, None, option_map, option_to_list, refl, ap, subst, ◌∙◌, ltb-true}
 use Rattle.std.specs.List.{list_all}
 use Rattle.std.proofs.lemmas.Bool.{and_parts}
+use Rattle.kilim_lemmas.proofs.Lists.{get_some}
 use Rattle.kilim_classfile.specs.declared.class_file.ClassFile.{ClassFile}
 use Rattle.kilim_classfile.specs.declared.class_file.MemberInfo.{MemberInfo}
 use Rattle.kilim_descriptors.specs.declared.types.BaseText.{BaseText}
@@ -27,7 +28,7 @@ use Rattle.kilim_link_spec.specs.World.{World, built_ins, class_of, declared_bui
 use Rattle.kilim_link_spec.specs.declared.view.DeclaredMethod.{DeclaredMethod}
 use Rattle.kilim_link_class_laws.proofs.LinkedMembers.{LinkedMethod}
 use Rattle.kilim_link_class_laws.proofs.Linking.{Linking}
-use Rattle.kilim_link_class_laws.proofs.Lists.{all_at, get_there}
+use Rattle.kilim_link_class_laws.proofs.Lists.{all_at}
 use Rattle.kilim_link_class_laws.proofs.Outline as outline
 use Rattle.kilim_link_class_laws.proofs.Outline.{map_same_at}
 use Rattle.kilim_link_class_laws.proofs.Resolved.{Resolves}
@@ -108,7 +109,7 @@ module _ (files : List ClassFile) (form : Form) (classes : List Class) (fields :
   base_is base.Int has = refl
   base_is base.Long has = refl
   base_is (base.Class c) has =
-      let there = get_there (built_in_classes_in form 0 0) c.0 (ltb-true c.0 (length (built_in_classes_in form 0 0)) has) in
+      let there = get_some (built_in_classes_in form 0 0) c.0 (ltb-true c.0 (length (built_in_classes_in form 0 0)) has) in
       ap (option_map base.Class) (class_is c there.0 there.1)
 
   type_is : (ty : Ty) → has_type (built_ins form) ty ≡ true → type_in w (type_text form ty) ≡ Some (shift_type len ty)

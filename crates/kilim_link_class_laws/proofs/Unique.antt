@@ -2,6 +2,10 @@
 use Rattle.std.proofs.Common.{◌≡◌, ℕ, ◌+◌, ◌<◌, Bool, true, false, ◌&&◌, List, ◌++◌, map, length, take, slice_get, Option, Some, None, option_map, bytes_eq, refl, sym, ap, ◌∙◌, arith}
 use Rattle.std.specs.List.{list_any, position_from}
 use Rattle.std.proofs.lemmas.Bool.{or_parts}
+use Rattle.std.proofs.lemmas.Option.{same_Some}
+use Rattle.kilim_lemmas.proofs.Lists.{front_none}
+use Rattle.kilim_lemmas.proofs.Truth.{rest_is_false}
+use Rattle.kilim_lemmas.proofs.Texts.{text_is, same_text}
 use Rattle.kilim_classfile.specs.declared.class_file.ClassFile.{ClassFile}
 use Rattle.kilim_classes.specs.declared.class.Class.{Class}
 use Rattle.kilim_classes.specs.declared.class.Field.{Field}
@@ -15,9 +19,9 @@ use Rattle.kilim_link_spec.specs.Faults.{declared_twice, is_built_in_name}
 use Rattle.kilim_link_spec.specs.Laws.{NoProblem}
 use Rattle.kilim_link_spec.specs.World.{World, built_ins, class_of, is_message_by, number_of, outline_with, own_name, view_of_built_in, view_of_file, world_of}
 use Rattle.kilim_link_spec.specs.declared.view.ClassView.{ClassView}
-use Rattle.kilim_link_class_laws.proofs.Linking.{Linking, front_none, not_so}
-use Rattle.kilim_link_class_laws.proofs.Lists.{Left, Origin, Right, Side, differ_at, get_take, none_at, origin, side, some_same}
-use Rattle.kilim_link_class_laws.proofs.Named.{class_from_outlined, position, position_at, same_text, text_same, texts_back}
+use Rattle.kilim_link_class_laws.proofs.Linking.{Linking, not_so}
+use Rattle.kilim_link_class_laws.proofs.Lists.{Left, Origin, Right, Side, differ_at, get_take, none_at, origin, side}
+use Rattle.kilim_link_class_laws.proofs.Named.{class_from_outlined, position, position_at, texts_back}
 
 abbrev pub built_views : Form → List ClassView
 built_views form = map (view_of_built_in (built_ins form)) (built_in_classes_in form 0 0)
@@ -46,10 +50,6 @@ not_given : (w : World) (file : ClassFile) (c : ClassId) → NoProblem w file c 
 unfolding declared_twice
 not_given w file c n = let parts = or_parts _ _ (not_so _ _ (front_none _ _ n.not_twice)) in record { before = parts.0; built_in = parts.1 }
 
-pub true_and : (a b : Bool) → a ≡ true → (a && b) ≡ false → b ≡ false
-true_and true b e both = both
-true_and false b e both = absurd (cc)
-
 module _ (files : List ClassFile) (form : Form) (classes : List Class) (fields : List Field) (methods : List Method) (l : Linking files form classes fields methods) where
   abbrev w : World
   w = world_of files form
@@ -66,7 +66,7 @@ module _ (files : List ClassFile) (form : Form) (classes : List Class) (fields :
       let given = not_given w o.of (class_id i) (l.none i o.of o.at) in
       let apart = none_at (λ (z : ClassView). z.is_built_in && bytes_eq z.name (own_name o.of)) (views files form) given.built_in j v there in
       let built : v.is_built_in ≡ true = ap (λ (z : ClassView). z.is_built_in) (sym b.is) in
-      ap (λ (z : ClassView). bytes_eq z.name v.name) (sym o.is) ∙ texts_back v.name (own_name o.of) (true_and v.is_built_in (bytes_eq v.name (own_name o.of)) built apart)
+      ap (λ (z : ClassView). bytes_eq z.name v.name) (sym o.is) ∙ texts_back v.name (own_name o.of) (rest_is_false v.is_built_in (bytes_eq v.name (own_name o.of)) built apart)
 
   built_from : (i j k : ℕ) (u v : ClassView) → i < j → slice_get (views files form) j ≡ Some v → j ≡ length (map view_of_file files) + k → slice_get (built_views form) k ≡ Some v →
       Side (map view_of_file files) (built_views form) i u → bytes_eq u.name v.name ≡ false
@@ -103,8 +103,8 @@ found_by : (files : List ClassFile) (form : Form) (name : List ℕ) (c : ClassId
 found_by files form name c None at e = absurd (cc)
 found_by files form name c (Some n) at e =
     let p = position (λ (v : ClassView). bytes_eq v.name name) 0 (views files form) n at in
-    let number : c.0 ≡ p.place = let same = ap (λ (d : ClassId). d.0) (some_same (class_id n) c e) in let is = p.is in omega (arith, same, is) in
-    record { view = p.of; at = ap (slice_get (views files form)) number ∙ p.at; is = text_same p.of.name name p.passes }
+    let number : c.0 ≡ p.place = let same = ap (λ (d : ClassId). d.0) (same_Some (class_id n) c e) in let is = p.is in omega (arith, same, is) in
+    record { view = p.of; at = ap (slice_get (views files form)) number ∙ p.at; is = text_is p.of.name name p.passes }
 
 pub found_view : (files : List ClassFile) (form : Form) (name : List ℕ) (c : ClassId) → class_of (world_of files form) name ≡ Some c → FoundView files form name c
 found_view files form name c e = found_by files form name c (position_from (λ (v : ClassView). bytes_eq v.name name) 0 (views files form)) refl (sym (class_of_is files form name) ∙ e)

@@ -1,7 +1,8 @@
 -- The classes of a program have the names that they have in the world of its files.
 use Rattle.std.proofs.Common.{◌≡◌, ℕ, suc, ◌+◌, Bool, List, [], ◌∷◌, ◌++◌, length, map, Option, Some, None, refl, ap, sym, ◌∙◌, slice_get}
 use Rattle.std.specs.Option.{option_map}
-use Rattle.std.proofs.lemmas.Option.{slice_get-map}
+use Rattle.std.proofs.lemmas.Option.{slice_get-map, same_Some}
+use Rattle.kilim_lemmas.proofs.Lists.{map_append}
 use Rattle.kilim_classfile.specs.declared.class_file.ClassFile.{ClassFile}
 use Rattle.kilim_classes.specs.declared.class.Class.{Class}
 use Rattle.kilim_classes.specs.declared.class.Form.{Form}
@@ -15,15 +16,11 @@ use Rattle.kilim_link_spec.specs.Linked.{linked_class, numbered}
 use Rattle.kilim_link_spec.specs.Types.{each_of, itself}
 use Rattle.kilim_link_spec.specs.World.{World, world_of, own_name, class_of, super_name, outlined, outline_with, is_message_by, view_of_file, view_of_built_in, built_ins}
 use Rattle.kilim_link_spec.specs.declared.view.ClassView.{ClassView}
-use Rattle.kilim_link_code_laws.proofs.Lists.{some_is, first_and}
+use Rattle.kilim_link_code_laws.proofs.Lists.{first_and}
 use Rattle.kilim_link_code_laws.proofs.Members.{bound}
 
 abbrev pub name_of : Class → List ℕ
 name_of class = class.name
-
-map_append : {A B : Type 0} (f : A → B) (xs ys : List A) → map f (xs ++ ys) ≡ map f xs ++ map f ys
-map_append f [] ys = refl
-map_append f (x ∷ xs) ys = ap (λ zs. f x ∷ zs) (map_append f xs ys)
 
 map_map : {A B C : Type 0} (f : B → C) (g : A → B) (h : A → C) → ((x : A) → f (g x) ≡ h x) → (xs : List A) → map f (map g xs) ≡ map h xs
 map_map f g h same [] = refl
@@ -34,10 +31,10 @@ outlined_names all mark n [] = refl
 outlined_names all mark n (v ∷ vs) = ap (λ names. v.name ∷ names) (outlined_names all mark (n + 1) vs)
 
 linked_name : (w : World) (file : ClassFile) (c : ClassId) (class : Class) → linked_class w file c ≡ Some class → class.name ≡ own_name file
-linked_name w file c class e = let b = bound (class_of w (super_name file)) _ class e in ap name_of (sym (some_is _ class b.then))
+linked_name w file c class e = let b = bound (class_of w (super_name file)) _ class e in ap name_of (sym (same_Some _ class b.then))
 
 linked_names : (w : World) (n : ℕ) (files : List ClassFile) (classes : List Class) → each_of itself (numbered (linked_class w) n files) ≡ Some classes → map name_of classes ≡ map own_name files
-linked_names w n [] classes e = ap (map name_of) (sym (some_is [] classes e))
+linked_names w n [] classes e = ap (map name_of) (sym (same_Some [] classes e))
 linked_names w n (file ∷ files) classes e =
     let f = first_and (linked_class w file (class_id n)) (each_of itself (numbered (linked_class w) (suc n) files)) classes e in
     ap (map name_of) f.is ∙ (ap (λ name. name ∷ map name_of f.xs) (linked_name w file (class_id n) f.x f.first_is) ∙ ap (λ names. own_name file ∷ names) (linked_names w (suc n) files f.xs f.others_are))

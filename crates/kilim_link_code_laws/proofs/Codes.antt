@@ -3,6 +3,7 @@ use Rattle.std.proofs.Common.{◌≡◌, ℕ, suc, ◌+◌, ◌-◌, Bool, true,
 use Rattle.std.specs.Prelude.{◌&&◌, ◌==◌, if◌then◌else◌, slice_get}
 use Rattle.std.specs.List.{list_all, AllByRecursion}
 use Rattle.std.proofs.lemmas.Bool.{and_from, or_cases, or_left, or_right, eq-eqb, eqb-true, false≢true}
+use Rattle.std.proofs.lemmas.Option.{same_Some}
 use Rattle.kilim_constant_pool.specs.declared.entry.Entry.{Entry}
 use Rattle.kilim_opcodes.specs.Instr.{instr_len}
 use Rattle.kilim_bytecode.specs.Code.{Placed, StandsFrom, is_place, targets_of, ends, falls, falls_off, mid_target}
@@ -14,7 +15,7 @@ use Rattle.kilim_link_spec.specs.Code.{instr_in, placed_in}
 use Rattle.kilim_link_spec.specs.Types.{each_of}
 use Rattle.kilim_link_spec.specs.World.{World}
 use Rattle.kilim_link_code_laws.proofs.Instrs.{has_its_length}
-use Rattle.kilim_link_code_laws.proofs.Lists.{some_is, first_and, each_of_all, all_map}
+use Rattle.kilim_link_code_laws.proofs.Lists.{first_and, each_of_all, all_map}
 use Rattle.kilim_link_code_laws.proofs.Rows.{mapped}
 use Rattle.kilim_link_code_laws.proofs.Targets.{same_targets, same_end}
 
@@ -46,7 +47,7 @@ one_stands at len end e es is has later =
 
 stands : (w : World) (pool : List Entry) (at end : ℕ) (code : List Placed) (es : List (ℕ × Instr)) → StandsFrom at code end → each_of (placed_in w pool) code ≡ Some es → Stands at es end
 unfolding StandsFrom
-stands w pool at end [] es is e = subst (λ zs. Stands at zs end) (some_is [] es e) (nothing_stands at end is)
+stands w pool at end [] es is e = subst (λ zs. Stands at zs end) (same_Some [] es e) (nothing_stands at end is)
 stands w pool at end (p ∷ code) es is e =
     let f = first_and (placed_in w pool p) (each_of (placed_in w pool) code) es e in
     let parts = placed_parts w pool p f.x f.first_is in
@@ -98,11 +99,11 @@ ends_there p false e h = absurd (cc)
 
 last_ends : (w : World) (pool : List Entry) (at end : ℕ) (code : List Placed) (es : List (ℕ × Instr)) → StandsFrom at code end → each_of (placed_in w pool) code ≡ Some es → falls_off code ≡ None → code_ends es ≡ true
 unfolding StandsFrom code_ends falls_off
-last_ends w pool at end [] es is e h = subst (λ zs. code_ends zs ≡ true) (some_is [] es e) refl
+last_ends w pool at end [] es is e h = subst (λ zs. code_ends zs ≡ true) (same_Some [] es e) refl
 last_ends w pool at end (p ∷ []) es is e h =
     let f = first_and (placed_in w pool p) (each_of (placed_in w pool) []) es e in
     let parts = placed_parts w pool p f.x f.first_is in
-    let one : f.x ∷ [] ≡ es = ap (λ zs. f.x ∷ zs) (some_is [] f.xs f.others_are) ∙ sym f.is in
+    let one : f.x ∷ [] ≡ es = ap (λ zs. f.x ∷ zs) (same_Some [] f.xs f.others_are) ∙ sym f.is in
     subst (λ zs. code_ends zs ≡ true) one (same_end w pool at p.1 f.x.1 is.1 parts.there (ends_there p (ends p.1) refl h))
 last_ends w pool at end (p ∷ q ∷ code) es is e h =
     let f = first_and (placed_in w pool p) (each_of (placed_in w pool) (q ∷ code)) es e in

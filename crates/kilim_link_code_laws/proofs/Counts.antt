@@ -3,6 +3,7 @@ use Rattle.std.proofs.Common.{◌≡◌, ℕ, zero, suc, ◌+◌, ◌<◌, ◌�
 use Rattle.std.specs.List.{flat_map, position_from}
 use Rattle.std.proofs.lemmas.List.{length-append, length-map}
 use Rattle.std.proofs.lemmas.List.Sums.{sum_by-append, sum_by-cons}
+use Rattle.std.proofs.lemmas.Option.{same_Some, none-some}
 use Rattle.kilim_classfile.specs.declared.class_file.ClassFile.{ClassFile}
 use Rattle.kilim_classfile.specs.declared.class_file.MemberInfo.{MemberInfo}
 use Rattle.kilim_classes.specs.declared.class.Form.{Form}
@@ -16,18 +17,13 @@ use Rattle.kilim_link_spec.specs.Types.{itself}
 use Rattle.kilim_link_spec.specs.World.{World, built_ins, declared_field, declared_method, is_message_by, outline_with, outlined, view_of_built_in, view_of_file, world_of}
 use Rattle.kilim_link_spec.specs.declared.view.ClassView.{ClassView}
 use Rattle.kilim_link_code_laws.proofs.ClassNames.{name_of, program_names}
-use Rattle.kilim_link_code_laws.proofs.Lists.{EachFile, some_is, none_is_some, each_of_length}
+use Rattle.kilim_link_code_laws.proofs.Lists.{EachFile, each_of_length}
 use Rattle.kilim_link_code_laws.proofs.Rows.{if_cases}
 
 -- ---- places in lists
 
-pub within : {A : Type 0} (xs : List A) (n : ℕ) (x : A) → slice_get xs n ≡ Some x → n < length xs
-within [] n x e = absurd (none_is_some x e)
-within (y ∷ xs) zero x e = omega arith
-within (y ∷ xs) (suc n) x e = let l = within xs n x e in omega (arith, l)
-
 pub position_within : {A : Type 0} (test : A → Bool) (n : ℕ) (xs : List A) (m : ℕ) → position_from test n xs ≡ Some m → m < n + length xs
-position_within test n [] m e = absurd (none_is_some m e)
+position_within test n [] m e = absurd (none-some m e)
 position_within test n (x ∷ xs) m e =
     if_cases (m < n + length (x ∷ xs)) (test x) n m (position_from test (n + 1) xs)
     (λ here same. omega (arith, same))
@@ -35,10 +31,10 @@ position_within test n (x ∷ xs) m e =
 
 -- those of an element and of all before it
 pub sum_within : {A : Type 0} (count : A → ℕ) (xs : List A) (n : ℕ) (x : A) → slice_get xs n ≡ Some x → sum_by count (take n xs) + count x ≤ sum_by count xs
-sum_within count [] n x e = absurd (none_is_some x e)
+sum_within count [] n x e = absurd (none-some x e)
 sum_within count (y ∷ xs) zero x e =
     let all = sum_by-cons count y xs in
-    let same : count y ≡ count x = ap count (some_is y x e) in
+    let same : count y ≡ count x = ap count (same_Some y x e) in
     omega (arith, all, same)
 sum_within count (y ∷ xs) (suc n) x e =
     let all = sum_by-cons count y xs in
@@ -60,8 +56,8 @@ views_from views n (file ∷ files) each =
     )
 
 front_view : (files : List ClassFile) (built : List ClassView) (k : ℕ) (file : ClassFile) → slice_get files k ≡ Some file → slice_get (map view_of_file files ++ built) k ≡ Some (view_of_file file)
-front_view [] built k file there = absurd (none_is_some file there)
-front_view (f ∷ files) built zero file there = ap (λ (g : ClassFile). Some (view_of_file g)) (some_is f file there)
+front_view [] built k file there = absurd (none-some file there)
+front_view (f ∷ files) built zero file there = ap (λ (g : ClassFile). Some (view_of_file g)) (same_Some f file there)
 front_view (f ∷ files) built (suc k) file there = front_view files built k file there
 
 pub views_there : (files : List ClassFile) (form : Form) → EachFile (ViewAt (world_of files form).classes) 0 files

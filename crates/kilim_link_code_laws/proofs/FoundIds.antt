@@ -3,6 +3,7 @@ use Rattle.std.proofs.Common.{◌≡◌, ℕ, suc, ◌+◌, ◌<◌, true, List,
 use Rattle.std.specs.List.{position_from}
 use Rattle.std.specs.Str.{bytes_eq}
 use Rattle.std.proofs.lemmas.Bool.{false≢true, lt-ltb}
+use Rattle.std.proofs.lemmas.Option.{same_Some, none-some}
 use Rattle.kilim_descriptors.specs.declared.types.BaseText.{BaseText}
 use Rattle.kilim_descriptors.specs.declared.types.BaseText.TheVariants as text
 use Rattle.kilim_descriptors.specs.declared.types.FieldText.{FieldText}
@@ -24,14 +25,13 @@ use Rattle.kilim_link_spec.specs.Types.{base_in, class_named_by, named_by, type_
 use Rattle.kilim_link_spec.specs.World.{World, class_of, field_id, field_in, fields_at, find_field, find_method, first_field, first_found, first_method, is_field, is_method, method_in, methods_at, or_else, view_at}
 use Rattle.kilim_link_spec.specs.declared.view.ClassView.{ClassView}
 use Rattle.kilim_link_code_laws.proofs.Counts.{Counts, count_fields, count_methods, position_within, sum_within}
-use Rattle.kilim_link_code_laws.proofs.Lists.{some_is, none_is_some}
 use Rattle.kilim_link_code_laws.proofs.Rows.{if_cases, mapped}
 use Rattle.kilim_link_code_laws.proofs.TestedTypes.{Tested}
 
 -- ---- in lists
 
 class_within : (classes : List Class) (name : List ℕ) (n : ℕ) (c : ClassId) → class_from classes name n ≡ Some c → c.0 < n + length classes
-class_within [] name n c e = absurd (none_is_some c e)
+class_within [] name n c e = absurd (none-some c e)
 class_within (class ∷ classes) name n c e =
     if_cases (c.0 < n + length (class ∷ classes)) (bytes_eq class.name name) (class_id n) c (class_from classes name (suc n))
     (λ here same. let number = ap (λ (d : ClassId). d.0) same in omega (arith, number))
@@ -42,25 +42,25 @@ either_found P None b y first later e = later e
 either_found P (Some x) b y first later e = first e
 
 found_holds : {A B : Type 0} (P : B → Type 0) (search : A → Option B) → ((x : A) (y : B) → search x ≡ Some y → P y) → (xs : List A) (y : B) → first_found search xs ≡ Some y → P y
-found_holds P search each [] y e = absurd (none_is_some y e)
+found_holds P search each [] y e = absurd (none-some y e)
 found_holds P search each (x ∷ xs) y e = either_found (P y) (search x) (first_found search xs) y (each x y) (found_holds P search each xs y) e
 
 -- what is found in a class of the world
 bound_found : {A B : Type 0} (P : B → Type 0) (next : A → Option B) → ((x : A) (y : B) → next x ≡ Some y → P y) → (o : Option A) (y : B) → option_and_then next o ≡ Some y → P y
-bound_found P next each None y e = absurd (none_is_some y e)
+bound_found P next each None y e = absurd (none-some y e)
 bound_found P next each (Some x) y e = each x y e
 
 -- ---- members by their numbers
 
 method_within : (w : World) (name descriptor : List ℕ) (c : ClassId) (o : Option ClassView) (k : ℕ) → view_at w c ≡ o → position_from (is_method name descriptor) 0 (methods_at o) ≡ Some k → first_method w c + k < sum_by count_methods w.classes
-method_within w name descriptor c None k at e = absurd (none_is_some k e)
+method_within w name descriptor c None k at e = absurd (none-some k e)
 method_within w name descriptor c (Some v) k at e =
     let place = position_within (is_method name descriptor) 0 v.methods k e in
     let all = sum_within count_methods w.classes c.0 v at in
     omega (arith, place, all)
 
 field_within : (w : World) (name descriptor : List ℕ) (c : ClassId) (o : Option ClassView) (k : ℕ) → view_at w c ≡ o → position_from (is_field name descriptor) 0 (fields_at o) ≡ Some k → first_field w c + k < sum_by count_fields w.classes
-field_within w name descriptor c None k at e = absurd (none_is_some k e)
+field_within w name descriptor c None k at e = absurd (none-some k e)
 field_within w name descriptor c (Some v) k at e =
     let place = position_within (is_field name descriptor) 0 v.fields k e in
     let all = sum_within count_fields w.classes c.0 v at in
@@ -113,14 +113,14 @@ module _ (w : World) (p : Program) (counts : Counts w p) where
   -- ---- types
 
   base_there : (b : BaseText) (y : Base) → base_in w b ≡ Some y → has_base p y ≡ true
-  base_there text.Bool y e = subst (λ z. has_base p z ≡ true) (some_is base.Bool y e) refl
-  base_there text.Byte y e = subst (λ z. has_base p z ≡ true) (some_is base.Byte y e) refl
-  base_there text.Char y e = subst (λ z. has_base p z ≡ true) (some_is base.Char y e) refl
-  base_there text.Short y e = subst (λ z. has_base p z ≡ true) (some_is base.Short y e) refl
-  base_there text.Int y e = subst (λ z. has_base p z ≡ true) (some_is base.Int y e) refl
-  base_there text.Long y e = subst (λ z. has_base p z ≡ true) (some_is base.Long y e) refl
-  base_there text.Float y e = absurd (none_is_some y e)
-  base_there text.Double y e = absurd (none_is_some y e)
+  base_there text.Bool y e = subst (λ z. has_base p z ≡ true) (same_Some base.Bool y e) refl
+  base_there text.Byte y e = subst (λ z. has_base p z ≡ true) (same_Some base.Byte y e) refl
+  base_there text.Char y e = subst (λ z. has_base p z ≡ true) (same_Some base.Char y e) refl
+  base_there text.Short y e = subst (λ z. has_base p z ≡ true) (same_Some base.Short y e) refl
+  base_there text.Int y e = subst (λ z. has_base p z ≡ true) (same_Some base.Int y e) refl
+  base_there text.Long y e = subst (λ z. has_base p z ≡ true) (same_Some base.Long y e) refl
+  base_there text.Float y e = absurd (none-some y e)
+  base_there text.Double y e = absurd (none-some y e)
   base_there (text.Class name) y e =
       let m = mapped base.Class (class_of w name) y e in
       subst (λ z. has_base p z ≡ true) m.is (class_there name m.x m.there)

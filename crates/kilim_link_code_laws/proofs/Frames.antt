@@ -4,6 +4,7 @@ use Rattle.std.specs.Prelude.{option_map}
 use Rattle.std.specs.List.{list_all}
 use Rattle.std.proofs.lemmas.Bool.{and_from, lt-ltb}
 use Rattle.std.proofs.lemmas.List.Folds.{list_all-append}
+use Rattle.std.proofs.lemmas.Option.{same_Some, none-some}
 use Rattle.kilim_attribute_parts.specs.declared.frame.Frame.{Frame as FrameForm}
 use Rattle.kilim_attributes.specs.declared.attribute.Code.{Code}
 use Rattle.kilim_classfile.specs.declared.class_file.ClassFile.{ClassFile}
@@ -23,7 +24,7 @@ use Rattle.kilim_link_spec.specs.declared.named.Body.{Body}
 use Rattle.kilim_link_spec.specs.Frames.{frames_from, entries_of, placed_frame, place_after, delta_of, frame_of, entry_locals, tables_in}
 use Rattle.kilim_link_spec.specs.Types.{each_of, itself}
 use Rattle.kilim_link_spec.specs.World.{World, world_of, declared_method}
-use Rattle.kilim_link_code_laws.proofs.Lists.{some_is, none_is_some, first_and, all_from, each_file, members_pass}
+use Rattle.kilim_link_code_laws.proofs.Lists.{first_and, all_from, each_file, members_pass}
 use Rattle.kilim_link_code_laws.proofs.Members.{body_parts, method_parts}
 use Rattle.kilim_link_code_laws.specs.Facts.{FramesIncrease}
 
@@ -34,8 +35,8 @@ IsBehind (Some at) [] = Unit {0}
 IsBehind (Some at) (e ∷ es) = at < e.0
 
 in_place : (at : ℕ) (frame : Option Frame) (e : ℕ × Frame) → option_map (λ (f : Frame). (at, f)) frame ≡ Some e → e.0 ≡ at
-in_place at None e is = absurd (none_is_some e is)
-in_place at (Some f) e is = ap (λ (x : ℕ × Frame). x.0) (sym (some_is (at, f) e is))
+in_place at None e is = absurd (none-some e is)
+in_place at (Some f) e is = ap (λ (x : ℕ × Frame). x.0) (sym (same_Some (at, f) e is))
 
 behind : (before : Option ℕ) (delta : ℕ) (e : ℕ × Frame) (es : List (ℕ × Frame)) → e.0 ≡ place_after before delta → IsBehind before (e ∷ es)
 behind None delta e es is = tt
@@ -59,7 +60,7 @@ rise_nothing before = (nothing_behind before, refl)
 
 rise : (w : World) (pool : List Entry) (before : Option ℕ) (locals : List (Option VType)) (fs : List FrameForm) (frames : List (ℕ × Frame)) → each_of itself (frames_from w pool before locals fs) ≡ Some frames → Rise before frames
 unfolding frames_from
-rise w pool before locals [] frames e = subst (λ zs. Rise before zs) (some_is [] frames e) (rise_nothing before)
+rise w pool before locals [] frames e = subst (λ zs. Rise before zs) (same_Some [] frames e) (rise_nothing before)
 rise w pool before locals (f ∷ fs) frames e =
     let at = place_after before (delta_of f) in
     let en = entries_of w pool locals f in
@@ -73,7 +74,7 @@ unfolding places_increase
 none_increase = refl
 
 body_frames : (w : World) (file : ClassFile) (c : ClassId) (method : MemberInfo) (code : Option Code) (body : Body) → body_in w file c method code ≡ Some body → places_increase body.frames ≡ true
-body_frames w file c method None body e = subst (λ b. places_increase b.frames ≡ true) (some_is no_body body e) none_increase
+body_frames w file c method None body e = subst (λ b. places_increase b.frames ≡ true) (same_Some no_body body e) none_increase
 body_frames w file c method (Some code) body e =
     let b = body_parts w file c method code body e in
     subst (λ x. places_increase x.frames ≡ true) (sym b.is) (rise w file.constant_pool None (entry_locals w c (declared_method file method)) (tables_in code) b.frames b.frames_are).1

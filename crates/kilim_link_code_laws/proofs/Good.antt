@@ -4,6 +4,7 @@ use Rattle.std.proofs.Common.{◌≡◌, ℕ, Bool, true, false, List, [], refl,
 use Rattle.std.specs.Prelude.{◌&&◌, ◌||◌, not}
 use Rattle.std.specs.List.{list_any, AllByRecursion}
 use Rattle.std.proofs.lemmas.Bool.{or_parts, false≢true}
+use Rattle.kilim_lemmas.proofs.Lists.{map_none}
 use Rattle.kilim_classfile.specs.declared.class_file.ClassFile.{ClassFile}
 use Rattle.kilim_descriptors.specs.declared.types.FieldText.{FieldText}
 use Rattle.kilim_classes.specs.declared.names.ClassId.{ClassId}
@@ -16,7 +17,7 @@ use Rattle.kilim_link_spec.specs.Qualified.{has_fiber}
 use Rattle.kilim_link_spec.specs.World.{World, class_of, own_name}
 use Rattle.kilim_link_code_laws.proofs.LeftOut.{NothingLeftOut, nothing_left_out}
 use Rattle.kilim_link_code_laws.proofs.Lists.{all_both, all_from, all_map}
-use Rattle.kilim_link_code_laws.proofs.Nothing.{map_none, flat_map_none, none_any, filter_none, all_flat}
+use Rattle.kilim_link_code_laws.proofs.Nothing.{flat_map_none, none_any, filter_none, all_flat}
 use Rattle.kilim_link_code_laws.proofs.There.{There, not_none_there}
 
 -- a name of a class that is there; `kilim/Fiber` in woven form alone

@@ -5,6 +5,7 @@ use Rattle.std.specs.List.{list_all, flat_map, range_with_len, AllByRecursion}
 use Rattle.std.proofs.lemmas.Bool.{and_from, lt-ltb}
 use Rattle.std.proofs.lemmas.List.{length-append, length-map}
 use Rattle.std.proofs.lemmas.List.Folds.{list_all-append, list_all-map}
+use Rattle.std.proofs.lemmas.Option.{same_Some, slice_get_within}
 use Rattle.kilim_attributes.specs.declared.attribute.Code.{Code}
 use Rattle.kilim_classfile.specs.declared.class_file.ClassFile.{ClassFile}
 use Rattle.kilim_classfile.specs.declared.class_file.MemberInfo.{MemberInfo}
@@ -24,10 +25,10 @@ use Rattle.kilim_link_spec.specs.Mentions.{mentions_of, types_mentioned}
 use Rattle.kilim_link_spec.specs.declared.named.Mention.TheVariants.{OfField}
 use Rattle.kilim_link_spec.specs.World.{World, class_of, declared_field, declared_method, field_id, first_field, first_method, member_descriptor, super_name, view_of_file, world_of}
 use Rattle.kilim_link_code_laws.proofs.BuiltInIds.{built_in_classes_there, built_in_owned, built_in_typed, class_count, class_total, method_count, method_total}
-use Rattle.kilim_link_code_laws.proofs.Counts.{Counts, ViewAt, count_fields, count_methods, counts, sum_within, views_there, within}
+use Rattle.kilim_link_code_laws.proofs.Counts.{Counts, ViewAt, count_fields, count_methods, counts, sum_within, views_there}
 use Rattle.kilim_link_code_laws.proofs.Files.{each_file_map}
 use Rattle.kilim_link_code_laws.proofs.FoundIds.{any_text, class_there, types_there}
-use Rattle.kilim_link_code_laws.proofs.Lists.{EachFile, some_is, all_from, all_map, members_pass, numbered_pass, made_length}
+use Rattle.kilim_link_code_laws.proofs.Lists.{EachFile, all_from, all_map, members_pass, numbered_pass, made_length}
 use Rattle.kilim_link_code_laws.proofs.Members.{body_parts, bound, field_parts, method_parts}
 use Rattle.kilim_link_code_laws.proofs.Mentions.{FileMentions, MethodMentions, file_mentions}
 use Rattle.kilim_link_code_laws.proofs.NamedMembers.{code_there}
@@ -49,7 +50,7 @@ nothing_asked file = file_mentions (GoodMention any_text) file (all_from (GoodMe
 module _ (w : World) (p : Program) (c : Counts w p) where
   file_class : (file : ClassFile) (class : ClassId) → ViewAt w.classes file class → has_class p class ≡ true
   file_class file class at =
-      let l = within w.classes class.0 (view_of_file file) at in
+      let l = slice_get_within w.classes class.0 (view_of_file file) at in
       let same = c.classes in
       lt-ltb class.0 (length p.classes) (omega (arith, l, same))
 
@@ -70,7 +71,7 @@ module _ (w : World) (p : Program) (c : Counts w p) where
   linked_class_ids : (file : ClassFile) (class : ClassId) → ViewAt w.classes file class → (y : Class) → linked_class w file class ≡ Some y → class_ids_there p y ≡ true
   linked_class_ids file class at y e =
       let b = bound (class_of w (super_name file)) _ y e in
-      subst (λ x. class_ids_there p x ≡ true) (some_is _ y b.then)
+      subst (λ x. class_ids_there p x ≡ true) (same_Some _ y b.then)
       (and_from _ _ (class_there w p c (super_name file) b.x b.there) (and_from _ _ (own_fields file class at) (own_methods file class at)))
 
   field_owner : (file : ClassFile) (class : ClassId) → ViewAt w.classes file class → (field : MemberInfo) (y : Field) → linked_field w file class field ≡ Some y → has_class p y.owner ≡ true
@@ -79,7 +80,7 @@ module _ (w : World) (p : Program) (c : Counts w p) where
       subst (λ x. has_class p x.owner ≡ true) (sym f.is) (file_class file class at)
 
   body_members : (file : ClassFile) (class : ClassId) (method : MemberInfo) (code : Option Code) (body : Body) → body_in w file class method code ≡ Some body → list_all (λ e. members_there p e.1) body.code ≡ true
-  body_members file class method None body e = subst (λ b. list_all (λ x. members_there p x.1) b.code ≡ true) (some_is no_body body e) refl
+  body_members file class method None body e = subst (λ b. list_all (λ x. members_there p x.1) b.code ≡ true) (same_Some no_body body e) refl
   body_members file class method (Some code) body e =
       let b = body_parts w file class method code body e in
       subst (λ x. list_all (λ i. members_there p i.1) x.code ≡ true) (sym b.is) (code_there w p c file.constant_pool (decoded code.code) b.instrs b.instrs_are)

@@ -6,6 +6,7 @@ use Rattle.std.specs.List.{AllByRecursion, list_all}
 use Rattle.std.specs.Option.{option_map}
 use Rattle.std.proofs.lemmas.Bool.{false≢true, and_from, or_left, or_right, lt-ltb, eq-eqb, eqb-true}
 use Rattle.std.proofs.lemmas.Int.{ints}
+use Rattle.std.proofs.lemmas.Option.{same_Some, none-some}
 use Rattle.kilim_constant_pool.specs.declared.entry.Entry.{Entry}
 use Rattle.kilim_opcodes.specs.declared.forms.OpForm.{OpForm}
 use Rattle.kilim_opcodes.specs.declared.forms.OpForm.TheVariants as form
@@ -24,7 +25,7 @@ use Rattle.kilim_link_spec.specs.Types.{each_of, type_named, class_named_by}
 use Rattle.kilim_link_spec.specs.declared.named.Named.{Named}
 use Rattle.kilim_link_spec.specs.World.{World}
 use Rattle.kilim_link_code_laws.proofs.Loaded.{IsLoaded, operand_loaded}
-use Rattle.kilim_link_code_laws.proofs.Lists.{some_is, none_is_some, all_map, first_and, each_of_all, each_of_length}
+use Rattle.kilim_link_code_laws.proofs.Lists.{all_map, first_and, each_of_all, each_of_length}
 use Rattle.kilim_link_code_laws.proofs.Tables.{lookup_parts, pair_parts, place_is, table_holds, table_parts, table_passes}
 use Rattle.kilim_link_code_laws.proofs.References.{HasDims, is_reference_named}
 use Rattle.kilim_link_code_laws.proofs.Rows.{rows_pass, forms_pass, mapped}
@@ -58,7 +59,7 @@ local_length : (at number len slot : ℕ) (instr : Instr) → is_local_length sl
 unfolding has_length
 local_length at number len slot instr h e =
     table_holds (λ k i. Has at len i) local_instrs (Some slot) number instr
-    (λ arg there. let same : is_local_length arg len ≡ true = subst (λ k. is_local_length k len ≡ true) (some_is slot arg there) h in (same, (same, (same, (same, (same, (same, tt))))))) e
+    (λ arg there. let same : is_local_length arg len ≡ true = subst (λ k. is_local_length k len ≡ true) (same_Some slot arg there) h in (same, (same, (same, (same, (same, (same, tt))))))) e
 
 short_local : (slot : ℕ) → slot < 2 ^ 8 → is_local_length slot 2 ≡ true
 short_local slot h = or_right (nat_lt slot 4 && 2 == 1) _ (or_left _ _ (and_from _ _ (lt-ltb slot 256 h) refl))
@@ -163,7 +164,7 @@ unfolding matches_increase
 none_increases least = (tt, refl)
 
 increase : (at : ℕ) (least : Option ℤ) (pairs : List (ℤ × ℤ)) (ys : List (ℤ × ℕ)) → PairsFit at least pairs → each_of pair_in pairs ≡ Some ys → Increase least ys
-increase at least [] ys fit e = subst (λ zs. Increase least zs) (some_is [] ys e) (none_increases least)
+increase at least [] ys fit e = subst (λ zs. Increase least zs) (same_Some [] ys e) (none_increases least)
 increase at least (pair ∷ pairs) ys fit e =
     let f = first_and (pair_in pair) (each_of pair_in pairs) ys e in
     let key = (pair_parts pair f.x f.first_is).key in
@@ -172,7 +173,7 @@ increase at least (pair ∷ pairs) ys fit e =
     subst (λ zs. Increase least zs) (sym f.is) (subst (λ k. IsAbove least k) key fit.0.0, next_increases f.x f.xs above later.1)
 
 pairs_far : (at : ℕ) (least : Option ℤ) (pairs : List (ℤ × ℤ)) (ys : List (ℤ × ℕ)) → PairsFit at least pairs → each_of pair_in pairs ≡ Some ys → list_all (is_far at) (map (λ pair. pair.1) ys) ≡ true
-pairs_far at least [] ys fit e = subst (λ zs. list_all (is_far at) (map (λ pair. pair.1) zs) ≡ true) (some_is [] ys e) refl
+pairs_far at least [] ys fit e = subst (λ zs. list_all (is_far at) (map (λ pair. pair.1) zs) ≡ true) (same_Some [] ys e) refl
 pairs_far at least (pair ∷ pairs) ys fit e =
     let f = first_and (pair_in pair) (each_of pair_in pairs) ys e in
     let first = far_by at f.x.1 pair.1 (pair_parts pair f.x f.first_is).to fit.0.2 in
@@ -202,11 +203,11 @@ typed_length w at number class instr dims e = typed_by w at number class instr (
 
 index_length : (w : World) (at number : ℕ) (o : Option Operand) (instr : Instr) → IsLoaded o → instr_with w number o ≡ Some instr → HasIndexed at number instr
 unfolding has_length
-index_length w at number None instr is e = absurd (none_is_some instr e)
+index_length w at number None instr is e = absurd (none-some instr e)
 index_length w at number (Some (AConstant value)) instr is e =
     table_holds (HasIndexed at) constant_instrs (Some value) number instr
     (λ arg there.
-    let h : (is_loaded arg && true) ≡ true = and_from _ _ (subst (λ v. is_loaded v ≡ true) (some_is value arg there) is) refl in
+    let h : (is_loaded arg && true) ≡ true = and_from _ _ (subst (λ v. is_loaded v ≡ true) (same_Some value arg there) is) refl in
     (h, (h, (h, tt)))) e
 index_length w at number (Some (AField member)) instr is e = table_passes (λ k i. has_length at i (index_len k)) field_instrs (field_found w member) number instr (λ arg. refl) e
 index_length w at number (Some (AMethod member)) instr is e = table_passes (λ k i. has_length at i (index_len k)) method_instrs (method_found w member) number instr (λ arg. refl) e
@@ -219,7 +220,7 @@ index_has w at number index len pool instr is e =
 -- ---- all of them
 
 given_length : (at len : ℕ) (x y : Instr) → Has at len x → Some x ≡ Some y → Has at len y
-given_length at len x y h e = subst (λ i. Has at len i) (some_is x y e) h
+given_length at len x y h e = subst (λ i. Has at len i) (same_Some x y e) h
 
 bipush_length : (at : ℕ) (n : ℤ) → Has at 2 (Bipush n)
 unfolding has_length

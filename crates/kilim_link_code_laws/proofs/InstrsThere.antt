@@ -4,6 +4,8 @@ use Rattle.std.specs.Prelude.{◌&&◌, ◌||◌, ◌==◌, not, if◌then◌els
 use Rattle.std.specs.List.{AllByRecursion}
 use Rattle.std.proofs.lemmas.Bool.Decides.{nat_tests}
 use Rattle.std.proofs.lemmas.Bool.{or_cases, eqb-true, agree_below_at, false≢true}
+use Rattle.std.proofs.lemmas.Option.{same_Some, none-some}
+use Rattle.kilim_lemmas.proofs.Truth.{rest_is_false}
 use Rattle.kilim_bytecode.specs.Code.{Placed, targets_of, is_place}
 use Rattle.kilim_classfile.specs.declared.class_file.ClassFile.{ClassFile}
 use Rattle.kilim_constant_pool.specs.declared.entry.Entry.{Entry}
@@ -32,7 +34,7 @@ use Rattle.kilim_link_spec.specs.World.{World, find_field, find_method, class_of
 use Rattle.kilim_link_code_laws.proofs.Forms.{HasItsForm}
 use Rattle.kilim_link_code_laws.proofs.Good.{Good}
 use Rattle.kilim_link_code_laws.proofs.Tables.{either_way}
-use Rattle.kilim_link_code_laws.proofs.Lists.{some_is, none_is_some, all_map}
+use Rattle.kilim_link_code_laws.proofs.Lists.{all_map}
 use Rattle.kilim_link_code_laws.proofs.Nothing.{all_mapped}
 use Rattle.kilim_link_code_laws.proofs.Mentions.{InstrMentions}
 use Rattle.kilim_link_code_laws.proofs.Rows.{forms_pass, mapped}
@@ -108,10 +110,10 @@ record IsClass (class : Named) : Type 0 where
   is : AClass name ≡ class
 
 plain_class : (class : Option Named) (x : Named) → unless_array class ≡ Some x → is_plain x ≡ true
-plain_class (Some (AClass name)) x e = ap is_plain (sym (some_is (AClass name) x e))
-plain_class None x e = absurd (none_is_some x e)
-plain_class (Some (AnArray type)) x e = absurd (none_is_some x e)
-plain_class (Some (Malformed name)) x e = absurd (none_is_some x e)
+plain_class (Some (AClass name)) x e = ap is_plain (sym (same_Some (AClass name) x e))
+plain_class None x e = absurd (none-some x e)
+plain_class (Some (AnArray type)) x e = absurd (none-some x e)
+plain_class (Some (Malformed name)) x e = absurd (none-some x e)
 
 constant_row : (n : ℕ) (c : Option Value) (o : Operand) → (n == 18 || n == 19 || n == 20) ≡ true → option_map AConstant c ≡ Some o → HasRow o n
 constant_row n c o t e = let m = mapped AConstant c o e in subst (λ x. HasRow x n) m.is (of_three (λ k. HasRow (AConstant m.x) k) n 18 19 20 refl refl refl t)
@@ -140,13 +142,9 @@ has_operand_row pool n entry o e =
     (λ t2. if_else (HasRow o n) (n == 182) _ _ o (virtual_row n (method_ref pool entry) o)
     (λ t3. if_else (HasRow o n) (n == 183 || n == 184) _ _ o (method_row n (any_method_ref pool entry) o)
     (λ t4. if_else (HasRow o n) (n == 187) _ _ o (new_row n (class_ref pool entry) o)
-    (λ t5. if_else (HasRow o n) (n == 189 || n == 192 || n == 193) _ None o (type_row n (class_ref pool entry) o) (λ t6 none. absurd (none_is_some o none))))))) e
+    (λ t5. if_else (HasRow o n) (n == 189 || n == 192 || n == 193) _ None o (type_row n (class_ref pool entry) o) (λ t6 none. absurd (none-some o none))))))) e
 
 -- ---- members and types
-
-not_lacking : (usable lacks : Bool) → usable ≡ true → (usable && lacks) ≡ false → lacks ≡ false
-not_lacking true lacks u e = e
-not_lacking false lacks u e = absurd (false≢true u)
 
 owner_found : {A : Type 0} (w : World) (find : ClassId → Option A) (class : Named) → Good w (OfClass class) → owner_lacks w (λ c. is_none (find c)) class ≡ false → There (option_and_then find (class_named_by w class))
 owner_found w find (AnArray type) g e = absurd (false≢true (sym e))
@@ -154,7 +152,7 @@ owner_found w find (Malformed name) g e = absurd (false≢true (sym e))
 owner_found w find (AClass name) g e =
     let lacks = λ (c : ClassId). is_none (find c) in
     let c = g.names.0.there in
-    let found = not_lacking (has_fiber w.form || not (is_fiber name)) (class_lacks lacks (class_of w name)) g.names.0.usable e in
+    let found = rest_is_false (has_fiber w.form || not (is_fiber name)) (class_lacks lacks (class_of w name)) g.names.0.usable e in
     let one : lacks c.x ≡ false = subst (λ o. class_lacks lacks o ≡ false) c.is found in
     same_there (option_and_then find (class_of w name)) (find c.x) (ap (option_and_then find) c.is) (not_none_there (find c.x) one)
 

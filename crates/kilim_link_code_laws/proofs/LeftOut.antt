@@ -2,6 +2,7 @@
 use Rattle.std.proofs.Common.{◌≡◌, Bool, true, false, List, [], ◌∷◌, ◌++◌, map, refl}
 use Rattle.std.specs.Prelude.{not}
 use Rattle.std.specs.List.{AllByRecursion}
+use Rattle.kilim_lemmas.proofs.Lists.{front_none, rest_none, map_none}
 use Rattle.kilim_classfile.specs.declared.class_file.ClassFile.{ClassFile}
 use Rattle.kilim_classes.specs.declared.names.ClassId.{ClassId}
 use Rattle.kilim_link_spec.specs.declared.fault.LeftOutPart.{LeftOutPart}
@@ -9,7 +10,6 @@ use Rattle.kilim_link_spec.specs.declared.fault.LeftOutPart.TheVariants as part
 use Rattle.kilim_link_spec.specs.declared.fault.Problem.TheVariants as problem
 use Rattle.kilim_link_spec.specs.Faults.{if_left, left_out, left_out_parts, left_out_ops, has_float, has_initializer, has_static_field, has_method_flag, has_interface, has_pausable_constructor, has_handlers, has_task_array, has_fiber_name, has_other_parameters}
 use Rattle.kilim_link_spec.specs.World.{World, acc_super, acc_synchronized, acc_native, has_flag}
-use Rattle.kilim_link_code_laws.proofs.Nothing.{front_none, rest_none, map_none}
 
 pub record NothingLeftOut (w : World) (file : ClassFile) : Type 0 where
   pub ops : left_out_ops file ≡ []

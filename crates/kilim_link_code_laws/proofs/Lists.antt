@@ -4,18 +4,13 @@ use Rattle.std.specs.Prelude.{◌&&◌}
 use Rattle.std.specs.List.{list_all, flat_map, AllByRecursion}
 use Rattle.std.proofs.lemmas.Bool.{and_from}
 use Rattle.std.proofs.lemmas.List.Folds.{list_all-append}
+use Rattle.std.proofs.lemmas.Option.{same_Some, none-some}
 use Rattle.kilim_classfile.specs.declared.class_file.ClassFile.{ClassFile}
 use Rattle.kilim_classfile.specs.declared.class_file.MemberInfo.{MemberInfo}
 use Rattle.kilim_classes.specs.BuiltIn.{class_id}
 use Rattle.kilim_classes.specs.declared.names.ClassId.{ClassId}
 use Rattle.kilim_link_spec.specs.Linked.{numbered}
 use Rattle.kilim_link_spec.specs.Types.{each_of, itself, with_first}
-
-pub some_is : {A : Type 0} (x y : A) → Some x ≡ Some y → x ≡ y
-some_is x y e = cc
-
-pub none_is_some : {A : Type 0} (x : A) → None ≡ Some x → ⊥
-none_is_some x e = cc
 
 -- the first and the others of a list whose elements are all there
 pub record FirstAnd {A : Type 0} (first : Option A) (others : Option (List A)) (all : List A) : Type 0 where
@@ -26,9 +21,9 @@ pub record FirstAnd {A : Type 0} (first : Option A) (others : Option (List A)) (
   pub is : all ≡ x ∷ xs
 
 pub first_and : {A : Type 0} (first : Option A) (others : Option (List A)) (all : List A) → with_first first others ≡ Some all → FirstAnd first others all
-first_and None others all e = absurd (none_is_some all e)
-first_and (Some x) None all e = absurd (none_is_some all e)
-first_and (Some x) (Some xs) all e = record { x = x; xs = xs; first_is = refl; others_are = refl; is = sym (some_is (x ∷ xs) all e) }
+first_and None others all e = absurd (none-some all e)
+first_and (Some x) None all e = absurd (none-some all e)
+first_and (Some x) (Some xs) all e = record { x = x; xs = xs; first_is = refl; others_are = refl; is = sym (same_Some (x ∷ xs) all e) }
 
 pub both_there : {A : Type 0} (x : A) (xs : List A) (first : Option A) (others : Option (List A)) → first ≡ Some x → others ≡ Some xs → with_first first others ≡ Some (x ∷ xs)
 both_there x xs first others e f = ap (λ o. with_first o others) e ∙ ap (λ o. with_first (Some x) o) f
@@ -52,13 +47,13 @@ list_all_same f g same [] = refl
 list_all_same f g same (x ∷ xs) = ap (λ (b : Bool). b && list_all f xs) (same x) ∙ ap (λ (b : Bool). g x && b) (list_all_same f g same xs)
 
 pub each_of_all : {A B : Type 0} (make : A → Option B) (test : B → Bool) (xs : List A) (ys : List B) → AllByRecursion (λ x. (y : B) → make x ≡ Some y → test y ≡ true) xs → each_of make xs ≡ Some ys → list_all test ys ≡ true
-each_of_all make test [] ys all e = subst (λ zs. list_all test zs ≡ true) (some_is [] ys e) refl
+each_of_all make test [] ys all e = subst (λ zs. list_all test zs ≡ true) (same_Some [] ys e) refl
 each_of_all make test (x ∷ xs) ys all e =
     let f = first_and (make x) (each_of make xs) ys e in
     subst (λ zs. list_all test zs ≡ true) (sym f.is) (and_from _ _ (all.0 f.x f.first_is) (each_of_all make test xs f.xs all.1 f.others_are))
 
 pub each_of_length : {A B : Type 0} (make : A → Option B) (xs : List A) (ys : List B) → each_of make xs ≡ Some ys → length ys ≡ length xs
-each_of_length make [] ys e = ap length (sym (some_is [] ys e))
+each_of_length make [] ys e = ap length (sym (same_Some [] ys e))
 each_of_length make (x ∷ xs) ys e =
     let f = first_and (make x) (each_of make xs) ys e in
     ap length f.is ∙ ap suc (each_of_length make xs f.xs f.others_are)
@@ -102,7 +97,7 @@ each_file P each n (file ∷ files) = (each file (class_id n), each_file P each 
 pub members_pass : {A : Type 0} (test : A → Bool) (list : ClassFile → List MemberInfo) (make : ClassFile → ClassId → MemberInfo → Option A) (n : ℕ) (files : List ClassFile) (ys : List A)
     → EachFile (λ file c. AllByRecursion (λ m. (y : A) → make file c m ≡ Some y → test y ≡ true) (list file)) n files
     → each_of itself (flat_map itself (numbered (λ file c. map (make file c) (list file)) n files)) ≡ Some ys → list_all test ys ≡ true
-members_pass test list make n [] ys each e = subst (λ zs. list_all test zs ≡ true) (some_is [] ys e) refl
+members_pass test list make n [] ys each e = subst (λ zs. list_all test zs ≡ true) (same_Some [] ys e) refl
 members_pass test list make n (file ∷ files) ys each e =
     let h = halves itself (map (make file (class_id n)) (list file)) (flat_map itself (numbered (λ file c. map (make file c) (list file)) (suc n) files)) ys e in
     let front = each_of_all (make file (class_id n)) test (list file) h.front each.0 (sym (each_of_map (make file (class_id n)) (list file)) ∙ h.front_is) in
@@ -112,7 +107,7 @@ members_pass test list make n (file ∷ files) ys each e =
 -- what is made of the files passes a test, where that of each file does
 pub numbered_pass : {A : Type 0} (test : A → Bool) (make : ClassFile → ClassId → Option A) (n : ℕ) (files : List ClassFile) (ys : List A) → EachFile (λ file c. (y : A) → make file c ≡ Some y → test y ≡ true) n files
     → each_of itself (numbered make n files) ≡ Some ys → list_all test ys ≡ true
-numbered_pass test make n [] ys each e = subst (λ zs. list_all test zs ≡ true) (some_is [] ys e) refl
+numbered_pass test make n [] ys each e = subst (λ zs. list_all test zs ≡ true) (same_Some [] ys e) refl
 numbered_pass test make n (file ∷ files) ys each e =
     let f = first_and (make file (class_id n)) (each_of itself (numbered make (suc n) files)) ys e in
     subst (λ zs. list_all test zs ≡ true) (sym f.is) (and_from _ _ (each.0 f.x f.first_is) (numbered_pass test make (suc n) files f.xs each.1 f.others_are))

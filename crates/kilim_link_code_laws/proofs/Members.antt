@@ -1,5 +1,6 @@
 -- The parts of a linked field, method and body.
 use Rattle.std.proofs.Common.{◌≡◌, ℕ, List, Option, Some, None, refl, sym}
+use Rattle.std.proofs.lemmas.Option.{same_Some, none-some}
 use Rattle.kilim_attributes.specs.declared.attribute.Code.{Code}
 use Rattle.kilim_classfile.specs.declared.class_file.ClassFile.{ClassFile}
 use Rattle.kilim_classfile.specs.declared.class_file.MemberInfo.{MemberInfo}
@@ -18,7 +19,6 @@ use Rattle.kilim_link_spec.specs.Linked.{body_in, body_with, code_attribute, fie
 use Rattle.kilim_link_spec.specs.declared.named.Body.{Body}
 use Rattle.kilim_link_spec.specs.Types.{field_text, method_text, type_in, types_in, result_in}
 use Rattle.kilim_link_spec.specs.World.{World, declared_method, member_descriptor}
-use Rattle.kilim_link_code_laws.proofs.Lists.{some_is, none_is_some}
 
 -- what is there, and what comes of it
 pub record Bound {A B : Type 0} (o : Option A) (next : A → Option B) (y : B) : Type 0 where
@@ -27,7 +27,7 @@ pub record Bound {A B : Type 0} (o : Option A) (next : A → Option B) (y : B) :
   pub then : next x ≡ Some y
 
 pub bound : {A B : Type 0} (o : Option A) (next : A → Option B) (y : B) → (o >>= next) ≡ Some y → Bound o next y
-bound None next y e = absurd (none_is_some y e)
+bound None next y e = absurd (none-some y e)
 bound (Some x) next y e = record { x = x; there = refl; then = e }
 
 pub record FieldParts (w : World) (file : ClassFile) (c : ClassId) (field : MemberInfo) (y : Field) : Type 0 where
@@ -42,7 +42,7 @@ field_parts w file c field y e =
     let ty_next = λ (ty : Ty). Some (field_with file c field ty) in
     let a = bound (field_text (member_descriptor file field)) (λ text. type_in w text >>= ty_next) y e in
     let b = bound (type_in w a.x) ty_next y a.then in
-    record { text = a.x; ty = b.x; text_is = a.there; ty_is = b.there; is = sym (some_is (field_with file c field b.x) y b.then) }
+    record { text = a.x; ty = b.x; text_is = a.there; ty_is = b.there; is = sym (same_Some (field_with file c field b.x) y b.then) }
 
 pub record MethodParts (w : World) (file : ClassFile) (c : ClassId) (method : MemberInfo) (y : Method) : Type 0 where
   pub text : MethodText
@@ -73,7 +73,7 @@ method_parts w file c method y e =
       params_are = b.there;
       result_is = d.there;
       body_is = f.there;
-      is = sym {a = method_with w file c method b.x d.x f.x} (some_is (method_with w file c method b.x d.x f.x) y f.then);
+      is = sym {a = method_with w file c method b.x d.x f.x} (same_Some (method_with w file c method b.x d.x f.x) y f.then);
     }
 
 pub record BodyParts (w : World) (file : ClassFile) (c : ClassId) (method : MemberInfo) (code : Code) (body : Body) : Type 0 where
@@ -88,4 +88,4 @@ body_parts w file c method code body e =
     let with_frames = λ (instrs : List (ℕ × Instr)). frames_in w file c (declared_method file method) code >>= λ frames. Some (body_with code instrs frames) in
     let a = bound (code_of w file.constant_pool (decoded code.code)) with_frames body e in
     let b = bound (frames_in w file c (declared_method file method) code) (λ frames. Some (body_with code a.x frames)) body a.then in
-    record { instrs = a.x; frames = b.x; instrs_are = a.there; frames_are = b.there; is = sym (some_is (body_with code a.x b.x) body b.then) }
+    record { instrs = a.x; frames = b.x; instrs_are = a.there; frames_are = b.there; is = sym (same_Some (body_with code a.x b.x) body b.then) }

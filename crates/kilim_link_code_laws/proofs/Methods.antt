@@ -5,6 +5,8 @@ use Rattle.std.specs.List.{list_all, AllByRecursion}
 use Rattle.std.proofs.lemmas.Bool.{and_from, eq-eqb, le-leb, ltb-false, not_from_false}
 use Rattle.std.proofs.lemmas.List.Folds.{list_all-append}
 use Rattle.std.proofs.lemmas.List.Sums.{sum_by-cons}
+use Rattle.std.proofs.lemmas.Option.{same_Some, none-some}
+use Rattle.kilim_lemmas.proofs.Lists.{map_none}
 use Rattle.kilim_classfile.specs.declared.class_file.ClassFile.{ClassFile}
 use Rattle.kilim_classfile.specs.declared.class_file.MemberInfo.{MemberInfo}
 use Rattle.kilim_descriptors.specs.declared.types.BaseText.{BaseText}
@@ -33,24 +35,24 @@ use Rattle.kilim_link_spec.specs.Types.{method_text, type_in, types_in, base_in,
 use Rattle.kilim_link_spec.specs.World.{World, world_of, declared_method, member_descriptor, member_name, parameter_types}
 use Rattle.kilim_link_code_laws.proofs.Files.{each_without, each_file_map}
 use Rattle.kilim_link_code_laws.proofs.LeftOut.{nothing_left_out}
-use Rattle.kilim_link_code_laws.proofs.Lists.{some_is, none_is_some, first_and, each_of_length, all_map, all_both, members_pass}
+use Rattle.kilim_link_code_laws.proofs.Lists.{first_and, each_of_length, all_map, all_both, members_pass}
 use Rattle.kilim_link_code_laws.proofs.Members.{method_parts}
 use Rattle.kilim_link_code_laws.proofs.Mentions.{MethodMentions, file_mentions}
-use Rattle.kilim_link_code_laws.proofs.Nothing.{map_none, flat_map_none, none_any}
+use Rattle.kilim_link_code_laws.proofs.Nothing.{flat_map_none, none_any}
 use Rattle.kilim_link_code_laws.proofs.Rows.{mapped}
 use Rattle.kilim_link_code_laws.specs.Facts.{MethodsAreSound}
 
 -- ---- argument slots
 
 same_width : (w : World) (b : BaseText) (y : Base) → base_in w b ≡ Some y → is_wide_base y ≡ is_wide b
-same_width w text.Bool y e = ap is_wide_base (sym (some_is base.Bool y e))
-same_width w text.Byte y e = ap is_wide_base (sym (some_is base.Byte y e))
-same_width w text.Char y e = ap is_wide_base (sym (some_is base.Char y e))
-same_width w text.Short y e = ap is_wide_base (sym (some_is base.Short y e))
-same_width w text.Int y e = ap is_wide_base (sym (some_is base.Int y e))
-same_width w text.Long y e = ap is_wide_base (sym (some_is base.Long y e))
-same_width w text.Float y e = absurd (none_is_some y e)
-same_width w text.Double y e = absurd (none_is_some y e)
+same_width w text.Bool y e = ap is_wide_base (sym (same_Some base.Bool y e))
+same_width w text.Byte y e = ap is_wide_base (sym (same_Some base.Byte y e))
+same_width w text.Char y e = ap is_wide_base (sym (same_Some base.Char y e))
+same_width w text.Short y e = ap is_wide_base (sym (same_Some base.Short y e))
+same_width w text.Int y e = ap is_wide_base (sym (same_Some base.Int y e))
+same_width w text.Long y e = ap is_wide_base (sym (same_Some base.Long y e))
+same_width w text.Float y e = absurd (none-some y e)
+same_width w text.Double y e = absurd (none-some y e)
 same_width w (text.Class name) y e = ap is_wide_base (sym (mapped base.Class _ y e).is)
 
 same_slots_by : (flat wide : Bool) → (if flat && wide then 2 else 1) ≡ (if flat then base_slots wide else 1)
@@ -64,7 +66,7 @@ same_slots w f ty e =
     ap type_slots (sym m.is) ∙ (ap (λ (b : Bool). if f.dims == 0 && b then 2 else 1) (same_width w f.base m.x m.there) ∙ same_slots_by (f.dims == 0) (is_wide f.base))
 
 same_sum : (w : World) (fs : List FieldText) (tys : List Ty) → each_of (type_in w) fs ≡ Some tys → sum_by type_slots tys ≡ sum_by slots fs
-same_sum w [] tys e = ap (sum_by type_slots) (sym (some_is [] tys e))
+same_sum w [] tys e = ap (sum_by type_slots) (sym (same_Some [] tys e))
 same_sum w (f ∷ fs) tys e =
     let g = first_and (type_in w f) (each_of (type_in w) fs) tys e in
     ap (sum_by type_slots) g.is
@@ -73,8 +75,8 @@ same_sum w (f ∷ fs) tys e =
     ∙ (ap (λ (n : ℕ). slots f + n) (same_sum w fs g.xs g.others_are) ∙ sym (sum_by-cons slots f fs))))
 
 some_method : (n : ℕ) (o : Option MethodText) (m : MethodText) → o ≡ Some m → is_no_method n o ≡ false → n + slots_of m ≤ 255
-some_method n None m e h = absurd (none_is_some m e)
-some_method n (Some x) m e h = subst (λ (y : MethodText). n + slots_of y ≤ 255) (some_is x m e) (ltb-false 255 (n + slots_of x) h)
+some_method n None m e h = absurd (none-some m e)
+some_method n (Some x) m e h = subst (λ (y : MethodText). n + slots_of y ≤ 255) (same_Some x m e) (ltb-false 255 (n + slots_of x) h)
 
 fits_by : (test : Bool) (x : List ℕ) → (if test then x ∷ [] else []) ≡ [] → test ≡ false
 fits_by true x e = absurd (cc)

@@ -2,6 +2,7 @@
 use Rattle.std.proofs.Common.{◌≡◌, ℕ, Bool, true, false, ℤ, List, Option, Some, None, Result, Ok, Err, refl, subst, option_map}
 use Rattle.std.specs.Prelude.{◌==◌, if◌then◌else◌}
 use Rattle.std.specs.List.{list_all}
+use Rattle.std.proofs.lemmas.Option.{same_Some, none-some}
 use Rattle.kilim_bytecode.specs.declared.fault.CodeFault.{CodeFault}
 use Rattle.kilim_bytecode.specs.Code.{Placed}
 use Rattle.kilim_constant_pool.specs.declared.entry.Entry.{Entry}
@@ -21,7 +22,7 @@ use Rattle.kilim_link_code_laws.proofs.Codes.{placed_parts}
 use Rattle.kilim_link_code_laws.proofs.Counts.{Counts}
 use Rattle.kilim_link_code_laws.proofs.FoundIds.{found_field, found_method}
 use Rattle.kilim_link_code_laws.proofs.Tables.{table_holds, table_passes, table_parts, lookup_parts}
-use Rattle.kilim_link_code_laws.proofs.Lists.{some_is, none_is_some, all_from, each_of_all}
+use Rattle.kilim_link_code_laws.proofs.Lists.{all_from, each_of_all}
 use Rattle.kilim_link_code_laws.proofs.Rows.{rows_pass, mapped}
 
 module _ (w : World) (p : Program) (counts : Counts w p) where
@@ -29,7 +30,7 @@ module _ (w : World) (p : Program) (counts : Counts w p) where
   AreThere y = members_there p y ≡ true
 
   given : (x y : Instr) → AreThere x → Some x ≡ Some y → AreThere y
-  given x y h e = subst AreThere (some_is x y e) h
+  given x y h e = subst AreThere (same_Some x y e) h
 
   local_there : (number slot : ℕ) (y : Instr) → applied (row local_instrs number) (Some slot) ≡ Some y → AreThere y
   local_there number slot y e = table_passes (λ k i. members_there p i) local_instrs (Some slot) number y (λ arg. refl) e
@@ -42,7 +43,7 @@ module _ (w : World) (p : Program) (counts : Counts w p) where
   typed_there number class y false e = table_passes (λ k i. members_there p i) type_instrs (type_named w class) number y (λ arg. refl) e
 
   index_there : (number : ℕ) (o : Option Operand) (y : Instr) → instr_with w number o ≡ Some y → AreThere y
-  index_there number None y e = absurd (none_is_some y e)
+  index_there number None y e = absurd (none-some y e)
   index_there number (Some (AConstant value)) y e = table_passes (λ k i. members_there p i) constant_instrs (Some value) number y (λ arg. refl) e
   index_there number (Some (AField member)) y e =
       table_holds (λ k i. AreThere i) field_instrs (field_found w member) number y
@@ -70,6 +71,6 @@ module _ (w : World) (p : Program) (counts : Counts w p) where
   instr_there pool (raw.WideIinc number slot n) y e = given (Iinc slot n) y refl e
 
   pub code_there : (pool : List Entry) (r : Result (List Placed) CodeFault) (es : List (ℕ × Instr)) → code_of w pool r ≡ Some es → list_all (λ e. members_there p e.1) es ≡ true
-  code_there pool (Err fault) es e = absurd (none_is_some es e)
+  code_there pool (Err fault) es e = absurd (none-some es e)
   code_there pool (Ok placed) es e =
       each_of_all (placed_in w pool) (λ x. members_there p x.1) placed es (all_from _ (λ q x there. instr_there pool q.1 x.1 (placed_parts w pool q x there).there) placed) e

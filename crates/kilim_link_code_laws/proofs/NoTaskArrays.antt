@@ -4,6 +4,8 @@ use Rattle.std.specs.Prelude.{◌&&◌, not, nat_lt}
 use Rattle.std.specs.List.{list_all, list_any, flat_map, AllByRecursion}
 use Rattle.std.proofs.lemmas.Bool.{and_from, false≢true, not_from_false, or_from}
 use Rattle.std.proofs.lemmas.List.Folds.{list_all-append, list_all-map}
+use Rattle.std.proofs.lemmas.Option.{same_Some, none-some}
+use Rattle.kilim_lemmas.proofs.Lists.{get_right}
 use Rattle.kilim_classfile.specs.declared.class_file.ClassFile.{ClassFile}
 use Rattle.kilim_descriptors.specs.declared.types.BaseText.{BaseText}
 use Rattle.kilim_descriptors.specs.declared.types.BaseText.TheVariants as text
@@ -32,7 +34,7 @@ use Rattle.kilim_link_spec.specs.Types.{base_in, type_in, typed}
 use Rattle.kilim_link_spec.specs.World.{World, class_of, world_of, member_descriptor}
 use Rattle.kilim_link_code_laws.proofs.Files.{each_without, each_file_map}
 use Rattle.kilim_link_code_laws.proofs.LeftOut.{nothing_left_out}
-use Rattle.kilim_link_code_laws.proofs.Lists.{some_is, none_is_some, all_map, list_all_same, members_pass, made_length}
+use Rattle.kilim_link_code_laws.proofs.Lists.{all_map, list_all_same, members_pass, made_length}
 use Rattle.kilim_link_code_laws.proofs.Mentions.{FileMentions, MethodMentions, file_mentions}
 use Rattle.kilim_link_code_laws.proofs.Nothing.{none_any, all_flat}
 use Rattle.kilim_link_code_laws.proofs.Rows.{mapped}
@@ -53,14 +55,14 @@ SameTasks w p = (c : ClassId) → is_task w.outline c ≡ is_task p c
 
 module _ (w : World) (p : Program) (same : SameTasks w p) where
   same_text : (b : BaseText) (y : Base) → base_in w b ≡ Some y → is_task_base p y ≡ is_task_text w b
-  same_text text.Bool y e = ap (is_task_base p) (sym (some_is base.Bool y e))
-  same_text text.Byte y e = ap (is_task_base p) (sym (some_is base.Byte y e))
-  same_text text.Char y e = ap (is_task_base p) (sym (some_is base.Char y e))
-  same_text text.Short y e = ap (is_task_base p) (sym (some_is base.Short y e))
-  same_text text.Int y e = ap (is_task_base p) (sym (some_is base.Int y e))
-  same_text text.Long y e = ap (is_task_base p) (sym (some_is base.Long y e))
-  same_text text.Float y e = absurd (none_is_some y e)
-  same_text text.Double y e = absurd (none_is_some y e)
+  same_text text.Bool y e = ap (is_task_base p) (sym (same_Some base.Bool y e))
+  same_text text.Byte y e = ap (is_task_base p) (sym (same_Some base.Byte y e))
+  same_text text.Char y e = ap (is_task_base p) (sym (same_Some base.Char y e))
+  same_text text.Short y e = ap (is_task_base p) (sym (same_Some base.Short y e))
+  same_text text.Int y e = ap (is_task_base p) (sym (same_Some base.Int y e))
+  same_text text.Long y e = ap (is_task_base p) (sym (same_Some base.Long y e))
+  same_text text.Float y e = absurd (none-some y e)
+  same_text text.Double y e = absurd (none-some y e)
   same_text (text.Class name) y e =
       let m = mapped base.Class (class_of w name) y e in
       ap (is_task_base p) (sym m.is) ∙ (sym (same m.x) ∙ ap (is_task_name w) (sym m.there))
@@ -132,17 +134,11 @@ no_task_below : (p : Program) (k : ℕ) (c up : ClassId) → superclass_at p c �
 no_task_below p zero c up e named top top_named = refl
 no_task_below p (suc k) c up e named top top_named = no_task_step p k c (Some up) e named (no_task_top p k up top top_named)
 
-slice_behind : {A : Type 0} (xs ys : List A) (k i : ℕ) → k ≡ length xs + i → slice_get (xs ++ ys) k ≡ slice_get ys i
-slice_behind [] ys k i e = let same : k ≡ i = omega (arith, e) in ap (slice_get ys) same
-slice_behind (x ∷ xs) ys k i e =
-    let more : k ≡ suc (length xs + i) = omega (arith, e) in
-    ap (λ (j : ℕ). slice_get (x ∷ (xs ++ ys)) j) more ∙ slice_behind xs ys (length xs + i) i refl
-
 message_is_no_task : (p : Program) (classes : List Class) (form : Form) (n m : ℕ) → length classes ≡ n → p.classes ≡ classes ++ built_in_classes_in form n m → is_task p (class_id (n + 2)) ≡ false
 message_is_no_task p classes form n m len are =
     let built = built_in_classes_in form n m in
-    let message : class_at p (class_id (n + 2)) ≡ slice_get built 2 = ap (λ (cs : List Class). slice_get cs (n + 2)) are ∙ slice_behind classes built (n + 2) 2 (omega (arith, len)) in
-    let object : class_at p (class_id n) ≡ slice_get built 0 = ap (λ (cs : List Class). slice_get cs n) are ∙ slice_behind classes built n 0 (omega (arith, len)) in
+    let message : class_at p (class_id (n + 2)) ≡ slice_get built 2 = ap (λ (cs : List Class). slice_get cs (n + 2)) are ∙ get_right classes built (n + 2) 2 (omega (arith, len)) in
+    let object : class_at p (class_id n) ≡ slice_get built 0 = ap (λ (cs : List Class). slice_get cs n) are ∙ get_right classes built n 0 (omega (arith, len)) in
     no_task_below p (length p.classes) (class_id (n + 2)) (class_id n)
     (ap (λ (o : Option Class). o >>= λ (class : Class). class.superclass) message) (ap named_task message)
     (ap (λ (o : Option Class). o >>= λ (class : Class). class.superclass) object) (ap named_task object)

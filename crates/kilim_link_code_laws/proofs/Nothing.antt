@@ -2,18 +2,7 @@
 use Rattle.std.proofs.Common.{◌≡◌, Bool, true, false, List, [], ◌∷◌, ◌++◌, map, refl, filter, cond}
 use Rattle.std.specs.List.{list_any, flat_map, AllByRecursion}
 use Rattle.std.proofs.lemmas.Bool.{or_parts}
-
-pub front_none : {A : Type 0} (xs ys : List A) → xs ++ ys ≡ [] → xs ≡ []
-front_none [] ys e = refl
-front_none (x ∷ xs) ys e = absurd (cc)
-
-pub rest_none : {A : Type 0} (xs ys : List A) → xs ++ ys ≡ [] → ys ≡ []
-rest_none [] ys e = e
-rest_none (x ∷ xs) ys e = absurd (cc)
-
-pub map_none : {A B : Type 0} (f : A → B) (xs : List A) → map f xs ≡ [] → xs ≡ []
-map_none f [] e = refl
-map_none f (x ∷ xs) e = absurd (cc)
+use Rattle.kilim_lemmas.proofs.Lists.{front_none, rest_none, cond_none}
 
 pub flat_map_none : {A B : Type 0} (f : A → List B) (xs : List A) → flat_map f xs ≡ [] → AllByRecursion (λ x. f x ≡ []) xs
 flat_map_none f [] e = tt
@@ -23,13 +12,9 @@ pub none_any : {A : Type 0} (test : A → Bool) (xs : List A) → list_any test 
 none_any test [] e = tt
 none_any test (x ∷ xs) e = let p = or_parts (test x) (list_any test xs) e in (p.0, none_any test xs p.1)
 
-kept_none : {A : Type 0} (passes : Bool) (x : A) (xs : List A) → cond passes (x ∷ xs) xs ≡ [] → (passes ≡ false) × (xs ≡ [])
-kept_none true x xs e = absurd (cc)
-kept_none false x xs e = (refl, e)
-
 pub filter_none : {A : Type 0} (test : A → Bool) (xs : List A) → filter test xs ≡ [] → AllByRecursion (λ x. test x ≡ false) xs
 filter_none test [] e = tt
-filter_none test (x ∷ xs) e = let p = kept_none (test x) x (filter test xs) e in (p.0, filter_none test xs p.1)
+filter_none test (x ∷ xs) e = let p = cond_none (test x) x (filter test xs) e in (p.0, filter_none test xs p.1)
 
 -- ---- of each element of a list that is put together
 

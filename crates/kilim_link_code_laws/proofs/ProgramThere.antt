@@ -1,6 +1,7 @@
 -- Where there is no fault there is a program.
 use Rattle.std.proofs.Common.{◌≡◌, false, List, [], ◌∷◌, Option, Some, None, refl, ap, sym, subst}
 use Rattle.std.specs.List.{flat_map, filter_map, cons_option, AllByRecursion}
+use Rattle.kilim_lemmas.proofs.Lists.{map_none}
 use Rattle.kilim_bytecode.specs.Code.{Placed}
 use Rattle.kilim_bytecode.specs.Exact.{TargetsArePlaces}
 use Rattle.kilim_classfile.specs.declared.class_file.ClassFile.{ClassFile}
@@ -30,7 +31,7 @@ use Rattle.kilim_link_code_laws.proofs.InstrsThere.{MembersThere}
 use Rattle.kilim_link_code_laws.proofs.LeftOut.{nothing_left_out}
 use Rattle.kilim_link_code_laws.proofs.Lists.{EachFile, all_both, all_map}
 use Rattle.kilim_link_code_laws.proofs.Mentions.{FileMentions, MethodMentions, file_mentions}
-use Rattle.kilim_link_code_laws.proofs.Nothing.{map_none, flat_map_none, filter_none, all_flat}
+use Rattle.kilim_link_code_laws.proofs.Nothing.{flat_map_none, filter_none, all_flat}
 use Rattle.kilim_link_code_laws.proofs.There.{There, there, same_there, next_there, AllThere, classes_there, members_there}
 use Rattle.kilim_link_code_laws.proofs.TypesThere.{field_there, method_there}
 use Rattle.kilim_link_code_laws.specs.Facts.{NoFaultLinks}

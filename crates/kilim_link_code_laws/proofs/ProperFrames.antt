@@ -4,6 +4,7 @@ use Rattle.std.specs.Prelude.{◌==◌, if◌then◌else◌}
 use Rattle.std.specs.List.{list_all, flat_map, AllByRecursion}
 use Rattle.std.proofs.lemmas.Bool.{and_from, and_parts, false≢true}
 use Rattle.std.proofs.lemmas.List.Folds.{list_all-append}
+use Rattle.std.proofs.lemmas.Option.{same_Some, none-some}
 use Rattle.kilim_attribute_parts.specs.declared.frame.Frame.{Frame as FrameForm}
 use Rattle.kilim_attribute_parts.specs.declared.frame.Frame.TheVariants.{Same, SameLocals1StackItem, SameLocals1StackItemExtended, Chop, SameExtended, Append, Full}
 use Rattle.kilim_attribute_parts.specs.declared.frame.VerificationType.{VerificationType}
@@ -39,7 +40,7 @@ use Rattle.kilim_link_spec.specs.Types.{each_of, itself, method_text, named_by, 
 use Rattle.kilim_link_spec.specs.World.{World, class_text, declared_method, world_of}
 use Rattle.kilim_link_spec.specs.declared.view.DeclaredMethod.{DeclaredMethod}
 use Rattle.kilim_link_code_laws.proofs.FramesThere.{Slots, taken_there}
-use Rattle.kilim_link_code_laws.proofs.Lists.{some_is, none_is_some, first_and, all_from, each_file, each_of_all, members_pass}
+use Rattle.kilim_link_code_laws.proofs.Lists.{first_and, all_from, each_file, each_of_all, members_pass}
 use Rattle.kilim_link_code_laws.proofs.Members.{body_parts, method_parts}
 use Rattle.kilim_link_code_laws.proofs.References.{is_reference_named, named_has_dims}
 use Rattle.kilim_link_code_laws.proofs.Rows.{mapped}
@@ -57,10 +58,10 @@ abbrev AreProper : Slots → Type 0
 AreProper slots = AllByRecursion IsProper slots
 
 given : (x : VType) → is_proper x ≡ true → IsProper (Some x)
-given x f v e = subst (λ y. is_proper y ≡ true) (some_is x v e) f
+given x f v e = subst (λ y. is_proper y ≡ true) (same_Some x v e) f
 
 absent : IsProper None
-absent v e = absurd (none_is_some v e)
+absent v e = absurd (none-some v e)
 
 slot_proper : (w : World) (pool : List Entry) (s : VerificationType) → IsProper (slot_in w pool s)
 slot_proper w pool entry.Top = given Top refl
@@ -170,7 +171,7 @@ all_proper frames = list_all (λ e. frame_is_proper e.1) frames
 
 all_are : (w : World) (pool : List Entry) (before : Option ℕ) (locals : Slots) (fs : List FrameForm) (frames : List (ℕ × Frame)) → AreProper locals → each_of itself (frames_from w pool before locals fs) ≡ Some frames → all_proper frames ≡ true
 unfolding frames_from
-all_are w pool before locals [] frames l e = subst (λ xs. all_proper xs ≡ true) (some_is [] frames e) refl
+all_are w pool before locals [] frames l e = subst (λ xs. all_proper xs ≡ true) (same_Some [] frames e) refl
 all_are w pool before locals (f ∷ fs) frames l e =
     let at = place_after before (delta_of f) in
     let en = entries_of w pool locals f in
@@ -181,7 +182,7 @@ all_are w pool before locals (f ∷ fs) frames l e =
 -- ---- all methods
 
 body_proper : (w : World) (file : ClassFile) (c : ClassId) (method : MemberInfo) (code : Option Code) (body : Body) → body_in w file c method code ≡ Some body → all_proper body.frames ≡ true
-body_proper w file c method None body e = subst (λ b. all_proper b.frames ≡ true) (some_is no_body body e) refl
+body_proper w file c method None body e = subst (λ b. all_proper b.frames ≡ true) (same_Some no_body body e) refl
 body_proper w file c method (Some code) body e =
     let b = body_parts w file c method code body e in
     let m = declared_method file method in

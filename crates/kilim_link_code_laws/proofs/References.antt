@@ -1,6 +1,7 @@
 -- What a class entry names is a class, or an array with a dimension at least.
 use Rattle.std.proofs.Common.{◌≡◌, ℕ, zero, suc, ◌+◌, ◌<◌, ◌≤◌, Bool, true, false, List, [], ◌∷◌, length, Option, Some, None, Result, Ok, Err, refl, ap, sym, subst, arith}
 use Rattle.std.specs.Prelude.{◌==◌, nat_lt, if◌then◌else◌}
+use Rattle.std.proofs.lemmas.Option.{same_Some, none-some}
 use Rattle.kilim_descriptors.specs.declared.types.BaseText.{BaseText}
 use Rattle.kilim_descriptors.specs.declared.types.FieldText.{FieldText}
 use Rattle.kilim_descriptors.specs.Exact.{spelled_by}
@@ -14,7 +15,6 @@ use Rattle.kilim_link_spec.specs.Types.{array_or_malformed, base_in, field_text,
 use Rattle.kilim_link_spec.specs.declared.named.Named.{Named}
 use Rattle.kilim_link_spec.specs.declared.named.Named.TheVariants.{AClass, AnArray, Malformed}
 use Rattle.kilim_link_spec.specs.World.{World, class_of}
-use Rattle.kilim_link_code_laws.proofs.Lists.{none_is_some, some_is}
 use Rattle.kilim_link_code_laws.proofs.Rows.{mapped}
 
 -- ---- a descriptor that begins with `[`
@@ -62,8 +62,8 @@ whole_read (Err left) f e = absurd cc
 whole_read (Ok x) f e = record { x = x; read_is = refl; is = all_is x (length x.1 == 0) (length x.1) f e }
 
 spelled_is : (read : Result FieldText ℕ) (f : FieldText) → spelled_by read ≡ Some f → read ≡ Ok f
-spelled_is (Ok g) f e = ap Ok (some_is g f e)
-spelled_is (Err left) f e = absurd (none_is_some f e)
+spelled_is (Ok g) f e = ap Ok (same_Some g f e)
+spelled_is (Err left) f e = absurd (none-some f e)
 
 -- an array has a dimension at least
 abbrev pub HasDims : Named → Type 0
@@ -98,4 +98,4 @@ is_reference_named w (AClass name) ty has e =
 is_reference_named w (AnArray type) ty has e =
     let m = mapped (typed type.dims) (base_in w type.base) ty e in
     subst (λ t. is_reference t ≡ true) m.is (array_is_reference type.dims m.x has)
-is_reference_named w (Malformed name) ty has e = absurd (none_is_some ty e)
+is_reference_named w (Malformed name) ty has e = absurd (none-some ty e)

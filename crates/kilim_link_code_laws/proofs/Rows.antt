@@ -4,10 +4,10 @@ use Rattle.std.specs.Prelude.{◌&&◌, ◌==◌, nat_lt, nat_le, if◌then◌el
 use Rattle.std.specs.List.{list_all, find, AllByRecursion}
 use Rattle.std.specs.Option.{option_map}
 use Rattle.std.proofs.lemmas.Bool.{and_parts, eqb-true, ltb-true, leb-true, agree_below, agree_below_at}
+use Rattle.std.proofs.lemmas.Option.{same_Some, none-some}
 use Rattle.kilim_opcodes.specs.declared.forms.OpForm.{OpForm}
 use Rattle.kilim_opcodes.specs.Table.{Row, rows, form_of}
 use Rattle.kilim_link_spec.specs.Code.{row}
-use Rattle.kilim_link_code_laws.proofs.Lists.{some_is, none_is_some}
 
 pub each_passes : {A : Type 0} (test : A → Bool) (xs : List A) → list_all test xs ≡ true → AllByRecursion (λ x. test x ≡ true) xs
 each_passes test [] e = tt
@@ -15,11 +15,11 @@ each_passes test (x ∷ xs) e = let p = and_parts (test x) (list_all test xs) e 
 
 -- one of two
 pub if_cases : {A : Type 0} (P : Type 0) (test : Bool) (y x : A) (later : Option A) → (test ≡ true → y ≡ x → P) → (test ≡ false → later ≡ Some x → P) → (if test then Some y else later) ≡ Some x → P
-if_cases P true y x later here there e = here refl (some_is y x e)
+if_cases P true y x later here there e = here refl (same_Some y x e)
 if_cases P false y x later here there e = there refl e
 
 pub rows_hold : {A : Type 0} (P : ℕ → A → Type 0) (table : List (ℕ × A)) → AllByRecursion (λ r. P r.0 r.1) table → (number : ℕ) (x : A) → row table number ≡ Some x → P number x
-rows_hold P [] all number x e = absurd (none_is_some x e)
+rows_hold P [] all number x e = absurd (none-some x e)
 rows_hold P (r ∷ rs) all number x e =
     if_cases (P number x) (r.0 == number) r.1 x (row rs number)
     (λ here same. subst (λ k. P k x) (eqb-true r.0 number here) (subst (λ y. P r.0 y) same all.0))
@@ -31,7 +31,7 @@ rows_pass test table all number x e = rows_hold (λ k y. test k y ≡ true) tabl
 -- ---- the table of forms
 
 find_holds : {A : Type 0} (test holds : A → Bool) (xs : List A) (x : A) → list_all holds xs ≡ true → find test xs ≡ Some x → (test x ≡ true) × (holds x ≡ true)
-find_holds test holds [] x all e = absurd (none_is_some x e)
+find_holds test holds [] x all e = absurd (none-some x e)
 find_holds test holds (y ∷ ys) x all e =
     let p = and_parts (holds y) (list_all holds ys) all in
     if_cases ((test x ≡ true) × (holds x ≡ true)) (test y) y x (find test ys)
@@ -45,8 +45,8 @@ pub record Mapped {A B : Type 0} (f : A → B) (o : Option A) (y : B) : Type 0 w
   pub is : f x ≡ y
 
 pub mapped : {A B : Type 0} (f : A → B) (o : Option A) (y : B) → option_map f o ≡ Some y → Mapped f o y
-mapped f None y e = absurd (none_is_some y e)
-mapped f (Some x) y e = record { x = x; there = refl; is = some_is (f x) y e }
+mapped f None y e = absurd (none-some y e)
+mapped f (Some x) y e = record { x = x; there = refl; is = same_Some (f x) y e }
 
 abbrev in_row : ℕ → Row → Bool
 in_row number r = nat_le r.0 number && nat_le number r.1

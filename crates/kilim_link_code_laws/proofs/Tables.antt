@@ -4,11 +4,11 @@ use Rattle.std.specs.Prelude.{◌||◌, not}
 use Rattle.std.specs.List.{AllByRecursion, list_all}
 use Rattle.std.specs.Option.{option_map}
 use Rattle.std.proofs.lemmas.Bool.{false≢true}
+use Rattle.std.proofs.lemmas.Option.{same_Some, none-some}
 use Rattle.kilim_classes.specs.declared.instr.Instr.{Instr}
 use Rattle.kilim_classes.specs.declared.instr.Instr.TheVariants.{Tableswitch, Lookupswitch}
 use Rattle.kilim_link_spec.specs.Code.{applied, row, place_of, pair_in}
 use Rattle.kilim_link_spec.specs.Types.{each_of}
-use Rattle.kilim_link_code_laws.proofs.Lists.{some_is, none_is_some}
 use Rattle.kilim_link_code_laws.proofs.Rows.{each_passes, rows_hold, mapped}
 
 -- a function and its argument that are there
@@ -20,9 +20,9 @@ pub record Applied {A B : Type 0} (f : Option (A → B)) (x : Option A) (y : B) 
   pub is : fn arg ≡ y
 
 pub applied_parts : {A B : Type 0} (f : Option (A → B)) (x : Option A) (y : B) → applied f x ≡ Some y → Applied f x y
-applied_parts None x y e = absurd (none_is_some y e)
-applied_parts (Some f) None y e = absurd (none_is_some y e)
-applied_parts (Some f) (Some x) y e = record { fn = f; arg = x; fn_is = refl; arg_is = refl; is = some_is (f x) y e }
+applied_parts None x y e = absurd (none-some y e)
+applied_parts (Some f) None y e = absurd (none-some y e)
+applied_parts (Some f) (Some x) y e = record { fn = f; arg = x; fn_is = refl; arg_is = refl; is = same_Some (f x) y e }
 
 -- what holds of each row's function at an argument
 pub table_holds : {A B : Type 0} (P : ℕ → B → Type 0) (table : List (ℕ × (A → B))) (x : Option A) (number : ℕ) (y : B)
@@ -42,8 +42,8 @@ either_way false b e f = absurd (false≢true e)
 -- ---- targets
 
 pub place_is : (to : ℤ) (n : ℕ) → place_of to ≡ Some n → pos n ≡ to
-place_is (pos k) n e = ap (λ (x : ℕ). pos x) (sym (some_is k n e))
-place_is (negsuc k) n e = absurd (none_is_some n e)
+place_is (pos k) n e = ap (λ (x : ℕ). pos x) (sym (same_Some k n e))
+place_is (negsuc k) n e = absurd (none-some n e)
 
 pub record PairParts (pair : ℤ × ℤ) (y : ℤ × ℕ) : Type 0 where
   pub key : pair.0 ≡ y.0

@@ -3,6 +3,7 @@ use Rattle.std.proofs.Common.{◌≡◌, ℕ, Bool, true, false, ℤ, pos, List,
 use Rattle.std.specs.Prelude.{◌||◌, ◌==◌, not, if◌then◌else◌}
 use Rattle.std.specs.Option.{option_map}
 use Rattle.std.proofs.lemmas.Bool.{false≢true}
+use Rattle.std.proofs.lemmas.Option.{same_Some, none-some}
 use Rattle.kilim_constant_pool.specs.declared.entry.Entry.{Entry}
 use Rattle.kilim_opcodes.specs.declared.forms.OpForm.TheVariants as form
 use Rattle.kilim_opcodes.specs.declared.instr.RawInstr.{RawInstr}
@@ -22,7 +23,7 @@ use Rattle.kilim_link_spec.specs.declared.named.Named.{Named}
 use Rattle.kilim_link_spec.specs.World.{World}
 use Rattle.kilim_link_code_laws.proofs.Instrs.{has_number}
 use Rattle.kilim_link_code_laws.proofs.Tables.{either_way, lookup_parts, pair_parts, place_is, table_holds, table_parts, table_passes}
-use Rattle.kilim_link_code_laws.proofs.Lists.{some_is, none_is_some, first_and}
+use Rattle.kilim_link_code_laws.proofs.Lists.{first_and}
 use Rattle.kilim_link_code_laws.proofs.Rows.{rows_pass, mapped}
 
 abbrev has_none : Instr → Bool
@@ -36,7 +37,7 @@ nowhere : (y : Instr) → has_none y ≡ true → map (λ n. pos n) (jump_target
 nowhere y e = ap (map (λ n. pos n)) (no_elements (jump_targets y) e)
 
 given_none : (x y : Instr) → has_none x ≡ true → Some x ≡ Some y → has_none y ≡ true
-given_none x y h e = subst (λ i. has_none i ≡ true) (some_is x y e) h
+given_none x y h e = subst (λ i. has_none i ≡ true) (same_Some x y e) h
 
 plain_none : (number : ℕ) (y : Instr) → row plain_instrs number ≡ Some y → has_none y ≡ true
 unfolding jump_targets
@@ -61,7 +62,7 @@ typed_by w number class y false e = table_passes (λ k i. has_none i) type_instr
 
 index_none : (w : World) (number : ℕ) (o : Option Operand) (y : Instr) → instr_with w number o ≡ Some y → has_none y ≡ true
 unfolding jump_targets
-index_none w number None y e = absurd (none_is_some y e)
+index_none w number None y e = absurd (none-some y e)
 index_none w number (Some (AConstant value)) y e = table_passes (λ k i. has_none i) constant_instrs (Some value) number y (λ arg. refl) e
 index_none w number (Some (AField member)) y e = table_passes (λ k i. has_none i) field_instrs (field_found w member) number y (λ arg. refl) e
 index_none w number (Some (AMethod member)) y e = table_passes (λ k i. has_none i) method_instrs (method_found w member) number y (λ arg. refl) e
@@ -81,13 +82,13 @@ jump_goes number to y e =
     (h, (h, (h, (h, (h, (h, (h, (h, (h, (h, (h, (h, (h, (h, (h, (h, (h, (h, tt))))))))))))))))))) e
 
 targets_made : (targets : List ℤ) (ts : List ℕ) → each_of place_of targets ≡ Some ts → map (λ n. pos n) ts ≡ targets
-targets_made [] ts e = ap (map (λ n. pos n)) (sym (some_is [] ts e))
+targets_made [] ts e = ap (map (λ n. pos n)) (sym (same_Some [] ts e))
 targets_made (to ∷ targets) ts e =
     let f = first_and (place_of to) (each_of place_of targets) ts e in
     ap (map (λ n. pos n)) f.is ∙ (ap (λ (z : ℤ). z ∷ map (λ n. pos n) f.xs) (place_is to f.x f.first_is) ∙ ap (λ (zs : List ℤ). to ∷ zs) (targets_made targets f.xs f.others_are))
 
 pairs_made : (pairs : List (ℤ × ℤ)) (ts : List (ℤ × ℕ)) → each_of pair_in pairs ≡ Some ts → map (λ n. pos n) (map (λ pair. pair.1) ts) ≡ map (λ pair. pair.1) pairs
-pairs_made [] ts e = ap (λ (xs : List (ℤ × ℕ)). map (λ n. pos n) (map (λ pair. pair.1) xs)) (sym (some_is [] ts e))
+pairs_made [] ts e = ap (λ (xs : List (ℤ × ℕ)). map (λ n. pos n) (map (λ pair. pair.1) xs)) (sym (same_Some [] ts e))
 pairs_made (pair ∷ pairs) ts e =
     let f = first_and (pair_in pair) (each_of pair_in pairs) ts e in
     ap (λ (xs : List (ℤ × ℕ)). map (λ n. pos n) (map (λ pair. pair.1) xs)) f.is

@@ -4,6 +4,7 @@ use Rattle.std.specs.Prelude.{◌==◌, if◌then◌else◌}
 use Rattle.std.specs.List.{list_all, flat_map, AllByRecursion}
 use Rattle.std.proofs.lemmas.Bool.{and_from, eqb-true}
 use Rattle.std.proofs.lemmas.List.Folds.{list_all-append}
+use Rattle.std.proofs.lemmas.Option.{same_Some, none-some}
 use Rattle.kilim_attribute_parts.specs.declared.frame.Frame.{Frame as FrameForm}
 use Rattle.kilim_attribute_parts.specs.declared.frame.Frame.TheVariants.{Same, SameLocals1StackItem, SameLocals1StackItemExtended, Chop, SameExtended, Append, Full}
 use Rattle.kilim_attribute_parts.specs.declared.frame.VerificationType.{VerificationType}
@@ -31,7 +32,7 @@ use Rattle.kilim_link_spec.specs.World.{World, class_text}
 use Rattle.kilim_link_spec.specs.declared.view.DeclaredMethod.{DeclaredMethod}
 use Rattle.kilim_link_code_laws.proofs.FramesThere.{Slots, taken_there}
 use Rattle.kilim_link_code_laws.proofs.Tables.{applied_parts}
-use Rattle.kilim_link_code_laws.proofs.Lists.{some_is, none_is_some, first_and, all_map, each_of_all}
+use Rattle.kilim_link_code_laws.proofs.Lists.{first_and, all_map, each_of_all}
 use Rattle.kilim_link_code_laws.proofs.Mentions.{FrameMentions}
 use Rattle.kilim_link_code_laws.proofs.Nothing.{all_front, all_rest}
 use Rattle.kilim_link_code_laws.proofs.Rows.{mapped}
@@ -53,10 +54,10 @@ abbrev SlotsPass : (Ty → Bool) → Slots → Type 0
 SlotsPass test slots = AllByRecursion (IfSlotPasses test) slots
 
 given_slot : (test : Ty → Bool) (x : VType) → SlotPasses test x → IfSlotPasses test (Some x)
-given_slot test x f v e = subst (SlotPasses test) (some_is x v e) f
+given_slot test x f v e = subst (SlotPasses test) (same_Some x v e) f
 
 absent_slot : (test : Ty → Bool) → IfSlotPasses test None
-absent_slot test v e = absurd (none_is_some v e)
+absent_slot test v e = absurd (none-some v e)
 
 -- ---- a frame of the slots
 
@@ -143,7 +144,7 @@ module _ (w : World) (Good : FieldText → Type 0) (test : Ty → Bool) (tested 
   frames_pass_from : (file : ClassFile) (before : Option ℕ) (locals : Slots) (fs : List FrameForm) (frames : List (ℕ × Frame)) → SlotsPass test locals → AllByRecursion (FrameMentions (GoodMention Good) file) fs
       → each_of itself (frames_from w file.constant_pool before locals fs) ≡ Some frames → list_all (λ x. list_all test (types_of_frame x.1)) frames ≡ true
   unfolding frames_from
-  frames_pass_from file before locals [] frames l g e = subst (λ xs. list_all (λ (x : ℕ × Frame). list_all test (types_of_frame x.1)) xs ≡ true) (some_is [] frames e) refl
+  frames_pass_from file before locals [] frames l g e = subst (λ xs. list_all (λ (x : ℕ × Frame). list_all test (types_of_frame x.1)) xs ≡ true) (same_Some [] frames e) refl
   frames_pass_from file before locals (f ∷ fs) frames l g e =
       let at = place_after before (delta_of f) in
       let en = entries_of w file.constant_pool locals f in

@@ -3,6 +3,7 @@ use Rattle.std.proofs.Common.{◌≡◌, ℕ, Bool, true, false, ℤ, List, [], 
 use Rattle.std.specs.Prelude.{◌==◌, if◌then◌else◌}
 use Rattle.std.specs.List.{list_all, AllByRecursion}
 use Rattle.std.proofs.lemmas.Bool.{false≢true}
+use Rattle.std.proofs.lemmas.Option.{same_Some, none-some}
 use Rattle.kilim_constant_pool.specs.declared.entry.Entry.{Entry}
 use Rattle.kilim_descriptors.specs.declared.types.FieldText.{FieldText}
 use Rattle.kilim_opcodes.specs.declared.instr.RawInstr.{RawInstr}
@@ -22,7 +23,6 @@ use Rattle.kilim_link_spec.specs.Types.{type_named, class_named_by, typed}
 use Rattle.kilim_link_spec.specs.declared.named.Named.{Named}
 use Rattle.kilim_link_spec.specs.World.{World}
 use Rattle.kilim_link_code_laws.proofs.Tables.{table_holds, table_passes, table_parts, lookup_parts}
-use Rattle.kilim_link_code_laws.proofs.Lists.{some_is, none_is_some}
 use Rattle.kilim_link_code_laws.proofs.Rows.{rows_pass, mapped}
 use Rattle.kilim_link_code_laws.proofs.TestedTypes.{GoodMention, Tested, class_passes, element_passes, named_passes, one_passes}
 
@@ -34,7 +34,7 @@ nothing_passes test [] e = refl
 nothing_passes test (x ∷ xs) e = absurd (false≢true e)
 
 given_none : (x y : Instr) → has_none x ≡ true → Some x ≡ Some y → has_none y ≡ true
-given_none x y h e = subst (λ i. has_none i ≡ true) (some_is x y e) h
+given_none x y h e = subst (λ i. has_none i ≡ true) (same_Some x y e) h
 
 abbrev pub InstrPasses : (Ty → Bool) → Instr → Type 0
 InstrPasses test y = list_all test (types_of_instr y) ≡ true
@@ -75,7 +75,7 @@ module _ (w : World) (Good : FieldText → Type 0) (test : Ty → Bool) (tested 
       ((λ g. one_passes test (array_of ty) (element_passes w Good test tested class ty g.0 there)), (of_class, (of_class, tt)))) e good
 
   index_passes : (number : ℕ) (o : Option Operand) (y : Instr) → AllByRecursion (GoodMention Good) (mentions_of_operand (number == 189) o) → instr_with w number o ≡ Some y → InstrPasses test y
-  index_passes number None y good e = absurd (none_is_some y e)
+  index_passes number None y good e = absurd (none-some y e)
   index_passes number (Some (AConstant value)) y good e = none_passes test y (table_passes (λ k i. has_none i) constant_instrs (Some value) number y (λ arg. refl) e)
   index_passes number (Some (AField member)) y good e = none_passes test y (table_passes (λ k i. has_none i) field_instrs (field_found w member) number y (λ arg. refl) e)
   index_passes number (Some (AMethod member)) y good e = none_passes test y (table_passes (λ k i. has_none i) method_instrs (method_found w member) number y (λ arg. refl) e)

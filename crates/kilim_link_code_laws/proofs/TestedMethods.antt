@@ -3,6 +3,7 @@ use Rattle.std.proofs.Common.{◌≡◌, ℕ, Bool, true, List, ◌++◌, Option
 use Rattle.std.specs.List.{list_all, flat_map, AllByRecursion}
 use Rattle.std.proofs.lemmas.Bool.{and_from}
 use Rattle.std.proofs.lemmas.List.Folds.{list_all-append}
+use Rattle.std.proofs.lemmas.Option.{same_Some, none-some}
 use Rattle.kilim_attributes.specs.declared.attribute.Code.{Code}
 use Rattle.kilim_bytecode.specs.declared.fault.CodeFault.{CodeFault}
 use Rattle.kilim_bytecode.specs.Code.{Placed}
@@ -26,7 +27,7 @@ use Rattle.kilim_link_spec.specs.Qualified.{params_of}
 use Rattle.kilim_link_spec.specs.Types.{method_text, result_types, typed, types_of_field, types_of_method as types_of_text}
 use Rattle.kilim_link_spec.specs.World.{World, declared_method, member_descriptor}
 use Rattle.kilim_link_code_laws.proofs.Codes.{placed_parts}
-use Rattle.kilim_link_code_laws.proofs.Lists.{some_is, none_is_some, all_map, each_of_all}
+use Rattle.kilim_link_code_laws.proofs.Lists.{all_map, each_of_all}
 use Rattle.kilim_link_code_laws.proofs.Members.{field_parts, method_parts, body_parts}
 use Rattle.kilim_link_code_laws.proofs.Mentions.{MethodMentions, InstrMentions, FrameMentions}
 use Rattle.kilim_link_code_laws.proofs.Nothing.{all_front, all_rest}
@@ -49,7 +50,7 @@ module _ (w : World) (Good : FieldText → Type 0) (test : Ty → Bool) (tested 
 
   code_passes : (file : ClassFile) (r : Result (List Placed) CodeFault) (es : List (ℕ × Instr)) → AllByRecursion (InstrMentions (GoodMention Good) file) (instrs_if r) → code_of w file.constant_pool r ≡ Some es
       → list_all test (flat_map (λ e. types_of_instr e.1) es) ≡ true
-  code_passes file (Err fault) es good e = absurd (none_is_some es e)
+  code_passes file (Err fault) es good e = absurd (none-some es e)
   code_passes file (Ok placed) es good e =
       let one = λ (q : Placed) (g : InstrMentions (GoodMention Good) file q) (x : ℕ × Instr) (there : placed_in w file.constant_pool q ≡ Some x). instr_passes w Good test tested file.constant_pool q.1 x.1 g (placed_parts w file.constant_pool q x there).there in
       flat_passes test (λ (x : ℕ × Instr). types_of_instr x.1) es
@@ -57,7 +58,7 @@ module _ (w : World) (Good : FieldText → Type 0) (test : Ty → Bool) (tested 
 
   body_passes : (file : ClassFile) (c : ClassId) (method : MemberInfo) (attribute : Option Code) (body : Body) → test (typed 0 (base.Class c)) ≡ true → AllByRecursion Good (params_of (method_text (member_descriptor file method)))
       → AllByRecursion (InstrMentions (GoodMention Good) file) (instrs_in attribute) → AllByRecursion (FrameMentions (GoodMention Good) file) (frames_if attribute) → body_in w file c method attribute ≡ Some body → BodyPasses body
-  body_passes file c method None body own params good frames e = subst BodyPasses (some_is no_body body e) (refl, refl)
+  body_passes file c method None body own params good frames e = subst BodyPasses (same_Some no_body body e) (refl, refl)
   body_passes file c method (Some code) body own params good frames e =
       let b = body_parts w file c method code body e in
       subst BodyPasses (sym b.is)

@@ -3,6 +3,7 @@ use Rattle.std.proofs.Common.{◌≡◌, ℕ, suc, Bool, true, List, [], ◌∷�
 use Rattle.std.specs.List.{list_all, flat_map, AllByRecursion}
 use Rattle.std.proofs.lemmas.Bool.{and_from, and_parts}
 use Rattle.std.proofs.lemmas.List.Folds.{list_all-append}
+use Rattle.std.proofs.lemmas.Option.{same_Some, none-some}
 use Rattle.kilim_descriptors.specs.declared.types.BaseText.TheVariants as text
 use Rattle.kilim_descriptors.specs.declared.types.FieldText.{FieldText}
 use Rattle.kilim_classes.specs.declared.names.ClassId.{ClassId}
@@ -18,7 +19,7 @@ use Rattle.kilim_link_spec.specs.Types.{base_in, type_in, type_named, class_name
 use Rattle.kilim_link_spec.specs.declared.named.Named.{Named}
 use Rattle.kilim_link_spec.specs.declared.named.Named.TheVariants.{AClass, AnArray, Malformed}
 use Rattle.kilim_link_spec.specs.World.{World, class_of}
-use Rattle.kilim_link_code_laws.proofs.Lists.{some_is, none_is_some, all_map, each_of_all}
+use Rattle.kilim_link_code_laws.proofs.Lists.{all_map, each_of_all}
 use Rattle.kilim_link_code_laws.proofs.Rows.{mapped}
 
 -- A test that the types of good texts pass, and those of classes, and arrays of int-like types and longs.
@@ -45,7 +46,7 @@ module _ (w : World) (Good : FieldText → Type 0) (test : Ty → Bool) (tested 
   types_pass fs tys good e = each_of_all (type_in w) test fs tys (all_map Good _ (λ f one ty there. tested.of_text f ty one there) fs good) e
 
   pub result_passes : (result : Option FieldText) (ty : Option Ty) → AllByRecursion Good (result_types result) → result_in w result ≡ Some ty → list_all test (option_to_list ty) ≡ true
-  result_passes None ty good e = subst (λ o. list_all test (option_to_list o) ≡ true) (some_is None ty e) refl
+  result_passes None ty good e = subst (λ o. list_all test (option_to_list o) ≡ true) (same_Some None ty e) refl
   result_passes (Some f) ty good e =
       let m = mapped (λ (t : Ty). Some t) (type_in w f) ty e in
       subst (λ o. list_all test (option_to_list o) ≡ true) m.is (one_passes test m.x (tested.of_text f m.x good.0 m.there))
@@ -56,7 +57,7 @@ module _ (w : World) (Good : FieldText → Type 0) (test : Ty → Bool) (tested 
       let m = mapped (λ (c : ClassId). typed 0 (base.Class c)) (class_of w name) ty e in
       subst (λ t. test t ≡ true) m.is (tested.of_class name m.x m.there)
   named_passes (AnArray type) ty good e = tested.of_text type ty good.0 e
-  named_passes (Malformed name) ty good e = absurd (none_is_some ty e)
+  named_passes (Malformed name) ty good e = absurd (none-some ty e)
 
   pub element_passes : (class : Named) (ty : Ty) → GoodMention Good (OfElement class) → type_named w class ≡ Some ty → test (array_of ty) ≡ true
   element_passes (AClass name) ty good e =
@@ -66,10 +67,10 @@ module _ (w : World) (Good : FieldText → Type 0) (test : Ty → Bool) (tested 
   element_passes (AnArray type) ty good e =
       let m = mapped (typed type.dims) (base_in w type.base) ty e in
       subst (λ t. test (array_of t) ≡ true) m.is (tested.of_text (record type { dims = suc type.dims }) (typed (suc type.dims) m.x) good.0 (ap (option_map (typed (suc type.dims))) m.there))
-  element_passes (Malformed name) ty good e = absurd (none_is_some ty e)
+  element_passes (Malformed name) ty good e = absurd (none-some ty e)
 
   -- a class that is no array
   pub class_passes : (class : Named) (c : ClassId) → class_named_by w class ≡ Some c → test (typed 0 (base.Class c)) ≡ true
   class_passes (AClass name) c e = tested.of_class name c e
-  class_passes (AnArray type) c e = absurd (none_is_some c e)
-  class_passes (Malformed name) c e = absurd (none_is_some c e)
+  class_passes (AnArray type) c e = absurd (none-some c e)
+  class_passes (Malformed name) c e = absurd (none-some c e)

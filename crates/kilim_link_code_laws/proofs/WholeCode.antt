@@ -4,6 +4,7 @@ use Rattle.std.specs.Prelude.{◌&&◌}
 use Rattle.std.specs.List.{list_all}
 use Rattle.std.proofs.lemmas.Bool.{and_from}
 use Rattle.std.proofs.lemmas.List.Folds.{list_all-append}
+use Rattle.std.proofs.lemmas.Option.{same_Some, none-some}
 use Rattle.kilim_attributes.specs.declared.attribute.Code.{Code}
 use Rattle.kilim_bytecode.specs.declared.fault.CodeFault.{CodeFault}
 use Rattle.kilim_bytecode.specs.Code.{Placed}
@@ -31,7 +32,7 @@ use Rattle.kilim_link_code_laws.proofs.Bytes.{CodeIsBytes, codes_are_bytes}
 use Rattle.kilim_link_code_laws.proofs.Codes.{code_stands_there}
 use Rattle.kilim_link_code_laws.proofs.Decoded.{decoded_stands}
 use Rattle.kilim_link_code_laws.proofs.Files.{each_file_of}
-use Rattle.kilim_link_code_laws.proofs.Lists.{some_is, none_is_some, all_map, members_pass}
+use Rattle.kilim_link_code_laws.proofs.Lists.{all_map, members_pass}
 use Rattle.kilim_link_code_laws.proofs.Members.{body_parts, method_parts}
 use Rattle.kilim_link_code_laws.specs.Facts.{CodeIsWhole}
 
@@ -42,7 +43,7 @@ record CodeParts (w : World) (pool : List Entry) (r : Result (List Placed) CodeF
 
 code_parts : (w : World) (pool : List Entry) (r : Result (List Placed) CodeFault) (es : List (ℕ × Instr)) → code_of w pool r ≡ Some es → CodeParts w pool r es
 code_parts w pool (Ok code) es e = record { code = code; there = refl; each = e }
-code_parts w pool (Err fault) es e = absurd (none_is_some es e)
+code_parts w pool (Err fault) es e = absurd (none-some es e)
 
 abbrev body_is_whole : Body → Bool
 body_is_whole body = code_stands 0 body.code body.code_length && (targets_stand body.code && code_ends body.code)
@@ -58,7 +59,7 @@ built_in_whole Woven n = refl
 
 module _ (spelling : OneSpelling) (lengths : Lengths) (places : TargetsArePlaces) where
   whole_body : (w : World) (file : ClassFile) (c : ClassId) (method : MemberInfo) (code : Option Code) → CodeIsBytes code → (body : Body) → body_in w file c method code ≡ Some body → body_is_whole body ≡ true
-  whole_body w file c method None are body e = subst (λ b. body_is_whole b ≡ true) (some_is no_body body e) nothing_is_whole
+  whole_body w file c method None are body e = subst (λ b. body_is_whole b ≡ true) (same_Some no_body body e) nothing_is_whole
   whole_body w file c method (Some code) are body e =
       let b = body_parts w file c method code body e in
       let parts = code_parts w file.constant_pool (decoded code.code) b.instrs b.instrs_are in

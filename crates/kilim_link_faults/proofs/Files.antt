@@ -1,6 +1,7 @@
 -- The faults of files one by one.
 use Rattle.std.proofs.Common.{◌≡◌, ℕ, suc, ◌+◌, ◌<◌, ◌≤◌, ◌^◌, List, ◌++◌, length, get_or, drop, map, Option, Some, None, refl, sym, ap, ◌∙◌, arith}
 use Rattle.std.proofs.lemmas.List.{length-append, length-map, at_drop_all}
+use Rattle.kilim_lemmas.proofs.Lists.{drop_at}
 use Rattle.kilim_classfile.specs.declared.class_file.ClassFile.{ClassFile}
 use Rattle.kilim_classes.specs.declared.class.Form.{Form}
 use Rattle.kilim_classes.specs.declared.class.Form.TheVariants.{Plain, Woven}
@@ -10,7 +11,7 @@ use Rattle.kilim_link_spec.specs.declared.fault.LinkFault.{LinkFault}
 use Rattle.kilim_link_spec.specs.Faults.{faults_in, first_fault, link_faults}
 use Rattle.kilim_link_spec.specs.Linked.{first_of}
 use Rattle.kilim_link_faults.specs.Parts.{faults_from}
-use Rattle.kilim_link_faults.proofs.Firsts.{drop_at, here, later}
+use Rattle.kilim_link_faults.proofs.Firsts.{here, later}
 
 few_built_in : (form : Form) → length (built_in_classes_in form 0 0) ≤ 1000
 few_built_in Plain = omega arith

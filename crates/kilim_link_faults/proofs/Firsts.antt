@@ -3,10 +3,9 @@ use Rattle.std.proofs.Common.{◌≡◌, ℕ, zero, suc, ◌+◌, ◌<◌, Bool,
 use Rattle.std.specs.Prelude.{◌||◌, slice_get}
 use Rattle.std.specs.List.{list_any}
 use Rattle.std.proofs.lemmas.List.{reverse-append}
+use Rattle.std.proofs.lemmas.Option.{same_Some}
+use Rattle.kilim_lemmas.proofs.Lists.{take_at, drop_at}
 use Rattle.kilim_link_spec.specs.Linked.{first_of}
-
-some_is : {A : Type 0} (x y : A) → Some x ≡ Some y → x ≡ y
-some_is x y e = cc
 
 or_true : (a b : Bool) → true ≡ b → true ≡ (a || b)
 or_true true b e = refl
@@ -26,11 +25,6 @@ or_both false b c e f = f e
 
 abbrev first_that : {A : Type 0} → (A → Bool) → List A → Option A
 first_that test xs = first_of (filter test xs)
-
-pub drop_at : {A : Type 0} (xs : List A) (i : ℕ) (x : A) → i < length xs → x ≡ get_or xs i x → drop i xs ≡ x ∷ drop (i + 1) xs
-drop_at xs i x lt is =
-    let n : suc i ≡ i + 1 = omega arith in
-    drop-cons xs i x lt ∙ (ap (λ y. y ∷ drop (suc i) xs) (sym is) ∙ ap (λ (k : ℕ). x ∷ drop k xs) n)
 
 filtered : {A : Type 0} (test : A → Bool) (x : A) (ys : List A) → test x ≡ true → first_that test (x ∷ ys) ≡ Some x
 filtered test x ys t = rw t refl
@@ -55,13 +49,6 @@ pub later : {A : Type 0} (xs ys : List A) (r : Option A) → None ≡ first_of x
 later [] ys r e rest = rest
 later (z ∷ zs) ys r e rest = absurd cc
 
-pub take_at : {A : Type 0} (xs : List A) (i : ℕ) (x : A) → i < length xs → x ≡ get_or xs i x → take (i + 1) xs ≡ take i xs ++ x ∷ []
-take_at [] i x lt is = absurd (omega arith)
-take_at (y ∷ ys) zero x lt is = ap (λ z. z ∷ []) (sym is)
-take_at (y ∷ ys) (suc i) x lt is =
-    let n : suc i + 1 ≡ suc (i + 1) = omega arith in
-    ap (λ (k : ℕ). take k (y ∷ ys)) n ∙ ap (λ zs. y ∷ zs) (take_at ys i x (omega arith) is)
-
 -- the elements before a place, the last one first
 pub reverse_at : {A : Type 0} (xs : List A) (i : ℕ) (x : A) → i < length xs → x ≡ get_or xs i x → reverse (take (i + 1) xs) ≡ x ∷ reverse (take i xs)
 reverse_at xs i x lt is = ap reverse (take_at xs i x lt is) ∙ reverse-append (take i xs) (x ∷ [])
@@ -70,14 +57,14 @@ reverse_at xs i x lt is = ap reverse (take_at xs i x lt is) ∙ reverse-append (
 
 pub none_at : {A : Type 0} (test : A → Bool) (xs : List A) (i : ℕ) (x : A) → Some x ≡ slice_get xs i → test x ≡ false → list_any test (take i xs) ≡ false → list_any test (take (i + 1) xs) ≡ false
 none_at test [] i x is t before = absurd cc
-none_at test (y ∷ ys) zero x is t before = or_false (test y) (ap test (sym (some_is x y is)) ∙ t)
+none_at test (y ∷ ys) zero x is t before = or_false (test y) (ap test (sym (same_Some x y is)) ∙ t)
 none_at test (y ∷ ys) (suc i) x is t before =
     let n : suc i + 1 ≡ suc (i + 1) = omega arith in
     ap (λ (k : ℕ). list_any test (take k (y ∷ ys))) n ∙ or_both (test y) (list_any test (take i ys)) (list_any test (take (i + 1) ys)) before (none_at test ys i x is t)
 
 pub any_in : {A : Type 0} (test : A → Bool) (xs : List A) (i : ℕ) (x : A) → Some x ≡ slice_get xs i → test x ≡ true → true ≡ list_any test xs
 any_in test [] i x is t = absurd cc
-any_in test (y ∷ ys) zero x is t = true_or (test y) (list_any test ys) (sym t ∙ ap test (some_is x y is))
+any_in test (y ∷ ys) zero x is t = true_or (test y) (list_any test ys) (sym t ∙ ap test (same_Some x y is))
 any_in test (y ∷ ys) (suc i) x is t = or_true (test y) (list_any test ys) (any_in test ys i x is t)
 
 -- where there are no more

@@ -9,6 +9,10 @@ use Rattle.std.specs.List.{list_any}
 use Rattle.std.specs.Str.{bytes_eq}
 use Rattle.std.proofs.lemmas.Map.Text.{is_eq-slice_cmp}
 use Rattle.std.proofs.lemmas.Slice.Eq.{bytes_eq-Decides}
+use Rattle.std.proofs.lemmas.Bool.{and_parts}
+use Rattle.kilim_lemmas.proofs.Texts.{text_turned}
+use Rattle.kilim_lemmas.proofs.Lists.{drop_at}
+use Rattle.kilim_lemmas.proofs.Orders.{both_eq}
 use Rattle.kilim_classfile.specs.declared.class_file.ClassFile.{ClassFile}
 use Rattle.kilim_classfile.specs.declared.class_file.MemberInfo.{MemberInfo}
 use Rattle.kilim_link_spec.specs.World.{member_name, member_descriptor}
@@ -17,26 +21,14 @@ use Rattle.kilim_link_spec.specs.Linked.{first_of}
 use Rattle.kilim_signatures.specs.declared.signature.Signature.{Signature}
 use Rattle.kilim_signatures.specs.Index.{signature_cmp, same_signature}
 use Rattle.kilim_link_faults.specs.Seen.{met_in}
-use Rattle.kilim_link_faults.proofs.Firsts.{drop_at, reverse_at}
-
-pub text_turned : (xs ys : List ℕ) → bytes_eq xs ys ≡ bytes_eq ys xs
-text_turned xs ys = grind (arith, bytes_eq-Decides)
-
-both_eq : (a b : Ordering) → is_eq (ordering_then a b) ≡ (is_eq a && is_eq b)
-both_eq Less b = refl
-both_eq Equal b = refl
-both_eq Greater b = refl
+use Rattle.kilim_link_faults.proofs.Firsts.{reverse_at}
 
 pub same_is : (s q : Signature) → is_eq (signature_cmp s q) ≡ same_signature s q.name q.descriptor
 same_is s q = both_eq (slice_cmp nat_cmp s.name q.name) (slice_cmp nat_cmp s.descriptor q.descriptor) ∙ rw (is_eq-slice_cmp s.name q.name, is_eq-slice_cmp s.descriptor q.descriptor) refl
 
-conj : (a b : Bool) → (a && b) ≡ true → (a ≡ true) × (b ≡ true)
-conj true b e = (refl, e)
-conj false b e = absurd cc
-
 pub key_is : (s : Signature) (name descriptor : List ℕ) → same_signature s name descriptor ≡ true → s ≡ record { name = name; descriptor = descriptor }
 key_is s name descriptor e =
-    let p = conj (bytes_eq s.name name) (bytes_eq s.descriptor descriptor) e in
+    let p = and_parts (bytes_eq s.name name) (bytes_eq s.descriptor descriptor) e in
     let n : s.name ≡ name = search (rules, bytes_eq-Decides) in
     let d : s.descriptor ≡ descriptor = search (rules, bytes_eq-Decides) in
     ap (λ (x : List ℕ). record s { name = x }) n ∙ ap (λ (x : List ℕ). record { name = name; descriptor = x }) d

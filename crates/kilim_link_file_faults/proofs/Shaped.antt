@@ -1,16 +1,13 @@
 -- What is asked of types by their shapes.
 use Rattle.std.proofs.Common.{◌≡◌, Bool, ◌||◌, ◌&&◌, nat_lt, List, [], ◌∷◌, ◌++◌, map, refl, ap, append_assoc}
 use Rattle.std.specs.List.{flat_map, list_any}
+use Rattle.kilim_lemmas.proofs.Lists.{map_append}
 use Rattle.kilim_descriptors.specs.declared.types.FieldText.{FieldText}
 use Rattle.kilim_link_spec.specs.declared.named.Mention.{Mention}
 use Rattle.kilim_link_spec.specs.LeftOut.{is_float_base, is_task_base}
 use Rattle.kilim_link_spec.specs.Mentions.{types_mentioned}
 use Rattle.kilim_link_spec.specs.World.{World}
 use Rattle.kilim_link_file_faults.specs.Shapes.{Shape, shape_of}
-
-map_append : {A B : Type 0} (f : A → B) (xs ys : List A) → map f (xs ++ ys) ≡ map f xs ++ map f ys
-map_append f [] ys = refl
-map_append f (x ∷ xs) ys = ap (λ zs. f x ∷ zs) (map_append f xs ys)
 
 pub both : (before : List Shape) (xs ys : List FieldText) → before ++ map shape_of xs ++ map shape_of ys ≡ before ++ map shape_of (xs ++ ys)
 both before xs ys = rw (map_append shape_of xs ys) (simp append_assoc)

@@ -1,6 +1,7 @@
 -- Making the elements of one list, and then of others behind it.
 use Rattle.std.proofs.Common.{◌≡◌, Bool, true, false, ℕ, ◌+◌, ◌<◌, zero, suc, List, [], ◌∷◌, ◌++◌, length, drop, get_or, map, Option, Some, None, refl, sym, ap, ◌∙◌, append_assoc, arith}
 use Rattle.std.specs.List.{flat_map}
+use Rattle.std.proofs.lemmas.Option.{same_Some}
 use Rattle.kilim_classfile.specs.declared.class_file.ClassFile.{ClassFile}
 use Rattle.kilim_classes.specs.BuiltIn.{class_id}
 use Rattle.kilim_classes.specs.declared.names.ClassId.{ClassId}
@@ -28,12 +29,9 @@ behind_both : {B : Type 0} (made ys : List B) (others : Option (List B)) → beh
 behind_both made ys None = refl
 behind_both {B} made ys (Some zs) = ap (λ (all : List B). Some all) (sym (append_assoc made ys zs))
 
-some_is : {A : Type 0} (x y : A) → Some x ≡ Some y → x ≡ y
-some_is x y e = cc
-
 goes_behind : {B : Type 0} (made new : List B) (found others : Option (List B)) → behind made found ≡ Some new → behind made (joined found others) ≡ behind new others
 goes_behind made new None others e = absurd cc
-goes_behind made new (Some ys) others e = behind_both made ys others ∙ ap (λ all. behind all others) (some_is (made ++ ys) new e)
+goes_behind made new (Some ys) others e = behind_both made ys others ∙ ap (λ all. behind all others) (same_Some (made ++ ys) new e)
 
 stops_behind : {B : Type 0} (made : List B) (found others : Option (List B)) → behind made found ≡ None → behind made (joined found others) ≡ None
 stops_behind made None others e = refl

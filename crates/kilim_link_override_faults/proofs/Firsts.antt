@@ -3,14 +3,10 @@ use Rattle.std.proofs.Common.{◌≡◌, ℕ, zero, suc, ◌+◌, ◌<◌, Bool,
 use Rattle.std.specs.List.{flat_map, list_any}
 use Rattle.std.proofs.lemmas.List.{append-nil}
 use Rattle.std.proofs.lemmas.Grind.{flat_map-append}
+use Rattle.kilim_lemmas.proofs.Lists.{take_at}
 use Rattle.kilim_link_spec.specs.Linked.{first_of}
 use Rattle.kilim_link_override_faults.specs.Parts.{is_so}
 use Rattle.kilim_link_override_faults.proofs.Truth.{cases, none_here, none_later, none_of_two}
-
-pub drop_at : {A : Type 0} (xs : List A) (i : ℕ) (x : A) → i < length xs → x ≡ get_or xs i x → drop i xs ≡ x ∷ drop (i + 1) xs
-drop_at xs i x lt is =
-    let n : suc i ≡ i + 1 = omega arith in
-    drop-cons xs i x lt ∙ (ap (λ y. y ∷ drop (suc i) xs) (sym is) ∙ ap (λ (k : ℕ). x ∷ drop k xs) n)
 
 -- two lists put together
 pub here : {A : Type 0} (xs ys : List A) (x : A) → Some x ≡ first_of xs → Some x ≡ first_of (xs ++ ys)
@@ -20,13 +16,6 @@ here (z ∷ zs) ys x e = e
 pub later : {A : Type 0} (xs ys : List A) (r : Option A) → None ≡ first_of xs → r ≡ first_of ys → r ≡ first_of (xs ++ ys)
 later [] ys r e rest = rest
 later (z ∷ zs) ys r e rest = absurd cc
-
-pub take_at : {A : Type 0} (xs : List A) (i : ℕ) (x : A) → i < length xs → x ≡ get_or xs i x → take (i + 1) xs ≡ take i xs ++ x ∷ []
-take_at [] i x lt is = absurd (omega arith)
-take_at (y ∷ ys) zero x lt is = ap (λ z. z ∷ []) (sym is)
-take_at (y ∷ ys) (suc i) x lt is =
-    let n : suc i + 1 ≡ suc (i + 1) = omega arith in
-    ap (λ (k : ℕ). take k (y ∷ ys)) n ∙ ap (λ zs. y ∷ zs) (take_at ys i x (omega arith) is)
 
 pub flat_map_at : {A B : Type 0} (f : A → List B) (xs : List A) (i : ℕ) (x : A) → i < length xs → x ≡ get_or xs i x → flat_map f (take i xs) ++ f x ≡ flat_map f (take (i + 1) xs)
 flat_map_at f xs i x lt is = sym (ap (flat_map f) (take_at xs i x lt is) ∙ (flat_map-append f (take i xs) (x ∷ []) ∙ ap (λ ys. flat_map f (take i xs) ++ ys) (append-nil (f x))))

@@ -7,6 +7,7 @@ use Rattle.std.proofs.lemmas.Bool.{and_from, eq-eqb}
 use Rattle.std.proofs.lemmas.List.{take-append-drop}
 use Rattle.std.proofs.lemmas.List.Folds.{list_any-append}
 use Rattle.std.proofs.lemmas.Slice.Eq.{bytes_eq-Decides}
+use Rattle.kilim_lemmas.proofs.Lists.{drop_at}
 use Rattle.kilim_classes.specs.declared.names.ClassId.{ClassId}
 use Rattle.kilim_classes.specs.Keeps.{ancestors_of}
 use Rattle.kilim_link_spec.specs.declared.view.DeclaredMethod.{DeclaredMethod}
@@ -17,10 +18,9 @@ use Rattle.kilim_nearest.specs.Known.{known, KeysNamed, KnowsNone, KnowsSome}
 use Rattle.kilim_link_override_faults.specs.declared.heritage.Heritage.{Heritage}
 use Rattle.kilim_link_override_faults.specs.Parts.{shared_as, stands_in, is_nearer, is_left_over, is_class, StandsBehind}
 use Rattle.kilim_link_override_faults.specs.Heritage.{Inherits, LeavesNone, LeavesSome, is_shared_abstract, asks_for, left_in, first_shared}
-use Rattle.kilim_link_override_faults.proofs.Firsts.{drop_at, first_behind}
+use Rattle.kilim_link_override_faults.proofs.Firsts.{first_behind}
 use Rattle.kilim_link_override_faults.proofs.Places.{nearer_is}
 use Rattle.kilim_link_override_faults.proofs.Truth.{cases, some_of_contained}
-use Rattle.kilim_link_override_faults.proofs.Unmarked.{both_true}
 
 -- ---- the methods of a class
 
@@ -108,7 +108,7 @@ module _ (w : World) where
       let none : list_any (stands_in w m.name m.descriptor) (c ∷ nearer) ≡ false =
       nearer_is w c nearer m.name m.descriptor ∙ left_test m.is_abstract (not m.is_private) (is_nearer w c nearer m.name m.descriptor) left in
       let stands : stands_in w m.name m.descriptor d ≡ true =
-      some_of_contained (shared_as m.name m.descriptor) (declared_methods w d) m there (both_true (not m.is_private) (is_method m.name m.descriptor m) (ap not shared) (is_itself m)) in
+      some_of_contained (shared_as m.name m.descriptor) (declared_methods w d) m there (and_from (not m.is_private) (is_method m.name m.descriptor m) (ap not shared) (is_itself m)) in
       let first : first_shared w m.name m.descriptor (c ∷ ancestors_of w.outline c) ≡ Some d =
       ap (λ (ds : List ClassId). first_shared w m.name m.descriptor (c ∷ ds)) behind.1 ∙ first_behind (stands_in w m.name m.descriptor) (c ∷ nearer) d behind.0 none stands in
       let same : first_shared w name descriptor (c ∷ ancestors_of w.outline c) ≡ Some d =

@@ -3,6 +3,8 @@ use Rattle.std.proofs.Common.{◌≡◌, Bool, true, false, refl, sym, ap, ◌�
 use Rattle.std.specs.Prelude.{◌&&◌, not}
 use Rattle.std.specs.List.{list_any}
 use Rattle.std.specs.Str.{bytes_eq}
+use Rattle.std.proofs.lemmas.Bool.{and_from}
+use Rattle.kilim_lemmas.proofs.Texts.{text_is}
 use Rattle.kilim_classes.specs.declared.names.ClassId.{ClassId}
 use Rattle.kilim_classes.specs.declared.ty.Qualifier.{Qualifier}
 use Rattle.kilim_classes.specs.declared.ty.Qualifier.TheVariants.{Free, Cuttable, Safe}
@@ -13,12 +15,12 @@ use Rattle.kilim_link_spec.specs.declared.named.Qualified.{Qualified}
 use Rattle.kilim_link_spec.specs.World.{World, is_method, declared_methods}
 use Rattle.kilim_link_spec.specs.declared.view.DeclaredMethod.{DeclaredMethod}
 use Rattle.kilim_link_override_faults.specs.Parts.{alike, differs_in}
-use Rattle.kilim_link_override_faults.proofs.Unmarked.{both_true, first_of_both, second_of_both, same_texts}
+use Rattle.kilim_link_override_faults.proofs.Unmarked.{first_of_both, second_of_both}
 use Rattle.kilim_link_override_faults.proofs.Truth.{none_of_less}
 
 -- two parts, each of which passes
 both_pass : (a b c d e f : Bool) → (a ≡ true → c ≡ true → e ≡ true) → (b ≡ true → d ≡ true → f ≡ true) → (a && b) ≡ true → (c && d) ≡ true → (e && f) ≡ true
-both_pass a b c d e f one two x y = both_true e f (one (first_of_both a b x) (first_of_both c d y)) (two (second_of_both a b x) (second_of_both c d y))
+both_pass a b c d e f one two x y = and_from e f (one (first_of_both a b x) (first_of_both c d y)) (two (second_of_both a b x) (second_of_both c d y))
 
 flags_pass : (a b c : Bool) → same_flag a b ≡ true → same_flag b c ≡ true → same_flag a c ≡ true
 flags_pass true true c e f = f
@@ -65,7 +67,7 @@ flags_turn false false true e f = absurd cc
 flags_turn false false false e f = f
 
 both_turn : (a b c d : Bool) → (a ≡ true → c ≡ true) → (b ≡ true → d ≡ true) → (a && b) ≡ true → (c && d) ≡ true
-both_turn a b c d one two e = both_true c d (one (first_of_both a b e)) (two (second_of_both a b e))
+both_turn a b c d one two e = and_from c d (one (first_of_both a b e)) (two (second_of_both a b e))
 
 qualifier_turns : (a b : Qualifier) → same_qualifier a b ≡ true → same_qualifier b a ≡ true
 qualifier_turns a b e = ap (same_qualifier b) (qualifier_is a b e) ∙ (ap (λ q. same_qualifier q b) (sym (qualifier_is a b e)) ∙ e)
@@ -130,11 +132,11 @@ module _ (w : World) (c : ClassId) (m : DeclaredMethod) (d : ClassId) (o : Decla
 
   module _ (same : is_method m.name m.descriptor o ≡ true) (agreed : agrees w c m d o ≡ true) where
     pub same_name : o.name ≡ m.name
-    same_name = same_texts o.name m.name (first_of_both (bytes_eq o.name m.name) (bytes_eq o.descriptor m.descriptor) same)
+    same_name = text_is o.name m.name (first_of_both (bytes_eq o.name m.name) (bytes_eq o.descriptor m.descriptor) same)
 
     same_method : (x : DeclaredMethod) → is_method o.name o.descriptor x ≡ is_method m.name m.descriptor x
     same_method x =
-        let descriptor = same_texts o.descriptor m.descriptor (second_of_both (bytes_eq o.name m.name) (bytes_eq o.descriptor m.descriptor) same) in
+        let descriptor = text_is o.descriptor m.descriptor (second_of_both (bytes_eq o.name m.name) (bytes_eq o.descriptor m.descriptor) same) in
         ap (λ (k : List ℕ). is_method k o.descriptor x) same_name ∙ ap (λ (k : List ℕ). is_method m.name k x) descriptor
 
     differs_less : (x : ClassId × DeclaredMethod) → differs_from w d o x ≡ false → differs_from w c m x ≡ false

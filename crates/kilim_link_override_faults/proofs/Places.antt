@@ -4,6 +4,7 @@ use Rattle.std.specs.Prelude.{◌&&◌, ◌||◌, if◌then◌else◌, slice_get
 use Rattle.std.specs.List.{list_any, flat_map}
 use Rattle.std.proofs.lemmas.List.{length-append}
 use Rattle.std.proofs.lemmas.List.Folds.{list_any-append}
+use Rattle.kilim_lemmas.proofs.Lists.{drop_at}
 use Rattle.kilim_units.specs.declared.memory.NoMemory.{NoMemory}
 use Rattle.kilim_classes.specs.declared.names.ClassId.{ClassId}
 use Rattle.kilim_classes.specs.Keeps.{ancestors_of}
@@ -14,7 +15,7 @@ use Rattle.kilim_link_spec.specs.Linked.{first_of}
 use Rattle.kilim_signatures.specs.Index.{places_from}
 use Rattle.kilim_link_override_faults.specs.Parts.{is_so, passes_at, other_differs, differs_in, is_shared, stands_in, nearer_than, is_nearer, is_left_over}
 use Rattle.kilim_link_override_faults.proofs.Agreeing.{swapped, turned}
-use Rattle.kilim_link_override_faults.proofs.Firsts.{drop_at, flat_map_at, here, later}
+use Rattle.kilim_link_override_faults.proofs.Firsts.{flat_map_at, here, later}
 
 pub there : {A : Type 0} (before : List A) (x : A) (xs : List A) → slice_get (before ++ x ∷ xs) (length before) ≡ Some x
 there [] x xs = refl

@@ -5,6 +5,7 @@ use Rattle.std.specs.List.{list_any, position_from}
 use Rattle.std.specs.Option.{option_and_then, option_or}
 use Rattle.std.proofs.lemmas.Bool.{eq-eqb, eqb-true}
 use Rattle.std.proofs.lemmas.List.{length-append}
+use Rattle.kilim_lemmas.proofs.Lists.{drop_at}
 use Rattle.kilim_classes.specs.declared.names.ClassId.{ClassId}
 use Rattle.kilim_classes.specs.BuiltIn.{class_id}
 use Rattle.kilim_classes.specs.Keeps.{ancestors_of}
@@ -21,7 +22,6 @@ use Rattle.kilim_link_override_faults.specs.declared.heritage.Heritage.{Heritage
 use Rattle.kilim_link_override_faults.specs.declared.heritage.Place.{Place}
 use Rattle.kilim_link_override_faults.specs.Parts.{is_shared, shared_as, stands_in}
 use Rattle.kilim_link_override_faults.specs.Heritage.{Finds, Places, Inherits, first_said, first_shared, first_declared, first_place, nearest_place, own_at, placed, numbered, places_in, all_numbered, all_places}
-use Rattle.kilim_link_override_faults.proofs.Firsts.{drop_at}
 use Rattle.kilim_link_override_faults.proofs.Places.{there}
 use Rattle.kilim_link_override_faults.proofs.Truth.{cases}
 

@@ -3,6 +3,8 @@ use Rattle.std.proofs.Common.{◌≡◌, ℕ, zero, suc, ◌≤◌, Bool, true, 
 use Rattle.std.specs.Prelude.{◌&&◌, ◌||◌, not, Contains}
 use Rattle.std.specs.List.{list_any}
 use Rattle.std.specs.Str.{bytes_eq}
+use Rattle.kilim_lemmas.proofs.Truth.{rest_is_false}
+use Rattle.kilim_lemmas.proofs.Texts.{text_is}
 use Rattle.kilim_classes.specs.declared.names.ClassId.{ClassId}
 use Rattle.kilim_classes.specs.Keeps.{superclass_of, ancestors_of}
 use Rattle.kilim_classes.specs.Names.{class_at}
@@ -19,8 +21,8 @@ use Rattle.kilim_link_override_faults.proofs.Leaving.{is_itself}
 use Rattle.kilim_link_override_faults.proofs.Lines.{line_rest, line_more, ancestors_are, first_cut}
 use Rattle.kilim_link_override_faults.proofs.Passing.{agrees_alike, differs_passes}
 use Rattle.kilim_link_override_faults.proofs.Places.{any_map, differs_above}
-use Rattle.kilim_link_override_faults.proofs.Truth.{cases, none_here, none_later, none_of_two, none_of_less, none_of_contained, by_found, rest_is_false, first_is_false, is_it}
-use Rattle.kilim_link_override_faults.proofs.Unmarked.{first_of_both, second_of_both, same_texts}
+use Rattle.kilim_link_override_faults.proofs.Truth.{cases, none_here, none_later, none_of_two, none_of_less, none_of_contained, by_found, first_is_false, is_it}
+use Rattle.kilim_link_override_faults.proofs.Unmarked.{first_of_both, second_of_both}
 
 isnt_one : (private named apart : Bool) → (private && named) ≡ false → (private && (named && apart)) ≡ false
 isnt_one true true apart e = absurd cc
@@ -59,8 +61,8 @@ module _ (w : World) where
         (λ is.
         let shared = first_of_both (not o.is_private) (is_method m.name m.descriptor o) is in
         let named = second_of_both (not o.is_private) (is_method m.name m.descriptor o) is in
-        let name : o.name ≡ m.name = same_texts o.name m.name (first_of_both (bytes_eq o.name m.name) (bytes_eq o.descriptor m.descriptor) named) in
-        let descriptor : o.descriptor ≡ m.descriptor = same_texts o.descriptor m.descriptor (second_of_both (bytes_eq o.name m.name) (bytes_eq o.descriptor m.descriptor) named) in
+        let name : o.name ≡ m.name = text_is o.name m.name (first_of_both (bytes_eq o.name m.name) (bytes_eq o.descriptor m.descriptor) named) in
+        let descriptor : o.descriptor ≡ m.descriptor = text_is o.descriptor m.descriptor (second_of_both (bytes_eq o.name m.name) (bytes_eq o.descriptor m.descriptor) named) in
         let its : first_declared w o.name o.descriptor d ≡ Some x =
         ap (λ (k : List ℕ). first_declared w k o.descriptor d) name ∙ (ap (λ (k : List ℕ). first_declared w m.name k d) descriptor ∙ first) in
         let like : alike w d o x ≡ true =
@@ -106,8 +108,8 @@ module _ (w : World) where
         let named = second_of_both (not o.is_private) (is_method m.name m.descriptor o) is in
         let agreed : agrees w c m up o ≡ true =
         is_it (agrees w c m up o) (rest_is_false (is_method m.name m.descriptor o) (not (agrees w c m up o)) named (rest_is_false (not o.is_private) (is_method m.name m.descriptor o && not (agrees w c m up o)) shared same)) in
-        let name : o.name ≡ m.name = same_texts o.name m.name (first_of_both (bytes_eq o.name m.name) (bytes_eq o.descriptor m.descriptor) named) in
-        let descriptor : o.descriptor ≡ m.descriptor = same_texts o.descriptor m.descriptor (second_of_both (bytes_eq o.name m.name) (bytes_eq o.descriptor m.descriptor) named) in
+        let name : o.name ≡ m.name = text_is o.name m.name (first_of_both (bytes_eq o.name m.name) (bytes_eq o.descriptor m.descriptor) named) in
+        let descriptor : o.descriptor ≡ m.descriptor = text_is o.descriptor m.descriptor (second_of_both (bytes_eq o.name m.name) (bytes_eq o.descriptor m.descriptor) named) in
         let no_constructor : is_constructor_name o.name ≡ false = ap is_constructor_name name ∙ ordinary in
         let nearest : differs_nearest w up o ≡ false =
         none_later (differs_here w up o) (differs_nearest w up o) (apart_of_two w up o no_constructor shared (first_is_false (is_apart w up o) (is_method m.name m.descriptor o) named near)) in

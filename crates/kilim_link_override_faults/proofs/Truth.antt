@@ -23,10 +23,6 @@ pub some_later : (a b : Bool) → (a || b) ≡ true → a ≡ false → b ≡ tr
 some_later true b e n = absurd cc
 some_later false b e n = e
 
-pub rest_is_false : (a b : Bool) → a ≡ true → (a && b) ≡ false → b ≡ false
-rest_is_false true b ea e = e
-rest_is_false false b ea e = absurd cc
-
 pub first_is_false : (a b : Bool) → b ≡ true → (a && b) ≡ false → a ≡ false
 first_is_false true b eb e = sym eb ∙ e
 first_is_false false b eb e = refl

@@ -3,6 +3,8 @@ use Rattle.std.proofs.Common.{◌≡◌, Bool, true, false, refl, List, ℕ, [],
 use Rattle.std.specs.Prelude.{◌&&◌, ◌||◌, not, if◌then◌else◌, codes}
 use Rattle.std.specs.Str.{bytes_eq}
 use Rattle.std.proofs.lemmas.Slice.Eq.{bytes_eq-Decides}
+use Rattle.std.proofs.lemmas.Bool.{and_from}
+use Rattle.kilim_lemmas.proofs.Texts.{text_is}
 use Rattle.kilim_classes.specs.declared.names.ClassId.{ClassId}
 use Rattle.kilim_classes.specs.declared.ty.Qualifier.{Qualifier}
 use Rattle.kilim_classes.specs.declared.ty.Qualifier.TheVariants.{Free, Cuttable, Safe}
@@ -23,13 +25,9 @@ same_one Free = refl
 same_one Cuttable = refl
 same_one Safe = refl
 
-pub both_true : (a b : Bool) → a ≡ true → b ≡ true → (a && b) ≡ true
-both_true true b ea eb = eb
-both_true false b ea eb = ea
-
 same_all : (qs : List Qualifier) → same_qualifiers qs qs ≡ true
 same_all [] = refl
-same_all (q ∷ qs) = both_true (same_qualifier q q) (same_qualifiers qs qs) (same_one q) (same_all qs)
+same_all (q ∷ qs) = and_from (same_qualifier q q) (same_qualifiers qs qs) (same_one q) (same_all qs)
 
 -- the tests for the receiver, by their outcomes: static, a constructor, a tree, a task, `execute` and its descriptor
 safe_of : (s i t k e x : Bool) → not i ≡ true → not e ≡ true → (if s then Safe else (if i then Cuttable else (if t then (if k && (e && x) then Cuttable else Safe) else Safe))) ≡ Safe
@@ -59,7 +57,7 @@ safe_both p q ep eq = ap (λ x. same_qualifier x q) ep ∙ ap (same_qualifier Sa
 agree_by : (w : World) (c : ClassId) (m : DeclaredMethod) (d : ClassId) (o : DeclaredMethod) (a b : Marks) → has_no_marks a ≡ true → has_no_marks b ≡ true
     → receiver_by w c m [] ≡ Safe → receiver_by w d o [] ≡ Safe → m.descriptor ≡ o.descriptor → same_qualified (qualified_by w c m a) (qualified_by w d o b) ≡ true
 agree_by w c m d o (Annotated [] []) (Annotated [] []) na nb rm ro same =
-    both_true (same_qualifier (receiver_by w c m []) (receiver_by w d o [])) (same_qualifiers (params_by w (params_of (method_text m.descriptor)) []) (params_by w (params_of (method_text o.descriptor)) []))
+    and_from (same_qualifier (receiver_by w c m []) (receiver_by w d o [])) (same_qualifiers (params_by w (params_of (method_text m.descriptor)) []) (params_by w (params_of (method_text o.descriptor)) []))
     (safe_both (receiver_by w c m []) (receiver_by w d o []) rm ro)
     (ap (λ (t : List ℕ). same_qualifiers (params_by w (params_of (method_text m.descriptor)) []) (params_by w (params_of (method_text t)) [])) (sym same) ∙ same_all (params_by w (params_of (method_text m.descriptor)) []))
 agree_by w c m d o (Annotated (x ∷ xs) ys) b na nb rm ro same = absurd cc
@@ -74,9 +72,6 @@ receiver_of w c m u =
     let rest = second_of_both (has_no_marks m.marks) (not (bytes_eq m.name (codes "execute")) && not (is_constructor_name m.name)) u in
     receiver_is_safe w c m (second_of_both (not (bytes_eq m.name (codes "execute"))) (not (is_constructor_name m.name)) rest) (first_of_both (not (bytes_eq m.name (codes "execute"))) (not (is_constructor_name m.name)) rest)
 
-pub same_texts : (xs ys : List ℕ) → bytes_eq xs ys ≡ true → xs ≡ ys
-same_texts xs ys e = (bytes_eq-Decides xs ys).0 e
-
 pub agree : (w : World) (c : ClassId) (m : DeclaredMethod) (d : ClassId) (o : DeclaredMethod) → are_unmarked m o ≡ true → true ≡ same_qualified (qualified w c m) (qualified w d o)
 unfolding qualified
 agree w c m d o u =
@@ -87,4 +82,4 @@ agree w c m d o u =
     sym (agree_by w c m d o m.marks o.marks
     (first_of_both (has_no_marks m.marks) (not (bytes_eq m.name (codes "execute")) && not (is_constructor_name m.name)) um)
     (first_of_both (has_no_marks o.marks) (not (bytes_eq o.name (codes "execute")) && not (is_constructor_name o.name)) uo)
-    (receiver_of w c m um) (receiver_of w d o uo) (same_texts m.descriptor o.descriptor e))
+    (receiver_of w c m um) (receiver_of w d o uo) (text_is m.descriptor o.descriptor e))

@@ -14,11 +14,6 @@ use Rattle.kilim_link_spec.specs.World.{World}
 use Rattle.kilim_link_spec.specs.Qualified.{names_one, first_types, behind_first, param_by, params_by}
 use Rattle.kilim_link_types.specs.Params.{types_at, all_at, params_from}
 
-pub bytes_eq_sym : (xs ys : List ℕ) → bytes_eq xs ys ≡ bytes_eq ys xs
-bytes_eq_sym xs ys =
-    let back = bytes_eq-Decides ys xs in
-    same_from_decides (bytes_eq xs ys) (bytes_eq ys xs) (bytes_eq-Decides xs ys) (λ e. sym (back.0 e), λ p. back.1 (sym p))
-
 -- one of the lists names it, where all of them together do
 pub any_flat : (at : ℕ) (text : List ℕ) (attributes : List (List (List (List ℕ)))) → list_any (λ lists. names_one (types_at at lists) text) attributes ≡ names_one (all_at at attributes) text
 any_flat at text [] = refl

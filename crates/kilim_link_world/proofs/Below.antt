@@ -2,16 +2,8 @@
 use Rattle.std.proofs.Common.{◌≡◌, ℕ, zero, suc, ◌<◌, List, [], ◌∷◌, ◌++◌, length, Some, refl, ap, ◌∙◌, inl, inr, arith, length-append}
 use Rattle.std.specs.Prelude.{slice_get}
 use Rattle.std.proofs.lemmas.Bool.{cases_lt}
+use Rattle.kilim_lemmas.proofs.Lists.{get_last, get_front}
 use Rattle.kilim_link_world.specs.Agrees.{each_below}
-
-pub get_front : {A : Type 0} (xs ys : List A) (k : ℕ) → k < length xs → slice_get (xs ++ ys) k ≡ slice_get xs k
-get_front [] ys k lt = absurd (omega arith)
-get_front (x ∷ xs) ys zero lt = refl
-get_front (x ∷ xs) ys (suc k) lt = get_front xs ys k (omega arith)
-
-pub get_last : {A : Type 0} (xs : List A) (y : A) → slice_get (xs ++ y ∷ []) (length xs) ≡ Some y
-get_last [] y = refl
-get_last (x ∷ xs) y = get_last xs y
 
 module _ {A : Type 0} (make : ℕ → A) where
   pub length_below : (n : ℕ) → length (each_below make n) ≡ n

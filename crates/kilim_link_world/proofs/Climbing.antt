@@ -6,6 +6,7 @@ use Rattle.std.specs.Str.{bytes_eq}
 use Rattle.std.proofs.lemmas.Bool.{cases_Bool, cases_lt, eqb-true}
 use Rattle.std.proofs.lemmas.List.{length-map}
 use Rattle.std.proofs.lemmas.Option.{slice_get-map, slice_get_past, slice_get_within}
+use Rattle.kilim_lemmas.proofs.Lists.{any_same}
 use Rattle.kilim_classes.specs.declared.class.Class.{Class}
 use Rattle.kilim_classes.specs.declared.names.ClassId.{ClassId}
 use Rattle.kilim_classes.specs.Keeps.{superclass_of}
@@ -84,10 +85,6 @@ pub marks_are : (own : List Bool) (ups : List (Option ClassId)) (it : Forest) �
 marks_are own ups it right c =
     ap (λ (o : Option ℕ). is_some o) (right.inherited_is c 0)
     ∙ any_says (mark_at own) (map mark_entries own) 0 (λ d. ap (λ (o : Option (List Entry)). said_of o 0) (slice_get-map mark_entries own d.0) ∙ mark_said (slice_get own d.0)) (line_in ups c)
-
-any_same : {A : Type 0} (f g : A → Bool) → ((x : A) → f x ≡ g x) → (xs : List A) → list_any f xs ≡ list_any g xs
-any_same f g same [] = refl
-any_same f g same (x ∷ xs) = ap (λ (b : Bool). b || list_any f xs) (same x) ∙ ap (λ (b : Bool). g x || b) (any_same f g same xs)
 
 pub same_below : {A : Type 0} (f g : ℕ → A) → ((k : ℕ) → f k ≡ g k) → (n : ℕ) → each_below f n ≡ each_below g n
 same_below f g same zero = refl

@@ -2,20 +2,11 @@
 use Rattle.std.proofs.Common.{◌≡◌, ℕ, zero, suc, ◌+◌, Bool, true, false, cond, List, [], ◌∷◌, ◌++◌, length, take, Option, Some, None, refl, sym, ap, ◌∙◌, arith, append-nil}
 use Rattle.std.specs.Prelude.{if◌then◌else◌, slice_get}
 use Rattle.std.specs.List.{position_from}
-use Rattle.std.proofs.lemmas.Option.{slice_get_within}
+use Rattle.std.proofs.lemmas.Option.{slice_get_within, same_Some}
 use Rattle.std.proofs.lemmas.List.{length-take}
+use Rattle.kilim_lemmas.proofs.Lists.{take_next}
 use Rattle.kilim_link_spec.specs.World.{or_else}
 use Rattle.kilim_signatures.specs.Index.{places_from}
-
-pub some_is : {A : Type 0} (x y : A) → Some x ≡ Some y → x ≡ y
-some_is x y e = cc
-
-pub take_more : {A : Type 0} (xs : List A) (i : ℕ) (x : A) → slice_get xs i ≡ Some x → take (i + 1) xs ≡ take i xs ++ x ∷ []
-take_more [] i x e = absurd cc
-take_more (y ∷ xs) zero x e = ap (λ z. z ∷ []) (some_is y x e)
-take_more (y ∷ xs) (suc i) x e =
-    let n : suc i + 1 ≡ suc (i + 1) = omega arith in
-    ap (λ (k : ℕ). take k (y ∷ xs)) n ∙ ap (λ zs. y ∷ zs) (take_more xs i x e)
 
 pub or_none : {A : Type 0} (o : Option A) → o ≡ or_else o None
 or_none None = refl
@@ -49,11 +40,11 @@ module _ {A : Type 0} (test : A → Bool) (xs : List A) (i : ℕ) (x : A) (is : 
 
   pub position_next : position_from test 0 (take (i + 1) xs) ≡ or_else (position_from test 0 (take i xs)) (if test x then Some i else None)
   position_next =
-      ap (position_from test 0) (take_more xs i x is) ∙ (position_more test x 0 (take i xs) ∙ ap (λ (n : ℕ). or_else (position_from test 0 (take i xs)) (if test x then Some n else None)) len_is)
+      ap (position_from test 0) (take_next xs i x is) ∙ (position_more test x 0 (take i xs) ∙ ap (λ (n : ℕ). or_else (position_from test 0 (take i xs)) (if test x then Some n else None)) len_is)
 
   pub places_next : places_from test 0 (take (i + 1) xs) ≡ places_from test 0 (take i xs) ++ (if test x then i ∷ [] else [])
   places_next =
-      ap (places_from test 0) (take_more xs i x is) ∙ (places_more test x 0 (take i xs) ∙ ap (λ (n : ℕ). places_from test 0 (take i xs) ++ (if test x then n ∷ [] else [])) len_is)
+      ap (places_from test 0) (take_next xs i x is) ∙ (places_more test x 0 (take i xs) ∙ ap (λ (n : ℕ). places_from test 0 (take i xs) ++ (if test x then n ∷ [] else [])) len_is)
 
   chosen : (b : Bool) (before : List ℕ) → (if b then before ++ i ∷ [] else before) ≡ before ++ (if b then i ∷ [] else [])
   chosen true before = refl

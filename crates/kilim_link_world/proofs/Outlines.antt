@@ -5,6 +5,7 @@ use Rattle.std.specs.List.{position_from}
 use Rattle.std.specs.Str.{bytes_eq}
 use Rattle.std.proofs.lemmas.Option.{slice_get-map, slice_get_within}
 use Rattle.std.proofs.lemmas.List.{length-take}
+use Rattle.kilim_lemmas.proofs.Lists.{take_next}
 use Rattle.kilim_classes.specs.declared.class.Form.{Form}
 use Rattle.kilim_classes.specs.declared.class.Class.{Class}
 use Rattle.kilim_classes.specs.declared.names.ClassId.{ClassId}
@@ -18,7 +19,6 @@ use Rattle.kilim_link_world.specs.Agrees.{each_below}
 use Rattle.kilim_link_world.specs.Ids.{id_in, named_in}
 use Rattle.kilim_link_world.specs.Outlining.{superclass_in, without_members, mark_at}
 use Rattle.kilim_link_world.proofs.Below.{get_below, length_below}
-use Rattle.kilim_link_world.proofs.Lists.{take_more}
 
 first_named : (found : Bool) (n : ℕ) (others : Option ClassId) (more : Option ℕ) → others ≡ option_map class_id more → cond found (Some (class_id n)) others ≡ option_map class_id (cond found (Some n) more)
 first_named true n others more e = refl
@@ -63,7 +63,7 @@ pub outlined_next : (ids : Ids) (mark : ClassId → ClassView → Bool) (vs : Li
 outlined_next ids mark vs i v message named is marked =
     let len : 0 + length (take i vs) ≡ i = (let lt = slice_get_within vs i v is in let len = length-take i vs in omega arith) in
     ap (λ (c : Class). outlined vs mark 0 (take i vs) ++ c ∷ []) (ap (λ (b : Bool). without_members ids v b) marked ∙ without_is vs ids named mark i v)
-    ∙ sym (ap (outlined vs mark 0) (take_more vs i v is) ∙ (outlined_push vs mark 0 (take i vs) v ∙ ap (λ (k : ℕ). outlined vs mark 0 (take i vs) ++ entry vs mark k v ∷ []) len))
+    ∙ sym (ap (outlined vs mark 0) (take_next vs i v is) ∙ (outlined_push vs mark 0 (take i vs) v ∙ ap (λ (k : ℕ). outlined vs mark 0 (take i vs) ++ entry vs mark k v ∷ []) len))
 
 -- marks that agree
 pub same_marks : (all : List ClassView) (f g : ClassId → ClassView → Bool) (n : ℕ) (vs : List ClassView) → ((k : ℕ) (v : ClassView) → slice_get vs k ≡ Some v → f (class_id (n + k)) v ≡ g (class_id (n + k)) v) → outlined all f n vs ≡ outlined all g n vs

@@ -6,14 +6,14 @@ use Rattle.std.proofs.lemmas.Bool.{cases_lt}
 use Rattle.std.proofs.lemmas.Option.{slice_get_past, slice_get_within}
 use Rattle.std.proofs.lemmas.List.{length-append, length-take}
 use Rattle.std.proofs.lemmas.List.Sums.{sum_by-append, sum_by-cons}
+use Rattle.kilim_lemmas.proofs.Lists.{get_last, get_front, take_next}
 use Rattle.kilim_link_spec.specs.World.{or_else}
 use Rattle.kilim_link_spec.specs.declared.view.ClassView.{ClassView}
 use Rattle.kilim_signatures.specs.Index.{same_signature}
 use Rattle.kilim_nearest.specs.declared.said.Said.{Said}
 use Rattle.kilim_nearest.specs.Nearest.{said_by, said_of}
 use Rattle.kilim_link_world.specs.Agrees.{placed}
-use Rattle.kilim_link_world.proofs.Below.{get_front, get_last}
-use Rattle.kilim_link_world.proofs.Lists.{take_more, position_next}
+use Rattle.kilim_link_world.proofs.Lists.{position_next}
 
 first_or : (found : Bool) (v : Option ℕ) (more others last : Option (Option ℕ)) → more ≡ or_else others last → (if found then Some v else more) ≡ or_else (if found then Some v else others) last
 first_or true v more others last e = refl
@@ -85,7 +85,7 @@ module _ {M : Type 0} (test : M → Bool) (members : Option ClassView → List M
       grown (λ (o : Option (List Said)). said_of o name descriptor) place_in (λ k. ap (λ (ms : List M). placed (first k) (position_from test 0 ms)) (sym none))
       said (take i classes) of_class v same
       (one ∙ ap (λ (k : ℕ). place_in k (Some v)) (sym front)) before c
-      ∙ ap (λ (vs : List ClassView). place_in c (slice_get vs c)) (sym (take_more classes i v is))
+      ∙ ap (λ (vs : List ClassView). place_in c (slice_get vs c)) (sym (take_next classes i v is))
 
 -- ---- lengths and totals
 
@@ -96,5 +96,5 @@ pub total_next : {A : Type 0} (count : A → ℕ) (xs : List A) (i : ℕ) (x : A
 total_next count xs i x total is so_far n counts =
     let all = sum_by-append count (take i xs) (x ∷ []) in
     let one = sum_by-cons count x [] in
-    let more : sum_by count (take (i + 1) xs) ≡ sum_by count (take i xs ++ x ∷ []) = ap (sum_by count) (take_more xs i x is) in
+    let more : sum_by count (take (i + 1) xs) ≡ sum_by count (take i xs ++ x ∷ []) = ap (sum_by count) (take_next xs i x is) in
     omega arith

@@ -1,7 +1,8 @@
 -- One unit is read just from its spelling.
 use Rattle.std.proofs.Common.{◌≡◌, ℕ, zero, suc, ◌+◌, ◌-◌, ◌*◌, ◌/◌, ◌%◌, ◌^◌, ◌<◌, ◌≤◌, Bool, true, false, cond, ltb, leb, eqb, List, [], ◌∷◌, ◌++◌, Result, Ok, Err, refl, sym, ap, subst, ◌∙◌, arith, inl, inr, ◌⊎◌}
 use Rattle.std.specs.Prelude.{◌&&◌, ◌||◌}
-use Rattle.std.proofs.lemmas.Bool.{cases_lt, lt-ltb, ltb-true, ltb-false, le-ltb, leb-true, leb-false, le-leb, lt-leb, eqb-true, eqb-false, eq-eqb, ne_eqb}
+use Rattle.std.proofs.lemmas.Bool.{cases_lt, lt-ltb, ltb-true, ltb-false, le-ltb, leb-true, leb-false, le-leb, lt-leb, eqb-true, eqb-false, eq-eqb, ne_eqb, and_parts, or_cases, cases_Bool}
+use Rattle.kilim_lemmas.proofs.Truth.{differ}
 use Rattle.kilim_mutf8.specs.declared.unit.UnitFault.{UnitFault}
 use Rattle.kilim_mutf8.specs.declared.unit.UnitFault.TheVariants.{BadByte, Cut, SecondSpelling}
 use Rattle.kilim_mutf8.specs.Spelling.{is_short, unit_text}
@@ -13,20 +14,12 @@ chosen : {A : Type 0} (b : Bool) (x y z : A) → cond b x y ≡ z → ((b ≡ tr
 chosen true x y z e = inl (refl, e)
 chosen false x y z e = inr (refl, e)
 
-conj : (a b : Bool) → (a && b) ≡ true → (a ≡ true) × (b ≡ true)
-conj true b e = (refl, e)
-conj false b e = absurd cc
-
 not_both : (a b : Bool) → (a && b) ≡ false → (a ≡ false) ⊎ (b ≡ false)
 not_both true b e = inr e
 not_both false b e = inl refl
 
-disj : (a b : Bool) → (a || b) ≡ true → (a ≡ true) ⊎ (b ≡ true)
-disj true b e = inl refl
-disj false b e = inr e
-
 within : (low high b : ℕ) → (leb low b && ltb b high) ≡ true → (low ≤ b) × (b < high)
-within low high b e = let t = conj (leb low b) (ltb b high) e in (leb-true low b t.0, ltb-true b high t.1)
+within low high b e = let t = and_parts (leb low b) (ltb b high) e in (leb-true low b t.0, ltb-true b high t.1)
 
 is_within : (low high b : ℕ) → low ≤ b → b < high → (leb low b && ltb b high) ≡ true
 is_within low high b l h = rw (le-leb low b l, lt-ltb b high h) refl
@@ -42,9 +35,6 @@ short u l h = rw (lt-ltb 0 u l, lt-ltb u 0x80 h) refl
 
 long : (u : ℕ) → 0x80 ≤ u → is_short u ≡ false
 long u h = rw (lt-ltb 0 u (omega arith), le-ltb u 0x80 h) refl
-
-pub differ : (b : Bool) → b ≡ true → b ≡ false → ⊥
-differ b p q = cc
 
 abbrev pub read : ℕ × List ℕ → Result (ℕ × List ℕ) UnitFault
 read x = Ok x
@@ -74,7 +64,7 @@ zero_is_long = refl
 
 long_two : (u : ℕ) → (eqb u 0 || leb 0x80 u) ≡ true → is_short u ≡ false
 long_two u e =
-    elim (disj (eqb u 0) (leb 0x80 u) e) [
+    elim (or_cases (eqb u 0) (leb 0x80 u) e) [
       | inl z ↦ subst (λ (n : ℕ). is_short n ≡ false) (sym (eqb-true u 0 z)) zero_is_long
       | inr h ↦ long u (leb-true 0x80 u h)
     ]
@@ -132,7 +122,7 @@ takes [] x e = absurd (not_wrong Cut x e)
 takes (b ∷ rest) x e =
     elim (chosen (is_short b) (read (b, rest)) _ (read x) e) [
       | inl t ↦
-          let r = conj (ltb 0 b) (ltb b 0x80) t.0 in
+          let r = and_parts (ltb 0 b) (ltb b 0x80) t.0 in
           let high = ltb-true b 0x80 r.1 in
           subst (λ (y : ℕ × List ℕ). Taken (b ∷ rest) y) (read_is (b, rest) x t.1) (rw (text_of_one b t.0) refl, omega arith)
       | inr f ↦ elim (chosen (leb 0xC0 b && ltb b 0xE0) (two_at b rest) _ (read x) f.1) [
@@ -145,10 +135,6 @@ takes (b ∷ rest) x e =
     ]
 
 -- ---- what is spelled is read
-
-pub test : (b : Bool) → (b ≡ true) ⊎ (b ≡ false)
-test true = inl refl
-test false = inr refl
 
 -- a unit of two bytes is zero, or has too many bits for one
 spelled_two : (u : ℕ) → is_short u ≡ false → (eqb u 0 || leb 0x80 u) ≡ true
@@ -191,7 +177,7 @@ again_three u rest low high =
 
 pub again : (u : ℕ) (rest : List ℕ) → u < 2 ^ 16 → unit_at (unit_text u ++ rest) ≡ read (u, rest)
 again u rest lt =
-    elim (test (is_short u)) [
+    elim (cases_Bool (is_short u)) [
       | inl t ↦ rw (text_of_one u t) (again_one u rest t)
       | inr f ↦ elim (cases_lt u 0x800) [
         | inl small ↦ rw (text_of_two u f small) (again_two u rest f small)

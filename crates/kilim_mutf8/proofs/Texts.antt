@@ -3,14 +3,15 @@ use Rattle.std.proofs.Common.{◌≡◌, Bool, true, false, eqb, ℕ, ◌+◌, �
 use Rattle.std.specs.Prelude.{◌≢◌}
 use Rattle.std.specs.List.{flat_map, AllByRecursion}
 use Rattle.std.proofs.lemmas.List.{append-nil, take_at, length-append, nil_from_length}
-use Rattle.std.proofs.lemmas.Bool.{cases_lt, eqb-true}
+use Rattle.std.proofs.lemmas.Bool.{cases_lt, eqb-true, cases_Bool}
+use Rattle.kilim_lemmas.proofs.Truth.{differ}
 use Rattle.kilim_mutf8.specs.declared.unit.UnitFault.{UnitFault}
 use Rattle.kilim_mutf8.specs.declared.unit.UnitFault.TheVariants as unit
 use Rattle.kilim_mutf8.specs.declared.fault.TextFault.{TextFault}
 use Rattle.kilim_mutf8.specs.Spelling.{is_short, unit_text, spelling, UnitsFit}
 use Rattle.kilim_mutf8.specs.Reading.{unit_at}
 use Rattle.kilim_mutf8.specs.Text.{placed, HasFault, OneSpelling}
-use Rattle.kilim_mutf8.proofs.OneUnit.{test, differ, read, wrong, read_is, not_wrong, text_of_one, text_of_two, text_of_three, Taken, takes, again}
+use Rattle.kilim_mutf8.proofs.OneUnit.{read, wrong, read_is, not_wrong, text_of_one, text_of_two, text_of_three, Taken, takes, again}
 
 -- no unit begins there
 abbrev pub Ends : List ℕ → Type 0
@@ -86,7 +87,7 @@ one_more bytes us rest u after parts fit is =
 
 some_text : (u : ℕ) → 0 < length (unit_text u)
 some_text u =
-    elim (test (is_short u)) [
+    elim (cases_Bool (is_short u)) [
       | inl t ↦ rw (text_of_one u t) (omega arith)
       | inr f ↦ elim (cases_lt u 0x800) [
         | inl small ↦ rw (text_of_two u f small) (omega arith)

@@ -1,16 +1,10 @@
 -- Lists of entries that grow at their end, by numbers that stay.
 use Rattle.std.proofs.Common.{◌≡◌, ℕ, zero, suc, ◌+◌, ◌<◌, List, [], ◌∷◌, ◌++◌, length, get_or, take, Option, Some, refl, sym, ap, ◌∙◌, subst, arith}
+use Rattle.kilim_lemmas.proofs.Lists.{take_at}
 use Rattle.kilim_inherited.specs.declared.entry.Entry.{Entry}
 use Rattle.kilim_signatures.specs.Numbers.{Keeps}
 use Rattle.kilim_nearest.specs.declared.said.Said.{Said}
 use Rattle.kilim_nearest.specs.Keyed.{Keyed, AllKeyed}
-
-pub take_at : {A : Type 0} (xs : List A) (i : ℕ) (x : A) → i < length xs → x ≡ get_or xs i x → take (i + 1) xs ≡ take i xs ++ x ∷ []
-take_at [] i x lt is = absurd (omega arith)
-take_at (y ∷ ys) zero x lt is = ap (λ z. z ∷ []) (sym is)
-take_at (y ∷ ys) (suc i) x lt is =
-    let n : suc i + 1 ≡ suc (i + 1) = omega arith in
-    ap (λ (k : ℕ). take k (y ∷ ys)) n ∙ ap (λ zs. y ∷ zs) (take_at ys i x (omega arith) is)
 
 module _ (before after : List ℕ → List ℕ → Option ℕ) (keeps : Keeps before after) where
   pub keyed_kept : (ss : List Said) (es : List Entry) → Keyed before ss es → Keyed after ss es

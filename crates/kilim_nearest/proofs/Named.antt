@@ -2,8 +2,11 @@
 use Rattle.std.proofs.Common.{◌≡◌, ℕ, zero, suc, ◌==◌, Bool, true, false, List, [], ◌∷◌, Option, Some, None, refl, sym, ap, ◌∙◌, inl, inr, rules}
 use Rattle.std.specs.Prelude.{◌&&◌, if◌then◌else◌, slice_get}
 use Rattle.std.specs.Str.{bytes_eq}
-use Rattle.std.proofs.lemmas.Bool.{cases_Bool, and_from, eqb-true, eq-eqb}
+use Rattle.std.proofs.lemmas.Bool.{cases_Bool, and_from, eqb-true, eq-eqb, and_parts}
 use Rattle.std.proofs.lemmas.Slice.Eq.{bytes_eq-Decides}
+use Rattle.std.proofs.lemmas.Option.{same_Some}
+use Rattle.kilim_lemmas.proofs.Options.{none_isnt}
+use Rattle.kilim_lemmas.proofs.Texts.{text_is, same_text}
 use Rattle.kilim_classes.specs.declared.names.ClassId.{ClassId}
 use Rattle.kilim_inherited.specs.declared.entry.Entry.{Entry}
 use Rattle.kilim_inherited.specs.Inherited as numbers
@@ -16,13 +19,6 @@ use Rattle.kilim_nearest.specs.Keyed.{Keyed, AllKeyed}
 use Rattle.kilim_nearest.specs.Nearest as names
 use Rattle.kilim_nearest.specs.Nearest.{said_by, says, nearest}
 
-some_is : (x y : ℕ) → Some x ≡ Some y → x ≡ y
-some_is x y e = cc
-
-none_isnt : (o : Option ℕ) (k : ℕ) → o ≡ None → o ≡ Some k → {A : Type 0} → A
-none_isnt None k e is = absurd cc
-none_isnt (Some j) k e is = absurd cc
-
 chosen : (a b : Bool) (v w : Option ℕ) (x y : Option (Option ℕ)) → a ≡ b → v ≡ w → x ≡ y → (if a then Some v else x) ≡ (if b then Some w else y)
 chosen true b v w x y is same rest = ap (λ (c : Bool). if c then Some v else x) is ∙ (ap (λ (u : Option ℕ). if b then Some u else x) same ∙ ap (λ (z : Option (Option ℕ)). if b then Some w else z) rest)
 chosen false b v w x y is same rest = ap (λ (c : Bool). if c then Some v else x) is ∙ (ap (λ (u : Option ℕ). if b then Some u else x) same ∙ ap (λ (z : Option (Option ℕ)). if b then Some w else z) rest)
@@ -31,24 +27,14 @@ skipped : (a : Bool) (v : Option ℕ) (x : Option (Option ℕ)) → a ≡ false 
 skipped true v x is none = absurd cc
 skipped false v x is none = none
 
-conj : (a b : Bool) → (a && b) ≡ true → (a ≡ true) × (b ≡ true)
-conj true b e = (refl, e)
-conj false b e = absurd cc
-
-text_is : (xs ys : List ℕ) → bytes_eq xs ys ≡ true → xs ≡ ys
-text_is xs ys e = search (rules, bytes_eq-Decides)
-
-is_text : (xs ys : List ℕ) → xs ≡ ys → bytes_eq xs ys ≡ true
-is_text xs ys e = search (rules, bytes_eq-Decides)
-
 -- two names with descriptors that are the same have one number
 by_name : (number : List ℕ → List ℕ → Option ℕ) (s : Signature) (name descriptor : List ℕ) → same_signature s name descriptor ≡ true → number s.name s.descriptor ≡ number name descriptor
 by_name number s name descriptor same =
-    let parts = conj (bytes_eq s.name name) (bytes_eq s.descriptor descriptor) same in
+    let parts = and_parts (bytes_eq s.name name) (bytes_eq s.descriptor descriptor) same in
     ap (λ (n : List ℕ). number n s.descriptor) (text_is s.name name parts.0) ∙ ap (number name) (text_is s.descriptor descriptor parts.1)
 
 are_same : (s : Signature) (name descriptor : List ℕ) → s.name ≡ name → s.descriptor ≡ descriptor → same_signature s name descriptor ≡ true
-are_same s name descriptor n d = and_from (bytes_eq s.name name) (bytes_eq s.descriptor descriptor) (is_text s.name name n) (is_text s.descriptor descriptor d)
+are_same s name descriptor n d = and_from (bytes_eq s.name name) (bytes_eq s.descriptor descriptor) (same_text s.name name n) (same_text s.descriptor descriptor d)
 
 module _ (number : List ℕ → List ℕ → Option ℕ) (name descriptor : List ℕ) where
   -- a name without a number is none of these
@@ -81,7 +67,7 @@ module _ (number : List ℕ → List ℕ → Option ℕ) (name descriptor : List
     same_test : (s : Signature) (key : ℕ) → number s.name s.descriptor ≡ Some key → (key == k) ≡ same_signature s name descriptor
     same_test s key is =
         elim (cases_Bool (same_signature s name descriptor)) [
-          | inl same ↦ eq-eqb key k (some_is key k (sym is ∙ (by_name number s name descriptor same ∙ has))) ∙ sym same
+          | inl same ↦ eq-eqb key k (same_Some key k (sym is ∙ (by_name number s name descriptor same ∙ has))) ∙ sym same
           | inr other ↦
               elim (cases_Bool (key == k)) [
                 | inl one ↦

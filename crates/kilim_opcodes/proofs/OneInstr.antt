@@ -4,7 +4,7 @@ use Rattle.std.specs.Prelude.{FitsSigned}
 use Rattle.std.specs.Int.{w8, w16, w32}
 use Rattle.std.specs.List.{find}
 use Rattle.std.specs.Option.{option_map}
-use Rattle.std.proofs.lemmas.Bool.{ltb-true, leb-true, eqb-true}
+use Rattle.std.proofs.lemmas.Bool.{ltb-true, leb-true, eqb-true, and_parts}
 use Rattle.kilim_grammar.specs.Reader.{◌>>=◌, made, tested}
 use Rattle.kilim_grammar.specs.Spelling.{u1, u2}
 use Rattle.kilim_grammar.proofs.Bytes.{IsBytes, Takes, Takes-then}
@@ -28,14 +28,10 @@ abbrev all_small : List Row → Bool
 all_small [] = true
 all_small (row ∷ others) = ltb row.1 256 && all_small others
 
-both_true : (a b : Bool) → (a && b) ≡ true → (a ≡ true) × (b ≡ true)
-both_true true b e = (refl, e)
-both_true false b e = absurd cc
-
 row_small : (row : Row) (others : List Row) (op : ℕ) (layout : OpForm) (b : Bool) → (leb row.0 op && leb op row.1) ≡ b → ltb row.1 256 ≡ true → (form_in others op ≡ Some layout → op < 256)
     → option_map (λ (r : Row). r.2) (cond b (Some row) (find (λ (r : Row). leb r.0 op && leb op r.1) others)) ≡ Some layout → op < 256
 row_small row others op layout true is small later e =
-    let le = leb-true op row.1 (both_true (leb row.0 op) (leb op row.1) is).1 in
+    let le = leb-true op row.1 (and_parts (leb row.0 op) (leb op row.1) is).1 in
     let lt = ltb-true row.1 256 small in
     omega arith
 row_small row others op layout false is small later e = later e
@@ -43,7 +39,7 @@ row_small row others op layout false is small later e = later e
 small_in : (others : List Row) (op : ℕ) (layout : OpForm) → all_small others ≡ true → form_in others op ≡ Some layout → op < 256
 small_in [] op layout small e = absurd cc
 small_in (row ∷ others) op layout small e =
-    let s = both_true (ltb row.1 256) (all_small others) small in
+    let s = and_parts (ltb row.1 256) (all_small others) small in
     row_small row others op layout (leb row.0 op && leb op row.1) refl s.0 (λ h. small_in others op layout s.1 h) e
 
 pub small_op : (op : ℕ) (layout : OpForm) → form_of op ≡ Some layout → op < 256

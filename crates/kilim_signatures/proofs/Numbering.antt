@@ -1,17 +1,12 @@
 -- One more number.
 use Rattle.std.proofs.Common.{◌≡◌, ℕ, ◌+◌, true, false, List, Option, Some, None, sym, ap, ◌∙◌, inl, inr, arith}
 use Rattle.std.proofs.lemmas.Bool.{cases_Bool}
+use Rattle.std.proofs.lemmas.Option.{same_Some}
+use Rattle.kilim_lemmas.proofs.Options.{none_isnt}
 use Rattle.kilim_signatures.specs.declared.signature.Signature.{Signature}
 use Rattle.kilim_signatures.specs.Index.{same_signature}
 use Rattle.kilim_signatures.specs.Numbers.{Apart, AllBelow, Keeps}
 use Rattle.kilim_signatures.proofs.Signatures.{key_is}
-
-some_is : (x y : ℕ) → Some x ≡ Some y → x ≡ y
-some_is x y e = cc
-
-none_isnt : (o : Option ℕ) (k : ℕ) → o ≡ None → o ≡ Some k → {A : Type 0} → A
-none_isnt None k e is = absurd cc
-none_isnt (Some j) k e is = absurd cc
 
 module _ (before after : List ℕ → List ℕ → Option ℕ) (s : Signature) (fresh : ℕ) (none : before s.name s.descriptor ≡ None) (here : after s.name s.descriptor ≡ Some fresh)
     (others : (name descriptor : List ℕ) → same_signature s name descriptor ≡ false → after name descriptor ≡ before name descriptor) where
@@ -26,7 +21,7 @@ module _ (before after : List ℕ → List ℕ → Option ℕ) (s : Signature) (
     descriptor_is = ap (λ (q : Signature). q.descriptor) (key_is s name descriptor same)
 
     fresh_is : (k : ℕ) → after name descriptor ≡ Some k → fresh ≡ k
-    fresh_is k is = some_is fresh k (sym here ∙ (by_key after ∙ is))
+    fresh_is k is = same_Some fresh k (sym here ∙ (by_key after ∙ is))
 
   pub kept : Keeps before after
   kept name descriptor k is =

@@ -8,24 +8,17 @@ use Rattle.std.specs.Cmp.Lexicographic.{slice_cmp}
 use Rattle.std.specs.Str.{bytes_eq}
 use Rattle.std.proofs.lemmas.Map.Text.{is_eq-slice_cmp}
 use Rattle.std.proofs.lemmas.Slice.Eq.{bytes_eq-Decides}
+use Rattle.std.proofs.lemmas.Bool.{and_parts}
+use Rattle.kilim_lemmas.proofs.Orders.{both_eq}
 use Rattle.kilim_signatures.specs.declared.signature.Signature.{Signature}
 use Rattle.kilim_signatures.specs.Index.{signature_cmp, same_signature}
-
-both_eq : (a b : Ordering) → is_eq (ordering_then a b) ≡ (is_eq a && is_eq b)
-both_eq Less b = refl
-both_eq Equal b = refl
-both_eq Greater b = refl
 
 pub same_is : (s q : Signature) → is_eq (signature_cmp s q) ≡ same_signature s q.name q.descriptor
 same_is s q = both_eq (slice_cmp nat_cmp s.name q.name) (slice_cmp nat_cmp s.descriptor q.descriptor) ∙ rw (is_eq-slice_cmp s.name q.name, is_eq-slice_cmp s.descriptor q.descriptor) refl
 
-conj : (a b : Bool) → (a && b) ≡ true → (a ≡ true) × (b ≡ true)
-conj true b e = (refl, e)
-conj false b e = absurd cc
-
 pub key_is : (s : Signature) (name descriptor : List ℕ) → same_signature s name descriptor ≡ true → s ≡ record { name = name; descriptor = descriptor }
 key_is s name descriptor e =
-    let p = conj (bytes_eq s.name name) (bytes_eq s.descriptor descriptor) e in
+    let p = and_parts (bytes_eq s.name name) (bytes_eq s.descriptor descriptor) e in
     let n : s.name ≡ name = search (rules, bytes_eq-Decides) in
     let d : s.descriptor ≡ descriptor = search (rules, bytes_eq-Decides) in
     ap (λ (x : List ℕ). record s { name = x }) n ∙ ap (λ (x : List ℕ). record { name = name; descriptor = x }) d
