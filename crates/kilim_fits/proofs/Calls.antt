@@ -29,7 +29,7 @@ use Rattle.kilim_classes.specs.Fits.{fits_type}
 use Rattle.kilim_program.specs.Effect.{when, text_of, as_int, Effect, Goes, Calls, Asks, Raises, on_value, on_values, on_receiver, as_receiver, as_class, named_type}
 use Rattle.kilim_program.specs.Does.{text_answers, is_text, at_unit, unit_at, bit, calls_text, calls_method, calls_on, chosen, special}
 use Rattle.kilim_program.specs.Natives.{is_text_method}
-use Rattle.kilim_typing.specs.Step.{special_fits, all_meet, Types, Operand, Is, Further, Takes, by_row, arguments, result_types, vtype, dims_vtype, base_vtype, class_vtype, is_top, assignable}
+use Rattle.kilim_typing.specs.Step.{may_name, special_fits, all_meet, Types, Operand, Is, Further, Takes, by_row, arguments, result_types, vtype, dims_vtype, base_vtype, class_vtype, is_top, assignable}
 use Rattle.kilim_typing.specs.Typed.{writes, edges, Among}
 use Rattle.kilim_fits.specs.Fits.{Classes, is_of, has_type, have_types, HeapFits, ObjectFits, ContentFits, IsThere, result_awaited, StackFits}
 use Rattle.kilim_typing.specs.Typed.{has_code}
@@ -314,12 +314,12 @@ module _ (p : Program) (facts : Facts p) (m : Method) (of : Classes) (h : Object
             (called_with callee (chosen p callee id c) s.0 v (reverse xs) rest ts z.0 (subst (λ (o : Option Ty). is_of p o (class_type s.0.method.owner.0) ≡ true) (sym z.2.1) s.1) z.1 e q)
 
     -- invokespecial of no constructor: the receiver is of the own class too
-    pub special_calls : (id : MethodId) (callee : Method) → method_at p id ≡ Some callee → callee.is_static ≡ false → is_constructor callee ≡ false → special_fits p m id callee ≡ true → (also : List Further) →
+    pub special_calls : (id : MethodId) (callee : Method) → method_at p id ≡ Some callee → callee.is_static ≡ false → is_constructor callee ≡ false → may_name m callee.is_private callee.owner ≡ true → special_fits p m id callee ≡ true → (also : List Further) →
         all_meet p (map (λ o. Is Top) (arguments callee) ++ (Is (class_vtype m.owner) ∷ [])) f.stack ≡ true →
         by_row p m at (Takes (arguments callee ++ (Is (class_vtype callee.owner) ∷ [])) (result_types callee.result) also) f ≡ Ok g →
         After i (on_values (length callee.params) vs (λ args below. on_receiver below (λ receiver rest. calls_method (method_at p (special p m callee id)) (special p m callee id) (receiver ∷ reverse args) next ls rest h)))
-    special_calls id callee there inst plain fits also own r =
-        let s = facts.specials m id callee there inst plain fits in
+    special_calls id callee there inst plain named fits also own r =
+        let s = facts.specials m id callee there inst plain named fits in
         by_takes p facts.order m of h heap live at next f g ls vs i b _ (result_types callee.result) also (plain_with callee) r _ (λ a ts k.
         args_two p facts.order m of h heap (At i (result_types callee.result ++ ts)) (λ c. tt) callee (Is (class_vtype callee.owner) ∷ []) (Is (class_vtype m.owner) ∷ []) ts _ vs k (taken p facts.order m of h (map (λ o. Is Top) (arguments callee) ++ (Is (class_vtype m.owner) ∷ [])) f.stack vs (plain_tops (arguments callee)) own b.stack b.there) _ (λ xs below e t u.
         both ts _ below t u (λ receiver rest. calls_method (method_at p (special p m callee id)) (special p m callee id) (receiver ∷ reverse xs) next ls rest h) (λ v d c rest q.

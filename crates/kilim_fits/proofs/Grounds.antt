@@ -4,13 +4,14 @@ use Rattle.kilim_fits.proofs.Bodies as bodies
 use Rattle.kilim_fits.proofs.BuiltInMembers as members
 use Rattle.kilim_fits.proofs.FromKeeps as keeping
 use Rattle.kilim_fits.proofs.OwnFields as owned
+use Rattle.kilim_fits.proofs.Selecting as selecting
 use Rattle.kilim_fits.proofs.Through as lines
 use Rattle.kilim_fits.proofs.Tables.{all_wants, live_wants}
 use Rattle.kilim_fits.proofs.TextClass as texts
 use Rattle.kilim_fits.proofs.ValueClasses as values
 
 pub facts_hold : FactsHold
-facts_hold p keeps given = record {
+facts_hold p keeps = record {
   texts = texts.texts p keeps;
   takes = members.takes p keeps;
   fields = owned.fields p keeps;
@@ -25,8 +26,8 @@ facts_hold p keeps given = record {
   statics = keeping.statics p keeps;
   constructors = keeping.constructors p keeps;
   mailbox = values.mailbox p keeps;
-  selects = given.selects;
-  specials = given.specials;
+  selects = selecting.selects p keeps;
+  specials = selecting.specials p keeps;
 }
 
 pub are_verified : AreVerified

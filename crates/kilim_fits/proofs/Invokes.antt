@@ -114,10 +114,11 @@ module _ (p : Program) (facts : Facts p) (m : Method) (of : Classes) (h : Object
         by true con r = by_own callee.built_in refl con r
         by false con r =
             let a = (takes_inverse p m at (arguments callee ++ (Is (class_vtype callee.owner) ∷ [])) (result_types callee.result) (special_rules p m id callee) f g r).also_hold in
-            let inst = is_not callee.is_static (and_parts (not callee.is_static) (may_name m callee.is_private callee.owner) (and_parts (not callee.is_static && may_name m callee.is_private callee.owner) true a.1.0).0).0 in
+            let eight = and_parts (not callee.is_static) (may_name m callee.is_private callee.owner) (and_parts (not callee.is_static && may_name m callee.is_private callee.owner) true a.1.0).0 in
+            let inst = is_not callee.is_static eight.0 in
             let fits = (and_parts (special_fits p m id callee) true a.1.1.0).0 in
             subst (λ (y : Bool). Goal callee y) (sym (ap (λ (y : Bool). callee.built_in && (y && is_empty callee.params)) con ∙ none callee.built_in))
-            (special_calls p facts m of h heap live at next f g ls vs i b w on id callee e inst con fits (special_rules p m id callee) a.0 r)
+            (special_calls p facts m of h heap live at next f g ls vs i b w on id callee e inst con eight.1 fits (special_rules p m id callee) a.0 r)
           where
             none : (y : Bool) → (y && false) ≡ false
             none true = refl

@@ -25,4 +25,8 @@ pub mod BuiltInMembers
 pub mod TextClass
 pub mod Through
 pub mod OwnFields
+pub mod ClassMethods
+pub mod SameNames
+pub mod Finding
+pub mod Selecting
 pub mod Grounds

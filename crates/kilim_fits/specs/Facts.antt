@@ -14,7 +14,7 @@ use Rattle.kilim_classes.specs.Same.{is_constructor}
 use Rattle.kilim_program.specs.Effect.{named_type}
 use Rattle.kilim_program.specs.Does.{chosen, special, is_mailbox, narrowed_int}
 use Rattle.kilim_program.specs.Natives.{is_handed_out, is_text_method}
-use Rattle.kilim_typing.specs.Step.{superclass_at, special_fits}
+use Rattle.kilim_typing.specs.Step.{superclass_at, special_fits, may_name}
 use Rattle.kilim_typing.specs.Typed.{has_code}
 use Rattle.kilim_fits.specs.Fits.{int_fits, is_of}
 use Rattle.kilim_classes.specs.declared.class.Field.{Field}
@@ -98,16 +98,7 @@ pub record Facts (p : Program) : Type 0 where
   pub selects : (id : MethodId) (named : Method) → method_at p id ≡ Some named → named.is_static ≡ false → is_constructor named ≡ false → (c : Ty) → has_instances p c.dims c.base ≡ true → fits_type p c (class_type named.owner.0) ≡ true →
       (s : Selected p named (chosen p named id c)) × (fits_type p c (class_type s.method.owner.0) ≡ true)
   -- what invokespecial calls
-  pub specials : (own : Method) (id : MethodId) (named : Method) → method_at p id ≡ Some named → named.is_static ≡ false → is_constructor named ≡ false → special_fits p own id named ≡ true →
-      (s : Selected p named (special p own named id)) × (fits_type p (class_type own.owner.0) (class_type s.method.owner.0) ≡ true)
-
--- The facts that aren't derived from what every program keeps: premises of the laws until they are.
-pub record Premises (p : Program) : Type 0 where
-  -- what a call on an object selects
-  pub selects : (id : MethodId) (named : Method) → method_at p id ≡ Some named → named.is_static ≡ false → is_constructor named ≡ false → (c : Ty) → has_instances p c.dims c.base ≡ true → fits_type p c (class_type named.owner.0) ≡ true →
-      (s : Selected p named (chosen p named id c)) × (fits_type p c (class_type s.method.owner.0) ≡ true)
-  -- what invokespecial calls
-  pub specials : (own : Method) (id : MethodId) (named : Method) → method_at p id ≡ Some named → named.is_static ≡ false → is_constructor named ≡ false → special_fits p own id named ≡ true →
+  pub specials : (own : Method) (id : MethodId) (named : Method) → method_at p id ≡ Some named → named.is_static ≡ false → is_constructor named ≡ false → may_name own named.is_private named.owner ≡ true → special_fits p own id named ≡ true →
       (s : Selected p named (special p own named id)) × (fits_type p (class_type own.owner.0) (class_type s.method.owner.0) ≡ true)
 
 abbrev pub is_int : Base → Bool

@@ -21,7 +21,7 @@ use Rattle.kilim_classes.specs.Lengths.{fetched, is_reference_type}
 use Rattle.kilim_typing.specs.Typed.{IsLive, WellTypedBy, has_code}
 use Rattle.kilim_classes.specs.Keeps.{Keeps}
 use Rattle.kilim_fits.specs.Sound.{MoveFits}
-use Rattle.kilim_fits.specs.Facts.{Facts, Premises}
+use Rattle.kilim_fits.specs.Facts.{Facts}
 
 -- The next move of frames that fit is one, and what it leaves fits.
 abbrev pub MovesFit : Type 0
@@ -66,7 +66,7 @@ BeginningsFit = (p : Program) (typing : Typing) (live : Wanted) (of : Classes) �
 
 -- What the step rests on of a program follows from what every program keeps, and from these premises.
 abbrev pub FactsHold : Type 0
-FactsHold = (p : Program) → Keeps p → Premises p → Facts p
+FactsHold = (p : Program) → Keeps p → Facts p
 
 -- A program whose methods with code are well typed by some frames of verification, and want what is read, is verified.
 abbrev pub AreVerified : Type 0

@@ -1,5 +1,6 @@
 //! The laws.
 
+ghost use Rattle.kilim_fits.specs.Chosen.{FindsChosen};
 ghost use Rattle.kilim_fits.specs.Law.{AllAnswersFit, AreVerified, AreWanted, BeginningsFit, FactsHold, MovesFit};
 
 /// A law, and no work: the next move of frames that fit the frames of verification is one, and what it leaves fits.
@@ -17,7 +18,7 @@ pub fn beginnings_fit()
     ensures { BeginningsFit }
 {}
 
-/// A law, and no work: what the step rests on follows from what every program keeps, and from the premises that are left.
+/// A law, and no work: what the step rests on follows from what every program keeps.
 pub fn facts_hold()
     ensures { FactsHold }
 {}
@@ -30,4 +31,10 @@ pub fn are_verified()
 /// A law, and no work: all locals may be wanted, or the live ones alone.
 pub fn are_wanted()
     ensures { AreWanted }
+{}
+
+/// A law, and no work: what a call on an object of a class finds for a named method is like it, and stands in the line of
+/// that class (JVMS 5.4.6).
+pub fn finds_chosen()
+    ensures { FindsChosen }
 {}

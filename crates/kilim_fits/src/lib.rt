@@ -3,4 +3,6 @@
 
 mod laws;
 
-pub use laws::{all_answers_fit, are_verified, are_wanted, beginnings_fit, facts_hold, moves_fit};
+pub use laws::{
+    all_answers_fit, are_verified, are_wanted, beginnings_fit, facts_hold, finds_chosen, moves_fit,
+};
