@@ -1,0 +1,74 @@
+//! What flows into declared frames.
+
+ghost use Rattle.std.specs.Prelude.{◌≡◌, is_some};
+ghost use Rattle.std.specs.List.{list_all};
+ghost use Rattle.kilim_typing.specs.Typed.{declared, frame_types, all_assignable};
+ghost use Rattle.kilim_typing.specs.Faults.{locals_flow, flows_into, flows_into_declared};
+
+use crate::stated::{declared, has_unset_this, is_declared};
+use kilim_classes::{Frame, Method, Program, VType};
+use kilim_type_step::{State, type_at};
+use kilim_vtypes::assignable;
+
+#[tactic(auto, using(crate::proofs::Flowing::flow_on, crate::proofs::Flowing::flow_fails, crate::proofs::Flowing::flow_end))]
+fn locals_flow(program: &Program, from: &[VType], to: &[VType]) -> bool
+    ensures { result ≡ locals_flow program.now from.now to.now }
+{
+    for (slot, wanted) in to.iter().enumerate() {
+        if !assignable(program, &type_at(from, slot), wanted) {
+            return false;
+        }
+    }
+    true
+}
+
+// Stacks, the bottom first.
+#[tactic(auto, using(crate::proofs::Flowing::stack_on, crate::proofs::Flowing::stack_fails, crate::proofs::Flowing::lengths_differ, crate::proofs::Flowing::stack_end))]
+fn stack_flows(program: &Program, from: &[VType], to: &[VType]) -> bool
+    ensures { result ≡ all_assignable program.now from.now to.now }
+{
+    if from.len() != to.len() {
+        return false;
+    }
+    for (at, wanted) in to.iter().enumerate() {
+        if !assignable(program, &from[at], wanted) {
+            return false;
+        }
+    }
+    true
+}
+
+/// Whether types flow into a declared frame.
+#[tactic(auto, using(crate::proofs::Flowing::assignable_reversed))]
+pub fn flows_into(program: &Program, from: &State, to: &Frame) -> bool
+    ensures { result ≡ flows_into program.now from.now (frame_types to.now) }
+{
+    locals_flow(program, from.locals(), to.locals.as_slice())
+        && stack_flows(program, from.stack(), to.stack.as_slice())
+        && (!from.is_unset() || has_unset_this(to.locals.as_slice()))
+}
+
+/// Whether types flow into the frame that is declared at a place, if there is one.
+#[tactic(auto, using(crate::proofs::Flowing::into_declared, crate::proofs::Flowing::into_none))]
+pub fn flows_to(program: &Program, method: &Method, from: &State, at: u32) -> bool
+    ensures { result ≡ flows_into_declared program.now from.now (declared method.now at) }
+{
+    match declared(method, at) {
+        Some(frame) => flows_into(program, from, frame),
+        None => true,
+    }
+}
+
+/// Whether types flow into the frames that are declared at places.
+pub fn flow_to_all(program: &Program, method: &Method, from: &State, places: &[u32]) -> bool
+    ensures { result ≡ list_all (λ to. flows_into_declared program.now from.now (declared method.now to)) places.now }
+{
+    places.iter().all(|at| flows_to(program, method, from, *at))
+}
+
+/// Whether a frame is declared at each place.
+pub fn are_declared(method: &Method, places: &[u32]) -> bool
+    ensures { result ≡ list_all (λ to. is_some (declared method.now to)) places.now }
+{
+    places.iter().all(|at| is_declared(method, *at))
+}
