@@ -140,7 +140,7 @@ module _ (p : Program) (of more : Classes) (grows : Extends of more) where
 
   content_grown : (d : ℕ) (b : Base) (o : HeapObject) → ContentFits p of d b o → ContentFits p more d b o
   content_grown zero (base.Class c) o e = (e.0, fields_grown (object_fields p c) o.fields e.1, e.2)
-  content_grown (suc d) b o e = (e.0, all_grown (record { dims = d; base = b }) o.elements e.1)
+  content_grown (suc d) b o e = (e.0, all_grown (record { dims = d; base = b }) o.elements e.1, e.2)
   content_grown zero base.Bool o e = e
   content_grown zero base.Byte o e = e
   content_grown zero base.Char o e = e

@@ -18,6 +18,7 @@ use Rattle.kilim_classes.specs.declared.value.Value.TheVariants as value
 use Rattle.kilim_classes.specs.declared.verified.VType.{VType}
 use Rattle.kilim_classes.specs.declared.verified.VType.TheVariants.{Int, Long, Null, Object}
 use Rattle.kilim_classes.specs.Program.{Program}
+use Rattle.kilim_classes.specs.Keeps.{has_base}
 use Rattle.kilim_program.specs.Machine.{Objects}
 use Rattle.kilim_classes.specs.Names.{class_named}
 use Rattle.kilim_classes.specs.Same.{same_base}
@@ -233,23 +234,23 @@ module _ (p : Program) (order : Ordered p) (m : Method) (of : Classes) (h : Obje
     zero_fits base.Long = refl
     zero_fits (base.Class c) = refl
 
-    array_made : (d : ℕ) (c : Base) (v : Value) → is_value_of p of (record { dims = d; base = c }) v ≡ true → (ts : List VType) (x : ℤ) (rest : List Value) → have_types p m of ts rest ≡ true →
+    array_made : (d : ℕ) (c : Base) (v : Value) → has_base p c ≡ true → is_value_of p of (record { dims = d; base = c }) v ≡ true → (ts : List VType) (x : ℤ) (rest : List Value) → have_types p m of ts rest ≡ true →
         At i (Object (record { dims = suc d; base = c }) ∷ ts) (makes_array (record { dims = suc d; base = c }) v x next ls rest h)
-    array_made d c v e ts (negsuc n) rest t = tt
-    array_made d c v e ts (pos n) rest t = by (nat_lt array_limit n)
+    array_made d c v there e ts (negsuc n) rest t = tt
+    array_made d c v there e ts (pos n) rest t = by (nat_lt array_limit n)
       where
         by : (z : Bool) → At i (Object (record { dims = suc d; base = c }) ∷ ts) (cond z (Ends cause.Large) (Makes (new_array (record { dims = suc d; base = c }) v n) next ls rest h))
         by true = tt
         by false = (
-          (refl, all_same p order of heap.proper (is_value_of p of (record { dims = d; base = c })) n v e),
+          (refl, all_same p order of heap.proper (is_value_of p of (record { dims = d; base = c })) n v e, there),
           record { among = on; locals = kept p order m of h heap live at next f g ls vs i b w next on; stack = (order.itself (record { dims = suc d; base = c }), t); heap = heap },
         )
 
-    pub newarray_row : (c : Base) → by_row p m at (Takes (Is Int ∷ []) (Object (record { dims = 1; base = c }) ∷ []) []) f ≡ Ok g → After i (on_int vs (λ n rest. makes_array (record { dims = 1; base = c }) (first_value_of c) n next ls rest h))
-    newarray_row c r = takes (Is Int ∷ []) (Object (record { dims = 1; base = c }) ∷ []) [] (tt, tt) r _ (λ a ts k.
-        int_took p order m of h heap (At i (Object (record { dims = 1; base = c }) ∷ ts)) (λ c. tt) [] ts vs k _ (λ x rest t. array_made 0 c (first_value_of c) (zero_fits c) ts x rest t))
+    pub newarray_row : (c : Base) → has_base p c ≡ true → by_row p m at (Takes (Is Int ∷ []) (Object (record { dims = 1; base = c }) ∷ []) []) f ≡ Ok g → After i (on_int vs (λ n rest. makes_array (record { dims = 1; base = c }) (first_value_of c) n next ls rest h))
+    newarray_row c there r = takes (Is Int ∷ []) (Object (record { dims = 1; base = c }) ∷ []) [] (tt, tt) r _ (λ a ts k.
+        int_took p order m of h heap (At i (Object (record { dims = 1; base = c }) ∷ ts)) (λ c. tt) [] ts vs k _ (λ x rest t. array_made 0 c (first_value_of c) there (zero_fits c) ts x rest t))
 
     -- the element's type is a class or an array
-    pub anewarray_row : (ty : Ty) → is_reference_type ty.dims ty.base ≡ true → (also : List Further) → by_row p m at (Takes (Is Int ∷ []) (Object (array_ty ty) ∷ []) also) f ≡ Ok g → After i (on_int vs (λ n rest. makes_array (array_of ty) value.Null n next ls rest h))
-    anewarray_row ty is also r = takes (Is Int ∷ []) (Object (array_ty ty) ∷ []) also (tt, tt) r _ (λ a ts k.
-        int_took p order m of h heap (At i (Object (array_ty ty) ∷ ts)) (λ c. tt) [] ts vs k _ (λ x rest t. array_made ty.dims ty.base value.Null (value_of_typed ty value.Null is refl) ts x rest t))
+    pub anewarray_row : (ty : Ty) → is_reference_type ty.dims ty.base ≡ true → has_base p ty.base ≡ true → (also : List Further) → by_row p m at (Takes (Is Int ∷ []) (Object (array_ty ty) ∷ []) also) f ≡ Ok g → After i (on_int vs (λ n rest. makes_array (array_of ty) value.Null n next ls rest h))
+    anewarray_row ty is there also r = takes (Is Int ∷ []) (Object (array_ty ty) ∷ []) also (tt, tt) r _ (λ a ts k.
+        int_took p order m of h heap (At i (Object (array_ty ty) ∷ ts)) (λ c. tt) [] ts vs k _ (λ x rest t. array_made ty.dims ty.base value.Null there (value_of_typed ty value.Null is refl) ts x rest t))

@@ -123,7 +123,7 @@ module _ (p : Program) (facts : Facts p) (narrows : Narrows) (m : Method) (of : 
     long_constant (value.Box n) e = absurd (let z = (takes_inverse p m at [] (Long ∷ []) (needs 9 false ∷ []) f g e).also_hold.0 in cc)
     long_constant value.Fiber e = absurd (let z = (takes_inverse p m at [] (Long ∷ []) (needs 9 false ∷ []) f g e).also_hold.0 in cc)
 
-  pub table_fits : (i : Instr) → Before p m of h live at next f ls vs i → made_at m.code at ≡ made_by i → IsProper i → type_step p m at i f ≡ Ok g → EffectFits p m of live (edges i next) g (does p m i next ls vs h)
+  pub table_fits : (i : Instr) → Before p m of h live at next f ls vs i → made_at m.code at ≡ made_by i → IsProper p i → type_step p m at i f ≡ Ok g → EffectFits p m of live (edges i next) g (does p m i next ls vs h)
   unfolding does row jump_targets ends_path
   table_fits instr.Nop b made proper e = nop p facts.order m of h heap live at next f g ls vs instr.Nop b (λ k. refl) (inl refl) e
   table_fits instr.AconstNull b made proper e = push p facts.order m of h heap live at next f g ls vs instr.AconstNull b (λ k. refl) (inl refl) Null value.Null refl e
@@ -215,12 +215,12 @@ module _ (p : Program) (facts : Facts p) (narrows : Narrows) (m : Method) (of : 
   table_fits instr.Arraylength b made proper e = length_row p facts.order m of h heap live at next f g ls vs instr.Arraylength b (λ k. refl) (inl refl) e
   table_fits (instr.Checkcast ty) b made proper e = cast_row p facts.order m of h heap live at next f g ls vs (instr.Checkcast ty) b (λ k. refl) (inl refl) ty e
   table_fits (instr.Instanceof ty) b made proper e = instance_row p facts.order m of h heap live at next f g ls vs (instr.Instanceof ty) b (λ k. refl) (inl refl) ty e
-  table_fits (instr.Newarray c) b made proper e = newarray_row p facts.order m of h heap live at next f g ls vs (instr.Newarray c) b (λ k. refl) (inl refl) c e
+  table_fits (instr.Newarray c) b made proper e = newarray_row p facts.order m of h heap live at next f g ls vs (instr.Newarray c) b (λ k. refl) (inl refl) c proper e
   table_fits (instr.Ldc v) b made proper e = constant (instr.Ldc v) b (λ k. refl) (inl refl) v e
   table_fits (instr.LdcW v) b made proper e = constant (instr.LdcW v) b (λ k. refl) (inl refl) v e
   table_fits (instr.Ldc2W v) b made proper e = long_constant (instr.Ldc2W v) b (λ k. refl) (inl refl) v e
   table_fits (instr.New c) b made proper e = new_row p facts m of h heap live at next f g ls vs (instr.New c) b (λ k. refl) (inl refl) c made e
-  table_fits (instr.Anewarray ty) b made proper e = anewarray_row p facts.order m of h heap live at next f g ls vs (instr.Anewarray ty) b (λ k. refl) (inl refl) ty proper (needs 13 (nat_lt ty.dims 255) ∷ []) e
+  table_fits (instr.Anewarray ty) b made proper e = anewarray_row p facts.order m of h heap live at next f g ls vs (instr.Anewarray ty) b (λ k. refl) (inl refl) ty proper.0 proper.1 (needs 13 (nat_lt ty.dims 255) ∷ []) e
   table_fits (instr.Invokevirtual id) b made proper e = virtual_fits p facts m of h heap live at next f g ls vs (instr.Invokevirtual id) b (λ k. refl) (inl refl) id (method_at p id) refl e
   table_fits (instr.Invokestatic id) b made proper e = static_fits p facts m of h heap live at next f g ls vs (instr.Invokestatic id) b (λ k. refl) (inl refl) id (method_at p id) refl e
   table_fits (instr.Invokespecial id) b made proper e = special_fit p facts m of h heap live at next f g ls vs (instr.Invokespecial id) b (λ k. refl) (inl refl) id (method_at p id) refl e

@@ -66,10 +66,10 @@ get_within (y ∷ xs) zero x e = omega arith
 get_within (y ∷ xs) (suc k) x e = let l = get_within xs k x e in omega (arith, l)
 
 module _ (p : Program) (keeps : Keeps p) where
-  abbrev count : ℕ
+  abbrev pub count : ℕ
   count = length p.classes
 
-  abbrev ids : ℕ → ClassId → List ℕ
+  abbrev pub ids : ℕ → ClassId → List ℕ
   ids n a = map (λ (d : ClassId). d.0) (line_up_to p n a)
 
   -- superclasses are there
@@ -100,7 +100,7 @@ module _ (p : Program) (keeps : Keeps p) where
           let whole : list_any (λ (d : ClassId). eqb d.0 a.0) (line_up_to p count u) ≡ false = subst (λ (o : Option ClassId). list_any (λ (d : ClassId). eqb d.0 a.0) (line_above p o) ≡ false) is none in
           false_from_ne_true _ (λ yes. let more = any_more p (λ (d : ClassId). eqb d.0 a.0) m count u less yes in absurd (cc))
 
-  distinct : (n : ℕ) (a : ClassId) → n ≤ suc count → IsDistinct eqb (ids n a)
+  pub distinct : (n : ℕ) (a : ClassId) → n ≤ suc count → IsDistinct eqb (ids n a)
   unfolding IsDistinct
   distinct zero a less = tt
   distinct (suc n) a less = by (up p a) refl (λ u. distinct n u (omega (arith, less)))

@@ -141,7 +141,7 @@ module _ (p : Program) (order : Ordered p) (of : Classes) (proper : (n : ℕ) (c
   elements_fit o d e f = (subst (λ (z : ℕ). ContentFits p of z o.class.base o) e f).1
 
   pub with_elements : (o : HeapObject) (d : ℕ) (es : List Value) → o.class.dims ≡ suc d → ObjectFits p of o → list_all (is_value_of p of (record { dims = d; base = o.class.base })) es ≡ true → ObjectFits p of (record o { elements = es })
-  with_elements o d es e f a = subst (λ (z : ℕ). ContentFits p of z o.class.base (record o { elements = es })) (sym e) ((subst (λ (z : ℕ). ContentFits p of z o.class.base o) e f).0, a)
+  with_elements o d es e f a = subst (λ (z : ℕ). ContentFits p of z o.class.base (record o { elements = es })) (sym e) ((subst (λ (z : ℕ). ContentFits p of z o.class.base o) e f).0, a, (subst (λ (z : ℕ). ContentFits p of z o.class.base o) e f).2)
 
 pub written : (p : Program) (of : Classes) (h : Objects) → HeapFits p of h → (n : ℕ) (o q : HeapObject) → get h n ≡ Some o → q.class ≡ o.class → ObjectFits p of q → HeapFits p of (insert h n q)
 written p of h heap n o q e same fit = record { proper = heap.proper; classes = classes; objects = objects }

@@ -6,7 +6,7 @@ use Rattle.std.specs.List.{list_all}
 use Rattle.kilim_classes.specs.declared.class.Field.{Field}
 use Rattle.kilim_classes.specs.declared.class.Method.{Method}
 use Rattle.kilim_classes.specs.declared.instr.Instr.{Instr}
-use Rattle.kilim_classes.specs.declared.instr.Instr.TheVariants.{Anewarray}
+use Rattle.kilim_classes.specs.declared.instr.Instr.TheVariants.{Newarray, Anewarray}
 use Rattle.kilim_classes.specs.declared.names.ClassId.{ClassId}
 use Rattle.kilim_classes.specs.declared.names.FieldId.{FieldId}
 use Rattle.kilim_classes.specs.declared.names.MethodId.{MethodId}
@@ -23,6 +23,7 @@ use Rattle.kilim_program.specs.Machine.{Objects, Activation}
 use Rattle.kilim_classes.specs.BuiltIn.{class_type}
 use Rattle.kilim_classes.specs.Names.{class_at, method_at, field_of, class_name}
 use Rattle.kilim_program.specs.Members.{object_fields, is_concrete}
+use Rattle.kilim_classes.specs.Keeps.{has_base}
 use Rattle.kilim_classes.specs.Kinds.{is_value_class}
 use Rattle.kilim_program.specs.Effect.{named_type}
 use Rattle.kilim_classes.specs.Fits.{fits_type, is_reference_base}
@@ -129,11 +130,11 @@ FieldsFit p of fs es = ⊥
 abbrev pub has_objects : Program → ClassId → Bool
 has_objects p c = is_concrete (class_at p c) && not (is_value_class (class_name p c))
 
--- an object by the dimensions and the base of its class
+-- an object by the dimensions and the base of its class; the class of an array's elements is there
 abbrev pub ContentFits : Program → Classes → ℕ → Base → HeapObject → Type 0
 ContentFits p of zero (base.Class c) o = (has_objects p c ≡ true) × FieldsFit p of (object_fields p c) o.fields × (o.elements ≡ [])
 ContentFits p of zero b o = ⊥
-ContentFits p of (suc n) b o = (o.fields ≡ []) × (list_all (is_value_of p of (record { dims = n; base = b })) o.elements ≡ true)
+ContentFits p of (suc n) b o = (o.fields ≡ []) × (list_all (is_value_of p of (record { dims = n; base = b })) o.elements ≡ true) × (has_base p b ≡ true)
 
 abbrev pub ObjectFits : Program → Classes → HeapObject → Type 0
 ObjectFits p of o = ContentFits p of o.class.dims o.class.base o
@@ -213,10 +214,11 @@ pub record WantsAt (live : ℕ → ℕ → Bool) (at next : ℕ) (i : Instr) : T
   pub read : (k : ℕ) → reads i k ≡ true → live at k ≡ true
   pub flow : (q k : ℕ) → Among (edges i next) q → live q k ≡ true → writes i k ≡ false → live at k ≡ true
 
--- what a new array of references holds is a class or an array
-abbrev pub IsProper : Instr → Type 0
-IsProper (Anewarray ty) = is_reference_type ty.dims ty.base ≡ true
-IsProper i = Unit {0}
+-- what a new array of references holds is a class or an array, and the class is there
+abbrev pub IsProper : Program → Instr → Type 0
+IsProper p (Newarray b) = has_base p b ≡ true
+IsProper p (Anewarray ty) = (is_reference_type ty.dims ty.base ≡ true) × (has_base p ty.base ≡ true)
+IsProper p i = Unit {0}
 
 -- The methods of a program fit these frames of verification and these wanted locals: each with code is well typed by
 -- the frames, begins at 0, and wants what is read.
@@ -224,4 +226,4 @@ pub record Verified (p : Program) (typing : Typing) (live : Wanted) : Type 0 whe
   pub typed : (id : MethodId) (m : Method) → method_at p id ≡ Some m → has_code m ≡ true → WellTypedBy p m (typing id)
   pub starts : (id : MethodId) (m : Method) → method_at p id ≡ Some m → has_code m ≡ true → (e : ℕ × Instr) × (es : List (ℕ × Instr)) × (m.code ≡ e ∷ es) × (e.0 ≡ 0)
   pub wants : (id : MethodId) (m : Method) → method_at p id ≡ Some m → (at : ℕ) (found : Instr × ℕ) → fetched m.code m.code_length at ≡ Some found → WantsAt (live id) at found.1 found.0
-  pub proper : (id : MethodId) (m : Method) → method_at p id ≡ Some m → (at : ℕ) (found : Instr × ℕ) → fetched m.code m.code_length at ≡ Some found → IsProper found.0
+  pub proper : (id : MethodId) (m : Method) → method_at p id ≡ Some m → (at : ℕ) (found : Instr × ℕ) → fetched m.code m.code_length at ≡ Some found → IsProper p found.0
