@@ -1,8 +1,9 @@
 -- Where control goes from an instruction is a place of the code.
-use Rattle.std.proofs.Common.{◌≡◌, ◌∙◌, sym, ap, refl, subst, ℕ, zero, suc, ◌+◌, ◌-◌, ◌<◌, ◌≤◌, ◌==◌, Bool, true, false, not, ◌||◌, ◌&&◌, if◌then◌else◌, true≢false, List, [], ◌∷◌, map, length, Option, Some, None, ◌⊎◌, inl, inr, arith}
-use Rattle.std.specs.List.{list_all, list_any, AllByRecursion}
+use Rattle.std.proofs.Common.{◌≡◌, ◌∙◌, sym, ap, refl, subst, ℕ, zero, suc, ◌-◌, ◌<◌, ◌≤◌, ◌==◌, Bool, true, false, not, if◌then◌else◌, true≢false, List, [], ◌∷◌, map, Option, Some, None, inl, inr, arith}
+use Rattle.std.specs.List.{list_all, AllByRecursion}
 use Rattle.std.specs.Option.{IfSome}
 use Rattle.std.proofs.lemmas.Bool.{and_parts, or_cases}
+use Rattle.std.proofs.lemmas.Option.{same_Some}
 use Rattle.kilim_classes.specs.declared.class.Method.{Method}
 use Rattle.kilim_classes.specs.declared.instr.Instr.{Instr}
 use Rattle.kilim_classes.specs.declared.names.MethodId.{MethodId}
@@ -10,6 +11,7 @@ use Rattle.kilim_classes.specs.Keeps.{Keeps, code_is_whole}
 use Rattle.kilim_classes.specs.Lengths.{has_length, code_stands, code_ends, targets_stand, is_code_place, first_place, fetched, jump_targets, ends_path}
 use Rattle.kilim_classes.specs.Names.{method_at, is_empty}
 use Rattle.kilim_classes.specs.Program.{Program}
+use Rattle.kilim_paths.specs.Paths.{Has}
 use Rattle.kilim_lookups.proofs.Rising.{longer_by, all_there, same_number}
 use Rattle.kilim_typing.specs.Typed.{edges, has_code}
 use Rattle.kilim_isolation_check.specs.Walks.{exits_to, exits_of, exits_at}
@@ -119,3 +121,11 @@ exits_inside m at w = by (fetched m.code m.code_length at) refl
         exits_each m.code_length (edges i next) (edges_each m.code_length next (ends_path i) (jump_targets i)
         (λ goes. next_inside 0 m.code m.code_length at next i stands others.1 f goes)
         (each_inside 0 m.code m.code_length (jump_targets i) stands (fetched_in (λ j. list_all (is_code_place m.code) (jump_targets j)) m.code m.code_length at next i others.0 f)))
+
+has_each : {A : Type 0} (P : A → Type 0) (xs : List A) (x : A) → AllByRecursion P xs → Has xs x → P x
+has_each P [] x all (k, there) = absurd (cc)
+has_each P (y ∷ ys) x all (zero, there) = subst P (same_Some y x there) all.0
+has_each P (y ∷ ys) x all (suc k, there) = has_each P ys x all.1 (k, there)
+
+pub exit_inside : (m : Method) (at : ℕ) (exit : Option ℕ) → code_is_whole m ≡ true → Has (exits_at m at) exit → IfSome exit (λ q. q < m.code_length)
+exit_inside m at exit w has = has_each (λ x. IfSome x (λ q. q < m.code_length)) (exits_at m at) exit (exits_inside m at w) has

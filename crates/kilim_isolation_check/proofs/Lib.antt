@@ -1,4 +1,6 @@
 pub mod Inside
 pub mod Merging
-pub mod Frames
 pub mod Accepting
+pub mod Begins
+pub mod Together
+pub mod Numbered

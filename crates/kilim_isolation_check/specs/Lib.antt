@@ -1,6 +1,9 @@
 pub mod Walks
+pub mod Tables
+pub mod Mark
 pub mod Faults
 pub mod Answers
 pub mod IsolatedProgram
 pub mod Examples
 pub mod Laws
+pub mod Checked

@@ -2,22 +2,43 @@
 
 ghost use Rattle.std.specs.Prelude.{◌≡◌, IsTrue, ◌↔◌};
 
+use crate::mark::mark_of;
 use kilim_paths::State;
 use kilim_shape_graph::{Graph, Node};
 use std::marker::Model;
 
-/// A graph, as a state of the search.
+/// A graph, as a state of the search, with its mark.
 #[derive(Debug, Drop)]
 pub struct Shape {
-    pub graph: Graph,
+    graph: Graph,
+    mark: u64,
 }
 
 impl Model for Shape {
+    ghost use Rattle.std.specs.Prelude.{◌≡◌};
     ghost use Rattle.kilim_shape_graph.specs.declared.graph.Graph.{Graph};
+    ghost use Rattle.kilim_isolation_check.specs.Mark.{mark_of};
 
     ghost Value = { Graph };
 
     ghost view = { λ s. s.graph };
+
+    ghost invariant = { λ s. s.mark ≡ mark_of s.graph };
+}
+
+impl Shape {
+    pub fn new(graph: Graph) -> Shape
+        ensures { result ≡ graph }
+    {
+        let mark = mark_of(&graph);
+        Shape { graph, mark }
+    }
+
+    pub fn graph(&self) -> &Graph
+        ensures { result.now ≡ self.now }
+    {
+        &self.graph
+    }
 }
 
 fn same_slots(a: &[Option<usize>], b: &[Option<usize>]) -> bool
@@ -58,6 +79,6 @@ fn same_graphs(a: &Graph, b: &Graph) -> bool
 
 impl State for Shape {
     fn is_same(&self, other: &Shape) -> bool {
-        same_graphs(&self.graph, &other.graph)
+        self.mark == other.mark && same_graphs(&self.graph, &other.graph)
     }
 }

@@ -1,18 +1,17 @@
-//! The paths of a method, as a machine whose paths are searched.
+//! The steps of a method's instructions.
 
-ghost use Rattle.std.specs.Prelude.{◌≡◌, ◌<◌, ◌+◌, ◌∷◌, [], ℕ, true, length, drop, Option, Some, None, Result, Ok, Err, IfOk, IfSome, option_copied};
-ghost use Rattle.std.specs.List.{AllByRecursion};
-ghost use Rattle.std.specs.Option.{option_map};
-ghost use Rattle.kilim_classes.specs.declared.instr.Instr.{Instr};
+ghost use Rattle.std.specs.Prelude.{◌≡◌, ◌<◌, true, length, Some, None, Ok, Err, IfOk, option_copied};
+ghost use Rattle.std.specs.Option.{option_map, IfSome};
 ghost use Rattle.kilim_classes.specs.Keeps.{code_is_whole};
-ghost use Rattle.kilim_classes.specs.Lengths.{fetched, first_place};
 ghost use Rattle.kilim_classes.specs.Names.{method_at};
 ghost use Rattle.kilim_typing.specs.Typed.{declared, frame_types};
 ghost use Rattle.kilim_isolation_rules.specs.Answers.{IsStep};
-ghost use Rattle.kilim_isolation_check.specs.Answers.{IsStepOf, looked};
+ghost use Rattle.kilim_isolation_check.specs.Answers.{IsStepOf};
+ghost use Rattle.kilim_isolation_check.specs.Tables.{IsTable, places_of};
 ghost use Rattle.kilim_isolation_check.specs.Walks as spec;
 
 use crate::exits::exits_of;
+use crate::tables::{declared_by, fetch, frame_by};
 use kilim_classes::{Frame, Instr, Method, MethodId, Program};
 use kilim_isolation_rules::StepFault;
 use kilim_isolation_step::transfer;
@@ -40,52 +39,18 @@ pub fn declared_at(method: &Method, place: u32) -> Option<&Frame>
     None
 }
 
-// The place behind an instruction, by its number.
-fn place_behind(code: &[(u32, Instr)], end: u32, at: usize) -> u32
-    requires { at < length code.now }
-    ensures { result ≡ first_place (drop (at + 1) code.now) end }
-{
-    if at + 1 < code.len() {
-        code[at + 1].0
-    } else {
-        end
-    }
-}
-
-// The instruction at a place, and the place behind it.
-fn fetch(method: &Method, place: u32) -> Option<(&Instr, u32)>
-    ensures { looked result ≡ fetched method.now.code method.now.code_length place }
-{
-    let code = method.code.as_slice();
-    for (at, entry) in code.iter().enumerate() {
-        if entry.0 == place {
-            return Some((&entry.1, place_behind(code, method.code_length, at)));
-        }
-    }
-    None
-}
-
-#[tactic(auto, using(crate::proofs::Frames::no_code_left, crate::proofs::Frames::no_frames_left))]
-/// The verified frame at a place, or none.
-pub fn frame_at<'a>(method: &Method, frames: &'a [Frame], place: u32) -> Option<&'a Frame>
-    ensures { option_copied result ≡ spec.frame_among method.now.code frames.now place }
-{
-    let code = method.code.as_slice();
-    let mut at = 0;
-    while at < code.len() && at < frames.len() {
-        if code[at].0 == place {
-            return Some(&frames[at]);
-        }
-        at += 1;
-    }
-    None
-}
-
 /// The exits of a place.
-pub fn exits_at(alloc: Global, method: &Method, place: u32) -> Result<Seq<Option<u32>>, NoMemory>
+pub fn exits_at(
+    alloc: Global,
+    method: &Method,
+    code_at: &[usize],
+    place: u32,
+) -> Result<Seq<Option<u32>>, NoMemory>
+    requires table { IsTable code_at.now (places_of method.now.code) method.now.code_length }
+    requires place { place < method.now.code_length }
     ensures { IfOk result (λ exits. exits ≡ spec.exits_at method.now place) }
 {
-    match fetch(method, place) {
+    match fetch(method, code_at, place) {
         None => Ok(Seq::new(alloc)),
         Some((instr, next)) => exits_of(alloc, instr, next),
     }
@@ -110,27 +75,42 @@ fn step_by(
     }
 }
 
+// The frame that is declared at the place of an exit, or none.
+fn declared_to<'a>(method: &'a Method, frames_at: &[usize], exit: Option<u32>) -> Option<&'a Frame>
+    requires table { IsTable frames_at.now (places_of method.now.frames) method.now.code_length }
+    requires place { IfSome exit (λ to. to < method.now.code_length) }
+    ensures { option_map frame_types (option_copied result) ≡ spec.declared_to method.now exit }
+{
+    match exit {
+        None => None,
+        Some(to) => declared_by(method, frames_at, to),
+    }
+}
+
 /// The step at a place towards an exit: the graph there in its canonical form, or the least rule that is broken.
 #[tactic(auto, unfolding(crate::specs::Walks::step))]
 pub fn step(
     alloc: Global,
     program: &Program,
     method: &Method,
+    code_at: &[usize],
+    frames_at: &[usize],
     frames: &[Frame],
     place: u32,
     graph: &Graph,
     exit: Option<u32>,
 ) -> Result<Graph, StepFault>
+    requires code { IsTable code_at.now (places_of method.now.code) method.now.code_length }
+    requires declared { IsTable frames_at.now (places_of method.now.frames) method.now.code_length }
+    requires place { place < method.now.code_length }
+    requires exit { IfSome exit (λ to. to < method.now.code_length) }
     ensures { IsStep (spec.step program.now method.now frames.now place graph.now exit) result }
 {
-    let Some((instr, _)) = fetch(method, place) else {
+    let Some((instr, _)) = fetch(method, code_at, place) else {
         return Err(StepFault::Rule(0));
     };
-    let after = match exit {
-        None => None,
-        Some(to) => declared_at(method, to),
-    };
-    match frame_at(method, frames, place) {
+    let after = declared_to(method, frames_at, exit);
+    match frame_by(method, code_at, frames, place) {
         Some(before) => step_by(alloc, program, method, graph, before, instr, after),
         None => {
             let nothing = Frame {

@@ -1,0 +1,88 @@
+//! The graph with which a method begins.
+
+ghost use Rattle.std.specs.Prelude.{◌≡◌, ◌++◌, [], IfOk};
+ghost use Rattle.kilim_typing.specs.Typed.{declared, entry, slots_of_type, this_types};
+ghost use Rattle.kilim_isolation_check.specs.Answers.{IsFirst};
+ghost use Rattle.kilim_isolation_check.specs.Walks.{entry_graph, entry_mixes};
+
+use crate::walk::declared_at;
+use kilim_classes::{Method, Program, VType};
+use kilim_isolation_rules::any_mixes;
+use kilim_shape_graph::Graph;
+use kilim_type_step::{class_vtype, is_constructor, vtype};
+use kilim_units::NoMemory;
+use std::alloc::Global;
+
+// The type of the receiver behind those that are there, where there is one.
+fn push_this(types: &mut Vec<VType>, method: &Method) -> Result<(), NoMemory>
+    ensures { IfOk result (λ u. types.new.items ≡ types.old.items ++ this_types method.now) }
+{
+    if method.is_static {
+        return Ok(());
+    }
+    if is_constructor(method) {
+        types.push(VType::UninitThis)?;
+        return Ok(());
+    }
+    types.push(class_vtype(method.owner))?;
+    Ok(())
+}
+
+// The slots of a type behind those that are there; a long takes two.
+fn push_slots(types: &mut Vec<VType>, ty: VType) -> Result<(), NoMemory>
+    ensures { IfOk result (λ u. types.new.items ≡ types.old.items ++ slots_of_type ty []) }
+{
+    types.push(ty)?;
+    match ty {
+        VType::Long => {
+            types.push(VType::Top)?;
+            Ok(())
+        }
+        VType::Top
+        | VType::Int
+        | VType::Null
+        | VType::UninitThis
+        | VType::Uninit(_)
+        | VType::Object(_) => Ok(()),
+    }
+}
+
+// The types of the locals with which a method begins.
+#[tactic(auto, using(crate::proofs::Begins::slots_more))]
+fn entry_types(alloc: Global, method: &Method) -> Result<Vec<VType>, NoMemory>
+    ensures { IfOk result (λ types. types.items ≡ (entry method.now).locals) }
+{
+    let mut types = Vec::new(alloc);
+    push_this(&mut types, method)?;
+    for ty in method.params.as_slice() {
+        push_slots(&mut types, vtype(*ty))?;
+    }
+    Ok(types)
+}
+
+// Whether a tree becomes private in the frame that is declared at a method's first place.
+#[tactic(auto, using(crate::proofs::Begins::mixes_declared, crate::proofs::Begins::mixes_none))]
+fn entry_mixes(alloc: Global, program: &Program, method: &Method) -> Result<bool, NoMemory>
+    ensures { IfOk result (λ mix. mix ≡ entry_mixes program.now method.now (declared method.now 0)) }
+{
+    let Some(frame) = declared_at(method, 0) else {
+        return Ok(false);
+    };
+    let types = entry_types(alloc, method)?;
+    Ok(any_mixes(program, &types, frame.locals.as_slice()))
+}
+
+/// The graph with which a method begins; none where a tree becomes private in the frame that is declared at its first place.
+pub fn first_graph(
+    alloc: Global,
+    program: &Program,
+    method: &Method,
+) -> Result<Option<Graph>, NoMemory>
+    ensures { IfOk result (λ graph. IsFirst (entry_graph program.now method.now) graph) }
+{
+    if entry_mixes(alloc, program, method)? {
+        return Ok(None);
+    }
+    let graph = Graph::entry(alloc, program, method)?;
+    Ok(Some(graph.canonical(alloc, declared_at(method, 0))?))
+}

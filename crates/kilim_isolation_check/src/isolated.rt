@@ -1,0 +1,53 @@
+//! Programs that break no rule.
+
+ghost use Rattle.kilim_isolation_check.specs.Checked.{IsChecked};
+
+use crate::check::all_reports;
+use kilim_classes::Program;
+use kilim_pausable_graph::{Pausables, Report, pausable_calls};
+use kilim_units::{NoMemory, Seq};
+use kilim_vtypes::Typed;
+use std::alloc::Global;
+use std::marker::Model;
+
+/// A program that breaks no rule, with its pausable calls. Its type keeps that it breaks none (`KeepsIsolated`).
+#[derive(Drop)]
+pub struct Isolated {
+    pub typed: Typed,
+    pub pausables: Pausables,
+}
+
+impl Model for Isolated {
+    ghost use Rattle.kilim_isolation_check.specs.IsolatedProgram as parts;
+
+    ghost Value = { parts.IsolatedProgram };
+
+    ghost view = { λ i. record { typed = i.typed; calls = i.pausables.calls } };
+
+    ghost invariant = { λ i. parts.KeepsIsolated (record { typed = i.typed; calls = i.pausables.calls }) };
+}
+
+/// Why a program isn't accepted.
+#[derive(Drop)]
+pub enum CheckFault {
+    /// The program, unchanged, and all its reports; not empty.
+    Reports(Program, Seq<Report>),
+    Memory,
+}
+
+/// The program with its pausable calls where it breaks no rule, else all reports.
+pub fn check_program(alloc: Global, typed: Typed) -> Result<Isolated, CheckFault>
+    ensures { IsChecked typed result }
+{
+    let reports = match all_reports(alloc, &typed) {
+        Ok(reports) => reports,
+        Err(NoMemory) => return Err(CheckFault::Memory),
+    };
+    if !reports.is_empty() {
+        return Err(CheckFault::Reports(typed.program, reports));
+    }
+    match pausable_calls(alloc, &typed.program) {
+        Ok(pausables) => Ok(Isolated { typed, pausables }),
+        Err(NoMemory) => Err(CheckFault::Memory),
+    }
+}

@@ -1,0 +1,141 @@
+//! What the paths of a method give.
+
+ghost use Rattle.std.specs.Prelude.{◌≡◌, ◌∷◌, [], true, IfOk, map};
+ghost use Rattle.kilim_classes.specs.Keeps.{code_is_whole};
+ghost use Rattle.kilim_classes.specs.Names.{method_at};
+ghost use Rattle.kilim_typing.specs.Typed.{has_code};
+ghost use Rattle.kilim_pausable_graph.specs.Pausing.{frames_at};
+ghost use Rattle.kilim_isolation_check.specs.Faults as spec;
+ghost use Rattle.kilim_isolation_check.specs.Walks.{entry_graph};
+
+use crate::first::first_graph;
+use crate::machine::Walk;
+use crate::tables::{code_table, frame_table};
+use crate::walk::whole;
+use kilim_classes::{Frame, Method, MethodId, Program};
+use kilim_lookups::method_at;
+use kilim_paths::{Explored, Report as PathReport, explore};
+use kilim_pausable_graph::Report;
+use kilim_units::{NoMemory, Seq};
+use kilim_vtypes::Typed;
+use std::alloc::Global;
+
+/// The number of the rule that too many graphs come to one place.
+pub const SHAPE_LIMIT: u8 = 12;
+
+/// The number of the rule that a tree stays a tree.
+pub const KIND_MIXED: u8 = 6;
+
+// The reports of faults along the paths of a method.
+fn shown_faults(
+    alloc: Global,
+    id: MethodId,
+    reports: &[PathReport],
+) -> Result<Seq<Report>, NoMemory>
+    ensures { IfOk result (λ shown. shown ≡ map (spec.report_of id) reports.now) }
+{
+    let mut shown = Seq::new(alloc);
+    for report in reports {
+        shown.push(Report {
+            method: id,
+            pc: report.pc,
+            rule: report.rule,
+            path: Seq::from_vec(Vec::from_slice(alloc, report.path.as_slice())?),
+        })?;
+    }
+    Ok(shown)
+}
+
+// The report of a method in which too many graphs come to a place.
+fn shown_place(alloc: Global, id: MethodId, pc: u32) -> Result<Seq<Report>, NoMemory>
+    ensures { IfOk result (λ shown. shown ≡ record { method = id; pc = pc; rule = 12; path = [] } ∷ []) }
+{
+    let mut shown = Seq::new(alloc);
+    shown.push(Report {
+        method: id,
+        pc,
+        rule: SHAPE_LIMIT,
+        path: Seq::new(alloc),
+    })?;
+    Ok(shown)
+}
+
+fn shown(alloc: Global, id: MethodId, found: Explored) -> Result<Seq<Report>, NoMemory>
+    ensures { IfOk result (λ reports. reports ≡ spec.shown id found) }
+{
+    match found {
+        Explored::Faults(reports) => shown_faults(alloc, id, reports.as_slice()),
+        Explored::Crowded(pc) => shown_place(alloc, id, pc),
+    }
+}
+
+// The report of a method that a tree becomes private at its first place.
+fn entry_report(alloc: Global, id: MethodId) -> Result<Seq<Report>, NoMemory>
+    ensures { IfOk result (λ reports. reports ≡ record { method = id; pc = 0; rule = 6; path = 0 ∷ [] } ∷ []) }
+{
+    let mut path = Seq::new(alloc);
+    path.push(0)?;
+    let mut reports = Seq::new(alloc);
+    reports.push(Report {
+        method: id,
+        pc: 0,
+        rule: KIND_MIXED,
+        path,
+    })?;
+    Ok(reports)
+}
+
+// What the paths of a method with code give.
+#[tactic(auto, using(crate::proofs::Begins::found_reports, crate::proofs::Begins::entry_reports))]
+fn walked(
+    alloc: Global,
+    program: &Program,
+    id: MethodId,
+    method: &Method,
+    frames: &[Frame],
+) -> Result<Seq<Report>, NoMemory>
+    requires whole { code_is_whole method.now ≡ true }
+    requires coded { has_code method.now ≡ true }
+    ensures { IfOk result (λ reports. spec.ArePathReports program.now id method.now frames.now (entry_graph program.now method.now) reports) }
+{
+    let Some(first) = first_graph(alloc, program, method)? else {
+        return entry_report(alloc, id);
+    };
+    let code_at = code_table(alloc, method)?;
+    let frames_at = frame_table(alloc, method)?;
+    let walk = Walk {
+        alloc,
+        program,
+        method,
+        code_at: &code_at,
+        frames_at: &frames_at,
+        frames,
+        first: &first,
+    };
+    let found = explore(alloc, &walk)?;
+    shown(alloc, id, found)
+}
+
+fn frames_at(typed: &Typed, id: MethodId) -> &[Frame]
+    ensures { result.now ≡ frames_at typed.now id }
+{
+    match typed.frames.as_slice().get(id.0 as usize) {
+        None => &[],
+        Some(frames) => frames.as_slice(),
+    }
+}
+
+/// What the paths of a method give; nothing where it has no code.
+#[tactic(auto, using(crate::proofs::Begins::paths_none, crate::proofs::Begins::paths_empty, crate::proofs::Begins::paths_some))]
+pub fn paths_of(alloc: Global, typed: &Typed, id: MethodId) -> Result<Seq<Report>, NoMemory>
+    ensures { IfOk result (λ reports. spec.ArePathsOf typed.now.program id (frames_at typed.now id) (method_at typed.now.program id) reports) }
+{
+    let Some(method) = method_at(&typed.program, id) else {
+        return Ok(Seq::new(alloc));
+    };
+    if method.code.is_empty() {
+        return Ok(Seq::new(alloc));
+    }
+    whole(&typed.program, id, method);
+    walked(alloc, &typed.program, id, method, frames_at(typed, id))
+}

@@ -1,0 +1,144 @@
+//! What stands at a place, by tables.
+
+ghost use Rattle.std.specs.Prelude.{◌≡◌, ◌<◌, ◌+◌, ℕ, List, length, set, drop, option_copied, IfOk};
+ghost use Rattle.std.specs.Option.{option_map};
+ghost use Rattle.kilim_classes.specs.Lengths.{fetched, first_place};
+ghost use Rattle.kilim_typing.specs.Typed.{declared, frame_types};
+ghost use Rattle.kilim_shape_graph.specs.Canonical.{index_of};
+ghost use Rattle.kilim_isolation_check.specs.Answers.{looked};
+ghost use Rattle.kilim_isolation_check.specs.Tables.{IsTable, places_of};
+ghost use Rattle.kilim_isolation_check.specs.Walks as spec;
+
+use kilim_classes::{Frame, Instr, Method};
+use kilim_units::NoMemory;
+use std::alloc::Global;
+
+fn places_of_code(alloc: Global, code: &[(u32, Instr)]) -> Result<Vec<u32>, NoMemory>
+    ensures { IfOk result (λ places. places.items ≡ places_of code.now) }
+{
+    let mut places = Vec::new(alloc);
+    for entry in code {
+        places.push(entry.0)?;
+    }
+    Ok(places)
+}
+
+fn places_of_frames(alloc: Global, frames: &[(u32, Frame)]) -> Result<Vec<u32>, NoMemory>
+    ensures { IfOk result (λ places. places.items ≡ places_of frames.now) }
+{
+    let mut places = Vec::new(alloc);
+    for entry in frames {
+        places.push(entry.0)?;
+    }
+    Ok(places)
+}
+
+// Writes the number at a place, where the table has that place.
+fn note(table: &mut Vec<usize>, place: u32, number: usize)
+    ensures { table.new.items ≡ set table.old.items place number }
+{
+    let at = place as usize;
+    if at < table.len() {
+        table[at] = number;
+    }
+}
+
+// For each place below a size the number of the first of these places that is it.
+fn table_of(alloc: Global, places: &[u32], size: usize) -> Result<Vec<usize>, NoMemory>
+    ensures { IfOk result (λ table. IsTable table.items places.now size) }
+{
+    let mut table = vec![in alloc; places.len(); size]?;
+    let mut number = places.len();
+    while number > 0 {
+        number -= 1;
+        note(&mut table, places[number], number);
+    }
+    Ok(table)
+}
+
+/// The table of a method's instructions.
+pub fn code_table(alloc: Global, method: &Method) -> Result<Vec<usize>, NoMemory>
+    ensures { IfOk result (λ table. IsTable table.items (places_of method.now.code) method.now.code_length) }
+{
+    let places = places_of_code(alloc, method.code.as_slice())?;
+    table_of(alloc, &places, method.code_length as usize)
+}
+
+/// The table of a method's declared frames.
+pub fn frame_table(alloc: Global, method: &Method) -> Result<Vec<usize>, NoMemory>
+    ensures { IfOk result (λ table. IsTable table.items (places_of method.now.frames) method.now.code_length) }
+{
+    let places = places_of_frames(alloc, method.frames.as_slice())?;
+    table_of(alloc, &places, method.code_length as usize)
+}
+
+// The number that a table has for a place.
+fn number_at(table: &[usize], place: u32) -> usize
+    requires { place < length table.now }
+    ensures { (places : List ℕ) (size : ℕ) → IsTable table.now places size → place < size → result ≡ index_of place places }
+{
+    table[place as usize]
+}
+
+// The place behind an instruction, by its number.
+fn place_behind(code: &[(u32, Instr)], end: u32, at: usize) -> u32
+    requires { at < length code.now }
+    ensures { result ≡ first_place (drop (at + 1) code.now) end }
+{
+    if at + 1 < code.len() {
+        code[at + 1].0
+    } else {
+        end
+    }
+}
+
+/// The instruction at a place, and the place behind it.
+pub fn fetch<'a>(method: &'a Method, code_at: &[usize], place: u32) -> Option<(&'a Instr, u32)>
+    requires table { IsTable code_at.now (places_of method.now.code) method.now.code_length }
+    requires place { place < method.now.code_length }
+    ensures { looked result ≡ fetched method.now.code method.now.code_length place }
+{
+    let code = method.code.as_slice();
+    let at = number_at(code_at, place);
+    if at < code.len() {
+        Some((&code[at].1, place_behind(code, method.code_length, at)))
+    } else {
+        None
+    }
+}
+
+/// The frame that is declared at a place, or none.
+pub fn declared_by<'a>(method: &'a Method, frames_at: &[usize], place: u32) -> Option<&'a Frame>
+    requires table { IsTable frames_at.now (places_of method.now.frames) method.now.code_length }
+    requires place { place < method.now.code_length }
+    ensures { option_map frame_types (option_copied result) ≡ declared method.now place }
+{
+    let frames = method.frames.as_slice();
+    let at = number_at(frames_at, place);
+    if at < frames.len() {
+        Some(&frames[at].1)
+    } else {
+        None
+    }
+}
+
+/// The verified frame at a place, or none.
+pub fn frame_by<'a>(
+    method: &Method,
+    code_at: &[usize],
+    frames: &'a [Frame],
+    place: u32,
+) -> Option<&'a Frame>
+    requires table { IsTable code_at.now (places_of method.now.code) method.now.code_length }
+    requires place { place < method.now.code_length }
+    ensures { option_copied result ≡ spec.frame_among method.now.code frames.now place }
+{
+    let at = number_at(code_at, place);
+    if at >= method.code.len() {
+        return None;
+    }
+    if at >= frames.len() {
+        return None;
+    }
+    Some(&frames[at])
+}
