@@ -5,4 +5,5 @@ mod calls;
 mod making;
 mod table;
 
+pub use making::new_object;
 pub use table::act;

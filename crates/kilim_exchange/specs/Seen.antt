@@ -104,10 +104,10 @@ TakeAnswers b t b' box (Some m) = (rest : List (ℕ × Tree)) × TakesMessage b 
 TakeAnswers b t b' box None = ((b.mails box).queue ≡ []) × SameBoard b b'
 
 -- it is an act, and a start's fiber is newly begun
-abbrev pub IsActable : {F : Type 0} → (F → Course) → Wants F → Type 0
-IsActable course (wants.Start f shape) = course f ≡ record { beginning = Begun shape; deeds = [] }
-IsActable course (wants.Rest waits) = ⊥
-IsActable course w = Unit {0}
+abbrev pub IsActable : {F : Type 0} → (F → Course) → (F → ℕ) → Wants F → Type 0
+IsActable course count (wants.Start f shape) = (course f ≡ record { beginning = Begun shape; deeds = [] }) × (count f ≡ 0)
+IsActable course count (wants.Rest waits) = ⊥
+IsActable course count w = Unit {0}
 
 -- ---- what keeps the board
 

@@ -251,7 +251,7 @@ impl<F: Fibers> Board<F> {
         requires lent { (t : ℕ) × (slice_get self.old.cells.items seat ≡ Some (Some t)) }
         requires roomy { IsRoomy self.old }
         requires room { RoomFor self.old wants }
-        requires acts { IsActable F.course_of wants }
+        requires acts { IsActable F.course_of F.count_of wants }
         ensures effect { (t : ℕ) → slice_get self.old.cells.items seat ≡ Some (Some t) → ActAnswers (IsNumbered F.task_of F.course_of F.count_of F.refused F.holds) (seen self.old) seat t (seen self.new) wants result }
         ensures stands { (set : Setting) (t : ℕ) (c : Course) → slice_get self.old.cells.items seat ≡ Some (Some t) → CourseAt (seen self.old) t c → ActMeets F.task_of F.course_of F.holds set t c wants → BoardStands F.task_of F.course_of F.holds set (seen self.old) →
             BoardStands F.task_of F.course_of F.holds set (seen self.new) × IsAnswered set (seen self.new) t c (wish_in wants) result }
@@ -268,7 +268,7 @@ impl<F: Fibers> Board<F> {
         requires lent { slice_get self.old.cells.items seat ≡ Some (Some task) }
         requires roomy { IsRoomy self.old }
         requires room { RoomFor self.old wants }
-        requires acts { IsActable F.course_of wants }
+        requires acts { IsActable F.course_of F.count_of wants }
         ensures effect { ActAnswers (IsNumbered F.task_of F.course_of F.count_of F.refused F.holds) (seen self.old) seat task (seen self.new) wants result }
         ensures roomy { IsRoomy self.new }
     {
@@ -315,7 +315,7 @@ impl<F: Fibers> Board<F> {
         requires lent { slice_get self.old.cells.items seat ≡ Some (Some task) }
         requires roomy { IsRoomy self.old }
         requires room { (length self.old.journal.items < vec_capacity self.old.journal) × (self.old.tasks + 1 ≤ deque_capacity self.old.ready) × (self.old.tasks + 1 ≤ vec_capacity self.old.parked) }
-        requires begun { F.course_of fiber ≡ record { beginning = Begun shape; deeds = [] } }
+        requires begun { (F.course_of fiber ≡ record { beginning = Begun shape; deeds = [] }) × (F.count_of fiber ≡ 0) }
         ensures effect { StartAnswers (IsNumbered F.task_of F.course_of F.count_of F.refused F.holds) (seen self.old) seat task (seen self.new) fiber shape result }
         ensures roomy { IsRoomy self.new }
     {

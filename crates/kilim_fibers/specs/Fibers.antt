@@ -82,6 +82,11 @@ abbrev pub StartsFresh : {F : Type 0} → (F → Bool) → (F → Option BoxName
 StartsFresh rests refused (wants.Start f shape) = (rests f ≡ true) × (refused f ≡ None)
 StartsFresh rests refused w = Unit {0}
 
+-- it has counted no instruction yet
+abbrev pub StartsAtNone : {F : Type 0} → (F → ℕ) → Wants F → Type 0
+StartsAtNone count (wants.Start f shape) = count f ≡ 0
+StartsAtNone count w = Unit {0}
+
 -- ---- answer
 
 -- The deed that an answer makes, if it makes one. Other answers don't fit.

@@ -1,5 +1,6 @@
 -- What the thread of a course does next, and which trees are messages.
 use Rattle.std.specs.Prelude.{◌≡◌, ℕ, true, List, [], ◌∷◌, Option, Some, None}
+use Rattle.std.specs.List.{AllByRecursion}
 use Rattle.kilim_program.specs.declared.cause.EndCause.{EndCause}
 use Rattle.kilim_program.specs.declared.cause.EndCause.TheVariants as cause
 use Rattle.kilim_classes.specs.Program.{Program}
@@ -8,15 +9,20 @@ use Rattle.kilim_program.specs.declared.value.Object.{Object}
 use Rattle.kilim_program.specs.declared.value.Token.{Token}
 use Rattle.kilim_program.specs.Shapes.{shape_of}
 use Rattle.kilim_program.specs.Trees.{OfMessage, is_allowed}
+use Rattle.kilim_thread_model.specs.Kept.{IsFormed}
 use Rattle.kilim_thread_model.specs.State.{Setting}
 use Rattle.kilim_thread_model.specs.Lone.{Lone, Next, Goes, Puts, Gets, Probes, Starts, Prints, Ends, Stands}
 use Rattle.kilim_thread_model.specs.Course.{Course, IsLone, next_action}
 use Rattle.kilim_tree_move.specs.Moved.{tree_heap}
+use Rattle.kilim_tree_move.specs.Shaping.{Suits}
 
--- a tree that is a message which the declared types allow, with its shape
+-- a tree that is a message which the declared types allow, with its shape; each object is as its class declares it, and holds no
+-- fiber
 pub record IsMessage (p : Program) (tree : List Object) (shape : List Token) : Type 0 where
   pub has : shape_of p (tree_heap tree) 0 ≡ Some shape
   pub allowed : is_allowed p OfMessage shape ≡ true
+  pub formed : AllByRecursion (IsFormed p) tree
+  pub suits : AllByRecursion (Suits p) tree
 
 -- an action, but for what others decide: whether a message is there, under which number it stands, which number a new
 -- task has

@@ -9,7 +9,7 @@ ghost use Rattle.kilim_thread_model.specs.Course.{Course};
 ghost use Rattle.kilim_thread_model.specs.declared.deed.Deed.{Deed};
 ghost use Rattle.kilim_thread_model.specs.declared.deed.Beginning.TheVariants.{Boot};
 ghost use Rattle.kilim_fibers.specs.Wishes.{Wish};
-ghost use Rattle.kilim_fibers.specs.Fibers.{IsOfRun, StandsFor, Asks, Resumed, Fits, course_after, CanAnswer, CanRun, RestsRightly, CountsRightly, StartsFresh, IsNewCourse};
+ghost use Rattle.kilim_fibers.specs.Fibers.{IsOfRun, StandsFor, Asks, Resumed, Fits, course_after, CanAnswer, CanRun, RestsRightly, CountsRightly, StartsFresh, StartsAtNone, IsNewCourse};
 
 use kilim_classes::{BoxName, ClassId};
 use kilim_program::{EndCause, Limits, Shape};
@@ -92,6 +92,7 @@ pub trait Fibers: Sized + Drop {
         ensures rest { IfOk result (λ w. RestsRightly (rests self.new) (refused self.old) (count_of self.old) (count_of self.new) w) }
         ensures refused { OnOk result (refused self.new ≡ None) }
         ensures fresh { IfOk result (λ w. StartsFresh rests refused w) }
+        ensures none { IfOk result (λ w. StartsAtNone count_of w) }
         ensures counted { OnOk result (count_of self.old ≤ count_of self.new) }
         ensures bounded { OnOk result (count_of self.new ≤ limits.now.steps) };
 
@@ -104,7 +105,8 @@ pub trait Fibers: Sized + Drop {
 
     /// Gives a newly begun fiber its task's number, which is 0 until then.
     fn number(&mut self, task: u32)
-        requires { IsNewCourse (course_of self.old) }
+        requires course { IsNewCourse (course_of self.old) }
+        requires none { count_of self.old ≡ 0 }
         ensures task { task_of self.new ≡ task }
         ensures course { course_of self.new ≡ course_of self.old }
         ensures count { count_of self.new ≡ count_of self.old }

@@ -5,4 +5,4 @@ mod legs;
 mod machine;
 
 pub use legs::{Ran, Tables, run};
-pub use machine::{MOST_FRAMES, NativeCall, Stepped, answer, step};
+pub use machine::{MOST_FRAMES, NativeCall, Stepped, answer, new_frame, step};

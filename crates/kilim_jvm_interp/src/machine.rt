@@ -60,7 +60,8 @@ fn slots_of_method(program: &Program, id: MethodId) -> (usize, usize)
     }
 }
 
-fn new_frame(
+/// The frame with which a method begins.
+pub fn new_frame(
     alloc: Global,
     program: &Program,
     id: MethodId,

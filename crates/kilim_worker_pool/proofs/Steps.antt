@@ -4,7 +4,7 @@ use Rattle.std.specs.Prelude.{slice_get, slice_set}
 use Rattle.kilim_program.specs.declared.cause.EndCause.{EndCause}
 use Rattle.kilim_classes.specs.declared.names.BoxName.{BoxName}
 use Rattle.kilim_thread_model.specs.State.{Setting}
-use Rattle.kilim_fibers.specs.Fibers.{Asks, Resumed, Fits, course_after, CanAnswer, RestsRightly, CountsRightly, StartsFresh, StandsFor}
+use Rattle.kilim_fibers.specs.Fibers.{Asks, Resumed, Fits, course_after, CanAnswer, RestsRightly, CountsRightly, StartsAtNone, StartsFresh, StandsFor}
 use Rattle.kilim_fibers.specs.declared.Wants.{Wants}
 use Rattle.kilim_fibers.specs.declared.Wants.TheVariants as wants
 use Rattle.kilim_fibers.specs.declared.Answer.{Answer}
@@ -42,14 +42,14 @@ going (wants.Rest o) no-rest no-end = no-rest o refl
 going (wants.End why) no-rest no-end = no-end why refl
 
 module _ {F : Type 0} (task : F → ℕ) (course : F → Course) (holds asked : Setting → F → Lone → Type 0) (set : Setting) where
-  pub actable : (f : F) (w : Wants F) → IsGoing w → Resumed task course holds asked set f w → IsActable course w
-  actable f (wants.Put box tree shape) goes r = tt
-  actable f (wants.Take box) goes r = tt
-  actable f (wants.Probe box) goes r = tt
-  actable f (wants.Start new shape) goes r = r.1
-  actable f (wants.Print shape) goes r = tt
-  actable f (wants.Rest o) goes r = absurd goes
-  actable f (wants.End why) goes r = absurd goes
+  pub actable : (count : F → ℕ) (f : F) (w : Wants F) → IsGoing w → Resumed task course holds asked set f w → StartsAtNone count w → IsActable course count w
+  actable count f (wants.Put box tree shape) goes r none = tt
+  actable count f (wants.Take box) goes r none = tt
+  actable count f (wants.Probe box) goes r none = tt
+  actable count f (wants.Start new shape) goes r none = (r.1, none)
+  actable count f (wants.Print shape) goes r none = tt
+  actable count f (wants.Rest o) goes r none = absurd goes
+  actable count f (wants.End why) goes r none = absurd goes
 
   pub meets : (f : F) (w : Wants F) → IsGoing w → Resumed task course holds asked set f w → ActMeets task course holds set (task f) (course f) w
   meets f (wants.Put box tree shape) goes r = (r.0.wishes, r.1)

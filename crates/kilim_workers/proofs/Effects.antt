@@ -3,7 +3,7 @@ use Rattle.std.proofs.Common.{◌≡◌, ℕ, zero, suc, ◌<◌, Bool, true, fa
 use Rattle.std.specs.Prelude.{slice_get, slice_set, replicate}
 use Rattle.kilim_classes.specs.declared.names.BoxName.{BoxName}
 use Rattle.kilim_thread_model.specs.State.{Setting}
-use Rattle.kilim_fibers.specs.Fibers.{course_after}
+use Rattle.kilim_fibers.specs.Fibers.{StartsAtNone, course_after}
 use Rattle.kilim_fibers.specs.declared.Wants.{Wants}
 use Rattle.kilim_fibers.specs.declared.Wants.TheVariants as wants
 use Rattle.kilim_fibers.specs.declared.Answer.TheVariants as answer
@@ -72,14 +72,14 @@ module _ {F : Type 0} (b b' : Board F) (seat : ℕ) where
     lend_taken lent.Stopped did lt free stands = ap (λ (x : Board F). cell_at (cells_of x) seat) did.1 ∙ free
 
     -- what meets a course is an act
-    pub is_actable : (t : ℕ) (c : Course) (w : Wants F) → ((set : Setting) → Of set → ActMeets task course holds set t c w) → IsActable course w
-    is_actable t c (wants.Put box tree shape) m = tt
-    is_actable t c (wants.Take box) m = tt
-    is_actable t c (wants.Probe box) m = tt
-    is_actable t c (wants.Start f shape) m = (m some.0 some.1).1
-    is_actable t c (wants.Print shape) m = tt
-    is_actable t c (wants.Rest waits) m = m some.0 some.1
-    is_actable t c (wants.End why) m = tt
+    pub is_actable : (count : F → ℕ) (t : ℕ) (c : Course) (w : Wants F) → ((set : Setting) → Of set → ActMeets task course holds set t c w) → StartsAtNone count w → IsActable course count w
+    is_actable count t c (wants.Put box tree shape) m none = tt
+    is_actable count t c (wants.Take box) m none = tt
+    is_actable count t c (wants.Probe box) m none = tt
+    is_actable count t c (wants.Start f shape) m none = ((m some.0 some.1).1, none)
+    is_actable count t c (wants.Print shape) m none = tt
+    is_actable count t c (wants.Rest waits) m none = m some.0 some.1
+    is_actable count t c (wants.End why) m none = tt
 
     pub acted_as : (numbered : F → F → ℕ → Type 0) (t : ℕ) (c : Course) (w : Wants F) (a : Acted) → slice_get b.cells seat ≡ Some (Some t) → ActAnswers numbered b seat t b' w a → ((set : Setting) → Of set → IsAnswered set b' t c (wish_in w) a) → ActedAs Of t c (cell_at (cells_of b') seat) (wish_in w) a
     acted_as numbered t c (wants.Put box tree shape) (acted.Answer (answer.Sent n)) there did ans = λ set is. let x = ans set is in (x.0, x.1, lent_cell b' seat t (course_after c x.0) (ap (λ cs. slice_get cs seat) did.1.cells ∙ there) x.2)

@@ -4,6 +4,7 @@ ghost use Rattle.std.specs.Prelude.{◌≡◌, ◌<◌, ◌≤◌, ◌∷◌, []
 ghost use Rattle.kilim_thread_model.specs.State.{Setting};
 ghost use Rattle.kilim_thread_model.specs.Course.{Course};
 ghost use Rattle.kilim_thread_model.specs.declared.deed.Beginning.TheVariants.{Boot};
+ghost use Rattle.kilim_fibers.specs.Fibers.{StartsAtNone};
 ghost use Rattle.kilim_exchange.specs.Seen.{seen, LendAnswers, LentStands, wish_in, MovedWhole};
 ghost use Rattle.kilim_exchange.specs.Board.{IsQuiet};
 ghost use Rattle.kilim_turn.specs.Views.{cell_at};
@@ -39,6 +40,7 @@ pub struct RunBoard<F: Fibers, K: Run> {
 
 impl<F: Fibers, K: Run> Model for RunBoard<F, K> {
     ghost use Rattle.kilim_exchange.specs.declared.board.Board as kept;
+    ghost use Rattle.kilim_fibers.specs.Fibers.{StartsAtNone};
     ghost use Rattle.kilim_exchange.specs.Seen.{seen, IsRoomy};
     ghost use Rattle.kilim_exchange.specs.Board.{BoardStands};
     ghost use Rattle.kilim_thread_model.specs.State.{Setting};
@@ -118,6 +120,7 @@ impl<F: Fibers, K: Run> RunBoard<F, K> {
         requires some { (set : Setting) × K.of set }
         requires lent { cell_at (board_cells self.old) seat ≡ fiber_numbers F.task_of F.course_of fiber.now }
         requires meets { AllMeet F.task_of F.course_of F.holds K.of fiber.now wants }
+        requires none { StartsAtNone F.count_of wants }
         ensures others { KeepsOthers seat (board_cells self.old) (board_cells self.new) }
         ensures refused { OnErr result (cell_at (board_cells self.new) seat ≡ fiber_numbers F.task_of F.course_of fiber.now) }
         ensures acted { IfOk result (λ a. ActedAs K.of (F.task_of fiber.now) (F.course_of fiber.now) (cell_at (board_cells self.new) seat) (wish_in wants) a) }

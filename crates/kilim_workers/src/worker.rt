@@ -2,6 +2,7 @@
 
 ghost use Rattle.std.specs.Prelude.{◌≡◌, ℕ, [], Option, Some, None, IfOk, OnErr};
 ghost use Rattle.kilim_thread_model.specs.State.{Setting};
+ghost use Rattle.kilim_fibers.specs.Fibers.{StartsAtNone};
 ghost use Rattle.kilim_exchange.specs.Seen.{wish_in};
 ghost use Rattle.kilim_turn.specs.Turns.{seat_of, shows, IsPassOf};
 ghost use Rattle.kilim_workers.specs.Codes.{board_cells, lent_numbers};
@@ -82,6 +83,7 @@ fn act<F: Fibers, K: Run, R: Wait>(
     requires pass { IsPassOf board_cells turn.now pass.old }
     requires lent { shows pass.old ≡ fiber_numbers F.task_of F.course_of fiber.now }
     requires meets { AllMeet F.task_of F.course_of F.holds K.of fiber.now wants }
+    requires none { StartsAtNone F.count_of wants }
     ensures pass { IsPassOf board_cells turn.now pass.new }
     ensures seat { seat_of pass.new ≡ seat_of pass.old }
     ensures refused { OnErr result (shows pass.new ≡ fiber_numbers F.task_of F.course_of fiber.now) }

@@ -19,7 +19,7 @@ act-requires-in_default g c =
       lent = (_, lent_now g.F.Fibers.task_of g.F.Fibers.course_of g.F.Fibers.holds g.F.Fibers.asked g.F.Fibers.serves c.args.code.now c.args.main c.args.limits.now c.reserve-in_default.new.self c.resume.new.self c.in_ok-wants.wants now);
       roomy = c.in_ok-reserve-in_default.ensures.roomy;
       room = c.in_ok-reserve-in_default.ensures.room;
-      acts = actable g.F.Fibers.task_of g.F.Fibers.course_of g.F.Fibers.holds g.F.Fibers.asked c.requires.some.0 c.resume.new.self c.in_ok-wants.wants (going c.in_ok-wants.wants c.in_default.not-Rest c.in_default.not-End) (now.stands c.requires.some.0 c.requires.some.1).2;
+      acts = actable g.F.Fibers.task_of g.F.Fibers.course_of g.F.Fibers.holds g.F.Fibers.asked c.requires.some.0 g.F.Fibers.count_of c.resume.new.self c.in_ok-wants.wants (going c.in_ok-wants.wants c.in_default.not-Rest c.in_default.not-End) (now.stands c.requires.some.0 c.requires.some.1).2 c.in_ok-wants.ensures.none;
     }
 
 pub answer-requires : goal.answer-requires

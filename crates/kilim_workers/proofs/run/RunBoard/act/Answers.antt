@@ -14,7 +14,7 @@ act-requires-clause-lent g c = (
 )
 
 pub act-requires-clause-acts : goal.act-requires-clause-acts
-act-requires-clause-acts g c = is_actable (seen c.self.inside.board) (seen c.self.inside.board) c.args.seat g.F.Fibers.task_of g.F.Fibers.course_of g.F.Fibers.holds g.K.Run.of c.requires.some (g.F.Fibers.task_of c.args.fiber.now) (g.F.Fibers.course_of c.args.fiber.now) c.args.wants c.requires.meets
+act-requires-clause-acts g c = is_actable (seen c.self.inside.board) (seen c.self.inside.board) c.args.seat g.F.Fibers.task_of g.F.Fibers.course_of g.F.Fibers.holds g.K.Run.of c.requires.some g.F.Fibers.count_of (g.F.Fibers.task_of c.args.fiber.now) (g.F.Fibers.course_of c.args.fiber.now) c.args.wants c.requires.meets c.requires.none
 
 pub invariant_of-self-2 : goal.invariant_of-self-2
 invariant_of-self-2 g c = (
