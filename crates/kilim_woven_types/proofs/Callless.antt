@@ -1,4 +1,5 @@
 -- A pausable method without pausable calls: its code and frames stay, its entry has the fiber behind the arguments.
+use Rattle.kilim_woven_types.specs.Facts.{CallsNone}
 use Rattle.std.proofs.Common.{◌≡◌, inl, ℕ, ℤ, Bool, true, false, List, [], ◌∷◌, map, Option, Some, None, Ok, refl, sym, ap, subst, ◌∙◌}
 use Rattle.std.proofs.lemmas.Bool.{and_parts, and_from, false≢true}
 use Rattle.kilim_classes.specs.declared.class.Method.{Method}
@@ -10,7 +11,7 @@ use Rattle.kilim_classes.specs.Program.{Program}
 use Rattle.kilim_classes.specs.Lengths.{jump_targets, ends_path}
 use Rattle.kilim_typing.specs.Step.{Types, peek, is_top, assignable, type_step}
 use Rattle.kilim_typing.specs.Typed.{declared, FlowsInto, all_assignable, Jumps, Here, goes_on, Typed, writes}
-use Rattle.kilim_woven_form.specs.Woven.{moved_type, moved_pairs, moved_instr, pausable_callee}
+use Rattle.kilim_woven_form.specs.Woven.{moved_type, moved_pairs, moved_instr}
 use Rattle.kilim_woven_types.specs.Same.{Shared, Programs}
 use Rattle.kilim_woven_types.proofs.Locals.{Covers}
 use Rattle.kilim_woven_types.proofs.Crux.{plain, twin}
@@ -110,15 +111,11 @@ module _ (P W : Program) (m w : Method) (same : Shared P W m w here) (progs : Pr
       }
   arrive (Some g) now None f h a u = record { fl = a.0; fs = a.1; cl = a.2; old = h ∙ a.3; new = subst (λ z. Here W z None (state a.2 a.1)) (sym a.4) refl; near = a.5 }
 
-  abbrev pub CallsNone : List (ℕ × Instr) → Type 0
-  CallsNone [] = Unit {0}
-  CallsNone (e ∷ es) = (pausable_callee P e.1 ≡ None) × CallsNone es
-
   after : (b : Bool) (g : Types) (fl fs cl : List VType) → g ≡ plain fl fs → Near fl cl → Alike (goes_on b g) (goes_on b (state cl fs))
   after true g fl fs cl e n = refl
   after false g fl fs cl e n = (fl, fs, cl, e, refl, n)
 
-  pub callless : (es : List (ℕ × Instr)) (was now : Option Types) → CallsNone es → Typed P m was es → Alike was now → Typed W w now es
+  pub callless : (es : List (ℕ × Instr)) (was now : Option Types) → CallsNone P es → Typed P m was es → Alike was now → Typed W w now es
   callless [] None now n t a = a
   callless [] (Some g) now n t a = absurd (cc)
   callless (e ∷ es) was now n t a =

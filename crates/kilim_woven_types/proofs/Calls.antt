@@ -210,9 +210,12 @@ module _ (x : Plan) (W : Program) (w : Method) (whole : Whole x W w) where
       let p5 = passed 5 _ _ g p4.1 in
       let p6 = passed 5 _ _ g p5.1 in
       let p8 = passed 8 _ _ g p6.1 in
-      let s = (and_parts (not callee.is_static) (may_name x.method callee.is_private callee.owner) (and_parts _ true p8.0).0).0 in
+      let p14 = passed 14 _ _ g p8.1 in
+      let may = and_parts (not callee.is_static) (may_name x.method callee.is_private callee.owner) (and_parts _ true p8.0).0 in
+      let s = may.0 in
+      let fits = (and_parts _ true p14.0).0 in
       let t = virtual_takes callee s in
-      call_by q (Invokespecial id) callee (special_rules x.program x.method id callee) (special_rules W w id b) fl fs cl g (special_passes id callee b fs c (whole.progs.special id callee b named.0 woven.1))
+      call_by q (Invokespecial id) callee (special_rules x.program x.method id callee) (special_rules W w id b) fl fs cl g (special_passes id callee b fs c (whole.progs.special id callee b named.0 woven.1 c.plain may.1 fits ∙ sym fits))
       (ap (special_row W w id) woven.1 ∙ (ap (λ z. special_by z W w id b) c.plain_too ∙ (ap (λ z. Takes (z ++ (Is (class_vtype b.owner) ∷ [])) (result_types b.result) (special_rules W w id b)) (woven_arguments callee b c)
       ∙ (ap (λ z. Takes (Is (fiber x.program) ∷ (arguments callee ++ (Is (class_vtype z) ∷ []))) (result_types b.result) (special_rules W w id b)) c.owner
       ∙ (ap (λ z. Takes (Is (fiber x.program) ∷ z) (result_types b.result) (special_rules W w id b)) t ∙ ap (λ z. Takes (Is (fiber x.program) ∷ call_takes callee) (result_types z) (special_rules W w id b)) c.result)))))

@@ -1,7 +1,7 @@
 -- The step of an old instruction that is no pausable call, in woven code.
 use Rattle.std.proofs.Common.{◌≡◌, ◌⊎◌, inl, inr, ℕ, suc, ◌≤◌, Bool, true, false, eqb, cond, List, [], ◌∷◌, Option, Some, None, Ok, refl, sym, ap, ◌∙◌, eq-eqb}
-use Rattle.std.specs.Prelude.{◌||◌}
-use Rattle.std.proofs.lemmas.Bool.{eqb-true, false≢true}
+use Rattle.std.specs.Prelude.{◌||◌, not}
+use Rattle.std.proofs.lemmas.Bool.{eqb-true, false≢true, and_parts}
 use Rattle.std.proofs.lemmas.Bool.Decides.{eqb_tells}
 use Rattle.kilim_classes.specs.declared.class.Field.{Field}
 use Rattle.kilim_classes.specs.declared.class.Method.{Method}
@@ -15,14 +15,14 @@ use Rattle.kilim_classes.specs.declared.verified.VType.TheVariants.{Top, Int, Lo
 use Rattle.kilim_classes.specs.Program.{Program}
 use Rattle.kilim_classes.specs.Names.{method_at, field_of}
 use Rattle.kilim_classes.specs.Same.{is_constructor}
-use Rattle.kilim_typing.specs.Step.{Types, peek, is_long, is_same, meets, Is, AReference, constant_row, long_constant_row, missing, field_row, static_row, virtual_row, special_row, special_by, store, Row, row, by_row, type_step}
+use Rattle.kilim_typing.specs.Step.{Types, peek, is_long, is_same, meets, Is, AReference, constant_row, long_constant_row, missing, field_row, static_row, virtual_row, special_row, special_by, store, Row, row, by_row, type_step, may_name, special_fits}
 use Rattle.kilim_typing.specs.Typed.{reads, writes}
 use Rattle.kilim_woven_form.specs.Woven.{moved_instr, if_there, pausable_callee, first_of}
 use Rattle.kilim_woven_types.specs.Same.{Shared, Programs}
 use Rattle.kilim_woven_types.proofs.Moved.{passed}
 use Rattle.kilim_woven_types.proofs.Locals.{Covers}
 use Rattle.kilim_woven_types.proofs.Crux.{plain, twin, RowReads, RowWrites, Firm, FirmRow, row_next}
-use Rattle.kilim_woven_types.proofs.Rows.{Named, Settled, row_moved}
+use Rattle.kilim_woven_types.proofs.Rows.{Named, Settled, row_moved, Fitting}
 
 -- rows that load nothing
 Quiet : Program → Row → Type 0
@@ -177,11 +177,31 @@ module _ (P : Program) where
       let x : false ≡ true = p8.0 in
       absurd (false≢true x)
 
-  pub settled : (m : Method) (q : ℕ) (i : Instr) (f g : Types) → pausable_callee P i ≡ None → type_step P m q i f ≡ Ok g → Settled P i
+  -- what a call by invokespecial asked
+  pub special_asks : (m : Method) (q : ℕ) (id : MethodId) (callee : Method) (f g : Types) → by_row P m q (special_by false P m id callee) f ≡ Ok g → (may_name m callee.is_private callee.owner ≡ true) × (special_fits P m id callee ≡ true)
+  special_asks m q id callee f g e =
+      let p3 = passed 3 _ _ g e in
+      let p4 = passed 4 _ _ g p3.1 in
+      let p5 = passed 5 _ _ g p4.1 in
+      let p6 = passed 5 _ _ g p5.1 in
+      let p8 = passed 8 _ _ g p6.1 in
+      let p14 = passed 14 _ _ g p8.1 in
+      ((and_parts (not callee.is_static) (may_name m callee.is_private callee.owner) (and_parts _ true p8.0).0).1, (and_parts _ true p14.0).0)
+
+  fitting : (m : Method) (q : ℕ) (id : MethodId) (f g : Types) (o : Option Method) → method_at P id ≡ o → if_there o ≡ None → by_row P m q (special_row P m id o) f ≡ Ok g → Fitting P m id
+  fitting m q id f g None at n e = absurd (missing_fails m q f g e)
+  fitting m q id f g (Some callee) at n e =
+      (callee, at, plain_callee callee.pausable n, λ c. special_asks m q id callee f g (ap (λ z. by_row P m q (special_by z P m id callee) f) (sym c) ∙ e))
+    where
+      plain_callee : (b : Bool) → cond b (Some callee) None ≡ None → b ≡ false
+      plain_callee true h = absurd (cc)
+      plain_callee false h = refl
+
+  pub settled : (m : Method) (q : ℕ) (i : Instr) (f g : Types) → pausable_callee P i ≡ None → type_step P m q i f ≡ Ok g → Settled P m i
   unfolding row
   settled m q (Invokestatic id) f g n e = there id (method_at P id) refl (λ none. absurd (let x = ap (λ o. by_row P m q (static_row m o) f) none in missing_fails m q f g (sym x ∙ e))) n
   settled m q (Invokevirtual id) f g n e = there id (method_at P id) refl (λ none. absurd (let x = ap (λ o. by_row P m q (virtual_row m o) f) none in missing_fails m q f g (sym x ∙ e))) n
-  settled m q (Invokespecial id) f g n e = there id (method_at P id) refl (λ none. absurd (let x = ap (λ o. by_row P m q (special_row P m id o) f) none in missing_fails m q f g (sym x ∙ e))) n
+  settled m q (Invokespecial id) f g n e = fitting m q id f g (method_at P id) refl n e
   settled m q i f g n e = tt
 
 module _ (P W : Program) (m w : Method) (at : ℕ → ℕ) (same : Shared P W m w at) (progs : Programs P W m w) (E : ℕ → Type 0) (more : ℕ → VType) (apart : (j : ℕ) → E j → m.max_locals ≤ j) (steady : (j : ℕ) → E j → (t : VType) → is_same t (more j) ≡ false) where

@@ -17,7 +17,7 @@ use Rattle.kilim_classes.specs.declared.verified.VType.TheVariants.{Top, Int, Lo
 use Rattle.kilim_classes.specs.Program.{Program}
 use Rattle.kilim_classes.specs.Names.{class_named, method_at, field_of}
 use Rattle.kilim_classes.specs.Same.{is_constructor}
-use Rattle.kilim_typing.specs.Step.{vtype, class_vtype, result_types, object_type, vtype_of_class, arguments, Operand, Is, References, needs, field_row, static_row, virtual_row, special_row, special_by, special_fits, has_int, has_long, constant_row, long_constant_row, Takes, Leaves, Makes, row}
+use Rattle.kilim_typing.specs.Step.{vtype, class_vtype, result_types, object_type, vtype_of_class, arguments, Operand, Is, References, needs, field_row, static_row, virtual_row, special_row, special_by, special_fits, has_int, has_long, constant_row, long_constant_row, Takes, Leaves, Makes, row, may_name}
 use Rattle.kilim_woven_form.specs.Woven.{moved_type, moved_instr}
 use Rattle.kilim_woven_types.specs.Same.{Shared, Programs}
 use Rattle.kilim_woven_types.proofs.Moved.{moved_operand}
@@ -64,11 +64,15 @@ module _ (at : ℕ → ℕ) where
 abbrev pub Named : Program → MethodId → Type 0
 Named P id = (callee : Method) × (method_at P id ≡ Some callee) × (callee.pausable ≡ false)
 
-abbrev pub Settled : Program → Instr → Type 0
-Settled P (Invokevirtual id) = Named P id
-Settled P (Invokespecial id) = Named P id
-Settled P (Invokestatic id) = Named P id
-Settled P i = Unit {0}
+-- by invokespecial, which may call it
+abbrev pub Fitting : Program → Method → MethodId → Type 0
+Fitting P m id = (callee : Method) × (method_at P id ≡ Some callee) × (callee.pausable ≡ false) × (is_constructor callee ≡ false → (may_name m callee.is_private callee.owner ≡ true) × (special_fits P m id callee ≡ true))
+
+abbrev pub Settled : Program → Method → Instr → Type 0
+Settled P m (Invokevirtual id) = Named P id
+Settled P m (Invokespecial id) = Fitting P m id
+Settled P m (Invokestatic id) = Named P id
+Settled P m i = Unit {0}
 
 module _ (P W : Program) (m w : Method) (at : ℕ → ℕ) (same : Shared P W m w at) (progs : Programs P W m w) where
   constant_moved : (v : Value) → constant_row W v ≡ moved_row at (constant_row P v)
@@ -110,16 +114,17 @@ module _ (P W : Program) (m w : Method) (at : ℕ → ℕ) (same : Shared P W m 
   virtual_call : (callee : Method) → virtual_row w (Some callee) ≡ moved_row at (virtual_row m (Some callee))
   virtual_call callee = let a = moved_receiver at callee (class_vtype callee.owner) refl in let r = moved_results at callee.result in let b = same.owner in rw (b, a, r) refl
 
-  special_call : (b : Bool) (id : MethodId) (callee : Method) → special_fits W w id callee ≡ special_fits P m id callee → special_by b W w id callee ≡ moved_row at (special_by b P m id callee)
+  special_call : (b : Bool) (id : MethodId) (callee : Method) → (b ≡ false → special_fits W w id callee ≡ special_fits P m id callee) → special_by b W w id callee ≡ moved_row at (special_by b P m id callee)
   special_call true id callee e = let a = moved_arguments at callee in let r = moved_results at callee.result in let b = same.owner in rw (b, a, r) refl
-  special_call false id callee e =
+  special_call false id callee fits =
+      let e = fits refl in
       let a = moved_receiver at callee (class_vtype callee.owner) refl in
       let r = moved_results at callee.result in
       let b = same.owner in
       let o = moved_own at m callee in
       rw (e, b, a, r, o) refl
 
-  pub row_moved : (i : Instr) → Settled P i → row W w (moved_instr at i) ≡ moved_row at (row P m i)
+  pub row_moved : (i : Instr) → Settled P m i → row W w (moved_instr at i) ≡ moved_row at (row P m i)
   unfolding row
   row_moved (Ldc v) s = constant_moved v
   row_moved (LdcW v) s = constant_moved v
@@ -139,5 +144,5 @@ module _ (P W : Program) (m w : Method) (at : ℕ → ℕ) (same : Shared P W m 
   row_moved (Invokevirtual id) s = ap (virtual_row w) (progs.unchanged id s.0 s.1 s.2) ∙ (virtual_call s.0 ∙ ap (λ o. moved_row at (virtual_row m o)) (sym s.1))
   row_moved (Invokespecial id) s =
       let there = progs.unchanged id s.0 s.1 s.2 in
-      ap (special_row W w id) there ∙ (special_call (is_constructor s.0) id s.0 (progs.special id s.0 s.0 s.1 there) ∙ ap (λ o. moved_row at (special_row P m id o)) (sym s.1))
+      ap (special_row W w id) there ∙ (special_call (is_constructor s.0) id s.0 (λ n. let h = s.3 n in progs.special id s.0 s.0 s.1 there n h.0 h.1 ∙ sym h.1) ∙ ap (λ o. moved_row at (special_row P m id o)) (sym s.1))
   row_moved _ s = refl

@@ -61,6 +61,11 @@ pub record Members (P W : Program) : Type 0 where
 
 -- ---- the old method
 
+-- no pausable method is called
+abbrev pub CallsNone : Program → List (ℕ × Instr) → Type 0
+CallsNone p [] = Unit {0}
+CallsNone p (e ∷ es) = (pausable_callee p e.1 ≡ None) × CallsNone p es
+
 -- the three laws of live slots at an instruction
 pub record LawsAt (live : ℕ → ℕ → Bool) (P : Program) (p to : ℕ) (i : Instr) : Type 0 where
   pub read : (k : ℕ) → reads i k ≡ true → live p k ≡ true

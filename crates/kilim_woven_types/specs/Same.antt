@@ -8,7 +8,7 @@ use Rattle.kilim_classes.specs.Names.{class_at}
 use Rattle.kilim_classes.specs.Same.{is_constructor}
 use Rattle.kilim_classes.specs.declared.names.MethodId.{MethodId}
 use Rattle.kilim_classes.specs.Names.{method_at}
-use Rattle.kilim_typing.specs.Step.{assignable, made_at, superclass_at, text_type, object_type, may_make, special_fits}
+use Rattle.kilim_typing.specs.Step.{assignable, made_at, superclass_at, text_type, object_type, may_make, may_name, special_fits}
 use Rattle.kilim_woven_form.specs.Woven.{fiber_ty}
 
 pub record Shared (P W : Program) (m w : Method) (at : ℕ → ℕ) : Type 0 where
@@ -41,4 +41,5 @@ pub record Programs (P W : Program) (m w : Method) : Type 0 where
   pub makes : (c : ClassId) → may_make W c (class_at W c) ≡ may_make P c (class_at P c)
   pub unchanged : (id : MethodId) (a : Method) → method_at P id ≡ Some a → a.pausable ≡ false → method_at W id ≡ Some a
   pub changed : (id : MethodId) (a : Method) → method_at P id ≡ Some a → a.pausable ≡ true → (b : Method) × (method_at W id ≡ Some b) × Callee P a b
-  pub special : (id : MethodId) (a b : Method) → method_at P id ≡ Some a → method_at W id ≡ Some b → special_fits W w id b ≡ special_fits P m id a
+  -- invokespecial may call what it may call in the old program
+  pub special : (id : MethodId) (a b : Method) → method_at P id ≡ Some a → method_at W id ≡ Some b → is_constructor a ≡ false → may_name m a.is_private a.owner ≡ true → special_fits P m id a ≡ true → special_fits W w id b ≡ true
