@@ -1,0 +1,209 @@
+-- What a thread does next is what its fiber does next, where that makes no object.
+use Rattle.std.proofs.Common.{◌≡◌, ℕ, ◌+◌, ◌<◌, ℤ, Bool, true, false, cond, List, [], ◌∷◌, map, Option, Some, None, refl, sym, subst, inl, inr}
+use Rattle.std.specs.Prelude.{nat_lt}
+use Rattle.std.proofs.lemmas.Bool.Decides.{leb_tells}
+use Rattle.kilim_classes.specs.Program.{Program}
+use Rattle.kilim_classes.specs.declared.names.BoxName.{BoxName}
+use Rattle.kilim_classes.specs.declared.names.MethodId.{MethodId}
+use Rattle.kilim_classes.specs.declared.value.Value.{Value}
+use Rattle.kilim_classes.specs.declared.value.Value.TheVariants.{Int, Null, Ref, Box}
+use Rattle.kilim_program.specs.declared.cause.EndCause.{EndCause}
+use Rattle.kilim_program.specs.declared.cause.EndCause.TheVariants as cause
+use Rattle.kilim_program.specs.declared.value.Token.{Token}
+use Rattle.kilim_program.specs.Machine.{Objects, Activation}
+use Rattle.kilim_program.specs.Members.{execute_of}
+use Rattle.kilim_program.specs.Natives.{Native, native_of}
+use Rattle.kilim_program.specs.Natives as native
+use Rattle.kilim_program.specs.Moves.{Move, moves, push_value}
+use Rattle.kilim_program.specs.Moves as move
+use Rattle.kilim_program.specs.Shapes.{shape_of}
+use Rattle.kilim_program.specs.Trees.{Root, OfMessage, OfTask}
+use Rattle.kilim_thread_model.specs.State.{Setting, Thread, Alive, Ended, begun_on}
+use Rattle.kilim_thread_model.specs.Lone.{Lone, Next, went, pushed, ended, over, raised, put_next, message_next, start_next, printed, print_next, arg_at, arg_next, native_next, asks_next, box_limit, opens_next, begins_next, finish_next, on_heap, next_by, frames_next, thread_next, next_move}
+use Rattle.kilim_thread_model.specs.Lone as next
+use Rattle.kilim_thread_model.specs.Kept.{given}
+use Rattle.kilim_kin.specs.Kin.{Names, IsKin, AreKin, FramesKin, NameKin, Alike, StandsIn, MoveKin}
+use Rattle.kilim_kin.proofs.Kins.{kin_push}
+use Rattle.kilim_kin.proofs.Renamed.{renamed, number_of, are_is}
+use Rattle.kilim_kin.proofs.Rows.{rows_kin}
+use Rattle.kilim_kin.proofs.Moving.{moves_kin}
+use Rattle.kilim_tree_kin.specs.TreeKin.{IsWholeTree}
+use Rattle.kilim_tree_kin.proofs.Shaped.{shape_kin}
+use Rattle.kilim_one_heap.specs.Lones.{ThreadKin, WholeMove, IsWholeThread}
+use Rattle.kilim_one_heap.proofs.Nexts.{MaybeFrames, begun_kin, printed_same}
+use Rattle.kilim_fiber_kin.specs.Mine.{all_mine}
+use Rattle.kilim_fiber_kin.specs.Held.{IsLike}
+use Rattle.kilim_fiber_kin.specs.Acts.{is_making, thread_makes, NextLike}
+
+-- the same heaps, as they are now
+pub again : (of : Names) (k0 h k : Objects) → Alike of all_mine 0 k0 h k → Alike of all_mine 0 k h k
+again of k0 h k a = record { same = a.same; apart = a.apart; rest = λ x. inl refl }
+
+module _ (setting : Setting) (of : Names) (t : ℕ) (a b : Lone) (kin : IsLike of a b) where
+  abbrev p : Program
+  p = setting.program
+
+  abbrev Fits : Next → Next → Type 0
+  Fits x y = NextLike p x y
+
+  -- ---- the two at other frames, with the same heaps
+
+  at_frames : (fs gs : List Activation) (done boxes : ℕ) → FramesKin of fs gs → IsLike of (went a fs done boxes) (went b gs done boxes)
+  at_frames fs gs done boxes e = record { threads = (e, refl, refl); heaps = kin.heaps; kept = kin.kept; below = kin.below }
+
+  over_kin : (c : EndCause) → Fits (over a c) (over b c)
+  over_kin c = (refl, record { of = of; is = record { threads = refl; heaps = kin.heaps; kept = tt; below = kin.below } })
+
+  goes_kin : (x y : Lone) → IsLike of x y → Fits (next.Goes x) (next.Goes y)
+  goes_kin x y e = record { of = of; is = e }
+
+  -- ---- moves
+
+  -- other heaps
+  runs_kin : (h k : Objects) (fs gs : List Activation) (done boxes : ℕ) → FramesKin of fs gs → Alike of all_mine 0 b.heap h k → Fits (next.Goes (went (on_heap a h) fs done boxes)) (next.Goes (went (on_heap b k) gs done boxes))
+  runs_kin h k fs gs done boxes e alike = record { of = of; is = record { threads = (e, refl, refl); heaps = again of b.heap h k alike; kept = kin.kept; below = kin.below } }
+
+  opens_kin : (fs gs : List Activation) (done boxes : ℕ) → FramesKin of fs gs → Fits (opens_next t a fs done boxes) (opens_next t b gs done boxes)
+  opens_kin fs gs done boxes frames =
+      elim (nat_lt boxes box_limit) as (λ (c : Bool). Fits (cond c (next.Goes (went a (push_value (Box (record { task = t; number = boxes })) fs) done (boxes + 1))) (over a cause.Boxes))
+      (cond c (next.Goes (went b (push_value (Box (record { task = t; number = boxes })) gs) done (boxes + 1))) (over b cause.Boxes))) [
+        | true ↦ goes_kin _ _ (at_frames (push_value (Box (record { task = t; number = boxes })) fs) (push_value (Box (record { task = t; number = boxes })) gs) done (boxes + 1)
+            (kin_push of (Box (record { task = t; number = boxes })) (Box (record { task = t; number = boxes })) fs gs refl frames))
+        | false ↦ over_kin cause.Boxes
+      ]
+
+  begins_kin : (done boxes : ℕ) (f g : Option (List Activation)) → MaybeFrames of f g → Fits (begins_next a done boxes f) (begins_next b done boxes g)
+  begins_kin done boxes None None e = tt
+  begins_kin done boxes (Some []) (Some []) e = over_kin cause.Done
+  begins_kin done boxes (Some (f ∷ fs)) (Some (g ∷ gs)) e = record { of = of; is = record { threads = (e, refl, refl); heaps = kin.heaps; kept = tt; below = kin.below } }
+  begins_kin done boxes _ _ e = absurd e
+
+  finish_kin : (done boxes : ℕ) (n y : Option ℕ) → NameKin of n y → Fits (finish_next setting a done boxes n) (finish_next setting b done boxes y)
+  finish_kin done boxes None None e = over_kin cause.Done
+  finish_kin done boxes (Some n) (Some y) e =
+      begins_kin done boxes (begun_on p (execute_of p setting.main) n) (begun_on p (execute_of p setting.main) y) (begun_kin p of n y e (execute_of p setting.main))
+  finish_kin done boxes _ _ e = absurd e
+
+  -- ---- built-in methods
+
+  module _ (fs gs : List Activation) (done boxes : ℕ) (frames : FramesKin of fs gs) where
+    abbrev c : Lone
+    c = went a fs done boxes
+
+    abbrev d : Lone
+    d = went b gs done boxes
+
+    both : IsLike of c d
+    both = at_frames fs gs done boxes frames
+
+    ends_so : (why : EndCause) → Fits (over c why) (over d why)
+    ends_so why = (refl, record { of = of; is = record { threads = refl; heaps = kin.heaps; kept = tt; below = kin.below } })
+
+    onward_with : (v w : Value) → IsKin of v w → Fits (next.Goes (pushed v c)) (next.Goes (pushed w d))
+    onward_with v w e = goes_kin _ _ (record { threads = (kin_push of v w fs gs e frames, refl, refl); heaps = kin.heaps; kept = kin.kept; below = kin.below })
+
+    put_kin : (box : BoxName) (n x : ℕ) → of n ≡ Some x → IsWholeTree p OfMessage a.heap n → (s : Option (List Token)) → shape_of p a.heap n ≡ s → Fits (put_next c box n s) (put_next d box x s)
+    put_kin box n x e whole None is = ends_so cause.Large
+    put_kin box n x e whole (Some shape) is = (refl, refl, record { of = of; is = both; named = e; whole = whole; has = is })
+
+    start_kin : (n x : ℕ) → of n ≡ Some x → IsWholeTree p OfTask a.heap n → (s : Option (List Token)) → shape_of p a.heap n ≡ s → Fits (start_next c n s) (start_next d x s)
+    start_kin n x e whole None is = ends_so cause.Large
+    start_kin n x e whole (Some shape) is = (refl, record { of = of; is = both; named = e; whole = whole; has = is })
+
+    -- a tree has one shape
+    same_shape : (root : Root) (n x : ℕ) → of n ≡ Some x → IsWholeTree p root a.heap n → shape_of p a.heap n ≡ shape_of p b.heap x
+    same_shape root n x e whole = shape_kin p of all_mine 0 b.heap a.heap b.heap kin.heaps n x e whole.intact
+
+    message_kin : (box : BoxName) (v : Value) → IsKin of v (renamed of v) → ((root : Root) (n : ℕ) → given (Some native.Put) (Box box ∷ v ∷ []) ≡ Some (root, n) → IsWholeTree p root a.heap n) →
+        Fits (message_next p c box v) (message_next p d box (renamed of v))
+    message_kin box Null e whole = ends_so cause.Null
+    message_kin box (Ref n) e whole =
+        let tree = whole OfMessage n refl in
+        subst (λ (z : Option (List Token)). Fits (put_next c box n (shape_of p a.heap n)) (put_next d box (number_of (of n)) z)) (same_shape OfMessage n (number_of (of n)) e tree)
+        (put_kin box n (number_of (of n)) e tree (shape_of p a.heap n) refl)
+    message_kin box _ e whole = tt
+
+    start_of_kin : (n : ℕ) → of n ≡ Some (number_of (of n)) → IsWholeTree p OfTask a.heap n → Fits (start_next c n (shape_of p a.heap n)) (start_next d (number_of (of n)) (shape_of p b.heap (number_of (of n))))
+    start_of_kin n e tree =
+        subst (λ (z : Option (List Token)). Fits (start_next c n (shape_of p a.heap n)) (start_next d (number_of (of n)) z)) (same_shape OfTask n (number_of (of n)) e tree)
+        (start_kin n (number_of (of n)) e tree (shape_of p a.heap n) refl)
+
+    print_kin : (o : Option Token) → Fits (print_next c o) (print_next d o)
+    print_kin None = tt
+    print_kin (Some token) = (refl, record { of = of; is = both })
+
+    arg_kin : (o : Option ℤ) → Fits (arg_next c o) (arg_next d o)
+    arg_kin None = ends_so cause.Index
+    arg_kin (Some n) = onward_with (Int n) (Int n) refl
+
+    native_kin : (n : Native) (args : List Value) → AreKin of args (map (renamed of) args) → ((root : Root) (i : ℕ) → given (Some n) args ≡ Some (root, i) → IsWholeTree p root a.heap i) →
+        Fits (native_next setting c n args) (native_next setting d n (map (renamed of) args))
+    native_kin native.Execute (Ref n ∷ []) e whole = goes_kin c d both
+    native_kin native.Start (Ref n ∷ []) e whole = start_of_kin n e.0 (whole OfTask n refl)
+    native_kin native.Put (Box box ∷ v ∷ []) e whole = message_kin box v e.1.0 whole
+    native_kin native.Get (Box box ∷ []) e whole = (refl, record { of = of; is = both })
+    native_kin native.Getnb (Box box ∷ []) e whole = (refl, record { of = of; is = both })
+    native_kin native.Print (v ∷ []) e whole = subst (λ (z : Option Token). Fits (print_next c (printed v)) (print_next d z)) (printed_same of v) (print_kin (printed v))
+    native_kin native.Yield [] e whole = goes_kin c d both
+    native_kin native.ArgCount [] e whole = onward_with _ _ refl
+    native_kin native.Arg (Int i ∷ []) e whole = arg_kin (arg_at setting.limits.args i)
+    native_kin _ _ e whole = tt
+
+    asks_kin : (n : Option Native) (args brgs : List Value) → AreKin of args brgs → ((root : Root) (i : ℕ) → given n args ≡ Some (root, i) → IsWholeTree p root a.heap i) →
+        Fits (asks_next setting c args n) (asks_next setting d brgs n)
+    asks_kin None args brgs e whole = tt
+    asks_kin (Some n) args brgs e whole =
+        let is = are_is of args brgs e in
+        subst (λ (z : List Value). Fits (native_next setting c n args) (native_next setting d n z)) is
+        (native_kin n args (subst (λ (z : List Value). AreKin of args z) (sym is) e) whole)
+
+  -- ---- all moves
+
+  -- the heaps are those of before
+  here : (done boxes : ℕ) (f g : Objects → Move) (h k : Objects) → h ≡ a.heap → k ≡ b.heap → Fits (next_by setting t a done boxes (f a.heap)) (next_by setting t b done boxes (g b.heap)) →
+      Fits (next_by setting t a done boxes (f h)) (next_by setting t b done boxes (g k))
+  here done boxes f g h k e d w =
+      subst (λ (z : Objects). Fits (next_by setting t a done boxes (f h)) (next_by setting t b done boxes (g z))) (sym d)
+      (subst (λ (z : Objects). Fits (next_by setting t a done boxes (f z)) (next_by setting t b done boxes (g b.heap))) (sym e) w)
+
+  move_kin : (good : ℕ → Type 0) (done boxes : ℕ) (v w : Move) → MoveKin good of all_mine 0 a.heap b.heap v w → WholeMove p a.heap v → is_making w ≡ false → Fits (next_by setting t a done boxes v) (next_by setting t b done boxes w)
+  move_kin good done boxes (move.Runs x fs h) (move.Runs y gs k) e whole old = runs_kin h k fs gs done boxes e.1 e.2
+  move_kin good done boxes (move.Makes o fs h) (move.Makes q gs k) e whole old = absurd (cc)
+  move_kin good done boxes (move.Opens fs h) (move.Opens gs k) e whole old = here done boxes (λ z. move.Opens fs z) (λ z. move.Opens gs z) h k e.1 e.2 (opens_kin fs gs done boxes e.0)
+  move_kin good done boxes (move.Asks m args fs h) (move.Asks n brgs gs k) e whole old =
+      here done boxes (λ z. move.Asks m args fs z) (λ z. move.Asks n brgs gs z) h k e.3 e.4
+      (subst (λ (z : MethodId). Fits (next_by setting t a done boxes (move.Asks m args fs a.heap)) (next_by setting t b done boxes (move.Asks z brgs gs b.heap))) e.0
+      (asks_kin fs gs done boxes e.2 (native_of p m) args brgs e.1 whole))
+  move_kin good done boxes (move.Returns h) (move.Returns k) e whole old = here done boxes (λ z. move.Returns z) (λ z. move.Returns z) h k e.0 e.1 (finish_kin done boxes a.kept b.kept kin.kept)
+  move_kin good done boxes (move.Raises x) (move.Raises y) e whole old = subst (λ (z : EndCause). Fits (raised a x) (raised b z)) e (over_kin x)
+  move_kin good done boxes (move.Ends x) (move.Ends y) e whole old = subst (λ (z : EndCause). Fits (over a x) (over b z)) e (over_kin x)
+  move_kin good done boxes move.Stuck move.Stuck e whole old = tt
+  move_kin good done boxes _ _ e whole old = absurd e
+
+  frames_kin : (fs gs : List Activation) (done boxes : ℕ) → done < setting.limits.steps → FramesKin of fs gs → IsWholeThread setting a.heap (Alive fs done boxes) → thread_makes p b.heap (Alive gs done boxes) ≡ false →
+      Fits (frames_next setting t a fs done boxes) (frames_next setting t b gs done boxes)
+  frames_kin [] [] done boxes lt e whole old = over_kin cause.Done
+  frames_kin (top ∷ fs) (other ∷ gs) done boxes lt e whole old =
+      move_kin (StandsIn a.heap top.stack) done boxes (moves p top fs a.heap) (moves p other gs b.heap)
+      (moves_kin p of all_mine 0 a.heap b.heap kin.heaps (rows_kin p) top other (whole lt).0 fs gs e) (whole lt).1 old
+  frames_kin _ _ done boxes lt e whole old = absurd e
+
+  thread_kin : (x y : Thread) → ThreadKin of x y → IsWholeThread setting a.heap x → thread_makes p b.heap y ≡ false → Fits (thread_next setting t a x) (thread_next setting t b y)
+  thread_kin (Ended x) (Ended y) e whole old = tt
+  thread_kin (Alive fs done boxes) (Alive gs also more) e whole old =
+      subst (λ (z : ℕ). Fits (thread_next setting t a (Alive fs done boxes)) (thread_next setting t b (Alive gs z more))) e.1
+      (subst (λ (z : ℕ). Fits (thread_next setting t a (Alive fs done boxes)) (thread_next setting t b (Alive gs done z))) e.2 counted)
+    where
+      still : thread_makes p b.heap (Alive gs done boxes) ≡ false
+      still = subst (λ (z : ℕ). thread_makes p b.heap (Alive gs z boxes) ≡ false) (sym e.1) (subst (λ (z : ℕ). thread_makes p b.heap (Alive gs also z) ≡ false) (sym e.2) old)
+
+      counted : Fits (thread_next setting t a (Alive fs done boxes)) (thread_next setting t b (Alive gs done boxes))
+      counted = elim (leb_tells setting.limits.steps done) [
+        | inl w ↦ subst (λ (z : Bool). Fits (cond z (over a cause.Spent) (frames_next setting t a fs done boxes)) (cond z (over b cause.Spent) (frames_next setting t b gs done boxes))) (sym w.0) (over_kin cause.Spent)
+        | inr w ↦ subst (λ (z : Bool). Fits (cond z (over a cause.Spent) (frames_next setting t a fs done boxes)) (cond z (over b cause.Spent) (frames_next setting t b gs done boxes))) (sym w.0) (frames_kin fs gs done boxes w.1 e.0 whole still)
+      ]
+  thread_kin _ _ e whole old = absurd e
+
+pub next_like : (set : Setting) (t : ℕ) (of : Names) (l f : Lone) → IsLike of l f → IsWholeThread set l.heap l.thread → thread_makes set.program f.heap f.thread ≡ false → NextLike set.program (next_move set t l) (next_move set t f)
+unfolding next_move
+next_like set t of l f like whole old = thread_kin set of t l f like l.thread f.thread like.threads whole old

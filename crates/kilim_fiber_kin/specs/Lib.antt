@@ -1,0 +1,5 @@
+pub mod Mine
+pub mod Held
+pub mod Served
+pub mod Acts
+pub mod Laws
