@@ -91,11 +91,11 @@ stays_replaced old new (t ∷ ts) (suc k) top = stays_replaced old new ts k top
 
 -- ---- rules
 
-passed : {A : Type 0} (n : ℕ) (b : Bool) (go : Result A ℕ) (x : A) → rule n b go ≡ Ok x → (b ≡ true) × (go ≡ Ok x)
+pub passed : {A : Type 0} (n : ℕ) (b : Bool) (go : Result A ℕ) (x : A) → rule n b go ≡ Ok x → (b ≡ true) × (go ≡ Ok x)
 passed n true go x e = (refl, e)
 passed n false go x e = absurd (cc)
 
-past : {A : Type 0} (p : Program) (rs : List Further) (s : List VType) (go : Result A ℕ) (x : A) → further p rs s go ≡ Ok x → go ≡ Ok x
+pub past : {A : Type 0} (p : Program) (rs : List Further) (s : List VType) (go : Result A ℕ) (x : A) → further p rs s go ≡ Ok x → go ≡ Ok x
 past p [] s go x e = e
 past p (r ∷ rs) s go x e = past p rs s go x (passed r.number (r.holds && all_meet p r.operands s) (further p rs s go) x e).1
 

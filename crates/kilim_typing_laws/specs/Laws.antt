@@ -1,8 +1,9 @@
 -- Laws of well-typed code, in the words of kilim_typing.
-use Rattle.std.specs.Prelude.{◌≡◌, ℕ, true, false, Option, Some, None, Ok}
+use Rattle.std.specs.Prelude.{◌≡◌, ◌≤◌, ℕ, length, true, false, Option, Some, None, Ok}
 use Rattle.kilim_classes.specs.declared.class.Method.{Method}
 use Rattle.kilim_classes.specs.declared.instr.Instr.{Instr}
 use Rattle.kilim_classes.specs.declared.names.MethodId.{MethodId}
+use Rattle.kilim_classes.specs.declared.verified.Frame.{Frame}
 use Rattle.kilim_classes.specs.declared.verified.VType.{VType}
 use Rattle.kilim_classes.specs.Keeps.{Keeps}
 use Rattle.kilim_classes.specs.Lengths.{fetched, is_code_place}
@@ -10,7 +11,7 @@ use Rattle.kilim_classes.specs.Names.{method_at}
 use Rattle.kilim_classes.specs.Program.{Program}
 use Rattle.kilim_typing.specs.Faults.{first_type_fault}
 use Rattle.kilim_typing.specs.Step.{Types, peek, is_top, assignable, type_step}
-use Rattle.kilim_typing.specs.Typed.{Among, FlowsInto, IsWellTyped, Live, WellTypedBy, edges, has_code, no_types, typing_of}
+use Rattle.kilim_typing.specs.Typed.{Among, FlowsInto, IsWellTyped, Live, WellTypedBy, edges, frame_types, has_code, listed, no_types, typing_of}
 
 -- ---- assignability
 
@@ -35,6 +36,17 @@ EdgesFlow = (p : Program) → Keeps p → (m : Method) (typing : ℕ → Types) 
 -- is Top where flows meet is read by nothing behind.
 abbrev pub LiveIsTyped : Type 0
 LiveIsTyped = (p : Program) → Keeps p → (m : Method) (typing : ℕ → Types) → WellTypedBy p m typing → (k at : ℕ) → Live m k at → is_top (peek (typing at).locals k) ≡ false
+
+-- ---- listed frames
+
+-- A listed frame has the types of a place: the same in each slot, and the same stack. Its mark is that of its locals.
+pub record Shows (frame : Frame) (f : Types) : Type 0 where
+  pub locals : (slot : ℕ) → peek frame.locals slot ≡ peek f.locals slot
+  pub stack : (frame_types frame).stack ≡ f.stack
+
+-- no frame of a well-typed method has more locals than the method, so none is lost where each is listed up to their number
+abbrev pub ListedFramesShow : Type 0
+ListedFramesShow = (p : Program) (m : Method) (typing : ℕ → Types) → WellTypedBy p m typing → (at : ℕ) → is_code_place m.code at ≡ true → (length (typing at).locals ≤ m.max_locals) × Shows (listed m (typing at)) (typing at)
 
 -- ---- programs
 

@@ -1,7 +1,7 @@
 //! Laws of well-typed code (JVMS 4.10.1): about the definitions of kilim_typing, and no code that does work.
 #![tactic(auto)]
 
-ghost use Rattle.kilim_typing_laws.specs.Laws.{AssignsItself, EdgesFlow, LiveIsTyped, NoFaultWhereWellTyped, TypedByPlace};
+ghost use Rattle.kilim_typing_laws.specs.Laws.{AssignsItself, EdgesFlow, ListedFramesShow, LiveIsTyped, NoFaultWhereWellTyped, TypedByPlace};
 
 /// A law, and no work: each verification type is assignable to itself.
 pub fn assigns_itself()
@@ -17,6 +17,11 @@ pub fn edges_flow()
 /// A law, and no work: a live local has a type.
 pub fn live_is_typed()
     ensures { LiveIsTyped }
+{}
+
+/// A law, and no work: the frame that is listed for a place shows the types there.
+pub fn listed_frames_show()
+    ensures { ListedFramesShow }
 {}
 
 /// A law, and no work: a well-typed program's methods are well typed by the frames at their places.
