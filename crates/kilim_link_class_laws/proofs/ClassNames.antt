@@ -17,7 +17,7 @@ use Rattle.kilim_link_spec.specs.Faults.{is_class_name, name_broken}
 use Rattle.kilim_link_spec.specs.Laws.{LinkedInParts, NoProblem, NoneHasAProblem, NoneOfEachKind}
 use Rattle.kilim_link_spec.specs.Linked.{linked_class, program_with}
 use Rattle.kilim_link_spec.specs.World.{World, own_name, world_of}
-use Rattle.kilim_link_class_laws.specs.Facts.{NoneIsNamedAsArray}
+use Rattle.kilim_link_class_laws.specs.Facts.{EachIsNamed, NoneIsNamedAsArray, each_is_named}
 use Rattle.kilim_link_class_laws.proofs.Bridge.{linked_class_is}
 use Rattle.kilim_link_class_laws.proofs.Linking.{Linking, linking, not_so}
 use Rattle.kilim_link_class_laws.proofs.Lists.{all_by_places}
@@ -37,6 +37,12 @@ name_is_no_array : (name : List ℕ) → is_class_name name ≡ true → is_no_a
 unfolding is_class_name
 name_is_no_array name e = unit_is_no_array name (and_parts _ _ (and_parts (list_all (λ p. not (is_empty p)) (slice_split (λ u. u == 47) name)) _ e).1).0
 
+-- it isn't empty
+name_is_some : (name : List ℕ) → is_class_name name ≡ true → not (is_empty name) ≡ true
+unfolding is_class_name
+name_is_some [] e = absurd (cc)
+name_is_some (u ∷ us) e = refl
+
 not_not : (b : Bool) → not b ≡ false → b ≡ true
 not_not true e = refl
 not_not false e = absurd (cc)
@@ -48,6 +54,10 @@ own_name_is w file c none = not_not _ (not_so _ _ none.name_is_whole)
 built_in_names : (form : Form) (first method : ℕ) → list_all (λ class. is_no_array class.name) (built_in_classes_in form first method) ≡ true
 built_in_names Plain first method = refl
 built_in_names Woven first method = refl
+
+built_in_some : (form : Form) (first method : ℕ) → list_all (λ class. not (is_empty class.name)) (built_in_classes_in form first method) ≡ true
+built_in_some Plain first method = refl
+built_in_some Woven first method = refl
 
 module _ (files : List ClassFile) (form : Form) (classes : List Class) (fields : List Field) (methods : List Method) (l : Linking files form classes fields methods) where
   abbrev w : World
@@ -66,6 +76,22 @@ module _ (files : List ClassFile) (form : Form) (classes : List Class) (fields :
       list_all-append (λ (class : Class). is_no_array class.name) classes built
       ∙ and_from _ _ (all_by_places (λ (class : Class). is_no_array class.name) classes own_at) (built_in_names form (length files) (length methods))
 
+  some_at : (n : ℕ) (class : Class) → slice_get classes n ≡ Some class → not (is_empty class.name) ≡ true
+  some_at n class there =
+      let f = file_made (linked_class w) files classes l.classes_are n class there in
+      let made = linked_class_is w f.file (class_id n) class f.is in
+      ap (λ (k : Class). not (is_empty k.name)) (sym made.is) ∙ name_is_some (own_name f.file) (own_name_is w f.file (class_id n) (l.none n f.file f.at))
+
+  pub all_named : each_is_named (program_with files form classes fields methods) ≡ true
+  unfolding each_is_named
+  all_named =
+      let built = built_in_classes_in form (length files) (length methods) in
+      list_all-append (λ (class : Class). not (is_empty class.name)) classes built
+      ∙ and_from _ _ (all_by_places (λ (class : Class). not (is_empty class.name)) classes some_at) (built_in_some form (length files) (length methods))
+
 module _ (in_parts : LinkedInParts) (none_has : NoneHasAProblem) (of_each : NoneOfEachKind) where
   pub none_is_named_as_array_of : NoneIsNamedAsArray
   none_is_named_as_array_of files form p well = linking in_parts none_has of_each (λ q. none_is_named_as_array q ≡ true) files form p well (none_is_array files form)
+
+  pub each_is_named_of : EachIsNamed
+  each_is_named_of files form p well = linking in_parts none_has of_each (λ q. each_is_named q ≡ true) files form p well (all_named files form)

@@ -1,10 +1,16 @@
 -- The facts of programs, of files that link well: those of classes and members.
-use Rattle.std.specs.Prelude.{◌≡◌, true, List}
+use Rattle.std.specs.Prelude.{◌≡◌, Bool, true, not, List}
+use Rattle.std.specs.List.{list_all}
 use Rattle.kilim_classfile.specs.declared.class_file.ClassFile.{ClassFile}
 use Rattle.kilim_classes.specs.declared.class.Form.{Form}
 use Rattle.kilim_classes.specs.Keeps.{EndsBuiltIn, fields_fit, members_are_owned, names_differ, none_is_both, none_is_its_ancestor, none_is_left_abstract, none_is_named_as_array, overriding_agrees, own_classes_fit, superclasses_fit}
+use Rattle.kilim_classes.specs.Names.{is_empty}
 use Rattle.kilim_classes.specs.Program.{Program}
 use Rattle.kilim_link_spec.specs.LinksWell.{LinksWell}
+
+-- a class's name isn't empty
+unfoldable pub each_is_named : Program → Bool
+each_is_named p = list_all (λ class. not (is_empty class.name)) p.classes
 
 -- no class is its own ancestor
 abbrev pub NoneIsItsAncestor : Type 0
@@ -37,6 +43,10 @@ NamesDiffer = (files : List ClassFile) (form : Form) (p : Program) → LinksWell
 -- no class's name begins with `[`
 abbrev pub NoneIsNamedAsArray : Type 0
 NoneIsNamedAsArray = (files : List ClassFile) (form : Form) (p : Program) → LinksWell files form p → none_is_named_as_array p ≡ true
+
+-- each class has a name
+abbrev pub EachIsNamed : Type 0
+EachIsNamed = (files : List ClassFile) (form : Form) (p : Program) → LinksWell files form p → each_is_named p ≡ true
 
 -- fields hold what their class's kind allows
 abbrev pub FieldsFit : Type 0

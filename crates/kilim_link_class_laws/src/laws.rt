@@ -1,7 +1,7 @@
 //! Laws about the definitions. No program calls them to do work.
 
 ghost use Rattle.kilim_link_class_laws.specs.Bridge.{BaredAgrees, OutlineAgrees, OutlineIsBared};
-ghost use Rattle.kilim_link_class_laws.specs.Facts.{BuiltInIsLast, FieldsFit, MembersAreOwned, NamesDiffer, NoneIsBoth, NoneIsItsAncestor, NoneIsLeftAbstract, NoneIsNamedAsArray, OverridingAgrees, OwnClassesFit, SuperclassesFit};
+ghost use Rattle.kilim_link_class_laws.specs.Facts.{EachIsNamed, BuiltInIsLast, FieldsFit, MembersAreOwned, NamesDiffer, NoneIsBoth, NoneIsItsAncestor, NoneIsLeftAbstract, NoneIsNamedAsArray, OverridingAgrees, OwnClassesFit, SuperclassesFit};
 
 use kilim_link_spec::{linked_in_parts, none_has_a_problem, none_of_each_kind};
 
@@ -84,6 +84,15 @@ pub fn names_differ()
 /// A law, and no work: of files that link well no class has a name that begins with `[`.
 pub fn none_is_named_as_array()
     ensures { NoneIsNamedAsArray }
+{
+    linked_in_parts();
+    none_has_a_problem();
+    none_of_each_kind();
+}
+
+/// A law, and no work: of files that link well no class has an empty name.
+pub fn each_is_named()
+    ensures { EachIsNamed }
 {
     linked_in_parts();
     none_has_a_problem();

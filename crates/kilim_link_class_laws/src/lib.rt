@@ -4,7 +4,7 @@
 mod laws;
 
 pub use laws::{
-    bared_agrees, built_in_is_last, fields_fit, members_are_owned, names_differ, none_is_both,
-    none_is_its_ancestor, none_is_left_abstract, none_is_named_as_array, outline_agrees,
-    outline_is_bared, overriding_agrees, own_classes_fit, superclasses_fit,
+    bared_agrees, built_in_is_last, each_is_named, fields_fit, members_are_owned, names_differ,
+    none_is_both, none_is_its_ancestor, none_is_left_abstract, none_is_named_as_array,
+    outline_agrees, outline_is_bared, overriding_agrees, own_classes_fit, superclasses_fit,
 };
