@@ -2,6 +2,8 @@
 use Rattle.std.proofs.Common.{◌≡◌, ℕ, zero, suc, ◌+◌, ◌≤◌, ◌<◌, ℤ, Bool, true, false, cond, List, [], ◌∷◌, Option, Some, None, length, refl, sym, ap, subst, ◌∙◌, arith}
 use Rattle.std.specs.Prelude.{nat_lt}
 use Rattle.std.proofs.lemmas.Bool.{le-leb}
+use Rattle.std.proofs.lemmas.Option.{same_Some, none-some}
+use Rattle.kilim_jvm_interp.specs.Step.{cause_of}
 use Rattle.kilim_classes.specs.declared.names.BoxName.{BoxName}
 use Rattle.kilim_classes.specs.declared.names.MethodId.{MethodId}
 use Rattle.kilim_classes.specs.declared.value.Value.{Value}
@@ -101,6 +103,20 @@ module _ (live : Liveness) (set : Setting) (t : ℕ) (c : Course) (last : Lone) 
 
     pub ends : (why : EndCause) → moves set.program top below f.heap ≡ move.Ends why → EndsFor why
     ends why e = ended_by why _ (ends_by why (no_own_tasks set t (as_lone f) why _ (next_is (move.Ends why) e))) (instruction (move.Ends why) e refl)
+
+    caused_by : (why : EndCause) (m : Move) → moves set.program top below f.heap ≡ m → cause_of m ≡ Some why → EndsFor why
+    caused_by why (move.Raises other) e same = raises why (e ∙ ap move.Raises (same_Some _ _ same))
+    caused_by why (move.Ends other) e same = ends why (e ∙ ap move.Ends (same_Some _ _ same))
+    caused_by why (move.Runs change frames heap) e same = absurd (none-some why same)
+    caused_by why (move.Makes object frames heap) e same = absurd (none-some why same)
+    caused_by why (move.Opens frames heap) e same = absurd (none-some why same)
+    caused_by why (move.Asks m args frames heap) e same = absurd (none-some why same)
+    caused_by why (move.Returns heap) e same = absurd (none-some why same)
+    caused_by why move.Stuck e same = absurd (none-some why same)
+
+    -- either of the two, as the interpreter tells it
+    pub caused : (why : EndCause) → cause_of (moves set.program top below f.heap) ≡ Some why → EndsFor why
+    caused why same = caused_by why (moves set.program top below f.heap) refl same
 
     -- ---- the last frame returns
 

@@ -1,5 +1,5 @@
 -- A fiber gives a tree away: it may leave, it is sound, and the fiber without it is its thread without it.
-use Rattle.std.proofs.Common.{◌≡◌, ℕ, ◌≤◌, List, ◌∷◌, [], Some, length, sym, ap, subst}
+use Rattle.std.proofs.Common.{◌≡◌, ◌∙◌, ℕ, ◌≤◌, List, ◌∷◌, [], Some, length, sym, ap, subst}
 use Rattle.std.specs.List.{AllByRecursion}
 use Rattle.kilim_classes.specs.Program.{Program}
 use Rattle.kilim_classes.specs.declared.names.BoxName.{BoxName}
@@ -15,7 +15,7 @@ use Rattle.kilim_fibers.specs.Wishes.{ToPut, ToStart, wish_of}
 use Rattle.kilim_private_heap.specs.Places.{AllDiffer}
 use Rattle.kilim_tree_move.specs.Room.{RoomFor}
 use Rattle.kilim_tree_move.specs.Walk.{places}
-use Rattle.kilim_tree_move.specs.Moved.{Fits, CanLeave, TakenOut, tree_heap}
+use Rattle.kilim_tree_move.specs.Moved.{Fits, CanLeave, TakenOut}
 use Rattle.kilim_tree_move.specs.Shaping.{Suits}
 use Rattle.kilim_tree_move.proofs.Walks.{one_tree}
 use Rattle.kilim_fiber_kin.specs.Held.{Held, as_lone}
@@ -23,37 +23,36 @@ use Rattle.kilim_fiber_kin.specs.Acts.{IsGiven, IsSound, Acts, Asking, left_of}
 use Rattle.kilim_fiber_kin.proofs.Left.{left_like}
 use Rattle.kilim_fiber_kin.proofs.TakenTrees.{taken_suits, taken_sound}
 
-module _ (p : Program) (root : Root) (heap : Objects) (m : ℕ) (given : IsGiven p root heap m) (room : RoomFor) (fits : Fits heap m room) where
-  small : length fits.entries ≤ tree_limit
-  small = subst (λ (z : ℕ). z ≤ tree_limit) (sym fits.count) fits.small
+module _ (p : Program) (root : Root) (heap : Objects) (m : ℕ) (given : IsGiven p root heap m) where
+  module _ (room : RoomFor) (fits : Fits heap m room) where
+    few : length fits.entries ≤ tree_limit
+    few = subst (λ (z : ℕ). z ≤ tree_limit) (sym fits.count) fits.small
 
-  -- where there is room for it, it may leave
-  pub can_leave : CanLeave heap m room
-  can_leave = record { same_root = fits.same_root; entries = fits.entries; tree = fits.tree; count = fits.count; once = given.once fits.entries fits.tree small; small = fits.small }
+    -- where there is room for it, it may leave
+    pub can_leave : CanLeave heap m room
+    can_leave = record { same_root = fits.same_root; entries = fits.entries; tree = fits.tree; count = fits.count; once = given.once fits.entries fits.tree few; small = fits.small }
 
-  module _ (after : Objects) (tree : List Object) (out : TakenOut heap m after tree) where
-    once : AllDiffer (places out.entries)
-    once = subst (λ (es : List (ℕ × Object)). AllDiffer (places es)) (one_tree heap (m ∷ []) fits.entries out.entries fits.tree.leads fits.tree.are_in out.was.leads out.was.are_in) (given.once fits.entries fits.tree small)
+    -- and then its shape can be told
+    pub out_suits : (after : Objects) (tree : List Object) → TakenOut heap m after tree → AllByRecursion (Suits p) tree
+    out_suits after tree out =
+        let same : fits.entries ≡ out.entries = one_tree heap (m ∷ []) fits.entries out.entries fits.tree.leads fits.tree.are_in out.was.leads out.was.are_in in
+        taken_suits p root heap m given after tree out (subst (λ (es : List (ℕ × Object)). AllDiffer (places es)) same (given.once fits.entries fits.tree few))
 
-    -- its shape can be told
-    pub out_suits : AllByRecursion (Suits p) tree
-    out_suits = taken_suits p root heap m given after tree out once
+  -- a tree with a shape is sound
+  pub out_sound : (after : Objects) (tree : List Object) → TakenOut heap m after tree → (shape : List Token) → shape_of p heap m ≡ Some shape → IsSound p root tree shape
+  out_sound after tree out shape has = (taken_sound p root heap m given after tree out (given.once out.entries out.was (given.small out.entries out.was shape has)) shape (out.shape p ∙ has)).1
 
-    -- and with that it is sound
-    pub out_sound : (shape : List Token) → shape_of p (tree_heap tree) 0 ≡ Some shape → (shape_of p heap m ≡ Some shape) × IsSound p root tree shape
-    out_sound shape has = taken_sound p root heap m given after tree out once shape has
-
-module _ (set : Setting) (t : ℕ) (last : Lone) (f : Held) (m : ℕ) (room : RoomFor) (fits : Fits f.heap m room) (after : Objects) (tree : List Object) (out : TakenOut f.heap m after tree) (shape : List Token) where
+module _ (set : Setting) (t : ℕ) (last : Lone) (f : Held) (m : ℕ) (after : Objects) (tree : List Object) (out : TakenOut f.heap m after tree) (shape : List Token) where
   -- a message
   pub put_left : (box : BoxName) → IsGiven set.program OfMessage f.heap m → Acts set t last (Puts box m shape (as_lone f)) → (wish_of (next_action set t last) ≡ Some (ToPut box shape)) × Asking set t (record f { heap = after }) last
   put_left box given w = (
     ap wish_of w.2,
-    record { after = tree_left set.program w.0 w.1; left = ap (left_of set.program) w.2; like = left_like set.program OfMessage w.0 m shape w.1 (as_lone f) w.3 given room fits after tree out },
+    record { after = tree_left set.program w.0 w.1; left = ap (left_of set.program) w.2; like = left_like set.program OfMessage w.0 m shape w.1 (as_lone f) w.3 given after tree out },
   )
 
   -- a task's object
   pub start_left : IsGiven set.program OfTask f.heap m → Acts set t last (Starts m shape (as_lone f)) → (wish_of (next_action set t last) ≡ Some (ToStart shape)) × Asking set t (record f { heap = after }) last
   start_left given w = (
     ap wish_of w.2,
-    record { after = tree_left set.program w.0 w.1; left = ap (left_of set.program) w.2; like = left_like set.program OfTask w.0 m shape w.1 (as_lone f) w.3 given room fits after tree out },
+    record { after = tree_left set.program w.0 w.1; left = ap (left_of set.program) w.2; like = left_like set.program OfTask w.0 m shape w.1 (as_lone f) w.3 given after tree out },
   )

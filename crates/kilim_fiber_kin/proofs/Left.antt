@@ -1,5 +1,5 @@
 -- A tree that leaves the thread's heap and the fiber's.
-use Rattle.std.proofs.Common.{◌≡◌, ℕ, ◌≤◌, List, [], ◌∷◌, Some, length, refl, sym, ap, subst, ◌∙◌, inl, inr}
+use Rattle.std.proofs.Common.{◌≡◌, ℕ, List, [], ◌∷◌, Some, refl, sym, ap, subst, ◌∙◌, inl, inr}
 use Rattle.std.specs.FinMap.{get, remove}
 use Rattle.std.proofs.lemmas.Bool.Decides.{eqb_tells}
 use Rattle.std.proofs.lemmas.Option.{none-some}
@@ -8,18 +8,17 @@ use Rattle.kilim_classes.specs.Program.{Program}
 use Rattle.kilim_program.specs.declared.value.Object.{Object}
 use Rattle.kilim_program.specs.declared.value.Token.{Token}
 use Rattle.kilim_program.specs.Machine.{Objects}
-use Rattle.kilim_program.specs.Shapes.{tree_limit}
+use Rattle.kilim_program.specs.Shapes.{shape_of}
 use Rattle.kilim_program.specs.Trees.{Root, tree_names, without}
 use Rattle.kilim_thread_model.specs.Kept.{IsIn}
 use Rattle.kilim_thread_model.specs.Lone.{Lone}
 use Rattle.kilim_thread_model.specs.Course.{tree_left}
 use Rattle.kilim_kin.specs.Kin.{Names, Alike}
+use Rattle.kilim_tree_kin.proofs.Shaped.{shape_kin}
 use Rattle.kilim_one_heap.proofs.Given.{Named, AreThere, there_in, named_in}
-use Rattle.kilim_tree_move.specs.Room.{RoomFor}
 use Rattle.kilim_tree_move.specs.Walk.{places}
 use Rattle.kilim_tree_move.specs.Moved as moved
-use Rattle.kilim_tree_move.specs.Moved.{Fits, TakenOut}
-use Rattle.kilim_tree_move.proofs.Walks.{one_tree}
+use Rattle.kilim_tree_move.specs.Moved.{TakenOut}
 use Rattle.kilim_tree_move.proofs.Named.{names_are_places}
 use Rattle.kilim_fiber_kin.specs.Mine.{all_mine}
 use Rattle.kilim_fiber_kin.specs.Held.{Like}
@@ -58,20 +57,14 @@ module _ (of : Names) (h k : Objects) (a : Alike of all_mine 0 k h k) (ns xs : L
 
 -- ---- the tree
 
--- its objects' places in the fiber's heap
-pub left_places : (p : Program) (root : Root) (f : Objects) (m : ℕ) (room : RoomFor) (after : Objects) (tree : List Object) → IsGiven p root f m → Fits f m room → (w : TakenOut f m after tree) → tree_names p f m ≡ places w.entries
-left_places p root f m room after tree given fits w =
-    let same : fits.entries ≡ w.entries = one_tree f (m ∷ []) fits.entries w.entries fits.tree.leads fits.tree.are_in w.was.leads w.was.are_in in
-    let long : length w.entries ≡ room.count = ap length (sym same) ∙ fits.count in
-    let small : length w.entries ≤ tree_limit = subst (λ (z : ℕ). z ≤ tree_limit) (sym long) fits.small in
-    names_are_places p f m w.entries w.was (given.suits w.entries w.was) small
-
-pub left_like : (p : Program) (root : Root) (n m : ℕ) (shape : List Token) (l f : Lone) → Giving p root n m shape l f → IsGiven p root f.heap m → (room : RoomFor) → Fits f.heap m room → (after : Objects) (tree : List Object) → TakenOut f.heap m after tree →
+pub left_like : (p : Program) (root : Root) (n m : ℕ) (shape : List Token) (l f : Lone) → Giving p root n m shape l f → IsGiven p root f.heap m → (after : Objects) (tree : List Object) → TakenOut f.heap m after tree →
     Like (tree_left p n l) (record f { heap = after })
-left_like p root n m shape l f g given room fits after tree w =
+left_like p root n m shape l f g given after tree w =
     let ns = tree_names p l.heap n in
     let xs = places w.entries in
-    let named : Named g.of ns xs = subst (Named g.of ns) (left_places p root f.heap m room after tree given fits w) (tree_named p g.of l.heap f.heap g.is.heaps n m g.named g.whole.intact) in
+    let has : shape_of p f.heap m ≡ Some shape = sym (shape_kin p g.of all_mine 0 f.heap l.heap f.heap g.is.heaps n m g.named g.whole.intact) ∙ g.has in
+    let at : tree_names p f.heap m ≡ xs = names_are_places p f.heap m w.entries w.was (given.suits w.entries w.was) (given.small w.entries w.was shape has) in
+    let named : Named g.of ns xs = subst (Named g.of ns) at (tree_named p g.of l.heap f.heap g.is.heaps n m g.named g.whole.intact) in
     let alike = alike_left g.of l.heap f.heap g.is.heaps ns xs (tree_there p g.of l.heap f.heap g.is.heaps root n shape g.whole g.has) named in
     record {
       of = g.of;

@@ -1,5 +1,5 @@
 -- A tree that a thread gives away, and the same tree in the fiber's heap.
-use Rattle.std.proofs.Common.{◌≡◌, ℕ, zero, suc, Bool, true, false, cond, List, [], ◌∷◌, ◌++◌, Option, Some, sym, subst, ◌∙◌, inl, inr}
+use Rattle.std.proofs.Common.{◌≡◌, ◌≤◌, ℕ, zero, suc, Bool, true, false, cond, List, [], ◌∷◌, ◌++◌, Option, Some, length, sym, subst, ◌∙◌, inl, inr}
 use Rattle.std.specs.Prelude.{◌==◌}
 use Rattle.std.specs.List.{AllByRecursion}
 use Rattle.std.specs.FinMap.{get}
@@ -24,10 +24,11 @@ use Rattle.kilim_private_heap.specs.Places.{AllDiffer}
 use Rattle.kilim_tree_move.specs.Walk.{places}
 use Rattle.kilim_tree_move.proofs.Named.{names_are_places}
 use Rattle.kilim_tree_move.proofs.Tokens.{has_shape}
+use Rattle.kilim_tree_move.proofs.Walks.{one_tree}
 use Rattle.kilim_fiber_kin.specs.Mine.{all_mine}
 use Rattle.kilim_fiber_kin.specs.Acts.{IsGiven}
 use Rattle.kilim_fiber_kin.proofs.Belows.{AllWell, all_there, well_kin, entries_below, at_root}
-use Rattle.kilim_fiber_kin.proofs.Sizes.{large_has_none, each_suits}
+use Rattle.kilim_fiber_kin.proofs.Sizes.{tree_of_shape, large_has_none, each_suits}
 
 -- ---- the names of a tree's objects, in both heaps
 
@@ -131,6 +132,9 @@ is_given p root of h k n x alike e well whole =
           let suits = each_suits p k x mine entries t in
           let s = has_shape p k x entries suits t small in
           once_differ (places entries) (subst IsOnce (names_are_places p k x entries t suits small) (once_kin p of h k alike root n x s.0 e whole (same ∙ s.1)));
+      small = λ entries t shape has.
+          let w = tree_of_shape p k x mine shape has in
+          subst (λ (es : List (ℕ × Object)). length es ≤ tree_limit) (one_tree k (x ∷ []) w.0 entries w.1.leads w.1.are_in t.leads t.are_in) w.2;
       suits = λ entries t. each_suits p k x mine entries t;
       allowed = λ shape has. whole.allowed shape (same ∙ has);
     }

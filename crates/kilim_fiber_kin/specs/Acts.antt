@@ -69,6 +69,8 @@ pub record IsGiven (p : Program) (root : Root) (heap : Objects) (m : ℕ) : Type
   -- it is too large where it has no shape
   pub large : IsTooLarge heap m → shape_of p heap m ≡ None
   pub once : (entries : List (ℕ × Object)) → IsTree heap m entries → length entries ≤ tree_limit → AllDiffer (places entries)
+  -- where it has one, it isn't
+  pub small : (entries : List (ℕ × Object)) → IsTree heap m entries → (shape : List Token) → shape_of p heap m ≡ Some shape → length entries ≤ tree_limit
   -- each object has just the fields of its class, in order, and no fiber
   pub suits : (entries : List (ℕ × Object)) → IsTree heap m entries → AllByRecursion (λ e. Suits p e.1) entries
   pub allowed : (shape : List Token) → shape_of p heap m ≡ Some shape → is_allowed p root shape ≡ true

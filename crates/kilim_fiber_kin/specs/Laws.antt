@@ -13,7 +13,6 @@ use Rattle.kilim_program.specs.Moves.{moves}
 use Rattle.kilim_program.specs.Moves as move
 use Rattle.kilim_program.specs.Natives.{native_of}
 use Rattle.kilim_program.specs.Objects.{new_object}
-use Rattle.kilim_program.specs.Shapes.{shape_of}
 use Rattle.kilim_program.specs.Trees.{Root, OfTask, built}
 use Rattle.kilim_thread_model.specs.State.{Setting, begun_on, execute_frames}
 use Rattle.kilim_thread_model.specs.Lone.{Lone, next_move, pushed}
@@ -22,8 +21,7 @@ use Rattle.kilim_thread_model.specs.declared.deed.Beginning.TheVariants.{Boot, B
 use Rattle.kilim_thread_model.specs.Kept.{given}
 use Rattle.kilim_thread_model.specs.Reach.{Liveness}
 use Rattle.kilim_jvm_interp.specs.Run.{IsSafe, RunsTo}
-use Rattle.kilim_tree_move.specs.Room.{RoomFor}
-use Rattle.kilim_tree_move.specs.Moved.{Fits, TakenOut, PutIn, tree_heap}
+use Rattle.kilim_tree_move.specs.Moved.{TakenOut, PutIn}
 use Rattle.kilim_fiber_kin.specs.Held.{Held, as_lone, Like, Holds}
 use Rattle.kilim_fiber_kin.specs.Served.{CanServe, ResultFits}
 use Rattle.kilim_fiber_kin.specs.Acts.{thread_makes, Acts, Giving, IsGiven, IsSound}
@@ -55,8 +53,8 @@ GivesTrees = (live : Liveness) (set : Setting) (t : ℕ) (c : Course) (last : Lo
 
 -- A tree leaves both heaps, and what is left is alike.
 abbrev pub TreesLeave : Type 0
-TreesLeave = (p : Program) (root : Root) (n m : ℕ) (shape : List Token) (l f : Lone) → Giving p root n m shape l f → IsGiven p root f.heap m → (room : RoomFor) → Fits f.heap m room → (after : Objects) (tree : List Object) → TakenOut f.heap m after tree →
-    Like (tree_left p n l) (record f { heap = after }) × ((own : List Token) → shape_of p (tree_heap tree) 0 ≡ Some own → IsSound p root tree own)
+TreesLeave = (p : Program) (root : Root) (n m : ℕ) (shape : List Token) (l f : Lone) → Giving p root n m shape l f → IsGiven p root f.heap m → (after : Objects) (tree : List Object) → TakenOut f.heap m after tree →
+    Like (tree_left p n l) (record f { heap = after }) × IsSound p root tree shape
 
 -- A sound tree comes into both heaps, and they are alike with it.
 abbrev pub TreesCome : Type 0
