@@ -18,6 +18,7 @@ use Rattle.std.specs.Ordering.{int_eq}
 use Rattle.kilim_classes.specs.Names.{◌>>=◌, class_named, class_at, field_of, is_task}
 use Rattle.kilim_program.specs.Effect.{named_type}
 use Rattle.kilim_classes.specs.Fits.{fits_type}
+use Rattle.kilim_classes.specs.Kinds.{is_value_class}
 use Rattle.kilim_program.specs.Shapes.{tree_limit, field_in, fields_in_order}
 
 -- ---- the names in a tree, in preorder
@@ -204,8 +205,10 @@ field_types p (f ∷ fs) = elim (field_of p f) [ None ↦ field_types p fs | Som
 abbrev pub content_types : Program → Ty → Awaits
 content_types p ty = if ty.dims == 0 then Fields (field_types p (fields_in_order p ty.base)) else Elements (record ty { dims = ty.dims - 1 })
 
+-- a class that isn't abstract, nor that of strings or of mailboxes, which are values; or an array
 abbrev pub is_whole_class : Program → Ty → Bool
-is_whole_class p ty = elim ty.base [ base.Class c ↦ (elim (class_at p c) [ None ↦ false | Some class ↦ not class.is_abstract || not (ty.dims == 0) ]) | _ ↦ not (ty.dims == 0) ]
+is_whole_class p ty =
+    elim ty.base [ base.Class c ↦ (elim (class_at p c) [ None ↦ false | Some class ↦ (not class.is_abstract && not (is_value_class class.name)) || not (ty.dims == 0) ]) | _ ↦ not (ty.dims == 0) ]
 
 abbrev pub awaited : List Awaits → Option (Ty × List Awaits)
 awaited (Fields (ty ∷ tys) ∷ rest) = Some (ty, Fields tys ∷ rest)
@@ -252,7 +255,7 @@ allowed_below p root None ts = false
 allowed_below p root (Some ty) ts = is_root p root ty && (is_whole_class p ty && allowed_from p (Some (content_types p ty ∷ Fields [] ∷ [])) ts)
 
 -- A shape of one object, whose fields and elements have values of their declared types; no object is of an abstract
--- class.
+-- class, a string or a mailbox.
 unfoldable pub is_allowed : Program → Root → List Token → Bool
 is_allowed p root (token.Open name ∷ ts) = allowed_below p root (type_named p name) ts
 is_allowed p root ts = false

@@ -16,6 +16,7 @@ use Rattle.kilim_classes.specs.declared.value.Value.TheVariants as value
 use Rattle.kilim_classes.specs.Program.{Program}
 use Rattle.kilim_classes.specs.Fits.{fits_type, is_reference_base}
 use Rattle.kilim_classes.specs.Keeps.{Keeps, has_base}
+use Rattle.kilim_classes.specs.Kinds.{is_value_class}
 use Rattle.kilim_classes.specs.Names.{◌>>=◌, class_at, field_of}
 use Rattle.kilim_program.specs.declared.value.Object.{Object}
 use Rattle.kilim_program.specs.declared.value.Token.{Token}
@@ -82,10 +83,11 @@ bound (Some x) f y e = record { x = x; is = refl; gives = e }
 
 -- ---- a class that isn't abstract, and an array's
 
-whole_class : (p : Program) (c : ClassId) → is_concrete (class_at p c) ≡ true → is_whole_class p (record { dims = 0; base = base.Class c }) ≡ true
+whole_class : (p : Program) (c : ClassId) → has_objects p c ≡ true → is_whole_class p (record { dims = 0; base = base.Class c }) ≡ true
 whole_class p c e = by (class_at p c) e
   where
-    by : (o : Option Class) → is_concrete o ≡ true → (elim o [ None ↦ false | Some class ↦ not class.is_abstract || not (eqb 0 0) ]) ≡ true
+    by : (o : Option Class) → (is_concrete o && not (is_value_class (elim o [ None ↦ [] | Some class ↦ class.name ]))) ≡ true →
+        (elim o [ None ↦ false | Some class ↦ (not class.is_abstract && not (is_value_class class.name)) || not (eqb 0 0) ]) ≡ true
     by None e = e
     by (Some class) e = ap (λ (z : Bool). z || not (eqb 0 0)) e
 
@@ -103,7 +105,8 @@ not_zero d = by (eqb (suc d) 0) refl
 whole_array : (p : Program) (d : ℕ) (b : Base) → has_base p b ≡ true → is_whole_class p (record { dims = suc d; base = b }) ≡ true
 whole_array p d (base.Class c) e =
     let there = get_some p.classes c.0 (ltb-true c.0 (length p.classes) e) in
-    ap (λ (o : Option Class). elim o [ None ↦ false | Some class ↦ not class.is_abstract || not (eqb (suc d) 0) ]) there.1 ∙ (ap (λ (z : Bool). not there.0.is_abstract || z) (not_zero d) ∙ or_true (not there.0.is_abstract))
+    ap (λ (o : Option Class). elim o [ None ↦ false | Some class ↦ (not class.is_abstract && not (is_value_class class.name)) || not (eqb (suc d) 0) ]) there.1
+    ∙ (ap (λ (z : Bool). (not there.0.is_abstract && not (is_value_class there.0.name)) || z) (not_zero d) ∙ or_true (not there.0.is_abstract && not (is_value_class there.0.name)))
 whole_array p d base.Bool e = not_zero d
 whole_array p d base.Byte e = not_zero d
 whole_array p d base.Char e = not_zero d
@@ -112,7 +115,7 @@ whole_array p d base.Int e = not_zero d
 whole_array p d base.Long e = not_zero d
 
 whole_content : (p : Program) (of : Classes) (d : ℕ) (b : Base) (o : Object) → ContentFits p of d b o → is_whole_class p (record { dims = d; base = b }) ≡ true
-whole_content p of zero (base.Class c) o fit = whole_class p c (and_parts (is_concrete (class_at p c)) _ fit.0).0
+whole_content p of zero (base.Class c) o fit = whole_class p c fit.0
 whole_content p of (suc d) b o fit = whole_array p d b fit.2
 whole_content p of zero base.Bool o fit = absurd fit
 whole_content p of zero base.Byte o fit = absurd fit
