@@ -559,7 +559,7 @@ module _ (fresh : ℕ → Bool) where
         facts_from x (pre ++ (e ∷ [])) es (code ∙ sym (append_assoc pre (e ∷ []) es)) (lower_join to pre e (lower_more e.0 to pre (let y = grows.0 in omega (arith, y)) lower) grows.0) grows.1 live plain at_new s.1 n.1,
       )
 
-  -- the frames of a method that is well typed, and its facts, without I11
+  -- the frames of a method that is well typed, and its facts, without that on pauses
   pub all_frames : (x : Plan) (plain : is_constructor x.method ≡ false) (at_new : (q : ℕ) → is_some (made_at x.method.code q) ≡ fresh q) → list_all (frame_fits x.method) x.method.frames ≡ true → nat_le (argument_slots x.method) x.method.max_locals ≡ true → TypedBy x.program x.method x.typing (Some (entry x.method)) x.method.code →
       AllChecked x.method.code → AllNew x.program x.method plain at_new x.method.code → AllSane x.program x.method plain at_new x.typing x.method.code
   all_frames x plain at_new fits args walk checked new =

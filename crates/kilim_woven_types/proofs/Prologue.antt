@@ -39,7 +39,7 @@ slots_more UninitThis a b = refl
 slots_more (Uninit q) a b = refl
 slots_more (Object ty) a b = refl
 
-params_more : (tys more : List Ty) → param_slots (tys ++ more) ≡ param_slots tys ++ param_slots more
+pub params_more : (tys more : List Ty) → param_slots (tys ++ more) ≡ param_slots tys ++ param_slots more
 params_more [] more = refl
 params_more (ty ∷ tys) more = ap (slots_of_type (vtype ty)) (params_more tys more) ∙ slots_more (vtype ty) (param_slots tys) (param_slots more)
 
@@ -119,7 +119,7 @@ peek_map at [] (suc j) = refl
 peek_map at (t ∷ ts) zero = refl
 peek_map at (t ∷ ts) (suc j) = peek_map at ts j
 
-peek_front : (ls more : List VType) (j : ℕ) → j < length ls → peek (ls ++ more) j ≡ peek ls j
+pub peek_front : (ls more : List VType) (j : ℕ) → j < length ls → peek (ls ++ more) j ≡ peek ls j
 peek_front [] more j h = absurd (omega (arith, h))
 peek_front (t ∷ ts) more zero h = refl
 peek_front (t ∷ ts) more (suc j) h = peek_front ts more j (omega (arith, h))
@@ -130,7 +130,7 @@ peek_last [] t (suc j) e = absurd (omega (arith, e))
 peek_last (u ∷ ts) t zero e = absurd (omega (arith, e))
 peek_last (u ∷ ts) t (suc j) e = peek_last ts t j (omega (arith, e))
 
-peek_end : (ls : List VType) (j : ℕ) → is_top (peek ls j) ≡ false → j < length ls
+pub peek_end : (ls : List VType) (j : ℕ) → is_top (peek ls j) ≡ false → j < length ls
 peek_end [] zero h = absurd (cc)
 peek_end [] (suc j) h = absurd (cc)
 peek_end (t ∷ ts) zero h = omega arith

@@ -84,7 +84,7 @@ abbrev pub is_local_savable : VType → Bool
 is_local_savable Top = true
 is_local_savable t = is_savable t
 
--- at a pausable call nothing below the arguments and in the locals is uninitialized (I11)
+-- at a pausable call nothing below the arguments and in the locals is uninitialized
 pub record Savable (x : Plan) (callee : Method) (p : ℕ) : Type 0 where
   pub stack : list_all is_savable (below x callee p) ≡ true
   pub locals : (k : ℕ) → is_local_savable (peek (x.typing p).locals k) ≡ true

@@ -26,7 +26,7 @@ abbrev pub AllChecked : List (ℕ × Instr) → Type 0
 AllChecked [] = Unit {0}
 AllChecked (e ∷ es) = Checked e.1 × AllChecked es
 
--- I11: at a pausable call nothing below the arguments and in the locals is uninitialized
+-- at a pausable call nothing below the arguments and in the locals is uninitialized
 pub record NoneUnset (x : Plan) (callee : Method) (p : ℕ) : Type 0 where
   pub stack : list_any is_unset (below x callee p) ≡ false
   pub locals : list_any is_unset (x.typing p).locals ≡ false

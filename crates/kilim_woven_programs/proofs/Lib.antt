@@ -1,0 +1,6 @@
+pub mod Classes
+pub mod Methods
+pub mod Naming
+pub mod Selecting
+pub mod Frames
+pub mod Theorem
