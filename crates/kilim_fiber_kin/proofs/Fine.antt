@@ -1,5 +1,5 @@
 -- A fiber's next instruction isn't stuck and has room on the stack, as its thread's.
-use Rattle.std.proofs.Common.{◌≡◌, ℕ, suc, ◌+◌, ◌<◌, ◌≤◌, List, [], ◌∷◌, Option, Some, None, length, refl, sym, ap, subst, ◌∙◌, arith}
+use Rattle.std.proofs.Common.{◌≡◌, ℕ, suc, ◌+◌, ◌<◌, ◌≤◌, Bool, true, false, List, [], ◌∷◌, Option, Some, None, length, refl, sym, ap, subst, ◌∙◌, arith}
 use Rattle.kilim_classes.specs.Program.{Program}
 use Rattle.kilim_classes.specs.declared.class.Method.{Method}
 use Rattle.kilim_classes.specs.declared.instr.Instr.{Instr}
@@ -7,9 +7,11 @@ use Rattle.kilim_classes.specs.declared.names.MethodId.{MethodId}
 use Rattle.kilim_classes.specs.Lengths.{fetched}
 use Rattle.kilim_classes.specs.Names.{method_at}
 use Rattle.kilim_program.specs.Machine.{Objects, Activation}
+use Rattle.kilim_program.specs.declared.cause.EndCause.TheVariants as cause
+use Rattle.std.specs.Prelude.{nat_lt, cond}
 use Rattle.kilim_program.specs.Effect.{Effect}
 use Rattle.kilim_program.specs.Effect as effect
-use Rattle.kilim_program.specs.Moves.{Move, effect_found, effect_in, effect_of, moves}
+use Rattle.kilim_program.specs.Moves.{Move, effect_found, effect_in, effect_of, moves, Enters, move_by, goes_on, frame_limit, receiver_of, entered, returned}
 use Rattle.kilim_program.specs.Moves as move
 use Rattle.kilim_program.specs.Natives.{native_of}
 use Rattle.kilim_thread_model.specs.State.{Setting, Alive}
@@ -147,3 +149,35 @@ module _ (live : Liveness) (set : Setting) (t : ℕ) (c : Course) (last : Lone) 
       let few : f.done + n ≤ set.limits.steps = omega (arith, le, lt) in
       let fewer : f.done + n < set.limits.steps = omega (arith, le, lt) in
       fine_next (run_on f n (top ∷ below) k) top below refl fewer (run_held live set t c last served.kept is f n (top ∷ below) k few runs h)
+
+-- ---- room for a new mailbox
+
+open_by : (p : Program) (top : Activation) (below : List Activation) (e : Effect) (g : Activation) (gs : List Activation) (heap : Objects) → FitsStack p e top.method below → move_by p e top below ≡ move.Opens (g ∷ gs) heap → length g.stack < stack_limit p g.method
+open_by p top below (effect.Opens place ls vs h) g gs heap le e =
+    let same : goes_on top place ls vs ≡ g = ap (frame_in top) e in
+    subst (λ (z : Activation). length z.stack < stack_limit p z.method) same le
+  where
+    frame_in : Activation → Move → Activation
+    frame_in d (move.Opens (f ∷ fs) h) = f
+    frame_in d m = d
+open_by p top below (effect.Goes place ls vs h) g gs heap le e = absurd (cc)
+open_by p top below (effect.Makes o place ls vs h) g gs heap le e = absurd (cc)
+open_by p top below (effect.Calls m args place ls vs h) g gs heap le e = absurd (not_called (nat_lt (length (goes_on top place ls vs ∷ below)) frame_limit) e)
+  where
+    not_called : (b : Bool) → cond b (move.Runs (Enters (receiver_of p m args)) (entered p m args ∷ goes_on top place ls vs ∷ below) h) (move.Ends cause.Depth) ≡ move.Opens (g ∷ gs) heap → ⊥
+    not_called true e = cc
+    not_called false e = cc
+open_by p top below (effect.Asks m args place ls vs h) g gs heap le e = absurd (cc)
+open_by p top below (effect.Returns v h) g gs heap le e = absurd (not_returned below e)
+  where
+    not_returned : (fs : List Activation) → returned v fs h ≡ move.Opens (g ∷ gs) heap → ⊥
+    not_returned [] e = cc
+    not_returned (f ∷ fs) e = cc
+open_by p top below (effect.Raises c) g gs heap le e = absurd (cc)
+open_by p top below (effect.Ends c) g gs heap le e = absurd (cc)
+open_by p top below effect.Stuck g gs heap le e = absurd (cc)
+
+-- behind an instruction that makes a mailbox there is room for its name
+pub opens_fit : (p : Program) (top : Activation) (below : List Activation) (h heap : Objects) (g : Activation) (gs : List Activation) → IsFine p top below h → moves p top below h ≡ move.Opens (g ∷ gs) heap → length g.stack < stack_limit p g.method
+unfolding moves
+opens_fit p top below h heap g gs fine e = open_by p top below (effect_of p top h) g gs heap fine.fits e

@@ -35,7 +35,7 @@ use Rattle.kilim_fiber_kin.proofs.Steps.{next_alive, lives}
 
 -- ---- the end of a thread
 
-ends_by : (why : EndCause) → is_tasks why ≡ false → end_wish why ≡ Some (ToEnd why)
+pub ends_by : (why : EndCause) → is_tasks why ≡ false → end_wish why ≡ Some (ToEnd why)
 ends_by cause.Tasks e = absurd (cc)
 ends_by why e = refl
 
@@ -78,7 +78,7 @@ module _ (live : Liveness) (set : Setting) (t : ℕ) (c : Course) (last : Lone) 
   -- ---- by the next instruction
 
   module _ (f : Held) (top : Activation) (below : List Activation) (frames : f.frames ≡ top ∷ below) (lt : f.done < set.limits.steps) (h : Holds set t f last) where
-    next_is : (m : Move) → moves set.program top below f.heap ≡ m → next_move set t (as_lone f) ≡ next_by set t (as_lone f) f.done f.boxes m
+    pub next_is : (m : Move) → moves set.program top below f.heap ≡ m → next_move set t (as_lone f) ≡ next_by set t (as_lone f) f.done f.boxes m
     next_is m e = next_alive set t (as_lone f) f.frames f.done f.boxes refl lt ∙ (ap (λ (z : List Activation). frames_next set t (as_lone f) z f.done f.boxes) frames ∙ ap (next_by set t (as_lone f) f.done f.boxes) e)
 
     pub instruction : (m : Move) → moves set.program top below f.heap ≡ m → is_making m ≡ false → Acts set t last (next_by set t (as_lone f) f.done f.boxes m)
