@@ -1,0 +1,4 @@
+pub mod Heights
+pub mod Natives
+pub mod Shown
+pub mod Fine
