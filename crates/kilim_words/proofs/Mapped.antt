@@ -1,0 +1,61 @@
+-- Words that are owned, and their bytes.
+use Rattle.std.proofs.Common.{◌≡◌, ℕ, ℤ, suc, Bool, ◌&&◌, nat_lt, nat_le, List, [], ◌∷◌, ◌++◌, Option, Some, None, true, false, cond, ◌+◌, ◌<◌, zero, slice_index_or, refl, sym, ap, subst, ◌∙◌, length, map, take, arith}
+use Rattle.std.specs.List.{list_all}
+use Rattle.kilim_words.specs.declared.options.Values.{Values}
+use Rattle.kilim_words.specs.Parts.{Tells}
+use Rattle.kilim_words.specs.Words.{Request, are_files, args_in, default_steps, is_file, is_option, main_in, main_option, most_steps, most_workers, number_or, run_of, run_with, steps_option, value_behind, value_or, values_of, workers_option}
+
+pub all_map : {A B : Type 0} (f : A → B) (test : B → Bool) (xs : List A) → list_all (λ x. test (f x)) xs ≡ list_all test (map f xs)
+all_map f test [] = refl
+all_map f test (x ∷ xs) = ap (λ b. test (f x) && b) (all_map f test xs)
+
+pub length_map : {A B : Type 0} (f : A → B) (xs : List A) → length (map f xs) ≡ length xs
+length_map f [] = refl
+length_map f (x ∷ xs) = ap suc (length_map f xs)
+
+-- the words that name files, as the code tests them
+pub are_words : {A : Type 0} (f : A → List ℕ) (xs : List A) → (nat_lt 0 (length xs) && (nat_le (length xs) 1000 && list_all (λ x. is_file (f x)) xs)) ≡ are_files (map f xs)
+are_words f xs =
+    ap (λ (n : ℕ). nat_lt 0 n && (nat_le n 1000 && list_all (λ x. is_file (f x)) xs)) (sym (length_map f xs))
+    ∙ ap (λ (b : Bool). nat_lt 0 (length (map f xs)) && (nat_le (length (map f xs)) 1000 && b)) (all_map f is_file xs)
+
+-- numbers that were read, before those behind them
+abbrev pub behind_ints : List ℤ → Option (List ℤ) → Option (List ℤ)
+behind_ints done None = None
+behind_ints done (Some others) = Some (done ++ others)
+
+-- ---- the values of an option, word by word
+
+values_more : (front : List ℕ) (ws : List (List ℕ)) (w : List ℕ) → values_of front (ws ++ w ∷ []) ≡ values_of front ws ++ value_or (value_behind front w) []
+values_more front [] w = refl
+values_more front (v ∷ ws) w = by (value_behind front v) (values_more front ws w)
+  where
+    by : (o : Option (List ℕ)) → values_of front (ws ++ w ∷ []) ≡ values_of front ws ++ value_or (value_behind front w) [] → value_or o (values_of front (ws ++ w ∷ [])) ≡ value_or o (values_of front ws) ++ value_or (value_behind front w) []
+    by None e = e
+    by (Some x) e = ap (λ (vs : List (List ℕ)). x ∷ vs) e
+
+take_map : {A B : Type 0} (f : A → B) (xs : List A) (i : ℕ) (x : A) → x ≡ slice_index_or xs i x → i < length xs → map f (take (i + 1) xs) ≡ map f (take i xs) ++ f x ∷ []
+take_map f [] i x is lt = absurd (omega (arith, lt))
+take_map {A} {B} f (y ∷ xs) zero x is lt = ap (λ (z : A). f z ∷ []) (sym is)
+take_map {A} {B} f (y ∷ xs) (suc i) x is lt = ap (λ (n : ℕ). map f (take n (y ∷ xs))) (let n : suc i + 1 ≡ suc (i + 1) = omega arith in n) ∙ ap (λ (zs : List B). f y ∷ zs) (take_map f xs i x is (omega (arith, lt)))
+
+pub values_on : {A : Type 0} (f : A → List ℕ) (front : List ℕ) (ws : List A) (i : ℕ) (w : A) (bytes : List ℕ) (found next : Values) → w ≡ slice_index_or ws i w → i < length ws → bytes ≡ f w →
+    ((vs : List (List ℕ)) → Tells found vs → Tells next (vs ++ value_or (value_behind front bytes) [])) → Tells found (values_of front (map f (take i ws))) → Tells next (values_of front (map f (take (i + 1) ws)))
+values_on f front ws i w bytes found next is lt same step told =
+    subst (λ (vs : List (List ℕ)). Tells next vs) (sym (ap (values_of front) (take_map f ws i w is lt) ∙ values_more front (map f (take i ws)) (f w)))
+    (subst (λ (b : List ℕ). Tells next (values_of front (map f (take i ws)) ++ value_or (value_behind front b) [])) same (step (values_of front (map f (take i ws))) told))
+
+-- ---- what `run` is asked
+
+abbrev asked_run : (options files behind : List (List ℕ)) → Option Request
+asked_run o f b = run_with f (main_in (values_of main_option o)) (number_or 1 most_workers (values_of workers_option o)) (number_or default_steps most_steps (values_of steps_option o)) (args_in b)
+
+pub run_refused : (o f b : List (List ℕ)) (z : Bool) → z ≡ (list_all is_option o && are_files f) → z ≡ false → None ≡ run_of o f b
+run_refused o f b z e n = sym (ap (λ (y : Bool). cond y (asked_run o f b) None) (sym e ∙ n))
+
+pub run_taken : (o f b : List (List ℕ)) (z : Bool) (r : Option Request) → z ≡ (list_all is_option o && are_files f) → z ≡ true → r ≡ asked_run o f b → r ≡ run_of o f b
+run_taken o f b z r e n s = s ∙ sym (ap (λ (y : Bool). cond y (asked_run o f b) None) (sym e ∙ n))
+
+pub with_same : (f : List (List ℕ)) (m m' : Option (List ℕ)) (w w' s s' : Option ℕ) (a a' : Option (List ℤ)) → m ≡ m' → w ≡ w' → s ≡ s' → a ≡ a' → run_with f m w s a ≡ run_with f m' w' s' a'
+with_same f m m' w w' s s' a a' p q r t =
+    ap (λ (x : Option (List ℕ)). run_with f x w s a) p ∙ (ap (λ (x : Option ℕ). run_with f m' x s a) q ∙ (ap (λ (x : Option ℕ). run_with f m' w' x a) r ∙ ap (λ (x : Option (List ℤ)). run_with f m' w' s' x) t))

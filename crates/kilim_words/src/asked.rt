@@ -1,0 +1,240 @@
+//! What the words ask for.
+
+ghost use Rattle.std.specs.Prelude.{◌≡◌, ◌≤◌, ◌<◌, ◌&&◌, true, nat_lt, nat_le, length, map, take, drop, IfOk, IfSome, codes};
+ghost use Rattle.std.specs.Option.{option_copied, option_map};
+ghost use Rattle.std.specs.List.{list_all};
+ghost use Rattle.std.specs.Str.{bytes_eq};
+ghost use Rattle.std.specs.String.{string_bytes};
+ghost use Rattle.kilim_words.specs.Parts.{meant};
+ghost use Rattle.kilim_words.specs.Words.{are_files, args_in, check_request, count_hyphened, count_plain, files_read, ints_of, is_file, is_hyphened, is_option, request_of, run_behind, run_of, run_request, run_with};
+
+use crate::numbers::int_of;
+use crate::options::{are_options, main_in, number_or};
+use kilim_units::{NoMemory, Seq};
+use std::alloc::Global;
+
+/// What `run` is given.
+#[derive(Drop)]
+pub struct RunWords<'a> {
+    /// The name of the main class.
+    pub main: &'a str,
+    /// From 1 to 16.
+    pub workers: u64,
+    /// The most instructions of each task.
+    pub steps: u64,
+    pub args: Seq<i32>,
+    pub files: &'a [String],
+}
+
+/// What the words ask for, as the words that were given.
+#[derive(Drop)]
+pub enum Asked<'a> {
+    /// To check these files.
+    Check(&'a [String]),
+    Run(RunWords<'a>),
+}
+
+impl Asked<'_> {
+    /// The words that name files.
+    pub fn files(&self) -> &[String]
+        ensures { map string_bytes result.now ≡ files_read (meant self.now) }
+    {
+        match self {
+            Asked::Check(files) => files,
+            Asked::Run(run) => run.files,
+        }
+    }
+}
+
+fn is_hyphened(word: &str) -> bool
+    ensures { result ≡ is_hyphened word.now }
+{
+    match word.as_bytes() {
+        [] => false,
+        [b, ..] => *b == b'-',
+    }
+}
+
+fn is_file(word: &str) -> bool
+    ensures { result ≡ is_file word.now }
+{
+    match word.as_bytes() {
+        [] => false,
+        [b, ..] => *b != b'-',
+    }
+}
+
+// How many words stand first that begin with a hyphen.
+fn count_hyphened(words: &[String]) -> usize
+    ensures count { result ≡ count_hyphened (map string_bytes words.now) }
+    ensures within { result ≤ length words.now }
+{
+    for (i, word) in words.iter().enumerate() {
+        if !is_hyphened(word.as_str()) {
+            return i;
+        }
+    }
+    words.len()
+}
+
+// How many words stand first that don't.
+fn count_plain(words: &[String]) -> usize
+    ensures count { result ≡ count_plain (map string_bytes words.now) }
+    ensures within { result ≤ length words.now }
+{
+    for (i, word) in words.iter().enumerate() {
+        if is_hyphened(word.as_str()) {
+            return i;
+        }
+    }
+    words.len()
+}
+
+fn all_files(files: &[String]) -> bool
+    ensures { result ≡ list_all (λ file. is_file (string_bytes file)) files.now }
+{
+    files.iter().all(|file| is_file(file.as_str()))
+}
+
+fn are_words(files: &[String]) -> bool
+    ensures few { result ≡ true → length files.now ≤ 1000 }
+    ensures are { result ≡ (nat_lt 0 (length files.now) && (nat_le (length files.now) 1000 && list_all (λ file. is_file (string_bytes file)) files.now)) }
+{
+    !files.is_empty() && files.len() <= 1000 && all_files(files)
+}
+
+#[tactic(auto, using(crate::proofs::Mapped::are_words))]
+fn are_files(files: &[String]) -> bool
+    ensures are { result ≡ are_files (map string_bytes files.now) }
+    ensures few { result ≡ true → length files.now ≤ 1000 }
+{
+    are_words(files)
+}
+
+fn ints_of(alloc: Global, words: &[String]) -> Result<Option<Seq<i32>>, NoMemory>
+    ensures { IfOk result (λ ints. ints ≡ ints_of (map string_bytes words.now)) }
+{
+    let mut ints = Vec::new(alloc);
+    for word in words {
+        match int_of(word.as_str()) {
+            Some(n) => ints.push(n)?,
+            None => return Ok(None),
+        }
+    }
+    Ok(Some(Seq::from_vec(ints)))
+}
+
+fn is_mark(word: &str) -> bool
+    ensures { result ≡ bytes_eq word.now (codes "--") }
+{
+    word == "--"
+}
+
+fn args_in(alloc: Global, words: &[String]) -> Result<Option<Seq<i32>>, NoMemory>
+    ensures { IfOk result (λ ints. ints ≡ args_in (map string_bytes words.now)) }
+{
+    match words {
+        [] => Ok(Some(Seq::new(alloc))),
+        [mark, words @ ..] => {
+            if is_mark(mark.as_str()) && words.len() <= 100 {
+                ints_of(alloc, words)
+            } else {
+                Ok(None)
+            }
+        }
+    }
+}
+
+fn check_request(files: &[String]) -> Option<Asked<'_>>
+    ensures few { IfSome result (λ asked. length (files_read (meant asked)) ≤ 1000) }
+    ensures request { option_map meant result ≡ check_request (map string_bytes files.now) }
+{
+    if are_files(files) {
+        Some(Asked::Check(files))
+    } else {
+        None
+    }
+}
+
+// Whether the options are well, and the files.
+fn are_well(options: &[String], files: &[String]) -> bool
+    ensures well { result ≡ (list_all is_option (map string_bytes options.now) && are_files (map string_bytes files.now)) }
+    ensures few { result ≡ true → length files.now ≤ 1000 }
+{
+    are_options(options) && are_files(files)
+}
+
+fn run_of<'a>(
+    alloc: Global,
+    options: &'a [String],
+    files: &'a [String],
+    behind: &'a [String],
+) -> Result<Option<Asked<'a>>, NoMemory>
+    ensures few { IfOk result (λ found. IfSome found (λ asked. length (files_read (meant asked)) ≤ 1000)) }
+    ensures request { IfOk result (λ found. option_map meant found ≡ run_of (map string_bytes options.now) (map string_bytes files.now) (map string_bytes behind.now)) }
+{
+    if !are_well(options, files) {
+        return Ok(None);
+    }
+    let main = main_in(options);
+    let workers = number_or(1, 16, "--workers=", options);
+    let steps = number_or(1000000, 100000000, "--steps=", options);
+    let args = args_in(alloc, behind)?;
+    Ok(run_with(files, main, workers, steps, args))
+}
+
+fn run_with<'a>(
+    files: &'a [String],
+    main: Option<&'a str>,
+    workers: Option<u64>,
+    steps: Option<u64>,
+    args: Option<Seq<i32>>,
+) -> Option<Asked<'a>>
+    ensures files { IfSome result (λ asked. files_read (meant asked) ≡ map string_bytes files.now) }
+    ensures request { option_map meant result ≡ run_with (map string_bytes files.now) (option_copied main.entry) workers steps args }
+{
+    match (main, workers, steps, args) {
+        (Some(main), Some(workers), Some(steps), Some(args)) => Some(Asked::Run(RunWords {
+            main,
+            workers,
+            steps,
+            args,
+            files,
+        })),
+        _ => None,
+    }
+}
+
+fn run_behind<'a>(
+    alloc: Global,
+    options: &'a [String],
+    others: &'a [String],
+) -> Result<Option<Asked<'a>>, NoMemory>
+    ensures few { IfOk result (λ found. IfSome found (λ asked. length (files_read (meant asked)) ≤ 1000)) }
+    ensures request { IfOk result (λ found. option_map meant found ≡ run_behind (map string_bytes options.now) (map string_bytes others.now)) }
+{
+    let (files, behind) = others.split_at(count_plain(others));
+    run_of(alloc, options, files, behind)
+}
+
+fn run_request<'a>(alloc: Global, words: &'a [String]) -> Result<Option<Asked<'a>>, NoMemory>
+    ensures few { IfOk result (λ found. IfSome found (λ asked. length (files_read (meant asked)) ≤ 1000)) }
+    ensures request { IfOk result (λ found. option_map meant found ≡ run_request (map string_bytes words.now)) }
+{
+    let (options, others) = words.split_at(count_hyphened(words));
+    run_behind(alloc, options, others)
+}
+
+/// What the words ask for, or nothing where they aren't in the grammar (specs/Words.antt). At most 1,000 files are named.
+///
+/// The error is want of memory alone.
+pub fn request<'a>(alloc: Global, words: &'a [String]) -> Result<Option<Asked<'a>>, NoMemory>
+    ensures few { IfOk result (λ found. IfSome found (λ asked. length (files_read (meant asked)) ≤ 1000)) }
+    ensures request { IfOk result (λ found. option_map meant found ≡ request_of (map string_bytes words.now)) }
+{
+    match words {
+        [command, rest @ ..] if command.as_str() == "check" => Ok(check_request(rest)),
+        [command, rest @ ..] if command.as_str() == "run" => run_request(alloc, rest),
+        _ => Ok(None),
+    }
+}

@@ -1,0 +1,8 @@
+//! The words of the command line.
+#![tactic(auto)]
+
+mod asked;
+mod numbers;
+mod options;
+
+pub use asked::{Asked, RunWords, request};
