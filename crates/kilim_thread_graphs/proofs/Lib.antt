@@ -1,0 +1,5 @@
+pub mod Places
+pub mod Typing
+pub mod Given
+pub mod Thread
+pub mod Beginning
