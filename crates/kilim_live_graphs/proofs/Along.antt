@@ -29,7 +29,7 @@ among_listed [] q a = absurd a
 among_listed (x ∷ xs) q (inl e) = (0, ap (λ z. Some (Some z)) e)
 among_listed (x ∷ xs) q (inr a) = let later = among_listed xs q a in (suc later.0, later.1)
 
-exit_among : (tos : List ℕ) (q : ℕ) → Has (exits_to tos) (Some q) → Among tos q
+pub exit_among : (tos : List ℕ) (q : ℕ) → Has (exits_to tos) (Some q) → Among tos q
 exit_among [] q (zero, e) = absurd (cc)
 exit_among [] q (suc k, e) = absurd (cc)
 exit_among (to ∷ tos) q (k, e) = listed_among (to ∷ tos) q k e
