@@ -1,0 +1,4 @@
+mod Shapes
+mod Nexts
+mod Deeds
+pub mod Runs
