@@ -28,7 +28,7 @@ use Rattle.kilim_graph_rows.proofs.Invoking.{values_h, params_fit, arguments_are
 use Rattle.kilim_graph_rows.proofs.Passed.{takes_passed, rule_passed, ok_is, further_passed}
 use Rattle.kilim_graph_rows.proofs.Plain.{IsStep, E, dropped}
 use Rattle.kilim_graph_rows.proofs.Reading.{slot_lives}
-use Rattle.kilim_graph_rows.proofs.Settle.{not_true, or_left, or_right, and_left, flow_slot}
+use Rattle.kilim_graph_rows.proofs.Settle.{not_true, or_left, or_right, and_left, and_right, flow_slot}
 use Rattle.kilim_graph_rows.proofs.Words.{class_of_h, cond_h, some_h, value_h}
 use Rattle.kilim_graph_rows.proofs.Words.{on_receiver_h, receiver_h, when_h}
 use Rattle.kilim_graph_rows.specs.Facts.{AreOf, ProgramKeeps, class_of}
@@ -302,16 +302,16 @@ module _ (p : Program) (k : ProgramKeeps p) (m : Method) (pl to : ℕ) (f f1 : T
           let b = rule_passed 4 (type.has_room m (result_types named.result ++ drop (length (arguments named ++ (Is (class_vtype named.owner) ∷ []))) f.stack)) _ f1 a.1 in
           (rule_passed 5 (all_meet p (arguments named ++ (Is (class_vtype named.owner) ∷ [])) f.stack) _ f1 b.1).1
 
-      passed_rules : (named.is_static ≡ false) × (special_fits p m id named ≡ true)
+      passed_rules : (named.is_static ≡ false) × (special_fits p m id named ≡ true) × (type.may_name m named.is_private named.owner ≡ true)
       passed_rules =
           let a = rule_passed 5 (true && all_meet p (type.also_own m named).operands f.stack) _ f1 special_needs in
           let b = rule_passed 8 ((not named.is_static && type.may_name m named.is_private named.owner) && true) _ f1 a.1 in
           let c = rule_passed 14 (special_fits p m id named && true) _ f1 b.1 in
-          (not_true named.is_static (and_left (not named.is_static) (type.may_name m named.is_private named.owner) (and_left (not named.is_static && type.may_name m named.is_private named.owner) true b.0)), and_left (special_fits p m id named) true c.0)
+          (not_true named.is_static (and_left (not named.is_static) (type.may_name m named.is_private named.owner) (and_left (not named.is_static && type.may_name m named.is_private named.owner) true b.0)), and_left (special_fits p m id named) true c.0, and_right (not named.is_static) (type.may_name m named.is_private named.owner) (and_left (not named.is_static && type.may_name m named.is_private named.owner) true b.0))
 
       special_left : EI (instr.Invokespecial id) (calls_method (method_at p (special p m named id)) (special p m named id) (r ∷ reverse vs) to ls rest h)
       special_left =
-          let w = k.choose.specials m id named is passed_rules.0 plain passed_rules.1 in
+          let w = k.choose.specials m id named is passed_rules.0 plain passed_rules.2 passed_rules.1 in
           subst (λ z. EI (instr.Invokespecial id) (calls_method z (special p m named id) (r ∷ reverse vs) to ls rest h)) (sym w.1)
           (instance_left p k m pl to f f1 g g1 at h ls st below after (instr.Invokespecial id) s special_edge named (k.sized id named is) (special_deed named is) passed_rules.0 vs r rest e size plain special_taken.0 special_taken.1 w.0 (special p m named id) w.1 w.2)
 

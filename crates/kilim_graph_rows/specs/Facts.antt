@@ -31,7 +31,7 @@ use Rattle.kilim_classes.specs.Lengths.{fetched, is_primitive, is_reference}
 use Rattle.kilim_program.specs.Does.{does, chosen, special}
 use Rattle.kilim_program.specs.Shapes.{field_in}
 use Rattle.kilim_program.specs.Objects.{new_object}
-use Rattle.kilim_typing.specs.Step.{Types, is_long, peek, special_fits, superclass_at, type_step, vtype}
+use Rattle.kilim_typing.specs.Step.{Types, is_long, may_name, peek, special_fits, superclass_at, type_step, vtype}
 use Rattle.kilim_typing.specs.Typed.{edges}
 use Rattle.kilim_forest.specs.Heap.{Below, IsForest}
 use Rattle.kilim_forest.specs.Relation.{Label, Names, Root}
@@ -61,7 +61,7 @@ pub record Agrees (p : Program) (named callee : Method) : Type 0 where
 pub record ChoosesWell (p : Program) : Type 0 where
   pub selects : (id : MethodId) (named : Method) → method_at p id ≡ Some named → named.is_static ≡ false → is_constructor named ≡ false → (c : Ty) →
       fits_type p c (class_type named.owner.0) ≡ true → (callee : Method) × (method_at p (chosen p named id c) ≡ Some callee) × Agrees p named callee
-  pub specials : (own : Method) (id : MethodId) (named : Method) → method_at p id ≡ Some named → named.is_static ≡ false → is_constructor named ≡ false → special_fits p own id named ≡ true →
+  pub specials : (own : Method) (id : MethodId) (named : Method) → method_at p id ≡ Some named → named.is_static ≡ false → is_constructor named ≡ false → may_name own named.is_private named.owner ≡ true → special_fits p own id named ≡ true →
       (callee : Method) × (method_at p (special p own named id) ≡ Some callee) × Agrees p named callee
 
 -- the element of an array of trees is taken out of it
