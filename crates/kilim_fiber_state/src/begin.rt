@@ -1,0 +1,108 @@
+//! The frames with which a task begins.
+
+ghost use Rattle.std.specs.Prelude.{◌≡◌, ◌∷◌, [], codes, Some, IfOk};
+ghost use Rattle.kilim_classes.specs.Names.{methods_of};
+ghost use Rattle.kilim_classes.specs.declared.value.Value.TheVariants.{Ref};
+ghost use Rattle.kilim_program.specs.Members.{is_task_execute, is_plain_method, execute_of, constructor_of};
+ghost use Rattle.kilim_program.specs.Moves.{entered};
+ghost use Rattle.kilim_thread_model.specs.State.{begun_on};
+ghost use Rattle.kilim_frames.specs.Calls.{calls_of};
+ghost use Rattle.kilim_jvm_interp.specs.Step.{AreRoomy};
+ghost use Rattle.kilim_fiber_state.specs.Body.{calls_in, RoomyIn};
+
+use kilim_classes::{ClassId, Method, MethodId, Program, Value};
+use kilim_frames::{Callers, Frames};
+use kilim_jvm_interp::new_frame;
+use kilim_lookups::{class_at, method_at, selected};
+use kilim_units::NoMemory;
+use std::alloc::Global;
+
+fn is_task_execute(method: &Method) -> bool
+    ensures { result ≡ is_task_execute method.now }
+{
+    method.built_in && method.name.is_text(b"execute")
+}
+
+/// The method `execute` that objects of a class have.
+pub fn execute_of(program: &Program, class: ClassId) -> Option<MethodId>
+    ensures { result ≡ execute_of program.now class }
+{
+    for method in program.methods.as_slice() {
+        if is_task_execute(method) {
+            return selected(program, class, method);
+        }
+    }
+    None
+}
+
+fn is_plain_constructor(program: &Program, id: MethodId) -> bool
+    ensures { result ≡ is_plain_method program.now (codes "<init>") id }
+{
+    match method_at(program, id) {
+        Some(method) => {
+            method.name.is_text(b"<init>") && method.params.is_empty() && method.result.is_none()
+        }
+        None => false,
+    }
+}
+
+fn methods_of(program: &Program, class: ClassId) -> &[MethodId]
+    ensures { result.now ≡ methods_of program.now class }
+{
+    match class_at(program, class) {
+        Some(found) => found.methods.as_slice(),
+        None => &[],
+    }
+}
+
+/// The constructor without arguments that a class declares.
+pub fn constructor_of(program: &Program, class: ClassId) -> Option<MethodId>
+    ensures { result ≡ constructor_of program.now class }
+{
+    for id in methods_of(program, class) {
+        if is_plain_constructor(program, *id) {
+            return Some(*id);
+        }
+    }
+    None
+}
+
+// The frames with which a method with code begins on an object.
+fn frames_of(alloc: Global, program: &Program, id: MethodId, name: u32) -> Result<Frames, NoMemory>
+    ensures frames { IfOk result (λ frames. calls_of frames ≡ entered program.now id (Ref name ∷ []) ∷ []) }
+    ensures roomy { IfOk result (λ frames. AreRoomy program.now frames) }
+{
+    let mut args = Vec::new(alloc);
+    args.push(Value::Ref(name))?;
+    let top = new_frame(alloc, program, id, args)?;
+    Ok(Frames {
+        top,
+        below: Callers::new(alloc),
+        operands: 0,
+        next: 0,
+    })
+}
+
+/// The frames with which a method begins on an object: none where it is built in. Where there is no method, which no
+/// verified program meets, the answer is want of memory.
+pub fn begun_on(
+    alloc: Global,
+    program: &Program,
+    id: Option<MethodId>,
+    name: u32,
+) -> Result<Option<Frames>, NoMemory>
+    ensures frames { IfOk result (λ frames. begun_on program.now id name ≡ Some (calls_in frames)) }
+    ensures roomy { IfOk result (λ frames. RoomyIn program.now frames) }
+{
+    let Some(id) = id else {
+        return Err(NoMemory);
+    };
+    let Some(method) = method_at(program, id) else {
+        return Err(NoMemory);
+    };
+    if method.built_in {
+        return Ok(None);
+    }
+    let frames = frames_of(alloc, program, id, name)?;
+    Ok(Some(frames))
+}

@@ -1,0 +1,16 @@
+//! Fibers that pause in place: a task on a heap of its own, which keeps its frames while it rests.
+#![tactic(auto)]
+
+mod asks;
+mod begin;
+mod births;
+mod body;
+mod code;
+mod copies;
+mod fiber;
+mod gifts;
+mod natives;
+mod pass;
+
+pub use code::Code;
+pub use fiber::Fiber;
