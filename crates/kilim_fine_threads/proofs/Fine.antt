@@ -1,6 +1,6 @@
 -- A thread that fits is fine.
-use Rattle.std.proofs.Common.{◌≡◌, ℕ, zero, suc, ◌+◌, ◌<◌, ◌≤◌, Bool, true, false, cond, eqb, List, [], ◌∷◌, length, Option, Some, None, refl, sym, ap, subst, ◌∙◌, arith}
-use Rattle.std.specs.Prelude.{◌&&◌, ◌||◌, is_some, nat_lt, codes}
+use Rattle.std.proofs.Common.{◌≡◌, ℕ, ◌+◌, ◌<◌, ◌≤◌, Bool, true, false, cond, eqb, List, [], ◌∷◌, length, Option, Some, None, refl, sym, ap, subst, ◌∙◌, arith}
+use Rattle.std.specs.Prelude.{◌||◌, is_some, nat_lt, codes}
 use Rattle.std.proofs.lemmas.Bool.{and_parts}
 use Rattle.kilim_classes.specs.declared.class.Method.{Method}
 use Rattle.kilim_classes.specs.declared.instr.Instr.{Instr}
@@ -12,7 +12,6 @@ use Rattle.kilim_classes.specs.Lengths.{fetched, first_place, is_code_place}
 use Rattle.kilim_classes.specs.Names.{method_at}
 use Rattle.kilim_classes.specs.Program.{Program}
 use Rattle.kilim_program.specs.declared.cause.EndCause.TheVariants as cause
-use Rattle.kilim_program.specs.Does.{does}
 use Rattle.kilim_program.specs.Effect.{Effect, named_type}
 use Rattle.kilim_program.specs.Effect as effect
 use Rattle.kilim_program.specs.Machine.{Objects, Activation}
@@ -20,23 +19,19 @@ use Rattle.kilim_program.specs.Moves.{effect_in, effect_found, effect_of, entere
 use Rattle.kilim_program.specs.Moves as move
 use Rattle.kilim_program.specs.Natives.{Native, native_of}
 use Rattle.kilim_program.specs.Natives as native
-use Rattle.kilim_rows.specs.Outcome.{height, is_stuck}
-use Rattle.kilim_typing.specs.Step.{Types, made_at, made_by, result_types, vtype, words}
-use Rattle.kilim_typing.specs.Typed.{has_code}
+use Rattle.kilim_rows.specs.Outcome.{is_stuck}
+use Rattle.kilim_typing.specs.Step.{Types, made_at, made_by, result_types, words}
 use Rattle.kilim_jvm_interp.specs.Step.{CallerFits, FitsStack, limit_in, stack_limit}
 use Rattle.kilim_jvm_interp.specs.Run.{IsFine}
-use Rattle.kilim_thread_model.specs.State.{Setting, Thread, Alive, Ended}
-use Rattle.kilim_thread_model.specs.Lone.{Lone}
-use Rattle.kilim_fits.specs.Facts.{Facts}
-use Rattle.kilim_fits.specs.Fits.{Classes, Typing, Wanted, Awaited, AReference, AValue, BelowFit, FrameFits, Fits, AreThere, HeapFits, Nothing, StackFits, Verified, has_type, have_types, result_awaited, result_of}
-use Rattle.kilim_fits.specs.Sound.{EffectFits, GoesOn, NativeFits}
-use Rattle.kilim_fits.proofs.FromKeeps.{all_at}
+use Rattle.kilim_thread_model.specs.State.{Setting, Thread, Alive}
+use Rattle.kilim_fits.specs.Fits.{Classes, Typing, Wanted, Awaited, AReference, AValue, BelowFit, FrameFits, Fits, AreThere, HeapFits, Nothing, StackFits, has_type, have_types, result_awaited, result_of}
+use Rattle.kilim_fits.specs.Sound.{EffectFits, GoesOn}
 use Rattle.kilim_fits.proofs.Grounds.{facts_hold}
 use Rattle.kilim_fits.proofs.Narrowed.{narrows}
 use Rattle.kilim_fits.proofs.Table.{table_fits}
-use Rattle.kilim_fits.proofs.Walk.{Stands, later, stands_at}
-use Rattle.kilim_fiber_kin.specs.Served.{HasRoom, IsFineThread, ResultFits, gives_value}
-use Rattle.kilim_fine_threads.specs.Typed.{FitsAs, IsVerified, StackIsThere, TopIsThere, frames_of}
+use Rattle.kilim_fits.proofs.Walk.{Stands, stands_at}
+use Rattle.kilim_fiber_kin.specs.Served.{ResultFits, gives_value}
+use Rattle.kilim_fine_threads.specs.Typed.{IsVerified, TopIsThere, frames_of}
 use Rattle.kilim_fine_threads.specs.Law.{FittingIsFine}
 use Rattle.kilim_fine_threads.proofs.Heights.{low_stack, some_size, step_low}
 use Rattle.kilim_fine_threads.proofs.Natives.{first, gives, native_gives}

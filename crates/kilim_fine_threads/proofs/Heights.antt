@@ -1,7 +1,7 @@
 -- No frame of a well-typed method has more words on its stack than the method may have there.
-use Rattle.std.proofs.Common.{◌≡◌, ℕ, zero, suc, ◌+◌, ◌<◌, ◌≤◌, Bool, true, false, ◌||◌, ◌&&◌, cond, eqb, refl, ap, sym, subst, ◌∙◌, arith, List, [], ◌∷◌, ◌++◌, length, drop, reverse, Option, Some, None, Result, Ok, Err}
+use Rattle.std.proofs.Common.{◌≡◌, ℕ, zero, suc, ◌+◌, ◌≤◌, Bool, true, false, ◌||◌, cond, eqb, refl, ap, sym, subst, arith, List, [], ◌∷◌, ◌++◌, length, drop, reverse, Option, Some, None, Result, Ok, Err}
 use mathlib.Core.List.{reverse_aux}
-use Rattle.std.specs.Prelude.{nat_le, if◌then◌else◌}
+use Rattle.std.specs.Prelude.{nat_le}
 use Rattle.std.specs.List.{list_all}
 use Rattle.std.proofs.lemmas.Bool.{and_parts, eqb-true, leb-true}
 use Rattle.kilim_classes.specs.declared.class.Method.{Method}
@@ -15,7 +15,7 @@ use Rattle.kilim_classes.specs.Program.{Program}
 use Rattle.kilim_typing.specs.Step.{Types, Operand, Row, Takes, Element, Shuffles, Loads, Stores, Adds, Makes, Constructs, Leaves, Further, Form, form_adds, has_room, is_same, one_replaced, peek, pushed, size, replaced, stored, class_vtype, by_row, row, with_stack, with_element, element, shuffled, store, constructed, words}
 use Rattle.kilim_typing.specs.Typed.{Here, TypedBy, WellTypedBy, declared, entry, frame_fits, frame_in, frame_types, goes_on}
 use Rattle.kilim_typing_laws.proofs.Tops.{passed, past}
-use Rattle.kilim_woven_types.proofs.Crux.{Firm, FirmRow}
+use Rattle.kilim_woven_types.proofs.Crux.{FirmRow}
 use Rattle.kilim_woven_types.proofs.Forms.{shuffled_words, words_append}
 use Rattle.kilim_woven_types.proofs.Old.{firm_row}
 

@@ -1,5 +1,5 @@
 -- Threads whose frames and heap fit the frames of verification.
-use Rattle.std.specs.Prelude.{◌≡◌, ◌≤◌, ℕ, List, [], ◌∷◌, Option, Some, None}
+use Rattle.std.specs.Prelude.{◌≡◌, ◌≤◌, ℕ, List, [], ◌∷◌, Some, None}
 use Rattle.kilim_classes.specs.declared.class.Form.TheVariants.{Plain}
 use Rattle.kilim_classes.specs.BuiltIn.{class_type}
 use Rattle.kilim_classes.specs.Keeps.{Keeps}

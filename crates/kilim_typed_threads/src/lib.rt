@@ -1,0 +1,8 @@
+//! Threads of verified code go on fitting: laws about definitions of typing and of the machine. No program calls them to do work.
+#![tactic(auto)]
+
+mod laws;
+
+pub use laws::{
+    beginnings_are_typed, deeds_stay_typed, kept_are_fine, moves_stay_typed, threads_are_typed,
+};
