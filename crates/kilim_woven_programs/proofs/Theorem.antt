@@ -371,7 +371,7 @@ module _ (P W : Program) (counted : List (List Bool)) (keeps : Keeps P) (plainly
   itself_too (Uninit q) = eq-eqb q q refl
   itself_too (Object ty) = itself P keeps ty
 
-  code_at : (id : MethodId) (m : Method) → method_at P id ≡ Some m → code_stands 0 m.code m.code_length ≡ true
+  pub code_at : (id : MethodId) (m : Method) → method_at P id ≡ Some m → code_stands 0 m.code m.code_length ≡ true
   unfolding code_is_whole
   code_at id m at = (and_parts (code_stands 0 m.code m.code_length) _ (all_at code_is_whole P.methods id.0 m keeps.code at)).0
 
@@ -455,8 +455,9 @@ module _ (P W : Program) (counted : List (List Bool)) (keeps : Keeps P) (plainly
     unset_none live new block [] h = tt
     unset_none live new block (e ∷ es) h = (λ callee n. let s = h.0 callee n in record { stack = s.0; locals = s.1 }, unset_none live new block es h.1)
 
-    with_calls : (v : Method) (marks : List Bool) → m.pausable ≡ true → (w : woven_as true true P m v marks) → WellTyped W v × (v.code_length ≤ weight P m)
-    with_calls v marks is w =
+    -- what the law of one method asks
+    pub weaving_of : (v : Method) (marks : List Bool) → m.pausable ≡ true → (w : woven_as true true P m v marks) → Weaving (plan_of P m w.0 w.1 w.2) W v
+    weaving_of v marks is w =
         let x = plan_of P m w.0 w.1 w.2 in
         let by = w.4 in
         let e = by.method in
@@ -476,7 +477,7 @@ module _ (P W : Program) (counted : List (List Bool)) (keeps : Keeps P) (plainly
           result = ap (λ (z : Method). z.result) e;
           is_static = ap (λ (z : Method). z.is_static) e;
         } in
-        let weaving : Weaving x W v = record {
+        record {
           typed = by_place P m (whole_code m (code_at id m at)).grows old;
           live = w.3;
           initialized = unset_none w.0 w.1 w.2 m.code (pauses.across id m at);
@@ -491,8 +492,10 @@ module _ (P W : Program) (counted : List (List Bool)) (keeps : Keeps P) (plainly
           members = members;
           woven = parts;
           differ = by.differ;
-        } in
-        proved x W v weaving
+        }
+
+    with_calls : (v : Method) (marks : List Bool) → m.pausable ≡ true → (w : woven_as true true P m v marks) → WellTyped W v × (v.code_length ≤ weight P m)
+    with_calls v marks is w = proved (plan_of P m w.0 w.1 w.2) W v (weaving_of v marks is w)
 
   -- ---- all of them
 

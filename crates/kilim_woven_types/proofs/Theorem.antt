@@ -84,10 +84,10 @@ module _ (x : Plan) (W : Program) (w : Method) (v : Weaving x W w) where
         targets = targets x w (Some (entry x.method)) v.typed.walk v.typed.frames m.0;
       }
 
-  frames_sane : AllSane (new_places x.method) x.program x.method v.plain (λ q. refl) x.typing x.method.code
+  pub frames_sane : AllSane (new_places x.method) x.program x.method v.plain (λ q. refl) x.typing x.method.code
   frames_sane = all_frames (new_places x.method) x v.plain (λ q. refl) v.typed.frames v.typed.arguments v.typed.walk v.casts (news x.program x.method v.plain (whole_code x.method v.code).grows)
 
-  facts : Facts x x.method.code
+  pub facts : Facts x x.method.code
   facts = all_facts (new_places x.method) x v.plain (λ q. refl) frames_sane v.live (whole_code x.method v.code).grows v.initialized
 
   call_sizes : (e : ℕ × Instr) (to : ℕ) (g : Types) → PlaceFacts x e to → (callee : Method) → pausable_callee x.program e.1 ≡ Some callee → Rattle.kilim_typing.specs.Step.type_step x.program x.method e.0 e.1 (x.typing e.0) ≡ Rattle.std.specs.Prelude.Ok g →

@@ -1,0 +1,4 @@
+pub mod FromTypes
+pub mod Lengths
+pub mod Items
+pub mod Whole

@@ -1,0 +1,31 @@
+-- What the methods of a woven program keep.
+use Rattle.std.specs.Prelude.{◌≡◌, ℕ, ◌≤◌, Bool, true, List, Some}
+use Rattle.std.specs.List.{list_all}
+use Rattle.kilim_classes.specs.declared.class.Form.TheVariants.{Plain}
+use Rattle.kilim_classes.specs.declared.class.Method.{Method}
+use Rattle.kilim_classes.specs.declared.names.MethodId.{MethodId}
+use Rattle.kilim_classes.specs.Keeps.{Keeps, code_is_whole}
+use Rattle.kilim_classes.specs.Names.{is_empty, method_at}
+use Rattle.kilim_classes.specs.Program.{Program}
+use Rattle.kilim_typing.specs.Typed.{IsWellTyped}
+use Rattle.kilim_woven_form.specs.Form.{WovenForm, has_calls}
+use Rattle.kilim_woven_form.specs.Weight.{weight}
+use Rattle.kilim_woven_programs.specs.Law.{KeepsPauses}
+
+-- the greatest length of code in which each jump of two bytes reaches each place (JVMS 4.9.1)
+unfoldable pub reach : ℕ
+reach = 32767
+
+-- no method with pausable calls is too long to be woven
+abbrev pub NoneIsTooLong : Program → Type 0
+NoneIsTooLong p = (id : MethodId) (m : Method) → method_at p id ≡ Some m → m.pausable ≡ true → has_calls p m ≡ true → weight p m ≤ reach
+
+-- Each method's code is whole: lengths are those of instructions, targets are places, and control doesn't go on past the end. None
+-- has an exception table.
+pub record MethodsKeep (w : Program) : Type 0 where
+  pub code : list_all code_is_whole w.methods ≡ true
+  pub handlers : list_all (λ m. is_empty m.handlers) w.methods ≡ true
+
+abbrev pub WovenMethodsKeep : Type 0
+WovenMethodsKeep =
+    (p w : Program) (counted : List (List Bool)) → Keeps p → p.form ≡ Plain → IsWellTyped p → KeepsPauses p → NoneIsTooLong p → WovenForm p w counted → MethodsKeep w
