@@ -52,7 +52,7 @@ base_back ty base.Short e = absurd (cc)
 base_back ty base.Int e = absurd (cc)
 base_back ty base.Long e = absurd (cc)
 
-dims_back : (ty : Ty) (d : ℕ) → is_object (dims_vtype ty d) ≡ true → is_reference_type d ty.base ≡ true
+pub dims_back : (ty : Ty) (d : ℕ) → is_object (dims_vtype ty d) ≡ true → is_reference_type d ty.base ≡ true
 dims_back ty zero e = base_back ty ty.base e
 dims_back ty (suc d) e = refl
 

@@ -1,4 +1,5 @@
 pub mod FromTypes
 pub mod Lengths
 pub mod Items
+pub mod Frames
 pub mod Whole

@@ -1,6 +1,13 @@
 -- The code of each woven method is whole.
-use Rattle.std.proofs.Common.{◌≡◌, ℕ, suc, ◌+◌, ◌-◌, ◌≤◌, Bool, true, false, eqb, not, List, [], ◌∷◌, Some, refl, sym, ap, subst, ◌∙◌, arith, eq-eqb, eqb-true, le-leb}
-use Rattle.std.specs.Prelude.{◌||◌, is_some, nat_lt, slice_get}
+use Rattle.kilim_woven_keeps.proofs.Frames.{fits_proper, in_order}
+use Rattle.kilim_woven_types.proofs.Codes.{whole_code}
+use Rattle.kilim_woven_types.proofs.Laying.{Grows, items_sound}
+use Rattle.kilim_classes.specs.declared.ty.Qualifier.TheVariants.{Safe}
+use Rattle.kilim_classes.specs.declared.ty.Ty.{Ty}
+use Rattle.std.proofs.lemmas.List.Sums.{sum_by-append}
+use Rattle.std.specs.Str.{bytes_eq}
+use Rattle.std.proofs.Common.{◌≡◌, ℕ, suc, ◌+◌, ◌-◌, ◌≤◌, Bool, true, false, eqb, not, List, [], ◌∷◌, Some, refl, sym, ap, subst, ◌∙◌, arith, eq-eqb, eqb-true, le-leb, cond, length, length-append, ◌++◌}
+use Rattle.std.specs.Prelude.{◌&&◌, ◌||◌, is_some, nat_lt, slice_get, sum_by, codes, nat_le}
 use Rattle.std.specs.List.{list_all}
 use Rattle.std.proofs.lemmas.Bool.{and_parts, and_from}
 use Rattle.kilim_classes.specs.declared.class.Form.TheVariants.{Plain, Woven}
@@ -10,24 +17,24 @@ use Rattle.kilim_classes.specs.declared.names.MethodId.{MethodId}
 use Rattle.kilim_classes.specs.declared.verified.VType.{VType}
 use Rattle.kilim_classes.specs.declared.verified.VType.TheVariants.{Top, Int, Long, Null, UninitThis, Uninit, Object}
 use Rattle.kilim_classes.specs.BuiltIn.{fiber_methods, method_id}
-use Rattle.kilim_classes.specs.Keeps.{Keeps, code_is_whole}
-use Rattle.kilim_classes.specs.Lengths.{code_ends, code_stands, first_place, has_length, is_code_place, jump_targets, targets_stand}
+use Rattle.kilim_classes.specs.Keeps.{Keeps, code_is_whole, frame_is_proper, frames_are_proper, method_is_sound}
+use Rattle.kilim_classes.specs.Lengths.{code_ends, code_stands, first_place, has_length, is_code_place, jump_targets, targets_stand, places_increase}
 use Rattle.kilim_classes.specs.Names.{is_empty, method_at}
 use Rattle.kilim_classes.specs.Program.{Program}
-use Rattle.kilim_classes.specs.Same.{is_constructor}
+use Rattle.kilim_classes.specs.Same.{is_constructor, argument_slots, type_slots}
 use Rattle.kilim_typing.specs.Step.{made_at, peek}
-use Rattle.kilim_typing.specs.Typed.{IsWellTyped}
+use Rattle.kilim_typing.specs.Typed.{IsWellTyped, frame_fits}
 use Rattle.kilim_woven_form.specs.Form.{AllWoven, IsWoven, WovenForm, first_class, has_calls, plan_of, woven_as}
 use Rattle.kilim_woven_form.specs.Weight.{calls_in}
-use Rattle.kilim_woven_form.specs.Woven.{Plan, Item, Mark, Does, behind, lay, woven_items}
+use Rattle.kilim_woven_form.specs.Woven.{Plan, Item, Mark, Does, behind, lay, woven_items, fiber_ty}
 use Rattle.kilim_woven_types.specs.Theorem.{Weaving}
-use Rattle.kilim_woven_types.proofs.OldFacts.{AllSane}
+use Rattle.kilim_woven_types.proofs.OldFacts.{AllSane, GrowsTo}
 use Rattle.kilim_woven_types.proofs.Sane.{sane, sane_item}
 use Rattle.kilim_woven_types.proofs.Theorem.{frames_sane, proved}
 use Rattle.kilim_fits.proofs.FromKeeps.{all_at}
 use Rattle.kilim_woven_programs.specs.Law.{KeepsPauses}
 use Rattle.kilim_woven_programs.proofs.Theorem.{weaving_of}
-use Rattle.kilim_woven_keeps.specs.Law.{MethodsKeep, NoneIsTooLong, WovenMethodsKeep, reach}
+use Rattle.kilim_woven_keeps.specs.Law.{MethodsKeep, NoneIsTooLong, WovenMethodsKeep, reach, NoneIsFull}
 use Rattle.kilim_woven_keeps.proofs.FromTypes.{typed_ends, typed_targets}
 use Rattle.kilim_woven_keeps.proofs.Items.{AllFit, AllReady, items_fit, okay}
 use Rattle.kilim_woven_keeps.proofs.Lengths.{near}
@@ -137,7 +144,23 @@ fiber_code n = refl
 fiber_handlers : (n : ℕ) → list_all (λ m. is_empty m.handlers) (fiber_methods Woven n) ≡ true
 fiber_handlers n = refl
 
-module _ (P W : Program) (counted : List (List Bool)) (keeps : Keeps P) (plainly : P.form ≡ Plain) (typed : IsWellTyped P) (pauses : KeepsPauses P) (short : NoneIsTooLong P) (form : WovenForm P W counted) where
+fiber_frames : (n : ℕ) → list_all (λ m. places_increase m.frames) (fiber_methods Woven n) ≡ true
+unfolding places_increase
+fiber_frames n = refl
+
+fiber_types : (n : ℕ) → list_all frames_are_proper (fiber_methods Woven n) ≡ true
+unfolding frames_are_proper
+fiber_types n = refl
+
+fiber_sound : (n : ℕ) → list_all method_is_sound (fiber_methods Woven n) ≡ true
+unfolding method_is_sound
+fiber_sound n = refl
+
+same_grows : (x : Plan) (w : Method) (es : List (ℕ × Instr)) → GrowsTo x.method.code_length es → Grows x w es
+same_grows x w [] g = tt
+same_grows x w (e ∷ es) g = (g.0, same_grows x w es g.1)
+
+module _ (P W : Program) (counted : List (List Bool)) (keeps : Keeps P) (plainly : P.form ≡ Plain) (typed : IsWellTyped P) (pauses : KeepsPauses P) (short : NoneIsTooLong P) (few : NoneIsFull P) (form : WovenForm P W counted) where
   has_some : (es : List (ℕ × Instr)) → nat_lt 0 (calls_in P es) ≡ true → not (is_empty es) ≡ true
   has_some [] e = absurd (cc)
   has_some (x ∷ es) e = refl
@@ -157,6 +180,49 @@ module _ (P W : Program) (counted : List (List Bool)) (keeps : Keeps P) (plainly
   handlers_case id a b marks true false at w = ap (λ (m : Method). is_empty m.handlers) w.0 ∙ all_at (λ m. is_empty m.handlers) P.methods id.0 a keeps.handlers at
   handlers_case id a b marks true true at w = ap (λ (m : Method). is_empty m.handlers) w.4.method ∙ all_at (λ m. is_empty m.handlers) P.methods id.0 a keeps.handlers at
 
+  frames_case : (id : MethodId) (a b : Method) (marks : List Bool) (z calls : Bool) → method_at P id ≡ Some a → a.pausable ≡ z → has_calls P a ≡ calls → woven_as z calls P a b marks → places_increase b.frames ≡ true
+  frames_case id a b marks false calls at is c w = ap (λ (m : Method). places_increase m.frames) w.0 ∙ all_at (λ m. places_increase m.frames) P.methods id.0 a keeps.frames at
+  frames_case id a b marks true false at is c w = ap (λ (m : Method). places_increase m.frames) w.0 ∙ all_at (λ m. places_increase m.frames) P.methods id.0 a keeps.frames at
+  frames_case id a b marks true true at is c w =
+      let x = plan_of P a w.0 w.1 w.2 in
+      let v = weaving_of P W counted keeps plainly form typed pauses id a at (has_some a.code c) b marks is w in
+      let order = same_grows x b a.code (whole_code a v.code).grows in
+      ap places_increase v.woven.frames ∙ in_order false (woven_items x) 0 (items_sound x b order)
+
+  types_case : (id : MethodId) (a b : Method) (marks : List Bool) (z calls : Bool) → method_at P id ≡ Some a → a.pausable ≡ z → has_calls P a ≡ calls → woven_as z calls P a b marks → frames_are_proper b ≡ true
+  unfolding frames_are_proper
+  types_case id a b marks false calls at is c w = ap frames_are_proper w.0 ∙ all_at frames_are_proper P.methods id.0 a keeps.frame_types at
+  types_case id a b marks true false at is c w = ap frames_are_proper w.0 ∙ all_at frames_are_proper P.methods id.0 a keeps.frame_types at
+  types_case id a b marks true true at is c w =
+      let v = weaving_of P W counted keeps plainly form typed pauses id a at (has_some a.code c) b marks is w in
+      all_kept (frame_fits b) (λ e. frame_is_proper e.1) (fits_proper b) b.frames ((proved (plan_of P a w.0 w.1 w.2) W b v).0).frames
+
+  sound_with : (a : Method) → method_is_sound a ≡ true → argument_slots a ≤ 254 → (b : Method) → b.qualifiers ≡ a.qualifiers ++ Safe ∷ [] → b.params ≡ a.params ++ fiber_ty P ∷ [] → b.is_static ≡ a.is_static → b.name ≡ a.name → b.pausable ≡ a.pausable → method_is_sound b ≡ true
+  unfolding method_is_sound
+  sound_with a h most b qs ps st name pausable =
+      let p = and_parts (eqb (length a.qualifiers) (length a.params)) _ h in
+      let q = and_parts (nat_le (argument_slots a) 255) _ p.1 in
+      let e1 = ap length qs in
+      let e2 = ap length ps in
+      let l1 = length-append a.qualifiers (Safe ∷ []) in
+      let l2 = length-append a.params (fiber_ty P ∷ []) in
+      let same = eqb-true (length a.qualifiers) (length a.params) p.0 in
+      let s1 = ap (λ (ts : List Ty). (cond b.is_static 0 1) + sum_by type_slots ts) ps in
+      let s2 = ap (λ (z : Bool). (cond z 0 1) + sum_by type_slots (a.params ++ fiber_ty P ∷ [])) st in
+      let s3 = sum_by-append type_slots a.params (fiber_ty P ∷ []) in
+      let s4 : sum_by type_slots (fiber_ty P ∷ []) ≡ 1 = refl in
+      and_from (eqb (length b.qualifiers) (length b.params)) _ (eq-eqb (length b.qualifiers) (length b.params) (omega (arith, e1, e2, l1, l2, same)))
+      (and_from (nat_le (argument_slots b) 255) _ (le-leb (argument_slots b) 255 (omega (arith, s1, s2, s3, s4, most)))
+      (ap (λ (n : List ℕ). not (bytes_eq n (codes "<init>") && b.pausable)) name ∙ (ap (λ (z : Bool). not (is_constructor a && z)) pausable ∙ q.1)))
+
+  sound_case : (id : MethodId) (a b : Method) (marks : List Bool) (z calls : Bool) → method_at P id ≡ Some a → a.pausable ≡ z → has_calls P a ≡ calls → woven_as z calls P a b marks → method_is_sound b ≡ true
+  sound_case id a b marks false calls at is c w = ap method_is_sound w.0 ∙ all_at method_is_sound P.methods id.0 a keeps.methods at
+  sound_case id a b marks true false at is c w =
+      sound_with a (all_at method_is_sound P.methods id.0 a keeps.methods at) (few id a at is) b (ap (λ (m : Method). m.qualifiers) w.0) (ap (λ (m : Method). m.params) w.0) (ap (λ (m : Method). m.is_static) w.0) (ap (λ (m : Method). m.name) w.0) (ap (λ (m : Method). m.pausable) w.0)
+  sound_case id a b marks true true at is c w =
+      let e = w.4.method in
+      sound_with a (all_at method_is_sound P.methods id.0 a keeps.methods at) (few id a at is) b (ap (λ (m : Method). m.qualifiers) e) (ap (λ (m : Method). m.params) e) (ap (λ (m : Method). m.is_static) e) (ap (λ (m : Method). m.name) e) (ap (λ (m : Method). m.pausable) e)
+
   -- what holds of each woven method and of the fiber's, holds of all
   all_of : (test : Method → Bool) → list_all test (fiber_methods Woven (first_class P)) ≡ true →
       (ms ws : List Method) (cs : List (List Bool)) (before : ℕ) → AllWoven P ms ws cs → ((k : ℕ) (m : Method) → slice_get ms k ≡ Some m → method_at P (method_id (before + k)) ≡ Some m) →
@@ -174,8 +240,11 @@ module _ (P W : Program) (counted : List (List Bool)) (keeps : Keeps P) (plainly
   pub keep : MethodsKeep W
   keep = record {
     code = all_of code_is_whole (fiber_code (first_class P)) P.methods W.methods counted 0 form.methods begins (λ id a b marks at is. whole_case id a b marks a.pausable (has_calls P a) at refl refl is);
+    frames = all_of (λ m. places_increase m.frames) (fiber_frames (first_class P)) P.methods W.methods counted 0 form.methods begins (λ id a b marks at is. frames_case id a b marks a.pausable (has_calls P a) at refl refl is);
+    frame_types = all_of frames_are_proper (fiber_types (first_class P)) P.methods W.methods counted 0 form.methods begins (λ id a b marks at is. types_case id a b marks a.pausable (has_calls P a) at refl refl is);
+    methods = all_of method_is_sound (fiber_sound (first_class P)) P.methods W.methods counted 0 form.methods begins (λ id a b marks at is. sound_case id a b marks a.pausable (has_calls P a) at refl refl is);
     handlers = all_of (λ m. is_empty m.handlers) (fiber_handlers (first_class P)) P.methods W.methods counted 0 form.methods begins (λ id a b marks at is. handlers_case id a b marks a.pausable (has_calls P a) at is);
   }
 
 pub woven_methods : WovenMethodsKeep
-woven_methods p w counted keeps plainly typed pauses short form = keep p w counted keeps plainly typed pauses short form
+woven_methods p w counted keeps plainly typed pauses short few form = keep p w counted keeps plainly typed pauses short few form
