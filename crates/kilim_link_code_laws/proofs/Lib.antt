@@ -14,6 +14,7 @@ mod Mentions
 mod LeftOut
 mod Files
 mod Methods
+mod Receivers
 mod Bytes
 mod WholeCode
 mod ClassNames

@@ -1,5 +1,5 @@
 -- Facts of programs that are linked.
-use Rattle.std.specs.Prelude.{◌≡◌, true, List, []}
+use Rattle.std.specs.Prelude.{◌≡◌, ◌||◌, not, Bool, true, List, []}
 use Rattle.std.specs.List.{list_all}
 use Rattle.kilim_classfile.specs.declared.class_file.ClassFile.{ClassFile}
 use Rattle.kilim_link_spec.specs.Faults.{link_faults}
@@ -7,11 +7,14 @@ use Rattle.kilim_link_spec.specs.Linked.{Linked}
 use Rattle.kilim_link_spec.specs.LinksWell.{LinksWell}
 use Rattle.kilim_link_spec.specs.World.{world_of}
 use Rattle.kilim_classes.specs.declared.class.Form.{Form}
+use Rattle.kilim_classes.specs.declared.class.Method.{Method}
 use Rattle.kilim_classes.specs.declared.names.ClassId.{ClassId}
+use Rattle.kilim_classes.specs.declared.ty.Qualifier.TheVariants.{Cuttable}
 use Rattle.kilim_classes.specs.Keeps.{code_is_whole, constants_fit, frames_are_proper, ids_are_places, method_is_sound, no_task_arrays}
 use Rattle.kilim_classes.specs.Lengths.{places_increase}
 use Rattle.kilim_classes.specs.Names.{is_empty, is_task}
 use Rattle.kilim_classes.specs.Program.{Program}
+use Rattle.kilim_classes.specs.Same.{is_constructor, same_qualifier}
 
 -- The places of each method's frames increase.
 abbrev pub FramesIncrease : Type 0
@@ -28,6 +31,14 @@ NoneHasHandlers = (files : List ClassFile) (form : Form) (p : Program) → Links
 -- A method has a qualifier for each parameter and few argument slots, and no constructor pauses.
 abbrev pub MethodsAreSound : Type 0
 MethodsAreSound = (files : List ClassFile) (form : Form) (p : Program) → LinksWell files form p → list_all method_is_sound p.methods ≡ true
+
+-- the receiver of a constructor is cuttable
+abbrev pub cuts_its_receiver : Method → Bool
+cuts_its_receiver m = not (is_constructor m) || (m.is_static || same_qualifier m.receiver Cuttable)
+
+-- That of each constructor is.
+abbrev pub ReceiversAreCuttable : Type 0
+ReceiversAreCuttable = (files : List ClassFile) (form : Form) (p : Program) → LinksWell files form p → list_all cuts_its_receiver p.methods ≡ true
 
 -- The code of each method is whole.
 abbrev pub CodeIsWhole : Type 0

@@ -1,6 +1,6 @@
 //! Laws about linked programs. No program calls them to do work.
 
-ghost use Rattle.kilim_link_code_laws.specs.Facts.{CodeIsWhole, ConstantsFit, FramesAreProper, FramesIncrease, IdsArePlaces, MethodsAreSound, NoFaultLinks, NoTaskArrays, NoneHasHandlers};
+ghost use Rattle.kilim_link_code_laws.specs.Facts.{CodeIsWhole, ConstantsFit, FramesAreProper, FramesIncrease, IdsArePlaces, MethodsAreSound, NoFaultLinks, NoTaskArrays, NoneHasHandlers, ReceiversAreCuttable};
 
 use kilim_bytecode::targets_are_places;
 use kilim_link_spec::{linked_in_parts, none_has_a_problem, none_of_each_kind};
@@ -34,6 +34,13 @@ pub fn methods_are_sound()
     linked_in_parts();
     none_has_a_problem();
     none_of_each_kind();
+}
+
+/// A law, and no work: the receiver of each constructor is cuttable.
+pub fn receivers_are_cuttable()
+    ensures { ReceiversAreCuttable }
+{
+    linked_in_parts();
 }
 
 /// A law, and no work: the code of each method is whole.
