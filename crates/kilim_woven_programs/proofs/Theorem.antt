@@ -183,27 +183,27 @@ frame_set m plain_name (x ∷ es) q d h e = by (eqb x.0 q) e (λ r. frame_set m 
 -- ---- the two programs
 
 module _ (P W : Program) (counted : List (List Bool)) (keeps : Keeps P) (plainly : P.form ≡ Plain) (form : WovenForm P W counted) where
-  abbrev own : ℕ
+  abbrev pub own : ℕ
   own = length keeps.built_in.own_classes
 
-  abbrev made : ℕ
+  abbrev pub made : ℕ
   made = length keeps.built_in.own_methods
 
-  abbrev fiber_parts : Class
+  abbrev pub fiber_parts : Class
   fiber_parts = built_in_class (codes "kilim/Fiber") (Some (class_id (first_class P))) false (methods_from (first_method P) (18 ∷ 19 ∷ 20 ∷ 21 ∷ 22 ∷ 23 ∷ 24 ∷ 25 ∷ 26 ∷ 27 ∷ 28 ∷ []))
 
-  abbrev Grown : Type 0
+  abbrev pub Grown : Type 0
   Grown = W.classes ≡ P.classes ++ fiber_parts ∷ []
 
-  grown : Grown
+  pub grown : Grown
   grown = form.classes
 
-  how_many : length P.classes ≡ own + 7
+  pub how_many : length P.classes ≡ own + 7
   how_many =
       ap length keeps.built_in.classes
       ∙ (length-append keeps.built_in.own_classes (built_in_classes_in P.form own made) ∙ ap (λ (n : ℕ). own + n) (seven P.form own made plainly))
 
-  first_is : first_class P ≡ own
+  pub first_is : first_class P ≡ own
   first_is = let e : first_class P ≡ length P.classes - 7 = refl in let n = how_many in omega (arith, e, n)
 
   fiber_number : first_class P + 7 ≡ length P.classes

@@ -1,0 +1,5 @@
+pub mod Listing
+pub mod Owners
+pub mod BuiltIns
+pub mod Differing
+pub mod Together
