@@ -1,0 +1,15 @@
+//! What a thread of accepted code reaches is in its heap: laws about definitions, which no program calls to do work.
+#![tactic(auto)]
+
+ghost use Rattle.kilim_reached_objects.specs.Laws.{ReachedAreThere, TopStacksAreThere};
+
+/// A law, and no work: what is at or below an object that an item of a thread's stacks or a live local names, or that is kept, is in
+/// the heap.
+pub fn reached_are_there()
+    ensures { ReachedAreThere }
+{}
+
+/// A law, and no work: what a thread's top stack names is in the heap.
+pub fn top_stacks_are_there()
+    ensures { TopStacksAreThere }
+{}
