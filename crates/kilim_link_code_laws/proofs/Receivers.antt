@@ -23,7 +23,7 @@ use Rattle.kilim_link_code_laws.proofs.Lists.{each_file, members_pass}
 use Rattle.kilim_link_code_laws.proofs.Members.{method_parts}
 use Rattle.kilim_link_code_laws.specs.Facts.{cuts_its_receiver, ReceiversAreCuttable}
 
-cuts_by : (constructor static : Bool) (other : Qualifier) → (not constructor || (static || same_qualifier (if static then Safe else (if constructor then Cuttable else other)) Cuttable)) ≡ true
+cuts_by : (constructor static : Bool) (other : Qualifier) → (not constructor || same_qualifier (if static then Safe else (if constructor then Cuttable else other)) (if static then Safe else Cuttable)) ≡ true
 cuts_by false static other = refl
 cuts_by true true other = refl
 cuts_by true false other = refl

@@ -1,5 +1,5 @@
 -- Facts of programs that are linked.
-use Rattle.std.specs.Prelude.{◌≡◌, ◌||◌, not, Bool, true, List, []}
+use Rattle.std.specs.Prelude.{◌≡◌, ◌||◌, not, if◌then◌else◌, Bool, true, List, []}
 use Rattle.std.specs.List.{list_all}
 use Rattle.kilim_classfile.specs.declared.class_file.ClassFile.{ClassFile}
 use Rattle.kilim_link_spec.specs.Faults.{link_faults}
@@ -9,7 +9,7 @@ use Rattle.kilim_link_spec.specs.World.{world_of}
 use Rattle.kilim_classes.specs.declared.class.Form.{Form}
 use Rattle.kilim_classes.specs.declared.class.Method.{Method}
 use Rattle.kilim_classes.specs.declared.names.ClassId.{ClassId}
-use Rattle.kilim_classes.specs.declared.ty.Qualifier.TheVariants.{Cuttable}
+use Rattle.kilim_classes.specs.declared.ty.Qualifier.TheVariants.{Cuttable, Safe}
 use Rattle.kilim_classes.specs.Keeps.{code_is_whole, constants_fit, frames_are_proper, ids_are_places, method_is_sound, no_task_arrays}
 use Rattle.kilim_classes.specs.Lengths.{places_increase}
 use Rattle.kilim_classes.specs.Names.{is_empty, is_task}
@@ -32,9 +32,9 @@ NoneHasHandlers = (files : List ClassFile) (form : Form) (p : Program) → Links
 abbrev pub MethodsAreSound : Type 0
 MethodsAreSound = (files : List ClassFile) (form : Form) (p : Program) → LinksWell files form p → list_all method_is_sound p.methods ≡ true
 
--- the receiver of a constructor is cuttable
+-- the receiver of a constructor is cuttable; a static one has none, and is safe
 abbrev pub cuts_its_receiver : Method → Bool
-cuts_its_receiver m = not (is_constructor m) || (m.is_static || same_qualifier m.receiver Cuttable)
+cuts_its_receiver m = not (is_constructor m) || same_qualifier m.receiver (if m.is_static then Safe else Cuttable)
 
 -- That of each constructor is.
 abbrev pub ReceiversAreCuttable : Type 0

@@ -1,0 +1,13 @@
+//! Task 0 of a linked program begins with a constructor whose receiver isn't free. No program calls this to do work.
+#![tactic(auto)]
+
+ghost use Rattle.kilim_main_begins.specs.Begins.{MainsBegin};
+
+use kilim_link_code_laws::receivers_are_cuttable;
+
+/// A law, and no work: the receiver of the constructor with which a main class begins isn't free.
+pub fn mains_begin()
+    ensures { MainsBegin }
+{
+    receivers_are_cuttable();
+}
