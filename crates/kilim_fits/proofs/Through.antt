@@ -25,7 +25,7 @@ use Rattle.kilim_fits.proofs.ValueClasses.{type_is}
 
 -- ---- going up
 
-abbrev up : Program → ClassId → Option ClassId
+abbrev pub up : Program → ClassId → Option ClassId
 up p a = class_at p a >>= λ (class : Class). class.superclass
 
 abbrev line_from : Program → ℕ → Option ClassId → List ClassId
@@ -73,7 +73,7 @@ module _ (p : Program) (keeps : Keeps p) where
   ids n a = map (λ (d : ClassId). d.0) (line_up_to p n a)
 
   -- superclasses are there
-  up_there : (a u : ClassId) → up p a ≡ Some u → u.0 < count
+  pub up_there : (a u : ClassId) → up p a ≡ Some u → u.0 < count
   unfolding ids_are_places
   up_there a u e = by (class_at p a) refl e
     where
@@ -133,7 +133,7 @@ module _ (p : Program) (keeps : Keeps p) where
       by None e short again = refl
       by (Some u) e short again = ap (λ (ds : List ClassId). a ∷ ds) (again u (omega (arith, short)))
 
-  never_cut : (a : ClassId) → a.0 < count → line_up_to p (suc count) a ≡ line_of p a
+  pub never_cut : (a : ClassId) → a.0 < count → line_up_to p (suc count) a ≡ line_of p a
   never_cut a there = whole count a (few a there)
 
   -- what holds above a class holds above what is below it
