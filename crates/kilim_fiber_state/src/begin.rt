@@ -13,7 +13,7 @@ ghost use Rattle.kilim_fiber_state.specs.Body.{calls_in, RoomyIn};
 use kilim_classes::{ClassId, Method, MethodId, Program, Value};
 use kilim_frames::{Callers, Frames};
 use kilim_jvm_interp::new_frame;
-use kilim_lookups::{class_at, method_at, selected};
+use kilim_lookups::{method_at, selected};
 use kilim_units::NoMemory;
 use std::alloc::Global;
 
@@ -30,38 +30,6 @@ pub fn execute_of(program: &Program, class: ClassId) -> Option<MethodId>
     for method in program.methods.as_slice() {
         if is_task_execute(method) {
             return selected(program, class, method);
-        }
-    }
-    None
-}
-
-fn is_plain_constructor(program: &Program, id: MethodId) -> bool
-    ensures { result ≡ is_plain_method program.now (codes "<init>") id }
-{
-    match method_at(program, id) {
-        Some(method) => {
-            method.name.is_text(b"<init>") && method.params.is_empty() && method.result.is_none()
-        }
-        None => false,
-    }
-}
-
-fn methods_of(program: &Program, class: ClassId) -> &[MethodId]
-    ensures { result.now ≡ methods_of program.now class }
-{
-    match class_at(program, class) {
-        Some(found) => found.methods.as_slice(),
-        None => &[],
-    }
-}
-
-/// The constructor without arguments that a class declares.
-pub fn constructor_of(program: &Program, class: ClassId) -> Option<MethodId>
-    ensures { result ≡ constructor_of program.now class }
-{
-    for id in methods_of(program, class) {
-        if is_plain_constructor(program, *id) {
-            return Some(*id);
         }
     }
     None

@@ -3,10 +3,11 @@
 ghost use Rattle.std.specs.Prelude.{IfOk};
 ghost use Rattle.kilim_fiber_state.specs.Begins.{BodyBegins, BodyBoots};
 
-use crate::begin::{begun_on, constructor_of, execute_of};
+use crate::begin::{begun_on, execute_of};
 use crate::body::Body;
 use kilim_act::new_object;
 use kilim_classes::{Base, ClassId, Program};
+use kilim_main_class::constructor_of;
 use kilim_private_heap::Heap;
 use kilim_tree_move::{Tree, put_in};
 use kilim_units::NoMemory;
