@@ -1,9 +1,8 @@
 //! The frames with which a task begins.
 
-ghost use Rattle.std.specs.Prelude.{◌≡◌, ◌∷◌, [], codes, Some, IfOk};
-ghost use Rattle.kilim_classes.specs.Names.{methods_of};
+ghost use Rattle.std.specs.Prelude.{◌≡◌, ◌∷◌, [], Some, IfOk};
 ghost use Rattle.kilim_classes.specs.declared.value.Value.TheVariants.{Ref};
-ghost use Rattle.kilim_program.specs.Members.{is_task_execute, is_plain_method, execute_of, constructor_of};
+ghost use Rattle.kilim_program.specs.Members.{is_task_execute, execute_of};
 ghost use Rattle.kilim_program.specs.Moves.{entered};
 ghost use Rattle.kilim_thread_model.specs.State.{begun_on};
 ghost use Rattle.kilim_frames.specs.Calls.{calls_of};
