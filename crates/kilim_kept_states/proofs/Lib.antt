@@ -1,0 +1,4 @@
+pub mod AskedHeap
+pub mod Roots
+pub mod Takers
+pub mod State
