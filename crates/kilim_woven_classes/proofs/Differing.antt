@@ -31,7 +31,7 @@ abbrev counting : ℕ → ℕ → List ℕ
 counting n zero = []
 counting n (suc k) = n ∷ counting (suc n) k
 
-abbrev AllOwned : {A : Type 0} → (A → ClassId) → ClassId → List A → Type 0
+abbrev pub AllOwned : {A : Type 0} → (A → ClassId) → ClassId → List A → Type 0
 AllOwned owner c [] = Unit {0}
 AllOwned owner c (x ∷ xs) = (owner x ≡ c) × AllOwned owner c xs
 
@@ -49,7 +49,7 @@ numbers_from : (n : ℕ) (ks : List ℕ) → map (λ (m : MethodId). m.0) (metho
 numbers_from n [] = refl
 numbers_from n (k ∷ ks) = ap (λ zs. (n + k) ∷ zs) (numbers_from n ks)
 
-fiber_owned : (n : ℕ) → AllOwned (λ (m : Method). m.owner) (class_id (n + 7)) (fiber_methods Woven n)
+pub fiber_owned : (n : ℕ) → AllOwned (λ (m : Method). m.owner) (class_id (n + 7)) (fiber_methods Woven n)
 fiber_owned n = (refl, (refl, (refl, (refl, (refl, (refl, (refl, (refl, (refl, (refl, (refl, tt)))))))))))
 
 fiber_names : (n : ℕ) → all_differ (λ (a b : Method). bytes_eq a.name b.name) (fiber_methods Woven n) ≡ true

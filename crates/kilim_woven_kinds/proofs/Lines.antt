@@ -30,7 +30,7 @@ module _ (P W : Program) (keeps : Keeps P) (extra : Class) (grown : W.classes �
 
   -- ---- lines
 
-  line_same : (n : ℕ) (c : ClassId) → IsIn c → line_up_to W n c ≡ line_up_to P n c
+  pub line_same : (n : ℕ) (c : ClassId) → IsIn c → line_up_to W n c ≡ line_up_to P n c
   line_same zero c less = refl
   line_same (suc n) c less =
       ap (λ (o : Option Class). c ∷ elim (o >>= λ (class : Class). class.superclass) [ None ↦ [] | Some u ↦ line_up_to W n u ]) (class_same c less)

@@ -61,12 +61,12 @@ module _ (P W : Program) (keeps : Keeps P) (extra : Class) (grown : W.classes �
       let two = (and_parts (has_superclass P class.superclass) _ one).1 in
       subst (λ (z : Option Class). list_all (has_method P) (elim z [ None ↦ [] | Some class ↦ class.methods ]) ≡ true) (sym at) (and_parts (list_all (has_field P) class.fields) _ two).1
 
-  methods_there : (cs : List ClassId) → list_all (has_method P) (flat_map (methods_of P) cs) ≡ true
+  pub methods_there : (cs : List ClassId) → list_all (has_method P) (flat_map (methods_of P) cs) ≡ true
   methods_there [] = refl
   methods_there (c ∷ cs) = all_joined (has_method P) (methods_of P c) (flat_map (methods_of P) cs) (methods_by (class_at P c) c refl) (methods_there cs)
 
   module _ (id : MethodId) (a b : Method) (at : method_at P id ≡ Some a) (la : Like P a b) where
-    answers_back : (x : MethodId) → has_method P x ≡ true → answers b (method_at W x) ≡ true → answers a (method_at P x) ≡ true
+    pub answers_back : (x : MethodId) → has_method P x ≡ true → answers b (method_at W x) ≡ true → answers a (method_at P x) ≡ true
     answers_back x there e =
         let less = ltb-true x.0 (length P.methods) there in
         let o = get_some P.methods x.0 less in
@@ -77,7 +77,7 @@ module _ (P W : Program) (keeps : Keeps P) (extra : Class) (grown : W.classes �
         (and_from (not o.0.is_private) (same_signature a o.0) (ap not (sym lo.is_private) ∙ p.0)
         (back P a b o.0 w.0 la lo (params_there P keeps id a at) (params_there P keeps x o.0 o.1) p.1))
 
-    answers_forth : (x : MethodId) (o : Method) → method_at P x ≡ Some o → a.pausable ≡ o.pausable → answers a (method_at P x) ≡ true → answers b (method_at W x) ≡ true
+    pub answers_forth : (x : MethodId) (o : Method) → method_at P x ≡ Some o → a.pausable ≡ o.pausable → answers a (method_at P x) ≡ true → answers b (method_at W x) ≡ true
     answers_forth x o there pausable e =
         let w = woven x o there in
         let lo = w.2 in
@@ -85,7 +85,7 @@ module _ (P W : Program) (keeps : Keeps P) (extra : Class) (grown : W.classes �
         subst (λ (z : Option Method). answers b z ≡ true) (sym w.1)
         (and_from (not w.0.is_private) (same_signature b w.0) (ap not lo.is_private ∙ p.0) (forth P a b o w.0 la lo (named_alike a o p.1) pausable))
 
-    selected_kept : (up : ClassId) (f : MethodId) → selected P up a ≡ Some f → IsChosen P up a f → selected W up b ≡ Some f
+    pub selected_kept : (up : ClassId) (f : MethodId) → selected P up a ≡ Some f → IsChosen P up a f → selected W up b ≡ Some f
     selected_kept up f is chosen =
         let line = flat_map (methods_of P) (line_of P up) in
         let more = methods_more P W extra grown (length P.classes) up in
