@@ -1,0 +1,10 @@
+//! Each thread of an accepted program stands with its shape graphs, from its beginning on, whatever others do. A law, and no work.
+#![tactic(auto)]
+
+ghost use Rattle.kilim_standing_threads.specs.Laws.{ThreadsStand};
+
+/// A law, and no work: the frames of each thread that there can be of an accepted program stand with their shape graphs, and fit the
+/// frames of verification.
+pub fn threads_stand()
+    ensures { ThreadsStand }
+{}
