@@ -129,7 +129,7 @@ module _ (fresh : ℕ → Bool) where
 
   -- ---- lists of sane types
 
-  all_peek : (p : VType → Bool) (ls : List VType) → p Top ≡ true → list_all p ls ≡ true → All fresh p ls
+  pub all_peek : (p : VType → Bool) (ls : List VType) → p Top ≡ true → list_all p ls ≡ true → All fresh p ls
   all_peek p [] top h zero = top
   all_peek p [] top h (suc k) = top
   all_peek p (t ∷ ts) top h zero = (and_parts (p t) (list_all p ts) h).0
@@ -151,7 +151,7 @@ module _ (fresh : ℕ → Bool) where
   all_join p [] b h k = k
   all_join p (t ∷ a) b h k = let x = and_parts (p t) (list_all p a) h in and_from (p t) (list_all p (a ++ b)) x.0 (all_join p a b x.1 k)
 
-  all_reverse : (p : VType → Bool) (a : List VType) → list_all p a ≡ true → list_all p (reverse a) ≡ true
+  pub all_reverse : (p : VType → Bool) (a : List VType) → list_all p a ≡ true → list_all p (reverse a) ≡ true
   all_reverse p [] h = refl
   all_reverse p (t ∷ a) h = let x = and_parts (p t) (list_all p a) h in ap (list_all p) (reverse-append (t ∷ []) a) ∙ all_join p (reverse a) (t ∷ []) (all_reverse p a x.1) (and_from (p t) true x.0 refl)
 

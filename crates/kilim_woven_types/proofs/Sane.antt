@@ -47,11 +47,11 @@ module _ (fresh : ℕ → Bool) where
 
   -- ---- lists
 
-  all_append : (p : VType → Bool) (a b : List VType) → list_all p a ≡ true → list_all p b ≡ true → list_all p (a ++ b) ≡ true
+  pub all_append : (p : VType → Bool) (a b : List VType) → list_all p a ≡ true → list_all p b ≡ true → list_all p (a ++ b) ≡ true
   all_append p [] b h k = k
   all_append p (t ∷ a) b h k = let x = and_parts (p t) (list_all p a) h in and_from (p t) (list_all p (a ++ b)) x.0 (all_append p a b x.1 k)
 
-  all_drop : (p : VType → Bool) (n : ℕ) (a : List VType) → list_all p a ≡ true → list_all p (drop n a) ≡ true
+  pub all_drop : (p : VType → Bool) (n : ℕ) (a : List VType) → list_all p a ≡ true → list_all p (drop n a) ≡ true
   all_drop p zero a h = h
   all_drop p (suc n) [] h = refl
   all_drop p (suc n) (t ∷ a) h = all_drop p n a (and_parts (p t) (list_all p a) h).1
@@ -78,7 +78,7 @@ module _ (fresh : ℕ → Bool) where
   pred_half p (Uninit q) ls k h e = h
   pred_half p (Object ty) ls k h e = h
 
-  pred_stored : (p : VType → Bool) (ls : List VType) (k : ℕ) (t : VType) → All p ls → p t ≡ true → p Top ≡ true → All p (stored ls k t)
+  pub pred_stored : (p : VType → Bool) (ls : List VType) (k : ℕ) (t : VType) → All p ls → p t ≡ true → p Top ≡ true → All p (stored ls k t)
   pred_stored p ls k t h e top = pred_half p t (poke (split_long ls k) k t) k (pred_poke p (split_long ls k) k t (pred_split p ls k h top) e) top
 
   long_poke : (ls : List VType) (k n : ℕ) (t : VType) → k < n → length ls ≤ n → length (poke ls k t) ≤ n
@@ -195,10 +195,10 @@ module _ (fresh : ℕ → Bool) where
   one_pred p true t new h e = e
   one_pred p false t new h e = h
 
-  pred_replaced : (p : VType → Bool) (old new : VType) (ls : List VType) → All p ls → p new ≡ true → All p (replaced old new ls)
+  pub pred_replaced : (p : VType → Bool) (old new : VType) (ls : List VType) → All p ls → p new ≡ true → All p (replaced old new ls)
   pred_replaced p old new ls h e j = ap p (peek_replaced old new ls j) ∙ one_pred p (is_same old (peek ls j)) (peek ls j) new (h j) e
 
-  all_replaced : (p : VType → Bool) (old new : VType) (ls : List VType) → list_all p ls ≡ true → p new ≡ true → list_all p (replaced old new ls) ≡ true
+  pub all_replaced : (p : VType → Bool) (old new : VType) (ls : List VType) → list_all p ls ≡ true → p new ≡ true → list_all p (replaced old new ls) ≡ true
   all_replaced p old new [] h e = refl
   all_replaced p old new (t ∷ ls) h e =
       let x = and_parts (p t) (list_all p ls) h in
@@ -267,7 +267,7 @@ module _ (fresh : ℕ → Bool) where
   off_is (Ok parts) go out e = (parts, refl, e)
   off_is (Err n) go out e = absurd (cc)
 
-  all_shuffled : (p : VType → Bool) (form : Form) (s out : List VType) → shuffled form s ≡ Ok out → list_all p s ≡ true → list_all p out ≡ true
+  pub all_shuffled : (p : VType → Bool) (form : Form) (s out : List VType) → shuffled form s ≡ Ok out → list_all p s ≡ true → list_all p out ≡ true
   all_shuffled p (Drops n) s out e h =
       let a = off_is (off n s) (λ a rest. Ok rest) out e in
       let x = all_off p n s a.0 a.1 h in
@@ -330,7 +330,7 @@ module _ (fresh : ℕ → Bool) where
   item_sane : (t : VType) → sane t ≡ true → is_top t ≡ false → sane_item t ≡ true
   item_sane t h n = and_from (sane t) (not (is_top t)) h (ap (λ b. not b) n)
 
-  passed_further : {A : Type 0} (P : Program) (rs : List Further) (s : List VType) (go : Result A ℕ) (x : A) → further P rs s go ≡ Ok x → go ≡ Ok x
+  pub passed_further : {A : Type 0} (P : Program) (rs : List Further) (s : List VType) (go : Result A ℕ) (x : A) → further P rs s go ≡ Ok x → go ≡ Ok x
   passed_further P [] s go x h = h
   passed_further P (r ∷ rs) s go x h = passed_further P rs s go x (passed r.number (r.holds && all_meet P r.operands s) (further P rs s go) x h).1
 
