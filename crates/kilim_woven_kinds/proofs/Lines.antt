@@ -89,7 +89,7 @@ module _ (P W : Program) (keeps : Keeps P) (extra : Class) (grown : W.classes �
   base_kind_same (base.Class c) h = class_kind_same c (ltb-true c.0 (length P.classes) h)
   base_kind_same b h = refl
 
-  task_base_same : (b : Base) → has_base P b ≡ true → is_task_base W b ≡ is_task_base P b
+  pub task_base_same : (b : Base) → has_base P b ≡ true → is_task_base W b ≡ is_task_base P b
   task_base_same (base.Class c) h = task_same c (ltb-true c.0 (length P.classes) h)
   task_base_same b h = refl
 
