@@ -1,0 +1,16 @@
+//! What every thread of an accepted program keeps: whatever it reaches is in its own heap, and what it gives away next is a whole tree.
+//! Laws, and no work.
+#![tactic(auto)]
+
+ghost use Rattle.kilim_kept.specs.Laws.{AcceptedIsKept, AcceptedServes};
+
+/// A law, and no work: each thread that there can be of an accepted program keeps what it reaches in its own heap, and gives away whole
+/// trees alone.
+pub fn accepted_is_kept()
+    ensures { AcceptedIsKept }
+{}
+
+/// A law, and no work: so its fibers do what its threads do, and none gets stuck.
+pub fn accepted_serves()
+    ensures { AcceptedServes }
+{}
