@@ -1,6 +1,6 @@
 -- A chain of objects grows by one.
 use Rattle.std.proofs.Common.{◌≡◌, ℕ, List, [], ◌∷◌, ◌++◌, Option, Some, None, refl, sym, ap, subst, ◌∙◌}
-use Rattle.std.specs.List.{AllByRecursion, flat_map}
+use Rattle.std.specs.List.{AllByRecursion}
 use Rattle.std.specs.FinMap.{get, insert}
 use Rattle.std.proofs.lemmas.List.{append-nil}
 use Rattle.kilim_classes.specs.declared.names.FieldId.{FieldId}
@@ -8,9 +8,8 @@ use Rattle.kilim_classes.specs.declared.value.Value.{Value}
 use Rattle.kilim_classes.specs.declared.value.Value.TheVariants.{Null, Ref}
 use Rattle.kilim_program.specs.declared.value.Object.{Object}
 use Rattle.kilim_program.specs.Machine.{Objects}
-use Rattle.kilim_private_heap.specs.Places.{AllDiffer}
 use Rattle.kilim_private_heap.proofs.Maps.{got-there, got-other}
-use Rattle.kilim_tree_move.specs.Walk.{value_refs, refs, field_refs, element_refs, Leads, AreIn, IsTree, places}
+use Rattle.kilim_tree_move.specs.Walk.{value_refs, refs, field_refs, element_refs, Leads, AreIn, places}
 use Rattle.kilim_run_tables.specs.Chains.{IsBelow, IsOwn}
 
 pub one_field : (fields : List (FieldId × Value)) (elements : List Value) (f : FieldId) (next : Value) → fields ≡ [] ++ (f, next) ∷ [] → elements ≡ [] → field_refs fields ++ element_refs elements ≡ value_refs next
@@ -22,14 +21,14 @@ none_below heap = record { entries = []; leads = refl; are_in = tt; once = tt }
 other_place : (heap : Objects) (at n : ℕ) (o : Object) → get heap at ≡ None → get heap n ≡ Some o → n ≡ at → ⊥
 other_place heap at n o free there is = let bad : ◌≡◌ {A = Option Object} None (Some o) = sym free ∙ (ap (λ m. get heap m) (sym is) ∙ there) in cc
 
-still_in : (heap : Objects) (at : ℕ) (o : Object) (es : List (ℕ × Object)) → get heap at ≡ None → AreIn heap es → AreIn (insert heap at o) es
+pub still_in : (heap : Objects) (at : ℕ) (o : Object) (es : List (ℕ × Object)) → get heap at ≡ None → AreIn heap es → AreIn (insert heap at o) es
 still_in heap at o [] free a = tt
 still_in heap at o (e ∷ es) free a = (got-other heap at o e.0 (other_place heap at e.0 e.1 free a.0) ∙ a.0, still_in heap at o es free a.1)
 
 turned : (a b : ℕ) → (b ≡ a → ⊥) → a ≡ b → ⊥
 turned a b ne e = ne (sym e)
 
-new_place : (heap : Objects) (at : ℕ) (es : List (ℕ × Object)) → get heap at ≡ None → AreIn heap es → AllByRecursion (λ n. at ≡ n → ⊥) (places es)
+pub new_place : (heap : Objects) (at : ℕ) (es : List (ℕ × Object)) → get heap at ≡ None → AreIn heap es → AllByRecursion (λ n. at ≡ n → ⊥) (places es)
 new_place heap at [] free a = tt
 new_place heap at (e ∷ es) free a = (turned at e.0 (other_place heap at e.0 e.1 free a.0), new_place heap at es free a.1)
 

@@ -1,2 +1,4 @@
 pub mod Entries
 pub mod Chained
+pub mod Below
+pub mod Full

@@ -1,6 +1,8 @@
 //! The words of the cases.
 
+use crate::drawn::{array_case, numbers_case, tree_case};
 use crate::journals::{journal_case, line_case, open_case};
+use crate::shared::{circle_case, twice_case};
 use crate::trees::list_case;
 use std::alloc::Global;
 use std::rt::Files;
@@ -13,6 +15,11 @@ pub fn answer<R: Files>(rt: &R, alloc: Global, words: &[String]) -> Option<Strin
         "line" => line_case(alloc, rest),
         "open" => open_case(alloc, rest),
         "list" => list_case(alloc, rest),
+        "tree" => tree_case(alloc, rest),
+        "array" => array_case(alloc, rest),
+        "numbers" => numbers_case(alloc, rest),
+        "twice" => twice_case(alloc, rest),
+        "circle" => circle_case(alloc, rest),
         _ => None,
     }
 }

@@ -3,8 +3,11 @@
 //! answered: it then stands on standard error, and the answers before it were written.
 #![tactic(auto)]
 
+mod arrived;
 mod cases;
+mod drawn;
 mod journals;
+mod shared;
 mod trees;
 
 use cases::answer;

@@ -11,8 +11,8 @@ use kilim_tree_move::{MoveFault, put_in, reserve_tree, take_out};
 use kilim_units::Seq;
 use std::alloc::Global;
 
-// An object with one field.
-fn node(alloc: Global, next: Value) -> Option<Object>
+/// An object with one field.
+pub fn node(alloc: Global, next: Value) -> Option<Object>
     ensures { IfSome result (λ o. refs o ≡ value_refs next) }
 {
     let mut fields = Seq::new(alloc);
@@ -42,8 +42,8 @@ fn chained(alloc: Global, heap: &mut Heap, count: u32) -> Option<Value>
     Some(head)
 }
 
-// Takes a tree out, and puts it in again.
-fn moved(alloc: Global, heap: &mut Heap, root: u32) -> Option<&'static str>
+/// Takes a tree out, and puts it in again.
+pub fn moved(alloc: Global, heap: &mut Heap, root: u32) -> Option<&'static str>
     requires { IsOwn heap.old root }
 {
     match reserve_tree(alloc, heap, root) {
