@@ -1,0 +1,7 @@
+//! Runs of a program to which class files link, and which verification and the isolation rules accept: laws, which no program
+//! calls to do work.
+#![tactic(auto)]
+
+mod laws;
+
+pub use laws::{accepted_is_isolated, accepted_is_served};
