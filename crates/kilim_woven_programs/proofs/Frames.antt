@@ -11,13 +11,12 @@ use Rattle.kilim_woven_types.proofs.OldFacts.{GrowsTo}
 
 module _ (p : Program) (m : Method) where
   -- what is listed is what is typed
-  Agree : (ℕ → Types) → List (ℕ × Instr) → List Types → Type 0
+  abbrev pub Agree : (ℕ → Types) → List (ℕ × Instr) → List Types → Type 0
   Agree typing [] fs = Unit {0}
   Agree typing (e ∷ es) [] = ⊥
   Agree typing (e ∷ es) (f ∷ fs) = (typing e.0 ≡ f) × Agree typing es fs
 
-  same_listed : (es : List (ℕ × Instr)) → GrowsTo m.code_length es → (flow : Option Types) (typing : ℕ → Types) → ((q : ℕ) → first_place es m.code_length ≤ q → typing q ≡ frame_among es (frames_from p m flow es) q) → Agree typing es (frames_from p m flow es)
-  unfolding Agree
+  pub same_listed : (es : List (ℕ × Instr)) → GrowsTo m.code_length es → (flow : Option Types) (typing : ℕ → Types) → ((q : ℕ) → first_place es m.code_length ≤ q → typing q ≡ frame_among es (frames_from p m flow es) q) → Agree typing es (frames_from p m flow es)
   same_listed [] g flow typing same = tt
   same_listed (e ∷ es) g flow typing same =
       let f = unwrap_or (arriving flow (declared m e.0)) no_types in
@@ -35,7 +34,6 @@ module _ (p : Program) (m : Method) where
   arrives (Some g) (Some d) f h = ap (λ (z : Types). Some z) (sym h.0)
 
   by_listed : (es : List (ℕ × Instr)) (flow : Option Types) (typing : ℕ → Types) → Typed p m flow es → Agree typing es (frames_from p m flow es) → TypedBy p m typing flow es
-  unfolding Agree
   by_listed [] flow typing t a = t
   by_listed (e ∷ es) flow typing t a =
       let f = t.0 in
