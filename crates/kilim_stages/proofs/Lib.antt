@@ -1,0 +1,4 @@
+pub mod Named
+pub mod None
+pub mod Both
+pub mod Parts

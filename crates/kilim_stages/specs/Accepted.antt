@@ -1,0 +1,21 @@
+-- Which programs are accepted: no rule of typing is broken, and no rule of isolation or pausing.
+use Rattle.std.specs.Prelude.{◌≡◌, ℕ, List, None}
+use Rattle.kilim_classes.specs.Program.{Program}
+use Rattle.kilim_typing.specs.Typed.{listed_frames}
+use Rattle.kilim_typing.specs.Faults.{first_type_fault}
+use Rattle.kilim_vtypes.specs.TypedProgram.{TypedProgram}
+use Rattle.kilim_isolation_check.specs.Faults.{IsAccepted}
+use Rattle.kilim_stages.specs.ProgramOf.{IsProgramOf}
+
+-- the program with the frames of verification at its places
+abbrev pub typed_of : Program → TypedProgram
+typed_of p = record { program = p; frames = listed_frames p }
+
+pub record Accepts (p : Program) : Type 0 where
+  pub typed : first_type_fault p ≡ None
+  pub isolated : IsAccepted (typed_of p)
+
+-- the class files with these bytes link to this program, which is accepted
+pub record IsAcceptedOf (files : List (List ℕ)) (p : Program) : Type 0 where
+  pub of_files : IsProgramOf files p
+  pub accepts : Accepts p

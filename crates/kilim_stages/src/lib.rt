@@ -1,0 +1,12 @@
+//! From the bytes of class files to an accepted program, or to the report of the first stage that has a fault: reading,
+//! linking, typing, and the rules of isolation and pausing.
+#![tactic(auto)]
+
+mod classes;
+mod laws;
+mod refusal;
+mod stages;
+
+pub use laws::{never_both, one_program_of};
+pub use refusal::Refusal;
+pub use stages::accepted;

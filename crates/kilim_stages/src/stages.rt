@@ -1,0 +1,136 @@
+//! The stages, one after the other.
+
+ghost use Rattle.std.specs.Prelude.{◌≡◌, ◌≤◌, length, map, IfOk};
+ghost use Rattle.std.specs.List.{AllByRecursion};
+ghost use Rattle.std.specs.String.{string_bytes};
+ghost use Rattle.kilim_classfile.specs.Text.{ClassFits};
+ghost use Rattle.kilim_link_reports.specs.LinkLines.{link_line};
+ghost use Rattle.kilim_rule_reports.specs.RuleLines.{fault_lines, type_line};
+ghost use Rattle.kilim_stages.specs.Accepted.{IsAcceptedOf};
+ghost use Rattle.kilim_stages.specs.Parts.{Refused, IfReport, IsAcceptedBy, IsAcceptedFrom, IsIsolated, IsLinkLine, IsReportOf, IsReportOfClasses, IsTypeLine, IsTyped, LinksTo, AreRuleLinesOf};
+ghost use Rattle.kilim_stages.specs.Reports.{IsStageReport};
+
+use crate::classes::classes_of;
+use crate::refusal::Refusal;
+use kilim_class_world::link;
+use kilim_classes::{Form, MethodId, Program};
+use kilim_classfile::ClassFile;
+use kilim_isolation_check::{CheckFault, Isolated, Report, check_program};
+use kilim_link_reports::link_line;
+use kilim_link_spec::{LinkFault, Problem};
+use kilim_rule_reports::{fault_lines, type_line};
+use kilim_type_verify::{TypeFault, verify};
+use kilim_units::{Seq, Units};
+use kilim_vtypes::Typed;
+use std::alloc::Global;
+
+// The line of class files that don't link.
+fn link_refusal(alloc: Global, class: &Units, problem: &Problem) -> Refusal
+    ensures { Refused result (λ text. text ≡ link_line class.now problem.now) }
+{
+    match link_line(alloc, class, problem) {
+        Ok(text) => Refusal::Report(text),
+        Err(_) => Refusal::NoMemory,
+    }
+}
+
+// The program to which class files link, or the line of their first problem.
+fn linked(alloc: Global, classes: &[ClassFile]) -> Result<Program, Refusal>
+    requires few { length classes.now ≤ 1000 }
+    requires fit { AllByRecursion ClassFits classes.now }
+    ensures program { IfOk result (λ program. LinksTo classes.now program) }
+    ensures report { IfReport result (IsLinkLine classes.now) }
+{
+    match link(alloc, classes, Form::Plain) {
+        Ok(program) => Ok(program),
+        Err(LinkFault::InClass(class, problem)) => Err(link_refusal(alloc, &class, &problem)),
+        Err(LinkFault::Memory) => Err(Refusal::NoMemory),
+    }
+}
+
+// The line of a broken rule of typing.
+fn type_refusal(alloc: Global, program: &Program, method: MethodId, place: u32, rule: u8) -> Refusal
+    ensures { Refused result (λ text. text ≡ type_line program.now method place rule) }
+{
+    match type_line(alloc, program, method, place, rule) {
+        Ok(text) => Refusal::Report(text),
+        Err(_) => Refusal::NoMemory,
+    }
+}
+
+// The program with the frames at its places, or the line of its first type fault.
+fn typed(alloc: Global, program: Program) -> Result<Typed, Refusal>
+    ensures typed { IfOk result (IsTyped program) }
+    ensures report { IfReport result (IsTypeLine program) }
+{
+    match verify(alloc, program) {
+        Ok(typed) => Ok(typed),
+        Err(TypeFault::Rule(program, method, place, rule)) => {
+            Err(type_refusal(alloc, &program, method, place, rule))
+        }
+        Err(TypeFault::Memory) => Err(Refusal::NoMemory),
+    }
+}
+
+// The lines of broken rules of isolation and pausing.
+fn rules_refusal(alloc: Global, program: &Program, reports: &[Report]) -> Refusal
+    ensures { Refused result (λ text. text ≡ fault_lines program.now reports.now) }
+{
+    match fault_lines(alloc, program, reports) {
+        Ok(text) => Refusal::Report(text),
+        Err(_) => Refusal::NoMemory,
+    }
+}
+
+// The program where it breaks no rule of isolation or pausing, or the lines of all that it breaks.
+fn isolated(alloc: Global, typed: Typed) -> Result<Isolated, Refusal>
+    ensures isolated { IfOk result (IsIsolated typed) }
+    ensures report { IfReport result (AreRuleLinesOf typed) }
+{
+    match check_program(alloc, typed) {
+        Ok(isolated) => Ok(isolated),
+        Err(CheckFault::Reports(program, reports)) => {
+            Err(rules_refusal(alloc, &program, reports.as_slice()))
+        }
+        Err(CheckFault::Memory) => Err(Refusal::NoMemory),
+    }
+}
+
+// The program where it is accepted, or the report of the first rules that it breaks.
+fn accepted_by(alloc: Global, program: Program) -> Result<Isolated, Refusal>
+    ensures accepted { IfOk result (IsAcceptedBy program) }
+    ensures report { IfReport result (IsReportOf program) }
+{
+    match typed(alloc, program) {
+        Ok(typed) => isolated(alloc, typed),
+        Err(refusal) => Err(refusal),
+    }
+}
+
+// The same of the program to which class files link.
+fn accepted_from(alloc: Global, classes: &[ClassFile]) -> Result<Isolated, Refusal>
+    requires few { length classes.now ≤ 1000 }
+    requires fit { AllByRecursion ClassFits classes.now }
+    ensures accepted { IfOk result (IsAcceptedFrom classes.now) }
+    ensures report { IfReport result (IsReportOfClasses classes.now) }
+{
+    match linked(alloc, classes) {
+        Ok(program) => accepted_by(alloc, program),
+        Err(refusal) => Err(refusal),
+    }
+}
+
+/// The accepted program of the class files with these bytes, linked in their order; or the report of the first stage
+/// that has a fault: a file that is no class file, by its name, a class that doesn't link, a broken rule of typing, or all
+/// broken rules of isolation and pausing. There are at most 1,000 files, and a name for each.
+pub fn accepted(alloc: Global, names: &[String], files: &[Seq<u8>]) -> Result<Isolated, Refusal>
+    requires few { length files.now ≤ 1000 }
+    requires same { length names.now ≡ length files.now }
+    ensures accepted { IfOk result (λ isolated. IsAcceptedOf files.now isolated.typed.program) }
+    ensures report { IfReport result (IsStageReport (map string_bytes names.now) files.now) }
+{
+    match classes_of(alloc, names, files) {
+        Ok(classes) => accepted_from(alloc, classes.as_slice()),
+        Err(refusal) => Err(refusal),
+    }
+}
