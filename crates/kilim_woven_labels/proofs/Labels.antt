@@ -1,8 +1,8 @@
 -- Each label stands once, so it is found where it stands.
-use Rattle.std.proofs.Common.{◌≡◌, ℕ, suc, ◌+◌, ◌<◌, Bool, true, false, cond, eqb, not, pos, List, [], ◌∷◌, ◌++◌, map, Option, Some, None, refl, sym, ap, subst, ◌∙◌, arith, eq-eqb, eqb-true, ne_eqb}
+use Rattle.std.proofs.Common.{◌≡◌, ℕ, suc, ◌+◌, ◌<◌, ◌≤◌, Bool, true, false, cond, eqb, not, pos, List, [], ◌∷◌, ◌++◌, map, Option, Some, None, refl, sym, ap, subst, ◌∙◌, arith, eq-eqb, eqb-true, ne_eqb}
 use Rattle.std.specs.Prelude.{◌||◌, ◌&&◌, is_some, nat_le}
 use Rattle.std.specs.List.{list_any}
-use Rattle.std.proofs.lemmas.Bool.{and_parts, and_from, not-true, or_left, or_right, or_from}
+use Rattle.std.proofs.lemmas.Bool.{and_parts, and_from, not-true, or_left, or_parts, or_right, or_from}
 use Rattle.kilim_classes.specs.declared.class.Method.{Method}
 use Rattle.kilim_classes.specs.declared.instr.Instr.{Instr}
 use Rattle.kilim_classes.specs.declared.instr.Instr.TheVariants.{AconstNull, Aload, Astore, Bipush, Iconst, Sipush}
@@ -11,10 +11,11 @@ use Rattle.kilim_classes.specs.declared.verified.VType.{VType}
 use Rattle.kilim_classes.specs.declared.verified.VType.TheVariants.{Top, Int, Long, Null, UninitThis, Uninit, Object}
 use Rattle.kilim_classes.specs.Lengths.{first_place}
 use Rattle.kilim_classes.specs.Same.{all_differ}
-use Rattle.kilim_woven_form.specs.Woven.{Does, Item, Label, Labelled, Mark, Old, Plan, Resumes, added, below, block, blocks, count, drop_result, dummies, dummy_return, label_stands, leave, local_size, pausable_callee, piece, pieces, receiver, receiver_of, restore, restore_local, restore_locals, restore_receiver, restore_stack, resume_code, save, save_local, save_locals, save_stack, saved, self_slot, woven_items}
+use Rattle.kilim_woven_form.specs.Woven.{Does, Item, Label, Labelled, Mark, Old, Plan, Resumes, added, behind, below, block, blocks, count, drop_result, dummies, dummy_return, label_stands, leave, local_size, pausable_callee, piece, pieces, receiver, receiver_of, restore, restore_local, restore_locals, restore_receiver, restore_stack, resume_code, save, save_local, save_locals, save_stack, saved, self_slot, woven_items}
 use Rattle.kilim_woven_shape.specs.Law.{labels_from, placed}
 use Rattle.kilim_woven_shape.proofs.Shape.{same_places}
 use Rattle.kilim_woven_types.proofs.Codes.{whole_code}
+use Rattle.kilim_woven_types.proofs.Laying.{Grows, Sound, items_sound}
 use Rattle.kilim_woven_types.proofs.OldFacts.{GrowsTo}
 use Rattle.kilim_woven_labels.specs.Law.{LabelsAreFound, found, found_plan, same_label}
 
@@ -42,25 +43,94 @@ right_labelled x [] q r = tt
 right_labelled x (Mark label frame ∷ rest) q r = (r.0, right_labelled x rest q r.1)
 right_labelled x (Does i size counted ∷ rest) q r = right_labelled x rest (q + size q) r
 
-abbrev finder : Plan → List (Label × ℕ) → Plan
-finder x es = placed x (λ place. found (Old place) es) (λ number. found (Resumes number) es)
+abbrev finder : Plan → ℕ → List (Label × ℕ) → Plan
+finder x end es = placed x (λ place. found (end + place) (Old place) es) (λ number. found 0 (Resumes number) es)
 
-stands_found : (x : Plan) (whole : List (Label × ℕ)) (l : Label) (q : ℕ) → found l whole ≡ q → label_stands (finder x whole) q l
-stands_found x whole (Old place) q e = e
-stands_found x whole (Resumes number) q e = e
+stands_found : (x : Plan) (end : ℕ) (whole : List (Label × ℕ)) (l : Label) (q : ℕ) → ((other : ℕ) → found other l whole ≡ q) → label_stands (finder x end whole) q l
+stands_found x end whole (Old place) q e = e (end + place)
+stands_found x end whole (Resumes number) q e = e 0
 
-all_right : (x : Plan) (whole rest : List (Label × ℕ)) → all_differ (λ a b. same_label a.0 b.0) rest ≡ true → ((l : Label) → is_in l rest ≡ true → found l whole ≡ found l rest) → Right (finder x whole) rest
-all_right x whole [] d inv = tt
-all_right x whole (e ∷ es) d inv =
-    let p = and_parts (not (is_in e.0 es)) _ d in
-    let here : found e.0 whole ≡ e.1 = inv e.0 (or_left (same_label e.0 e.0) _ (same_itself e.0)) ∙ ap (λ (b : Bool). cond b e.1 (found e.0 es)) (same_itself e.0) in (
-      stands_found x whole e.0 e.1 here,
-      all_right x whole es p.1 (λ l i. inv l (or_right (same_label l e.0) _ i) ∙ other l (same_label e.0 l) refl i (not-true _ p.0)),
+all_right : (x : Plan) (end : ℕ) (whole rest : List (Label × ℕ)) → all_differ (λ (a b : Label × ℕ). same_label a.0 b.0) rest ≡ true → ((l : Label) (other : ℕ) → is_in l rest ≡ true → found other l whole ≡ found other l rest) → Right (finder x end whole) rest
+all_right x end whole [] d inv = tt
+all_right x end whole (e ∷ es) d inv =
+    let p = and_parts (not (is_in e.0 es)) _ d in (
+      stands_found x end whole e.0 e.1 (λ other. inv e.0 other (or_left (same_label e.0 e.0) _ (same_itself e.0)) ∙ ap (λ (b : Bool). cond b e.1 (found other e.0 es)) (same_itself e.0)),
+      all_right x end whole es p.1 (λ l other i. inv l other (or_right (same_label l e.0) _ i) ∙ past l other (same_label l e.0) refl i (not-true _ p.0)),
     )
   where
-    other : (l : Label) (b : Bool) → same_label e.0 l ≡ b → is_in l es ≡ true → is_in e.0 es ≡ false → cond (same_label e.0 l) e.1 (found l es) ≡ found l es
-    other l true is i none = absurd (let s = label_is e.0 l is in let y : is_in e.0 es ≡ true = ap (λ (k : Label). is_in k es) s ∙ i in let z : true ≡ false = sym y ∙ none in cc)
-    other l false is i none = ap (λ (b : Bool). cond b e.1 (found l es)) is
+    past : (l : Label) (other : ℕ) (b : Bool) → same_label l e.0 ≡ b → is_in l es ≡ true → is_in e.0 es ≡ false → cond (same_label l e.0) e.1 (found other l es) ≡ found other l es
+    past l other true is i none = absurd (let s = label_is l e.0 is in let y : is_in e.0 es ≡ true = ap (λ (k : Label). is_in k es) (sym s) ∙ i in let z : true ≡ false = sym y ∙ none in cc)
+    past l other false is i none = ap (λ (b : Bool). cond b e.1 (found other l es)) is
+
+-- ---- labels stand one behind the other
+
+abbrev Rises : ℕ → ℕ → List (Label × ℕ) → Type 0
+Rises low end [] = Unit {0}
+Rises low end (e ∷ es) = (low ≤ e.1) × (e.1 < end) × Rises (suc e.1) end es
+
+lower : (low less end : ℕ) (es : List (Label × ℕ)) → less ≤ low → Rises low end es → Rises less end es
+lower low less end [] h r = tt
+lower low less end (e ∷ es) h r = let l = r.0 in (omega (arith, l, h), r.1, r.2)
+
+grows : (items : List Item) (q : ℕ) → q ≤ behind q items
+grows [] q = omega arith
+grows (Mark label frame ∷ rest) q = grows rest q
+grows (Does i size counted ∷ rest) q = let h = grows rest (q + size q) in omega (arith, h)
+
+-- an instruction stands behind a mark
+ends_behind : (items : List Item) (q : ℕ) → Sound true items → q < behind q items
+ends_behind [] q s = absurd (let e : true ≡ false = s in cc)
+ends_behind (Mark label frame ∷ rest) q s = absurd (let e : true ≡ false = s.0 in cc)
+ends_behind (Does i size counted ∷ rest) q s = let g = s.0 q in let h = grows rest (q + size q) in omega (arith, g, h)
+
+rises : (b : Bool) (items : List Item) (q : ℕ) → Sound b items → Rises (cond b (suc q) q) (behind q items) (labels_from q items)
+rises b [] q s = tt
+rises true (Mark label frame ∷ rest) q s = absurd (let e : true ≡ false = s.0 in cc)
+rises false (Mark label frame ∷ rest) q s = (omega arith, ends_behind rest q s.1, rises true rest q s.1)
+rises b (Does i size counted ∷ rest) q s = lower (q + size q) (cond b (suc q) q) (behind (q + size q) rest) (labels_from (q + size q) rest) (by b) (rises false rest (q + size q) s.1)
+  where
+    by : (b : Bool) → cond b (suc q) q ≤ q + size q
+    by true = let g = s.0 q in omega (arith, g)
+    by false = omega arith
+
+found_within : (other : ℕ) (l : Label) (low end : ℕ) (es : List (Label × ℕ)) → Rises low end es → is_in l es ≡ true → (low ≤ found other l es) × (found other l es < end)
+found_within other l low end [] r i = absurd (cc)
+found_within other l low end (e ∷ es) r i = by (same_label l e.0) i (λ k. found_within other l (suc e.1) end es r.2 k)
+  where
+    by : (b : Bool) → (b || is_in l es) ≡ true → (is_in l es ≡ true → (suc e.1 ≤ found other l es) × (found other l es < end)) → (low ≤ cond b e.1 (found other l es)) × (cond b e.1 (found other l es) < end)
+    by true i again = (r.0, r.1)
+    by false i again = let k = again i in let a = k.0 in let c = r.0 in (omega (arith, a, c), k.1)
+
+found_other : (other : ℕ) (l : Label) (es : List (Label × ℕ)) → is_in l es ≡ false → found other l es ≡ other
+found_other other l [] n = refl
+found_other other l (e ∷ es) n = let p = or_parts (same_label l e.0) _ n in ap (λ (b : Bool). cond b e.1 (found other l es)) p.0 ∙ found_other other l es p.1
+
+found_once : (o1 o2 : ℕ) (l k : Label) (low end : ℕ) (es : List (Label × ℕ)) → Rises low end es → is_in l es ≡ true → is_in k es ≡ true → found o1 l es ≡ found o2 k es → l ≡ k
+found_once o1 o2 l k low end [] r i j h = absurd (cc)
+found_once o1 o2 l k low end (e ∷ es) r i j h = by (same_label l e.0) (same_label k e.0) refl refl i j h (λ a b c. found_once o1 o2 l k (suc e.1) end es r.2 a b c)
+  where
+    by : (b c : Bool) → same_label l e.0 ≡ b → same_label k e.0 ≡ c → (b || is_in l es) ≡ true → (c || is_in k es) ≡ true → cond b e.1 (found o1 l es) ≡ cond c e.1 (found o2 k es) →
+        (is_in l es ≡ true → is_in k es ≡ true → found o1 l es ≡ found o2 k es → l ≡ k) → l ≡ k
+    by true true a b i j h again = label_is l e.0 a ∙ sym (label_is k e.0 b)
+    by true false a b i j h again = absurd (let w = (found_within o2 k (suc e.1) end es r.2 j).0 in omega (arith, w, h))
+    by false true a b i j h again = absurd (let w = (found_within o1 l (suc e.1) end es r.2 i).0 in omega (arith, w, h))
+    by false false a b i j h again = again i j h
+
+old_is : (a b : ℕ) → Old a ≡ Old b → a ≡ b
+old_is a b e = cc
+
+apart : (end : ℕ) (es : List (Label × ℕ)) → Rises 0 end es → (a b : ℕ) → found (end + a) (Old a) es ≡ found (end + b) (Old b) es → a ≡ b
+apart end es r a b h = by (is_in (Old a) es) (is_in (Old b) es) refl refl
+  where
+    by : (c d : Bool) → is_in (Old a) es ≡ c → is_in (Old b) es ≡ d → a ≡ b
+    by true true i j = old_is a b (found_once (end + a) (end + b) (Old a) (Old b) 0 end es r i j h)
+    by true false i j = absurd (let w = (found_within (end + a) (Old a) 0 end es r i).1 in let o = found_other (end + b) (Old b) es j in omega (arith, w, o, h))
+    by false true i j = absurd (let w = (found_within (end + b) (Old b) 0 end es r j).1 in let o = found_other (end + a) (Old a) es i in omega (arith, w, o, h))
+    by false false i j = let o = found_other (end + a) (Old a) es i in let p = found_other (end + b) (Old b) es j in omega (arith, o, p, h)
+
+same_grows : (x : Plan) (w : Method) (es : List (ℕ × Instr)) → GrowsTo x.method.code_length es → Grows x w es
+same_grows x w [] g = tt
+same_grows x w (e ∷ es) g = (g.0, same_grows x w es g.1)
 
 -- ---- which labels there are
 
@@ -261,8 +331,12 @@ differ_map (e ∷ es) =
 pub labelled : LabelsAreFound
 labelled x whole =
     let ls = labels_from 0 (woven_items x) in
+    let end = behind 0 (woven_items x) in
     let y = found_plan x in
+    let g = (whole_code x.method whole).grows in
     let d : all_differ (λ (a b : Label × ℕ). same_label a.0 b.0) ls ≡ true =
-    differ_map ls ∙ (ap (all_differ same_label) (names_are (woven_items x) 0 ∙ all_names x) ∙ olds_differ x x.method.code_length x.method.code x.method.code (whole_code x.method whole).grows) in
-    let same : labels_from 0 (woven_items y) ≡ ls = (same_places x y.at y.block 0).0 in
-    right_labelled y (woven_items y) 0 (subst (λ (es : List (Label × ℕ)). Right y es) (sym same) (all_right x ls ls d (λ l i. refl)))
+    differ_map ls ∙ (ap (all_differ same_label) (names_are (woven_items x) 0 ∙ all_names x) ∙ olds_differ x x.method.code_length x.method.code x.method.code g) in
+    let same : labels_from 0 (woven_items y) ≡ ls = (same_places x y.at y.block 0).0 in (
+      right_labelled y (woven_items y) 0 (subst (λ (es : List (Label × ℕ)). Right y es) (sym same) (all_right x end ls ls d (λ l other i. refl))),
+      apart end ls (rises false (woven_items x) 0 (items_sound x x.method (same_grows x x.method x.method.code g))),
+    )
