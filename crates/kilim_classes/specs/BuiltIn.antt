@@ -1,6 +1,6 @@
 -- The built-in classes of a program, behind the classes of the files, in plain and in woven form (own). In woven form
 -- the methods that pause are handed the fiber as one more argument, and `kilim/Fiber` is there.
-use Rattle.std.specs.Prelude.{ℕ, ◌+◌, Bool, true, false, ◌||◌, List, [], ◌∷◌, Option, Some, None, codes}
+use Rattle.std.specs.Prelude.{ℕ, zero, suc, ◌+◌, Bool, true, false, ◌||◌, List, [], ◌∷◌, ◌++◌, Option, Some, None, codes}
 use Rattle.std.specs.Str.{bytes_eq}
 use Rattle.kilim_classes.specs.declared.names.ClassId.{ClassId}
 use Rattle.kilim_classes.specs.declared.names.MethodId.{MethodId}
@@ -38,24 +38,48 @@ methods_from first (n ∷ ns) = method_id (first + n) ∷ methods_from first ns
 abbrev pub built_in_class : List ℕ → Option ClassId → Bool → List MethodId → Class
 built_in_class name superclass message methods = record { name = name; superclass = superclass; is_abstract = false; message = message; fields = []; methods = methods }
 
+-- so many numbers, from one on
+abbrev pub run_of : ℕ → ℕ → List ℕ
+run_of from zero = []
+run_of from (suc count) = from ∷ run_of (suc from) count
+
+-- A built-in class: its name, whether it is `kilim/Message`, and how many methods it has.
+abbrev pub Row : Type 0
+Row = List ℕ × (Bool × ℕ)
+
+-- those behind `java/lang/Object`, which has a constructor alone
+abbrev pub built_in_rows : List Row
+built_in_rows =
+    (codes "java/lang/String", (false, 3))
+    ∷ (codes "kilim/Message", (true, 0))
+    ∷ (codes "kilim/Pausable", (false, 0))
+    ∷ (codes "kilim/Task", (false, 3))
+    ∷ (codes "kilim/Mailbox", (false, 4))
+    ∷ (codes "kilim/Sys", (false, 7))
+    ∷ []
+
+-- the methods of all of them, behind so many others
+abbrev pub methods_behind : ℕ → List Row → ℕ
+methods_behind before [] = before
+methods_behind before (row ∷ rows) = methods_behind (before + row.1.1) rows
+
+-- The classes of these rows: their methods are numbered one class after the other, from a first method on, behind so many others.
+abbrev pub classes_of_rows : Option ClassId → ℕ → ℕ → List Row → List Class
+classes_of_rows superclass first before [] = []
+classes_of_rows superclass first before (row ∷ rows) =
+    built_in_class row.0 superclass row.1.0 (methods_from first (run_of before row.1.1)) ∷ classes_of_rows superclass first (before + row.1.1) rows
+
 -- `kilim/Fiber`, in woven form alone
 abbrev pub fiber_classes : Form → ℕ → ℕ → List Class
 fiber_classes Plain first method = []
-fiber_classes Woven first method =
-    built_in_class (codes "kilim/Fiber") (Some (class_id first)) false (methods_from method (18 ∷ 19 ∷ 20 ∷ 21 ∷ 22 ∷ 23 ∷ 24 ∷ 25 ∷ 26 ∷ 27 ∷ 28 ∷ [])) ∷ []
+fiber_classes Woven first method = classes_of_rows (Some (class_id first)) method (methods_behind 1 built_in_rows) ((codes "kilim/Fiber", (false, 11)) ∷ [])
 
 -- The classes in a form, where the first of them and the first of their methods have these numbers.
 abbrev pub built_in_classes_in : Form → ℕ → ℕ → List Class
 built_in_classes_in form first method =
-    let object = Some (class_id first) in
-    built_in_class (codes "java/lang/Object") None false (methods_from method (0 ∷ []))
-    ∷ built_in_class (codes "java/lang/String") object false (methods_from method (1 ∷ 2 ∷ 3 ∷ []))
-    ∷ built_in_class (codes "kilim/Message") object true []
-    ∷ built_in_class (codes "kilim/Pausable") object false []
-    ∷ built_in_class (codes "kilim/Task") object false (methods_from method (4 ∷ 5 ∷ 6 ∷ []))
-    ∷ built_in_class (codes "kilim/Mailbox") object false (methods_from method (7 ∷ 8 ∷ 9 ∷ 10 ∷ []))
-    ∷ built_in_class (codes "kilim/Sys") object false (methods_from method (11 ∷ 12 ∷ 13 ∷ 14 ∷ 15 ∷ 16 ∷ 17 ∷ []))
-    ∷ fiber_classes form first method
+    built_in_class (codes "java/lang/Object") None false (methods_from method (run_of 0 1))
+    ∷ classes_of_rows (Some (class_id first)) method 1 built_in_rows
+    ++ fiber_classes form first method
 
 -- in plain form
 abbrev pub built_in_classes : ℕ → ℕ → List Class
