@@ -1,3 +1,4 @@
 pub mod Read
 pub mod Mapped
 pub mod Texts
+mod Ints

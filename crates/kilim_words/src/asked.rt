@@ -1,12 +1,13 @@
 //! What the words ask for.
 
-ghost use Rattle.std.specs.Prelude.{◌≡◌, ◌≤◌, ◌<◌, ◌&&◌, true, nat_lt, nat_le, length, map, take, drop, IfOk, IfSome, codes};
+ghost use Rattle.std.specs.Prelude.{◌≡◌, ◌≤◌, ◌<◌, ◌&&◌, true, nat_lt, nat_le, is_some, length, map, take, drop, IfOk, IfSome, codes};
 ghost use Rattle.std.specs.Option.{option_copied, option_map};
 ghost use Rattle.std.specs.List.{list_all};
 ghost use Rattle.std.specs.Str.{bytes_eq};
 ghost use Rattle.std.specs.String.{string_bytes};
-ghost use Rattle.kilim_words.specs.Parts.{meant};
-ghost use Rattle.kilim_words.specs.Words.{are_files, args_in, check_request, count_hyphened, count_plain, files_read, ints_of, is_file, is_hyphened, is_option, request_of, run_behind, run_of, run_request, run_with};
+ghost use Rattle.kilim_words.specs.Numbers.{int_by};
+ghost use Rattle.kilim_words.specs.Parts.{is_int, meant, numbers_of};
+ghost use Rattle.kilim_words.specs.Words.{are_files, args_in, check_request, count_hyphened, count_plain, files_read, ints_of, is_file, is_hyphened, is_option, request_of, run_behind, run_of, run_request, run_with, value_behind};
 
 use crate::numbers::int_of;
 use crate::options::{are_options, main_in, number_or};
@@ -22,7 +23,8 @@ pub struct RunWords<'a> {
     pub workers: u64,
     /// The most instructions of each task.
     pub steps: u64,
-    pub args: Seq<i32>,
+    /// The words behind `--`, of which each writes an integer of 32 bits.
+    pub args: &'a [String],
     pub files: &'a [String],
 }
 
@@ -111,17 +113,39 @@ fn are_files(files: &[String]) -> bool
     are_words(files)
 }
 
-fn ints_of(alloc: Global, words: &[String]) -> Result<Option<Seq<i32>>, NoMemory>
-    ensures { IfOk result (λ ints. ints ≡ ints_of (map string_bytes words.now)) }
+fn is_int(word: &str) -> bool
+    ensures { result ≡ is_some (int_by word.now (value_behind (codes "-") word.now)) }
+{
+    int_of(word).is_some()
+}
+
+fn all_ints(words: &[String]) -> bool
+    ensures { result ≡ list_all (λ word. is_int (string_bytes word)) words.now }
+{
+    words.iter().all(|word| is_int(word.as_str()))
+}
+
+// The words, where each of them writes an integer.
+#[tactic(auto, using(crate::proofs::Ints::taken, crate::proofs::Ints::refused))]
+fn ints_in(words: &[String]) -> Option<&[String]>
+    ensures { option_map (λ ws. numbers_of (map string_bytes ws)) (option_copied result) ≡ ints_of (map string_bytes words.now) }
+{
+    if all_ints(words) { Some(words) } else { None }
+}
+
+/// The integers that these words write, in their order; none where a word writes none. `request` answers words of which each
+/// does. The error is want of memory alone.
+pub fn numbers(alloc: Global, words: &[String]) -> Result<Seq<i32>, NoMemory>
+    ensures { IfOk result (λ ints. ints ≡ numbers_of (map string_bytes words.now)) }
 {
     let mut ints = Vec::new(alloc);
     for word in words {
         match int_of(word.as_str()) {
             Some(n) => ints.push(n)?,
-            None => return Ok(None),
+            None => return Ok(Seq::new(alloc)),
         }
     }
-    Ok(Some(Seq::from_vec(ints)))
+    Ok(Seq::from_vec(ints))
 }
 
 fn is_mark(word: &str) -> bool
@@ -130,16 +154,16 @@ fn is_mark(word: &str) -> bool
     word == "--"
 }
 
-fn args_in(alloc: Global, words: &[String]) -> Result<Option<Seq<i32>>, NoMemory>
-    ensures { IfOk result (λ ints. ints ≡ args_in (map string_bytes words.now)) }
+fn args_in(words: &[String]) -> Option<&[String]>
+    ensures { option_map (λ ws. numbers_of (map string_bytes ws)) (option_copied result) ≡ args_in (map string_bytes words.now) }
 {
     match words {
-        [] => Ok(Some(Seq::new(alloc))),
+        [] => Some(words),
         [mark, words @ ..] => {
             if is_mark(mark.as_str()) && words.len() <= 100 {
-                ints_of(alloc, words)
+                ints_in(words)
             } else {
-                Ok(None)
+                None
             }
         }
     }
@@ -164,23 +188,17 @@ fn are_well(options: &[String], files: &[String]) -> bool
     are_options(options) && are_files(files)
 }
 
-fn run_of<'a>(
-    alloc: Global,
-    options: &'a [String],
-    files: &'a [String],
-    behind: &'a [String],
-) -> Result<Option<Asked<'a>>, NoMemory>
-    ensures few { IfOk result (λ found. IfSome found (λ asked. length (files_read (meant asked)) ≤ 1000)) }
-    ensures request { IfOk result (λ found. option_map meant found ≡ run_of (map string_bytes options.now) (map string_bytes files.now) (map string_bytes behind.now)) }
+fn run_of<'a>(options: &'a [String], files: &'a [String], behind: &'a [String]) -> Option<Asked<'a>>
+    ensures few { IfSome result (λ asked. length (files_read (meant asked)) ≤ 1000) }
+    ensures request { option_map meant result ≡ run_of (map string_bytes options.now) (map string_bytes files.now) (map string_bytes behind.now) }
 {
     if !are_well(options, files) {
-        return Ok(None);
+        return None;
     }
     let main = main_in(options);
     let workers = number_or(1, 16, "--workers=", options);
     let steps = number_or(1000000, 100000000, "--steps=", options);
-    let args = args_in(alloc, behind)?;
-    Ok(run_with(files, main, workers, steps, args))
+    run_with(files, main, workers, steps, args_in(behind))
 }
 
 fn run_with<'a>(
@@ -188,10 +206,10 @@ fn run_with<'a>(
     main: Option<&'a str>,
     workers: Option<u64>,
     steps: Option<u64>,
-    args: Option<Seq<i32>>,
+    args: Option<&'a [String]>,
 ) -> Option<Asked<'a>>
     ensures files { IfSome result (λ asked. files_read (meant asked) ≡ map string_bytes files.now) }
-    ensures request { option_map meant result ≡ run_with (map string_bytes files.now) (option_copied main.entry) workers steps args }
+    ensures request { option_map meant result ≡ run_with (map string_bytes files.now) (option_copied main.entry) workers steps (option_map (λ ws. numbers_of (map string_bytes ws)) (option_copied args.entry)) }
 {
     match (main, workers, steps, args) {
         (Some(main), Some(workers), Some(steps), Some(args)) => Some(Asked::Run(RunWords {
@@ -205,36 +223,31 @@ fn run_with<'a>(
     }
 }
 
-fn run_behind<'a>(
-    alloc: Global,
-    options: &'a [String],
-    others: &'a [String],
-) -> Result<Option<Asked<'a>>, NoMemory>
-    ensures few { IfOk result (λ found. IfSome found (λ asked. length (files_read (meant asked)) ≤ 1000)) }
-    ensures request { IfOk result (λ found. option_map meant found ≡ run_behind (map string_bytes options.now) (map string_bytes others.now)) }
+fn run_behind<'a>(options: &'a [String], others: &'a [String]) -> Option<Asked<'a>>
+    ensures few { IfSome result (λ asked. length (files_read (meant asked)) ≤ 1000) }
+    ensures request { option_map meant result ≡ run_behind (map string_bytes options.now) (map string_bytes others.now) }
 {
     let (files, behind) = others.split_at(count_plain(others));
-    run_of(alloc, options, files, behind)
+    run_of(options, files, behind)
 }
 
-fn run_request<'a>(alloc: Global, words: &'a [String]) -> Result<Option<Asked<'a>>, NoMemory>
-    ensures few { IfOk result (λ found. IfSome found (λ asked. length (files_read (meant asked)) ≤ 1000)) }
-    ensures request { IfOk result (λ found. option_map meant found ≡ run_request (map string_bytes words.now)) }
+fn run_request(words: &[String]) -> Option<Asked<'_>>
+    ensures few { IfSome result (λ asked. length (files_read (meant asked)) ≤ 1000) }
+    ensures request { option_map meant result ≡ run_request (map string_bytes words.now) }
 {
     let (options, others) = words.split_at(count_hyphened(words));
-    run_behind(alloc, options, others)
+    run_behind(options, others)
 }
 
 /// What the words ask for, or nothing where they aren't in the grammar (specs/Words.antt). At most 1,000 files are named.
-///
-/// The error is want of memory alone.
-pub fn request<'a>(alloc: Global, words: &'a [String]) -> Result<Option<Asked<'a>>, NoMemory>
-    ensures few { IfOk result (λ found. IfSome found (λ asked. length (files_read (meant asked)) ≤ 1000)) }
-    ensures request { IfOk result (λ found. option_map meant found ≡ request_of (map string_bytes words.now)) }
+/// It takes no memory.
+pub fn request(words: &[String]) -> Option<Asked<'_>>
+    ensures few { IfSome result (λ asked. length (files_read (meant asked)) ≤ 1000) }
+    ensures request { option_map meant result ≡ request_of (map string_bytes words.now) }
 {
     match words {
-        [command, rest @ ..] if command.as_str() == "check" => Ok(check_request(rest)),
-        [command, rest @ ..] if command.as_str() == "run" => run_request(alloc, rest),
-        _ => Ok(None),
+        [command, rest @ ..] if command.as_str() == "check" => check_request(rest),
+        [command, rest @ ..] if command.as_str() == "run" => run_request(rest),
+        _ => None,
     }
 }
