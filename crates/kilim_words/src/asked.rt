@@ -135,7 +135,7 @@ fn ints_in(words: &[String]) -> Option<&[String]>
 
 /// The integers that these words write, in their order; none where a word writes none. `request` answers words of which each
 /// does. The error is want of memory alone.
-pub fn numbers(alloc: Global, words: &[String]) -> Result<Seq<i32>, NoMemory>
+pub fn integers(alloc: Global, words: &[String]) -> Result<Seq<i32>, NoMemory>
     ensures { IfOk result (λ ints. ints ≡ numbers_of (map string_bytes words.now)) }
 {
     let mut ints = Vec::new(alloc);
