@@ -1,0 +1,9 @@
+pub mod Acts
+pub mod Thread
+pub mod Fibers
+pub mod Form
+pub mod Links
+pub mod Runs
+pub mod Rows
+pub mod Serves
+pub mod Law

@@ -1,0 +1,11 @@
+//! The woven machine beside the unwoven thread: definitions, and no code that does work.
+//!
+//! The laws about them stand in the crates above.
+#![tactic(auto)]
+
+ghost use Rattle.kilim_woven_runs.specs.Law.{EndsStay};
+
+/// A law, and no work: what is over stays as it is.
+pub fn ends_stay()
+    ensures { EndsStay }
+{}

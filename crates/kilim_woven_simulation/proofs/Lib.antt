@@ -1,0 +1,17 @@
+pub mod Paths
+pub mod Added
+pub mod Stretches
+pub mod Slots
+pub mod Restores
+pub mod Unwinds
+pub mod Prologue
+pub mod Rewinds
+pub mod Pauses
+pub mod Natural
+pub mod Forward
+pub mod PlainStep
+pub mod Leaves
+pub mod CallStep
+pub mod Begins
+pub mod Whole
+pub mod Same

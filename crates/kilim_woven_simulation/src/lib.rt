@@ -1,0 +1,9 @@
+//! A woven fiber does what the unwoven thread does: a law, and no code that does work.
+#![tactic(auto)]
+
+ghost use Rattle.kilim_woven_simulation.specs.Law.{WovenSimulates};
+
+/// A law, and no work: a woven fiber does what the unwoven thread does.
+pub fn woven_simulates()
+    ensures { WovenSimulates }
+{}
