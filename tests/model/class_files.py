@@ -262,10 +262,12 @@ def is_read(kind, name):
 def attributes(source, pool, kind):
     out = {}
     for _ in range(source.u2()):
-        name = named(pool, asked(pool, source.u2(), {1}))
+        # a part whose bytes end is cut, whatever it holds: so the name is looked at when the whole attribute is there
+        index = source.u2()
+        data = source.take(source.u4())
+        name = named(pool, asked(pool, index, {1}))
         if name in ONCE and is_read(kind, name) and name in out:
             raise Fault("attribute twice " + written(tuple(map(ord, name))))
-        data = source.take(source.u4())
         if is_read(kind, name):
             inside = Bytes(data, 0, Fault("attribute length " + name))
             out[name] = attribute_parts(kind, name, inside, pool)
