@@ -4,7 +4,11 @@
 #![tactic(auto)]
 
 mod cases;
+mod edges;
 mod files;
+mod fits;
+mod graphs;
+mod names;
 mod stages;
 
 use cases::answer;

@@ -45,7 +45,8 @@ fn typed(alloc: Global, program: Program) -> Option<Result<Typed, Vec<u8>>> {
     }
 }
 
-fn linked_and_typed(alloc: Global, files: &[ClassFile]) -> Option<Result<Typed, Vec<u8>>>
+/// The program of class files with its frames, or the line of the first fault of linking or typing; nothing for want of memory.
+pub fn linked_and_typed(alloc: Global, files: &[ClassFile]) -> Option<Result<Typed, Vec<u8>>>
     requires { AllByRecursion ClassFits files.now }
 {
     match linked(alloc, files)? {
