@@ -1,0 +1,7 @@
+pub mod Counted
+pub mod Drawn
+pub mod Added
+pub mod Bytes
+pub mod Stages
+pub mod Mains
+pub mod Fits

@@ -1,0 +1,9 @@
+pub mod Plan
+pub mod Assembler
+pub mod Constants
+pub mod Parts
+pub mod Node
+pub mod Stage
+pub mod MainClass
+pub mod Demo
+pub mod Laws

@@ -1,0 +1,115 @@
+//! Instructions as bytes (JVMS 6.5).
+
+ghost use Rattle.std.specs.Prelude.{◌≡◌, ◌++◌, OnOk};
+ghost use Rattle.kilim_program_maker.specs.Assembler.{bytes_of, code_of};
+
+use kilim_grammar::push_u16;
+use kilim_units::NoMemory;
+
+pub const ACONST_NULL: u8 = 1;
+
+pub const ICONST_0: u8 = 3;
+
+pub const BIPUSH: u8 = 16;
+
+pub const SIPUSH: u8 = 17;
+
+pub const ALOAD: u8 = 25;
+
+pub const ILOAD_1: u8 = 27;
+
+pub const ILOAD_3: u8 = 29;
+
+pub const ALOAD_0: u8 = 42;
+
+pub const ALOAD_1: u8 = 43;
+
+pub const ALOAD_2: u8 = 44;
+
+pub const ALOAD_3: u8 = 45;
+
+pub const ASTORE: u8 = 58;
+
+pub const ISTORE_1: u8 = 60;
+
+pub const ISTORE_3: u8 = 62;
+
+pub const ASTORE_2: u8 = 77;
+
+pub const ASTORE_3: u8 = 78;
+
+pub const DUP: u8 = 89;
+
+pub const IADD: u8 = 96;
+
+pub const IREM: u8 = 112;
+
+pub const IINC: u8 = 132;
+
+pub const IF_ICMPGE: u8 = 162;
+
+pub const IF_ICMPGT: u8 = 163;
+
+pub const GOTO: u8 = 167;
+
+pub const RETURN: u8 = 177;
+
+pub const GETFIELD: u8 = 180;
+
+pub const PUTFIELD: u8 = 181;
+
+pub const INVOKEVIRTUAL: u8 = 182;
+
+pub const INVOKESPECIAL: u8 = 183;
+
+pub const INVOKESTATIC: u8 = 184;
+
+pub const NEW: u8 = 187;
+
+pub const CHECKCAST: u8 = 192;
+
+pub const IFNULL: u8 = 198;
+
+/// An instruction: its number, and what stands behind it.
+#[derive(Clone, Copy)]
+pub enum Op {
+    Plain(u8),
+    Byte(u8, u8),
+    /// An index, a number or a distance.
+    Pair(u8, u16),
+    Two(u8, u8, u8),
+}
+
+fn push_op(code: &mut Vec<u8>, op: Op) -> Result<(), NoMemory>
+    ensures { OnOk result (code.new.items ≡ code.old.items ++ bytes_of op) }
+{
+    match op {
+        Op::Plain(number) => {
+            code.push(number)?;
+            Ok(())
+        }
+        Op::Byte(number, n) => {
+            code.extend_from_slice(&[number, n])?;
+            Ok(())
+        }
+        Op::Pair(number, n) => {
+            code.push(number)?;
+            push_u16(code, n)?;
+            Ok(())
+        }
+        Op::Two(number, m, n) => {
+            code.extend_from_slice(&[number, m, n])?;
+            Ok(())
+        }
+    }
+}
+
+/// Adds instructions behind the code.
+pub fn push_code(code: &mut Vec<u8>, ops: &[Op]) -> Result<(), NoMemory>
+    ensures { OnOk result (code.new.items ≡ code.old.items ++ code_of ops.now) }
+{
+    for op in ops {
+        push_op(code, *op)?;
+    }
+    Ok(())
+}

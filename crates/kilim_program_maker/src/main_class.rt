@@ -1,0 +1,353 @@
+//! The main class.
+
+ghost use Rattle.std.specs.Prelude.{◌≡◌, ◌∷◌, ◌++◌, ◌+◌, ◌≤◌, ◌<◌, [], length, IfOk, OnOk};
+ghost use Rattle.kilim_program_maker.specs.MainClass.{beginning, box_types, boxes_from, main_code, main_constructor, main_entries, main_file, main_frames, main_pool, printing, putting, stage_entries_from, starts_from};
+ghost use Rattle.kilim_program_maker.specs.Parts.{code_attribute, exceptions_attribute, frames_attribute, method, public_flag};
+
+use crate::assembler::*;
+use crate::parts::{
+    PUBLIC, Sizes, class_file, code_attribute, exceptions_attribute, frames_attribute, method, one,
+    two,
+};
+use crate::pool::{Constant, add_all, add_text};
+use crate::stage_class::stage_name;
+use kilim_attribute_parts::{Frame, VerificationType};
+use kilim_classfile::{ClassFile, MemberInfo};
+use kilim_constant_pool::Pool;
+use kilim_units::{NoMemory, Seq};
+use std::alloc::Global;
+
+// Distances back, in two's complement: 44, 21 and 16 bytes.
+const BACK_TO_MESSAGES: u16 = 65_492;
+
+const BACK_TO_NODES: u16 = 65_515;
+
+const BACK_TO_SUM: u16 = 65_520;
+
+#[tactic(auto, unfolding(crate::specs::MainClass::main_entries))]
+fn add_entries(alloc: Global, pool: &mut Pool) -> Result<(), NoMemory>
+    ensures { OnOk result (pool.new ≡ pool.old ++ main_entries) }
+{
+    let constants = [
+        Constant::Text(b"D/Main"),
+        Constant::Class(1),
+        Constant::Text(b"kilim/Task"),
+        Constant::Class(3),
+        Constant::Text(b"<init>"),
+        Constant::Text(b"()V"),
+        Constant::NameAndType(5, 6),
+        Constant::Method(4, 7),
+        Constant::Text(b"Code"),
+        Constant::Text(b"execute"),
+        Constant::Text(b"Exceptions"),
+        Constant::Text(b"kilim/Pausable"),
+        Constant::Class(12),
+        Constant::Text(b"StackMapTable"),
+        Constant::Text(b"kilim/Mailbox"),
+        Constant::Class(15),
+        Constant::Method(16, 7),
+        Constant::Text(b"get"),
+        Constant::Text(b"()Lkilim/Message;"),
+        Constant::NameAndType(18, 19),
+        Constant::Method(16, 20),
+        Constant::Text(b"put"),
+        Constant::Text(b"(Lkilim/Message;)V"),
+        Constant::NameAndType(22, 23),
+        Constant::Method(16, 24),
+        Constant::Text(b"D/Node"),
+        Constant::Class(26),
+        Constant::Text(b"(ILD/Node;)V"),
+        Constant::NameAndType(5, 28),
+        Constant::Method(27, 29),
+        Constant::Text(b"v"),
+        Constant::Text(b"I"),
+        Constant::NameAndType(31, 32),
+        Constant::Field(27, 33),
+        Constant::Text(b"next"),
+        Constant::Text(b"LD/Node;"),
+        Constant::NameAndType(35, 36),
+        Constant::Field(27, 37),
+        Constant::Text(b"start"),
+        Constant::NameAndType(39, 6),
+        Constant::Method(4, 40),
+        Constant::Text(b"kilim/Sys"),
+        Constant::Class(42),
+        Constant::Text(b"print"),
+        Constant::Text(b"(I)V"),
+        Constant::NameAndType(44, 45),
+        Constant::Method(43, 46),
+        Constant::Text(b"(Lkilim/Mailbox;Lkilim/Mailbox;)V"),
+        Constant::NameAndType(5, 48),
+    ];
+    add_all(alloc, pool, &constants)
+}
+
+// The class of a stage, from 1 on, and its constructor.
+fn add_stage(alloc: Global, pool: &mut Pool, k: u16) -> Result<(), NoMemory>
+    requires { k ≤ 15 }
+    ensures { OnOk result (pool.new ≡ pool.old ++ stage_entries_from k 1) }
+{
+    let name = stage_name(alloc, k)?;
+    add_text(alloc, pool, name.as_bytes())?;
+    let constants = [
+        Constant::Class(47 + 3 * k),
+        Constant::Method(48 + 3 * k, 49),
+    ];
+    add_all(alloc, pool, &constants)
+}
+
+#[tactic(auto, unfolding(crate::specs::MainClass::main_pool))]
+fn main_pool(alloc: Global, stages: u16) -> Result<Pool, NoMemory>
+    requires { stages ≤ 15 }
+    ensures { IfOk result (λ pool. pool ≡ main_pool stages) }
+{
+    let mut pool = Pool::new(alloc);
+    add_entries(alloc, &mut pool)?;
+    for k in 0..stages {
+        add_stage(alloc, &mut pool, k + 1)?;
+    }
+    Ok(pool)
+}
+
+#[tactic(auto, unfolding(crate::specs::MainClass::main_constructor))]
+fn constructor_code(alloc: Global) -> Result<Vec<u8>, NoMemory>
+    ensures { IfOk result (λ code. code.items ≡ main_constructor) }
+{
+    let mut code = Vec::new(alloc);
+    let ops = [
+        Op::Plain(ALOAD_0),
+        Op::Pair(INVOKESPECIAL, 8),
+        Op::Plain(RETURN),
+    ];
+    push_code(&mut code, &ops)?;
+    Ok(code)
+}
+
+#[tactic(auto, unfolding(crate::specs::MainClass::beginning))]
+fn push_beginning(code: &mut Vec<u8>) -> Result<(), NoMemory>
+    ensures { OnOk result (code.new.items ≡ code.old.items ++ beginning) }
+{
+    let ops = [
+        Op::Plain(ICONST_0),
+        Op::Plain(ISTORE_1),
+        Op::Plain(ACONST_NULL),
+        Op::Plain(ASTORE_2),
+        Op::Plain(ICONST_0),
+        Op::Plain(ISTORE_3),
+    ];
+    push_code(code, &ops)
+}
+
+// Makes a mailbox.
+fn push_box(code: &mut Vec<u8>, k: u8) -> Result<(), NoMemory>
+    requires { k ≤ 15 }
+    ensures { OnOk result (code.new.items ≡ code.old.items ++ boxes_from k 1) }
+{
+    let ops = [
+        Op::Pair(NEW, 16),
+        Op::Plain(DUP),
+        Op::Pair(INVOKESPECIAL, 17),
+        Op::Byte(ASTORE, 4 + k),
+    ];
+    push_code(code, &ops)
+}
+
+fn push_boxes(code: &mut Vec<u8>, count: u8) -> Result<(), NoMemory>
+    requires { count ≤ 16 }
+    ensures { OnOk result (code.new.items ≡ code.old.items ++ boxes_from 0 count) }
+{
+    for k in 0..count {
+        push_box(code, k)?;
+    }
+    Ok(())
+}
+
+// Makes the stage that takes from a mailbox, and starts it.
+fn push_start(code: &mut Vec<u8>, k: u8) -> Result<(), NoMemory>
+    requires { k < 15 }
+    ensures { OnOk result (code.new.items ≡ code.old.items ++ starts_from k 1) }
+{
+    let next = u16::from(k) + 1;
+    let ops = [
+        Op::Pair(NEW, 48 + 3 * next),
+        Op::Plain(DUP),
+        Op::Byte(ALOAD, 4 + k),
+        Op::Byte(ALOAD, 4 + (k + 1)),
+        Op::Pair(INVOKESPECIAL, 49 + 3 * next),
+        Op::Pair(INVOKEVIRTUAL, 41),
+    ];
+    push_code(code, &ops)
+}
+
+fn push_starts(code: &mut Vec<u8>, count: u8) -> Result<(), NoMemory>
+    requires { count ≤ 15 }
+    ensures { OnOk result (code.new.items ≡ code.old.items ++ starts_from 0 count) }
+{
+    for k in 0..count {
+        push_start(code, k)?;
+    }
+    Ok(())
+}
+
+// Makes the messages, and puts them into the first mailbox.
+#[tactic(auto, unfolding(crate::specs::MainClass::putting))]
+fn push_putting(code: &mut Vec<u8>, messages: u16) -> Result<(), NoMemory>
+    ensures { OnOk result (code.new.items ≡ code.old.items ++ putting messages) }
+{
+    let ops = [
+        Op::Plain(ILOAD_1),
+        Op::Pair(SIPUSH, messages),
+        Op::Pair(IF_ICMPGE, 43),
+        Op::Plain(ACONST_NULL),
+        Op::Plain(ASTORE_2),
+        Op::Plain(ICONST_0),
+        Op::Plain(ISTORE_3),
+        Op::Plain(ILOAD_3),
+        Op::Plain(ILOAD_1),
+        Op::Byte(BIPUSH, 8),
+        Op::Plain(IREM),
+        Op::Pair(IF_ICMPGT, 19),
+        Op::Pair(NEW, 27),
+        Op::Plain(DUP),
+        Op::Plain(ILOAD_1),
+        Op::Plain(ALOAD_2),
+        Op::Pair(INVOKESPECIAL, 30),
+        Op::Plain(ASTORE_2),
+        Op::Two(IINC, 3, 1),
+        Op::Pair(GOTO, BACK_TO_NODES),
+        Op::Byte(ALOAD, 4),
+        Op::Plain(ALOAD_2),
+        Op::Pair(INVOKEVIRTUAL, 25),
+        Op::Two(IINC, 1, 1),
+        Op::Pair(GOTO, BACK_TO_MESSAGES),
+    ];
+    push_code(code, &ops)
+}
+
+// Takes them from the last mailbox, and prints the sums of their values.
+#[tactic(auto, unfolding(crate::specs::MainClass::printing))]
+fn push_printing(code: &mut Vec<u8>, stages: u8, messages: u16) -> Result<(), NoMemory>
+    requires { stages ≤ 15 }
+    ensures { OnOk result (code.new.items ≡ code.old.items ++ printing stages messages) }
+{
+    let ops = [
+        Op::Plain(ICONST_0),
+        Op::Plain(ISTORE_1),
+        Op::Plain(ILOAD_1),
+        Op::Pair(SIPUSH, messages),
+        Op::Pair(IF_ICMPGE, 43),
+        Op::Byte(ALOAD, 4 + stages),
+        Op::Pair(INVOKEVIRTUAL, 21),
+        Op::Pair(CHECKCAST, 27),
+        Op::Plain(ASTORE_2),
+        Op::Plain(ICONST_0),
+        Op::Plain(ISTORE_3),
+        Op::Plain(ALOAD_2),
+        Op::Pair(IFNULL, 18),
+        Op::Plain(ILOAD_3),
+        Op::Plain(ALOAD_2),
+        Op::Pair(GETFIELD, 34),
+        Op::Plain(IADD),
+        Op::Plain(ISTORE_3),
+        Op::Plain(ALOAD_2),
+        Op::Pair(GETFIELD, 38),
+        Op::Plain(ASTORE_2),
+        Op::Pair(GOTO, BACK_TO_SUM),
+        Op::Plain(ILOAD_3),
+        Op::Pair(INVOKESTATIC, 47),
+        Op::Two(IINC, 1, 1),
+        Op::Pair(GOTO, BACK_TO_MESSAGES),
+        Op::Plain(RETURN),
+    ];
+    push_code(code, &ops)
+}
+
+#[tactic(auto, unfolding(crate::specs::MainClass::main_code))]
+fn main_code(alloc: Global, stages: u8, messages: u16) -> Result<Vec<u8>, NoMemory>
+    requires { stages ≤ 15 }
+    ensures { IfOk result (λ code. code.items ≡ main_code stages messages) }
+{
+    let mut code = Vec::new(alloc);
+    push_beginning(&mut code)?;
+    push_boxes(&mut code, stages + 1)?;
+    push_starts(&mut code, stages)?;
+    push_putting(&mut code, messages)?;
+    push_printing(&mut code, stages, messages)?;
+    Ok(code)
+}
+
+fn push_box_types(types: &mut Seq<VerificationType>, count: u8) -> Result<(), NoMemory>
+    ensures { OnOk result (types.new ≡ types.old ++ box_types count) }
+{
+    for _ in 0..count {
+        types.push(VerificationType::Object(16))?;
+    }
+    Ok(())
+}
+
+#[tactic(auto, unfolding(crate::specs::MainClass::main_frames))]
+fn main_frames(alloc: Global, stages: u8) -> Result<Vec<Frame>, NoMemory>
+    requires { stages ≤ 15 }
+    ensures { IfOk result (λ frames. frames.items ≡ main_frames stages) }
+{
+    let first = [
+        VerificationType::Object(2),
+        VerificationType::Integer,
+        VerificationType::Object(27),
+        VerificationType::Integer,
+    ];
+    let mut locals = Seq::from_vec(Vec::from_slice(alloc, &first)?);
+    push_box_types(&mut locals, stages + 1)?;
+    let mut frames = Vec::new(alloc);
+    let place = 15 + 23 * u16::from(stages);
+    frames.push(Frame::Full(place, locals, Seq::new(alloc)))?;
+    frames.push(Frame::Same(10))?;
+    frames.push(Frame::Same(23))?;
+    frames.push(Frame::Same(11))?;
+    frames.push(Frame::Same(1))?;
+    frames.push(Frame::Same(17))?;
+    frames.push(Frame::Same(18))?;
+    frames.push(Frame::Same(9))?;
+    Ok(frames)
+}
+
+fn constructor(alloc: Global) -> Result<MemberInfo, NoMemory>
+    ensures { IfOk result (λ m. m ≡ method 0 5 6 (code_attribute 9 1 1 main_constructor [] ∷ [])) }
+{
+    let sizes = Sizes {
+        stack: 1,
+        locals: 1,
+    };
+    let code = code_attribute(alloc, 9, sizes, constructor_code(alloc)?, Seq::new(alloc));
+    Ok(method(0, 5, 6, one(alloc, code)?))
+}
+
+fn execute(alloc: Global, stages: u8, messages: u16) -> Result<MemberInfo, NoMemory>
+    requires { stages ≤ 15 }
+    ensures { IfOk result (λ m. m ≡ method public_flag 10 6 (code_attribute 9 4 (5 + stages) (main_code stages messages) (frames_attribute 14 (main_frames stages) ∷ []) ∷ exceptions_attribute 11 13 ∷ [])) }
+{
+    let sizes = Sizes {
+        stack: 4,
+        locals: 5 + u16::from(stages),
+    };
+    let inside = one(alloc, frames_attribute(14, main_frames(alloc, stages)?))?;
+    let code = main_code(alloc, stages, messages)?;
+    let code = code_attribute(alloc, 9, sizes, code, inside);
+    let attributes = two(alloc, code, exceptions_attribute(alloc, 11, 13)?)?;
+    Ok(method(PUBLIC, 10, 6, attributes))
+}
+
+/// The class file of the main class, for so many stages and messages.
+#[tactic(auto, unfolding(crate::specs::MainClass::main_file))]
+pub fn main_file(alloc: Global, stages: u8, messages: u16) -> Result<ClassFile, NoMemory>
+    requires { stages ≤ 15 }
+    ensures { IfOk result (λ file. file ≡ main_file stages messages) }
+{
+    let pool = main_pool(alloc, u16::from(stages))?;
+    let methods = two(
+        alloc,
+        constructor(alloc)?,
+        execute(alloc, stages, messages)?,
+    )?;
+    Ok(class_file(alloc, pool, Seq::new(alloc), Seq::new(alloc), methods))
+}

@@ -1,0 +1,79 @@
+//! Constant pools.
+
+ghost use Rattle.std.specs.Prelude.{◌≡◌, ◌++◌, ◌∷◌, [], map, IfOk, OnOk};
+ghost use Rattle.kilim_constant_pool.specs.declared.entry.Entry.TheVariants.{Utf8};
+ghost use Rattle.kilim_program_maker.specs.Constants.{entry_of};
+
+use kilim_constant_pool::{Entry, Pool};
+use kilim_units::{NoMemory, Units};
+use std::alloc::Global;
+
+/// An entry, as it stands in the code. Numbers are indices of the same pool.
+#[derive(Clone, Copy)]
+pub enum Constant<'a> {
+    /// An ASCII text.
+    Text(&'a [u8]),
+    Class(u16),
+    Field(u16, u16),
+    Method(u16, u16),
+    NameAndType(u16, u16),
+}
+
+// The units of an ASCII text.
+fn units(alloc: Global, ascii: &[u8]) -> Result<Units, NoMemory>
+    ensures { IfOk result (λ text. text ≡ ascii.now) }
+{
+    let mut units = Vec::new(alloc);
+    for byte in ascii {
+        units.push(u16::from(*byte))?;
+    }
+    Ok(Units::from_vec(alloc, units)?)
+}
+
+fn entry_of(alloc: Global, constant: Constant<'_>) -> Result<Entry, NoMemory>
+    ensures { IfOk result (λ entry. entry ≡ entry_of constant.entry) }
+{
+    match constant {
+        Constant::Text(ascii) => Ok(Entry::Utf8(units(alloc, ascii)?)),
+        Constant::Class(name) => Ok(Entry::Class(name)),
+        Constant::Field(class, member) => Ok(Entry::Fieldref(class, member)),
+        Constant::Method(class, member) => Ok(Entry::Methodref(class, member)),
+        Constant::NameAndType(name, descriptor) => Ok(Entry::NameAndType(name, descriptor)),
+    }
+}
+
+// Adds an entry behind the others. No entry of the demo stands twice: one that did would be answered as want of memory.
+#[tactic(auto, using(crate::proofs::Added::appended))]
+fn add(pool: &mut Pool, entry: Entry) -> Result<(), NoMemory>
+    ensures { OnOk result (pool.new ≡ pool.old ++ entry ∷ []) }
+{
+    let before = pool.count();
+    match pool.add(entry) {
+        Ok(_) => {
+            if pool.count() == before {
+                Err(NoMemory)
+            } else {
+                Ok(())
+            }
+        }
+        Err(_) => Err(NoMemory),
+    }
+}
+
+/// Adds entries behind the others, in their order.
+pub fn add_all(alloc: Global, pool: &mut Pool, constants: &[Constant<'_>]) -> Result<(), NoMemory>
+    ensures { OnOk result (pool.new ≡ pool.old ++ map entry_of constants.now) }
+{
+    for constant in constants {
+        add(pool, entry_of(alloc, *constant)?)?;
+    }
+    Ok(())
+}
+
+/// Adds a text behind the others.
+pub fn add_text(alloc: Global, pool: &mut Pool, ascii: &[u8]) -> Result<(), NoMemory>
+    ensures { OnOk result (pool.new ≡ pool.old ++ Utf8 ascii.now ∷ []) }
+{
+    let text = units(alloc, ascii)?;
+    add(pool, Entry::Utf8(text))
+}
