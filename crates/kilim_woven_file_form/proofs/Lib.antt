@@ -1,0 +1,3 @@
+mod AFile
+mod LoopFile
+mod LoopLinks

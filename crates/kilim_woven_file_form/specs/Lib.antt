@@ -1,0 +1,7 @@
+pub mod Texts
+pub mod Raw
+pub mod FullFrames
+pub mod WovenFile
+pub mod Sizes
+pub mod Samples
+pub mod Examples

@@ -1,0 +1,10 @@
+pub mod FramesBack
+pub mod Finding
+pub mod DescriptorsApart
+pub mod Resolved
+pub mod Instrs
+pub mod Methods
+pub mod Parts
+pub mod Annotated
+pub mod Sizes
+pub mod Texts

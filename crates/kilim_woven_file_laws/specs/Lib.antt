@@ -1,0 +1,5 @@
+pub mod Members
+pub mod Descriptors
+pub mod Resolving
+pub mod Standing
+pub mod Laws
