@@ -1,0 +1,9 @@
+pub mod Slots
+pub mod Effects
+pub mod Lands
+pub mod TwinRows
+pub mod MoreRows
+pub mod Hands
+pub mod Shapes
+pub mod FiberCalls
+pub mod AllRows
