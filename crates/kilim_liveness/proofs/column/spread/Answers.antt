@@ -1,0 +1,18 @@
+use Rattle.std.proofs.Common.{arith}
+use Rattle.kilim_liveness.proofs.Growing.{no_growth, took}
+use Rattle.kilim_liveness.proofs.Lists.{among_at}
+use Rattle.kilim_liveness.proofs.column.spread.Goals as goal
+
+pub visit_open-requires : goal.visit_open-requires
+visit_open-requires c =
+    let lt = c.requires c.number_at-place.result (among_at c.args.befores.now c.loop-at.at c.number_at-place.result c.number_at-place.ensures) in
+    let s = c.loop-at.invariant.0.same in
+    omega (arith, lt, s)
+
+pub loop-at-init : goal.loop-at-init
+loop-at-init c = (no_growth _ c.args.marks.now.items c.args.work.now.items, λ x h. absurd h)
+
+pub loop-at-preserved : goal.loop-at-preserved
+loop-at-preserved c =
+    took c.args.befores.now c.args.passing.now c.loop-at.at c.number_at-place.result c.args.marks.now.items c.args.work.now.items c.loop-at.marks.items c.loop-at.work.items c.visit_open.new.marks.items c.visit_open.new.work.items
+    c.number_at-place.ensures c.loop-at.invariant c.in_ok-visit_open.ensures.grown c.in_ok-visit_open.ensures.marked

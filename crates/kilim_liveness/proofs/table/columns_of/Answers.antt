@@ -1,0 +1,12 @@
+use Rattle.std.proofs.Common.{◌∙◌, ◌+◌, ◌∷◌, [], List, Bool, ap, sym, subst, length, length-append}
+use Rattle.kilim_liveness.specs.Marks.{AreColumns}
+use Rattle.kilim_liveness.proofs.Growing.{column_more}
+use Rattle.kilim_liveness.proofs.table.columns_of.Goals as goal
+
+pub loop-local-preserved : goal.loop-local-preserved
+loop-local-preserved c =
+    let is = c.in_ok-push.ensures.items in (
+      ap length is ∙ (length-append c.loop-local.columns.items (c.in_ok-column.column ∷ []) ∙ ap (λ n. n + 1) c.loop-local.invariant.0),
+      subst (λ (cs : List (List Bool)). AreColumns c.args.method.now (c.loop-local.local + 1) cs) (sym is)
+          (column_more c.args.method.now c.loop-local.local c.loop-local.columns.items c.in_ok-column.column c.loop-local.invariant.0 c.loop-local.invariant.1 c.in_ok-column.ensures),
+    )
