@@ -1,0 +1,5 @@
+pub mod Laid
+pub mod Placed
+pub mod Targets
+pub mod LiveFacts
+pub mod Formed

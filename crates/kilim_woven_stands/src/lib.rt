@@ -1,0 +1,9 @@
+//! The woven form of a program by old place: a law, and no code that does work.
+#![tactic(auto)]
+
+ghost use Rattle.kilim_woven_stands.specs.Law.{WovenStands};
+
+/// A law, and no work: each method of a woven program has its form by old place.
+pub fn woven_stands()
+    ensures { WovenStands }
+{}
