@@ -1,0 +1,5 @@
+pub mod Names
+pub mod Bodies
+pub mod Fibers
+pub mod Called
+pub mod Together
