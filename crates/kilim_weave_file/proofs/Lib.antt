@@ -1,0 +1,5 @@
+pub mod Calls
+pub mod Entries
+pub mod Lists
+pub mod Pairs
+pub mod Sums

@@ -1,0 +1,37 @@
+-- Lists.
+use Rattle.std.proofs.Common.{◌≡◌, ℕ, zero, suc, ◌+◌, ℤ, List, [], ◌∷◌, ◌++◌, drop, slice_get, Option, Some, None, refl, sym, ap, subst, ◌∙◌, arith}
+use Rattle.std.specs.Prelude.{FitsSigned}
+use Rattle.std.specs.Int.{w32}
+use Rattle.std.specs.List.{cons_option, filter_map, flat_map}
+use Rattle.std.proofs.lemmas.List.{append-nil, append_assoc}
+use Rattle.kilim_opcodes.specs.Instr.{IsAbove, PairsFit, TargetFits}
+
+pub flat_map_append : {A B : Type 0} (f : A → List B) (xs ys : List A) → flat_map f (xs ++ ys) ≡ flat_map f xs ++ flat_map f ys
+flat_map_append f [] ys = refl
+flat_map_append f (x ∷ xs) ys = ap (λ zs. f x ++ zs) (flat_map_append f xs ys) ∙ sym (append_assoc (f x) (flat_map f xs) (flat_map f ys))
+
+pub flat_map_last : {A B : Type 0} (f : A → List B) (old : List B) (xs : List A) (x : A) → (old ++ flat_map f xs) ++ f x ≡ old ++ flat_map f (xs ++ x ∷ [])
+flat_map_last f old xs x = append_assoc old (flat_map f xs) (f x) ∙ ap (λ zs. old ++ zs) (ap (λ zs. flat_map f xs ++ zs) (sym (append-nil (f x))) ∙ sym (flat_map_append f xs (x ∷ [])))
+
+first_option : {A : Type 0} (o : Option A) (xs : List A) → cons_option o xs ≡ cons_option o [] ++ xs
+first_option None xs = refl
+first_option (Some x) xs = refl
+
+-- one more
+pub filter_map_last : {A B : Type 0} (f : A → Option B) (xs : List A) (x : A) → filter_map f xs ++ cons_option (f x) [] ≡ filter_map f (xs ++ x ∷ [])
+filter_map_last f [] x = refl
+filter_map_last f (y ∷ ys) x =
+    ap (λ zs. zs ++ cons_option (f x) []) (first_option (f y) (filter_map f ys))
+    ∙ (append_assoc (cons_option (f y) []) (filter_map f ys) (cons_option (f x) [])
+    ∙ (ap (λ zs. cons_option (f y) [] ++ zs) (filter_map_last f ys x) ∙ sym (first_option (f y) (filter_map f (ys ++ x ∷ [])))))
+
+pub drop_next : {A : Type 0} (xs : List A) (n : ℕ) (x : A) → slice_get xs n ≡ Some x → drop n xs ≡ x ∷ drop (n + 1) xs
+drop_next [] n x e = absurd (cc)
+drop_next {A} (y ∷ xs) zero x e = let s : y ≡ x = cc in ap (λ (z : A). z ∷ xs) s
+drop_next {A} (y ∷ xs) (suc n) x e = let number : suc (n + 1) ≡ suc n + 1 = omega arith in drop_next xs n x e ∙ ap (λ (j : ℕ). x ∷ drop j (y ∷ xs)) number
+
+-- matches of a switch, one more
+pub pairs_step : (place : ℕ) (pairs : List (ℤ × ℤ)) (at : ℕ) (least : Option ℤ) (pair : ℤ × ℤ) (key : ℤ) → slice_get pairs at ≡ Some pair → key ≡ pair.0 → IsAbove least pair.0 → FitsSigned w32 pair.0 → TargetFits w32 place pair.1 →
+    (PairsFit place least (drop at pairs) → PairsFit place None pairs) → PairsFit place (Some key) (drop (at + 1) pairs) → PairsFit place None pairs
+pairs_step place pairs at least pair key there is above fits far before rest =
+    before (subst (λ (ps : List (ℤ × ℤ)). PairsFit place least ps) (sym (drop_next pairs at pair there)) ((above, fits, far), subst (λ (k : ℤ). PairsFit place (Some k) (drop (at + 1) pairs)) is rest))

@@ -1,0 +1,74 @@
+-- The methods of a file, one more.
+use Rattle.std.proofs.Common.{◌≡◌, ℕ, ◌+◌, arith, Bool, List, [], ◌∷◌, ◌++◌, length, slice_get, map, Option, Some, None, refl, sym, ap, ◌∙◌}
+use Rattle.std.specs.List.{flat_map}
+use Rattle.kilim_classes.specs.declared.class.Method.{Method}
+use Rattle.kilim_classes.specs.Program.{Program}
+use Rattle.kilim_classfile.specs.declared.class_file.ClassFile.{ClassFile}
+use Rattle.kilim_constant_pool.specs.declared.entry.Entry.{Entry}
+use Rattle.kilim_pool_needs.specs.declared.need.Need.{Need}
+use Rattle.kilim_pool_needs.specs.Adding.{with_needs}
+use Rattle.kilim_classfile.specs.declared.class_file.MemberInfo.{MemberInfo}
+use Rattle.kilim_pool_needs.proofs.Searching.{some_same, none_is_some}
+use Rattle.kilim_weave_file.specs.Parts.{member_by}
+use Rattle.kilim_woven_file_form.specs.WovenFile.{MethodPair, member_needs, pairs_of, woven_file, woven_member, woven_pool}
+
+abbrev one : MemberInfo → Method → Method → List Bool → List MethodPair
+one i p m c = record { info = i; plain = p; method = m; counted = c } ∷ []
+
+here : (i : MemberInfo) (p q m n : Method) (c d : List Bool) → p ≡ q → m ≡ n → c ≡ d → one i p m c ≡ one i q n d
+here i p q m n c d ep em ec = ap (λ x. one i x m c) ep ∙ (ap (λ x. one i q x c) em ∙ ap (λ x. one i q n x) ec)
+
+pub pairs_more : (is : List MemberInfo) (i : MemberInfo) (ps ms : List Method) (cs : List (List Bool)) (p m : Method) (c : List Bool) →
+    slice_get ps (length is) ≡ Some p → slice_get ms (length is) ≡ Some m → slice_get cs (length is) ≡ Some c →
+    pairs_of (is ++ i ∷ []) ps ms cs ≡ pairs_of is ps ms cs ++ record { info = i; plain = p; method = m; counted = c } ∷ []
+pairs_more [] i (q ∷ ps) (n ∷ ms) (d ∷ cs) p m c hp hm hc = here i q p n m d c (some_same q p hp) (some_same n m hm) (some_same d c hc)
+pairs_more [] i [] ms cs p m c hp hm hc = absurd (none_is_some p hp)
+pairs_more [] i (q ∷ ps) [] cs p m c hp hm hc = absurd (none_is_some m hm)
+pairs_more [] i (q ∷ ps) (n ∷ ms) [] p m c hp hm hc = absurd (none_is_some c hc)
+pairs_more (x ∷ is) i (q ∷ ps) (n ∷ ms) (d ∷ cs) p m c hp hm hc =
+    ap (λ xs. record { info = x; plain = q; method = n; counted = d } ∷ xs) (pairs_more is i ps ms cs p m c hp hm hc)
+pairs_more (x ∷ is) i [] ms cs p m c hp hm hc = absurd (none_is_some p hp)
+pairs_more (x ∷ is) i (q ∷ ps) [] cs p m c hp hm hc = absurd (none_is_some m hm)
+pairs_more (x ∷ is) i (q ∷ ps) (n ∷ ms) [] p m c hp hm hc = absurd (none_is_some c hc)
+
+map_append : {A B : Type 0} (f : A → B) (xs ys : List A) → map f (xs ++ ys) ≡ map f xs ++ map f ys
+map_append f [] ys = refl
+map_append f (x ∷ xs) ys = ap (λ zs. f x ∷ zs) (map_append f xs ys)
+
+member_there : (w : Program) (file : ClassFile) (pool : List Entry) (is : List MemberInfo) (i : MemberInfo) (ps ms : List Method) (cs : List (List Bool)) (all : List MemberInfo) (next : MemberInfo) (op om : Option Method) (oc : Option (List Bool)) →
+    slice_get ps (length is) ≡ op → slice_get ms (length is) ≡ om → slice_get cs (length is) ≡ oc → member_by w file pool i op om oc ≡ Some next → all ≡ map (woven_member w file pool) (pairs_of is ps ms cs) →
+    all ++ next ∷ [] ≡ map (woven_member w file pool) (pairs_of (is ++ i ∷ []) ps ms cs)
+member_there w file pool is i ps ms cs all next (Some p) (Some m) (Some c) hp hm hc h so_far =
+    let f = woven_member w file pool in
+    ap (λ (x : MemberInfo). all ++ x ∷ []) (sym (some_same (f (record { info = i; plain = p; method = m; counted = c })) next h))
+    ∙ (ap (λ (xs : List MemberInfo). xs ++ f (record { info = i; plain = p; method = m; counted = c }) ∷ []) so_far
+    ∙ (sym (map_append f (pairs_of is ps ms cs) (one i p m c)) ∙ ap (λ (xs : List MethodPair). map f xs) (sym (pairs_more is i ps ms cs p m c hp hm hc))))
+member_there w file pool is i ps ms cs all next None om oc hp hm hc h so_far = absurd (none_is_some next h)
+member_there w file pool is i ps ms cs all next (Some p) None oc hp hm hc h so_far = absurd (none_is_some next h)
+member_there w file pool is i ps ms cs all next (Some p) (Some m) None hp hm hc h so_far = absurd (none_is_some next h)
+
+pub members_more : (w : Program) (file : ClassFile) (pool : List Entry) (is : List MemberInfo) (i : MemberInfo) (ps ms : List Method) (cs : List (List Bool)) (all : List MemberInfo) (next : MemberInfo) (at : ℕ) (op om : Option Method) (oc : Option (List Bool)) →
+    at ≡ length is → op ≡ slice_get ps at → om ≡ slice_get ms at → oc ≡ slice_get cs at → member_by w file pool i op om oc ≡ Some next → all ≡ map (woven_member w file pool) (pairs_of is ps ms cs) →
+    all ++ next ∷ [] ≡ map (woven_member w file pool) (pairs_of (is ++ i ∷ []) ps ms cs)
+members_more w file pool is i ps ms cs all next at op om oc here hp hm hc h so_far =
+    member_there w file pool is i ps ms cs all next op om oc
+    (sym (hp ∙ ap (λ n. slice_get ps n) here)) (sym (hm ∙ ap (λ n. slice_get ms n) here)) (sym (hc ∙ ap (λ n. slice_get cs n) here)) h so_far
+
+last_length : (is : List MemberInfo) (i : MemberInfo) → length (is ++ i ∷ []) ≡ length is + 1
+last_length [] i = omega arith
+last_length (x ∷ is) i = let e = last_length is i in omega (arith, e)
+
+pub length_more : (is : List MemberInfo) (i : MemberInfo) (at : ℕ) → at ≡ length is → at + 1 ≡ length (is ++ i ∷ [])
+length_more is i at h = ap (λ n. n + 1) h ∙ sym (last_length is i)
+
+-- the file, by its parts
+pub file_is : (w : Program) (file copy : ClassFile) (ps ms : List Method) (cs : List (List Bool)) (needs : List Need) (pool : List Entry) (methods : List MemberInfo) → copy ≡ file →
+    needs ≡ flat_map (member_needs w file) (pairs_of file.methods ps ms cs) → pool ≡ with_needs copy.constant_pool needs → methods ≡ map (woven_member w file pool) (pairs_of copy.methods ps ms cs) →
+    record copy { constant_pool = pool; methods = methods } ≡ woven_file w file (pairs_of file.methods ps ms cs)
+unfolding woven_file
+file_is w file copy ps ms cs needs pool methods same needed grown written =
+    let p : pool ≡ woven_pool w file (pairs_of file.methods ps ms cs) = grown ∙ (ap (λ (f : ClassFile). with_needs f.constant_pool needs) same ∙ ap (with_needs file.constant_pool) needed) in
+    let m : methods ≡ map (woven_member w file pool) (pairs_of file.methods ps ms cs) = written ∙ ap (λ (f : ClassFile). map (woven_member w file pool) (pairs_of f.methods ps ms cs)) same in
+    ap (λ (f : ClassFile). record f { constant_pool = pool; methods = methods }) same
+    ∙ (ap (λ (ms : List MemberInfo). record file { constant_pool = pool; methods = ms }) m
+    ∙ ap (λ (q : List Entry). record file { constant_pool = q; methods = map (woven_member w file q) (pairs_of file.methods ps ms cs) }) p)

@@ -1,0 +1,6 @@
+use Rattle.std.proofs.Common.{◌≡◌, ◌++◌, drop}
+use Rattle.kilim_woven_file_form.specs.FullFrames.{frames_needs}
+use Rattle.kilim_weave_file.proofs.needs.push_frames.Given as goal
+
+abbrev pub invariant-loop-entry : goal.invariant-loop-entry
+invariant-loop-entry l = l.into.items ++ frames_needs l.program (drop l.entry-index l.frames) ≡ l.fn.into.items ++ frames_needs l.program l.frames

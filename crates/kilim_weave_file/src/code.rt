@@ -1,0 +1,178 @@
+//! Woven code.
+
+ghost use Rattle.std.specs.Prelude.{◌≡◌, ◌∷◌, [], None, if◌then◌else◌, IfOk};
+ghost use Rattle.kilim_link_spec.specs.Code.{decoded};
+ghost use Rattle.kilim_link_spec.specs.Mentions.{instrs_if};
+ghost use Rattle.kilim_bytecode.specs.Code.{code_text};
+ghost use Rattle.kilim_woven_file_form.specs.Raw.{raw_code};
+ghost use Rattle.kilim_woven_file_form.specs.WovenFile.{has_calls, table_by, table_with, woven_code};
+
+use crate::forms::{added_raw, moved_raw};
+use crate::frames::full_frames;
+use crate::needs::{has_calls, instrs_if, old_table, table_units};
+use crate::writing::code_bytes;
+use kilim_attributes::{Code, CodeAttribute, CodeInfo};
+use kilim_classes::{Instr, Method, Program};
+use kilim_constant_pool::Pool;
+use kilim_opcodes::RawInstr;
+use kilim_pool_needs::text_index;
+use kilim_units::{NoMemory, Seq};
+use std::alloc::Global;
+
+// The instructions of a woven code in their forms; the counted ones are the old ones, in order.
+#[tactic(auto, unfolding(kilim_woven_file_form::specs::Raw::raw_code))]
+fn raw_code(
+    alloc: Global,
+    program: &Program,
+    old: &Pool,
+    pool: &Pool,
+    code: &[(u32, Instr)],
+    counted: &[bool],
+    olds: &[(u32, RawInstr)],
+) -> Result<Vec<(u32, RawInstr)>, NoMemory>
+    ensures { IfOk result (λ v. v.items ≡ raw_code program.now old.now pool.now code.now counted.now olds.now) }
+{
+    let mut all = Vec::new(alloc);
+    let mut marks = counted;
+    let mut rest = olds;
+    for entry in code {
+        let [mark, others @ ..] = marks else {
+            return Ok(all);
+        };
+        marks = others;
+        if *mark {
+            let [was, behind @ ..] = rest else {
+                return Ok(all);
+            };
+            rest = behind;
+            let raw = moved_raw(alloc, program, old, pool, &entry.1, &was.1)?;
+            all.push((entry.0, raw))?;
+        } else {
+            let raw = added_raw(alloc, program, pool, &entry.1)?;
+            all.push((entry.0, raw))?;
+        }
+    }
+    Ok(all)
+}
+
+fn new_bytes(
+    alloc: Global,
+    program: &Program,
+    old: &Pool,
+    pool: &Pool,
+    method: &Method,
+    counted: &[bool],
+    bytes: &[u8],
+) -> Result<Seq<u8>, NoMemory>
+    ensures { IfOk result (λ b. b ≡ code_text (raw_code program.now old.now pool.now method.now.code counted.now (instrs_if (decoded bytes.now)))) }
+{
+    let olds = instrs_if(alloc, bytes)?;
+    let raw = raw_code(
+        alloc,
+        program,
+        old,
+        pool,
+        method.code.as_slice(),
+        counted,
+        olds.as_slice(),
+    )?;
+    code_bytes(alloc, raw.as_slice())
+}
+
+fn table_with(
+    alloc: Global,
+    program: &Program,
+    pool: &Pool,
+    name: u16,
+    method: &Method,
+) -> Result<CodeAttribute, NoMemory>
+    ensures { IfOk result (λ a. a ≡ table_with program.now pool.now name method.now) }
+{
+    let frames = full_frames(alloc, program, pool, method.frames.as_slice())?;
+    Ok(CodeAttribute {
+        attribute_name_index: name,
+        info: CodeInfo::StackMapTable(frames),
+    })
+}
+
+fn one(alloc: Global, table: CodeAttribute) -> Result<Seq<CodeAttribute>, NoMemory>
+    ensures { IfOk result (λ v. v ≡ table ∷ []) }
+{
+    let mut all = Seq::new(alloc);
+    all.push(table)?;
+    Ok(all)
+}
+
+fn new_table(
+    alloc: Global,
+    program: &Program,
+    pool: &Pool,
+    method: &Method,
+) -> Result<Seq<CodeAttribute>, NoMemory>
+    ensures { IfOk result (λ v. v ≡ table_by program.now pool.now None method.now) }
+{
+    if method.frames.is_empty() {
+        return Ok(Seq::new(alloc));
+    }
+    let units = table_units(alloc)?;
+    let name = text_index(pool, &units);
+    one(alloc, table_with(alloc, program, pool, name, method)?)
+}
+
+// The StackMapTable, where there was one or there are frames.
+fn table_by(
+    alloc: Global,
+    program: &Program,
+    pool: &Pool,
+    name: Option<u16>,
+    method: &Method,
+) -> Result<Seq<CodeAttribute>, NoMemory>
+    ensures { IfOk result (λ v. v ≡ table_by program.now pool.now name method.now) }
+{
+    match name {
+        Some(found) => one(alloc, table_with(alloc, program, pool, found, method)?),
+        None => new_table(alloc, program, pool, method),
+    }
+}
+
+fn bytes_by(
+    alloc: Global,
+    program: &Program,
+    old: &Pool,
+    pool: &Pool,
+    method: &Method,
+    counted: &[bool],
+    bytes: Seq<u8>,
+) -> Result<Seq<u8>, NoMemory>
+    ensures { IfOk result (λ b. b ≡ (if has_calls program.now method.now then code_text (raw_code program.now old.now pool.now method.now.code counted.now (instrs_if (decoded bytes))) else bytes)) }
+{
+    if has_calls(program, method) {
+        new_bytes(alloc, program, old, pool, method, counted, bytes.as_slice())
+    } else {
+        Ok(bytes)
+    }
+}
+
+/// The Code attribute of a method that pauses: with pausable calls its code is written anew, else it stays byte for byte. Of its
+/// attributes a StackMapTable is left.
+pub fn woven_code(
+    alloc: Global,
+    program: &Program,
+    old: &Pool,
+    pool: &Pool,
+    method: &Method,
+    counted: &[bool],
+    code: Code,
+) -> Result<Code, NoMemory>
+    ensures { IfOk result (λ c. c ≡ woven_code program.now old.now pool.now method.now counted.now code) }
+{
+    let attributes = table_by(alloc, program, pool, old_table(&code), method)?;
+    let bytes = bytes_by(alloc, program, old, pool, method, counted, code.code)?;
+    Ok(Code {
+        max_stack: method.max_stack,
+        max_locals: method.max_locals,
+        code: bytes,
+        exception_table: code.exception_table,
+        attributes,
+    })
+}

@@ -1,0 +1,161 @@
+//! Declared frames, all in the full form (JVMS 4.7.4).
+
+ghost use Rattle.std.specs.Prelude.{◌≡◌, ◌<◌, ◌-◌, ◌++◌, ◌∷◌, List, suc, length, map, slice_get, Some, IfOk};
+ghost use Rattle.kilim_attribute_parts.specs.declared.frame.VerificationType.TheVariants as slot;
+ghost use Rattle.kilim_classes.specs.declared.verified.VType.{VType};
+ghost use Rattle.kilim_classes.specs.declared.verified.VType.TheVariants.{Object};
+ghost use Rattle.kilim_typing.specs.Step.{is_long};
+ghost use Rattle.kilim_weave_file.specs.Parts.{entries_from};
+ghost use Rattle.kilim_woven_file_form.specs.FullFrames.{entries, full_frame, full_frames, slot_type};
+
+use crate::texts::type_name;
+use kilim_attribute_parts::{Frame as Entered, VerificationType};
+use kilim_classes::{Frame, Program, Ty, VType};
+use kilim_constant_pool::Pool;
+use kilim_pool_needs::{Need, index_of};
+use kilim_units::{NoMemory, Seq};
+use std::alloc::Global;
+
+// The entry of a class is found by the text of its name.
+fn class_entry(alloc: Global, program: &Program, pool: &Pool, ty: Ty) -> Result<u16, NoMemory>
+    ensures { IfOk result (λ index. slot_type program.now pool.now (Object ty) ≡ slot.Object index) }
+{
+    let need = Need::AClass(type_name(alloc, program, ty)?);
+    Ok(index_of(pool, &need))
+}
+
+// A place is below 65,536; another would be answered as want of memory.
+fn near_place(place: u32) -> Result<u16, NoMemory>
+    ensures { IfOk result (λ n. n ≡ place) }
+{
+    if place > 65_535 {
+        return Err(NoMemory);
+    }
+    Ok(place as u16)
+}
+
+fn slot_type(
+    alloc: Global,
+    program: &Program,
+    pool: &Pool,
+    of: &VType,
+) -> Result<VerificationType, NoMemory>
+    ensures { IfOk result (λ t. t ≡ slot_type program.now pool.now of.now) }
+{
+    match of {
+        VType::Top => Ok(VerificationType::Top),
+        VType::Int => Ok(VerificationType::Integer),
+        VType::Long => Ok(VerificationType::Long),
+        VType::Null => Ok(VerificationType::Null),
+        VType::UninitThis => Ok(VerificationType::UninitializedThis),
+        VType::Uninit(place) => Ok(VerificationType::Uninitialized(near_place(*place)?)),
+        VType::Object(ty) => {
+            Ok(VerificationType::Object(class_entry(alloc, program, pool, *ty)?))
+        }
+    }
+}
+
+fn slot_types(
+    alloc: Global,
+    program: &Program,
+    pool: &Pool,
+    types: &[VType],
+) -> Result<Seq<VerificationType>, NoMemory>
+    ensures { IfOk result (λ ts. ts ≡ map (slot_type program.now pool.now) types.now) }
+{
+    let mut all = Vec::new(alloc);
+    for of in types {
+        all.push(slot_type(alloc, program, pool, of)?)?;
+    }
+    Ok(Seq::from_vec(all))
+}
+
+fn is_long(of: &VType) -> bool
+    ensures { result ≡ is_long of.now }
+{
+    matches!(of, VType::Long)
+}
+
+fn local_at(locals: &[VType], at: usize) -> &VType
+    requires { at < length locals.now }
+    ensures { slice_get locals.now at ≡ Some result.now }
+{
+    &locals[at]
+}
+
+// One local; whether the one behind it is passed over.
+fn push_entry(all: &mut Vec<VType>, skips: bool, of: &VType) -> Result<bool, NoMemory>
+    ensures { IfOk result (λ next. (rest : List VType) → all.new.items ++ entries_from next rest ≡ all.old.items ++ entries_from skips (of.now ∷ rest)) }
+{
+    if skips {
+        return Ok(false);
+    }
+    all.push(*of)?;
+    Ok(is_long(of))
+}
+
+// In the locals of a frame a long is one entry.
+#[tactic(auto, using(crate::proofs::Entries::entries_are))]
+fn entries(alloc: Global, locals: &[VType]) -> Result<Vec<VType>, NoMemory>
+    ensures { IfOk result (λ v. v.items ≡ entries locals.now) }
+{
+    let mut all = Vec::new(alloc);
+    let mut skips = false;
+    for index in 0..locals.len() {
+        let of = local_at(locals, index);
+        skips = push_entry(&mut all, skips, of)?;
+    }
+    Ok(all)
+}
+
+// The distance from the place behind the frame before.
+fn delta_from(next: u32, at: u32) -> Result<u16, NoMemory>
+    ensures { IfOk result (λ delta. delta ≡ at - next) }
+{
+    near_place(at.saturating_sub(next))
+}
+
+fn full_frame(
+    alloc: Global,
+    program: &Program,
+    pool: &Pool,
+    delta: u16,
+    frame: &Frame,
+) -> Result<Entered, NoMemory>
+    ensures { IfOk result (λ f. f ≡ full_frame program.now pool.now delta frame.now) }
+{
+    let written = entries(alloc, frame.locals.as_slice())?;
+    let locals = slot_types(alloc, program, pool, written.as_slice())?;
+    let stack = slot_types(alloc, program, pool, frame.stack.as_slice())?;
+    Ok(Entered::Full(delta, locals, stack))
+}
+
+/// The frames of a table, in their order.
+#[tactic(auto, unfolding(kilim_woven_file_form::specs::FullFrames::full_frames))]
+pub fn full_frames(
+    alloc: Global,
+    program: &Program,
+    pool: &Pool,
+    frames: &[(u32, Frame)],
+) -> Result<Seq<Entered>, NoMemory>
+    ensures { IfOk result (λ fs. fs ≡ full_frames program.now pool.now 0 frames.now) }
+{
+    let mut all = Vec::new(alloc);
+    let mut next = 0;
+    for entry in frames {
+        let delta = delta_from(next, entry.0)?;
+        all.push(full_frame(alloc, program, pool, delta, &entry.1)?)?;
+        next = near_next(entry.0)?;
+    }
+    Ok(Seq::from_vec(all))
+}
+
+// The place behind.
+fn near_next(place: u32) -> Result<u32, NoMemory>
+    ensures { IfOk result (λ n. n ≡ suc place) }
+{
+    if place > 65_535 {
+        return Err(NoMemory);
+    }
+    Ok(place + 1)
+}

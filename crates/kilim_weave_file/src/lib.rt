@@ -1,0 +1,17 @@
+//! `weave` writes woven class files: the woven file of a class file, or why there is none.
+#![tactic(auto)]
+
+mod code;
+mod fault;
+mod forms;
+mod frames;
+mod members;
+mod needs;
+mod sizes;
+mod texts;
+mod weaving;
+mod writing;
+
+pub use fault::ApplyFault;
+pub use sizes::longest_text;
+pub use weaving::apply;

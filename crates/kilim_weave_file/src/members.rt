@@ -1,0 +1,135 @@
+//! Woven methods.
+
+ghost use Rattle.std.specs.Prelude.{◌≡◌, ◌++◌, ◌∷◌, [], IfOk, OnOk};
+ghost use Rattle.std.specs.List.{cons_option, filter_map};
+ghost use Rattle.kilim_link_spec.specs.World.{member_descriptor};
+ghost use Rattle.kilim_woven_file_form.specs.Texts.{woven_descriptor};
+ghost use Rattle.kilim_woven_file_form.specs.WovenFile.{attribute_with, one_parameter_more, rewritten, woven_attribute, woven_info};
+
+use crate::code::woven_code;
+use crate::needs::text_of;
+use crate::texts::woven_descriptor;
+use kilim_attribute_parts::AnnotationPart;
+use kilim_attributes::{Attribute, Info};
+use kilim_classes::{Method, Program};
+use kilim_classfile::{ClassFile, MemberInfo};
+use kilim_constant_pool::Pool;
+use kilim_pool_needs::text_index;
+use kilim_units::{NoMemory, Seq, Units};
+use std::alloc::Global;
+
+// One parameter more, without annotations (JVMS 4.7.18). A count of 255 has no room for one: it would be answered as want of memory.
+fn one_parameter_more(parts: Seq<AnnotationPart>) -> Result<Seq<AnnotationPart>, NoMemory>
+    ensures { IfOk result (λ more. more ≡ one_parameter_more parts) }
+{
+    let mut items = parts.into_vec();
+    let Some(first) = items.first() else {
+        return Ok(Seq::from_vec(items));
+    };
+    let AnnotationPart::Parameters(count) = *first else {
+        return Ok(Seq::from_vec(items));
+    };
+    let Some(more) = count.checked_add(1) else {
+        return Err(NoMemory);
+    };
+    items[0] = AnnotationPart::Parameters(more);
+    items.push(AnnotationPart::Annotations(0))?;
+    Ok(Seq::from_vec(items))
+}
+
+// What an attribute of a method that pauses becomes: only code, exceptions and annotations stay.
+fn woven_info(
+    alloc: Global,
+    program: &Program,
+    old: &Pool,
+    pool: &Pool,
+    method: &Method,
+    counted: &[bool],
+    info: Info,
+) -> Result<Option<Info>, NoMemory>
+    ensures { IfOk result (λ i. i ≡ woven_info program.now old.now pool.now method.now counted.now info) }
+{
+    match info {
+        Info::Code(code) => {
+            Ok(Some(Info::Code(woven_code(alloc, program, old, pool, method, counted, code)?)))
+        }
+        Info::Exceptions(classes) => Ok(Some(Info::Exceptions(classes))),
+        Info::RuntimeVisibleAnnotations(parts) => {
+            Ok(Some(Info::RuntimeVisibleAnnotations(parts)))
+        }
+        Info::RuntimeInvisibleAnnotations(parts) => {
+            Ok(Some(Info::RuntimeInvisibleAnnotations(parts)))
+        }
+        Info::RuntimeVisibleParameterAnnotations(parts) => {
+            Ok(Some(Info::RuntimeVisibleParameterAnnotations(one_parameter_more(parts)?)))
+        }
+        Info::RuntimeInvisibleParameterAnnotations(parts) => {
+            Ok(Some(Info::RuntimeInvisibleParameterAnnotations(one_parameter_more(parts)?)))
+        }
+        Info::ConstantValue(_) | Info::StackMapTable(_) | Info::Raw(_) => Ok(None),
+    }
+}
+
+fn push_attribute(into: &mut Vec<Attribute>, name: u16, info: Option<Info>) -> Result<(), NoMemory>
+    ensures { OnOk result (into.new.items ≡ into.old.items ++ cons_option (attribute_with name info) []) }
+{
+    match info {
+        None => {}
+        Some(found) => into.push(Attribute {
+            attribute_name_index: name,
+            info: found,
+        })?,
+    }
+    Ok(())
+}
+
+fn woven_attributes(
+    alloc: Global,
+    program: &Program,
+    old: &Pool,
+    pool: &Pool,
+    method: &Method,
+    counted: &[bool],
+    attributes: Seq<Attribute>,
+) -> Result<Seq<Attribute>, NoMemory>
+    ensures { IfOk result (λ v. v ≡ filter_map (woven_attribute program.now old.now pool.now method.now counted.now) attributes) }
+{
+    let mut all = Vec::new(alloc);
+    for attribute in attributes.into_vec() {
+        let name = attribute.attribute_name_index;
+        let info = woven_info(alloc, program, old, pool, method, counted, attribute.info)?;
+        push_attribute(&mut all, name, info)?;
+    }
+    Ok(Seq::from_vec(all))
+}
+
+/// The descriptor of a method that pauses, with the fiber.
+pub fn member_text(alloc: Global, file: &ClassFile, info: &MemberInfo) -> Result<Units, NoMemory>
+    ensures { IfOk result (λ units. units ≡ woven_descriptor (member_descriptor file.now info.now)) }
+{
+    let text = text_of(alloc, &file.constant_pool, info.descriptor_index)?;
+    woven_descriptor(alloc, &text)
+}
+
+/// A method that pauses, written anew.
+pub fn rewritten(
+    alloc: Global,
+    program: &Program,
+    file: &ClassFile,
+    pool: &Pool,
+    method: &Method,
+    counted: &[bool],
+    info: MemberInfo,
+) -> Result<MemberInfo, NoMemory>
+    ensures { IfOk result (λ i. i ≡ rewritten program.now file.now pool.now method.now counted.now info) }
+{
+    let text = member_text(alloc, file, &info)?;
+    let old = &file.constant_pool;
+    let attributes = woven_attributes(alloc, program, old, pool, method, counted, info.attributes)?;
+    Ok(MemberInfo {
+        access_flags: info.access_flags,
+        name_index: info.name_index,
+        descriptor_index: text_index(pool, &text),
+        attributes,
+    })
+}

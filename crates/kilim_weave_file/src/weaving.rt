@@ -1,0 +1,326 @@
+//! The woven class file.
+
+ghost use Rattle.std.specs.Prelude.{◌≡◌, ◌++◌, ◌∷◌, length, map, slice_get, option_copied, Some, IfOk, OnOk};
+ghost use Rattle.std.specs.List.{flat_map};
+ghost use Rattle.kilim_attributes.specs.declared.attribute.Attribute.{Attribute};
+ghost use Rattle.kilim_link_spec.specs.World.{member_descriptor};
+ghost use Rattle.kilim_pool_needs.specs.declared.need.Need.TheVariants.{AText};
+ghost use Rattle.kilim_woven_file_form.specs.Texts.{woven_descriptor};
+ghost use Rattle.kilim_classfile.specs.Text.{ClassFits, class_text};
+ghost use Rattle.kilim_woven_file_form.specs.Sizes.{longest_text};
+ghost use Rattle.kilim_woven_file_form.specs.WovenFile.{info_needs, member_needs, pairs_of, woven_file, woven_member};
+ghost use Rattle.kilim_weave_file.specs.Parts.{member_by};
+ghost use Rattle.kilim_weave_file.specs.Applied.{Applied, SizesFit};
+
+use crate::fault::ApplyFault;
+use crate::members::{member_text, rewritten};
+use crate::needs::push_attributes;
+use crate::sizes::{added_entries, methods_bytes, plus, size_by};
+use kilim_classes::{Method, Program};
+use kilim_classfile::{ClassFile, MemberInfo, read, write};
+use kilim_constant_pool::Pool;
+use kilim_pool_needs::{Need, with_needs};
+use kilim_units::{NoMemory, Seq};
+use std::alloc::Global;
+
+/// The most indices of a pool (JVMS 4.1).
+const MOST_ENTRIES: u64 = 65_535;
+
+/// The most bytes of a class file, in this profile.
+const MOST_BYTES: u64 = 16_777_216;
+
+// ---- what the file needs
+
+fn push_pausing(
+    alloc: Global,
+    into: &mut Vec<Need>,
+    program: &Program,
+    file: &ClassFile,
+    info: &MemberInfo,
+    method: &Method,
+    counted: &[bool],
+) -> Result<(), NoMemory>
+    ensures { OnOk result (into.new.items ≡ into.old.items ++ (AText (woven_descriptor (member_descriptor file.now info.now)) ∷ flat_map (λ (a : Attribute). info_needs program.now file.now.constant_pool method.now counted.now a.info) info.now.attributes)) }
+{
+    into.push(Need::AText(member_text(alloc, file, info)?))?;
+    let pool = &file.constant_pool;
+    push_attributes(
+        alloc,
+        into,
+        program,
+        pool,
+        method,
+        counted,
+        info.attributes.as_slice(),
+    )
+}
+
+fn push_member(
+    alloc: Global,
+    into: &mut Vec<Need>,
+    program: &Program,
+    file: &ClassFile,
+    info: &MemberInfo,
+    plain: &Method,
+    method: &Method,
+    counted: &[bool],
+) -> Result<(), NoMemory>
+    ensures { OnOk result (into.new.items ≡ into.old.items ++ member_needs program.now file.now (record { info = info.now; plain = plain.now; method = method.now; counted = counted.now })) }
+{
+    if plain.pausable {
+        push_pausing(alloc, into, program, file, info, method, counted)?;
+    }
+    Ok(())
+}
+
+fn file_needs(
+    alloc: Global,
+    program: &Program,
+    file: &ClassFile,
+    plains: &[Method],
+    wovens: &[Method],
+    counted: &[Seq<bool>],
+) -> Result<Vec<Need>, NoMemory>
+    ensures { IfOk result (λ v. v.items ≡ flat_map (member_needs program.now file.now) (pairs_of file.now.methods plains.now wovens.now counted.now)) }
+{
+    let mut all = Vec::new(alloc);
+    let mut ps = plains;
+    let mut ms = wovens;
+    let mut cs = counted;
+    for info in file.methods.as_slice() {
+        let [plain, later_plains @ ..] = ps else {
+            return Ok(all);
+        };
+        let [method, later_wovens @ ..] = ms else {
+            return Ok(all);
+        };
+        let [marks, later_counted @ ..] = cs else {
+            return Ok(all);
+        };
+        ps = later_plains;
+        ms = later_wovens;
+        cs = later_counted;
+        push_member(
+            alloc,
+            &mut all,
+            program,
+            file,
+            info,
+            plain,
+            method,
+            marks.as_slice(),
+        )?;
+    }
+    Ok(all)
+}
+
+// ---- its methods
+
+fn woven_member(
+    alloc: Global,
+    program: &Program,
+    file: &ClassFile,
+    pool: &Pool,
+    info: MemberInfo,
+    plain: &Method,
+    method: &Method,
+    counted: &[bool],
+) -> Result<MemberInfo, NoMemory>
+    ensures { IfOk result (λ i. i ≡ woven_member program.now file.now pool.now (record { info = info; plain = plain.now; method = method.now; counted = counted.now })) }
+{
+    if plain.pausable {
+        rewritten(alloc, program, file, pool, method, counted, info)
+    } else {
+        Ok(info)
+    }
+}
+
+// The method of a number, with those of the programs. None of a file is without them; it would be answered as want of memory.
+fn member_at(
+    alloc: Global,
+    program: &Program,
+    file: &ClassFile,
+    pool: &Pool,
+    info: MemberInfo,
+    plain: Option<&Method>,
+    method: Option<&Method>,
+    counted: Option<&Seq<bool>>,
+) -> Result<MemberInfo, NoMemory>
+    ensures { IfOk result (λ i. member_by program.now file.now pool.now info (option_copied plain.entry) (option_copied method.entry) (option_copied counted.entry) ≡ Some i) }
+{
+    let Some(plain) = plain else {
+        return Err(NoMemory);
+    };
+    let Some(method) = method else {
+        return Err(NoMemory);
+    };
+    let Some(marks) = counted else {
+        return Err(NoMemory);
+    };
+    woven_member(
+        alloc,
+        program,
+        file,
+        pool,
+        info,
+        plain,
+        method,
+        marks.as_slice(),
+    )
+}
+
+fn method_get(methods: &[Method], at: usize) -> Option<&Method>
+    ensures { option_copied result ≡ slice_get methods.now at }
+{
+    methods.get(at)
+}
+
+fn marks_get(counted: &[Seq<bool>], at: usize) -> Option<&Seq<bool>>
+    ensures { option_copied result ≡ slice_get counted.now at }
+{
+    counted.get(at)
+}
+
+fn woven_members(
+    alloc: Global,
+    program: &Program,
+    file: &ClassFile,
+    pool: &Pool,
+    infos: Seq<MemberInfo>,
+    plains: &[Method],
+    wovens: &[Method],
+    counted: &[Seq<bool>],
+) -> Result<Seq<MemberInfo>, NoMemory>
+    requires plain { length infos ≡ length plains.now }
+    requires woven { length infos ≡ length wovens.now }
+    requires counted { length infos ≡ length counted.now }
+    ensures { IfOk result (λ v. v ≡ map (woven_member program.now file.now pool.now) (pairs_of infos plains.now wovens.now counted.now)) }
+{
+    let mut all = Vec::new(alloc);
+    let mut at = 0;
+    for info in infos.into_vec() {
+        let plain = method_get(plains, at);
+        let method = method_get(wovens, at);
+        let marks = marks_get(counted, at);
+        let member = member_at(alloc, program, file, pool, info, plain, method, marks)?;
+        all.push(member)?;
+        at += 1;
+    }
+    Ok(Seq::from_vec(all))
+}
+
+// ---- the file
+
+// The file again, by its text.
+fn copy(alloc: Global, file: &ClassFile, text: &[u8]) -> Result<ClassFile, NoMemory>
+    requires fits { ClassFits file.now }
+    requires text { text.now ≡ class_text file.now }
+    ensures { IfOk result (λ f. f ≡ file.now) }
+{
+    match read(alloc, text) {
+        Ok(found) => Ok(found),
+        Err(_) => Err(NoMemory),
+    }
+}
+
+fn woven_file(
+    alloc: Global,
+    program: &Program,
+    file: &ClassFile,
+    copy: ClassFile,
+    plains: &[Method],
+    wovens: &[Method],
+    counted: &[Seq<bool>],
+) -> Result<ClassFile, NoMemory>
+    requires same { copy ≡ file.now }
+    requires plain { length file.now.methods ≡ length plains.now }
+    requires woven { length file.now.methods ≡ length wovens.now }
+    requires counted { length file.now.methods ≡ length counted.now }
+    ensures { IfOk result (λ f. f ≡ woven_file program.now file.now (pairs_of file.now.methods plains.now wovens.now counted.now)) }
+{
+    let needs = file_needs(alloc, program, file, plains, wovens, counted)?;
+    let mut pool = copy.constant_pool;
+    with_needs(&mut pool, needs.as_slice())?;
+    let methods = woven_members(
+        alloc,
+        program,
+        file,
+        &pool,
+        copy.methods,
+        plains,
+        wovens,
+        counted,
+    )?;
+    Ok(ClassFile {
+        minor_version: copy.minor_version,
+        major_version: copy.major_version,
+        constant_pool: pool,
+        access_flags: copy.access_flags,
+        this_class: copy.this_class,
+        super_class: copy.super_class,
+        interfaces: copy.interfaces,
+        fields: copy.fields,
+        methods,
+        attributes: copy.attributes,
+    })
+}
+
+// Whether pool and text stay within their bounds, by the bound on each.
+fn sizes_fit(
+    program: &Program,
+    file: &ClassFile,
+    old: usize,
+    longest: usize,
+    plains: &[Method],
+    wovens: &[Method],
+    counted: &[Seq<bool>],
+) -> Result<(), ApplyFault>
+    requires old { old ≡ length (class_text file.now) }
+    requires longest { longest ≡ longest_text program.now }
+    ensures { SizesFit program.now file.now (pairs_of file.now.methods plains.now wovens.now counted.now) result }
+{
+    let infos = file.methods.as_slice();
+    let added = added_entries(program, infos, plains, wovens, counted)?;
+    let sum = plus(u64::from(file.constant_pool.count()), added)?;
+    if sum > MOST_ENTRIES {
+        return Err(ApplyFault::PoolFull(sum));
+    }
+    let methods = methods_bytes(program, infos, plains, wovens, counted)?;
+    let size = size_by(old, added, longest, methods)?;
+    if size > MOST_BYTES {
+        return Err(ApplyFault::FileTooLarge(size));
+    }
+    Ok(())
+}
+
+/// The woven file of a class file (own): entries are added behind those of its pool, in the order of first need in the new text;
+/// methods that pause are written anew, and all else stays.
+///
+/// It takes the plain program in which the file is a class, with the greatest length in bytes of its names and descriptors
+/// (`longest_text`), and the woven one; of both programs the methods of the class, as many as the file has; and which of the
+/// woven instructions count.
+///
+/// `PoolFull` comes exactly where the count of indices that the pool may reach is above 65,535; else `FileTooLarge` exactly where
+/// the length that the text may reach is above 16,777,216. Time is linear in the product of what is written and the pool's entries.
+pub fn apply(
+    alloc: Global,
+    file: &ClassFile,
+    plain: &Program,
+    woven: &Program,
+    longest: usize,
+    plains: &[Method],
+    wovens: &[Method],
+    counted: &[Seq<bool>],
+) -> Result<ClassFile, ApplyFault>
+    requires fits { ClassFits file.now }
+    requires longest { longest ≡ longest_text plain.now }
+    requires plain { length file.now.methods ≡ length plains.now }
+    requires woven { length file.now.methods ≡ length wovens.now }
+    requires counted { length file.now.methods ≡ length counted.now }
+    ensures { Applied plain.now woven.now file.now (pairs_of file.now.methods plains.now wovens.now counted.now) result }
+{
+    let text = write(alloc, file)?;
+    sizes_fit(plain, file, text.len(), longest, plains, wovens, counted)?;
+    let again = copy(alloc, file, text.as_slice())?;
+    Ok(woven_file(alloc, woven, file, again, plains, wovens, counted)?)
+}
