@@ -1,0 +1,14 @@
+use Rattle.std.proofs.Common.{◌∙◌, ◌++◌, ◌∷◌, [], List, ap, map, take}
+use Rattle.kilim_classes.specs.declared.verified.VType.{VType}
+use Rattle.kilim_woven_form.specs.Woven.{moved_type}
+use Rattle.kilim_woven_code.specs.Places.{at_in}
+use Rattle.kilim_woven_code.proofs.Lists.{map_next}
+use Rattle.kilim_woven_code.proofs.frames.moved_types.Goals as goal
+
+pub loop-at-preserved : goal.loop-at-preserved
+loop-at-preserved c =
+    let f : VType → VType = moved_type (at_in c.args.places.now) in
+    let done = map f (take c.loop-at.at c.args.types.now) in
+    c.in_ok-push.ensures.items
+    ∙ (ap (λ (ts : List VType). ts ++ c.in_ok-new.new ∷ []) c.loop-at.invariant
+    ∙ (ap (λ (t : VType). done ++ t ∷ []) c.in_ok-new.ensures ∙ map_next f c.args.types.now c.loop-at.at c.type_at-ty.result c.type_at-ty.ensures))

@@ -1,0 +1,194 @@
+//! The group of a pausable call. All is put before the items behind it.
+
+ghost use Rattle.std.specs.Prelude.{◌≡◌, ◌∷◌, ◌++◌, ◌&&◌, [], not, drop, reverse, if◌then◌else◌, IfOk, OnOk};
+ghost use Rattle.kilim_typing.specs.Step.{is_top};
+ghost use Rattle.kilim_liveness.specs.Table.{live_in};
+ghost use Rattle.kilim_woven_form.specs.Woven as form;
+ghost use Rattle.kilim_woven_code.specs.Shown.{Shown};
+ghost use Rattle.kilim_woven_code.specs.Meant.{meant};
+ghost use Rattle.kilim_woven_code.specs.Items.{items_of};
+
+use crate::copies::copied;
+use crate::frames::{old_frame, type_at};
+use crate::item::{Item, Items, Label, Size};
+use crate::parts::{
+    add, call_member, call_static, dummy_of, load_fiber, local_size, pop_of, return_of, taken,
+    vtype,
+};
+use crate::plan::Plan;
+use crate::saves::{save_locals, save_stack};
+use kilim_classes::{Frame, Instr, Method, Ty, VType};
+use kilim_units::NoMemory;
+use std::alloc::Global;
+
+fn is_top(ty: VType) -> bool
+    ensures { result ≡ is_top ty }
+{
+    match ty {
+        VType::Top => true,
+        VType::Int
+        | VType::Long
+        | VType::Null
+        | VType::UninitThis
+        | VType::Uninit(_)
+        | VType::Object(_) => false,
+    }
+}
+
+fn local_of(at: usize) -> Result<u16, NoMemory>
+    ensures { IfOk result (λ slot. slot ≡ at) }
+{
+    match u16::try_from(at) {
+        Ok(slot) => Ok(slot),
+        Err(_) => Err(NoMemory),
+    }
+}
+
+// One more local, where it is live at a place.
+fn push_saved(
+    plan: &Plan,
+    next: u32,
+    slot: u16,
+    ty: VType,
+    saved: &mut Vec<(u16, VType)>,
+) -> Result<(), NoMemory>
+    ensures { OnOk result (saved.new.items ≡ saved.old.items ++ (if live_in plan.now.live.now next slot && not (is_top ty) then (slot, ty) ∷ [] else [])) }
+{
+    if plan.live.is_live(next, slot) && !is_top(ty) {
+        saved.push((slot, ty))?;
+    }
+    Ok(())
+}
+
+/// The locals that are live behind a pausable call, with their types at the call.
+pub fn saved(
+    alloc: Global,
+    plan: &Plan,
+    frame: &Frame,
+    place: u32,
+    next: u32,
+) -> Result<Vec<(u16, VType)>, NoMemory>
+    requires { Shown (meant plan.now) place frame.now }
+    ensures { IfOk result (λ v. v.items ≡ form.saved (meant plan.now) place next) }
+{
+    let locals = frame.locals.as_slice();
+    let mut saved = Vec::new(alloc);
+    for at in 0..locals.len() {
+        let slot = local_of(at)?;
+        let ty = type_at(locals, at);
+        push_saved(plan, next, slot, ty, &mut saved)?;
+    }
+    Ok(saved)
+}
+
+/// The stack below the receiver and the arguments of a call, the bottom first.
+pub fn below<'a>(frame: &'a Frame, callee: &Method) -> Result<&'a [VType], NoMemory>
+    ensures { IfOk result (λ v. reverse v.now ≡ drop (form.taken callee.now) (reverse frame.now.stack)) }
+{
+    let stack = frame.stack.as_slice();
+    let count = taken(callee)?;
+    let left = stack.len().saturating_sub(count);
+    let parts = stack.split_at(left);
+    Ok(parts.0)
+}
+
+fn add_number(number: u32, items: &mut Items) -> Result<(), NoMemory>
+    ensures { OnOk result (items_of items.new ≡ form.number_item number ∷ (items_of items.old)) }
+{
+    if number <= 5 {
+        return add(items, Instr::Iconst(number as i32), 1);
+    }
+    if number <= 127 {
+        return add(items, Instr::Bipush(number as i8), 2);
+    }
+    match i16::try_from(number) {
+        Ok(number) => add(items, Instr::Sipush(number), 3),
+        Err(_) => Err(NoMemory),
+    }
+}
+
+fn add_self(plan: &Plan, items: &mut Items) -> Result<(), NoMemory>
+    ensures { OnOk result (items_of items.new ≡ form.self_item (meant plan.now) ∷ (items_of items.old)) }
+{
+    if plan.method.is_static {
+        return add(items, Instr::AconstNull, 1);
+    }
+    add(
+        items,
+        Instr::Aload(plan.receiver),
+        local_size(plan.receiver),
+    )
+}
+
+fn dummy_return(gives: Option<Ty>, items: &mut Items) -> Result<(), NoMemory>
+    ensures { OnOk result (items_of items.new ≡ form.dummy_return gives (items_of items.old)) }
+{
+    match gives {
+        None => add(items, Instr::Return, 1),
+        Some(ty) => {
+            add(items, return_of(vtype(ty)), 1)?;
+            add(items, dummy_of(vtype(ty)), 1)
+        }
+    }
+}
+
+fn drop_result(gives: Option<Ty>, items: &mut Items) -> Result<(), NoMemory>
+    ensures { OnOk result (items_of items.new ≡ form.drop_result gives (items_of items.old)) }
+{
+    match gives {
+        None => Ok(()),
+        Some(ty) => add(items, pop_of(vtype(ty)), 1),
+    }
+}
+
+// What leaves the method where the fiber is pausing: the saves, the place, a dummy return.
+fn leave(
+    alloc: Global,
+    plan: &Plan,
+    number: u32,
+    callee: &Method,
+    place: u32,
+    next: u32,
+    frame: &Frame,
+    items: &mut Items,
+) -> Result<(), NoMemory>
+    requires { Shown (meant plan.now) place frame.now }
+    ensures { OnOk result (items_of items.new ≡ form.leave (meant plan.now) number callee.now place next (items_of items.old)) }
+{
+    dummy_return(plan.method.result, items)?;
+    call_static(plan, 6, items)?;
+    load_fiber(plan, items)?;
+    add_self(plan, items)?;
+    add_number(number, items)?;
+    let saved = saved(alloc, plan, frame, place, next)?;
+    save_locals(plan, saved.as_slice(), items)?;
+    save_stack(plan, below(frame, callee)?, items)
+}
+
+/// The group of a pausable call.
+pub fn group(
+    alloc: Global,
+    plan: &Plan,
+    number: u32,
+    callee: &Method,
+    place: u32,
+    next: u32,
+    instr: &Instr,
+    frame: &Frame,
+    items: &mut Items,
+) -> Result<(), NoMemory>
+    requires { Shown (meant plan.now) place frame.now }
+    ensures { OnOk result (items_of items.new ≡ form.group (meant plan.now) number callee.now place next instr.now (items_of items.old)) }
+{
+    leave(alloc, plan, number, callee, place, next, frame, items)?;
+    drop_result(callee.result, items)?;
+    let behind = plan.places.at(next)?;
+    add(items, Instr::Ifeq(behind), 3)?;
+    call_member(plan, 2, items)?;
+    load_fiber(plan, items)?;
+    items.put(Item::Adds(copied(instr)?, Size::Fixed(3), true))?;
+    call_member(plan, 1, items)?;
+    load_fiber(plan, items)?;
+    let declared = old_frame(alloc, plan, frame, place)?;
+    items.put(Item::Stands(Label::Old(place), Some(declared)))
+}

@@ -1,0 +1,152 @@
+//! Resume blocks. All is put before the items behind it.
+
+ghost use Rattle.std.specs.Prelude.{◌≡◌, ◌<◌, ◌+◌, Some, [], drop, reverse, slice_get, length, option_copied, OnOk};
+ghost use Rattle.kilim_woven_form.specs.Weight.{calls_in};
+ghost use Rattle.kilim_woven_form.specs.Woven as form;
+ghost use Rattle.kilim_woven_code.specs.Shown.{Shown};
+ghost use Rattle.kilim_woven_code.specs.Meant.{Ready, meant};
+ghost use Rattle.kilim_woven_code.specs.Items.{items_of};
+
+use crate::frames::{entry_of, frame_at, place_behind, resume_frame, type_at};
+use crate::group::{below, saved};
+use crate::item::{Item, Items, Label};
+use crate::old::number_before;
+use crate::parts::{add, call_member, dummy_of, load_fiber, pausable_callee, vtype};
+use crate::plan::Plan;
+use crate::saves::{restore_locals, restore_stack};
+use kilim_classes::{Frame, Instr, Method, Ty, VType};
+use kilim_units::NoMemory;
+use std::alloc::Global;
+
+fn type_of(types: &[Ty], at: usize) -> Ty
+    requires { at < length types.now }
+    ensures { slice_get types.now at ≡ Some result }
+{
+    types[at]
+}
+
+// A value for each parameter.
+fn dummies(params: &[Ty], items: &mut Items) -> Result<(), NoMemory>
+    ensures { OnOk result (items_of items.new ≡ form.dummies params.now (items_of items.old)) }
+{
+    let mut left = params.len();
+    while left > 0 {
+        left -= 1;
+        let ty = type_of(params, left);
+        let value = vtype(ty);
+        let dummy = dummy_of(value);
+        add(items, dummy, 1)?;
+    }
+    Ok(())
+}
+
+fn receiver_of(plan: &Plan, ty: VType, items: &mut Items) -> Result<(), NoMemory>
+    ensures { OnOk result (items_of items.new ≡ form.receiver_of (meant plan.now) ty (items_of items.old)) }
+{
+    match ty {
+        VType::Object(ty) => {
+            add(items, Instr::Checkcast(ty), 3)?;
+            call_member(plan, 10, items)?;
+            load_fiber(plan, items)
+        }
+        VType::Top
+        | VType::Int
+        | VType::Long
+        | VType::Null
+        | VType::UninitThis
+        | VType::Uninit(_) => add(items, Instr::AconstNull, 1),
+    }
+}
+
+fn restore_receiver(
+    plan: &Plan,
+    is_static: bool,
+    ty: VType,
+    items: &mut Items,
+) -> Result<(), NoMemory>
+    ensures { OnOk result (items_of items.new ≡ form.restore_receiver is_static (meant plan.now) ty (items_of items.old)) }
+{
+    if is_static {
+        return Ok(());
+    }
+    receiver_of(plan, ty, items)
+}
+
+// The type of the receiver of a call.
+fn receiver(frame: &Frame, callee: &Method) -> VType
+    ensures { result ≡ form.first_of (drop (length callee.now.params) (reverse frame.now.stack)) }
+{
+    let stack = frame.stack.as_slice();
+    let depth = callee.params.len();
+    let left = stack.len().saturating_sub(depth);
+    if left == 0 {
+        return VType::Null;
+    }
+    type_at(stack, left - 1)
+}
+
+fn resume_code(
+    alloc: Global,
+    plan: &Plan,
+    callee: &Method,
+    place: u32,
+    next: u32,
+    frame: &Frame,
+    items: &mut Items,
+) -> Result<(), NoMemory>
+    requires { Shown (meant plan.now) place frame.now }
+    ensures { OnOk result (items_of items.new ≡ form.resume_code (meant plan.now) callee.now place next (items_of items.old)) }
+{
+    let to = plan.places.at(place)?;
+    add(items, Instr::Goto(to), 3)?;
+    dummies(callee.params.as_slice(), items)?;
+    restore_receiver(plan, callee.is_static, receiver(frame, callee), items)?;
+    restore_stack(plan, below(frame, callee)?, items)?;
+    let saved = saved(alloc, plan, frame, place, next)?;
+    restore_locals(plan, saved.as_slice(), items)
+}
+
+fn block(
+    alloc: Global,
+    plan: &Plan,
+    callee: Option<&Method>,
+    number: u32,
+    place: u32,
+    next: u32,
+    frame: &Frame,
+    items: &mut Items,
+) -> Result<(), NoMemory>
+    requires { Shown (meant plan.now) place frame.now }
+    ensures { OnOk result (items_of items.new ≡ form.block (option_copied callee.entry) (meant plan.now) number place next (items_of items.old)) }
+{
+    match callee {
+        None => Ok(()),
+        Some(callee) => {
+            resume_code(alloc, plan, callee, place, next, frame, items)?;
+            let declared = resume_frame(alloc, plan)?;
+            items.put(Item::Stands(Label::Resumes(number), Some(declared)))
+        }
+    }
+}
+
+/// The resume blocks. `number` is one more than the number of the pausable calls.
+pub fn blocks(alloc: Global, plan: &Plan, number: u32, items: &mut Items) -> Result<(), NoMemory>
+    requires ready { Ready plan.now }
+    requires number { number ≡ 1 + calls_in plan.now.program.now plan.now.method.now.code }
+    requires none { (items_of items.old) ≡ [] }
+    ensures { OnOk result (items_of items.new ≡ form.blocks (meant plan.now) 1 plan.now.method.now.code) }
+{
+    let mut left = plan.method.code.len();
+    let mut number = number;
+    while left > 0 {
+        left -= 1;
+        let entry = entry_of(plan.method, left);
+        let next = place_behind(plan.method, left);
+        let callee = pausable_callee(plan.program, &entry.1);
+        let frame = frame_at(plan, left)?;
+        let mine = number_before(callee, number);
+        number = mine;
+        block(alloc, plan, callee, mine, entry.0, next, frame, items)?;
+    }
+    Ok(())
+}
