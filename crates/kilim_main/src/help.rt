@@ -1,26 +1,24 @@
 //! The texts that the program writes by itself.
 
 /// What `--help` writes: at most 24 lines of 80 columns.
-pub const HELP: &str = "kilim runs Java class files of isolation-typed actors.
+pub const HELP: &str = "kilim checks and runs Java class files of isolation-typed actors.
 
-    kilim run --main=NAME FILE..   runs a task class, and writes its journal
-    kilim --help                   writes this text
-    kilim --version                writes the version
+    kilim check FILE..             says whether the files are accepted
+    kilim run --main=NAME [--workers=W] [--steps=N] FILE.. [-- INT..]
+                                   runs a task class, and writes its journal
+    kilim --help, kilim --version  write this text, the version
 
-NAME is the internal name of the main class, as app/Main. FILE is a class
-file, written by javac --release 8 -g:none. This build runs the smallest tasks:
-one class that extends kilim/Task, without fields, whose execute() throws
-kilim/Pausable and only prints numbers from 6 to 127 or from -128 to -2 by
-kilim/Sys.print(int).
-
+NAME is the internal name of the main class, as app/Main. FILE is a class file,
+written by javac --release 8 -g:none. W is from 1 to 16, or else 1; N is the
+most instructions of each task, or else 1000000; the INTs are for kilim/Sys.arg.
 A journal has a line for each event: the task's number and what it did, as
 0 print 7 and 0 end done.
 
 Status  Standard error  Meaning
-0                       the run is over, and its journal was written
-1                       a report was written: class FILE .. (no class file),
-                        later (this build can't run the files) or main NAME
-                        (the class has another name)
+0                       accepted CLASSES METHODS, or the whole journal, was
+                        written
+1                       a report was written: of class files, linking, typing,
+                        rules, or main NAME (no class of that name can be run)
 2       usage           the words aren't as above
 3       read            a file can't be read
 4       write           the text can't be written

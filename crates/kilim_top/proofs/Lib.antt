@@ -1,9 +1,9 @@
 pub mod Texts
-pub mod SmallLaws
-pub mod CodeLengths
-pub mod Prints
+pub mod Served
 pub mod WholeRun
 pub mod Replies
+pub mod Checks
 pub mod Written
 pub mod TopLaws
 pub mod Named
+pub mod Counts

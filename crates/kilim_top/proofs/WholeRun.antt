@@ -1,69 +1,38 @@
--- The text of a small program's run is the journal of a whole run.
-use Rattle.std.proofs.Common.{◌≡◌, ℕ, ℤ, Bool, true, cond, List, [], ◌∷◌, ◌++◌, map, Option, Some, refl, sym, ap, subst, ◌∙◌, arith}
-use Rattle.std.specs.Prelude.{FitsSigned}
-use Rattle.std.specs.Int.{w8, w32}
-use Rattle.std.specs.List.{AllByRecursion}
-use Rattle.std.specs.Str.{bytes_eq}
-use Rattle.std.proofs.lemmas.Bool.{eq-eqb}
-use Rattle.std.proofs.lemmas.Int.{ints}
-use Rattle.kilim_classes.specs.declared.names.ClassId.{ClassId}
+-- The text of an accepted program's run is the journal of a whole run.
+use Rattle.std.proofs.Common.{◌≡◌, ℕ, ℤ, true, List, Option, Some, sym, subst}
 use Rattle.kilim_classes.specs.Names.{class_named}
 use Rattle.kilim_classes.specs.Program.{Program}
-use Rattle.kilim_journal.specs.Readable.{IsReadable, JournalFits}
-use Rattle.kilim_thread_model.specs.declared.small_programs.Small.{Small}
-use Rattle.kilim_thread_model.specs.Runs.{Whole}
-use Rattle.kilim_thread_model.specs.Small.{small_program, print_entry, done_entry, small_journal, SmallRunIsWhole}
-use Rattle.kilim_top.specs.ProgramOf.{IsProgramOf}
+use Rattle.kilim_classes.specs.declared.names.ClassId.{ClassId}
+use Rattle.kilim_program.specs.declared.run.Limits.{Limits}
+use Rattle.kilim_program.specs.Members.{is_fit_main}
+use Rattle.kilim_stages.specs.Accepted.{IsAcceptedOf}
+use Rattle.kilim_thread_model.specs.State.{Setting}
+use Rattle.kilim_whole_runs.specs.Runs.{IsServed, setting_of}
+use Rattle.kilim_words.specs.Words.{Run}
+use Rattle.kilim_top.specs.Inside.Answer.{IsMainOf, IsTextOf, IsToRun}
+use Rattle.kilim_top.specs.Outcome.{IsFitRun, IsIsolatedRun, IsWholeRun, limits_of}
 use Rattle.kilim_top.specs.Report.{utf16_of}
-use Rattle.kilim_top.specs.Inside.Answer.{IsRunOf}
-use Rattle.kilim_top.specs.Outcome.{IsWholeRun, setting_of, step_limit}
 
--- ---- the journal can be read, and its numbers fit
+fit_run : (main : List ℕ) (files : List (List ℕ)) (p : Program) (class : ClassId) → IsAcceptedOf files p → class_named p (utf16_of main) ≡ Some class → is_fit_main p class ≡ true → IsFitRun main files
+fit_run main files p class of named fit = record { program = p; accepted = of; class = class; named = named; fit = fit }
 
-readable_from : (ns : List ℤ) → IsReadable (map print_entry ns ++ done_entry ∷ [])
-readable_from [] = (refl, tt)
-readable_from (n ∷ ns) = (refl, readable_from ns)
+whole_run : (main : List ℕ) (limits : Limits) (files : List (List ℕ)) (p : Program) (class : ClassId) (text : List ℕ) → IsAcceptedOf files p → class_named p (utf16_of main) ≡ Some class → IsIsolatedRun p class limits → IsTextOf (setting_of p class limits) text → IsWholeRun main limits files text
+whole_run main limits files p class text of named isolated run = record {
+  program = p;
+  accepted = of;
+  class = class;
+  named = named;
+  journal = run.journal;
+  whole = run.is.whole;
+  isolated = isolated;
+  readable = run.is.readable;
+  fits = run.is.fits;
+  is_text = run.is_text;
+}
 
-pub small_is_readable : (s : Small) → IsReadable (small_journal s)
-small_is_readable s = readable_from s.prints
-
-widened : (n : ℤ) → FitsSigned w8 n → FitsSigned w32 n
-widened n fits = omega (arith, ints)
-
-fits_from : (ns : List ℤ) → AllByRecursion (FitsSigned w8) ns → JournalFits (map print_entry ns ++ done_entry ∷ [])
-fits_from [] fits = ((omega arith, tt), tt)
-fits_from (n ∷ ns) fits = ((omega arith, (widened n fits.0, tt)), fits_from ns fits.1)
-
--- ---- its own class
-
-same_bytes : (xs : List ℕ) → bytes_eq xs xs ≡ true
-same_bytes [] = refl
-same_bytes (x ∷ xs) = rw (eq-eqb x x refl) (same_bytes xs)
-
-bytes_eq_same : (xs ys : List ℕ) → xs ≡ ys → bytes_eq xs ys ≡ true
-bytes_eq_same xs ys e = subst (λ (zs : List ℕ). bytes_eq xs zs ≡ true) e (same_bytes xs)
-
-chosen_class : (b : Bool) (x y : Option ClassId) → b ≡ true → cond b x y ≡ x
-chosen_class b x y e = rw e refl
-
-first_class : (s : Small) (units : List ℕ) → s.name ≡ units → class_named (small_program s) units ≡ Some (record { 0 = 0 })
-first_class s units e = chosen_class (bytes_eq s.name units) _ _ (bytes_eq_same s.name units e)
-
--- ---- the run
-
-pub whole_run : SmallRunIsWhole → (main : List ℕ) (files : List (List ℕ)) (p : Program) (text : List ℕ) → IsProgramOf files p → IsRunOf p main text → IsWholeRun main files text
-unfolding step_limit
-whole_run law main files p text of run =
-    let s = run.small in
-    let few = run.few in
-    record {
-      program = p;
-      of_files = of;
-      class = record { 0 = 0 };
-      named = ap (λ (q : Program). class_named q (utf16_of main)) run.is_small.is ∙ first_class s (utf16_of main) run.named;
-      journal = small_journal s;
-      whole = subst (λ (q : Program). Whole (setting_of q (record { 0 = 0 })) (small_journal s)) (sym run.is_small.is) (law s 1000000 (omega (arith, few)));
-      readable = small_is_readable s;
-      fits = fits_from s.prints run.is_small.fits.numbers;
-      is_text = run.is_text;
-    }
+pub to_run : (main : List ℕ) (workers steps : ℕ) (args : List ℤ) (names files : List (List ℕ)) (p : Program) (set : Setting) → IsAcceptedOf files p → ((class : ClassId) → is_fit_main p class ≡ true → (limits : Limits) → IsServed (setting_of p class limits)) →
+    ((class : ClassId) → is_fit_main p class ≡ true → (limits : Limits) → IsIsolatedRun p class limits) → IsMainOf p main (limits_of steps args) set → IsToRun (Run main workers steps args names) files set
+to_run main workers steps args names files p set of served isolated is = record {
+  served = subst (λ (s : Setting). IsServed s) (sym is.is) (served set.main is.fit (limits_of steps args));
+  done = λ text run. (fit_run main files p set.main of is.named is.fit, whole_run main (limits_of steps args) files p set.main text of is.named (isolated set.main is.fit (limits_of steps args)) (subst (λ (s : Setting). IsTextOf s text) is.is run));
+}

@@ -1,6 +1,4 @@
 -- How the code computes what it answers. No clause of `kilim` cites what stands in this folder.
-pub mod SmallProgram
-pub mod SmallFound
 pub mod Answer
 pub mod Respond
 pub mod Reads

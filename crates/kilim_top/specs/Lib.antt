@@ -1,5 +1,4 @@
 pub mod Words
-pub mod ProgramOf
 pub mod Report
 pub mod Writing
 pub mod Outcome

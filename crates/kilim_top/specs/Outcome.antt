@@ -1,10 +1,11 @@
 -- What the top call promises: what each status says of what was read, and of what was written. From `Promises` it is three
--- steps to what a whole run is: `WroteRun`, `IsWholeRun`, and `Whole` of kilim_thread_model.
-use Rattle.std.specs.Prelude.{◌≡◌, ◌≢◌, ℕ, List, [], ◌∷◌, ◌++◌, take, map, Option, Some, None, Contains, ◌≤◌, ◌↔◌, ◌⊎◌, Result, Ok, Err}
-use Rattle.kilim_classes.specs.declared.class.Form.TheVariants.{Plain}
+-- steps to what a whole run is: `WroteText`, `IsWholeRun`, and `Whole` of kilim_thread_model.
+use Rattle.std.specs.Prelude.{◌≡◌, ℕ, ℤ, true, List, [], ◌∷◌, ◌++◌, take, map, length, Option, Some, None, Contains, ◌≤◌, ◌↔◌, ◌⊎◌}
 use Rattle.kilim_classes.specs.Program.{Program}
+use Rattle.kilim_classes.specs.declared.class.Method.{Method}
 use Rattle.kilim_classes.specs.declared.names.ClassId.{ClassId}
-use Rattle.kilim_classes.specs.Names.{class_named}
+use Rattle.kilim_classes.specs.declared.names.MethodId.{MethodId}
+use Rattle.kilim_classes.specs.Names.{class_named, method_at}
 use Rattle.kilim_journal.specs.declared.entry.Entry.{Entry}
 use Rattle.kilim_journal.specs.Text.{journal_text}
 use Rattle.kilim_journal.specs.Readable.{IsReadable, JournalFits}
@@ -12,103 +13,90 @@ use Rattle.kilim_outside.specs.declared.folder.FailedCall.{FailedCall}
 use Rattle.kilim_outside.specs.declared.folder.FailedCall.TheVariants.{Read, Write}
 use Rattle.kilim_outside.specs.Files.{Files, content_of, file_limit}
 use Rattle.kilim_outside.specs.Causes.{Appended, Rose}
-use Rattle.kilim_thread_model.specs.State.{Setting}
+use Rattle.kilim_program.specs.declared.run.Limits.{Limits}
+use Rattle.kilim_program.specs.Members.{is_fit_main}
+use Rattle.kilim_thread_model.specs.Reach.{Liveness, PlaysIsolated}
 use Rattle.kilim_thread_model.specs.Runs.{Whole}
-use Rattle.kilim_thread_model.specs.declared.small_programs.Small.{Small}
-use Rattle.kilim_thread_model.specs.Small.{IsSmall, IsSmallBy}
-use Rattle.kilim_classfile.specs.declared.class_file.ClassFile.{ClassFile}
-use Rattle.kilim_classfile.specs.declared.fault.ClassFault.{ClassFault}
-use Rattle.kilim_classfile.specs.Reading.{read_class}
-use Rattle.kilim_reports.specs.ClassLines.{class_line}
-use Rattle.kilim_link_spec.specs.declared.fault.LinkFault.TheVariants.{InClass}
-use Rattle.kilim_link_spec.specs.declared.fault.Problem.{Problem}
-use Rattle.kilim_link_spec.specs.Faults as link
-use Rattle.kilim_link_reports.specs.LinkLines.{link_line}
+use Rattle.kilim_thread_model.specs.State.{Setting}
+use Rattle.kilim_typing.specs.Typed.{Live}
+use Rattle.kilim_words.specs.Words.{Request, Check, Run, files_read, files_written}
+use Rattle.kilim_stages.specs.Accepted.{IsAcceptedOf}
+use Rattle.kilim_stages.specs.Reports.{IsStageReport}
 use Rattle.kilim_top.specs.declared.status.TheConstants.{DONE, REPORTED, USAGE, UNREAD, UNWRITTEN, NO_MEMORY}
-use Rattle.kilim_top.specs.ProgramOf.{AreFiles, IsProgramOf}
 use Rattle.kilim_top.specs.Writing.{AppendedFront}
-use Rattle.kilim_top.specs.Report.{utf16_of, later_line, main_line}
-use Rattle.kilim_top.specs.Words.{Request, Run, files_read, files_written}
+use Rattle.kilim_top.specs.Report.{utf16_of, main_line, accepted_line, coded_methods}
 
--- how many instructions a task may do where the words don't say
-unfoldable pub step_limit : ℕ
-step_limit = 1000000
+-- the limits that the words give
+abbrev pub limits_of : ℕ → List ℤ → Limits
+limits_of steps args = record { steps = steps; args = args }
 
-abbrev pub setting_of : Program → ClassId → Setting
-setting_of program main = record { program = program; main = main; limits = record { steps = step_limit; args = [] } }
+-- what is run
+abbrev pub run_of : Program → ClassId → Limits → Setting
+run_of program main limits = record { program = program; main = main; limits = limits }
 
--- the text is that of the journal of a whole run, of the program to which these class files link and that main class
-pub record IsWholeRun (main : List ℕ) (files : List (List ℕ)) (text : List ℕ) : Type 0 where
+-- what is taken for live is: some path reads the local before it is written
+abbrev pub AreLive : Program → Liveness → Type 0
+AreLive program live = (id : MethodId) (m : Method) (at k : ℕ) → method_at program id ≡ Some m → live id at k ≡ true → Live m k at
+
+-- In no interleaving of the program's threads is an object reached by two of them, by a thread and a place in a queue, or by
+-- two places in queues: whatever locals are taken as live, if they are.
+abbrev pub IsIsolatedRun : Program → ClassId → Limits → Type 0
+IsIsolatedRun program main limits = (live : Liveness) → AreLive program live → PlaysIsolated live (run_of program main limits)
+
+-- ---- the text of the work that was done
+
+-- the text is that of the journal of a whole run, of the accepted program to which these class files link and that main class
+pub record IsWholeRun (main : List ℕ) (limits : Limits) (files : List (List ℕ)) (text : List ℕ) : Type 0 where
   pub program : Program
-  pub of_files : IsProgramOf files program
+  pub accepted : IsAcceptedOf files program
   pub class : ClassId
   pub named : class_named program (utf16_of main) ≡ Some class
   pub journal : List Entry
-  pub whole : Whole (setting_of program class) journal
+  pub whole : Whole (run_of program class limits) journal
+  pub isolated : IsIsolatedRun program class limits
   pub readable : IsReadable journal
   pub fits : JournalFits journal
   pub is_text : text ≡ journal_text journal
 
--- The work can be done: no stage has a fault. The class files link to a program that can be run, and its own class is the
--- main class.
+-- The run can be made: no stage has a fault. The class files link to an accepted program, and its class of that name is fit to
+-- be the main class.
 pub record IsFitRun (main : List ℕ) (files : List (List ℕ)) : Type 0 where
   pub program : Program
-  pub of_files : IsProgramOf files program
-  pub small : Small
-  pub is_small : IsSmallBy program small
-  pub named : small.name ≡ utf16_of main
+  pub accepted : IsAcceptedOf files program
+  pub class : ClassId
+  pub named : class_named program (utf16_of main) ≡ Some class
+  pub fit : is_fit_main program class ≡ true
 
--- the text of the work that was done
-pub record IsDone (main : List ℕ) (files : List (List ℕ)) (text : List ℕ) : Type 0 where
-  pub fit : IsFitRun main files
-  pub whole : IsWholeRun main files text
-
--- ---- reports: one line with its line feed
-
--- the first file, in the order of the words, that can't be read, with its fault
-abbrev pub or_fault : List ℕ → Result ClassFile ClassFault → Option (List ℕ × ClassFault) → Option (List ℕ × ClassFault)
-or_fault name (Err fault) later = Some (name, fault)
-or_fault name (Ok file) later = later
-
-abbrev pub first_fault : List (List ℕ) → List (List ℕ) → Option (List ℕ × ClassFault)
-first_fault (name ∷ names) (bytes ∷ files) = or_fault name (read_class bytes) (first_fault names files)
-first_fault names files = None
-
--- a file isn't a class file that is accepted
-pub record IsClassReport (names files : List (List ℕ)) (text : List ℕ) : Type 0 where
-  pub name : List ℕ
-  pub fault : ClassFault
-  pub first : first_fault names files ≡ Some (name, fault)
-  pub is_text : text ≡ class_line name fault
-
--- All are class files, and linked in their order they have a fault: the first class that has a problem, with the first one.
-pub record IsLinkReport (files : List (List ℕ)) (text : List ℕ) : Type 0 where
-  pub classes : List ClassFile
-  pub are_files : AreFiles files classes
-  pub class : List ℕ
-  pub problem : Problem
-  pub first : link.first_fault classes Plain ≡ Some (InClass class problem)
-  pub is_text : text ≡ link_line class problem
-
--- they link to a program, which can't be run yet
-pub record IsLater (files : List (List ℕ)) (text : List ℕ) : Type 0 where
+-- the class files link to an accepted program, none of whose runs shares an object, and this is its line
+pub record IsCheck (files : List (List ℕ)) (text : List ℕ) : Type 0 where
   pub program : Program
-  pub of_files : IsProgramOf files program
-  pub not_small : IsSmall program → ⊥
-  pub is_text : text ≡ later_line
+  pub accepted : IsAcceptedOf files program
+  pub isolated : (class : ClassId) → is_fit_main program class ≡ true → (limits : Limits) → IsIsolatedRun program class limits
+  pub is_text : text ≡ accepted_line (length files) (coded_methods program)
 
--- they link to a program that can be run, and its own class isn't the main class
+-- the work that is asked for can be done with these files
+abbrev pub IsFitFor : Request → List (List ℕ) → Type 0
+IsFitFor (Check names) files = (program : Program) × IsAcceptedOf files program
+IsFitFor (Run main workers steps args names) files = IsFitRun main files
+
+-- what is written where it was done
+abbrev pub IsDone : Request → List (List ℕ) → List ℕ → Type 0
+IsDone (Check names) files text = IsCheck files text
+IsDone (Run main workers steps args names) files text = IsFitRun main files × IsWholeRun main (limits_of steps args) files text
+
+-- ---- reports: lines with their line feeds
+
+-- the program is accepted, and has no class of that name that is fit to be the main class
 pub record IsMainReport (main : List ℕ) (files : List (List ℕ)) (text : List ℕ) : Type 0 where
   pub program : Program
-  pub of_files : IsProgramOf files program
-  pub small : Small
-  pub is_small : IsSmallBy program small
-  pub other : small.name ≢ utf16_of main
+  pub accepted : IsAcceptedOf files program
+  pub none : (class : ClassId) → class_named program (utf16_of main) ≡ Some class → is_fit_main program class ≡ true → ⊥
   pub is_text : text ≡ main_line main
 
 -- the report of the first stage that has a fault
-abbrev pub IsReport : List ℕ → List (List ℕ) → List (List ℕ) → List ℕ → Type 0
-IsReport main names files text = IsClassReport names files text ⊎ (IsLinkReport files text ⊎ (IsLater files text ⊎ IsMainReport main files text))
+abbrev pub IsReport : Request → List (List ℕ) → List ℕ → Type 0
+IsReport (Check names) files text = IsStageReport names files text
+IsReport (Run main workers steps args names) files text = IsStageReport names files text ⊎ IsMainReport main files text
 
 -- ---- what was read
 
@@ -125,38 +113,34 @@ WereRead contents names files = ⊥
 
 -- ---- what was written
 
--- the journal of a whole run, of the files that the words name
-pub record WroteRun (contents : Option Files) (request : Option Request) (old new : Option (List ℕ)) : Type 0 where
-  pub main : List ℕ
-  pub names : List (List ℕ)
-  pub asked : request ≡ Some (Run main names)
+-- what the work makes of the files that the words name
+pub record WroteText (contents : Option Files) (request : Option Request) (old new : Option (List ℕ)) : Type 0 where
+  pub work : Request
+  pub asked : request ≡ Some work
   pub files : List (List ℕ)
-  pub were_read : WereRead contents names files
-  pub fit : IsFitRun main files
+  pub were_read : WereRead contents (files_read work) files
   pub text : List ℕ
-  pub whole : IsWholeRun main files text
+  pub done : IsDone work files text
   pub written : Appended old new text
 
 -- the report of the first stage that has a fault
 pub record WroteReport (contents : Option Files) (request : Option Request) (old new : Option (List ℕ)) : Type 0 where
-  pub main : List ℕ
-  pub names : List (List ℕ)
-  pub asked : request ≡ Some (Run main names)
+  pub work : Request
+  pub asked : request ≡ Some work
   pub files : List (List ℕ)
-  pub were_read : WereRead contents names files
+  pub were_read : WereRead contents (files_read work) files
   pub text : List ℕ
-  pub report : IsReport main names files text
+  pub report : IsReport work files text
   pub written : Appended old new text
 
 -- a front of one of the two
 pub record WroteFront (contents : Option Files) (request : Option Request) (old new : Option (List ℕ)) : Type 0 where
-  pub main : List ℕ
-  pub names : List (List ℕ)
-  pub asked : request ≡ Some (Run main names)
+  pub work : Request
+  pub asked : request ≡ Some work
   pub files : List (List ℕ)
-  pub were_read : WereRead contents names files
+  pub were_read : WereRead contents (files_read work) files
   pub text : List ℕ
-  pub is_text : IsDone main files text ⊎ IsReport main names files text
+  pub is_text : IsDone work files text ⊎ IsReport work files text
   pub written : AppendedFront old new text
 
 -- ---- which calls of the folder failed
@@ -184,12 +168,12 @@ read_of held names = map (λ name. take file_limit (content_of held name)) names
 
 -- The words are in the grammar, and the work can be done. This speaks of a folder that tells what it holds.
 abbrev pub IsFit : Option Files → Option Request → Type 0
-IsFit (Some held) (Some (Run main names)) = IsFitRun main (read_of held names)
+IsFit (Some held) (Some work) = IsFitFor work (read_of held (files_read work))
 IsFit contents request = ⊥
 
 -- A stage has a fault. This speaks of a folder that tells what it holds.
 abbrev pub HasReport : Option Files → Option Request → Type 0
-HasReport (Some held) (Some (Run main names)) = (text : List ℕ) × IsReport main names (read_of held names) text
+HasReport (Some held) (Some work) = (text : List ℕ) × IsReport work (read_of held (files_read work)) text
 HasReport contents request = ⊥
 
 -- ---- the promises of the top call
@@ -210,8 +194,8 @@ pub record Promises (request : Option Request) (old new : Outside) (status : ℕ
   pub known : status ≤ NO_MEMORY
   -- where the words aren't in the grammar, and only there
   pub usage : (status ≡ USAGE) ↔ (request ≡ None)
-  -- what was written: the journal of a whole run, or one report
-  pub whole : status ≡ DONE → WroteRun old.contents request old.written new.written
+  -- what was written: the journal of a whole run, or that the files are accepted; or the report of a stage
+  pub whole : status ≡ DONE → WroteText old.contents request old.written new.written
   pub report : status ≡ REPORTED → WroteReport old.contents request old.written new.written
   -- only where a file that the words name can't be read
   pub read : status ≡ UNREAD → ReadFailed request old.failed new.failed

@@ -1,26 +1,29 @@
 //! From the bytes of class files to the text that is written.
 
-ghost use Rattle.std.specs.Prelude.{◌≡◌, ◌⊎◌, ◌↔◌, ◌≤◌, List, ℕ, IfOk, IsTrue, length, map};
-ghost use Rattle.std.specs.List.{AllByRecursion};
+ghost use Rattle.std.specs.Prelude.{◌≡◌, ◌⊎◌, ◌≤◌, List, ℕ, IfOk, length, map};
 ghost use Rattle.std.specs.String.{string_bytes};
-ghost use Rattle.kilim_classfile.specs.Text.{ClassFits};
+ghost use Rattle.kilim_classes.specs.Keeps.{Keeps};
+ghost use Rattle.kilim_journal.specs.Readable.{IsReadable};
 ghost use Rattle.kilim_journal.specs.Text.{journal_text};
-ghost use Rattle.kilim_thread_model.specs.Small.{small_journal};
-ghost use Rattle.kilim_top.specs.Inside.SmallFound.{CodeIsShort, IsFoundAs};
-ghost use Rattle.kilim_top.specs.Report.{utf16_of};
-ghost use Rattle.kilim_top.specs.Inside.Answer.{IsReplyOf, IsReplyOfClasses, IsReplyOfFiles};
-ghost use Rattle.kilim_top.specs.Outcome.{IsDone, IsReport, IsFitRun};
+ghost use Rattle.kilim_main_class.specs.Main.{fit_class_named};
+ghost use Rattle.kilim_typing.specs.Typed.{IsWellTyped, has_code};
+ghost use Rattle.kilim_words.specs.Parts.{meant, numbers_of};
+ghost use Rattle.kilim_words.specs.Words.{Check, Run, files_read};
+ghost use Rattle.kilim_top.specs.Report.{utf16_of, accepted_line, coded_methods};
+ghost use Rattle.kilim_top.specs.Inside.Answer.{IsReadyFor, IsReadyOf, IsRefusedBy, IsReplyFor};
+ghost use Rattle.kilim_top.specs.Outcome.{IsDone, IsReport, IsFitFor, limits_of};
 
-use crate::classes::classes_of;
-use crate::refusal::Refusal;
-use crate::report::{later, no_main, utf16_of};
-use crate::run::journal_of;
-use crate::small::small_of;
-use kilim_classes::{Form, Program};
-use kilim_classfile::{ClassFile, class_file_is_spelled};
-use kilim_link_spec::{LinkFault, linked_in_parts, one_program};
-use kilim_thread_model::{Small, small_run_is_whole};
+use crate::report::{accepted_line, no_main, utf16_of};
+use crate::status::{DONE, REPORTED};
+use kilim_accepted_runs::{accepted_is_isolated, accepted_is_served};
+use kilim_classes::{ClassId, Method, Program};
+use kilim_isolation_check::Isolated;
+use kilim_journal::Entry;
+use kilim_main_class::fit_main;
+use kilim_program::Limits;
+use kilim_stages::{Refusal, accepted, never_both, one_program_of};
 use kilim_units::{NoMemory, Seq};
+use kilim_words::{Asked, RunWords, integers};
 use std::alloc::Global;
 
 /// A text to be written, and the status where it was written whole.
@@ -30,111 +33,171 @@ pub struct Reply {
     pub text: Vec<u8>,
 }
 
-fn is_main(alloc: Global, small: &Small, main: &str) -> Result<bool, NoMemory>
-    ensures { IfOk result (λ is. IsTrue is ↔ (small.now.name ≡ utf16_of main.now)) }
+/// What is to be done for the bytes of files.
+#[derive(Drop)]
+pub enum Ready {
+    /// To write a text.
+    Reply(Reply),
+    /// To run a program with its main class.
+    Run(Program, ClassId, Limits),
+}
+
+// The class of that name, if it is fit to be the main class.
+fn main_in(alloc: Global, program: &Program, main: &str) -> Result<Option<ClassId>, NoMemory>
+    ensures { IfOk result (λ found. found ≡ fit_class_named program.now (utf16_of main.now)) }
 {
     let units = utf16_of(alloc, main)?;
-    Ok(small.name.as_slice() == units.as_slice())
+    fit_main(program, units.as_slice())
 }
 
-// The text of the run's journal.
-#[tactic(auto, using(crate::proofs::WholeRun::small_is_readable))]
-fn run_text(alloc: Global, small: &Small) -> Result<Vec<u8>, NoMemory>
-    ensures { IfOk result (λ text. text.items ≡ journal_text (small_journal small.now)) }
+// The limits of a run.
+fn limits_in(alloc: Global, words: &RunWords<'_>) -> Result<Limits, NoMemory>
+    ensures { IfOk result (λ limits. limits ≡ limits_of words.now.steps (numbers_of (map string_bytes words.now.args.now))) }
 {
-    let entries = journal_of(alloc, small.prints.as_slice())?;
-    kilim_journal::text(alloc, &entries)
+    let args = integers(alloc, words.args)?;
+    Ok(Limits {
+        steps: words.steps,
+        args,
+    })
 }
 
-// What is answered for a program that can be run.
-fn small_reply(
-    alloc: Global,
-    main: &str,
-    program: &Program,
-    small: &Small,
-) -> Result<Reply, NoMemory>
-    requires { IsFoundAs program.now small.now }
-    ensures { IfOk result (λ reply. IsReplyOf program.now main.now reply.status reply.text.items) }
+// What is to be done for an accepted program that is to be run.
+fn program_ready(alloc: Global, words: &RunWords<'_>, program: Program) -> Result<Ready, NoMemory>
+    ensures { IfOk result (λ ready. IsReadyOf program words.now.main.now (limits_of words.now.steps (numbers_of (map string_bytes words.now.args.now))) ready) }
 {
-    let _program = program;
-    if is_main(alloc, small, main)? {
-        let text = run_text(alloc, small)?;
-        Ok(Reply { status: 0, text })
-    } else {
-        let text = no_main(alloc, main)?;
-        Ok(Reply { status: 1, text })
-    }
-}
-
-// What is answered for a program.
-fn program_reply(alloc: Global, main: &str, program: &Program) -> Result<Reply, NoMemory>
-    requires { CodeIsShort program.now }
-    ensures { IfOk result (λ reply. IsReplyOf program.now main.now reply.status reply.text.items) }
-{
-    match small_of(alloc, program)? {
-        Some(small) => small_reply(alloc, main, program, &small),
+    match main_in(alloc, &program, words.main)? {
+        Some(class) => {
+            let limits = limits_in(alloc, words)?;
+            Ok(Ready::Run(program, class, limits))
+        }
         None => {
-            let text = later(alloc)?;
-            Ok(Reply { status: 1, text })
+            let text = no_main(alloc, words.main)?;
+            Ok(Ready::Reply(Reply {
+                status: REPORTED,
+                text,
+            }))
         }
     }
 }
 
-// What is answered for class files that were read.
-#[tactic(auto, using(crate::proofs::CodeLengths::code_is_short))]
-fn classes_reply(alloc: Global, main: &str, classes: &[ClassFile]) -> Result<Reply, NoMemory>
-    requires few { length classes.now ≤ 1000 }
-    requires fit { AllByRecursion ClassFits classes.now }
-    ensures { IfOk result (λ reply. IsReplyOfClasses classes.now main.now reply.status reply.text.items) }
+// What is answered where the stages refuse.
+fn refused(refusal: Refusal) -> Result<Reply, NoMemory>
+    ensures { IfOk result (λ reply. IsRefusedBy refusal reply.status reply.text.items) }
 {
-    linked_in_parts();
-    match kilim_class_world::link(alloc, classes, Form::Plain) {
-        Ok(program) => program_reply(alloc, main, &program),
-        Err(LinkFault::InClass(class, problem)) => {
-            let text = kilim_link_reports::link_line(alloc, &class, &problem)?;
-            Ok(Reply { status: 1, text })
+    match refusal {
+        Refusal::Report(text) => Ok(Reply {
+            status: REPORTED,
+            text,
+        }),
+        Refusal::NoMemory => Err(NoMemory),
+    }
+}
+
+// The program that was accepted.
+fn program_of(isolated: Isolated) -> Program
+    ensures program { result ≡ isolated.typed.program }
+    ensures keeps { Keeps result }
+    ensures typed { IsWellTyped result }
+{
+    isolated.typed.program
+}
+
+// What is to be done for the bytes of files that are to be run.
+fn run_ready(alloc: Global, words: &RunWords<'_>, files: &[Seq<u8>]) -> Result<Ready, NoMemory>
+    requires few { length files.now ≤ 1000 }
+    requires same { length words.now.files.now ≡ length files.now }
+    ensures { IfOk result (λ ready. IsReadyFor (Run words.now.main.now words.now.workers words.now.steps (numbers_of (map string_bytes words.now.args.now)) (map string_bytes words.now.files.now)) files.now ready) }
+{
+    accepted_is_isolated();
+    accepted_is_served();
+    match accepted(alloc, words.files, files) {
+        Ok(isolated) => program_ready(alloc, words, program_of(isolated)),
+        Err(refusal) => {
+            let reply = refused(refusal)?;
+            Ok(Ready::Reply(reply))
         }
-        Err(LinkFault::Memory) => Err(NoMemory),
     }
 }
 
-// What is answered for files with these names and bytes.
-fn files_reply(
-    alloc: Global,
-    main: &str,
-    names: &[String],
-    files: &[Seq<u8>],
-) -> Result<Reply, NoMemory>
-    requires few { length files.now ≤ 1000 }
-    requires same { length names.now ≡ length files.now }
-    ensures { IfOk result (λ reply. IsReplyOfFiles main.now (map string_bytes names.now) files.now reply.status reply.text.items) }
+fn has_code(method: &Method) -> bool
+    ensures { result ≡ has_code method.now }
 {
-    small_run_is_whole();
-    match classes_of(alloc, names, files) {
-        Ok(classes) => classes_reply(alloc, main, classes.as_slice()),
-        Err(Refusal::Report(text)) => Ok(Reply { status: 1, text }),
-        Err(Refusal::NoMemory) => Err(NoMemory),
+    !method.code.is_empty()
+}
+
+// How many of a program's methods have code.
+fn coded_methods(program: &Program) -> usize
+    ensures { result ≡ coded_methods program.now }
+{
+    let mut count = 0usize;
+    for method in program.methods.as_slice() {
+        if has_code(method) {
+            count += 1;
+        }
+    }
+    count
+}
+
+// What is answered for the bytes of files that are to be checked.
+fn check_reply(alloc: Global, names: &[String], files: &[Seq<u8>]) -> Result<Reply, NoMemory>
+    requires few { length files.now ≤ 1000 }
+    requires same { length names.now ≡ length files.now }
+    ensures { IfOk result (λ reply. IsReplyFor (Check (map string_bytes names.now)) files.now reply.status reply.text.items) }
+{
+    accepted_is_isolated();
+    match accepted(alloc, names, files) {
+        Ok(isolated) => {
+            let program = program_of(isolated);
+            let methods = coded_methods(&program);
+            let text = accepted_line(alloc, files.len(), methods)?;
+            Ok(Reply { status: DONE, text })
+        }
+        Err(refusal) => refused(refusal),
     }
 }
 
-/// What is answered for files with these names and bytes, and that main class: the journal of a run with status 0, or
-/// a report with status 1.
-pub fn answer(
-    alloc: Global,
-    main: &str,
-    names: &[String],
-    files: &[Seq<u8>],
-) -> Result<Reply, NoMemory>
+/// What is to be done for the bytes of the files that the words name.
+pub fn prepare(alloc: Global, asked: &Asked<'_>, files: &[Seq<u8>]) -> Result<Ready, NoMemory>
     requires few { length files.now ≤ 1000 }
-    requires same { length names.now ≡ length files.now }
+    requires same { length (files_read (meant asked.now)) ≡ length files.now }
+    ensures { IfOk result (λ ready. IsReadyFor (meant asked.now) files.now ready) }
+{
+    match asked {
+        Asked::Check(names) => {
+            let reply = check_reply(alloc, names, files)?;
+            Ok(Ready::Reply(reply))
+        }
+        Asked::Run(words) => run_ready(alloc, words, files),
+    }
+}
+
+/// The text of a run's journal, with the status of a run that was done.
+pub fn journal_reply(alloc: Global, entries: &Vec<Entry>) -> Result<Reply, NoMemory>
+    requires { IsReadable entries.now.items }
+    ensures status { IfOk result (λ reply. reply.status ≡ 0) }
+    ensures text { IfOk result (λ reply. reply.text.items ≡ journal_text entries.now.items) }
+{
+    let text = kilim_journal::text(alloc, entries)?;
+    Ok(Reply { status: DONE, text })
+}
+
+/// A reply as it is: what the work makes with status 0, or a report with status 1.
+pub fn settled(
+    asked: &Asked<'_>,
+    files: &[Seq<u8>],
+    reply: Result<Reply, NoMemory>,
+) -> Result<Reply, NoMemory>
+    requires { IfOk reply (λ r. IsReplyFor (meant asked.now) files.now r.status r.text.items) }
     ensures status { IfOk result (λ reply. reply.status ≤ 1) }
-    ensures whole { IfOk result (λ reply. reply.status ≡ 0 → IsDone main.now files.now reply.text.items) }
-    ensures report { IfOk result (λ reply. reply.status ≡ 1 → IsReport main.now (map string_bytes names.now) files.now reply.text.items) }
-    ensures text { IfOk result (λ reply. IsDone main.now files.now reply.text.items ⊎ IsReport main.now (map string_bytes names.now) files.now reply.text.items) }
-    ensures fit { IfOk result (λ reply. reply.status ≡ 1 → IsFitRun main.now files.now → ⊥) }
-    ensures unreported { IfOk result (λ reply. reply.status ≡ 0 → (text : List ℕ) → IsReport main.now (map string_bytes names.now) files.now text → ⊥) }
+    ensures whole { IfOk result (λ reply. reply.status ≡ 0 → IsDone (meant asked.now) files.now reply.text.items) }
+    ensures report { IfOk result (λ reply. reply.status ≡ 1 → IsReport (meant asked.now) files.now reply.text.items) }
+    ensures text { IfOk result (λ reply. IsDone (meant asked.now) files.now reply.text.items ⊎ IsReport (meant asked.now) files.now reply.text.items) }
+    ensures fit { IfOk result (λ reply. reply.status ≡ 1 → IsFitFor (meant asked.now) files.now → ⊥) }
+    ensures unreported { IfOk result (λ reply. reply.status ≡ 0 → (text : List ℕ) → IsReport (meant asked.now) files.now text → ⊥) }
 {
-    class_file_is_spelled();
-    one_program();
-    files_reply(alloc, main, names, files)
+    never_both();
+    one_program_of();
+    let _asked = asked;
+    let _files = files;
+    reply
 }

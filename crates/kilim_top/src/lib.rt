@@ -3,17 +3,14 @@
 #![tactic(auto)]
 
 mod answer;
-mod classes;
 mod inputs;
-mod refusal;
 mod report;
-mod run;
-mod small;
+mod runs;
 mod status;
 #[cfg(test)]
 mod tests;
 mod top;
-mod words;
+mod work;
 mod writing;
 
 pub use status::{DONE, NO_MEMORY, REPORTED, UNREAD, UNWRITTEN, USAGE};

@@ -1,10 +1,10 @@
-//! Reports: one line with its line feed.
+//! Reports, and the line of accepted files: each with its line feed.
 
 ghost use Rattle.std.specs.Prelude.{◌≡◌, ◌++◌, codes, IfOk};
 ghost use Rattle.std.specs.List.{flat_map};
 ghost use Rattle.std.specs.Char.Escape.{encode_utf16};
 ghost use Rattle.std.specs.Str.{chars};
-ghost use Rattle.kilim_top.specs.Report.{utf16_of, later_line, main_line};
+ghost use Rattle.kilim_top.specs.Report.{utf16_of, main_line, accepted_line};
 
 use kilim_units::NoMemory;
 use std::alloc::{AllocError, Global};
@@ -36,13 +36,6 @@ pub fn utf16_of(alloc: Global, text: &str) -> Result<Vec<u16>, AllocError>
     encoded(alloc, chars.as_slice())
 }
 
-/// The class file can't be run yet.
-pub fn later(alloc: Global) -> Result<Vec<u8>, AllocError>
-    ensures { IfOk result (λ text. text.items ≡ later_line) }
-{
-    Vec::from_slice(alloc, b"later\n")
-}
-
 fn line_of(alloc: Global, name: &[u8]) -> Result<Vec<u8>, AllocError>
     ensures { IfOk result (λ text. text.items ≡ codes "main " ++ (name.now ++ codes "\n")) }
 {
@@ -52,11 +45,19 @@ fn line_of(alloc: Global, name: &[u8]) -> Result<Vec<u8>, AllocError>
     Ok(text)
 }
 
-/// The main class isn't there.
+/// No class of that name is fit to be the main class.
 pub fn no_main(alloc: Global, main: &str) -> Result<Vec<u8>, NoMemory>
     ensures { IfOk result (λ text. text.items ≡ main_line main.now) }
 {
     let units = utf16_of(alloc, main)?;
     let name = kilim_units::name_text(alloc, units.as_slice())?;
     Ok(line_of(alloc, name.as_slice())?)
+}
+
+/// The line of accepted files: how many classes they have, and how many methods with code.
+pub fn accepted_line(alloc: Global, classes: usize, methods: usize) -> Result<Vec<u8>, AllocError>
+    ensures { IfOk result (λ text. text.items ≡ accepted_line classes methods) }
+{
+    let line = format!(in alloc; "accepted {classes} {methods}\n")?;
+    Ok(line.into_bytes())
 }

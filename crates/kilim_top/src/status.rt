@@ -1,9 +1,9 @@
 //! The statuses of the top call.
 
-/// The journal of a whole run was written.
+/// The work was done, and its text was written whole.
 pub const DONE: u8 = 0;
 
-/// A report was written: a file is no class file, or the class files don't link, or their program can't be run.
+/// A report was written, of the first stage that has a fault.
 pub const REPORTED: u8 = 1;
 
 /// The words aren't in the grammar.

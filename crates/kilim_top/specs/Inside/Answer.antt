@@ -1,100 +1,65 @@
--- What is answered at each stage.
-use Rattle.std.specs.Prelude.{◌+◌, ◌*◌, ◌<◌, length, ◌≡◌, ◌≢◌, ℕ, List, [], Some, Result, Ok, Err, ◌⊎◌}
-use Rattle.kilim_journal.specs.Text.{journal_text}
-use Rattle.kilim_classfile.specs.declared.class_file.ClassFile.{ClassFile}
-use Rattle.kilim_classfile.specs.declared.fault.ClassFault.{ClassFault}
-use Rattle.kilim_classfile.specs.Reading.{read_class}
-use Rattle.kilim_link_spec.specs.declared.fault.LinkFault.TheVariants.{InClass}
-use Rattle.kilim_link_spec.specs.declared.fault.Problem.{Problem}
-use Rattle.kilim_link_spec.specs.Faults.{link_faults, first_fault}
-use Rattle.kilim_link_spec.specs.Linked.{Linked}
-use Rattle.kilim_reports.specs.ClassLines.{class_line}
-use Rattle.kilim_link_reports.specs.LinkLines.{link_line}
-use Rattle.kilim_classes.specs.declared.class.Form.TheVariants.{Plain}
+-- What is answered for an accepted program, and for the bytes of files.
+use Rattle.std.specs.Prelude.{◌≡◌, ℕ, true, List, Some, ◌⊎◌}
+use Rattle.kilim_classes.specs.declared.names.ClassId.{ClassId}
+use Rattle.kilim_classes.specs.Names.{class_named}
 use Rattle.kilim_classes.specs.Program.{Program}
-use Rattle.kilim_thread_model.specs.declared.small_programs.Small.{Small}
-use Rattle.kilim_thread_model.specs.Small.{IsSmall, IsSmallBy, small_journal}
-use Rattle.kilim_top.specs.declared.refusal.Refusal.{Refusal}
-use Rattle.kilim_top.specs.declared.refusal.Refusal.TheVariants as refusal
-use Rattle.kilim_top.specs.Report.{utf16_of, later_line, main_line}
+use Rattle.kilim_journal.specs.Text.{journal_text}
+use Rattle.kilim_journal.specs.declared.entry.Entry.{Entry}
+use Rattle.kilim_program.specs.declared.run.Limits.{Limits}
+use Rattle.kilim_program.specs.Members.{is_fit_main}
+use Rattle.kilim_stages.specs.declared.refusal.Refusal.{Refusal}
+use Rattle.kilim_stages.specs.declared.refusal.Refusal.TheVariants as refusal
+use Rattle.kilim_thread_model.specs.State.{Setting}
+use Rattle.kilim_whole_runs.specs.Runs.{IsJournalOf, IsServed, setting_of}
+use Rattle.kilim_words.specs.Words.{Request}
+use Rattle.kilim_top.specs.declared.answer.Ready.{Ready}
+use Rattle.kilim_top.specs.declared.answer.Ready.TheVariants as ready
+use Rattle.kilim_top.specs.Report.{utf16_of, main_line}
 use Rattle.kilim_top.specs.Outcome.{IsDone, IsReport}
 
--- where a report was made in place of a value, this is said of its text
-abbrev pub Refused : Refusal → (List ℕ → Type 0) → Type 0
-Refused refusal.NoMemory said = Unit {0}
-Refused (refusal.Report text) said = said text.items
+-- the text of the journal of a whole run
+pub record IsTextOf (set : Setting) (text : List ℕ) : Type 0 where
+  pub journal : List Entry
+  pub is : IsJournalOf set journal
+  pub is_text : text ≡ journal_text journal
 
-abbrev pub IfReport : {A : Type 0} → Result A Refusal → (List ℕ → Type 0) → Type 0
-IfReport (Ok x) said = Unit {0}
-IfReport (Err e) said = Refused e said
-
--- the journal of a program's run, where it can be run and its own class is the main class
-pub record IsRunOf (program : Program) (main text : List ℕ) : Type 0 where
-  pub small : Small
-  pub is_small : IsSmallBy program small
-  pub few : 5 * length small.prints + 1 < 65536
-  pub named : small.name ≡ utf16_of main
-  pub is_text : text ≡ journal_text (small_journal small)
-
--- the program can't be run yet
-pub record IsLaterOf (program : Program) (text : List ℕ) : Type 0 where
-  pub not_small : IsSmall program → ⊥
-  pub is_text : text ≡ later_line
-
--- it can be run, and its own class isn't the main class
-pub record IsOtherMain (program : Program) (main text : List ℕ) : Type 0 where
-  pub small : Small
-  pub is_small : IsSmallBy program small
-  pub other : small.name ≢ utf16_of main
+-- no class of that name is fit to be the main class
+pub record IsNoMain (program : Program) (main text : List ℕ) : Type 0 where
+  pub none : (class : ClassId) → class_named program (utf16_of main) ≡ Some class → is_fit_main program class ≡ true → ⊥
   pub is_text : text ≡ main_line main
-
-abbrev pub IsReportOf : Program → List ℕ → List ℕ → Type 0
-IsReportOf program main text = IsLaterOf program text ⊎ IsOtherMain program main text
-
--- ---- each stage
-
--- the line of bytes that are no class file, of the file with that name
-pub record IsFaultLine (name bytes text : List ℕ) : Type 0 where
-  pub fault : ClassFault
-  pub read : read_class bytes ≡ Err fault
-  pub is_text : text ≡ class_line name fault
-
--- the class files link to the program as they are, without a fault
-pub record LinksTo (classes : List ClassFile) (program : Program) : Type 0 where
-  pub none : link_faults classes Plain ≡ []
-  pub linked : Linked classes Plain program
-
--- linked in their order they have a fault
-pub record IsLinkLine (classes : List ClassFile) (text : List ℕ) : Type 0 where
-  pub class : List ℕ
-  pub problem : Problem
-  pub first : first_fault classes Plain ≡ Some (InClass class problem)
-  pub is_text : text ≡ link_line class problem
 
 -- ---- replies
 
 -- the status 0 with a text of one kind, or the status 1 with one of the other kind
 abbrev pub IsReply : (List ℕ → Type 0) → (List ℕ → Type 0) → ℕ → List ℕ → Type 0
-IsReply run report status text = ((status ≡ 0) × run text) ⊎ ((status ≡ 1) × report text)
+IsReply done report status text = ((status ≡ 0) × done text) ⊎ ((status ≡ 1) × report text)
 
--- of a program
-abbrev pub IsReplyOf : Program → List ℕ → ℕ → List ℕ → Type 0
-IsReplyOf program main status text = IsReply (IsRunOf program main) (IsReportOf program main) status text
+-- where the stages refuse: their report
+abbrev pub IsRefusedBy : Refusal → ℕ → List ℕ → Type 0
+IsRefusedBy refusal.NoMemory status text = ⊥
+IsRefusedBy (refusal.Report report) status text = (status ≡ 1) × (text ≡ report.items)
 
--- of class files that were read
-pub record IsRunOfClasses (classes : List ClassFile) (main text : List ℕ) : Type 0 where
-  pub program : Program
-  pub links : LinksTo classes program
-  pub run : IsRunOf program main text
+-- of the bytes of the files that the words name
+abbrev pub IsReplyFor : Request → List (List ℕ) → ℕ → List ℕ → Type 0
+IsReplyFor work files status text = IsReply (IsDone work files) (IsReport work files) status text
 
-pub record IsProgramReport (classes : List ClassFile) (main text : List ℕ) : Type 0 where
-  pub program : Program
-  pub links : LinksTo classes program
-  pub report : IsReportOf program main text
+-- ---- what is to be done
 
-abbrev pub IsReplyOfClasses : List ClassFile → List ℕ → ℕ → List ℕ → Type 0
-IsReplyOfClasses classes main status text = IsReply (IsRunOfClasses classes main) (λ said. IsLinkLine classes said ⊎ IsProgramReport classes main said) status text
+-- a program is to be run, and with the text of its journal the work is done
+pub record IsToRun (work : Request) (files : List (List ℕ)) (set : Setting) : Type 0 where
+  pub served : IsServed set
+  pub done : (text : List ℕ) → IsTextOf set text → IsDone work files text
 
--- of the bytes of files with these names
-abbrev pub IsReplyOfFiles : List ℕ → List (List ℕ) → List (List ℕ) → ℕ → List ℕ → Type 0
-IsReplyOfFiles main names files status text = IsReply (IsDone main files) (IsReport main names files) status text
+abbrev pub IsReadyFor : Request → List (List ℕ) → Ready → Type 0
+IsReadyFor work files (ready.Reply reply) = IsReplyFor work files reply.status reply.text.items
+IsReadyFor work files (ready.Run program class limits) = IsToRun work files (setting_of program class limits)
+
+-- the main class, with the program and the limits as they are
+pub record IsMainOf (program : Program) (main : List ℕ) (limits : Limits) (set : Setting) : Type 0 where
+  pub is : set ≡ setting_of program set.main limits
+  pub named : class_named program (utf16_of main) ≡ Some set.main
+  pub fit : is_fit_main program set.main ≡ true
+
+abbrev pub IsReadyOf : Program → List ℕ → Limits → Ready → Type 0
+IsReadyOf program main limits (ready.Reply reply) = (reply.status ≡ 1) × IsNoMain program main reply.text.items
+IsReadyOf program main limits (ready.Run p class l) = IsMainOf program main limits (setting_of p class l)

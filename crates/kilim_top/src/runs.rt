@@ -1,0 +1,101 @@
+//! Runs of what is ready.
+
+ghost use Rattle.std.specs.Prelude.{◌≡◌, ◌≤◌, IfOk, length};
+ghost use Rattle.kilim_whole_runs.specs.Runs.{IsServed, setting_of};
+ghost use Rattle.kilim_words.specs.Parts.{meant};
+ghost use Rattle.kilim_words.specs.Words.{files_read};
+ghost use Rattle.kilim_top.specs.Inside.Answer.{IsReplyFor, IsTextOf};
+ghost use Rattle.kilim_top.specs.Words.{workers_of};
+
+use crate::answer::{Ready, Reply, journal_reply, prepare};
+use kilim_classes::{ClassId, Program};
+use kilim_outside::Gate;
+use kilim_program::Limits;
+use kilim_units::{NoMemory, Seq};
+use kilim_whole_runs::{run_alone, run_with};
+use kilim_words::Asked;
+use std::alloc::Global;
+use std::sync::Wait;
+use std::thread::Threads;
+
+/// How many workers the words ask for.
+pub fn workers_of(asked: &Asked<'_>) -> u64
+    ensures { result ≡ workers_of (meant asked.now) }
+{
+    match asked {
+        Asked::Check(_) => 1,
+        Asked::Run(words) => words.workers,
+    }
+}
+
+// A run by one worker.
+fn run_reply_alone<G: Gate>(
+    alloc: Global,
+    program: Program,
+    class: ClassId,
+    limits: &Limits,
+    gate: &G,
+) -> Result<Reply, NoMemory>
+    requires { IsServed (setting_of program class limits.now) }
+    ensures { IfOk result (λ reply. (reply.status ≡ 0) × IsTextOf (setting_of program class limits.now) reply.text.items) }
+{
+    let entries = run_alone(alloc, program, class, limits, gate)?;
+    journal_reply(alloc, &entries)
+}
+
+// A run by as many as are asked for.
+fn run_reply_with<R: Threads + Wait + Sync, G: Gate>(
+    rt: &R,
+    alloc: Global,
+    program: Program,
+    class: ClassId,
+    limits: &Limits,
+    workers: u64,
+    gate: &G,
+) -> Result<Reply, NoMemory>
+    requires { IsServed (setting_of program class limits.now) }
+    ensures { IfOk result (λ reply. (reply.status ≡ 0) × IsTextOf (setting_of program class limits.now) reply.text.items) }
+{
+    let entries = run_with(rt, alloc, program, class, limits, workers, gate)?;
+    journal_reply(alloc, &entries)
+}
+
+/// What is answered for the bytes of the files that the words name, with a run by one worker.
+pub fn reply_alone<G: Gate>(
+    alloc: Global,
+    asked: &Asked<'_>,
+    files: &[Seq<u8>],
+    gate: &G,
+) -> Result<Reply, NoMemory>
+    requires few { length files.now ≤ 1000 }
+    requires same { length (files_read (meant asked.now)) ≡ length files.now }
+    ensures { IfOk result (λ reply. IsReplyFor (meant asked.now) files.now reply.status reply.text.items) }
+{
+    match prepare(alloc, asked, files)? {
+        Ready::Reply(reply) => Ok(reply),
+        Ready::Run(program, class, limits) => {
+            run_reply_alone(alloc, program, class, &limits, gate)
+        }
+    }
+}
+
+/// The same with a run by as many workers as the words ask for.
+pub fn reply_with<R: Threads + Wait + Sync, G: Gate>(
+    rt: &R,
+    alloc: Global,
+    asked: &Asked<'_>,
+    files: &[Seq<u8>],
+    gate: &G,
+) -> Result<Reply, NoMemory>
+    requires few { length files.now ≤ 1000 }
+    requires same { length (files_read (meant asked.now)) ≡ length files.now }
+    ensures { IfOk result (λ reply. IsReplyFor (meant asked.now) files.now reply.status reply.text.items) }
+{
+    let workers = workers_of(asked);
+    match prepare(alloc, asked, files)? {
+        Ready::Reply(reply) => Ok(reply),
+        Ready::Run(program, class, limits) => {
+            run_reply_with(rt, alloc, program, class, &limits, workers, gate)
+        }
+    }
+}
