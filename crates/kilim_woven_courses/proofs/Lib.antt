@@ -1,0 +1,6 @@
+pub mod GoesOn
+pub mod Few
+pub mod Takes
+pub mod Receives
+pub mod Executes
+pub mod Known
