@@ -4,6 +4,7 @@ use crate::edges::edge_lines;
 use crate::files::class_files;
 use crate::fits::fits_lines;
 use crate::graphs::graph_lines;
+use crate::lives::live_lines;
 use crate::stages::{check_lines, type_lines};
 use std::alloc::Global;
 use std::rt::Files;
@@ -30,6 +31,11 @@ pub fn answer<R: Files>(rt: &R, alloc: Global, words: &[String]) -> Option<Vec<u
                 name.as_str(),
                 class_files(rt, alloc, rest)?.as_slice(),
             )
+        }
+        "live" => {
+            let (name, rest) = rest.split_first()?;
+            let files = class_files(rt, alloc, rest)?;
+            live_lines(alloc, name.as_str(), files.as_slice())
         }
         "fits" => {
             let (from, rest) = rest.split_first()?;

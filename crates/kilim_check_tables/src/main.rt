@@ -8,6 +8,7 @@ mod edges;
 mod files;
 mod fits;
 mod graphs;
+mod lives;
 mod names;
 mod stages;
 
