@@ -1,10 +1,7 @@
 -- Lists.
-use Rattle.std.proofs.Common.{◌≡◌, ℕ, zero, suc, ◌+◌, ℤ, List, [], ◌∷◌, ◌++◌, drop, slice_get, Option, Some, None, refl, sym, ap, subst, ◌∙◌, arith}
-use Rattle.std.specs.Prelude.{FitsSigned}
-use Rattle.std.specs.Int.{w32}
+use Rattle.std.proofs.Common.{◌≡◌, ℕ, zero, suc, ◌+◌, List, [], ◌∷◌, ◌++◌, drop, slice_get, Option, Some, None, refl, sym, ap, ◌∙◌, arith}
 use Rattle.std.specs.List.{cons_option, filter_map, flat_map}
 use Rattle.std.proofs.lemmas.List.{append-nil, append_assoc}
-use Rattle.kilim_opcodes.specs.Instr.{IsAbove, PairsFit, TargetFits}
 
 pub flat_map_append : {A B : Type 0} (f : A → List B) (xs ys : List A) → flat_map f (xs ++ ys) ≡ flat_map f xs ++ flat_map f ys
 flat_map_append f [] ys = refl
@@ -29,9 +26,3 @@ pub drop_next : {A : Type 0} (xs : List A) (n : ℕ) (x : A) → slice_get xs n 
 drop_next [] n x e = absurd (cc)
 drop_next {A} (y ∷ xs) zero x e = let s : y ≡ x = cc in ap (λ (z : A). z ∷ xs) s
 drop_next {A} (y ∷ xs) (suc n) x e = let number : suc (n + 1) ≡ suc n + 1 = omega arith in drop_next xs n x e ∙ ap (λ (j : ℕ). x ∷ drop j (y ∷ xs)) number
-
--- matches of a switch, one more
-pub pairs_step : (place : ℕ) (pairs : List (ℤ × ℤ)) (at : ℕ) (least : Option ℤ) (pair : ℤ × ℤ) (key : ℤ) → slice_get pairs at ≡ Some pair → key ≡ pair.0 → IsAbove least pair.0 → FitsSigned w32 pair.0 → TargetFits w32 place pair.1 →
-    (PairsFit place least (drop at pairs) → PairsFit place None pairs) → PairsFit place (Some key) (drop (at + 1) pairs) → PairsFit place None pairs
-pairs_step place pairs at least pair key there is above fits far before rest =
-    before (subst (λ (ps : List (ℤ × ℤ)). PairsFit place least ps) (sym (drop_next pairs at pair there)) ((above, fits, far), subst (λ (k : ℤ). PairsFit place (Some k) (drop (at + 1) pairs)) is rest))

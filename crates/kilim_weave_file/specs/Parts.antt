@@ -1,5 +1,5 @@
 -- Parts of the definitions of woven files, named for the functions that make them.
-use Rattle.std.specs.Prelude.{ℕ, ◌+◌, ◌*◌, Bool, true, false, if◌then◌else◌, List, [], ◌∷◌, length, Option, Some, None}
+use Rattle.std.specs.Prelude.{ℕ, Bool, true, false, List, [], ◌∷◌, Option, Some, None}
 use Rattle.kilim_classes.specs.declared.class.Method.{Method}
 use Rattle.kilim_classes.specs.declared.instr.Instr.{Instr}
 use Rattle.kilim_classes.specs.declared.instr.Instr.TheVariants.{AconstNull, Pop, Pop2, Ireturn, Lreturn, Areturn, Return}
@@ -9,8 +9,6 @@ use Rattle.kilim_classfile.specs.declared.class_file.ClassFile.{ClassFile}
 use Rattle.kilim_classfile.specs.declared.class_file.MemberInfo.{MemberInfo}
 use Rattle.kilim_constant_pool.specs.declared.entry.Entry.{Entry}
 use Rattle.kilim_typing.specs.Step.{is_long}
-use Rattle.kilim_woven_form.specs.Weight.{calls_in, weight}
-use Rattle.kilim_woven_file_form.specs.Sizes.{frame_bytes, frames_number}
 use Rattle.kilim_woven_file_form.specs.WovenFile.{woven_member}
 
 -- the number of an added instruction without operands (JVMS 6.5)
@@ -23,12 +21,6 @@ plain_number Lreturn = 173
 plain_number Areturn = 176
 plain_number Return = 177
 plain_number i = 0
-
--- the bytes that a method may become longer by
-abbrev pub bytes_of : Program → MemberInfo → Method → ℕ
-bytes_of p info m =
-    if m.pausable then weight p m + (64 + (8 * calls_in p m.code + (frames_number p m * frame_bytes m + 2 * length info.attributes)))
-    else 0
 
 -- the locals of a frame, one by one: the next one is the half of a long, or it isn't
 abbrev pub entries_from : Bool → List VType → List VType

@@ -10,9 +10,9 @@ ghost use Rattle.kilim_woven_file_form.specs.WovenFile.{has_calls, table_by, tab
 use crate::forms::{added_raw, moved_raw};
 use crate::frames::full_frames;
 use crate::needs::{has_calls, instrs_if, old_table, table_units};
-use crate::writing::code_bytes;
 use kilim_attributes::{Code, CodeAttribute, CodeInfo};
 use kilim_classes::{Instr, Method, Program};
+use kilim_code_bytes::code_bytes;
 use kilim_constant_pool::Pool;
 use kilim_opcodes::RawInstr;
 use kilim_pool_needs::text_index;

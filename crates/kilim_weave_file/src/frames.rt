@@ -8,12 +8,12 @@ ghost use Rattle.kilim_typing.specs.Step.{is_long};
 ghost use Rattle.kilim_weave_file.specs.Parts.{entries_from};
 ghost use Rattle.kilim_woven_file_form.specs.FullFrames.{entries, full_frame, full_frames, slot_type};
 
-use crate::texts::type_name;
 use kilim_attribute_parts::{Frame as Entered, VerificationType};
 use kilim_classes::{Frame, Program, Ty, VType};
 use kilim_constant_pool::Pool;
 use kilim_pool_needs::{Need, index_of};
 use kilim_units::{NoMemory, Seq};
+use kilim_woven_names::type_name;
 use std::alloc::Global;
 
 // The entry of a class is found by the text of its name.

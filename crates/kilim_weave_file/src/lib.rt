@@ -7,11 +7,8 @@ mod forms;
 mod frames;
 mod members;
 mod needs;
-mod sizes;
-mod texts;
 mod weaving;
-mod writing;
 
 pub use fault::ApplyFault;
-pub use sizes::longest_text;
+pub use kilim_woven_sizes::longest_text;
 pub use weaving::apply;

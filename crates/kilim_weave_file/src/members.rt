@@ -8,7 +8,6 @@ ghost use Rattle.kilim_woven_file_form.specs.WovenFile.{attribute_with, one_para
 
 use crate::code::woven_code;
 use crate::needs::text_of;
-use crate::texts::woven_descriptor;
 use kilim_attribute_parts::AnnotationPart;
 use kilim_attributes::{Attribute, Info};
 use kilim_classes::{Method, Program};
@@ -16,6 +15,7 @@ use kilim_classfile::{ClassFile, MemberInfo};
 use kilim_constant_pool::Pool;
 use kilim_pool_needs::text_index;
 use kilim_units::{NoMemory, Seq, Units};
+use kilim_woven_names::woven_descriptor;
 use std::alloc::Global;
 
 // One parameter more, without annotations (JVMS 4.7.18). A count of 255 has no room for one: it would be answered as want of memory.

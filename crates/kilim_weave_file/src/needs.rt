@@ -7,43 +7,21 @@ ghost use Rattle.kilim_classfile.specs.Parts.{text_of};
 ghost use Rattle.kilim_link_spec.specs.Code.{decoded};
 ghost use Rattle.kilim_link_spec.specs.Mentions.{instrs_if};
 ghost use Rattle.kilim_woven_file_form.specs.FullFrames.{frame_needs, frames_needs, type_needs};
-ghost use Rattle.kilim_woven_file_form.specs.Raw.{added_need, call_by, call_need, code_needs, is_pausable_call, listed, old_need, pauses};
+ghost use Rattle.kilim_woven_file_form.specs.Raw.{added_need, call_by, call_need, code_needs, listed, old_need};
 ghost use Rattle.kilim_woven_file_form.specs.Texts.{needed_method};
 ghost use Rattle.kilim_woven_file_form.specs.WovenFile.{has_calls, head_of, info_needs, instrs_needs, old_table, table_name, table_need};
 
-use crate::texts::{needed_method, type_name, woven_descriptor};
 use kilim_attributes::{Attribute, Code, CodeAttribute, CodeInfo, Info};
 use kilim_classes::{Frame, Instr, Method, MethodId, Program, VType};
 use kilim_constant_pool::{Entry, Pool};
 use kilim_link_mentions::decoded;
-use kilim_lookups::method_at;
 use kilim_opcodes::RawInstr;
 use kilim_pool_needs::Need;
 use kilim_units::{NoMemory, Seq, Units};
+use kilim_woven_names::{is_pausable_call, needed_method, type_name, woven_descriptor};
 use std::alloc::Global;
 
 // ---- calls
-
-fn pauses(method: Option<&Method>) -> bool
-    ensures { result ≡ pauses (option_copied method.entry) }
-{
-    match method {
-        None => false,
-        Some(found) => found.pausable,
-    }
-}
-
-/// Whether an instruction calls a method that pauses.
-pub fn is_pausable_call(program: &Program, instr: &Instr) -> bool
-    ensures { result ≡ is_pausable_call program.now instr.now }
-{
-    match instr {
-        Instr::Invokevirtual(id) | Instr::Invokespecial(id) | Instr::Invokestatic(id) => {
-            pauses(method_at(program, *id))
-        }
-        _ => false,
-    }
-}
 
 /// Whether a method has a pausable call.
 pub fn has_calls(program: &Program, method: &Method) -> bool

@@ -15,12 +15,12 @@ ghost use Rattle.kilim_weave_file.specs.Applied.{Applied, SizesFit};
 use crate::fault::ApplyFault;
 use crate::members::{member_text, rewritten};
 use crate::needs::push_attributes;
-use crate::sizes::{added_entries, methods_bytes, plus, size_by};
 use kilim_classes::{Method, Program};
 use kilim_classfile::{ClassFile, MemberInfo, read, write};
 use kilim_constant_pool::Pool;
 use kilim_pool_needs::{Need, with_needs};
 use kilim_units::{NoMemory, Seq};
+use kilim_woven_sizes::{added_entries, methods_bytes, plus, size_by};
 use std::alloc::Global;
 
 /// The most indices of a pool (JVMS 4.1).

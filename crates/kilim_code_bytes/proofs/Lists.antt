@@ -1,0 +1,16 @@
+-- Matches of a switch.
+use Rattle.std.proofs.Common.{◌≡◌, ℕ, zero, suc, ◌+◌, ℤ, List, [], ◌∷◌, drop, slice_get, Option, Some, None, sym, ap, subst, ◌∙◌, arith}
+use Rattle.std.specs.Prelude.{FitsSigned}
+use Rattle.std.specs.Int.{w32}
+use Rattle.kilim_opcodes.specs.Instr.{IsAbove, PairsFit, TargetFits}
+
+pub drop_next : {A : Type 0} (xs : List A) (n : ℕ) (x : A) → slice_get xs n ≡ Some x → drop n xs ≡ x ∷ drop (n + 1) xs
+drop_next [] n x e = absurd (cc)
+drop_next {A} (y ∷ xs) zero x e = let s : y ≡ x = cc in ap (λ (z : A). z ∷ xs) s
+drop_next {A} (y ∷ xs) (suc n) x e = let number : suc (n + 1) ≡ suc n + 1 = omega arith in drop_next xs n x e ∙ ap (λ (j : ℕ). x ∷ drop j (y ∷ xs)) number
+
+-- matches of a switch, one more
+pub pairs_step : (place : ℕ) (pairs : List (ℤ × ℤ)) (at : ℕ) (least : Option ℤ) (pair : ℤ × ℤ) (key : ℤ) → slice_get pairs at ≡ Some pair → key ≡ pair.0 → IsAbove least pair.0 → FitsSigned w32 pair.0 → TargetFits w32 place pair.1 →
+    (PairsFit place least (drop at pairs) → PairsFit place None pairs) → PairsFit place (Some key) (drop (at + 1) pairs) → PairsFit place None pairs
+pairs_step place pairs at least pair key there is above fits far before rest =
+    before (subst (λ (ps : List (ℤ × ℤ)). PairsFit place least ps) (sym (drop_next pairs at pair there)) ((above, fits, far), subst (λ (k : ℤ). PairsFit place (Some k) (drop (at + 1) pairs)) is rest))

@@ -1,9 +1,0 @@
-use Rattle.std.proofs.Common.{◌≡◌, ◌+◌, drop}
-use Rattle.std.specs.Prelude.{sum_by}
-use Rattle.kilim_woven_file_form.specs.Sizes.{method_bytes}
-use Rattle.kilim_woven_file_form.specs.WovenFile.{pairs_of}
-use Rattle.kilim_weave_file.proofs.sizes.methods_bytes.Given as goal
-
-abbrev pub invariant-loop-info : goal.invariant-loop-info
-invariant-loop-info l =
-    l.sum + sum_by (method_bytes l.program) (pairs_of (drop l.info-index l.infos) l.ps l.ms l.cs) ≡ sum_by (method_bytes l.program) (pairs_of l.infos l.plains l.wovens l.counted)

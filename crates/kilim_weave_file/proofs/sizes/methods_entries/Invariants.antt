@@ -1,7 +1,0 @@
-use Rattle.std.proofs.Common.{◌≡◌, ◌+◌, drop}
-use Rattle.kilim_woven_file_form.specs.Sizes.{methods_entries}
-use Rattle.kilim_woven_file_form.specs.WovenFile.{pairs_of}
-use Rattle.kilim_weave_file.proofs.sizes.methods_entries.Given as goal
-
-abbrev pub invariant-loop-info : goal.invariant-loop-info
-invariant-loop-info l = l.sum + methods_entries l.program (pairs_of (drop l.info-index l.infos) l.ps l.ms l.cs) ≡ methods_entries l.program (pairs_of l.infos l.plains l.wovens l.counted)

@@ -1,0 +1,13 @@
+-- Parts of the bounds, named for the functions that make them.
+use Rattle.std.specs.Prelude.{ℕ, ◌+◌, ◌*◌, if◌then◌else◌, length}
+use Rattle.kilim_classes.specs.declared.class.Method.{Method}
+use Rattle.kilim_classes.specs.Program.{Program}
+use Rattle.kilim_classfile.specs.declared.class_file.MemberInfo.{MemberInfo}
+use Rattle.kilim_woven_form.specs.Weight.{calls_in, weight}
+use Rattle.kilim_woven_file_form.specs.Sizes.{frame_bytes, frames_number}
+
+-- the bytes that a method may become longer by
+abbrev pub bytes_of : Program → MemberInfo → Method → ℕ
+bytes_of p info m =
+    if m.pausable then weight p m + (64 + (8 * calls_in p m.code + (frames_number p m * frame_bytes m + 2 * length info.attributes)))
+    else 0
