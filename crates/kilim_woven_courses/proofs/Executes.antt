@@ -1,36 +1,41 @@
 -- `execute` of the main class takes the task's object alone.
-use Rattle.std.proofs.Common.{◌≡◌, ℕ, suc, ◌+◌, Bool, true, false, cond, eqb, List, [], ◌∷◌, ◌++◌, Option, Some, None, refl, sym, ap, subst, ◌∙◌}
-use Rattle.std.specs.Prelude.{◌||◌, slice_get, codes, map}
+use Rattle.std.proofs.Common.{◌≡◌, inl, inr, ℕ, suc, ◌+◌, Bool, true, false, cond, eqb, List, [], ◌∷◌, ◌++◌, Option, Some, None, refl, sym, ap, subst, ◌∙◌}
+use Rattle.std.specs.Prelude.{◌||◌, ◌==◌, length, slice_get, codes, map}
 use Rattle.std.specs.List.{AllByRecursion, list_any}
 use Rattle.std.specs.Str.{bytes_eq}
 use Rattle.std.proofs.lemmas.Bool.{and_from, and_parts, eq-eqb, or_left}
 use Rattle.std.proofs.lemmas.Option.{none-some, same_Some}
+use Rattle.kilim_classes.specs.declared.class.Form.{Form}
 use Rattle.kilim_classes.specs.declared.class.Form.TheVariants.{Plain}
+use Rattle.kilim_classes.specs.declared.ty.Qualifier.TheVariants.{Cuttable}
 use Rattle.kilim_classes.specs.declared.class.Method.{Method}
 use Rattle.kilim_classes.specs.declared.names.ClassId.{ClassId}
 use Rattle.kilim_classes.specs.declared.names.MethodId.{MethodId}
 use Rattle.kilim_classes.specs.declared.ty.Ty.{Ty}
 use Rattle.kilim_classes.specs.declared.value.Value.{Value}
 use Rattle.kilim_classes.specs.declared.value.Value.TheVariants.{Null, Ref}
-use Rattle.kilim_classes.specs.BuiltIn.{built_in_methods_in, class_id, class_type}
+use Rattle.kilim_classes.specs.BuiltIn.{built_in_method, built_in_methods_in, class_id, class_type}
 use Rattle.kilim_classes.specs.Fits.{fits_type}
 use Rattle.kilim_classes.specs.Keeps.{Keeps}
-use Rattle.kilim_classes.specs.Names.{◌>>=◌, class_at, first_that, is_named_task, is_task, line_of, method_at}
+use Rattle.kilim_classes.specs.Names.{◌>>=◌, class_at, class_name, first_that, is_named_task, is_task, line_of, method_at}
 use Rattle.kilim_classes.specs.Program.{Program}
 use Rattle.kilim_classes.specs.Same.{is_constructor, selected}
 use Rattle.kilim_program.specs.Does.{chosen, chosen_by}
 use Rattle.kilim_program.specs.Members.{execute_of, is_concrete, is_fit_main, is_own_constructor, is_task_execute, constructor_of}
-use Rattle.kilim_fits.specs.Fits.{have_types}
+use Rattle.kilim_fits.specs.Facts.{Selected}
+use Rattle.kilim_fits.specs.Fits.{Classes, has_type, have_types}
 use Rattle.kilim_fits.specs.Sound.{argument_types}
+use Rattle.kilim_fits.proofs.Finding.{finds_chosen}
 use Rattle.kilim_fits.proofs.Grounds.{facts_hold}
 use Rattle.kilim_fine_threads.proofs.Natives.{built_in_one, first, task_name}
 use Rattle.kilim_thread_model.specs.State.{Setting}
 use Rattle.kilim_typed_threads.proofs.Executing.{IsExecute, same_class}
 use Rattle.kilim_typing.specs.Step.{class_vtype, vtype}
+use Rattle.kilim_classes.specs.declared.verified.VType.{VType}
 use Rattle.kilim_classes.specs.declared.verified.VType.TheVariants.{UninitThis}
 use Rattle.kilim_woven_courses.proofs.Takes.{takes_typed}
 use Rattle.kilim_woven_runs.specs.Links.{Forms, Takes}
-use Rattle.kilim_woven_runs.specs.Thread.{self_in, self_of}
+use Rattle.kilim_woven_runs.specs.Thread.{first_of, self_in, self_of}
 
 abbrev ExecutesAs : ℕ → Method → Type 0
 ExecutesAs n m = is_task_execute m ≡ true → IsExecute n m
@@ -104,6 +109,36 @@ module _ (p : Program) (keeps : Keeps p) (form : p.form ≡ Plain) where
           let parts = and_parts (is_concrete (class_at p c)) _ fit in
           let x = execute_is named there in
           selected_executes c parts.0 (and_parts (is_task p c) (is_own_constructor (constructor_of p c >>= method_at p)) parts.1).0 named x.0 x.1 x.2 f e
+
+  -- some method of tasks is the built-in one, and the main class has one for it
+  first_after : (test : Method → Bool) (xs ys : List Method) (y : Method) → first_that test ys ≡ Some y → (m : Method) × (first_that test (xs ++ ys) ≡ Some m)
+  first_after test [] ys y e = (y, e)
+  first_after test (x ∷ xs) ys y e = by (test x) (first_after test xs ys y e)
+    where
+      by : (z : Bool) → ((m : Method) × (first_that test (xs ++ ys) ≡ Some m)) → (m : Method) × (cond z (Some x) (first_that test (xs ++ ys)) ≡ Some m)
+      by true again = (x, refl)
+      by false again = again
+
+  abbrev the_built_in : ℕ → Method
+  the_built_in k = built_in_method (codes "execute") (class_id (k + 4)) [] None false true Cuttable []
+
+  named_execute : (m : Method) × (first_that is_task_execute p.methods ≡ Some m)
+  named_execute =
+      let own = keeps.built_in.own_methods in
+      let k = length keeps.built_in.own_classes in
+      subst (λ (ms : List Method). (m : Method) × (first_that is_task_execute ms ≡ Some m)) (sym keeps.built_in.methods)
+      (first_after is_task_execute own (built_in_methods_in p.form k) (the_built_in k) (subst (λ (f : Form). first_that is_task_execute (built_in_methods_in f k) ≡ Some (the_built_in k)) (sym form) refl))
+
+  pub has_execute : (c : ClassId) → is_fit_main p c ≡ true → (f : MethodId) × (execute_of p c ≡ Some f)
+  has_execute c fit =
+      let named = named_execute in
+      let x = execute_is named.0 named.1 in
+      let parts = and_parts (is_concrete (class_at p c)) _ fit in
+      let task = (and_parts (is_task p c) (is_own_constructor (constructor_of p c >>= method_at p)) parts.1).0 in
+      let line : list_any (λ (d : ClassId). d.0 == named.0.owner.0) (line_of p c) ≡ true =
+      subst (λ (k : ClassId). list_any (λ (d : ClassId). d.0 == k.0) (line_of p c) ≡ true) (sym x.2.owner) (any_weaker (is_named_task p) (λ d. eqb d.0 (n + 4)) task_is (line_of p c) task) in
+      let f = finds_chosen p x.0 named.0 c keeps x.1 x.2.public x.2.plain line in
+      (f.0, ap (λ (o : Option Method). o >>= selected p c) named.1 ∙ f.1)
 
   -- where each name is of the class of the method
   object_typed : (m : Method) (k : ℕ) → m.params ≡ [] → m.is_static ≡ false → have_types p m (λ q. Some (class_type m.owner.0)) (argument_types m) (Ref k ∷ []) ≡ true

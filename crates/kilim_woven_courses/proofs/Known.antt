@@ -1,9 +1,9 @@
 -- What is known of the thread of a course in verified code whose threads keep what they reach.
-use Rattle.std.proofs.Common.{◌≡◌, cond, eqb, inl, inr, ℕ, zero, suc, ◌<◌, Bool, true, false, List, [], ◌∷◌, Option, Some, None, refl, sym, ap, subst, ◌∙◌, ltb-true}
-use Rattle.std.specs.Prelude.{codes, is_some, length}
+use Rattle.std.proofs.Common.{◌≡◌, ◌≢◌, cond, eqb, inl, inr, ℕ, zero, suc, ◌<◌, Bool, true, false, List, [], ◌∷◌, Option, Some, None, refl, sym, ap, subst, ◌∙◌, ltb-true}
+use Rattle.std.specs.Prelude.{codes, is_some, slice_get, nat_lt, length}
 use Rattle.std.specs.FinMap.{get}
 use Rattle.std.proofs.lemmas.Bool.{and_parts, false≢true}
-use Rattle.std.proofs.lemmas.Option.{slice_get_within}
+use Rattle.std.proofs.lemmas.Option.{none-some, same_Some, slice_get_within}
 use Rattle.kilim_classes.specs.declared.class.Class.{Class}
 use Rattle.kilim_classes.specs.declared.class.Method.{Method}
 use Rattle.kilim_classes.specs.declared.instr.Instr.{Instr}
@@ -11,13 +11,15 @@ use Rattle.kilim_classes.specs.declared.names.ClassId.{ClassId}
 use Rattle.kilim_classes.specs.declared.names.MethodId.{MethodId}
 use Rattle.kilim_classes.specs.declared.ty.Base.{Base}
 use Rattle.kilim_classes.specs.declared.ty.Base.TheVariants as base
+use Rattle.kilim_classes.specs.declared.ty.Ty.{Ty}
 use Rattle.kilim_classes.specs.declared.value.Value.{Value}
 use Rattle.kilim_classes.specs.declared.value.Value.TheVariants as value
 use Rattle.kilim_classes.specs.declared.verified.VType.{VType}
 use Rattle.kilim_classes.specs.declared.verified.VType.TheVariants.{Top, Int, Long, Null, UninitThis, Uninit, Object}
 use Rattle.kilim_classes.specs.Keeps.{has_base}
 use Rattle.kilim_classes.specs.Lengths.{fetched, first_place}
-use Rattle.kilim_classes.specs.Names.{class_at, method_at}
+use Rattle.kilim_classes.specs.Names.{class_at, class_name, method_at}
+use Rattle.kilim_classes.specs.Kinds.{is_value_class}
 use Rattle.kilim_classes.specs.Program.{Program}
 use Rattle.kilim_fine_threads.proofs.Shown.{no_fiber_class}
 use Rattle.kilim_fine_threads.specs.Typed.{IsVerified, TopIsThere, frames_of}
@@ -26,31 +28,36 @@ use Rattle.kilim_fits.proofs.Narrowed.{narrows}
 use Rattle.kilim_fits.proofs.Table.{table_fits}
 use Rattle.kilim_fits.proofs.Walk.{stands_at}
 use Rattle.kilim_fits.specs.Sound.{CallFits, EffectFits, argument_types}
-use Rattle.kilim_fits.specs.Fits.{AreThere, Classes, ContentFits, HeapFits, IsThere, Typing, Wanted, has_objects, has_type, have_types, is_made, refers}
+use Rattle.kilim_fits.specs.Fits.{AreThere, Classes, ContentFits, FrameFits, HeapFits, IsThere, Typing, Wanted, has_objects, has_type, have_types, is_made, refers}
 use Rattle.kilim_program.specs.declared.value.Object.{Object as HeapObject}
 use Rattle.kilim_program.specs.Does.{does}
-use Rattle.kilim_program.specs.Effect.{Calls, Effect, named_type}
+use Rattle.kilim_program.specs.Effect.{Asks, Calls, Effect, Stuck, named_type}
 use Rattle.kilim_program.specs.Machine.{Objects}
-use Rattle.kilim_program.specs.Members.{is_concrete}
+use Rattle.kilim_program.specs.Members.{execute_of, is_concrete}
+use Rattle.kilim_program.specs.Natives.{native_of}
+use Rattle.kilim_thread_model.specs.Course.{Course, IsLone, Quiet}
 use Rattle.kilim_thread_model.specs.Kept.{Kept}
+use Rattle.kilim_thread_model.specs.Lone.{Lone}
 use Rattle.kilim_thread_model.specs.Reach.{Below, Here, Liveness, Names, OptionNames, SomeNames}
 use Rattle.kilim_thread_model.specs.State.{Alive, Ended, Setting, Thread as ModelThread, is_fit}
-use Rattle.kilim_typing.specs.Step.{made_at, made_by}
+use Rattle.kilim_typing.specs.Step.{Types, made_at, made_by}
 use Rattle.kilim_typing.specs.Typed.{edges}
 use Rattle.kilim_typed_threads.proofs.Threads.{threads_are_typed}
-use Rattle.kilim_typed_threads.specs.Typed.{StacksAreThere}
+use Rattle.kilim_typed_threads.specs.Typed.{IsTyped, StacksAreThere}
 use Rattle.kilim_woven_courses.proofs.GoesOn.{goes_on}
 use Rattle.kilim_woven_courses.proofs.Receives.{receives_typed}
 use Rattle.kilim_woven_courses.proofs.Takes.{takes_typed}
-use Rattle.kilim_woven_courses.proofs.Executes.{takes_object}
+use Rattle.kilim_woven_courses.proofs.Unstuck.{is_lost, not_lost, step_not}
+use Rattle.kilim_woven_courses.proofs.Executes.{executes, has_execute, takes_object}
 use Rattle.kilim_woven_courses.proofs.Few.{few_on}
 use Rattle.kilim_woven_courses.specs.Law.{HasFew, IsOfCourse, Rest}
-use Rattle.kilim_woven_lone.specs.Law.{lone_at}
-use Rattle.kilim_woven_runs.specs.Acts.{World}
+use Rattle.kilim_woven_lone.specs.Law.{lone_at, lone_frames}
+use Rattle.kilim_woven_runs.specs.Acts.{Lost, World, asks, with_heap}
+use Rattle.kilim_woven_runs.specs.Fibers.{frame}
 use Rattle.kilim_woven_runs.specs.Links.{Forms}
-use Rattle.kilim_woven_runs.specs.Rows.{Clean, Receives, OldHeap, is_old_base}
+use Rattle.kilim_woven_runs.specs.Rows.{Clean, IsClean, Receives, OldHeap, is_old_base}
 use Rattle.kilim_woven_runs.specs.Serves.{From, Known}
-use Rattle.kilim_woven_runs.specs.Thread.{Frame, Run, Thread, code_in, fetch, own_in, own_of, step, steps}
+use Rattle.kilim_woven_runs.specs.Thread.{Frame, Run, Stop, Thread, code_in, fetch, own_in, own_of, push, step, steps}
 
 -- ---- what stacks name is there
 
@@ -168,6 +175,7 @@ module _ (set : Setting) (typing : Typing) (wanted : Wanted) (live : Liveness) (
     there : (i : Instr) × (to : ℕ) × (fetch set.program m p ≡ Some (i, to))
     old : OldHeap set.program w.heap
     clean : Clean s
+    sound : (i : Instr) (to : ℕ) → fetch set.program m p ≡ Some (i, to) → does set.program (own_of set.program m) i to l s w.heap ≢ Stuck
     receives : (i : Instr) (to : ℕ) → fetch set.program m p ≡ Some (i, to) → Receives set.program i s w.heap
     calls : (i : Instr) (to q : ℕ) (l2 s2 args : List Value) (heap : Objects) (c : MethodId) → fetch set.program m p ≡ Some (i, to) → does set.program (own_of set.program m) i to l s w.heap ≡ Calls c args q l2 s2 heap
         → (callee : Method) × (of : Classes) × (method_at set.program c ≡ Some callee) × (have_types set.program callee of (argument_types callee) args ≡ true)
@@ -177,6 +185,16 @@ module _ (set : Setting) (typing : Typing) (wanted : Wanted) (live : Liveness) (
       let typed = threads_are_typed set typing wanted is main (kept_stacks live set kept) w.task here.0 here.1 (lone_at m p l s b w) here.2 here.3 in
       let fits = typed.is.fits in
       let top = fits.frames.0 in
+      let effect : (i : Instr) (to : ℕ) → fetch set.program m p ≡ Some (i, to) → (g : Types) × EffectFits set.program top.method typed.of (wanted m) (edges i to) g (does set.program (own_of set.program m) i to l s w.heap) = λ i to f.
+      let own : fetched top.method.code top.method.code_length p ≡ Some (i, to) = ap (λ (o : Option Method). code_in o p) (sym top.there) ∙ f in
+      let well = is.verified.typed m top.method top.there top.code in
+      let at = stands_at set.program top.method (typing m) well p i to own in
+      let effect = table_fits set.program (facts_hold set.program is.keeps) narrows top.method typed.of w.heap fits.heap (wanted m) p to (typing m p) at.after l s i
+      (record { wants = is.verified.wants m top.method top.there p (i, to) own; locals = top.locals; stack = top.stack; there = kept_stacks live set kept w.task here.0 here.1 (lone_at m p l s b w) here.2 here.3 })
+      (made_there top.method.code top.method.code_length p i to own)
+      (is.verified.proper m top.method top.there p (i, to) own)
+      at.step in
+      (at.after, subst (λ (z : Effect). EffectFits set.program top.method typed.of (wanted m) (edges i to) at.after z) (ap (λ (o : Option Method). does set.program (own_in o) i to l s w.heap) (sym top.there)) effect) in
       record {
         there = stands top.method top.there (fetched top.method.code top.method.code_length p) refl top.stands;
         old = heap_old set.program typed.of w.heap fits.heap;
@@ -185,17 +203,12 @@ module _ (set : Setting) (typing : Typing) (wanted : Wanted) (live : Liveness) (
             let own : fetched top.method.code top.method.code_length p ≡ Some (i, to) = ap (λ (o : Option Method). code_in o p) (sym top.there) ∙ f in
             let at = stands_at set.program top.method (typing m) (is.verified.typed m top.method top.there top.code) p i to own in
             receives_typed set.program (facts_hold set.program is.keeps).order top.method typed.of w.heap fits.heap p i (typing m p) at.after s top.stack at.step;
+        sound = λ i to f e.
+            let r = effect i to f in
+            absurd (subst (λ (z : Effect). EffectFits set.program top.method typed.of (wanted m) (edges i to) r.0 z) e r.1);
         calls = λ i to q l2 s2 args heap c f e.
-            let own : fetched top.method.code top.method.code_length p ≡ Some (i, to) = ap (λ (o : Option Method). code_in o p) (sym top.there) ∙ f in
-            let well = is.verified.typed m top.method top.there top.code in
-            let at = stands_at set.program top.method (typing m) well p i to own in
-            let effect = table_fits set.program (facts_hold set.program is.keeps) narrows top.method typed.of w.heap fits.heap (wanted m) p to (typing m p) at.after l s i
-            (record { wants = is.verified.wants m top.method top.there p (i, to) own; locals = top.locals; stack = top.stack; there = kept_stacks live set kept w.task here.0 here.1 (lone_at m p l s b w) here.2 here.3 })
-            (made_there top.method.code top.method.code_length p i to own)
-            (is.verified.proper m top.method top.there p (i, to) own)
-            at.step in
-            let called : CallFits set.program top.method typed.of (wanted m) (edges i to) at.after c args q l2 s2 heap =
-            subst (λ (z : Effect). EffectFits set.program top.method typed.of (wanted m) (edges i to) at.after z) (ap (λ (o : Option Method). does set.program (own_in o) i to l s w.heap) (sym top.there) ∙ e) effect in
+            let r = effect i to f in
+            let called : CallFits set.program top.method typed.of (wanted m) (edges i to) r.0 c args q l2 s2 heap = subst (λ (z : Effect). EffectFits set.program top.method typed.of (wanted m) (edges i to) r.0 z) e r.1 in
             (called.callee, typed.of, called.there, called.arguments);
       }
     where
@@ -203,18 +216,36 @@ module _ (set : Setting) (typing : Typing) (wanted : Wanted) (live : Liveness) (
       stands method at None e some = absurd (false≢true some)
       stands method at (Some found) e some = (found.0, found.1, ap (λ (o : Option Method). code_in o p) at ∙ e)
 
-  module _ (W : Program) (marks : List (List Bool)) (form : Forms set W marks) (first : Thread) (begins : IsOfCourse set first) (few : HasFew first) (rest : Rest set W marks form (From set first)) where
+  module _ (W : Program) (marks : List (List Bool)) (form : Forms set W marks) (first : Thread) (begins : IsOfCourse set first) (few : HasFew first) (stands : first ≢ Stop Lost) (rest : Rest set W marks form (From set first)) where
     at_all : (t : Thread) → From set first t → IsOfCourse set t
     at_all t f = subst (λ (z : Thread). IsOfCourse set z) f.1 (all_of_course set f.0 first begins)
 
     few_at : (t : Thread) → From set first t → HasFew t
     few_at t f = subst HasFew f.1 (all_few set f.0 first few)
 
+    execute : (f : MethodId) × (execute_of set.program set.main ≡ Some f)
+    execute = has_execute set.program is.keeps is.form set.main main
+
+    step_on : (t : Thread) → From set first t → is_lost t ≡ false → is_lost (step set t) ≡ false
+    step_on (Stop o) f h = h
+    step_on (Run m p l s x b w) f h =
+        let k = standing m p l s x b w (at_all (Run m p l s x b w) f) in
+        let e = executes set.program is.keeps is.form set.main main execute.0 execute.1 in
+        step_not set execute.0 e.method execute.1 e.there m p k.there.1 k.there.0 l s x b w k.there.2 (k.sound k.there.0 k.there.1 k.there.2)
+        (λ c args q l2 s2 heap d. not_lost (asks set (with_heap w heap) Stop (λ after v. Run m q l2 (push v s2) x b after) (native_of set.program c) args) (rest.answers m p k.there.1 q k.there.0 l s l2 s2 args x b w heap c f k.there.2 d))
+
+    none_lost : (n : ℕ) → is_lost (steps set n first) ≡ false
+    none_lost zero = not_lost first stands
+    none_lost (suc n) = subst (λ (z : Thread). is_lost z ≡ false) (sym (steps_last set n first)) (step_on (steps set n first) (n, refl) (none_lost n))
+
+    unlost : (t : Thread) → From set first t → is_lost (step set t) ≡ false
+    unlost t f = step_on t f (subst (λ (z : Thread). is_lost z ≡ false) f.1 (none_lost f.0))
+
     pub known : Known set W marks form (From set first)
     known = record {
       keeps = λ t f. (suc f.0, steps_last set f.0 first ∙ ap (step set) f.1);
       there = λ m p l s x b w f. (standing m p l s x b w (at_all (Run m p l s x b w) f)).there;
-      unstuck = rest.unstuck;
+      unstuck = λ t f e. false≢true (sym (unlost t f) ∙ ap is_lost e);
       old_heap = λ m p l s x b w f. (standing m p l s x b w (at_all (Run m p l s x b w) f)).old;
       clean = λ m p to i l s x b w f e. record { clean = (standing m p l s x b w (at_all (Run m p l s x b w) f)).clean; receives = (standing m p l s x b w (at_all (Run m p l s x b w) f)).receives i to e };
       takes = λ m p to q i l s l2 s2 args x b w heap c f e d.

@@ -3,4 +3,5 @@ pub mod Few
 pub mod Takes
 pub mod Receives
 pub mod Executes
+pub mod Unstuck
 pub mod Known

@@ -15,7 +15,7 @@ returns c = λ set run pauses short lives is.
     let counted = woven_counted set.program lives in
     let w = whole set W counted run.keeps run.form run.well pauses short run.main (there set.program run.keeps lives is) in (
       w.0,
-      λ first course few rest. w.3 first
+      λ first course few stands rest. w.3 first
           (known set (typing_at set.program) (λ id at k. true) (λ id at k. false) (is_verified set run.keeps run.form run.well run.accepted run.main run.begins) run.main
-          (accepted_is_kept set run (λ id at k. false) (λ id m at k e live. absurd (false≢true live))) W counted w.0 first course few rest),
+          (accepted_is_kept set run (λ id at k. false) (λ id m at k e live. absurd (false≢true live))) W counted w.0 first course few stands rest),
     )

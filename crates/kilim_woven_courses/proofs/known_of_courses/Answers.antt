@@ -2,4 +2,4 @@ use Rattle.kilim_woven_courses.proofs.Known.{known}
 use Rattle.kilim_woven_courses.proofs.known_of_courses.Goals as goal
 
 pub returns : goal.returns
-returns c = λ set typing wanted live is main kept W marks form first begins few rest. known set typing wanted live is main kept W marks form first begins few rest
+returns c = λ set typing wanted live is main kept W marks form first begins few stands rest. known set typing wanted live is main kept W marks form first begins few stands rest
