@@ -1,0 +1,4 @@
+pub mod Listing
+pub mod Plans
+pub mod Flagged
+pub mod Weaving

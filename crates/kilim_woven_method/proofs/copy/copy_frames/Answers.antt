@@ -1,0 +1,9 @@
+use Rattle.std.proofs.Common.{◌≡◌, ℕ, ap}
+use Rattle.kilim_classes.specs.declared.verified.Frame.{Frame}
+use Rattle.kilim_woven_method.proofs.Listing.{copied_more}
+use Rattle.kilim_woven_method.proofs.copy.copy_frames.Goals as goal
+
+pub loop-at-preserved : goal.loop-at-preserved
+loop-at-preserved c =
+    copied_more c.args.frames.now c.loop-at.at c.frame_at-entry.result.now (c.frame_at-entry.result.now.0, c.in_ok-frame.frame) c.loop-at.all.items c.push.new.self.items c.frame_at-entry.ensures c.loop-at.invariant
+    (ap (λ (f : Frame). let e : ℕ × Frame = (c.frame_at-entry.result.now.0, f) in e) c.in_ok-frame.ensures) c.in_ok-push.ensures.items

@@ -1,0 +1,38 @@
+use Rattle.std.proofs.Common.{◌≡◌, ◌∙◌, ℕ, Bool, List, ap, sym, subst}
+use Rattle.kilim_liveness.specs.Table.{live_in}
+use Rattle.kilim_woven_form.specs.Form.{plan_of}
+use Rattle.kilim_woven_form.specs.Woven as form
+use Rattle.kilim_woven_code.specs.Listed.{AreDeclared}
+use Rattle.kilim_woven_code.specs.Places.{at_in, block_in}
+use Rattle.kilim_woven_layout.specs.Found.{AreFound}
+use Rattle.kilim_woven_layout.specs.Laid.{IsLaid}
+use Rattle.kilim_woven_method.proofs.Plans.{plan_found}
+use Rattle.kilim_woven_method.proofs.Weaving.{woven_is}
+use Rattle.kilim_woven_method.proofs.method.woven.Goals as goal
+
+pub items_at-requires : goal.items_at-requires
+items_at-requires c = record {
+  slots = c.in_ok-slots.ensures;
+  flags = subst (λ (bs : List Bool). AreDeclared c.args.method.now bs) (sym c.as_slice-flags.ensures.value) c.in_ok-declared.ensures;
+  rising = c.requires.rising;
+  listed = c.requires.listed;
+}
+
+pub items_at-requires-2 : goal.items_at-requires-2
+items_at-requires-2 c = record {
+  slots = c.in_ok-slots.ensures;
+  flags = subst (λ (bs : List Bool). AreDeclared c.args.method.now bs) (sym c.as_slice-flags.ensures.value) c.in_ok-declared.ensures;
+  rising = c.requires.rising;
+  listed = c.requires.listed;
+}
+
+pub returns : goal.returns
+returns c =
+    let p = c.args.program.now in
+    let m = c.args.method.now in
+    let live : ℕ → ℕ → Bool = live_in c.args.live.now in
+    let x = plan_of p m live (λ place. 0) (λ number. 0) in
+    let found = subst (λ (is : List form.Item). AreFound is c.in_ok-places.places) c.in_ok-unplaced.ensures c.in_ok-places.ensures in
+    let plan = plan_found c.places_dont_matter.ensures x (at_in c.nowhere-first.result) (block_in c.nowhere-first.result) c.in_ok-places.places found in
+    let laid = subst (λ (is : List form.Item). IsLaid is c.in_ok-laid.laid) (c.in_ok-items.ensures ∙ ap form.woven_items plan) c.in_ok-laid.ensures in
+    woven_is p m live c.in_ok-slots.slots c.in_ok-laid.laid c.in_ok-pair.pair c.in_ok-slots.ensures laid c.in_ok-pair.ensures.method c.in_ok-pair.ensures.counted

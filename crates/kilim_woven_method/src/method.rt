@@ -1,0 +1,204 @@
+//! Woven methods.
+
+ghost use Rattle.std.specs.Prelude.{◌≡◌, ◌+◌, ◌∷◌, ◌++◌, [], true, if◌then◌else◌, IfOk};
+ghost use Rattle.kilim_classes.specs.BuiltIn.{class_type};
+ghost use Rattle.kilim_liveness.specs.Table.{live_in};
+ghost use Rattle.kilim_lookups.specs.Places.{Rising};
+ghost use Rattle.kilim_woven_form.specs.Form.{plan_of};
+ghost use Rattle.kilim_woven_form.specs.Woven as form;
+ghost use Rattle.kilim_woven_shape.specs.Law.{placed};
+ghost use Rattle.kilim_woven_code.specs.Items.{items_of};
+ghost use Rattle.kilim_woven_code.specs.Listed.{AreDeclared, Listed};
+ghost use Rattle.kilim_woven_code.specs.Places.{at_in, block_in};
+ghost use Rattle.kilim_woven_program.specs.Made.{made_as};
+ghost use Rattle.kilim_woven_method.specs.Flags.{AreSlots};
+
+use crate::copy::copy_types;
+use crate::flags::declared_flags;
+use crate::slots::{argument_slots, fiber_slot, plus};
+use kilim_classes::{Base, ClassId, Frame, Method, Program, Qualifier, Ty};
+use kilim_liveness::LiveTable;
+use kilim_units::{NoMemory, Seq};
+use kilim_woven_code::{Items, Places, Plan, woven_items};
+use kilim_woven_layout::{Laid, lay, nowhere, places_of};
+use kilim_woven_shape::places_dont_matter;
+use std::alloc::Global;
+
+/// The locals and numbers that a woven method names.
+#[derive(Clone, Copy, Debug, PartialEq, Eq)]
+pub struct Slots {
+    /// The argument slots of the old method.
+    pub arguments: u16,
+    /// The local of the fiber.
+    pub fiber: u16,
+    /// The local of the receiver.
+    pub receiver: u16,
+    /// The number of the fiber's first member.
+    pub member: u32,
+    /// The number of the fiber's class.
+    pub class: u32,
+}
+
+fn number_of(count: usize) -> Result<u32, NoMemory>
+    ensures { IfOk result (λ n. n ≡ count) }
+{
+    match u32::try_from(count) {
+        Ok(number) => Ok(number),
+        Err(_) => Err(NoMemory),
+    }
+}
+
+fn slots_of(program: &Program, method: &Method) -> Result<Slots, NoMemory>
+    ensures { IfOk result (λ s. AreSlots program.now method.now s) }
+{
+    let arguments = argument_slots(method)?;
+    let fiber = fiber_slot(method, arguments)?;
+    let receiver = plus(fiber, 1)?;
+    let member = number_of(program.methods.len())?;
+    let class = number_of(program.classes.len())?;
+    Ok(Slots {
+        arguments,
+        fiber,
+        receiver,
+        member,
+        class,
+    })
+}
+
+// The items of the woven method, with some places of its labels.
+fn items_at(
+    alloc: Global,
+    program: &Program,
+    method: &Method,
+    frames: &[Frame],
+    live: &LiveTable,
+    flags: &[bool],
+    slots: Slots,
+    places: &Places,
+) -> Result<Items, NoMemory>
+    requires slots { AreSlots program.now method.now slots }
+    requires flags { AreDeclared method.now flags.now }
+    requires rising { Rising method.now.code }
+    requires listed { Listed program.now method.now frames.now }
+    ensures { IfOk result (λ items. items_of items ≡ form.woven_items (placed (plan_of program.now method.now (live_in live.now) (λ place. 0) (λ number. 0)) (at_in places.now) (block_in places.now))) }
+{
+    let plan = Plan {
+        program,
+        method,
+        frames,
+        live,
+        flags,
+        places,
+        fiber: slots.fiber,
+        receiver: slots.receiver,
+        member: slots.member,
+        class: slots.class,
+    };
+    let items = woven_items(alloc, &plan, slots.arguments)?;
+    Ok(items)
+}
+
+fn fiber_type(class: u32) -> Ty
+    ensures { result ≡ class_type class }
+{
+    Ty {
+        dims: 0,
+        base: Base::Class(ClassId(class)),
+    }
+}
+
+fn params_with(alloc: Global, params: &[Ty], class: u32) -> Result<Vec<Ty>, NoMemory>
+    ensures { IfOk result (λ v. v.items ≡ params.now ++ class_type class ∷ []) }
+{
+    let mut all = copy_types(alloc, params)?;
+    all.push(fiber_type(class))?;
+    Ok(all)
+}
+
+fn qualifiers_with(alloc: Global, qualifiers: &[Qualifier]) -> Result<Vec<Qualifier>, NoMemory>
+    ensures { IfOk result (λ v. v.items ≡ qualifiers.now ++ Qualifier.Safe ∷ []) }
+{
+    let mut all = Vec::from_slice(alloc, qualifiers)?;
+    all.push(Qualifier::Safe)?;
+    Ok(all)
+}
+
+fn locals_with(slots: Slots, is_static: bool) -> Result<u16, NoMemory>
+    ensures { IfOk result (λ n. n ≡ (if is_static then slots.receiver else slots.receiver + 1)) }
+{
+    if is_static {
+        return Ok(slots.receiver);
+    }
+    let behind = plus(slots.receiver, 1)?;
+    Ok(behind)
+}
+
+// The method with other code and one argument more.
+fn with_code(
+    alloc: Global,
+    method: &Method,
+    slots: Slots,
+    laid: Laid,
+) -> Result<(Method, Seq<bool>), NoMemory>
+    ensures method { IfOk result (λ r. r.0 ≡ record method.now { params = method.now.params ++ class_type slots.class ∷ []; qualifiers = method.now.qualifiers ++ Qualifier.Safe ∷ []; max_stack = method.now.max_stack + 4; max_locals = (if method.now.is_static then slots.receiver else slots.receiver + 1); code_length = laid.end; code = laid.code; frames = laid.frames }) }
+    ensures counted { IfOk result (λ r. r.1 ≡ laid.counted) }
+{
+    let params = params_with(alloc, method.params.as_slice(), slots.class)?;
+    let qualifiers = qualifiers_with(alloc, method.qualifiers.as_slice())?;
+    let handlers = Vec::from_slice(alloc, method.handlers.as_slice())?;
+    let name = method.name.clone()?;
+    let max_stack = plus(method.max_stack, 4)?;
+    let max_locals = locals_with(slots, method.is_static)?;
+    let Laid {
+        code,
+        frames,
+        counted,
+        end,
+    } = laid;
+    let woven = Method {
+        name,
+        owner: method.owner,
+        params: Seq::from_vec(params),
+        result: method.result,
+        is_static: method.is_static,
+        is_private: method.is_private,
+        is_abstract: method.is_abstract,
+        built_in: method.built_in,
+        pausable: method.pausable,
+        receiver: method.receiver,
+        qualifiers: Seq::from_vec(qualifiers),
+        max_stack,
+        max_locals,
+        code_length: end,
+        code: Seq::from_vec(code),
+        frames: Seq::from_vec(frames),
+        handlers: Seq::from_vec(handlers),
+    };
+    Ok((woven, Seq::from_vec(counted)))
+}
+
+/// The woven form of a method with pausable calls, and which of its instructions count (own, after Srinivasan and Mycroft, "Kilim:
+/// Isolation-Typed Actors for Java", 2008): exactly that of the definition, by its frames and its table of live slots.
+pub fn woven(
+    alloc: Global,
+    program: &Program,
+    method: &Method,
+    frames: &[Frame],
+    live: &LiveTable,
+) -> Result<(Method, Seq<bool>), NoMemory>
+    requires rising { Rising method.now.code }
+    requires listed { Listed program.now method.now frames.now }
+    ensures { IfOk result (λ r. r ≡ made_as true true program.now method.now (live_in live.now)) }
+{
+    places_dont_matter();
+    let slots = slots_of(program, method)?;
+    let declared = declared_flags(alloc, method)?;
+    let flags = declared.as_slice();
+    let first = nowhere(alloc);
+    let unplaced = items_at(alloc, program, method, frames, live, flags, slots, &first)?;
+    let places = places_of(alloc, unplaced)?;
+    let items = items_at(alloc, program, method, frames, live, flags, slots, &places)?;
+    let laid = lay(alloc, items)?;
+    let pair = with_code(alloc, method, slots, laid)?;
+    Ok(pair)
+}
