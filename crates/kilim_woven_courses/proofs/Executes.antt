@@ -1,5 +1,5 @@
 -- `execute` of the main class takes the task's object alone.
-use Rattle.std.proofs.Common.{◌≡◌, inl, inr, ℕ, suc, ◌+◌, Bool, true, false, cond, eqb, List, [], ◌∷◌, ◌++◌, Option, Some, None, refl, sym, ap, subst, ◌∙◌}
+use Rattle.std.proofs.Common.{◌≡◌, ℕ, suc, ◌+◌, Bool, true, false, cond, eqb, List, [], ◌∷◌, ◌++◌, Option, Some, None, refl, sym, ap, subst, ◌∙◌}
 use Rattle.std.specs.Prelude.{◌||◌, ◌==◌, length, slice_get, codes, map}
 use Rattle.std.specs.List.{AllByRecursion, list_any}
 use Rattle.std.specs.Str.{bytes_eq}
@@ -17,13 +17,12 @@ use Rattle.kilim_classes.specs.declared.value.Value.TheVariants.{Null, Ref}
 use Rattle.kilim_classes.specs.BuiltIn.{built_in_method, built_in_methods_in, class_id, class_type}
 use Rattle.kilim_classes.specs.Fits.{fits_type}
 use Rattle.kilim_classes.specs.Keeps.{Keeps}
-use Rattle.kilim_classes.specs.Names.{◌>>=◌, class_at, class_name, first_that, is_named_task, is_task, line_of, method_at}
+use Rattle.kilim_classes.specs.Names.{◌>>=◌, class_at, first_that, is_named_task, is_task, line_of, method_at}
 use Rattle.kilim_classes.specs.Program.{Program}
 use Rattle.kilim_classes.specs.Same.{is_constructor, selected}
 use Rattle.kilim_program.specs.Does.{chosen, chosen_by}
 use Rattle.kilim_program.specs.Members.{execute_of, is_concrete, is_fit_main, is_own_constructor, is_task_execute, constructor_of}
-use Rattle.kilim_fits.specs.Facts.{Selected}
-use Rattle.kilim_fits.specs.Fits.{Classes, has_type, have_types}
+use Rattle.kilim_fits.specs.Fits.{have_types}
 use Rattle.kilim_fits.specs.Sound.{argument_types}
 use Rattle.kilim_fits.proofs.Finding.{finds_chosen}
 use Rattle.kilim_fits.proofs.Grounds.{facts_hold}
@@ -31,11 +30,10 @@ use Rattle.kilim_fine_threads.proofs.Natives.{built_in_one, first, task_name}
 use Rattle.kilim_thread_model.specs.State.{Setting}
 use Rattle.kilim_typed_threads.proofs.Executing.{IsExecute, same_class}
 use Rattle.kilim_typing.specs.Step.{class_vtype, vtype}
-use Rattle.kilim_classes.specs.declared.verified.VType.{VType}
 use Rattle.kilim_classes.specs.declared.verified.VType.TheVariants.{UninitThis}
 use Rattle.kilim_woven_courses.proofs.Takes.{takes_typed}
 use Rattle.kilim_woven_runs.specs.Links.{Forms, Takes}
-use Rattle.kilim_woven_runs.specs.Thread.{first_of, self_in, self_of}
+use Rattle.kilim_woven_runs.specs.Thread.{self_in, self_of}
 
 abbrev ExecutesAs : ℕ → Method → Type 0
 ExecutesAs n m = is_task_execute m ≡ true → IsExecute n m

@@ -1,5 +1,5 @@
 -- A thread has at most 512 frames.
-use Rattle.std.proofs.Common.{◌≡◌, ℕ, zero, suc, ◌≤◌, Bool, true, false, List, [], ◌∷◌, Option, Some, None, refl, sym, subst, ltb-true, arith}
+use Rattle.std.proofs.Common.{◌≡◌, ℕ, suc, ◌≤◌, Bool, true, false, List, [], ◌∷◌, Option, Some, None, refl, sym, subst, ltb-true, arith}
 use Rattle.std.specs.Prelude.{nat_lt, nat_le, length, if◌then◌else◌}
 use Rattle.kilim_program.specs.declared.cause.EndCause.{EndCause}
 use Rattle.kilim_program.specs.declared.cause.EndCause.TheVariants as cause

@@ -1,15 +1,12 @@
 -- The thread of a course goes on as the thread of a course.
-use Rattle.std.proofs.Common.{◌≡◌, ℕ, zero, suc, Bool, true, false, List, [], ◌∷◌, ◌++◌, Option, Some, None, refl, sym, ap, subst, ◌∙◌}
+use Rattle.std.proofs.Common.{◌≡◌, ℕ, true, List, [], ◌∷◌, ◌++◌, Option, Some, None, refl, sym, ap, subst, ◌∙◌}
 use Rattle.std.proofs.lemmas.Option.{none-some, same_Some}
 use Rattle.kilim_program.specs.declared.cause.EndCause.{EndCause}
-use Rattle.kilim_program.specs.declared.cause.EndCause.TheVariants as cause
 use Rattle.kilim_program.specs.declared.value.Object.{Object}
 use Rattle.kilim_program.specs.declared.value.Token.{Token}
 use Rattle.kilim_classes.specs.declared.names.BoxName.{BoxName}
-use Rattle.kilim_classes.specs.declared.names.MethodId.{MethodId}
-use Rattle.kilim_classes.specs.declared.value.Value.{Value}
 use Rattle.kilim_journal.specs.declared.entry.Act.{Act}
-use Rattle.kilim_journal.specs.declared.entry.Act.TheVariants.{Put, Take, Empty, Start, Print, End}
+use Rattle.kilim_journal.specs.declared.entry.Act.TheVariants.{Put, Take, Empty, Start, End}
 use Rattle.kilim_one_heap.proofs.Booking.{action_is, is_act}
 use Rattle.kilim_program.specs.Trees.{OfMessage, built}
 use Rattle.kilim_thread_model.specs.Course.{Course, Done, Follows, IsLone, Moves, Quiet, Stays, done_by, next_action, probes_deed, puts_deed, starts_deed, takes_deed, tree_came}
@@ -19,8 +16,8 @@ use Rattle.kilim_thread_model.specs.State.{Setting}
 use Rattle.kilim_thread_model.specs.declared.deed.Deed.{Deed}
 use Rattle.kilim_woven_lone.proofs.Steps.{steps}
 use Rattle.kilim_woven_lone.specs.Law.{IsActed, IsAt, IsBehind, IsDone, IsLast, IsNext, IsWanted, lone_at, wanted}
-use Rattle.kilim_woven_runs.specs.Acts.{Action, Astray, Finished, Lost, Over, Wants, World}
-use Rattle.kilim_woven_runs.specs.Thread.{Frame, Run, Stop, Thread, step}
+use Rattle.kilim_woven_runs.specs.Acts.{Action, Astray, Finished, Lost, Over, Wants}
+use Rattle.kilim_woven_runs.specs.Thread.{Run, Stop, Thread, step}
 use Rattle.kilim_woven_courses.specs.Law.{CoursesGoOn, IsOfCourse}
 
 -- ---- the deed of what was done

@@ -1,9 +1,9 @@
 -- What is known of the thread of a course in verified code whose threads keep what they reach.
 use Rattle.std.proofs.Common.{◌≡◌, ◌≢◌, cond, eqb, inl, inr, ℕ, zero, suc, ◌<◌, Bool, true, false, List, [], ◌∷◌, Option, Some, None, refl, sym, ap, subst, ◌∙◌, ltb-true}
-use Rattle.std.specs.Prelude.{codes, is_some, slice_get, nat_lt, length}
+use Rattle.std.specs.Prelude.{codes, is_some, length}
 use Rattle.std.specs.FinMap.{get}
 use Rattle.std.proofs.lemmas.Bool.{and_parts, false≢true}
-use Rattle.std.proofs.lemmas.Option.{none-some, same_Some, slice_get_within}
+use Rattle.std.proofs.lemmas.Option.{slice_get_within}
 use Rattle.kilim_classes.specs.declared.class.Class.{Class}
 use Rattle.kilim_classes.specs.declared.class.Method.{Method}
 use Rattle.kilim_classes.specs.declared.instr.Instr.{Instr}
@@ -11,15 +11,13 @@ use Rattle.kilim_classes.specs.declared.names.ClassId.{ClassId}
 use Rattle.kilim_classes.specs.declared.names.MethodId.{MethodId}
 use Rattle.kilim_classes.specs.declared.ty.Base.{Base}
 use Rattle.kilim_classes.specs.declared.ty.Base.TheVariants as base
-use Rattle.kilim_classes.specs.declared.ty.Ty.{Ty}
 use Rattle.kilim_classes.specs.declared.value.Value.{Value}
 use Rattle.kilim_classes.specs.declared.value.Value.TheVariants as value
 use Rattle.kilim_classes.specs.declared.verified.VType.{VType}
 use Rattle.kilim_classes.specs.declared.verified.VType.TheVariants.{Top, Int, Long, Null, UninitThis, Uninit, Object}
 use Rattle.kilim_classes.specs.Keeps.{has_base}
 use Rattle.kilim_classes.specs.Lengths.{fetched, first_place}
-use Rattle.kilim_classes.specs.Names.{class_at, class_name, method_at}
-use Rattle.kilim_classes.specs.Kinds.{is_value_class}
+use Rattle.kilim_classes.specs.Names.{class_at, method_at}
 use Rattle.kilim_classes.specs.Program.{Program}
 use Rattle.kilim_fine_threads.proofs.Shown.{no_fiber_class}
 use Rattle.kilim_fine_threads.specs.Typed.{IsVerified, TopIsThere, frames_of}
@@ -28,22 +26,20 @@ use Rattle.kilim_fits.proofs.Narrowed.{narrows}
 use Rattle.kilim_fits.proofs.Table.{table_fits}
 use Rattle.kilim_fits.proofs.Walk.{stands_at}
 use Rattle.kilim_fits.specs.Sound.{CallFits, EffectFits, argument_types}
-use Rattle.kilim_fits.specs.Fits.{AreThere, Classes, ContentFits, FrameFits, HeapFits, IsThere, Typing, Wanted, has_objects, has_type, have_types, is_made, refers}
+use Rattle.kilim_fits.specs.Fits.{AreThere, Classes, ContentFits, HeapFits, IsThere, Typing, Wanted, has_objects, has_type, have_types, is_made, refers}
 use Rattle.kilim_program.specs.declared.value.Object.{Object as HeapObject}
 use Rattle.kilim_program.specs.Does.{does}
-use Rattle.kilim_program.specs.Effect.{Asks, Calls, Effect, Stuck, named_type}
+use Rattle.kilim_program.specs.Effect.{Calls, Effect, Stuck, named_type}
 use Rattle.kilim_program.specs.Machine.{Objects}
 use Rattle.kilim_program.specs.Members.{execute_of, is_concrete}
 use Rattle.kilim_program.specs.Natives.{native_of}
-use Rattle.kilim_thread_model.specs.Course.{Course, IsLone, Quiet}
 use Rattle.kilim_thread_model.specs.Kept.{Kept}
-use Rattle.kilim_thread_model.specs.Lone.{Lone}
 use Rattle.kilim_thread_model.specs.Reach.{Below, Here, Liveness, Names, OptionNames, SomeNames}
 use Rattle.kilim_thread_model.specs.State.{Alive, Ended, Setting, Thread as ModelThread, is_fit}
 use Rattle.kilim_typing.specs.Step.{Types, made_at, made_by}
 use Rattle.kilim_typing.specs.Typed.{edges}
 use Rattle.kilim_typed_threads.proofs.Threads.{threads_are_typed}
-use Rattle.kilim_typed_threads.specs.Typed.{IsTyped, StacksAreThere}
+use Rattle.kilim_typed_threads.specs.Typed.{StacksAreThere}
 use Rattle.kilim_woven_courses.proofs.GoesOn.{goes_on}
 use Rattle.kilim_woven_courses.proofs.Receives.{receives_typed}
 use Rattle.kilim_woven_courses.proofs.Takes.{takes_typed}
@@ -51,11 +47,10 @@ use Rattle.kilim_woven_courses.proofs.Unstuck.{is_lost, not_lost, step_not}
 use Rattle.kilim_woven_courses.proofs.Executes.{executes, has_execute, takes_object}
 use Rattle.kilim_woven_courses.proofs.Few.{few_on}
 use Rattle.kilim_woven_courses.specs.Law.{HasFew, IsOfCourse, Rest}
-use Rattle.kilim_woven_lone.specs.Law.{lone_at, lone_frames}
+use Rattle.kilim_woven_lone.specs.Law.{lone_at}
 use Rattle.kilim_woven_runs.specs.Acts.{Lost, World, asks, with_heap}
-use Rattle.kilim_woven_runs.specs.Fibers.{frame}
 use Rattle.kilim_woven_runs.specs.Links.{Forms}
-use Rattle.kilim_woven_runs.specs.Rows.{Clean, IsClean, Receives, OldHeap, is_old_base}
+use Rattle.kilim_woven_runs.specs.Rows.{Clean, Receives, OldHeap, is_old_base}
 use Rattle.kilim_woven_runs.specs.Serves.{From, Known}
 use Rattle.kilim_woven_runs.specs.Thread.{Frame, Run, Stop, Thread, code_in, fetch, own_in, own_of, push, step, steps}
 

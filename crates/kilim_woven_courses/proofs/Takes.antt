@@ -1,5 +1,5 @@
 -- A call that fits has arguments as its method takes them.
-use Rattle.std.proofs.Common.{◌≡◌, ℕ, zero, suc, ◌+◌, Bool, true, false, cond, eqb, List, [], ◌∷◌, ◌++◌, map, length, Option, Some, None, refl, sym, ap, subst, ◌∙◌, arith}
+use Rattle.std.proofs.Common.{◌≡◌, ℕ, zero, suc, ◌+◌, Bool, true, false, cond, eqb, List, [], ◌∷◌, ◌++◌, map, length, Option, Some, refl, sym, ap, subst, ◌∙◌, arith}
 use Rattle.std.specs.Prelude.{◌&&◌, if◌then◌else◌, slice_get, sum_by}
 use Rattle.std.proofs.lemmas.Bool.{and_parts, ne_eqb, false≢true}
 use Rattle.std.proofs.lemmas.List.Sums.{sum_by-cons}

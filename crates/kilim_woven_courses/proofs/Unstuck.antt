@@ -1,5 +1,5 @@
 -- The thread isn't stuck, where built-in methods get arguments that they take.
-use Rattle.std.proofs.Common.{◌≡◌, ◌≢◌, ℕ, ◌+◌, Bool, true, false, List, [], ◌∷◌, Option, Some, None, refl, sym, ap, subst, ◌∙◌}
+use Rattle.std.proofs.Common.{◌≡◌, ◌≢◌, ℕ, ◌+◌, Bool, true, false, List, [], ◌∷◌, Option, Some, None, refl, sym, subst}
 use Rattle.std.specs.Prelude.{nat_lt, nat_le, length, if◌then◌else◌}
 use Rattle.kilim_program.specs.declared.cause.EndCause.{EndCause}
 use Rattle.kilim_program.specs.declared.cause.EndCause.TheVariants as cause
