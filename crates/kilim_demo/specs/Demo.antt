@@ -1,0 +1,39 @@
+-- The run of the demo of a number, and what is written of it (own).
+use Rattle.std.specs.Prelude.{◌≡◌, ℕ, List, [], map, Some, ◌⊎◌, codes}
+use Rattle.kilim_classes.specs.Program.{Program}
+use Rattle.kilim_classes.specs.declared.names.ClassId.{ClassId}
+use Rattle.kilim_classfile.specs.Text.{class_text}
+use Rattle.kilim_journal.specs.declared.entry.Entry.{Entry}
+use Rattle.kilim_main_class.specs.Main.{fit_class_named}
+use Rattle.kilim_program.specs.declared.run.Limits.{Limits}
+use Rattle.kilim_program_maker.specs.Demo.{demo_of}
+use Rattle.kilim_stages.specs.Accepted.{IsAcceptedOf}
+use Rattle.kilim_stages.specs.Reports.{IsLinkReport, IsTypeReport, IsRulesReport}
+use Rattle.kilim_whole_runs.specs.Runs.{IsJournalOf, setting_of}
+use Rattle.kilim_demo.specs.Line.{demo_line}
+
+-- the bytes of its class files, in their order
+unfoldable pub demo_texts : ℕ → List (List ℕ)
+demo_texts number = map class_text (demo_of number)
+
+abbrev pub main_name : List ℕ
+main_name = codes "D/Main"
+
+-- 1,000,000 instructions of each task, and no numbers
+unfoldable pub demo_limits : Limits
+demo_limits = record { steps = 1000000; args = [] }
+
+-- The class files link to an accepted program with the main class `D/Main`, and the text is the line of the journal of a whole run
+-- of it.
+pub record IsDemoLine (number : ℕ) (text : List ℕ) : Type 0 where
+  pub program : Program
+  pub accepted : IsAcceptedOf (demo_texts number) program
+  pub main : ClassId
+  pub fit : fit_class_named program main_name ≡ Some main
+  pub journal : List Entry
+  pub run : IsJournalOf (setting_of program main demo_limits) journal
+  pub is_text : text ≡ demo_line number journal
+
+-- the report of the first stage, from linking on, that has a fault
+abbrev pub IsDemoReport : ℕ → List ℕ → Type 0
+IsDemoReport number text = IsLinkReport (demo_texts number) text ⊎ (IsTypeReport (demo_texts number) text ⊎ IsRulesReport (demo_texts number) text)

@@ -1,0 +1,4 @@
+pub mod Line
+pub mod Kinds
+pub mod Demo
+pub mod Ready

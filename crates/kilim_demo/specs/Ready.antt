@@ -1,0 +1,14 @@
+-- What is run, and how the stages hand on what they answer.
+use Rattle.std.specs.Prelude.{◌≡◌, ℕ, Some}
+use Rattle.kilim_classes.specs.Program.{Program}
+use Rattle.kilim_classes.specs.declared.names.ClassId.{ClassId}
+use Rattle.kilim_main_class.specs.Main.{fit_class_named}
+use Rattle.kilim_stages.specs.Accepted.{IsAcceptedOf}
+use Rattle.kilim_whole_runs.specs.Runs.{IsServed, setting_of}
+use Rattle.kilim_demo.specs.Demo.{demo_limits, demo_texts, main_name}
+
+-- the program is that of the demo, it is accepted, this is its main class, and it can be run
+pub record IsReady (number : ℕ) (program : Program) (main : ClassId) : Type 0 where
+  pub accepted : IsAcceptedOf (demo_texts number) program
+  pub fit : fit_class_named program main_name ≡ Some main
+  pub served : IsServed (setting_of program main demo_limits)
