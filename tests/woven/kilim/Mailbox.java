@@ -1,0 +1,33 @@
+package kilim;
+
+/** A mailbox in woven form: nothing of it does anything. */
+public final class Mailbox {
+    /** A mailbox. */
+    public Mailbox() {}
+
+    /**
+     * Puts a message.
+     *
+     * @param message the message
+     */
+    public void put(Message message) {}
+
+    /**
+     * Takes a message, or pauses.
+     *
+     * @param fiber the fiber of the task
+     * @return the message
+     */
+    public Message get(Fiber fiber) throws Pausable {
+        return null;
+    }
+
+    /**
+     * Takes a message where there is one.
+     *
+     * @return the message, or null
+     */
+    public Message getnb() {
+        return null;
+    }
+}

@@ -1,0 +1,4 @@
+package kilim;
+
+/** The classes of messages. */
+public interface Message {}

@@ -1,0 +1,4 @@
+package kilim;
+
+/** A name in Exceptions attributes. */
+public class Pausable extends Exception {}
