@@ -1,7 +1,7 @@
 //! Rows that take types from the stack and give one.
 
 ghost use Rattle.std.specs.Prelude.{◌≡◌, ◌++◌, ◌∷◌, [], ◌&&◌, length, drop, option_to_list, OnOk};
-ghost use Rattle.kilim_typing.specs.Step.{all_meet, has_operands, has_room, is_object, class_vtype, by_row, Is, Takes, Leaves};
+ghost use Rattle.kilim_typing.specs.Step.{all_meet, has_operands, has_room, room_for, is_object, class_vtype, by_row, Is, Takes, Leaves};
 ghost use Rattle.kilim_classes.specs.Same.{is_constructor};
 ghost use Rattle.kilim_type_step.specs.Answers.{answers, failing};
 ghost use Rattle.kilim_type_step.specs.Operands.{operands_of, further_of, furthers_of, anything};
@@ -70,12 +70,13 @@ pub fn has_room_for(method: &Method, state: &State, without: usize, t: VType) ->
     state.rest_is_within(without, most - taken)
 }
 
+/// Whether there is room for what is given, if anything is.
 pub fn has_room(method: &Method, state: &State, without: usize, gives: Option<VType>) -> bool
-    ensures { result ≡ has_room method.now (option_to_list gives ++ drop without state.now.stack) }
+    ensures { result ≡ room_for method.now (option_to_list gives) (drop without state.now.stack) }
 {
     match gives {
         Some(t) => has_room_for(method, state, without, t),
-        None => state.rest_is_within(without, method.max_stack),
+        None => true,
     }
 }
 

@@ -46,15 +46,15 @@ fn take_element(program: &Program, method: &Method, state: &mut State) -> Result
     if state.height() < 2 {
         return Err(StepFault::Rule(MISSING_OPERAND));
     }
+    if !has_room_for(method, state, 2, VType::Null) {
+        return Err(StepFault::Rule(STACK_TOO_HIGH));
+    }
     if !all_meet(program, &[INT, Taken::References], state) {
         return Err(StepFault::Rule(WRONG_OPERAND));
     }
     let Some(t) = element_by(state.below(1)) else {
         return Err(StepFault::Rule(WRONG_OPERAND));
     };
-    if !has_room_for(method, state, 2, t) {
-        return Err(StepFault::Rule(STACK_TOO_HIGH));
-    }
     state.drop_top(2);
     state.push(t)?;
     Ok(())

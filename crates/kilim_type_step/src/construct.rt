@@ -1,7 +1,7 @@
 //! Calls of constructors.
 
 ghost use Rattle.std.specs.Prelude.{◌≡◌, ◌+◌, ◌<◌, ◌∷◌, ◌++◌, [], Some, suc, drop, length, slice_get, option_to_list, OnOk};
-ghost use Rattle.kilim_typing.specs.Step.{by_row, made_at, made_by, needs, superclass_at, class_vtype, has_operands, has_room, is_class, Constructs};
+ghost use Rattle.kilim_typing.specs.Step.{by_row, made_at, made_by, needs, superclass_at, class_vtype, has_operands, room_for, is_class, Constructs};
 ghost use Rattle.kilim_classes.specs.Names.{class_at};
 ghost use Rattle.kilim_type_step.specs.Answers.{answers, class_made, initialized, left_by_made};
 ghost use Rattle.kilim_type_step.specs.Operands.{operands_of};
@@ -129,7 +129,7 @@ fn has_object(takes: &[Taken], state: &State) -> bool
 
 #[tactic(auto, using(crate::proofs::Constructing::dropped))]
 fn has_room_above(method: &Method, takes: &[Taken], state: &State, gives: Option<VType>) -> bool
-    ensures { result ≡ has_room method.now (option_to_list gives ++ drop (suc (length (operands_of takes.now))) state.now.stack) }
+    ensures { result ≡ room_for method.now (option_to_list gives) (drop (suc (length (operands_of takes.now))) state.now.stack) }
 {
     has_room(method, state, takes.len() + 1, gives)
 }

@@ -1,7 +1,7 @@
 //! Pop, dup and swap forms.
 
 ghost use Rattle.std.specs.Prelude.{◌≡◌, ◌+◌, ◌≤◌, ◌++◌, true, MatchResult, OnOk, Ok};
-ghost use Rattle.kilim_typing.specs.Step.{by_row, type_step, off, shuffled, with_stack, Shuffles, form_words, form_adds};
+ghost use Rattle.kilim_typing.specs.Step.{by_row, type_step, off, shuffled, with_stack, words, Shuffles, form_words, form_adds, form_room};
 ghost use Rattle.kilim_type_step.specs.Answers.{answers};
 ghost use Rattle.kilim_type_step.specs.Forms.{form_of, count_off, number, SplitFails};
 ghost use Rattle.kilim_type_step.specs.Families.{is_shuffle};
@@ -204,6 +204,16 @@ fn added(form: Shuffle) -> u16
     }
 }
 
+// A form that drops pushes nothing.
+fn has_room(method: &Method, state: &State, form: Shuffle) -> bool
+    ensures { result ≡ form_room method.now (form_of form) (words state.now.stack) }
+{
+    match form {
+        Shuffle::Drops(_) => true,
+        Shuffle::Copies(_, _) | Shuffle::Swaps => state.has_room(added(form), method.max_stack),
+    }
+}
+
 fn shuffle_words(
     alloc: Global,
     program: &Program,
@@ -216,7 +226,7 @@ fn shuffle_words(
     if !state.has_words(words_of(form)) {
         return Err(StepFault::Rule(MISSING_OPERAND));
     }
-    if !state.has_room(added(form), method.max_stack) {
+    if !has_room(method, state, form) {
         return Err(StepFault::Rule(STACK_TOO_HIGH));
     }
     move_words(alloc, state, form)

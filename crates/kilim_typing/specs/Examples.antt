@@ -63,21 +63,22 @@ abbrev pub passing : List (Instr × Types)
 passing =
     on Iadd (Int ∷ Int ∷ []) ∷ on Ladd (Long ∷ Long ∷ []) ∷ on Lshl (Int ∷ Long ∷ [])
     ∷ on (Lconst (pos 0)) (Int ∷ Int ∷ []) ∷ on Dup (Int ∷ Int ∷ Int ∷ []) ∷ on Dup2 (Long ∷ []) ∷ on DupX2 (Int ∷ Long ∷ [])
-    ∷ on Iaload (Int ∷ array 1 base.Int ∷ []) ∷ on Iaload (Int ∷ Null ∷ []) ∷ on Aaload (Int ∷ classes_array 1 m_class ∷ []) ∷ on Aastore (Uninit 3 ∷ []) ∷ []
+    ∷ on Iaload (Int ∷ array 1 base.Int ∷ []) ∷ on Iaload (Int ∷ Null ∷ []) ∷ on Aaload (Int ∷ classes_array 1 m_class ∷ [])
+    ∷ on Nop (Long ∷ Long ∷ Int ∷ []) ∷ on Pop (Int ∷ Long ∷ Long ∷ Int ∷ []) ∷ on (Istore 0) (Int ∷ Long ∷ Long ∷ Int ∷ []) ∷ on Aastore (Uninit 3 ∷ []) ∷ []
 
 -- each instruction of `passing` but the last, which lacks two operands
 abbrev pub passing_rules : List (Option ℕ)
-passing_rules = None ∷ None ∷ None ∷ None ∷ None ∷ None ∷ None ∷ None ∷ None ∷ None ∷ Some 3 ∷ []
+passing_rules = None ∷ None ∷ None ∷ None ∷ None ∷ None ∷ None ∷ None ∷ None ∷ None ∷ None ∷ None ∷ None ∷ Some 3 ∷ []
 
 -- rule 3
 abbrev pub lacking : List (Instr × Types)
 lacking = on Iadd (Int ∷ []) ∷ on Iadd (Long ∷ []) ∷ on Pop [] ∷ on Pop2 (Int ∷ []) ∷ on DupX2 (Long ∷ []) ∷ on Swap (Int ∷ []) ∷ on (Istore 0) [] ∷ on Ireturn [] ∷ on (Invokespecial (method_id 0)) [] ∷ []
 
--- rule 4: four words are there
+-- rule 4: four words are there; what pushes nothing may stand on more
 abbrev pub too_high : List (Instr × Types)
 too_high =
     on (Lconst (pos 0)) (Int ∷ Int ∷ Int ∷ []) ∷ on Dup (Int ∷ Int ∷ Long ∷ []) ∷ on Dup2 (Int ∷ Long ∷ Int ∷ []) ∷ on Dup (Long ∷ Long ∷ []) ∷ on I2l (Int ∷ Int ∷ Long ∷ [])
-    ∷ with_locals (Iload 0) (Top ∷ []) (Long ∷ Long ∷ []) ∷ on (Ldc (LongValue (pos 0))) (Long ∷ Long ∷ []) ∷ on (New (class_id q_class)) (Long ∷ Long ∷ []) ∷ []
+    ∷ with_locals (Iload 0) (Top ∷ []) (Long ∷ Long ∷ []) ∷ on (Ldc (LongValue (pos 0))) (Long ∷ Long ∷ []) ∷ on (New (class_id q_class)) (Long ∷ Long ∷ []) ∷ on Aaload (Int ∷ array 1 base.Int ∷ Long ∷ Long ∷ []) ∷ []
 
 -- rule 5
 abbrev pub wrong_operands : List (Instr × Types)
@@ -160,4 +161,5 @@ pub record ExamplesHold : Type 0 where
   pub no_result : method_fault sample (with_code ((0, Iconst (pos 0)) ∷ (1, Ireturn) ∷ []) 2 []) ≡ Some (1, 11)
   pub dead_code : method_fault sample (with_code ((0, Return) ∷ (1, Return) ∷ []) 2 []) ≡ Some (0, 2)
   pub least : method_fault sample (with_code ((0, Iadd) ∷ (1, Goto 0) ∷ []) 4 ((1, framed [] (Top ∷ [])) ∷ [])) ≡ Some (0, 3)
+  pub pushes_nothing : method_fault sample (with_code ((0, Return) ∷ (1, Nop) ∷ (2, Return) ∷ []) 3 ((1, framed [] (Int ∷ Int ∷ Int ∷ Int ∷ Int ∷ [])) ∷ [])) ≡ Some (1, 12)
   pub frames : map (listed (with_code loop 7 [])) (frames_of sample (with_code ((0, Iconst (pos 0)) ∷ (1, Return) ∷ []) 2 [])) ≡ framed (this ∷ Top ∷ Top ∷ []) [] ∷ framed (this ∷ Top ∷ Top ∷ []) (Int ∷ []) ∷ []

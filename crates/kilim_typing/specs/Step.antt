@@ -474,6 +474,11 @@ row p m Athrow = missing
 abbrev pub has_room : Method → List VType → Bool
 has_room m s = nat_le (words s) m.max_stack
 
+-- it is asked of an instruction that pushes: what is given, above what is left
+abbrev pub room_for : Method → List VType → List VType → Bool
+room_for m [] below = true
+room_for m (t ∷ ts) below = has_room m (t ∷ (ts ++ below))
+
 abbrev pub has_operands : ℕ → List VType → Bool
 has_operands n s = nat_le n (length s)
 
@@ -523,6 +528,12 @@ form_adds (Drops n) = 0
 form_adds (Copies n passed) = n
 form_adds Swaps = 0
 
+-- a form that drops pushes nothing
+abbrev pub form_room : Method → Form → ℕ → Bool
+form_room m (Drops n) height = true
+form_room m (Copies n passed) height = nat_le (height + form_adds (Copies n passed)) m.max_stack
+form_room m Swaps height = nat_le (height + form_adds Swaps) m.max_stack
+
 abbrev pub with_stack : Types → Result (List VType) ℕ → Result Types ℕ
 with_stack f (Err n) = Err n
 with_stack f (Ok s) = Ok (record f { stack = s })
@@ -545,9 +556,9 @@ element (i ∷ Null ∷ s) = Ok Null
 element (i ∷ Object ty ∷ s) = Ok (vtype (record ty { dims = ty.dims - 1 }))
 element s = Err 5
 
-abbrev pub with_element : Method → Types → Result VType ℕ → Result Types ℕ
-with_element m f (Ok t) = rule 4 (has_room m (t ∷ drop 2 f.stack)) (Ok (record f { stack = t ∷ drop 2 f.stack }))
-with_element m f (Err n) = Err n
+abbrev pub with_element : Types → Result VType ℕ → Result Types ℕ
+with_element f (Ok t) = Ok (record f { stack = t ∷ drop 2 f.stack })
+with_element f (Err n) = Err n
 
 -- the class that the `new` at a place makes
 abbrev pub made_by : Instr → Option ClassId
@@ -574,12 +585,12 @@ constructed p m class gives after s f = Err 10
 
 abbrev pub by_row : Program → Method → ℕ → Row → Types → Result Types ℕ
 by_row p m at (Takes takes gives also) f =
-    rule 3 (has_operands (length takes) f.stack) (rule 4 (has_room m (gives ++ drop (length takes) f.stack)) (rule 5 (all_meet p takes f.stack)
+    rule 3 (has_operands (length takes) f.stack) (rule 4 (room_for m gives (drop (length takes) f.stack)) (rule 5 (all_meet p takes f.stack)
     (further p also f.stack (Ok (record f { stack = gives ++ drop (length takes) f.stack })))))
 by_row p m at Element f =
-    rule 3 (has_operands 2 f.stack) (rule 5 (all_meet p (Is Int ∷ References ∷ []) f.stack) (with_element m f (element f.stack)))
+    rule 3 (has_operands 2 f.stack) (rule 4 (has_room m (Null ∷ drop 2 f.stack)) (rule 5 (all_meet p (Is Int ∷ References ∷ []) f.stack) (with_element f (element f.stack))))
 by_row p m at (Shuffles form) f =
-    rule 3 (nat_le (form_words form) (words f.stack)) (rule 4 (nat_le (words f.stack + form_adds form) m.max_stack) (with_stack f (shuffled form f.stack)))
+    rule 3 (nat_le (form_words form) (words f.stack)) (rule 4 (form_room m form (words f.stack)) (with_stack f (shuffled form f.stack)))
 by_row p m at (Loads o slot) f = loaded p m o slot (peek f.locals slot) f
 by_row p m at (Stores o slot) f = store p m o slot f.stack f
 by_row p m at (Adds slot) f = rule 6 (nat_lt slot m.max_locals && meets p (Is Int) (peek f.locals slot)) (Ok f)
@@ -587,7 +598,7 @@ by_row p m at (Makes may) f =
     rule 4 (has_room m (Uninit at ∷ f.stack)) (rule 10 (not (list_any (is_same (Uninit at)) f.stack)) (rule 13 may
     (Ok (record f { locals = replaced (Uninit at) Top f.locals; stack = Uninit at ∷ f.stack }))))
 by_row p m at (Constructs takes gives class before after) f =
-    rule 3 (has_operands (suc (length takes)) f.stack) (rule 4 (has_room m (gives ++ drop (suc (length takes)) f.stack)) (rule 5 (all_meet p takes f.stack)
+    rule 3 (has_operands (suc (length takes)) f.stack) (rule 4 (room_for m gives (drop (suc (length takes)) f.stack)) (rule 5 (all_meet p takes f.stack)
     (further p before f.stack (constructed p m class gives after (drop (length takes) f.stack) f))))
 by_row p m at (Leaves takes also) f =
     rule 3 (has_operands (length takes) f.stack) (rule 5 (all_meet p takes f.stack) (further p also f.stack

@@ -31,5 +31,6 @@ returns c = record {
   no_result = refl;
   dead_code = refl;
   least = refl;
+  pushes_nothing = refl;
   frames = refl;
 }
