@@ -18,7 +18,7 @@ use Rattle.kilim_classes.specs.Fits.{fits_type, type_assignable, base_assignable
 use Rattle.kilim_classes.specs.Same.{same_base}
 use Rattle.kilim_program.specs.Effect.{named_type, named_class}
 use Rattle.kilim_classes.specs.Names.{class_named}
-use Rattle.kilim_typing.specs.Step.{Types, Operand, Is, AReference, Initialized, ArrayOf, References, AnArray, Own, Further, further, rule, Takes, by_row, meets, all_meet, assignable, class_vtype, is_top, is_array_of, has_operands, has_room}
+use Rattle.kilim_typing.specs.Step.{Types, Operand, Is, AReference, Initialized, ArrayOf, References, AnArray, Own, Further, further, rule, Takes, by_row, meets, all_meet, assignable, class_vtype, is_top, is_array_of, has_operands, room_for}
 use Rattle.kilim_fits.specs.Fits.{Classes, is_of, is_int_type, is_long_type, has_type, have_types, IsThere, AreThere}
 use Rattle.kilim_fits.specs.Facts.{Ordered}
 
@@ -52,7 +52,7 @@ pub takes_inverse : (p : Program) (m : Method) (at : ℕ) (takes : List Operand)
 takes_inverse p m at takes gives also f g e =
     let go : Types = record f { stack = gives ++ drop (length takes) f.stack } in
     let a = passed 3 (has_operands (length takes) f.stack) _ g e in
-    let b = passed 4 (has_room m (gives ++ drop (length takes) f.stack)) _ g a.1 in
+    let b = passed 4 (room_for m gives (drop (length takes) f.stack)) _ g a.1 in
     let c = passed 5 (all_meet p takes f.stack) _ g b.1 in
     let d = furthers p also f.stack (Ok go) g c.1 in
     record { meet = c.0; also_hold = d.0; after = ok_is go g d.1 }

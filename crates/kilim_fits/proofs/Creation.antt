@@ -27,7 +27,7 @@ use Rattle.kilim_classes.specs.Fits.{is_named, fits_type}
 use Rattle.kilim_program.specs.Effect.{Effect, Goes, Makes, Opens, Calls, on_values, on_receiver, named_type}
 use Rattle.kilim_program.specs.Does.{is_mailbox}
 use Rattle.kilim_program.specs.Objects.{new_object, first_field, first_value, first_value_of}
-use Rattle.kilim_typing.specs.Step.{Types, Operand, Is, Further, further, needs, rule, Makes as MakesRow, Constructs, by_row, arguments, result_types, vtype, class_vtype, is_same, one_replaced, replaced, peek, made_at, is_class, superclass_at, constructed, may_make, has_room, has_operands, all_meet}
+use Rattle.kilim_typing.specs.Step.{Types, Operand, Is, Further, further, needs, rule, Makes as MakesRow, Constructs, by_row, arguments, result_types, vtype, class_vtype, is_same, one_replaced, replaced, peek, made_at, is_class, superclass_at, constructed, may_make, has_room, room_for, has_operands, all_meet}
 use Rattle.kilim_typing.specs.Typed.{writes, edges, Among}
 use Rattle.kilim_fits.specs.Fits.{Classes, is_of, is_made, refers, has_type, have_types, Holds, LocalsFit, HeapFits, FieldFits, FieldsFit, has_objects, Nothing, AReference, result_awaited, StackFits, is_value_of}
 use Rattle.kilim_classes.specs.Fits.{is_reference_base}
@@ -256,7 +256,7 @@ module _ (p : Program) (facts : Facts p) (m : Method) (of : Classes) (h : Object
     construct callee before after r =
         let go = constructed p m callee.owner (result_types callee.result) after (drop (length (arguments callee)) f.stack) f in
         let a = passed 3 (has_operands (suc (length (arguments callee))) f.stack) _ g r in
-        let c = passed 4 (has_room m (result_types callee.result ++ drop (suc (length (arguments callee))) f.stack)) _ g a.1 in
+        let c = passed 4 (room_for m (result_types callee.result) (drop (suc (length (arguments callee))) f.stack)) _ g a.1 in
         let d = passed 5 (all_meet p (arguments callee) f.stack) _ g c.1 in
         let e = furthers p before f.stack go g d.1 in
         record { meet = d.0; first = e.0; fit = fitting callee (result_types callee.result) after (drop (length (arguments callee)) f.stack) e.1 }

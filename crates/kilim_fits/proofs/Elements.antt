@@ -105,19 +105,20 @@ module _ (p : Program) (order : Ordered p) (m : Method) (of : Classes) (h : Obje
             no_fiber k = held p order m of References (Object ty) value.Fiber tt r k
     on_array t s v rest x r k there q c = absurd (cc)
 
-    with_element_is : (e : VType) (s : List VType) (r : Result VType ℕ) → r ≡ Ok e → (s ≡ drop 2 f.stack) → with_element m f r ≡ Ok g → record f { stack = e ∷ s } ≡ g
+    with_element_is : (e : VType) (s : List VType) (r : Result VType ℕ) → r ≡ Ok e → (s ≡ drop 2 f.stack) → with_element f r ≡ Ok g → record f { stack = e ∷ s } ≡ g
     with_element_is e s (Err n) q d r = absurd (cc)
     with_element_is e s (Ok e2) q d r =
-        let z = ok_is (record f { stack = e2 ∷ drop 2 f.stack }) g (passed 4 (has_room m (e2 ∷ drop 2 f.stack)) (Ok (record f { stack = e2 ∷ drop 2 f.stack })) g r).1 in
+        let z = ok_is (record f { stack = e2 ∷ drop 2 f.stack }) g r in
         subst (λ (u : List VType). record f { stack = e ∷ u } ≡ g) (sym d) (subst (λ (t : VType). record f { stack = t ∷ drop 2 f.stack } ≡ g) (let y : e2 ≡ e = cc in y) z)
 
     pub element_row : by_row p m at Element f ≡ Ok g → After (on_int vs (λ i below. on_object below h (λ n o rest. at_index o.elements i (λ k v. Goes next ls (v ∷ rest) h))))
     element_row r =
-        let a = passed 3 (has_operands 2 f.stack) (rule 5 (all_meet p (Is Int ∷ References ∷ []) f.stack) (with_element m f (element f.stack))) g r in
-        let c = passed 5 (all_meet p (Is Int ∷ References ∷ []) f.stack) (with_element m f (element f.stack)) g a.1 in
+        let a = passed 3 (has_operands 2 f.stack) (rule 4 (has_room m (Null ∷ drop 2 f.stack)) (rule 5 (all_meet p (Is Int ∷ References ∷ []) f.stack) (with_element f (element f.stack)))) g r in
+        let d = passed 4 (has_room m (Null ∷ drop 2 f.stack)) (rule 5 (all_meet p (Is Int ∷ References ∷ []) f.stack) (with_element f (element f.stack))) g a.1 in
+        let c = passed 5 (all_meet p (Is Int ∷ References ∷ []) f.stack) (with_element f (element f.stack)) g d.1 in
         by f.stack vs refl b.stack b.there c.0 c.1
       where
-        by : (ts : List VType) (ws : List Value) → f.stack ≡ ts → have_types p m of ts ws ≡ true → AreThere h ws → all_meet p (Is Int ∷ References ∷ []) ts ≡ true → with_element m f (element ts) ≡ Ok g →
+        by : (ts : List VType) (ws : List Value) → f.stack ≡ ts → have_types p m of ts ws ≡ true → AreThere h ws → all_meet p (Is Int ∷ References ∷ []) ts ≡ true → with_element f (element ts) ≡ Ok g →
             After (on_int ws (λ i below. on_object below h (λ n o rest. at_index o.elements i (λ k v. Goes next ls (v ∷ rest) h))))
         by [] ws e k t a c = absurd (cc)
         by (u ∷ []) ws e k t a c = absurd (let z = (and_parts (meets p (Is Int) u) false a).1 in cc)

@@ -15,7 +15,7 @@ use Rattle.kilim_classes.specs.Program.{Program}
 use Rattle.kilim_program.specs.Machine.{Objects}
 use Rattle.kilim_program.specs.Effect.{Effect, Goes, Raises, with_some, as_int, as_long, as_reference, on_int, on_long, on_two_longs, on_word, on_two_words}
 use Rattle.kilim_program.specs.Does.{int_binary, int_division, int_unary, long_binary, long_division, long_shift, int_jump, compare_jump, reference_jump, null_jump, place_if, same_reference, is_null}
-use Rattle.kilim_typing.specs.Step.{Types, peek, stored, size, is_top, Operand, Is, AReference, Initialized, Further, Takes, Shuffles, Form, Drops, Copies, Swaps, Loads, by_row, gives_int, gives_long, ints, longs, compares, tests_null, store, shuffled, with_stack, off, then_off, meets, has_room, form_words, words, pushed, form_adds}
+use Rattle.kilim_typing.specs.Step.{Types, peek, stored, size, is_top, Operand, Is, AReference, Initialized, Further, Takes, Shuffles, Form, Drops, Copies, Swaps, Loads, by_row, gives_int, gives_long, ints, longs, compares, tests_null, store, shuffled, with_stack, off, then_off, meets, has_room, form_words, words, pushed, form_room}
 use Rattle.kilim_typing.specs.Typed.{reads, writes, edges, Among}
 use Rattle.kilim_fits.specs.Fits.{Classes, has_type, have_types, Holds, LocalsFit, HeapFits, AreThere, WantsAt}
 use Rattle.kilim_fits.specs.Sound.{EffectFits}
@@ -132,7 +132,7 @@ module _ (p : Program) (order : Ordered p) (m : Method) (of : Classes) (h : Obje
     shuffle_of (Ok s) form e d = record { s = s; is = e; after = ok_is (record f { stack = s }) g d }
 
     shuffle : (form : Form) → by_row p m at (Shuffles form) f ≡ Ok g → Shuffled form
-    shuffle form r = shuffle_of (shuffled form f.stack) form refl (passed 4 (nat_le (words f.stack + form_adds form) m.max_stack) _ g (passed 3 (nat_le (form_words form) (words f.stack)) _ g r).1).1
+    shuffle form r = shuffle_of (shuffled form f.stack) form refl (passed 4 (form_room m form (words f.stack)) _ g (passed 3 (nat_le (form_words form) (words f.stack)) _ g r).1).1
 
     pub by_shuffle : (form : Form) → by_row p m at (Shuffles form) f ≡ Ok g → (e : Effect) → ((s : List VType) → shuffled form f.stack ≡ Ok s → At i s e) → After i e
     by_shuffle form r e k = let x = shuffle form r in subst (λ (z : Types). EffectFits p m of live (edges i next) z e) x.after (k x.s x.is)
