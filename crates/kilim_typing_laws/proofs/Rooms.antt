@@ -79,8 +79,8 @@ module _ (p : Program) (m : Method) where
   with_stack_few f g (Ok s) n e few = locals_are (record f { stack = s }) g n e few
   with_stack_few f g (Err r) n e few = absurd (cc)
 
-  element_few : (f g : Types) (r : Result VType ℕ) (n : ℕ) → with_element m f r ≡ Ok g → length f.locals ≤ n → length g.locals ≤ n
-  element_few f g (Ok t) n e few = locals_are (record f { stack = t ∷ drop 2 f.stack }) g n (passed 4 _ _ g e).1 few
+  element_few : (f g : Types) (r : Result VType ℕ) (n : ℕ) → with_element f r ≡ Ok g → length f.locals ≤ n → length g.locals ≤ n
+  element_few f g (Ok t) n e few = locals_are (record f { stack = t ∷ drop 2 f.stack }) g n e few
   element_few f g (Err r) n e few = absurd (cc)
 
   store_few : (o : Operand) (slot : ℕ) (s : List VType) (f g : Types) → store p m o slot s f ≡ Ok g → length f.locals ≤ m.max_locals → length g.locals ≤ m.max_locals
@@ -112,7 +112,8 @@ module _ (p : Program) (m : Method) where
       locals_are _ g m.max_locals (past p also f.stack _ g three.1) few
   by_row_few at Element f g e few =
       let one = passed 3 _ _ g e in
-      let two = passed 5 _ _ g one.1 in
+      let room = passed 4 _ _ g one.1 in
+      let two = passed 5 _ _ g room.1 in
       element_few f g (element f.stack) m.max_locals two.1 few
   by_row_few at (Shuffles form) f g e few =
       let one = passed 3 _ _ g e in

@@ -113,8 +113,8 @@ module _ (p : Program) (m : Method) where
   with_stack_top f g (Ok s) k e top = locals_are (record f { stack = s }) g k e top
   with_stack_top f g (Err n) k e top = absurd (cc)
 
-  element_top : (f g : Types) (r : Result VType ℕ) (k : ℕ) → with_element m f r ≡ Ok g → IsTop f.locals k → IsTop g.locals k
-  element_top f g (Ok t) k e top = locals_are (record f { stack = t ∷ drop 2 f.stack }) g k (passed 4 _ _ g e).1 top
+  element_top : (f g : Types) (r : Result VType ℕ) (k : ℕ) → with_element f r ≡ Ok g → IsTop f.locals k → IsTop g.locals k
+  element_top f g (Ok t) k e top = locals_are (record f { stack = t ∷ drop 2 f.stack }) g k e top
   element_top f g (Err n) k e top = absurd (cc)
 
   store_top : (o : Operand) (slot : ℕ) (s : List VType) (f g : Types) (k : ℕ) → store p m o slot s f ≡ Ok g → eqb slot k ≡ false → IsTop f.locals k → IsTop g.locals k
@@ -146,7 +146,8 @@ module _ (p : Program) (m : Method) where
       locals_are _ g k (past p also f.stack _ g three.1) top
   by_row_top at Element f g k e w top =
       let one = passed 3 _ _ g e in
-      let two = passed 5 _ _ g one.1 in
+      let room = passed 4 _ _ g one.1 in
+      let two = passed 5 _ _ g room.1 in
       element_top f g (element f.stack) k two.1 top
   by_row_top at (Shuffles form) f g k e w top =
       let one = passed 3 _ _ g e in
