@@ -186,17 +186,17 @@ own_elements p a e = by a.dims refl
         let base_private = of_array (base_kind p a.base) (sym (array_is p d a.base) ∙ ap (kind_of p) (sym (dims_is a d w)) ∙ e) in
         ap (kind_of p) (minus_one a d w) ∙ either_way (d == 0) (base_kind p a.base) base_private
 
-element_passed : (m : Method) (f f1 : Types) (ts : List VType) → with_element m f (element ts) ≡ Ok f1 →
+element_passed : (f f1 : Types) (ts : List VType) → with_element f (element ts) ≡ Ok f1 →
     ((peek ts 1 ≡ vtype.Null) × (f1 ≡ record f { stack = vtype.Null ∷ drop 2 f.stack })) ⊎ ((ty : Ty) × (peek ts 1 ≡ vtype.Object ty) × (f1 ≡ record f { stack = type.vtype (element_type ty) ∷ drop 2 f.stack }))
-element_passed m f f1 [] e = absurd (cc)
-element_passed m f f1 (i ∷ []) e = absurd (cc)
-element_passed m f f1 (i ∷ vtype.Null ∷ ts) e = inl (refl, ok_is (record f { stack = vtype.Null ∷ drop 2 f.stack }) f1 (rule_passed 4 (type.has_room m (vtype.Null ∷ drop 2 f.stack)) _ f1 e).1)
-element_passed m f f1 (i ∷ vtype.Object ty ∷ ts) e = inr (ty, refl, ok_is (record f { stack = type.vtype (element_type ty) ∷ drop 2 f.stack }) f1 (rule_passed 4 (type.has_room m (type.vtype (element_type ty) ∷ drop 2 f.stack)) _ f1 e).1)
-element_passed m f f1 (i ∷ vtype.Top ∷ ts) e = absurd (cc)
-element_passed m f f1 (i ∷ vtype.Int ∷ ts) e = absurd (cc)
-element_passed m f f1 (i ∷ vtype.Long ∷ ts) e = absurd (cc)
-element_passed m f f1 (i ∷ vtype.UninitThis ∷ ts) e = absurd (cc)
-element_passed m f f1 (i ∷ vtype.Uninit at ∷ ts) e = absurd (cc)
+element_passed f f1 [] e = absurd (cc)
+element_passed f f1 (i ∷ []) e = absurd (cc)
+element_passed f f1 (i ∷ vtype.Null ∷ ts) e = inl (refl, ok_is (record f { stack = vtype.Null ∷ drop 2 f.stack }) f1 e)
+element_passed f f1 (i ∷ vtype.Object ty ∷ ts) e = inr (ty, refl, ok_is (record f { stack = type.vtype (element_type ty) ∷ drop 2 f.stack }) f1 e)
+element_passed f f1 (i ∷ vtype.Top ∷ ts) e = absurd (cc)
+element_passed f f1 (i ∷ vtype.Int ∷ ts) e = absurd (cc)
+element_passed f f1 (i ∷ vtype.Long ∷ ts) e = absurd (cc)
+element_passed f f1 (i ∷ vtype.UninitThis ∷ ts) e = absurd (cc)
+element_passed f f1 (i ∷ vtype.Uninit at ∷ ts) e = absurd (cc)
 
 pub array_dims : (ty : Ty) → is_array_of_references ty ≡ true → (d : ℕ) × (ty.dims ≡ suc d)
 array_dims ty e = by ty.dims e
@@ -224,11 +224,12 @@ of_slot p h u count (Tree d y) (Some a) n f live known = inl (d, y, refl, (f.2 (
 module _ (p : Program) (m : Method) (pl to : ℕ) (f f1 : Types) (g g1 : Graph) (at : ℕ → Option ℕ) (h : Objects) (ls st : List Value) (below : List Waiting) (after : Option Types)
     (s : IsStep p m pl to f f1 g g1 at h ls st below after instr.Aaload) (i : ℤ) (n : ℕ) (object : Object) (rest : List Value) (e : st ≡ Int i ∷ Ref n ∷ rest) (there : get h n ≡ Some object) (k : ℕ) (v : Value)
     (has : slice_get object.elements k ≡ Some v) where
-  passed : (all_meet p (Is vtype.Int ∷ References ∷ []) f.stack ≡ true) × (with_element m f (element f.stack) ≡ Ok f1)
+  passed : (all_meet p (Is vtype.Int ∷ References ∷ []) f.stack ≡ true) × (with_element f (element f.stack) ≡ Ok f1)
   unfolding row
   passed =
       let a = rule_passed 3 (type.has_operands 2 f.stack) _ f1 s.1 in
-      rule_passed 5 (all_meet p (Is vtype.Int ∷ References ∷ []) f.stack) _ f1 a.1
+      let b = rule_passed 4 (type.has_room m (vtype.Null ∷ drop 2 f.stack)) _ f1 a.1 in
+      rule_passed 5 (all_meet p (Is vtype.Int ∷ References ∷ []) f.stack) _ f1 b.1
 
   lives : (a : ℕ) → slot g.stack 1 ≡ Some a → is_gone (node_at g.nodes a).standing ≡ false
   lives a x = slot_lives g g.stack (not_true (list_any (names_gone g) g.stack) s.0.live) 1 a x
@@ -301,7 +302,7 @@ module _ (p : Program) (m : Method) (pl to : ℕ) (f f1 : Types) (g g1 : Graph) 
 
   aaload_left : Left p m f1 g1 h ls (v ∷ rest) below
   unfolding sort
-  aaload_left = elim (element_passed m f f1 f.stack passed.1) [
+  aaload_left = elim (element_passed f f1 f.stack passed.1) [
     | inl w ↦ absurd (null_array (sort p m (peek f.stack 1)) (null_sort w.0) (of_slot p h (named_by g at) (length g.nodes) (sort p m (peek f.stack 1)) (slot g.stack 1) n array lives (λ any. word_any (sym (null_sort w.0) ∙ any))))
     | inr w ↦ subst (λ z. Left p m z g1 h ls (v ∷ rest) below) (sym w.2) (subst (λ z. Left p m (record f { stack = type.vtype (element_type w.0) ∷ drop 2 f.stack }) z h ls (v ∷ rest) below) (sym (graph_is w.0 w.1)) (element_left w.0 w.1))
   ]

@@ -215,7 +215,7 @@ module _ (p : Program) (k : ProgramKeeps p) (m : Method) (pl to : ℕ) (f f1 : T
       rules : type.further {A = Types} p (virtual_rules m named) f.stack (Ok (record f { stack = result_types named.result ++ drop (length (arguments named ++ (Is (class_vtype named.owner) ∷ []))) f.stack })) ≡ Ok f1
       rules =
           let a = rule_passed 3 (type.has_operands (length (arguments named ++ (Is (class_vtype named.owner) ∷ []))) f.stack) _ f1 typed in
-          let b = rule_passed 4 (type.has_room m (result_types named.result ++ drop (length (arguments named ++ (Is (class_vtype named.owner) ∷ []))) f.stack)) _ f1 a.1 in
+          let b = rule_passed 4 (type.room_for m (result_types named.result) (drop (length (arguments named ++ (Is (class_vtype named.owner) ∷ []))) f.stack)) _ f1 a.1 in
           (rule_passed 5 (all_meet p (arguments named ++ (Is (class_vtype named.owner) ∷ [])) f.stack) _ f1 b.1).1
 
       instance : named.is_static ≡ false
@@ -299,7 +299,7 @@ module _ (p : Program) (k : ProgramKeeps p) (m : Method) (pl to : ℕ) (f f1 : T
       special_needs : type.further {A = Types} p (special_rules p m id named) f.stack (Ok (record f { stack = result_types named.result ++ drop (length (arguments named ++ (Is (class_vtype named.owner) ∷ []))) f.stack })) ≡ Ok f1
       special_needs =
           let a = rule_passed 3 (type.has_operands (length (arguments named ++ (Is (class_vtype named.owner) ∷ []))) f.stack) _ f1 special_typed in
-          let b = rule_passed 4 (type.has_room m (result_types named.result ++ drop (length (arguments named ++ (Is (class_vtype named.owner) ∷ []))) f.stack)) _ f1 a.1 in
+          let b = rule_passed 4 (type.room_for m (result_types named.result) (drop (length (arguments named ++ (Is (class_vtype named.owner) ∷ []))) f.stack)) _ f1 a.1 in
           (rule_passed 5 (all_meet p (arguments named ++ (Is (class_vtype named.owner) ∷ [])) f.stack) _ f1 b.1).1
 
       passed_rules : (named.is_static ≡ false) × (special_fits p m id named ≡ true) × (type.may_name m named.is_private named.owner ≡ true)
@@ -323,7 +323,7 @@ module _ (p : Program) (k : ProgramKeeps p) (m : Method) (pl to : ℕ) (f f1 : T
       built : (all_meet p (arguments named) f.stack ≡ true) × (named.is_static ≡ false) × IsConstructed p m named f f1 (drop (length (arguments named)) f.stack)
       built =
           let a3 = rule_passed 3 (type.has_operands (suc (length (arguments named))) f.stack) _ f1 (row_is named is true con) in
-          let a4 = rule_passed 4 (type.has_room m (result_types named.result ++ drop (suc (length (arguments named))) f.stack)) _ f1 a3.1 in
+          let a4 = rule_passed 4 (type.room_for m (result_types named.result) (drop (suc (length (arguments named))) f.stack)) _ f1 a3.1 in
           let a5 = rule_passed 5 (all_meet p (arguments named) f.stack) _ f1 a4.1 in
           let a8 = rule_passed 8 ((not named.is_static && type.may_name m named.is_private named.owner) && true) _ f1 a5.1 in (
             a5.0,
@@ -479,7 +479,7 @@ module _ (p : Program) (k : ProgramKeeps p) (m : Method) (pl to : ℕ) (f f1 : T
       pub is_static : named.is_static ≡ true
       is_static =
           let a = rule_passed 3 (type.has_operands (length (arguments named)) f.stack) _ f1 static_typed in
-          let b = rule_passed 4 (type.has_room m (result_types named.result ++ drop (length (arguments named)) f.stack)) _ f1 a.1 in
+          let b = rule_passed 4 (type.room_for m (result_types named.result) (drop (length (arguments named)) f.stack)) _ f1 a.1 in
           let c = rule_passed 5 (all_meet p (arguments named) f.stack) _ f1 b.1 in
           let d = rule_passed 8 ((named.is_static && type.may_name m named.is_private named.owner) && true) _ f1 c.1 in
           and_left named.is_static (type.may_name m named.is_private named.owner) (and_left (named.is_static && type.may_name m named.is_private named.owner) true d.0)

@@ -5,7 +5,7 @@ use Rattle.kilim_classes.specs.declared.class.Method.{Method}
 use Rattle.kilim_classes.specs.declared.instr.Instr.{Instr}
 use Rattle.kilim_classes.specs.declared.verified.VType.{VType}
 use Rattle.kilim_classes.specs.Program.{Program}
-use Rattle.kilim_typing.specs.Step.{Types, Operand, Further, Takes, rule, further, all_meet, has_operands, has_room, by_row}
+use Rattle.kilim_typing.specs.Step.{Types, Operand, Further, Takes, rule, further, all_meet, has_operands, room_for, by_row}
 use Rattle.kilim_shape_graph.specs.declared.graph.Graph.{Graph}
 use Rattle.kilim_isolation_rules.specs.Rules.{deed, moves, any_flow_mixes, left_by}
 use Rattle.kilim_isolation_rules.specs.Marks.{stack_lives}
@@ -26,7 +26,7 @@ pub takes_passed : (p : Program) (m : Method) (at : ℕ) (takes : List Operand) 
     (all_meet p takes f.stack ≡ true) × (f1 ≡ record f { stack = gives ++ drop (length takes) f.stack })
 takes_passed p m at takes gives also f f1 e =
     let a = rule_passed 3 (has_operands (length takes) f.stack) _ f1 e in
-    let b = rule_passed 4 (has_room m (gives ++ drop (length takes) f.stack)) _ f1 a.1 in
+    let b = rule_passed 4 (room_for m gives (drop (length takes) f.stack)) _ f1 a.1 in
     let c = rule_passed 5 (all_meet p takes f.stack) _ f1 b.1 in
     (c.0, ok_is (record f { stack = gives ++ drop (length takes) f.stack }) f1 (further_passed p also f.stack _ f1 c.1))
 

@@ -1,5 +1,5 @@
 -- More rows without trees: numbers, jumps, loads of numbers, constants.
-use Rattle.std.proofs.Common.{◌≡◌, ℕ, zero, suc, ℤ, ◌==◌, Bool, true, false, true≢false, cond, ◌&&◌, ◌||◌, List, [], ◌∷◌, ◌++◌, map, Option, Some, None, Result, Ok, Err, refl, sym, ap, subst, ◌∙◌, inl, inr}
+use Rattle.std.proofs.Common.{◌≡◌, ℕ, zero, suc, ℤ, ◌==◌, Bool, true, false, true≢false, cond, ◌&&◌, ◌||◌, List, [], ◌∷◌, map, Option, Some, None, Result, Ok, Err, refl, sym, ap, subst, ◌∙◌, inl, inr}
 use Rattle.std.specs.Prelude.{codes, drop}
 use Rattle.std.specs.Ordering.{int_eq}
 use Rattle.std.specs.Str.{bytes_eq}
@@ -79,7 +79,7 @@ module _ (p : Program) (keeps : (x : FieldId) (field : Field) → field_of p x �
   refused : (gives : List VType) → type.by_row p m pl (Takes [] gives (type.needs 9 false ∷ [])) f ≡ Ok f1 → ⊥
   refused gives e =
       let a = rule_passed 3 (type.has_operands 0 f.stack) _ f1 e in
-      let b = rule_passed 4 (type.has_room m (gives ++ f.stack)) _ f1 a.1 in
+      let b = rule_passed 4 (type.room_for m gives f.stack) _ f1 a.1 in
       let c = rule_passed 5 (type.all_meet p [] f.stack) _ f1 b.1 in
       none_passes c.1
     where

@@ -106,7 +106,7 @@ field_held p h n object there is f v e = sym (tree_to p h n object there is (2 *
 pub missing_never : (p : Program) (m : Method) (at : ℕ) (f f1 : Types) → by_row p m at missing f ≡ Ok f1 → ⊥
 missing_never p m at f f1 e =
     let a = rule_passed 3 (type.has_operands 0 f.stack) _ f1 e in
-    let b = rule_passed 4 (type.has_room m f.stack) _ f1 a.1 in
+    let b = rule_passed 4 (type.room_for m [] f.stack) _ f1 a.1 in
     let c = rule_passed 5 true _ f1 b.1 in
     err_ok c.1
   where

@@ -1,5 +1,5 @@
 -- pop, dup, dup_x1 and swap.
-use Rattle.std.proofs.Common.{◌≡◌, ℕ, ◌+◌, true, false, true≢false, List, [], ◌∷◌, ◌++◌, length, Option, Some, None, Result, Ok, refl, sym, ap, subst, ◌∙◌, ◌⊎◌, inl, inr}
+use Rattle.std.proofs.Common.{◌≡◌, ℕ, true, false, true≢false, List, [], ◌∷◌, ◌++◌, length, Option, Some, None, Result, Ok, refl, sym, ap, subst, ◌∙◌, ◌⊎◌, inl, inr}
 use Rattle.std.specs.List.{list_any}
 use Rattle.std.specs.Prelude.{drop, nat_le}
 use Rattle.kilim_classes.specs.declared.instr.Instr.TheVariants as instr
@@ -73,7 +73,7 @@ module _ (p : Program) (m : Method) (pl to : ℕ) (f f1 : Types) (g g1 : Graph) 
   shuffle_left i form s is graph ts xs vs types names slots =
       let a = subst (λ z. by_row p m pl z f ≡ Ok f1) is s.1 in
       let b = rule_passed 3 (nat_le (form_words form) (words f.stack)) _ f1 a in
-      let c = rule_passed 4 (nat_le (words f.stack + type.form_adds form) m.max_stack) _ f1 b.1 in
+      let c = rule_passed 4 (type.form_room m form (words f.stack)) _ f1 b.1 in
       let t = with_passed f f1 (type.shuffled form f.stack) ts types c.1 in
       let q = moves_passed p m g f i after g1 s.2 in (
         at,
