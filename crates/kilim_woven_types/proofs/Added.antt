@@ -11,11 +11,12 @@ use Rattle.kilim_classes.specs.declared.verified.VType.{VType}
 use Rattle.kilim_classes.specs.declared.verified.VType.TheVariants.{Int}
 use Rattle.kilim_classes.specs.Program.{Program}
 use Rattle.kilim_classes.specs.Lengths.{jump_targets, ends_path}
-use Rattle.kilim_typing.specs.Step.{Types, peek, stored, size, words, vtype, result_types, Operand, Is, AReference, Further, further, needs, meets, all_meet, pushed, loaded, virtual_row, static_row, Takes, Loads, Stores, row, by_row, type_step}
+use Rattle.kilim_typing.specs.Step.{Types, peek, stored, size, words, room_for, vtype, result_types, Operand, Is, AReference, Further, further, needs, meets, all_meet, pushed, loaded, virtual_row, static_row, Takes, Loads, Stores, row, by_row, type_step}
 use Rattle.kilim_typing.specs.Typed.{Jumps, Here, goes_on, Typed}
 use Rattle.kilim_woven_form.specs.Woven.{Plan, fiber, fiber_ty, fiber_slot, Item, Does, load_fiber, lay}
 use Rattle.kilim_woven_types.specs.Facts.{Native, Whole, Stands}
 use Rattle.kilim_woven_types.proofs.Moved.{passes}
+use Rattle.kilim_woven_types.proofs.Forms.{room_there}
 use Rattle.kilim_woven_types.proofs.Flow.{Kept, has_fiber, is_larger}
 use Rattle.kilim_woven_types.proofs.Flow as flow
 
@@ -49,15 +50,20 @@ module _ (x : Plan) (W : Program) (w : Method) (whole : Whole x W w) where
   pub holds_all : {A : Type 0} (rs : List Further) (s : List VType) (go : Result A ℕ) (y : A) → further W [] s go ≡ Ok y → go ≡ Ok y
   holds_all rs s go y e = e
 
-  pub takes_step : (q : ℕ) (i : Instr) (takes : List Operand) (gives : List VType) (also : List Further) (cl s : List VType) → row W w i ≡ Takes takes gives also →
-      length takes ≤ length s → words (gives ++ drop (length takes) s) ≤ w.max_stack → all_meet W takes s ≡ true → further W also s (Ok (state cl (gives ++ drop (length takes) s))) ≡ Ok (state cl (gives ++ drop (length takes) s)) →
+  pub asked_step : (q : ℕ) (i : Instr) (takes : List Operand) (gives : List VType) (also : List Further) (cl s : List VType) → row W w i ≡ Takes takes gives also →
+      length takes ≤ length s → room_for w gives (drop (length takes) s) ≡ true → all_meet W takes s ≡ true → further W also s (Ok (state cl (gives ++ drop (length takes) s))) ≡ Ok (state cl (gives ++ drop (length takes) s)) →
       type_step W w q i (state cl s) ≡ Ok (state cl (gives ++ drop (length takes) s))
-  takes_step q i takes gives also cl s is enough room meet fine =
+  asked_step q i takes gives also cl s is enough room meet fine =
       let out = state cl (gives ++ drop (length takes) s) in
       ap (λ r. by_row W w q r (state cl s)) is
       ∙ passes 3 _ _ out (le-leb (length takes) (length s) enough)
-      (passes 4 _ _ out (le-leb (words (gives ++ drop (length takes) s)) w.max_stack room)
+      (passes 4 _ _ out room
       (passes 5 _ _ out meet fine))
+
+  pub takes_step : (q : ℕ) (i : Instr) (takes : List Operand) (gives : List VType) (also : List Further) (cl s : List VType) → row W w i ≡ Takes takes gives also →
+      length takes ≤ length s → words (gives ++ drop (length takes) s) ≤ w.max_stack → all_meet W takes s ≡ true → further W also s (Ok (state cl (gives ++ drop (length takes) s))) ≡ Ok (state cl (gives ++ drop (length takes) s)) →
+      type_step W w q i (state cl s) ≡ Ok (state cl (gives ++ drop (length takes) s))
+  takes_step q i takes gives also cl s is enough room meet fine = asked_step q i takes gives also cl s is enough (room_there w gives (drop (length takes) s) room) meet fine
 
   pub loads_step : (q : ℕ) (i : Instr) (o : Operand) (slot : ℕ) (t : VType) (cl s : List VType) → row W w i ≡ Loads o slot → size (pushed o) ≤ size t → peek cl slot ≡ t → slot < w.max_locals → words (t ∷ s) ≤ w.max_stack → meets W o t ≡ true →
       type_step W w q i (state cl s) ≡ Ok (state cl (t ∷ s))

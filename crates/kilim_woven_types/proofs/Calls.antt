@@ -13,13 +13,14 @@ use Rattle.kilim_classes.specs.declared.verified.VType.TheVariants.{Top}
 use Rattle.kilim_classes.specs.Program.{Program}
 use Rattle.kilim_classes.specs.Names.{method_at}
 use Rattle.kilim_classes.specs.Same.{is_constructor}
-use Rattle.kilim_typing.specs.Step.{Types, words, vtype, class_vtype, result_types, arguments, Operand, Is, Further, further, needs, may_name, also_own, static_rules, virtual_rules, special_rules, special_fits, special_by, special_row, static_row, virtual_row, meets, all_meet, Takes, row, by_row, type_step}
+use Rattle.kilim_typing.specs.Step.{Types, words, room_for, vtype, class_vtype, result_types, arguments, Operand, Is, Further, further, needs, may_name, also_own, static_rules, virtual_rules, special_rules, special_fits, special_by, special_row, static_row, virtual_row, meets, all_meet, Takes, row, by_row, type_step}
 use Rattle.kilim_woven_form.specs.Woven.{Plan, fiber, fiber_ty, moved_type, if_there, pausable_callee, taken}
 use Rattle.kilim_woven_types.specs.Same.{Callee}
 use Rattle.kilim_woven_types.specs.Facts.{Whole}
-use Rattle.kilim_woven_types.proofs.Moved.{passed, passes, moved_words, moved_operand}
+use Rattle.kilim_woven_types.proofs.Moved.{passed, passes, moved_operand}
 use Rattle.kilim_woven_types.proofs.Moved as moved
 use Rattle.kilim_woven_types.proofs.Crux.{plain, ok_same}
+use Rattle.kilim_woven_types.proofs.Forms.{given_low}
 use Rattle.kilim_woven_types.proofs.Rows.{moved_arguments, moved_results, moved_receiver}
 use Rattle.kilim_woven_types.proofs.Added.{state}
 use Rattle.kilim_woven_types.proofs.Added as add
@@ -60,7 +61,7 @@ module _ (x : Plan) (W : Program) (w : Method) (whole : Whole x W w) where
     pub meet : all_meet x.program (call_takes callee) fs ≡ true
     pub enough : taken callee ≤ length fs
     pub is : g ≡ plain fl (result_types callee.result ++ drop (taken callee) fs)
-    pub room : words (result_types callee.result ++ drop (taken callee) fs) ≤ x.method.max_stack
+    pub room : words fs ≤ x.method.max_stack → words (result_types callee.result ++ drop (taken callee) fs) ≤ x.method.max_stack
     pub steps : (q : ℕ) → type_step W w q i (state cl (fiber x.program ∷ map (moved_type x.at) fs)) ≡ Ok (state cl (result_types callee.result ++ map (moved_type x.at) (drop (taken callee) fs)))
 
   -- further rules that hold in the old code hold in woven code
@@ -80,20 +81,18 @@ module _ (x : Plan) (W : Program) (w : Method) (whole : Whole x W w) where
       let p4 = passed 4 _ _ g p3.1 in
       let p5 = passed 5 _ _ g p4.1 in
       let long = leb-true (length takes) (length fs) p3.0 in
-      let few = leb-true (words out) x.method.max_stack p4.0 in
       let fine = pass (Ok (plain fl out)) (Ok (plain fl out)) g (plain fl out) p5.1 refl in
       let stack = drop-map mt (length takes) fs in
-      let same_words = ap words (ap (λ z. gives ++ z) stack ∙ (ap (λ z. z ++ map mt (drop (length takes) fs)) (sym (moved_results x.at callee.result)) ∙ sym (map-append mt gives (drop (length takes) fs)))) ∙ moved_words x.at out in
-      let more = whole.room in
+      let asked = ap (room_for w gives) stack ∙ (ap (λ z. room_for w z (map mt (drop (length takes) fs))) (sym (moved_results x.at callee.result)) ∙ moved.room_given x.program W x.method w x.at whole.shared gives (drop (length takes) fs) p4.0) in
       let meet = moved.all_met x.program W x.method w x.at whole.shared takes fs p5.0 in
       record {
         meet = p5.0;
         enough = omega (arith, long, n);
         is = sym (ok_same (plain fl out) g fine.0) ∙ ap (λ k. plain fl (gives ++ drop k fs)) n;
-        room = subst (λ k. words (gives ++ drop k fs) ≤ x.method.max_stack) n few;
-        steps = λ p. add.takes_step x W w whole p i (Is (fiber x.program) ∷ takes) gives new cl (fiber x.program ∷ map mt fs) is
+        room = λ few. subst (λ k. words (gives ++ drop k fs) ≤ x.method.max_stack) n (given_low x.method gives fs (length takes) p4.0 few);
+        steps = λ p. add.asked_step x W w whole p i (Is (fiber x.program) ∷ takes) gives new cl (fiber x.program ∷ map mt fs) is
             (let l = length-map fs mt in omega (arith, long, l))
-            (omega (arith, few, same_words, more))
+            asked
             (and_from (meets W (Is (fiber x.program)) (fiber x.program)) (all_meet W takes (map mt fs)) (add.fiber_meets x W w whole) (ap (λ os. all_meet W os (map mt fs)) (sym (moved_takes x.at callee)) ∙ meet))
             (pass (Ok (plain fl out)) _ g _ p5.1 refl).1
             ∙ ap (λ z. Ok (state cl (gives ++ z))) (stack ∙ ap (λ k. map mt (drop k fs)) n);

@@ -13,7 +13,7 @@ use Rattle.kilim_classes.specs.declared.verified.VType.{VType}
 use Rattle.kilim_classes.specs.declared.verified.VType.TheVariants.{Top, Int, Long, Null, UninitThis, Uninit, Object}
 use Rattle.kilim_classes.specs.Program.{Program}
 use Rattle.kilim_classes.specs.Names.{class_at}
-use Rattle.kilim_typing.specs.Step.{Types, base_vtype, dims_vtype, assignable, one_replaced, peek, stored, is_top, is_long, is_same, size, words, replaced, Operand, Is, References, Further, further, rule, meets, vtype, class_vtype, has_room, has_operands, Form, Drops, Copies, Swaps, form_words, form_adds, pushed, shuffled, off, above, then_off, with_stack, loaded, element, with_element, constructed, made_at, is_class, superclass_at, Row, Takes, Element, Shuffles, Loads, Stores, Adds, Makes, Constructs, Leaves, by_row}
+use Rattle.kilim_typing.specs.Step.{Types, base_vtype, dims_vtype, assignable, one_replaced, peek, stored, is_top, is_long, is_same, size, words, replaced, Operand, Is, References, Further, further, rule, meets, vtype, class_vtype, has_room, room_for, has_operands, Form, Drops, Copies, Swaps, form_words, form_room, pushed, shuffled, off, above, then_off, with_stack, loaded, element, with_element, constructed, made_at, is_class, superclass_at, Row, Takes, Element, Shuffles, Loads, Stores, Adds, Makes, Constructs, Leaves, by_row}
 use Rattle.kilim_woven_form.specs.Woven.{moved_type, first_of}
 use Rattle.kilim_woven_types.specs.Same.{Shared}
 use Rattle.kilim_woven_types.proofs.Moved.{passed, passes, moved_size, moved_words, moved_long, moved_top, moved_operand, moved_further}
@@ -138,9 +138,9 @@ element_moved at (i ∷ Long ∷ s) t e = absurd (cc)
 element_moved at (i ∷ UninitThis ∷ s) t e = absurd (cc)
 element_moved at (i ∷ Uninit q ∷ s) t e = absurd (cc)
 
-pub element_is : (m : Method) (f g : Types) (r : Result VType ℕ) → with_element m f r ≡ Ok g → (t : VType) × (r ≡ Ok t) × (has_room m (t ∷ drop 2 f.stack) ≡ true) × (record f { stack = t ∷ drop 2 f.stack } ≡ g)
-element_is m f g (Ok t) e = let p = passed 4 (has_room m (t ∷ drop 2 f.stack)) (Ok (record f { stack = t ∷ drop 2 f.stack })) g e in (t, refl, p.0, ok_same (record f { stack = t ∷ drop 2 f.stack }) g p.1)
-element_is m f g (Err n) e = absurd (cc)
+pub element_is : (f g : Types) (r : Result VType ℕ) → with_element f r ≡ Ok g → (t : VType) × (r ≡ Ok t) × (record f { stack = t ∷ drop 2 f.stack } ≡ g)
+element_is f g (Ok t) e = (t, refl, ok_same (record f { stack = t ∷ drop 2 f.stack }) g e)
+element_is f g (Err n) e = absurd (cc)
 
 pub stack_is : (f g : Types) (r : Result (List VType) ℕ) → with_stack f r ≡ Ok g → (s : List VType) × (r ≡ Ok s) × (record f { stack = s } ≡ g)
 stack_is f g (Ok s) e = (s, refl, ok_same (record f { stack = s }) g e)
@@ -184,10 +184,11 @@ module _ (P W : Program) (m w : Method) (at : ℕ → ℕ) (same : Shared P W m 
     pub covers : Covers at S fl' cl'
     pub added : Added cl'
 
+  left : (takes : List Operand) (fs : List VType) → drop (length (map (moved_operand at) takes)) (map (moved_type at) fs) ≡ map (moved_type at) (drop (length takes) fs)
+  left takes fs = ap (λ n. drop n (map (moved_type at) fs)) (length-map takes (moved_operand at)) ∙ drop-map (moved_type at) (length takes) fs
+
   outs : (takes : List Operand) (gives fs : List VType) → map (moved_type at) gives ++ drop (length (map (moved_operand at) takes)) (map (moved_type at) fs) ≡ map (moved_type at) (gives ++ drop (length takes) fs)
-  outs takes gives fs =
-      ap (λ n. map (moved_type at) gives ++ drop n (map (moved_type at) fs)) (length-map takes (moved_operand at))
-      ∙ (ap (λ s. map (moved_type at) gives ++ s) (drop-map (moved_type at) (length takes) fs) ∙ sym (map-append (moved_type at) gives (drop (length takes) fs)))
+  outs takes gives fs = ap (λ s. map (moved_type at) gives ++ s) (left takes fs) ∙ sym (map-append (moved_type at) gives (drop (length takes) fs))
 
   counts : (takes : List Operand) (fs : List VType) → has_operands (length takes) fs ≡ true → has_operands (length (map (moved_operand at) takes)) (map (moved_type at) fs) ≡ true
   counts takes fs h = ap (λ n. has_operands n (map (moved_type at) fs)) (length-map takes (moved_operand at)) ∙ moved.enough P W m w at same (length takes) fs h
@@ -210,7 +211,7 @@ module _ (P W : Program) (m w : Method) (at : ℕ → ℕ) (same : Shared P W m 
         cl' = cl;
         is = sym (ok_same (plain fl out) g p6.0);
         steps = passes 3 _ _ (twin at out cl) (counts takes fs p3.0)
-            (passes 4 _ _ (twin at out cl) (ap (has_room w) (outs takes gives fs) ∙ moved.room P W m w at same out p4.0)
+            (passes 4 _ _ (twin at out cl) (ap (room_for w (map (moved_type at) gives)) (left takes fs) ∙ moved.room_given P W m w at same gives (drop (length takes) fs) p4.0)
             (passes 5 _ _ (twin at out cl) (moved.all_met P W m w at same takes fs p5.0)
             (p6.1 _ (twin at out cl) (ap (λ s. Ok (record { locals = cl; stack = s; unset = false })) (outs takes gives fs)))));
         covers = λ j s n. c j (only S j s) n;
@@ -220,30 +221,35 @@ module _ (P W : Program) (m w : Method) (at : ℕ → ℕ) (same : Shared P W m 
   element_next : (S : ℕ → Type 0) (q : ℕ) (fl fs cl : List VType) (g : Types) → Covers at S fl cl → Added cl → by_row P m q Element (plain fl fs) ≡ Ok g → Next (λ j. S j ⊎ ⊥) q Element fs cl g
   element_next S q fl fs cl g c a e =
       let p3 = passed 3 _ _ g e in
-      let p5 = passed 5 _ _ g p3.1 in
-      let is = element_is m (plain fl fs) g (element fs) p5.1 in
+      let p4 = passed 4 _ _ g p3.1 in
+      let p5 = passed 5 _ _ g p4.1 in
+      let is = element_is (plain fl fs) g (element fs) p5.1 in
       let out = is.0 ∷ drop 2 fs in
       record {
         fl' = fl;
         fs' = out;
         cl' = cl;
-        is = sym is.3;
+        is = sym is.2;
         steps = passes 3 _ _ (twin at out cl) (moved.enough P W m w at same 2 fs p3.0)
+            (passes 4 _ _ (twin at out cl) (ap (λ s. has_room w (Null ∷ s)) (drop-map (moved_type at) 2 fs) ∙ moved.room P W m w at same (Null ∷ drop 2 fs) p4.0)
             (passes 5 _ _ (twin at out cl) (moved.all_met P W m w at same (Is Int ∷ References ∷ []) fs p5.0)
-            (ap (with_element w (twin at fs cl)) (element_moved at fs is.0 is.1)
-            ∙ passes 4 (has_room w (moved_type at is.0 ∷ drop 2 (map (moved_type at) fs))) _ (twin at out cl)
-            (ap (λ s. has_room w (moved_type at is.0 ∷ s)) (drop-map (moved_type at) 2 fs) ∙ moved.room P W m w at same out is.2)
-            (ap (λ s. Ok (record { locals = cl; stack = moved_type at is.0 ∷ s; unset = false })) (drop-map (moved_type at) 2 fs))));
+            (ap (with_element (twin at fs cl)) (element_moved at fs is.0 is.1)
+            ∙ ap (λ s. Ok (record { locals = cl; stack = moved_type at is.0 ∷ s; unset = false })) (drop-map (moved_type at) 2 fs))));
         covers = λ j s n. c j (only S j s) n;
         added = a;
       }
 
-  form_room : (n : ℕ) (fs : List VType) → nat_le (words fs + n) m.max_stack ≡ true → nat_le (words (map (moved_type at) fs) + n) w.max_stack ≡ true
-  form_room n fs h =
+  room_above : (n : ℕ) (fs : List VType) → nat_le (words fs + n) m.max_stack ≡ true → nat_le (words (map (moved_type at) fs) + n) w.max_stack ≡ true
+  room_above n fs h =
       let a = leb-true (words fs + n) m.max_stack h in
       let b = same.stack in
       let c = moved_words at fs in
       le-leb (words (map (moved_type at) fs) + n) w.max_stack (omega (arith, a, b, c))
+
+  room_of_form : (form : Form) (fs : List VType) → form_room m form (words fs) ≡ true → form_room w form (words (map (moved_type at) fs)) ≡ true
+  room_of_form (Drops n) fs h = refl
+  room_of_form (Copies n passed) fs h = room_above n fs h
+  room_of_form Swaps fs h = room_above 0 fs h
 
   shuffles_next : (S : ℕ → Type 0) (q : ℕ) (form : Form) (fl fs cl : List VType) (g : Types) → Covers at S fl cl → Added cl → by_row P m q (Shuffles form) (plain fl fs) ≡ Ok g → Next (λ j. S j ⊎ ⊥) q (Shuffles form) fs cl g
   shuffles_next S q form fl fs cl g c a e =
@@ -256,7 +262,7 @@ module _ (P W : Program) (m w : Method) (at : ℕ → ℕ) (same : Shared P W m 
         cl' = cl;
         is = sym is.2;
         steps = passes 3 _ _ (twin at is.0 cl) (ap (λ n. nat_le (form_words form) n) (moved_words at fs) ∙ p3.0)
-            (passes 4 _ _ (twin at is.0 cl) (form_room (form_adds form) fs p4.0)
+            (passes 4 _ _ (twin at is.0 cl) (room_of_form form fs p4.0)
             (ap (with_stack (twin at fs cl)) (shuffled_moved at form fs ∙ ap (moved_list at) is.1)));
         covers = λ j s n. c j (only S j s) n;
         added = a;
@@ -443,7 +449,7 @@ module _ (P W : Program) (m w : Method) (at : ℕ → ℕ) (same : Shared P W m 
         is = t.is;
         steps = passes 3 _ _ (twin at t.fs' t.cl') (ap (λ n. has_operands (suc n) (map mt fs)) k ∙ moved.enough P W m w at same (suc (length takes)) fs p3.0)
             (passes 4 _ _ (twin at t.fs' t.cl')
-            (ap (λ n. has_room w (map mt gives ++ drop (suc n) (map mt fs))) k ∙ (ap (λ z. has_room w (map mt gives ++ z)) (drop-map mt (suc (length takes)) fs) ∙ (ap (has_room w) (sym (map-append mt gives (drop (suc (length takes)) fs))) ∙ moved.room P W m w at same (gives ++ drop (suc (length takes)) fs) p4.0)))
+            (ap (λ n. room_for w (map mt gives) (drop (suc n) (map mt fs))) k ∙ (ap (room_for w (map mt gives)) (drop-map mt (suc (length takes)) fs) ∙ moved.room_given P W m w at same gives (drop (suc (length takes)) fs) p4.0))
             (passes 5 _ _ (twin at t.fs' t.cl') (moved.all_met P W m w at same takes fs p5.0)
             (p6.1 _ (twin at t.fs' t.cl') (ap (λ n. constructed W w class (map mt gives) (map (moved_further at) after) (drop n (map mt fs)) (twin at fs cl)) k ∙ (ap (λ z. constructed W w class (map mt gives) (map (moved_further at) after) z (twin at fs cl)) (drop-map mt (length takes) fs) ∙ t.steps)))));
         covers = λ j s n. t.covers j (only S j s) n;

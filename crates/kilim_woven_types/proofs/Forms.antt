@@ -1,8 +1,10 @@
--- How many words the pop, dup and swap forms leave.
-use Rattle.std.proofs.Common.{◌≡◌, ℕ, zero, suc, ◌+◌, ◌≤◌, List, [], ◌∷◌, ◌++◌, Result, Ok, Err, refl, sym, ap, arith}
+-- How many words an instruction leaves: the pop, dup and swap forms, the load of an element, and what takes and gives.
+use Rattle.std.proofs.Common.{◌≡◌, ℕ, zero, suc, ◌+◌, ◌≤◌, true, List, [], ◌∷◌, ◌++◌, drop, Result, Ok, Err, refl, sym, ap, arith}
+use Rattle.std.proofs.lemmas.Bool.{leb-true, le-leb}
+use Rattle.kilim_classes.specs.declared.class.Method.{Method}
 use Rattle.kilim_classes.specs.declared.verified.VType.{VType}
 use Rattle.kilim_classes.specs.declared.verified.VType.TheVariants.{Top, Int, Long, Null, UninitThis, Uninit, Object}
-use Rattle.kilim_typing.specs.Step.{size, words, Form, Drops, Copies, Swaps, form_adds, shuffled, off, above, then_off}
+use Rattle.kilim_typing.specs.Step.{size, words, room_for, Form, Drops, Copies, Swaps, form_adds, form_room, shuffled, element, off, above, then_off}
 use Rattle.kilim_woven_types.proofs.Crux.{ok_same}
 
 pub words_append : (a b : List VType) → words (a ++ b) ≡ words a + words b
@@ -88,3 +90,65 @@ shuffled_words Swaps s t e =
     let is = ap words (ok_same (q.0.0 ++ (p.0.0 ++ q.0.1)) t q.2) in
     let sum = crossed_words p.0.0 q.0.0 q.0.1 in
     omega (arith, all, two, is, sum)
+
+-- a stack that was low enough, and that passed the rule on room, is low enough behind the instruction
+pub form_low : (m : Method) (form : Form) (s t : List VType) → shuffled form s ≡ Ok t → form_room m form (words s) ≡ true → words s ≤ m.max_stack → words t ≤ m.max_stack
+form_low m (Drops n) s t e h few = let a = shuffled_words (Drops n) s t e in omega (arith, a, few)
+form_low m (Copies n passed) s t e h few = let a = shuffled_words (Copies n passed) s t e in let b = leb-true (words s + n) m.max_stack h in omega (arith, a, b)
+form_low m Swaps s t e h few = let a = shuffled_words Swaps s t e in omega (arith, a, few)
+
+-- ---- what takes and gives
+
+pub words_drop : (n : ℕ) (s : List VType) → words (drop n s) ≤ words s
+words_drop zero s = omega arith
+words_drop (suc n) [] = omega arith
+words_drop (suc n) (t ∷ s) = let h = words_drop n s in omega (arith, h)
+
+pub given_low : (m : Method) (gives s : List VType) (n : ℕ) → room_for m gives (drop n s) ≡ true → words s ≤ m.max_stack → words (gives ++ drop n s) ≤ m.max_stack
+given_low m [] s n h few = let a = words_drop n s in omega (arith, a, few)
+given_low m (t ∷ ts) s n h few = leb-true (words (t ∷ (ts ++ drop n s))) m.max_stack h
+
+pub room_there : (m : Method) (gives below : List VType) → words (gives ++ below) ≤ m.max_stack → room_for m gives below ≡ true
+room_there m [] below few = refl
+room_there m (t ∷ ts) below few = le-leb (words (t ∷ (ts ++ below))) m.max_stack few
+
+-- ---- the load of an element
+
+pub some_size : (t : VType) → 1 ≤ size t
+some_size Long = omega arith
+some_size Top = omega arith
+some_size Int = omega arith
+some_size Null = omega arith
+some_size UninitThis = omega arith
+some_size (Uninit q) = omega arith
+some_size (Object ty) = omega arith
+
+few_size : (t : VType) → size t ≤ 2
+few_size Long = omega arith
+few_size Top = omega arith
+few_size Int = omega arith
+few_size Null = omega arith
+few_size UninitThis = omega arith
+few_size (Uninit q) = omega arith
+few_size (Object ty) = omega arith
+
+-- an element has no more words than the array and the index
+element_words : (s : List VType) (t : VType) → element s ≡ Ok t → words (t ∷ drop 2 s) ≤ words s
+element_words [] t e = absurd (cc)
+element_words (i ∷ []) t e = absurd (cc)
+element_words (i ∷ Null ∷ s) t e =
+    let a = some_size i in
+    let b = ap size (ok_same Null t e) in
+    omega (arith, a, b)
+element_words (i ∷ Object ty ∷ s) t e =
+    let a = some_size i in
+    let b = few_size t in
+    omega (arith, a, b)
+element_words (i ∷ Top ∷ s) t e = absurd (cc)
+element_words (i ∷ Int ∷ s) t e = absurd (cc)
+element_words (i ∷ Long ∷ s) t e = absurd (cc)
+element_words (i ∷ UninitThis ∷ s) t e = absurd (cc)
+element_words (i ∷ Uninit q ∷ s) t e = absurd (cc)
+
+pub element_low : (m : Method) (s : List VType) (t : VType) → element s ≡ Ok t → words s ≤ m.max_stack → words (t ∷ drop 2 s) ≤ m.max_stack
+element_low m s t e few = let a = element_words s t e in omega (arith, a, few)

@@ -1,14 +1,14 @@
 -- Moved types meet what the types met.
-use Rattle.std.proofs.Common.{◌≡◌, ℕ, Bool, true, false, List, [], ◌∷◌, map, Result, Ok, refl, ap, ◌∙◌, arith, eq-eqb}
+use Rattle.std.proofs.Common.{◌≡◌, ℕ, Bool, true, false, List, [], ◌∷◌, ◌++◌, map, Result, Ok, refl, sym, ap, ◌∙◌, arith, eq-eqb}
 use Rattle.std.specs.Prelude.{◌&&◌, not, nat_le}
 use Rattle.std.proofs.lemmas.Bool.{leb-true, le-leb, eqb-true, and_parts, and_from}
-use Rattle.std.proofs.lemmas.List.{length-map}
+use Rattle.std.proofs.lemmas.List.{length-map, map-append}
 use Rattle.kilim_classes.specs.declared.class.Method.{Method}
 use Rattle.kilim_classes.specs.declared.ty.Base.{Base}
 use Rattle.kilim_classes.specs.declared.verified.VType.{VType}
 use Rattle.kilim_classes.specs.declared.verified.VType.TheVariants.{Top, Int, Long, Null, UninitThis, Uninit, Object}
 use Rattle.kilim_classes.specs.Program.{Program}
-use Rattle.kilim_typing.specs.Step.{Operand, Is, AReference, Initialized, ArrayOf, References, AnArray, Own, Further, further, rule, meets, all_meet, assignable, class_vtype, size, words, is_top, is_long, is_unset, has_room, has_operands}
+use Rattle.kilim_typing.specs.Step.{Operand, Is, AReference, Initialized, ArrayOf, References, AnArray, Own, Further, further, rule, meets, all_meet, assignable, class_vtype, size, words, is_top, is_long, is_unset, has_room, room_for, has_operands}
 use Rattle.kilim_woven_form.specs.Woven.{moved_type}
 use Rattle.kilim_woven_types.specs.Same.{Shared}
 
@@ -153,6 +153,11 @@ module _ (P W : Program) (m w : Method) (at : ℕ → ℕ) (same : Shared P W m 
       let e = moved_words at s in
       let b = same.stack in
       le-leb (words (map (moved_type at) s)) w.max_stack (omega (arith, a, e, b))
+
+  -- the room for what is given, above what is left
+  pub room_given : (gives below : List VType) → room_for m gives below ≡ true → room_for w (map (moved_type at) gives) (map (moved_type at) below) ≡ true
+  room_given [] below h = refl
+  room_given (t ∷ ts) below h = ap (λ z. has_room w (moved_type at t ∷ z)) (sym (map-append (moved_type at) ts below)) ∙ room (t ∷ (ts ++ below)) h
 
   pub enough : (n : ℕ) (s : List VType) → has_operands n s ≡ true → has_operands n (map (moved_type at) s) ≡ true
   enough n s h = ap (λ (z : ℕ). nat_le n z) (length-map s (moved_type at)) ∙ h

@@ -31,7 +31,8 @@ use Rattle.kilim_woven_types.proofs.Saves as saves
 use Rattle.kilim_woven_types.proofs.Leaves as leaves
 use Rattle.kilim_woven_types.proofs.Calls.{call_takes}
 use Rattle.kilim_woven_types.proofs.Calls as calls
-use Rattle.kilim_woven_types.proofs.Resumes.{Fine, fine_tail, no_top_savable, words_drop, resume_runs}
+use Rattle.kilim_woven_types.proofs.Forms.{words_drop}
+use Rattle.kilim_woven_types.proofs.Resumes.{Fine, fine_tail, no_top_savable, resume_runs}
 
 -- ---- targets of moved instructions
 
@@ -307,8 +308,8 @@ module _ (x : Plan) (W : Program) (w : Method) (whole : Whole x W w) where
       let out = result_types callee.result ++ bel in
       let out' = result_types callee.result ++ map mt bel in
       let same_out : out' ≡ map mt out = ap (λ z. z ++ map mt bel) (sym (moved_results x.at callee.result)) ∙ sym (map-append mt (result_types callee.result) bel) in
-      let few = call.room in
       let room = facts.room in
+      let few = call.room room in
       let more = whole.room in
       let w1 = moved_words x.at fs in
       let w2 = ap words same_out ∙ moved_words x.at out in

@@ -18,6 +18,7 @@ use Rattle.kilim_woven_types.specs.Facts.{Whole, Savable, is_savable, is_local_s
 use Rattle.kilim_woven_types.proofs.Locals.{untouched, stored_here, no_slot}
 use Rattle.kilim_woven_types.proofs.Flow.{Extra, Kept, extra_apart, peek_slots}
 use Rattle.kilim_woven_types.proofs.Flow as flow
+use Rattle.kilim_woven_types.proofs.Forms.{words_drop}
 use Rattle.kilim_woven_types.proofs.Rows.{map_reverse}
 use Rattle.kilim_woven_types.proofs.Added.{state, Runs, Starts}
 use Rattle.kilim_woven_types.proofs.Added as add
@@ -134,11 +135,6 @@ dummies_are (ty ∷ tys) s =
 dummy_words : (tys : List Ty) (s : List VType) → words s ≤ words (dummy_stack tys s)
 dummy_words [] s = omega arith
 dummy_words (ty ∷ tys) s = let h = dummy_words tys (dummy_type (vtype ty) ∷ s) in omega (arith, h)
-
-pub words_drop : (n : ℕ) (fs : List VType) → words (drop n fs) ≤ words fs
-words_drop zero fs = omega arith
-words_drop (suc n) [] = omega arith
-words_drop (suc n) (t ∷ fs) = let h = words_drop n fs in omega (arith, h)
 
 -- the stack from the receiver down
 abbrev pub base_of : Bool → VType → List VType → List VType

@@ -12,11 +12,11 @@ use Rattle.kilim_classes.specs.declared.verified.VType.{VType}
 use Rattle.kilim_classes.specs.declared.verified.VType.TheVariants.{Top, Int, Long, Null, UninitThis, Uninit, Object}
 use Rattle.kilim_classes.specs.Program.{Program}
 use Rattle.kilim_classes.specs.Same.{is_constructor}
-use Rattle.kilim_typing.specs.Step.{Types, peek, poke, split_long, split_at, with_half, stored, is_top, is_long, is_same, size, words, vtype, class_vtype, vtype_of_class, result_types, replaced, one_replaced, Operand, Further, further, meets, all_meet, has_room, Form, Drops, Copies, Swaps, form_adds, pushed, shuffled, off, above, then_off, store, element, constructed, Row, Takes, Element, Shuffles, Loads, Stores, Adds, Makes, Constructs, Leaves, by_row}
+use Rattle.kilim_typing.specs.Step.{Types, peek, poke, split_long, split_at, with_half, stored, is_top, is_long, is_same, size, words, vtype, class_vtype, vtype_of_class, result_types, replaced, one_replaced, Operand, Further, further, meets, all_meet, has_room, room_for, Form, Drops, Copies, Swaps, form_room, pushed, shuffled, off, above, then_off, store, element, constructed, Row, Takes, Element, Shuffles, Loads, Stores, Adds, Makes, Constructs, Leaves, by_row}
 use Rattle.kilim_woven_types.specs.Facts.{is_reference}
 use Rattle.kilim_woven_types.proofs.Moved.{passed}
 use Rattle.kilim_woven_types.proofs.Locals.{same_or, peek_poke, peek_other, peek_replaced}
-use Rattle.kilim_woven_types.proofs.Forms.{shuffled_words}
+use Rattle.kilim_woven_types.proofs.Forms.{some_size, form_low, given_low, element_low}
 use Rattle.kilim_woven_types.proofs.Crux.{ok_same, FirmRow, Firm, element_is, stack_is}
 
 module _ (fresh : ℕ → Bool) where
@@ -105,15 +105,6 @@ module _ (fresh : ℕ → Bool) where
   long_half UninitThis ls k n h l = l
   long_half (Uninit q) ls k n h l = l
   long_half (Object ty) ls k n h l = l
-
-  some_size : (t : VType) → 1 ≤ size t
-  some_size Long = omega arith
-  some_size Top = omega arith
-  some_size Int = omega arith
-  some_size Null = omega arith
-  some_size UninitThis = omega arith
-  some_size (Uninit q) = omega arith
-  some_size (Object ty) = omega arith
 
   long_stored : (ls : List VType) (k n : ℕ) (t : VType) → k + size t ≤ n → length ls ≤ n → length (stored ls k t) ≤ n
   long_stored ls k n t h l =
@@ -335,8 +326,8 @@ module _ (fresh : ℕ → Bool) where
   passed_further P (r ∷ rs) s go x h = passed_further P rs s go x (passed r.number (r.holds && all_meet P r.operands s) (further P rs s go) x h).1
 
   module _ (P : Program) (m : Method) (plain : is_constructor m ≡ false) where
-    with_new_stack : (f g : Types) (s : List VType) → Sane m f → record f { stack = s } ≡ g → has_room m s ≡ true → list_all sane_item s ≡ true → Sane m g
-    with_new_stack f g s sf e room h = subst (λ z. Sane m z) e (record { room = leb-true (words s) m.max_stack room; within = sf.within; set = sf.set; locals = sf.locals; stack = h; halves = sf.halves })
+    with_new_stack : (f g : Types) (s : List VType) → Sane m f → record f { stack = s } ≡ g → words s ≤ m.max_stack → list_all sane_item s ≡ true → Sane m g
+    with_new_stack f g s sf e room h = subst (λ z. Sane m z) e (record { room = room; within = sf.within; set = sf.set; locals = sf.locals; stack = h; halves = sf.halves })
 
     sane_takes : (q : ℕ) (takes : List Operand) (gives : List VType) (also : List Further) (f g : Types) → Sane m f → list_all sane_item gives ≡ true → by_row P m q (Takes takes gives also) f ≡ Ok g → Sane m g
     sane_takes q takes gives also f g sf h e =
@@ -345,30 +336,25 @@ module _ (fresh : ℕ → Bool) where
         let p4 = passed 4 _ _ g p3.1 in
         let p5 = passed 5 _ _ g p4.1 in
         let p6 = passed_further P also f.stack (Ok (record f { stack = out })) g p5.1 in
-        with_new_stack f g out sf (ok_same (record f { stack = out }) g p6) p4.0 (all_append sane_item gives (drop (length takes) f.stack) h (all_drop sane_item (length takes) f.stack sf.stack))
+        with_new_stack f g out sf (ok_same (record f { stack = out }) g p6) (given_low m gives f.stack (length takes) p4.0 sf.room) (all_append sane_item gives (drop (length takes) f.stack) h (all_drop sane_item (length takes) f.stack sf.stack))
 
     sane_element : (q : ℕ) (f g : Types) → Sane m f → by_row P m q Element f ≡ Ok g → Sane m g
     sane_element q f g sf e =
         let p3 = passed 3 _ _ g e in
-        let p5 = passed 5 _ _ g p3.1 in
-        let is = element_is m f g (element f.stack) p5.1 in
-        with_new_stack f g (is.0 ∷ drop 2 f.stack) sf is.3 is.2 (and_from (sane_item is.0) (list_all sane_item (drop 2 f.stack)) (element_sane f.stack is.0 is.1) (all_drop sane_item 2 f.stack sf.stack))
+        let p4 = passed 4 _ _ g p3.1 in
+        let p5 = passed 5 _ _ g p4.1 in
+        let is = element_is f g (element f.stack) p5.1 in
+        with_new_stack f g (is.0 ∷ drop 2 f.stack) sf is.2 (element_low m f.stack is.0 is.1 sf.room) (and_from (sane_item is.0) (list_all sane_item (drop 2 f.stack)) (element_sane f.stack is.0 is.1) (all_drop sane_item 2 f.stack sf.stack))
 
-    room_behind : (form : Form) (s t : List VType) → shuffled form s ≡ Ok t → nat_le (words s + form_adds form) m.max_stack ≡ true → has_room m t ≡ true
-    room_behind form s t is h =
-        let a = shuffled_words form s t is in
-        let b = leb-true (words s + form_adds form) m.max_stack h in
-        le-leb (words t) m.max_stack (omega (arith, a, b))
-
-    loaded_room : (o : Operand) (t : VType) (s : List VType) → size t ≡ size (pushed o) → has_room m (pushed o ∷ s) ≡ true → has_room m (t ∷ s) ≡ true
-    loaded_room o t s e h = let a = leb-true (words (pushed o ∷ s)) m.max_stack h in le-leb (words (t ∷ s)) m.max_stack (omega (arith, a, e))
+    loaded_room : (o : Operand) (t : VType) (s : List VType) → size t ≡ size (pushed o) → has_room m (pushed o ∷ s) ≡ true → words (t ∷ s) ≤ m.max_stack
+    loaded_room o t s e h = let a = leb-true (words (pushed o ∷ s)) m.max_stack h in omega (arith, a, e)
 
     sane_shuffles : (q : ℕ) (form : Form) (f g : Types) → Sane m f → by_row P m q (Shuffles form) f ≡ Ok g → Sane m g
     sane_shuffles q form f g sf e =
         let p3 = passed 3 _ _ g e in
         let p4 = passed 4 _ _ g p3.1 in
         let is = stack_is f g (shuffled form f.stack) p4.1 in
-        with_new_stack f g is.0 sf is.2 (room_behind form f.stack is.0 is.1 p4.0) (all_shuffled sane_item form f.stack is.0 is.1 sf.stack)
+        with_new_stack f g is.0 sf is.2 (form_low m form f.stack is.0 is.1 p4.0 sf.room) (all_shuffled sane_item form f.stack is.0 is.1 sf.stack)
 
     sane_loads : (q : ℕ) (o : Operand) (slot : ℕ) (f g : Types) → Sane m f → Firm P o → by_row P m q (Loads o slot) f ≡ Ok g → Sane m g
     sane_loads q o slot f g sf firm e =
@@ -461,7 +447,7 @@ module _ (fresh : ℕ → Bool) where
         let p5 = passed 5 _ _ g p4.1 in
         let d = drop (length takes) f.stack in
         let p6 = passed_further P before f.stack (constructed P m class gives after d f) g p5.1 in
-        let room = leb-true (words (gives ++ drop (suc (length takes)) f.stack)) m.max_stack p4.0 in
+        let room = given_low m gives f.stack (suc (length takes)) p4.0 sf.room in
         sane_constructed class gives after d f g sf h (all_drop sane_item (length takes) f.stack sf.stack) (subst (λ z. words (gives ++ z) ≤ m.max_stack) (sym (drop_one (length takes) f.stack)) room) p6
 
     sane_leaves : (q : ℕ) (takes : List Operand) (also : List Further) (f g : Types) → Sane m f → by_row P m q (Leaves takes also) f ≡ Ok g → Sane m g

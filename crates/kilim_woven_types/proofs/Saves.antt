@@ -63,17 +63,17 @@ module _ (x : Plan) (W : Program) (w : Method) (whole : Whole x W w) where
 
   pub pop_runs : (cl s : List VType) (t : VType) (rest : List Item) → size t ≡ 1 → is_long t ≡ false → words (t ∷ s) ≤ w.max_stack → Runs x W w whole (state cl s) rest → Runs x W w whole (state cl (t ∷ s)) (added Pop 1 ∷ rest)
   unfolding row jump_targets ends_path
-  pop_runs cl s Top rest z l room r = add.one x W w whole Pop (λ q. 1) false (state cl (Top ∷ s)) (state cl s) rest (λ q. passes 3 _ _ (state cl s) (le-leb 1 (words (Top ∷ s)) (omega arith)) (passes 4 _ _ (state cl s) (le-leb (words (Top ∷ s) + 0) w.max_stack (omega (arith, room))) refl)) tt refl r
-  pop_runs cl s Int rest z l room r = add.one x W w whole Pop (λ q. 1) false (state cl (Int ∷ s)) (state cl s) rest (λ q. passes 3 _ _ (state cl s) (le-leb 1 (words (Int ∷ s)) (omega arith)) (passes 4 _ _ (state cl s) (le-leb (words (Int ∷ s) + 0) w.max_stack (omega (arith, room))) refl)) tt refl r
-  pop_runs cl s Null rest z l room r = add.one x W w whole Pop (λ q. 1) false (state cl (Null ∷ s)) (state cl s) rest (λ q. passes 3 _ _ (state cl s) (le-leb 1 (words (Null ∷ s)) (omega arith)) (passes 4 _ _ (state cl s) (le-leb (words (Null ∷ s) + 0) w.max_stack (omega (arith, room))) refl)) tt refl r
-  pop_runs cl s UninitThis rest z l room r = add.one x W w whole Pop (λ q. 1) false (state cl (UninitThis ∷ s)) (state cl s) rest (λ q. passes 3 _ _ (state cl s) (le-leb 1 (words (UninitThis ∷ s)) (omega arith)) (passes 4 _ _ (state cl s) (le-leb (words (UninitThis ∷ s) + 0) w.max_stack (omega (arith, room))) refl)) tt refl r
-  pop_runs cl s (Uninit p) rest z l room r = add.one x W w whole Pop (λ q. 1) false (state cl (Uninit p ∷ s)) (state cl s) rest (λ q. passes 3 _ _ (state cl s) (le-leb 1 (words (Uninit p ∷ s)) (omega arith)) (passes 4 _ _ (state cl s) (le-leb (words (Uninit p ∷ s) + 0) w.max_stack (omega (arith, room))) refl)) tt refl r
-  pop_runs cl s (Object ty) rest z l room r = add.one x W w whole Pop (λ q. 1) false (state cl (Object ty ∷ s)) (state cl s) rest (λ q. passes 3 _ _ (state cl s) (le-leb 1 (words (Object ty ∷ s)) (omega arith)) (passes 4 _ _ (state cl s) (le-leb (words (Object ty ∷ s) + 0) w.max_stack (omega (arith, room))) refl)) tt refl r
+  pop_runs cl s Top rest z l room r = add.one x W w whole Pop (λ q. 1) false (state cl (Top ∷ s)) (state cl s) rest (λ q. passes 3 _ _ (state cl s) (le-leb 1 (words (Top ∷ s)) (omega arith)) refl) tt refl r
+  pop_runs cl s Int rest z l room r = add.one x W w whole Pop (λ q. 1) false (state cl (Int ∷ s)) (state cl s) rest (λ q. passes 3 _ _ (state cl s) (le-leb 1 (words (Int ∷ s)) (omega arith)) refl) tt refl r
+  pop_runs cl s Null rest z l room r = add.one x W w whole Pop (λ q. 1) false (state cl (Null ∷ s)) (state cl s) rest (λ q. passes 3 _ _ (state cl s) (le-leb 1 (words (Null ∷ s)) (omega arith)) refl) tt refl r
+  pop_runs cl s UninitThis rest z l room r = add.one x W w whole Pop (λ q. 1) false (state cl (UninitThis ∷ s)) (state cl s) rest (λ q. passes 3 _ _ (state cl s) (le-leb 1 (words (UninitThis ∷ s)) (omega arith)) refl) tt refl r
+  pop_runs cl s (Uninit p) rest z l room r = add.one x W w whole Pop (λ q. 1) false (state cl (Uninit p ∷ s)) (state cl s) rest (λ q. passes 3 _ _ (state cl s) (le-leb 1 (words (Uninit p ∷ s)) (omega arith)) refl) tt refl r
+  pop_runs cl s (Object ty) rest z l room r = add.one x W w whole Pop (λ q. 1) false (state cl (Object ty ∷ s)) (state cl s) rest (λ q. passes 3 _ _ (state cl s) (le-leb 1 (words (Object ty ∷ s)) (omega arith)) refl) tt refl r
   pop_runs cl s Long rest z l room r = absurd (cc)
 
   pub pop2_runs : (cl s : List VType) (rest : List Item) → words (Long ∷ s) ≤ w.max_stack → Runs x W w whole (state cl s) rest → Runs x W w whole (state cl (Long ∷ s)) (added Pop2 1 ∷ rest)
   unfolding row jump_targets ends_path
-  pop2_runs cl s rest room r = add.one x W w whole Pop2 (λ q. 1) false (state cl (Long ∷ s)) (state cl s) rest (λ q. passes 3 _ _ (state cl s) (le-leb 2 (words (Long ∷ s)) (omega arith)) (passes 4 _ _ (state cl s) (le-leb (words (Long ∷ s) + 0) w.max_stack (omega (arith, room))) refl)) tt refl r
+  pop2_runs cl s rest room r = add.one x W w whole Pop2 (λ q. 1) false (state cl (Long ∷ s)) (state cl s) rest (λ q. passes 3 _ _ (state cl s) (le-leb 2 (words (Long ∷ s)) (omega arith)) refl) tt refl r
 
   pub object_meets : (ty : Ty) → is_reference (Object ty) ≡ true → meets W (Is (vtype whole.members.object_ty)) (Object ty) ≡ true
   unfolding meets

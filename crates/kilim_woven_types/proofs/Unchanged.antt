@@ -97,8 +97,9 @@ module _ (P W : Program) (m : Method) (assigns : (a b : VType) → assignable P 
       passes 3 _ _ g p3.0 (passes 4 _ _ g p4.0 (passes 5 _ _ g (all_kept takes f.stack p5.0) (further_kept also f.stack _ _ g p5.1 (λ z. z))))
   by_row_kept q Element f g e =
       let p3 = passed 3 _ _ g e in
-      let p5 = passed 5 _ _ g p3.1 in
-      passes 3 _ _ g p3.0 (passes 5 _ _ g (all_kept (Is Int ∷ References ∷ []) f.stack p5.0) p5.1)
+      let p4 = passed 4 _ _ g p3.1 in
+      let p5 = passed 5 _ _ g p4.1 in
+      passes 3 _ _ g p3.0 (passes 4 _ _ g p4.0 (passes 5 _ _ g (all_kept (Is Int ∷ References ∷ []) f.stack p5.0) p5.1))
   by_row_kept q (Shuffles form) f g e = e
   by_row_kept q (Loads o slot) f g e =
       let p4 = passed 4 _ _ g e in
