@@ -1,8 +1,8 @@
 -- What the frames of well-typed code are, in a method that is no constructor.
 use Rattle.std.proofs.Common.{◌≡◌, ◌≢◌, inl, inr, ℕ, zero, suc, ◌+◌, ◌<◌, ◌≤◌, Bool, true, false, List, [], ◌∷◌, ◌++◌, length, drop, Option, Some, None, Result, Ok, Err, refl, sym, ap, subst, ◌∙◌, arith}
-use Rattle.std.specs.Prelude.{◌&&◌, not, nat_le, nat_lt, ◌-◌}
+use Rattle.std.specs.Prelude.{◌&&◌, not, nat_lt, ◌-◌}
 use Rattle.std.specs.List.{list_all}
-use Rattle.std.proofs.lemmas.Bool.{and_parts, and_from, false≢true, leb-true, le-leb}
+use Rattle.std.proofs.lemmas.Bool.{and_parts, and_from, false≢true, leb-true}
 use Rattle.kilim_classes.specs.declared.class.Method.{Method}
 use Rattle.kilim_classes.specs.declared.names.ClassId.{ClassId}
 use Rattle.kilim_classes.specs.declared.ty.Base.{Base}
@@ -12,7 +12,7 @@ use Rattle.kilim_classes.specs.declared.verified.VType.{VType}
 use Rattle.kilim_classes.specs.declared.verified.VType.TheVariants.{Top, Int, Long, Null, UninitThis, Uninit, Object}
 use Rattle.kilim_classes.specs.Program.{Program}
 use Rattle.kilim_classes.specs.Same.{is_constructor}
-use Rattle.kilim_typing.specs.Step.{Types, peek, poke, split_long, split_at, with_half, stored, is_top, is_long, is_same, size, words, vtype, class_vtype, vtype_of_class, result_types, replaced, one_replaced, Operand, Further, further, meets, all_meet, has_room, room_for, Form, Drops, Copies, Swaps, form_room, pushed, shuffled, off, above, then_off, store, element, constructed, Row, Takes, Element, Shuffles, Loads, Stores, Adds, Makes, Constructs, Leaves, by_row}
+use Rattle.kilim_typing.specs.Step.{Types, peek, poke, split_long, split_at, with_half, stored, is_top, is_long, is_same, size, words, vtype, class_vtype, vtype_of_class, result_types, replaced, one_replaced, Operand, Further, further, meets, all_meet, has_room, Form, Drops, Copies, Swaps, pushed, shuffled, off, above, then_off, store, element, constructed, Row, Takes, Element, Shuffles, Loads, Stores, Adds, Makes, Constructs, Leaves, by_row}
 use Rattle.kilim_woven_types.specs.Facts.{is_reference}
 use Rattle.kilim_woven_types.proofs.Moved.{passed}
 use Rattle.kilim_woven_types.proofs.Locals.{same_or, peek_poke, peek_other, peek_replaced}
