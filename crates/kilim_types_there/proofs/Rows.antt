@@ -89,9 +89,10 @@ module _ (t : Ty → Bool) (element_of : (ty : Ty) → t ty ≡ true → t (reco
     held_element : (q : ℕ) (f g : Types) → Held f → by_row P m q Element f ≡ Ok g → Held g
     held_element q f g hf e =
         let p3 = passed 3 _ _ g e in
-        let p5 = passed 5 _ _ g p3.1 in
-        let is = element_is m f g (element f.stack) p5.1 in
-        with_new_stack f g (is.0 ∷ drop 2 f.stack) hf is.3 (and_from (holds is.0) (list_all holds (drop 2 f.stack)) (element_holds f.stack is.0 hf.stack is.1) (all_drop fresh holds 2 f.stack hf.stack))
+        let p4 = passed 4 _ _ g p3.1 in
+        let p5 = passed 5 _ _ g p4.1 in
+        let is = element_is f g (element f.stack) p5.1 in
+        with_new_stack f g (is.0 ∷ drop 2 f.stack) hf is.2 (and_from (holds is.0) (list_all holds (drop 2 f.stack)) (element_holds f.stack is.0 hf.stack is.1) (all_drop fresh holds 2 f.stack hf.stack))
 
     held_shuffles : (q : ℕ) (form : Form) (f g : Types) → Held f → by_row P m q (Shuffles form) f ≡ Ok g → Held g
     held_shuffles q form f g hf e =
