@@ -12,11 +12,11 @@ use Rattle.kilim_classes.specs.declared.verified.VType.{VType}
 use Rattle.kilim_classes.specs.declared.verified.VType.TheVariants.{Top, Int, Long, Null, UninitThis, Uninit, Object}
 use Rattle.kilim_classes.specs.Lengths.{ends_path, is_code_place}
 use Rattle.kilim_classes.specs.Program.{Program}
-use Rattle.kilim_typing.specs.Step.{Types, Operand, Row, Takes, Element, Shuffles, Loads, Stores, Adds, Makes, Constructs, Leaves, Further, Form, form_adds, has_room, is_same, one_replaced, peek, pushed, size, replaced, stored, class_vtype, by_row, row, with_stack, with_element, element, shuffled, store, constructed, words}
+use Rattle.kilim_typing.specs.Step.{Types, Operand, Row, Takes, Element, Shuffles, Loads, Stores, Adds, Makes, Constructs, Leaves, Further, Form, form_room, has_room, room_for, is_same, one_replaced, peek, pushed, size, replaced, stored, class_vtype, by_row, row, with_stack, with_element, element, shuffled, store, constructed, words}
 use Rattle.kilim_typing.specs.Typed.{Here, TypedBy, WellTypedBy, declared, entry, frame_fits, frame_in, frame_types, goes_on}
 use Rattle.kilim_typing_laws.proofs.Tops.{passed, past}
 use Rattle.kilim_woven_types.proofs.Crux.{FirmRow}
-use Rattle.kilim_woven_types.proofs.Forms.{shuffled_words, words_append}
+use Rattle.kilim_woven_types.proofs.Forms.{form_low, given_low, element_low, words_append}
 use Rattle.kilim_woven_types.proofs.Old.{firm_row}
 
 -- ---- words
@@ -60,15 +60,13 @@ stack_is : (f g : Types) (n : ℕ) → (let r : Result Types ℕ = Ok f in r) �
 stack_is f g n e few = subst (λ (z : Types). words z.stack ≤ n) (let is : f ≡ g = cc in is) few
 
 module _ (p : Program) (m : Method) where
-  form_low : (form : Form) (f g : Types) (r : Result (List VType) ℕ) → shuffled form f.stack ≡ r → with_stack f r ≡ Ok g → words f.stack + form_adds form ≤ m.max_stack → words g.stack ≤ m.max_stack
-  form_low form f g (Ok s) is e few = stack_is (record f { stack = s }) g m.max_stack e (let low = shuffled_words form f.stack s is in omega (arith, low, few))
-  form_low form f g (Err r) is e few = absurd (cc)
+  shuffled_low : (form : Form) (f g : Types) (r : Result (List VType) ℕ) → shuffled form f.stack ≡ r → with_stack f r ≡ Ok g → form_room m form (words f.stack) ≡ true → words f.stack ≤ m.max_stack → words g.stack ≤ m.max_stack
+  shuffled_low form f g (Ok s) is e room few = stack_is (record f { stack = s }) g m.max_stack e (form_low m form f.stack s is room few)
+  shuffled_low form f g (Err r) is e room few = absurd (cc)
 
-  element_low : (f g : Types) (r : Result VType ℕ) → with_element m f r ≡ Ok g → words g.stack ≤ m.max_stack
-  element_low f g (Ok t) e =
-      let one = passed 4 (has_room m (t ∷ drop 2 f.stack)) _ g e in
-      stack_is (record f { stack = t ∷ drop 2 f.stack }) g m.max_stack one.1 (leb-true (words (t ∷ drop 2 f.stack)) m.max_stack one.0)
-  element_low f g (Err r) e = absurd (cc)
+  loaded_low : (f g : Types) (r : Result VType ℕ) → element f.stack ≡ r → with_element f r ≡ Ok g → words f.stack ≤ m.max_stack → words g.stack ≤ m.max_stack
+  loaded_low f g (Ok t) is e few = stack_is (record f { stack = t ∷ drop 2 f.stack }) g m.max_stack e (element_low m f.stack t is few)
+  loaded_low f g (Err r) is e few = absurd (cc)
 
   store_low : (o : Operand) (slot : ℕ) (s : List VType) (f g : Types) → store p m o slot s f ≡ Ok g → words s ≤ m.max_stack → words g.stack ≤ m.max_stack
   store_low o slot [] f g e few = absurd (cc)
@@ -102,17 +100,18 @@ module _ (p : Program) (m : Method) where
   by_row_low : (at : ℕ) (r : Row) (f g : Types) → FirmRow p r → by_row p m at r f ≡ Ok g → words f.stack ≤ m.max_stack → words g.stack ≤ m.max_stack
   by_row_low at (Takes takes gives also) f g firm e few =
       let one = passed 3 _ _ g e in
-      let two = passed 4 (has_room m (gives ++ drop (length takes) f.stack)) _ g one.1 in
+      let two = passed 4 (room_for m gives (drop (length takes) f.stack)) _ g one.1 in
       let three = passed 5 _ _ g two.1 in
-      stack_is _ g m.max_stack (past p also f.stack _ g three.1) (leb-true (words (gives ++ drop (length takes) f.stack)) m.max_stack two.0)
+      stack_is _ g m.max_stack (past p also f.stack _ g three.1) (given_low m gives f.stack (length takes) two.0 few)
   by_row_low at Element f g firm e few =
       let one = passed 3 _ _ g e in
-      let two = passed 5 _ _ g one.1 in
-      element_low f g (element f.stack) two.1
+      let two = passed 4 (has_room m (Null ∷ drop 2 f.stack)) _ g one.1 in
+      let three = passed 5 _ _ g two.1 in
+      loaded_low f g (element f.stack) refl three.1 few
   by_row_low at (Shuffles form) f g firm e few =
       let one = passed 3 _ _ g e in
-      let two = passed 4 (nat_le (words f.stack + form_adds form) m.max_stack) _ g one.1 in
-      form_low form f g (shuffled form f.stack) refl two.1 (leb-true (words f.stack + form_adds form) m.max_stack two.0)
+      let two = passed 4 (form_room m form (words f.stack)) _ g one.1 in
+      shuffled_low form f g (shuffled form f.stack) refl two.1 two.0 few
   by_row_low at (Loads o slot) f g firm e few =
       let one = passed 4 (has_room m (pushed o ∷ f.stack)) _ g e in
       let two = passed 6 _ _ g one.1 in
@@ -128,10 +127,10 @@ module _ (p : Program) (m : Method) where
       stack_is (record f { locals = replaced (Uninit at) Top f.locals; stack = Uninit at ∷ f.stack }) g m.max_stack three.1 (leb-true (words (Uninit at ∷ f.stack)) m.max_stack one.0)
   by_row_low at (Constructs takes gives class before after) f g firm e few =
       let one = passed 3 _ _ g e in
-      let two = passed 4 (has_room m (gives ++ drop (suc (length takes)) f.stack)) _ g one.1 in
+      let two = passed 4 (room_for m gives (drop (suc (length takes)) f.stack)) _ g one.1 in
       let three = passed 5 _ _ g two.1 in
       constructed_low class gives after (drop (length takes) f.stack) (drop (suc (length takes)) f.stack) f g (past p before f.stack _ g three.1) (λ t us is. sym (drop_more (length takes) f.stack us t is))
-      (leb-true (words (gives ++ drop (suc (length takes)) f.stack)) m.max_stack two.0)
+      (given_low m gives f.stack (suc (length takes)) two.0 few)
   by_row_low at (Leaves takes also) f g firm e few =
       let one = passed 3 _ _ g e in
       let two = passed 5 _ _ g one.1 in
