@@ -286,8 +286,8 @@ module _ (p : Program) (m : Method) where
   with_stack_back f g (Ok s) k e n = locals_were (record f { stack = s }) g k e n
   with_stack_back f g (Err rule) k e n = absurd (cc)
 
-  element_back : (f g : Types) (r : Result VType ℕ) (k : ℕ) → with_element m f r ≡ Ok g → IsNumber g.locals k → IsNumber f.locals k
-  element_back f g (Ok t) k e n = locals_were (record f { stack = t ∷ drop 2 f.stack }) g k (passed 4 _ _ g e).1 n
+  element_back : (f g : Types) (r : Result VType ℕ) (k : ℕ) → with_element f r ≡ Ok g → IsNumber g.locals k → IsNumber f.locals k
+  element_back f g (Ok t) k e n = locals_were (record f { stack = t ∷ drop 2 f.stack }) g k e n
   element_back f g (Err rule) k e n = absurd (cc)
 
   -- what a store leaves of another local, and of its own where no number is stored
@@ -337,8 +337,9 @@ module _ (p : Program) (m : Method) where
       locals_were _ g k (past p also f.stack _ g three.1) n
   by_row_back at Element f g k e w n =
       let one = passed 3 _ _ g e in
-      let two = passed 5 _ _ g one.1 in
-      element_back f g (element f.stack) k two.1 n
+      let two = passed 4 _ _ g one.1 in
+      let three = passed 5 _ _ g two.1 in
+      element_back f g (element f.stack) k three.1 n
   by_row_back at (Shuffles form) f g k e w n =
       let one = passed 3 _ _ g e in
       let two = passed 4 _ _ g one.1 in
