@@ -121,8 +121,8 @@ module _ (p : Program) (m : Method) (ls ks s : List VType) (u v : Bool) (agree :
   with_stack_agree (Ok t) = agree_with _ _ agree refl
   with_stack_agree (Err n) = none_left _ _
 
-  element_agree : (r : Result VType ℕ) → AgreeLeft (with_element m one r) (with_element m two r)
-  element_agree (Ok t) = rule_agree 4 _ _ _ (agree_with _ _ (agree) refl)
+  element_agree : (r : Result VType ℕ) → AgreeLeft (with_element one r) (with_element two r)
+  element_agree (Ok t) = agree_with _ _ (agree) refl
   element_agree (Err n) = none_left _ _
 
   store_agree : (o : Operand) (j : ℕ) (stack : List VType) → AgreeLeft (store p m o j stack one) (store p m o j stack two)
@@ -143,7 +143,7 @@ module _ (p : Program) (m : Method) (ls ks s : List VType) (u v : Bool) (agree :
 
   pub row_agree : (at : ℕ) (r : Row) → row_leaves r ≡ false → AgreeLeft (by_row p m at r one) (by_row p m at r two)
   row_agree at (Takes takes gives also) w = rule_agree 3 _ _ _ (rule_agree 4 _ _ _ (rule_agree 5 _ _ _ (further_agree p also s _ _ (agree_with _ _ (agree) refl))))
-  row_agree at Element w = rule_agree 3 _ _ _ (rule_agree 5 _ _ _ (element_agree (element s)))
+  row_agree at Element w = rule_agree 3 _ _ _ (rule_agree 4 _ _ _ (rule_agree 5 _ _ _ (element_agree (element s))))
   row_agree at (Shuffles form) w = rule_agree 3 _ _ _ (rule_agree 4 _ _ _ (with_stack_agree (shuffled form s)))
   row_agree at (Loads o j) w = subst (λ (t : VType). AgreeLeft (loaded p m o j (peek ls j) one) (loaded p m o j t two)) (agree j) (rule_agree 4 _ _ _ (rule_agree 6 _ _ _ (agree_with _ _ (agree) refl)))
   row_agree at (Stores o j) w = store_agree o j s
