@@ -191,8 +191,7 @@ module _ (P : Program) (keeps : Keeps P) (plainly : P.form ≡ Plain) where
 missing_fails : (P : Program) (m : Method) (q : ℕ) (f g : Types) → by_row P m q missing f ≡ Ok g → ⊥
 missing_fails P m q f g h =
     let p3 = passed 3 _ _ g h in
-    let p4 = passed 4 _ _ g p3.1 in
-    let p8 = passed 8 false (Ok f) g p4.1 in
+    let p8 = passed 8 false (Ok f) g p3.1 in
     let x : false ≡ true = p8.0 in
     absurd (false≢true x)
 
