@@ -158,8 +158,8 @@ module _ (p : Program) (id : MethodId) (m : Method) (typing : ℕ → Types) whe
         )
 
 module _ (t : TypedProgram) (keeps : Keeps t.program) (typed : KeepsTyped t) (none : pausing_reports t ≡ []) where
-  reports_none : (id : MethodId) (m : Method) → method_at t.program id ≡ Some m → reports_along t.program id m m.code (map (listed m) (frames_of t.program m)) ≡ []
-  reports_none id m at =
+  all_none : (id : MethodId) (m : Method) → method_at t.program id ≡ Some m → method_reports t.program id m (map (listed m) (frames_of t.program m)) ≡ []
+  all_none id m at =
       let c = get_some t.program.classes m.owner.0 (ltb-true m.owner.0 (length t.program.classes) (owner_there t.program keeps id m at)) in
       let among = among_classes t.program.classes m.owner.0 c.0 id c.1 (owner_has t.program keeps id m at c.0 c.1) in
       let of_it : reports_of t id ≡ [] = flat_none (reports_of t) (all_methods t.program) id none among in
@@ -168,7 +168,15 @@ module _ (t : TypedProgram) (keeps : Keeps t.program) (typed : KeepsTyped t) (no
       ∙ ap (λ (o : Option (List Frame)). elim o [ None ↦ [] | Some gs ↦ gs ]) (map_at (λ (m : Method). map (listed m) (frames_of t.program m)) t.program.methods id.0 m at) in
       let told : method_reports t.program id m (frames_at t id) ≡ [] =
       sym (ap (λ (o : Option Method). elim o [ None ↦ [] | Some m ↦ method_reports t.program id m (frames_at t id) ]) at) ∙ of_it in
-      sym (ap (reports_along t.program id m m.code) frames) ∙ rest_none (report_if (has_free_receiver m) id 0 8) (reports_along t.program id m m.code (frames_at t id)) told
+      sym (ap (method_reports t.program id m) frames) ∙ told
+
+  -- no pausable method has a free receiver
+  pub none_free : (id : MethodId) (m : Method) → method_at t.program id ≡ Some m → has_free_receiver m ≡ false
+  none_free id m at =
+      report_none (has_free_receiver m) id 0 8 (front_none (report_if (has_free_receiver m) id 0 8) (reports_along t.program id m m.code (map (listed m) (frames_of t.program m))) (all_none id m at))
+
+  reports_none : (id : MethodId) (m : Method) → method_at t.program id ≡ Some m → reports_along t.program id m m.code (map (listed m) (frames_of t.program m)) ≡ []
+  reports_none id m at = rest_none (report_if (has_free_receiver m) id 0 8) (reports_along t.program id m m.code (map (listed m) (frames_of t.program m))) (all_none id m at)
 
   agree : (id : MethodId) (m : Method) → method_at t.program id ≡ Some m → Agree t.program m (typing_of t.program m) m.code (frames_of t.program m)
   unfolding typing_of code_is_whole
