@@ -1,8 +1,8 @@
 -- Attributes, members and files over a pool that grows.
-use Rattle.std.proofs.Common.{◌≡◌, ◌<◌, ◌^◌, ℕ, List, [], length, Ok, refl}
+use Rattle.std.proofs.Common.{ℕ, List, [], refl}
 use Rattle.std.specs.List.{AllByRecursion}
 use Rattle.kilim_constant_pool.specs.declared.entry.Entry.{Entry}
-use Rattle.kilim_constant_pool.specs.Entries.{entry_at, is_class, is_utf8}
+use Rattle.kilim_constant_pool.specs.Entries.{is_class, is_utf8}
 use Rattle.kilim_constant_pool.specs.Spelling.{PoolFits}
 use Rattle.kilim_attribute_parts.specs.declared.annotation.PartKind.TheVariants.{AnnotationList, ParameterCount}
 use Rattle.kilim_attribute_parts.specs.declared.index.EntryKind.TheVariants.{CatchType, Class, Constant}

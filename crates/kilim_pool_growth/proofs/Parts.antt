@@ -1,5 +1,5 @@
 -- Parts of attributes over a pool that grows.
-use Rattle.std.proofs.Common.{◌≡◌, ◌==◌, ℕ, ◌<◌, ◌^◌, ◌++◌, Bool, true, false, cond, List, [], ◌∷◌, length, Option, Some, None, Result, Ok, Err, refl, sym, ap, ◌∙◌}
+use Rattle.std.proofs.Common.{◌≡◌, ◌==◌, ℕ, ◌++◌, Bool, true, false, cond, List, [], ◌∷◌, Option, Some, None, Ok, refl, sym, ap, ◌∙◌}
 use Rattle.std.specs.List.{AllByRecursion}
 use Rattle.kilim_constant_pool.specs.declared.entry.Entry.{Entry}
 use Rattle.kilim_constant_pool.specs.Entries.{entry_at}
@@ -7,7 +7,6 @@ use Rattle.kilim_attribute_parts.specs.declared.annotation.AnnotationPart.{Annot
 use Rattle.kilim_attribute_parts.specs.declared.annotation.AnnotationPart.TheVariants.{Parameters, Annotations, Annotation, ElementName, Constant, EnumConstant, Class, Nested, Array}
 use Rattle.kilim_attribute_parts.specs.declared.annotation.PartKind.{PartKind}
 use Rattle.kilim_attribute_parts.specs.declared.annotation.PartKind.TheVariants.{ParameterCount, AnnotationList, OneAnnotation, Pair, Value}
-use Rattle.kilim_attribute_parts.specs.declared.fault.AttributeFault.{AttributeFault}
 use Rattle.kilim_attribute_parts.specs.declared.frame.Frame.{Frame}
 use Rattle.kilim_attribute_parts.specs.declared.frame.Frame.TheVariants.{Same, SameLocals1StackItem, SameLocals1StackItemExtended, Chop, SameExtended, Append, Full}
 use Rattle.kilim_attribute_parts.specs.declared.frame.VerificationType.{VerificationType}

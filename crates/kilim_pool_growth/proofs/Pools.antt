@@ -4,7 +4,7 @@ use Rattle.std.specs.List.{AllByRecursion, position_from}
 use Rattle.std.proofs.lemmas.Iterator.Adapters.{position_from-zero}
 use Rattle.kilim_constant_pool.specs.declared.entry.Entry.{Entry}
 use Rattle.kilim_constant_pool.specs.declared.entry.Entry.TheVariants.{Utf8, Integer, Float, Long, Double, Class, String, Fieldref, Methodref, InterfaceMethodref, NameAndType, MethodHandle, MethodType, InvokeDynamic}
-use Rattle.kilim_constant_pool.specs.Entries.{count_of, entry_at, first_bad, is_bad, is_class, is_fieldref, is_handled, is_interface_methodref, is_member, is_methodref, is_name_and_type, is_utf8, is_wide, refers_well, slot, slots_of, slots_of_entry}
+use Rattle.kilim_constant_pool.specs.Entries.{count_of, entry_at, first_bad, is_bad, is_class, is_handled, is_member, is_name_and_type, is_utf8, is_wide, refers_well, slot, slots_of}
 use Rattle.kilim_constant_pool.specs.Spelling.{EntryFits, PoolFits}
 use Rattle.kilim_constant_pool.proofs.SlotLaws.{slots-append}
 use Rattle.kilim_pool_growth.specs.Growth.{CanFollow, Extends, Grows}
