@@ -17,6 +17,7 @@ use Rattle.kilim_exchange.specs.Board.{Board, lent_of, ready_of, parked_of, plac
 use Rattle.kilim_exchange.specs.Mailboxes.{SameMails, Tree, Post, Mail}
 use Rattle.kilim_exchange.specs.Seen.{GiveAnswers, gives_at}
 use Rattle.kilim_exchange.specs.declared.board.Waiter.{Waiter}
+use Rattle.kilim_exchange.specs.Parked.{StandsBehind}
 use Rattle.kilim_exchange.proofs.Places.{both_ways, front, stood_shuffled, only_there, is_alive as front_alive, lent, given_back, parked, acts, puts, wakes, ended, comes, fewer_messages, unseen, at_rest, same_name, one_box, box_itself, front_no}
 use Rattle.kilim_lemmas.proofs.Lists.{set_there, set_length, get_front, get_last}
 use Rattle.kilim_exchange.proofs.Lists.{get_set_other, get_past, got_within, length_pushed}
@@ -66,6 +67,13 @@ gives_none b b' seat f w is gives = subst (λ x. GiveAnswers b seat b' f x) (sym
 all_pushed : {A : Type 0} (P : A → Type 0) (xs : List A) (y : A) → AllByRecursion P xs → P y → AllByRecursion P (xs ++ y ∷ [])
 all_pushed P [] y all py = (py, tt)
 all_pushed P (x ∷ xs) y all py = (all.0, all_pushed P xs y all.1 py)
+
+all_among : {A : Type 0} (P : A → Type 0) (xs ys : List A) (y : A) → AllByRecursion P (xs ++ ys) → P y → AllByRecursion P (xs ++ y ∷ ys)
+all_among P [] ys y all py = (py, all)
+all_among P (x ∷ xs) ys y all py = (all.0, all_among P xs ys y all.1 py)
+
+all_behind : {F : Type 0} (P : Waiter F → Type 0) (w : Waiter F) (ws ws' : List (Waiter F)) → StandsBehind w ws ws' → AllByRecursion P ws → P w → AllByRecursion P ws'
+all_behind P w ws ws' s all one = subst (AllByRecursion P) (sym s.is) (all_among P s.before s.after w (subst (AllByRecursion P) s.was all) one)
 
 bit_none : (b : Bool) → bit b ≡ 0 → b ≡ false
 bit_none true e = absurd (omega arith)
@@ -240,9 +248,9 @@ module _ {F : Type 0} (task : F → ℕ) (course : F → Course) (holds : Settin
     }
 
     -- the lent fiber is parked
-    pub back_parked : (f : F) (box : BoxName) → task f ≡ t → Own st.state.books.courses f → is_at (stands t) box ≡ true → messages box ≡ 0 →
-        Stand (without_cell b seat b.ready (b.parked ++ record { mailbox = box; fiber = f } ∷ []))
-    back_parked f box same own at-it empty = record {
+    pub back_parked : (f : F) (box : BoxName) (parked' : List (Waiter F)) → StandsBehind (record { mailbox = box; fiber = f }) b.parked parked' → task f ≡ t → Own st.state.books.courses f → is_at (stands t) box ≡ true → messages box ≡ 0 →
+        Stand (without_cell b seat b.ready parked')
+    back_parked f box parked' behind same own at-it empty = record {
       state = st.state;
       replay = st.replay;
       tasks = st.tasks;
@@ -250,11 +258,11 @@ module _ {F : Type 0} (task : F → ℕ) (course : F → Course) (holds : Settin
       there = st.there;
       alive = st.alive;
       found = st.found;
-      stood = stood_shuffled st.there stands messages (record { spot = Parked box; task = task f } ∷ others) (places_of task b.ready cells (b.parked ++ record { mailbox = box; fiber = f } ∷ []))
-          (at_mailbox task b.ready cells b.parked (record { mailbox = box; fiber = f }))
+      stood = stood_shuffled st.there stands messages (record { spot = Parked box; task = task f } ∷ others) (places_of task b.ready cells parked')
+          (at_mailbox task b.ready cells b.parked parked' (record { mailbox = box; fiber = f }) behind)
           (subst (λ u. Stood st.there stands messages (record { spot = Parked box; task = u } ∷ others)) (sym same) (parked st.there stands messages t box others at-it empty lent_front));
       ready = st.ready;
-      parked = all_pushed (λ (w : Waiter F). Own st.state.books.courses w.fiber) b.parked (record { mailbox = box; fiber = f }) st.parked own;
+      parked = all_behind (λ (w : Waiter F). Own st.state.books.courses w.fiber) (record { mailbox = box; fiber = f }) b.parked parked' behind st.parked own;
     }
 
     -- the task is in no place any more, and the board is stopped

@@ -92,9 +92,9 @@ module _ {F : Type 0} (task : F → ℕ) (course : F → Course) (holds : Settin
       let where-it-is : stands_in set st.state.lones (task f) ≡ Some box = ap (λ (o : Option Lone). elim o [ None ↦ None | Some x ↦ stands_at set (task f) x ]) l.1 ∙ (ap (stands_at set (task f)) (sym same) ∙ stands-there) in
       let at-it : is_at (stands_in set st.state.lones (task f)) box ≡ true = ap (λ o. is_at o box) where-it-is ∙ box_itself box in
       let none : to_serve b.stopped st.state.books.mailboxes box ≡ 0 = to_serve_empty b.stopped st.state.books.mailboxes box (queue_empty set.program (b.mails box).queue (st.state.books.mailboxes box).queue (st.mails box).queue empty) in
-      let b1 : Board F = record { journal = b.journal; tasks = b.tasks; ready = b.ready; parked = b.parked ++ record { mailbox = box; fiber = f } ∷ []; cells = slice_set b.cells seat None; mails = b.mails; stopped = b.stopped } in
-      let st1 : Stand b1 = back_parked task course holds set b st seat (task f) lent f box refl (own_of b st f stands at) at-it none in
-      same_board task course holds set b1 b' parks.run.journal parks.run.tasks parks.ready parks.parked parks.cells parks.run.mails parks.stopped st1
+      let b1 : Board F = record { journal = b.journal; tasks = b.tasks; ready = b.ready; parked = b'.parked; cells = slice_set b.cells seat None; mails = b.mails; stopped = b.stopped } in
+      let st1 : Stand b1 = back_parked task course holds set b st seat (task f) lent f box b'.parked parks.parked refl (own_of b st f stands at) at-it none in
+      same_board task course holds set b1 b' parks.run.journal parks.run.tasks parks.ready refl parks.cells parks.run.mails parks.stopped st1
 
   pub stops_stands : (b b' : Board F) (seat t : ℕ) → slice_get b.cells seat ≡ Some (Some t) → Stops b seat b' → Stand b → Stand b'
   stops_stands b b' seat t lent stops st =

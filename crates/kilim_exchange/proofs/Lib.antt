@@ -5,6 +5,7 @@ pub mod Allowed
 pub mod Replays
 pub mod Seats
 pub mod WaitLists
+pub mod Waiting
 pub mod Deeds
 pub mod Boards
 pub mod Calls

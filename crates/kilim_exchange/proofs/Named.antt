@@ -31,7 +31,7 @@ eq_both Equal p = refl
 eq_both Greater p = refl
 
 -- the key of a name is found exactly by that name
-key_is : (name box : BoxName) → is_eq (key_cmp (name.task, name.number) (box.task, box.number)) ≡ same_box box name
+pub key_is : (name box : BoxName) → is_eq (key_cmp (name.task, name.number) (box.task, box.number)) ≡ same_box box name
 key_is name box =
     eq_both (nat_cmp name.task box.task) (nat_cmp name.number box.number)
     ∙ (ap (λ b. b && is_eq (nat_cmp name.number box.number)) (eq_number name.task box.task)

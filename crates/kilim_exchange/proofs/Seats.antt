@@ -3,12 +3,13 @@ use Rattle.std.proofs.Common.{◌≡◌, ℕ, zero, suc, ◌+◌, ◌<◌, ◌�
 use Rattle.std.specs.Prelude.{length, slice_get, slice_set, count_by, IsPermutation}
 use Rattle.std.specs.List.{AllByRecursion}
 use Rattle.std.proofs.lemmas.List.Sums.{sum_by-append}
-use Rattle.std.proofs.lemmas.List.Sorted.{IsPermutation-refl, IsPermutation-sym, IsPermutation-trans, IsPermutation-cons, IsPermutation-middle, IsPermutation-append_left, IsPermutation-append_right, IsPermutation-to_front}
+use Rattle.std.proofs.lemmas.List.Sorted.{IsPermutation-refl, IsPermutation-sym, IsPermutation-trans, IsPermutation-cons, IsPermutation-middle, IsPermutation-append_left, IsPermutation-append_right}
 use Rattle.kilim_classes.specs.declared.names.BoxName.{BoxName}
 use Rattle.kilim_thread_model.specs.State.{same_box}
 use Rattle.kilim_exchange.specs.Places.{Ready, Lent, Parked, Place, is_parked_at}
 use Rattle.kilim_exchange.specs.Board.{lent_of, ready_of, parked_of, places_of, woken}
 use Rattle.kilim_exchange.specs.declared.board.Waiter.{Waiter}
+use Rattle.kilim_exchange.specs.Parked.{StandsBehind}
 use Rattle.std.specs.Prelude.{if◌then◌else◌}
 use Rattle.kilim_exchange.proofs.Places.{both_ways, front}
 
@@ -123,15 +124,22 @@ module _ {F : Type 0} (task : F → ℕ) where
       ap (λ l. l ++ (lent_of cells ++ parked_of task parked)) (ready_pushed ready f) ∙ pushed_append (ready_of task ready) (ready_place (task f)) (lent_of cells ++ parked_of task parked) in
       IsPermutation-sym _ _ (subst (λ l. IsPermutation l (ready_place (task f) ∷ places_of task ready cells parked)) (sym e) (IsPermutation-middle (ready_of task ready) (ready_place (task f)) (lent_of cells ++ parked_of task parked)))
 
-  parked_pushed : (ws : List (Waiter F)) (w : Waiter F) → parked_of task (ws ++ w ∷ []) ≡ parked_of task ws ++ parked_place w.mailbox (task w.fiber) ∷ []
-  parked_pushed [] w = refl
-  parked_pushed (v ∷ vs) w = ap (λ l. parked_place v.mailbox (task v.fiber) ∷ l) (parked_pushed vs w)
+  parked_apart : (ws vs : List (Waiter F)) → parked_of task (ws ++ vs) ≡ parked_of task ws ++ parked_of task vs
+  parked_apart [] vs = refl
+  parked_apart (w ∷ ws) vs = ap (λ l. parked_place w.mailbox (task w.fiber) ∷ l) (parked_apart ws vs)
 
-  pub at_mailbox : (ready : List F) (cells : List (Option ℕ)) (parked : List (Waiter F)) (w : Waiter F) →
-      IsPermutation (parked_place w.mailbox (task w.fiber) ∷ places_of task ready cells parked) (places_of task ready cells (parked ++ w ∷ []))
-  at_mailbox ready cells parked w =
-      IsPermutation-sym _ _ (front_last (parked_place w.mailbox (task w.fiber)) ready (lent_of cells) (parked_of task (parked ++ w ∷ [])) (parked_of task parked)
-      (subst (λ l. IsPermutation l (parked_place w.mailbox (task w.fiber) ∷ parked_of task parked)) (sym (parked_pushed parked w)) (IsPermutation-to_front (parked_of task parked) (parked_place w.mailbox (task w.fiber)))))
+  -- wherever it stands among them
+  one_more : (w : Waiter F) (ws ws' : List (Waiter F)) → StandsBehind w ws ws' → IsPermutation (parked_of task ws') (parked_place w.mailbox (task w.fiber) ∷ parked_of task ws)
+  one_more w ws ws' s =
+      let here : Place = parked_place w.mailbox (task w.fiber) in
+      let now : parked_of task ws' ≡ parked_of task s.before ++ here ∷ parked_of task s.after = ap (parked_of task) s.is ∙ parked_apart s.before (w ∷ s.after) in
+      let old : parked_of task ws ≡ parked_of task s.before ++ parked_of task s.after = ap (parked_of task) s.was ∙ parked_apart s.before s.after in
+      subst (λ l. IsPermutation (parked_of task ws') (here ∷ l)) (sym old) (subst (λ l. IsPermutation l (here ∷ (parked_of task s.before ++ parked_of task s.after))) (sym now) (IsPermutation-middle (parked_of task s.before) here (parked_of task s.after)))
+
+  pub at_mailbox : (ready : List F) (cells : List (Option ℕ)) (parked parked' : List (Waiter F)) (w : Waiter F) → StandsBehind w parked parked' →
+      IsPermutation (parked_place w.mailbox (task w.fiber) ∷ places_of task ready cells parked) (places_of task ready cells parked')
+  at_mailbox ready cells parked parked' w s =
+      IsPermutation-sym _ _ (front_last (parked_place w.mailbox (task w.fiber)) ready (lent_of cells) (parked_of task parked') (parked_of task parked) (one_more w parked parked' s))
 
   -- ---- the first that waits at a mailbox
 

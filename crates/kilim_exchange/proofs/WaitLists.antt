@@ -6,7 +6,7 @@ use Rattle.std.proofs.lemmas.Bool.Decides.{nat_tests}
 use Rattle.kilim_classes.specs.declared.names.BoxName.{BoxName}
 use Rattle.kilim_thread_model.specs.State.{same_box}
 use Rattle.kilim_exchange.specs.declared.board.Waiter.{Waiter}
-use Rattle.kilim_exchange.specs.Board.{woken, ready_after, parked_after}
+use Rattle.kilim_exchange.specs.Board.{woken}
 use Rattle.kilim_exchange.specs.Seen.{waiter_index}
 use Rattle.kilim_exchange.proofs.Places.{both_ways}
 
@@ -81,13 +81,5 @@ module _ {F : Type 0} where
     | inr other ↦ ap (picked q qs (woken box qs)) other ∙ ap (λ o. picked q qs o false) (woken_none qs box (shifted_none (waiter_index qs box) (sym (shifted_is (waiter_index qs box)) ∙ (sym (ap (after_first (waiter_index qs box)) other) ∙ is))))
   ]
 
-  pub wakes_ready : (ready ready' : List F) (ws : List (Waiter F)) (box : BoxName) (i : ℕ) (w : Waiter F) → waiter_index ws box ≡ Some i → w ≡ get_or ws i w → ready' ≡ ready ++ w.fiber ∷ [] → ready' ≡ ready_after ready (woken box ws)
-  wakes_ready ready ready' ws box i w is got e =
-      let h : woken box ws ≡ Some (w, remove ws i) = woken_at ws box i w is ∙ ap (λ (x : Waiter F). Some (x, remove ws i)) (sym got) in
-      e ∙ sym (ap (ready_after ready) h)
-
-  pub wakes_parked : (ws ws' : List (Waiter F)) (box : BoxName) (i : ℕ) (w : Waiter F) → waiter_index ws box ≡ Some i → ws' ≡ remove ws i → ws' ≡ parked_after ws (woken box ws)
-  wakes_parked ws ws' box i w is e = e ∙ sym (ap (parked_after ws) (woken_at ws box i w is))
-
-  pub wakes_nobody : (ready : List F) (ws : List (Waiter F)) (box : BoxName) → waiter_index ws box ≡ None → (ready ≡ ready_after ready (woken box ws)) × (ws ≡ parked_after ws (woken box ws))
-  wakes_nobody ready ws box is = (sym (ap (ready_after ready) (woken_none ws box is)), sym (ap (parked_after ws) (woken_none ws box is)))
+  pub taken_first : (ws ws' : List (Waiter F)) (box : BoxName) (i : ℕ) (w : Waiter F) → waiter_index ws box ≡ Some i → w ≡ get_or ws i w → ws' ≡ remove ws i → woken box ws ≡ Some (w, ws')
+  taken_first ws ws' box i w is got e = woken_at ws box i w is ∙ (ap (λ (x : Waiter F). Some (x, remove ws i)) (sym got) ∙ ap (λ l. Some (w, l)) (sym e))

@@ -13,6 +13,7 @@ use Rattle.kilim_thread_model.specs.Runs.{wait_entry}
 use Rattle.kilim_exchange.specs.declared.board.Waiter.{Waiter}
 use Rattle.kilim_exchange.specs.Places.{Ready, Lent, Parked, Place, Stood}
 use Rattle.kilim_exchange.specs.Mailboxes.{Tree, Mail, Post, SameMails}
+use Rattle.kilim_exchange.specs.Parked.{StandsBehind}
 use Rattle.kilim_fibers.specs.Wishes.{IsMessage}
 use Rattle.kilim_fibers.specs.Fibers.{StandsFor}
 use Rattle.kilim_thread_model.specs.Lone.{Lone}
@@ -27,7 +28,7 @@ pub record Board (F : Type 0) : Type 0 where
   pub tasks : ℕ
   -- the fibers that are ready, the first to be lent in front
   pub ready : List F
-  -- those that wait at a mailbox, in the order in which they came
+  -- those that wait at a mailbox, of each mailbox the first that came in front
   pub parked : List (Waiter F)
   -- the task that is lent to each seat
   pub cells : List (Option ℕ)
@@ -155,7 +156,7 @@ pub record GivesBack {F : Type 0} (b : Board F) (seat : ℕ) (b' : Board F) (f :
 pub record Parks {F : Type 0} (b : Board F) (seat : ℕ) (b' : Board F) (f : F) (box : BoxName) : Type 0 where
   pub run : SameRun b b'
   pub ready : b'.ready ≡ b.ready
-  pub parked : b'.parked ≡ b.parked ++ record { mailbox = box; fiber = f } ∷ []
+  pub parked : StandsBehind (record { mailbox = box; fiber = f }) b.parked b'.parked
   pub cells : b'.cells ≡ slice_set b.cells seat None
   pub stopped : b'.stopped ≡ b.stopped
 

@@ -1,5 +1,6 @@
 pub mod Places
 pub mod Mailboxes
+pub mod Parked
 pub mod Board
 pub mod Seen
 pub mod Laws

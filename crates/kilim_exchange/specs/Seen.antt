@@ -37,7 +37,7 @@ seen b = record { journal = b.journal.items; tasks = b.tasks; ready = b.ready.it
 pub record IsRoomy {F : Type 0} (b : kept.Board F) : Type 0 where
   pub fits : length b.ready.items + length b.parked.items + length (lent_of b.cells.items) ≤ b.tasks
   pub ready : b.tasks ≤ deque_capacity b.ready
-  pub parked : b.tasks ≤ vec_capacity b.parked
+  pub parked : b.tasks ≤ b.parked.room
   pub few : b.tasks ≤ 10000
   pub counted : (box : BoxName) → (mail_of b.mailboxes box).puts ≤ length b.journal.items
 
@@ -94,7 +94,7 @@ abbrev pub RoomFor : {F : Type 0} → kept.Board F → Wants F → Type 0
 RoomFor b (wants.Put box tree shape) = (length b.journal.items < vec_capacity b.journal) × HasRoom b.mailboxes box
 RoomFor b (wants.Take box) = length b.journal.items < vec_capacity b.journal
 RoomFor b (wants.Probe box) = length b.journal.items < vec_capacity b.journal
-RoomFor b (wants.Start f shape) = (length b.journal.items < vec_capacity b.journal) × (b.tasks + 1 ≤ deque_capacity b.ready) × (b.tasks + 1 ≤ vec_capacity b.parked)
+RoomFor b (wants.Start f shape) = (length b.journal.items < vec_capacity b.journal) × (b.tasks + 1 ≤ deque_capacity b.ready) × (b.tasks + 1 ≤ b.parked.room)
 RoomFor b (wants.Print shape) = length b.journal.items < vec_capacity b.journal
 RoomFor b (wants.Rest waits) = Unit {0}
 RoomFor b (wants.End why) = length b.journal.items < vec_capacity b.journal

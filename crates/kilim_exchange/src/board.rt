@@ -13,7 +13,8 @@ ghost use Rattle.kilim_exchange.specs.Board.{BoardStands, lent_of, closing, park
 ghost use Rattle.kilim_exchange.specs.Seen.{seen, IsRoomy, LendAnswers, GiveAnswers, TakeAnswers, IsNumbered, ActAnswers, ProbeAnswers, StartAnswers, RoomFor, IsActable, SameBoard, CourseAt, ActMeets, IsAnswered, wish_in, LentStands, RestsAs, IsNewBoard, MovedWhole};
 
 use crate::mailboxes::Mailboxes;
-use crate::spots::{line_up, note, park, wake};
+use crate::parked::Parked;
+use crate::spots::{line_up, note, wake};
 use kilim_classes::BoxName;
 use kilim_fibers::{Answer, Fibers, Wants};
 use kilim_journal::{Act, Entry};
@@ -41,8 +42,8 @@ pub struct Board<F> {
     pub tasks: u32,
     /// The fibers that are ready, the first to be lent first.
     pub ready: VecDeque<F>,
-    /// The fibers that wait at a mailbox, in the order in which they came.
-    pub parked: Vec<Waiter<F>>,
+    /// The fibers that wait at a mailbox.
+    pub parked: Parked<F>,
     /// The mailboxes that an act has named.
     pub mailboxes: Mailboxes,
     /// The task that is lent to each seat.
@@ -128,7 +129,7 @@ impl<F: Fibers> Board<F> {
         match waits {
             Some(mailbox) => {
                 if self.mailboxes.is_empty(mailbox) {
-                    park(&mut self.parked, mailbox, fiber);
+                    self.parked.park(mailbox, fiber);
                 } else {
                     line_up(&mut self.ready, fiber);
                 }
@@ -210,7 +211,7 @@ impl<F: Fibers> Board<F> {
         requires roomy { IsRoomy self.old }
         requires journal { length self.old.journal.items < vec_capacity self.old.journal }
         requires ready { self.old.tasks + 1 ≤ deque_capacity self.old.ready }
-        requires parked { self.old.tasks + 1 ≤ vec_capacity self.old.parked }
+        requires parked { self.old.tasks + 1 ≤ self.old.parked.room }
         ensures effect { StartsTask (seen self.old) task (seen self.new) fiber shape }
         ensures roomy { IsRoomy self.new }
     {
@@ -236,7 +237,7 @@ impl<F: Fibers> Board<F> {
                 self.parked.reserve(more)?;
                 Ok(())
             }
-            Wants::Take(_) => Ok(()),
+            Wants::Take(mailbox) => self.parked.make_places(*mailbox, self.cells.len()),
             Wants::Probe(_) => Ok(()),
             Wants::Print(_) => Ok(()),
             Wants::Rest(_) => Ok(()),
@@ -314,7 +315,7 @@ impl<F: Fibers> Board<F> {
     fn start_or_end(&mut self, seat: usize, task: u32, mut fiber: F, shape: Shape) -> Acted
         requires lent { slice_get self.old.cells.items seat ≡ Some (Some task) }
         requires roomy { IsRoomy self.old }
-        requires room { (length self.old.journal.items < vec_capacity self.old.journal) × (self.old.tasks + 1 ≤ deque_capacity self.old.ready) × (self.old.tasks + 1 ≤ vec_capacity self.old.parked) }
+        requires room { (length self.old.journal.items < vec_capacity self.old.journal) × (self.old.tasks + 1 ≤ deque_capacity self.old.ready) × (self.old.tasks + 1 ≤ self.old.parked.room) }
         requires begun { (F.course_of fiber ≡ record { beginning = Begun shape; deeds = [] }) × (F.count_of fiber ≡ 0) }
         ensures effect { StartAnswers (IsNumbered F.task_of F.course_of F.count_of F.refused F.holds) (seen self.old) seat task (seen self.new) fiber shape result }
         ensures roomy { IsRoomy self.new }
@@ -345,8 +346,9 @@ impl<F: Fibers> Board<F> {
             cells: _,
             stopped: _,
         } = self;
+        let waiters = parked.into_list()?;
         for t in 0..tasks {
-            match parked_at(parked.as_slice(), t) {
+            match parked_at(waiters.as_slice(), t) {
                 Some(mailbox) => journal.push(Entry {
                     task: t,
                     act: Act::Wait(mailbox),
@@ -383,11 +385,11 @@ fn free_cells(alloc: Global, seats: usize) -> Result<Vec<Option<u32>>, NoMemory>
 
 // A board without fibers.
 fn bare<F: Fibers>(alloc: Global, seats: usize) -> Result<Board<F>, NoMemory>
-    ensures { IfOk result (λ b. (b.journal.items ≡ []) × (b.tasks ≡ 1) × (b.ready.items ≡ []) × (b.parked.items ≡ []) × (b.mailboxes.by_name.entries ≡ []) × (b.cells.items ≡ replicate seats None) × (b.stopped ≡ false) × (1 ≤ deque_capacity b.ready) × (1 ≤ vec_capacity b.parked)) }
+    ensures { IfOk result (λ b. (b.journal.items ≡ []) × (b.tasks ≡ 1) × (b.ready.items ≡ []) × (b.parked.items ≡ []) × (b.mailboxes.by_name.entries ≡ []) × (b.cells.items ≡ replicate seats None) × (b.stopped ≡ false) × (1 ≤ deque_capacity b.ready) × (1 ≤ b.parked.room)) }
 {
     let mut ready = VecDeque::new(alloc);
     ready.reserve(1)?;
-    let mut parked = Vec::new(alloc);
+    let mut parked = Parked::new(alloc);
     parked.reserve(1)?;
     Ok(Board {
         journal: Vec::new(alloc),

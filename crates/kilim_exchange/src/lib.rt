@@ -4,8 +4,10 @@
 mod board;
 mod laws;
 mod mailboxes;
+mod parked;
 mod spots;
 
 pub use board::{Acted, Board, Lent, Waiter};
 pub use laws::mailboxes_are_threads;
 pub use mailboxes::Mailboxes;
+pub use parked::Parked;

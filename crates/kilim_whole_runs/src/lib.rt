@@ -4,6 +4,7 @@
 ghost use Rattle.std.specs.Prelude.{◌≤◌, IfOk};
 ghost use Rattle.kilim_whole_runs.specs.Runs.{IsJournalOf, IsServed, setting_of};
 
+use kilim_boxed_fibers::Boxed;
 use kilim_classes::{ClassId, Program};
 use kilim_fiber_state::{Code, Fiber};
 use kilim_journal::Entry;
@@ -34,7 +35,7 @@ pub fn run_alone<G: Gate>(
     moved_is_whole();
     runs_are_readable();
     let code = Code::new(alloc, program)?;
-    let entries = run_one::<Fiber, G>(alloc, &code, main, limits, gate)?;
+    let entries = run_one::<Boxed<Fiber>, G>(alloc, &code, main, limits, gate)?;
     journal_fits(entries.as_slice());
     Ok(entries)
 }
@@ -56,7 +57,7 @@ fn run_by<R: Threads + Wait + Sync, G: Gate>(
     moved_is_whole();
     runs_are_readable();
     let code = Code::new(alloc, program)?;
-    let entries = run_pool::<Fiber, R, G>(rt, alloc, &code, main, limits, workers, gate)?;
+    let entries = run_pool::<Boxed<Fiber>, R, G>(rt, alloc, &code, main, limits, workers, gate)?;
     journal_fits(entries.as_slice());
     Ok(entries)
 }

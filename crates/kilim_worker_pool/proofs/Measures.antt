@@ -16,7 +16,7 @@ use Rattle.kilim_fibers.specs.declared.Answer.TheVariants as answer
 use Rattle.kilim_exchange.specs.declared.board.Acted.{Acted}
 use Rattle.kilim_exchange.specs.declared.board.Acted.TheVariants as acted
 use Rattle.kilim_exchange.specs.Seen.{ActAnswers}
-use Rattle.kilim_exchange.specs.Board.{Board, PutsMessage, StartsTask, woken, ready_after, parked_after}
+use Rattle.kilim_exchange.specs.Board.{Board, GivesBack, Parks, PutsMessage, StartsTask, woken, ready_after, parked_after}
 use Rattle.kilim_exchange.specs.Mailboxes.{Tree, Mail}
 
 module _ {F : Type 0} (task : F → ℕ) (count : F → ℕ) (n : ℕ) where
@@ -96,6 +96,27 @@ module _ {F : Type 0} (task : F → ℕ) (count : F → ℕ) (n : ℕ) where
   act_left numbered b b' seat t (wants.End why) (acted.Answer answer.Done) did = let e = same_left b b' did.ready did.parked did.tasks in omega arith
   act_left numbered b b' seat t _ _ did = absurd did
 
+  -- a fiber that is given back has two more where it is ready, and none where it is parked
+  pub back_left : (b b' : Board F) (seat : ℕ) (f : F) → GivesBack b seat b' f → left b' ≡ left b + (weight f + 2)
+  back_left b b' seat f gives =
+      let r : sum_by ready_weight b'.ready ≡ sum_by ready_weight b.ready + ready_weight f = ap (sum_by ready_weight) gives.ready ∙ sum_by_push ready_weight b.ready f in
+      let p : sum_by parked_weight b'.parked ≡ sum_by parked_weight b.parked = ap (sum_by parked_weight) gives.parked in
+      let k : (task_limit - b'.tasks) * (3 * n + 2) ≡ (task_limit - b.tasks) * (3 * n + 2) = ap (λ k. (task_limit - k) * (3 * n + 2)) gives.run.tasks in omega arith
+
+  weight_among : (w : Waiter F) (xs ys : List (Waiter F)) → sum_by parked_weight (xs ++ w ∷ ys) ≡ weight w.fiber + sum_by parked_weight (xs ++ ys)
+  weight_among w [] ys = sum_by-cons parked_weight w ys
+  weight_among w (x ∷ xs) ys =
+      let h = weight_among w xs ys in let a = sum_by-cons parked_weight x (xs ++ w ∷ ys) in let c = sum_by-cons parked_weight x (xs ++ ys) in omega arith
+
+  pub park_left : (b b' : Board F) (seat : ℕ) (f : F) (box : BoxName) → Parks b seat b' f box → left b' ≡ left b + weight f
+  park_left b b' seat f box parks =
+      let w : Waiter F = record { mailbox = box; fiber = f } in
+      let r : sum_by ready_weight b'.ready ≡ sum_by ready_weight b.ready = ap (sum_by ready_weight) parks.ready in
+      let now : sum_by parked_weight b'.parked ≡ sum_by parked_weight (parks.parked.before ++ w ∷ parks.parked.after) = ap (sum_by parked_weight) parks.parked.is in
+      let old : sum_by parked_weight b.parked ≡ sum_by parked_weight (parks.parked.before ++ parks.parked.after) = ap (sum_by parked_weight) parks.parked.was in
+      let h = weight_among w parks.parked.before parks.parked.after in
+      let k : (task_limit - b'.tasks) * (3 * n + 2) ≡ (task_limit - b.tasks) * (3 * n + 2) = ap (λ k. (task_limit - k) * (3 * n + 2)) parks.run.tasks in omega arith
+
   pub full_left : (numbered : F → F → ℕ → Type 0) (b b' : Board F) (seat t : ℕ) (w : Wants F) → ActAnswers numbered b seat t b' w acted.OutOfTasks → left b' ≡ left b
   full_left numbered b b' seat t (wants.Start f shape) did = same_left b b' did.1.ready did.1.parked did.1.tasks
   full_left numbered b b' seat t _ did = absurd did
@@ -122,6 +143,23 @@ module _ {F : Type 0} (refused : F → Option BoxName) where
 
   pub same_calm : (b b' : Board F) → b'.ready ≡ b.ready → b'.parked ≡ b.parked → IsCalm b → IsCalm b'
   same_calm b b' r p calm = record { ready = subst (AllByRecursion IsCalmFiber) (sym r) calm.ready; parked = subst (AllByRecursion IsCalmWaiter) (sym p) calm.parked }
+
+  all_among : {A : Type 0} (P : A → Type 0) (xs ys : List A) (y : A) → AllByRecursion P (xs ++ ys) → P y → AllByRecursion P (xs ++ y ∷ ys)
+  all_among P [] ys y all py = (py, all)
+  all_among P (x ∷ xs) ys y all py = (all.0, all_among P xs ys y all.1 py)
+
+  pub back_calm : (b b' : Board F) (seat : ℕ) (f : F) → GivesBack b seat b' f → refused f ≡ None → IsCalm b → IsCalm b'
+  back_calm b b' seat f gives calm-f calm = record {
+    ready = subst (AllByRecursion IsCalmFiber) (sym gives.ready) (all_pushed IsCalmFiber b.ready f calm.ready calm-f);
+    parked = subst (AllByRecursion IsCalmWaiter) (sym gives.parked) calm.parked;
+  }
+
+  pub park_calm : (b b' : Board F) (seat : ℕ) (f : F) (box : BoxName) → Parks b seat b' f box → refused f ≡ None → IsCalm b → IsCalm b'
+  park_calm b b' seat f box parks calm-f calm = record {
+    ready = subst (AllByRecursion IsCalmFiber) (sym parks.ready) calm.ready;
+    parked = subst (AllByRecursion IsCalmWaiter) (sym parks.parked.is)
+        (all_among IsCalmWaiter parks.parked.before parks.parked.after (record { mailbox = box; fiber = f }) (subst (AllByRecursion IsCalmWaiter) parks.parked.was calm.parked) calm-f);
+  }
 
   woken_calm : (box : BoxName) (ws : List (Waiter F)) (found : Waiter F × List (Waiter F)) → woken box ws ≡ Some found → AllByRecursion IsCalmWaiter ws → IsCalmWaiter found.0 × AllByRecursion IsCalmWaiter found.1
   woken_calm box [] found e all = absurd (cc)

@@ -1,5 +1,5 @@
 -- From one step of the runner to the next.
-use Rattle.std.proofs.Common.{◌<◌, ◌≤◌, ◌+◌, ◌==◌, ◌⊎◌, inl, inr, arith, ◌≡◌, ℕ, Bool, false, [], ◌∷◌, Option, Some, None, refl, sym, ap, subst, ◌∙◌}
+use Rattle.std.proofs.Common.{◌<◌, ◌≤◌, ◌+◌, ◌==◌, ◌⊎◌, inl, inr, arith, ◌≡◌, ℕ, Bool, false, [], ◌∷◌, List, Option, Some, None, true, refl, sym, ap, subst, ◌∙◌, length}
 use Rattle.std.specs.Prelude.{slice_get, slice_set}
 use Rattle.kilim_program.specs.declared.cause.EndCause.{EndCause}
 use Rattle.kilim_classes.specs.declared.names.BoxName.{BoxName}
@@ -16,10 +16,11 @@ use Rattle.kilim_program.specs.declared.run.Limits.{Limits}
 use Rattle.kilim_exchange.specs.declared.board.Board as kept
 use Rattle.kilim_exchange.specs.declared.board.Lent.{Lent}
 use Rattle.kilim_exchange.specs.declared.board.Lent.TheVariants as lent
-use Rattle.kilim_exchange.specs.Board.{Board, BoardStands, IsQuiet, lent_of}
+use Rattle.kilim_exchange.specs.Board.{Board, BoardStands, IsQuiet, lent_of, Parks}
+use Rattle.kilim_exchange.specs.Mailboxes.{Tree}
 use Rattle.kilim_worker_pool.specs.Pool.{IsOf, IsLending, IsResting, IsCalm, EmptyAt, todo, left, one_if_none}
-use Rattle.kilim_worker_pool.proofs.Measures.{same_left, act_left, nothing_left, same_calm, act_calm}
-use Rattle.kilim_exchange.specs.Seen.{seen, IsRoomy, LendAnswers, LentStands, CourseAt, SameBoard, ActAnswers, ActMeets, IsActable, IsAnswered, wish_in}
+use Rattle.kilim_worker_pool.proofs.Measures.{same_left, act_left, back_left, park_left, nothing_left, same_calm, act_calm, back_calm, park_calm}
+use Rattle.kilim_exchange.specs.Seen.{seen, IsRoomy, LendAnswers, GiveAnswers, gives_at, LentStands, CourseAt, SameBoard, ActAnswers, ActMeets, IsActable, IsAnswered, wish_in}
 use Rattle.kilim_thread_model.specs.Lone.{Lone}
 use Rattle.kilim_thread_model.specs.Course.{Course}
 use Rattle.kilim_thread_model.specs.declared.deed.Deed.{Deed}
@@ -251,3 +252,18 @@ module _ {F : Type 0} (task count : F → ℕ) (rests : F → Bool) (refused : F
 
   pub falls_over : (b b1 b2 : kept.Board F) (f : F) → SameBoard (seen b) (seen b1) → left count n (seen b2) ≡ left count n (seen b1) → IsCalm refused (seen b2) → IsCalm refused (seen b2) × (left count n (seen b2) ≤ todo count refused n b f)
   falls_over b b1 b2 f same e calm = let k = same_left task count n (seen b) (seen b1) same.spots.ready same.spots.parked same.run.tasks in (calm, omega arith)
+
+  -- a fiber that rests is given back: behind a yield it is ready, and at the mailbox that refused it it is parked
+  pub falls_rest : (b b1 : kept.Board F) (f f1 : F) (waits : Option BoxName) (at-rest : Bool) → GiveAnswers (seen b) 0 (seen b1) f1 waits → RestsRightly {F = F} at-rest (refused f) (count f) (count f1) (wants.Rest waits) → refused f1 ≡ None → count f ≤ count f1 → count f1 ≤ n →
+      EmptyAt refused b f → IsCalm refused (seen b) → IsCalm refused (seen b1) × (left count n (seen b1) ≤ todo count refused n b f)
+  falls_rest b b1 f f1 None at-rest gives rightly clear up most empty calm =
+      let l = back_left task count n (seen b) (seen b1) 0 f1 gives in
+      let r : one_if_none (refused f) ≡ 1 = ap one_if_none rightly.0 in
+      let more = rightly.1 in
+      (back_calm refused (seen b) (seen b1) 0 f1 gives clear calm, omega arith)
+  falls_rest b b1 f f1 (Some box) at-rest gives rightly clear up most empty calm =
+      let none : (length ((seen b).mails box).queue == 0) ≡ true = ap (λ (q : List (ℕ × Tree)). length q == 0) (empty box rightly.0) in
+      let parks : Parks (seen b) 0 (seen b1) f1 box = subst (λ y. gives_at y (seen b) 0 (seen b1) f1 box) none gives in
+      let l = park_left task count n (seen b) (seen b1) 0 f1 box parks in
+      let r : one_if_none (refused f) ≡ 0 = ap one_if_none rightly.0 in
+      (park_calm refused (seen b) (seen b1) 0 f1 box parks clear calm, omega arith)

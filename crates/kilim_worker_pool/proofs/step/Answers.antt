@@ -1,12 +1,13 @@
 use Rattle.std.proofs.Common.{◌≡◌, ap, ◌∙◌, ◌∷◌, [], subst}
 use Rattle.std.specs.Prelude.{slice_get}
 use Rattle.kilim_exchange.specs.Seen.{IsNumbered}
-use Rattle.kilim_worker_pool.proofs.Steps.{going, actable, resumed, lent_now, done_now, asked_by, can_answer, goes_on, is_full, is_ended, counted, going_none, falls_on, falls_over}
+use Rattle.kilim_worker_pool.proofs.Steps.{going, actable, resumed, lent_now, done_now, asked_by, can_answer, goes_on, is_full, is_ended, counted, going_none, falls_on, falls_over, falls_rest}
 use Rattle.kilim_worker_pool.proofs.Measures.{full_left, act_calm, same_calm}
 use Rattle.std.proofs.Common.{◌≤◌}
 use Rattle.kilim_program.specs.declared.run.Limits.{Limits}
 use Rattle.kilim_exchange.specs.declared.board.Acted.TheVariants as acted
 use Rattle.kilim_exchange.specs.Seen.{seen}
+use Rattle.kilim_fibers.specs.Fibers.{RestsRightly}
 use Rattle.kilim_worker_pool.proofs.step.Goals as goal
 
 pub act-requires-clause-lent : goal.act-requires-clause-lent
@@ -68,3 +69,9 @@ returns-in-OutOfTasks-clause-falls g c =
     falls_over g.F.Fibers.task_of g.F.Fibers.count_of g.F.Fibers.rests g.F.Fibers.refused c.args.limits.now.steps (IsNumbered g.F.Fibers.task_of g.F.Fibers.course_of g.F.Fibers.count_of g.F.Fibers.refused g.F.Fibers.holds) (λ f f' k num. num.refuses) c.args.board.now c.reserve-in_default.new.self c.act-in_default.new.self c.args.fiber same
     (full_left g.F.Fibers.task_of g.F.Fibers.count_of c.args.limits.now.steps (IsNumbered g.F.Fibers.task_of g.F.Fibers.course_of g.F.Fibers.count_of g.F.Fibers.refused g.F.Fibers.holds) (seen c.reserve-in_default.new.self) (seen c.act-in_default.new.self) 0 (g.F.Fibers.task_of c.resume.new.self) c.in_ok-wants.wants did)
     (act_calm g.F.Fibers.refused g.F.Fibers.rests (IsNumbered g.F.Fibers.task_of g.F.Fibers.course_of g.F.Fibers.count_of g.F.Fibers.refused g.F.Fibers.holds) (λ f f' k num. num.refuses) (seen c.reserve-in_default.new.self) (seen c.act-in_default.new.self) 0 (g.F.Fibers.task_of c.resume.new.self) c.in_ok-wants.wants acted.OutOfTasks did c.in_ok-wants.ensures.fresh (same_calm g.F.Fibers.refused (seen c.args.board.now) (seen c.reserve-in_default.new.self) same.spots.ready same.spots.parked c.requires.calm))
+
+pub returns-in-Rest-clause-falls : goal.returns-in-Rest-clause-falls
+returns-in-Rest-clause-falls g c =
+    falls_rest g.F.Fibers.task_of g.F.Fibers.count_of g.F.Fibers.rests g.F.Fibers.refused c.args.limits.now.steps (IsNumbered g.F.Fibers.task_of g.F.Fibers.course_of g.F.Fibers.count_of g.F.Fibers.refused g.F.Fibers.holds) (λ f f' k num. num.refuses) c.args.board.now c.give_back.new.self c.args.fiber c.resume.new.self c.in-Rest.waits (g.F.Fibers.rests c.resume.new.self)
+    c.give_back.ensures.effect (subst (RestsRightly (g.F.Fibers.rests c.resume.new.self) (g.F.Fibers.refused c.args.fiber) (g.F.Fibers.count_of c.args.fiber) (g.F.Fibers.count_of c.resume.new.self)) c.in-Rest.is c.in_ok-wants.ensures.rest)
+    c.in_ok-wants.ensures.refused c.in_ok-wants.ensures.counted c.in_ok-wants.ensures.bounded c.requires.waits c.requires.calm

@@ -5,6 +5,7 @@ use Rattle.kilim_exchange.proofs.Seats.{lent_emptied}
 use Rattle.kilim_exchange.proofs.Closing.{give_stands}
 use Rattle.kilim_exchange.proofs.Boards.{gives_parked, gives_ready, gives_none}
 use Rattle.kilim_exchange.proofs.Lists.{longer}
+use Rattle.kilim_exchange.proofs.Waiting.{behind_longer}
 use Rattle.kilim_exchange.proofs.board.Board.give_back.Goals as goal
 
 pub park-requires : goal.park-requires
@@ -35,7 +36,7 @@ pub returns-then-is_empty-clause-roomy : goal.returns-then-is_empty-clause-roomy
 returns-then-is_empty-clause-roomy g c =
     let r = c.requires.roomy in
     let h = lent_emptied c.args.self.now.cells.items c.args.seat _ c.requires.lent in
-    let l = longer c.args.self.now.parked.items c.park.new.parked.items _ c.park.ensures.items in
+    let l = behind_longer _ c.args.self.now.parked.items c.park.new.self.items c.park.ensures.items in
     let e = c.park.ensures.room in
     let f = r.fits in let k = r.parked in
     record { fits = omega arith; ready = r.ready; parked = omega arith; few = r.few; counted = r.counted }

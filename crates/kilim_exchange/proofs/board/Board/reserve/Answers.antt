@@ -17,5 +17,5 @@ returns-in_ok-reserve-in-Start-2-clause-roomy g c =
     let i = ap length c.in_ok-reserve-in-Start.ensures.items in
     let j = ap length c.in_ok-reserve-in-Start-2.ensures.items in
     let e = c.in_ok-reserve-in-Start.ensures.capacity in
-    let h = c.in_ok-reserve-in-Start-2.ensures.capacity in
+    let h = c.in_ok-reserve-in-Start-2.ensures.kept in
     record { fits = omega arith; ready = omega arith; parked = omega arith; few = r.few; counted = counted_same (mail_of c.args.self.now.mailboxes) (mail_of c.args.self.now.mailboxes) (length c.args.self.now.journal.items) (length c.reserve.new.self.items) r.counted (λ box. refl) (omega arith) }
