@@ -1,0 +1,10 @@
+pub mod Along
+pub mod Begins
+pub mod Chain
+pub mod Guards
+pub mod Heaps
+pub mod Held
+pub mod Keeper
+pub mod Natives
+pub mod Steps
+pub mod Tasks
