@@ -1,0 +1,4 @@
+pub mod Adding
+pub mod Frames
+pub mod Members
+pub mod Building
