@@ -1,0 +1,5 @@
+pub mod Along
+pub mod Begins
+pub mod Called
+pub mod Natives
+pub mod Steps
