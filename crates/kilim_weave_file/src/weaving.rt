@@ -15,6 +15,7 @@ ghost use Rattle.kilim_weave_file.specs.Applied.{Applied, SizesFit};
 use crate::fault::ApplyFault;
 use crate::members::{member_text, rewritten};
 use crate::needs::push_attributes;
+use kilim_class_fits::fits;
 use kilim_classes::{Method, Program};
 use kilim_classfile::{ClassFile, MemberInfo, read, write};
 use kilim_constant_pool::Pool;
@@ -265,6 +266,19 @@ fn woven_file(
     })
 }
 
+// The file, where it has a text. Each woven file within the bounds has one, where no method has too many arguments or too long a
+// descriptor; another one is answered as want of memory.
+fn fitting(alloc: Global, file: ClassFile) -> Result<ClassFile, NoMemory>
+    ensures same { IfOk result (λ f. f ≡ file) }
+    ensures fits { IfOk result ClassFits }
+{
+    if fits(alloc, &file)? {
+        Ok(file)
+    } else {
+        Err(NoMemory)
+    }
+}
+
 // Whether pool and text stay within their bounds, by the bound on each.
 fn sizes_fit(
     program: &Program,
@@ -301,7 +315,8 @@ fn sizes_fit(
 /// woven instructions count.
 ///
 /// `PoolFull` comes exactly where the count of indices that the pool may reach is above 65,535; else `FileTooLarge` exactly where
-/// the length that the text may reach is above 16,777,216. Time is linear in the product of what is written and the pool's entries.
+/// the length that the text may reach is above 16,777,216. A woven file that had no text, since a descriptor got too long or a count of
+/// parameters too high for its field, is answered as want of memory. Time is linear in the product of what is written and the pool's entries.
 pub fn apply(
     alloc: Global,
     file: &ClassFile,
@@ -317,10 +332,13 @@ pub fn apply(
     requires plain { length file.now.methods ≡ length plains.now }
     requires woven { length file.now.methods ≡ length wovens.now }
     requires counted { length file.now.methods ≡ length counted.now }
-    ensures { Applied plain.now woven.now file.now (pairs_of file.now.methods plains.now wovens.now counted.now) result }
+    ensures applied { Applied plain.now woven.now file.now (pairs_of file.now.methods plains.now wovens.now counted.now) result }
+    // It has a text: it can be written, and is read again.
+    ensures fits { IfOk result ClassFits }
 {
     let text = write(alloc, file)?;
     sizes_fit(plain, file, text.len(), longest, plains, wovens, counted)?;
     let again = copy(alloc, file, text.as_slice())?;
-    Ok(woven_file(alloc, woven, file, again, plains, wovens, counted)?)
+    let made = woven_file(alloc, woven, file, again, plains, wovens, counted)?;
+    Ok(fitting(alloc, made)?)
 }
