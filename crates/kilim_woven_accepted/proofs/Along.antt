@@ -54,12 +54,12 @@ abbrev is_stopped : Thread → Bool
 is_stopped (Run m p l s x b w) = false
 is_stopped (Stop o) = true
 
-all_of_course : (set : Setting) (n : ℕ) (t : Thread) → IsOfCourse set t → IsOfCourse set (steps set n t)
+pub all_of_course : (set : Setting) (n : ℕ) (t : Thread) → IsOfCourse set t → IsOfCourse set (steps set n t)
 all_of_course set zero t is = is
 all_of_course set (suc n) t is = all_of_course set n (step set t) (goes_on set t is)
 
 module _ (set : Setting) (run : IsRunOfAccepted set) where
-  pauses : KeepsPauses set.program
+  pub pauses : KeepsPauses set.program
   pauses = accepted_keeps (typed set.program) run.keeps (record { typed = run.well; frames = refl }) run.accepted
 
   at_all : (first t : Thread) → IsOfCourse set first → From set first t → IsOfCourse set t
@@ -86,10 +86,10 @@ module _ (set : Setting) (run : IsRunOfAccepted set) where
         (accepted_is_kept set run (λ id at k. false) (λ id m at k e live. absurd (false≢true live))) W marks form first course few stands (rest_of first course ready)
 
   module _ (short : NoneIsTooLong set.program) (W : Program) (marks : List (List Bool)) (woven : WovenForm set.program W marks) where
-    abbrev form : Forms set W marks
+    abbrev pub form : Forms set W marks
     form = (whole set W marks run.keeps run.form run.well pauses short run.main woven).0
 
-    facts : (m : MethodId) → Facts set.program W (code set W marks) (form m)
+    pub facts : (m : MethodId) → Facts set.program W (code set W marks) (form m)
     facts = (whole set W marks run.keeps run.form run.well pauses short run.main woven).1
 
     members : Members set.program W
@@ -105,7 +105,7 @@ module _ (set : Setting) (run : IsRunOfAccepted set) where
         by true = subst HasFew (sym (ending_is set w Stop cause.Done)) tt
         by false = omega arith
 
-    serves_all : ServesCourses set W marks form
+    pub serves_all : ServesCourses set W marks form
     serves_all = record {
       serves = λ first course few stands ready. (whole set W marks run.keeps run.form run.well pauses short run.main woven).3 first (known_at W marks form first course few stands ready);
       constructs = λ c args w ps not_pausable course ready. (beginnings_serve set W marks form members facts rows).0 c args w ps not_pausable

@@ -1,0 +1,15 @@
+pub mod Asking
+pub mod Below
+pub mod Chained
+pub mod Clean
+pub mod Dummies
+pub mod Executes
+pub mod Leaf
+pub mod Places
+pub mod Ready
+pub mod Receiver
+pub mod Redone
+pub mod Shapes
+pub mod There
+pub mod Values
+pub mod Whole
