@@ -1,0 +1,4 @@
+pub mod OfKind
+pub mod All
+pub mod BuiltIn
+pub mod Counting
