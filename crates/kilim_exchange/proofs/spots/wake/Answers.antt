@@ -1,4 +1,4 @@
-use Rattle.std.proofs.Common.{arith, length}
+use Rattle.std.proofs.Common.{arith}
 use Rattle.kilim_exchange.proofs.Waiting.{woken_fewer}
 use Rattle.kilim_exchange.proofs.Lists.{longer}
 use Rattle.kilim_exchange.proofs.spots.wake.Goals as goal

@@ -1,6 +1,6 @@
 use Rattle.std.proofs.Common.{◌++◌, ◌∙◌, Some, sym, ap}
 use Rattle.std.specs.VecDeque.{deque_items}
-use Rattle.kilim_exchange.specs.Parked.{in_order, Waiting}
+use Rattle.kilim_exchange.specs.Parked.{in_order}
 use Rattle.kilim_exchange.specs.Board.{woken}
 use Rattle.kilim_exchange.proofs.Waiting.{if_some, if_none, woken_apart, woken_nobody}
 use Rattle.kilim_exchange.proofs.parked.Parked.wake.Goals as goal
