@@ -8,7 +8,6 @@ use Rattle.kilim_classes.specs.declared.names.ClassId.{ClassId}
 use Rattle.kilim_program.specs.declared.run.Limits.{Limits}
 use Rattle.kilim_thread_model.specs.State.{Setting}
 use Rattle.kilim_fibers.specs.Fibers.{IsOfRun, StandsFor}
-use Rattle.kilim_fibers.specs.declared.Wants.TheVariants as wants
 use Rattle.kilim_exchange.specs.declared.board.Board as kept
 use Rattle.kilim_exchange.specs.Board.{Board, BoardStands}
 use Rattle.kilim_exchange.specs.Mailboxes.{mail_of}

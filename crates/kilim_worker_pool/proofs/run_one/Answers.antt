@@ -1,4 +1,3 @@
-use Rattle.std.proofs.Common.{◌≡◌}
 use Rattle.kilim_worker_pool.specs.Pool.{IsOf}
 use Rattle.kilim_worker_pool.proofs.Steps.{lending, quiet_now}
 use Rattle.kilim_worker_pool.proofs.run_one.Goals as goal

@@ -1,4 +1,4 @@
-use Rattle.std.proofs.Common.{◌≡◌, ap, ◌∙◌, ◌∷◌, [], subst}
+use Rattle.std.proofs.Common.{ap, ◌∙◌, subst}
 use Rattle.std.specs.Prelude.{slice_get}
 use Rattle.kilim_exchange.specs.Seen.{IsNumbered}
 use Rattle.kilim_worker_pool.proofs.Steps.{going, actable, resumed, lent_now, done_now, asked_by, can_answer, goes_on, is_full, is_ended, counted, going_none, falls_on, falls_over, falls_rest}
