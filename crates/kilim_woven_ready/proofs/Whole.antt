@@ -39,7 +39,7 @@ over_of (Run m p l s x b w) = Lost
 over_of (Stop o) = o
 
 module _ (set : Setting) (run : IsRunOfAccepted set) where
-  course : (first : Thread) → MayBegin set first → IsOfCourse set first
+  pub course : (first : Thread) → MayBegin set first → IsOfCourse set first
   course (Run m p l s x b w) k = (record { beginning = k.0; deeds = [] }, lone_at m p l s b w, record { first = lone_at m p l s b w; begins = k.1; follows = refl }, Stays refl)
   course (Stop o) k = tt
 

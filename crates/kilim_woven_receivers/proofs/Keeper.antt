@@ -13,7 +13,7 @@ use Rattle.kilim_typing.specs.Typed.{entry}
 use Rattle.kilim_forest.specs.Canonical.{absent, node_at}
 use Rattle.kilim_forest.specs.Heap.{Below, Here, IsUnder, Then}
 use Rattle.kilim_forest.specs.Laws.{IsPlace}
-use Rattle.kilim_forest.specs.Relation.{Label, Node, Owns, Relates, Respects, Root, Safe, is_gone, is_safe}
+use Rattle.kilim_forest.specs.Relation.{Label, Node, Owns, Relates, Respects, Root, is_gone, is_safe}
 use Rattle.kilim_forest.proofs.Called.{owned_of, root_free}
 use Rattle.kilim_forest.proofs.Paths.{never_round}
 use Rattle.kilim_shape_graph.specs.Entry.{declared_parameters, entry_node, entry_nodes, parameters_of, quality_from}
