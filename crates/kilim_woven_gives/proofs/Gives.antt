@@ -38,6 +38,7 @@ use Rattle.kilim_woven_lone.specs.Law.{lone_at, lone_frames}
 use Rattle.kilim_woven_ready.proofs.Whole.{course, tasks_serve}
 use Rattle.kilim_woven_receivers.proofs.Heaps.{KeepsHeap, keeps_heap}
 use Rattle.kilim_woven_receivers.proofs.Held.{effect_is}
+use Rattle.kilim_woven_receivers.specs.Law.{IsBegun}
 use Rattle.kilim_woven_runs.specs.Acts.{Action, Over, Wants, World, acting, asks, counted, ending, gives_arg, last, native_does, prints, probe_by, put_by, puts, puts_value, receives, start_by, starts, take_by, with_heap}
 use Rattle.kilim_woven_runs.specs.Acts as action
 use Rattle.kilim_woven_runs.specs.Fibers.{frame}
@@ -242,7 +243,12 @@ woven_gives set run short lives is =
       λ first k t fine from j o e.
           let ends = ((served.1.serves first k).ends t fine from o).1 (j, e) in
           handed t ends.0 o (subst (λ (z : Thread). IsOfCourse set z) from.1 (all_of_course set from.0 first (course set run first k))) ends.1,
+      λ first begun n o e. from_first first begun n o e,
     )
   where
     handed : (t : Both) (n : ℕ) (o : Over) → IsOfCourse set (unwoven t) → steps set n (unwoven t) ≡ Stop o → HandsOut set o
     handed (Fw m p s l wl x ov links old was w ps) n o of_course e = subst (λ (z : Thread). Hands set z) e (all_hand set run n (Run m p l s x (u_stack ov links) w) of_course tt)
+
+    from_first : (first : Thread) → IsBegun set first → (n : ℕ) (o : Over) → steps set n first ≡ Stop o → HandsOut set o
+    from_first (Run m p l s x b w) begun n o e = subst (λ (z : Thread). Hands set z) e (all_hand set run n (Run m p l s x b w) (course set run (Run m p l s x b w) begun) tt)
+    from_first (Stop q) begun n o e = absurd begun
