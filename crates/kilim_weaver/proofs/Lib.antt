@@ -1,0 +1,3 @@
+pub mod Searching
+pub mod Pausing
+pub mod Whole

@@ -1,0 +1,28 @@
+//! Why a program isn't woven.
+
+ghost use Rattle.std.specs.Prelude.{◌≡◌};
+
+use kilim_classes::MethodId;
+use kilim_units::NoMemory;
+
+/// Why a program isn't woven.
+#[derive(Clone, Copy, Debug, PartialEq, Eq)]
+pub enum WeaveFault {
+    /// The method has pausable calls, and a weight above 32,767: this is its weight.
+    TooLong(MethodId, u64),
+    /// The pausable method has 255 argument slots, or a descriptor of more than 65,522 bytes of modified UTF-8: the fiber has no
+    /// place behind its arguments (JVMS 4.3.3, 4.4.7).
+    ArgumentsFull(MethodId),
+    /// Want of memory.
+    Memory,
+}
+
+impl From<NoMemory> for WeaveFault {
+    ghost use Rattle.kilim_weaver.specs.declared.fault.WeaveFault.TheVariants as fault;
+
+    ghost from_gives = { λ _ e. e ≡ fault.Memory };
+
+    fn from(_: NoMemory) -> WeaveFault {
+        WeaveFault::Memory
+    }
+}
