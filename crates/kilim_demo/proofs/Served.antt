@@ -5,6 +5,7 @@ use Rattle.kilim_journal.specs.declared.entry.Entry.{Entry}
 use Rattle.kilim_program.specs.declared.run.Limits.{Limits}
 use Rattle.kilim_program_maker.specs.Demo.{demo_of}
 use Rattle.kilim_program_maker.specs.Laws.{DemoIsShort}
+use Rattle.kilim_thread_model.specs.Runs.{Whole}
 use Rattle.kilim_whole_runs.specs.Runs.{IsJournalOf}
 use Rattle.kilim_demo.specs.Line.{demo_line}
 use Rattle.kilim_classes.specs.declared.class.Form.TheVariants.{Plain}
@@ -51,6 +52,14 @@ fit_in : (p : Program) (o : Option ClassId) (c : ClassId) → if_fit p o ≡ Som
 fit_in p None c e = absurd (cc)
 fit_in p (Some a) c e = picked p a c (is_fit_main p a) refl e
 
+chosen : (a c : ClassId) (b : Bool) → cond b (Some a) None ≡ Some c → Some a ≡ Some c
+chosen a c true e = e
+chosen a c false e = absurd (cc)
+
+named_in : (p : Program) (o : Option ClassId) (c : ClassId) → if_fit p o ≡ Some c → o ≡ Some c
+named_in p None c e = e
+named_in p (Some a) c e = chosen a c (is_fit_main p a) e
+
 pub is_ready : AcceptedIsServed → DemoIsShort → (number : ℕ) (p : Program) (main : ClassId) → Keeps p → IsWellTyped p → IsAcceptedOf (demo_texts number) p → fit_class_named p main_name ≡ Some main → IsReady number p main
 is_ready law short number p main keeps typed is fit =
     let s = law is.of_files.classes p (links_well (demo_texts number) p (few_texts short number) is) keeps typed is.accepts.isolated main (fit_in p (class_named p main_name) main fit) demo_limits in
@@ -66,9 +75,10 @@ line_is number p main limits journal text ready e run is = record {
   program = p;
   accepted = ready.accepted;
   main = main;
-  fit = ready.fit;
+  named = named_in p (class_named p main_name) main ready.fit;
+  fit = fit_in p (class_named p main_name) main ready.fit;
   journal = journal;
-  run = subst (λ (l : Limits). IsJournalOf (setting_of p main l) journal) e run;
+  whole = subst (λ (l : Limits). Whole (setting_of p main l) journal) e run.whole;
   is_text = is;
 }
 

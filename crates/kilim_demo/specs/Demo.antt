@@ -1,15 +1,17 @@
 -- The run of the demo of a number, and what is written of it (own).
-use Rattle.std.specs.Prelude.{◌≡◌, ℕ, List, [], map, Some, ◌⊎◌, codes}
+use Rattle.std.specs.Prelude.{◌≡◌, ℕ, true, List, [], map, Some, ◌⊎◌, codes}
 use Rattle.kilim_classes.specs.Program.{Program}
 use Rattle.kilim_classes.specs.declared.names.ClassId.{ClassId}
+use Rattle.kilim_classes.specs.Names.{class_named}
 use Rattle.kilim_classfile.specs.Text.{class_text}
 use Rattle.kilim_journal.specs.declared.entry.Entry.{Entry}
-use Rattle.kilim_main_class.specs.Main.{fit_class_named}
 use Rattle.kilim_program.specs.declared.run.Limits.{Limits}
+use Rattle.kilim_program.specs.Members.{is_fit_main}
 use Rattle.kilim_program_maker.specs.Demo.{demo_of}
 use Rattle.kilim_stages.specs.Accepted.{IsAcceptedOf}
 use Rattle.kilim_stages.specs.Reports.{IsLinkReport, IsTypeReport, IsRulesReport}
-use Rattle.kilim_whole_runs.specs.Runs.{IsJournalOf, setting_of}
+use Rattle.kilim_thread_model.specs.Runs.{Whole}
+use Rattle.kilim_thread_model.specs.State.{Setting}
 use Rattle.kilim_demo.specs.Line.{demo_line}
 
 -- the bytes of its class files, in their order
@@ -23,15 +25,20 @@ main_name = codes "D/Main"
 unfoldable pub demo_limits : Limits
 demo_limits = record { steps = 1000000; args = [] }
 
+-- what is run
+abbrev pub demo_run : Program → ClassId → Setting
+demo_run program main = record { program = program; main = main; limits = demo_limits }
+
 -- The class files link to an accepted program with the main class `D/Main`, and the text is the line of the journal of a whole run
 -- of it.
 pub record IsDemoLine (number : ℕ) (text : List ℕ) : Type 0 where
   pub program : Program
   pub accepted : IsAcceptedOf (demo_texts number) program
   pub main : ClassId
-  pub fit : fit_class_named program main_name ≡ Some main
+  pub named : class_named program main_name ≡ Some main
+  pub fit : is_fit_main program main ≡ true
   pub journal : List Entry
-  pub run : IsJournalOf (setting_of program main demo_limits) journal
+  pub whole : Whole (demo_run program main) journal
   pub is_text : text ≡ demo_line number journal
 
 -- the report of the first stage, from linking on, that has a fault

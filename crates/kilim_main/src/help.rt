@@ -6,6 +6,8 @@ pub const HELP: &str = "kilim checks and runs Java class files of isolation-type
     kilim check FILE..             says whether the files are accepted
     kilim run --main=NAME [--workers=W] [--steps=N] FILE.. [-- INT..]
                                    runs a task class, and writes its journal
+    kilim demo --number=D [--workers=W]
+                                   runs a program made from the number D
     kilim --help, kilim --version  write this text, the version
 
 NAME is the internal name of the main class, as app/Main. FILE is a class file,
@@ -15,8 +17,8 @@ A journal has a line for each event: the task's number and what it did, as
 0 print 7 and 0 end done.
 
 Status  Standard error  Meaning
-0                       accepted CLASSES METHODS, or the whole journal, was
-                        written
+0                       accepted CLASSES METHODS, the whole journal, or the
+                        line of the demo was written
 1                       a report was written: of class files, linking, typing,
                         rules, or main NAME (no class of that name can be run)
 2       usage           the words aren't as above

@@ -7,3 +7,4 @@ pub mod Written
 pub mod TopLaws
 pub mod Named
 pub mod Counts
+pub mod Demos

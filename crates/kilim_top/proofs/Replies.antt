@@ -1,5 +1,5 @@
 -- What is answered for files: what the work makes, or a report, and never both.
-use Rattle.std.proofs.Common.{◌≡◌, ◌⊎◌, ℕ, ℤ, ◌≤◌, true, List, [], ◌∷◌, length, map, Option, Some, None, Result, Ok, Err, refl, sym, ap, subst, ◌∙◌, arith, inl, inr}
+use Rattle.std.proofs.Common.{◌≡◌, ◌⊎◌, ℕ, ℤ, ◌≤◌, true, List, [], length, Some, None, Result, Ok, Err, ap, subst, arith, inl, inr}
 use Rattle.std.specs.Prelude.{IfOk}
 use Rattle.kilim_units.specs.declared.memory.NoMemory.{NoMemory}
 use Rattle.kilim_classes.specs.declared.names.ClassId.{ClassId}
@@ -7,18 +7,14 @@ use Rattle.kilim_classes.specs.Names.{class_named}
 use Rattle.kilim_classes.specs.Program.{Program}
 use Rattle.kilim_program.specs.declared.run.Limits.{Limits}
 use Rattle.kilim_program.specs.Members.{is_fit_main}
-use Rattle.kilim_isolation_check.specs.IsolatedProgram.{IsolatedProgram}
-use Rattle.kilim_stages.specs.declared.refusal.Refusal.{Refusal}
-use Rattle.kilim_stages.specs.declared.refusal.Refusal.TheVariants as refusal
 use Rattle.kilim_stages.specs.Accepted.{IsAcceptedOf}
 use Rattle.kilim_stages.specs.Laws.{NeverBoth, OneProgramOf}
-use Rattle.kilim_stages.specs.Parts.{IfReport}
-use Rattle.kilim_stages.specs.Reports.{IsStageReport}
-use Rattle.kilim_words.specs.Words.{Request, Check, Run, files_read}
+use Rattle.kilim_demo.specs.Demo.{demo_texts}
+use Rattle.kilim_words.specs.Words.{Request, Check, Run, Demo}
 use Rattle.kilim_top.specs.declared.answer.Reply.{Reply}
 use Rattle.kilim_top.specs.declared.answer.Ready.{Ready}
 use Rattle.kilim_top.specs.declared.answer.Ready.TheVariants as ready
-use Rattle.kilim_top.specs.Inside.Answer.{IsMainOf, IsNoMain, IsReadyFor, IsReadyOf, IsRefusedBy, IsReplyFor, IsTextOf, IsToRun}
+use Rattle.kilim_top.specs.Inside.Answer.{IsMainOf, IsNoMain, IsReadyFor, IsReadyOf, IsReplyFor, IsTextOf}
 use Rattle.kilim_top.specs.Outcome.{IsDone, IsFitFor, IsFitRun, IsIsolatedRun, IsReport, limits_of}
 use Rattle.kilim_top.specs.Report.{accepted_line, coded_methods, main_line, utf16_of}
 use Rattle.kilim_thread_model.specs.State.{Setting}
@@ -41,10 +37,12 @@ module _ (both : NeverBoth) (one : OneProgramOf) where
   pub never : (work : Request) (files : List (List ℕ)) (text : List ℕ) → IsFitFor work files → IsReport work files text → ⊥
   never (Check names) files text fit report = both names files text fit.0 fit.1 report
   never (Run main workers steps args names) files text fit report = never_run main workers steps args names files text fit report
+  never (Demo number workers) files text fit report = both [] (demo_texts number) text fit.0 fit.1 (inr report)
 
 fit_of : (work : Request) (files : List (List ℕ)) (text : List ℕ) → IsDone work files text → IsFitFor work files
 fit_of (Check names) files text done = (done.program, done.accepted)
 fit_of (Run main workers steps args names) files text done = done.0
+fit_of (Demo number workers) files text done = (done.program, done.accepted)
 
 -- ---- from an accepted program to the bytes of its files
 
@@ -65,6 +63,7 @@ no_class p main status text found is one = (one, record { none = none_named p (u
 ready_one : (main : List ℕ) (workers steps : ℕ) (args : List ℤ) (names files : List (List ℕ)) (p : Program) (r : Ready) → IsAcceptedOf files p → AreServed p → AreIsolated p → IsReadyOf p main (limits_of steps args) r → IsReadyFor (Run main workers steps args names) files r
 ready_one main workers steps args names files p (ready.Reply reply) is served isolated h = inr (h.0, inr (record { program = p; accepted = is; none = h.1.none; is_text = h.1.is_text }))
 ready_one main workers steps args names files p (ready.Run q class l) is served isolated h = to_run main workers steps args names files p (setting_of q class l) is served isolated h
+ready_one main workers steps args names files p (ready.Demo number) is served isolated h = elim h [ ]
 
 pub ready_run : (main : List ℕ) (workers steps : ℕ) (args : List ℤ) (names files : List (List ℕ)) (p : Program) (r : Result Ready NoMemory) → IsAcceptedOf files p → AreServed p → AreIsolated p →
     IfOk r (IsReadyOf p main (limits_of steps args)) → IfOk r (IsReadyFor (Run main workers steps args names) files)
@@ -76,27 +75,8 @@ pub text_reply : (set : Setting) (es : List Entry) (r : Result Reply NoMemory) �
 text_reply set es (Ok reply) is zero text = (zero, record { journal = es; is = is; is_text = text })
 text_reply set es (Err e) is zero text = tt
 
--- a run that was made
-pub ran : (work : Request) (files : List (List ℕ)) (set : Setting) (r : Result Reply NoMemory) → IsToRun work files set → IfOk r (λ reply. (reply.status ≡ 0) × IsTextOf set reply.text.items) → IfOk r (λ reply. IsReplyFor work files reply.status reply.text.items)
-ran work files set (Ok reply) is h = inl (h.0, is.done reply.text.items h.1)
-ran work files set (Err e) is h = tt
-
 pub check_done : (names files : List (List ℕ)) (p : Program) (status : ℕ) (text : List ℕ) → IsAcceptedOf files p → AreIsolated p → status ≡ 0 → text ≡ accepted_line (length files) (coded_methods p) → IsReplyFor (Check names) files status text
 check_done names files p status text is isolated zero e = inl (zero, record { program = p; accepted = is; isolated = isolated; is_text = e })
-
--- a report of the stages is one for each work
-stage_for : (work : Request) (files : List (List ℕ)) (text : List ℕ) → IsStageReport (files_read work) files text → IsReport work files text
-stage_for (Check names) files text report = report
-stage_for (Run main workers steps args names) files text report = inl report
-
-pub refused_by : (work : Request) (files : List (List ℕ)) (r : Refusal) (status : ℕ) (text : List ℕ) → IfReport {A = IsolatedProgram} (Err r) (IsStageReport (files_read work) files) → IsRefusedBy r status text → IsReplyFor work files status text
-refused_by work files refusal.NoMemory status text said by = absurd by
-refused_by work files (refusal.Report t) status text said by = inr (by.0, subst (λ (s : List ℕ). IsReport work files s) (sym by.1) (stage_for work files t.items said))
-
-pub refused : (work : Request) (files : List (List ℕ)) (r : Refusal) (a : Result Reply NoMemory) → IfReport {A = IsolatedProgram} (Err r) (IsStageReport (files_read work) files) → IfOk a (λ reply. IsRefusedBy r reply.status reply.text.items) →
-    IfOk a (λ reply. IsReplyFor work files reply.status reply.text.items)
-refused work files r (Ok reply) said by = refused_by work files r reply.status reply.text.items said by
-refused work files r (Err e) said by = tt
 
 -- ---- what a reply says
 

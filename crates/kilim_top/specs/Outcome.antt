@@ -19,7 +19,8 @@ use Rattle.kilim_thread_model.specs.Reach.{Liveness, PlaysIsolated}
 use Rattle.kilim_thread_model.specs.Runs.{Whole}
 use Rattle.kilim_thread_model.specs.State.{Setting}
 use Rattle.kilim_typing.specs.Typed.{Live}
-use Rattle.kilim_words.specs.Words.{Request, Check, Run, files_read, files_written}
+use Rattle.kilim_words.specs.Words.{Request, Check, Run, Demo, files_read, files_written}
+use Rattle.kilim_demo.specs.Demo.{demo_texts, IsDemoLine, IsDemoReport}
 use Rattle.kilim_stages.specs.Accepted.{IsAcceptedOf}
 use Rattle.kilim_stages.specs.Reports.{IsStageReport}
 use Rattle.kilim_top.specs.declared.status.TheConstants.{DONE, REPORTED, USAGE, UNREAD, UNWRITTEN, NO_MEMORY}
@@ -78,11 +79,13 @@ pub record IsCheck (files : List (List ℕ)) (text : List ℕ) : Type 0 where
 abbrev pub IsFitFor : Request → List (List ℕ) → Type 0
 IsFitFor (Check names) files = (program : Program) × IsAcceptedOf files program
 IsFitFor (Run main workers steps args names) files = IsFitRun main files
+IsFitFor (Demo number workers) files = (program : Program) × IsAcceptedOf (demo_texts number) program
 
 -- what is written where it was done
 abbrev pub IsDone : Request → List (List ℕ) → List ℕ → Type 0
 IsDone (Check names) files text = IsCheck files text
 IsDone (Run main workers steps args names) files text = IsFitRun main files × IsWholeRun main (limits_of steps args) files text
+IsDone (Demo number workers) files text = IsDemoLine number text
 
 -- ---- reports: lines with their line feeds
 
@@ -97,6 +100,7 @@ pub record IsMainReport (main : List ℕ) (files : List (List ℕ)) (text : List
 abbrev pub IsReport : Request → List (List ℕ) → List ℕ → Type 0
 IsReport (Check names) files text = IsStageReport names files text
 IsReport (Run main workers steps args names) files text = IsStageReport names files text ⊎ IsMainReport main files text
+IsReport (Demo number workers) files text = IsDemoReport number text
 
 -- ---- what was read
 

@@ -1,11 +1,12 @@
 -- How many workers the words ask for.
 use Rattle.std.specs.Prelude.{◌<◌, ℕ, Option, Some, None}
-use Rattle.kilim_words.specs.Words.{Request, Check, Run}
+use Rattle.kilim_words.specs.Words.{Request, Check, Run, Demo}
 
 -- to check takes one
 abbrev pub workers_of : Request → ℕ
 workers_of (Check files) = 1
 workers_of (Run main workers steps args files) = workers
+workers_of (Demo number workers) = workers
 
 -- a run with more workers than the caller
 abbrev pub NeedsWorkers : Option Request → Type 0

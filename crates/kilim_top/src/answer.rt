@@ -40,6 +40,8 @@ pub enum Ready {
     Reply(Reply),
     /// To run a program with its main class.
     Run(Program, ClassId, Limits),
+    /// To run the demo of a number.
+    Demo(u64),
 }
 
 // The class of that name, if it is fit to be the main class.
@@ -80,8 +82,8 @@ fn program_ready(alloc: Global, words: &RunWords<'_>, program: Program) -> Resul
     }
 }
 
-// What is answered where the stages refuse.
-fn refused(refusal: Refusal) -> Result<Reply, NoMemory>
+/// What is answered where the stages refuse.
+pub fn refused(refusal: Refusal) -> Result<Reply, NoMemory>
     ensures { IfOk result (λ reply. IsRefusedBy refusal reply.status reply.text.items) }
 {
     match refusal {
@@ -168,6 +170,7 @@ pub fn prepare(alloc: Global, asked: &Asked<'_>, files: &[Seq<u8>]) -> Result<Re
             Ok(Ready::Reply(reply))
         }
         Asked::Run(words) => run_ready(alloc, words, files),
+        Asked::Demo(words) => Ok(Ready::Demo(words.number)),
     }
 }
 

@@ -2,15 +2,20 @@
 
 ghost use Rattle.std.specs.Prelude.{◌≡◌, ◌≤◌, IfOk, length};
 ghost use Rattle.kilim_whole_runs.specs.Runs.{IsServed, setting_of};
+ghost use Rattle.kilim_demo.specs.Demo.{IsDemoLine, IsDemoReport};
+ghost use Rattle.kilim_stages.specs.Parts.{IfReport};
 ghost use Rattle.kilim_words.specs.Parts.{meant};
 ghost use Rattle.kilim_words.specs.Words.{files_read};
-ghost use Rattle.kilim_top.specs.Inside.Answer.{IsReplyFor, IsTextOf};
+ghost use Rattle.kilim_top.specs.Inside.Answer.{IsDemoReply, IsReplyFor, IsTextOf};
 ghost use Rattle.kilim_top.specs.Words.{workers_of};
 
-use crate::answer::{Ready, Reply, journal_reply, prepare};
+use crate::answer::{Ready, Reply, journal_reply, prepare, refused};
+use crate::status::DONE;
 use kilim_classes::{ClassId, Program};
+use kilim_demo::{demo_alone, demo_with};
 use kilim_outside::Gate;
 use kilim_program::Limits;
+use kilim_stages::Refusal;
 use kilim_units::{NoMemory, Seq};
 use kilim_whole_runs::{run_alone, run_with};
 use kilim_words::Asked;
@@ -25,6 +30,7 @@ pub fn workers_of(asked: &Asked<'_>) -> u64
     match asked {
         Asked::Check(_) => 1,
         Asked::Run(words) => words.workers,
+        Asked::Demo(words) => words.workers,
     }
 }
 
@@ -60,6 +66,40 @@ fn run_reply_with<R: Threads + Wait + Sync, G: Gate>(
     journal_reply(alloc, &entries)
 }
 
+// The line of a demo, or its report.
+#[tactic(auto, using(crate::proofs::Demos::demo_refused))]
+fn demo_reply(number: u64, made: Result<Vec<u8>, Refusal>) -> Result<Reply, NoMemory>
+    requires line { IfOk made (λ text. IsDemoLine number text.items) }
+    requires report { IfReport made (IsDemoReport number) }
+    ensures { IfOk result (λ reply. IsDemoReply number reply.status reply.text.items) }
+{
+    let _number = number;
+    match made {
+        Ok(text) => Ok(Reply { status: DONE, text }),
+        Err(refusal) => refused(refusal),
+    }
+}
+
+// A demo by one worker.
+fn demo_reply_alone<G: Gate>(alloc: Global, number: u64, gate: &G) -> Result<Reply, NoMemory>
+    ensures { IfOk result (λ reply. IsDemoReply number reply.status reply.text.items) }
+{
+    demo_reply(number, demo_alone(alloc, number, gate))
+}
+
+// A demo by as many as are asked for.
+fn demo_reply_with<R: Threads + Wait + Sync, G: Gate>(
+    rt: &R,
+    alloc: Global,
+    number: u64,
+    workers: u64,
+    gate: &G,
+) -> Result<Reply, NoMemory>
+    ensures { IfOk result (λ reply. IsDemoReply number reply.status reply.text.items) }
+{
+    demo_reply(number, demo_with(rt, alloc, number, workers, gate))
+}
+
 /// What is answered for the bytes of the files that the words name, with a run by one worker.
 pub fn reply_alone<G: Gate>(
     alloc: Global,
@@ -76,6 +116,7 @@ pub fn reply_alone<G: Gate>(
         Ready::Run(program, class, limits) => {
             run_reply_alone(alloc, program, class, &limits, gate)
         }
+        Ready::Demo(number) => demo_reply_alone(alloc, number, gate),
     }
 }
 
@@ -97,5 +138,6 @@ pub fn reply_with<R: Threads + Wait + Sync, G: Gate>(
         Ready::Run(program, class, limits) => {
             run_reply_with(rt, alloc, program, class, &limits, workers, gate)
         }
+        Ready::Demo(number) => demo_reply_with(rt, alloc, number, workers, gate),
     }
 }

@@ -112,11 +112,12 @@ fn answered<R: Files + Threads + Wait + Sync, G: Gate>(
             let files = contents(rt, alloc, words.files)?;
             run(rt, alloc, &words, files.as_slice(), gate)
         }
+        Asked::Demo(_) => None,
     }
 }
 
 /// `check FILE..` and `run --main=NAME ..`: what the command writes for these words: a report, that the files are accepted, or a journal.
-/// Nothing where the words aren't in its grammar, a file can't be read, no class of the name is fit, or memory runs out.
+/// Nothing where the words are others, a file can't be read, no class of the name is fit, or memory runs out.
 pub fn call_case<R: Files + Threads + Wait + Sync>(
     rt: &R,
     alloc: Global,

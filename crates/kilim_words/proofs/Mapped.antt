@@ -3,7 +3,7 @@ use Rattle.std.proofs.Common.{◌≡◌, ℕ, ℤ, suc, Bool, ◌&&◌, nat_lt, 
 use Rattle.std.specs.List.{list_all}
 use Rattle.kilim_words.specs.declared.options.Values.{Values}
 use Rattle.kilim_words.specs.Parts.{Tells}
-use Rattle.kilim_words.specs.Words.{Request, are_files, args_in, default_steps, is_file, is_option, main_in, main_option, most_steps, most_workers, number_or, run_of, run_with, steps_option, value_behind, value_or, values_of, workers_option}
+use Rattle.kilim_words.specs.Words.{Request, are_files, args_in, default_steps, demo_request, demo_with, is_demo_option, is_file, is_option, main_in, main_option, most_number, most_steps, most_workers, number_of, number_option, number_or, run_of, run_with, steps_option, value_behind, value_or, values_of, workers_option}
 
 pub all_map : {A B : Type 0} (f : A → B) (test : B → Bool) (xs : List A) → list_all (λ x. test (f x)) xs ≡ list_all test (map f xs)
 all_map f test [] = refl
@@ -59,3 +59,16 @@ run_taken o f b z r e n s = s ∙ sym (ap (λ (y : Bool). cond y (asked_run o f 
 pub with_same : (f : List (List ℕ)) (m m' : Option (List ℕ)) (w w' s s' : Option ℕ) (a a' : Option (List ℤ)) → m ≡ m' → w ≡ w' → s ≡ s' → a ≡ a' → run_with f m w s a ≡ run_with f m' w' s' a'
 with_same f m m' w w' s s' a a' p q r t =
     ap (λ (x : Option (List ℕ)). run_with f x w s a) p ∙ (ap (λ (x : Option ℕ). run_with f m' x s a) q ∙ (ap (λ (x : Option ℕ). run_with f m' w' x a) r ∙ ap (λ (x : Option (List ℤ)). run_with f m' w' s' x) t))
+
+-- ---- what `demo` is asked
+
+abbrev asked_demo : List (List ℕ) → Option Request
+asked_demo ws = demo_with (number_of most_number (values_of number_option ws)) (number_or 1 most_workers (values_of workers_option ws))
+
+pub demo_refused : (ws : List (List ℕ)) (z : Bool) → z ≡ list_all is_demo_option ws → z ≡ false → None ≡ demo_request ws
+demo_refused ws z e n = sym (ap (λ (y : Bool). cond y (asked_demo ws) None) (sym e ∙ n))
+
+pub demo_taken : (ws : List (List ℕ)) (z : Bool) (r : Option Request) (number workers : Option ℕ) → z ≡ list_all is_demo_option ws → z ≡ true → r ≡ demo_with number workers →
+    number ≡ number_of most_number (values_of number_option ws) → workers ≡ number_or 1 most_workers (values_of workers_option ws) → r ≡ demo_request ws
+demo_taken ws z r number workers e n s a b =
+    s ∙ (ap (λ (x : Option ℕ). demo_with x workers) a ∙ (ap (λ (x : Option ℕ). demo_with (number_of most_number (values_of number_option ws)) x) b ∙ sym (ap (λ (y : Bool). cond y (asked_demo ws) None) (sym e ∙ n))))

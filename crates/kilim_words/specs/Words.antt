@@ -2,6 +2,7 @@
 --
 --     check FILE..
 --     run --main=NAME [--workers=W] [--steps=N] FILE.. [-- INT..]
+--     demo --number=D [--workers=W]
 --
 -- The command is the first word. Options stand behind it, in any order, each at most once.
 use Rattle.std.specs.Prelude.{ℕ, suc, take, ℤ, Bool, false, ◌&&◌, ◌||◌, not, ◌==◌, nat_eq, nat_lt, nat_le, if◌then◌else◌, is_some, length, drop, List, [], ◌∷◌, Option, Some, None, codes}
@@ -15,6 +16,8 @@ pub data Request : Type 0 where
   Check : (files : List (List ℕ)) → Request
   -- to run the main class of these files, with so many workers, at most so many instructions of each task, and these numbers
   Run : (main : List ℕ) (workers steps : ℕ) (args : List ℤ) (files : List (List ℕ)) → Request
+  -- to run the demo of a number, with so many workers
+  Demo : (number workers : ℕ) → Request
 
 -- ---- words
 
@@ -63,6 +66,12 @@ steps_option = codes "--steps="
 abbrev pub is_option : List ℕ → Bool
 is_option word = is_some (value_behind main_option word) || (is_some (value_behind workers_option word) || is_some (value_behind steps_option word))
 
+abbrev pub number_option : List ℕ
+number_option = codes "--number="
+
+abbrev pub is_demo_option : List ℕ → Bool
+is_demo_option word = is_some (value_behind number_option word) || is_some (value_behind workers_option word)
+
 -- the name of the main class: it stands, and isn't empty
 abbrev pub main_in : List (List ℕ) → Option (List ℕ)
 main_in ((b ∷ bs) ∷ []) = Some (b ∷ bs)
@@ -73,6 +82,15 @@ abbrev pub number_or : ℕ → ℕ → List (List ℕ) → Option ℕ
 number_or default most [] = Some default
 number_or default most (value ∷ []) = number_in 1 most value
 number_or default most values = None
+
+-- a number up to `most`, which stands
+abbrev pub number_of : ℕ → List (List ℕ) → Option ℕ
+number_of most (value ∷ []) = number_in 0 most value
+number_of most values = None
+
+-- the greatest number of a demo
+abbrev pub most_number : ℕ
+most_number = 18446744073709551615
 
 abbrev pub most_workers : ℕ
 most_workers = 16
@@ -132,15 +150,31 @@ run_behind options others = run_of options (take (count_plain others) others) (d
 abbrev pub run_request : List (List ℕ) → Option Request
 run_request words = run_behind (take (count_hyphened words) words) (drop (count_hyphened words) words)
 
+abbrev pub demo_with : Option ℕ → Option ℕ → Option Request
+demo_with (Some number) (Some workers) = Some (Demo number workers)
+demo_with number workers = None
+
+-- options alone
+abbrev pub demo_request : List (List ℕ) → Option Request
+demo_request words =
+    if list_all is_demo_option words then
+    demo_with (number_of most_number (values_of number_option words)) (number_or 1 most_workers (values_of workers_option words))
+    else None
+
 -- A list of words that asks for nothing isn't in the grammar.
 abbrev pub request_of : List (List ℕ) → Option Request
 request_of [] = None
-request_of (command ∷ words) = if bytes_eq command (codes "check") then check_request words else (if bytes_eq command (codes "run") then run_request words else None)
+request_of (command ∷ words) =
+    if bytes_eq command (codes "check") then check_request words
+    else (if bytes_eq command (codes "run") then run_request words
+    else (if bytes_eq command (codes "demo") then demo_request words
+    else None))
 
 -- the files that a command reads, and those that it writes
 abbrev pub files_read : Request → List (List ℕ)
 files_read (Check files) = files
 files_read (Run main workers steps args files) = files
+files_read (Demo number workers) = []
 
 abbrev pub files_written : Request → List (List ℕ)
 files_written request = []

@@ -7,10 +7,10 @@ ghost use Rattle.std.specs.Str.{bytes_eq};
 ghost use Rattle.std.specs.String.{string_bytes};
 ghost use Rattle.kilim_words.specs.Numbers.{int_by};
 ghost use Rattle.kilim_words.specs.Parts.{is_int, meant, numbers_of};
-ghost use Rattle.kilim_words.specs.Words.{are_files, args_in, check_request, count_hyphened, count_plain, files_read, ints_of, is_file, is_hyphened, is_option, request_of, run_behind, run_of, run_request, run_with, value_behind};
+ghost use Rattle.kilim_words.specs.Words.{are_files, args_in, check_request, count_hyphened, count_plain, demo_request, demo_with, files_read, ints_of, is_file, is_hyphened, is_option, request_of, run_behind, run_of, run_request, run_with, value_behind};
 
 use crate::numbers::int_of;
-use crate::options::{are_options, main_in, number_or};
+use crate::options::{are_demo_options, are_options, demo_number, main_in, number_or};
 use kilim_units::{NoMemory, Seq};
 use std::alloc::Global;
 
@@ -28,12 +28,21 @@ pub struct RunWords<'a> {
     pub files: &'a [String],
 }
 
+/// What `demo` is given.
+#[derive(Clone, Copy, Debug, PartialEq, Eq)]
+pub struct DemoWords {
+    pub number: u64,
+    /// From 1 to 16.
+    pub workers: u64,
+}
+
 /// What the words ask for, as the words that were given.
 #[derive(Drop)]
 pub enum Asked<'a> {
     /// To check these files.
     Check(&'a [String]),
     Run(RunWords<'a>),
+    Demo(DemoWords),
 }
 
 impl Asked<'_> {
@@ -44,6 +53,7 @@ impl Asked<'_> {
         match self {
             Asked::Check(files) => files,
             Asked::Run(run) => run.files,
+            Asked::Demo(_) => &[],
         }
     }
 }
@@ -239,6 +249,26 @@ fn run_request(words: &[String]) -> Option<Asked<'_>>
     run_behind(options, others)
 }
 
+fn demo_with<'a>(number: Option<u64>, workers: Option<u64>) -> Option<Asked<'a>>
+    ensures few { IfSome result (λ asked. length (files_read (meant asked)) ≤ 1000) }
+    ensures request { option_map meant result ≡ demo_with number workers }
+{
+    match (number, workers) {
+        (Some(number), Some(workers)) => Some(Asked::Demo(DemoWords { number, workers })),
+        _ => None,
+    }
+}
+
+fn demo_request<'a>(words: &'a [String]) -> Option<Asked<'a>>
+    ensures few { IfSome result (λ asked. length (files_read (meant asked)) ≤ 1000) }
+    ensures request { option_map meant result ≡ demo_request (map string_bytes words.now) }
+{
+    if !are_demo_options(words) {
+        return None;
+    }
+    demo_with(demo_number(words), number_or(1, 16, "--workers=", words))
+}
+
 /// What the words ask for, or nothing where they aren't in the grammar (specs/Words.antt). At most 1,000 files are named.
 /// It takes no memory.
 pub fn request(words: &[String]) -> Option<Asked<'_>>
@@ -248,6 +278,7 @@ pub fn request(words: &[String]) -> Option<Asked<'_>>
     match words {
         [command, rest @ ..] if command.as_str() == "check" => check_request(rest),
         [command, rest @ ..] if command.as_str() == "run" => run_request(rest),
+        [command, rest @ ..] if command.as_str() == "demo" => demo_request(rest),
         _ => None,
     }
 }

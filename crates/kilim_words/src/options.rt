@@ -5,7 +5,7 @@ ghost use Rattle.std.specs.Option.{option_copied, option_map};
 ghost use Rattle.std.specs.List.{list_all};
 ghost use Rattle.std.specs.String.{string_bytes};
 ghost use Rattle.kilim_words.specs.Parts.{Tells};
-ghost use Rattle.kilim_words.specs.Words.{value_or, is_option, main_in, main_option, number_or, steps_option, value_behind, values_of, workers_option};
+ghost use Rattle.kilim_words.specs.Words.{value_or, is_demo_option, is_option, main_in, main_option, number_of, number_option, number_or, steps_option, value_behind, values_of, workers_option};
 
 use crate::numbers::{number_in, value_behind};
 
@@ -58,6 +58,35 @@ pub fn are_options(words: &[String]) -> bool
     ensures { result ≡ list_all is_option (map string_bytes words.now) }
 {
     all_options(words)
+}
+
+fn is_demo_option(word: &str) -> bool
+    ensures { result ≡ is_demo_option word.now }
+{
+    value_behind("--number=", word).is_some() || value_behind("--workers=", word).is_some()
+}
+
+fn all_demo_options(words: &[String]) -> bool
+    ensures { result ≡ list_all (λ word. is_demo_option (string_bytes word)) words.now }
+{
+    words.iter().all(|word| is_demo_option(word.as_str()))
+}
+
+/// Whether all of these words are options of `demo`.
+pub fn are_demo_options(words: &[String]) -> bool
+    ensures { result ≡ list_all is_demo_option (map string_bytes words.now) }
+{
+    all_demo_options(words)
+}
+
+/// The number of the demo.
+pub fn demo_number(options: &[String]) -> Option<u64>
+    ensures { result ≡ number_of u64.MAX (values_of number_option (map string_bytes options.now)) }
+{
+    match values_of("--number=", options) {
+        Values::One(value) => number_in(0, u64::MAX, value),
+        _ => None,
+    }
 }
 
 /// The name of the main class.

@@ -3,6 +3,7 @@ use Rattle.std.specs.Prelude.{◌≡◌, ℕ, true, List, Some, ◌⊎◌}
 use Rattle.kilim_classes.specs.declared.names.ClassId.{ClassId}
 use Rattle.kilim_classes.specs.Names.{class_named}
 use Rattle.kilim_classes.specs.Program.{Program}
+use Rattle.kilim_demo.specs.Demo.{IsDemoLine, IsDemoReport}
 use Rattle.kilim_journal.specs.Text.{journal_text}
 use Rattle.kilim_journal.specs.declared.entry.Entry.{Entry}
 use Rattle.kilim_program.specs.declared.run.Limits.{Limits}
@@ -34,6 +35,10 @@ pub record IsNoMain (program : Program) (main text : List ℕ) : Type 0 where
 abbrev pub IsReply : (List ℕ → Type 0) → (List ℕ → Type 0) → ℕ → List ℕ → Type 0
 IsReply done report status text = ((status ≡ 0) × done text) ⊎ ((status ≡ 1) × report text)
 
+-- of the demo of a number
+abbrev pub IsDemoReply : ℕ → ℕ → List ℕ → Type 0
+IsDemoReply number status text = IsReply (IsDemoLine number) (IsDemoReport number) status text
+
 -- where the stages refuse: their report
 abbrev pub IsRefusedBy : Refusal → ℕ → List ℕ → Type 0
 IsRefusedBy refusal.NoMemory status text = ⊥
@@ -50,9 +55,15 @@ pub record IsToRun (work : Request) (files : List (List ℕ)) (set : Setting) : 
   pub served : IsServed set
   pub done : (text : List ℕ) → IsTextOf set text → IsDone work files text
 
+-- the demo of a number is to be run, and with its line the work is done
+pub record IsToDemo (work : Request) (files : List (List ℕ)) (number : ℕ) : Type 0 where
+  pub done : (text : List ℕ) → IsDemoLine number text → IsDone work files text
+  pub report : (text : List ℕ) → IsDemoReport number text → IsReport work files text
+
 abbrev pub IsReadyFor : Request → List (List ℕ) → Ready → Type 0
 IsReadyFor work files (ready.Reply reply) = IsReplyFor work files reply.status reply.text.items
 IsReadyFor work files (ready.Run program class limits) = IsToRun work files (setting_of program class limits)
+IsReadyFor work files (ready.Demo number) = IsToDemo work files number
 
 -- the main class, with the program and the limits as they are
 pub record IsMainOf (program : Program) (main : List ℕ) (limits : Limits) (set : Setting) : Type 0 where
@@ -63,3 +74,4 @@ pub record IsMainOf (program : Program) (main : List ℕ) (limits : Limits) (set
 abbrev pub IsReadyOf : Program → List ℕ → Limits → Ready → Type 0
 IsReadyOf program main limits (ready.Reply reply) = (reply.status ≡ 1) × IsNoMain program main reply.text.items
 IsReadyOf program main limits (ready.Run p class l) = IsMainOf program main limits (setting_of p class l)
+IsReadyOf program main limits (ready.Demo number) = ⊥

@@ -1,0 +1,11 @@
+use Rattle.std.proofs.Common.{subst}
+use Rattle.kilim_words.specs.Parts.{meant}
+use Rattle.kilim_top.specs.declared.answer.Ready.{Ready}
+use Rattle.kilim_top.specs.Inside.Answer.{IsReadyFor}
+use Rattle.kilim_top.proofs.Demos.{demoed}
+use Rattle.kilim_top.proofs.runs.reply_with.Goals as goal
+
+pub returns-in-Demo : goal.returns-in-Demo
+returns-in-Demo g c =
+    demoed (meant c.args.asked.now) c.args.files.now c.in-Demo.number c.demo_reply_with.result
+    (subst (λ (r : Ready). IsReadyFor (meant c.args.asked.now) c.args.files.now r) c.in-Demo.is c.in_ok-reply.ensures) c.demo_reply_with.ensures
