@@ -20,7 +20,7 @@ use Rattle.kilim_woven_program.proofs.Made.{there}
 use Rattle.kilim_woven_program.specs.Made.{woven_counted, woven_program}
 use Rattle.kilim_woven_ready.proofs.Executes.{execute_same}
 use Rattle.kilim_woven_ready.proofs.Ready.{can_pause, over_pauses}
-use Rattle.kilim_woven_ready.specs.Law.{MayBegin, ServesTasks, TasksServe}
+use Rattle.kilim_woven_ready.specs.Law.{FormServes, MayBegin, ServesTasks, TasksServe, WovenFormsServe}
 use Rattle.kilim_woven_receivers.proofs.Begins.{one_frame}
 use Rattle.kilim_woven_runs.specs.Acts.{Lost, Over}
 use Rattle.kilim_woven_runs.specs.Links.{code}
@@ -80,3 +80,6 @@ tasks_serve set run short lives is =
     let marks = woven_counted set.program lives in
     let woven = there set.program run.keeps lives is in
     (form set run short W marks woven, serves_tasks set run short W marks woven)
+
+pub woven_forms_serve : WovenFormsServe
+woven_forms_serve set run short W marks woven = record { form = form set run short W marks woven; is = is_form set run short W marks woven; serves = serves_tasks set run short W marks woven }

@@ -35,7 +35,8 @@ use Rattle.kilim_woven_rows.specs.Shares.{Agree}
 use Rattle.kilim_woven_runs.specs.Acts.{Lost, World}
 use Rattle.kilim_woven_runs.specs.Fibers.{enter, new_fiber, wbegins}
 use Rattle.kilim_woven_runs.specs.Form.{is_pausable}
-use Rattle.kilim_woven_runs.specs.Links.{AllFit, Forms, SlotsFit, again, dummy_value}
+use Rattle.kilim_woven_runs.specs.Links.{AllFit, Forms, SlotsFit, again, code, dummy_value}
+use Rattle.kilim_woven_stands.specs.Law.{IsFormOf}
 use Rattle.kilim_woven_runs.specs.Rows.{OldHeap}
 use Rattle.kilim_woven_runs.specs.Runs.{most_uncounted}
 use Rattle.kilim_woven_runs.specs.Serves.{From, Serves}
@@ -94,3 +95,12 @@ abbrev pub TasksServe : Type 0
 TasksServe =
     (set : Setting) → IsRunOfAccepted set → NoneIsTooLong set.program → (lives : MethodId → ℕ → ℕ → Bool) → ((id : MethodId) (m : Method) → method_at set.program id ≡ Some m → IsLive m (lives id)) →
     (form : Forms set (woven_program set.program lives) (woven_counted set.program lives)) × ServesTasks set (woven_program set.program lives) (woven_counted set.program lives) form
+
+-- The same of each woven form of the program, and by old place each woven method has its form.
+pub record FormServes (set : Setting) (W : Program) (marks : List (List Bool)) : Type 0 where
+  pub form : Forms set W marks
+  pub is : (m : MethodId) (a : Method) → method_at set.program m ≡ Some a → IsFormOf set.program W (code set W marks) m (form m) a
+  pub serves : ServesTasks set W marks form
+
+abbrev pub WovenFormsServe : Type 0
+WovenFormsServe = (set : Setting) → IsRunOfAccepted set → NoneIsTooLong set.program → (W : Program) (marks : List (List Bool)) → WovenForm set.program W marks → FormServes set W marks

@@ -2,7 +2,7 @@
 //! Laws, and no code that does work.
 #![tactic(auto)]
 
-ghost use Rattle.kilim_woven_ready.specs.Law.{CallsAgain, ExecuteIsSame, OneBefore, TasksServe, ValuesFit};
+ghost use Rattle.kilim_woven_ready.specs.Law.{CallsAgain, ExecuteIsSame, OneBefore, TasksServe, ValuesFit, WovenFormsServe};
 
 /// A law, and no work: what a frame holds fits its types in the woven program.
 pub fn values_fit()
@@ -27,4 +27,9 @@ pub fn one_stands_before()
 /// A law, and no work: a woven fiber of an accepted program does what the task does.
 pub fn tasks_serve()
     ensures { TasksServe }
+{}
+
+/// A law, and no work: a fiber of each woven form of an accepted program does what the task does.
+pub fn woven_forms_serve()
+    ensures { WovenFormsServe }
 {}
