@@ -1,0 +1,2 @@
+pub mod AreServed
+pub mod Driving

@@ -1,0 +1,9 @@
+use Rattle.kilim_fiber_tables.specs.Driven.{set_of}
+use Rattle.kilim_fiber_tables.proofs.Driving.{of_run}
+use Rattle.kilim_fiber_tables.proofs.seats.booted.Goals as goal
+
+pub boot-requires : goal.boot-requires
+boot-requires c = (set_of c.args.run.now, of_run c.args.run.now c.requires)
+
+pub returns : goal.returns
+returns c = c.boot.ensures.stands (set_of c.args.run.now) (of_run c.args.run.now c.requires)
