@@ -1,8 +1,9 @@
 -- Giving back, the first board, and the close.
-use Rattle.std.proofs.Common.{◌≡◌, ℕ, zero, suc, ◌+◌, ◌<◌, ◌≤◌, nat_lt, Bool, true, false, cond, ◌==◌, List, [], ◌∷◌, ◌++◌, Option, Some, None, refl, sym, ap, subst, ◌∙◌, inl, inr, arith, get_or}
-use Rattle.std.specs.Prelude.{length, slice_get, if◌then◌else◌, replicate}
+use Rattle.std.proofs.Common.{◌≡◌, ℕ, zero, suc, ◌+◌, ◌<◌, Bool, true, false, cond, ◌==◌, List, [], ◌∷◌, ◌++◌, Option, Some, None, refl, sym, ap, subst, ◌∙◌, inl, inr, arith, get_or}
+use Rattle.std.specs.Prelude.{length, slice_get, slice_set, slice_index_or, drop, if◌then◌else◌, replicate}
 use Rattle.std.proofs.lemmas.Bool.Decides.{nat_tests}
 use Rattle.std.proofs.lemmas.Option.{get_or_from_slice_get}
+use Rattle.std.proofs.lemmas.List.{get_or-set_same, get_or-set_other, length-set}
 use Rattle.kilim_classes.specs.declared.names.BoxName.{BoxName}
 use Rattle.kilim_journal.specs.declared.entry.Entry.{Entry}
 use Rattle.kilim_thread_model.specs.State.{Setting}
@@ -10,7 +11,7 @@ use Rattle.kilim_thread_model.specs.Runs.{wait_entry}
 use Rattle.kilim_fibers.specs.Fibers.{StandsFor}
 use Rattle.kilim_exchange.specs.declared.board.Waiter.{Waiter}
 use Rattle.kilim_exchange.specs.Places.{Ready, is_task, Stood}
-use Rattle.kilim_exchange.specs.Board.{Board, BoardStands, is_alive, stands_in, to_serve, lent_of, closing, parked_box, IsQuiet}
+use Rattle.kilim_exchange.specs.Board.{Board, BoardStands, is_alive, stands_in, to_serve, lent_of, closing, parked_box, AreBoxes, IsQuiet}
 use Rattle.kilim_exchange.specs.Seen.{CourseAt, GiveAnswers, gives_at, RestsAs, IsNewBoard, MovedWhole}
 use Rattle.kilim_exchange.proofs.Places.{both_ways, front}
 use Rattle.kilim_exchange.proofs.Boards.{same_board, quiet_at_rest}
@@ -112,31 +113,43 @@ module _ {F : Type 0} (task : F → ℕ) (course : F → Course) (holds : Settin
     at_rest = quiet_at_rest task course holds set b st running quiet.0 quiet.1;
   }
 
+pub is_same : (a b : ℕ) → a ≡ b → (a == b) ≡ true
+is_same a b e = grind (arith, nat_tests)
+
 module _ {F : Type 0} (task : F → ℕ) where
-  abbrev pub NoneAt : List (Waiter F) → ℕ → ℕ → Type 0
-  NoneAt ws t i = (k : ℕ) → k < i → (w : Waiter F) → slice_get ws k ≡ Some w → (task w.fiber == t) ≡ false
+  abbrev no_box : Option BoxName
+  no_box = None
 
-  pub parked_first : (ws : List (Waiter F)) (t i : ℕ) (w : Waiter F) → NoneAt ws t i → slice_get ws i ≡ Some w → (task w.fiber == t) ≡ true → parked_box task ws t ≡ Some w.mailbox
-  parked_first [] t i w before at same = absurd (cc)
-  parked_first (q ∷ qs) t zero w before at same =
-      let e : q ≡ w = cc in
-      ap (λ b. if b then Some q.mailbox else parked_box task qs t) (ap (λ (x : Waiter F). task x.fiber == t) e ∙ same) ∙ ap (λ (x : Waiter F). Some x.mailbox) e
-  parked_first (q ∷ qs) t (suc i) w before at same =
-      ap (λ b. if b then Some q.mailbox else parked_box task qs t) (before 0 (omega arith) q refl) ∙ parked_first qs t i w (λ k h x e. before (suc k) (omega arith) x e) at same
+  -- the boxes of the waiters from one on
+  pub none_boxed : (ws : List (Waiter F)) (n k : ℕ) (boxes : List (Option BoxName)) → boxes ≡ replicate n None → k ≡ length ws → AreBoxes task (drop k ws) n boxes
+  none_boxed ws n k boxes e end = subst (AreBoxes task (drop k ws) n) (sym e) (subst (λ (m : ℕ). AreBoxes task (drop m ws) n (replicate n None)) (sym end) (record { each = replicate_each n; at = λ t less. none_in n t ∙ sym (ap (λ l. parked_box task l t) (all_dropped ws)) }))
+    where
+      replicate_each : (n : ℕ) → length (replicate n no_box) ≡ n
+      replicate_each zero = refl
+      replicate_each (suc n) = ap suc (replicate_each n)
 
-  pub parked_nowhere : (ws : List (Waiter F)) (t : ℕ) → NoneAt ws t (length ws) → parked_box task ws t ≡ None
-  parked_nowhere [] t before = refl
-  parked_nowhere (q ∷ qs) t before = ap (λ b. if b then Some q.mailbox else parked_box task qs t) (before 0 (omega arith) q refl) ∙ parked_nowhere qs t (λ k h x e. before (suc k) (omega arith) x e)
+      none_in : (n t : ℕ) → slice_index_or (replicate n no_box) t no_box ≡ no_box
+      none_in zero t = refl
+      none_in (suc n) zero = refl
+      none_in (suc n) (suc t) = none_in n t
 
-  pub none_at_more : (ws : List (Waiter F)) (t i : ℕ) (w : Waiter F) → NoneAt ws t i → slice_get ws i ≡ Some w → (task w.fiber == t) ≡ false → NoneAt ws t (i + 1)
-  none_at_more ws t i w before at other k h x e = elim (both_ways (nat_lt k i)) [
-    | inl below ↦ before k (grind (arith, nat_tests)) x e
-    | inr above ↦
-        let a : i ≤ k = grind (arith, nat_tests) in
-        let same : k ≡ i = omega arith in
-        let f : Some w ≡ Some x = sym at ∙ (ap (slice_get ws) (sym same) ∙ e) in
-        let g : w ≡ x = cc in ap (λ (y : Waiter F). task y.fiber == t) (sym g) ∙ other
-  ]
+      all_dropped : (ws : List (Waiter F)) → drop (length ws) ws ≡ []
+      all_dropped [] = refl
+      all_dropped (w ∷ ws) = all_dropped ws
+
+  pub boxed_more : (ws : List (Waiter F)) (n k : ℕ) (w : Waiter F) (boxes boxes' : List (Option BoxName)) → drop k ws ≡ w ∷ drop (k + 1) ws → boxes' ≡ slice_set boxes (task w.fiber) (Some w.mailbox) → AreBoxes task (drop (k + 1) ws) n boxes → AreBoxes task (drop k ws) n boxes'
+  boxed_more ws n k w boxes boxes' e d a = subst (AreBoxes task (drop k ws) n) (sym d) (subst (λ l. AreBoxes task l n (slice_set boxes (task w.fiber) (Some w.mailbox))) (sym e) (record { each = length-set boxes (task w.fiber) (Some w.mailbox) ∙ a.each; at = at }))
+    where
+      at : (t : ℕ) → t < n → slice_index_or (slice_set boxes (task w.fiber) (Some w.mailbox)) t None ≡ parked_box task (w ∷ drop (k + 1) ws) t
+      at t less = elim (both_ways (task w.fiber == t)) [
+        | inl same ↦
+            let u : t ≡ task w.fiber = grind (arith, nat_tests) in
+            let each = a.each in
+            ap (λ i. slice_index_or (slice_set boxes (task w.fiber) (Some w.mailbox)) i None) u ∙ get_or-set_same boxes (task w.fiber) (Some w.mailbox) None (let v = sym u in omega (arith, less, each, v)) ∙ ap (λ b. if b then Some w.mailbox else parked_box task (drop (k + 1) ws) t) (sym same)
+        | inr other ↦
+            get_or-set_other boxes (task w.fiber) t (Some w.mailbox) None (λ v. let h : (task w.fiber == t) ≡ true = is_same (task w.fiber) t (sym v) in let z : false ≡ true = sym other ∙ h in absurd cc)
+            ∙ (a.at t less ∙ ap (λ b. if b then Some w.mailbox else parked_box task (drop (k + 1) ws) t) (sym other))
+      ]
 
   closing_apart : (ws : List (Waiter F)) (t n : ℕ) → closing task ws t (suc n) ≡ closing task ws t n ++ wait_entry (t + n) (parked_box task ws (t + n))
   closing_apart ws t zero = empty_end (wait_entry t (parked_box task ws t)) ∙ ap (λ u. wait_entry u (parked_box task ws u)) (let e : t ≡ t + 0 = omega arith in e)
@@ -167,9 +180,6 @@ same_task (x ∷ xs) (suc n) t u e f = same_task xs n t u e f
 
 pub not_same : (a b : ℕ) → (a ≡ b → ⊥) → (a == b) ≡ false
 not_same a b n = elim (both_ways (a == b)) [ inl is ↦ absurd (n (grind (arith, nat_tests))) | inr isnt ↦ isnt ]
-
-pub is_same : (a b : ℕ) → a ≡ b → (a == b) ≡ true
-is_same a b e = grind (arith, nat_tests)
 
 pub same_cell : (cells : List (Option ℕ)) (seat t u : ℕ) (o : Option ℕ) → slice_get cells seat ≡ Some (Some t) → o ≡ get_or cells seat o → o ≡ Some u → u ≡ t
 same_cell cells seat t u o e f g = let h : get_or cells seat o ≡ Some t = get_or_from_slice_get cells seat (Some t) o e in let k : Some u ≡ Some t = sym g ∙ (f ∙ h) in cc

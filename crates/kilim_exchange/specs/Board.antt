@@ -1,5 +1,5 @@
 -- What the board of tasks stands for.
-use Rattle.std.specs.Prelude.{◌≡◌, ℕ, zero, suc, ◌+◌, Bool, true, false, not, ◌==◌, if◌then◌else◌, List, [], ◌∷◌, ◌++◌, Option, Some, None, length, slice_get, slice_set}
+use Rattle.std.specs.Prelude.{◌≡◌, ℕ, zero, suc, ◌+◌, Bool, true, false, not, ◌==◌, if◌then◌else◌, List, [], ◌∷◌, ◌++◌, Option, Some, None, length, slice_get, slice_set, ◌<◌, slice_index_or}
 use Rattle.std.specs.List.{AllByRecursion}
 use Rattle.kilim_program.specs.declared.cause.EndCause.{EndCause}
 use Rattle.kilim_classes.specs.Program.{Program}
@@ -219,6 +219,11 @@ pub record EndsTask {F : Type 0} (b : Board F) (seat t : ℕ) (b' : Board F) (wh
 abbrev pub parked_box : {F : Type 0} → (F → ℕ) → List (Waiter F) → ℕ → Option BoxName
 parked_box task [] t = None
 parked_box task (w ∷ ws) t = if task w.fiber == t then Some w.mailbox else parked_box task ws t
+
+-- the mailboxes at which so many tasks are parked, by their numbers
+pub record AreBoxes {F : Type 0} (task : F → ℕ) (parked : List (Waiter F)) (tasks : ℕ) (boxes : List (Option BoxName)) : Type 0 where
+  pub each : length boxes ≡ tasks
+  pub at : (t : ℕ) → t < tasks → slice_index_or boxes t None ≡ parked_box task parked t
 
 -- a `waits` entry for each of so many tasks from t on that is parked, by increasing number
 abbrev pub closing : {F : Type 0} → (F → ℕ) → List (Waiter F) → ℕ → ℕ → List Entry

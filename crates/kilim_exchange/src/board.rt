@@ -1,6 +1,6 @@
 //! The board: where each task is, what waits in the mailboxes, and the journal.
 
-ghost use Rattle.std.specs.Prelude.{◌≡◌, ◌≢◌, ◌<◌, ◌≤◌, ◌+◌, ℕ, true, false, Some, None, OnOk, IfOk, IfErr, IfNone, IfSome, List, [], ◌∷◌, ◌++◌, length, slice_get, slice_set, replicate};
+ghost use Rattle.std.specs.Prelude.{◌≡◌, ◌≢◌, ◌<◌, ◌≤◌, ◌+◌, ℕ, true, false, Some, None, OnOk, IfOk, IfErr, IfNone, IfSome, List, [], ◌∷◌, ◌++◌, length, slice_get, slice_set, slice_index_or, replicate};
 ghost use Rattle.std.specs.Vec.{vec_capacity};
 ghost use Rattle.std.specs.VecDeque.{deque_capacity};
 ghost use Rattle.kilim_thread_model.specs.State.{Setting};
@@ -9,7 +9,7 @@ ghost use Rattle.kilim_thread_model.specs.Course.{Course};
 ghost use Rattle.kilim_thread_model.specs.declared.deed.Beginning.TheVariants.{Boot, Begun};
 ghost use Rattle.kilim_fibers.specs.Fibers.{StandsFor};
 ghost use Rattle.kilim_exchange.specs.Mailboxes.{HasRoom};
-ghost use Rattle.kilim_exchange.specs.Board.{BoardStands, lent_of, closing, parked_box, IsQuiet, Stops, PutsMessage, Notes, EndsTask, StartsTask};
+ghost use Rattle.kilim_exchange.specs.Board.{BoardStands, lent_of, closing, AreBoxes, IsQuiet, Stops, PutsMessage, Notes, EndsTask, StartsTask};
 ghost use Rattle.kilim_exchange.specs.Seen.{seen, IsRoomy, LendAnswers, GiveAnswers, TakeAnswers, IsNumbered, ActAnswers, ProbeAnswers, StartAnswers, RoomFor, IsActable, SameBoard, CourseAt, ActMeets, IsAnswered, wish_in, LentStands, RestsAs, IsNewBoard, MovedWhole};
 
 use crate::mailboxes::Mailboxes;
@@ -342,13 +342,14 @@ impl<F: Fibers> Board<F> {
             tasks,
             ready: _,
             parked,
-            mailboxes: _,
+            mailboxes,
             cells: _,
             stopped: _,
         } = self;
         let waiters = parked.into_list()?;
+        let boxes = parked_boxes(mailboxes.alloc, waiters.as_slice(), tasks as usize)?;
         for t in 0..tasks {
-            match parked_at(waiters.as_slice(), t) {
+            match parked_at(&boxes, t) {
                 Some(mailbox) => journal.push(Entry {
                     task: t,
                     act: Act::Wait(mailbox),
@@ -360,16 +361,51 @@ impl<F: Fibers> Board<F> {
     }
 }
 
-// The mailbox at which a task is parked.
-fn parked_at<F: Fibers>(parked: &[Waiter<F>], t: u32) -> Option<BoxName>
-    ensures { result ≡ parked_box F.task_of parked.now t }
+// No task's mailbox.
+fn no_boxes(alloc: Global, tasks: usize) -> Result<Vec<Option<BoxName>>, NoMemory>
+    ensures { IfOk result (λ boxes. boxes.items ≡ replicate tasks None) }
 {
-    for waiter in parked {
-        if waiter.fiber.task() == t {
-            return Some(waiter.mailbox);
-        }
+    let mut boxes = Vec::new(alloc);
+    for i in 0..tasks {
+        boxes.push(None)?;
     }
-    None
+    Ok(boxes)
+}
+
+// The mailbox of a task, where it is one of those that are asked for.
+fn set_box(boxes: &mut Vec<Option<BoxName>>, task: u32, mailbox: BoxName)
+    ensures { boxes.new.items ≡ slice_set boxes.old.items task (Some mailbox) }
+{
+    let at = task as usize;
+    if at < boxes.len() {
+        boxes[at] = Some(mailbox);
+    }
+}
+
+// The mailboxes at which so many tasks are parked. The last waiter comes first, so that the first one counts.
+fn parked_boxes<F: Fibers>(
+    alloc: Global,
+    waiters: &[Waiter<F>],
+    tasks: usize,
+) -> Result<Vec<Option<BoxName>>, NoMemory>
+    ensures { IfOk result (λ boxes. AreBoxes F.task_of waiters.now tasks boxes.items) }
+{
+    let mut boxes = no_boxes(alloc, tasks)?;
+    let mut left = waiters.len();
+    while left > 0 {
+        left -= 1;
+        let waiter = &waiters[left];
+        set_box(&mut boxes, waiter.fiber.task(), waiter.mailbox);
+    }
+    Ok(boxes)
+}
+
+// The mailbox at which a task is parked.
+fn parked_at(boxes: &Vec<Option<BoxName>>, t: u32) -> Option<BoxName>
+    requires { t < length boxes.now.items }
+    ensures { result ≡ slice_index_or boxes.now.items t None }
+{
+    boxes[t as usize]
 }
 
 // Cells that are all empty.

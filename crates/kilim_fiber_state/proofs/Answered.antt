@@ -16,6 +16,9 @@ use Rattle.kilim_fibers.specs.Fibers.{StandsFor, Asks, Fits, course_after, Count
 use Rattle.kilim_fibers.specs.Wishes.{IsMessage, Wish, ToPut, ToTake, ToProbe, ToStart, ToPrint, wish_of}
 use Rattle.kilim_fibers.specs.declared.Answer.{Answer}
 use Rattle.kilim_fibers.specs.declared.Answer.TheVariants as answer
+use Rattle.kilim_program.specs.Shapes.{shape_of}
+use Rattle.kilim_tree_move.specs.Moved.{tree_heap}
+use Rattle.kilim_fiber_state.specs.Past.{or_none, took}
 use Rattle.kilim_fiber_state.specs.Stands.{Serves, Here}
 use Rattle.kilim_fiber_state.specs.Fiber.{task_of, course_of, wished, HoldsFiber, AskedOf, Noted, Passed, Received, Refused, Answered}
 use Rattle.kilim_fiber_state.specs.declared.body.Body.{Body}
@@ -41,7 +44,7 @@ module _ (set : Setting) (old : Fiber) (x : Asked) (new : Fiber) (last : Lone) (
   mid = record old { asked = x; refused = None }
 
   further_is : (d : Deed) → Noted mid new d → course_of new ≡ further (course_of old) d
-  further_is d n = λ i. record { beginning = n.beginning i; deeds = n.log i }
+  further_is d n = λ i. record { beginning = n.beginning i; deeds = n.past i }
 
   none_refused : (d : Deed) (lone : Lone) → Noted mid new d → (box : BoxName) → new.refused ≡ Some box → (0 < new.body.count) × (stands_at set new.task lone ≡ Some box)
   none_refused d lone n box e = absurd (none-some box (sym n.refused ∙ e))
@@ -68,22 +71,22 @@ module _ (set : Setting) (old : Fiber) (x : Asked) (new : Fiber) (last : Lone) (
       (further_is d w.noted, stands d w.noted arrives, counts old.body.count new.body.count new.refused (more d thread w) w.noted.refused, arrives.here.most)
 
   -- the message that was told is the one that came
-  same_message : (tree : List Object) (box : BoxName) (n : ℕ) (w : Received p mid new box tree n) (shape : List Token) → IsMessage p tree shape → shape ≡ w.shape
-  same_message tree box n w shape m = same_Some _ _ (sym m.has ∙ w.has)
+  same_message : (tree : List Object) (shape : List Token) → IsMessage p tree shape → shape ≡ or_none (shape_of p (tree_heap tree) 0)
+  same_message tree shape m = ap or_none (sym m.has)
 
   take_came : (box : BoxName) (tree : List Object) (n : ℕ) (deed : Option Deed) → wish_of (next_action set old.task last) ≡ Some (ToTake box) → Received p mid new box tree n → Fits p (ToTake box) (answer.Message tree n) deed → Went set old (ToTake box) deed new
   take_came box tree n deed next w (shape, message, e) =
-      let same = same_message tree box n w shape message in
-      let d : Deed = record { act = act.Take box n; taken = w.shape } in
+      let same = same_message tree shape message in
+      let d : Deed = took p box n tree in
       made (ToTake box) d _ deed (e ∙ ap (λ (z : List Token). Some (record { act = act.Take box n; taken = z })) same) (λ b a r lt none. (lt, none)) w.passed
-      (was_taken set old.task (course_of old) last is old.body asks.body new.body w.passed.roomy w.passed.counted tree w.shape (subst (IsMessage p tree) same message) w.heap w.root w.put w.passed.thread-is box n next)
+      (was_taken set old.task (course_of old) last is old.body asks.body new.body w.passed.roomy w.passed.counted tree (or_none (shape_of p (tree_heap tree) 0)) (subst (IsMessage p tree) same message) w.heap w.root w.put w.passed.thread-is box n next)
 
   probe_came : (box : BoxName) (tree : List Object) (n : ℕ) (deed : Option Deed) → wish_of (next_action set old.task last) ≡ Some (ToProbe box) → Received p mid new box tree n → Fits p (ToProbe box) (answer.Message tree n) deed → Went set old (ToProbe box) deed new
   probe_came box tree n deed next w (shape, message, e) =
-      let same = same_message tree box n w shape message in
-      let d : Deed = record { act = act.Take box n; taken = w.shape } in
+      let same = same_message tree shape message in
+      let d : Deed = took p box n tree in
       made (ToProbe box) d _ deed (e ∙ ap (λ (z : List Token). Some (record { act = act.Take box n; taken = z })) same) (λ b a r lt none. (lt, none)) w.passed
-      (was_found set old.task (course_of old) last is old.body asks.body new.body w.passed.roomy w.passed.counted tree w.shape (subst (IsMessage p tree) same message) w.heap w.root w.put w.passed.thread-is box n next)
+      (was_found set old.task (course_of old) last is old.body asks.body new.body w.passed.roomy w.passed.counted tree (or_none (shape_of p (tree_heap tree) 0)) (subst (IsMessage p tree) same message) w.heap w.root w.put w.passed.thread-is box n next)
 
   -- it goes back before the take
   refused_so : (box : BoxName) (deed : Option Deed) → old.asked ≡ asked.Take box → Refused mid new box → deed ≡ None → Went set old (ToTake box) deed new
@@ -111,9 +114,9 @@ module _ (set : Setting) (old : Fiber) (x : Asked) (new : Fiber) (last : Lone) (
   -- each answer
   by_answer : (q : Asked) (a : Answer) (deed : Option Deed) → old.asked ≡ q → Answered p q a mid new → (wish : Wish) → Some wish ≡ wished q → Says wish → Fits p wish a deed → Went set old wish deed new
   by_answer (asked.Put box shape) (answer.Sent n) deed q w wish e next fits =
-      let go : Says (ToPut box shape) → Fits p (ToPut box shape) (answer.Sent n) deed → Went set old (ToPut box shape) deed new = λ says fit.
-      made (ToPut box shape) (plain (act.Put box n shape)) _ deed fit (λ b a r lt none. (lt, none)) w
-      (was_sent set old.task (course_of old) last is old.body asks.body new.body w.roomy w.counted w.thread-is box shape n says) in
+      let go : Says (ToPut box shape.value) → Fits p (ToPut box shape.value) (answer.Sent n) deed → Went set old (ToPut box shape.value) deed new = λ says fit.
+      made (ToPut box shape.value) (plain (act.Put box n shape.value)) _ deed fit (λ b a r lt none. (lt, none)) w
+      (was_sent set old.task (course_of old) last is old.body asks.body new.body w.roomy w.counted w.thread-is box shape.value n says) in
       subst (λ (z : Wish). Says z → Fits p z (answer.Sent n) deed → Went set old z deed new) (sym (same_Some _ _ e)) go next fits
   by_answer (asked.Take box) (answer.Message tree n) deed q w wish e next fits =
       subst (λ (z : Wish). Says z → Fits p z (answer.Message tree n) deed → Went set old z deed new) (sym (same_Some _ _ e)) (λ says fit. take_came box tree n deed says w fit) next fits
@@ -127,14 +130,14 @@ module _ (set : Setting) (old : Fiber) (x : Asked) (new : Fiber) (last : Lone) (
       (was_empty set old.task (course_of old) last is old.body asks.body new.body w.roomy w.counted w.thread-is box says) in
       subst (λ (z : Wish). Says z → Fits p z answer.Nothing deed → Went set old z deed new) (sym (same_Some _ _ e)) go next fits
   by_answer (asked.Start shape) (answer.Started n) deed q w wish e next fits =
-      let go : Says (ToStart shape) → Fits p (ToStart shape) (answer.Started n) deed → Went set old (ToStart shape) deed new = λ says fit.
-      made (ToStart shape) (plain (act.Start n shape)) _ deed fit (λ b a r lt none. (lt, none)) w
-      (was_started set old.task (course_of old) last is old.body asks.body new.body w.roomy w.counted w.thread-is shape n says) in
+      let go : Says (ToStart shape.value) → Fits p (ToStart shape.value) (answer.Started n) deed → Went set old (ToStart shape.value) deed new = λ says fit.
+      made (ToStart shape.value) (plain (act.Start n shape.value)) _ deed fit (λ b a r lt none. (lt, none)) w
+      (was_started set old.task (course_of old) last is old.body asks.body new.body w.roomy w.counted w.thread-is shape.value n says) in
       subst (λ (z : Wish). Says z → Fits p z (answer.Started n) deed → Went set old z deed new) (sym (same_Some _ _ e)) go next fits
   by_answer (asked.Print shape) answer.Done deed q w wish e next fits =
-      let go : Says (ToPrint shape) → Fits p (ToPrint shape) answer.Done deed → Went set old (ToPrint shape) deed new = λ says fit.
-      made (ToPrint shape) (plain (act.Print shape)) _ deed fit (λ b a r lt none. (lt, none)) w
-      (was_printed set old.task (course_of old) last is old.body asks.body new.body w.roomy w.counted w.thread-is shape says) in
+      let go : Says (ToPrint shape.value) → Fits p (ToPrint shape.value) answer.Done deed → Went set old (ToPrint shape.value) deed new = λ says fit.
+      made (ToPrint shape.value) (plain (act.Print shape.value)) _ deed fit (λ b a r lt none. (lt, none)) w
+      (was_printed set old.task (course_of old) last is old.body asks.body new.body w.roomy w.counted w.thread-is shape.value says) in
       subst (λ (z : Wish). Says z → Fits p z answer.Done deed → Went set old z deed new) (sym (same_Some _ _ e)) go next fits
   by_answer q a deed same w wish e next fits = absurd w
 

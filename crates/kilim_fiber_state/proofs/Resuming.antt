@@ -1,5 +1,6 @@
 -- What is wanted where a body came to something.
-use Rattle.std.proofs.Common.{◌≡◌, Bool, true, false, Some, None, refl, sym, subst, ◌∙◌}
+use Rattle.std.proofs.Common.{◌≡◌, Bool, true, false, Some, None, refl, sym, ap, subst, ◌∙◌}
+use Rattle.std.proofs.lemmas.Option.{same_Some, none-some}
 use Rattle.kilim_classes.specs.declared.names.BoxName.{BoxName}
 use Rattle.kilim_program.specs.declared.run.Limits.{Limits}
 use Rattle.kilim_thread_model.specs.State.{Setting}
@@ -22,6 +23,25 @@ use Rattle.kilim_fiber_state.specs.declared.fiber.Asked.TheVariants as asked
 use Rattle.kilim_fiber_state.specs.declared.fiber.Fiber.{Fiber}
 use Rattle.kilim_fiber_state.proofs.Answering.{sound_message}
 use Rattle.kilim_fiber_state.proofs.Filing.{begun_course, begun_stands}
+
+-- ---- what was asked
+
+abbrev value_wish : Wish → Bool
+value_wish (ToTake box) = true
+value_wish (ToProbe box) = true
+value_wish w = false
+
+-- it may be answered a value where its wish may
+takes_of : (q : Asked) (wish : Wish) → wished q ≡ Some wish → takes_value q ≡ value_wish wish
+takes_of asked.Nothing wish e = absurd (none-some wish e)
+takes_of (asked.Put box shape) wish e = ap value_wish (same_Some _ _ e)
+takes_of (asked.Take box) wish e = ap value_wish (same_Some _ _ e)
+takes_of (asked.Probe box) wish e = ap value_wish (same_Some _ _ e)
+takes_of (asked.Start shape) wish e = ap value_wish (same_Some _ _ e)
+takes_of (asked.Print shape) wish e = ap value_wish (same_Some _ _ e)
+
+never_both : (b : Bool) → b ≡ false → b ≡ true → ⊥
+never_both b e d = let h : false ≡ true = sym e ∙ d in absurd cc
 
 -- ---- it was refused a message
 
@@ -58,6 +78,12 @@ module _ (set : Setting) (code : Code) (limits : Limits) (f : Fiber) (none : f.r
     is-asked = record { body = waits; is-main = s.held.is-main; wish = next ∙ sym own; room = room; takes = takes };
   }
 
+  -- its wish takes no value
+  asks_plain : (a : Asked) (wish : Wish) → wish_of (next_action set f.task s.lone) ≡ Some wish → wished a ≡ Some wish → value_wish wish ≡ false → Waits set f.task s.lone b → Asks task_of course_of AskedOf set (now a) wish
+  asks_plain a wish next own none waits =
+      let never = takes_of a wish own ∙ none in
+      asks a wish next own waits (λ yes. absurd (never_both (takes_value a) never yes)) (λ other e. absurd (never_both (takes_value a) never (ap takes_value e)))
+
   abbrev Is : Wants Fiber → Asked → Type 0
   Is w a = Resumed task_of course_of HoldsFiber AskedOf set (now a) w
 
@@ -68,8 +94,7 @@ module _ (set : Setting) (code : Code) (limits : Limits) (f : Fiber) (none : f.r
   resumed came.On w q r e = absurd e
   resumed came.Yielded w q r e = by w (wants.Rest None) q q e refl (goes q r.0)
   resumed (came.Puts box tree shape) w q r e =
-      by w (wants.Put box tree shape) q (asked.Put box shape) e.0 e.1
-      (asks (asked.Put box shape) (ToPut box shape) r.0 refl r.2 (λ no. let h : false ≡ true = no in absurd cc) (λ other no. let h : asked.Put box shape ≡ asked.Take other = no in absurd cc), sound_message set.program tree shape r.1)
+      by w (wants.Put box tree shape) q q e.0 refl (asks_plain q (ToPut box shape) r.0 e.1 refl r.2, sound_message set.program tree shape r.1)
   resumed (came.Takes box) w q r e =
       by w (wants.Take box) q (asked.Take box) e.0 e.1
       (asks (asked.Take box) (ToTake box) r.0 refl r.2.waits (λ yes. r.2.room) (λ other same. let h : asked.Take box ≡ asked.Take other = same in (r.3, subst (λ (o : BoxName). stands_at set f.task s.lone ≡ Some o) (let k : box ≡ other = cc in k) r.1)))
@@ -77,14 +102,13 @@ module _ (set : Setting) (code : Code) (limits : Limits) (f : Fiber) (none : f.r
       by w (wants.Probe box) q (asked.Probe box) e.0 e.1
       (asks (asked.Probe box) (ToProbe box) r.0 refl r.1.waits (λ yes. r.1.room) (λ other no. let h : asked.Probe box ≡ asked.Take other = no in absurd cc))
   resumed (came.Starts tree shape) w q r e =
-      by w (wants.Start e.0 shape) q (asked.Start shape) e.1 e.2 (
-        asks (asked.Start shape) (ToStart shape) r.0 refl r.2 (λ no. let h : false ≡ true = no in absurd cc) (λ other no. let h : asked.Start shape ≡ asked.Take other = no in absurd cc),
+      by w (wants.Start e.0 shape) q q e.1 refl (
+        asks_plain q (ToStart shape) r.0 e.2 refl r.2,
         begun_course code.program f.main tree shape e.0 e.3,
         begun_stands set code.program f.main tree shape e.0 served.program s.held.is-main r.1 e.3,
       )
   resumed (came.Prints shape) w q r e =
-      by w (wants.Print shape) q (asked.Print shape) e.0 e.1
-      (asks (asked.Print shape) (ToPrint shape) r.0 refl r.1 (λ no. let h : false ≡ true = no in absurd cc) (λ other no. let h : asked.Print shape ≡ asked.Take other = no in absurd cc))
+      by w (wants.Print shape) q q e.0 refl (asks_plain q (ToPrint shape) r.0 e.1 refl r.1)
   resumed (came.Ends why) w q r e = by w (wants.End why) q q e refl (record { lone = s.lone; is = s.is; next = r })
 
   pub all_resumed : (a : Came) (w : Wants Fiber) (q : Asked) → ((last : Lone) → IsRun code limits f.main f.task set last → Here set f.task last f.body → Reaches set f.task last f.body b a) → WantsBy code.program f.main a w q →

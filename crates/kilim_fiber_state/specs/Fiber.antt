@@ -7,7 +7,6 @@ use Rattle.kilim_classes.specs.declared.value.Value.TheVariants.{Null, Ref}
 use Rattle.kilim_program.specs.declared.value.Object.{Object}
 use Rattle.kilim_program.specs.declared.value.Token.{Token}
 use Rattle.kilim_program.specs.Machine.{Objects}
-use Rattle.kilim_program.specs.Shapes.{shape_of}
 use Rattle.kilim_journal.specs.declared.entry.Act.TheVariants as act
 use Rattle.kilim_thread_model.specs.State.{Setting}
 use Rattle.kilim_thread_model.specs.Lone.{Lone, pushed}
@@ -15,17 +14,16 @@ use Rattle.kilim_thread_model.specs.Course.{Course, plain, next_action, stands_a
 use Rattle.kilim_thread_model.specs.declared.deed.Beginning.{Beginning}
 use Rattle.kilim_thread_model.specs.declared.deed.Beginning.TheVariants.{Begun}
 use Rattle.kilim_thread_model.specs.declared.deed.Deed.{Deed}
-use Rattle.kilim_tree_move.specs.Moved.{PutIn, tree_heap}
+use Rattle.kilim_tree_move.specs.Moved.{PutIn}
 use Rattle.kilim_fibers.specs.Wishes.{Wish, ToPut, ToTake, ToProbe, ToStart, ToPrint, wish_of}
 use Rattle.kilim_fibers.specs.declared.Answer.{Answer}
 use Rattle.kilim_fibers.specs.declared.Answer.TheVariants as answer
-use Rattle.kilim_tree_move.specs.Shaping.{Suits}
-use Rattle.std.specs.List.{AllByRecursion}
 use Rattle.kilim_fibers.specs.declared.Wants.{Wants}
 use Rattle.kilim_fibers.specs.declared.Wants.TheVariants as wants
 use Rattle.kilim_fiber_kin.specs.Held.{HoldsAs}
 use Rattle.kilim_fiber_state.specs.Begins.{BodyBegins}
 use Rattle.kilim_fiber_state.specs.Body.{thread_of, behind_of, RoomyIn, RoomIn}
+use Rattle.kilim_fiber_state.specs.Past.{deeds_of, took}
 use Rattle.kilim_fiber_state.specs.Stands.{Here, Waits}
 use Rattle.kilim_fiber_state.specs.declared.body.Body.{Body}
 use Rattle.kilim_fiber_state.specs.declared.body.Came.{Came}
@@ -38,16 +36,16 @@ abbrev pub task_of : Fiber → ℕ
 task_of f = f.task
 
 abbrev pub course_of : Fiber → Course
-course_of f = record { beginning = f.beginning; deeds = f.log.items }
+course_of f = record { beginning = f.beginning.value; deeds = deeds_of f.past.value }
 
 -- what it asked
 abbrev pub wished : Asked → Option Wish
 wished asked.Nothing = None
-wished (asked.Put box shape) = Some (ToPut box shape)
+wished (asked.Put box shape) = Some (ToPut box shape.value)
 wished (asked.Take box) = Some (ToTake box)
 wished (asked.Probe box) = Some (ToProbe box)
-wished (asked.Start shape) = Some (ToStart shape)
-wished (asked.Print shape) = Some (ToPrint shape)
+wished (asked.Start shape) = Some (ToStart shape.value)
+wished (asked.Print shape) = Some (ToPrint shape.value)
 
 -- the answer may be a value
 abbrev pub takes_value : Asked → Bool
@@ -75,8 +73,8 @@ pub record AskedOf (set : Setting) (f : Fiber) (last : Lone) : Type 0 where
 pub record IsNew (c : ClassId) (b : Beginning) (o : Body) (f : Fiber) : Type 0 where
   pub task : f.task ≡ 0
   pub main : f.main ≡ c
-  pub beginning : f.beginning ≡ b
-  pub log : f.log.items ≡ []
+  pub beginning : f.beginning.value ≡ b
+  pub past : deeds_of f.past.value ≡ []
   pub body : f.body ≡ o
   pub refused : f.refused ≡ None
   pub rests : f.rests ≡ true
@@ -91,11 +89,11 @@ pub record IsBegun (p : Program) (main : ClassId) (tree : List Object) (shape : 
 abbrev pub WantsBy : Program → ClassId → Came → Wants Fiber → Asked → Type 0
 WantsBy p main came.On w a = ⊥
 WantsBy p main came.Yielded w a = w ≡ wants.Rest None
-WantsBy p main (came.Puts box tree shape) w a = (w ≡ wants.Put box tree shape) × (a ≡ asked.Put box shape)
+WantsBy p main (came.Puts box tree shape) w a = (w ≡ wants.Put box tree shape) × (wished a ≡ Some (ToPut box shape))
 WantsBy p main (came.Takes box) w a = (w ≡ wants.Take box) × (a ≡ asked.Take box)
 WantsBy p main (came.Probes box) w a = (w ≡ wants.Probe box) × (a ≡ asked.Probe box)
-WantsBy p main (came.Starts tree shape) w a = (new : Fiber) × (w ≡ wants.Start new shape) × (a ≡ asked.Start shape) × IsBegun p main tree shape new
-WantsBy p main (came.Prints shape) w a = (w ≡ wants.Print shape) × (a ≡ asked.Print shape)
+WantsBy p main (came.Starts tree shape) w a = (new : Fiber) × (w ≡ wants.Start new shape) × (wished a ≡ Some (ToStart shape)) × IsBegun p main tree shape new
+WantsBy p main (came.Prints shape) w a = (w ≡ wants.Print shape) × (wished a ≡ Some (ToPrint shape))
 WantsBy p main (came.Ends why) w a = w ≡ wants.End why
 
 abbrev pub is_yielded : Came → Bool
@@ -106,8 +104,8 @@ is_yielded c = false
 pub record Noted (old new : Fiber) (d : Deed) : Type 0 where
   pub task : new.task ≡ old.task
   pub main : new.main ≡ old.main
-  pub beginning : new.beginning ≡ old.beginning
-  pub log : new.log.items ≡ old.log.items ++ d ∷ []
+  pub beginning : new.beginning.value ≡ old.beginning.value
+  pub past : deeds_of new.past.value ≡ deeds_of old.past.value ++ d ∷ []
   pub refused : new.refused ≡ old.refused
 
 -- one instruction further, where the thread is this one then
@@ -117,14 +115,18 @@ pub record Passed (p : Program) (old new : Fiber) (d : Deed) (thread : Lone) : T
   pub roomy : RoomyIn p new.body.frames
   pub counted : new.body.count ≡ old.body.count + 1
 
+-- a tree has come into the heap, at this place
+pub record HasTaken (old : Body) (tree : List Object) (root : ℕ) (new : Body) : Type 0 where
+  pub heap : Objects
+  pub put : PutIn old.heap tree heap root
+  pub body : new ≡ record old { heap = heap }
+
 -- a message has come
 pub record Received (p : Program) (old new : Fiber) (box : BoxName) (tree : List Object) (number : ℕ) : Type 0 where
-  pub shape : List Token
-  pub has : shape_of p (tree_heap tree) 0 ≡ Some shape
   pub heap : Objects
   pub root : ℕ
   pub put : PutIn old.body.heap tree heap root
-  pub passed : Passed p old new (record { act = act.Take box number; taken = shape }) (pushed (Ref root) (behind_of (record old.body { heap = heap })))
+  pub passed : Passed p old new (took p box number tree) (pushed (Ref root) (behind_of (record old.body { heap = heap })))
 
 -- a take was answered nothing
 pub record Refused (old new : Fiber) (box : BoxName) : Type 0 where
@@ -137,16 +139,11 @@ pub record Refused (old new : Fiber) (box : BoxName) : Type 0 where
 
 -- what comes of an answer to what was asked; other answers don't come
 abbrev pub Answered : Program → Asked → Answer → Fiber → Fiber → Type 0
-Answered p (asked.Put box shape) (answer.Sent n) old new = Passed p old new (plain (act.Put box n shape)) (behind_of old.body)
+Answered p (asked.Put box shape) (answer.Sent n) old new = Passed p old new (plain (act.Put box n shape.value)) (behind_of old.body)
 Answered p (asked.Take box) (answer.Message tree n) old new = Received p old new box tree n
 Answered p (asked.Take box) answer.Nothing old new = Refused old new box
 Answered p (asked.Probe box) (answer.Message tree n) old new = Received p old new box tree n
 Answered p (asked.Probe box) answer.Nothing old new = Passed p old new (plain (act.Empty box)) (pushed Null (behind_of old.body))
-Answered p (asked.Start shape) (answer.Started n) old new = Passed p old new (plain (act.Start n shape)) (behind_of old.body)
-Answered p (asked.Print shape) answer.Done old new = Passed p old new (plain (act.Print shape)) (behind_of old.body)
+Answered p (asked.Start shape) (answer.Started n) old new = Passed p old new (plain (act.Start n shape.value)) (behind_of old.body)
+Answered p (asked.Print shape) answer.Done old new = Passed p old new (plain (act.Print shape.value)) (behind_of old.body)
 Answered p a b old new = ⊥
-
--- a tree that comes has a shape
-abbrev pub AnswerSuits : Program → Answer → Type 0
-AnswerSuits p (answer.Message tree n) = AllByRecursion (Suits p) tree
-AnswerSuits p a = Unit {0}

@@ -4,3 +4,4 @@ pub mod Comes
 pub mod Stands
 pub mod Begins
 pub mod Fiber
+pub mod Past

@@ -6,11 +6,11 @@ mod begin;
 mod births;
 mod body;
 mod code;
-mod copies;
 mod fiber;
 mod gifts;
 mod natives;
 mod pass;
+mod past;
 
 pub use code::Code;
 pub use fiber::Fiber;

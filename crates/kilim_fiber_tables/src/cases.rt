@@ -87,6 +87,6 @@ pub fn answer<R: Files>(rt: &R, alloc: Global, words: &[String]) -> Option<Vec<u
             let files = contents(rt, alloc, words.files)?;
             drive_files(alloc, &words, files.as_slice(), script)
         }
-        Asked::Check(_) | Asked::Demo(_) => None,
+        Asked::Check(_) | Asked::Weave(_) | Asked::Demo(_) => None,
     }
 }

@@ -1,9 +1,10 @@
 //! The texts that the program writes by itself.
 
 /// What `--help` writes: at most 24 lines of 80 columns.
-pub const HELP: &str = "kilim checks and runs Java class files of isolation-typed actors.
+pub const HELP: &str = "kilim checks, weaves and runs Java class files of isolation-typed actors.
 
     kilim check FILE..             says whether the files are accepted
+    kilim weave --to=DIR FILE..    writes woven class files below DIR
     kilim run --main=NAME [--workers=W] [--steps=N] FILE.. [-- INT..]
                                    runs a task class, and writes its journal
     kilim demo --number=D [--workers=W]
@@ -13,17 +14,16 @@ pub const HELP: &str = "kilim checks and runs Java class files of isolation-type
 NAME is the internal name of the main class, as app/Main. FILE is a class file,
 written by javac --release 8 -g:none. W is from 1 to 16, or else 1; N is the
 most instructions of each task, or else 1000000; the INTs are for kilim/Sys.arg.
-A journal has a line for each event: the task's number and what it did, as
-0 print 7 and 0 end done.
+A journal has a line for each event: a task's number, what it did: 0 print 7
 
 Status  Standard error  Meaning
-0                       accepted CLASSES METHODS, the whole journal, or the
-                        line of the demo was written
+0                       accepted CLASSES METHODS, a line for each woven file,
+                        the whole journal, or the demo's line was written
 1                       a report was written: of class files, linking, typing,
-                        rules, or main NAME (no class of that name can be run)
+                        rules, weaving, or main NAME (no such class can be run)
 2       usage           the words aren't as above
 3       read            a file can't be read
-4       write           the text can't be written
+4       write           the text, or a file, can't be written
 5       memory          there isn't enough memory
 ";
 

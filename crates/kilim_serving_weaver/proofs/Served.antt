@@ -7,12 +7,16 @@ use Rattle.kilim_weaver.specs.declared.fault.WeaveFault.{WeaveFault}
 use Rattle.kilim_weaver.specs.declared.weaving.Woven.{Woven}
 use Rattle.kilim_woven_form.specs.Form.{WovenForm}
 use Rattle.kilim_woven_keeps.specs.Law.{NoneIsTooLong}
-use Rattle.kilim_woven_ready.specs.Law.{WovenFormsServe}
-use Rattle.kilim_serving_weaver.specs.Serving.{Serves}
+use Rattle.kilim_woven_served.specs.Served.{RunsServe}
+use Rattle.kilim_serving_weaver.specs.Serving.{ServesEachRun}
 
-pub serves : WovenFormsServe → (p : Program) (w : Woven) → Weaves p w → Serves p w
-serves law p w x set is run = law set run (subst NoneIsTooLong (sym is) x.too_long) w.program w.counted (subst (λ (q : Program). WovenForm q w.program w.counted) (sym is) x.form)
+pub serves : RunsServe → (p : Program) (w : Woven) → Weaves p w → ServesEachRun p w
+serves law p w x = record {
+  form = x.form;
+  typed = x.typed;
+  runs = λ set is run. law set run (subst NoneIsTooLong (sym is) x.too_long) w.program w.counted (subst (λ (q : Program). WovenForm q w.program w.counted) (sym is) x.form);
+}
 
-pub serves_where : WovenFormsServe → (p : Program) (r : Result Woven WeaveFault) → IsWoven p r → IfOk r (λ w. Serves p w)
+pub serves_where : RunsServe → (p : Program) (r : Result Woven WeaveFault) → IsWoven p r → IfOk r (λ w. ServesEachRun p w)
 serves_where law p (Ok w) k = serves law p w k.1
 serves_where law p (Err fault) k = tt

@@ -3,9 +3,14 @@ use Rattle.std.specs.Prelude.{◌≡◌}
 use Rattle.kilim_classes.specs.Program.{Program}
 use Rattle.kilim_standing_threads.specs.Laws.{IsRunOfAccepted}
 use Rattle.kilim_thread_model.specs.State.{Setting}
+use Rattle.kilim_typing.specs.Typed.{IsWellTyped}
 use Rattle.kilim_weaver.specs.declared.weaving.Woven.{Woven}
-use Rattle.kilim_woven_ready.specs.Law.{FormServes}
+use Rattle.kilim_woven_form.specs.Form.{WovenForm}
+use Rattle.kilim_woven_served.specs.Served.{ServesRun}
 
--- In every run of the program, where it is accepted and the main class is fit, a fiber of the woven program does what the task does.
-abbrev pub Serves : Program → Woven → Type 0
-Serves p w = (set : Setting) → set.program ≡ p → IsRunOfAccepted set → FormServes set w.program w.counted
+-- It is the woven form of the program and well typed; and in every run of the program, where it is accepted and the main class is fit, a fiber
+-- of the woven program does what the task does.
+pub record ServesEachRun (p : Program) (w : Woven) : Type 0 where
+  pub form : WovenForm p w.program w.counted
+  pub typed : IsWellTyped w.program
+  pub runs : (set : Setting) → set.program ≡ p → IsRunOfAccepted set → ServesRun set w.program w.counted

@@ -8,3 +8,5 @@ pub mod TopLaws
 pub mod Named
 pub mod Counts
 pub mod Demos
+pub mod Responses
+pub mod Steady

@@ -1,5 +1,5 @@
 -- Files by their names: words, and what was read.
-use Rattle.std.proofs.Common.{◌≡◌, ◌⊎◌, inl, inr, ℕ, zero, suc, ◌+◌, ◌<◌, List, [], ◌∷◌, ◌++◌, Option, Some, None, Result, Ok, Err, refl, sym, ap, subst, ◌∙◌, length, map, take, drop, slice_index_or, arith}
+use Rattle.std.proofs.Common.{◌≡◌, ◌⊎◌, inl, inr, ℕ, zero, suc, ◌+◌, ◌<◌, List, [], ◌∷◌, ◌++◌, Option, Some, None, Err, refl, sym, ap, subst, ◌∙◌, length, map, take, slice_index_or, arith}
 use Rattle.std.specs.Prelude.{Contains, IsErrOf}
 use Rattle.kilim_outside.specs.declared.folder.FailedCall.{FailedCall}
 use Rattle.kilim_outside.specs.declared.folder.FailedCall.TheVariants.{Read}

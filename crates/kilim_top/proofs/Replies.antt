@@ -1,5 +1,5 @@
 -- What is answered for files: what the work makes, or a report, and never both.
-use Rattle.std.proofs.Common.{◌≡◌, ◌⊎◌, ℕ, ℤ, ◌≤◌, true, List, [], length, Some, None, Result, Ok, Err, ap, subst, arith, inl, inr}
+use Rattle.std.proofs.Common.{◌≡◌, ℕ, ℤ, ◌≤◌, true, List, [], length, Some, None, Result, Ok, Err, refl, sym, ap, subst, inl, inr}
 use Rattle.std.specs.Prelude.{IfOk}
 use Rattle.kilim_units.specs.declared.memory.NoMemory.{NoMemory}
 use Rattle.kilim_classes.specs.declared.names.ClassId.{ClassId}
@@ -9,12 +9,18 @@ use Rattle.kilim_program.specs.declared.run.Limits.{Limits}
 use Rattle.kilim_program.specs.Members.{is_fit_main}
 use Rattle.kilim_stages.specs.Accepted.{IsAcceptedOf}
 use Rattle.kilim_stages.specs.Laws.{NeverBoth, OneProgramOf}
+use Rattle.kilim_stages.specs.Parts.{Refused}
+use Rattle.kilim_stages.specs.declared.refusal.Refusal.{Refusal}
+use Rattle.kilim_stages.specs.declared.refusal.Refusal.TheVariants as refusal
 use Rattle.kilim_demo.specs.Demo.{demo_texts}
-use Rattle.kilim_words.specs.Words.{Request, Check, Run, Demo}
+use Rattle.kilim_weave_command.specs.Laws.{AcceptedFilesAreIsolated, NeverWeavableAndReported}
+use Rattle.kilim_weave_command.specs.Weaving.{IsWeaving}
+use Rattle.kilim_words.specs.Words.{Request, Check, Weave, Run, Demo}
+use Rattle.kilim_written_files.specs.OutputFile.{OutputFile}
 use Rattle.kilim_top.specs.declared.answer.Reply.{Reply}
 use Rattle.kilim_top.specs.declared.answer.Ready.{Ready}
 use Rattle.kilim_top.specs.declared.answer.Ready.TheVariants as ready
-use Rattle.kilim_top.specs.Inside.Answer.{IsMainOf, IsNoMain, IsReadyFor, IsReadyOf, IsReplyFor, IsTextOf}
+use Rattle.kilim_top.specs.Inside.Answer.{IsMainOf, IsNoMain, IsReadyFor, IsReadyOf, IsRefusedBy, IsReplyFor, IsRunReply, IsToRun}
 use Rattle.kilim_top.specs.Outcome.{IsDone, IsFitFor, IsFitRun, IsIsolatedRun, IsReport, limits_of}
 use Rattle.kilim_top.specs.Report.{accepted_line, coded_methods, main_line, utf16_of}
 use Rattle.kilim_thread_model.specs.State.{Setting}
@@ -27,7 +33,7 @@ use Rattle.kilim_top.proofs.WholeRun.{to_run}
 
 -- ---- never both
 
-module _ (both : NeverBoth) (one : OneProgramOf) where
+module _ (both : NeverBoth) (one : OneProgramOf) (woven : NeverWeavableAndReported) where
   never_run : (main : List ℕ) (workers steps : ℕ) (args : List ℤ) (names files : List (List ℕ)) (text : List ℕ) → IsFitRun main files → IsReport (Run main workers steps args names) files text → ⊥
   never_run main workers steps args names files text fit (inl stage) = both names files text fit.program fit.accepted stage
   never_run main workers steps args names files text fit (inr other) =
@@ -36,13 +42,17 @@ module _ (both : NeverBoth) (one : OneProgramOf) where
 
   pub never : (work : Request) (files : List (List ℕ)) (text : List ℕ) → IsFitFor work files → IsReport work files text → ⊥
   never (Check names) files text fit report = both names files text fit.0 fit.1 report
+  never (Weave to names) files text fit report = woven names files text fit report
   never (Run main workers steps args names) files text fit report = never_run main workers steps args names files text fit report
   never (Demo number workers) files text fit report = both [] (demo_texts number) text fit.0 fit.1 (inr report)
 
-fit_of : (work : Request) (files : List (List ℕ)) (text : List ℕ) → IsDone work files text → IsFitFor work files
-fit_of (Check names) files text done = (done.program, done.accepted)
-fit_of (Run main workers steps args names) files text done = done.0
-fit_of (Demo number workers) files text done = (done.program, done.accepted)
+pub fit_of : (work : Request) (files : List (List ℕ)) (made : List OutputFile) (text : List ℕ) → IsDone work files made text → IsFitFor work files
+fit_of (Check names) files made text done = (done.1.program, done.1.accepted)
+fit_of (Weave to names) files made text done =
+    let woven = done.weaving.are_woven in
+    record { program = woven.program; accepted = woven.accepted; none = woven.none; classes = woven.classes; are_files = woven.are_files; fit = woven.fit }
+fit_of (Run main workers steps args names) files made text done = done.1.0
+fit_of (Demo number workers) files made text done = (done.1.program, done.1.accepted)
 
 -- ---- from an accepted program to the bytes of its files
 
@@ -57,11 +67,11 @@ main_of p main limits l class found same =
     let f = fit_named p (utf16_of main) class found in
     record { is = ap (λ (x : Limits). setting_of p class x) same; named = f.named; fit = f.fit }
 
-pub no_class : (p : Program) (main : List ℕ) (status : ℕ) (text : List ℕ) → fit_class_named p (utf16_of main) ≡ None → text ≡ main_line main → status ≡ 1 → (status ≡ 1) × IsNoMain p main text
-no_class p main status text found is one = (one, record { none = none_named p (utf16_of main) found; is_text = is })
+pub no_class : (p : Program) (main : List ℕ) (status : ℕ) (made : List OutputFile) (text : List ℕ) → fit_class_named p (utf16_of main) ≡ None → text ≡ main_line main → status ≡ 1 → made ≡ [] → (status ≡ 1) × ((made ≡ []) × IsNoMain p main text)
+no_class p main status made text found is one none = (one, (none, record { none = none_named p (utf16_of main) found; is_text = is }))
 
 ready_one : (main : List ℕ) (workers steps : ℕ) (args : List ℤ) (names files : List (List ℕ)) (p : Program) (r : Ready) → IsAcceptedOf files p → AreServed p → AreIsolated p → IsReadyOf p main (limits_of steps args) r → IsReadyFor (Run main workers steps args names) files r
-ready_one main workers steps args names files p (ready.Reply reply) is served isolated h = inr (h.0, inr (record { program = p; accepted = is; none = h.1.none; is_text = h.1.is_text }))
+ready_one main workers steps args names files p (ready.Reply reply) is served isolated h = inr (h.0, (h.1.0, inr (record { program = p; accepted = is; none = h.1.1.none; is_text = h.1.1.is_text })))
 ready_one main workers steps args names files p (ready.Run q class l) is served isolated h = to_run main workers steps args names files p (setting_of q class l) is served isolated h
 ready_one main workers steps args names files p (ready.Demo number) is served isolated h = elim h [ ]
 
@@ -71,48 +81,34 @@ ready_run main workers steps args names files p (Ok r) is served isolated h = re
 ready_run main workers steps args names files p (Err e) is served isolated h = tt
 
 -- the text of a journal
-pub text_reply : (set : Setting) (es : List Entry) (r : Result Reply NoMemory) → IsJournalOf set es → IfOk r (λ reply. reply.status ≡ 0) → IfOk r (λ reply. reply.text.items ≡ journal_text es) → IfOk r (λ reply. (reply.status ≡ 0) × IsTextOf set reply.text.items)
-text_reply set es (Ok reply) is zero text = (zero, record { journal = es; is = is; is_text = text })
-text_reply set es (Err e) is zero text = tt
+pub text_reply : (set : Setting) (es : List Entry) (r : Result Reply NoMemory) → IsJournalOf set es → IfOk r (λ reply. reply.status ≡ 0) → IfOk r (λ reply. reply.files.items ≡ []) → IfOk r (λ reply. reply.text.items ≡ journal_text es) →
+    IfOk r (λ reply. IsRunReply set reply.status reply.files.items reply.text.items)
+text_reply set es (Ok reply) is zero none text = (zero, (none, record { journal = es; is = is; is_text = text }))
+text_reply set es (Err e) is zero none text = tt
 
-pub check_done : (names files : List (List ℕ)) (p : Program) (status : ℕ) (text : List ℕ) → IsAcceptedOf files p → AreIsolated p → status ≡ 0 → text ≡ accepted_line (length files) (coded_methods p) → IsReplyFor (Check names) files status text
-check_done names files p status text is isolated zero e = inl (zero, record { program = p; accepted = is; isolated = isolated; is_text = e })
+pub check_done : (names files : List (List ℕ)) (p : Program) (status : ℕ) (made : List OutputFile) (text : List ℕ) → IsAcceptedOf files p → AreIsolated p → status ≡ 0 → made ≡ [] → text ≡ accepted_line (length files) (coded_methods p) → IsReplyFor (Check names) files status made text
+check_done names files p status made text is isolated zero none e = inl (zero, (none, record { program = p; accepted = is; isolated = isolated; is_text = e }))
 
--- ---- what a reply says
+-- a run that was done
+ran_one : (work : Request) (files : List (List ℕ)) (set : Setting) (status : ℕ) (made : List OutputFile) (text : List ℕ) → IsToRun work files set → IsRunReply set status made text → IsReplyFor work files status made text
+ran_one work files set status made text to run = inl (run.0, subst (λ (fs : List OutputFile). IsDone work files fs text) (sym run.1.0) (to.done text run.1.1))
 
-zero_one : (n : ℕ) → n ≡ 0 → n ≡ 1 → ⊥
-zero_one n a b = omega (arith, a, b)
+pub ran : (work : Request) (files : List (List ℕ)) (set : Setting) (r : Result Reply NoMemory) → IsToRun work files set → IfOk r (λ reply. IsRunReply set reply.status reply.files.items reply.text.items) → IfOk r (λ reply. IsReplyFor work files reply.status reply.files.items reply.text.items)
+ran work files set (Ok reply) to h = ran_one work files set reply.status reply.files.items reply.text.items to h
+ran work files set (Err e) to h = tt
 
-module _ (work : Request) (files : List (List ℕ)) where
-  abbrev Answered : Result Reply NoMemory → Type 0
-  Answered r = IfOk r (λ reply. IsReplyFor work files reply.status reply.text.items)
+-- a report of the stages
+refused_one : (work : Request) (files : List (List ℕ)) (r : Refusal) (status : ℕ) (made : List OutputFile) (text : List ℕ) → Refused r (IsReport work files) → IsRefusedBy r status made text → IsReplyFor work files status made text
+refused_one work files refusal.NoMemory status made text said by = absurd by
+refused_one work files (refusal.Report t) status made text said by = inr (by.0, (by.1.0, subst (λ (s : List ℕ). IsReport work files s) (sym by.1.1) said))
 
-  pub reply_status : (r : Result Reply NoMemory) → Answered r → IfOk r (λ reply. reply.status ≤ 1)
-  reply_status (Ok reply) (inl done) = let e = done.0 in omega (arith, e)
-  reply_status (Ok reply) (inr report) = let e = report.0 in omega (arith, e)
-  reply_status (Err e) h = tt
+pub refused_reply : (work : Request) (files : List (List ℕ)) (refusal : Refusal) (r : Result Reply NoMemory) → Refused refusal (IsReport work files) → IfOk r (λ reply. IsRefusedBy refusal reply.status reply.files.items reply.text.items) →
+    IfOk r (λ reply. IsReplyFor work files reply.status reply.files.items reply.text.items)
+refused_reply work files refusal (Ok reply) said by = refused_one work files refusal reply.status reply.files.items reply.text.items said by
+refused_reply work files refusal (Err e) said by = tt
 
-  pub reply_whole : (r : Result Reply NoMemory) → Answered r → IfOk r (λ reply. reply.status ≡ 0 → IsDone work files reply.text.items)
-  reply_whole (Ok reply) (inl done) = λ e. done.1
-  reply_whole (Ok reply) (inr report) = λ e. absurd (zero_one reply.status e report.0)
-  reply_whole (Err e) h = tt
-
-  pub reply_report : (r : Result Reply NoMemory) → Answered r → IfOk r (λ reply. reply.status ≡ 1 → IsReport work files reply.text.items)
-  reply_report (Ok reply) (inl done) = λ e. absurd (zero_one reply.status done.0 e)
-  reply_report (Ok reply) (inr report) = λ e. report.1
-  reply_report (Err e) h = tt
-
-  pub reply_text : (r : Result Reply NoMemory) → Answered r → IfOk r (λ reply. IsDone work files reply.text.items ⊎ IsReport work files reply.text.items)
-  reply_text (Ok reply) (inl done) = inl done.1
-  reply_text (Ok reply) (inr report) = inr report.1
-  reply_text (Err e) h = tt
-
-  pub reply_fit : NeverBoth → OneProgramOf → (r : Result Reply NoMemory) → Answered r → IfOk r (λ reply. reply.status ≡ 1 → IsFitFor work files → ⊥)
-  reply_fit both one (Ok reply) (inl done) = λ e fit. zero_one reply.status done.0 e
-  reply_fit both one (Ok reply) (inr report) = λ e fit. never both one work files reply.text.items fit report.1
-  reply_fit both one (Err e) h = tt
-
-  pub reply_unreported : NeverBoth → OneProgramOf → (r : Result Reply NoMemory) → Answered r → IfOk r (λ reply. reply.status ≡ 0 → (text : List ℕ) → IsReport work files text → ⊥)
-  reply_unreported both one (Ok reply) (inl done) = λ e text report. never both one work files text (fit_of work files reply.text.items done.1) report
-  reply_unreported both one (Ok reply) (inr report) = λ e text said. zero_one reply.status e report.0
-  reply_unreported both one (Err e) h = tt
+-- woven files
+pub woven_reply : (to : List ℕ) (names files : List (List ℕ)) (made : List OutputFile) (text : List ℕ) → AcceptedFilesAreIsolated → length files ≤ 1000 → IsWeaving to files made text → IsReplyFor (Weave to names) files 0 made text
+woven_reply to names files made text law few weaving =
+    let woven = weaving.are_woven in
+    inl (refl, record { program = woven.program; accepted = woven.accepted; isolated = λ class fit limits live sound. law files woven.program few woven.accepted class fit limits live sound; weaving = weaving })

@@ -1,12 +1,14 @@
 -- From the bytes that were read to what the folder held.
-use Rattle.std.proofs.Common.{◌≡◌, ℕ, zero, suc, ◌<◌, ◌≤◌, lit≤, arith, List, [], ◌∷◌, ◌++◌, length, length-append, map, Option, Some, None, refl, sym, ap, subst, ◌∙◌, inl, inr, ◌⊎◌}
+use Rattle.std.proofs.Common.{◌≡◌, ℕ, zero, suc, ◌≤◌, arith, List, [], ◌∷◌, ◌++◌, length, length-append, map, Option, Some, None, refl, sym, ap, subst, ◌∙◌, inl, inr, ◌⊎◌, slice_index_or}
+use Rattle.std.specs.Prelude.{Contains}
+use Rattle.kilim_outside.specs.Causes.{Rose}
 use Rattle.kilim_outside.specs.declared.folder.FailedCall.{FailedCall}
-use Rattle.kilim_outside.specs.declared.folder.FailedCall.TheVariants.{Read}
+use Rattle.kilim_outside.specs.declared.folder.FailedCall.TheVariants.{Write}
 use Rattle.kilim_outside.specs.Files.{Files}
 use Rattle.kilim_words.specs.Words.{Request, files_read}
-use Rattle.kilim_top.specs.Inside.Reads.{OneFailed}
+use Rattle.kilim_written_files.specs.OutputFile.{OutputFile}
 use Rattle.kilim_top.specs.Inside.Respond.{Wrote0, Wrote1, WroteFrontOf, Responded}
-use Rattle.kilim_top.specs.Outcome.{WereRead, IsDone, IsReport, IsFitFor, read_of, IsFit, HasReport, FailedAtMost, WroteText, WroteReport, WroteFront, Outside, shown, Promises}
+use Rattle.kilim_top.specs.Outcome.{AsksForFiles, FailedAtMost, HasReport, HowFar, InFiles, InText, IsDone, IsFault, IsFit, IsFitFor, IsReport, IsToWrite, Outside, Promises, WereRead, WriteFailed, WroteFront, WroteReport, WroteSomeFiles, WroteText, read_of, shown}
 
 pub same_length : {A : Type 0} (f : A → List ℕ) (contents : Option Files) (names : List A) (files : List (List ℕ)) → WereRead contents (map f names) files → length names ≡ length files
 same_length f contents [] [] were = refl
@@ -33,19 +35,21 @@ read_is held [] (b ∷ files) were = absurd were
 read_is held (n ∷ names) [] were = absurd were
 
 -- what was written for the bytes, of what was asked
-pub wrote_text : (contents : Option Files) (work : Request) (files : List (List ℕ)) (old new : Option (List ℕ)) → WereRead contents (files_read work) files → Wrote0 work files old new → WroteText contents (Some work) old new
-wrote_text contents work files old new were wrote = record {
+wrote_text : (work : Request) (files : List (List ℕ)) (old new : Outside) → WereRead old.contents (files_read work) files → Wrote0 work files old new → WroteText (Some work) old new
+wrote_text work files old new were wrote = record {
   work = work;
   asked = refl;
   files = files;
   were_read = were;
+  made = wrote.made;
   text = wrote.text;
   done = wrote.done;
+  were_made = wrote.were_made;
   written = wrote.written;
 }
 
-pub wrote_report : (contents : Option Files) (work : Request) (files : List (List ℕ)) (old new : Option (List ℕ)) → WereRead contents (files_read work) files → Wrote1 work files old new → WroteReport contents (Some work) old new
-wrote_report contents work files old new were wrote = record {
+wrote_report : (work : Request) (files : List (List ℕ)) (old new : Outside) → WereRead old.contents (files_read work) files → Wrote1 work files old new → WroteReport (Some work) old new
+wrote_report work files old new were wrote = record {
   work = work;
   asked = refl;
   files = files;
@@ -55,20 +59,17 @@ wrote_report contents work files old new were wrote = record {
   written = wrote.written;
 }
 
-pub wrote_front : (contents : Option Files) (work : Request) (files : List (List ℕ)) (old new : Option (List ℕ)) → WereRead contents (files_read work) files → WroteFrontOf work files old new → WroteFront contents (Some work) old new
-wrote_front contents work files old new were wrote = record {
+wrote_front : (work : Request) (files : List (List ℕ)) (old new : Outside) → WereRead old.contents (files_read work) files → WroteFrontOf work files old new → WroteFront (Some work) old new
+wrote_front work files old new were wrote = record {
   work = work;
   asked = refl;
   files = files;
   were_read = were;
+  made = wrote.made;
   text = wrote.text;
-  is_text = wrote.is_text;
-  written = wrote.written;
+  to_write = wrote.to_write;
+  how_far = wrote.how_far;
 }
-
-pub wrote_some : (contents : Option Files) (work : Request) (files : List (List ℕ)) (old new : Option (List ℕ)) → WereRead contents (files_read work) files → (new ≡ old) ⊎ WroteFrontOf work files old new → (new ≡ old) ⊎ WroteFront contents (Some work) old new
-wrote_some contents work files old new were (inl same) = inl same
-wrote_some contents work files old new were (inr wrote) = inr (wrote_front contents work files old new were wrote)
 
 pub unfit : (contents : Option Files) (work : Request) (files : List (List ℕ)) → WereRead contents (files_read work) files → (IsFitFor work files → ⊥) → IsFit contents (Some work) → ⊥
 unfit None work files were not_fit fit = fit
@@ -81,7 +82,7 @@ unreported (Some held) work files were none has = none has.0 (subst (λ (bs : Li
 -- ---- the promises, at each end of the work
 
 -- one of six
-six : {A : Type 0} (n : ℕ) → n ≤ 5 → (n ≡ 0 → A) → (n ≡ 1 → A) → (n ≡ 2 → A) → (n ≡ 3 → A) → (n ≡ 4 → A) → (n ≡ 5 → A) → A
+pub six : {A : Type 0} (n : ℕ) → n ≤ 5 → (n ≡ 0 → A) → (n ≡ 1 → A) → (n ≡ 2 → A) → (n ≡ 3 → A) → (n ≡ 4 → A) → (n ≡ 5 → A) → A
 six zero le a b c d e f = a refl
 six (suc zero) le a b c d e f = b refl
 six (suc (suc zero)) le a b c d e f = c refl
@@ -94,29 +95,98 @@ neither : (n : ℕ) → (n ≡ 2) ⊎ (n ≡ 3) → (n ≡ 2 → ⊥) → (n ≡
 neither n (inl e) two three = two e
 neither n (inr e) two three = three e
 
-some_work : (work : Request) → Some work ≡ None → ⊥
+pub some_work : (work : Request) → Some work ≡ None → ⊥
 some_work work e = cc
 
+-- ---- the folder's calls
+
+-- one more call was noted
+longer : (calls : List FailedCall) (call : FailedCall) → calls ++ call ∷ [] ≡ calls → ⊥
+longer calls call e = let n = sym (length-append calls (call ∷ [])) ∙ ap length e in omega (arith, n)
+
+pub not_still : (now calls : List FailedCall) (call : FailedCall) → now ≡ calls ++ call ∷ [] → now ≡ calls → ⊥
+not_still now calls call grown same = longer calls call (sym grown ∙ same)
+
+among : (before : List OutputFile) (file : OutputFile) (behind : List OutputFile) → Contains (before ++ file ∷ behind) file
+among before file behind = (length before, omega (arith, length-append before (file ∷ behind)), there before)
+  where
+    there : (front : List OutputFile) → slice_index_or (front ++ file ∷ behind) (length front) file ≡ file
+    there [] = refl
+    there (f ∷ front) = there front
+
+-- where a file stands among them, it is the work that makes them
+made_by : (work : Request) (files : List (List ℕ)) (made : List OutputFile) (text : List ℕ) (file : OutputFile) → IsToWrite work files made text → Contains made file → IsDone work files made text
+made_by work files made text file (inl done) is = done
+made_by work files made text file (inr report) is = absurd (none made file report.0 is)
+  where
+    none : (fs : List OutputFile) (f : OutputFile) → fs ≡ [] → Contains fs f → ⊥
+    none [] f e is = let lt = is.1 in omega (arith, lt)
+    none (g ∷ fs) f e is = cc
+
+file_failed : (work : Request) (files : List (List ℕ)) (old new : Outside) (made : List OutputFile) (text : List ℕ) → WereRead old.contents (files_read work) files → IsToWrite work files made text → (some : WroteSomeFiles made old new) →
+    new.failed ≡ old.failed ++ Write some.stopped.file.path ∷ [] → WriteFailed (Some work) old new
+file_failed work files old new made text were to_write some failed =
+    let is = subst (λ (fs : List OutputFile). Contains fs some.stopped.file) (sym some.stopped.are) (among some.stopped.before some.stopped.file some.stopped.behind) in
+    record {
+      work = work;
+      asked = refl;
+      files = files;
+      were_read = were;
+      made = made;
+      text = text;
+      done = made_by work files made text some.stopped.file to_write is;
+      file = some.stopped.file;
+      is = is;
+      failed = failed;
+    }
+
+own_call : (work : Request) (files : List (List ℕ)) (old new : Outside) (made : List OutputFile) (text : List ℕ) → WereRead old.contents (files_read work) files → IsToWrite work files made text → (some : WroteSomeFiles made old new) →
+    (new.failed ≡ old.failed) ⊎ (new.failed ≡ old.failed ++ Write some.stopped.file.path ∷ []) → FailedAtMost (Some work) old new
+own_call work files old new made text were to_write some (inl same) = inl same
+own_call work files old new made text were to_write some (inr failed) = inr (inr (file_failed work files old new made text were to_write some failed))
+
+calls_by : (work : Request) (files : List (List ℕ)) (old new : Outside) (made : List OutputFile) (text : List ℕ) → WereRead old.contents (files_read work) files → IsToWrite work files made text → HowFar made text old new → FailedAtMost (Some work) old new
+calls_by work files old new made text were to_write (InFiles some) = own_call work files old new made text were to_write some some.stopped.own
+calls_by work files old new made text were to_write (InText some) = inl some.failed
+
+-- a fault of the outside isn't missed
+pub faulty : (made : List OutputFile) (text : List ℕ) (old new : Outside) (how : HowFar made text old new) → IsFault made text old new how → new.failed ≡ old.failed → (Rose old.faults new.faults → ⊥) → ⊥
+faulty made text old new (InFiles some) fault still calm = not_still new.failed old.failed (Write some.stopped.file.path) fault still
+faulty made text old new (InText some) fault still calm = calm fault
+
 -- what was answered for the bytes was written, or as much of it as could be
-pub responded : (contents now_contents : Option Files) (work : Request) (files : List (List ℕ)) (before now : List FailedCall) (w w' : Option (List ℕ)) (n n' status : ℕ) →
-    now_contents ≡ contents → now ≡ before → WereRead contents (files_read work) files → Responded work files w w' n n' status →
-    Promises (Some work) (shown contents before w n) (shown now_contents now w' n') status
-responded contents now_contents work files before now w w' n n' status kept same were r = record {
+responded_at : (work : Request) (files : List (List ℕ)) (old new : Outside) (status : ℕ) → WereRead old.contents (files_read work) files → Responded work files old new status → Promises (Some work) old new status
+unfolding wrote_front
+responded_at work files old new status were r = record {
   known = r.known;
   usage = (λ e. absurd (r.not_usage e), λ e. absurd (some_work work e));
-  whole = λ e. wrote_text contents work files w w' were (r.whole e);
-  report = λ e. wrote_report contents work files w w' were (r.report e);
+  whole = λ e. wrote_text work files old new were (r.whole e);
+  report = λ e. wrote_report work files old new were (r.report e);
   read = λ e. absurd (r.not_unread e);
   nothing = λ e. absurd (neither status e r.not_usage r.not_unread);
-  write = λ e. inl (r.write e);
-  front = λ e. wrote_front contents work files w w' were (r.front e);
-  memory = λ e. wrote_some contents work files w w' were (r.memory e);
+  write = λ e. let w = r.write e in (wrote_front work files old new were w.0, w.1);
+  memory = λ e. inr (wrote_front work files old new were (r.memory e));
   quiet = r.quiet;
-  were_read = λ e. same;
-  contents = kept;
-  calls = inl same;
+  were_read = r.failed;
+  contents = λ e. r.contents (no_files_at e);
+  calls = six status r.known (λ e. inl (r.failed (inl e))) (λ e. inl (r.failed (inr e))) (λ e. absurd (r.not_usage e)) (λ e. absurd (r.not_unread e))
+      (λ e. let w = r.write e in calls_by work files old new w.0.made w.0.text were w.0.to_write w.0.how_far) (λ e. let w = r.memory e in calls_by work files old new w.made w.text were w.to_write w.how_far);
   complete = λ fit still calm.
-      six status r.known (λ e. inl e) (λ e. absurd (unfit contents work files were (r.fit e) fit)) (λ e. absurd (r.not_usage e)) (λ e. absurd (r.not_unread e)) (λ e. absurd (calm (r.write e))) (λ e. inr e);
+      six status r.known (λ e. inl e) (λ e. absurd (unfit old.contents work files were (r.fit e) fit)) (λ e. absurd (r.not_usage e)) (λ e. absurd (r.not_unread e))
+      (λ e. let w = r.write e in absurd (faulty w.0.made w.0.text old new w.0.how_far w.1 still calm)) (λ e. inr e);
   reported = λ has still calm.
-      six status r.known (λ e. absurd (unreported contents work files were (r.unreported e) has)) (λ e. inl e) (λ e. absurd (r.not_usage e)) (λ e. absurd (r.not_unread e)) (λ e. absurd (calm (r.write e))) (λ e. inr e);
+      six status r.known (λ e. absurd (unreported old.contents work files were (r.unreported e) has)) (λ e. inl e) (λ e. absurd (r.not_usage e)) (λ e. absurd (r.not_unread e))
+      (λ e. let w = r.write e in absurd (faulty w.0.made w.0.text old new w.0.how_far w.1 still calm)) (λ e. inr e);
 }
+  where
+    no_files_at : (AsksForFiles (Some work) → ⊥) ⊎ ((status ≡ 1) ⊎ ((status ≡ 2) ⊎ (status ≡ 3))) → (AsksForFiles (Some work) → ⊥) ⊎ (status ≡ 1)
+    no_files_at (inl none) = inl none
+    no_files_at (inr (inl e)) = inr e
+    no_files_at (inr (inr (inl e))) = absurd (r.not_usage e)
+    no_files_at (inr (inr (inr e))) = absurd (r.not_unread e)
+
+pub same_outside : (contents now_contents : Option Files) (calls now_calls : List FailedCall) (w : Option (List ℕ)) (n : ℕ) → now_contents ≡ contents → now_calls ≡ calls → shown now_contents now_calls w n ≡ shown contents calls w n
+same_outside contents now_contents calls now_calls w n kept same = ap (λ (c : Option Files). shown c now_calls w n) kept ∙ ap (λ (f : List FailedCall). shown contents f w n) same
+
+pub responded : (work : Request) (files : List (List ℕ)) (old mid new : Outside) (status : ℕ) → mid ≡ old → WereRead old.contents (files_read work) files → Responded work files mid new status → Promises (Some work) old new status
+responded work files old mid new status same were r = responded_at work files old new status were (subst (λ (o : Outside). Responded work files o new status) same r)

@@ -1,5 +1,5 @@
 -- The text of an accepted program's run is the journal of a whole run.
-use Rattle.std.proofs.Common.{◌≡◌, ℕ, ℤ, true, List, Option, Some, sym, subst}
+use Rattle.std.proofs.Common.{◌≡◌, ℕ, ℤ, true, List, Some, refl, sym, subst}
 use Rattle.kilim_classes.specs.Names.{class_named}
 use Rattle.kilim_classes.specs.Program.{Program}
 use Rattle.kilim_classes.specs.declared.names.ClassId.{ClassId}
@@ -34,5 +34,5 @@ pub to_run : (main : List ℕ) (workers steps : ℕ) (args : List ℤ) (names fi
     ((class : ClassId) → is_fit_main p class ≡ true → (limits : Limits) → IsIsolatedRun p class limits) → IsMainOf p main (limits_of steps args) set → IsToRun (Run main workers steps args names) files set
 to_run main workers steps args names files p set of served isolated is = record {
   served = subst (λ (s : Setting). IsServed s) (sym is.is) (served set.main is.fit (limits_of steps args));
-  done = λ text run. (fit_run main files p set.main of is.named is.fit, whole_run main (limits_of steps args) files p set.main text of is.named (isolated set.main is.fit (limits_of steps args)) (subst (λ (s : Setting). IsTextOf s text) is.is run));
+  done = λ text run. (refl, (fit_run main files p set.main of is.named is.fit, whole_run main (limits_of steps args) files p set.main text of is.named (isolated set.main is.fit (limits_of steps args)) (subst (λ (s : Setting). IsTextOf s text) is.is run)));
 }

@@ -19,7 +19,11 @@ use Rattle.kilim_thread_model.specs.Reach.{Liveness, PlaysIsolated}
 use Rattle.kilim_thread_model.specs.Runs.{Whole}
 use Rattle.kilim_thread_model.specs.State.{Setting}
 use Rattle.kilim_typing.specs.Typed.{Live}
-use Rattle.kilim_words.specs.Words.{Request, Check, Run, Demo, files_read, files_written}
+use Rattle.kilim_words.specs.Words.{Request, Check, Weave, Run, Demo, files_read}
+use Rattle.kilim_written_files.specs.OutputFile.{OutputFile}
+use Rattle.kilim_written_files.specs.Written.{HasFailed, StoppedAtFile, WroteFiles}
+use Rattle.kilim_weave_command.specs.Weaving.{IsWeavable, IsWeaving}
+use Rattle.kilim_woven_files.specs.Reports.{IsWeaveReport}
 use Rattle.kilim_demo.specs.Demo.{demo_texts, IsDemoLine, IsDemoReport}
 use Rattle.kilim_stages.specs.Accepted.{IsAcceptedOf}
 use Rattle.kilim_stages.specs.Reports.{IsStageReport}
@@ -75,17 +79,27 @@ pub record IsCheck (files : List (List ℕ)) (text : List ℕ) : Type 0 where
   pub isolated : (class : ClassId) → is_fit_main program class ≡ true → (limits : Limits) → IsIsolatedRun program class limits
   pub is_text : text ≡ accepted_line (length files) (coded_methods program)
 
+-- The class files link to an accepted program, none of whose runs shares an object. These are their woven files, below that
+-- directory, and their lines.
+pub record IsWeave (to : List ℕ) (files : List (List ℕ)) (made : List OutputFile) (text : List ℕ) : Type 0 where
+  pub program : Program
+  pub accepted : IsAcceptedOf files program
+  pub isolated : (class : ClassId) → is_fit_main program class ≡ true → (limits : Limits) → IsIsolatedRun program class limits
+  pub weaving : IsWeaving to files made text
+
 -- the work that is asked for can be done with these files
 abbrev pub IsFitFor : Request → List (List ℕ) → Type 0
 IsFitFor (Check names) files = (program : Program) × IsAcceptedOf files program
+IsFitFor (Weave to names) files = IsWeavable files
 IsFitFor (Run main workers steps args names) files = IsFitRun main files
 IsFitFor (Demo number workers) files = (program : Program) × IsAcceptedOf (demo_texts number) program
 
--- what is written where it was done
-abbrev pub IsDone : Request → List (List ℕ) → List ℕ → Type 0
-IsDone (Check names) files text = IsCheck files text
-IsDone (Run main workers steps args names) files text = IsFitRun main files × IsWholeRun main (limits_of steps args) files text
-IsDone (Demo number workers) files text = IsDemoLine number text
+-- what is written where it was done: the files that are made, and then a text
+abbrev pub IsDone : Request → List (List ℕ) → List OutputFile → List ℕ → Type 0
+IsDone (Check names) files made text = (made ≡ []) × IsCheck files text
+IsDone (Weave to names) files made text = IsWeave to files made text
+IsDone (Run main workers steps args names) files made text = (made ≡ []) × (IsFitRun main files × IsWholeRun main (limits_of steps args) files text)
+IsDone (Demo number workers) files made text = (made ≡ []) × IsDemoLine number text
 
 -- ---- reports: lines with their line feeds
 
@@ -99,6 +113,7 @@ pub record IsMainReport (main : List ℕ) (files : List (List ℕ)) (text : List
 -- the report of the first stage that has a fault
 abbrev pub IsReport : Request → List (List ℕ) → List ℕ → Type 0
 IsReport (Check names) files text = IsStageReport names files text
+IsReport (Weave to names) files text = IsWeaveReport names files text
 IsReport (Run main workers steps args names) files text = IsStageReport names files text ⊎ IsMainReport main files text
 IsReport (Demo number workers) files text = IsDemoReport number text
 
@@ -115,37 +130,88 @@ WereRead contents [] [] = Unit {0}
 WereRead contents (name ∷ names) (bytes ∷ files) = WasRead contents name bytes × WereRead contents names files
 WereRead contents names files = ⊥
 
+-- ---- the outside
+
+-- What the outside shows: what the files hold and which calls on them failed, what came to the sink and how often it
+-- failed.
+pub record Outside : Type 0 where
+  pub contents : Option Files
+  pub failed : List FailedCall
+  pub written : Option (List ℕ)
+  pub faults : ℕ
+
+abbrev pub shown : Option Files → List FailedCall → Option (List ℕ) → ℕ → Outside
+shown contents failed written faults = record { contents = contents; failed = failed; written = written; faults = faults }
+
 -- ---- what was written
 
--- what the work makes of the files that the words name
-pub record WroteText (contents : Option Files) (request : Option Request) (old new : Option (List ℕ)) : Type 0 where
+-- what the work makes of the files that the words name: its files, and then its text
+pub record WroteText (request : Option Request) (old new : Outside) : Type 0 where
   pub work : Request
   pub asked : request ≡ Some work
   pub files : List (List ℕ)
-  pub were_read : WereRead contents (files_read work) files
+  pub were_read : WereRead old.contents (files_read work) files
+  pub made : List OutputFile
   pub text : List ℕ
-  pub done : IsDone work files text
-  pub written : Appended old new text
+  pub done : IsDone work files made text
+  pub were_made : WroteFiles made old.contents new.contents
+  pub written : Appended old.written new.written text
 
 -- the report of the first stage that has a fault
-pub record WroteReport (contents : Option Files) (request : Option Request) (old new : Option (List ℕ)) : Type 0 where
+pub record WroteReport (request : Option Request) (old new : Outside) : Type 0 where
   pub work : Request
   pub asked : request ≡ Some work
   pub files : List (List ℕ)
-  pub were_read : WereRead contents (files_read work) files
+  pub were_read : WereRead old.contents (files_read work) files
   pub text : List ℕ
   pub report : IsReport work files text
-  pub written : Appended old new text
+  pub written : Appended old.written new.written text
 
--- a front of one of the two
-pub record WroteFront (contents : Option Files) (request : Option Request) (old new : Option (List ℕ)) : Type 0 where
+-- the files up to one, which is open, and nothing of the text
+pub record WroteSomeFiles (made : List OutputFile) (old new : Outside) : Type 0 where
+  pub stopped : StoppedAtFile made old.contents new.contents old.failed new.failed
+  pub written : new.written ≡ old.written
+  pub faults : new.faults ≡ old.faults
+
+-- all files, and then a front of the text
+pub record WroteSomeText (made : List OutputFile) (text : List ℕ) (old new : Outside) : Type 0 where
+  pub were_made : WroteFiles made old.contents new.contents
+  pub failed : new.failed ≡ old.failed
+  pub written : AppendedFront old.written new.written text
+
+-- what comes to be written: what the work makes, or a report, which has no files
+abbrev pub IsToWrite : Request → List (List ℕ) → List OutputFile → List ℕ → Type 0
+IsToWrite work files made text = IsDone work files made text ⊎ ((made ≡ []) × IsReport work files text)
+
+-- how far the writing came
+pub data HowFar (made : List OutputFile) (text : List ℕ) (old new : Outside) : Type 0 where
+  InFiles : WroteSomeFiles made old new → HowFar made text old new
+  InText : WroteSomeText made text old new → HowFar made text old new
+
+-- a front of it
+pub record WroteFront (request : Option Request) (old new : Outside) : Type 0 where
   pub work : Request
   pub asked : request ≡ Some work
   pub files : List (List ℕ)
-  pub were_read : WereRead contents (files_read work) files
+  pub were_read : WereRead old.contents (files_read work) files
+  pub made : List OutputFile
   pub text : List ℕ
-  pub is_text : IsDone work files text ⊎ IsReport work files text
-  pub written : AppendedFront old new text
+  pub to_write : IsToWrite work files made text
+  pub how_far : HowFar made text old new
+
+-- why it is no more: that file's write failed, or the sink
+abbrev pub IsFault : (made : List OutputFile) (text : List ℕ) (old new : Outside) → HowFar made text old new → Type 0
+IsFault made text old new (InFiles some) = HasFailed made old.contents new.contents old.failed new.failed some.stopped
+IsFault made text old new (InText some) = Rose old.faults new.faults
+
+-- no file, and no text
+abbrev pub WroteNothing : Outside → Outside → Type 0
+WroteNothing old new = (new.contents ≡ old.contents) × (new.written ≡ old.written)
+
+-- the words ask for files to be written
+abbrev pub AsksForFiles : Option Request → Type 0
+AsksForFiles (Some (Weave to names)) = Unit {0}
+AsksForFiles request = ⊥
 
 -- ---- which calls of the folder failed
 
@@ -154,15 +220,23 @@ abbrev pub ReadFailed : Option Request → List FailedCall → List FailedCall �
 ReadFailed None before now = ⊥
 ReadFailed (Some request) before now = (name : List ℕ) × Contains (files_read request) name × (now ≡ before ++ Read name ∷ [])
 
--- a write of a file that the command writes
-abbrev pub WriteFailed : Option Request → List FailedCall → List FailedCall → Type 0
-WriteFailed None before now = ⊥
-WriteFailed (Some request) before now = (name : List ℕ) × Contains (files_written request) name × (now ≡ before ++ Write name ∷ [])
+-- a write of a file that is made of the files that were read
+pub record WriteFailed (request : Option Request) (old new : Outside) : Type 0 where
+  pub work : Request
+  pub asked : request ≡ Some work
+  pub files : List (List ℕ)
+  pub were_read : WereRead old.contents (files_read work) files
+  pub made : List OutputFile
+  pub text : List ℕ
+  pub done : IsDone work files made text
+  pub file : OutputFile
+  pub is : Contains made file
+  pub failed : new.failed ≡ old.failed ++ Write file.path ∷ []
 
 -- No call of the folder failed but these. The call is the same for every folder, and in some folder every call
 -- fails: so no other name was read or written in any.
-abbrev pub FailedAtMost : Option Request → List FailedCall → List FailedCall → Type 0
-FailedAtMost request before now = (now ≡ before) ⊎ (ReadFailed request before now ⊎ WriteFailed request before now)
+abbrev pub FailedAtMost : Option Request → Outside → Outside → Type 0
+FailedAtMost request old new = (new.failed ≡ old.failed) ⊎ (ReadFailed request old.failed new.failed ⊎ WriteFailed request old new)
 
 -- ---- when the work can be done
 
@@ -182,38 +256,28 @@ HasReport contents request = ⊥
 
 -- ---- the promises of the top call
 
--- What the outside shows: what the files hold and which calls on them failed, what came to the sink and how often it
--- failed.
-pub record Outside : Type 0 where
-  pub contents : Option Files
-  pub failed : List FailedCall
-  pub written : Option (List ℕ)
-  pub faults : ℕ
-
-abbrev pub shown : Option Files → List FailedCall → Option (List ℕ) → ℕ → Outside
-shown contents failed written faults = record { contents = contents; failed = failed; written = written; faults = faults }
-
 -- What a status says, of what the words ask for, and of the outside before and after.
 pub record Promises (request : Option Request) (old new : Outside) (status : ℕ) : Type 0 where
   pub known : status ≤ NO_MEMORY
   -- where the words aren't in the grammar, and only there
   pub usage : (status ≡ USAGE) ↔ (request ≡ None)
-  -- what was written: the journal of a whole run, or that the files are accepted; or the report of a stage
-  pub whole : status ≡ DONE → WroteText old.contents request old.written new.written
-  pub report : status ≡ REPORTED → WroteReport old.contents request old.written new.written
+  -- what was written: the journal of a whole run, or that the files are accepted, or woven files and their lines; or the report of
+  -- a stage
+  pub whole : status ≡ DONE → WroteText request old new
+  pub report : status ≡ REPORTED → WroteReport request old new
   -- only where a file that the words name can't be read
   pub read : status ≡ UNREAD → ReadFailed request old.failed new.failed
   pub nothing : (status ≡ USAGE) ⊎ (status ≡ UNREAD) → new.written ≡ old.written
-  -- only where the sink failed, or a file that the command writes
-  pub write : status ≡ UNWRITTEN → Rose old.faults new.faults ⊎ WriteFailed request old.failed new.failed
-  pub front : status ≡ UNWRITTEN → WroteFront old.contents request old.written new.written
-  pub memory : status ≡ NO_MEMORY → (new.written ≡ old.written) ⊎ WroteFront old.contents request old.written new.written
+  -- only where the sink failed, or the write of a file that is made
+  pub write : status ≡ UNWRITTEN → (front : WroteFront request old new) × IsFault front.made front.text old new front.how_far
+  pub memory : status ≡ NO_MEMORY → WroteNothing old new ⊎ WroteFront request old new
   -- no fault of the outside is passed over: the first one ends the work
   pub quiet : (status ≡ DONE) ⊎ (status ≡ REPORTED) → new.faults ≡ old.faults
-  pub were_read : (status ≡ DONE) ⊎ (status ≡ REPORTED) ⊎ (status ≡ UNWRITTEN) → new.failed ≡ old.failed
-  -- no file changes, and no other name is read
-  pub contents : new.contents ≡ old.contents
-  pub calls : FailedAtMost request old.failed new.failed
+  pub were_read : (status ≡ DONE) ⊎ (status ≡ REPORTED) → new.failed ≡ old.failed
+  -- no file changes where the words ask for none to be written, or one of these statuses is answered
+  pub contents : (AsksForFiles request → ⊥) ⊎ ((status ≡ REPORTED) ⊎ ((status ≡ USAGE) ⊎ (status ≡ UNREAD))) → new.contents ≡ old.contents
+  -- no name is read but those that the words give, and none is written but those of the files that are made
+  pub calls : FailedAtMost request old new
   -- The work is done, or memory is short, where it can be done and nothing outside fails. So it is with the report of a
   -- stage that has a fault.
   pub complete : IsFit old.contents request → new.failed ≡ old.failed → (Rose old.faults new.faults → ⊥) → (status ≡ DONE) ⊎ (status ≡ NO_MEMORY)

@@ -1,10 +1,11 @@
 -- How many workers the words ask for.
 use Rattle.std.specs.Prelude.{◌<◌, ℕ, Option, Some, None}
-use Rattle.kilim_words.specs.Words.{Request, Check, Run, Demo}
+use Rattle.kilim_words.specs.Words.{Request, Check, Weave, Run, Demo}
 
--- to check takes one
+-- to check and to weave take one
 abbrev pub workers_of : Request → ℕ
 workers_of (Check files) = 1
+workers_of (Weave to files) = 1
 workers_of (Run main workers steps args files) = workers
 workers_of (Demo number workers) = workers
 

@@ -1,6 +1,6 @@
 //! From the bytes of class files to the text that is written.
 
-ghost use Rattle.std.specs.Prelude.{◌≡◌, ◌⊎◌, ◌≤◌, List, ℕ, IfOk, length, map};
+ghost use Rattle.std.specs.Prelude.{◌≡◌, ◌≤◌, [], IfOk, length, map};
 ghost use Rattle.std.specs.String.{string_bytes};
 ghost use Rattle.kilim_classes.specs.Keeps.{Keeps};
 ghost use Rattle.kilim_journal.specs.Readable.{IsReadable};
@@ -8,10 +8,10 @@ ghost use Rattle.kilim_journal.specs.Text.{journal_text};
 ghost use Rattle.kilim_main_class.specs.Main.{fit_class_named};
 ghost use Rattle.kilim_typing.specs.Typed.{IsWellTyped, has_code};
 ghost use Rattle.kilim_words.specs.Parts.{meant, numbers_of};
-ghost use Rattle.kilim_words.specs.Words.{Check, Run, files_read};
+ghost use Rattle.kilim_words.specs.Words.{Check, Run, Weave, files_read};
 ghost use Rattle.kilim_top.specs.Report.{utf16_of, accepted_line, coded_methods};
 ghost use Rattle.kilim_top.specs.Inside.Answer.{IsReadyFor, IsReadyOf, IsRefusedBy, IsReplyFor};
-ghost use Rattle.kilim_top.specs.Outcome.{IsDone, IsReport, IsFitFor, limits_of};
+ghost use Rattle.kilim_top.specs.Outcome.{limits_of};
 
 use crate::report::{accepted_line, no_main, utf16_of};
 use crate::status::{DONE, REPORTED};
@@ -21,22 +21,25 @@ use kilim_isolation_check::Isolated;
 use kilim_journal::Entry;
 use kilim_main_class::fit_main;
 use kilim_program::Limits;
-use kilim_stages::{Refusal, accepted, never_both, one_program_of};
+use kilim_stages::{Refusal, accepted};
 use kilim_units::{NoMemory, Seq};
-use kilim_words::{Asked, RunWords, integers};
+use kilim_weave_command::{accepted_files_are_isolated, weave_files};
+use kilim_words::{Asked, RunWords, WeaveWords, integers};
+use kilim_written_files::OutputFile;
 use std::alloc::Global;
 
-/// A text to be written, and the status where it was written whole.
+/// Files to be written, a text to be written behind them, and the status where all was written whole.
 #[derive(Drop)]
 pub struct Reply {
     pub status: u8,
+    pub files: Vec<OutputFile>,
     pub text: Vec<u8>,
 }
 
 /// What is to be done for the bytes of files.
 #[derive(Drop)]
 pub enum Ready {
-    /// To write a text.
+    /// To write files and a text.
     Reply(Reply),
     /// To run a program with its main class.
     Run(Program, ClassId, Limits),
@@ -76,6 +79,7 @@ fn program_ready(alloc: Global, words: &RunWords<'_>, program: Program) -> Resul
             let text = no_main(alloc, words.main)?;
             Ok(Ready::Reply(Reply {
                 status: REPORTED,
+                files: Vec::new(alloc),
                 text,
             }))
         }
@@ -83,12 +87,13 @@ fn program_ready(alloc: Global, words: &RunWords<'_>, program: Program) -> Resul
 }
 
 /// What is answered where the stages refuse.
-pub fn refused(refusal: Refusal) -> Result<Reply, NoMemory>
-    ensures { IfOk result (λ reply. IsRefusedBy refusal reply.status reply.text.items) }
+pub fn refused(alloc: Global, refusal: Refusal) -> Result<Reply, NoMemory>
+    ensures { IfOk result (λ reply. IsRefusedBy refusal reply.status reply.files.items reply.text.items) }
 {
     match refusal {
         Refusal::Report(text) => Ok(Reply {
             status: REPORTED,
+            files: Vec::new(alloc),
             text,
         }),
         Refusal::NoMemory => Err(NoMemory),
@@ -115,7 +120,7 @@ fn run_ready(alloc: Global, words: &RunWords<'_>, files: &[Seq<u8>]) -> Result<R
     match accepted(alloc, words.files, files) {
         Ok(isolated) => program_ready(alloc, words, program_of(isolated)),
         Err(refusal) => {
-            let reply = refused(refusal)?;
+            let reply = refused(alloc, refusal)?;
             Ok(Ready::Reply(reply))
         }
     }
@@ -144,7 +149,7 @@ fn coded_methods(program: &Program) -> usize
 fn check_reply(alloc: Global, names: &[String], files: &[Seq<u8>]) -> Result<Reply, NoMemory>
     requires few { length files.now ≤ 1000 }
     requires same { length names.now ≡ length files.now }
-    ensures { IfOk result (λ reply. IsReplyFor (Check (map string_bytes names.now)) files.now reply.status reply.text.items) }
+    ensures { IfOk result (λ reply. IsReplyFor (Check (map string_bytes names.now)) files.now reply.status reply.files.items reply.text.items) }
 {
     accepted_is_isolated();
     match accepted(alloc, names, files) {
@@ -152,9 +157,30 @@ fn check_reply(alloc: Global, names: &[String], files: &[Seq<u8>]) -> Result<Rep
             let program = program_of(isolated);
             let methods = coded_methods(&program);
             let text = accepted_line(alloc, files.len(), methods)?;
-            Ok(Reply { status: DONE, text })
+            Ok(Reply {
+                status: DONE,
+                files: Vec::new(alloc),
+                text,
+            })
         }
-        Err(refusal) => refused(refusal),
+        Err(refusal) => refused(alloc, refusal),
+    }
+}
+
+// What is answered for the bytes of files that are to be woven.
+fn weave_reply(alloc: Global, words: &WeaveWords<'_>, files: &[Seq<u8>]) -> Result<Reply, NoMemory>
+    requires few { length files.now ≤ 1000 }
+    requires same { length words.now.files.now ≡ length files.now }
+    ensures { IfOk result (λ reply. IsReplyFor (Weave words.now.to.now (map string_bytes words.now.files.now)) files.now reply.status reply.files.items reply.text.items) }
+{
+    accepted_files_are_isolated();
+    match weave_files(alloc, words.to, words.files, files) {
+        Ok(output) => Ok(Reply {
+            status: DONE,
+            files: output.files,
+            text: output.text,
+        }),
+        Err(refusal) => refused(alloc, refusal),
     }
 }
 
@@ -169,6 +195,10 @@ pub fn prepare(alloc: Global, asked: &Asked<'_>, files: &[Seq<u8>]) -> Result<Re
             let reply = check_reply(alloc, names, files)?;
             Ok(Ready::Reply(reply))
         }
+        Asked::Weave(words) => {
+            let reply = weave_reply(alloc, words, files)?;
+            Ok(Ready::Reply(reply))
+        }
         Asked::Run(words) => run_ready(alloc, words, files),
         Asked::Demo(words) => Ok(Ready::Demo(words.number)),
     }
@@ -178,29 +208,13 @@ pub fn prepare(alloc: Global, asked: &Asked<'_>, files: &[Seq<u8>]) -> Result<Re
 pub fn journal_reply(alloc: Global, entries: &Vec<Entry>) -> Result<Reply, NoMemory>
     requires { IsReadable entries.now.items }
     ensures status { IfOk result (λ reply. reply.status ≡ 0) }
+    ensures files { IfOk result (λ reply. reply.files.items ≡ []) }
     ensures text { IfOk result (λ reply. reply.text.items ≡ journal_text entries.now.items) }
 {
     let text = kilim_journal::text(alloc, entries)?;
-    Ok(Reply { status: DONE, text })
-}
-
-/// A reply as it is: what the work makes with status 0, or a report with status 1.
-pub fn settled(
-    asked: &Asked<'_>,
-    files: &[Seq<u8>],
-    reply: Result<Reply, NoMemory>,
-) -> Result<Reply, NoMemory>
-    requires { IfOk reply (λ r. IsReplyFor (meant asked.now) files.now r.status r.text.items) }
-    ensures status { IfOk result (λ reply. reply.status ≤ 1) }
-    ensures whole { IfOk result (λ reply. reply.status ≡ 0 → IsDone (meant asked.now) files.now reply.text.items) }
-    ensures report { IfOk result (λ reply. reply.status ≡ 1 → IsReport (meant asked.now) files.now reply.text.items) }
-    ensures text { IfOk result (λ reply. IsDone (meant asked.now) files.now reply.text.items ⊎ IsReport (meant asked.now) files.now reply.text.items) }
-    ensures fit { IfOk result (λ reply. reply.status ≡ 1 → IsFitFor (meant asked.now) files.now → ⊥) }
-    ensures unreported { IfOk result (λ reply. reply.status ≡ 0 → (text : List ℕ) → IsReport (meant asked.now) files.now text → ⊥) }
-{
-    never_both();
-    one_program_of();
-    let _asked = asked;
-    let _files = files;
-    reply
+    Ok(Reply {
+        status: DONE,
+        files: Vec::new(alloc),
+        text,
+    })
 }

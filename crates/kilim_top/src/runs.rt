@@ -6,7 +6,7 @@ ghost use Rattle.kilim_demo.specs.Demo.{IsDemoLine, IsDemoReport};
 ghost use Rattle.kilim_stages.specs.Parts.{IfReport};
 ghost use Rattle.kilim_words.specs.Parts.{meant};
 ghost use Rattle.kilim_words.specs.Words.{files_read};
-ghost use Rattle.kilim_top.specs.Inside.Answer.{IsDemoReply, IsReplyFor, IsTextOf};
+ghost use Rattle.kilim_top.specs.Inside.Answer.{IsDemoReply, IsReplyFor, IsRunReply};
 ghost use Rattle.kilim_top.specs.Words.{workers_of};
 
 use crate::answer::{Ready, Reply, journal_reply, prepare, refused};
@@ -29,6 +29,7 @@ pub fn workers_of(asked: &Asked<'_>) -> u64
 {
     match asked {
         Asked::Check(_) => 1,
+        Asked::Weave(_) => 1,
         Asked::Run(words) => words.workers,
         Asked::Demo(words) => words.workers,
     }
@@ -43,7 +44,7 @@ fn run_reply_alone<G: Gate>(
     gate: &G,
 ) -> Result<Reply, NoMemory>
     requires { IsServed (setting_of program class limits.now) }
-    ensures { IfOk result (λ reply. (reply.status ≡ 0) × IsTextOf (setting_of program class limits.now) reply.text.items) }
+    ensures { IfOk result (λ reply. IsRunReply (setting_of program class limits.now) reply.status reply.files.items reply.text.items) }
 {
     let entries = run_alone(alloc, program, class, limits, gate)?;
     journal_reply(alloc, &entries)
@@ -60,7 +61,7 @@ fn run_reply_with<R: Threads + Wait + Sync, G: Gate>(
     gate: &G,
 ) -> Result<Reply, NoMemory>
     requires { IsServed (setting_of program class limits.now) }
-    ensures { IfOk result (λ reply. (reply.status ≡ 0) × IsTextOf (setting_of program class limits.now) reply.text.items) }
+    ensures { IfOk result (λ reply. IsRunReply (setting_of program class limits.now) reply.status reply.files.items reply.text.items) }
 {
     let entries = run_with(rt, alloc, program, class, limits, workers, gate)?;
     journal_reply(alloc, &entries)
@@ -68,23 +69,27 @@ fn run_reply_with<R: Threads + Wait + Sync, G: Gate>(
 
 // The line of a demo, or its report.
 #[tactic(auto, using(crate::proofs::Demos::demo_refused))]
-fn demo_reply(number: u64, made: Result<Vec<u8>, Refusal>) -> Result<Reply, NoMemory>
+fn demo_reply(alloc: Global, number: u64, made: Result<Vec<u8>, Refusal>) -> Result<Reply, NoMemory>
     requires line { IfOk made (λ text. IsDemoLine number text.items) }
     requires report { IfReport made (IsDemoReport number) }
-    ensures { IfOk result (λ reply. IsDemoReply number reply.status reply.text.items) }
+    ensures { IfOk result (λ reply. IsDemoReply number reply.status reply.files.items reply.text.items) }
 {
     let _number = number;
     match made {
-        Ok(text) => Ok(Reply { status: DONE, text }),
-        Err(refusal) => refused(refusal),
+        Ok(text) => Ok(Reply {
+            status: DONE,
+            files: Vec::new(alloc),
+            text,
+        }),
+        Err(refusal) => refused(alloc, refusal),
     }
 }
 
 // A demo by one worker.
 fn demo_reply_alone<G: Gate>(alloc: Global, number: u64, gate: &G) -> Result<Reply, NoMemory>
-    ensures { IfOk result (λ reply. IsDemoReply number reply.status reply.text.items) }
+    ensures { IfOk result (λ reply. IsDemoReply number reply.status reply.files.items reply.text.items) }
 {
-    demo_reply(number, demo_alone(alloc, number, gate))
+    demo_reply(alloc, number, demo_alone(alloc, number, gate))
 }
 
 // A demo by as many as are asked for.
@@ -95,9 +100,9 @@ fn demo_reply_with<R: Threads + Wait + Sync, G: Gate>(
     workers: u64,
     gate: &G,
 ) -> Result<Reply, NoMemory>
-    ensures { IfOk result (λ reply. IsDemoReply number reply.status reply.text.items) }
+    ensures { IfOk result (λ reply. IsDemoReply number reply.status reply.files.items reply.text.items) }
 {
-    demo_reply(number, demo_with(rt, alloc, number, workers, gate))
+    demo_reply(alloc, number, demo_with(rt, alloc, number, workers, gate))
 }
 
 /// What is answered for the bytes of the files that the words name, with a run by one worker.
@@ -109,7 +114,7 @@ pub fn reply_alone<G: Gate>(
 ) -> Result<Reply, NoMemory>
     requires few { length files.now ≤ 1000 }
     requires same { length (files_read (meant asked.now)) ≡ length files.now }
-    ensures { IfOk result (λ reply. IsReplyFor (meant asked.now) files.now reply.status reply.text.items) }
+    ensures { IfOk result (λ reply. IsReplyFor (meant asked.now) files.now reply.status reply.files.items reply.text.items) }
 {
     match prepare(alloc, asked, files)? {
         Ready::Reply(reply) => Ok(reply),
@@ -130,7 +135,7 @@ pub fn reply_with<R: Threads + Wait + Sync, G: Gate>(
 ) -> Result<Reply, NoMemory>
     requires few { length files.now ≤ 1000 }
     requires same { length (files_read (meant asked.now)) ≡ length files.now }
-    ensures { IfOk result (λ reply. IsReplyFor (meant asked.now) files.now reply.status reply.text.items) }
+    ensures { IfOk result (λ reply. IsReplyFor (meant asked.now) files.now reply.status reply.files.items reply.text.items) }
 {
     let workers = workers_of(asked);
     match prepare(alloc, asked, files)? {

@@ -19,15 +19,15 @@ use std::thread::Threads;
 /// Does what the words ask for, by itself: it takes no runtime, waits for nobody and returns. It answers the
 /// status, and None where a run needs more than one worker, with nothing done.
 ///
-/// The words are those after the program's name: `check FILE..`, or
-/// `run --main=NAME [--workers=W] [--steps=N] FILE.. [-- INT..]`, with at most 1,000 files. The status is 0 where the work was
-/// done and its text written whole: that the files are accepted, or the run's journal; 1 where a report was: that a file is no
-/// class file, or the class files don't link, or break rules of typing, isolation or pausing, or have no such main class; 2
-/// where the words aren't in the grammar; 3 where a file can't be read; 4 where the text can't be written; 5 for want of
-/// memory.
+/// The words are those after the program's name: `check FILE..`, `weave --to=DIR FILE..`,
+/// `run --main=NAME [--workers=W] [--steps=N] FILE.. [-- INT..]`, each with at most 1,000 files, or `demo --number=D [--workers=W]`. The
+/// status is 0 where the work was done, and its files and its text were written whole: that the class files are accepted; woven files,
+/// and a line for each; the run's journal; or the line of the demo. It is 1 where a report was: that a file is no class file, or the
+/// class files don't link, or break rules of typing, isolation or pausing, or can't be woven, or have no such main class; 2 where the
+/// words aren't in the grammar; 3 where a file can't be read; 4 where a file or the text can't be written; 5 for want of memory.
 ///
-/// `Promises` (specs/Outcome.antt) has what each status says. The sink is left alone before all files are read, and the
-/// files before all words are.
+/// `Promises` (specs/Outcome.antt) has what each status says. The sink is left alone before all files are read and all woven files
+/// written, and the files before all words are read.
 pub fn kilim_alone<F: Folder, K: TextSink, G: Gate>(
     alloc: Global,
     words: &Vec<String>,

@@ -7,8 +7,9 @@ use kilim_class_world::link;
 use kilim_classes::{Form, Program};
 use kilim_classfile::ClassFile;
 use kilim_isolation_check::{Isolated, check_program};
+use kilim_serving_weaver::weave;
 use kilim_type_verify::verify;
-use kilim_weaver::{WeaveFault, Woven, weave};
+use kilim_weaver::{WeaveFault, Woven};
 use std::alloc::Global;
 
 /// The most files of a program.

@@ -112,7 +112,7 @@ fn answered<R: Files + Threads + Wait + Sync, G: Gate>(
             let files = contents(rt, alloc, words.files)?;
             run(rt, alloc, &words, files.as_slice(), gate)
         }
-        Asked::Demo(_) => None,
+        Asked::Weave(_) | Asked::Demo(_) => None,
     }
 }
 

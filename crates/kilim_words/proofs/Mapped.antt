@@ -3,7 +3,7 @@ use Rattle.std.proofs.Common.{◌≡◌, ℕ, ℤ, suc, Bool, ◌&&◌, nat_lt, 
 use Rattle.std.specs.List.{list_all}
 use Rattle.kilim_words.specs.declared.options.Values.{Values}
 use Rattle.kilim_words.specs.Parts.{Tells}
-use Rattle.kilim_words.specs.Words.{Request, are_files, args_in, default_steps, demo_request, demo_with, is_demo_option, is_file, is_option, main_in, main_option, most_number, most_steps, most_workers, number_of, number_option, number_or, run_of, run_with, steps_option, value_behind, value_or, values_of, workers_option}
+use Rattle.kilim_words.specs.Words.{Request, are_files, args_in, default_steps, demo_request, demo_with, is_demo_option, is_file, is_option, is_weave_option, main_option, most_number, most_steps, most_workers, number_of, number_option, number_or, run_of, run_with, steps_option, text_in, to_option, value_behind, value_or, values_of, weave_of, weave_with, workers_option}
 
 pub all_map : {A B : Type 0} (f : A → B) (test : B → Bool) (xs : List A) → list_all (λ x. test (f x)) xs ≡ list_all test (map f xs)
 all_map f test [] = refl
@@ -48,7 +48,7 @@ values_on f front ws i w bytes found next is lt same step told =
 -- ---- what `run` is asked
 
 abbrev asked_run : (options files behind : List (List ℕ)) → Option Request
-asked_run o f b = run_with f (main_in (values_of main_option o)) (number_or 1 most_workers (values_of workers_option o)) (number_or default_steps most_steps (values_of steps_option o)) (args_in b)
+asked_run o f b = run_with f (text_in (values_of main_option o)) (number_or 1 most_workers (values_of workers_option o)) (number_or default_steps most_steps (values_of steps_option o)) (args_in b)
 
 pub run_refused : (o f b : List (List ℕ)) (z : Bool) → z ≡ (list_all is_option o && are_files f) → z ≡ false → None ≡ run_of o f b
 run_refused o f b z e n = sym (ap (λ (y : Bool). cond y (asked_run o f b) None) (sym e ∙ n))
@@ -72,3 +72,12 @@ pub demo_taken : (ws : List (List ℕ)) (z : Bool) (r : Option Request) (number 
     number ≡ number_of most_number (values_of number_option ws) → workers ≡ number_or 1 most_workers (values_of workers_option ws) → r ≡ demo_request ws
 demo_taken ws z r number workers e n s a b =
     s ∙ (ap (λ (x : Option ℕ). demo_with x workers) a ∙ (ap (λ (x : Option ℕ). demo_with (number_of most_number (values_of number_option ws)) x) b ∙ sym (ap (λ (y : Bool). cond y (asked_demo ws) None) (sym e ∙ n))))
+
+-- ---- what `weave` is asked
+
+pub weave_refused : (o f : List (List ℕ)) (z : Bool) → z ≡ (list_all is_weave_option o && are_files f) → z ≡ false → None ≡ weave_of o f
+weave_refused o f z e n = sym (ap (λ (y : Bool). cond y (weave_with f (text_in (values_of to_option o))) None) (sym e ∙ n))
+
+pub weave_taken : (o f : List (List ℕ)) (z : Bool) (to : Option (List ℕ)) (r : Option Request) → z ≡ (list_all is_weave_option o && are_files f) → z ≡ true → to ≡ text_in (values_of to_option o) → r ≡ weave_with f to → r ≡ weave_of o f
+weave_taken o f z to r e n t s =
+    s ∙ (ap (weave_with f) t ∙ sym (ap (λ (y : Bool). cond y (weave_with f (text_in (values_of to_option o))) None) (sym e ∙ n)))

@@ -5,7 +5,7 @@ use Rattle.kilim_words.specs.declared.options.Values.{Values}
 use Rattle.kilim_words.specs.declared.options.Values.TheVariants as values
 use Rattle.kilim_words.specs.declared.asked.Asked.{Asked}
 use Rattle.kilim_words.specs.declared.asked.Asked.TheVariants as asked
-use Rattle.kilim_words.specs.Words.{Request, Check, Run, Demo, ints_of, value_behind}
+use Rattle.kilim_words.specs.Words.{Request, Check, Weave, Run, Demo, ints_of, value_behind}
 use Rattle.kilim_words.specs.Numbers.{int_by}
 
 -- the values of an option, as far as they matter
@@ -28,5 +28,6 @@ numbers_of words = numbers_or (ints_of words)
 -- what the words that were read ask for
 abbrev pub meant : Asked → Request
 meant (asked.Check files) = Check (map string_bytes files.now)
+meant (asked.Weave weave) = Weave weave.to.now (map string_bytes weave.files.now)
 meant (asked.Run run) = Run run.main.now run.workers run.steps (numbers_of (map string_bytes run.args.now)) (map string_bytes run.files.now)
 meant (asked.Demo demo) = Demo demo.number demo.workers

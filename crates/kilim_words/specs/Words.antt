@@ -1,6 +1,7 @@
 -- The grammar of the words after the program's name. Words are lists of bytes.
 --
 --     check FILE..
+--     weave --to=DIR FILE..
 --     run --main=NAME [--workers=W] [--steps=N] FILE.. [-- INT..]
 --     demo --number=D [--workers=W]
 --
@@ -14,6 +15,8 @@ use Rattle.kilim_words.specs.Numbers.{number_in, int_by}
 pub data Request : Type 0 where
   -- to check these files
   Check : (files : List (List ℕ)) → Request
+  -- to weave these files, into files below a directory
+  Weave : (to : List ℕ) (files : List (List ℕ)) → Request
   -- to run the main class of these files, with so many workers, at most so many instructions of each task, and these numbers
   Run : (main : List ℕ) (workers steps : ℕ) (args : List ℤ) (files : List (List ℕ)) → Request
   -- to run the demo of a number, with so many workers
@@ -72,10 +75,16 @@ number_option = codes "--number="
 abbrev pub is_demo_option : List ℕ → Bool
 is_demo_option word = is_some (value_behind number_option word) || is_some (value_behind workers_option word)
 
--- the name of the main class: it stands, and isn't empty
-abbrev pub main_in : List (List ℕ) → Option (List ℕ)
-main_in ((b ∷ bs) ∷ []) = Some (b ∷ bs)
-main_in values = None
+abbrev pub to_option : List ℕ
+to_option = codes "--to="
+
+abbrev pub is_weave_option : List ℕ → Bool
+is_weave_option word = is_some (value_behind to_option word)
+
+-- the text of an option, as the name of the main class or of a directory: it stands, and isn't empty
+abbrev pub text_in : List (List ℕ) → Option (List ℕ)
+text_in ((b ∷ bs) ∷ []) = Some (b ∷ bs)
+text_in values = None
 
 -- a number from 1 to `most`, or the default where the option doesn't stand
 abbrev pub number_or : ℕ → ℕ → List (List ℕ) → Option ℕ
@@ -133,6 +142,17 @@ args_in (mark ∷ words) = if bytes_eq mark (codes "--") && nat_le (length words
 abbrev pub check_request : List (List ℕ) → Option Request
 check_request files = if are_files files then Some (Check files) else None
 
+abbrev pub weave_with : List (List ℕ) → Option (List ℕ) → Option Request
+weave_with files None = None
+weave_with files (Some to) = Some (Weave to files)
+
+-- the options, and the files
+abbrev pub weave_of : (options files : List (List ℕ)) → Option Request
+weave_of options files = if list_all is_weave_option options && are_files files then weave_with files (text_in (values_of to_option options)) else None
+
+abbrev pub weave_request : List (List ℕ) → Option Request
+weave_request words = weave_of (take (count_hyphened words) words) (drop (count_hyphened words) words)
+
 abbrev pub run_with : List (List ℕ) → Option (List ℕ) → Option ℕ → Option ℕ → Option (List ℤ) → Option Request
 run_with files (Some main) (Some workers) (Some steps) (Some args) = Some (Run main workers steps args files)
 run_with files main workers steps args = None
@@ -141,7 +161,7 @@ run_with files main workers steps args = None
 abbrev pub run_of : (options files behind : List (List ℕ)) → Option Request
 run_of options files behind =
     if list_all is_option options && are_files files then
-    run_with files (main_in (values_of main_option options)) (number_or 1 most_workers (values_of workers_option options)) (number_or default_steps most_steps (values_of steps_option options)) (args_in behind)
+    run_with files (text_in (values_of main_option options)) (number_or 1 most_workers (values_of workers_option options)) (number_or default_steps most_steps (values_of steps_option options)) (args_in behind)
     else None
 
 abbrev pub run_behind : (options others : List (List ℕ)) → Option Request
@@ -166,15 +186,14 @@ abbrev pub request_of : List (List ℕ) → Option Request
 request_of [] = None
 request_of (command ∷ words) =
     if bytes_eq command (codes "check") then check_request words
+    else (if bytes_eq command (codes "weave") then weave_request words
     else (if bytes_eq command (codes "run") then run_request words
     else (if bytes_eq command (codes "demo") then demo_request words
-    else None))
+    else None)))
 
--- the files that a command reads, and those that it writes
+-- the files that a command reads
 abbrev pub files_read : Request → List (List ℕ)
 files_read (Check files) = files
+files_read (Weave to files) = files
 files_read (Run main workers steps args files) = files
 files_read (Demo number workers) = []
-
-abbrev pub files_written : Request → List (List ℕ)
-files_written request = []

@@ -7,12 +7,22 @@ ghost use Rattle.std.specs.Str.{bytes_eq};
 ghost use Rattle.std.specs.String.{string_bytes};
 ghost use Rattle.kilim_words.specs.Numbers.{int_by};
 ghost use Rattle.kilim_words.specs.Parts.{is_int, meant, numbers_of};
-ghost use Rattle.kilim_words.specs.Words.{are_files, args_in, check_request, count_hyphened, count_plain, demo_request, demo_with, files_read, ints_of, is_file, is_hyphened, is_option, request_of, run_behind, run_of, run_request, run_with, value_behind};
+ghost use Rattle.kilim_words.specs.Words.{are_files, args_in, check_request, count_hyphened, count_plain, demo_request, demo_with, files_read, ints_of, is_file, is_hyphened, is_option, request_of, run_behind, run_of, run_request, run_with, value_behind, is_weave_option, weave_of, weave_request, weave_with};
 
 use crate::numbers::int_of;
-use crate::options::{are_demo_options, are_options, demo_number, main_in, number_or};
+use crate::options::{
+    are_demo_options, are_options, are_weave_options, demo_number, number_or, text_in,
+};
 use kilim_units::{NoMemory, Seq};
 use std::alloc::Global;
+
+/// What `weave` is given.
+#[derive(Drop)]
+pub struct WeaveWords<'a> {
+    /// The directory below which the woven files are written.
+    pub to: &'a str,
+    pub files: &'a [String],
+}
 
 /// What `run` is given.
 #[derive(Drop)]
@@ -41,6 +51,7 @@ pub struct DemoWords {
 pub enum Asked<'a> {
     /// To check these files.
     Check(&'a [String]),
+    Weave(WeaveWords<'a>),
     Run(RunWords<'a>),
     Demo(DemoWords),
 }
@@ -52,6 +63,7 @@ impl Asked<'_> {
     {
         match self {
             Asked::Check(files) => files,
+            Asked::Weave(weave) => weave.files,
             Asked::Run(run) => run.files,
             Asked::Demo(_) => &[],
         }
@@ -190,6 +202,42 @@ fn check_request(files: &[String]) -> Option<Asked<'_>>
     }
 }
 
+// Whether the options of `weave` are well, and the files.
+fn can_weave(options: &[String], files: &[String]) -> bool
+    ensures can { result ≡ (list_all is_weave_option (map string_bytes options.now) && are_files (map string_bytes files.now)) }
+    ensures few { result ≡ true → length files.now ≤ 1000 }
+{
+    are_weave_options(options) && are_files(files)
+}
+
+fn weave_with<'a>(files: &'a [String], to: Option<&'a str>) -> Option<Asked<'a>>
+    ensures files { IfSome result (λ asked. files_read (meant asked) ≡ map string_bytes files.now) }
+    ensures request { option_map meant result ≡ weave_with (map string_bytes files.now) (option_copied to.entry) }
+{
+    match to {
+        Some(to) => Some(Asked::Weave(WeaveWords { to, files })),
+        None => None,
+    }
+}
+
+fn weave_of<'a>(options: &'a [String], files: &'a [String]) -> Option<Asked<'a>>
+    ensures few { IfSome result (λ asked. length (files_read (meant asked)) ≤ 1000) }
+    ensures request { option_map meant result ≡ weave_of (map string_bytes options.now) (map string_bytes files.now) }
+{
+    if !can_weave(options, files) {
+        return None;
+    }
+    weave_with(files, text_in("--to=", options))
+}
+
+fn weave_request(words: &[String]) -> Option<Asked<'_>>
+    ensures few { IfSome result (λ asked. length (files_read (meant asked)) ≤ 1000) }
+    ensures request { option_map meant result ≡ weave_request (map string_bytes words.now) }
+{
+    let (options, files) = words.split_at(count_hyphened(words));
+    weave_of(options, files)
+}
+
 // Whether the options are well, and the files.
 fn are_well(options: &[String], files: &[String]) -> bool
     ensures well { result ≡ (list_all is_option (map string_bytes options.now) && are_files (map string_bytes files.now)) }
@@ -205,7 +253,7 @@ fn run_of<'a>(options: &'a [String], files: &'a [String], behind: &'a [String]) 
     if !are_well(options, files) {
         return None;
     }
-    let main = main_in(options);
+    let main = text_in("--main=", options);
     let workers = number_or(1, 16, "--workers=", options);
     let steps = number_or(1000000, 100000000, "--steps=", options);
     run_with(files, main, workers, steps, args_in(behind))
@@ -277,6 +325,7 @@ pub fn request(words: &[String]) -> Option<Asked<'_>>
 {
     match words {
         [command, rest @ ..] if command.as_str() == "check" => check_request(rest),
+        [command, rest @ ..] if command.as_str() == "weave" => weave_request(rest),
         [command, rest @ ..] if command.as_str() == "run" => run_request(rest),
         [command, rest @ ..] if command.as_str() == "demo" => demo_request(rest),
         _ => None,

@@ -5,4 +5,4 @@ mod asked;
 mod numbers;
 mod options;
 
-pub use asked::{Asked, DemoWords, RunWords, integers, request};
+pub use asked::{Asked, DemoWords, RunWords, WeaveWords, integers, request};

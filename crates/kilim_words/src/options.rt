@@ -5,7 +5,7 @@ ghost use Rattle.std.specs.Option.{option_copied, option_map};
 ghost use Rattle.std.specs.List.{list_all};
 ghost use Rattle.std.specs.String.{string_bytes};
 ghost use Rattle.kilim_words.specs.Parts.{Tells};
-ghost use Rattle.kilim_words.specs.Words.{value_or, is_demo_option, is_option, main_in, main_option, number_of, number_option, number_or, steps_option, value_behind, values_of, workers_option};
+ghost use Rattle.kilim_words.specs.Words.{value_or, is_demo_option, is_option, is_weave_option, number_of, number_option, number_or, steps_option, text_in, to_option, value_behind, values_of, workers_option};
 
 use crate::numbers::{number_in, value_behind};
 
@@ -89,12 +89,31 @@ pub fn demo_number(options: &[String]) -> Option<u64>
     }
 }
 
-/// The name of the main class.
-pub fn main_in<'a>(options: &'a [String]) -> Option<&'a str>
-    ensures { option_copied result ≡ main_in (values_of main_option (map string_bytes options.now)) }
+fn is_weave_option(word: &str) -> bool
+    ensures { result ≡ is_weave_option word.now }
 {
-    match values_of("--main=", options) {
-        Values::One(name) if !name.is_empty() => Some(name),
+    value_behind("--to=", word).is_some()
+}
+
+fn all_weave_options(words: &[String]) -> bool
+    ensures { result ≡ list_all (λ word. is_weave_option (string_bytes word)) words.now }
+{
+    words.iter().all(|word| is_weave_option(word.as_str()))
+}
+
+/// Whether all of these words are options of `weave`.
+pub fn are_weave_options(words: &[String]) -> bool
+    ensures { result ≡ list_all is_weave_option (map string_bytes words.now) }
+{
+    all_weave_options(words)
+}
+
+/// The text of an option that stands once and isn't empty.
+pub fn text_in<'a>(front: &str, options: &'a [String]) -> Option<&'a str>
+    ensures { option_copied result ≡ text_in (values_of front.now (map string_bytes options.now)) }
+{
+    match values_of(front, options) {
+        Values::One(text) if !text.is_empty() => Some(text),
         _ => None,
     }
 }

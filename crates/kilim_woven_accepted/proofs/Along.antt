@@ -1,6 +1,6 @@
 -- All is put together.
 use Rattle.std.proofs.Common.{◌≡◌, ◌≢◌, ℕ, zero, suc, Bool, true, false, List, [], ◌∷◌, Option, Some, refl, sym, ap, subst, arith}
-use Rattle.std.specs.Prelude.{if◌then◌else◌}
+use Rattle.std.specs.Prelude.{if◌then◌else◌, nat_le}
 use Rattle.std.proofs.lemmas.Bool.{false≢true}
 use Rattle.kilim_classes.specs.declared.class.Method.{Method}
 use Rattle.kilim_classes.specs.declared.instr.Instr.{Instr}
@@ -38,11 +38,11 @@ use Rattle.kilim_woven_program.specs.Made.{woven_counted, woven_program}
 use Rattle.kilim_woven_programs.specs.Law.{KeepsPauses}
 use Rattle.kilim_woven_rows.proofs.AllRows.{rows_from}
 use Rattle.kilim_woven_rows.proofs.FiberCalls.{members_from}
-use Rattle.kilim_woven_runs.specs.Acts.{Lost, World, asks, ending, with_heap}
+use Rattle.kilim_woven_runs.specs.Acts.{Lost, World, asks, ending, spending, with_heap}
 use Rattle.kilim_woven_runs.specs.Form.{Facts, Members}
 use Rattle.kilim_woven_runs.specs.Links.{Forms, code}
 use Rattle.kilim_woven_runs.specs.Serves.{From, Known, Rows}
-use Rattle.kilim_woven_runs.specs.Thread.{Frame, Run, Stop, Thread, begins, begins_in, fetch, own_of, push, self_of, step, steps}
+use Rattle.kilim_woven_runs.specs.Thread.{Frame, Run, Stop, Thread, fetch, own_of, push, self_of, started, started_in, step, steps}
 use Rattle.kilim_woven_serves.proofs.Whole.{whole}
 use Rattle.kilim_woven_shares.proofs.Called.{each}
 use Rattle.kilim_woven_shares.proofs.Fibers.{fiber_is}
@@ -77,10 +77,11 @@ module _ (set : Setting) (run : IsRunOfAccepted set) where
     rest_of : (first : Thread) → IsOfCourse set first → CanPause set W marks form (From set first) → Rest set W marks form (From set first)
     rest_of first course ready = record {
       answers = λ m p to q i l s l2 s2 args x b w heap c f g d. answered m p to q i l s l2 s2 args x b w heap c (at_all first (Run m p l s x b w) course f) g d;
-      ready = ready;
+      selves = ready.0;
+      ready = ready.1;
     }
 
-    known_at : (first : Thread) → IsOfCourse set first → HasFew first → first ≢ Stop Lost → CanPause set W marks form (From set first) → Known set W marks form (From set first)
+    pub known_at : (first : Thread) → IsOfCourse set first → HasFew first → first ≢ Stop Lost → CanPause set W marks form (From set first) → Known set W marks form (From set first)
     known_at first course few stands ready =
         known set (typing_at set.program) (λ id at k. true) (λ id at k. false) (is_verified set run.keeps run.form run.well run.accepted run.main run.begins) run.main
         (accepted_is_kept set run (λ id at k. false) (λ id m at k e live. absurd (false≢true live))) W marks form first course few stands (rest_of first course ready)
@@ -98,11 +99,15 @@ module _ (set : Setting) (run : IsRunOfAccepted set) where
     rows : Rows set W marks form
     rows = rows_from set W marks form facts (shares_rows set W marks run.keeps run.form run.well woven) (fiber_ty set.program) (shares_pauses set W marks run.keeps run.form run.well woven run.main)
 
-    begun_few : (c : MethodId) (n : ℕ) (w : World) (a : Method) → method_at set.program c ≡ Some a → HasFew (begins set n w w (Some c))
-    begun_few c n w a at = subst (λ (o : Option Method). HasFew (begins_in set c n w w o)) (sym at) (by a.built_in)
+    begun_few : (c : MethodId) (n : ℕ) (w : World) (a : Method) → method_at set.program c ≡ Some a → HasFew (started set n w (Some c))
+    begun_few c n w a at = subst (λ (o : Option Method). HasFew (started_in set c n w o)) (sym at) (by a.built_in)
       where
-        by : (z : Bool) → HasFew (if z then ending set w Stop cause.Done else Run c 0 (entered set.program c (Ref n ∷ [])).locals [] (Ref n) [] w)
-        by true = subst HasFew (sym (ending_is set w Stop cause.Done)) tt
+        spent : (z : Bool) → HasFew (if z then ending set w Stop cause.Spent else ending set w Stop cause.Done)
+        spent true = subst HasFew (sym (ending_is set w Stop cause.Spent)) tt
+        spent false = subst HasFew (sym (ending_is set w Stop cause.Done)) tt
+
+        by : (z : Bool) → HasFew (if z then spending set w Stop (ending set w Stop cause.Done) else Run c 0 (entered set.program c (Ref n ∷ [])).locals [] (Ref n) [] w)
+        by true = spent (nat_le set.limits.steps w.done)
         by false = omega arith
 
     pub serves_all : ServesCourses set W marks form
@@ -114,7 +119,7 @@ module _ (set : Setting) (run : IsRunOfAccepted set) where
           let x = execute_taken set.program run.keeps run.form class task c e in
           let t = twin set.program W marks run.keeps run.form woven c x.method x.there in
           (beginnings_serve set W marks form members facts rows).1 c x.method t.method n w ps x.there t.there t.built_in (takes_task set run.keeps run.form W marks form c x n)
-          (known_at W marks form (begins set n w w (Some c)) course (begun_few c n w x.method x.there) stands ready);
+          (known_at W marks form (started set n w (Some c)) course (begun_few c n w x.method x.there) stands ready);
     }
 
 pub accepted_weaves : AcceptedWeaves

@@ -64,7 +64,7 @@ module _ (set : Setting) (w : World) (go : World → Option Value → Thread) (o
 
   puts_so : (box : BoxName) (n : ℕ) (o : Option (List Token)) → is_lost (puts set w Stop go box n o) ≡ false
   puts_so box n None = ended cause.Large
-  puts_so box n (Some shape) = acted (action.Puts box shape) (λ deed rest. put_by set w Stop go box shape n deed.act rest) (λ d rest. put_so box shape n d.act rest)
+  puts_so box n (Some shape) = acted (action.Puts box n shape) (λ deed rest. put_by set w Stop go box shape n deed.act rest) (λ d rest. put_so box shape n d.act rest)
 
   message_so : (box : BoxName) (v : Value) → IsMessage v → is_lost (puts_value set w Stop go box v) ≡ false
   message_so box Null t = ended cause.Null
@@ -78,7 +78,7 @@ module _ (set : Setting) (w : World) (go : World → Option Value → Thread) (o
 
   starts_so : (n : ℕ) (o : Option (List Token)) → is_lost (starts set w Stop go n o) ≡ false
   starts_so n None = ended cause.Large
-  starts_so n (Some shape) = acted (action.Starts shape) (λ deed rest. start_by set w Stop go shape n deed.act rest) (λ d rest. start_so shape n d.act rest)
+  starts_so n (Some shape) = acted (action.Starts n shape) (λ deed rest. start_by set w Stop go shape n deed.act rest) (λ d rest. start_so shape n d.act rest)
 
   receives_so : (act : Act) (rest : List Deed) (o : Option (List Object)) → is_lost (receives set w Stop go act rest o) ≡ false
   receives_so act rest None = refl

@@ -51,7 +51,7 @@ passes test (y ∷ xs) x e = by (test y) refl e (λ later. passes test xs x late
     by false t e again = again e
 
 module _ (set : Setting) (run : IsRunOfAccepted set) where
-  constructs : (c : MethodId) → constructor_of set.program set.main ≡ Some c → is_pausable set.program c ≡ true → ⊥
+  pub constructs : (c : MethodId) → constructor_of set.program set.main ≡ Some c → is_pausable set.program c ≡ true → ⊥
   constructs c e pauses = by (method_at set.program c) refl (passes (is_plain_method set.program (codes "<init>")) (methods_of set.program set.main) c e)
     where
       by : (o : Option Method) → method_at set.program c ≡ o → elim o [ None ↦ false | Some method ↦ bytes_eq method.name (codes "<init>") && (is_empty method.params && is_none method.result) ] ≡ true → ⊥

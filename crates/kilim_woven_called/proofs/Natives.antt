@@ -43,7 +43,7 @@ module _ (set : Setting) (Q : Thread → Type 0) (over : (o : Over) → Q (Stop 
 
     puts_so : (box : BoxName) (n : ℕ) (o : Option (List Token)) → Q (puts set w Stop go box n o)
     puts_so box n None = ended cause.Large
-    puts_so box n (Some shape) = acted (action.Puts box shape) (λ deed rest. put_by set w Stop go box shape n deed.act rest) (λ d rest. put_so box shape n d.act rest)
+    puts_so box n (Some shape) = acted (action.Puts box n shape) (λ deed rest. put_by set w Stop go box shape n deed.act rest) (λ d rest. put_so box shape n d.act rest)
 
     message_so : (box : BoxName) (v : Value) → Q (puts_value set w Stop go box v)
     message_so box Null = ended cause.Null
@@ -57,7 +57,7 @@ module _ (set : Setting) (Q : Thread → Type 0) (over : (o : Over) → Q (Stop 
 
     starts_so : (n : ℕ) (o : Option (List Token)) → Q (starts set w Stop go n o)
     starts_so n None = ended cause.Large
-    starts_so n (Some shape) = acted (action.Starts shape) (λ deed rest. start_by set w Stop go shape n deed.act rest) (λ d rest. start_so shape n d.act rest)
+    starts_so n (Some shape) = acted (action.Starts n shape) (λ deed rest. start_by set w Stop go shape n deed.act rest) (λ d rest. start_so shape n d.act rest)
 
     receives_so : (act : Act) (rest : List Deed) (o : Option (List Object)) → Q (receives set w Stop go act rest o)
     receives_so act rest None = over Astray

@@ -23,10 +23,10 @@ use Rattle.kilim_woven_courses.specs.Law.{CoursesGoOn, IsOfCourse}
 -- ---- the deed of what was done
 
 -- it says the act itself
-abbrev told : Deed → Done → Deed
+abbrev pub told : Deed → Done → Deed
 told d y = record { act = y.act; taken = d.taken }
 
-abbrev Again : Setting → Next → Deed → Done → Type 0
+abbrev pub Again : Setting → Next → Deed → Done → Type 0
 Again set n d y = done_by set n (told d y) ≡ Some y
 
 from_same : (set : Setting) (n : Next) (d : Deed) (x y : Done) → Some x ≡ Some y → Again set n d x → Again set n d y
@@ -55,7 +55,7 @@ probes_again set box l d y (Empty b) e = from_same set (next.Probes box l) d _ y
 probes_again set box l d y (Take b k) e = takes_again set (next.Probes box l) box l d y (λ k after e. e) (Take b k) e
 probes_again set box l d y act e = absurd (none-some y e)
 
-done_again : (set : Setting) (n : Next) (d : Deed) (y : Done) → done_by set n d ≡ Some y → Again set n d y
+pub done_again : (set : Setting) (n : Next) (d : Deed) (y : Done) → done_by set n d ≡ Some y → Again set n d y
 done_again set (next.Goes l) d y e = absurd (none-some y e)
 done_again set (next.Puts box root shape l) d y e = puts_again set box root shape l d y d.act e
 done_again set (next.Gets box l) d y e = takes_again set (next.Gets box l) box l d y (λ k after e. e) d.act e
@@ -66,7 +66,7 @@ done_again set (next.Ends why l) d y e = from_same set (next.Ends why l) d _ y e
 done_again set next.Stands d y e = absurd (none-some y e)
 
 -- one deed more
-follows_one : (set : Setting) (t : ℕ) (a l mid : Lone) (ds : List Deed) (d : Deed) → Follows set t a ds l → done_by set (next_action set t l) d ≡ Some (record { act = d.act; after = mid }) → Follows set t a (ds ++ d ∷ []) mid
+pub follows_one : (set : Setting) (t : ℕ) (a l mid : Lone) (ds : List Deed) (d : Deed) → Follows set t a ds l → done_by set (next_action set t l) d ≡ Some (record { act = d.act; after = mid }) → Follows set t a (ds ++ d ∷ []) mid
 follows_one set t a l mid [] d f e = (mid, subst (λ (x : Lone). done_by set (next_action set t x) d ≡ Some (record { act = d.act; after = mid })) (sym f) e, refl)
 follows_one set t a l mid (x ∷ ds) d f e = (f.0, f.1, follows_one set t f.0 l mid ds d f.2 e)
 

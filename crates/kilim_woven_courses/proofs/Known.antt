@@ -19,6 +19,7 @@ use Rattle.kilim_classes.specs.Keeps.{has_base}
 use Rattle.kilim_classes.specs.Lengths.{fetched, first_place}
 use Rattle.kilim_classes.specs.Names.{class_at, method_at}
 use Rattle.kilim_classes.specs.Program.{Program}
+use Rattle.kilim_fine_threads.proofs.Fine.{fitting_is_fine}
 use Rattle.kilim_fine_threads.proofs.Shown.{no_fiber_class}
 use Rattle.kilim_fine_threads.specs.Typed.{IsVerified, TopIsThere, frames_of}
 use Rattle.kilim_fits.proofs.Grounds.{facts_hold}
@@ -39,11 +40,12 @@ use Rattle.kilim_thread_model.specs.State.{Alive, Ended, Setting, Thread as Mode
 use Rattle.kilim_typing.specs.Step.{Types, made_at, made_by}
 use Rattle.kilim_typing.specs.Typed.{edges}
 use Rattle.kilim_typed_threads.proofs.Threads.{threads_are_typed}
-use Rattle.kilim_typed_threads.specs.Typed.{StacksAreThere}
+use Rattle.kilim_typed_threads.specs.Typed.{IsTyped, StacksAreThere}
 use Rattle.kilim_woven_courses.proofs.GoesOn.{goes_on}
 use Rattle.kilim_woven_courses.proofs.Receives.{receives_typed}
 use Rattle.kilim_woven_courses.proofs.Takes.{takes_typed}
 use Rattle.kilim_woven_courses.proofs.Unstuck.{is_lost, not_lost, step_not}
+use Rattle.kilim_woven_courses.proofs.Roomy.{gives_of, low_of, room_of}
 use Rattle.kilim_woven_courses.proofs.Executes.{executes, has_execute, takes_object}
 use Rattle.kilim_woven_courses.proofs.Few.{few_on}
 use Rattle.kilim_woven_courses.specs.Law.{HasFew, IsOfCourse, Rest}
@@ -166,6 +168,12 @@ module _ (set : Setting) (typing : Typing) (wanted : Wanted) (live : Liveness) (
   none_named : named_type set.program (codes "kilim/Fiber") ≡ None
   none_named = no_fiber_class set.program is.keeps is.form
 
+  typed_at : (m : MethodId) (p : ℕ) (l s : List Value) (x : Value) (b : List Frame) (w : World) → IsOfCourse set (Run m p l s x b w) → IsTyped set typing wanted (lone_at m p l s b w)
+  typed_at m p l s x b w here = threads_are_typed set typing wanted is main (kept_stacks live set kept) w.task here.0 here.1 (lone_at m p l s b w) here.2 here.3
+
+  stack_at : (m : MethodId) (p : ℕ) (l s : List Value) (x : Value) (b : List Frame) (w : World) → IsOfCourse set (Run m p l s x b w) → AreThere w.heap s
+  stack_at m p l s x b w here = kept_stacks live set kept w.task here.0 here.1 (lone_at m p l s b w) here.2 here.3
+
   record Standing (m : MethodId) (p : ℕ) (l s : List Value) (w : World) : Type 0 where
     there : (i : Instr) × (to : ℕ) × (fetch set.program m p ≡ Some (i, to))
     old : OldHeap set.program w.heap
@@ -248,5 +256,13 @@ module _ (set : Setting) (typing : Typing) (wanted : Wanted) (live : Liveness) (
           takes_typed set W marks form c k.0 k.2 k.1 args k.3;
       begins = λ c n e. takes_object set is.keeps is.form main W marks form c n e;
       ready = rest.ready;
+      stack_there = λ m p l s x b w f. stack_at m p l s x b w (at_all (Run m p l s x b w) f);
+      self_there = rest.selves;
+      low = λ m p l s x b w f. let t = typed_at m p l s x b w (at_all (Run m p l s x b w) f) in low_of set typing wanted is t.of m p l s b w t.is;
+      room = λ m p to i l s x b w f g. let t = typed_at m p l s x b w (at_all (Run m p l s x b w) f) in room_of set typing wanted is t.of m p l s b w t.is (stack_at m p l s x b w (at_all (Run m p l s x b w) f)) i to g;
+      gives = λ m p to i l s x b w f g.
+          let here = at_all (Run m p l s x b w) f in
+          let t = typed_at m p l s x b w here in
+          gives_of set live m p l s b w (kept w.task here.0 here.1 (lone_at m p l s b w) here.2 here.3) (fitting_is_fine set typing wanted t.of (lone_at m p l s b w) is t.is (stack_at m p l s x b w here)) (stack_at m p l s x b w here) i to g;
       few_frames = λ m p l s x b w f. few_at (Run m p l s x b w) f;
     }

@@ -4,4 +4,5 @@ pub mod Takes
 pub mod Receives
 pub mod Executes
 pub mod Unstuck
+pub mod Roomy
 pub mod Known

@@ -1,5 +1,5 @@
 -- A pause, computed: the second program of kilim_woven_form, woven, from its `yield` to its rest and back.
-use Rattle.std.specs.Prelude.{Bool, true, false, pos, List, [], ◌∷◌, None, codes, map}
+use Rattle.std.specs.Prelude.{ℕ, Bool, true, false, pos, List, [], ◌∷◌, Some, None, codes, map}
 use Rattle.std.specs.FinMap.{empty}
 use Rattle.kilim_classes.specs.declared.class.Form.TheVariants.{Woven}
 use Rattle.kilim_classes.specs.declared.value.Value.{Value}
@@ -31,6 +31,21 @@ values_setting = record { program = values; main = class_id 0; limits = record {
 -- ten instructions are done, in an empty heap
 abbrev pub ten_done : World
 ten_done = record { task = 0; heap = empty; next = 0; kept = None; deeds = []; acts = []; done = 10; boxes = 0 }
+
+-- one that may do so many instructions, with the number 1, at its beginning: its object is a `kilim/Task`, whose `execute` is the built-in one
+abbrev pub so_many : ℕ → Setting
+so_many n = record values_setting { limits = record { steps = n; args = [] } }
+
+abbrev pub none_done : World
+none_done = record { task = 1; heap = empty; next = 1; kept = None; deeds = []; acts = []; done = 0; boxes = 0 }
+
+-- Task 0 right before the return of its constructor, with two instructions done and the main class `kilim/Task`: the return is the last that it
+-- may do.
+abbrev pub main_is_task : Setting
+main_is_task = record (so_many 3) { main = class_id 6 }
+
+abbrev pub two_done : World
+two_done = record none_done { task = 0; kept = Some 0; done = 2 }
 
 -- at the `yield`: an int and a long below the call, an int and a null in locals
 abbrev pub values_locals : List Value

@@ -49,11 +49,11 @@ over_is : (o q : Over) → Stop o ≡ Stop q → o ≡ q
 over_is o q e = cc
 
 module _ (set : Setting) where
-  abbrev Hands : Thread → Type 0
+  abbrev pub Hands : Thread → Type 0
   Hands (Run m p l s x b w) = Unit {0}
   Hands (Stop o) = HandsOut set o
 
-  ended : (w : World) (why : EndCause) → Hands (ending set w Stop why)
+  pub ended : (w : World) (why : EndCause) → Hands (ending set w Stop why)
   ended w why = by w.deeds
     where
       by : (ds : List Deed) → Hands (elim ds [ [] ↦ Stop (action.Wants (action.Ends why) w) | deed ∷ rest ↦ last set w Stop why rest ])
@@ -97,16 +97,16 @@ module _ (set : Setting) where
     puts_so box n tree None e = ended w cause.Large
     puts_so box n tree (Some shape) e = by w.deeds
       where
-        by : (ds : List Deed) → Hands (elim ds [ [] ↦ Stop (action.Wants (action.Puts box shape) w) | deed ∷ rest ↦ put_by set w Stop (λ after v. Run m q l (push v s) x b after) box shape n deed.act rest ])
-        by [] = record { root = n; shaped = e; given = tree }
+        by : (ds : List Deed) → Hands (elim ds [ [] ↦ Stop (action.Wants (action.Puts box n shape) w) | deed ∷ rest ↦ put_by set w Stop (λ after v. Run m q l (push v s) x b after) box shape n deed.act rest ])
+        by [] = record { shaped = e; given = tree }
         by (d ∷ rest) = put_so box shape n d.act rest
 
     starts_so : (n : ℕ) → IsGivenTree set.program OfTask w.heap n → (o : Option (List Token)) → shape_of set.program w.heap n ≡ o → Hands (starts set w Stop (λ after v. Run m q l (push v s) x b after) n o)
     starts_so n tree None e = ended w cause.Large
     starts_so n tree (Some shape) e = by w.deeds
       where
-        by : (ds : List Deed) → Hands (elim ds [ [] ↦ Stop (action.Wants (action.Starts shape) w) | deed ∷ rest ↦ start_by set w Stop (λ after v. Run m q l (push v s) x b after) shape n deed.act rest ])
-        by [] = record { root = n; shaped = e; given = tree }
+        by : (ds : List Deed) → Hands (elim ds [ [] ↦ Stop (action.Wants (action.Starts n shape) w) | deed ∷ rest ↦ start_by set w Stop (λ after v. Run m q l (push v s) x b after) shape n deed.act rest ])
+        by [] = record { shaped = e; given = tree }
         by (d ∷ rest) = start_so shape n d.act rest
 
     message_so : (box : BoxName) (v : Value) → ((kind : Root) (n : ℕ) → given (Some native.Put) (Box box ∷ v ∷ []) ≡ Some (kind, n) → IsGivenTree set.program kind w.heap n) → Hands (puts_value set w Stop (λ after v. Run m q l (push v s) x b after) box v)
@@ -235,6 +235,10 @@ module _ (set : Setting) (run : IsRunOfAccepted set) where
   all_hand zero t of_course hands = hands
   all_hand (suc n) t of_course hands = all_hand n (step set t) (goes_on set t of_course) (step_hands t of_course hands)
 
+pub threads_hand : (set : Setting) → IsRunOfAccepted set → (first : Thread) → IsBegun set first → (n : ℕ) (o : Over) → steps set n first ≡ Stop o → HandsOut set o
+threads_hand set run (Run m p l s x b w) begun n o e = subst (λ (z : Thread). Hands set z) e (all_hand set run n (Run m p l s x b w) (course set run (Run m p l s x b w) begun) tt)
+threads_hand set run (Stop q) begun n o e = absurd begun
+
 pub woven_gives : WovenGives
 woven_gives set run short lives is =
     let served = tasks_serve set run short lives is in (
@@ -243,12 +247,8 @@ woven_gives set run short lives is =
       λ first k t fine from j o e.
           let ends = ((served.1.serves first k).ends t fine from o).1 (j, e) in
           handed t ends.0 o (subst (λ (z : Thread). IsOfCourse set z) from.1 (all_of_course set from.0 first (course set run first k))) ends.1,
-      λ first begun n o e. from_first first begun n o e,
+      λ first begun n o e. threads_hand set run first begun n o e,
     )
   where
     handed : (t : Both) (n : ℕ) (o : Over) → IsOfCourse set (unwoven t) → steps set n (unwoven t) ≡ Stop o → HandsOut set o
     handed (Fw m p s l wl x ov links old was w ps) n o of_course e = subst (λ (z : Thread). Hands set z) e (all_hand set run n (Run m p l s x (u_stack ov links) w) of_course tt)
-
-    from_first : (first : Thread) → IsBegun set first → (n : ℕ) (o : Over) → steps set n first ≡ Stop o → HandsOut set o
-    from_first (Run m p l s x b w) begun n o e = subst (λ (z : Thread). Hands set z) e (all_hand set run n (Run m p l s x b w) (course set run (Run m p l s x b w) begun) tt)
-    from_first (Stop q) begun n o e = absurd begun

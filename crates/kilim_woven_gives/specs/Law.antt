@@ -21,16 +21,15 @@ use Rattle.kilim_woven_runs.specs.Links.{Both, Fine, Forms, unwoven, woven}
 use Rattle.kilim_woven_runs.specs.Serves.{From}
 use Rattle.kilim_woven_runs.specs.Thread.{Stop, Thread, steps}
 
--- A tree of that shape is in the heap: no object is met twice below its root, and the declared types allow it.
-pub record IsHandedOut (set : Setting) (kind : Root) (w : World) (shape : List Token) : Type 0 where
-  pub root : ℕ
+-- Below the root there is a tree of that shape in the heap: no object is met twice below it, and the declared types allow it.
+pub record IsHandedOut (set : Setting) (kind : Root) (w : World) (root : ℕ) (shape : List Token) : Type 0 where
   pub shaped : shape_of set.program w.heap root ≡ Some shape
   pub given : IsGivenTree set.program kind w.heap root
 
--- where a tree is put or started next, it is so
+-- where a tree is put or started next, it is so of that tree
 abbrev pub HandsOut : Setting → Over → Type 0
-HandsOut set (Wants (action.Puts box shape) w) = IsHandedOut set OfMessage w shape
-HandsOut set (Wants (action.Starts shape) w) = IsHandedOut set OfTask w shape
+HandsOut set (Wants (action.Puts box root shape) w) = IsHandedOut set OfMessage w root shape
+HandsOut set (Wants (action.Starts root shape) w) = IsHandedOut set OfTask w root shape
 HandsOut set o = Unit {0}
 
 -- Of a run of an accepted program of which no method is too long to be woven, where each method's table tells which slots are live: a

@@ -81,7 +81,7 @@ module _ (set : Setting) where
         told d rest (Wait c) = refl
         told d rest (Bound c k) = refl
 
-        by : (ds : List Deed) → IsActed set ds w.acts w.task (next.Puts box n shape after) (elim ds [ [] ↦ Stop (Wants (action.Puts box shape) w) | d ∷ rest ↦ put_by set w Stop go box shape n d.act rest ])
+        by : (ds : List Deed) → IsActed set ds w.acts w.task (next.Puts box n shape after) (elim ds [ [] ↦ Stop (Wants (action.Puts box n shape) w) | d ∷ rest ↦ put_by set w Stop go box shape n d.act rest ])
         by [] = (w, refl, (refl, refl))
         by (d ∷ rest) = told d rest d.act
 
@@ -112,7 +112,7 @@ module _ (set : Setting) where
         told d rest (Wait c) = refl
         told d rest (Bound c k) = refl
 
-        by : (ds : List Deed) → IsActed set ds w.acts w.task (next.Starts n shape after) (elim ds [ [] ↦ Stop (Wants (action.Starts shape) w) | d ∷ rest ↦ start_by set w Stop go shape n d.act rest ])
+        by : (ds : List Deed) → IsActed set ds w.acts w.task (next.Starts n shape after) (elim ds [ [] ↦ Stop (Wants (action.Starts n shape) w) | d ∷ rest ↦ start_by set w Stop go shape n d.act rest ])
         by [] = (w, refl, (refl, refl))
         by (d ∷ rest) = told d rest d.act
 

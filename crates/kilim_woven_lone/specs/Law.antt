@@ -38,10 +38,10 @@ SameHeap w l = (w.heap ≡ l.heap) × (w.next ≡ l.next)
 -- the action that is wanted, and how the thread then stands, where it goes on
 abbrev pub wanted : Next → Option (Action × Option Lone)
 wanted (next.Goes after) = None
-wanted (next.Puts box root shape after) = Some (action.Puts box shape, Some after)
+wanted (next.Puts box root shape after) = Some (action.Puts box root shape, Some after)
 wanted (next.Gets box after) = Some (action.Gets box, Some after)
 wanted (next.Probes box after) = Some (action.Probes box, Some after)
-wanted (next.Starts root shape after) = Some (action.Starts shape, Some after)
+wanted (next.Starts root shape after) = Some (action.Starts root shape, Some after)
 wanted (next.Prints token after) = Some (action.Prints token, Some after)
 wanted (next.Ends cause after) = Some (action.Ends cause, None)
 wanted next.Stands = None

@@ -1,6 +1,6 @@
 -- A frame that stands behind its call: the call can be made again.
-use Rattle.std.proofs.Common.{◌≡◌, cond, eqb, ℕ, Bool, true, false, List, [], ◌∷◌, ◌++◌, drop, length, Option, Some, None, refl, sym, ap, subst, ◌∙◌}
-use Rattle.std.specs.Prelude.{codes, map, not, reverse, slice_get}
+use Rattle.std.proofs.Common.{◌≡◌, cond, eqb, ℕ, ◌≤◌, Bool, true, false, List, [], ◌∷◌, ◌++◌, drop, length, Option, Some, None, refl, sym, ap, subst, ◌∙◌}
+use Rattle.std.specs.Prelude.{codes, is_some, map, not, reverse, slice_get}
 use Rattle.std.specs.List.{list_any}
 use Rattle.std.specs.FinMap.{get}
 use Rattle.std.proofs.lemmas.Bool.{and_from, and_parts, eqb-true, false≢true}
@@ -51,6 +51,9 @@ use Rattle.kilim_woven_runs.specs.Links.{AllFit, Fit, Forms, Inner, Lk, Receiver
 use Rattle.kilim_woven_runs.specs.Rows.{Clean, Receives, below_arguments, class_if, value_class}
 use Rattle.kilim_woven_runs.specs.Thread.{code_in, fetch, own_in, own_of, self_in, self_of}
 use Rattle.kilim_woven_runs.specs.Thread as thread
+use Rattle.kilim_woven_ready.proofs.Again.{again_low}
+use Rattle.kilim_woven_courses.proofs.Roomy.{typing_low}
+use Rattle.kilim_jvm_interp.specs.Step.{stack_limit}
 use Rattle.kilim_woven_stands.specs.Law.{IsFormOf}
 
 method_is : (x y : Method) → Some x ≡ Some y → x ≡ y
@@ -101,7 +104,7 @@ none_at p typing (e ∷ es) end q to i callee none f hp = by (eqb e.0 q) refl f 
         (none.0 callee (ap (λ (y : Instr × ℕ). pausable_callee p y.0) (found_is (e.1, first_place es end) (i, to) f) ∙ hp))
     by false d f later = later f
 
-coded_at : (m : Method) (q : ℕ) (x : Instr × ℕ) → fetched m.code m.code_length q ≡ Some x → has_code m ≡ true
+pub coded_at : (m : Method) (q : ℕ) (x : Instr × ℕ) → fetched m.code m.code_length q ≡ Some x → has_code m ≡ true
 coded_at m q x e = by m.code e
   where
     none : None ≡ Some x → ⊥
@@ -298,23 +301,34 @@ module _ (set : Setting) (run : IsRunOfAccepted set) (pauses : KeepsPauses set.p
       result_same : (form c).method.result ≡ b.named.result
       result_same = sym (ap (λ (k : Method). k.result) ((form c).there b.callee b.entered)) ∙ b.result
 
-      fit_named : (wl : List Value) (x : Value) (old : ℕ) (was : Value) → Fit set W marks form h (Inner c) y (Lk m b.from to b.i b.named s l wl x old was)
-      fit_named wl x old was = (
+      -- the stack of the new call isn't too high
+      again_fits : length (again b.named y s) ≤ stack_limit set.program m
+      again_fits =
+          let own_f = own_fetched m b.own b.there b.from to b.i b.fetched in
+          let well = (is_verified set run.keeps run.form run.well run.accepted run.main run.begins).verified.typed m b.own b.there (coded_at b.own b.from (b.i, to) own_f) in
+          let at = stands_at set.program b.own (typing_at set.program m) well b.from b.i to own_f in
+          again_low set.program b.own b.from b.named not_constructor (typing_at set.program m b.from) at.after of (stack_limit set.program m) b.i y s b.names at.step
+          (typing_low set.program (typing_at set.program) m b.own b.there well b.from (ap (λ (o : Option (Instr × ℕ)). is_some o) own_f)) b.stack
+
+      fit_named : (wl : List Value) (x : Value) (old : ℕ) (was : Value) → IsThere h x → Fit set W marks form h (Inner c) y (Lk m b.from to b.i b.named s l wl x old was)
+      fit_named wl x old was x_there = (
         stack_fits,
         locals_fit,
         receiver_fits,
         (new_args b.named y, calls_new, new_takes, result_same),
         heap_old set.program of h heap,
         record { clean = clean_stack; receives = receives_in b.i b.names b.target },
+        again_fits,
+        x_there,
       )
 
   -- a frame that stands behind its call, as a link
   pub fit_inner : (c : MethodId) (y : Value) → Entered set.program of c y → (m : MethodId) (from to : ℕ) (i : Instr) (callee : Method) (l s wl : List Value) (x : Value) (old : ℕ) (was : Value) → Boundary set.program of c y m to l s → fetch set.program m from ≡ Some (i, to) → pausable_callee set.program i ≡ Some callee →
-      IsThere h y → AreThere h s → ((j : ℕ) → (form m).live to j ≡ true → (v : Value) → slice_get l j ≡ Some v → IsThere h v) → Fit set W marks form h (Inner c) y (Lk m from to i callee s l wl x old was)
-  fit_inner c y entered m from to i callee l s wl x old was b f hp there stack locals =
+      IsThere h y → AreThere h s → ((j : ℕ) → (form m).live to j ≡ true → (v : Value) → slice_get l j ≡ Some v → IsThere h v) → IsThere h x → Fit set W marks form h (Inner c) y (Lk m from to i callee s l wl x old was)
+  fit_inner c y entered m from to i callee l s wl x old was b f hp there stack locals x_there =
       let one = one_call set.program run.keeps m b.from from b.i i to b.fetched f in
       let mine : pausable_callee set.program b.i ≡ Some callee = ap (λ (j : Instr). pausable_callee set.program j) one.1 ∙ hp in
       subst (λ (q : ℕ). Fit set W marks form h (Inner c) y (Lk m q to i callee s l wl x old was)) one.0
       (subst (λ (j : Instr). Fit set W marks form h (Inner c) y (Lk m b.from to j callee s l wl x old was)) one.1
       (subst (λ (k : Method). Fit set W marks form h (Inner c) y (Lk m b.from to b.i k s l wl x old was)) (same_callee c y entered m to l s b there stack callee mine locals).0
-      (fit_named c y entered m to l s b there stack callee mine locals wl x old was)))
+      (fit_named c y entered m to l s b there stack callee mine locals wl x old was x_there)))

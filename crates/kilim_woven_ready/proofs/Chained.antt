@@ -29,10 +29,16 @@ use Rattle.kilim_woven_rows.specs.Shares.{Agree}
 use Rattle.kilim_woven_runs.specs.Fibers.{executes_on, frame}
 use Rattle.kilim_woven_runs.specs.Form.{Facts, is_pausable}
 use Rattle.kilim_woven_runs.specs.Links.{AllStand, AreReady, Forms, Inner, Link, Lk, Takes, code, u_frames}
+use Rattle.kilim_woven_runs.specs.Thread.{At, Frame}
 use Rattle.kilim_woven_stands.specs.Law.{IsFormOf}
 
 type_is : (x y : Ty) → Some x ≡ Some y → x ≡ y
 type_is x y e = cc
+
+-- the receiver of the first frame
+pub self_of_first : (set : Setting) (h : Objects) (b : List Frame) (c : MethodId) (y : Value) → SelvesThere set h c y b → is_pausable set.program c ≡ true → IsThere h y
+self_of_first set h [] c y selves pausable = selves pausable
+self_of_first set h (At m q l s x ∷ b) c y selves pausable = selves.0 pausable
 
 module _ (set : Setting) (run : IsRunOfAccepted set) (pauses : KeepsPauses set.program) (W : Program) (marks : List (List Bool)) (form : Forms set W marks) (is_form : (m : MethodId) (a : Method) → method_at set.program m ≡ Some a → IsFormOf set.program W (code set W marks) m (form m) a) (agree : Agree set.program W)
     (facts : (m : MethodId) → Facts set.program W (code set W marks) (form m)) (executes_same : (c : ClassId) → is_task set.program c ≡ true → execute_of W c ≡ execute_of set.program c) where
@@ -65,7 +71,8 @@ module _ (set : Setting) (run : IsRunOfAccepted set) (pauses : KeepsPauses set.p
           rest.0,
           (
             fit_inner set run pauses W marks form is_form agree of h heap c y called.0.1 m from to i callee l s wl x old was (called.0.0 pausable) stand.0.0 stand.0.1 (selves.0 pausable) (stack_of h live_in (frame m to l s) (lone_frames (u_frames ks)) there)
-                (λ j e v at. local_of h live_in (frame m to l s) (lone_frames (u_frames ks)) there j (and_from (form m).has_calls ((form m).live to j) group.has_calls e) v at),
+                (λ j e v at. local_of h live_in (frame m to l s) (lone_frames (u_frames ks)) there j (and_from (form m).has_calls ((form m).live to j) group.has_calls e) v at)
+                (self_of_first set h (u_frames ks) m x selves.1 group.pausable),
             rest.1,
           ),
         )

@@ -1,6 +1,6 @@
 -- The top frame, at a call of `get` or of `yield`: the call can be made again.
-use Rattle.std.proofs.Common.{◌≡◌, cond, ℕ, ◌+◌, Bool, true, false, List, [], ◌∷◌, ◌++◌, drop, length, Option, Some, None, Ok, refl, sym, ap, subst, ◌∙◌}
-use Rattle.std.specs.Prelude.{codes, reverse, slice_get}
+use Rattle.std.proofs.Common.{◌≡◌, cond, ℕ, ◌+◌, ◌≤◌, Bool, true, false, List, [], ◌∷◌, ◌++◌, drop, length, Option, Some, None, Ok, refl, sym, ap, subst, ◌∙◌, arith}
+use Rattle.std.specs.Prelude.{codes, is_some, reverse, slice_get}
 use Rattle.std.proofs.lemmas.Bool.{and_parts, false≢true}
 use Rattle.std.proofs.lemmas.List.{length-reverse}
 use Rattle.kilim_classes.specs.declared.class.Method.{Method}
@@ -13,6 +13,7 @@ use Rattle.kilim_classes.specs.declared.value.Value.{Value}
 use Rattle.kilim_classes.specs.declared.value.Value.TheVariants.{Box, Null}
 use Rattle.kilim_classes.specs.declared.verified.VType.{VType}
 use Rattle.kilim_classes.specs.BuiltIn.{class_type}
+use Rattle.kilim_classes.specs.Lengths.{fetched}
 use Rattle.kilim_classes.specs.Names.{◌>>=◌, method_at}
 use Rattle.kilim_classes.specs.Program.{Program}
 use Rattle.kilim_classes.specs.Same.{is_constructor}
@@ -26,6 +27,7 @@ use Rattle.kilim_program.specs.Machine.{Objects}
 use Rattle.kilim_program.specs.Natives.{is_built_in_constructor, is_handed_out, is_text_method, native_method, native_of}
 use Rattle.kilim_program.specs.Natives as native
 use Rattle.kilim_standing_threads.specs.Laws.{IsRunOfAccepted}
+use Rattle.kilim_standing_threads.proofs.Keeping.{is_verified}
 use Rattle.kilim_thread_model.specs.State.{Setting}
 use Rattle.kilim_typing.specs.Step.{Types, is_long, peek, type_step, vtype}
 use Rattle.kilim_typing_laws.specs.Laws.{typing_at}
@@ -33,7 +35,7 @@ use Rattle.kilim_woven_called.proofs.Called.{no_pause}
 use Rattle.kilim_woven_form.specs.Woven.{below, first_of, if_there, pausable_callee, receiver, saved, saved_from, taken}
 use Rattle.kilim_woven_programs.specs.Law.{KeepsPauses}
 use Rattle.kilim_woven_ready.proofs.Asking.{box_special, box_virtual, on_class, special_asked, static_again, static_asked, virtual_asked}
-use Rattle.kilim_woven_ready.proofs.Below.{across, none_named, receiver_assigns, types_same}
+use Rattle.kilim_woven_ready.proofs.Below.{across, coded_at, none_named, receiver_assigns, types_same}
 use Rattle.kilim_woven_ready.proofs.Clean.{heap_old, stack_clean}
 use Rattle.kilim_woven_ready.proofs.Receiver.{special_instance, static_static, virtual_instance}
 use Rattle.kilim_woven_ready.proofs.Shapes.{IsGet, get_is, yield_is}
@@ -42,7 +44,9 @@ use Rattle.kilim_woven_rows.specs.Shares.{Agree}
 use Rattle.kilim_woven_runs.specs.Links.{AllFit, Drops, Fit, Forms, Leaf, Lk, ReceiverFits, SlotsFit, again, code, plan_of, with_dummies, with_receiver}
 use Rattle.kilim_woven_runs.specs.Rows.{Clean, Receives, below_arguments}
 use Rattle.kilim_woven_runs.specs.Serves.{leaf_receiver}
-use Rattle.kilim_woven_runs.specs.Thread.{fetch, own_in, own_of}
+use Rattle.kilim_woven_runs.specs.Thread.{code_in, fetch, own_in, own_of}
+use Rattle.kilim_woven_courses.proofs.Roomy.{types_length, typing_low}
+use Rattle.kilim_jvm_interp.specs.Step.{stack_limit}
 use Rattle.kilim_woven_stands.specs.Law.{IsFormOf}
 
 method_is : (x y : Method) → Some x ≡ Some y → x ≡ y
@@ -232,7 +236,7 @@ module _ (set : Setting) (run : IsRunOfAccepted set) (pauses : KeepsPauses set.p
   one_off (t ∷ ts) v vs e = and_parts (has_type set.program own of t v) (have_types set.program own of ts vs) e
 
   module _ (i : Instr) (f : fetch set.program m p ≡ Some (i, to)) (hp : pausable_callee set.program i ≡ Some callee) (receives : Receives set.program i s h) (slots : (k : ℕ) → Holds set.program own of (peek (typing_at set.program m p).locals k) (slice_get l k))
-      (locals : (j : ℕ) → (form m).live to j ≡ true → (v : Value) → slice_get l j ≡ Some v → Rattle.kilim_fits.specs.Fits.IsThere h v) (wl : List Value) (x : Value) (old : ℕ) (was : Value) where
+      (locals : (j : ℕ) → (form m).live to j ≡ true → (v : Value) → slice_get l j ≡ Some v → Rattle.kilim_fits.specs.Fits.IsThere h v) (wl : List Value) (x : Value) (old : ℕ) (was : Value) (self_here : Rattle.kilim_fits.specs.Fits.IsThere h x) where
     stack_fits : (n : ℕ) → taken callee ≡ n → have_types set.program own of (drop n (typing_at set.program m p).stack) s2 ≡ true → AreThere h s2 → AllFit W h (below (plan_of set W marks form m) callee p) s2
     stack_fits n is typed inside =
         subst (λ (y : Types). AllFit W h (drop (taken callee) y.stack) s2) (sym (types_same set run pauses W marks form is_form agree of h heap m own there p))
@@ -247,6 +251,13 @@ module _ (set : Setting) (run : IsRunOfAccepted set) (pauses : KeepsPauses set.p
 
     clean : Clean s
     clean = stack_clean set.program (none_named set run pauses W marks form is_form agree of h heap) own of (typing_at set.program m p).stack s stack
+
+    stack_low : length s ≤ stack_limit set.program m
+    stack_low =
+        let own_f : fetched own.code own.code_length p ≡ Some (i, to) = ap (λ (o : Option Method). code_in o p) (sym there) ∙ f in
+        let few = types_length set.program own of (typing_at set.program m p).stack s stack in
+        let low = typing_low set.program (typing_at set.program) m own there ((is_verified set run.keeps run.form run.well run.accepted run.main run.begins).verified.typed m own there (coded_at own p (i, to) own_f)) p (ap (λ (o : Option (Instr × ℕ)). is_some o) own_f) in
+        omega (arith, few, low)
 
     own_same : (l3 s3 : List Value) → does set.program (own_of set.program m) i to l3 s3 h ≡ does set.program own i to l3 s3 h
     own_same l3 s3 = ap (λ (o : Option Method). does set.program (own_in o) i to l3 s3 h) there
@@ -266,6 +277,8 @@ module _ (set : Setting) (run : IsRunOfAccepted set) (pauses : KeepsPauses set.p
           (c, Box b ∷ [], (λ l3 s3. ap (λ (xs : List Value). does set.program (own_of set.program m) i to l3 xs h) (again_is s3) ∙ (own_same l3 (Box b ∷ s3) ∙ k.again_asks l3 s3)), named, (refl, k.drops)),
           heap_old set.program of h heap,
           record { clean = subst Clean (k.is ∙ sym (again_is s2)) clean; receives = subst (λ (xs : List Value). Receives set.program i xs h) (k.is ∙ sym (again_is s2)) receives },
+          subst (λ (xs : List Value). length xs ≤ stack_limit set.program m) (k.is ∙ sym (again_is s2)) stack_low,
+          self_here,
         )
 
     yield_fits : IsYieldCall i → native_of set.program c ≡ Some native.Yield → Fit set W marks form h (Leaf native.Yield) Null (Lk m p to i callee s2 l wl x old was)
@@ -278,6 +291,8 @@ module _ (set : Setting) (run : IsRunOfAccepted set) (pauses : KeepsPauses set.p
           (c, [], (λ l3 s3. ap (λ (xs : List Value). does set.program (own_of set.program m) i to l3 xs h) (again_is s3) ∙ (own_same l3 s3 ∙ k.again_asks l3 s3)), named, (refl, refl, k.drops)),
           heap_old set.program of h heap,
           record { clean = subst Clean (k.is ∙ sym (again_is s2)) clean; receives = subst (λ (xs : List Value). Receives set.program i xs h) (k.is ∙ sym (again_is s2)) receives },
+          subst (λ (xs : List Value). length xs ≤ stack_limit set.program m) (k.is ∙ sym (again_is s2)) stack_low,
+          self_here,
         )
 
     pub fit_get : does set.program (own_of set.program m) i to l s h ≡ Asks c args to l s2 h → native_of set.program c ≡ Some native.Get → type_step set.program own p i (typing_at set.program m p) ≡ Ok g → (b : BoxName) → args ≡ Box b ∷ [] →

@@ -39,7 +39,7 @@ use Rattle.kilim_woven_courses.specs.Law.{IsOfCourse}
 use Rattle.kilim_woven_form.specs.Woven.{pausable_callee}
 use Rattle.kilim_woven_lone.specs.Law.{lone_at, lone_frames}
 use Rattle.kilim_woven_programs.specs.Law.{KeepsPauses}
-use Rattle.kilim_woven_ready.proofs.Chained.{live_in, ready_below}
+use Rattle.kilim_woven_ready.proofs.Chained.{live_in, ready_below, self_of_first}
 use Rattle.kilim_woven_ready.proofs.Leaf.{IsSound, fit_get, fit_yield}
 use Rattle.kilim_woven_ready.proofs.There.{AllThere, local_of, rest_of, stack_of}
 use Rattle.kilim_woven_receivers.proofs.Along.{receivers_stay}
@@ -49,7 +49,7 @@ use Rattle.kilim_woven_runs.specs.Acts.{Lost, Over, World, asks, native_does, wi
 use Rattle.kilim_woven_runs.specs.Fibers.{frame}
 use Rattle.kilim_woven_runs.specs.Form.{Facts}
 use Rattle.kilim_woven_runs.specs.Links.{AllStand, AreReady, Fit, Forms, Leaf, Link, Lk, code, u_frames}
-use Rattle.kilim_woven_runs.specs.Serves.{From, is_leaf, leaf_receiver}
+use Rattle.kilim_woven_runs.specs.Serves.{From, SelvesAreThere, is_leaf, leaf_receiver}
 use Rattle.kilim_woven_runs.specs.Thread.{Run, Stop, Thread, code_in, fetch, own_of, push, steps}
 use Rattle.kilim_woven_stands.specs.Law.{IsFormOf}
 
@@ -112,6 +112,9 @@ module _ (set : Setting) (run : IsRunOfAccepted set) (pauses : KeepsPauses set.p
     own_fetched : fetched typed.fits.frames.0.method.code typed.fits.frames.0.method.code_length p ≡ Some (i, to)
     own_fetched = ap (λ (o : Option Method). code_in o p) (sym typed.fits.frames.0.there) ∙ f
 
+    self_here : IsThere w.heap x
+    self_here = self_of_first set w.heap (u_frames links) m x selves ((facts m).group p to i callee f hp).pausable
+
     -- a local that is live behind the call is in the heap
     locals : (j : ℕ) → (form m).live to j ≡ true → (v : Value) → slice_get l j ≡ Some v → IsThere w.heap v
     locals j live v at =
@@ -135,20 +138,26 @@ module _ (set : Setting) (run : IsRunOfAccepted set) (pauses : KeepsPauses set.p
             Rattle.kilim_fits.specs.Fits.AreThere w.heap s → native_does set (with_heap w w.heap) Stop (λ after r. Run m to l (push r s2) x (u_frames links) after) leaf args ≢ Stop Lost → Fit set W marks form w.heap (Leaf leaf) (leaf_receiver leaf args) (Lk m p to i callee s2 l wl x old was)
         by native.Get named is g step receives inside unlost =
             let b = box_args set (with_heap w w.heap) (λ after r. Run m to l (push r s2) x (u_frames links) after) args unlost in
-            fit_get set run pauses sound W marks form is_form agree of w.heap typed.fits.heap m typed.fits.frames.0.method typed.fits.frames.0.there p to l s typed.fits.frames.0.stack inside g callee c args s2 i f hp receives (λ k. typed.fits.frames.0.locals.slots k refl) locals wl x old was d named step b.0 b.1
+            fit_get set run pauses sound W marks form is_form agree of w.heap typed.fits.heap m typed.fits.frames.0.method typed.fits.frames.0.there p to l s typed.fits.frames.0.stack inside g callee c args s2 i f hp receives (λ k. typed.fits.frames.0.locals.slots k refl) locals wl x old was self_here d named step b.0 b.1
         by native.Yield named is g step receives inside unlost =
-            fit_yield set run pauses sound W marks form is_form agree of w.heap typed.fits.heap m typed.fits.frames.0.method typed.fits.frames.0.there p to l s typed.fits.frames.0.stack inside g callee c args s2 i f hp receives (λ k. typed.fits.frames.0.locals.slots k refl) locals wl x old was d named
+            fit_yield set run pauses sound W marks form is_form agree of w.heap typed.fits.heap m typed.fits.frames.0.method typed.fits.frames.0.there p to l s typed.fits.frames.0.stack inside g callee c args s2 i f hp receives (λ k. typed.fits.frames.0.locals.slots k refl) locals wl x old was self_here d named
             (no_args set (with_heap w w.heap) (λ after r. Run m to l (push r s2) x (u_frames links) after) args unlost)
         by leaf named is g step receives inside unlost = absurd (false≢true is)
 
     ready : (leaf : Native) → native_of set.program c ≡ Some leaf → is_leaf leaf ≡ true → (w.kept ≡ None) × AreReady set W marks form w.heap (Leaf leaf) (leaf_receiver leaf args) (Lk m p to i callee s2 l wl x old was ∷ links)
     ready leaf named is = (below.0, (fit leaf named is, below.1))
 
+  selves_there : (first : Thread) → IsBegun set first → SelvesAreThere set (From set first)
+  selves_there first begun m p l s x b w from pausable = self_of_first set w.heap b m x (subst (λ (t : Thread). SelvesIn set t) from.1 (receivers_stay set run first begun from.0)) pausable
+
   pub can_pause : (first : Thread) → IsBegun set first → IsOfCourse set first → CanPause set W marks form (From set first)
-  can_pause first begun course = λ m p to i callee l s s2 args wl x old was links w c leaf from f hp d named is stand.
-      let stands = calls_stand set run first begun from.0 in
-      ready m p to i callee l s s2 args wl x old was links w c f hp d stand (subst (λ (t : Thread). IsOfCourse set t) from.1 (all_of_course set from.0 first course)) stands.0 (subst (λ (t : Thread). TypedAs set stands.0 t) from.1 stands.1)
-      (subst (λ (t : Thread). CalledAs set stands.0 t) from.1 stands.2) (subst (λ (t : Thread). SelvesIn set t) from.1 (receivers_stay set run first begun from.0)) leaf named is
+  can_pause first begun course = (
+    selves_there first begun,
+    λ m p to i callee l s s2 args wl x old was links w c leaf from f hp d named is stand.
+        let stands = calls_stand set run first begun from.0 in
+        ready m p to i callee l s s2 args wl x old was links w c f hp d stand (subst (λ (t : Thread). IsOfCourse set t) from.1 (all_of_course set from.0 first course)) stands.0 (subst (λ (t : Thread). TypedAs set stands.0 t) from.1 stands.1)
+        (subst (λ (t : Thread). CalledAs set stands.0 t) from.1 stands.2) (subst (λ (t : Thread). SelvesIn set t) from.1 (receivers_stay set run first begun from.0)) leaf named is,
+  )
 
   stays : (n : ℕ) (o : Over) → steps set n (Stop o) ≡ Stop o
   stays zero o = refl
@@ -156,4 +165,7 @@ module _ (set : Setting) (run : IsRunOfAccepted set) (pauses : KeepsPauses set.p
 
   -- one that is over pauses nowhere
   pub over_pauses : (o : Over) → CanPause set W marks form (From set (Stop o))
-  over_pauses o = λ m p to i callee l s s2 args wl x old was links w c leaf from f hp d named is stand. absurd (false≢true (ap is_run (sym (stays from.0 o) ∙ from.1)))
+  over_pauses o = (
+    λ m p l s x b w from pausable. absurd (false≢true (ap is_run (sym (stays from.0 o) ∙ from.1))),
+    λ m p to i callee l s s2 args wl x old was links w c leaf from f hp d named is stand. absurd (false≢true (ap is_run (sym (stays from.0 o) ∙ from.1))),
+  )

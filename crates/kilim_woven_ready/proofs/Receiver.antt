@@ -24,7 +24,7 @@ count_in : (tys : List Ty) → length (map (λ ty. Is (vtype ty)) tys) ≡ lengt
 count_in [] = refl
 count_in (ty ∷ tys) = ap suc (count_in tys)
 
-argument_count : (callee : Method) → length (arguments callee) ≡ length callee.params
+pub argument_count : (callee : Method) → length (arguments callee) ≡ length callee.params
 argument_count callee = length-reverse (map (λ ty. Is (vtype ty)) callee.params) ∙ count_in callee.params
 
 module _ (p : Program) where

@@ -25,7 +25,7 @@ use Rattle.kilim_woven_receivers.proofs.Begins.{one_frame}
 use Rattle.kilim_woven_runs.specs.Acts.{Lost, Over}
 use Rattle.kilim_woven_runs.specs.Links.{code}
 use Rattle.kilim_woven_runs.specs.Serves.{From}
-use Rattle.kilim_woven_runs.specs.Thread.{Frame, Run, Stop, Thread, begins, self_of}
+use Rattle.kilim_woven_runs.specs.Thread.{Frame, Run, Stop, Thread, self_of, started}
 use Rattle.kilim_woven_serves.proofs.Whole.{whole}
 use Rattle.kilim_woven_shares.proofs.Together.{shares_pauses, shares_rows}
 use Rattle.kilim_woven_stands.specs.Law.{IsFormOf}
@@ -43,19 +43,19 @@ module _ (set : Setting) (run : IsRunOfAccepted set) where
   course (Run m p l s x b w) k = (record { beginning = k.0; deeds = [] }, lone_at m p l s b w, record { first = lone_at m p l s b w; begins = k.1; follows = refl }, Stays refl)
   course (Stop o) k = tt
 
-  few : (first : Thread) → MayBegin set first → HasFew first
+  pub few : (first : Thread) → MayBegin set first → HasFew first
   few (Run m p l s x b w) k = let e : suc (Rattle.std.specs.Prelude.length b) ≡ 1 = ap (λ (fs : List Frame). suc (Rattle.std.specs.Prelude.length fs)) (one_frame set run m p l s b w k.0 k.1) in omega (arith, e)
   few (Stop o) k = tt
 
-  stands : (first : Thread) → MayBegin set first → first ≢ Stop Lost
+  pub stands : (first : Thread) → MayBegin set first → first ≢ Stop Lost
   stands (Run m p l s x b w) k = λ e. false≢true (ap is_stopped e)
   stands (Stop o) k = λ e. k (ap over_of e)
 
   module _ (short : NoneIsTooLong set.program) (W : Program) (marks : List (List Bool)) (woven : WovenForm set.program W marks) where
-    is_form : (m : MethodId) (a : Method) → method_at set.program m ≡ Some a → IsFormOf set.program W (code set W marks) m (form set run short W marks woven m) a
+    pub is_form : (m : MethodId) (a : Method) → method_at set.program m ≡ Some a → IsFormOf set.program W (code set W marks) m (form set run short W marks woven m) a
     is_form = (whole set W marks run.keeps run.form run.well (pauses set run) short run.main woven).2
 
-    again : (first : Thread) → MayBegin set first → CanPause set W marks (form set run short W marks woven) (From set first)
+    pub again : (first : Thread) → MayBegin set first → CanPause set W marks (form set run short W marks woven) (From set first)
     again (Run m p l s x b w) k =
         can_pause set run (pauses set run) (shares_pauses set W marks run.keeps run.form run.well woven run.main).sound W marks (form set run short W marks woven) is_form (shares_rows set W marks run.keeps run.form run.well woven).agree (facts set run short W marks woven)
         (λ class task. execute_same set.program W marks run.keeps run.form woven class task) (Run m p l s x b w) k (course (Run m p l s x b w) k)
@@ -63,14 +63,14 @@ module _ (set : Setting) (run : IsRunOfAccepted set) where
         over_pauses set run (pauses set run) (shares_pauses set W marks run.keeps run.form run.well woven run.main).sound W marks (form set run short W marks woven) is_form (shares_rows set W marks run.keeps run.form run.well woven).agree (facts set run short W marks woven)
         (λ class task. execute_same set.program W marks run.keeps run.form woven class task) o
 
-    serves_tasks : ServesTasks set W marks (form set run short W marks woven)
+    pub serves_tasks : ServesTasks set W marks (form set run short W marks woven)
     serves_tasks = record {
       serves = λ first k. (serves_all set run short W marks woven).serves first (course first k) (few first k) (stands first k) (again first k);
       constructs = λ c w ps not_pausable k.
           let first = Run c 0 (entered set.program c (Ref 0 ∷ [])).locals [] (self_of set.program c (Ref 0 ∷ [])) [] w in
           (serves_all set run short W marks woven).constructs c (Ref 0 ∷ []) w ps not_pausable (course first k) (again first k);
       executes = λ class c w ps task e k.
-          let first = begins set 0 w w (Some c) in
+          let first = started set 0 w (Some c) in
           (serves_all set run short W marks woven).executes class c 0 w ps task e (course first k) (stands first k) (again first k);
     }
 

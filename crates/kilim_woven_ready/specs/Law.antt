@@ -33,14 +33,14 @@ use Rattle.kilim_woven_program.specs.Made.{woven_counted, woven_program}
 use Rattle.kilim_woven_receivers.specs.Law.{IsBegun}
 use Rattle.kilim_woven_rows.specs.Shares.{Agree}
 use Rattle.kilim_woven_runs.specs.Acts.{Lost, World}
-use Rattle.kilim_woven_runs.specs.Fibers.{enter, new_fiber, wbegins}
+use Rattle.kilim_woven_runs.specs.Fibers.{enter, new_fiber, wstarted}
 use Rattle.kilim_woven_runs.specs.Form.{is_pausable}
 use Rattle.kilim_woven_runs.specs.Links.{AllFit, Forms, SlotsFit, again, code, dummy_value}
 use Rattle.kilim_woven_stands.specs.Law.{IsFormOf}
 use Rattle.kilim_woven_runs.specs.Rows.{OldHeap}
 use Rattle.kilim_woven_runs.specs.Runs.{most_uncounted}
 use Rattle.kilim_woven_runs.specs.Serves.{From, Serves}
-use Rattle.kilim_woven_runs.specs.Thread.{Run, Stop, Thread, begins, fetch, self_of}
+use Rattle.kilim_woven_runs.specs.Thread.{Run, Stop, Thread, fetch, self_of, started}
 
 -- Values of verification types, of which none is uninitialized, and whose objects are in the heap, are so in the woven program: a stack,
 -- and the locals that are live.
@@ -81,13 +81,13 @@ MayBegin set (Run m p l s x b w) = IsBegun set (Run m p l s x b w)
 MayBegin set (Stop o) = o ≢ Lost
 
 -- A fiber of the woven program does what the task does: wherever it stands with its thread; from the beginning of the constructor of
--- task 0 on; and from where the `execute` of a task begins, the task's own or the built-in one.
+-- task 0 on; and from where the `execute` of a started task begins, the task's own or the built-in one.
 pub record ServesTasks (set : Setting) (W : Program) (marks : List (List Bool)) (form : Forms set W marks) : Type 0 where
   pub serves : (first : Thread) → MayBegin set first → Serves set W marks form most_uncounted (From set first)
   pub constructs : (c : MethodId) (w : World) (ps : List ℕ) → is_pausable set.program c ≡ false → MayBegin set (Run c 0 (entered set.program c (Ref 0 ∷ [])).locals [] (self_of set.program c (Ref 0 ∷ [])) [] w)
       → ServesAlong set W marks form most_uncounted (Run c 0 (entered set.program c (Ref 0 ∷ [])).locals [] (self_of set.program c (Ref 0 ∷ [])) [] w) (enter set W marks c (Ref 0 ∷ []) [] new_fiber w ps)
-  pub executes : (class : ClassId) (c : MethodId) (w : World) (ps : List ℕ) → is_task set.program class ≡ true → execute_of set.program class ≡ Some c → MayBegin set (begins set 0 w w (Some c))
-      → ServesAlong set W marks form most_uncounted (begins set 0 w w (Some c)) (wbegins set W marks 0 w w new_fiber ps (Some c))
+  pub executes : (class : ClassId) (c : MethodId) (w : World) (ps : List ℕ) → is_task set.program class ≡ true → execute_of set.program class ≡ Some c → MayBegin set (started set 0 w (Some c))
+      → ServesAlong set W marks form most_uncounted (started set 0 w (Some c)) (wstarted set W marks 0 w new_fiber ps (Some c))
 
 -- Of a run of an accepted program of which no method is too long to be woven, where each method's table tells which slots are live: a
 -- fiber of the program that weaving makes does what the task does, whatever the task does.

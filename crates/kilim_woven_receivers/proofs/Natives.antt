@@ -236,7 +236,7 @@ module _ (set : Setting) (run : IsRunOfAccepted set) (of : Classes) (next : ℕ)
 
     puts_so : (box : BoxName) (root : ℕ) → native_of set.program c ≡ Some native.Put → args ≡ Box box ∷ Ref root ∷ [] → (o : Option (List Token)) → shape_of set.program h root ≡ o → HeldIn set run (puts set w Stop go box root o)
     puts_so box root known own None e = ended cause.Large
-    puts_so box root known own (Some shape) e = acted (action.Puts box shape) (λ deed rest. put_by set w Stop go box shape root deed.act rest) (λ d rest. put_so box root known own shape e d.act rest)
+    puts_so box root known own (Some shape) e = acted (action.Puts box root shape) (λ deed rest. put_by set w Stop go box shape root deed.act rest) (λ d rest. put_so box root known own shape e d.act rest)
 
     message_so : (box : BoxName) (v : Value) → native_of set.program c ≡ Some native.Put → args ≡ Box box ∷ v ∷ [] → HeldIn set run (puts_value set w Stop go box v)
     message_so box Null known own = ended cause.Null
@@ -251,7 +251,7 @@ module _ (set : Setting) (run : IsRunOfAccepted set) (of : Classes) (next : ℕ)
 
     starts_so : (root : ℕ) → native_of set.program c ≡ Some native.Start → args ≡ Ref root ∷ [] → (o : Option (List Token)) → shape_of set.program h root ≡ o → HeldIn set run (starts set w Stop go root o)
     starts_so root known own None e = ended cause.Large
-    starts_so root known own (Some shape) e = acted (action.Starts shape) (λ deed rest. start_by set w Stop go shape root deed.act rest) (λ d rest. start_so root known own shape e d.act rest)
+    starts_so root known own (Some shape) e = acted (action.Starts root shape) (λ deed rest. start_by set w Stop go shape root deed.act rest) (λ d rest. start_so root known own shape e d.act rest)
 
     -- what is built is named from the next name on
     received : (own : Native) → native_of set.program c ≡ Some own → gives (n set.program run.keeps run.form) own ≡ Some message → (shape : List Token) (act : Act) (rest : List Deed) (o : Option (List Object)) → built set.program OfMessage w.next shape ≡ o → HeldIn set run (receives set w Stop go act rest o)

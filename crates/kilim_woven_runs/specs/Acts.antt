@@ -37,12 +37,12 @@ pub record World : Type 0 where
   pub done : ℕ
   pub boxes : ℕ
 
--- what a task wants of others next
+-- what a task wants of others next; `root` is the object whose tree is put or started
 pub data Action : Type 0 where
-  Puts : (box : BoxName) (shape : List Token) → Action
+  Puts : (box : BoxName) (root : ℕ) (shape : List Token) → Action
   Gets : (box : BoxName) → Action
   Probes : (box : BoxName) → Action
-  Starts : (shape : List Token) → Action
+  Starts : (root : ℕ) (shape : List Token) → Action
   Prints : (token : Token) → Action
   Ends : (cause : EndCause) → Action
 
@@ -98,7 +98,7 @@ module _ {S : Type 0} (set : Setting) (w : World) (over : Over → S) where
 
     abbrev pub puts : BoxName → ℕ → Option (List Token) → S
     puts box n None = ending cause.Large
-    puts box n (Some shape) = acting (Puts box shape) (λ deed rest. put_by box shape n deed.act rest)
+    puts box n (Some shape) = acting (Puts box n shape) (λ deed rest. put_by box shape n deed.act rest)
 
     abbrev pub puts_value : BoxName → Value → S
     puts_value box Null = ending cause.Null
@@ -112,7 +112,7 @@ module _ {S : Type 0} (set : Setting) (w : World) (over : Over → S) where
 
     abbrev pub starts : ℕ → Option (List Token) → S
     starts n None = ending cause.Large
-    starts n (Some shape) = acting (Starts shape) (λ deed rest. start_by shape n deed.act rest)
+    starts n (Some shape) = acting (Starts n shape) (λ deed rest. start_by shape n deed.act rest)
 
     -- a tree of the shape in the deed comes, under names that the heap never had
     abbrev pub receives : Act → List Deed → Option (List Object) → S

@@ -165,6 +165,7 @@ module _ (set : Setting) (W : Program) (marks : List (List Bool)) where
   tick true w = counted w
   tick false w = w
 
+  -- `execute` begins behind the constructor of task 0
   abbrev pub wbegins_in : MethodId → ℕ → World → World → Fib → List ℕ → Option Method → Woven_state
   wbegins_in m n w after f ps None = WStop Lost
   wbegins_in m n w after f ps (Some method) = if method.built_in then ending set w WStop cause.Done else enter m (Ref n ∷ Fiber ∷ []) [] f after ps
@@ -172,6 +173,16 @@ module _ (set : Setting) (W : Program) (marks : List (List Bool)) where
   abbrev pub wbegins : ℕ → World → World → Fib → List ℕ → Option MethodId → Woven_state
   wbegins n w after f ps None = WStop Lost
   wbegins n w after f ps (Some m) = wbegins_in m n w after f ps (method_at W m)
+
+  -- A started task begins with its `execute`. Where that is the built-in one, the task is done in its first move; but one that may do no
+  -- instruction is spent, before anything else is looked at.
+  abbrev pub wstarted_in : MethodId → ℕ → World → Fib → List ℕ → Option Method → Woven_state
+  wstarted_in m n w f ps None = WStop Lost
+  wstarted_in m n w f ps (Some method) = if method.built_in then spending set w WStop (ending set w WStop cause.Done) else enter m (Ref n ∷ Fiber ∷ []) [] f w ps
+
+  abbrev pub wstarted : ℕ → World → Fib → List ℕ → Option MethodId → Woven_state
+  wstarted n w f ps None = WStop Lost
+  wstarted n w f ps (Some m) = wstarted_in m n w f ps (method_at W m)
 
   -- the last frame returned
   abbrev pub wfinishes : Fib → World → List ℕ → Option ℕ → Woven_state

@@ -15,6 +15,7 @@ use Rattle.kilim_program.specs.Effect.{Asks}
 use Rattle.kilim_program.specs.Does.{does, table_target}
 use Rattle.kilim_classes.specs.Same.{argument_slots}
 use Rattle.kilim_program.specs.Moves.{slots_in}
+use Rattle.kilim_jvm_interp.specs.Step.{stack_limit}
 use Rattle.kilim_typing.specs.Step.{Types, peek, is_top}
 use Rattle.kilim_typing.specs.Typed.{reads, Among, edges}
 use Rattle.kilim_woven_form.specs.Woven.{Plan, Item, Mark, Does, member, fiber_slot, moved_instr, load_fiber, calls_member, added, pausable_callee, saved, prologue, drop_result, leave, resume_code, resume_places}
@@ -120,6 +121,9 @@ module _ (P W : Program) (wfetch : MethodId → ℕ → Option (Instr × ℕ × 
     pub room : fm.has_calls ≡ true → fiber_slot fm.method + (if fm.method.is_static then 1 else 2) ≤ slots_in (method_at W m)
     -- a method without pausable calls has no fewer locals
     pub same_room : slots_in (method_at P m) ≤ slots_in (method_at W m)
+    -- the woven method may have four values more on its stack, and one without pausable calls no fewer
+    pub higher : fm.has_calls ≡ true → stack_limit P m + 4 ≤ stack_limit W m
+    pub as_high : stack_limit P m ≤ stack_limit W m
     -- each instruction's place is followed by a greater one; added ones stand in code that isn't too long
     pub within : (q nx : ℕ) (i : Instr) → wfetch m q ≡ Some (i, nx, false) → nx ≤ longest
     pub grows : (q nx : ℕ) (i : Instr) (counted : Bool) → wfetch m q ≡ Some (i, nx, counted) → q < nx

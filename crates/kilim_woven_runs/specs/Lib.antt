@@ -4,6 +4,7 @@ pub mod Fibers
 pub mod Form
 pub mod Links
 pub mod Runs
+pub mod Rooms
 pub mod Rows
 pub mod Serves
 pub mod Law

@@ -16,6 +16,8 @@ use Rattle.kilim_program.specs.Natives as native
 use Rattle.kilim_program.specs.Effect.{Effect, Goes, Calls, Asks, as_reference, is_wide}
 use Rattle.kilim_program.specs.Does.{does}
 use Rattle.kilim_program.specs.Moves.{slots_of, entered}
+use Rattle.kilim_fits.specs.Fits.{IsThere}
+use Rattle.kilim_jvm_interp.specs.Step.{stack_limit}
 use Rattle.kilim_classes.specs.Same.{argument_slots}
 use Rattle.kilim_thread_model.specs.State.{Setting}
 use Rattle.kilim_typing.specs.Step.{is_long, vtype}
@@ -230,7 +232,7 @@ module _ (set : Setting) (W : Program) (marks : List (List Bool)) where
 
     abbrev pub Good : Link → Type 0
     Good (Lk m from to i callee s l wl x old was) =
-        (fetch set.program m from ≡ Some (i, to)) × (pausable_callee set.program i ≡ Some callee) × SavedAlike m from to l wl × Holds m l wl x
+        (fetch set.program m from ≡ Some (i, to)) × (pausable_callee set.program i ≡ Some callee) × SavedAlike m from to l wl × Holds m l wl x × (length s ≤ stack_limit set.program m)
 
     abbrev pub Goods : List Link → Type 0
     Goods [] = Unit {0}
@@ -272,6 +274,7 @@ module _ (set : Setting) (W : Program) (marks : List (List Bool)) where
     Fit heap target y (Lk m from to i callee s l wl x old was) =
         AllFit W heap (below (plan_of m) callee from) s × SlotsFit W heap (saved (plan_of m) from to) l
         × ReceiverFits callee.is_static heap (receiver (plan_of m) callee from) y × Redoes heap m i to callee y target × OldHeap set.program heap × IsClean set.program i (again callee y s) heap
+        × (length (again callee y s) ≤ stack_limit set.program m) × IsThere heap x
 
     -- all frames, the top first; y is the receiver of the call at which the first one stands
     abbrev pub AreReady : Objects → Target → Value → List Link → Type 0

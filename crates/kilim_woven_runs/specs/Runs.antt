@@ -1,8 +1,8 @@
 -- Paths of the woven machine.
-use Rattle.std.specs.Prelude.{◌≡◌, ◌⊎◌, ℕ, suc, ◌+◌, ◌≤◌, Bool, List, Option, Some, None}
+use Rattle.std.specs.Prelude.{◌≡◌, ◌⊎◌, ℕ, suc, ◌+◌, ◌≤◌, Bool, true, List, Option, Some, None}
 use Rattle.kilim_classes.specs.Program.{Program}
 use Rattle.kilim_thread_model.specs.State.{Setting}
-use Rattle.kilim_woven_runs.specs.Fibers.{Woven_state, WRun, Resting, WStop, wstep, wsteps}
+use Rattle.kilim_woven_runs.specs.Fibers.{Fib, Woven_state, WRun, Resting, WStop, is_pausing, wstep, wsteps}
 
 -- More uncounted instructions never stand before the next counted one, rest or end: 512 frames are wound down, or up again,
 -- by codes of at most 32,767 bytes.
@@ -25,6 +25,12 @@ module _ (set : Setting) (W : Program) (marks : List (List Bool)) where
     stop : {c : ℕ} {x : Woven_state} → Comes most Q c x c x
     idle : {c d : ℕ} {x y : Woven_state} → Q x → Comes most Q (suc c) (wstep set W marks x) d y → Comes most Q c x d y
     mark : {c d : ℕ} {x y : Woven_state} → Q x → c ≤ most → IsMark x → Comes most Q 0 (wstep set W marks x) d y → Comes most Q c x d y
+
+  -- Where it pauses, it comes to rest within so many instructions, in the same world and with the same pauses to come.
+  abbrev pub ComesToRest : ℕ → Woven_state → Type 0
+  ComesToRest most (WRun m p l s b f w ps) = is_pausing f ≡ true → (n : ℕ) × (n ≤ most) × (g : Fib) × (wsteps set W marks n (WRun m p l s b f w ps) ≡ Resting g w ps)
+  ComesToRest most (Resting f w ps) = Unit {0}
+  ComesToRest most (WStop over) = Unit {0}
 
   -- from a state on, the next mark comes soon
   abbrev pub Soon : ℕ → Woven_state → Type 0

@@ -16,6 +16,8 @@ use Rattle.kilim_program.specs.Effect.{Effect, Calls, Asks, Raises, Ends, Stuck}
 use Rattle.kilim_program.specs.Does.{does}
 use Rattle.kilim_classes.specs.Lengths.{ends_path}
 use Rattle.kilim_program.specs.Moves.{slots_in}
+use Rattle.kilim_fits.specs.Fits.{AreThere, IsThere}
+use Rattle.kilim_jvm_interp.specs.Step.{stack_limit}
 use Rattle.kilim_thread_model.specs.State.{Setting}
 use Rattle.kilim_woven_form.specs.Woven.{moved_instr, pausable_callee}
 use Rattle.kilim_woven_runs.specs.Acts.{World, Over, Lost}
@@ -24,7 +26,8 @@ use Rattle.kilim_woven_runs.specs.Fibers.{Fib, member_of, Woven_state, WRun, Res
 use Rattle.kilim_woven_runs.specs.Form.{is_pausable}
 use Rattle.kilim_woven_runs.specs.Rows.{elsewhere, handed, goes_to, OldHeap, IsClean}
 use Rattle.kilim_woven_runs.specs.Links.{Link, Lk, u_frames, rev_onto, Leaf, Forms, Alike, Held, Good, Goods, AllStand, Takes, AreReady, Both, unwoven, woven, Fine, at_rest}
-use Rattle.kilim_woven_runs.specs.Runs.{Soon}
+use Rattle.kilim_woven_runs.specs.Runs.{ComesToRest, Soon}
+use Rattle.kilim_woven_runs.specs.Rooms.{GivesWhole, HasRoom, IsFineState, bare_frames}
 
 -- those natives that pause, or whose methods are pausable
 abbrev pub is_leaf : Native → Bool
@@ -54,6 +57,10 @@ pub data Shape (to : ℕ) (l : List Value) (heap : Objects) (e : Effect) : Type 
 -- the states to which a thread comes
 abbrev pub From : Setting → Thread → Thread → Type 0
 From set first t = (n : ℕ) × (steps set n first ≡ t)
+
+-- the receiver of a pausable method is in the heap
+abbrev pub SelvesAreThere : Setting → (Thread → Type 0) → Type 0
+SelvesAreThere set Typed = (m : MethodId) (p : ℕ) (l s : List Value) (x : Value) (b : List Frame) (w : World) → Typed (Run m p l s x b w) → is_pausable set.program m ≡ true → IsThere w.heap x
 
 module _ (set : Setting) (W : Program) (marks : List (List Bool)) (form : Forms set W marks) where
   -- ---- what both programs do alike
@@ -103,6 +110,16 @@ module _ (set : Setting) (W : Program) (marks : List (List Bool)) (form : Forms 
         → Typed (Run m p l s x (u_frames links) w) → fetch set.program m p ≡ Some (i, to) → pausable_callee set.program i ≡ Some callee
         → does set.program (own_of set.program m) i to l s w.heap ≡ Asks c args to l s2 w.heap → native_of set.program c ≡ Some leaf → is_leaf leaf ≡ true → AllStand set W marks form links
         → (w.kept ≡ None) × AreReady set W marks form w.heap (Leaf leaf) (leaf_receiver leaf args) (Lk m p to i callee s2 l wl x old was ∷ links)
+    -- what stands on its stack is in its heap, and so is the receiver of a pausable method
+    pub stack_there : (m : MethodId) (p : ℕ) (l s : List Value) (x : Value) (b : List Frame) (w : World) → Typed (Run m p l s x b w) → AreThere w.heap s
+    pub self_there : SelvesAreThere set Typed
+    -- its stacks are never too high
+    pub low : (m : MethodId) (p : ℕ) (l s : List Value) (x : Value) (b : List Frame) (w : World) → Typed (Run m p l s x b w) → length s ≤ stack_limit set.program m
+    pub room : (m : MethodId) (p to : ℕ) (i : Instr) (l s : List Value) (x : Value) (b : List Frame) (w : World) → Typed (Run m p l s x b w) → fetch set.program m p ≡ Some (i, to)
+        → HasRoom set.program (does set.program (own_of set.program m) i to l s w.heap) m (bare_frames b)
+    -- what it gives away is a whole tree
+    pub gives : (m : MethodId) (p to : ℕ) (i : Instr) (l s : List Value) (x : Value) (b : List Frame) (w : World) → Typed (Run m p l s x b w) → fetch set.program m p ≡ Some (i, to)
+        → GivesWhole set.program set.program w.heap (does set.program (own_of set.program m) i to l s w.heap)
     -- at most so many frames
     pub few_frames : (m : MethodId) (p : ℕ) (l s : List Value) (x : Value) (b : List Frame) (w : World) → Typed (Run m p l s x b w) → suc (length b) ≤ 512
 
@@ -136,3 +153,7 @@ module _ (set : Setting) (W : Program) (marks : List (List Bool)) (form : Forms 
     -- at each rest the fiber stands for the thread
     pub rests : (t : Both) → Fine set W marks form t → Typed (unwoven t) → (j : ℕ) (f : Fib) (w : World) (ps : List ℕ) → wsteps set W marks j (woven set W marks form t) ≡ Resting f w ps → (n : ℕ) × StandsFor (steps set n (unwoven t)) (Resting f w ps)
     pub soon : (t : Both) → Fine set W marks form t → Typed (unwoven t) → (j : ℕ) → Soon set W marks most (wsteps set W marks j (woven set W marks form t))
+    -- where it pauses it comes to rest, in the same world
+    pub pausing : (t : Both) → Fine set W marks form t → Typed (unwoven t) → (j : ℕ) → ComesToRest set W marks most (wsteps set W marks j (woven set W marks form t))
+    -- at every moment the frames and the heap are as the interpreter asks of them for its next step
+    pub fine : (t : Both) → Fine set W marks form t → Typed (unwoven t) → (j : ℕ) → IsFineState set.program W (wsteps set W marks j (woven set W marks form t))

@@ -81,7 +81,7 @@ abbrev pub self_of : Program → MethodId → List Value → Value
 self_of program m args = self_in (method_at program m) args
 
 module _ (set : Setting) where
-  -- `execute` begins, or where it is the built-in one, the task is done
+  -- `execute` begins behind the constructor of task 0, or where it is the built-in one, the task is done
   abbrev pub begins_in : MethodId → ℕ → World → World → Option Method → Thread
   begins_in m n w after None = Stop Lost
   begins_in m n w after (Some method) =
@@ -90,6 +90,17 @@ module _ (set : Setting) where
   abbrev pub begins : ℕ → World → World → Option MethodId → Thread
   begins n w after None = Stop Lost
   begins n w after (Some m) = begins_in m n w after (method_at set.program m)
+
+  -- A started task begins with its `execute`. Where that is the built-in one, the task is done in its first move; but one that may do no
+  -- instruction is spent, before anything else is looked at.
+  abbrev pub started_in : MethodId → ℕ → World → Option Method → Thread
+  started_in m n w None = Stop Lost
+  started_in m n w (Some method) =
+      if method.built_in then spending set w Stop (ending set w Stop cause.Done) else Run m 0 (entered set.program m (Ref n ∷ [])).locals [] (Ref n) [] w
+
+  abbrev pub started : ℕ → World → Option MethodId → Thread
+  started n w None = Stop Lost
+  started n w (Some m) = started_in m n w (method_at set.program m)
 
   -- the last frame returned: that of task 0's constructor, or that of `execute`
   abbrev pub finishes : World → Option ℕ → Thread

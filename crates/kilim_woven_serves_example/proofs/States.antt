@@ -36,6 +36,9 @@ use Rattle.kilim_woven_runs.specs.Links.{Link, Lk, u_frames, Forms, code, Leaf, 
 use Rattle.kilim_woven_runs.specs.Rows.{OldHeap, is_old_base, Receives, IsClean}
 use Rattle.kilim_woven_runs.specs.Serves.{From, Known, is_leaf, leaf_receiver}
 use Rattle.kilim_woven_runs.specs.Thread.{Frame, Thread, Run, Stop, own_of, fetch, self_of, step, steps}
+use Rattle.kilim_woven_runs.specs.Rooms.{GivesWhole, HasRoom, bare_frames}
+use Rattle.kilim_fits.specs.Fits.{AreThere, IsThere}
+use Rattle.kilim_jvm_interp.specs.Step.{stack_limit}
 use Rattle.kilim_woven_stands.specs.Law.{IsFormOf}
 use Rattle.kilim_woven_serves_example.specs.Example.{two_steps, one_object, after, first}
 
@@ -206,7 +209,7 @@ module _ (form : Forms two_steps woven_loop woven_loop_marks) (facts : (m : Meth
   redoes = (method_id 16, [], (λ l s. refl), refl, (refl, refl, tt))
 
   fits_there : (wl : List Value) (was_number : ℕ) (was : Value) → Fit two_steps woven_loop woven_loop_marks form one_object (Leaf native.Yield) Null (Lk (method_id 1) 0 3 yields the_yield [] (Ref 0 ∷ []) wl (Ref 0) was_number was)
-  fits_there wl was_number was = (nothing_below, nothing_saved, tt, redoes, old, record { clean = tt; receives = tt })
+  fits_there wl was_number was = (nothing_below, nothing_saved, tt, redoes, old, record { clean = tt; receives = tt }, omega (arith), (record { class = class_type 0; fields = []; elements = [] }, one_there))
 
   abbrev Ready : Thread → Type 0
   Ready (Run m p l s x b w) =
@@ -255,6 +258,48 @@ module _ (form : Forms two_steps woven_loop woven_loop_marks) (facts : (m : Meth
       (to q : ℕ) (i : Instr) (l2 s2 args : List Value) (heap : Objects) (c : MethodId) → fetch loop m p ≡ Some (i, to) → does loop (own_of loop m) i to l s w.heap ≡ Calls c args q l2 s2 heap → Takes two_steps woven_loop woven_loop_marks form c args (self_of loop c args)
   TakesThem (Stop over) = Unit {0}
 
+  abbrev StackThere : Thread → Type 0
+  StackThere (Run m p l s x b w) = AreThere w.heap s
+  StackThere (Stop over) = Unit {0}
+
+  abbrev SelfThere : Thread → Type 0
+  SelfThere (Run m p l s x b w) = IsThere w.heap x
+  SelfThere (Stop over) = Unit {0}
+
+  abbrev Low : Thread → Type 0
+  Low (Run m p l s x b w) = length s ≤ stack_limit loop m
+  Low (Stop over) = Unit {0}
+
+  abbrev Roomy : Thread → Type 0
+  Roomy (Run m p l s x b w) = (to : ℕ) (i : Instr) → fetch loop m p ≡ Some (i, to) → HasRoom loop (does loop (own_of loop m) i to l s w.heap) m (bare_frames b)
+  Roomy (Stop over) = Unit {0}
+
+  yield_fits : HasRoom loop (does loop (own_of loop (method_id 1)) yields 3 (Ref 0 ∷ []) [] one_object) (method_id 1) []
+  unfolding does
+  yield_fits = record { unstuck = refl; fits = omega (arith); result = λ gives. absurd (false≢true gives) }
+
+  goto_fits : HasRoom loop (does loop (own_of loop (method_id 1)) (Goto 0) 6 (Ref 0 ∷ []) [] one_object) (method_id 1) []
+  unfolding does
+  goto_fits = record { unstuck = refl; fits = omega (arith); result = tt }
+
+  roomy : (j i : Instr) (a to : ℕ) → HasRoom loop (does loop (own_of loop (method_id 1)) j a (Ref 0 ∷ []) [] one_object) (method_id 1) [] → behind j a ≡ behind i to → HasRoom loop (does loop (own_of loop (method_id 1)) i to (Ref 0 ∷ []) [] one_object) (method_id 1) []
+  roomy j i a to r e = along (λ i to. HasRoom loop (does loop (own_of loop (method_id 1)) i to (Ref 0 ∷ []) [] one_object) (method_id 1) []) j i a to e r
+
+  abbrev Giving : Thread → Type 0
+  Giving (Run m p l s x b w) = (to : ℕ) (i : Instr) → fetch loop m p ≡ Some (i, to) → GivesWhole loop loop w.heap (does loop (own_of loop m) i to l s w.heap)
+  Giving (Stop over) = Unit {0}
+
+  yield_gives : GivesWhole loop loop one_object (does loop (own_of loop (method_id 1)) yields 3 (Ref 0 ∷ []) [] one_object)
+  unfolding does
+  yield_gives = λ root n e. absurd (none-some (root, n) e)
+
+  goto_gives : GivesWhole loop loop one_object (does loop (own_of loop (method_id 1)) (Goto 0) 6 (Ref 0 ∷ []) [] one_object)
+  unfolding does
+  goto_gives = tt
+
+  giving : (j i : Instr) (a to : ℕ) → GivesWhole loop loop one_object (does loop (own_of loop (method_id 1)) j a (Ref 0 ∷ []) [] one_object) → behind j a ≡ behind i to → GivesWhole loop loop one_object (does loop (own_of loop (method_id 1)) i to (Ref 0 ∷ []) [] one_object)
+  giving j i a to r e = along (λ i to. GivesWhole loop loop one_object (does loop (own_of loop (method_id 1)) i to (Ref 0 ∷ []) [] one_object)) j i a to e r
+
   abbrev Few : Thread → Type 0
   Few (Run m p l s x b w) = suc (length b) ≤ 512
   Few (Stop over) = Unit {0}
@@ -297,8 +342,19 @@ module _ (form : Forms two_steps woven_loop woven_loop_marks) (facts : (m : Meth
     begins = λ c n e. subst (λ (z : MethodId). Takes two_steps woven_loop woven_loop_marks form z (Ref n ∷ []) (Ref n)) (same_Some (method_id 1) c e) (takes_one n);
     ready = λ m p to i callee l s s2 args wl x number was links w c leaf f e pc d nat isleaf stand.
         at_each Ready (ready_at 0) (ready_none 1) (ready_at 2) tt (Run m p l s x (u_frames links) w) f to i callee s2 args wl number was links c leaf refl e pc d nat isleaf stand;
+    stack_there = λ m p l s x b w f. at_each StackThere tt tt tt tt (Run m p l s x b w) f;
+    self_there = λ m p l s x b w f pausable. at_each SelfThere one one one tt (Run m p l s x b w) f;
+    low = λ m p l s x b w f. at_each Low low low low tt (Run m p l s x b w) f;
+    room = λ m p to i l s x b w f g. at_each Roomy (λ to i e. roomy yields i 3 to yield_fits e) (λ to i e. roomy (Goto 0) i 6 to goto_fits e) (λ to i e. roomy yields i 3 to yield_fits e) tt (Run m p l s x b w) f to i g;
+    gives = λ m p to i l s x b w f g. at_each Giving (λ to i e. giving yields i 3 to yield_gives e) (λ to i e. giving (Goto 0) i 6 to goto_gives e) (λ to i e. giving yields i 3 to yield_gives e) tt (Run m p l s x b w) f to i g;
     few_frames = λ m p l s x b w f. at_each Few few few few tt (Run m p l s x b w) f;
   }
     where
+      low : 0 ≤ stack_limit loop (method_id 1)
+      low = omega (arith)
+
+      one : IsThere one_object (Ref 0)
+      one = (record { class = class_type 0; fields = []; elements = [] }, one_there)
+
       few : 1 ≤ 512
       few = omega (arith)

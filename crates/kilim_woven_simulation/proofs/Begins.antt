@@ -18,11 +18,13 @@ use Rattle.kilim_woven_runs.specs.Links.{Forms, code, Takes, Both, Fw, unwoven, 
 use Rattle.kilim_woven_simulation.proofs.Paths as path
 use Rattle.std.specs.Prelude.{replicate, ◌-◌}
 use Rattle.kilim_woven_runs.specs.Fibers.{new_fiber, enter}
+use Rattle.kilim_fits.specs.Fits.{AreThere, IsThere}
+use Rattle.kilim_woven_simulation.proofs.Still.{StepIsKnown}
 use Rattle.kilim_woven_simulation.proofs.Forward.{calm}
 use Rattle.kilim_woven_simulation.proofs.Forward as forward
 
 module _ (set : Setting) (W : Program) (marks : List (List Bool)) (most : ℕ) (Q : Woven_state → Type 0)
-    (runs : (m : MethodId) (p : ℕ) (l s : List Value) (b : List Activation) (f : Fib) (w : World) (ps : List ℕ) → Q (WRun m p l s b f w ps))
+    (runs : (m : MethodId) (p : ℕ) (l s : List Value) (b : List Activation) (f : Fib) (w : World) (ps : List ℕ) → StepIsKnown set W marks (WRun m p l s b f w ps) → AreThere w.heap s → Q (WRun m p l s b f w ps))
     (members : Members set.program W) (form : Forms set W marks) (facts : (m : MethodId) → Facts set.program W (code set W marks) (form m)) (rows : Rows set W marks form)
     (enough : calm + 8 + 512 * longest ≤ most) where
   -- a method that isn't pausable begins, with no other frame and a new fiber
@@ -50,9 +52,9 @@ module _ (set : Setting) (W : Program) (marks : List (List Bool)) (most : ℕ) (
       same_locals = ap (λ (k : ℕ). slots_of args ++ replicate (k - length (slots_of args)) value.Null) (rows.same_slots c np)
 
   -- `execute` of a started task: a few added instructions lead to a state that both sides share
-  pub execute_begins : (c : MethodId) (n : ℕ) (w : World) (ps : List ℕ) → Takes set W marks form c (value.Ref n ∷ []) (value.Ref n)
+  pub execute_begins : (c : MethodId) (n : ℕ) (w : World) (ps : List ℕ) → Takes set W marks form c (value.Ref n ∷ []) (value.Ref n) → (is_pausable set.program c ≡ true → IsThere w.heap (value.Ref n))
       → (t : Both) × (unwoven t ≡ Run c 0 (entered set.program c (value.Ref n ∷ [])).locals [] (value.Ref n) [] w) × Fine set W marks form t
       × (d : ℕ) × (d ≤ longest) × path.To set W marks most Q runs 0 (enter set W marks c (value.Ref n ∷ value.Fiber ∷ []) [] new_fiber w ps) d (woven set W marks form t)
-  execute_begins c n w ps takes =
-      let z = forward.begun set W marks most Q runs members form facts rows enough c (value.Ref n ∷ []) [] 0 value.Null (value.Ref n) w ps takes tt in
+  execute_begins c n w ps takes self_there =
+      let z = forward.begun set W marks most Q runs members form facts rows enough c (value.Ref n ∷ []) [] 0 value.Null (value.Ref n) w ps takes tt self_there in
       (Fw c 0 [] (entered set.program c (value.Ref n ∷ [])).locals z.0 (value.Ref n) [] [] 0 value.Null w ps, refl, z.4, z.1, z.2, z.3)

@@ -21,10 +21,12 @@ use Rattle.kilim_woven_runs.specs.Acts.{World, Over, ending}
 use Rattle.kilim_woven_runs.specs.Thread.{Thread, Run, Stop, own_of}
 use Rattle.kilim_program.specs.Natives.{Up}
 use Rattle.kilim_woven_runs.specs.Fibers.{Fib, Fiber_at, Rec, Saved, Woven_state, WRun, WStop, wstep}
-use Rattle.kilim_woven_runs.specs.Form.{Facts, Starts, Members, longest}
+use Rattle.kilim_woven_runs.specs.Form.{Facts, Starts, Members, longest, is_pausable}
 use Rattle.kilim_woven_runs.specs.Runs.{stop, idle, mark, done_in}
 use Rattle.kilim_woven_runs.specs.Serves.{Rows}
 use Rattle.kilim_woven_runs.specs.Links.{Link, Lk, PLink, u_stack, left_overs, Forms, code, w_frames, w_stack, Holds, Held, Good, Goods, Takes, Both, Fw, unwoven, woven, Fine, Fine_at}
+use Rattle.kilim_fits.specs.Fits.{AreThere, IsThere}
+use Rattle.kilim_woven_simulation.proofs.Still.{StepIsKnown}
 use Rattle.kilim_woven_simulation.proofs.Added as add
 use Rattle.kilim_woven_simulation.proofs.Paths as path
 use Rattle.kilim_woven_simulation.proofs.Prologue as prologue
@@ -35,7 +37,7 @@ abbrev pub calm : ℕ
 calm = 512 * (2 * longest + 3) + 8
 
 module _ (set : Setting) (W : Program) (marks : List (List Bool)) (most : ℕ) (Q : Woven_state → Type 0)
-    (runs : (m : MethodId) (p : ℕ) (l s : List Value) (b : List Activation) (f : Fib) (w : World) (ps : List ℕ) → Q (WRun m p l s b f w ps))
+    (runs : (m : MethodId) (p : ℕ) (l s : List Value) (b : List Activation) (f : Fib) (w : World) (ps : List ℕ) → StepIsKnown set W marks (WRun m p l s b f w ps) → AreThere w.heap s → Q (WRun m p l s b f w ps))
     (members : Members set.program W) (form : Forms set W marks) (facts : (m : MethodId) → Facts set.program W (code set W marks) (form m)) (rows : Rows set W marks form)
     (enough : calm + 8 + 512 * longest ≤ most) where
   abbrev To : ℕ → Woven_state → ℕ → Woven_state → Type 0
@@ -52,21 +54,21 @@ module _ (set : Setting) (W : Program) (marks : List (List Bool)) (most : ℕ) (
 
   -- the step is over, on both sides by the same cause
   pub both_end : (u : Thread) (c : ℕ) (m : MethodId) (p : ℕ) (l s : List Value) (b : List Activation) (f : Fib) (w v : World) (ps : List ℕ) (e : EndCause)
-      → suc c ≤ most → u ≡ ending set v Stop e → wstep set W marks (WRun m p l s b f w ps) ≡ ending set v WStop e → Match u c (WRun m p l s b f w ps)
-  both_end u c m p l s b f w v ps e few eu ew =
+      → suc c ≤ most → u ≡ ending set v Stop e → wstep set W marks (WRun m p l s b f w ps) ≡ ending set v WStop e → Q (WRun m p l s b f w ps) → Match u c (WRun m p l s b f w ps)
+  both_end u c m p l s b f w v ps e few eu ew q =
       Overs (ending set v (λ (o : Over). o) e) (eu ∙ ending_is set v Stop e) (suc c) few
-      (idle (runs m p l s b f w ps) (subst (λ (z : Woven_state). To (suc c) (wstep set W marks (WRun m p l s b f w ps)) (suc c) z) (ew ∙ ending_is set v WStop e) stop))
+      (idle q (subst (λ (z : Woven_state). To (suc c) (wstep set W marks (WRun m p l s b f w ps)) (suc c) z) (ew ∙ ending_is set v WStop e) stop))
 
   pub both_over : (u : Thread) (c : ℕ) (m : MethodId) (p : ℕ) (l s : List Value) (b : List Activation) (f : Fib) (w : World) (ps : List ℕ) (o : Over)
-      → suc c ≤ most → u ≡ Stop o → wstep set W marks (WRun m p l s b f w ps) ≡ WStop o → Match u c (WRun m p l s b f w ps)
-  both_over u c m p l s b f w ps o few eu ew =
-      Overs o eu (suc c) few (idle (runs m p l s b f w ps) (subst (λ (z : Woven_state). To (suc c) (wstep set W marks (WRun m p l s b f w ps)) (suc c) z) ew stop))
+      → suc c ≤ most → u ≡ Stop o → wstep set W marks (WRun m p l s b f w ps) ≡ WStop o → Q (WRun m p l s b f w ps) → Match u c (WRun m p l s b f w ps)
+  both_over u c m p l s b f w ps o few eu ew q =
+      Overs o eu (suc c) few (idle q (subst (λ (z : Woven_state). To (suc c) (wstep set W marks (WRun m p l s b f w ps)) (suc c) z) ew stop))
 
   -- one counted instruction
   pub counts : (c : ℕ) (m : MethodId) (p : ℕ) (l s : List Value) (b : List Activation) (f : Fib) (w : World) (ps : List ℕ) (m2 : MethodId) (p2 : ℕ) (l2 s2 : List Value) (b2 : List Activation) (f2 : Fib) (w2 : World) (ps2 : List ℕ)
-      → c ≤ most → wstep set W marks (WRun m p l s b f w ps) ≡ WRun m2 p2 l2 s2 b2 f2 w2 ps2 → w2.done ≡ w.done + 1 → To c (WRun m p l s b f w ps) 0 (WRun m2 p2 l2 s2 b2 f2 w2 ps2)
-  counts c m p l s b f w ps m2 p2 l2 s2 b2 f2 w2 ps2 few e d =
-      mark (runs m p l s b f w ps) few (inl (w.done, refl, ap done_in e ∙ ap Some d))
+      → c ≤ most → wstep set W marks (WRun m p l s b f w ps) ≡ WRun m2 p2 l2 s2 b2 f2 w2 ps2 → w2.done ≡ w.done + 1 → Q (WRun m p l s b f w ps) → To c (WRun m p l s b f w ps) 0 (WRun m2 p2 l2 s2 b2 f2 w2 ps2)
+  counts c m p l s b f w ps m2 p2 l2 s2 b2 f2 w2 ps2 few e d q =
+      mark q few (inl (w.done, refl, ap done_in e ∙ ap Some d))
       (subst (λ (z : Woven_state). To 0 (wstep set W marks (WRun m p l s b f w ps)) 0 z) e stop)
 
   -- a forward state, by a counted instruction
@@ -74,10 +76,10 @@ module _ (set : Setting) (W : Program) (marks : List (List Bool)) (most : ℕ) (
       (m2 : MethodId) (p2 : ℕ) (s2 l2 wl2 : List Value) (x2 : Value) (ov : List PLink) (links : List Link) (old : ℕ) (was : Value) (w2 : World) (ps2 : List ℕ)
       → c ≤ most → u ≡ Run m2 p2 l2 s2 x2 (u_stack ov links) w2
       → wstep set W marks (WRun m p l s b f w ps) ≡ WRun m2 ((form m2).at p2) wl2 s2 (w_stack set W marks form ov links) (Fiber_at (left_overs links) (Saved old was []) [] false false) w2 ps2
-      → w2.done ≡ w.done + 1 → Fine_at set W marks form m2 p2 l2 wl2 x2 ov links → Match u c (WRun m p l s b f w ps)
-  on u c m p l s b f w ps m2 p2 s2 l2 wl2 x2 ov links old was w2 ps2 few eu ew d fine =
+      → w2.done ≡ w.done + 1 → Fine_at set W marks form m2 p2 l2 wl2 x2 ov links → Q (WRun m p l s b f w ps) → Match u c (WRun m p l s b f w ps)
+  on u c m p l s b f w ps m2 p2 s2 l2 wl2 x2 ov links old was w2 ps2 few eu ew d fine q =
       Goes_on (Fw m2 p2 s2 l2 wl2 x2 ov links old was w2 ps2) eu 0 (omega arith)
-      (counts c m p l s b f w ps m2 ((form m2).at p2) wl2 s2 (w_stack set W marks form ov links) (Fiber_at (left_overs links) (Saved old was []) [] false false) w2 ps2 few ew d) fine
+      (counts c m p l s b f w ps m2 ((form m2).at p2) wl2 s2 (w_stack set W marks form ov links) (Fiber_at (left_overs links) (Saved old was []) [] false false) w2 ps2 few ew d q) fine
 
   -- ---- behind a pausable call that doesn't pause
 
@@ -94,12 +96,14 @@ module _ (set : Setting) (W : Program) (marks : List (List Bool)) (most : ℕ) (
   held_holds m l wl x false e h = absurd (false≢true e)
 
   pub returned : (m : MethodId) (from to : ℕ) (i : Instr) (callee : Method) (s0 s l wl : List Value) (self : Value) (old : ℕ) (was : Value) (links : List Link) (r : Rec) (c : ℕ) (w : World) (ps : List ℕ)
-      → Good set W marks form (Lk m from to i callee s0 l wl self old was) → Goods set W marks form links
+      → Good set W marks form (Lk m from to i callee s0 l wl self old was) → Goods set W marks form links → length s ≤ suc (length s0) → AreThere w.heap s
       → To c (WRun m ((form m).up_at from) wl s (w_frames set W marks form links) (Fiber_at (Saved old was [] ∷ left_overs links) r [] false false) w ps)
       (suc (suc (suc c))) (WRun m ((form m).at to) wl s (w_frames set W marks form links) (Fiber_at (left_overs links) (Saved old was []) [] false false) w ps)
       × Fine_at set W marks form m to l wl self [] links
-  returned m from to i callee s0 s l wl self old was links r c w ps good goods =
+  returned m from to i callee s0 s l wl self old was links r c w ps good goods one_more th =
       let g = (facts m).group from to i callee good.0 good.1 in
+      let low = good.4 in
+      let high = (facts m).higher g.has_calls in
       let h = g.up in
       let b = w_frames set W marks form links in
       let lo = left_overs links in
@@ -107,23 +111,25 @@ module _ (set : Setting) (W : Program) (marks : List (List Bool)) (most : ℕ) (
       let f1 = Fiber_at lo (Saved old was []) [] false false in
       let LL = fiber_slot (form m).method in (
         path.joins set W marks most Q runs
-            (path.one set W marks most Q runs c m ((form m).up_at from) wl s b f0 w ps (instr.Aload LL) h.0 false (Goes h.0 wl (value.Fiber ∷ s) w.heap) h.1 refl (add.aload W (own_of W m) h.0 wl s w.heap LL value.Fiber good.3.fiber add.fiber_is_reference))
+            (path.one set W marks most Q runs c m ((form m).up_at from) wl s b f0 w ps (instr.Aload LL) h.0 false (Goes h.0 wl (value.Fiber ∷ s) w.heap) h.1 refl (add.aload W (own_of W m) h.0 wl s w.heap LL value.Fiber good.3.fiber add.fiber_is_reference)
+            (path.goes_room set.program W m b w.heap h.0 wl (value.Fiber ∷ s) w.heap (omega (arith, low, high, one_more))) th (λ on. (on, refl, refl)))
             (path.joins set W marks most Q runs
             (path.calls set W marks most Q runs (suc c) m h.0 wl (value.Fiber ∷ s) s b f0 w ps (instr.Invokevirtual (member set.program 2)) h.2.0 (member set.program 2) (value.Fiber ∷ []) Up h.2.1
-            (members.alone 2 Up refl refl (own_of W m) h.2.0 wl s w.heap) (members.named 2 Up refl))
-            (path.one set W marks most Q runs (suc (suc c)) m h.2.0 wl (value.Int (pos 0) ∷ s) b f1 w ps (instr.Ifeq ((form m).at to)) h.2.2.0 false (Goes ((form m).at to) wl s w.heap) h.2.2.1 refl (add.if_zero W (own_of W m) h.2.2.0 wl s w.heap ((form m).at to)))),
+            (members.alone 2 Up refl refl (own_of W m) h.2.0 wl s w.heap) (members.named 2 Up refl) (omega (arith, low, high, one_more)) (tt, th))
+            (path.one set W marks most Q runs (suc (suc c)) m h.2.0 wl (value.Int (pos 0) ∷ s) b f1 w ps (instr.Ifeq ((form m).at to)) h.2.2.0 false (Goes ((form m).at to) wl s w.heap) h.2.2.1 refl (add.if_zero W (own_of W m) h.2.2.0 wl s w.heap ((form m).at to))
+            (path.goes_room set.program W m b w.heap ((form m).at to) wl s w.heap (omega (arith, low, high, one_more))) (tt, th) (λ on. (on, refl, refl)))),
         record { alike = λ k z. good.2 k (g.kept k z); held = held_true m l wl self (form m).has_calls g.has_calls good.3; stacked = goods },
       )
 
   -- ---- a pausable method begins
 
   pub begun : (c : MethodId) (args : List Value) (links : List Link) (old : ℕ) (was : Value) (y : Value) (w : World) (ps : List ℕ)
-      → Takes set W marks form c args y → Goods set W marks form links
+      → Takes set W marks form c args y → Goods set W marks form links → (is_pausable set.program c ≡ true → IsThere w.heap y)
       → (wl : List Value) × (d : ℕ) × (d ≤ longest)
       × To 0 (WRun c 0 (entered W c (args ++ value.Fiber ∷ [])).locals [] (w_frames set W marks form links) (Fiber_at (left_overs links) (Saved old was []) [] false false) w ps)
       d (WRun c ((form c).at 0) wl [] (w_frames set W marks form links) (Fiber_at (left_overs links) (Saved old was []) [] false false) w ps)
       × Fine_at set W marks form c 0 (entered set.program c args).locals wl y [] links
-  begun c args links old was y w ps takes goods = by (form c).has_calls refl (facts c).starts
+  begun c args links old was y w ps takes goods self_there = by (form c).has_calls refl (facts c).starts
     where
       old_max : (o : Option Method) → ((a : Method) → o ≡ Some a → a ≡ (form c).method) → slots_in o ≤ (form c).method.max_locals
       old_max None h = omega arith
@@ -137,7 +143,7 @@ module _ (set : Setting) (W : Program) (marks : List (List Bool)) (most : ℕ) (
           let st = prologue.starts set W marks most Q runs members form facts c y (entered W c (args ++ value.Fiber ∷ [])).locals 0 (w_frames set W marks form links) (left_overs links) old was [] [] false false w ps e
           (prologue.entered_fiber W c args (argument_slots (form c).method) takes.slots)
           (λ z. let v = takes.self_first z in prologue.entered_argument W c args 0 (slice_get_within (slots_of args) 0 y v) ∙ v)
-          takes.is_reference (prologue.entered_length W c (args ++ value.Fiber ∷ [])) in
+          takes.is_reference (prologue.entered_length W c (args ++ value.Fiber ∷ [])) (self_there ((facts c).calls_pausable e)) in
           let a1 = st.few in
           let a2 = (facts c).within st.switch st.last _ st.is_switch in
           let s1 = takes.slots in

@@ -1,3 +1,6 @@
+pub mod Room
+pub mod Held
+pub mod Still
 pub mod Paths
 pub mod Added
 pub mod Stretches

@@ -80,7 +80,7 @@ module _ {S : Type 0} (set : Setting) (w : World) (over : Over → S) (go : Worl
 
   puts_same : (box : BoxName) (n : ℕ) (o : Option (List Token)) → Same (puts set w over go box n o) (puts set w IsOver GoesOn box n o)
   puts_same box n None = end_same cause.Large
-  puts_same box n (Some shape) = acting_same (Puts box shape) _ _ (λ d rest. put_same box shape n d.act rest)
+  puts_same box n (Some shape) = acting_same (Puts box n shape) _ _ (λ d rest. put_same box shape n d.act rest)
 
   puts_value_same : (box : BoxName) (v : Value) → Same (puts_value set w over go box v) (puts_value set w IsOver GoesOn box v)
   puts_value_same box Null = end_same cause.Null
@@ -94,7 +94,7 @@ module _ {S : Type 0} (set : Setting) (w : World) (over : Over → S) (go : Worl
 
   starts_same : (n : ℕ) (o : Option (List Token)) → Same (starts set w over go n o) (starts set w IsOver GoesOn n o)
   starts_same n None = end_same cause.Large
-  starts_same n (Some shape) = acting_same (Starts shape) _ _ (λ d rest. start_same shape n d.act rest)
+  starts_same n (Some shape) = acting_same (Starts n shape) _ _ (λ d rest. start_same shape n d.act rest)
 
   receives_same : (act : Act) (rest : List Deed) (o : Option (List Object)) → Same (receives set w over go act rest o) (receives set w IsOver GoesOn act rest o)
   receives_same act rest None = (refl, tt)

@@ -19,11 +19,13 @@ use Rattle.kilim_woven_runs.specs.Form.{Facts, Members, longest}
 use Rattle.kilim_woven_runs.specs.Rows.{handed, OldHeap, IsClean}
 use Rattle.kilim_woven_runs.specs.Runs.{mark}
 use Rattle.kilim_woven_runs.specs.Links.{Link, Lk, method_of, self_of_link, rev_onto, bares, Target, Inner, Leaf, Forms, code, record_of, first_record, next_records, Good, Goods, Takes, AreReady, Chained, unwinding, entering, at_leaf}
+use Rattle.kilim_fits.specs.Fits.{AreThere}
+use Rattle.kilim_woven_simulation.proofs.Still.{StepIsKnown}
+use Rattle.kilim_woven_simulation.proofs.Held.{MaybeThere}
 use Rattle.kilim_woven_simulation.proofs.Paths as path
 use Rattle.kilim_woven_simulation.proofs.Unwinds.{count_of}
 use Rattle.kilim_woven_simulation.proofs.Unwinds as unwind
-use Rattle.kilim_woven_simulation.proofs.Unwinds.{ResultFits, Drops_at, rests, Rested}
-use Rattle.kilim_woven_simulation.proofs.Rewinds.{Back}
+use Rattle.kilim_woven_simulation.proofs.Unwinds.{Drops_at, rests}
 use Rattle.kilim_woven_simulation.proofs.Rewinds as rewind
 
 pub count_rev : (a b : List Link) → count_of (rev_onto a b) ≡ count_of a + count_of b
@@ -39,7 +41,7 @@ rev_rev [] b = refl
 rev_rev (x ∷ a) b = rev_rev a (x ∷ b)
 
 module _ (set : Setting) (W : Program) (marks : List (List Bool)) (most : ℕ) (Q : Woven_state → Type 0)
-    (runs : (m : MethodId) (p : ℕ) (l s : List Value) (b : List Activation) (f : Fib) (w : World) (ps : List ℕ) → Q (WRun m p l s b f w ps))
+    (runs : (m : MethodId) (p : ℕ) (l s : List Value) (b : List Activation) (f : Fib) (w : World) (ps : List ℕ) → StepIsKnown set W marks (WRun m p l s b f w ps) → AreThere w.heap s → Q (WRun m p l s b f w ps))
     (members : Members set.program W) (form : Forms set W marks) (facts : (m : MethodId) → Facts set.program W (code set W marks) (form m))
     -- a pausable call of the woven program does what that of the unwoven one does
     (hands : (m : MethodId) (p : ℕ) (i : Instr) (callee : Method) (to nx : ℕ) (l wl s : List Value) (heap : Objects) → fetch set.program m p ≡ Some (i, to) → pausable_callee set.program i ≡ Some callee → OldHeap set.program heap → IsClean set.program i s heap → does W (own_of W m) i nx wl (value.Fiber ∷ s) heap ≡ handed nx wl (does set.program (own_of set.program m) i to l s heap)) where
@@ -97,11 +99,11 @@ module _ (set : Setting) (W : Program) (marks : List (List Bool)) (most : ℕ) (
     pub way : To c x count (at_leaf set W marks form box top below w ps)
 
   pub pauses : (leaf : Native) (box : Value) (v : Option Value) (k : Link) (links : List Link) (c : ℕ) (w : World) (ps : List ℕ)
-      → w.kept ≡ None → Good set W marks form k → Goods set W marks form links → AreReady set W marks form w.heap (Leaf leaf) box (k ∷ links) → Drops_at set W marks most Q runs members form facts k v
+      → w.kept ≡ None → Good set W marks form k → Goods set W marks form links → AreReady set W marks form w.heap (Leaf leaf) box (k ∷ links) → Drops_at set W marks most Q runs members form facts k v → MaybeThere w.heap v
       → suc (count_of links) ≤ frame_limit → c + (suc (count_of links)) * longest ≤ most → Q (rests set W marks most Q runs members form facts box (rev_onto (k ∷ links) []) w ps)
       → Paused box k links c (unwinding set W marks form box v k links [] w ps) w ps
-  pauses leaf box v k links c w ps kept g gs r d room few q =
-      let u = unwind.unwinds set W marks most Q runs members form facts leaf box box (Leaf leaf) v links k [] c w ps kept g gs r d in
+  pauses leaf box v k links c w ps kept g gs r d held room few q =
+      let u = unwind.unwinds set W marks most Q runs members form facts leaf box box (Leaf leaf) v links k [] c w ps kept g gs r d held in
       let chain = unwind.chained set W marks most Q runs members form facts leaf box links k [] w.heap g gs r tt in
       let base = based w.heap links k [] (tail_ready w.heap (Leaf leaf) box k links r) in
       let n = count_rev (k ∷ links) [] in

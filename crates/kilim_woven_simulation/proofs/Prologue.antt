@@ -25,6 +25,9 @@ use Rattle.kilim_program.specs.Natives.{Pc}
 use Rattle.kilim_woven_runs.specs.Fibers.{Fib, Fiber_at, Rec, Saved, is_rewinding, place_while, Woven_state, WRun}
 use Rattle.kilim_woven_runs.specs.Form.{Facts, HasAt, Members, Starts}
 use Rattle.kilim_woven_runs.specs.Links.{IsReference, Forms, code, plan_of}
+use Rattle.kilim_fits.specs.Fits.{AreThere, IsThere}
+use Rattle.kilim_woven_simulation.proofs.Still.{StepIsKnown}
+use Rattle.kilim_jvm_interp.specs.Step.{stack_limit}
 use Rattle.kilim_woven_simulation.proofs.Added as add
 use Rattle.kilim_woven_simulation.proofs.Paths as path
 use Rattle.kilim_woven_simulation.proofs.Stretches as stretch
@@ -106,7 +109,7 @@ more_slots args =
     subst (λ (z : List Value). length z ≡ suc (length (slots_of args))) (sym e) (omega (arith, n))
 
 module _ (set : Setting) (W : Program) (marks : List (List Bool)) (most : ℕ) (Q : Woven_state → Type 0)
-    (runs : (m : MethodId) (p : ℕ) (l s : List Value) (b : List Activation) (f : Fib) (w : World) (ps : List ℕ) → Q (WRun m p l s b f w ps))
+    (runs : (m : MethodId) (p : ℕ) (l s : List Value) (b : List Activation) (f : Fib) (w : World) (ps : List ℕ) → StepIsKnown set W marks (WRun m p l s b f w ps) → AreThere w.heap s → Q (WRun m p l s b f w ps))
     (members : Members set.program W) (form : Forms set W marks) (facts : (m : MethodId) → Facts set.program W (code set W marks) (form m)) (m : MethodId) where
   abbrev To : ℕ → Woven_state → ℕ → Woven_state → Type 0
   To c x d y = path.To set W marks most Q runs c x d y
@@ -121,7 +124,7 @@ module _ (set : Setting) (W : Program) (marks : List (List Bool)) (most : ℕ) (
   Reach = path.Reach set W marks most Q runs m
 
   goes : (rest : List Item) (c q nx : ℕ) (i : Instr) (mk : Bool) (l s l2 s2 l3 s3 : List Value) (b : List Activation) (f f3 : Fib) (w : World) (ps : List ℕ)
-      → code set W marks m q ≡ Some (i, nx, mk) → (mk && not (is_rewinding f)) ≡ false → does W (own_of W m) i nx l s w.heap ≡ Goes nx l2 s2 w.heap
+      → code set W marks m q ≡ Some (i, nx, mk) → (mk && not (is_rewinding f)) ≡ false → does W (own_of W m) i nx l s w.heap ≡ Goes nx l2 s2 w.heap → length s2 ≤ stack_limit W m → AreThere w.heap s
       → Reach rest (suc c) nx (WRun m nx l2 s2 b f w ps) l3 s3 b f3 w ps → Reach rest c q (WRun m q l s b f w ps) l3 s3 b f3 w ps
   goes = stretch.goes set W marks most Q runs members form facts m
 
@@ -143,9 +146,9 @@ module _ (set : Setting) (W : Program) (marks : List (List Bool)) (most : ℕ) (
 
   keeps_self : (y : Value) (l0 l : List Value) (rest : List Item) (c q : ℕ) (b : List Activation) (f : Fib) (w : World) (ps : List ℕ)
       → slice_get l L ≡ Some value.Fiber → ((k : ℕ) → k < L → slice_get l k ≡ slice_get l0 k) → length l ≡ length l0
-      → ((form m).method.is_static ≡ false → slice_get l 0 ≡ Some y) → IsReference y → L + (if (form m).method.is_static then 1 else 2) ≤ length l → has q (keep_self x rest)
+      → ((form m).method.is_static ≡ false → slice_get l 0 ≡ Some y) → IsReference y → L + (if (form m).method.is_static then 1 else 2) ≤ length l → has q (keep_self x rest) → 1 ≤ stack_limit W m → IsThere w.heap y
       → (l2 : List Value) × Sets y l0 l2 × Reach rest c q (WRun m q l [] b f w ps) l2 [] b f w ps
-  keeps_self y l0 l rest c q b f w ps e o n first is room h = by (form m).method.is_static (λ z. z) first room h
+  keeps_self y l0 l rest c q b f w ps e o n first is room h low self_there = by (form m).method.is_static (λ z. z) first room h
     where
       by : (a : Bool) → ((form m).method.is_static ≡ false → a ≡ false) → (a ≡ false → slice_get l 0 ≡ Some y) → L + (if a then 1 else 2) ≤ length l → has q (if a then rest else added (instr.Aload 0) 1 ∷ added (instr.Astore (suc L)) (local_size (suc L)) ∷ rest)
           → (l2 : List Value) × Sets y l0 l2 × Reach rest c q (WRun m q l [] b f w ps) l2 [] b f w ps
@@ -160,8 +163,8 @@ module _ (set : Setting) (W : Program) (marks : List (List Bool)) (most : ℕ) (
               others = λ k u. set_other l (suc L) k y (λ v. omega (arith, u, v)) ∙ o k u;
               same_length = length-set l (suc L) y ∙ n;
             },
-            goes rest c q h.0 (instr.Aload 0) false l [] l (y ∷ []) l2 [] b f f w ps h.1 refl (add.aload W (own_of W m) h.0 l [] w.heap 0 y (first refl) is)
-                (goes rest (suc c) h.0 h.2.0 (instr.Astore (suc L)) false l (y ∷ []) l2 [] l2 [] b f f w ps h.2.1 refl (add.astore W (own_of W m) h.2.0 l [] w.heap (suc L) y old.0 old.1 is)
+            goes rest c q h.0 (instr.Aload 0) false l [] l (y ∷ []) l2 [] b f f w ps h.1 refl (add.aload W (own_of W m) h.0 l [] w.heap 0 y (first refl) is) (omega (arith, low)) tt
+                (goes rest (suc c) h.0 h.2.0 (instr.Astore (suc L)) false l (y ∷ []) l2 [] l2 [] b f f w ps h.2.1 refl (add.astore W (own_of W m) h.2.0 l [] w.heap (suc L) y old.0 old.1 is) (omega (arith, low)) (self_there, tt)
                 (here rest (suc (suc c)) h.2.0 l2 [] b f w ps h.2.2)),
           )
 
@@ -183,28 +186,29 @@ module _ (set : Setting) (W : Program) (marks : List (List Bool)) (most : ℕ) (
     pub way : To c (WRun m 0 l0 [] b f w ps) count (WRun m (goes_by n) locals [] b f w ps)
 
   pub starts : (y : Value) (l0 : List Value) (c : ℕ) (b : List Activation) (lo : List Rec) (p0 : ℕ) (y0 : Value) (vs : List Value) (de : List Rec) (re pa : Bool) (w : World) (ps : List ℕ)
-      → (form m).has_calls ≡ true → slice_get l0 F ≡ Some value.Fiber → ((form m).method.is_static ≡ false → slice_get l0 0 ≡ Some y) → IsReference y → slots_in (method_at W m) ≤ length l0
+      → (form m).has_calls ≡ true → slice_get l0 F ≡ Some value.Fiber → ((form m).method.is_static ≡ false → slice_get l0 0 ≡ Some y) → IsReference y → slots_in (method_at W m) ≤ length l0 → IsThere w.heap y
       → Started y l0 c b (place_while re p0) (Fiber_at lo (Saved p0 y0 vs) de re pa) w ps
-  starts y l0 c b lo p0 y0 vs de re pa w ps calls e first is room =
+  starts y l0 c b lo p0 y0 vs de re pa w ps calls e first is room self_there =
       let h0 = subst (λ (a : Bool). Starts set.program W (code set W marks) (form m) a) calls (facts m).starts in
       let h = h0.1 in
       let room2 = (facts m).room calls in
+      let high = (facts m).higher calls in
       let f = Fiber_at lo (Saved p0 y0 vs) de re pa in
       let old = get_within l0 L (by_room (form m).method.is_static room2) in
       let l1 = slice_set l0 L value.Fiber in
       let rest = load_fiber x ∷ calls_member x 0 ∷ switch_item x ∷ h0.0 in
-      let r1 = goes (keep_self x rest) c 0 h.0 (instr.Aload F) false l0 [] l0 (value.Fiber ∷ []) l1 [] b f f w ps h.1 refl (add.aload W (own_of W m) h.0 l0 [] w.heap F value.Fiber e add.fiber_is_reference)
-      (goes (keep_self x rest) (suc c) h.0 h.2.0 (instr.Astore L) false l0 (value.Fiber ∷ []) l1 [] l1 [] b f f w ps h.2.1 refl (add.astore W (own_of W m) h.2.0 l0 [] w.heap L value.Fiber old.0 old.1 add.fiber_is_reference)
+      let r1 = goes (keep_self x rest) c 0 h.0 (instr.Aload F) false l0 [] l0 (value.Fiber ∷ []) l1 [] b f f w ps h.1 refl (add.aload W (own_of W m) h.0 l0 [] w.heap F value.Fiber e add.fiber_is_reference) (omega (arith, high)) tt
+      (goes (keep_self x rest) (suc c) h.0 h.2.0 (instr.Astore L) false l0 (value.Fiber ∷ []) l1 [] l1 [] b f f w ps h.2.1 refl (add.astore W (own_of W m) h.2.0 l0 [] w.heap L value.Fiber old.0 old.1 add.fiber_is_reference) (omega arith) (tt, tt)
       (here (keep_self x rest) (suc (suc c)) h.2.0 l1 [] b f w ps h.2.2)) in
       let le = length-set l0 L value.Fiber in
       let r2 = keeps_self y l0 l1 rest r1.count r1.place b f w ps (set_same l0 L value.Fiber (by_room (form m).method.is_static room2)) (λ k u. set_other l0 L k value.Fiber (λ v. omega (arith, u, v))) le
-      (λ z. set_other l0 L 0 value.Fiber (λ v. not_zero v) ∙ first z) is (by_both (form m).method.is_static room2 le) r1.has in
+      (λ z. set_other l0 L 0 value.Fiber (λ v. not_zero v) ∙ first z) is (by_both (form m).method.is_static room2 le) r1.has (omega (arith, high)) self_there in
       let l2 = r2.0 in
       let t2 = r2.2 in
       let g = t2.has in
-      let t3 = stretch.fiber_goes set W marks most Q runs members form facts m (switch_item x ∷ h0.0) t2.count t2.place g.0 l2 [] l2 (value.Int (pos (place_while re p0)) ∷ []) b f f w ps r2.1.fiber g.1
+      let t3 = stretch.fiber_goes set W marks most Q runs members form facts m (switch_item x ∷ h0.0) t2.count t2.place g.0 l2 [] l2 (value.Int (pos (place_while re p0)) ∷ []) b f f w ps r2.1.fiber g.1 (omega (arith, high)) tt
       (stretch.member_goes set W marks most Q runs members form facts m (switch_item x ∷ h0.0) (suc t2.count) g.0 g.2.0 (instr.Invokevirtual (member set.program 0)) (member set.program 0) (value.Fiber ∷ []) Pc l2 (value.Fiber ∷ []) [] l2 (value.Int (pos (place_while re p0)) ∷ []) b f f f (Some (value.Int (pos (place_while re p0)))) w ps g.2.1
-      (members.alone 0 Pc refl refl (own_of W m) g.2.0 l2 [] w.heap) (members.named 0 Pc refl) refl
+      (members.alone 0 Pc refl refl (own_of W m) g.2.0 l2 [] w.heap) (members.named 0 Pc refl) refl (omega (arith, high)) (tt, tt)
       (here (switch_item x ∷ h0.0) (suc (suc t2.count)) g.2.0 l2 (value.Int (pos (place_while re p0)) ∷ []) b f w ps g.2.2)) in
       let u = t3.has in
       let sw = instr.Tableswitch ((form m).at 0) (pos 1) (resume_places x 1 (form m).method.code) in
@@ -220,7 +224,8 @@ module _ (set : Setting) (W : Program) (marks : List (List Bool)) (most : ℕ) (
         few = omega (arith, a1, a2, a3, a4);
         way = path.joins set W marks most Q runs r1.way (path.joins set W marks most Q runs t2.way (path.joins set W marks most Q runs t3.way
             (path.one set W marks most Q runs t3.count m t3.place l2 (value.Int (pos (place_while re p0)) ∷ []) b f w ps sw u.0 false (Goes (goes_by (place_while re p0)) l2 [] w.heap) u.1 refl
-            (add.table W (own_of W m) u.0 l2 [] w.heap ((form m).at 0) (resume_places x 1 (form m).method.code) (place_while re p0)))));
+            (add.table W (own_of W m) u.0 l2 [] w.heap ((form m).at 0) (resume_places x 1 (form m).method.code) (place_while re p0))
+            (path.goes_room set.program W m b w.heap (goes_by (place_while re p0)) l2 [] w.heap (omega arith)) (tt, tt) (λ on. (on, refl, refl)))));
       }
     where
       by_room : (a : Bool) → L + (if a then 1 else 2) ≤ slots_in (method_at W m) → L < length l0

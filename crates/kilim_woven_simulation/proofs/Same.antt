@@ -1,5 +1,5 @@
 -- The theorem: ends alike, rests, and marks that come soon.
-use Rattle.std.proofs.Common.{◌≡◌, ◌⊎◌, inl, inr, ℕ, zero, suc, ◌+◌, ◌*◌, ◌≤◌, Bool, true, false, List, [], ◌∷◌, length, Option, Some, None, refl, sym, ap, subst, ◌∙◌, arith}
+use Rattle.std.proofs.Common.{◌≡◌, ◌≢◌, ◌⊎◌, inl, inr, ℕ, zero, suc, ◌+◌, ◌*◌, ◌≤◌, Bool, true, false, List, [], ◌∷◌, length, Option, Some, None, refl, sym, ap, subst, ◌∙◌, arith}
 use Rattle.std.specs.Prelude.{nat_le, nat_lt, if◌then◌else◌}
 use Rattle.std.proofs.lemmas.Bool.{false≢true}
 use Rattle.kilim_program.specs.declared.cause.EndCause.{EndCause}
@@ -29,8 +29,12 @@ use Rattle.std.proofs.lemmas.Bool.{le-leb}
 use Rattle.std.specs.Prelude.{◌↔◌}
 use Rattle.kilim_woven_runs.specs.Thread.{steps, own_of}
 use Rattle.kilim_woven_runs.specs.Fibers.{wsteps}
-use Rattle.kilim_woven_runs.specs.Runs.{IsMark, Soon}
+use Rattle.kilim_woven_runs.specs.Runs.{ComesToRest, IsMark, Soon}
 use Rattle.kilim_woven_runs.specs.Serves.{Serves}
+use Rattle.kilim_woven_simulation.proofs.Still.{StepIsKnown, comes_to_rest}
+use Rattle.kilim_woven_simulation.proofs.Room.{StackIsThere, is_fine}
+use Rattle.kilim_fits.specs.Fits.{AreThere}
+use Rattle.kilim_woven_runs.specs.Rooms.{IsFineState}
 use Rattle.kilim_woven_simulation.proofs.Forward.{calm, Match, Goes_on, Overs}
 use Rattle.kilim_woven_simulation.proofs.Whole as whole
 
@@ -164,6 +168,24 @@ module _ (set : Setting) (W : Program) (marks : List (List Bool)) where
     each_mark (mark q here n r) few m zero = inl (0, omega arith, n)
     each_mark (mark q here n r) few m (suc j) = each_mark r few m j
 
+-- ---- nothing is lost
+
+pub wsteps_last : (set : Setting) (W : Program) (marks : List (List Bool)) (n : ℕ) (x : Woven_state) → wsteps set W marks n (wstep set W marks x) ≡ wstep set W marks (wsteps set W marks n x)
+wsteps_last set W marks zero x = refl
+wsteps_last set W marks (suc n) x = wsteps_last set W marks n (wstep set W marks x)
+
+abbrev is_running : Thread → Bool
+is_running (Run m p l s x b w) = true
+is_running (Stop o) = false
+
+pub run_not_lost : (t : Both) → unwoven t ≢ Stop Lost
+run_not_lost (Fw m p s l wl x ov links old was w ps) e = false≢true (sym (ap is_running e))
+
+module _ (set : Setting) (W : Program) (marks : List (List Bool)) (form : Forms set W marks) (Typed : Thread → Type 0) (known : Known set W marks form Typed) where
+  pub none_lost : (n : ℕ) (t : Thread) → Typed t → t ≢ Stop Lost → steps set n t ≢ Stop Lost
+  none_lost zero t typed ok = ok
+  none_lost (suc n) t typed ok = none_lost n (step set t) (known.keeps t typed) (known.unstuck t typed)
+
 -- ---- the theorem
 
 module _ (set : Setting) (W : Program) (marks : List (List Bool)) (most : ℕ)
@@ -171,10 +193,10 @@ module _ (set : Setting) (W : Program) (marks : List (List Bool)) (most : ℕ)
     (enough : calm + 8 + 512 * longest ≤ most) (Typed : Thread → Type 0) (known : Known set W marks form Typed) where
   -- the state stands for the thread after some steps, if it is at rest
   abbrev At_some : Thread → Woven_state → Type 0
-  At_some t z = (j : ℕ) × StandsFor set W marks form (steps set j t) z
+  At_some t z = ((j : ℕ) × StandsFor set W marks form (steps set j t) z) × StepIsKnown set W marks z × StackIsThere set W marks z
 
-  runs_of : (t : Thread) (m : MethodId) (p : ℕ) (l s : List Value) (b : List Activation) (f : Fib) (w : World) (ps : List ℕ) → At_some t (WRun m p l s b f w ps)
-  runs_of t m p l s b f w ps = (0, tt)
+  runs_of : (t : Thread) (m : MethodId) (p : ℕ) (l s : List Value) (b : List Activation) (f : Fib) (w : World) (ps : List ℕ) → StepIsKnown set W marks (WRun m p l s b f w ps) → AreThere w.heap s → At_some t (WRun m p l s b f w ps)
+  runs_of t m p l s b f w ps r th = ((0, tt), r, th)
 
   abbrev is_run : Thread → Bool
   is_run (Run m p l s x b w) = true
@@ -197,7 +219,7 @@ module _ (set : Setting) (W : Program) (marks : List (List Bool)) (most : ℕ)
   ended : (t : Both) → Fine set W marks form t → Typed (unwoven t) → Ended_run t
   ended (Fw m p s l wl x ov links old was w ps) fine typed =
       let r = run_ends set set.limits.steps m p l s x (u_stack ov links) w (omega arith) in
-      by r.0 r.1 r.2 (whole.follows set W marks most (At_some (Run m p l s x (u_stack ov links) w)) (runs_of (Run m p l s x (u_stack ov links) w)) members form facts rows enough Typed known r.0 (Fw m p s l wl x ov links old was w ps) 0 (omega arith) fine typed (λ j z h. (j, h)))
+      by r.0 r.1 r.2 (whole.follows set W marks most (At_some (Run m p l s x (u_stack ov links) w)) (runs_of (Run m p l s x (u_stack ov links) w)) members form facts rows enough Typed known r.0 (Fw m p s l wl x ov links old was w ps) 0 (omega arith) fine typed (λ j g v rest h. ((j, h), (tt, tt), tt)))
     where
       by : (n : ℕ) (o : Over) → steps set n (Run m p l s x (u_stack ov links) w) ≡ Stop o
           → Match set W marks most (At_some (Run m p l s x (u_stack ov links) w)) (runs_of (Run m p l s x (u_stack ov links) w)) members form facts rows enough (steps set n (Run m p l s x (u_stack ov links) w)) 0 (woven set W marks form (Fw m p s l wl x ov links old was w ps))
@@ -206,7 +228,7 @@ module _ (set : Setting) (W : Program) (marks : List (List Bool)) (most : ℕ)
       by n o e (Goes_on (Fw m2 p2 s2 l2 wl2 x2 ov2 links2 old2 was2 w2 ps2) e2 d few way fine2) = absurd (false≢true (ap is_run (sym e ∙ e2)))
 
   pub serves : Serves set W marks form most Typed
-  serves = record { ends = ends_alike; rests = rests_stand; soon = marks_soon }
+  serves = record { ends = ends_alike; rests = rests_stand; soon = marks_soon; pausing = all_rest; fine = all_fine }
     where
       ends_alike : (t : Both) → Fine set W marks form t → Typed (unwoven t) → (o : Over) → ((n : ℕ) × (steps set n (unwoven t) ≡ Stop o)) ↔ ((j : ℕ) × (wsteps set W marks j (woven set W marks form t) ≡ WStop o))
       ends_alike t fine typed o =
@@ -222,7 +244,7 @@ module _ (set : Setting) (W : Program) (marks : List (List Bool)) (most : ℕ)
           by r.over (at_each set W marks most (At_some (unwoven t)) r.way j)
         where
           by : (o : Over) → At_some (unwoven t) (wsteps set W marks j (woven set W marks form t)) ⊎ ((k : ℕ) × (wsteps set W marks j (woven set W marks form t) ≡ wsteps set W marks k (WStop o))) → (n : ℕ) × StandsFor set W marks form (steps set n (unwoven t)) (Resting f w ps)
-          by o (inl q) = subst (λ (z : Woven_state). At_some (unwoven t) z) e q
+          by o (inl q) = (subst (λ (z : Woven_state). At_some (unwoven t) z) e q).0
           by o (inr k) = absurd (false≢true (ap is_stop (sym e ∙ k.1 ∙ wstays set W marks k.0 o)))
 
       marks_soon : (t : Both) → Fine set W marks form t → Typed (unwoven t) → (j : ℕ) → Soon set W marks most (wsteps set W marks j (woven set W marks form t))
@@ -233,6 +255,26 @@ module _ (set : Setting) (W : Program) (marks : List (List Bool)) (most : ℕ)
           by : (o : Over) → Soon set W marks most (wsteps set W marks j (woven set W marks form t)) ⊎ ((k : ℕ) × (wsteps set W marks j (woven set W marks form t) ≡ wsteps set W marks k (WStop o))) → Soon set W marks most (wsteps set W marks j (woven set W marks form t))
           by o (inl s) = s
           by o (inr k) = (0, omega arith, subst (λ (z : Woven_state). IsMark set W marks z) (sym (k.1 ∙ wstays set W marks k.0 o)) (inr refl))
+
+      all_rooms : (t : Both) → Fine set W marks form t → Typed (unwoven t) → (j : ℕ) → StepIsKnown set W marks (wsteps set W marks j (woven set W marks form t)) × StackIsThere set W marks (wsteps set W marks j (woven set W marks form t))
+      all_rooms t fine typed j =
+          let r = ended t fine typed in
+          by r.over (at_each set W marks most (At_some (unwoven t)) r.way j)
+        where
+          by : (o : Over) → At_some (unwoven t) (wsteps set W marks j (woven set W marks form t)) ⊎ ((k : ℕ) × (wsteps set W marks j (woven set W marks form t) ≡ wsteps set W marks k (WStop o))) → StepIsKnown set W marks (wsteps set W marks j (woven set W marks form t)) × StackIsThere set W marks (wsteps set W marks j (woven set W marks form t))
+          by o (inl q) = (q.1, q.2)
+          by o (inr k) = subst (λ (z : Woven_state). StepIsKnown set W marks z × StackIsThere set W marks z) (sym (k.1 ∙ wstays set W marks k.0 o)) ((tt, tt), tt)
+
+      never_lost : (t : Both) → Fine set W marks form t → Typed (unwoven t) → (j : ℕ) → wsteps set W marks j (woven set W marks form t) ≢ WStop Lost
+      never_lost t fine typed j e = let h = (ends_alike t fine typed Lost).1 (j, e) in none_lost set W marks form Typed known h.0 (unwoven t) typed (run_not_lost t) h.1
+
+      all_rest : (t : Both) → Fine set W marks form t → Typed (unwoven t) → (j : ℕ) → ComesToRest set W marks most (wsteps set W marks j (woven set W marks form t))
+      all_rest t fine typed = comes_to_rest set W marks most (woven set W marks form t) (λ j. (all_rooms t fine typed j).0.1) (never_lost t fine typed) (marks_soon t fine typed)
+
+      all_fine : (t : Both) → Fine set W marks form t → Typed (unwoven t) → (j : ℕ) → IsFineState set.program W (wsteps set W marks j (woven set W marks form t))
+      all_fine t fine typed j =
+          is_fine set W marks (wsteps set W marks j (woven set W marks form t)) (all_rooms t fine typed j).0.0 (all_rooms t fine typed j).1
+          (λ e. never_lost t fine typed (suc j) (wsteps_last set W marks j (woven set W marks form t) ∙ e))
 
 pub bound_is_enough : calm + 8 + 512 * longest ≤ most_uncounted
 unfolding most_uncounted

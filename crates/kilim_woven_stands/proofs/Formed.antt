@@ -37,6 +37,7 @@ use Rattle.kilim_woven_runs.specs.Fibers.{marked, marks_of, wcode_in}
 use Rattle.kilim_woven_runs.specs.Form.{Facts, Form, longest, sets}
 use Rattle.kilim_woven_runs.specs.Links.{code}
 use Rattle.kilim_woven_runs.specs.Thread.{code_in, fetch, no_method}
+use Rattle.kilim_jvm_interp.specs.Step.{limit_in, stack_limit}
 use Rattle.kilim_woven_stands.specs.Law.{IsFormOf}
 use Rattle.kilim_woven_stands.proofs.Laid.{EndsPath, Laid, Wide, number_at}
 use Rattle.kilim_woven_stands.proofs.LiveFacts as live
@@ -250,6 +251,8 @@ module _ (set : Setting) (W : Program) (counted : List (List Bool)) (keeps : Kee
       arguments = λ k h. absurd (nothing_top k h);
       room = λ h. absurd (false≢true h);
       same_room = subst (λ (o : Option Method). slots_in o ≤ slots_in (method_at W id)) (sym none) (omega arith);
+      higher = λ h. absurd (false≢true h);
+      as_high = subst (λ (o : Option Method). limit_in o ≤ stack_limit W id) (sym none) (omega arith);
       within = λ q nx i h. absurd (no_code q (i, nx, false) h);
       grows = λ q nx i c h. absurd (no_code q (i, nx, c) h);
     },
@@ -272,7 +275,7 @@ module _ (set : Setting) (W : Program) (counted : List (List Bool)) (keeps : Kee
   -- ---- a method without pausable calls: its code is as it was, and all of it counts
 
   module _ (id : MethodId) (m w : Method) (bs : List Bool) (at : method_at P id ≡ Some m) (there : method_at W id ≡ Some w) (marked_there : slice_get counted id.0 ≡ Some bs)
-      (same_code : w.code ≡ m.code) (same_end : w.code_length ≡ m.code_length) (all : bs ≡ all_counted m) (locals : m.max_locals ≤ w.max_locals) (none : CallsNone P m.code) where
+      (same_code : w.code ≡ m.code) (same_end : w.code_length ≡ m.code_length) (all : bs ≡ all_counted m) (locals : m.max_locals ≤ w.max_locals) (high : m.max_stack ≤ w.max_stack) (none : CallsNone P m.code) where
     code_was : (q : ℕ) → C id q ≡ marked m.code (map (λ e. true) m.code) m.code_length q
     code_was q =
         code_is id w bs there marked_there q ∙ ap (λ (es : List (ℕ × Instr)). marked es bs w.code_length q) same_code ∙ ap (λ (n : ℕ). marked m.code bs n q) same_end
@@ -323,6 +326,8 @@ module _ (set : Setting) (W : Program) (counted : List (List Bool)) (keeps : Kee
         arguments = first;
         room = λ h. absurd (false≢true h);
         same_room = subst (λ (o : Option Method). slots_in o ≤ slots_in (method_at W id)) (sym at) (subst (λ (o : Option Method). m.max_locals ≤ slots_in o) (sym there) locals);
+        higher = λ h. absurd (false≢true h);
+        as_high = subst (λ (o : Option Method). limit_in o ≤ stack_limit W id) (sym at) (subst (λ (o : Option Method). m.max_stack ≤ limit_in o) (sym there) high);
         within = λ q nx i h. absurd (false≢true (goes_on q nx i false h).0);
         grows = λ q nx i c h. (goes_on q nx i c h).1;
       },
@@ -388,6 +393,9 @@ module _ (set : Setting) (W : Program) (counted : List (List Bool)) (keeps : Kee
     locals_now : w.max_locals ≡ fiber_slot m + (if m.is_static then 1 else 2)
     locals_now = ap (λ (z : Method). z.max_locals) by.method ∙ ap (λ (n : ℕ). fiber_slot m + n) (by_static m.is_static (fiber P) (class_vtype m.owner))
 
+    stack_now : w.max_stack ≡ m.max_stack + 4
+    stack_now = ap (λ (z : Method). z.max_stack) by.method
+
     first_entry : (k : ℕ) → live.shown P keeps m (typing_of P m) typed_well lv is_live 0 k ≡ true → k < argument_slots m
     first_entry k h = go m.code refl coded
       where
@@ -430,6 +438,8 @@ module _ (set : Setting) (W : Program) (counted : List (List Bool)) (keeps : Kee
         room = λ h. let e = locals_now in subst (λ (o : Option Method). fiber_slot m + (if m.is_static then 1 else 2) ≤ slots_in o) (sym there) (omega (arith, e));
         same_room = subst (λ (o : Option Method). slots_in o ≤ slots_in (method_at W id)) (sym at)
             (subst (λ (o : Option Method). m.max_locals ≤ slots_in o) (sym there) (let e = locals_now in let l = (is_larger m.max_locals (suc (argument_slots m))).0 in omega (arith, e, l)));
+        higher = λ h. subst (λ (o : Option Method). limit_in o + 4 ≤ stack_limit W id) (sym at) (subst (λ (o : Option Method). m.max_stack + 4 ≤ limit_in o) (sym there) (let e = stack_now in omega (arith, e)));
+        as_high = subst (λ (o : Option Method). limit_in o ≤ stack_limit W id) (sym at) (subst (λ (o : Option Method). m.max_stack ≤ limit_in o) (sym there) (let e = stack_now in omega (arith, e)));
         within = λ q nx i h. let a = (behind_it q nx i false h).1 in let b = few in omega (arith, a, b);
         grows = λ q nx i c h. (behind_it q nx i c h).0;
       },
@@ -457,9 +467,9 @@ module _ (set : Setting) (W : Program) (counted : List (List Bool)) (keeps : Kee
 
           cases : (z c : Bool) → m.pausable ≡ z → has_calls P m ≡ c → woven_as z c P m f.woven f.counted → Formed id
           cases false c is cs k =
-              unwoven id m f.woven f.counted e f.there f.marked_there (ap (λ (w : Method). w.code) k.0) (ap (λ (w : Method). w.code_length) k.0) k.1 (let l = ap (λ (w : Method). w.max_locals) k.0 in omega (arith, l)) (pauses.plain id m e is)
+              unwoven id m f.woven f.counted e f.there f.marked_there (ap (λ (w : Method). w.code) k.0) (ap (λ (w : Method). w.code_length) k.0) k.1 (let l = ap (λ (w : Method). w.max_locals) k.0 in omega (arith, l)) (let s = ap (λ (w : Method). w.max_stack) k.0 in omega (arith, s)) (pauses.plain id m e is)
           cases true false is cs k =
               unwoven id m f.woven f.counted e f.there f.marked_there (ap (λ (w : Method). w.code) k.0) (ap (λ (w : Method). w.code_length) k.0) k.1
               (let l = ap (λ (w : Method). w.max_locals) k.0 in let z = wider (has_code m) m.max_locals (larger m.max_locals (suc (argument_slots m))) (is_larger m.max_locals (suc (argument_slots m))).0 in omega (arith, l, z))
-              (none_called P m.code cs)
+              (let s = ap (λ (w : Method). w.max_stack) k.0 in omega (arith, s)) (none_called P m.code cs)
           cases true true is cs k = rewoven id m f.woven f.counted e f.there f.marked_there is cs k.0 k.1 k.2 k.3 k.4

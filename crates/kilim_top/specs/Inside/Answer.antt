@@ -1,5 +1,5 @@
 -- What is answered for an accepted program, and for the bytes of files.
-use Rattle.std.specs.Prelude.{◌≡◌, ℕ, true, List, Some, ◌⊎◌}
+use Rattle.std.specs.Prelude.{◌≡◌, ℕ, true, List, [], Some, ◌⊎◌}
 use Rattle.kilim_classes.specs.declared.names.ClassId.{ClassId}
 use Rattle.kilim_classes.specs.Names.{class_named}
 use Rattle.kilim_classes.specs.Program.{Program}
@@ -13,6 +13,7 @@ use Rattle.kilim_stages.specs.declared.refusal.Refusal.TheVariants as refusal
 use Rattle.kilim_thread_model.specs.State.{Setting}
 use Rattle.kilim_whole_runs.specs.Runs.{IsJournalOf, IsServed, setting_of}
 use Rattle.kilim_words.specs.Words.{Request}
+use Rattle.kilim_written_files.specs.OutputFile.{OutputFile}
 use Rattle.kilim_top.specs.declared.answer.Ready.{Ready}
 use Rattle.kilim_top.specs.declared.answer.Ready.TheVariants as ready
 use Rattle.kilim_top.specs.Report.{utf16_of, main_line}
@@ -31,37 +32,41 @@ pub record IsNoMain (program : Program) (main text : List ℕ) : Type 0 where
 
 -- ---- replies
 
--- the status 0 with a text of one kind, or the status 1 with one of the other kind
-abbrev pub IsReply : (List ℕ → Type 0) → (List ℕ → Type 0) → ℕ → List ℕ → Type 0
-IsReply done report status text = ((status ≡ 0) × done text) ⊎ ((status ≡ 1) × report text)
+-- The status 0 with files and a text of one kind, or the status 1 without files and with a text of the other kind.
+abbrev pub IsReply : (List OutputFile → List ℕ → Type 0) → (List ℕ → Type 0) → ℕ → List OutputFile → List ℕ → Type 0
+IsReply done report status made text = ((status ≡ 0) × done made text) ⊎ ((status ≡ 1) × ((made ≡ []) × report text))
 
 -- of the demo of a number
-abbrev pub IsDemoReply : ℕ → ℕ → List ℕ → Type 0
-IsDemoReply number status text = IsReply (IsDemoLine number) (IsDemoReport number) status text
+abbrev pub IsDemoReply : ℕ → ℕ → List OutputFile → List ℕ → Type 0
+IsDemoReply number status made text = IsReply (λ files line. (files ≡ []) × IsDemoLine number line) (IsDemoReport number) status made text
 
 -- where the stages refuse: their report
-abbrev pub IsRefusedBy : Refusal → ℕ → List ℕ → Type 0
-IsRefusedBy refusal.NoMemory status text = ⊥
-IsRefusedBy (refusal.Report report) status text = (status ≡ 1) × (text ≡ report.items)
+abbrev pub IsRefusedBy : Refusal → ℕ → List OutputFile → List ℕ → Type 0
+IsRefusedBy refusal.NoMemory status made text = ⊥
+IsRefusedBy (refusal.Report report) status made text = (status ≡ 1) × ((made ≡ []) × (text ≡ report.items))
 
 -- of the bytes of the files that the words name
-abbrev pub IsReplyFor : Request → List (List ℕ) → ℕ → List ℕ → Type 0
-IsReplyFor work files status text = IsReply (IsDone work files) (IsReport work files) status text
+abbrev pub IsReplyFor : Request → List (List ℕ) → ℕ → List OutputFile → List ℕ → Type 0
+IsReplyFor work files status made text = IsReply (IsDone work files) (IsReport work files) status made text
+
+-- of a run that was done
+abbrev pub IsRunReply : Setting → ℕ → List OutputFile → List ℕ → Type 0
+IsRunReply set status made text = (status ≡ 0) × ((made ≡ []) × IsTextOf set text)
 
 -- ---- what is to be done
 
 -- a program is to be run, and with the text of its journal the work is done
 pub record IsToRun (work : Request) (files : List (List ℕ)) (set : Setting) : Type 0 where
   pub served : IsServed set
-  pub done : (text : List ℕ) → IsTextOf set text → IsDone work files text
+  pub done : (text : List ℕ) → IsTextOf set text → IsDone work files [] text
 
 -- the demo of a number is to be run, and with its line the work is done
 pub record IsToDemo (work : Request) (files : List (List ℕ)) (number : ℕ) : Type 0 where
-  pub done : (text : List ℕ) → IsDemoLine number text → IsDone work files text
+  pub done : (text : List ℕ) → IsDemoLine number text → IsDone work files [] text
   pub report : (text : List ℕ) → IsDemoReport number text → IsReport work files text
 
 abbrev pub IsReadyFor : Request → List (List ℕ) → Ready → Type 0
-IsReadyFor work files (ready.Reply reply) = IsReplyFor work files reply.status reply.text.items
+IsReadyFor work files (ready.Reply reply) = IsReplyFor work files reply.status reply.files.items reply.text.items
 IsReadyFor work files (ready.Run program class limits) = IsToRun work files (setting_of program class limits)
 IsReadyFor work files (ready.Demo number) = IsToDemo work files number
 
@@ -72,6 +77,6 @@ pub record IsMainOf (program : Program) (main : List ℕ) (limits : Limits) (set
   pub fit : is_fit_main program set.main ≡ true
 
 abbrev pub IsReadyOf : Program → List ℕ → Limits → Ready → Type 0
-IsReadyOf program main limits (ready.Reply reply) = (reply.status ≡ 1) × IsNoMain program main reply.text.items
+IsReadyOf program main limits (ready.Reply reply) = (reply.status ≡ 1) × ((reply.files.items ≡ []) × IsNoMain program main reply.text.items)
 IsReadyOf program main limits (ready.Run p class l) = IsMainOf program main limits (setting_of p class l)
 IsReadyOf program main limits (ready.Demo number) = ⊥

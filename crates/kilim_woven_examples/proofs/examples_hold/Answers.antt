@@ -11,4 +11,8 @@ unfolding jump_targets ends_path fits_type does meets row special_fits typing_of
 returns c = record {
   pauses = refl;
   goes_on = refl;
+  spent = (refl, refl);
+  done = (refl, refl);
+  done_at_last = refl;
+  fiber_at_last = refl;
 }

@@ -6,6 +6,6 @@ use Rattle.kilim_top.proofs.answer.check_reply.Goals as goal
 
 pub returns-in_ok-text-in-Ok : goal.returns-in_ok-text-in-Ok
 returns-in_ok-text-in-Ok c =
-    checked (map string_bytes c.args.names.now) c.args.files.now c.program_of-program.result (length c.args.files.now) c.coded_methods-methods.result c.in_ok-text-in-Ok.text.items (rw c.program_of-program.ensures.program c.in-Ok.ensures.accepted)
+    checked (map string_bytes c.args.names.now) c.args.files.now c.program_of-program.result (length c.args.files.now) c.coded_methods-methods.result c.new.result.items c.in_ok-text-in-Ok.text.items (rw c.program_of-program.ensures.program c.in-Ok.ensures.accepted)
     (are_isolated c.accepted_is_isolated.ensures c.args.files.now c.program_of-program.result c.requires.few c.program_of-program.ensures.keeps c.program_of-program.ensures.typed (rw c.program_of-program.ensures.program c.in-Ok.ensures.accepted))
-    refl c.coded_methods-methods.ensures c.in_ok-text-in-Ok.ensures
+    refl c.coded_methods-methods.ensures c.new.ensures.items c.in_ok-text-in-Ok.ensures

@@ -10,4 +10,4 @@ returns-then-not-are_well-clause-request c =
 pub returns-clause-request : goal.returns-clause-request
 returns-clause-request c =
     run_taken (map string_bytes c.args.options.now) (map string_bytes c.args.files.now) (map string_bytes c.args.behind.now) c.are_well.result _ c.are_well.ensures.well c.if-not-are_well.false
-    (c.run_with.ensures.request ∙ with_same (map string_bytes c.args.files.now) _ _ _ _ _ _ _ _ c.main_in-main.ensures c.number_or-workers.ensures.number c.number_or-steps.ensures.number c.args_in.ensures)
+    (c.run_with.ensures.request ∙ with_same (map string_bytes c.args.files.now) _ _ _ _ _ _ _ _ c.text_in-main.ensures c.number_or-workers.ensures.number c.number_or-steps.ensures.number c.args_in.ensures)

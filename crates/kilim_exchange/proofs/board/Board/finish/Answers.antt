@@ -7,7 +7,7 @@ use Rattle.kilim_exchange.proofs.board.Board.finish.Goals.{in-Some+in_ok-push-in
 
 pub loop-t-preserved : goal.loop-t-preserved
 loop-t-preserved g c =
-    let is = c.parked_at.ensures ∙ ap (λ ws. parked_box g.F.Fibers.task_of ws c.loop-t.t) (c.as_slice.ensures.value ∙ c.in_ok-waiters.ensures) in
+    let is = c.parked_at.ensures ∙ (c.in_ok-boxes.ensures.at c.loop-t.t (omega arith) ∙ ap (λ ws. parked_box g.F.Fibers.task_of ws c.loop-t.t) (c.as_slice.ensures.value ∙ c.in_ok-waiters.ensures)) in
     elim c.match-parked_at.branch [
       | in-Some+in_ok-push-in-Some w ↦ closes_some g.F.Fibers.task_of c.args.self.journal.items c.loop-t.journal.items _ c.args.self.parked.items c.loop-t.t c.parked_at.result w.in-Some.mailbox is w.in-Some.is c.loop-t.invariant (ap (λ v. v.items) w.journal-is ∙ w.in_ok-push-in-Some.ensures.items)
       | in-None w ↦ closes_none g.F.Fibers.task_of c.args.self.journal.items c.loop-t.journal.items _ c.args.self.parked.items c.loop-t.t c.parked_at.result is w.in-None.is c.loop-t.invariant (ap (λ v. v.items) w.journal-is)

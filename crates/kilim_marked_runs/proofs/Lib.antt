@@ -1,0 +1,4 @@
+mod Marks
+mod Reading
+mod Running
+mod Steps

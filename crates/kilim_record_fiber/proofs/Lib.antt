@@ -1,0 +1,4 @@
+pub mod Coming
+pub mod Beginning
+pub mod Resuming
+pub mod Answered

@@ -1,0 +1,4 @@
+pub mod Past
+pub mod Fiber
+pub mod Calls
+pub mod Clauses

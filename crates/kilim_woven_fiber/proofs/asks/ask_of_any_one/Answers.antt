@@ -1,0 +1,11 @@
+use Rattle.std.proofs.Common.{[], ◌∷◌, ap, sym}
+use Rattle.kilim_classes.specs.declared.value.Value.{Value}
+use Rattle.kilim_woven_kin.specs.Nexts.{native_next}
+use Rattle.kilim_woven_fiber.specs.Body.{behind_at}
+use Rattle.kilim_woven_fiber.specs.Natives.{meaning}
+use Rattle.kilim_woven_fiber.proofs.Asking.{come_by}
+use Rattle.kilim_woven_fiber.proofs.asks.ask_of_any_one.Goals as goal
+
+pub returns-in-Fiber-clause-comes : goal.returns-in-Fiber-clause-comes
+returns-in-Fiber-clause-comes c = λ set is-program is-limits.
+    come_by 0 c.ask_of_fiber.new.body c.ask_of_fiber.result _ _ (ap (λ (v : Value). native_next set (behind_at 0 c.args.body.now) (meaning c.args.native) (v ∷ [])) (sym c.in-Fiber.is)) (c.ask_of_fiber.ensures.comes set is-program)

@@ -1,0 +1,28 @@
+use Rattle.std.proofs.Common.{◌∷◌, [], Some, ap, sym, ◌∙◌}
+use Rattle.kilim_classes.specs.declared.value.Value.{Value}
+use Rattle.kilim_classes.specs.Program.{Program}
+use Rattle.kilim_program.specs.Natives as native
+use Rattle.kilim_program.specs.Shapes.{shape_of}
+use Rattle.kilim_program.specs.Trees.{OfTask}
+use Rattle.kilim_thread_model.specs.Kept.{given}
+use Rattle.kilim_woven_kin.specs.Nexts.{start_next}
+use Rattle.kilim_woven_fiber.specs.Body.{behind_at}
+use Rattle.kilim_woven_fiber.specs.Natives.{meaning}
+use Rattle.kilim_woven_fiber.specs.declared.natives.Native.{Native}
+use Rattle.kilim_woven_fiber.specs.declared.natives.Native.TheVariants as code
+use Rattle.kilim_woven_fiber.proofs.Asking.{come_by, native_same}
+use Rattle.kilim_woven_fiber.proofs.asks.ask_of_one.Goals as goal
+
+pub start-requires-clause-gives : goal.start-requires-clause-gives
+start-requires-clause-gives c =
+    c.requires.can.gives OfTask c.in-Start-Ref.root
+    (ap (λ (n : Native). given (Some (meaning n)) (c.args.value.now ∷ [])) c.in-Start-Ref.is-0
+    ∙ ap (λ (v : Value). given (Some native.Start) (v ∷ [])) c.in-Start-Ref.is-1)
+
+pub returns-in-Start-Ref-clause-comes : goal.returns-in-Start-Ref-clause-comes
+returns-in-Start-Ref-clause-comes c = λ set is-program is-limits.
+    let l = behind_at 0 c.args.body.now in
+    come_by 0 c.start.new.body c.start.result _ _
+    (ap (λ (p : Program). start_next l c.in-Start-Ref.root (shape_of p l.heap c.in-Start-Ref.root)) (sym is-program)
+    ∙ native_same set l c.args.native code.Start (c.args.value.now ∷ []) _ c.in-Start-Ref.is-0 (ap (λ (v : Value). v ∷ []) c.in-Start-Ref.is-1))
+    c.start.ensures.comes

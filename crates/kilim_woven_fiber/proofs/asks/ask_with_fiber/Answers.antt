@@ -1,0 +1,17 @@
+use Rattle.std.proofs.Common.{◌∷◌, []}
+use Rattle.kilim_classes.specs.declared.value.Value.{Value}
+use Rattle.kilim_classes.specs.declared.value.Value.TheVariants.{Fiber}
+use Rattle.kilim_woven_kin.specs.Nexts.{native_next}
+use Rattle.std.proofs.Common.{sym, subst}
+use Rattle.kilim_woven_fiber.specs.Body.{behind_at}
+use Rattle.kilim_woven_fiber.specs.Comes.{Comes}
+use Rattle.kilim_woven_fiber.specs.Natives.{meaning}
+use Rattle.kilim_woven_fiber.specs.declared.natives.Native.{Native}
+use Rattle.kilim_woven_fiber.specs.declared.natives.Native.TheVariants as code
+use Rattle.kilim_woven_fiber.proofs.asks.ask_with_fiber.Goals as goal
+
+pub returns-in-Get-Box-clause-comes : goal.returns-in-Get-Box-clause-comes
+returns-in-Get-Box-clause-comes c = λ set is-program is-limits.
+    subst (λ (n : Native). Comes 0 (native_next set (behind_at 0 c.args.body.now) (meaning n) (c.args.value.now ∷ Fiber ∷ [])) c.args.body.now c.takes.result) (sym c.in-Get-Box.is-0)
+    (subst (λ (v : Value). Comes 0 (native_next set (behind_at 0 c.args.body.now) (meaning code.Get) (v ∷ Fiber ∷ [])) c.args.body.now c.takes.result) (sym c.in-Get-Box.is-1)
+    (c.takes.ensures set is-limits))

@@ -1,0 +1,9 @@
+pub mod Natives
+pub mod Marks
+pub mod Body
+pub mod Comes
+pub mod Begins
+pub mod Steps
+pub mod Reach
+pub mod Leaps
+pub mod Answers

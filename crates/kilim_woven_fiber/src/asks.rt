@@ -1,0 +1,506 @@
+//! A built-in method that is called.
+
+ghost use Rattle.std.specs.Prelude.{◌≡◌, ◌<◌, ◌+◌, ◌^◌, ◌∷◌, [], true, length, Some, IfOk, OnOk};
+ghost use Rattle.kilim_classes.specs.declared.value.Value.TheVariants as a_value;
+ghost use Rattle.kilim_program.specs.Natives as a_native;
+ghost use Rattle.kilim_program.specs.Natives.{native_of};
+ghost use Rattle.kilim_program.specs.Shapes.{shape_of};
+ghost use Rattle.kilim_thread_model.specs.State.{Setting};
+ghost use Rattle.kilim_thread_model.specs.Lone.{narrowed, arg_at, printed};
+ghost use Rattle.kilim_woven_kin.specs.Nexts.{Goes, counted, with_result, arg_next, print_next, put_next, message_next, start_next, native_next, asks_next, yield_next, spent_or, paused_at, taken_at, Gets};
+ghost use Rattle.kilim_woven_runs.specs.Fibers.{is_rewinding};
+ghost use Rattle.kilim_woven_fiber.specs.Body.{standing_at, behind_at, RoomyIn, RoomIn, HasFrames};
+ghost use Rattle.kilim_woven_fiber.specs.Comes.{CanGive, IsGivenBy, CanAsk, Comes, HasRoomFor, IsNear};
+ghost use Rattle.kilim_woven_fiber.specs.Natives.{meaning};
+
+use crate::body::{Body, Came};
+use crate::gifts::{Gift, take_gift};
+use crate::members::{ask_member, pass_on, place, save};
+use crate::natives::{Member, Native, native_of};
+use crate::pass::{give, pass};
+use kilim_classes::{BoxName, Program, Value};
+use kilim_jvm_interp::NativeCall;
+use kilim_program::{EndCause, Limits, Shape, Token};
+use kilim_units::{NoMemory, Seq};
+use std::alloc::Global;
+
+/// It goes on behind a method without a result.
+pub fn go_on(program: &Program, body: &mut Body)
+    requires frames { HasFrames body.old.frames }
+    requires roomy { RoomyIn program.now body.old.frames }
+    requires counts { body.old.count + 1 < 2 ^ 64 }
+    ensures stands { standing_at 0 body.new ≡ counted (behind_at 0 body.old) }
+    ensures roomy { RoomyIn program.now body.new.frames }
+    ensures counted { body.new.count ≡ body.old.count + 1 }
+{
+    let Some(frames) = &mut body.frames else {
+        unreachable!()
+    };
+    pass(program, frames);
+    body.count += 1;
+}
+
+/// It goes on behind a method with a result.
+pub fn go_on_with(program: &Program, body: &mut Body, value: Value)
+    requires roomy { RoomyIn program.now body.old.frames }
+    requires room { RoomIn program.now body.old.frames }
+    requires counts { body.old.count + 1 < 2 ^ 64 }
+    ensures stands { standing_at 0 body.new ≡ with_result (Some value) (counted (behind_at 0 body.old)) }
+    ensures roomy { RoomyIn program.now body.new.frames }
+    ensures counted { body.new.count ≡ body.old.count + 1 }
+{
+    let Some(frames) = &mut body.frames else {
+        unreachable!()
+    };
+    give(program, frames, value);
+    body.count += 1;
+}
+
+// The low 32 bits as a signed number.
+fn narrowed(n: usize) -> i32
+    ensures { result ≡ narrowed n }
+{
+    let low = (n % 4_294_967_296) as u32;
+    low.cast_signed()
+}
+
+// `argCount`
+fn count_args(program: &Program, limits: &Limits, body: &mut Body) -> Came
+    requires roomy { RoomyIn program.now body.old.frames }
+    requires room { RoomIn program.now body.old.frames }
+    requires counts { body.old.count + 1 < 2 ^ 64 }
+    ensures comes { Comes 0 (Goes (with_result (Some (a_value.Int (narrowed (length limits.now.args)))) (counted (behind_at 0 body.old)))) body.new result }
+    ensures roomy { RoomyIn program.now body.new.frames }
+    ensures counted { IsNear body.old.count body.new.count }
+{
+    go_on_with(program, body, Value::Int(narrowed(limits.args.len())));
+    Came::On
+}
+
+// The number of an index among the arguments.
+fn arg_at(args: &Seq<i32>, index: &i32) -> Option<i32>
+    ensures { result ≡ arg_at args.now index.now }
+{
+    match usize::try_from(*index) {
+        Ok(at) => args.as_slice().get(at).copied(),
+        Err(_) => None,
+    }
+}
+
+// `arg`
+fn arg(program: &Program, limits: &Limits, index: &i32, body: &mut Body) -> Came
+    requires roomy { RoomyIn program.now body.old.frames }
+    requires room { RoomIn program.now body.old.frames }
+    requires counts { body.old.count + 1 < 2 ^ 64 }
+    ensures comes { Comes 0 (arg_next (behind_at 0 body.old) (arg_at limits.now.args index.now)) body.new result }
+    ensures roomy { RoomyIn program.now body.new.frames }
+    ensures counted { IsNear body.old.count body.new.count }
+{
+    match arg_at(&limits.args, index) {
+        Some(number) => {
+            go_on_with(program, body, Value::Int(number));
+            Came::On
+        }
+        None => Came::Ends(EndCause::Index),
+    }
+}
+
+// The token of a printed value; other values aren't printed in verified code.
+fn printed(value: &Value) -> Result<Option<Token>, NoMemory>
+    ensures { IfOk result (λ token. token ≡ printed value.now) }
+{
+    match value {
+        Value::Int(n) => Ok(Some(Token::Int(*n))),
+        Value::Long(n) => Ok(Some(Token::Long(*n))),
+        Value::Null => Ok(Some(Token::Null)),
+        Value::Text(units) => Ok(Some(Token::Text(units.clone()?))),
+        Value::Ref(_) | Value::Box(_) | Value::Fiber => Ok(None),
+    }
+}
+
+fn one_token(alloc: Global, token: Token) -> Result<Shape, NoMemory>
+    ensures { IfOk result (λ shape. shape ≡ token ∷ []) }
+{
+    let mut shape = Seq::new(alloc);
+    shape.push(token)?;
+    Ok(shape)
+}
+
+// `print`
+fn print(alloc: Global, program: &Program, value: &Value, body: &Body) -> Result<Came, NoMemory>
+    ensures { IfOk result (λ came. Comes 0 (print_next (behind_at 0 body.now) (printed value.now)) body.now came) }
+{
+    let _ = program;
+    let _ = body;
+    let Some(token) = printed(value)? else {
+        return Err(NoMemory);
+    };
+    let shape = one_token(alloc, token)?;
+    Ok(Came::Prints(shape))
+}
+
+// `put` of a message
+fn put_tree(
+    alloc: Global,
+    plain: &Program,
+    program: &Program,
+    mailbox: BoxName,
+    root: u32,
+    body: &mut Body,
+) -> Result<Came, NoMemory>
+    requires roomy { RoomyIn program.now body.old.frames }
+    requires gives { CanGive plain.now body.old.heap root }
+    ensures comes { IfOk result (λ came. Comes 0 (put_next (behind_at 0 body.old) mailbox root (shape_of plain.now body.old.heap root)) body.new came) }
+    ensures roomy { OnOk result (RoomyIn program.now body.new.frames) }
+    ensures counted { OnOk result (IsNear body.old.count body.new.count) }
+    ensures room { IfOk result (λ came. HasRoomFor program.now body.new came) }
+{
+    match take_gift(alloc, plain, root, &mut body.heap)? {
+        Gift::Tree(tree, shape) => Ok(Came::Puts(mailbox, tree, shape)),
+        Gift::TooLarge => Ok(Came::Ends(EndCause::Large)),
+    }
+}
+
+// `put`
+fn put(
+    alloc: Global,
+    plain: &Program,
+    program: &Program,
+    mailbox: BoxName,
+    message: &Value,
+    body: &mut Body,
+) -> Result<Came, NoMemory>
+    requires roomy { RoomyIn program.now body.old.frames }
+    requires gives { IsGivenBy plain.now body.old.heap message.now }
+    ensures comes { IfOk result (λ came. Comes 0 (message_next plain.now (behind_at 0 body.old) mailbox message.now) body.new came) }
+    ensures roomy { OnOk result (RoomyIn program.now body.new.frames) }
+    ensures counted { OnOk result (IsNear body.old.count body.new.count) }
+    ensures room { IfOk result (λ came. HasRoomFor program.now body.new came) }
+{
+    match message {
+        Value::Null => Ok(Came::Ends(EndCause::Null)),
+        Value::Ref(root) => put_tree(alloc, plain, program, mailbox, *root, body),
+        _ => Err(NoMemory),
+    }
+}
+
+// `start`
+fn start(
+    alloc: Global,
+    plain: &Program,
+    program: &Program,
+    root: u32,
+    body: &mut Body,
+) -> Result<Came, NoMemory>
+    requires roomy { RoomyIn program.now body.old.frames }
+    requires gives { CanGive plain.now body.old.heap root }
+    ensures comes { IfOk result (λ came. Comes 0 (start_next (behind_at 0 body.old) root (shape_of plain.now body.old.heap root)) body.new came) }
+    ensures roomy { OnOk result (RoomyIn program.now body.new.frames) }
+    ensures counted { OnOk result (IsNear body.old.count body.new.count) }
+    ensures room { IfOk result (λ came. HasRoomFor program.now body.new came) }
+{
+    match take_gift(alloc, plain, root, &mut body.heap)? {
+        Gift::Tree(tree, shape) => Ok(Came::Starts(tree, shape)),
+        Gift::TooLarge => Ok(Came::Ends(EndCause::Large)),
+    }
+}
+
+// `yield`: made again it returns; one that is made counts, and pauses.
+fn yield_now(alloc: Global, program: &Program, body: &mut Body) -> Came
+    requires frames { HasFrames body.old.frames }
+    requires roomy { RoomyIn program.now body.old.frames }
+    requires counts { body.old.count + 1 < 2 ^ 64 }
+    ensures comes { Comes 0 (yield_next (is_rewinding body.old.records) (behind_at 0 body.old)) body.new result }
+    ensures roomy { RoomyIn program.now body.new.frames }
+    ensures counted { IsNear body.old.count body.new.count }
+{
+    if body.records.is_rewinding() {
+        body.records.end_rewinding(alloc);
+        pass_on(program, body);
+    } else {
+        body.records.pause(alloc, Value::Null);
+        go_on(program, body);
+    }
+    Came::On
+}
+
+// A static method without parameters.
+fn ask_of_none(
+    plain: &Program,
+    program: &Program,
+    limits: &Limits,
+    native: Native,
+    body: &mut Body,
+) -> Result<Came, NoMemory>
+    requires frames { HasFrames body.old.frames }
+    requires roomy { RoomyIn program.now body.old.frames }
+    requires counts { body.old.count + 1 < 2 ^ 64 }
+    requires can { CanAsk plain.now program.now (Some (meaning native)) [] body.old }
+    ensures comes { (set : Setting) → set.program ≡ plain.now → set.limits ≡ limits.now → IfOk result (λ came. Comes 0 (native_next set (behind_at 0 body.old) (meaning native) []) body.new came) }
+    ensures roomy { OnOk result (RoomyIn program.now body.new.frames) }
+    ensures counted { OnOk result (IsNear body.old.count body.new.count) }
+    ensures room { IfOk result (λ came. HasRoomFor program.now body.new came) }
+{
+    match native {
+        Native::ArgCount => Ok(count_args(program, limits, body)),
+        _ => Err(NoMemory),
+    }
+}
+
+// A method that has the fiber alone.
+fn ask_of_fiber(
+    alloc: Global,
+    plain: &Program,
+    program: &Program,
+    native: Native,
+    body: &mut Body,
+) -> Result<Came, NoMemory>
+    requires frames { HasFrames body.old.frames }
+    requires roomy { RoomyIn program.now body.old.frames }
+    requires counts { body.old.count + 1 < 2 ^ 64 }
+    requires can { CanAsk plain.now program.now (Some (meaning native)) (a_value.Fiber ∷ []) body.old }
+    ensures comes { (set : Setting) → set.program ≡ plain.now → IfOk result (λ came. Comes 0 (native_next set (behind_at 0 body.old) (meaning native) (a_value.Fiber ∷ [])) body.new came) }
+    ensures roomy { OnOk result (RoomyIn program.now body.new.frames) }
+    ensures counted { OnOk result (IsNear body.old.count body.new.count) }
+    ensures room { IfOk result (λ came. HasRoomFor program.now body.new came) }
+{
+    match native {
+        Native::Yield => Ok(yield_now(alloc, program, body)),
+        Native::OfFiber(member) => ask_member(alloc, program, member, body),
+        _ => Err(NoMemory),
+    }
+}
+
+// A method of one argument, which may be its receiver.
+fn ask_of_one(
+    alloc: Global,
+    plain: &Program,
+    program: &Program,
+    limits: &Limits,
+    native: Native,
+    value: &Value,
+    body: &mut Body,
+) -> Result<Came, NoMemory>
+    requires frames { HasFrames body.old.frames }
+    requires roomy { RoomyIn program.now body.old.frames }
+    requires counts { body.old.count + 1 < 2 ^ 64 }
+    requires can { CanAsk plain.now program.now (Some (meaning native)) (value.now ∷ []) body.old }
+    ensures comes { (set : Setting) → set.program ≡ plain.now → set.limits ≡ limits.now → IfOk result (λ came. Comes 0 (native_next set (behind_at 0 body.old) (meaning native) (value.now ∷ [])) body.new came) }
+    ensures roomy { OnOk result (RoomyIn program.now body.new.frames) }
+    ensures counted { OnOk result (IsNear body.old.count body.new.count) }
+    ensures room { IfOk result (λ came. HasRoomFor program.now body.new came) }
+{
+    match (native, value) {
+        (Native::Start, Value::Ref(root)) => start(alloc, plain, program, *root, body),
+        (Native::Getnb, Value::Box(mailbox)) => Ok(Came::Probes(*mailbox)),
+        (Native::Print, value) => print(alloc, program, value, body),
+        (Native::Arg, Value::Int(index)) => Ok(arg(program, limits, index, body)),
+        _ => Err(NoMemory),
+    }
+}
+
+// A method of one argument with the fiber behind it.
+fn ask_with_fiber(
+    plain: &Program,
+    program: &Program,
+    limits: &Limits,
+    native: Native,
+    value: &Value,
+    body: &mut Body,
+) -> Result<Came, NoMemory>
+    requires frames { HasFrames body.old.frames }
+    requires roomy { RoomyIn program.now body.old.frames }
+    requires counts { body.old.count + 1 < 2 ^ 64 }
+    requires can { CanAsk plain.now program.now (Some (meaning native)) (value.now ∷ a_value.Fiber ∷ []) body.old }
+    ensures comes { (set : Setting) → set.program ≡ plain.now → set.limits ≡ limits.now → IfOk result (λ came. Comes 0 (native_next set (behind_at 0 body.old) (meaning native) (value.now ∷ a_value.Fiber ∷ [])) body.new came) }
+    ensures roomy { OnOk result (RoomyIn program.now body.new.frames) }
+    ensures counted { OnOk result (IsNear body.old.count body.new.count) }
+    ensures room { IfOk result (λ came. HasRoomFor program.now body.new came) }
+{
+    match (native, value) {
+        (Native::Execute, Value::Ref(_)) => {
+            go_on(program, body);
+            Ok(Came::On)
+        }
+        (Native::Get, Value::Box(mailbox)) => Ok(takes(program, limits, *mailbox, body)),
+        (Native::OfFiber(Member::Save), value) => save(program, value, body),
+        _ => Err(NoMemory),
+    }
+}
+
+// `get`: a task that has done its instructions takes nothing any more.
+fn takes(program: &Program, limits: &Limits, mailbox: BoxName, body: &Body) -> Came
+    ensures { (set : Setting) → set.limits ≡ limits.now → Comes 0 (spent_or set true body.now.count (Gets mailbox (paused_at mailbox (behind_at 0 body.now)) (taken_at (behind_at 0 body.now)))) body.now result }
+{
+    let _ = program;
+    if body.count >= limits.steps {
+        Came::Ends(EndCause::Spent)
+    } else {
+        Came::Takes(mailbox)
+    }
+}
+
+// A method of two arguments.
+fn ask_of_two(
+    alloc: Global,
+    plain: &Program,
+    program: &Program,
+    native: Native,
+    first: &Value,
+    second: &Value,
+    body: &mut Body,
+) -> Result<Came, NoMemory>
+    requires frames { HasFrames body.old.frames }
+    requires roomy { RoomyIn program.now body.old.frames }
+    requires counts { body.old.count + 1 < 2 ^ 64 }
+    requires can { CanAsk plain.now program.now (Some (meaning native)) (first.now ∷ second.now ∷ []) body.old }
+    ensures comes { (set : Setting) → set.program ≡ plain.now → IfOk result (λ came. Comes 0 (native_next set (behind_at 0 body.old) (meaning native) (first.now ∷ second.now ∷ [])) body.new came) }
+    ensures roomy { OnOk result (RoomyIn program.now body.new.frames) }
+    ensures counted { OnOk result (IsNear body.old.count body.new.count) }
+    ensures room { IfOk result (λ came. HasRoomFor program.now body.new came) }
+{
+    match (native, first) {
+        (Native::Put, Value::Box(mailbox)) => put(alloc, plain, program, *mailbox, second, body),
+        _ => Err(NoMemory),
+    }
+}
+
+// `place`
+fn ask_place(
+    plain: &Program,
+    program: &Program,
+    native: Native,
+    number: &Value,
+    receiver: &Value,
+    body: &mut Body,
+) -> Result<Came, NoMemory>
+    requires frames { HasFrames body.old.frames }
+    requires roomy { RoomyIn program.now body.old.frames }
+    requires counts { body.old.count + 1 < 2 ^ 64 }
+    requires can { CanAsk plain.now program.now (Some (meaning native)) (number.now ∷ receiver.now ∷ a_value.Fiber ∷ []) body.old }
+    ensures comes { (set : Setting) → set.program ≡ plain.now → IfOk result (λ came. Comes 0 (native_next set (behind_at 0 body.old) (meaning native) (number.now ∷ receiver.now ∷ a_value.Fiber ∷ [])) body.new came) }
+    ensures roomy { OnOk result (RoomyIn program.now body.new.frames) }
+    ensures counted { OnOk result (IsNear body.old.count body.new.count) }
+    ensures room { IfOk result (λ came. HasRoomFor program.now body.new came) }
+{
+    match (native, number) {
+        (Native::OfFiber(Member::Place), Value::Int(number)) => {
+            place(program, number, receiver, body)
+        }
+        _ => Err(NoMemory),
+    }
+}
+
+// A method of one argument, or of the fiber alone.
+fn ask_of_any_one(
+    alloc: Global,
+    plain: &Program,
+    program: &Program,
+    limits: &Limits,
+    native: Native,
+    value: &Value,
+    body: &mut Body,
+) -> Result<Came, NoMemory>
+    requires frames { HasFrames body.old.frames }
+    requires roomy { RoomyIn program.now body.old.frames }
+    requires counts { body.old.count + 1 < 2 ^ 64 }
+    requires can { CanAsk plain.now program.now (Some (meaning native)) (value.now ∷ []) body.old }
+    ensures comes { (set : Setting) → set.program ≡ plain.now → set.limits ≡ limits.now → IfOk result (λ came. Comes 0 (native_next set (behind_at 0 body.old) (meaning native) (value.now ∷ [])) body.new came) }
+    ensures roomy { OnOk result (RoomyIn program.now body.new.frames) }
+    ensures counted { OnOk result (IsNear body.old.count body.new.count) }
+    ensures room { IfOk result (λ came. HasRoomFor program.now body.new came) }
+{
+    match value {
+        Value::Fiber => ask_of_fiber(alloc, plain, program, native, body),
+        value => ask_of_one(alloc, plain, program, limits, native, value, body),
+    }
+}
+
+// A method of two arguments, the fiber the second one or not.
+fn ask_of_any_two(
+    alloc: Global,
+    plain: &Program,
+    program: &Program,
+    limits: &Limits,
+    native: Native,
+    first: &Value,
+    second: &Value,
+    body: &mut Body,
+) -> Result<Came, NoMemory>
+    requires frames { HasFrames body.old.frames }
+    requires roomy { RoomyIn program.now body.old.frames }
+    requires counts { body.old.count + 1 < 2 ^ 64 }
+    requires can { CanAsk plain.now program.now (Some (meaning native)) (first.now ∷ second.now ∷ []) body.old }
+    ensures comes { (set : Setting) → set.program ≡ plain.now → set.limits ≡ limits.now → IfOk result (λ came. Comes 0 (native_next set (behind_at 0 body.old) (meaning native) (first.now ∷ second.now ∷ [])) body.new came) }
+    ensures roomy { OnOk result (RoomyIn program.now body.new.frames) }
+    ensures counted { OnOk result (IsNear body.old.count body.new.count) }
+    ensures room { IfOk result (λ came. HasRoomFor program.now body.new came) }
+{
+    match second {
+        Value::Fiber => ask_with_fiber(plain, program, limits, native, first, body),
+        second => ask_of_two(alloc, plain, program, native, first, second, body),
+    }
+}
+
+// A method of three arguments, the fiber the last one.
+fn ask_of_three(
+    alloc: Global,
+    plain: &Program,
+    program: &Program,
+    limits: &Limits,
+    native: Native,
+    first: &Value,
+    second: &Value,
+    third: &Value,
+    body: &mut Body,
+) -> Result<Came, NoMemory>
+    requires frames { HasFrames body.old.frames }
+    requires roomy { RoomyIn program.now body.old.frames }
+    requires counts { body.old.count + 1 < 2 ^ 64 }
+    requires can { CanAsk plain.now program.now (Some (meaning native)) (first.now ∷ second.now ∷ third.now ∷ []) body.old }
+    ensures comes { (set : Setting) → set.program ≡ plain.now → set.limits ≡ limits.now → IfOk result (λ came. Comes 0 (native_next set (behind_at 0 body.old) (meaning native) (first.now ∷ second.now ∷ third.now ∷ [])) body.new came) }
+    ensures roomy { OnOk result (RoomyIn program.now body.new.frames) }
+    ensures counted { OnOk result (IsNear body.old.count body.new.count) }
+    ensures room { IfOk result (λ came. HasRoomFor program.now body.new came) }
+{
+    let _ = alloc;
+    let _ = limits;
+    match third {
+        Value::Fiber => ask_place(plain, program, native, first, second, body),
+        _ => Err(NoMemory),
+    }
+}
+
+/// A built-in method that is called. A call that no verified code makes is answered want of memory.
+pub fn ask(
+    alloc: Global,
+    plain: &Program,
+    program: &Program,
+    limits: &Limits,
+    call: &NativeCall,
+    body: &mut Body,
+) -> Result<Came, NoMemory>
+    requires frames { HasFrames body.old.frames }
+    requires roomy { RoomyIn program.now body.old.frames }
+    requires counts { body.old.count + 1 < 2 ^ 64 }
+    requires can { CanAsk plain.now program.now (native_of program.now call.now.method) call.now.args body.old }
+    ensures comes { (set : Setting) → set.program ≡ plain.now → set.limits ≡ limits.now → IfOk result (λ came. Comes 0 (asks_next set (behind_at 0 body.old) call.now.args (native_of program.now call.now.method)) body.new came) }
+    ensures roomy { OnOk result (RoomyIn program.now body.new.frames) }
+    ensures counted { OnOk result (IsNear body.old.count body.new.count) }
+    ensures room { IfOk result (λ came. HasRoomFor program.now body.new came) }
+{
+    let Some(native) = native_of(program, call.method) else {
+        return Err(NoMemory);
+    };
+    match call.args.as_slice() {
+        [] => ask_of_none(plain, program, limits, native, body),
+        [value] => ask_of_any_one(alloc, plain, program, limits, native, value, body),
+        [first, second] => {
+            ask_of_any_two(alloc, plain, program, limits, native, first, second, body)
+        }
+        [one, two, three] => {
+            ask_of_three(alloc, plain, program, limits, native, one, two, three, body)
+        }
+        _ => Err(NoMemory),
+    }
+}

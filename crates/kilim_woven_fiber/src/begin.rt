@@ -1,0 +1,88 @@
+//! The frames with which a method of a task begins.
+
+ghost use Rattle.std.specs.Prelude.{◌≡◌, ◌∷◌, [], Some, IfOk};
+ghost use Rattle.kilim_classes.specs.declared.value.Value.TheVariants as a_value;
+ghost use Rattle.kilim_program.specs.Members.{is_task_execute, execute_of};
+ghost use Rattle.kilim_program.specs.Moves.{entered};
+ghost use Rattle.kilim_frames.specs.Calls.{calls_of};
+ghost use Rattle.kilim_jvm_interp.specs.Step.{AreRoomy};
+ghost use Rattle.kilim_woven_kin.specs.Nexts.{begun_with};
+ghost use Rattle.kilim_woven_fiber.specs.Body.{calls_in, RoomyIn};
+
+use kilim_classes::{ClassId, Method, MethodId, Program, Value};
+use kilim_frames::{Callers, Frames};
+use kilim_jvm_interp::new_frame;
+use kilim_lookups::{method_at, selected};
+use kilim_units::NoMemory;
+use std::alloc::Global;
+
+fn is_task_execute(method: &Method) -> bool
+    ensures { result ≡ is_task_execute method.now }
+{
+    method.built_in && method.name.is_text(b"execute")
+}
+
+/// The method `execute` that objects of a class have.
+pub fn execute_of(program: &Program, class: ClassId) -> Option<MethodId>
+    ensures { result ≡ execute_of program.now class }
+{
+    for method in program.methods.as_slice() {
+        if is_task_execute(method) {
+            return selected(program, class, method);
+        }
+    }
+    None
+}
+
+/// The frames with which a method with code begins.
+pub fn frames_with(
+    alloc: Global,
+    program: &Program,
+    id: MethodId,
+    args: Vec<Value>,
+) -> Result<Frames, NoMemory>
+    ensures frames { IfOk result (λ frames. calls_of frames ≡ entered program.now id args.items ∷ []) }
+    ensures roomy { IfOk result (λ frames. AreRoomy program.now frames) }
+{
+    let top = new_frame(alloc, program, id, args)?;
+    Ok(Frames {
+        top,
+        below: Callers::new(alloc),
+        operands: 0,
+        next: 0,
+    })
+}
+
+/// The arguments of an `execute` in woven form: the receiver, and the fiber.
+pub fn receiver_with_fiber(alloc: Global, receiver: Value) -> Result<Vec<Value>, NoMemory>
+    ensures { IfOk result (λ args. args.items ≡ receiver ∷ a_value.Fiber ∷ []) }
+{
+    let mut args = Vec::new(alloc);
+    args.push(receiver)?;
+    args.push(Value::Fiber)?;
+    Ok(args)
+}
+
+/// The frames with which a method begins: none where it is built in. Where there is no method, which no verified program
+/// meets, the answer is want of memory.
+pub fn begun_with(
+    alloc: Global,
+    program: &Program,
+    id: Option<MethodId>,
+    args: Vec<Value>,
+) -> Result<Option<Frames>, NoMemory>
+    ensures frames { IfOk result (λ frames. begun_with program.now id args.items ≡ Some (calls_in frames)) }
+    ensures roomy { IfOk result (λ frames. RoomyIn program.now frames) }
+{
+    let Some(id) = id else {
+        return Err(NoMemory);
+    };
+    let Some(method) = method_at(program, id) else {
+        return Err(NoMemory);
+    };
+    if method.built_in {
+        return Ok(None);
+    }
+    let frames = frames_with(alloc, program, id, args)?;
+    Ok(Some(frames))
+}

@@ -1,0 +1,81 @@
+//! The bodies with which tasks begin.
+
+ghost use Rattle.std.specs.Prelude.{◌≡◌, IfOk};
+ghost use Rattle.kilim_woven_fiber.specs.Begins.{BodyBegins, BodyBoots, IsFresh};
+ghost use Rattle.kilim_woven_fiber.specs.Body.{RoomyIn};
+
+use crate::begin::{begun_with, execute_of, receiver_with_fiber};
+use crate::body::Body;
+use kilim_act::new_object;
+use kilim_classes::{Base, ClassId, Program, Value};
+use kilim_fiber_records::Records;
+use kilim_frames::Frames;
+use kilim_main_class::constructor_of;
+use kilim_private_heap::Heap;
+use kilim_tree_move::{Tree, put_in};
+use kilim_units::NoMemory;
+use std::alloc::Global;
+
+fn new_body(
+    alloc: Global,
+    program: &Program,
+    frames: Option<Frames>,
+    heap: Heap,
+    kept: Option<u32>,
+) -> Body
+    requires { RoomyIn program.now frames }
+    ensures fresh { IsFresh program.now result }
+    ensures frames { result.frames ≡ frames }
+    ensures heap { result.heap ≡ heap }
+    ensures kept { result.kept ≡ kept }
+{
+    let _ = program;
+    let idle = frames.is_none();
+    Body {
+        frames,
+        idle,
+        records: Records::new(alloc),
+        heap,
+        count: 0,
+        boxes: 0,
+        kept,
+    }
+}
+
+/// The body with which a task begins on the tree of its object.
+pub fn begun_body(alloc: Global, program: &Program, tree: Tree) -> Result<Body, NoMemory>
+    ensures { IfOk result (λ body. BodyBegins program.now tree body) }
+{
+    let mut heap = Heap::new(alloc);
+    let Ok(root) = put_in(&mut heap, tree) else {
+        return Err(NoMemory);
+    };
+    let Base::Class(class) = heap.class(root).base else {
+        return Err(NoMemory);
+    };
+    let method = execute_of(program, class);
+    let args = receiver_with_fiber(alloc, Value::Ref(root))?;
+    let frames = begun_with(alloc, program, method, args)?;
+    Ok(new_body(alloc, program, frames, heap, None))
+}
+
+/// The body of task 0.
+pub fn first_body(
+    alloc: Global,
+    plain: &Program,
+    program: &Program,
+    main: ClassId,
+) -> Result<Body, NoMemory>
+    ensures { IfOk result (λ body. BodyBoots plain.now program.now main body) }
+{
+    let mut heap = Heap::new(alloc);
+    let object = new_object(alloc, plain, main)?;
+    let Ok(root) = heap.add(object) else {
+        return Err(NoMemory);
+    };
+    let method = constructor_of(program, main);
+    let mut args = Vec::new(alloc);
+    args.push(Value::Ref(root))?;
+    let frames = begun_with(alloc, program, method, args)?;
+    Ok(new_body(alloc, program, frames, heap, Some(root)))
+}

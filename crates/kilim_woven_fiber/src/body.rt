@@ -1,0 +1,240 @@
+//! What a fiber runs: its frames, or its records where it rests, its heap and its counts. It runs up to the next thing that it wants.
+
+ghost use Rattle.std.specs.Prelude.{◌≡◌, ◌<◌, ◌≤◌, ◌+◌, ◌^◌, ◌∷◌, [], ℕ, Some, None, IfOk, OnOk, IfSome, ◌&&◌, nat_le};
+ghost use Rattle.kilim_classes.specs.declared.value.Value.TheVariants as a_value;
+ghost use Rattle.kilim_program.specs.Members.{execute_of};
+ghost use Rattle.kilim_thread_model.specs.State.{Setting};
+ghost use Rattle.kilim_jvm_interp.specs.Run.{IsSafe};
+ghost use Rattle.kilim_woven_runs.specs.Fibers.{executes_on, first_receiver};
+ghost use Rattle.kilim_woven_kin.specs.Nexts.{finish_next, opens_next, resumes_next, ticked};
+ghost use Rattle.kilim_woven_fiber.specs.Body.{calls_in, standing_at, behind_at, RoomyIn, RoomIn, HasFrames};
+ghost use Rattle.kilim_woven_fiber.specs.Comes.{Comes, HasRoomFor, IsNear};
+ghost use Rattle.kilim_woven_fiber.specs.Steps.{Advances, CountsNext, HasStepped, IsReadyAt, ReceiverThere, setting_of};
+
+use crate::asks::ask;
+use crate::begin::{begun_with, execute_of, frames_with, receiver_with_fiber};
+use crate::code::Code;
+use crate::pass::give;
+use kilim_classes::{Base, BoxName, ClassId, Program, Value};
+use kilim_fiber_records::Records;
+use kilim_frames::Frames;
+use kilim_jvm_interp::{Stepped, run};
+use kilim_private_heap::Heap;
+use kilim_program::{EndCause, Limits, Shape};
+use kilim_tree_move::Tree;
+use kilim_units::NoMemory;
+use std::alloc::Global;
+
+/// The most mailboxes that a task makes.
+const MOST_BOXES: u32 = 1000;
+
+/// What a fiber runs.
+#[derive(Drop)]
+pub struct Body {
+    /// The frames; none where it rests, or where its `execute` is built in.
+    pub frames: Option<Frames>,
+    /// Its `execute` is built in.
+    pub idle: bool,
+    /// What it keeps of frames.
+    pub records: Records,
+    pub heap: Heap,
+    /// How many instructions it has counted.
+    pub count: u64,
+    /// How many mailboxes it has made.
+    pub boxes: u32,
+    /// The object of task 0, until its `execute` begins.
+    pub kept: Option<u32>,
+}
+
+/// What it comes to.
+#[derive(Drop)]
+pub enum Came {
+    /// It goes on.
+    On,
+    Puts(BoxName, Tree, Shape),
+    Takes(BoxName),
+    Probes(BoxName),
+    Starts(Tree, Shape),
+    Prints(Shape),
+    /// All frames are left, and what they need is in records.
+    Rests,
+    Ends(EndCause),
+}
+
+// A new mailbox.
+fn open(program: &Program, task: u32, counts: bool, body: &mut Body) -> Came
+    requires roomy { RoomyIn program.now body.old.frames }
+    requires room { RoomIn program.now body.old.frames }
+    requires counts { body.old.count + 1 < 2 ^ 64 }
+    ensures comes { Comes 0 (opens_next task counts (behind_at 0 body.old)) body.new result }
+    ensures roomy { RoomyIn program.now body.new.frames }
+    ensures counted { IsNear body.old.count body.new.count }
+{
+    if body.boxes >= MOST_BOXES {
+        return Came::Ends(EndCause::Boxes);
+    }
+    let Some(frames) = &mut body.frames else {
+        unreachable!()
+    };
+    let name = BoxName {
+        task,
+        number: body.boxes,
+    };
+    give(program, frames, Value::Box(name));
+    body.boxes += 1;
+    tick(counts, body);
+    Came::On
+}
+
+// An instruction was done.
+fn tick(counts: bool, body: &mut Body)
+    requires { body.old.count + 1 < 2 ^ 64 }
+    ensures frames { body.new.frames ≡ body.old.frames }
+    ensures stands { (x : ℕ) → standing_at x body.new ≡ ticked counts (standing_at x body.old) }
+    ensures counted { IsNear body.old.count body.new.count }
+{
+    if counts {
+        body.count += 1;
+    }
+}
+
+// The last frame returns: the fiber rests, or the task is done, or the `execute` of task 0 begins.
+fn leave(alloc: Global, program: &Program, main: ClassId, body: &mut Body) -> Result<Came, NoMemory>
+    requires roomy { RoomyIn program.now body.old.frames }
+    requires counts { body.old.count + 1 < 2 ^ 64 }
+    ensures comes { (set : Setting) → set.main ≡ main → IfOk result (λ came. Comes 0 (finish_next set program.now (standing_at 0 body.old) body.old.kept) body.new came) }
+    ensures roomy { OnOk result (RoomyIn program.now body.new.frames) }
+    ensures counted { OnOk result (IsNear body.old.count body.new.count) }
+    ensures room { IfOk result (λ came. HasRoomFor program.now body.new came) }
+{
+    let Some(name) = body.kept else {
+        return Ok(left(program, body));
+    };
+    let method = execute_of(program, main);
+    let args = receiver_with_fiber(alloc, Value::Ref(name))?;
+    match begun_with(alloc, program, method, args)? {
+        None => Ok(Came::Ends(EndCause::Done)),
+        Some(frames) => {
+            body.frames = Some(frames);
+            body.kept = None;
+            body.count += 1;
+            Ok(Came::On)
+        }
+    }
+}
+
+// The last frame of `execute` returns.
+fn left(program: &Program, body: &mut Body) -> Came
+    requires roomy { RoomyIn program.now body.old.frames }
+    ensures comes { (set : Setting) → Comes 0 (finish_next set program.now (standing_at 0 body.old) None) body.new result }
+    ensures roomy { RoomyIn program.now body.new.frames }
+    ensures counted { IsNear body.old.count body.new.count }
+    ensures room { HasRoomFor program.now body.new result }
+{
+    let _ = program;
+    if body.records.is_pausing() {
+        body.frames = None;
+        Came::Rests
+    } else {
+        Came::Ends(EndCause::Done)
+    }
+}
+
+// Where it rests it goes on with `execute`, and rewinds.
+fn rewind(alloc: Global, program: &Program, body: &mut Body) -> Result<Came, NoMemory>
+    requires there { ReceiverThere body.old.heap (first_receiver body.old.records) }
+    ensures comes { IfOk result (λ came. Comes 0 (resumes_next program.now (standing_at 0 body.old) (executes_on program.now body.old.heap (first_receiver body.old.records))) body.new came) }
+    ensures roomy { OnOk result (RoomyIn program.now body.new.frames) }
+    ensures counted { OnOk result (IsNear body.old.count body.new.count) }
+{
+    let receiver = body.records.first_receiver()?;
+    let Value::Ref(name) = &receiver else {
+        return Err(NoMemory);
+    };
+    let Base::Class(class) = body.heap.class(*name).base else {
+        return Err(NoMemory);
+    };
+    let Some(method) = execute_of(program, class) else {
+        return Err(NoMemory);
+    };
+    let args = receiver_with_fiber(alloc, receiver)?;
+    let frames = frames_with(alloc, program, method, args)?;
+    body.frames = Some(frames);
+    body.records.resume();
+    Ok(Came::On)
+}
+
+// Whether the next instruction counts: it is marked, and the fiber isn't rewinding.
+fn counts_next(code: &Code, frames: &Frames, records: &Records) -> Option<bool>
+    ensures { IfSome result (CountsNext code.now.program code.now.counted frames.now.top.method frames.now.top.pc records.now) }
+{
+    let mark = code.mark(frames.top.method, frames.top.pc)?;
+    Some(mark && !records.is_rewinding())
+}
+
+// A counted instruction of a task that has done all of its instructions.
+fn is_spent(limits: &Limits, counts: bool, done: u64) -> bool
+    ensures { result ≡ (counts && nat_le limits.now.steps done) }
+{
+    counts && limits.steps <= done
+}
+
+// The next instruction.
+fn step_one(alloc: Global, code: &Code, body: &mut Body) -> Result<Stepped, NoMemory>
+    requires frames { HasFrames body.old.frames }
+    requires roomy { RoomyIn code.now.program body.old.frames }
+    requires safe { IsSafe code.now.program 1 (calls_in body.old.frames) body.old.heap }
+    ensures roomy { OnOk result (RoomyIn code.now.program body.new.frames) }
+    ensures step { IfOk result (λ last. HasStepped code.now.program body.old body.new last) }
+{
+    let Some(frames) = &mut body.frames else {
+        unreachable!()
+    };
+    let ran = run(
+        alloc,
+        &code.program,
+        &code.tables,
+        frames,
+        &mut body.heap,
+        1,
+    )?;
+    Ok(ran.last)
+}
+
+/// Does the next instruction, and what it asks for.
+pub fn advance(
+    alloc: Global,
+    code: &Code,
+    limits: &Limits,
+    main: ClassId,
+    task: u32,
+    body: &mut Body,
+) -> Result<Came, NoMemory>
+    requires ready { IsReadyAt (setting_of code.now limits.now main) code.now.program code.now.counted (standing_at 0 body.old) }
+    requires roomy { RoomyIn code.now.program body.old.frames }
+    requires counts { body.old.count + 1 < 2 ^ 64 }
+    ensures advances { IfOk result (λ came. Advances (setting_of code.now limits.now main) code.now.program code.now.counted task body.old body.new came) }
+    ensures room { IfOk result (λ came. HasRoomFor code.now.program body.new came) }
+    ensures roomy { OnOk result (RoomyIn code.now.program body.new.frames) }
+    ensures counted { OnOk result (IsNear body.old.count body.new.count) }
+{
+    let Some(frames) = &body.frames else {
+        return rewind(alloc, &code.program, body);
+    };
+    let Some(counts) = counts_next(code, frames, &body.records) else {
+        return Err(NoMemory);
+    };
+    if is_spent(limits, counts, body.count) {
+        return Ok(Came::Ends(EndCause::Spent));
+    }
+    match step_one(alloc, code, body)? {
+        Stepped::Went => {
+            tick(counts, body);
+            Ok(Came::On)
+        }
+        Stepped::NewBox => Ok(open(&code.program, task, counts, body)),
+        Stepped::AtNative(call) => ask(alloc, &code.plain, &code.program, limits, &call, body),
+        Stepped::Returned => leave(alloc, &code.program, main, body),
+        Stepped::Ended(cause) => Ok(Came::Ends(cause)),
+    }
+}

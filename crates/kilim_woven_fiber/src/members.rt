@@ -1,0 +1,169 @@
+//! The members of `kilim/Fiber`, which woven code calls.
+
+ghost use Rattle.std.specs.Prelude.{◌≡◌, ◌∷◌, [], true, pos, Some, None, IfOk, OnOk};
+ghost use Rattle.kilim_classes.specs.declared.value.Value.TheVariants as a_value;
+ghost use Rattle.kilim_program.specs.Natives as native;
+ghost use Rattle.kilim_woven_kin.specs.Nexts.{member_next, with_result};
+ghost use Rattle.kilim_woven_fiber.specs.Body.{behind_at, standing_at, HasFrames, RoomyIn, RoomIn};
+ghost use Rattle.kilim_woven_fiber.specs.Comes.{Comes, gives_result};
+ghost use Rattle.kilim_woven_fiber.specs.Natives.{member_meant};
+
+use crate::body::{Body, Came};
+use crate::natives::Member;
+use crate::pass::{give, pass};
+use kilim_classes::{Program, Value};
+use kilim_units::NoMemory;
+use std::alloc::Global;
+
+/// It goes on behind a member without a result. No member counts.
+pub fn pass_on(program: &Program, body: &mut Body)
+    requires frames { HasFrames body.old.frames }
+    requires roomy { RoomyIn program.now body.old.frames }
+    ensures stands { standing_at 0 body.new ≡ behind_at 0 body.old }
+    ensures roomy { RoomyIn program.now body.new.frames }
+    ensures count { body.new.count ≡ body.old.count }
+{
+    let Some(frames) = &mut body.frames else {
+        unreachable!()
+    };
+    pass(program, frames);
+}
+
+/// It goes on behind a member with a result.
+pub fn pass_with(program: &Program, body: &mut Body, value: Value)
+    requires roomy { RoomyIn program.now body.old.frames }
+    requires room { RoomIn program.now body.old.frames }
+    ensures stands { standing_at 0 body.new ≡ with_result (Some value) (behind_at 0 body.old) }
+    ensures roomy { RoomyIn program.now body.new.frames }
+    ensures count { body.new.count ≡ body.old.count }
+{
+    let Some(frames) = &mut body.frames else {
+        unreachable!()
+    };
+    give(program, frames, value);
+}
+
+fn place_number(program: &Program, body: &mut Body) -> Came
+    requires roomy { RoomyIn program.now body.old.frames }
+    requires room { RoomIn program.now body.old.frames }
+    ensures comes { Comes 0 (member_next native.Pc (a_value.Fiber ∷ []) (behind_at 0 body.old)) body.new result }
+    ensures roomy { RoomyIn program.now body.new.frames }
+    ensures count { body.new.count ≡ body.old.count }
+{
+    let number = body.records.pc();
+    pass_with(program, body, Value::Int(number.cast_signed()));
+    Came::On
+}
+
+fn go_down(alloc: Global, program: &Program, body: &mut Body) -> Result<Came, NoMemory>
+    requires roomy { RoomyIn program.now body.old.frames }
+    requires room { RoomIn program.now body.old.frames }
+    ensures comes { IfOk result (λ came. Comes 0 (member_next native.Down (a_value.Fiber ∷ []) (behind_at 0 body.old)) body.new came) }
+    ensures roomy { OnOk result (RoomyIn program.now body.new.frames) }
+    ensures count { OnOk result (body.new.count ≡ body.old.count) }
+{
+    body.records.down(alloc)?;
+    pass_with(program, body, Value::Fiber);
+    Ok(Came::On)
+}
+
+fn go_up(program: &Program, body: &mut Body) -> Result<Came, NoMemory>
+    requires roomy { RoomyIn program.now body.old.frames }
+    requires room { RoomIn program.now body.old.frames }
+    ensures comes { IfOk result (λ came. Comes 0 (member_next native.Up (a_value.Fiber ∷ []) (behind_at 0 body.old)) body.new came) }
+    ensures roomy { OnOk result (RoomyIn program.now body.new.frames) }
+    ensures count { OnOk result (body.new.count ≡ body.old.count) }
+{
+    let Some(pauses) = body.records.up()? else {
+        return Err(NoMemory);
+    };
+    pass_with(program, body, Value::Int(i32::from(pauses)));
+    Ok(Came::On)
+}
+
+fn restore(program: &Program, body: &mut Body) -> Result<Came, NoMemory>
+    requires roomy { RoomyIn program.now body.old.frames }
+    requires room { RoomIn program.now body.old.frames }
+    ensures comes { IfOk result (λ came. Comes 0 (member_next native.Restore (a_value.Fiber ∷ []) (behind_at 0 body.old)) body.new came) }
+    ensures roomy { OnOk result (RoomyIn program.now body.new.frames) }
+    ensures count { OnOk result (body.new.count ≡ body.old.count) }
+{
+    let Some(value) = body.records.restore() else {
+        return Err(NoMemory);
+    };
+    pass_with(program, body, value);
+    Ok(Came::On)
+}
+
+fn receiver(program: &Program, body: &mut Body) -> Result<Came, NoMemory>
+    requires roomy { RoomyIn program.now body.old.frames }
+    requires room { RoomIn program.now body.old.frames }
+    ensures comes { IfOk result (λ came. Comes 0 (member_next native.Receiver (a_value.Fiber ∷ []) (behind_at 0 body.old)) body.new came) }
+    ensures roomy { OnOk result (RoomyIn program.now body.new.frames) }
+    ensures count { OnOk result (body.new.count ≡ body.old.count) }
+{
+    let Some(value) = body.records.receiver()? else {
+        return Err(NoMemory);
+    };
+    pass_with(program, body, value);
+    Ok(Came::On)
+}
+
+/// A member without arguments. One that isn't called so in verified code is answered want of memory.
+pub fn ask_member(
+    alloc: Global,
+    program: &Program,
+    member: Member,
+    body: &mut Body,
+) -> Result<Came, NoMemory>
+    requires roomy { RoomyIn program.now body.old.frames }
+    requires room { gives_result (Some (native.OfFiber (member_meant member))) ≡ true → RoomIn program.now body.old.frames }
+    ensures comes { IfOk result (λ came. Comes 0 (member_next (member_meant member) (a_value.Fiber ∷ []) (behind_at 0 body.old)) body.new came) }
+    ensures roomy { OnOk result (RoomyIn program.now body.new.frames) }
+    ensures count { OnOk result (body.new.count ≡ body.old.count) }
+{
+    match member {
+        Member::Pc => Ok(place_number(program, body)),
+        Member::Down => go_down(alloc, program, body),
+        Member::Up => go_up(program, body),
+        Member::Restore => restore(program, body),
+        Member::Receiver => receiver(program, body),
+        Member::Save | Member::Place => Err(NoMemory),
+    }
+}
+
+/// `save`
+pub fn save(program: &Program, value: &Value, body: &mut Body) -> Result<Came, NoMemory>
+    requires frames { HasFrames body.old.frames }
+    requires roomy { RoomyIn program.now body.old.frames }
+    ensures comes { IfOk result (λ came. Comes 0 (member_next native.Save (value.now ∷ a_value.Fiber ∷ []) (behind_at 0 body.old)) body.new came) }
+    ensures roomy { OnOk result (RoomyIn program.now body.new.frames) }
+    ensures count { OnOk result (body.new.count ≡ body.old.count) }
+{
+    let copy = value.clone()?;
+    body.records.save(copy)?;
+    pass_on(program, body);
+    Ok(Came::On)
+}
+
+/// `place`
+pub fn place(
+    program: &Program,
+    number: &i32,
+    receiver: &Value,
+    body: &mut Body,
+) -> Result<Came, NoMemory>
+    requires frames { HasFrames body.old.frames }
+    requires roomy { RoomyIn program.now body.old.frames }
+    ensures comes { IfOk result (λ came. Comes 0 (member_next native.Place (a_value.Int number.now ∷ receiver.now ∷ a_value.Fiber ∷ []) (behind_at 0 body.old)) body.new came) }
+    ensures roomy { OnOk result (RoomyIn program.now body.new.frames) }
+    ensures count { OnOk result (body.new.count ≡ body.old.count) }
+{
+    let Ok(number) = u32::try_from(*number) else {
+        return Err(NoMemory);
+    };
+    let copy = receiver.clone()?;
+    body.records.place(number, copy);
+    pass_on(program, body);
+    Ok(Came::On)
+}

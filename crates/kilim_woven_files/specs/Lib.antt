@@ -1,0 +1,5 @@
+pub mod Sizes
+pub mod WovenFiles
+pub mod Reports
+pub mod Parts
+pub mod Laws

@@ -1,0 +1,35 @@
+//! Laws, and no work.
+
+ghost use Rattle.kilim_woven_files.specs.Laws.{NeverWovenAndReported, OwnPaths, StayBelow};
+
+use kilim_class_world::links_keep;
+use kilim_classfile::class_file_is_spelled;
+use kilim_link_spec::{linked_in_parts, none_has_a_problem, none_of_each_kind};
+use kilim_stages::{never_both, one_program_of};
+
+/// A law, and no work: no files are both woven and reported.
+pub fn never_woven_and_reported()
+    ensures { NeverWovenAndReported }
+{
+    class_file_is_spelled();
+    one_program_of();
+    never_both();
+}
+
+/// A law, and no work: no two woven files have one path, whatever the directory.
+#[tactic(auto, using(crate::proofs::Paths::own_paths))]
+pub fn woven_files_have_own_paths()
+    ensures { OwnPaths }
+{
+    links_keep();
+}
+
+/// A law, and no work: each part of a woven file's name between slashes has a unit, and none is a point. So its path leads to no
+/// place above the directory, nor to the directory itself.
+pub fn woven_files_stay_below()
+    ensures { StayBelow }
+{
+    linked_in_parts();
+    none_has_a_problem();
+    none_of_each_kind();
+}

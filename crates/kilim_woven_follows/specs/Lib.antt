@@ -1,0 +1,5 @@
+pub mod Served
+pub mod Fibers
+pub mod Nexts
+pub mod Ready
+pub mod Laws

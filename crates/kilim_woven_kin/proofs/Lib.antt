@@ -1,0 +1,4 @@
+pub mod Records
+pub mod Following
+pub mod Trees
+pub mod Fine

@@ -1,0 +1,4 @@
+pub mod Standing
+pub mod Nexts
+pub mod Alike
+pub mod Laws

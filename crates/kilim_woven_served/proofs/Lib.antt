@@ -1,0 +1,3 @@
+pub mod Constructors
+pub mod Begins
+pub mod Along

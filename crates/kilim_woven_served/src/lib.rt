@@ -1,0 +1,14 @@
+//! A fiber of a woven program does what the task of each course does: a law, and no code that does work.
+#![tactic(auto)]
+
+ghost use Rattle.kilim_woven_served.specs.Served.{ConstructorIsSame, RunsServe};
+
+/// A law, and no work: the constructor of task 0 is the same method in the woven program.
+pub fn constructor_is_same()
+    ensures { ConstructorIsSame }
+{}
+
+/// A law, and no work: in each run of an accepted program a fiber of each woven form of it does what the task does, along each course.
+pub fn runs_serve()
+    ensures { RunsServe }
+{}

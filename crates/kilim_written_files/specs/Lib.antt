@@ -1,0 +1,2 @@
+pub mod OutputFile
+pub mod Written
