@@ -9,3 +9,4 @@ pub mod TokensRead
 pub mod ShapesRead
 pub mod ActsRead
 pub mod TextRead
+mod Digits

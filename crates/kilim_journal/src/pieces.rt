@@ -1,6 +1,6 @@
 //! The parts of a line.
 
-ghost use Rattle.std.specs.Prelude.{◌≡◌, ◌<◌, ◌++◌, ◌∷◌, [], length, OnOk, IfOk};
+ghost use Rattle.std.specs.Prelude.{◌≡◌, ◌<◌, ◌+◌, ◌++◌, ◌∷◌, [], length, OnOk, IfOk};
 ghost use Rattle.std.specs.List.{flat_map};
 ghost use Rattle.std.specs.Fmt.{decimal, signed_decimal};
 ghost use Rattle.kilim_units.specs.NameText.{escape, name_text};
@@ -11,20 +11,34 @@ use kilim_program::Token;
 use kilim_units::{push_escape, push_name};
 use std::alloc::AllocError;
 
-// A number in decimal.
+fn push_digit(out: &mut Vec<u8>, digit: u64) -> Result<(), AllocError>
+    requires { digit < 10 }
+    ensures { OnOk result (out.new.items ≡ out.old.items ++ (48 + digit) ∷ []) }
+{
+    out.push(b'0' + digit as u8)?;
+    Ok(())
+}
+
+// A number in decimal, digit by digit: no memory is taken but what the text itself needs.
+#[tactic(auto, using(std::proofs::lemmas::Fmt::decimal_digit))]
 pub fn push_number(out: &mut Vec<u8>, n: u64) -> Result<(), AllocError>
     ensures { OnOk result (out.new.items ≡ out.old.items ++ decimal n) }
 {
-    let text = format!(in *out.allocator(); "{n}")?;
-    out.extend_from_slice(text.as_bytes())
+    if n < 10 {
+        return push_digit(out, n);
+    }
+    push_number(out, n / 10)?;
+    push_digit(out, n % 10)
 }
 
 // A signed number in decimal.
 pub fn push_signed(out: &mut Vec<u8>, n: i64) -> Result<(), AllocError>
     ensures { OnOk result (out.new.items ≡ out.old.items ++ signed_decimal n) }
 {
-    let text = format!(in *out.allocator(); "{n}")?;
-    out.extend_from_slice(text.as_bytes())
+    if n < 0 {
+        out.push(b'-')?;
+    }
+    push_number(out, n.unsigned_abs())
 }
 
 // A mailbox.
