@@ -1,6 +1,6 @@
 mod Entering
 mod Frames
-mod Reading
+pub mod Reading
 mod Results
-mod Running
-mod Settling
+pub mod Running
+pub mod Settling

@@ -5,4 +5,6 @@ mod legs;
 mod machine;
 
 pub use legs::{Ran, Tables, run};
-pub use machine::{MOST_FRAMES, NativeCall, Stepped, answer, new_frame, step};
+pub use machine::{
+    MOST_FRAMES, NativeCall, Stepped, answer, await_answer, new_frame, settle, step,
+};

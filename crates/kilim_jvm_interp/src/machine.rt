@@ -7,6 +7,11 @@ ghost use Rattle.kilim_classes.specs.Names.{method_at};
 ghost use Rattle.kilim_program.specs.Moves.{Asks, called, effect_of, entered, goes_on, move_by, moves, push_result, returned, slots_in};
 ghost use Rattle.kilim_frames.specs.Calls.{activation, answered, below_of, calls_of};
 ghost use Rattle.kilim_rows.specs.Outcome.{Shows, is_stuck, returned_by};
+ghost use Rattle.kilim_rows.specs.declared.outcome.Moved.TheVariants.{Asked};
+ghost use Rattle.kilim_classes.specs.Program.{Program as AProgram};
+ghost use Rattle.kilim_classes.specs.declared.class.Method.{Method as AMethod};
+ghost use Rattle.kilim_classes.specs.declared.names.MethodId.{MethodId as AMethodId};
+ghost use Rattle.kilim_jvm_interp.specs.declared.machine.Stepped.TheVariants.{AtNative};
 ghost use Rattle.kilim_jvm_interp.specs.Step.{AreRoomy, CallerFits, CanSettle, FitsStack, IsRoomy, Steps, stack_limit};
 ghost use Rattle.kilim_program.specs.Effect.{Effect};
 ghost use Rattle.kilim_frames.specs.declared.frame.Frame.{Frame as AFrame};
@@ -151,6 +156,17 @@ fn put_on(
     Ok(())
 }
 
+/// Keeps in the frames how they go on behind a call of a built-in method that is handed out, for `answer`: with so many
+/// arguments off the stack, at the place behind. Nothing else is changed, and it takes no memory.
+#[inline(always)]
+pub fn await_answer(count: usize, next: u32, frames: &mut Frames)
+    ensures kept { frames.new ≡ record frames.old { operands = count; next = next } }
+    ensures steps { (program : AProgram) (own : AMethod) (id : AMethodId) (e : Effect) (before : AFrame) (h k : Objects) → Shows own e next (Asked id count) before frames.old.top h k → before.method ≡ frames.old.top.method → Steps (move_by program e (activation before) (below_of frames.old)) (AtNative (record { method = id; args = reverse (take count frames.old.top.stack.values) })) (activation before ∷ below_of frames.old) frames.new h k }
+{
+    frames.operands = count;
+    frames.next = next;
+}
+
 // A call of a built-in method that is handed out, with so many values on top of the stack as arguments.
 fn hand_out(
     alloc: Global,
@@ -163,8 +179,7 @@ fn hand_out(
     ensures same { (frames.new.top ≡ frames.old.top) × (frames.new.below ≡ frames.old.below) }
     ensures steps { (heap : Objects) → IfOk result (λ stepped. Steps (Asks id (reverse (take count frames.old.top.stack.values)) (goes_on (activation frames.old.top) next frames.old.top.locals (drop count frames.old.top.stack.values) ∷ below_of frames.old) heap) stepped (calls_of frames.old) frames.new heap heap) }
 {
-    frames.operands = count;
-    frames.next = next;
+    await_answer(count, next, frames);
     let Ok(args) = frames.top.stack.last(alloc, count) else {
         return Err(NoMemory);
     };
@@ -233,8 +248,8 @@ fn narrowed_result(own: &Method, value: Value) -> Value
     }
 }
 
-// What an outcome makes of the frames.
-pub(crate) fn settle(
+/// What an outcome makes of the frames, with the place behind the instruction.
+pub fn settle(
     alloc: Global,
     program: &Program,
     own: &Method,
