@@ -1,3 +1,5 @@
+mod Counting
+mod Doing
 mod Marks
 mod Reading
 mod Running

@@ -1,13 +1,17 @@
 -- The mark of an instruction, by its number.
-use Rattle.std.proofs.Common.{◌≡◌, ℕ, zero, suc, ◌<◌, Bool, cond, List, [], ◌∷◌, Some, ap, subst, ◌∙◌, arith, drop, length}
+use Rattle.std.proofs.Common.{◌≡◌, ℕ, zero, suc, ◌<◌, Bool, cond, List, [], ◌∷◌, Option, Some, ap, sym, subst, ◌∙◌, arith, drop, length}
 use Rattle.std.specs.Prelude.{slice_get}
 use Rattle.std.proofs.lemmas.Bool.{eq-eqb, ne_eqb}
 use Rattle.std.proofs.lemmas.Option.{same_Some, none-some}
+use Rattle.kilim_classes.specs.declared.class.Method.{Method}
 use Rattle.kilim_classes.specs.declared.instr.Instr.{Instr}
+use Rattle.kilim_classes.specs.declared.names.MethodId.{MethodId}
+use Rattle.kilim_classes.specs.Names.{method_at}
+use Rattle.kilim_classes.specs.Program.{Program}
 use Rattle.kilim_classes.specs.Lengths.{first_place}
 use Rattle.kilim_lookups.specs.Places.{Above, Rising}
-use Rattle.kilim_woven_runs.specs.Fibers.{marked}
-use Rattle.kilim_marked_runs.specs.Marks.{IsMarked, IsNumber}
+use Rattle.kilim_woven_runs.specs.Fibers.{marked, marks_of, wcode_in}
+use Rattle.kilim_marked_runs.specs.Marks.{IsMark, IsMarked, IsNumber}
 
 above_there : (p : ℕ) (code : List (ℕ × Instr)) (n : ℕ) (e : ℕ × Instr) → Above p code → slice_get code n ≡ Some e → p < e.0
 above_there p [] n e a is = absurd (none-some e is)
@@ -50,3 +54,10 @@ is_number code marks end p n e b rising is has at = record {
   stands = first_at code end n e is ∙ at;
   has = marked_at code marks end p n e b rising is has at;
 }
+
+-- the mark in a method is the one in the program
+pub mark_in : (p : Program) (counted : List (List Bool)) (m : MethodId) (own : Method) (marks : List Bool) (place : ℕ) (mark : Bool) → method_at p m ≡ Some own → marks_of counted m ≡ marks →
+    IsMarked own.code marks own.code_length place mark → IsMark p counted m place mark
+mark_in p counted m own marks place mark there are is =
+    let here : wcode_in (marks_of counted m) (Some own) place ≡ Some is.found = subst (λ (ms : List Bool). wcode_in ms (Some own) place ≡ Some is.found) (sym are) is.at in
+    record { found = is.found; at = subst (λ (o : Option Method). wcode_in (marks_of counted m) o place ≡ Some is.found) (sym there) here; is = is.is }

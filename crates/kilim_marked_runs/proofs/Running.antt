@@ -1,7 +1,6 @@
 -- Steps one behind the other, whose instructions have one mark.
-use Rattle.std.proofs.Common.{◌≡◌, refl, sym, subst, ℕ, suc, ◌+◌, ◌-◌, ◌<◌, ◌≤◌, ◌⊎◌, inl, inr, Bool, not, true, false, List, ◌∷◌, Some, Option, arith}
+use Rattle.std.proofs.Common.{◌≡◌, refl, sym, subst, ℕ, suc, ◌+◌, ◌-◌, ◌<◌, ◌≤◌, ◌⊎◌, inl, inr, Bool, not, true, false, List, ◌∷◌, Some, arith}
 use Rattle.kilim_classes.specs.declared.class.Method.{Method}
-use Rattle.kilim_classes.specs.declared.names.MethodId.{MethodId}
 use Rattle.kilim_classes.specs.Names.{method_at}
 use Rattle.kilim_classes.specs.Program.{Program}
 use Rattle.kilim_program.specs.declared.cause.EndCause.{EndCause}
@@ -13,18 +12,12 @@ use Rattle.kilim_jvm_interp.specs.Step.{IsWent, Steps}
 use Rattle.kilim_jvm_interp.specs.Run.{IsFine, LastSteps, is_went}
 use Rattle.kilim_jvm_interp.specs.declared.machine.Stepped.{Stepped}
 use Rattle.kilim_jvm_interp.specs.declared.machine.Stepped.TheVariants as stepped
-use Rattle.kilim_woven_runs.specs.Fibers.{marks_of, wcode_in}
-use Rattle.kilim_marked_runs.specs.Marks.{IsMark, IsMarked, NextHas}
+use Rattle.kilim_woven_runs.specs.Fibers.{marks_of}
+use Rattle.kilim_marked_runs.specs.Marks.{NextHas}
 use Rattle.kilim_marked_runs.specs.Runs.{AtFirst, Further, HasHalted, HasMarkedRun, IsHalt, IsMarkedLast, IsMarkedSafe, MarkedRunsTo}
 use Rattle.kilim_marked_runs.specs.declared.legs.Halt.{Halt}
 use Rattle.kilim_marked_runs.specs.declared.legs.Halt.TheVariants as halt
-
--- the mark in a method is the one in the program
-pub mark_in : (p : Program) (counted : List (List Bool)) (m : MethodId) (own : Method) (marks : List Bool) (place : ℕ) (mark : Bool) → method_at p m ≡ Some own → marks_of counted m ≡ marks →
-    IsMarked own.code marks own.code_length place mark → IsMark p counted m place mark
-mark_in p counted m own marks place mark there are is =
-    let here : wcode_in (marks_of counted m) (Some own) place ≡ Some is.found = subst (λ (ms : List Bool). wcode_in ms (Some own) place ≡ Some is.found) (sym are) is.at in
-    record { found = is.found; at = subst (λ (o : Option Method). wcode_in (marks_of counted m) o place ≡ Some is.found) (sym there) here; is = is.is }
+use Rattle.kilim_marked_runs.proofs.Marks.{mark_in}
 
 went_is : (p : Program) (top : Activation) (below : List Activation) (h : Objects) (answer : Stepped) (new : Frames) (k : Objects) → is_went answer ≡ true → Steps (moves p top below h) answer (top ∷ below) new h k → IsWent (moves p top below h) (calls_of new) h k
 went_is p top below h stepped.Went new k went steps = steps

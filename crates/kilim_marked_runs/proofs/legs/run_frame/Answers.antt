@@ -3,7 +3,8 @@ use Rattle.kilim_classes.specs.Names.{method_at}
 use Rattle.kilim_frames.specs.Calls.{activation, below_of, calls_of}
 use Rattle.kilim_woven_runs.specs.Fibers.{marks_of}
 use Rattle.kilim_marked_runs.specs.Runs.{AtFirst, Does}
-use Rattle.kilim_marked_runs.proofs.Running.{fine_at, leg_of, mark_in, one_more}
+use Rattle.kilim_marked_runs.proofs.Marks.{mark_in}
+use Rattle.kilim_marked_runs.proofs.Running.{fine_at, leg_of, one_more}
 use Rattle.kilim_marked_runs.proofs.legs.run_frame.Goals as goal
 
 pub loop-left-init : goal.loop-left-init
