@@ -1,5 +1,5 @@
 -- What is asked of a built-in method.
-use Rattle.std.proofs.Common.{◌≡◌, ◌≤◌, ◌<◌, ℕ, length, get_or, List, [], ◌∷◌, Option, Some, None, Result, refl, sym, ap, subst, ◌∙◌, arith}
+use Rattle.std.proofs.Common.{◌≡◌, ℕ, List, [], ◌∷◌, Option, Some, None, Result, refl, sym, ap, subst, ◌∙◌}
 use Rattle.std.specs.Prelude.{IfOk}
 use Rattle.kilim_classes.specs.declared.names.BoxName.{BoxName}
 use Rattle.kilim_classes.specs.declared.value.Value.{Value}
@@ -11,18 +11,23 @@ use Rattle.kilim_program.specs.Machine.{Objects}
 use Rattle.kilim_program.specs.Natives as native
 use Rattle.kilim_program.specs.Shapes.{shape_of}
 use Rattle.kilim_program.specs.Trees.{OfMessage}
+use Rattle.kilim_frames.specs.declared.frames.Frames.{Frames}
 use Rattle.kilim_units.specs.declared.memory.NoMemory.{NoMemory}
 use Rattle.kilim_thread_model.specs.State.{Setting}
 use Rattle.kilim_woven_kin.specs.Standing.{Standing}
 use Rattle.kilim_woven_kin.specs.Nexts.{Next, native_next, asks_next}
+use Rattle.kilim_woven_fiber.specs.Body.{operands_in}
+use Rattle.kilim_woven_fiber.specs.Operands.{AreOperands}
+use Rattle.kilim_woven_fiber.specs.declared.operands.Operands.{Operands}
+use Rattle.kilim_woven_fiber.specs.declared.operands.Operands.TheVariants as copied
 use Rattle.kilim_woven_fiber.specs.Comes.{CanAsk, IsGivenBy, GiftIs, IsGift, Comes}
-use Rattle.kilim_woven_fiber.specs.Natives.{meaning}
+use Rattle.kilim_woven_natives.specs.Natives.{meaning}
 use Rattle.kilim_woven_fiber.specs.declared.body.Body.{Body}
 use Rattle.kilim_woven_fiber.specs.declared.body.Came.{Came}
 use Rattle.kilim_woven_fiber.specs.declared.gifts.Gift.{Gift}
 use Rattle.kilim_woven_fiber.specs.declared.gifts.Gift.TheVariants as gift
-use Rattle.kilim_woven_fiber.specs.declared.natives.Native.{Native}
-use Rattle.kilim_woven_fiber.specs.declared.natives.Native.TheVariants as code
+use Rattle.kilim_woven_natives.specs.declared.natives.Native.{Native}
+use Rattle.kilim_woven_natives.specs.declared.natives.Native.TheVariants as code
 
 -- what comes, of the same next thing
 pub come_by : (x : ℕ) (new : Body) (r : Result Came NoMemory) (a b : Next) → a ≡ b → IfOk r (λ came. Comes x a new came) → IfOk r (λ came. Comes x b new came)
@@ -54,32 +59,26 @@ put_given p W b n box first v is-put is-box can =
 pub native_same : (set : Setting) (l : Standing) (n m : Native) (args brgs : List Value) → n ≡ m → args ≡ brgs → native_next set l (meaning m) brgs ≡ native_next set l (meaning n) args
 native_same set l n m args brgs e d = λ i. native_next set l (meaning (sym e i)) (sym d i)
 
-pub asked_same : (set : Setting) (l : Standing) (args brgs : List Value) (o : Option native.Native) (n : native.Native) → args ≡ brgs → o ≡ Some n → native_next set l n brgs ≡ asks_next set l args o
-asked_same set l args brgs o n e f = ap (λ (z : Option native.Native). asks_next set l brgs z) (sym f) ∙ ap (λ (z : List Value). asks_next set l z o) (sym e)
+pub asked_same : (set : Setting) (l : Standing) (args : List Value) (o : Option native.Native) (n : native.Native) → o ≡ Some n → native_next set l n args ≡ asks_next set l args o
+asked_same set l args o n e = ap (λ (z : Option native.Native). asks_next set l args z) (sym e)
 
-pub can_by : (p W : Program) (b : Body) (args brgs : List Value) (o : Option native.Native) (n : native.Native) → args ≡ brgs → o ≡ Some n → CanAsk p W o args b → CanAsk p W (Some n) brgs b
-can_by p W b args brgs o n e f can = subst (λ o. CanAsk p W o brgs b) f (subst (λ args. CanAsk p W o args b) e can)
+-- of a method that is known, with these arguments
+pub known_by : (p W : Program) (b : Body) (args : List Value) (o : Option native.Native) (n : native.Native) → o ≡ Some n → CanAsk p W o args b → CanAsk p W (Some n) args b
+known_by p W b args o n e can = subst (λ o. CanAsk p W o args b) e can
 
--- ---- the arguments
+pub with_args : (p W : Program) (b : Body) (args brgs : List Value) (n : native.Native) → args ≡ brgs → CanAsk p W (Some n) args b → CanAsk p W (Some n) brgs b
+with_args p W b args brgs n e can = subst (λ args. CanAsk p W (Some n) args b) e can
 
-pub none_of : {A : Type 0} (xs : List A) → length xs < 1 → xs ≡ []
-none_of [] h = refl
-none_of (x ∷ xs) h = absurd (omega arith)
+pub args_same : (set : Setting) (l : Standing) (n : native.Native) (args brgs : List Value) → args ≡ brgs → native_next set l n brgs ≡ native_next set l n args
+args_same set l n args brgs e = ap (native_next set l n) (sym e)
 
-pub one_of : {A : Type 0} (xs : List A) (x : A) → 1 ≤ length xs → length xs < 2 → x ≡ get_or xs 0 x → xs ≡ x ∷ []
-one_of [] x h k e = absurd (omega arith)
-one_of (y ∷ []) x h k e = ap (λ z. z ∷ []) (sym e)
-one_of (y ∷ z ∷ xs) x h k e = absurd (omega arith)
+-- ---- the operands, as they are told
 
-pub two_of : {A : Type 0} (xs : List A) (x y : A) → 2 ≤ length xs → length xs < 3 → x ≡ get_or xs 0 x → y ≡ get_or xs 1 y → xs ≡ x ∷ y ∷ []
-two_of [] x y h k e f = absurd (omega arith)
-two_of (a ∷ []) x y h k e f = absurd (omega arith)
-two_of (a ∷ b ∷ []) x y h k e f = ap (λ z. z ∷ b ∷ []) (sym e) ∙ ap (λ z. x ∷ z ∷ []) (sym f)
-two_of (a ∷ b ∷ d ∷ xs) x y h k e f = absurd (omega arith)
+pub told_none : (o : Option Frames) (frames : Frames) (found : Operands) → o ≡ Some frames → found ≡ copied.None → AreOperands frames found → operands_in o ≡ []
+told_none o frames found is e are = ap operands_in is ∙ subst (AreOperands frames) e are
 
-pub three_of : {A : Type 0} (xs : List A) (x y z : A) → 3 ≤ length xs → length xs < 4 → x ≡ get_or xs 0 x → y ≡ get_or xs 1 y → z ≡ get_or xs 2 z → xs ≡ x ∷ y ∷ z ∷ []
-three_of [] x y z h k e f g = absurd (omega arith)
-three_of (a ∷ []) x y z h k e f g = absurd (omega arith)
-three_of (a ∷ b ∷ []) x y z h k e f g = absurd (omega arith)
-three_of (a ∷ b ∷ d ∷ []) x y z h k e f g = λ i. sym e i ∷ sym f i ∷ sym g i ∷ []
-three_of (a ∷ b ∷ d ∷ u ∷ xs) x y z h k e f g = absurd (omega arith)
+pub told_one : (o : Option Frames) (frames : Frames) (found : Operands) (v : Value) → o ≡ Some frames → found ≡ copied.One v → AreOperands frames found → operands_in o ≡ v ∷ []
+told_one o frames found v is e are = ap operands_in is ∙ subst (AreOperands frames) e are
+
+pub told_two : (o : Option Frames) (frames : Frames) (found : Operands) (v w : Value) → o ≡ Some frames → found ≡ copied.Two v w → AreOperands frames found → operands_in o ≡ v ∷ w ∷ []
+told_two o frames found v w is e are = ap operands_in is ∙ subst (AreOperands frames) e are

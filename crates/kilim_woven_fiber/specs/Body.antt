@@ -1,5 +1,6 @@
 -- What a fiber runs, as a woven fiber that stands.
-use Rattle.std.specs.Prelude.{◌<◌, ℕ, List, [], Option, Some, None, length, drop}
+use Rattle.std.specs.Prelude.{◌<◌, ◌≤◌, ℕ, List, [], Option, Some, None, length, drop, reverse, take}
+use Rattle.kilim_classes.specs.declared.value.Value.{Value}
 use Rattle.kilim_classes.specs.Program.{Program}
 use Rattle.kilim_program.specs.Machine.{Activation}
 use Rattle.kilim_frames.specs.declared.frames.Frames.{Frames}
@@ -41,3 +42,16 @@ RoomIn W (Some frames) = RoomBehind W frames
 abbrev pub HasFrames : Option Frames → Type 0
 HasFrames None = ⊥
 HasFrames (Some frames) = Unit {0}
+
+-- the operands of the instruction that was handed out, the topmost one last
+abbrev pub operands_of : Frames → List Value
+operands_of frames = reverse (take frames.operands frames.top.stack.values)
+
+abbrev pub operands_in : Option Frames → List Value
+operands_in None = []
+operands_in (Some frames) = operands_of frames
+
+-- they are there
+abbrev pub HasOperands : Option Frames → Type 0
+HasOperands None = ⊥
+HasOperands (Some frames) = frames.operands ≤ length frames.top.stack.values

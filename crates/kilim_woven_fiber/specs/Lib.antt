@@ -1,9 +1,8 @@
-pub mod Natives
-pub mod Marks
 pub mod Body
 pub mod Comes
+pub mod Operands
 pub mod Begins
 pub mod Steps
 pub mod Reach
-pub mod Leaps
+pub mod Legs
 pub mod Answers

@@ -9,19 +9,20 @@ ghost use Rattle.kilim_thread_model.specs.State.{Setting};
 ghost use Rattle.kilim_thread_model.specs.Lone.{narrowed, arg_at, printed};
 ghost use Rattle.kilim_woven_kin.specs.Nexts.{Goes, counted, with_result, arg_next, print_next, put_next, message_next, start_next, native_next, asks_next, yield_next, spent_or, paused_at, taken_at, Gets};
 ghost use Rattle.kilim_woven_runs.specs.Fibers.{is_rewinding};
-ghost use Rattle.kilim_woven_fiber.specs.Body.{standing_at, behind_at, RoomyIn, RoomIn, HasFrames};
+ghost use Rattle.kilim_woven_fiber.specs.Body.{standing_at, behind_at, operands_in, RoomyIn, RoomIn, HasFrames, HasOperands};
 ghost use Rattle.kilim_woven_fiber.specs.Comes.{CanGive, IsGivenBy, CanAsk, Comes, HasRoomFor, IsNear};
-ghost use Rattle.kilim_woven_fiber.specs.Natives.{meaning};
+ghost use Rattle.kilim_woven_natives.specs.Natives.{meaning};
 
 use crate::body::{Body, Came};
+use crate::code::Code;
 use crate::gifts::{Gift, take_gift};
-use crate::members::{ask_member, pass_on, place, save};
-use crate::natives::{Member, Native, native_of};
+use crate::members::{ask_member, pass_on};
+use crate::operands::{Operands, copy_operands};
 use crate::pass::{give, pass};
-use kilim_classes::{BoxName, Program, Value};
-use kilim_jvm_interp::NativeCall;
+use kilim_classes::{BoxName, MethodId, Program, Value};
 use kilim_program::{EndCause, Limits, Shape, Token};
 use kilim_units::{NoMemory, Seq};
+use kilim_woven_natives::Native;
 use std::alloc::Global;
 
 /// It goes on behind a method without a result.
@@ -266,7 +267,6 @@ fn ask_of_fiber(
 {
     match native {
         Native::Yield => Ok(yield_now(alloc, program, body)),
-        Native::OfFiber(member) => ask_member(alloc, program, member, body),
         _ => Err(NoMemory),
     }
 }
@@ -323,7 +323,6 @@ fn ask_with_fiber(
             Ok(Came::On)
         }
         (Native::Get, Value::Box(mailbox)) => Ok(takes(program, limits, *mailbox, body)),
-        (Native::OfFiber(Member::Save), value) => save(program, value, body),
         _ => Err(NoMemory),
     }
 }
@@ -361,32 +360,6 @@ fn ask_of_two(
 {
     match (native, first) {
         (Native::Put, Value::Box(mailbox)) => put(alloc, plain, program, *mailbox, second, body),
-        _ => Err(NoMemory),
-    }
-}
-
-// `place`
-fn ask_place(
-    plain: &Program,
-    program: &Program,
-    native: Native,
-    number: &Value,
-    receiver: &Value,
-    body: &mut Body,
-) -> Result<Came, NoMemory>
-    requires frames { HasFrames body.old.frames }
-    requires roomy { RoomyIn program.now body.old.frames }
-    requires counts { body.old.count + 1 < 2 ^ 64 }
-    requires can { CanAsk plain.now program.now (Some (meaning native)) (number.now ∷ receiver.now ∷ a_value.Fiber ∷ []) body.old }
-    ensures comes { (set : Setting) → set.program ≡ plain.now → IfOk result (λ came. Comes 0 (native_next set (behind_at 0 body.old) (meaning native) (number.now ∷ receiver.now ∷ a_value.Fiber ∷ [])) body.new came) }
-    ensures roomy { OnOk result (RoomyIn program.now body.new.frames) }
-    ensures counted { OnOk result (IsNear body.old.count body.new.count) }
-    ensures room { IfOk result (λ came. HasRoomFor program.now body.new came) }
-{
-    match (native, number) {
-        (Native::OfFiber(Member::Place), Value::Int(number)) => {
-            place(program, number, receiver, body)
-        }
         _ => Err(NoMemory),
     }
 }
@@ -442,65 +415,62 @@ fn ask_of_any_two(
     }
 }
 
-// A method of three arguments, the fiber the last one.
-fn ask_of_three(
+// A method that is no member of `kilim/Fiber`.
+fn ask_other(
     alloc: Global,
     plain: &Program,
     program: &Program,
     limits: &Limits,
     native: Native,
-    first: &Value,
-    second: &Value,
-    third: &Value,
     body: &mut Body,
 ) -> Result<Came, NoMemory>
     requires frames { HasFrames body.old.frames }
+    requires operands { HasOperands body.old.frames }
     requires roomy { RoomyIn program.now body.old.frames }
     requires counts { body.old.count + 1 < 2 ^ 64 }
-    requires can { CanAsk plain.now program.now (Some (meaning native)) (first.now ∷ second.now ∷ third.now ∷ []) body.old }
-    ensures comes { (set : Setting) → set.program ≡ plain.now → set.limits ≡ limits.now → IfOk result (λ came. Comes 0 (native_next set (behind_at 0 body.old) (meaning native) (first.now ∷ second.now ∷ third.now ∷ [])) body.new came) }
+    requires can { CanAsk plain.now program.now (Some (meaning native)) (operands_in body.old.frames) body.old }
+    ensures comes { (set : Setting) → set.program ≡ plain.now → set.limits ≡ limits.now → IfOk result (λ came. Comes 0 (native_next set (behind_at 0 body.old) (meaning native) (operands_in body.old.frames)) body.new came) }
     ensures roomy { OnOk result (RoomyIn program.now body.new.frames) }
     ensures counted { OnOk result (IsNear body.old.count body.new.count) }
     ensures room { IfOk result (λ came. HasRoomFor program.now body.new came) }
 {
-    let _ = alloc;
-    let _ = limits;
-    match third {
-        Value::Fiber => ask_place(plain, program, native, first, second, body),
-        _ => Err(NoMemory),
+    let Some(frames) = &body.frames else {
+        unreachable!()
+    };
+    let found = copy_operands(frames)?;
+    match found {
+        Operands::None => ask_of_none(plain, program, limits, native, body),
+        Operands::One(value) => ask_of_any_one(alloc, plain, program, limits, native, &value, body),
+        Operands::Two(first, second) => {
+            ask_of_any_two(alloc, plain, program, limits, native, &first, &second, body)
+        }
+        Operands::More => Err(NoMemory),
     }
 }
 
 /// A built-in method that is called. A call that no verified code makes is answered want of memory.
 pub fn ask(
     alloc: Global,
-    plain: &Program,
-    program: &Program,
+    code: &Code,
     limits: &Limits,
-    call: &NativeCall,
+    method: MethodId,
     body: &mut Body,
 ) -> Result<Came, NoMemory>
     requires frames { HasFrames body.old.frames }
-    requires roomy { RoomyIn program.now body.old.frames }
+    requires operands { HasOperands body.old.frames }
+    requires roomy { RoomyIn code.now.program body.old.frames }
     requires counts { body.old.count + 1 < 2 ^ 64 }
-    requires can { CanAsk plain.now program.now (native_of program.now call.now.method) call.now.args body.old }
-    ensures comes { (set : Setting) → set.program ≡ plain.now → set.limits ≡ limits.now → IfOk result (λ came. Comes 0 (asks_next set (behind_at 0 body.old) call.now.args (native_of program.now call.now.method)) body.new came) }
-    ensures roomy { OnOk result (RoomyIn program.now body.new.frames) }
+    requires can { CanAsk code.now.plain code.now.program (native_of code.now.program method) (operands_in body.old.frames) body.old }
+    ensures comes { (set : Setting) → set.program ≡ code.now.plain → set.limits ≡ limits.now → IfOk result (λ came. Comes 0 (asks_next set (behind_at 0 body.old) (operands_in body.old.frames) (native_of code.now.program method)) body.new came) }
+    ensures roomy { OnOk result (RoomyIn code.now.program body.new.frames) }
     ensures counted { OnOk result (IsNear body.old.count body.new.count) }
-    ensures room { IfOk result (λ came. HasRoomFor program.now body.new came) }
+    ensures room { IfOk result (λ came. HasRoomFor code.now.program body.new came) }
 {
-    let Some(native) = native_of(program, call.method) else {
+    let Some(native) = code.native(method) else {
         return Err(NoMemory);
     };
-    match call.args.as_slice() {
-        [] => ask_of_none(plain, program, limits, native, body),
-        [value] => ask_of_any_one(alloc, plain, program, limits, native, value, body),
-        [first, second] => {
-            ask_of_any_two(alloc, plain, program, limits, native, first, second, body)
-        }
-        [one, two, three] => {
-            ask_of_three(alloc, plain, program, limits, native, one, two, three, body)
-        }
-        _ => Err(NoMemory),
+    match native {
+        Native::OfFiber(member) => ask_member(alloc, &code.program, member, body),
+        native => ask_other(alloc, &code.plain, &code.program, limits, native, body),
     }
 }

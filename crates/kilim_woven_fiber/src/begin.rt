@@ -2,37 +2,18 @@
 
 ghost use Rattle.std.specs.Prelude.{◌≡◌, ◌∷◌, [], Some, IfOk};
 ghost use Rattle.kilim_classes.specs.declared.value.Value.TheVariants as a_value;
-ghost use Rattle.kilim_program.specs.Members.{is_task_execute, execute_of};
 ghost use Rattle.kilim_program.specs.Moves.{entered};
 ghost use Rattle.kilim_frames.specs.Calls.{calls_of};
 ghost use Rattle.kilim_jvm_interp.specs.Step.{AreRoomy};
 ghost use Rattle.kilim_woven_kin.specs.Nexts.{begun_with};
 ghost use Rattle.kilim_woven_fiber.specs.Body.{calls_in, RoomyIn};
 
-use kilim_classes::{ClassId, Method, MethodId, Program, Value};
+use kilim_classes::{MethodId, Program, Value};
 use kilim_frames::{Callers, Frames};
 use kilim_jvm_interp::new_frame;
-use kilim_lookups::{method_at, selected};
+use kilim_lookups::method_at;
 use kilim_units::NoMemory;
 use std::alloc::Global;
-
-fn is_task_execute(method: &Method) -> bool
-    ensures { result ≡ is_task_execute method.now }
-{
-    method.built_in && method.name.is_text(b"execute")
-}
-
-/// The method `execute` that objects of a class have.
-pub fn execute_of(program: &Program, class: ClassId) -> Option<MethodId>
-    ensures { result ≡ execute_of program.now class }
-{
-    for method in program.methods.as_slice() {
-        if is_task_execute(method) {
-            return selected(program, class, method);
-        }
-    }
-    None
-}
 
 /// The frames with which a method with code begins.
 pub fn frames_with(

@@ -4,7 +4,7 @@ ghost use Rattle.std.specs.Prelude.{◌≡◌, IfOk};
 ghost use Rattle.kilim_woven_fiber.specs.Begins.{BodyBegins, BodyBoots, IsFresh};
 ghost use Rattle.kilim_woven_fiber.specs.Body.{RoomyIn};
 
-use crate::begin::{begun_with, execute_of, receiver_with_fiber};
+use crate::begin::{begun_with, receiver_with_fiber};
 use crate::body::Body;
 use kilim_act::new_object;
 use kilim_classes::{Base, ClassId, Program, Value};
@@ -14,6 +14,7 @@ use kilim_main_class::constructor_of;
 use kilim_private_heap::Heap;
 use kilim_tree_move::{Tree, put_in};
 use kilim_units::NoMemory;
+use kilim_woven_natives::execute_of;
 use std::alloc::Global;
 
 fn new_body(

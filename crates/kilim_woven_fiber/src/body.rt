@@ -1,28 +1,24 @@
 //! What a fiber runs: its frames, or its records where it rests, its heap and its counts. It runs up to the next thing that it wants.
 
-ghost use Rattle.std.specs.Prelude.{◌≡◌, ◌<◌, ◌≤◌, ◌+◌, ◌^◌, ◌∷◌, [], ℕ, Some, None, IfOk, OnOk, IfSome, ◌&&◌, nat_le};
-ghost use Rattle.kilim_classes.specs.declared.value.Value.TheVariants as a_value;
-ghost use Rattle.kilim_program.specs.Members.{execute_of};
+ghost use Rattle.std.specs.Prelude.{◌≡◌, ◌<◌, ◌+◌, ◌^◌, ℕ, None, IfOk, OnOk};
 ghost use Rattle.kilim_thread_model.specs.State.{Setting};
-ghost use Rattle.kilim_jvm_interp.specs.Run.{IsSafe};
 ghost use Rattle.kilim_woven_runs.specs.Fibers.{executes_on, first_receiver};
 ghost use Rattle.kilim_woven_kin.specs.Nexts.{finish_next, opens_next, resumes_next, ticked};
-ghost use Rattle.kilim_woven_fiber.specs.Body.{calls_in, standing_at, behind_at, RoomyIn, RoomIn, HasFrames};
+ghost use Rattle.kilim_woven_fiber.specs.Body.{standing_at, behind_at, RoomyIn, RoomIn};
 ghost use Rattle.kilim_woven_fiber.specs.Comes.{Comes, HasRoomFor, IsNear};
-ghost use Rattle.kilim_woven_fiber.specs.Steps.{Advances, CountsNext, HasStepped, IsReadyAt, ReceiverThere, setting_of};
+ghost use Rattle.kilim_woven_fiber.specs.Steps.{ReceiverThere};
 
-use crate::asks::ask;
-use crate::begin::{begun_with, execute_of, frames_with, receiver_with_fiber};
+use crate::begin::{begun_with, frames_with, receiver_with_fiber};
 use crate::code::Code;
 use crate::pass::give;
 use kilim_classes::{Base, BoxName, ClassId, Program, Value};
 use kilim_fiber_records::Records;
 use kilim_frames::Frames;
-use kilim_jvm_interp::{Stepped, run};
 use kilim_private_heap::Heap;
-use kilim_program::{EndCause, Limits, Shape};
+use kilim_program::{EndCause, Shape};
 use kilim_tree_move::Tree;
 use kilim_units::NoMemory;
+use kilim_woven_natives::execute_of;
 use std::alloc::Global;
 
 /// The most mailboxes that a task makes.
@@ -61,8 +57,8 @@ pub enum Came {
     Ends(EndCause),
 }
 
-// A new mailbox.
-fn open(program: &Program, task: u32, counts: bool, body: &mut Body) -> Came
+/// A new mailbox.
+pub(crate) fn open(program: &Program, task: u32, counts: bool, body: &mut Body) -> Came
     requires roomy { RoomyIn program.now body.old.frames }
     requires room { RoomIn program.now body.old.frames }
     requires counts { body.old.count + 1 < 2 ^ 64 }
@@ -98,8 +94,13 @@ fn tick(counts: bool, body: &mut Body)
     }
 }
 
-// The last frame returns: the fiber rests, or the task is done, or the `execute` of task 0 begins.
-fn leave(alloc: Global, program: &Program, main: ClassId, body: &mut Body) -> Result<Came, NoMemory>
+/// The last frame returns: the fiber rests, or the task is done, or the `execute` of task 0 begins.
+pub(crate) fn leave(
+    alloc: Global,
+    program: &Program,
+    main: ClassId,
+    body: &mut Body,
+) -> Result<Came, NoMemory>
     requires roomy { RoomyIn program.now body.old.frames }
     requires counts { body.old.count + 1 < 2 ^ 64 }
     ensures comes { (set : Setting) → set.main ≡ main → IfOk result (λ came. Comes 0 (finish_next set program.now (standing_at 0 body.old) body.old.kept) body.new came) }
@@ -140,11 +141,11 @@ fn left(program: &Program, body: &mut Body) -> Came
     }
 }
 
-// Where it rests it goes on with `execute`, and rewinds.
-fn rewind(alloc: Global, program: &Program, body: &mut Body) -> Result<Came, NoMemory>
+/// Where it rests it goes on with `execute`, and rewinds.
+pub(crate) fn rewind(alloc: Global, code: &Code, body: &mut Body) -> Result<Came, NoMemory>
     requires there { ReceiverThere body.old.heap (first_receiver body.old.records) }
-    ensures comes { IfOk result (λ came. Comes 0 (resumes_next program.now (standing_at 0 body.old) (executes_on program.now body.old.heap (first_receiver body.old.records))) body.new came) }
-    ensures roomy { OnOk result (RoomyIn program.now body.new.frames) }
+    ensures comes { IfOk result (λ came. Comes 0 (resumes_next code.now.program (standing_at 0 body.old) (executes_on code.now.program body.old.heap (first_receiver body.old.records))) body.new came) }
+    ensures roomy { OnOk result (RoomyIn code.now.program body.new.frames) }
     ensures counted { OnOk result (IsNear body.old.count body.new.count) }
 {
     let receiver = body.records.first_receiver()?;
@@ -154,87 +155,12 @@ fn rewind(alloc: Global, program: &Program, body: &mut Body) -> Result<Came, NoM
     let Base::Class(class) = body.heap.class(*name).base else {
         return Err(NoMemory);
     };
-    let Some(method) = execute_of(program, class) else {
+    let Some(method) = code.execute(class) else {
         return Err(NoMemory);
     };
     let args = receiver_with_fiber(alloc, receiver)?;
-    let frames = frames_with(alloc, program, method, args)?;
+    let frames = frames_with(alloc, &code.program, method, args)?;
     body.frames = Some(frames);
     body.records.resume();
     Ok(Came::On)
-}
-
-// Whether the next instruction counts: it is marked, and the fiber isn't rewinding.
-fn counts_next(code: &Code, frames: &Frames, records: &Records) -> Option<bool>
-    ensures { IfSome result (CountsNext code.now.program code.now.counted frames.now.top.method frames.now.top.pc records.now) }
-{
-    let mark = code.mark(frames.top.method, frames.top.pc)?;
-    Some(mark && !records.is_rewinding())
-}
-
-// A counted instruction of a task that has done all of its instructions.
-fn is_spent(limits: &Limits, counts: bool, done: u64) -> bool
-    ensures { result ≡ (counts && nat_le limits.now.steps done) }
-{
-    counts && limits.steps <= done
-}
-
-// The next instruction.
-fn step_one(alloc: Global, code: &Code, body: &mut Body) -> Result<Stepped, NoMemory>
-    requires frames { HasFrames body.old.frames }
-    requires roomy { RoomyIn code.now.program body.old.frames }
-    requires safe { IsSafe code.now.program 1 (calls_in body.old.frames) body.old.heap }
-    ensures roomy { OnOk result (RoomyIn code.now.program body.new.frames) }
-    ensures step { IfOk result (λ last. HasStepped code.now.program body.old body.new last) }
-{
-    let Some(frames) = &mut body.frames else {
-        unreachable!()
-    };
-    let ran = run(
-        alloc,
-        &code.program,
-        &code.tables,
-        frames,
-        &mut body.heap,
-        1,
-    )?;
-    Ok(ran.last)
-}
-
-/// Does the next instruction, and what it asks for.
-pub fn advance(
-    alloc: Global,
-    code: &Code,
-    limits: &Limits,
-    main: ClassId,
-    task: u32,
-    body: &mut Body,
-) -> Result<Came, NoMemory>
-    requires ready { IsReadyAt (setting_of code.now limits.now main) code.now.program code.now.counted (standing_at 0 body.old) }
-    requires roomy { RoomyIn code.now.program body.old.frames }
-    requires counts { body.old.count + 1 < 2 ^ 64 }
-    ensures advances { IfOk result (λ came. Advances (setting_of code.now limits.now main) code.now.program code.now.counted task body.old body.new came) }
-    ensures room { IfOk result (λ came. HasRoomFor code.now.program body.new came) }
-    ensures roomy { OnOk result (RoomyIn code.now.program body.new.frames) }
-    ensures counted { OnOk result (IsNear body.old.count body.new.count) }
-{
-    let Some(frames) = &body.frames else {
-        return rewind(alloc, &code.program, body);
-    };
-    let Some(counts) = counts_next(code, frames, &body.records) else {
-        return Err(NoMemory);
-    };
-    if is_spent(limits, counts, body.count) {
-        return Ok(Came::Ends(EndCause::Spent));
-    }
-    match step_one(alloc, code, body)? {
-        Stepped::Went => {
-            tick(counts, body);
-            Ok(Came::On)
-        }
-        Stepped::NewBox => Ok(open(&code.program, task, counts, body)),
-        Stepped::AtNative(call) => ask(alloc, &code.plain, &code.program, limits, &call, body),
-        Stepped::Returned => leave(alloc, &code.program, main, body),
-        Stepped::Ended(cause) => Ok(Came::Ends(cause)),
-    }
 }

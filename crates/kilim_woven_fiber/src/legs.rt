@@ -1,24 +1,80 @@
 //! A body runs up to the next thing that it wants.
 
-ghost use Rattle.std.specs.Prelude.{◌≡◌, ◌<◌, ◌≤◌, ◌+◌, ◌^◌, ◌⊎◌, true, IfOk, OnOk};
-ghost use Rattle.kilim_woven_fiber.specs.Body.{standing_at, RoomyIn};
-ghost use Rattle.kilim_woven_fiber.specs.Comes.{HasRoomFor, IsNear};
+ghost use Rattle.std.specs.Prelude.{◌≡◌, ◌≤◌, ◌&&◌, true, IfOk, OnOk};
+ghost use Rattle.kilim_woven_fiber.specs.Body.{standing_at, HasFrames, RoomyIn};
+ghost use Rattle.kilim_woven_fiber.specs.Comes.{HasRoomFor};
+ghost use Rattle.kilim_woven_fiber.specs.Legs.{HasGone};
 ghost use Rattle.kilim_woven_fiber.specs.Reach.{IsReadyOn, HasReached, IsWanting, Reaches};
 ghost use Rattle.kilim_woven_fiber.specs.Steps.{setting_of};
 
-use crate::body::{Body, Came, advance};
+use crate::asks::ask;
+use crate::body::{Body, Came, leave, open, rewind};
 use crate::code::Code;
-use crate::leaps::leap;
 use kilim_classes::ClassId;
-use kilim_program::Limits;
+use kilim_marked_runs::{Halted, run_counted};
+use kilim_program::{EndCause, Limits};
 use kilim_units::NoMemory;
 use std::alloc::Global;
 
-/// More instructions that don't count never stand before the next one that does, a rest or the end.
-const MOST_UNCOUNTED: u32 = 67_108_864;
+/// More legs than a machine ever does.
+const MOST_LEGS: u64 = u64::MAX;
 
-// Runs until an instruction was counted, or up to the next thing that it wants.
-fn reach_count(
+// What ended a run of instructions, and whether the next one counts.
+#[derive(Clone, Copy)]
+struct Gone {
+    counts: bool,
+    halted: Halted,
+}
+
+// Whether an instruction counts, by its mark.
+fn counts_by(mark: bool, live: bool) -> bool
+    ensures { result ≡ (mark && live) }
+{
+    mark && live
+}
+
+// Instructions one after the other, as long as they are no matter of records or of others.
+fn go(
+    alloc: Global,
+    code: &Code,
+    limits: &Limits,
+    main: ClassId,
+    task: u32,
+    body: &mut Body,
+) -> Result<Gone, NoMemory>
+    requires frames { HasFrames body.old.frames }
+    requires ready { IsReadyOn (setting_of code.now limits.now main) code.now.program code.now.counted task (standing_at 0 body.old) }
+    requires roomy { RoomyIn code.now.program body.old.frames }
+    requires most { body.old.count ≤ limits.now.steps }
+    ensures gone { IfOk result (λ gone. HasGone (setting_of code.now limits.now main) code.now.program code.now.counted task (standing_at 0 body.old) body.new gone.counts gone.halted) }
+    ensures frames { OnOk result (HasFrames body.new.frames) }
+    ensures roomy { OnOk result (RoomyIn code.now.program body.new.frames) }
+    ensures counted { OnOk result (body.old.count ≤ body.new.count) }
+{
+    let _ = (main, task);
+    let live = !body.records.is_rewinding();
+    let Some(frames) = &mut body.frames else {
+        unreachable!()
+    };
+    let ran = run_counted(
+        alloc,
+        &code.program,
+        &code.counted,
+        &code.places,
+        live,
+        frames,
+        &mut body.heap,
+        limits.steps - body.count,
+    )?;
+    body.count += ran.steps;
+    Ok(Gone {
+        counts: counts_by(ran.mark, live),
+        halted: ran.halted,
+    })
+}
+
+// Instructions one after the other, and what the one asks for that ends them.
+fn leg(
     alloc: Global,
     code: &Code,
     limits: &Limits,
@@ -28,29 +84,27 @@ fn reach_count(
 ) -> Result<Came, NoMemory>
     requires ready { IsReadyOn (setting_of code.now limits.now main) code.now.program code.now.counted task (standing_at 0 body.old) }
     requires roomy { RoomyIn code.now.program body.old.frames }
-    requires counts { body.old.count + 1 < 2 ^ 64 }
+    requires most { body.old.count ≤ limits.now.steps }
     ensures reached { IfOk result (λ came. HasReached (setting_of code.now limits.now main) code.now.program code.now.counted task (standing_at 0 body.old) body.new came) }
     ensures room { IfOk result (λ came. HasRoomFor code.now.program body.new came) }
     ensures roomy { OnOk result (RoomyIn code.now.program body.new.frames) }
-    ensures counted { OnOk result (IsNear body.old.count body.new.count) }
-    ensures further { IfOk result (λ came. IsWanting came ≡ true ⊎ (body.old.count < body.new.count)) }
+    ensures counted { OnOk result (body.old.count ≤ body.new.count) }
 {
-    let first = body.count;
-    for _ in 0..MOST_UNCOUNTED {
-        let end = leap(alloc, code, limits, main, task, false, body)?;
-        match end {
-            None => {}
-            Some(cause) => return Ok(Came::Ends(cause)),
-        }
-        match advance(alloc, code, limits, main, task, body)? {
-            Came::On => {}
-            came => return Ok(came),
-        }
-        if body.count > first {
-            return Ok(Came::On);
-        }
+    let Some(_) = &body.frames else {
+        return rewind(alloc, code, body);
+    };
+    let gone = go(alloc, code, limits, main, task, body)?;
+    if body.count == u64::MAX {
+        return Err(NoMemory);
     }
-    Err(NoMemory)
+    match gone.halted {
+        Halted::Stops => Ok(Came::On),
+        Halted::Spent => Ok(Came::Ends(EndCause::Spent)),
+        Halted::NewBox => Ok(open(&code.program, task, gone.counts, body)),
+        Halted::Asks(method) => ask(alloc, code, limits, method, body),
+        Halted::Returned => leave(alloc, &code.program, main, body),
+        Halted::Ended(cause) => Ok(Came::Ends(cause)),
+    }
 }
 
 /// Runs up to the next thing that it wants. No more instructions are counted than the task may do.
@@ -72,16 +126,8 @@ pub fn reach(
     ensures counted { OnOk result (body.old.count ≤ body.new.count) }
     ensures most { OnOk result (body.new.count ≤ limits.now.steps) }
 {
-    loop {
-        let end = leap(alloc, code, limits, main, task, true, body)?;
-        match end {
-            None => {}
-            Some(cause) => return Ok(Came::Ends(cause)),
-        }
-        if body.count.checked_add(1).is_none() {
-            return Err(NoMemory);
-        }
-        let came = reach_count(alloc, code, limits, main, task, body)?;
+    for _ in 0..MOST_LEGS {
+        let came = leg(alloc, code, limits, main, task, body)?;
         if body.count > limits.steps {
             return Err(NoMemory);
         }
@@ -90,4 +136,5 @@ pub fn reach(
             came => return Ok(came),
         }
     }
+    Err(NoMemory)
 }

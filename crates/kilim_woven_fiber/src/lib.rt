@@ -9,15 +9,14 @@ mod body;
 mod code;
 mod copies;
 mod gifts;
-mod leaps;
 mod legs;
 mod members;
-mod natives;
+mod operands;
 mod pass;
 
 pub use answers::{done, found, found_none, pause, take};
 pub use births::{begun_body, first_body};
-pub use body::{Body, Came, advance};
+pub use body::{Body, Came};
 pub use code::Code;
 pub use copies::copy;
 pub use legs::reach;

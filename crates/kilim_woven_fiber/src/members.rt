@@ -1,18 +1,19 @@
 //! The members of `kilim/Fiber`, which woven code calls.
 
-ghost use Rattle.std.specs.Prelude.{◌≡◌, ◌∷◌, [], true, pos, Some, None, IfOk, OnOk};
+ghost use Rattle.std.specs.Prelude.{◌≡◌, ◌∷◌, [], true, Some, IfOk, OnOk};
 ghost use Rattle.kilim_classes.specs.declared.value.Value.TheVariants as a_value;
 ghost use Rattle.kilim_program.specs.Natives as native;
 ghost use Rattle.kilim_woven_kin.specs.Nexts.{member_next, with_result};
-ghost use Rattle.kilim_woven_fiber.specs.Body.{behind_at, standing_at, HasFrames, RoomyIn, RoomIn};
+ghost use Rattle.kilim_woven_fiber.specs.Body.{behind_at, operands_in, standing_at, HasFrames, RoomyIn, RoomIn};
 ghost use Rattle.kilim_woven_fiber.specs.Comes.{Comes, gives_result};
-ghost use Rattle.kilim_woven_fiber.specs.Natives.{member_meant};
+ghost use Rattle.kilim_woven_natives.specs.Natives.{member_meant};
 
 use crate::body::{Body, Came};
-use crate::natives::Member;
+use crate::operands::{is_alone, take_place, take_value};
 use crate::pass::{give, pass};
 use kilim_classes::{Program, Value};
 use kilim_units::NoMemory;
+use kilim_woven_natives::Member;
 use std::alloc::Global;
 
 /// It goes on behind a member without a result. No member counts.
@@ -109,8 +110,8 @@ fn receiver(program: &Program, body: &mut Body) -> Result<Came, NoMemory>
     Ok(Came::On)
 }
 
-/// A member without arguments. One that isn't called so in verified code is answered want of memory.
-pub fn ask_member(
+// A member without arguments.
+fn ask_alone(
     alloc: Global,
     program: &Program,
     member: Member,
@@ -132,38 +133,67 @@ pub fn ask_member(
     }
 }
 
-/// `save`
-pub fn save(program: &Program, value: &Value, body: &mut Body) -> Result<Came, NoMemory>
+// `save`: the value is moved off the stack.
+fn save(program: &Program, body: &mut Body) -> Result<Came, NoMemory>
     requires frames { HasFrames body.old.frames }
     requires roomy { RoomyIn program.now body.old.frames }
-    ensures comes { IfOk result (λ came. Comes 0 (member_next native.Save (value.now ∷ a_value.Fiber ∷ []) (behind_at 0 body.old)) body.new came) }
+    ensures comes { IfOk result (λ came. Comes 0 (member_next native.Save (operands_in body.old.frames) (behind_at 0 body.old)) body.new came) }
     ensures roomy { OnOk result (RoomyIn program.now body.new.frames) }
     ensures count { OnOk result (body.new.count ≡ body.old.count) }
 {
-    let copy = value.clone()?;
-    body.records.save(copy)?;
-    pass_on(program, body);
+    let Some(frames) = &mut body.frames else {
+        unreachable!()
+    };
+    let Some(value) = take_value(program, frames) else {
+        return Err(NoMemory);
+    };
+    body.records.save(value)?;
     Ok(Came::On)
 }
 
-/// `place`
-pub fn place(
+// `place`: the receiver is moved off the stack.
+fn place(program: &Program, body: &mut Body) -> Result<Came, NoMemory>
+    requires frames { HasFrames body.old.frames }
+    requires roomy { RoomyIn program.now body.old.frames }
+    ensures comes { IfOk result (λ came. Comes 0 (member_next native.Place (operands_in body.old.frames) (behind_at 0 body.old)) body.new came) }
+    ensures roomy { OnOk result (RoomyIn program.now body.new.frames) }
+    ensures count { OnOk result (body.new.count ≡ body.old.count) }
+{
+    let Some(frames) = &mut body.frames else {
+        unreachable!()
+    };
+    let Some((number, receiver)) = take_place(program, frames) else {
+        return Err(NoMemory);
+    };
+    body.records.place(number, receiver);
+    Ok(Came::On)
+}
+
+/// A member. One that isn't called so in verified code is answered want of memory.
+pub fn ask_member(
+    alloc: Global,
     program: &Program,
-    number: &i32,
-    receiver: &Value,
+    member: Member,
     body: &mut Body,
 ) -> Result<Came, NoMemory>
     requires frames { HasFrames body.old.frames }
     requires roomy { RoomyIn program.now body.old.frames }
-    ensures comes { IfOk result (λ came. Comes 0 (member_next native.Place (a_value.Int number.now ∷ receiver.now ∷ a_value.Fiber ∷ []) (behind_at 0 body.old)) body.new came) }
+    requires room { gives_result (Some (native.OfFiber (member_meant member))) ≡ true → RoomIn program.now body.old.frames }
+    ensures comes { IfOk result (λ came. Comes 0 (member_next (member_meant member) (operands_in body.old.frames) (behind_at 0 body.old)) body.new came) }
     ensures roomy { OnOk result (RoomyIn program.now body.new.frames) }
     ensures count { OnOk result (body.new.count ≡ body.old.count) }
 {
-    let Ok(number) = u32::try_from(*number) else {
-        return Err(NoMemory);
-    };
-    let copy = receiver.clone()?;
-    body.records.place(number, copy);
-    pass_on(program, body);
-    Ok(Came::On)
+    match member {
+        Member::Save => save(program, body),
+        Member::Place => place(program, body),
+        member => {
+            let Some(frames) = &body.frames else {
+                unreachable!()
+            };
+            if !is_alone(frames) {
+                return Err(NoMemory);
+            }
+            ask_alone(alloc, program, member, body)
+        }
+    }
 }

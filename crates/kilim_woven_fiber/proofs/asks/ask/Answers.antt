@@ -1,33 +1,27 @@
-use Rattle.std.proofs.Common.{[], ◌∷◌, sym, ◌∙◌}
+use Rattle.std.proofs.Common.{Some, ap, ◌∙◌}
+use Rattle.kilim_program.specs.Natives as native
 use Rattle.kilim_program.specs.Natives.{native_of}
-use Rattle.kilim_woven_fiber.specs.Body.{behind_at}
-use Rattle.kilim_woven_fiber.specs.Natives.{meaning}
-use Rattle.kilim_woven_fiber.proofs.Asking.{asked_same, come_by, none_of, one_of, two_of, three_of}
+use Rattle.kilim_woven_natives.specs.Natives.{meaning, member_meant}
+use Rattle.kilim_woven_natives.specs.declared.natives.Native.{Native}
+use Rattle.kilim_woven_fiber.specs.Body.{behind_at, operands_in}
+use Rattle.kilim_woven_fiber.specs.Comes.{gives_result}
+use Rattle.kilim_woven_fiber.proofs.Asking.{asked_same, come_by, known_by}
 use Rattle.kilim_woven_fiber.proofs.asks.ask.Goals as goal
 
-pub returns-in-empty-clause-comes : goal.returns-in-empty-clause-comes
-returns-in-empty-clause-comes c = λ set is-program is-limits.
-    come_by 0 c.ask_of_none.new.body c.ask_of_none.result _ _
-    (asked_same set (behind_at 0 c.args.body.now) c.args.call.now.args [] (native_of c.args.program.now c.args.call.now.method) (meaning c.in-Some.native) (sym c.as_slice.ensures ∙ none_of c.as_slice.result.now c.in-empty.len_below) c.in-Some.ensures)
-    (c.ask_of_none.ensures.comes set is-program is-limits)
+pub ask_member-requires-clause-room : goal.ask_member-requires-clause-room
+ask_member-requires-clause-room c = λ gives. c.requires.can.room (ap gives_result (c.in-Some.ensures ∙ ap (λ (n : Native). Some (meaning n)) c.in-OfFiber.is) ∙ gives)
 
-pub returns-in-len1-clause-comes : goal.returns-in-len1-clause-comes
-returns-in-len1-clause-comes c = λ set is-program is-limits.
-    come_by 0 c.ask_of_any_one.new.body c.ask_of_any_one.result _ _
-    (asked_same set (behind_at 0 c.args.body.now) c.args.call.now.args (c.value-item.result ∷ []) (native_of c.args.program.now c.args.call.now.method) (meaning c.in-Some.native)
-    (sym c.as_slice.ensures ∙ one_of c.as_slice.result.now c.value-item.result c.in-len1.len_at_least c.in-len1.len_below c.value-item.is) c.in-Some.ensures)
-    (c.ask_of_any_one.ensures.comes set is-program is-limits)
+pub returns-in-OfFiber-clause-comes : goal.returns-in-OfFiber-clause-comes
+returns-in-OfFiber-clause-comes c = λ set is-program is-limits.
+    come_by 0 c.ask_member.new.body c.ask_member.result _ _
+    (asked_same set (behind_at 0 c.args.body.now) (operands_in c.args.body.now.frames) (native_of c.args.code.now.program c.args.method) (native.OfFiber (member_meant c.in-OfFiber.member)) (c.in-Some.ensures ∙ ap (λ (n : Native). Some (meaning n)) c.in-OfFiber.is))
+    c.ask_member.ensures.comes
 
-pub returns-in-len2-clause-comes : goal.returns-in-len2-clause-comes
-returns-in-len2-clause-comes c = λ set is-program is-limits.
-    come_by 0 c.ask_of_any_two.new.body c.ask_of_any_two.result _ _
-    (asked_same set (behind_at 0 c.args.body.now) c.args.call.now.args (c.first-item.result ∷ c.second-item.result ∷ []) (native_of c.args.program.now c.args.call.now.method) (meaning c.in-Some.native)
-    (sym c.as_slice.ensures ∙ two_of c.as_slice.result.now c.first-item.result c.second-item.result c.in-len2.len_at_least c.in-len2.len_below c.first-item.is c.second-item.is) c.in-Some.ensures)
-    (c.ask_of_any_two.ensures.comes set is-program is-limits)
+pub ask_other-requires-clause-can : goal.ask_other-requires-clause-can
+ask_other-requires-clause-can c = known_by c.args.code.now.plain c.args.code.now.program c.args.body.now (operands_in c.args.body.now.frames) (native_of c.args.code.now.program c.args.method) (meaning c.in-Some.native) c.in-Some.ensures c.requires.can
 
-pub returns-in-len3-clause-comes : goal.returns-in-len3-clause-comes
-returns-in-len3-clause-comes c = λ set is-program is-limits.
-    come_by 0 c.ask_of_three.new.body c.ask_of_three.result _ _
-    (asked_same set (behind_at 0 c.args.body.now) c.args.call.now.args (c.one-item.result ∷ c.two-item.result ∷ c.three-item.result ∷ []) (native_of c.args.program.now c.args.call.now.method) (meaning c.in-Some.native)
-    (sym c.as_slice.ensures ∙ three_of c.as_slice.result.now c.one-item.result c.two-item.result c.three-item.result c.in-len3.len_at_least c.in-len3.len_below c.one-item.is c.two-item.is c.three-item.is) c.in-Some.ensures)
-    (c.ask_of_three.ensures.comes set is-program is-limits)
+pub returns-in_default-native-clause-comes : goal.returns-in_default-native-clause-comes
+returns-in_default-native-clause-comes c = λ set is-program is-limits.
+    come_by 0 c.ask_other.new.body c.ask_other.result _ _
+    (asked_same set (behind_at 0 c.args.body.now) (operands_in c.args.body.now.frames) (native_of c.args.code.now.program c.args.method) (meaning c.in-Some.native) c.in-Some.ensures)
+    (c.ask_other.ensures.comes set is-program is-limits)

@@ -1,16 +1,13 @@
-use Rattle.std.proofs.Common.{◌≤◌, ◌-◌}
+use Rattle.std.proofs.Common.{◌≤◌}
 use Rattle.kilim_woven_fiber.specs.Body.{standing_at, RoomyIn}
 use Rattle.kilim_woven_fiber.specs.Reach.{GoesTo}
 use Rattle.kilim_woven_fiber.specs.Steps.{setting_of}
 use Rattle.kilim_woven_fiber.proofs.legs.reach.Given as goal
 
-abbrev pub invariant-loop-end : goal.invariant-loop-end
-invariant-loop-end l = record {
+abbrev pub invariant-loop : goal.invariant-loop
+invariant-loop l = record {
   goes : GoesTo (setting_of l.code l.limits l.main) l.code.program l.code.counted l.task (standing_at 0 l.fn.body) (standing_at 0 l.body);
   roomy : RoomyIn l.code.program l.body.frames;
   counted : l.fn.body.count ≤ l.body.count;
   most : l.body.count ≤ l.limits.steps;
 }
-
-abbrev pub decreases-loop-end : goal.decreases-loop-end
-decreases-loop-end l = l.limits.steps - l.body.count

@@ -1,9 +1,9 @@
 -- The built-in methods that the code tells apart, in the words of the machine.
 use Rattle.kilim_program.specs.Natives as native
-use Rattle.kilim_woven_fiber.specs.declared.natives.Member.{Member}
-use Rattle.kilim_woven_fiber.specs.declared.natives.Member.TheVariants as member
-use Rattle.kilim_woven_fiber.specs.declared.natives.Native.{Native}
-use Rattle.kilim_woven_fiber.specs.declared.natives.Native.TheVariants.{Execute, Start, Put, Get, Getnb, Print, Yield, ArgCount, Arg, OfFiber}
+use Rattle.kilim_woven_natives.specs.declared.natives.Member.{Member}
+use Rattle.kilim_woven_natives.specs.declared.natives.Member.TheVariants as member
+use Rattle.kilim_woven_natives.specs.declared.natives.Native.{Native}
+use Rattle.kilim_woven_natives.specs.declared.natives.Native.TheVariants.{Execute, Start, Put, Get, Getnb, Print, Yield, ArgCount, Arg, OfFiber}
 
 abbrev pub member_meant : Member → native.FiberMember
 member_meant member.Pc = native.Pc

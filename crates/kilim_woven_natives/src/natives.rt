@@ -3,7 +3,7 @@
 ghost use Rattle.std.specs.Prelude.{◌≡◌, codes, Some, IfSome};
 ghost use Rattle.kilim_program.specs.Natives as a_native;
 ghost use Rattle.kilim_program.specs.Natives.{natives, native_named, native_of};
-ghost use Rattle.kilim_woven_fiber.specs.Natives.{meaning, member_meant};
+ghost use Rattle.kilim_woven_natives.specs.Natives.{meaning, member_meant};
 
 use kilim_classes::{MethodId, Program};
 use kilim_lookups::{class_at, method_at};
