@@ -1,6 +1,3 @@
 mod Counting
 mod Doing
 mod Marks
-mod Reading
-mod Running
-mod Steps

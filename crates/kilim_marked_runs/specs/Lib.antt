@@ -1,4 +1,3 @@
 pub mod Counted
 pub mod Legs
 pub mod Marks
-pub mod Runs

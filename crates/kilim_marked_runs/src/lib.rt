@@ -1,10 +1,8 @@
 //! The interpreter on a program with a mark for each instruction: many steps, of which the marked ones count.
 #![tactic(auto)]
 
-mod legs;
 mod places;
 mod runs;
 
-pub use legs::run_marked;
 pub use places::Places;
 pub use runs::{CountedRun, Halted, run_counted};
