@@ -1,0 +1,9 @@
+-- A law: class files whose accepted program can be woven aren't reported.
+use Rattle.std.specs.Prelude.{◌≡◌, ℕ, List, None}
+use Rattle.kilim_classes.specs.Program.{Program}
+use Rattle.kilim_stages.specs.Accepted.{IsAcceptedOf}
+use Rattle.kilim_weaver.specs.Faults.{weave_fault}
+use Rattle.kilim_woven_stage.specs.Reports.{IsWovenReport}
+
+abbrev pub NeverWovenAndReported : Type 0
+NeverWovenAndReported = (names files : List (List ℕ)) (text : List ℕ) (p : Program) → IsAcceptedOf files p → weave_fault p ≡ None → IsWovenReport names files text → ⊥

@@ -1,0 +1,4 @@
+pub mod Reports
+pub mod Stage
+pub mod Laws
+pub mod Parts

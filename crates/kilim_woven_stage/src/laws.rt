@@ -1,0 +1,14 @@
+//! A law, and no work.
+
+ghost use Rattle.kilim_woven_stage.specs.Laws.{NeverWovenAndReported};
+
+use kilim_stages::{never_both, one_program_of};
+
+/// A law, and no work: class files whose accepted program can be woven aren't reported.
+#[tactic(auto, using(crate::proofs::Never::never))]
+pub fn never_woven_and_reported()
+    ensures { NeverWovenAndReported }
+{
+    one_program_of();
+    never_both();
+}

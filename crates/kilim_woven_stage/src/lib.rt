@@ -1,0 +1,10 @@
+//! From the bytes of class files to an accepted program and its woven form, or to the report of the first stage that has a fault.
+#![tactic(auto)]
+
+mod laws;
+mod refusals;
+mod stage;
+
+pub use kilim_stages::Refusal;
+pub use laws::never_woven_and_reported;
+pub use stage::{WovenProgram, woven_program};
