@@ -82,5 +82,14 @@ pub fn run_with<R: Threads + Wait + Sync, G: Gate>(
     if workers < 2 || workers > 16 {
         return run_alone(alloc, plain, woven, main, limits, gate);
     }
-    run_by(rt, alloc, plain, woven, main, limits, workers as usize, gate)
+    run_by(
+        rt,
+        alloc,
+        plain,
+        woven,
+        main,
+        limits,
+        workers as usize,
+        gate,
+    )
 }
