@@ -18,7 +18,7 @@ use Rattle.kilim_weave_command.specs.Weaving.{IsWeaving}
 use Rattle.kilim_weaver.specs.Faults.{weave_fault}
 use Rattle.kilim_weaver.specs.declared.weaving.Woven.{Woven}
 use Rattle.kilim_words.specs.Words.{Request, Check, Weave, Run, Demo}
-use Rattle.kilim_woven_stage.specs.Laws.{NeverWovenAndReported}
+use Rattle.kilim_woven_stage.specs.Laws.{WovenIsNotReported}
 use Rattle.kilim_woven_stage.specs.Reports.{IsWovenReport}
 use Rattle.kilim_woven_stage.specs.Stage.{IsWovenOf}
 use Rattle.kilim_woven_stage.specs.declared.stage.WovenProgram.{WovenProgram}
@@ -40,7 +40,7 @@ use Rattle.kilim_top.proofs.WholeRun.{to_run}
 
 -- ---- never both
 
-module _ (both : NeverBoth) (one : OneProgramOf) (weavable : NeverWeavableAndReported) (woven : NeverWovenAndReported) where
+module _ (both : NeverBoth) (one : OneProgramOf) (weavable : NeverWeavableAndReported) (woven : WovenIsNotReported) where
   never_run : (main : List ℕ) (workers steps : ℕ) (args : List ℤ) (names files : List (List ℕ)) (text : List ℕ) → IsFitRun main files → IsReport (Run main workers steps args names) files text → ⊥
   never_run main workers steps args names files text fit (inl stage) = woven names files text fit.program fit.accepted fit.none (inl stage)
   never_run main workers steps args names files text fit (inr (inl method)) = woven names files text fit.program fit.accepted fit.none (inr method)

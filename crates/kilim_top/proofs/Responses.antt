@@ -4,7 +4,7 @@ use Rattle.kilim_outside.specs.Causes.{Appended}
 use Rattle.kilim_stages.specs.Laws.{NeverBoth, OneProgramOf}
 use Rattle.kilim_weave_command.specs.Laws.{NeverWeavableAndReported}
 use Rattle.kilim_words.specs.Words.{Request, Check, Weave, Run, Demo}
-use Rattle.kilim_woven_stage.specs.Laws.{NeverWovenAndReported}
+use Rattle.kilim_woven_stage.specs.Laws.{WovenIsNotReported}
 use Rattle.kilim_written_files.specs.OutputFile.{OutputFile}
 use Rattle.kilim_written_files.specs.Written.{HaveOwnPaths, WroteFiles}
 use Rattle.kilim_top.specs.Inside.Answer.{IsReplyFor}
@@ -98,7 +98,7 @@ module _ (work : Request) (files : List (List ℕ)) (made : List OutputFile) (te
     contents = kept to stays (λ e. omega (arith, e));
   }
 
-  module _ (both : NeverBoth) (one : OneProgramOf) (weavable : NeverWeavableAndReported) (woven : NeverWovenAndReported) (status : ℕ) where
+  module _ (both : NeverBoth) (one : OneProgramOf) (weavable : NeverWeavableAndReported) (woven : WovenIsNotReported) (status : ℕ) where
     done_at : status ≡ 0 → IsDone work files made text → WroteFiles made old.contents new.contents → new.failed ≡ old.failed → new.faults ≡ old.faults → Appended old.written new.written text → Stays → Responded work files old new status
     done_at is done were_made failed quiet written stays = record {
       known = omega (arith, is);
