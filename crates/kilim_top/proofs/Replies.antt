@@ -27,7 +27,7 @@ use Rattle.kilim_top.specs.declared.answer.Reply.{Reply}
 use Rattle.kilim_top.specs.declared.answer.Ready.{Ready}
 use Rattle.kilim_top.specs.declared.answer.Ready.TheVariants as ready
 use Rattle.kilim_top.specs.Inside.Answer.{IsMainOf, IsNoMain, IsReadyFor, IsReadyOf, IsRefusedBy, IsReplyFor, IsRunReply, IsToRun}
-use Rattle.kilim_top.specs.Outcome.{IsDone, IsFitFor, IsFitRun, IsIsolatedRun, IsReport, limits_of}
+use Rattle.kilim_top.specs.Outcome.{IsDone, IsFitFor, IsFitRun, IsReport, limits_of}
 use Rattle.kilim_top.specs.Report.{accepted_line, coded_methods, main_line, utf16_of}
 use Rattle.kilim_thread_model.specs.State.{Setting}
 use Rattle.kilim_journal.specs.Text.{journal_text}
