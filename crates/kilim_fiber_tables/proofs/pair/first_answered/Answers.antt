@@ -7,4 +7,4 @@ pub seated-second-requires-clause-started : goal.seated-second-requires-clause-s
 seated-second-requires-clause-started c = c.in-Some.ensures.started
 
 pub returns-in-Some : goal.returns-in-Some
-returns-in-Some c = record { first = c.in-Some.ensures.seat; second = c.seated-second.ensures; letters = c.in-Some.ensures.letters }
+returns-in-Some g c = record { first = c.in-Some.ensures.seat; second = c.seated-second.ensures; letters = c.in-Some.ensures.letters }
