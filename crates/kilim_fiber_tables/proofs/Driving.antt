@@ -66,7 +66,7 @@ module _ (W : Program) (marks : List (List Bool)) where
   fit_of set f (wants.Print shape) answer.Done sits suits = record { wish = ToPrint shape; deed = Some (plain (act.Print shape)); asks = sits.0; fits = refl }
   fit_of set f w a sits suits = absurd suits
 
-  pub can_answer : (run : Run) (f : Fiber) (w : Wants Fiber) (a : Answer) → ServesRun W marks run → Sits W marks (set_of run) f (Some w) → Suits run.code.program w a → CanAnswer task_of course_of (AskedOf W marks) (ServesNamed W marks) run.code f a
+  pub can_answer : (run : Run) (f : Fiber) (w : Wants Fiber) (a : Answer) → ServesRun W marks run → Sits W marks (set_of run) f (Some w) → Suits run.code.plain w a → CanAnswer task_of course_of (AskedOf W marks) (ServesNamed W marks) run.code f a
   can_answer run f w a served sits suits = let fit = fit_of (set_of run) f w a sits suits in record { set = set_of run; served = served; wish = fit.wish; deed = fit.deed; asks = fit.asks; fits = fit.fits }
 
   -- where it rests it may run again
