@@ -1,5 +1,5 @@
 -- What linking, verification and the isolation rules give of a program's runs.
-use Rattle.std.proofs.Common.{◌≡◌, true, false, List}
+use Rattle.std.proofs.Common.{◌≡◌, true, List}
 use Rattle.kilim_classes.specs.declared.class.Form.TheVariants.{Plain}
 use Rattle.kilim_classes.specs.declared.names.ClassId.{ClassId}
 use Rattle.kilim_classes.specs.Keeps.{Keeps}
@@ -7,17 +7,16 @@ use Rattle.kilim_classes.specs.Program.{Program}
 use Rattle.kilim_classfile.specs.declared.class_file.ClassFile.{ClassFile}
 use Rattle.kilim_program.specs.declared.run.Limits.{Limits}
 use Rattle.kilim_program.specs.Members.{is_fit_main}
-use Rattle.kilim_thread_model.specs.Reach.{Liveness}
 use Rattle.kilim_one_heap.specs.Laws.{NoneShares}
 use Rattle.kilim_typing.specs.Typed.{IsWellTyped}
 use Rattle.kilim_isolation_check.specs.Faults.{IsAccepted}
 use Rattle.kilim_link_spec.specs.LinksWell.{LinksWell}
 use Rattle.kilim_plain_programs.specs.Laws.{LinkedIsPlain}
 use Rattle.kilim_main_begins.specs.Begins.{MainsBegin}
-use Rattle.kilim_reached_objects.specs.Laws.{AreLive, typed}
+use Rattle.kilim_reached_objects.specs.Laws.{typed}
 use Rattle.kilim_standing_threads.specs.Laws.{IsRunOfAccepted}
-use Rattle.kilim_kept.specs.Laws.{AcceptedIsKept, AcceptedServes}
-use Rattle.kilim_accepted_runs.specs.Laws.{AcceptedIsIsolated, AcceptedIsServed, setting_of}
+use Rattle.kilim_kept.specs.Laws.{AcceptedIsKept}
+use Rattle.kilim_accepted_runs.specs.Laws.{AcceptedIsIsolated, AcceptedIsRun, setting_of}
 
 module _ (plain : LinkedIsPlain) (begins : MainsBegin) where
   run_of : (files : List ClassFile) (p : Program) → LinksWell files Plain p → Keeps p → IsWellTyped p → IsAccepted (typed p) → (main : ClassId) → is_fit_main p main ≡ true → (limits : Limits) → IsRunOfAccepted (setting_of p main limits)
@@ -25,16 +24,8 @@ module _ (plain : LinkedIsPlain) (begins : MainsBegin) where
       let form = plain files p links keeps in
       record { keeps = keeps; named = form.1; form = form.0; well = well; accepted = accepted; main = fit; begins = begins files Plain p links main }
 
-  -- where no local is taken for live, none has to be
-  stacks_alone : Liveness
-  stacks_alone = λ id at k. false
-
-  none_live : (p : Program) → AreLive p stacks_alone
-  unfolding stacks_alone
-  none_live p id m at k there e = absurd (let z : false ≡ true = e in cc)
-
-  pub served : AcceptedServes → AcceptedIsServed
-  served serves files p links keeps well accepted main fit limits = (stacks_alone, serves (setting_of p main limits) (run_of files p links keeps well accepted main fit limits) stacks_alone (none_live p))
+  pub is_run : AcceptedIsRun
+  is_run files p links keeps well accepted main fit limits = run_of files p links keeps well accepted main fit limits
 
   pub isolated : AcceptedIsKept → NoneShares → AcceptedIsIsolated
   isolated kept none files p links keeps well accepted main fit limits live alive =

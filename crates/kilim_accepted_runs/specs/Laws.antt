@@ -11,18 +11,18 @@ use Rattle.kilim_thread_model.specs.State.{Setting}
 use Rattle.kilim_thread_model.specs.Reach.{Liveness, PlaysIsolated}
 use Rattle.kilim_typing.specs.Typed.{IsWellTyped, listed_frames}
 use Rattle.kilim_isolation_check.specs.Faults.{IsAccepted}
-use Rattle.kilim_fiber_kin.specs.Served.{CanServe}
 use Rattle.kilim_link_spec.specs.LinksWell.{LinksWell}
 use Rattle.kilim_reached_objects.specs.Laws.{AreLive}
+use Rattle.kilim_standing_threads.specs.Laws.{IsRunOfAccepted}
 
 -- the run of a program with a main class
 abbrev pub setting_of : Program → ClassId → Limits → Setting
 setting_of p main limits = record { program = p; main = main; limits = limits }
 
--- its fibers can be served: what they do is what the threads of their courses do
-abbrev pub AcceptedIsServed : Type 0
-AcceptedIsServed = (files : List ClassFile) (p : Program) → LinksWell files Plain p → Keeps p → IsWellTyped p → IsAccepted (record { program = p; frames = listed_frames p }) → (main : ClassId) → is_fit_main p main ≡ true → (limits : Limits) →
-    (live : Liveness) × CanServe live (setting_of p main limits)
+-- what is known of a run of an accepted program is known of its runs, whatever its limits are
+abbrev pub AcceptedIsRun : Type 0
+AcceptedIsRun = (files : List ClassFile) (p : Program) → LinksWell files Plain p → Keeps p → IsWellTyped p → IsAccepted (record { program = p; frames = listed_frames p }) → (main : ClassId) → is_fit_main p main ≡ true → (limits : Limits) →
+    IsRunOfAccepted (setting_of p main limits)
 
 -- in no interleaving is an object reached by two threads, by their stacks and the locals that are live
 abbrev pub AcceptedIsIsolated : Type 0

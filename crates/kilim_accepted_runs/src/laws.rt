@@ -1,19 +1,18 @@
 //! The laws.
 
-ghost use Rattle.kilim_accepted_runs.specs.Laws.{AcceptedIsIsolated, AcceptedIsServed};
+ghost use Rattle.kilim_accepted_runs.specs.Laws.{AcceptedIsIsolated, AcceptedIsRun};
 
-use kilim_kept::{accepted_is_kept, accepted_serves};
+use kilim_kept::accepted_is_kept;
 use kilim_main_begins::mains_begin;
 use kilim_one_heap::none_shares;
 use kilim_plain_programs::linked_is_plain;
 
-/// A law, and no work: the fibers of a linked, accepted program can be served, whatever its limits are.
-pub fn accepted_is_served()
-    ensures { AcceptedIsServed }
+/// A law, and no work: with a fit main class a linked, accepted program makes a run of an accepted program, whatever its limits are.
+pub fn accepted_is_run()
+    ensures { AcceptedIsRun }
 {
     linked_is_plain();
     mains_begin();
-    accepted_serves();
 }
 
 /// A law, and no work: in no interleaving of a linked, accepted program is an object reached by two threads.

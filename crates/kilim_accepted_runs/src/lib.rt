@@ -4,4 +4,4 @@
 
 mod laws;
 
-pub use laws::{accepted_is_isolated, accepted_is_served};
+pub use laws::{accepted_is_isolated, accepted_is_run};

@@ -6,11 +6,12 @@ use Rattle.kilim_classfile.specs.declared.fault.ClassFault.{ClassFault}
 use Rattle.kilim_classfile.specs.Law.{ClassFilesAreSpelled}
 use Rattle.kilim_classfile.specs.Reading.{read_class}
 use Rattle.kilim_classfile.specs.Text.{class_text, ClassFits}
-use Rattle.kilim_stages.specs.Reports.{IsStageReport, IsClassReport, first_fault, or_fault}
+use Rattle.kilim_stages.specs.Reports.{IsClassReport, first_fault, or_fault}
 use Rattle.kilim_stages.specs.declared.refusal.Refusal.{Refusal}
 use Rattle.kilim_stages.specs.declared.refusal.Refusal.TheVariants as refusal
 use Rattle.kilim_stages.specs.Parts.{IfReport}
 use Rattle.kilim_program_maker.specs.Demo.{demo_of}
+use Rattle.kilim_woven_stage.specs.Reports.{IsWovenReport}
 use Rattle.kilim_demo.specs.Demo.{demo_texts, IsDemoReport}
 
 no_fault : ClassFilesAreSpelled → (names : List (List ℕ)) (files : List ClassFile) → AllByRecursion ClassFits files → first_fault names (map class_text files) ≡ None
@@ -26,14 +27,17 @@ unclassed : ClassFilesAreSpelled → (names texts : List (List ℕ)) (files : Li
 unclassed law names texts files text fit e report =
     some_isnt (report.name, report.fault) (first_fault names texts) (ap (first_fault names) e ∙ no_fault law names files fit) report.first
 
-pub reported : ClassFilesAreSpelled → (names : List (List ℕ)) (number : ℕ) (text : List ℕ) → AllByRecursion ClassFits (demo_of number) → IsStageReport names (demo_texts number) text → IsDemoReport number text
+pub reported : ClassFilesAreSpelled → (names : List (List ℕ)) (number : ℕ) (text : List ℕ) → AllByRecursion ClassFits (demo_of number) → IsWovenReport names (demo_texts number) text → IsDemoReport number text
 unfolding demo_texts
-reported law names number text fit (inl report) = absurd (unclassed law names (demo_texts number) (demo_of number) text fit refl report)
-reported law names number text fit (inr report) = report
+reported law names number text fit (inl (inl report)) = absurd (unclassed law names (demo_texts number) (demo_of number) text fit refl report)
+reported law names number text fit (inl (inr (inl report))) = inl report
+reported law names number text fit (inl (inr (inr (inl report)))) = inr (inl report)
+reported law names number text fit (inl (inr (inr (inr report)))) = inr (inr (inl report))
+reported law names number text fit (inr report) = inr (inr (inr report))
 
 -- what the stages report
-pub report_of : {A : Type 0} → ClassFilesAreSpelled → (names texts : List (List ℕ)) (number : ℕ) (r : Result A Refusal) → AllByRecursion ClassFits (demo_of number) → texts ≡ demo_texts number → IfReport r (IsStageReport names texts) → IfReport r (IsDemoReport number)
+pub report_of : {A : Type 0} → ClassFilesAreSpelled → (names texts : List (List ℕ)) (number : ℕ) (r : Result A Refusal) → AllByRecursion ClassFits (demo_of number) → texts ≡ demo_texts number → IfReport r (IsWovenReport names texts) → IfReport r (IsDemoReport number)
 report_of law names texts number (Ok x) fit e report = tt
 report_of law names texts number (Err refusal.NoMemory) fit e report = tt
 report_of law names texts number (Err (refusal.Report text)) fit e report =
-    reported law names number text.items fit (subst (λ (ts : List (List ℕ)). IsStageReport names ts text.items) e report)
+    reported law names number text.items fit (subst (λ (ts : List (List ℕ)). IsWovenReport names ts text.items) e report)

@@ -1,40 +1,28 @@
--- The runs of an accepted demo can be served.
-use Rattle.std.proofs.Common.{◌≡◌, ◌≤◌, ℕ, Bool, true, false, cond, List, Option, Some, None, Result, Ok, Err, length, refl, sym, ap, subst, ◌∙◌, arith}
-use Rattle.kilim_classfile.specs.Text.{class_text}
-use Rattle.kilim_journal.specs.declared.entry.Entry.{Entry}
-use Rattle.kilim_program.specs.declared.run.Limits.{Limits}
-use Rattle.kilim_program_maker.specs.Demo.{demo_of}
-use Rattle.kilim_program_maker.specs.Laws.{DemoIsShort}
-use Rattle.kilim_thread_model.specs.Runs.{Whole}
-use Rattle.kilim_whole_runs.specs.Runs.{IsJournalOf}
-use Rattle.kilim_demo.specs.Line.{demo_line}
-use Rattle.kilim_classes.specs.declared.class.Form.TheVariants.{Plain}
-use Rattle.kilim_classes.specs.declared.names.ClassId.{ClassId}
-use Rattle.kilim_classes.specs.Keeps.{Keeps}
-use Rattle.kilim_classes.specs.Names.{class_named}
-use Rattle.kilim_classes.specs.Program.{Program}
-use Rattle.kilim_link_spec.specs.LinksWell.{LinksWell}
-use Rattle.kilim_main_class.specs.Main.{fit_class_named, if_fit}
-use Rattle.kilim_program.specs.Members.{is_fit_main}
-use Rattle.kilim_accepted_runs.specs.Laws.{AcceptedIsServed}
+-- The runs of an accepted demo can be made.
+use Rattle.std.proofs.Common.{◌≡◌, ◌≤◌, ℕ, Bool, true, false, cond, List, Option, Some, None, Result, Ok, Err, length, refl, sym, subst, arith}
 use Rattle.std.proofs.lemmas.List.{length-map}
 use Rattle.std.specs.Prelude.{IfOk}
-use Rattle.kilim_isolation_check.specs.IsolatedProgram.{IsolatedProgram}
+use Rattle.kilim_classes.specs.declared.names.ClassId.{ClassId}
+use Rattle.kilim_classes.specs.Names.{class_named}
+use Rattle.kilim_classes.specs.Program.{Program}
+use Rattle.kilim_classfile.specs.Text.{class_text}
+use Rattle.kilim_journal.specs.declared.entry.Entry.{Entry}
+use Rattle.kilim_main_class.specs.Main.{fit_class_named, if_fit}
+use Rattle.kilim_program.specs.declared.run.Limits.{Limits}
+use Rattle.kilim_program.specs.Members.{is_fit_main}
+use Rattle.kilim_program_maker.specs.Demo.{demo_of}
+use Rattle.kilim_program_maker.specs.Laws.{DemoIsShort}
 use Rattle.kilim_stages.specs.declared.refusal.Refusal.{Refusal}
-use Rattle.kilim_stages.specs.Accepted.{IsAcceptedOf}
-use Rattle.kilim_stages.proofs.Both.{all_fit, as_many}
-use Rattle.kilim_typing.specs.Typed.{IsWellTyped}
-use Rattle.kilim_whole_runs.specs.Runs.{IsServed, setting_of}
+use Rattle.kilim_thread_model.specs.Runs.{Whole}
+use Rattle.kilim_weaver.specs.declared.weaving.Woven.{Woven}
+use Rattle.kilim_whole_runs.specs.Laws.{WovenIsServed}
+use Rattle.kilim_whole_runs.specs.Runs.{IsJournalOf, setting_of}
+use Rattle.kilim_woven_follows.specs.Served.{CanServe}
+use Rattle.kilim_woven_stage.specs.declared.stage.WovenProgram.{WovenProgram}
+use Rattle.kilim_woven_stage.specs.Stage.{IsWovenOf}
+use Rattle.kilim_demo.specs.Line.{demo_line}
 use Rattle.kilim_demo.specs.Demo.{demo_limits, demo_texts, main_name, IsDemoLine}
 use Rattle.kilim_demo.specs.Ready.{IsReady}
-
-links_well : (files : List (List ℕ)) (p : Program) → length files ≤ 1000 → (is : IsAcceptedOf files p) → LinksWell is.of_files.classes Plain p
-links_well files p few is = record {
-  few = subst (λ (n : ℕ). n ≤ 1000) (sym (as_many files is.of_files.classes is.of_files.are_files)) few;
-  fit = all_fit files is.of_files.classes is.of_files.are_files;
-  none = is.of_files.none;
-  linked = is.of_files.linked;
-}
 
 -- there are not too many to be linked
 pub few_texts : DemoIsShort → (number : ℕ) → length (demo_texts number) ≤ 1000
@@ -60,18 +48,20 @@ named_in : (p : Program) (o : Option ClassId) (c : ClassId) → if_fit p o ≡ S
 named_in p None c e = e
 named_in p (Some a) c e = chosen a c (is_fit_main p a) e
 
-pub is_ready : AcceptedIsServed → DemoIsShort → (number : ℕ) (p : Program) (main : ClassId) → Keeps p → IsWellTyped p → IsAcceptedOf (demo_texts number) p → fit_class_named p main_name ≡ Some main → IsReady number p main
-is_ready law short number p main keeps typed is fit =
-    let s = law is.of_files.classes p (links_well (demo_texts number) p (few_texts short number) is) keeps typed is.accepts.isolated main (fit_in p (class_named p main_name) main fit) demo_limits in
-    record { accepted = is; fit = fit; served = record { live = s.0; can = s.1 } }
+pub is_ready : WovenIsServed → DemoIsShort → (number : ℕ) (p : Program) (w : Woven) (main : ClassId) → IsWovenOf (demo_texts number) p w → fit_class_named p main_name ≡ Some main → IsReady number p w main
+is_ready law short number p w main is fit = record {
+  accepted = is.accepted;
+  fit = fit;
+  served = law (demo_texts number) p w (few_texts short number) is.accepted is.weaves main (fit_in p (class_named p main_name) main fit) demo_limits;
+}
 
 -- ---- runs
 
-pub served_by : (number : ℕ) (p : Program) (main : ClassId) (limits : Limits) → IsReady number p main → limits ≡ demo_limits → IsServed (setting_of p main limits)
-served_by number p main limits ready e = subst (λ (l : Limits). IsServed (setting_of p main l)) (sym e) ready.served
+pub served_by : (number : ℕ) (p : Program) (w : Woven) (main : ClassId) (limits : Limits) → IsReady number p w main → limits ≡ demo_limits → CanServe (setting_of p main limits) w.program w.counted
+served_by number p w main limits ready e = subst (λ (l : Limits). CanServe (setting_of p main l) w.program w.counted) (sym e) ready.served
 
-pub line_is : (number : ℕ) (p : Program) (main : ClassId) (limits : Limits) (journal : List Entry) (text : List ℕ) → IsReady number p main → limits ≡ demo_limits → IsJournalOf (setting_of p main limits) journal → text ≡ demo_line number journal → IsDemoLine number text
-line_is number p main limits journal text ready e run is = record {
+pub line_is : (number : ℕ) (p : Program) (w : Woven) (main : ClassId) (limits : Limits) (journal : List Entry) (text : List ℕ) → IsReady number p w main → limits ≡ demo_limits → IsJournalOf (setting_of p main limits) journal → text ≡ demo_line number journal → IsDemoLine number text
+line_is number p w main limits journal text ready e run is = record {
   program = p;
   accepted = ready.accepted;
   main = main;
@@ -82,6 +72,6 @@ line_is number p main limits journal text ready e run is = record {
   is_text = is;
 }
 
-pub accepted_of : (number : ℕ) (texts : List (List ℕ)) (r : Result IsolatedProgram Refusal) → texts ≡ demo_texts number → IfOk r (λ i. IsAcceptedOf texts i.typed.program) → IfOk r (λ i. IsAcceptedOf (demo_texts number) i.typed.program)
-accepted_of number texts (Ok i) e is = subst (λ (ts : List (List ℕ)). IsAcceptedOf ts i.typed.program) e is
-accepted_of number texts (Err refusal) e is = tt
+pub woven_of : (number : ℕ) (texts : List (List ℕ)) (r : Result WovenProgram Refusal) → texts ≡ demo_texts number → IfOk r (λ w. IsWovenOf texts w.plain w.woven) → IfOk r (λ w. IsWovenOf (demo_texts number) w.plain w.woven)
+woven_of number texts (Ok w) e is = subst (λ (ts : List (List ℕ)). IsWovenOf ts w.plain w.woven) e is
+woven_of number texts (Err refusal) e is = tt

@@ -12,6 +12,7 @@ use Rattle.kilim_stages.specs.Accepted.{IsAcceptedOf}
 use Rattle.kilim_stages.specs.Reports.{IsLinkReport, IsTypeReport, IsRulesReport}
 use Rattle.kilim_thread_model.specs.Runs.{Whole}
 use Rattle.kilim_thread_model.specs.State.{Setting}
+use Rattle.kilim_woven_stage.specs.Reports.{IsMethodReport}
 use Rattle.kilim_demo.specs.Line.{demo_line}
 
 -- the bytes of its class files, in their order
@@ -41,6 +42,6 @@ pub record IsDemoLine (number : ℕ) (text : List ℕ) : Type 0 where
   pub whole : Whole (demo_run program main) journal
   pub is_text : text ≡ demo_line number journal
 
--- the report of the first stage, from linking on, that has a fault
+-- the report of the first stage, from linking on, that has a fault; the last one says which method can't be woven
 abbrev pub IsDemoReport : ℕ → List ℕ → Type 0
-IsDemoReport number text = IsLinkReport (demo_texts number) text ⊎ (IsTypeReport (demo_texts number) text ⊎ IsRulesReport (demo_texts number) text)
+IsDemoReport number text = IsLinkReport (demo_texts number) text ⊎ (IsTypeReport (demo_texts number) text ⊎ (IsRulesReport (demo_texts number) text ⊎ IsMethodReport (demo_texts number) text))

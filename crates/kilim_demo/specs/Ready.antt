@@ -4,11 +4,13 @@ use Rattle.kilim_classes.specs.Program.{Program}
 use Rattle.kilim_classes.specs.declared.names.ClassId.{ClassId}
 use Rattle.kilim_main_class.specs.Main.{fit_class_named}
 use Rattle.kilim_stages.specs.Accepted.{IsAcceptedOf}
-use Rattle.kilim_whole_runs.specs.Runs.{IsServed, setting_of}
+use Rattle.kilim_weaver.specs.declared.weaving.Woven.{Woven}
+use Rattle.kilim_whole_runs.specs.Runs.{setting_of}
+use Rattle.kilim_woven_follows.specs.Served.{CanServe}
 use Rattle.kilim_demo.specs.Demo.{demo_limits, demo_texts, main_name}
 
--- the program is that of the demo, it is accepted, this is its main class, and it can be run
-pub record IsReady (number : ℕ) (program : Program) (main : ClassId) : Type 0 where
+-- the program is that of the demo, it is accepted, this is its main class, and its woven form can be run
+pub record IsReady (number : ℕ) (program : Program) (woven : Woven) (main : ClassId) : Type 0 where
   pub accepted : IsAcceptedOf (demo_texts number) program
   pub fit : fit_class_named program main_name ≡ Some main
-  pub served : IsServed (setting_of program main demo_limits)
+  pub served : CanServe (setting_of program main demo_limits) woven.program woven.counted

@@ -1,28 +1,25 @@
 //! Runs of the demo.
 
 ghost use Rattle.std.specs.Prelude.{◌≡◌, ◌≤◌, length, Some, IfOk};
-ghost use Rattle.kilim_classes.specs.Keeps.{Keeps};
-ghost use Rattle.kilim_typing.specs.Typed.{IsWellTyped};
 ghost use Rattle.kilim_main_class.specs.Main.{fit_class_named};
-ghost use Rattle.kilim_stages.specs.Accepted.{IsAcceptedOf};
 ghost use Rattle.kilim_stages.specs.Parts.{IfReport};
-ghost use Rattle.kilim_whole_runs.specs.Runs.{IsServed, setting_of};
+ghost use Rattle.kilim_woven_stage.specs.Stage.{IsWovenOf};
 ghost use Rattle.kilim_demo.specs.Demo.{demo_limits, demo_texts, main_name, IsDemoLine, IsDemoReport};
 ghost use Rattle.kilim_demo.specs.Ready.{IsReady};
 
 use crate::line::demo_line;
 use crate::texts::{demo_texts, no_names};
-use kilim_accepted_runs::accepted_is_served;
 use kilim_classes::{ClassId, Program};
 use kilim_classfile::class_file_is_spelled;
-use kilim_isolation_check::Isolated;
 use kilim_main_class::fit_main;
 use kilim_outside::Gate;
 use kilim_program::Limits;
 use kilim_program_maker::demo_fits;
-use kilim_stages::{Refusal, accepted};
+use kilim_stages::Refusal;
 use kilim_units::{NoMemory, Seq};
-use kilim_whole_runs::{run_alone, run_with};
+use kilim_weaver::Woven;
+use kilim_whole_runs::{run_alone, run_with, woven_is_served};
+use kilim_woven_stage::{WovenProgram, woven_program};
 use std::alloc::Global;
 use std::sync::Wait;
 use std::thread::Threads;
@@ -36,15 +33,16 @@ const MAIN: [u16; 6] = [68, 47, 77, 97, 105, 110];
 // What is run.
 #[derive(Drop)]
 struct Ready {
-    program: Program,
+    plain: Program,
+    woven: Woven,
     main: ClassId,
 }
 
-// The program to which the class files with these bytes link, where it is accepted, or a report.
-#[tactic(auto, using(crate::proofs::Served::few_texts, crate::proofs::Served::accepted_of, crate::proofs::Reported::report_of))]
-fn accepted_texts(alloc: Global, number: u64, texts: &[Seq<u8>]) -> Result<Isolated, Refusal>
+// The program to which the class files with these bytes link, with its woven form, or a report.
+#[tactic(auto, using(crate::proofs::Served::few_texts, crate::proofs::Served::woven_of, crate::proofs::Reported::report_of))]
+fn woven_texts(alloc: Global, number: u64, texts: &[Seq<u8>]) -> Result<WovenProgram, Refusal>
     requires { texts.now ≡ demo_texts number }
-    ensures accepted { IfOk result (λ isolated. IsAcceptedOf (demo_texts number) isolated.typed.program) }
+    ensures woven { IfOk result (λ w. IsWovenOf (demo_texts number) w.plain w.woven) }
     ensures report { IfReport result (IsDemoReport number) }
 {
     demo_fits();
@@ -53,27 +51,18 @@ fn accepted_texts(alloc: Global, number: u64, texts: &[Seq<u8>]) -> Result<Isola
     let Ok(names) = no_names(alloc, texts.len()) else {
         return Err(Refusal::NoMemory);
     };
-    accepted(alloc, names.as_slice(), texts)
+    woven_program(alloc, names.as_slice(), texts)
 }
 
 // The same of the demo of a number.
-fn accepted_demo(alloc: Global, number: u64) -> Result<Isolated, Refusal>
-    ensures accepted { IfOk result (λ isolated. IsAcceptedOf (demo_texts number) isolated.typed.program) }
+fn woven_demo(alloc: Global, number: u64) -> Result<WovenProgram, Refusal>
+    ensures woven { IfOk result (λ w. IsWovenOf (demo_texts number) w.plain w.woven) }
     ensures report { IfReport result (IsDemoReport number) }
 {
     let Ok(texts) = demo_texts(alloc, number) else {
         return Err(Refusal::NoMemory);
     };
-    accepted_texts(alloc, number, texts.as_slice())
-}
-
-// The program that was accepted.
-fn program_of(isolated: Isolated) -> Program
-    ensures program { result ≡ isolated.typed.program }
-    ensures keeps { Keeps result }
-    ensures typed { IsWellTyped result }
-{
-    isolated.typed.program
+    woven_texts(alloc, number, texts.as_slice())
 }
 
 // The main class of the demo.
@@ -86,19 +75,16 @@ fn main_of(program: &Program) -> Result<Option<ClassId>, NoMemory>
 // What is to be run. A program without the main class, which no number gives, is answered as want of memory.
 #[tactic(auto, using(crate::proofs::Served::is_ready))]
 fn prepared(alloc: Global, number: u64) -> Result<Ready, Refusal>
-    ensures ready { IfOk result (λ r. IsReady number r.program r.main) }
+    ensures ready { IfOk result (λ r. IsReady number r.plain r.woven r.main) }
     ensures report { IfReport result (IsDemoReport number) }
 {
-    accepted_is_served();
+    woven_is_served();
     demo_fits();
-    match accepted_demo(alloc, number) {
-        Ok(isolated) => {
-            let program = program_of(isolated);
-            match main_of(&program) {
-                Ok(Some(main)) => Ok(Ready { program, main }),
-                _ => Err(Refusal::NoMemory),
-            }
-        }
+    match woven_demo(alloc, number) {
+        Ok(WovenProgram { plain, woven }) => match main_of(&plain) {
+            Ok(Some(main)) => Ok(Ready { plain, woven, main }),
+            _ => Err(Refusal::NoMemory),
+        },
         Err(refusal) => Err(refusal),
     }
 }
@@ -120,10 +106,17 @@ fn line_alone<G: Gate>(
     ready: Ready,
     gate: &G,
 ) -> Result<Vec<u8>, NoMemory>
-    requires { IsReady number ready.program ready.main }
+    requires { IsReady number ready.plain ready.woven ready.main }
     ensures { IfOk result (λ text. IsDemoLine number text.items) }
 {
-    let journal = run_alone(alloc, ready.program, ready.main, &limits(alloc), gate)?;
+    let journal = run_alone(
+        alloc,
+        ready.plain,
+        ready.woven,
+        ready.main,
+        &limits(alloc),
+        gate,
+    )?;
     demo_line(alloc, number, journal.as_slice())
 }
 
@@ -136,13 +129,14 @@ fn line_with<R: Threads + Wait + Sync, G: Gate>(
     workers: u64,
     gate: &G,
 ) -> Result<Vec<u8>, NoMemory>
-    requires { IsReady number ready.program ready.main }
+    requires { IsReady number ready.plain ready.woven ready.main }
     ensures { IfOk result (λ text. IsDemoLine number text.items) }
 {
     let journal = run_with(
         rt,
         alloc,
-        ready.program,
+        ready.plain,
+        ready.woven,
         ready.main,
         &limits(alloc),
         workers,
@@ -151,7 +145,7 @@ fn line_with<R: Threads + Wait + Sync, G: Gate>(
     demo_line(alloc, number, journal.as_slice())
 }
 
-/// Makes the class files of the demo of a number, links and checks them, runs their program by one worker, and answers the line of
+/// Makes the class files of the demo of a number, links, checks and weaves them, runs their program by one worker, and answers the line of
 /// its journal; or the report of the first stage that has a fault. It waits for nobody.
 pub fn demo_alone<G: Gate>(alloc: Global, number: u64, gate: &G) -> Result<Vec<u8>, Refusal>
     ensures line { IfOk result (λ text. IsDemoLine number text.items) }

@@ -1,30 +1,54 @@
 -- The journal of a whole run, from what a runner answers.
-use Rattle.std.proofs.Common.{◌≡◌, List, ◌++◌, refl, sym, subst}
+use Rattle.std.proofs.Common.{◌≡◌, Bool, true, false, List, ◌++◌, refl, sym, subst}
 use Rattle.kilim_classes.specs.declared.names.ClassId.{ClassId}
 use Rattle.kilim_classes.specs.Program.{Program}
 use Rattle.kilim_program.specs.declared.run.Limits.{Limits}
 use Rattle.kilim_journal.specs.declared.entry.Entry.{Entry}
 use Rattle.kilim_journal.specs.Readable.{IsReadable, JournalFits}
+use Rattle.kilim_reached_objects.specs.Laws.{AreLive}
+use Rattle.kilim_thread_model.specs.Reach.{Liveness}
 use Rattle.kilim_thread_model.specs.State.{Setting}
 use Rattle.kilim_thread_model.specs.Runs.{Whole}
 use Rattle.kilim_exchange.specs.Seen.{MovedWhole}
-use Rattle.kilim_fiber_state.specs.Stands.{Serves}
-use Rattle.kilim_fiber_state.specs.declared.code.Code.{Code}
+use Rattle.kilim_named_fiber.specs.Named.{ServesNamed}
 use Rattle.kilim_one_heap.specs.Laws.{MovedIsWhole}
 use Rattle.kilim_readable_runs.specs.Laws.{RunsAreReadable}
 use Rattle.kilim_worker_pool.specs.Pool.{IsOf}
-use Rattle.kilim_whole_runs.specs.Runs.{IsJournalOf, IsServed, setting_of}
+use Rattle.kilim_woven_fiber.specs.declared.code.Code.{Code}
+use Rattle.kilim_woven_follows.specs.Served.{CanServe}
+use Rattle.kilim_whole_runs.specs.Runs.{IsJournalOf, setting_of}
 
--- the setting is one of this code's
-pub is_of : (program : Program) (main : ClassId) (limits : Limits) (code : Code) → code.program ≡ program → IsServed (setting_of program main limits) → IsOf Serves code main limits (setting_of program main limits)
-is_of program main limits code same served = record {
-  run = record { served = record { program = sym same; live = served.live; can = served.can }; is-main = refl };
+-- the setting is one of this code's, whose woven program and marks are named by themselves
+pub is_of : (plain W : Program) (marks : List (List Bool)) (main : ClassId) (limits : Limits) (code : Code) → code.plain ≡ plain → code.program ≡ W → code.counted ≡ marks → CanServe (setting_of plain main limits) W marks →
+    IsOf (ServesNamed code.program code.counted) code main limits (setting_of plain main limits)
+is_of plain W marks main limits code same is are can = record {
+  run = record {
+    served = record {
+      serves = record {
+        program = sym same;
+        can = subst (λ (V : Program). CanServe (setting_of plain main limits) V code.counted) (sym is) (subst (λ (ms : List (List Bool)). CanServe (setting_of plain main limits) W ms) (sym are) can);
+      };
+      program = refl;
+      counted = refl;
+    };
+    is-main = refl;
+  };
   is-limits = refl;
 }
 
-pub is_journal : MovedIsWhole → RunsAreReadable → (set : Setting) → IsServed set → (es : List Entry) → MovedWhole set es → JournalFits es → IsJournalOf set es
-is_journal law readable set served es moved fits = record {
-  whole = subst (λ (xs : List Entry). Whole set xs) (sym moved.parts) (law served.live set served.can.fit served.can.kept moved.entries moved.waits moved.state moved.replay moved.at_rest);
+-- where no local is taken for live, none has to be
+stacks_alone : Liveness
+stacks_alone = λ id at k. false
+
+none_live : (p : Program) → AreLive p stacks_alone
+unfolding stacks_alone
+none_live p id m at k there e = absurd (let z : false ≡ true = e in cc)
+
+pub is_journal : MovedIsWhole → RunsAreReadable → (set : Setting) (W : Program) (marks : List (List Bool)) → CanServe set W marks → (es : List Entry) → MovedWhole set es → JournalFits es → IsJournalOf set es
+is_journal law readable set W marks can es moved fits = record {
+  whole =
+      subst (λ (xs : List Entry). Whole set xs) (sym moved.parts)
+      (law stacks_alone set can.run.main (can.runs.kept stacks_alone (none_live set.program)) moved.entries moved.waits moved.state moved.replay moved.at_rest);
   readable = subst IsReadable (sym moved.parts) (readable set moved.entries moved.waits moved.state moved.replay moved.at_rest);
   fits = fits;
 }

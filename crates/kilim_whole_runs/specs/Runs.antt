@@ -1,5 +1,5 @@
 -- Whole runs of a program, made by a runner.
-use Rattle.std.specs.Prelude.{◌≡◌, true, List}
+use Rattle.std.specs.Prelude.{List}
 use Rattle.kilim_classes.specs.declared.names.ClassId.{ClassId}
 use Rattle.kilim_classes.specs.Program.{Program}
 use Rattle.kilim_program.specs.declared.run.Limits.{Limits}
@@ -7,17 +7,10 @@ use Rattle.kilim_journal.specs.declared.entry.Entry.{Entry}
 use Rattle.kilim_journal.specs.Readable.{IsReadable, JournalFits}
 use Rattle.kilim_thread_model.specs.State.{Setting}
 use Rattle.kilim_thread_model.specs.Runs.{Whole}
-use Rattle.kilim_thread_model.specs.Reach.{Liveness}
-use Rattle.kilim_fiber_kin.specs.Served.{CanServe}
 
 -- what a run is of
 abbrev pub setting_of : Program → ClassId → Limits → Setting
 setting_of program main limits = record { program = program; main = main; limits = limits }
-
--- what runs rest on
-pub record IsServed (set : Setting) : Type 0 where
-  pub live : Liveness
-  pub can : CanServe live set
 
 -- the journal of a whole run, which can be read back
 pub record IsJournalOf (set : Setting) (journal : List Entry) : Type 0 where

@@ -5,5 +5,5 @@ use Rattle.kilim_stages.specs.Accepted.{IsAcceptedOf}
 use Rattle.kilim_weaver.specs.Faults.{weave_fault}
 use Rattle.kilim_woven_stage.specs.Reports.{IsWovenReport}
 
-abbrev pub NeverWovenAndReported : Type 0
-NeverWovenAndReported = (names files : List (List ℕ)) (text : List ℕ) (p : Program) → IsAcceptedOf files p → weave_fault p ≡ None → IsWovenReport names files text → ⊥
+abbrev pub WovenIsNotReported : Type 0
+WovenIsNotReported = (names files : List (List ℕ)) (text : List ℕ) (p : Program) → IsAcceptedOf files p → weave_fault p ≡ None → IsWovenReport names files text → ⊥

@@ -6,5 +6,5 @@ mod refusals;
 mod stage;
 
 pub use kilim_stages::Refusal;
-pub use laws::never_woven_and_reported;
+pub use laws::woven_is_not_reported;
 pub use stage::{WovenProgram, woven_program};
