@@ -76,7 +76,11 @@ pub fn second_resumed<K: Woven>(run: &Run, pair: Pair<Named<K>>) -> Option<Pair<
 }
 
 // The second fiber: the one that there is, or else the one that was started.
-fn seated<K: Woven>(run: &Run, second: Option<Seat<Named<K>>>, started: Option<Named<K>>) -> Option<Seat<Named<K>>>
+fn seated<K: Woven>(
+    run: &Run,
+    second: Option<Seat<Named<K>>>,
+    started: Option<Named<K>>,
+) -> Option<Seat<Named<K>>>
     requires second { sits_if K.program K.counted (set_of run.now) second }
     requires started { stands_if K.program K.counted (set_of run.now) started }
     ensures { sits_if K.program K.counted (set_of run.now) result }
@@ -92,7 +96,11 @@ fn seated<K: Woven>(run: &Run, second: Option<Seat<Named<K>>>, started: Option<N
 }
 
 /// The first fiber is answered.
-pub fn first_answered<K: Woven>(run: &Run, pair: Pair<Named<K>>, reply: &Reply) -> Option<Pair<Named<K>>>
+pub fn first_answered<K: Woven>(
+    run: &Run,
+    pair: Pair<Named<K>>,
+    reply: &Reply,
+) -> Option<Pair<Named<K>>>
     requires served { ServesRun K.program K.counted run.now }
     requires stands { PairStands K.program K.counted (set_of run.now) pair }
     ensures { IfSome result (PairStands K.program K.counted (set_of run.now)) }
@@ -111,7 +119,11 @@ pub fn first_answered<K: Woven>(run: &Run, pair: Pair<Named<K>>, reply: &Reply) 
 }
 
 /// So is the second one. A task that it starts is let go.
-pub fn second_answered<K: Woven>(run: &Run, pair: Pair<Named<K>>, reply: &Reply) -> Option<Pair<Named<K>>>
+pub fn second_answered<K: Woven>(
+    run: &Run,
+    pair: Pair<Named<K>>,
+    reply: &Reply,
+) -> Option<Pair<Named<K>>>
     requires served { ServesRun K.program K.counted run.now }
     requires stands { PairStands K.program K.counted (set_of run.now) pair }
     ensures { IfSome result (PairStands K.program K.counted (set_of run.now)) }

@@ -26,7 +26,12 @@ fn run_one<K: Woven>(run: &Run, pair: Pair<Named<K>>, is_first: bool) -> Option<
 }
 
 // A fiber is answered.
-fn answer_one<K: Woven>(run: &Run, pair: Pair<Named<K>>, is_first: bool, reply: &Reply) -> Option<Pair<Named<K>>>
+fn answer_one<K: Woven>(
+    run: &Run,
+    pair: Pair<Named<K>>,
+    is_first: bool,
+    reply: &Reply,
+) -> Option<Pair<Named<K>>>
     requires served { ServesRun K.program K.counted run.now }
     requires stands { PairStands K.program K.counted (set_of run.now) pair }
     ensures { IfSome result (PairStands K.program K.counted (set_of run.now)) }
@@ -48,7 +53,12 @@ fn is_first(word: &str) -> Option<bool> {
 }
 
 // The line of the fiber that ran.
-fn push_line<F: Fibers>(alloc: Global, text: &mut String, pair: &Pair<F>, is_first: bool) -> Option<()> {
+fn push_line<F: Fibers>(
+    alloc: Global,
+    text: &mut String,
+    pair: &Pair<F>,
+    is_first: bool,
+) -> Option<()> {
     if is_first {
         return push_seat(alloc, text, &pair.first);
     }
@@ -58,7 +68,13 @@ fn push_line<F: Fibers>(alloc: Global, text: &mut String, pair: &Pair<F>, is_fir
     }
 }
 
-fn run_line<K: Woven>(alloc: Global, run: &Run, pair: Pair<Named<K>>, is_first: bool, text: &mut String) -> Option<Pair<Named<K>>>
+fn run_line<K: Woven>(
+    alloc: Global,
+    run: &Run,
+    pair: Pair<Named<K>>,
+    is_first: bool,
+    text: &mut String,
+) -> Option<Pair<Named<K>>>
     requires served { ServesRun K.program K.counted run.now }
     requires stands { PairStands K.program K.counted (set_of run.now) pair }
     ensures { IfSome result (PairStands K.program K.counted (set_of run.now)) }
@@ -72,7 +88,12 @@ fn run_line<K: Woven>(alloc: Global, run: &Run, pair: Pair<Named<K>>, is_first: 
     }
 }
 
-fn answer_by<K: Woven>(run: &Run, pair: Pair<Named<K>>, who: &str, word: &str) -> Option<Pair<Named<K>>>
+fn answer_by<K: Woven>(
+    run: &Run,
+    pair: Pair<Named<K>>,
+    who: &str,
+    word: &str,
+) -> Option<Pair<Named<K>>>
     requires served { ServesRun K.program K.counted run.now }
     requires stands { PairStands K.program K.counted (set_of run.now) pair }
     ensures { IfSome result (PairStands K.program K.counted (set_of run.now)) }
@@ -83,7 +104,13 @@ fn answer_by<K: Woven>(run: &Run, pair: Pair<Named<K>>, who: &str, word: &str) -
 }
 
 // A word: `0` or `1` runs that fiber and writes a line, and an answer behind a colon answers it.
-fn step<K: Woven>(alloc: Global, run: &Run, pair: Pair<Named<K>>, word: &str, text: &mut String) -> Option<Pair<Named<K>>>
+fn step<K: Woven>(
+    alloc: Global,
+    run: &Run,
+    pair: Pair<Named<K>>,
+    word: &str,
+    text: &mut String,
+) -> Option<Pair<Named<K>>>
     requires served { ServesRun K.program K.counted run.now }
     requires stands { PairStands K.program K.counted (set_of run.now) pair }
     ensures { IfSome result (PairStands K.program K.counted (set_of run.now)) }

@@ -167,7 +167,12 @@ fn kept<K: Woven>(
 }
 
 // What is there behind an answer.
-fn left_by<K: Woven>(run: &Run, fiber: Named<K>, letters: Vec<Letter>, started: Option<Named<K>>) -> After<Named<K>>
+fn left_by<K: Woven>(
+    run: &Run,
+    fiber: Named<K>,
+    letters: Vec<Letter>,
+    started: Option<Named<K>>,
+) -> After<Named<K>>
     requires stands { Stands K.program K.counted (set_of run.now) fiber }
     requires letters { AreMessages run.now.code.plain letters.items }
     requires started { stands_if K.program K.counted (set_of run.now) started }
@@ -209,7 +214,12 @@ fn passed<K: Woven>(
 }
 
 /// The fiber is answered. Nothing for want of memory, or where the reply isn't one to what it wants.
-pub fn answered<K: Woven>(run: &Run, seat: Seat<Named<K>>, reply: &Reply, letters: Vec<Letter>) -> Option<After<Named<K>>>
+pub fn answered<K: Woven>(
+    run: &Run,
+    seat: Seat<Named<K>>,
+    reply: &Reply,
+    letters: Vec<Letter>,
+) -> Option<After<Named<K>>>
     requires served { ServesRun K.program K.counted run.now }
     requires stands { SeatStands K.program K.counted (set_of run.now) seat }
     requires letters { AreMessages run.now.code.plain letters.items }

@@ -31,12 +31,7 @@ fn served_run(alloc: Global, woven: WovenProgram, main: ClassId, limits: Limits)
     requires { CanServe (setting_of woven.plain main limits) woven.woven.program woven.woven.counted }
     ensures { IfSome result IsServed }
 {
-    match Code::new(
-        alloc,
-        woven.plain,
-        woven.woven.program,
-        woven.woven.counted,
-    ) {
+    match Code::new(alloc, woven.plain, woven.woven.program, woven.woven.counted) {
         Ok(code) => Some(Run { code, limits, main }),
         Err(_) => None,
     }
