@@ -51,6 +51,7 @@ named_in p (Some a) c e = chosen a c (is_fit_main p a) e
 pub is_ready : WovenIsServed → DemoIsShort → (number : ℕ) (p : Program) (w : Woven) (main : ClassId) → IsWovenOf (demo_texts number) p w → fit_class_named p main_name ≡ Some main → IsReady number p w main
 is_ready law short number p w main is fit = record {
   accepted = is.accepted;
+  none = is.none;
   fit = fit;
   served = law (demo_texts number) p w (few_texts short number) is.accepted is.weaves main (fit_in p (class_named p main_name) main fit) demo_limits;
 }
@@ -64,6 +65,7 @@ pub line_is : (number : ℕ) (p : Program) (w : Woven) (main : ClassId) (limits 
 line_is number p w main limits journal text ready e run is = record {
   program = p;
   accepted = ready.accepted;
+  none = ready.none;
   main = main;
   named = named_in p (class_named p main_name) main ready.fit;
   fit = fit_in p (class_named p main_name) main ready.fit;

@@ -1,5 +1,5 @@
 -- The run of the demo of a number, and what is written of it (own).
-use Rattle.std.specs.Prelude.{◌≡◌, ℕ, true, List, [], map, Some, ◌⊎◌, codes}
+use Rattle.std.specs.Prelude.{◌≡◌, ℕ, true, List, [], map, Some, None, ◌⊎◌, codes}
 use Rattle.kilim_classes.specs.Program.{Program}
 use Rattle.kilim_classes.specs.declared.names.ClassId.{ClassId}
 use Rattle.kilim_classes.specs.Names.{class_named}
@@ -12,6 +12,7 @@ use Rattle.kilim_stages.specs.Accepted.{IsAcceptedOf}
 use Rattle.kilim_stages.specs.Reports.{IsLinkReport, IsTypeReport, IsRulesReport}
 use Rattle.kilim_thread_model.specs.Runs.{Whole}
 use Rattle.kilim_thread_model.specs.State.{Setting}
+use Rattle.kilim_weaver.specs.Faults.{weave_fault}
 use Rattle.kilim_woven_stage.specs.Reports.{IsMethodReport}
 use Rattle.kilim_demo.specs.Line.{demo_line}
 
@@ -30,11 +31,12 @@ demo_limits = record { steps = 1000000; args = [] }
 abbrev pub demo_run : Program → ClassId → Setting
 demo_run program main = record { program = program; main = main; limits = demo_limits }
 
--- The class files link to an accepted program with the main class `D/Main`, and the text is the line of the journal of a whole run
--- of it.
+-- The class files link to an accepted program, each of whose methods can be woven, with the main class `D/Main`, and the text is the
+-- line of the journal of a whole run of it.
 pub record IsDemoLine (number : ℕ) (text : List ℕ) : Type 0 where
   pub program : Program
   pub accepted : IsAcceptedOf (demo_texts number) program
+  pub none : weave_fault program ≡ None
   pub main : ClassId
   pub named : class_named program main_name ≡ Some main
   pub fit : is_fit_main program main ≡ true

@@ -5,7 +5,6 @@ ghost use Rattle.kilim_woven_stage.specs.Laws.{WovenIsNotReported};
 use kilim_stages::{never_both, one_program_of};
 
 /// A law, and no work: class files whose accepted program can be woven aren't reported.
-#[tactic(auto, using(crate::proofs::Never::never))]
 pub fn woven_is_not_reported()
     ensures { WovenIsNotReported }
 {
