@@ -1,17 +1,11 @@
--- A program of which fibers can run, whatever the main class that is fit and the limits.
+-- A woven program of which fibers can run, whatever the main class that is fit and the limits.
 use Rattle.std.specs.Prelude.{◌≡◌, true}
 use Rattle.kilim_classes.specs.declared.names.ClassId.{ClassId}
-use Rattle.kilim_classes.specs.Program.{Program}
 use Rattle.kilim_program.specs.declared.run.Limits.{Limits}
 use Rattle.kilim_program.specs.Members.{is_fit_main}
-use Rattle.kilim_thread_model.specs.Reach.{Liveness}
-use Rattle.kilim_thread_model.specs.State.{Setting}
-use Rattle.kilim_accepted_runs.specs.Laws.{setting_of}
-use Rattle.kilim_fiber_kin.specs.Served.{CanServe}
+use Rattle.kilim_whole_runs.specs.Runs.{setting_of}
+use Rattle.kilim_woven_follows.specs.Served.{CanServe}
+use Rattle.kilim_woven_stage.specs.declared.stage.WovenProgram.{WovenProgram}
 
-pub record IsServed (set : Setting) : Type 0 where
-  pub live : Liveness
-  pub can : CanServe live set
-
-abbrev pub ServesAll : Program → Type 0
-ServesAll p = (class : ClassId) → is_fit_main p class ≡ true → (limits : Limits) → IsServed (setting_of p class limits)
+abbrev pub ServesAll : WovenProgram → Type 0
+ServesAll w = (class : ClassId) → is_fit_main w.plain class ≡ true → (limits : Limits) → CanServe (setting_of w.plain class limits) w.woven.program w.woven.counted

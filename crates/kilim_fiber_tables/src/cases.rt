@@ -8,9 +8,9 @@ use crate::served::{run_of, served};
 use kilim_classes::{ClassId, Program};
 use kilim_main_class::fit_main;
 use kilim_program::Limits;
-use kilim_stages::Refusal;
 use kilim_units::Seq;
 use kilim_words::{Asked, RunWords, integers, request};
+use kilim_woven_stage::{Refusal, WovenProgram};
 use std::alloc::Global;
 use std::rt::Files;
 
@@ -45,14 +45,14 @@ fn limits_of(alloc: Global, words: &RunWords<'_>) -> Option<Limits> {
 
 fn drive(
     alloc: Global,
-    program: Program,
+    woven: WovenProgram,
     class: ClassId,
     limits: Limits,
     script: &[String],
 ) -> Option<Vec<u8>>
-    requires { ServesAll program }
+    requires { ServesAll woven }
 {
-    match run_of(alloc, program, class, limits) {
+    match run_of(alloc, woven, class, limits) {
         Some(run) => Some(driven(alloc, &run, script)?.into_bytes()),
         None => None,
     }
@@ -68,10 +68,10 @@ fn drive_files(
         return None;
     }
     match served(alloc, words.files, files) {
-        Ok(program) => {
-            let class = class_named(alloc, &program, words.main)?;
+        Ok(woven) => {
+            let class = class_named(alloc, &woven.plain, words.main)?;
             let limits = limits_of(alloc, words)?;
-            drive(alloc, program, class, limits, script)
+            drive(alloc, woven, class, limits, script)
         }
         Err(Refusal::Report(text)) => Some(text),
         Err(Refusal::NoMemory) => None,

@@ -2,7 +2,6 @@
 
 use crate::seats::Seat;
 use kilim_classes::BoxName;
-use kilim_fiber_state::Fiber;
 use kilim_fibers::{Fibers, Wants};
 use kilim_program::{Shape, Token};
 use std::alloc::Global;
@@ -57,7 +56,7 @@ fn push_shape(alloc: Global, text: &mut String, shape: &Shape) -> Option<()> {
     Some(())
 }
 
-fn push_wants(alloc: Global, text: &mut String, wants: &Wants<Fiber>) -> Option<()> {
+fn push_wants<F>(alloc: Global, text: &mut String, wants: &Wants<F>) -> Option<()> {
     match wants {
         Wants::Put(mailbox, _, shape) => {
             text.push_str(" put").ok()?;
@@ -93,7 +92,7 @@ fn push_wants(alloc: Global, text: &mut String, wants: &Wants<Fiber>) -> Option<
 }
 
 /// Appends a line: the number of the fiber's task, and what it wants.
-pub fn push_seat(alloc: Global, text: &mut String, seat: &Seat) -> Option<()> {
+pub fn push_seat<F: Fibers>(alloc: Global, text: &mut String, seat: &Seat<F>) -> Option<()> {
     let task = seat.fiber.task();
     let word = format!(in alloc; "{task}").ok()?;
     text.push_str(word.as_str()).ok()?;

@@ -5,21 +5,21 @@ ghost use Rattle.kilim_fiber_tables.specs.Driven.{PairStands, ServesRun, set_of,
 
 use crate::replies::Reply;
 use crate::seats::{Letter, Run, Seat, answered, first_seat, resumed};
-use kilim_fiber_state::Fiber;
+use kilim_named_fiber::{Named, Woven};
 use std::alloc::Global;
 
 /// The fiber of task 0, that of the first task that was started, and the messages.
 #[derive(Drop)]
-pub struct Pair {
-    pub first: Seat,
-    pub second: Option<Seat>,
+pub struct Pair<F> {
+    pub first: Seat<F>,
+    pub second: Option<Seat<F>>,
     pub letters: Vec<Letter>,
 }
 
 /// The fiber of task 0 alone, which has done nothing yet.
-pub fn begun(alloc: Global, run: &Run) -> Option<Pair>
-    requires { ServesRun run.now }
-    ensures { IfSome result (PairStands (set_of run.now)) }
+pub fn begun<K: Woven>(alloc: Global, run: &Run) -> Option<Pair<Named<K>>>
+    requires { ServesRun K.program K.counted run.now }
+    ensures { IfSome result (PairStands K.program K.counted (set_of run.now)) }
 {
     let letters = Vec::new(alloc);
     match first_seat(alloc, run) {
@@ -33,10 +33,10 @@ pub fn begun(alloc: Global, run: &Run) -> Option<Pair>
 }
 
 /// The first fiber runs up to the next thing that it wants.
-pub fn first_resumed(run: &Run, pair: Pair) -> Option<Pair>
-    requires served { ServesRun run.now }
-    requires stands { PairStands (set_of run.now) pair }
-    ensures { IfSome result (PairStands (set_of run.now)) }
+pub fn first_resumed<K: Woven>(run: &Run, pair: Pair<Named<K>>) -> Option<Pair<Named<K>>>
+    requires served { ServesRun K.program K.counted run.now }
+    requires stands { PairStands K.program K.counted (set_of run.now) pair }
+    ensures { IfSome result (PairStands K.program K.counted (set_of run.now)) }
 {
     match resumed(run, pair.first) {
         Some(first) => Some(Pair {
@@ -48,10 +48,10 @@ pub fn first_resumed(run: &Run, pair: Pair) -> Option<Pair>
     }
 }
 
-fn second_of(run: &Run, second: Option<Seat>) -> Option<Seat>
-    requires served { ServesRun run.now }
-    requires stands { sits_if (set_of run.now) second }
-    ensures { IfSome result (λ seat. sits_if (set_of run.now) (Some seat)) }
+fn second_of<K: Woven>(run: &Run, second: Option<Seat<Named<K>>>) -> Option<Seat<Named<K>>>
+    requires served { ServesRun K.program K.counted run.now }
+    requires stands { sits_if K.program K.counted (set_of run.now) second }
+    ensures { IfSome result (λ seat. sits_if K.program K.counted (set_of run.now) (Some seat)) }
 {
     match second {
         Some(seat) => resumed(run, seat),
@@ -60,10 +60,10 @@ fn second_of(run: &Run, second: Option<Seat>) -> Option<Seat>
 }
 
 /// So does the second one.
-pub fn second_resumed(run: &Run, pair: Pair) -> Option<Pair>
-    requires served { ServesRun run.now }
-    requires stands { PairStands (set_of run.now) pair }
-    ensures { IfSome result (PairStands (set_of run.now)) }
+pub fn second_resumed<K: Woven>(run: &Run, pair: Pair<Named<K>>) -> Option<Pair<Named<K>>>
+    requires served { ServesRun K.program K.counted run.now }
+    requires stands { PairStands K.program K.counted (set_of run.now) pair }
+    ensures { IfSome result (PairStands K.program K.counted (set_of run.now)) }
 {
     match second_of(run, pair.second) {
         Some(second) => Some(Pair {
@@ -76,10 +76,14 @@ pub fn second_resumed(run: &Run, pair: Pair) -> Option<Pair>
 }
 
 // The second fiber: the one that there is, or else the one that was started.
-fn seated(run: &Run, second: Option<Seat>, started: Option<Fiber>) -> Option<Seat>
-    requires second { sits_if (set_of run.now) second }
-    requires started { stands_if (set_of run.now) started }
-    ensures { sits_if (set_of run.now) result }
+fn seated<K: Woven>(
+    run: &Run,
+    second: Option<Seat<Named<K>>>,
+    started: Option<Named<K>>,
+) -> Option<Seat<Named<K>>>
+    requires second { sits_if K.program K.counted (set_of run.now) second }
+    requires started { stands_if K.program K.counted (set_of run.now) started }
+    ensures { sits_if K.program K.counted (set_of run.now) result }
 {
     let _ = run;
     match second {
@@ -92,10 +96,14 @@ fn seated(run: &Run, second: Option<Seat>, started: Option<Fiber>) -> Option<Sea
 }
 
 /// The first fiber is answered.
-pub fn first_answered(run: &Run, pair: Pair, reply: &Reply) -> Option<Pair>
-    requires served { ServesRun run.now }
-    requires stands { PairStands (set_of run.now) pair }
-    ensures { IfSome result (PairStands (set_of run.now)) }
+pub fn first_answered<K: Woven>(
+    run: &Run,
+    pair: Pair<Named<K>>,
+    reply: &Reply,
+) -> Option<Pair<Named<K>>>
+    requires served { ServesRun K.program K.counted run.now }
+    requires stands { PairStands K.program K.counted (set_of run.now) pair }
+    ensures { IfSome result (PairStands K.program K.counted (set_of run.now)) }
 {
     match answered(run, pair.first, reply, pair.letters) {
         Some(after) => {
@@ -111,10 +119,14 @@ pub fn first_answered(run: &Run, pair: Pair, reply: &Reply) -> Option<Pair>
 }
 
 /// So is the second one. A task that it starts is let go.
-pub fn second_answered(run: &Run, pair: Pair, reply: &Reply) -> Option<Pair>
-    requires served { ServesRun run.now }
-    requires stands { PairStands (set_of run.now) pair }
-    ensures { IfSome result (PairStands (set_of run.now)) }
+pub fn second_answered<K: Woven>(
+    run: &Run,
+    pair: Pair<Named<K>>,
+    reply: &Reply,
+) -> Option<Pair<Named<K>>>
+    requires served { ServesRun K.program K.counted run.now }
+    requires stands { PairStands K.program K.counted (set_of run.now) pair }
+    ensures { IfSome result (PairStands K.program K.counted (set_of run.now)) }
 {
     let Pair {
         first,

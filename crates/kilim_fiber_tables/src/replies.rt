@@ -4,7 +4,6 @@ ghost use Rattle.std.specs.Prelude.{IfSome};
 ghost use Rattle.kilim_fiber_tables.specs.Driven.{AreMessages, BringsMessage, Suits};
 
 use crate::seats::{Letter, Run};
-use kilim_fiber_state::Fiber;
 use kilim_fibers::{Answer, Wants};
 
 /// A word that answers a fiber.
@@ -40,9 +39,9 @@ pub fn reply_of(word: &str) -> Option<Reply> {
 
 // The message that was put last and not taken yet.
 fn last_message(run: &Run, letters: &mut Vec<Letter>) -> Option<Answer>
-    requires { AreMessages run.now.code.program letters.old.items }
-    ensures brings { IfSome result (BringsMessage run.now.code.program) }
-    ensures letters { AreMessages run.now.code.program letters.new.items }
+    requires { AreMessages run.now.code.plain letters.old.items }
+    ensures brings { IfSome result (BringsMessage run.now.code.plain) }
+    ensures letters { AreMessages run.now.code.plain letters.new.items }
 {
     let _ = run;
     match letters.pop() {
@@ -52,15 +51,15 @@ fn last_message(run: &Run, letters: &mut Vec<Letter>) -> Option<Answer>
 }
 
 /// The answer that a reply gives to what is wanted; none where it gives none.
-pub fn fitting(
+pub fn fitting<F>(
     run: &Run,
-    wants: &Wants<Fiber>,
+    wants: &Wants<F>,
     reply: &Reply,
     letters: &mut Vec<Letter>,
 ) -> Option<Answer>
-    requires { AreMessages run.now.code.program letters.old.items }
-    ensures suits { IfSome result (Suits run.now.code.program wants.now) }
-    ensures letters { AreMessages run.now.code.program letters.new.items }
+    requires { AreMessages run.now.code.plain letters.old.items }
+    ensures suits { IfSome result (Suits run.now.code.plain wants.now) }
+    ensures letters { AreMessages run.now.code.plain letters.new.items }
 {
     match (wants, reply) {
         (Wants::Put(_, _, _), Reply::Sent(number)) => Some(Answer::Sent(*number)),

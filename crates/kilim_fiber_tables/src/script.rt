@@ -1,19 +1,22 @@
 //! Scripts: which fiber runs, and what it is answered.
 
 ghost use Rattle.std.specs.Prelude.{IfSome};
-ghost use Rattle.kilim_fiber_tables.specs.Driven.{PairStands, ServesRun, set_of};
+ghost use Rattle.kilim_fiber_tables.specs.Driven.{IsServed, PairStands, ServesRun, set_of};
 
 use crate::lines::push_seat;
 use crate::pair::{Pair, begun, first_answered, first_resumed, second_answered, second_resumed};
 use crate::replies::{Reply, reply_of};
 use crate::seats::Run;
+use kilim_fibers::Fibers;
+use kilim_named_fiber::{Named, Woven};
 use std::alloc::Global;
+use std::marker::Brand;
 
 // A fiber runs.
-fn run_one(run: &Run, pair: Pair, is_first: bool) -> Option<Pair>
-    requires served { ServesRun run.now }
-    requires stands { PairStands (set_of run.now) pair }
-    ensures { IfSome result (PairStands (set_of run.now)) }
+fn run_one<K: Woven>(run: &Run, pair: Pair<Named<K>>, is_first: bool) -> Option<Pair<Named<K>>>
+    requires served { ServesRun K.program K.counted run.now }
+    requires stands { PairStands K.program K.counted (set_of run.now) pair }
+    ensures { IfSome result (PairStands K.program K.counted (set_of run.now)) }
 {
     if is_first {
         first_resumed(run, pair)
@@ -23,10 +26,15 @@ fn run_one(run: &Run, pair: Pair, is_first: bool) -> Option<Pair>
 }
 
 // A fiber is answered.
-fn answer_one(run: &Run, pair: Pair, is_first: bool, reply: &Reply) -> Option<Pair>
-    requires served { ServesRun run.now }
-    requires stands { PairStands (set_of run.now) pair }
-    ensures { IfSome result (PairStands (set_of run.now)) }
+fn answer_one<K: Woven>(
+    run: &Run,
+    pair: Pair<Named<K>>,
+    is_first: bool,
+    reply: &Reply,
+) -> Option<Pair<Named<K>>>
+    requires served { ServesRun K.program K.counted run.now }
+    requires stands { PairStands K.program K.counted (set_of run.now) pair }
+    ensures { IfSome result (PairStands K.program K.counted (set_of run.now)) }
 {
     if is_first {
         first_answered(run, pair, reply)
@@ -45,7 +53,12 @@ fn is_first(word: &str) -> Option<bool> {
 }
 
 // The line of the fiber that ran.
-fn push_line(alloc: Global, text: &mut String, pair: &Pair, is_first: bool) -> Option<()> {
+fn push_line<F: Fibers>(
+    alloc: Global,
+    text: &mut String,
+    pair: &Pair<F>,
+    is_first: bool,
+) -> Option<()> {
     if is_first {
         return push_seat(alloc, text, &pair.first);
     }
@@ -55,10 +68,16 @@ fn push_line(alloc: Global, text: &mut String, pair: &Pair, is_first: bool) -> O
     }
 }
 
-fn run_line(alloc: Global, run: &Run, pair: Pair, is_first: bool, text: &mut String) -> Option<Pair>
-    requires served { ServesRun run.now }
-    requires stands { PairStands (set_of run.now) pair }
-    ensures { IfSome result (PairStands (set_of run.now)) }
+fn run_line<K: Woven>(
+    alloc: Global,
+    run: &Run,
+    pair: Pair<Named<K>>,
+    is_first: bool,
+    text: &mut String,
+) -> Option<Pair<Named<K>>>
+    requires served { ServesRun K.program K.counted run.now }
+    requires stands { PairStands K.program K.counted (set_of run.now) pair }
+    ensures { IfSome result (PairStands K.program K.counted (set_of run.now)) }
 {
     match run_one(run, pair, is_first) {
         Some(next) => match push_line(alloc, text, &next, is_first) {
@@ -69,10 +88,15 @@ fn run_line(alloc: Global, run: &Run, pair: Pair, is_first: bool, text: &mut Str
     }
 }
 
-fn answer_by(run: &Run, pair: Pair, who: &str, word: &str) -> Option<Pair>
-    requires served { ServesRun run.now }
-    requires stands { PairStands (set_of run.now) pair }
-    ensures { IfSome result (PairStands (set_of run.now)) }
+fn answer_by<K: Woven>(
+    run: &Run,
+    pair: Pair<Named<K>>,
+    who: &str,
+    word: &str,
+) -> Option<Pair<Named<K>>>
+    requires served { ServesRun K.program K.counted run.now }
+    requires stands { PairStands K.program K.counted (set_of run.now) pair }
+    ensures { IfSome result (PairStands K.program K.counted (set_of run.now)) }
 {
     let first = is_first(who)?;
     let reply = reply_of(word)?;
@@ -80,10 +104,16 @@ fn answer_by(run: &Run, pair: Pair, who: &str, word: &str) -> Option<Pair>
 }
 
 // A word: `0` or `1` runs that fiber and writes a line, and an answer behind a colon answers it.
-fn step(alloc: Global, run: &Run, pair: Pair, word: &str, text: &mut String) -> Option<Pair>
-    requires served { ServesRun run.now }
-    requires stands { PairStands (set_of run.now) pair }
-    ensures { IfSome result (PairStands (set_of run.now)) }
+fn step<K: Woven>(
+    alloc: Global,
+    run: &Run,
+    pair: Pair<Named<K>>,
+    word: &str,
+    text: &mut String,
+) -> Option<Pair<Named<K>>>
+    requires served { ServesRun K.program K.counted run.now }
+    requires stands { PairStands K.program K.counted (set_of run.now) pair }
+    ensures { IfSome result (PairStands K.program K.counted (set_of run.now)) }
 {
     if let Some((who, reply)) = word.split_once(':') {
         return answer_by(run, pair, who, reply);
@@ -92,12 +122,11 @@ fn step(alloc: Global, run: &Run, pair: Pair, word: &str, text: &mut String) -> 
     run_line(alloc, run, pair, first, text)
 }
 
-/// What the fibers want at each word of a script that runs one. Nothing for want of memory, or where the words are no script of this
-/// run.
-pub fn driven(alloc: Global, run: &Run, words: &[String]) -> Option<String>
-    requires { ServesRun run.now }
+// What the fibers of the woven program that `K` names want at each word.
+fn driven_by<K: Woven>(alloc: Global, run: &Run, words: &[String]) -> Option<String>
+    requires { ServesRun K.program K.counted run.now }
 {
-    let Some(mut pair) = begun(alloc, run) else {
+    let Some(mut pair) = begun::<K>(alloc, run) else {
         return None;
     };
     let mut text = String::new(alloc);
@@ -108,4 +137,12 @@ pub fn driven(alloc: Global, run: &Run, words: &[String]) -> Option<String>
         }
     }
     Some(text)
+}
+
+/// What the fibers want at each word of a script that runs one. Nothing for want of memory, or where the words are no script of this
+/// run.
+pub fn driven(alloc: Global, run: &Run, words: &[String]) -> Option<String>
+    requires { IsServed run.now }
+{
+    driven_by::<Brand>(alloc, run, words)
 }

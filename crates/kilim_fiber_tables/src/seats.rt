@@ -5,11 +5,12 @@ ghost use Rattle.kilim_fiber_tables.specs.Driven.{AfterStands, AreMessages, Carr
 
 use crate::replies::{Reply, fitting};
 use kilim_classes::ClassId;
-use kilim_fiber_state::{Code, Fiber};
 use kilim_fibers::{Answer, Fibers, Wants};
+use kilim_named_fiber::{Named, Woven};
 use kilim_program::Limits;
 use kilim_tree_move::Tree;
 use kilim_units::NoMemory;
+use kilim_woven_fiber::Code;
 use std::alloc::Global;
 
 /// What fibers run from.
@@ -22,9 +23,9 @@ pub struct Run {
 
 /// A fiber, and what it wants, up to its answer.
 #[derive(Drop)]
-pub struct Seat {
-    pub fiber: Fiber,
-    pub wants: Option<Wants<Fiber>>,
+pub struct Seat<F> {
+    pub fiber: F,
+    pub wants: Option<Wants<F>>,
 }
 
 /// A message that was put and not taken yet, with the number of its put.
@@ -36,23 +37,23 @@ pub struct Letter {
 
 /// What an answer leaves: the fiber, the messages, and the fiber of the task that was started.
 #[derive(Drop)]
-pub struct After {
-    pub seat: Seat,
+pub struct After<F> {
+    pub seat: Seat<F>,
     pub letters: Vec<Letter>,
-    pub started: Option<Fiber>,
+    pub started: Option<F>,
 }
 
-fn booted(alloc: Global, run: &Run) -> Result<Fiber, NoMemory>
-    requires { ServesRun run.now }
-    ensures { IfOk result (Stands (set_of run.now)) }
+fn booted<K: Woven>(alloc: Global, run: &Run) -> Result<Named<K>, NoMemory>
+    requires { ServesRun K.program K.counted run.now }
+    ensures { IfOk result (Stands K.program K.counted (set_of run.now)) }
 {
-    Fiber::boot(alloc, &run.code, run.main)
+    Named::<K>::boot(alloc, &run.code, run.main)
 }
 
 /// The fiber of task 0.
-pub fn first_seat(alloc: Global, run: &Run) -> Option<Seat>
-    requires { ServesRun run.now }
-    ensures { IfSome result (SeatStands (set_of run.now)) }
+pub fn first_seat<K: Woven>(alloc: Global, run: &Run) -> Option<Seat<Named<K>>>
+    requires { ServesRun K.program K.counted run.now }
+    ensures { IfSome result (SeatStands K.program K.counted (set_of run.now)) }
 {
     match booted(alloc, run) {
         Ok(fiber) => Some(Seat { fiber, wants: None }),
@@ -61,9 +62,9 @@ pub fn first_seat(alloc: Global, run: &Run) -> Option<Seat>
 }
 
 // The fiber, where it rests.
-fn rested(run: &Run, fiber: Fiber, wants: Wants<Fiber>) -> Option<Fiber>
-    requires { Sits (set_of run.now) fiber (Some wants) }
-    ensures { IfSome result (Stands (set_of run.now)) }
+fn rested<K: Woven>(run: &Run, fiber: Named<K>, wants: Wants<Named<K>>) -> Option<Named<K>>
+    requires { Sits K.program K.counted (set_of run.now) fiber (Some wants) }
+    ensures { IfSome result (Stands K.program K.counted (set_of run.now)) }
 {
     let _ = run;
     match wants {
@@ -73,9 +74,9 @@ fn rested(run: &Run, fiber: Fiber, wants: Wants<Fiber>) -> Option<Fiber>
 }
 
 // The fiber, where it wants no answer.
-fn ready(run: &Run, seat: Seat) -> Option<Fiber>
-    requires { SeatStands (set_of run.now) seat }
-    ensures { IfSome result (Stands (set_of run.now)) }
+fn ready<K: Woven>(run: &Run, seat: Seat<Named<K>>) -> Option<Named<K>>
+    requires { SeatStands K.program K.counted (set_of run.now) seat }
+    ensures { IfSome result (Stands K.program K.counted (set_of run.now)) }
 {
     let Seat { fiber, wants } = seat;
     match wants {
@@ -84,19 +85,19 @@ fn ready(run: &Run, seat: Seat) -> Option<Fiber>
     }
 }
 
-fn wanted(run: &Run, fiber: &mut Fiber) -> Result<Wants<Fiber>, NoMemory>
-    requires served { ServesRun run.now }
-    requires stands { Stands (set_of run.now) fiber.old }
-    ensures { IfOk result (λ wants. Sits (set_of run.now) fiber.new (Some wants)) }
+fn wanted<K: Woven>(run: &Run, fiber: &mut Named<K>) -> Result<Wants<Named<K>>, NoMemory>
+    requires served { ServesRun K.program K.counted run.now }
+    requires stands { Stands K.program K.counted (set_of run.now) fiber.old }
+    ensures { IfOk result (λ wants. Sits K.program K.counted (set_of run.now) fiber.new (Some wants)) }
 {
     fiber.resume(&run.code, &run.limits)
 }
 
 /// The fiber runs up to the next thing that it wants. Nothing for want of memory, or where it waits for an answer or has ended.
-pub fn resumed(run: &Run, seat: Seat) -> Option<Seat>
-    requires served { ServesRun run.now }
-    requires stands { SeatStands (set_of run.now) seat }
-    ensures { IfSome result (SeatStands (set_of run.now)) }
+pub fn resumed<K: Woven>(run: &Run, seat: Seat<Named<K>>) -> Option<Seat<Named<K>>>
+    requires served { ServesRun K.program K.counted run.now }
+    requires stands { SeatStands K.program K.counted (set_of run.now) seat }
+    ensures { IfSome result (SeatStands K.program K.counted (set_of run.now)) }
 {
     match ready(run, seat) {
         Some(fiber) => {
@@ -113,26 +114,26 @@ pub fn resumed(run: &Run, seat: Seat) -> Option<Seat>
     }
 }
 
-fn answer(
+fn answer<K: Woven>(
     run: &Run,
-    fiber: &mut Fiber,
-    wants: &Wants<Fiber>,
+    fiber: &mut Named<K>,
+    wants: &Wants<Named<K>>,
     answer: Answer,
 ) -> Result<(), NoMemory>
-    requires served { ServesRun run.now }
-    requires wants { Sits (set_of run.now) fiber.old (Some wants.now) }
-    requires suits { Suits run.now.code.program wants.now answer }
-    ensures { OnOk result (Stands (set_of run.now) fiber.new) }
+    requires served { ServesRun K.program K.counted run.now }
+    requires wants { Sits K.program K.counted (set_of run.now) fiber.old (Some wants.now) }
+    requires suits { Suits run.now.code.plain wants.now answer }
+    ensures { OnOk result (Stands K.program K.counted (set_of run.now) fiber.new) }
 {
     let _ = wants;
     fiber.answer(&run.code, answer)
 }
 
 // A newly begun fiber, with its task's number.
-fn numbered(run: &Run, fiber: Fiber, number: u32) -> Fiber
+fn numbered<K: Woven>(run: &Run, fiber: Named<K>, number: u32) -> Named<K>
     requires fresh { IsFresh fiber }
-    requires stands { Stands (set_of run.now) fiber }
-    ensures { Stands (set_of run.now) result }
+    requires stands { Stands K.program K.counted (set_of run.now) fiber }
+    ensures { Stands K.program K.counted (set_of run.now) result }
 {
     let _ = run;
     let mut fiber = fiber;
@@ -141,16 +142,16 @@ fn numbered(run: &Run, fiber: Fiber, number: u32) -> Fiber
 }
 
 // What comes of an answer beside the fiber: a message more, or a fiber that was started.
-fn kept(
+fn kept<K: Woven>(
     run: &Run,
-    wants: Wants<Fiber>,
+    wants: Wants<Named<K>>,
     reply: &Reply,
     letters: &mut Vec<Letter>,
-) -> Result<Option<Fiber>, NoMemory>
-    requires carries { Carries (set_of run.now) wants }
-    requires letters { AreMessages run.now.code.program letters.old.items }
-    ensures started { IfOk result (stands_if (set_of run.now)) }
-    ensures letters { OnOk result (AreMessages run.now.code.program letters.new.items) }
+) -> Result<Option<Named<K>>, NoMemory>
+    requires carries { Carries K.program K.counted (set_of run.now) wants }
+    requires letters { AreMessages run.now.code.plain letters.old.items }
+    ensures started { IfOk result (stands_if K.program K.counted (set_of run.now)) }
+    ensures letters { OnOk result (AreMessages run.now.code.plain letters.new.items) }
 {
     match (wants, reply) {
         (Wants::Put(_, tree, _), Reply::Sent(number)) => {
@@ -166,11 +167,16 @@ fn kept(
 }
 
 // What is there behind an answer.
-fn left_by(run: &Run, fiber: Fiber, letters: Vec<Letter>, started: Option<Fiber>) -> After
-    requires stands { Stands (set_of run.now) fiber }
-    requires letters { AreMessages run.now.code.program letters.items }
-    requires started { stands_if (set_of run.now) started }
-    ensures { AfterStands (set_of run.now) result }
+fn left_by<K: Woven>(
+    run: &Run,
+    fiber: Named<K>,
+    letters: Vec<Letter>,
+    started: Option<Named<K>>,
+) -> After<Named<K>>
+    requires stands { Stands K.program K.counted (set_of run.now) fiber }
+    requires letters { AreMessages run.now.code.plain letters.items }
+    requires started { stands_if K.program K.counted (set_of run.now) started }
+    ensures { AfterStands K.program K.counted (set_of run.now) result }
 {
     let _ = run;
     After {
@@ -181,17 +187,17 @@ fn left_by(run: &Run, fiber: Fiber, letters: Vec<Letter>, started: Option<Fiber>
 }
 
 // The fiber goes on with an answer to what it wants.
-fn passed(
+fn passed<K: Woven>(
     run: &Run,
-    fiber: Fiber,
-    wants: Wants<Fiber>,
+    fiber: Named<K>,
+    wants: Wants<Named<K>>,
     reply: &Reply,
     letters: Vec<Letter>,
-) -> Option<After>
-    requires served { ServesRun run.now }
-    requires sits { Sits (set_of run.now) fiber (Some wants) }
-    requires letters { AreMessages run.now.code.program letters.items }
-    ensures { IfSome result (AfterStands (set_of run.now)) }
+) -> Option<After<Named<K>>>
+    requires served { ServesRun K.program K.counted run.now }
+    requires sits { Sits K.program K.counted (set_of run.now) fiber (Some wants) }
+    requires letters { AreMessages run.now.code.plain letters.items }
+    ensures { IfSome result (AfterStands K.program K.counted (set_of run.now)) }
 {
     let mut fiber = fiber;
     let mut letters = letters;
@@ -208,11 +214,16 @@ fn passed(
 }
 
 /// The fiber is answered. Nothing for want of memory, or where the reply isn't one to what it wants.
-pub fn answered(run: &Run, seat: Seat, reply: &Reply, letters: Vec<Letter>) -> Option<After>
-    requires served { ServesRun run.now }
-    requires stands { SeatStands (set_of run.now) seat }
-    requires letters { AreMessages run.now.code.program letters.items }
-    ensures { IfSome result (AfterStands (set_of run.now)) }
+pub fn answered<K: Woven>(
+    run: &Run,
+    seat: Seat<Named<K>>,
+    reply: &Reply,
+    letters: Vec<Letter>,
+) -> Option<After<Named<K>>>
+    requires served { ServesRun K.program K.counted run.now }
+    requires stands { SeatStands K.program K.counted (set_of run.now) seat }
+    requires letters { AreMessages run.now.code.plain letters.items }
+    ensures { IfSome result (AfterStands K.program K.counted (set_of run.now)) }
 {
     let Seat { fiber, wants } = seat;
     match wants {

@@ -3,7 +3,7 @@ use Rattle.kilim_fiber_tables.specs.Driven.{set_of, sits_if}
 use Rattle.kilim_fiber_tables.proofs.pair.second_of.Goals as goal
 
 pub resumed-requires-clause-stands : goal.resumed-requires-clause-stands
-resumed-requires-clause-stands c = subst (sits_if (set_of c.args.run.now)) c.in-Some.is c.requires.stands
+resumed-requires-clause-stands g c = subst (sits_if g.K.Woven.program g.K.Woven.counted (set_of c.args.run.now)) c.in-Some.is c.requires.stands
 
 pub returns-in-Some : goal.returns-in-Some
-returns-in-Some c = c.resumed.ensures
+returns-in-Some g c = c.resumed.ensures

@@ -1,5 +1,5 @@
-use Rattle.kilim_fiber_tables.specs.Driven.{PairStands, set_of}
 use Rattle.kilim_fiber_tables.proofs.script.driven.Given as goal
 
-abbrev pub invariant-loop-word : goal.invariant-loop-word
-invariant-loop-word l = PairStands (set_of l.fn.run) l.pair
+-- the names are those of the run's code
+abbrev pub ghosts-driven_by : goal.ghosts-driven_by
+ghosts-driven_by a = record { program = a.run.now.code.program; counted = a.run.now.code.counted }

@@ -1,11 +1,11 @@
 use Rattle.std.proofs.Common.{Option, subst}
 use Rattle.kilim_fibers.specs.declared.Wants.{Wants}
-use Rattle.kilim_fiber_state.specs.declared.fiber.Fiber.{Fiber}
+use Rattle.kilim_record_fiber.specs.declared.fiber.Fiber.{Fiber}
 use Rattle.kilim_fiber_tables.specs.Driven.{Sits, set_of}
 use Rattle.kilim_fiber_tables.proofs.seats.ready.Goals as goal
 
 pub rested-requires : goal.rested-requires
-rested-requires c = subst (λ (w : Option (Wants Fiber)). Sits (set_of c.args.run.now) c.args.seat.fiber w) c.in-Some.is c.requires
+rested-requires g c = subst (λ (w : Option (Wants Fiber)). Sits g.K.Woven.program g.K.Woven.counted (set_of c.args.run.now) c.args.seat.fiber w) c.in-Some.is c.requires
 
 pub returns-in-None : goal.returns-in-None
-returns-in-None c = subst (λ (w : Option (Wants Fiber)). Sits (set_of c.args.run.now) c.args.seat.fiber w) c.in-None.is c.requires
+returns-in-None g c = subst (λ (w : Option (Wants Fiber)). Sits g.K.Woven.program g.K.Woven.counted (set_of c.args.run.now) c.args.seat.fiber w) c.in-None.is c.requires
