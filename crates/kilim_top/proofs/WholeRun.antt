@@ -49,7 +49,11 @@ module _ (law : AcceptedFilesAreIsolated) (serves : WovenIsServed) (files : List
   pub to_run : (main : List ℕ) (workers steps : ℕ) (args : List ℤ) (names : List (List ℕ)) (set : Setting) (w : Woven) → IsMainOf p main (limits_of steps args) set w → IsToRun (Run main workers steps args names) files set w
   to_run main workers steps args names set w is = record {
     served = served set.main (limits_of steps args) set w is.fit is.is is.is_woven;
-    done = λ text run.
-        (refl, (fit_run main files p.plain set.main of.accepted of.none is.named is.fit,
-        whole_run main (limits_of steps args) files p.plain set.main text of.accepted is.named (isolated set.main (limits_of steps args) is.fit) (subst (λ (s : Setting). IsTextOf s text) is.is run)));
+    done = λ text run. (
+      refl,
+      (
+        fit_run main files p.plain set.main of.accepted of.none is.named is.fit,
+        whole_run main (limits_of steps args) files p.plain set.main text of.accepted is.named (isolated set.main (limits_of steps args) is.fit) (subst (λ (s : Setting). IsTextOf s text) is.is run),
+      ),
+    );
   }

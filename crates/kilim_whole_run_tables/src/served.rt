@@ -17,11 +17,7 @@ use std::sync::Wait;
 use std::thread::Threads;
 
 /// The accepted program of class files with these bytes and its woven form, or the report of the first stage that has a fault.
-pub fn served(
-    alloc: Global,
-    names: &[String],
-    files: &[Seq<u8>],
-) -> Result<WovenProgram, Refusal>
+pub fn served(alloc: Global, names: &[String], files: &[Seq<u8>]) -> Result<WovenProgram, Refusal>
     requires few { length files.now ≤ 1000 }
     requires same { length names.now ≡ length files.now }
     ensures { IfOk result ServesAll }
