@@ -91,10 +91,69 @@ module _ (set : Setting) (W : Program) (marks : List (List Bool)) (form : Forms 
 
 module _ (set : Setting) (t : ℕ) (c : Course) where
   -- all deeds of the course are done
-  all_done : (l : Lone) (w : World) (m : MethodId) (p : ℕ) (ls s : List Value) (x : Value) (links : List Link) → w.deeds ≡ [] → w.acts ≡ acts_of c.deeds [] → ThreadAlong set t c (Run m p ls s x (u_frames links) w) → IsOf set t c (lone_at m p ls s (u_frames links) w)
-  all_done l w m p ls s x links none done a =
+  all_done : (w : World) (m : MethodId) (p : ℕ) (ls s : List Value) (x : Value) (links : List Link) → w.deeds ≡ [] → w.acts ≡ acts_of c.deeds [] → ThreadAlong set t c (Run m p ls s x (u_frames links) w) → IsOf set t c (lone_at m p ls s (u_frames links) w)
+  all_done w m p ls s x links none done a =
       let held = a.1 in
       let all : held.were ≡ c.deeds = sym (append_none held.were) ∙ (ap (λ (ds : List Deed). held.were ++ ds) (sym none) ∙ held.all) in
       let like : Likewise c.deeds held.done = subst (λ (ds : List Deed). Likewise ds held.done) all held.like in
       let same = same_deeds c.deeds held.done [] [] like (sym held.acted ∙ done) in
       subst (λ (ds : List Deed). IsOf set t (record { beginning = c.beginning; deeds = ds }) (lone_at m p ls s (u_frames links) w)) same.1 held.of
+
+module _ (set : Setting) (W : Program) (marks : List (List Bool)) (served : CanServe set W marks) (t : ℕ) (c : Course) (f : Standing) (h : Holds set W marks t c f) (none : f.frames ≡ []) where
+  abbrev x : Standing
+  x = h.at
+
+  abbrev r : IsReached set W marks t c x
+  r = h.reached
+
+  abbrev like : Like x f
+  like = h.like
+
+  abbrev form : Forms set W marks
+  form = served.runs.tasks.form
+
+  abbrev w : World
+  w = world_of t x [] (acts set W marks served t c x r)
+
+  -- the machine comes there with no deed to come, and rests
+  abbrev Here : List Deed → Type 0
+  Here deeds = (ps : List ℕ) × (j : ℕ) × (wsteps set W marks j (first set W marks served t c x r deeds ps) ≡ state_of t x [] (acts set W marks served t c x r) (0 ∷ []))
+
+  here : Here c.deeds
+  here = subst Here (append_none c.deeds) (r.comes [] 0 [])
+
+  no_frame : (fs : List Activation) → FramesKin like.of fs [] → fs ≡ []
+  no_frame [] e = refl
+  no_frame (top ∷ fs) e = absurd e
+
+  rests_there : wsteps set W marks here.1 (first set W marks served t c x r c.deeds here.0) ≡ Resting x.fiber w (0 ∷ [])
+  rests_there =
+      let nothing = no_frame x.frames (subst (FramesKin like.of x.frames) none like.is.frames) in
+      here.2 ∙ ap (λ (fs : List Activation). state_in fs x.fiber w (0 ∷ [])) nothing
+
+  -- ---- the thread there
+
+  as_many : (box : Value) (k k0 : Link) (links ks : List Link) → rev_onto (k ∷ links) [] ≡ k0 ∷ ks → suc (length (next_records set W marks form box ks)) ≡ suc (length (lone_frames (u_frames links)))
+  as_many box k k0 links ks e =
+      let one = rev_length (k ∷ links) [] in
+      let two = ap length e in
+      let three = next_length set W marks form box ks in
+      let four = frames_length links in
+      omega (arith, one, two, three, four)
+
+  keeps_at : (u : Thread) → StandsFor set W marks form u (Resting x.fiber w (0 ∷ [])) → ThreadAlong set t c u → Keeps set t c f.fiber
+  keeps_at u s a =
+      let run = runs set W marks form s.0 s.1 s.2 s.3 w u s.8 in
+      let is = same_records set W marks form x.fiber _ w w (0 ∷ []) (0 ∷ []) s.7 in
+      let many = many_kin like.of (record_of set W marks form s.4) (first_record set W marks form s.1 s.5) (next_records set W marks form s.1 s.5) f.fiber (subst (λ (g : Fib). FibersKin like.of g f.fiber) is like.is.fiber) in
+      record {
+        left = many.left;
+        here = lone_at run.method run.place run.locals run.stack (u_frames s.3) w;
+        is = all_done set t c w run.method run.place run.locals run.stack run.self s.3 refl refl (subst (ThreadAlong set t c) run.is a);
+        count = many.many ∙ as_many s.1 s.2 s.4 s.3 s.5 s.6;
+      }
+
+  pub keeps_each : Keeps set t c f.fiber
+  keeps_each =
+      let z = (along set W marks served t c x r here.0).rests here.1 x.fiber w (0 ∷ []) rests_there in
+      keeps_at (steps set z.0 (first_thread set c.beginning (world_at t r.begun c.deeds []))) z.1 z.2
