@@ -1,5 +1,6 @@
 -- A fiber of a course that has no frame keeps a record for each frame of the thread of the course, and then the leaf's.
 use Rattle.std.proofs.Common.{◌≡◌, ℕ, suc, ◌+◌, Bool, true, false, List, [], ◌∷◌, ◌++◌, length, refl, sym, ap, subst, ◌∙◌, arith}
+use Rattle.std.proofs.lemmas.Bool.{false≢true}
 use Rattle.kilim_classes.specs.declared.names.MethodId.{MethodId}
 use Rattle.kilim_classes.specs.declared.value.Value.{Value}
 use Rattle.kilim_classes.specs.Program.{Program}
@@ -32,9 +33,15 @@ use Rattle.kilim_record_fiber.specs.Records.{HasLeftAll, deeper_of}
 
 -- ---- lengths
 
+one_over : (m n : ℕ) → m + suc n ≡ suc m + n
+one_over m n = omega arith
+
+none_over : (n : ℕ) → n ≡ 0 + n
+none_over n = omega arith
+
 rev_length : (xs ys : List Link) → length (rev_onto xs ys) ≡ length xs + length ys
-rev_length [] ys = omega arith
-rev_length (x ∷ xs) ys = let rest = rev_length xs (x ∷ ys) in omega (arith, rest)
+rev_length [] ys = none_over (length ys)
+rev_length (x ∷ xs) ys = rev_length xs (x ∷ ys) ∙ one_over (length xs) (length ys)
 
 frames_length : (ks : List Link) → length (lone_frames (u_frames ks)) ≡ length ks
 frames_length [] = refl
@@ -63,8 +70,14 @@ many_kin : (of : Names) (r d : Rec) (ds : List Rec) (g : Fib) → FibersKin of (
 many_kin of r d ds (Fiber_at [] s (e ∷ es) false true) kin = record { left = tt; many = ap suc (sym (records_length of ds es kin.2.1)) }
 many_kin of r d ds (Fiber_at (l ∷ lo) s de re pa) kin = absurd kin.0
 many_kin of r d ds (Fiber_at [] s [] re pa) kin = absurd kin.2
-many_kin of r d ds (Fiber_at [] s (e ∷ es) true pa) kin = let no = kin.3 in absurd (cc)
-many_kin of r d ds (Fiber_at [] s (e ∷ es) false false) kin = let no = kin.4 in absurd (cc)
+many_kin of r d ds (Fiber_at [] s (e ∷ es) true pa) kin = absurd (false≢true kin.3)
+many_kin of r d ds (Fiber_at [] s (e ∷ es) false false) kin = absurd (false≢true (sym kin.4))
+
+same_records : (f g : Fib) (v w : World) (ps qs : List ℕ) → Resting f v ps ≡ Resting g w qs → f ≡ g
+same_records f g v w ps qs e = cc
+
+same_many : (all links ks next frames : ℕ) → all ≡ suc links + 0 → all ≡ suc ks → next ≡ ks → frames ≡ links → suc next ≡ suc frames
+same_many all links ks next frames one two three four = omega (arith, one, two, three, four)
 
 -- ---- at a rest of the woven machine
 
@@ -85,9 +98,6 @@ module _ (set : Setting) (W : Program) (marks : List (List Bool)) (form : Forms 
   runs : (leaf : Native) (box : Value) (k : Link) (links : List Link) (w : World) (u : Thread) → IsThread set W marks form leaf box k links u w → IsRun links w u
   runs native.Get box (Lk m from to i callee s l wl x old was) links w u e = record { method = m; place = from; locals = l; stack = e.1; self = x; is = e.4 }
   runs _ box (Lk m from to i callee s l wl x old was) links w u e = record { method = m; place = to; locals = l; stack = s; self = x; is = e }
-
-  same_records : (f g : Fib) (v w : World) (ps qs : List ℕ) → Resting f v ps ≡ Resting g w qs → f ≡ g
-  same_records f g v w ps qs e = cc
 
 module _ (set : Setting) (t : ℕ) (c : Course) where
   -- all deeds of the course are done
@@ -135,16 +145,13 @@ module _ (set : Setting) (W : Program) (marks : List (List Bool)) (served : CanS
 
   as_many : (box : Value) (k k0 : Link) (links ks : List Link) → rev_onto (k ∷ links) [] ≡ k0 ∷ ks → suc (length (next_records set W marks form box ks)) ≡ suc (length (lone_frames (u_frames links)))
   as_many box k k0 links ks e =
-      let one = rev_length (k ∷ links) [] in
-      let two = ap length e in
-      let three = next_length set W marks form box ks in
-      let four = frames_length links in
-      omega (arith, one, two, three, four)
+      same_many (length (rev_onto (k ∷ links) [])) (length links) (length ks) (length (next_records set W marks form box ks)) (length (lone_frames (u_frames links)))
+      (rev_length (k ∷ links) []) (ap length e) (next_length set W marks form box ks) (frames_length links)
 
   keeps_at : (u : Thread) → StandsFor set W marks form u (Resting x.fiber w (0 ∷ [])) → ThreadAlong set t c u → Keeps set t c f.fiber
   keeps_at u s a =
       let run = runs set W marks form s.0 s.1 s.2 s.3 w u s.8 in
-      let is = same_records set W marks form x.fiber _ w w (0 ∷ []) (0 ∷ []) s.7 in
+      let is = same_records x.fiber _ w w (0 ∷ []) (0 ∷ []) s.7 in
       let many = many_kin like.of (record_of set W marks form s.4) (first_record set W marks form s.1 s.5) (next_records set W marks form s.1 s.5) f.fiber (subst (λ (g : Fib). FibersKin like.of g f.fiber) is like.is.fiber) in
       record {
         left = many.left;

@@ -7,7 +7,6 @@ use Rattle.kilim_classes.specs.declared.names.MethodId.{MethodId}
 use Rattle.kilim_classes.specs.declared.value.Value.{Value}
 use Rattle.kilim_classes.specs.declared.value.Value.TheVariants.{Int, Ref, Box, Fiber}
 use Rattle.kilim_classes.specs.Program.{Program}
-use Rattle.kilim_frames.specs.Calls.{activation, below_of}
 use Rattle.kilim_frames.specs.declared.frames.Frames.{Frames}
 use Rattle.kilim_program.specs.declared.cause.EndCause.TheVariants as cause
 use Rattle.kilim_program.specs.declared.value.Token.{Token}
