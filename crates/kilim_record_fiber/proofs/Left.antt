@@ -5,7 +5,6 @@ use Rattle.kilim_classes.specs.declared.names.MethodId.{MethodId}
 use Rattle.kilim_classes.specs.declared.value.Value.{Value}
 use Rattle.kilim_classes.specs.Program.{Program}
 use Rattle.kilim_fine_threads.specs.Typed.{frames_of}
-use Rattle.kilim_journal.specs.declared.entry.Act.{Act}
 use Rattle.kilim_kin.specs.Kin.{Names, FramesKin}
 use Rattle.kilim_one_heap.specs.Booked.{IsOf}
 use Rattle.kilim_program.specs.Machine.{Activation}
@@ -24,7 +23,7 @@ use Rattle.kilim_woven_kin.specs.Standing.{Standing}
 use Rattle.kilim_woven_lone.specs.Law.{lone_at, lone_frames}
 use Rattle.kilim_woven_runs.specs.Acts.{World}
 use Rattle.kilim_woven_runs.specs.Fibers.{Fib, Fiber_at, Rec, Resting, wsteps}
-use Rattle.kilim_woven_runs.specs.Links.{Forms, Link, Lk, at_rest, first_record, next_records, record_of, rev_onto, u_frames}
+use Rattle.kilim_woven_runs.specs.Links.{Forms, Link, Lk, first_record, next_records, record_of, rev_onto, u_frames}
 use Rattle.kilim_woven_runs.specs.Serves.{IsThread, StandsFor}
 use Rattle.kilim_woven_runs.specs.Thread.{Run, Thread, steps}
 use Rattle.kilim_woven_states.proofs.Along.{append_none, same_deeds}

@@ -1,11 +1,10 @@
 -- What a fiber that rests keeps.
-use Rattle.std.proofs.Common.{◌≡◌, ◌+◌, Bool, true, false, length, Option, Some, None, Result, Ok, Err, refl, sym, ap, subst, ◌∙◌, arith}
+use Rattle.std.proofs.Common.{◌≡◌, ◌+◌, Bool, true, false, length, Option, Some, None, Result, Ok, Err, sym, ap, subst, ◌∙◌, arith}
 use Rattle.std.specs.Prelude.{IfOk}
 use Rattle.kilim_classes.specs.declared.names.BoxName.{BoxName}
 use Rattle.kilim_fibers.specs.Fibers.{CanRun, StandsFor}
 use Rattle.kilim_fibers.specs.declared.Wants.{Wants}
 use Rattle.kilim_fibers.specs.declared.Wants.TheVariants as wants
-use Rattle.kilim_fine_threads.specs.Typed.{frames_of}
 use Rattle.kilim_frames.specs.declared.frames.Frames.{Frames}
 use Rattle.kilim_program.specs.declared.run.Limits.{Limits}
 use Rattle.kilim_thread_model.specs.State.{Setting}
@@ -15,11 +14,10 @@ use Rattle.kilim_woven_fiber.specs.declared.body.Body.{Body}
 use Rattle.kilim_woven_fiber.specs.declared.body.Came.{Came}
 use Rattle.kilim_woven_fiber.specs.declared.body.Came.TheVariants as came
 use Rattle.kilim_woven_fiber.specs.declared.code.Code.{Code}
-use Rattle.kilim_woven_follows.specs.Fibers.{Holds}
 use Rattle.kilim_record_fiber.specs.Calls.{EndsIdle, HasWanted, RestsAt, WantsBy, is_rest}
 use Rattle.kilim_record_fiber.specs.Clauses.{RestsInRecords}
 use Rattle.kilim_record_fiber.specs.Fiber.{task_of, course_of, CameTo, HoldsFiber, ServesCode}
-use Rattle.kilim_record_fiber.specs.Records.{HasRested, KeepsEach, NoFrameIsLeft, deeper_of, records_in, records_of}
+use Rattle.kilim_record_fiber.specs.Records.{NoFrameIsLeft, deeper_of, records_in, records_of}
 use Rattle.kilim_record_fiber.specs.declared.fiber.Asked.{Asked}
 use Rattle.kilim_record_fiber.specs.declared.fiber.Fiber.{Fiber}
 use Rattle.kilim_record_fiber.proofs.Left.{Keeps, keeps_each}

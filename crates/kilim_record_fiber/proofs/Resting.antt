@@ -1,5 +1,5 @@
 -- Where a woven fiber comes to rest it has no frame.
-use Rattle.std.proofs.Common.{◌≡◌, ℕ, ℤ, pos, Bool, true, false, cond, not, List, [], ◌∷◌, Option, Some, None, Result, Ok, Err, refl, sym, ap, subst, ◌∙◌, ◌+◌}
+use Rattle.std.proofs.Common.{◌≡◌, ℕ, ℤ, pos, Bool, true, false, cond, not, List, [], ◌∷◌, Option, Some, None, Result, Ok, Err, refl, subst, ◌+◌}
 use Rattle.std.specs.Prelude.{IfOk, nat_le, nat_lt, ◌&&◌}
 use Rattle.kilim_classes.specs.declared.instr.Instr.{Instr}
 use Rattle.kilim_classes.specs.declared.names.BoxName.{BoxName}
@@ -20,7 +20,7 @@ use Rattle.kilim_program.specs.Shapes.{shape_of}
 use Rattle.kilim_thread_model.specs.Lone.{arg_at, box_limit, printed}
 use Rattle.kilim_thread_model.specs.State.{Setting}
 use Rattle.kilim_units.specs.declared.memory.NoMemory.{NoMemory}
-use Rattle.kilim_woven_fiber.specs.Body.{calls_in, standing_at}
+use Rattle.kilim_woven_fiber.specs.Body.{calls_in}
 use Rattle.kilim_woven_fiber.specs.Comes.{Comes}
 use Rattle.kilim_woven_fiber.specs.Reach.{Reaches, named}
 use Rattle.kilim_woven_fiber.specs.declared.body.Body.{Body}
