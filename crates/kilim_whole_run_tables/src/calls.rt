@@ -2,7 +2,6 @@
 
 use crate::bytes::changed;
 use crate::holds::Holds;
-use crate::notes::Notes;
 use crate::served::{journal, served};
 use kilim_classes::{ClassId, Program};
 use kilim_main_class::fit_main;
@@ -159,19 +158,5 @@ pub fn held_case<R: Files + Threads + Wait + Sync>(
         "two at once\n"
     };
     text.extend_from_slice(seen.as_bytes()).ok()?;
-    Some(text)
-}
-
-/// `noted WORD..`: what the command writes for a run, and the number of records that its gate was told last.
-pub fn noted_case<R: Files + Threads + Wait + Sync>(
-    rt: &R,
-    alloc: Global,
-    words: &[String],
-) -> Option<Vec<u8>> {
-    let gate = Notes::new();
-    let mut text = answered(rt, alloc, words, &gate)?;
-    let records = gate.last();
-    let line = format!(in alloc; "records {records}\n").ok()?;
-    text.extend_from_slice(line.as_str().as_bytes()).ok()?;
     Some(text)
 }

@@ -1,6 +1,6 @@
 //! The words of the cases.
 
-use crate::calls::{call_case, held_case, noted_case};
+use crate::calls::{call_case, held_case};
 use std::alloc::Global;
 use std::rt::Files;
 use std::sync::Wait;
@@ -15,7 +15,6 @@ pub fn answer<R: Files + Threads + Wait + Sync>(
 ) -> Option<Vec<u8>> {
     match words {
         [word, rest @ ..] if word.as_str() == "held" => held_case(rt, alloc, rest),
-        [word, rest @ ..] if word.as_str() == "noted" => noted_case(rt, alloc, rest),
         words => call_case(rt, alloc, words),
     }
 }

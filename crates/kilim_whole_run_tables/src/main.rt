@@ -7,7 +7,6 @@ mod bytes;
 mod calls;
 mod cases;
 mod holds;
-mod notes;
 mod served;
 
 use cases::answer;
