@@ -1,5 +1,5 @@
 -- Class files whose accepted program can be woven aren't reported.
-use Rattle.std.proofs.Common.{◌≡◌, ℕ, List, Option, Some, None, subst, inl, inr}
+use Rattle.std.proofs.Common.{◌≡◌, Option, Some, None, subst, inl, inr}
 use Rattle.kilim_classes.specs.Program.{Program}
 use Rattle.kilim_stages.specs.Laws.{NeverBoth, OneProgramOf}
 use Rattle.kilim_weaver.specs.Faults.{weave_fault}
