@@ -1,5 +1,5 @@
 -- The woven form of an accepted program to which class files link serves its runs.
-use Rattle.std.proofs.Common.{◌≡◌, ◌≤◌, ℕ, List, length, sym, subst}
+use Rattle.std.proofs.Common.{◌≤◌, ℕ, List, length, sym, subst}
 use Rattle.kilim_accepted_runs.specs.Laws.{AcceptedIsRun}
 use Rattle.kilim_class_world.specs.Keeping.{LinksKeep}
 use Rattle.kilim_classes.specs.declared.class.Form.TheVariants.{Plain}

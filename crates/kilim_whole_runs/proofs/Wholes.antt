@@ -1,5 +1,5 @@
 -- The journal of a whole run, from what a runner answers.
-use Rattle.std.proofs.Common.{◌≡◌, Bool, true, false, List, ◌++◌, refl, sym, subst}
+use Rattle.std.proofs.Common.{◌≡◌, Bool, true, false, List, refl, sym, subst}
 use Rattle.kilim_classes.specs.declared.names.ClassId.{ClassId}
 use Rattle.kilim_classes.specs.Program.{Program}
 use Rattle.kilim_program.specs.declared.run.Limits.{Limits}

@@ -8,7 +8,6 @@ use kilim_woven_served::runs_serve;
 
 /// A law, and no work: of class files that link to an accepted program the woven form can be run, whatever the main class, if it is fit, and
 /// the limits are.
-#[tactic(auto, using(crate::proofs::Served::served))]
 pub fn woven_is_served()
     ensures { WovenIsServed }
 {

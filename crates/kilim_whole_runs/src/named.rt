@@ -28,7 +28,7 @@ pub fn named_alone<K: Woven, G: Gate>(
     limits: &Limits,
     gate: &G,
 ) -> Result<Vec<Entry>, NoMemory>
-    requires { (set : Setting) × IsOf (ServesNamed K.program K.counted) code.now main limits.now set }
+    requires some { (set : Setting) × IsOf (ServesNamed K.program K.counted) code.now main limits.now set }
     ensures { (set : Setting) → IsOf (ServesNamed K.program K.counted) code.now main limits.now set → IfOk result (λ es. MovedWhole set es.items) }
 {
     run_one::<Boxed<Named<K>>, G>(alloc, code, main, limits, gate)

@@ -2,8 +2,8 @@ use Rattle.kilim_whole_runs.specs.Runs.{setting_of}
 use Rattle.kilim_whole_runs.proofs.Wholes.{is_journal, is_of}
 use Rattle.kilim_whole_runs.proofs.runs.run_alone.Goals as goal
 
-pub named_alone-requires : goal.named_alone-requires
-named_alone-requires g c =
+pub named_alone-requires-clause-some : goal.named_alone-requires-clause-some
+named_alone-requires-clause-some g c κs within =
     let e = c.in_ok-code.ensures in
     (setting_of c.args.plain c.args.main c.args.limits.now, is_of c.args.plain c.args.woven.program c.args.woven.counted c.args.main c.args.limits.now c.in_ok-code.code e.0 e.1 e.2 c.requires)
 

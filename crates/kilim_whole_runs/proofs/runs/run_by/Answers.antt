@@ -3,7 +3,7 @@ use Rattle.kilim_whole_runs.proofs.Wholes.{is_journal, is_of}
 use Rattle.kilim_whole_runs.proofs.runs.run_by.Goals as goal
 
 pub named_with-requires-clause-some : goal.named_with-requires-clause-some
-named_with-requires-clause-some g c =
+named_with-requires-clause-some g c κs within =
     let e = c.in_ok-code.ensures in
     (setting_of c.args.plain c.args.main c.args.limits.now, is_of c.args.plain c.args.woven.program c.args.woven.counted c.args.main c.args.limits.now c.in_ok-code.code e.0 e.1 e.2 c.requires.served)
 
