@@ -1,5 +1,5 @@
 -- Entries counted and summed one after the other.
-use Rattle.std.proofs.Common.{◌≡◌, ℕ, ℤ, ◌+◌, ◌<◌, List, [], ◌∷◌, ◌++◌, length, drop, get_or, refl, sym, ap, ◌∙◌, arith}
+use Rattle.std.proofs.Common.{◌≡◌, ℕ, ℤ, ◌+◌, ◌<◌, List, ◌++◌, length, drop, get_or, sym, ap, ◌∙◌}
 use Rattle.kilim_lemmas.proofs.Lists.{drop_at}
 use Rattle.kilim_journal.specs.declared.entry.Entry.{Entry}
 use Rattle.std.specs.Prelude.{pos}

@@ -73,7 +73,6 @@ fn main_of(program: &Program) -> Result<Option<ClassId>, NoMemory>
 }
 
 // What is to be run. A program without the main class, which no number gives, is answered as want of memory.
-#[tactic(auto, using(crate::proofs::Served::is_ready))]
 fn prepared(alloc: Global, number: u64) -> Result<Ready, Refusal>
     ensures ready { IfOk result (λ r. IsReady number r.plain r.woven r.main) }
     ensures report { IfReport result (IsDemoReport number) }

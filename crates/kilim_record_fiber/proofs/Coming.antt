@@ -21,7 +21,7 @@ use Rattle.kilim_fiber_kin.specs.Acts.{IsGiven}
 use Rattle.kilim_fiber_kin.proofs.Leaving.{can_leave, out_suits}
 use Rattle.kilim_woven_runs.specs.Fibers.{first_receiver}
 use Rattle.kilim_woven_kin.specs.Standing.{Standing}
-use Rattle.kilim_woven_kin.specs.Nexts.{Next, Goes, Puts, Probes, Starts, Prints, Rests, Ends, counted, next_of}
+use Rattle.kilim_woven_kin.specs.Nexts.{Next, Goes, next_of}
 use Rattle.kilim_woven_kin.specs.Alike.{HasFree}
 use Rattle.kilim_woven_fiber.specs.Comes.{CanGive, Comes, HasRoomFor, gives_result}
 use Rattle.kilim_woven_fiber.specs.Reach.{GoesTo, AtFirst, Further, IsReadyOn, IsWanting, Reaches, named}

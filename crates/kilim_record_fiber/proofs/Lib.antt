@@ -1,4 +1,7 @@
 pub mod Coming
 pub mod Beginning
 pub mod Resuming
+pub mod Resting
+pub mod Left
+pub mod Rested
 pub mod Answered

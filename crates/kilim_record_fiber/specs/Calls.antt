@@ -1,5 +1,5 @@
 -- What the calls of a fiber do.
-use Rattle.std.specs.Prelude.{◌≤◌, nat_le, if◌then◌else◌, ◌≡◌, ◌<◌, ◌+◌, ◌++◌, ◌∷◌, [], ℕ, Bool, true, false, List, Some, None}
+use Rattle.std.specs.Prelude.{◌≤◌, nat_le, if◌then◌else◌, ◌≡◌, ◌<◌, ◌++◌, ◌∷◌, [], ℕ, Bool, true, false, List, Some, None}
 use Rattle.std.specs.List.{AllByRecursion}
 use Rattle.kilim_classes.specs.Program.{Program}
 use Rattle.kilim_classes.specs.declared.names.BoxName.{BoxName}

@@ -6,8 +6,10 @@ use Rattle.kilim_thread_model.specs.declared.deed.Deed.{Deed}
 use Rattle.kilim_fibers.specs.Fibers.{CountsRightly, Resumed, RestsRightly, StandsFor, StartsAtNone, StartsFresh, course_after}
 use Rattle.kilim_fibers.specs.Wishes.{Wish}
 use Rattle.kilim_fibers.specs.declared.Wants.{Wants}
+use Rattle.kilim_fibers.specs.declared.Wants.TheVariants as wants
 use Rattle.kilim_woven_fiber.specs.declared.code.Code.{Code}
 use Rattle.kilim_record_fiber.specs.Fiber.{task_of, course_of, AskedOf, HoldsFiber, ServesCode}
+use Rattle.kilim_record_fiber.specs.Records.{HasRested, KeepsEach}
 use Rattle.kilim_record_fiber.specs.declared.fiber.Fiber.{Fiber}
 
 -- It wants that. Its task and its course are the same.
@@ -21,6 +23,12 @@ pub record Resumes (code : Code) (limits : Limits) (old new : Fiber) (w : Wants 
   pub none : StartsAtNone (λ f. f.body.count) w
   pub counted : old.body.count ≤ new.body.count
   pub bounded : new.body.count ≤ limits.steps
+
+-- Where it rests it has no frame, and a record for each frame of the thread of its course, and then the leaf's.
+abbrev pub RestsInRecords : Code → Limits → Fiber → Fiber → Wants Fiber → Type 0
+RestsInRecords code limits old new (wants.Rest waits) =
+    HasRested new × ((set : Setting) → ServesCode set code → set.limits ≡ limits → StandsFor task_of course_of (HoldsFiber code.program code.counted) set old → KeepsEach set new)
+RestsInRecords code limits old new w = Unit {0}
 
 -- It has gone on by that deed, if any.
 abbrev pub Went : Code → Setting → Fiber → Wish → Option Deed → Fiber → Type 0

@@ -1,4 +1,5 @@
 pub mod Past
 pub mod Fiber
+pub mod Records
 pub mod Calls
 pub mod Clauses

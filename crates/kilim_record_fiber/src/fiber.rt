@@ -1,6 +1,6 @@
 //! A fiber.
 
-ghost use Rattle.std.specs.Prelude.{◌≡◌, ◌<◌, ◌≤◌, ◌+◌, ◌^◌, true, false, Some, None, ℕ, IfOk, OnOk};
+ghost use Rattle.std.specs.Prelude.{◌≡◌, ◌↔◌, ◌<◌, ◌≤◌, ◌+◌, ◌^◌, true, false, Some, None, ℕ, IfOk, OnOk};
 ghost use Rattle.kilim_classes.specs.declared.value.Value.TheVariants as a_value;
 ghost use Rattle.kilim_thread_model.specs.State.{Setting};
 ghost use Rattle.std.specs.Prelude.{List, [], Option};
@@ -15,7 +15,8 @@ ghost use Rattle.kilim_fibers.specs.declared.Wants.TheVariants as wants;
 ghost use Rattle.kilim_tree_move.specs.Shaping.{Suits};
 ghost use Rattle.kilim_record_fiber.specs.Past.{deed_of};
 ghost use Rattle.kilim_record_fiber.specs.Fiber.{task_of, course_of, HoldsFiber, AskedOf, ServesCode, CameTo};
-ghost use Rattle.kilim_record_fiber.specs.Clauses.{Resumes, Went};
+ghost use Rattle.kilim_record_fiber.specs.Records.{records_of, NoFrameIsLeft};
+ghost use Rattle.kilim_record_fiber.specs.Clauses.{Resumes, RestsInRecords, Went};
 ghost use Rattle.kilim_record_fiber.specs.Calls.{IsNew, IsBegun, EndsIdle, RestsAt, HasWanted, MayAsk, asks_by, is_rest, WantsBy, Passed, Taken, Found, Refused, Answered, AnswerSuits, takes_value};
 
 use crate::past::{Did, Past, begun, no_past, note};
@@ -263,6 +264,7 @@ impl Fiber {
         requires busy { self.old.idle ≡ false }
         ensures came { (set : Setting) → ServesCode set code.now → set.limits ≡ limits.now → (s : StandsFor task_of course_of (HoldsFiber code.now.program code.now.counted) set self.old) →
             IfOk result (λ came. CameTo code.now.program code.now.counted set self.old.task (course_of self.old) s.lone self.new.body came) }
+        ensures left { IfOk result (λ came. NoFrameIsLeft came self.new.body) }
         ensures same { OnOk result (self.new ≡ record self.old { body = self.new.body }) }
         ensures roomy { OnOk result (RoomyIn code.now.program self.new.body.frames) }
         ensures counted { OnOk result (self.old.body.count ≤ self.new.body.count) }
@@ -349,7 +351,8 @@ impl Fiber {
     /// Runs up to the next thing that it wants. After want of memory it may only be dropped.
     pub fn resume(&mut self, code: &Code, limits: &Limits) -> Result<Wants<Fiber>, NoMemory>
         requires { CanRun task_of course_of (HoldsFiber code.now.program code.now.counted) ServesCode code.now limits.now self.old }
-        ensures { IfOk result (λ w. Resumes code.now limits.now self.old self.new w) }
+        ensures gives { IfOk result (λ w. Resumes code.now limits.now self.old self.new w) }
+        ensures rests { IfOk result (λ w. RestsInRecords code.now limits.now self.old self.new w) }
     {
         if self.idle {
             return self.end_idle(limits);
@@ -390,8 +393,10 @@ impl Fiber {
         self.task
     }
 
-    /// How many frames it keeps in records while it rests: 0 where it is newly begun, or runs.
-    pub fn records(&self) -> usize {
+    /// How many records it keeps while it rests: one for each frame, and the leaf's. 0 where it is newly begun, or runs.
+    pub fn records(&self) -> usize
+        ensures { (result ≡ 0) ↔ (records_of self.now ≡ 0) }
+    {
         if self.body.frames.is_none() && !self.idle {
             self.body.records.deeper().saturating_add(1)
         } else {

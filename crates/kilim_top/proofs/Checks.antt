@@ -1,19 +1,15 @@
 -- What is answered for files that are accepted.
-use Rattle.std.proofs.Common.{◌≡◌, ℕ, List, [], length, refl, ap, ◌∙◌}
+use Rattle.std.proofs.Common.{◌≡◌, ◌≤◌, ℕ, List, [], length, refl, ap, ◌∙◌}
 use Rattle.kilim_classes.specs.Program.{Program}
-use Rattle.kilim_classes.specs.declared.names.ClassId.{ClassId}
-use Rattle.kilim_program.specs.declared.run.Limits.{Limits}
-use Rattle.kilim_program.specs.Members.{is_fit_main}
-use Rattle.std.specs.Prelude.{true}
 use Rattle.kilim_stages.specs.Accepted.{IsAcceptedOf}
+use Rattle.kilim_weave_command.specs.Laws.{AcceptedFilesAreIsolated}
 use Rattle.kilim_words.specs.Words.{Check}
 use Rattle.kilim_written_files.specs.OutputFile.{OutputFile}
 use Rattle.kilim_top.specs.Inside.Answer.{IsReplyFor}
-use Rattle.kilim_top.specs.Outcome.{IsIsolatedRun}
 use Rattle.kilim_top.specs.Report.{accepted_line, coded_methods}
 use Rattle.kilim_top.proofs.Replies.{check_done}
 
-pub checked : (names files : List (List ℕ)) (p : Program) (classes methods : ℕ) (made : List OutputFile) (text : List ℕ) → IsAcceptedOf files p → ((class : ClassId) → is_fit_main p class ≡ true → (limits : Limits) → IsIsolatedRun p class limits) →
-    classes ≡ length files → methods ≡ coded_methods p → made ≡ [] → text ≡ accepted_line classes methods → IsReplyFor (Check names) files 0 made text
-checked names files p classes methods made text is isolated many coded none e =
-    check_done names files p 0 made text is isolated refl none (e ∙ (ap (λ (n : ℕ). accepted_line n methods) many ∙ ap (λ (n : ℕ). accepted_line (length files) n) coded))
+pub checked : (names files : List (List ℕ)) (p : Program) (classes methods : ℕ) (made : List OutputFile) (text : List ℕ) → AcceptedFilesAreIsolated → length files ≤ 1000 → IsAcceptedOf files p → classes ≡ length files → methods ≡ coded_methods p → made ≡ [] →
+    text ≡ accepted_line classes methods → IsReplyFor (Check names) files 0 made text
+checked names files p classes methods made text law few is many coded none e =
+    check_done names files p 0 made text law few is refl none (e ∙ (ap (λ (n : ℕ). accepted_line n methods) many ∙ ap (λ (n : ℕ). accepted_line (length files) n) coded))

@@ -1,5 +1,5 @@
 pub mod Texts
-pub mod Served
+pub mod Mains
 pub mod WholeRun
 pub mod Replies
 pub mod Checks

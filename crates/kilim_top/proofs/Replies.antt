@@ -12,39 +12,53 @@ use Rattle.kilim_stages.specs.Laws.{NeverBoth, OneProgramOf}
 use Rattle.kilim_stages.specs.Parts.{Refused}
 use Rattle.kilim_stages.specs.declared.refusal.Refusal.{Refusal}
 use Rattle.kilim_stages.specs.declared.refusal.Refusal.TheVariants as refusal
-use Rattle.kilim_demo.specs.Demo.{demo_texts}
+use Rattle.kilim_demo.specs.Demo.{demo_texts, IsDemoReport}
 use Rattle.kilim_weave_command.specs.Laws.{AcceptedFilesAreIsolated, NeverWeavableAndReported}
 use Rattle.kilim_weave_command.specs.Weaving.{IsWeaving}
+use Rattle.kilim_weaver.specs.Faults.{weave_fault}
+use Rattle.kilim_weaver.specs.declared.weaving.Woven.{Woven}
 use Rattle.kilim_words.specs.Words.{Request, Check, Weave, Run, Demo}
+use Rattle.kilim_woven_stage.specs.Laws.{WovenIsNotReported}
+use Rattle.kilim_woven_stage.specs.Reports.{IsWovenReport}
+use Rattle.kilim_woven_stage.specs.Stage.{IsWovenOf}
+use Rattle.kilim_woven_stage.specs.declared.stage.WovenProgram.{WovenProgram}
 use Rattle.kilim_written_files.specs.OutputFile.{OutputFile}
 use Rattle.kilim_top.specs.declared.answer.Reply.{Reply}
 use Rattle.kilim_top.specs.declared.answer.Ready.{Ready}
 use Rattle.kilim_top.specs.declared.answer.Ready.TheVariants as ready
 use Rattle.kilim_top.specs.Inside.Answer.{IsMainOf, IsNoMain, IsReadyFor, IsReadyOf, IsRefusedBy, IsReplyFor, IsRunReply, IsToRun}
-use Rattle.kilim_top.specs.Outcome.{IsDone, IsFitFor, IsFitRun, IsIsolatedRun, IsReport, limits_of}
+use Rattle.kilim_top.specs.Outcome.{IsDone, IsFitFor, IsFitRun, IsReport, limits_of}
 use Rattle.kilim_top.specs.Report.{accepted_line, coded_methods, main_line, utf16_of}
 use Rattle.kilim_thread_model.specs.State.{Setting}
 use Rattle.kilim_journal.specs.Text.{journal_text}
 use Rattle.kilim_journal.specs.declared.entry.Entry.{Entry}
-use Rattle.kilim_whole_runs.specs.Runs.{IsJournalOf, IsServed, setting_of}
+use Rattle.kilim_whole_runs.specs.Laws.{WovenIsServed}
+use Rattle.kilim_whole_runs.specs.Runs.{IsJournalOf, setting_of}
 use Rattle.kilim_main_class.specs.Main.{fit_class_named}
-use Rattle.kilim_top.proofs.Served.{fit_named, none_named}
+use Rattle.kilim_top.proofs.Mains.{fit_named, none_named}
 use Rattle.kilim_top.proofs.WholeRun.{to_run}
 
 -- ---- never both
 
-module _ (both : NeverBoth) (one : OneProgramOf) (woven : NeverWeavableAndReported) where
+module _ (both : NeverBoth) (one : OneProgramOf) (weavable : NeverWeavableAndReported) (woven : WovenIsNotReported) where
   never_run : (main : List ℕ) (workers steps : ℕ) (args : List ℤ) (names files : List (List ℕ)) (text : List ℕ) → IsFitRun main files → IsReport (Run main workers steps args names) files text → ⊥
-  never_run main workers steps args names files text fit (inl stage) = both names files text fit.program fit.accepted stage
-  never_run main workers steps args names files text fit (inr other) =
+  never_run main workers steps args names files text fit (inl stage) = woven names files text fit.program fit.accepted fit.none (inl stage)
+  never_run main workers steps args names files text fit (inr (inl method)) = woven names files text fit.program fit.accepted fit.none (inr method)
+  never_run main workers steps args names files text fit (inr (inr other)) =
       let same = one files fit.program other.program fit.accepted.of_files other.accepted.of_files in
       other.none fit.class (subst (λ (p : Program). class_named p (utf16_of main) ≡ Some fit.class) same fit.named) (subst (λ (p : Program). is_fit_main p fit.class ≡ true) same fit.fit)
 
+  never_demo : (number : ℕ) (text : List ℕ) (p : Program) → IsAcceptedOf (demo_texts number) p → weave_fault p ≡ None → IsDemoReport number text → ⊥
+  never_demo number text p is none (inl link) = woven [] (demo_texts number) text p is none (inl (inr (inl link)))
+  never_demo number text p is none (inr (inl typing)) = woven [] (demo_texts number) text p is none (inl (inr (inr (inl typing))))
+  never_demo number text p is none (inr (inr (inl rules))) = woven [] (demo_texts number) text p is none (inl (inr (inr (inr rules))))
+  never_demo number text p is none (inr (inr (inr method))) = woven [] (demo_texts number) text p is none (inr method)
+
   pub never : (work : Request) (files : List (List ℕ)) (text : List ℕ) → IsFitFor work files → IsReport work files text → ⊥
   never (Check names) files text fit report = both names files text fit.0 fit.1 report
-  never (Weave to names) files text fit report = woven names files text fit report
+  never (Weave to names) files text fit report = weavable names files text fit report
   never (Run main workers steps args names) files text fit report = never_run main workers steps args names files text fit report
-  never (Demo number workers) files text fit report = both [] (demo_texts number) text fit.0 fit.1 (inr report)
+  never (Demo number workers) files text fit report = never_demo number text fit.0 fit.1 fit.2 report
 
 pub fit_of : (work : Request) (files : List (List ℕ)) (made : List OutputFile) (text : List ℕ) → IsDone work files made text → IsFitFor work files
 fit_of (Check names) files made text done = (done.1.program, done.1.accepted)
@@ -52,33 +66,29 @@ fit_of (Weave to names) files made text done =
     let woven = done.weaving.are_woven in
     record { program = woven.program; accepted = woven.accepted; none = woven.none; classes = woven.classes; are_files = woven.are_files; fit = woven.fit }
 fit_of (Run main workers steps args names) files made text done = done.1.0
-fit_of (Demo number workers) files made text done = (done.1.program, done.1.accepted)
+fit_of (Demo number workers) files made text done = (done.1.program, done.1.accepted, done.1.none)
 
 -- ---- from an accepted program to the bytes of its files
 
-abbrev AreIsolated : Program → Type 0
-AreIsolated p = (class : ClassId) → is_fit_main p class ≡ true → (limits : Limits) → IsIsolatedRun p class limits
-
-abbrev AreServed : Program → Type 0
-AreServed p = (class : ClassId) → is_fit_main p class ≡ true → (limits : Limits) → IsServed (setting_of p class limits)
-
-pub main_of : (p : Program) (main : List ℕ) (limits l : Limits) (class : ClassId) → fit_class_named p (utf16_of main) ≡ Some class → l ≡ limits → IsMainOf p main limits (setting_of p class l)
+pub main_of : (p : WovenProgram) (main : List ℕ) (limits l : Limits) (class : ClassId) → fit_class_named p.plain (utf16_of main) ≡ Some class → l ≡ limits → IsMainOf p main limits (setting_of p.plain class l) p.woven
 main_of p main limits l class found same =
-    let f = fit_named p (utf16_of main) class found in
-    record { is = ap (λ (x : Limits). setting_of p class x) same; named = f.named; fit = f.fit }
+    let f = fit_named p.plain (utf16_of main) class found in
+    record { is = ap (λ (x : Limits). setting_of p.plain class x) same; is_woven = refl; named = f.named; fit = f.fit }
 
 pub no_class : (p : Program) (main : List ℕ) (status : ℕ) (made : List OutputFile) (text : List ℕ) → fit_class_named p (utf16_of main) ≡ None → text ≡ main_line main → status ≡ 1 → made ≡ [] → (status ≡ 1) × ((made ≡ []) × IsNoMain p main text)
 no_class p main status made text found is one none = (one, (none, record { none = none_named p (utf16_of main) found; is_text = is }))
 
-ready_one : (main : List ℕ) (workers steps : ℕ) (args : List ℤ) (names files : List (List ℕ)) (p : Program) (r : Ready) → IsAcceptedOf files p → AreServed p → AreIsolated p → IsReadyOf p main (limits_of steps args) r → IsReadyFor (Run main workers steps args names) files r
-ready_one main workers steps args names files p (ready.Reply reply) is served isolated h = inr (h.0, (h.1.0, inr (record { program = p; accepted = is; none = h.1.1.none; is_text = h.1.1.is_text })))
-ready_one main workers steps args names files p (ready.Run q class l) is served isolated h = to_run main workers steps args names files p (setting_of q class l) is served isolated h
-ready_one main workers steps args names files p (ready.Demo number) is served isolated h = elim h [ ]
+module _ (law : AcceptedFilesAreIsolated) (serves : WovenIsServed) (files : List (List ℕ)) (few : length files ≤ 1000) where
+  ready_one : (main : List ℕ) (workers steps : ℕ) (args : List ℤ) (names : List (List ℕ)) (p : WovenProgram) (r : Ready) → IsWovenOf files p.plain p.woven → IsReadyOf p main (limits_of steps args) r → IsReadyFor (Run main workers steps args names) files r
+  ready_one main workers steps args names p (ready.Reply reply) of h =
+      inr (h.0, (h.1.0, inr (inr (record { program = p.plain; accepted = of.accepted; weavable = of.none; none = h.1.1.none; is_text = h.1.1.is_text }))))
+  ready_one main workers steps args names p (ready.Run plain woven class l) of h = to_run law serves files p few of main workers steps args names (setting_of plain class l) woven h
+  ready_one main workers steps args names p (ready.Demo number) of h = elim h [ ]
 
-pub ready_run : (main : List ℕ) (workers steps : ℕ) (args : List ℤ) (names files : List (List ℕ)) (p : Program) (r : Result Ready NoMemory) → IsAcceptedOf files p → AreServed p → AreIsolated p →
-    IfOk r (IsReadyOf p main (limits_of steps args)) → IfOk r (IsReadyFor (Run main workers steps args names) files)
-ready_run main workers steps args names files p (Ok r) is served isolated h = ready_one main workers steps args names files p r is served isolated h
-ready_run main workers steps args names files p (Err e) is served isolated h = tt
+  pub ready_run : (main : List ℕ) (workers steps : ℕ) (args : List ℤ) (names : List (List ℕ)) (p : WovenProgram) (r : Result Ready NoMemory) → IsWovenOf files p.plain p.woven →
+      IfOk r (IsReadyOf p main (limits_of steps args)) → IfOk r (IsReadyFor (Run main workers steps args names) files)
+  ready_run main workers steps args names p (Ok r) of h = ready_one main workers steps args names p r of h
+  ready_run main workers steps args names p (Err e) of h = tt
 
 -- the text of a journal
 pub text_reply : (set : Setting) (es : List Entry) (r : Result Reply NoMemory) → IsJournalOf set es → IfOk r (λ reply. reply.status ≡ 0) → IfOk r (λ reply. reply.files.items ≡ []) → IfOk r (λ reply. reply.text.items ≡ journal_text es) →
@@ -86,16 +96,18 @@ pub text_reply : (set : Setting) (es : List Entry) (r : Result Reply NoMemory) �
 text_reply set es (Ok reply) is zero none text = (zero, (none, record { journal = es; is = is; is_text = text }))
 text_reply set es (Err e) is zero none text = tt
 
-pub check_done : (names files : List (List ℕ)) (p : Program) (status : ℕ) (made : List OutputFile) (text : List ℕ) → IsAcceptedOf files p → AreIsolated p → status ≡ 0 → made ≡ [] → text ≡ accepted_line (length files) (coded_methods p) → IsReplyFor (Check names) files status made text
-check_done names files p status made text is isolated zero none e = inl (zero, (none, record { program = p; accepted = is; isolated = isolated; is_text = e }))
+pub check_done : (names files : List (List ℕ)) (p : Program) (status : ℕ) (made : List OutputFile) (text : List ℕ) → AcceptedFilesAreIsolated → length files ≤ 1000 → IsAcceptedOf files p → status ≡ 0 → made ≡ [] →
+    text ≡ accepted_line (length files) (coded_methods p) → IsReplyFor (Check names) files status made text
+check_done names files p status made text law few is zero none e =
+    inl (zero, (none, record { program = p; accepted = is; isolated = λ class fit limits live sound. law files p few is class fit limits live sound; is_text = e }))
 
 -- a run that was done
-ran_one : (work : Request) (files : List (List ℕ)) (set : Setting) (status : ℕ) (made : List OutputFile) (text : List ℕ) → IsToRun work files set → IsRunReply set status made text → IsReplyFor work files status made text
-ran_one work files set status made text to run = inl (run.0, subst (λ (fs : List OutputFile). IsDone work files fs text) (sym run.1.0) (to.done text run.1.1))
+ran_one : (work : Request) (files : List (List ℕ)) (set : Setting) (w : Woven) (status : ℕ) (made : List OutputFile) (text : List ℕ) → IsToRun work files set w → IsRunReply set status made text → IsReplyFor work files status made text
+ran_one work files set w status made text to run = inl (run.0, subst (λ (fs : List OutputFile). IsDone work files fs text) (sym run.1.0) (to.done text run.1.1))
 
-pub ran : (work : Request) (files : List (List ℕ)) (set : Setting) (r : Result Reply NoMemory) → IsToRun work files set → IfOk r (λ reply. IsRunReply set reply.status reply.files.items reply.text.items) → IfOk r (λ reply. IsReplyFor work files reply.status reply.files.items reply.text.items)
-ran work files set (Ok reply) to h = ran_one work files set reply.status reply.files.items reply.text.items to h
-ran work files set (Err e) to h = tt
+pub ran : (work : Request) (files : List (List ℕ)) (set : Setting) (w : Woven) (r : Result Reply NoMemory) → IsToRun work files set w → IfOk r (λ reply. IsRunReply set reply.status reply.files.items reply.text.items) → IfOk r (λ reply. IsReplyFor work files reply.status reply.files.items reply.text.items)
+ran work files set w (Ok reply) to h = ran_one work files set w reply.status reply.files.items reply.text.items to h
+ran work files set w (Err e) to h = tt
 
 -- a report of the stages
 refused_one : (work : Request) (files : List (List ℕ)) (r : Refusal) (status : ℕ) (made : List OutputFile) (text : List ℕ) → Refused r (IsReport work files) → IsRefusedBy r status made text → IsReplyFor work files status made text
@@ -106,6 +118,18 @@ pub refused_reply : (work : Request) (files : List (List ℕ)) (refusal : Refusa
     IfOk r (λ reply. IsReplyFor work files reply.status reply.files.items reply.text.items)
 refused_reply work files refusal (Ok reply) said by = refused_one work files refusal reply.status reply.files.items reply.text.items said by
 refused_reply work files refusal (Err e) said by = tt
+
+run_report : (main : List ℕ) (workers steps : ℕ) (args : List ℤ) (names files : List (List ℕ)) (text : List ℕ) → IsWovenReport names files text → IsReport (Run main workers steps args names) files text
+run_report main workers steps args names files text (inl stage) = inl stage
+run_report main workers steps args names files text (inr method) = inr (inl method)
+
+run_refused : (main : List ℕ) (workers steps : ℕ) (args : List ℤ) (names files : List (List ℕ)) (r : Refusal) → Refused r (IsWovenReport names files) → Refused r (IsReport (Run main workers steps args names) files)
+run_refused main workers steps args names files refusal.NoMemory said = tt
+run_refused main workers steps args names files (refusal.Report t) said = run_report main workers steps args names files t.items said
+
+pub refused_run : (main : List ℕ) (workers steps : ℕ) (args : List ℤ) (names files : List (List ℕ)) (refusal : Refusal) (r : Result Reply NoMemory) → Refused refusal (IsWovenReport names files) → IfOk r (λ reply. IsRefusedBy refusal reply.status reply.files.items reply.text.items) →
+    IfOk r (λ reply. IsReplyFor (Run main workers steps args names) files reply.status reply.files.items reply.text.items)
+refused_run main workers steps args names files refusal r said by = refused_reply (Run main workers steps args names) files refusal r (run_refused main workers steps args names files refusal said) by
 
 -- woven files
 pub woven_reply : (to : List ℕ) (names files : List (List ℕ)) (made : List OutputFile) (text : List ℕ) → AcceptedFilesAreIsolated → length files ≤ 1000 → IsWeaving to files made text → IsReplyFor (Weave to names) files 0 made text

@@ -4,6 +4,7 @@ use Rattle.kilim_outside.specs.Causes.{Appended}
 use Rattle.kilim_stages.specs.Laws.{NeverBoth, OneProgramOf}
 use Rattle.kilim_weave_command.specs.Laws.{NeverWeavableAndReported}
 use Rattle.kilim_words.specs.Words.{Request, Check, Weave, Run, Demo}
+use Rattle.kilim_woven_stage.specs.Laws.{WovenIsNotReported}
 use Rattle.kilim_written_files.specs.OutputFile.{OutputFile}
 use Rattle.kilim_written_files.specs.Written.{HaveOwnPaths, WroteFiles}
 use Rattle.kilim_top.specs.Inside.Answer.{IsReplyFor}
@@ -97,7 +98,7 @@ module _ (work : Request) (files : List (List ℕ)) (made : List OutputFile) (te
     contents = kept to stays (λ e. omega (arith, e));
   }
 
-  module _ (both : NeverBoth) (one : OneProgramOf) (woven : NeverWeavableAndReported) (status : ℕ) where
+  module _ (both : NeverBoth) (one : OneProgramOf) (weavable : NeverWeavableAndReported) (woven : WovenIsNotReported) (status : ℕ) where
     done_at : status ≡ 0 → IsDone work files made text → WroteFiles made old.contents new.contents → new.failed ≡ old.failed → new.faults ≡ old.faults → Appended old.written new.written text → Stays → Responded work files old new status
     done_at is done were_made failed quiet written stays = record {
       known = omega (arith, is);
@@ -108,7 +109,7 @@ module _ (work : Request) (files : List (List ℕ)) (made : List OutputFile) (te
       write = λ e. absurd (omega (arith, is, e));
       memory = λ e. absurd (omega (arith, is, e));
       fit = λ e fit. zero_one status is e;
-      unreported = λ e other report. never both one woven work files other (fit_of work files made text done) report;
+      unreported = λ e other report. never both one weavable woven work files other (fit_of work files made text done) report;
       quiet = λ e. quiet;
       failed = λ e. failed;
       contents = kept (inl done) stays (zero_one status is);
@@ -123,7 +124,7 @@ module _ (work : Request) (files : List (List ℕ)) (made : List OutputFile) (te
       report = λ e. record { text = text; report = report; written = written };
       write = λ e. absurd (omega (arith, is, e));
       memory = λ e. absurd (omega (arith, is, e));
-      fit = λ e fit. never both one woven work files text fit report;
+      fit = λ e fit. never both one weavable woven work files text fit report;
       unreported = λ e. absurd (zero_one status e is);
       quiet = λ e. quiet;
       failed = λ e. failed;

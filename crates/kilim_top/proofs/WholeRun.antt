@@ -1,5 +1,5 @@
 -- The text of an accepted program's run is the journal of a whole run.
-use Rattle.std.proofs.Common.{◌≡◌, ℕ, ℤ, true, List, Some, refl, sym, subst}
+use Rattle.std.proofs.Common.{◌≡◌, ◌≤◌, ℕ, ℤ, true, List, Some, None, length, refl, sym, subst}
 use Rattle.kilim_classes.specs.Names.{class_named}
 use Rattle.kilim_classes.specs.Program.{Program}
 use Rattle.kilim_classes.specs.declared.names.ClassId.{ClassId}
@@ -7,14 +7,21 @@ use Rattle.kilim_program.specs.declared.run.Limits.{Limits}
 use Rattle.kilim_program.specs.Members.{is_fit_main}
 use Rattle.kilim_stages.specs.Accepted.{IsAcceptedOf}
 use Rattle.kilim_thread_model.specs.State.{Setting}
-use Rattle.kilim_whole_runs.specs.Runs.{IsServed, setting_of}
+use Rattle.kilim_weave_command.specs.Laws.{AcceptedFilesAreIsolated}
+use Rattle.kilim_weaver.specs.Faults.{weave_fault}
+use Rattle.kilim_weaver.specs.declared.weaving.Woven.{Woven}
+use Rattle.kilim_whole_runs.specs.Laws.{WovenIsServed}
+use Rattle.kilim_whole_runs.specs.Runs.{setting_of}
 use Rattle.kilim_words.specs.Words.{Run}
+use Rattle.kilim_woven_follows.specs.Served.{CanServe}
+use Rattle.kilim_woven_stage.specs.Stage.{IsWovenOf}
+use Rattle.kilim_woven_stage.specs.declared.stage.WovenProgram.{WovenProgram}
 use Rattle.kilim_top.specs.Inside.Answer.{IsMainOf, IsTextOf, IsToRun}
 use Rattle.kilim_top.specs.Outcome.{IsFitRun, IsIsolatedRun, IsWholeRun, limits_of}
 use Rattle.kilim_top.specs.Report.{utf16_of}
 
-fit_run : (main : List ℕ) (files : List (List ℕ)) (p : Program) (class : ClassId) → IsAcceptedOf files p → class_named p (utf16_of main) ≡ Some class → is_fit_main p class ≡ true → IsFitRun main files
-fit_run main files p class of named fit = record { program = p; accepted = of; class = class; named = named; fit = fit }
+fit_run : (main : List ℕ) (files : List (List ℕ)) (p : Program) (class : ClassId) → IsAcceptedOf files p → weave_fault p ≡ None → class_named p (utf16_of main) ≡ Some class → is_fit_main p class ≡ true → IsFitRun main files
+fit_run main files p class of none named fit = record { program = p; accepted = of; none = none; class = class; named = named; fit = fit }
 
 whole_run : (main : List ℕ) (limits : Limits) (files : List (List ℕ)) (p : Program) (class : ClassId) (text : List ℕ) → IsAcceptedOf files p → class_named p (utf16_of main) ≡ Some class → IsIsolatedRun p class limits → IsTextOf (setting_of p class limits) text → IsWholeRun main limits files text
 whole_run main limits files p class text of named isolated run = record {
@@ -30,9 +37,23 @@ whole_run main limits files p class text of named isolated run = record {
   is_text = run.is_text;
 }
 
-pub to_run : (main : List ℕ) (workers steps : ℕ) (args : List ℤ) (names files : List (List ℕ)) (p : Program) (set : Setting) → IsAcceptedOf files p → ((class : ClassId) → is_fit_main p class ≡ true → (limits : Limits) → IsServed (setting_of p class limits)) →
-    ((class : ClassId) → is_fit_main p class ≡ true → (limits : Limits) → IsIsolatedRun p class limits) → IsMainOf p main (limits_of steps args) set → IsToRun (Run main workers steps args names) files set
-to_run main workers steps args names files p set of served isolated is = record {
-  served = subst (λ (s : Setting). IsServed s) (sym is.is) (served set.main is.fit (limits_of steps args));
-  done = λ text run. (refl, (fit_run main files p set.main of is.named is.fit, whole_run main (limits_of steps args) files p set.main text of is.named (isolated set.main is.fit (limits_of steps args)) (subst (λ (s : Setting). IsTextOf s text) is.is run)));
-}
+module _ (law : AcceptedFilesAreIsolated) (serves : WovenIsServed) (files : List (List ℕ)) (p : WovenProgram) (few : length files ≤ 1000) (of : IsWovenOf files p.plain p.woven) where
+  served : (class : ClassId) (limits : Limits) (set : Setting) (w : Woven) → is_fit_main p.plain class ≡ true → set ≡ setting_of p.plain class limits → w ≡ p.woven → CanServe set w.program w.counted
+  served class limits set w fit is is_woven =
+      subst (λ (v : Woven). CanServe set v.program v.counted) (sym is_woven)
+      (subst (λ (s : Setting). CanServe s p.woven.program p.woven.counted) (sym is) (serves files p.plain p.woven few of.accepted of.weaves class fit limits))
+
+  isolated : (class : ClassId) (limits : Limits) → is_fit_main p.plain class ≡ true → IsIsolatedRun p.plain class limits
+  isolated class limits fit = λ live sound. law files p.plain few of.accepted class fit limits live sound
+
+  pub to_run : (main : List ℕ) (workers steps : ℕ) (args : List ℤ) (names : List (List ℕ)) (set : Setting) (w : Woven) → IsMainOf p main (limits_of steps args) set w → IsToRun (Run main workers steps args names) files set w
+  to_run main workers steps args names set w is = record {
+    served = served set.main (limits_of steps args) set w is.fit is.is is.is_woven;
+    done = λ text run. (
+      refl,
+      (
+        fit_run main files p.plain set.main of.accepted of.none is.named is.fit,
+        whole_run main (limits_of steps args) files p.plain set.main text of.accepted is.named (isolated set.main (limits_of steps args) is.fit) (subst (λ (s : Setting). IsTextOf s text) is.is run),
+      ),
+    );
+  }

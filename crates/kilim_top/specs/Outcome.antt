@@ -23,7 +23,9 @@ use Rattle.kilim_words.specs.Words.{Request, Check, Weave, Run, Demo, files_read
 use Rattle.kilim_written_files.specs.OutputFile.{OutputFile}
 use Rattle.kilim_written_files.specs.Written.{HasFailed, StoppedAtFile, WroteFiles}
 use Rattle.kilim_weave_command.specs.Weaving.{IsWeavable, IsWeaving}
+use Rattle.kilim_weaver.specs.Faults.{weave_fault}
 use Rattle.kilim_woven_files.specs.Reports.{IsWeaveReport}
+use Rattle.kilim_woven_stage.specs.Reports.{IsMethodReport}
 use Rattle.kilim_demo.specs.Demo.{demo_texts, IsDemoLine, IsDemoReport}
 use Rattle.kilim_stages.specs.Accepted.{IsAcceptedOf}
 use Rattle.kilim_stages.specs.Reports.{IsStageReport}
@@ -63,11 +65,12 @@ pub record IsWholeRun (main : List ℕ) (limits : Limits) (files : List (List �
   pub fits : JournalFits journal
   pub is_text : text ≡ journal_text journal
 
--- The run can be made: no stage has a fault. The class files link to an accepted program, and its class of that name is fit to
--- be the main class.
+-- The run can be made: no stage has a fault. The class files link to an accepted program, each of whose methods can be woven, and
+-- its class of that name is fit to be the main class.
 pub record IsFitRun (main : List ℕ) (files : List (List ℕ)) : Type 0 where
   pub program : Program
   pub accepted : IsAcceptedOf files program
+  pub none : weave_fault program ≡ None
   pub class : ClassId
   pub named : class_named program (utf16_of main) ≡ Some class
   pub fit : is_fit_main program class ≡ true
@@ -92,7 +95,7 @@ abbrev pub IsFitFor : Request → List (List ℕ) → Type 0
 IsFitFor (Check names) files = (program : Program) × IsAcceptedOf files program
 IsFitFor (Weave to names) files = IsWeavable files
 IsFitFor (Run main workers steps args names) files = IsFitRun main files
-IsFitFor (Demo number workers) files = (program : Program) × IsAcceptedOf (demo_texts number) program
+IsFitFor (Demo number workers) files = (program : Program) × IsAcceptedOf (demo_texts number) program × (weave_fault program ≡ None)
 
 -- what is written where it was done: the files that are made, and then a text
 abbrev pub IsDone : Request → List (List ℕ) → List OutputFile → List ℕ → Type 0
@@ -103,10 +106,11 @@ IsDone (Demo number workers) files made text = (made ≡ []) × IsDemoLine numbe
 
 -- ---- reports: lines with their line feeds
 
--- the program is accepted, and has no class of that name that is fit to be the main class
+-- the program is accepted, each of its methods can be woven, and it has no class of that name that is fit to be the main class
 pub record IsMainReport (main : List ℕ) (files : List (List ℕ)) (text : List ℕ) : Type 0 where
   pub program : Program
   pub accepted : IsAcceptedOf files program
+  pub weavable : weave_fault program ≡ None
   pub none : (class : ClassId) → class_named program (utf16_of main) ≡ Some class → is_fit_main program class ≡ true → ⊥
   pub is_text : text ≡ main_line main
 
@@ -114,7 +118,7 @@ pub record IsMainReport (main : List ℕ) (files : List (List ℕ)) (text : List
 abbrev pub IsReport : Request → List (List ℕ) → List ℕ → Type 0
 IsReport (Check names) files text = IsStageReport names files text
 IsReport (Weave to names) files text = IsWeaveReport names files text
-IsReport (Run main workers steps args names) files text = IsStageReport names files text ⊎ IsMainReport main files text
+IsReport (Run main workers steps args names) files text = IsStageReport names files text ⊎ (IsMethodReport files text ⊎ IsMainReport main files text)
 IsReport (Demo number workers) files text = IsDemoReport number text
 
 -- ---- what was read

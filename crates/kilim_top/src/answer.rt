@@ -2,11 +2,10 @@
 
 ghost use Rattle.std.specs.Prelude.{◌≡◌, ◌≤◌, [], IfOk, length, map};
 ghost use Rattle.std.specs.String.{string_bytes};
-ghost use Rattle.kilim_classes.specs.Keeps.{Keeps};
 ghost use Rattle.kilim_journal.specs.Readable.{IsReadable};
 ghost use Rattle.kilim_journal.specs.Text.{journal_text};
 ghost use Rattle.kilim_main_class.specs.Main.{fit_class_named};
-ghost use Rattle.kilim_typing.specs.Typed.{IsWellTyped, has_code};
+ghost use Rattle.kilim_typing.specs.Typed.{has_code};
 ghost use Rattle.kilim_words.specs.Parts.{meant, numbers_of};
 ghost use Rattle.kilim_words.specs.Words.{Check, Run, Weave, files_read};
 ghost use Rattle.kilim_top.specs.Report.{utf16_of, accepted_line, coded_methods};
@@ -15,7 +14,6 @@ ghost use Rattle.kilim_top.specs.Outcome.{limits_of};
 
 use crate::report::{accepted_line, no_main, utf16_of};
 use crate::status::{DONE, REPORTED};
-use kilim_accepted_runs::{accepted_is_isolated, accepted_is_served};
 use kilim_classes::{ClassId, Method, Program};
 use kilim_isolation_check::Isolated;
 use kilim_journal::Entry;
@@ -24,7 +22,10 @@ use kilim_program::Limits;
 use kilim_stages::{Refusal, accepted};
 use kilim_units::{NoMemory, Seq};
 use kilim_weave_command::{accepted_files_are_isolated, weave_files};
+use kilim_weaver::Woven;
+use kilim_whole_runs::woven_is_served;
 use kilim_words::{Asked, RunWords, WeaveWords, integers};
+use kilim_woven_stage::{WovenProgram, woven_program};
 use kilim_written_files::OutputFile;
 use std::alloc::Global;
 
@@ -41,8 +42,8 @@ pub struct Reply {
 pub enum Ready {
     /// To write files and a text.
     Reply(Reply),
-    /// To run a program with its main class.
-    Run(Program, ClassId, Limits),
+    /// To run a program by its woven form, with its main class.
+    Run(Program, Woven, ClassId, Limits),
     /// To run the demo of a number.
     Demo(u64),
 }
@@ -66,14 +67,18 @@ fn limits_in(alloc: Global, words: &RunWords<'_>) -> Result<Limits, NoMemory>
     })
 }
 
-// What is to be done for an accepted program that is to be run.
-fn program_ready(alloc: Global, words: &RunWords<'_>, program: Program) -> Result<Ready, NoMemory>
+// What is to be done for an accepted program, woven, that is to be run.
+fn program_ready(
+    alloc: Global,
+    words: &RunWords<'_>,
+    program: WovenProgram,
+) -> Result<Ready, NoMemory>
     ensures { IfOk result (λ ready. IsReadyOf program words.now.main.now (limits_of words.now.steps (numbers_of (map string_bytes words.now.args.now))) ready) }
 {
-    match main_in(alloc, &program, words.main)? {
+    match main_in(alloc, &program.plain, words.main)? {
         Some(class) => {
             let limits = limits_in(alloc, words)?;
-            Ok(Ready::Run(program, class, limits))
+            Ok(Ready::Run(program.plain, program.woven, class, limits))
         }
         None => {
             let text = no_main(alloc, words.main)?;
@@ -100,25 +105,16 @@ pub fn refused(alloc: Global, refusal: Refusal) -> Result<Reply, NoMemory>
     }
 }
 
-// The program that was accepted.
-fn program_of(isolated: Isolated) -> Program
-    ensures program { result ≡ isolated.typed.program }
-    ensures keeps { Keeps result }
-    ensures typed { IsWellTyped result }
-{
-    isolated.typed.program
-}
-
 // What is to be done for the bytes of files that are to be run.
 fn run_ready(alloc: Global, words: &RunWords<'_>, files: &[Seq<u8>]) -> Result<Ready, NoMemory>
     requires few { length files.now ≤ 1000 }
     requires same { length words.now.files.now ≡ length files.now }
     ensures { IfOk result (λ ready. IsReadyFor (Run words.now.main.now words.now.workers words.now.steps (numbers_of (map string_bytes words.now.args.now)) (map string_bytes words.now.files.now)) files.now ready) }
 {
-    accepted_is_isolated();
-    accepted_is_served();
-    match accepted(alloc, words.files, files) {
-        Ok(isolated) => program_ready(alloc, words, program_of(isolated)),
+    accepted_files_are_isolated();
+    woven_is_served();
+    match woven_program(alloc, words.files, files) {
+        Ok(program) => program_ready(alloc, words, program),
         Err(refusal) => {
             let reply = refused(alloc, refusal)?;
             Ok(Ready::Reply(reply))
@@ -130,6 +126,13 @@ fn has_code(method: &Method) -> bool
     ensures { result ≡ has_code method.now }
 {
     !method.code.is_empty()
+}
+
+// The program that was accepted.
+fn program_of(isolated: Isolated) -> Program
+    ensures { result ≡ isolated.typed.program }
+{
+    isolated.typed.program
 }
 
 // How many of a program's methods have code.
@@ -151,7 +154,7 @@ fn check_reply(alloc: Global, names: &[String], files: &[Seq<u8>]) -> Result<Rep
     requires same { length names.now ≡ length files.now }
     ensures { IfOk result (λ reply. IsReplyFor (Check (map string_bytes names.now)) files.now reply.status reply.files.items reply.text.items) }
 {
-    accepted_is_isolated();
+    accepted_files_are_isolated();
     match accepted(alloc, names, files) {
         Ok(isolated) => {
             let program = program_of(isolated);

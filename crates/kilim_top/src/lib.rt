@@ -7,8 +7,6 @@ mod inputs;
 mod report;
 mod runs;
 mod status;
-#[cfg(test)]
-mod tests;
 mod top;
 mod work;
 mod writing;

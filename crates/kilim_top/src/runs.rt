@@ -1,11 +1,12 @@
 //! Runs of what is ready.
 
 ghost use Rattle.std.specs.Prelude.{◌≡◌, ◌≤◌, IfOk, length};
-ghost use Rattle.kilim_whole_runs.specs.Runs.{IsServed, setting_of};
+ghost use Rattle.kilim_whole_runs.specs.Runs.{setting_of};
 ghost use Rattle.kilim_demo.specs.Demo.{IsDemoLine, IsDemoReport};
 ghost use Rattle.kilim_stages.specs.Parts.{IfReport};
 ghost use Rattle.kilim_words.specs.Parts.{meant};
 ghost use Rattle.kilim_words.specs.Words.{files_read};
+ghost use Rattle.kilim_woven_follows.specs.Served.{CanServe};
 ghost use Rattle.kilim_top.specs.Inside.Answer.{IsDemoReply, IsReplyFor, IsRunReply};
 ghost use Rattle.kilim_top.specs.Words.{workers_of};
 
@@ -17,6 +18,7 @@ use kilim_outside::Gate;
 use kilim_program::Limits;
 use kilim_stages::Refusal;
 use kilim_units::{NoMemory, Seq};
+use kilim_weaver::Woven;
 use kilim_whole_runs::{run_alone, run_with};
 use kilim_words::Asked;
 use std::alloc::Global;
@@ -38,15 +40,16 @@ pub fn workers_of(asked: &Asked<'_>) -> u64
 // A run by one worker.
 fn run_reply_alone<G: Gate>(
     alloc: Global,
-    program: Program,
+    plain: Program,
+    woven: Woven,
     class: ClassId,
     limits: &Limits,
     gate: &G,
 ) -> Result<Reply, NoMemory>
-    requires { IsServed (setting_of program class limits.now) }
-    ensures { IfOk result (λ reply. IsRunReply (setting_of program class limits.now) reply.status reply.files.items reply.text.items) }
+    requires { CanServe (setting_of plain class limits.now) woven.program woven.counted }
+    ensures { IfOk result (λ reply. IsRunReply (setting_of plain class limits.now) reply.status reply.files.items reply.text.items) }
 {
-    let entries = run_alone(alloc, program, class, limits, gate)?;
+    let entries = run_alone(alloc, plain, woven, class, limits, gate)?;
     journal_reply(alloc, &entries)
 }
 
@@ -54,16 +57,17 @@ fn run_reply_alone<G: Gate>(
 fn run_reply_with<R: Threads + Wait + Sync, G: Gate>(
     rt: &R,
     alloc: Global,
-    program: Program,
+    plain: Program,
+    woven: Woven,
     class: ClassId,
     limits: &Limits,
     workers: u64,
     gate: &G,
 ) -> Result<Reply, NoMemory>
-    requires { IsServed (setting_of program class limits.now) }
-    ensures { IfOk result (λ reply. IsRunReply (setting_of program class limits.now) reply.status reply.files.items reply.text.items) }
+    requires { CanServe (setting_of plain class limits.now) woven.program woven.counted }
+    ensures { IfOk result (λ reply. IsRunReply (setting_of plain class limits.now) reply.status reply.files.items reply.text.items) }
 {
-    let entries = run_with(rt, alloc, program, class, limits, workers, gate)?;
+    let entries = run_with(rt, alloc, plain, woven, class, limits, workers, gate)?;
     journal_reply(alloc, &entries)
 }
 
@@ -118,8 +122,8 @@ pub fn reply_alone<G: Gate>(
 {
     match prepare(alloc, asked, files)? {
         Ready::Reply(reply) => Ok(reply),
-        Ready::Run(program, class, limits) => {
-            run_reply_alone(alloc, program, class, &limits, gate)
+        Ready::Run(plain, woven, class, limits) => {
+            run_reply_alone(alloc, plain, woven, class, &limits, gate)
         }
         Ready::Demo(number) => demo_reply_alone(alloc, number, gate),
     }
@@ -140,8 +144,8 @@ pub fn reply_with<R: Threads + Wait + Sync, G: Gate>(
     let workers = workers_of(asked);
     match prepare(alloc, asked, files)? {
         Ready::Reply(reply) => Ok(reply),
-        Ready::Run(program, class, limits) => {
-            run_reply_with(rt, alloc, program, class, &limits, workers, gate)
+        Ready::Run(plain, woven, class, limits) => {
+            run_reply_with(rt, alloc, plain, woven, class, &limits, workers, gate)
         }
         Ready::Demo(number) => demo_reply_with(rt, alloc, number, workers, gate),
     }

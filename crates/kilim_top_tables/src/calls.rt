@@ -1,14 +1,16 @@
 //! Calls of the top call over files and sinks in memory.
 
 use crate::files::folder;
-use kilim_outside::{MapFolder, NamedFile, OpenGate, VecSink};
-use kilim_top::kilim_alone;
+use kilim_outside::{Gate, MapFolder, NamedFile, OpenGate, VecSink};
+use kilim_top::{kilim, kilim_alone};
 use kilim_units::Seq;
 use std::alloc::Global;
 use std::rt::Files;
+use std::sync::Wait;
+use std::thread::Threads;
 
 /// More than any text of a call.
-const MOST: usize = 1_000_000_000;
+pub const MOST: usize = 1_000_000_000;
 
 /// How few bytes a narrow sink takes a call.
 const FEW: usize = 4;
@@ -27,8 +29,8 @@ pub fn sink(alloc: Global, most: usize, fails: Seq<u64>) -> VecSink {
     }
 }
 
-// A list of one number.
-fn only(alloc: Global, word: &str) -> Option<Seq<u64>> {
+/// A list of one number.
+pub fn only(alloc: Global, word: &str) -> Option<Seq<u64>> {
     let mut numbers = Seq::new(alloc);
     numbers.push(word.parse::<u64>().ok()?).ok()?;
     Some(numbers)
@@ -86,47 +88,76 @@ fn push_new(alloc: Global, into: &mut Vec<u8>, before: &[String], after: &[Strin
     Some(())
 }
 
-// What the call of these words wrote, a line with its status, and a line for each file that is new or another one than before.
-fn text_of<R: Files>(
-    rt: &R,
+// What the sink holds, the line of the status, and a line for each file that is new or another one than before.
+fn left(
+    alloc: Global,
+    out: &VecSink,
+    line: &str,
+    before: &[String],
+    files: &MapFolder,
+) -> Option<Vec<u8>> {
+    let mut text = Vec::new(alloc);
+    text.extend_from_slice(out.bytes.as_slice()).ok()?;
+    text.extend_from_slice(line.as_bytes()).ok()?;
+    let after = file_lines(alloc, files)?;
+    push_new(alloc, &mut text, before, after.as_slice())?;
+    Some(text)
+}
+
+/// What the call of these words wrote, made by itself, a line with its status, and a line for each file that is new or another one
+/// than before.
+pub fn text_alone(
     alloc: Global,
     words: &[String],
-    folder_fails: Seq<u64>,
-    mut out: VecSink,
+    files: &mut MapFolder,
+    out: &mut VecSink,
 ) -> Option<Vec<u8>> {
-    let mut files = folder(rt, alloc, words, folder_fails)?;
-    let before = file_lines(alloc, &files)?;
+    let before = file_lines(alloc, files)?;
     let words = copied(alloc, words)?;
     let gate = OpenGate::new();
-    let mut text = Vec::new(alloc);
-    let found = kilim_alone(alloc, &words, &mut files, &mut out, &gate);
-    text.extend_from_slice(out.bytes.as_slice()).ok()?;
+    let found = kilim_alone(alloc, &words, files, out, &gate);
     let line = match found {
         Some(status) => format!(in alloc; "status {status}\n").ok()?,
         None => String::from_str(alloc, "needs workers\n").ok()?,
     };
-    text.extend_from_slice(line.as_str().as_bytes()).ok()?;
-    let after = file_lines(alloc, &files)?;
-    push_new(alloc, &mut text, before.as_slice(), after.as_slice())?;
-    Some(text)
+    left(alloc, out, line.as_str(), before.as_slice(), files)
+}
+
+/// The same of the call that takes a runtime, past a gate.
+pub fn text_with<R: Threads + Wait + Sync, G: Gate>(
+    rt: &R,
+    alloc: Global,
+    words: &[String],
+    files: &mut MapFolder,
+    out: &mut VecSink,
+    gate: &G,
+) -> Option<Vec<u8>> {
+    let before = file_lines(alloc, files)?;
+    let words = copied(alloc, words)?;
+    let status = kilim(rt, alloc, &words, files, out, gate);
+    let line = format!(in alloc; "status {status}\n").ok()?;
+    left(alloc, out, line.as_str(), before.as_slice(), files)
 }
 
 /// `call WORD..`: what the call of these words writes, and its status.
 pub fn call_case<R: Files>(rt: &R, alloc: Global, words: &[String]) -> Option<Vec<u8>> {
-    let out = sink(alloc, MOST, Seq::new(alloc));
-    text_of(rt, alloc, words, Seq::new(alloc), out)
+    let mut files = folder(rt, alloc, words, Seq::new(alloc))?;
+    let mut out = sink(alloc, MOST, Seq::new(alloc));
+    text_alone(alloc, words, &mut files, &mut out)
 }
 
 /// `sink NUMBER WORD..`: the same over a sink that takes four bytes a call and fails at the call of this number, counted from 0.
 pub fn sink_case<R: Files>(rt: &R, alloc: Global, words: &[String]) -> Option<Vec<u8>> {
     let (number, words) = words.split_first()?;
-    let out = sink(alloc, FEW, only(alloc, number.as_str())?);
-    text_of(rt, alloc, words, Seq::new(alloc), out)
+    let mut files = folder(rt, alloc, words, Seq::new(alloc))?;
+    let mut out = sink(alloc, FEW, only(alloc, number.as_str())?);
+    text_alone(alloc, words, &mut files, &mut out)
 }
 
 /// `folder NUMBER WORD..`: the same over a folder that fails at the call of this number, counted from 0.
 pub fn folder_case<R: Files>(rt: &R, alloc: Global, words: &[String]) -> Option<Vec<u8>> {
     let (number, words) = words.split_first()?;
-    let out = sink(alloc, MOST, Seq::new(alloc));
-    text_of(rt, alloc, words, only(alloc, number.as_str())?, out)
+    let mut files = folder(rt, alloc, words, only(alloc, number.as_str())?)?;
+    let mut out = sink(alloc, MOST, Seq::new(alloc));
+    text_alone(alloc, words, &mut files, &mut out)
 }

@@ -1,7 +1,9 @@
 //! The words of the cases.
 
+use crate::asked::asked_case;
 use crate::calls::{call_case, folder_case, sink_case};
 use crate::held::held_case;
+use crate::runtime::{front_case, noted_case};
 use std::alloc::Global;
 use std::rt::Files;
 use std::sync::Wait;
@@ -20,6 +22,9 @@ pub fn answer<R: Files + Threads + Wait + Sync>(
         "sink" => sink_case(rt, alloc, rest),
         "held" => held_case(rt, alloc, rest),
         "folder" => folder_case(rt, alloc, rest),
+        "asked" => asked_case(rt, alloc, rest),
+        "front" => front_case(rt, alloc, rest),
+        "noted" => noted_case(rt, alloc, rest),
         _ => None,
     }
 }

@@ -1,6 +1,6 @@
 //! Runs with several workers, past a gate that holds a task until a second one runs.
 
-use crate::calls::{copied, sink};
+use crate::calls::{MOST, copied, sink};
 use crate::files::folder;
 use crate::holds::Holds;
 use kilim_outside::{MapFolder, VecSink};
@@ -10,9 +10,6 @@ use std::alloc::Global;
 use std::rt::Files;
 use std::sync::Wait;
 use std::thread::Threads;
-
-/// More than any text of a call.
-const MOST: usize = 1_000_000_000;
 
 // The lines of a text, sorted, each with its line feed.
 fn sorted(alloc: Global, text: &str) -> Option<Vec<u8>> {

@@ -3,12 +3,15 @@
 //! it then stands on standard error, and the answers before it were written.
 #![tactic(auto)]
 
+mod asked;
 mod bytes;
 mod calls;
 mod cases;
 mod files;
 mod held;
 mod holds;
+mod notes;
+mod runtime;
 
 use cases::answer;
 use std::alloc::{AllocGlobal, Global};

@@ -1,24 +1,9 @@
--- The runs of an accepted program of class files can be made.
-use Rattle.std.proofs.Common.{◌≡◌, ◌≤◌, ℕ, true, List, length, sym, subst}
-use Rattle.kilim_classes.specs.declared.class.Form.TheVariants.{Plain}
-use Rattle.kilim_classes.specs.Keeps.{Keeps}
-use Rattle.kilim_classes.specs.Program.{Program}
-use Rattle.kilim_link_spec.specs.LinksWell.{LinksWell}
-use Rattle.kilim_accepted_runs.specs.Laws.{AcceptedIsServed}
-use Rattle.kilim_stages.specs.Accepted.{IsAcceptedOf}
-use Rattle.kilim_stages.proofs.Both.{all_fit, as_many}
-use Rattle.kilim_typing.specs.Typed.{IsWellTyped}
+-- The runs of an accepted program of class files can be made by its woven form.
+use Rattle.std.proofs.Common.{◌≤◌, ℕ, List, length}
+use Rattle.kilim_whole_runs.specs.Laws.{WovenIsServed}
+use Rattle.kilim_woven_stage.specs.Stage.{IsWovenOf}
+use Rattle.kilim_woven_stage.specs.declared.stage.WovenProgram.{WovenProgram}
 use Rattle.kilim_whole_run_tables.specs.Served.{ServesAll}
 
-links_well : (files : List (List ℕ)) (p : Program) → length files ≤ 1000 → (is : IsAcceptedOf files p) → LinksWell is.of_files.classes Plain p
-links_well files p few is = record {
-  few = subst (λ (n : ℕ). n ≤ 1000) (sym (as_many files is.of_files.classes is.of_files.are_files)) few;
-  fit = all_fit files is.of_files.classes is.of_files.are_files;
-  none = is.of_files.none;
-  linked = is.of_files.linked;
-}
-
-pub are_served : AcceptedIsServed → (files : List (List ℕ)) (p : Program) → length files ≤ 1000 → Keeps p → IsWellTyped p → IsAcceptedOf files p → ServesAll p
-are_served law files p few keeps typed is = λ class fit limits.
-    let s = law is.of_files.classes p (links_well files p few is) keeps typed is.accepts.isolated class fit limits in
-    record { live = s.0; can = s.1 }
+pub are_served : WovenIsServed → (files : List (List ℕ)) (p : WovenProgram) → length files ≤ 1000 → IsWovenOf files p.plain p.woven → ServesAll p
+are_served law files p few is = λ class fit limits. law files p.plain p.woven few is.accepted is.weaves class fit limits

@@ -7,7 +7,7 @@ use kilim_classes::{ClassId, Program};
 use kilim_main_class::fit_main;
 use kilim_outside::{Gate, OpenGate};
 use kilim_program::Limits;
-use kilim_stages::Refusal;
+use kilim_stages::{Refusal, accepted};
 use kilim_units::Seq;
 use kilim_words::{Asked, RunWords, integers, request};
 use std::alloc::Global;
@@ -51,9 +51,10 @@ fn check(alloc: Global, names: &[String], files: &[Seq<u8>]) -> Option<Vec<u8>> 
     if files.len() > MOST_FILES || names.len() != files.len() {
         return None;
     }
-    match served(alloc, names, files) {
-        Ok(program) => {
-            let (classes, methods) = (files.len(), coded_methods(&program)?);
+    match accepted(alloc, names, files) {
+        Ok(isolated) => {
+            let methods = coded_methods(&isolated.typed.program)?;
+            let classes = files.len();
             let line = format!(in alloc; "accepted {classes} {methods}\n").ok()?;
             Some(line.into_bytes())
         }
@@ -89,7 +90,7 @@ fn run<R: Threads + Wait + Sync, G: Gate>(
     }
     match served(alloc, words.files, files) {
         Ok(program) => {
-            let class = class_named(alloc, &program, words.main)?;
+            let class = class_named(alloc, &program.plain, words.main)?;
             let limits = limits_of(alloc, words)?;
             journal(rt, alloc, program, class, &limits, words.workers, gate)
         }

@@ -1,42 +1,30 @@
-//! The accepted program of class files, and its runs.
+//! The accepted program of class files, woven, and its runs.
 
 ghost use Rattle.std.specs.Prelude.{◌≡◌, ◌≤◌, IfOk, length};
-ghost use Rattle.kilim_classes.specs.Keeps.{Keeps};
-ghost use Rattle.kilim_typing.specs.Typed.{IsWellTyped};
 ghost use Rattle.kilim_whole_run_tables.specs.Served.{ServesAll};
 
-use kilim_accepted_runs::accepted_is_served;
-use kilim_classes::{ClassId, Program};
-use kilim_isolation_check::Isolated;
+use kilim_classes::ClassId;
 use kilim_journal::text;
 use kilim_main_class::is_fit_main;
 use kilim_outside::Gate;
 use kilim_program::Limits;
-use kilim_stages::{Refusal, accepted};
+use kilim_stages::Refusal;
 use kilim_units::Seq;
-use kilim_whole_runs::run_with;
+use kilim_whole_runs::{run_with, woven_is_served};
+use kilim_woven_stage::{WovenProgram, woven_program};
 use std::alloc::Global;
 use std::sync::Wait;
 use std::thread::Threads;
 
-// The program that was accepted.
-fn program_of(isolated: Isolated) -> Program
-    ensures program { result ≡ isolated.typed.program }
-    ensures keeps { Keeps result }
-    ensures typed { IsWellTyped result }
-{
-    isolated.typed.program
-}
-
-/// The accepted program of class files with these bytes, or the report of the first stage that has a fault.
-pub fn served(alloc: Global, names: &[String], files: &[Seq<u8>]) -> Result<Program, Refusal>
+/// The accepted program of class files with these bytes and its woven form, or the report of the first stage that has a fault.
+pub fn served(alloc: Global, names: &[String], files: &[Seq<u8>]) -> Result<WovenProgram, Refusal>
     requires few { length files.now ≤ 1000 }
     requires same { length names.now ≡ length files.now }
     ensures { IfOk result ServesAll }
 {
-    accepted_is_served();
-    match accepted(alloc, names, files) {
-        Ok(isolated) => Ok(program_of(isolated)),
+    woven_is_served();
+    match woven_program(alloc, names, files) {
+        Ok(program) => Ok(program),
         Err(refusal) => Err(refusal),
     }
 }
@@ -45,7 +33,7 @@ pub fn served(alloc: Global, names: &[String], files: &[Seq<u8>]) -> Result<Prog
 pub fn journal<R: Threads + Wait + Sync, G: Gate>(
     rt: &R,
     alloc: Global,
-    program: Program,
+    program: WovenProgram,
     class: ClassId,
     limits: &Limits,
     workers: u64,
@@ -53,10 +41,19 @@ pub fn journal<R: Threads + Wait + Sync, G: Gate>(
 ) -> Option<Vec<u8>>
     requires { ServesAll program }
 {
-    if !is_fit_main(&program, class) {
+    if !is_fit_main(&program.plain, class) {
         return None;
     }
-    match run_with(rt, alloc, program, class, limits, workers, gate) {
+    match run_with(
+        rt,
+        alloc,
+        program.plain,
+        program.woven,
+        class,
+        limits,
+        workers,
+        gate,
+    ) {
         Ok(entries) => text(alloc, &entries).ok(),
         Err(_) => None,
     }

@@ -5,11 +5,11 @@ use Rattle.kilim_classfile.specs.declared.class_file.ClassFile.{ClassFile}
 use Rattle.kilim_classfile.specs.declared.fault.ClassFault.{ClassFault}
 use Rattle.kilim_classfile.specs.Law.{ClassFilesAreSpelled}
 use Rattle.kilim_classfile.specs.Reading.{read_class}
-use Rattle.kilim_stages.specs.Laws.{NeverBoth, OneProgramOf}
+use Rattle.kilim_stages.specs.Laws.{OneProgramOf}
 use Rattle.kilim_stages.specs.ProgramOf.{AreFiles, IsFile}
-use Rattle.kilim_weaver.specs.Faults.{weave_fault}
 use Rattle.kilim_woven_files.specs.Laws.{NeverWovenAndReported}
 use Rattle.kilim_woven_files.specs.Sizes.{first_size_fault}
+use Rattle.kilim_woven_stage.specs.Laws.{WovenIsNotReported}
 
 abbrev well : ClassFile → Result ClassFile ClassFault
 well file = Ok file
@@ -36,12 +36,10 @@ module _ (law : ClassFilesAreSpelled) where
   same_classes (b ∷ files) [] ds p q = absurd p
   same_classes (b ∷ files) (c ∷ cs) [] p q = absurd q
 
-  pub never : OneProgramOf → NeverBoth → NeverWovenAndReported
-  never one stages names files text outputs is (inl report) = stages names files text is.program is.accepted report
-  never one stages names files text outputs is (inr (inl report)) =
-      let same = one files is.program report.program is.accepted.of_files report.accepted.of_files in
-      none_some report.fault (weave_fault report.program) (subst (λ (q : Program). weave_fault q ≡ None) same is.none) report.first
-  never one stages names files text outputs is (inr (inr report)) =
+  pub never : OneProgramOf → WovenIsNotReported → NeverWovenAndReported
+  never one before names files text outputs is (inl report) = before names files text is.program is.accepted is.none (inl report)
+  never one before names files text outputs is (inr (inl report)) = before names files text is.program is.accepted is.none (inr report)
+  never one before names files text outputs is (inr (inr report)) =
       let same = one files is.program report.program is.accepted.of_files report.accepted.of_files in
       let classes = same_classes files is.classes report.classes is.are_files report.are_files in
       let fit = subst (λ (q : Program). first_size_fault q is.classes ≡ None) same is.fit in

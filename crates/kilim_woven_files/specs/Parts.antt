@@ -1,5 +1,5 @@
 -- How the parts of the stage hand on what they answer. No clause of `woven_files` cites what stands here.
-use Rattle.std.specs.Prelude.{◌≡◌, ℕ, List, [], map, Some, None, ◌⊎◌}
+use Rattle.std.specs.Prelude.{◌≡◌, ℕ, List, [], map, Some, None}
 use Rattle.kilim_classes.specs.declared.class.Form.TheVariants as form
 use Rattle.kilim_classes.specs.declared.class.Method.{Method}
 use Rattle.kilim_classes.specs.Program.{Program}
@@ -9,13 +9,9 @@ use Rattle.kilim_link_spec.specs.Linked.{Linked}
 use Rattle.kilim_weave_file.specs.declared.fault.ApplyFault.{ApplyFault}
 use Rattle.kilim_weaver.specs.declared.weaving.Woven.{Woven}
 use Rattle.kilim_woven_files.specs.declared.made.WovenFile.{WovenFile}
-use Rattle.kilim_woven_files.specs.Reports.{IsMethodReport, IsSizeLine, IsSizeReport}
+use Rattle.kilim_woven_files.specs.Reports.{IsSizeLine}
 use Rattle.kilim_woven_files.specs.Sizes.{first_size_fault, size_fault}
 use Rattle.kilim_woven_files.specs.WovenFiles.{AreOutputs, IsWovenProgramOf, woven_of}
-
--- of an accepted program
-abbrev pub IsFaultReport : List (List ℕ) → List ℕ → Type 0
-IsFaultReport files text = IsMethodReport files text ⊎ IsSizeReport files text
 
 -- the line of a class file that may get too large
 pub record IsRefusedFor (p : Program) (file : ClassFile) (name : List ℕ) (methods : List Method) (text : List ℕ) : Type 0 where

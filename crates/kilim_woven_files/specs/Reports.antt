@@ -1,30 +1,19 @@
 -- The reports of class files that aren't woven. The first stage that has a fault is reported.
 use Rattle.std.specs.Prelude.{◌≡◌, ℕ, List, ◌++◌, Some, None, codes, ◌⊎◌}
 use Rattle.std.specs.Fmt.{decimal}
-use Rattle.kilim_classes.specs.declared.names.MethodId.{MethodId}
-use Rattle.kilim_classes.specs.Names.{method_at}
 use Rattle.kilim_classes.specs.Program.{Program}
 use Rattle.kilim_classfile.specs.declared.class_file.ClassFile.{ClassFile}
 use Rattle.kilim_reports.specs.Names.{member_name_text}
-use Rattle.kilim_rule_reports.specs.RuleLines.{words_of}
 use Rattle.kilim_stages.specs.Accepted.{IsAcceptedOf}
 use Rattle.kilim_stages.specs.ProgramOf.{AreFiles}
 use Rattle.kilim_stages.specs.Reports.{IsStageReport}
 use Rattle.kilim_weave_file.specs.declared.fault.ApplyFault.{ApplyFault}
 use Rattle.kilim_weave_file.specs.declared.fault.ApplyFault.TheVariants as size
-use Rattle.kilim_weaver.specs.declared.fault.WeaveFault.{WeaveFault}
-use Rattle.kilim_weaver.specs.declared.fault.WeaveFault.TheVariants as fault
 use Rattle.kilim_weaver.specs.Faults.{weave_fault}
 use Rattle.kilim_woven_files.specs.Sizes.{first_size_fault}
+use Rattle.kilim_woven_stage.specs.Reports.{IsMethodReport}
 
 -- ---- lines, each with its line feed
-
--- the class, and the method's name and descriptor; its weight
-unfoldable pub too_long_line : Program → MethodId → ℕ → List ℕ
-too_long_line p id weight = codes "weave " ++ (words_of p (method_at p id) ++ (codes " too-long " ++ (decimal weight ++ codes "\n")))
-
-unfoldable pub arguments_line : Program → MethodId → List ℕ
-arguments_line p id = codes "weave " ++ (words_of p (method_at p id) ++ codes " arguments\n")
 
 -- the count of indices that the pool may reach
 unfoldable pub pool_line : (class : List ℕ) (sum : ℕ) → List ℕ
@@ -34,25 +23,12 @@ pool_line class sum = codes "weave " ++ (member_name_text class ++ (codes " pool
 unfoldable pub file_line : (class : List ℕ) (size : ℕ) → List ℕ
 file_line class size = codes "weave " ++ (member_name_text class ++ (codes " file " ++ (decimal size ++ codes "\n")))
 
-abbrev pub IsMethodLine : Program → WeaveFault → List ℕ → Type 0
-IsMethodLine p (fault.TooLong id weight) text = text ≡ too_long_line p id weight
-IsMethodLine p (fault.ArgumentsFull id) text = text ≡ arguments_line p id
-IsMethodLine p fault.Memory text = ⊥
-
 abbrev pub IsSizeLine : (class : List ℕ) → ApplyFault → List ℕ → Type 0
 IsSizeLine class (size.PoolFull sum) text = text ≡ pool_line class sum
 IsSizeLine class (size.FileTooLarge size) text = text ≡ file_line class size
 IsSizeLine class size.Memory text = ⊥
 
 -- ---- reports
-
--- The class files link to an accepted program, which has a method that can't be woven: the line of the first.
-pub record IsMethodReport (files : List (List ℕ)) (text : List ℕ) : Type 0 where
-  pub program : Program
-  pub accepted : IsAcceptedOf files program
-  pub fault : WeaveFault
-  pub first : weave_fault program ≡ Some fault
-  pub is_text : IsMethodLine program fault text
 
 -- The program can be woven, and a woven file may get too large: the line of the first.
 pub record IsSizeReport (files : List (List ℕ)) (text : List ℕ) : Type 0 where

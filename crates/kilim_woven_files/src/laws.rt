@@ -5,7 +5,8 @@ ghost use Rattle.kilim_woven_files.specs.Laws.{NeverWovenAndReported, OwnPaths, 
 use kilim_class_world::links_keep;
 use kilim_classfile::class_file_is_spelled;
 use kilim_link_spec::{linked_in_parts, none_has_a_problem, none_of_each_kind};
-use kilim_stages::{never_both, one_program_of};
+use kilim_stages::one_program_of;
+use kilim_woven_stage::woven_is_not_reported;
 
 /// A law, and no work: no files are both woven and reported.
 pub fn never_woven_and_reported()
@@ -13,7 +14,7 @@ pub fn never_woven_and_reported()
 {
     class_file_is_spelled();
     one_program_of();
-    never_both();
+    woven_is_not_reported();
 }
 
 /// A law, and no work: no two woven files have one path, whatever the directory.

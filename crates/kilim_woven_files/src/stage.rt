@@ -1,4 +1,4 @@
-//! The stage, after the others.
+//! The stage, after that of kilim_woven_stage.
 
 ghost use Rattle.std.specs.Prelude.{◌≡◌, ◌≤◌, length, map, None, IfOk};
 ghost use Rattle.std.specs.List.{AllByRecursion};
@@ -8,21 +8,18 @@ ghost use Rattle.kilim_stages.specs.Accepted.{IsAcceptedOf};
 ghost use Rattle.kilim_stages.specs.Parts.{IfReport};
 ghost use Rattle.kilim_stages.specs.ProgramOf.{AreFiles, IsFile};
 ghost use Rattle.kilim_weaver.specs.Faults.{weave_fault};
-ghost use Rattle.kilim_weaver.specs.Weaves.{IsWoven, Weaves};
-ghost use Rattle.kilim_woven_files.specs.Parts.{IsFaultReport};
+ghost use Rattle.kilim_weaver.specs.Weaves.{Weaves};
 ghost use Rattle.kilim_woven_files.specs.Reports.{IsSizeReport, IsWeaveReport};
 ghost use Rattle.kilim_woven_files.specs.WovenFiles.{AreWovenFiles};
 
 use crate::made::WovenFile;
 use crate::outputs::woven_classes;
-use crate::refusals::method_refusal;
 use kilim_classes::Program;
 use kilim_classfile::{ClassFile, class_file_is_spelled};
-use kilim_isolation_check::Isolated;
-use kilim_link_spec::linked_in_parts;
-use kilim_stages::{Refusal, accepted};
+use kilim_stages::Refusal;
 use kilim_units::{NoMemory, Seq};
-use kilim_weaver::{WeaveFault, Woven, weave};
+use kilim_weaver::Woven;
+use kilim_woven_stage::woven_program;
 use std::alloc::Global;
 
 // A class file of accepted ones is read a second time. Where that failed, it would be answered as want of memory.
@@ -67,40 +64,6 @@ fn files_of(
     }
 }
 
-// The woven files of an accepted program, or the report of what can't be woven.
-fn woven_or_report(
-    alloc: Global,
-    files: &[Seq<u8>],
-    program: &Program,
-    woven: Result<Woven, WeaveFault>,
-) -> Result<Vec<WovenFile>, Refusal>
-    requires few { length files.now ≤ 1000 }
-    requires accepted { IsAcceptedOf files.now program.now }
-    requires woven { IsWoven program.now woven }
-    ensures woven { IfOk result (λ outputs. AreWovenFiles files.now outputs.items) }
-    ensures report { IfReport result (IsFaultReport files.now) }
-{
-    match woven {
-        Ok(woven) => files_of(alloc, files, program, &woven),
-        Err(fault) => Err(method_refusal(alloc, program, fault)),
-    }
-}
-
-fn woven_from(
-    alloc: Global,
-    files: &[Seq<u8>],
-    isolated: &Isolated,
-) -> Result<Vec<WovenFile>, Refusal>
-    requires few { length files.now ≤ 1000 }
-    requires accepted { IsAcceptedOf files.now isolated.now.typed.program }
-    ensures woven { IfOk result (λ outputs. AreWovenFiles files.now outputs.items) }
-    ensures report { IfReport result (IsFaultReport files.now) }
-{
-    linked_in_parts();
-    let woven = weave(alloc, isolated);
-    woven_or_report(alloc, files, &isolated.typed.program, woven)
-}
-
 /// The woven class files of the class files with these bytes, in their order (own, after Srinivasan and Mycroft, "Kilim:
 /// Isolation-Typed Actors for Java", 2008); or the report of the first stage that has a fault, as bytes.
 ///
@@ -122,8 +85,8 @@ pub fn woven_files(
     ensures woven { IfOk result (λ outputs. AreWovenFiles files.now outputs.items) }
     ensures report { IfReport result (IsWeaveReport (map string_bytes names.now) files.now) }
 {
-    match accepted(alloc, names, files) {
-        Ok(isolated) => woven_from(alloc, files, &isolated),
+    match woven_program(alloc, names, files) {
+        Ok(made) => files_of(alloc, files, &made.plain, &made.woven),
         Err(refusal) => Err(refusal),
     }
 }

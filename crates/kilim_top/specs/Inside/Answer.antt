@@ -11,8 +11,11 @@ use Rattle.kilim_program.specs.Members.{is_fit_main}
 use Rattle.kilim_stages.specs.declared.refusal.Refusal.{Refusal}
 use Rattle.kilim_stages.specs.declared.refusal.Refusal.TheVariants as refusal
 use Rattle.kilim_thread_model.specs.State.{Setting}
-use Rattle.kilim_whole_runs.specs.Runs.{IsJournalOf, IsServed, setting_of}
+use Rattle.kilim_weaver.specs.declared.weaving.Woven.{Woven}
+use Rattle.kilim_whole_runs.specs.Runs.{IsJournalOf, setting_of}
 use Rattle.kilim_words.specs.Words.{Request}
+use Rattle.kilim_woven_follows.specs.Served.{CanServe}
+use Rattle.kilim_woven_stage.specs.declared.stage.WovenProgram.{WovenProgram}
 use Rattle.kilim_written_files.specs.OutputFile.{OutputFile}
 use Rattle.kilim_top.specs.declared.answer.Ready.{Ready}
 use Rattle.kilim_top.specs.declared.answer.Ready.TheVariants as ready
@@ -55,9 +58,9 @@ IsRunReply set status made text = (status ≡ 0) × ((made ≡ []) × IsTextOf s
 
 -- ---- what is to be done
 
--- a program is to be run, and with the text of its journal the work is done
-pub record IsToRun (work : Request) (files : List (List ℕ)) (set : Setting) : Type 0 where
-  pub served : IsServed set
+-- a program is to be run by its woven form, and with the text of its journal the work is done
+pub record IsToRun (work : Request) (files : List (List ℕ)) (set : Setting) (woven : Woven) : Type 0 where
+  pub served : CanServe set woven.program woven.counted
   pub done : (text : List ℕ) → IsTextOf set text → IsDone work files [] text
 
 -- the demo of a number is to be run, and with its line the work is done
@@ -67,16 +70,17 @@ pub record IsToDemo (work : Request) (files : List (List ℕ)) (number : ℕ) : 
 
 abbrev pub IsReadyFor : Request → List (List ℕ) → Ready → Type 0
 IsReadyFor work files (ready.Reply reply) = IsReplyFor work files reply.status reply.files.items reply.text.items
-IsReadyFor work files (ready.Run program class limits) = IsToRun work files (setting_of program class limits)
+IsReadyFor work files (ready.Run plain woven class limits) = IsToRun work files (setting_of plain class limits) woven
 IsReadyFor work files (ready.Demo number) = IsToDemo work files number
 
--- the main class, with the program and the limits as they are
-pub record IsMainOf (program : Program) (main : List ℕ) (limits : Limits) (set : Setting) : Type 0 where
-  pub is : set ≡ setting_of program set.main limits
-  pub named : class_named program (utf16_of main) ≡ Some set.main
-  pub fit : is_fit_main program set.main ≡ true
+-- the main class, with the program, its woven form and the limits as they are
+pub record IsMainOf (program : WovenProgram) (main : List ℕ) (limits : Limits) (set : Setting) (woven : Woven) : Type 0 where
+  pub is : set ≡ setting_of program.plain set.main limits
+  pub is_woven : woven ≡ program.woven
+  pub named : class_named program.plain (utf16_of main) ≡ Some set.main
+  pub fit : is_fit_main program.plain set.main ≡ true
 
-abbrev pub IsReadyOf : Program → List ℕ → Limits → Ready → Type 0
-IsReadyOf program main limits (ready.Reply reply) = (reply.status ≡ 1) × ((reply.files.items ≡ []) × IsNoMain program main reply.text.items)
-IsReadyOf program main limits (ready.Run p class l) = IsMainOf program main limits (setting_of p class l)
+abbrev pub IsReadyOf : WovenProgram → List ℕ → Limits → Ready → Type 0
+IsReadyOf program main limits (ready.Reply reply) = (reply.status ≡ 1) × ((reply.files.items ≡ []) × IsNoMain program.plain main reply.text.items)
+IsReadyOf program main limits (ready.Run plain woven class l) = IsMainOf program main limits (setting_of plain class l) woven
 IsReadyOf program main limits (ready.Demo number) = ⊥

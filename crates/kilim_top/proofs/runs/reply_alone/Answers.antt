@@ -14,5 +14,5 @@ returns-in-Demo g c =
 
 pub returns-in-Run : goal.returns-in-Run
 returns-in-Run g c =
-    ran (meant c.args.asked.now) c.args.files.now (setting_of c.in-Run.program c.in-Run.class c.in-Run.limits) c.run_reply_alone.result
+    ran (meant c.args.asked.now) c.args.files.now (setting_of c.in-Run.plain c.in-Run.class c.in-Run.limits) c.in-Run.woven c.run_reply_alone.result
     (subst (λ (r : Ready). IsReadyFor (meant c.args.asked.now) c.args.files.now r) c.in-Run.is c.in_ok-reply.ensures) c.run_reply_alone.ensures
