@@ -1,18 +1,15 @@
 -- What a fiber's calls give, where it runs by hand.
-use Rattle.std.proofs.Common.{◌≡◌, ◌≤◌, ℕ, Bool, List, [], ◌∷◌, ◌++◌, Option, Some, None, refl, ap, sym, ◌∙◌, subst}
+use Rattle.std.proofs.Common.{◌≡◌, ◌≤◌, Bool, List, [], ◌∷◌, ◌++◌, Option, Some, None, refl, ap, sym, ◌∙◌, subst}
 use Rattle.std.specs.Prelude.{Result, Ok, Err, IfOk, IfSome, OnOk}
-use Rattle.std.specs.List.{AllByRecursion}
 use Rattle.std.specs.Option.{option_to_list}
 use Rattle.kilim_classes.specs.declared.names.BoxName.{BoxName}
 use Rattle.kilim_classes.specs.Program.{Program}
-use Rattle.kilim_program.specs.declared.value.Object.{Object}
-use Rattle.kilim_program.specs.declared.value.Token.{Token}
 use Rattle.kilim_thread_model.specs.State.{Setting}
 use Rattle.kilim_thread_model.specs.Course.{Course, plain}
 use Rattle.kilim_thread_model.specs.declared.deed.Deed.{Deed}
 use Rattle.kilim_journal.specs.declared.entry.Act.TheVariants as act
 use Rattle.kilim_fibers.specs.Fibers.{Asks, CanAnswer, CanRun, CountsRightly, Fits, course_after, IsOfRun, Resumed, StandsFor, StartsAtNone}
-use Rattle.kilim_fibers.specs.Wishes.{IsMessage, ToPrint, ToProbe, ToPut, ToStart, ToTake, Wish}
+use Rattle.kilim_fibers.specs.Wishes.{ToPrint, ToProbe, ToPut, ToStart, ToTake, Wish}
 use Rattle.kilim_fibers.specs.declared.Answer.{Answer}
 use Rattle.kilim_fibers.specs.declared.Answer.TheVariants as answer
 use Rattle.kilim_fibers.specs.declared.Wants.{Wants}

@@ -1,5 +1,5 @@
 -- What is known of fibers between the calls that drive them.
-use Rattle.std.specs.Prelude.{◌≡◌, ℕ, Bool, List, [], Option, Some, None}
+use Rattle.std.specs.Prelude.{◌≡◌, ℕ, Bool, List, Option, Some, None}
 use Rattle.std.specs.List.{AllByRecursion}
 use Rattle.kilim_classes.specs.Program.{Program}
 use Rattle.kilim_program.specs.declared.value.Token.{Token}
