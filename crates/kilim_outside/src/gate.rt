@@ -5,8 +5,8 @@ use std::sync::atomic::{AtomicBool, AtomicUsize, Ordering};
 /// A worker passes the gate before it runs a task that it was lent. So a test can see, and hold, what
 /// runs. The gate changes nothing of a run.
 pub trait Gate: Sync {
-    /// The task that is about to run, and its number of records: of the frames that it saved when it
-    /// paused.
+    /// The task that is about to run, and its number of records: one for each frame that it saved when
+    /// it paused, and one for the leaf, the call that paused.
     fn pass(&self, task: u32, records: usize);
 }
 
@@ -26,6 +26,7 @@ impl Gate for OpenGate {
 }
 
 /// A gate that keeps the greatest number of records that it was told, from 0.
+#[derive(Drop)]
 pub struct NoteGate {
     deepest: AtomicUsize,
 }
@@ -67,6 +68,7 @@ const MOST_LOADS: u32 = 1_000_000_000;
 
 /// A gate that shows that two fibers run at once. It lets task 0 pass, and holds the first other task that passes until
 /// a second one has passed. Where none does in a long while it lets it go, and notes that it missed one.
+#[derive(Drop)]
 pub struct HoldGate {
     /// How many others than task 0 have passed.
     others: AtomicUsize,
