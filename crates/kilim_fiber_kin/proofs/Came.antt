@@ -1,30 +1,24 @@
 -- A tree that comes into the thread's heap and into the fiber's.
-use Rattle.std.proofs.Common.{◌≡◌, ℕ, zero, suc, ◌+◌, ◌≤◌, ◌<◌, true, List, [], ◌∷◌, ◌++◌, Option, Some, None, length, refl, sym, ap, subst, ◌∙◌, inl, inr, arith}
+use Rattle.std.proofs.Common.{◌≡◌, ℕ, zero, suc, ◌+◌, ◌≤◌, ◌<◌, true, List, [], ◌∷◌, ◌++◌, Option, Some, None, length, refl, sym, ap, subst, ◌∙◌, inl, inr}
 use Rattle.std.specs.List.{AllByRecursion}
-use Rattle.std.specs.FinMap.{empty, get, insert, get-empty}
+use Rattle.std.specs.FinMap.{empty, get, get-empty}
 use Rattle.std.proofs.lemmas.Option.{same_Some, none-some}
-use Rattle.kilim_lemmas.proofs.Maps.{put_there, put_other}
 use Rattle.kilim_classes.specs.Program.{Program}
 use Rattle.kilim_classes.specs.declared.names.FieldId.{FieldId}
-use Rattle.kilim_classes.specs.declared.ty.Ty.{Ty}
 use Rattle.kilim_classes.specs.declared.value.Value.{Value}
 use Rattle.kilim_classes.specs.declared.value.Value.TheVariants.{Int, Long, Null, Ref, Text, Box, Fiber}
-use Rattle.kilim_classes.specs.Names.{◌>>=◌}
 use Rattle.kilim_program.specs.declared.value.Object.{Object}
 use Rattle.kilim_program.specs.declared.value.Token.{Token}
 use Rattle.kilim_program.specs.Machine.{Objects, Activation}
-use Rattle.kilim_program.specs.Members.{execute_of}
 use Rattle.kilim_program.specs.Shapes.{tree_limit, shape_of}
 use Rattle.kilim_program.specs.Trees.{Root, tree_names, with_objects, built, is_allowed}
-use Rattle.kilim_program.specs.Trees as trees
-use Rattle.kilim_thread_model.specs.State.{Setting, Thread, Alive, Ended, execute_frames, class_of, begun_on}
+use Rattle.kilim_thread_model.specs.State.{Thread, Alive, Ended}
 use Rattle.kilim_thread_model.specs.Lone.{Lone, pushed, pushed_on}
-use Rattle.kilim_thread_model.specs.Course.{received, lone_begun, lone_built, lone_in}
-use Rattle.kilim_thread_model.specs.declared.deed.Beginning.TheVariants.{Begun}
+use Rattle.kilim_thread_model.specs.Course.{received}
 use Rattle.kilim_thread_model.specs.Reach.{FieldNames, SomeNames, Holds, Below, Here, Then}
 use Rattle.kilim_thread_model.specs.Reach as reach
 use Rattle.kilim_thread_model.specs.Kept.{IsFormed, IsIn, IsOnce}
-use Rattle.kilim_kin.specs.Kin.{Names, Owner, OfTask, OfNobody, FramesKin, ObjectsKin, Alike}
+use Rattle.kilim_kin.specs.Kin.{Names, Owner, OfTask, OfNobody, FramesKin, Alike}
 use Rattle.kilim_kin.proofs.Kins.{kin_push, frames_up, name_up}
 use Rattle.kilim_tree_kin.specs.TreeKin.{AllFields, AllValues, IsIntact, IsWholeTree, Copies, names_from}
 use Rattle.kilim_tree_kin.specs.TreeKin as kin
@@ -32,7 +26,7 @@ use Rattle.kilim_tree_kin.proofs.ReadBack.{shapes_give}
 use Rattle.kilim_one_heap.specs.Lones.{ThreadKin}
 use Rattle.kilim_one_heap.proofs.Owners.{marked, marked_in, marked_out, task_nobody}
 use Rattle.kilim_one_heap.proofs.Taken.{joined, joined_first, joined_old, joined_bound, alike_taken}
-use Rattle.kilim_one_heap.proofs.Nexts.{MaybeFrames, begun_kin}
+use Rattle.kilim_one_heap.proofs.Nexts.{MaybeFrames}
 use Rattle.kilim_private_heap.specs.Places.{AllDiffer}
 use Rattle.kilim_tree_move.specs.Walk.{value_refs, element_refs, field_refs, refs, Leads, AreIn, IsTree, places, objects, renamed}
 use Rattle.kilim_tree_move.specs.Walk as walk
@@ -41,7 +35,7 @@ use Rattle.kilim_tree_move.specs.Shaping.{IsShown, Suits, field_values, held}
 use Rattle.kilim_tree_move.proofs.Walks.{one_tree}
 use Rattle.kilim_tree_move.proofs.Named.{names_are_places}
 use Rattle.kilim_fiber_kin.specs.Mine.{all_mine}
-use Rattle.kilim_fiber_kin.specs.Held.{as_lone, Like}
+use Rattle.kilim_fiber_kin.specs.Held.{Like}
 use Rattle.kilim_fiber_kin.specs.Acts.{IsSound}
 use Rattle.kilim_fiber_kin.proofs.Formed.{formed_renamed}
 use Rattle.kilim_fiber_kin.proofs.Belows.{AllWell}
@@ -328,59 +322,8 @@ pub none_below : (n x : ℕ) → no_names n ≡ Some x → n < 0
 unfolding no_names
 none_below n x e = absurd (none-some x e)
 
--- the first of the new objects
-early : (h : Objects) (base : ℕ) (os : List Object) (n : ℕ) → n < base → get (with_objects h base os) n ≡ get h n
-early h base [] n lt = refl
-early h base (o ∷ os) n lt = early (insert h base o) (suc base) os n (omega (arith, lt)) ∙ put_other h base o n (λ e. omega (arith, e, lt))
-
-first_there : (of : Names) (h k : Objects) (os : List Object) (xs : List ℕ) (x : ℕ) (rest : List ℕ) → xs ≡ x ∷ rest → Copies of k os xs → (o : Object) × (get (with_objects h 0 os) 0 ≡ Some o) × ((q : Object) × (get k x ≡ Some q) × ObjectsKin of o q)
-first_there of h k [] xs x rest e c = absurd (subst (λ (z : List ℕ). Copies of k [] z) e c)
-first_there of h k (o ∷ os) xs x rest e c =
-    let w = subst (λ (z : List ℕ). Copies of k (o ∷ os) z) e c in
-    (o, early (insert h 0 o) 1 os 0 (omega arith) ∙ put_there h 0 o, (w.0, w.1, w.2))
-
-run_by : Program → ℕ → Option Object → Option (List Activation)
-run_by p n o = begun_on p (o >>= λ (object : Object). class_of object.class.base >>= λ c. execute_of p c) n
-
 pub frames_some : (of : Names) (o q : Option (List Activation)) (fs : List Activation) → q ≡ Some fs → MaybeFrames of o q → (own : List Activation) × (o ≡ Some own) × FramesKin of own fs
 frames_some of (Some own) (Some gs) fs e w = (own, refl, subst (FramesKin of own) (same_Some _ _ e) w)
 frames_some of None None fs e w = absurd (none-some fs e)
 frames_some of None (Some gs) fs e w = absurd w
 frames_some of (Some own) None fs e w = absurd w
-
-same_class : (p : Program) (of : Names) (n x : ℕ) → of n ≡ Some x → (o q : Object) → o.class ≡ q.class → MaybeFrames of (run_by p n (Some o)) (run_by p x (Some q))
-unfolding run_by
-same_class p of n x e o q same =
-    subst (λ (z : Ty). MaybeFrames of (begun_on p (class_of o.class.base >>= λ c. execute_of p c) n) (begun_on p (class_of z.base >>= λ c. execute_of p c) x)) same
-    (begun_kin p of n x e (class_of o.class.base >>= λ c. execute_of p c))
-
-pub begun_like : (set : Setting) (tree : List Object) (shape : List Token) (k : Objects) (x : ℕ) (fs : List Activation) → IsSound set.program trees.OfTask tree shape → PutIn empty tree k x → execute_frames set.program k x ≡ Some fs →
-    (l : Lone) × (lone_begun set (Begun shape) ≡ Some l) × Like l (as_lone (record { frames = fs; heap = k; done = 0; boxes = 0; kept = None }))
-unfolding run_by
-begun_like set tree shape k x fs sound put frames =
-    let p = set.program in
-    let at = placed p trees.OfTask empty tree shape k x sound put in
-    let xs = places put.entries in
-    let a = nothing empty in
-    let b = came_built p trees.OfTask no_names 0 empty empty a none_below tree shape sound k x put in
-    let all : Names = joined (names_from 0 xs) no_names in
-    let h : Objects = with_objects empty 0 b.0 in
-    let named : all 0 ≡ Some x = came_first p trees.OfTask no_names 0 empty empty a none_below tree shape sound k x put in
-    let o = first_there (names_from 0 xs) empty k b.0 xs x at.rest at.first b.2 in
-    let like : MaybeFrames all (run_by p 0 (get h 0)) (run_by p x (get k x)) =
-    subst (λ (z : Option Object). MaybeFrames all (run_by p 0 z) (run_by p x (get k x))) (sym o.1)
-    (subst (λ (z : Option Object). MaybeFrames all (run_by p 0 (Some o.0)) (run_by p x z)) (sym o.2.1) (same_class p all 0 x named o.0 o.2.0 o.2.2.class)) in
-    let own = frames_some all (run_by p 0 (get h 0)) (run_by p x (get k x)) fs frames like in
-    let l : Lone = record { heap = h; next = length b.0; thread = Alive own.0 0 0; kept = None } in (
-      l,
-      ap (lone_built p) b.1 ∙ ap (lone_in h (length b.0) None) own.1,
-      record {
-        of = all;
-        is = record {
-          threads = (own.2, refl, refl);
-          heaps = came_alike p trees.OfTask no_names 0 empty empty a none_below tree shape sound k x put;
-          kept = tt;
-          below = λ n y e. let lt = came_bound p trees.OfTask no_names 0 empty empty a none_below tree shape sound k x put n y e in omega (arith, lt);
-        };
-      },
-    )

@@ -1,5 +1,5 @@
 -- A fiber's next instruction isn't stuck and has room on the stack, as its thread's.
-use Rattle.std.proofs.Common.{◌≡◌, ℕ, suc, ◌+◌, ◌<◌, ◌≤◌, Bool, true, false, List, [], ◌∷◌, Option, Some, None, length, refl, sym, ap, subst, ◌∙◌, arith}
+use Rattle.std.proofs.Common.{◌≡◌, ℕ, suc, ◌<◌, ◌≤◌, Bool, true, false, List, [], ◌∷◌, Option, Some, None, length, refl, sym, ap, subst, ◌∙◌}
 use Rattle.kilim_classes.specs.Program.{Program}
 use Rattle.kilim_classes.specs.declared.class.Method.{Method}
 use Rattle.kilim_classes.specs.declared.instr.Instr.{Instr}
@@ -13,24 +13,13 @@ use Rattle.kilim_program.specs.Effect.{Effect}
 use Rattle.kilim_program.specs.Effect as effect
 use Rattle.kilim_program.specs.Moves.{Move, effect_found, effect_in, effect_of, moves, Enters, move_by, goes_on, frame_limit, receiver_of, entered, returned}
 use Rattle.kilim_program.specs.Moves as move
-use Rattle.kilim_program.specs.Natives.{native_of}
-use Rattle.kilim_thread_model.specs.State.{Setting, Alive}
-use Rattle.kilim_thread_model.specs.Lone.{Lone}
-use Rattle.kilim_thread_model.specs.Course.{Course, IsLone}
-use Rattle.kilim_kin.specs.Kin.{Names, AreKin, AreHeld, IsThere, FramesKin, StandsIn, Alike, EffectKin, MoveKin}
+use Rattle.kilim_kin.specs.Kin.{Names, AreKin, AreHeld, IsThere, FramesKin, StandsIn, Alike, EffectKin}
 use Rattle.kilim_kin.proofs.Kins.{kin_length}
 use Rattle.kilim_kin.proofs.Rows.{rows_kin}
-use Rattle.kilim_kin.proofs.Moving.{moves_kin}
 use Rattle.kilim_rows.specs.Outcome.{is_stuck}
-use Rattle.kilim_one_heap.specs.Lones.{IsWholeThread}
-use Rattle.kilim_one_heap.proofs.Wholes.{is_whole}
 use Rattle.kilim_jvm_interp.specs.Step.{CallerFits, FitsStack, stack_limit}
-use Rattle.kilim_jvm_interp.specs.Run.{IsFine, IsSafe}
+use Rattle.kilim_jvm_interp.specs.Run.{IsFine}
 use Rattle.kilim_fiber_kin.specs.Mine.{all_mine}
-use Rattle.kilim_fiber_kin.specs.Held.{Held, as_lone, Holds}
-use Rattle.kilim_fiber_kin.specs.Served.{gives_value, HasRoom, ResultFits, CanServe}
-use Rattle.kilim_thread_model.specs.Reach.{Liveness}
-use Rattle.kilim_fiber_kin.proofs.Steps.{lives, run_on, run_held}
 
 -- ---- effects under other names
 
@@ -96,59 +85,6 @@ module _ (p : Program) (of : Names) (h k : Objects) (alike : Alike of all_mine 0
         fine = sym (stuck_kin p good of h k (effect_of p top h) (effect_of p pot k) same) ∙ w.fine;
         fits = subst (λ (z : MethodId). FitsStack p (effect_of p pot k) z gs) e.0 (fits_at p good of h k top.method fs gs e.4 (effect_of p top h) (effect_of p pot k) same w.fits);
       }
-
--- ---- the result of a built-in method
-
-room_kin : (set : Setting) (of : Names) (fs gs : List Activation) → FramesKin of fs gs → HasRoom set fs → HasRoom set gs
-room_kin set of [] [] e w = w
-room_kin set of (f ∷ fs) (g ∷ gs) e w = subst (λ (z : MethodId). length g.stack < stack_limit set.program z) e.0 (subst (λ (z : ℕ). z < stack_limit set.program f.method) (kin_length of f.stack g.stack e.3) w)
-room_kin set of _ _ e w = absurd e
-
-result_kin : (set : Setting) (good : ℕ → Type 0) (of : Names) (h k : Objects) (v w : Move) → MoveKin good of all_mine 0 h k v w → ResultFits set v → ResultFits set w
-result_kin set good of h k (move.Asks m args fs x) (move.Asks n brgs gs y) e r = λ gives. room_kin set of fs gs e.2 (r (ap (λ (z : MethodId). gives_value (native_of set.program z)) e.0 ∙ gives))
-result_kin set good of h k (move.Runs a fs x) (move.Runs b gs y) e r = tt
-result_kin set good of h k (move.Makes o fs x) (move.Makes q gs y) e r = tt
-result_kin set good of h k (move.Opens fs x) (move.Opens gs y) e r = tt
-result_kin set good of h k (move.Returns x) (move.Returns y) e r = tt
-result_kin set good of h k (move.Raises c) (move.Raises d) e r = tt
-result_kin set good of h k (move.Ends c) (move.Ends d) e r = tt
-result_kin set good of h k move.Stuck move.Stuck e r = tt
-result_kin set good of h k _ _ e r = absurd e
-
--- ---- of a fiber
-
-module _ (live : Liveness) (set : Setting) (t : ℕ) (c : Course) (last : Lone) (served : CanServe live set) (is : IsLone set t c last) where
-  fine_by : (f : Held) (h : Holds set t f last) (own : List Activation) (top : Activation) (below : List Activation) → h.at.thread ≡ Alive own f.done f.boxes → FramesKin h.like.of own (top ∷ below) → f.done < set.limits.steps →
-      IsFine set.program top below f.heap × ResultFits set (moves set.program top below f.heap)
-  fine_by f h [] top below e kin lt = absurd kin
-  fine_by f h (mine ∷ fs) top below e kin lt =
-      let whole = is_whole live set h.at (served.kept t c last h.at is h.quiet) in
-      let alive : IsWholeThread set h.at.heap (Alive (mine ∷ fs) f.done f.boxes) = subst (IsWholeThread set h.at.heap) e whole in
-      let fine = served.fine t c last h.at is h.quiet in (
-        fine_kin set.program h.like.of h.at.heap f.heap h.like.is.heaps mine top (alive lt).0 fs below kin (fine.steps mine fs f.done f.boxes e lt),
-        result_kin set (StandsIn h.at.heap mine.stack) h.like.of h.at.heap f.heap (moves set.program mine fs h.at.heap) (moves set.program top below f.heap)
-            (moves_kin set.program h.like.of all_mine 0 h.at.heap f.heap h.like.is.heaps (rows_kin set.program) mine top (alive lt).0 fs below kin) (fine.result mine fs f.done f.boxes e lt),
-      )
-
-  fine_both : (f : Held) (top : Activation) (below : List Activation) → f.frames ≡ top ∷ below → f.done < set.limits.steps → Holds set t f last → IsFine set.program top below f.heap × ResultFits set (moves set.program top below f.heap)
-  fine_both f top below e lt h =
-      let own = lives h.like.of set h.at (as_lone f) (top ∷ below) f.done f.boxes h.like.is (ap (λ (z : List Activation). Alive z f.done f.boxes) e) in
-      fine_by f h own.own top below own.is own.kin lt
-
-  -- its next instruction is fine
-  pub fine_next : (f : Held) (top : Activation) (below : List Activation) → f.frames ≡ top ∷ below → f.done < set.limits.steps → Holds set t f last → IsFine set.program top below f.heap
-  fine_next f top below e lt h = (fine_both f top below e lt h).0
-
-  -- and its stack has room for the result of a built-in method
-  pub result_fits : (f : Held) (top : Activation) (below : List Activation) → f.frames ≡ top ∷ below → f.done < set.limits.steps → Holds set t f last → ResultFits set (moves set.program top below f.heap)
-  result_fits f top below e lt h = (fine_both f top below e lt h).1
-
-  -- so are those behind it
-  pub run_safe : (f : Held) (limit : ℕ) → f.done + limit ≤ set.limits.steps → Holds set t f last → IsSafe set.program limit f.frames f.heap
-  run_safe f limit le h = λ n top below k lt runs.
-      let few : f.done + n ≤ set.limits.steps = omega (arith, le, lt) in
-      let fewer : f.done + n < set.limits.steps = omega (arith, le, lt) in
-      fine_next (run_on f n (top ∷ below) k) top below refl fewer (run_held live set t c last served.kept is f n (top ∷ below) k few runs h)
 
 -- ---- room for a new mailbox
 

@@ -1,26 +1,19 @@
--- A fiber gives a tree away: it may leave, it is sound, and the fiber without it is its thread without it.
-use Rattle.std.proofs.Common.{◌≡◌, ◌∙◌, ℕ, ◌≤◌, List, ◌∷◌, [], Some, length, sym, ap, subst}
+-- A tree that a fiber gives away may leave, and it is sound.
+use Rattle.std.proofs.Common.{◌≡◌, ◌∙◌, ℕ, ◌≤◌, List, ◌∷◌, [], Some, length, sym, subst}
 use Rattle.std.specs.List.{AllByRecursion}
 use Rattle.kilim_classes.specs.Program.{Program}
-use Rattle.kilim_classes.specs.declared.names.BoxName.{BoxName}
 use Rattle.kilim_program.specs.declared.value.Object.{Object}
 use Rattle.kilim_program.specs.declared.value.Token.{Token}
 use Rattle.kilim_program.specs.Machine.{Objects}
 use Rattle.kilim_program.specs.Shapes.{tree_limit, shape_of}
-use Rattle.kilim_program.specs.Trees.{Root, OfMessage, OfTask}
-use Rattle.kilim_thread_model.specs.State.{Setting}
-use Rattle.kilim_thread_model.specs.Lone.{Lone, Puts, Starts}
-use Rattle.kilim_thread_model.specs.Course.{next_action, tree_left}
-use Rattle.kilim_fibers.specs.Wishes.{ToPut, ToStart, wish_of}
+use Rattle.kilim_program.specs.Trees.{Root}
 use Rattle.kilim_private_heap.specs.Places.{AllDiffer}
 use Rattle.kilim_tree_move.specs.Room.{RoomFor}
 use Rattle.kilim_tree_move.specs.Walk.{places}
 use Rattle.kilim_tree_move.specs.Moved.{Fits, CanLeave, TakenOut}
 use Rattle.kilim_tree_move.specs.Shaping.{Suits}
 use Rattle.kilim_tree_move.proofs.Walks.{one_tree}
-use Rattle.kilim_fiber_kin.specs.Held.{Held, as_lone}
-use Rattle.kilim_fiber_kin.specs.Acts.{IsGiven, IsSound, Acts, Asking, left_of}
-use Rattle.kilim_fiber_kin.proofs.Left.{left_like}
+use Rattle.kilim_fiber_kin.specs.Acts.{IsGiven, IsSound}
 use Rattle.kilim_fiber_kin.proofs.TakenTrees.{taken_suits, taken_sound}
 
 module _ (p : Program) (root : Root) (heap : Objects) (m : ℕ) (given : IsGiven p root heap m) where
@@ -41,18 +34,3 @@ module _ (p : Program) (root : Root) (heap : Objects) (m : ℕ) (given : IsGiven
   -- a tree with a shape is sound
   pub out_sound : (after : Objects) (tree : List Object) → TakenOut heap m after tree → (shape : List Token) → shape_of p heap m ≡ Some shape → IsSound p root tree shape
   out_sound after tree out shape has = (taken_sound p root heap m given after tree out (given.once out.entries out.was (given.small out.entries out.was shape has)) shape (out.shape p ∙ has)).1
-
-module _ (set : Setting) (t : ℕ) (last : Lone) (f : Held) (m : ℕ) (after : Objects) (tree : List Object) (out : TakenOut f.heap m after tree) (shape : List Token) where
-  -- a message
-  pub put_left : (box : BoxName) → IsGiven set.program OfMessage f.heap m → Acts set t last (Puts box m shape (as_lone f)) → (wish_of (next_action set t last) ≡ Some (ToPut box shape)) × Asking set t (record f { heap = after }) last
-  put_left box given w = (
-    ap wish_of w.2,
-    record { after = tree_left set.program w.0 w.1; left = ap (left_of set.program) w.2; like = left_like set.program OfMessage w.0 m shape w.1 (as_lone f) w.3 given after tree out },
-  )
-
-  -- a task's object
-  pub start_left : IsGiven set.program OfTask f.heap m → Acts set t last (Starts m shape (as_lone f)) → (wish_of (next_action set t last) ≡ Some (ToStart shape)) × Asking set t (record f { heap = after }) last
-  start_left given w = (
-    ap wish_of w.2,
-    record { after = tree_left set.program w.0 w.1; left = ap (left_of set.program) w.2; like = left_like set.program OfTask w.0 m shape w.1 (as_lone f) w.3 given after tree out },
-  )

@@ -3,15 +3,11 @@ pub mod Belows
 pub mod Sizes
 pub mod Added
 pub mod Nexts
-pub mod Comes
 pub mod Trees
 pub mod Left
 pub mod Came
 pub mod Boots
 pub mod TakenTrees
 pub mod Deeds
-pub mod Steps
 pub mod Fine
-pub mod Gives
 pub mod Leaving
-pub mod Instructions

@@ -1,9 +1,8 @@
 -- A running fiber, and the thread of its course, which has a heap of its own: the same but for the names of objects.
 use Rattle.std.specs.Prelude.{◌≡◌, ◌<◌, ℕ, List, Option, Some}
 use Rattle.kilim_program.specs.Machine.{Objects, Activation}
-use Rattle.kilim_thread_model.specs.State.{Setting, Alive}
+use Rattle.kilim_thread_model.specs.State.{Alive}
 use Rattle.kilim_thread_model.specs.Lone.{Lone}
-use Rattle.kilim_thread_model.specs.Course.{Quiet}
 use Rattle.kilim_kin.specs.Kin.{Names, NameKin, Alike}
 use Rattle.kilim_one_heap.specs.Lones.{ThreadKin}
 use Rattle.kilim_fiber_kin.specs.Mine.{all_mine}
@@ -32,12 +31,3 @@ pub record IsLike (of : Names) (l f : Lone) : Type 0 where
 pub record Like (l f : Lone) : Type 0 where
   pub of : Names
   pub is : IsLike of l f
-
--- The thread `last`, which stands right after the last deed of its course, is this one some moves without an action further.
-pub record HoldsAs (set : Setting) (t : ℕ) (f last : Lone) : Type 0 where
-  pub at : Lone
-  pub quiet : Quiet set t last at
-  pub like : Like at f
-
-abbrev pub Holds : Setting → ℕ → Held → Lone → Type 0
-Holds set t f last = HoldsAs set t (as_lone f) last

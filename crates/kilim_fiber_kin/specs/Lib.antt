@@ -2,4 +2,3 @@ pub mod Mine
 pub mod Held
 pub mod Served
 pub mod Acts
-pub mod Laws

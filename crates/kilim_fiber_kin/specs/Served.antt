@@ -1,4 +1,4 @@
--- What the fibers of a program rest on: what is known of each thread that there can be.
+-- What is known of a thread whose fiber does what it does.
 use Rattle.std.specs.Prelude.{◌≡◌, ◌<◌, ℕ, Bool, true, false, List, ◌∷◌, Option, Some, length}
 use Rattle.std.specs.List.{AllByRecursion}
 use Rattle.std.specs.FinMap.{get}
@@ -8,11 +8,8 @@ use Rattle.kilim_program.specs.Moves.{Move, moves}
 use Rattle.kilim_program.specs.Moves as move
 use Rattle.kilim_program.specs.Natives.{Native, native_of}
 use Rattle.kilim_program.specs.Natives as native
-use Rattle.kilim_thread_model.specs.State.{Setting, Alive, is_fit}
+use Rattle.kilim_thread_model.specs.State.{Setting, Alive}
 use Rattle.kilim_thread_model.specs.Lone.{Lone}
-use Rattle.kilim_thread_model.specs.Course.{Course, IsLone, Quiet}
-use Rattle.kilim_thread_model.specs.Reach.{Liveness}
-use Rattle.kilim_thread_model.specs.Kept.{Kept}
 use Rattle.kilim_jvm_interp.specs.Step.{stack_limit}
 use Rattle.kilim_jvm_interp.specs.Run.{IsFine}
 use Rattle.kilim_tree_move.specs.Shaping.{IsShown, held}
@@ -39,13 +36,3 @@ pub record IsFineThread (set : Setting) (l : Lone) : Type 0 where
   pub steps : (top : Activation) (below : List Activation) (done boxes : ℕ) → l.thread ≡ Alive (top ∷ below) done boxes → done < set.limits.steps → IsFine set.program top below l.heap
   pub result : (top : Activation) (below : List Activation) (done boxes : ℕ) → l.thread ≡ Alive (top ∷ below) done boxes → done < set.limits.steps → ResultFits set (moves set.program top below l.heap)
   pub shown : (n : ℕ) (o : Object) → get l.heap n ≡ Some o → AllByRecursion IsShown (held o)
-
--- Of each thread that there can be: what the fibers of a program rest on. What verified code keeps is a premise here.
-abbrev pub AreFine : Setting → Type 0
-AreFine set = (t : ℕ) (c : Course) (last l : Lone) → IsLone set t c last → Quiet set t last l → IsFineThread set l
-
--- the setting is one whose fibers do what its threads do
-pub record CanServe (live : Liveness) (set : Setting) : Type 0 where
-  pub fit : is_fit set ≡ true
-  pub kept : Kept live set
-  pub fine : AreFine set

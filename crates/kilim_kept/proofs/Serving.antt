@@ -1,4 +1,4 @@
--- Each thread of an accepted program is kept, and its fibers serve.
+-- Each thread of an accepted program is kept.
 use Rattle.std.proofs.Common.{◌≡◌, ℕ, true, Option, Some, subst}
 use Rattle.std.specs.FinMap.{get}
 use Rattle.kilim_program.specs.declared.value.Object.{Object}
@@ -10,7 +10,6 @@ use Rattle.kilim_thread_model.specs.State.{Alive, Ended, Setting, Thread}
 use Rattle.kilim_typing_laws.specs.Laws.{typing_at}
 use Rattle.kilim_fits.specs.Fits.{Classes, Fits}
 use Rattle.kilim_fine_threads.specs.Typed.{frames_of}
-use Rattle.kilim_typed_threads.proofs.Threads.{kept_are_fine}
 use Rattle.kilim_reached_objects.specs.Laws.{AreLive}
 use Rattle.kilim_reached_objects.proofs.Frames.{reached_are_there}
 use Rattle.kilim_standing_threads.specs.Laws.{IsRunOfAccepted, StandsWell, listed_at}
@@ -19,7 +18,7 @@ use Rattle.kilim_standing_threads.proofs.Keeping.{checked, is_verified, sound, s
 use Rattle.kilim_standing_threads.proofs.Moving.{moves_stand}
 use Rattle.kilim_kept_states.proofs.State.{states_give}
 use Rattle.kilim_kept_states.specs.Laws.{FramesStand, GivesTrees, MoveStands}
-use Rattle.kilim_kept.specs.Laws.{AcceptedIsKept, AcceptedServes}
+use Rattle.kilim_kept.specs.Laws.{AcceptedIsKept}
 
 module _ (set : Setting) (run : IsRunOfAccepted set) (live : Liveness) (alive : AreLive set.program live) where
   there_in : (h : Objects) (kept : Option ℕ) (of : Classes) (th : Thread) → Fits set.program (typing_at set.program) (λ id at k. true) of (frames_of th) h → ThreadStands set.program (typing_at set.program) (listed_at set.program) kept h th →
@@ -51,10 +50,3 @@ module _ (set : Setting) (run : IsRunOfAccepted set) (live : Liveness) (alive : 
 
 pub accepted_is_kept : AcceptedIsKept
 accepted_is_kept set run live alive = all_kept set run live alive
-
-pub accepted_serves : AcceptedServes
-accepted_serves set run live alive = record {
-  fit = run.main;
-  kept = all_kept set run live alive;
-  fine = kept_are_fine set (typing_at set.program) (λ id at k. true) live (is_verified set run.keeps run.form run.well run.accepted run.main run.begins) run.main (all_kept set run live alive);
-}

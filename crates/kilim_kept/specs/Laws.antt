@@ -2,14 +2,9 @@
 use Rattle.kilim_thread_model.specs.Kept.{Kept}
 use Rattle.kilim_thread_model.specs.Reach.{Liveness}
 use Rattle.kilim_thread_model.specs.State.{Setting}
-use Rattle.kilim_fiber_kin.specs.Served.{CanServe}
 use Rattle.kilim_reached_objects.specs.Laws.{AreLive}
 use Rattle.kilim_standing_threads.specs.Laws.{IsRunOfAccepted}
 
 -- whatever each of its threads reaches is in its own heap, and what it gives away next is a whole tree
 abbrev pub AcceptedIsKept : Type 0
 AcceptedIsKept = (set : Setting) → IsRunOfAccepted set → (live : Liveness) → AreLive set.program live → Kept live set
-
--- and its fibers do what its threads do
-abbrev pub AcceptedServes : Type 0
-AcceptedServes = (set : Setting) → IsRunOfAccepted set → (live : Liveness) → AreLive set.program live → CanServe live set

@@ -2,15 +2,10 @@
 //! Laws, and no work.
 #![tactic(auto)]
 
-ghost use Rattle.kilim_kept.specs.Laws.{AcceptedIsKept, AcceptedServes};
+ghost use Rattle.kilim_kept.specs.Laws.{AcceptedIsKept};
 
 /// A law, and no work: each thread that there can be of an accepted program keeps what it reaches in its own heap, and gives away whole
 /// trees alone.
 pub fn accepted_is_kept()
     ensures { AcceptedIsKept }
-{}
-
-/// A law, and no work: so its fibers do what its threads do, and none gets stuck.
-pub fn accepted_serves()
-    ensures { AcceptedServes }
 {}

@@ -43,11 +43,6 @@ abbrev pub with_classes : Classes → ℕ → List Object → Classes
 with_classes of base [] = of
 with_classes of base (o ∷ os) = with_class (with_classes of (suc base) os) base o.class
 
--- below the first of them nothing changes
-classes_below : (of : Classes) (base : ℕ) (os : List Object) (q : ℕ) → suc q ≤ base → with_classes of base os q ≡ of q
-classes_below of base [] q le = refl
-classes_below of base (o ∷ os) q le = class_other (with_classes of (suc base) os) base q o.class (λ e. omega (arith, le, e)) ∙ classes_below of (suc base) os q (omega (arith, le))
-
 pub classes_fresh : (of : Classes) (base : ℕ) (os : List Object) → ((q : ℕ) → base ≤ q → of q ≡ None) → (q : ℕ) → base + length os ≤ q → with_classes of base os q ≡ None
 classes_fresh of base [] fresh q le = fresh q (omega (arith, le))
 classes_fresh of base (o ∷ os) fresh q le = class_other (with_classes of (suc base) os) base q o.class (λ e. omega (arith, le, e)) ∙ classes_fresh of (suc base) os (λ r l. fresh r (omega (arith, l))) q (omega (arith, le))

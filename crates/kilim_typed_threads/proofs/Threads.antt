@@ -1,12 +1,10 @@
--- Each thread that there can be fits, and is fine.
-use Rattle.std.proofs.Common.{◌≡◌, inl, inr, ℕ, zero, suc, ◌≤◌, arith, Bool, true, false, List, [], ◌∷◌, ◌++◌, length, Option, Some, None, refl, sym, ap, subst, ◌∙◌}
+-- Each thread that there can be fits.
+use Rattle.std.proofs.Common.{◌≡◌, ℕ, zero, suc, ◌≤◌, arith, Bool, true, false, List, [], ◌∷◌, ◌++◌, length, Option, Some, None, refl, sym, ap, subst, ◌∙◌}
 use Rattle.std.specs.FinMap.{empty, get, insert, get-empty}
 use Rattle.std.proofs.lemmas.Bool.{and_parts, eqb-true}
 use Rattle.kilim_classes.specs.declared.ty.Base.{Base}
 use Rattle.kilim_classes.specs.declared.ty.Base.TheVariants as base
 use Rattle.kilim_classes.specs.declared.ty.Ty.{Ty}
-use Rattle.kilim_classes.specs.declared.value.Value.{Value}
-use Rattle.kilim_classes.specs.declared.value.Value.TheVariants as value
 use Rattle.kilim_classes.specs.BuiltIn.{class_type}
 use Rattle.kilim_classes.specs.Names.{◌>>=◌, class_at, is_task}
 use Rattle.kilim_classes.specs.Program.{Program}
@@ -16,19 +14,16 @@ use Rattle.kilim_program.specs.Machine.{Objects, Activation}
 use Rattle.kilim_program.specs.Members.{constructor_of, execute_of, is_concrete}
 use Rattle.kilim_program.specs.Objects.{new_object}
 use Rattle.kilim_program.specs.Trees.{OfTask, built, is_root, is_whole_class, with_objects}
-use Rattle.kilim_thread_model.specs.State.{Setting, Thread, Alive, Ended, begun_on, class_of, execute_frames, is_fit}
+use Rattle.kilim_thread_model.specs.State.{Setting, begun_on, class_of, execute_frames, is_fit}
 use Rattle.kilim_thread_model.specs.Lone.{Lone, Next, Goes, Puts, Gets, Probes, Starts, Prints, Ends, Stands, next_move}
 use Rattle.kilim_thread_model.specs.Course.{Course, Done, Follows, IsLone, Moves, Quiet, Stays, done_by, lone_begun, lone_built, lone_in, next_action, next_or, next_within}
 use Rattle.kilim_thread_model.specs.declared.deed.Beginning.{Beginning}
 use Rattle.kilim_thread_model.specs.declared.deed.Beginning.TheVariants.{Boot, Begun}
 use Rattle.kilim_thread_model.specs.declared.deed.Deed.{Deed}
-use Rattle.kilim_thread_model.specs.Kept.{Kept}
-use Rattle.kilim_thread_model.specs.Reach.{Below, Here, Liveness, Names, OptionNames, SomeNames}
-use Rattle.kilim_fits.specs.Fits.{AreThere, Classes, Fits, HeapFits, IsThere, Typing, Wanted}
-use Rattle.kilim_fine_threads.specs.Typed.{IsVerified, TopIsThere, frames_of}
-use Rattle.kilim_fine_threads.proofs.Fine.{fitting_is_fine}
+use Rattle.kilim_fits.specs.Fits.{Classes, Fits, HeapFits, Typing, Wanted}
+use Rattle.kilim_fine_threads.specs.Typed.{IsVerified}
 use Rattle.kilim_typed_threads.specs.Typed.{Further, IsTyped, StacksAreThere}
-use Rattle.kilim_typed_threads.specs.Law.{BeginningsAreTyped, KeptAreFine, ThreadsAreTyped}
+use Rattle.kilim_typed_threads.specs.Law.{BeginningsAreTyped, ThreadsAreTyped}
 use Rattle.kilim_typed_threads.proofs.Booting.{boot_begins, new_fits}
 use Rattle.kilim_typed_threads.proofs.Came.{came_fit, classes_fresh, classes_placed, with_classes}
 use Rattle.kilim_typed_threads.proofs.Executing.{execute_begins}
@@ -207,35 +202,3 @@ module _ (set : Setting) (typing : Typing) (live : Wanted) (is : IsVerified set 
 
 pub threads_are_typed : ThreadsAreTyped
 threads_are_typed set typing live is main stacks t c last l lone quiet = quiet_typed set typing live is main stacks t c last l lone (lone_typed set typing live is main stacks t c last lone) quiet
-
--- ---- of what is kept
-
-named_there : (h : Objects) (vs : List Value) → ((n : ℕ) → SomeNames vs n → (o : Object) × (get h n ≡ Some o)) → AreThere h vs
-named_there h [] e = tt
-named_there h (v ∷ vs) e = (by v (λ n s. e n (inl s)), named_there h vs (λ n s. e n (inr s)))
-  where
-    by : (v : Value) → ((n : ℕ) → Names v n → (o : Object) × (get h n ≡ Some o)) → IsThere h v
-    by (value.Ref n) e = e n refl
-    by (value.Int x) e = tt
-    by (value.Long x) e = tt
-    by value.Null e = tt
-    by (value.Text units) e = tt
-    by (value.Box box) e = tt
-    by value.Fiber e = tt
-
-kept_stacks : (live : Liveness) (set : Setting) → Kept live set → StacksAreThere set
-kept_stacks live set kept t c last l lone quiet = by l.thread (λ n names. there n n names (Here refl))
-  where
-    there : (n x : ℕ) → OptionNames live (Some l.thread) l.kept n → Below l.heap n x → (o : Object) × (get l.heap x ≡ Some o)
-    there = (kept t c last l lone quiet).there
-
-    by : (th : Thread) → ((n : ℕ) → OptionNames live (Some th) l.kept n → (o : Object) × (get l.heap n ≡ Some o)) → TopIsThere l.heap (frames_of th)
-    by (Ended cause) e = tt
-    by (Alive [] done boxes) e = tt
-    by (Alive (top ∷ below) done boxes) e = named_there l.heap top.stack (λ n s. e n (inl (inl s)))
-
-pub kept_are_fine : KeptAreFine
-kept_are_fine set typing wanted live is main kept t c last l lone quiet =
-    let stacks = kept_stacks live set kept in
-    let typed = threads_are_typed set typing wanted is main stacks t c last l lone quiet in
-    fitting_is_fine set typing wanted typed.of l is typed.is (stacks t c last l lone quiet)

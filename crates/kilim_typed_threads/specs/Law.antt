@@ -1,4 +1,4 @@
--- Threads of verified code go on fitting the frames of verification, and are fine.
+-- Threads of verified code go on fitting the frames of verification.
 use Rattle.std.specs.Prelude.{◌≡◌, ℕ, true, Some}
 use Rattle.kilim_fits.specs.Fits.{Classes, Typing, Wanted}
 use Rattle.kilim_journal.specs.declared.entry.Act.{Act}
@@ -7,9 +7,6 @@ use Rattle.kilim_thread_model.specs.Lone.{Lone, Goes, next_move}
 use Rattle.kilim_thread_model.specs.Course.{Course, IsLone, Quiet, done_by, lone_begun}
 use Rattle.kilim_thread_model.specs.declared.deed.Beginning.{Beginning}
 use Rattle.kilim_thread_model.specs.declared.deed.Deed.{Deed}
-use Rattle.kilim_thread_model.specs.Kept.{Kept}
-use Rattle.kilim_thread_model.specs.Reach.{Liveness}
-use Rattle.kilim_fiber_kin.specs.Served.{AreFine}
 use Rattle.kilim_fine_threads.specs.Typed.{FitsAs, IsVerified, StackIsThere}
 use Rattle.kilim_typed_threads.specs.Typed.{Further, IsTyped, StacksAreThere}
 
@@ -28,7 +25,3 @@ BeginningsAreTyped = (set : Setting) (typing : Typing) (live : Wanted) → IsVer
 -- So each thread that there can be fits, where what stacks name is there.
 abbrev pub ThreadsAreTyped : Type 0
 ThreadsAreTyped = (set : Setting) (typing : Typing) (live : Wanted) → IsVerified set typing live → is_fit set ≡ true → StacksAreThere set → (t : ℕ) (c : Course) (last l : Lone) → IsLone set t c last → Quiet set t last l → IsTyped set typing live l
-
--- In what is kept, what stacks name is there: so each thread of kept, verified code is fine.
-abbrev pub KeptAreFine : Type 0
-KeptAreFine = (set : Setting) (typing : Typing) (wanted : Wanted) (live : Liveness) → IsVerified set typing wanted → is_fit set ≡ true → Kept live set → AreFine set

@@ -1,6 +1,6 @@
 //! The laws.
 
-ghost use Rattle.kilim_typed_threads.specs.Law.{BeginningsAreTyped, DeedsStayTyped, KeptAreFine, MovesStayTyped, ThreadsAreTyped};
+ghost use Rattle.kilim_typed_threads.specs.Law.{BeginningsAreTyped, DeedsStayTyped, MovesStayTyped, ThreadsAreTyped};
 
 /// A law, and no work: where a thread of verified code fits, and what its top stack names is there, it fits behind a move without an action.
 pub fn moves_stay_typed()
@@ -20,9 +20,4 @@ pub fn beginnings_are_typed()
 /// A law, and no work: each thread that there can be fits, where what the top stacks name is there.
 pub fn threads_are_typed()
     ensures { ThreadsAreTyped }
-{}
-
-/// A law, and no work: each thread of kept, verified code is fine.
-pub fn kept_are_fine()
-    ensures { KeptAreFine }
 {}

@@ -3,6 +3,4 @@
 
 mod laws;
 
-pub use laws::{
-    beginnings_are_typed, deeds_stay_typed, kept_are_fine, moves_stay_typed, threads_are_typed,
-};
+pub use laws::{beginnings_are_typed, deeds_stay_typed, moves_stay_typed, threads_are_typed};
