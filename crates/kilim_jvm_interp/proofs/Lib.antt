@@ -1,5 +1,4 @@
 mod Entering
-mod Frames
 pub mod Reading
 mod Results
 pub mod Running

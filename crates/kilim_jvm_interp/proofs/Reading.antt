@@ -1,6 +1,5 @@
 -- What the effect of a frame's instruction says before it is done.
-use Rattle.std.proofs.Common.{◌≡◌, ◌∙◌, sym, ap, refl, subst, ℕ, ◌<◌, ◌≤◌, false, List, [], ◌∷◌, Option, Some, None, length, arith}
-use Rattle.std.specs.Option.{IsSome}
+use Rattle.std.proofs.Common.{◌≡◌, ◌∙◌, ap, subst, ℕ, ◌<◌, ◌≤◌, List, [], ◌∷◌, Some, None, length, arith}
 use Rattle.kilim_classes.specs.declared.class.Method.{Method}
 use Rattle.kilim_classes.specs.declared.instr.Instr.{Instr}
 use Rattle.kilim_classes.specs.declared.names.MethodId.{MethodId}
@@ -18,19 +17,12 @@ use Rattle.kilim_frames.specs.declared.frames.Frames.{Frames}
 use Rattle.kilim_frames.specs.Calls.{below_of}
 use Rattle.kilim_rows.specs.declared.outcome.Moved.{Moved}
 use Rattle.kilim_rows.specs.declared.outcome.Moved.TheVariants.{Next, Jump, Made, Opened, Called, Asked, Returned, ReturnedValue, Raised, Ended, NoMemory}
-use Rattle.kilim_rows.specs.Outcome.{Shows, height, is_stuck, returned_by}
+use Rattle.kilim_rows.specs.Outcome.{Shows, height, returned_by}
 use Rattle.kilim_jvm_interp.specs.Step.{CallerFits, CanSettle, FitsStack, stack_limit}
 
 pub effect_is : (p : Program) (a : Activation) (h : Objects) (own : Method) (i : Instr) (next : ℕ) → method_at p a.method ≡ Some own → fetched own.code own.code_length a.place ≡ Some (i, next) →
     effect_of p a h ≡ does p own i next a.locals a.stack h
 effect_is p a h own i next there found = ap (effect_in p a h) there ∙ ap (effect_found p own a h) found
-
-found_by : (p : Program) (own : Method) (a : Activation) (h : Objects) (o : Option (Instr × ℕ)) → is_stuck (effect_found p own a h o) ≡ false → IsSome o
-found_by p own a h None fine = absurd (cc)
-found_by p own a h (Some found) fine = refl
-
-pub instr_there : (p : Program) (a : Activation) (h : Objects) (own : Method) → method_at p a.method ≡ Some own → is_stuck (effect_of p a h) ≡ false → IsSome (fetched own.code own.code_length a.place)
-instr_there p a h own there fine = found_by p own a h (fetched own.code own.code_length a.place) (ap is_stuck (sym (ap (effect_in p a h) there)) ∙ fine)
 
 pub height_fits : (p : Program) (e : Effect) (m : MethodId) (below : List Activation) → FitsStack p e m below → height e ≤ stack_limit p m
 height_fits p (effect.Goes place ls st h) m below fits = fits

@@ -1,5 +1,5 @@
 -- What a step answers, against the machine's move.
-use Rattle.std.specs.Prelude.{◌≡◌, ℕ, ◌<◌, ◌≤◌, Bool, true, false, List, [], ◌∷◌, Option, Some, None, length}
+use Rattle.std.specs.Prelude.{◌≡◌, ℕ, ◌<◌, ◌≤◌, List, [], ◌∷◌, Option, Some, None, length}
 use Rattle.std.specs.FinMap.{get, insert}
 use Rattle.kilim_classes.specs.declared.class.Method.{Method}
 use Rattle.std.specs.List.{AllByRecursion}
@@ -12,7 +12,7 @@ use Rattle.kilim_program.specs.declared.value.Object.{Object}
 use Rattle.kilim_program.specs.Machine.{Activation, Objects}
 use Rattle.kilim_program.specs.Effect.{Effect}
 use Rattle.kilim_program.specs.Effect as effect
-use Rattle.kilim_program.specs.Moves.{Change, Move, Runs, Makes, Opens, Asks, Returns, Raises, Ends, Stuck, push_value}
+use Rattle.kilim_program.specs.Moves.{Change, Move, Runs, Makes, Opens, Asks, Returns, Raises, Ends, push_value}
 use Rattle.kilim_frames.specs.declared.frame.Frame.{Frame}
 use Rattle.kilim_frames.specs.declared.frames.Frames.{Frames}
 use Rattle.kilim_frames.specs.Calls.{answered, below_of, calls_of}
@@ -21,16 +21,6 @@ use Rattle.kilim_rows.specs.declared.outcome.Moved.TheVariants.{Called, Asked, R
 use Rattle.kilim_rows.specs.Outcome.{height}
 use Rattle.kilim_jvm_interp.specs.declared.machine.Stepped.{Stepped}
 use Rattle.kilim_jvm_interp.specs.declared.machine.Stepped.TheVariants.{Went, NewBox, AtNative, Returned, Ended}
-
-abbrev pub is_lost : Move → Bool
-is_lost (Runs change frames heap) = false
-is_lost (Makes object frames heap) = false
-is_lost (Opens frames heap) = false
-is_lost (Asks m args frames heap) = false
-is_lost (Returns heap) = false
-is_lost (Raises cause) = false
-is_lost (Ends cause) = false
-is_lost Stuck = true
 
 -- the cause with which a move raises or ends
 abbrev pub cause_of : Move → Option EndCause

@@ -1,26 +1,24 @@
 //! One instruction of a task.
 
-ghost use Rattle.std.specs.Prelude.{◌≡◌, ◌<◌, ◌≤◌, ◌∷◌, ℕ, false, length, take, drop, reverse, map, Some, None, IfOk, OnOk, nat_le};
+ghost use Rattle.std.specs.Prelude.{◌≡◌, ◌<◌, ◌≤◌, ◌∷◌, ℕ, length, take, drop, reverse, map, Some, None, IfOk, OnOk, nat_le};
 ghost use Rattle.kilim_program.specs.Machine.{Objects};
 ghost use Rattle.kilim_program.specs.Does.{narrowed_result};
 ghost use Rattle.kilim_classes.specs.Names.{method_at};
-ghost use Rattle.kilim_program.specs.Moves.{Asks, called, effect_of, entered, goes_on, move_by, moves, push_result, returned, slots_in};
-ghost use Rattle.kilim_frames.specs.Calls.{activation, answered, below_of, calls_of};
-ghost use Rattle.kilim_rows.specs.Outcome.{Shows, is_stuck, returned_by};
+ghost use Rattle.kilim_program.specs.Moves.{Asks, called, entered, goes_on, move_by, returned, slots_in};
+ghost use Rattle.kilim_frames.specs.Calls.{activation, below_of, calls_of};
+ghost use Rattle.kilim_rows.specs.Outcome.{Shows, returned_by};
 ghost use Rattle.kilim_rows.specs.declared.outcome.Moved.TheVariants.{Asked};
 ghost use Rattle.kilim_classes.specs.Program.{Program as AProgram};
 ghost use Rattle.kilim_classes.specs.declared.class.Method.{Method as AMethod};
 ghost use Rattle.kilim_classes.specs.declared.names.MethodId.{MethodId as AMethodId};
 ghost use Rattle.kilim_jvm_interp.specs.declared.machine.Stepped.TheVariants.{AtNative};
-ghost use Rattle.kilim_jvm_interp.specs.Step.{AreRoomy, CallerFits, CanSettle, FitsStack, IsRoomy, Steps, stack_limit};
+ghost use Rattle.kilim_jvm_interp.specs.Step.{AreRoomy, CallerFits, CanSettle, IsRoomy, Steps, stack_limit};
 ghost use Rattle.kilim_program.specs.Effect.{Effect};
 ghost use Rattle.kilim_frames.specs.declared.frame.Frame.{Frame as AFrame};
 
-use kilim_act::act;
 use kilim_classes::{Method, MethodId, Program, Value};
 use kilim_frames::{Frame, Frames, Locals, Stack};
-use kilim_lookups::{code_rises, fetch, method_at};
-use kilim_private_heap::Heap;
+use kilim_lookups::method_at;
 use kilim_program::EndCause;
 use kilim_rows::{Moved, narrowed};
 use kilim_units::{NoMemory, Seq};
@@ -156,7 +154,7 @@ fn put_on(
     Ok(())
 }
 
-/// Keeps in the frames how they go on behind a call of a built-in method that is handed out, for `answer`: with so many
+/// Keeps in the frames how they go on behind a call of a built-in method that is handed out: with so many
 /// arguments off the stack, at the place behind. Nothing else is changed, and it takes no memory.
 #[inline(always)]
 pub fn await_answer(count: usize, next: u32, frames: &mut Frames)
@@ -289,41 +287,4 @@ pub fn settle(
         Moved::Ended(cause) => Ok(Stepped::Ended(cause)),
         Moved::NoMemory => Err(NoMemory),
     }
-}
-
-/// One instruction of a task. Where it answers `NewBox` or `AtNative`, it keeps in the frames how they go on, for
-/// `answer`.
-pub fn step(
-    alloc: Global,
-    program: &Program,
-    frames: &mut Frames,
-    heap: &mut Heap,
-) -> Result<Stepped, NoMemory>
-    requires fine { is_stuck (effect_of program.now (activation frames.old.top) heap.old) ≡ false }
-    requires fits { FitsStack program.now (effect_of program.now (activation frames.old.top) heap.old) frames.old.top.method (below_of frames.old) }
-    requires roomy { AreRoomy program.now frames.old }
-    ensures roomy { OnOk result (AreRoomy program.now frames.new) }
-    ensures steps { IfOk result (λ stepped. Steps (moves program.now (activation frames.old.top) (below_of frames.old) heap.old) stepped (calls_of frames.old) frames.new heap.old heap.new) }
-{
-    let Some(own) = method_at(program, frames.top.method) else {
-        unreachable!()
-    };
-    code_rises(program, frames.top.method, own);
-    let found = fetch(own.code.as_slice(), own.code_length, frames.top.pc, 0);
-    let moved = act(alloc, found.0, program, own, found.1, &mut frames.top, heap);
-    settle(alloc, program, own, moved, found.1, frames)
-}
-
-/// The answer to what was handed out last: drops its arguments, puts the result on top, and goes to the next place.
-/// Takes no memory.
-pub fn answer(frames: &mut Frames, result_value: Option<Value>)
-    requires operands { frames.old.operands ≤ length frames.old.top.stack.values }
-    requires room { length (drop frames.old.operands frames.old.top.stack.values) < frames.old.top.stack.room }
-    ensures { calls_of frames.new ≡ push_result result_value (answered frames.old) }
-{
-    frames.top.stack.drop_top(frames.operands);
-    if let Some(value) = result_value {
-        frames.top.stack.push(value);
-    }
-    frames.top.pc = frames.next;
 }
