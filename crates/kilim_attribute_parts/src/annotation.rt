@@ -28,7 +28,7 @@ pub enum AnnotationPart {
 }
 
 /// The kinds of parts of annotations.
-#[derive(Clone, Copy, Debug, PartialEq, Eq)]
+#[derive(Clone, Copy)]
 pub enum PartKind {
     /// `Parameters`.
     ParameterCount,
@@ -43,7 +43,7 @@ pub enum PartKind {
 }
 
 /// So many parts of a kind.
-#[derive(Clone, Copy, Debug, PartialEq, Eq)]
+#[derive(Clone, Copy)]
 pub struct Asked {
     pub kind: PartKind,
     pub count: u16,

@@ -6,7 +6,7 @@ use crate::name::AttributeName;
 use std::alloc::{AllocError, AllocFailed};
 
 /// Why bytes aren't attributes. The fault is that of the first part that can't be read.
-#[derive(Clone, Copy, Debug, PartialEq, Eq)]
+#[derive(Clone, Copy)]
 pub enum AttributeFault {
     /// The bytes end inside an attribute or before it, by its stated length.
     Cut,

@@ -26,7 +26,7 @@ pub enum VerificationType {
 }
 
 /// A frame in the form in which it is written (JVMS 4.7.4). An offset delta is in bytes of the code.
-#[derive(Clone, Debug, Drop)]
+#[derive(Debug, Drop)]
 pub enum Frame {
     /// Tags 0 to 63: the offset delta. The locals of the frame before, and an empty stack.
     Same(u8),

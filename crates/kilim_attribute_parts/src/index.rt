@@ -9,7 +9,7 @@ use kilim_constant_pool::{Entry, Pool};
 use kilim_grammar::u16_at;
 
 /// What kind of entry an index has to name.
-#[derive(Clone, Copy, Debug, PartialEq, Eq)]
+#[derive(Clone, Copy)]
 pub enum EntryKind {
     /// A Utf8.
     Text,

@@ -6,7 +6,7 @@ ghost use Rattle.kilim_attribute_parts.specs.Names.{name_text, named};
 use kilim_units::Units;
 
 /// The name of an attribute that is read into parts (JVMS 4.7).
-#[derive(Clone, Copy, Debug, PartialEq, Eq)]
+#[derive(Clone, Copy)]
 pub enum AttributeName {
     /// JVMS 4.7.2.
     ConstantValue,

@@ -4,7 +4,7 @@ use kilim_attribute_parts::{AnnotationPart, Frame};
 use kilim_units::Seq;
 
 /// Where a list of attributes stands.
-#[derive(Clone, Copy, Debug, PartialEq, Eq)]
+#[derive(Clone, Copy, Debug)]
 pub enum Place {
     Class,
     Field,

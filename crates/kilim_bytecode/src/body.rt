@@ -4,7 +4,7 @@ use kilim_opcodes::RawInstr;
 use kilim_units::Seq;
 
 /// The instructions of a code array.
-#[derive(Clone, Debug, Drop)]
+#[derive(Drop)]
 pub struct Body {
     /// The instructions in their order, each with its place. The first stands at 0, and each next one behind the
     /// bytes of the one before.

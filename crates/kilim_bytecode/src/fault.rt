@@ -8,7 +8,7 @@ use std::alloc::{AllocError, AllocFailed};
 /// Why bytes aren't a code array. Places are byte offsets from the first byte. The first fault of one instruction
 /// comes first, then a target that is no place, in the order of the code, and of a switch its default and then its
 /// targets in order; then the end.
-#[derive(Clone, Copy, Debug, PartialEq, Eq)]
+#[derive(Clone, Copy)]
 pub enum CodeFault {
     /// No instruction begins at this place, which is behind the one before. The fault in it is never want of memory.
     Op(OpFault, u32),

@@ -25,7 +25,7 @@ use std::marker::Model;
 const SUPER: u16 = 0x20;
 
 /// A class file that is built. Contracts see the file that the calls have made so far.
-#[derive(Debug, Drop)]
+#[derive(Drop)]
 pub struct ClassBuilder {
     file: ClassFile,
 }

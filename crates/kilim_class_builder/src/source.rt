@@ -4,7 +4,7 @@ use kilim_classes::{Frame, Qualifier};
 use kilim_opcodes::RawInstr;
 
 /// A method. Without code it is abstract or native: then `code` and `frames` aren't looked at.
-#[derive(Debug, Drop)]
+#[derive(Drop)]
 pub struct MethodSource {
     pub name: String,
     pub descriptor: String,

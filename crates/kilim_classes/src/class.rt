@@ -57,7 +57,7 @@ pub struct Method {
 }
 
 /// An entry of an exception table (JVMS 4.7.3).
-#[derive(Clone, Copy, Debug, PartialEq, Eq)]
+#[derive(Clone, Copy, PartialEq, Eq)]
 pub struct Handler {
     /// The place of the first instruction of its range.
     pub start: u32,
@@ -85,7 +85,7 @@ pub struct Class {
 }
 
 /// Whether methods are as they were compiled, or woven.
-#[derive(Clone, Copy, Debug, PartialEq, Eq)]
+#[derive(Clone, Copy)]
 pub enum Form {
     Plain,
     Woven,

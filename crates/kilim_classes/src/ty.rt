@@ -3,7 +3,7 @@
 use crate::names::ClassId;
 
 /// The base of a type: a primitive type of this profile, or a class (JVMS 4.3.2).
-#[derive(Clone, Copy, Debug, PartialEq, Eq)]
+#[derive(Clone, Copy, PartialEq, Eq)]
 pub enum Base {
     Bool,
     Byte,
@@ -15,7 +15,7 @@ pub enum Base {
 }
 
 /// A type: a base, or an array of it.
-#[derive(Clone, Copy, Debug, PartialEq, Eq)]
+#[derive(Clone, Copy, PartialEq, Eq)]
 pub struct Ty {
     /// The number of array dimensions, 0 for no array.
     pub dims: u8,
@@ -24,7 +24,7 @@ pub struct Ty {
 }
 
 /// The kind of a type: what may refer to what, and what a message may carry.
-#[derive(Clone, Copy, Debug, PartialEq, Eq)]
+#[derive(Clone, Copy)]
 pub enum Kind {
     /// int-like types, long, strings and mailboxes.
     Value,
@@ -35,7 +35,7 @@ pub enum Kind {
 }
 
 /// What a method may do with a tree that it is handed.
-#[derive(Clone, Copy, Debug, PartialEq, Eq)]
+#[derive(Clone, Copy)]
 pub enum Qualifier {
     /// The root of a whole tree. The callee owns it.
     Free,

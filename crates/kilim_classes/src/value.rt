@@ -5,7 +5,7 @@ use kilim_units::Units;
 
 /// A value of a local, of the operand stack, of a field or of an element (JVMS 2.6). The types boolean,
 /// byte, char, short and int are all `Int`. Strings and mailboxes are values and no objects.
-#[derive(Clone, Debug, Drop)]
+#[derive(Clone, Drop)]
 pub enum Value {
     Int(i32),
     Long(i64),

@@ -4,7 +4,7 @@ use crate::ty::Ty;
 use kilim_units::Seq;
 
 /// A verification type.
-#[derive(Clone, Copy, Debug, PartialEq, Eq)]
+#[derive(Clone, Copy, PartialEq, Eq)]
 pub enum VType {
     Top,
     Int,
@@ -18,7 +18,7 @@ pub enum VType {
 
 /// The types of the locals, by slot, and of the operand stack, the bottom first. A long is one entry of
 /// the stack, and in the locals a `Long` followed by a `Top`.
-#[derive(Debug, Drop)]
+#[derive(Drop)]
 pub struct Frame {
     pub locals: Seq<VType>,
     pub stack: Seq<VType>,

@@ -8,7 +8,7 @@ use kilim_units::Units;
 use std::alloc::{AllocError, AllocFailed};
 
 /// A field or a method, by its name and its descriptor.
-#[derive(Debug, Drop)]
+#[derive(Drop)]
 pub struct MemberName {
     pub name: Units,
     pub descriptor: Units,
@@ -16,7 +16,7 @@ pub struct MemberName {
 
 /// Why bytes aren't a class file: that there are too many, and else the first part in file order that isn't spelled
 /// (JVMS 4.1).
-#[derive(Debug, Drop)]
+#[derive(Drop)]
 pub enum ClassFault {
     /// The first four bytes aren't 0xCAFEBABE.
     Magic,

@@ -5,7 +5,7 @@ use kilim_opcodes::RawInstr;
 use kilim_units::Seq;
 
 /// One instruction, as it was added.
-#[derive(Debug, Drop)]
+#[derive(Drop)]
 pub enum Step {
     /// An instruction that stays as it is.
     Emits(RawInstr),

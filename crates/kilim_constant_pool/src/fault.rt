@@ -7,7 +7,7 @@ use thiserror::Error;
 
 /// Why bytes don't begin with a constant pool (JVMS 4.4): the first part in file order that isn't spelled. The count and
 /// the entries come first, in order; then, once all entries are there, the indices in them, in order.
-#[derive(Clone, Copy, Debug, PartialEq, Eq)]
+#[derive(Clone, Copy)]
 pub enum PoolFault {
     /// The bytes end inside the pool.
     Cut,
@@ -43,7 +43,7 @@ impl<T: Drop> From<AllocFailed<T>> for PoolFault {
 }
 
 /// Why an entry wasn't added.
-#[derive(Clone, Copy, Debug, PartialEq, Eq, Error)]
+#[derive(Clone, Copy, Debug, Error)]
 pub enum AddFault {
     /// The entry isn't there, and with it the count of indices would pass 65,535.
     #[error("the constant pool is full")]

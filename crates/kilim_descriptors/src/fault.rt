@@ -3,7 +3,7 @@
 use std::alloc::{AllocError, AllocFailed};
 
 /// Why a text is no descriptor.
-#[derive(Clone, Copy, Debug, PartialEq, Eq)]
+#[derive(Clone, Copy)]
 pub enum DescriptorFault {
     /// No descriptor goes on like this at this place, counted in UTF-16 units from 0; the text's length where it
     /// ends too early. The 256th dimension of an array is such a place.

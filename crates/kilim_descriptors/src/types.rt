@@ -3,7 +3,7 @@
 use kilim_units::{Seq, Units};
 
 /// The base of a type in a descriptor (JVMS 4.3.2).
-#[derive(Clone, Debug, Drop)]
+#[derive(Clone, Drop)]
 pub enum BaseText {
     Bool,
     Byte,
@@ -18,7 +18,7 @@ pub enum BaseText {
 }
 
 /// A type in a descriptor: a base, or an array of it.
-#[derive(Clone, Debug, Drop)]
+#[derive(Clone, Drop)]
 pub struct FieldText {
     /// The number of array dimensions, 0 for no array.
     pub dims: u8,
@@ -26,7 +26,7 @@ pub struct FieldText {
 }
 
 /// The types of a method's parameters and of its result, none for void (JVMS 4.3.3).
-#[derive(Clone, Debug, Drop)]
+#[derive(Drop)]
 pub struct MethodText {
     pub params: Seq<FieldText>,
     pub result: Option<FieldText>,

@@ -1,7 +1,7 @@
 //! What a class says of a key.
 
 /// What a class says of a key: a value, or that there is none from here down.
-#[derive(Clone, Copy, Debug, PartialEq, Eq)]
+#[derive(Clone, Copy)]
 pub struct Entry {
     /// The key.
     pub key: u32,

@@ -5,7 +5,7 @@ ghost use Rattle.std.specs.Prelude.{◌≡◌, ◌++◌, ◌∷◌, [], length, 
 use kilim_units::{NoMemory, Seq};
 
 /// A node of a tree of keys. A key goes down by its binary digits, the lowest first.
-#[derive(Clone, Copy, Debug)]
+#[derive(Clone, Copy)]
 pub enum Node {
     /// No key has a value.
     Empty,

@@ -8,7 +8,7 @@ use kilim_shape_graph::{Graph, Node};
 use std::marker::Model;
 
 /// A graph, as a state of the search, with its mark.
-#[derive(Debug, Drop)]
+#[derive(Drop)]
 pub struct Shape {
     graph: Graph,
     mark: u64,

@@ -5,7 +5,7 @@ use kilim_shape_graph::Graph;
 
 /// What one instruction does to a graph: a mark for each rule that it breaks, and the graph that it leaves. That the stack
 /// it leaves names nothing that is gone is asked of the graph.
-#[derive(Debug, Drop)]
+#[derive(Drop)]
 pub struct Deed {
     /// A tree that isn't a known root is put, started, stored, returned or passed as free.
     pub not_free: bool,
@@ -25,7 +25,7 @@ pub struct Deed {
 }
 
 /// An argument of a call; the receiver is one.
-#[derive(Clone, Copy, Debug)]
+#[derive(Clone, Copy)]
 pub struct Passed {
     /// The node that it names.
     pub name: Option<usize>,

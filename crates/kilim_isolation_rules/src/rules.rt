@@ -27,7 +27,7 @@ use kilim_units::{NoMemory, Seq};
 use std::alloc::Global;
 
 /// Why a step gives no graph.
-#[derive(Clone, Copy, Debug, PartialEq, Eq)]
+#[derive(Clone, Copy)]
 pub enum StepFault {
     /// The least rule that is broken: 1 to 7, or 9.
     Rule(u8),

@@ -4,7 +4,7 @@ use kilim_classes::BoxName;
 use kilim_program::{EndCause, Shape};
 
 /// One event of a run.
-#[derive(Clone, Debug, Drop)]
+#[derive(Drop)]
 pub enum Act {
     /// A message was put into a mailbox: the mailbox, the number of the put there, from 0, and the
     /// message's shape.
@@ -27,7 +27,7 @@ pub enum Act {
 }
 
 /// An event, with the task whose event it is.
-#[derive(Clone, Debug, Drop)]
+#[derive(Drop)]
 pub struct Entry {
     /// The number of the task.
     pub task: u32,

@@ -14,7 +14,7 @@ use kilim_units::NoMemory;
 use std::alloc::{AllocError, Global};
 
 /// Why bytes are no journal's text.
-#[derive(Clone, Copy, Debug, PartialEq, Eq)]
+#[derive(Clone, Copy)]
 pub enum TextFault {
     /// The first line that is no entry's, from 1 on.
     BadLine(usize),

@@ -8,7 +8,7 @@ use kilim_units::Units;
 use std::alloc::{AllocError, AllocFailed};
 
 /// A part of class files that this project leaves out. Where a class has several, the first of this list is named.
-#[derive(Clone, Copy, Debug, PartialEq, Eq)]
+#[derive(Clone, Copy)]
 pub enum LeftOutPart {
     /// The instruction with this number, or a float or double array by `newarray`.
     Opcode(u8),
@@ -36,7 +36,7 @@ pub enum LeftOutPart {
 }
 
 /// A member as code names it.
-#[derive(Debug, Drop)]
+#[derive(Drop)]
 pub struct MemberOf {
     pub owner: Units,
     pub name: Units,
@@ -47,7 +47,7 @@ pub struct MemberOf {
 /// order of the file's bytes: the superclass, the interfaces, the fields, then for each method its descriptor, its code
 /// and its frames. Of the class itself declared twice comes before of a member; of left-out parts and of abstract
 /// methods the order is the one of their definitions.
-#[derive(Debug, Drop)]
+#[derive(Drop)]
 pub enum Problem {
     /// The class, or a field or a method, by its name, was declared before, or the class is a built-in one.
     Twice(Units),
@@ -83,7 +83,7 @@ pub enum Problem {
 }
 
 /// Why class files don't link.
-#[derive(Debug, Drop)]
+#[derive(Drop)]
 pub enum LinkFault {
     /// The first class in the order of the files that has a problem, and the first of its problems.
     InClass(Units, Problem),

@@ -7,7 +7,7 @@ use thiserror::Error;
 
 /// Why bytes aren't modified UTF-8. Places are byte offsets from the first byte, and the fault is that of the
 /// first unit that isn't spelled.
-#[derive(Clone, Copy, Debug, PartialEq, Eq, Error)]
+#[derive(Clone, Copy, Debug, Error)]
 pub enum TextFault {
     /// The byte at this place can't stand there: a first byte 0, 0x80 to 0xBF or 0xF0 to 0xFF, or a later byte
     /// of a unit that isn't 0x80 to 0xBF.

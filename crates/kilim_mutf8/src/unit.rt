@@ -5,7 +5,7 @@ ghost use Rattle.kilim_mutf8.specs.Spelling.{is_short};
 ghost use Rattle.kilim_mutf8.specs.Reading.{continues, two_at, three_at, unit_at, Reads};
 
 /// What is wrong with the unit at the front of bytes. A bad byte is named by its distance from the first.
-#[derive(Clone, Copy, Debug, PartialEq, Eq)]
+#[derive(Clone, Copy)]
 pub enum UnitFault {
     BadByte(u8),
     Cut,

@@ -7,7 +7,7 @@ use thiserror::Error;
 
 /// Why no instruction begins at a place. The fault is that of the first part that isn't spelled: a part is cut
 /// where the code ends inside it, and else it is left out or unknown.
-#[derive(Clone, Copy, Debug, PartialEq, Eq, Error)]
+#[derive(Clone, Copy, Debug, Error)]
 pub enum OpFault {
     /// No instruction has this number (202 to 255), or the operands of the instruction with this number are none
     /// that it takes.

@@ -6,7 +6,7 @@ ghost use Rattle.kilim_opcodes.specs.Table.{form_in, form_of, unlisted};
 use crate::fault::OpFault;
 
 /// The layout of what stands behind an instruction's number.
-#[derive(Clone, Copy, Debug, PartialEq, Eq)]
+#[derive(Clone, Copy, PartialEq, Eq)]
 pub enum OpForm {
     /// Nothing.
     Plain,

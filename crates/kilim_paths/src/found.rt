@@ -7,7 +7,7 @@ ghost use Rattle.kilim_paths.specs.Search.{before, noted};
 use kilim_units::NoMemory;
 
 /// A rule that is broken at a place, and the entry whose path breaks it.
-#[derive(Clone, Copy, Debug)]
+#[derive(Clone, Copy)]
 pub struct Found {
     pub pc: u32,
     pub rule: u8,

@@ -15,7 +15,7 @@ use kilim_units::{NoMemory, Seq};
 use std::alloc::Global;
 
 /// A rule that is broken at a place, and a path that breaks it.
-#[derive(Debug, Drop)]
+#[derive(Drop)]
 pub struct Report {
     pub pc: u32,
     pub rule: u8,
@@ -23,7 +23,7 @@ pub struct Report {
 }
 
 /// What the exploration answers.
-#[derive(Debug, Drop)]
+#[derive(Drop)]
 pub enum Explored {
     Faults(Seq<Report>),
     Crowded(u32),

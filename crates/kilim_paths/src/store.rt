@@ -12,7 +12,7 @@ use std::alloc::Global;
 use std::marker::Model;
 
 /// A state that reached a place, and the entry from which it came.
-#[derive(Debug, Drop)]
+#[derive(Drop)]
 pub struct Reached<S> {
     pub place: u32,
     pub state: S,
@@ -20,7 +20,7 @@ pub struct Reached<S> {
 }
 
 /// The entries, and for each place which of them stand there.
-#[derive(Debug, Drop)]
+#[derive(Drop)]
 pub struct Store<S> {
     entries: Vec<Reached<S>>,
     rows: Vec<Vec<usize>>,

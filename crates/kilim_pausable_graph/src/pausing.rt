@@ -21,13 +21,13 @@ pub const PAUSABLE_IN_PLAIN: u8 = 10;
 pub const UNINIT_ACROSS_PAUSE: u8 = 11;
 
 /// The calls of pausable methods, by class, method and place.
-#[derive(Debug, Drop)]
+#[derive(Drop)]
 pub struct Pausables {
     pub calls: Seq<(MethodId, u32)>,
 }
 
 /// Why there are none.
-#[derive(Debug, Drop)]
+#[derive(Drop)]
 pub enum GraphFault {
     /// All reports of the rules 8, 10 and 11, in the order of class, method, place and rule; not empty.
     Rules(Seq<Report>),

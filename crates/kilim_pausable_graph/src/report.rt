@@ -4,7 +4,7 @@ use kilim_classes::MethodId;
 use kilim_units::Seq;
 
 /// A rule that is broken in a method.
-#[derive(Debug, Drop)]
+#[derive(Drop)]
 pub struct Report {
     pub method: MethodId,
     /// The place, a byte offset in the method's code.

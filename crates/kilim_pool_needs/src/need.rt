@@ -3,7 +3,7 @@
 use kilim_units::Units;
 
 /// An entry that a woven class file needs in its constant pool (JVMS 4.4), with those that it refers to.
-#[derive(Debug, Drop)]
+#[derive(Drop)]
 pub enum Need {
     /// A text.
     AText(Units),

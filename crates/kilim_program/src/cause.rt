@@ -4,7 +4,7 @@ ghost use Rattle.std.specs.Prelude.{◌≡◌};
 ghost use Rattle.kilim_program.specs.Cause.{word_of};
 
 /// Why a task ended. The end of a task is an entry of the journal, never a status of the program.
-#[derive(Clone, Copy, Debug, PartialEq, Eq)]
+#[derive(Clone, Copy)]
 pub enum EndCause {
     /// `execute` returned.
     Done,

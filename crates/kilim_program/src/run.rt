@@ -3,7 +3,7 @@
 use kilim_units::Seq;
 
 /// What a run is given beside its program and main class.
-#[derive(Debug, Drop)]
+#[derive(Drop)]
 pub struct Limits {
     /// How many of its own instructions a task may do.
     pub steps: u64,

@@ -4,7 +4,7 @@ use kilim_classes::{BoxName, FieldId, Ty, Value};
 use kilim_units::{Seq, Units};
 
 /// One token of a shape: a tree is its tokens in preorder, without the names of objects.
-#[derive(Clone, Debug, Drop)]
+#[derive(Clone, Drop)]
 pub enum Token {
     /// An object begins: its class name, or for an array its descriptor.
     Open(Units),
@@ -22,7 +22,7 @@ pub enum Token {
 pub type Shape = Seq<Token>;
 
 /// An object or an array: its class or array type, the fields with their values, the elements.
-#[derive(Clone, Debug, Drop)]
+#[derive(Drop)]
 pub struct Object {
     /// The class of the object, or the type of the array.
     pub class: Ty,

@@ -10,7 +10,7 @@ use rand_pcg::Pcg32;
 use std::alloc::Global;
 
 /// What a stage does to each message, which is a list of nodes.
-#[derive(Clone, Copy, Debug, PartialEq, Eq)]
+#[derive(Clone, Copy)]
 pub enum Operation {
     /// Adds the stage's number to the value of the first node.
     Adds,
@@ -21,7 +21,7 @@ pub enum Operation {
 }
 
 /// A stage, which takes messages from one mailbox and puts them into the next.
-#[derive(Clone, Copy, Debug, PartialEq, Eq)]
+#[derive(Clone, Copy)]
 pub struct Stage {
     pub operation: Operation,
     /// 0 to 99.
@@ -29,7 +29,7 @@ pub struct Stage {
 }
 
 /// What is made.
-#[derive(Debug, Drop)]
+#[derive(Drop)]
 pub struct Plan {
     /// How many messages go through all stages, 1 to 1,000.
     pub messages: u16,

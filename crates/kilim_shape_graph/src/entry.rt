@@ -12,7 +12,7 @@ use kilim_units::{NoMemory, Seq};
 use std::alloc::Global;
 
 /// A parameter, or the receiver.
-#[derive(Clone, Copy, Debug)]
+#[derive(Clone, Copy)]
 pub struct Parameter {
     pub ty: Ty,
     pub qualifier: Qualifier,

@@ -8,7 +8,7 @@ use kilim_units::Seq;
 
 /// For each local and each item of the operand stack the node that it names, or none, and the nodes by their numbers. A slot
 /// that holds a value, a private object or the constant null names none.
-#[derive(Debug, Drop)]
+#[derive(Drop)]
 pub struct Graph {
     /// By slot, as many as the method has; the second slot of a long names none.
     pub locals: Seq<Option<usize>>,
@@ -18,7 +18,7 @@ pub struct Graph {
 }
 
 /// A place that may name a node.
-#[derive(Clone, Copy, Debug, PartialEq, Eq)]
+#[derive(Clone, Copy)]
 pub enum Slot {
     /// A local, by its number.
     Local(u16),

@@ -6,7 +6,7 @@ ghost use Rattle.kilim_shape_graph.specs.Nodes as list;
 use kilim_classes::FieldId;
 
 /// What a method may do with the object that a node stands for.
-#[derive(Clone, Copy, Debug, PartialEq, Eq)]
+#[derive(Clone, Copy, PartialEq, Eq)]
 pub enum Standing {
     /// It is the known root of a whole tree: nothing holds it.
     Root,
@@ -51,7 +51,7 @@ impl Standing {
 }
 
 /// Where an object hangs on its parent.
-#[derive(Clone, Copy, Debug, PartialEq, Eq)]
+#[derive(Clone, Copy, PartialEq, Eq)]
 pub enum Label {
     Field(FieldId),
     /// An element of an array, at any place.
@@ -59,7 +59,7 @@ pub enum Label {
 }
 
 /// What is known of an object, or of null, for which it stands.
-#[derive(Clone, Copy, Debug, PartialEq, Eq)]
+#[derive(Clone, Copy, PartialEq, Eq)]
 pub struct Node {
     /// The tree, or part of a tree, to which it belongs. Nodes of different regions have no object in common.
     pub region: usize,

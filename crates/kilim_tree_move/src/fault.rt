@@ -1,7 +1,7 @@
 //! Why a tree isn't moved.
 
 /// Why a tree isn't moved.
-#[derive(Clone, Copy, Debug, PartialEq, Eq)]
+#[derive(Clone, Copy)]
 pub enum MoveFault {
     /// It has more than 65,536 objects.
     TooLarge,

@@ -3,7 +3,7 @@
 use std::alloc::AllocError;
 
 /// Why there are no types behind an instruction.
-#[derive(Debug, Drop, PartialEq, Eq)]
+#[derive(Drop)]
 pub enum StepFault {
     /// The least rule that fails.
     Rule(u8),

@@ -10,7 +10,7 @@ use kilim_classes::{Base, ClassId, Program, Ty, VType};
 use kilim_vtypes::assignable;
 
 /// What an instruction takes from a slot.
-#[derive(Clone, Copy, Debug, PartialEq, Eq)]
+#[derive(Clone, Copy)]
 pub enum Taken {
     /// What is assignable to a type.
     Is(VType),
@@ -31,7 +31,7 @@ pub enum Taken {
 }
 
 /// A further rule of an instruction.
-#[derive(Clone, Copy, Debug, PartialEq, Eq)]
+#[derive(Clone, Copy)]
 pub enum Also {
     /// The rule holds, or not.
     Needs(u8, bool),

@@ -15,7 +15,7 @@ use std::alloc::{AllocError, Global};
 const SPLIT_LONG: u8 = 7;
 
 /// A number of words.
-#[derive(Clone, Copy, Debug, PartialEq, Eq)]
+#[derive(Clone, Copy)]
 pub enum Words {
     Zero,
     One,
@@ -23,7 +23,7 @@ pub enum Words {
 }
 
 /// Which words a form takes, passes over and gives.
-#[derive(Clone, Copy, Debug, PartialEq, Eq)]
+#[derive(Clone, Copy)]
 pub enum Shuffle {
     /// So many words go.
     Drops(Words),

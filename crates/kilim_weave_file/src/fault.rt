@@ -6,7 +6,7 @@ use kilim_units::NoMemory;
 use std::alloc::{AllocError, AllocFailed};
 
 /// Why a class file isn't woven.
-#[derive(Clone, Copy, Debug, PartialEq, Eq)]
+#[derive(Clone, Copy)]
 pub enum ApplyFault {
     /// The pool of the woven file might have more than 65,535 indices: this is the count that it may reach.
     PoolFull(u64),

@@ -6,7 +6,7 @@ use kilim_classes::MethodId;
 use kilim_units::NoMemory;
 
 /// Why a program isn't woven.
-#[derive(Clone, Copy, Debug, PartialEq, Eq)]
+#[derive(Clone, Copy)]
 pub enum WeaveFault {
     /// The method has pausable calls, and a weight above 32,767: this is its weight.
     TooLong(MethodId, u64),

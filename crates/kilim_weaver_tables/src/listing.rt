@@ -15,7 +15,12 @@ use std::fmt::Write as _;
 fn slot_text(alloc: Global, program: &Program, slot: &VType) -> Option<String> {
     match slot {
         VType::Object(ty) => type_name(alloc, program, *ty),
-        other => format!(in alloc; "{other:?}").ok(),
+        VType::Uninit(at) => format!(in alloc; "Uninit({at})").ok(),
+        VType::Top => String::from_str(alloc, "Top").ok(),
+        VType::Int => String::from_str(alloc, "Int").ok(),
+        VType::Long => String::from_str(alloc, "Long").ok(),
+        VType::Null => String::from_str(alloc, "Null").ok(),
+        VType::UninitThis => String::from_str(alloc, "UninitThis").ok(),
     }
 }
 

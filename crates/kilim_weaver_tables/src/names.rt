@@ -41,7 +41,12 @@ pub fn field_name(alloc: Global, program: &Program, id: FieldId) -> Option<Strin
 pub fn base_name(alloc: Global, program: &Program, base: Base) -> Option<String> {
     match base {
         Base::Class(class) => class_name(alloc, program, class),
-        other => format!(in alloc; "{other:?}").ok(),
+        Base::Bool => String::from_str(alloc, "Bool").ok(),
+        Base::Byte => String::from_str(alloc, "Byte").ok(),
+        Base::Char => String::from_str(alloc, "Char").ok(),
+        Base::Short => String::from_str(alloc, "Short").ok(),
+        Base::Int => String::from_str(alloc, "Int").ok(),
+        Base::Long => String::from_str(alloc, "Long").ok(),
     }
 }
 

@@ -39,7 +39,7 @@ pub struct RunWords<'a> {
 }
 
 /// What `demo` is given.
-#[derive(Clone, Copy, Debug, PartialEq, Eq)]
+#[derive(Clone, Copy)]
 pub struct DemoWords {
     pub number: u64,
     /// From 1 to 16.

@@ -8,7 +8,7 @@ use kilim_units::NoMemory;
 use std::alloc::Global;
 
 /// A place of the plan.
-#[derive(Clone, Copy, Debug, PartialEq, Eq)]
+#[derive(Clone, Copy)]
 pub enum Label {
     /// An old place.
     Old(u32),
@@ -17,7 +17,7 @@ pub enum Label {
 }
 
 /// The length of an instruction, in bytes.
-#[derive(Clone, Copy, Debug, PartialEq, Eq)]
+#[derive(Clone, Copy)]
 pub enum Size {
     Fixed(u32),
     /// A `tableswitch` with so many targets.

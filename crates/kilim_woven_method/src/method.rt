@@ -25,7 +25,7 @@ use kilim_woven_shape::places_dont_matter;
 use std::alloc::Global;
 
 /// The locals and numbers that a woven method names.
-#[derive(Clone, Copy, Debug, PartialEq, Eq)]
+#[derive(Clone, Copy)]
 pub struct Slots {
     /// The argument slots of the old method.
     pub arguments: u16,

@@ -10,7 +10,7 @@ use kilim_lookups::{class_at, method_at};
 use kilim_units::Units;
 
 /// A member of `kilim/Fiber`.
-#[derive(Clone, Copy, Debug, PartialEq, Eq)]
+#[derive(Clone, Copy)]
 pub enum Member {
     Pc,
     Down,
@@ -24,7 +24,7 @@ pub enum Member {
 }
 
 /// A built-in method that is handed out.
-#[derive(Clone, Copy, Debug, PartialEq, Eq)]
+#[derive(Clone, Copy)]
 pub enum Native {
     /// `kilim/Task.execute` of the built-in class, which does nothing.
     Execute,
