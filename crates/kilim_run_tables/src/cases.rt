@@ -7,8 +7,8 @@ use crate::trees::list_case;
 use std::alloc::Global;
 use std::rt::Files;
 
-/// The answer of a case: nothing where its words aren't those of a case, a file can't be read, or memory runs out.
-pub fn answer<R: Files>(rt: &R, alloc: Global, words: &[String]) -> Option<String> {
+// The line of a case, without its line feed.
+fn line_of<R: Files>(rt: &R, alloc: Global, words: &[String]) -> Option<String> {
     let (word, rest) = words.split_first()?;
     match word.as_str() {
         "journal" => journal_case(rt, alloc, rest),
@@ -22,4 +22,12 @@ pub fn answer<R: Files>(rt: &R, alloc: Global, words: &[String]) -> Option<Strin
         "circle" => circle_case(alloc, rest),
         _ => None,
     }
+}
+
+/// The answer of a case, with its line feed: nothing where its words aren't those of a case, a file can't be read, or memory
+/// runs out.
+pub fn answer<R: Files>(rt: &R, alloc: Global, words: &[String]) -> Option<Vec<u8>> {
+    let mut line = line_of(rt, alloc, words)?.into_bytes();
+    line.push(b'\n').ok()?;
+    Some(line)
 }

@@ -1,25 +1,30 @@
-//! The words of the cases.
+//! The tables.
 
-use crate::classes::{class_case, fronts_case};
-use crate::code::{code_case, instr_case};
-use crate::descriptors::descriptor_case;
-use crate::links::link_case;
-use crate::pools::pool_case;
 use std::alloc::Global;
 use std::rt::Files;
+use std::sync::Wait;
+use std::thread::Threads;
 
-/// The answer of a case, each line with its line feed: nothing where its words aren't those of a case, a file can't be
-/// read, or memory runs out.
-pub fn answer<R: Files>(rt: &R, alloc: Global, words: &[String]) -> Option<Vec<u8>> {
-    let (word, rest) = words.split_first()?;
-    match word.as_str() {
-        "class" => class_case(rt, alloc, rest),
-        "fronts" => fronts_case(rt, alloc, rest),
-        "link" => link_case(rt, alloc, rest),
-        "pool" => pool_case(rt, alloc, rest),
-        "code" => code_case(alloc, rest),
-        "instr" => instr_case(alloc, rest),
-        "descriptor" => descriptor_case(alloc, rest),
+/// The answer of a case, each line with its line feed: nothing where its first word is no table's, the others aren't those
+/// of a case of it, a file can't be read, or memory runs out.
+pub fn answer<R: Files + Threads + Wait + Sync>(
+    rt: &R,
+    alloc: Global,
+    words: &[String],
+) -> Option<Vec<u8>> {
+    let (table, words) = words.split_first()?;
+    match table.as_str() {
+        "run" => kilim_run_tables::answer(rt, alloc, words),
+        "link" => kilim_link_tables::answer(rt, alloc, words),
+        "demo" => kilim_demo_tables::answer(rt, alloc, words),
+        "check" => kilim_check_tables::answer(rt, alloc, words),
+        "class_builder" => kilim_class_builder_tables::answer(alloc, words),
+        "whole_run" => kilim_whole_run_tables::answer(rt, alloc, words),
+        "fiber" => kilim_fiber_tables::answer(rt, alloc, words),
+        "top" => kilim_top_tables::answer(rt, alloc, words),
+        "weave" => kilim_weave_tables::answer(rt, alloc, words),
+        "weaver" => kilim_weaver_tables::answer(rt, alloc, words),
+        "woven" => kilim_woven_tables::answer(rt, alloc, words),
         _ => None,
     }
 }

@@ -1,25 +1,21 @@
-//! Answers of the public calls for a table of cases: `kilim_tables of FILE` for the cases of a file, a line each, or
-//! `kilim_tables CASE` for one, a word each. README.md has the cases. The status is 0, or 1 where a case can't be answered:
-//! it then stands on standard error, and the answers before it were written.
+//! Answers of the public calls for tables of cases: `kilim_tables of FILE` for the cases of a file, a line each, or `kilim_tables CASE` for
+//! one, a word each. README.md has the tables. The status is 0, or 1 where a case can't be answered: it then stands on standard error,
+//! and the answers before it were written.
 #![tactic(auto)]
 
-mod bytes;
 mod cases;
-mod classes;
-mod code;
-mod descriptors;
-mod links;
-mod pools;
 
 use cases::answer;
-use std::alloc::AllocGlobal;
+use std::alloc::{AllocGlobal, Global};
 use std::io::Write;
 use std::process::ExitCode;
 use std::rt::{Env, Files};
+use std::sync::Wait;
+use std::thread::Threads;
 use std::{env, io};
 
 // The words of a line, between blanks.
-fn words_of(alloc: std::alloc::Global, line: &str) -> io::Result<Vec<String>> {
+fn words_of(alloc: Global, line: &str) -> io::Result<Vec<String>> {
     let mut words = Vec::new(alloc);
     for word in line.split(' ') {
         words.push(String::from_str(alloc, word)?)?;
@@ -28,7 +24,7 @@ fn words_of(alloc: std::alloc::Global, line: &str) -> io::Result<Vec<String>> {
 }
 
 // Writes the answer of a case. Answers false where there is none.
-fn write_answer<R: Files + Print + Eprint + AllocGlobal>(
+fn write_answer<R: Files + Threads + Wait + Sync + Print + Eprint + AllocGlobal>(
     rt: &R,
     words: &[String],
 ) -> io::Result<bool> {
@@ -45,7 +41,10 @@ fn write_answer<R: Files + Print + Eprint + AllocGlobal>(
 }
 
 // Writes each case of a file behind a mark, and its answer.
-fn write_table<R: Files + Print + Eprint + AllocGlobal>(rt: &R, name: &str) -> io::Result<bool> {
+fn write_table<R: Files + Threads + Wait + Sync + Print + Eprint + AllocGlobal>(
+    rt: &R,
+    name: &str,
+) -> io::Result<bool> {
     let text = std::fs::read_to_string(rt, name)?;
     for line in text.lines() {
         if !line.is_empty() {
@@ -58,7 +57,9 @@ fn write_table<R: Files + Print + Eprint + AllocGlobal>(rt: &R, name: &str) -> i
     Ok(true)
 }
 
-fn write<R: Env + Files + Print + Eprint + AllocGlobal>(rt: &R) -> io::Result<bool> {
+fn write<R: Env + Files + Threads + Wait + Sync + Print + Eprint + AllocGlobal>(
+    rt: &R,
+) -> io::Result<bool> {
     let mut words = Vec::new(rt.alloc());
     for word in env::args(rt)?.skip(1) {
         words.push(word)?;
