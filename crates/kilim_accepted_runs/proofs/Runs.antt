@@ -11,11 +11,11 @@ use Rattle.kilim_one_heap.specs.Laws.{NoneShares}
 use Rattle.kilim_typing.specs.Typed.{IsWellTyped}
 use Rattle.kilim_isolation_check.specs.Faults.{IsAccepted}
 use Rattle.kilim_link_spec.specs.LinksWell.{LinksWell}
-use Rattle.kilim_plain_programs.specs.Laws.{LinkedIsPlain}
-use Rattle.kilim_main_begins.specs.Begins.{MainsBegin}
+use Rattle.kilim_accepted_runs.specs.plain.Laws.{LinkedIsPlain}
+use Rattle.kilim_accepted_runs.specs.begins.Begins.{MainsBegin}
 use Rattle.kilim_reached_objects.specs.Laws.{typed}
 use Rattle.kilim_standing_threads.specs.Laws.{IsRunOfAccepted}
-use Rattle.kilim_kept.specs.Laws.{AcceptedIsKept}
+use Rattle.kilim_standing_threads.specs.kept.Laws.{AcceptedIsKept}
 use Rattle.kilim_accepted_runs.specs.Laws.{AcceptedIsIsolated, AcceptedIsRun, setting_of}
 
 module _ (plain : LinkedIsPlain) (begins : MainsBegin) where

@@ -2,10 +2,10 @@
 
 ghost use Rattle.kilim_accepted_runs.specs.Laws.{AcceptedIsIsolated, AcceptedIsRun};
 
-use kilim_kept::accepted_is_kept;
-use kilim_main_begins::mains_begin;
+use crate::begins::mains_begin;
+use crate::plain::linked_is_plain;
 use kilim_one_heap::none_shares;
-use kilim_plain_programs::linked_is_plain;
+use kilim_standing_threads::kept::accepted_is_kept;
 
 /// A law, and no work: with a fit main class a linked, accepted program makes a run of an accepted program, whatever its limits are.
 pub fn accepted_is_run()

@@ -2,6 +2,9 @@
 //! calls to do work.
 #![tactic(auto)]
 
+pub mod begins;
+pub mod isolated;
 mod laws;
+pub mod plain;
 
 pub use laws::{accepted_is_isolated, accepted_is_run};

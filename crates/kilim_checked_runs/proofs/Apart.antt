@@ -4,7 +4,7 @@ use Rattle.kilim_classes.specs.declared.class.Form.TheVariants.{Plain}
 use Rattle.kilim_classes.specs.Keeps.{Keeps}
 use Rattle.kilim_classes.specs.Program.{Program}
 use Rattle.kilim_isolation_check.specs.Faults.{IsAccepted}
-use Rattle.kilim_kept.specs.Laws.{AcceptedIsKept}
+use Rattle.kilim_standing_threads.specs.kept.Laws.{AcceptedIsKept}
 use Rattle.kilim_one_heap.specs.Laws.{NoneShares, OneHeapIsMany, PlaysReplay}
 use Rattle.kilim_reached_objects.specs.Laws.{AreLive, typed}
 use Rattle.kilim_standing_threads.specs.Laws.{IsRunOfAccepted}

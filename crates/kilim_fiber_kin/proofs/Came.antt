@@ -20,9 +20,9 @@ use Rattle.kilim_thread_model.specs.Reach as reach
 use Rattle.kilim_thread_model.specs.Kept.{IsFormed, IsIn, IsOnce}
 use Rattle.kilim_kin.specs.Kin.{Names, Owner, OfTask, OfNobody, FramesKin, Alike}
 use Rattle.kilim_kin.proofs.Kins.{kin_push, frames_up, name_up}
-use Rattle.kilim_tree_kin.specs.TreeKin.{AllFields, AllValues, IsIntact, IsWholeTree, Copies, names_from}
-use Rattle.kilim_tree_kin.specs.TreeKin as kin
-use Rattle.kilim_tree_kin.proofs.ReadBack.{shapes_give}
+use Rattle.kilim_kin.specs.trees.TreeKin.{AllFields, AllValues, IsIntact, IsWholeTree, Copies, names_from}
+use Rattle.kilim_kin.specs.trees.TreeKin as kin
+use Rattle.kilim_kin.proofs.trees.ReadBack.{shapes_give}
 use Rattle.kilim_one_heap.specs.Lones.{ThreadKin}
 use Rattle.kilim_one_heap.proofs.Owners.{marked, marked_in, marked_out, task_nobody}
 use Rattle.kilim_one_heap.proofs.Taken.{joined, joined_first, joined_old, joined_bound, alike_taken}

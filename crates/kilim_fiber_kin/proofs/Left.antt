@@ -14,7 +14,7 @@ use Rattle.kilim_thread_model.specs.Kept.{IsIn}
 use Rattle.kilim_thread_model.specs.Lone.{Lone}
 use Rattle.kilim_thread_model.specs.Course.{tree_left}
 use Rattle.kilim_kin.specs.Kin.{Names, Alike}
-use Rattle.kilim_tree_kin.proofs.Shaped.{shape_kin}
+use Rattle.kilim_kin.proofs.trees.Shaped.{shape_kin}
 use Rattle.kilim_one_heap.proofs.Given.{Named, AreThere, there_in, named_in}
 use Rattle.kilim_tree_move.specs.Walk.{places}
 use Rattle.kilim_tree_move.specs.Moved as moved

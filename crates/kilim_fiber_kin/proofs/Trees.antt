@@ -16,9 +16,9 @@ use Rattle.kilim_program.specs.Shapes.{tree_limit, field_in, fields_in_order, sh
 use Rattle.kilim_program.specs.Trees.{Root, joined_names, names_where, content_names, names_in, value_names, tree_names}
 use Rattle.kilim_thread_model.specs.Kept.{IsFormed, IsIn, IsOnce}
 use Rattle.kilim_kin.specs.Kin.{Names, IsKin, AreKin, FieldsKin, ObjectsKin, Alike}
-use Rattle.kilim_tree_kin.specs.TreeKin.{AllFields, AllValues, IsIntact, IsWholeTree}
-use Rattle.kilim_tree_kin.proofs.ReadBack.{shapes_give}
-use Rattle.kilim_tree_kin.proofs.Shaped.{shape_kin}
+use Rattle.kilim_kin.specs.trees.TreeKin.{AllFields, AllValues, IsIntact, IsWholeTree}
+use Rattle.kilim_kin.proofs.trees.ReadBack.{shapes_give}
+use Rattle.kilim_kin.proofs.trees.Shaped.{shape_kin}
 use Rattle.kilim_one_heap.proofs.Given.{Named, AreThere, copies_there, there_in, named_in}
 use Rattle.kilim_private_heap.specs.Places.{AllDiffer}
 use Rattle.kilim_tree_move.specs.Walk.{places}

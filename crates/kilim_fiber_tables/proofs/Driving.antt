@@ -16,7 +16,7 @@ use Rattle.kilim_fibers.specs.declared.Wants.{Wants}
 use Rattle.kilim_fibers.specs.declared.Wants.TheVariants as wants
 use Rattle.kilim_record_fiber.specs.Fiber.{AskedOf, HoldsFiber, course_of, task_of}
 use Rattle.kilim_record_fiber.specs.declared.fiber.Fiber.{Fiber}
-use Rattle.kilim_named_fiber.specs.Named.{ServesNamed}
+use Rattle.kilim_record_fiber.specs.named.Named.{ServesNamed}
 use Rattle.kilim_fiber_tables.specs.Driven.{AreMessages, BringsMessage, Carries, IsMessageLetter, IsServed, ServesRun, Sits, Stands, Suits, counted, set_of}
 use Rattle.kilim_fiber_tables.specs.declared.seats.Letter.{Letter}
 use Rattle.kilim_fiber_tables.specs.declared.seats.Run.{Run}

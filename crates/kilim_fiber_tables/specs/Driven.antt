@@ -13,7 +13,7 @@ use Rattle.kilim_fibers.specs.declared.Wants.{Wants}
 use Rattle.kilim_fibers.specs.declared.Wants.TheVariants as wants
 use Rattle.kilim_record_fiber.specs.Fiber.{AskedOf, HoldsFiber, ServesCode, course_of, task_of}
 use Rattle.kilim_record_fiber.specs.declared.fiber.Fiber.{Fiber}
-use Rattle.kilim_named_fiber.specs.Named.{ServesNamed}
+use Rattle.kilim_record_fiber.specs.named.Named.{ServesNamed}
 use Rattle.kilim_whole_runs.specs.Runs.{setting_of}
 use Rattle.kilim_fiber_tables.specs.declared.pair.Pair.{Pair}
 use Rattle.kilim_fiber_tables.specs.declared.seats.After.{After}

@@ -5,7 +5,7 @@ ghost use Rattle.kilim_fiber_tables.specs.Driven.{PairStands, ServesRun, set_of,
 
 use crate::replies::Reply;
 use crate::seats::{Letter, Run, Seat, answered, first_seat, resumed};
-use kilim_named_fiber::{Named, Woven};
+use kilim_record_fiber::named::{Named, Woven};
 use std::alloc::Global;
 
 /// The fiber of task 0, that of the first task that was started, and the messages.

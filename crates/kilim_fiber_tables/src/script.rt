@@ -8,7 +8,7 @@ use crate::pair::{Pair, begun, first_answered, first_resumed, second_answered, s
 use crate::replies::{Reply, reply_of};
 use crate::seats::Run;
 use kilim_fibers::Fibers;
-use kilim_named_fiber::{Named, Woven};
+use kilim_record_fiber::named::{Named, Woven};
 use std::alloc::Global;
 use std::marker::Brand;
 

@@ -6,7 +6,7 @@ ghost use Rattle.kilim_fiber_tables.specs.Driven.{AfterStands, AreMessages, Carr
 use crate::replies::{Reply, fitting};
 use kilim_classes::ClassId;
 use kilim_fibers::{Answer, Fibers, Wants};
-use kilim_named_fiber::{Named, Woven};
+use kilim_record_fiber::named::{Named, Woven};
 use kilim_program::Limits;
 use kilim_tree_move::Tree;
 use kilim_units::NoMemory;

@@ -1,2 +1,3 @@
 pub mod Kin
 pub mod Laws
+pub mod trees

@@ -2,6 +2,8 @@
 //! laws about them, which no program calls to do work.
 #![tactic(auto)]
 
+pub mod trees;
+
 ghost use Rattle.kilim_kin.specs.Laws.{MovesAreKin, RowsAreKin};
 
 /// A law, and no work: what an instruction does is the same under other names of objects, and it reads and writes no

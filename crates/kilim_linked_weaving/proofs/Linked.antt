@@ -7,8 +7,8 @@ use Rattle.kilim_classfile.specs.declared.class_file.ClassFile.{ClassFile}
 use Rattle.kilim_isolation_check.specs.Faults.{IsAccepted}
 use Rattle.kilim_link_spec.specs.LinksWell.{LinksWell}
 use Rattle.kilim_linked_weaving.specs.Law.{AcceptedServes, LinkedServes}
-use Rattle.kilim_main_begins.specs.Begins.{MainsBegin}
-use Rattle.kilim_plain_programs.specs.Laws.{LinkedIsPlain}
+use Rattle.kilim_accepted_runs.specs.begins.Begins.{MainsBegin}
+use Rattle.kilim_accepted_runs.specs.plain.Laws.{LinkedIsPlain}
 use Rattle.kilim_stages.proofs.Both.{all_fit, as_many}
 use Rattle.kilim_type_verify.proofs.Verified.{well_typed}
 use Rattle.kilim_typing.specs.Typed.{IsWellTyped, listed_frames}

@@ -3,8 +3,8 @@
 
 ghost use Rattle.kilim_linked_weaving.specs.Law.{AcceptedServes, LinkedServes};
 
-use kilim_main_begins::mains_begin;
-use kilim_plain_programs::linked_is_plain;
+use kilim_accepted_runs::begins::mains_begin;
+use kilim_accepted_runs::plain::linked_is_plain;
 use kilim_woven_served::runs_serve;
 
 /// A law, and no work: what weaving makes of a linked, accepted program serves, with every fit main class and all limits.

@@ -25,7 +25,7 @@ use Rattle.kilim_thread_model.specs.declared.deed.Beginning.TheVariants.{Boot, B
 use Rattle.kilim_thread_model.specs.Reach.{Liveness}
 use Rattle.kilim_thread_model.specs.Kept.{IsKept, Kept}
 use Rattle.kilim_kin.specs.Kin.{Owner}
-use Rattle.kilim_tree_kin.proofs.ReadBack.{shapes_give}
+use Rattle.kilim_kin.proofs.trees.ReadBack.{shapes_give}
 use Rattle.kilim_one_heap.specs.Parted.{Parted, Parting, by_next, lone_parts, parts, first_parted, PartedReplays}
 use Rattle.kilim_one_heap.specs.Parted as parted
 use Rattle.kilim_one_heap.specs.Tied.{Party, Tied}

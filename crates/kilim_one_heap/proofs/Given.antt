@@ -12,7 +12,7 @@ use Rattle.kilim_program.specs.Machine.{Objects}
 use Rattle.kilim_program.specs.Trees.{Root, without}
 use Rattle.kilim_thread_model.specs.Kept.{IsIn, IsOnce}
 use Rattle.kilim_kin.specs.Kin.{Names, Owner, OfTask, IsKin, AreKin, FieldsKin, ObjectsKin, Alike}
-use Rattle.kilim_tree_kin.specs.TreeKin.{Copies, IsTree, names_from}
+use Rattle.kilim_kin.specs.trees.TreeKin.{Copies, IsTree, names_from}
 use Rattle.kilim_lemmas.proofs.Maps.{out_there, out_other}
 use Rattle.std.proofs.lemmas.Option.{same_Some, none-some}
 use Rattle.kilim_one_heap.proofs.Owners.{marked, marked_out}

@@ -20,8 +20,8 @@ use Rattle.kilim_thread_model.specs.Reach.{Names, SomeNames, FieldNames, Holds, 
 use Rattle.kilim_thread_model.specs.Kept.{IsIn, IsKept, Kept}
 use Rattle.kilim_kin.specs.Kin.{Owner, OfTask, OfPlace, IsKin, AreKin, FieldsKin, ObjectsKin, FramesKin, NameKin, Alike}
 use Rattle.kilim_kin.specs.Kin as kin
-use Rattle.kilim_tree_kin.specs.TreeKin.{Copies, IsTree, names_from}
-use Rattle.kilim_tree_kin.proofs.Copied.{names_bounds}
+use Rattle.kilim_kin.specs.trees.TreeKin.{Copies, IsTree, names_from}
+use Rattle.kilim_kin.proofs.trees.Copied.{names_bounds}
 use Rattle.kilim_one_heap.specs.Lones.{ThreadKin, LonesKin}
 use Rattle.kilim_one_heap.specs.Parted.{Parted, first_parted}
 use Rattle.kilim_one_heap.specs.Tied.{Party, Queued, Tied}

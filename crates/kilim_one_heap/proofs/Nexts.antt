@@ -32,8 +32,8 @@ use Rattle.kilim_kin.proofs.Kins.{kin_push, kin_entered, frames_up, name_up}
 use Rattle.kilim_kin.proofs.Renamed.{renamed, number_of, are_is}
 use Rattle.kilim_kin.proofs.Rows.{rows_kin}
 use Rattle.kilim_kin.proofs.Moving.{moves_kin}
-use Rattle.kilim_tree_kin.specs.TreeKin.{IsWholeTree}
-use Rattle.kilim_tree_kin.proofs.Shaped.{shape_kin}
+use Rattle.kilim_kin.specs.trees.TreeKin.{IsWholeTree}
+use Rattle.kilim_kin.proofs.trees.Shaped.{shape_kin}
 use Rattle.kilim_one_heap.specs.Lones.{ThreadKin, LonesKin, NextKin, WholeMove, IsWholeThread}
 use Rattle.kilim_one_heap.specs.Laws.{NextMovesAreKin}
 use Rattle.kilim_one_heap.proofs.Added.{added, added_owner, added_new, added_old, added_bound, alike_added, owner_old, owner_only}

@@ -11,7 +11,7 @@ use Rattle.kilim_program.specs.Machine.{Objects}
 use Rattle.kilim_program.specs.Trees.{Root, OfMessage}
 use Rattle.kilim_thread_model.specs.Kept.{IsIn}
 use Rattle.kilim_kin.specs.Kin.{Names, Owner, OfTask, OfPlace, OfNobody, Alike}
-use Rattle.kilim_tree_kin.specs.TreeKin.{Copies, IsTree, names_from}
+use Rattle.kilim_kin.specs.trees.TreeKin.{Copies, IsTree, names_from}
 use Rattle.kilim_one_heap.specs.Tied.{Queued}
 
 -- ---- owners are told apart

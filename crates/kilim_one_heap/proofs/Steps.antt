@@ -33,9 +33,9 @@ use Rattle.kilim_thread_model.specs.Course.{received, tree_left, lone_in, lone_b
 use Rattle.kilim_thread_model.specs.Kept.{IsIn}
 use Rattle.kilim_kin.specs.Kin.{Names, Owner, OfTask, OfPlace, OfNobody, IsKin, NameKin, Alike}
 use Rattle.kilim_kin.proofs.Kins.{kin_push, frames_up, name_up}
-use Rattle.kilim_tree_kin.specs.TreeKin.{Copies, IsTree, names_from}
-use Rattle.kilim_tree_kin.specs.Laws.{ShapesGive}
-use Rattle.kilim_tree_kin.proofs.Copied.{first_name}
+use Rattle.kilim_kin.specs.trees.TreeKin.{Copies, IsTree, names_from}
+use Rattle.kilim_kin.specs.trees.Laws.{ShapesGive}
+use Rattle.kilim_kin.proofs.trees.Copied.{first_name}
 use Rattle.kilim_one_heap.specs.Lones.{ThreadKin, LonesKin, Onward, Before, Giving, NextKin, IsWholeThread}
 use Rattle.kilim_one_heap.specs.Parted.{Parted, by_next, lone_parts, parts}
 use Rattle.kilim_one_heap.specs.Parted as parted

@@ -8,11 +8,11 @@ use Rattle.kilim_program.specs.Machine.{Objects}
 use Rattle.kilim_program.specs.Trees.{with_objects}
 use Rattle.kilim_thread_model.specs.Kept.{IsIn, IsOnce}
 use Rattle.kilim_kin.specs.Kin.{Names, Owner, OfTask, ObjectsKin, Alike}
-use Rattle.kilim_tree_kin.specs.TreeKin.{Copies, names_from}
+use Rattle.kilim_kin.specs.trees.TreeKin.{Copies, names_from}
 use Rattle.kilim_lemmas.proofs.Maps.{put_there, put_other}
 use Rattle.std.proofs.lemmas.Option.{same_Some, none-some}
 use Rattle.kilim_kin.proofs.Kins.{object_up}
-use Rattle.kilim_tree_kin.proofs.Copied.{first_name, names_bounds, copies_length}
+use Rattle.kilim_kin.proofs.trees.Copied.{first_name, names_bounds, copies_length}
 use Rattle.kilim_one_heap.proofs.Owners.{marked, marked_in, marked_out}
 
 -- ---- new names

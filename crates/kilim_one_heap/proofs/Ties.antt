@@ -14,7 +14,7 @@ use Rattle.kilim_thread_model.specs.Lone.{Lone}
 use Rattle.kilim_thread_model.specs.Turn.{kept_by, with_lone}
 use Rattle.kilim_thread_model.specs.Kept.{IsIn}
 use Rattle.kilim_kin.specs.Kin.{Names, Owner, OfTask, OfPlace, OfNobody, NameKin}
-use Rattle.kilim_tree_kin.specs.TreeKin.{IsTree}
+use Rattle.kilim_kin.specs.trees.TreeKin.{IsTree}
 use Rattle.kilim_one_heap.specs.Lones.{LonesKin}
 use Rattle.kilim_one_heap.specs.Parted.{Parted}
 use Rattle.kilim_one_heap.specs.Tied.{Party, Queued, Boxes, TiedBy, Tied}

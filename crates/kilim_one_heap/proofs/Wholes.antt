@@ -22,7 +22,7 @@ use Rattle.kilim_thread_model.specs.Kept.{IsFormed, GivesTree, given, IsKept}
 use Rattle.kilim_kin.specs.Kin.{Names, OfTask, IsKin, AreKin, FieldsKin, FramesKin, Alike, AreHeld, IsThere, IsAmong, StandsIn, MoveKin}
 use Rattle.kilim_kin.proofs.Rows.{rows_kin}
 use Rattle.kilim_kin.proofs.Moving.{moves_kin}
-use Rattle.kilim_tree_kin.specs.TreeKin.{AllValues, AllFields, IsIntact}
+use Rattle.kilim_kin.specs.trees.TreeKin.{AllValues, AllFields, IsIntact}
 use Rattle.kilim_one_heap.specs.Lones.{WholeMove, IsWholeThread}
 
 below_join : (h : Objects) (n m x : ℕ) → Below h n m → Below h m x → Below h n x

@@ -14,7 +14,7 @@ use Rattle.kilim_thread_model.specs.Lone.{Lone, Next, Goes, Puts, Gets, Probes, 
 use Rattle.kilim_thread_model.specs.Kept.{given}
 use Rattle.kilim_kin.specs.Kin.{Names, Owner, OfNobody, FramesKin, NameKin, Alike, AreHeld, IsThere}
 use Rattle.kilim_kin.specs.Kin as owned
-use Rattle.kilim_tree_kin.specs.TreeKin.{IsWholeTree}
+use Rattle.kilim_kin.specs.trees.TreeKin.{IsWholeTree}
 
 -- the same frames but for names, and the same counts
 abbrev pub ThreadKin : Names → Thread → Thread → Type 0

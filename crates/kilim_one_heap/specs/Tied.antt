@@ -10,7 +10,7 @@ use Rattle.kilim_thread_model.specs.Lone.{Lone}
 use Rattle.kilim_thread_model.specs.Turn.{Moved, lone_of}
 use Rattle.kilim_thread_model.specs.Kept.{IsIn}
 use Rattle.kilim_kin.specs.Kin.{Names, Owner, OfPlace, OfNobody}
-use Rattle.kilim_tree_kin.specs.TreeKin.{IsTree}
+use Rattle.kilim_kin.specs.trees.TreeKin.{IsTree}
 use Rattle.kilim_one_heap.specs.Lones.{LonesKin, IsWholeThread}
 use Rattle.kilim_one_heap.specs.Parted.{Parted, Parting}
 

@@ -37,15 +37,15 @@ use Rattle.kilim_pausable_graph.specs.Pausing.{frames_at}
 use Rattle.kilim_isolation_check.specs.Walks.{entry_graph, machine_of}
 use Rattle.kilim_fits.specs.Fits as fits
 use Rattle.kilim_fits.specs.Fits.{AValue, AreThere, Awaited, BelowFit, Classes, FrameFits, Holds, Nothing, StackFits, Wanted, has_type, have_types, result_awaited, result_of}
-use Rattle.kilim_live_graphs.specs.Laws.{IsAcceptedBy, IsThere as LiveIsThere}
-use Rattle.kilim_live_graphs.proofs.Gone.{result_stays}
-use Rattle.kilim_live_graphs.proofs.Live.{live_is_there}
-use Rattle.kilim_live_graphs.proofs.Locals.{result_locals}
-use Rattle.kilim_live_graphs.proofs.Nodes.{HasType, gone_at}
-use Rattle.kilim_walk_types.proofs.Methods.{every_method_goes}
+use Rattle.kilim_reached_objects.specs.live.Laws.{IsAcceptedBy, IsThere as LiveIsThere}
+use Rattle.kilim_reached_objects.proofs.live.Gone.{result_stays}
+use Rattle.kilim_reached_objects.proofs.live.Live.{live_is_there}
+use Rattle.kilim_reached_objects.proofs.live.Locals.{result_locals}
+use Rattle.kilim_reached_objects.proofs.live.Nodes.{HasType, gone_at}
+use Rattle.kilim_reached_objects.proofs.walk.Methods.{every_method_goes}
 use Rattle.kilim_graph_rows.specs.Holds.{AllWait, SlotFits, WaitFits, Waiting, is_tree_object, named_by, sort, trees, value_at, waiting_named}
 use Rattle.kilim_graph_rows.proofs.Locals.{value_get}
-use Rattle.kilim_thread_graphs.specs.Threads.{AllWaitFor, Becomes, Listed, TopFits, Waits, keepers}
+use Rattle.kilim_reached_objects.specs.graphs.Threads.{AllWaitFor, Becomes, Listed, TopFits, Waits, keepers}
 use Rattle.kilim_reached_objects.specs.Laws.{AreLive, FitsBoth, IsChecked, ReachedAreThere, TopStacksAreThere, typed}
 use Rattle.kilim_reached_objects.proofs.Held.{IsThere, below_there}
 use Rattle.kilim_reached_objects.proofs.Slots.{free_items, live_at, slot_there, sort_known, stack_there}

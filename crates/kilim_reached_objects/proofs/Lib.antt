@@ -1,3 +1,6 @@
 pub mod Held
 pub mod Slots
 pub mod Frames
+pub mod graphs
+pub mod live
+pub mod walk

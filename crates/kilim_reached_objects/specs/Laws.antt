@@ -15,7 +15,7 @@ use Rattle.kilim_vtypes.specs.TypedProgram.{TypedProgram}
 use Rattle.kilim_pausable_graph.specs.Pausing.{frames_at}
 use Rattle.kilim_isolation_check.specs.Faults.{IsAccepted}
 use Rattle.kilim_fits.specs.Fits.{AreThere, Classes, Fits, Verified, Wanted}
-use Rattle.kilim_thread_graphs.specs.Threads.{FramesFit}
+use Rattle.kilim_reached_objects.specs.graphs.Threads.{FramesFit}
 
 -- the program with the frames that verification lists
 abbrev pub typed : Program → TypedProgram

@@ -1,6 +1,10 @@
 //! What a thread of accepted code reaches is in its heap: laws about definitions, which no program calls to do work.
 #![tactic(auto)]
 
+pub mod graphs;
+pub mod live;
+pub mod walk;
+
 ghost use Rattle.kilim_reached_objects.specs.Laws.{ReachedAreThere, TopStacksAreThere};
 
 /// A law, and no work: what is at or below an object that an item of a thread's stacks or a live local names, or that is kept, is in

@@ -22,7 +22,7 @@ use Rattle.kilim_fibers.specs.Fibers.{Asks, CanAnswer, CountsRightly, Fits, Stan
 use Rattle.kilim_fibers.specs.Wishes.{IsMessage, Wish, ToPut, ToTake, ToProbe, ToStart, ToPrint}
 use Rattle.kilim_fibers.specs.declared.Answer.{Answer}
 use Rattle.kilim_fibers.specs.declared.Answer.TheVariants as answer
-use Rattle.kilim_woven_history.specs.History.{took}
+use Rattle.kilim_woven_kin.specs.history.History.{took}
 use Rattle.kilim_woven_kin.specs.Nexts.{counted, paused_at, taken_at, with_result}
 use Rattle.kilim_woven_kin.specs.Standing.{Standing}
 use Rattle.kilim_woven_fiber.specs.Body.{behind_at, standing_at, RoomIn, RoomyIn}

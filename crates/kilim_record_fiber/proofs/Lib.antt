@@ -5,3 +5,4 @@ pub mod Resting
 pub mod Left
 pub mod Rested
 pub mod Answered
+pub mod named

@@ -3,3 +3,4 @@ pub mod Fiber
 pub mod Records
 pub mod Calls
 pub mod Clauses
+pub mod named

@@ -2,6 +2,7 @@
 #![tactic(auto)]
 
 mod fiber;
+pub mod named;
 mod past;
 
 pub use fiber::Fiber;

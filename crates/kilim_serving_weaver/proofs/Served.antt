@@ -6,7 +6,7 @@ use Rattle.kilim_weaver.specs.Weaves.{IsWoven, Weaves}
 use Rattle.kilim_weaver.specs.declared.fault.WeaveFault.{WeaveFault}
 use Rattle.kilim_weaver.specs.declared.weaving.Woven.{Woven}
 use Rattle.kilim_woven_form.specs.Form.{WovenForm}
-use Rattle.kilim_woven_keeps.specs.Law.{NoneIsTooLong}
+use Rattle.kilim_woven_programs.specs.keeps.Law.{NoneIsTooLong}
 use Rattle.kilim_woven_served.specs.Served.{RunsServe}
 use Rattle.kilim_serving_weaver.specs.Serving.{ServesEachRun}
 

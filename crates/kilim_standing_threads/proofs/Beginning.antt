@@ -41,7 +41,7 @@ use Rattle.kilim_fits.specs.Chosen.{IsChosen}
 use Rattle.kilim_fits.specs.Fits.{Classes, Wanted}
 use Rattle.kilim_fits.proofs.ClassMethods.{IsAmong, names_owner}
 use Rattle.kilim_fits.proofs.Finding.{finds}
-use Rattle.kilim_fine_threads.specs.Typed.{FitsAs, IsVerified}
+use Rattle.kilim_typed_threads.specs.fine.Typed.{FitsAs, IsVerified}
 use Rattle.kilim_typed_threads.proofs.Executing.{same_class}
 use Rattle.kilim_typed_threads.proofs.Read.{built_is}
 use Rattle.kilim_graph_rows.specs.Holds.{Fits, HeapFits, IsOf, ObjectFits, Tree, Trees, field_sort, field_sort_of, held_at, held_by, object_sort, refers, refers_in, trees, tree_held}
@@ -49,10 +49,10 @@ use Rattle.kilim_graph_rows.specs.Holds as holds
 use Rattle.kilim_graph_rows.specs.Facts.{IsTaken}
 use Rattle.kilim_graph_rows.proofs.Heaps.{is_or_not, put_other, put_there}
 use Rattle.kilim_graph_rows.proofs.Making.{new_fits, zero_fits}
-use Rattle.kilim_thread_graphs.specs.Threads.{BeginsOn, EndFits, IsSound, Listed, TopIsCoded}
-use Rattle.kilim_thread_graphs.specs.Threads as graphs
-use Rattle.kilim_thread_graphs.proofs.Beginning.{beginnings_keep}
-use Rattle.kilim_tree_heaps.proofs.Heaps.{get_new, taken_trees_come}
+use Rattle.kilim_reached_objects.specs.graphs.Threads.{BeginsOn, EndFits, IsSound, Listed, TopIsCoded}
+use Rattle.kilim_reached_objects.specs.graphs.Threads as graphs
+use Rattle.kilim_reached_objects.proofs.graphs.Beginning.{beginnings_keep}
+use Rattle.kilim_standing_threads.proofs.heaps.Heaps.{get_new, taken_trees_come}
 use Rattle.kilim_sorts.proofs.Choosing.{of_object, sizes}
 use Rattle.kilim_sorts.proofs.Lines.{in_line}
 use Rattle.kilim_standing_threads.specs.Standing.{MainBegins, Standing}

@@ -28,16 +28,16 @@ use Rattle.kilim_shape_graph.specs.declared.graph.Graph.{Graph}
 use Rattle.kilim_isolation_check.specs.Faults.{IsAccepted}
 use Rattle.kilim_isolation_check.specs.Laws.{GoesOn}
 use Rattle.kilim_isolation_check.specs.Walks.{entry_graph, exits_to, machine_of}
-use Rattle.kilim_walk_types.proofs.Methods.{every_method_goes}
-use Rattle.kilim_walk_types.proofs.Walks.{walks_by_types}
+use Rattle.kilim_reached_objects.proofs.walk.Methods.{every_method_goes}
+use Rattle.kilim_reached_objects.proofs.walk.Walks.{walks_by_types}
 use Rattle.kilim_fits.specs.Fits.{Classes, HeapFits, has_type, have_types, is_made, is_of}
 use Rattle.kilim_fits.specs.Fits as fits
 use Rattle.kilim_fits.proofs.Bodies.{starts}
 use Rattle.kilim_fits.proofs.FromKeeps.{all_at}
 use Rattle.kilim_graph_rows.specs.Facts.{IsOfType, IsVerified, IsWhole, class_in, class_of}
 use Rattle.kilim_sorts.proofs.Keeping.{program_keeps}
-use Rattle.kilim_thread_graphs.specs.Threads.{IsSound, MethodKeeps, Passes}
-use Rattle.kilim_thread_graphs.proofs.Typing.{types_flow}
+use Rattle.kilim_reached_objects.specs.graphs.Threads.{IsSound, MethodKeeps, Passes}
+use Rattle.kilim_reached_objects.proofs.graphs.Typing.{types_flow}
 use Rattle.kilim_reached_objects.specs.Laws.{typed}
 use Rattle.kilim_standing_threads.specs.Laws.{listed_at}
 

@@ -20,12 +20,12 @@ use Rattle.kilim_typing_laws.proofs.ByPlace.{typed_by_place}
 use Rattle.kilim_isolation_check.specs.Faults.{IsAccepted}
 use Rattle.kilim_fits.specs.Fits.{Classes, Fits, HeapFits, Verified, Wanted}
 use Rattle.kilim_fits.proofs.Grounds.{are_verified, are_wanted}
-use Rattle.kilim_fine_threads.specs.Typed.{IsVerified, StackIsThere, TopIsThere, frames_of}
+use Rattle.kilim_typed_threads.specs.fine.Typed.{IsVerified, StackIsThere, TopIsThere, frames_of}
 use Rattle.kilim_typed_threads.proofs.Moving.{deeds_stay_typed, moves_stay_typed}
 use Rattle.kilim_typed_threads.proofs.Threads.{action_splits, beginnings_are_typed, is_acting}
 use Rattle.kilim_graph_rows.specs.Holds.{IsOf, Tree, Trees, is_tree_object, object_sort}
-use Rattle.kilim_thread_graphs.specs.Threads.{EndFits, IsSound, Listed, TopIsCoded}
-use Rattle.kilim_thread_graphs.specs.Threads as graphs
+use Rattle.kilim_reached_objects.specs.graphs.Threads.{EndFits, IsSound, Listed, TopIsCoded}
+use Rattle.kilim_reached_objects.specs.graphs.Threads as graphs
 use Rattle.kilim_reached_objects.specs.Laws.{IsChecked}
 use Rattle.kilim_reached_objects.proofs.Frames.{top_stacks_are_there}
 use Rattle.kilim_standing_threads.specs.Standing.{MainBegins, ThreadStands}

@@ -45,14 +45,14 @@ use Rattle.kilim_fits.specs.Fits.{Classes, Fits, FramesFit, HeapFits, Nothing, W
 use Rattle.kilim_fits.specs.Sound.{AsksFit, MoveFits, native_types}
 use Rattle.kilim_fits.proofs.Grounds.{facts_hold}
 use Rattle.kilim_fits.proofs.Theorem.{moves_fit}
-use Rattle.kilim_fine_threads.specs.Typed.{FitsAs, IsVerified, StackIsThere, TopIsThere, frames_of}
-use Rattle.kilim_fine_threads.proofs.Natives.{gives, native_gives}
+use Rattle.kilim_typed_threads.specs.fine.Typed.{FitsAs, IsVerified, StackIsThere, TopIsThere, frames_of}
+use Rattle.kilim_typed_threads.proofs.fine.Natives.{gives, native_gives}
 use Rattle.kilim_graph_rows.specs.Holds.{IsOf, Tree, Trees, object_sort, trees, type_sort}
-use Rattle.kilim_thread_graphs.specs.Threads.{AskFits, EndFits, Gives, IsSound, Listed, NoneOwned, ThreadFits, TopIsCoded, TopIsVerified}
-use Rattle.kilim_thread_graphs.specs.Threads as graphs
-use Rattle.kilim_thread_graphs.proofs.Thread.{moves_keep}
-use Rattle.kilim_tree_heaps.proofs.Heaps.{taken_trees_come}
-use Rattle.kilim_tree_names.proofs.Given.{given_trees_leave}
+use Rattle.kilim_reached_objects.specs.graphs.Threads.{AskFits, EndFits, Gives, IsSound, Listed, NoneOwned, ThreadFits, TopIsCoded, TopIsVerified}
+use Rattle.kilim_reached_objects.specs.graphs.Threads as graphs
+use Rattle.kilim_reached_objects.proofs.graphs.Thread.{moves_keep}
+use Rattle.kilim_standing_threads.proofs.heaps.Heaps.{taken_trees_come}
+use Rattle.kilim_standing_threads.proofs.names.Given.{given_trees_leave}
 use Rattle.kilim_standing_threads.specs.Standing.{Standing, ThreadStands}
 use Rattle.kilim_standing_threads.proofs.Grounds.{is_verified, whole_at}
 use Rattle.kilim_standing_threads.proofs.Natives.{below_tree, message_kind, n, not_owned, put_is, put_parameters, start_is, start_parameters, task_kind}

@@ -29,7 +29,7 @@ use Rattle.kilim_lemmas.proofs.Texts.{same_text}
 use Rattle.kilim_shape_graph.specs.Entry.{declared_parameters, parameters_of}
 use Rattle.kilim_isolation_rules.specs.Calls.{is_owned}
 use Rattle.kilim_fits.proofs.BuiltInMembers.{NamedAt, named_at}
-use Rattle.kilim_fine_threads.proofs.Natives.{built_in_one, first, task_name}
+use Rattle.kilim_typed_threads.proofs.fine.Natives.{built_in_one, first, task_name}
 use Rattle.kilim_typed_threads.proofs.Booting.{line_begins}
 use Rattle.kilim_graph_rows.specs.Holds.{Sort, Tree, Trees, object_sort, sort_by}
 use Rattle.kilim_sorts.proofs.KindsOfClasses.{ClassFlow}

@@ -11,8 +11,8 @@ use Rattle.kilim_typing_laws.specs.Laws.{typing_at}
 use Rattle.kilim_pausable_graph.specs.Pausing.{frames_at}
 use Rattle.kilim_isolation_check.specs.Faults.{IsAccepted}
 use Rattle.kilim_fits.specs.Fits.{Classes}
-use Rattle.kilim_fine_threads.specs.Typed.{FitsAs}
-use Rattle.kilim_thread_graphs.specs.Threads.{Listed}
+use Rattle.kilim_typed_threads.specs.fine.Typed.{FitsAs}
+use Rattle.kilim_reached_objects.specs.graphs.Threads.{Listed}
 use Rattle.kilim_reached_objects.specs.Laws.{typed}
 use Rattle.kilim_tree_types.specs.Laws.{AreNamedPlainly}
 use Rattle.kilim_standing_threads.specs.Standing.{MainBegins, Standing}

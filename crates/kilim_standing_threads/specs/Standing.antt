@@ -10,7 +10,7 @@ use Rattle.kilim_program.specs.Machine.{Objects}
 use Rattle.kilim_program.specs.Members.{constructor_of}
 use Rattle.kilim_thread_model.specs.Lone.{Lone}
 use Rattle.kilim_thread_model.specs.State.{Alive, Ended, Thread}
-use Rattle.kilim_thread_graphs.specs.Threads.{FramesFit, Listed, Typings}
+use Rattle.kilim_reached_objects.specs.graphs.Threads.{FramesFit, Listed, Typings}
 
 -- The constructor with which a run begins doesn't get its object to give away. (The receiver of a constructor is cuttable, always.)
 abbrev pub MainBegins : Program → ClassId → Type 0

@@ -1,6 +1,11 @@
 //! Each thread of an accepted program stands with its shape graphs, from its beginning on, whatever others do. A law, and no work.
 #![tactic(auto)]
 
+pub mod heaps;
+pub mod kept;
+pub mod names;
+pub mod states;
+
 ghost use Rattle.kilim_standing_threads.specs.Laws.{ThreadsStand};
 
 /// A law, and no work: the frames of each thread that there can be of an accepted program stand with their shape graphs, and fit the

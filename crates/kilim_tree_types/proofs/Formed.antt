@@ -21,8 +21,8 @@ use Rattle.kilim_thread_model.specs.Kept.{Finds, IsFormed}
 use Rattle.kilim_lemmas.proofs.Lists.{get_some}
 use Rattle.kilim_fits.specs.Fits.{Classes, ContentFits, FieldsFit, has_objects}
 use Rattle.kilim_fits.proofs.ClassMethods.{IsAmong}
-use Rattle.kilim_tree_kin.specs.Laws.{IsPlaced}
-use Rattle.kilim_tree_kin.proofs.NamedTypes.{array_is_named, class_is_named}
+use Rattle.kilim_kin.specs.trees.Laws.{IsPlaced}
+use Rattle.kilim_kin.proofs.trees.NamedTypes.{array_is_named, class_is_named}
 use Rattle.kilim_tree_types.specs.Laws.{AreNamedPlainly, ObjectsAreFormed}
 use Rattle.kilim_tree_types.proofs.Apart.{AreApart, fields_apart}
 

@@ -14,7 +14,7 @@ use Rattle.kilim_program.specs.Shapes.{shape_of}
 use Rattle.kilim_program.specs.Trees.{Root, is_allowed, is_root}
 use Rattle.kilim_thread_model.specs.Kept.{IsFormed}
 use Rattle.kilim_fits.specs.Fits.{Classes, HeapFits}
-use Rattle.kilim_tree_kin.specs.Laws.{IsPlain}
+use Rattle.kilim_kin.specs.trees.Laws.{IsPlain}
 
 -- No class's name is empty, or begins as an array's descriptor does.
 abbrev pub AreNamedPlainly : Program → Type 0

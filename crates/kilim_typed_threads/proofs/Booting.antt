@@ -36,7 +36,7 @@ use Rattle.kilim_fits.proofs.FromKeeps.{all_weaker, among_both, itself, own_body
 use Rattle.kilim_fits.proofs.Grounds.{facts_hold}
 use Rattle.kilim_fits.proofs.Grown.{beginnings_fit}
 use Rattle.kilim_fits.proofs.Through.{each_at}
-use Rattle.kilim_fine_threads.proofs.Natives.{first, object_name}
+use Rattle.kilim_typed_threads.proofs.fine.Natives.{first, object_name}
 use Rattle.kilim_typed_threads.proofs.Executing.{same_class}
 
 some_same : {A : Type 0} (x y : A) → Some x ≡ Some y → x ≡ y

@@ -28,7 +28,7 @@ use Rattle.kilim_fits.specs.Fits.{Classes, Fits, HeapFits, Typing, Verified, Wan
 use Rattle.kilim_fits.proofs.Grounds.{facts_hold}
 use Rattle.kilim_fits.proofs.Grown.{beginnings_fit}
 use Rattle.kilim_fits.proofs.ValueClasses.{type_is}
-use Rattle.kilim_fine_threads.proofs.Natives.{built_in_one, first, task_name}
+use Rattle.kilim_typed_threads.proofs.fine.Natives.{built_in_one, first, task_name}
 
 some_same : {A : Type 0} (x y : A) → Some x ≡ Some y → x ≡ y
 some_same x y e = cc

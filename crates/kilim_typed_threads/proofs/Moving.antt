@@ -47,8 +47,8 @@ use Rattle.kilim_fits.proofs.BuiltInMembers.{NamedAt, named_at}
 use Rattle.kilim_fits.proofs.Grounds.{facts_hold}
 use Rattle.kilim_fits.proofs.Grown.{all_answers_fit}
 use Rattle.kilim_fits.proofs.Theorem.{moves_fit}
-use Rattle.kilim_fine_threads.specs.Typed.{FitsAs, IsVerified, StackIsThere, TopIsThere, frames_of}
-use Rattle.kilim_fine_threads.proofs.Natives.{first, gives, native_gives}
+use Rattle.kilim_typed_threads.specs.fine.Typed.{FitsAs, IsVerified, StackIsThere, TopIsThere, frames_of}
+use Rattle.kilim_typed_threads.proofs.fine.Natives.{first, gives, native_gives}
 use Rattle.kilim_typed_threads.specs.Typed.{Further}
 use Rattle.kilim_typed_threads.specs.Law.{DeedsStayTyped, MovesStayTyped}
 use Rattle.kilim_typed_threads.proofs.Booting.{line_begins}

@@ -21,7 +21,7 @@ use Rattle.kilim_thread_model.specs.declared.deed.Beginning.{Beginning}
 use Rattle.kilim_thread_model.specs.declared.deed.Beginning.TheVariants.{Boot, Begun}
 use Rattle.kilim_thread_model.specs.declared.deed.Deed.{Deed}
 use Rattle.kilim_fits.specs.Fits.{Classes, Fits, HeapFits, Typing, Wanted}
-use Rattle.kilim_fine_threads.specs.Typed.{IsVerified}
+use Rattle.kilim_typed_threads.specs.fine.Typed.{IsVerified}
 use Rattle.kilim_typed_threads.specs.Typed.{Further, IsTyped, StacksAreThere}
 use Rattle.kilim_typed_threads.specs.Law.{BeginningsAreTyped, ThreadsAreTyped}
 use Rattle.kilim_typed_threads.proofs.Booting.{boot_begins, new_fits}

@@ -7,7 +7,7 @@ use Rattle.kilim_thread_model.specs.Lone.{Lone, Goes, next_move}
 use Rattle.kilim_thread_model.specs.Course.{Course, IsLone, Quiet, done_by, lone_begun}
 use Rattle.kilim_thread_model.specs.declared.deed.Beginning.{Beginning}
 use Rattle.kilim_thread_model.specs.declared.deed.Deed.{Deed}
-use Rattle.kilim_fine_threads.specs.Typed.{FitsAs, IsVerified, StackIsThere}
+use Rattle.kilim_typed_threads.specs.fine.Typed.{FitsAs, IsVerified, StackIsThere}
 use Rattle.kilim_typed_threads.specs.Typed.{Further, IsTyped, StacksAreThere}
 
 -- a move without an action

@@ -5,7 +5,7 @@ use Rattle.kilim_thread_model.specs.State.{Setting}
 use Rattle.kilim_thread_model.specs.Lone.{Lone}
 use Rattle.kilim_thread_model.specs.Course.{Course, IsLone, Quiet}
 use Rattle.std.specs.Prelude.{ℕ}
-use Rattle.kilim_fine_threads.specs.Typed.{FitsAs, StackIsThere}
+use Rattle.kilim_typed_threads.specs.fine.Typed.{FitsAs, StackIsThere}
 
 -- the thread fits, where no name lost its class, and new ones have one
 pub record Further (set : Setting) (typing : Typing) (live : Wanted) (of : Classes) (l : Lone) : Type 0 where

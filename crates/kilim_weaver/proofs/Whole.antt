@@ -11,7 +11,7 @@ use Rattle.kilim_typing.specs.Typed.{IsWellTyped}
 use Rattle.kilim_vtypes.specs.TypedProgram.{KeepsTyped, TypedProgram}
 use Rattle.kilim_isolation_check.specs.Faults.{IsAccepted}
 use Rattle.kilim_woven_form.specs.Form.{AllWoven, WovenForm, first_class, first_method}
-use Rattle.kilim_woven_kept.specs.Law.{WovenIsKept}
+use Rattle.kilim_woven_programs.specs.kept.Law.{WovenIsKept}
 use Rattle.kilim_woven_pauses.specs.Law.{PausesAreKept}
 use Rattle.kilim_woven_programs.specs.Law.{KeepsPauses, WovenProgramsAreTyped}
 use Rattle.kilim_weaver.specs.declared.fault.WeaveFault.{WeaveFault}

@@ -3,7 +3,7 @@ use Rattle.std.specs.Prelude.{◌≡◌, Some, None, Result, Ok, Err}
 use Rattle.kilim_classes.specs.Program.{Program}
 use Rattle.kilim_typing.specs.Typed.{IsWellTyped}
 use Rattle.kilim_woven_form.specs.Form.{WovenForm}
-use Rattle.kilim_woven_keeps.specs.Law.{NoneIsFull, NoneIsTooLong}
+use Rattle.kilim_woven_programs.specs.keeps.Law.{NoneIsFull, NoneIsTooLong}
 use Rattle.kilim_woven_programs.specs.Law.{EachIsShort, KeepsPauses}
 use Rattle.kilim_weaver.specs.declared.fault.WeaveFault.{WeaveFault}
 use Rattle.kilim_weaver.specs.declared.fault.WeaveFault.TheVariants.{TooLong, ArgumentsFull, Memory}

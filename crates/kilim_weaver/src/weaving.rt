@@ -16,7 +16,7 @@ use kilim_vtypes::Typed;
 use kilim_woven_each::{
     Methods, keeps_program, keeps_typed, typed_classes, typed_fields, woven_methods,
 };
-use kilim_woven_kept::woven_is_kept;
+use kilim_woven_programs::kept::woven_is_kept;
 use kilim_woven_pauses::pauses_are_kept;
 use kilim_woven_programs::woven_programs_are_typed;
 use std::alloc::Global;

@@ -2,14 +2,14 @@
 
 ghost use Rattle.std.specs.Prelude.{◌≤◌, IfOk};
 ghost use Rattle.kilim_exchange.specs.Seen.{MovedWhole};
-ghost use Rattle.kilim_named_fiber.specs.Named.{ServesNamed};
+ghost use Rattle.kilim_record_fiber.specs.named.Named.{ServesNamed};
 ghost use Rattle.kilim_thread_model.specs.State.{Setting};
 ghost use Rattle.kilim_worker_pool.specs.Pool.{IsOf};
 
 use kilim_boxed_fibers::Boxed;
 use kilim_classes::ClassId;
 use kilim_journal::Entry;
-use kilim_named_fiber::{Named, Woven};
+use kilim_record_fiber::named::{Named, Woven};
 use kilim_outside::Gate;
 use kilim_program::Limits;
 use kilim_units::NoMemory;

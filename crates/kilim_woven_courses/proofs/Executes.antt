@@ -26,7 +26,7 @@ use Rattle.kilim_fits.specs.Fits.{have_types}
 use Rattle.kilim_fits.specs.Sound.{argument_types}
 use Rattle.kilim_fits.proofs.Finding.{finds_chosen}
 use Rattle.kilim_fits.proofs.Grounds.{facts_hold}
-use Rattle.kilim_fine_threads.proofs.Natives.{built_in_one, first, task_name}
+use Rattle.kilim_typed_threads.proofs.fine.Natives.{built_in_one, first, task_name}
 use Rattle.kilim_thread_model.specs.State.{Setting}
 use Rattle.kilim_typed_threads.proofs.Executing.{IsExecute, same_class}
 use Rattle.kilim_typing.specs.Step.{class_vtype, vtype}

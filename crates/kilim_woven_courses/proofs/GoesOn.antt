@@ -14,8 +14,8 @@ use Rattle.kilim_thread_model.specs.Lone.{Lone, Next, next_move}
 use Rattle.kilim_thread_model.specs.Lone as next
 use Rattle.kilim_thread_model.specs.State.{Setting}
 use Rattle.kilim_thread_model.specs.declared.deed.Deed.{Deed}
-use Rattle.kilim_woven_lone.proofs.Steps.{steps}
-use Rattle.kilim_woven_lone.specs.Law.{IsActed, IsAt, IsBehind, IsDone, IsLast, IsNext, IsWanted, lone_at, wanted}
+use Rattle.kilim_woven_runs.proofs.lone.Steps.{steps}
+use Rattle.kilim_woven_runs.specs.lone.Law.{IsActed, IsAt, IsBehind, IsDone, IsLast, IsNext, IsWanted, lone_at, wanted}
 use Rattle.kilim_woven_runs.specs.Acts.{Action, Astray, Finished, Lost, Over, Wants}
 use Rattle.kilim_woven_runs.specs.Thread.{Run, Stop, Thread, step}
 use Rattle.kilim_woven_courses.specs.Law.{CoursesGoOn, IsOfCourse}

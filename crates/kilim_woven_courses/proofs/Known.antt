@@ -19,9 +19,9 @@ use Rattle.kilim_classes.specs.Keeps.{has_base}
 use Rattle.kilim_classes.specs.Lengths.{fetched, first_place}
 use Rattle.kilim_classes.specs.Names.{class_at, method_at}
 use Rattle.kilim_classes.specs.Program.{Program}
-use Rattle.kilim_fine_threads.proofs.Fine.{fitting_is_fine}
-use Rattle.kilim_fine_threads.proofs.Shown.{no_fiber_class}
-use Rattle.kilim_fine_threads.specs.Typed.{IsVerified, TopIsThere, frames_of}
+use Rattle.kilim_typed_threads.proofs.fine.Fine.{fitting_is_fine}
+use Rattle.kilim_typed_threads.proofs.fine.Shown.{no_fiber_class}
+use Rattle.kilim_typed_threads.specs.fine.Typed.{IsVerified, TopIsThere, frames_of}
 use Rattle.kilim_fits.proofs.Grounds.{facts_hold}
 use Rattle.kilim_fits.proofs.Narrowed.{narrows}
 use Rattle.kilim_fits.proofs.Table.{table_fits}
@@ -49,7 +49,7 @@ use Rattle.kilim_woven_courses.proofs.Roomy.{gives_of, low_of, room_of}
 use Rattle.kilim_woven_courses.proofs.Executes.{executes, has_execute, takes_object}
 use Rattle.kilim_woven_courses.proofs.Few.{few_on}
 use Rattle.kilim_woven_courses.specs.Law.{HasFew, IsOfCourse, Rest}
-use Rattle.kilim_woven_lone.specs.Law.{lone_at}
+use Rattle.kilim_woven_runs.specs.lone.Law.{lone_at}
 use Rattle.kilim_woven_runs.specs.Acts.{Lost, World, asks, with_heap}
 use Rattle.kilim_woven_runs.specs.Links.{Forms}
 use Rattle.kilim_woven_runs.specs.Rows.{Clean, Receives, OldHeap, is_old_base}

@@ -15,9 +15,9 @@ use Rattle.kilim_classes.specs.Names.{method_at}
 use Rattle.kilim_classes.specs.Program.{Program}
 use Rattle.kilim_fiber_kin.specs.Mine.{all_mine}
 use Rattle.kilim_fiber_kin.specs.Served.{IsFineThread, ResultFits}
-use Rattle.kilim_fine_threads.proofs.Fine.{fitting_is_fine}
-use Rattle.kilim_fine_threads.proofs.Heights.{low_stack, some_size}
-use Rattle.kilim_fine_threads.specs.Typed.{FitsAs, IsVerified}
+use Rattle.kilim_typed_threads.proofs.fine.Fine.{fitting_is_fine}
+use Rattle.kilim_typed_threads.proofs.fine.Heights.{low_stack, some_size}
+use Rattle.kilim_typed_threads.specs.fine.Typed.{FitsAs, IsVerified}
 use Rattle.kilim_fits.specs.Fits.{AreThere, Classes, IsThere, Typing, Wanted, has_type, have_types}
 use Rattle.kilim_jvm_interp.specs.Step.{FitsStack, limit_in, stack_limit}
 use Rattle.kilim_kin.proofs.Rows.{rows_kin}
@@ -38,7 +38,7 @@ use Rattle.kilim_thread_model.specs.Reach.{Liveness, Names, OptionNames, SomeNam
 use Rattle.kilim_thread_model.specs.State.{Alive, Setting}
 use Rattle.kilim_typing.specs.Step.{words}
 use Rattle.kilim_typing.specs.Typed.{WellTypedBy}
-use Rattle.kilim_woven_lone.specs.Law.{lone_at, lone_frames}
+use Rattle.kilim_woven_runs.specs.lone.Law.{lone_at, lone_frames}
 use Rattle.kilim_woven_runs.specs.Acts.{World}
 use Rattle.kilim_woven_runs.specs.Fibers.{frame}
 use Rattle.kilim_woven_runs.specs.Rooms.{GivesWhole, HasRoom, ResultHasRoom, bare_frames}

@@ -5,7 +5,7 @@ use Rattle.kilim_classes.specs.declared.instr.Instr.{Instr}
 use Rattle.kilim_classes.specs.declared.names.MethodId.{MethodId}
 use Rattle.kilim_classes.specs.declared.value.Value.{Value}
 use Rattle.kilim_classes.specs.Program.{Program}
-use Rattle.kilim_fine_threads.specs.Typed.{IsVerified}
+use Rattle.kilim_typed_threads.specs.fine.Typed.{IsVerified}
 use Rattle.kilim_fits.specs.Fits.{Typing, Wanted}
 use Rattle.kilim_program.specs.Does.{does}
 use Rattle.kilim_program.specs.Effect.{Asks}
@@ -18,7 +18,7 @@ use Rattle.kilim_thread_model.specs.Lone.{Lone}
 use Rattle.kilim_thread_model.specs.Reach.{Liveness}
 use Rattle.kilim_thread_model.specs.State.{Setting, is_fit}
 use Rattle.kilim_woven_form.specs.Woven.{pausable_callee}
-use Rattle.kilim_woven_lone.specs.Law.{lone_at}
+use Rattle.kilim_woven_runs.specs.lone.Law.{lone_at}
 use Rattle.kilim_woven_runs.specs.Acts.{Lost, World, asks, with_heap}
 use Rattle.kilim_woven_runs.specs.Links.{AllStand, AreReady, Forms, Leaf, Link, Lk, u_frames}
 use Rattle.kilim_woven_runs.specs.Serves.{From, Known, SelvesAreThere, is_leaf, leaf_receiver}

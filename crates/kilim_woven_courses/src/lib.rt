@@ -1,6 +1,8 @@
 //! The thread beside the woven machine is a thread of a course, and what is known of it then: laws, and no code that does work.
 #![tactic(auto)]
 
+pub mod answers;
+
 ghost use Rattle.kilim_woven_courses.specs.Law.{CoursesBegin, CoursesGoOn, KnownOfCourses};
 
 /// A law, and no work: where a task begins with a frame, the thread is that of a course without deeds.

@@ -17,7 +17,7 @@ use Rattle.kilim_vtypes.specs.TypedProgram.{KeepsTyped, TypedProgram}
 use Rattle.kilim_woven_code.specs.Listed.{Listed}
 use Rattle.kilim_woven_form.specs.Form.{IsWoven, has_calls, plan_of, woven_as}
 use Rattle.kilim_woven_form.specs.Weight.{calls_in}
-use Rattle.kilim_woven_labels.specs.Law.{LabelsAreFound}
+use Rattle.kilim_woven_program.specs.labels.Law.{LabelsAreFound}
 use Rattle.kilim_woven_program.specs.Made.{made_as, method_plan}
 
 -- ---- woven forms

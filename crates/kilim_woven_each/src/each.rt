@@ -12,7 +12,7 @@ use kilim_classes::{Frame, Method, MethodId, Program};
 use kilim_liveness::live;
 use kilim_lookups::code_rises;
 use kilim_units::{NoMemory, Seq};
-use kilim_woven_labels::labels_are_found;
+use kilim_woven_program::labels::labels_are_found;
 use kilim_woven_method::{copy_method, woven};
 use std::alloc::Global;
 

@@ -9,7 +9,7 @@ use Rattle.kilim_attribute_parts.specs.declared.annotation.AnnotationPart.TheVar
 use Rattle.kilim_attribute_parts.specs.Choices.{Sentence}
 use Rattle.kilim_attribute_parts.specs.Annotations.{asks, asked, PartFits, PartsFit}
 use Rattle.kilim_link_spec.specs.Annotations.{outermost, types_before, lists_of, params_in}
-use Rattle.kilim_woven_file_form.specs.WovenFile.{one_parameter_more}
+use Rattle.kilim_woven_file_laws.specs.form.WovenFile.{one_parameter_more}
 
 sentence_more : (pool : List Entry) (kinds : List PartKind) (parts : List AnnotationPart) → Sentence (PartFits pool) asks kinds parts → Sentence (PartFits pool) asks (kinds ++ AnnotationList ∷ []) (parts ++ Annotations 0 ∷ [])
 sentence_more pool [] [] h = (omega arith, tt)

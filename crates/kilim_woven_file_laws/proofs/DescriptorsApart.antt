@@ -8,7 +8,7 @@ use Rattle.kilim_descriptors.specs.Text.{method_text as text_of_method, MethodFi
 use Rattle.kilim_descriptors.specs.Reading.{whole_method}
 use Rattle.kilim_descriptors.proofs.Spelled.{TakesAll}
 use Rattle.kilim_descriptors.proofs.SpelledMethods.{method_takes, method_again}
-use Rattle.kilim_woven_file_form.specs.Texts.{fiber_text, with_fiber, fiber_added, woven_descriptor}
+use Rattle.kilim_woven_file_laws.specs.form.Texts.{fiber_text, with_fiber, fiber_added, woven_descriptor}
 use Rattle.kilim_woven_file_laws.specs.Descriptors.{IsPlain, DescriptorsApart}
 
 abbrev Read : Type 0

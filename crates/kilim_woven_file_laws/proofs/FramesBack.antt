@@ -10,7 +10,7 @@ use Rattle.kilim_link_spec.specs.World.{World}
 use Rattle.kilim_link_spec.specs.Types.{type_named, named_by, each_of, itself, with_first}
 use Rattle.kilim_link_spec.specs.Code.{applied}
 use Rattle.kilim_link_spec.specs.Frames.{slot_in, local_slots, frame_with, frame_of, frames_from, place_after}
-use Rattle.kilim_woven_file_form.specs.FullFrames.{slot_type, entries, full_frames}
+use Rattle.kilim_woven_file_laws.specs.form.FullFrames.{slot_type, entries, full_frames}
 use Rattle.kilim_woven_file_laws.specs.Standing.{TypeIsFound, TypesAreFound, Halved, FrameFound, Increase}
 
 -- ---- what a frame is

@@ -27,11 +27,11 @@ use Rattle.kilim_link_spec.specs.Code.{row, applied, plain_instrs, local_instrs,
 use Rattle.kilim_pool_needs.specs.declared.need.Need.{Need}
 use Rattle.kilim_pool_needs.specs.declared.need.Need.TheVariants.{AText, AClass, AMethod, ACall}
 use Rattle.kilim_pool_needs.specs.Adding.{index_of}
-use Rattle.kilim_woven_pool_laws.specs.Pools.{Names, SameOperands}
+use Rattle.kilim_woven_file_laws.specs.pool.Pools.{Names, SameOperands}
 use Rattle.kilim_woven_file_laws.specs.Members.{pausing}
 use Rattle.kilim_woven_form.specs.Woven.{moved_instr, moved_pairs}
-use Rattle.kilim_woven_file_form.specs.Texts.{woven_descriptor, needed_method}
-use Rattle.kilim_woven_file_form.specs.Raw.{pauses, is_pausable_call, local_form, shortest, target_of, moved_raw, old_need, call_need, call_by, index_or, switched, place_number, pair_number, added_raw, raw_code}
+use Rattle.kilim_woven_file_laws.specs.form.Texts.{woven_descriptor, needed_method}
+use Rattle.kilim_woven_file_laws.specs.form.Raw.{pauses, is_pausable_call, local_form, shortest, target_of, moved_raw, old_need, call_need, call_by, index_or, switched, place_number, pair_number, added_raw, raw_code}
 use Rattle.kilim_woven_file_laws.specs.Resolving.{WorldsAgree, IsFound}
 use Rattle.kilim_pool_needs.proofs.Searching.{some_same, none_is_some}
 use Rattle.kilim_woven_file_laws.proofs.Resolved.{Calls, row_all, a_call, call_again, old_operand}

@@ -8,3 +8,5 @@ pub mod Parts
 pub mod Annotated
 pub mod Sizes
 pub mod Texts
+pub mod form
+pub mod pool

@@ -13,8 +13,8 @@ use Rattle.kilim_link_spec.specs.World.{World}
 use Rattle.kilim_link_spec.specs.Types.{class_named_by, type_named}
 use Rattle.kilim_link_spec.specs.Code.{row, applied, method_instrs, type_instrs, field_instrs, instr_with, method_found}
 use Rattle.kilim_woven_file_laws.specs.Members.{pausing}
-use Rattle.kilim_woven_file_form.specs.Texts.{woven_descriptor}
-use Rattle.kilim_woven_file_form.specs.Raw.{pauses}
+use Rattle.kilim_woven_file_laws.specs.form.Texts.{woven_descriptor}
+use Rattle.kilim_woven_file_laws.specs.form.Raw.{pauses}
 use Rattle.kilim_woven_file_laws.specs.Resolving.{WorldsAgree}
 use Rattle.kilim_pool_needs.proofs.Searching.{some_same, none_is_some}
 use Rattle.kilim_woven_file_laws.specs.Standing.{CallsNone}

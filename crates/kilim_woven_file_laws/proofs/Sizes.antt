@@ -4,7 +4,7 @@ use Rattle.kilim_opcodes.specs.declared.forms.OpForm.TheVariants as form
 use Rattle.kilim_opcodes.specs.declared.instr.RawInstr.TheVariants as raw
 use Rattle.kilim_opcodes.specs.Table.{form_of, rows}
 use Rattle.kilim_opcodes.specs.Instr.{instr_len, InstrFits, HasForm}
-use Rattle.kilim_woven_file_form.specs.Raw.{local_form}
+use Rattle.kilim_woven_file_laws.specs.form.Raw.{local_form}
 
 -- as the woven form says it
 abbrev pub local_size : ℕ → ℕ

@@ -3,7 +3,7 @@ use Rattle.std.specs.Prelude.{◌≡◌, ◌≢◌, ℕ, List, Ok}
 use Rattle.std.specs.List.{AllByRecursion}
 use Rattle.kilim_descriptors.specs.declared.types.MethodText.{MethodText}
 use Rattle.kilim_descriptors.specs.Reading.{whole_method}
-use Rattle.kilim_woven_file_form.specs.Texts.{fiber_text, woven_descriptor}
+use Rattle.kilim_woven_file_laws.specs.form.Texts.{fiber_text, woven_descriptor}
 use Rattle.kilim_woven_file_laws.specs.Members.{Apart}
 
 -- a descriptor of which no parameter is the fiber

@@ -19,11 +19,11 @@ use Rattle.kilim_link_spec.specs.Frames.{frames_from}
 use Rattle.kilim_link_spec.specs.Linked.{linked_method}
 use Rattle.kilim_link_spec.specs.Types.{each_of, itself}
 use Rattle.kilim_link_spec.specs.World.{World, first_found, method_in}
-use Rattle.kilim_woven_file_form.specs.FullFrames.{full_frames}
-use Rattle.kilim_woven_file_form.specs.Raw.{raw_code}
-use Rattle.kilim_woven_file_form.specs.Texts.{woven_descriptor}
-use Rattle.kilim_woven_file_form.specs.WovenFile.{MethodPair, one_parameter_more, rewritten}
-use Rattle.kilim_woven_pool_laws.specs.Pools.{SameOperands}
+use Rattle.kilim_woven_file_laws.specs.form.FullFrames.{full_frames}
+use Rattle.kilim_woven_file_laws.specs.form.Raw.{raw_code}
+use Rattle.kilim_woven_file_laws.specs.form.Texts.{woven_descriptor}
+use Rattle.kilim_woven_file_laws.specs.form.WovenFile.{MethodPair, one_parameter_more, rewritten}
+use Rattle.kilim_woven_file_laws.specs.pool.Pools.{SameOperands}
 use Rattle.kilim_woven_file_laws.specs.Descriptors.{IsPlain}
 use Rattle.kilim_woven_file_laws.specs.Members.{FoundPauses, SameClass, pausing}
 use Rattle.kilim_woven_file_laws.specs.Resolving.{WorldsAgree}

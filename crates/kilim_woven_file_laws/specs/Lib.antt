@@ -3,3 +3,5 @@ pub mod Descriptors
 pub mod Resolving
 pub mod Standing
 pub mod Laws
+pub mod form
+pub mod pool

@@ -13,8 +13,8 @@ use Rattle.kilim_link_spec.specs.Code.{field_found, method_found}
 use Rattle.kilim_pool_needs.specs.declared.need.Need.{Need}
 use Rattle.kilim_pool_needs.specs.declared.need.Need.TheVariants.{AMethod}
 use Rattle.kilim_woven_file_laws.specs.Members.{pausing}
-use Rattle.kilim_woven_file_form.specs.Texts.{woven_descriptor}
-use Rattle.kilim_woven_file_form.specs.Raw.{pauses}
+use Rattle.kilim_woven_file_laws.specs.form.Texts.{woven_descriptor}
+use Rattle.kilim_woven_file_laws.specs.form.Raw.{pauses}
 
 -- what the plain world finds, the woven one finds, a method that pauses with the fiber
 pub record WorldsAgree (w : Program) (u v : World) : Type 0 where

@@ -26,15 +26,15 @@ use Rattle.kilim_link_spec.specs.declared.fault.MemberOf.{MemberOf as MemberRef}
 use Rattle.kilim_link_spec.specs.declared.named.Body.{Body}
 use Rattle.kilim_opcodes.specs.declared.instr.RawInstr.{RawInstr}
 use Rattle.kilim_pool_needs.specs.Adding.{index_of, text_index}
-use Rattle.kilim_woven_file_form.specs.Raw.{call_need, old_need, pauses, raw_code}
-use Rattle.kilim_woven_file_form.specs.Texts.{fiber_text, needed_method, type_name, woven_descriptor}
-use Rattle.kilim_woven_file_form.specs.WovenFile.{MethodPair, has_calls, rewritten, woven_bytes}
+use Rattle.kilim_woven_file_laws.specs.form.Raw.{call_need, old_need, pauses, raw_code}
+use Rattle.kilim_woven_file_laws.specs.form.Texts.{fiber_text, needed_method, type_name, woven_descriptor}
+use Rattle.kilim_woven_file_laws.specs.form.WovenFile.{MethodPair, has_calls, rewritten, woven_bytes}
 use Rattle.kilim_pool_needs.specs.declared.need.Need.{Need}
 use Rattle.kilim_pool_needs.specs.declared.need.Need.TheVariants.{ACall, AClass}
 use Rattle.kilim_woven_file_laws.specs.Descriptors.{IsPlain}
 use Rattle.kilim_woven_file_laws.specs.Resolving.{IsFound, WorldsAgree}
 use Rattle.kilim_woven_form.specs.Woven.{moved_instr}
-use Rattle.kilim_woven_pool_laws.specs.Pools.{Names, SameOperands}
+use Rattle.kilim_woven_file_laws.specs.pool.Pools.{Names, SameOperands}
 use Rattle.std.specs.List.{AllByRecursion}
 use Rattle.kilim_opcodes.specs.declared.instr.RawInstr.TheVariants as raw
 

@@ -1,6 +1,9 @@
 //! A woven class file is read back to the woven program: laws, and no code that does work.
 #![tactic(auto)]
 
+pub mod form;
+pub mod pool;
+
 ghost use Rattle.kilim_woven_file_laws.specs.Descriptors.{DescriptorsApart};
 ghost use Rattle.kilim_woven_file_laws.specs.Laws.{CodeIsReadBack, FramesAreReadBack, MethodsLinkAgain, ParametersAreMore, PlainMethodsAreFound};
 

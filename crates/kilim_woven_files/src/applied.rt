@@ -4,8 +4,8 @@ ghost use Rattle.std.specs.Prelude.{◌≡◌, ◌≤◌, length, take, drop, No
 ghost use Rattle.std.specs.List.{AllByRecursion};
 ghost use Rattle.kilim_classfile.specs.Text.{ClassFits};
 ghost use Rattle.kilim_stages.specs.Parts.{IfReport};
-ghost use Rattle.kilim_woven_file_form.specs.Sizes.{longest_text};
-ghost use Rattle.kilim_woven_file_form.specs.WovenFile.{pairs_of, woven_file};
+ghost use Rattle.kilim_woven_file_laws.specs.form.Sizes.{longest_text};
+ghost use Rattle.kilim_woven_file_laws.specs.form.WovenFile.{pairs_of, woven_file};
 ghost use Rattle.kilim_woven_files.specs.Parts.{IsRefusedFor, IsSizeReportIn};
 ghost use Rattle.kilim_woven_files.specs.Sizes.{first_size_fault, size_fault};
 ghost use Rattle.kilim_woven_files.specs.WovenFiles.{woven_of};

@@ -21,10 +21,10 @@ use Rattle.kilim_thread_model.specs.Course.{Course, IsLone, Quiet, next_action}
 use Rattle.kilim_thread_model.specs.Lone.{Lone, Next, arg_at, arg_next, asks_next, begins_next, box_limit, finish_next, frames_next, message_next, native_next, next_by, next_move, on_heap, opens_next, over, print_next, printed, put_next, start_next, thread_next, went}
 use Rattle.kilim_thread_model.specs.Lone as thread
 use Rattle.kilim_thread_model.specs.State.{Alive, Ended, Setting, Thread, begun_on}
-use Rattle.kilim_woven_lone.specs.Law.{wanted}
+use Rattle.kilim_woven_runs.specs.lone.Law.{wanted}
 use Rattle.kilim_woven_runs.specs.Acts.{Action, World}
 use Rattle.kilim_woven_runs.specs.Acts as action
-use Rattle.kilim_woven_states.specs.Law.{StandsBefore, done_of}
+use Rattle.kilim_woven_receivers.specs.states.Law.{StandsBefore, done_of}
 
 -- ---- a take gives no name away before the message comes
 

@@ -31,7 +31,7 @@ use Rattle.kilim_thread_model.specs.declared.deed.Beginning.TheVariants.{Boot, B
 use Rattle.kilim_thread_model.specs.Lone.{Lone, ended, next_move, over}
 use Rattle.kilim_thread_model.specs.Lone as thread
 use Rattle.kilim_thread_model.specs.State.{Alive, Setting, begun_in, begun_on, class_of}
-use Rattle.kilim_tree_heaps.proofs.Heaps.{get_new}
+use Rattle.kilim_standing_threads.proofs.heaps.Heaps.{get_new}
 use Rattle.kilim_tree_move.specs.Moved.{PutIn}
 use Rattle.kilim_typed_threads.proofs.Read.{built_is}
 use Rattle.kilim_woven_follows.specs.Fibers.{IsFiberOf}
@@ -41,14 +41,14 @@ use Rattle.kilim_woven_kin.proofs.Trees.{came}
 use Rattle.kilim_woven_kin.specs.Alike.{Like}
 use Rattle.kilim_woven_kin.specs.Nexts.{begun_in as woven_begun_in, begun_with}
 use Rattle.kilim_woven_kin.specs.Standing.{Standing}
-use Rattle.kilim_woven_ready.proofs.Executes.{execute_same}
+use Rattle.kilim_woven_served.proofs.ready.Executes.{execute_same}
 use Rattle.kilim_woven_receivers.proofs.Begins.{root_task, task_class}
 use Rattle.kilim_woven_runs.specs.Acts.{ending, spending}
 use Rattle.kilim_woven_runs.specs.Fibers.{WStop, executes_on, new_fiber, wstarted, wstarted_in, enter}
 use Rattle.kilim_woven_served.proofs.Constructors.{constructor_is_same}
 use Rattle.kilim_woven_served.specs.Served.{constructing_in}
-use Rattle.kilim_woven_shares.proofs.Names.{Twin, twin}
-use Rattle.kilim_woven_states.specs.Law.{world_at}
+use Rattle.kilim_woven_stands.proofs.shares.Names.{Twin, twin}
+use Rattle.kilim_woven_receivers.specs.states.Law.{world_at}
 
 -- ---- with its first frame
 

@@ -27,7 +27,7 @@ use Rattle.kilim_woven_follows.specs.Fibers.{Holds, IsFiberOf, IsReached}
 use Rattle.kilim_woven_follows.specs.Laws.{NextFollows}
 use Rattle.kilim_woven_follows.specs.Nexts.{CanGiveAway, CanReceive, NextIs}
 use Rattle.kilim_woven_follows.specs.Served.{CanServe}
-use Rattle.kilim_woven_history.specs.History.{ComesTo, Follows, GoesOn, GoesOnWith, Reaches, took, world_of}
+use Rattle.kilim_woven_kin.specs.history.History.{ComesTo, Follows, GoesOn, GoesOnWith, Reaches, took, world_of}
 use Rattle.kilim_woven_kin.proofs.Trees.{came, left, sound}
 use Rattle.kilim_woven_kin.specs.Alike.{Giving, Like, NextLike}
 use Rattle.kilim_woven_kin.specs.Laws.{tree_came, tree_left}
@@ -37,8 +37,8 @@ use Rattle.kilim_woven_runs.specs.Acts.{Action}
 use Rattle.kilim_woven_runs.specs.Acts as action
 use Rattle.kilim_woven_runs.specs.Fibers.{Woven_state}
 use Rattle.kilim_woven_runs.specs.Rooms.{IsWholeAt}
-use Rattle.kilim_woven_states.proofs.Along.{acts_on}
-use Rattle.kilim_woven_states.specs.Law.{StandsBefore}
+use Rattle.kilim_woven_receivers.proofs.states.Along.{acts_on}
+use Rattle.kilim_woven_receivers.specs.states.Law.{StandsBefore}
 
 -- null on top of both stacks
 null_like : (a g : Standing) → Like a g → Like (with_result (Some Null) a) (with_result (Some Null) g)

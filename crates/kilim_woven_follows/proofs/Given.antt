@@ -22,7 +22,7 @@ use Rattle.kilim_thread_model.specs.Kept.{given}
 use Rattle.kilim_thread_model.specs.Lone.{arg_at, box_limit, printed}
 use Rattle.kilim_thread_model.specs.State.{Setting}
 use Rattle.kilim_woven_follows.proofs.Reached.{GivesObjects, moves_give}
-use Rattle.kilim_woven_history.specs.History.{state_in}
+use Rattle.kilim_woven_kin.specs.history.History.{state_in}
 use Rattle.kilim_woven_kin.specs.Nexts.{Next, Goes, Puts, Starts, Rests, Ends, Stands, arg_next, asks_next, begins_next, begun_with, found_next, finish_next, get_next, message_next, native_next, next_by, next_in, next_of, opens_next, print_next, put_next, resumes_next, spent_or, start_next, stood, ticked, yield_next}
 use Rattle.kilim_woven_kin.specs.Standing.{Standing}
 use Rattle.kilim_woven_runs.specs.Acts.{World}

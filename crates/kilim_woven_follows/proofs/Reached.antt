@@ -26,8 +26,8 @@ use Rattle.kilim_thread_model.specs.Kept.{given}
 use Rattle.kilim_thread_model.specs.State.{Setting}
 use Rattle.kilim_woven_follows.specs.Fibers.{IsReached}
 use Rattle.kilim_woven_follows.specs.Served.{CanServe}
-use Rattle.kilim_woven_history.proofs.Onward.{history_goes_on}
-use Rattle.kilim_woven_history.specs.History.{Follows, state_in, state_of, world_of}
+use Rattle.kilim_woven_kin.proofs.history.Onward.{history_goes_on}
+use Rattle.kilim_woven_kin.specs.history.History.{Follows, state_in, state_of, world_of}
 use Rattle.kilim_woven_kin.proofs.Following.{next_kin}
 use Rattle.kilim_woven_kin.specs.Alike.{HasFree, IsWhole, Like, NextLike}
 use Rattle.kilim_woven_kin.specs.Alike as kin
@@ -37,8 +37,8 @@ use Rattle.kilim_woven_receivers.proofs.Heaps.{KeepsHeap, keeps_heap}
 use Rattle.kilim_woven_runs.specs.Fibers.{Woven_state, wsteps}
 use Rattle.kilim_woven_runs.specs.Rooms.{GivesWhole, IsFineState, IsWholeAt}
 use Rattle.kilim_woven_served.specs.Served.{ServesCourse, first_fiber}
-use Rattle.kilim_woven_states.proofs.Along.{append_none}
-use Rattle.kilim_woven_states.specs.Law.{acts_of, first_thread, world_at}
+use Rattle.kilim_woven_receivers.proofs.states.Along.{append_none}
+use Rattle.kilim_woven_receivers.specs.states.Law.{acts_of, first_thread, world_at}
 
 -- ---- what stands on a stack
 

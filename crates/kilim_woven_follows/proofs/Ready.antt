@@ -41,7 +41,7 @@ use Rattle.kilim_woven_follows.specs.Fibers.{IsFiberOf, IsReached}
 use Rattle.kilim_woven_follows.specs.Laws.{FibersAreReady, RestsOnObject}
 use Rattle.kilim_woven_follows.specs.Ready.{HasRoom, IsObject, IsReady, ResultFits, may_give}
 use Rattle.kilim_woven_follows.specs.Served.{CanServe}
-use Rattle.kilim_woven_history.specs.History.{Follows, state_in, world_of}
+use Rattle.kilim_woven_kin.specs.history.History.{Follows, state_in, world_of}
 use Rattle.kilim_woven_kin.proofs.Records.{receiver_kin}
 use Rattle.kilim_woven_kin.specs.Alike.{Like}
 use Rattle.kilim_woven_kin.specs.Nexts.{Next, next_in, next_of, resumes_next}

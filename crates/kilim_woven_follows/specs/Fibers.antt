@@ -4,11 +4,11 @@ use Rattle.kilim_classes.specs.Program.{Program}
 use Rattle.kilim_thread_model.specs.Course.{Course, IsLone, lone_begun}
 use Rattle.kilim_thread_model.specs.Lone.{Lone}
 use Rattle.kilim_thread_model.specs.State.{Setting}
-use Rattle.kilim_woven_history.specs.History.{Reaches}
+use Rattle.kilim_woven_kin.specs.history.History.{Reaches}
 use Rattle.kilim_woven_kin.specs.Alike.{Like}
 use Rattle.kilim_woven_kin.specs.Standing.{Standing}
 use Rattle.kilim_woven_served.specs.Served.{first_fiber}
-use Rattle.kilim_woven_states.specs.Law.{acts_of, world_at}
+use Rattle.kilim_woven_receivers.specs.states.Law.{acts_of, world_at}
 
 -- A fiber of task t that begins as the course does comes to stand so by the deeds of the course: for all deeds and pauses that may still be to come
 -- there are pauses on its way with which it does. Its names are never used again.

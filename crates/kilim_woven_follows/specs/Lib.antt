@@ -3,3 +3,4 @@ pub mod Fibers
 pub mod Nexts
 pub mod Ready
 pub mod Laws
+pub mod unwinds

@@ -18,7 +18,7 @@ use Rattle.kilim_thread_model.specs.Moving.{further}
 use Rattle.kilim_thread_model.specs.State.{Setting}
 use Rattle.kilim_tree_move.specs.Moved.{PutIn, TakenOut}
 use Rattle.kilim_woven_follows.specs.Fibers.{Holds, IsFiberOf}
-use Rattle.kilim_woven_history.specs.History.{took}
+use Rattle.kilim_woven_kin.specs.history.History.{took}
 use Rattle.kilim_woven_kin.specs.Nexts.{Next, Goes, Puts, Gets, Probes, Starts, Prints, Rests, Ends, Stands, with_result}
 use Rattle.kilim_woven_kin.specs.Standing.{Standing}
 

@@ -1,6 +1,8 @@
 //! A woven fiber does what the thread of its course does: laws, and no code that does work.
 #![tactic(auto)]
 
+pub mod unwinds;
+
 ghost use Rattle.kilim_woven_follows.specs.Laws.{FibersAreReady, FirstBegins, NextFollows, RestsOnObject, TasksBegin, TasksEnd};
 
 /// A law, and no work: what a fiber does next is what the thread of its course does next.

@@ -3,3 +3,4 @@ pub mod Weight
 pub mod Form
 pub mod Samples
 pub mod Examples
+pub mod shape

@@ -4,6 +4,8 @@
 //! `specs/Weight.antt` how long woven code may be. `specs/Samples.antt` and `specs/Examples.antt` have two small programs, woven.
 #![tactic(auto)]
 
+pub mod shape;
+
 ghost use Rattle.kilim_woven_form.specs.Examples.{ExamplesHold};
 
 /// A law, and no work: the examples of `specs/Examples.antt`.

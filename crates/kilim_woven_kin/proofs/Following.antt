@@ -31,8 +31,8 @@ use Rattle.kilim_kin.proofs.Kins.{kin_entered, kin_push, kin_result, frames_up, 
 use Rattle.kilim_kin.proofs.Renamed.{renamed, number_of, are_is}
 use Rattle.kilim_kin.proofs.Rows.{rows_kin}
 use Rattle.kilim_kin.proofs.Moving.{moves_kin}
-use Rattle.kilim_tree_kin.specs.TreeKin.{IsWholeTree}
-use Rattle.kilim_tree_kin.proofs.Shaped.{shape_kin}
+use Rattle.kilim_kin.specs.trees.TreeKin.{IsWholeTree}
+use Rattle.kilim_kin.proofs.trees.Shaped.{shape_kin}
 use Rattle.kilim_one_heap.proofs.Nexts.{printed_same}
 use Rattle.kilim_fiber_kin.specs.Mine.{all_mine}
 use Rattle.kilim_fiber_kin.specs.Acts.{is_making}

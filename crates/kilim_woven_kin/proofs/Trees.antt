@@ -20,7 +20,7 @@ use Rattle.kilim_fiber_kin.specs.Acts as acts
 use Rattle.kilim_fiber_kin.proofs.Left.{left_like}
 use Rattle.kilim_fiber_kin.proofs.Leaving.{out_sound}
 use Rattle.kilim_fiber_kin.proofs.Came.{received_like}
-use Rattle.kilim_tree_kin.proofs.Shaped.{shape_kin}
+use Rattle.kilim_kin.proofs.trees.Shaped.{shape_kin}
 use Rattle.kilim_woven_runs.specs.Fibers.{Fib, Fiber_at, Rec, Saved}
 use Rattle.kilim_woven_kin.specs.Standing.{Standing}
 use Rattle.kilim_woven_kin.specs.Alike.{RecordKin, RecordsKin, FibersKin, IsLike, Like, Giving}

@@ -14,7 +14,7 @@ use Rattle.kilim_program.specs.Trees.{Root, OfMessage, OfTask}
 use Rattle.kilim_thread_model.specs.Kept.{given}
 use Rattle.kilim_thread_model.specs.State.{Setting}
 use Rattle.kilim_kin.specs.Kin.{Names, IsKin, AreKin, FramesKin, NameKin, Alike, AreHeld, IsThere}
-use Rattle.kilim_tree_kin.specs.TreeKin.{IsWholeTree}
+use Rattle.kilim_kin.specs.trees.TreeKin.{IsWholeTree}
 use Rattle.kilim_fiber_kin.specs.Mine.{all_mine}
 use Rattle.kilim_fiber_kin.specs.Acts.{is_making}
 use Rattle.kilim_woven_runs.specs.Fibers.{Fib, Fiber_at, Rec, Saved, is_rewinding, wfetch}

@@ -2,6 +2,8 @@
 //! about them, which no program calls to do work.
 #![tactic(auto)]
 
+pub mod history;
+
 ghost use Rattle.kilim_woven_kin.specs.Laws.{FineAlike, NextsAlike, TreesCome, TreesLeave};
 
 /// A law, and no work: what a fiber does next is what the woven machine's does next.

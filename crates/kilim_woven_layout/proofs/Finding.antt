@@ -4,8 +4,8 @@ use Rattle.std.specs.Prelude.{◌==◌, if◌then◌else◌}
 use Rattle.kilim_woven_form.specs.Woven.{Does, Item, Label, Mark, Old, Plan, Resumes, behind}
 use Rattle.kilim_classes.specs.declared.instr.Instr.{Instr}
 use Rattle.kilim_classes.specs.declared.verified.Frame.{Frame}
-use Rattle.kilim_woven_labels.specs.Law.{found, same_label}
-use Rattle.kilim_woven_shape.specs.Law.{labels_from}
+use Rattle.kilim_woven_program.specs.labels.Law.{found, same_label}
+use Rattle.kilim_woven_form.specs.shape.Law.{labels_from}
 use Rattle.kilim_woven_code.specs.Places.{Tables, or_else}
 use Rattle.kilim_woven_layout.specs.Found.{AreFound, Finds, first_place_of, looked, or_first}
 

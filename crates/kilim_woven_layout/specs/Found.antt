@@ -1,8 +1,8 @@
 -- The places of labels, by tables.
 use Rattle.std.specs.Prelude.{◌≡◌, ℕ, Bool, ◌==◌, if◌then◌else◌, List, [], ◌∷◌, Option, Some, None, get_or}
 use Rattle.kilim_woven_form.specs.Woven.{Item, Label, Old, Resumes, behind}
-use Rattle.kilim_woven_labels.specs.Law.{same_label}
-use Rattle.kilim_woven_shape.specs.Law.{labels_from}
+use Rattle.kilim_woven_program.specs.labels.Law.{same_label}
+use Rattle.kilim_woven_form.specs.shape.Law.{labels_from}
 use Rattle.kilim_woven_code.specs.Places.{Tables}
 
 abbrev pub or_first : Option ℕ → Option ℕ → Option ℕ

@@ -4,8 +4,8 @@ use Rattle.kilim_classes.specs.declared.class.Method.{Method}
 use Rattle.kilim_classes.specs.Program.{Program}
 use Rattle.kilim_woven_form.specs.Form.{plan_of}
 use Rattle.kilim_woven_form.specs.Woven.{Label, Old, Plan, Resumes, behind, woven_items}
-use Rattle.kilim_woven_labels.specs.Law.{found, found_plan}
-use Rattle.kilim_woven_shape.specs.Law.{PlacesDontMatter, labels_from, placed}
+use Rattle.kilim_woven_program.specs.labels.Law.{found, found_plan}
+use Rattle.kilim_woven_form.specs.shape.Law.{PlacesDontMatter, labels_from, placed}
 use Rattle.kilim_woven_code.specs.Places.{Tables, at_in, block_in, or_else}
 use Rattle.kilim_woven_layout.specs.Found.{AreFound, first_place_of, looked}
 use Rattle.kilim_woven_layout.proofs.Finding.{found_is}

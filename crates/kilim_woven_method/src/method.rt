@@ -6,7 +6,7 @@ ghost use Rattle.kilim_liveness.specs.Table.{live_in};
 ghost use Rattle.kilim_lookups.specs.Places.{Rising};
 ghost use Rattle.kilim_woven_form.specs.Form.{plan_of};
 ghost use Rattle.kilim_woven_form.specs.Woven as form;
-ghost use Rattle.kilim_woven_shape.specs.Law.{placed};
+ghost use Rattle.kilim_woven_form.specs.shape.Law.{placed};
 ghost use Rattle.kilim_woven_code.specs.Items.{items_of};
 ghost use Rattle.kilim_woven_code.specs.Listed.{AreDeclared, Listed};
 ghost use Rattle.kilim_woven_code.specs.Places.{at_in, block_in};
@@ -21,7 +21,7 @@ use kilim_liveness::LiveTable;
 use kilim_units::{NoMemory, Seq};
 use kilim_woven_code::{Items, Places, Plan, woven_items};
 use kilim_woven_layout::{Laid, lay, nowhere, places_of};
-use kilim_woven_shape::places_dont_matter;
+use kilim_woven_form::shape::places_dont_matter;
 use std::alloc::Global;
 
 /// The locals and numbers that a woven method names.

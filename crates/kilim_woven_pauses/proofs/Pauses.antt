@@ -28,7 +28,7 @@ use Rattle.kilim_woven_types.specs.Facts.{CallsNone}
 use Rattle.kilim_woven_types.proofs.Codes.{whole_code}
 use Rattle.kilim_fits.proofs.ClassMethods.{IsAmong, among_left, among_right, owner_has}
 use Rattle.kilim_fits.proofs.FromKeeps.{all_at}
-use Rattle.kilim_woven_classes.proofs.Listing.{take_front}
+use Rattle.kilim_woven_programs.proofs.classes.Listing.{take_front}
 use Rattle.kilim_woven_programs.specs.Law.{NoneAcross}
 use Rattle.kilim_woven_programs.proofs.Frames.{Agree, by_place, same_listed}
 use Rattle.kilim_woven_programs.proofs.Naming.{owner_there}

@@ -13,7 +13,7 @@ use Rattle.kilim_classes.specs.Program.{Program}
 use Rattle.kilim_typing.specs.Typed.{IsLive}
 use Rattle.kilim_woven_form.specs.Form.{AllWoven, all_counted, first_class, has_calls, plan_of, woven_as}
 use Rattle.kilim_fits.proofs.FromKeeps.{all_at}
-use Rattle.kilim_woven_labels.proofs.Labels.{labelled}
+use Rattle.kilim_woven_program.proofs.labels.Labels.{labelled}
 use Rattle.kilim_woven_program.specs.Law.{WovenFormIsThere}
 use Rattle.kilim_woven_program.specs.Made.{made_as, made_from, method_plan}
 

@@ -7,7 +7,7 @@ use Rattle.kilim_classes.specs.BuiltIn.{fiber_classes, fiber_methods, method_id}
 use Rattle.kilim_classes.specs.Program.{Program}
 use Rattle.kilim_woven_form.specs.Form.{all_counted, first_class, first_method, has_calls, only_with_fiber, plan_of}
 use Rattle.kilim_woven_form.specs.Woven.{Plan, marks, woven_items, woven_method}
-use Rattle.kilim_woven_labels.specs.Law.{found_plan}
+use Rattle.kilim_woven_program.specs.labels.Law.{found_plan}
 
 -- a method by which slots are live at its places, with the places at which its labels are found
 abbrev pub method_plan : Program → Method → (ℕ → ℕ → Bool) → Plan

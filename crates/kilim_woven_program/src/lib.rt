@@ -1,6 +1,8 @@
 //! The woven form of a program as a function: laws, and no code that does work.
 #![tactic(auto)]
 
+pub mod labels;
+
 ghost use Rattle.kilim_woven_program.specs.Law.{WovenFormIsThere};
 
 /// A law, and no work: a kept program with right tables of live slots has a woven form.

@@ -4,3 +4,10 @@ pub mod Naming
 pub mod Selecting
 pub mod Frames
 pub mod Theorem
+pub mod classes
+pub mod keeps
+pub mod kept
+pub mod kinds
+pub mod places
+pub mod selects
+pub mod types

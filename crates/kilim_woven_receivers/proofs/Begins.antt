@@ -24,17 +24,17 @@ use Rattle.kilim_program.specs.Trees.{OfTask, built, is_root, with_objects}
 use Rattle.kilim_standing_threads.specs.Laws.{IsRunOfAccepted, listed_at}
 use Rattle.kilim_standing_threads.proofs.Beginning.{beginnings_stand, kind_of_task, task_sort}
 use Rattle.kilim_standing_threads.proofs.Moving.{top_coded}
-use Rattle.kilim_thread_graphs.specs.Threads.{TopIsCoded}
+use Rattle.kilim_reached_objects.specs.graphs.Threads.{TopIsCoded}
 use Rattle.kilim_thread_model.specs.declared.deed.Beginning.{Beginning}
 use Rattle.kilim_thread_model.specs.declared.deed.Beginning.TheVariants.{Begun, Boot}
 use Rattle.kilim_thread_model.specs.Course.{lone_begun, lone_built, lone_in}
 use Rattle.kilim_thread_model.specs.Lone.{Lone}
 use Rattle.kilim_thread_model.specs.State.{Alive, Setting, begun_in, begun_on, class_of, execute_frames}
-use Rattle.kilim_tree_heaps.proofs.Heaps.{get_new}
+use Rattle.kilim_standing_threads.proofs.heaps.Heaps.{get_new}
 use Rattle.kilim_typed_threads.proofs.Read.{built_is}
 use Rattle.kilim_typed_threads.proofs.Threads.{beginnings_are_typed}
 use Rattle.kilim_typing_laws.specs.Laws.{typing_at}
-use Rattle.kilim_woven_lone.specs.Law.{lone_at, lone_frames}
+use Rattle.kilim_woven_runs.specs.lone.Law.{lone_at, lone_frames}
 use Rattle.kilim_woven_receivers.proofs.Chain.{IsWell, WellAs, wants_all}
 use Rattle.kilim_woven_receivers.proofs.Guards.{task_guards}
 use Rattle.kilim_woven_receivers.proofs.Held.{Guard, HeldIn, rules_hold, verified}
@@ -42,7 +42,7 @@ use Rattle.kilim_woven_receivers.specs.Law.{IsBegun}
 use Rattle.kilim_woven_runs.specs.Acts.{World}
 use Rattle.kilim_woven_runs.specs.Fibers.{frame}
 use Rattle.kilim_woven_runs.specs.Thread.{At, Frame, Run, Stop, Thread}
-use Rattle.kilim_fine_threads.specs.Typed.{frames_of}
+use Rattle.kilim_typed_threads.specs.fine.Typed.{frames_of}
 
 one_of : {A : Type 0} (x y : A) → Some x ≡ Some y → x ≡ y
 one_of x y e = cc
@@ -134,7 +134,7 @@ module _ (set : Setting) (run : IsRunOfAccepted set) where
   module _ (m : MethodId) (p : ℕ) (l s : List Value) (w : World) (of : _) (is : IsWell set run of (lone_at m p l s [] w)) where
     boot_guard : w.kept ≡ Some 0 → Guard set run w.heap (frame m p l s ∷ []) m (Ref 0)
     boot_guard kept pausable o own = inl (subst (λ (j : ℕ). Rattle.kilim_woven_receivers.proofs.Held.Keeps set run w.heap (frame m p l s ∷ []) j) (name own)
-        (subst (λ (k : Option ℕ). Rattle.kilim_thread_graphs.specs.Threads.FramesFit set.program (typing_at set.program) (listed_at set.program) k w.heap (frame m p l s ∷ [])) kept is.stands))
+        (subst (λ (k : Option ℕ). Rattle.kilim_reached_objects.specs.graphs.Threads.FramesFit set.program (typing_at set.program) (listed_at set.program) k w.heap (frame m p l s ∷ [])) kept is.stands))
       where
         name : Ref 0 ≡ Ref o → 0 ≡ o
         name e = cc

@@ -4,7 +4,7 @@ use Rattle.std.specs.FinMap.{get}
 use Rattle.std.proofs.lemmas.Bool.{and_parts}
 use Rattle.kilim_classes.specs.BuiltIn.{class_type}
 use Rattle.kilim_classes.specs.Names.{is_task}
-use Rattle.kilim_fine_threads.specs.Typed.{FitsAs}
+use Rattle.kilim_typed_threads.specs.fine.Typed.{FitsAs}
 use Rattle.kilim_fits.specs.Fits.{Classes, HeapFits, Wanted}
 use Rattle.kilim_fits.specs.Law.{Extends}
 use Rattle.kilim_graph_rows.specs.Holds.{IsOf, Tree, Trees, is_tree_object, object_sort}
@@ -19,8 +19,8 @@ use Rattle.kilim_standing_threads.specs.Standing.{Standing}
 use Rattle.kilim_standing_threads.proofs.Beginning.{execute_stands, task_sort}
 use Rattle.kilim_standing_threads.proofs.Keeping.{is_verified, sound, stack_there}
 use Rattle.kilim_standing_threads.proofs.Moving.{deed_keeps, move_keeps}
-use Rattle.kilim_thread_graphs.specs.Threads.{EndFits, TopIsCoded}
-use Rattle.kilim_thread_graphs.specs.Threads as graphs
+use Rattle.kilim_reached_objects.specs.graphs.Threads.{EndFits, TopIsCoded}
+use Rattle.kilim_reached_objects.specs.graphs.Threads as graphs
 use Rattle.kilim_thread_model.specs.Course.{Done, done_by}
 use Rattle.kilim_thread_model.specs.declared.deed.Deed.{Deed}
 use Rattle.kilim_thread_model.specs.Lone.{Lone, Next, next_move}
@@ -28,8 +28,8 @@ use Rattle.kilim_thread_model.specs.Lone as next
 use Rattle.kilim_thread_model.specs.State.{Setting, begun_on}
 use Rattle.kilim_typed_threads.proofs.Moving.{deeds_stay_typed, moves_stay_typed}
 use Rattle.kilim_typing_laws.specs.Laws.{typing_at}
-use Rattle.kilim_woven_lone.proofs.Steps.{steps}
-use Rattle.kilim_woven_lone.specs.Law.{IsActed, IsAt, IsBehind, IsDone, IsLast, IsNext, IsWanted, lone_at, wanted}
+use Rattle.kilim_woven_runs.proofs.lone.Steps.{steps}
+use Rattle.kilim_woven_runs.specs.lone.Law.{IsActed, IsAt, IsBehind, IsDone, IsLast, IsNext, IsWanted, lone_at, wanted}
 use Rattle.kilim_woven_runs.specs.Acts.{Action, Astray, Finished, Lost, Over, Wants}
 use Rattle.kilim_woven_runs.specs.Thread.{Run, Stop, Thread, step}
 

@@ -37,14 +37,14 @@ use Rattle.kilim_reached_objects.specs.Laws.{typed}
 use Rattle.kilim_shape_graph.specs.Entry.{declared_parameters, entry_names, entry_nodes, parameters_of, tree_name}
 use Rattle.kilim_shape_graph.specs.Graphs.{slot}
 use Rattle.kilim_standing_threads.specs.Laws.{IsRunOfAccepted, listed_at}
-use Rattle.kilim_thread_graphs.specs.Threads.{ThreadFits, TopIsCoded, keeper}
-use Rattle.kilim_thread_graphs.proofs.Beginning.{beginnings_keep}
-use Rattle.kilim_thread_graphs.proofs.Thread.{flows, method_begins}
+use Rattle.kilim_reached_objects.specs.graphs.Threads.{ThreadFits, TopIsCoded, keeper}
+use Rattle.kilim_reached_objects.proofs.graphs.Beginning.{beginnings_keep}
+use Rattle.kilim_reached_objects.proofs.graphs.Thread.{flows, method_begins}
 use Rattle.kilim_thread_model.specs.State.{Setting}
 use Rattle.kilim_typing.specs.Step.{class_vtype, peek}
 use Rattle.kilim_typing.specs.Typed.{edges, entry, has_code, param_slots}
 use Rattle.kilim_typing_laws.specs.Laws.{typing_at}
-use Rattle.kilim_woven_lone.specs.Law.{lone_at, lone_frames}
+use Rattle.kilim_woven_runs.specs.lone.Law.{lone_at, lone_frames}
 use Rattle.kilim_woven_pauses.proofs.Accepted.{receivers_held}
 use Rattle.kilim_woven_receivers.proofs.Chain.{IsWell}
 use Rattle.kilim_woven_receivers.proofs.Held.{Guard, Stays, rules_hold, top_verified}

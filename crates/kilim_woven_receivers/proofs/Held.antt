@@ -13,7 +13,7 @@ use Rattle.kilim_program.specs.Does.{does}
 use Rattle.kilim_program.specs.Effect.{Effect}
 use Rattle.kilim_program.specs.Machine.{Activation, Objects}
 use Rattle.kilim_program.specs.Moves.{effect_found, effect_in, move_by, moves}
-use Rattle.kilim_fine_threads.specs.Typed.{IsVerified}
+use Rattle.kilim_typed_threads.specs.fine.Typed.{IsVerified}
 use Rattle.kilim_fits.specs.Sound as typed
 use Rattle.kilim_fits.proofs.Grounds.{facts_hold}
 use Rattle.kilim_fits.proofs.Theorem.{moves_fit}
@@ -27,12 +27,12 @@ use Rattle.kilim_classes.specs.declared.ty.Ty.{Ty}
 use Rattle.kilim_standing_threads.specs.Laws.{IsRunOfAccepted, listed_at}
 use Rattle.kilim_standing_threads.proofs.Keeping.{is_verified, sound, stack_there}
 use Rattle.kilim_standing_threads.proofs.Grounds.{is_verified as step_verified, whole_at}
-use Rattle.kilim_thread_graphs.specs.Threads.{AllWaitFor, FramesFit, IsSound, TopIsVerified, keepers}
-use Rattle.kilim_thread_graphs.specs.Threads as graphs
-use Rattle.kilim_thread_graphs.proofs.Thread.{moves_keep}
+use Rattle.kilim_reached_objects.specs.graphs.Threads.{AllWaitFor, FramesFit, IsSound, TopIsVerified, keepers}
+use Rattle.kilim_reached_objects.specs.graphs.Threads as graphs
+use Rattle.kilim_reached_objects.proofs.graphs.Thread.{moves_keep}
 use Rattle.kilim_thread_model.specs.State.{Setting}
 use Rattle.kilim_typing_laws.specs.Laws.{typing_at}
-use Rattle.kilim_woven_lone.specs.Law.{lone_at, lone_frames}
+use Rattle.kilim_woven_runs.specs.lone.Law.{lone_at, lone_frames}
 use Rattle.kilim_woven_receivers.proofs.Chain.{IsWell, as_well, wants_all}
 use Rattle.kilim_woven_runs.specs.Acts.{World}
 use Rattle.kilim_woven_runs.specs.Fibers.{frame}

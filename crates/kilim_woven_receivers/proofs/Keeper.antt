@@ -19,7 +19,7 @@ use Rattle.kilim_forest.proofs.Paths.{never_round}
 use Rattle.kilim_shape_graph.specs.Entry.{declared_parameters, entry_node, entry_nodes, parameters_of, quality_from}
 use Rattle.kilim_shape_graph.specs.Nodes.{listed}
 use Rattle.kilim_graph_rows.specs.Holds.{Holds, WaitFits, Waiting, named_by, sort, trees, waiting_named}
-use Rattle.kilim_thread_graphs.specs.Threads.{keeper}
+use Rattle.kilim_reached_objects.specs.graphs.Threads.{keeper}
 
 some_is : (a b : ℕ) → Some a ≡ Some b → a ≡ b
 some_is a b e = cc

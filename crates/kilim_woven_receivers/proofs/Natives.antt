@@ -17,7 +17,7 @@ use Rattle.kilim_classes.specs.declared.verified.VType.{VType}
 use Rattle.kilim_classes.specs.BuiltIn.{class_id, class_type, int_type}
 use Rattle.kilim_classes.specs.Kinds.{class_kind, is_tree_kind, kind_of}
 use Rattle.kilim_classes.specs.Names.{method_at}
-use Rattle.kilim_fine_threads.proofs.Natives.{gives, native_gives}
+use Rattle.kilim_typed_threads.proofs.fine.Natives.{gives, native_gives}
 use Rattle.kilim_fits.specs.Fits.{Classes, have_types, is_of}
 use Rattle.kilim_fits.specs.Sound.{AsksFit, native_types}
 use Rattle.kilim_forest.specs.Heap.{Below, Here, IsForest, Then}
@@ -40,15 +40,15 @@ use Rattle.kilim_shape_graph.specs.Entry.{parameters_of, quality}
 use Rattle.kilim_standing_threads.specs.Laws.{IsRunOfAccepted, listed_at}
 use Rattle.kilim_standing_threads.proofs.Moving.{forest_of}
 use Rattle.kilim_standing_threads.proofs.Natives.{Begins, Puts, below_tree, message_kind, n, not_owned, put_is, put_parameters, start_is, start_parameters, task_kind, tree_of_task}
-use Rattle.kilim_thread_graphs.specs.Threads.{AskFits, Gives}
+use Rattle.kilim_reached_objects.specs.graphs.Threads.{AskFits, Gives}
 use Rattle.kilim_thread_model.specs.declared.deed.Deed.{Deed}
 use Rattle.kilim_thread_model.specs.Lone.{arg_at, printed}
 use Rattle.kilim_thread_model.specs.State.{Setting}
-use Rattle.kilim_tree_heaps.proofs.Heaps.{taken_trees_come}
-use Rattle.kilim_tree_names.proofs.Given.{given_trees_leave}
+use Rattle.kilim_standing_threads.proofs.heaps.Heaps.{taken_trees_come}
+use Rattle.kilim_standing_threads.proofs.names.Given.{given_trees_leave}
 use Rattle.kilim_typing.specs.Step.{class_vtype, vtype}
 use Rattle.kilim_typing_laws.specs.Laws.{typing_at}
-use Rattle.kilim_woven_lone.specs.Law.{lone_frames}
+use Rattle.kilim_woven_runs.specs.lone.Law.{lone_frames}
 use Rattle.kilim_woven_receivers.proofs.Chain.{wants_all}
 use Rattle.kilim_woven_receivers.proofs.Held.{Held, HeldIn, IsPrivate, Keeps, held_map, rules_hold, verified}
 use Rattle.kilim_woven_runs.specs.Acts.{Action, Wants, World, acting, asks, ending, gives_arg, last, native_does, prints, probe_by, put_by, puts, puts_value, receives, start_by, starts, take_by}

@@ -26,12 +26,12 @@ use Rattle.kilim_program.specs.Natives.{native_of}
 use Rattle.kilim_standing_threads.specs.Laws.{IsRunOfAccepted, listed_at}
 use Rattle.kilim_standing_threads.proofs.Beginning.{kind_of_task}
 use Rattle.kilim_standing_threads.proofs.Moving.{top_coded}
-use Rattle.kilim_thread_graphs.specs.Threads.{EndFits, FramesFit, TopIsCoded}
-use Rattle.kilim_thread_graphs.specs.Threads as graphs
+use Rattle.kilim_reached_objects.specs.graphs.Threads.{EndFits, FramesFit, TopIsCoded}
+use Rattle.kilim_reached_objects.specs.graphs.Threads as graphs
 use Rattle.kilim_thread_model.specs.Lone.{box_limit}
 use Rattle.kilim_thread_model.specs.State.{Setting}
 use Rattle.kilim_typing_laws.specs.Laws.{typing_at}
-use Rattle.kilim_woven_lone.specs.Law.{lone_at, lone_frames}
+use Rattle.kilim_woven_runs.specs.lone.Law.{lone_at, lone_frames}
 use Rattle.kilim_woven_receivers.proofs.Chain.{IsWell, WellAs, tree_there, wants_all}
 use Rattle.kilim_woven_receivers.proofs.Guards.{call_guards, task_guards}
 use Rattle.kilim_woven_receivers.proofs.Heaps.{Grows, KeepsHeap, keeps_heap}

@@ -9,7 +9,7 @@ use Rattle.kilim_standing_threads.specs.Laws.{IsRunOfAccepted}
 use Rattle.kilim_thread_model.specs.declared.deed.Beginning.{Beginning}
 use Rattle.kilim_thread_model.specs.Course.{lone_begun}
 use Rattle.kilim_thread_model.specs.State.{Setting}
-use Rattle.kilim_woven_lone.specs.Law.{lone_at}
+use Rattle.kilim_woven_runs.specs.lone.Law.{lone_at}
 use Rattle.kilim_woven_runs.specs.Form.{is_pausable}
 use Rattle.kilim_woven_runs.specs.Thread.{At, Frame, Run, Stop, Thread, steps}
 

@@ -1,6 +1,9 @@
 //! While a pausable method of an accepted program runs, its receiver stays in the heap: a law, and no code that does work.
 #![tactic(auto)]
 
+pub mod called;
+pub mod states;
+
 ghost use Rattle.kilim_woven_receivers.specs.Law.{ReceiversStay};
 
 /// A law, and no work: the receiver of a pausable method stays in the heap while the method runs.

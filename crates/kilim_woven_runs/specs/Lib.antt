@@ -8,3 +8,6 @@ pub mod Rooms
 pub mod Rows
 pub mod Serves
 pub mod Law
+pub mod examples
+pub mod lone
+pub mod rows

@@ -18,7 +18,7 @@ use Rattle.kilim_jvm_interp.specs.Step.{FitsStack, stack_limit}
 use Rattle.kilim_thread_model.specs.State.{Setting}
 use Rattle.kilim_thread_model.specs.Kept.{IsFormed, given}
 use Rattle.kilim_thread_model.specs.Reach.{Below}
-use Rattle.kilim_tree_kin.specs.TreeKin.{IsWholeTree}
+use Rattle.kilim_kin.specs.trees.TreeKin.{IsWholeTree}
 use Rattle.kilim_tree_move.specs.Shaping.{IsShown, held}
 use Rattle.kilim_fits.specs.Fits.{AreThere, IsThere}
 use Rattle.kilim_fiber_kin.specs.Served.{gives_value}

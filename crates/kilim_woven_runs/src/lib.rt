@@ -3,6 +3,10 @@
 //! The laws about them stand in the crates above.
 #![tactic(auto)]
 
+pub mod examples;
+pub mod lone;
+pub mod rows;
+
 ghost use Rattle.kilim_woven_runs.specs.Law.{EndsStay};
 
 /// A law, and no work: what is over stays as it is.

@@ -1,28 +1,28 @@
 -- Along each course.
 use Rattle.std.proofs.Common.{◌≡◌, ◌≢◌, ◌⊎◌, inl, inr, ℕ, zero, suc, Bool, List, [], Some, refl, sym, subst, ◌∙◌}
 use Rattle.std.specs.Prelude.{◌↔◌}
-use Rattle.kilim_kept.proofs.Serving.{accepted_is_kept}
+use Rattle.kilim_standing_threads.proofs.kept.Serving.{accepted_is_kept}
 use Rattle.kilim_classes.specs.Program.{Program}
 use Rattle.kilim_standing_threads.specs.Laws.{IsRunOfAccepted}
 use Rattle.kilim_thread_model.specs.Course.{Course, lone_begun}
 use Rattle.kilim_thread_model.specs.Lone.{Lone}
 use Rattle.kilim_thread_model.specs.State.{Setting}
-use Rattle.kilim_woven_accepted.proofs.Along.{form, known_at}
+use Rattle.kilim_woven_served.proofs.accepted.Along.{form, known_at}
 use Rattle.kilim_woven_form.specs.Form.{WovenForm}
-use Rattle.kilim_woven_gives.proofs.Gives.{Hands, threads_hand}
-use Rattle.kilim_woven_gives.specs.Law.{HandsOut}
-use Rattle.kilim_woven_keeps.specs.Law.{NoneIsTooLong}
-use Rattle.kilim_woven_ready.proofs.Whole.{again, course, few, is_form, serves_tasks, stands}
-use Rattle.kilim_woven_ready.specs.Law.{MayBegin}
+use Rattle.kilim_woven_served.proofs.gives.Gives.{Hands, threads_hand}
+use Rattle.kilim_woven_served.specs.gives.Law.{HandsOut}
+use Rattle.kilim_woven_programs.specs.keeps.Law.{NoneIsTooLong}
+use Rattle.kilim_woven_served.proofs.ready.Whole.{again, course, few, is_form, serves_tasks, stands}
+use Rattle.kilim_woven_served.specs.ready.Law.{MayBegin}
 use Rattle.kilim_woven_runs.specs.Acts.{Lost, Over}
 use Rattle.kilim_woven_runs.specs.Fibers.{WStop, Woven_state, wsteps}
 use Rattle.kilim_woven_runs.specs.Serves.{From, Known}
 use Rattle.kilim_woven_runs.specs.Thread.{Run, Stop, Thread, steps}
 use Rattle.kilim_woven_served.proofs.Begins.{Starts, begins}
 use Rattle.kilim_woven_served.specs.Served.{RunsServe, ServesCourse, first_fiber}
-use Rattle.kilim_woven_states.proofs.Lands.{one_step}
-use Rattle.kilim_woven_states.proofs.Whole.{thread_follows}
-use Rattle.kilim_woven_states.specs.Law.{FollowsCourse, ThreadAlong, first_thread, world_at}
+use Rattle.kilim_woven_receivers.proofs.states.Lands.{one_step}
+use Rattle.kilim_woven_receivers.proofs.states.Whole.{thread_follows}
+use Rattle.kilim_woven_receivers.specs.states.Law.{FollowsCourse, ThreadAlong, first_thread, world_at}
 
 on_left : {A B C : Type 0} → (A → B) → A ⊎ C → B ⊎ C
 on_left go (inl a) = inl (go a)

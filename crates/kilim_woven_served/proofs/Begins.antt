@@ -27,13 +27,13 @@ use Rattle.kilim_thread_model.specs.declared.deed.Deed.{Deed}
 use Rattle.kilim_thread_model.specs.Course.{lone_begun, lone_built, lone_in}
 use Rattle.kilim_thread_model.specs.Lone.{Lone}
 use Rattle.kilim_thread_model.specs.State.{Alive, Setting, begun_in, begun_on, class_of, execute_frames}
-use Rattle.kilim_woven_begins.specs.Law.{ServesAlong}
-use Rattle.kilim_woven_called.proofs.Begins as called
+use Rattle.kilim_woven_simulation.specs.begins.Law.{ServesAlong}
+use Rattle.kilim_woven_receivers.proofs.called.Begins as called
 use Rattle.kilim_woven_form.specs.Form.{WovenForm}
-use Rattle.kilim_woven_gives.proofs.Gives.{Hands}
-use Rattle.kilim_woven_gives.proofs.Gives as gives
-use Rattle.kilim_woven_ready.proofs.Executes.{execute_same}
-use Rattle.kilim_woven_ready.specs.Law.{MayBegin, ServesTasks}
+use Rattle.kilim_woven_served.proofs.gives.Gives.{Hands}
+use Rattle.kilim_woven_served.proofs.gives.Gives as gives
+use Rattle.kilim_woven_served.proofs.ready.Executes.{execute_same}
+use Rattle.kilim_woven_served.specs.ready.Law.{MayBegin, ServesTasks}
 use Rattle.kilim_woven_receivers.proofs.Begins.{root_task, task_class}
 use Rattle.kilim_woven_runs.specs.Acts.{Lost, Over, Wants, World, ending, last, spending}
 use Rattle.kilim_woven_runs.specs.Acts as action
@@ -44,8 +44,8 @@ use Rattle.kilim_woven_runs.specs.Runs.{most_uncounted}
 use Rattle.kilim_woven_runs.specs.Thread.{Run, Stop, Thread, self_in, started, started_in}
 use Rattle.kilim_woven_served.proofs.Constructors.{constructor_is_same}
 use Rattle.kilim_woven_served.specs.Served.{constructing_in, first_fiber}
-use Rattle.kilim_woven_states.proofs.Whole as states
-use Rattle.kilim_woven_states.specs.Law.{constructing, first_thread, world_at}
+use Rattle.kilim_woven_receivers.proofs.states.Whole as states
+use Rattle.kilim_woven_receivers.specs.states.Law.{constructing, first_thread, world_at}
 
 self_own : (o : Option Method) → is_own_constructor o ≡ true → self_in o (Ref 0 ∷ []) ≡ Ref 0
 self_own None e = absurd (false≢true e)

@@ -12,14 +12,14 @@ use Rattle.kilim_classes.specs.Keeps.{Keeps}
 use Rattle.kilim_classes.specs.Names.{class_at, first_that, is_empty, method_at, methods_of}
 use Rattle.kilim_classes.specs.Program.{Program}
 use Rattle.kilim_program.specs.Members.{constructor_of, is_plain_method}
-use Rattle.kilim_woven_called.proofs.Called.{no_pause}
+use Rattle.kilim_woven_receivers.proofs.called.Called.{no_pause}
 use Rattle.kilim_woven_form.specs.Form.{WovenForm}
-use Rattle.kilim_woven_kinds.proofs.Lines as lines
+use Rattle.kilim_woven_programs.proofs.kinds.Lines as lines
 use Rattle.kilim_woven_programs.proofs.Theorem as theorem
 use Rattle.kilim_woven_runs.specs.Form.{is_pausable}
 use Rattle.kilim_woven_served.specs.Served.{ConstructorIsSame}
-use Rattle.kilim_woven_shares.proofs.Fibers as fibers_of
-use Rattle.kilim_woven_shares.proofs.Names as names
+use Rattle.kilim_woven_stands.proofs.shares.Fibers as fibers_of
+use Rattle.kilim_woven_stands.proofs.shares.Names as names
 
 same_first : {A : Type 0} (test other : A → Bool) → ((x : A) → test x ≡ other x) → (xs : List A) → first_that test xs ≡ first_that other xs
 same_first test other same [] = refl

@@ -1,1 +1,4 @@
 pub mod Served
+pub mod accepted
+pub mod gives
+pub mod ready

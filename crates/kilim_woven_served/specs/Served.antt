@@ -19,11 +19,11 @@ use Rattle.kilim_thread_model.specs.Lone.{Lone}
 use Rattle.kilim_thread_model.specs.Reach.{Liveness}
 use Rattle.kilim_thread_model.specs.State.{Setting}
 use Rattle.kilim_typing.specs.Typed.{IsWellTyped}
-use Rattle.kilim_woven_begins.specs.Law.{StandsWith}
+use Rattle.kilim_woven_simulation.specs.begins.Law.{StandsWith}
 use Rattle.kilim_woven_form.specs.Form.{WovenForm}
-use Rattle.kilim_woven_gives.specs.Law.{HandsOut}
-use Rattle.kilim_woven_keeps.specs.Law.{NoneIsTooLong}
-use Rattle.kilim_woven_ready.specs.Law.{FormServes}
+use Rattle.kilim_woven_served.specs.gives.Law.{HandsOut}
+use Rattle.kilim_woven_programs.specs.keeps.Law.{NoneIsTooLong}
+use Rattle.kilim_woven_served.specs.ready.Law.{FormServes}
 use Rattle.kilim_woven_runs.specs.Acts.{Lost, Over, World}
 use Rattle.kilim_woven_runs.specs.Fibers.{Fib, Resting, WStop, Woven_state, enter, executes_on, new_fiber, wstarted, wsteps}
 use Rattle.kilim_woven_runs.specs.Links.{Forms}
@@ -31,7 +31,7 @@ use Rattle.kilim_woven_runs.specs.Rooms.{IsFineState}
 use Rattle.kilim_woven_runs.specs.Runs.{ComesToRest, Soon, most_uncounted}
 use Rattle.kilim_woven_runs.specs.Serves.{StandsFor}
 use Rattle.kilim_woven_runs.specs.Thread.{Thread, steps}
-use Rattle.kilim_woven_states.specs.Law.{FollowsCourse, ThreadAlong, first_thread, world_at}
+use Rattle.kilim_woven_receivers.specs.states.Law.{FollowsCourse, ThreadAlong, first_thread, world_at}
 
 -- ---- beginnings
 

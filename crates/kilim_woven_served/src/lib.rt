@@ -1,6 +1,10 @@
 //! A fiber of a woven program does what the task of each course does: a law, and no code that does work.
 #![tactic(auto)]
 
+pub mod accepted;
+pub mod gives;
+pub mod ready;
+
 ghost use Rattle.kilim_woven_served.specs.Served.{ConstructorIsSame, RunsServe};
 
 /// A law, and no work: the constructor of task 0 is the same method in the woven program.

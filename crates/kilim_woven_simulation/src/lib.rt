@@ -1,6 +1,8 @@
 //! A woven fiber does what the unwoven thread does: a law, and no code that does work.
 #![tactic(auto)]
 
+pub mod begins;
+
 ghost use Rattle.kilim_woven_simulation.specs.Law.{WovenSimulates};
 
 /// A law, and no work: a woven fiber does what the unwoven thread does.

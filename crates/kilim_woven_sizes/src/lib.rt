@@ -1,4 +1,4 @@
-//! How large a woven class file may become, by the bounds of kilim_woven_file_form.
+//! How large a woven class file may become, by the bounds of kilim_woven_file_laws::form.
 #![tactic(auto)]
 
 mod sizes;

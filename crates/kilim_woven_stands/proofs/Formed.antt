@@ -31,8 +31,8 @@ use Rattle.kilim_woven_types.proofs.OldFacts.{GrowsTo}
 use Rattle.kilim_woven_programs.specs.Law.{KeepsPauses}
 use Rattle.kilim_woven_programs.proofs.Frames.{by_place}
 use Rattle.kilim_woven_programs.proofs.Theorem.{woven_programs}
-use Rattle.kilim_woven_keeps.specs.Law.{NoneIsTooLong}
-use Rattle.kilim_woven_keeps.proofs.Lengths.{reach_is}
+use Rattle.kilim_woven_programs.specs.keeps.Law.{NoneIsTooLong}
+use Rattle.kilim_woven_programs.proofs.keeps.Lengths.{reach_is}
 use Rattle.kilim_woven_runs.specs.Fibers.{marked, marks_of, wcode_in}
 use Rattle.kilim_woven_runs.specs.Form.{Facts, Form, longest, sets}
 use Rattle.kilim_woven_runs.specs.Links.{code}

@@ -3,3 +3,6 @@ pub mod Placed
 pub mod Targets
 pub mod LiveFacts
 pub mod Formed
+pub mod example
+pub mod serves
+pub mod shares

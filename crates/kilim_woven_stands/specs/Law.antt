@@ -12,7 +12,7 @@ use Rattle.kilim_thread_model.specs.State.{Setting}
 use Rattle.kilim_typing.specs.Typed.{IsLive, IsWellTyped, typing_of}
 use Rattle.kilim_woven_form.specs.Form.{WovenForm}
 use Rattle.kilim_woven_programs.specs.Law.{KeepsPauses}
-use Rattle.kilim_woven_keeps.specs.Law.{NoneIsTooLong}
+use Rattle.kilim_woven_programs.specs.keeps.Law.{NoneIsTooLong}
 use Rattle.kilim_woven_runs.specs.Form.{Facts, Form}
 use Rattle.kilim_woven_runs.specs.Links.{Forms, code}
 

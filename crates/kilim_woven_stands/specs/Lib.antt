@@ -1,1 +1,4 @@
 pub mod Law
+pub mod example
+pub mod serves
+pub mod shares

@@ -1,6 +1,10 @@
 //! The woven form of a program by old place: a law, and no code that does work.
 #![tactic(auto)]
 
+pub mod example;
+pub mod serves;
+pub mod shares;
+
 ghost use Rattle.kilim_woven_stands.specs.Law.{WovenStands};
 
 /// A law, and no work: each method of a woven program has its form by old place.

@@ -1,4 +1,4 @@
-use Rattle.kilim_tree_kin.proofs.ReadBack.{shapes_give}
+use Rattle.kilim_kin.proofs.trees.ReadBack.{shapes_give}
 use Rattle.kilim_one_heap.proofs.Steps.{step}
 use Rattle.kilim_one_heap.proofs.moves_match.Goals as goal
 

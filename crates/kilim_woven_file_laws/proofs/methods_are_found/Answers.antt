@@ -1,4 +1,4 @@
-use Rattle.kilim_woven_file_form.specs.Texts.{woven_descriptor}
+use Rattle.kilim_woven_file_laws.specs.form.Texts.{woven_descriptor}
 use Rattle.kilim_woven_file_laws.specs.Descriptors.{IsPlain}
 use Rattle.kilim_woven_file_laws.proofs.DescriptorsApart.{apart}
 use Rattle.kilim_woven_file_laws.proofs.Finding.{found_again}

@@ -1,6 +1,6 @@
 use Rattle.std.proofs.Common.{◌≡◌, ◌∙◌, Some, None, sym, subst}
 use Rattle.std.specs.Prelude.{if◌then◌else◌}
-use Rattle.kilim_woven_labels.specs.Law.{same_label}
+use Rattle.kilim_woven_program.specs.labels.Law.{same_label}
 use Rattle.kilim_woven_code.specs.declared.item.Label.{Label}
 use Rattle.kilim_woven_code.specs.Items.{label_of}
 use Rattle.kilim_woven_code.specs.Places.{Tables}

@@ -1,5 +1,0 @@
-use Rattle.kilim_thread_graphs.proofs.Beginning.{beginnings_keep}
-use Rattle.kilim_thread_graphs.proofs.beginnings_keep.Goals as goal
-
-pub returns : goal.returns
-returns c = λ p typings listed kept s id m h n is b. beginnings_keep p typings listed kept s id m h n is b

@@ -1,9 +1,0 @@
-//! From the beginning of a task on, a woven fiber does what the thread does: a law, and no code that does work.
-#![tactic(auto)]
-
-ghost use Rattle.kilim_woven_begins.specs.Law.{BeginningsServe};
-
-/// A law, and no work: where a task begins, the fiber does what the thread does.
-pub fn beginnings_serve()
-    ensures { BeginningsServe }
-{}
