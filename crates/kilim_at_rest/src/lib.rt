@@ -2,6 +2,8 @@
 //! about them, which no program calls to do work.
 #![tactic(auto)]
 
+pub mod readable;
+
 ghost use Rattle.kilim_at_rest.specs.Laws.{GetStays, OneRest};
 
 /// A law, and no work: whether a thread stands at the `get` of a mailbox doesn't depend on the heap.

@@ -7,7 +7,7 @@ use crate::names::method_named;
 use crate::stages::linked_and_typed;
 use kilim_classes::{Instr, Method};
 use kilim_classfile::ClassFile;
-use kilim_flow_graph::{ends_path, jump_targets};
+use kilim_liveness::{ends_path, jump_targets};
 use std::alloc::Global;
 
 // The line of an instruction: its place, then the places to which control goes, with `next` for the next instruction.

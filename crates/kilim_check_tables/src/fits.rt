@@ -7,7 +7,7 @@ use crate::names::class_named;
 use crate::stages::linked_and_typed;
 use kilim_classes::{Base, Program, Ty};
 use kilim_classfile::ClassFile;
-use kilim_vtypes::{VType, assignable};
+use kilim_typing::{VType, assignable};
 use std::alloc::Global;
 
 // The type of a descriptor's letter, or of a class's name.

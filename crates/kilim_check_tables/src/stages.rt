@@ -8,11 +8,11 @@ use kilim_class_world::link;
 use kilim_classes::{Form, Program};
 use kilim_classfile::ClassFile;
 use kilim_isolation_check::{CheckFault, check_program};
-use kilim_link_reports::link_line;
+use kilim_reports::link_line;
 use kilim_link_spec::LinkFault;
-use kilim_rule_reports::{fault_lines, type_line};
+use kilim_reports::{fault_lines, type_line};
 use kilim_type_verify::{TypeFault, verify};
-use kilim_vtypes::Typed;
+use kilim_typing::Typed;
 use std::alloc::Global;
 
 /// The most files of a program.

@@ -12,7 +12,7 @@ ghost use Rattle.kilim_checked_runs.specs.Runs.{RunsApart};
 use kilim_isolation_check::{CheckFault, Isolated};
 use kilim_standing_threads::kept::accepted_is_kept;
 use kilim_one_heap::{none_shares, one_heap_is_many, plays_replay};
-use kilim_vtypes::Typed;
+use kilim_typing::Typed;
 use std::alloc::Global;
 
 // What the types of a program that breaks no rule keep of it.

@@ -1,6 +1,8 @@
 //! What the board and the runner know of a fiber: a task that runs on a heap of its own.
 #![tactic(auto)]
 
+pub mod boxed;
+
 ghost use Rattle.std.specs.Prelude.{◌≡◌, ◌<◌, ◌≤◌, ℕ, Bool, true, Option, Some, None, OnOk, IfOk, List, []};
 ghost use Rattle.kilim_classes.specs.declared.names.BoxName.{BoxName};
 ghost use Rattle.kilim_thread_model.specs.State.{Setting};

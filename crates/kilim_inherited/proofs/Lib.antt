@@ -5,3 +5,9 @@ mod Some
 mod Stable
 mod Fronts
 mod Inheriting
+mod Signatures
+mod Numbering
+mod Wider
+mod Named
+mod Numbered
+mod Telling

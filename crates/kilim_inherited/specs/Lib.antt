@@ -2,3 +2,8 @@ pub mod Inherited
 pub mod Trees
 pub mod Roots
 pub mod Fronts
+pub mod Index
+pub mod Numbers
+pub mod Nearest
+pub mod Keyed
+pub mod Known

@@ -5,12 +5,23 @@
 #![tactic(auto)]
 
 mod class_trees;
+mod entries;
 mod entry;
+mod index;
 mod inherited;
 mod lookup;
+mod nearest;
 mod node;
+mod numbers;
 mod order;
 mod put;
+mod said;
+mod signature;
 
 pub use entry::Entry;
+pub use index::Index;
 pub use inherited::Inherited;
+pub use nearest::Nearest;
+pub use numbers::Numbers;
+pub use said::Said;
+pub use signature::Signature;

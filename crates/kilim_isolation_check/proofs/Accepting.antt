@@ -6,7 +6,7 @@ use Rattle.kilim_classes.specs.declared.verified.Frame.{Frame}
 use Rattle.kilim_classes.specs.Names.{method_at}
 use Rattle.kilim_classes.specs.Program.{Program}
 use Rattle.kilim_typing.specs.Typed.{has_code}
-use Rattle.kilim_vtypes.specs.TypedProgram.{TypedProgram}
+use Rattle.kilim_typing.specs.TypedProgram.{TypedProgram}
 use Rattle.kilim_paths.specs.declared.report.Explored.{Explored}
 use Rattle.kilim_paths.specs.declared.report.Explored.TheVariants.{Faults, Crowded}
 use Rattle.kilim_paths.specs.Answer.{AreFaults, IsAnswer}

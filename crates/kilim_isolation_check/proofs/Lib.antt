@@ -4,3 +4,4 @@ pub mod Accepting
 pub mod Begins
 pub mod Together
 pub mod Numbered
+pub mod Left

@@ -1,6 +1,6 @@
 -- What `check_program` answers.
 use Rattle.std.specs.Prelude.{◌≡◌, ◌≢◌, [], Result, Ok, Err}
-use Rattle.kilim_vtypes.specs.TypedProgram.{TypedProgram}
+use Rattle.kilim_typing.specs.TypedProgram.{TypedProgram}
 use Rattle.kilim_isolation_check.specs.declared.isolated.CheckFault.{CheckFault}
 use Rattle.kilim_isolation_check.specs.declared.isolated.CheckFault.TheVariants.{Reports, Memory}
 use Rattle.kilim_isolation_check.specs.declared.isolated.Isolated.{Isolated}

@@ -1,7 +1,7 @@
 -- What contracts see of an isolated program: a typed program that breaks no rule, and its pausable calls.
 use Rattle.std.specs.Prelude.{◌≡◌, ℕ, List}
 use Rattle.kilim_classes.specs.declared.names.MethodId.{MethodId}
-use Rattle.kilim_vtypes.specs.TypedProgram.{TypedProgram}
+use Rattle.kilim_typing.specs.TypedProgram.{TypedProgram}
 use Rattle.kilim_pausable_graph.specs.Pausing.{pausable_calls}
 use Rattle.kilim_isolation_check.specs.Faults.{IsAccepted}
 

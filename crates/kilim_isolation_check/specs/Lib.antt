@@ -7,3 +7,4 @@ pub mod IsolatedProgram
 pub mod Examples
 pub mod Laws
 pub mod Checked
+pub mod Made

@@ -8,8 +8,8 @@ use crate::merge::{append, merged};
 use crate::paths::paths_of;
 use kilim_classes::{Class, MethodId};
 use kilim_pausable_graph::{Report, method_reports};
+use kilim_typing::Typed;
 use kilim_units::{NoMemory, Seq};
-use kilim_vtypes::Typed;
 use std::alloc::Global;
 
 // The reports of a method, of its paths among those of the rules 8, 10 and 11.

@@ -5,8 +5,8 @@ ghost use Rattle.kilim_isolation_check.specs.Checked.{IsChecked};
 use crate::check::all_reports;
 use kilim_classes::Program;
 use kilim_pausable_graph::{Pausables, Report, pausable_calls};
+use kilim_typing::Typed;
 use kilim_units::{NoMemory, Seq};
-use kilim_vtypes::Typed;
 use std::alloc::Global;
 use std::marker::Model;
 

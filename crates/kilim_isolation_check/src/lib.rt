@@ -4,6 +4,7 @@
 mod check;
 mod exits;
 mod first;
+mod flow;
 mod isolated;
 mod laws;
 mod machine;
@@ -16,6 +17,7 @@ mod walk;
 
 pub use check::all_reports;
 pub use exits::exits_of;
+pub use flow::transfer;
 pub use isolated::{CheckFault, Isolated, check_program};
 pub use kilim_pausable_graph::Report;
 pub use laws::{accepted_goes_on, examples_hold};

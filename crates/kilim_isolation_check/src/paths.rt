@@ -16,8 +16,8 @@ use kilim_classes::{Frame, Method, MethodId, Program};
 use kilim_lookups::method_at;
 use kilim_paths::{Explored, Report as PathReport, explore};
 use kilim_pausable_graph::Report;
+use kilim_typing::Typed;
 use kilim_units::{NoMemory, Seq};
-use kilim_vtypes::Typed;
 use std::alloc::Global;
 
 /// The number of the rule that too many graphs come to one place.

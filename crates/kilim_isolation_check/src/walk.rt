@@ -12,9 +12,9 @@ ghost use Rattle.kilim_isolation_check.specs.Walks as spec;
 
 use crate::exits::exits_of;
 use crate::tables::{declared_by, fetch, frame_by};
+use crate::transfer;
 use kilim_classes::{Frame, Instr, Method, MethodId, Program};
 use kilim_isolation_rules::StepFault;
-use kilim_isolation_step::transfer;
 use kilim_shape_graph::Graph;
 use kilim_units::{NoMemory, Seq};
 use std::alloc::Global;

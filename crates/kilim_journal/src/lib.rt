@@ -3,6 +3,7 @@
 
 mod acts;
 mod entry;
+mod fits;
 mod lines;
 mod numbers;
 mod pieces;
@@ -10,5 +11,6 @@ mod read;
 mod values;
 
 pub use entry::{Act, Entry};
+pub use fits::journal_fits;
 pub use lines::{shapes_are_values, text, texts_differ, values_are_joined};
 pub use read::{TextFault, read_text};

@@ -4,3 +4,4 @@ pub mod Words
 pub mod Rows
 pub mod Moving
 pub mod trees
+pub mod frames

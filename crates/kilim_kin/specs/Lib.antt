@@ -1,3 +1,4 @@
 pub mod Kin
 pub mod Laws
 pub mod trees
+pub mod frames

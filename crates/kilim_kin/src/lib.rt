@@ -2,6 +2,7 @@
 //! laws about them, which no program calls to do work.
 #![tactic(auto)]
 
+pub mod frames;
 pub mod trees;
 
 ghost use Rattle.kilim_kin.specs.Laws.{MovesAreKin, RowsAreKin};

@@ -12,10 +12,10 @@ use Rattle.kilim_link_spec.specs.declared.view.ClassView.{ClassView}
 use Rattle.kilim_link_spec.specs.declared.view.DeclaredMethod.{DeclaredMethod}
 use Rattle.kilim_link_spec.specs.World.{World, declared_methods, methods_at, is_method}
 use Rattle.kilim_inherited.specs.Inherited.{said_or, line_in, up_in, from_above}
-use Rattle.kilim_nearest.specs.declared.nearest.Nearest.{Nearest}
-use Rattle.kilim_nearest.specs.declared.said.Said.{Said}
-use Rattle.kilim_nearest.specs.Nearest.{said_by, said_of, says, nearest}
-use Rattle.kilim_nearest.specs.Known.{known, Tells}
+use Rattle.kilim_inherited.specs.declared.nearest.Nearest.{Nearest}
+use Rattle.kilim_inherited.specs.declared.said.Said.{Said}
+use Rattle.kilim_inherited.specs.Nearest.{said_by, said_of, says, nearest}
+use Rattle.kilim_inherited.specs.Known.{known, Tells}
 use Rattle.kilim_link_override_faults.specs.declared.heritage.Place.{Place}
 use Rattle.kilim_link_override_faults.specs.Apart.{is_apart, has_apart, says_apart, apart_from}
 use Rattle.kilim_link_override_faults.specs.Parts.{is_shared}

@@ -9,7 +9,7 @@ use Rattle.kilim_link_spec.specs.Qualified.{is_constructor_name}
 use Rattle.kilim_link_spec.specs.declared.view.ClassView.{ClassView}
 use Rattle.kilim_link_spec.specs.declared.view.DeclaredMethod.{DeclaredMethod}
 use Rattle.kilim_link_spec.specs.World.{World, declared_methods, is_method}
-use Rattle.kilim_nearest.specs.declared.said.Said.{Said}
+use Rattle.kilim_inherited.specs.declared.said.Said.{Said}
 use Rattle.kilim_link_override_faults.specs.Parts.{alike}
 use Rattle.kilim_link_override_faults.specs.Heritage.{first_declared, first_shared, sayings}
 

@@ -11,9 +11,9 @@ use Rattle.kilim_link_spec.specs.declared.view.DeclaredMethod.{DeclaredMethod}
 use Rattle.kilim_link_spec.specs.Linked.{first_of}
 use Rattle.kilim_link_spec.specs.World.{World, declared_methods, is_method}
 use Rattle.kilim_inherited.specs.Inherited.{said_or}
-use Rattle.kilim_nearest.specs.declared.nearest.Nearest.{Nearest}
-use Rattle.kilim_nearest.specs.declared.said.Said.{Said}
-use Rattle.kilim_nearest.specs.Known.{known, AllNamed}
+use Rattle.kilim_inherited.specs.declared.nearest.Nearest.{Nearest}
+use Rattle.kilim_inherited.specs.declared.said.Said.{Said}
+use Rattle.kilim_inherited.specs.Known.{known, AllNamed}
 use Rattle.kilim_link_override_faults.specs.declared.heritage.Heritage.{Heritage}
 use Rattle.kilim_link_override_faults.specs.declared.heritage.Place.{Place}
 use Rattle.kilim_link_override_faults.specs.Parts.{is_shared, shared_as, stands_in}

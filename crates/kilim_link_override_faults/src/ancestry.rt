@@ -10,7 +10,7 @@ use crate::apart::apart_of;
 use crate::heritage::Heritage;
 use kilim_classes::ClassId;
 use kilim_link_world::{Signature, World};
-use kilim_nearest::Nearest;
+use kilim_inherited::Nearest;
 use kilim_units::NoMemory;
 use std::alloc::Global;
 

@@ -12,7 +12,7 @@ use crate::signature::signature_of;
 use kilim_classes::ClassId;
 use kilim_link_spec::{ClassView, DeclaredMethod};
 use kilim_link_world::{Signature, World};
-use kilim_nearest::{Nearest, Said};
+use kilim_inherited::{Nearest, Said};
 use kilim_units::{NoMemory, Seq};
 use std::alloc::Global;
 

@@ -8,7 +8,7 @@ use crate::classes::class_file;
 use kilim_class_world::link;
 use kilim_classes::{Form, Program};
 use kilim_classfile::ClassFile;
-use kilim_link_reports::link_line;
+use kilim_reports::link_line;
 use kilim_link_spec::LinkFault;
 use std::alloc::Global;
 use std::rt::Files;

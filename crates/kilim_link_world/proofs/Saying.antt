@@ -9,9 +9,9 @@ use Rattle.std.proofs.lemmas.List.Sums.{sum_by-append, sum_by-cons}
 use Rattle.kilim_lemmas.proofs.Lists.{get_last, get_front, take_next}
 use Rattle.kilim_link_spec.specs.World.{or_else}
 use Rattle.kilim_link_spec.specs.declared.view.ClassView.{ClassView}
-use Rattle.kilim_signatures.specs.Index.{same_signature}
-use Rattle.kilim_nearest.specs.declared.said.Said.{Said}
-use Rattle.kilim_nearest.specs.Nearest.{said_by, said_of}
+use Rattle.kilim_inherited.specs.Index.{same_signature}
+use Rattle.kilim_inherited.specs.declared.said.Said.{Said}
+use Rattle.kilim_inherited.specs.Nearest.{said_by, said_of}
 use Rattle.kilim_link_world.specs.Agrees.{placed}
 use Rattle.kilim_link_world.proofs.Lists.{position_next}
 

@@ -10,13 +10,13 @@ use Rattle.kilim_link_spec.specs.World.{outline_of, methods_at, is_method, field
 use Rattle.kilim_link_spec.specs.declared.view.ClassView.{ClassView}
 use Rattle.kilim_inherited.specs.Trees.{Forest}
 use Rattle.kilim_inherited.specs.Roots.{inherits}
-use Rattle.kilim_nearest.specs.declared.nearest.Nearest.{Nearest}
-use Rattle.kilim_nearest.specs.Known.{known}
+use Rattle.kilim_inherited.specs.declared.nearest.Nearest.{Nearest}
+use Rattle.kilim_inherited.specs.Known.{known}
 use Rattle.kilim_link_world.specs.declared.ids.Ids.{Ids}
-use Rattle.kilim_signatures.specs.declared.index.Index.{Index}
+use Rattle.kilim_inherited.specs.declared.index.Index.{Index}
 use Rattle.kilim_link_world.specs.Ids.{id_in, named_in}
 use Rattle.kilim_link_world.specs.Superclasses.{AreSuperclasses}
-use Rattle.kilim_signatures.specs.Index.{positions, places_from}
+use Rattle.kilim_inherited.specs.Index.{positions, places_from}
 
 -- what is made of each number below a bound, in order
 abbrev pub each_below : {A : Type 0} → (ℕ → A) → ℕ → List A

@@ -18,6 +18,6 @@ mod views;
 mod world;
 
 pub use ids::Ids;
-pub use kilim_signatures::{Index, Signature};
+pub use kilim_inherited::{Index, Signature};
 pub use outline::Outline;
 pub use world::World;

@@ -4,14 +4,14 @@ ghost use Rattle.std.specs.Prelude.{◌≡◌, ◌+◌, ◌<◌, ◌≤◌, ◌^
 ghost use Rattle.std.specs.List.{position_from};
 ghost use Rattle.kilim_classes.specs.declared.names.ClassId as ids;
 ghost use Rattle.kilim_link_spec.specs.World.{is_method, is_field, methods_at, fields_at};
-ghost use Rattle.kilim_nearest.specs.Known.{Tells};
-ghost use Rattle.kilim_nearest.specs.Nearest.{said_by, says};
+ghost use Rattle.kilim_inherited.specs.Known.{Tells};
+ghost use Rattle.kilim_inherited.specs.Nearest.{said_by, says};
 ghost use Rattle.kilim_link_world.specs.Agrees.{method_count, field_count, placed};
 
 use kilim_classes::ClassId;
 use kilim_link_spec::{ClassView, DeclaredField, DeclaredMethod};
-use kilim_nearest::{Nearest, Said};
-use kilim_signatures::Signature;
+use kilim_inherited::{Nearest, Said};
+use kilim_inherited::Signature;
 use kilim_units::{NoMemory, Seq};
 use std::alloc::Global;
 

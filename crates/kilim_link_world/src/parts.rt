@@ -11,8 +11,8 @@ use crate::outline::Outline;
 use kilim_classes::{ClassId, Form};
 use kilim_inherited::Inherited;
 use kilim_link_spec::ClassView;
-use kilim_nearest::Nearest;
-use kilim_signatures::Index;
+use kilim_inherited::Nearest;
+use kilim_inherited::Index;
 use kilim_units::{NoMemory, Seq};
 use std::alloc::Global;
 

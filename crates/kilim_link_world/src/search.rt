@@ -6,7 +6,7 @@ ghost use Rattle.kilim_link_spec.specs.World.{field_id};
 ghost use Rattle.kilim_link_world.specs.Agrees.{indexed};
 
 use kilim_classes::{ClassId, FieldId, MethodId};
-use kilim_signatures::{Index, Signature};
+use kilim_inherited::{Index, Signature};
 use kilim_units::Seq;
 
 /// The places of a member among those of its class, none where it has none.

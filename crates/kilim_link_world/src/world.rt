@@ -8,7 +8,7 @@ ghost use Rattle.kilim_link_spec.specs.World.{world_of, world_with, class_of, vi
 ghost use Rattle.kilim_classes.specs.Keeps.{ancestors_of};
 ghost use Rattle.kilim_link_world.specs.Agrees.{method_count, field_count};
 ghost use Rattle.kilim_link_world.specs.Superclasses.{AreSuperclasses};
-ghost use Rattle.kilim_signatures.specs.Index.{places_from};
+ghost use Rattle.kilim_inherited.specs.Index.{places_from};
 
 use crate::ids::Ids;
 use crate::outline::Outline;
@@ -19,8 +19,8 @@ use kilim_classes::{ClassId, FieldId, Form, MethodId};
 use kilim_classfile::ClassFile;
 use kilim_inherited::Inherited;
 use kilim_link_spec::ClassView;
-use kilim_nearest::Nearest;
-use kilim_signatures::{Index, Signature};
+use kilim_inherited::Nearest;
+use kilim_inherited::{Index, Signature};
 use kilim_units::{NoMemory, Seq, Units};
 use std::alloc::Global;
 use std::marker::Model;

@@ -1,3 +1,6 @@
 pub mod Lists
 pub mod Edges
 pub mod Growing
+mod Entries
+mod Pairs
+mod Rising

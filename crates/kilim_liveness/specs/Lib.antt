@@ -1,2 +1,4 @@
 pub mod Table
 pub mod Marks
+pub mod Edges
+pub mod Listing

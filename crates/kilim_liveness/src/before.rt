@@ -6,8 +6,8 @@ ghost use Rattle.kilim_lookups.specs.Places.{Rising};
 ghost use Rattle.kilim_typing.specs.Typed.{edges};
 ghost use Rattle.kilim_liveness.specs.Marks.{AreBefore, AreEmpty, Further};
 
+use crate::{ends_path, jump_targets};
 use kilim_classes::{Instr, Method};
-use kilim_flow_graph::{ends_path, jump_targets};
 use kilim_units::{NoMemory, Seq};
 use std::alloc::Global;
 

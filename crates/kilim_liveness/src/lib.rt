@@ -3,7 +3,11 @@
 
 mod before;
 mod column;
+mod list;
 mod slots;
 mod table;
+mod targets;
 
+pub use list::edges;
 pub use table::{LiveTable, live};
+pub use targets::{ends_path, jump_targets};

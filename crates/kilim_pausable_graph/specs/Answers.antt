@@ -4,7 +4,7 @@ use Rattle.kilim_pausable_graph.specs.declared.pausing.GraphFault.{GraphFault}
 use Rattle.kilim_pausable_graph.specs.declared.pausing.GraphFault.TheVariants.{Rules, Memory}
 use Rattle.kilim_pausable_graph.specs.declared.pausing.Pausables.{Pausables}
 use Rattle.kilim_pausable_graph.specs.Pausing.{pausing_reports, pausable_calls}
-use Rattle.kilim_vtypes.specs.TypedProgram.{TypedProgram}
+use Rattle.kilim_typing.specs.TypedProgram.{TypedProgram}
 
 -- the calls where there is no report, else all reports; or want of memory
 abbrev pub IsGraph : TypedProgram → Result Pausables GraphFault → Type 0

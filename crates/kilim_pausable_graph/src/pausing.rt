@@ -10,7 +10,7 @@ use crate::report::Report;
 use kilim_classes::{Frame, Instr, Method, MethodId, Program};
 use kilim_lookups::method_at;
 use kilim_units::{NoMemory, Seq};
-use kilim_vtypes::Typed;
+use kilim_typing::Typed;
 use std::alloc::Global;
 
 /// The number of the rule that a pausable method has no free receiver.

@@ -2,6 +2,7 @@
 #![tactic(auto)]
 
 mod adding;
+pub mod growth;
 mod lookup;
 mod need;
 

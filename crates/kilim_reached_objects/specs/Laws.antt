@@ -11,7 +11,7 @@ use Rattle.kilim_program.specs.Machine.{Activation, Objects}
 use Rattle.kilim_thread_model.specs.Reach.{Below, FramesName, Liveness, MaybeNames}
 use Rattle.kilim_typing.specs.Typed.{IsWellTyped, Live, listed_frames}
 use Rattle.kilim_typing_laws.specs.Laws.{typing_at}
-use Rattle.kilim_vtypes.specs.TypedProgram.{TypedProgram}
+use Rattle.kilim_typing.specs.TypedProgram.{TypedProgram}
 use Rattle.kilim_pausable_graph.specs.Pausing.{frames_at}
 use Rattle.kilim_isolation_check.specs.Faults.{IsAccepted}
 use Rattle.kilim_fits.specs.Fits.{AreThere, Classes, Fits, Verified, Wanted}

@@ -1,2 +1,4 @@
 pub mod Names
 pub mod ClassLines
+pub mod LinkLines
+pub mod RuleLines

@@ -2,7 +2,13 @@
 #![tactic(auto)]
 
 mod class_lines;
+mod descriptors;
+mod lines;
+mod link_lines;
 mod names;
 
 pub use class_lines::class_line;
+pub use descriptors::method_descriptor;
+pub use lines::{fault_line, fault_lines, type_line};
+pub use link_lines::link_line;
 pub use names::{descriptor_text, member_name_text};

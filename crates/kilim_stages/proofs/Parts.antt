@@ -5,7 +5,7 @@ use Rattle.kilim_classes.specs.Program.{Program}
 use Rattle.kilim_classfile.specs.declared.class_file.ClassFile.{ClassFile}
 use Rattle.kilim_isolation_check.specs.IsolatedProgram.{IsolatedProgram}
 use Rattle.kilim_isolation_check.specs.Faults.{IsAccepted}
-use Rattle.kilim_vtypes.specs.TypedProgram.{TypedProgram}
+use Rattle.kilim_typing.specs.TypedProgram.{TypedProgram}
 use Rattle.kilim_stages.specs.declared.refusal.Refusal.{Refusal}
 use Rattle.kilim_stages.specs.declared.refusal.Refusal.TheVariants as refusal
 use Rattle.kilim_stages.specs.ProgramOf.{AreFiles, IsProgramOf}

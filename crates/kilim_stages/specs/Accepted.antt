@@ -3,7 +3,7 @@ use Rattle.std.specs.Prelude.{◌≡◌, ℕ, List, None}
 use Rattle.kilim_classes.specs.Program.{Program}
 use Rattle.kilim_typing.specs.Typed.{listed_frames}
 use Rattle.kilim_typing.specs.Faults.{first_type_fault}
-use Rattle.kilim_vtypes.specs.TypedProgram.{TypedProgram}
+use Rattle.kilim_typing.specs.TypedProgram.{TypedProgram}
 use Rattle.kilim_isolation_check.specs.Faults.{IsAccepted}
 use Rattle.kilim_stages.specs.ProgramOf.{IsProgramOf}
 

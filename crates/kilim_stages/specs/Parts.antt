@@ -11,15 +11,15 @@ use Rattle.kilim_link_spec.specs.declared.fault.LinkFault.TheVariants.{InClass}
 use Rattle.kilim_link_spec.specs.declared.fault.Problem.{Problem}
 use Rattle.kilim_link_spec.specs.Faults.{link_faults, first_fault}
 use Rattle.kilim_link_spec.specs.Linked.{Linked}
-use Rattle.kilim_link_reports.specs.LinkLines.{link_line}
+use Rattle.kilim_reports.specs.LinkLines.{link_line}
 use Rattle.kilim_typing.specs.Faults.{first_type_fault}
 use Rattle.kilim_isolation_check.specs.Faults.{AreReports, IsAccepted}
 use Rattle.kilim_isolation_check.specs.IsolatedProgram.{IsolatedProgram}
 use Rattle.kilim_pausable_graph.specs.declared.report.Report.{Report}
-use Rattle.kilim_rule_reports.specs.RuleLines.{fault_lines, type_line}
+use Rattle.kilim_reports.specs.RuleLines.{fault_lines, type_line}
 use Rattle.kilim_stages.specs.declared.refusal.Refusal.{Refusal}
 use Rattle.kilim_stages.specs.declared.refusal.Refusal.TheVariants as refusal
-use Rattle.kilim_vtypes.specs.TypedProgram.{TypedProgram}
+use Rattle.kilim_typing.specs.TypedProgram.{TypedProgram}
 use Rattle.kilim_stages.specs.Accepted.{typed_of, Accepts}
 
 -- where a report was made in place of a value, this is said of its text

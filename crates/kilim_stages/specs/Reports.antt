@@ -11,11 +11,11 @@ use Rattle.kilim_reports.specs.ClassLines.{class_line}
 use Rattle.kilim_link_spec.specs.declared.fault.LinkFault.TheVariants.{InClass}
 use Rattle.kilim_link_spec.specs.declared.fault.Problem.{Problem}
 use Rattle.kilim_link_spec.specs.Faults as link
-use Rattle.kilim_link_reports.specs.LinkLines.{link_line}
+use Rattle.kilim_reports.specs.LinkLines.{link_line}
 use Rattle.kilim_typing.specs.Faults.{first_type_fault}
 use Rattle.kilim_isolation_check.specs.Faults.{AreReports}
 use Rattle.kilim_pausable_graph.specs.declared.report.Report.{Report}
-use Rattle.kilim_rule_reports.specs.RuleLines.{fault_lines, type_line}
+use Rattle.kilim_reports.specs.RuleLines.{fault_lines, type_line}
 use Rattle.kilim_stages.specs.ProgramOf.{AreFiles, IsProgramOf}
 use Rattle.kilim_stages.specs.Accepted.{typed_of}
 

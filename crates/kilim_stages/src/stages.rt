@@ -4,8 +4,8 @@ ghost use Rattle.std.specs.Prelude.{◌≡◌, ◌≤◌, length, map, IfOk};
 ghost use Rattle.std.specs.List.{AllByRecursion};
 ghost use Rattle.std.specs.String.{string_bytes};
 ghost use Rattle.kilim_classfile.specs.Text.{ClassFits};
-ghost use Rattle.kilim_link_reports.specs.LinkLines.{link_line};
-ghost use Rattle.kilim_rule_reports.specs.RuleLines.{fault_lines, type_line};
+ghost use Rattle.kilim_reports.specs.LinkLines.{link_line};
+ghost use Rattle.kilim_reports.specs.RuleLines.{fault_lines, type_line};
 ghost use Rattle.kilim_stages.specs.Accepted.{IsAcceptedOf};
 ghost use Rattle.kilim_stages.specs.Parts.{Refused, IfReport, IsAcceptedBy, IsAcceptedFrom, IsIsolated, IsLinkLine, IsReportOf, IsReportOfClasses, IsTypeLine, IsTyped, LinksTo, AreRuleLinesOf};
 ghost use Rattle.kilim_stages.specs.Reports.{IsStageReport};
@@ -16,12 +16,12 @@ use kilim_class_world::link;
 use kilim_classes::{Form, MethodId, Program};
 use kilim_classfile::ClassFile;
 use kilim_isolation_check::{CheckFault, Isolated, Report, check_program};
-use kilim_link_reports::link_line;
+use kilim_reports::link_line;
 use kilim_link_spec::{LinkFault, Problem};
-use kilim_rule_reports::{fault_lines, type_line};
+use kilim_reports::{fault_lines, type_line};
 use kilim_type_verify::{TypeFault, verify};
 use kilim_units::{Seq, Units};
-use kilim_vtypes::Typed;
+use kilim_typing::Typed;
 use std::alloc::Global;
 
 // The line of class files that don't link.

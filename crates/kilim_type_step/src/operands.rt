@@ -7,7 +7,7 @@ ghost use Rattle.kilim_type_step.specs.Operands.{operand_of};
 ghost use Rattle.kilim_type_step.specs.Tests.{is_reference};
 
 use kilim_classes::{Base, ClassId, Program, Ty, VType};
-use kilim_vtypes::assignable;
+use kilim_typing::assignable;
 
 /// What an instruction takes from a slot.
 #[derive(Clone, Copy)]

@@ -8,7 +8,7 @@ ghost use Rattle.kilim_typing.specs.Faults.{locals_flow, flows_into, flows_into_
 use crate::stated::{declared, has_unset_this, is_declared};
 use kilim_classes::{Frame, Method, Program, VType};
 use kilim_type_step::{State, type_at};
-use kilim_vtypes::assignable;
+use kilim_typing::assignable;
 
 #[tactic(auto, using(crate::proofs::Flowing::flow_on, crate::proofs::Flowing::flow_fails, crate::proofs::Flowing::flow_end))]
 fn locals_flow(program: &Program, from: &[VType], to: &[VType]) -> bool

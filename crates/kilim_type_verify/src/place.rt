@@ -10,7 +10,7 @@ ghost use Rattle.std.specs.Prelude.{List, ℕ};
 use crate::flows::{are_declared, flow_to_all, flows_to};
 use crate::stated::is_declared;
 use kilim_classes::{Instr, Method, Program};
-use kilim_flow_graph::{ends_path, jump_targets};
+use kilim_liveness::{ends_path, jump_targets};
 use kilim_type_step::{State, StepFault, type_step};
 use kilim_units::NoMemory;
 use std::alloc::Global;

@@ -6,7 +6,7 @@ ghost use Rattle.kilim_type_verify.specs.Verified.{IsVerified, MethodsWalked};
 use crate::walk::{Walked, walk};
 use kilim_classes::{Frame, Method, MethodId, Program};
 use kilim_units::{NoMemory, Seq};
-use kilim_vtypes::Typed;
+use kilim_typing::Typed;
 use std::alloc::Global;
 
 /// Why a program isn't well typed, or wasn't verified.

@@ -14,7 +14,7 @@ use crate::frames::{NO_FIT, code_at, frame_fault, listed};
 use crate::place::{NO_FRAME, fails_unless, is_followed, lesser, step};
 use crate::stated::{declared, state_of};
 use kilim_classes::{Frame, Instr, Method, Program};
-use kilim_flow_graph::ends_path;
+use kilim_liveness::ends_path;
 use kilim_type_step::State;
 use kilim_units::NoMemory;
 use std::alloc::{AllocError, Global};

@@ -5,3 +5,4 @@ pub mod Paths
 pub mod Samples
 pub mod Examples
 pub mod Laws
+pub mod TypedProgram

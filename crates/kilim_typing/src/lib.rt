@@ -5,8 +5,15 @@
 //! control goes.
 #![tactic(auto)]
 
+mod flows;
+mod typed;
+
 ghost use Rattle.kilim_typing.specs.Examples.{ExamplesHold};
 ghost use Rattle.kilim_typing.specs.Laws.{NoFaultIsWellTyped};
+
+pub use flows::assignable;
+pub use kilim_classes::{Frame, VType};
+pub use typed::Typed;
 
 /// A law, and no work: the examples of `specs/Examples.antt`.
 pub fn examples_hold()

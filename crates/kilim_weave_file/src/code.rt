@@ -20,7 +20,7 @@ use kilim_units::{NoMemory, Seq};
 use std::alloc::Global;
 
 // The instructions of a woven code in their forms; the counted ones are the old ones, in order.
-#[tactic(auto, unfolding(kilim_woven_file_laws::form::specs::Raw::raw_code))]
+#[tactic(auto, unfolding(kilim_woven_file_laws::specs::form::Raw::raw_code))]
 fn raw_code(
     alloc: Global,
     program: &Program,

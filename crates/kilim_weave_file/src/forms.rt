@@ -162,7 +162,7 @@ fn copied(instr: &RawInstr) -> Result<RawInstr, NoMemory>
 
 /// An old instruction at its new place, with the indices of the new pool: it keeps its form and its index, but for jumps,
 /// switches, loads, stores and pausable calls. The old pool says what it names.
-#[tactic(auto, unfolding(kilim_woven_file_laws::form::specs::Raw::moved_raw))]
+#[tactic(auto, unfolding(kilim_woven_file_laws::specs::form::Raw::moved_raw))]
 pub fn moved_raw(
     alloc: Global,
     program: &Program,
@@ -224,7 +224,7 @@ fn plain_number(instr: &Instr) -> u8
 }
 
 /// An instruction that weaving adds, with the indices of the new pool.
-#[tactic(auto, unfolding(kilim_woven_file_laws::form::specs::Raw::added_raw))]
+#[tactic(auto, unfolding(kilim_woven_file_laws::specs::form::Raw::added_raw))]
 pub fn added_raw(
     alloc: Global,
     program: &Program,

@@ -13,7 +13,7 @@ use kilim_classes::{Frame, Program, Ty, VType};
 use kilim_constant_pool::Pool;
 use kilim_pool_needs::{Need, index_of};
 use kilim_units::{NoMemory, Seq};
-use kilim_woven_names::type_name;
+use kilim_woven_sizes::type_name;
 use std::alloc::Global;
 
 // The entry of a class is found by the text of its name.
@@ -131,7 +131,7 @@ fn full_frame(
 }
 
 /// The frames of a table, in their order.
-#[tactic(auto, unfolding(kilim_woven_file_laws::form::specs::FullFrames::full_frames))]
+#[tactic(auto, unfolding(kilim_woven_file_laws::specs::form::FullFrames::full_frames))]
 pub fn full_frames(
     alloc: Global,
     program: &Program,

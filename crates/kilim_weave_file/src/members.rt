@@ -15,7 +15,7 @@ use kilim_classfile::{ClassFile, MemberInfo};
 use kilim_constant_pool::Pool;
 use kilim_pool_needs::text_index;
 use kilim_units::{NoMemory, Seq, Units};
-use kilim_woven_names::woven_descriptor;
+use kilim_woven_sizes::woven_descriptor;
 use std::alloc::Global;
 
 // One parameter more, without annotations (JVMS 4.7.18). A count of 255 has no room for one: it would be answered as want of memory.

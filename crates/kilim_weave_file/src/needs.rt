@@ -18,7 +18,7 @@ use kilim_link_mentions::decoded;
 use kilim_opcodes::RawInstr;
 use kilim_pool_needs::Need;
 use kilim_units::{NoMemory, Seq, Units};
-use kilim_woven_names::{is_pausable_call, needed_method, type_name, woven_descriptor};
+use kilim_woven_sizes::{is_pausable_call, needed_method, type_name, woven_descriptor};
 use std::alloc::Global;
 
 // ---- calls

@@ -8,7 +8,7 @@ use Rattle.kilim_classes.specs.BuiltIn.{fiber_classes}
 use Rattle.kilim_classes.specs.Keeps.{Keeps}
 use Rattle.kilim_classes.specs.Program.{Program}
 use Rattle.kilim_typing.specs.Typed.{IsWellTyped}
-use Rattle.kilim_vtypes.specs.TypedProgram.{KeepsTyped, TypedProgram}
+use Rattle.kilim_typing.specs.TypedProgram.{KeepsTyped, TypedProgram}
 use Rattle.kilim_isolation_check.specs.Faults.{IsAccepted}
 use Rattle.kilim_woven_form.specs.Form.{AllWoven, WovenForm, first_class, first_method}
 use Rattle.kilim_woven_programs.specs.kept.Law.{WovenIsKept}

@@ -10,7 +10,7 @@ use crate::fault::WeaveFault;
 use kilim_classes::{Class, Instr, Method, MethodId, Program};
 use kilim_lookups::method_at;
 use kilim_mutf8::write;
-use kilim_rule_reports::method_descriptor;
+use kilim_reports::method_descriptor;
 use kilim_units::{NoMemory, Units};
 use kilim_woven_code::calls_in;
 use kilim_woven_method::argument_slots;

@@ -12,7 +12,7 @@ use crate::faults::weave_fault;
 use kilim_classes::{Class, Field, Form, Program};
 use kilim_isolation_check::Isolated;
 use kilim_units::{NoMemory, Seq};
-use kilim_vtypes::Typed;
+use kilim_typing::Typed;
 use kilim_woven_each::{
     Methods, keeps_program, keeps_typed, typed_classes, typed_fields, woven_methods,
 };

@@ -12,7 +12,7 @@ use Rattle.kilim_thread_model.specs.Runs.{Whole}
 use Rattle.kilim_exchange.specs.Seen.{MovedWhole}
 use Rattle.kilim_record_fiber.specs.named.Named.{ServesNamed}
 use Rattle.kilim_one_heap.specs.Laws.{MovedIsWhole}
-use Rattle.kilim_readable_runs.specs.Laws.{RunsAreReadable}
+use Rattle.kilim_at_rest.specs.readable.Laws.{RunsAreReadable}
 use Rattle.kilim_worker_pool.specs.Pool.{IsOf}
 use Rattle.kilim_woven_fiber.specs.declared.code.Code.{Code}
 use Rattle.kilim_woven_follows.specs.Served.{CanServe}

@@ -6,7 +6,7 @@ ghost use Rattle.kilim_record_fiber.specs.named.Named.{ServesNamed};
 ghost use Rattle.kilim_thread_model.specs.State.{Setting};
 ghost use Rattle.kilim_worker_pool.specs.Pool.{IsOf};
 
-use kilim_boxed_fibers::Boxed;
+use kilim_fibers::boxed::Boxed;
 use kilim_classes::ClassId;
 use kilim_journal::Entry;
 use kilim_record_fiber::named::{Named, Woven};

@@ -13,7 +13,7 @@ use Rattle.kilim_classes.specs.Program.{Program}
 use Rattle.kilim_fits.proofs.FromKeeps.{all_at}
 use Rattle.kilim_typing.specs.Typed.{IsLive, WellTypedBy, frames_of, has_code, listed}
 use Rattle.kilim_typing_laws.specs.Laws.{TypedByPlace, typing_in}
-use Rattle.kilim_vtypes.specs.TypedProgram.{KeepsTyped, TypedProgram}
+use Rattle.kilim_typing.specs.TypedProgram.{KeepsTyped, TypedProgram}
 use Rattle.kilim_woven_code.specs.Listed.{Listed}
 use Rattle.kilim_woven_form.specs.Form.{IsWoven, has_calls, plan_of, woven_as}
 use Rattle.kilim_woven_form.specs.Weight.{calls_in}

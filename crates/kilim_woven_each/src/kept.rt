@@ -1,10 +1,10 @@
 //! What the types of programs keep: laws, and no code that does work.
 
 ghost use Rattle.kilim_classes.specs.Keeps.{Keeps};
-ghost use Rattle.kilim_vtypes.specs.TypedProgram.{KeepsTyped};
+ghost use Rattle.kilim_typing.specs.TypedProgram.{KeepsTyped};
 
 use kilim_classes::Program;
-use kilim_vtypes::Typed;
+use kilim_typing::Typed;
 
 /// A law, and no work: what the type of a typed program keeps.
 pub fn keeps_typed(typed: &Typed)

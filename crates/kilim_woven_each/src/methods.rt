@@ -3,7 +3,7 @@
 ghost use Rattle.std.specs.Prelude.{◌≡◌, ◌<◌, ◌++◌, true, length, map, slice_get, option_copied, Some, IfOk};
 ghost use Rattle.kilim_classes.specs.Names.{method_at};
 ghost use Rattle.kilim_typing.specs.Typed.{has_code};
-ghost use Rattle.kilim_vtypes.specs.TypedProgram.{KeepsTyped};
+ghost use Rattle.kilim_typing.specs.TypedProgram.{KeepsTyped};
 ghost use Rattle.kilim_woven_code.specs.Listed.{Listed};
 ghost use Rattle.kilim_woven_form.specs.Form.{AllWoven, IsWoven, all_counted};
 ghost use Rattle.kilim_woven_each.specs.Each.{IsEachWoven};
@@ -16,7 +16,7 @@ use crate::kept::keeps;
 use kilim_classes::{Frame, Method, MethodId, Program};
 use kilim_typing_laws::typed_by_place;
 use kilim_units::{NoMemory, Seq};
-use kilim_vtypes::Typed;
+use kilim_typing::Typed;
 use std::alloc::Global;
 
 /// Methods, and which of their instructions count.

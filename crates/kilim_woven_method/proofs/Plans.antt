@@ -7,8 +7,8 @@ use Rattle.kilim_woven_form.specs.Woven.{Label, Old, Plan, Resumes, behind, wove
 use Rattle.kilim_woven_program.specs.labels.Law.{found, found_plan}
 use Rattle.kilim_woven_form.specs.shape.Law.{PlacesDontMatter, labels_from, placed}
 use Rattle.kilim_woven_code.specs.Places.{Tables, at_in, block_in, or_else}
-use Rattle.kilim_woven_layout.specs.Found.{AreFound, first_place_of, looked}
-use Rattle.kilim_woven_layout.proofs.Finding.{found_is}
+use Rattle.kilim_woven_method.specs.Found.{AreFound, first_place_of, looked}
+use Rattle.kilim_woven_method.proofs.Finding.{found_is}
 
 same_function : (f g : ℕ → ℕ) → ((n : ℕ) → f n ≡ g n) → f ≡ g
 same_function f g h = λ i n. h n i

@@ -1,1 +1,3 @@
 pub mod Flags
+pub mod Laid
+pub mod Found

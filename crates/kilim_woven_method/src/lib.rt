@@ -2,10 +2,15 @@
 #![tactic(auto)]
 
 mod copy;
+mod find;
 mod flags;
+mod layout;
 mod method;
+mod size;
 mod slots;
 
 pub use copy::{copy_method, copy_types};
+pub use find::{nowhere, places_of};
+pub use layout::{Laid, lay};
 pub use method::{Slots, woven};
 pub use slots::argument_slots;

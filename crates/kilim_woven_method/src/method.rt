@@ -16,11 +16,11 @@ ghost use Rattle.kilim_woven_method.specs.Flags.{AreSlots};
 use crate::copy::copy_types;
 use crate::flags::declared_flags;
 use crate::slots::{argument_slots, fiber_slot, plus};
+use crate::{Laid, lay, nowhere, places_of};
 use kilim_classes::{Base, ClassId, Frame, Method, Program, Qualifier, Ty};
 use kilim_liveness::LiveTable;
 use kilim_units::{NoMemory, Seq};
 use kilim_woven_code::{Items, Places, Plan, woven_items};
-use kilim_woven_layout::{Laid, lay, nowhere, places_of};
 use kilim_woven_form::shape::places_dont_matter;
 use std::alloc::Global;
 

@@ -6,7 +6,7 @@ use Rattle.kilim_isolation_check.specs.Faults.{AreReports, AreReportsOfAll, earl
 use Rattle.kilim_lemmas.proofs.Lists.{front_none, rest_none}
 use Rattle.kilim_pausable_graph.specs.declared.report.Report.{Report}
 use Rattle.kilim_pausable_graph.specs.Pausing.{all_methods, pausing_reports, reports_of}
-use Rattle.kilim_vtypes.specs.TypedProgram.{TypedProgram}
+use Rattle.kilim_typing.specs.TypedProgram.{TypedProgram}
 use Rattle.kilim_woven_pauses.proofs.Pauses.{kept, none_free}
 use Rattle.kilim_woven_pauses.specs.Law.{AcceptedKeepsPauses, ReceiversAreHeld}
 

@@ -22,7 +22,7 @@ use Rattle.kilim_typing.specs.Step.{Types, is_unset, peek}
 use Rattle.kilim_typing.specs.Typed.{entry, frames_of, has_code, listed, typing_of}
 use Rattle.kilim_typing_laws.specs.Laws.{Shows}
 use Rattle.kilim_typing_laws.proofs.Listed.{listed_frames_show}
-use Rattle.kilim_vtypes.specs.TypedProgram.{KeepsTyped, TypedProgram}
+use Rattle.kilim_typing.specs.TypedProgram.{KeepsTyped, TypedProgram}
 use Rattle.kilim_woven_form.specs.Woven.{if_there, pausable_callee, taken}
 use Rattle.kilim_woven_types.specs.Facts.{CallsNone}
 use Rattle.kilim_woven_types.proofs.Codes.{whole_code}

@@ -1,6 +1,10 @@
 //! How large a woven class file may become, by the bounds of kilim_woven_file_laws::form.
 #![tactic(auto)]
 
+mod calls;
 mod sizes;
+mod texts;
 
+pub use calls::is_pausable_call;
 pub use sizes::{added_entries, longest_text, methods_bytes, plus, size_by};
+pub use texts::{needed_method, type_descriptor, type_name, woven_descriptor};

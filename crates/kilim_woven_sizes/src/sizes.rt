@@ -8,12 +8,12 @@ ghost use Rattle.kilim_woven_file_laws.specs.form.Sizes.{added_entries, class_lo
 ghost use Rattle.kilim_woven_sizes.specs.Parts.{bytes_of};
 ghost use Rattle.kilim_woven_file_laws.specs.form.WovenFile.{pairs_of};
 
+use crate::{is_pausable_call, type_descriptor};
 use kilim_classes::{Class, Field, Instr, Method, Program};
 use kilim_classfile::MemberInfo;
 use kilim_mutf8::write;
-use kilim_rule_reports::method_descriptor;
+use kilim_reports::method_descriptor;
 use kilim_units::{NoMemory, Seq, Units};
-use kilim_woven_names::{is_pausable_call, type_descriptor};
 use std::alloc::Global;
 
 // A sum that is no u64, which no program has, would be answered as want of memory.
@@ -198,7 +198,7 @@ fn field_longest(
 }
 
 /// The greatest length in bytes of a class name, a member's name or a descriptor of a program, in modified UTF-8 (JVMS 4.4.7).
-#[tactic(auto, unfolding(kilim_woven_file_laws::form::specs::Sizes::longest_text))]
+#[tactic(auto, unfolding(kilim_woven_file_laws::specs::form::Sizes::longest_text))]
 pub fn longest_text(alloc: Global, program: &Program) -> Result<usize, NoMemory>
     ensures { IfOk result (λ n. n ≡ longest_text program.now) }
 {

@@ -4,7 +4,7 @@ use Rattle.std.specs.Fmt.{decimal}
 use Rattle.kilim_classes.specs.declared.names.MethodId.{MethodId}
 use Rattle.kilim_classes.specs.Names.{method_at}
 use Rattle.kilim_classes.specs.Program.{Program}
-use Rattle.kilim_rule_reports.specs.RuleLines.{words_of}
+use Rattle.kilim_reports.specs.RuleLines.{words_of}
 use Rattle.kilim_stages.specs.Accepted.{IsAcceptedOf}
 use Rattle.kilim_stages.specs.Reports.{IsStageReport}
 use Rattle.kilim_weaver.specs.declared.fault.WeaveFault.{WeaveFault}

@@ -4,14 +4,14 @@ ghost use Rattle.std.specs.Prelude.{◌≡◌, ◌++◌, IfOk, codes};
 ghost use Rattle.std.specs.Fmt.{decimal};
 ghost use Rattle.kilim_classes.specs.Names.{class_name, method_at};
 ghost use Rattle.kilim_reports.specs.Names.{member_name_text};
-ghost use Rattle.kilim_rule_reports.specs.RuleLines.{method_words, words_of};
+ghost use Rattle.kilim_reports.specs.RuleLines.{method_words, words_of};
 ghost use Rattle.kilim_stages.specs.Parts.{Refused};
 ghost use Rattle.kilim_woven_stage.specs.Reports.{IsMethodLine, arguments_line, too_long_line};
 
 use kilim_classes::{ClassId, Method, MethodId, Program};
 use kilim_lookups::{class_at, method_at};
 use kilim_reports::{descriptor_text, member_name_text};
-use kilim_rule_reports::method_descriptor;
+use kilim_reports::method_descriptor;
 use kilim_stages::Refusal;
 use kilim_units::{NoMemory, Units};
 use kilim_weaver::WeaveFault;

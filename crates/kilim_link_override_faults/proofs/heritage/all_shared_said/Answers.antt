@@ -1,7 +1,7 @@
 use Rattle.std.proofs.Common.{◌≡◌, ◌+◌, ◌++◌, List, length, get_or, drop, ap, ◌∙◌, arith}
 use Rattle.kilim_classes.specs.BuiltIn.{class_id}
 use Rattle.kilim_link_spec.specs.declared.view.DeclaredMethod.{DeclaredMethod}
-use Rattle.kilim_nearest.specs.declared.said.Said.{Said}
+use Rattle.kilim_inherited.specs.declared.said.Said.{Said}
 use Rattle.kilim_link_override_faults.specs.Heritage.{numbered, places_in, all_numbered}
 use Rattle.kilim_link_override_faults.proofs.Placing.{said_more, places_more}
 use Rattle.kilim_link_override_faults.proofs.heritage.all_shared_said.Goals as goal

@@ -1,5 +1,5 @@
 use Rattle.std.proofs.Common.{◌∙◌, ap}
-use Rattle.kilim_vtypes.specs.TypedProgram.{TypedProgram}
+use Rattle.kilim_typing.specs.TypedProgram.{TypedProgram}
 use Rattle.kilim_weaver.specs.Faults.{weave_fault}
 use Rattle.kilim_weaver.proofs.weaving.fault_of_typed.Goals as goal
 

@@ -1,5 +1,5 @@
 use Rattle.std.proofs.Common.{subst}
-use Rattle.kilim_vtypes.specs.TypedProgram.{KeepsTyped, TypedProgram}
+use Rattle.kilim_typing.specs.TypedProgram.{KeepsTyped, TypedProgram}
 use Rattle.kilim_woven_each.proofs.kept.keeps_typed.Goals as goal
 
 pub returns : goal.returns

@@ -1,6 +1,6 @@
 use Rattle.std.proofs.Common.{List, subst, sym}
 use Rattle.kilim_classes.specs.declared.verified.Frame.{Frame}
-use Rattle.kilim_vtypes.specs.TypedProgram.{KeepsTyped, TypedProgram}
+use Rattle.kilim_typing.specs.TypedProgram.{KeepsTyped, TypedProgram}
 use Rattle.kilim_woven_form.specs.Form.{AllWoven}
 use Rattle.kilim_woven_each.proofs.methods.woven_methods.Goals as goal
 

@@ -4,8 +4,8 @@ use Rattle.kilim_woven_form.specs.Form.{plan_of}
 use Rattle.kilim_woven_form.specs.Woven as form
 use Rattle.kilim_woven_code.specs.Listed.{AreDeclared}
 use Rattle.kilim_woven_code.specs.Places.{at_in, block_in}
-use Rattle.kilim_woven_layout.specs.Found.{AreFound}
-use Rattle.kilim_woven_layout.specs.Laid.{IsLaid}
+use Rattle.kilim_woven_method.specs.Found.{AreFound}
+use Rattle.kilim_woven_method.specs.Laid.{IsLaid}
 use Rattle.kilim_woven_method.proofs.Plans.{plan_found}
 use Rattle.kilim_woven_method.proofs.Weaving.{woven_is}
 use Rattle.kilim_woven_method.proofs.method.woven.Goals as goal

@@ -1,6 +1,0 @@
-//! The step of an instruction on a path.
-#![tactic(auto)]
-
-mod flow;
-
-pub use flow::transfer;

@@ -1,4 +1,0 @@
-mod Growing
-mod Named
-mod Numbered
-mod Telling

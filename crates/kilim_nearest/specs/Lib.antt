@@ -1,3 +1,0 @@
-pub mod Nearest
-pub mod Keyed
-pub mod Known

@@ -1,0 +1,131 @@
+//! The lines of faults.
+
+ghost use Rattle.std.specs.Prelude.{◌≡◌, ◌++◌, IfOk, codes};
+ghost use Rattle.std.specs.Fmt.{decimal};
+ghost use Rattle.std.specs.List.{flat_map};
+ghost use Rattle.kilim_classes.specs.Names.{class_name, method_at};
+ghost use Rattle.kilim_reports.specs.Names.{member_name_text};
+ghost use Rattle.kilim_reports.specs.RuleLines as spec;
+
+use crate::descriptors::method_descriptor;
+use crate::{descriptor_text, member_name_text};
+use kilim_classes::{ClassId, Method, MethodId, Program};
+use kilim_lookups::{class_at, method_at};
+use kilim_pausable_graph::Report;
+use kilim_units::{NoMemory, Units};
+use std::alloc::Global;
+
+fn class_text(alloc: Global, program: &Program, class: ClassId) -> Result<Vec<u8>, NoMemory>
+    ensures { IfOk result (λ text. text.items ≡ member_name_text (class_name program.now class)) }
+{
+    match class_at(program, class) {
+        None => {
+            let nothing = Units::from_slice(alloc, &[])?;
+            member_name_text(alloc, &nothing)
+        }
+        Some(found) => member_name_text(alloc, &found.name),
+    }
+}
+
+fn method_words(alloc: Global, program: &Program, method: &Method) -> Result<Vec<u8>, NoMemory>
+    ensures { IfOk result (λ text. text.items ≡ spec.method_words program.now method.now) }
+{
+    let mut text = class_text(alloc, program, method.owner)?;
+    let name = member_name_text(alloc, &method.name)?;
+    let units = method_descriptor(alloc, program, method)?;
+    let descriptor = descriptor_text(alloc, &units)?;
+    text.push(b' ')?;
+    text.extend_from_slice(name.as_slice())?;
+    text.extend_from_slice(descriptor.as_slice())?;
+    Ok(text)
+}
+
+fn words_of(alloc: Global, program: &Program, id: MethodId) -> Result<Vec<u8>, NoMemory>
+    ensures { IfOk result (λ text. text.items ≡ spec.words_of program.now (method_at program.now id)) }
+{
+    match method_at(program, id) {
+        None => Ok(Vec::new(alloc)),
+        Some(method) => method_words(alloc, program, method),
+    }
+}
+
+fn push_number(text: &mut Vec<u8>, number: u32) -> Result<(), NoMemory>
+    ensures { IfOk result (λ u. text.new.items ≡ text.old.items ++ decimal number) }
+{
+    let digits = format!(in *text.allocator(); "{number}")?;
+    text.extend_from_slice(digits.as_bytes())?;
+    Ok(())
+}
+
+fn push_places(text: &mut Vec<u8>, path: &[u32]) -> Result<(), NoMemory>
+    ensures { IfOk result (λ u. text.new.items ≡ text.old.items ++ spec.places path.now) }
+{
+    for at in path {
+        text.push(b' ')?;
+        push_number(text, *at)?;
+    }
+    Ok(())
+}
+
+fn push_path(text: &mut Vec<u8>, path: &[u32]) -> Result<(), NoMemory>
+    ensures { IfOk result (λ u. text.new.items ≡ text.old.items ++ spec.path_words path.now) }
+{
+    if path.is_empty() {
+        return Ok(());
+    }
+    text.extend_from_slice(b" path")?;
+    push_places(text, path)
+}
+
+/// The line of a broken rule, with its line feed.
+pub fn fault_line(alloc: Global, program: &Program, report: &Report) -> Result<Vec<u8>, NoMemory>
+    ensures { IfOk result (λ text. text.items ≡ spec.fault_line program.now report.now) }
+{
+    let words = words_of(alloc, program, report.method)?;
+    let mut text = Vec::from_slice(alloc, b"fault ")?;
+    text.extend_from_slice(words.as_slice())?;
+    text.push(b' ')?;
+    push_number(&mut text, report.pc)?;
+    text.extend_from_slice(b" I")?;
+    push_number(&mut text, u32::from(report.rule))?;
+    push_path(&mut text, report.path.as_slice())?;
+    text.push(b'\n')?;
+    Ok(text)
+}
+
+/// The lines of broken rules, in their order.
+pub fn fault_lines(
+    alloc: Global,
+    program: &Program,
+    reports: &[Report],
+) -> Result<Vec<u8>, NoMemory>
+    ensures { IfOk result (λ text. text.items ≡ spec.fault_lines program.now reports.now) }
+{
+    let mut text = Vec::new(alloc);
+    for report in reports {
+        let line = fault_line(alloc, program, report)?;
+        text.extend_from_slice(line.as_slice())?;
+    }
+    Ok(text)
+}
+
+/// The line of a broken rule of typing, with its line feed.
+pub fn type_line(
+    alloc: Global,
+    program: &Program,
+    method: MethodId,
+    pc: u32,
+    rule: u8,
+) -> Result<Vec<u8>, NoMemory>
+    ensures { IfOk result (λ text. text.items ≡ spec.type_line program.now method pc rule) }
+{
+    let words = words_of(alloc, program, method)?;
+    let mut text = Vec::from_slice(alloc, b"type ")?;
+    text.extend_from_slice(words.as_slice())?;
+    text.push(b' ')?;
+    push_number(&mut text, pc)?;
+    text.extend_from_slice(b" rule ")?;
+    push_number(&mut text, u32::from(rule))?;
+    text.push(b'\n')?;
+    Ok(text)
+}

@@ -1,2 +1,0 @@
-mod Signatures
-mod Numbering

@@ -1,0 +1,227 @@
+//! Descriptors with the fiber, and names of classes and members.
+
+ghost use Rattle.std.specs.Prelude.{◌≡◌, ◌++◌, ◌∷◌, [], Some, None, IfOk, OnOk};
+ghost use Rattle.std.specs.List.{flat_map};
+ghost use Rattle.kilim_classes.specs.Names.{base_descriptor, class_name, descriptor};
+ghost use Rattle.kilim_descriptors.specs.Text.{base_text, field_text, method_text, result_text};
+ghost use Rattle.kilim_pool_needs.specs.declared.need.Need.TheVariants.{AMethod};
+ghost use Rattle.kilim_woven_file_laws.specs.form.Texts.{class_entry_name, fiber_added, fiber_text, member_need, needed_method, type_name, with_fiber, woven_descriptor};
+
+use kilim_classes::{Base, ClassId, Method, MethodId, Program, Ty};
+use kilim_descriptors::{BaseText, FieldText, MethodText};
+use kilim_link_mentions::method_text;
+use kilim_lookups::{class_at, method_at};
+use kilim_pool_needs::Need;
+use kilim_reports::method_descriptor;
+use kilim_units::{NoMemory, Units};
+use std::alloc::Global;
+
+/// The unit with which an array's descriptor begins, once for each dimension.
+const BRACKET: u16 = 91;
+
+// ---- descriptors as they are read
+
+fn push_base_text(out: &mut Vec<u16>, base: &BaseText) -> Result<(), NoMemory>
+    ensures { OnOk result (out.new.items ≡ out.old.items ++ base_text base.now) }
+{
+    match base {
+        BaseText::Bool => out.push(90)?,
+        BaseText::Byte => out.push(66)?,
+        BaseText::Char => out.push(67)?,
+        BaseText::Short => out.push(83)?,
+        BaseText::Int => out.push(73)?,
+        BaseText::Long => out.push(74)?,
+        BaseText::Float => out.push(70)?,
+        BaseText::Double => out.push(68)?,
+        BaseText::Class(name) => {
+            out.push(76)?;
+            out.extend_from_slice(name.as_slice())?;
+            out.push(59)?;
+        }
+    }
+    Ok(())
+}
+
+fn push_field_text(alloc: Global, out: &mut Vec<u16>, field: &FieldText) -> Result<(), NoMemory>
+    ensures { OnOk result (out.new.items ≡ out.old.items ++ field_text field.now) }
+{
+    let brackets = vec![in alloc; BRACKET; usize::from(field.dims)]?;
+    out.extend_from_slice(brackets.as_slice())?;
+    push_base_text(out, &field.base)
+}
+
+fn push_params(alloc: Global, out: &mut Vec<u16>, params: &[FieldText]) -> Result<(), NoMemory>
+    ensures { OnOk result (out.new.items ≡ out.old.items ++ flat_map field_text params.now) }
+{
+    for field in params {
+        push_field_text(alloc, out, field)?;
+    }
+    Ok(())
+}
+
+fn push_result(
+    alloc: Global,
+    out: &mut Vec<u16>,
+    outcome: &Option<FieldText>,
+) -> Result<(), NoMemory>
+    ensures { OnOk result (out.new.items ≡ out.old.items ++ result_text outcome.now) }
+{
+    match outcome {
+        None => {
+            out.push(86)?;
+            Ok(())
+        }
+        Some(field) => push_field_text(alloc, out, field),
+    }
+}
+
+// `Lkilim/Fiber;`
+fn push_fiber(out: &mut Vec<u16>) -> Result<(), NoMemory>
+    ensures { OnOk result (out.new.items ≡ out.old.items ++ field_text fiber_text) }
+{
+    out.extend_from_slice(&[76, 107, 105, 108, 105, 109, 47, 70, 105, 98, 101, 114, 59])?;
+    Ok(())
+}
+
+// The parameters, and the fiber behind them.
+#[tactic(auto, using(crate::proofs::Lists::flat_map_last))]
+fn push_params_and_fiber(
+    alloc: Global,
+    out: &mut Vec<u16>,
+    params: &[FieldText],
+) -> Result<(), NoMemory>
+    ensures { OnOk result (out.new.items ≡ out.old.items ++ flat_map field_text (params.now ++ fiber_text ∷ [])) }
+{
+    push_params(alloc, out, params)?;
+    push_fiber(out)
+}
+
+fn text_with_fiber(alloc: Global, method: &MethodText) -> Result<Units, NoMemory>
+    ensures { IfOk result (λ units. units ≡ method_text (with_fiber method.now)) }
+{
+    let mut out = Vec::new(alloc);
+    out.push(40)?;
+    push_params_and_fiber(alloc, &mut out, method.params.as_slice())?;
+    out.push(41)?;
+    push_result(alloc, &mut out, &method.result)?;
+    Ok(Units::from_vec(alloc, out)?)
+}
+
+/// A method's descriptor with the fiber as its last parameter (JVMS 4.3.3); a text that is none stays.
+#[tactic(auto, unfolding(kilim_woven_file_laws::specs::form::Texts::woven_descriptor))]
+pub fn woven_descriptor(alloc: Global, units: &Units) -> Result<Units, NoMemory>
+    ensures { IfOk result (λ text. text ≡ woven_descriptor units.now) }
+{
+    match method_text(alloc, units)? {
+        Some(method) => text_with_fiber(alloc, &method),
+        None => Ok(units.clone()?),
+    }
+}
+
+// ---- names of a program
+
+fn push_class(out: &mut Vec<u16>, program: &Program, class: ClassId) -> Result<(), NoMemory>
+    ensures { OnOk result (out.new.items ≡ out.old.items ++ class_name program.now class) }
+{
+    match class_at(program, class) {
+        None => Ok(()),
+        Some(found) => {
+            out.extend_from_slice(found.name.as_slice())?;
+            Ok(())
+        }
+    }
+}
+
+fn push_base(out: &mut Vec<u16>, program: &Program, base: Base) -> Result<(), NoMemory>
+    ensures { OnOk result (out.new.items ≡ out.old.items ++ base_descriptor program.now base) }
+{
+    match base {
+        Base::Bool => out.push(90)?,
+        Base::Byte => out.push(66)?,
+        Base::Char => out.push(67)?,
+        Base::Short => out.push(83)?,
+        Base::Int => out.push(73)?,
+        Base::Long => out.push(74)?,
+        Base::Class(class) => {
+            out.push(76)?;
+            push_class(out, program, class)?;
+            out.push(59)?;
+        }
+    }
+    Ok(())
+}
+
+fn push_type(out: &mut Vec<u16>, program: &Program, ty: Ty) -> Result<(), NoMemory>
+    ensures { OnOk result (out.new.items ≡ out.old.items ++ descriptor program.now ty) }
+{
+    for _ in 0..ty.dims {
+        out.push(BRACKET)?;
+    }
+    push_base(out, program, ty.base)
+}
+
+fn push_entry_name(out: &mut Vec<u16>, program: &Program, ty: Ty) -> Result<(), NoMemory>
+    ensures { OnOk result (out.new.items ≡ out.old.items ++ class_entry_name program.now ty ty.base) }
+{
+    match ty.base {
+        Base::Class(class) => {
+            if ty.dims == 0 {
+                push_class(out, program, class)
+            } else {
+                push_type(out, program, ty)
+            }
+        }
+        _ => push_type(out, program, ty),
+    }
+}
+
+/// What a Class entry of a type holds: the name of a class, or an array's descriptor (JVMS 4.4.1).
+pub fn type_name(alloc: Global, program: &Program, ty: Ty) -> Result<Units, NoMemory>
+    ensures { IfOk result (λ name. name ≡ type_name program.now ty) }
+{
+    let mut out = Vec::new(alloc);
+    push_entry_name(&mut out, program, ty)?;
+    Ok(Units::from_vec(alloc, out)?)
+}
+
+/// A type's descriptor (JVMS 4.3.2).
+pub fn type_descriptor(alloc: Global, program: &Program, ty: Ty) -> Result<Units, NoMemory>
+    ensures { IfOk result (λ text. text ≡ descriptor program.now ty) }
+{
+    let mut out = Vec::new(alloc);
+    push_type(&mut out, program, ty)?;
+    Ok(Units::from_vec(alloc, out)?)
+}
+
+fn class_units(alloc: Global, program: &Program, class: ClassId) -> Result<Units, NoMemory>
+    ensures { IfOk result (λ name. name ≡ class_name program.now class) }
+{
+    let mut out = Vec::new(alloc);
+    push_class(&mut out, program, class)?;
+    Ok(Units::from_vec(alloc, out)?)
+}
+
+fn member_need(alloc: Global, program: &Program, method: &Method) -> Result<Need, NoMemory>
+    ensures { IfOk result (λ need. need ≡ member_need program.now (Some method.now)) }
+{
+    let owner = class_units(alloc, program, method.owner)?;
+    let descriptor = method_descriptor(alloc, program, method)?;
+    Ok(Need::AMethod(owner, method.name.clone()?, descriptor))
+}
+
+fn no_member(alloc: Global) -> Result<Need, NoMemory>
+    ensures { IfOk result (λ need. need ≡ AMethod [] [] []) }
+{
+    let nothing = Units::from_slice(alloc, &[])?;
+    Ok(Need::AMethod(nothing.clone()?, nothing.clone()?, nothing))
+}
+
+/// What a call of a method needs, by its names in the program.
+pub fn needed_method(alloc: Global, program: &Program, id: MethodId) -> Result<Need, NoMemory>
+    ensures { IfOk result (λ need. need ≡ needed_method program.now id) }
+{
+    match method_at(program, id) {
+        Some(method) => member_need(alloc, program, method),
+        None => no_member(alloc),
+    }
+}
