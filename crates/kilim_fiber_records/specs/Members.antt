@@ -2,7 +2,7 @@
 use Rattle.std.specs.Prelude.{◌≡◌, ℕ, List, [], ◌∷◌, Option, Some, None}
 use Rattle.kilim_classes.specs.declared.value.Value.{Value}
 use Rattle.kilim_program.specs.Natives.{FiberMember}
-use Rattle.kilim_woven_runs.specs.Fibers.{Fib, Rec, Saved, empty_record, member_does}
+use Rattle.kilim_woven_runs.specs.Fibers.{Fib, Fiber_at, Rec, Saved, empty_record, member_does}
 
 -- what a member comes to: nothing that woven code ever meets, or the fiber behind it with a result, if there is one
 pub data Did : Type 0 where
@@ -25,6 +25,10 @@ abbrev pub values_of : Rec → List Value
 values_of (Saved place receiver values) = values
 
 -- ---- records on top of each other
+
+-- those above a fiber's own level, the nearest first
+abbrev pub deeper_of : Fib → List Rec
+deeper_of (Fiber_at lower here deeper rewinding pausing) = deeper
 
 abbrev pub first_receiver_of : List Rec → Option Value
 first_receiver_of [] = None

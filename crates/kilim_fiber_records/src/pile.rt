@@ -1,6 +1,6 @@
 //! Records on top of each other.
 
-ghost use Rattle.std.specs.Prelude.{◌≡◌, ◌∷◌, [], length, MatchOption, OnOk, IfOk};
+ghost use Rattle.std.specs.Prelude.{◌≡◌, ◌<◌, ◌^◌, ◌∷◌, [], length, MatchOption, OnOk, IfOk};
 ghost use Rattle.kilim_fiber_records.specs.Members.{comes_next, first_receiver_of};
 
 use crate::record::Record;
@@ -35,7 +35,8 @@ impl Pile {
 
     /// How many they are.
     pub fn len(&self) -> usize
-        ensures { result ≡ length self.now }
+        ensures counts { result ≡ length self.now }
+        ensures small { result < 2 ^ 63 }
     {
         self.records.len()
     }

@@ -4,7 +4,7 @@ ghost use Rattle.std.specs.Prelude.{◌≡◌, ◌<◌, ◌≤◌, ◌^◌, ◌+
 ghost use Rattle.kilim_classes.specs.declared.value.Value.TheVariants as a_value;
 ghost use Rattle.kilim_program.specs.Natives as native;
 ghost use Rattle.kilim_woven_runs.specs.Fibers.{new_fiber, one_if, pausing, rewound, resumed, first_receiver, is_rewinding, is_pausing};
-ghost use Rattle.kilim_fiber_records.specs.Members.{did, Does, NotDone};
+ghost use Rattle.kilim_fiber_records.specs.Members.{did, Does, NotDone, deeper_of};
 
 use crate::pile::Pile;
 use crate::record::Record;
@@ -158,7 +158,10 @@ impl Records {
     }
 
     /// How many records are kept above this level.
-    pub fn deeper(&self) -> usize {
+    pub fn deeper(&self) -> usize
+        ensures counts { result ≡ length (deeper_of self.now) }
+        ensures small { result < 2 ^ 63 }
+    {
         self.deeper.len()
     }
 }

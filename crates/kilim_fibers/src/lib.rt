@@ -120,6 +120,6 @@ pub trait Fibers: Sized + Drop {
     fn task(&self) -> u32
         ensures { result ≡ task_of self.now };
 
-    /// How many frames it keeps in records while it rests. It is told to a gate, and no clause speaks of it.
+    /// How many records it keeps while it rests, one for each frame and the leaf's. It is told to a gate, and no clause speaks of it.
     fn records(&self) -> usize;
 }

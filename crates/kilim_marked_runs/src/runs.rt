@@ -242,8 +242,8 @@ fn go_on(
     }
 }
 
-/// Steps of a task, of instructions of whatever mark, as long as it goes on. The steps are those that `step` of
-/// kilim_jvm_interp makes. Where the fiber is live, those count whose instruction is marked, at most so many. Want of
+/// Steps of a task, of instructions of whatever mark, as long as it goes on. The steps are those that `settle` of
+/// kilim_jvm_interp makes of what an instruction comes to. Where the fiber is live, those count whose instruction is marked, at most so many. Want of
 /// memory is also answered where a place has no mark.
 pub fn run_counted(
     alloc: Global,

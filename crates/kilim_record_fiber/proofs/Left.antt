@@ -28,7 +28,8 @@ use Rattle.kilim_woven_runs.specs.Serves.{IsThread, StandsFor}
 use Rattle.kilim_woven_runs.specs.Thread.{Run, Thread, steps}
 use Rattle.kilim_woven_receivers.proofs.states.Along.{append_none, same_deeds}
 use Rattle.kilim_woven_receivers.specs.states.Law.{Likewise, ThreadAlong, acts_of, first_thread, world_at}
-use Rattle.kilim_record_fiber.specs.Records.{HasLeftAll, deeper_of}
+use Rattle.kilim_fiber_records.specs.Members.{deeper_of}
+use Rattle.kilim_record_fiber.specs.Records.{HasLeftAll}
 
 -- ---- lengths
 

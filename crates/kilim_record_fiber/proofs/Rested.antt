@@ -17,7 +17,8 @@ use Rattle.kilim_woven_fiber.specs.declared.code.Code.{Code}
 use Rattle.kilim_record_fiber.specs.Calls.{EndsIdle, HasWanted, RestsAt, WantsBy, is_rest}
 use Rattle.kilim_record_fiber.specs.Clauses.{RestsInRecords}
 use Rattle.kilim_record_fiber.specs.Fiber.{task_of, course_of, CameTo, HoldsFiber, ServesCode}
-use Rattle.kilim_record_fiber.specs.Records.{NoFrameIsLeft, deeper_of, records_in, records_of}
+use Rattle.kilim_fiber_records.specs.Members.{deeper_of}
+use Rattle.kilim_record_fiber.specs.Records.{NoFrameIsLeft, records_in, records_of}
 use Rattle.kilim_record_fiber.specs.declared.fiber.Asked.{Asked}
 use Rattle.kilim_record_fiber.specs.declared.fiber.Fiber.{Fiber}
 use Rattle.kilim_record_fiber.proofs.Left.{Keeps, keeps_each}

@@ -1,6 +1,7 @@
 -- What a fiber keeps where it rests: no frame, but a record for each frame that it left, and then the leaf's.
 use Rattle.std.specs.Prelude.{◌≡◌, ◌+◌, ℕ, Bool, true, false, List, [], ◌∷◌, Option, None, length}
 use Rattle.kilim_typed_threads.specs.fine.Typed.{frames_of}
+use Rattle.kilim_fiber_records.specs.Members.{deeper_of}
 use Rattle.kilim_frames.specs.declared.frames.Frames.{Frames}
 use Rattle.kilim_one_heap.specs.Booked.{IsOf}
 use Rattle.kilim_thread_model.specs.Lone.{Lone}
@@ -8,13 +9,9 @@ use Rattle.kilim_thread_model.specs.State.{Setting}
 use Rattle.kilim_woven_fiber.specs.declared.body.Body.{Body}
 use Rattle.kilim_woven_fiber.specs.declared.body.Came.{Came}
 use Rattle.kilim_woven_fiber.specs.declared.body.Came.TheVariants as came
-use Rattle.kilim_woven_runs.specs.Fibers.{Fib, Fiber_at, Rec}
+use Rattle.kilim_woven_runs.specs.Fibers.{Fib, Fiber_at}
 use Rattle.kilim_record_fiber.specs.Fiber.{task_of, course_of}
 use Rattle.kilim_record_fiber.specs.declared.fiber.Fiber.{Fiber}
-
--- the records above its own level, the nearest first
-abbrev pub deeper_of : Fib → List Rec
-deeper_of (Fiber_at lower here deeper rewinding pausing) = deeper
 
 -- It has left all frames: it pauses at the level of the first one, whose record stands there. The others' stand above, and the leaf's is the last.
 abbrev pub HasLeftAll : Fib → Type 0

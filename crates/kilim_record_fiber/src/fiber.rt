@@ -1,6 +1,6 @@
 //! A fiber.
 
-ghost use Rattle.std.specs.Prelude.{◌≡◌, ◌↔◌, ◌<◌, ◌≤◌, ◌+◌, ◌^◌, true, false, Some, None, ℕ, IfOk, OnOk};
+ghost use Rattle.std.specs.Prelude.{◌≡◌, ◌<◌, ◌≤◌, ◌+◌, ◌^◌, true, false, Some, None, ℕ, IfOk, OnOk};
 ghost use Rattle.kilim_classes.specs.declared.value.Value.TheVariants as a_value;
 ghost use Rattle.kilim_thread_model.specs.State.{Setting};
 ghost use Rattle.std.specs.Prelude.{List, [], Option};
@@ -395,10 +395,10 @@ impl Fiber {
 
     /// How many records it keeps while it rests: one for each frame, and the leaf's. 0 where it is newly begun, or runs.
     pub fn records(&self) -> usize
-        ensures { (result ≡ 0) ↔ (records_of self.now ≡ 0) }
+        ensures { result ≡ records_of self.now }
     {
         if self.body.frames.is_none() && !self.idle {
-            self.body.records.deeper().saturating_add(1)
+            1 + self.body.records.deeper()
         } else {
             0
         }
