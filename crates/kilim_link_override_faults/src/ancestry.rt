@@ -9,8 +9,8 @@ ghost use Rattle.kilim_link_override_faults.specs.Apart.{has_apart};
 use crate::apart::apart_of;
 use crate::heritage::Heritage;
 use kilim_classes::ClassId;
-use kilim_link_world::{Signature, World};
 use kilim_inherited::Nearest;
+use kilim_link_world::{Signature, World};
 use kilim_units::NoMemory;
 use std::alloc::Global;
 

@@ -10,9 +10,9 @@ use crate::heritage::{Heritage, saying};
 use crate::overrides::{agrees, alike};
 use crate::signature::signature_of;
 use kilim_classes::ClassId;
+use kilim_inherited::{Nearest, Said};
 use kilim_link_spec::{ClassView, DeclaredMethod};
 use kilim_link_world::{Signature, World};
-use kilim_inherited::{Nearest, Said};
 use kilim_units::{NoMemory, Seq};
 use std::alloc::Global;
 

@@ -5,8 +5,8 @@ ghost use Rattle.kilim_link_spec.specs.World.{is_method, methods_at};
 ghost use Rattle.kilim_link_world.specs.Agrees.{method_count, field_count, firsts_of, indexed};
 ghost use Rattle.kilim_inherited.specs.Index.{positions, places_from};
 
-use kilim_link_spec::{ClassView, DeclaredMethod};
 use kilim_inherited::{Index, Signature};
+use kilim_link_spec::{ClassView, DeclaredMethod};
 use kilim_units::{NoMemory, Seq};
 use std::alloc::Global;
 

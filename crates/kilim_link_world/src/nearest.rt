@@ -9,9 +9,8 @@ ghost use Rattle.kilim_inherited.specs.Nearest.{said_by, says};
 ghost use Rattle.kilim_link_world.specs.Agrees.{method_count, field_count, placed};
 
 use kilim_classes::ClassId;
+use kilim_inherited::{Nearest, Said, Signature};
 use kilim_link_spec::{ClassView, DeclaredField, DeclaredMethod};
-use kilim_inherited::{Nearest, Said};
-use kilim_inherited::Signature;
 use kilim_units::{NoMemory, Seq};
 use std::alloc::Global;
 

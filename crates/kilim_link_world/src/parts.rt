@@ -9,10 +9,8 @@ use crate::members::{field_firsts, method_firsts, method_indices};
 use crate::nearest::{all_fields_said, all_methods_said, nearest_of};
 use crate::outline::Outline;
 use kilim_classes::{ClassId, Form};
-use kilim_inherited::Inherited;
+use kilim_inherited::{Index, Inherited, Nearest};
 use kilim_link_spec::ClassView;
-use kilim_inherited::Nearest;
-use kilim_inherited::Index;
 use kilim_units::{NoMemory, Seq};
 use std::alloc::Global;
 

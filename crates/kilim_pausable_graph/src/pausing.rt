@@ -9,8 +9,8 @@ use crate::call::{called_by, has_free_receiver, pauses, uninitialized_below};
 use crate::report::Report;
 use kilim_classes::{Frame, Instr, Method, MethodId, Program};
 use kilim_lookups::method_at;
-use kilim_units::{NoMemory, Seq};
 use kilim_typing::Typed;
+use kilim_units::{NoMemory, Seq};
 use std::alloc::Global;
 
 /// The number of the rule that a pausable method has no free receiver.

@@ -16,12 +16,11 @@ use kilim_class_world::link;
 use kilim_classes::{Form, MethodId, Program};
 use kilim_classfile::ClassFile;
 use kilim_isolation_check::{CheckFault, Isolated, Report, check_program};
-use kilim_reports::link_line;
 use kilim_link_spec::{LinkFault, Problem};
-use kilim_reports::{fault_lines, type_line};
+use kilim_reports::{fault_lines, link_line, type_line};
 use kilim_type_verify::{TypeFault, verify};
-use kilim_units::{Seq, Units};
 use kilim_typing::Typed;
+use kilim_units::{Seq, Units};
 use std::alloc::Global;
 
 // The line of class files that don't link.

@@ -5,8 +5,8 @@ ghost use Rattle.kilim_type_verify.specs.Verified.{IsVerified, MethodsWalked};
 
 use crate::walk::{Walked, walk};
 use kilim_classes::{Frame, Method, MethodId, Program};
-use kilim_units::{NoMemory, Seq};
 use kilim_typing::Typed;
+use kilim_units::{NoMemory, Seq};
 use std::alloc::Global;
 
 /// Why a program isn't well typed, or wasn't verified.

@@ -6,12 +6,12 @@ ghost use Rattle.kilim_record_fiber.specs.named.Named.{ServesNamed};
 ghost use Rattle.kilim_thread_model.specs.State.{Setting};
 ghost use Rattle.kilim_worker_pool.specs.Pool.{IsOf};
 
-use kilim_fibers::boxed::Boxed;
 use kilim_classes::ClassId;
+use kilim_fibers::boxed::Boxed;
 use kilim_journal::Entry;
-use kilim_record_fiber::named::{Named, Woven};
 use kilim_outside::Gate;
 use kilim_program::Limits;
+use kilim_record_fiber::named::{Named, Woven};
 use kilim_units::NoMemory;
 use kilim_worker_pool::run_one;
 use kilim_workers::run_pool;

@@ -7,8 +7,8 @@ ghost use Rattle.kilim_woven_form.specs.Form.{first_class, first_method};
 use crate::copy::{copy_classes, copy_fields, copy_methods};
 use kilim_built_ins::{built_in_classes, built_in_methods};
 use kilim_classes::{Class, Field, Form, Method, Program};
-use kilim_units::{NoMemory, Seq};
 use kilim_typing::Typed;
+use kilim_units::{NoMemory, Seq};
 use std::alloc::Global;
 
 /// How many built-in classes and methods a plain program has.

@@ -14,9 +14,9 @@ use crate::each::woven_each;
 use crate::extended::all_counted;
 use crate::kept::keeps;
 use kilim_classes::{Frame, Method, MethodId, Program};
+use kilim_typing::Typed;
 use kilim_typing_laws::typed_by_place;
 use kilim_units::{NoMemory, Seq};
-use kilim_typing::Typed;
 use std::alloc::Global;
 
 /// Methods, and which of their instructions count.

@@ -10,8 +10,7 @@ ghost use Rattle.kilim_woven_stage.specs.Reports.{IsMethodLine, arguments_line, 
 
 use kilim_classes::{ClassId, Method, MethodId, Program};
 use kilim_lookups::{class_at, method_at};
-use kilim_reports::{descriptor_text, member_name_text};
-use kilim_reports::method_descriptor;
+use kilim_reports::{descriptor_text, member_name_text, method_descriptor};
 use kilim_stages::Refusal;
 use kilim_units::{NoMemory, Units};
 use kilim_weaver::WeaveFault;
