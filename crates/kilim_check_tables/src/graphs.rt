@@ -7,9 +7,9 @@ use crate::names::{method_named, text_of};
 use crate::stages::linked_and_typed;
 use kilim_classes::{Frame, Instr, Method, Program};
 use kilim_classfile::ClassFile;
-use kilim_liveness::ends_path;
-use kilim_isolation_rules::StepFault;
 use kilim_isolation_check::transfer;
+use kilim_isolation_rules::StepFault;
+use kilim_liveness::ends_path;
 use kilim_shape_graph::{Graph, Label, Node, Standing};
 use std::alloc::Global;
 

@@ -7,9 +7,8 @@ use crate::classes::{node, work};
 use kilim_class_world::link;
 use kilim_classes::{Form, Program};
 use kilim_classfile::{ClassFile, write};
-use kilim_reports::link_line;
 use kilim_link_spec::LinkFault;
-use kilim_reports::type_line;
+use kilim_reports::{link_line, type_line};
 use kilim_type_verify::{TypeFault, verify};
 use std::alloc::Global;
 

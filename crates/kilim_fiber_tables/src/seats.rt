@@ -6,8 +6,8 @@ ghost use Rattle.kilim_fiber_tables.specs.Driven.{AfterStands, AreMessages, Carr
 use crate::replies::{Reply, fitting};
 use kilim_classes::ClassId;
 use kilim_fibers::{Answer, Fibers, Wants};
-use kilim_record_fiber::named::{Named, Woven};
 use kilim_program::Limits;
+use kilim_record_fiber::named::{Named, Woven};
 use kilim_tree_move::Tree;
 use kilim_units::NoMemory;
 use kilim_woven_fiber::Code;

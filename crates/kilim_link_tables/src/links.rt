@@ -8,8 +8,8 @@ use crate::classes::class_file;
 use kilim_class_world::link;
 use kilim_classes::{Form, Program};
 use kilim_classfile::ClassFile;
-use kilim_reports::link_line;
 use kilim_link_spec::LinkFault;
+use kilim_reports::link_line;
 use std::alloc::Global;
 use std::rt::Files;
 
