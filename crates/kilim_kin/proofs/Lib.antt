@@ -3,5 +3,3 @@ pub mod Renamed
 pub mod Words
 pub mod Rows
 pub mod Moving
-pub mod trees
-pub mod frames

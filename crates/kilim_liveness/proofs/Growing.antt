@@ -9,7 +9,7 @@ use Rattle.kilim_lookups.specs.Places.{Rising}
 use Rattle.kilim_typing.specs.Typed.{Among, GoesOn, IsLive, Live, ReadsIt, reads, writes}
 use Rattle.kilim_liveness.specs.Marks.{AreBefore, AreColumns, EachBelow, EachReadBelow, EachUpTo, Goes, Grown, IsColumn, Marks, NoneReads, Opens, Passes, ReadMarked, ReadsMarked, is_marked}
 use Rattle.kilim_liveness.specs.Table.{live_in}
-use Rattle.kilim_liveness.proofs.Edges.{entry_fetched, entry_of, found_here, same_entry}
+use Rattle.kilim_liveness.proofs.FlowEdges.{entry_fetched, entry_of, found_here, same_entry}
 use Rattle.kilim_liveness.proofs.Lists.{among_last, among_left, take_next, last_among, marked_within, none_marked, one_less, same_or, set_keeps, set_marks, set_only}
 
 pub both_ways : (b : Bool) → b ≡ true → b ≡ false → ⊥

@@ -1,5 +1,5 @@
 pub mod Lists
-pub mod Edges
+pub mod FlowEdges
 pub mod Growing
 mod Entries
 mod Pairs

@@ -1,6 +1,3 @@
 pub mod Held
 pub mod Slots
 pub mod Frames
-pub mod graphs
-pub mod live
-pub mod walk

@@ -5,4 +5,3 @@ pub mod Resting
 pub mod Left
 pub mod Rested
 pub mod Answered
-pub mod named

@@ -3,7 +3,3 @@ pub mod Natives
 pub mod Moving
 pub mod Beginning
 pub mod Keeping
-pub mod heaps
-pub mod kept
-pub mod names
-pub mod states

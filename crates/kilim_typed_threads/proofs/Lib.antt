@@ -4,4 +4,3 @@ pub mod Executing
 pub mod Booting
 pub mod Moving
 pub mod Threads
-pub mod fine

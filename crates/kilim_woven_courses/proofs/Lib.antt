@@ -6,4 +6,3 @@ pub mod Executes
 pub mod Unstuck
 pub mod Roomy
 pub mod Known
-pub mod answers

@@ -8,5 +8,3 @@ pub mod Parts
 pub mod Annotated
 pub mod Sizes
 pub mod Texts
-pub mod form
-pub mod pool

@@ -4,4 +4,3 @@ pub mod Given
 pub mod Following
 pub mod Ready
 pub mod Begins
-pub mod unwinds

@@ -2,4 +2,3 @@ pub mod Records
 pub mod Following
 pub mod Trees
 pub mod Fine
-pub mod history

@@ -1,13 +1,6 @@
-pub mod Classes
+pub mod ClassLists
 pub mod Methods
 pub mod Naming
 pub mod Selecting
 pub mod Frames
 pub mod Theorem
-pub mod classes
-pub mod keeps
-pub mod kept
-pub mod kinds
-pub mod places
-pub mod selects
-pub mod types

@@ -17,7 +17,7 @@ use Rattle.kilim_fits.specs.Chosen.{IsChosen}
 use Rattle.kilim_fits.proofs.Finding.{finds_chosen}
 use Rattle.kilim_fits.proofs.FromKeeps.{all_at}
 use Rattle.kilim_fits.proofs.SameNames.{named_alike}
-use Rattle.kilim_woven_programs.proofs.Classes.{line_kept, methods_more, one_more}
+use Rattle.kilim_woven_programs.proofs.ClassLists.{line_kept, methods_more, one_more}
 use Rattle.kilim_woven_programs.proofs.Methods.{Like}
 use Rattle.kilim_woven_programs.proofs.Naming.{back, forth, params_there}
 

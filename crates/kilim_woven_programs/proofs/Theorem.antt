@@ -47,7 +47,7 @@ use Rattle.kilim_woven_types.proofs.Theorem.{proved}
 use Rattle.kilim_fits.proofs.FromKeeps.{all_at, itself}
 use Rattle.kilim_fits.proofs.ValueClasses as values
 use Rattle.kilim_woven_programs.specs.Law.{EachIsShort, KeepsPauses, NoneAcross, WovenProgramsAreTyped}
-use Rattle.kilim_woven_programs.proofs.Classes.{assigns, class_kept, class_named_kept, name_is, name_kept, name_of}
+use Rattle.kilim_woven_programs.proofs.ClassLists.{assigns, class_kept, class_named_kept, name_is, name_kept, name_of}
 use Rattle.kilim_woven_programs.proofs.Frames.{by_place}
 use Rattle.kilim_woven_programs.proofs.Methods.{IsFound, Like, fibers, like, members_behind, woven_at}
 use Rattle.kilim_woven_programs.proofs.Naming.{owner_there}

@@ -23,7 +23,7 @@ use Rattle.kilim_program.specs.Natives.{is_handed_out}
 use Rattle.kilim_program.specs.Objects.{new_array}
 use Rattle.kilim_program.specs.Shapes.{field_in}
 use Rattle.kilim_fits.proofs.Maps.{put_other, put_there}
-use Rattle.kilim_woven_runs.proofs.rows.Effects.{is_simple}
+use Rattle.kilim_woven_runs.proofs.alike.Effects.{is_simple}
 
 -- the same effect with another heap
 abbrev reheap : Objects → Effect → Effect

@@ -8,5 +8,3 @@ pub mod Keeper
 pub mod Natives
 pub mod Steps
 pub mod Tasks
-pub mod called
-pub mod states

@@ -10,4 +10,4 @@ pub mod Serves
 pub mod Law
 pub mod examples
 pub mod lone
-pub mod rows
+pub mod alike

@@ -3,9 +3,9 @@
 //! The laws about them stand in the crates above.
 #![tactic(auto)]
 
+pub mod alike;
 pub mod examples;
 pub mod lone;
-pub mod rows;
 
 ghost use Rattle.kilim_woven_runs.specs.Law.{EndsStay};
 

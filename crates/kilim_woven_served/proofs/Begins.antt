@@ -27,7 +27,7 @@ use Rattle.kilim_thread_model.specs.declared.deed.Deed.{Deed}
 use Rattle.kilim_thread_model.specs.Course.{lone_begun, lone_built, lone_in}
 use Rattle.kilim_thread_model.specs.Lone.{Lone}
 use Rattle.kilim_thread_model.specs.State.{Alive, Setting, begun_in, begun_on, class_of, execute_frames}
-use Rattle.kilim_woven_simulation.specs.begins.Law.{ServesAlong}
+use Rattle.kilim_woven_simulation.specs.beginnings.Law.{ServesAlong}
 use Rattle.kilim_woven_receivers.proofs.called.Begins as called
 use Rattle.kilim_woven_form.specs.Form.{WovenForm}
 use Rattle.kilim_woven_served.proofs.gives.Gives.{Hands}

@@ -19,7 +19,7 @@ use Rattle.kilim_thread_model.specs.Lone.{Lone}
 use Rattle.kilim_thread_model.specs.Reach.{Liveness}
 use Rattle.kilim_thread_model.specs.State.{Setting}
 use Rattle.kilim_typing.specs.Typed.{IsWellTyped}
-use Rattle.kilim_woven_simulation.specs.begins.Law.{StandsWith}
+use Rattle.kilim_woven_simulation.specs.beginnings.Law.{StandsWith}
 use Rattle.kilim_woven_form.specs.Form.{WovenForm}
 use Rattle.kilim_woven_served.specs.gives.Law.{HandsOut}
 use Rattle.kilim_woven_programs.specs.keeps.Law.{NoneIsTooLong}

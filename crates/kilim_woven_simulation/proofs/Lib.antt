@@ -18,4 +18,3 @@ pub mod CallStep
 pub mod Begins
 pub mod Whole
 pub mod Same
-pub mod begins

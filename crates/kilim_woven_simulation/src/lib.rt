@@ -1,7 +1,7 @@
 //! A woven fiber does what the unwoven thread does: a law, and no code that does work.
 #![tactic(auto)]
 
-pub mod begins;
+pub mod beginnings;
 
 ghost use Rattle.kilim_woven_simulation.specs.Law.{WovenSimulates};
 

@@ -3,6 +3,3 @@ pub mod Placed
 pub mod Targets
 pub mod LiveFacts
 pub mod Formed
-pub mod example
-pub mod serves
-pub mod shares

@@ -36,8 +36,8 @@ use Rattle.kilim_program.specs.Natives.{is_built_in_constructor, is_handed_out, 
 use Rattle.kilim_typing.specs.Step.{Is, Types, arguments, class_vtype, may_name, needs, result_types, row, special_by, special_fits, special_row, special_rules, static_row, static_rules, type_step, virtual_row, virtual_rules, by_row}
 use Rattle.kilim_typing.specs.Typed.{has_code}
 use Rattle.kilim_woven_runs.specs.Rows.{Receives, below_arguments, class_if}
-use Rattle.kilim_woven_runs.proofs.rows.Effects.{is_simple}
-use Rattle.kilim_woven_runs.proofs.rows.Lands.{hushed, hushed_simple, q_constant, q_if, q_index, q_int, q_long, q_object, q_reference, q_some, q_value}
+use Rattle.kilim_woven_runs.proofs.alike.Effects.{is_simple}
+use Rattle.kilim_woven_runs.proofs.alike.Lands.{hushed, hushed_simple, q_constant, q_if, q_index, q_int, q_long, q_object, q_reference, q_some, q_value}
 use Rattle.kilim_woven_courses.proofs.answers.Texts.{NotNull, bare, own_text_is, text_alone}
 
 -- ---- instructions that call nothing

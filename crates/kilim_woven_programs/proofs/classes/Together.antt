@@ -17,7 +17,7 @@ use Rattle.kilim_classes.specs.Keeps.{Keeps, begins_as_array, constant_fits, con
 use Rattle.kilim_classes.specs.Names.{is_named_task}
 use Rattle.kilim_classes.specs.Program.{Program}
 use Rattle.kilim_woven_form.specs.Form.{WovenForm}
-use Rattle.kilim_woven_programs.proofs.Classes.{named_kept}
+use Rattle.kilim_woven_programs.proofs.ClassLists.{named_kept}
 use Rattle.kilim_woven_programs.proofs.Theorem.{fiber_parts, grown}
 use Rattle.kilim_woven_programs.specs.classes.Law.{WovenClassesKeep}
 use Rattle.kilim_woven_programs.proofs.classes.BuiltIns.{ends, files_after, files_before, own_after, own_before}

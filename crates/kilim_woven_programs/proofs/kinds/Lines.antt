@@ -16,7 +16,7 @@ use Rattle.kilim_classes.specs.Names.{◌>>=◌, class_at, class_name, is_named_
 use Rattle.kilim_classes.specs.Program.{Program}
 use Rattle.kilim_lemmas.proofs.Lists.{get_front}
 use Rattle.kilim_fits.proofs.Through.{never_cut, up, up_there}
-use Rattle.kilim_woven_programs.proofs.Classes.{one_more}
+use Rattle.kilim_woven_programs.proofs.ClassLists.{one_more}
 
 module _ (P W : Program) (keeps : Keeps P) (extra : Class) (grown : W.classes ≡ P.classes ++ extra ∷ []) where
   abbrev pub IsIn : ClassId → Type 0

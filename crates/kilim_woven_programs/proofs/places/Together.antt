@@ -29,7 +29,7 @@ use Rattle.kilim_woven_form.specs.Weight.{calls_in}
 use Rattle.kilim_woven_form.specs.Woven.{Plan, fiber, fiber_ty, lay, lay_frames, member, woven_items}
 use Rattle.kilim_woven_programs.specs.types.Law.{StandAt, may_stand, stands}
 use Rattle.kilim_woven_programs.proofs.types.Together.{all_there}
-use Rattle.kilim_woven_programs.proofs.Classes.{one_more}
+use Rattle.kilim_woven_programs.proofs.ClassLists.{one_more}
 use Rattle.kilim_woven_programs.proofs.Methods.{members_behind}
 use Rattle.kilim_woven_programs.proofs.Naming.{all_parts}
 use Rattle.kilim_woven_programs.proofs.Theorem.{fiber_parts, first_is, grown, how_many}

@@ -23,7 +23,7 @@ use Rattle.kilim_fits.proofs.Finding.{finds_chosen}
 use Rattle.kilim_fits.proofs.FromKeeps.{all_at}
 use Rattle.kilim_fits.proofs.SameNames.{named_alike}
 use Rattle.kilim_fits.proofs.Through.{up, up_there}
-use Rattle.kilim_woven_programs.proofs.Classes.{one_more}
+use Rattle.kilim_woven_programs.proofs.ClassLists.{one_more}
 use Rattle.kilim_woven_programs.proofs.Methods.{IsFound, Like, like, members_behind, woven_at}
 use Rattle.kilim_woven_programs.proofs.Naming.{owner_there, params_there}
 use Rattle.kilim_woven_programs.proofs.Selecting.{answers_back, answers_forth, methods_there, selected_kept}

@@ -40,7 +40,7 @@ use Rattle.kilim_typing_laws.specs.Laws.{typing_at}
 use Rattle.kilim_woven_courses.proofs.answers.Asked.{quiet}
 use Rattle.kilim_woven_receivers.specs.called.Law.{Boundary, Target, class_named, is_object}
 use Rattle.kilim_woven_form.specs.Woven.{first_of, taken}
-use Rattle.kilim_woven_runs.proofs.rows.Lands.{hushed, q_if, q_index, q_int, q_object, q_receiver, q_some, q_value, q_when}
+use Rattle.kilim_woven_runs.proofs.alike.Lands.{hushed, q_if, q_index, q_int, q_object, q_receiver, q_some, q_value, q_when}
 use Rattle.kilim_woven_runs.specs.Form.{is_pausable}
 use Rattle.kilim_woven_runs.specs.Rows.{Receives, below_arguments, class_if}
 use Rattle.kilim_woven_runs.specs.Thread.{fetch, self_in, self_of}

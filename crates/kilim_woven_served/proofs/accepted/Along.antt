@@ -24,7 +24,7 @@ use Rattle.kilim_typing_laws.specs.Laws.{typing_at}
 use Rattle.kilim_woven_served.proofs.accepted.Tasks.{execute_taken, takes_task}
 use Rattle.kilim_woven_served.specs.accepted.Law.{AcceptedWeaves, CanPause, ServesCourses}
 use Rattle.kilim_woven_courses.proofs.answers.Answers.{natives_answer}
-use Rattle.kilim_woven_simulation.proofs.begins.Along.{beginnings_serve}
+use Rattle.kilim_woven_simulation.proofs.beginnings.Along.{beginnings_serve}
 use Rattle.kilim_woven_courses.proofs.GoesOn.{goes_on}
 use Rattle.kilim_woven_courses.proofs.Known.{known}
 use Rattle.kilim_woven_courses.specs.Law.{HasFew, IsOfCourse, Rest}
@@ -36,8 +36,8 @@ use Rattle.kilim_woven_pauses.proofs.Accepted.{accepted_keeps}
 use Rattle.kilim_woven_program.proofs.Made.{there}
 use Rattle.kilim_woven_program.specs.Made.{woven_counted, woven_program}
 use Rattle.kilim_woven_programs.specs.Law.{KeepsPauses}
-use Rattle.kilim_woven_runs.proofs.rows.AllRows.{rows_from}
-use Rattle.kilim_woven_runs.proofs.rows.FiberCalls.{members_from}
+use Rattle.kilim_woven_runs.proofs.alike.AllRows.{rows_from}
+use Rattle.kilim_woven_runs.proofs.alike.FiberCalls.{members_from}
 use Rattle.kilim_woven_runs.specs.Acts.{Lost, World, asks, ending, spending, with_heap}
 use Rattle.kilim_woven_runs.specs.Form.{Facts, Members}
 use Rattle.kilim_woven_runs.specs.Links.{Forms, code}

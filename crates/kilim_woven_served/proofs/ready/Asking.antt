@@ -15,7 +15,7 @@ use Rattle.kilim_program.specs.Does.{calls_method, calls_on, calls_text, chosen,
 use Rattle.kilim_program.specs.Effect.{Asks, Calls, Effect, Goes, Raises, Stuck, as_class, as_receiver, named_type, on_value, on_values, with_some}
 use Rattle.kilim_program.specs.Machine.{Objects}
 use Rattle.kilim_program.specs.Natives.{is_built_in_constructor, is_handed_out, is_text_method}
-use Rattle.kilim_woven_runs.proofs.rows.Lands.{hushed, q_index, q_int, q_object, q_value}
+use Rattle.kilim_woven_runs.proofs.alike.Lands.{hushed, q_index, q_int, q_object, q_value}
 
 type_some : (x y : Ty) → Some x ≡ Some y → x ≡ y
 type_some x y e = cc

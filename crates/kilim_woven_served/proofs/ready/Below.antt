@@ -46,7 +46,7 @@ use Rattle.kilim_woven_served.proofs.ready.Receiver.{receiver_meets}
 use Rattle.kilim_woven_served.proofs.ready.Redone.{redone}
 use Rattle.kilim_woven_served.proofs.ready.Values.{all_fit, ref_fits, slots_fit}
 use Rattle.kilim_woven_served.specs.ready.Law.{dummies_down, new_args}
-use Rattle.kilim_woven_runs.specs.rows.Shares.{Agree}
+use Rattle.kilim_woven_runs.specs.alike.Shares.{Agree}
 use Rattle.kilim_woven_runs.specs.Links.{AllFit, Fit, Forms, Inner, Lk, ReceiverFits, SlotsFit, Takes, again, code, dummy_value, plan_of, with_dummies, with_receiver}
 use Rattle.kilim_woven_runs.specs.Rows.{Clean, Receives, below_arguments, class_if, value_class}
 use Rattle.kilim_woven_runs.specs.Thread.{code_in, fetch, own_in, own_of, self_in, self_of}

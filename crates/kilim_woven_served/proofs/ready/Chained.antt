@@ -25,7 +25,7 @@ use Rattle.kilim_woven_programs.specs.Law.{KeepsPauses}
 use Rattle.kilim_woven_served.proofs.ready.Below.{fit_inner}
 use Rattle.kilim_woven_served.proofs.ready.There.{AllThere, local_of, rest_of, stack_of}
 use Rattle.kilim_woven_receivers.specs.Law.{SelvesThere}
-use Rattle.kilim_woven_runs.specs.rows.Shares.{Agree}
+use Rattle.kilim_woven_runs.specs.alike.Shares.{Agree}
 use Rattle.kilim_woven_runs.specs.Fibers.{executes_on, frame}
 use Rattle.kilim_woven_runs.specs.Form.{Facts, is_pausable}
 use Rattle.kilim_woven_runs.specs.Links.{AllStand, AreReady, Forms, Inner, Link, Lk, Takes, code, u_frames}

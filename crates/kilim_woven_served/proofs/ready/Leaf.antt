@@ -40,7 +40,7 @@ use Rattle.kilim_woven_served.proofs.ready.Clean.{heap_old, stack_clean}
 use Rattle.kilim_woven_served.proofs.ready.Receiver.{special_instance, static_static, virtual_instance}
 use Rattle.kilim_woven_served.proofs.ready.Shapes.{IsGet, get_is, yield_is}
 use Rattle.kilim_woven_served.proofs.ready.Values.{all_fit, ref_fits, slots_fit}
-use Rattle.kilim_woven_runs.specs.rows.Shares.{Agree}
+use Rattle.kilim_woven_runs.specs.alike.Shares.{Agree}
 use Rattle.kilim_woven_runs.specs.Links.{AllFit, Drops, Fit, Forms, Leaf, Lk, ReceiverFits, SlotsFit, again, code, plan_of, with_dummies, with_receiver}
 use Rattle.kilim_woven_runs.specs.Rows.{Clean, Receives, below_arguments}
 use Rattle.kilim_woven_runs.specs.Serves.{leaf_receiver}

@@ -44,7 +44,7 @@ use Rattle.kilim_woven_served.proofs.ready.Leaf.{IsSound, fit_get, fit_yield}
 use Rattle.kilim_woven_served.proofs.ready.There.{AllThere, local_of, rest_of, stack_of}
 use Rattle.kilim_woven_receivers.proofs.Along.{receivers_stay}
 use Rattle.kilim_woven_receivers.specs.Law.{IsBegun, SelvesIn}
-use Rattle.kilim_woven_runs.specs.rows.Shares.{Agree}
+use Rattle.kilim_woven_runs.specs.alike.Shares.{Agree}
 use Rattle.kilim_woven_runs.specs.Acts.{Lost, Over, World, asks, native_does, with_heap}
 use Rattle.kilim_woven_runs.specs.Fibers.{frame}
 use Rattle.kilim_woven_runs.specs.Form.{Facts}

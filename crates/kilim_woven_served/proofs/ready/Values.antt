@@ -19,7 +19,7 @@ use Rattle.kilim_program.specs.Effect.{Goes, Raises, named_type, with_some}
 use Rattle.kilim_program.specs.Machine.{Objects}
 use Rattle.kilim_typing.specs.Step.{assignable, is_top, is_unset, peek}
 use Rattle.kilim_woven_form.specs.Woven.{saved_from}
-use Rattle.kilim_woven_runs.specs.rows.Shares.{Agree}
+use Rattle.kilim_woven_runs.specs.alike.Shares.{Agree}
 use Rattle.kilim_woven_runs.specs.Links.{AllFit, Casts, Fits, IsReference, RefFits, SlotsFit}
 use Rattle.kilim_woven_runs.specs.Rows.{OldHeap, is_old_base}
 

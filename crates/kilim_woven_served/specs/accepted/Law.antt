@@ -15,7 +15,7 @@ use Rattle.kilim_program.specs.Natives.{Native, native_of}
 use Rattle.kilim_standing_threads.specs.Laws.{IsRunOfAccepted}
 use Rattle.kilim_thread_model.specs.State.{Setting}
 use Rattle.kilim_typing.specs.Typed.{IsLive}
-use Rattle.kilim_woven_simulation.specs.begins.Law.{ServesAlong}
+use Rattle.kilim_woven_simulation.specs.beginnings.Law.{ServesAlong}
 use Rattle.kilim_woven_courses.specs.Law.{HasFew, IsOfCourse}
 use Rattle.kilim_woven_form.specs.Woven.{pausable_callee}
 use Rattle.kilim_woven_programs.specs.keeps.Law.{NoneIsTooLong}

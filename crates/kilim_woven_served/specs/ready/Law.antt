@@ -24,14 +24,14 @@ use Rattle.kilim_standing_threads.specs.Laws.{IsRunOfAccepted}
 use Rattle.kilim_thread_model.specs.State.{Setting}
 use Rattle.kilim_typing.specs.Step.{is_unset, peek, vtype}
 use Rattle.kilim_typing.specs.Typed.{IsLive}
-use Rattle.kilim_woven_simulation.specs.begins.Law.{ServesAlong}
+use Rattle.kilim_woven_simulation.specs.beginnings.Law.{ServesAlong}
 use Rattle.kilim_woven_receivers.specs.called.Law.{Boundary}
 use Rattle.kilim_woven_form.specs.Form.{WovenForm}
 use Rattle.kilim_woven_form.specs.Woven.{saved_from}
 use Rattle.kilim_woven_programs.specs.keeps.Law.{NoneIsTooLong}
 use Rattle.kilim_woven_program.specs.Made.{woven_counted, woven_program}
 use Rattle.kilim_woven_receivers.specs.Law.{IsBegun}
-use Rattle.kilim_woven_runs.specs.rows.Shares.{Agree}
+use Rattle.kilim_woven_runs.specs.alike.Shares.{Agree}
 use Rattle.kilim_woven_runs.specs.Acts.{Lost, World}
 use Rattle.kilim_woven_runs.specs.Fibers.{enter, new_fiber, wstarted}
 use Rattle.kilim_woven_runs.specs.Form.{is_pausable}

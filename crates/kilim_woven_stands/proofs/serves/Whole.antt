@@ -2,8 +2,8 @@
 use Rattle.kilim_woven_form.specs.Woven.{fiber_ty}
 use Rattle.kilim_woven_runs.specs.Runs.{most_uncounted}
 use Rattle.kilim_woven_runs.specs.Serves.{From}
-use Rattle.kilim_woven_runs.proofs.rows.AllRows.{rows_from}
-use Rattle.kilim_woven_runs.proofs.rows.FiberCalls.{members_from}
+use Rattle.kilim_woven_runs.proofs.alike.AllRows.{rows_from}
+use Rattle.kilim_woven_runs.proofs.alike.FiberCalls.{members_from}
 use Rattle.kilim_woven_stands.proofs.shares.Called.{each}
 use Rattle.kilim_woven_stands.proofs.shares.Fibers.{fiber_is}
 use Rattle.kilim_woven_stands.proofs.shares.Together.{shares_rows, shares_pauses}

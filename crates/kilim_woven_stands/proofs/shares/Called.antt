@@ -22,11 +22,11 @@ use Rattle.kilim_program.specs.Natives.{FiberMember, Pc, Down, Up, Save, Place, 
 use Rattle.kilim_fits.proofs.SameNames.{signature_itself}
 use Rattle.kilim_woven_form.specs.Form.{WovenForm, first_class, first_method}
 use Rattle.kilim_woven_form.specs.Woven.{fiber_ty, member}
-use Rattle.kilim_woven_programs.proofs.Classes.{one_more}
+use Rattle.kilim_woven_programs.proofs.ClassLists.{one_more}
 use Rattle.kilim_woven_programs.proofs.Theorem as theorem
 use Rattle.kilim_woven_runs.specs.Fibers.{as_member}
 use Rattle.kilim_woven_runs.specs.Form.{members_in_order}
-use Rattle.kilim_woven_runs.specs.rows.Shares.{IsMember, size_of}
+use Rattle.kilim_woven_runs.specs.alike.Shares.{IsMember, size_of}
 use Rattle.kilim_woven_stands.proofs.shares.Fibers.{FitMember}
 use Rattle.kilim_woven_stands.proofs.shares.Fibers as fibers_of
 use Rattle.kilim_woven_stands.proofs.shares.Names as names

@@ -43,8 +43,8 @@ use Rattle.kilim_woven_runs.specs.Form.{is_pausable}
 use Rattle.kilim_woven_runs.specs.Rows.{IsClean}
 use Rattle.kilim_woven_runs.specs.Serves.{is_pausing_native}
 use Rattle.kilim_woven_runs.specs.Thread.{code_in, fetch, own_in, own_of}
-use Rattle.kilim_woven_runs.specs.rows.Shares.{Agree, Changed, PlainCallee, SharesPauses, SharesRows, named}
-use Rattle.kilim_woven_runs.proofs.rows.Hands.{callee_is}
+use Rattle.kilim_woven_runs.specs.alike.Shares.{Agree, Changed, PlainCallee, SharesPauses, SharesRows, named}
+use Rattle.kilim_woven_runs.proofs.alike.Hands.{callee_is}
 use Rattle.kilim_woven_stands.proofs.shares.Bodies as code
 use Rattle.kilim_woven_stands.proofs.shares.Bodies.{AllCalled, FitNative}
 use Rattle.kilim_woven_stands.proofs.shares.Fibers as fibers_of

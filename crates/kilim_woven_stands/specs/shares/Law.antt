@@ -11,7 +11,7 @@ use Rattle.kilim_typing.specs.Typed.{IsWellTyped}
 use Rattle.kilim_woven_form.specs.Form.{WovenForm}
 use Rattle.kilim_woven_form.specs.Woven.{fiber_ty, member}
 use Rattle.kilim_woven_runs.specs.Form.{members_in_order}
-use Rattle.kilim_woven_runs.specs.rows.Shares.{IsMember, SharesPauses, SharesRows, size_of}
+use Rattle.kilim_woven_runs.specs.alike.Shares.{IsMember, SharesPauses, SharesRows, size_of}
 
 -- Of a kept, well-typed program with a fit main class, and its woven form.
 abbrev pub WovenShares : Type 0

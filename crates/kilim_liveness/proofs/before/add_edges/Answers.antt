@@ -1,6 +1,6 @@
 use Rattle.std.proofs.Common.{List, ℕ, ◌+◌, ◌++◌, ◌∷◌, [], take, subst, sym, get_or, set}
 use Rattle.kilim_liveness.specs.Marks.{Further}
-use Rattle.kilim_liveness.proofs.Edges.{no_further, one_further}
+use Rattle.kilim_liveness.proofs.FlowEdges.{no_further, one_further}
 use Rattle.kilim_liveness.proofs.Lists.{take_next}
 use Rattle.kilim_liveness.proofs.before.add_edges.Goals as goal
 

@@ -1,6 +1,6 @@
 use Rattle.std.proofs.Common.{ℕ, ◌∙◌, ap, arith}
 use Rattle.kilim_typing.specs.Typed.{edges}
-use Rattle.kilim_liveness.proofs.Edges.{all_before, none_before, one_before}
+use Rattle.kilim_liveness.proofs.FlowEdges.{all_before, none_before, one_before}
 use Rattle.kilim_liveness.proofs.before.befores.Goals as goal
 
 pub loop-at-init : goal.loop-at-init

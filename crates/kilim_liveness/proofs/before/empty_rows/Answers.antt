@@ -1,5 +1,5 @@
 use Rattle.std.proofs.Common.{refl}
-use Rattle.kilim_liveness.proofs.Edges.{no_more_rows}
+use Rattle.kilim_liveness.proofs.FlowEdges.{no_more_rows}
 use Rattle.kilim_liveness.proofs.before.empty_rows.Goals as goal
 
 pub loop-init : goal.loop-init

@@ -10,7 +10,7 @@ use Rattle.kilim_woven_form.specs.Woven.{member}
 use Rattle.kilim_woven_runs.specs.Form.{Facts, Members, members_in_order}
 use Rattle.kilim_woven_runs.specs.Links.{Forms, code}
 use Rattle.kilim_woven_runs.specs.Serves.{Rows}
-use Rattle.kilim_woven_runs.specs.rows.Shares.{IsMember, SharesPauses, SharesRows, size_of}
+use Rattle.kilim_woven_runs.specs.alike.Shares.{IsMember, SharesPauses, SharesRows, size_of}
 
 -- Every row of the table: an old instruction that is no pausable call does the same in woven code, elsewhere and with other locals; a
 -- pausable call does the same with the fiber as its last argument.

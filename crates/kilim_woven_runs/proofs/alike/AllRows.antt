@@ -15,7 +15,7 @@ use Rattle.kilim_program.specs.Effect.{Effect, Makes, Opens, Stuck}
 use Rattle.kilim_program.specs.Does.{does}
 use Rattle.kilim_thread_model.specs.State.{Setting}
 use Rattle.kilim_woven_form.specs.Woven.{pausable_callee, moved_instr}
-use Rattle.kilim_woven_runs.specs.rows.Shares.{SharesPauses, SharesRows}
+use Rattle.kilim_woven_runs.specs.alike.Shares.{SharesPauses, SharesRows}
 use Rattle.kilim_woven_runs.specs.Thread.{fetch, own_of}
 use Rattle.kilim_woven_runs.specs.Form.{Facts}
 use Rattle.kilim_woven_runs.specs.Rows.{elsewhere, OldHeap}
@@ -29,13 +29,13 @@ use Rattle.kilim_program.specs.Does.{is_mailbox}
 use Rattle.kilim_program.specs.Objects.{new_object}
 use Rattle.kilim_classes.specs.Lengths.{ends_path}
 use Rattle.kilim_woven_runs.specs.Rows.{IsClean}
-use Rattle.kilim_woven_runs.proofs.rows.Effects.{e_if}
-use Rattle.kilim_woven_runs.proofs.rows.Lands.{q_constant, hushed, q_value, q_int, q_long, q_some, q_if, q_reference, q_object, q_index}
-use Rattle.kilim_woven_runs.proofs.rows.TwinRows.{next_is, is_load}
-use Rattle.kilim_woven_runs.proofs.rows.Hands.{hands}
-use Rattle.kilim_woven_runs.proofs.rows.Shapes.{shapes}
-use Rattle.kilim_woven_runs.proofs.rows.TwinRows as twin
-use Rattle.kilim_woven_runs.proofs.rows.MoreRows as more
+use Rattle.kilim_woven_runs.proofs.alike.Effects.{e_if}
+use Rattle.kilim_woven_runs.proofs.alike.Lands.{q_constant, hushed, q_value, q_int, q_long, q_some, q_if, q_reference, q_object, q_index}
+use Rattle.kilim_woven_runs.proofs.alike.TwinRows.{next_is, is_load}
+use Rattle.kilim_woven_runs.proofs.alike.Hands.{hands}
+use Rattle.kilim_woven_runs.proofs.alike.Shapes.{shapes}
+use Rattle.kilim_woven_runs.proofs.alike.TwinRows as twin
+use Rattle.kilim_woven_runs.proofs.alike.MoreRows as more
 
 q_class : (P : Program) (v : Value) (heap : Objects) (go : Option Ty → Effect) → hushed (as_class P v heap go) ≡ as_class P v heap (λ o. hushed (go o))
 q_class P (value.Int x) heap go = refl

@@ -20,7 +20,7 @@ use Rattle.kilim_program.specs.Effect.{Effect, Goes, Calls, Asks, Returns, Raise
 use Rattle.kilim_program.specs.Does.{does}
 use Rattle.kilim_thread_model.specs.State.{Setting}
 use Rattle.kilim_woven_form.specs.Woven.{moved_instr}
-use Rattle.kilim_woven_runs.specs.rows.Shares.{Agree, PlainCallee}
+use Rattle.kilim_woven_runs.specs.alike.Shares.{Agree, PlainCallee}
 use Rattle.kilim_woven_runs.specs.Thread.{fetch, calls, own_of}
 use Rattle.kilim_woven_runs.specs.Fibers.{member_of}
 use Rattle.kilim_woven_runs.specs.Form.{Facts, is_pausable}
@@ -39,9 +39,9 @@ use Rattle.std.specs.Str.{bytes_eq}
 use Rattle.kilim_classes.specs.Lengths.{ends_path}
 use Rattle.kilim_woven_runs.specs.Rows.{Clean, IsClean, below_arguments, class_if, is_old_base, value_class}
 use Rattle.kilim_woven_runs.specs.Form.{sets}
-use Rattle.kilim_woven_runs.proofs.rows.Effects.{e_constant, e_value, e_int, e_some, e_if, e_object}
-use Rattle.kilim_woven_runs.proofs.rows.Lands.{hushed, lands}
-use Rattle.kilim_woven_runs.proofs.rows.TwinRows.{next_is}
+use Rattle.kilim_woven_runs.proofs.alike.Effects.{e_constant, e_value, e_int, e_some, e_if, e_object}
+use Rattle.kilim_woven_runs.proofs.alike.Lands.{hushed, lands}
+use Rattle.kilim_woven_runs.proofs.alike.TwinRows.{next_is}
 
 no_calls : (e : Effect) (c : MethodId) (args : List Value) (q : ℕ) (l s : List Value) (heap : Objects) → hushed e ≡ e → e ≡ Calls c args q l s heap → ⊥
 no_calls e c args q l s heap h g = let z : Stuck ≡ Calls c args q l s heap = ap hushed (sym g) ∙ h ∙ g in absurd (cc)

@@ -12,7 +12,7 @@ use Rattle.kilim_program.specs.declared.cause.EndCause.TheVariants as cause
 use Rattle.kilim_program.specs.Machine.{Activation}
 use Rattle.kilim_program.specs.Moves.{entered}
 use Rattle.kilim_thread_model.specs.State.{Setting}
-use Rattle.kilim_woven_simulation.specs.begins.Law.{BeginningsServe, ServesAlong, StandsWith}
+use Rattle.kilim_woven_simulation.specs.beginnings.Law.{BeginningsServe, ServesAlong, StandsWith}
 use Rattle.kilim_woven_runs.specs.Acts.{Lost, Over, World, ending, spending}
 use Rattle.kilim_woven_runs.specs.Fibers.{Fib, Resting, WRun, WStop, Woven_state, enter, new_fiber, wstarted, wstarted_in, wsteps}
 use Rattle.kilim_woven_runs.specs.Form.{Facts, Members, is_pausable, longest}

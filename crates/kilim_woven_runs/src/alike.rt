@@ -1,6 +1,6 @@
 //! What the instructions of a program and of its woven form do alike: laws, and no code that does work.
 
-ghost use Rattle.kilim_woven_runs.specs.rows.Law.{MembersAreCalled, RowsAreAlike};
+ghost use Rattle.kilim_woven_runs.specs.alike.Law.{MembersAreCalled, RowsAreAlike};
 
 /// A law, and no work: every row of the table does the same in woven code.
 pub fn rows_are_alike()

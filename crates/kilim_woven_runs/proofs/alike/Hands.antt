@@ -19,7 +19,7 @@ use Rattle.kilim_program.specs.Effect.{Effect, Goes, Calls, Asks, Raises, with_s
 use Rattle.kilim_program.specs.Does.{does, calls_method, calls_on, calls_text, chosen, special, takes_element}
 use Rattle.kilim_program.specs.Natives.{is_built_in_constructor, is_text_method, is_handed_out}
 use Rattle.kilim_woven_form.specs.Woven.{if_there, pausable_callee}
-use Rattle.kilim_woven_runs.specs.rows.Shares.{SharesCalls, Specials}
+use Rattle.kilim_woven_runs.specs.alike.Shares.{SharesCalls, Specials}
 use Rattle.kilim_woven_runs.specs.Rows.{handed, OldHeap, is_old_base, Clean, IsClean, below_arguments, class_if, value_class}
 
 module _ (P W : Program) (fiber : Ty) (shares : SharesCalls P W fiber) (nx to : ℕ) (l wl : List Value) (heap : Objects) where

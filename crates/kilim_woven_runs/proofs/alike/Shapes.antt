@@ -19,7 +19,7 @@ use Rattle.kilim_program.specs.Does.{does, calls_method, calls_on, calls_text, c
 use Rattle.kilim_program.specs.Natives.{is_built_in_constructor, is_text_method, is_handed_out}
 use Rattle.kilim_woven_form.specs.Woven.{pausable_callee}
 use Rattle.kilim_woven_runs.specs.Serves.{Shape, IsCall, IsNative, IsRaise, IsStuck}
-use Rattle.kilim_woven_runs.proofs.rows.Hands.{callee_is}
+use Rattle.kilim_woven_runs.proofs.alike.Hands.{callee_is}
 
 module _ (P : Program) (to : ℕ) (l : List Value) (heap : Objects) where
   Sh : Effect → Type 0

@@ -15,7 +15,7 @@ use Rattle.kilim_program.specs.Does.{does, calls_method, calls_on, calls_text, t
 use Rattle.kilim_program.specs.Natives.{is_text_method, is_handed_out}
 use Rattle.kilim_woven_form.specs.Woven.{member}
 use Rattle.kilim_program.specs.Natives.{FiberMember, Pc, Down, Up, Save, Place, Restore, Receiver}
-use Rattle.kilim_woven_runs.specs.rows.Shares.{IsMember, size_of}
+use Rattle.kilim_woven_runs.specs.alike.Shares.{IsMember, size_of}
 use Rattle.kilim_woven_runs.specs.Form.{members_in_order, takes_alone, Members}
 
 module _ (W : Program) (own : Method) (fiber : Ty) (fiber_is : named_type W (codes "kilim/Fiber") ≡ Some fiber) (id : MethodId) (nx : ℕ) (l s : List Value) (heap : Objects) where

@@ -23,7 +23,7 @@ use Rattle.kilim_classes.specs.Lengths.{ends_path, jump_targets}
 use Rattle.kilim_typing.specs.Typed.{Among, edges}
 use Rattle.kilim_woven_form.specs.Woven.{moved_pairs}
 use Rattle.kilim_woven_runs.specs.Rows.{goes_to}
-use Rattle.kilim_woven_runs.proofs.rows.Effects.{is_simple}
+use Rattle.kilim_woven_runs.proofs.alike.Effects.{is_simple}
 
 -- without calls
 abbrev pub hushed : Effect → Effect

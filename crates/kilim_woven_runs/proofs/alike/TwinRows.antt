@@ -30,9 +30,9 @@ use Rattle.std.specs.Prelude.{◌==◌}
 use Rattle.std.specs.Int.{w32, int_wrapping_add}
 use Rattle.kilim_classes.specs.Lengths.{jump_targets}
 use Rattle.kilim_program.specs.Effect.{with_some, on_value, as_int, as_long, as_reference}
-use Rattle.kilim_woven_runs.proofs.rows.Slots.{set_same, set_other, get_within}
-use Rattle.kilim_woven_runs.proofs.rows.Effects.{is_simple, same_simple, e_some, e_int, e_long, e_reference}
-use Rattle.kilim_woven_runs.proofs.rows.Lands.{hushed, hushed_simple, lands, next_unused}
+use Rattle.kilim_woven_runs.proofs.alike.Slots.{set_same, set_other, get_within}
+use Rattle.kilim_woven_runs.proofs.alike.Effects.{is_simple, same_simple, e_some, e_int, e_long, e_reference}
+use Rattle.kilim_woven_runs.proofs.alike.Lands.{hushed, hushed_simple, lands, next_unused}
 
 ends_moved : (at : ℕ → ℕ) (i : Instr) → ends_path (moved_instr at i) ≡ ends_path i
 unfolding ends_path

@@ -1,3 +1,0 @@
-pub mod examples
-pub mod lone
-pub mod rows
