@@ -5,7 +5,6 @@ use crate::files::class_files;
 use crate::fits::fits_lines;
 use crate::graphs::graph_lines;
 use crate::lives::live_lines;
-use crate::stages::{check_lines, type_lines};
 use std::alloc::Global;
 use std::rt::Files;
 
@@ -14,8 +13,6 @@ use std::rt::Files;
 pub fn answer<R: Files>(rt: &R, alloc: Global, words: &[String]) -> Option<Vec<u8>> {
     let (word, rest) = words.split_first()?;
     match word.as_str() {
-        "type" => type_lines(alloc, class_files(rt, alloc, rest)?.as_slice()),
-        "check" => check_lines(alloc, class_files(rt, alloc, rest)?.as_slice()),
         "graphs" => {
             let (name, rest) = rest.split_first()?;
             graph_lines(

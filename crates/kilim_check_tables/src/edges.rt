@@ -32,15 +32,11 @@ fn method_edges(alloc: Global, method: &Method) -> Option<String> {
     Some(text)
 }
 
-/// Where control goes from each instruction of the first method of that name; or the line of the first fault of linking or typing.
+/// Where control goes from each instruction of the first method of that name.
 pub fn edge_lines(alloc: Global, name: &str, files: &[ClassFile]) -> Option<Vec<u8>>
     requires { AllByRecursion ClassFits files.now }
 {
-    match linked_and_typed(alloc, files)? {
-        Ok(typed) => {
-            let (_, method) = method_named(alloc, &typed.program, name)?;
-            Some(method_edges(alloc, method)?.into_bytes())
-        }
-        Err(line) => Some(line),
-    }
+    let typed = linked_and_typed(alloc, files)?;
+    let (_, method) = method_named(alloc, &typed.program, name)?;
+    Some(method_edges(alloc, method)?.into_bytes())
 }

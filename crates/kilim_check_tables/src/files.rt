@@ -4,8 +4,7 @@ ghost use Rattle.std.specs.Prelude.{IfSome};
 ghost use Rattle.std.specs.List.{AllByRecursion};
 ghost use Rattle.kilim_classfile.specs.Text.{ClassFits};
 
-use kilim_attributes::Info;
-use kilim_classfile::{ClassFile, MemberInfo, read};
+use kilim_classfile::{ClassFile, read};
 use std::alloc::Global;
 use std::fs::File;
 use std::io;
@@ -41,26 +40,4 @@ pub fn class_files<R: Files>(rt: &R, alloc: Global, names: &[String]) -> Option<
         }
     }
     Some(files)
-}
-
-fn has_code(method: &MemberInfo) -> bool {
-    for attribute in method.attributes.as_slice() {
-        if let Info::Code(_) = &attribute.info {
-            return true;
-        }
-    }
-    false
-}
-
-/// How many methods of class files have code.
-pub fn methods_with_code(files: &[ClassFile]) -> Option<u64> {
-    let mut count: u64 = 0;
-    for file in files {
-        for method in file.methods.as_slice() {
-            if has_code(method) {
-                count = count.checked_add(1)?;
-            }
-        }
-    }
-    Some(count)
 }

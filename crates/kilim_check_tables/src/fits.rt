@@ -53,12 +53,10 @@ fn fits_line(alloc: Global, program: &Program, from: &str, to: &str) -> Option<V
     Vec::from_slice(alloc, answer.as_bytes()).ok()
 }
 
-/// Whether the first type may flow where the second is declared; or the line of the first fault of linking or typing.
+/// Whether the first type may flow where the second is declared.
 pub fn fits_lines(alloc: Global, from: &str, to: &str, files: &[ClassFile]) -> Option<Vec<u8>>
     requires { AllByRecursion ClassFits files.now }
 {
-    match linked_and_typed(alloc, files)? {
-        Ok(typed) => fits_line(alloc, &typed.program, from, to),
-        Err(line) => Some(line),
-    }
+    let typed = linked_and_typed(alloc, files)?;
+    fits_line(alloc, &typed.program, from, to)
 }

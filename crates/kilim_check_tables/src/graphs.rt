@@ -127,17 +127,12 @@ fn walked(alloc: Global, program: &Program, method: &Method, frames: &[Frame]) -
 }
 
 /// The graphs along the first method of that name: a line for the one at entry, and behind each instruction, up to the first that
-/// breaks a rule or ends the path; or the line of the first fault of linking or typing.
+/// breaks a rule or ends the path.
 pub fn graph_lines(alloc: Global, name: &str, files: &[ClassFile]) -> Option<Vec<u8>>
     requires { AllByRecursion ClassFits files.now }
 {
-    match linked_and_typed(alloc, files)? {
-        Ok(typed) => {
-            let (number, method) = method_named(alloc, &typed.program, name)?;
-            let frames = typed.frames.as_slice().get(number)?;
-            let text = walked(alloc, &typed.program, method, frames.as_slice())?;
-            Some(text.into_bytes())
-        }
-        Err(line) => Some(line),
-    }
+    let typed = linked_and_typed(alloc, files)?;
+    let (number, method) = method_named(alloc, &typed.program, name)?;
+    let frames = typed.frames.as_slice().get(number)?;
+    Some(walked(alloc, &typed.program, method, frames.as_slice())?.into_bytes())
 }

@@ -47,12 +47,10 @@ fn method_lives(alloc: Global, program: &Program, name: &str) -> Option<String> 
     lines_of(alloc, method, &table)
 }
 
-/// The locals that are live at each place of the first method of that name; or the line of the first fault of linking or typing.
+/// The locals that are live at each place of the first method of that name.
 pub fn live_lines(alloc: Global, name: &str, files: &[ClassFile]) -> Option<Vec<u8>>
     requires { AllByRecursion ClassFits files.now }
 {
-    match linked_and_typed(alloc, files)? {
-        Ok(typed) => Some(method_lives(alloc, &typed.program, name)?.into_bytes()),
-        Err(line) => Some(line),
-    }
+    let typed = linked_and_typed(alloc, files)?;
+    Some(method_lives(alloc, &typed.program, name)?.into_bytes())
 }

@@ -16,15 +16,9 @@ pub fn answer<R: Files + Threads + Wait + Sync>(
     match table.as_str() {
         "run" => kilim_run_tables::answer(rt, alloc, words),
         "link" => kilim_link_tables::answer(rt, alloc, words),
-        "demo" => kilim_demo_tables::answer(rt, alloc, words),
         "check" => kilim_check_tables::answer(rt, alloc, words),
         "class_builder" => kilim_class_builder_tables::answer(alloc, words),
-        "whole_run" => kilim_whole_run_tables::answer(rt, alloc, words),
-        "fiber" => kilim_fiber_tables::answer(rt, alloc, words),
         "top" => kilim_top_tables::answer(rt, alloc, words),
-        "weave" => kilim_weave_tables::answer(rt, alloc, words),
-        "weaver" => kilim_weaver_tables::answer(rt, alloc, words),
-        "woven" => kilim_woven_tables::answer(rt, alloc, words),
         _ => None,
     }
 }

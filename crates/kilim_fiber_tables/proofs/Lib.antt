@@ -1,2 +1,0 @@
-pub mod AreServed
-pub mod Driving
