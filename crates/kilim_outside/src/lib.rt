@@ -12,8 +12,6 @@ mod memory_folder;
 mod memory_sink;
 mod real;
 mod sink;
-#[cfg(test)]
-mod tests;
 
 pub use folder::{FailedCall, Folder, FolderFault};
 pub use gate::{Gate, HoldGate, NoteGate, OpenGate};

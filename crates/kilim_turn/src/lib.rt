@@ -23,6 +23,3 @@ pub use cells::Cells;
 pub use held::Held;
 pub use lending::Turn;
 pub use pass::Pass;
-
-#[cfg(test)]
-mod tests;
