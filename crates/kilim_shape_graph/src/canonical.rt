@@ -155,6 +155,31 @@ fn canonical_of(alloc: Global, graph: &Graph) -> Result<Graph, NoMemory>
     })
 }
 
+fn stack_names(
+    alloc: Global,
+    types: &[VType],
+    slots: &[Option<usize>],
+) -> Result<Seq<Option<usize>>, NoMemory>
+    ensures { IfOk result (λ new. new ≡ form.kept_names (reverse types.now) slots.now) }
+{
+    let types: Vec<VType> = turned(alloc, types)?;
+    kept_names(alloc, &types, slots)
+}
+
+// The graph, but slots that the frame types as Top name nothing.
+fn cleared(alloc: Global, graph: &Graph, frame: &Frame) -> Result<Graph, NoMemory>
+    ensures { IfOk result (λ new. new ≡ form.cleared (frame_types frame.now) graph.now) }
+{
+    let locals = kept_names(alloc, frame.locals.as_slice(), graph.locals.as_slice())?;
+    let stack = stack_names(alloc, frame.stack.as_slice(), graph.stack.as_slice())?;
+    let nodes = Vec::from_slice(alloc, graph.nodes.as_slice())?;
+    Ok(Graph {
+        locals,
+        stack,
+        nodes: Seq::from_vec(nodes),
+    })
+}
+
 impl Graph {
     /// The canonical form at a place with that declared frame, or with none: nodes that no slot names are dropped, and edges
     /// from or to a gone node; nodes are numbered by the least slot that names them, regions by their least node; a slot that
@@ -165,12 +190,7 @@ impl Graph {
         let Some(frame) = declared else {
             return canonical_of(alloc, self);
         };
-        let stack: Vec<VType> = turned(alloc, frame.stack.as_slice())?;
-        let graph = Graph {
-            locals: kept_names(alloc, frame.locals.as_slice(), self.locals.as_slice())?,
-            stack: kept_names(alloc, &stack, self.stack.as_slice())?,
-            nodes: Seq::from_vec(Vec::from_slice(alloc, self.nodes.as_slice())?),
-        };
+        let graph = cleared(alloc, self, frame)?;
         canonical_of(alloc, &graph)
     }
 }
