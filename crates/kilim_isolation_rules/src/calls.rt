@@ -1,15 +1,17 @@
 //! Calls: the arguments with their rules, and then the result.
 
-ghost use Rattle.std.specs.Prelude.{◌≡◌, ◌++◌, [], reverse, take, IfOk, option_copied};
+ghost use Rattle.std.specs.Prelude.{◌≡◌, ◌++◌, [], length, reverse, take, IfOk, option_copied};
 ghost use Rattle.std.specs.List.{list_any};
 ghost use Rattle.kilim_classes.specs.Same.{is_constructor};
 ghost use Rattle.kilim_isolation_rules.specs.Calls as spec;
-ghost use Rattle.kilim_shape_graph.specs.Graphs.{popped};
+ghost use Rattle.kilim_shape_graph.specs.Graphs.{popped, slot};
+ghost use Rattle.kilim_typing.specs.Step.{peek};
 
 use crate::deed::{Deed, Passed};
 use crate::fields::plain;
 use crate::growth::{given, popped, with_nodes};
 use crate::marks::{mixes, names_no_root, names_safe};
+use crate::shuffles::first;
 use crate::steps::{cut, give_away};
 use kilim_classes::{Base, Method, Program, Qualifier, Ty, VType};
 use kilim_shape_graph::{Graph, quality, slot_at, type_at};
@@ -164,23 +166,56 @@ fn push_passed(
     Ok(())
 }
 
-// The first items, the last of them first.
-fn turned<T: Copy + Drop>(alloc: Global, items: &[T], count: usize) -> Result<Vec<T>, NoMemory>
-    ensures { IfOk result (λ v. v.items ≡ reverse (take count items.now)) }
+// The items the other way round.
+fn turned<T: Copy + Drop>(alloc: Global, items: &[T]) -> Result<Vec<T>, NoMemory>
+    ensures { IfOk result (λ v. v.items ≡ reverse items.now) }
 {
-    Ok(
-        items[..count.min(items.len())]
-            .iter()
-            .rev()
-            .copied()
-            .collect(alloc)?,
-    )
+    Ok(items.iter().rev().copied().collect(alloc)?)
 }
 
 fn is_constructor(method: &Method) -> bool
     ensures { result ≡ is_constructor method.now }
 {
     method.name.is_text(b"<init>")
+}
+
+// The parameters of a method with what is passed for them, behind what is there.
+fn push_parameters(
+    alloc: Global,
+    callee: &Method,
+    graph: &Graph,
+    types: &[VType],
+    passed: &mut Seq<Passed>,
+) -> Result<(), NoMemory>
+    ensures { IfOk result (λ u. passed.new ≡ passed.old ++ spec.parameters callee.now.params callee.now.qualifiers (reverse (take (length callee.now.params) graph.now.stack)) (reverse (take (length callee.now.params) types.now))) }
+{
+    let count = callee.params.len();
+    let names: Vec<Option<usize>> = turned(alloc, first(graph.stack.as_slice(), count))?;
+    let above: Vec<VType> = turned(alloc, first(types, count))?;
+    push_passed(
+        callee.params.as_slice(),
+        callee.qualifiers.as_slice(),
+        &names,
+        &above,
+        passed,
+    )
+}
+
+// The receiver of a call.
+fn receiver(callee: &Method, graph: &Graph, types: &[VType]) -> Passed
+    ensures { result ≡ spec.receiver callee.now (slot graph.now.stack (length callee.now.params)) (peek types.now (length callee.now.params)) }
+{
+    let count = callee.params.len();
+    Passed {
+        name: slot_at(graph.stack.as_slice(), count),
+        ty: type_at(types, count),
+        into: Ty {
+            dims: 0,
+            base: Base::Class(callee.owner),
+        },
+        qualifier: callee.receiver,
+        is_begun: is_constructor(callee),
+    }
 }
 
 fn all_passed(
@@ -191,29 +226,11 @@ fn all_passed(
 ) -> Result<Seq<Passed>, NoMemory>
     ensures { IfOk result (λ passed. passed ≡ spec.all_passed callee.now graph.now types.now) }
 {
-    let count = callee.params.len();
-    let names: Vec<Option<usize>> = turned(alloc, graph.stack.as_slice(), count)?;
-    let above: Vec<VType> = turned(alloc, types, count)?;
     let mut passed = Seq::new(alloc);
     if !callee.is_static {
-        passed.push(Passed {
-            name: slot_at(graph.stack.as_slice(), count),
-            ty: type_at(types, count),
-            into: Ty {
-                dims: 0,
-                base: Base::Class(callee.owner),
-            },
-            qualifier: callee.receiver,
-            is_begun: is_constructor(callee),
-        })?;
+        passed.push(receiver(callee, graph, types))?;
     }
-    push_passed(
-        callee.params.as_slice(),
-        callee.qualifiers.as_slice(),
-        &names,
-        &above,
-        &mut passed,
-    )?;
+    push_parameters(alloc, callee, graph, types, &mut passed)?;
     Ok(passed)
 }
 
@@ -247,11 +264,11 @@ fn after_call(
     alloc: Global,
     program: &Program,
     arguments: &[Passed],
-    graph: Graph,
+    graph: &Graph,
 ) -> Result<Graph, NoMemory>
-    ensures { IfOk result (λ new. new ≡ spec.after_call program.now arguments.now graph) }
+    ensures { IfOk result (λ new. new ≡ spec.after_call program.now arguments.now graph.now) }
 {
-    let mut after = graph;
+    let mut after = popped(alloc, graph, 0)?;
     for argument in arguments {
         after = after_passed(alloc, program, after, argument)?;
     }
@@ -289,12 +306,9 @@ fn after(
 ) -> Result<Graph, NoMemory>
     ensures { IfOk result (λ new. new ≡ spec.given_result program.now callee.now.result (popped (spec.takes_from callee.now) (spec.after_call program.now arguments.now graph.now))) }
 {
-    let passed = after_call(alloc, program, arguments, popped(alloc, graph, 0)?)?;
-    given_result(
-        program,
-        callee.result,
-        without_arguments(alloc, callee, &passed)?,
-    )
+    let passed = after_call(alloc, program, arguments, graph)?;
+    let below = without_arguments(alloc, callee, &passed)?;
+    given_result(program, callee.result, below)
 }
 
 // A call with these arguments.

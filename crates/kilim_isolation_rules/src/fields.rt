@@ -10,7 +10,7 @@ use crate::marks::is_tree;
 use crate::steps::{cut, join};
 use kilim_classes::{Field, FieldId, Kind, Program, Ty, VType};
 use kilim_shape_graph::{Graph, Label, Node, Standing, slot_at, type_at};
-use kilim_units::NoMemory;
+use kilim_units::{NoMemory, Seq};
 use std::alloc::Global;
 
 /// A deed that breaks no rule.
@@ -110,7 +110,21 @@ fn reads(
     }
 }
 
-// The graph after the known child by a label left, and the change below its holder.
+// The nodes after the known child by a label left, and the change below its holder.
+fn nodes_without_child(
+    alloc: Global,
+    graph: &Graph,
+    label: Label,
+    holder: usize,
+) -> Result<Seq<Node>, NoMemory>
+    ensures { IfOk result (λ nodes. nodes ≡ (spec.without_child graph.now label holder).nodes) }
+{
+    let nodes = graph.nodes.as_slice();
+    let region = new_region(nodes)?;
+    cut(alloc, nodes, holder, child_by(graph, label, holder), region)
+}
+
+// The graph without the known child by a label.
 fn without_child(
     alloc: Global,
     graph: Graph,
@@ -119,9 +133,7 @@ fn without_child(
 ) -> Result<Graph, NoMemory>
     ensures { IfOk result (λ new. new ≡ spec.without_child graph label holder) }
 {
-    let child = child_by(&graph, label, holder);
-    let nodes = graph.nodes.as_slice();
-    let nodes = cut(alloc, nodes, holder, child, new_region(nodes)?)?;
+    let nodes = nodes_without_child(alloc, &graph, label, holder)?;
     Ok(with_nodes(graph, nodes))
 }
 

@@ -5,6 +5,7 @@ ghost use Rattle.kilim_shape_graph.specs.Graphs as spec;
 ghost use Rattle.kilim_shape_graph.specs.Nodes as list;
 ghost use Rattle.kilim_isolation_rules.specs.Marks as marks;
 
+use crate::shuffles::behind;
 use kilim_classes::Kind;
 use kilim_shape_graph::{Graph, Node, Standing};
 use kilim_units::{NoMemory, Seq};
@@ -14,12 +15,13 @@ use std::alloc::Global;
 pub fn popped(alloc: Global, graph: &Graph, count: usize) -> Result<Graph, NoMemory>
     ensures { IfOk result (λ new. new ≡ spec.popped count graph.now) }
 {
-    let stack = graph.stack.as_slice();
-    let below = &stack[count.min(stack.len())..];
+    let locals = Vec::from_slice(alloc, graph.locals.as_slice())?;
+    let stack = Vec::from_slice(alloc, behind(graph.stack.as_slice(), count))?;
+    let nodes = Vec::from_slice(alloc, graph.nodes.as_slice())?;
     Ok(Graph {
-        locals: Seq::from_vec(Vec::from_slice(alloc, graph.locals.as_slice())?),
-        stack: Seq::from_vec(Vec::from_slice(alloc, below)?),
-        nodes: Seq::from_vec(Vec::from_slice(alloc, graph.nodes.as_slice())?),
+        locals: Seq::from_vec(locals),
+        stack: Seq::from_vec(stack),
+        nodes: Seq::from_vec(nodes),
     })
 }
 

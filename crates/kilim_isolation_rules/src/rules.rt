@@ -1,6 +1,6 @@
 //! The step of an instruction.
 
-ghost use Rattle.std.specs.Prelude.{◌≡◌, [], Result, IfOk, option_copied};
+ghost use Rattle.std.specs.Prelude.{◌≡◌, [], Result, Ok, Err, MatchResult, IfOk, option_copied};
 ghost use Rattle.kilim_classes.specs.declared.class.Method.{Method};
 ghost use Rattle.kilim_classes.specs.declared.ty.Base.TheVariants as Base;
 ghost use Rattle.kilim_classes.specs.Names.{method_at, field_of};
@@ -8,7 +8,9 @@ ghost use Rattle.kilim_classes.specs.Program.{Program};
 ghost use Rattle.kilim_typing.specs.Step.{Types};
 ghost use Rattle.kilim_isolation_rules.specs.Actions.{deed_by};
 ghost use Rattle.kilim_isolation_rules.specs.Actions as actions;
+ghost use Rattle.kilim_shape_graph.specs.Graphs.{popped};
 ghost use Rattle.kilim_isolation_rules.specs.Marks.{plain};
+ghost use Rattle.kilim_isolation_rules.specs.Marks as marks;
 ghost use Rattle.kilim_isolation_rules.specs.Answers.{IsStep};
 ghost use Rattle.kilim_isolation_rules.specs.Rules as spec;
 
@@ -56,14 +58,22 @@ fn class_ty(class: ClassId) -> Ty
 }
 
 // So many items are taken from the stack, and so many given, which name no node.
-fn passes(alloc: Global, graph: &Graph, takes: usize, gives: usize) -> Result<Graph, NoMemory>
-    ensures { IfOk result (λ new. new ≡ spec.passed_by takes gives graph.now) }
+fn passes(alloc: Global, graph: &Graph, takes: usize, gives: usize) -> Result<Deed, NoMemory>
+    ensures { IfOk result (λ deed. deed ≡ plain (spec.passed_by takes gives graph.now)) }
 {
     let mut new = popped(alloc, graph, takes)?;
     for _ in 0..gives {
         new = push(new, None)?;
     }
-    Ok(new)
+    Ok(plain(new))
+}
+
+// So many items are taken from the stack, and a new object of a kind is given.
+fn makes(alloc: Global, graph: &Graph, takes: usize, kind: Kind) -> Result<Deed, NoMemory>
+    ensures { IfOk result (λ deed. deed ≡ plain (marks.given kind (popped takes graph.now))) }
+{
+    let below = popped(alloc, graph, takes)?;
+    Ok(plain(given(below, kind)?))
 }
 
 fn loads_reference(alloc: Global, graph: &Graph, slot: u16) -> Result<Deed, NoMemory>
@@ -117,7 +127,7 @@ fn makes_references(
         dims: 1,
         base: element.base,
     });
-    Ok(plain(given(popped(alloc, graph, 1)?, kind)?))
+    makes(alloc, graph, 1, kind)
 }
 
 fn gets_static(
@@ -129,21 +139,21 @@ fn gets_static(
     ensures { IfOk result (λ deed. (m : Method) (f : Types) → deed ≡ deed_by program.now m graph.now f (Action.GetsStatic id)) }
 {
     match field_of(program, id) {
-        None => Ok(plain(passes(alloc, graph, 0, 0)?)),
-        Some(_) => Ok(plain(passes(alloc, graph, 0, 1)?)),
+        None => passes(alloc, graph, 0, 0),
+        Some(_) => passes(alloc, graph, 0, 1),
     }
 }
 
-// The graph of a method that returns.
-fn emptied(alloc: Global, graph: &Graph) -> Result<Graph, NoMemory>
-    ensures { IfOk result (λ new. new ≡ record graph.now { stack = [] }) }
+// A value is returned, or nothing.
+fn returns(alloc: Global, graph: &Graph) -> Result<Deed, NoMemory>
+    ensures { IfOk result (λ deed. deed ≡ plain (record graph.now { stack = [] })) }
 {
     let all = popped(alloc, graph, 0)?;
-    Ok(Graph {
+    Ok(plain(Graph {
         locals: all.locals,
         stack: Seq::new(alloc),
         nodes: all.nodes,
-    })
+    }))
 }
 
 fn returns_reference(
@@ -155,7 +165,7 @@ fn returns_reference(
 ) -> Result<Deed, NoMemory>
     ensures { IfOk result (λ deed. deed ≡ spec.returns program.now method.now graph.now types.now) }
 {
-    let mut deed = plain(emptied(alloc, graph)?);
+    let mut deed = returns(alloc, graph)?;
     deed.not_free = names_no_root(graph, slot_at(graph.stack.as_slice(), 0));
     deed.mixed = match method.result {
         None => false,
@@ -192,16 +202,13 @@ fn act(
     ensures { IfOk result (λ deed. (f : Types) → f.stack ≡ types.now → deed ≡ deed_by program.now method.now graph.now f action) }
 {
     match action {
-        Action::Passes(takes, gives) => Ok(plain(passes(alloc, graph, takes, gives)?)),
+        Action::Passes(takes, gives) => passes(alloc, graph, takes, gives),
         Action::LoadsReference(slot) => loads_reference(alloc, graph, slot),
         Action::StoresReference(slot) => stores_reference(alloc, graph, slot),
         Action::StoresValue(slot, is_long) => stores_value(alloc, graph, slot, is_long),
         Action::Shuffles(words) => shuffles(alloc, graph, types, words),
-        Action::MakesObject(class) => Ok(plain(given(
-            popped(alloc, graph, 0)?,
-            program.kind(&class_ty(class)),
-        )?)),
-        Action::MakesValues => Ok(plain(given(popped(alloc, graph, 1)?, Kind::Tree)?)),
+        Action::MakesObject(class) => makes(alloc, graph, 0, program.kind(&class_ty(class))),
+        Action::MakesValues => makes(alloc, graph, 1, Kind::Tree),
         Action::MakesReferences(ty) => makes_references(alloc, program, graph, ty),
         Action::GetsStatic(id) => gets_static(alloc, program, graph, id),
         Action::GetsField(id) => gets_field(alloc, program, graph, id, field_of(program, id)),
@@ -217,7 +224,7 @@ fn act(
         Action::PutsElement => puts_element(alloc, program, graph, types),
         Action::Calls(id) => call_method(alloc, program, graph, types, method_at(program, id)),
         Action::ReturnsReference => returns_reference(alloc, program, method, graph, types),
-        Action::Returns => Ok(plain(emptied(alloc, graph)?)),
+        Action::Returns => returns(alloc, graph),
         Action::Casts(ty) => casts(alloc, program, graph, types, ty),
     }
 }
@@ -236,28 +243,38 @@ pub fn deed_of(
     act(alloc, program, method, graph, types, action_of(instr))
 }
 
+// The least rule that a deed breaks.
+fn keeps(deed: &Deed, flows: bool) -> Result<(), u8>
+    ensures { MatchResult result (λ u. spec.judged deed.now flows ≡ Ok deed.now.graph) (λ rule. spec.judged deed.now flows ≡ Err rule) }
+{
+    if deed.not_free {
+        Err(1)
+    } else if deed.gone {
+        Err(2)
+    } else if deed.safe_changed {
+        Err(3)
+    } else if deed.cycle {
+        Err(4)
+    } else if deed.shared {
+        Err(5)
+    } else if deed.mixed || flows {
+        Err(6)
+    } else if deed.not_cuttable {
+        Err(7)
+    } else if !stack_lives(&deed.graph) {
+        Err(9)
+    } else {
+        Ok(())
+    }
+}
+
 /// The graph of a deed, or the least rule that it breaks; `flows` says that the flow to the next place mixes kinds. Takes no
 /// memory.
 pub fn judge(deed: Deed, flows: bool) -> Result<Graph, StepFault>
     ensures { IsStep (spec.judged deed flows) result }
 {
-    if deed.not_free {
-        Err(StepFault::Rule(1))
-    } else if deed.gone {
-        Err(StepFault::Rule(2))
-    } else if deed.safe_changed {
-        Err(StepFault::Rule(3))
-    } else if deed.cycle {
-        Err(StepFault::Rule(4))
-    } else if deed.shared {
-        Err(StepFault::Rule(5))
-    } else if deed.mixed || flows {
-        Err(StepFault::Rule(6))
-    } else if deed.not_cuttable {
-        Err(StepFault::Rule(7))
-    } else if !stack_lives(&deed.graph) {
-        Err(StepFault::Rule(9))
-    } else {
-        Ok(deed.graph)
+    match keeps(&deed, flows) {
+        Ok(()) => Ok(deed.graph),
+        Err(rule) => Err(StepFault::Rule(rule)),
     }
 }

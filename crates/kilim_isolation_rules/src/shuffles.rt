@@ -37,13 +37,15 @@ fn items(words: usize, types: &[VType]) -> usize
     count
 }
 
-fn first<T>(list: &[T], count: usize) -> &[T]
+/// The first items of a list, so many or all.
+pub fn first<T>(list: &[T], count: usize) -> &[T]
     ensures { result.now ≡ take count list.now }
 {
     &list[..count.min(list.len())]
 }
 
-fn behind<T>(list: &[T], count: usize) -> &[T]
+/// What stands behind so many items of a list.
+pub fn behind<T>(list: &[T], count: usize) -> &[T]
     ensures { result.now ≡ drop count list.now }
 {
     &list[count.min(list.len())..]
