@@ -1,12 +1,16 @@
-//! What each class says of its members: their numbers.
+//! What each class says of its members, their numbers, and the numbers of the nearest ones.
 
-ghost use Rattle.std.specs.Prelude.{◌≡◌, ◌+◌, ◌<◌, ◌≤◌, ◌^◌, List, ℕ, IfOk, length, slice_get, sum_by, take};
+ghost use Rattle.std.specs.Prelude.{◌≡◌, ◌+◌, ◌<◌, ◌≤◌, ◌^◌, List, ℕ, IfOk, length, option_map, slice_get, sum_by, take};
 ghost use Rattle.std.specs.List.{position_from};
 ghost use Rattle.kilim_classes.specs.declared.names.ClassId as ids;
-ghost use Rattle.kilim_link_spec.specs.World.{is_method, is_field, methods_at, fields_at};
-ghost use Rattle.kilim_inherited.specs.Known.{Tells};
+ghost use Rattle.kilim_classes.specs.declared.class.Form.{Form};
+ghost use Rattle.kilim_classes.specs.BuiltIn.{method_id};
+ghost use Rattle.kilim_classes.specs.Program.{Program};
+ghost use Rattle.kilim_link_spec.specs.World.{is_method, is_field, methods_at, fields_at, field_id, find_method, find_field};
+ghost use Rattle.kilim_inherited.specs.Known.{known};
 ghost use Rattle.kilim_inherited.specs.Nearest.{said_by, says};
 ghost use Rattle.kilim_link_world.specs.Agrees.{method_count, field_count, placed};
+ghost use Rattle.kilim_link_world.specs.Superclasses.{AreSuperclasses};
 
 use kilim_classes::ClassId;
 use kilim_inherited::{Nearest, Said, Signature};
@@ -59,8 +63,8 @@ fn fields_said(alloc: Global, fields: &[DeclaredField], first: u32) -> Result<Se
     Ok(said)
 }
 
-/// What each class says of its methods: their numbers.
-pub fn all_methods_said(alloc: Global, classes: &[ClassView]) -> Result<Seq<Seq<Said>>, NoMemory>
+// What each class says of its methods: their numbers.
+fn all_methods_said(alloc: Global, classes: &[ClassView]) -> Result<Seq<Seq<Said>>, NoMemory>
     requires { sum_by method_count classes.now < 2 ^ 32 }
     ensures counted { IfOk result (λ said. length said ≡ length classes.now) }
     ensures said { IfOk result (λ said. (c : ids.ClassId) (name descriptor : List ℕ) → says said name descriptor c ≡ placed (sum_by method_count (take c.0 classes.now)) (position_from (is_method name descriptor) 0 (methods_at (slice_get classes.now c.0)))) }
@@ -77,8 +81,8 @@ pub fn all_methods_said(alloc: Global, classes: &[ClassView]) -> Result<Seq<Seq<
     Ok(said)
 }
 
-/// What each class says of its fields: their numbers.
-pub fn all_fields_said(alloc: Global, classes: &[ClassView]) -> Result<Seq<Seq<Said>>, NoMemory>
+// What each class says of its fields: their numbers.
+fn all_fields_said(alloc: Global, classes: &[ClassView]) -> Result<Seq<Seq<Said>>, NoMemory>
     requires { sum_by field_count classes.now < 2 ^ 32 }
     ensures counted { IfOk result (λ said. length said ≡ length classes.now) }
     ensures said { IfOk result (λ said. (c : ids.ClassId) (name descriptor : List ℕ) → says said name descriptor c ≡ placed (sum_by field_count (take c.0 classes.now)) (position_from (is_field name descriptor) 0 (fields_at (slice_get classes.now c.0)))) }
@@ -95,14 +99,30 @@ pub fn all_fields_said(alloc: Global, classes: &[ClassView]) -> Result<Seq<Seq<S
     Ok(said)
 }
 
-/// What is known of the nearest classes, of the superclass of each class and of what each class says.
-pub fn nearest_of(
+/// The numbers of the nearest methods, by the superclass of each class.
+pub fn nearest_methods(
     alloc: Global,
-    ups: &Seq<Option<ClassId>>,
-    said: &Seq<Seq<Said>>,
+    classes: &[ClassView],
+    ups: &[Option<ClassId>],
 ) -> Result<Nearest, NoMemory>
-    requires { length said.now ≤ length ups.now }
-    ensures { IfOk result (λ it. Tells it ups.now said.now) }
+    requires one_each { length ups.now ≡ length classes.now }
+    requires fit { sum_by method_count classes.now < 2 ^ 32 }
+    ensures { IfOk result (λ it. (form : Form) (outline : Program) → AreSuperclasses outline ups.now → (c : ids.ClassId) (name descriptor : List ℕ) → option_map method_id (known it c name descriptor) ≡ find_method (record { form = form; classes = classes.now; outline = outline }) c name descriptor) }
 {
-    Nearest::new(alloc, ups.as_slice(), said.as_slice())
+    let said = all_methods_said(alloc, classes)?;
+    Nearest::new(alloc, ups, said.as_slice())
+}
+
+/// The numbers of the nearest fields.
+pub fn nearest_fields(
+    alloc: Global,
+    classes: &[ClassView],
+    ups: &[Option<ClassId>],
+) -> Result<Nearest, NoMemory>
+    requires one_each { length ups.now ≡ length classes.now }
+    requires fit { sum_by field_count classes.now < 2 ^ 32 }
+    ensures { IfOk result (λ it. (form : Form) (outline : Program) → AreSuperclasses outline ups.now → (c : ids.ClassId) (name descriptor : List ℕ) → option_map field_id (known it c name descriptor) ≡ find_field (record { form = form; classes = classes.now; outline = outline }) c name descriptor) }
+{
+    let said = all_fields_said(alloc, classes)?;
+    Nearest::new(alloc, ups, said.as_slice())
 }

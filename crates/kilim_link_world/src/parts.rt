@@ -1,12 +1,23 @@
 //! What a world keeps beside its classes.
 
-ghost use Rattle.std.specs.Prelude.{◌≡◌, ◌<◌, ◌^◌, IfOk, length, sum_by};
-ghost use Rattle.kilim_link_world.specs.Agrees.{Agrees, method_count, field_count};
+ghost use Rattle.std.specs.Prelude.{◌≡◌, ◌<◌, ◌==◌, ◌^◌, List, ℕ, IfOk, is_some, length, option_map, slice_get, sum_by};
+ghost use Rattle.std.specs.List.{list_any};
+ghost use Rattle.kilim_classes.specs.declared.names.ClassId as number;
+ghost use Rattle.kilim_classes.specs.BuiltIn.{method_id};
+ghost use Rattle.kilim_classes.specs.Names.{line_of};
+ghost use Rattle.kilim_classes.specs.Program.{Program};
+ghost use Rattle.kilim_inherited.specs.Index.{places_from};
+ghost use Rattle.kilim_inherited.specs.Known.{known};
+ghost use Rattle.kilim_inherited.specs.Roots.{inherits};
+ghost use Rattle.kilim_link_spec.specs.World.{outline_of, is_method, methods_at, field_id, find_method, find_field};
+ghost use Rattle.kilim_link_world.specs.Agrees.{Agrees, method_count, field_count, firsts_of, indexed};
+ghost use Rattle.kilim_link_world.specs.Ids.{id_in, named_in};
+ghost use Rattle.kilim_link_world.specs.Superclasses.{AreSuperclasses};
 
 use crate::ids::Ids;
 use crate::lineages::lineages_of;
 use crate::members::{field_firsts, method_firsts, method_indices};
-use crate::nearest::{all_fields_said, all_methods_said, nearest_of};
+use crate::nearest::{nearest_fields, nearest_methods};
 use crate::outline::Outline;
 use kilim_classes::{ClassId, Form};
 use kilim_inherited::{Index, Inherited, Nearest};
@@ -14,18 +25,94 @@ use kilim_link_spec::ClassView;
 use kilim_units::{NoMemory, Seq};
 use std::alloc::Global;
 
+/// Classes by their names, and their superclasses.
+#[derive(Drop)]
+pub struct Lines {
+    pub outline: Outline,
+    pub ids: Ids,
+    /// The superclass of each class.
+    pub superclasses: Seq<Option<ClassId>>,
+    /// Which classes stand in the lines of others.
+    pub lineages: Inherited,
+}
+
+/// Members of classes.
+#[derive(Drop)]
+pub struct Members {
+    /// Where each class has its methods.
+    pub methods: Seq<Index>,
+    /// The number of each class's first method, and of one behind the last.
+    pub first_methods: Seq<u32>,
+    /// The same of fields.
+    pub first_fields: Seq<u32>,
+}
+
+/// The numbers of the nearest members.
+#[derive(Drop)]
+pub struct NearestMembers {
+    pub methods: Nearest,
+    pub fields: Nearest,
+}
+
 /// Superclasses, names, and places and numbers of members.
 #[derive(Drop)]
 pub struct Parts {
-    pub outline: Outline,
-    pub ids: Ids,
-    pub superclasses: Seq<Option<ClassId>>,
-    pub lineages: Inherited,
-    pub methods: Seq<Index>,
-    pub first_methods: Seq<u32>,
-    pub first_fields: Seq<u32>,
-    pub nearest_methods: Nearest,
-    pub nearest_fields: Nearest,
+    pub lines: Lines,
+    pub members: Members,
+    pub nearest: NearestMembers,
+}
+
+// The lines of the classes that are declared.
+fn lines_of(alloc: Global, form: Form, classes: &[ClassView]) -> Result<Lines, NoMemory>
+    requires { length classes.now < 2 ^ 32 }
+    ensures outlined { IfOk result (λ l. l.outline ≡ outline_of form classes.now) }
+    ensures named { IfOk result (λ l. (name : List ℕ) → id_in l.ids.places name ≡ named_in name classes.now) }
+    ensures superclasses { IfOk result (λ l. AreSuperclasses l.outline l.superclasses) }
+    ensures lineages { IfOk result (λ l. (c : number.ClassId) (k : ℕ) → k < length classes.now → is_some (inherits l.lineages c k) ≡ list_any (λ d. d.0 == k) (line_of l.outline c)) }
+{
+    let ids = Ids::new(alloc, classes)?;
+    let outline = Outline::new(alloc, form, classes, &ids)?;
+    let superclasses = outline.superclasses(alloc)?;
+    let lineages = lineages_of(alloc, superclasses.as_slice())?;
+    Ok(Lines {
+        outline,
+        ids,
+        superclasses,
+        lineages,
+    })
+}
+
+// The members of the classes that are declared.
+fn members_of(alloc: Global, classes: &[ClassView]) -> Result<Members, NoMemory>
+    requires methods_fit { sum_by method_count classes.now < 2 ^ 32 }
+    requires fields_fit { sum_by field_count classes.now < 2 ^ 32 }
+    ensures methods { IfOk result (λ m. (c : ℕ) (name descriptor : List ℕ) → indexed m.methods c name descriptor ≡ places_from (is_method name descriptor) 0 (methods_at (slice_get classes.now c))) }
+    ensures first_methods { IfOk result (λ m. m.first_methods ≡ firsts_of method_count classes.now) }
+    ensures first_fields { IfOk result (λ m. m.first_fields ≡ firsts_of field_count classes.now) }
+{
+    Ok(Members {
+        methods: method_indices(alloc, classes)?,
+        first_methods: method_firsts(alloc, classes)?,
+        first_fields: field_firsts(alloc, classes)?,
+    })
+}
+
+// The nearest members, by the superclass of each class.
+fn nearest_of(
+    alloc: Global,
+    classes: &[ClassView],
+    ups: &[Option<ClassId>],
+) -> Result<NearestMembers, NoMemory>
+    requires one_each { length ups.now ≡ length classes.now }
+    requires methods_fit { sum_by method_count classes.now < 2 ^ 32 }
+    requires fields_fit { sum_by field_count classes.now < 2 ^ 32 }
+    ensures methods { IfOk result (λ n. (form : Form) (outline : Program) → AreSuperclasses outline ups.now → (c : number.ClassId) (name descriptor : List ℕ) → option_map method_id (known n.methods c name descriptor) ≡ find_method (record { form = form; classes = classes.now; outline = outline }) c name descriptor) }
+    ensures fields { IfOk result (λ n. (form : Form) (outline : Program) → AreSuperclasses outline ups.now → (c : number.ClassId) (name descriptor : List ℕ) → option_map field_id (known n.fields c name descriptor) ≡ find_field (record { form = form; classes = classes.now; outline = outline }) c name descriptor) }
+{
+    Ok(NearestMembers {
+        methods: nearest_methods(alloc, classes, ups)?,
+        fields: nearest_fields(alloc, classes, ups)?,
+    })
 }
 
 /// Of the classes that are declared.
@@ -33,28 +120,14 @@ pub fn parts_of(alloc: Global, form: Form, classes: &[ClassView]) -> Result<Part
     requires few { length classes.now < 2 ^ 32 }
     requires methods_fit { sum_by method_count classes.now < 2 ^ 32 }
     requires fields_fit { sum_by field_count classes.now < 2 ^ 32 }
-    ensures { IfOk result (λ p. Agrees form classes.now p.outline p.ids p.superclasses p.lineages p.methods p.first_methods p.first_fields p.nearest_methods p.nearest_fields) }
+    ensures { IfOk result (λ p. Agrees form classes.now p.lines.outline p.lines.ids p.lines.superclasses p.lines.lineages p.members.methods p.members.first_methods p.members.first_fields p.nearest.methods p.nearest.fields) }
 {
-    let ids = Ids::new(alloc, classes)?;
-    let outline = Outline::new(alloc, form, classes, &ids)?;
-    let superclasses = outline.superclasses(alloc)?;
-    let lineages = lineages_of(alloc, superclasses.as_slice())?;
-    let methods = method_indices(alloc, classes)?;
-    let first_methods = method_firsts(alloc, classes)?;
-    let first_fields = field_firsts(alloc, classes)?;
-    let methods_said = all_methods_said(alloc, classes)?;
-    let fields_said = all_fields_said(alloc, classes)?;
-    let nearest_methods = nearest_of(alloc, &superclasses, &methods_said)?;
-    let nearest_fields = nearest_of(alloc, &superclasses, &fields_said)?;
+    let lines = lines_of(alloc, form, classes)?;
+    let members = members_of(alloc, classes)?;
+    let nearest = nearest_of(alloc, classes, lines.superclasses.as_slice())?;
     Ok(Parts {
-        outline,
-        ids,
-        superclasses,
-        lineages,
-        methods,
-        first_methods,
-        first_fields,
-        nearest_methods,
-        nearest_fields,
+        lines,
+        members,
+        nearest,
     })
 }

@@ -10,14 +10,13 @@ ghost use Rattle.kilim_link_world.specs.Agrees.{method_count, field_count};
 ghost use Rattle.kilim_link_world.specs.Superclasses.{AreSuperclasses};
 ghost use Rattle.kilim_inherited.specs.Index.{places_from};
 
-use crate::ids::Ids;
 use crate::outline::Outline;
-use crate::parts::parts_of;
+use crate::parts::{Parts, parts_of};
 use crate::search::{field_of, first_in, method_of, places_in};
 use crate::views::views_of;
 use kilim_classes::{ClassId, FieldId, Form, MethodId};
 use kilim_classfile::ClassFile;
-use kilim_inherited::{Index, Inherited, Nearest, Signature};
+use kilim_inherited::Signature;
 use kilim_link_spec::ClassView;
 use kilim_units::{NoMemory, Seq, Units};
 use std::alloc::Global;
@@ -30,32 +29,20 @@ use std::marker::Model;
 pub struct World {
     form: Form,
     classes: Seq<ClassView>,
-    outline: Outline,
-    ids: Ids,
-    // The superclass of each class.
-    superclasses: Seq<Option<ClassId>>,
-    // Which classes stand in the lines of others.
-    lineages: Inherited,
-    // Where each class has its methods.
-    methods: Seq<Index>,
-    // The number of each class's first method and field, and of one behind the last.
-    first_methods: Seq<u32>,
-    first_fields: Seq<u32>,
-    // The numbers of the nearest ones.
-    nearest_methods: Nearest,
-    nearest_fields: Nearest,
+    // Superclasses, names, and places and numbers of members.
+    parts: Parts,
 }
 
 impl Model for World {
-    ghost use Rattle.kilim_link_spec.specs.World as parts;
+    ghost use Rattle.kilim_link_spec.specs.World as whole;
 
-    ghost Value = { parts.World };
+    ghost Value = { whole.World };
 
     ghost use Rattle.kilim_link_world.specs.Agrees.{Agrees};
 
-    ghost view = { λ w. record { form = w.form; classes = w.classes; outline = w.outline } };
+    ghost view = { λ w. record { form = w.form; classes = w.classes; outline = w.parts.lines.outline } };
 
-    ghost invariant = { λ w. Agrees w.form w.classes w.outline w.ids w.superclasses w.lineages w.methods w.first_methods w.first_fields w.nearest_methods w.nearest_fields };
+    ghost invariant = { λ w. Agrees w.form w.classes w.parts.lines.outline w.parts.lines.ids w.parts.lines.superclasses w.parts.lines.lineages w.parts.members.methods w.parts.members.first_methods w.parts.members.first_fields w.parts.nearest.methods w.parts.nearest.fields };
 }
 
 impl World {
@@ -80,15 +67,7 @@ impl World {
         Ok(World {
             form,
             classes,
-            outline: parts.outline,
-            ids: parts.ids,
-            superclasses: parts.superclasses,
-            lineages: parts.lineages,
-            methods: parts.methods,
-            first_methods: parts.first_methods,
-            first_fields: parts.first_fields,
-            nearest_methods: parts.nearest_methods,
-            nearest_fields: parts.nearest_fields,
+            parts,
         })
     }
 
@@ -103,14 +82,14 @@ impl World {
     pub fn outline(&self) -> &Outline
         ensures { result.now ≡ self.now.outline }
     {
-        &self.outline
+        &self.parts.lines.outline
     }
 
     /// The class of a name, the first one where there are several (JVMS 5.3).
     pub fn class_of(&self, name: &Units) -> Option<ClassId>
         ensures { result ≡ class_of self.now name.now }
     {
-        self.ids.class(name)
+        self.parts.lines.ids.class(name)
     }
 
     /// A class as it is declared, none past the end.
@@ -132,7 +111,7 @@ impl World {
         ensures are { AreSuperclasses self.now.outline result.now }
         ensures counted { length result.now ≡ length self.now.classes }
     {
-        self.superclasses.as_slice()
+        self.parts.lines.superclasses.as_slice()
     }
 
     /// The superclass of a class, its superclass, and so on up, at most as many as there are classes: one that is its
@@ -152,7 +131,7 @@ impl World {
         ensures { result ≡ is_circular self.now class }
     {
         match self.outline().superclass_of(class) {
-            Some(up) => self.lineages.find(up, class.0).is_some(),
+            Some(up) => self.parts.lines.lineages.find(up, class.0).is_some(),
             None => false,
         }
     }
@@ -162,7 +141,7 @@ impl World {
     pub fn first_method(&self, class: ClassId) -> u32
         ensures { result ≡ first_method self.now class }
     {
-        first_in(&self.first_methods, class)
+        first_in(&self.parts.members.first_methods, class)
     }
 
     /// The number of a class's first field, where fields are numbered class by class in declared order; past the end
@@ -170,14 +149,14 @@ impl World {
     pub fn first_field(&self, class: ClassId) -> u32
         ensures { result ≡ first_field self.now class }
     {
-        first_in(&self.first_fields, class)
+        first_in(&self.parts.members.first_fields, class)
     }
 
     /// The places of a method among those that a class declares, in order; none past the end.
     pub fn methods_named(&self, class: ClassId, signature: &Signature) -> &[u32]
         ensures { result.now ≡ places_from (is_method signature.now.name signature.now.descriptor) 0 (declared_methods self.now class) }
     {
-        places_in(&self.methods, class, signature)
+        places_in(&self.parts.members.methods, class, signature)
     }
 
     /// The method of that name and descriptor of a class, or of its nearest ancestor that has one (JVMS 5.4.3.3, own);
@@ -185,7 +164,7 @@ impl World {
     pub fn find_method(&self, class: ClassId, signature: &Signature) -> Option<MethodId>
         ensures { result ≡ find_method self.now class signature.now.name signature.now.descriptor }
     {
-        method_of(self.nearest_methods.find(class, signature))
+        method_of(self.parts.nearest.methods.find(class, signature))
     }
 
     /// The field of that name and descriptor of a class, or of its nearest ancestor that has one (JVMS 5.4.3.2, own);
@@ -193,6 +172,6 @@ impl World {
     pub fn find_field(&self, class: ClassId, signature: &Signature) -> Option<FieldId>
         ensures { result ≡ find_field self.now class signature.now.name signature.now.descriptor }
     {
-        field_of(self.nearest_fields.find(class, signature))
+        field_of(self.parts.nearest.fields.find(class, signature))
     }
 }

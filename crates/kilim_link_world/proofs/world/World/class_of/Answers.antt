@@ -11,5 +11,5 @@ returns c =
     let name = c.args.name.now in
     c.class.ensures
     ∙ (ap (option_map class_id) (c.self.invariant.named name)
-    ∙ (sym (class_named_is w.form w.classes w.outline name c.self.invariant.outlined)
+    ∙ (sym (class_named_is w.form w.classes w.parts.lines.outline name c.self.invariant.outlined)
     ∙ ap (λ v. class_of v name) c.self.view_is))

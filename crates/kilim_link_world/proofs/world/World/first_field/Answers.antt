@@ -8,5 +8,5 @@ pub returns : goal.returns
 returns c =
     let w = c.self.inside in
     c.first_in.ensures
-    ∙ (first_is field_count w.classes w.first_fields c.args.class.0 c.self.invariant.first_fields_are
+    ∙ (first_is field_count w.classes w.parts.members.first_fields c.args.class.0 c.self.invariant.first_fields_are
     ∙ ap (λ v. first_field v c.args.class) c.self.view_is)

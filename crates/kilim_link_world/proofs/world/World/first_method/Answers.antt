@@ -8,5 +8,5 @@ pub returns : goal.returns
 returns c =
     let w = c.self.inside in
     c.first_in.ensures
-    ∙ (first_is method_count w.classes w.first_methods c.args.class.0 c.self.invariant.first_methods_are
+    ∙ (first_is method_count w.classes w.parts.members.first_methods c.args.class.0 c.self.invariant.first_methods_are
     ∙ ap (λ v. first_method v c.args.class) c.self.view_is)

@@ -17,10 +17,10 @@ returns-in-Some c =
     let class = c.args.class in
     let up = c.in-Some.up in
     let outline = c.args.self.now.outline in
-    let same : w.outline ≡ outline = ap (λ v. v.outline) c.self.view_is in
+    let same : w.parts.lines.outline ≡ outline = ap (λ v. v.outline) c.self.view_is in
     let is : superclass_of (class_at outline class) ≡ Some up = ap (λ (p : Program). superclass_of (class_at p class)) (sym c.outline.ensures) ∙ (sym c.superclass_of.ensures ∙ c.in-Some.is) in
-    let within : class.0 < length w.outline.classes = class_within w.outline class up (ap (λ (p : Program). superclass_of (class_at p class)) same ∙ is) in
-    let lt : class.0 < length w.classes = (let len = length_outline w.form w.classes w.outline c.self.invariant.outlined in omega arith) in
+    let within : class.0 < length w.parts.lines.outline.classes = class_within w.parts.lines.outline class up (ap (λ (p : Program). superclass_of (class_at p class)) same ∙ is) in
+    let lt : class.0 < length w.classes = (let len = length_outline w.form w.classes w.parts.lines.outline c.self.invariant.outlined in omega arith) in
     c.is_some.ensures
     ∙ (ap (λ (o : Option ℕ). is_some o) c.find.ensures.found
     ∙ (c.self.invariant.lineages_are up class.0 lt
