@@ -5,7 +5,7 @@ ghost use Rattle.kilim_attribute_parts.specs.Annotations.{asked};
 
 /// A part of annotations, in the order of the bytes (JVMS 4.7.16): what stands there, and what kind of parts, and
 /// how many of them, it asks for. Those follow it, each with all that it asks for in its turn.
-#[derive(Clone, Copy, Debug, PartialEq, Eq)]
+#[derive(Clone, Copy, PartialEq, Eq)]
 pub enum AnnotationPart {
     /// The number of parameters, of the attributes of parameters (JVMS 4.7.18). It asks for a list each.
     Parameters(u8),

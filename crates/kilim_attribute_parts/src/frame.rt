@@ -3,7 +3,7 @@
 use kilim_units::Seq;
 
 /// A verification type of a frame (JVMS 4.7.4). A long or a double stands for both of its places.
-#[derive(Clone, Copy, Debug, PartialEq, Eq)]
+#[derive(Clone, Copy, PartialEq, Eq)]
 pub enum VerificationType {
     /// Tag 0.
     Top,
@@ -26,7 +26,7 @@ pub enum VerificationType {
 }
 
 /// A frame in the form in which it is written (JVMS 4.7.4). An offset delta is in bytes of the code.
-#[derive(Debug, Drop)]
+#[derive(Drop)]
 pub enum Frame {
     /// Tags 0 to 63: the offset delta. The locals of the frame before, and an empty stack.
     Same(u8),

@@ -4,7 +4,7 @@ use kilim_attribute_parts::{AnnotationPart, Frame};
 use kilim_units::Seq;
 
 /// Where a list of attributes stands.
-#[derive(Clone, Copy, Debug)]
+#[derive(Clone, Copy)]
 pub enum Place {
     Class,
     Field,
@@ -14,7 +14,7 @@ pub enum Place {
 }
 
 /// A row of an exception table (JVMS 4.7.3). Places are in bytes of the code.
-#[derive(Clone, Copy, Debug, PartialEq, Eq)]
+#[derive(Clone, Copy, PartialEq, Eq)]
 pub struct ExceptionHandler {
     pub start_pc: u16,
     pub end_pc: u16,
@@ -24,7 +24,7 @@ pub struct ExceptionHandler {
 }
 
 /// What an attribute in a Code attribute holds.
-#[derive(Debug, Drop)]
+#[derive(Drop)]
 pub enum CodeInfo {
     /// JVMS 4.7.4.
     StackMapTable(Seq<Frame>),
@@ -33,7 +33,7 @@ pub enum CodeInfo {
 }
 
 /// An attribute in a Code attribute.
-#[derive(Debug, Drop)]
+#[derive(Drop)]
 pub struct CodeAttribute {
     /// The index of the name, a Utf8.
     pub attribute_name_index: u16,
@@ -41,7 +41,7 @@ pub struct CodeAttribute {
 }
 
 /// A Code attribute (JVMS 4.7.3).
-#[derive(Debug, Drop)]
+#[derive(Drop)]
 pub struct Code {
     pub max_stack: u16,
     pub max_locals: u16,
@@ -52,7 +52,7 @@ pub struct Code {
 }
 
 /// What an attribute holds.
-#[derive(Debug, Drop)]
+#[derive(Drop)]
 pub enum Info {
     /// The index of an Integer, a Float, a Long, a Double or a String (JVMS 4.7.2).
     ConstantValue(u16),
@@ -75,7 +75,7 @@ pub enum Info {
 }
 
 /// An attribute (JVMS 4.7).
-#[derive(Debug, Drop)]
+#[derive(Drop)]
 pub struct Attribute {
     /// The index of the name, a Utf8.
     pub attribute_name_index: u16,

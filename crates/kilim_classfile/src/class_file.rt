@@ -5,7 +5,7 @@ use kilim_constant_pool::Pool;
 use kilim_units::Seq;
 
 /// A field (JVMS 4.5) or a method (JVMS 4.6): the two structures have the same items.
-#[derive(Debug, Drop)]
+#[derive(Drop)]
 pub struct MemberInfo {
     pub access_flags: u16,
     /// The index of the name, a Utf8.
@@ -16,7 +16,7 @@ pub struct MemberInfo {
 }
 
 /// A class file (JVMS 4.1), without the magic number and the counts, which its lists tell.
-#[derive(Debug, Drop)]
+#[derive(Drop)]
 pub struct ClassFile {
     /// 0 in each file that is accepted.
     pub minor_version: u16,

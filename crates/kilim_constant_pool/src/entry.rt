@@ -6,7 +6,7 @@ use kilim_units::Units;
 
 /// An entry of a constant pool (JVMS 4.4), with indices of other entries as they stand in the file. Float and Double
 /// constants are their bits.
-#[derive(Debug, Drop)]
+#[derive(Drop)]
 pub enum Entry {
     /// Tag 1, a text (JVMS 4.4.7).
     Utf8(Units),

@@ -11,7 +11,7 @@ use std::alloc::{AllocError, Global};
 use std::marker::Model;
 
 /// A constant pool (JVMS 4.4). Contracts see it as the list of its entries.
-#[derive(Debug, Drop)]
+#[derive(Drop)]
 pub struct Pool {
     // An element for each index from 1 on: its entry, or nothing at the second index of a Long or a Double.
     slots: Vec<Option<Entry>>,

@@ -43,7 +43,7 @@ impl<T: Drop> From<AllocFailed<T>> for FolderFault {
 }
 
 /// A call of a folder that failed, with the name that it was given, as its bytes.
-#[derive(Debug, Drop)]
+#[derive(Drop)]
 pub enum FailedCall {
     /// A call of `read`.
     Read(Seq<u8>),

@@ -19,7 +19,7 @@ use kilim_units::Seq;
 use std::alloc::AllocError;
 
 /// A file in memory: its name and its content, both as bytes.
-#[derive(Debug, Drop)]
+#[derive(Drop)]
 pub struct NamedFile {
     pub name: Seq<u8>,
     pub bytes: Seq<u8>,
@@ -78,7 +78,7 @@ fn put_file(files: &mut Seq<NamedFile>, name: &[u8], bytes: &[u8]) -> Result<(),
 
 /// A folder in memory in which no call fails but for want of memory: a name that wasn't given is an
 /// empty file. Its list of failed calls is always empty.
-#[derive(Debug, Drop)]
+#[derive(Drop)]
 pub struct SteadyFolder {
     /// The files; of one name the first counts. A file that is written again stands in front.
     pub files: Seq<NamedFile>,
@@ -102,7 +102,7 @@ impl Folder for SteadyFolder {
 }
 
 /// A folder in memory whose calls fail as a test asks. A name that isn't there is a fault.
-#[derive(Debug, Drop)]
+#[derive(Drop)]
 pub struct MapFolder {
     /// The files; of one name the first counts. A file that is written again stands in front.
     pub files: Seq<NamedFile>,

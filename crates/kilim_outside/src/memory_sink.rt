@@ -9,7 +9,7 @@ use kilim_units::Seq;
 
 /// A sink in memory in which no call fails but for want of memory. It takes every piece whole, and its
 /// count of faults is always 0.
-#[derive(Debug, Drop)]
+#[derive(Drop)]
 pub struct SteadySink {
     /// The bytes that were written.
     pub bytes: Seq<u8>,
@@ -32,7 +32,7 @@ impl TextSink for SteadySink {
 }
 
 /// A sink in memory whose calls fail, or take few bytes, as a test asks.
-#[derive(Debug, Drop)]
+#[derive(Drop)]
 pub struct VecSink {
     /// The bytes that were written.
     pub bytes: Seq<u8>,

@@ -11,7 +11,7 @@ use std::sync::Arc;
 /// A name or a text as its UTF-16 units (JVMS 4.4.7): a class name in its internal form, as
 /// `java/lang/Object`, a member's name, a descriptor, or a string. Surrogates stand for themselves. The units are
 /// shared: a clone has the same ones, and no copy of them is made.
-#[derive(Debug, Drop)]
+#[derive(Drop)]
 pub struct Units {
     units: Arc<Vec<u16>, Global>,
 }
