@@ -6,12 +6,12 @@ ghost use Rattle.kilim_program_maker.specs.Parts.{code_attribute, exceptions_att
 
 use crate::assembler::*;
 use crate::parts::{
-    PUBLIC, Sizes, class_file, code_attribute, exceptions_attribute, frames_attribute, method, one,
-    two,
+    PUBLIC, Sizes, class_file, code_attribute, frames_attribute, method, one, push_exceptions, two,
 };
 use crate::pool::{Constant, add_all, add_text};
 use crate::stage_class::stage_name;
 use kilim_attribute_parts::{Frame, VerificationType};
+use kilim_attributes::CodeAttribute;
 use kilim_classfile::{ClassFile, MemberInfo};
 use kilim_constant_pool::Pool;
 use kilim_units::{NoMemory, Seq};
@@ -322,6 +322,15 @@ fn constructor(alloc: Global) -> Result<MemberInfo, NoMemory>
     Ok(method(0, 5, 6, one(alloc, code)?))
 }
 
+// The frames of the code.
+fn inside(alloc: Global, stages: u8) -> Result<Seq<CodeAttribute>, NoMemory>
+    requires { stages ≤ 15 }
+    ensures { IfOk result (λ inside. inside ≡ frames_attribute 14 (main_frames stages) ∷ []) }
+{
+    let frames = main_frames(alloc, stages)?;
+    one(alloc, frames_attribute(14, frames))
+}
+
 fn execute(alloc: Global, stages: u8, messages: u16) -> Result<MemberInfo, NoMemory>
     requires { stages ≤ 15 }
     ensures { IfOk result (λ m. m ≡ method public_flag 10 6 (code_attribute 9 4 (5 + stages) (main_code stages messages) (frames_attribute 14 (main_frames stages) ∷ []) ∷ exceptions_attribute 11 13 ∷ [])) }
@@ -330,10 +339,10 @@ fn execute(alloc: Global, stages: u8, messages: u16) -> Result<MemberInfo, NoMem
         stack: 4,
         locals: 5 + u16::from(stages),
     };
-    let inside = one(alloc, frames_attribute(14, main_frames(alloc, stages)?))?;
+    let inside = inside(alloc, stages)?;
     let code = main_code(alloc, stages, messages)?;
-    let code = code_attribute(alloc, 9, sizes, code, inside);
-    let attributes = two(alloc, code, exceptions_attribute(alloc, 11, 13)?)?;
+    let mut attributes = one(alloc, code_attribute(alloc, 9, sizes, code, inside))?;
+    push_exceptions(alloc, &mut attributes, 11, 13)?;
     Ok(method(PUBLIC, 10, 6, attributes))
 }
 

@@ -1,6 +1,6 @@
 //! The class of nodes.
 
-ghost use Rattle.std.specs.Prelude.{◌≡◌, ◌∷◌, [], IfOk};
+ghost use Rattle.std.specs.Prelude.{◌≡◌, ◌∷◌, ◌++◌, [], IfOk, OnOk};
 ghost use Rattle.kilim_classfile.specs.declared.class_file.MemberInfo.{MemberInfo};
 ghost use Rattle.kilim_program_maker.specs.Node.{free_second, node_code, node_file, node_pool};
 ghost use Rattle.kilim_program_maker.specs.Parts.{code_attribute, field, method};
@@ -68,8 +68,8 @@ fn node_code(alloc: Global) -> Result<Vec<u8>, NoMemory>
     Ok(code)
 }
 
-fn free_second(alloc: Global) -> Result<Attribute, NoMemory>
-    ensures { IfOk result (λ a. a ≡ free_second) }
+fn push_free_second(alloc: Global, attributes: &mut Seq<Attribute>) -> Result<(), NoMemory>
+    ensures { OnOk result (attributes.new ≡ attributes.old ++ free_second ∷ []) }
 {
     let parts = [
         AnnotationPart::Parameters(2),
@@ -77,23 +77,33 @@ fn free_second(alloc: Global) -> Result<Attribute, NoMemory>
         AnnotationPart::Annotations(1),
         AnnotationPart::Annotation(22, 0),
     ];
-    Ok(Attribute {
+    let parts = Vec::from_slice(alloc, &parts)?;
+    attributes.push(Attribute {
         attribute_name_index: 21,
-        info: Info::RuntimeVisibleParameterAnnotations(Seq::from_vec(Vec::from_slice(
-            alloc, &parts,
-        )?)),
-    })
+        info: Info::RuntimeVisibleParameterAnnotations(Seq::from_vec(parts)),
+    })?;
+    Ok(())
 }
 
-fn constructor(alloc: Global) -> Result<MemberInfo, NoMemory>
-    ensures { IfOk result (λ m. m ≡ method 0 11 12 (code_attribute 20 2 3 node_code [] ∷ free_second ∷ [])) }
+fn constructor_code(alloc: Global) -> Result<Seq<Attribute>, NoMemory>
+    ensures { IfOk result (λ code. code ≡ code_attribute 20 2 3 node_code [] ∷ []) }
 {
     let sizes = Sizes {
         stack: 2,
         locals: 3,
     };
-    let code = code_attribute(alloc, 20, sizes, node_code(alloc)?, Seq::new(alloc));
-    let attributes = two(alloc, code, free_second(alloc)?)?;
+    let code = node_code(alloc)?;
+    one(
+        alloc,
+        code_attribute(alloc, 20, sizes, code, Seq::new(alloc)),
+    )
+}
+
+fn constructor(alloc: Global) -> Result<MemberInfo, NoMemory>
+    ensures { IfOk result (λ m. m ≡ method 0 11 12 (code_attribute 20 2 3 node_code [] ∷ free_second ∷ [])) }
+{
+    let mut attributes = constructor_code(alloc)?;
+    push_free_second(alloc, &mut attributes)?;
     Ok(method(0, 11, 12, attributes))
 }
 

@@ -1,6 +1,6 @@
 //! Parts of class files.
 
-ghost use Rattle.std.specs.Prelude.{◌≡◌, ◌∷◌, [], IfOk};
+ghost use Rattle.std.specs.Prelude.{◌≡◌, ◌∷◌, ◌++◌, [], IfOk, OnOk};
 ghost use Rattle.kilim_program_maker.specs.Parts.{class_file, code_attribute, exceptions_attribute, field, frames_attribute, method};
 
 use kilim_attribute_parts::Frame;
@@ -79,16 +79,21 @@ pub fn frames_attribute(name: u16, frames: Vec<Frame>) -> CodeAttribute
     }
 }
 
-/// An Exceptions attribute with one class.
-pub fn exceptions_attribute(alloc: Global, name: u16, class: u16) -> Result<Attribute, NoMemory>
-    ensures { IfOk result (λ a. a ≡ exceptions_attribute name class) }
+/// An Exceptions attribute with one class, behind other attributes.
+pub fn push_exceptions(
+    alloc: Global,
+    attributes: &mut Seq<Attribute>,
+    name: u16,
+    class: u16,
+) -> Result<(), NoMemory>
+    ensures { OnOk result (attributes.new ≡ attributes.old ++ exceptions_attribute name class ∷ []) }
 {
-    let mut classes = Seq::new(alloc);
-    classes.push(class)?;
-    Ok(Attribute {
+    let classes = one(alloc, class)?;
+    attributes.push(Attribute {
         attribute_name_index: name,
         info: Info::Exceptions(classes),
-    })
+    })?;
+    Ok(())
 }
 
 /// A class file, with its own class at the index 2 and the superclass at 4.

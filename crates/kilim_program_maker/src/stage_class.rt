@@ -9,11 +9,12 @@ ghost use Rattle.kilim_program_maker.specs.Stage.{giving, operation_code, stage_
 use crate::assembler::*;
 use crate::draws::{Operation, Stage};
 use crate::parts::{
-    PUBLIC, Sizes, class_file, code_attribute, exceptions_attribute, field, frames_attribute,
-    method, one, two,
+    PUBLIC, Sizes, class_file, code_attribute, field, frames_attribute, method, one,
+    push_exceptions, two,
 };
 use crate::pool::{Constant, add_all, add_text};
 use kilim_attribute_parts::{Frame, VerificationType};
+use kilim_attributes::{Attribute, CodeAttribute};
 use kilim_classfile::{ClassFile, MemberInfo};
 use kilim_constant_pool::Pool;
 use kilim_units::{NoMemory, Seq};
@@ -269,20 +270,43 @@ fn constructor(alloc: Global) -> Result<MemberInfo, NoMemory>
     Ok(method(0, 8, 9, one(alloc, code)?))
 }
 
-fn execute(alloc: Global, messages: u16, stage: Stage) -> Result<MemberInfo, NoMemory>
-    ensures { IfOk result (λ m. m ≡ method public_flag 17 10 (code_attribute 18 4 4 (stage_code messages stage) (frames_attribute 22 (stage_frames (length (operation_code stage.operation stage.number))) ∷ []) ∷ exceptions_attribute 19 21 ∷ [])) }
+// The frames of the code of a stage, whose operation has so many bytes.
+fn inside(alloc: Global, long: u16) -> Result<Seq<CodeAttribute>, NoMemory>
+    requires { long ≤ 16 }
+    ensures { IfOk result (λ inside. inside ≡ frames_attribute 22 (stage_frames long) ∷ []) }
+{
+    let frames = stage_frames(alloc, long)?;
+    one(alloc, frames_attribute(22, frames))
+}
+
+fn execute_code(alloc: Global, messages: u16, stage: Stage) -> Result<Seq<Attribute>, NoMemory>
+    ensures { IfOk result (λ code. code ≡ code_attribute 18 4 4 (stage_code messages stage) (frames_attribute 22 (stage_frames (length (operation_code stage.operation stage.number))) ∷ []) ∷ []) }
 {
     let sizes = Sizes {
         stack: 4,
         locals: 4,
     };
     let body = operation_code(alloc, stage)?;
+    let inside = inside(alloc, body.len() as u16)?;
     let code = stage_code(alloc, messages, stage, body.as_slice())?;
-    let frames = stage_frames(alloc, body.len() as u16)?;
-    let inside = one(alloc, frames_attribute(22, frames))?;
-    let code = code_attribute(alloc, 18, sizes, code, inside);
-    let attributes = two(alloc, code, exceptions_attribute(alloc, 19, 21)?)?;
+    one(alloc, code_attribute(alloc, 18, sizes, code, inside))
+}
+
+fn execute(alloc: Global, messages: u16, stage: Stage) -> Result<MemberInfo, NoMemory>
+    ensures { IfOk result (λ m. m ≡ method public_flag 17 10 (code_attribute 18 4 4 (stage_code messages stage) (frames_attribute 22 (stage_frames (length (operation_code stage.operation stage.number))) ∷ []) ∷ exceptions_attribute 19 21 ∷ [])) }
+{
+    let mut attributes = execute_code(alloc, messages, stage)?;
+    push_exceptions(alloc, &mut attributes, 19, 21)?;
     Ok(method(PUBLIC, 17, 10, attributes))
+}
+
+fn methods(alloc: Global, messages: u16, stage: Stage) -> Result<Seq<MemberInfo>, NoMemory>
+    ensures { IfOk result (λ methods. methods ≡ method 0 8 9 (code_attribute 18 2 3 stage_constructor [] ∷ [])
+        ∷ method public_flag 17 10 (code_attribute 18 4 4 (stage_code messages stage) (frames_attribute 22 (stage_frames (length (operation_code stage.operation stage.number))) ∷ []) ∷ exceptions_attribute 19 21 ∷ []) ∷ []) }
+{
+    let constructor = constructor(alloc)?;
+    let execute = execute(alloc, messages, stage)?;
+    two(alloc, constructor, execute)
 }
 
 /// The class file of a stage, from 1 on, for so many messages.
@@ -292,6 +316,6 @@ pub fn stage_file(alloc: Global, k: u16, messages: u16, stage: Stage) -> Result<
 {
     let pool = stage_pool(alloc, k)?;
     let fields = two(alloc, field(alloc, 5, 6), field(alloc, 7, 6))?;
-    let methods = two(alloc, constructor(alloc)?, execute(alloc, messages, stage)?)?;
+    let methods = methods(alloc, messages, stage)?;
     Ok(class_file(alloc, pool, Seq::new(alloc), fields, methods))
 }
