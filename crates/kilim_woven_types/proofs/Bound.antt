@@ -14,6 +14,7 @@ use Rattle.kilim_typing.specs.Step.{is_top}
 use Rattle.kilim_woven_form.specs.Woven.{Plan, Item, added, fiber_slot, self_slot, local_size, old_size, below, saved_from, resume_code, piece, pieces, block, blocks, count, pausable_callee, resume_places, woven_items, behind, prologue}
 use Rattle.kilim_woven_form.specs.Weight.{switch_bytes, switches_bytes, one_more, calls_in, weight}
 use Rattle.kilim_woven_types.proofs.Spans.{Word, onto, bytes_of, Span, group_code, group_span, resume_span, local_bytes}
+use Rattle.kilim_woven_types.proofs.Nothing.{none_is}
 
 padding_few : (q : ℕ) → switch_padding q ≤ 3
 padding_few q = omega arith
@@ -97,7 +98,7 @@ module _ (x : Plan) where
   call_length (Invokevirtual id) callee place n c h = eqb-true n 3 h
   call_length (Invokespecial id) callee place n c h = eqb-true n 3 h
   call_length (Invokestatic id) callee place n c h = eqb-true n 3 h
-  call_length i callee place n c h = absurd (cc)
+  call_length i callee place n c h = absurd (none_is callee c)
 
   abbrev pub group_if : Option Method → ℕ
   group_if None = 0

@@ -19,6 +19,7 @@ use Rattle.kilim_woven_types.specs.Same.{Callee}
 use Rattle.kilim_woven_types.specs.Facts.{Whole}
 use Rattle.kilim_woven_types.proofs.Moved.{passed, passes, moved_operand}
 use Rattle.kilim_woven_types.proofs.Moved as moved
+use Rattle.kilim_woven_types.proofs.Nothing.{none_is}
 use Rattle.kilim_woven_types.proofs.Crux.{plain, ok_same}
 use Rattle.kilim_woven_types.proofs.Forms.{given_low}
 use Rattle.kilim_woven_types.proofs.Rows.{moved_arguments, moved_results, moved_receiver}
@@ -233,4 +234,4 @@ module _ (x : Plan) (W : Program) (w : Method) (whole : Whole x W w) where
       let named = if_named (method_at x.program id) callee n in
       let c = (whole.progs.changed id callee named.0 named.1).2 in
       special_call q id callee fl fs cl g named (ap (λ z. by_row x.program x.method q (special_by z x.program x.method id callee) (plain fl fs)) (sym c.plain) ∙ (ap (λ o. by_row x.program x.method q (special_row x.program x.method id o) (plain fl fs)) (sym named.0) ∙ e))
-  calls q i callee fl fs cl g n e = absurd (cc)
+  calls q i callee fl fs cl g n e = absurd (none_is callee n)

@@ -20,6 +20,7 @@ use Rattle.kilim_woven_types.proofs.Spans.{local_bytes}
 use Rattle.kilim_classes.specs.Program.{Program}
 use Rattle.kilim_classes.specs.Same.{is_constructor}
 use Rattle.kilim_woven_types.proofs.OldFacts.{GrowsTo, AllNew}
+use Rattle.kilim_woven_types.proofs.Nothing.{none_is}
 
 -- ---- instructions by place
 
@@ -75,8 +76,8 @@ module _ (x : Plan) (w : Method) where
       ((λ k e. absurd (calls_make_none i callee k n e)), codes_behind s.words q rest (subst (λ z. Codes x w q z) (s.is rest) c.1))
     where
       calls_make_none : (i : Instr) (callee : Method) (k : ClassId) → pausable_callee x.program i ≡ Some callee → made_by i ≡ Some k → ⊥
-      calls_make_none (New c) callee k n e = absurd (cc)
-      calls_make_none i callee k n e = absurd (cc)
+      calls_make_none (New c) callee k n e = absurd (none_is callee n)
+      calls_make_none i callee k n e = absurd (none_is k e)
 
   made_in : (es : List (ℕ × Instr)) (first : Bool) (number q t : ℕ) (c : ClassId) (rest : List Item) → Codes x w q (pieces x first number es rest) → made_at es t ≡ Some c → made_at w.code (x.at t) ≡ Some c
   made_in [] first number q t c rest cs e = absurd (cc)

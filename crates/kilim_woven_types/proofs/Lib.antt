@@ -23,3 +23,4 @@ pub mod Unchanged
 pub mod Rule12
 pub mod Theorem
 pub mod Callless
+pub mod Nothing

@@ -157,7 +157,7 @@ module _ (P : Program) where
   row_writes m q (Astore n) fl fs g j e h = inl (eqb-true n j h)
   row_writes m q (Iinc n by) fl fs g j e h = eqb-true n j h
   row_writes m q (Lstore n) fl fs g j e h = elim (either_slot n j h) [ inl x ↦ inl x | inr y ↦ inr (y, long_top m n fs (plain fl fs) g e) ]
-  row_writes m q i fl fs g j e h = absurd (cc)
+  row_writes m q i fl fs g j e h = absurd (false≢true h)
 
   -- ---- an instruction that is none of a pausable call
 

@@ -31,6 +31,7 @@ use Rattle.kilim_woven_types.proofs.Pieces.{call_straight}
 use Rattle.kilim_woven_types.proofs.Prologue.{entry_length}
 use Rattle.kilim_woven_types.proofs.Old.{firm_row}
 use Rattle.kilim_woven_types.proofs.Sane.{Sane, SaneRow, All, sane, sane_item, sane_vtype, sane_results, sane_row, FreshRow}
+use Rattle.kilim_woven_types.proofs.Nothing.{none_is}
 
 -- places grow
 abbrev pub GrowsTo : ℕ → List (ℕ × Instr) → Type 0
@@ -441,7 +442,7 @@ module _ (fresh : ℕ → Bool) where
       call_reads x (Invokevirtual id) callee k e = refl
       call_reads x (Invokespecial id) callee k e = refl
       call_reads x (Invokestatic id) callee k e = refl
-      call_reads x i callee k e = absurd (cc)
+      call_reads x i callee k e = absurd (none_is callee e)
   invert_live x p to k i callee here call (GoesOn p2 to' q i' f n a l) =
       let same : i' ≡ i = ap (found_instr i) (sym f ∙ here) in
       let next : to' ≡ to = ap (found_next to) (sym f ∙ here) in

@@ -33,6 +33,7 @@ use Rattle.kilim_woven_types.proofs.Calls.{call_takes}
 use Rattle.kilim_woven_types.proofs.Calls as calls
 use Rattle.kilim_woven_types.proofs.Forms.{words_drop}
 use Rattle.kilim_woven_types.proofs.Resumes.{Fine, fine_tail, no_top_savable, resume_runs}
+use Rattle.kilim_woven_types.proofs.Nothing.{none_is}
 
 -- ---- targets of moved instructions
 
@@ -62,7 +63,7 @@ unfolding jump_targets ends_path
 call_straight x (Invokevirtual id) callee e = record { targets = refl; goes = refl; writes_none = λ k. refl; edges_are = λ to. refl }
 call_straight x (Invokespecial id) callee e = record { targets = refl; goes = refl; writes_none = λ k. refl; edges_are = λ to. refl }
 call_straight x (Invokestatic id) callee e = record { targets = refl; goes = refl; writes_none = λ k. refl; edges_are = λ to. refl }
-call_straight x i callee e = absurd (cc)
+call_straight x i callee e = absurd (none_is callee e)
 
 -- ---- no frame of woven code has the mark of a constructor
 
