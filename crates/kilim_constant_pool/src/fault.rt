@@ -3,7 +3,6 @@
 ghost use Rattle.std.specs.Prelude.{◌≡◌};
 
 use std::alloc::{AllocError, AllocFailed};
-use thiserror::Error;
 
 /// Why bytes don't begin with a constant pool (JVMS 4.4): the first part in file order that isn't spelled. The count and
 /// the entries come first, in order; then, once all entries are there, the indices in them, in order.
@@ -43,13 +42,11 @@ impl<T: Drop> From<AllocFailed<T>> for PoolFault {
 }
 
 /// Why an entry wasn't added.
-#[derive(Clone, Copy, Debug, Error)]
+#[derive(Clone, Copy)]
 pub enum AddFault {
     /// The entry isn't there, and with it the count of indices would pass 65,535.
-    #[error("the constant pool is full")]
     Full,
     /// Want of memory.
-    #[error("out of memory")]
     Memory,
 }
 

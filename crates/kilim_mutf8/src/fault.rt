@@ -3,24 +3,19 @@
 ghost use Rattle.std.specs.Prelude.{◌≡◌};
 
 use std::alloc::{AllocError, AllocFailed};
-use thiserror::Error;
 
 /// Why bytes aren't modified UTF-8. Places are byte offsets from the first byte, and the fault is that of the
 /// first unit that isn't spelled.
-#[derive(Clone, Copy, Debug, Error)]
+#[derive(Clone, Copy)]
 pub enum TextFault {
     /// The byte at this place can't stand there: a first byte 0, 0x80 to 0xBF or 0xF0 to 0xFF, or a later byte
     /// of a unit that isn't 0x80 to 0xBF.
-    #[error("a byte at {0} that can't stand there")]
     BadByte(usize),
     /// Behind a first byte stand fewer bytes than it asks for, whatever they are.
-    #[error("the bytes end inside a unit")]
     Cut,
     /// At this place begins a unit that is spelled in more bytes than it takes.
-    #[error("a second spelling of a unit at {0}")]
     SecondSpelling(usize),
     /// Want of memory.
-    #[error("out of memory")]
     Memory,
 }
 
