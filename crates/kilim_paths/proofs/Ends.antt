@@ -1,8 +1,8 @@
 -- From what the search keeps to the theorem
-use Rattle.std.proofs.Common.{◌≡◌, ℕ, zero, suc, ◌+◌, ◌<◌, ◌≤◌, List, [], ◌∷◌, ◌++◌, length, slice_get, Some, None, Option, Result, Err, refl, ap, sym, ◌∙◌, subst, inl, inr, arith, true, take}
+use Rattle.std.proofs.Common.{◌≡◌, ℕ, zero, suc, ◌+◌, ◌<◌, ◌≤◌, List, [], ◌∷◌, ◌++◌, length, slice_get, Some, None, Option, Result, Err, refl, ap, sym, ◌∙◌, subst, inl, inr, arith, true, take, get_or, is_some, length-append, IfSome}
 use Rattle.std.specs.List.{AllByRecursion, AllZip}
 use Rattle.std.proofs.lemmas.Bool.{cases_lt}
-use Rattle.std.proofs.lemmas.Option.{slice_get_within}
+use Rattle.std.proofs.lemmas.Option.{slice_get_within, slice_get-get_or}
 use Rattle.kilim_paths.specs.Paths.{Has, Machine, ArrivesBy, Reaches, Fails, IsCrowded}
 use Rattle.kilim_paths.specs.Search.{states_at, before, AreLinked, AreOrdered, IsFound, IsNoted, IsDone, AreDone, Good, Later, IsAt, IsReportOf, Took, Visited}
 use Rattle.kilim_paths.specs.Stored.{Stored}
@@ -34,6 +34,30 @@ visit_step {S} m fits s t u fs gs hs at n to full e l d i x took is =
             subst (λ (z : Option ℕ). IsDone u.entries hs y.place z (m.moves y.place y.state z)) equal (now.2 y after))
       ],
     )
+
+-- before the first turn
+pub visit_start : {S : Type 0} (m : Machine S) (es : List (Reached S)) (fs : List Found) (at : ℕ) → DoneBelow m es es fs at 0
+visit_start m es fs at e i k to b h = absurd (omega arith)
+
+-- in each turn
+pub at_later : {S : Type 0} (es new more : List (Reached S)) (at : ℕ) → new ≡ es ++ more → at < length es → at < length new
+at_later es new more at is b = let n : length new ≡ length es + length more = ap length is ∙ length-append es more in omega arith
+
+pub exit_of : {S : Type 0} (m : Machine S) (es new more : List (Reached S)) (at n : ℕ) (to : Option ℕ) (e x : Reached S) → new ≡ es ++ more → IsAt es at e → slice_get (m.exits e.place) n ≡ Some to → IsAt new at x → Has (m.exits x.place) to
+exit_of m es new more at n to e x is i h j =
+    let there : IsAt new at e = subst (λ (ls : List (Reached _)). IsAt ls at e) (sym is) (get_left es more at e i) in
+    let same : e ≡ x = cc in
+    subst (λ (z : Reached _). Has (m.exits z.place) to) same (n, h)
+
+pub exit_inside : (xs ys : List (Option ℕ)) (n size most : ℕ) → xs ≡ ys → n < length xs → AllByRecursion (λ x. IfSome x (λ q. q < most)) ys → size ≡ most → IfSome (get_or xs n None) (λ q. q < size)
+exit_inside xs ys n size most e b a s =
+    subst (λ (k : ℕ). IfSome (get_or xs n None) (λ q. q < k)) (sym s)
+    (has_in (λ (x : Option ℕ). IfSome x (λ q. q < most)) ys (get_or xs n None) a (n, ap (λ (zs : List (Option ℕ)). slice_get zs n) (sym e) ∙ slice_get-get_or xs n None b))
+
+-- where a place is full
+pub visit_full : {S : Type 0} (m : Machine S) (fits : ℕ → S → Type 0) (s t u : Stored S) (fs gs hs : List Found) (at : ℕ) (to full : Option ℕ) → Took m fits t u gs hs at to full → is_some full ≡ true → Visited m fits s u fs hs at full
+visit_full m fits s t u fs gs hs at to None took is = absurd (cc)
+visit_full m fits s t u fs gs hs at to (Some q) took is = took
 
 pub visit_end : {S : Type 0} (m : Machine S) (es new : List (Reached S)) (gs : List Found) (at n : ℕ) (e : Reached S) → DoneBelow m es new gs at n → IsAt es at e → length (m.exits e.place) ≤ n → (x : Reached S) → IsAt es at x → AreDone m new gs x
 visit_end {S} m es new gs at n e d i b x j k to h =
@@ -128,6 +152,9 @@ faults m fits t gs rs good done z = (
   },
   not_crowded m fits t gs good done,
 )
+
+pub found_within : {S : Type 0} (m : Machine S) (es : List (Reached S)) (all : List Found) (n : ℕ) (f : Found) → AllByRecursion (IsFound m es) all → slice_get all n ≡ Some f → f.at < length es
+found_within m es all n f a h = let x : IsFound m es f = has_in (IsFound m es) all f a (n, h) in slice_get_within es f.at x.0 x.2
 
 -- a turn of `reports`
 pub reports_step : {S : Type 0} (es : List (Reached S)) (all : List Found) (n : ℕ) (f : Found) (path : List ℕ) (rs new : List Report) → AreReportsOf es all (take n all) rs → slice_get all n ≡ Some f → ((m : Machine S) (e : Reached S) → AreLinked m es → IsAt es f.at e → ArrivesBy m path e.place e.state) → new ≡ rs ++ record { pc = f.pc; rule = f.rule; path = path } ∷ [] → AreReportsOf es all (take (n + 1) all) new

@@ -36,7 +36,7 @@ fits_of fits (Ok u) (Some p) q t a b f =
     let i : p ≡ q = cc in
     subst (λ (z : ℕ). fits z t) i (subst (λ (y : _). fits p y) s f)
 
-inside_of : (n : ℕ) (to : Option ℕ) (q : ℕ) → to ≡ Some q → IfSome to (λ p. p < n) → q < n
+pub inside_of : (n : ℕ) (to : Option ℕ) (q : ℕ) → to ≡ Some q → IfSome to (λ p. p < n) → q < n
 inside_of n None q a b = absurd (cc)
 inside_of n (Some p) q a b = let i : p ≡ q = cc in omega arith
 

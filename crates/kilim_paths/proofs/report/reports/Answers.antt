@@ -4,8 +4,13 @@ use Rattle.std.proofs.lemmas.Option.{slice_get-get_or}
 use Rattle.kilim_paths.specs.Search.{IsReportOf}
 use Rattle.kilim_paths.specs.declared.found.Found.{Found}
 use Rattle.kilim_paths.proofs.Lists.{take_whole}
-use Rattle.kilim_paths.proofs.Ends.{reports_step}
+use Rattle.kilim_paths.proofs.Ends.{found_within, reports_step}
 use Rattle.kilim_paths.proofs.report.reports.Goals as goal
+
+pub path_to-requires-clause-at : goal.path_to-requires-clause-at
+path_to-requires-clause-at g c =
+    found_within c.requires.found.0 c.args.store.now.entries c.args.found.now c.loop-fault.fault-index _ c.requires.found.1
+    (slice_get-get_or c.args.found.now c.loop-fault.fault-index _ c.loop-fault-test.true)
 
 pub loop-fault-preserved : goal.loop-fault-preserved
 loop-fault-preserved g c =

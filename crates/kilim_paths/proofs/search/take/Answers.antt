@@ -1,7 +1,15 @@
 use Rattle.std.proofs.Common.{arith}
 use Rattle.std.proofs.lemmas.Bool.{both_ways}
-use Rattle.kilim_paths.proofs.Takes.{took_noted, took_crowded, took_pushed}
+use Rattle.kilim_paths.proofs.Takes.{inside_of, took_noted, took_crowded, took_pushed}
+use Rattle.kilim_paths.specs.declared.store.Reached.{Reached}
+use Rattle.kilim_paths.proofs.Lists.{has_in}
 use Rattle.kilim_paths.proofs.search.take.Goals as goal
+
+pub step-requires-clause-fits : goal.step-requires-clause-fits
+step-requires-clause-fits g c = has_in (λ (e : Reached _). g.M.Moves.fits c.args.machine.now e.place e.state) c.args.store.now.entries c.get-entry.result.now c.requires.good.known.fit (c.args.at, c.get-entry.ensures)
+
+pub has-requires : goal.has-requires
+has-requires g c = inside_of c.args.store.now.size c.args.exit c.in-Some.to c.in-Some.is c.requires.inside
 
 pub returns-in_ok-note-in-Err : goal.returns-in_ok-note-in-Err
 returns-in_ok-note-in-Err g c =
