@@ -1,3 +1,4 @@
 pub mod OneUnit
 pub mod Texts
 pub mod Wholes
+pub mod Written
