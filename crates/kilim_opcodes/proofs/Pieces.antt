@@ -1,11 +1,11 @@
 -- Bytes that are added piece by piece.
-use Rattle.std.proofs.Common.{◌≡◌, ℕ, zero, suc, ◌<◌, ℤ, Option, Some, Result, Ok, Err, List, [], ◌∷◌, ◌++◌, length, drop, get_or, sym, ap, ◌∙◌, append_assoc, arith}
+use Rattle.std.proofs.Common.{◌≡◌, ℕ, zero, suc, ◌+◌, ◌<◌, ℤ, Option, Some, Result, Ok, Err, List, [], ◌∷◌, ◌++◌, length, take, drop, get_or, sym, ap, ◌∙◌, append_assoc, add-one, arith}
 use Rattle.std.specs.Prelude.{OnOk, OnErr}
 use Rattle.std.specs.Io.{StartsWith}
 use Rattle.std.specs.Int.{w32}
-use Rattle.std.specs.List.{AllByRecursion}
+use Rattle.std.specs.List.{flat_map, AllByRecursion}
 use Rattle.std.proofs.Math.Seq.{take-append_seam, take-length}
-use Rattle.std.proofs.lemmas.List.{take-append-drop}
+use Rattle.std.proofs.lemmas.List.{append-nil, take-append-drop}
 use Rattle.kilim_opcodes.specs.Instr.{TargetFits, PairsFit}
 
 pub joined : (old mid new x y : List ℕ) → mid ≡ old ++ x → new ≡ mid ++ y → new ≡ old ++ (x ++ y)
@@ -21,6 +21,10 @@ pub begun_more : (old mid new x : List ℕ) → mid ≡ old ++ x → StartsWith 
 begun_more old mid new x e h =
     begun old new (x ++ drop (length mid) new)
     (sym (take-append-drop (length mid) new) ∙ (ap (λ (front : List ℕ). front ++ drop (length mid) new) (h ∙ e) ∙ append_assoc old x (drop (length mid) new)))
+
+pub on_err : {T E : Type 0} {P : Type 0} (r : Result T E) → P → OnErr r P
+on_err (Ok v) h = tt
+on_err (Err v) h = h
 
 pub on_joined : {T E : Type 0} (r : Result T E) (old mid new x y : List ℕ) → mid ≡ old ++ x → OnOk r (new ≡ mid ++ y) → OnOk r (new ≡ old ++ (x ++ y))
 on_joined (Ok v) old mid new x y e h = joined old mid new x y e h
@@ -39,3 +43,14 @@ pub pair_fits : (at : ℕ) (least : Option ℤ) (pairs : List (ℤ × ℤ)) (i :
 pair_fits at least [] i d all lt = absurd (omega arith)
 pair_fits at least (pair ∷ pairs) zero d all lt = all.0.2
 pair_fits at least (pair ∷ pairs) (suc i) d all lt = pair_fits at (Some pair.0) pairs i d all.1 (omega arith)
+
+-- the texts of so many values, and that of one more
+flat_map_next : {A : Type 0} (f : A → List ℕ) (xs : List A) (i : ℕ) (d : A) → i < length xs → flat_map f (take i xs) ++ f (get_or xs i d) ≡ flat_map f (take (suc i) xs)
+flat_map_next f [] i d lt = absurd (omega arith)
+flat_map_next f (x ∷ xs) zero d lt = sym (append-nil (f x))
+flat_map_next f (x ∷ xs) (suc i) d lt =
+    append_assoc (f x) (flat_map f (take i xs)) (f (get_or xs i d)) ∙ ap (λ (more : List ℕ). f x ++ more) (flat_map_next f xs i d (omega arith))
+
+pub one_more : {A : Type 0} (f : A → List ℕ) (xs : List A) (i : ℕ) (d : A) (old mid new : List ℕ) → i < length xs → mid ≡ old ++ flat_map f (take i xs) → new ≡ mid ++ f (get_or xs i d) → new ≡ old ++ flat_map f (take (i + 1) xs)
+one_more f xs i d old mid new lt e h =
+    rw add-one (joined old mid new (flat_map f (take i xs)) (f (get_or xs i d)) e h ∙ ap (λ (texts : List ℕ). old ++ texts) (flat_map_next f xs i d lt))
