@@ -4,7 +4,7 @@ ghost use Rattle.std.specs.Prelude.{◌≡◌, Some, codes, length, option_copie
 ghost use Rattle.std.specs.Str.{bytes_eq};
 ghost use Rattle.kilim_classes.specs.declared.ty.Kind.TheVariants as kind;
 ghost use Rattle.kilim_classes.specs.Names.{class_at, class_name, is_task};
-ghost use Rattle.kilim_classes.specs.Kinds.{is_value_class, class_kind, base_kind, kind_of, array_kind, is_message, is_task_base, is_task_type, is_task_array, is_value_kind, is_tree_kind, is_private_kind, field_may_hold};
+ghost use Rattle.kilim_classes.specs.Kinds.{is_value_class, class_kind, base_kind, kind_of, array_kind, is_message, is_task_base, is_task_type, is_value_kind, is_tree_kind, is_private_kind, field_may_hold};
 ghost use Rattle.kilim_classes.specs.Keeps.{superclass_of, is_object, superclass_fits, is_int_like, is_long, is_string_base, constant_fits};
 
 use crate::outline::Outline;
@@ -165,13 +165,6 @@ impl Outline {
         ensures { result ≡ is_task_type self.now ty.now }
     {
         ty.dims == 0 && self.is_task_base(ty.base)
-    }
-
-    /// Whether a type is an array of tasks (own).
-    pub fn is_task_array(&self, ty: &Ty) -> bool
-        ensures { result ≡ is_task_array self.now ty.now }
-    {
-        0 < ty.dims && self.is_task_base(ty.base)
     }
 
     // Whether a field of a tree may hold a type.

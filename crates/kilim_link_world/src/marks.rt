@@ -1,9 +1,10 @@
 //! Marks that classes inherit.
 
-ghost use Rattle.std.specs.Prelude.{◌≡◌, ◌<◌, ◌^◌, IfOk, length, map};
+ghost use Rattle.std.specs.Prelude.{◌≡◌, ◌<◌, ◌^◌, IfOk, is_some, length, map};
 ghost use Rattle.std.specs.List.{list_any};
 ghost use Rattle.kilim_classes.specs.BuiltIn.{class_id};
 ghost use Rattle.kilim_inherited.specs.Inherited.{line_in};
+ghost use Rattle.kilim_inherited.specs.Roots.{inherits};
 ghost use Rattle.kilim_link_world.specs.Agrees.{each_below};
 ghost use Rattle.kilim_link_world.specs.Outlining.{mark_at};
 ghost use Rattle.kilim_link_world.specs.Superclasses.{mark_entries};
@@ -37,6 +38,20 @@ fn all_mark_entries(alloc: Global, own: &[bool]) -> Result<Seq<Seq<Entry>>, NoMe
     Ok(entries)
 }
 
+// Which of so many classes inherit a mark.
+fn marks_of(alloc: Global, inherited: &Inherited, count: usize) -> Result<Seq<bool>, NoMemory>
+    requires { count < 2 ^ 32 }
+    ensures { IfOk result (λ marks. marks ≡ each_below (λ k. is_some (inherits inherited.now (class_id k) 0)) count) }
+{
+    let mut marks: Seq<bool> = Seq::new(alloc);
+    let mut i: u32 = 0;
+    while (i as usize) < count {
+        marks.push(inherited.find(ClassId(i), 0).is_some())?;
+        i += 1;
+    }
+    Ok(marks)
+}
+
 /// Which classes are marked themselves or by a superclass, by which are marked themselves.
 pub fn inherited_marks(
     alloc: Global,
@@ -50,11 +65,5 @@ pub fn inherited_marks(
     let ups = superclasses_of(alloc, classes)?;
     let entries = all_mark_entries(alloc, own.as_slice())?;
     let inherited = Inherited::new(alloc, ups.as_slice(), entries.as_slice())?;
-    let mut marks: Seq<bool> = Seq::new(alloc);
-    let mut i: u32 = 0;
-    while (i as usize) < classes.len() {
-        marks.push(inherited.find(ClassId(i), 0).is_some())?;
-        i += 1;
-    }
-    Ok(marks)
+    marks_of(alloc, &inherited, classes.len())
 }

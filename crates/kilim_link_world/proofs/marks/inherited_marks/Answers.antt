@@ -1,12 +1,11 @@
-use Rattle.std.proofs.Common.{◌≡◌, ℕ, Bool, List, Option, length, map, ap, ◌∙◌, subst, arith}
-use Rattle.std.specs.Prelude.{is_some}
+use Rattle.std.proofs.Common.{◌≡◌, ℕ, Bool, List, Option, length, map, ap, ◌∙◌, subst}
+use Rattle.std.specs.Prelude.{IfOk, is_some}
 use Rattle.std.specs.List.{list_any}
 use Rattle.kilim_classes.specs.declared.names.ClassId.{ClassId}
 use Rattle.kilim_classes.specs.BuiltIn.{class_id}
 use Rattle.kilim_inherited.specs.declared.entry.Entry.{Entry}
 use Rattle.kilim_inherited.specs.Inherited.{line_in}
 use Rattle.kilim_inherited.specs.Roots.{inherits, IsRight}
-use Rattle.kilim_inherited.specs.Trees.{Forest}
 use Rattle.kilim_link_world.specs.Agrees.{each_below}
 use Rattle.kilim_link_world.specs.Outlining.{mark_at}
 use Rattle.kilim_link_world.specs.Superclasses.{mark_entries}
@@ -26,8 +25,4 @@ returns c =
     subst (λ (us : List (Option ClassId)). IsRight us entries inherited) ups_are (subst (λ (es : List (List Entry)). IsRight c.as_slice-2.result.now es inherited) entries_are c.in_ok-inherited.ensures) in
     let known : ℕ → Bool = λ k. is_some (inherits inherited (class_id k) 0) in
     let going_up : ℕ → Bool = λ k. list_any (mark_at own) (line_in ups (class_id k)) in
-    let all : c.loop-i.i ≡ length classes = omega (arith, c.loop-i-test.false) in
-    c.loop-i.invariant.1
-    ∙ (ap (λ (it : Forest). each_below (λ k. is_some (inherits it (class_id k) 0)) c.loop-i.i) c.inherited.view_is
-    ∙ (same_below known going_up (λ k. marks_are own ups inherited right (class_id k)) c.loop-i.i
-    ∙ ap (each_below going_up) all))
+    subst (λ (found : List Bool). IfOk c.marks_of.result (λ (marks : List Bool). marks ≡ found)) (same_below known going_up (λ k. marks_are own ups inherited right (class_id k)) (length classes)) c.marks_of.ensures
