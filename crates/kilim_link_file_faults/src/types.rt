@@ -1,6 +1,6 @@
 //! The types that a file names, by what is asked of them.
 
-ghost use Rattle.std.specs.Prelude.{◌≡◌, ◌++◌, ◌||◌, ◌&&◌, map, IfOk, OnOk};
+ghost use Rattle.std.specs.Prelude.{◌≡◌, [], ◌∷◌, ◌++◌, ◌||◌, ◌&&◌, map, IfOk, OnOk};
 ghost use Rattle.std.specs.List.{flat_map, list_any};
 ghost use Rattle.std.specs.Option.{option_copied};
 ghost use Rattle.kilim_link_spec.specs.LeftOut.{has_float, has_task_array, is_float_base, is_float_mention, is_task_base};
@@ -23,20 +23,21 @@ pub struct Shape {
     pub base: BaseText,
 }
 
-fn shape_of(found: &FieldText) -> Result<Shape, NoMemory>
-    ensures { IfOk result (λ shape. shape ≡ shape_of found.now) }
+fn push_shape(into: &mut Vec<Shape>, found: &FieldText) -> Result<(), NoMemory>
+    ensures { OnOk result (into.new.items ≡ into.old.items ++ shape_of found.now ∷ []) }
 {
-    Ok(Shape {
+    into.push(Shape {
         is_array: 0 < found.dims,
         base: found.base.clone()?,
-    })
+    })?;
+    Ok(())
 }
 
 fn push_each(into: &mut Vec<Shape>, types: &[FieldText]) -> Result<(), NoMemory>
     ensures { OnOk result (into.new.items ≡ into.old.items ++ map shape_of types.now) }
 {
     for found in types {
-        into.push(shape_of(found)?)?;
+        push_shape(into, found)?;
     }
     Ok(())
 }
@@ -45,10 +46,9 @@ fn push_result(into: &mut Vec<Shape>, found: Option<&FieldText>) -> Result<(), N
     ensures { OnOk result (into.new.items ≡ into.old.items ++ map shape_of (result_types (option_copied found.entry))) }
 {
     match found {
-        Some(found) => into.push(shape_of(found)?)?,
-        None => {}
+        Some(found) => push_shape(into, found),
+        None => Ok(()),
     }
-    Ok(())
 }
 
 #[tactic(auto, using(crate::proofs::Shaped::both))]
@@ -72,20 +72,18 @@ fn push_field(alloc: Global, into: &mut Vec<Shape>, descriptor: &Units) -> Resul
     ensures { OnOk result (into.new.items ≡ into.old.items ++ map shape_of (types_of_field (field_text descriptor.now))) }
 {
     match field_text(alloc, descriptor)? {
-        Some(found) => into.push(shape_of(&found)?)?,
-        None => {}
+        Some(found) => push_shape(into, &found),
+        None => Ok(()),
     }
-    Ok(())
 }
 
 fn push_named(into: &mut Vec<Shape>, class: &Named) -> Result<(), NoMemory>
     ensures { OnOk result (into.new.items ≡ into.old.items ++ map shape_of (named_types class.now)) }
 {
     match class {
-        Named::AnArray(found) => into.push(shape_of(found)?)?,
-        Named::AClass(_) | Named::Malformed(_) => {}
+        Named::AnArray(found) => push_shape(into, found),
+        Named::AClass(_) | Named::Malformed(_) => Ok(()),
     }
-    Ok(())
 }
 
 // Of an array of any dimensions one more is an array.
