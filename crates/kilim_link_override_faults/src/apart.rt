@@ -6,7 +6,7 @@ ghost use Rattle.kilim_link_spec.specs.Qualified.{is_constructor_name};
 ghost use Rattle.kilim_link_override_faults.specs.Apart.{differs_nearest, differs_here, is_apart, says_apart, apart_from};
 ghost use Rattle.kilim_link_override_faults.specs.Heritage.{Finds, Inherits, sayings};
 
-use crate::heritage::{Heritage, saying};
+use crate::heritage::{Heritage, say};
 use crate::overrides::{agrees, alike};
 use crate::signature::signature_of;
 use kilim_classes::ClassId;
@@ -111,7 +111,7 @@ fn apart_said(
     let mut said: Seq<Said> = Seq::new(alloc);
     for method in methods {
         if is_apart(alloc, world, heritage, class, method)? {
-            said.push(saying(method, Some(0))?)?;
+            say(&mut said, method, Some(0))?;
         }
     }
     Ok(said)

@@ -5,7 +5,7 @@ ghost use Rattle.kilim_classes.specs.Keeps.{ancestors_of};
 ghost use Rattle.kilim_link_spec.specs.Faults.{left_above};
 ghost use Rattle.kilim_link_spec.specs.World.{declared_methods};
 ghost use Rattle.kilim_link_override_faults.specs.Parts.{is_shared};
-ghost use Rattle.kilim_link_override_faults.specs.Heritage.{Inherits, LeavesNone, LeavesSome, first_shared, first_declared, is_shared_abstract, saying, sayings, left_sayings, numbered, places_in, all_numbered, all_places, own_at, placed, left_by_class};
+ghost use Rattle.kilim_link_override_faults.specs.Heritage.{Finds, Inherits, says_left, LeavesNone, LeavesSome, first_shared, first_declared, is_shared_abstract, saying, sayings, left_sayings, numbered, places_in, all_numbered, all_places, own_at, placed, left_by_class};
 
 use crate::overrides::methods_of;
 use crate::signature::signature_of;
@@ -34,12 +34,17 @@ pub struct Heritage {
     left: Nearest,
 }
 
-/// What is said of a method.
-pub fn saying(method: &DeclaredMethod, value: Option<u32>) -> Result<Said, NoMemory>
-    ensures { IfOk result (λ s. s ≡ saying value method.now) }
+/// Says this of a method.
+pub fn say(
+    said: &mut Seq<Said>,
+    method: &DeclaredMethod,
+    value: Option<u32>,
+) -> Result<(), NoMemory>
+    ensures { OnOk result (said.new ≡ said.old ++ saying value method.now ∷ []) }
 {
     let signature = signature_of(&method.name, &method.descriptor)?;
-    Ok(Said { signature, value })
+    said.push(Said { signature, value })?;
+    Ok(())
 }
 
 // Says of each method that isn't private that none is left.
@@ -48,7 +53,7 @@ fn say_shared(said: &mut Seq<Said>, methods: &[DeclaredMethod]) -> Result<(), No
 {
     for method in methods {
         if !method.is_private {
-            said.push(saying(method, None)?)?;
+            say(said, method, None)?;
         }
     }
     Ok(())
@@ -60,7 +65,7 @@ fn say_abstract(said: &mut Seq<Said>, methods: &[DeclaredMethod]) -> Result<(), 
 {
     for method in methods {
         if method.is_abstract && !method.is_private {
-            said.push(saying(method, Some(0))?)?;
+            say(said, method, Some(0))?;
         }
     }
     Ok(())
@@ -89,7 +94,8 @@ fn shared_said(
     let mut said: Seq<Said> = Seq::new(alloc);
     for index in 0..methods.len() {
         if !methods[index].is_private {
-            said.push(saying(&methods[index], Some(next_number(places)?))?)?;
+            let number = next_number(places)?;
+            say(&mut said, &methods[index], Some(number))?;
             places.push(Place { class, index })?;
         }
     }
@@ -136,6 +142,14 @@ fn all_left_said(alloc: Global, classes: &[ClassView]) -> Result<Seq<Seq<Said>>,
     Ok(said)
 }
 
+// Whether the nearest class that declares a method declares an abstract one.
+fn left_of(alloc: Global, world: &World) -> Result<Nearest, NoMemory>
+    ensures { IfOk result (λ it. Finds world.now it (says_left world.now)) }
+{
+    let said = all_left_said(alloc, world.classes())?;
+    Nearest::new(alloc, world.superclasses(), said.as_slice())
+}
+
 fn class_of(place: Option<Place>) -> Option<ClassId>
     ensures { result ≡ option_map (λ p. p.class) place }
 {
@@ -168,9 +182,8 @@ impl Heritage {
         let ups = world.superclasses();
         let mut places: Seq<Place> = Seq::new(alloc);
         let shared_said = all_shared_said(alloc, &mut places, world.classes())?;
-        let left_said = all_left_said(alloc, world.classes())?;
         let shared = Nearest::new(alloc, ups, shared_said.as_slice())?;
-        let left = Nearest::new(alloc, ups, left_said.as_slice())?;
+        let left = left_of(alloc, world)?;
         Ok(Heritage {
             places,
             shared,

@@ -1,15 +1,11 @@
 use Rattle.std.proofs.Common.{ap, ◌∙◌}
-use Rattle.kilim_link_override_faults.specs.Heritage.{all_numbered, all_places, left_by_class}
-use Rattle.kilim_link_override_faults.proofs.Telling.{shared_fits, left_fits, finds_shared, finds_left}
+use Rattle.kilim_link_override_faults.specs.Heritage.{all_numbered, all_places}
+use Rattle.kilim_link_override_faults.proofs.Telling.{shared_fits, finds_shared}
 use Rattle.kilim_link_override_faults.proofs.heritage.Heritage.new.Goals as goal
 
 pub new-requires : goal.new-requires
 new-requires c =
     shared_fits c.as_slice.result.now c.superclasses-ups.result.now c.args.world.now.classes (c.as_slice.ensures ∙ (c.in_ok-shared_said.ensures.said ∙ ap (all_numbered 0) c.classes.ensures)) c.superclasses-ups.ensures.counted
-
-pub new-requires-2 : goal.new-requires-2
-new-requires-2 c =
-    left_fits c.as_slice-2.result.now c.superclasses-ups.result.now c.args.world.now.classes (c.as_slice-2.ensures ∙ (c.in_ok-left_said.ensures ∙ ap left_by_class c.classes-2.ensures)) c.superclasses-ups.ensures.counted
 
 pub returns : goal.returns
 returns c =
@@ -18,5 +14,5 @@ returns c =
     let are = c.superclasses-ups.ensures.are in
     record {
       shared = finds_shared w c.in_ok-shared.shared ups c.as_slice.result.now are.up_is are.line_is c.in_ok-shared.ensures c.all_shared_said.new.places (c.as_slice.ensures ∙ (c.in_ok-shared_said.ensures.said ∙ ap (all_numbered 0) c.classes.ensures)) (c.in_ok-shared_said.ensures.kept ∙ ap (all_places 0) c.classes.ensures);
-      left = finds_left w c.in_ok-left.left ups c.as_slice-2.result.now are.up_is are.line_is c.in_ok-left.ensures (c.as_slice-2.ensures ∙ (c.in_ok-left_said.ensures ∙ ap left_by_class c.classes-2.ensures));
+      left = c.in_ok-left.ensures;
     }
