@@ -3,7 +3,7 @@
 ghost use Rattle.std.specs.Prelude.{◌≡◌, ◌&&◌, IfOk, filter, option_copied};
 ghost use Rattle.kilim_link_spec.specs.Mentions.{class_names};
 ghost use Rattle.kilim_link_spec.specs.World.{class_of};
-ghost use Rattle.kilim_link_spec.specs.Faults.{class_missing, circular, both_kinds, super_kind, if_so, is_missing, is_open, is_open_class, may_extend};
+ghost use Rattle.kilim_link_spec.specs.Faults.{class_missing, circular, both_kinds, super_kind, is_missing, is_open, is_open_class, may_extend};
 ghost use Rattle.kilim_link_spec.specs.Qualified.{has_fiber};
 ghost use Rattle.kilim_link_spec.specs.Linked.{first_of};
 
@@ -61,13 +61,6 @@ pub fn class_missing(
     }
 }
 
-// The problem, where the test says so.
-fn if_so(test: bool, problem: Problem) -> Option<Problem>
-    ensures { result ≡ first_of (if_so test problem) }
-{
-    if test { Some(problem) } else { None }
-}
-
 /// Whether the class is its own ancestor (JVMS 5.3.5).
 #[tactic(auto, unfolding(kilim_link_spec::specs::Faults::circular))]
 pub fn circular(
@@ -77,7 +70,11 @@ pub fn circular(
 ) -> Result<Option<Problem>, NoMemory>
     ensures { IfOk result (λ found. found ≡ first_of (circular world.now file.now class)) }
 {
-    Ok(if_so(world.is_circular(class), Problem::Circular))
+    if world.is_circular(class) {
+        Ok(Some(Problem::Circular))
+    } else {
+        Ok(None)
+    }
 }
 
 /// Whether the class is a task and a message, itself or by its ancestors (own).
@@ -91,7 +88,11 @@ pub fn both_kinds(
 {
     let outline = world.outline();
     let both = outline.is_task(class) && outline.is_message(class);
-    Ok(if_so(both, Problem::Both))
+    if both {
+        Ok(Some(Problem::Both))
+    } else {
+        Ok(None)
+    }
 }
 
 // Whether a class may be extended.
@@ -136,5 +137,9 @@ pub fn super_kind(
 {
     let name = Units::from_slice(alloc, super_name(file))?;
     let fits = may_extend(world, class, world.class_of(&name));
-    Ok(if_so(!fits, Problem::SuperKind))
+    if fits {
+        Ok(None)
+    } else {
+        Ok(Some(Problem::SuperKind))
+    }
 }
