@@ -122,6 +122,45 @@ fn program_of(
     })
 }
 
+// The same, where want of memory is a fault of linking.
+fn program_or_memory(
+    alloc: Global,
+    world: &World,
+    files: &[ClassFile],
+    form: Form,
+) -> Result<Program, LinkFault>
+    requires few { length files.now ≤ 1000 }
+    requires fit { AllByRecursion ClassFits files.now }
+    requires whole { world.now ≡ world_of files.now form }
+    requires none { link_faults files.now form ≡ [] }
+    ensures { IsLinkOf files.now form result }
+{
+    match program_of(alloc, world, files, form) {
+        Ok(program) => Ok(program),
+        Err(_) => Err(LinkFault::Memory),
+    }
+}
+
+// The program of files in their world, or the first fault.
+fn link_in(
+    alloc: Global,
+    world: &World,
+    files: &[ClassFile],
+    form: Form,
+) -> Result<Program, LinkFault>
+    requires few { length files.now ≤ 1000 }
+    requires fit { AllByRecursion ClassFits files.now }
+    requires whole { world.now ≡ world_of files.now form }
+    ensures { IsLinkOf files.now form result }
+{
+    none_is_named();
+    match first_fault(alloc, world, files, form) {
+        Ok(Some(fault)) => Err(fault),
+        Ok(None) => program_or_memory(alloc, world, files, form),
+        Err(_) => Err(LinkFault::Memory),
+    }
+}
+
 /// The program to which class files link (JVMS chapter 5, own profile), at most 1,000 of them, each with a text, in
 /// plain or in woven form.
 ///
@@ -133,17 +172,8 @@ pub fn link(alloc: Global, files: &[ClassFile], form: Form) -> Result<Program, L
     requires fit { AllByRecursion ClassFits files.now }
     ensures { IsLinkOf files.now form result }
 {
-    none_is_named();
-    let world = match World::new(alloc, files, form) {
-        Ok(world) => world,
-        Err(_) => return Err(LinkFault::Memory),
-    };
-    match first_fault(alloc, &world, files, form) {
-        Ok(Some(fault)) => Err(fault),
-        Ok(None) => match program_of(alloc, &world, files, form) {
-            Ok(program) => Ok(program),
-            Err(_) => Err(LinkFault::Memory),
-        },
+    match World::new(alloc, files, form) {
+        Ok(world) => link_in(alloc, &world, files, form),
         Err(_) => Err(LinkFault::Memory),
     }
 }
