@@ -1,1 +1,2 @@
 pub mod Arrays
+mod Problems

@@ -2,3 +2,4 @@ pub mod Names
 pub mod ClassLines
 pub mod LinkLines
 pub mod RuleLines
+pub mod Problems

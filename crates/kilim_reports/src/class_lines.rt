@@ -4,11 +4,12 @@ ghost use Rattle.std.specs.Prelude.{◌≡◌, ◌++◌, IfOk, codes};
 ghost use Rattle.kilim_reports.specs.ClassLines.{one_number, two_numbers, pool_words, attribute_words, fault_words, class_line};
 
 use crate::names::method_text;
+use crate::texts::{joined, line};
 use kilim_attribute_parts::AttributeFault;
 use kilim_classfile::ClassFault;
 use kilim_constant_pool::PoolFault;
 use kilim_units::NoMemory;
-use std::alloc::{AllocError, Global};
+use std::alloc::Global;
 
 fn one_number(alloc: Global, word: &str, number: u64) -> Result<Vec<u8>, NoMemory>
     ensures { IfOk result (λ text. text.items ≡ one_number word.now number) }
@@ -22,15 +23,6 @@ fn two_numbers(alloc: Global, word: &str, first: u64, second: u64) -> Result<Vec
 {
     let text = format!(in alloc; "{word} {first} {second}")?;
     Ok(text.into_bytes())
-}
-
-// Two texts, one behind the other.
-fn joined(alloc: Global, first: &[u8], second: &[u8]) -> Result<Vec<u8>, AllocError>
-    ensures { IfOk result (λ text. text.items ≡ first.now ++ second.now) }
-{
-    let mut text = Vec::from_slice(alloc, first)?;
-    text.extend_from_slice(second)?;
-    Ok(text)
 }
 
 fn pool_words(alloc: Global, fault: PoolFault) -> Result<Vec<u8>, NoMemory>
@@ -51,12 +43,12 @@ fn attribute_words(alloc: Global, fault: AttributeFault) -> Result<Vec<u8>, NoMe
 {
     match fault {
         AttributeFault::Length(name) => {
-            Ok(joined(alloc, b"attribute length ", name.text().as_bytes())?)
+            joined(alloc, b"attribute length ", name.text().as_bytes())
         }
         AttributeFault::FrameTag(tag) => one_number(alloc, "attribute frame", u64::from(tag)),
         AttributeFault::BadIndex(index) => one_number(alloc, "attribute index", u64::from(index)),
         AttributeFault::Twice(name) => {
-            Ok(joined(alloc, b"attribute twice ", name.text().as_bytes())?)
+            joined(alloc, b"attribute twice ", name.text().as_bytes())
         }
         AttributeFault::Cut | AttributeFault::Memory => Ok(Vec::new(alloc)),
     }
@@ -77,7 +69,7 @@ fn fault_words(alloc: Global, fault: &ClassFault) -> Result<Vec<u8>, NoMemory>
         ClassFault::TooLarge => Ok(Vec::from_slice(alloc, b"too-large")?),
         ClassFault::CodePresence(method) => {
             let text = method_text(alloc, method)?;
-            Ok(joined(alloc, b"code ", text.as_slice())?)
+            joined(alloc, b"code ", text.as_slice())
         }
         ClassFault::Memory => Ok(Vec::new(alloc)),
     }
@@ -88,10 +80,5 @@ pub fn class_line(alloc: Global, file: &str, fault: &ClassFault) -> Result<Vec<u
     ensures { IfOk result (λ text. text.items ≡ class_line file.now fault.now) }
 {
     let words = fault_words(alloc, fault)?;
-    let mut text = Vec::from_slice(alloc, b"class ")?;
-    text.extend_from_slice(file.as_bytes())?;
-    text.push(b' ')?;
-    text.extend_from_slice(words.as_slice())?;
-    text.push(b'\n')?;
-    Ok(text)
+    line(alloc, b"class ", file.as_bytes(), words.as_slice())
 }

@@ -6,6 +6,7 @@ mod descriptors;
 mod lines;
 mod link_lines;
 mod names;
+mod texts;
 
 pub use class_lines::class_line;
 pub use descriptors::method_descriptor;

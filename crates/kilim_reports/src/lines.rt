@@ -4,11 +4,13 @@ ghost use Rattle.std.specs.Prelude.{◌≡◌, ◌++◌, IfOk, codes};
 ghost use Rattle.std.specs.Fmt.{decimal};
 ghost use Rattle.std.specs.List.{flat_map};
 ghost use Rattle.kilim_classes.specs.Names.{class_name, method_at};
-ghost use Rattle.kilim_reports.specs.Names.{member_name_text};
+ghost use Rattle.kilim_reports.specs.Names.{member_name_text, descriptor_text};
 ghost use Rattle.kilim_reports.specs.RuleLines as spec;
 
 use crate::descriptors::method_descriptor;
-use crate::{descriptor_text, member_name_text};
+use crate::member_name_text;
+use crate::names::named_text;
+use crate::texts::joined;
 use kilim_classes::{ClassId, Method, MethodId, Program};
 use kilim_lookups::{class_at, method_at};
 use kilim_pausable_graph::Report;
@@ -27,16 +29,21 @@ fn class_text(alloc: Global, program: &Program, class: ClassId) -> Result<Vec<u8
     }
 }
 
+// The name and the descriptor of a method.
+fn named_words(alloc: Global, program: &Program, method: &Method) -> Result<Vec<u8>, NoMemory>
+    ensures { IfOk result (λ text. text.items ≡ member_name_text method.now.name ++ descriptor_text (spec.method_descriptor program.now method.now)) }
+{
+    let descriptor = method_descriptor(alloc, program, method)?;
+    named_text(alloc, &method.name, &descriptor)
+}
+
 fn method_words(alloc: Global, program: &Program, method: &Method) -> Result<Vec<u8>, NoMemory>
     ensures { IfOk result (λ text. text.items ≡ spec.method_words program.now method.now) }
 {
     let mut text = class_text(alloc, program, method.owner)?;
-    let name = member_name_text(alloc, &method.name)?;
-    let units = method_descriptor(alloc, program, method)?;
-    let descriptor = descriptor_text(alloc, &units)?;
+    let named = named_words(alloc, program, method)?;
     text.push(b' ')?;
-    text.extend_from_slice(name.as_slice())?;
-    text.extend_from_slice(descriptor.as_slice())?;
+    text.extend_from_slice(named.as_slice())?;
     Ok(text)
 }
 
@@ -77,15 +84,28 @@ fn push_path(text: &mut Vec<u8>, path: &[u32]) -> Result<(), NoMemory>
     push_places(text, path)
 }
 
+// A word, the words of a method, and a place in its code.
+fn placed(
+    alloc: Global,
+    program: &Program,
+    word: &[u8],
+    method: MethodId,
+    pc: u32,
+) -> Result<Vec<u8>, NoMemory>
+    ensures { IfOk result (λ text. text.items ≡ word.now ++ (spec.words_of program.now (method_at program.now method) ++ (codes " " ++ decimal pc))) }
+{
+    let words = words_of(alloc, program, method)?;
+    let mut text = joined(alloc, word, words.as_slice())?;
+    text.push(b' ')?;
+    push_number(&mut text, pc)?;
+    Ok(text)
+}
+
 /// The line of a broken rule, with its line feed.
 pub fn fault_line(alloc: Global, program: &Program, report: &Report) -> Result<Vec<u8>, NoMemory>
     ensures { IfOk result (λ text. text.items ≡ spec.fault_line program.now report.now) }
 {
-    let words = words_of(alloc, program, report.method)?;
-    let mut text = Vec::from_slice(alloc, b"fault ")?;
-    text.extend_from_slice(words.as_slice())?;
-    text.push(b' ')?;
-    push_number(&mut text, report.pc)?;
+    let mut text = placed(alloc, program, b"fault ", report.method, report.pc)?;
     text.extend_from_slice(b" I")?;
     push_number(&mut text, u32::from(report.rule))?;
     push_path(&mut text, report.path.as_slice())?;
@@ -119,11 +139,7 @@ pub fn type_line(
 ) -> Result<Vec<u8>, NoMemory>
     ensures { IfOk result (λ text. text.items ≡ spec.type_line program.now method pc rule) }
 {
-    let words = words_of(alloc, program, method)?;
-    let mut text = Vec::from_slice(alloc, b"type ")?;
-    text.extend_from_slice(words.as_slice())?;
-    text.push(b' ')?;
-    push_number(&mut text, pc)?;
+    let mut text = placed(alloc, program, b"type ", method, pc)?;
     text.extend_from_slice(b" rule ")?;
     push_number(&mut text, u32::from(rule))?;
     text.push(b'\n')?;

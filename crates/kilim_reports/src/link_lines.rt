@@ -5,40 +5,24 @@ ghost use Rattle.std.specs.Fmt.{decimal};
 ghost use Rattle.kilim_link_spec.specs.declared.fault.LeftOutPart.TheVariants as part;
 ghost use Rattle.kilim_reports.specs.Names.{method_text};
 ghost use Rattle.kilim_reports.specs.LinkLines.{part_word, fault_place, member_text, problem_words, link_line};
+ghost use Rattle.kilim_reports.specs.Problems.{problem_word, problem_told};
 
+use crate::names::{method_text, named_text};
+use crate::texts::{joined, line};
 use crate::{descriptor_text, member_name_text};
 use kilim_bytecode::CodeFault;
 use kilim_classfile::MemberName;
 use kilim_link_spec::{LeftOutPart, MemberOf, Problem};
 use kilim_units::{NoMemory, Units};
-use std::alloc::{AllocError, Global};
-
-// Two texts, one behind the other.
-fn joined(alloc: Global, first: &[u8], second: &[u8]) -> Result<Vec<u8>, AllocError>
-    ensures { IfOk result (λ text. text.items ≡ first.now ++ second.now) }
-{
-    let mut text = Vec::from_slice(alloc, first)?;
-    text.extend_from_slice(second)?;
-    Ok(text)
-}
-
-fn method_text(alloc: Global, method: &MemberName) -> Result<Vec<u8>, NoMemory>
-    ensures { IfOk result (λ text. text.items ≡ method_text method.now) }
-{
-    let name = member_name_text(alloc, &method.name)?;
-    let descriptor = descriptor_text(alloc, &method.descriptor)?;
-    Ok(joined(alloc, name.as_slice(), descriptor.as_slice())?)
-}
+use std::alloc::Global;
 
 fn member_text(alloc: Global, member: &MemberOf) -> Result<Vec<u8>, NoMemory>
     ensures { IfOk result (λ text. text.items ≡ member_text member.now) }
 {
     let mut text = member_name_text(alloc, &member.owner)?;
-    let name = member_name_text(alloc, &member.name)?;
-    let descriptor = descriptor_text(alloc, &member.descriptor)?;
+    let named = named_text(alloc, &member.name, &member.descriptor)?;
     text.push(b'.')?;
-    text.extend_from_slice(name.as_slice())?;
-    text.extend_from_slice(descriptor.as_slice())?;
+    text.extend_from_slice(named.as_slice())?;
     Ok(text)
 }
 
@@ -91,25 +75,53 @@ fn code_words(alloc: Global, method: &MemberName, fault: CodeFault) -> Result<Ve
     Ok(text)
 }
 
+// The word of a problem.
+fn problem_word(problem: &Problem) -> &[u8]
+    ensures { result.now ≡ problem_word problem.now }
+{
+    match problem {
+        Problem::Twice(_) => b"twice ",
+        Problem::Missing(_) => b"missing ",
+        Problem::Circular => b"circular",
+        Problem::NoMember(_) => b"no-member ",
+        Problem::LeftOut(_) => b"left-out ",
+        Problem::Both => b"both",
+        Problem::FieldKind(_) => b"field-kind ",
+        Problem::OverrideDiffers(_) => b"override ",
+        Problem::Code(_, _) => b"",
+        Problem::Descriptor(_) => b"descriptor ",
+        Problem::SuperKind => b"super",
+        Problem::Name => b"name",
+        Problem::AbstractLeft(_) => b"abstract ",
+    }
+}
+
+// What is told of it.
+fn problem_told(alloc: Global, problem: &Problem) -> Result<Vec<u8>, NoMemory>
+    ensures { IfOk result (λ text. text.items ≡ problem_told problem.now) }
+{
+    match problem {
+        Problem::Twice(name) | Problem::Missing(name) => member_name_text(alloc, name),
+        Problem::FieldKind(field) => member_name_text(alloc, &field.name),
+        Problem::NoMember(member) => member_text(alloc, member),
+        Problem::LeftOut(part) => part_word(alloc, *part),
+        Problem::OverrideDiffers(method) | Problem::AbstractLeft(method) => {
+            method_text(alloc, method)
+        }
+        Problem::Code(method, fault) => code_words(alloc, method, *fault),
+        Problem::Descriptor(text) => descriptor_text(alloc, text),
+        Problem::Circular | Problem::Both | Problem::SuperKind | Problem::Name => {
+            Ok(Vec::new(alloc))
+        }
+    }
+}
+
 fn problem_words(alloc: Global, problem: &Problem) -> Result<Vec<u8>, NoMemory>
     ensures { IfOk result (λ text. text.items ≡ problem_words problem.now) }
 {
-    let (word, told): (&[u8], Vec<u8>) = match problem {
-        Problem::Twice(name) => (b"twice ", member_name_text(alloc, name)?),
-        Problem::Missing(name) => (b"missing ", member_name_text(alloc, name)?),
-        Problem::Circular => (b"circular", Vec::new(alloc)),
-        Problem::NoMember(member) => (b"no-member ", member_text(alloc, member)?),
-        Problem::LeftOut(part) => (b"left-out ", part_word(alloc, *part)?),
-        Problem::Both => (b"both", Vec::new(alloc)),
-        Problem::FieldKind(field) => (b"field-kind ", member_name_text(alloc, &field.name)?),
-        Problem::OverrideDiffers(method) => (b"override ", method_text(alloc, method)?),
-        Problem::Code(method, fault) => (b"", code_words(alloc, method, *fault)?),
-        Problem::Descriptor(text) => (b"descriptor ", descriptor_text(alloc, text)?),
-        Problem::SuperKind => (b"super", Vec::new(alloc)),
-        Problem::Name => (b"name", Vec::new(alloc)),
-        Problem::AbstractLeft(method) => (b"abstract ", method_text(alloc, method)?),
-    };
-    Ok(joined(alloc, word, told.as_slice())?)
+    let told = problem_told(alloc, problem)?;
+    let text = joined(alloc, problem_word(problem), told.as_slice())?;
+    Ok(text)
 }
 
 /// The line of class files that don't link: `link`, the name of the class, and the words of its first problem. A name that
@@ -119,10 +131,5 @@ pub fn link_line(alloc: Global, class: &Units, problem: &Problem) -> Result<Vec<
 {
     let name = member_name_text(alloc, class)?;
     let words = problem_words(alloc, problem)?;
-    let mut text = Vec::from_slice(alloc, b"link ")?;
-    text.extend_from_slice(name.as_slice())?;
-    text.push(b' ')?;
-    text.extend_from_slice(words.as_slice())?;
-    text.push(b'\n')?;
-    Ok(text)
+    line(alloc, b"link ", name.as_slice(), words.as_slice())
 }

@@ -45,12 +45,19 @@ pub fn descriptor_text(alloc: Global, descriptor: &Units) -> Result<Vec<u8>, NoM
     Ok(text)
 }
 
-// Name and descriptor of a method.
+/// A name and a descriptor, one behind the other.
+pub fn named_text(alloc: Global, name: &Units, descriptor: &Units) -> Result<Vec<u8>, NoMemory>
+    ensures { IfOk result (λ text. text.items ≡ member_name_text name.now ++ descriptor_text descriptor.now) }
+{
+    let mut text = member_name_text(alloc, name)?;
+    let descriptor = descriptor_text(alloc, descriptor)?;
+    text.extend_from_slice(descriptor.as_slice())?;
+    Ok(text)
+}
+
+/// Name and descriptor of a method.
 pub fn method_text(alloc: Global, method: &MemberName) -> Result<Vec<u8>, NoMemory>
     ensures { IfOk result (λ text. text.items ≡ method_text method.now) }
 {
-    let mut text = member_name_text(alloc, &method.name)?;
-    let descriptor = descriptor_text(alloc, &method.descriptor)?;
-    text.extend_from_slice(descriptor.as_slice())?;
-    Ok(text)
+    named_text(alloc, &method.name, &method.descriptor)
 }
