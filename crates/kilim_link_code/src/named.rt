@@ -2,27 +2,36 @@
 
 ghost use Rattle.std.specs.Prelude.{◌≡◌, Some, IfOk};
 ghost use Rattle.kilim_link_spec.specs.Code.{field_found, method_found, typed_instr, instr_with};
+ghost use Rattle.kilim_link_spec.specs.Types.{class_named_by, named_by};
 ghost use Rattle.kilim_link_spec.specs.declared.named.Operand.TheVariants.{AField, AMethod};
 
 use crate::tables::{constant_instr, field_instr, method_instr, type_instr};
-use kilim_classes::{FieldId, Instr, MethodId};
+use kilim_classes::{ClassId, FieldId, Instr, MethodId};
 use kilim_link_mentions::named_by;
 use kilim_link_spec::{MemberOf, Named, Operand};
 use kilim_link_types::{class_named_by, type_named};
 use kilim_link_world::{Signature, World};
-use kilim_units::NoMemory;
+use kilim_units::{NoMemory, Units};
 use std::alloc::Global;
+
+// The class that is named as the owner of a member, which is no array.
+fn owner_class(alloc: Global, world: &World, owner: &Units) -> Result<Option<ClassId>, NoMemory>
+    ensures { IfOk result (λ found. found ≡ class_named_by world.now (named_by owner.now)) }
+{
+    let owner = named_by(alloc, owner.as_slice())?;
+    Ok(class_named_by(world, &owner))
+}
 
 // The field of a member that code names, where its class, which is no array, or an ancestor has it (JVMS 5.4.3.2).
 fn field_found(alloc: Global, world: &World, member: MemberOf) -> Result<Option<FieldId>, NoMemory>
     ensures { IfOk result (λ found. found ≡ field_found world.now member) }
 {
-    let owner = named_by(alloc, member.owner.as_slice())?;
+    let owner = owner_class(alloc, world, &member.owner)?;
     let signature = Signature {
         name: member.name,
         descriptor: member.descriptor,
     };
-    match class_named_by(world, &owner) {
+    match owner {
         Some(class) => Ok(world.find_field(class, &signature)),
         None => Ok(None),
     }
@@ -36,12 +45,12 @@ fn method_found(
 ) -> Result<Option<MethodId>, NoMemory>
     ensures { IfOk result (λ found. found ≡ method_found world.now member) }
 {
-    let owner = named_by(alloc, member.owner.as_slice())?;
+    let owner = owner_class(alloc, world, &member.owner)?;
     let signature = Signature {
         name: member.name,
         descriptor: member.descriptor,
     };
-    match class_named_by(world, &owner) {
+    match owner {
         Some(class) => Ok(world.find_method(class, &signature)),
         None => Ok(None),
     }
