@@ -25,19 +25,19 @@ fn method_with(
     file: &ClassFile,
     class: ClassId,
     method: &MemberInfo,
-    declared: DeclaredMethod,
+    declared: &DeclaredMethod,
     text: &MethodText,
     params: Seq<Ty>,
     gives: Option<Ty>,
     body: Body,
 ) -> Result<Method, NoMemory>
-    requires declared { declared ≡ declared_method file.now method.now }
-    requires text { Some text.now ≡ method_text declared.descriptor }
+    requires declared { declared.now ≡ declared_method file.now method.now }
+    requires text { Some text.now ≡ method_text declared.now.descriptor }
     ensures { IfOk result (λ found. found ≡ method_with world.now file.now class method.now params gives body) }
 {
-    let q = qualified(alloc, world, class, &declared, Some(text))?;
+    let q = qualified(alloc, world, class, declared, Some(text))?;
     Ok(Method {
-        name: declared.name,
+        name: declared.name.clone()?,
         owner: class,
         params,
         result: gives,
@@ -64,11 +64,11 @@ fn linked_with(
     file: &ClassFile,
     class: ClassId,
     method: &MemberInfo,
-    declared: DeclaredMethod,
+    declared: &DeclaredMethod,
     text: &MethodText,
 ) -> Result<Option<Method>, NoMemory>
-    requires declared { declared ≡ declared_method file.now method.now }
-    requires text { Some text.now ≡ method_text declared.descriptor }
+    requires declared { declared.now ≡ declared_method file.now method.now }
+    requires text { Some text.now ≡ method_text declared.now.descriptor }
     ensures { IfOk result (λ found. found ≡ linked_method world.now file.now class method.now) }
 {
     let Some(params) = types_in(alloc, world, text.params.as_slice())? else {
@@ -78,7 +78,7 @@ fn linked_with(
         return Ok(None);
     };
     let code = code_attribute(method);
-    let Some(body) = body_in(alloc, world, file, class, method, &declared, code)? else {
+    let Some(body) = body_in(alloc, world, file, class, method, declared, code)? else {
         return Ok(None);
     };
     let found = method_with(
@@ -100,7 +100,7 @@ pub fn linked_method(
 {
     let declared = declared_method(alloc, file, method)?;
     match method_text(alloc, &declared.descriptor)? {
-        Some(text) => linked_with(alloc, world, file, class, method, declared, &text),
+        Some(text) => linked_with(alloc, world, file, class, method, &declared, &text),
         None => Ok(None),
     }
 }
