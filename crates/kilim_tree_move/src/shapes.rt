@@ -2,6 +2,8 @@
 
 ghost use Rattle.std.specs.Prelude.{◌≡◌, ◌<◌, ◌≤◌, ◌++◌, ◌∷◌, [], Some, length, IfOk, OnOk, MatchOption, slice_index_or, codes};
 ghost use Rattle.std.specs.List.{AllByRecursion};
+ghost use Rattle.kilim_classes.specs.declared.ty.Base.TheVariants as base;
+ghost use Rattle.kilim_program.specs.declared.value.Token.TheVariants as token;
 ghost use Rattle.kilim_classes.specs.Names.{class_name, base_descriptor, descriptor};
 ghost use Rattle.kilim_program.specs.Members.{name_in_base, shown_name};
 ghost use Rattle.kilim_program.specs.Shapes.{shape_of, tree_limit};
@@ -16,35 +18,62 @@ use kilim_units::{NoMemory, Seq, Units};
 use std::alloc::{AllocError, Global};
 
 /// The unit with which an array's descriptor begins, once for each dimension.
-const BRACKET: u16 = 91;
+const BRACKET: u8 = b'[';
+
+fn push_letter(out: &mut Vec<u16>, letter: u8) -> Result<(), AllocError>
+    ensures { OnOk result (out.new.items ≡ out.old.items ++ letter ∷ []) }
+{
+    out.push(u16::from(letter))?;
+    Ok(())
+}
+
+fn push_token(tokens: &mut Vec<Token>, token: Token) -> Result<(), AllocError>
+    ensures { OnOk result (tokens.new.items ≡ tokens.old.items ++ token ∷ []) }
+{
+    tokens.push(token)?;
+    Ok(())
+}
+
+// An object, and how many of its values are done.
+fn push_frame(frames: &mut Vec<(u32, usize)>, at: u32, next: usize) -> Result<(), NoMemory>
+    ensures { OnOk result (frames.new.items ≡ frames.old.items ++ (at, next) ∷ []) }
+{
+    frames.push((at, next))?;
+    Ok(())
+}
 
 fn push_class_name(out: &mut Vec<u16>, program: &Program, class: ClassId) -> Result<(), AllocError>
     ensures { OnOk result (out.new.items ≡ out.old.items ++ class_name program.now class) }
 {
     let at = class.0 as usize;
     if at < program.classes.len() {
-        out.extend_from_slice(program.classes.get(at).name.as_slice())?;
+        out.extend_from_slice(program.classes.get(at).name.as_slice())
+    } else {
+        Ok(())
     }
-    Ok(())
+}
+
+// The name of a class as a descriptor has it.
+fn push_class(out: &mut Vec<u16>, program: &Program, class: ClassId) -> Result<(), AllocError>
+    ensures { OnOk result (out.new.items ≡ out.old.items ++ base_descriptor program.now (base.Class class)) }
+{
+    push_letter(out, b'L')?;
+    push_class_name(out, program, class)?;
+    push_letter(out, b';')
 }
 
 fn push_base(out: &mut Vec<u16>, program: &Program, base: Base) -> Result<(), AllocError>
     ensures { OnOk result (out.new.items ≡ out.old.items ++ base_descriptor program.now base) }
 {
     match base {
-        Base::Bool => out.push(u16::from(b'Z'))?,
-        Base::Byte => out.push(u16::from(b'B'))?,
-        Base::Char => out.push(u16::from(b'C'))?,
-        Base::Short => out.push(u16::from(b'S'))?,
-        Base::Int => out.push(u16::from(b'I'))?,
-        Base::Long => out.push(u16::from(b'J'))?,
-        Base::Class(class) => {
-            out.push(u16::from(b'L'))?;
-            push_class_name(out, program, class)?;
-            out.push(u16::from(b';'))?;
-        }
+        Base::Bool => push_letter(out, b'Z'),
+        Base::Byte => push_letter(out, b'B'),
+        Base::Char => push_letter(out, b'C'),
+        Base::Short => push_letter(out, b'S'),
+        Base::Int => push_letter(out, b'I'),
+        Base::Long => push_letter(out, b'J'),
+        Base::Class(class) => push_class(out, program, class),
     }
-    Ok(())
 }
 
 fn push_brackets(out: &mut Vec<u16>, dims: u8) -> Result<(), AllocError>
@@ -52,7 +81,7 @@ fn push_brackets(out: &mut Vec<u16>, dims: u8) -> Result<(), AllocError>
 {
     for k in 0..dims {
         let _ = k;
-        out.push(BRACKET)?;
+        push_letter(out, BRACKET)?;
     }
     Ok(())
 }
@@ -101,20 +130,26 @@ fn shown(alloc: Global, program: &Program, ty: Ty) -> Result<Units, AllocError>
     Units::from_vec(alloc, out)
 }
 
+fn push_text(tokens: &mut Vec<Token>, units: &Units) -> Result<(), AllocError>
+    ensures { OnOk result (tokens.new.items ≡ tokens.old.items ++ token.Text units.now ∷ []) }
+{
+    let copy = units.clone()?;
+    push_token(tokens, Token::Text(copy))
+}
+
 // A value that is no object has one token.
 fn push_plain(tokens: &mut Vec<Token>, value: &Value) -> Result<(), AllocError>
     ensures { OnOk result (tokens.new.items ≡ tokens.old.items ++ plain_tokens value.now) }
 {
     match value {
-        Value::Int(n) => tokens.push(Token::Int(*n))?,
-        Value::Long(n) => tokens.push(Token::Long(*n))?,
-        Value::Null => tokens.push(Token::Null)?,
-        Value::Ref(_) => {}
-        Value::Text(units) => tokens.push(Token::Text(units.clone()?))?,
-        Value::Box(name) => tokens.push(Token::Box(*name))?,
-        Value::Fiber => {}
+        Value::Int(n) => push_token(tokens, Token::Int(*n)),
+        Value::Long(n) => push_token(tokens, Token::Long(*n)),
+        Value::Null => push_token(tokens, Token::Null),
+        Value::Ref(_) => Ok(()),
+        Value::Text(units) => push_text(tokens, units),
+        Value::Box(name) => push_token(tokens, Token::Box(*name)),
+        Value::Fiber => Ok(()),
     }
-    Ok(())
 }
 
 // The value of an object at a place among its fields and elements.
@@ -152,8 +187,8 @@ fn begin(
     ensures frames { OnOk result (frames.new.items ≡ frames.old.items ++ (at, 0) ∷ []) }
 {
     let name = shown(alloc, program, objects[at as usize].class)?;
-    tokens.push(Token::Open(name))?;
-    frames.push((at, 0))?;
+    push_token(tokens, Token::Open(name))?;
+    push_frame(frames, at, 0)?;
     Ok(())
 }
 
@@ -185,12 +220,12 @@ fn emit_all(alloc: Global, program: &Program, objects: &[Object]) -> Result<Vec<
     begin(alloc, program, objects, 0, &mut tokens, &mut frames)?;
     while let Some((at, next)) = frames.pop() {
         match value_at(objects, at as usize, next) {
-            None => tokens.push(Token::Close)?,
+            None => push_token(&mut tokens, Token::Close)?,
             Some(value) => {
                 let Some(after) = next.checked_add(1) else {
                     return Err(NoMemory);
                 };
-                frames.push((at, after))?;
+                push_frame(&mut frames, at, after)?;
                 emit(alloc, program, objects, value, &mut tokens, &mut frames)?;
             }
         }
