@@ -1,60 +1,72 @@
 //! Entries as lines of text.
 
 ghost use Rattle.std.specs.Prelude.{◌≡◌, ◌++◌, OnOk, IfOk};
+ghost use Rattle.kilim_journal.specs.declared.entry.Act.TheVariants as act;
 ghost use Rattle.kilim_journal.specs.Text.{act_text, entry_text, journal_text};
 ghost use Rattle.kilim_journal.specs.Readable.{IsReadable, HasOneJournal, ShapesAreValues, ValuesAreJoined};
 
 use crate::entry::{Act, Entry};
-use crate::pieces::{push_box, push_number, push_shape};
+use crate::pieces::{
+    push_box_behind, push_byte, push_number, push_number_behind, push_shape_behind,
+};
+use kilim_classes::BoxName;
+use kilim_program::{EndCause, Token};
 use kilim_units::NoMemory;
 use std::alloc::{AllocError, Global};
+
+fn push_put(
+    out: &mut Vec<u8>,
+    name: BoxName,
+    number: u64,
+    shape: &[Token],
+) -> Result<(), AllocError>
+    ensures { OnOk result (out.new.items ≡ out.old.items ++ act_text (act.Put name number shape.now)) }
+{
+    push_box_behind(out, b"put ", name)?;
+    push_number_behind(out, b" #", number)?;
+    push_shape_behind(out, b" ", shape)
+}
+
+fn push_take(out: &mut Vec<u8>, name: BoxName, number: u64) -> Result<(), AllocError>
+    ensures { OnOk result (out.new.items ≡ out.old.items ++ act_text (act.Take name number)) }
+{
+    push_box_behind(out, b"take ", name)?;
+    push_number_behind(out, b" #", number)
+}
+
+fn push_start(out: &mut Vec<u8>, task: u32, shape: &[Token]) -> Result<(), AllocError>
+    ensures { OnOk result (out.new.items ≡ out.old.items ++ act_text (act.Start task shape.now)) }
+{
+    push_number_behind(out, b"start ", u64::from(task))?;
+    push_shape_behind(out, b" ", shape)
+}
+
+fn push_end(out: &mut Vec<u8>, cause: EndCause) -> Result<(), AllocError>
+    ensures { OnOk result (out.new.items ≡ out.old.items ++ act_text (act.End cause)) }
+{
+    out.extend_from_slice(b"end ")?;
+    out.extend_from_slice(cause.word().as_bytes())
+}
+
+fn push_bound(out: &mut Vec<u8>, name: BoxName, most: u32) -> Result<(), AllocError>
+    ensures { OnOk result (out.new.items ≡ out.old.items ++ act_text (act.Bound name most)) }
+{
+    push_box_behind(out, b"bound ", name)?;
+    push_number_behind(out, b" ", u64::from(most))
+}
 
 fn push_act(out: &mut Vec<u8>, act: &Act) -> Result<(), AllocError>
     ensures { OnOk result (out.new.items ≡ out.old.items ++ act_text act.now) }
 {
     match act {
-        Act::Put(name, number, shape) => {
-            out.extend_from_slice(b"put ")?;
-            push_box(out, *name)?;
-            out.extend_from_slice(b" #")?;
-            push_number(out, *number)?;
-            out.push(b' ')?;
-            push_shape(out, shape.as_slice())
-        }
-        Act::Take(name, number) => {
-            out.extend_from_slice(b"take ")?;
-            push_box(out, *name)?;
-            out.extend_from_slice(b" #")?;
-            push_number(out, *number)
-        }
-        Act::Empty(name) => {
-            out.extend_from_slice(b"empty ")?;
-            push_box(out, *name)
-        }
-        Act::Start(task, shape) => {
-            out.extend_from_slice(b"start ")?;
-            push_number(out, u64::from(*task))?;
-            out.push(b' ')?;
-            push_shape(out, shape.as_slice())
-        }
-        Act::Print(shape) => {
-            out.extend_from_slice(b"print ")?;
-            push_shape(out, shape.as_slice())
-        }
-        Act::End(cause) => {
-            out.extend_from_slice(b"end ")?;
-            out.extend_from_slice(cause.word().as_bytes())
-        }
-        Act::Wait(name) => {
-            out.extend_from_slice(b"waits ")?;
-            push_box(out, *name)
-        }
-        Act::Bound(name, most) => {
-            out.extend_from_slice(b"bound ")?;
-            push_box(out, *name)?;
-            out.push(b' ')?;
-            push_number(out, u64::from(*most))
-        }
+        Act::Put(name, number, shape) => push_put(out, *name, *number, shape.as_slice()),
+        Act::Take(name, number) => push_take(out, *name, *number),
+        Act::Empty(name) => push_box_behind(out, b"empty ", *name),
+        Act::Start(task, shape) => push_start(out, *task, shape.as_slice()),
+        Act::Print(shape) => push_shape_behind(out, b"print ", shape.as_slice()),
+        Act::End(cause) => push_end(out, *cause),
+        Act::Wait(name) => push_box_behind(out, b"waits ", *name),
+        Act::Bound(name, most) => push_bound(out, *name, *most),
     }
 }
 
@@ -62,10 +74,9 @@ pub(crate) fn push_entry(out: &mut Vec<u8>, entry: &Entry) -> Result<(), AllocEr
     ensures { OnOk result (out.new.items ≡ out.old.items ++ entry_text entry.now) }
 {
     push_number(out, u64::from(entry.task))?;
-    out.push(b' ')?;
+    push_byte(out, b' ')?;
     push_act(out, &entry.act)?;
-    out.push(b'\n')?;
-    Ok(())
+    push_byte(out, b'\n')
 }
 
 // The lines of some entries.

@@ -1,6 +1,6 @@
 //! The parts of a line.
 
-ghost use Rattle.std.specs.Prelude.{◌≡◌, ◌<◌, ◌+◌, ◌++◌, ◌∷◌, [], length, OnOk, IfOk};
+ghost use Rattle.std.specs.Prelude.{◌≡◌, ◌<◌, ◌+◌, ◌++◌, ◌∷◌, [], codes, length, OnOk, IfOk};
 ghost use Rattle.std.specs.List.{flat_map};
 ghost use Rattle.std.specs.Fmt.{decimal, signed_decimal};
 ghost use Rattle.kilim_units.specs.NameText.{escape, name_text};
@@ -11,12 +11,18 @@ use kilim_program::Token;
 use kilim_units::{push_escape, push_name};
 use std::alloc::AllocError;
 
+pub fn push_byte(out: &mut Vec<u8>, byte: u8) -> Result<(), AllocError>
+    ensures { OnOk result (out.new.items ≡ out.old.items ++ byte ∷ []) }
+{
+    out.push(byte)?;
+    Ok(())
+}
+
 fn push_digit(out: &mut Vec<u8>, digit: u64) -> Result<(), AllocError>
     requires { digit < 10 }
     ensures { OnOk result (out.new.items ≡ out.old.items ++ (48 + digit) ∷ []) }
 {
-    out.push(b'0' + digit as u8)?;
-    Ok(())
+    push_byte(out, b'0' + digit as u8)
 }
 
 // A number in decimal, digit by digit: no memory is taken but what the text itself needs.
@@ -36,9 +42,17 @@ pub fn push_signed(out: &mut Vec<u8>, n: i64) -> Result<(), AllocError>
     ensures { OnOk result (out.new.items ≡ out.old.items ++ signed_decimal n) }
 {
     if n < 0 {
-        out.push(b'-')?;
+        push_byte(out, b'-')?;
     }
     push_number(out, n.unsigned_abs())
+}
+
+// A number behind a word.
+pub fn push_number_behind(out: &mut Vec<u8>, word: &[u8], n: u64) -> Result<(), AllocError>
+    ensures { OnOk result (out.new.items ≡ out.old.items ++ (word.now ++ decimal n)) }
+{
+    out.extend_from_slice(word)?;
+    push_number(out, n)
 }
 
 // A mailbox.
@@ -46,8 +60,15 @@ pub fn push_box(out: &mut Vec<u8>, name: BoxName) -> Result<(), AllocError>
     ensures { OnOk result (out.new.items ≡ out.old.items ++ box_text name) }
 {
     push_number(out, u64::from(name.task))?;
-    out.push(b'.')?;
-    push_number(out, u64::from(name.number))
+    push_number_behind(out, b".", u64::from(name.number))
+}
+
+// A mailbox behind a word.
+pub fn push_box_behind(out: &mut Vec<u8>, word: &[u8], name: BoxName) -> Result<(), AllocError>
+    ensures { OnOk result (out.new.items ≡ out.old.items ++ (word.now ++ box_text name)) }
+{
+    out.extend_from_slice(word)?;
+    push_box(out, name)
 }
 
 fn stands_in_text(unit: u16) -> bool
@@ -60,8 +81,7 @@ fn push_text_unit(out: &mut Vec<u8>, unit: u16) -> Result<(), AllocError>
     ensures { OnOk result (out.new.items ≡ out.old.items ++ text_unit unit) }
 {
     if stands_in_text(unit) {
-        out.push(unit as u8)?;
-        Ok(())
+        push_byte(out, unit as u8)
     } else {
         push_escape(out, unit)
     }
@@ -77,39 +97,48 @@ fn push_text(out: &mut Vec<u8>, units: &[u16]) -> Result<(), AllocError>
     Ok(())
 }
 
+fn push_open(out: &mut Vec<u8>, name: &[u16]) -> Result<(), AllocError>
+    ensures { OnOk result (out.new.items ≡ out.old.items ++ (name_text name.now ++ codes "(")) }
+{
+    push_name(out, name)?;
+    push_byte(out, b'(')
+}
+
+fn push_long(out: &mut Vec<u8>, n: i64) -> Result<(), AllocError>
+    ensures { OnOk result (out.new.items ≡ out.old.items ++ (signed_decimal n ++ codes "L")) }
+{
+    push_signed(out, n)?;
+    push_byte(out, b'L')
+}
+
+// A text in its quotation marks.
+fn push_quoted(out: &mut Vec<u8>, units: &[u16]) -> Result<(), AllocError>
+    ensures { OnOk result (out.new.items ≡ out.old.items ++ (34 ∷ (flat_map text_unit units.now ++ 34 ∷ []))) }
+{
+    push_byte(out, b'"')?;
+    push_text(out, units)?;
+    push_byte(out, b'"')
+}
+
 fn push_token(out: &mut Vec<u8>, token: &Token) -> Result<(), AllocError>
     ensures { OnOk result (out.new.items ≡ out.old.items ++ token_text token.now) }
 {
     match token {
-        Token::Open(name) => {
-            push_name(out, name.as_slice())?;
-            out.push(b'(')?;
-        }
-        Token::Close => out.push(b')')?,
-        Token::Int(n) => push_signed(out, i64::from(*n))?,
-        Token::Long(n) => {
-            push_signed(out, *n)?;
-            out.push(b'L')?;
-        }
-        Token::Null => out.extend_from_slice(b"null")?,
-        Token::Text(units) => {
-            out.push(b'"')?;
-            push_text(out, units.as_slice())?;
-            out.push(b'"')?;
-        }
-        Token::Box(name) => {
-            out.push(b'@')?;
-            push_box(out, *name)?;
-        }
+        Token::Open(name) => push_open(out, name.as_slice()),
+        Token::Close => push_byte(out, b')'),
+        Token::Int(n) => push_signed(out, i64::from(*n)),
+        Token::Long(n) => push_long(out, *n),
+        Token::Null => out.extend_from_slice(b"null"),
+        Token::Text(units) => push_quoted(out, units.as_slice()),
+        Token::Box(name) => push_box_behind(out, b"@", *name),
     }
-    Ok(())
 }
 
 fn push_comma(out: &mut Vec<u8>, follows: bool, token: &Token) -> Result<(), AllocError>
     ensures { OnOk result (out.new.items ≡ out.old.items ++ comma_before follows token.now) }
 {
     if follows && !matches!(token, Token::Close) {
-        out.push(b',')?;
+        push_byte(out, b',')?;
     }
     Ok(())
 }
@@ -131,4 +160,12 @@ pub fn push_shape(out: &mut Vec<u8>, shape: &[Token]) -> Result<(), AllocError>
         follows = is_followed(token);
     }
     Ok(())
+}
+
+// A shape behind a word.
+pub fn push_shape_behind(out: &mut Vec<u8>, word: &[u8], shape: &[Token]) -> Result<(), AllocError>
+    ensures { OnOk result (out.new.items ≡ out.old.items ++ (word.now ++ shape_text shape.now)) }
+{
+    out.extend_from_slice(word)?;
+    push_shape(out, shape)
 }
