@@ -1,16 +1,13 @@
 //! The graphs along a method without jumps.
 
-ghost use Rattle.std.specs.List.{AllByRecursion};
-ghost use Rattle.kilim_classfile.specs.Text.{ClassFits};
-
-use crate::names::{method_named, text_of};
-use crate::stages::linked_and_typed;
+use crate::names::method_named;
+use crate::text::Text;
 use kilim_classes::{Frame, Instr, Method, Program};
-use kilim_classfile::ClassFile;
 use kilim_isolation_check::transfer;
 use kilim_isolation_rules::StepFault;
 use kilim_liveness::ends_path;
 use kilim_shape_graph::{Graph, Label, Node, Standing};
+use kilim_typing::Typed;
 use std::alloc::Global;
 
 fn standing_word(standing: Standing) -> &'static str {
@@ -22,70 +19,81 @@ fn standing_word(standing: Standing) -> &'static str {
     }
 }
 
-// Appends the nodes that slots name, with commas between them.
-fn push_slots(text: &mut String, alloc: Global, slots: &[Option<usize>]) -> Option<()> {
-    for (at, slot) in slots.iter().enumerate() {
-        if at > 0 {
-            text.push(',').ok()?;
-        }
-        match slot {
-            Some(node) => {
-                let word = format!(in alloc; "{node}").ok()?;
-                text.push_str(word.as_str()).ok()?;
-            }
-            None => text.push('-').ok()?,
-        }
+fn push_slot(text: &mut Text, slot: Option<usize>) {
+    match slot {
+        Some(node) => text.number(node),
+        None => text.word("-"),
     }
-    Some(())
 }
 
-// Where a node hangs: `P.FIELD`, or `P[]` for an element.
-fn parent_word(alloc: Global, program: &Program, parent: usize, label: Label) -> Option<String> {
-    match label {
-        Label::Element => format!(in alloc; "{parent}[]").ok(),
-        Label::Field(id) => {
-            let field = program.fields.as_slice().get(id.0 as usize)?;
-            let name = text_of(alloc, field.name.as_slice())?;
-            format!(in alloc; "{parent}.{name}").ok()
+// Appends the nodes that slots name, with commas between them.
+fn push_slots(text: &mut Text, slots: &[Option<usize>]) {
+    for (at, slot) in slots.iter().enumerate() {
+        if at > 0 {
+            text.word(",");
         }
+        push_slot(text, *slot);
+    }
+}
+
+// How a node hangs on its parent: `.FIELD`, or `[]` for an element.
+fn push_label(text: &mut Text, program: &Program, label: Label) {
+    match label {
+        Label::Element => text.word("[]"),
+        Label::Field(id) => match program.fields.as_slice().get(id.0 as usize) {
+            Some(field) => {
+                text.word(".");
+                text.name(field.name.as_slice());
+            }
+            None => text.lacks(),
+        },
     }
 }
 
 // A node: its number, its region, its standing, a star where it is the head, and where it hangs.
-fn node_word(alloc: Global, program: &Program, number: usize, node: &Node) -> Option<String> {
-    let region = node.region;
-    let standing = standing_word(node.standing);
-    let star = if node.head { "*" } else { "" };
-    let mut word = format!(in alloc; " {number}:{region}:{standing}{star}").ok()?;
+fn push_node(text: &mut Text, program: &Program, number: usize, node: &Node) {
+    text.word(" ");
+    text.number(number);
+    text.word(":");
+    text.number(node.region);
+    text.word(":");
+    text.word(standing_word(node.standing));
+    if node.head {
+        text.word("*");
+    }
     if let Some((parent, label)) = node.parent {
-        let hung = parent_word(alloc, program, parent, label)?;
-        word.push('<').ok()?;
-        word.push_str(hung.as_str()).ok()?;
+        text.word("<");
+        text.number(parent);
+        push_label(text, program, label);
     }
-    Some(word)
 }
 
-// The line of a graph behind a word.
-fn push_graph(
-    text: &mut String,
-    alloc: Global,
-    program: &Program,
-    graph: &Graph,
-    word: &str,
-) -> Option<()> {
-    text.push_str(word).ok()?;
-    text.push(' ').ok()?;
-    push_slots(text, alloc, graph.locals.as_slice())?;
-    text.push('|').ok()?;
-    push_slots(text, alloc, graph.stack.as_slice())?;
+// A graph, and the end of its line.
+fn push_graph(text: &mut Text, program: &Program, graph: &Graph) {
+    text.word(" ");
+    push_slots(text, graph.locals.as_slice());
+    text.word("|");
+    push_slots(text, graph.stack.as_slice());
     for (number, node) in graph.nodes.as_slice().iter().enumerate() {
-        let node = node_word(alloc, program, number, node)?;
-        text.push_str(node.as_str()).ok()?;
+        push_node(text, program, number, node);
     }
-    text.push('\n').ok()
+    text.word("\n");
 }
 
-// The graph behind an instruction, or the number of the rule that it breaks.
+fn canonical(alloc: Global, graph: &Graph) -> Result<Graph, StepFault> {
+    match graph.canonical(alloc, None) {
+        Ok(graph) => Ok(graph),
+        Err(_) => Err(StepFault::Memory),
+    }
+}
+
+fn entry_graph(alloc: Global, program: &Program, method: &Method) -> Result<Graph, StepFault> {
+    match Graph::entry(alloc, program, method) {
+        Ok(graph) => canonical(alloc, &graph),
+        Err(_) => Err(StepFault::Memory),
+    }
+}
+
 fn next_graph(
     alloc: Global,
     program: &Program,
@@ -93,46 +101,100 @@ fn next_graph(
     graph: &Graph,
     before: &Frame,
     instr: &Instr,
-) -> Option<Result<Graph, u8>> {
+) -> Result<Graph, StepFault> {
     match transfer(alloc, program, method, graph, before, instr, None) {
-        Ok(left) => Some(Ok(left.canonical(alloc, None).ok()?)),
-        Err(StepFault::Rule(rule)) => Some(Err(rule)),
-        Err(StepFault::Memory) => None,
+        Ok(left) => canonical(alloc, &left),
+        Err(fault) => Err(fault),
     }
 }
 
-// A line for the graph at entry, and one for each instruction up to the first that breaks a rule or ends the path.
-fn walked(alloc: Global, program: &Program, method: &Method, frames: &[Frame]) -> Option<String> {
-    let mut text = String::new(alloc);
-    let entry = Graph::entry(alloc, program, method).ok()?;
-    let mut graph = entry.canonical(alloc, None).ok()?;
-    push_graph(&mut text, alloc, program, &graph, "entry")?;
-    for (at, (place, instr)) in method.code.as_slice().iter().enumerate() {
-        let before = frames.get(at)?;
-        match next_graph(alloc, program, method, &graph, before, instr)? {
-            Ok(left) => graph = left,
-            Err(rule) => {
-                let line = format!(in alloc; "{place} breaks {rule}\n").ok()?;
-                text.push_str(line.as_str()).ok()?;
-                return Some(text);
-            }
+// The rest of the line of an instruction that leaves no graph.
+fn push_fault(text: &mut Text, fault: StepFault) {
+    match fault {
+        StepFault::Rule(rule) => {
+            text.word(" breaks ");
+            text.number(usize::from(rule));
+            text.word("\n");
         }
-        let place = format!(in alloc; "{place}").ok()?;
-        push_graph(&mut text, alloc, program, &graph, place.as_str())?;
-        if ends_path(instr) {
-            return Some(text);
+        StepFault::Memory => text.lacks(),
+    }
+}
+
+// The line of an instruction and the graph behind it, unless it breaks a rule.
+fn push_next(
+    text: &mut Text,
+    alloc: Global,
+    program: &Program,
+    method: &Method,
+    graph: &Graph,
+    before: &Frame,
+    placed: &(u32, Instr),
+) -> Option<Graph> {
+    text.number(placed.0 as usize);
+    match next_graph(alloc, program, method, graph, before, &placed.1) {
+        Ok(left) => {
+            push_graph(text, program, &left);
+            Some(left)
+        }
+        Err(fault) => {
+            push_fault(text, fault);
+            None
         }
     }
-    Some(text)
+}
+
+// A line for the graph behind each instruction, up to the first that breaks a rule or ends the path.
+fn push_path(
+    text: &mut Text,
+    alloc: Global,
+    program: &Program,
+    method: &Method,
+    frames: &[Frame],
+    entry: Graph,
+) {
+    let mut graph = entry;
+    for (at, placed) in method.code.as_slice().iter().enumerate() {
+        let Some(before) = frames.get(at) else {
+            text.lacks();
+            return;
+        };
+        match push_next(text, alloc, program, method, &graph, before, placed) {
+            Some(left) => graph = left,
+            None => return,
+        }
+        if ends_path(&placed.1) {
+            return;
+        }
+    }
+}
+
+// A line for the graph at entry, and those for the instructions.
+fn push_graphs(
+    text: &mut Text,
+    alloc: Global,
+    program: &Program,
+    method: &Method,
+    frames: &[Frame],
+) {
+    match entry_graph(alloc, program, method) {
+        Ok(graph) => {
+            text.word("entry");
+            push_graph(text, program, &graph);
+            push_path(text, alloc, program, method, frames, graph);
+        }
+        Err(fault) => push_fault(text, fault),
+    }
 }
 
 /// The graphs along the first method of that name: a line for the one at entry, and behind each instruction, up to the first that
 /// breaks a rule or ends the path.
-pub fn graph_lines(alloc: Global, name: &str, files: &[ClassFile]) -> Option<Vec<u8>>
-    requires { AllByRecursion ClassFits files.now }
-{
-    let typed = linked_and_typed(alloc, files)?;
-    let (number, method) = method_named(alloc, &typed.program, name)?;
-    let frames = typed.frames.as_slice().get(number)?;
-    Some(walked(alloc, &typed.program, method, frames.as_slice())?.into_bytes())
+pub fn graph_lines(text: &mut Text, alloc: Global, name: &str, typed: &Typed) {
+    let Some((number, method)) = method_named(&typed.program, name) else {
+        text.lacks();
+        return;
+    };
+    match typed.frames.as_slice().get(number) {
+        Some(frames) => push_graphs(text, alloc, &typed.program, method, frames.as_slice()),
+        None => text.lacks(),
+    }
 }

@@ -9,5 +9,6 @@ mod graphs;
 mod lives;
 mod names;
 mod stages;
+mod text;
 
 pub use cases::answer;
