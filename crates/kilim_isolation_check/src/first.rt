@@ -1,12 +1,14 @@
 //! The graph with which a method begins.
 
 ghost use Rattle.std.specs.Prelude.{◌≡◌, ◌++◌, [], IfOk};
-ghost use Rattle.kilim_typing.specs.Typed.{declared, entry, slots_of_type, this_types};
+ghost use Rattle.kilim_typing.specs.Typed.{declared, entry, param_slots, slots_of_type, this_types};
+ghost use Rattle.kilim_shape_graph.specs.Canonical.{canonical_at};
+ghost use Rattle.kilim_shape_graph.specs.Entry.{entry_nodes};
 ghost use Rattle.kilim_isolation_check.specs.Answers.{IsFirst};
 ghost use Rattle.kilim_isolation_check.specs.Walks.{entry_graph, entry_mixes};
 
 use crate::walk::declared_at;
-use kilim_classes::{Method, Program, VType};
+use kilim_classes::{Method, Program, Ty, VType};
 use kilim_isolation_rules::any_mixes;
 use kilim_shape_graph::Graph;
 use kilim_type_step::{class_vtype, is_constructor, vtype};
@@ -47,16 +49,23 @@ fn push_slots(types: &mut Vec<VType>, ty: VType) -> Result<(), NoMemory>
     }
 }
 
+// The slots of parameters behind those that are there.
+fn push_params(types: &mut Vec<VType>, params: &[Ty]) -> Result<(), NoMemory>
+    ensures { IfOk result (λ u. types.new.items ≡ types.old.items ++ param_slots params.now) }
+{
+    for ty in params {
+        push_slots(types, vtype(*ty))?;
+    }
+    Ok(())
+}
+
 // The types of the locals with which a method begins.
-#[tactic(auto, using(crate::proofs::Begins::slots_more))]
 fn entry_types(alloc: Global, method: &Method) -> Result<Vec<VType>, NoMemory>
     ensures { IfOk result (λ types. types.items ≡ (entry method.now).locals) }
 {
     let mut types = Vec::new(alloc);
     push_this(&mut types, method)?;
-    for ty in method.params.as_slice() {
-        push_slots(&mut types, vtype(*ty))?;
-    }
+    push_params(&mut types, method.params.as_slice())?;
     Ok(types)
 }
 
@@ -72,6 +81,14 @@ fn entry_mixes(alloc: Global, program: &Program, method: &Method) -> Result<bool
     Ok(any_mixes(program, &types, frame.locals.as_slice()))
 }
 
+// The graph with which a method begins, whatever becomes private there.
+fn begun(alloc: Global, program: &Program, method: &Method) -> Result<Graph, NoMemory>
+    ensures { IfOk result (λ graph. graph ≡ canonical_at (declared method.now 0) (entry_nodes program.now method.now)) }
+{
+    let graph = Graph::entry(alloc, program, method)?;
+    graph.canonical(alloc, declared_at(method, 0))
+}
+
 /// The graph with which a method begins; none where a tree becomes private in the frame that is declared at its first place.
 pub fn first_graph(
     alloc: Global,
@@ -83,6 +100,6 @@ pub fn first_graph(
     if entry_mixes(alloc, program, method)? {
         return Ok(None);
     }
-    let graph = Graph::entry(alloc, program, method)?;
-    Ok(Some(graph.canonical(alloc, declared_at(method, 0))?))
+    let graph = begun(alloc, program, method)?;
+    Ok(Some(graph))
 }

@@ -6,11 +6,12 @@ ghost use Rattle.std.specs.Option.{option_map};
 ghost use Rattle.kilim_typing.specs.Step.{is_unset_this};
 ghost use Rattle.kilim_typing.specs.Typed.{frame_types};
 ghost use Rattle.kilim_isolation_rules.specs.Answers.{IsLeft, IsStep};
+ghost use Rattle.kilim_isolation_rules.specs.Marks.{flow_mixes};
 ghost use Rattle.kilim_isolation_rules.specs.Rules as spec;
 ghost use Rattle.kilim_isolation_check.specs.Made.{is_new};
 
 use kilim_classes::{Frame, Instr, Method, Program, VType};
-use kilim_isolation_rules::{StepFault, any_mixes, deed_of, judge};
+use kilim_isolation_rules::{Deed, StepFault, any_mixes, deed_of, judge};
 use kilim_shape_graph::Graph;
 use kilim_type_step::{State, StepFault as TypeFault, type_step};
 use kilim_units::NoMemory;
@@ -81,6 +82,23 @@ fn turned(alloc: Global, types: &[VType]) -> Result<Vec<VType>, NoMemory>
     Ok(types.iter().rev().copied().collect(alloc)?)
 }
 
+// Whether a tree becomes private where types flow into a declared frame.
+fn mixes_into(
+    alloc: Global,
+    program: &Program,
+    state: &State,
+    frame: &Frame,
+) -> Result<bool, NoMemory>
+    ensures { IfOk result (λ mix. mix ≡ flow_mixes program.now state.now (frame_types frame.now)) }
+{
+    let from = turned(alloc, state.stack())?;
+    let into = turned(alloc, frame.stack.as_slice())?;
+    Ok(
+        any_mixes(program, state.locals(), frame.locals.as_slice())
+            || any_mixes(program, &from, &into),
+    )
+}
+
 // Whether a tree becomes private in the frame that is declared at the next place, where one is.
 fn flows_mix(
     alloc: Global,
@@ -95,15 +113,25 @@ fn flows_mix(
     let Some(frame) = after else {
         return Ok(false);
     };
-    let Some(state) = left(alloc, program, method, before, instr)? else {
-        return Ok(false);
-    };
-    let from = turned(alloc, state.stack())?;
-    let into = turned(alloc, frame.stack.as_slice())?;
-    Ok(
-        any_mixes(program, state.locals(), frame.locals.as_slice())
-            || any_mixes(program, &from, &into),
-    )
+    match left(alloc, program, method, before, instr)? {
+        Some(state) => mixes_into(alloc, program, &state, frame),
+        None => Ok(false),
+    }
+}
+
+// What an instruction does to a graph.
+fn deed(
+    alloc: Global,
+    program: &Program,
+    method: &Method,
+    graph: &Graph,
+    before: &Frame,
+    instr: &Instr,
+) -> Result<Deed, NoMemory>
+    ensures { IfOk result (λ deed. deed ≡ spec.deed program.now method.now graph.now (frame_types before.now) instr.now) }
+{
+    let types = turned(alloc, before.stack.as_slice())?;
+    deed_of(alloc, program, method, graph, &types, instr)
 }
 
 /// The graph that an instruction leaves, or the least of the rules 1 to 7 and 9 that it breaks. `before` is the verified frame at
@@ -121,16 +149,12 @@ pub fn transfer(
 ) -> Result<Graph, StepFault>
     ensures { IsStep (spec.moves program.now method.now graph.now (frame_types before.now) instr.now (option_map frame_types (option_copied after.entry))) result }
 {
-    let types = match turned(alloc, before.stack.as_slice()) {
-        Ok(types) => types,
+    let flows = match flows_mix(alloc, program, method, before, instr, after) {
+        Ok(flows) => flows,
         Err(NoMemory) => return Err(StepFault::Memory),
     };
-    let deed = match deed_of(alloc, program, method, graph, &types, instr) {
-        Ok(deed) => deed,
-        Err(NoMemory) => return Err(StepFault::Memory),
-    };
-    match flows_mix(alloc, program, method, before, instr, after) {
-        Ok(flows) => judge(deed, flows),
+    match deed(alloc, program, method, graph, before, instr) {
+        Ok(deed) => judge(deed, flows),
         Err(NoMemory) => Err(StepFault::Memory),
     }
 }

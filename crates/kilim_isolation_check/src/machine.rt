@@ -81,9 +81,12 @@ impl<'a> Moves for Walk<'a> {
 fn copy(alloc: Global, graph: &Graph) -> Result<Graph, NoMemory>
     ensures { IfOk result (λ new. new ≡ graph.now) }
 {
+    let locals = Vec::from_slice(alloc, graph.locals.as_slice())?;
+    let stack = Vec::from_slice(alloc, graph.stack.as_slice())?;
+    let nodes = Vec::from_slice(alloc, graph.nodes.as_slice())?;
     Ok(Graph {
-        locals: Seq::from_vec(Vec::from_slice(alloc, graph.locals.as_slice())?),
-        stack: Seq::from_vec(Vec::from_slice(alloc, graph.stack.as_slice())?),
-        nodes: Seq::from_vec(Vec::from_slice(alloc, graph.nodes.as_slice())?),
+        locals: Seq::from_vec(locals),
+        stack: Seq::from_vec(stack),
+        nodes: Seq::from_vec(nodes),
     })
 }

@@ -1,6 +1,6 @@
 //! Two lists of reports in one.
 
-ghost use Rattle.std.specs.Prelude.{◌≡◌, ◌≤◌, ◌++◌, drop, length, IfOk};
+ghost use Rattle.std.specs.Prelude.{◌≡◌, ◌≤◌, ◌++◌, ◌∷◌, [], drop, length, IfOk, OnOk};
 ghost use Rattle.kilim_isolation_check.specs.Faults as spec;
 
 use kilim_pausable_graph::Report;
@@ -24,12 +24,21 @@ fn copy(alloc: Global, report: &Report) -> Result<Report, NoMemory>
     })
 }
 
+// A report behind those that are there.
+fn push_copy(alloc: Global, into: &mut Seq<Report>, report: &Report) -> Result<(), NoMemory>
+    ensures { OnOk result (into.new ≡ into.old ++ report.now ∷ []) }
+{
+    let new = copy(alloc, report)?;
+    into.push(new)?;
+    Ok(())
+}
+
 /// The reports behind those that are there.
 pub fn append(alloc: Global, into: &mut Seq<Report>, more: &[Report]) -> Result<(), NoMemory>
     ensures { IfOk result (λ u. into.new ≡ into.old ++ more.now) }
 {
     for report in more {
-        into.push(copy(alloc, report)?)?;
+        push_copy(alloc, into, report)?;
     }
     Ok(())
 }
@@ -50,7 +59,7 @@ fn push_earlier(
         if !comes_before(&others[at], report) {
             return Ok(at);
         }
-        into.push(copy(alloc, &others[at])?)?;
+        push_copy(alloc, into, &others[at])?;
     }
     Ok(from.max(others.len()))
 }
@@ -63,7 +72,7 @@ pub fn merged(alloc: Global, reports: &[Report], others: &[Report]) -> Result<Se
     let mut at = 0;
     for report in reports {
         at = push_earlier(alloc, report, others, at, &mut all)?;
-        all.push(copy(alloc, report)?)?;
+        push_copy(alloc, &mut all, report)?;
     }
     append(alloc, &mut all, &others[at.min(others.len())..])?;
     Ok(all)

@@ -1,12 +1,14 @@
 //! What the paths of a method give.
 
-ghost use Rattle.std.specs.Prelude.{◌≡◌, ◌∷◌, [], true, IfOk, map};
+ghost use Rattle.std.specs.Prelude.{◌≡◌, ◌∷◌, [], true, Ok, IfOk, map};
 ghost use Rattle.kilim_classes.specs.Keeps.{code_is_whole};
 ghost use Rattle.kilim_classes.specs.Names.{method_at};
 ghost use Rattle.kilim_typing.specs.Typed.{has_code};
 ghost use Rattle.kilim_pausable_graph.specs.Pausing.{frames_at};
 ghost use Rattle.kilim_isolation_check.specs.Faults as spec;
-ghost use Rattle.kilim_isolation_check.specs.Walks.{entry_graph};
+ghost use Rattle.kilim_isolation_check.specs.Tables.{IsTable, places_of};
+ghost use Rattle.kilim_isolation_check.specs.Walks.{entry_graph, machine_of};
+ghost use Rattle.kilim_paths.specs.Answer.{IsAnswer};
 
 use crate::first::first_graph;
 use crate::machine::Walk;
@@ -16,6 +18,7 @@ use kilim_classes::{Frame, Method, MethodId, Program};
 use kilim_lookups::method_at;
 use kilim_paths::{Explored, Report as PathReport, explore};
 use kilim_pausable_graph::Report;
+use kilim_shape_graph::Graph;
 use kilim_typing::Typed;
 use kilim_units::{NoMemory, Seq};
 use std::alloc::Global;
@@ -85,8 +88,71 @@ fn entry_report(alloc: Global, id: MethodId) -> Result<Seq<Report>, NoMemory>
     Ok(reports)
 }
 
+// What the paths from a graph come to, by the tables of the places.
+fn found_from(
+    alloc: Global,
+    program: &Program,
+    method: &Method,
+    code_at: &[usize],
+    frames_at: &[usize],
+    frames: &[Frame],
+    first: &Graph,
+) -> Result<Explored, NoMemory>
+    requires whole { code_is_whole method.now ≡ true }
+    requires coded { has_code method.now ≡ true }
+    requires code { IsTable code_at.now (places_of method.now.code) method.now.code_length }
+    requires declared { IsTable frames_at.now (places_of method.now.frames) method.now.code_length }
+    ensures { IfOk result (λ found. IsAnswer (machine_of program.now method.now frames.now first.now) found) }
+{
+    let walk = Walk {
+        alloc,
+        program,
+        method,
+        code_at,
+        frames_at,
+        frames,
+        first,
+    };
+    explore(alloc, &walk)
+}
+
+// The same, with the tables.
+fn explored(
+    alloc: Global,
+    program: &Program,
+    method: &Method,
+    frames: &[Frame],
+    first: &Graph,
+) -> Result<Explored, NoMemory>
+    requires whole { code_is_whole method.now ≡ true }
+    requires coded { has_code method.now ≡ true }
+    ensures { IfOk result (λ found. IsAnswer (machine_of program.now method.now frames.now first.now) found) }
+{
+    let code_at = code_table(alloc, method)?;
+    let frames_at = frame_table(alloc, method)?;
+    found_from(alloc, program, method, &code_at, &frames_at, frames, first)
+}
+
+// What the paths of a method with code give that begins with a graph.
+#[tactic(auto, using(crate::proofs::Begins::found_reports))]
+fn walked_from(
+    alloc: Global,
+    program: &Program,
+    id: MethodId,
+    method: &Method,
+    frames: &[Frame],
+    first: &Graph,
+) -> Result<Seq<Report>, NoMemory>
+    requires whole { code_is_whole method.now ≡ true }
+    requires coded { has_code method.now ≡ true }
+    ensures { IfOk result (λ reports. spec.ArePathReports program.now id method.now frames.now (Ok first.now) reports) }
+{
+    let found = explored(alloc, program, method, frames, first)?;
+    shown(alloc, id, found)
+}
+
 // What the paths of a method with code give.
-#[tactic(auto, using(crate::proofs::Begins::found_reports, crate::proofs::Begins::entry_reports))]
+#[tactic(auto, using(crate::proofs::Begins::begun_reports, crate::proofs::Begins::entry_reports))]
 fn walked(
     alloc: Global,
     program: &Program,
@@ -98,22 +164,10 @@ fn walked(
     requires coded { has_code method.now ≡ true }
     ensures { IfOk result (λ reports. spec.ArePathReports program.now id method.now frames.now (entry_graph program.now method.now) reports) }
 {
-    let Some(first) = first_graph(alloc, program, method)? else {
-        return entry_report(alloc, id);
-    };
-    let code_at = code_table(alloc, method)?;
-    let frames_at = frame_table(alloc, method)?;
-    let walk = Walk {
-        alloc,
-        program,
-        method,
-        code_at: &code_at,
-        frames_at: &frames_at,
-        frames,
-        first: &first,
-    };
-    let found = explore(alloc, &walk)?;
-    shown(alloc, id, found)
+    match first_graph(alloc, program, method)? {
+        Some(first) => walked_from(alloc, program, id, method, frames, &first),
+        None => entry_report(alloc, id),
+    }
 }
 
 fn frames_at(typed: &Typed, id: MethodId) -> &[Frame]

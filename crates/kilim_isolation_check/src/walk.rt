@@ -5,6 +5,7 @@ ghost use Rattle.std.specs.Option.{option_map, IfSome};
 ghost use Rattle.kilim_classes.specs.Keeps.{code_is_whole};
 ghost use Rattle.kilim_classes.specs.Names.{method_at};
 ghost use Rattle.kilim_typing.specs.Typed.{declared, frame_types};
+ghost use Rattle.kilim_shape_graph.specs.Canonical.{canonical_at};
 ghost use Rattle.kilim_isolation_rules.specs.Answers.{IsStep};
 ghost use Rattle.kilim_isolation_check.specs.Answers.{IsStepOf};
 ghost use Rattle.kilim_isolation_check.specs.Tables.{IsTable, places_of};
@@ -56,6 +57,15 @@ pub fn exits_at(
     }
 }
 
+fn canonical(alloc: Global, graph: &Graph, after: Option<&Frame>) -> Result<Graph, StepFault>
+    ensures { IsStep (Ok (canonical_at (option_map frame_types (option_copied after.entry)) graph.now)) result }
+{
+    match graph.canonical(alloc, after) {
+        Ok(graph) => Ok(graph),
+        Err(NoMemory) => Err(StepFault::Memory),
+    }
+}
+
 // A step of an instruction, with the verified frame there.
 fn step_by(
     alloc: Global,
@@ -68,10 +78,9 @@ fn step_by(
 ) -> Result<Graph, StepFault>
     ensures { IsStepOf program.now method.now graph.now (frame_types before.now) instr.now (option_map frame_types (option_copied after.entry)) result }
 {
-    let graph = transfer(alloc, program, method, graph, before, instr, after)?;
-    match graph.canonical(alloc, after) {
-        Ok(graph) => Ok(graph),
-        Err(NoMemory) => Err(StepFault::Memory),
+    match transfer(alloc, program, method, graph, before, instr, after) {
+        Ok(left) => canonical(alloc, &left, after),
+        Err(fault) => Err(fault),
     }
 }
 
