@@ -11,8 +11,8 @@ use kilim_classes::{Instr, Method};
 use kilim_units::{NoMemory, Seq};
 use std::alloc::Global;
 
-// Where control goes from an instruction, behind which the code goes on at a place.
-fn edges_of(alloc: Global, instr: &Instr, next: u32) -> Result<Vec<u32>, NoMemory>
+/// Where control goes from an instruction, behind which the code goes on at a place.
+pub fn edges_of(alloc: Global, instr: &Instr, next: u32) -> Result<Vec<u32>, NoMemory>
     ensures { IfOk result (λ v. v.items ≡ edges instr.now next) }
 {
     let targets = jump_targets(alloc, instr)?;
@@ -43,8 +43,8 @@ fn behind_in(code: &[(u32, Instr)], end: u32, at: usize) -> u32
     }
 }
 
-// The place behind the entry of a number.
-fn place_behind(method: &Method, at: usize) -> u32
+/// The place behind the entry of a number.
+pub fn place_behind(method: &Method, at: usize) -> u32
     requires { at < length method.now.code }
     ensures { result ≡ first_place (drop (at + 1) method.now.code) method.now.code_length }
 {

@@ -1,30 +1,14 @@
 //! The list of a method's flow edges.
 
-ghost use Rattle.std.specs.Prelude.{◌≡◌, ◌++◌, ◌+◌, ◌<◌, Some, length, slice_get, drop, map, IfOk, OnOk};
-ghost use Rattle.kilim_classes.specs.Lengths.{first_place};
+ghost use Rattle.std.specs.Prelude.{◌≡◌, ◌++◌, ◌<◌, length, map, IfOk, OnOk};
 ghost use Rattle.kilim_lookups.specs.Places.{Rising};
-ghost use Rattle.kilim_typing.specs.Typed.{edges};
 ghost use Rattle.kilim_liveness.specs.Edges.{AreEdges};
 ghost use Rattle.kilim_liveness.specs.Listing.{InOrder, Further, from_to};
 
-use crate::{ends_path, jump_targets};
-use kilim_classes::{Instr, Method};
-use kilim_lookups::instr_at;
+use crate::before::{edges_of, entry_of, place_behind};
+use kilim_classes::Method;
 use kilim_units::NoMemory;
 use std::alloc::Global;
-
-// Where control goes from an instruction, behind which the code goes on at a place.
-fn targets(alloc: Global, instr: &Instr, next: u32) -> Result<Vec<u32>, NoMemory>
-    ensures { IfOk result (λ tos. tos.items ≡ edges instr.now next) }
-{
-    let jumps = jump_targets(alloc, instr)?;
-    if ends_path(instr) {
-        return Ok(jumps);
-    }
-    let mut all = Vec::from_slice(alloc, &[next])?;
-    all.extend_from_slice(jumps.as_slice())?;
-    Ok(all)
-}
 
 // The same numbers in increasing order, each once.
 fn put_in_order(numbers: &mut Vec<u32>)
@@ -44,25 +28,6 @@ fn push_from(pairs: &mut Vec<(u32, u32)>, from: u32, tos: &[u32]) -> Result<(), 
     Ok(())
 }
 
-// The entry of a number.
-fn entry_of(method: &Method, at: usize) -> &(u32, Instr)
-    requires { at < length method.now.code }
-    ensures { slice_get method.now.code at ≡ Some result.now }
-{
-    method.code.get(at)
-}
-
-// The place behind the entry of a number.
-fn place_behind(method: &Method, at: usize) -> u32
-    requires rising { Rising method.now.code }
-    requires range { at < length method.now.code }
-    ensures { result ≡ first_place (drop (at + 1) method.now.code) method.now.code_length }
-{
-    let code = method.code.as_slice();
-    let (_, next) = instr_at(code, method.code_length, at);
-    next
-}
-
 // The edges from the entry of a number behind those that are there.
 fn push_edges(
     alloc: Global,
@@ -70,13 +35,12 @@ fn push_edges(
     at: usize,
     pairs: &mut Vec<(u32, u32)>,
 ) -> Result<(), NoMemory>
-    requires rising { Rising method.now.code }
-    requires range { at < length method.now.code }
+    requires { at < length method.now.code }
     ensures { OnOk result (Further method.now at pairs.old.items pairs.new.items) }
 {
     let entry = entry_of(method, at);
     let next = place_behind(method, at);
-    let mut tos = targets(alloc, &entry.1, next)?;
+    let mut tos = edges_of(alloc, &entry.1, next)?;
     put_in_order(&mut tos);
     push_from(pairs, entry.0, tos.as_slice())?;
     Ok(())

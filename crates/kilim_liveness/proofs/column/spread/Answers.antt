@@ -1,4 +1,7 @@
-use Rattle.std.proofs.Common.{arith}
+use Rattle.std.proofs.Common.{◌≡◌, ℕ, true, List, take, subst, arith}
+use Rattle.std.proofs.lemmas.List.{take_all}
+use Rattle.kilim_typing.specs.Typed.{Among}
+use Rattle.kilim_liveness.specs.Marks.{Grown, is_marked}
 use Rattle.kilim_liveness.proofs.Growing.{no_growth, took}
 use Rattle.kilim_liveness.proofs.Lists.{among_at}
 use Rattle.kilim_liveness.proofs.column.spread.Goals as goal
@@ -16,3 +19,11 @@ pub loop-at-preserved : goal.loop-at-preserved
 loop-at-preserved c =
     took c.args.befores.now c.args.passing.now c.loop-at.at c.number_at-place.result c.args.marks.now.items c.args.work.now.items c.loop-at.marks.items c.loop-at.work.items c.visit_open.new.marks.items c.visit_open.new.work.items
     c.number_at-place.ensures c.loop-at.invariant c.in_ok-visit_open.ensures.grown c.in_ok-visit_open.ensures.marked
+
+pub returns : goal.returns
+returns c =
+    let whole : take c.loop-at.at c.args.befores.now ≡ c.args.befores.now = take_all c.loop-at.at c.args.befores.now (omega arith) in
+    record {
+      grown = subst (λ (bs : List ℕ). Grown (λ x. Among bs x × (is_marked c.args.passing.now x ≡ true)) c.args.marks.now.items c.args.work.now.items c.loop-at.marks.items c.loop-at.work.items) whole c.loop-at.invariant.0;
+      all = subst (λ (bs : List ℕ). (x : ℕ) → Among bs x → is_marked c.args.passing.now x ≡ true → is_marked c.loop-at.marks.items x ≡ true) whole c.loop-at.invariant.1;
+    }

@@ -1,4 +1,4 @@
-use Rattle.std.proofs.Common.{◌∙◌, ◌+◌, ◌∷◌, [], List, Bool, ap, sym, subst, length, length-append}
+use Rattle.std.proofs.Common.{◌∙◌, ◌+◌, ◌∷◌, [], List, Bool, ap, sym, subst, length, length-append, ◌≡◌, ℕ, arith}
 use Rattle.kilim_liveness.specs.Marks.{AreColumns}
 use Rattle.kilim_liveness.proofs.Growing.{column_more}
 use Rattle.kilim_liveness.proofs.table.columns_of.Goals as goal
@@ -10,3 +10,8 @@ loop-local-preserved c =
       subst (λ (cs : List (List Bool)). AreColumns c.args.method.now (c.loop-local.local + 1) cs) (sym is)
           (column_more c.args.method.now c.loop-local.local c.loop-local.columns.items c.in_ok-column.column c.loop-local.invariant.0 c.loop-local.invariant.1 c.in_ok-column.ensures),
     )
+
+pub returns : goal.returns
+returns c =
+    let whole : length c.loop-local.columns.items ≡ length c.args.read.now = omega arith in
+    record { same = whole; each = subst (λ (n : ℕ). AreColumns c.args.method.now n c.loop-local.columns.items) (sym c.loop-local.invariant.0) c.loop-local.invariant.1 }
