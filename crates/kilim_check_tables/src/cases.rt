@@ -66,14 +66,28 @@ fn of_types<R: Files>(
     }
 }
 
+// What a case answers, by its word, its first name or type, and what stands behind it.
+fn by_word<R: Files>(
+    rt: &R,
+    alloc: Global,
+    word: &str,
+    name: &str,
+    rest: &[String],
+) -> Option<Vec<u8>> {
+    if word != "fits" {
+        return of_method(rt, alloc, word, name, rest);
+    }
+    match rest {
+        [to, files @ ..] => of_types(rt, alloc, name, to.as_str(), files),
+        _ => None,
+    }
+}
+
 /// The answer of a case, each line with its line feed: nothing where its words aren't those of a case, a file can't be
 /// read, or memory runs out.
 pub fn answer<R: Files>(rt: &R, alloc: Global, words: &[String]) -> Option<Vec<u8>> {
-    let (word, rest) = words.split_first()?;
-    let (name, rest) = rest.split_first()?;
-    if word.as_str() == "fits" {
-        let (to, files) = rest.split_first()?;
-        return of_types(rt, alloc, name.as_str(), to.as_str(), files);
+    match words {
+        [word, name, rest @ ..] => by_word(rt, alloc, word.as_str(), name.as_str(), rest),
+        _ => None,
     }
-    of_method(rt, alloc, word.as_str(), name.as_str(), rest)
 }

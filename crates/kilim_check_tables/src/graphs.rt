@@ -120,25 +120,26 @@ fn push_fault(text: &mut Text, fault: StepFault) {
     }
 }
 
-// The line of an instruction and the graph behind it, unless it breaks a rule.
+// The line of an instruction with the graph behind it, which takes the place of the one before; whether it breaks no rule.
 fn push_next(
     text: &mut Text,
     alloc: Global,
     program: &Program,
     method: &Method,
-    graph: &Graph,
+    graph: &mut Graph,
     before: &Frame,
     placed: &(u32, Instr),
-) -> Option<Graph> {
+) -> bool {
     text.number(placed.0 as usize);
     match next_graph(alloc, program, method, graph, before, &placed.1) {
         Ok(left) => {
             push_graph(text, program, &left);
-            Some(left)
+            *graph = left;
+            true
         }
         Err(fault) => {
             push_fault(text, fault);
-            None
+            false
         }
     }
 }
@@ -150,19 +151,15 @@ fn push_path(
     program: &Program,
     method: &Method,
     frames: &[Frame],
-    entry: Graph,
+    graph: &mut Graph,
 ) {
-    let mut graph = entry;
     for (at, placed) in method.code.as_slice().iter().enumerate() {
         let Some(before) = frames.get(at) else {
             text.lacks();
             return;
         };
-        match push_next(text, alloc, program, method, &graph, before, placed) {
-            Some(left) => graph = left,
-            None => return,
-        }
-        if ends_path(&placed.1) {
+        let goes_on = push_next(text, alloc, program, method, graph, before, placed);
+        if !goes_on || ends_path(&placed.1) {
             return;
         }
     }
@@ -177,10 +174,10 @@ fn push_graphs(
     frames: &[Frame],
 ) {
     match entry_graph(alloc, program, method) {
-        Ok(graph) => {
+        Ok(mut graph) => {
             text.word("entry");
             push_graph(text, program, &graph);
-            push_path(text, alloc, program, method, frames, graph);
+            push_path(text, alloc, program, method, frames, &mut graph);
         }
         Err(fault) => push_fault(text, fault),
     }
