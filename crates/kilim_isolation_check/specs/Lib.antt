@@ -2,6 +2,7 @@ pub mod Walks
 pub mod Tables
 pub mod Mark
 pub mod Faults
+pub mod Judged
 pub mod Answers
 pub mod IsolatedProgram
 pub mod Examples

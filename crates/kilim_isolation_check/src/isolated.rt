@@ -1,6 +1,7 @@
 //! Programs that break no rule.
 
 ghost use Rattle.kilim_isolation_check.specs.Checked.{IsChecked};
+ghost use Rattle.kilim_isolation_check.specs.Judged.{IsJudged};
 
 use crate::check::all_reports;
 use kilim_classes::Program;
@@ -35,19 +36,38 @@ pub enum CheckFault {
     Memory,
 }
 
+/// Why a program has no pausable calls to go on with.
+#[derive(Drop)]
+pub enum Refused {
+    /// All its reports; not empty.
+    Reports(Seq<Report>),
+    Memory,
+}
+
+// The pausable calls of a program that breaks no rule.
+fn accepted(alloc: Global, typed: &Typed) -> Result<Pausables, Refused>
+    ensures { IsJudged typed.now result }
+{
+    let reports = match all_reports(alloc, typed) {
+        Ok(reports) => reports,
+        Err(NoMemory) => return Err(Refused::Memory),
+    };
+    if !reports.is_empty() {
+        return Err(Refused::Reports(reports));
+    }
+    match pausable_calls(alloc, &typed.program) {
+        Ok(pausables) => Ok(pausables),
+        Err(NoMemory) => Err(Refused::Memory),
+    }
+}
+
 /// The program with its pausable calls where it breaks no rule, else all reports.
 pub fn check_program(alloc: Global, typed: Typed) -> Result<Isolated, CheckFault>
     ensures { IsChecked typed result }
 {
-    let reports = match all_reports(alloc, &typed) {
-        Ok(reports) => reports,
-        Err(NoMemory) => return Err(CheckFault::Memory),
-    };
-    if !reports.is_empty() {
-        return Err(CheckFault::Reports(typed.program, reports));
-    }
-    match pausable_calls(alloc, &typed.program) {
+    match accepted(alloc, &typed) {
         Ok(pausables) => Ok(Isolated { typed, pausables }),
-        Err(NoMemory) => Err(CheckFault::Memory),
+        Err(Refused::Reports(reports)) => Err(CheckFault::Reports(typed.program, reports)),
+        Err(Refused::Memory) => Err(CheckFault::Memory),
     }
 }
