@@ -36,6 +36,7 @@ use Rattle.kilim_woven_runs.proofs.alike.Hands.{hands}
 use Rattle.kilim_woven_runs.proofs.alike.Shapes.{shapes}
 use Rattle.kilim_woven_runs.proofs.alike.TwinRows as twin
 use Rattle.kilim_woven_runs.proofs.alike.MoreRows as more
+use Rattle.std.proofs.lemmas.Bool.{false≢true}
 
 q_class : (P : Program) (v : Value) (heap : Objects) (go : Option Ty → Effect) → hushed (as_class P v heap go) ≡ as_class P v heap (λ o. hushed (go o))
 q_class P (value.Int x) heap go = refl
@@ -52,7 +53,7 @@ module _ (set : Setting) (W : Program) (marks : List (List Bool)) (form : Forms 
   load_hushed own (instr.Iload n) to l s heap h = simp (q_some, q_int)
   load_hushed own (instr.Lload n) to l s heap h = simp (q_some, q_long)
   load_hushed own (instr.Aload n) to l s heap h = simp (q_some, q_reference)
-  load_hushed own i to l s heap h = absurd (cc)
+  load_hushed own i to l s heap h = absurd (false≢true h)
 
   put_hushed : (own : Method) (f : FieldId) (to : ℕ) (l s : List Value) (heap : Objects) → hushed (does P own (instr.Putfield f) to l s heap) ≡ does P own (instr.Putfield f) to l s heap
   unfolding does

@@ -18,6 +18,7 @@ use Rattle.kilim_program.specs.Does.{does, place_if, table_target, target_or, ma
 use Rattle.kilim_program.specs.Objects.{new_array}
 use Rattle.kilim_woven_form.specs.Woven.{moved_instr, moved_pairs}
 use Rattle.kilim_woven_runs.specs.Rows.{elsewhere}
+use Rattle.std.proofs.lemmas.Bool.{false≢true}
 
 module _ (at : ℕ → ℕ) (wl : List Value) where
   abbrev E : Effect → Effect
@@ -217,21 +218,21 @@ module _ (P W : Program) (u v : Method) (at : ℕ → ℕ) (l wl : List Value) (
   same_simple (instr.Ldc v) h = simp (e_constant)
   same_simple (instr.LdcW v) h = simp (e_constant)
   same_simple (instr.Ldc2W v) h = simp (e_constant)
-  same_simple (instr.Iload n) h = absurd (cc)
-  same_simple (instr.Lload n) h = absurd (cc)
-  same_simple (instr.Aload n) h = absurd (cc)
-  same_simple (instr.Istore n) h = absurd (cc)
-  same_simple (instr.Lstore n) h = absurd (cc)
-  same_simple (instr.Astore n) h = absurd (cc)
-  same_simple (instr.Iinc n k) h = absurd (cc)
-  same_simple (instr.Putfield f) h = absurd (cc)
-  same_simple (instr.Getstatic f) h = absurd (cc)
-  same_simple (instr.Invokevirtual m) h = absurd (cc)
-  same_simple (instr.Invokespecial m) h = absurd (cc)
-  same_simple (instr.Invokestatic m) h = absurd (cc)
-  same_simple (instr.New c) h = absurd (cc)
-  same_simple (instr.Checkcast ty) h = absurd (cc)
-  same_simple (instr.Instanceof ty) h = absurd (cc)
-  same_simple instr.Aastore h = absurd (cc)
-  same_simple instr.Ireturn h = absurd (cc)
+  same_simple (instr.Iload n) h = absurd (false≢true h)
+  same_simple (instr.Lload n) h = absurd (false≢true h)
+  same_simple (instr.Aload n) h = absurd (false≢true h)
+  same_simple (instr.Istore n) h = absurd (false≢true h)
+  same_simple (instr.Lstore n) h = absurd (false≢true h)
+  same_simple (instr.Astore n) h = absurd (false≢true h)
+  same_simple (instr.Iinc n k) h = absurd (false≢true h)
+  same_simple (instr.Putfield f) h = absurd (false≢true h)
+  same_simple (instr.Getstatic f) h = absurd (false≢true h)
+  same_simple (instr.Invokevirtual m) h = absurd (false≢true h)
+  same_simple (instr.Invokespecial m) h = absurd (false≢true h)
+  same_simple (instr.Invokestatic m) h = absurd (false≢true h)
+  same_simple (instr.New c) h = absurd (false≢true h)
+  same_simple (instr.Checkcast ty) h = absurd (false≢true h)
+  same_simple (instr.Instanceof ty) h = absurd (false≢true h)
+  same_simple instr.Aastore h = absurd (false≢true h)
+  same_simple instr.Ireturn h = absurd (false≢true h)
   same_simple i h = refl

@@ -22,6 +22,9 @@ use Rattle.kilim_woven_form.specs.Woven.{if_there, pausable_callee}
 use Rattle.kilim_woven_runs.specs.alike.Shares.{SharesCalls, Specials}
 use Rattle.kilim_woven_runs.specs.Rows.{handed, OldHeap, is_old_base, Clean, IsClean, below_arguments, class_if, value_class}
 
+none_is : {A : Type 0} (a : A) → None ≡ Some a → ⊥
+none_is a e = cc
+
 module _ (P W : Program) (fiber : Ty) (shares : SharesCalls P W fiber) (nx to : ℕ) (l wl : List Value) (heap : Objects) where
   H : Effect → Effect
   H e = handed nx wl e
@@ -190,4 +193,4 @@ hands P W mine its fiber shares (instr.Invokestatic id) callee to nx l wl s heap
     kinds : (t : Bool) (A B C x y : Effect) → A ≡ handed nx wl x → C ≡ handed nx wl y → (if t then A else (if t then B else C)) ≡ handed nx wl (if t then x else (if t then takes_element to l s heap else y))
     kinds true A B C x y h k = h
     kinds false A B C x y h k = k
-hands P W mine its fiber shares i callee to nx l wl s heap hp sp old clean = absurd (cc)
+hands P W mine its fiber shares i callee to nx l wl s heap hp sp old clean = absurd (none_is callee hp)

@@ -24,6 +24,7 @@ use Rattle.kilim_typing.specs.Typed.{Among, edges}
 use Rattle.kilim_woven_form.specs.Woven.{moved_pairs}
 use Rattle.kilim_woven_runs.specs.Rows.{goes_to}
 use Rattle.kilim_woven_runs.proofs.alike.Effects.{is_simple}
+use Rattle.std.proofs.lemmas.Bool.{false≢true}
 
 -- without calls
 abbrev pub hushed : Effect → Effect
@@ -175,23 +176,23 @@ module _ (P : Program) (own : Method) (l : List Value) (to : ℕ) (s : List Valu
   hushed_simple (instr.Ldc v) h = simp (q_constant)
   hushed_simple (instr.LdcW v) h = simp (q_constant)
   hushed_simple (instr.Ldc2W v) h = simp (q_constant)
-  hushed_simple (instr.Iload n) h = absurd (cc)
-  hushed_simple (instr.Lload n) h = absurd (cc)
-  hushed_simple (instr.Aload n) h = absurd (cc)
-  hushed_simple (instr.Istore n) h = absurd (cc)
-  hushed_simple (instr.Lstore n) h = absurd (cc)
-  hushed_simple (instr.Astore n) h = absurd (cc)
-  hushed_simple (instr.Iinc n k) h = absurd (cc)
-  hushed_simple (instr.Putfield f) h = absurd (cc)
-  hushed_simple (instr.Getstatic f) h = absurd (cc)
-  hushed_simple (instr.Invokevirtual m) h = absurd (cc)
-  hushed_simple (instr.Invokespecial m) h = absurd (cc)
-  hushed_simple (instr.Invokestatic m) h = absurd (cc)
-  hushed_simple (instr.New c) h = absurd (cc)
-  hushed_simple (instr.Checkcast ty) h = absurd (cc)
-  hushed_simple (instr.Instanceof ty) h = absurd (cc)
-  hushed_simple instr.Aastore h = absurd (cc)
-  hushed_simple instr.Ireturn h = absurd (cc)
+  hushed_simple (instr.Iload n) h = absurd (false≢true h)
+  hushed_simple (instr.Lload n) h = absurd (false≢true h)
+  hushed_simple (instr.Aload n) h = absurd (false≢true h)
+  hushed_simple (instr.Istore n) h = absurd (false≢true h)
+  hushed_simple (instr.Lstore n) h = absurd (false≢true h)
+  hushed_simple (instr.Astore n) h = absurd (false≢true h)
+  hushed_simple (instr.Iinc n k) h = absurd (false≢true h)
+  hushed_simple (instr.Putfield f) h = absurd (false≢true h)
+  hushed_simple (instr.Getstatic f) h = absurd (false≢true h)
+  hushed_simple (instr.Invokevirtual m) h = absurd (false≢true h)
+  hushed_simple (instr.Invokespecial m) h = absurd (false≢true h)
+  hushed_simple (instr.Invokestatic m) h = absurd (false≢true h)
+  hushed_simple (instr.New c) h = absurd (false≢true h)
+  hushed_simple (instr.Checkcast ty) h = absurd (false≢true h)
+  hushed_simple (instr.Instanceof ty) h = absurd (false≢true h)
+  hushed_simple instr.Aastore h = absurd (false≢true h)
+  hushed_simple instr.Ireturn h = absurd (false≢true h)
   hushed_simple i h = refl
 
 -- ---- where it goes: an instruction whose targets are moved by nothing does the same, so it goes to one of them
@@ -240,7 +241,7 @@ next_unused P own instr.Lreturn a b l s heap h = refl
 next_unused P own instr.Areturn a b l s heap h = refl
 next_unused P own instr.Return a b l s heap h = refl
 next_unused P own instr.Athrow a b l s heap h = refl
-next_unused P own i a b l s heap h = absurd (cc)
+next_unused P own i a b l s heap h = absurd (false≢true h)
 
 is_among : List ℕ → ℕ → Bool
 is_among [] q = false

@@ -21,6 +21,9 @@ use Rattle.kilim_woven_form.specs.Woven.{pausable_callee}
 use Rattle.kilim_woven_runs.specs.Serves.{Shape, IsCall, IsNative, IsRaise, IsStuck}
 use Rattle.kilim_woven_runs.proofs.alike.Hands.{callee_is}
 
+none_is : {A : Type 0} (a : A) → None ≡ Some a → ⊥
+none_is a e = cc
+
 module _ (P : Program) (to : ℕ) (l : List Value) (heap : Objects) where
   Sh : Effect → Type 0
   Sh e = Shape to l heap e
@@ -97,4 +100,4 @@ module _ (P : Program) (to : ℕ) (l : List Value) (heap : Objects) where
       subst (λ (o : Option Method). Shape to l heap (with_some o (λ method. if is_built_in_constructor method then on_value s (λ v rest. as_receiver v (λ receiver. Goes to l rest heap)) else on_values (length method.params) s (λ args below. on_value below (λ v rest. as_receiver v (λ receiver. calls_method (method_at P (special P own method id)) (special P own method id) (receiver ∷ reverse args) to l rest heap)))))) (sym k.1)
       (subst (λ (t : Bool). Shape to l heap (if t then on_value s (λ v rest. as_receiver v (λ receiver. Goes to l rest heap)) else on_values (length k.0.params) s (λ args below. on_value below (λ v rest. as_receiver v (λ receiver. calls_method (method_at P (special P own k.0 id)) (special P own k.0 id) (receiver ∷ reverse args) to l rest heap))))) (sym z.0)
       (s_values (length k.0.params) s _ (λ vs r. s_value r _ (λ v rest. s_receiver v _ (λ u. s_calls_method (special P own k.0 id) (u ∷ reverse vs) rest)))))
-  shapes own sound i callee s hp = absurd (cc)
+  shapes own sound i callee s hp = absurd (none_is callee hp)

@@ -40,10 +40,10 @@ ends_moved at (instr.Lookupswitch d es) = refl
 ends_moved at i = refl
 
 sets_none : (i : Instr) (k : ℕ) → is_simple i ≡ true → sets i k ≡ false
-sets_none (instr.Istore n) k h = absurd (cc)
-sets_none (instr.Lstore n) k h = absurd (cc)
-sets_none (instr.Astore n) k h = absurd (cc)
-sets_none (instr.Iinc n j) k h = absurd (cc)
+sets_none (instr.Istore n) k h = absurd (false≢true h)
+sets_none (instr.Lstore n) k h = absurd (false≢true h)
+sets_none (instr.Astore n) k h = absurd (false≢true h)
+sets_none (instr.Iinc n j) k h = absurd (false≢true h)
 sets_none i k h = refl
 
 pub next_is : (W : Program) (own : Method) (at : ℕ → ℕ) (i : Instr) (to nx : ℕ) (wl s : List Value) (heap : Objects) → (ends_path i ≡ false → nx ≡ at to) → does W own (moved_instr at i) nx wl s heap ≡ does W own (moved_instr at i) (at to) wl s heap
@@ -103,7 +103,7 @@ module _ (set : Setting) (W : Program) (marks : List (List Bool)) (form : Forms 
   load_same P Q u v at (instr.Iload n) to l wl s heap h b = let e = sym (h n (eq-eqb n n refl)) in ap (λ (o : Option Value). with_some o (λ v. as_int v (λ z. Goes (at to) wl (value.Int z ∷ s) heap))) e ∙ simp (e_some, e_int)
   load_same P Q u v at (instr.Lload n) to l wl s heap h b = let e = sym (h n (eq-eqb n n refl)) in ap (λ (o : Option Value). with_some o (λ v. as_long v (λ z. Goes (at to) wl (value.Long z ∷ s) heap))) e ∙ simp (e_some, e_long)
   load_same P Q u v at (instr.Aload n) to l wl s heap h b = let e = sym (h n (eq-eqb n n refl)) in ap (λ (o : Option Value). with_some o (λ v. as_reference v (λ z. Goes (at to) wl (z ∷ s) heap))) e ∙ simp (e_some, e_reference)
-  load_same P Q u v at i to l wl s heap h b = absurd (cc)
+  load_same P Q u v at i to l wl s heap h b = absurd (false≢true b)
 
   -- ---- stores
 
