@@ -21,6 +21,9 @@ use Rattle.kilim_woven_form.specs.Woven.{Plan, Item, Mark, Does, added, below, b
 use Rattle.kilim_woven_programs.specs.keeps.Law.{reach}
 use Rattle.kilim_woven_programs.proofs.keeps.Lengths.{all_far, jump_fits, local_fits, near, old_fits, reach_is}
 
+none_is : {A : Type 0} (a : A) → None ≡ Some a → ⊥
+none_is a e = cc
+
 -- an instruction of that size, wherever it stands within reach and goes within reach
 abbrev pub Fit : Instr → (ℕ → ℕ) → Type 0
 Fit i size = (q : ℕ) → q + size q ≤ reach → list_all near (jump_targets i) ≡ true → has_length q i (size q) ≡ true
@@ -158,7 +161,7 @@ unfolding has_length
 call_fit p (Invokevirtual id) callee n q le is = refl
 call_fit p (Invokespecial id) callee n q le is = refl
 call_fit p (Invokestatic id) callee n q le is = refl
-call_fit p i callee n q le is = absurd (cc)
+call_fit p i callee n q le is = absurd (none_is callee n)
 
 -- ---- stretches
 
