@@ -18,3 +18,4 @@ pub mod CallStep
 pub mod Begins
 pub mod Whole
 pub mod Same
+pub mod Tally

@@ -26,6 +26,7 @@ use Rattle.kilim_woven_runs.specs.Fibers.{Fib, Fiber_at, Rec, Saved, is_rewindin
 use Rattle.kilim_woven_runs.specs.Form.{Facts, HasAt, Members, Starts}
 use Rattle.kilim_woven_runs.specs.Links.{IsReference, Forms, code, plan_of}
 use Rattle.kilim_fits.specs.Fits.{AreThere, IsThere}
+use Rattle.kilim_woven_simulation.proofs.Tally as tally
 use Rattle.kilim_woven_simulation.proofs.Still.{StepIsKnown}
 use Rattle.kilim_jvm_interp.specs.Step.{stack_limit}
 use Rattle.kilim_woven_simulation.proofs.Added as add
@@ -193,26 +194,29 @@ module _ (set : Setting) (W : Program) (marks : List (List Bool)) (most : ℕ) (
       let h = h0.1 in
       let room2 = (facts m).room calls in
       let high = (facts m).higher calls in
+      let old_limit = stack_limit set.program m in
+      let limit = stack_limit W m in
       let f = Fiber_at lo (Saved p0 y0 vs) de re pa in
       let old = get_within l0 L (by_room (form m).method.is_static room2) in
       let l1 = slice_set l0 L value.Fiber in
       let rest = load_fiber x ∷ calls_member x 0 ∷ switch_item x ∷ h0.0 in
-      let r1 = goes (keep_self x rest) c 0 h.0 (instr.Aload F) false l0 [] l0 (value.Fiber ∷ []) l1 [] b f f w ps h.1 refl (add.aload W (own_of W m) h.0 l0 [] w.heap F value.Fiber e add.fiber_is_reference) (omega (arith, high)) tt
-      (goes (keep_self x rest) (suc c) h.0 h.2.0 (instr.Astore L) false l0 (value.Fiber ∷ []) l1 [] l1 [] b f f w ps h.2.1 refl (add.astore W (own_of W m) h.2.0 l0 [] w.heap L value.Fiber old.0 old.1 add.fiber_is_reference) (omega arith) (tt, tt)
+      let r1 = goes (keep_self x rest) c 0 h.0 (instr.Aload F) false l0 [] l0 (value.Fiber ∷ []) l1 [] b f f w ps h.1 refl (add.aload W (own_of W m) h.0 l0 [] w.heap F value.Fiber e add.fiber_is_reference) (tally.has_one old_limit limit high) tt
+      (goes (keep_self x rest) (suc c) h.0 h.2.0 (instr.Astore L) false l0 (value.Fiber ∷ []) l1 [] l1 [] b f f w ps h.2.1 refl (add.astore W (own_of W m) h.2.0 l0 [] w.heap L value.Fiber old.0 old.1 add.fiber_is_reference) (tally.none_within limit) (tt, tt)
       (here (keep_self x rest) (suc (suc c)) h.2.0 l1 [] b f w ps h.2.2)) in
       let le = length-set l0 L value.Fiber in
       let r2 = keeps_self y l0 l1 rest r1.count r1.place b f w ps (set_same l0 L value.Fiber (by_room (form m).method.is_static room2)) (λ k u. set_other l0 L k value.Fiber (λ v. omega (arith, u, v))) le
-      (λ z. set_other l0 L 0 value.Fiber (λ v. not_zero v) ∙ first z) is (by_both (form m).method.is_static room2 le) r1.has (omega (arith, high)) self_there in
+      (λ z. set_other l0 L 0 value.Fiber (λ v. not_zero v) ∙ first z) is (by_both (form m).method.is_static room2 le) r1.has (tally.has_one old_limit limit high) self_there in
       let l2 = r2.0 in
       let t2 = r2.2 in
       let g = t2.has in
-      let t3 = stretch.fiber_goes set W marks most Q runs members form facts m (switch_item x ∷ h0.0) t2.count t2.place g.0 l2 [] l2 (value.Int (pos (place_while re p0)) ∷ []) b f f w ps r2.1.fiber g.1 (omega (arith, high)) tt
+      let t3 = stretch.fiber_goes set W marks most Q runs members form facts m (switch_item x ∷ h0.0) t2.count t2.place g.0 l2 [] l2 (value.Int (pos (place_while re p0)) ∷ []) b f f w ps r2.1.fiber g.1 (tally.above_none old_limit limit high) tt
       (stretch.member_goes set W marks most Q runs members form facts m (switch_item x ∷ h0.0) (suc t2.count) g.0 g.2.0 (instr.Invokevirtual (member set.program 0)) (member set.program 0) (value.Fiber ∷ []) Pc l2 (value.Fiber ∷ []) [] l2 (value.Int (pos (place_while re p0)) ∷ []) b f f f (Some (value.Int (pos (place_while re p0)))) w ps g.2.1
-      (members.alone 0 Pc refl refl (own_of W m) g.2.0 l2 [] w.heap) (members.named 0 Pc refl) refl (omega (arith, high)) (tt, tt)
+      (members.alone 0 Pc refl refl (own_of W m) g.2.0 l2 [] w.heap) (members.named 0 Pc refl) refl (tally.above_none old_limit limit high) (tt, tt)
       (here (switch_item x ∷ h0.0) (suc (suc t2.count)) g.2.0 l2 (value.Int (pos (place_while re p0)) ∷ []) b f w ps g.2.2)) in
       let u = t3.has in
       let sw = instr.Tableswitch ((form m).at 0) (pos 1) (resume_places x 1 (form m).method.code) in
-      let a1 = r1.few in let a2 = t2.few in let a3 = t3.few in
+      let far2 = tally.joined c 0 r1.count r1.place t2.count t2.place r1.few t2.few in
+      let far3 = tally.joined c 0 t2.count t2.place t3.count t3.place far2 t3.few in
       let a4 = (facts m).grows t3.place u.0 sw false u.1 in
       record {
         locals = l2;
@@ -221,11 +225,11 @@ module _ (set : Setting) (W : Program) (marks : List (List Bool)) (most : ℕ) (
         switch = t3.place;
         last = u.0;
         is_switch = u.1;
-        few = omega (arith, a1, a2, a3, a4);
+        few = tally.last_more c t3.count t3.place u.0 far3 a4;
         way = path.joins set W marks most Q runs r1.way (path.joins set W marks most Q runs t2.way (path.joins set W marks most Q runs t3.way
             (path.one set W marks most Q runs t3.count m t3.place l2 (value.Int (pos (place_while re p0)) ∷ []) b f w ps sw u.0 false (Goes (goes_by (place_while re p0)) l2 [] w.heap) u.1 refl
             (add.table W (own_of W m) u.0 l2 [] w.heap ((form m).at 0) (resume_places x 1 (form m).method.code) (place_while re p0))
-            (path.goes_room set.program W m b w.heap (goes_by (place_while re p0)) l2 [] w.heap (omega arith)) (tt, tt) (λ on. (on, refl, refl)))));
+            (path.goes_room set.program W m b w.heap (goes_by (place_while re p0)) l2 [] w.heap (tally.none_within limit)) (tt, tt) (λ on. (on, refl, refl)))));
       }
     where
       by_room : (a : Bool) → L + (if a then 1 else 2) ≤ slots_in (method_at W m) → L < length l0

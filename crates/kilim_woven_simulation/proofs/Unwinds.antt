@@ -28,6 +28,7 @@ use Rattle.kilim_fits.specs.Fits.{AreThere, IsThere}
 use Rattle.kilim_woven_simulation.proofs.Still.{StepIsKnown, return_still}
 use Rattle.kilim_jvm_interp.specs.Step.{CallerFits, stack_limit}
 use Rattle.kilim_woven_simulation.proofs.Held.{MaybeThere, all_there, dummy_there, pushed_there}
+use Rattle.kilim_woven_simulation.proofs.Tally as tally
 use Rattle.kilim_woven_simulation.proofs.Added as add
 use Rattle.kilim_woven_simulation.proofs.Paths as path
 use Rattle.kilim_woven_simulation.proofs.Stretches as stretch
@@ -84,9 +85,9 @@ module _ (set : Setting) (W : Program) (marks : List (List Bool)) (most : ℕ) (
         let g2 = (facts m).grows h.0 h.2.0 (return_of t) false h.2.1 in
         let g3 = (facts m).within h.0 h.2.0 (return_of t) h.2.1 in (
           path.joins set W marks most Q runs
-              (path.one set W marks most Q runs c m q l [] b f w ps (dummy_of t) h.0 false (Goes h.0 l (dummy_value t ∷ []) w.heap) h.1 refl (pushes t) (path.goes_room set.program W m b w.heap h.0 l (dummy_value t ∷ []) w.heap (omega (arith, low))) tt (λ on. (on, refl, refl)))
+              (path.one set W marks most Q runs c m q l [] b f w ps (dummy_of t) h.0 false (Goes h.0 l (dummy_value t ∷ []) w.heap) h.1 refl (pushes t) (path.goes_room set.program W m b w.heap h.0 l (dummy_value t ∷ []) w.heap low) tt (λ on. (on, refl, refl)))
               (path.one set W marks most Q runs (suc c) m h.0 l (dummy_value t ∷ []) b f w ps (return_of t) h.2.0 false (Returns (Some (dummy_value t)) w.heap) h.2.1 refl (returns t) (record { unstuck = refl; fits = caller; result = tt }, tt, tt) (dummy_there w.heap t, tt) (return_still set W marks (Some (dummy_value t)) b f w ps kept)),
-          omega (arith, g1, g2, g3),
+          tally.two_within q h.0 h.2.0 longest g1 g2 g3,
           wide t,
         )
       where
@@ -110,20 +111,20 @@ module _ (set : Setting) (W : Program) (marks : List (List Bool)) (most : ℕ) (
     returns_dummy None rest c q l b f w ps h low caller kept =
         let g1 = (facts m).grows q h.0 instr.Return false h.1 in
         let g3 = (facts m).within q h.0 instr.Return h.1 in
-        (None, tt, suc c, omega (arith, g1, g3), path.one set W marks most Q runs c m q l [] b f w ps instr.Return h.0 false (Returns None w.heap) h.1 refl (add.return W (own_of W m) h.0 l [] w.heap) (record { unstuck = refl; fits = tt; result = tt }, tt, tt) tt (return_still set W marks None b f w ps kept), tt)
+        (None, tt, suc c, tally.one_more c q h.0 longest g1 g3, path.one set W marks most Q runs c m q l [] b f w ps instr.Return h.0 false (Returns None w.heap) h.1 refl (add.return W (own_of W m) h.0 l [] w.heap) (record { unstuck = refl; fits = tt; result = tt }, tt, tt) tt (return_still set W marks None b f w ps kept), tt)
     returns_dummy (Some ty) rest c q l b f w ps h low caller kept =
         let r = returns_by (vtype ty) rest c q l b f w ps h low caller kept in
         let g = r.1 in
-        (Some (dummy_value (vtype ty)), r.2, suc (suc c), omega (arith, g), r.0, dummy_there w.heap (vtype ty))
+        (Some (dummy_value (vtype ty)), r.2, suc (suc c), tally.two_more c q longest g, r.0, dummy_there w.heap (vtype ty))
 
     numbers : (n : ℕ) (rest : List Item) (c q : ℕ) (l : List Value) (b : List Activation) (f : Fib) (w : World) (ps : List ℕ) → has q (number_item n ∷ rest) → 1 ≤ stack_limit W m
         → Reach rest c q (WRun m q l [] b f w ps) l (value.Int (pos n) ∷ []) b f w ps
     numbers n rest c q l b f w ps h low = by (nat_le n 5) (nat_le n 127) h
       where
         by : (a d : Bool) → has q ((cond a (added (instr.Iconst (pos n)) 1) (cond d (added (instr.Bipush (pos n)) 2) (added (instr.Sipush (pos n)) 3))) ∷ rest) → Reach rest c q (WRun m q l [] b f w ps) l (value.Int (pos n) ∷ []) b f w ps
-        by true d h = goes rest c q h.0 (instr.Iconst (pos n)) false l [] l (value.Int (pos n) ∷ []) l (value.Int (pos n) ∷ []) b f f w ps h.1 refl (add.iconst W (own_of W m) h.0 l [] w.heap (pos n)) (omega (arith, low)) tt (here rest (suc c) h.0 l (value.Int (pos n) ∷ []) b f w ps h.2)
-        by false true h = goes rest c q h.0 (instr.Bipush (pos n)) false l [] l (value.Int (pos n) ∷ []) l (value.Int (pos n) ∷ []) b f f w ps h.1 refl (add.bipush W (own_of W m) h.0 l [] w.heap (pos n)) (omega (arith, low)) tt (here rest (suc c) h.0 l (value.Int (pos n) ∷ []) b f w ps h.2)
-        by false false h = goes rest c q h.0 (instr.Sipush (pos n)) false l [] l (value.Int (pos n) ∷ []) l (value.Int (pos n) ∷ []) b f f w ps h.1 refl (add.sipush W (own_of W m) h.0 l [] w.heap (pos n)) (omega (arith, low)) tt (here rest (suc c) h.0 l (value.Int (pos n) ∷ []) b f w ps h.2)
+        by true d h = goes rest c q h.0 (instr.Iconst (pos n)) false l [] l (value.Int (pos n) ∷ []) l (value.Int (pos n) ∷ []) b f f w ps h.1 refl (add.iconst W (own_of W m) h.0 l [] w.heap (pos n)) low tt (here rest (suc c) h.0 l (value.Int (pos n) ∷ []) b f w ps h.2)
+        by false true h = goes rest c q h.0 (instr.Bipush (pos n)) false l [] l (value.Int (pos n) ∷ []) l (value.Int (pos n) ∷ []) b f f w ps h.1 refl (add.bipush W (own_of W m) h.0 l [] w.heap (pos n)) low tt (here rest (suc c) h.0 l (value.Int (pos n) ∷ []) b f w ps h.2)
+        by false false h = goes rest c q h.0 (instr.Sipush (pos n)) false l [] l (value.Int (pos n) ∷ []) l (value.Int (pos n) ∷ []) b f f w ps h.1 refl (add.sipush W (own_of W m) h.0 l [] w.heap (pos n)) low tt (here rest (suc c) h.0 l (value.Int (pos n) ∷ []) b f w ps h.2)
 
     -- the frame's receiver, or null
     selves : (l0 l s : List Value) (y : Value) (rest : List Item) (c q : ℕ) (b : List Activation) (f : Fib) (w : World) (ps : List ℕ) → Holds set W marks form m l0 l y → has q (self_item x ∷ rest) → suc (length s) ≤ stack_limit W m → AreThere w.heap s
@@ -132,15 +133,17 @@ module _ (set : Setting) (W : Program) (marks : List (List Bool)) (most : ℕ) (
       where
         by : (a : Bool) → (a ≡ false → slice_get l (self_slot (form m).method) ≡ Some y) → (a ≡ true → y ≡ value.Null) → has q ((cond a (added instr.AconstNull 1) (added (instr.Aload (self_slot (form m).method)) (local_size (self_slot (form m).method)))) ∷ rest) → Reach rest c q (WRun m q l s b f w ps) l (y ∷ s) b f w ps
         by true a z h = goes rest c q h.0 instr.AconstNull false l s l (y ∷ s) l (y ∷ s) b f f w ps h.1 refl
-            (subst (λ (u : Value). does W (own_of W m) instr.AconstNull h.0 l s w.heap ≡ Goes h.0 l (u ∷ s) w.heap) (sym (z refl)) (add.null_const W (own_of W m) h.0 l s w.heap)) (omega (arith, low)) th (here rest (suc c) h.0 l (y ∷ s) b f w ps h.2)
+            (subst (λ (u : Value). does W (own_of W m) instr.AconstNull h.0 l s w.heap ≡ Goes h.0 l (u ∷ s) w.heap) (sym (z refl)) (add.null_const W (own_of W m) h.0 l s w.heap)) low th (here rest (suc c) h.0 l (y ∷ s) b f w ps h.2)
         by false a z h = goes rest c q h.0 (instr.Aload (self_slot (form m).method)) false l s l (y ∷ s) l (y ∷ s) b f f w ps h.1 refl
-            (add.aload W (own_of W m) h.0 l s w.heap (self_slot (form m).method) y (a refl) holds.is_reference) (omega (arith, low)) th (here rest (suc c) h.0 l (y ∷ s) b f w ps h.2)
+            (add.aload W (own_of W m) h.0 l s w.heap (self_slot (form m).method) y (a refl) holds.is_reference) low th (here rest (suc c) h.0 l (y ∷ s) b f w ps h.2)
 
     -- the end of a group: saves, the place, the return
     leaves : (rest : List Item) (n : ℕ) (callee : Method) (from to : ℕ) (l0 l s : List Value) (y : Value) (c q : ℕ) (b : List Activation) (lo : List Rec) (p0 : ℕ) (y0 : Value) (de : List Rec) (re pa : Bool) (w : World) (ps : List ℕ)
         → Holds set W marks form m l0 l y → AllFit W w.heap (below x callee from) s → SlotsFit W w.heap (saved x from to) l → has q (leave x n callee from to rest) → length s + 4 ≤ stack_limit W m → CallerFits W b → IsThere w.heap y → w.kept ≡ None
         → Returned m c q (WRun m q l s b (Fiber_at lo (Saved p0 y0 []) de re pa) w ps) b (Fiber_at lo (Saved n y (kept_slots (saved x from to) l (kept_stack (below x callee from) s []))) de re pa) w ps
     leaves rest n callee from to l0 l s y c q b lo p0 y0 de re pa w ps holds fits slots h low caller self_there kept =
+        let sl = length s in
+        let limit = stack_limit W m in
         let vs = kept_stack (below x callee from) s [] in
         let us = kept_slots (saved x from to) l vs in
         let i3 = load_fiber x ∷ calls_static x 6 ∷ dummy_return x.method.result rest in
@@ -148,23 +151,26 @@ module _ (set : Setting) (W : Program) (marks : List (List Bool)) (most : ℕ) (
         let i1 = number_item n ∷ i2 in
         let f1 = Fiber_at lo (Saved p0 y0 us) de re pa in
         let f2 = Fiber_at lo (Saved n y us) de re pa in
-        let r1 = stretch.saves_stack set W marks most Q runs members form facts m (below x callee from) (save_locals x (saved x from to) i1) c q l s b lo p0 y0 [] de re pa w ps holds.fiber fits h (omega (arith, low)) in
-        let r2 = stretch.saves_locals set W marks most Q runs members form facts m (saved x from to) i1 r1.count r1.place l b lo p0 y0 vs de re pa w ps holds.fiber slots r1.has (omega (arith, low)) in
-        let r3 = numbers n i2 r2.count r2.place l b f1 w ps r2.has (omega (arith, low)) in
-        let r4 = selves l0 l (value.Int (pos n) ∷ []) y i3 r3.count r3.place b f1 w ps holds r3.has (omega (arith, low)) (tt, tt) in
+        let r1 = stretch.saves_stack set W marks most Q runs members form facts m (below x callee from) (save_locals x (saved x from to) i1) c q l s b lo p0 y0 [] de re pa w ps holds.fiber fits h (tally.has_next sl limit low) in
+        let r2 = stretch.saves_locals set W marks most Q runs members form facts m (saved x from to) i1 r1.count r1.place l b lo p0 y0 vs de re pa w ps holds.fiber slots r1.has (tally.has_two sl limit low) in
+        let r3 = numbers n i2 r2.count r2.place l b f1 w ps r2.has (tally.has_one sl limit low) in
+        let r4 = selves l0 l (value.Int (pos n) ∷ []) y i3 r3.count r3.place b f1 w ps holds r3.has (tally.has_two sl limit low) (tt, tt) in
         let h4 = r4.has in
-        let r5 = stretch.fiber_goes set W marks most Q runs members form facts m (dummy_return x.method.result rest) r4.count r4.place h4.0 l (y ∷ value.Int (pos n) ∷ []) l [] b f1 f2 w ps holds.fiber h4.1 (omega (arith, low)) (self_there, (tt, tt))
+        let r5 = stretch.fiber_goes set W marks most Q runs members form facts m (dummy_return x.method.result rest) r4.count r4.place h4.0 l (y ∷ value.Int (pos n) ∷ []) l [] b f1 f2 w ps holds.fiber h4.1 (tally.above_two sl limit low) (self_there, (tt, tt))
         (stretch.member_goes set W marks most Q runs members form facts m (dummy_return x.method.result rest) (suc r4.count) h4.0 h4.2.0 (instr.Invokestatic (member set.program 6)) (member set.program 6) (value.Int (pos n) ∷ y ∷ value.Fiber ∷ []) Place l (value.Fiber ∷ y ∷ value.Int (pos n) ∷ []) [] l [] b f1 f2 f2 None w ps h4.2.1
-        (members.place (own_of W m) h4.2.0 (value.Int (pos n)) y l [] w.heap) (members.named 6 Place refl) refl (omega (arith, low)) (tt, (self_there, (tt, tt)))
+        (members.place (own_of W m) h4.2.0 (value.Int (pos n)) y l [] w.heap) (members.named 6 Place refl) refl (tally.above_none sl limit low) (tt, (self_there, (tt, tt)))
         (here (dummy_return x.method.result rest) (suc (suc r4.count)) h4.2.0 l [] b f2 w ps h4.2.2)) in
-        let z = returns_dummy x.method.result rest r5.count r5.place l b f2 w ps r5.has (omega (arith, low)) caller kept in
-        let a1 = r1.few in let a2 = r2.few in let a3 = r3.few in let a4 = r4.few in let a5 = r5.few in let a6 = z.3 in
+        let z = returns_dummy x.method.result rest r5.count r5.place l b f2 w ps r5.has (tally.has_one sl limit low) caller kept in
+        let far2 = tally.joined c q r1.count r1.place r2.count r2.place r1.few r2.few in
+        let far3 = tally.joined c q r2.count r2.place r3.count r3.place far2 r3.few in
+        let far4 = tally.joined c q r3.count r3.place r4.count r4.place far3 r4.few in
+        let far5 = tally.joined c q r4.count r4.place r5.count r5.place far4 r5.few in
         record {
           result = z.0;
           drops = z.1;
           held = z.5;
           count = z.2;
-          few = omega (arith, a1, a2, a3, a4, a5, a6);
+          few = tally.joined c q r5.count r5.place z.2 longest far5 z.3;
           way = path.joins set W marks most Q runs r1.way (path.joins set W marks most Q runs r2.way (path.joins set W marks most Q runs r3.way (path.joins set W marks most Q runs r4.way (path.joins set W marks most Q runs r5.way z.4))));
         }
 
@@ -212,26 +218,31 @@ module _ (set : Setting) (W : Program) (marks : List (List Bool)) (most : ℕ) (
       let low = good.4 in
       let high = (facts m).higher g.has_calls in
       let pushed = push_low v s in
+      let sl = length s in
+      let ps_length = length (push v s) in
+      let old_limit = stack_limit set.program m in
+      let limit = stack_limit W m in
+      let below_limit = tally.pushed_below ps_length sl old_limit limit pushed low high in
       let th = pushed_there w.heap v s held (all_there W w.heap (below xx callee from) s fit.0) in
       let tail = leave xx ((form m).number from) callee from to g.up_rest in
       let f0 = Fiber_at (Saved old was [] ∷ lo) (first_record set W marks form box ks) (next_records set W marks form box ks) false true in
       let f1 = Fiber_at lo (Saved old was []) de false true in
       let q = (form m).up_at from in
       let d0 = drop_result callee.result tail in
-      let r1 = stretch.fiber_goes set W marks most Q runs members form facts m d0 c q h.0 wl (push v s) wl (push v s) b f0 f1 w ps good.3.fiber h.1 (omega (arith, low, high, pushed)) th
+      let r1 = stretch.fiber_goes set W marks most Q runs members form facts m d0 c q h.0 wl (push v s) wl (push v s) b f0 f1 w ps good.3.fiber h.1 below_limit th
       (stretch.member_goes set W marks most Q runs members form facts m d0 (suc c) h.0 h.2.0 (instr.Invokevirtual (member set.program 2)) (member set.program 2) (value.Fiber ∷ []) Up wl (value.Fiber ∷ push v s) (push v s) wl (push v s) b f0 f1 f1 (Some (value.Int (pos 1))) w ps h.2.1
-      (members.alone 2 Up refl refl (own_of W m) h.2.0 wl (push v s) w.heap) (members.named 2 Up refl) refl (omega (arith, low, high, pushed)) (tt, th)
+      (members.alone 2 Up refl refl (own_of W m) h.2.0 wl (push v s) w.heap) (members.named 2 Up refl) refl below_limit (tt, th)
       (goes m d0 (suc (suc c)) h.2.0 h.2.2.0 (instr.Ifeq ((form m).at to)) false wl (value.Int (pos 1) ∷ push v s) wl (push v s) wl (push v s) b f1 f1 w ps h.2.2.1 refl
-      (add.if_one W (own_of W m) h.2.2.0 wl (push v s) w.heap ((form m).at to)) (omega (arith, low, high, pushed)) (tt, th) (here m d0 (suc (suc (suc c))) h.2.2.0 wl (push v s) b f1 w ps h.2.2.2))) in
-      let r2 = drops m callee.result v tail r1.count r1.place wl s b f1 w ps e r1.has (omega (arith, low, high)) th in
-      let z = leaves m g.up_rest ((form m).number from) callee from to l wl s self r2.count r2.place b lo old was de false true w ps good.3 fit.0 (slots_alike w.heap (saved xx from to) l wl good.2 fit.1) r2.has (omega (arith, low, high)) (callers_fit links goods) fit.7 kept in
-      let a1 = r1.few in let a2 = r2.few in let a3 = z.few in
+      (add.if_one W (own_of W m) h.2.2.0 wl (push v s) w.heap ((form m).at to)) (tally.pushed_within ps_length sl old_limit limit pushed low high) (tt, th) (here m d0 (suc (suc (suc c))) h.2.2.0 wl (push v s) b f1 w ps h.2.2.2))) in
+      let r2 = drops m callee.result v tail r1.count r1.place wl s b f1 w ps e r1.has (tally.within sl old_limit limit low high) th in
+      let z = leaves m g.up_rest ((form m).number from) callee from to l wl s self r2.count r2.place b lo old was de false true w ps good.3 fit.0 (slots_alike w.heap (saved xx from to) l wl good.2 fit.1) r2.has (tally.four_within sl old_limit limit low high) (callers_fit links goods) fit.7 kept in
+      let far2 = tally.joined c q r1.count r1.place r2.count r2.place r1.few r2.few in
       record {
         result = z.result;
         drops = z.drops;
         held = z.held;
         count = z.count;
-        few = omega (arith, a1, a2, a3);
+        few = tally.joined c q r2.count r2.place z.count longest far2 z.few;
         way = path.joins set W marks most Q runs r1.way (path.joins set W marks most Q runs r2.way z.way);
       }
 
