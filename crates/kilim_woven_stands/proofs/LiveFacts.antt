@@ -23,6 +23,9 @@ use Rattle.kilim_typing_laws.proofs.Tops.{passed, read_has_type, top_flows, top_
 use Rattle.kilim_woven_form.specs.Woven.{pausable_callee, saved_from}
 use Rattle.kilim_woven_runs.specs.Form.{Among_slots, sets}
 
+none_is : {A : Type 0} (a : A) → None ≡ Some a → ⊥
+none_is a e = cc
+
 -- ---- what a store of a long leaves
 
 poked_there : (ts : List VType) (k : ℕ) (t : VType) → peek (poke ts k t) k ≡ t
@@ -62,7 +65,7 @@ written (Lstore n) k e = by (n == k) refl e
     by : (b : Bool) → (n == k) ≡ b → (b || (suc n == k)) ≡ true → Written k (Lstore n)
     by true h e = IsSet h
     by false h e = IsHalf n e
-written i k e = absurd (cc)
+written i k e = absurd (false≢true e)
 
 -- a call writes no local, and control goes on behind it
 call_goes : (p : Program) (i : Instr) (callee : Method) → pausable_callee p i ≡ Some callee → (ends_path i ≡ false) × ((k : ℕ) → writes i k ≡ false)
@@ -70,7 +73,7 @@ unfolding ends_path
 call_goes p (Invokevirtual id) callee h = (refl, λ k. refl)
 call_goes p (Invokespecial id) callee h = (refl, λ k. refl)
 call_goes p (Invokestatic id) callee h = (refl, λ k. refl)
-call_goes p i callee h = absurd (cc)
+call_goes p i callee h = absurd (none_is callee h)
 
 -- ---- what is saved
 

@@ -60,6 +60,9 @@ falls true e b c = absurd (false≢true (sym e))
 falls false e true c = refl
 falls false e false c = refl
 
+none_is : {A : Type 0} (a : A) → None ≡ Some a → ⊥
+none_is a e = cc
+
 plain_of : (o : Option Method) (a : Method) → o ≡ Some a → if_there o ≡ None → a.pausable ≡ false
 plain_of o a e h = by a.pausable (sym (ap if_there e) ∙ h)
   where
@@ -272,7 +275,7 @@ module _ (set : Setting) (W : Program) (counted : List (List Bool)) (keeps : Kee
 
       not_virtual : (j k : MethodId) → instr.Invokestatic j ≡ instr.Invokevirtual k → ⊥
       not_virtual j k e = absurd (cc)
-  callees m p to i id h hn hp = absurd (cc)
+  callees m p to i id h hn hp = absurd (none_is id hn)
 
   -- ---- what calls call
 
@@ -297,7 +300,7 @@ module _ (set : Setting) (W : Program) (counted : List (List Bool)) (keeps : Kee
       let e : k ≡ id = same_Some k id hn in
       let at_k = ap (method_at P) e ∙ at in
       code.called_static (Pauses a.pausable) P to l heap (own_of P m) k a s at_k (a, at_k, refl)
-  called m p to i id a l s heap h hn at clean = absurd (cc)
+  called m p to i id a l s heap h hn at clean = absurd (none_is id hn)
 
   -- a native that is asked for is none of the fiber's, and pauses where its method does
   asked : (c : MethodId) (m : Method) → method_at P c ≡ Some m → (member_of W c ≡ None) × ((n : Native) → native_of P c ≡ Some n → is_pausing_native n ≡ m.pausable)
@@ -325,13 +328,13 @@ module _ (set : Setting) (W : Program) (counted : List (List Bool)) (keeps : Kee
   named_there m p to (instr.Invokestatic k) id h hn =
       let u = there_of m p (instr.Invokestatic k, to) h in
       let n = code.names_static P keeps typed m u.0 u.1 p to k u.2 in (n.0, ap (method_at P) (sym (same_Some k id hn)) ∙ n.1)
-  named_there m p to i id h hn = absurd (cc)
+  named_there m p to i id h hn = absurd (none_is id hn)
 
   callee_by : (i : Instr) (id : MethodId) → named i ≡ Some id → pausable_callee P i ≡ if_there (method_at P id)
   callee_by (instr.Invokevirtual k) id hn = ap (λ (z : MethodId). if_there (method_at P z)) (same_Some k id hn)
   callee_by (instr.Invokespecial k) id hn = ap (λ (z : MethodId). if_there (method_at P z)) (same_Some k id hn)
   callee_by (instr.Invokestatic k) id hn = ap (λ (z : MethodId). if_there (method_at P z)) (same_Some k id hn)
-  callee_by i id hn = absurd (cc)
+  callee_by i id hn = absurd (none_is id hn)
 
   calls : (m : MethodId) (p to : ℕ) (i : Instr) (id : MethodId) (l s : List Value) (heap : Objects) → fetch P m p ≡ Some (i, to) → named i ≡ Some id → pausable_callee P i ≡ None → IsClean P i s heap
       → (c : MethodId) (args : List Value) (q : ℕ) (l2 s2 : List Value) (h2 : Objects) → does P (own_of P m) i to l s heap ≡ Calls c args q l2 s2 h2 → is_pausable P c ≡ false
@@ -418,7 +421,7 @@ module _ (set : Setting) (W : Program) (counted : List (List Bool)) (keeps : Kee
       let a = callee_is P k callee hp in
       let g = subst (λ (z : Effect). AllCalled (Pauses a.0.pausable) z) e (called m p to (instr.Invokestatic k) k a.0 l s heap h refl a.1 clean) in
       let r = asked c g.0 g.1 in (r.0, λ n x. r.1 n x ∙ g.2 ∙ a.2)
-  pausing_natives m p i callee to l s s2 args heap c h hp clean e = absurd (cc)
+  pausing_natives m p i callee to l s s2 args heap c h hp clean e = absurd (none_is callee hp)
 
   same_natives : (c : MethodId) → member_of W c ≡ None → native_of W c ≡ native_of P c
   same_natives c none = by (method_at P c) refl
