@@ -4,3 +4,4 @@ pub mod Showing
 pub mod Pieces
 pub mod Order
 pub mod Sizes
+pub mod Unmoved

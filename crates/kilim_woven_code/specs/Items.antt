@@ -1,7 +1,7 @@
 -- Which items of woven code those of a list stand for.
-use Rattle.std.specs.Prelude.{ℕ, ◌+◌, ◌*◌, Bool, true, false, List, [], ◌∷◌}
+use Rattle.std.specs.Prelude.{◌≡◌, ℕ, ◌+◌, ◌*◌, Bool, true, false, List, [], ◌∷◌}
 use Rattle.kilim_classes.specs.declared.instr.Instr.{Instr}
-use Rattle.kilim_classes.specs.declared.instr.Instr.TheVariants.{Iload, Lload, Aload, Istore, Lstore, Astore, Tableswitch, Lookupswitch}
+use Rattle.kilim_classes.specs.declared.instr.Instr.TheVariants.{Iload, Lload, Aload, Istore, Lstore, Astore, Tableswitch, Lookupswitch, Ifeq, Ifne, Iflt, Ifge, Ifgt, Ifle, Goto, Ifnull, Ifnonnull, GotoW, IfIcmpeq, IfIcmpne, IfIcmplt, IfIcmpge, IfIcmpgt, IfIcmple, IfAcmpeq, IfAcmpne}
 use Rattle.kilim_classes.specs.Lengths.{switch_padding}
 use Rattle.kilim_woven_form.specs.Woven as form
 use Rattle.kilim_woven_code.specs.declared.item.Item.{Item}
@@ -46,3 +46,53 @@ is_kept (Astore slot) = false
 is_kept (Tableswitch default low targets) = false
 is_kept (Lookupswitch default pairs) = false
 is_kept i = true
+
+-- whether an instruction has a target
+abbrev pub has_target : Instr → Bool
+has_target (Ifeq to) = true
+has_target (Ifne to) = true
+has_target (Iflt to) = true
+has_target (Ifge to) = true
+has_target (Ifgt to) = true
+has_target (Ifle to) = true
+has_target (Goto to) = true
+has_target (Ifnull to) = true
+has_target (Ifnonnull to) = true
+has_target (GotoW to) = true
+has_target (IfIcmpeq to) = true
+has_target (IfIcmpne to) = true
+has_target (IfIcmplt to) = true
+has_target (IfIcmpge to) = true
+has_target (IfIcmpgt to) = true
+has_target (IfIcmple to) = true
+has_target (IfAcmpeq to) = true
+has_target (IfAcmpne to) = true
+has_target (Tableswitch default low targets) = true
+has_target (Lookupswitch default pairs) = true
+has_target i = false
+
+-- where a jump goes, 0 for others
+abbrev pub target_of : Instr → ℕ
+target_of (Ifeq to) = to
+target_of (Ifne to) = to
+target_of (Iflt to) = to
+target_of (Ifge to) = to
+target_of (Ifgt to) = to
+target_of (Ifle to) = to
+target_of (Goto to) = to
+target_of (Ifnull to) = to
+target_of (Ifnonnull to) = to
+target_of (GotoW to) = to
+target_of (IfIcmpeq to) = to
+target_of (IfIcmpne to) = to
+target_of (IfIcmplt to) = to
+target_of (IfIcmpge to) = to
+target_of (IfIcmpgt to) = to
+target_of (IfIcmple to) = to
+target_of (IfAcmpeq to) = to
+target_of (IfAcmpne to) = to
+target_of i = 0
+
+-- i is j with its target moved, wherever that of j comes to stand at this place
+abbrev pub Moves : ℕ → Instr → Instr → Type 0
+Moves to i j = (at : ℕ → ℕ) → at (target_of j) ≡ to → i ≡ form.moved_instr at j

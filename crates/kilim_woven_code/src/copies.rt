@@ -5,47 +5,98 @@ ghost use Rattle.std.specs.Prelude.{◌≡◌, IfOk};
 use kilim_classes::Instr;
 use kilim_units::NoMemory;
 
-/// The same instruction.
-pub fn copied(instr: &Instr) -> Result<Instr, NoMemory>
+// One that holds a constant of the pool or targets. None other is left.
+fn copied_owner(instr: &Instr) -> Result<Instr, NoMemory>
     ensures { IfOk result (λ i. i ≡ instr.now) }
 {
     match instr {
-        Instr::Nop => Ok(Instr::Nop),
-        Instr::AconstNull => Ok(Instr::AconstNull),
+        Instr::Ldc(value) => {
+            let load = value.clone()?;
+            Ok(Instr::Ldc(load))
+        }
+        Instr::LdcW(value) => {
+            let wide = value.clone()?;
+            Ok(Instr::LdcW(wide))
+        }
+        Instr::Ldc2W(value) => {
+            let double = value.clone()?;
+            Ok(Instr::Ldc2W(double))
+        }
+        Instr::Tableswitch(default, low, targets) => {
+            let table = targets.clone()?;
+            Ok(Instr::Tableswitch(*default, *low, table))
+        }
+        Instr::Lookupswitch(default, pairs) => {
+            let lookup = pairs.clone()?;
+            Ok(Instr::Lookupswitch(*default, lookup))
+        }
+        _ => Err(NoMemory),
+    }
+}
+
+// A jump, or one of those below.
+fn copied_jump(instr: &Instr) -> Result<Instr, NoMemory>
+    ensures { IfOk result (λ i. i ≡ instr.now) }
+{
+    match instr {
+        Instr::Ifeq(to) => Ok(Instr::Ifeq(*to)),
+        Instr::Ifne(to) => Ok(Instr::Ifne(*to)),
+        Instr::Iflt(to) => Ok(Instr::Iflt(*to)),
+        Instr::Ifge(to) => Ok(Instr::Ifge(*to)),
+        Instr::Ifgt(to) => Ok(Instr::Ifgt(*to)),
+        Instr::Ifle(to) => Ok(Instr::Ifle(*to)),
+        Instr::Goto(to) => Ok(Instr::Goto(*to)),
+        Instr::Ifnull(to) => Ok(Instr::Ifnull(*to)),
+        Instr::Ifnonnull(to) => Ok(Instr::Ifnonnull(*to)),
+        Instr::GotoW(to) => Ok(Instr::GotoW(*to)),
+        Instr::IfIcmpeq(to) => Ok(Instr::IfIcmpeq(*to)),
+        Instr::IfIcmpne(to) => Ok(Instr::IfIcmpne(*to)),
+        Instr::IfIcmplt(to) => Ok(Instr::IfIcmplt(*to)),
+        Instr::IfIcmpge(to) => Ok(Instr::IfIcmpge(*to)),
+        Instr::IfIcmpgt(to) => Ok(Instr::IfIcmpgt(*to)),
+        Instr::IfIcmple(to) => Ok(Instr::IfIcmple(*to)),
+        Instr::IfAcmpeq(to) => Ok(Instr::IfAcmpeq(*to)),
+        Instr::IfAcmpne(to) => Ok(Instr::IfAcmpne(*to)),
+        _ => copied_owner(instr),
+    }
+}
+
+// One with a constant, a local, a name or a type, or one of those below.
+fn copied_local(instr: &Instr) -> Result<Instr, NoMemory>
+    ensures { IfOk result (λ i. i ≡ instr.now) }
+{
+    match instr {
         Instr::Iconst(x) => Ok(Instr::Iconst(*x)),
         Instr::Lconst(x) => Ok(Instr::Lconst(*x)),
         Instr::Bipush(x) => Ok(Instr::Bipush(*x)),
         Instr::Sipush(x) => Ok(Instr::Sipush(*x)),
-        Instr::Ldc(value) => Ok(Instr::Ldc(value.clone()?)),
-        Instr::LdcW(value) => Ok(Instr::LdcW(value.clone()?)),
-        Instr::Ldc2W(value) => Ok(Instr::Ldc2W(value.clone()?)),
         Instr::Iload(x) => Ok(Instr::Iload(*x)),
         Instr::Lload(x) => Ok(Instr::Lload(*x)),
         Instr::Aload(x) => Ok(Instr::Aload(*x)),
-        Instr::Iaload => Ok(Instr::Iaload),
-        Instr::Laload => Ok(Instr::Laload),
-        Instr::Aaload => Ok(Instr::Aaload),
-        Instr::Baload => Ok(Instr::Baload),
-        Instr::Caload => Ok(Instr::Caload),
-        Instr::Saload => Ok(Instr::Saload),
         Instr::Istore(x) => Ok(Instr::Istore(*x)),
         Instr::Lstore(x) => Ok(Instr::Lstore(*x)),
         Instr::Astore(x) => Ok(Instr::Astore(*x)),
-        Instr::Iastore => Ok(Instr::Iastore),
-        Instr::Lastore => Ok(Instr::Lastore),
-        Instr::Aastore => Ok(Instr::Aastore),
-        Instr::Bastore => Ok(Instr::Bastore),
-        Instr::Castore => Ok(Instr::Castore),
-        Instr::Sastore => Ok(Instr::Sastore),
-        Instr::Pop => Ok(Instr::Pop),
-        Instr::Pop2 => Ok(Instr::Pop2),
-        Instr::Dup => Ok(Instr::Dup),
-        Instr::DupX1 => Ok(Instr::DupX1),
-        Instr::DupX2 => Ok(Instr::DupX2),
-        Instr::Dup2 => Ok(Instr::Dup2),
-        Instr::Dup2X1 => Ok(Instr::Dup2X1),
-        Instr::Dup2X2 => Ok(Instr::Dup2X2),
-        Instr::Swap => Ok(Instr::Swap),
+        Instr::Iinc(slot, by) => Ok(Instr::Iinc(*slot, *by)),
+        Instr::Getstatic(x) => Ok(Instr::Getstatic(*x)),
+        Instr::Getfield(x) => Ok(Instr::Getfield(*x)),
+        Instr::Putfield(x) => Ok(Instr::Putfield(*x)),
+        Instr::Invokevirtual(x) => Ok(Instr::Invokevirtual(*x)),
+        Instr::Invokespecial(x) => Ok(Instr::Invokespecial(*x)),
+        Instr::Invokestatic(x) => Ok(Instr::Invokestatic(*x)),
+        Instr::New(x) => Ok(Instr::New(*x)),
+        Instr::Newarray(x) => Ok(Instr::Newarray(*x)),
+        Instr::Anewarray(x) => Ok(Instr::Anewarray(*x)),
+        Instr::Checkcast(x) => Ok(Instr::Checkcast(*x)),
+        Instr::Instanceof(x) => Ok(Instr::Instanceof(*x)),
+        _ => copied_jump(instr),
+    }
+}
+
+// One that computes, or one of those below.
+fn copied_sum(instr: &Instr) -> Result<Instr, NoMemory>
+    ensures { IfOk result (λ i. i ≡ instr.now) }
+{
+    match instr {
         Instr::Iadd => Ok(Instr::Iadd),
         Instr::Ladd => Ok(Instr::Ladd),
         Instr::Isub => Ok(Instr::Isub),
@@ -70,53 +121,50 @@ pub fn copied(instr: &Instr) -> Result<Instr, NoMemory>
         Instr::Lor => Ok(Instr::Lor),
         Instr::Ixor => Ok(Instr::Ixor),
         Instr::Lxor => Ok(Instr::Lxor),
-        Instr::Iinc(slot, by) => Ok(Instr::Iinc(*slot, *by)),
         Instr::I2l => Ok(Instr::I2l),
         Instr::L2i => Ok(Instr::L2i),
         Instr::I2b => Ok(Instr::I2b),
         Instr::I2c => Ok(Instr::I2c),
         Instr::I2s => Ok(Instr::I2s),
         Instr::Lcmp => Ok(Instr::Lcmp),
-        Instr::Ifeq(to) => Ok(Instr::Ifeq(*to)),
-        Instr::Ifne(to) => Ok(Instr::Ifne(*to)),
-        Instr::Iflt(to) => Ok(Instr::Iflt(*to)),
-        Instr::Ifge(to) => Ok(Instr::Ifge(*to)),
-        Instr::Ifgt(to) => Ok(Instr::Ifgt(*to)),
-        Instr::Ifle(to) => Ok(Instr::Ifle(*to)),
-        Instr::IfIcmpeq(to) => Ok(Instr::IfIcmpeq(*to)),
-        Instr::IfIcmpne(to) => Ok(Instr::IfIcmpne(*to)),
-        Instr::IfIcmplt(to) => Ok(Instr::IfIcmplt(*to)),
-        Instr::IfIcmpge(to) => Ok(Instr::IfIcmpge(*to)),
-        Instr::IfIcmpgt(to) => Ok(Instr::IfIcmpgt(*to)),
-        Instr::IfIcmple(to) => Ok(Instr::IfIcmple(*to)),
-        Instr::IfAcmpeq(to) => Ok(Instr::IfAcmpeq(*to)),
-        Instr::IfAcmpne(to) => Ok(Instr::IfAcmpne(*to)),
-        Instr::Goto(to) => Ok(Instr::Goto(*to)),
-        Instr::Tableswitch(default, low, targets) => Ok(Instr::Tableswitch(
-            *default,
-            *low,
-            targets.clone()?,
-        )),
-        Instr::Lookupswitch(default, pairs) => Ok(Instr::Lookupswitch(*default, pairs.clone()?)),
+        _ => copied_local(instr),
+    }
+}
+
+/// The same instruction.
+pub fn copied(instr: &Instr) -> Result<Instr, NoMemory>
+    ensures { IfOk result (λ i. i ≡ instr.now) }
+{
+    match instr {
+        Instr::Nop => Ok(Instr::Nop),
+        Instr::AconstNull => Ok(Instr::AconstNull),
+        Instr::Iaload => Ok(Instr::Iaload),
+        Instr::Laload => Ok(Instr::Laload),
+        Instr::Aaload => Ok(Instr::Aaload),
+        Instr::Baload => Ok(Instr::Baload),
+        Instr::Caload => Ok(Instr::Caload),
+        Instr::Saload => Ok(Instr::Saload),
+        Instr::Iastore => Ok(Instr::Iastore),
+        Instr::Lastore => Ok(Instr::Lastore),
+        Instr::Aastore => Ok(Instr::Aastore),
+        Instr::Bastore => Ok(Instr::Bastore),
+        Instr::Castore => Ok(Instr::Castore),
+        Instr::Sastore => Ok(Instr::Sastore),
+        Instr::Arraylength => Ok(Instr::Arraylength),
         Instr::Ireturn => Ok(Instr::Ireturn),
         Instr::Lreturn => Ok(Instr::Lreturn),
         Instr::Areturn => Ok(Instr::Areturn),
         Instr::Return => Ok(Instr::Return),
-        Instr::Getstatic(x) => Ok(Instr::Getstatic(*x)),
-        Instr::Getfield(x) => Ok(Instr::Getfield(*x)),
-        Instr::Putfield(x) => Ok(Instr::Putfield(*x)),
-        Instr::Invokevirtual(x) => Ok(Instr::Invokevirtual(*x)),
-        Instr::Invokespecial(x) => Ok(Instr::Invokespecial(*x)),
-        Instr::Invokestatic(x) => Ok(Instr::Invokestatic(*x)),
-        Instr::New(x) => Ok(Instr::New(*x)),
-        Instr::Newarray(x) => Ok(Instr::Newarray(*x)),
-        Instr::Anewarray(x) => Ok(Instr::Anewarray(*x)),
-        Instr::Arraylength => Ok(Instr::Arraylength),
-        Instr::Checkcast(x) => Ok(Instr::Checkcast(*x)),
-        Instr::Instanceof(x) => Ok(Instr::Instanceof(*x)),
-        Instr::Ifnull(to) => Ok(Instr::Ifnull(*to)),
-        Instr::Ifnonnull(to) => Ok(Instr::Ifnonnull(*to)),
-        Instr::GotoW(to) => Ok(Instr::GotoW(*to)),
         Instr::Athrow => Ok(Instr::Athrow),
+        Instr::Pop => Ok(Instr::Pop),
+        Instr::Pop2 => Ok(Instr::Pop2),
+        Instr::Dup => Ok(Instr::Dup),
+        Instr::DupX1 => Ok(Instr::DupX1),
+        Instr::DupX2 => Ok(Instr::DupX2),
+        Instr::Dup2 => Ok(Instr::Dup2),
+        Instr::Dup2X1 => Ok(Instr::Dup2X1),
+        Instr::Dup2X2 => Ok(Instr::Dup2X2),
+        Instr::Swap => Ok(Instr::Swap),
+        _ => copied_sum(instr),
     }
 }

@@ -12,8 +12,7 @@ use crate::copies::copied;
 use crate::frames::{old_frame, type_at};
 use crate::item::{Item, Items, Label, Size};
 use crate::parts::{
-    add, call_member, call_static, dummy_of, load_fiber, local_size, pop_of, return_of, taken,
-    vtype,
+    add, call_fiber, dummy_of, local_size, pop_of, return_of, save_fiber, taken, vtype,
 };
 use crate::plan::Plan;
 use crate::saves::{save_locals, save_stack};
@@ -141,6 +140,22 @@ fn drop_result(gives: Option<Ty>, items: &mut Items) -> Result<(), NoMemory>
     }
 }
 
+// The saves of the locals that are live behind the call.
+fn save_live(
+    alloc: Global,
+    plan: &Plan,
+    place: u32,
+    next: u32,
+    frame: &Frame,
+    items: &mut Items,
+) -> Result<(), NoMemory>
+    requires { Shown (meant plan.now) place frame.now }
+    ensures { OnOk result (items_of items.new ≡ form.save_locals (meant plan.now) (form.saved (meant plan.now) place next) (items_of items.old)) }
+{
+    let saved = saved(alloc, plan, frame, place, next)?;
+    save_locals(plan, saved.as_slice(), items)
+}
+
 // What leaves the method where the fiber is pausing: the saves, the place, a dummy return.
 fn leave(
     alloc: Global,
@@ -156,12 +171,10 @@ fn leave(
     ensures { OnOk result (items_of items.new ≡ form.leave (meant plan.now) number callee.now place next (items_of items.old)) }
 {
     dummy_return(plan.method.result, items)?;
-    call_static(plan, 6, items)?;
-    load_fiber(plan, items)?;
+    save_fiber(plan, 6, items)?;
     add_self(plan, items)?;
     add_number(number, items)?;
-    let saved = saved(alloc, plan, frame, place, next)?;
-    save_locals(plan, saved.as_slice(), items)?;
+    save_live(alloc, plan, place, next, frame, items)?;
     save_stack(plan, below(frame, callee)?, items)
 }
 
@@ -184,11 +197,9 @@ pub fn group(
     drop_result(callee.result, items)?;
     let behind = plan.places.at(next)?;
     add(items, Instr::Ifeq(behind), 3)?;
-    call_member(plan, 2, items)?;
-    load_fiber(plan, items)?;
+    call_fiber(plan, 2, items)?;
     items.put(Item::Adds(copied(instr)?, Size::Fixed(3), true))?;
-    call_member(plan, 1, items)?;
-    load_fiber(plan, items)?;
+    call_fiber(plan, 1, items)?;
     let declared = old_frame(alloc, plan, frame, place)?;
     items.put(Item::Stands(Label::Old(place), Some(declared)))
 }

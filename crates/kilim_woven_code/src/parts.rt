@@ -116,7 +116,7 @@ pub fn add(items: &mut Items, instr: Instr, size: u32) -> Result<(), NoMemory>
     items.put(Item::Adds(instr, Size::Fixed(size), false))
 }
 
-pub fn load_fiber(plan: &Plan, items: &mut Items) -> Result<(), NoMemory>
+fn load_fiber(plan: &Plan, items: &mut Items) -> Result<(), NoMemory>
     ensures { OnOk result (items_of items.new ≡ form.load_fiber (meant plan.now) ∷ (items_of items.old)) }
 {
     let slot = plan.fiber;
@@ -133,18 +133,34 @@ fn member(plan: &Plan, number: u32) -> Result<MethodId, NoMemory>
     }
 }
 
-pub fn call_member(plan: &Plan, number: u32, items: &mut Items) -> Result<(), NoMemory>
+fn call_member(plan: &Plan, number: u32, items: &mut Items) -> Result<(), NoMemory>
     ensures { OnOk result (items_of items.new ≡ form.calls_member (meant plan.now) number ∷ (items_of items.old)) }
 {
     let id = member(plan, number)?;
     add(items, Instr::Invokevirtual(id), 3)
 }
 
-pub fn call_static(plan: &Plan, number: u32, items: &mut Items) -> Result<(), NoMemory>
+fn call_static(plan: &Plan, number: u32, items: &mut Items) -> Result<(), NoMemory>
     ensures { OnOk result (items_of items.new ≡ form.calls_static (meant plan.now) number ∷ (items_of items.old)) }
 {
     let id = member(plan, number)?;
     add(items, Instr::Invokestatic(id), 3)
+}
+
+/// The fiber, and a call of its member of a number.
+pub fn call_fiber(plan: &Plan, number: u32, items: &mut Items) -> Result<(), NoMemory>
+    ensures { OnOk result (items_of items.new ≡ form.load_fiber (meant plan.now) ∷ form.calls_member (meant plan.now) number ∷ (items_of items.old)) }
+{
+    call_member(plan, number, items)?;
+    load_fiber(plan, items)
+}
+
+/// The fiber, and a call of the static method of a number.
+pub fn save_fiber(plan: &Plan, number: u32, items: &mut Items) -> Result<(), NoMemory>
+    ensures { OnOk result (items_of items.new ≡ form.load_fiber (meant plan.now) ∷ form.calls_static (meant plan.now) number ∷ (items_of items.old)) }
+{
+    call_static(plan, number, items)?;
+    load_fiber(plan, items)
 }
 
 fn if_pausable(found: Option<&Method>) -> Option<&Method>

@@ -11,7 +11,7 @@ use crate::frames::{entry_of, frame_at, place_behind, resume_frame, type_at};
 use crate::group::{below, saved};
 use crate::item::{Item, Items, Label};
 use crate::old::number_before;
-use crate::parts::{add, call_member, dummy_of, load_fiber, pausable_callee, vtype};
+use crate::parts::{add, call_fiber, dummy_of, pausable_callee, vtype};
 use crate::plan::Plan;
 use crate::saves::{restore_locals, restore_stack};
 use kilim_classes::{Frame, Instr, Method, Ty, VType};
@@ -46,8 +46,7 @@ fn receiver_of(plan: &Plan, ty: VType, items: &mut Items) -> Result<(), NoMemory
     match ty {
         VType::Object(ty) => {
             add(items, Instr::Checkcast(ty), 3)?;
-            call_member(plan, 10, items)?;
-            load_fiber(plan, items)
+            call_fiber(plan, 10, items)
         }
         VType::Top
         | VType::Int
@@ -85,6 +84,22 @@ fn receiver(frame: &Frame, callee: &Method) -> VType
     type_at(stack, left - 1)
 }
 
+// The locals that were saved.
+fn restore_saved(
+    alloc: Global,
+    plan: &Plan,
+    place: u32,
+    next: u32,
+    frame: &Frame,
+    items: &mut Items,
+) -> Result<(), NoMemory>
+    requires { Shown (meant plan.now) place frame.now }
+    ensures { OnOk result (items_of items.new ≡ form.restore_locals (meant plan.now) (form.saved (meant plan.now) place next) (items_of items.old)) }
+{
+    let saved = saved(alloc, plan, frame, place, next)?;
+    restore_locals(plan, saved.as_slice(), items)
+}
+
 fn resume_code(
     alloc: Global,
     plan: &Plan,
@@ -102,8 +117,7 @@ fn resume_code(
     dummies(callee.params.as_slice(), items)?;
     restore_receiver(plan, callee.is_static, receiver(frame, callee), items)?;
     restore_stack(plan, below(frame, callee)?, items)?;
-    let saved = saved(alloc, plan, frame, place, next)?;
-    restore_locals(plan, saved.as_slice(), items)
+    restore_saved(alloc, plan, place, next, frame, items)
 }
 
 fn block(

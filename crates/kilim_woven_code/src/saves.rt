@@ -7,7 +7,7 @@ ghost use Rattle.kilim_woven_code.specs.Items.{items_of};
 
 use crate::frames::type_at;
 use crate::item::Items;
-use crate::parts::{add, call_member, call_static, load_fiber, load_of, local_size, store_of};
+use crate::parts::{add, call_fiber, load_of, local_size, save_fiber, store_of};
 use crate::plan::Plan;
 use kilim_classes::{Instr, VType};
 use kilim_units::NoMemory;
@@ -17,18 +17,9 @@ pub fn save(plan: &Plan, ty: VType, items: &mut Items) -> Result<(), NoMemory>
     ensures { OnOk result (items_of items.new ≡ form.save (meant plan.now) ty (items_of items.old)) }
 {
     match ty {
-        VType::Int => {
-            call_static(plan, 3, items)?;
-            load_fiber(plan, items)
-        }
-        VType::Long => {
-            call_static(plan, 4, items)?;
-            load_fiber(plan, items)
-        }
-        VType::Object(_) => {
-            call_static(plan, 5, items)?;
-            load_fiber(plan, items)
-        }
+        VType::Int => save_fiber(plan, 3, items),
+        VType::Long => save_fiber(plan, 4, items),
+        VType::Object(_) => save_fiber(plan, 5, items),
         VType::Top | VType::Null | VType::UninitThis | VType::Uninit(_) => {
             add(items, Instr::Pop, 1)
         }
@@ -87,18 +78,11 @@ pub fn restore(plan: &Plan, ty: VType, items: &mut Items) -> Result<(), NoMemory
     ensures { OnOk result (items_of items.new ≡ form.restore (meant plan.now) ty (items_of items.old)) }
 {
     match ty {
-        VType::Int => {
-            call_member(plan, 7, items)?;
-            load_fiber(plan, items)
-        }
-        VType::Long => {
-            call_member(plan, 8, items)?;
-            load_fiber(plan, items)
-        }
+        VType::Int => call_fiber(plan, 7, items),
+        VType::Long => call_fiber(plan, 8, items),
         VType::Object(ty) => {
             add(items, Instr::Checkcast(ty), 3)?;
-            call_member(plan, 9, items)?;
-            load_fiber(plan, items)
+            call_fiber(plan, 9, items)
         }
         VType::Top | VType::Null | VType::UninitThis | VType::Uninit(_) => {
             add(items, Instr::AconstNull, 1)

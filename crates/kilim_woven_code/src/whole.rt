@@ -1,6 +1,6 @@
 //! All items of a woven method.
 
-ghost use Rattle.std.specs.Prelude.{◌≡◌, ◌∷◌, IfOk, OnOk};
+ghost use Rattle.std.specs.Prelude.{◌≡◌, ◌∷◌, [], IfOk, OnOk};
 ghost use Rattle.kilim_classes.specs.Same.{argument_slots};
 ghost use Rattle.kilim_woven_form.specs.Weight.{calls_in};
 ghost use Rattle.kilim_woven_form.specs.Woven as form;
@@ -10,7 +10,7 @@ ghost use Rattle.kilim_woven_code.specs.Items.{items_of};
 use crate::count::calls_in;
 use crate::item::{Item, Items, Size};
 use crate::old::pieces;
-use crate::parts::{add, call_member, load_fiber, local_size};
+use crate::parts::{add, call_fiber, local_size};
 use crate::plan::Plan;
 use crate::resume::blocks;
 use kilim_classes::Instr;
@@ -34,11 +34,11 @@ fn add_switch(alloc: Global, plan: &Plan, calls: u32, items: &mut Items) -> Resu
     requires { calls ≡ calls_in plan.now.program.now plan.now.method.now.code }
     ensures { OnOk result (items_of items.new ≡ form.switch_item (meant plan.now) ∷ (items_of items.old)) }
 {
+    let default = plan.places.at(0)?;
     let targets = resume_places(alloc, plan, calls)?;
     let Ok(count) = u32::try_from(targets.len()) else {
         return Err(NoMemory);
     };
-    let default = plan.places.at(0)?;
     items.put(Item::Adds(
         Instr::Tableswitch(default, 1, targets),
         Size::Table(count),
@@ -72,11 +72,32 @@ fn prologue(
     ensures { OnOk result (items_of items.new ≡ form.prologue (meant plan.now) (items_of items.old)) }
 {
     add_switch(alloc, plan, calls, items)?;
-    call_member(plan, 0, items)?;
-    load_fiber(plan, items)?;
+    call_fiber(plan, 0, items)?;
     keep_self(plan, items)?;
     add(items, Instr::Astore(plan.fiber), local_size(plan.fiber))?;
     add(items, Instr::Aload(arguments), local_size(arguments))
+}
+
+// The items of a woven method, put where none are.
+fn put_all(
+    alloc: Global,
+    plan: &Plan,
+    arguments: u16,
+    calls: u32,
+    items: &mut Items,
+) -> Result<(), NoMemory>
+    requires ready { Ready plan.now }
+    requires arguments { arguments ≡ argument_slots plan.now.method.now }
+    requires calls { calls ≡ calls_in plan.now.program.now plan.now.method.now.code }
+    requires none { items_of items.old ≡ [] }
+    ensures { OnOk result (items_of items.new ≡ form.woven_items (meant plan.now)) }
+{
+    let Some(number) = calls.checked_add(1) else {
+        return Err(NoMemory);
+    };
+    blocks(alloc, plan, number, items)?;
+    pieces(alloc, plan, number, items)?;
+    prologue(alloc, plan, arguments, calls, items)
 }
 
 /// The items of a woven method.
@@ -86,12 +107,7 @@ pub fn woven_items(alloc: Global, plan: &Plan, arguments: u16) -> Result<Items, 
     ensures { IfOk result (λ items. items_of items ≡ form.woven_items (meant plan.now)) }
 {
     let calls = calls_in(plan.program, plan.method.code.as_slice())?;
-    let Some(number) = calls.checked_add(1) else {
-        return Err(NoMemory);
-    };
     let mut items = Items::new(alloc);
-    blocks(alloc, plan, number, &mut items)?;
-    pieces(alloc, plan, number, &mut items)?;
-    prologue(alloc, plan, arguments, calls, &mut items)?;
+    put_all(alloc, plan, arguments, calls, &mut items)?;
     Ok(items)
 }
