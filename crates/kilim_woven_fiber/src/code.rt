@@ -32,6 +32,28 @@ pub struct Code {
     ghost executes_are: { AreExecutes program executes.items } by { Prim.hlevel props },
 }
 
+// The tables of a woven program.
+#[derive(Drop)]
+struct Tables {
+    places: Places,
+    natives: Vec<Option<Native>>,
+    executes: Vec<Option<MethodId>>,
+}
+
+fn tables_of(alloc: Global, program: &Program) -> Result<Tables, NoMemory>
+    ensures natives { IfOk result (λ tables. AreNatives program.now tables.natives.items) }
+    ensures executes { IfOk result (λ tables. AreExecutes program.now tables.executes.items) }
+{
+    let places = Places::new(alloc, program)?;
+    let natives = native_table(alloc, program)?;
+    let executes = execute_table(alloc, program)?;
+    Ok(Tables {
+        places,
+        natives,
+        executes,
+    })
+}
+
 impl Code {
     /// The code of a program and its woven form, with the marks of that.
     pub fn new(
@@ -42,9 +64,12 @@ impl Code {
     ) -> Result<Code, NoMemory>
         ensures { IfOk result (λ code. (code.plain ≡ plain) × (code.program ≡ program) × (code.counted ≡ counted)) }
     {
-        let places = Places::new(alloc, &program)?;
-        let natives = native_table(alloc, &program)?;
-        let executes = execute_table(alloc, &program)?;
+        let tables = tables_of(alloc, &program)?;
+        let Tables {
+            places,
+            natives,
+            executes,
+        } = tables;
         Ok(Code {
             plain,
             program,
