@@ -58,11 +58,11 @@ module _ (P W : Program) (m w : Method) (same : Shared P W m w here) (progs : Pr
 
   is_the_top : (t : VType) → is_top t ≡ true → t ≡ Top
   is_the_top Top h = refl
-  is_the_top t h = absurd (cc)
+  is_the_top t h = absurd (false≢true h)
 
   top_from : (a : VType) → assignable P Top a ≡ true → a ≡ Top
   top_from Top h = refl
-  top_from a h = absurd (cc)
+  top_from a h = absurd (false≢true h)
 
   slot : (b : Bool) (f c d : VType) → is_top f ≡ b → (b ≡ false → c ≡ f) → assignable P f d ≡ true → assignable W c d ≡ true
   slot true f c d e k h = ap (assignable W c) (top_from d (ap (λ t. assignable P t d) (sym (is_the_top f e)) ∙ h))

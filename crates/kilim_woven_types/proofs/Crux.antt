@@ -19,6 +19,7 @@ use Rattle.kilim_woven_types.specs.Same.{Shared}
 use Rattle.kilim_woven_types.proofs.Moved.{passed, passes, moved_size, moved_words, moved_long, moved_top, moved_operand, moved_further}
 use Rattle.kilim_woven_types.proofs.Moved as moved
 use Rattle.kilim_woven_types.proofs.Locals.{Covers, covers_stored, covers_replaced, replaced_moved, same_moved, untouched, peek_replaced}
+use Rattle.std.proofs.lemmas.Bool.{false≢true}
 
 abbrev pub moved_row : (ℕ → ℕ) → Row → Row
 moved_row at (Takes takes gives also) = Takes (map (moved_operand at) takes) (map (moved_type at) gives) (map (moved_further at) also)
@@ -160,7 +161,7 @@ is_some_class class (Some c) h = (c, refl)
 
 an_int : (P : Program) (t : VType) → assignable P t Int ≡ true → is_top t ≡ false
 an_int P Int h = refl
-an_int P t h = absurd (cc)
+an_int P t h = absurd (false≢true h)
 
 -- what is loaded is no Top, and takes the room that was asked for
 abbrev pub Firm : Program → Operand → Type 0

@@ -83,15 +83,15 @@ module _ (x : Plan) (W : Program) (w : Method) (whole : Whole x W w) where
 
   top_from : (a : VType) → assignable x.program Top a ≡ true → is_top a ≡ true
   top_from Top h = refl
-  top_from a h = absurd (cc)
+  top_from a h = absurd (false≢true h)
 
   to_top : (t a : VType) → is_top a ≡ true → assignable W t (moved_type x.at a) ≡ true
   to_top t Top h = refl
-  to_top t a h = absurd (cc)
+  to_top t a h = absurd (false≢true h)
 
   is_the_top : (t : VType) → is_top t ≡ true → t ≡ Top
   is_the_top Top h = refl
-  is_the_top t h = absurd (cc)
+  is_the_top t h = absurd (false≢true h)
 
   -- a slot that is live where the flow goes
   live_slot : (b : Bool) (f c d : VType) → is_top f ≡ b → (b ≡ false → c ≡ moved_type x.at f) → assignable x.program f d ≡ true → assignable W c (moved_type x.at d) ≡ true

@@ -6,6 +6,7 @@ use Rattle.kilim_classes.specs.declared.verified.VType.TheVariants.{Top, Int, Lo
 use Rattle.kilim_typing.specs.Step.{size, peek, poke, split_at, split_long, with_half, stored, is_top, is_long, is_same, replaced, one_replaced}
 use Rattle.kilim_woven_form.specs.Woven.{moved_type}
 use Rattle.kilim_woven_types.proofs.Moved.{moved_long}
+use Rattle.std.proofs.lemmas.Bool.{false≢true}
 
 pub same_or : (a b : ℕ) → (a ≡ b) ⊎ (a ≢ b)
 same_or a b = elim (eqb_tells a b) [ inl x ↦ inl x.1 | inr y ↦ inr y.1 ]
@@ -218,7 +219,7 @@ module _ (at : ℕ → ℕ) (differ : (a b : ℕ) → at a ≡ at b → a ≡ b)
   not_top : (old t : VType) → is_same old t ≡ true → is_top t ≡ false
   not_top UninitThis UninitThis h = refl
   not_top (Uninit a) (Uninit b) h = refl
-  not_top old t h = absurd (cc)
+  not_top old t h = absurd (false≢true h)
 
   pub covers_replaced : (S : ℕ → Type 0) (fl cl : List VType) (old new : VType) → Covers at S fl cl → Covers at S (replaced old new fl) (replaced (moved_type at old) (moved_type at new) cl)
   covers_replaced S fl cl old new c j s n =

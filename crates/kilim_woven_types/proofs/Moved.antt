@@ -11,6 +11,7 @@ use Rattle.kilim_classes.specs.Program.{Program}
 use Rattle.kilim_typing.specs.Step.{Operand, Is, AReference, Initialized, ArrayOf, References, AnArray, Own, Further, further, rule, meets, all_meet, assignable, class_vtype, size, words, is_top, is_long, is_unset, has_room, room_for, has_operands}
 use Rattle.kilim_woven_form.specs.Woven.{moved_type}
 use Rattle.kilim_woven_types.specs.Same.{Shared}
+use Rattle.std.proofs.lemmas.Bool.{false≢true}
 
 -- ---- rules
 
@@ -82,14 +83,14 @@ module _ (P W : Program) (m w : Method) (at : ℕ → ℕ) (same : Shared P W m 
   assigned (Uninit a) (Uninit b) h = eq-eqb (at a) (at b) (ap at (eqb-true a b h))
   assigned Null (Object b) h = refl
   assigned (Object a) (Object b) h = same.assigns (Object a) (Object b) h
-  assigned t b h = absurd (cc)
+  assigned t b h = absurd (false≢true h)
 
   own_met : (c : _) (t : VType) → meets P (Own c) t ≡ true → meets W (Own c) (moved_type at t) ≡ true
   unfolding meets
   own_met c UninitThis h = refl
   own_met c Null h = refl
   own_met c (Object ty) h = same.assigns (Object ty) (class_vtype c) h
-  own_met c t h = absurd (cc)
+  own_met c t h = absurd (false≢true h)
 
   reference_met : (t : VType) → meets P AReference t ≡ true → meets W AReference (moved_type at t) ≡ true
   unfolding meets
@@ -97,25 +98,25 @@ module _ (P W : Program) (m w : Method) (at : ℕ → ℕ) (same : Shared P W m 
   reference_met UninitThis h = refl
   reference_met (Uninit q) h = refl
   reference_met (Object ty) h = refl
-  reference_met t h = absurd (cc)
+  reference_met t h = absurd (false≢true h)
 
   array_met : (bases : List Base) (t : VType) → meets P (ArrayOf bases) t ≡ true → meets W (ArrayOf bases) (moved_type at t) ≡ true
   unfolding meets
   array_met bases Null h = refl
   array_met bases (Object ty) h = h
-  array_met bases t h = absurd (cc)
+  array_met bases t h = absurd (false≢true h)
 
   references_met : (t : VType) → meets P References t ≡ true → meets W References (moved_type at t) ≡ true
   unfolding meets
   references_met Null h = refl
   references_met (Object ty) h = h
-  references_met t h = absurd (cc)
+  references_met t h = absurd (false≢true h)
 
   any_array_met : (t : VType) → meets P AnArray t ≡ true → meets W AnArray (moved_type at t) ≡ true
   unfolding meets
   any_array_met Null h = refl
   any_array_met (Object ty) h = h
-  any_array_met t h = absurd (cc)
+  any_array_met t h = absurd (false≢true h)
 
   pub met : (o : Operand) (t : VType) → meets P o t ≡ true → meets W (moved_operand at o) (moved_type at t) ≡ true
   unfolding meets

@@ -87,12 +87,12 @@ module _ (P : Program) where
   firm_int : Firm P (Is Int)
   unfolding meets
   firm_int Int h = (refl, refl)
-  firm_int t h = absurd (cc)
+  firm_int t h = absurd (false≢true h)
 
   firm_long : Firm P (Is Long)
   unfolding meets
   firm_long Long h = (refl, refl)
-  firm_long t h = absurd (cc)
+  firm_long t h = absurd (false≢true h)
 
   firm_reference : Firm P AReference
   unfolding meets
@@ -100,7 +100,7 @@ module _ (P : Program) where
   firm_reference UninitThis h = (refl, refl)
   firm_reference (Uninit q) h = (refl, refl)
   firm_reference (Object ty) h = (refl, refl)
-  firm_reference t h = absurd (cc)
+  firm_reference t h = absurd (false≢true h)
 
   -- what a row reads, its instruction reads
   pub firm_row : (m : Method) (i : Instr) → FirmRow P (row P m i)

@@ -157,18 +157,18 @@ module _ (x : Plan) (W : Program) (w : Method) (whole : Whole x W w) where
     where
       int : (t : VType) → assignable x.program t Int ≡ true → (assignable W Int (moved_type x.at t) ≡ true) × (size Int ≡ size t)
       int Int h = (refl, refl)
-      int t h = absurd (cc)
+      int t h = absurd (false≢true h)
   is_assigned t wanted (ALong e) h = subst (λ u. (assignable W (dummy_type u) (moved_type x.at t) ≡ true) × (size (dummy_type u) ≡ size t)) (sym e) (long t (ap (assignable x.program t) (sym e) ∙ h))
     where
       long : (t : VType) → assignable x.program t Long ≡ true → (assignable W Long (moved_type x.at t) ≡ true) × (size Long ≡ size t)
       long Long h = (refl, refl)
-      long t h = absurd (cc)
+      long t h = absurd (false≢true h)
   is_assigned t wanted (AnObject ty e) h = subst (λ u. (assignable W (dummy_type u) (moved_type x.at t) ≡ true) × (size (dummy_type u) ≡ size t)) (sym e) (object t (ap (assignable x.program t) (sym e) ∙ h))
     where
       object : (t : VType) → assignable x.program t (Object ty) ≡ true → (assignable W Null (moved_type x.at t) ≡ true) × (size Null ≡ size t)
       object Null h = (refl, refl)
       object (Object a) h = (refl, refl)
-      object t h = absurd (cc)
+      object t h = absurd (false≢true h)
 
   -- dummies fit where the arguments did, and take as much room
   dummies_fit : (tys : List Ty) (os : List Operand) (base fs : List VType) → all_meet x.program (map (λ ty. Is (vtype ty)) tys ++ os) fs ≡ true →

@@ -125,7 +125,7 @@ module _ (x : Plan) (w : Method) (woven : WovenMethod x w) (grows : Grows x w x.
   moved_proper UninitThis h = refl
 
   moved_set : (t : VType) → good t ≡ true → not (is_unset_this (moved_type x.at t)) ≡ true
-  moved_set UninitThis h = absurd (cc)
+  moved_set UninitThis h = absurd (false≢true h)
   moved_set (Object ty) h = refl
   moved_set (Uninit q) h = refl
   moved_set Top h = refl

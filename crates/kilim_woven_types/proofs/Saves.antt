@@ -19,6 +19,7 @@ use Rattle.kilim_woven_types.proofs.Flow.{Kept, has_fiber, has_self}
 use Rattle.kilim_woven_types.proofs.Flow as flow
 use Rattle.kilim_woven_types.proofs.Added.{state, Runs, Starts}
 use Rattle.kilim_woven_types.proofs.Added as add
+use Rattle.std.proofs.lemmas.Bool.{false≢true}
 
 -- the types of values are int, long and objects
 pub data Sort (t : VType) : Type 0 where
@@ -47,7 +48,7 @@ moved_savable at Int h = refl
 moved_savable at Long h = refl
 moved_savable at Null h = refl
 moved_savable at (Object ty) h = refl
-moved_savable at t h = absurd (cc)
+moved_savable at t h = absurd (false≢true h)
 
 pub moved_savables : (at : ℕ → ℕ) (ts : List VType) → list_all is_savable ts ≡ true → map (moved_type at) ts ≡ ts
 moved_savables at [] h = refl
@@ -85,7 +86,7 @@ module _ (x : Plan) (W : Program) (w : Method) (whole : Whole x W w) where
   save_runs Long cl s rest h k room r = add.load_runs x W w whole cl (Long ∷ s) _ k room (add.static_runs x W w whole (member x.program 4) long_ty Long cl s rest whole.members.save_long refl (omega (arith, room)) r)
   save_runs (Object ty) cl s rest h k room r = add.load_runs x W w whole cl (Object ty ∷ s) _ k room (add.static_runs x W w whole (member x.program 5) whole.members.object_ty (Object ty) cl s rest whole.members.save_object (object_meets ty h) (omega (arith, room)) r)
   save_runs Null cl s rest h k room r = pop_runs cl s Null rest refl refl (omega (arith, room)) r
-  save_runs t cl s rest h k room r = absurd (cc)
+  save_runs t cl s rest h k room r = absurd (false≢true h)
 
   pub save_stack_runs : (ts cl : List VType) (rest : List Item) → list_all is_savable ts ≡ true → Kept x cl → suc (words ts) ≤ w.max_stack → Runs x W w whole (state cl []) rest → Runs x W w whole (state cl ts) (save_stack x ts rest)
   save_stack_runs [] cl rest h k room r = r
@@ -107,7 +108,7 @@ module _ (x : Plan) (W : Program) (w : Method) (whole : Whole x W w) where
   save_local_runs slot (Object ty) cl rest e h within k room r =
       add.one x W w whole (Aload slot) _ false (state cl []) (state cl (Object ty ∷ [])) _ (λ q. add.loads_step x W w whole q (Aload slot) AReference slot (Object ty) cl [] refl (omega arith) e within (omega (arith, room)) refl) tt refl (save_runs (Object ty) cl [] rest h k (omega (arith, room)) r)
   save_local_runs slot Null cl rest e h within k room r = r
-  save_local_runs slot t cl rest e h within k room r = absurd (cc)
+  save_local_runs slot t cl rest e h within k room r = absurd (false≢true h)
 
   pub save_locals_runs : (es : List (ℕ × VType)) (cl : List VType) (rest : List Item) → InLocals cl es → Kept x cl → 3 ≤ w.max_stack → Runs x W w whole (state cl []) rest → Runs x W w whole (state cl []) (save_locals x es rest)
   save_locals_runs [] cl rest i k room r = r
@@ -132,7 +133,7 @@ module _ (x : Plan) (W : Program) (w : Method) (whole : Whole x W w) where
   restore_runs Long cl s rest h k room r = add.load_runs x W w whole cl s _ k (omega (arith, room)) (add.member_runs x W w whole (member x.program 8) long_ty Long cl s rest whole.members.rest_long refl (omega (arith, room)) r)
   restore_runs (Object ty) cl s rest h k room r = add.load_runs x W w whole cl s _ k (omega (arith, room)) (add.member_runs x W w whole (member x.program 9) whole.members.object_ty (Object whole.members.object_ty) cl s _ whole.members.rest_object whole.members.is_class (omega (arith, room)) (checks ty cl s rest (omega (arith, room)) r))
   restore_runs Null cl s rest h k room r = null_runs cl s rest (omega (arith, room)) r
-  restore_runs t cl s rest h k room r = absurd (cc)
+  restore_runs t cl s rest h k room r = absurd (false≢true h)
 
   pub restore_stack_runs : (ts cl : List VType) (rest : List Item) → list_all is_savable ts ≡ true → Kept x cl → 2 + words ts ≤ w.max_stack → Runs x W w whole (state cl ts) rest → Runs x W w whole (state cl []) (restore_stack x ts rest)
   restore_stack_runs [] cl rest h k room r = r
@@ -151,7 +152,7 @@ module _ (x : Plan) (W : Program) (w : Method) (whole : Whole x W w) where
   restore_local_runs slot Long cl rest h within k room r = restore_runs Long cl [] _ h k (omega (arith, room)) (add.one x W w whole (Lstore slot) _ false (state cl (Long ∷ [])) (state (stored cl slot Long) []) rest (λ q. add.stores_step x W w whole q (Lstore slot) (Is Long) slot Long cl [] refl within refl) tt refl r)
   restore_local_runs slot Null cl rest h within k room r = restore_runs Null cl [] _ h k (omega (arith, room)) (add.one x W w whole (Astore slot) _ false (state cl (Null ∷ [])) (state (stored cl slot Null) []) rest (λ q. add.stores_step x W w whole q (Astore slot) AReference slot Null cl [] refl within refl) tt refl r)
   restore_local_runs slot (Object ty) cl rest h within k room r = restore_runs (Object ty) cl [] _ h k (omega (arith, room)) (add.one x W w whole (Astore slot) _ false (state cl (Object ty ∷ [])) (state (stored cl slot (Object ty)) []) rest (λ q. add.stores_step x W w whole q (Astore slot) AReference slot (Object ty) cl [] refl within refl) tt refl r)
-  restore_local_runs slot t cl rest h within k room r = absurd (cc)
+  restore_local_runs slot t cl rest h within k room r = absurd (false≢true h)
 
   pub restore_locals_runs : (es : List (ℕ × VType)) (cl : List VType) (rest : List Item) → Restores cl es → 2 ≤ w.max_stack → Runs x W w whole (state (put_back es cl) []) rest → Runs x W w whole (state cl []) (restore_locals x es rest)
   restore_locals_runs [] cl rest i room r = r
