@@ -88,11 +88,13 @@ fn put(places: &mut Places, item: Item) -> Result<(), NoMemory>
     ensures { OnOk result ((all : List form.Item) → (rest : List form.Item) → Finds all places.entry.now (item_of item ∷ rest) → Finds all places.exit.now rest) }
 {
     match item {
-        Item::Stands(label, _) => {
+        Item::Stands(label, frame) => {
+            drop(frame);
             stand(places, label)?;
             Ok(())
         }
-        Item::Adds(_, size, _) => {
+        Item::Adds(instr, size, _) => {
+            drop(instr);
             advance(places, size)?;
             Ok(())
         }

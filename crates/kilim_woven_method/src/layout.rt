@@ -50,8 +50,8 @@ fn add(laid: &mut Laid, instr: Instr, size: Size, counted: bool) -> Result<(), N
     ensures { OnOk result (laid.new ≡ record { code = laid.old.code ++ (laid.old.end, instr) ∷ []; frames = laid.old.frames; counted = laid.old.counted ++ counted ∷ []; end = laid.old.end + size_of size laid.old.end }) }
 {
     let at = laid.end;
-    let next = place_behind(at, size)?;
     laid.code.push((at, instr))?;
+    let next = place_behind(at, size)?;
     laid.counted.push(counted)?;
     laid.end = next;
     Ok(())
