@@ -66,12 +66,12 @@ after_opens x (comma y) = refl
 after_opens x (parenthesis y) = refl
 after_opens x (line_feed y) = refl
 
-after_is_long : (x : List ℕ) → AfterValue x → is_long x ≡ false
+pub after_is_long : (x : List ℕ) → AfterValue x → is_long x ≡ false
 after_is_long x (comma y) = refl
 after_is_long x (parenthesis y) = refl
 after_is_long x (line_feed y) = refl
 
-after_number : (x : List ℕ) → AfterValue x → ends_at is_number_unit x ≡ true
+pub after_number : (x : List ℕ) → AfterValue x → ends_at is_number_unit x ≡ true
 after_number x (comma y) = refl
 after_number x (parenthesis y) = refl
 after_number x (line_feed y) = refl
