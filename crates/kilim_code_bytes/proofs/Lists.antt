@@ -1,7 +1,8 @@
 -- Matches of a switch.
-use Rattle.std.proofs.Common.{◌≡◌, ℕ, zero, suc, ◌+◌, ℤ, List, [], ◌∷◌, drop, slice_get, Option, Some, None, sym, ap, subst, ◌∙◌, arith}
+use Rattle.std.proofs.Common.{◌≡◌, ℕ, zero, suc, ◌+◌, ℤ, List, [], ◌∷◌, ◌<◌, length, drop, get_or, slice_get, Option, Some, None, sym, ap, subst, ◌∙◌, arith}
 use Rattle.std.specs.Prelude.{FitsSigned}
 use Rattle.std.specs.Int.{w32}
+use Rattle.std.specs.List.{AllByRecursion}
 use Rattle.kilim_opcodes.specs.Instr.{IsAbove, PairsFit, TargetFits}
 
 pub drop_next : {A : Type 0} (xs : List A) (n : ℕ) (x : A) → slice_get xs n ≡ Some x → drop n xs ≡ x ∷ drop (n + 1) xs
@@ -14,3 +15,9 @@ pub pairs_step : (place : ℕ) (pairs : List (ℤ × ℤ)) (at : ℕ) (least : O
     (PairsFit place least (drop at pairs) → PairsFit place None pairs) → PairsFit place (Some key) (drop (at + 1) pairs) → PairsFit place None pairs
 pairs_step place pairs at least pair key there is above fits far before rest =
     before (subst (λ (ps : List (ℤ × ℤ)). PairsFit place least ps) (sym (drop_next pairs at pair there)) ((above, fits, far), subst (λ (k : ℤ). PairsFit place (Some k) (drop (at + 1) pairs)) is rest))
+
+-- targets of a switch, one more
+pub all_from : (P : ℤ → Type 0) (xs : List ℤ) (n : ℕ) (d : ℤ) → n < length xs → P (get_or xs n d) → AllByRecursion P (drop (suc n) xs) → AllByRecursion P (drop n xs)
+all_from P [] n d lt p all = absurd (omega arith)
+all_from P (x ∷ xs) zero d lt p all = (p, all)
+all_from P (x ∷ xs) (suc n) d lt p all = all_from P xs n d (omega arith) p all
