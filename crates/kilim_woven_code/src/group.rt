@@ -1,6 +1,6 @@
 //! The group of a pausable call. All is put before the items behind it.
 
-ghost use Rattle.std.specs.Prelude.{◌≡◌, ◌∷◌, ◌++◌, ◌&&◌, [], not, drop, reverse, if◌then◌else◌, IfOk, OnOk};
+ghost use Rattle.std.specs.Prelude.{◌≡◌, ◌∷◌, ◌++◌, ◌&&◌, [], Some, true, not, drop, reverse, if◌then◌else◌, IfOk, OnOk};
 ghost use Rattle.kilim_typing.specs.Step.{is_top};
 ghost use Rattle.kilim_liveness.specs.Table.{live_in};
 ghost use Rattle.kilim_woven_form.specs.Woven as form;
@@ -178,6 +178,29 @@ fn leave(
     save_stack(plan, below(frame, callee)?, items)
 }
 
+// The call itself, one level below.
+fn call_below(plan: &Plan, instr: &Instr, items: &mut Items) -> Result<(), NoMemory>
+    ensures { OnOk result (items_of items.new ≡ form.load_fiber (meant plan.now) ∷ form.calls_member (meant plan.now) 1 ∷ form.Does instr.now (λ place. 3) true ∷ (items_of items.old)) }
+{
+    items.put(Item::Adds(copied(instr)?, Size::Fixed(3), true))?;
+    call_fiber(plan, 1, items)
+}
+
+// The old place, with the frame that is declared there.
+fn declare(
+    alloc: Global,
+    plan: &Plan,
+    frame: &Frame,
+    place: u32,
+    items: &mut Items,
+) -> Result<(), NoMemory>
+    requires { Shown (meant plan.now) place frame.now }
+    ensures { OnOk result (items_of items.new ≡ form.Mark (form.Old place) (Some (form.old_frame (meant plan.now) place)) ∷ (items_of items.old)) }
+{
+    let declared = old_frame(alloc, plan, frame, place)?;
+    items.put(Item::Stands(Label::Old(place), Some(declared)))
+}
+
 /// The group of a pausable call.
 pub fn group(
     alloc: Global,
@@ -198,8 +221,6 @@ pub fn group(
     let behind = plan.places.at(next)?;
     add(items, Instr::Ifeq(behind), 3)?;
     call_fiber(plan, 2, items)?;
-    items.put(Item::Adds(copied(instr)?, Size::Fixed(3), true))?;
-    call_fiber(plan, 1, items)?;
-    let declared = old_frame(alloc, plan, frame, place)?;
-    items.put(Item::Stands(Label::Old(place), Some(declared)))
+    call_below(plan, instr, items)?;
+    declare(alloc, plan, frame, place, items)
 }
