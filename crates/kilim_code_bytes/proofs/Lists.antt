@@ -1,8 +1,9 @@
 -- Matches of a switch.
-use Rattle.std.proofs.Common.{◌≡◌, ℕ, zero, suc, ◌+◌, ℤ, List, [], ◌∷◌, ◌<◌, length, drop, get_or, slice_get, Option, Some, None, sym, ap, subst, ◌∙◌, arith}
+use Rattle.std.proofs.Common.{◌≡◌, ℕ, zero, suc, ◌+◌, ℤ, List, [], ◌∷◌, ◌++◌, ◌<◌, length, drop, get_or, slice_get, Option, Some, None, sym, ap, subst, ◌∙◌, append_assoc, arith}
 use Rattle.std.specs.Prelude.{FitsSigned}
 use Rattle.std.specs.Int.{w32}
-use Rattle.std.specs.List.{AllByRecursion}
+use Rattle.std.specs.List.{flat_map, AllByRecursion}
+use Rattle.std.proofs.lemmas.Option.{slice_get-get_or}
 use Rattle.kilim_opcodes.specs.Instr.{IsAbove, PairsFit, TargetFits}
 
 pub drop_next : {A : Type 0} (xs : List A) (n : ℕ) (x : A) → slice_get xs n ≡ Some x → drop n xs ≡ x ∷ drop (n + 1) xs
@@ -21,3 +22,10 @@ pub all_from : (P : ℤ → Type 0) (xs : List ℤ) (n : ℕ) (d : ℤ) → n < 
 all_from P [] n d lt p all = absurd (omega arith)
 all_from P (x ∷ xs) zero d lt p all = (p, all)
 all_from P (x ∷ xs) (suc n) d lt p all = all_from P xs n d (omega arith) p all
+
+-- texts that are written one by one
+pub text_step : {A : Type 0} (f : A → List ℕ) (xs : List A) (i : ℕ) (x : A) (old new all : List ℕ) → i < length xs → x ≡ get_or xs i x → old ++ flat_map f (drop i xs) ≡ all → new ≡ old ++ f x → new ++ flat_map f (drop (i + 1) xs) ≡ all
+text_step f xs i x old new all lt is before more =
+    let there : slice_get xs i ≡ Some x = slice_get-get_or xs i x lt ∙ ap Some (sym is) in
+    let rest : List ℕ = flat_map f (drop (i + 1) xs) in
+    ap (λ (bytes : List ℕ). bytes ++ rest) more ∙ (append_assoc old (f x) rest ∙ (ap (λ (ys : List _). old ++ flat_map f ys) (sym (drop_next xs i x there)) ∙ before))
