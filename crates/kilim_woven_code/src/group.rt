@@ -140,6 +140,15 @@ fn drop_result(gives: Option<Ty>, items: &mut Items) -> Result<(), NoMemory>
     }
 }
 
+// The number of the call and the receiver, for the fiber to keep.
+fn note_place(plan: &Plan, number: u32, items: &mut Items) -> Result<(), NoMemory>
+    ensures { OnOk result (items_of items.new ≡ form.number_item number ∷ form.self_item (meant plan.now) ∷ form.load_fiber (meant plan.now) ∷ form.calls_static (meant plan.now) 6 ∷ (items_of items.old)) }
+{
+    save_fiber(plan, 6, items)?;
+    add_self(plan, items)?;
+    add_number(number, items)
+}
+
 // The saves of the locals that are live behind the call.
 fn save_live(
     alloc: Global,
@@ -171,9 +180,7 @@ fn leave(
     ensures { OnOk result (items_of items.new ≡ form.leave (meant plan.now) number callee.now place next (items_of items.old)) }
 {
     dummy_return(plan.method.result, items)?;
-    save_fiber(plan, 6, items)?;
-    add_self(plan, items)?;
-    add_number(number, items)?;
+    note_place(plan, number, items)?;
     save_live(alloc, plan, place, next, frame, items)?;
     save_stack(plan, below(frame, callee)?, items)
 }

@@ -1,11 +1,13 @@
 //! Resume blocks. All is put before the items behind it.
 
-ghost use Rattle.std.specs.Prelude.{◌≡◌, ◌<◌, ◌+◌, Some, [], drop, reverse, slice_get, length, option_copied, OnOk};
+ghost use Rattle.std.specs.Prelude.{◌≡◌, ◌∷◌, ◌<◌, ◌+◌, Some, [], drop, reverse, slice_get, length, option_copied, OnOk};
 ghost use Rattle.kilim_woven_form.specs.Weight.{calls_in};
 ghost use Rattle.kilim_woven_form.specs.Woven as form;
 ghost use Rattle.kilim_woven_code.specs.Shown.{Shown};
 ghost use Rattle.kilim_woven_code.specs.Meant.{Ready, meant};
 ghost use Rattle.kilim_woven_code.specs.Items.{items_of};
+ghost use Rattle.kilim_woven_code.specs.Places.{at_in};
+ghost use Rattle.kilim_classes.specs.declared.instr.Instr.TheVariants.{Goto};
 
 use crate::frames::{entry_of, frame_at, place_behind, resume_frame, type_at};
 use crate::group::{below, saved};
@@ -84,6 +86,15 @@ fn receiver(frame: &Frame, callee: &Method) -> VType
     type_at(stack, left - 1)
 }
 
+// The arguments' stand-ins, and the way back to the call.
+fn go_back(plan: &Plan, callee: &Method, place: u32, items: &mut Items) -> Result<(), NoMemory>
+    ensures { OnOk result (items_of items.new ≡ form.dummies callee.now.params (form.added (Goto (at_in plan.now.places.now place)) 3 ∷ (items_of items.old))) }
+{
+    let to = plan.places.at(place)?;
+    add(items, Instr::Goto(to), 3)?;
+    dummies(callee.params.as_slice(), items)
+}
+
 // The locals that were saved.
 fn restore_saved(
     alloc: Global,
@@ -112,9 +123,7 @@ fn resume_code(
     requires { Shown (meant plan.now) place frame.now }
     ensures { OnOk result (items_of items.new ≡ form.resume_code (meant plan.now) callee.now place next (items_of items.old)) }
 {
-    let to = plan.places.at(place)?;
-    add(items, Instr::Goto(to), 3)?;
-    dummies(callee.params.as_slice(), items)?;
+    go_back(plan, callee, place, items)?;
     restore_receiver(plan, callee.is_static, receiver(frame, callee), items)?;
     restore_stack(plan, below(frame, callee)?, items)?;
     restore_saved(alloc, plan, place, next, frame, items)
