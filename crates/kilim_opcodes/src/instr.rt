@@ -4,7 +4,7 @@ use kilim_units::Seq;
 
 /// An instruction in the form in which it is written. First stands its number; in the two wide variants that is
 /// the number behind `wide`. Targets are places, byte offsets in the code array.
-#[derive(Debug, Drop)]
+#[derive(Clone, Debug, Drop)]
 pub enum RawInstr {
     /// No operands.
     Plain(u8),

@@ -157,28 +157,7 @@ fn index_or(pool: &Pool, index: u16, need: &Option<Need>) -> u16
 fn copied(instr: &RawInstr) -> Result<RawInstr, NoMemory>
     ensures { IfOk result (λ r. r ≡ instr.now) }
 {
-    match instr {
-        RawInstr::Plain(number) => Ok(RawInstr::Plain(*number)),
-        RawInstr::Byte(number, n) => Ok(RawInstr::Byte(*number, *n)),
-        RawInstr::Short(number, n) => Ok(RawInstr::Short(*number, *n)),
-        RawInstr::Local(number, slot) => Ok(RawInstr::Local(*number, *slot)),
-        RawInstr::Constant(number, index) => Ok(RawInstr::Constant(*number, *index)),
-        RawInstr::Index(number, index) => Ok(RawInstr::Index(*number, *index)),
-        RawInstr::Iinc(number, slot, n) => Ok(RawInstr::Iinc(*number, *slot, *n)),
-        RawInstr::Jump(number, to) => Ok(RawInstr::Jump(*number, *to)),
-        RawInstr::WideJump(number, to) => Ok(RawInstr::WideJump(*number, *to)),
-        RawInstr::NewArray(number, code) => Ok(RawInstr::NewArray(*number, *code)),
-        RawInstr::TableSwitch(number, default, low, targets) => {
-            let targets = targets.clone()?;
-            Ok(RawInstr::TableSwitch(*number, *default, *low, targets))
-        }
-        RawInstr::LookupSwitch(number, default, pairs) => {
-            let pairs = pairs.clone()?;
-            Ok(RawInstr::LookupSwitch(*number, *default, pairs))
-        }
-        RawInstr::WideLocal(number, slot) => Ok(RawInstr::WideLocal(*number, *slot)),
-        RawInstr::WideIinc(number, slot, n) => Ok(RawInstr::WideIinc(*number, *slot, *n)),
-    }
+    Ok(instr.clone()?)
 }
 
 /// An old instruction at its new place, with the indices of the new pool: it keeps its form and its index, but for jumps,
