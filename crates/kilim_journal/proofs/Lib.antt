@@ -4,6 +4,7 @@ pub mod Units
 pub mod Tokens
 pub mod Journals
 pub mod Preorder
+pub mod Pushed
 pub mod Readings
 pub mod TokensRead
 pub mod ShapesRead
