@@ -93,8 +93,7 @@ fn woven_classes(alloc: Global, program: &Program) -> Result<Seq<Class>, NoMemor
 fn fields_of(alloc: Global, program: &Program) -> Result<Seq<Field>, NoMemory>
     ensures { IfOk result (λ s. s ≡ program.now.fields) }
 {
-    let fields = copy_fields(alloc, program.fields.as_slice())?;
-    Ok(fields)
+    copy_fields(alloc, program.fields.as_slice())
 }
 
 /// The classes of a typed program, and the fiber's behind them.
@@ -102,8 +101,7 @@ pub fn typed_classes(alloc: Global, typed: &Typed) -> Result<Seq<Class>, NoMemor
     ensures { IfOk result (λ s. s ≡ typed.now.program.classes ++ fiber_classes Form.Woven (first_class typed.now.program) (first_method typed.now.program)) }
 {
     let program = &typed.program;
-    let classes = woven_classes(alloc, program)?;
-    Ok(classes)
+    woven_classes(alloc, program)
 }
 
 /// The fields of a typed program.
@@ -111,6 +109,5 @@ pub fn typed_fields(alloc: Global, typed: &Typed) -> Result<Seq<Field>, NoMemory
     ensures { IfOk result (λ s. s ≡ typed.now.program.fields) }
 {
     let program = &typed.program;
-    let fields = fields_of(alloc, program)?;
-    Ok(fields)
+    fields_of(alloc, program)
 }

@@ -87,8 +87,7 @@ fn woven_at(
     ensures { IfOk result (λ r. IsWoven program.now method.now r.0 r.1) }
 {
     let found = frames_of(program, frames, id, method)?;
-    let pair = woven_each(alloc, program, found.as_slice(), id, method)?;
-    Ok(pair)
+    woven_each(alloc, program, found.as_slice(), id, method)
 }
 
 // The program's own methods and the built-in ones of the plain form.
@@ -160,8 +159,7 @@ fn all_woven(alloc: Global, program: &Program, frames: &[Seq<Frame>]) -> Result<
     ensures { IfOk result (λ all. AllWoven program.now program.now.methods all.methods all.counted) }
 {
     let each = woven_each_one(alloc, program, frames)?;
-    let all = with_fiber(alloc, program, each)?;
-    Ok(all)
+    with_fiber(alloc, program, each)
 }
 
 /// All methods of a typed program in their woven form, and behind them the members of the fiber.

@@ -7,4 +7,4 @@ pub with_fiber-requires : goal.with_fiber-requires
 with_fiber-requires c = c.in_ok-each.ensures
 
 pub returns : goal.returns
-returns c = c.in_ok-all.ensures
+returns c = c.with_fiber.ensures

@@ -10,4 +10,4 @@ woven_each-requires c = record {
 }
 
 pub returns : goal.returns
-returns c = c.in_ok-pair.ensures
+returns c = c.woven_each.ensures
