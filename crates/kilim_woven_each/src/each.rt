@@ -25,8 +25,8 @@ fn unchanged(
     requires { method.now.pausable ≡ false }
     ensures { IfOk result (λ r. IsWoven _program.now method.now r.0 r.1) }
 {
-    let same = copy_method(alloc, method)?;
     let counted = all_counted(alloc, method)?;
+    let same = copy_method(alloc, method)?;
     Ok((same, counted))
 }
 
@@ -40,8 +40,8 @@ fn without_calls(
     requires calls { has_calls program.now method.now ≡ false }
     ensures { IfOk result (λ r. IsWoven program.now method.now r.0 r.1) }
 {
-    let more = extended(alloc, program, method)?;
     let counted = all_counted(alloc, method)?;
+    let more = extended(alloc, program, method)?;
     Ok((more, counted))
 }
 
