@@ -143,12 +143,12 @@ fn with_code(
     ensures method { IfOk result (λ r. r.0 ≡ record method.now { params = method.now.params ++ class_type slots.class ∷ []; qualifiers = method.now.qualifiers ++ Qualifier.Safe ∷ []; max_stack = method.now.max_stack + 4; max_locals = (if method.now.is_static then slots.receiver else slots.receiver + 1); code_length = laid.end; code = laid.code; frames = laid.frames }) }
     ensures counted { IfOk result (λ r. r.1 ≡ laid.counted) }
 {
+    let max_stack = plus(method.max_stack, 4)?;
+    let max_locals = locals_with(slots, method.is_static)?;
     let params = params_with(alloc, method.params.as_slice(), slots.class)?;
     let qualifiers = qualifiers_with(alloc, method.qualifiers.as_slice())?;
     let handlers = Vec::from_slice(alloc, method.handlers.as_slice())?;
     let name = method.name.clone()?;
-    let max_stack = plus(method.max_stack, 4)?;
-    let max_locals = locals_with(slots, method.is_static)?;
     let Laid {
         code,
         frames,
