@@ -2,6 +2,7 @@
 use Rattle.std.proofs.Common.{◌≡◌, ℕ, zero, suc, Bool, true, false, cond, List, [], ◌∷◌, Option, Some, None, length, refl, sym, ap, subst, ◌∙◌}
 use Rattle.std.specs.Prelude.{ℤ, pos, negsuc, reverse, slice_get}
 use Rattle.std.specs.FinMap.{get}
+use Rattle.std.proofs.lemmas.Bool.{false≢true}
 use Rattle.kilim_classes.specs.declared.class.Method.{Method}
 use Rattle.kilim_classes.specs.Program.{Program}
 use Rattle.kilim_classes.specs.declared.instr.Instr.{Instr}
@@ -156,20 +157,23 @@ module _ (h k : Objects) where
   take_quiet next locals stack heap = no_on_int stack _ (λ i below. no_on_object below heap _ (λ n object rest. no_index object.elements i _ (λ j v. record { holds = tt })))
 
   module _ (p : Program) (own : Method) where
-    row_same : (i : Instr) (b : Bool) → is_call i ≡ b → (next : ℕ) (locals stack : List Value) → AsksSame k (does p own i next locals stack h) (does p own i next locals stack k)
+    call_same : (i : Instr) → is_call i ≡ true → (next : ℕ) (locals stack : List Value) → AsksSame k (does p own i next locals stack h) (does p own i next locals stack k)
     unfolding does
-    row_same (Invokevirtual m) b e next locals stack =
+    call_same (Invokevirtual m) e next locals stack =
         some_same (method_at p m) _ _ (λ method. values_same (length method.params) stack _ _ (λ args below. value_same below _ _ (λ receiver rest.
         if_same (is_text_method p method) _ _ _ _ (quiet_same k _ _ (text_quiet method (reverse args) next locals rest h receiver)) (virtual_same p method m (reverse args) next locals rest receiver))))
-    row_same (Invokespecial m) b e next locals stack =
+    call_same (Invokespecial m) e next locals stack =
         some_same (method_at p m) _ _ (λ method. if_same (is_built_in_constructor method) _ _ _ _ (quiet_same k _ _ (no_on_receiver stack _ (λ receiver rest. record { holds = tt })))
         (values_same (length method.params) stack _ _ (λ args below. on_receiver_same below _ _ (λ receiver rest.
         method_same (method_at p (special p own method m)) (special p own method m) (receiver ∷ reverse args) next locals rest))))
-    row_same (Invokestatic m) b e next locals stack =
+    call_same (Invokestatic m) e next locals stack =
         some_same (method_at p m) _ _ (λ method. if_same (is_handed_out p method) _ _ _ _ (values_same (length method.params) stack _ _ (λ args rest. asks_same m (reverse args) next locals rest))
         (if_same method.built_in _ _ _ _ (quiet_same k _ _ (take_quiet next locals stack h)) (values_same (length method.params) stack _ _ (λ args rest. record { same = tt }))))
-    row_same i false e next locals stack = quiet_same k _ _ (no_ask p own i next locals stack h e)
-    row_same i true e next locals stack = absurd (cc)
+    call_same i e next locals stack = absurd (false≢true e)
+
+    row_same : (i : Instr) (b : Bool) → is_call i ≡ b → (next : ℕ) (locals stack : List Value) → AsksSame k (does p own i next locals stack h) (does p own i next locals stack k)
+    row_same i true e next locals stack = call_same i e next locals stack
+    row_same i false e next locals stack = quiet_same k (does p own i next locals stack h) (does p own i next locals stack k) (no_ask p own i next locals stack h e)
 
   found_same : (p : Program) (own : Method) (top : Activation) (found : Option (Instr × ℕ)) → AsksSame k (effect_found p own top h found) (effect_found p own top k found)
   found_same p own top None = record { same = tt }

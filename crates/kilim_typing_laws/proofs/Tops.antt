@@ -1,7 +1,7 @@
 -- A local that is Top stays Top where it isn't written, and where it is read it isn't Top.
 use Rattle.std.proofs.Common.{◌≡◌, ℕ, zero, suc, Bool, true, false, ◌||◌, ◌&&◌, eqb, refl, ap, sym, ◌∙◌, subst, true≢false, List, [], ◌∷◌, length, drop, Option, Some, None, Result, Ok, Err}
 use Rattle.std.specs.Prelude.{nat_lt}
-use Rattle.std.proofs.lemmas.Bool.{and_parts, eq-eqb, eqb-true}
+use Rattle.std.proofs.lemmas.Bool.{and_parts, eq-eqb, eqb-true, false≢true}
 use Rattle.kilim_classes.specs.declared.class.Field.{Field}
 use Rattle.kilim_classes.specs.declared.class.Method.{Method}
 use Rattle.kilim_classes.specs.declared.instr.Instr.{Instr}
@@ -284,7 +284,7 @@ module _ (p : Program) (m : Method) where
   read_has_type at (Lload n) f g k e r = loads at (Is Long) n k f g a_long e r
   read_has_type at (Aload n) f g k e r = loads at AReference n k f g a_reference e r
   read_has_type at (Iinc n by) f g k e r = adds at n k f g e r
-  read_has_type at i f g k e r = absurd (cc)
+  read_has_type at i f g k e r = absurd (false≢true r)
 
 -- ---- what flows
 
