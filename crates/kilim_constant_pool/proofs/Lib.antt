@@ -4,3 +4,4 @@ pub mod EntryFormat
 pub mod PoolFormat
 pub mod AddLaws
 pub mod Fronts
+pub mod Tags

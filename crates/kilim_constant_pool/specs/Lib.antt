@@ -4,3 +4,4 @@ pub mod Slots
 pub mod Reading
 pub mod Adding
 pub mod Fronts
+pub mod Tagged

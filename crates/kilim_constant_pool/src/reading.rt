@@ -1,7 +1,10 @@
 //! Bytes to a pool.
 
-ghost use Rattle.std.specs.Prelude.{◌≡◌, ◌⊎◌, ◌+◌, ◌<◌, ◌≤◌, ◌^◌, ◌++◌, List, length, drop, ℕ, nat_lt, false, true, IfOk, MatchResult};
-ghost use Rattle.kilim_grammar.specs.Reader.{Reads, ReadsUnless};
+ghost use Rattle.std.specs.Prelude.{◌≡◌, ◌==◌, ◌⊎◌, ◌+◌, ◌<◌, ◌≤◌, ◌^◌, ◌++◌, if◌then◌else◌, List, length, drop, ℕ, nat_lt, false, true, IfOk, MatchResult};
+ghost use Rattle.std.specs.Int.{w32, w64};
+ghost use Rattle.kilim_grammar.specs.Reader.{Reads, ReadsUnless, made, number_at, signed_at};
+ghost use Rattle.kilim_constant_pool.specs.declared.entry.Entry.TheVariants.{Utf8, Integer, Float, Long, Double, MethodHandle};
+ghost use Rattle.kilim_constant_pool.specs.Tagged.{is_single, single, is_paired, paired};
 ghost use Rattle.kilim_grammar.specs.Format.{Format, IsAtFront};
 ghost use Rattle.kilim_constant_pool.specs.declared.entry.Entry.{Entry};
 ghost use Rattle.kilim_constant_pool.specs.Entries.{is_wide};
@@ -19,76 +22,126 @@ use kilim_units::Units;
 use std::alloc::Global;
 
 #[tactic(auto, unfolding(crate::specs::Reading::text_at))]
-fn text_at(alloc: Global, index: u16, bytes: &[u8]) -> Result<(Units, &[u8]), PoolFault>
-    ensures { ReadsUnless pool.Memory (λ x. (x.0, x.1.now)) result (text_at index bytes.now) }
+fn text_at(alloc: Global, index: u16, bytes: &[u8]) -> Result<(Entry, &[u8]), PoolFault>
+    ensures read { ReadsUnless pool.Memory (λ x. (x.0, x.1.now)) result (made Utf8 (text_at index) bytes.now) }
+    ensures narrow { IfOk result (λ x. is_wide x.0 ≡ false) }
 {
     let (len, rest) = u16_at(PoolFault::Cut, bytes)?;
     let (text, rest) = bytes_at(PoolFault::Cut, usize::from(len), rest)?;
     match kilim_mutf8::read(alloc, text) {
-        Ok(units) => Ok((units, rest)),
+        Ok(units) => Ok((Entry::Utf8(units), rest)),
         Err(kilim_mutf8::TextFault::Memory) => Err(PoolFault::Memory),
         Err(_) => Err(PoolFault::Text(index)),
     }
 }
 
+fn is_single(tag: u8) -> bool
+    ensures { result ≡ is_single tag }
+{
+    tag == 7 || tag == 8 || tag == 16
+}
+
+fn single(tag: u8, index: u16) -> Entry
+    ensures result { result ≡ single tag index }
+    ensures narrow { is_wide result ≡ false }
+{
+    if tag == 7 {
+        Entry::Class(index)
+    } else if tag == 8 {
+        Entry::String(index)
+    } else {
+        Entry::MethodType(index)
+    }
+}
+
+fn single_at(tag: u8, bytes: &[u8]) -> Result<(Entry, &[u8]), PoolFault>
+    ensures read { Reads (λ x. (x.0, x.1.now)) result (made (single tag) index_at bytes.now) }
+    ensures narrow { IfOk result (λ x. is_wide x.0 ≡ false) }
+{
+    let (index, rest) = u16_at(PoolFault::Cut, bytes)?;
+    Ok((single(tag, index), rest))
+}
+
+fn is_paired(tag: u8) -> bool
+    ensures { result ≡ is_paired tag }
+{
+    tag == 9 || tag == 10 || tag == 11 || tag == 12 || tag == 18
+}
+
+fn paired(tag: u8, first: u16, second: u16) -> Entry
+    ensures result { result ≡ paired tag (first, second) }
+    ensures narrow { is_wide result ≡ false }
+{
+    if tag == 9 {
+        Entry::Fieldref(first, second)
+    } else if tag == 10 {
+        Entry::Methodref(first, second)
+    } else if tag == 11 {
+        Entry::InterfaceMethodref(first, second)
+    } else if tag == 12 {
+        Entry::NameAndType(first, second)
+    } else {
+        Entry::InvokeDynamic(first, second)
+    }
+}
+
 #[tactic(auto, unfolding(crate::specs::Reading::pair_at))]
-fn pair_at(bytes: &[u8]) -> Result<((u16, u16), &[u8]), PoolFault>
-    ensures { Reads (λ x. (x.0, x.1.now)) result (pair_at bytes.now) }
+fn paired_at(tag: u8, bytes: &[u8]) -> Result<(Entry, &[u8]), PoolFault>
+    ensures read { Reads (λ x. (x.0, x.1.now)) result (made (paired tag) pair_at bytes.now) }
+    ensures narrow { IfOk result (λ x. is_wide x.0 ≡ false) }
 {
     let (first, rest) = u16_at(PoolFault::Cut, bytes)?;
     let (second, rest) = u16_at(PoolFault::Cut, rest)?;
-    Ok(((first, second), rest))
+    Ok((paired(tag, first, second), rest))
 }
 
 #[tactic(auto, unfolding(crate::specs::Reading::handle_at))]
-fn handle_at(bytes: &[u8]) -> Result<((u8, u16), &[u8]), PoolFault>
-    ensures { Reads (λ x. (x.0, x.1.now)) result (handle_at bytes.now) }
+fn handle_at(bytes: &[u8]) -> Result<(Entry, &[u8]), PoolFault>
+    ensures read { Reads (λ x. (x.0, x.1.now)) result (made (λ p. MethodHandle p.0 p.1) handle_at bytes.now) }
+    ensures narrow { IfOk result (λ x. is_wide x.0 ≡ false) }
 {
     let (kind, rest) = u8_at(PoolFault::Cut, bytes)?;
     let (named, rest) = u16_at(PoolFault::Cut, rest)?;
-    Ok(((kind, named), rest))
+    Ok((Entry::MethodHandle(kind, named), rest))
 }
 
-fn index_at(bytes: &[u8]) -> Result<(u16, &[u8]), PoolFault>
-    ensures { Reads (λ x. (x.0, x.1.now)) result (index_at bytes.now) }
-{
-    u16_at(PoolFault::Cut, bytes)
-}
-
-#[tactic(auto, unfolding(crate::specs::Reading::reference_at))]
 fn reference_at(index: u16, tag: u8, bytes: &[u8]) -> Result<(Entry, &[u8]), PoolFault>
     ensures read { Reads (λ x. (x.0, x.1.now)) result (reference_at index tag bytes.now) }
     ensures narrow { IfOk result (λ x. is_wide x.0 ≡ false) }
 {
-    if tag == 7 {
-        let (name, rest) = index_at(bytes)?;
-        Ok((Entry::Class(name), rest))
-    } else if tag == 8 {
-        let (text, rest) = index_at(bytes)?;
-        Ok((Entry::String(text), rest))
-    } else if tag == 9 {
-        let ((class, member), rest) = pair_at(bytes)?;
-        Ok((Entry::Fieldref(class, member), rest))
-    } else if tag == 10 {
-        let ((class, member), rest) = pair_at(bytes)?;
-        Ok((Entry::Methodref(class, member), rest))
-    } else if tag == 11 {
-        let ((class, member), rest) = pair_at(bytes)?;
-        Ok((Entry::InterfaceMethodref(class, member), rest))
-    } else if tag == 12 {
-        let ((name, descriptor), rest) = pair_at(bytes)?;
-        Ok((Entry::NameAndType(name, descriptor), rest))
+    if is_single(tag) {
+        single_at(tag, bytes)
+    } else if is_paired(tag) {
+        paired_at(tag, bytes)
     } else if tag == 15 {
-        let ((kind, named), rest) = handle_at(bytes)?;
-        Ok((Entry::MethodHandle(kind, named), rest))
-    } else if tag == 16 {
-        let (descriptor, rest) = index_at(bytes)?;
-        Ok((Entry::MethodType(descriptor), rest))
-    } else if tag == 18 {
-        let ((bootstrap, member), rest) = pair_at(bytes)?;
-        Ok((Entry::InvokeDynamic(bootstrap, member), rest))
+        handle_at(bytes)
     } else {
         Err(PoolFault::Tag(index, tag))
+    }
+}
+
+// A number of four bytes.
+fn four_at(tag: u8, bytes: &[u8]) -> Result<(Entry, &[u8]), PoolFault>
+    ensures read { Reads (λ x. (x.0, x.1.now)) result (if tag == 3 then made Integer (signed_at pool.Cut w32) bytes.now else made Float (number_at pool.Cut w32) bytes.now) }
+    ensures narrow { IfOk result (λ x. is_wide x.0 ≡ false) }
+{
+    let (bits, rest) = u32_at(PoolFault::Cut, bytes)?;
+    if tag == 3 {
+        Ok((Entry::Integer(bits.cast_signed()), rest))
+    } else {
+        Ok((Entry::Float(bits), rest))
+    }
+}
+
+// A number of eight bytes.
+fn eight_at(tag: u8, bytes: &[u8]) -> Result<(Entry, &[u8]), PoolFault>
+    ensures { Reads (λ x. (x.0, x.1.now)) result (if tag == 5 then made Long (signed_at pool.Cut w64) bytes.now else made Double (number_at pool.Cut w64) bytes.now) }
+{
+    let (bits, rest) = u64_at(PoolFault::Cut, bytes)?;
+    if tag == 5 {
+        Ok((Entry::Long(bits.cast_signed()), rest))
+    } else {
+        Ok((Entry::Double(bits), rest))
     }
 }
 
@@ -98,20 +151,11 @@ fn content_at(alloc: Global, index: u16, tag: u8, bytes: &[u8]) -> Result<(Entry
     ensures wide { IfOk result (λ x. is_wide x.0 ≡ true → (tag ≡ 5) ⊎ (tag ≡ 6)) }
 {
     if tag == 1 {
-        let (units, rest) = text_at(alloc, index, bytes)?;
-        Ok((Entry::Utf8(units), rest))
-    } else if tag == 3 {
-        let (bits, rest) = u32_at(PoolFault::Cut, bytes)?;
-        Ok((Entry::Integer(bits.cast_signed()), rest))
-    } else if tag == 4 {
-        let (bits, rest) = u32_at(PoolFault::Cut, bytes)?;
-        Ok((Entry::Float(bits), rest))
-    } else if tag == 5 {
-        let (bits, rest) = u64_at(PoolFault::Cut, bytes)?;
-        Ok((Entry::Long(bits.cast_signed()), rest))
-    } else if tag == 6 {
-        let (bits, rest) = u64_at(PoolFault::Cut, bytes)?;
-        Ok((Entry::Double(bits), rest))
+        text_at(alloc, index, bytes)
+    } else if tag == 3 || tag == 4 {
+        four_at(tag, bytes)
+    } else if tag == 5 || tag == 6 {
+        eight_at(tag, bytes)
     } else {
         reference_at(index, tag, bytes)
     }
