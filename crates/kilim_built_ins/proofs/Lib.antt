@@ -1,2 +1,1 @@
-mod Distances
-mod Pushed
+pub mod Distances

@@ -1,9 +1,11 @@
 //! The classes.
 
-ghost use Rattle.std.specs.Prelude.{◌≡◌, ◌<◌, ◌^◌, [], ◌∷◌, ◌++◌, false, Some, OnOk, IfOk};
-ghost use Rattle.kilim_classes.specs.BuiltIn.{class_id, methods_from, built_in_class, fiber_classes, built_in_classes_in};
+ghost use Rattle.std.specs.Prelude.{◌≡◌, ◌<◌, ◌^◌, ℕ, ◌++◌, map, Some, OnOk, IfOk};
+ghost use Rattle.kilim_classes.specs.BuiltIn.{class_id, methods_from, fiber_classes, built_in_classes_in};
+ghost use Rattle.kilim_built_ins.specs.Rows.{class_of};
 
 use crate::parts::text;
+use crate::rows::{CLASSES, ClassRow, FIBER_CLASSES, OBJECT_CLASS};
 use kilim_classes::{Class, ClassId, Form, MethodId};
 use kilim_units::{NoMemory, Seq};
 use std::alloc::Global;
@@ -24,64 +26,50 @@ fn methods_from(alloc: Global, first: u32, distances: &[u8]) -> Result<Seq<Metho
 // A class without fields.
 fn built_in_class(
     alloc: Global,
-    name: &[u8],
     superclass: Option<ClassId>,
-    message: bool,
-    methods: Seq<MethodId>,
+    method: u32,
+    row: &ClassRow,
 ) -> Result<Class, NoMemory>
-    ensures { IfOk result (λ class. class ≡ built_in_class name.now superclass message methods) }
+    requires { method < 2 ^ 31 }
+    ensures { IfOk result (λ class. class ≡ class_of superclass method row.now) }
 {
+    let name = text(alloc, row.name)?;
+    let methods = methods_from(alloc, method, row.methods)?;
     Ok(Class {
-        name: text(alloc, name)?,
+        name,
         superclass,
         is_abstract: false,
-        message,
+        message: row.message,
         fields: Seq::new(alloc),
         methods,
     })
 }
 
-// The numbers of the first class, which is `java/lang/Object`, and of the first method.
-#[derive(Clone, Copy)]
-struct First {
-    class: u32,
-    method: u32,
-}
-
-// Appends a class that is no message class, with `java/lang/Object` as its superclass.
-fn push_class(
-    alloc: Global,
-    classes: &mut Seq<Class>,
-    first: First,
-    name: &[u8],
-    distances: &[u8],
-) -> Result<(), NoMemory>
-    requires { first.method < 2 ^ 31 }
-    ensures { OnOk result (classes.new ≡ classes.old ++ built_in_class name.now (Some (class_id first.class)) false (methods_from first.method distances.now) ∷ []) }
-{
-    let object = Some(ClassId(first.class));
-    let methods = methods_from(alloc, first.method, distances)?;
-    classes.push(built_in_class(alloc, name, object, false, methods)?)?;
-    Ok(())
-}
-
-// Appends `kilim/Fiber` in woven form.
-fn push_fiber_class(
-    alloc: Global,
-    classes: &mut Seq<Class>,
-    form: Form,
-    first: First,
-) -> Result<(), NoMemory>
-    requires { first.method < 2 ^ 31 }
-    ensures { OnOk result (classes.new ≡ classes.old ++ fiber_classes form first.class first.method) }
+// `kilim/Fiber`, in woven form alone.
+fn fiber_classes(form: Form) -> &'static [ClassRow<'static>]
+    ensures { (first method : ℕ) → map (class_of (Some (class_id first)) method) result.now ≡ fiber_classes form first method }
 {
     match form {
-        Form::Plain => Ok(()),
-        Form::Woven => {
-            let of_fiber = [18, 19, 20, 21, 22, 23, 24, 25, 26, 27, 28];
-            push_class(alloc, classes, first, b"kilim/Fiber", &of_fiber)
-        }
+        Form::Plain => &[],
+        Form::Woven => FIBER_CLASSES,
     }
+}
+
+// Appends classes that have `java/lang/Object` as their superclass.
+fn push_classes(
+    alloc: Global,
+    classes: &mut Seq<Class>,
+    first: u32,
+    method: u32,
+    rows: &[ClassRow],
+) -> Result<(), NoMemory>
+    requires { method < 2 ^ 31 }
+    ensures { OnOk result (classes.new ≡ classes.old ++ map (class_of (Some (class_id first)) method) rows.now) }
+{
+    for row in rows {
+        classes.push(built_in_class(alloc, Some(ClassId(first)), method, row)?)?;
+    }
+    Ok(())
 }
 
 /// The built-in classes of a form, in their order (own). The first of them and the first of their methods have these
@@ -96,23 +84,9 @@ pub fn built_in_classes(
     requires method { method < 2 ^ 31 }
     ensures { IfOk result (λ classes. classes ≡ built_in_classes_in form first method) }
 {
-    let of_object = methods_from(alloc, method, &[0])?;
-    let object = built_in_class(alloc, b"java/lang/Object", None, false, of_object)?;
-    let first = First {
-        class: first,
-        method,
-    };
-    let mut list = Seq::new(alloc);
-    list.push(object)?;
-    push_class(alloc, &mut list, first, b"java/lang/String", &[1, 2, 3])?;
-    let object = Some(ClassId(first.class));
-    let message = built_in_class(alloc, b"kilim/Message", object, true, Seq::new(alloc))?;
-    list.push(message)?;
-    push_class(alloc, &mut list, first, b"kilim/Pausable", &[])?;
-    push_class(alloc, &mut list, first, b"kilim/Task", &[4, 5, 6])?;
-    push_class(alloc, &mut list, first, b"kilim/Mailbox", &[7, 8, 9, 10])?;
-    let of_sys = [11, 12, 13, 14, 15, 16, 17];
-    push_class(alloc, &mut list, first, b"kilim/Sys", &of_sys)?;
-    push_fiber_class(alloc, &mut list, form, first)?;
-    Ok(list)
+    let mut classes = Seq::new(alloc);
+    classes.push(built_in_class(alloc, None, method, &OBJECT_CLASS)?)?;
+    push_classes(alloc, &mut classes, first, method, CLASSES)?;
+    push_classes(alloc, &mut classes, first, method, fiber_classes(form))?;
+    Ok(classes)
 }

@@ -5,9 +5,9 @@
 #![tactic(auto)]
 
 mod classes;
-mod fiber;
 mod methods;
 mod parts;
+mod rows;
 
 pub use classes::built_in_classes;
 pub use methods::built_in_methods;

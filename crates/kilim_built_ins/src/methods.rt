@@ -1,178 +1,107 @@
 //! The methods, class by class.
 
-ghost use Rattle.std.specs.Prelude.{◌≡◌, ◌+◌, ◌<◌, ◌^◌, List, [], ◌∷◌, ◌++◌, OnOk, IfOk};
-ghost use Rattle.kilim_classes.specs.declared.ty.Qualifier.TheVariants.{Safe};
-ghost use Rattle.kilim_classes.specs.BuiltIn.{class_id, built_in_method, built_in_constructor, built_in_methods_in, fiber_params, fiber_qualifiers};
-ghost use Rattle.kilim_built_ins.specs.Methods.{string_methods, task_methods, mailbox_methods, print_method, print_methods, yield_method, argument_methods, take_method};
+ghost use Rattle.std.specs.Prelude.{◌≡◌, ◌<◌, ◌^◌, ℕ, ◌++◌, map, OnOk, IfOk};
+ghost use Rattle.kilim_classes.specs.BuiltIn.{built_in_methods_in, fiber_methods};
+ghost use Rattle.kilim_built_ins.specs.Rows.{params_of, marks_of, fiber_kinds, fiber_marks, method_of};
 
-use crate::fiber::push_fiber_methods;
-use crate::parts::{
-    Manner, OF_AN_OBJECT, STATIC, Signature, behind, class_type, fiber_params, fiber_qualifiers,
-    plain, push_method,
-};
-use kilim_classes::{Base, ClassId, Form, Method, Qualifier, Ty};
+use crate::parts::{gives_of, push_types, text};
+use crate::rows::{FIBER_METHODS, Kind, METHODS, MethodRow};
+use kilim_classes::{ClassId, Form, Method, Qualifier, Ty};
 use kilim_units::{NoMemory, Seq};
 use std::alloc::Global;
 
-const PAUSING: Manner = Manner {
-    is_static: false,
-    pausable: true,
-    receiver: Qualifier::Safe,
-};
-
-// What a method that pauses takes and gives: nothing but the fiber.
-fn pausing(alloc: Global, form: Form, first: u32, gives: Option<Ty>) -> Result<Signature, NoMemory>
-    requires { first < 2 ^ 31 }
-    ensures { IfOk result (λ s. s ≡ record { params = fiber_params form first; gives = gives; qualifiers = fiber_qualifiers form }) }
+// The kind of the fiber, where a method takes it.
+fn fiber_kinds(form: Form, pausable: bool) -> &'static [Kind]
+    ensures { result.now ≡ fiber_kinds form pausable }
 {
-    Ok(Signature {
-        params: fiber_params(alloc, form, first)?,
-        gives,
-        qualifiers: fiber_qualifiers(alloc, form)?,
+    match form {
+        Form::Woven if pausable => &[Kind::Object(7)],
+        _ => &[],
+    }
+}
+
+// Its qualifier.
+fn fiber_marks(form: Form, pausable: bool) -> &'static [Qualifier]
+    ensures { result.now ≡ fiber_marks form pausable }
+{
+    match form {
+        Form::Woven if pausable => &[Qualifier::Safe],
+        _ => &[],
+    }
+}
+
+fn params_of(alloc: Global, form: Form, first: u32, row: &MethodRow) -> Result<Seq<Ty>, NoMemory>
+    requires { first < 2 ^ 31 }
+    ensures { IfOk result (λ params. params ≡ params_of form first row.now) }
+{
+    let mut params = Vec::new(alloc);
+    push_types(&mut params, first, row.params)?;
+    push_types(&mut params, first, fiber_kinds(form, row.pausable))?;
+    Ok(Seq::from_vec(params))
+}
+
+fn marks_of(alloc: Global, form: Form, row: &MethodRow) -> Result<Seq<Qualifier>, NoMemory>
+    ensures { IfOk result (λ marks. marks ≡ marks_of form row.now) }
+{
+    let mut marks = Vec::from_slice(alloc, row.qualifiers)?;
+    marks.extend_from_slice(fiber_marks(form, row.pausable))?;
+    Ok(Seq::from_vec(marks))
+}
+
+// What a method of a built-in class is: it has no code.
+fn method_of(alloc: Global, form: Form, first: u32, row: &MethodRow) -> Result<Method, NoMemory>
+    requires { first < 2 ^ 31 }
+    ensures { IfOk result (λ m. m ≡ method_of form first row.now) }
+{
+    let name = text(alloc, row.name)?;
+    let params = params_of(alloc, form, first, row)?;
+    let qualifiers = marks_of(alloc, form, row)?;
+    Ok(Method {
+        name,
+        owner: ClassId(first + u32::from(row.owner)),
+        params,
+        result: gives_of(first, row.gives),
+        is_static: row.is_static,
+        is_private: false,
+        is_abstract: false,
+        built_in: true,
+        pausable: row.pausable,
+        receiver: row.receiver,
+        qualifiers,
+        max_stack: 0,
+        max_locals: 0,
+        code_length: 0,
+        code: Seq::new(alloc),
+        frames: Seq::new(alloc),
+        handlers: Seq::new(alloc),
     })
 }
 
-fn push_constructor(
-    alloc: Global,
-    methods: &mut Seq<Method>,
-    owner: ClassId,
-) -> Result<(), NoMemory>
-    ensures { OnOk result (methods.new ≡ methods.old ++ built_in_constructor owner ∷ []) }
-{
-    let manner = Manner {
-        is_static: false,
-        pausable: false,
-        receiver: Qualifier::Cuttable,
-    };
-    let nothing = Signature::new(alloc, &[], &[], None)?;
-    push_method(alloc, methods, b"<init>", owner, manner, nothing)
-}
-
-fn push_string_methods(alloc: Global, methods: &mut Seq<Method>, first: u32) -> Result<(), NoMemory>
-    requires { first < 2 ^ 31 }
-    ensures { OnOk result (methods.new ≡ methods.old ++ string_methods first) }
-{
-    let string = behind(first, 1);
-    let length = Signature::new(alloc, &[], &[], Some(plain(Base::Int)))?;
-    push_method(alloc, methods, b"length", string, OF_AN_OBJECT, length)?;
-    let place = plain(Base::Int);
-    let char_at = Signature::new(alloc, &[place], &[Qualifier::Safe], Some(plain(Base::Char)))?;
-    push_method(alloc, methods, b"charAt", string, OF_AN_OBJECT, char_at)?;
-    let other = class_type(ClassId(first));
-    let equals = Signature::new(alloc, &[other], &[Qualifier::Safe], Some(plain(Base::Bool)))?;
-    push_method(alloc, methods, b"equals", string, OF_AN_OBJECT, equals)
-}
-
-fn push_task_methods(
+// Appends the methods of some rows.
+fn push_methods(
     alloc: Global,
     methods: &mut Seq<Method>,
     form: Form,
     first: u32,
+    rows: &[MethodRow],
 ) -> Result<(), NoMemory>
     requires { first < 2 ^ 31 }
-    ensures { OnOk result (methods.new ≡ methods.old ++ task_methods form first) }
+    ensures { OnOk result (methods.new ≡ methods.old ++ map (method_of form first) rows.now) }
 {
-    let task = behind(first, 4);
-    push_constructor(alloc, methods, task)?;
-    let start = Manner {
-        is_static: false,
-        pausable: false,
-        receiver: Qualifier::Free,
-    };
-    let nothing = Signature::new(alloc, &[], &[], None)?;
-    push_method(alloc, methods, b"start", task, start, nothing)?;
-    let execute = Manner {
-        is_static: false,
-        pausable: true,
-        receiver: Qualifier::Cuttable,
-    };
-    let fiber = pausing(alloc, form, first, None)?;
-    push_method(alloc, methods, b"execute", task, execute, fiber)
+    for row in rows {
+        methods.push(method_of(alloc, form, first, row)?)?;
+    }
+    Ok(())
 }
 
-fn push_mailbox_methods(
-    alloc: Global,
-    methods: &mut Seq<Method>,
-    form: Form,
-    first: u32,
-) -> Result<(), NoMemory>
-    requires { first < 2 ^ 31 }
-    ensures { OnOk result (methods.new ≡ methods.old ++ mailbox_methods form first) }
+// Those of `kilim/Fiber`, in woven form alone.
+fn fiber_methods(form: Form) -> &'static [MethodRow<'static>]
+    ensures { (first : ℕ) → map (method_of form first) result.now ≡ fiber_methods form first }
 {
-    let mailbox = behind(first, 5);
-    let message = class_type(behind(first, 2));
-    push_constructor(alloc, methods, mailbox)?;
-    let put = Signature::new(alloc, &[message], &[Qualifier::Free], None)?;
-    push_method(alloc, methods, b"put", mailbox, OF_AN_OBJECT, put)?;
-    let get = pausing(alloc, form, first, Some(message))?;
-    push_method(alloc, methods, b"get", mailbox, PAUSING, get)?;
-    let getnb = Signature::new(alloc, &[], &[], Some(message))?;
-    push_method(alloc, methods, b"getnb", mailbox, OF_AN_OBJECT, getnb)
-}
-
-fn push_print(alloc: Global, methods: &mut Seq<Method>, first: u32, ty: Ty) -> Result<(), NoMemory>
-    requires { first < 2 ^ 31 }
-    ensures { OnOk result (methods.new ≡ methods.old ++ print_method first ty ∷ []) }
-{
-    let print = Signature::new(alloc, &[ty], &[Qualifier::Safe], None)?;
-    push_method(alloc, methods, b"print", behind(first, 6), STATIC, print)
-}
-
-fn push_print_methods(alloc: Global, methods: &mut Seq<Method>, first: u32) -> Result<(), NoMemory>
-    requires { first < 2 ^ 31 }
-    ensures { OnOk result (methods.new ≡ methods.old ++ print_methods first) }
-{
-    push_print(alloc, methods, first, plain(Base::Int))?;
-    push_print(alloc, methods, first, plain(Base::Long))?;
-    push_print(alloc, methods, first, class_type(behind(first, 1)))
-}
-
-fn push_yield(
-    alloc: Global,
-    methods: &mut Seq<Method>,
-    form: Form,
-    first: u32,
-) -> Result<(), NoMemory>
-    requires { first < 2 ^ 31 }
-    ensures { OnOk result (methods.new ≡ methods.old ++ yield_method form first ∷ []) }
-{
-    let manner = Manner {
-        is_static: true,
-        pausable: true,
-        receiver: Qualifier::Safe,
-    };
-    let fiber = pausing(alloc, form, first, None)?;
-    push_method(alloc, methods, b"yield", behind(first, 6), manner, fiber)
-}
-
-fn push_argument_methods(
-    alloc: Global,
-    methods: &mut Seq<Method>,
-    first: u32,
-) -> Result<(), NoMemory>
-    requires { first < 2 ^ 31 }
-    ensures { OnOk result (methods.new ≡ methods.old ++ argument_methods first) }
-{
-    let sys = behind(first, 6);
-    let int = plain(Base::Int);
-    let arg_count = Signature::new(alloc, &[], &[], Some(int))?;
-    push_method(alloc, methods, b"argCount", sys, STATIC, arg_count)?;
-    let arg = Signature::new(alloc, &[int], &[Qualifier::Safe], Some(int))?;
-    push_method(alloc, methods, b"arg", sys, STATIC, arg)
-}
-
-fn push_take(alloc: Global, methods: &mut Seq<Method>, first: u32) -> Result<(), NoMemory>
-    requires { first < 2 ^ 31 }
-    ensures { OnOk result (methods.new ≡ methods.old ++ take_method first ∷ []) }
-{
-    let messages = Ty {
-        dims: 1,
-        base: Base::Class(behind(first, 2)),
-    };
-    let params = [messages, plain(Base::Int)];
-    let marks = [Qualifier::Cuttable, Qualifier::Safe];
-    let take = Signature::new(alloc, &params, &marks, Some(class_type(behind(first, 2))))?;
-    push_method(alloc, methods, b"take", behind(first, 6), STATIC, take)
+    match form {
+        Form::Plain => &[],
+        Form::Woven => FIBER_METHODS,
+    }
 }
 
 /// The built-in methods of a form, in the order of their classes (own). The first of the classes has this number.
@@ -182,14 +111,7 @@ pub fn built_in_methods(alloc: Global, form: Form, first: u32) -> Result<Seq<Met
     ensures { IfOk result (λ methods. methods ≡ built_in_methods_in form first) }
 {
     let mut methods = Seq::new(alloc);
-    push_constructor(alloc, &mut methods, ClassId(first))?;
-    push_string_methods(alloc, &mut methods, first)?;
-    push_task_methods(alloc, &mut methods, form, first)?;
-    push_mailbox_methods(alloc, &mut methods, form, first)?;
-    push_print_methods(alloc, &mut methods, first)?;
-    push_yield(alloc, &mut methods, form, first)?;
-    push_argument_methods(alloc, &mut methods, first)?;
-    push_take(alloc, &mut methods, first)?;
-    push_fiber_methods(alloc, &mut methods, form, first)?;
+    push_methods(alloc, &mut methods, form, first, METHODS)?;
+    push_methods(alloc, &mut methods, form, first, fiber_methods(form))?;
     Ok(methods)
 }
