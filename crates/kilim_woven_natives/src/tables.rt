@@ -1,6 +1,6 @@
 //! What is told by names, in tables by numbers.
 
-ghost use Rattle.std.specs.Prelude.{◌≡◌, ◌∷◌, [], ◌++◌, Some, IfOk, IfSome, OnOk, slice_get};
+ghost use Rattle.std.specs.Prelude.{◌≡◌, Some, IfOk, IfSome, slice_get};
 ghost use Rattle.kilim_woven_natives.specs.Tables.{AreExecutes, AreNatives};
 
 use crate::executes::execute_of;
@@ -8,13 +8,6 @@ use crate::natives::{Native, native_of};
 use kilim_classes::{ClassId, MethodId, Program};
 use kilim_units::NoMemory;
 use std::alloc::Global;
-
-fn push_native(table: &mut Vec<Option<Native>>, one: Option<Native>) -> Result<(), NoMemory>
-    ensures { OnOk result (table.new.items ≡ table.old.items ++ one ∷ []) }
-{
-    table.push(one)?;
-    Ok(())
-}
 
 /// Which built-in method each method is, where it is one that is handed out.
 pub fn native_table(alloc: Global, program: &Program) -> Result<Vec<Option<Native>>, NoMemory>
@@ -26,7 +19,7 @@ pub fn native_table(alloc: Global, program: &Program) -> Result<Vec<Option<Nativ
             return Ok(table);
         };
         let native = native_of(program, MethodId(number));
-        push_native(&mut table, native)?;
+        table.push(native)?;
     }
     Ok(table)
 }
@@ -40,13 +33,6 @@ pub fn native_at(table: &[Option<Native>], method: MethodId) -> Option<Native>
     if at < table.len() { table[at] } else { None }
 }
 
-fn push_execute(table: &mut Vec<Option<MethodId>>, one: Option<MethodId>) -> Result<(), NoMemory>
-    ensures { OnOk result (table.new.items ≡ table.old.items ++ one ∷ []) }
-{
-    table.push(one)?;
-    Ok(())
-}
-
 /// The method `execute` that the objects of each class have.
 pub fn execute_table(alloc: Global, program: &Program) -> Result<Vec<Option<MethodId>>, NoMemory>
     ensures { IfOk result (λ table. AreExecutes program.now table.items) }
@@ -57,7 +43,7 @@ pub fn execute_table(alloc: Global, program: &Program) -> Result<Vec<Option<Meth
             return Ok(table);
         };
         let method = execute_of(program, ClassId(number));
-        push_execute(&mut table, method)?;
+        table.push(method)?;
     }
     Ok(table)
 }
