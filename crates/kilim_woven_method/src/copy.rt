@@ -1,6 +1,6 @@
 //! Copies of methods and their parts.
 
-ghost use Rattle.std.specs.Prelude.{◌≡◌, ◌<◌, [], Some, length, slice_get, IfOk, OnOk};
+ghost use Rattle.std.specs.Prelude.{◌≡◌, ◌<◌, Some, length, slice_get, IfOk};
 
 use kilim_classes::{Frame, Instr, Method, Ty};
 use kilim_units::{NoMemory, Seq};
@@ -64,15 +64,20 @@ fn copy_frames(alloc: Global, frames: &[(u32, Frame)]) -> Result<Vec<(u32, Frame
     Ok(all)
 }
 
-// A method without its types, code, frames and handlers.
-fn bare(alloc: Global, method: &Method) -> Result<Method, NoMemory>
-    ensures { IfOk result (λ m. m ≡ record method.now { params = []; qualifiers = []; code = []; frames = []; handlers = [] }) }
+/// The same method.
+pub fn copy_method(alloc: Global, method: &Method) -> Result<Method, NoMemory>
+    ensures { IfOk result (λ m. m ≡ method.now) }
 {
+    let params = copy_types(alloc, method.params.as_slice())?;
+    let qualifiers = Vec::from_slice(alloc, method.qualifiers.as_slice())?;
+    let code = copy_code(alloc, method.code.as_slice())?;
+    let frames = copy_frames(alloc, method.frames.as_slice())?;
+    let handlers = Vec::from_slice(alloc, method.handlers.as_slice())?;
     let name = method.name.clone()?;
     Ok(Method {
         name,
         owner: method.owner,
-        params: Seq::new(alloc),
+        params: Seq::from_vec(params),
         result: method.result,
         is_static: method.is_static,
         is_private: method.is_private,
@@ -80,47 +85,12 @@ fn bare(alloc: Global, method: &Method) -> Result<Method, NoMemory>
         built_in: method.built_in,
         pausable: method.pausable,
         receiver: method.receiver,
-        qualifiers: Seq::new(alloc),
+        qualifiers: Seq::from_vec(qualifiers),
         max_stack: method.max_stack,
         max_locals: method.max_locals,
         code_length: method.code_length,
-        code: Seq::new(alloc),
-        frames: Seq::new(alloc),
-        handlers: Seq::new(alloc),
+        code: Seq::from_vec(code),
+        frames: Seq::from_vec(frames),
+        handlers: Seq::from_vec(handlers),
     })
-}
-
-fn fill_types(alloc: Global, made: &mut Method, method: &Method) -> Result<(), NoMemory>
-    ensures { OnOk result (made.new ≡ record made.old { params = method.now.params; qualifiers = method.now.qualifiers; handlers = method.now.handlers }) }
-{
-    made.params = Seq::from_vec(copy_types(alloc, method.params.as_slice())?);
-    made.qualifiers = Seq::from_vec(Vec::from_slice(alloc, method.qualifiers.as_slice())?);
-    made.handlers = Seq::from_vec(Vec::from_slice(alloc, method.handlers.as_slice())?);
-    Ok(())
-}
-
-fn fill_code(alloc: Global, made: &mut Method, method: &Method) -> Result<(), NoMemory>
-    ensures { OnOk result (made.new ≡ record made.old { code = method.now.code; frames = method.now.frames }) }
-{
-    made.code = Seq::from_vec(copy_code(alloc, method.code.as_slice())?);
-    made.frames = Seq::from_vec(copy_frames(alloc, method.frames.as_slice())?);
-    Ok(())
-}
-
-/// The same method without code.
-pub fn copy_outline(alloc: Global, method: &Method) -> Result<Method, NoMemory>
-    ensures { IfOk result (λ m. m ≡ record method.now { code = []; frames = [] }) }
-{
-    let mut made = bare(alloc, method)?;
-    fill_types(alloc, &mut made, method)?;
-    Ok(made)
-}
-
-/// The same method.
-pub fn copy_method(alloc: Global, method: &Method) -> Result<Method, NoMemory>
-    ensures { IfOk result (λ m. m ≡ method.now) }
-{
-    let mut made = copy_outline(alloc, method)?;
-    fill_code(alloc, &mut made, method)?;
-    Ok(made)
 }

@@ -1,6 +1,6 @@
 //! Woven methods.
 
-ghost use Rattle.std.specs.Prelude.{◌≡◌, ◌+◌, ◌∷◌, ◌++◌, [], true, if◌then◌else◌, IfOk, OnOk};
+ghost use Rattle.std.specs.Prelude.{◌≡◌, ◌+◌, ◌∷◌, ◌++◌, [], true, if◌then◌else◌, IfOk};
 ghost use Rattle.kilim_classes.specs.BuiltIn.{class_type};
 ghost use Rattle.kilim_liveness.specs.Table.{live_in};
 ghost use Rattle.kilim_lookups.specs.Places.{Rising};
@@ -13,7 +13,7 @@ ghost use Rattle.kilim_woven_code.specs.Places.{at_in, block_in};
 ghost use Rattle.kilim_woven_program.specs.Made.{made_as};
 ghost use Rattle.kilim_woven_method.specs.Flags.{AreSlots};
 
-use crate::copy::copy_outline;
+use crate::copy::copy_types;
 use crate::flags::declared_flags;
 use crate::slots::{argument_slots, fiber_slot, plus};
 use crate::{Laid, lay, nowhere, places_of};
@@ -107,6 +107,22 @@ fn fiber_type(class: u32) -> Ty
     }
 }
 
+fn params_with(alloc: Global, params: &[Ty], class: u32) -> Result<Vec<Ty>, NoMemory>
+    ensures { IfOk result (λ v. v.items ≡ params.now ++ class_type class ∷ []) }
+{
+    let mut all = copy_types(alloc, params)?;
+    all.push(fiber_type(class))?;
+    Ok(all)
+}
+
+fn qualifiers_with(alloc: Global, qualifiers: &[Qualifier]) -> Result<Vec<Qualifier>, NoMemory>
+    ensures { IfOk result (λ v. v.items ≡ qualifiers.now ++ Qualifier.Safe ∷ []) }
+{
+    let mut all = Vec::from_slice(alloc, qualifiers)?;
+    all.push(Qualifier::Safe)?;
+    Ok(all)
+}
+
 fn locals_with(slots: Slots, is_static: bool) -> Result<u16, NoMemory>
     ensures { IfOk result (λ n. n ≡ (if is_static then slots.receiver else slots.receiver + 1)) }
 {
@@ -115,33 +131,6 @@ fn locals_with(slots: Slots, is_static: bool) -> Result<u16, NoMemory>
     }
     let behind = plus(slots.receiver, 1)?;
     Ok(behind)
-}
-
-// One argument more, the fiber.
-fn add_fiber(made: &mut Method, slots: Slots) -> Result<(), NoMemory>
-    ensures { OnOk result (made.new ≡ record made.old { params = made.old.params ++ class_type slots.class ∷ []; qualifiers = made.old.qualifiers ++ Qualifier.Safe ∷ [] }) }
-{
-    made.params.push(fiber_type(slots.class))?;
-    made.qualifiers.push(Qualifier::Safe)?;
-    Ok(())
-}
-
-fn add_room(made: &mut Method, slots: Slots) -> Result<(), NoMemory>
-    ensures { OnOk result (made.new ≡ record made.old { max_stack = made.old.max_stack + 4; max_locals = (if made.old.is_static then slots.receiver else slots.receiver + 1) }) }
-{
-    made.max_stack = plus(made.max_stack, 4)?;
-    made.max_locals = locals_with(slots, made.is_static)?;
-    Ok(())
-}
-
-// The method without code, with one argument more.
-fn with_fiber(alloc: Global, method: &Method, slots: Slots) -> Result<Method, NoMemory>
-    ensures { IfOk result (λ m. m ≡ record method.now { params = method.now.params ++ class_type slots.class ∷ []; qualifiers = method.now.qualifiers ++ Qualifier.Safe ∷ []; max_stack = method.now.max_stack + 4; max_locals = (if method.now.is_static then slots.receiver else slots.receiver + 1); code = []; frames = [] }) }
-{
-    let mut made = copy_outline(alloc, method)?;
-    add_fiber(&mut made, slots)?;
-    add_room(&mut made, slots)?;
-    Ok(made)
 }
 
 // The method with other code and one argument more.
@@ -154,11 +143,38 @@ fn with_code(
     ensures method { IfOk result (λ r. r.0 ≡ record method.now { params = method.now.params ++ class_type slots.class ∷ []; qualifiers = method.now.qualifiers ++ Qualifier.Safe ∷ []; max_stack = method.now.max_stack + 4; max_locals = (if method.now.is_static then slots.receiver else slots.receiver + 1); code_length = laid.end; code = laid.code; frames = laid.frames }) }
     ensures counted { IfOk result (λ r. r.1 ≡ laid.counted) }
 {
-    let mut woven = with_fiber(alloc, method, slots)?;
-    woven.code_length = laid.end;
-    woven.code = Seq::from_vec(laid.code);
-    woven.frames = Seq::from_vec(laid.frames);
-    Ok((woven, Seq::from_vec(laid.counted)))
+    let max_stack = plus(method.max_stack, 4)?;
+    let max_locals = locals_with(slots, method.is_static)?;
+    let params = params_with(alloc, method.params.as_slice(), slots.class)?;
+    let qualifiers = qualifiers_with(alloc, method.qualifiers.as_slice())?;
+    let handlers = Vec::from_slice(alloc, method.handlers.as_slice())?;
+    let name = method.name.clone()?;
+    let Laid {
+        code,
+        frames,
+        counted,
+        end,
+    } = laid;
+    let woven = Method {
+        name,
+        owner: method.owner,
+        params: Seq::from_vec(params),
+        result: method.result,
+        is_static: method.is_static,
+        is_private: method.is_private,
+        is_abstract: method.is_abstract,
+        built_in: method.built_in,
+        pausable: method.pausable,
+        receiver: method.receiver,
+        qualifiers: Seq::from_vec(qualifiers),
+        max_stack,
+        max_locals,
+        code_length: end,
+        code: Seq::from_vec(code),
+        frames: Seq::from_vec(frames),
+        handlers: Seq::from_vec(handlers),
+    };
+    Ok((woven, Seq::from_vec(counted)))
 }
 
 /// The woven form of a method with pausable calls, and which of its instructions count (own, after Srinivasan and Mycroft, "Kilim:
