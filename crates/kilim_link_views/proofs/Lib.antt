@@ -2,3 +2,4 @@ mod Any
 mod Dimensions
 mod Found
 mod Keeping
+pub mod Loops

@@ -36,11 +36,12 @@ fn lists_pausable(pool: &Pool, info: &Info) -> bool
 pub fn is_pausable(pool: &Pool, method: &MemberInfo) -> bool
     ensures { result ≡ is_pausable pool.now method.now }
 {
-    method
-        .attributes
-        .as_slice()
-        .iter()
-        .any(|attribute| lists_pausable(pool, &attribute.info))
+    for attribute in method.attributes.as_slice() {
+        if lists_pausable(pool, &attribute.info) {
+            return true;
+        }
+    }
+    false
 }
 
 // The annotations on a method and its parameters, by their types.

@@ -86,7 +86,10 @@ pub fn is_text(units: &[u16], ascii: &[u8]) -> bool
 pub fn is_any_named(pool: &Pool, classes: &[u16], name: &[u8]) -> bool
     ensures { result ≡ list_any (λ c. bytes_eq (class_text pool.now c) name.now) classes.now }
 {
-    classes
-        .iter()
-        .any(|class| is_text(class_text(pool, *class), name))
+    for class in classes {
+        if is_text(class_text(pool, *class), name) {
+            return true;
+        }
+    }
+    false
 }

@@ -1,0 +1,7 @@
+use Rattle.std.proofs.Common.{refl}
+use Rattle.kilim_classes.specs.Names.{descriptor}
+use Rattle.kilim_link_views.proofs.Loops.{behind}
+use Rattle.kilim_link_views.proofs.built_in.push_types.Goals as goal
+
+pub loop-ty-preserved : goal.loop-ty-preserved
+loop-ty-preserved c = behind (descriptor c.args.program.now) c.args.text.now.items c.loop-ty.text.items c.push_type.new.text.items c.args.types.now c.loop-ty.ty-index _ _ c.loop-ty-test.true refl c.loop-ty.invariant c.in_ok-push_type.ensures
