@@ -1,9 +1,11 @@
 //! Reading frames.
 
 ghost use Rattle.std.specs.Prelude.{◌≡◌, ◌<◌, IfOk};
-ghost use Rattle.kilim_grammar.specs.Reader.{Reads, ReadsUnless, many};
+ghost use Rattle.std.specs.Int.{w16};
+ghost use Rattle.kilim_grammar.specs.Reader.{Reads, ReadsUnless, made, many, number_at};
+ghost use Rattle.kilim_attribute_parts.specs.declared.frame.Frame.TheVariants.{SameLocals1StackItem, SameLocals1StackItemExtended, Chop, SameExtended, Append, Full};
 ghost use Rattle.kilim_attribute_parts.specs.declared.fault.AttributeFault.TheVariants.{Memory};
-ghost use Rattle.kilim_attribute_parts.specs.Frames.{type_behind, type_at, delta_and_type_at, counted_types_at, appended_at, full_at, frame_behind, frame_at, frames_at, FramesAreSized};
+ghost use Rattle.kilim_attribute_parts.specs.Frames.{ends, type_behind, type_at, delta_and_type_at, counted_types_at, appended_at, full_at, frame_behind, frame_at, frames_at, FramesAreSized};
 
 use crate::fault::AttributeFault;
 use crate::frame::{Frame, VerificationType};
@@ -57,16 +59,35 @@ fn type_at<'a>(pool: &Pool, bytes: &'a [u8]) -> Result<(VerificationType, &'a [u
     type_behind(pool, tag, rest)
 }
 
+// A frame with one item on the stack.
+fn item_at<'a>(pool: &Pool, delta: u8, bytes: &'a [u8]) -> Result<(Frame, &'a [u8]), AttributeFault>
+    ensures { ReadsUnless Memory (λ x. (x.0, x.1.now)) result (made (SameLocals1StackItem delta) (type_at pool.now) bytes.now) }
+{
+    let (item, rest) = type_at(pool, bytes)?;
+    Ok((Frame::SameLocals1StackItem(delta, item), rest))
+}
+
 #[tactic(auto, unfolding(crate::specs::Frames::delta_and_type_at))]
-fn delta_and_type_at<'a>(
-    pool: &Pool,
-    bytes: &'a [u8],
-) -> Result<((u16, VerificationType), &'a [u8]), AttributeFault>
-    ensures { Reads (λ x. (x.0, x.1.now)) result (delta_and_type_at pool.now bytes.now) }
+fn extended_item_at<'a>(pool: &Pool, bytes: &'a [u8]) -> Result<(Frame, &'a [u8]), AttributeFault>
+    ensures { ReadsUnless Memory (λ x. (x.0, x.1.now)) result (made (λ x. SameLocals1StackItemExtended x.0 x.1) (delta_and_type_at pool.now) bytes.now) }
 {
     let (delta, rest) = u16_at(ENDS, bytes)?;
     let (item, rest) = type_at(pool, rest)?;
-    Ok(((delta, item), rest))
+    Ok((Frame::SameLocals1StackItemExtended(delta, item), rest))
+}
+
+fn chop_at(absent: u8, bytes: &[u8]) -> Result<(Frame, &[u8]), AttributeFault>
+    ensures { ReadsUnless Memory (λ x. (x.0, x.1.now)) result (made (Chop absent) (number_at ends w16) bytes.now) }
+{
+    let (delta, rest) = u16_at(ENDS, bytes)?;
+    Ok((Frame::Chop(absent, delta), rest))
+}
+
+fn same_extended_at(bytes: &[u8]) -> Result<(Frame, &[u8]), AttributeFault>
+    ensures { ReadsUnless Memory (λ x. (x.0, x.1.now)) result (made SameExtended (number_at ends w16) bytes.now) }
+{
+    let (delta, rest) = u16_at(ENDS, bytes)?;
+    Ok((Frame::SameExtended(delta), rest))
 }
 
 fn types_at<'a>(
@@ -100,17 +121,17 @@ fn counted_types_at<'a>(
 }
 
 #[tactic(auto, unfolding(crate::specs::Frames::appended_at))]
-fn appended_at<'a>(
+fn append_at<'a>(
     alloc: Global,
     pool: &Pool,
     count: u16,
     bytes: &'a [u8],
-) -> Result<((u16, Seq<VerificationType>), &'a [u8]), AttributeFault>
-    ensures { ReadsUnless Memory (λ x. (x.0, x.1.now)) result (appended_at pool.now count bytes.now) }
+) -> Result<(Frame, &'a [u8]), AttributeFault>
+    ensures { ReadsUnless Memory (λ x. (x.0, x.1.now)) result (made (λ x. Append x.0 x.1) (appended_at pool.now count) bytes.now) }
 {
     let (delta, rest) = u16_at(ENDS, bytes)?;
     let (locals, rest) = types_at(alloc, pool, count, rest)?;
-    Ok(((delta, locals), rest))
+    Ok((Frame::Append(delta, locals), rest))
 }
 
 #[tactic(auto, unfolding(crate::specs::Frames::full_at))]
@@ -118,19 +139,13 @@ fn full_at<'a>(
     alloc: Global,
     pool: &Pool,
     bytes: &'a [u8],
-) -> Result<
-    (
-        (u16, (Seq<VerificationType>, Seq<VerificationType>)),
-        &'a [u8],
-    ),
-    AttributeFault,
->
-    ensures { ReadsUnless Memory (λ x. (x.0, x.1.now)) result (full_at pool.now bytes.now) }
+) -> Result<(Frame, &'a [u8]), AttributeFault>
+    ensures { ReadsUnless Memory (λ x. (x.0, x.1.now)) result (made (λ x. Full x.0 x.1.0 x.1.1) (full_at pool.now) bytes.now) }
 {
     let (delta, rest) = u16_at(ENDS, bytes)?;
     let (locals, rest) = counted_types_at(alloc, pool, rest)?;
     let (stack, rest) = counted_types_at(alloc, pool, rest)?;
-    Ok(((delta, (locals, stack)), rest))
+    Ok((Frame::Full(delta, locals, stack), rest))
 }
 
 #[tactic(auto, unfolding(crate::specs::Frames::frame_behind))]
@@ -145,25 +160,19 @@ fn frame_behind<'a>(
     if tag < 64 {
         Ok((Frame::Same(tag), bytes))
     } else if tag < 128 {
-        let (item, rest) = type_at(pool, bytes)?;
-        Ok((Frame::SameLocals1StackItem(tag - 64, item), rest))
+        item_at(pool, tag - 64, bytes)
     } else if tag < 247 {
         Err(AttributeFault::FrameTag(tag))
     } else if tag == 247 {
-        let ((delta, item), rest) = delta_and_type_at(pool, bytes)?;
-        Ok((Frame::SameLocals1StackItemExtended(delta, item), rest))
+        extended_item_at(pool, bytes)
     } else if tag < 251 {
-        let (delta, rest) = u16_at(ENDS, bytes)?;
-        Ok((Frame::Chop(251 - tag, delta), rest))
+        chop_at(251 - tag, bytes)
     } else if tag == 251 {
-        let (delta, rest) = u16_at(ENDS, bytes)?;
-        Ok((Frame::SameExtended(delta), rest))
+        same_extended_at(bytes)
     } else if tag < 255 {
-        let ((delta, locals), rest) = appended_at(alloc, pool, u16::from(tag - 251), bytes)?;
-        Ok((Frame::Append(delta, locals), rest))
+        append_at(alloc, pool, u16::from(tag - 251), bytes)
     } else {
-        let ((delta, (locals, stack)), rest) = full_at(alloc, pool, bytes)?;
-        Ok((Frame::Full(delta, locals, stack), rest))
+        full_at(alloc, pool, bytes)
     }
 }
 
