@@ -107,6 +107,13 @@ fn constructor(alloc: Global) -> Result<MemberInfo, NoMemory>
     Ok(method(0, 11, 12, attributes))
 }
 
+fn methods(alloc: Global) -> Result<Seq<MemberInfo>, NoMemory>
+    ensures { IfOk result (λ methods. methods ≡ method 0 11 12 (code_attribute 20 2 3 node_code [] ∷ free_second ∷ []) ∷ []) }
+{
+    let constructor = constructor(alloc)?;
+    one(alloc, constructor)
+}
+
 /// The class file of nodes.
 #[tactic(auto, unfolding(crate::specs::Node::node_file))]
 pub fn node_file(alloc: Global) -> Result<ClassFile, NoMemory>
@@ -115,6 +122,6 @@ pub fn node_file(alloc: Global) -> Result<ClassFile, NoMemory>
     let pool = node_pool(alloc)?;
     let interfaces = one(alloc, 6)?;
     let fields = two(alloc, field(alloc, 7, 8), field(alloc, 9, 10))?;
-    let methods = one(alloc, constructor(alloc)?)?;
+    let methods = methods(alloc)?;
     Ok(class_file(alloc, pool, interfaces, fields, methods))
 }
