@@ -11,8 +11,11 @@ use Rattle.kilim_tree_move.proofs.Stacks.{pop_reversed}
 use Rattle.kilim_run_tables.specs.Chains.{AreBelow, IsOwn}
 use Rattle.kilim_run_tables.proofs.Chained.{still_in, new_place}
 
-pub none_pending : (heap : Objects) → AreBelow heap []
+none_pending : (heap : Objects) → AreBelow heap []
 none_pending heap = record { entries = []; leads = refl; are_in = tt; once = tt }
+
+pub none_yet : (heap : Objects) (pending : List ℕ) → pending ≡ [] → AreBelow heap (reverse pending)
+none_yet heap pending e = subst (λ (ps : List ℕ). AreBelow heap (reverse ps)) (sym e) (none_pending heap)
 
 -- an object comes in place of those that it refers to
 pub one_more_below : (heap after : Objects) (at : ℕ) (o : Object) (old rest now : List ℕ) → AreBelow heap (reverse old) → reverse old ≡ refs o ++ reverse rest → get heap at ≡ None → after ≡ insert heap at o → now ≡ rest ++ at ∷ [] → AreBelow after (reverse now)

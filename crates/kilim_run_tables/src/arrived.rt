@@ -1,8 +1,9 @@
 //! A tree as it stands in a heap: a word for each object, in preorder.
 
-ghost use Rattle.std.specs.Prelude.{◌≡◌, ◌++◌, reverse, IfSome};
+ghost use Rattle.std.specs.Prelude.{◌≡◌, ◌++◌, [], reverse, IfSome};
 ghost use Rattle.kilim_tree_move.specs.Walk.{value_refs, field_refs, element_refs, refs, AllThere};
 
+use kilim_case_text::Text;
 use kilim_classes::{Base, FieldId, Value};
 use kilim_private_heap::Heap;
 use kilim_program::Object;
@@ -12,47 +13,55 @@ use std::alloc::Global;
 const LIMIT: usize = 65_536;
 
 // A value in a word. Texts and the fiber have none.
-fn part(alloc: Global, value: &Value) -> Option<String> {
+fn push_part(text: &mut Text, value: &Value) {
     match value {
-        Value::Int(n) => format!(in alloc; "{n}").ok(),
-        Value::Long(n) => format!(in alloc; "{n}L").ok(),
-        Value::Null => String::from_str(alloc, "null").ok(),
-        Value::Ref(_) => String::from_str(alloc, "&").ok(),
-        Value::Box(name) => {
-            let task = name.task;
-            format!(in alloc; "@{task}").ok()
+        Value::Int(n) => text.signed(i64::from(*n)),
+        Value::Long(n) => {
+            text.signed(*n);
+            text.word("L");
         }
-        Value::Text(_) | Value::Fiber => None,
+        Value::Null => text.word("null"),
+        Value::Ref(_) => text.word("&"),
+        Value::Box(name) => {
+            text.word("@");
+            text.number(name.task as usize);
+        }
+        Value::Text(_) | Value::Fiber => text.lacks(),
     }
 }
 
 // The values of an object with commas between them.
-fn parts(alloc: Global, object: &Object) -> Option<String> {
-    let mut word = String::new(alloc);
+fn push_parts(text: &mut Text, object: &Object) {
     for (k, field) in object.fields.as_slice().iter().enumerate() {
         if k > 0 {
-            word.push(',').ok()?;
+            text.word(",");
         }
-        word.push_str(part(alloc, &field.1)?.as_str()).ok()?;
+        push_part(text, &field.1);
     }
     for (k, element) in object.elements.as_slice().iter().enumerate() {
         if k > 0 {
-            word.push(',').ok()?;
+            text.word(",");
         }
-        word.push_str(part(alloc, element)?.as_str()).ok()?;
+        push_part(text, element);
     }
-    Some(word)
 }
 
-fn object_word(alloc: Global, object: &Object) -> Option<String> {
-    let inner = parts(alloc, object)?;
+// The marks around the values of an object, or of an array.
+fn marks(object: &Object) -> (&'static str, &'static str) {
     if object.class.dims == 0 {
-        return format!(in alloc; "({inner})").ok();
+        return ("(", ")");
     }
     match object.class.base {
-        Base::Int => format!(in alloc; "[{inner}]").ok(),
-        _ => format!(in alloc; "{{{inner}}}").ok(),
+        Base::Int => ("[", "]"),
+        _ => ("{", "}"),
     }
+}
+
+fn push_object(text: &mut Text, object: &Object) {
+    let (first, last) = marks(object);
+    text.word(first);
+    push_parts(text, object);
+    text.word(last);
 }
 
 fn push_ref(pending: &mut Vec<u32>, value: &Value) -> Option<()>
@@ -97,12 +106,11 @@ fn push_refs(pending: &mut Vec<u32>, object: &Object) -> Option<()>
     Some(())
 }
 
-/// The objects below a place.
-pub fn written(alloc: Global, heap: &Heap, root: u32) -> Option<String>
-    requires { AllThere heap.now root }
+// The objects below a place; nothing for want of memory, or where there are too many.
+fn push_below(text: &mut Text, heap: &Heap, root: u32, pending: &mut Vec<u32>) -> Option<()>
+    requires there { AllThere heap.now root }
+    requires none { pending.old.items ≡ [] }
 {
-    let mut text = String::new(alloc);
-    let mut pending: Vec<u32> = Vec::new(alloc);
     pending.push(root).ok()?;
     let mut count: usize = 0;
     while let Some(at) = pending.pop() {
@@ -110,12 +118,22 @@ pub fn written(alloc: Global, heap: &Heap, root: u32) -> Option<String>
             return None;
         }
         if count > 0 {
-            text.push(' ').ok()?;
+            text.word(" ");
         }
         count += 1;
         let object = heap.object(at);
-        text.push_str(object_word(alloc, object)?.as_str()).ok()?;
-        push_refs(&mut pending, object)?;
+        push_object(text, object);
+        push_refs(pending, object)?;
     }
-    Some(text)
+    Some(())
+}
+
+/// The objects below a place.
+pub fn push_tree(text: &mut Text, alloc: Global, heap: &Heap, root: u32)
+    requires { AllThere heap.now root }
+{
+    let mut pending = Vec::new(alloc);
+    if push_below(text, heap, root, &mut pending).is_none() {
+        text.lacks();
+    }
 }

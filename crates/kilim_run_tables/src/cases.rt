@@ -1,33 +1,54 @@
 //! The words of the cases.
 
 use crate::drawn::{array_case, numbers_case, tree_case};
-use crate::journals::{journal_case, line_case, open_case};
+use crate::journals::{journal_case, text_case};
 use crate::shared::{circle_case, twice_case};
 use crate::trees::list_case;
+use kilim_case_text::Text;
 use std::alloc::Global;
 use std::rt::Files;
 
-// The line of a case, without its line feed.
-fn line_of<R: Files>(rt: &R, alloc: Global, words: &[String]) -> Option<String> {
-    let (word, rest) = words.split_first()?;
-    match word.as_str() {
-        "journal" => journal_case(rt, alloc, rest),
-        "line" => line_case(alloc, rest),
-        "open" => open_case(alloc, rest),
-        "list" => list_case(alloc, rest),
-        "tree" => tree_case(alloc, rest),
-        "array" => array_case(alloc, rest),
-        "numbers" => numbers_case(alloc, rest),
-        "twice" => twice_case(alloc, rest),
-        "circle" => circle_case(alloc, rest),
-        _ => None,
+fn push_counted(text: &mut Text, alloc: Global, word: &str, count: u32) {
+    match word {
+        "list" => list_case(text, alloc, count),
+        "array" => array_case(text, alloc, count),
+        "numbers" => numbers_case(text, alloc, count),
+        "twice" => twice_case(text, alloc, count),
+        _ => text.lacks(),
+    }
+}
+
+// The cases of a number.
+fn counted_case(text: &mut Text, alloc: Global, word: &str, words: &[String]) {
+    let [count] = words else {
+        text.lacks();
+        return;
+    };
+    match count.parse::<u32>() {
+        Ok(count) => push_counted(text, alloc, word, count),
+        Err(_) => text.lacks(),
+    }
+}
+
+fn push_case<R: Files>(text: &mut Text, rt: &R, alloc: Global, word: &str, words: &[String]) {
+    match word {
+        "journal" => journal_case(text, rt, alloc, words),
+        "line" => text_case(text, alloc, words, "\n"),
+        "open" => text_case(text, alloc, words, ""),
+        "tree" => tree_case(text, alloc, words),
+        "circle" => circle_case(text, alloc, words),
+        _ => counted_case(text, alloc, word, words),
     }
 }
 
 /// The answer of a case, with its line feed: nothing where its words aren't those of a case, a file can't be read, or memory
 /// runs out.
 pub fn answer<R: Files>(rt: &R, alloc: Global, words: &[String]) -> Option<Vec<u8>> {
-    let mut line = line_of(rt, alloc, words)?.into_bytes();
-    line.push(b'\n').ok()?;
-    Some(line)
+    let mut text = Text::new(alloc);
+    match words {
+        [word, rest @ ..] => push_case(&mut text, rt, alloc, word.as_str(), rest),
+        _ => text.lacks(),
+    }
+    text.word("\n");
+    text.whole()
 }

@@ -1,15 +1,16 @@
 //! Trees by the words of a case: a word for each object, in preorder.
 
-ghost use Rattle.std.specs.Prelude.{◌≡◌, ◌++◌, ◌∷◌, [], reverse, IfSome};
+ghost use Rattle.std.specs.Prelude.{◌≡◌, ◌++◌, ◌∷◌, [], true, reverse, IfSome};
 ghost use Rattle.kilim_tree_move.specs.Walk.{value_refs, field_refs, element_refs, refs};
 ghost use Rattle.kilim_run_tables.specs.Chains.{AreBelow, IsOwn};
 
-use crate::arrived::written;
-use crate::trees::{moved, node};
+use crate::arrived::push_tree;
+use crate::trees::{node, push_moved};
+use kilim_case_text::Text;
 use kilim_classes::{Base, BoxName, ClassId, FieldId, Ty, Value};
 use kilim_private_heap::Heap;
 use kilim_program::Object;
-use kilim_tree_move::{MoveFault, put_in, reserve_tree, take_out};
+use kilim_tree_move::{MoveFault, Tree, put_in, reserve_tree, take_out};
 use kilim_units::Seq;
 use std::alloc::Global;
 
@@ -107,99 +108,165 @@ fn object(alloc: Global, word: &str, pending: &mut Vec<u32>) -> Option<Object>
     })
 }
 
-fn push_place(pending: &mut Vec<u32>, at: u32) -> Option<()>
-    ensures { IfSome result (λ done. pending.new.items ≡ pending.old.items ++ at ∷ []) }
+// Puts the object of a word into a heap, in front of those that are pending; whether that was possible.
+#[tactic(auto, using(crate::proofs::Below::one_more_below))]
+fn draw(alloc: Global, heap: &mut Heap, word: &str, pending: &mut Vec<u32>) -> bool
+    requires { AreBelow heap.old (reverse pending.old.items) }
+    ensures { result ≡ true → AreBelow heap.new (reverse pending.new.items) }
 {
-    pending.push(at).ok()?;
-    Some(())
+    let Some(made) = object(alloc, word, pending) else {
+        return false;
+    };
+    match heap.add(made) {
+        Ok(at) => match pending.push(at) {
+            Ok(()) => true,
+            Err(_) => false,
+        },
+        Err(_) => false,
+    }
 }
 
-// The root of the objects of words in preorder, made from the last to the first.
-fn drawn(alloc: Global, heap: &mut Heap, words: &[String]) -> Option<u32>
-    requires { AreBelow heap.old [] }
-    ensures { IfSome result (λ root. IsOwn heap.new root) }
+// The objects of words in preorder, from the last to the first.
+fn draw_words(alloc: Global, heap: &mut Heap, words: &[String], pending: &mut Vec<u32>) -> bool
+    requires { AreBelow heap.old (reverse pending.old.items) }
+    ensures { result ≡ true → AreBelow heap.new (reverse pending.new.items) }
 {
-    let mut pending = Vec::new(alloc);
     for word in words.iter().rev() {
-        let made = object(alloc, word.as_str(), &mut pending)?;
-        let Ok(at) = heap.add(made) else {
-            return None;
-        };
-        push_place(&mut pending, at)?;
+        if !draw(alloc, heap, word.as_str(), pending) {
+            return false;
+        }
     }
+    true
+}
+
+// The root, where one object is pending.
+#[tactic(auto, using(crate::proofs::Below::last_is_own))]
+fn root_of(heap: &Heap, pending: &mut Vec<u32>) -> Option<u32>
+    requires { AreBelow heap.now (reverse pending.old.items) }
+    ensures { IfSome result (λ root. IsOwn heap.now root) }
+{
     let root = pending.pop()?;
     if pending.is_empty() { Some(root) } else { None }
 }
 
+// Puts a tree into another heap.
+fn push_other(text: &mut Text, alloc: Global, tree: Tree) {
+    let mut other = Heap::new(alloc);
+    if let Some(first) = node(alloc, Value::Null) {
+        let _ = other.add(first);
+    }
+    match put_in(&mut other, tree) {
+        Ok(at) => push_tree(text, alloc, &other, at),
+        Err(_) => text.lacks(),
+    }
+}
+
 // Takes a tree out of its heap and puts it into another one.
-fn carried(alloc: Global, heap: &mut Heap, root: u32) -> Option<String>
+fn push_carried(text: &mut Text, alloc: Global, heap: &mut Heap, root: u32)
     requires { IsOwn heap.old root }
 {
     match reserve_tree(alloc, heap, root) {
-        Err(MoveFault::TooLarge) => String::from_str(alloc, "large").ok(),
-        Err(MoveFault::Memory) => None,
-        Ok(room) => {
-            let tree = take_out(heap, root, room);
-            let mut other = Heap::new(alloc);
-            let _ = other.add(node(alloc, Value::Null)?);
-            match put_in(&mut other, tree) {
-                Ok(at) => written(alloc, &other, at),
-                Err(_) => None,
-            }
-        }
+        Err(MoveFault::TooLarge) => text.word("large"),
+        Err(MoveFault::Memory) => text.lacks(),
+        Ok(room) => push_other(text, alloc, take_out(heap, root, room)),
+    }
+}
+
+fn push_drawn(
+    text: &mut Text,
+    alloc: Global,
+    heap: &mut Heap,
+    words: &[String],
+    pending: &mut Vec<u32>,
+)
+    requires { AreBelow heap.old (reverse pending.old.items) }
+{
+    if !draw_words(alloc, heap, words, pending) {
+        text.lacks();
+        return;
+    }
+    match root_of(heap, pending) {
+        Some(root) => push_carried(text, alloc, heap, root),
+        None => text.lacks(),
     }
 }
 
 /// `tree WORD..`: the objects of a tree, which went into another heap, as they stand there: in preorder, a word each.
-pub fn tree_case(alloc: Global, words: &[String]) -> Option<String> {
+pub fn tree_case(text: &mut Text, alloc: Global, words: &[String]) {
     let mut heap = Heap::new(alloc);
-    let root = drawn(alloc, &mut heap, words)?;
-    carried(alloc, &mut heap, root)
+    let mut pending = Vec::new(alloc);
+    push_drawn(text, alloc, &mut heap, words, &mut pending);
 }
 
-// The word of an array with so many equal elements.
-fn row(alloc: Global, first: char, part: &str, last: char, count: u32) -> Option<String> {
-    let mut word = String::new(alloc);
-    word.push(first).ok()?;
+// So many equal elements behind the mark of an array, with commas between them, and the mark of its end.
+fn push_row(row: &mut Text, first: &str, part: &str, last: &str, count: u32) {
+    row.word(first);
     for k in 0..count {
         if k > 0 {
-            word.push(',').ok()?;
+            row.word(",");
         }
-        word.push_str(part).ok()?;
+        row.word(part);
     }
-    word.push(last).ok()?;
-    Some(word)
+    row.word(last);
 }
 
-fn moved_words(alloc: Global, words: &[String]) -> Option<String> {
+// The array of a word leaves its heap and comes back.
+fn push_array(text: &mut Text, alloc: Global, heap: &mut Heap, row: &[u8], pending: &mut Vec<u32>)
+    requires { AreBelow heap.old (reverse pending.old.items) }
+{
+    let Ok(word) = str::from_utf8(row) else {
+        text.lacks();
+        return;
+    };
+    if !draw(alloc, heap, word, pending) {
+        text.lacks();
+        return;
+    }
+    match root_of(heap, pending) {
+        Some(root) => push_moved(text, alloc, heap, root),
+        None => text.lacks(),
+    }
+}
+
+// So many objects without fields.
+fn draw_empty(alloc: Global, heap: &mut Heap, count: u32, pending: &mut Vec<u32>) -> bool
+    requires { AreBelow heap.old (reverse pending.old.items) }
+    ensures { result ≡ true → AreBelow heap.new (reverse pending.new.items) }
+{
+    for k in 0..count {
+        let _ = k;
+        if !draw(alloc, heap, "()", pending) {
+            return false;
+        }
+    }
+    true
+}
+
+// The array of a word, which refers to so many objects.
+fn row_case(text: &mut Text, alloc: Global, row: Option<Vec<u8>>, count: u32) {
+    let Some(row) = row else {
+        text.lacks();
+        return;
+    };
     let mut heap = Heap::new(alloc);
-    let root = drawn(alloc, &mut heap, words)?;
-    String::from_str(alloc, moved(alloc, &mut heap, root)?).ok()
+    let mut pending = Vec::new(alloc);
+    if draw_empty(alloc, &mut heap, count, &mut pending) {
+        push_array(text, alloc, &mut heap, row.as_slice(), &mut pending);
+    } else {
+        text.lacks();
+    }
 }
 
 /// `array COUNT`: an array of so many objects leaves its heap and comes back.
-pub fn array_case(alloc: Global, words: &[String]) -> Option<String> {
-    let [count] = words else {
-        return None;
-    };
-    let count = count.parse::<u32>().ok()?;
-    let mut objects = Vec::new(alloc);
-    objects.push(row(alloc, '{', "&", '}', count)?).ok()?;
-    for k in 0..count {
-        let _ = k;
-        objects.push(String::from_str(alloc, "()").ok()?).ok()?;
-    }
-    moved_words(alloc, objects.as_slice())
+pub fn array_case(text: &mut Text, alloc: Global, count: u32) {
+    let mut row = Text::new(alloc);
+    push_row(&mut row, "{", "&", "}", count);
+    row_case(text, alloc, row.whole(), count);
 }
 
 /// `numbers COUNT`: an array of so many numbers leaves its heap and comes back.
-pub fn numbers_case(alloc: Global, words: &[String]) -> Option<String> {
-    let [count] = words else {
-        return None;
-    };
-    let mut objects = Vec::new(alloc);
-    objects
-        .push(row(alloc, '[', "7", ']', count.parse::<u32>().ok()?)?)
-        .ok()?;
-    moved_words(alloc, objects.as_slice())
+pub fn numbers_case(text: &mut Text, alloc: Global, count: u32) {
+    let mut row = Text::new(alloc);
+    push_row(&mut row, "[", "7", "]", count);
+    row_case(text, alloc, row.whole(), 0);
 }

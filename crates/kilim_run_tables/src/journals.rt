@@ -3,71 +3,72 @@
 ghost use Rattle.std.specs.List.{AllByRecursion};
 ghost use Rattle.kilim_journal.specs.Read.{IsEntry};
 
+use kilim_case_text::{Text, read_file};
 use kilim_journal::{Entry, TextFault, read_text, text};
-use std::alloc::{AllocError, Global};
-use std::fs::File;
-use std::io;
-use std::io::Read;
+use std::alloc::Global;
 use std::rt::Files;
 
-fn content<R: Files>(rt: &R, alloc: Global, name: &str) -> io::Result<Vec<u8>> {
-    let mut bytes = Vec::new(alloc);
-    File::open(rt, name)?.read_to_end(&mut bytes)?;
-    Ok(bytes)
-}
-
-fn written(entries: &Vec<Entry>) -> Option<Vec<u8>>
+// How many entries there are, and whether they are written as these bytes.
+fn push_entries(answer: &mut Text, alloc: Global, bytes: &[u8], entries: &Vec<Entry>)
     requires { AllByRecursion IsEntry entries.now.items }
 {
-    text(*entries.allocator(), entries).ok()
+    answer.number(entries.len());
+    match text(alloc, entries) {
+        Ok(again) => answer.word(if again.as_slice() == bytes {
+            " same"
+        } else {
+            " differs"
+        }),
+        Err(_) => answer.lacks(),
+    }
 }
 
 // How many entries bytes have, and whether they are written as the same bytes; or the line that is no entry's.
-fn read_again(alloc: Global, bytes: &[u8]) -> Option<String> {
+fn push_read(answer: &mut Text, alloc: Global, bytes: &[u8]) {
     match read_text(alloc, bytes) {
-        Ok(entries) => {
-            let count = entries.len();
-            let again = written(&entries)?;
-            let word = if again.as_slice() == bytes {
-                "same"
-            } else {
-                "differs"
-            };
-            format!(in alloc; "{count} {word}").ok()
+        Ok(entries) => push_entries(answer, alloc, bytes, &entries),
+        Err(TextFault::BadLine(line)) => {
+            answer.word("bad ");
+            answer.number(line);
         }
-        Err(TextFault::BadLine(line)) => format!(in alloc; "bad {line}").ok(),
-        Err(TextFault::Memory) => None,
+        Err(TextFault::Memory) => answer.lacks(),
+    }
+}
+
+fn push_file<R: Files>(answer: &mut Text, rt: &R, alloc: Global, name: &str) {
+    let mut bytes = Vec::new(alloc);
+    if read_file(rt, name, &mut bytes) {
+        push_read(answer, alloc, bytes.as_slice());
+    } else {
+        answer.lacks();
+    }
+}
+
+/// `journal FILE`: of what a file holds.
+pub fn journal_case<R: Files>(answer: &mut Text, rt: &R, alloc: Global, words: &[String]) {
+    match words {
+        [name] => push_file(answer, rt, alloc, name.as_str()),
+        _ => answer.lacks(),
     }
 }
 
 // The words with blanks between them.
-fn joined(alloc: Global, words: &[String]) -> Result<Vec<u8>, AllocError> {
-    let mut bytes = Vec::new(alloc);
+fn push_joined(joined: &mut Text, words: &[String]) {
     for (i, word) in words.iter().enumerate() {
         if i > 0 {
-            bytes.push(b' ')?;
+            joined.word(" ");
         }
-        bytes.extend_from_slice(word.as_bytes())?;
-    }
-    Ok(bytes)
-}
-
-/// `journal FILE`: of what a file holds.
-pub fn journal_case<R: Files>(rt: &R, alloc: Global, words: &[String]) -> Option<String> {
-    match words {
-        [name] => read_again(alloc, content(rt, alloc, name.as_str()).ok()?.as_slice()),
-        _ => None,
+        joined.word(word.as_str());
     }
 }
 
-/// `line TEXT`: of one line.
-pub fn line_case(alloc: Global, words: &[String]) -> Option<String> {
-    let mut bytes = joined(alloc, words).ok()?;
-    bytes.push(b'\n').ok()?;
-    read_again(alloc, bytes.as_slice())
-}
-
-/// `open TEXT`: of text without a line feed at its end.
-pub fn open_case(alloc: Global, words: &[String]) -> Option<String> {
-    read_again(alloc, joined(alloc, words).ok()?.as_slice())
+/// `line TEXT`, of one line, and `open TEXT`, of text without a line feed at its end: the words with that end.
+pub fn text_case(answer: &mut Text, alloc: Global, words: &[String], end: &str) {
+    let mut joined = Text::new(alloc);
+    push_joined(&mut joined, words);
+    joined.word(end);
+    match joined.whole() {
+        Some(bytes) => push_read(answer, alloc, bytes.as_slice()),
+        None => answer.lacks(),
+    }
 }

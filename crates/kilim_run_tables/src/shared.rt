@@ -6,6 +6,7 @@ ghost use Rattle.kilim_tree_move.specs.Walk.{refs, AllThere};
 ghost use Rattle.kilim_run_tables.specs.Chains.{IsFull, IsFullAt};
 
 use crate::trees::node;
+use kilim_case_text::Text;
 use kilim_classes::{Base, ClassId, FieldId, Ty, Value};
 use kilim_private_heap::Heap;
 use kilim_program::Object;
@@ -58,34 +59,51 @@ fn alone(alloc: Global, heap: &mut Heap) -> Option<u32>
 }
 
 // Whether a tree may be moved.
-fn size(alloc: Global, heap: &Heap, root: u32) -> Option<String>
+fn push_size(text: &mut Text, alloc: Global, heap: &Heap, root: u32)
     requires { AllThere heap.now root }
 {
     match reserve_tree(alloc, heap, root) {
-        Ok(_) => String::from_str(alloc, "fits").ok(),
-        Err(MoveFault::TooLarge) => String::from_str(alloc, "large").ok(),
-        Err(MoveFault::Memory) => None,
+        Ok(_) => text.word("fits"),
+        Err(MoveFault::TooLarge) => text.word("large"),
+        Err(MoveFault::Memory) => text.lacks(),
     }
+}
+
+fn twice(alloc: Global, heap: &mut Heap, count: u32) -> Option<u32>
+    requires { IsFull heap.old }
+    ensures { IfSome result (λ root. AllThere heap.new root) }
+{
+    let first = alone(alloc, heap)?;
+    let root = doubled(alloc, heap, first, count)?;
+    Some(root)
 }
 
 /// `twice COUNT`: an object, and so many more, each of which refers to the one before it twice.
-pub fn twice_case(alloc: Global, words: &[String]) -> Option<String> {
-    let [count] = words else {
-        return None;
-    };
+pub fn twice_case(text: &mut Text, alloc: Global, count: u32) {
     let mut heap = Heap::new(alloc);
-    let first = alone(alloc, &mut heap)?;
-    let root = doubled(alloc, &mut heap, first, count.parse::<u32>().ok()?)?;
-    size(alloc, &heap, root)
+    match twice(alloc, &mut heap, count) {
+        Some(root) => push_size(text, alloc, &heap, root),
+        None => text.lacks(),
+    }
+}
+
+fn circle(alloc: Global, heap: &mut Heap) -> Option<u32>
+    requires { IsFull heap.old }
+    ensures { IfSome result (λ root. AllThere heap.new root) }
+{
+    let at = alone(alloc, heap)?;
+    let _ = heap.replace(at, node(alloc, Value::Ref(at))?);
+    Some(at)
 }
 
 /// `circle`: an object that refers to itself.
-pub fn circle_case(alloc: Global, words: &[String]) -> Option<String> {
+pub fn circle_case(text: &mut Text, alloc: Global, words: &[String]) {
     if !words.is_empty() {
-        return None;
+        text.lacks();
     }
     let mut heap = Heap::new(alloc);
-    let at = alone(alloc, &mut heap)?;
-    let _ = heap.replace(at, node(alloc, Value::Ref(at))?);
-    size(alloc, &heap, at)
+    match circle(alloc, &mut heap) {
+        Some(root) => push_size(text, alloc, &heap, root),
+        None => text.lacks(),
+    }
 }

@@ -4,6 +4,7 @@ ghost use Rattle.std.specs.Prelude.{◌≡◌, IfSome};
 ghost use Rattle.kilim_tree_move.specs.Walk.{value_refs, refs};
 ghost use Rattle.kilim_run_tables.specs.Chains.{IsBelow, IsOwn};
 
+use kilim_case_text::Text;
 use kilim_classes::{Base, ClassId, FieldId, Ty, Value};
 use kilim_private_heap::Heap;
 use kilim_program::Object;
@@ -43,35 +44,28 @@ fn chained(alloc: Global, heap: &mut Heap, count: u32) -> Option<Value>
 }
 
 /// Takes a tree out, and puts it in again.
-pub fn moved(alloc: Global, heap: &mut Heap, root: u32) -> Option<&'static str>
+pub fn push_moved(text: &mut Text, alloc: Global, heap: &mut Heap, root: u32)
     requires { IsOwn heap.old root }
 {
     match reserve_tree(alloc, heap, root) {
-        Err(MoveFault::TooLarge) => Some("large"),
-        Err(MoveFault::Memory) => None,
+        Err(MoveFault::TooLarge) => text.word("large"),
+        Err(MoveFault::Memory) => text.lacks(),
         Ok(room) => {
             let tree = take_out(heap, root, room);
             match put_in(heap, tree) {
-                Ok(_) => Some("moved"),
-                Err(_) => None,
+                Ok(_) => text.word("moved"),
+                Err(_) => text.lacks(),
             }
         }
     }
 }
 
-// A list of so many objects is moved.
-fn list(alloc: Global, count: u32) -> Option<&'static str> {
-    let mut heap = Heap::new(alloc);
-    match chained(alloc, &mut heap, count)? {
-        Value::Ref(root) => moved(alloc, &mut heap, root),
-        _ => Some("null"),
-    }
-}
-
 /// `list COUNT`: a list of so many objects, each of which refers to the next one, leaves its heap and comes back.
-pub fn list_case(alloc: Global, words: &[String]) -> Option<String> {
-    match words {
-        [count] => String::from_str(alloc, list(alloc, count.parse::<u32>().ok()?)?).ok(),
-        _ => None,
+pub fn list_case(text: &mut Text, alloc: Global, count: u32) {
+    let mut heap = Heap::new(alloc);
+    match chained(alloc, &mut heap, count) {
+        Some(Value::Ref(root)) => push_moved(text, alloc, &mut heap, root),
+        Some(_) => text.word("null"),
+        None => text.lacks(),
     }
 }

@@ -1,5 +1,5 @@
-use Rattle.kilim_run_tables.proofs.Below.{none_pending}
+use Rattle.kilim_run_tables.proofs.Below.{none_yet}
 use Rattle.kilim_run_tables.proofs.drawn.tree_case.Goals as goal
 
-pub drawn-requires : goal.drawn-requires
-drawn-requires c = none_pending _
+pub push_drawn-requires : goal.push_drawn-requires
+push_drawn-requires c = none_yet _ _ c.new-pending.ensures.items

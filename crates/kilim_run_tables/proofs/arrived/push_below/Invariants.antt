@@ -1,6 +1,6 @@
 use Rattle.std.proofs.Common.{◌≤◌, ◌-◌, reverse}
 use Rattle.kilim_tree_move.proofs.Walks.{Met}
-use Rattle.kilim_run_tables.proofs.arrived.written.Given as goal
+use Rattle.kilim_run_tables.proofs.arrived.push_below.Given as goal
 
 abbrev pub invariant-loop-at : goal.invariant-loop-at
 invariant-loop-at l = record {

@@ -1,6 +1,6 @@
 use Rattle.std.proofs.Common.{arith, refl}
 use Rattle.kilim_tree_move.proofs.Sizes.{next_met}
-use Rattle.kilim_run_tables.proofs.arrived.written.Goals as goal
+use Rattle.kilim_run_tables.proofs.arrived.push_below.Goals as goal
 
 pub loop-at-preserved : goal.loop-at-preserved
 loop-at-preserved c = record {

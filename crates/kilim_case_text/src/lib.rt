@@ -1,0 +1,8 @@
+//! What the tables of cases share: the text of an answer, and what a file holds that a case names.
+#![tactic(auto)]
+
+mod files;
+mod text;
+
+pub use files::{changed, read_file};
+pub use text::Text;
