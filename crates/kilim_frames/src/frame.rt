@@ -1,6 +1,7 @@
 //! A frame: a method, a place in its code, the locals and the operand stack.
 
-ghost use Rattle.std.specs.Prelude.{◌≡◌, ◌<◌, ◌++◌, ◌∷◌, [], length, slice_get, slice_set, Some, IfOk, OnOk};
+ghost use Rattle.std.specs.Prelude.{◌≡◌, ◌<◌, ◌++◌, ◌∷◌, [], length, replicate, slice_get, slice_set, Some, IfOk, OnOk};
+ghost use Rattle.kilim_classes.specs.declared.value.Value.TheVariants.{Null};
 ghost use Rattle.kilim_program.specs.Moves.{slots_of};
 ghost use Rattle.kilim_frames.specs.Stacked.{is_long, begun_with};
 
@@ -35,7 +36,6 @@ impl Locals {
     }
 
     /// Values as the locals with which a method begins: a long takes two slots, and there are at least so many slots.
-    #[tactic(auto, using(crate::proofs::Slots::slots_append))]
     pub fn of_arguments(
         alloc: Global,
         arguments: Vec<Value>,
@@ -43,15 +43,9 @@ impl Locals {
     ) -> Result<Locals, AllocError>
         ensures { IfOk result (λ locals. locals ≡ begun_with arguments.items slots) }
     {
-        let mut items = Vec::new(alloc);
-        items.reserve(slots)?;
-        for value in arguments {
-            push_slots(&mut items, value)?;
-        }
+        let mut items = laid(alloc, arguments, slots)?;
         let missing = slots.saturating_sub(items.len());
-        for _ in 0..missing {
-            items.push(Value::Null)?;
-        }
+        push_nulls(&mut items, missing)?;
         Ok(Locals { items })
     }
 
@@ -73,6 +67,28 @@ pub struct Frame {
     pub pc: u32,
     pub locals: Locals,
     pub stack: Stack,
+}
+
+// Values in their slots, with room for so many.
+#[tactic(auto, using(crate::proofs::Slots::slots_append))]
+fn laid(alloc: Global, arguments: Vec<Value>, slots: usize) -> Result<Vec<Value>, AllocError>
+    ensures { IfOk result (λ items. items.items ≡ slots_of arguments.items) }
+{
+    let mut items = Vec::new(alloc);
+    items.reserve(slots)?;
+    for value in arguments {
+        push_slots(&mut items, value)?;
+    }
+    Ok(items)
+}
+
+fn push_nulls(items: &mut Vec<Value>, count: usize) -> Result<(), AllocError>
+    ensures { OnOk result (items.new.items ≡ items.old.items ++ replicate count Null) }
+{
+    for _ in 0..count {
+        items.push(Value::Null)?;
+    }
+    Ok(())
 }
 
 // A long takes two slots.

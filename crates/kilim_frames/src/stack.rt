@@ -132,13 +132,19 @@ impl Stack {
     }
 }
 
+fn copy_of(value: &Value) -> Result<Value, AllocError>
+    ensures { IfOk result (λ copy. copy ≡ value.now) }
+{
+    value.clone()
+}
+
 fn copies(alloc: Global, values: &[Value]) -> Result<Vec<Value>, AllocError>
     ensures { IfOk result (λ copies. copies.items ≡ values.now) }
 {
     let mut copies = Vec::new(alloc);
     copies.reserve(values.len())?;
     for value in values {
-        let copy = value.clone()?;
+        let copy = copy_of(value)?;
         copies.push(copy)?;
     }
     Ok(copies)
