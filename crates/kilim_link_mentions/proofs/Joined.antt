@@ -13,3 +13,7 @@ four before x xs ys zs = simp append_assoc
 pub pushed : {X A : Type 0} (f : X → List A) (before now next : List A) (xs : List X) (i : ℕ) (x : X) → i < length xs → x ≡ get_or xs i x
     → now ≡ before ++ flat_map f (take i xs) → next ≡ now ++ f x → next ≡ before ++ flat_map f (take (i + 1) xs)
 pushed f before now next xs i x lt is so_far step = grind (arith, common_steps)
+
+pub joined : {X A : Type 0} (f : X → List A) (before now next : List A) (xs : List X) (i : ℕ) (d : X) → i < length xs → now ≡ before ++ flat_map f (take i xs)
+    → next ≡ now ++ f (get_or xs i d) → next ≡ before ++ flat_map f (take (i + 1) xs)
+joined f before now next xs i d lt so_far step = grind (arith, common_steps)

@@ -1,6 +1,6 @@
 //! Members that code names.
 
-ghost use Rattle.std.specs.Prelude.{◌≡◌, ◌++◌, IfOk, OnOk};
+ghost use Rattle.std.specs.Prelude.{◌≡◌, [], ◌∷◌, ◌++◌, IfOk, OnOk};
 ghost use Rattle.std.specs.List.{flat_map};
 ghost use Rattle.kilim_link_spec.specs.Mentions.{instrs_of, members_named, members_of_operand, operand_of};
 
@@ -13,19 +13,21 @@ use kilim_opcodes::RawInstr;
 use kilim_units::{NoMemory, Seq};
 use std::alloc::Global;
 
+fn push_one(into: &mut Vec<Member>, member: Member) -> Result<(), NoMemory>
+    ensures { OnOk result (into.new.items ≡ into.old.items ++ member ∷ []) }
+{
+    into.push(member)?;
+    Ok(())
+}
+
 fn push_member(into: &mut Vec<Member>, operand: Option<Operand>) -> Result<(), NoMemory>
     ensures { OnOk result (into.new.items ≡ into.old.items ++ members_of_operand operand) }
 {
-    let Some(operand) = operand else {
-        return Ok(());
-    };
     match operand {
-        Operand::AConstant(_value) => {}
-        Operand::AField(member) => into.push(Member::Field(member))?,
-        Operand::AMethod(member) => into.push(Member::Method(member))?,
-        Operand::AType(_class) => {}
+        Some(Operand::AField(member)) => push_one(into, Member::Field(member)),
+        Some(Operand::AMethod(member)) => push_one(into, Member::Method(member)),
+        _ => Ok(()),
     }
-    Ok(())
 }
 
 fn push_members(

@@ -1,11 +1,12 @@
 //! What a class file names, in the order of its bytes.
 
-ghost use Rattle.std.specs.Prelude.{◌≡◌, ◌++◌, IfOk, OnOk, map};
+ghost use Rattle.std.specs.Prelude.{◌≡◌, [], ◌∷◌, ◌++◌, if◌then◌else◌, IfOk, OnOk, map};
 ghost use Rattle.std.specs.List.{flat_map};
 ghost use Rattle.std.specs.Option.{option_copied};
 ghost use Rattle.kilim_link_spec.specs.World.{class_text, member_descriptor};
-ghost use Rattle.kilim_link_spec.specs.declared.named.Mention.TheVariants.{OfClass, OfField};
+ghost use Rattle.kilim_link_spec.specs.declared.named.Mention.TheVariants.{OfClass, OfElement, OfField, OfMethod};
 ghost use Rattle.kilim_link_spec.specs.declared.named.Named.TheVariants.{AClass};
+ghost use Rattle.kilim_link_spec.specs.Types.{named_by};
 ghost use Rattle.kilim_link_spec.specs.Mentions.{is_anewarray, mentions_of, mentions_of_operand, mentions_of_instr, mentions_of_method, instrs_of, this_slots};
 
 use crate::code::{code_attribute, index_in, instrs_of};
@@ -30,6 +31,53 @@ fn is_anewarray(x: Option<(u8, u16)>) -> bool
     }
 }
 
+// The class of a field, and its descriptor.
+fn push_access(
+    alloc: Global,
+    into: &mut Vec<Mention>,
+    owner: Units,
+    descriptor: Units,
+) -> Result<(), NoMemory>
+    ensures { OnOk result (into.new.items ≡ into.old.items ++ OfClass (named_by owner) ∷ OfField descriptor ∷ []) }
+{
+    let class = named_by(alloc, owner.as_slice())?;
+    into.push(Mention::OfClass(class))?;
+    into.push(Mention::OfField(descriptor))?;
+    Ok(())
+}
+
+// The same of a method.
+fn push_call(
+    alloc: Global,
+    into: &mut Vec<Mention>,
+    owner: Units,
+    descriptor: Units,
+) -> Result<(), NoMemory>
+    ensures { OnOk result (into.new.items ≡ into.old.items ++ OfClass (named_by owner) ∷ OfMethod 0 descriptor ∷ []) }
+{
+    let class = named_by(alloc, owner.as_slice())?;
+    into.push(Mention::OfClass(class))?;
+    into.push(Mention::OfMethod(0, descriptor))?;
+    Ok(())
+}
+
+fn type_mention(makes_array: bool, class: Named) -> Mention
+    ensures { result ≡ (if makes_array then OfElement class else OfClass class) }
+{
+    if makes_array {
+        Mention::OfElement(class)
+    } else {
+        Mention::OfClass(class)
+    }
+}
+
+fn push_type(into: &mut Vec<Mention>, makes_array: bool, class: Named) -> Result<(), NoMemory>
+    ensures { OnOk result (into.new.items ≡ into.old.items ++ (if makes_array then OfElement class else OfClass class) ∷ []) }
+{
+    into.push(type_mention(makes_array, class))?;
+    Ok(())
+}
+
 fn push_operand(
     alloc: Global,
     into: &mut Vec<Mention>,
@@ -38,28 +86,16 @@ fn push_operand(
 ) -> Result<(), NoMemory>
     ensures { OnOk result (into.new.items ≡ into.old.items ++ mentions_of_operand makes_array operand) }
 {
-    let Some(operand) = operand else {
-        return Ok(());
-    };
     match operand {
-        Operand::AConstant(_value) => {}
-        Operand::AField(member) => {
-            into.push(Mention::OfClass(named_by(alloc, member.owner.as_slice())?))?;
-            into.push(Mention::OfField(member.descriptor))?;
+        None | Some(Operand::AConstant(_)) => Ok(()),
+        Some(Operand::AField(member)) => {
+            push_access(alloc, into, member.owner, member.descriptor)
         }
-        Operand::AMethod(member) => {
-            into.push(Mention::OfClass(named_by(alloc, member.owner.as_slice())?))?;
-            into.push(Mention::OfMethod(0, member.descriptor))?;
+        Some(Operand::AMethod(member)) => {
+            push_call(alloc, into, member.owner, member.descriptor)
         }
-        Operand::AType(class) => {
-            if makes_array {
-                into.push(Mention::OfElement(class))?;
-            } else {
-                into.push(Mention::OfClass(class))?;
-            }
-        }
+        Some(Operand::AType(class)) => push_type(into, makes_array, class),
     }
-    Ok(())
 }
 
 fn push_instr(

@@ -1,8 +1,11 @@
 //! What indices of the pool name.
 
-ghost use Rattle.std.specs.Prelude.{◌≡◌, IfOk};
+ghost use Rattle.std.specs.Prelude.{◌≡◌, Some, IfOk, option_map};
 ghost use Rattle.std.specs.Option.{option_copied};
-ghost use Rattle.kilim_link_spec.specs.Code.{operand_at, index_operand, constant_ref, ref_with, field_ref, method_ref, any_method_ref, class_ref, unless_array, operand_at};
+ghost use Rattle.kilim_classfile.specs.Parts.{text_of};
+ghost use Rattle.kilim_link_spec.specs.World.{class_text};
+ghost use Rattle.kilim_link_spec.specs.declared.named.Operand.TheVariants.{AConstant, AField, AMethod, AType};
+ghost use Rattle.kilim_link_spec.specs.Code.{operand_at, index_operand, constant_ref, ref_with, field_ref, method_ref, any_method_ref, class_ref, unless_array};
 ghost use Rattle.kilim_link_spec.specs.Mentions.{operand_of};
 
 use crate::code::index_in;
@@ -15,102 +18,165 @@ use kilim_opcodes::RawInstr;
 use kilim_units::{NoMemory, Units};
 use std::alloc::Global;
 
-// A member by its class and its entry of name and descriptor (JVMS 4.4.6).
-fn ref_with(
+// A member by its class, its name and its descriptor.
+fn member_of(
+    alloc: Global,
+    pool: &Pool,
+    class: u16,
+    name: u16,
+    descriptor: u16,
+) -> Result<MemberOf, NoMemory>
+    ensures { IfOk result (λ found. found ≡ record { owner = class_text pool.now class; name = text_of pool.now name; descriptor = text_of pool.now descriptor }) }
+{
+    Ok(MemberOf {
+        owner: Units::from_slice(alloc, class_text(pool, class))?,
+        name: Units::from_slice(alloc, text_of(pool, name))?,
+        descriptor: Units::from_slice(alloc, text_of(pool, descriptor))?,
+    })
+}
+
+// A field by its class and its entry of name and descriptor (JVMS 4.4.6).
+fn field_with(
     alloc: Global,
     pool: &Pool,
     class: u16,
     entry: Option<&Entry>,
-) -> Result<Option<MemberOf>, NoMemory>
-    ensures { IfOk result (λ found. found ≡ ref_with pool.now class (option_copied entry.entry)) }
+) -> Result<Option<Operand>, NoMemory>
+    ensures { IfOk result (λ found. found ≡ option_map AField (ref_with pool.now class (option_copied entry.entry))) }
 {
     match entry {
-        Some(Entry::NameAndType(name, descriptor)) => Ok(Some(MemberOf {
-            owner: Units::from_slice(alloc, class_text(pool, class))?,
-            name: Units::from_slice(alloc, text_of(pool, *name))?,
-            descriptor: Units::from_slice(alloc, text_of(pool, *descriptor))?,
-        })),
+        Some(Entry::NameAndType(name, descriptor)) => {
+            let member = member_of(alloc, pool, class, *name, *descriptor)?;
+            Ok(Some(Operand::AField(member)))
+        }
+        _ => Ok(None),
+    }
+}
+
+// A method likewise.
+fn method_with(
+    alloc: Global,
+    pool: &Pool,
+    class: u16,
+    entry: Option<&Entry>,
+) -> Result<Option<Operand>, NoMemory>
+    ensures { IfOk result (λ found. found ≡ option_map AMethod (ref_with pool.now class (option_copied entry.entry))) }
+{
+    match entry {
+        Some(Entry::NameAndType(name, descriptor)) => {
+            let member = member_of(alloc, pool, class, *name, *descriptor)?;
+            Ok(Some(Operand::AMethod(member)))
+        }
         _ => Ok(None),
     }
 }
 
 // What a Fieldref names (JVMS 4.4.2).
-fn field_ref(
+fn field_operand(
     alloc: Global,
     pool: &Pool,
     entry: Option<&Entry>,
-) -> Result<Option<MemberOf>, NoMemory>
-    ensures { IfOk result (λ found. found ≡ field_ref pool.now (option_copied entry.entry)) }
+) -> Result<Option<Operand>, NoMemory>
+    ensures { IfOk result (λ found. found ≡ option_map AField (field_ref pool.now (option_copied entry.entry))) }
 {
     match entry {
-        Some(Entry::Fieldref(class, member)) => ref_with(alloc, pool, *class, pool.entry(*member)),
+        Some(Entry::Fieldref(class, member)) => {
+            field_with(alloc, pool, *class, pool.entry(*member))
+        }
         _ => Ok(None),
     }
 }
 
 // What a Methodref names (JVMS 4.4.2).
-fn method_ref(
+fn method_operand(
     alloc: Global,
     pool: &Pool,
     entry: Option<&Entry>,
-) -> Result<Option<MemberOf>, NoMemory>
-    ensures { IfOk result (λ found. found ≡ method_ref pool.now (option_copied entry.entry)) }
+) -> Result<Option<Operand>, NoMemory>
+    ensures { IfOk result (λ found. found ≡ option_map AMethod (method_ref pool.now (option_copied entry.entry))) }
 {
     match entry {
-        Some(Entry::Methodref(class, member)) => ref_with(alloc, pool, *class, pool.entry(*member)),
+        Some(Entry::Methodref(class, member)) => {
+            method_with(alloc, pool, *class, pool.entry(*member))
+        }
         _ => Ok(None),
     }
 }
 
 // What a Methodref or an InterfaceMethodref names (JVMS 6.5).
-fn any_method_ref(
+fn any_method_operand(
     alloc: Global,
     pool: &Pool,
     entry: Option<&Entry>,
-) -> Result<Option<MemberOf>, NoMemory>
-    ensures { IfOk result (λ found. found ≡ any_method_ref pool.now (option_copied entry.entry)) }
+) -> Result<Option<Operand>, NoMemory>
+    ensures { IfOk result (λ found. found ≡ option_map AMethod (any_method_ref pool.now (option_copied entry.entry))) }
 {
     match entry {
         Some(Entry::InterfaceMethodref(class, member)) => {
-            ref_with(alloc, pool, *class, pool.entry(*member))
+            method_with(alloc, pool, *class, pool.entry(*member))
         }
-        _ => method_ref(alloc, pool, entry),
+        _ => method_operand(alloc, pool, entry),
     }
 }
 
 // What a Class entry names (JVMS 4.4.1).
-fn class_ref(alloc: Global, pool: &Pool, entry: Option<&Entry>) -> Result<Option<Named>, NoMemory>
-    ensures { IfOk result (λ found. found ≡ class_ref pool.now (option_copied entry.entry)) }
+fn type_operand(
+    alloc: Global,
+    pool: &Pool,
+    entry: Option<&Entry>,
+) -> Result<Option<Operand>, NoMemory>
+    ensures { IfOk result (λ found. found ≡ option_map AType (class_ref pool.now (option_copied entry.entry))) }
 {
     match entry {
-        Some(Entry::Class(name)) => Ok(Some(named_by(alloc, text_of(pool, *name))?)),
+        Some(Entry::Class(name)) => {
+            let class = named_by(alloc, text_of(pool, *name))?;
+            Ok(Some(Operand::AType(class)))
+        }
         _ => Ok(None),
     }
 }
 
 // A class that is no array.
-fn unless_array(class: Option<Named>) -> Option<Named>
-    ensures { result ≡ unless_array class }
+fn unless_array(class: Named) -> Option<Operand>
+    ensures { result ≡ option_map AType (unless_array (Some class)) }
 {
     match class {
-        Some(Named::AClass(name)) => Some(Named::AClass(name)),
+        Named::AClass(name) => Some(Operand::AType(Named::AClass(name))),
         _ => None,
     }
 }
 
-// What the ldc forms load: an int, a long or a string.
-fn constant_ref(
+// What a Class entry names, unless that is an array.
+fn class_operand(
     alloc: Global,
     pool: &Pool,
     entry: Option<&Entry>,
-) -> Result<Option<Value>, NoMemory>
-    ensures { IfOk result (λ found. found ≡ constant_ref pool.now (option_copied entry.entry)) }
+) -> Result<Option<Operand>, NoMemory>
+    ensures { IfOk result (λ found. found ≡ option_map AType (unless_array (class_ref pool.now (option_copied entry.entry)))) }
 {
     match entry {
-        Some(Entry::Integer(n)) => Ok(Some(Value::Int(*n))),
-        Some(Entry::Long(n)) => Ok(Some(Value::Long(*n))),
+        Some(Entry::Class(name)) => {
+            let class = named_by(alloc, text_of(pool, *name))?;
+            Ok(unless_array(class))
+        }
+        _ => Ok(None),
+    }
+}
+
+// What the ldc forms load: an int, a long or a string.
+fn constant_operand(
+    alloc: Global,
+    pool: &Pool,
+    entry: Option<&Entry>,
+) -> Result<Option<Operand>, NoMemory>
+    ensures { IfOk result (λ found. found ≡ option_map AConstant (constant_ref pool.now (option_copied entry.entry))) }
+{
+    match entry {
+        Some(Entry::Integer(n)) => Ok(Some(Operand::AConstant(Value::Int(*n)))),
+        Some(Entry::Long(n)) => Ok(Some(Operand::AConstant(Value::Long(*n)))),
         Some(Entry::String(text)) => {
-            Ok(Some(Value::Text(Units::from_slice(alloc, text_of(pool, *text))?)))
+            let text = Units::from_slice(alloc, text_of(pool, *text))?;
+            Ok(Some(Operand::AConstant(Value::Text(text))))
         }
         _ => Ok(None),
     }
@@ -126,17 +192,17 @@ fn index_operand(
     ensures { IfOk result (λ found. found ≡ index_operand pool.now number (option_copied entry.entry)) }
 {
     if number == 18 || number == 19 || number == 20 {
-        Ok(constant_ref(alloc, pool, entry)?.map(Operand::AConstant))
+        constant_operand(alloc, pool, entry)
     } else if number == 178 || number == 180 || number == 181 {
-        Ok(field_ref(alloc, pool, entry)?.map(Operand::AField))
+        field_operand(alloc, pool, entry)
     } else if number == 182 {
-        Ok(method_ref(alloc, pool, entry)?.map(Operand::AMethod))
+        method_operand(alloc, pool, entry)
     } else if number == 183 || number == 184 {
-        Ok(any_method_ref(alloc, pool, entry)?.map(Operand::AMethod))
+        any_method_operand(alloc, pool, entry)
     } else if number == 187 {
-        Ok(unless_array(class_ref(alloc, pool, entry)?).map(Operand::AType))
+        class_operand(alloc, pool, entry)
     } else if number == 189 || number == 192 || number == 193 {
-        Ok(class_ref(alloc, pool, entry)?.map(Operand::AType))
+        type_operand(alloc, pool, entry)
     } else {
         Ok(None)
     }

@@ -1,0 +1,6 @@
+use Rattle.kilim_link_spec.specs.Types.{type_names}
+use Rattle.kilim_link_mentions.proofs.Joined.{pushed}
+use Rattle.kilim_link_mentions.proofs.names.push_each.Goals as goal
+
+pub loop-found-preserved : goal.loop-found-preserved
+loop-found-preserved c = pushed type_names c.args.into.now.items c.loop-found.into.items c.push_base.new.into.items c.args.types.now c.loop-found.found-index c.found-item.result c.loop-found-test.true c.found-item.is c.loop-found.invariant c.in_ok-push_base.ensures
