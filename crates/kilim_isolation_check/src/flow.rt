@@ -79,7 +79,9 @@ fn left(
 fn turned(alloc: Global, types: &[VType]) -> Result<Vec<VType>, NoMemory>
     ensures { IfOk result (λ v. v.items ≡ reverse types.now) }
 {
-    Ok(types.iter().rev().copied().collect(alloc)?)
+    let mut turned = Vec::from_slice(alloc, types)?;
+    turned.reverse();
+    Ok(turned)
 }
 
 // Whether a tree becomes private where types flow into a declared frame.

@@ -170,7 +170,9 @@ fn push_passed(
 fn turned<T: Copy + Drop>(alloc: Global, items: &[T]) -> Result<Vec<T>, NoMemory>
     ensures { IfOk result (λ v. v.items ≡ reverse items.now) }
 {
-    Ok(items.iter().rev().copied().collect(alloc)?)
+    let mut turned = Vec::from_slice(alloc, items)?;
+    turned.reverse();
+    Ok(turned)
 }
 
 fn is_constructor(method: &Method) -> bool

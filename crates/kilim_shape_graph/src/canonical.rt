@@ -29,7 +29,9 @@ fn push_named(slots: &[Option<usize>], named: &mut Seq<usize>) -> Result<(), NoM
 fn turned<T: Copy + Drop>(alloc: Global, items: &[T]) -> Result<Vec<T>, NoMemory>
     ensures { IfOk result (λ v. v.items ≡ reverse items.now) }
 {
-    Ok(items.iter().rev().copied().collect(alloc)?)
+    let mut turned = Vec::from_slice(alloc, items)?;
+    turned.reverse();
+    Ok(turned)
 }
 
 fn slots_of(alloc: Global, graph: &Graph) -> Result<Seq<usize>, NoMemory>
