@@ -117,7 +117,12 @@ fn count_plain(words: &[String]) -> usize
 fn all_files(files: &[String]) -> bool
     ensures { result ≡ list_all (λ file. is_file (string_bytes file)) files.now }
 {
-    files.iter().all(|file| is_file(file.as_str()))
+    for file in files {
+        if !is_file(file.as_str()) {
+            return false;
+        }
+    }
+    true
 }
 
 fn are_words(files: &[String]) -> bool
@@ -144,7 +149,12 @@ fn is_int(word: &str) -> bool
 fn all_ints(words: &[String]) -> bool
     ensures { result ≡ list_all (λ word. is_int (string_bytes word)) words.now }
 {
-    words.iter().all(|word| is_int(word.as_str()))
+    for word in words {
+        if !is_int(word.as_str()) {
+            return false;
+        }
+    }
+    true
 }
 
 // The words, where each of them writes an integer.

@@ -15,7 +15,12 @@ fn is_digit(b: u8) -> bool
 fn are_digits(bytes: &[u8]) -> bool
     ensures { result ≡ list_all is_digit bytes.now }
 {
-    bytes.iter().all(|b| is_digit(*b))
+    for byte in bytes {
+        if !is_digit(*byte) {
+            return false;
+        }
+    }
+    true
 }
 
 fn is_alone(behind: &[u8]) -> bool

@@ -47,17 +47,16 @@ fn is_option(word: &str) -> bool
         || value_behind("--steps=", word).is_some()
 }
 
-fn all_options(words: &[String]) -> bool
-    ensures { result ≡ list_all (λ word. is_option (string_bytes word)) words.now }
-{
-    words.iter().all(|word| is_option(word.as_str()))
-}
-
 /// Whether all of these words are options of `run`.
 pub fn are_options(words: &[String]) -> bool
     ensures { result ≡ list_all is_option (map string_bytes words.now) }
 {
-    all_options(words)
+    for word in words {
+        if !is_option(word.as_str()) {
+            return false;
+        }
+    }
+    true
 }
 
 fn is_demo_option(word: &str) -> bool
@@ -66,17 +65,16 @@ fn is_demo_option(word: &str) -> bool
     value_behind("--number=", word).is_some() || value_behind("--workers=", word).is_some()
 }
 
-fn all_demo_options(words: &[String]) -> bool
-    ensures { result ≡ list_all (λ word. is_demo_option (string_bytes word)) words.now }
-{
-    words.iter().all(|word| is_demo_option(word.as_str()))
-}
-
 /// Whether all of these words are options of `demo`.
 pub fn are_demo_options(words: &[String]) -> bool
     ensures { result ≡ list_all is_demo_option (map string_bytes words.now) }
 {
-    all_demo_options(words)
+    for word in words {
+        if !is_demo_option(word.as_str()) {
+            return false;
+        }
+    }
+    true
 }
 
 /// The number of the demo.
@@ -95,17 +93,16 @@ fn is_weave_option(word: &str) -> bool
     value_behind("--to=", word).is_some()
 }
 
-fn all_weave_options(words: &[String]) -> bool
-    ensures { result ≡ list_all (λ word. is_weave_option (string_bytes word)) words.now }
-{
-    words.iter().all(|word| is_weave_option(word.as_str()))
-}
-
 /// Whether all of these words are options of `weave`.
 pub fn are_weave_options(words: &[String]) -> bool
     ensures { result ≡ list_all is_weave_option (map string_bytes words.now) }
 {
-    all_weave_options(words)
+    for word in words {
+        if !is_weave_option(word.as_str()) {
+            return false;
+        }
+    }
+    true
 }
 
 /// The text of an option that stands once and isn't empty.
