@@ -8,3 +8,4 @@ mod Counts
 mod Saying
 mod Marked
 mod Telling
+pub mod Loops

@@ -3,6 +3,7 @@
 
 mod facts;
 mod ids;
+mod keys;
 mod kinds;
 mod lineages;
 mod lines;

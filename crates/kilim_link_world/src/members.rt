@@ -5,7 +5,8 @@ ghost use Rattle.kilim_link_spec.specs.World.{is_method, methods_at};
 ghost use Rattle.kilim_link_world.specs.Agrees.{method_count, field_count, firsts_of, indexed};
 ghost use Rattle.kilim_inherited.specs.Index.{positions, places_from};
 
-use kilim_inherited::{Index, Signature};
+use crate::keys::key_of;
+use kilim_inherited::Index;
 use kilim_link_spec::{ClassView, DeclaredMethod};
 use kilim_units::{NoMemory, Seq};
 use std::alloc::Global;
@@ -19,9 +20,8 @@ fn index_of_methods(alloc: Global, methods: &[DeclaredMethod]) -> Result<Index, 
     let mut i: u32 = 0;
     while (i as usize) < methods.len() {
         let method = &methods[i as usize];
-        let name = method.name.clone()?;
-        let descriptor = method.descriptor.clone()?;
-        index.add(alloc, Signature { name, descriptor }, i)?;
+        let key = key_of(&method.name, &method.descriptor)?;
+        index.add(alloc, key, i)?;
         i += 1;
     }
     Ok(index)

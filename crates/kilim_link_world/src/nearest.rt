@@ -12,8 +12,9 @@ ghost use Rattle.kilim_inherited.specs.Nearest.{said_by, says};
 ghost use Rattle.kilim_link_world.specs.Agrees.{method_count, field_count, placed};
 ghost use Rattle.kilim_link_world.specs.Superclasses.{AreSuperclasses};
 
+use crate::keys::key_of;
 use kilim_classes::ClassId;
-use kilim_inherited::{Nearest, Said, Signature};
+use kilim_inherited::{Nearest, Said};
 use kilim_link_spec::{ClassView, DeclaredField, DeclaredMethod};
 use kilim_units::{NoMemory, Seq};
 use std::alloc::Global;
@@ -31,13 +32,9 @@ fn methods_said(
     let mut i: u32 = 0;
     while (i as usize) < methods.len() {
         let method = &methods[i as usize];
-        let name = method.name.clone()?;
-        let descriptor = method.descriptor.clone()?;
-        let number = first + i;
-        said.push(Said {
-            signature: Signature { name, descriptor },
-            value: Some(number),
-        })?;
+        let signature = key_of(&method.name, &method.descriptor)?;
+        let value = Some(first + i);
+        said.push(Said { signature, value })?;
         i += 1;
     }
     Ok(said)
@@ -52,12 +49,9 @@ fn fields_said(alloc: Global, fields: &[DeclaredField], first: u32) -> Result<Se
     let mut i: u32 = 0;
     while (i as usize) < fields.len() {
         let field = &fields[i as usize];
-        let name = field.name.clone()?;
-        let descriptor = field.descriptor.clone()?;
-        said.push(Said {
-            signature: Signature { name, descriptor },
-            value: Some(first + i),
-        })?;
+        let signature = key_of(&field.name, &field.descriptor)?;
+        let value = Some(first + i);
+        said.push(Said { signature, value })?;
         i += 1;
     }
     Ok(said)

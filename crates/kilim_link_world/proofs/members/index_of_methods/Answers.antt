@@ -18,8 +18,8 @@ loop-i-preserved c =
       λ name descriptor.
           c.in_ok-add.ensures name descriptor
           ∙ index_next (is_method name descriptor) xs i at (slice_get_read xs (length xs) i at refl lt c.index-methods-i.is)
-          (s c.in_ok-name.name c.in_ok-descriptor.descriptor name descriptor) (positions c.loop-i.index.places name descriptor)
+          (s c.in_ok-key.key.name c.in_ok-key.key.descriptor name descriptor) (positions c.loop-i.index.places name descriptor)
           (c.loop-i.invariant.1 name descriptor)
-          (ap (λ (n : List ℕ). s n c.in_ok-descriptor.descriptor name descriptor) c.in_ok-name.ensures.cases
-          ∙ ap (λ (d : List ℕ). s at.name d name descriptor) c.in_ok-descriptor.ensures.cases),
+          (ap (λ (n : List ℕ). s n c.in_ok-key.key.descriptor name descriptor) c.in_ok-key.ensures.name
+          ∙ ap (λ (d : List ℕ). s at.name d name descriptor) c.in_ok-key.ensures.descriptor),
     )
