@@ -11,7 +11,7 @@ use kilim_classes::{Class, Instr, Method, MethodId, Program};
 use kilim_lookups::method_at;
 use kilim_mutf8::write;
 use kilim_reports::method_descriptor;
-use kilim_units::{NoMemory, Units};
+use kilim_units::NoMemory;
 use kilim_woven_code::calls_in;
 use kilim_woven_method::argument_slots;
 use std::alloc::Global;
@@ -77,19 +77,13 @@ fn weight(method: &Method, calls: u32) -> Result<u64, NoMemory>
 
 // ---- the faults of a method
 
-fn spelled_length(alloc: Global, units: &Units) -> Result<usize, NoMemory>
-    ensures { IfOk result (λ n. n ≡ length (spelling units.now)) }
-{
-    let mut bytes = Vec::new(alloc);
-    write(units, &mut bytes)?;
-    Ok(bytes.len())
-}
-
 fn descriptor_length(alloc: Global, program: &Program, method: &Method) -> Result<usize, NoMemory>
     ensures { IfOk result (λ n. n ≡ length (spelling (method_descriptor program.now method.now))) }
 {
     let text = method_descriptor(alloc, program, method)?;
-    spelled_length(alloc, &text)
+    let mut bytes = Vec::new(alloc);
+    write(&text, &mut bytes)?;
+    Ok(bytes.len())
 }
 
 // Whether the fiber has no place behind the arguments of a method.
@@ -105,13 +99,6 @@ fn is_full(alloc: Global, program: &Program, method: &Method) -> Result<bool, No
     }
     let bytes = descriptor_length(alloc, program, method)?;
     Ok(MOST_BYTES < bytes)
-}
-
-fn calls_of(program: &Program, method: &Method) -> Result<u32, NoMemory>
-    ensures { IfOk result (λ n. n ≡ calls_in program.now method.now.code) }
-{
-    let calls = calls_in(program, method.code.as_slice())?;
-    Ok(calls)
 }
 
 fn is_too_long(calls: u32, weight: u64) -> bool
@@ -140,7 +127,7 @@ fn fault_of_method(
 ) -> Result<Option<WeaveFault>, NoMemory>
     ensures { IfOk result (λ o. o ≡ fault_of_method program.now id method.now) }
 {
-    let calls = calls_of(program, method)?;
+    let calls = calls_in(program, method.code.as_slice())?;
     let weight = weight(method, calls)?;
     let too_long = is_too_long(calls, weight);
     let full = is_full(alloc, program, method)?;

@@ -1,9 +1,8 @@
 //! Programs are woven.
 
-ghost use Rattle.std.specs.Prelude.{◌≡◌, ◌++◌, None, IfOk};
-ghost use Rattle.kilim_classes.specs.BuiltIn.{fiber_classes};
+ghost use Rattle.std.specs.Prelude.{◌≡◌, None, IfOk};
 ghost use Rattle.kilim_isolation_check.specs.Faults.{IsAccepted};
-ghost use Rattle.kilim_woven_form.specs.Form.{AllWoven, first_class, first_method};
+ghost use Rattle.kilim_woven_form.specs.Form.{WovenForm};
 ghost use Rattle.kilim_weaver.specs.Faults.{weave_fault};
 ghost use Rattle.kilim_weaver.specs.Weaves.{IsWoven, Weaves};
 
@@ -33,9 +32,7 @@ fn assembled(typed: &Typed, classes: Seq<Class>, methods: Methods, fields: Seq<F
     requires plain { typed.now.program.form ≡ Form.Plain }
     requires accepted { IsAccepted typed.now }
     requires none { weave_fault typed.now.program ≡ None }
-    requires classes { classes ≡ typed.now.program.classes ++ fiber_classes Form.Woven (first_class typed.now.program) (first_method typed.now.program) }
-    requires methods { AllWoven typed.now.program typed.now.program.methods methods.methods methods.counted }
-    requires fields { fields ≡ typed.now.program.fields }
+    requires form { WovenForm typed.now.program (record { classes = classes; methods = methods.methods; fields = fields; form = Form.Woven }) methods.counted }
     ensures { Weaves typed.now.program result }
 {
     pauses_are_kept();
