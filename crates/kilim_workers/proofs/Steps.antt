@@ -1,5 +1,6 @@
 -- From one step of a worker to the next.
-use Rattle.std.proofs.Common.{◌≡◌, ℕ, List, Option, sym, ◌∙◌}
+use Rattle.std.proofs.Common.{◌≡◌, ℕ, List, Option, Some, None, sym, ◌∙◌}
+use Rattle.kilim_classes.specs.declared.names.BoxName.{BoxName}
 use Rattle.kilim_program.specs.declared.run.Limits.{Limits}
 use Rattle.kilim_thread_model.specs.State.{Setting}
 use Rattle.kilim_fibers.specs.Fibers.{Asks, Resumed, Fits, course_after, StandsFor}
@@ -7,7 +8,7 @@ use Rattle.kilim_fibers.specs.declared.Wants.{Wants}
 use Rattle.kilim_fibers.specs.declared.Wants.TheVariants as wants
 use Rattle.kilim_fibers.specs.declared.Answer.{Answer}
 use Rattle.kilim_exchange.specs.declared.board.Acted.TheVariants as acted
-use Rattle.kilim_exchange.specs.Seen.{wish_in}
+use Rattle.kilim_exchange.specs.Seen.{RestsAs, wish_in}
 use Rattle.kilim_worker_pool.proofs.Steps.{IsGoing}
 use Rattle.kilim_workers.specs.Codes.{lent_numbers}
 use Rattle.kilim_workers.specs.Runs.{fiber_numbers, AllStand, ActedAs, RunsOn}
@@ -15,6 +16,11 @@ use Rattle.kilim_thread_model.specs.Lone.{Lone}
 use Rattle.kilim_thread_model.specs.Course.{Course}
 use Rattle.kilim_thread_model.specs.declared.deed.Deed.{Deed}
 use Rattle.kilim_fibers.specs.Wishes.{Wish, ToPut, ToTake, ToProbe, ToStart, ToPrint}
+
+-- where it rests
+pub rested : {F : Type 0} (task : F → ℕ) (course : F → Course) (holds asked : Setting → F → Lone → Type 0) (set : Setting) (f : F) (waits : Option BoxName) → Resumed task course holds asked set f (wants.Rest waits) → RestsAs task course holds set f waits
+rested task course holds asked set f None r = r
+rested task course holds asked set f (Some box) r = r
 
 module _ {F C : Type 0} (task : F → ℕ) (course : F → Course) (holds asked : Setting → F → Lone → Type 0) (serves : Setting → C → Type 0) (Of : Setting → Type 0) (code : C) (limits : Limits) where
   -- what the answer is to, and the course that the cell has
