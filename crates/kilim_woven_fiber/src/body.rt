@@ -1,6 +1,6 @@
 //! What a fiber runs: its frames, or its records where it rests, its heap and its counts. It runs up to the next thing that it wants.
 
-ghost use Rattle.std.specs.Prelude.{◌≡◌, ◌<◌, ◌+◌, ◌^◌, ℕ, None, IfOk, OnOk};
+ghost use Rattle.std.specs.Prelude.{◌≡◌, ◌<◌, ◌+◌, ◌^◌, ℕ, None, Some, IfOk, IfSome, OnOk};
 ghost use Rattle.kilim_thread_model.specs.State.{Setting};
 ghost use Rattle.kilim_woven_runs.specs.Fibers.{executes_on, first_receiver};
 ghost use Rattle.kilim_woven_kin.specs.Nexts.{finish_next, opens_next, resumes_next, ticked};
@@ -11,7 +11,7 @@ ghost use Rattle.kilim_woven_fiber.specs.Steps.{ReceiverThere};
 use crate::begin::{begun_with, frames_with, receiver_with_fiber};
 use crate::code::Code;
 use crate::pass::give;
-use kilim_classes::{Base, BoxName, ClassId, Program, Value};
+use kilim_classes::{Base, BoxName, ClassId, MethodId, Program, Value};
 use kilim_fiber_records::Records;
 use kilim_frames::Frames;
 use kilim_private_heap::Heap;
@@ -141,6 +141,20 @@ fn left(program: &Program, body: &mut Body) -> Came
     }
 }
 
+// The method `execute` of the object that a receiver is.
+fn execute_for(code: &Code, heap: &Heap, receiver: &Value) -> Option<MethodId>
+    requires { ReceiverThere heap.now receiver.now }
+    ensures { IfSome result (λ method. executes_on code.now.program heap.now receiver.now ≡ Some method) }
+{
+    let Value::Ref(name) = receiver else {
+        return None;
+    };
+    let Base::Class(class) = heap.class(*name).base else {
+        return None;
+    };
+    code.execute(class)
+}
+
 /// Where it rests it goes on with `execute`, and rewinds.
 pub(crate) fn rewind(alloc: Global, code: &Code, body: &mut Body) -> Result<Came, NoMemory>
     requires there { ReceiverThere body.old.heap (first_receiver body.old.records) }
@@ -149,13 +163,7 @@ pub(crate) fn rewind(alloc: Global, code: &Code, body: &mut Body) -> Result<Came
     ensures counted { OnOk result (IsNear body.old.count body.new.count) }
 {
     let receiver = body.records.first_receiver()?;
-    let Value::Ref(name) = &receiver else {
-        return Err(NoMemory);
-    };
-    let Base::Class(class) = body.heap.class(*name).base else {
-        return Err(NoMemory);
-    };
-    let Some(method) = code.execute(class) else {
+    let Some(method) = execute_for(code, &body.heap, &receiver) else {
         return Err(NoMemory);
     };
     let args = receiver_with_fiber(alloc, receiver)?;

@@ -32,26 +32,18 @@ pub struct Code {
     ghost executes_are: { AreExecutes program executes.items } by { Prim.hlevel props },
 }
 
-// The tables of a woven program.
-#[derive(Drop)]
-struct Tables {
-    places: Places,
-    natives: Vec<Option<Native>>,
-    executes: Vec<Option<MethodId>>,
-}
-
-fn tables_of(alloc: Global, program: &Program) -> Result<Tables, NoMemory>
-    ensures natives { IfOk result (λ tables. AreNatives program.now tables.natives.items) }
-    ensures executes { IfOk result (λ tables. AreExecutes program.now tables.executes.items) }
+// The tables of a woven program: the places, and which built-in method and which `execute` stand where.
+fn tables_of(
+    alloc: Global,
+    program: &Program,
+) -> Result<(Places, Vec<Option<Native>>, Vec<Option<MethodId>>), NoMemory>
+    ensures natives { IfOk result (λ tables. AreNatives program.now tables.1.items) }
+    ensures executes { IfOk result (λ tables. AreExecutes program.now tables.2.items) }
 {
     let places = Places::new(alloc, program)?;
     let natives = native_table(alloc, program)?;
     let executes = execute_table(alloc, program)?;
-    Ok(Tables {
-        places,
-        natives,
-        executes,
-    })
+    Ok((places, natives, executes))
 }
 
 impl Code {
@@ -64,12 +56,7 @@ impl Code {
     ) -> Result<Code, NoMemory>
         ensures { IfOk result (λ code. (code.plain ≡ plain) × (code.program ≡ program) × (code.counted ≡ counted)) }
     {
-        let tables = tables_of(alloc, &program)?;
-        let Tables {
-            places,
-            natives,
-            executes,
-        } = tables;
+        let (places, natives, executes) = tables_of(alloc, &program)?;
         Ok(Code {
             plain,
             program,

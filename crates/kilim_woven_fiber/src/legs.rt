@@ -19,13 +19,6 @@ use std::alloc::Global;
 /// More legs than a machine ever does.
 const MOST_LEGS: u64 = u64::MAX;
 
-// What ended a run of instructions, and whether the next one counts.
-#[derive(Clone, Copy)]
-struct Gone {
-    counts: bool,
-    halted: Halted,
-}
-
 // Whether an instruction counts, by its mark.
 fn counts_by(mark: bool, live: bool) -> bool
     ensures { result ≡ (mark && live) }
@@ -33,7 +26,7 @@ fn counts_by(mark: bool, live: bool) -> bool
     mark && live
 }
 
-// Instructions one after the other, as long as they are no matter of records or of others.
+// Instructions one after the other, as long as they are no matter of records or of others: whether the next one counts, and what ended them.
 fn go(
     alloc: Global,
     code: &Code,
@@ -41,12 +34,12 @@ fn go(
     main: ClassId,
     task: u32,
     body: &mut Body,
-) -> Result<Gone, NoMemory>
+) -> Result<(bool, Halted), NoMemory>
     requires frames { HasFrames body.old.frames }
     requires ready { IsReadyOn (setting_of code.now limits.now main) code.now.program code.now.counted task (standing_at 0 body.old) }
     requires roomy { RoomyIn code.now.program body.old.frames }
     requires most { body.old.count ≤ limits.now.steps }
-    ensures gone { IfOk result (λ gone. HasGone (setting_of code.now limits.now main) code.now.program code.now.counted task (standing_at 0 body.old) body.new gone.counts gone.halted) }
+    ensures gone { IfOk result (λ gone. HasGone (setting_of code.now limits.now main) code.now.program code.now.counted task (standing_at 0 body.old) body.new gone.0 gone.1) }
     ensures frames { OnOk result (HasFrames body.new.frames) }
     ensures roomy { OnOk result (RoomyIn code.now.program body.new.frames) }
     ensures counted { OnOk result (body.old.count ≤ body.new.count) }
@@ -67,10 +60,7 @@ fn go(
         limits.steps - body.count,
     )?;
     body.count += ran.steps;
-    Ok(Gone {
-        counts: counts_by(ran.mark, live),
-        halted: ran.halted,
-    })
+    Ok((counts_by(ran.mark, live), ran.halted))
 }
 
 // Instructions one after the other, and what the one asks for that ends them.
@@ -97,10 +87,10 @@ fn leg(
     if body.count == u64::MAX {
         return Err(NoMemory);
     }
-    match gone.halted {
+    match gone.1 {
         Halted::Stops => Ok(Came::On),
         Halted::Spent => Ok(Came::Ends(EndCause::Spent)),
-        Halted::NewBox => Ok(open(&code.program, task, gone.counts, body)),
+        Halted::NewBox => Ok(open(&code.program, task, gone.0, body)),
         Halted::Asks(method) => ask(alloc, code, limits, method, body),
         Halted::Returned => leave(alloc, &code.program, main, body),
         Halted::Ended(cause) => Ok(Came::Ends(cause)),
