@@ -3,6 +3,7 @@ use Rattle.std.proofs.Common.{◌≡◌, ℕ, zero, suc, ◌+◌, ◌≤◌, Boo
 use Rattle.std.specs.Prelude.{if◌then◌else◌}
 use Rattle.std.proofs.lemmas.Bool.{and_parts, false≢true}
 use Rattle.std.proofs.lemmas.List.{length-append}
+use Rattle.std.proofs.lemmas.Option.{none-some}
 use Rattle.kilim_classes.specs.declared.class.Method.{Method}
 use Rattle.kilim_classes.specs.declared.instr.Instr.{Instr}
 use Rattle.kilim_classes.specs.declared.instr.Instr.TheVariants as instr
@@ -78,10 +79,7 @@ module _ (p : Program) (own : Method) (at : ℕ) (named : Method) (plain : is_co
       let c = argument_count named in
       let d = none_taken named.is_static (static_static p own at named f g id there step) in
       omega (arith, a, c, d)
-  taken_there i there step = absurd (none there)
-    where
-      none : None ≡ Some named → ⊥
-      none e = cc
+  taken_there i there step = absurd (none-some named there)
 
   -- so with dummies in place of its operands
   pub again_low : (of : Classes) (limit : ℕ) (i : Instr) (y : Value) (s : List Value) → called p i ≡ Some named → type_step p own at i f ≡ Ok g → words f.stack ≤ limit → have_types p own of (drop (taken named) f.stack) s ≡ true → length (again named y s) ≤ limit

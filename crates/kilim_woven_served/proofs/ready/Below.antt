@@ -3,6 +3,7 @@ use Rattle.std.proofs.Common.{◌≡◌, cond, eqb, ℕ, ◌≤◌, Bool, true, 
 use Rattle.std.specs.Prelude.{codes, is_some, map, not, reverse, slice_get}
 use Rattle.std.specs.List.{list_any}
 use Rattle.std.specs.FinMap.{get}
+use Rattle.std.proofs.lemmas.Option.{none-some}
 use Rattle.std.proofs.lemmas.Bool.{and_from, and_parts, eqb-true, false≢true}
 use Rattle.kilim_classes.specs.declared.class.Method.{Method}
 use Rattle.kilim_classes.specs.declared.instr.Instr.{Instr}
@@ -86,10 +87,13 @@ pub named_is : (p : Program) (i : Instr) (named callee : Method) → called p i 
 named_is p (instr.Invokevirtual id) named callee e f = there_named (method_at p id) named callee e f
 named_is p (instr.Invokespecial id) named callee e f = there_named (method_at p id) named callee e f
 named_is p (instr.Invokestatic id) named callee e f = there_named (method_at p id) named callee e f
-named_is p i named callee e f = absurd (none e)
-  where
-    none : None ≡ Some named → ⊥
-    none e = cc
+named_is p i named callee e f = absurd (none-some named e)
+
+named_there : (p : Program) (i : Instr) (named : Method) → called p i ≡ Some named → (id : MethodId) × (method_at p id ≡ Some named)
+named_there p (instr.Invokevirtual id) named e = (id, e)
+named_there p (instr.Invokespecial id) named e = (id, e)
+named_there p (instr.Invokestatic id) named e = (id, e)
+named_there p i named e = absurd (none-some named e)
 
 -- nothing uninitialized stands across a pausable call
 none_at : (p : Program) (typing : ℕ → Types) (es : List (ℕ × Instr)) (end q to : ℕ) (i : Instr) (callee : Method) → NoneAcross p typing es → fetched es end q ≡ Some (i, to) → pausable_callee p i ≡ Some callee →
@@ -273,16 +277,9 @@ module _ (set : Setting) (run : IsRunOfAccepted set) (pauses : KeepsPauses set.p
       not_constructor = by (is_constructor b.named) refl
         where
           by : (z : Bool) → is_constructor b.named ≡ z → is_constructor b.named ≡ false
-          by true e = absurd (constructs b.i b.names e)
-            where
-              constructs : (i : Instr) → called set.program i ≡ Some b.named → is_constructor b.named ≡ true → ⊥
-              constructs (instr.Invokevirtual id) at con = no_pause set.program run.keeps id b.named at con (ap (λ (o : Option Method). elim o [ None ↦ false | Some z ↦ z.pausable ]) at ∙ same_callee.1)
-              constructs (instr.Invokespecial id) at con = no_pause set.program run.keeps id b.named at con (ap (λ (o : Option Method). elim o [ None ↦ false | Some z ↦ z.pausable ]) at ∙ same_callee.1)
-              constructs (instr.Invokestatic id) at con = no_pause set.program run.keeps id b.named at con (ap (λ (o : Option Method). elim o [ None ↦ false | Some z ↦ z.pausable ]) at ∙ same_callee.1)
-              constructs i at con = absurd (none at)
-                where
-                  none : None ≡ Some b.named → ⊥
-                  none e = cc
+          by true e =
+              let at = named_there set.program b.i b.named b.names in
+              absurd (no_pause set.program run.keeps at.0 b.named at.1 e (ap (λ (o : Option Method). elim o [ None ↦ false | Some z ↦ z.pausable ]) at.1 ∙ same_callee.1))
           by false e = e
 
       receiver_fits : ReceiverFits set W marks form b.named.is_static h (receiver (plan_of set W marks form m) b.named b.from) y

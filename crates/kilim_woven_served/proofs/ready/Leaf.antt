@@ -3,6 +3,7 @@ use Rattle.std.proofs.Common.{◌≡◌, cond, ℕ, ◌+◌, ◌≤◌, Bool, tr
 use Rattle.std.specs.Prelude.{codes, is_some, reverse, slice_get}
 use Rattle.std.proofs.lemmas.Bool.{and_parts, false≢true}
 use Rattle.std.proofs.lemmas.List.{length-reverse}
+use Rattle.std.proofs.lemmas.Option.{none-some}
 use Rattle.kilim_classes.specs.declared.class.Method.{Method}
 use Rattle.kilim_classes.specs.declared.instr.Instr.{Instr}
 use Rattle.kilim_classes.specs.declared.instr.Instr.TheVariants as instr
@@ -79,6 +80,18 @@ callee_there (Some m) callee e = by m.pausable refl e
     by : (z : Bool) → m.pausable ≡ z → cond z (Some m) None ≡ Some callee → (Some m ≡ Some callee) × (callee.pausable ≡ true)
     by true p e = (e, subst (λ (k : Method). k.pausable ≡ true) (method_is m callee e) p)
     by false p e = absurd (none e)
+
+-- the instructions that can name a pausable method
+data IsCall : Instr → Type 0 where
+  OnClass : (id : MethodId) → IsCall (instr.Invokevirtual id)
+  Special : (id : MethodId) → IsCall (instr.Invokespecial id)
+  Static : (id : MethodId) → IsCall (instr.Invokestatic id)
+
+is_call : (P : Program) (callee : Method) (i : Instr) → pausable_callee P i ≡ Some callee → IsCall i
+is_call P callee (instr.Invokevirtual id) e = OnClass id
+is_call P callee (instr.Invokespecial id) e = Special id
+is_call P callee (instr.Invokestatic id) e = Static id
+is_call P callee i e = absurd (none-some callee e)
 
 -- of a pausable method: it is no constructor, no method of strings, and handed out where it is built in
 abbrev pub IsSound : Program → Type 0
@@ -188,31 +201,30 @@ module _ (set : Setting) (run : IsRunOfAccepted set) (pauses : KeepsPauses set.p
         drops = null_drops callee.result shape.2.0 (sym sel.result ∙ shape.2.1) shape.2.2;
       }
 
-  get_call : (i : Instr) → pausable_callee set.program i ≡ Some callee → does set.program own i to l s h ≡ Asks c args to l s2 h → native_of set.program c ≡ Some native.Get → type_step set.program own p i (typing_at set.program m p) ≡ Ok g → Receives set.program i s h → (b : BoxName) → args ≡ Box b ∷ [] → IsGetCall i b
-  get_call (instr.Invokevirtual id) hp e named step receives b args_are = get_virtual id hp e named step receives b args_are
-  get_call (instr.Invokespecial id) hp e named step receives b args_are = get_special id hp e named step b args_are
-  get_call (instr.Invokestatic id) hp e named step receives b args_are =
+  get_by : (i : Instr) → IsCall i → pausable_callee set.program i ≡ Some callee → does set.program own i to l s h ≡ Asks c args to l s2 h → native_of set.program c ≡ Some native.Get → type_step set.program own p i (typing_at set.program m p) ≡ Ok g → Receives set.program i s h → (b : BoxName) → args ≡ Box b ∷ [] → IsGetCall i b
+  get_by i (OnClass id) hp e named step receives b args_are = get_virtual id hp e named step receives b args_are
+  get_by i (Special id) hp e named step receives b args_are = get_special id hp e named step b args_are
+  get_by i (Static id) hp e named step receives b args_are =
       let k = callee_there (method_at set.program id) callee hp in
       let q = sound id callee k.0 k.1 in
       let r = static_asked set.program own id callee k.0 to h q.1 q.0 q.2 c args to l s2 h l s e in
       absurd (false≢true (sym (get_of id callee k.0 r.4 named).1 ∙ static_static set.program own p callee (typing_at set.program m p) g id k.0 step))
-  get_call i hp e named step receives b args_are = absurd (none hp)
-    where
-      none : None ≡ Some callee → ⊥
-      none e = cc
 
-  yield_call : (i : Instr) → pausable_callee set.program i ≡ Some callee → does set.program own i to l s h ≡ Asks c args to l s2 h → native_of set.program c ≡ Some native.Yield → args ≡ [] → IsYieldCall i
-  yield_call (instr.Invokevirtual id) hp e named args_are =
+  get_call : (i : Instr) → pausable_callee set.program i ≡ Some callee → does set.program own i to l s h ≡ Asks c args to l s2 h → native_of set.program c ≡ Some native.Get → type_step set.program own p i (typing_at set.program m p) ≡ Ok g → Receives set.program i s h → (b : BoxName) → args ≡ Box b ∷ [] → IsGetCall i b
+  get_call i hp = get_by i (is_call set.program callee i hp) hp
+
+  yield_by : (i : Instr) → IsCall i → pausable_callee set.program i ≡ Some callee → does set.program own i to l s h ≡ Asks c args to l s2 h → native_of set.program c ≡ Some native.Yield → args ≡ [] → IsYieldCall i
+  yield_by i (OnClass id) hp e named args_are =
       let k = callee_there (method_at set.program id) callee hp in
       let q = sound id callee k.0 k.1 in
       let r = virtual_asked set.program own id callee k.0 to h q.1 q.0 q.2 c args to l s2 h l s e in
       absurd (not_empty r.1 (reverse r.0) (sym r.5 ∙ args_are))
-  yield_call (instr.Invokespecial id) hp e named args_are =
+  yield_by i (Special id) hp e named args_are =
       let k = callee_there (method_at set.program id) callee hp in
       let q = sound id callee k.0 k.1 in
       let r = special_asked set.program own id callee k.0 to h q.1 q.0 q.2 c args to l s2 h l s e in
       absurd (not_empty r.1 (reverse r.0) (sym r.4 ∙ args_are))
-  yield_call (instr.Invokestatic id) hp e named args_are =
+  yield_by i (Static id) hp e named args_are =
       let k = callee_there (method_at set.program id) callee hp in
       let q = sound id callee k.0 k.1 in
       let r = static_asked set.program own id callee k.0 to h q.1 q.0 q.2 c args to l s2 h l s e in
@@ -224,10 +236,9 @@ module _ (set : Setting) (run : IsRunOfAccepted set) (pauses : KeepsPauses set.p
         again_asks = λ l3 s3. static_again set.program own id callee k.0 to h q.1 q.0 q.2 c args to l s2 h shape.0 r.5 l3 s3 ∙ ap (λ (x : MethodId). Asks x [] to l3 s3 h) r.4;
         drops = none_drops callee.result shape.2;
       }
-  yield_call i hp e named args_are = absurd (none hp)
-    where
-      none : None ≡ Some callee → ⊥
-      none e = cc
+
+  yield_call : (i : Instr) → pausable_callee set.program i ≡ Some callee → does set.program own i to l s h ≡ Asks c args to l s2 h → native_of set.program c ≡ Some native.Yield → args ≡ [] → IsYieldCall i
+  yield_call i hp = yield_by i (is_call set.program callee i hp) hp
 
   -- ---- the frame
 

@@ -3,6 +3,7 @@ use Rattle.std.proofs.Common.{◌≡◌, ℕ, suc, Bool, true, false, List, [], 
 use Rattle.std.specs.Prelude.{◌&&◌, map, not}
 use Rattle.std.proofs.lemmas.Bool.{and_parts, false≢true, not-true}
 use Rattle.std.proofs.lemmas.List.{length-reverse}
+use Rattle.std.proofs.lemmas.Option.{none-some}
 use Rattle.kilim_classes.specs.declared.class.Method.{Method}
 use Rattle.kilim_classes.specs.declared.instr.Instr.{Instr}
 use Rattle.kilim_classes.specs.declared.instr.Instr.TheVariants as instr
@@ -52,10 +53,7 @@ module _ (p : Program) where
         let e : by_row p own at (static_row own (Some named)) f ≡ Ok g = subst (λ (o : Option Method). by_row p own at (static_row own o) f ≡ Ok g) there step in
         let a = (takes_inverse p own at (arguments named) (result_types named.result) (static_rules own named) f g e).also_hold in
         absurd (false≢true (sym instance ∙ (and_parts named.is_static (may_name own named.is_private named.owner) (and_parts (named.is_static && may_name own named.is_private named.owner) true a.0).0).0))
-    receiver_meets i there step = absurd (none there)
-      where
-        none : None ≡ Some named → ⊥
-        none e = cc
+    receiver_meets i there step = absurd (none-some named there)
 
   -- a call on an object names no static method
   pub virtual_instance : (own : Method) (at : ℕ) (named : Method) (f g : Types) (id : MethodId) → method_at p id ≡ Some named → type_step p own at (instr.Invokevirtual id) f ≡ Ok g → named.is_static ≡ false
