@@ -2,6 +2,7 @@
 use Rattle.std.proofs.Common.{◌≡◌, inl, inr, ℕ, zero, suc, Bool, true, false, cond, eqb, not, List, [], ◌∷◌, ◌++◌, length, map, take, drop, reverse, Option, Some, None, slice_get, refl, sym, ap, subst, ◌∙◌, arith, eq-eqb, ltb-true}
 use Rattle.std.specs.Prelude.{◌&&◌, ◌-◌}
 use Rattle.std.specs.List.{list_any, flat_map}
+use Rattle.std.proofs.lemmas.Option.{none-some}
 use Rattle.std.proofs.lemmas.Bool.{or_left, or_right, or_parts, or_from, and_parts}
 use Rattle.std.proofs.lemmas.List.{reverse-append, length-reverse}
 use Rattle.std.proofs.Math.Seq.{take-length}
@@ -105,7 +106,7 @@ called_is : (p : Program) (i : Instr) (callee : Method) → pausable_callee p i 
 called_is p (Invokevirtual id) callee h = there_is (method_at p id) callee h
 called_is p (Invokespecial id) callee h = there_is (method_at p id) callee h
 called_is p (Invokestatic id) callee h = there_is (method_at p id) callee h
-called_is p i callee h = absurd (cc)
+called_is p i callee h = absurd (none-some callee h)
 
 there_none : (o : Option Method) → pauses o ≡ false → if_there o ≡ None
 there_none None h = refl

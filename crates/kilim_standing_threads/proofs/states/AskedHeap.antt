@@ -2,6 +2,7 @@
 use Rattle.std.proofs.Common.{◌≡◌, ℕ, zero, suc, Bool, true, false, cond, List, [], ◌∷◌, Option, Some, None, length, refl}
 use Rattle.std.specs.Prelude.{ℤ, pos, negsuc, nat_lt, reverse, slice_get}
 use Rattle.std.specs.FinMap.{get}
+use Rattle.std.proofs.lemmas.Bool.{false≢true}
 use Rattle.kilim_classes.specs.declared.class.Method.{Method}
 use Rattle.kilim_classes.specs.Program.{Program}
 use Rattle.kilim_classes.specs.declared.instr.Instr.{Instr}
@@ -109,20 +110,23 @@ module _ (h : Objects) where
   take_quiet next locals stack = no_on_int stack _ (λ i below. no_on_object below h _ (λ n object rest. no_index object.elements i _ (λ j v. record { holds = tt })))
 
   module _ (p : Program) (own : Method) where
-    row_stays : (i : Instr) (b : Bool) → is_call i ≡ b → (next : ℕ) (locals stack : List Value) → AskStays h (does p own i next locals stack h)
+    call_stays : (i : Instr) → is_call i ≡ true → (next : ℕ) (locals stack : List Value) → AskStays h (does p own i next locals stack h)
     unfolding does
-    row_stays (Invokevirtual m) b e next locals stack =
+    call_stays (Invokevirtual m) e next locals stack =
         some_stays (method_at p m) _ (λ method. values_stay (length method.params) stack _ (λ args below. value_stays below _ (λ receiver rest.
         if_stays (is_text_method p method) _ _ (quiet_stays _ (text_quiet method (reverse args) next locals rest receiver)) (virtual_stays p method m (reverse args) next locals rest receiver))))
-    row_stays (Invokespecial m) b e next locals stack =
+    call_stays (Invokespecial m) e next locals stack =
         some_stays (method_at p m) _ (λ method. if_stays (is_built_in_constructor method) _ _ (quiet_stays _ (no_on_receiver stack _ (λ receiver rest. record { holds = tt })))
         (values_stay (length method.params) stack _ (λ args below. on_receiver_stays below _ (λ receiver rest.
         method_stays (method_at p (special p own method m)) (special p own method m) (receiver ∷ reverse args) next locals rest))))
-    row_stays (Invokestatic m) b e next locals stack =
+    call_stays (Invokestatic m) e next locals stack =
         some_stays (method_at p m) _ (λ method. if_stays (is_handed_out p method) _ _ (values_stay (length method.params) stack _ (λ args rest. record { same = refl }))
         (if_stays method.built_in _ _ (quiet_stays _ (take_quiet next locals stack)) (values_stay (length method.params) stack _ (λ args rest. record { same = tt }))))
-    row_stays i false e next locals stack = quiet_stays _ (no_ask p own i next locals stack h e)
-    row_stays i true e next locals stack = absurd (cc)
+    call_stays i e next locals stack = absurd (false≢true e)
+
+    row_stays : (i : Instr) (b : Bool) → is_call i ≡ b → (next : ℕ) (locals stack : List Value) → AskStays h (does p own i next locals stack h)
+    row_stays i true e next locals stack = call_stays i e next locals stack
+    row_stays i false e next locals stack = quiet_stays (does p own i next locals stack h) (no_ask p own i next locals stack h e)
 
   found_stays : (p : Program) (own : Method) (top : Activation) (found : Option (Instr × ℕ)) → AskStays h (effect_found p own top h found)
   found_stays p own top None = record { same = tt }
