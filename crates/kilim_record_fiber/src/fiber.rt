@@ -19,7 +19,7 @@ ghost use Rattle.kilim_record_fiber.specs.Records.{records_of, NoFrameIsLeft};
 ghost use Rattle.kilim_record_fiber.specs.Clauses.{Resumes, RestsInRecords, Went};
 ghost use Rattle.kilim_record_fiber.specs.Calls.{IsNew, IsBegun, EndsIdle, RestsAt, HasWanted, MayAsk, asks_by, is_rest, WantsBy, Passed, Taken, Found, Refused, Answered, AnswerSuits, takes_value};
 
-use crate::past::{Did, Past, begun, no_past, note};
+use crate::past::{Did, Past, begun, booted, no_past, note};
 use kilim_classes::{BoxName, ClassId, Program};
 use kilim_fibers::{Answer, Wants};
 use kilim_program::{EndCause, Limits, Shape};
@@ -236,25 +236,30 @@ impl Fiber {
         requires suits { AnswerSuits code.now.plain answer }
         ensures { OnOk result (Answered code.now.plain code.now.program asked answer self.old self.new) }
     {
-        match (asked, answer) {
-            (Asked::Put(mailbox, shape), Answer::Sent(number)) => {
-                self.pass_on(code, Did::Put(mailbox, number, shape))
-            }
-            (Asked::Take(mailbox), Answer::Message(tree, number)) => {
-                self.receive(code, mailbox, tree, number)
-            }
-            (Asked::Take(mailbox), Answer::Nothing) => self.refuse(code, mailbox),
-            (Asked::Probe(mailbox), Answer::Message(tree, number)) => {
-                self.find(code, mailbox, tree, number)
-            }
-            (Asked::Probe(mailbox), Answer::Nothing) => {
-                self.pass_none(code, Did::Empty(mailbox))
-            }
-            (Asked::Start(shape), Answer::Started(number)) => {
-                self.pass_on(code, Did::Start(number, shape))
-            }
-            (Asked::Print(shape), Answer::Done) => self.pass_on(code, Did::Print(shape)),
-            _ => Err(NoMemory),
+        match asked {
+            Asked::Put(mailbox, shape) => match answer {
+                Answer::Sent(number) => self.pass_on(code, Did::Put(mailbox, number, shape)),
+                _ => Err(NoMemory),
+            },
+            Asked::Take(mailbox) => match answer {
+                Answer::Message(tree, number) => self.receive(code, mailbox, tree, number),
+                Answer::Nothing => self.refuse(code, mailbox),
+                _ => Err(NoMemory),
+            },
+            Asked::Probe(mailbox) => match answer {
+                Answer::Message(tree, number) => self.find(code, mailbox, tree, number),
+                Answer::Nothing => self.pass_none(code, Did::Empty(mailbox)),
+                _ => Err(NoMemory),
+            },
+            Asked::Start(shape) => match answer {
+                Answer::Started(number) => self.pass_on(code, Did::Start(number, shape)),
+                _ => Err(NoMemory),
+            },
+            Asked::Print(shape) => match answer {
+                Answer::Done => self.pass_on(code, Did::Print(shape)),
+                _ => Err(NoMemory),
+            },
+            Asked::Nothing => Err(NoMemory),
         }
     }
 
@@ -270,14 +275,10 @@ impl Fiber {
         ensures counted { OnOk result (self.old.body.count ≤ self.new.body.count) }
         ensures most { OnOk result (self.new.body.count ≤ limits.now.steps) }
     {
-        reach(
-            self.alloc,
-            code,
-            limits,
-            self.main,
-            self.task,
-            &mut self.body,
-        )
+        let alloc = self.alloc;
+        let main = self.main;
+        let task = self.task;
+        reach(alloc, code, limits, main, task, &mut self.body)
     }
 
     // Its `execute` is built in: its task is over at once.
@@ -319,14 +320,10 @@ impl Fiber {
     ) -> Result<Wants<Fiber>, NoMemory>
         ensures { IfOk result (λ w. HasWanted code.now.program limits.now before came self.old self.new w) }
     {
-        let rests = is_resting(&came);
-        if rests && self.body.count <= before {
+        if !self.may_want(limits, before, &came) {
             return Err(NoMemory);
         }
-        if asks(&came) && !self.may_ask(limits) {
-            return Err(NoMemory);
-        }
-        self.rests = rests;
+        self.rests = is_resting(&came);
         let (wants, asked) = wanted(self.alloc, &code.program, self.main, came)?;
         self.asked = asked;
         Ok(wants)
@@ -344,8 +341,7 @@ impl Fiber {
         if body.idle {
             return Err(NoMemory);
         }
-        let boot = Beginning::Boot;
-        Ok(new_fiber(alloc, main, Snapshot::of(&boot), body))
+        Ok(new_fiber(alloc, main, booted(), body))
     }
 
     /// Runs up to the next thing that it wants. After want of memory it may only be dropped.
@@ -402,6 +398,17 @@ impl Fiber {
         } else {
             0
         }
+    }
+
+    // Where it comes to rest it has counted an instruction, and where it asks something it has one left for that.
+    fn may_want(&self, limits: &Limits, before: u64, came: &Came) -> bool
+        ensures rested { result ≡ true → is_rest came.now ≡ true → before < self.now.body.count }
+        ensures may { result ≡ true → asks_by came.now ≡ true → MayAsk limits.now self.now }
+    {
+        if is_resting(came) && self.body.count <= before {
+            return false;
+        }
+        !asks(came) || self.may_ask(limits)
     }
 
     // It has frames, and an instruction left.
