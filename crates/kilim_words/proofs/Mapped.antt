@@ -1,9 +1,11 @@
 -- Words that are owned, and their bytes.
-use Rattle.std.proofs.Common.{◌≡◌, ℕ, ℤ, suc, Bool, ◌&&◌, nat_lt, nat_le, List, [], ◌∷◌, ◌++◌, Option, Some, None, true, false, cond, ◌+◌, ◌<◌, zero, slice_index_or, refl, sym, ap, subst, ◌∙◌, length, map, take, arith}
+use Rattle.std.proofs.Common.{◌≡◌, ℕ, ℤ, suc, Bool, ◌&&◌, nat_lt, nat_le, List, [], ◌∷◌, ◌++◌, Option, Some, None, true, false, cond, ◌+◌, ◌<◌, zero, slice_index_or, refl, sym, ap, subst, ◌∙◌, length, map, take, drop, append_assoc, arith}
+use Rattle.std.specs.Prelude.{codes}
 use Rattle.std.specs.List.{list_all}
 use Rattle.kilim_words.specs.declared.options.Values.{Values}
-use Rattle.kilim_words.specs.Parts.{Tells}
-use Rattle.kilim_words.specs.Words.{Request, are_files, args_in, default_steps, demo_request, demo_with, is_demo_option, is_file, is_option, is_weave_option, main_option, most_number, most_steps, most_workers, number_of, number_option, number_or, run_of, run_with, steps_option, text_in, to_option, value_behind, value_or, values_of, weave_of, weave_with, workers_option}
+use Rattle.kilim_words.specs.Numbers.{int_by}
+use Rattle.kilim_words.specs.Parts.{Tells, numbers_or}
+use Rattle.kilim_words.specs.Words.{Request, are_files, args_in, default_steps, demo_request, demo_with, is_demo_option, is_file, is_option, is_weave_option, main_option, most_number, most_steps, most_workers, number_of, number_option, number_or, run_of, run_with, steps_option, text_in, to_option, value_behind, value_or, values_of, weave_of, weave_with, with_first, ints_of, workers_option}
 
 pub all_map : {A B : Type 0} (f : A → B) (test : B → Bool) (xs : List A) → list_all (λ x. test (f x)) xs ≡ list_all test (map f xs)
 all_map f test [] = refl
@@ -81,3 +83,35 @@ weave_refused o f z e n = sym (ap (λ (y : Bool). cond y (weave_with f (text_in 
 pub weave_taken : (o f : List (List ℕ)) (z : Bool) (to : Option (List ℕ)) (r : Option Request) → z ≡ (list_all is_weave_option o && are_files f) → z ≡ true → to ≡ text_in (values_of to_option o) → r ≡ weave_with f to → r ≡ weave_of o f
 weave_taken o f z to r e n t s =
     s ∙ (ap (weave_with f) t ∙ sym (ap (λ (y : Bool). cond y (weave_with f (text_in (values_of to_option o))) None) (sym e ∙ n)))
+
+-- ---- the integers of words, one after the other
+
+drop_at : {A : Type 0} (xs : List A) (i : ℕ) (x : A) → x ≡ slice_index_or xs i x → i < length xs → drop i xs ≡ x ∷ drop (i + 1) xs
+drop_at [] i x is lt = absurd (omega (arith, lt))
+drop_at {A} (y ∷ xs) zero x is lt = ap (λ (z : A). z ∷ xs) (sym is)
+drop_at (y ∷ xs) (suc i) x is lt = drop_at xs i x is (omega (arith, lt)) ∙ ap (λ (n : ℕ). x ∷ drop n (y ∷ xs)) (let n : suc (i + 1) ≡ suc i + 1 = omega arith in n)
+
+ints_first : {A : Type 0} (f : A → List ℕ) (xs : List A) (i : ℕ) (x : A) (bytes : List ℕ) (o : Option ℤ) → x ≡ slice_index_or xs i x → i < length xs → bytes ≡ f x → o ≡ int_by bytes (value_behind (codes "-") bytes) →
+    with_first o (ints_of (map f (drop (i + 1) xs))) ≡ ints_of (map f (drop i xs))
+ints_first {A} f xs i x bytes o is lt same read =
+    ap (λ (p : Option ℤ). with_first p (ints_of (map f (drop (i + 1) xs)))) (read ∙ ap (λ (b : List ℕ). int_by b (value_behind (codes "-") b)) same)
+    ∙ sym (ap (λ (ys : List A). ints_of (map f ys)) (drop_at xs i x is lt))
+
+behind_more : (done : List ℤ) (n : ℤ) (rest : Option (List ℤ)) → behind_ints (done ++ n ∷ []) rest ≡ behind_ints done (with_first (Some n) rest)
+behind_more done n None = refl
+behind_more done n (Some ns) = ap (λ (all : List ℤ). Some all) (append_assoc done (n ∷ []) ns)
+
+-- one integer more
+pub ints_on : {A : Type 0} (f : A → List ℕ) (xs : List A) (i : ℕ) (x : A) (bytes : List ℕ) (n : ℤ) (done now : List ℤ) → x ≡ slice_index_or xs i x → i < length xs → bytes ≡ f x → Some n ≡ int_by bytes (value_behind (codes "-") bytes) → now ≡ done ++ n ∷ [] →
+    behind_ints done (ints_of (map f (drop i xs))) ≡ ints_of (map f xs) → behind_ints now (ints_of (map f (drop (i + 1) xs))) ≡ ints_of (map f xs)
+ints_on f xs i x bytes n done now is lt same read pushed was =
+    ap (λ (ns : List ℤ). behind_ints ns (ints_of (map f (drop (i + 1) xs)))) pushed
+    ∙ (behind_more done n (ints_of (map f (drop (i + 1) xs))) ∙ (ap (behind_ints done) (ints_first f xs i x bytes (Some n) is lt same read) ∙ was))
+
+none_of : (done : List ℤ) (o all : Option (List ℤ)) → o ≡ None → behind_ints done o ≡ all → [] ≡ numbers_or all
+none_of done o all none e = ap numbers_or (sym (ap (behind_ints done) none) ∙ e)
+
+-- a word that writes none
+pub ints_stop : {A : Type 0} (f : A → List ℕ) (xs : List A) (i : ℕ) (x : A) (bytes : List ℕ) (done : List ℤ) → x ≡ slice_index_or xs i x → i < length xs → bytes ≡ f x → None ≡ int_by bytes (value_behind (codes "-") bytes) →
+    behind_ints done (ints_of (map f (drop i xs))) ≡ ints_of (map f xs) → [] ≡ numbers_or (ints_of (map f xs))
+ints_stop f xs i x bytes done is lt same read was = none_of done (ints_of (map f (drop i xs))) (ints_of (map f xs)) (sym (ints_first f xs i x bytes None is lt same read)) was
