@@ -3,3 +3,4 @@ pub mod Interfaces
 pub mod Lefts
 pub mod Shaped
 pub mod Slashes
+pub mod Loops

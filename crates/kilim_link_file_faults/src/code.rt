@@ -29,13 +29,14 @@ fn bad_index(
 ) -> Result<Option<CodeFault>, NoMemory>
     ensures { IfOk result (λ found. found ≡ first_of (bad_index pool.now (at, instr.now) (index_in instr.now))) }
 {
-    match index_in(instr) {
-        None => Ok(None),
-        Some((number, index)) => match operand_at(alloc, pool, number, index)? {
-            Some(_operand) => Ok(None),
-            None => Ok(Some(CodeFault::Op(OpFault::Unknown(number), at))),
-        },
+    let Some((number, index)) = index_in(instr) else {
+        return Ok(None);
+    };
+    let operand = operand_at(alloc, pool, number, index)?;
+    if operand.is_some() {
+        return Ok(None);
     }
+    Ok(Some(CodeFault::Op(OpFault::Unknown(number), at)))
 }
 
 // The first of them in code.

@@ -48,9 +48,11 @@ fn named_badly(class: &Named) -> Result<Option<Units>, NoMemory>
 fn no_field(alloc: Global, descriptor: &Units) -> Result<Option<Units>, NoMemory>
     ensures { IfOk result (λ found. found ≡ first_of (no_descriptors (OfField descriptor.now))) }
 {
-    match field_text(alloc, descriptor)? {
-        Some(_found) => Ok(None),
-        None => Ok(Some(descriptor.clone()?)),
+    let found = field_text(alloc, descriptor)?;
+    if found.is_none() {
+        Ok(Some(descriptor.clone()?))
+    } else {
+        Ok(None)
     }
 }
 

@@ -71,20 +71,24 @@ pub fn left_out_op(alloc: Global, file: &ClassFile) -> Result<Option<u8>, NoMemo
 pub fn has_initializer(file: &ClassFile) -> bool
     ensures { result ≡ has_initializer file.now }
 {
-    file.methods
-        .as_slice()
-        .iter()
-        .any(|method| is_text(member_name(file, method), b"<clinit>"))
+    for method in file.methods.as_slice() {
+        if is_text(member_name(file, method), b"<clinit>") {
+            return true;
+        }
+    }
+    false
 }
 
 /// Whether a method has this flag.
 pub fn has_method_flag(flag: u16, file: &ClassFile) -> bool
     ensures { result ≡ has_method_flag flag file.now }
 {
-    file.methods
-        .as_slice()
-        .iter()
-        .any(|method| has_flag(flag, method.access_flags))
+    for method in file.methods.as_slice() {
+        if has_flag(flag, method.access_flags) {
+            return true;
+        }
+    }
+    false
 }
 
 fn any_other_index(file: &ClassFile) -> bool
@@ -120,10 +124,12 @@ fn is_pausable_constructor(file: &ClassFile, method: &MemberInfo) -> bool
 pub fn has_pausable_constructor(file: &ClassFile) -> bool
     ensures { result ≡ has_pausable_constructor file.now }
 {
-    file.methods
-        .as_slice()
-        .iter()
-        .any(|method| is_pausable_constructor(file, method))
+    for method in file.methods.as_slice() {
+        if is_pausable_constructor(file, method) {
+            return true;
+        }
+    }
+    false
 }
 
 // Whether code has an exception table with a row (JVMS 4.7.3).
@@ -140,10 +146,12 @@ fn has_row(code: Option<&Code>) -> bool
 pub fn has_handlers(file: &ClassFile) -> bool
     ensures { result ≡ has_handlers file.now }
 {
-    file.methods
-        .as_slice()
-        .iter()
-        .any(|method| has_row(code_attribute(method)))
+    for method in file.methods.as_slice() {
+        if has_row(code_attribute(method)) {
+            return true;
+        }
+    }
+    false
 }
 
 fn has_fiber(form: Form) -> bool
@@ -159,7 +167,12 @@ fn has_fiber(form: Form) -> bool
 fn is_fiber_named(names: &[Units]) -> bool
     ensures { result ≡ list_any is_fiber names.now }
 {
-    names.iter().any(|name| name.is_text(b"kilim/Fiber"))
+    for name in names {
+        if name.is_text(b"kilim/Fiber") {
+            return true;
+        }
+    }
+    false
 }
 
 /// Whether, in plain form, the class is named `kilim/Fiber`, or names such a class (own).

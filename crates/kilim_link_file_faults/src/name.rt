@@ -68,8 +68,12 @@ fn has_whole_parts(name: &[u16]) -> bool
 fn has_no_marks(name: &[u16]) -> bool
     ensures { result ≡ list_all (λ u. not (u == 46 || u == 59 || u == 91)) name.now }
 {
-    name.iter()
-        .all(|unit| !(*unit == 46 || *unit == 59 || *unit == 91))
+    for unit in name {
+        if *unit == 46 || *unit == 59 || *unit == 91 {
+            return false;
+        }
+    }
+    true
 }
 
 // The number of bytes that a unit takes (JVMS 4.4.7).

@@ -159,13 +159,23 @@ fn is_float_mention(mention: &Mention) -> bool
 fn has_float_base(shapes: &[Shape]) -> bool
     ensures { result ≡ list_any (λ s. is_float_base s.base) shapes.now }
 {
-    shapes.iter().any(|shape| is_float_base(&shape.base))
+    for shape in shapes {
+        if is_float_base(&shape.base) {
+            return true;
+        }
+    }
+    false
 }
 
 fn has_float_slot(mentions: &[Mention]) -> bool
     ensures { result ≡ list_any is_float_mention mentions.now }
 {
-    mentions.iter().any(|mention| is_float_mention(mention))
+    for mention in mentions {
+        if is_float_mention(mention) {
+            return true;
+        }
+    }
+    false
 }
 
 /// Whether a descriptor, the name of an array or a frame has a float or double type (own). Takes what the file names,
@@ -201,7 +211,12 @@ fn is_task_array(world: &World, shape: &Shape) -> bool
 fn any_task_array(world: &World, shapes: &[Shape]) -> bool
     ensures { result ≡ list_any (λ s. s.is_array && is_task_base world.now s.base) shapes.now }
 {
-    shapes.iter().any(|shape| is_task_array(world, shape))
+    for shape in shapes {
+        if is_task_array(world, shape) {
+            return true;
+        }
+    }
+    false
 }
 
 /// Whether the file names an array of tasks, in any number of dimensions (own). Takes what it names, and the types in
