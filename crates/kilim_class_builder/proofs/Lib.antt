@@ -1,3 +1,4 @@
 pub mod Texts
 pub mod Adds
 pub mod Lists
+pub mod Gathering

@@ -1,4 +1,5 @@
 pub mod Adding
 pub mod Frames
 pub mod Members
+pub mod Gathered
 pub mod Building

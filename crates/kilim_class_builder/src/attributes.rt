@@ -6,6 +6,7 @@ ghost use Rattle.kilim_attribute_parts.specs.declared.annotation.AnnotationPart.
 ghost use Rattle.kilim_constant_pool.specs.declared.fault.AddFault.TheVariants as add;
 ghost use Rattle.kilim_grammar.specs.Reader.{ReadsUnless};
 ghost use Rattle.kilim_class_builder.specs.Adding.{text_added};
+ghost use Rattle.kilim_class_builder.specs.Gathered.{appended};
 ghost use Rattle.kilim_class_builder.specs.Members.{all_parts, annotation_of, annotations_added, exceptions_added, given_added, is_given, is_same, is_some_of, parameter_parts, parameters_added, qualifier_text, receiver_added, used_added};
 
 use crate::adding::{add_ascii_class, add_text};
@@ -26,25 +27,27 @@ fn one(alloc: Global, class: u16) -> Result<Seq<u16>, AllocError>
     Ok(all)
 }
 
-/// The Exceptions of a method that pauses.
+/// Adds the Exceptions of a method that pauses.
 #[tactic(auto, unfolding(crate::specs::Members::exceptions_added))]
 pub fn exceptions(
     alloc: Global,
     pool: &mut Pool,
     pausable: bool,
-) -> Result<Option<Attribute>, AddFault>
-    ensures { ReadsUnless add.Memory (λ a. (a, pool.new)) result (exceptions_added pausable pool.old) }
+    all: &mut Vec<Attribute>,
+) -> Result<(), AddFault>
+    ensures { ReadsUnless add.Memory (λ done. (all.new.items, pool.new)) result (appended all.old.items (exceptions_added pausable pool.old)) }
 {
     if !pausable {
-        return Ok(None);
+        return Ok(());
     }
     let name = add_text(alloc, pool, b"Exceptions")?;
     let class = add_ascii_class(alloc, pool, b"kilim/Pausable")?;
     let classes = one(alloc, class)?;
-    Ok(Some(Attribute {
+    all.push(Attribute {
         attribute_name_index: name,
         info: Info::Exceptions(classes),
-    }))
+    })?;
+    Ok(())
 }
 
 // ---- the receiver
@@ -249,29 +252,32 @@ fn given(
     alloc: Global,
     pool: &mut Pool,
     qs: &[Option<Qualifier>],
-) -> Result<Option<Attribute>, AddFault>
-    ensures { ReadsUnless add.Memory (λ a. (a, pool.new)) result (given_added qs.now pool.old) }
+    all: &mut Vec<Attribute>,
+) -> Result<(), AddFault>
+    ensures { ReadsUnless add.Memory (λ done. (all.new.items, pool.new)) result (appended all.old.items (given_added qs.now pool.old)) }
 {
     let name = add_text(alloc, pool, b"RuntimeInvisibleParameterAnnotations")?;
     let parts = annotations(alloc, pool, qs)?;
-    Ok(Some(Attribute {
+    all.push(Attribute {
         attribute_name_index: name,
         info: Info::RuntimeInvisibleParameterAnnotations(parts),
-    }))
+    })?;
+    Ok(())
 }
 
-/// The annotations of a method's parameters: their qualifiers.
+/// Adds the annotations of a method's parameters: their qualifiers.
 #[tactic(auto, unfolding(crate::specs::Members::parameters_added))]
 pub fn parameters(
     alloc: Global,
     pool: &mut Pool,
     qs: &[Option<Qualifier>],
-) -> Result<Option<Attribute>, AddFault>
-    ensures { ReadsUnless add.Memory (λ a. (a, pool.new)) result (parameters_added qs.now pool.old) }
+    all: &mut Vec<Attribute>,
+) -> Result<(), AddFault>
+    ensures { ReadsUnless add.Memory (λ done. (all.new.items, pool.new)) result (appended all.old.items (parameters_added qs.now pool.old)) }
 {
     if are_given(qs) {
-        given(alloc, pool, qs)
+        given(alloc, pool, qs, all)
     } else {
-        Ok(None)
+        Ok(())
     }
 }

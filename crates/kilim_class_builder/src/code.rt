@@ -126,12 +126,12 @@ pub fn body(
     locals: u16,
     bytes: Seq<u8>,
     frames: &[(u32, Frame)],
-) -> Result<Option<Attribute>, AddFault>
-    ensures { ReadsUnless add.Memory (λ a. (a, pool.new)) result (body_added stack locals bytes frames.now pool.old) }
+) -> Result<Attribute, AddFault>
+    ensures { ReadsUnless add.Memory (λ a. (Some a, pool.new)) result (body_added stack locals bytes frames.now pool.old) }
 {
     let name = add_text(alloc, pool, b"Code")?;
     let attributes = table(alloc, pool, frames)?;
-    Ok(Some(Attribute {
+    Ok(Attribute {
         attribute_name_index: name,
         info: Info::Code(Code {
             max_stack: stack,
@@ -140,7 +140,7 @@ pub fn body(
             exception_table: Seq::new(alloc),
             attributes,
         }),
-    }))
+    })
 }
 
 /// The bytes of code, each instruction behind the one before.

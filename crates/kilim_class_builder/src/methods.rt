@@ -1,11 +1,12 @@
 //! Fields and methods.
 
-ghost use Rattle.std.specs.Prelude.{◌≡◌, ◌++◌, IfOk, OnOk, string_bytes};
+ghost use Rattle.std.specs.Prelude.{◌≡◌, ◌++◌, OnOk};
 ghost use Rattle.kilim_classfile.specs.Parts.{is_bodiless};
 ghost use Rattle.kilim_constant_pool.specs.declared.fault.AddFault.TheVariants as add;
 ghost use Rattle.kilim_grammar.specs.Reader.{ReadsUnless};
 ghost use Rattle.kilim_class_builder.specs.Adding.{text_added};
-ghost use Rattle.kilim_class_builder.specs.Members.{attributes_added, code_added, field_added, listed, method_added, utf16_of};
+ghost use Rattle.kilim_class_builder.specs.Gathered.{appended, head_added, marks_added};
+ghost use Rattle.kilim_class_builder.specs.Members.{code_added, field_added, listed, method_added, utf16_of};
 
 use crate::adding::add_units;
 use crate::attributes::{exceptions, parameters, receiver};
@@ -69,24 +70,7 @@ fn push_listed(all: &mut Vec<Attribute>, attribute: Option<Attribute>) -> Result
     Ok(())
 }
 
-// The attributes that are there.
-fn all_listed(
-    alloc: Global,
-    first: Option<Attribute>,
-    second: Option<Attribute>,
-    third: Option<Attribute>,
-    fourth: Option<Attribute>,
-) -> Result<Seq<Attribute>, AllocError>
-    ensures { IfOk result (λ all. all ≡ listed first ++ (listed second ++ (listed third ++ listed fourth))) }
-{
-    let mut all = Vec::new(alloc);
-    push_listed(&mut all, first)?;
-    push_listed(&mut all, second)?;
-    push_listed(&mut all, third)?;
-    push_listed(&mut all, fourth)?;
-    Ok(Seq::from_vec(all))
-}
-
+// Adds the Code of a method that has one.
 #[tactic(auto, unfolding(crate::specs::Members::code_added))]
 fn code(
     alloc: Global,
@@ -96,28 +80,59 @@ fn code(
     locals: u16,
     instrs: Vec<RawInstr>,
     frames: &[(u32, Frame)],
-) -> Result<Option<Attribute>, AddFault>
-    ensures { ReadsUnless add.Memory (λ a. (a, pool.new)) result (code_added flags stack locals instrs.items frames.now pool.old) }
+    all: &mut Seq<Attribute>,
+) -> Result<(), AddFault>
+    ensures { ReadsUnless add.Memory (λ done. (all.new, pool.new)) result (appended all.old (code_added flags stack locals instrs.items frames.now pool.old)) }
 {
     if is_bodiless(flags) {
-        return Ok(None);
+        return Ok(());
     }
     let bytes = bytes_or_fault(alloc, instrs)?;
-    body(alloc, pool, stack, locals, bytes, frames)
+    let found = body(alloc, pool, stack, locals, bytes, frames)?;
+    all.push(found)?;
+    Ok(())
 }
 
-#[tactic(auto, unfolding(crate::specs::Members::attributes_added))]
-fn attributes(
+// The attributes of a method, without its code.
+#[tactic(auto, unfolding(crate::specs::Gathered::marks_added))]
+fn marks(
     alloc: Global,
     pool: &mut Pool,
-    source: MethodSource,
-) -> Result<Seq<Attribute>, AddFault>
-    ensures { ReadsUnless add.Memory (λ all. (all, pool.new)) result (attributes_added source pool.old) }
+    source: &MethodSource,
+    all: &mut Vec<Attribute>,
+) -> Result<(), AddFault>
+    ensures { ReadsUnless add.Memory (λ done. (all.new.items, pool.new)) result (marks_added source.now all.old.items pool.old) }
 {
-    let first = exceptions(alloc, pool, source.pausable)?;
-    let second = receiver(alloc, pool, source.receiver)?;
-    let third = parameters(alloc, pool, source.qualifiers.as_slice())?;
-    let fourth = code(
+    exceptions(alloc, pool, source.pausable, all)?;
+    let found = receiver(alloc, pool, source.receiver)?;
+    push_listed(all, found)?;
+    parameters(alloc, pool, source.qualifiers.as_slice(), all)
+}
+
+// A method before its code.
+#[tactic(auto, unfolding(crate::specs::Gathered::head_added))]
+fn head(alloc: Global, pool: &mut Pool, source: &MethodSource) -> Result<MemberInfo, AddFault>
+    ensures { ReadsUnless add.Memory (λ m. (m, pool.new)) result (head_added source.now pool.old) }
+{
+    let name_index = add_name(alloc, pool, source.name.as_str())?;
+    let descriptor_index = add_name(alloc, pool, source.descriptor.as_str())?;
+    let mut all = Vec::new(alloc);
+    marks(alloc, pool, source, &mut all)?;
+    Ok(MemberInfo {
+        access_flags: source.flags,
+        name_index,
+        descriptor_index,
+        attributes: Seq::from_vec(all),
+    })
+}
+
+/// A method.
+#[tactic(auto, unfolding(crate::specs::Gathered::gathered), using(crate::proofs::Gathering::as_gathered))]
+pub fn method(alloc: Global, pool: &mut Pool, source: MethodSource) -> Result<MemberInfo, AddFault>
+    ensures { ReadsUnless add.Memory (λ m. (m, pool.new)) result (method_added source pool.old) }
+{
+    let mut found = head(alloc, pool, &source)?;
+    code(
         alloc,
         pool,
         source.flags,
@@ -125,23 +140,7 @@ fn attributes(
         source.max_locals,
         source.code,
         source.frames.as_slice(),
+        &mut found.attributes,
     )?;
-    Ok(all_listed(alloc, first, second, third, fourth)?)
-}
-
-/// A method.
-#[tactic(auto, unfolding(crate::specs::Members::method_added))]
-pub fn method(alloc: Global, pool: &mut Pool, source: MethodSource) -> Result<MemberInfo, AddFault>
-    ensures { ReadsUnless add.Memory (λ m. (m, pool.new)) result (method_added source pool.old) }
-{
-    let name_index = add_name(alloc, pool, source.name.as_str())?;
-    let descriptor_index = add_name(alloc, pool, source.descriptor.as_str())?;
-    let access_flags = source.flags;
-    let all = attributes(alloc, pool, source)?;
-    Ok(MemberInfo {
-        access_flags,
-        name_index,
-        descriptor_index,
-        attributes: all,
-    })
+    Ok(found)
 }
