@@ -1,5 +1,5 @@
 -- All passes, and all cells.
-use Rattle.std.proofs.Common.{◌≡◌, ◌≢◌, ℕ, zero, suc, List, [], ◌∷◌, Option, Some, None, All, refl, ap, ◌∙◌, map, length, arith, ◌⊎◌, inl, inr}
+use Rattle.std.proofs.Common.{◌≡◌, ◌≢◌, ◌<◌, ◌≤◌, ℕ, zero, suc, List, [], ◌∷◌, Option, Some, None, All, refl, ap, ◌∙◌, map, length, arith, ◌⊎◌, inl, inr}
 use Rattle.std.specs.Prelude.{replicate}
 use Rattle.kilim_exchange.specs.Board.{Board, lent_of}
 use Rattle.kilim_turn.specs.declared.pass.Pass.{Pass}
@@ -46,6 +46,12 @@ all_free (z ∷ zs) (suc n) e f = λ i. f 0 i ∷ all_free zs n (omega arith) (�
 long : (n : ℕ) → length (replicate {A = List ℕ} n []) ≡ n
 long zero = refl
 long (suc n) = ap suc (long n)
+
+-- the first of so many empty cells
+pub first_free : (n : ℕ) (xs : List (List ℕ)) → 1 ≤ n → xs ≡ replicate n [] → (0 < length xs) × (cell_at xs 0 ≡ [])
+first_free n xs some e =
+    let l : length xs ≡ n = ap length e ∙ long n in
+    (omega (arith, l, some), ap (λ (cs : List (List ℕ)). cell_at cs 0) e ∙ cell_free n 0)
 
 -- where one cell was filled and emptied again, all are empty
 pub still_free : (n seat : ℕ) (xs ys zs : List (List ℕ)) → xs ≡ replicate n [] → KeepsOthers seat xs ys → KeepsOthers seat ys zs → cell_at zs seat ≡ [] → zs ≡ replicate n []
