@@ -9,16 +9,13 @@ ghost use Rattle.kilim_outside.specs.declared.folder.FailedCall.TheVariants.{Rea
 
 use kilim_units::Seq;
 use std::alloc::{AllocError, AllocFailed};
-use thiserror::Error;
 
 /// Why a folder didn't read or write.
-#[derive(Clone, Copy, Debug, Error)]
+#[derive(Clone, Copy)]
 pub enum FolderFault {
     /// The file isn't there, or can't be read or written.
-    #[error("a file can't be read or written")]
     Failed,
     /// Want of memory.
-    #[error("out of memory")]
     NoMemory,
 }
 

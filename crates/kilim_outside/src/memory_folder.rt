@@ -29,7 +29,12 @@ pub struct NamedFile {
 fn first_named<'a>(files: &'a [NamedFile], name: &[u8]) -> Option<&'a NamedFile>
     ensures { option_copied result ≡ find (λ file. pointwise nat_eq name.now file.name) files.now }
 {
-    files.iter().find(|file| name == file.name.as_slice())
+    for file in files {
+        if name == file.name.as_slice() {
+            return Some(file);
+        }
+    }
+    None
 }
 
 // The content of the first file of that name.
@@ -143,11 +148,7 @@ impl MapFolder {
     fn has(&self, name: &str) -> bool
         ensures { result ≡ list_any (λ file. pointwise nat_eq name.now file.name) self.now.files }
     {
-        let name = name.as_bytes();
-        self.files
-            .as_slice()
-            .iter()
-            .any(|file| name == file.name.as_slice())
+        first_named(self.files.as_slice(), name.as_bytes()).is_some()
     }
 
     // A copy of a name.

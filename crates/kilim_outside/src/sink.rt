@@ -4,16 +4,13 @@ ghost use Rattle.std.specs.Prelude.{◌≡◌, ◌≢◌, ◌≤◌, ◌<◌, Li
 ghost use Rattle.kilim_outside.specs.Causes.{Appended, Rose, SinkCause};
 
 use std::alloc::{AllocError, AllocFailed};
-use thiserror::Error;
 
 /// Why a sink took nothing.
-#[derive(Clone, Copy, Debug, Error)]
+#[derive(Clone, Copy)]
 pub enum SinkFault {
     /// The text can't be written.
-    #[error("text can't be written")]
     Failed,
     /// Want of memory.
-    #[error("out of memory")]
     NoMemory,
 }
 
