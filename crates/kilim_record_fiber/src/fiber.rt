@@ -19,7 +19,7 @@ ghost use Rattle.kilim_record_fiber.specs.Records.{records_of, NoFrameIsLeft};
 ghost use Rattle.kilim_record_fiber.specs.Clauses.{Resumes, RestsInRecords, Went};
 ghost use Rattle.kilim_record_fiber.specs.Calls.{IsNew, IsBegun, EndsIdle, RestsAt, HasWanted, MayAsk, asks_by, is_rest, WantsBy, Passed, Taken, Found, Refused, Answered, AnswerSuits, takes_value};
 
-use crate::past::{Did, Past, begun, booted, no_past, note};
+use crate::past::{Did, Past, begun, no_past, note};
 use kilim_classes::{BoxName, ClassId, Program};
 use kilim_fibers::{Answer, Wants};
 use kilim_program::{EndCause, Limits, Shape};
@@ -236,30 +236,25 @@ impl Fiber {
         requires suits { AnswerSuits code.now.plain answer }
         ensures { OnOk result (Answered code.now.plain code.now.program asked answer self.old self.new) }
     {
-        match asked {
-            Asked::Put(mailbox, shape) => match answer {
-                Answer::Sent(number) => self.pass_on(code, Did::Put(mailbox, number, shape)),
-                _ => Err(NoMemory),
-            },
-            Asked::Take(mailbox) => match answer {
-                Answer::Message(tree, number) => self.receive(code, mailbox, tree, number),
-                Answer::Nothing => self.refuse(code, mailbox),
-                _ => Err(NoMemory),
-            },
-            Asked::Probe(mailbox) => match answer {
-                Answer::Message(tree, number) => self.find(code, mailbox, tree, number),
-                Answer::Nothing => self.pass_none(code, Did::Empty(mailbox)),
-                _ => Err(NoMemory),
-            },
-            Asked::Start(shape) => match answer {
-                Answer::Started(number) => self.pass_on(code, Did::Start(number, shape)),
-                _ => Err(NoMemory),
-            },
-            Asked::Print(shape) => match answer {
-                Answer::Done => self.pass_on(code, Did::Print(shape)),
-                _ => Err(NoMemory),
-            },
-            Asked::Nothing => Err(NoMemory),
+        match (asked, answer) {
+            (Asked::Put(mailbox, shape), Answer::Sent(number)) => {
+                self.pass_on(code, Did::Put(mailbox, number, shape))
+            }
+            (Asked::Take(mailbox), Answer::Message(tree, number)) => {
+                self.receive(code, mailbox, tree, number)
+            }
+            (Asked::Take(mailbox), Answer::Nothing) => self.refuse(code, mailbox),
+            (Asked::Probe(mailbox), Answer::Message(tree, number)) => {
+                self.find(code, mailbox, tree, number)
+            }
+            (Asked::Probe(mailbox), Answer::Nothing) => {
+                self.pass_none(code, Did::Empty(mailbox))
+            }
+            (Asked::Start(shape), Answer::Started(number)) => {
+                self.pass_on(code, Did::Start(number, shape))
+            }
+            (Asked::Print(shape), Answer::Done) => self.pass_on(code, Did::Print(shape)),
+            _ => Err(NoMemory),
         }
     }
 
@@ -341,7 +336,8 @@ impl Fiber {
         if body.idle {
             return Err(NoMemory);
         }
-        Ok(new_fiber(alloc, main, booted(), body))
+        let boot = Beginning::Boot;
+        Ok(new_fiber(alloc, main, Snapshot::of(&boot), body))
     }
 
     /// Runs up to the next thing that it wants. After want of memory it may only be dropped.

@@ -1,7 +1,7 @@
 //! What a fiber did. Only clauses read it: it takes no memory, and nothing is copied or kept for it.
 
 ghost use Rattle.std.specs.Prelude.{◌≡◌, [], ◌∷◌, ◌++◌};
-ghost use Rattle.kilim_thread_model.specs.declared.deed.Beginning.TheVariants.{Begun, Boot};
+ghost use Rattle.kilim_thread_model.specs.declared.deed.Beginning.TheVariants.{Begun};
 ghost use Rattle.kilim_record_fiber.specs.Past.{deed_of, deeds_of};
 
 use kilim_classes::BoxName;
@@ -42,14 +42,6 @@ pub fn note(past: &mut Snapshot<Past>, did: Did)
     let before = std::mem::replace(past, no_past());
     let after = Past::After(before, did);
     *past = Snapshot::of(&after);
-}
-
-/// It began with the constructor of the main class.
-pub fn booted() -> Snapshot<Beginning>
-    ensures { result.value ≡ Boot }
-{
-    let boot = Beginning::Boot;
-    Snapshot::of(&boot)
 }
 
 /// It began on an object of that shape.
