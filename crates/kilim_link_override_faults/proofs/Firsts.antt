@@ -1,5 +1,6 @@
 -- The first of a list, in loops and of lists that are put together.
 use Rattle.std.proofs.Common.{◌≡◌, ℕ, zero, suc, ◌+◌, ◌<◌, Bool, true, false, List, [], ◌∷◌, ◌++◌, length, get_or, take, drop, Option, Some, None, refl, sym, ap, ◌∙◌, arith, drop-cons, filter}
+use Rattle.std.specs.Prelude.{◌||◌}
 use Rattle.std.specs.List.{flat_map, list_any}
 use Rattle.std.proofs.lemmas.List.{append-nil}
 use Rattle.std.proofs.lemmas.Grind.{flat_map-append}
@@ -48,3 +49,23 @@ first_isnt_there test (x ∷ xs) none =
     cases (test x)
     (λ is. absurd (let wrong : Some x ≡ None = sym (first_is test x xs is) ∙ none in cc))
     (λ isnt. none_of_two (test x) (list_any test xs) isnt (first_isnt_there test xs (sym (first_isnt test x xs isnt) ∙ none)))
+
+-- ---- loops over the rest of a list
+
+rest_at : {A : Type 0} (xs : List A) (i : ℕ) (x d : A) → i < length xs → x ≡ get_or xs i d → drop i xs ≡ x ∷ drop (i + 1) xs
+rest_at xs i x d lt is =
+    let n : suc i ≡ i + 1 = omega arith in
+    drop-cons xs i d lt ∙ (ap (λ y. y ∷ drop (suc i) xs) (sym is) ∙ ap (λ (k : ℕ). x ∷ drop k xs) n)
+
+module _ {A : Type 0} (test : A → Bool) (xs : List A) (i : ℕ) (x d : A) (b : Bool) (lt : i < length xs) (is : x ≡ get_or xs i d) (answers : b ≡ test x) where
+  pub found_at : (r : Option A) → first_of (filter test (drop i xs)) ≡ r → b ≡ true → Some x ≡ r
+  found_at r so_far t = sym (ap (λ ys. first_of (filter test ys)) (rest_at xs i x d lt is) ∙ first_is test x (drop (i + 1) xs) (sym answers ∙ t)) ∙ so_far
+
+  pub passed_at : (r : Option A) → first_of (filter test (drop i xs)) ≡ r → b ≡ false → first_of (filter test (drop (i + 1) xs)) ≡ r
+  passed_at r so_far t = sym (ap (λ ys. first_of (filter test ys)) (rest_at xs i x d lt is) ∙ first_isnt test x (drop (i + 1) xs) (sym answers ∙ t)) ∙ so_far
+
+  pub any_at : (r : Bool) → list_any test (drop i xs) ≡ r → b ≡ true → true ≡ r
+  any_at r so_far t = ap (λ (c : Bool). c || list_any test (drop (i + 1) xs)) (sym t ∙ answers) ∙ (sym (ap (list_any test) (rest_at xs i x d lt is)) ∙ so_far)
+
+  pub none_at : (r : Bool) → list_any test (drop i xs) ≡ r → b ≡ false → list_any test (drop (i + 1) xs) ≡ r
+  none_at r so_far t = ap (λ (c : Bool). c || list_any test (drop (i + 1) xs)) (sym t ∙ answers) ∙ (sym (ap (list_any test) (rest_at xs i x d lt is)) ∙ so_far)

@@ -58,7 +58,12 @@ fn is_shared_at(methods: &[DeclaredMethod], place: u32) -> bool
 fn is_shared_at_any(methods: &[DeclaredMethod], places: &[u32]) -> bool
     ensures { result ≡ list_any (passes_at is_shared methods.now) places.now }
 {
-    places.iter().any(|place| is_shared_at(methods, *place))
+    for place in places {
+        if is_shared_at(methods, *place) {
+            return true;
+        }
+    }
+    false
 }
 
 /// Whether a class declares a method of that name and descriptor that isn't private.
@@ -72,9 +77,12 @@ pub fn stands_in(world: &World, signature: &Signature, class: ClassId) -> bool
 fn stands_in_any(world: &World, signature: &Signature, classes: &[ClassId]) -> bool
     ensures { result ≡ list_any (stands_in world.now signature.now.name signature.now.descriptor) classes.now }
 {
-    classes
-        .iter()
-        .any(|class| stands_in(world, signature, *class))
+    for class in classes {
+        if stands_in(world, signature, *class) {
+            return true;
+        }
+    }
+    false
 }
 
 fn stands_in_either(
