@@ -35,7 +35,12 @@ fn is_type(annotation: &Units, text: &[u8]) -> bool
 fn names_one(types: &[Units], text: &[u8]) -> bool
     ensures { result ≡ names_one types.now text.now }
 {
-    types.iter().any(|annotation| is_type(annotation, text))
+    for annotation in types {
+        if is_type(annotation, text) {
+            return true;
+        }
+    }
+    false
 }
 
 /// The qualifier that these annotations give (own): Free before Cuttable before Safe, else the default.
@@ -69,9 +74,12 @@ fn names_one_at(attribute: &Seq<Seq<Units>>, at: usize, text: &[u8]) -> bool
 fn one_names(attributes: &[Seq<Seq<Units>>], at: usize, text: &[u8]) -> bool
     ensures { result ≡ list_any (λ lists. names_one (types_at at lists) text.now) attributes.now }
 {
-    attributes
-        .iter()
-        .any(|attribute| names_one_at(attribute, at, text))
+    for attribute in attributes {
+        if names_one_at(attribute, at, text) {
+            return true;
+        }
+    }
+    false
 }
 
 // The same, by all that they say.
