@@ -34,6 +34,10 @@ pub on_begun : {T E : Type 0} (r : Result T E) (old mid new x : List ℕ) → mi
 on_begun (Ok v) old mid new x e h = tt
 on_begun (Err v) old mid new x e h = begun_more old mid new x e h
 
+pub on_stayed : {T E : Type 0} (r : Result T E) (old mid new x : List ℕ) → mid ≡ old ++ x → OnErr r (new ≡ mid) → OnErr r (StartsWith new old)
+on_stayed (Ok v) old mid new x e h = tt
+on_stayed (Err v) old mid new x e h = begun old new x (h ∙ e)
+
 pub target_fits : (at : ℕ) (targets : List ℤ) (i : ℕ) (d : ℤ) → AllByRecursion (TargetFits w32 at) targets → i < length targets → TargetFits w32 at (get_or targets i d)
 target_fits at [] i d all lt = absurd (omega arith)
 target_fits at (to ∷ targets) zero d all lt = all.0

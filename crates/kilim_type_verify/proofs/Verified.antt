@@ -1,8 +1,8 @@
 -- Methods one by one, and what a program without a fault is.
-use Rattle.std.proofs.Common.{◌≡◌, ℕ, zero, suc, ◌+◌, Bool, true, ◌&&◌, refl, ap, sym, ◌∙◌, arith, List, [], ◌∷◌, ◌++◌, length, drop, take, slice_get, map, Option, Some, None}
+use Rattle.std.proofs.Common.{◌≡◌, ℕ, zero, suc, ◌+◌, Bool, true, ◌&&◌, refl, ap, sym, subst, ◌∙◌, arith, List, [], ◌∷◌, ◌++◌, length, drop, take, slice_get, map, Option, Some, None}
 use Rattle.std.specs.List.{list_all}
 use Rattle.std.proofs.lemmas.Bool.{and_parts}
-use Rattle.std.proofs.lemmas.List.{drop_more, drop_all, map-append}
+use Rattle.std.proofs.lemmas.List.{drop_more, drop_all, take_all, map-append}
 use Rattle.std.proofs.lemmas.Option.{slice_get_within, get_or_from_slice_get}
 use Rattle.kilim_lemmas.proofs.Lists.{take_next}
 use Rattle.kilim_classes.specs.declared.class.Method.{Method}
@@ -12,7 +12,7 @@ use Rattle.kilim_classes.specs.Keeps.{Keeps, code_is_whole}
 use Rattle.kilim_classes.specs.Lengths.{code_stands, targets_stand, code_ends}
 use Rattle.kilim_classes.specs.Names.{method_at}
 use Rattle.kilim_classes.specs.Program.{Program}
-use Rattle.kilim_typing.specs.Typed.{IsWellTyped, listed, frames_of}
+use Rattle.kilim_typing.specs.Typed.{IsWellTyped, listed, frames_of, listed_frames}
 use Rattle.kilim_typing.specs.Faults.{method_fault, in_method, faults_from, first_type_fault}
 use Rattle.kilim_typing.proofs.FromFaults.{no_fault_is_well_typed}
 
@@ -21,7 +21,7 @@ front_is s k t e = drop_more s k t (slice_get_within s k t e) ∙ ap (λ x. x �
 
 -- ---- the first fault
 
-pub fault_here : (p : Program) (ms : List Method) (k : ℕ) (m : Method) (at rule : ℕ) → slice_get ms k ≡ Some m → method_fault p m ≡ Some (at, rule) → faults_from p k (drop k ms) ≡ Some (record { 0 = k }, at, rule)
+fault_here : (p : Program) (ms : List Method) (k : ℕ) (m : Method) (at rule : ℕ) → slice_get ms k ≡ Some m → method_fault p m ≡ Some (at, rule) → faults_from p k (drop k ms) ≡ Some (record { 0 = k }, at, rule)
 fault_here p ms k m at rule is e = ap (faults_from p k) (front_is ms k m is) ∙ ap (λ o. in_method k o (faults_from p (suc k) (drop (k + 1) ms))) e
 
 pub fault_on : (p : Program) (ms : List Method) (k : ℕ) (m : Method) → slice_get ms k ≡ Some m → method_fault p m ≡ None → faults_from p (k + 1) (drop (k + 1) ms) ≡ faults_from p k (drop k ms)
@@ -35,8 +35,18 @@ frames_on p ms k m all fs is e a =
     ap (λ xs. xs ++ fs ∷ []) a ∙ ap (λ f. map (λ (x : Method). map (listed x) (frames_of p x)) (take k ms) ++ f ∷ []) e
     ∙ sym (ap (map (λ (x : Method). map (listed x) (frames_of p x))) (take_next ms k m is) ∙ map-append (λ (x : Method). map (listed x) (frames_of p x)) (take k ms) (m ∷ []))
 
-pub all_walked : (p : Program) (k : ℕ) → k ≡ length p.methods → faults_from p k (drop k p.methods) ≡ None
-all_walked p k e = ap (faults_from p k) (drop_all k p.methods (omega arith))
+pub fault_of : (p : Program) (ms : List Method) (k id : ℕ) (m : Method) (at rule : ℕ) → slice_get ms k ≡ Some m → method_fault p m ≡ Some (at, rule) → id ≡ k → faults_from p k (drop k ms) ≡ faults_from p 0 p.methods →
+    first_type_fault p ≡ Some (record { 0 = id }, at, rule)
+unfolding first_type_fault
+fault_of p ms k id m at rule is e same from =
+    subst (λ (n : ℕ). faults_from p 0 p.methods ≡ Some (record { 0 = n }, at, rule)) (sym same) (sym from ∙ fault_here p ms k m at rule is e)
+
+pub none_of : (p : Program) (ms : List Method) (k : ℕ) → ms ≡ p.methods → k ≡ length ms → faults_from p k (drop k ms) ≡ faults_from p 0 p.methods → first_type_fault p ≡ None
+unfolding first_type_fault
+none_of p ms k is e from = sym from ∙ ap (faults_from p k) (drop_all k ms (omega arith))
+
+pub frames_of_all : (p : Program) (ms : List Method) (k : ℕ) (all : List (List Frame)) → ms ≡ p.methods → k ≡ length ms → all ≡ map (λ (x : Method). map (listed x) (frames_of p x)) (take k ms) → all ≡ listed_frames p
+frames_of_all p ms k all is e a = a ∙ ap (map (λ (x : Method). map (listed x) (frames_of p x))) (take_all k ms (omega arith) ∙ is)
 
 -- ---- a program without a fault
 

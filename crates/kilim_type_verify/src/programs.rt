@@ -34,7 +34,6 @@ fn method_of(methods: &[Method], at: usize) -> &Method
     &methods[at]
 }
 
-#[tactic(auto, using(crate::proofs::Verified::fault_here, crate::proofs::Verified::fault_on, crate::proofs::Verified::frames_on, crate::proofs::Verified::all_walked), unfolding(kilim_typing::specs::Faults::first_type_fault))]
 fn walk_methods(alloc: Global, program: &Program) -> Result<Methods, NoMemory>
     ensures { IfOk result (λ walked. MethodsWalked program.now walked) }
 {
