@@ -1,12 +1,11 @@
 -- What stays calm where a fiber is lent.
-use Rattle.std.proofs.Common.{◌≡◌, ℕ, List, ◌∷◌, Option, Some, None, sym, subst, ◌∙◌}
+use Rattle.std.proofs.Common.{◌≡◌, ℕ, List, ◌∷◌, Option, None, sym, subst, ◌∙◌}
 use Rattle.std.specs.List.{AllByRecursion}
 use Rattle.std.proofs.lemmas.Option.{none-some}
 use Rattle.kilim_classes.specs.declared.names.BoxName.{BoxName}
 use Rattle.kilim_exchange.specs.declared.board.Board as kept
 use Rattle.kilim_exchange.specs.declared.board.Waiter.{Waiter}
 use Rattle.kilim_exchange.specs.Board.{Board, Lends}
-use Rattle.kilim_exchange.specs.Seen.{seen}
 use Rattle.kilim_worker_pool.specs.Pool.{IsCalm, IsCalmFiber, IsCalmWaiter, EmptyAt}
 
 module _ {F : Type 0} (refused : F → Option BoxName) (task : F → ℕ) (seat : ℕ) (f : F) where
