@@ -8,7 +8,7 @@ use std::alloc::AllocError;
 
 /// An instruction in the form in which it is written. First stands its number; in the two wide variants that is
 /// the number behind `wide`. Targets are places, byte offsets in the code array.
-#[derive(Drop)]
+#[derive(Debug, Drop)]
 pub enum RawInstr {
     /// No operands.
     Plain(u8),
