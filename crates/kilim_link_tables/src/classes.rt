@@ -3,9 +3,9 @@
 ghost use Rattle.std.specs.Prelude.{IfSome};
 ghost use Rattle.kilim_classfile.specs.Text.{ClassFits};
 
-use crate::bytes::changed;
-use crate::code::code_line;
+use crate::code::push_code;
 use kilim_attributes::Info;
+use kilim_case_text::{Text, changed};
 use kilim_classfile::{ClassFault, ClassFile, MemberInfo};
 use kilim_constant_pool::{Entry, Pool};
 use kilim_reports::{class_line, descriptor_text, member_name_text};
@@ -16,93 +16,92 @@ use std::rt::Files;
 pub fn class_file<R: Files>(rt: &R, alloc: Global, word: &str) -> Option<ClassFile>
     ensures { IfSome result ClassFits }
 {
-    let bytes = changed(rt, alloc, word)?;
-    kilim_classfile::read(alloc, bytes.as_slice()).ok()
+    match changed(rt, alloc, word) {
+        Some(bytes) => kilim_classfile::read(alloc, bytes.as_slice()).ok(),
+        None => None,
+    }
 }
 
 // The name of a method with its descriptor, as reports write it.
-fn name_of(alloc: Global, pool: &Pool, method: &MemberInfo) -> Option<Vec<u8>> {
+fn push_name(text: &mut Text, alloc: Global, pool: &Pool, method: &MemberInfo) {
     match (
         pool.entry(method.name_index),
         pool.entry(method.descriptor_index),
     ) {
         (Some(Entry::Utf8(name)), Some(Entry::Utf8(descriptor))) => {
-            let mut text = member_name_text(alloc, name).ok()?;
-            let types = descriptor_text(alloc, descriptor).ok()?;
-            text.extend_from_slice(types.as_slice()).ok()?;
-            Some(text)
+            text.part(member_name_text(alloc, name).ok());
+            text.part(descriptor_text(alloc, descriptor).ok());
         }
-        _ => None,
+        _ => text.lacks(),
     }
 }
 
 // A line for the code of a method, nothing where it has none.
-fn push_method(into: &mut Vec<u8>, alloc: Global, pool: &Pool, method: &MemberInfo) -> Option<()> {
+fn push_method(text: &mut Text, alloc: Global, pool: &Pool, method: &MemberInfo) {
     for attribute in method.attributes.as_slice() {
         if let Info::Code(code) = &attribute.info {
-            let name = name_of(alloc, pool, method)?;
-            into.extend_from_slice(name.as_slice()).ok()?;
-            into.extend_from_slice(b": ").ok()?;
-            let line = code_line(alloc, code.code.as_slice())?;
-            into.extend_from_slice(line.as_slice()).ok()?;
+            push_name(text, alloc, pool, method);
+            text.word(": ");
+            push_code(text, alloc, code.code.as_slice());
         }
     }
-    Some(())
+}
+
+// Whether a class file is written in these bytes.
+fn push_written(text: &mut Text, alloc: Global, bytes: &[u8], file: &ClassFile)
+    requires { ClassFits file.now }
+{
+    match kilim_classfile::write(alloc, file) {
+        Ok(written) => text.word(if written.as_slice() == bytes {
+            "same\n"
+        } else {
+            "another\n"
+        }),
+        Err(_) => text.lacks(),
+    }
 }
 
 // Whether a class file is written in the bytes in which it was read, and a line for each method with code.
-fn lines_of(alloc: Global, bytes: &[u8], file: &ClassFile) -> Option<Vec<u8>>
+fn push_file(text: &mut Text, alloc: Global, bytes: &[u8], file: &ClassFile)
     requires { ClassFits file.now }
 {
-    let written = kilim_classfile::write(alloc, file).ok()?;
-    let word = if written.as_slice() == bytes {
-        "same\n"
-    } else {
-        "another\n"
-    };
-    let mut text = Vec::from_slice(alloc, word.as_bytes()).ok()?;
+    push_written(text, alloc, bytes, file);
     for method in file.methods.as_slice() {
-        push_method(&mut text, alloc, &file.constant_pool, method)?;
+        push_method(text, alloc, &file.constant_pool, method);
     }
-    Some(text)
 }
 
-// The line of a fault, or those of a class file.
-fn answer_of(alloc: Global, name: &str, bytes: &[u8]) -> Option<Vec<u8>> {
+/// `class FILE`: the line of a fault, or those of a class file.
+pub fn push_class(text: &mut Text, alloc: Global, name: &str, bytes: &[u8]) {
     match kilim_classfile::read(alloc, bytes) {
-        Ok(file) => lines_of(alloc, bytes, &file),
-        Err(ClassFault::Memory) => None,
-        Err(fault) => class_line(alloc, name, &fault).ok(),
+        Ok(file) => push_file(text, alloc, bytes, &file),
+        Err(ClassFault::Memory) => text.lacks(),
+        Err(fault) => text.part(class_line(alloc, name, &fault).ok()),
     }
 }
 
-/// `class FILE`.
-pub fn class_case<R: Files>(rt: &R, alloc: Global, words: &[String]) -> Option<Vec<u8>> {
-    let [word] = words else {
-        return None;
-    };
-    let bytes = changed(rt, alloc, word.as_str())?;
-    answer_of(alloc, word.as_str(), bytes.as_slice())
+// Whether bytes are refused as cut at their end; nothing for want of memory.
+fn is_cut(alloc: Global, bytes: &[u8]) -> Option<bool> {
+    match kilim_classfile::read(alloc, bytes) {
+        Err(ClassFault::Cut(at)) => Some(at == bytes.len()),
+        Err(ClassFault::Memory) => None,
+        _ => Some(false),
+    }
 }
 
 /// `fronts FILE`: the first proper front of a file that isn't cut at its end, or how many there are.
-pub fn fronts_case<R: Files>(rt: &R, alloc: Global, words: &[String]) -> Option<Vec<u8>> {
-    let [word] = words else {
-        return None;
-    };
-    let bytes = changed(rt, alloc, word.as_str())?;
-    let count = bytes.len();
-    for len in 0..count {
-        match kilim_classfile::read(alloc, &bytes.as_slice()[..len]) {
-            Err(ClassFault::Cut(at)) if at == len => {}
-            Err(ClassFault::Memory) => return None,
-            _ => return Some(
-                format!(in alloc; "{len} isn't cut there\n")
-                    .ok()?
-                    .into_bytes(),
-            ),
+pub fn push_fronts(text: &mut Text, alloc: Global, bytes: &[u8]) {
+    for len in 0..bytes.len() {
+        match is_cut(alloc, &bytes[..len]) {
+            Some(true) => {}
+            Some(false) => {
+                text.number(len);
+                text.word(" isn't cut there\n");
+                return;
+            }
+            None => text.lacks(),
         }
     }
-    let line = format!(in alloc; "{count} fronts are cut at their ends\n").ok()?;
-    Some(line.into_bytes())
+    text.number(bytes.len());
+    text.word(" fronts are cut at their ends\n");
 }

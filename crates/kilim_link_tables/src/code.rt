@@ -3,13 +3,25 @@
 ghost use Rattle.kilim_bytecode.specs.Exact.{BodyFits};
 ghost use Rattle.kilim_opcodes.specs.Instr.{InstrFits};
 
-use crate::bytes::bytes_of;
 use kilim_bytecode::{Body, CodeFault, decode, encode};
+use kilim_case_text::Text;
 use kilim_opcodes::{OpFault, RawInstr, read_instr, write_instr};
 use std::alloc::Global;
 
 // Code is asked for below this many bytes.
 const CODE_LIMIT: usize = 65_536;
+
+// The bytes of a word, in decimal, with commas between them.
+fn bytes_of(alloc: Global, word: &str) -> Option<Vec<u8>> {
+    let mut bytes = Vec::new(alloc);
+    for byte in word.split(',') {
+        match byte.parse::<u8>() {
+            Ok(byte) if bytes.push(byte).is_ok() => {}
+            _ => return None,
+        }
+    }
+    Some(bytes)
+}
 
 // The words of a fault of one instruction.
 fn op_words(fault: OpFault) -> &'static str {
@@ -21,88 +33,137 @@ fn op_words(fault: OpFault) -> &'static str {
     }
 }
 
-fn fault_line(alloc: Global, fault: CodeFault) -> Option<String> {
-    match fault {
+fn push_fault(text: &mut Text, fault: CodeFault) {
+    let at = match fault {
         CodeFault::Op(fault, at) => {
-            let words = op_words(fault);
-            format!(in alloc; "{words} at {at}\n").ok()
+            text.word(op_words(fault));
+            text.word(" at ");
+            at
         }
-        CodeFault::MidTarget(at, to) => format!(in alloc; "jumps to {to} at {at}\n").ok(),
-        CodeFault::FallsOff(at) => format!(in alloc; "goes on behind {at}\n").ok(),
-        CodeFault::Memory => None,
-    }
+        CodeFault::MidTarget(at, to) => {
+            text.word("jumps to ");
+            text.signed(to);
+            text.word(" at ");
+            at
+        }
+        CodeFault::FallsOff(at) => {
+            text.word("goes on behind ");
+            at
+        }
+        CodeFault::Memory => {
+            text.lacks();
+            0
+        }
+    };
+    text.number(at as usize);
+    text.word("\n");
 }
 
-fn body_line(alloc: Global, code: &[u8], body: &Body) -> Option<String>
+fn push_body(text: &mut Text, alloc: Global, code: &[u8], body: &Body)
     requires { BodyFits body.now.code }
 {
-    let written = encode(alloc, body).ok()?;
-    let word = if written.as_slice() == code {
-        "same"
-    } else {
-        "another"
-    };
-    let count = body.code.len();
-    format!(in alloc; "{count} instructions, {word}\n").ok()
+    text.number(body.code.len());
+    match encode(alloc, body) {
+        Ok(written) => text.word(if written.as_slice() == code {
+            " instructions, same\n"
+        } else {
+            " instructions, another\n"
+        }),
+        Err(_) => text.lacks(),
+    }
 }
 
 /// How many instructions a code array has and whether it is written in the same bytes, or its fault.
-pub fn code_line(alloc: Global, code: &[u8]) -> Option<Vec<u8>> {
+pub fn push_code(text: &mut Text, alloc: Global, code: &[u8]) {
     if code.len() >= CODE_LIMIT {
-        return None;
+        text.lacks();
+        return;
     }
-    let line = match decode(alloc, code) {
-        Ok(body) => body_line(alloc, code, &body)?,
-        Err(fault) => fault_line(alloc, fault)?,
-    };
-    Some(line.into_bytes())
+    match decode(alloc, code) {
+        Ok(body) => push_body(text, alloc, code, &body),
+        Err(fault) => push_fault(text, fault),
+    }
+}
+
+fn push_code_of(text: &mut Text, alloc: Global, word: &str) {
+    match bytes_of(alloc, word) {
+        Some(code) => push_code(text, alloc, code.as_slice()),
+        None => text.lacks(),
+    }
 }
 
 /// `code`, or `code BYTES`.
-pub fn code_case(alloc: Global, words: &[String]) -> Option<Vec<u8>> {
+pub fn code_case(text: &mut Text, alloc: Global, words: &[String]) {
     match words {
-        [] => code_line(alloc, &[]),
-        [word] => code_line(alloc, bytes_of(alloc, word.as_str())?.as_slice()),
-        _ => None,
+        [] => push_code(text, alloc, &[]),
+        [word] => push_code_of(text, alloc, word.as_str()),
+        _ => text.lacks(),
     }
 }
 
-// An instruction at a place of code, the place behind it, and whether it is written in the same bytes.
-fn instr_line(
+fn push_shown(text: &mut Text, alloc: Global, instr: &RawInstr) {
+    match format!(in alloc; "{instr:?} to ") {
+        Ok(shown) => text.word(shown.as_str()),
+        Err(_) => text.lacks(),
+    }
+}
+
+// Whether an instruction is written in the bytes from its place up to the next one's.
+fn push_written(
+    text: &mut Text,
     alloc: Global,
     code: &[u8],
     at: usize,
     instr: &RawInstr,
     next: usize,
-) -> Option<String>
+)
     requires { InstrFits at instr.now }
 {
-    let mut written = Vec::from_slice(alloc, code.get(..at)?).ok()?;
-    write_instr(instr, at, &mut written).ok()?;
-    let word = if Some(written.as_slice()) == code.get(..next) {
-        "same"
+    let mut written = Vec::new(alloc);
+    if write_instr(instr, at, &mut written).is_err() {
+        text.lacks();
+    }
+    text.word(if Some(written.as_slice()) == code.get(at..next) {
+        ", same\n"
     } else {
-        "another"
-    };
-    format!(in alloc; "{instr:?} to {next}, {word}\n").ok()
+        ", another\n"
+    });
+}
+
+// An instruction at a place of code, the place behind it, and whether it is written in the same bytes.
+fn push_instr(text: &mut Text, alloc: Global, code: &[u8], at: usize) {
+    if at >= code.len() {
+        text.lacks();
+        return;
+    }
+    match read_instr(alloc, code, at) {
+        Ok((instr, next)) => {
+            push_shown(text, alloc, &instr);
+            text.number(next);
+            push_written(text, alloc, code, at, &instr, next);
+        }
+        Err(fault) => {
+            text.word(op_words(fault));
+            text.word("\n");
+        }
+    }
+}
+
+fn push_instr_of(text: &mut Text, alloc: Global, word: &str, at: usize) {
+    match bytes_of(alloc, word) {
+        Some(code) => push_instr(text, alloc, code.as_slice(), at),
+        None => text.lacks(),
+    }
 }
 
 /// `instr AT BYTES`.
-pub fn instr_case(alloc: Global, words: &[String]) -> Option<Vec<u8>> {
+pub fn instr_case(text: &mut Text, alloc: Global, words: &[String]) {
     let [at, word] = words else {
-        return None;
+        text.lacks();
+        return;
     };
-    let at = at.as_str().parse::<usize>().ok()?;
-    let code = bytes_of(alloc, word.as_str())?;
-    if at >= code.len() {
-        return None;
+    match at.parse::<usize>() {
+        Ok(at) => push_instr_of(text, alloc, word.as_str(), at),
+        Err(_) => text.lacks(),
     }
-    let line = match read_instr(alloc, code.as_slice(), at) {
-        Ok((instr, next)) => instr_line(alloc, code.as_slice(), at, &instr, next)?,
-        Err(fault) => {
-            let words = op_words(fault);
-            format!(in alloc; "{words}\n").ok()?
-        }
-    };
-    Some(line.into_bytes())
 }

@@ -1,7 +1,6 @@
 //! Answers of the public calls on class files and of linking, for a table of cases: README.md has them, and the program kilim_tables runs them.
 #![tactic(auto)]
 
-mod bytes;
 mod cases;
 mod classes;
 mod code;

@@ -5,6 +5,7 @@ ghost use Rattle.std.specs.List.{AllByRecursion};
 ghost use Rattle.kilim_classfile.specs.Text.{ClassFits};
 
 use crate::classes::class_file;
+use kilim_case_text::Text;
 use kilim_class_world::link;
 use kilim_classes::{Form, Program};
 use kilim_classfile::ClassFile;
@@ -12,6 +13,9 @@ use kilim_link_spec::LinkFault;
 use kilim_reports::link_line;
 use std::alloc::Global;
 use std::rt::Files;
+
+// The most files of a program.
+const MOST_FILES: usize = 1000;
 
 // The class files of these words, in order.
 #[tactic(auto, using(crate::proofs::More::one_more))]
@@ -31,40 +35,49 @@ fn class_files<R: Files>(rt: &R, alloc: Global, words: &[String]) -> Option<Vec<
     Some(files)
 }
 
-fn program_line(alloc: Global, program: &Program) -> Option<Vec<u8>> {
-    let (classes, methods) = (program.classes.len(), program.methods.len());
-    let fields = program.fields.len();
-    let line = format!(in alloc; "linked {classes} {methods} {fields}\n").ok()?;
-    Some(line.into_bytes())
+fn push_program(text: &mut Text, program: &Program) {
+    text.word("linked ");
+    text.number(program.classes.len());
+    text.word(" ");
+    text.number(program.methods.len());
+    text.word(" ");
+    text.number(program.fields.len());
+    text.word("\n");
 }
 
-// The line of class files in a form, at most 1,000.
-fn linked_line(alloc: Global, files: &[ClassFile], form: Form) -> Option<Vec<u8>>
+// The line of class files in a form.
+fn push_linked(text: &mut Text, alloc: Global, files: &[ClassFile], form: Form)
     requires { AllByRecursion ClassFits files.now }
 {
-    if files.len() > 1000 {
-        return None;
+    if files.len() > MOST_FILES {
+        text.lacks();
+        return;
     }
     match link(alloc, files, form) {
-        Ok(program) => program_line(alloc, &program),
-        Err(LinkFault::InClass(class, problem)) => link_line(alloc, &class, &problem).ok(),
-        Err(LinkFault::Memory) => None,
+        Ok(program) => push_program(text, &program),
+        Err(LinkFault::InClass(class, problem)) => text.part(link_line(
+            alloc, &class, &problem,
+        ).ok()),
+        Err(LinkFault::Memory) => text.lacks(),
     }
 }
 
-// The words `plain` and `woven`.
-fn form_of(word: &str) -> Option<Form> {
-    match word {
-        "plain" => Some(Form::Plain),
-        "woven" => Some(Form::Woven),
-        _ => None,
+fn push_files<R: Files>(text: &mut Text, rt: &R, alloc: Global, form: Form, names: &[String]) {
+    match class_files(rt, alloc, names) {
+        Some(files) => push_linked(text, alloc, files.as_slice(), form),
+        None => text.lacks(),
     }
 }
 
-/// `link FORM FILE..`.
-pub fn link_case<R: Files>(rt: &R, alloc: Global, words: &[String]) -> Option<Vec<u8>> {
-    let (form, names) = words.split_first()?;
-    let form = form_of(form.as_str())?;
-    let files = class_files(rt, alloc, names)?;
-    linked_line(alloc, files.as_slice(), form)
+/// `link FORM FILE..`: the forms are `plain` and `woven`.
+pub fn link_case<R: Files>(text: &mut Text, rt: &R, alloc: Global, words: &[String]) {
+    match words {
+        [form, names @ ..] if form.as_str() == "plain" => {
+            push_files(text, rt, alloc, Form::Plain, names);
+        }
+        [form, names @ ..] if form.as_str() == "woven" => {
+            push_files(text, rt, alloc, Form::Woven, names);
+        }
+        _ => text.lacks(),
+    }
 }

@@ -1,14 +1,13 @@
 //! Pools, to which entries are added.
 
-use crate::classes::class_file;
+use kilim_case_text::Text;
 use kilim_constant_pool::{AddFault, Entry, Pool};
-use std::alloc::{AllocError, Global};
-use std::rt::Files;
+use std::alloc::Global;
 
-// A copy of an entry.
-fn copy_of(entry: &Entry) -> Result<Entry, AllocError> {
-    Ok(match entry {
-        Entry::Utf8(units) => Entry::Utf8(units.clone()?),
+// A copy of an entry that is no text.
+fn plain_copy(entry: &Entry) -> Option<Entry> {
+    Some(match entry {
+        Entry::Utf8(_) => return None,
         Entry::Integer(number) => Entry::Integer(*number),
         Entry::Float(bits) => Entry::Float(*bits),
         Entry::Long(number) => Entry::Long(*number),
@@ -25,37 +24,56 @@ fn copy_of(entry: &Entry) -> Result<Entry, AllocError> {
     })
 }
 
-// Adds the entries of a pool to another, in order: a line for each that gets another index than it has, or isn't added.
-fn push_added(into: &mut Vec<u8>, alloc: Global, from: &Pool, pool: &mut Pool) -> Option<()> {
-    for index in 1..from.count() {
-        if let Some(entry) = from.entry(index) {
-            match pool.add(copy_of(entry).ok()?) {
-                Ok(added) if added == index => {}
-                Ok(added) => {
-                    let line = format!(in alloc; "{index} is added at {added}\n").ok()?;
-                    into.extend_from_slice(line.as_bytes()).ok()?;
-                }
-                Err(AddFault::Full) => into.extend_from_slice(b"the pool is full\n").ok()?,
-                Err(AddFault::Memory) => return None,
+// A copy of an entry; nothing for want of memory.
+fn copy_of(entry: &Entry) -> Option<Entry> {
+    match entry {
+        Entry::Utf8(units) => match units.clone() {
+            Ok(units) => Some(Entry::Utf8(units)),
+            Err(_) => None,
+        },
+        other => plain_copy(other),
+    }
+}
+
+// Adds an entry to a pool: a line where it gets another index than this one, or isn't added.
+fn push_one(text: &mut Text, index: u16, entry: Entry, pool: &mut Pool) {
+    match pool.add(entry) {
+        Ok(added) => {
+            if added != index {
+                text.number(usize::from(index));
+                text.word(" is added at ");
+                text.number(usize::from(added));
+                text.word("\n");
             }
         }
+        Err(AddFault::Full) => text.word("the pool is full\n"),
+        Err(AddFault::Memory) => text.lacks(),
     }
-    Some(())
+}
+
+fn push_copy(text: &mut Text, index: u16, entry: &Entry, pool: &mut Pool) {
+    match copy_of(entry) {
+        Some(copy) => push_one(text, index, copy, pool),
+        None => text.lacks(),
+    }
+}
+
+// Adds the entries of a pool to another, in order.
+fn push_all(text: &mut Text, from: &Pool, pool: &mut Pool) {
+    for index in 1..from.count() {
+        if let Some(entry) = from.entry(index) {
+            push_copy(text, index, entry, pool);
+        }
+    }
+    text.word("the next index is ");
+    text.number(usize::from(pool.count()));
+    text.word("\n");
 }
 
 /// `pool FILE`: the entries of the file's pool are added to an empty pool, and once more to that one.
-pub fn pool_case<R: Files>(rt: &R, alloc: Global, words: &[String]) -> Option<Vec<u8>> {
-    let [word] = words else {
-        return None;
-    };
-    let file = class_file(rt, alloc, word.as_str())?;
+pub fn push_pool(text: &mut Text, alloc: Global, from: &Pool) {
     let mut pool = Pool::new(alloc);
-    let mut text = Vec::new(alloc);
     for _ in 0..2 {
-        push_added(&mut text, alloc, &file.constant_pool, &mut pool)?;
-        let count = pool.count();
-        let line = format!(in alloc; "the next index is {count}\n").ok()?;
-        text.extend_from_slice(line.as_bytes()).ok()?;
+        push_all(text, from, &mut pool);
     }
-    Some(text)
 }
