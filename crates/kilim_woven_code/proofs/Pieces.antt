@@ -8,8 +8,8 @@ use Rattle.kilim_classes.specs.Lengths.{first_place}
 use Rattle.kilim_classes.specs.Program.{Program}
 use Rattle.kilim_woven_form.specs.Weight.{calls_in, one_more}
 use Rattle.kilim_woven_form.specs.Woven.{Item, Plan, block, blocks, count, pausable_callee, piece, pieces, resume_places}
-use Rattle.kilim_woven_code.specs.Shown.{calls_one, first_here}
-use Rattle.kilim_woven_code.proofs.Lists.{drop_next, take_next}
+use Rattle.kilim_woven_pieces.specs.Shown.{calls_one, first_here}
+use Rattle.kilim_woven_pieces.proofs.Lists.{drop_next, take_next}
 
 -- ---- how many calls
 

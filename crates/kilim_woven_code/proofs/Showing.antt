@@ -14,9 +14,9 @@ use Rattle.kilim_typing.specs.Step.{Types, is_top, peek}
 use Rattle.kilim_typing.specs.Typed.{frame_among, frames_of, listed, padded, typing_of}
 use Rattle.kilim_typing_laws.specs.Laws.{ListedFramesShow}
 use Rattle.kilim_woven_form.specs.Woven.{Plan, added_types, fiber_slot, first_of, kept_local, moved_type, old_frame, saved_from, slots_from}
-use Rattle.kilim_woven_code.specs.Listed.{Listed}
-use Rattle.kilim_woven_code.specs.Shown.{Shown}
-use Rattle.kilim_woven_code.proofs.Lists.{drop_next, drop_whole, map_around, reverse_drop, reverse_take}
+use Rattle.kilim_woven_pieces.specs.Listed.{Listed}
+use Rattle.kilim_woven_pieces.specs.Shown.{Shown}
+use Rattle.kilim_woven_pieces.proofs.Lists.{drop_next, drop_whole, map_around, reverse_drop, reverse_take}
 
 -- ---- slots
 

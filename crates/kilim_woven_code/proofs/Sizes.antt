@@ -3,8 +3,8 @@ use Rattle.std.proofs.Common.{◌≡◌, ℕ, ℤ, true, List, length, refl, ap,
 use Rattle.kilim_classes.specs.declared.instr.Instr.{Instr}
 use Rattle.kilim_classes.specs.declared.instr.Instr.TheVariants.{Iload, Lload, Aload, Istore, Lstore, Astore, Tableswitch, Lookupswitch}
 use Rattle.kilim_woven_form.specs.Woven.{old_size}
-use Rattle.kilim_woven_code.specs.declared.item.Size.TheVariants.{Fixed, Lookup}
-use Rattle.kilim_woven_code.specs.Items.{is_kept, size_of}
+use Rattle.kilim_woven_pieces.specs.declared.item.Size.TheVariants.{Fixed, Lookup}
+use Rattle.kilim_woven_pieces.specs.Items.{is_kept, size_of}
 
 pub lookup_sized : (i : Instr) (default : ℕ) (pairs : List (ℤ × ℕ)) (count n : ℕ) → i ≡ Lookupswitch default pairs → count ≡ length pairs → size_of (Lookup count) ≡ old_size i n
 lookup_sized i default pairs count n is e = ap (λ (k : ℕ). size_of (Lookup k)) e ∙ sym (ap (λ (j : Instr). old_size j n) is)

@@ -4,7 +4,7 @@ use Rattle.std.specs.Prelude.{IfOk}
 use Rattle.kilim_classes.specs.declared.instr.Instr.{Instr}
 use Rattle.kilim_classes.specs.declared.instr.Instr.TheVariants.{Tableswitch, Lookupswitch, Ifeq, Ifne, Iflt, Ifge, Ifgt, Ifle, Goto, Ifnull, Ifnonnull, GotoW, IfIcmpeq, IfIcmpne, IfIcmplt, IfIcmpge, IfIcmpgt, IfIcmple, IfAcmpeq, IfAcmpne}
 use Rattle.kilim_woven_form.specs.Woven.{moved_instr}
-use Rattle.kilim_woven_code.specs.Items.{has_target, target_of, Moves}
+use Rattle.kilim_woven_pieces.specs.Items.{has_target, target_of, Moves}
 
 -- One without a target stays.
 pub unmoved : (at : ℕ → ℕ) (i : Instr) → has_target i ≡ false → moved_instr at i ≡ i

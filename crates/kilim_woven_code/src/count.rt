@@ -4,8 +4,8 @@ ghost use Rattle.std.specs.Prelude.{◌≡◌, option_copied, IfOk};
 ghost use Rattle.kilim_woven_form.specs.Weight.{calls_in};
 ghost use Rattle.kilim_woven_form.specs.Woven as form;
 
-use crate::frames::entry_at;
-use crate::parts::pausable_callee;
+use crate::frames::{entry_at};
+use kilim_woven_pieces::{pausable_callee};
 use kilim_classes::{Instr, Method, Program};
 use kilim_units::NoMemory;
 

@@ -6,13 +6,11 @@ ghost use Rattle.kilim_classes.specs.declared.verified.VType.TheVariants.{Top};
 ghost use Rattle.kilim_classes.specs.Lengths.{first_place};
 ghost use Rattle.kilim_typing.specs.Step.{peek};
 ghost use Rattle.kilim_woven_form.specs.Woven as form;
-ghost use Rattle.kilim_woven_code.specs.Places.{at_in};
-ghost use Rattle.kilim_woven_code.specs.Shown.{Shown};
-ghost use Rattle.kilim_woven_code.specs.Meant.{Ready, meant};
+ghost use Rattle.kilim_woven_pieces.specs.Places.{at_in};
+ghost use Rattle.kilim_woven_pieces.specs.Shown.{Shown};
+ghost use Rattle.kilim_woven_pieces.specs.Meant.{Ready, meant};
 
-use crate::parts::class_vtype;
-use crate::places::Places;
-use crate::plan::Plan;
+use kilim_woven_pieces::{Places, Plan, class_vtype, type_at};
 use kilim_classes::{ClassId, Frame, Instr, Method, VType};
 use kilim_typing_laws::listed_frames_show;
 use kilim_units::{NoMemory, Seq};
@@ -134,14 +132,6 @@ fn moved_types(alloc: Global, places: &Places, types: &[VType]) -> Result<Vec<VT
         moved.push(new)?;
     }
     Ok(moved)
-}
-
-/// The type at an index.
-pub fn type_at(types: &[VType], at: usize) -> VType
-    requires { at < length types.now }
-    ensures { slice_get types.now at ≡ Some result }
-{
-    types[at]
 }
 
 fn kept_locals(

@@ -4,18 +4,13 @@ ghost use Rattle.std.specs.Prelude.{◌≡◌, ◌∷◌, ◌++◌, ◌&&◌, []
 ghost use Rattle.kilim_typing.specs.Step.{is_top};
 ghost use Rattle.kilim_liveness.specs.Table.{live_in};
 ghost use Rattle.kilim_woven_form.specs.Woven as form;
-ghost use Rattle.kilim_woven_code.specs.Shown.{Shown};
-ghost use Rattle.kilim_woven_code.specs.Meant.{meant};
-ghost use Rattle.kilim_woven_code.specs.Items.{items_of};
+ghost use Rattle.kilim_woven_pieces.specs.Shown.{Shown};
+ghost use Rattle.kilim_woven_pieces.specs.Meant.{meant};
+ghost use Rattle.kilim_woven_pieces.specs.Items.{items_of};
 
 use crate::copies::copied;
-use crate::frames::{old_frame, type_at};
-use crate::item::{Item, Items, Label, Size};
-use crate::parts::{
-    add, call_fiber, dummy_of, local_size, pop_of, return_of, save_fiber, taken, vtype,
-};
-use crate::plan::Plan;
-use crate::saves::{save_locals, save_stack};
+use crate::frames::{old_frame};
+use kilim_woven_pieces::{Item, Items, Label, Plan, Size, add, call_fiber, dummy_of, local_size, pop_of, return_of, save_fiber, save_locals, save_stack, taken, type_at, vtype};
 use kilim_classes::{Frame, Instr, Method, Ty, VType};
 use kilim_units::NoMemory;
 use std::alloc::Global;

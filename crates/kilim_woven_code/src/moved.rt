@@ -1,14 +1,12 @@
 //! Instructions with their targets moved (JVMS 6.5).
 
 ghost use Rattle.std.specs.Prelude.{◌≡◌, ◌-◌, ◌<◌, Some, length, map, slice_get, IfOk};
-ghost use Rattle.kilim_woven_code.specs.Items.{has_target, is_kept, size_of, target_of, Moves};
+ghost use Rattle.kilim_woven_pieces.specs.Items.{has_target, is_kept, size_of, target_of, Moves};
 ghost use Rattle.kilim_woven_form.specs.Woven as form;
-ghost use Rattle.kilim_woven_code.specs.Places.{at_in};
+ghost use Rattle.kilim_woven_pieces.specs.Places.{at_in};
 
 use crate::copies::copied;
-use crate::item::Size;
-use crate::parts::local_size;
-use crate::places::Places;
+use kilim_woven_pieces::{Places, Size, local_size};
 use kilim_classes::Instr;
 use kilim_units::{NoMemory, Seq};
 use std::alloc::Global;

@@ -4,16 +4,14 @@ ghost use Rattle.std.specs.Prelude.{◌≡◌, ◌<◌, ◌+◌, None, true, len
 ghost use Rattle.kilim_typing.specs.Typed.{declared};
 ghost use Rattle.kilim_woven_form.specs.Weight.{calls_in};
 ghost use Rattle.kilim_woven_form.specs.Woven as form;
-ghost use Rattle.kilim_woven_code.specs.Shown.{Shown, first_here};
-ghost use Rattle.kilim_woven_code.specs.Meant.{Ready, meant};
-ghost use Rattle.kilim_woven_code.specs.Items.{items_of};
+ghost use Rattle.kilim_woven_pieces.specs.Shown.{Shown, first_here};
+ghost use Rattle.kilim_woven_pieces.specs.Meant.{Ready, meant};
+ghost use Rattle.kilim_woven_pieces.specs.Items.{items_of};
 
 use crate::frames::{entry_of, frame_at, old_frame, place_behind};
 use crate::group::group;
-use crate::item::{Item, Items, Label};
 use crate::moved::{moved, old_size};
-use crate::parts::pausable_callee;
-use crate::plan::Plan;
+use kilim_woven_pieces::{Item, Items, Label, Plan, pausable_callee};
 use kilim_classes::{Frame, Instr, Method};
 use kilim_units::NoMemory;
 use std::alloc::Global;

@@ -3,44 +3,19 @@
 ghost use Rattle.std.specs.Prelude.{◌≡◌, ◌∷◌, ◌<◌, ◌+◌, Some, [], drop, reverse, slice_get, length, option_copied, OnOk};
 ghost use Rattle.kilim_woven_form.specs.Weight.{calls_in};
 ghost use Rattle.kilim_woven_form.specs.Woven as form;
-ghost use Rattle.kilim_woven_code.specs.Shown.{Shown};
-ghost use Rattle.kilim_woven_code.specs.Meant.{Ready, meant};
-ghost use Rattle.kilim_woven_code.specs.Items.{items_of};
-ghost use Rattle.kilim_woven_code.specs.Places.{at_in};
+ghost use Rattle.kilim_woven_pieces.specs.Shown.{Shown};
+ghost use Rattle.kilim_woven_pieces.specs.Meant.{Ready, meant};
+ghost use Rattle.kilim_woven_pieces.specs.Items.{items_of};
+ghost use Rattle.kilim_woven_pieces.specs.Places.{at_in};
 ghost use Rattle.kilim_classes.specs.declared.instr.Instr.TheVariants.{Goto};
 
-use crate::frames::{entry_of, frame_at, place_behind, resume_frame, type_at};
+use crate::frames::{entry_of, frame_at, place_behind, resume_frame};
 use crate::group::{below, saved};
-use crate::item::{Item, Items, Label};
 use crate::old::number_before;
-use crate::parts::{add, call_fiber, dummy_of, pausable_callee, vtype};
-use crate::plan::Plan;
-use crate::saves::{restore_locals, restore_stack};
+use kilim_woven_pieces::{Item, Items, Label, Plan, add, call_fiber, dummy_of, go_back, pausable_callee, restore_locals, restore_stack, type_at, vtype};
 use kilim_classes::{Frame, Instr, Method, Ty, VType};
 use kilim_units::NoMemory;
 use std::alloc::Global;
-
-fn type_of(types: &[Ty], at: usize) -> Ty
-    requires { at < length types.now }
-    ensures { slice_get types.now at ≡ Some result }
-{
-    types[at]
-}
-
-// A value for each parameter.
-fn dummies(params: &[Ty], items: &mut Items) -> Result<(), NoMemory>
-    ensures { OnOk result (items_of items.new ≡ form.dummies params.now (items_of items.old)) }
-{
-    let mut left = params.len();
-    while left > 0 {
-        left -= 1;
-        let ty = type_of(params, left);
-        let value = vtype(ty);
-        let dummy = dummy_of(value);
-        add(items, dummy, 1)?;
-    }
-    Ok(())
-}
 
 fn receiver_of(plan: &Plan, ty: VType, items: &mut Items) -> Result<(), NoMemory>
     ensures { OnOk result (items_of items.new ≡ form.receiver_of (meant plan.now) ty (items_of items.old)) }
@@ -84,15 +59,6 @@ fn receiver(frame: &Frame, callee: &Method) -> VType
         return VType::Null;
     }
     type_at(stack, left - 1)
-}
-
-// The arguments' stand-ins, and the way back to the call.
-fn go_back(plan: &Plan, callee: &Method, place: u32, items: &mut Items) -> Result<(), NoMemory>
-    ensures { OnOk result (items_of items.new ≡ form.dummies callee.now.params (form.added (Goto (at_in plan.now.places.now place)) 3 ∷ (items_of items.old))) }
-{
-    let to = plan.places.at(place)?;
-    add(items, Instr::Goto(to), 3)?;
-    dummies(callee.params.as_slice(), items)
 }
 
 // The locals that were saved.

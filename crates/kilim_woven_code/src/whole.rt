@@ -4,15 +4,13 @@ ghost use Rattle.std.specs.Prelude.{◌≡◌, ◌∷◌, [], IfOk, OnOk};
 ghost use Rattle.kilim_classes.specs.Same.{argument_slots};
 ghost use Rattle.kilim_woven_form.specs.Weight.{calls_in};
 ghost use Rattle.kilim_woven_form.specs.Woven as form;
-ghost use Rattle.kilim_woven_code.specs.Meant.{Ready, meant};
-ghost use Rattle.kilim_woven_code.specs.Items.{items_of};
+ghost use Rattle.kilim_woven_pieces.specs.Meant.{Ready, meant};
+ghost use Rattle.kilim_woven_pieces.specs.Items.{items_of};
 
 use crate::count::calls_in;
-use crate::item::{Item, Items, Size};
 use crate::old::pieces;
-use crate::parts::{add, call_fiber, local_size};
-use crate::plan::Plan;
 use crate::resume::blocks;
+use kilim_woven_pieces::{Item, Items, Plan, Size, add, call_fiber, local_size};
 use kilim_classes::Instr;
 use kilim_units::{NoMemory, Seq};
 use std::alloc::Global;

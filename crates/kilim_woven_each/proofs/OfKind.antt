@@ -14,7 +14,7 @@ use Rattle.kilim_fits.proofs.FromKeeps.{all_at}
 use Rattle.kilim_typing.specs.Typed.{IsLive, WellTypedBy, frames_of, has_code, listed}
 use Rattle.kilim_typing_laws.specs.Laws.{TypedByPlace, typing_in}
 use Rattle.kilim_typing.specs.TypedProgram.{KeepsTyped, TypedProgram}
-use Rattle.kilim_woven_code.specs.Listed.{Listed}
+use Rattle.kilim_woven_pieces.specs.Listed.{Listed}
 use Rattle.kilim_woven_form.specs.Form.{IsWoven, has_calls, plan_of, woven_as}
 use Rattle.kilim_woven_form.specs.Weight.{calls_in}
 use Rattle.kilim_woven_program.specs.labels.Law.{LabelsAreFound}

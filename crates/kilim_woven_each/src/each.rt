@@ -3,7 +3,7 @@
 ghost use Rattle.std.specs.Prelude.{◌≡◌, true, false, Some, IfOk};
 ghost use Rattle.kilim_classes.specs.Names.{method_at};
 ghost use Rattle.kilim_typing.specs.Typed.{has_code};
-ghost use Rattle.kilim_woven_code.specs.Listed.{Listed};
+ghost use Rattle.kilim_woven_pieces.specs.Listed.{Listed};
 ghost use Rattle.kilim_woven_form.specs.Form.{IsWoven, has_calls};
 
 use crate::extended::{all_counted, extended, has_calls};

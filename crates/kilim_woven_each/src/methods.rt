@@ -4,7 +4,7 @@ ghost use Rattle.std.specs.Prelude.{◌≡◌, ◌<◌, ◌++◌, true, length, 
 ghost use Rattle.kilim_classes.specs.Names.{method_at};
 ghost use Rattle.kilim_typing.specs.Typed.{has_code};
 ghost use Rattle.kilim_typing.specs.TypedProgram.{KeepsTyped};
-ghost use Rattle.kilim_woven_code.specs.Listed.{Listed};
+ghost use Rattle.kilim_woven_pieces.specs.Listed.{Listed};
 ghost use Rattle.kilim_woven_form.specs.Form.{AllWoven, IsWoven, all_counted};
 ghost use Rattle.kilim_woven_each.specs.Each.{IsEachWoven};
 

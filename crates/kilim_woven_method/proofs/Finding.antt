@@ -6,7 +6,7 @@ use Rattle.kilim_classes.specs.declared.instr.Instr.{Instr}
 use Rattle.kilim_classes.specs.declared.verified.Frame.{Frame}
 use Rattle.kilim_woven_program.specs.labels.Law.{found, same_label}
 use Rattle.kilim_woven_form.specs.shape.Law.{labels_from}
-use Rattle.kilim_woven_code.specs.Places.{Tables, or_else}
+use Rattle.kilim_woven_pieces.specs.Places.{Tables, or_else}
 use Rattle.kilim_woven_method.specs.Found.{AreFound, Finds, first_place_of, looked, or_first}
 
 no_other : (o : Option ℕ) → or_first o None ≡ o

@@ -3,7 +3,7 @@ use Rattle.std.specs.Prelude.{◌≡◌, ℕ, Bool, ◌==◌, if◌then◌else�
 use Rattle.kilim_woven_form.specs.Woven.{Item, Label, Old, Resumes, behind}
 use Rattle.kilim_woven_program.specs.labels.Law.{same_label}
 use Rattle.kilim_woven_form.specs.shape.Law.{labels_from}
-use Rattle.kilim_woven_code.specs.Places.{Tables}
+use Rattle.kilim_woven_pieces.specs.Places.{Tables}
 
 abbrev pub or_first : Option ℕ → Option ℕ → Option ℕ
 or_first None other = other

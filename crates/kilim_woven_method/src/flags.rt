@@ -1,7 +1,7 @@
 //! Where frames are declared.
 
 ghost use Rattle.std.specs.Prelude.{◌≡◌, ◌<◌, ◌==◌, ℕ, true, false, Some, length, get_or, set, slice_get, if◌then◌else◌, IfOk, OnOk};
-ghost use Rattle.kilim_woven_code.specs.Listed.{AreDeclared};
+ghost use Rattle.kilim_woven_pieces.specs.Listed.{AreDeclared};
 ghost use Rattle.kilim_woven_method.specs.Flags.{AreFlags};
 
 use kilim_classes::{Frame, Method};

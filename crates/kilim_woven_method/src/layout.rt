@@ -2,7 +2,7 @@
 
 ghost use Rattle.std.specs.Prelude.{◌≡◌, ◌∷◌, ◌++◌, ◌+◌, List, [], IfOk, OnOk};
 ghost use Rattle.kilim_woven_form.specs.Woven as form;
-ghost use Rattle.kilim_woven_code.specs.Items.{item_of, items_of, size_of};
+ghost use Rattle.kilim_woven_pieces.specs.Items.{item_of, items_of, size_of};
 ghost use Rattle.kilim_woven_method.specs.Laid.{Follows, IsLaid};
 
 use crate::size::place_behind;

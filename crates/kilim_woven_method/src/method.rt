@@ -7,9 +7,9 @@ ghost use Rattle.kilim_lookups.specs.Places.{Rising};
 ghost use Rattle.kilim_woven_form.specs.Form.{plan_of};
 ghost use Rattle.kilim_woven_form.specs.Woven as form;
 ghost use Rattle.kilim_woven_form.specs.shape.Law.{placed};
-ghost use Rattle.kilim_woven_code.specs.Items.{items_of};
-ghost use Rattle.kilim_woven_code.specs.Listed.{AreDeclared, Listed};
-ghost use Rattle.kilim_woven_code.specs.Places.{at_in, block_in};
+ghost use Rattle.kilim_woven_pieces.specs.Items.{items_of};
+ghost use Rattle.kilim_woven_pieces.specs.Listed.{AreDeclared, Listed};
+ghost use Rattle.kilim_woven_pieces.specs.Places.{at_in, block_in};
 ghost use Rattle.kilim_woven_program.specs.Made.{made_as};
 ghost use Rattle.kilim_woven_method.specs.Flags.{AreSlots};
 

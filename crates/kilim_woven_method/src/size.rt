@@ -2,7 +2,7 @@
 
 ghost use Rattle.std.specs.Prelude.{◌≡◌, ◌+◌, IfOk};
 ghost use Rattle.kilim_classes.specs.Lengths.{switch_padding};
-ghost use Rattle.kilim_woven_code.specs.Items.{size_of};
+ghost use Rattle.kilim_woven_pieces.specs.Items.{size_of};
 
 use kilim_units::NoMemory;
 use kilim_woven_code::Size;

@@ -1,5 +1,5 @@
 use Rattle.std.proofs.Common.{refl}
-use Rattle.kilim_woven_code.specs.Meant.{meant}
+use Rattle.kilim_woven_pieces.specs.Meant.{meant}
 use Rattle.kilim_woven_code.proofs.Showing.{shown}
 use Rattle.kilim_woven_code.proofs.frames.frame_at.Goals as goal
 

@@ -1,6 +1,6 @@
 use Rattle.std.proofs.Common.{◌≡◌, ◌++◌, ◌-◌}
 use Rattle.kilim_woven_form.specs.Woven.{kept_local, slots_from}
-use Rattle.kilim_woven_code.specs.Meant.{meant}
+use Rattle.kilim_woven_pieces.specs.Meant.{meant}
 use Rattle.kilim_woven_code.proofs.frames.kept_locals.Given as goal
 
 abbrev pub invariant-loop-slot : goal.invariant-loop-slot

@@ -1,8 +1,8 @@
 use Rattle.std.proofs.Common.{◌∙◌, ◌++◌, ◌∷◌, [], List, ap, map, take}
 use Rattle.kilim_classes.specs.declared.verified.VType.{VType}
 use Rattle.kilim_woven_form.specs.Woven.{moved_type}
-use Rattle.kilim_woven_code.specs.Places.{at_in}
-use Rattle.kilim_woven_code.proofs.Lists.{map_next}
+use Rattle.kilim_woven_pieces.specs.Places.{at_in}
+use Rattle.kilim_woven_pieces.proofs.Lists.{map_next}
 use Rattle.kilim_woven_code.proofs.frames.moved_types.Goals as goal
 
 pub loop-at-preserved : goal.loop-at-preserved

@@ -1,6 +1,6 @@
 use Rattle.std.proofs.Common.{◌≡◌, map, take}
 use Rattle.kilim_woven_form.specs.Woven.{moved_type}
-use Rattle.kilim_woven_code.specs.Places.{at_in}
+use Rattle.kilim_woven_pieces.specs.Places.{at_in}
 use Rattle.kilim_woven_code.proofs.frames.moved_types.Given as goal
 
 abbrev pub invariant-loop-at : goal.invariant-loop-at

@@ -1,7 +1,7 @@
 use Rattle.std.proofs.Common.{◌∙◌, ◌++◌, List, ap, map}
 use Rattle.kilim_classes.specs.declared.verified.VType.{VType}
 use Rattle.kilim_woven_form.specs.Woven.{added_types, moved_type}
-use Rattle.kilim_woven_code.specs.Meant.{meant}
+use Rattle.kilim_woven_pieces.specs.Meant.{meant}
 use Rattle.kilim_woven_code.proofs.Showing.{frame_is}
 use Rattle.kilim_woven_code.proofs.frames.old_frame.Goals as goal
 

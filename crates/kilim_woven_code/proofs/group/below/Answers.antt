@@ -1,6 +1,6 @@
 use Rattle.std.proofs.Common.{◌∙◌, ◌-◌, ℕ, List, ap, length, reverse, take}
 use Rattle.kilim_classes.specs.declared.verified.VType.{VType}
-use Rattle.kilim_woven_code.proofs.Lists.{reverse_drop}
+use Rattle.kilim_woven_pieces.proofs.Lists.{reverse_drop}
 use Rattle.kilim_woven_code.proofs.group.below.Goals as goal
 
 pub returns : goal.returns

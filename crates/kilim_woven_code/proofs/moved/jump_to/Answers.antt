@@ -1,6 +1,6 @@
 use Rattle.std.proofs.Common.{ap, subst, sym}
 use Rattle.kilim_classes.specs.declared.instr.Instr.TheVariants.{Ifeq, Ifne, Iflt, Ifge, Ifgt, Ifle, Goto, Ifnull, Ifnonnull, GotoW, IfIcmpeq, IfIcmpne, IfIcmplt, IfIcmpge, IfIcmpgt, IfIcmple, IfAcmpeq, IfAcmpne}
-use Rattle.kilim_woven_code.specs.Items.{Moves}
+use Rattle.kilim_woven_pieces.specs.Items.{Moves}
 use Rattle.kilim_woven_code.proofs.moved.jump_to.Goals as goal
 
 pub returns-in-Ifeq : goal.returns-in-Ifeq

@@ -1,7 +1,7 @@
 use Rattle.std.proofs.Common.{◌≡◌, ◌∙◌, subst, sym}
 use Rattle.std.specs.Prelude.{IfOk}
 use Rattle.kilim_classes.specs.declared.instr.Instr.{Instr}
-use Rattle.kilim_woven_code.specs.Places.{at_in}
+use Rattle.kilim_woven_pieces.specs.Places.{at_in}
 use Rattle.kilim_woven_code.proofs.Unmoved.{unmoved}
 use Rattle.kilim_woven_code.proofs.moved.moved.Goals as goal
 

@@ -1,5 +1,5 @@
 use Rattle.std.proofs.Common.{◌∙◌, ap, sym}
-use Rattle.kilim_woven_code.specs.Places.{at_in}
+use Rattle.kilim_woven_pieces.specs.Places.{at_in}
 use Rattle.kilim_woven_code.proofs.Unmoved.{moved_by}
 use Rattle.kilim_woven_code.proofs.moved.moved_jump.Goals as goal
 

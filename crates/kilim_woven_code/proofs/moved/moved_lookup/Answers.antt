@@ -1,7 +1,7 @@
 use Rattle.std.proofs.Common.{◌∙◌, ℕ, ℤ, List, ap}
 use Rattle.kilim_classes.specs.declared.instr.Instr.TheVariants.{Lookupswitch}
-use Rattle.kilim_woven_code.specs.Places.{at_in}
-use Rattle.kilim_woven_code.proofs.Saving.{pairs_are}
+use Rattle.kilim_woven_pieces.specs.Places.{at_in}
+use Rattle.kilim_woven_pieces.proofs.Saving.{pairs_are}
 use Rattle.kilim_woven_code.proofs.moved.moved_lookup.Goals as goal
 
 pub returns : goal.returns

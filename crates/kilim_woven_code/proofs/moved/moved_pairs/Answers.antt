@@ -1,6 +1,6 @@
 use Rattle.std.proofs.Common.{◌∙◌, ◌++◌, ◌∷◌, [], List, ap, map, take, ℕ, ℤ}
-use Rattle.kilim_woven_code.specs.Places.{at_in}
-use Rattle.kilim_woven_code.proofs.Lists.{map_next}
+use Rattle.kilim_woven_pieces.specs.Places.{at_in}
+use Rattle.kilim_woven_pieces.proofs.Lists.{map_next}
 use Rattle.kilim_woven_code.proofs.moved.moved_pairs.Goals as goal
 
 pub loop-at-preserved : goal.loop-at-preserved

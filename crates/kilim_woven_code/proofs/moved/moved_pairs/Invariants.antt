@@ -1,5 +1,5 @@
 use Rattle.std.proofs.Common.{◌≡◌, map, take, ℕ, ℤ}
-use Rattle.kilim_woven_code.specs.Places.{at_in}
+use Rattle.kilim_woven_pieces.specs.Places.{at_in}
 use Rattle.kilim_woven_code.proofs.moved.moved_pairs.Given as goal
 
 abbrev pub invariant-loop-at : goal.invariant-loop-at

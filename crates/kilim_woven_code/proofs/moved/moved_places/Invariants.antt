@@ -1,5 +1,5 @@
 use Rattle.std.proofs.Common.{◌≡◌, map, take}
-use Rattle.kilim_woven_code.specs.Places.{at_in}
+use Rattle.kilim_woven_pieces.specs.Places.{at_in}
 use Rattle.kilim_woven_code.proofs.moved.moved_places.Given as goal
 
 abbrev pub invariant-loop-target : goal.invariant-loop-target

@@ -1,6 +1,6 @@
 use Rattle.std.proofs.Common.{◌∙◌, ◌-◌, ℕ, ap, sym}
-use Rattle.kilim_woven_code.specs.declared.item.Size.TheVariants.{Fixed}
-use Rattle.kilim_woven_code.specs.Items.{size_of}
+use Rattle.kilim_woven_pieces.specs.declared.item.Size.TheVariants.{Fixed}
+use Rattle.kilim_woven_pieces.specs.Items.{size_of}
 use Rattle.kilim_woven_code.proofs.Sizes.{kept_sized, lookup_sized}
 use Rattle.kilim_woven_code.proofs.moved.old_size.Goals as goal
 

@@ -3,10 +3,10 @@ use Rattle.std.specs.Option.{option_copied}
 use Rattle.kilim_classes.specs.declared.class.Method.{Method}
 use Rattle.kilim_woven_form.specs.Weight.{calls_in}
 use Rattle.kilim_woven_form.specs.Woven.{count, piece, pieces}
-use Rattle.kilim_woven_code.specs.Meant.{meant}
-use Rattle.kilim_woven_code.specs.Shown.{first_here}
+use Rattle.kilim_woven_pieces.specs.Meant.{meant}
+use Rattle.kilim_woven_pieces.specs.Shown.{first_here}
 use Rattle.kilim_woven_code.proofs.Pieces.{number_is, piece_more}
-use Rattle.kilim_woven_code.specs.Items.{items_of}
+use Rattle.kilim_woven_pieces.specs.Items.{items_of}
 use Rattle.kilim_woven_code.proofs.old.pieces.Goals as goal
 
 pub number_before-mine-requires : goal.number_before-mine-requires

@@ -2,9 +2,9 @@ use Rattle.std.proofs.Common.{◌≡◌, ◌∙◌, ◌+◌, ◌-◌, ℕ, Optio
 use Rattle.kilim_classes.specs.declared.class.Method.{Method}
 use Rattle.kilim_woven_form.specs.Weight.{calls_in}
 use Rattle.kilim_woven_form.specs.Woven.{blocks, count}
-use Rattle.kilim_woven_code.specs.Meant.{meant}
+use Rattle.kilim_woven_pieces.specs.Meant.{meant}
 use Rattle.kilim_woven_code.proofs.Pieces.{block_more, number_is}
-use Rattle.kilim_woven_code.specs.Items.{items_of}
+use Rattle.kilim_woven_pieces.specs.Items.{items_of}
 use Rattle.kilim_woven_code.proofs.resume.blocks.Goals as goal
 
 pub number_before-mine-requires : goal.number_before-mine-requires

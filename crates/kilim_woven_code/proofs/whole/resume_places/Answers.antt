@@ -1,5 +1,5 @@
 use Rattle.std.proofs.Common.{◌∙◌, ◌+◌, ◌-◌, ◌++◌, List, ℕ, ap, sym, arith}
-use Rattle.kilim_woven_code.specs.Meant.{meant}
+use Rattle.kilim_woven_pieces.specs.Meant.{meant}
 use Rattle.kilim_woven_code.proofs.Pieces.{block_pushed, from_block, places_are, places_done}
 use Rattle.kilim_woven_code.proofs.whole.resume_places.Goals as goal
 

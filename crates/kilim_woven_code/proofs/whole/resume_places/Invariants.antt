@@ -1,5 +1,5 @@
 use Rattle.std.proofs.Common.{◌≡◌, ◌++◌, ◌+◌, ◌-◌}
-use Rattle.kilim_woven_code.specs.Meant.{meant}
+use Rattle.kilim_woven_pieces.specs.Meant.{meant}
 use Rattle.kilim_woven_code.proofs.Pieces.{from_block}
 use Rattle.kilim_woven_code.proofs.whole.resume_places.Given as goal
 

@@ -1,6 +1,6 @@
 use Rattle.std.proofs.Common.{List, subst, sym}
 use Rattle.kilim_classes.specs.declared.verified.Frame.{Frame}
-use Rattle.kilim_woven_code.specs.Listed.{Listed}
+use Rattle.kilim_woven_pieces.specs.Listed.{Listed}
 use Rattle.kilim_woven_each.proofs.methods.woven_at.Goals as goal
 
 pub woven_each-requires : goal.woven_each-requires

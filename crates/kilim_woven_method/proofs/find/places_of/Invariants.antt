@@ -1,5 +1,5 @@
 use Rattle.std.proofs.Common.{length}
-use Rattle.kilim_woven_code.specs.Items.{items_of}
+use Rattle.kilim_woven_pieces.specs.Items.{items_of}
 use Rattle.kilim_woven_method.specs.Found.{Finds}
 use Rattle.kilim_woven_method.proofs.find.places_of.Given as goal
 

@@ -1,8 +1,8 @@
 use Rattle.std.proofs.Common.{◌≡◌, ◌∙◌, ◌∷◌, ℕ, ap, subst, refl}
 use Rattle.kilim_woven_form.specs.Woven as form
-use Rattle.kilim_woven_code.specs.declared.item.Item.{Item}
-use Rattle.kilim_woven_code.specs.Items.{item_of, label_of, size_of}
-use Rattle.kilim_woven_code.specs.Places.{Tables}
+use Rattle.kilim_woven_pieces.specs.declared.item.Item.{Item}
+use Rattle.kilim_woven_pieces.specs.Items.{item_of, label_of, size_of}
+use Rattle.kilim_woven_pieces.specs.Places.{Tables}
 use Rattle.kilim_woven_method.specs.Found.{Finds, looked}
 use Rattle.kilim_woven_method.proofs.Finding.{adds_found, stands_found}
 use Rattle.kilim_woven_method.proofs.find.put.Goals as goal

@@ -1,9 +1,9 @@
 use Rattle.std.proofs.Common.{◌≡◌, ◌∙◌, Some, None, sym, subst}
 use Rattle.std.specs.Prelude.{if◌then◌else◌}
 use Rattle.kilim_woven_program.specs.labels.Law.{same_label}
-use Rattle.kilim_woven_code.specs.declared.item.Label.{Label}
-use Rattle.kilim_woven_code.specs.Items.{label_of}
-use Rattle.kilim_woven_code.specs.Places.{Tables}
+use Rattle.kilim_woven_pieces.specs.declared.item.Label.{Label}
+use Rattle.kilim_woven_pieces.specs.Items.{label_of}
+use Rattle.kilim_woven_pieces.specs.Places.{Tables}
 use Rattle.kilim_woven_method.specs.Found.{looked, or_first}
 use Rattle.kilim_woven_method.proofs.Finding.{block_noted, old_noted}
 use Rattle.kilim_woven_method.proofs.find.stand.Goals as goal

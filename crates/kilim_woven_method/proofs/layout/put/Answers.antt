@@ -1,6 +1,6 @@
 use Rattle.std.proofs.Common.{◌∷◌, sym, subst}
-use Rattle.kilim_woven_code.specs.declared.item.Item.{Item}
-use Rattle.kilim_woven_code.specs.Items.{item_of, label_of, size_of}
+use Rattle.kilim_woven_pieces.specs.declared.item.Item.{Item}
+use Rattle.kilim_woven_pieces.specs.Items.{item_of, label_of, size_of}
 use Rattle.kilim_woven_method.specs.Laid.{Follows}
 use Rattle.kilim_woven_method.proofs.Laying.{adds_follow, stands_follow}
 use Rattle.kilim_woven_method.proofs.layout.put.Goals as goal

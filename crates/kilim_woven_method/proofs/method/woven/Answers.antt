@@ -2,8 +2,8 @@ use Rattle.std.proofs.Common.{◌≡◌, ◌∙◌, ℕ, Bool, List, ap, sym, su
 use Rattle.kilim_liveness.specs.Table.{live_in}
 use Rattle.kilim_woven_form.specs.Form.{plan_of}
 use Rattle.kilim_woven_form.specs.Woven as form
-use Rattle.kilim_woven_code.specs.Listed.{AreDeclared}
-use Rattle.kilim_woven_code.specs.Places.{at_in, block_in}
+use Rattle.kilim_woven_pieces.specs.Listed.{AreDeclared}
+use Rattle.kilim_woven_pieces.specs.Places.{at_in, block_in}
 use Rattle.kilim_woven_method.specs.Found.{AreFound}
 use Rattle.kilim_woven_method.specs.Laid.{IsLaid}
 use Rattle.kilim_woven_method.proofs.Plans.{plan_found}

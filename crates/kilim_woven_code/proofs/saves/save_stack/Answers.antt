@@ -1,7 +1,0 @@
-use Rattle.kilim_woven_code.specs.Meant.{meant}
-use Rattle.kilim_woven_code.proofs.Saving.{save_more}
-use Rattle.kilim_woven_code.specs.Items.{items_of}
-use Rattle.kilim_woven_code.proofs.saves.save_stack.Goals as goal
-
-pub loop-at-preserved : goal.loop-at-preserved
-loop-at-preserved c = save_more (meant c.args.plan.now) (items_of c.args.items.now) (items_of c.loop-at.items) (items_of c.save.new.items) c.args.stack.now c.loop-at.at c.type_at.result c.type_at.ensures c.loop-at.invariant c.in_ok-save.ensures
