@@ -1,11 +1,7 @@
 pub mod Places
-pub mod Lists
-pub mod Named
 pub mod Allowed
 pub mod Replays
 pub mod Seats
-pub mod WaitLists
-pub mod Waiting
 pub mod Deeds
 pub mod Boards
 pub mod Calls

@@ -7,12 +7,9 @@ use Rattle.std.proofs.lemmas.List.Sorted.{sum_by-IsPermutation}
 use Rattle.std.specs.Prelude.{IsPermutation}
 use Rattle.kilim_classes.specs.declared.names.BoxName.{BoxName}
 use Rattle.kilim_thread_model.specs.State.{same_box}
+use Rattle.kilim_waiting.proofs.Names.{both_ways, same_name, box_itself}
 use Rattle.kilim_exchange.specs.Places.{Spot, Ready, Lent, Parked, Place, is_task, is_out_spot, is_out, is_parked_spot, is_parked_at, is_at, is_astray_in, is_astray, is_coming, Stood}
 use Rattle.std.proofs.lemmas.Bool.Decides.{nat_tests}
-
-pub both_ways : (b : Bool) → (b ≡ true) ⊎ (b ≡ false)
-both_ways true = inl refl
-both_ways false = inr refl
 
 -- ---- counting
 
@@ -53,21 +50,6 @@ fewer p q less (x ∷ xs) =
       ]
       | inr isnt ↦ let f = front_no p x xs (less x isnt) in let g = front_no q x xs isnt in omega arith
     ]
-
--- ---- names
-
-named : ℕ → ℕ → BoxName
-named t n = record { task = t; number = n }
-
-pub same_name : (a b : BoxName) → same_box a b ≡ true → a ≡ b
-unfolding named
-same_name a b e =
-    let f : a.task ≡ b.task = grind (arith, nat_tests) in
-    let g : a.number ≡ b.number = grind (arith, nat_tests) in
-    ap (λ t. named t a.number) f ∙ ap (λ n. named b.task n) g
-
-pub box_itself : (a : BoxName) → same_box a a ≡ true
-box_itself a = grind (arith, nat_tests)
 
 -- the mailbox at which a task stands is one
 pub one_box : (s : Option BoxName) (box : BoxName) → is_at s box ≡ true → s ≡ Some box

@@ -10,10 +10,10 @@ use Rattle.kilim_journal.specs.declared.entry.Act.TheVariants.{Put, Take, Start,
 use Rattle.kilim_journal.specs.declared.entry.Entry.{Entry}
 use Rattle.kilim_thread_model.specs.State.{Setting, same_box, with_mailbox, with_message, with_queue}
 use Rattle.kilim_thread_model.specs.Runs.{wait_entry}
-use Rattle.kilim_exchange.specs.declared.board.Waiter.{Waiter}
+use Rattle.kilim_waiting.specs.declared.parked.Waiter.{Waiter}
 use Rattle.kilim_exchange.specs.Places.{Ready, Lent, Parked, Place, Stood}
-use Rattle.kilim_exchange.specs.Mailboxes.{Tree, Mail, Post, SameMails}
-use Rattle.kilim_exchange.specs.Parked.{StandsBehind}
+use Rattle.kilim_waiting.specs.Mailboxes.{Tree, Mail, Post, SameMails}
+use Rattle.kilim_waiting.specs.Parked.{StandsBehind, woken, ready_after, parked_after}
 use Rattle.kilim_fibers.specs.Wishes.{IsMessage}
 use Rattle.kilim_fibers.specs.Fibers.{StandsFor}
 use Rattle.kilim_thread_model.specs.Lone.{Lone}
@@ -107,20 +107,6 @@ pub record BoardStands {F : Type 0} (task : F → ℕ) (course : F → Course) (
   pub parked : AllByRecursion (λ (w : Waiter F). IsOwn task course holds setting state.books.courses w.fiber) b.parked
 
 -- ---- what the calls do
-
--- the first that waits at a mailbox, and the others in their order
-abbrev pub woken : {F : Type 0} → BoxName → List (Waiter F) → Option (Waiter F × List (Waiter F))
-woken box [] = None
-woken box (w ∷ ws) = if same_box box w.mailbox then Some (w, ws) else elim (woken box ws) [ None ↦ None | Some found ↦ Some (found.0, w ∷ found.1) ]
-
--- ready and parked after a put: the first that waits there is ready, at the back
-abbrev pub ready_after : {F : Type 0} → List F → Option (Waiter F × List (Waiter F)) → List F
-ready_after ready None = ready
-ready_after ready (Some found) = ready ++ found.0.fiber ∷ []
-
-abbrev pub parked_after : {F : Type 0} → List (Waiter F) → Option (Waiter F × List (Waiter F)) → List (Waiter F)
-parked_after parked None = parked
-parked_after parked (Some found) = found.1
 
 -- the journal, the mailboxes and the count of tasks are as before
 pub record SameRun {F : Type 0} (b b' : Board F) : Type 0 where

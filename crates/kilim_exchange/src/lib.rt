@@ -3,11 +3,7 @@
 
 mod board;
 mod laws;
-mod mailboxes;
-mod parked;
-mod spots;
 
-pub use board::{Acted, Board, Lent, Waiter};
+pub use board::{Acted, Board, Lent};
 pub use laws::mailboxes_are_threads;
-pub use mailboxes::Mailboxes;
-pub use parked::Parked;
+pub use kilim_waiting::{Mailboxes, Parked, Waiter};

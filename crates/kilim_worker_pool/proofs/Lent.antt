@@ -4,7 +4,7 @@ use Rattle.std.specs.List.{AllByRecursion}
 use Rattle.std.proofs.lemmas.Option.{none-some}
 use Rattle.kilim_classes.specs.declared.names.BoxName.{BoxName}
 use Rattle.kilim_exchange.specs.declared.board.Board as kept
-use Rattle.kilim_exchange.specs.declared.board.Waiter.{Waiter}
+use Rattle.kilim_waiting.specs.declared.parked.Waiter.{Waiter}
 use Rattle.kilim_exchange.specs.Board.{Board, Lends}
 use Rattle.kilim_worker_pool.specs.Pool.{IsCalm, IsCalmFiber, IsCalmWaiter, EmptyAt}
 

@@ -7,7 +7,7 @@ use Rattle.kilim_classes.specs.declared.names.BoxName.{BoxName}
 use Rattle.kilim_program.specs.declared.value.Token.{Token}
 use Rattle.kilim_thread_model.specs.State.{same_box}
 use Rattle.kilim_thread_model.specs.Turn.{task_limit}
-use Rattle.kilim_exchange.specs.declared.board.Waiter.{Waiter}
+use Rattle.kilim_waiting.specs.declared.parked.Waiter.{Waiter}
 use Rattle.kilim_worker_pool.specs.Pool as pool
 use Rattle.kilim_fibers.specs.Fibers.{StartsFresh}
 use Rattle.kilim_fibers.specs.declared.Wants.{Wants}
@@ -16,8 +16,9 @@ use Rattle.kilim_fibers.specs.declared.Answer.TheVariants as answer
 use Rattle.kilim_exchange.specs.declared.board.Acted.{Acted}
 use Rattle.kilim_exchange.specs.declared.board.Acted.TheVariants as acted
 use Rattle.kilim_exchange.specs.Seen.{ActAnswers}
-use Rattle.kilim_exchange.specs.Board.{Board, GivesBack, Parks, PutsMessage, StartsTask, woken, ready_after, parked_after}
-use Rattle.kilim_exchange.specs.Mailboxes.{Tree, Mail}
+use Rattle.kilim_exchange.specs.Board.{Board, GivesBack, Parks, PutsMessage, StartsTask}
+use Rattle.kilim_waiting.specs.Parked.{woken, ready_after, parked_after}
+use Rattle.kilim_waiting.specs.Mailboxes.{Tree, Mail}
 
 module _ {F : Type 0} (task : F → ℕ) (count : F → ℕ) (n : ℕ) where
   abbrev weight : F → ℕ

@@ -17,7 +17,7 @@ use Rattle.kilim_exchange.specs.declared.board.Board as kept
 use Rattle.kilim_exchange.specs.declared.board.Lent.{Lent}
 use Rattle.kilim_exchange.specs.declared.board.Lent.TheVariants as lent
 use Rattle.kilim_exchange.specs.Board.{Board, BoardStands, IsQuiet, lent_of, Parks}
-use Rattle.kilim_exchange.specs.Mailboxes.{Tree}
+use Rattle.kilim_waiting.specs.Mailboxes.{Tree}
 use Rattle.kilim_worker_pool.specs.Pool.{IsOf, IsLending, IsResting, IsCalm, EmptyAt, todo, left, one_if_none}
 use Rattle.kilim_worker_pool.proofs.Measures.{same_left, act_left, back_left, park_left, nothing_left, same_calm, act_calm, back_calm, park_calm}
 use Rattle.kilim_exchange.specs.Seen.{seen, IsRoomy, LendAnswers, GiveAnswers, gives_at, LentStands, CourseAt, SameBoard, ActAnswers, ActMeets, IsActable, IsAnswered, wish_in}

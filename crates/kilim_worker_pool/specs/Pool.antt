@@ -1,7 +1,7 @@
 -- The runner with one worker: what holds between its steps.
 use Rattle.std.specs.List.{sum_by, AllByRecursion}
 use Rattle.kilim_thread_model.specs.Turn.{task_limit}
-use Rattle.kilim_exchange.specs.declared.board.Waiter.{Waiter}
+use Rattle.kilim_waiting.specs.declared.parked.Waiter.{Waiter}
 use Rattle.std.specs.Prelude.{◌≡◌, ◌+◌, ◌-◌, ◌*◌, ◌<◌, ◌≤◌, ℕ, false, [], ◌∷◌, Option, Some, None}
 use Rattle.kilim_classes.specs.declared.names.BoxName.{BoxName}
 use Rattle.kilim_classes.specs.declared.names.ClassId.{ClassId}
@@ -10,7 +10,7 @@ use Rattle.kilim_thread_model.specs.State.{Setting}
 use Rattle.kilim_fibers.specs.Fibers.{IsOfRun, StandsFor}
 use Rattle.kilim_exchange.specs.declared.board.Board as kept
 use Rattle.kilim_exchange.specs.Board.{Board, BoardStands}
-use Rattle.kilim_exchange.specs.Mailboxes.{mail_of}
+use Rattle.kilim_waiting.specs.Mailboxes.{mail_of}
 use Rattle.kilim_exchange.specs.Seen.{seen, IsRoomy, CourseAt}
 use Rattle.kilim_worker_pool.specs.declared.Turn.{Turn}
 use Rattle.kilim_worker_pool.specs.declared.Turn.TheVariants as turn

@@ -1,0 +1,5 @@
+pub mod Names
+pub mod Lists
+pub mod Named
+pub mod WaitLists
+pub mod Waiting

@@ -1,0 +1,10 @@
+//! The mailboxes of a board, and the fibers that wait at them or are ready.
+#![tactic(auto)]
+
+mod mailboxes;
+mod parked;
+mod spots;
+
+pub use mailboxes::Mailboxes;
+pub use parked::{Parked, Waiter};
+pub use spots::{line_up, note, wake};
