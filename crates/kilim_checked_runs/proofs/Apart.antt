@@ -4,14 +4,14 @@ use Rattle.kilim_classes.specs.declared.class.Form.TheVariants.{Plain}
 use Rattle.kilim_classes.specs.Keeps.{Keeps}
 use Rattle.kilim_classes.specs.Program.{Program}
 use Rattle.kilim_isolation_check.specs.Faults.{IsAccepted}
-use Rattle.kilim_standing_threads.specs.kept.Laws.{AcceptedIsKept}
+use Rattle.kilim_isolation_laws.specs.kept.Laws.{AcceptedIsKept}
 use Rattle.kilim_one_heap.specs.Laws.{NoneShares, OneHeapIsMany, PlaysReplay}
-use Rattle.kilim_reached_objects.specs.Laws.{AreLive, typed}
-use Rattle.kilim_standing_threads.specs.Laws.{IsRunOfAccepted}
-use Rattle.kilim_standing_threads.specs.Standing.{MainBegins}
+use Rattle.kilim_isolation_laws.specs.reached_objects.Laws.{AreLive, typed}
+use Rattle.kilim_isolation_laws.specs.Laws.{IsRunOfAccepted}
+use Rattle.kilim_isolation_laws.specs.Standing.{MainBegins}
 use Rattle.kilim_thread_model.specs.Reach.{Liveness}
 use Rattle.kilim_thread_model.specs.State.{Setting}
-use Rattle.kilim_tree_types.specs.Laws.{AreNamedPlainly}
+use Rattle.kilim_isolation_laws.specs.tree_types.Laws.{AreNamedPlainly}
 use Rattle.kilim_typing.specs.Typed.{IsWellTyped}
 use Rattle.kilim_checked_runs.specs.Runs.{IsRunOf, RunsApart}
 

@@ -4,13 +4,13 @@ use Rattle.kilim_classes.specs.declared.class.Form.TheVariants.{Plain}
 use Rattle.kilim_classes.specs.Program.{Program}
 use Rattle.kilim_journal.specs.declared.entry.Entry.{Entry}
 use Rattle.kilim_one_heap.specs.Laws.{SameReplays}
-use Rattle.kilim_reached_objects.specs.Laws.{AreLive}
-use Rattle.kilim_standing_threads.specs.Standing.{MainBegins}
+use Rattle.kilim_isolation_laws.specs.reached_objects.Laws.{AreLive}
+use Rattle.kilim_isolation_laws.specs.Standing.{MainBegins}
 use Rattle.kilim_thread_model.specs.Kept.{Kept}
 use Rattle.kilim_thread_model.specs.Reach.{Liveness, PlaysIsolated}
 use Rattle.kilim_thread_model.specs.Runs.{Replays, played}
 use Rattle.kilim_thread_model.specs.State.{Setting, State, first_state, is_fit}
-use Rattle.kilim_tree_types.specs.Laws.{AreNamedPlainly}
+use Rattle.kilim_isolation_laws.specs.tree_types.Laws.{AreNamedPlainly}
 
 -- A run of the program, whatever its limits. Programs to which class files link are named plainly and in plain form, and their main
 -- classes begin so.

@@ -1,17 +1,20 @@
 //! The check of a typed program by the rules of isolation, with what it means for all runs of the program that it breaks none.
 #![tactic(auto)]
 
+pub mod linked_weaving;
+pub mod serving_weaver;
+
 ghost use Rattle.std.specs.Prelude.{◌≡◌, IfOk};
 ghost use Rattle.kilim_classes.specs.Keeps.{Keeps};
 ghost use Rattle.kilim_isolation_check.specs.Checked.{IsChecked};
 ghost use Rattle.kilim_isolation_check.specs.Faults.{IsAccepted};
-ghost use Rattle.kilim_reached_objects.specs.Laws.{typed};
+ghost use Rattle.kilim_isolation_laws.specs.reached_objects.Laws.{typed};
 ghost use Rattle.kilim_typing.specs.Typed.{IsWellTyped};
 ghost use Rattle.kilim_checked_runs.specs.Runs.{RunsApart};
 
 use kilim_isolation_check::{CheckFault, Isolated};
 use kilim_one_heap::{none_shares, one_heap_is_many, plays_replay};
-use kilim_standing_threads::kept::accepted_is_kept;
+use kilim_isolation_laws::kept::accepted_is_kept;
 use kilim_typing::Typed;
 use std::alloc::Global;
 

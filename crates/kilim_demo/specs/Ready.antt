@@ -7,7 +7,7 @@ use Rattle.kilim_stages.specs.Accepted.{IsAcceptedOf}
 use Rattle.kilim_weaver.specs.declared.weaving.Woven.{Woven}
 use Rattle.kilim_weaver.specs.Faults.{weave_fault}
 use Rattle.kilim_whole_runs.specs.Runs.{setting_of}
-use Rattle.kilim_woven_follows.specs.Served.{CanServe}
+use Rattle.kilim_weaving_laws.specs.Served.{CanServe}
 use Rattle.kilim_demo.specs.Demo.{demo_limits, demo_texts, main_name}
 
 -- the program is that of the demo, it is accepted, each of its methods can be woven, this is its main class, and its woven form can be run

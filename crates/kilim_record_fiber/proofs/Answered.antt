@@ -17,19 +17,19 @@ use Rattle.kilim_thread_model.specs.Course.{Course, plain, IsLone, stands_at}
 use Rattle.kilim_thread_model.specs.Moving.{further}
 use Rattle.kilim_thread_model.specs.declared.deed.Deed.{Deed}
 use Rattle.kilim_tree_move.specs.Moved.{tree_heap}
-use Rattle.kilim_fiber_kin.specs.Acts.{IsSound}
+use Rattle.kilim_woven_runs.specs.fiber_kin.Acts.{IsSound}
 use Rattle.kilim_fibers.specs.Fibers.{Asks, CanAnswer, CountsRightly, Fits, StandsFor}
 use Rattle.kilim_fibers.specs.Wishes.{IsMessage, Wish, ToPut, ToTake, ToProbe, ToStart, ToPrint}
 use Rattle.kilim_fibers.specs.declared.Answer.{Answer}
 use Rattle.kilim_fibers.specs.declared.Answer.TheVariants as answer
-use Rattle.kilim_woven_kin.specs.history.History.{took}
-use Rattle.kilim_woven_kin.specs.Nexts.{counted, paused_at, taken_at, with_result}
-use Rattle.kilim_woven_kin.specs.Standing.{Standing}
+use Rattle.kilim_weaving_laws.specs.woven_kin.history.History.{took}
+use Rattle.kilim_weaving_laws.specs.woven_kin.Nexts.{counted, paused_at, taken_at, with_result}
+use Rattle.kilim_weaving_laws.specs.woven_kin.Standing.{Standing}
 use Rattle.kilim_woven_fiber.specs.Body.{behind_at, standing_at, RoomIn, RoomyIn}
 use Rattle.kilim_woven_fiber.specs.declared.body.Body.{Body}
 use Rattle.kilim_woven_fiber.specs.declared.code.Code.{Code}
-use Rattle.kilim_woven_follows.specs.Fibers.{Holds}
-use Rattle.kilim_woven_follows.specs.Nexts.{Behind, CanReceive}
+use Rattle.kilim_weaving_laws.specs.Fibers.{Holds}
+use Rattle.kilim_weaving_laws.specs.Nexts.{Behind, CanReceive}
 use Rattle.kilim_record_fiber.specs.Calls.{Answered, AnswerSuits, Found, Noted, Passed, Refused, Taken, takes_value}
 use Rattle.kilim_record_fiber.specs.Clauses.{Went}
 use Rattle.kilim_record_fiber.specs.Fiber.{task_of, course_of, wished, AskedOf, CanGoOn, HoldsFiber, ServesCode, StandsAs}

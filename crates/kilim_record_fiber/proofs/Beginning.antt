@@ -16,21 +16,21 @@ use Rattle.kilim_program.specs.Trees.{OfTask}
 use Rattle.kilim_program.specs.Machine.{Activation}
 use Rattle.kilim_frames.specs.declared.frames.Frames.{Frames}
 use Rattle.kilim_frames.specs.Calls.{activation, below_of}
-use Rattle.kilim_fiber_kin.specs.Acts.{IsSound}
+use Rattle.kilim_woven_runs.specs.fiber_kin.Acts.{IsSound}
 use Rattle.kilim_fibers.specs.Fibers.{StandsFor}
 use Rattle.kilim_woven_fiber.specs.Body.{calls_in, standing_at, RoomyIn}
 use Rattle.kilim_woven_fiber.specs.declared.code.Code.{Code}
-use Rattle.kilim_woven_follows.specs.Fibers.{Holds}
-use Rattle.kilim_woven_follows.specs.Laws.{new_course}
-use Rattle.kilim_woven_follows.proofs.Begins.{first_begins, tasks_begin, tasks_end}
+use Rattle.kilim_weaving_laws.specs.Fibers.{Holds}
+use Rattle.kilim_weaving_laws.specs.Laws.{new_course}
+use Rattle.kilim_weaving_laws.proofs.Begins.{first_begins, tasks_begin, tasks_end}
 use Rattle.std.specs.FinMap.{empty, insert}
 use Rattle.kilim_classes.specs.declared.value.Value.TheVariants.{Ref}
 use Rattle.kilim_classes.specs.declared.value.Value.TheVariants as a_value
 use Rattle.kilim_program.specs.Members.{constructor_of}
 use Rattle.kilim_program.specs.Objects.{new_object}
 use Rattle.kilim_woven_runs.specs.Fibers.{executes_on, new_fiber}
-use Rattle.kilim_woven_kin.specs.Nexts.{begun_with}
-use Rattle.kilim_woven_kin.specs.Standing.{Standing}
+use Rattle.kilim_weaving_laws.specs.woven_kin.Nexts.{begun_with}
+use Rattle.kilim_weaving_laws.specs.woven_kin.Standing.{Standing}
 use Rattle.kilim_fibers.specs.Wishes.{ToStart}
 use Rattle.kilim_fibers.specs.declared.Wants.TheVariants as wants
 use Rattle.kilim_woven_fiber.specs.Begins.{BodyBegins, BodyBoots}

@@ -17,12 +17,12 @@ use Rattle.kilim_thread_model.specs.Lone.{Lone, get_at}
 use Rattle.kilim_thread_model.specs.Course.{Course, IsLone, stands_at}
 use Rattle.kilim_thread_model.specs.declared.deed.Deed.{Deed}
 use Rattle.kilim_fibers.specs.Wishes.{wish_of}
-use Rattle.kilim_fiber_kin.specs.Acts.{IsGiven}
-use Rattle.kilim_fiber_kin.proofs.Leaving.{can_leave, out_suits}
+use Rattle.kilim_woven_runs.specs.fiber_kin.Acts.{IsGiven}
+use Rattle.kilim_woven_runs.proofs.fiber_kin.Leaving.{can_leave, out_suits}
 use Rattle.kilim_woven_runs.specs.Fibers.{first_receiver}
-use Rattle.kilim_woven_kin.specs.Standing.{Standing}
-use Rattle.kilim_woven_kin.specs.Nexts.{Next, Goes, next_of}
-use Rattle.kilim_woven_kin.specs.Alike.{HasFree}
+use Rattle.kilim_weaving_laws.specs.woven_kin.Standing.{Standing}
+use Rattle.kilim_weaving_laws.specs.woven_kin.Nexts.{Next, Goes, next_of}
+use Rattle.kilim_weaving_laws.specs.woven_kin.Alike.{HasFree}
 use Rattle.kilim_woven_fiber.specs.Comes.{CanGive, Comes, HasRoomFor, gives_result}
 use Rattle.kilim_woven_fiber.specs.Reach.{GoesTo, AtFirst, Further, IsReadyOn, IsWanting, Reaches, named}
 use Rattle.kilim_woven_fiber.specs.Steps.{HasRoom, IsReadyAt, MoveFits, ReceiverThere}
@@ -30,12 +30,12 @@ use Rattle.kilim_woven_fiber.specs.declared.body.Body.{Body}
 use Rattle.kilim_woven_fiber.specs.declared.body.Came.{Came}
 use Rattle.kilim_woven_fiber.specs.declared.body.Came.TheVariants as came
 use Rattle.kilim_woven_fiber.specs.declared.code.Code.{Code}
-use Rattle.kilim_woven_follows.specs.Fibers.{Holds, IsFiberOf}
-use Rattle.kilim_woven_follows.specs.Nexts.{Behind, CanReceive, NextIs}
-use Rattle.kilim_woven_follows.specs.Ready.{IsObject, ResultFits, may_give}
-use Rattle.kilim_woven_follows.specs.Ready as follows
-use Rattle.kilim_woven_follows.proofs.Following.{next_follows}
-use Rattle.kilim_woven_follows.proofs.Ready.{fibers_are_ready, rests_on_object}
+use Rattle.kilim_weaving_laws.specs.Fibers.{Holds, IsFiberOf}
+use Rattle.kilim_weaving_laws.specs.Nexts.{Behind, CanReceive, NextIs}
+use Rattle.kilim_weaving_laws.specs.Ready.{IsObject, ResultFits, may_give}
+use Rattle.kilim_weaving_laws.specs.Ready as follows
+use Rattle.kilim_weaving_laws.proofs.Following.{next_follows}
+use Rattle.kilim_weaving_laws.proofs.Ready.{fibers_are_ready, rests_on_object}
 use Rattle.kilim_record_fiber.specs.Fiber.{CameTo, ServesCode}
 
 -- ---- the next name is nowhere looked at

@@ -4,7 +4,7 @@ use Rattle.std.proofs.lemmas.Bool.{false≢true}
 use Rattle.kilim_classes.specs.declared.names.MethodId.{MethodId}
 use Rattle.kilim_classes.specs.declared.value.Value.{Value}
 use Rattle.kilim_classes.specs.Program.{Program}
-use Rattle.kilim_typed_threads.specs.fine.Typed.{frames_of}
+use Rattle.kilim_isolation_laws.specs.typed_threads.fine.Typed.{frames_of}
 use Rattle.kilim_kin.specs.Kin.{Names, FramesKin}
 use Rattle.kilim_one_heap.specs.Booked.{IsOf}
 use Rattle.kilim_program.specs.Machine.{Activation}
@@ -14,20 +14,20 @@ use Rattle.kilim_thread_model.specs.Course.{Course}
 use Rattle.kilim_thread_model.specs.declared.deed.Deed.{Deed}
 use Rattle.kilim_thread_model.specs.Lone.{Lone}
 use Rattle.kilim_thread_model.specs.State.{Setting}
-use Rattle.kilim_woven_follows.proofs.Reached.{acts, along, first}
-use Rattle.kilim_woven_follows.specs.Fibers.{Holds, IsReached}
-use Rattle.kilim_woven_follows.specs.Served.{CanServe}
-use Rattle.kilim_woven_kin.specs.history.History.{state_in, state_of, world_of}
-use Rattle.kilim_woven_kin.specs.Alike.{FibersKin, Like, RecordsKin}
-use Rattle.kilim_woven_kin.specs.Standing.{Standing}
+use Rattle.kilim_weaving_laws.proofs.Reached.{acts, along, first}
+use Rattle.kilim_weaving_laws.specs.Fibers.{Holds, IsReached}
+use Rattle.kilim_weaving_laws.specs.Served.{CanServe}
+use Rattle.kilim_weaving_laws.specs.woven_kin.history.History.{state_in, state_of, world_of}
+use Rattle.kilim_weaving_laws.specs.woven_kin.Alike.{FibersKin, Like, RecordsKin}
+use Rattle.kilim_weaving_laws.specs.woven_kin.Standing.{Standing}
 use Rattle.kilim_woven_runs.specs.lone.Law.{lone_at, lone_frames}
 use Rattle.kilim_woven_runs.specs.Acts.{World}
 use Rattle.kilim_woven_runs.specs.Fibers.{Fib, Fiber_at, Rec, Resting, wsteps}
 use Rattle.kilim_woven_runs.specs.Links.{Forms, Link, Lk, first_record, next_records, record_of, rev_onto, u_frames}
 use Rattle.kilim_woven_runs.specs.Serves.{IsThread, StandsFor}
 use Rattle.kilim_woven_runs.specs.Thread.{Run, Thread, steps}
-use Rattle.kilim_woven_receivers.proofs.states.Along.{append_none, same_deeds}
-use Rattle.kilim_woven_receivers.specs.states.Law.{Likewise, ThreadAlong, acts_of, first_thread, world_at}
+use Rattle.kilim_weaving_laws.proofs.receivers.states.Along.{append_none, same_deeds}
+use Rattle.kilim_weaving_laws.specs.receivers.states.Law.{Likewise, ThreadAlong, acts_of, first_thread, world_at}
 use Rattle.kilim_fiber_records.specs.Members.{deeper_of}
 use Rattle.kilim_record_fiber.specs.Records.{HasLeftAll}
 

@@ -26,8 +26,8 @@ use Rattle.kilim_woven_fiber.specs.Reach.{Reaches, named}
 use Rattle.kilim_woven_fiber.specs.declared.body.Body.{Body}
 use Rattle.kilim_woven_fiber.specs.declared.body.Came.{Came}
 use Rattle.kilim_woven_fiber.specs.declared.body.Came.TheVariants as came
-use Rattle.kilim_woven_kin.specs.Nexts.{Next, Goes, Rests, Ends, Stands, arg_next, asks_next, begins_next, begun_with, found_next, finish_next, get_next, message_next, native_next, next_by, next_in, next_of, opens_next, print_next, put_next, resumes_next, spent_or, start_next, stood, ticked, yield_next}
-use Rattle.kilim_woven_kin.specs.Standing.{Standing}
+use Rattle.kilim_weaving_laws.specs.woven_kin.Nexts.{Next, Goes, Rests, Ends, Stands, arg_next, asks_next, begins_next, begun_with, found_next, finish_next, get_next, message_next, native_next, next_by, next_in, next_of, opens_next, print_next, put_next, resumes_next, spent_or, start_next, stood, ticked, yield_next}
+use Rattle.kilim_weaving_laws.specs.woven_kin.Standing.{Standing}
 use Rattle.kilim_woven_runs.specs.Fibers.{Fib, Fiber_at, Saved, executes_on, first_receiver, is_pausing, is_rewinding, member_does, wfetch}
 use Rattle.kilim_record_fiber.specs.Records.{NoFrameIsLeft}
 

@@ -14,7 +14,7 @@ use Rattle.kilim_program.specs.declared.value.Token.{Token}
 use Rattle.kilim_units.specs.declared.memory.NoMemory.{NoMemory}
 use Rattle.kilim_thread_model.specs.Course.{next_action}
 use Rattle.kilim_thread_model.specs.State.{Setting}
-use Rattle.kilim_fiber_kin.specs.Acts.{IsSound}
+use Rattle.kilim_woven_runs.specs.fiber_kin.Acts.{IsSound}
 use Rattle.kilim_fibers.specs.Fibers.{Asks, CanRun, Resumed, RestsRightly, StandsFor, StartsAtNone, StartsFresh}
 use Rattle.kilim_fibers.specs.Wishes.{IsMessage, Wish, ToPut, ToTake, ToProbe, ToStart, ToPrint, ToEnd, Wishes, end_wish, wish_of}
 use Rattle.kilim_fibers.specs.declared.Wants.{Wants}
@@ -27,7 +27,7 @@ use Rattle.kilim_woven_fiber.specs.declared.body.Body.{Body}
 use Rattle.kilim_woven_fiber.specs.declared.body.Came.{Came}
 use Rattle.kilim_woven_fiber.specs.declared.body.Came.TheVariants as came
 use Rattle.kilim_woven_fiber.specs.declared.code.Code.{Code}
-use Rattle.kilim_woven_follows.specs.Fibers.{Holds}
+use Rattle.kilim_weaving_laws.specs.Fibers.{Holds}
 use Rattle.kilim_record_fiber.specs.Calls.{EndsIdle, HasWanted, MayAsk, RestsAt, WantsBy, asks_by, is_rest}
 use Rattle.kilim_record_fiber.specs.Clauses.{Resumes}
 use Rattle.kilim_record_fiber.specs.Fiber.{task_of, course_of, wished, AskedOf, CameTo, CanGoOn, EndsNext, HoldsFiber, ServesCode, StandsAs, idle_cause}

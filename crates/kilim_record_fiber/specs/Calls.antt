@@ -20,9 +20,9 @@ use Rattle.kilim_fibers.specs.declared.Answer.TheVariants as answer
 use Rattle.kilim_fibers.specs.declared.Wants.{Wants}
 use Rattle.kilim_fibers.specs.declared.Wants.TheVariants as wants
 use Rattle.kilim_tree_move.specs.Shaping.{Suits}
-use Rattle.kilim_woven_kin.specs.history.History.{took}
-use Rattle.kilim_woven_kin.specs.Standing.{Standing}
-use Rattle.kilim_woven_kin.specs.Nexts.{counted, paused_at, with_result}
+use Rattle.kilim_weaving_laws.specs.woven_kin.history.History.{took}
+use Rattle.kilim_weaving_laws.specs.woven_kin.Standing.{Standing}
+use Rattle.kilim_weaving_laws.specs.woven_kin.Nexts.{counted, paused_at, with_result}
 use Rattle.kilim_woven_fiber.specs.Answers.{HasFound, HasTaken}
 use Rattle.kilim_woven_fiber.specs.Begins.{BodyBegins}
 use Rattle.kilim_woven_fiber.specs.Body.{standing_at, behind_at, HasFrames, RoomyIn}

@@ -11,17 +11,17 @@ use Rattle.kilim_thread_model.specs.Lone.{Lone}
 use Rattle.kilim_thread_model.specs.Lone as thread
 use Rattle.kilim_thread_model.specs.Course.{Course, plain, next_action, stands_at}
 use Rattle.kilim_fibers.specs.Wishes.{Wish, ToPut, ToTake, ToProbe, ToStart, ToPrint, wish_of}
-use Rattle.kilim_woven_kin.specs.Nexts.{counted, paused_at, taken_at, with_result}
+use Rattle.kilim_weaving_laws.specs.woven_kin.Nexts.{counted, paused_at, taken_at, with_result}
 use Rattle.kilim_woven_fiber.specs.Body.{standing_at, behind_at, RoomyIn, RoomIn, HasFrames}
 use Rattle.kilim_woven_fiber.specs.declared.body.Body.{Body}
-use Rattle.kilim_fiber_kin.specs.Acts.{IsSound}
+use Rattle.kilim_woven_runs.specs.fiber_kin.Acts.{IsSound}
 use Rattle.kilim_program.specs.Trees.{OfMessage, OfTask}
 use Rattle.kilim_woven_fiber.specs.declared.body.Came.{Came}
 use Rattle.kilim_woven_fiber.specs.declared.body.Came.TheVariants as came
 use Rattle.kilim_woven_fiber.specs.declared.code.Code.{Code}
-use Rattle.kilim_woven_follows.specs.Served.{CanServe}
-use Rattle.kilim_woven_follows.specs.Fibers.{Holds}
-use Rattle.kilim_woven_follows.specs.Nexts.{Behind, CanReceive}
+use Rattle.kilim_weaving_laws.specs.Served.{CanServe}
+use Rattle.kilim_weaving_laws.specs.Fibers.{Holds}
+use Rattle.kilim_weaving_laws.specs.Nexts.{Behind, CanReceive}
 use Rattle.kilim_record_fiber.specs.Past.{deeds_of}
 use Rattle.kilim_record_fiber.specs.declared.fiber.Asked.{Asked}
 use Rattle.kilim_record_fiber.specs.declared.fiber.Asked.TheVariants as asked

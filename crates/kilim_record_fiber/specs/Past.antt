@@ -3,7 +3,7 @@ use Rattle.std.specs.Prelude.{List, [], ◌∷◌, ◌++◌}
 use Rattle.kilim_journal.specs.declared.entry.Act.TheVariants as act
 use Rattle.kilim_thread_model.specs.Course.{plain}
 use Rattle.kilim_thread_model.specs.declared.deed.Deed.{Deed}
-use Rattle.kilim_woven_kin.specs.history.History.{took}
+use Rattle.kilim_weaving_laws.specs.woven_kin.history.History.{took}
 use Rattle.kilim_record_fiber.specs.declared.past.Did.{Did}
 use Rattle.kilim_record_fiber.specs.declared.past.Did.TheVariants as did
 use Rattle.kilim_record_fiber.specs.declared.past.Past.{Past, Nothing, After'}

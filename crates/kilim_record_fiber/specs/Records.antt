@@ -1,6 +1,6 @@
 -- What a fiber keeps where it rests: no frame, but a record for each frame that it left, and then the leaf's.
 use Rattle.std.specs.Prelude.{◌≡◌, ◌+◌, ℕ, Bool, true, false, List, [], ◌∷◌, Option, None, length}
-use Rattle.kilim_typed_threads.specs.fine.Typed.{frames_of}
+use Rattle.kilim_isolation_laws.specs.typed_threads.fine.Typed.{frames_of}
 use Rattle.kilim_fiber_records.specs.Members.{deeper_of}
 use Rattle.kilim_frames.specs.declared.frames.Frames.{Frames}
 use Rattle.kilim_one_heap.specs.Booked.{IsOf}

@@ -7,7 +7,7 @@ ghost use Rattle.std.specs.Prelude.{List, [], Option};
 ghost use Rattle.kilim_thread_model.specs.declared.deed.Beginning.TheVariants.{Boot};
 ghost use Rattle.kilim_thread_model.specs.declared.deed.Deed.{Deed};
 ghost use Rattle.kilim_fibers.specs.Fibers.{Asks, CanAnswer, CanRun, Fits, IsNewCourse, StandsFor};
-ghost use Rattle.kilim_woven_kin.specs.Nexts.{counted, with_result};
+ghost use Rattle.kilim_weaving_laws.specs.woven_kin.Nexts.{counted, with_result};
 ghost use Rattle.kilim_woven_fiber.specs.Body.{behind_at, RoomyIn, RoomIn, HasFrames};
 ghost use Rattle.std.specs.List.{AllByRecursion};
 ghost use Rattle.kilim_fibers.specs.Wishes.{ToEnd, Wish, end_wish};

@@ -13,7 +13,7 @@ use Rattle.kilim_weaver.specs.declared.weaving.Woven.{Woven}
 use Rattle.kilim_whole_runs.specs.Laws.{WovenIsServed}
 use Rattle.kilim_whole_runs.specs.Runs.{setting_of}
 use Rattle.kilim_words.specs.Words.{Run}
-use Rattle.kilim_woven_follows.specs.Served.{CanServe}
+use Rattle.kilim_weaving_laws.specs.Served.{CanServe}
 use Rattle.kilim_woven_stage.specs.Stage.{IsWovenOf}
 use Rattle.kilim_woven_stage.specs.declared.stage.WovenProgram.{WovenProgram}
 use Rattle.kilim_top.specs.Inside.Answer.{IsMainOf, IsTextOf, IsToRun}

@@ -6,7 +6,7 @@ ghost use Rattle.kilim_demo.specs.Demo.{IsDemoLine, IsDemoReport};
 ghost use Rattle.kilim_stages.specs.Parts.{IfReport};
 ghost use Rattle.kilim_words.specs.Parts.{meant};
 ghost use Rattle.kilim_words.specs.Words.{files_read};
-ghost use Rattle.kilim_woven_follows.specs.Served.{CanServe};
+ghost use Rattle.kilim_weaving_laws.specs.Served.{CanServe};
 ghost use Rattle.kilim_top.specs.Inside.Answer.{IsDemoReply, IsReplyFor, IsRunReply};
 ghost use Rattle.kilim_top.specs.Words.{workers_of};
 

@@ -1,6 +1,6 @@
 -- The runs of an accepted program to which class files link.
 use Rattle.std.proofs.Common.{◌≡◌, ◌≤◌, ℕ, true, List, length, sym, subst}
-use Rattle.kilim_accepted_runs.specs.Laws.{AcceptedIsIsolated, setting_of}
+use Rattle.kilim_isolation_laws.specs.accepted_runs.Laws.{AcceptedIsIsolated, setting_of}
 use Rattle.kilim_class_world.specs.Keeping.{LinksKeep}
 use Rattle.kilim_classes.specs.declared.class.Form.TheVariants.{Plain}
 use Rattle.kilim_classes.specs.declared.names.ClassId.{ClassId}
@@ -8,7 +8,7 @@ use Rattle.kilim_classes.specs.Program.{Program}
 use Rattle.kilim_link_spec.specs.LinksWell.{LinksWell}
 use Rattle.kilim_program.specs.declared.run.Limits.{Limits}
 use Rattle.kilim_program.specs.Members.{is_fit_main}
-use Rattle.kilim_reached_objects.specs.Laws.{AreLive}
+use Rattle.kilim_isolation_laws.specs.reached_objects.Laws.{AreLive}
 use Rattle.kilim_stages.specs.Accepted.{IsAcceptedOf}
 use Rattle.kilim_stages.proofs.Both.{all_fit, as_many}
 use Rattle.kilim_thread_model.specs.Reach.{Liveness, PlaysIsolated}

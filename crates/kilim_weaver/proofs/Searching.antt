@@ -17,8 +17,8 @@ use Rattle.kilim_link_spec.specs.World.{method_descriptor}
 use Rattle.kilim_pausable_graph.specs.Pausing.{all_methods}
 use Rattle.kilim_woven_form.specs.Form.{has_calls}
 use Rattle.kilim_woven_form.specs.Weight.{calls_in, switches_bytes, weight}
-use Rattle.kilim_woven_programs.specs.keeps.Law.{NoneIsFull, NoneIsTooLong, reach}
-use Rattle.kilim_woven_programs.proofs.Naming.{owner_there}
+use Rattle.kilim_woven_form.specs.woven_programs.keeps.Law.{NoneIsFull, NoneIsTooLong, reach}
+use Rattle.kilim_woven_form.proofs.woven_programs.Naming.{owner_there}
 use Rattle.kilim_weaver.specs.declared.fault.WeaveFault.{WeaveFault}
 use Rattle.kilim_weaver.specs.Faults.{fault_if, fault_if_there, fault_of, fault_of_method, first_fault, is_full, is_too_long, or_later, weave_fault}
 

@@ -1,6 +1,6 @@
 -- The woven form of an accepted program to which class files link serves its runs.
 use Rattle.std.proofs.Common.{◌≤◌, ℕ, List, length, sym, subst}
-use Rattle.kilim_accepted_runs.specs.Laws.{AcceptedIsRun}
+use Rattle.kilim_isolation_laws.specs.accepted_runs.Laws.{AcceptedIsRun}
 use Rattle.kilim_class_world.specs.Keeping.{LinksKeep}
 use Rattle.kilim_classes.specs.declared.class.Form.TheVariants.{Plain}
 use Rattle.kilim_classes.specs.Program.{Program}
@@ -8,7 +8,7 @@ use Rattle.kilim_link_spec.specs.LinksWell.{LinksWell}
 use Rattle.kilim_stages.specs.Accepted.{IsAcceptedOf}
 use Rattle.kilim_stages.proofs.Both.{all_fit, as_many}
 use Rattle.kilim_type_verify.proofs.Verified.{well_typed}
-use Rattle.kilim_woven_served.specs.Served.{RunsServe}
+use Rattle.kilim_weaving_laws.specs.woven_served.Served.{RunsServe}
 use Rattle.kilim_whole_runs.specs.Laws.{WovenIsServed}
 use Rattle.kilim_whole_runs.specs.Runs.{setting_of}
 

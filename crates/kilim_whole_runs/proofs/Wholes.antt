@@ -5,17 +5,17 @@ use Rattle.kilim_classes.specs.Program.{Program}
 use Rattle.kilim_program.specs.declared.run.Limits.{Limits}
 use Rattle.kilim_journal.specs.declared.entry.Entry.{Entry}
 use Rattle.kilim_journal.specs.Readable.{IsReadable, JournalFits}
-use Rattle.kilim_reached_objects.specs.Laws.{AreLive}
+use Rattle.kilim_isolation_laws.specs.reached_objects.Laws.{AreLive}
 use Rattle.kilim_thread_model.specs.Reach.{Liveness}
 use Rattle.kilim_thread_model.specs.State.{Setting}
 use Rattle.kilim_thread_model.specs.Runs.{Whole}
 use Rattle.kilim_exchange.specs.Seen.{MovedWhole}
 use Rattle.kilim_record_fiber.specs.named.Named.{ServesNamed}
 use Rattle.kilim_one_heap.specs.Laws.{MovedIsWhole}
-use Rattle.kilim_at_rest.specs.readable.Laws.{RunsAreReadable}
+use Rattle.kilim_isolation_laws.specs.at_rest.readable.Laws.{RunsAreReadable}
 use Rattle.kilim_worker_pool.specs.Pool.{IsOf}
 use Rattle.kilim_woven_fiber.specs.declared.code.Code.{Code}
-use Rattle.kilim_woven_follows.specs.Served.{CanServe}
+use Rattle.kilim_weaving_laws.specs.Served.{CanServe}
 use Rattle.kilim_whole_runs.specs.Runs.{IsJournalOf, setting_of}
 
 -- the setting is one of this code's, whose woven program and marks are named by themselves

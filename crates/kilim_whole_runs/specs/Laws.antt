@@ -7,7 +7,7 @@ use Rattle.kilim_program.specs.Members.{is_fit_main}
 use Rattle.kilim_stages.specs.Accepted.{IsAcceptedOf}
 use Rattle.kilim_weaver.specs.declared.weaving.Woven.{Woven}
 use Rattle.kilim_weaver.specs.Weaves.{Weaves}
-use Rattle.kilim_woven_follows.specs.Served.{CanServe}
+use Rattle.kilim_weaving_laws.specs.Served.{CanServe}
 use Rattle.kilim_whole_runs.specs.Runs.{setting_of}
 
 -- What weaving makes of the accepted program to which class files link serves each run of it with a fit main class.

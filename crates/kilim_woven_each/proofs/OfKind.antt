@@ -17,8 +17,8 @@ use Rattle.kilim_typing.specs.TypedProgram.{KeepsTyped, TypedProgram}
 use Rattle.kilim_woven_pieces.specs.Listed.{Listed}
 use Rattle.kilim_woven_form.specs.Form.{IsWoven, has_calls, plan_of, woven_as}
 use Rattle.kilim_woven_form.specs.Weight.{calls_in}
-use Rattle.kilim_woven_program.specs.labels.Law.{LabelsAreFound}
-use Rattle.kilim_woven_program.specs.Made.{made_as, method_plan}
+use Rattle.kilim_woven_form.specs.woven_program.labels.Law.{LabelsAreFound}
+use Rattle.kilim_woven_form.specs.woven_program.Made.{made_as, method_plan}
 
 -- ---- woven forms
 

@@ -13,7 +13,7 @@ use kilim_liveness::live;
 use kilim_lookups::code_rises;
 use kilim_units::{NoMemory, Seq};
 use kilim_woven_method::{copy_method, woven};
-use kilim_woven_program::labels::labels_are_found;
+use kilim_woven_form::woven_program::labels::labels_are_found;
 use std::alloc::Global;
 
 // A method that doesn't pause.

@@ -14,8 +14,8 @@ use Rattle.kilim_program.specs.Trees.{OfMessage}
 use Rattle.kilim_frames.specs.declared.frames.Frames.{Frames}
 use Rattle.kilim_units.specs.declared.memory.NoMemory.{NoMemory}
 use Rattle.kilim_thread_model.specs.State.{Setting}
-use Rattle.kilim_woven_kin.specs.Standing.{Standing}
-use Rattle.kilim_woven_kin.specs.Nexts.{Next, native_next, asks_next}
+use Rattle.kilim_weaving_laws.specs.woven_kin.Standing.{Standing}
+use Rattle.kilim_weaving_laws.specs.woven_kin.Nexts.{Next, native_next, asks_next}
 use Rattle.kilim_woven_fiber.specs.Body.{operands_in}
 use Rattle.kilim_woven_fiber.specs.Operands.{AreOperands}
 use Rattle.kilim_woven_fiber.specs.declared.operands.Operands.{Operands}

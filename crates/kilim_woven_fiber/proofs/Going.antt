@@ -19,17 +19,17 @@ use Rattle.kilim_thread_model.specs.State.{Setting}
 use Rattle.kilim_jvm_interp.specs.declared.machine.Stepped.TheVariants as stepped
 use Rattle.kilim_jvm_interp.specs.Step.{IsWent, RanOn, MadeOne, Steps, cause_of}
 use Rattle.kilim_jvm_interp.specs.Run.{IsFine, StepsTo}
-use Rattle.kilim_fiber_kin.specs.Acts.{is_making}
-use Rattle.kilim_fiber_kin.proofs.Fine.{opens_fit}
+use Rattle.kilim_woven_runs.specs.fiber_kin.Acts.{is_making}
+use Rattle.kilim_woven_runs.proofs.fiber_kin.Fine.{opens_fit}
 use Rattle.kilim_marked_runs.specs.Marks.{IsMark, NextHas}
 use Rattle.kilim_marked_runs.specs.Counted as counted
 use Rattle.kilim_marked_runs.specs.Counted.{AnswersNext, CountedRunsTo, HasCountedRun, IsCountedLast, IsCountedSafe, IsSpent, asked_of, tick_if}
 use Rattle.kilim_marked_runs.specs.declared.runs.Halted.{Halted}
 use Rattle.kilim_marked_runs.specs.declared.runs.Halted.TheVariants as halted
 use Rattle.kilim_woven_runs.specs.Fibers.{is_rewinding}
-use Rattle.kilim_woven_kin.specs.Standing.{Standing}
-use Rattle.kilim_woven_kin.specs.Nexts.{Next, Goes, Ends, asks_next, finish_next, found_next, next_by, next_of, opens_next, spent_or, stood, ticked}
-use Rattle.kilim_woven_kin.specs.Alike.{is_end, spends, spends_at}
+use Rattle.kilim_weaving_laws.specs.woven_kin.Standing.{Standing}
+use Rattle.kilim_weaving_laws.specs.woven_kin.Nexts.{Next, Goes, Ends, asks_next, finish_next, found_next, next_by, next_of, opens_next, spent_or, stood, ticked}
+use Rattle.kilim_weaving_laws.specs.woven_kin.Alike.{is_end, spends, spends_at}
 use Rattle.kilim_woven_fiber.specs.Body.{behind_at, calls_in, operands_of, standing_at}
 use Rattle.kilim_woven_fiber.specs.Comes.{CanGive}
 use Rattle.kilim_woven_fiber.specs.Legs.{ComesTo, HasGone}

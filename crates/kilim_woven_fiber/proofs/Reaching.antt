@@ -6,9 +6,9 @@ use Rattle.kilim_frames.specs.declared.frames.Frames.{Frames}
 use Rattle.kilim_thread_model.specs.State.{Setting}
 use Rattle.kilim_units.specs.declared.memory.NoMemory.{NoMemory}
 use Rattle.kilim_woven_runs.specs.Fibers.{executes_on, first_receiver}
-use Rattle.kilim_woven_kin.specs.Standing.{Standing}
-use Rattle.kilim_woven_kin.specs.Nexts.{Next, next_in, next_of, resumes_next}
-use Rattle.kilim_woven_kin.specs.Alike.{makes_at}
+use Rattle.kilim_weaving_laws.specs.woven_kin.Standing.{Standing}
+use Rattle.kilim_weaving_laws.specs.woven_kin.Nexts.{Next, next_in, next_of, resumes_next}
+use Rattle.kilim_weaving_laws.specs.woven_kin.Alike.{makes_at}
 use Rattle.kilim_woven_fiber.specs.Body.{calls_in, standing_at}
 use Rattle.kilim_woven_fiber.specs.Comes.{Comes}
 use Rattle.kilim_woven_fiber.specs.Legs.{ComesTo}

@@ -6,7 +6,7 @@ use Rattle.kilim_program.specs.declared.value.Object.{Object}
 use Rattle.kilim_program.specs.declared.value.Token.{Token}
 use Rattle.kilim_program.specs.Shapes.{shape_of}
 use Rattle.kilim_tree_move.specs.Moved.{PutIn, tree_heap}
-use Rattle.kilim_woven_kin.specs.Nexts.{counted, taken_at, with_result}
+use Rattle.kilim_weaving_laws.specs.woven_kin.Nexts.{counted, taken_at, with_result}
 use Rattle.kilim_woven_fiber.specs.Body.{behind_at, standing_at, RoomyIn}
 use Rattle.kilim_woven_fiber.specs.declared.body.Body.{Body}
 

@@ -9,7 +9,7 @@ use Rattle.kilim_program.specs.Members.{constructor_of}
 use Rattle.kilim_program.specs.Objects.{new_object}
 use Rattle.kilim_tree_move.specs.Moved.{PutIn}
 use Rattle.kilim_woven_runs.specs.Fibers.{executes_on, new_fiber}
-use Rattle.kilim_woven_kin.specs.Nexts.{begun_with}
+use Rattle.kilim_weaving_laws.specs.woven_kin.Nexts.{begun_with}
 use Rattle.kilim_woven_fiber.specs.Body.{calls_in, RoomyIn}
 use Rattle.kilim_woven_fiber.specs.declared.body.Body.{Body}
 

@@ -6,7 +6,7 @@ use Rattle.kilim_program.specs.Machine.{Activation}
 use Rattle.kilim_frames.specs.declared.frames.Frames.{Frames}
 use Rattle.kilim_frames.specs.Calls.{calls_of, answered}
 use Rattle.kilim_jvm_interp.specs.Step.{AreRoomy, stack_limit}
-use Rattle.kilim_woven_kin.specs.Standing.{Standing}
+use Rattle.kilim_weaving_laws.specs.woven_kin.Standing.{Standing}
 use Rattle.kilim_woven_fiber.specs.declared.body.Body.{Body}
 
 abbrev pub calls_in : Option Frames → List Activation

@@ -16,7 +16,7 @@ use Rattle.kilim_tree_move.specs.Room.{RoomFor}
 use Rattle.kilim_tree_move.specs.Walk.{AllThere}
 use Rattle.kilim_tree_move.specs.Moved.{Fits, CanLeave, IsTooLarge, TakenOut}
 use Rattle.kilim_tree_move.specs.Shaping.{Suits}
-use Rattle.kilim_woven_kin.specs.Nexts.{Next, Goes, Puts, Gets, Probes, Starts, Prints, Rests, Ends, counted, paused_at, taken_at}
+use Rattle.kilim_weaving_laws.specs.woven_kin.Nexts.{Next, Goes, Puts, Gets, Probes, Starts, Prints, Rests, Ends, counted, paused_at, taken_at}
 use Rattle.kilim_woven_fiber.specs.Body.{standing_at, behind_at, RoomIn}
 use Rattle.kilim_woven_fiber.specs.declared.body.Body.{Body}
 use Rattle.kilim_woven_fiber.specs.declared.body.Came.{Came}

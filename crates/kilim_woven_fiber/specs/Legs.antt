@@ -7,9 +7,9 @@ use Rattle.kilim_marked_runs.specs.declared.runs.Halted.TheVariants as halted
 use Rattle.kilim_program.specs.declared.cause.EndCause.TheVariants as cause
 use Rattle.kilim_program.specs.Natives.{native_of}
 use Rattle.kilim_thread_model.specs.State.{Setting}
-use Rattle.kilim_woven_kin.specs.Standing.{Standing}
-use Rattle.kilim_woven_kin.specs.Nexts.{Next, Ends, asks_next, finish_next, next_of, opens_next}
-use Rattle.kilim_woven_kin.specs.Alike.{HasFree}
+use Rattle.kilim_weaving_laws.specs.woven_kin.Standing.{Standing}
+use Rattle.kilim_weaving_laws.specs.woven_kin.Nexts.{Next, Ends, asks_next, finish_next, next_of, opens_next}
+use Rattle.kilim_weaving_laws.specs.woven_kin.Alike.{HasFree}
 use Rattle.kilim_woven_fiber.specs.Body.{behind_at, operands_in, standing_at, HasOperands, RoomIn}
 use Rattle.kilim_woven_fiber.specs.Comes.{CanAsk}
 use Rattle.kilim_woven_fiber.specs.Reach.{GoesTo, named}

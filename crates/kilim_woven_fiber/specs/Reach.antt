@@ -2,9 +2,9 @@
 use Rattle.std.specs.Prelude.{◌≡◌, ℕ, Bool, true, false, List}
 use Rattle.kilim_classes.specs.Program.{Program}
 use Rattle.kilim_thread_model.specs.State.{Setting}
-use Rattle.kilim_woven_kin.specs.Standing.{Standing}
-use Rattle.kilim_woven_kin.specs.Nexts.{Goes, next_of}
-use Rattle.kilim_woven_kin.specs.Alike.{HasFree}
+use Rattle.kilim_weaving_laws.specs.woven_kin.Standing.{Standing}
+use Rattle.kilim_weaving_laws.specs.woven_kin.Nexts.{Goes, next_of}
+use Rattle.kilim_weaving_laws.specs.woven_kin.Alike.{HasFree}
 use Rattle.kilim_woven_fiber.specs.Body.{standing_at}
 use Rattle.kilim_woven_fiber.specs.Comes.{Comes}
 use Rattle.kilim_woven_fiber.specs.Steps.{IsReadyAt}

@@ -17,8 +17,8 @@ use Rattle.kilim_thread_model.specs.State.{Setting}
 use Rattle.kilim_jvm_interp.specs.Run.{IsFine}
 use Rattle.kilim_jvm_interp.specs.Step.{stack_limit}
 use Rattle.kilim_woven_runs.specs.Fibers.{first_receiver}
-use Rattle.kilim_woven_kin.specs.Standing.{Standing}
-use Rattle.kilim_woven_kin.specs.Alike.{spends_at}
+use Rattle.kilim_weaving_laws.specs.woven_kin.Standing.{Standing}
+use Rattle.kilim_weaving_laws.specs.woven_kin.Alike.{spends_at}
 use Rattle.kilim_woven_fiber.specs.Comes.{CanGive, gives_result}
 use Rattle.kilim_woven_fiber.specs.declared.code.Code.{Code}
 

@@ -4,7 +4,7 @@ ghost use Rattle.std.specs.Prelude.{◌≡◌, ◌<◌, ◌+◌, ◌^◌, Some, 
 ghost use Rattle.std.specs.List.{AllByRecursion};
 ghost use Rattle.kilim_classes.specs.declared.value.Value.TheVariants as a_value;
 ghost use Rattle.kilim_tree_move.specs.Shaping.{Suits};
-ghost use Rattle.kilim_woven_kin.specs.Nexts.{counted, paused_at, taken_at, with_result};
+ghost use Rattle.kilim_weaving_laws.specs.woven_kin.Nexts.{counted, paused_at, taken_at, with_result};
 ghost use Rattle.kilim_woven_fiber.specs.Answers.{HasFound, HasTaken, Received};
 ghost use Rattle.kilim_woven_fiber.specs.Body.{behind_at, standing_at, HasFrames, RoomyIn, RoomIn};
 

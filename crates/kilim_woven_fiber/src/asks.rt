@@ -7,7 +7,7 @@ ghost use Rattle.kilim_program.specs.Natives.{native_of};
 ghost use Rattle.kilim_program.specs.Shapes.{shape_of};
 ghost use Rattle.kilim_thread_model.specs.State.{Setting};
 ghost use Rattle.kilim_thread_model.specs.Lone.{narrowed, arg_at, printed};
-ghost use Rattle.kilim_woven_kin.specs.Nexts.{Goes, counted, with_result, arg_next, print_next, put_next, message_next, start_next, native_next, asks_next, yield_next, spent_or, paused_at, taken_at, Gets};
+ghost use Rattle.kilim_weaving_laws.specs.woven_kin.Nexts.{Goes, counted, with_result, arg_next, print_next, put_next, message_next, start_next, native_next, asks_next, yield_next, spent_or, paused_at, taken_at, Gets};
 ghost use Rattle.kilim_woven_runs.specs.Fibers.{is_rewinding};
 ghost use Rattle.kilim_woven_fiber.specs.Body.{standing_at, behind_at, operands_in, RoomyIn, RoomIn, HasFrames, HasOperands};
 ghost use Rattle.kilim_woven_fiber.specs.Comes.{CanGive, IsGivenBy, CanAsk, Comes, HasRoomFor, IsNear};

@@ -3,7 +3,7 @@
 ghost use Rattle.std.specs.Prelude.{◌≡◌, ◌<◌, ◌+◌, ◌^◌, ℕ, None, Some, IfOk, IfSome, OnOk};
 ghost use Rattle.kilim_thread_model.specs.State.{Setting};
 ghost use Rattle.kilim_woven_runs.specs.Fibers.{executes_on, first_receiver};
-ghost use Rattle.kilim_woven_kin.specs.Nexts.{finish_next, opens_next, resumes_next, ticked};
+ghost use Rattle.kilim_weaving_laws.specs.woven_kin.Nexts.{finish_next, opens_next, resumes_next, ticked};
 ghost use Rattle.kilim_woven_fiber.specs.Body.{standing_at, behind_at, RoomyIn, RoomIn};
 ghost use Rattle.kilim_woven_fiber.specs.Comes.{Comes, HasRoomFor, IsNear};
 ghost use Rattle.kilim_woven_fiber.specs.Steps.{ReceiverThere};

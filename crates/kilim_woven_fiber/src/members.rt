@@ -3,7 +3,7 @@
 ghost use Rattle.std.specs.Prelude.{◌≡◌, ◌∷◌, [], true, Some, IfOk, OnOk};
 ghost use Rattle.kilim_classes.specs.declared.value.Value.TheVariants as a_value;
 ghost use Rattle.kilim_program.specs.Natives as native;
-ghost use Rattle.kilim_woven_kin.specs.Nexts.{member_next, with_result};
+ghost use Rattle.kilim_weaving_laws.specs.woven_kin.Nexts.{member_next, with_result};
 ghost use Rattle.kilim_woven_fiber.specs.Body.{behind_at, operands_in, standing_at, HasFrames, RoomyIn, RoomIn};
 ghost use Rattle.kilim_woven_fiber.specs.Comes.{Comes, gives_result};
 ghost use Rattle.kilim_woven_natives.specs.Natives.{member_meant};

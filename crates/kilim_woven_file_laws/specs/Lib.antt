@@ -5,3 +5,4 @@ pub mod Standing
 pub mod Laws
 pub mod form
 pub mod pool
+pub mod link_examples

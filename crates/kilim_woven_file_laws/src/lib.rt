@@ -2,6 +2,7 @@
 #![tactic(auto)]
 
 pub mod form;
+pub mod link_examples;
 pub mod pool;
 
 ghost use Rattle.kilim_woven_file_laws.specs.Descriptors.{DescriptorsApart};

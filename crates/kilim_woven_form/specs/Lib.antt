@@ -4,3 +4,6 @@ pub mod Form
 pub mod Samples
 pub mod Examples
 pub mod shape
+pub mod woven_program
+pub mod woven_programs
+pub mod woven_types

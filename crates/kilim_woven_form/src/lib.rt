@@ -5,6 +5,9 @@
 #![tactic(auto)]
 
 pub mod shape;
+pub mod woven_program;
+pub mod woven_programs;
+pub mod woven_types;
 
 ghost use Rattle.kilim_woven_form.specs.Examples.{ExamplesHold};
 

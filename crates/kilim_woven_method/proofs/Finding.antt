@@ -4,7 +4,7 @@ use Rattle.std.specs.Prelude.{◌==◌, if◌then◌else◌}
 use Rattle.kilim_woven_form.specs.Woven.{Does, Item, Label, Mark, Old, Plan, Resumes, behind}
 use Rattle.kilim_classes.specs.declared.instr.Instr.{Instr}
 use Rattle.kilim_classes.specs.declared.verified.Frame.{Frame}
-use Rattle.kilim_woven_program.specs.labels.Law.{found, same_label}
+use Rattle.kilim_woven_form.specs.woven_program.labels.Law.{found, same_label}
 use Rattle.kilim_woven_form.specs.shape.Law.{labels_from}
 use Rattle.kilim_woven_pieces.specs.Places.{Tables, or_else}
 use Rattle.kilim_woven_method.specs.Found.{AreFound, Finds, first_place_of, looked, or_first}

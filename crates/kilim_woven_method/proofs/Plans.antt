@@ -4,7 +4,7 @@ use Rattle.kilim_classes.specs.declared.class.Method.{Method}
 use Rattle.kilim_classes.specs.Program.{Program}
 use Rattle.kilim_woven_form.specs.Form.{plan_of}
 use Rattle.kilim_woven_form.specs.Woven.{Label, Old, Plan, Resumes, behind, woven_items}
-use Rattle.kilim_woven_program.specs.labels.Law.{found, found_plan}
+use Rattle.kilim_woven_form.specs.woven_program.labels.Law.{found, found_plan}
 use Rattle.kilim_woven_form.specs.shape.Law.{PlacesDontMatter, labels_from, placed}
 use Rattle.kilim_woven_pieces.specs.Places.{Tables, at_in, block_in, or_else}
 use Rattle.kilim_woven_method.specs.Found.{AreFound, first_place_of, looked}

@@ -11,7 +11,7 @@ use Rattle.kilim_classes.specs.Program.{Program}
 use Rattle.kilim_typing.specs.Step.{class_vtype}
 use Rattle.kilim_woven_form.specs.Woven.{Item, added_types, behind, fiber, fiber_slot, lay, marks, woven_items, woven_method}
 use Rattle.kilim_woven_method.specs.Laid.{IsLaid, Output}
-use Rattle.kilim_woven_program.specs.Made.{made_as, method_plan}
+use Rattle.kilim_woven_form.specs.woven_program.Made.{made_as, method_plan}
 use Rattle.kilim_woven_method.specs.declared.method.Slots.{Slots}
 use Rattle.kilim_woven_method.specs.Flags.{AreSlots}
 

@@ -3,7 +3,7 @@
 ghost use Rattle.std.specs.Prelude.{◌≡◌, ◌<◌, ◌∷◌, ◌+◌, ◌==◌, ℕ, List, [], Some, None, length, get_or, set, if◌then◌else◌, IfOk, OnOk};
 ghost use Rattle.kilim_woven_form.specs.Woven as form;
 ghost use Rattle.kilim_woven_pieces.specs.Items.{item_of, items_of, label_of, size_of};
-ghost use Rattle.kilim_woven_program.specs.labels.Law.{same_label};
+ghost use Rattle.kilim_woven_form.specs.woven_program.labels.Law.{same_label};
 ghost use Rattle.kilim_woven_method.specs.Found.{AreFound, Finds, looked, or_first};
 
 use crate::size::place_behind;

@@ -10,7 +10,7 @@ ghost use Rattle.kilim_woven_form.specs.shape.Law.{placed};
 ghost use Rattle.kilim_woven_pieces.specs.Items.{items_of};
 ghost use Rattle.kilim_woven_pieces.specs.Listed.{AreDeclared, Listed};
 ghost use Rattle.kilim_woven_pieces.specs.Places.{at_in, block_in};
-ghost use Rattle.kilim_woven_program.specs.Made.{made_as};
+ghost use Rattle.kilim_woven_form.specs.woven_program.Made.{made_as};
 ghost use Rattle.kilim_woven_method.specs.Flags.{AreSlots};
 
 use crate::copy::copy_types;

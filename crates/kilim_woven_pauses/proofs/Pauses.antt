@@ -25,14 +25,14 @@ use Rattle.kilim_typing_laws.specs.Laws.{Shows}
 use Rattle.kilim_typing_laws.proofs.Listed.{listed_frames_show}
 use Rattle.kilim_typing.specs.TypedProgram.{KeepsTyped, TypedProgram}
 use Rattle.kilim_woven_form.specs.Woven.{if_there, pausable_callee, taken}
-use Rattle.kilim_woven_types.specs.Facts.{CallsNone}
-use Rattle.kilim_woven_types.proofs.Codes.{whole_code}
+use Rattle.kilim_woven_form.specs.woven_types.Facts.{CallsNone}
+use Rattle.kilim_woven_form.proofs.woven_types.Codes.{whole_code}
 use Rattle.kilim_fits.proofs.ClassMethods.{IsAmong, among_left, among_right, owner_has}
 use Rattle.kilim_fits.proofs.FromKeeps.{all_at}
-use Rattle.kilim_woven_programs.proofs.classes.Listing.{take_front}
-use Rattle.kilim_woven_programs.specs.Law.{NoneAcross}
-use Rattle.kilim_woven_programs.proofs.Frames.{Agree, by_place, same_listed}
-use Rattle.kilim_woven_programs.proofs.Naming.{owner_there}
+use Rattle.kilim_woven_form.proofs.woven_programs.classes.Listing.{take_front}
+use Rattle.kilim_woven_form.specs.woven_programs.Law.{NoneAcross}
+use Rattle.kilim_woven_form.proofs.woven_programs.Frames.{Agree, by_place, same_listed}
+use Rattle.kilim_woven_form.proofs.woven_programs.Naming.{owner_there}
 use Rattle.kilim_woven_pauses.specs.Law.{PausesAreKept}
 
 -- ---- lists

@@ -11,3 +11,4 @@ pub mod Law
 pub mod examples
 pub mod lone
 pub mod alike
+pub mod fiber_kin

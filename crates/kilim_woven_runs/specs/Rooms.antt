@@ -21,7 +21,7 @@ use Rattle.kilim_thread_model.specs.Reach.{Below}
 use Rattle.kilim_kin.specs.trees.TreeKin.{IsWholeTree}
 use Rattle.kilim_tree_move.specs.Shaping.{IsShown, held}
 use Rattle.kilim_fits.specs.Fits.{AreThere, IsThere}
-use Rattle.kilim_fiber_kin.specs.Served.{gives_value}
+use Rattle.kilim_woven_runs.specs.fiber_kin.Served.{gives_value}
 use Rattle.kilim_woven_runs.specs.Thread.{Frame, At}
 use Rattle.kilim_woven_runs.specs.Acts.{World}
 use Rattle.kilim_woven_runs.specs.Fibers.{Fib, Woven_state, WRun, Resting, WStop, frame, first_receiver, is_rewinding, member_of}

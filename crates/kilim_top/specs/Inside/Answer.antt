@@ -14,7 +14,7 @@ use Rattle.kilim_thread_model.specs.State.{Setting}
 use Rattle.kilim_weaver.specs.declared.weaving.Woven.{Woven}
 use Rattle.kilim_whole_runs.specs.Runs.{IsJournalOf, setting_of}
 use Rattle.kilim_words.specs.Words.{Request}
-use Rattle.kilim_woven_follows.specs.Served.{CanServe}
+use Rattle.kilim_weaving_laws.specs.Served.{CanServe}
 use Rattle.kilim_woven_stage.specs.declared.stage.WovenProgram.{WovenProgram}
 use Rattle.kilim_written_files.specs.OutputFile.{OutputFile}
 use Rattle.kilim_top.specs.declared.answer.Ready.{Ready}

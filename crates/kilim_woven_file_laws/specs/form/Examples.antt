@@ -1,8 +1,8 @@
 -- Woven class files, computed: a task that prints, and one that yields again and again, which links to its woven program.
 use Rattle.std.specs.Prelude.{◌≡◌, [], ◌∷◌, None, codes}
 use Rattle.kilim_classes.specs.declared.class.Form.TheVariants.{Woven}
-use Rattle.kilim_link_examples.specs.Examples.{a_file, a_program}
-use Rattle.kilim_link_examples.specs.Programs.{woven_program}
+use Rattle.kilim_woven_file_laws.specs.link_examples.Examples.{a_file, a_program}
+use Rattle.kilim_woven_file_laws.specs.link_examples.Programs.{woven_program}
 use Rattle.kilim_link_spec.specs.Faults.{first_fault}
 use Rattle.kilim_link_spec.specs.Linked.{Linked}
 use Rattle.kilim_woven_file_laws.specs.form.Samples.{a_expected, a_pairs, loop_expected, loop_file, loop_pairs, loop_program}

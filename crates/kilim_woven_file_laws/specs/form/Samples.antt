@@ -10,8 +10,8 @@ use Rattle.kilim_classfile.specs.declared.class_file.ClassFile.{ClassFile}
 use Rattle.kilim_classfile.specs.declared.class_file.MemberInfo.{MemberInfo}
 use Rattle.kilim_constant_pool.specs.declared.entry.Entry.{Entry}
 use Rattle.kilim_constant_pool.specs.declared.entry.Entry.TheVariants as entry
-use Rattle.kilim_link_examples.specs.Examples.{a_class, a_file, a_pool, a_code, a_constructor, a_execute}
-use Rattle.kilim_link_examples.specs.Programs.{woven_execute}
+use Rattle.kilim_woven_file_laws.specs.link_examples.Examples.{a_class, a_file, a_pool, a_code, a_constructor, a_execute}
+use Rattle.kilim_woven_file_laws.specs.link_examples.Programs.{woven_execute}
 use Rattle.kilim_classes.specs.BuiltIn.{method_id, class_type, built_in_classes_in, built_in_methods_in}
 use Rattle.kilim_classes.specs.declared.class.Form.TheVariants.{Woven}
 use Rattle.kilim_classes.specs.declared.class.Method.{Method}

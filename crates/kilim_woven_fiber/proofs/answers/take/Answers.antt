@@ -1,7 +1,7 @@
 use Rattle.std.proofs.Common.{Some, ap, ◌∙◌}
 use Rattle.kilim_classes.specs.declared.value.Value.TheVariants.{Ref}
 use Rattle.kilim_woven_runs.specs.Fibers.{Fib}
-use Rattle.kilim_woven_kin.specs.Nexts.{counted, with_result}
+use Rattle.kilim_weaving_laws.specs.woven_kin.Nexts.{counted, with_result}
 use Rattle.kilim_woven_fiber.specs.Body.{behind_at}
 use Rattle.kilim_woven_fiber.proofs.answers.take.Goals as goal
 

@@ -5,7 +5,7 @@ use Rattle.kilim_program.specs.Natives as native
 use Rattle.kilim_program.specs.Shapes.{shape_of}
 use Rattle.kilim_program.specs.Trees.{OfTask}
 use Rattle.kilim_thread_model.specs.Kept.{given}
-use Rattle.kilim_woven_kin.specs.Nexts.{start_next}
+use Rattle.kilim_weaving_laws.specs.woven_kin.Nexts.{start_next}
 use Rattle.kilim_woven_fiber.specs.Body.{behind_at}
 use Rattle.kilim_woven_natives.specs.Natives.{meaning}
 use Rattle.kilim_woven_natives.specs.declared.natives.Native.{Native}

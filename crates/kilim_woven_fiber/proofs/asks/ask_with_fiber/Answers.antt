@@ -1,7 +1,7 @@
 use Rattle.std.proofs.Common.{◌∷◌, []}
 use Rattle.kilim_classes.specs.declared.value.Value.{Value}
 use Rattle.kilim_classes.specs.declared.value.Value.TheVariants.{Fiber}
-use Rattle.kilim_woven_kin.specs.Nexts.{native_next}
+use Rattle.kilim_weaving_laws.specs.woven_kin.Nexts.{native_next}
 use Rattle.std.proofs.Common.{sym, subst}
 use Rattle.kilim_woven_fiber.specs.Body.{behind_at}
 use Rattle.kilim_woven_fiber.specs.Comes.{Comes}

@@ -1,5 +1,5 @@
 use Rattle.std.proofs.Common.{ap, sym}
-use Rattle.kilim_woven_kin.specs.Nexts.{message_next}
+use Rattle.kilim_weaving_laws.specs.woven_kin.Nexts.{message_next}
 use Rattle.kilim_woven_fiber.specs.Body.{behind_at}
 use Rattle.kilim_woven_fiber.proofs.Asking.{come_by}
 use Rattle.kilim_woven_fiber.proofs.asks.put.Goals as goal

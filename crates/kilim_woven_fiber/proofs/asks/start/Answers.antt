@@ -1,5 +1,5 @@
 use Rattle.std.proofs.Common.{ap}
-use Rattle.kilim_woven_kin.specs.Nexts.{start_next}
+use Rattle.kilim_weaving_laws.specs.woven_kin.Nexts.{start_next}
 use Rattle.kilim_woven_fiber.specs.Body.{behind_at}
 use Rattle.kilim_woven_fiber.proofs.Asking.{given_is, too_large}
 use Rattle.kilim_woven_fiber.proofs.asks.start.Goals as goal

@@ -1,5 +1,5 @@
 use Rattle.std.proofs.Common.{ℕ, Option, sym, subst}
-use Rattle.kilim_woven_kin.specs.Nexts.{finish_next}
+use Rattle.kilim_weaving_laws.specs.woven_kin.Nexts.{finish_next}
 use Rattle.kilim_woven_fiber.specs.Body.{standing_at}
 use Rattle.kilim_woven_fiber.specs.Comes.{Comes}
 use Rattle.kilim_woven_fiber.proofs.body.leave.Goals as goal

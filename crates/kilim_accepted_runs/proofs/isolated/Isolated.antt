@@ -1,7 +1,0 @@
--- An accepted program's threads are kept, so none shares.
-use Rattle.kilim_one_heap.proofs.Isolation.{plays_isolated}
-use Rattle.kilim_standing_threads.proofs.kept.Serving.{accepted_is_kept}
-use Rattle.kilim_accepted_runs.specs.isolated.Laws.{AcceptedIsIsolated}
-
-pub accepted_is_isolated : AcceptedIsIsolated
-accepted_is_isolated set run live alive = plays_isolated live set run.main (accepted_is_kept set run live alive)

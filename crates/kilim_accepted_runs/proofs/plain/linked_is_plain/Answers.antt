@@ -1,5 +1,0 @@
-use Rattle.kilim_accepted_runs.proofs.plain.Plain as plain
-use Rattle.kilim_accepted_runs.proofs.plain.linked_is_plain.Goals as goal
-
-pub returns : goal.returns
-returns c = plain.linked_is_plain c.linked_in_parts.ensures c.each_is_named.ensures

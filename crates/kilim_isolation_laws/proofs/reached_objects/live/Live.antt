@@ -1,0 +1,161 @@
+-- A local that is live names nothing that was given away: a slot that does so names it until it is written, and the first
+-- instruction that reads it would break a rule.
+use Rattle.std.proofs.Common.{◌≡◌, ℕ, Bool, true, false, eqb, refl, ap, sym, ◌∙◌, subst, true≢false, List, Option, Some, None, Ok}
+use Rattle.std.specs.Prelude.{nat_lt}
+use Rattle.std.proofs.lemmas.Bool.{and_parts, eqb-true}
+use Rattle.kilim_classes.specs.declared.class.Method.{Method}
+use Rattle.kilim_classes.specs.declared.instr.Instr.{Instr}
+use Rattle.kilim_classes.specs.declared.instr.Instr.TheVariants.{Iload, Lload, Aload, Iinc}
+use Rattle.kilim_classes.specs.declared.names.MethodId.{MethodId}
+use Rattle.kilim_classes.specs.declared.verified.Frame.{Frame}
+use Rattle.kilim_classes.specs.declared.verified.VType.{VType}
+use Rattle.kilim_classes.specs.declared.verified.VType.TheVariants.{Top, Int, Long, Null, UninitThis, Uninit, Object}
+use Rattle.kilim_classes.specs.Lengths.{fetched, is_code_place}
+use Rattle.kilim_classes.specs.Program.{Program}
+use Rattle.kilim_typing.specs.Step.{Types, Operand, Is, Loads, Adds, by_row, is_top, meets, peek, row, type_step}
+use Rattle.kilim_typing.specs.Typed.{Among, GoesOn, Live, ReadsIt, declared, edges, entry, reads}
+use Rattle.kilim_typing_laws.proofs.Edges.{edges_flow, stands_at}
+use Rattle.kilim_typing_laws.proofs.Lives.{live_is_typed}
+use Rattle.kilim_typing_laws.proofs.Tops.{passed}
+use Rattle.kilim_paths.specs.Paths.{Reaches}
+use Rattle.kilim_paths.proofs.Accepted.{reaches_more}
+use Rattle.kilim_shape_graph.specs.declared.graph.Graph.{Graph}
+use Rattle.kilim_shape_graph.specs.Canonical.{canonical_at}
+use Rattle.kilim_shape_graph.specs.Entry.{entry_nodes}
+use Rattle.kilim_shape_graph.specs.Graphs.{node_of, slot}
+use Rattle.kilim_shape_graph.specs.Nodes.{is_gone}
+use Rattle.kilim_isolation_rules.specs.Marks.{names_gone}
+use Rattle.kilim_isolation_rules.specs.Rules.{any_flow_mixes, deed, left_by, moves}
+use Rattle.kilim_isolation_check.specs.Walks.{declared_to, machine_of, types_at}
+use Rattle.kilim_isolation_laws.specs.reached_objects.live.Laws.{IsAcceptedBy, IsThere, LiveIsThere, NamedIsNoNumber, is_number}
+use Rattle.kilim_isolation_laws.proofs.reached_objects.live.Along.{BreaksNone, among_exit, begins_with, clean, exit_at, judged_none, reached, some_exit, stepped}
+use Rattle.kilim_isolation_laws.proofs.reached_objects.live.Entry.{entry_named}
+use Rattle.kilim_isolation_laws.proofs.reached_objects.live.Gone.{deed_stays}
+use Rattle.kilim_isolation_laws.proofs.reached_objects.live.Locals.{named_no_number, slot_stays}
+use Rattle.kilim_isolation_laws.proofs.reached_objects.live.Nodes.{HasType, gone_at, named_at}
+use Rattle.kilim_isolation_laws.proofs.reached_objects.live.Places.{declared_is, entry_here, number_flows, number_here}
+
+not_both : (b : Bool) → (b ≡ true → ⊥) → b ≡ false
+not_both true no_true = absurd (no_true refl)
+not_both false no_true = refl
+
+module _ (p : Program) (id : MethodId) (m : Method) (typing : ℕ → Types) (fs : List Frame) (a : IsAcceptedBy p id m typing fs) where
+  -- an instruction at a graph that is reached, on the way to an exit: it breaks no rule, by the types over which the rules walk
+  pub record Passes (at : ℕ) (i : Instr) (g : Graph) (to : Option ℕ) : Type 0 where
+    pub moves_on : moves p m g (types_at m fs at) i (declared_to m to) ≡ Ok (deed p m g (types_at m fs at) i).graph
+    pub breaks_none : BreaksNone (deed p m g (types_at m fs at) i) (deed p m g (types_at m fs at) i).graph
+    pub comes : (q : ℕ) → to ≡ Some q → Reaches (machine_of p m fs a.goes.first) q (canonical_at (declared m q) (deed p m g (types_at m fs at) i).graph)
+
+  pub passes : (at next : ℕ) (i : Instr) (g : Graph) (to : Option ℕ) → Reaches (machine_of p m fs a.goes.first) at g → fetched m.code m.code_length at ≡ Some (i, next) → Rattle.kilim_paths.specs.Paths.Has (Rattle.kilim_isolation_check.specs.Walks.exits_to (edges i next)) to → Passes at i g to
+  unfolding moves
+  passes at next i g to r is exit =
+      let goes = a.goes.goes at g to r (exit_at m at next i to is exit) in
+      let s = stepped p m fs at next i g to goes.0 is goes.1 in
+      let b = judged_none (deed p m g (types_at m fs at) i) (any_flow_mixes p (left_by p m i (types_at m fs at)) (declared_to m to)) s.0 s.1 in
+      record {
+        moves_on = s.1 ∙ ap (λ (z : Graph). Ok z) (sym b.graph);
+        breaks_none = record { free = b.free; there = b.there; graph = refl };
+        comes = λ q e. subst (λ (z : Graph). Reaches (machine_of p m fs a.goes.first) q z) (sym (ap (canonical_at (declared m q)) b.graph ∙ (ap (λ (o : Option ℕ). canonical_at (declared_to m o) s.0) (sym e) ∙ s.2)))
+            (reaches_more (machine_of p m fs a.goes.first) at g q goes.0 r (subst (λ (o : Option ℕ). Rattle.kilim_paths.specs.Paths.Has (Rattle.kilim_isolation_check.specs.Walks.exits_at m at) o) e (exit_at m at next i to is exit))
+            (subst (λ (o : Option ℕ). Rattle.kilim_isolation_check.specs.Walks.step p m fs at g o ≡ Ok goes.0) e goes.1));
+      }
+
+  -- ---- names and numbers
+
+  abbrev AreNamed : ℕ → Graph → Type 0
+  AreNamed at g = (k n : ℕ) → slot g.locals k ≡ Some n → is_number (peek (typing at).locals k) ≡ false
+
+  first_named : AreNamed 0 a.goes.first
+  first_named k n e =
+      let b = named_at (declared m 0) (entry_nodes p m) k n (ap (λ (z : Graph). slot z.locals k) (begins_with p m fs a.goes.first a.goes.begins) ∙ e) in
+      not_both (is_number (peek (typing 0).locals k)) (λ t.
+      true≢false (sym (number_here p (entry m) (typing 0) (declared m 0) k (entry_here p a.keeps id m typing a.is a.coded a.well) t) ∙ entry_named p m k b.0 b.1))
+
+  next_named : (at next q : ℕ) (i : Instr) (g g1 : Graph) → fetched m.code m.code_length at ≡ Some (i, next) → Among (edges i next) q → moves p m g (types_at m fs at) i (declared m q) ≡ Ok g1 → AreNamed at g → AreNamed q (canonical_at (declared m q) g1)
+  unfolding moves
+  next_named at next q i g g1 is among goes here k n e =
+      let d = judged_none (deed p m g (types_at m fs at) i) (any_flow_mixes p (left_by p m i (types_at m fs at)) (declared m q)) g1 goes in
+      let b = named_at (declared m q) g1 k n e in
+      let flow = edges_flow p a.keeps m typing a.well at next q i is among in
+      let left = named_no_number p m at i g (types_at m fs at) (typing at) flow.left flow.step here k b.0 (ap (λ (z : Graph). slot z.locals k) d.graph ∙ b.1) in
+      not_both (is_number (peek (typing q).locals k)) (λ t. true≢false (sym (number_flows p (peek flow.left.locals k) (peek (typing q).locals k) (flow.flows.locals k) t) ∙ left))
+
+  pub named : (at : ℕ) (g : Graph) → Reaches (machine_of p m fs a.goes.first) at g → AreNamed at g
+  named at g r = reached p m fs a.goes.first AreNamed next_named first_named at g r
+
+  -- ---- live locals
+
+  Lives : ℕ → Graph → Type 0
+  Lives k g = (n : ℕ) → slot g.locals k ≡ Some n → is_gone (node_of g n).standing ≡ false
+
+  an_int : (t : VType) → meets p (Is Int) t ≡ true → is_number t ≡ true
+  unfolding meets
+  an_int Int e = refl
+  an_int Top e = absurd (true≢false (sym e))
+  an_int Long e = absurd (true≢false (sym e))
+  an_int Null e = absurd (true≢false (sym e))
+  an_int UninitThis e = absurd (true≢false (sym e))
+  an_int (Uninit at) e = absurd (true≢false (sym e))
+  an_int (Object ty) e = absurd (true≢false (sym e))
+
+  a_long : (t : VType) → meets p (Is Long) t ≡ true → is_number t ≡ true
+  unfolding meets
+  a_long Long e = refl
+  a_long Top e = absurd (true≢false (sym e))
+  a_long Int e = absurd (true≢false (sym e))
+  a_long Null e = absurd (true≢false (sym e))
+  a_long UninitThis e = absurd (true≢false (sym e))
+  a_long (Uninit at) e = absurd (true≢false (sym e))
+  a_long (Object ty) e = absurd (true≢false (sym e))
+
+  number_loaded : (at j k : ℕ) (o : Operand) (left : Types) → ((t : VType) → meets p o t ≡ true → is_number t ≡ true) → by_row p m at (Loads o j) (typing at) ≡ Ok left → eqb j k ≡ true → is_number (peek (typing at).locals k) ≡ true
+  number_loaded at j k o left firm e same =
+      let one = passed 4 _ _ left e in
+      let two = passed 6 _ _ left one.1 in
+      subst (λ (z : ℕ). is_number (peek (typing at).locals z) ≡ true) (eqb-true j k same) (firm (peek (typing at).locals j) (and_parts (nat_lt j m.max_locals) (meets p o (peek (typing at).locals j)) two.0).1)
+
+  number_added : (at j k : ℕ) (left : Types) → by_row p m at (Adds j) (typing at) ≡ Ok left → eqb j k ≡ true → is_number (peek (typing at).locals k) ≡ true
+  number_added at j k left e same =
+      let one = passed 6 _ _ left e in
+      subst (λ (z : ℕ). is_number (peek (typing at).locals z) ≡ true) (eqb-true j k same) (an_int (peek (typing at).locals j) (and_parts (nat_lt j m.max_locals) (meets p (Is Int) (peek (typing at).locals j)) one.0).1)
+
+  -- what an instruction reads names nothing that is gone
+  read_lives : (at k : ℕ) (i : Instr) (g : Graph) (seen left : Types) → reads i k ≡ true → type_step p m at i (typing at) ≡ Ok left → (deed p m g seen i).gone ≡ false → AreNamed at g → Lives k g
+  unfolding Lives deed row
+  read_lives at k (Aload j) g seen left r t there are n e = ap (names_gone g) (sym e) ∙ subst (λ (z : ℕ). names_gone g (slot g.locals z) ≡ false) (eqb-true j k r) there
+  read_lives at k (Iload j) g seen left r t there are n e = absurd (true≢false (sym (number_loaded at j k (Is Int) left an_int t r) ∙ are k n e))
+  read_lives at k (Lload j) g seen left r t there are n e = absurd (true≢false (sym (number_loaded at j k (Is Long) left a_long t r) ∙ are k n e))
+  read_lives at k (Iinc j by) g seen left r t there are n e = absurd (true≢false (sym (number_added at j k left t r) ∙ are k n e))
+  read_lives at k i g seen left r t there are n e = absurd (true≢false (sym r))
+
+  has_type : (q k : ℕ) (o : Option Types) → is_code_place m.code q ≡ true → declared m q ≡ o → is_top (peek (typing q).locals k) ≡ false → HasType o k
+  has_type q k None place is typed = tt
+  has_type q k (Some d) place is typed = ap (λ (z : Types). is_top (peek z.locals k)) (sym (declared_is p m typing a.well q d place is)) ∙ typed
+
+  live_lives : (k at : ℕ) → Live m k at → (g : Graph) → Reaches (machine_of p m fs a.goes.first) at g → Lives k g
+  unfolding Lives
+  live_lives k at (ReadsIt x next i is read) g r n e =
+      let s = stands_at p a.keeps m typing a.well x i next is in
+      let exit = some_exit (edges i next) in
+      let w = passes x next i g exit.0 r is exit.1 in
+      read_lives x k i g (types_at m fs x) s.after read s.step w.breaks_none.there (named x g r) n e
+  live_lives k at (GoesOn x next q i is unwritten among live) g r n e =
+      let clean_here = clean p m fs a.goes.first a.goes.begins x g r in
+      let w = passes x next i g (Some q) r is (among_exit (edges i next) q among) in
+      let behind = live_lives k q live (canonical_at (declared m q) (deed p m g (types_at m fs x) i).graph) (w.comes q refl) in
+      let flow = edges_flow p a.keeps m typing a.well x next q i is among in
+      let typed = has_type q k (declared m q) flow.place refl (live_is_typed p a.keeps m typing a.well k q live) in
+      let kept = deed_stays p m g (types_at m fs x) i clean_here.held w.breaks_none.free in
+      not_both (is_gone (node_of g n).standing) (λ gone.
+      let later = gone_at (declared m q) (deed p m g (types_at m fs x) i).graph k n typed (slot_stays p m g (types_at m fs x) i k unwritten ∙ e) (kept.gone n (clean_here.within k n e) gone) in
+      true≢false (sym later.2 ∙ behind later.0 later.1))
+
+  pub live_there : (k at : ℕ) → Live m k at → (g : Graph) → Reaches (machine_of p m fs a.goes.first) at g → IsThere typing k at g
+  unfolding Lives
+  live_there k at live g r = record { typed = live_is_typed p a.keeps m typing a.well k at live; lives = live_lives k at live g r }
+
+pub live_is_there : LiveIsThere
+live_is_there p id m typing fs a k at live g r = live_there p id m typing fs a k at live g r
+
+pub named_is_no_number : NamedIsNoNumber
+named_is_no_number p id m typing fs a at g r k n e = named p id m typing fs a at g r k n e

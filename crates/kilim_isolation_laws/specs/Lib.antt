@@ -1,0 +1,14 @@
+pub mod Standing
+pub mod Laws
+pub mod heaps
+pub mod kept
+pub mod names
+pub mod states
+pub mod accepted_runs
+pub mod at_rest
+pub mod forest
+pub mod graph_rows
+pub mod reached_objects
+pub mod sorts
+pub mod tree_types
+pub mod typed_threads

@@ -1,0 +1,87 @@
+-- What an instruction of an accepted method has to leave.
+use Rattle.std.specs.Prelude.{◌≡◌, ℕ, false, List, [], ◌∷◌, ◌++◌, Option, Some, None, drop, length, map}
+use Rattle.std.specs.FinMap.{get, insert}
+use Rattle.std.specs.List.{list_any}
+use Rattle.kilim_classes.specs.declared.ty.Kind.TheVariants as kind
+use Rattle.kilim_classes.specs.declared.class.Method.{Method}
+use Rattle.kilim_classes.specs.declared.names.BoxName.{BoxName}
+use Rattle.kilim_classes.specs.declared.names.MethodId.{MethodId}
+use Rattle.kilim_classes.specs.declared.ty.Ty.{Ty}
+use Rattle.kilim_classes.specs.declared.value.Value.{Value}
+use Rattle.kilim_classes.specs.declared.value.Value.TheVariants.{Ref, Box}
+use Rattle.kilim_classes.specs.Program.{Program}
+use Rattle.kilim_program.specs.Machine.{Objects}
+use Rattle.kilim_classes.specs.Names.{method_at}
+use Rattle.kilim_program.specs.Effect.{Effect, Goes, Makes, Opens, Calls, Asks, Returns, Raises, Ends, Stuck}
+use Rattle.kilim_typing.specs.Step.{Types, result_types}
+use Rattle.kilim_typing.specs.Typed.{entry, Among}
+use Rattle.kilim_isolation_laws.specs.forest.Relation.{Frames, Named, Names, Node, Root, is_gone}
+use Rattle.kilim_classes.specs.Kinds.{kind_of}
+use Rattle.kilim_shape_graph.specs.declared.graph.Graph.{Graph}
+use Rattle.kilim_isolation_rules.specs.Calls.{after_call, given_result, is_not_free, quality_in}
+use Rattle.kilim_isolation_rules.specs.declared.deed.Passed.{Passed}
+use Rattle.kilim_shape_graph.specs.declared.entry.Parameter.{Parameter}
+use Rattle.kilim_shape_graph.specs.Graphs.{node_of, popped}
+use Rattle.kilim_shape_graph.specs.Entry.{entry_nodes, parameters_of, quality}
+use Rattle.kilim_isolation_laws.specs.graph_rows.Holds.{AreSlots, Holds, IsPlace, Stands, WaitFits, Waiting, trees, waiting_named, named_by, SlotFits, type_sort, refers, Fits}
+
+-- the frame holds, whatever its nodes stand for
+abbrev pub Left : Program → Method → Types → Graph → Objects → List Value → List Value → List Waiting → Type 0
+Left p m f g h locals stack below = (at : ℕ → Option ℕ) × Holds p m f g at h locals stack below
+
+-- What is true once the caller's arguments are off its stack, and the method that runs has begun.
+pub record CallHolds (p : Program) (m : Method) (f : Types) (g : Graph) (h : Objects) (id : MethodId) (args locals stack : List Value) (below : List Waiting) : Type 0 where
+  pub callee : Method
+  pub is : method_at p id ≡ Some callee
+  pub caller : Waiting
+  pub method : caller.method ≡ m
+  pub locals_are : caller.locals ≡ locals
+  pub stack_is : caller.stack ≡ stack
+  pub types : f ≡ record caller.types { stack = result_types callee.result ++ caller.types.stack }
+  pub graph : g ≡ given_result p callee.result caller.graph
+  pub at : ℕ → Option ℕ
+  pub entered : Holds p callee (entry callee) (entry_nodes p callee) at h (Rattle.kilim_program.specs.Moves.entered p id args).locals [] (caller ∷ below)
+
+-- a value that is returned: a tree is the root of a whole one, or null
+abbrev pub ReturnHolds : Program → Method → Graph → (ℕ → Option ℕ) → Objects → Option Ty → Option Value → Type 0
+ReturnHolds p m g at h None None = Unit {0}
+ReturnHolds p m g at h None (Some v) = ⊥
+ReturnHolds p m g at h (Some ty) None = ⊥
+ReturnHolds p m g at h (Some ty) (Some v) = Fits p h (type_sort p ty) v × (kind_of p ty ≡ kind.Tree → (o : ℕ) → refers v ≡ Some o → (n : ℕ) × Names (named_by g at) n o × ((node_of g n).standing ≡ Root))
+
+-- arguments with their values, and the parameters of the method that runs; none of them is gone
+abbrev pub ArgsFit : Program → Objects → Named → ℕ → List Passed → List Value → List Parameter → Type 0
+ArgsFit p h u count [] [] [] = Unit {0}
+ArgsFit p h u count (a ∷ args) (v ∷ vs) (q ∷ qs) = SlotFits p h u count (type_sort p q.ty) a.name v × ((n : ℕ) → a.name ≡ Some n → is_gone (u.node n).standing ≡ false) × (quality p q.ty q.qualifier ≡ quality_in p a) × ArgsFit p h u count args vs qs
+ArgsFit p h u count args vs qs = ⊥
+
+-- A built-in method was asked, with these arguments: the caller before the call, and with its graph right after the arguments. What
+-- the method gives comes on top of the stack; a tree that it is given leaves the heap.
+pub record NativeHolds (p : Program) (m : Method) (f : Types) (g : Graph) (h : Objects) (id : MethodId) (args locals stack : List Value) (below : List Waiting) : Type 0 where
+  pub callee : Method
+  pub is : method_at p id ≡ Some callee
+  pub types : Types
+  pub graph : Graph
+  pub at : ℕ → Option ℕ
+  pub values : List Value
+  pub stands : Stands p m types graph at h locals values below
+  pub passed : List Passed
+  pub fits : ArgsFit p h (named_by graph at) (length graph.nodes) passed args (parameters_of callee)
+  pub not_free : list_any (is_not_free p graph) passed ≡ false
+  pub takes : ℕ
+  pub rest : AreSlots p m h (named_by graph at) (length graph.nodes) (drop takes types.stack) (drop takes graph.stack) stack
+  pub after : f ≡ record types { stack = result_types callee.result ++ drop takes types.stack }
+  pub left : g ≡ given_result p callee.result (popped takes (after_call p passed graph))
+  pub waits : WaitFits p h (record { method = m; types = record types { stack = drop takes types.stack }; graph = popped takes (after_call p passed graph); at = at; locals = locals; stack = stack })
+  pub frames : Frames IsPlace (trees p h) (named_by (after_call p passed graph) at ∷ map waiting_named below)
+
+abbrev pub EffectHolds : Program → Method → List ℕ → Types → Graph → (ℕ → Option ℕ) → List Waiting → Objects → List Node → Effect → Type 0
+EffectHolds p m next f g at below h0 nodes (Goes place locals stack h) = Among next place × Left p m f g h locals stack below
+EffectHolds p m next f g at below h0 nodes (Makes object place locals stack h) = Among next place × ((n : ℕ) → get h n ≡ None → Left p m f g (insert h n object) locals (Ref n ∷ stack) below)
+EffectHolds p m next f g at below h0 nodes (Opens place locals stack h) = Among next place × ((box : BoxName) → Left p m f g h locals (Box box ∷ stack) below)
+EffectHolds p m next f g at below h0 nodes (Calls id args place locals stack h) = Among next place × CallHolds p m f g h id args locals stack below
+EffectHolds p m next f g at below h0 nodes (Asks id args place locals stack h) = Among next place × NativeHolds p m f g h id args locals stack below
+EffectHolds p m next f g at below h0 nodes (Returns value h) = ReturnHolds p m g at h m.result value × (h ≡ h0) × (g.nodes ≡ nodes)
+EffectHolds p m next f g at below h0 nodes (Raises cause) = Unit {0}
+EffectHolds p m next f g at below h0 nodes (Ends cause) = Unit {0}
+EffectHolds p m next f g at below h0 nodes Stuck = Unit {0}

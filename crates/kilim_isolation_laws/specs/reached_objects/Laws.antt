@@ -1,0 +1,47 @@
+-- What a thread of accepted code reaches is in its heap.
+use Rattle.std.specs.Prelude.{◌≡◌, ◌⊎◌, ℕ, true, List, ◌∷◌, Option, Some}
+use Rattle.std.specs.FinMap.{get}
+use Rattle.kilim_classes.specs.declared.class.Method.{Method}
+use Rattle.kilim_classes.specs.declared.names.MethodId.{MethodId}
+use Rattle.kilim_classes.specs.Keeps.{Keeps}
+use Rattle.kilim_classes.specs.Names.{method_at}
+use Rattle.kilim_classes.specs.Program.{Program}
+use Rattle.kilim_program.specs.declared.value.Object.{Object}
+use Rattle.kilim_program.specs.Machine.{Activation, Objects}
+use Rattle.kilim_thread_model.specs.Reach.{Below, FramesName, Liveness, MaybeNames}
+use Rattle.kilim_typing.specs.Typed.{IsWellTyped, Live, listed_frames}
+use Rattle.kilim_typing_laws.specs.Laws.{typing_at}
+use Rattle.kilim_typing.specs.TypedProgram.{TypedProgram}
+use Rattle.kilim_pausable_graph.specs.Pausing.{frames_at}
+use Rattle.kilim_isolation_check.specs.Faults.{IsAccepted}
+use Rattle.kilim_fits.specs.Fits.{AreThere, Classes, Fits, Verified, Wanted}
+use Rattle.kilim_isolation_laws.specs.reached_objects.graphs.Threads.{FramesFit}
+
+-- the program with the frames that verification lists
+abbrev pub typed : Program → TypedProgram
+typed p = record { program = p; frames = listed_frames p }
+
+-- what the table takes for live is
+abbrev pub AreLive : Program → Liveness → Type 0
+AreLive p live = (id : MethodId) (m : Method) (at k : ℕ) → method_at p id ≡ Some m → live id at k ≡ true → Live m k at
+
+-- an accepted program, and which locals its verification wants
+pub record IsChecked (p : Program) (wanted : Wanted) : Type 0 where
+  pub keeps : Keeps p
+  pub well : IsWellTyped p
+  pub accepted : IsAccepted (typed p)
+  pub verified : Verified p (typing_at p) wanted
+
+-- A thread's frames stand with their graphs, and fit the frames of verification.
+pub record FitsBoth (p : Program) (wanted : Wanted) (of : Classes) (kept : Option ℕ) (frames : List Activation) (h : Objects) : Type 0 where
+  pub graphs : FramesFit p (typing_at p) (λ id. frames_at (typed p) id) kept h frames
+  pub types : Fits p (typing_at p) wanted of frames h
+
+-- What is at or below an object that an item of the stack or a live local of a frame names, or that is kept.
+abbrev pub ReachedAreThere : Type 0
+ReachedAreThere = (p : Program) (wanted : Wanted) (live : Liveness) (of : Classes) (kept : Option ℕ) (frames : List Activation) (h : Objects) → IsChecked p wanted → AreLive p live → FitsBoth p wanted of kept frames h →
+    (n x : ℕ) → FramesName live frames n ⊎ MaybeNames kept n → Below h n x → (o : Object) × (get h x ≡ Some o)
+
+-- what the top frame's stack names
+abbrev pub TopStacksAreThere : Type 0
+TopStacksAreThere = (p : Program) (wanted : Wanted) (of : Classes) (kept : Option ℕ) (top : Activation) (frames : List Activation) (h : Objects) → IsChecked p wanted → FitsBoth p wanted of kept (top ∷ frames) h → AreThere h top.stack

@@ -1,0 +1,208 @@
+-- A thread's frames in accepted code: each stands with a graph that reaches its place, and each lower one waits for the result of a
+-- call, with the graph right after the call.
+use Rattle.std.specs.Prelude.{◌≡◌, ◌⊎◌, ℕ, true, false, List, [], ◌∷◌, ◌++◌, Option, Some, None, Ok}
+use Rattle.std.specs.FinMap.{get, insert}
+use Rattle.kilim_classes.specs.declared.class.Method.{Method}
+use Rattle.kilim_classes.specs.declared.instr.Instr.{Instr}
+use Rattle.kilim_classes.specs.declared.names.BoxName.{BoxName}
+use Rattle.kilim_classes.specs.declared.names.MethodId.{MethodId}
+use Rattle.kilim_classes.specs.declared.ty.Kind.TheVariants as kind
+use Rattle.kilim_classes.specs.declared.ty.Qualifier.TheVariants as qualifier
+use Rattle.kilim_classes.specs.declared.ty.Ty.{Ty}
+use Rattle.kilim_classes.specs.declared.value.Value.{Value}
+use Rattle.kilim_classes.specs.declared.value.Value.TheVariants.{Box, Ref}
+use Rattle.kilim_classes.specs.declared.verified.Frame.{Frame}
+use Rattle.kilim_classes.specs.Program.{Program}
+use Rattle.kilim_classes.specs.BuiltIn.{built_in_constructor, class_id, class_type}
+use Rattle.kilim_classes.specs.Kinds.{kind_of}
+use Rattle.kilim_classes.specs.Lengths.{fetched}
+use Rattle.kilim_classes.specs.Names.{method_at}
+use Rattle.kilim_program.specs.Machine.{Activation, Objects}
+use Rattle.kilim_program.specs.Moves.{Move, entered, moves, push_value}
+use Rattle.kilim_program.specs.Moves as move
+use Rattle.kilim_typing.specs.Step.{Types, result_types, type_step}
+use Rattle.kilim_typing.specs.Typed.{Among, FlowsInto, declared, edges, entry, has_code, no_types}
+use Rattle.kilim_isolation_laws.specs.forest.Heap.{IsForest}
+use Rattle.kilim_isolation_laws.specs.forest.Relation.{Safe}
+use Rattle.kilim_paths.specs.Paths.{Has, Reaches}
+use Rattle.kilim_shape_graph.specs.declared.entry.Parameter.{Parameter}
+use Rattle.kilim_shape_graph.specs.declared.graph.Graph.{Graph}
+use Rattle.kilim_shape_graph.specs.Canonical.{canonical_at}
+use Rattle.kilim_shape_graph.specs.Entry.{parameters_of, quality}
+use Rattle.kilim_isolation_rules.specs.Calls.{given_result, is_owned}
+use Rattle.kilim_isolation_rules.specs.Marks.{flow_mixes, stack_lives}
+use Rattle.kilim_isolation_rules.specs.Rules as rules
+use Rattle.kilim_isolation_rules.specs.Rules.{deed}
+use Rattle.kilim_isolation_check.specs.Walks.{declared_to, entry_graph, exits_to, machine_of}
+use Rattle.kilim_isolation_laws.specs.graph_rows.Holds.{Fits, HeapFits, IsOf, Stands, Tree, Trees, Waiting, object_sort, refers, trees, type_sort}
+use Rattle.kilim_isolation_laws.specs.graph_rows.Facts.{IsGivenAway, IsTaken, IsVerified, ProgramKeeps}
+
+-- the verified frames of each method, by place, and the frames over which the rules walk, in code order
+abbrev pub Typings : Type 0
+Typings = MethodId → ℕ → Types
+
+abbrev pub Listed : Type 0
+Listed = MethodId → List Frame
+
+-- ---- what verification and the rules give
+
+-- the frame at a place is the one that flows there, or the one that is declared there
+abbrev pub Becomes : Program → Types → Option Types → Types → Type 0
+Becomes p flow None f = f ≡ flow
+Becomes p flow (Some d) f = (f ≡ d) × FlowsInto p flow d
+
+pub record TypesFlow (p : Program) (m : Method) (typing : ℕ → Types) : Type 0 where
+  pub begins : Becomes p (entry m) (declared m 0) (typing 0)
+  pub goes : (at to : ℕ) (i : Instr) → fetched m.code m.code_length at ≡ Some (i, to) →
+      (flow : Types) × (type_step p m at i (typing at) ≡ Ok flow) × ((next : ℕ) → Among (edges i to) next → Becomes p flow (declared m next) (typing next))
+
+-- a graph that reaches a place passes the instruction there, on the way to an exit
+pub record Passes (p : Program) (m : Method) (typing : ℕ → Types) (fs : List Frame) (first : Graph) (at : ℕ) (g : Graph) (i : Instr) (to : Option ℕ) : Type 0 where
+  pub passed : rules.moves p m g (typing at) i (declared_to m to) ≡ Ok (deed p m g (typing at) i).graph
+  pub arrives : (q : ℕ) → to ≡ Some q → Reaches (machine_of p m fs first) q (canonical_at (declared m q) (deed p m g (typing at) i).graph)
+
+pub record MethodKeeps (p : Program) (m : Method) (typing : ℕ → Types) (fs : List Frame) : Type 0 where
+  pub flow : TypesFlow p m typing
+  pub begins : (first : Graph) × (entry_graph p m ≡ Ok first)
+  pub passes : (first : Graph) → entry_graph p m ≡ Ok first → (at : ℕ) (g : Graph) → Reaches (machine_of p m fs first) at g → (i : Instr) (next : ℕ) → fetched m.code m.code_length at ≡ Some (i, next) →
+      (to : Option ℕ) → Has (exits_to (edges i next)) to → Passes p m typing fs first at g i to
+
+-- what is true of the program and of each method with code
+pub record IsSound (p : Program) (typings : Typings) (listed : Listed) : Type 0 where
+  pub keeps : ProgramKeeps p
+  pub methods : (id : MethodId) (m : Method) → method_at p id ≡ Some m → has_code m ≡ true → MethodKeeps p m (typings id) (listed id)
+
+-- ---- the frames
+
+-- the top frame
+pub record TopFits (p : Program) (typings : Typings) (listed : Listed) (h : Objects) (a : Activation) (below : List Waiting) (result : Option Ty) : Type 0 where
+  pub method : Method
+  pub is : method_at p a.method ≡ Some method
+  pub coded : has_code method ≡ true
+  pub gives : method.result ≡ result
+  pub first : Graph
+  pub begins : entry_graph p method ≡ Ok first
+  pub graph : Graph
+  pub reaches : Reaches (machine_of p method (listed a.method) first) a.place graph
+  pub at : ℕ → Option ℕ
+  pub stands : Stands p method (typings a.method a.place) graph at h a.locals a.stack below
+
+-- A frame that waits for a result of that type: once it is there, the graph is one that reaches its place.
+pub record Waits (p : Program) (typings : Typings) (listed : Listed) (a : Activation) (w : Waiting) (gets gives : Option Ty) : Type 0 where
+  pub is : method_at p a.method ≡ Some w.method
+  pub coded : has_code w.method ≡ true
+  pub result : w.method.result ≡ gives
+  pub locals : w.locals ≡ a.locals
+  pub stack : w.stack ≡ a.stack
+  pub first : Graph
+  pub begins : entry_graph p w.method ≡ Ok first
+  pub reaches : Reaches (machine_of p w.method (listed a.method) first) a.place (canonical_at (declared w.method a.place) (given_result p gets w.graph))
+  pub types : Becomes p (record w.types { stack = result_types gets ++ w.types.stack }) (declared w.method a.place) (typings a.method a.place)
+  pub flow : (d : Types) → declared w.method a.place ≡ Some d → flow_mixes p (record w.types { stack = result_types gets ++ w.types.stack }) d ≡ false
+  pub live : stack_lives (given_result p gets w.graph) ≡ true
+
+-- The object that task 0 keeps stands below all frames: one safe node, which nothing changes.
+abbrev pub keeper : ℕ → Waiting
+keeper o = record {
+  method = built_in_constructor (class_id 0);
+  types = no_types;
+  graph = record { locals = []; stack = []; nodes = record { region = 0; standing = Safe; head = false; parent = None } ∷ [] };
+  at = λ n. Some o;
+  locals = [];
+  stack = [];
+}
+
+abbrev pub keepers : Option ℕ → List Waiting
+keepers None = []
+keepers (Some o) = keeper o ∷ []
+
+abbrev pub AllWaitFor : Program → Typings → Listed → Option ℕ → List Activation → List Waiting → Option Ty → Type 0
+AllWaitFor p typings listed kept [] ws gets = ws ≡ keepers kept
+AllWaitFor p typings listed kept (a ∷ rest) [] gets = ⊥
+AllWaitFor p typings listed kept (a ∷ rest) (w ∷ ws) gets = (gives : Option Ty) × Waits p typings listed a w gets gives × AllWaitFor p typings listed kept rest ws gives
+
+pub record ThreadFits (p : Program) (typings : Typings) (listed : Listed) (kept : Option ℕ) (h : Objects) (top : Activation) (frames : List Activation) : Type 0 where
+  pub below : List Waiting
+  pub result : Option Ty
+  pub top_fits : TopFits p typings listed h top below result
+  pub waits : AllWaitFor p typings listed kept frames below result
+
+-- no frame is left: the heap, and the object that is kept
+pub record EndFits (p : Program) (kept : Option ℕ) (h : Objects) : Type 0 where
+  pub heap : HeapFits p h
+  pub forest : IsForest (trees p h)
+  pub there : (o : ℕ) → kept ≡ Some o → (trees p h).has o ≡ true
+
+abbrev pub FramesFit : Program → Typings → Listed → Option ℕ → Objects → List Activation → Type 0
+FramesFit p typings listed kept h [] = EndFits p kept h
+FramesFit p typings listed kept h (top ∷ frames) = ThreadFits p typings listed kept h top frames
+
+-- ---- a built-in method that is asked
+
+-- none of these is handed on
+abbrev pub NoneOwned : Program → List Parameter → Type 0
+NoneOwned p [] = Unit {0}
+NoneOwned p (q ∷ qs) = (is_owned (quality p q.ty q.qualifier) ≡ false) × NoneOwned p qs
+
+-- the tree of that object is given away, and no other argument is handed on
+abbrev pub Gives : Program → List Parameter → List Value → ℕ → Type 0
+Gives p (q ∷ qs) (v ∷ vs) o = ((quality p q.ty q.qualifier ≡ Some qualifier.Free) × (refers v ≡ Some o) × NoneOwned p qs) ⊎ ((is_owned (quality p q.ty q.qualifier) ≡ false) × Gives p qs vs o)
+Gives p qs vs o = ⊥
+
+-- What comes of a built-in method: it gives nothing, a value, null, or a tree that comes into the heap; a tree that it is given leaves
+-- the heap.
+pub record AskFits (p : Program) (typings : Typings) (listed : Listed) (kept : Option ℕ) (id : MethodId) (args : List Value) (frames : List Activation) (h : Objects) : Type 0 where
+  pub callee : Method
+  pub is : method_at p id ≡ Some callee
+  pub done : callee.result ≡ None → FramesFit p typings listed kept h frames
+  pub answered : (ty : Ty) (v : Value) → callee.result ≡ Some ty → Fits p h (type_sort p ty) v → (kind_of p ty ≡ kind.Tree → refers v ≡ None) → FramesFit p typings listed kept h (push_value v frames)
+  -- the tree that is given is whole: nothing holds it
+  pub whole : (o : ℕ) → Gives p (parameters_of callee) args o → ((trees p h).has o ≡ true) × ((q i : ℕ) → (trees p h).to q i ≡ Some o → ⊥)
+  pub gives : callee.result ≡ None → (o : ℕ) → Gives p (parameters_of callee) args o → (h' : Objects) → IsGivenAway p h h' o → FramesFit p typings listed kept h' frames
+  pub comes : (ty : Ty) → callee.result ≡ Some ty → (h' : Objects) (n dims : ℕ) → (stuff : Rattle.kilim_isolation_laws.specs.graph_rows.Holds.Stuff) → IsTaken p h h' n dims stuff → type_sort p ty ≡ Tree dims stuff → kind_of p ty ≡ kind.Tree →
+      FramesFit p typings listed kept h' (push_value (Ref n) frames)
+
+-- ---- the laws
+
+-- the top frame is of a method with code
+abbrev pub TopIsCoded : Program → List Activation → Type 0
+TopIsCoded p [] = Unit {0}
+TopIsCoded p (top ∷ frames) = (m : Method) → method_at p top.method ≡ Some m → has_code m ≡ true
+
+-- what a move leaves
+abbrev pub MoveFits : Program → Typings → Listed → Option ℕ → Move → Type 0
+MoveFits p typings listed kept (move.Runs change frames h) = TopIsCoded p frames → FramesFit p typings listed kept h frames
+MoveFits p typings listed kept (move.Makes object frames h) = (n : ℕ) → get h n ≡ None → FramesFit p typings listed kept (insert h n object) (push_value (Ref n) frames)
+MoveFits p typings listed kept (move.Opens frames h) = (box : BoxName) → FramesFit p typings listed kept h (push_value (Box box) frames)
+MoveFits p typings listed kept (move.Asks id args frames h) = AskFits p typings listed kept id args frames h
+MoveFits p typings listed kept (move.Returns h) = EndFits p kept h
+MoveFits p typings listed kept (move.Raises cause) = Unit {0}
+MoveFits p typings listed kept (move.Ends cause) = Unit {0}
+MoveFits p typings listed kept move.Stuck = Unit {0}
+
+-- what verification says of the top frame
+abbrev pub TopIsVerified : Program → Typings → Activation → Objects → Type 0
+TopIsVerified p typings top h = (m : Method) (i : Instr) (next : ℕ) → method_at p top.method ≡ Some m → fetched m.code m.code_length top.place ≡ Some (i, next) → IsVerified p h (typings top.method top.place).stack top.stack i
+
+-- each move of a thread of accepted code keeps its frames
+abbrev pub MovesKeep : Type 0
+MovesKeep = (p : Program) (typings : Typings) (listed : Listed) (kept : Option ℕ) (top : Activation) (frames : List Activation) (h : Objects) → IsSound p typings listed → TopIsVerified p typings top h →
+    ThreadFits p typings listed kept h top frames → MoveFits p typings listed kept (moves p top frames h)
+
+-- A method without arguments begins on an object that is a tree: the constructor of the main class, whose object is kept, and `execute`.
+-- What it may hand on is whole, and what is kept it may not hand on.
+pub record BeginsOn (p : Program) (m : Method) (kept : Option ℕ) (h : Objects) (n : ℕ) : Type 0 where
+  pub coded : has_code m ≡ true
+  pub instance : m.is_static ≡ false
+  pub plain : m.params ≡ []
+  pub none : m.qualifiers ≡ []
+  pub heap : HeapFits p h
+  pub forest : IsForest (trees p h)
+  pub is : IsOf p h n (Tree 0 Trees)
+  pub owner : object_sort p (class_type m.owner.0) ≡ Tree 0 Trees
+  pub whole : m.receiver ≡ qualifier.Free → (q i : ℕ) → (trees p h).to q i ≡ Some n → ⊥
+  pub keeps : (o : ℕ) → kept ≡ Some o → (o ≡ n) × (m.receiver ≡ qualifier.Free → ⊥)
+
+abbrev pub BeginningsKeep : Type 0
+BeginningsKeep = (p : Program) (typings : Typings) (listed : Listed) (kept : Option ℕ) → IsSound p typings listed → (id : MethodId) (m : Method) (h : Objects) (n : ℕ) → method_at p id ≡ Some m → BeginsOn p m kept h n →
+    FramesFit p typings listed kept h (entered p id (Ref n ∷ []) ∷ [])

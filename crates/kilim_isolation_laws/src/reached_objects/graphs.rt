@@ -1,0 +1,13 @@
+//! A thread of accepted code keeps the relation between its frames, their shape graphs and its heap, move by move. Laws, and no work.
+
+ghost use Rattle.kilim_isolation_laws.specs.reached_objects.graphs.Threads.{BeginningsKeep, MovesKeep};
+
+/// A law, and no work: each move of a thread of accepted code keeps its frames.
+pub fn moves_keep()
+    ensures { MovesKeep }
+{}
+
+/// A law, and no work: a thread that begins on a tree stands.
+pub fn beginnings_keep()
+    ensures { BeginningsKeep }
+{}

@@ -1,5 +1,0 @@
-use Rattle.kilim_link_code_laws.proofs.WholeCode as whole
-use Rattle.kilim_link_code_laws.proofs.laws.code_is_whole.Goals as goal
-
-pub returns : goal.returns
-returns c = whole.code_is_whole_there c.one_spelling.ensures c.lengths.ensures c.targets_are_places.ensures c.linked_in_parts.ensures

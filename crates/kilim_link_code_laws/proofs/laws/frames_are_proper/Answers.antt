@@ -1,5 +1,0 @@
-use Rattle.kilim_link_code_laws.proofs.ProperFrames as frames
-use Rattle.kilim_link_code_laws.proofs.laws.frames_are_proper.Goals as goal
-
-pub returns : goal.returns
-returns c = frames.frames_are_proper_there c.linked_in_parts.ensures

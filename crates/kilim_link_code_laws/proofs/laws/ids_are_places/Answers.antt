@@ -1,5 +1,0 @@
-use Rattle.kilim_link_code_laws.proofs.IdsArePlaces as places
-use Rattle.kilim_link_code_laws.proofs.laws.ids_are_places.Goals as goal
-
-pub returns : goal.returns
-returns c = places.ids_are_places_there c.linked_in_parts.ensures

@@ -1,5 +1,0 @@
-use Rattle.kilim_link_code_laws.proofs.ProgramThere as program
-use Rattle.kilim_link_code_laws.proofs.laws.no_fault_links.Goals as goal
-
-pub returns : goal.returns
-returns c = program.no_fault_links c.targets_are_places.ensures c.none_has_a_problem.ensures c.none_of_each_kind.ensures

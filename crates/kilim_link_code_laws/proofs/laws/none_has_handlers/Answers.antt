@@ -1,5 +1,0 @@
-use Rattle.kilim_link_code_laws.proofs.ProperFrames as frames
-use Rattle.kilim_link_code_laws.proofs.laws.none_has_handlers.Goals as goal
-
-pub returns : goal.returns
-returns c = frames.none_has_handlers c.linked_in_parts.ensures

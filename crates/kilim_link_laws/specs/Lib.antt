@@ -1,0 +1,3 @@
+pub mod Bridge
+pub mod Facts
+pub mod code_laws

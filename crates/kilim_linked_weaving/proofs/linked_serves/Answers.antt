@@ -1,5 +1,0 @@
-use Rattle.kilim_linked_weaving.proofs.Linked.{linked}
-use Rattle.kilim_linked_weaving.proofs.linked_serves.Goals as goal
-
-pub returns : goal.returns
-returns c = linked c.linked_is_plain.ensures c.mains_begin.ensures c.runs_serve.ensures

@@ -1,5 +1,0 @@
-use Rattle.kilim_reached_objects.proofs.graphs.Beginning.{beginnings_keep}
-use Rattle.kilim_reached_objects.proofs.graphs.beginnings_keep.Goals as goal
-
-pub returns : goal.returns
-returns c = λ p typings listed kept s id m h n is b. beginnings_keep p typings listed kept s id m h n is b

@@ -1,7 +1,0 @@
--- What the rows of the shape graphs rest on, from what every program keeps.
-use Rattle.kilim_classes.specs.Program.{Program}
-use Rattle.kilim_classes.specs.Keeps.{Keeps}
-use Rattle.kilim_graph_rows.specs.Facts.{ProgramKeeps}
-
-abbrev pub ProgramsKeep : Type 0
-ProgramsKeep = (p : Program) → Keeps p → ProgramKeeps p

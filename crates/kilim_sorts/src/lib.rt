@@ -1,9 +1,0 @@
-//! Of which sort the slots, the fields and the objects of a program are. A law, and no work.
-#![tactic(auto)]
-
-ghost use Rattle.kilim_sorts.specs.Sorts.{ProgramsKeep};
-
-/// A law, and no work: what the rows of the shape graphs rest on of a program, from what every program keeps.
-pub fn programs_keep()
-    ensures { ProgramsKeep }
-{}

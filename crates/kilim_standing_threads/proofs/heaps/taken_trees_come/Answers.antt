@@ -1,5 +1,0 @@
-use Rattle.kilim_standing_threads.proofs.heaps.Heaps.{taken_trees_come}
-use Rattle.kilim_standing_threads.proofs.heaps.taken_trees_come.Goals as goal
-
-pub returns : goal.returns
-returns c = taken_trees_come

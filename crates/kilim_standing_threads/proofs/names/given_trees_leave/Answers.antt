@@ -1,5 +1,0 @@
-use Rattle.kilim_standing_threads.proofs.names.Given.{given_trees_leave}
-use Rattle.kilim_standing_threads.proofs.names.given_trees_leave.Goals as goal
-
-pub returns : goal.returns
-returns c = given_trees_leave

@@ -1,6 +1,0 @@
-pub mod Standing
-pub mod Laws
-pub mod heaps
-pub mod kept
-pub mod names
-pub mod states

@@ -1,8 +1,0 @@
-//! The law.
-
-ghost use Rattle.kilim_standing_threads.specs.names.Laws.{GivenTreesLeave};
-
-/// A law, and no work: a tree's names are those of the objects at and below its root, each once.
-pub fn given_trees_leave()
-    ensures { GivenTreesLeave }
-{}

@@ -1,0 +1,12 @@
+pub mod Served
+pub mod Fibers
+pub mod Nexts
+pub mod Ready
+pub mod Laws
+pub mod unwinds
+pub mod courses
+pub mod receivers
+pub mod simulation
+pub mod stands
+pub mod woven_kin
+pub mod woven_served
