@@ -3,7 +3,7 @@
 ghost use Rattle.std.specs.List.{AllByRecursion};
 ghost use Rattle.kilim_classfile.specs.Text.{ClassFits};
 
-use kilim_class_world::link;
+use kilim_stages::class_world::link;
 use kilim_classes::{Form, Program};
 use kilim_classfile::ClassFile;
 use kilim_type_verify::verify;

@@ -1,6 +1,7 @@
 //! The check of a typed program by the rules of isolation, with what it means for all runs of the program that it breaks none.
 #![tactic(auto)]
 
+pub mod instruction_examples;
 pub mod linked_weaving;
 pub mod serving_weaver;
 

@@ -17,7 +17,7 @@ use Rattle.kilim_classfile.specs.Parts.{text_of}
 use Rattle.kilim_constant_pool.specs.declared.entry.Entry.{Entry}
 use Rattle.kilim_constant_pool.specs.declared.entry.Entry.TheVariants.{Class}
 use Rattle.kilim_constant_pool.specs.Entries.{entry_at}
-use Rattle.kilim_pool_needs.specs.Adding.{class_index}
+use Rattle.kilim_class_fits.specs.pool_needs.Adding.{class_index}
 
 -- ---- names
 

@@ -10,7 +10,7 @@ ghost use Rattle.kilim_class_builder.specs.Frames.{array_names, array_text, base
 use kilim_attribute_parts::{Frame as Entered, VerificationType};
 use kilim_classes::{Base, Frame, Ty, VType};
 use kilim_constant_pool::{Entry, Pool};
-use kilim_pool_needs::{Need, index_of};
+use kilim_class_fits::pool_needs::{Need, index_of};
 use kilim_units::{NoMemory, Seq, Units};
 use std::alloc::Global;
 

@@ -4,7 +4,7 @@ ghost use Rattle.std.specs.List.{AllByRecursion};
 ghost use Rattle.kilim_classfile.specs.Text.{ClassFits};
 
 use crate::classes::{node, work};
-use kilim_class_world::link;
+use kilim_stages::class_world::link;
 use kilim_classes::{Form, Program};
 use kilim_classfile::{ClassFile, write};
 use kilim_link_spec::LinkFault;

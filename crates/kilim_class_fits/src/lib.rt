@@ -2,7 +2,9 @@
 #![tactic(auto)]
 
 mod bytes;
+pub mod code_bytes;
 mod fitting;
+pub mod pool_needs;
 mod pools;
 mod same;
 mod text;

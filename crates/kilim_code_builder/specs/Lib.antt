@@ -1,2 +1,3 @@
 pub mod Building
 pub mod Laws
+pub mod stack_maps

@@ -9,6 +9,7 @@ mod finish;
 mod label;
 mod laws;
 mod length;
+pub mod stack_maps;
 mod step;
 
 pub use builder::Builder;

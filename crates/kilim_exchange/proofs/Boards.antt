@@ -14,15 +14,15 @@ use Rattle.kilim_thread_model.specs.Turn.{task_limit}
 use Rattle.kilim_thread_model.specs.Runs.{wait_entry, where_empty}
 use Rattle.kilim_exchange.specs.Places.{Ready, Lent, Parked, Place, is_task, is_at, is_parked_at, is_astray, is_out, Stood}
 use Rattle.kilim_exchange.specs.Board.{Board, lent_of, ready_of, parked_of, places_of, alive_course, is_alive, lone_stands, stands_in, to_serve, HoldsQueue, HoldsPost, IsOwn, BoardStands, parked_box, closing, Parks, GivesBack}
-use Rattle.kilim_waiting.specs.Parked.{woken, ready_after, parked_after}
-use Rattle.kilim_waiting.specs.Mailboxes.{SameMails, Tree, Post, Mail}
+use Rattle.kilim_fibers.specs.waiting.Parked.{woken, ready_after, parked_after}
+use Rattle.kilim_fibers.specs.waiting.Mailboxes.{SameMails, Tree, Post, Mail}
 use Rattle.kilim_exchange.specs.Seen.{GiveAnswers, gives_at}
-use Rattle.kilim_waiting.specs.declared.parked.Waiter.{Waiter}
-use Rattle.kilim_waiting.specs.Parked.{StandsBehind}
+use Rattle.kilim_fibers.specs.declared.waiting.parked.Waiter.{Waiter}
+use Rattle.kilim_fibers.specs.waiting.Parked.{StandsBehind}
 use Rattle.kilim_exchange.proofs.Places.{front, stood_shuffled, only_there, is_alive as front_alive, lent, given_back, parked, acts, puts, wakes, ended, comes, fewer_messages, unseen, at_rest, one_box, front_no}
-use Rattle.kilim_waiting.proofs.Names.{both_ways, same_name, box_itself}
+use Rattle.kilim_fibers.proofs.waiting.Names.{both_ways, same_name, box_itself}
 use Rattle.kilim_lemmas.proofs.Lists.{set_there, set_length, get_front, get_last}
-use Rattle.kilim_waiting.proofs.Lists.{get_set_other, get_past, got_within, length_pushed}
+use Rattle.kilim_fibers.proofs.waiting.Lists.{get_set_other, get_past, got_within, length_pushed}
 use Rattle.kilim_exchange.proofs.Replays.{some_injective, ends_pushed, replay_on, replay_started}
 use Rattle.kilim_exchange.proofs.Deeds.{end_is}
 use Rattle.kilim_exchange.proofs.Seats.{counted_apart, at_seat, seated, at_the_back, at_mailbox, at_the_front, IsWoken, woken_is, woken_all, nobody_waits}

@@ -18,15 +18,15 @@ use Rattle.kilim_fibers.specs.Fibers.{NewCourse, StandsFor}
 use Rattle.kilim_fibers.specs.declared.Answer.TheVariants as answer
 use Rattle.kilim_exchange.specs.Places.{is_at}
 use Rattle.kilim_exchange.specs.Board.{Board, stands_in, to_serve, HoldsQueue, IsOwn, BoardStands, Lends, GivesBack, Parks, Stops, PutsMessage, TakesMessage, Notes, StartsTask, EndsTask}
-use Rattle.kilim_waiting.specs.Mailboxes.{Tree, Post, Mail}
+use Rattle.kilim_fibers.specs.waiting.Mailboxes.{Tree, Post, Mail}
 use Rattle.kilim_fibers.specs.declared.Wants.{Wants}
 use Rattle.kilim_fibers.specs.declared.Wants.TheVariants as wants
 use Rattle.kilim_exchange.specs.declared.board.Acted.{Acted}
 use Rattle.kilim_exchange.specs.declared.board.Acted.TheVariants as acted
 use Rattle.kilim_exchange.specs.Seen.{CourseAt, SameBoard, IsNumbered, ActAnswers, ActMeets, IsAnswered, wish_in}
-use Rattle.kilim_waiting.proofs.Names.{both_ways, same_name, box_itself}
+use Rattle.kilim_fibers.proofs.waiting.Names.{both_ways, same_name, box_itself}
 use Rattle.kilim_lemmas.proofs.Lists.{set_there, get_front}
-use Rattle.kilim_waiting.proofs.Lists.{got_within}
+use Rattle.kilim_fibers.proofs.waiting.Lists.{got_within}
 use Rattle.kilim_exchange.proofs.Replays.{some_injective, lone_of, books_on}
 use Rattle.kilim_thread_model.proofs.Alone.{one_lone}
 use Rattle.kilim_exchange.proofs.Deeds.{IsDone, put_done, take_done, probe_done, empty_done, start_done, full_done, print_done, end_done, never_tasks}

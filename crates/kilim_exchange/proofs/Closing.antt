@@ -9,12 +9,12 @@ use Rattle.kilim_journal.specs.declared.entry.Entry.{Entry}
 use Rattle.kilim_thread_model.specs.State.{Setting}
 use Rattle.kilim_thread_model.specs.Runs.{wait_entry}
 use Rattle.kilim_fibers.specs.Fibers.{StandsFor}
-use Rattle.kilim_waiting.specs.declared.parked.Waiter.{Waiter}
+use Rattle.kilim_fibers.specs.declared.waiting.parked.Waiter.{Waiter}
 use Rattle.kilim_exchange.specs.Places.{Ready, is_task, Stood}
 use Rattle.kilim_exchange.specs.Board.{Board, BoardStands, is_alive, stands_in, to_serve, lent_of, closing, parked_box, AreBoxes, IsQuiet}
 use Rattle.kilim_exchange.specs.Seen.{CourseAt, GiveAnswers, gives_at, RestsAs, IsNewBoard, MovedWhole}
 use Rattle.kilim_exchange.proofs.Places.{front}
-use Rattle.kilim_waiting.proofs.Names.{both_ways}
+use Rattle.kilim_fibers.proofs.waiting.Names.{both_ways}
 use Rattle.kilim_exchange.proofs.Boards.{same_board, quiet_at_rest}
 use Rattle.kilim_exchange.proofs.Calls.{gives_back_stands, parks_stands}
 use Rattle.kilim_thread_model.specs.Lone.{Lone}

@@ -7,7 +7,7 @@ use Rattle.std.proofs.lemmas.List.Sorted.{sum_by-IsPermutation}
 use Rattle.std.specs.Prelude.{IsPermutation}
 use Rattle.kilim_classes.specs.declared.names.BoxName.{BoxName}
 use Rattle.kilim_thread_model.specs.State.{same_box}
-use Rattle.kilim_waiting.proofs.Names.{both_ways, same_name, box_itself}
+use Rattle.kilim_fibers.proofs.waiting.Names.{both_ways, same_name, box_itself}
 use Rattle.kilim_exchange.specs.Places.{Spot, Ready, Lent, Parked, Place, is_task, is_out_spot, is_out, is_parked_spot, is_parked_at, is_at, is_astray_in, is_astray, is_coming, Stood}
 use Rattle.std.proofs.lemmas.Bool.Decides.{nat_tests}
 

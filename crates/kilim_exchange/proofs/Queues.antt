@@ -13,10 +13,10 @@ use Rattle.kilim_thread_model.specs.Course.{Course, plain}
 use Rattle.kilim_thread_model.specs.Turn.{task_limit}
 use Rattle.kilim_thread_model.specs.declared.deed.Beginning.TheVariants.{Begun}
 use Rattle.kilim_thread_model.specs.Moving.{Books, first_books, with_deed, is_tasks, books_taken, books_empty, books_by, books_after, books_from}
-use Rattle.kilim_waiting.specs.Mailboxes.{Post}
+use Rattle.kilim_fibers.specs.waiting.Mailboxes.{Post}
 use Rattle.kilim_journal.specs.OneThread.{Note, Puts, Takes, Empties, AreInOrder, is_box, note_if, notes_of_act, notes_of}
 use Rattle.kilim_exchange.specs.Laws.{MailboxesAreThreads}
-use Rattle.kilim_waiting.proofs.Names.{both_ways, same_name}
+use Rattle.kilim_fibers.proofs.waiting.Names.{both_ways, same_name}
 
 -- ---- options
 

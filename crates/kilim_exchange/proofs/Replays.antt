@@ -6,13 +6,13 @@ use Rattle.kilim_classes.specs.declared.names.BoxName.{BoxName}
 use Rattle.kilim_journal.specs.declared.entry.Entry.{Entry}
 use Rattle.kilim_classes.specs.Names.{◌>>=◌}
 use Rattle.kilim_thread_model.specs.State.{Setting}
-use Rattle.kilim_waiting.proofs.Names.{both_ways}
+use Rattle.kilim_fibers.proofs.waiting.Names.{both_ways}
 use Rattle.kilim_lemmas.proofs.Lists.{set_there, set_length, get_front, get_last, get_some}
-use Rattle.kilim_waiting.proofs.Lists.{get_set_other, got_within, length_pushed}
+use Rattle.kilim_fibers.proofs.waiting.Lists.{get_set_other, got_within, length_pushed}
 use Rattle.kilim_thread_model.specs.Lone.{Lone}
 use Rattle.kilim_thread_model.specs.Course.{next_action, done_by, Course, IsLone, Follows, is_end, ends_in}
 use Rattle.kilim_thread_model.specs.declared.deed.Deed.{Deed}
-use Rattle.kilim_waiting.specs.Mailboxes.{Post}
+use Rattle.kilim_fibers.specs.waiting.Mailboxes.{Post}
 use Rattle.kilim_thread_model.specs.Moving.{Books, Moving, MovedReplay, books_after, books_from, first_books, further}
 
 pub some_injective : {A : Type 0} (x y : A) → Some x ≡ Some y → x ≡ y

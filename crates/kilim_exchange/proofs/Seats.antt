@@ -8,12 +8,12 @@ use Rattle.kilim_classes.specs.declared.names.BoxName.{BoxName}
 use Rattle.kilim_thread_model.specs.State.{same_box}
 use Rattle.kilim_exchange.specs.Places.{Ready, Lent, Parked, Place, is_parked_at}
 use Rattle.kilim_exchange.specs.Board.{lent_of, ready_of, parked_of, places_of}
-use Rattle.kilim_waiting.specs.Parked.{woken}
-use Rattle.kilim_waiting.specs.declared.parked.Waiter.{Waiter}
-use Rattle.kilim_waiting.specs.Parked.{StandsBehind}
+use Rattle.kilim_fibers.specs.waiting.Parked.{woken}
+use Rattle.kilim_fibers.specs.declared.waiting.parked.Waiter.{Waiter}
+use Rattle.kilim_fibers.specs.waiting.Parked.{StandsBehind}
 use Rattle.std.specs.Prelude.{if◌then◌else◌}
 use Rattle.kilim_exchange.proofs.Places.{front}
-use Rattle.kilim_waiting.proofs.Names.{both_ways}
+use Rattle.kilim_fibers.proofs.waiting.Names.{both_ways}
 
 abbrev lent_place : ℕ → Place
 lent_place t = record { spot = Lent; task = t }

@@ -10,10 +10,10 @@ use Rattle.kilim_journal.specs.declared.entry.Act.TheVariants.{Put, Take, Start,
 use Rattle.kilim_journal.specs.declared.entry.Entry.{Entry}
 use Rattle.kilim_thread_model.specs.State.{Setting, same_box, with_mailbox, with_message, with_queue}
 use Rattle.kilim_thread_model.specs.Runs.{wait_entry}
-use Rattle.kilim_waiting.specs.declared.parked.Waiter.{Waiter}
+use Rattle.kilim_fibers.specs.declared.waiting.parked.Waiter.{Waiter}
 use Rattle.kilim_exchange.specs.Places.{Ready, Lent, Parked, Place, Stood}
-use Rattle.kilim_waiting.specs.Mailboxes.{Tree, Mail, Post, SameMails}
-use Rattle.kilim_waiting.specs.Parked.{StandsBehind, woken, ready_after, parked_after}
+use Rattle.kilim_fibers.specs.waiting.Mailboxes.{Tree, Mail, Post, SameMails}
+use Rattle.kilim_fibers.specs.waiting.Parked.{StandsBehind, woken, ready_after, parked_after}
 use Rattle.kilim_fibers.specs.Wishes.{IsMessage}
 use Rattle.kilim_fibers.specs.Fibers.{StandsFor}
 use Rattle.kilim_thread_model.specs.Lone.{Lone}

@@ -4,7 +4,7 @@ use Rattle.std.specs.Vec.{vec_capacity}
 use Rattle.std.specs.VecDeque.{deque_capacity}
 use Rattle.kilim_classes.specs.declared.names.BoxName.{BoxName}
 use Rattle.kilim_thread_model.specs.State.{same_box}
-use Rattle.kilim_waiting.specs.declared.parked.Waiter.{Waiter}
+use Rattle.kilim_fibers.specs.declared.waiting.parked.Waiter.{Waiter}
 use Rattle.kilim_exchange.specs.declared.board.Board as kept
 use Rattle.kilim_exchange.specs.declared.board.Lent.{Lent}
 use Rattle.kilim_exchange.specs.declared.board.Lent.TheVariants as lent
@@ -21,7 +21,7 @@ use Rattle.kilim_fibers.specs.Fibers.{NewCourse, Fits, course_after}
 use Rattle.kilim_fibers.specs.declared.Wants.{Wants}
 use Rattle.kilim_fibers.specs.declared.Wants.TheVariants as wants
 use Rattle.kilim_fibers.specs.declared.Answer.TheVariants as answer
-use Rattle.kilim_waiting.specs.Mailboxes.{Tree, mail_of, HasRoom}
+use Rattle.kilim_fibers.specs.waiting.Mailboxes.{Tree, mail_of, HasRoom}
 use Rattle.kilim_exchange.specs.Board.{Board, lent_of, Lends, GivesBack, Parks, SameRun, SameSpots, PutsMessage, TakesMessage, Notes, StartsTask, EndsTask}
 use Rattle.kilim_thread_model.specs.Lone.{Lone}
 use Rattle.kilim_thread_model.specs.Course.{Course}

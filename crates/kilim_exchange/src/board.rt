@@ -8,7 +8,7 @@ ghost use Rattle.kilim_thread_model.specs.Turn.{task_limit};
 ghost use Rattle.kilim_thread_model.specs.Course.{Course};
 ghost use Rattle.kilim_thread_model.specs.declared.deed.Beginning.TheVariants.{Boot, Begun};
 ghost use Rattle.kilim_fibers.specs.Fibers.{StandsFor};
-ghost use Rattle.kilim_waiting.specs.Mailboxes.{HasRoom};
+ghost use Rattle.kilim_fibers.specs.waiting.Mailboxes.{HasRoom};
 ghost use Rattle.kilim_exchange.specs.Board.{BoardStands, lent_of, closing, AreBoxes, IsQuiet, Stops, PutsMessage, Notes, EndsTask, StartsTask};
 ghost use Rattle.kilim_exchange.specs.Seen.{seen, IsRoomy, LendAnswers, GiveAnswers, TakeAnswers, IsNumbered, ActAnswers, ProbeAnswers, StartAnswers, RoomFor, IsActable, SameBoard, CourseAt, ActMeets, IsAnswered, wish_in, LentStands, RestsAs, IsNewBoard, MovedWhole};
 
@@ -18,7 +18,7 @@ use kilim_journal::{Act, Entry};
 use kilim_program::{EndCause, Shape};
 use kilim_tree_move::Tree;
 use kilim_units::NoMemory;
-use kilim_waiting::{Mailboxes, Parked, Waiter, line_up, note, wake};
+use kilim_fibers::waiting::{Mailboxes, Parked, Waiter, line_up, note, wake};
 use std::alloc::Global;
 use std::collections::VecDeque;
 

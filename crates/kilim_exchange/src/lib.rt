@@ -6,4 +6,4 @@ mod laws;
 
 pub use board::{Acted, Board, Lent};
 pub use laws::mailboxes_are_threads;
-pub use kilim_waiting::{Mailboxes, Parked, Waiter};
+pub use kilim_fibers::waiting::{Mailboxes, Parked, Waiter};

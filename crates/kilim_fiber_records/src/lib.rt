@@ -3,6 +3,7 @@
 //! The calls are the members of `kilim/Fiber` that woven code calls, and what a leaf does: a method that can pause by itself.
 #![tactic(auto)]
 
+pub mod natives;
 mod pile;
 mod record;
 mod records;

@@ -2,6 +2,7 @@
 #![tactic(auto)]
 
 pub mod boxed;
+pub mod waiting;
 
 ghost use Rattle.std.specs.Prelude.{◌≡◌, ◌<◌, ◌≤◌, ℕ, Bool, true, Option, Some, None, OnOk, IfOk, List, []};
 ghost use Rattle.kilim_classes.specs.declared.names.BoxName.{BoxName};

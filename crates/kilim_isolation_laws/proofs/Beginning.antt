@@ -37,10 +37,10 @@ use Rattle.kilim_thread_model.specs.Lone.{Lone}
 use Rattle.kilim_thread_model.specs.State.{Alive, Setting, begun_in, begun_on, class_of, execute_frames, is_fit}
 use Rattle.kilim_typing_laws.specs.Laws.{typing_at}
 use Rattle.kilim_isolation_laws.specs.forest.Heap.{IsForest, Up}
-use Rattle.kilim_fits.specs.Chosen.{IsChosen}
-use Rattle.kilim_fits.specs.Fits.{Classes, Wanted}
-use Rattle.kilim_fits.proofs.ClassMethods.{IsAmong, names_owner}
-use Rattle.kilim_fits.proofs.Finding.{finds}
+use Rattle.kilim_typing_laws.specs.fits.Chosen.{IsChosen}
+use Rattle.kilim_typing_laws.specs.fits.Fits.{Classes, Wanted}
+use Rattle.kilim_typing_laws.proofs.fits.ClassMethods.{IsAmong, names_owner}
+use Rattle.kilim_typing_laws.proofs.fits.Finding.{finds}
 use Rattle.kilim_isolation_laws.specs.typed_threads.fine.Typed.{FitsAs, IsVerified}
 use Rattle.kilim_isolation_laws.proofs.typed_threads.Executing.{same_class}
 use Rattle.kilim_isolation_laws.proofs.typed_threads.Read.{built_is}

@@ -30,10 +30,10 @@ use Rattle.kilim_isolation_check.specs.Laws.{GoesOn}
 use Rattle.kilim_isolation_check.specs.Walks.{entry_graph, exits_to, machine_of}
 use Rattle.kilim_isolation_laws.proofs.reached_objects.walk.Methods.{every_method_goes}
 use Rattle.kilim_isolation_laws.proofs.reached_objects.walk.Walks.{walks_by_types}
-use Rattle.kilim_fits.specs.Fits.{Classes, HeapFits, has_type, have_types, is_made, is_of}
-use Rattle.kilim_fits.specs.Fits as fits
-use Rattle.kilim_fits.proofs.Bodies.{starts}
-use Rattle.kilim_fits.proofs.FromKeeps.{all_at}
+use Rattle.kilim_typing_laws.specs.fits.Fits.{Classes, HeapFits, has_type, have_types, is_made, is_of}
+use Rattle.kilim_typing_laws.specs.fits.Fits as fits
+use Rattle.kilim_typing_laws.proofs.fits.Bodies.{starts}
+use Rattle.kilim_typing_laws.proofs.fits.FromKeeps.{all_at}
 use Rattle.kilim_isolation_laws.specs.graph_rows.Facts.{IsOfType, IsVerified, IsWhole, class_in, class_of}
 use Rattle.kilim_isolation_laws.proofs.sorts.Keeping.{program_keeps}
 use Rattle.kilim_isolation_laws.specs.reached_objects.graphs.Threads.{IsSound, MethodKeeps, Passes}

@@ -18,8 +18,8 @@ use Rattle.kilim_typing.specs.Typed.{IsWellTyped}
 use Rattle.kilim_typing_laws.specs.Laws.{typing_at}
 use Rattle.kilim_typing_laws.proofs.ByPlace.{typed_by_place}
 use Rattle.kilim_isolation_check.specs.Faults.{IsAccepted}
-use Rattle.kilim_fits.specs.Fits.{Classes, Fits, HeapFits, Verified, Wanted}
-use Rattle.kilim_fits.proofs.Grounds.{are_verified, are_wanted}
+use Rattle.kilim_typing_laws.specs.fits.Fits.{Classes, Fits, HeapFits, Verified, Wanted}
+use Rattle.kilim_typing_laws.proofs.fits.Grounds.{are_verified, are_wanted}
 use Rattle.kilim_isolation_laws.specs.typed_threads.fine.Typed.{IsVerified, StackIsThere, TopIsThere, frames_of}
 use Rattle.kilim_isolation_laws.proofs.typed_threads.Moving.{deeds_stay_typed, moves_stay_typed}
 use Rattle.kilim_isolation_laws.proofs.typed_threads.Threads.{action_splits, beginnings_are_typed, is_acting}

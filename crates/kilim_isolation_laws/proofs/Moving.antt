@@ -41,10 +41,10 @@ use Rattle.kilim_typing_laws.specs.Laws.{typing_at}
 use Rattle.kilim_isolation_laws.specs.forest.Heap.{IsForest}
 use Rattle.kilim_shape_graph.specs.declared.entry.Parameter.{Parameter}
 use Rattle.kilim_shape_graph.specs.Entry.{parameters_of, quality}
-use Rattle.kilim_fits.specs.Fits.{Classes, Fits, FramesFit, HeapFits, Nothing, Wanted, have_types, is_of}
-use Rattle.kilim_fits.specs.Sound.{AsksFit, MoveFits, native_types}
-use Rattle.kilim_fits.proofs.Grounds.{facts_hold}
-use Rattle.kilim_fits.proofs.Theorem.{moves_fit}
+use Rattle.kilim_typing_laws.specs.fits.Fits.{Classes, Fits, FramesFit, HeapFits, Nothing, Wanted, have_types, is_of}
+use Rattle.kilim_typing_laws.specs.fits.Sound.{AsksFit, MoveFits, native_types}
+use Rattle.kilim_typing_laws.proofs.fits.Grounds.{facts_hold}
+use Rattle.kilim_typing_laws.proofs.fits.Theorem.{moves_fit}
 use Rattle.kilim_isolation_laws.specs.typed_threads.fine.Typed.{FitsAs, IsVerified, StackIsThere, TopIsThere, frames_of}
 use Rattle.kilim_isolation_laws.proofs.typed_threads.fine.Natives.{gives, native_gives}
 use Rattle.kilim_isolation_laws.specs.graph_rows.Holds.{IsOf, Tree, Trees, object_sort, trees, type_sort}
@@ -183,9 +183,9 @@ module _ (set : Setting) (wanted : Wanted) (listed : Listed) (sound : IsSound se
 
           types : native_types fits.callee ≡ Rattle.kilim_typing.specs.Step.class_vtype (class_id (number + 5)) ∷ vtype message ∷ []
           types =
-              ap (λ (z : Bool). Rattle.kilim_fits.specs.Sound.native_types (record fits.callee { is_static = z })) puts.0
-              ∙ (ap (λ (c : ClassId). Rattle.kilim_fits.specs.Sound.native_types (record fits.callee { is_static = false; owner = c })) puts.1
-              ∙ ap (λ (tys : List Ty). Rattle.kilim_fits.specs.Sound.native_types (record fits.callee { is_static = false; owner = class_id (number + 5); params = tys })) puts.3)
+              ap (λ (z : Bool). Rattle.kilim_typing_laws.specs.fits.Sound.native_types (record fits.callee { is_static = z })) puts.0
+              ∙ (ap (λ (c : ClassId). Rattle.kilim_typing_laws.specs.fits.Sound.native_types (record fits.callee { is_static = false; owner = c })) puts.1
+              ∙ ap (λ (tys : List Ty). Rattle.kilim_typing_laws.specs.fits.Sound.native_types (record fits.callee { is_static = false; owner = class_id (number + 5); params = tys })) puts.3)
 
           typed : is_of p (of root) message ≡ true
           typed =
@@ -211,9 +211,9 @@ module _ (set : Setting) (wanted : Wanted) (listed : Listed) (sound : IsSound se
 
           types : native_types fits.callee ≡ Rattle.kilim_typing.specs.Step.class_vtype (class_id (number + 4)) ∷ []
           types =
-              ap (λ (z : Bool). Rattle.kilim_fits.specs.Sound.native_types (record fits.callee { is_static = z })) starts.0
-              ∙ (ap (λ (c : ClassId). Rattle.kilim_fits.specs.Sound.native_types (record fits.callee { is_static = false; owner = c })) starts.1
-              ∙ ap (λ (tys : List Ty). Rattle.kilim_fits.specs.Sound.native_types (record fits.callee { is_static = false; owner = class_id (number + 4); params = tys })) starts.3)
+              ap (λ (z : Bool). Rattle.kilim_typing_laws.specs.fits.Sound.native_types (record fits.callee { is_static = z })) starts.0
+              ∙ (ap (λ (c : ClassId). Rattle.kilim_typing_laws.specs.fits.Sound.native_types (record fits.callee { is_static = false; owner = c })) starts.1
+              ∙ ap (λ (tys : List Ty). Rattle.kilim_typing_laws.specs.fits.Sound.native_types (record fits.callee { is_static = false; owner = class_id (number + 4); params = tys })) starts.3)
 
           typed : is_of p (of root) (class_type (number + 4)) ≡ true
           typed =

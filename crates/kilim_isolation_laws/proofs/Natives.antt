@@ -28,7 +28,7 @@ use Rattle.kilim_program.specs.Natives as native
 use Rattle.kilim_lemmas.proofs.Texts.{same_text}
 use Rattle.kilim_shape_graph.specs.Entry.{declared_parameters, parameters_of}
 use Rattle.kilim_isolation_rules.specs.Calls.{is_owned}
-use Rattle.kilim_fits.proofs.BuiltInMembers.{NamedAt, named_at}
+use Rattle.kilim_typing_laws.proofs.fits.BuiltInMembers.{NamedAt, named_at}
 use Rattle.kilim_isolation_laws.proofs.typed_threads.fine.Natives.{built_in_one, first, task_name}
 use Rattle.kilim_isolation_laws.proofs.typed_threads.Booting.{line_begins}
 use Rattle.kilim_isolation_laws.specs.graph_rows.Holds.{Sort, Tree, Trees, object_sort, sort_by}

@@ -1,2 +1,3 @@
 pub mod Groups
 pub mod Each
+pub mod link_frames

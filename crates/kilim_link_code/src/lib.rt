@@ -3,6 +3,7 @@
 
 mod code;
 mod instr;
+pub mod link_frames;
 mod named;
 mod places;
 mod tables;

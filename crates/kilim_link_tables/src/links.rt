@@ -6,7 +6,7 @@ ghost use Rattle.kilim_classfile.specs.Text.{ClassFits};
 
 use crate::classes::class_file;
 use kilim_case_text::Text;
-use kilim_class_world::link;
+use kilim_stages::class_world::link;
 use kilim_classes::{Form, Program};
 use kilim_classfile::ClassFile;
 use kilim_link_spec::LinkFault;

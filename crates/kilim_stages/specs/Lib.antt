@@ -3,3 +3,5 @@ pub mod Accepted
 pub mod Reports
 pub mod Laws
 pub mod Parts
+pub mod class_world
+pub mod woven_stage

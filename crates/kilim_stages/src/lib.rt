@@ -2,10 +2,12 @@
 //! linking, typing, and the rules of isolation and pausing.
 #![tactic(auto)]
 
+pub mod class_world;
 mod classes;
 mod laws;
 mod refusal;
 mod stages;
+pub mod woven_stage;
 
 pub use laws::{never_both, one_program_of};
 pub use refusal::Refusal;

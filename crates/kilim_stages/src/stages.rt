@@ -12,7 +12,7 @@ ghost use Rattle.kilim_stages.specs.Reports.{IsStageReport};
 
 use crate::classes::classes_of;
 use crate::refusal::Refusal;
-use kilim_class_world::link;
+use crate::class_world::link;
 use kilim_classes::{Form, MethodId, Program};
 use kilim_classfile::ClassFile;
 use kilim_isolation_check::{CheckFault, Isolated, Report, check_program};

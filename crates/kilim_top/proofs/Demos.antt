@@ -2,7 +2,7 @@
 use Rattle.std.proofs.Common.{inl, inr, ℕ, List, Result, Ok, Err, refl, sym, subst}
 use Rattle.std.specs.Prelude.{IfOk}
 use Rattle.kilim_units.specs.declared.memory.NoMemory.{NoMemory}
-use Rattle.kilim_demo.specs.Demo.{IsDemoReport}
+use Rattle.kilim_top.specs.demo.Demo.{IsDemoReport}
 use Rattle.kilim_stages.specs.declared.refusal.Refusal.{Refusal}
 use Rattle.kilim_stages.specs.declared.refusal.Refusal.TheVariants as refusal
 use Rattle.kilim_stages.specs.Parts.{Refused}

@@ -12,16 +12,16 @@ use Rattle.kilim_stages.specs.Laws.{NeverBoth, OneProgramOf}
 use Rattle.kilim_stages.specs.Parts.{Refused}
 use Rattle.kilim_stages.specs.declared.refusal.Refusal.{Refusal}
 use Rattle.kilim_stages.specs.declared.refusal.Refusal.TheVariants as refusal
-use Rattle.kilim_demo.specs.Demo.{demo_texts, IsDemoReport}
+use Rattle.kilim_top.specs.demo.Demo.{demo_texts, IsDemoReport}
 use Rattle.kilim_weave_command.specs.Laws.{AcceptedFilesAreIsolated, NeverWeavableAndReported}
 use Rattle.kilim_weave_command.specs.Weaving.{IsWeaving}
 use Rattle.kilim_weaver.specs.Faults.{weave_fault}
 use Rattle.kilim_weaver.specs.declared.weaving.Woven.{Woven}
 use Rattle.kilim_words.specs.Words.{Request, Check, Weave, Run, Demo}
-use Rattle.kilim_woven_stage.specs.Laws.{WovenIsNotReported}
-use Rattle.kilim_woven_stage.specs.Reports.{IsWovenReport}
-use Rattle.kilim_woven_stage.specs.Stage.{IsWovenOf}
-use Rattle.kilim_woven_stage.specs.declared.stage.WovenProgram.{WovenProgram}
+use Rattle.kilim_stages.specs.woven_stage.Laws.{WovenIsNotReported}
+use Rattle.kilim_stages.specs.woven_stage.Reports.{IsWovenReport}
+use Rattle.kilim_stages.specs.woven_stage.Stage.{IsWovenOf}
+use Rattle.kilim_stages.specs.declared.woven_stage.stage.WovenProgram.{WovenProgram}
 use Rattle.kilim_written_files.specs.OutputFile.{OutputFile}
 use Rattle.kilim_top.specs.declared.answer.Reply.{Reply}
 use Rattle.kilim_top.specs.declared.answer.Ready.{Ready}

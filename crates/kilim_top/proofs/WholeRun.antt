@@ -14,8 +14,8 @@ use Rattle.kilim_whole_runs.specs.Laws.{WovenIsServed}
 use Rattle.kilim_whole_runs.specs.Runs.{setting_of}
 use Rattle.kilim_words.specs.Words.{Run}
 use Rattle.kilim_weaving_laws.specs.Served.{CanServe}
-use Rattle.kilim_woven_stage.specs.Stage.{IsWovenOf}
-use Rattle.kilim_woven_stage.specs.declared.stage.WovenProgram.{WovenProgram}
+use Rattle.kilim_stages.specs.woven_stage.Stage.{IsWovenOf}
+use Rattle.kilim_stages.specs.declared.woven_stage.stage.WovenProgram.{WovenProgram}
 use Rattle.kilim_top.specs.Inside.Answer.{IsMainOf, IsTextOf, IsToRun}
 use Rattle.kilim_top.specs.Outcome.{IsFitRun, IsIsolatedRun, IsWholeRun, limits_of}
 use Rattle.kilim_top.specs.Report.{utf16_of}

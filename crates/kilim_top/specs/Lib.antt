@@ -3,3 +3,4 @@ pub mod Report
 pub mod Writing
 pub mod Outcome
 pub mod Inside
+pub mod demo

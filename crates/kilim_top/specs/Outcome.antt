@@ -24,9 +24,9 @@ use Rattle.kilim_written_files.specs.OutputFile.{OutputFile}
 use Rattle.kilim_written_files.specs.Written.{HasFailed, StoppedAtFile, WroteFiles}
 use Rattle.kilim_weave_command.specs.Weaving.{IsWeavable, IsWeaving}
 use Rattle.kilim_weaver.specs.Faults.{weave_fault}
-use Rattle.kilim_woven_files.specs.Reports.{IsWeaveReport}
-use Rattle.kilim_woven_stage.specs.Reports.{IsMethodReport}
-use Rattle.kilim_demo.specs.Demo.{demo_texts, IsDemoLine, IsDemoReport}
+use Rattle.kilim_weave_command.specs.woven_files.Reports.{IsWeaveReport}
+use Rattle.kilim_stages.specs.woven_stage.Reports.{IsMethodReport}
+use Rattle.kilim_top.specs.demo.Demo.{demo_texts, IsDemoLine, IsDemoReport}
 use Rattle.kilim_stages.specs.Accepted.{IsAcceptedOf}
 use Rattle.kilim_stages.specs.Reports.{IsStageReport}
 use Rattle.kilim_top.specs.declared.status.TheConstants.{DONE, REPORTED, USAGE, UNREAD, UNWRITTEN, NO_MEMORY}

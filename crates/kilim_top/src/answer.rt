@@ -25,7 +25,7 @@ use kilim_weave_command::{accepted_files_are_isolated, weave_files};
 use kilim_weaver::Woven;
 use kilim_whole_runs::woven_is_served;
 use kilim_words::{Asked, RunWords, WeaveWords, integers};
-use kilim_woven_stage::{WovenProgram, woven_program};
+use kilim_stages::woven_stage::{WovenProgram, woven_program};
 use kilim_written_files::OutputFile;
 use std::alloc::Global;
 

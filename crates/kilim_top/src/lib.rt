@@ -3,6 +3,7 @@
 #![tactic(auto)]
 
 mod answer;
+pub mod demo;
 mod inputs;
 mod report;
 mod runs;

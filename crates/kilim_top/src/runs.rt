@@ -2,7 +2,7 @@
 
 ghost use Rattle.std.specs.Prelude.{◌≡◌, ◌≤◌, IfOk, length};
 ghost use Rattle.kilim_whole_runs.specs.Runs.{setting_of};
-ghost use Rattle.kilim_demo.specs.Demo.{IsDemoLine, IsDemoReport};
+ghost use Rattle.kilim_top.specs.demo.Demo.{IsDemoLine, IsDemoReport};
 ghost use Rattle.kilim_stages.specs.Parts.{IfReport};
 ghost use Rattle.kilim_words.specs.Parts.{meant};
 ghost use Rattle.kilim_words.specs.Words.{files_read};
@@ -13,7 +13,7 @@ ghost use Rattle.kilim_top.specs.Words.{workers_of};
 use crate::answer::{Ready, Reply, journal_reply, prepare, refused};
 use crate::status::DONE;
 use kilim_classes::{ClassId, Program};
-use kilim_demo::{demo_alone, demo_with};
+use crate::demo::{demo_alone, demo_with};
 use kilim_outside::Gate;
 use kilim_program::Limits;
 use kilim_stages::Refusal;

@@ -17,7 +17,7 @@ use kilim_stages::{never_both, one_program_of};
 use kilim_units::Seq;
 use kilim_weave_command::never_weavable_and_reported;
 use kilim_words::Asked;
-use kilim_woven_stage::woven_is_not_reported;
+use kilim_stages::woven_stage::woven_is_not_reported;
 use kilim_written_files::write_files;
 use std::alloc::Global;
 use std::sync::Wait;

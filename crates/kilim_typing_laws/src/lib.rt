@@ -1,6 +1,8 @@
 //! Laws of well-typed code (JVMS 4.10.1): about the definitions of kilim_typing, and no code that does work.
 #![tactic(auto)]
 
+pub mod fits;
+
 ghost use Rattle.kilim_typing_laws.specs.Laws.{AssignsItself, EdgesFlow, ListedFramesShow, LiveIsTyped, NoFaultWhereWellTyped, TypedByPlace};
 
 /// A law, and no work: each verification type is assignable to itself.

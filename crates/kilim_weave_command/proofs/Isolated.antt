@@ -1,7 +1,7 @@
 -- The runs of an accepted program to which class files link.
 use Rattle.std.proofs.Common.{◌≡◌, ◌≤◌, ℕ, true, List, length, sym, subst}
 use Rattle.kilim_isolation_laws.specs.accepted_runs.Laws.{AcceptedIsIsolated, setting_of}
-use Rattle.kilim_class_world.specs.Keeping.{LinksKeep}
+use Rattle.kilim_stages.specs.class_world.Keeping.{LinksKeep}
 use Rattle.kilim_classes.specs.declared.class.Form.TheVariants.{Plain}
 use Rattle.kilim_classes.specs.declared.names.ClassId.{ClassId}
 use Rattle.kilim_classes.specs.Program.{Program}

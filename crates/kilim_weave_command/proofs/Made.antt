@@ -2,9 +2,9 @@
 use Rattle.std.proofs.Common.{◌≡◌, ◌≢◌, ◌≤◌, ℕ, List, [], ◌∷◌, length, map, sym, subst}
 use Rattle.std.specs.List.{AllByRecursion}
 use Rattle.std.specs.String.{string_bytes}
-use Rattle.kilim_woven_files.specs.declared.made.WovenFile.{WovenFile}
-use Rattle.kilim_woven_files.specs.Laws as woven
-use Rattle.kilim_woven_files.specs.WovenFiles.{AreWovenFiles, path_of, wove_lines}
+use Rattle.kilim_weave_command.specs.declared.woven_files.made.WovenFile.{WovenFile}
+use Rattle.kilim_weave_command.specs.woven_files.Laws as woven
+use Rattle.kilim_weave_command.specs.woven_files.WovenFiles.{AreWovenFiles, path_of, wove_lines}
 use Rattle.kilim_written_files.specs.OutputFile.{OutputFile}
 use Rattle.kilim_written_files.specs.Written.{HaveOwnPaths}
 use Rattle.kilim_weave_command.specs.Weaving.{IsWeaving, output_of}

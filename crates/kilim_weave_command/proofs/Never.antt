@@ -8,8 +8,8 @@ use Rattle.kilim_classfile.specs.Reading.{read_class}
 use Rattle.kilim_stages.specs.Laws.{NeverBoth, OneProgramOf}
 use Rattle.kilim_stages.specs.ProgramOf.{AreFiles, IsFile}
 use Rattle.kilim_weaver.specs.Faults.{weave_fault}
-use Rattle.kilim_woven_files.specs.Reports.{IsSizeReport, IsWeaveReport}
-use Rattle.kilim_woven_files.specs.Sizes.{first_size_fault}
+use Rattle.kilim_weave_command.specs.woven_files.Reports.{IsSizeReport, IsWeaveReport}
+use Rattle.kilim_weave_command.specs.woven_files.Sizes.{first_size_fault}
 use Rattle.kilim_weave_command.specs.Weaving.{IsWeavable}
 
 abbrev well : ClassFile → Result ClassFile ClassFault

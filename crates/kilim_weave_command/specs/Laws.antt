@@ -9,7 +9,7 @@ use Rattle.kilim_program.specs.Members.{is_fit_main}
 use Rattle.kilim_isolation_laws.specs.reached_objects.Laws.{AreLive}
 use Rattle.kilim_stages.specs.Accepted.{IsAcceptedOf}
 use Rattle.kilim_thread_model.specs.Reach.{Liveness, PlaysIsolated}
-use Rattle.kilim_woven_files.specs.Reports.{IsWeaveReport}
+use Rattle.kilim_weave_command.specs.woven_files.Reports.{IsWeaveReport}
 use Rattle.kilim_weave_command.specs.Weaving.{IsWeavable}
 
 abbrev pub NeverWeavableAndReported : Type 0

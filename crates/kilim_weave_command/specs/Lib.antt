@@ -1,2 +1,3 @@
 pub mod Weaving
 pub mod Laws
+pub mod woven_files

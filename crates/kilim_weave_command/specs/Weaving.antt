@@ -6,9 +6,9 @@ use Rattle.kilim_classfile.specs.declared.class_file.ClassFile.{ClassFile}
 use Rattle.kilim_stages.specs.Accepted.{IsAcceptedOf}
 use Rattle.kilim_stages.specs.ProgramOf.{AreFiles}
 use Rattle.kilim_weaver.specs.Faults.{weave_fault}
-use Rattle.kilim_woven_files.specs.declared.made.WovenFile.{WovenFile}
-use Rattle.kilim_woven_files.specs.Sizes.{first_size_fault}
-use Rattle.kilim_woven_files.specs.WovenFiles.{AreWovenFiles, path_of, wove_lines}
+use Rattle.kilim_weave_command.specs.declared.woven_files.made.WovenFile.{WovenFile}
+use Rattle.kilim_weave_command.specs.woven_files.Sizes.{first_size_fault}
+use Rattle.kilim_weave_command.specs.woven_files.WovenFiles.{AreWovenFiles, path_of, wove_lines}
 use Rattle.kilim_written_files.specs.OutputFile.{OutputFile}
 use Rattle.kilim_written_files.specs.Written.{HaveOwnPaths}
 

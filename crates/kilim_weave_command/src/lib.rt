@@ -3,7 +3,8 @@
 
 mod laws;
 mod weaving;
+pub mod woven_files;
 
-pub use kilim_woven_files::Refusal;
+pub use crate::woven_files::Refusal;
 pub use laws::{accepted_files_are_isolated, never_weavable_and_reported};
 pub use weaving::{WeaveOutput, weave_files};

@@ -3,12 +3,12 @@
 ghost use Rattle.std.specs.Prelude.{◌≡◌, ◌≤◌, IfOk, length, map};
 ghost use Rattle.std.specs.String.{string_bytes};
 ghost use Rattle.kilim_stages.specs.Parts.{IfReport};
-ghost use Rattle.kilim_woven_files.specs.Reports.{IsWeaveReport};
-ghost use Rattle.kilim_woven_files.specs.WovenFiles.{AreWovenFiles};
+ghost use Rattle.kilim_weave_command.specs.woven_files.Reports.{IsWeaveReport};
+ghost use Rattle.kilim_weave_command.specs.woven_files.WovenFiles.{AreWovenFiles};
 ghost use Rattle.kilim_weave_command.specs.Weaving.{IsWeaving, output_of};
 
 use kilim_units::{NoMemory, Seq};
-use kilim_woven_files::{
+use crate::woven_files::{
     Refusal, WovenFile, path_of, wove_lines, woven_files, woven_files_have_own_paths,
 };
 use kilim_written_files::OutputFile;

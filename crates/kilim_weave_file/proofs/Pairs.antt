@@ -5,10 +5,10 @@ use Rattle.kilim_classes.specs.declared.class.Method.{Method}
 use Rattle.kilim_classes.specs.Program.{Program}
 use Rattle.kilim_classfile.specs.declared.class_file.ClassFile.{ClassFile}
 use Rattle.kilim_constant_pool.specs.declared.entry.Entry.{Entry}
-use Rattle.kilim_pool_needs.specs.declared.need.Need.{Need}
-use Rattle.kilim_pool_needs.specs.Adding.{with_needs}
+use Rattle.kilim_class_fits.specs.declared.pool_needs.need.Need.{Need}
+use Rattle.kilim_class_fits.specs.pool_needs.Adding.{with_needs}
 use Rattle.kilim_classfile.specs.declared.class_file.MemberInfo.{MemberInfo}
-use Rattle.kilim_pool_needs.proofs.Searching.{some_same, none_is_some}
+use Rattle.kilim_class_fits.proofs.pool_needs.Searching.{some_same, none_is_some}
 use Rattle.kilim_weave_file.specs.Parts.{member_by}
 use Rattle.kilim_woven_file_laws.specs.form.WovenFile.{MethodPair, member_needs, pairs_of, woven_file, woven_member, woven_pool}
 

@@ -12,10 +12,10 @@ use crate::frames::full_frames;
 use crate::needs::{has_calls, instrs_if, old_table, table_units};
 use kilim_attributes::{Code, CodeAttribute, CodeInfo};
 use kilim_classes::{Instr, Method, Program};
-use kilim_code_bytes::code_bytes;
+use kilim_class_fits::code_bytes::code_bytes;
 use kilim_constant_pool::Pool;
 use kilim_opcodes::RawInstr;
-use kilim_pool_needs::text_index;
+use kilim_class_fits::pool_needs::text_index;
 use kilim_units::{NoMemory, Seq};
 use std::alloc::Global;
 

@@ -9,7 +9,7 @@ use crate::needs::{added_need, old_need};
 use kilim_classes::{Instr, Program};
 use kilim_constant_pool::Pool;
 use kilim_opcodes::RawInstr;
-use kilim_pool_needs::{Need, index_of};
+use kilim_class_fits::pool_needs::{Need, index_of};
 use kilim_units::{NoMemory, Seq};
 use std::alloc::Global;
 

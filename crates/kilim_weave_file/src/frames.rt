@@ -11,7 +11,7 @@ ghost use Rattle.kilim_woven_file_laws.specs.form.FullFrames.{entries, full_fram
 use kilim_attribute_parts::{Frame as Entered, VerificationType};
 use kilim_classes::{Frame, Program, Ty, VType};
 use kilim_constant_pool::Pool;
-use kilim_pool_needs::{Need, index_of};
+use kilim_class_fits::pool_needs::{Need, index_of};
 use kilim_units::{NoMemory, Seq};
 use kilim_woven_sizes::type_name;
 use std::alloc::Global;

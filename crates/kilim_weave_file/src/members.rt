@@ -13,7 +13,7 @@ use kilim_attributes::{Attribute, Info};
 use kilim_classes::{Method, Program};
 use kilim_classfile::{ClassFile, MemberInfo};
 use kilim_constant_pool::Pool;
-use kilim_pool_needs::text_index;
+use kilim_class_fits::pool_needs::text_index;
 use kilim_units::{NoMemory, Seq, Units};
 use kilim_woven_sizes::woven_descriptor;
 use std::alloc::Global;

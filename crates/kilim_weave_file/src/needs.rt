@@ -16,7 +16,7 @@ use kilim_classes::{Frame, Instr, Method, MethodId, Program, VType};
 use kilim_constant_pool::{Entry, Pool};
 use kilim_link_mentions::decoded;
 use kilim_opcodes::RawInstr;
-use kilim_pool_needs::Need;
+use kilim_class_fits::pool_needs::Need;
 use kilim_units::{NoMemory, Seq, Units};
 use kilim_woven_sizes::{is_pausable_call, needed_method, type_name, woven_descriptor};
 use std::alloc::Global;

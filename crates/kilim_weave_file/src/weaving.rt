@@ -4,7 +4,7 @@ ghost use Rattle.std.specs.Prelude.{◌≡◌, ◌++◌, ◌∷◌, length, map,
 ghost use Rattle.std.specs.List.{flat_map};
 ghost use Rattle.kilim_attributes.specs.declared.attribute.Attribute.{Attribute};
 ghost use Rattle.kilim_link_spec.specs.World.{member_descriptor};
-ghost use Rattle.kilim_pool_needs.specs.declared.need.Need.TheVariants.{AText};
+ghost use Rattle.kilim_class_fits.specs.declared.pool_needs.need.Need.TheVariants.{AText};
 ghost use Rattle.kilim_woven_file_laws.specs.form.Texts.{woven_descriptor};
 ghost use Rattle.kilim_classfile.specs.Text.{ClassFits, class_text};
 ghost use Rattle.kilim_woven_file_laws.specs.form.Sizes.{longest_text};
@@ -19,7 +19,7 @@ use kilim_class_fits::fits;
 use kilim_classes::{Method, Program};
 use kilim_classfile::{ClassFile, MemberInfo, read, write};
 use kilim_constant_pool::Pool;
-use kilim_pool_needs::{Need, with_needs};
+use kilim_class_fits::pool_needs::{Need, with_needs};
 use kilim_units::{NoMemory, Seq};
 use kilim_woven_sizes::{added_entries, methods_bytes, plus, size_by};
 use std::alloc::Global;

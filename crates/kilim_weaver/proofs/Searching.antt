@@ -11,7 +11,7 @@ use Rattle.kilim_classes.specs.Keeps.{Keeps}
 use Rattle.kilim_classes.specs.Names.{method_at}
 use Rattle.kilim_classes.specs.Program.{Program}
 use Rattle.kilim_classes.specs.Same.{argument_slots}
-use Rattle.kilim_fits.proofs.ClassMethods.{IsAmong, among_left, among_right, owner_has}
+use Rattle.kilim_typing_laws.proofs.fits.ClassMethods.{IsAmong, among_left, among_right, owner_has}
 use Rattle.kilim_lemmas.proofs.Lists.{get_some}
 use Rattle.kilim_link_spec.specs.World.{method_descriptor}
 use Rattle.kilim_pausable_graph.specs.Pausing.{all_methods}

@@ -1,2 +1,3 @@
 pub mod Faults
 pub mod Weaves
+pub mod woven_pauses

@@ -9,7 +9,7 @@ use Rattle.kilim_classes.specs.declared.value.Value.TheVariants.{Int, Long, Null
 use Rattle.kilim_classes.specs.Lengths.{fetched}
 use Rattle.kilim_classes.specs.Names.{method_at}
 use Rattle.kilim_classes.specs.Program.{Program}
-use Rattle.kilim_fits.specs.Fits.{AreThere}
+use Rattle.kilim_typing_laws.specs.fits.Fits.{AreThere}
 use Rattle.kilim_journal.specs.declared.entry.Act.{Act}
 use Rattle.kilim_kin.specs.Kin.{AreHeld, IsThere}
 use Rattle.kilim_program.specs.declared.cause.EndCause.TheVariants as cause

@@ -1,7 +1,7 @@
 -- The woven form of an accepted program to which class files link serves its runs.
 use Rattle.std.proofs.Common.{◌≤◌, ℕ, List, length, sym, subst}
 use Rattle.kilim_isolation_laws.specs.accepted_runs.Laws.{AcceptedIsRun}
-use Rattle.kilim_class_world.specs.Keeping.{LinksKeep}
+use Rattle.kilim_stages.specs.class_world.Keeping.{LinksKeep}
 use Rattle.kilim_classes.specs.declared.class.Form.TheVariants.{Plain}
 use Rattle.kilim_classes.specs.Program.{Program}
 use Rattle.kilim_link_spec.specs.LinksWell.{LinksWell}

@@ -13,7 +13,7 @@ use Rattle.kilim_exchange.specs.Seen.{MovedWhole}
 use Rattle.kilim_record_fiber.specs.named.Named.{ServesNamed}
 use Rattle.kilim_one_heap.specs.Laws.{MovedIsWhole}
 use Rattle.kilim_isolation_laws.specs.at_rest.readable.Laws.{RunsAreReadable}
-use Rattle.kilim_worker_pool.specs.Pool.{IsOf}
+use Rattle.kilim_workers.specs.worker_pool.Pool.{IsOf}
 use Rattle.kilim_woven_fiber.specs.declared.code.Code.{Code}
 use Rattle.kilim_weaving_laws.specs.Served.{CanServe}
 use Rattle.kilim_whole_runs.specs.Runs.{IsJournalOf, setting_of}

@@ -3,7 +3,7 @@
 ghost use Rattle.kilim_whole_runs.specs.Laws.{WovenIsServed};
 
 use kilim_isolation_laws::accepted_runs::accepted_is_run;
-use kilim_class_world::links_keep;
+use kilim_stages::class_world::links_keep;
 use kilim_weaving_laws::woven_served::runs_serve;
 
 /// A law, and no work: of class files that link to an accepted program the woven form can be run, whatever the main class, if it is fit, and

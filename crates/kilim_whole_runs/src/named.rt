@@ -4,7 +4,7 @@ ghost use Rattle.std.specs.Prelude.{◌≤◌, IfOk};
 ghost use Rattle.kilim_exchange.specs.Seen.{MovedWhole};
 ghost use Rattle.kilim_record_fiber.specs.named.Named.{ServesNamed};
 ghost use Rattle.kilim_thread_model.specs.State.{Setting};
-ghost use Rattle.kilim_worker_pool.specs.Pool.{IsOf};
+ghost use Rattle.kilim_workers.specs.worker_pool.Pool.{IsOf};
 
 use kilim_classes::ClassId;
 use kilim_fibers::boxed::Boxed;
@@ -13,7 +13,7 @@ use kilim_outside::Gate;
 use kilim_program::Limits;
 use kilim_record_fiber::named::{Named, Woven};
 use kilim_units::NoMemory;
-use kilim_worker_pool::run_one;
+use kilim_workers::worker_pool::run_one;
 use kilim_workers::run_pool;
 use kilim_woven_fiber::Code;
 use std::alloc::Global;

@@ -18,12 +18,12 @@ use Rattle.kilim_exchange.specs.declared.board.Acted.{Acted}
 use Rattle.kilim_exchange.specs.declared.board.Acted.TheVariants as acted
 use Rattle.kilim_exchange.specs.Places.{Lent, is_task}
 use Rattle.kilim_exchange.specs.Board.{Board, BoardStands, alive_course, lent_of, ready_of, parked_of, NotedAs}
-use Rattle.kilim_waiting.specs.Mailboxes.{Post}
+use Rattle.kilim_fibers.specs.waiting.Mailboxes.{Post}
 use Rattle.kilim_exchange.specs.Seen.{ActAnswers, SameBoard}
 use Rattle.kilim_exchange.proofs.Places.{front, front_yes}
-use Rattle.kilim_waiting.proofs.Names.{both_ways}
+use Rattle.kilim_fibers.proofs.waiting.Names.{both_ways}
 use Rattle.kilim_lemmas.proofs.Lists.{get_front, set_length}
-use Rattle.kilim_waiting.proofs.Lists.{get_set_other, got_within}
+use Rattle.kilim_fibers.proofs.waiting.Lists.{get_set_other, got_within}
 use Rattle.kilim_exchange.proofs.Replays.{some_injective}
 use Rattle.kilim_exchange.proofs.Seats.{counted_apart}
 use Rattle.kilim_turn.specs.Views.{cell_at}

@@ -9,7 +9,7 @@ use Rattle.kilim_fibers.specs.declared.Wants.TheVariants as wants
 use Rattle.kilim_fibers.specs.declared.Answer.{Answer}
 use Rattle.kilim_exchange.specs.declared.board.Acted.TheVariants as acted
 use Rattle.kilim_exchange.specs.Seen.{RestsAs, wish_in}
-use Rattle.kilim_worker_pool.proofs.Steps.{IsGoing}
+use Rattle.kilim_workers.proofs.worker_pool.Steps.{IsGoing}
 use Rattle.kilim_workers.specs.Codes.{lent_numbers}
 use Rattle.kilim_workers.specs.Runs.{fiber_numbers, AllStand, ActedAs, RunsOn}
 use Rattle.kilim_thread_model.specs.Lone.{Lone}

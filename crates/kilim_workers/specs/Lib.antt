@@ -1,2 +1,3 @@
 pub mod Runs
 pub mod Codes
+pub mod worker_pool

@@ -6,7 +6,7 @@ ghost use Rattle.kilim_exchange.specs.Seen.{MovedWhole};
 ghost use Rattle.kilim_turn.specs.declared.pass.Pass.{Pass};
 ghost use Rattle.kilim_turn.specs.Turns.{seat_of, shows, IsPassOf, AreAllOf};
 ghost use Rattle.kilim_workers.specs.Codes.{board_cells};
-ghost use Rattle.kilim_worker_pool.specs.Pool.{IsOf};
+ghost use Rattle.kilim_workers.specs.worker_pool.Pool.{IsOf};
 ghost use Rattle.kilim_workers.specs.Runs.{RunsOn};
 
 use crate::run::{Run, RunBoard};

@@ -21,13 +21,13 @@ use Rattle.kilim_woven_fiber.specs.Operands.{AreOperands}
 use Rattle.kilim_woven_fiber.specs.declared.operands.Operands.{Operands}
 use Rattle.kilim_woven_fiber.specs.declared.operands.Operands.TheVariants as copied
 use Rattle.kilim_woven_fiber.specs.Comes.{CanAsk, IsGivenBy, GiftIs, IsGift, Comes}
-use Rattle.kilim_woven_natives.specs.Natives.{meaning}
+use Rattle.kilim_fiber_records.specs.natives.Natives.{meaning}
 use Rattle.kilim_woven_fiber.specs.declared.body.Body.{Body}
 use Rattle.kilim_woven_fiber.specs.declared.body.Came.{Came}
 use Rattle.kilim_woven_fiber.specs.declared.gifts.Gift.{Gift}
 use Rattle.kilim_woven_fiber.specs.declared.gifts.Gift.TheVariants as gift
-use Rattle.kilim_woven_natives.specs.declared.natives.Native.{Native}
-use Rattle.kilim_woven_natives.specs.declared.natives.Native.TheVariants as code
+use Rattle.kilim_fiber_records.specs.declared.natives.natives.Native.{Native}
+use Rattle.kilim_fiber_records.specs.declared.natives.natives.Native.TheVariants as code
 
 -- what comes, of the same next thing
 pub come_by : (x : ℕ) (new : Body) (r : Result Came NoMemory) (a b : Next) → a ≡ b → IfOk r (λ came. Comes x a new came) → IfOk r (λ came. Comes x b new came)

@@ -11,7 +11,7 @@ ghost use Rattle.kilim_weaving_laws.specs.woven_kin.Nexts.{Goes, counted, with_r
 ghost use Rattle.kilim_woven_runs.specs.Fibers.{is_rewinding};
 ghost use Rattle.kilim_woven_fiber.specs.Body.{standing_at, behind_at, operands_in, RoomyIn, RoomIn, HasFrames, HasOperands};
 ghost use Rattle.kilim_woven_fiber.specs.Comes.{CanGive, IsGivenBy, CanAsk, Comes, HasRoomFor, IsNear};
-ghost use Rattle.kilim_woven_natives.specs.Natives.{meaning};
+ghost use Rattle.kilim_fiber_records.specs.natives.Natives.{meaning};
 
 use crate::body::{Body, Came};
 use crate::code::Code;
@@ -22,7 +22,7 @@ use crate::pass::{give, pass};
 use kilim_classes::{BoxName, MethodId, Program, Value};
 use kilim_program::{EndCause, Limits, Shape, Token};
 use kilim_units::{NoMemory, Seq};
-use kilim_woven_natives::Native;
+use kilim_fiber_records::natives::Native;
 use std::alloc::Global;
 
 /// It goes on behind a method without a result.

@@ -14,7 +14,7 @@ use kilim_main_class::constructor_of;
 use kilim_private_heap::Heap;
 use kilim_tree_move::{Tree, put_in};
 use kilim_units::NoMemory;
-use kilim_woven_natives::execute_of;
+use kilim_fiber_records::natives::execute_of;
 use std::alloc::Global;
 
 fn new_body(

@@ -18,7 +18,7 @@ use kilim_private_heap::Heap;
 use kilim_program::{EndCause, Shape};
 use kilim_tree_move::Tree;
 use kilim_units::NoMemory;
-use kilim_woven_natives::execute_of;
+use kilim_fiber_records::natives::execute_of;
 use std::alloc::Global;
 
 /// The most mailboxes that a task makes.

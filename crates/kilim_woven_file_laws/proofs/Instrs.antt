@@ -24,16 +24,16 @@ use Rattle.kilim_link_spec.specs.declared.named.Operand.TheVariants.{AConstant, 
 use Rattle.kilim_link_spec.specs.World.{World, class_text}
 use Rattle.kilim_link_spec.specs.Types.{class_named_by, type_named, each_of, with_first}
 use Rattle.kilim_link_spec.specs.Code.{row, applied, plain_instrs, local_instrs, jump_instrs, method_instrs, type_instrs, field_instrs, constant_instrs, array_codes, instr_with, instr_in, operand_at, index_operand, field_found, method_found, method_ref, any_method_ref, ref_with, place_of, pair_in, placed_in}
-use Rattle.kilim_pool_needs.specs.declared.need.Need.{Need}
-use Rattle.kilim_pool_needs.specs.declared.need.Need.TheVariants.{AText, AClass, AMethod, ACall}
-use Rattle.kilim_pool_needs.specs.Adding.{index_of}
+use Rattle.kilim_class_fits.specs.declared.pool_needs.need.Need.{Need}
+use Rattle.kilim_class_fits.specs.declared.pool_needs.need.Need.TheVariants.{AText, AClass, AMethod, ACall}
+use Rattle.kilim_class_fits.specs.pool_needs.Adding.{index_of}
 use Rattle.kilim_woven_file_laws.specs.pool.Pools.{Names, SameOperands}
 use Rattle.kilim_woven_file_laws.specs.Members.{pausing}
 use Rattle.kilim_woven_form.specs.Woven.{moved_instr, moved_pairs}
 use Rattle.kilim_woven_file_laws.specs.form.Texts.{woven_descriptor, needed_method}
 use Rattle.kilim_woven_file_laws.specs.form.Raw.{pauses, is_pausable_call, local_form, shortest, target_of, moved_raw, old_need, call_need, call_by, index_or, switched, place_number, pair_number, added_raw, raw_code}
 use Rattle.kilim_woven_file_laws.specs.Resolving.{WorldsAgree, IsFound}
-use Rattle.kilim_pool_needs.proofs.Searching.{some_same, none_is_some}
+use Rattle.kilim_class_fits.proofs.pool_needs.Searching.{some_same, none_is_some}
 use Rattle.kilim_woven_file_laws.proofs.Resolved.{Calls, row_all, a_call, call_again, old_operand}
 use Rattle.kilim_woven_file_laws.specs.Standing.{CallsNone, CallParts, NeedNamed, SameTexts, LdcCallsNone, OldNamed, AddedFits, CodeFits}
 

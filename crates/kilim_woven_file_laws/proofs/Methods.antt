@@ -27,13 +27,13 @@ use Rattle.kilim_link_spec.specs.Code.{instr_in, decoded, code_of, placed_in}
 use Rattle.kilim_link_spec.specs.Frames.{frames_from, frames_in, table_in, entry_locals}
 use Rattle.kilim_link_spec.specs.Laws.{DecodedIsDecode}
 use Rattle.kilim_link_spec.specs.Linked.{body_with, body_in}
-use Rattle.kilim_pool_needs.specs.Adding.{text_index}
+use Rattle.kilim_class_fits.specs.pool_needs.Adding.{text_index}
 use Rattle.kilim_woven_file_laws.specs.pool.Pools.{SameOperands}
 use Rattle.kilim_woven_file_laws.specs.form.Raw.{raw_code}
 use Rattle.kilim_woven_file_laws.specs.form.FullFrames.{full_frames}
 use Rattle.kilim_woven_file_laws.specs.Resolving.{WorldsAgree}
 use Rattle.kilim_woven_file_laws.specs.form.WovenFile.{MethodPair, woven_code, woven_bytes, table_by, old_table, has_calls}
-use Rattle.kilim_pool_needs.proofs.Searching.{some_same, none_is_some}
+use Rattle.kilim_class_fits.proofs.pool_needs.Searching.{some_same, none_is_some}
 use Rattle.kilim_woven_file_laws.proofs.Instrs.{code_back, kept_index}
 use Rattle.kilim_woven_file_laws.proofs.FramesBack.{frames_back}
 use Rattle.kilim_woven_file_laws.specs.Standing.{CallsNone, FrameFound, Increase, CodeCallsNone, CodeStands, FramesStand}

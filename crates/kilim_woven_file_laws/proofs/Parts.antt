@@ -19,7 +19,7 @@ use Rattle.kilim_link_spec.specs.Laws.{DecodedIsDecode}
 use Rattle.kilim_link_spec.specs.Linked.{code_attribute, code_in, first_of, body_in, linked_method, method_with}
 use Rattle.kilim_woven_file_laws.specs.form.Texts.{fiber_text, with_fiber, woven_descriptor}
 use Rattle.kilim_woven_file_laws.specs.form.WovenFile.{MethodPair, woven_code, woven_attribute, woven_info, attribute_with, rewritten}
-use Rattle.kilim_pool_needs.proofs.Searching.{some_same, none_is_some}
+use Rattle.kilim_class_fits.proofs.pool_needs.Searching.{some_same, none_is_some}
 use Rattle.kilim_woven_file_laws.proofs.pool.Naming.{text_at}
 use Rattle.kilim_woven_file_laws.proofs.DescriptorsApart.{woven_read}
 use Rattle.kilim_woven_file_laws.proofs.Methods.{body_back}

@@ -16,7 +16,7 @@ use Rattle.kilim_woven_file_laws.specs.Members.{pausing}
 use Rattle.kilim_woven_file_laws.specs.form.Texts.{woven_descriptor}
 use Rattle.kilim_woven_file_laws.specs.form.Raw.{pauses}
 use Rattle.kilim_woven_file_laws.specs.Resolving.{WorldsAgree}
-use Rattle.kilim_pool_needs.proofs.Searching.{some_same, none_is_some}
+use Rattle.kilim_class_fits.proofs.pool_needs.Searching.{some_same, none_is_some}
 use Rattle.kilim_woven_file_laws.specs.Standing.{CallsNone}
 
 -- ---- options

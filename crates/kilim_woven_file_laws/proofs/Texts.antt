@@ -5,12 +5,12 @@ use Rattle.kilim_constant_pool.specs.declared.entry.Entry.TheVariants as entry
 use Rattle.kilim_constant_pool.specs.Entries.{entry_at, refers_well, is_member}
 use Rattle.kilim_classfile.specs.Parts.{text_of}
 use Rattle.kilim_link_spec.specs.World.{class_text}
-use Rattle.kilim_pool_needs.specs.declared.need.Need.{Need}
-use Rattle.kilim_pool_needs.specs.declared.need.Need.TheVariants.{ACall}
+use Rattle.kilim_class_fits.specs.declared.pool_needs.need.Need.{Need}
+use Rattle.kilim_class_fits.specs.declared.pool_needs.need.Need.TheVariants.{ACall}
 use Rattle.kilim_woven_file_laws.specs.pool.Pools.{RefersWell}
 use Rattle.kilim_woven_file_laws.specs.form.Raw.{call_need, call_by}
 use Rattle.kilim_woven_file_laws.specs.form.Texts.{woven_descriptor}
-use Rattle.kilim_pool_needs.proofs.Searching.{some_same, none_is_some}
+use Rattle.kilim_class_fits.proofs.pool_needs.Searching.{some_same, none_is_some}
 use Rattle.kilim_woven_file_laws.proofs.pool.Naming.{ref_texts}
 use Rattle.kilim_woven_file_laws.specs.Standing.{SameTexts}
 

@@ -10,8 +10,8 @@ use Rattle.kilim_link_spec.specs.declared.named.Named.{Named}
 use Rattle.kilim_link_spec.specs.World.{World}
 use Rattle.kilim_link_spec.specs.Types.{class_named_by, type_named}
 use Rattle.kilim_link_spec.specs.Code.{field_found, method_found}
-use Rattle.kilim_pool_needs.specs.declared.need.Need.{Need}
-use Rattle.kilim_pool_needs.specs.declared.need.Need.TheVariants.{AMethod}
+use Rattle.kilim_class_fits.specs.declared.pool_needs.need.Need.{Need}
+use Rattle.kilim_class_fits.specs.declared.pool_needs.need.Need.TheVariants.{AMethod}
 use Rattle.kilim_woven_file_laws.specs.Members.{pausing}
 use Rattle.kilim_woven_file_laws.specs.form.Texts.{woven_descriptor}
 use Rattle.kilim_woven_file_laws.specs.form.Raw.{pauses}

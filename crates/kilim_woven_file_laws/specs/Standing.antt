@@ -25,12 +25,12 @@ use Rattle.kilim_link_spec.specs.World.{World, class_text, member_descriptor}
 use Rattle.kilim_link_spec.specs.declared.fault.MemberOf.{MemberOf as MemberRef}
 use Rattle.kilim_link_spec.specs.declared.named.Body.{Body}
 use Rattle.kilim_opcodes.specs.declared.instr.RawInstr.{RawInstr}
-use Rattle.kilim_pool_needs.specs.Adding.{index_of, text_index}
+use Rattle.kilim_class_fits.specs.pool_needs.Adding.{index_of, text_index}
 use Rattle.kilim_woven_file_laws.specs.form.Raw.{call_need, old_need, pauses, raw_code}
 use Rattle.kilim_woven_file_laws.specs.form.Texts.{fiber_text, needed_method, type_name, woven_descriptor}
 use Rattle.kilim_woven_file_laws.specs.form.WovenFile.{MethodPair, has_calls, rewritten, woven_bytes}
-use Rattle.kilim_pool_needs.specs.declared.need.Need.{Need}
-use Rattle.kilim_pool_needs.specs.declared.need.Need.TheVariants.{ACall, AClass}
+use Rattle.kilim_class_fits.specs.declared.pool_needs.need.Need.{Need}
+use Rattle.kilim_class_fits.specs.declared.pool_needs.need.Need.TheVariants.{ACall, AClass}
 use Rattle.kilim_woven_file_laws.specs.Descriptors.{IsPlain}
 use Rattle.kilim_woven_file_laws.specs.Resolving.{IsFound, WorldsAgree}
 use Rattle.kilim_woven_form.specs.Woven.{moved_instr}

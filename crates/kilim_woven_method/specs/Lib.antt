@@ -1,3 +1,4 @@
 pub mod Flags
 pub mod Laid
 pub mod Found
+pub mod woven_each

@@ -8,6 +8,7 @@ mod layout;
 mod method;
 mod size;
 mod slots;
+pub mod woven_each;
 
 pub use copy::{copy_method, copy_types};
 pub use find::{nowhere, places_of};

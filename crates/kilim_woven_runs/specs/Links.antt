@@ -16,7 +16,7 @@ use Rattle.kilim_program.specs.Natives as native
 use Rattle.kilim_program.specs.Effect.{Effect, Goes, Calls, Asks, as_reference, is_wide}
 use Rattle.kilim_program.specs.Does.{does}
 use Rattle.kilim_program.specs.Moves.{slots_of, entered}
-use Rattle.kilim_fits.specs.Fits.{IsThere}
+use Rattle.kilim_typing_laws.specs.fits.Fits.{IsThere}
 use Rattle.kilim_jvm_interp.specs.Step.{stack_limit}
 use Rattle.kilim_classes.specs.Same.{argument_slots}
 use Rattle.kilim_thread_model.specs.State.{Setting}

@@ -20,7 +20,7 @@ use Rattle.kilim_thread_model.specs.Kept.{IsFormed, given}
 use Rattle.kilim_thread_model.specs.Reach.{Below}
 use Rattle.kilim_kin.specs.trees.TreeKin.{IsWholeTree}
 use Rattle.kilim_tree_move.specs.Shaping.{IsShown, held}
-use Rattle.kilim_fits.specs.Fits.{AreThere, IsThere}
+use Rattle.kilim_typing_laws.specs.fits.Fits.{AreThere, IsThere}
 use Rattle.kilim_woven_runs.specs.fiber_kin.Served.{gives_value}
 use Rattle.kilim_woven_runs.specs.Thread.{Frame, At}
 use Rattle.kilim_woven_runs.specs.Acts.{World}

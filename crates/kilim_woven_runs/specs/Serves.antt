@@ -16,7 +16,7 @@ use Rattle.kilim_program.specs.Effect.{Effect, Calls, Asks, Raises, Ends, Stuck}
 use Rattle.kilim_program.specs.Does.{does}
 use Rattle.kilim_classes.specs.Lengths.{ends_path}
 use Rattle.kilim_program.specs.Moves.{slots_in}
-use Rattle.kilim_fits.specs.Fits.{AreThere, IsThere}
+use Rattle.kilim_typing_laws.specs.fits.Fits.{AreThere, IsThere}
 use Rattle.kilim_jvm_interp.specs.Step.{stack_limit}
 use Rattle.kilim_thread_model.specs.State.{Setting}
 use Rattle.kilim_woven_form.specs.Woven.{moved_instr, pausable_callee}

@@ -8,7 +8,7 @@ use Rattle.kilim_thread_model.specs.Lone.{Lone}
 use Rattle.kilim_thread_model.specs.Reach.{Below, Liveness, OptionNames}
 use Rattle.kilim_thread_model.specs.State.{Alive, Ended, Setting, Thread}
 use Rattle.kilim_typing_laws.specs.Laws.{typing_at}
-use Rattle.kilim_fits.specs.Fits.{Classes, Fits}
+use Rattle.kilim_typing_laws.specs.fits.Fits.{Classes, Fits}
 use Rattle.kilim_isolation_laws.specs.typed_threads.fine.Typed.{frames_of}
 use Rattle.kilim_isolation_laws.specs.reached_objects.Laws.{AreLive}
 use Rattle.kilim_isolation_laws.proofs.reached_objects.Frames.{reached_are_there}

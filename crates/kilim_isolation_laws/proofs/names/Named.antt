@@ -22,8 +22,8 @@ use Rattle.kilim_program.specs.Trees.{content_names, joined_names, names_in, nam
 use Rattle.kilim_thread_model.specs.Kept.{IsIn, IsOnce}
 use Rattle.kilim_isolation_laws.specs.forest.Heap.{Below, Heap, Here, IsForest, Then}
 use Rattle.kilim_isolation_laws.proofs.forest.Paths.{joined, never_round, one_step, under_below}
-use Rattle.kilim_fits.specs.Fits.{Classes, ContentFits, FieldsFit, HeapFits}
-use Rattle.kilim_fits.proofs.ClassMethods.{IsAmong}
+use Rattle.kilim_typing_laws.specs.fits.Fits.{Classes, ContentFits, FieldsFit, HeapFits}
+use Rattle.kilim_typing_laws.proofs.fits.ClassMethods.{IsAmong}
 use Rattle.kilim_isolation_laws.specs.graph_rows.Holds.{Anything, Own, Sort, Tree, Wide, Word, field_id, half, held_at, held_by, is_tree_object, is_tree_sort, object_sort, refers_in, tree_held, trees}
 use Rattle.kilim_isolation_laws.proofs.graph_rows.Heaps.{half_even, half_odd}
 use Rattle.kilim_isolation_laws.proofs.tree_types.Apart.{AreApart, fields_apart}

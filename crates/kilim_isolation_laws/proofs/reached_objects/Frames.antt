@@ -35,8 +35,8 @@ use Rattle.kilim_isolation_rules.specs.Calls.{given_result}
 use Rattle.kilim_isolation_rules.specs.Marks.{given}
 use Rattle.kilim_pausable_graph.specs.Pausing.{frames_at}
 use Rattle.kilim_isolation_check.specs.Walks.{entry_graph, machine_of}
-use Rattle.kilim_fits.specs.Fits as fits
-use Rattle.kilim_fits.specs.Fits.{AValue, AreThere, Awaited, BelowFit, Classes, FrameFits, Holds, Nothing, StackFits, Wanted, has_type, have_types, result_awaited, result_of}
+use Rattle.kilim_typing_laws.specs.fits.Fits as fits
+use Rattle.kilim_typing_laws.specs.fits.Fits.{AValue, AreThere, Awaited, BelowFit, Classes, FrameFits, Holds, Nothing, StackFits, Wanted, has_type, have_types, result_awaited, result_of}
 use Rattle.kilim_isolation_laws.specs.reached_objects.live.Laws.{IsAcceptedBy, IsThere as LiveIsThere}
 use Rattle.kilim_isolation_laws.proofs.reached_objects.live.Gone.{result_stays}
 use Rattle.kilim_isolation_laws.proofs.reached_objects.live.Live.{live_is_there}

@@ -22,9 +22,9 @@ use Rattle.kilim_program.specs.Machine.{Objects}
 use Rattle.kilim_program.specs.Members.{object_fields}
 use Rattle.kilim_program.specs.Shapes.{field_in}
 use Rattle.kilim_thread_model.specs.Reach.{Below, FieldNames, Here, Holds, Names, SomeNames, Then}
-use Rattle.kilim_fits.specs.Fits.{Classes, ContentFits, FieldFits, FieldsFit}
-use Rattle.kilim_fits.specs.Fits as fits
-use Rattle.kilim_fits.proofs.ClassMethods.{IsAmong}
+use Rattle.kilim_typing_laws.specs.fits.Fits.{Classes, ContentFits, FieldFits, FieldsFit}
+use Rattle.kilim_typing_laws.specs.fits.Fits as fits
+use Rattle.kilim_typing_laws.proofs.fits.ClassMethods.{IsAmong}
 use Rattle.kilim_isolation_laws.proofs.tree_types.Apart.{AreApart, fields_apart}
 use Rattle.kilim_isolation_laws.specs.graph_rows.Holds.{Anything, Fits, HeapFits, Own, Sort, Tree, Wide, Word, field_sort, field_sort_of, object_sort, sort_by, type_sort}
 

@@ -15,7 +15,7 @@ use Rattle.kilim_program.specs.Machine.{Objects}
 use Rattle.kilim_thread_model.specs.Reach.{LiveNames, SomeNames}
 use Rattle.kilim_typing.specs.Step.{assignable, made_at}
 use Rattle.kilim_typing.specs.Typed.{all_assignable}
-use Rattle.kilim_fits.specs.Fits.{Classes, has_type, have_types, is_made}
+use Rattle.kilim_typing_laws.specs.fits.Fits.{Classes, has_type, have_types, is_made}
 use Rattle.kilim_isolation_laws.specs.forest.Relation.{Named}
 use Rattle.kilim_shape_graph.specs.declared.graph.Graph.{Graph}
 use Rattle.kilim_shape_graph.specs.Graphs.{node_of, slot}

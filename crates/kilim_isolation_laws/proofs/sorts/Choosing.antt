@@ -29,11 +29,11 @@ use Rattle.kilim_typing.specs.Step.{is_above, is_superclass_method, may_name, sp
 use Rattle.kilim_typing.specs.Step as step
 use Rattle.kilim_lemmas.proofs.Lists.{get_right}
 use Rattle.kilim_shape_graph.specs.Entry.{quality}
-use Rattle.kilim_fits.specs.Chosen.{IsChosen}
-use Rattle.kilim_fits.proofs.ClassMethods.{IsAmong, owner_has}
-use Rattle.kilim_fits.proofs.Finding.{finds}
-use Rattle.kilim_fits.proofs.FromKeeps.{all_at}
-use Rattle.kilim_fits.proofs.Through.{cases, message_at, message_top, object_at, object_top}
+use Rattle.kilim_typing_laws.specs.fits.Chosen.{IsChosen}
+use Rattle.kilim_typing_laws.proofs.fits.ClassMethods.{IsAmong, owner_has}
+use Rattle.kilim_typing_laws.proofs.fits.Finding.{finds}
+use Rattle.kilim_typing_laws.proofs.fits.FromKeeps.{all_at}
+use Rattle.kilim_typing_laws.proofs.fits.Through.{cases, message_at, message_top, object_at, object_top}
 use Rattle.kilim_isolation_laws.specs.graph_rows.Holds.{Sort, sort_by, type_sort}
 use Rattle.kilim_isolation_laws.specs.graph_rows.Facts.{Agrees, ChoosesWell}
 use Rattle.kilim_isolation_laws.proofs.sorts.Lines.{in_line}

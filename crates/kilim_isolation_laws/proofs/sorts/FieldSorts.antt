@@ -26,9 +26,9 @@ use Rattle.kilim_program.specs.Shapes.{field_in}
 use Rattle.std.proofs.lemmas.Grind.{flat_map-append}
 use Rattle.std.proofs.lemmas.List.{reverse-append}
 use Rattle.kilim_lemmas.proofs.Texts.{text_is}
-use Rattle.kilim_fits.proofs.ClassMethods.{IsAmong, any_among, owner_is}
-use Rattle.kilim_fits.proofs.FromKeeps.{all_at}
-use Rattle.kilim_fits.proofs.Through.{each_at, object_at, object_top}
+use Rattle.kilim_typing_laws.proofs.fits.ClassMethods.{IsAmong, any_among, owner_is}
+use Rattle.kilim_typing_laws.proofs.fits.FromKeeps.{all_at}
+use Rattle.kilim_typing_laws.proofs.fits.Through.{each_at, object_at, object_top}
 use Rattle.kilim_isolation_laws.proofs.sorts.Lines.{in_line}
 use Rattle.kilim_typing.specs.Step as type
 use Rattle.kilim_isolation_laws.specs.graph_rows.Holds.{MayHold, Wide, Word, field_sort, field_sort_of, object_sort, sort_by, sort_of_vtype, type_sort}

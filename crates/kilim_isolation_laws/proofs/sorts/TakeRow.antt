@@ -19,8 +19,8 @@ use Rattle.kilim_classes.specs.Keeps.{Keeps}
 use Rattle.kilim_classes.specs.Names.{class_name, method_at}
 use Rattle.kilim_program.specs.Natives.{is_handed_out}
 use Rattle.kilim_lemmas.proofs.Texts.{same_text}
-use Rattle.kilim_fits.proofs.BuiltInMembers.{NamedAt, built_in_at, named_at, none_built_in, takes}
-use Rattle.kilim_fits.proofs.ValueClasses.{all_of_at}
+use Rattle.kilim_typing_laws.proofs.fits.BuiltInMembers.{NamedAt, built_in_at, named_at, none_built_in, takes}
+use Rattle.kilim_typing_laws.proofs.fits.ValueClasses.{all_of_at}
 use Rattle.kilim_isolation_laws.specs.graph_rows.Facts.{IsTake}
 use Rattle.kilim_isolation_laws.proofs.sorts.Sorted.{message_is_tree}
 

@@ -34,11 +34,11 @@ use Rattle.kilim_shape_graph.specs.declared.entry.Parameter.{Parameter}
 use Rattle.kilim_shape_graph.specs.Entry.{declared_parameters, parameters_of, quality}
 use Rattle.kilim_isolation_rules.specs.Calls.{is_owned}
 use Rattle.kilim_isolation_laws.specs.forest.Heap.{IsForest}
-use Rattle.kilim_fits.specs.Fits.{Classes, Fits, HeapFits, Wanted, has_type, have_types, is_of}
-use Rattle.kilim_fits.specs.Sound.{AsksFit, native_types}
-use Rattle.kilim_fits.specs.Sound as sound
-use Rattle.kilim_fits.proofs.Grounds.{facts_hold}
-use Rattle.kilim_fits.proofs.Theorem.{moves_fit}
+use Rattle.kilim_typing_laws.specs.fits.Fits.{Classes, Fits, HeapFits, Wanted, has_type, have_types, is_of}
+use Rattle.kilim_typing_laws.specs.fits.Sound.{AsksFit, native_types}
+use Rattle.kilim_typing_laws.specs.fits.Sound as sound
+use Rattle.kilim_typing_laws.proofs.fits.Grounds.{facts_hold}
+use Rattle.kilim_typing_laws.proofs.fits.Theorem.{moves_fit}
 use Rattle.kilim_isolation_laws.specs.graph_rows.Holds.{trees}
 use Rattle.kilim_isolation_laws.specs.reached_objects.graphs.Threads.{AskFits, Gives, Listed, MoveFits}
 use Rattle.kilim_isolation_laws.specs.typed_threads.fine.Typed.{IsVerified, TopIsThere, frames_of}

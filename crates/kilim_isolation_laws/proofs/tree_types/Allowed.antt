@@ -28,8 +28,8 @@ use Rattle.kilim_program.specs.Shapes.{content_tokens, field_in, fields_in_order
 use Rattle.kilim_program.specs.Trees.{Awaits, Fields, Elements, Root, allowed_below, allowed_from, awaited, behind_token, content_types, field_types, is_allowed, is_class, is_long, is_root, is_whole_class, opened, type_named, value_fits}
 use Rattle.kilim_program.specs.Trees as trees
 use Rattle.kilim_thread_model.specs.Kept.{Finds}
-use Rattle.kilim_fits.specs.Fits.{Classes, ContentFits, FieldFits, FieldsFit, HeapFits, ObjectFits, has_objects, is_long_base, is_of, is_value_of}
-use Rattle.kilim_fits.specs.Fits as fits
+use Rattle.kilim_typing_laws.specs.fits.Fits.{Classes, ContentFits, FieldFits, FieldsFit, HeapFits, ObjectFits, has_objects, is_long_base, is_of, is_value_of}
+use Rattle.kilim_typing_laws.specs.fits.Fits as fits
 use Rattle.kilim_lemmas.proofs.Lists.{get_some}
 use Rattle.kilim_isolation_laws.specs.tree_types.Laws.{AreNamedPlainly, TreesAreAllowed}
 use Rattle.kilim_isolation_laws.proofs.tree_types.Formed.{finds_of, objects_formed, values_of}

@@ -16,8 +16,8 @@ use Rattle.kilim_classes.specs.Names.{class_at, field_of, fields_of, line_of}
 use Rattle.kilim_classes.specs.Keeps.{Keeps, members_are_owned, owned_from}
 use Rattle.kilim_program.specs.Members.{is_instance_field, object_fields}
 use Rattle.kilim_lemmas.proofs.Texts.{text_is}
-use Rattle.kilim_fits.proofs.ClassMethods.{IsAmong, owner_is}
-use Rattle.kilim_fits.proofs.Through.{distinct, each_at}
+use Rattle.kilim_typing_laws.proofs.fits.ClassMethods.{IsAmong, owner_is}
+use Rattle.kilim_typing_laws.proofs.fits.Through.{distinct, each_at}
 
 -- ---- lists in which nothing stands twice
 

@@ -19,8 +19,8 @@ use Rattle.kilim_program.specs.Shapes.{field_in, fields_in_order}
 use Rattle.kilim_program.specs.Trees.{object_of, type_named, with_keys}
 use Rattle.kilim_thread_model.specs.Kept.{Finds, IsFormed}
 use Rattle.kilim_lemmas.proofs.Lists.{get_some}
-use Rattle.kilim_fits.specs.Fits.{Classes, ContentFits, FieldsFit, has_objects}
-use Rattle.kilim_fits.proofs.ClassMethods.{IsAmong}
+use Rattle.kilim_typing_laws.specs.fits.Fits.{Classes, ContentFits, FieldsFit, has_objects}
+use Rattle.kilim_typing_laws.proofs.fits.ClassMethods.{IsAmong}
 use Rattle.kilim_kin.specs.trees.Laws.{IsPlaced}
 use Rattle.kilim_kin.proofs.trees.NamedTypes.{array_is_named, class_is_named}
 use Rattle.kilim_isolation_laws.specs.tree_types.Laws.{AreNamedPlainly, ObjectsAreFormed}

@@ -29,13 +29,13 @@ use Rattle.kilim_program.specs.Objects.{first_field, first_value, first_value_of
 use Rattle.kilim_thread_model.specs.State.{begun_in, begun_on}
 use Rattle.kilim_lemmas.proofs.Lists.{get_right}
 use Rattle.kilim_lemmas.proofs.Texts.{text_is}
-use Rattle.kilim_fits.specs.Fits.{Classes, FieldFits, FieldsFit, Fits, HeapFits, ObjectFits, Typing, Verified, Wanted, has_objects, is_of, is_value_of}
-use Rattle.kilim_fits.proofs.Bodies.{bodies}
-use Rattle.kilim_fits.proofs.ClassMethods.{IsAmong, among_left, any_among, names_owner}
-use Rattle.kilim_fits.proofs.FromKeeps.{all_weaker, among_both, itself, own_body}
-use Rattle.kilim_fits.proofs.Grounds.{facts_hold}
-use Rattle.kilim_fits.proofs.Grown.{beginnings_fit}
-use Rattle.kilim_fits.proofs.Through.{each_at}
+use Rattle.kilim_typing_laws.specs.fits.Fits.{Classes, FieldFits, FieldsFit, Fits, HeapFits, ObjectFits, Typing, Verified, Wanted, has_objects, is_of, is_value_of}
+use Rattle.kilim_typing_laws.proofs.fits.Bodies.{bodies}
+use Rattle.kilim_typing_laws.proofs.fits.ClassMethods.{IsAmong, among_left, any_among, names_owner}
+use Rattle.kilim_typing_laws.proofs.fits.FromKeeps.{all_weaker, among_both, itself, own_body}
+use Rattle.kilim_typing_laws.proofs.fits.Grounds.{facts_hold}
+use Rattle.kilim_typing_laws.proofs.fits.Grown.{beginnings_fit}
+use Rattle.kilim_typing_laws.proofs.fits.Through.{each_at}
 use Rattle.kilim_isolation_laws.proofs.typed_threads.fine.Natives.{first, object_name}
 use Rattle.kilim_isolation_laws.proofs.typed_threads.Executing.{same_class}
 

@@ -12,9 +12,9 @@ use Rattle.kilim_program.specs.declared.value.Object.{Object}
 use Rattle.kilim_program.specs.Machine.{Objects}
 use Rattle.kilim_program.specs.Trees.{with_objects, without}
 use Rattle.kilim_lemmas.proofs.Maps.{put_there, put_other, out_there, out_other}
-use Rattle.kilim_fits.specs.Fits.{Classes, ContentFits, HeapFits, ObjectFits}
-use Rattle.kilim_fits.specs.Law.{Extends, with_class}
-use Rattle.kilim_fits.proofs.Grown.{came}
+use Rattle.kilim_typing_laws.specs.fits.Fits.{Classes, ContentFits, HeapFits, ObjectFits}
+use Rattle.kilim_typing_laws.specs.fits.Law.{Extends, with_class}
+use Rattle.kilim_typing_laws.proofs.fits.Grown.{came}
 use Rattle.kilim_isolation_laws.proofs.typed_threads.Read.{AllFit, Placed}
 
 none_some : {A : Type 0} (x : A) → None ≡ Some x → ⊥

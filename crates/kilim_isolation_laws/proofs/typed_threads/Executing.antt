@@ -23,11 +23,11 @@ use Rattle.kilim_program.specs.Machine.{Objects, Activation}
 use Rattle.kilim_program.specs.Members.{execute_of, is_concrete, is_task_execute}
 use Rattle.kilim_program.specs.Moves.{entered}
 use Rattle.kilim_thread_model.specs.State.{begun_in, begun_on}
-use Rattle.kilim_fits.specs.Facts.{Selected}
-use Rattle.kilim_fits.specs.Fits.{Classes, Fits, HeapFits, Typing, Verified, Wanted, is_of}
-use Rattle.kilim_fits.proofs.Grounds.{facts_hold}
-use Rattle.kilim_fits.proofs.Grown.{beginnings_fit}
-use Rattle.kilim_fits.proofs.ValueClasses.{type_is}
+use Rattle.kilim_typing_laws.specs.fits.Facts.{Selected}
+use Rattle.kilim_typing_laws.specs.fits.Fits.{Classes, Fits, HeapFits, Typing, Verified, Wanted, is_of}
+use Rattle.kilim_typing_laws.proofs.fits.Grounds.{facts_hold}
+use Rattle.kilim_typing_laws.proofs.fits.Grown.{beginnings_fit}
+use Rattle.kilim_typing_laws.proofs.fits.ValueClasses.{type_is}
 use Rattle.kilim_isolation_laws.proofs.typed_threads.fine.Natives.{built_in_one, first, task_name}
 
 some_same : {A : Type 0} (x y : A) → Some x ≡ Some y → x ≡ y

@@ -40,13 +40,13 @@ use Rattle.kilim_thread_model.specs.Lone.{Lone, Next, Goes, Puts, Gets, Probes, 
 use Rattle.kilim_thread_model.specs.Course.{Done, done_by, probes_deed, puts_deed, received, starts_deed, takes_deed, tree_came, tree_left}
 use Rattle.kilim_thread_model.specs.declared.deed.Deed.{Deed}
 use Rattle.kilim_typing.specs.Step.{vtype}
-use Rattle.kilim_fits.specs.Fits.{Classes, Fits, HeapFits, Typing, Wanted, has_type, is_of}
-use Rattle.kilim_fits.specs.Law.{AnswersFit, Extends, with_class}
-use Rattle.kilim_fits.specs.Sound.{AsksFit, MoveFits}
-use Rattle.kilim_fits.proofs.BuiltInMembers.{NamedAt, named_at}
-use Rattle.kilim_fits.proofs.Grounds.{facts_hold}
-use Rattle.kilim_fits.proofs.Grown.{all_answers_fit}
-use Rattle.kilim_fits.proofs.Theorem.{moves_fit}
+use Rattle.kilim_typing_laws.specs.fits.Fits.{Classes, Fits, HeapFits, Typing, Wanted, has_type, is_of}
+use Rattle.kilim_typing_laws.specs.fits.Law.{AnswersFit, Extends, with_class}
+use Rattle.kilim_typing_laws.specs.fits.Sound.{AsksFit, MoveFits}
+use Rattle.kilim_typing_laws.proofs.fits.BuiltInMembers.{NamedAt, named_at}
+use Rattle.kilim_typing_laws.proofs.fits.Grounds.{facts_hold}
+use Rattle.kilim_typing_laws.proofs.fits.Grown.{all_answers_fit}
+use Rattle.kilim_typing_laws.proofs.fits.Theorem.{moves_fit}
 use Rattle.kilim_isolation_laws.specs.typed_threads.fine.Typed.{FitsAs, IsVerified, StackIsThere, TopIsThere, frames_of}
 use Rattle.kilim_isolation_laws.proofs.typed_threads.fine.Natives.{first, gives, native_gives}
 use Rattle.kilim_isolation_laws.specs.typed_threads.Typed.{Further}

@@ -25,8 +25,8 @@ use Rattle.kilim_program.specs.Members.{is_concrete, is_instance_field, object_f
 use Rattle.kilim_program.specs.Shapes.{fields_in_order}
 use Rattle.kilim_program.specs.Trees.{Awaits, Fields, Elements, Read, Reads, Root, allowed_below, allowed_from, and_then, awaited, behind, behind_token, built, closed, content_types, field_types, is_allowed, is_class, is_long, is_root, is_whole_class, leaf, object_of, opened, read_value, read_values, root_alone, type_named, value_fits, with_keys}
 use Rattle.kilim_program.specs.Trees as trees
-use Rattle.kilim_fits.specs.Fits.{Classes, ContentFits, FieldFits, FieldsFit, ObjectFits, has_objects, is_long_base, is_of, is_value_of}
-use Rattle.kilim_fits.specs.Fits as fits
+use Rattle.kilim_typing_laws.specs.fits.Fits.{Classes, ContentFits, FieldFits, FieldsFit, ObjectFits, has_objects, is_long_base, is_of, is_value_of}
+use Rattle.kilim_typing_laws.specs.fits.Fits as fits
 
 -- ---- words of two definitions that are the same
 

@@ -20,7 +20,7 @@ use Rattle.kilim_thread_model.specs.Course.{Course, Done, Follows, IsLone, Moves
 use Rattle.kilim_thread_model.specs.declared.deed.Beginning.{Beginning}
 use Rattle.kilim_thread_model.specs.declared.deed.Beginning.TheVariants.{Boot, Begun}
 use Rattle.kilim_thread_model.specs.declared.deed.Deed.{Deed}
-use Rattle.kilim_fits.specs.Fits.{Classes, Fits, HeapFits, Typing, Wanted}
+use Rattle.kilim_typing_laws.specs.fits.Fits.{Classes, Fits, HeapFits, Typing, Wanted}
 use Rattle.kilim_isolation_laws.specs.typed_threads.fine.Typed.{IsVerified}
 use Rattle.kilim_isolation_laws.specs.typed_threads.Typed.{Further, IsTyped, StacksAreThere}
 use Rattle.kilim_isolation_laws.specs.typed_threads.Law.{BeginningsAreTyped, ThreadsAreTyped}

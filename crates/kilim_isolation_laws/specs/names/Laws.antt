@@ -8,7 +8,7 @@ use Rattle.kilim_program.specs.Shapes.{shape_of}
 use Rattle.kilim_program.specs.Trees.{tree_names, without}
 use Rattle.kilim_thread_model.specs.Kept.{IsOnce}
 use Rattle.kilim_isolation_laws.specs.forest.Heap.{IsForest}
-use Rattle.kilim_fits.specs.Fits.{Classes, HeapFits}
+use Rattle.kilim_typing_laws.specs.fits.Fits.{Classes, HeapFits}
 use Rattle.kilim_isolation_laws.specs.graph_rows.Facts.{IsGivenAway}
 use Rattle.kilim_isolation_laws.specs.graph_rows.Holds.{IsOf, Tree, Trees, trees}
 

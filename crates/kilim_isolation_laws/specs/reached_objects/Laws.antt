@@ -14,7 +14,7 @@ use Rattle.kilim_typing_laws.specs.Laws.{typing_at}
 use Rattle.kilim_typing.specs.TypedProgram.{TypedProgram}
 use Rattle.kilim_pausable_graph.specs.Pausing.{frames_at}
 use Rattle.kilim_isolation_check.specs.Faults.{IsAccepted}
-use Rattle.kilim_fits.specs.Fits.{AreThere, Classes, Fits, Verified, Wanted}
+use Rattle.kilim_typing_laws.specs.fits.Fits.{AreThere, Classes, Fits, Verified, Wanted}
 use Rattle.kilim_isolation_laws.specs.reached_objects.graphs.Threads.{FramesFit}
 
 -- the program with the frames that verification lists

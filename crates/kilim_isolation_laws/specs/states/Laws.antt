@@ -8,7 +8,7 @@ use Rattle.kilim_thread_model.specs.State.{Setting, Alive}
 use Rattle.kilim_thread_model.specs.Lone.{Lone}
 use Rattle.kilim_thread_model.specs.Kept.{GivesTree, IsFormed}
 use Rattle.kilim_typing_laws.specs.Laws.{typing_at}
-use Rattle.kilim_fits.specs.Fits.{Classes, Wanted}
+use Rattle.kilim_typing_laws.specs.fits.Fits.{Classes, Wanted}
 use Rattle.kilim_isolation_laws.specs.typed_threads.fine.Typed.{FitsAs, IsVerified, StackIsThere}
 use Rattle.kilim_isolation_laws.specs.reached_objects.graphs.Threads.{FramesFit, Listed, MoveFits}
 use Rattle.kilim_isolation_laws.specs.tree_types.Laws.{AreNamedPlainly}

@@ -13,7 +13,7 @@ use Rattle.kilim_program.specs.Machine.{Objects}
 use Rattle.kilim_program.specs.Shapes.{shape_of}
 use Rattle.kilim_program.specs.Trees.{Root, is_allowed, is_root}
 use Rattle.kilim_thread_model.specs.Kept.{IsFormed}
-use Rattle.kilim_fits.specs.Fits.{Classes, HeapFits}
+use Rattle.kilim_typing_laws.specs.fits.Fits.{Classes, HeapFits}
 use Rattle.kilim_kin.specs.trees.Laws.{IsPlain}
 
 -- No class's name is empty, or begins as an array's descriptor does.

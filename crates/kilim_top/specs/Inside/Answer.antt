@@ -3,7 +3,7 @@ use Rattle.std.specs.Prelude.{◌≡◌, ℕ, true, List, [], Some, ◌⊎◌}
 use Rattle.kilim_classes.specs.declared.names.ClassId.{ClassId}
 use Rattle.kilim_classes.specs.Names.{class_named}
 use Rattle.kilim_classes.specs.Program.{Program}
-use Rattle.kilim_demo.specs.Demo.{IsDemoLine, IsDemoReport}
+use Rattle.kilim_top.specs.demo.Demo.{IsDemoLine, IsDemoReport}
 use Rattle.kilim_journal.specs.Text.{journal_text}
 use Rattle.kilim_journal.specs.declared.entry.Entry.{Entry}
 use Rattle.kilim_program.specs.declared.run.Limits.{Limits}
@@ -15,7 +15,7 @@ use Rattle.kilim_weaver.specs.declared.weaving.Woven.{Woven}
 use Rattle.kilim_whole_runs.specs.Runs.{IsJournalOf, setting_of}
 use Rattle.kilim_words.specs.Words.{Request}
 use Rattle.kilim_weaving_laws.specs.Served.{CanServe}
-use Rattle.kilim_woven_stage.specs.declared.stage.WovenProgram.{WovenProgram}
+use Rattle.kilim_stages.specs.declared.woven_stage.stage.WovenProgram.{WovenProgram}
 use Rattle.kilim_written_files.specs.OutputFile.{OutputFile}
 use Rattle.kilim_top.specs.declared.answer.Ready.{Ready}
 use Rattle.kilim_top.specs.declared.answer.Ready.TheVariants as ready

@@ -22,12 +22,12 @@ use Rattle.kilim_classes.specs.Program.{Program}
 use Rattle.kilim_isolation_laws.proofs.typed_threads.fine.Fine.{fitting_is_fine}
 use Rattle.kilim_isolation_laws.proofs.typed_threads.fine.Shown.{no_fiber_class}
 use Rattle.kilim_isolation_laws.specs.typed_threads.fine.Typed.{IsVerified, TopIsThere, frames_of}
-use Rattle.kilim_fits.proofs.Grounds.{facts_hold}
-use Rattle.kilim_fits.proofs.Narrowed.{narrows}
-use Rattle.kilim_fits.proofs.Table.{table_fits}
-use Rattle.kilim_fits.proofs.Walk.{stands_at}
-use Rattle.kilim_fits.specs.Sound.{CallFits, EffectFits, argument_types}
-use Rattle.kilim_fits.specs.Fits.{AreThere, Classes, ContentFits, HeapFits, IsThere, Typing, Wanted, has_objects, has_type, have_types, is_made, refers}
+use Rattle.kilim_typing_laws.proofs.fits.Grounds.{facts_hold}
+use Rattle.kilim_typing_laws.proofs.fits.Narrowed.{narrows}
+use Rattle.kilim_typing_laws.proofs.fits.Table.{table_fits}
+use Rattle.kilim_typing_laws.proofs.fits.Walk.{stands_at}
+use Rattle.kilim_typing_laws.specs.fits.Sound.{CallFits, EffectFits, argument_types}
+use Rattle.kilim_typing_laws.specs.fits.Fits.{AreThere, Classes, ContentFits, HeapFits, IsThere, Typing, Wanted, has_objects, has_type, have_types, is_made, refers}
 use Rattle.kilim_program.specs.declared.value.Object.{Object as HeapObject}
 use Rattle.kilim_program.specs.Does.{does}
 use Rattle.kilim_program.specs.Effect.{Calls, Effect, Stuck, named_type}

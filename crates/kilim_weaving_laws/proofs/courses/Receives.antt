@@ -15,9 +15,9 @@ use Rattle.kilim_classes.specs.declared.verified.VType.{VType}
 use Rattle.kilim_classes.specs.declared.verified.VType.TheVariants.{Object}
 use Rattle.kilim_classes.specs.Fits.{fits_type}
 use Rattle.kilim_classes.specs.Program.{Program}
-use Rattle.kilim_fits.proofs.Basics.{assigned, takes_inverse}
-use Rattle.kilim_fits.specs.Facts.{Ordered}
-use Rattle.kilim_fits.specs.Fits.{Classes, HeapFits, has_type, have_types, is_of}
+use Rattle.kilim_typing_laws.proofs.fits.Basics.{assigned, takes_inverse}
+use Rattle.kilim_typing_laws.specs.fits.Facts.{Ordered}
+use Rattle.kilim_typing_laws.specs.fits.Fits.{Classes, HeapFits, has_type, have_types, is_of}
 use Rattle.kilim_program.specs.declared.value.Object.{Object as HeapObject}
 use Rattle.kilim_program.specs.Machine.{Objects}
 use Rattle.kilim_typing.specs.Step.{Is, Operand, Types, all_meet, arguments, by_row, class_vtype, meets, result_types, row, type_step, virtual_row, virtual_rules, vtype}

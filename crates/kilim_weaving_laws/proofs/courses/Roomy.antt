@@ -18,7 +18,7 @@ use Rattle.kilim_woven_runs.specs.fiber_kin.Served.{IsFineThread, ResultFits}
 use Rattle.kilim_isolation_laws.proofs.typed_threads.fine.Fine.{fitting_is_fine}
 use Rattle.kilim_isolation_laws.proofs.typed_threads.fine.Heights.{low_stack, some_size}
 use Rattle.kilim_isolation_laws.specs.typed_threads.fine.Typed.{FitsAs, IsVerified}
-use Rattle.kilim_fits.specs.Fits.{AreThere, Classes, IsThere, Typing, Wanted, has_type, have_types}
+use Rattle.kilim_typing_laws.specs.fits.Fits.{AreThere, Classes, IsThere, Typing, Wanted, has_type, have_types}
 use Rattle.kilim_jvm_interp.specs.Step.{FitsStack, limit_in, stack_limit}
 use Rattle.kilim_kin.proofs.Rows.{rows_kin}
 use Rattle.kilim_kin.specs.Kin.{Alike, AreHeld, AreKin, EffectKin, FieldsKin, IsAmong, IsHeld, IsKin, StandsIn}

@@ -3,7 +3,7 @@ use Rattle.std.proofs.Common.{ℕ, zero, suc, List, [], ◌∷◌, refl}
 use Rattle.kilim_classes.specs.declared.names.MethodId.{MethodId}
 use Rattle.kilim_classes.specs.declared.value.Value.{Value}
 use Rattle.kilim_classes.specs.declared.value.Value.TheVariants.{Box, Fiber, Int, Long, Null, Ref, Text}
-use Rattle.kilim_fits.specs.Fits.{Classes}
+use Rattle.kilim_typing_laws.specs.fits.Fits.{Classes}
 use Rattle.kilim_program.specs.Machine.{Activation, Objects}
 use Rattle.kilim_isolation_laws.specs.Laws.{IsRunOfAccepted}
 use Rattle.kilim_thread_model.specs.State.{Setting}

@@ -5,8 +5,8 @@ use Rattle.std.proofs.lemmas.Bool.{and_parts}
 use Rattle.kilim_classes.specs.BuiltIn.{class_type}
 use Rattle.kilim_classes.specs.Names.{is_task}
 use Rattle.kilim_isolation_laws.specs.typed_threads.fine.Typed.{FitsAs}
-use Rattle.kilim_fits.specs.Fits.{Classes, HeapFits, Wanted}
-use Rattle.kilim_fits.specs.Law.{Extends}
+use Rattle.kilim_typing_laws.specs.fits.Fits.{Classes, HeapFits, Wanted}
+use Rattle.kilim_typing_laws.specs.fits.Law.{Extends}
 use Rattle.kilim_isolation_laws.specs.graph_rows.Holds.{IsOf, Tree, Trees, is_tree_object, object_sort}
 use Rattle.kilim_journal.specs.declared.entry.Act.{Act}
 use Rattle.kilim_journal.specs.declared.entry.Act.TheVariants.{End}

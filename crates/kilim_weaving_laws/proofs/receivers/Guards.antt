@@ -19,7 +19,7 @@ use Rattle.kilim_classes.specs.Lengths.{fetched}
 use Rattle.kilim_classes.specs.Names.{is_task, method_at}
 use Rattle.kilim_classes.specs.Program.{Program}
 use Rattle.kilim_classes.specs.Same.{is_constructor}
-use Rattle.kilim_fits.specs.Fits.{Classes}
+use Rattle.kilim_typing_laws.specs.fits.Fits.{Classes}
 use Rattle.kilim_isolation_laws.specs.forest.Heap.{IsForest}
 use Rattle.kilim_isolation_laws.specs.graph_rows.Holds.{HeapFits, IsOf, SlotFits, Sort, Tree, Trees, is_tree_sort, named_by, refers, sort, sort_by, trees, value_at, Waiting, Holds}
 use Rattle.kilim_isolation_laws.specs.graph_rows.Outcome.{CallHolds, EffectHolds}
@@ -45,7 +45,7 @@ use Rattle.kilim_typing.specs.Step.{class_vtype, peek}
 use Rattle.kilim_typing.specs.Typed.{edges, entry, has_code, param_slots}
 use Rattle.kilim_typing_laws.specs.Laws.{typing_at}
 use Rattle.kilim_woven_runs.specs.lone.Law.{lone_at, lone_frames}
-use Rattle.kilim_woven_pauses.proofs.Accepted.{receivers_held}
+use Rattle.kilim_weaver.proofs.woven_pauses.Accepted.{receivers_held}
 use Rattle.kilim_weaving_laws.proofs.receivers.Chain.{IsWell}
 use Rattle.kilim_weaving_laws.proofs.receivers.Held.{Guard, Stays, rules_hold, top_verified}
 use Rattle.kilim_weaving_laws.proofs.receivers.Keeper.{kept_below}

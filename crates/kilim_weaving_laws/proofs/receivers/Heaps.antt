@@ -22,7 +22,7 @@ use Rattle.kilim_program.specs.Does.{at_unit, calls_method, calls_on, calls_text
 use Rattle.kilim_program.specs.Natives.{is_handed_out}
 use Rattle.kilim_program.specs.Objects.{new_array}
 use Rattle.kilim_program.specs.Shapes.{field_in}
-use Rattle.kilim_fits.proofs.Maps.{put_other, put_there}
+use Rattle.kilim_typing_laws.proofs.fits.Maps.{put_other, put_there}
 use Rattle.kilim_woven_runs.proofs.alike.Effects.{is_simple}
 
 -- the same effect with another heap

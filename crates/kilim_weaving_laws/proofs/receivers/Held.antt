@@ -14,10 +14,10 @@ use Rattle.kilim_program.specs.Effect.{Effect}
 use Rattle.kilim_program.specs.Machine.{Activation, Objects}
 use Rattle.kilim_program.specs.Moves.{effect_found, effect_in, move_by, moves}
 use Rattle.kilim_isolation_laws.specs.typed_threads.fine.Typed.{IsVerified}
-use Rattle.kilim_fits.specs.Sound as typed
-use Rattle.kilim_fits.proofs.Grounds.{facts_hold}
-use Rattle.kilim_fits.proofs.Theorem.{moves_fit}
-use Rattle.kilim_fits.specs.Fits.{Classes, Fits}
+use Rattle.kilim_typing_laws.specs.fits.Sound as typed
+use Rattle.kilim_typing_laws.proofs.fits.Grounds.{facts_hold}
+use Rattle.kilim_typing_laws.proofs.fits.Theorem.{moves_fit}
+use Rattle.kilim_typing_laws.specs.fits.Fits.{Classes, Fits}
 use Rattle.kilim_isolation_laws.specs.graph_rows.Holds.{is_tree_object, trees, waiting_named}
 use Rattle.kilim_isolation_laws.specs.forest.Laws.{IsPlace}
 use Rattle.kilim_isolation_laws.specs.forest.Relation.{Frames}

@@ -18,8 +18,8 @@ use Rattle.kilim_classes.specs.BuiltIn.{class_id, class_type, int_type}
 use Rattle.kilim_classes.specs.Kinds.{class_kind, is_tree_kind, kind_of}
 use Rattle.kilim_classes.specs.Names.{method_at}
 use Rattle.kilim_isolation_laws.proofs.typed_threads.fine.Natives.{gives, native_gives}
-use Rattle.kilim_fits.specs.Fits.{Classes, have_types, is_of}
-use Rattle.kilim_fits.specs.Sound.{AsksFit, native_types}
+use Rattle.kilim_typing_laws.specs.fits.Fits.{Classes, have_types, is_of}
+use Rattle.kilim_typing_laws.specs.fits.Sound.{AsksFit, native_types}
 use Rattle.kilim_isolation_laws.specs.forest.Heap.{Below, Here, IsForest, Then}
 use Rattle.kilim_isolation_laws.specs.graph_rows.Facts.{IsGivenAway, IsTaken}
 use Rattle.kilim_isolation_laws.specs.graph_rows.Holds.{Fits, IsOf, Sort, Tree, Trees, is_tree_object, refers, trees, type_sort}

@@ -10,9 +10,9 @@ use Rattle.kilim_classes.specs.declared.value.Value.{Value}
 use Rattle.kilim_classes.specs.declared.value.Value.TheVariants.{Box, Ref}
 use Rattle.kilim_classes.specs.BuiltIn.{class_type}
 use Rattle.kilim_classes.specs.Names.{◌>>=◌, class_at, is_task, method_at}
-use Rattle.kilim_fits.proofs.Maps.{put_other}
-use Rattle.kilim_fits.specs.Fits.{Classes, FramesFit as TypesFit, HeapFits, Nothing}
-use Rattle.kilim_fits.specs.Sound as typed
+use Rattle.kilim_typing_laws.proofs.fits.Maps.{put_other}
+use Rattle.kilim_typing_laws.specs.fits.Fits.{Classes, FramesFit as TypesFit, HeapFits, Nothing}
+use Rattle.kilim_typing_laws.specs.fits.Sound as typed
 use Rattle.kilim_isolation_laws.specs.graph_rows.Holds.{is_tree_sort, object_sort}
 use Rattle.kilim_program.specs.declared.cause.EndCause.{EndCause}
 use Rattle.kilim_program.specs.declared.cause.EndCause.TheVariants as cause

@@ -18,7 +18,7 @@ use Rattle.kilim_woven_runs.specs.Links.{Forms, code, Takes, Both, Fw, unwoven, 
 use Rattle.kilim_weaving_laws.proofs.simulation.Paths as path
 use Rattle.std.specs.Prelude.{replicate, ◌-◌}
 use Rattle.kilim_woven_runs.specs.Fibers.{new_fiber, enter}
-use Rattle.kilim_fits.specs.Fits.{AreThere, IsThere}
+use Rattle.kilim_typing_laws.specs.fits.Fits.{AreThere, IsThere}
 use Rattle.kilim_weaving_laws.proofs.simulation.Still.{StepIsKnown}
 use Rattle.kilim_weaving_laws.proofs.simulation.Forward.{calm}
 use Rattle.kilim_weaving_laws.proofs.simulation.Forward as forward

@@ -27,7 +27,7 @@ use Rattle.kilim_woven_runs.specs.Rows.{handed}
 use Rattle.kilim_woven_runs.specs.Serves.{Rows, Known, Shape, IsCall, IsNative, IsRaise, IsEnd, IsStuck, is_pausing_native, IsThread, Now}
 use Rattle.kilim_woven_runs.specs.Links.{Link, Lk, u_frames, left_overs, bares, Leaf, Forms, code, w_frames, Holds, AllStand, Good, Goods, Takes, AreReady, Fw, Fine_at, record_of, first_record, next_records}
 use Rattle.kilim_woven_runs.specs.Rooms.{HasRoom, bare_frames}
-use Rattle.kilim_fits.specs.Fits.{AreThere}
+use Rattle.kilim_typing_laws.specs.fits.Fits.{AreThere}
 use Rattle.kilim_weaving_laws.proofs.simulation.Still.{StepIsKnown}
 use Rattle.kilim_jvm_interp.specs.Step.{stack_limit}
 use Rattle.kilim_weaving_laws.proofs.simulation.Added as add

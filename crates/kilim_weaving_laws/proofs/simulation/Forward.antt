@@ -25,7 +25,7 @@ use Rattle.kilim_woven_runs.specs.Form.{Facts, Starts, Members, longest, is_paus
 use Rattle.kilim_woven_runs.specs.Runs.{stop, idle, mark, done_in}
 use Rattle.kilim_woven_runs.specs.Serves.{Rows}
 use Rattle.kilim_woven_runs.specs.Links.{Link, Lk, PLink, u_stack, left_overs, Forms, code, w_frames, w_stack, Holds, Held, Good, Goods, Takes, Both, Fw, unwoven, woven, Fine, Fine_at}
-use Rattle.kilim_fits.specs.Fits.{AreThere, IsThere}
+use Rattle.kilim_typing_laws.specs.fits.Fits.{AreThere, IsThere}
 use Rattle.kilim_weaving_laws.proofs.simulation.Still.{StepIsKnown}
 use Rattle.kilim_weaving_laws.proofs.simulation.Added as add
 use Rattle.kilim_weaving_laws.proofs.simulation.Paths as path

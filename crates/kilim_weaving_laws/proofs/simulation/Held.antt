@@ -10,7 +10,7 @@ use Rattle.kilim_classes.specs.declared.value.Value.TheVariants as value
 use Rattle.kilim_classes.specs.declared.verified.VType.{VType}
 use Rattle.kilim_classes.specs.declared.verified.VType.TheVariants.{Top, Int, Long, Null, UninitThis, Uninit, Object}
 use Rattle.kilim_classes.specs.Program.{Program}
-use Rattle.kilim_fits.specs.Fits.{AreThere, IsThere}
+use Rattle.kilim_typing_laws.specs.fits.Fits.{AreThere, IsThere}
 use Rattle.kilim_program.specs.declared.value.Object.{Object as HeapObject}
 use Rattle.kilim_program.specs.Does.{cast_fits, does}
 use Rattle.kilim_program.specs.Effect.{Effect, Goes, Raises, with_some}

@@ -24,7 +24,7 @@ use Rattle.kilim_woven_runs.specs.Runs.{stop, idle}
 use Rattle.kilim_woven_runs.specs.Serves.{Rows}
 use Rattle.kilim_woven_form.specs.Woven.{below, receiver}
 use Rattle.kilim_woven_runs.specs.Links.{again, Link, Lk, u_frames, left_overs, rev_onto, bares, Target, Inner, Leaf, Forms, code, w_frames, Good, Goods, LeafTakes, AreReady, Fw, at_rest, at_leaf, plan_of}
-use Rattle.kilim_fits.specs.Fits.{AreThere}
+use Rattle.kilim_typing_laws.specs.fits.Fits.{AreThere}
 use Rattle.kilim_weaving_laws.proofs.simulation.Still.{StepIsKnown}
 use Rattle.kilim_weaving_laws.proofs.simulation.Paths as path
 use Rattle.kilim_weaving_laws.proofs.simulation.Natural.{Outcome, GoesOn, IsOver, fold, Counts, native_same}

@@ -21,7 +21,7 @@ use Rattle.kilim_woven_runs.specs.Acts.{Lost}
 use Rattle.kilim_woven_runs.specs.Form.{HasAt}
 use Rattle.kilim_woven_runs.specs.Runs.{Comes, stop, idle, mark}
 use Rattle.kilim_woven_runs.specs.Rooms.{GivesWhole, HasRoom, MemberHasRoom}
-use Rattle.kilim_fits.specs.Fits.{AreThere}
+use Rattle.kilim_typing_laws.specs.fits.Fits.{AreThere}
 use Rattle.kilim_weaving_laws.proofs.simulation.Still.{IsStill, PausesOn, StepIsKnown, member_still}
 use Rattle.kilim_jvm_interp.specs.Step.{stack_limit}
 

@@ -19,7 +19,7 @@ use Rattle.kilim_woven_runs.specs.Form.{Facts, Members, longest}
 use Rattle.kilim_woven_runs.specs.Rows.{handed, OldHeap, IsClean}
 use Rattle.kilim_woven_runs.specs.Runs.{mark}
 use Rattle.kilim_woven_runs.specs.Links.{Link, Lk, method_of, self_of_link, rev_onto, bares, Target, Inner, Leaf, Forms, code, record_of, first_record, next_records, Good, Goods, Takes, AreReady, Chained, unwinding, entering, at_leaf}
-use Rattle.kilim_fits.specs.Fits.{AreThere}
+use Rattle.kilim_typing_laws.specs.fits.Fits.{AreThere}
 use Rattle.kilim_weaving_laws.proofs.simulation.Still.{StepIsKnown}
 use Rattle.kilim_weaving_laws.proofs.simulation.Held.{MaybeThere}
 use Rattle.kilim_weaving_laws.proofs.simulation.Paths as path

@@ -26,7 +26,7 @@ use Rattle.kilim_woven_runs.specs.Form.{Facts, Starts, Members, longest, is_paus
 use Rattle.kilim_woven_runs.specs.Rows.{elsewhere}
 use Rattle.kilim_woven_runs.specs.Serves.{Rows, Twins, is_pausing_native}
 use Rattle.kilim_woven_runs.specs.Links.{Link, Lk, PLink, Pk, u_frames, u_stack, left_overs, Forms, code, w_frames, w_stack, Takes, Fw, Fine_at}
-use Rattle.kilim_fits.specs.Fits.{AreThere}
+use Rattle.kilim_typing_laws.specs.fits.Fits.{AreThere}
 use Rattle.kilim_weaving_laws.proofs.simulation.Still.{StepIsKnown}
 use Rattle.kilim_weaving_laws.proofs.simulation.Paths as path
 use Rattle.kilim_weaving_laws.proofs.simulation.Natural.{Outcome, GoesOn, IsOver, fold, Counts, native_same, opens_same}

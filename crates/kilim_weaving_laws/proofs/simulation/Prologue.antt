@@ -25,7 +25,7 @@ use Rattle.kilim_program.specs.Natives.{Pc}
 use Rattle.kilim_woven_runs.specs.Fibers.{Fib, Fiber_at, Rec, Saved, is_rewinding, place_while, Woven_state, WRun}
 use Rattle.kilim_woven_runs.specs.Form.{Facts, HasAt, Members, Starts}
 use Rattle.kilim_woven_runs.specs.Links.{IsReference, Forms, code, plan_of}
-use Rattle.kilim_fits.specs.Fits.{AreThere, IsThere}
+use Rattle.kilim_typing_laws.specs.fits.Fits.{AreThere, IsThere}
 use Rattle.kilim_weaving_laws.proofs.simulation.Tally as tally
 use Rattle.kilim_weaving_laws.proofs.simulation.Still.{StepIsKnown}
 use Rattle.kilim_jvm_interp.specs.Step.{stack_limit}

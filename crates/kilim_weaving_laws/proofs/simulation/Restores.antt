@@ -20,7 +20,7 @@ use Rattle.kilim_program.specs.Natives.{Restore}
 use Rattle.kilim_woven_runs.specs.Fibers.{Fib, Fiber_at, Rec, Saved, Woven_state, WRun}
 use Rattle.kilim_woven_runs.specs.Form.{Facts, HasAt, Among_slots, Members, members_in_order}
 use Rattle.kilim_woven_runs.specs.Links.{kept_one, kept_stack, kept_slots, value_or, Fits, AllFit, SlotsFit, Forms, code, plan_of}
-use Rattle.kilim_fits.specs.Fits.{AreThere}
+use Rattle.kilim_typing_laws.specs.fits.Fits.{AreThere}
 use Rattle.kilim_weaving_laws.proofs.simulation.Still.{StepIsKnown}
 use Rattle.kilim_jvm_interp.specs.Step.{stack_limit}
 use Rattle.kilim_weaving_laws.proofs.simulation.Held.{all_there, fit_there}

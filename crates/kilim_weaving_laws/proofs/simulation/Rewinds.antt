@@ -30,7 +30,7 @@ use Rattle.kilim_woven_runs.specs.Fibers.{Fib, Fiber_at, Rec, Saved, is_rewindin
 use Rattle.kilim_woven_runs.specs.Form.{Facts, HasAt, Among_slots, Members, longest}
 use Rattle.kilim_woven_runs.specs.Rows.{handed, OldHeap, IsClean}
 use Rattle.kilim_woven_runs.specs.Links.{kept_stack, kept_slots, dummy_value, with_dummies, with_receiver, again, RefFits, AllFit, SlotsFit, Link, Lk, method_of, self_of_link, left_overs, rev_onto, bare, bares, Target, Inner, Leaf, Forms, code, plan_of, w_frames, record_of, first_record, next_records, Good, Goods, Takes, ReceiverFits, Fit, Chained, entering, at_leaf}
-use Rattle.kilim_fits.specs.Fits.{AreThere}
+use Rattle.kilim_typing_laws.specs.fits.Fits.{AreThere}
 use Rattle.kilim_weaving_laws.proofs.simulation.Still.{StepIsKnown}
 use Rattle.kilim_jvm_interp.specs.Step.{stack_limit}
 use Rattle.kilim_weaving_laws.proofs.simulation.Held.{all_there, dummies_there, dummy_there, ref_there}

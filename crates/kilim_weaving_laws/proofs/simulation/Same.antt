@@ -33,7 +33,7 @@ use Rattle.kilim_woven_runs.specs.Runs.{ComesToRest, IsMark, Soon}
 use Rattle.kilim_woven_runs.specs.Serves.{Serves}
 use Rattle.kilim_weaving_laws.proofs.simulation.Still.{StepIsKnown, comes_to_rest}
 use Rattle.kilim_weaving_laws.proofs.simulation.Room.{StackIsThere, is_fine}
-use Rattle.kilim_fits.specs.Fits.{AreThere}
+use Rattle.kilim_typing_laws.specs.fits.Fits.{AreThere}
 use Rattle.kilim_woven_runs.specs.Rooms.{IsFineState}
 use Rattle.kilim_weaving_laws.proofs.simulation.Forward.{calm, Match, Goes_on, Overs}
 use Rattle.kilim_weaving_laws.proofs.simulation.Whole as whole

@@ -24,7 +24,7 @@ use Rattle.kilim_program.specs.Natives.{Up, Place}
 use Rattle.kilim_woven_runs.specs.Fibers.{Fib, Fiber_at, Rec, Saved, is_rewinding, Woven_state, WRun, WStop, wreturns, wfinishes}
 use Rattle.kilim_woven_runs.specs.Form.{Facts, HasAt, Among_slots, Members, longest}
 use Rattle.kilim_woven_runs.specs.Links.{kept_stack, kept_slots, dummy_value, AllFit, SlotsFit, Drops, Link, Lk, method_of, self_of_link, left_overs, rev_onto, Target, Inner, Leaf, Forms, code, plan_of, w_frames, record_of, first_record, next_records, Holds, Good, Goods, Fit, AreReady, target_of, receiver_at, Chained, unwinding, at_rest}
-use Rattle.kilim_fits.specs.Fits.{AreThere, IsThere}
+use Rattle.kilim_typing_laws.specs.fits.Fits.{AreThere, IsThere}
 use Rattle.kilim_weaving_laws.proofs.simulation.Still.{StepIsKnown, return_still}
 use Rattle.kilim_jvm_interp.specs.Step.{CallerFits, stack_limit}
 use Rattle.kilim_weaving_laws.proofs.simulation.Held.{MaybeThere, all_there, dummy_there, pushed_there}

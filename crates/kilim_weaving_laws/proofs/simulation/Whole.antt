@@ -28,7 +28,7 @@ use Rattle.kilim_weaving_laws.proofs.simulation.Paths as path
 use Rattle.kilim_woven_runs.specs.Thread.{steps, own_of}
 use Rattle.kilim_woven_runs.specs.Rooms.{GivesWhole, HasRoom, bare_frames}
 use Rattle.kilim_thread_model.specs.Kept.{given}
-use Rattle.kilim_fits.specs.Fits.{AreThere}
+use Rattle.kilim_typing_laws.specs.fits.Fits.{AreThere}
 use Rattle.kilim_weaving_laws.proofs.simulation.Still.{StepIsKnown}
 use Rattle.kilim_woven_runs.specs.fiber_kin.Served.{gives_value}
 use Rattle.kilim_jvm_interp.specs.Step.{CallerFits}

@@ -19,7 +19,7 @@ use Rattle.kilim_program.specs.Moves.{slots_in}
 use Rattle.kilim_thread_model.specs.State.{Setting}
 use Rattle.kilim_typing.specs.Step.{class_vtype, is_top, peek}
 use Rattle.kilim_typing.specs.Typed.{IsLive, IsWellTyped, WellTypedBy, frame_among, frames_of, has_code, no_types, typing_of}
-use Rattle.kilim_fits.proofs.FromKeeps.{all_at}
+use Rattle.kilim_typing_laws.proofs.fits.FromKeeps.{all_at}
 use Rattle.kilim_woven_form.specs.Form.{AllWoven, IsWoven, WovenForm, all_counted, first_class, has_calls, plan_of, woven_as}
 use Rattle.kilim_woven_form.specs.Weight.{calls_in, one_more}
 use Rattle.kilim_woven_form.specs.Woven.{fiber, Does, IsWovenBy, Item, Mark, Plan, behind, fiber_slot, larger, lay, marks, moved_instr, moved_pairs, pausable_callee, woven_items}

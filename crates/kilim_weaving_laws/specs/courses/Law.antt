@@ -6,7 +6,7 @@ use Rattle.kilim_classes.specs.declared.names.MethodId.{MethodId}
 use Rattle.kilim_classes.specs.declared.value.Value.{Value}
 use Rattle.kilim_classes.specs.Program.{Program}
 use Rattle.kilim_isolation_laws.specs.typed_threads.fine.Typed.{IsVerified}
-use Rattle.kilim_fits.specs.Fits.{Typing, Wanted}
+use Rattle.kilim_typing_laws.specs.fits.Fits.{Typing, Wanted}
 use Rattle.kilim_program.specs.Does.{does}
 use Rattle.kilim_program.specs.Effect.{Asks}
 use Rattle.kilim_program.specs.Machine.{Objects}

@@ -4,7 +4,7 @@ use Rattle.kilim_classfile.specs.Parts.{text_of}
 use Rattle.kilim_woven_file_laws.specs.link_examples.Examples.{a_file}
 use Rattle.kilim_woven_file_laws.specs.link_examples.Programs.{woven_program}
 use Rattle.kilim_descriptors.specs.Reading.{whole_method, params_at, param_at, field_at, field_behind, base_at, class_at, result_at}
-use Rattle.kilim_pool_needs.specs.Adding.{found, with_text, with_need, with_needs}
+use Rattle.kilim_class_fits.specs.pool_needs.Adding.{found, with_text, with_need, with_needs}
 use Rattle.kilim_woven_file_laws.specs.form.Texts.{woven_descriptor}
 use Rattle.kilim_woven_file_laws.specs.form.WovenFile.{woven_file}
 use Rattle.kilim_woven_file_laws.specs.link_examples.Examples.{a_program}

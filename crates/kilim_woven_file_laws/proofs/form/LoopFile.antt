@@ -8,7 +8,7 @@ use Rattle.kilim_descriptors.specs.Reading.{whole_method, params_at, param_at, f
 use Rattle.kilim_opcodes.specs.Instr.{instr_text, operands_text, number_of, target_text, table_text, padding_text, integer_text}
 use Rattle.kilim_opcodes.specs.Reading.{instr_at, operands_at, target_at, zeros_at, range_at, table_at, wide_at, wide_operands_at}
 use Rattle.kilim_opcodes.specs.Table.{rows, form_of}
-use Rattle.kilim_pool_needs.specs.Adding.{found, with_text, with_pair, with_ref, with_class, with_need, with_needs}
+use Rattle.kilim_class_fits.specs.pool_needs.Adding.{found, with_text, with_pair, with_ref, with_class, with_need, with_needs}
 use Rattle.kilim_woven_file_laws.specs.form.FullFrames.{full_frames}
 use Rattle.kilim_woven_file_laws.specs.form.Raw.{added_raw, moved_raw, raw_code}
 use Rattle.kilim_woven_file_laws.specs.form.Texts.{woven_descriptor}

@@ -6,12 +6,12 @@ use Rattle.kilim_constant_pool.specs.declared.entry.Entry.TheVariants.{Utf8, Cla
 use Rattle.kilim_constant_pool.specs.Entries.{slots_of, slots_of_entry, slot, entry_at, count_of, width_of}
 use Rattle.kilim_constant_pool.proofs.SlotLaws.{count_more, length_entry}
 use Rattle.kilim_constant_pool.proofs.AddLaws.{new_index}
-use Rattle.kilim_pool_needs.specs.declared.need.Need.{Need}
-use Rattle.kilim_pool_needs.specs.declared.need.Need.TheVariants.{AText, AClass, AMethod, ACall}
-use Rattle.kilim_pool_needs.specs.Adding.{Test, found, is_text, is_class_of, is_pair, is_ref, text_index, class_index, pair_index, index_or_none, unless_found, with_text, with_pair, with_ref, with_class, class_added, class_behind, with_member, with_call, with_method, with_need, with_needs}
+use Rattle.kilim_class_fits.specs.declared.pool_needs.need.Need.{Need}
+use Rattle.kilim_class_fits.specs.declared.pool_needs.need.Need.TheVariants.{AText, AClass, AMethod, ACall}
+use Rattle.kilim_class_fits.specs.pool_needs.Adding.{Test, found, is_text, is_class_of, is_pair, is_ref, text_index, class_index, pair_index, index_or_none, unless_found, with_text, with_pair, with_ref, with_class, class_added, class_behind, with_member, with_call, with_method, with_need, with_needs}
 use Rattle.kilim_woven_file_laws.specs.pool.Pools.{ClassesAreNamed, In, CoversMember, CoversCall, CoversClass, Covers}
 use Rattle.std.proofs.lemmas.List.{append_assoc}
-use Rattle.kilim_pool_needs.proofs.Searching.{none_is_some, stays, found_passes, found_stays}
+use Rattle.kilim_class_fits.proofs.pool_needs.Searching.{none_is_some, stays, found_passes, found_stays}
 use Rattle.kilim_woven_file_laws.proofs.pool.Growing.{Grown, bytes_same, both_same, text_added, pair_added, ref_added, member_added, call_added, class_is_added, need_added, needs_added, class_stays}
 
 -- ---- lists without repetition

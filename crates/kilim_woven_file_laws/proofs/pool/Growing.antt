@@ -8,11 +8,11 @@ use Rattle.kilim_constant_pool.specs.declared.entry.Entry.{Entry}
 use Rattle.kilim_constant_pool.specs.declared.entry.Entry.TheVariants.{Utf8, Class, Methodref, NameAndType}
 use Rattle.kilim_constant_pool.specs.Entries.{slots_of, slots_of_entry, slot, entry_at}
 use Rattle.kilim_constant_pool.proofs.SlotLaws.{slots-append}
-use Rattle.kilim_pool_needs.specs.declared.need.Need.{Need}
-use Rattle.kilim_pool_needs.specs.declared.need.Need.TheVariants.{AText, AClass, AMethod, ACall}
-use Rattle.kilim_pool_needs.specs.Adding.{Test, found, is_text, is_class_of, is_pair, is_ref, text_index, class_index, pair_index, index_or_none, unless_found, with_text, with_pair, with_ref, with_class, class_added, class_behind, with_member, with_call, with_method, with_need, with_needs}
+use Rattle.kilim_class_fits.specs.declared.pool_needs.need.Need.{Need}
+use Rattle.kilim_class_fits.specs.declared.pool_needs.need.Need.TheVariants.{AText, AClass, AMethod, ACall}
+use Rattle.kilim_class_fits.specs.pool_needs.Adding.{Test, found, is_text, is_class_of, is_pair, is_ref, text_index, class_index, pair_index, index_or_none, unless_found, with_text, with_pair, with_ref, with_class, class_added, class_behind, with_member, with_call, with_method, with_need, with_needs}
 use Rattle.kilim_woven_file_laws.specs.pool.Pools.{ClassesAreNamed}
-use Rattle.kilim_pool_needs.proofs.Searching.{some_same, none_is_some, stays, found_passes, found_stays, found_same, found_last}
+use Rattle.kilim_class_fits.proofs.pool_needs.Searching.{some_same, none_is_some, stays, found_passes, found_stays, found_same, found_last}
 
 -- ---- what passes
 

@@ -15,11 +15,11 @@ use Rattle.kilim_link_spec.specs.declared.named.Named.{Named}
 use Rattle.kilim_link_spec.specs.declared.fault.MemberOf.{MemberOf as MemberRef}
 use Rattle.kilim_classes.specs.declared.value.Value.{Value}
 use Rattle.kilim_classes.specs.declared.value.Value.TheVariants.{Text as TextValue}
-use Rattle.kilim_pool_needs.specs.declared.need.Need.{Need}
-use Rattle.kilim_pool_needs.specs.declared.need.Need.TheVariants.{AText, AClass, AMethod, ACall}
-use Rattle.kilim_pool_needs.specs.Adding.{found, is_text, is_class_of, is_pair, is_ref, text_index, class_index, pair_index, ref_index, member_index, index_or_none, with_needs}
+use Rattle.kilim_class_fits.specs.declared.pool_needs.need.Need.{Need}
+use Rattle.kilim_class_fits.specs.declared.pool_needs.need.Need.TheVariants.{AText, AClass, AMethod, ACall}
+use Rattle.kilim_class_fits.specs.pool_needs.Adding.{found, is_text, is_class_of, is_pair, is_ref, text_index, class_index, pair_index, ref_index, member_index, index_or_none, with_needs}
 use Rattle.kilim_woven_file_laws.specs.pool.Pools.{ClassesAreNamed, Names, PoolGrows, RefersWell, SameOperands}
-use Rattle.kilim_pool_needs.proofs.Searching.{none_is_some, stays, found_passes}
+use Rattle.kilim_class_fits.proofs.pool_needs.Searching.{none_is_some, stays, found_passes}
 use Rattle.kilim_woven_file_laws.proofs.pool.Growing.{is_the_text, is_the_pair, is_the_ref, is_the_class, Has, HasAll, HasMember, HasCall, needs_added}
 
 text_is : (pool : List Entry) (units : List ℕ) (index : ℕ) → found (is_text units) pool ≡ Some index → entry_at pool (text_index pool units) ≡ Some (Utf8 units)

@@ -10,9 +10,9 @@ use Rattle.kilim_classes.specs.declared.verified.Frame.{Frame}
 use Rattle.kilim_classes.specs.declared.verified.VType.{VType}
 use Rattle.kilim_classes.specs.declared.verified.VType.TheVariants.{Top, Int, Long, Null, UninitThis, Uninit, Object}
 use Rattle.kilim_classes.specs.Program.{Program}
-use Rattle.kilim_pool_needs.specs.declared.need.Need.{Need}
-use Rattle.kilim_pool_needs.specs.declared.need.Need.TheVariants.{AClass}
-use Rattle.kilim_pool_needs.specs.Adding.{index_of}
+use Rattle.kilim_class_fits.specs.declared.pool_needs.need.Need.{Need}
+use Rattle.kilim_class_fits.specs.declared.pool_needs.need.Need.TheVariants.{AClass}
+use Rattle.kilim_class_fits.specs.pool_needs.Adding.{index_of}
 use Rattle.kilim_woven_file_laws.specs.form.Texts.{type_name}
 
 abbrev pub slot_type : Program → List Entry → VType → VerificationType

@@ -12,9 +12,9 @@ use Rattle.kilim_classes.specs.declared.instr.Instr.{Instr}
 use Rattle.kilim_classes.specs.declared.instr.Instr.TheVariants.{AconstNull, Iconst, Lconst, Bipush, Sipush, Iload, Lload, Aload, Istore, Lstore, Astore, Pop, Pop2, Ifeq, Ifne, Iflt, Ifge, Ifgt, Ifle, IfIcmpeq, IfIcmpne, IfIcmplt, IfIcmpge, IfIcmpgt, IfIcmple, IfAcmpeq, IfAcmpne, Goto, Tableswitch, Lookupswitch, Ireturn, Lreturn, Areturn, Return, Invokevirtual, Invokespecial, Invokestatic, Checkcast, Ifnull, Ifnonnull, GotoW}
 use Rattle.kilim_classes.specs.Program.{Program}
 use Rattle.kilim_classes.specs.Names.{method_at}
-use Rattle.kilim_pool_needs.specs.declared.need.Need.{Need}
-use Rattle.kilim_pool_needs.specs.declared.need.Need.TheVariants.{AClass, ACall}
-use Rattle.kilim_pool_needs.specs.Adding.{index_of}
+use Rattle.kilim_class_fits.specs.declared.pool_needs.need.Need.{Need}
+use Rattle.kilim_class_fits.specs.declared.pool_needs.need.Need.TheVariants.{AClass, ACall}
+use Rattle.kilim_class_fits.specs.pool_needs.Adding.{index_of}
 use Rattle.kilim_woven_file_laws.specs.form.Texts.{woven_descriptor, type_name, needed_method}
 
 -- ---- forms

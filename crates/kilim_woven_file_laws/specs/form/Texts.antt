@@ -13,8 +13,8 @@ use Rattle.kilim_classes.specs.Program.{Program}
 use Rattle.kilim_classes.specs.Names.{class_name, descriptor, method_at}
 use Rattle.kilim_link_spec.specs.Types.{method_text}
 use Rattle.kilim_link_spec.specs.World.{method_descriptor}
-use Rattle.kilim_pool_needs.specs.declared.need.Need.{Need}
-use Rattle.kilim_pool_needs.specs.declared.need.Need.TheVariants.{AMethod}
+use Rattle.kilim_class_fits.specs.declared.pool_needs.need.Need.{Need}
+use Rattle.kilim_class_fits.specs.declared.pool_needs.need.Need.TheVariants.{AMethod}
 
 -- `Lkilim/Fiber;`
 abbrev pub fiber_text : FieldText

@@ -20,9 +20,9 @@ use Rattle.kilim_classes.specs.Names.{is_empty}
 use Rattle.kilim_link_spec.specs.World.{member_descriptor}
 use Rattle.kilim_link_spec.specs.Mentions.{instrs_if}
 use Rattle.kilim_link_spec.specs.Code.{decoded}
-use Rattle.kilim_pool_needs.specs.declared.need.Need.{Need}
-use Rattle.kilim_pool_needs.specs.declared.need.Need.TheVariants.{AText}
-use Rattle.kilim_pool_needs.specs.Adding.{with_needs, text_index}
+use Rattle.kilim_class_fits.specs.declared.pool_needs.need.Need.{Need}
+use Rattle.kilim_class_fits.specs.declared.pool_needs.need.Need.TheVariants.{AText}
+use Rattle.kilim_class_fits.specs.pool_needs.Adding.{with_needs, text_index}
 use Rattle.kilim_woven_file_laws.specs.form.Texts.{woven_descriptor}
 use Rattle.kilim_woven_file_laws.specs.form.Raw.{code_needs, raw_code, is_pausable_call}
 use Rattle.kilim_woven_file_laws.specs.form.FullFrames.{full_frames, frames_needs}

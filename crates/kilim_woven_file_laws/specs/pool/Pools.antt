@@ -9,9 +9,9 @@ use Rattle.kilim_link_spec.specs.World.{class_text}
 use Rattle.kilim_link_spec.specs.Code.{class_ref, method_ref, index_operand}
 use Rattle.kilim_link_spec.specs.Types.{named_by}
 use Rattle.kilim_link_spec.specs.declared.named.Operand.{Operand}
-use Rattle.kilim_pool_needs.specs.declared.need.Need.{Need}
-use Rattle.kilim_pool_needs.specs.declared.need.Need.TheVariants.{AText, AClass, AMethod, ACall}
-use Rattle.kilim_pool_needs.specs.Adding.{with_needs, index_of, text_index, class_index, pair_index}
+use Rattle.kilim_class_fits.specs.declared.pool_needs.need.Need.{Need}
+use Rattle.kilim_class_fits.specs.declared.pool_needs.need.Need.TheVariants.{AText, AClass, AMethod, ACall}
+use Rattle.kilim_class_fits.specs.pool_needs.Adding.{with_needs, index_of, text_index, class_index, pair_index}
 
 -- each class names a text
 abbrev pub ClassesAreNamed : List Entry → Type 0

@@ -12,7 +12,7 @@ use Rattle.kilim_classes.specs.Names.{method_at}
 use Rattle.kilim_classes.specs.Program.{Program}
 use Rattle.kilim_typing.specs.Typed.{IsLive}
 use Rattle.kilim_woven_form.specs.Form.{AllWoven, all_counted, first_class, has_calls, plan_of, woven_as}
-use Rattle.kilim_fits.proofs.FromKeeps.{all_at}
+use Rattle.kilim_typing_laws.proofs.fits.FromKeeps.{all_at}
 use Rattle.kilim_woven_form.proofs.woven_program.labels.Labels.{labelled}
 use Rattle.kilim_woven_form.specs.woven_program.Law.{WovenFormIsThere}
 use Rattle.kilim_woven_form.specs.woven_program.Made.{made_as, made_from, method_plan}

@@ -17,7 +17,7 @@ use Rattle.kilim_classes.specs.Kinds.{is_marked, is_message}
 use Rattle.kilim_classes.specs.Names.{◌>>=◌, class_at, class_name, line_of, line_up_to, methods_of, class_from, class_named}
 use Rattle.kilim_classes.specs.Program.{Program}
 use Rattle.kilim_lemmas.proofs.Lists.{get_left}
-use Rattle.kilim_fits.proofs.Through.{cases}
+use Rattle.kilim_typing_laws.proofs.fits.Through.{cases}
 use Rattle.kilim_typing.specs.Step.{assignable}
 
 -- ---- lists

@@ -11,7 +11,7 @@ use Rattle.kilim_classes.specs.Names.{method_at}
 use Rattle.kilim_classes.specs.Program.{Program}
 use Rattle.kilim_classes.specs.Same.{same_signature}
 use Rattle.kilim_woven_form.specs.Woven.{fiber_ty}
-use Rattle.kilim_fits.proofs.SameNames.{AreNamedAlike, named_alike, signature_by, signature_itself}
+use Rattle.kilim_typing_laws.proofs.fits.SameNames.{AreNamedAlike, named_alike, signature_by, signature_itself}
 use Rattle.kilim_woven_form.proofs.woven_programs.Methods.{Like, fibers}
 
 -- ---- lists

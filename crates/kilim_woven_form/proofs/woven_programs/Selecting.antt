@@ -13,10 +13,10 @@ use Rattle.kilim_classes.specs.Program.{Program}
 use Rattle.kilim_classes.specs.Same.{answers, is_constructor, same_signature, selected}
 use Rattle.kilim_typing.specs.Step.{is_above, is_abstract_there, may_name, selects, special_fits, superclass_at}
 use Rattle.kilim_lemmas.proofs.Lists.{get_some}
-use Rattle.kilim_fits.specs.Chosen.{IsChosen}
-use Rattle.kilim_fits.proofs.Finding.{finds_chosen}
-use Rattle.kilim_fits.proofs.FromKeeps.{all_at}
-use Rattle.kilim_fits.proofs.SameNames.{named_alike}
+use Rattle.kilim_typing_laws.specs.fits.Chosen.{IsChosen}
+use Rattle.kilim_typing_laws.proofs.fits.Finding.{finds_chosen}
+use Rattle.kilim_typing_laws.proofs.fits.FromKeeps.{all_at}
+use Rattle.kilim_typing_laws.proofs.fits.SameNames.{named_alike}
 use Rattle.kilim_woven_form.proofs.woven_programs.ClassLists.{line_kept, methods_more, one_more}
 use Rattle.kilim_woven_form.proofs.woven_programs.Methods.{Like}
 use Rattle.kilim_woven_form.proofs.woven_programs.Naming.{back, forth, params_there}

@@ -44,8 +44,8 @@ use Rattle.kilim_woven_form.proofs.woven_types.Prologue.{params_more, peek_end, 
 use Rattle.kilim_woven_form.proofs.woven_types.Callless.{callless}
 use Rattle.kilim_woven_form.proofs.woven_types.Unchanged.{unchanged}
 use Rattle.kilim_woven_form.proofs.woven_types.Theorem.{proved}
-use Rattle.kilim_fits.proofs.FromKeeps.{all_at, itself}
-use Rattle.kilim_fits.proofs.ValueClasses as values
+use Rattle.kilim_typing_laws.proofs.fits.FromKeeps.{all_at, itself}
+use Rattle.kilim_typing_laws.proofs.fits.ValueClasses as values
 use Rattle.kilim_woven_form.specs.woven_programs.Law.{EachIsShort, KeepsPauses, NoneAcross, WovenProgramsAreTyped}
 use Rattle.kilim_woven_form.proofs.woven_programs.ClassLists.{assigns, class_kept, class_named_kept, name_is, name_kept, name_of}
 use Rattle.kilim_woven_form.proofs.woven_programs.Frames.{by_place}

@@ -5,7 +5,7 @@ use Rattle.std.proofs.Math.Seq.{drop-cons}
 use Rattle.std.proofs.lemmas.List.{length-set, get_or-set_other}
 use Rattle.std.proofs.lemmas.Grind.{get_or-set_at}
 use Rattle.kilim_classes.specs.declared.names.BoxName.{BoxName}
-use Rattle.kilim_waiting.specs.declared.parked.Waiter.{Waiter}
+use Rattle.kilim_fibers.specs.declared.waiting.parked.Waiter.{Waiter}
 use Rattle.kilim_exchange.specs.Board.{AreBoxes}
 use Rattle.kilim_exchange.proofs.board.parked_boxes.Goals as goal
 

@@ -24,12 +24,12 @@ use Rattle.kilim_typing.specs.Step.{Types, made_at, made_by, result_types, words
 use Rattle.kilim_jvm_interp.specs.Step.{CallerFits, FitsStack, limit_in, stack_limit}
 use Rattle.kilim_jvm_interp.specs.Run.{IsFine}
 use Rattle.kilim_thread_model.specs.State.{Setting, Thread, Alive}
-use Rattle.kilim_fits.specs.Fits.{Classes, Typing, Wanted, Awaited, AReference, AValue, BelowFit, FrameFits, Fits, AreThere, HeapFits, Nothing, StackFits, has_type, have_types, result_awaited, result_of}
-use Rattle.kilim_fits.specs.Sound.{EffectFits, GoesOn}
-use Rattle.kilim_fits.proofs.Grounds.{facts_hold}
-use Rattle.kilim_fits.proofs.Narrowed.{narrows}
-use Rattle.kilim_fits.proofs.Table.{table_fits}
-use Rattle.kilim_fits.proofs.Walk.{Stands, stands_at}
+use Rattle.kilim_typing_laws.specs.fits.Fits.{Classes, Typing, Wanted, Awaited, AReference, AValue, BelowFit, FrameFits, Fits, AreThere, HeapFits, Nothing, StackFits, has_type, have_types, result_awaited, result_of}
+use Rattle.kilim_typing_laws.specs.fits.Sound.{EffectFits, GoesOn}
+use Rattle.kilim_typing_laws.proofs.fits.Grounds.{facts_hold}
+use Rattle.kilim_typing_laws.proofs.fits.Narrowed.{narrows}
+use Rattle.kilim_typing_laws.proofs.fits.Table.{table_fits}
+use Rattle.kilim_typing_laws.proofs.fits.Walk.{Stands, stands_at}
 use Rattle.kilim_woven_runs.specs.fiber_kin.Served.{ResultFits, gives_value}
 use Rattle.kilim_isolation_laws.specs.typed_threads.fine.Typed.{IsVerified, TopIsThere, frames_of}
 use Rattle.kilim_isolation_laws.specs.typed_threads.fine.Law.{FittingIsFine}

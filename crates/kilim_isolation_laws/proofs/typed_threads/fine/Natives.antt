@@ -13,8 +13,8 @@ use Rattle.kilim_classes.specs.Names.{◌>>=◌, class_name, method_at}
 use Rattle.kilim_classes.specs.Program.{Program}
 use Rattle.kilim_program.specs.Natives.{Native, natives, native_named, native_method, native_of}
 use Rattle.kilim_program.specs.Natives as native
-use Rattle.kilim_fits.proofs.BuiltInMembers.{NamedAt, built_in_at, named_at, none_built_in}
-use Rattle.kilim_fits.proofs.ValueClasses.{all_of_at}
+use Rattle.kilim_typing_laws.proofs.fits.BuiltInMembers.{NamedAt, built_in_at, named_at, none_built_in}
+use Rattle.kilim_typing_laws.proofs.fits.ValueClasses.{all_of_at}
 
 -- the type of its result, where the first built-in class has this number
 abbrev pub gives : ℕ → Native → Option Ty

@@ -24,8 +24,8 @@ use Rattle.kilim_program.specs.Effect.{named_class, named_type}
 use Rattle.kilim_program.specs.Machine.{Objects}
 use Rattle.kilim_program.specs.Members.{object_fields}
 use Rattle.kilim_tree_move.specs.Shaping.{IsShown, field_values, held}
-use Rattle.kilim_fits.specs.Fits.{Classes, ContentFits, FieldFits, FieldsFit, HeapFits, is_of, is_value_of}
-use Rattle.kilim_fits.proofs.ValueClasses.{own_fits}
+use Rattle.kilim_typing_laws.specs.fits.Fits.{Classes, ContentFits, FieldFits, FieldsFit, HeapFits, is_of, is_value_of}
+use Rattle.kilim_typing_laws.proofs.fits.ValueClasses.{own_fits}
 
 abbrev fiber_name : List ℕ
 fiber_name = codes "kilim/Fiber"

@@ -1,5 +1,5 @@
 use Rattle.std.proofs.Common.{ap, ◌∙◌}
-use Rattle.kilim_woven_files.specs.WovenFiles.{wove_lines}
+use Rattle.kilim_weave_command.specs.woven_files.WovenFiles.{wove_lines}
 use Rattle.kilim_weave_command.proofs.Made.{is_weaving}
 use Rattle.kilim_weave_command.proofs.weaving.with_lines.Goals as goal
 

@@ -1,5 +1,5 @@
 use Rattle.std.proofs.Common.{◌≡◌}
-use Rattle.kilim_pool_needs.specs.Adding.{with_needs}
+use Rattle.kilim_class_fits.specs.pool_needs.Adding.{with_needs}
 use Rattle.kilim_weave_file.proofs.Pairs.{file_is}
 use Rattle.kilim_weave_file.proofs.weaving.woven_file.Goals as goal
 

@@ -5,12 +5,12 @@ use Rattle.kilim_classes.specs.declared.class.Method.{Method}
 use Rattle.kilim_classes.specs.declared.instr.Instr.{Instr}
 use Rattle.kilim_classes.specs.Lengths.{fetched, first_place}
 use Rattle.kilim_classes.specs.Names.{◌>>=◌, method_at}
-use Rattle.kilim_fits.specs.Sound.{EffectFits, NativeFits, native_types}
-use Rattle.kilim_fits.specs.Fits.{have_types}
-use Rattle.kilim_fits.proofs.Grounds.{facts_hold}
-use Rattle.kilim_fits.proofs.Narrowed.{narrows}
-use Rattle.kilim_fits.proofs.Table.{table_fits}
-use Rattle.kilim_fits.proofs.Walk.{stands_at}
+use Rattle.kilim_typing_laws.specs.fits.Sound.{EffectFits, NativeFits, native_types}
+use Rattle.kilim_typing_laws.specs.fits.Fits.{have_types}
+use Rattle.kilim_typing_laws.proofs.fits.Grounds.{facts_hold}
+use Rattle.kilim_typing_laws.proofs.fits.Narrowed.{narrows}
+use Rattle.kilim_typing_laws.proofs.fits.Table.{table_fits}
+use Rattle.kilim_typing_laws.proofs.fits.Walk.{stands_at}
 use Rattle.kilim_program.specs.Does.{does}
 use Rattle.kilim_program.specs.Effect.{Asks, Effect}
 use Rattle.kilim_program.specs.Natives.{Native, native_method, native_of}

@@ -23,11 +23,11 @@ use Rattle.kilim_classes.specs.Names.{class_at, class_name, is_empty, method_at}
 use Rattle.kilim_classes.specs.Program.{Program}
 use Rattle.kilim_classes.specs.Same.{is_constructor}
 use Rattle.kilim_isolation_laws.proofs.typed_threads.fine.Shown.{no_fiber_class}
-use Rattle.kilim_fits.specs.Facts.{Facts, Selected, has_instances}
-use Rattle.kilim_fits.specs.Fits.{AreThere, Classes, ContentFits, HeapFits, IsThere}
-use Rattle.kilim_fits.proofs.Basics.{takes_inverse}
-use Rattle.kilim_fits.proofs.Grounds.{facts_hold}
-use Rattle.kilim_fits.proofs.TextClass.{alone}
+use Rattle.kilim_typing_laws.specs.fits.Facts.{Facts, Selected, has_instances}
+use Rattle.kilim_typing_laws.specs.fits.Fits.{AreThere, Classes, ContentFits, HeapFits, IsThere}
+use Rattle.kilim_typing_laws.proofs.fits.Basics.{takes_inverse}
+use Rattle.kilim_typing_laws.proofs.fits.Grounds.{facts_hold}
+use Rattle.kilim_typing_laws.proofs.fits.TextClass.{alone}
 use Rattle.kilim_program.specs.declared.value.Object.{Object as HeapObject}
 use Rattle.kilim_program.specs.Does.{above_of, at_unit, calls_method, calls_on, calls_text, chosen, does, special, superclass_of, takes_element, text_answers, unit_at}
 use Rattle.kilim_program.specs.Effect.{Asks, Calls, Effect, Ends, Goes, Makes, Opens, Raises, Returns, Stuck, as_class, as_int, as_receiver, named_type, on_value, on_values, text_of, when, with_some}

@@ -16,8 +16,8 @@ use Rattle.kilim_classes.specs.Keeps.{Keeps}
 use Rattle.kilim_classes.specs.Names.{class_name, method_at}
 use Rattle.kilim_classes.specs.Program.{Program}
 use Rattle.kilim_isolation_laws.proofs.typed_threads.fine.Natives.{built_in_one, first, task_name}
-use Rattle.kilim_fits.specs.Fits.{AreThere, Classes, HeapFits, has_type, have_types}
-use Rattle.kilim_fits.specs.Sound.{native_types}
+use Rattle.kilim_typing_laws.specs.fits.Fits.{AreThere, Classes, HeapFits, has_type, have_types}
+use Rattle.kilim_typing_laws.specs.fits.Sound.{native_types}
 use Rattle.kilim_program.specs.declared.value.Token.{Token}
 use Rattle.kilim_program.specs.declared.value.Token.TheVariants as token
 use Rattle.kilim_program.specs.Machine.{Objects}

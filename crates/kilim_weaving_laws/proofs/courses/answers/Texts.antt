@@ -29,12 +29,12 @@ use Rattle.kilim_classes.specs.Program.{Program}
 use Rattle.kilim_classes.specs.Same.{is_constructor}
 use Rattle.kilim_lemmas.proofs.Lists.{get_right}
 use Rattle.kilim_lemmas.proofs.Texts.{text_is}
-use Rattle.kilim_fits.specs.Fits.{Classes, ContentFits, HeapFits, IsThere, has_type, is_of}
-use Rattle.kilim_fits.proofs.BuiltInMembers.{named_at}
-use Rattle.kilim_fits.proofs.ClassMethods.{IsAmong, owner_has}
-use Rattle.kilim_fits.proofs.TextClass.{alone}
-use Rattle.kilim_fits.proofs.Through.{Top, cases}
-use Rattle.kilim_fits.proofs.ValueClasses.{all_of_at, found_name, type_is}
+use Rattle.kilim_typing_laws.specs.fits.Fits.{Classes, ContentFits, HeapFits, IsThere, has_type, is_of}
+use Rattle.kilim_typing_laws.proofs.fits.BuiltInMembers.{named_at}
+use Rattle.kilim_typing_laws.proofs.fits.ClassMethods.{IsAmong, owner_has}
+use Rattle.kilim_typing_laws.proofs.fits.TextClass.{alone}
+use Rattle.kilim_typing_laws.proofs.fits.Through.{Top, cases}
+use Rattle.kilim_typing_laws.proofs.fits.ValueClasses.{all_of_at, found_name, type_is}
 use Rattle.kilim_isolation_laws.proofs.typed_threads.fine.Natives.{built_in_one, first, object_name, task_name}
 use Rattle.kilim_isolation_laws.proofs.typed_threads.fine.Shown.{no_fiber_class}
 use Rattle.kilim_program.specs.declared.value.Object.{Object as HeapObject}

@@ -18,7 +18,7 @@ use Rattle.kilim_program.specs.Moves.{entered}
 use Rattle.kilim_program.specs.Objects.{new_object}
 use Rattle.kilim_program.specs.Trees.{OfTask, built, with_objects}
 use Rattle.kilim_isolation_laws.specs.typed_threads.fine.Typed.{frames_of}
-use Rattle.kilim_fits.specs.Fits.{Classes}
+use Rattle.kilim_typing_laws.specs.fits.Fits.{Classes}
 use Rattle.kilim_isolation_laws.specs.Laws.{IsRunOfAccepted}
 use Rattle.kilim_thread_model.specs.declared.deed.Beginning.{Beginning}
 use Rattle.kilim_thread_model.specs.declared.deed.Beginning.TheVariants.{Begun, Boot}

@@ -22,13 +22,13 @@ use Rattle.kilim_classes.specs.Names.{class_at, method_at}
 use Rattle.kilim_classes.specs.Program.{Program}
 use Rattle.kilim_classes.specs.Same.{is_constructor}
 use Rattle.kilim_isolation_laws.proofs.typed_threads.fine.Shown.{no_fiber_class}
-use Rattle.kilim_fits.specs.Facts.{Facts, has_instances}
-use Rattle.kilim_fits.specs.Fits.{AreThere, Classes, ContentFits, HeapFits, Holds, has_type, have_types}
-use Rattle.kilim_fits.specs.Law.{Extends}
-use Rattle.kilim_fits.proofs.Basics.{takes_inverse}
-use Rattle.kilim_fits.proofs.FromKeeps.{all_at}
-use Rattle.kilim_fits.proofs.Grounds.{facts_hold}
-use Rattle.kilim_fits.proofs.Grown.{type_grown}
+use Rattle.kilim_typing_laws.specs.fits.Facts.{Facts, has_instances}
+use Rattle.kilim_typing_laws.specs.fits.Fits.{AreThere, Classes, ContentFits, HeapFits, Holds, has_type, have_types}
+use Rattle.kilim_typing_laws.specs.fits.Law.{Extends}
+use Rattle.kilim_typing_laws.proofs.fits.Basics.{takes_inverse}
+use Rattle.kilim_typing_laws.proofs.fits.FromKeeps.{all_at}
+use Rattle.kilim_typing_laws.proofs.fits.Grounds.{facts_hold}
+use Rattle.kilim_typing_laws.proofs.fits.Grown.{type_grown}
 use Rattle.kilim_pausable_graph.specs.Pausing.{called}
 use Rattle.kilim_program.specs.declared.value.Object.{Object as HeapObject}
 use Rattle.kilim_program.specs.Does.{above_of, at_unit, calls_method, calls_on, calls_text, chosen, does, special, superclass_of, takes_element, text_answers, unit_at}

@@ -11,13 +11,13 @@ use Rattle.kilim_classes.specs.BuiltIn.{class_type}
 use Rattle.kilim_classes.specs.Lengths.{fetched, first_place}
 use Rattle.kilim_classes.specs.Names.{◌>>=◌, class_at, is_task, method_at}
 use Rattle.kilim_classes.specs.Program.{Program}
-use Rattle.kilim_fits.specs.Fits.{Classes}
-use Rattle.kilim_fits.specs.Law.{Extends}
-use Rattle.kilim_fits.specs.Sound.{EffectFits, argument_types}
-use Rattle.kilim_fits.proofs.Grounds.{facts_hold}
-use Rattle.kilim_fits.proofs.Narrowed.{narrows}
-use Rattle.kilim_fits.proofs.Table.{table_fits}
-use Rattle.kilim_fits.proofs.Walk.{stands_at}
+use Rattle.kilim_typing_laws.specs.fits.Fits.{Classes}
+use Rattle.kilim_typing_laws.specs.fits.Law.{Extends}
+use Rattle.kilim_typing_laws.specs.fits.Sound.{EffectFits, argument_types}
+use Rattle.kilim_typing_laws.proofs.fits.Grounds.{facts_hold}
+use Rattle.kilim_typing_laws.proofs.fits.Narrowed.{narrows}
+use Rattle.kilim_typing_laws.proofs.fits.Table.{table_fits}
+use Rattle.kilim_typing_laws.proofs.fits.Walk.{stands_at}
 use Rattle.kilim_program.specs.declared.cause.EndCause.TheVariants as cause
 use Rattle.kilim_program.specs.Does.{does}
 use Rattle.kilim_program.specs.Effect.{Asks, Calls, Effect, Ends, Goes, Makes, Opens, Raises, Returns, Stuck}

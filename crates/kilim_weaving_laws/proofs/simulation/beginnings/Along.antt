@@ -21,7 +21,7 @@ use Rattle.kilim_woven_runs.specs.Runs.{Comes, ComesToRest, IsMark, Soon, idle, 
 use Rattle.kilim_woven_runs.specs.Rooms.{IsFineState}
 use Rattle.kilim_woven_runs.specs.Serves.{From, Known, Rows, StandsFor}
 use Rattle.kilim_woven_runs.specs.Thread.{Run, Stop, Thread, self_of, started, started_in, steps}
-use Rattle.kilim_fits.specs.Fits.{AreThere, IsThere}
+use Rattle.kilim_typing_laws.specs.fits.Fits.{AreThere, IsThere}
 use Rattle.kilim_weaving_laws.proofs.simulation.Still.{StepIsKnown, comes_to_rest}
 use Rattle.kilim_weaving_laws.proofs.simulation.Room.{StackIsThere, is_fine}
 use Rattle.kilim_weaving_laws.proofs.simulation.Begins.{constructor_begins, execute_begins}

@@ -37,7 +37,7 @@ use Rattle.kilim_woven_runs.specs.Rows.{OldHeap, is_old_base, Receives, IsClean}
 use Rattle.kilim_woven_runs.specs.Serves.{From, Known, is_leaf, leaf_receiver}
 use Rattle.kilim_woven_runs.specs.Thread.{Frame, Thread, Run, Stop, own_of, fetch, self_of, step, steps}
 use Rattle.kilim_woven_runs.specs.Rooms.{GivesWhole, HasRoom, bare_frames}
-use Rattle.kilim_fits.specs.Fits.{AreThere, IsThere}
+use Rattle.kilim_typing_laws.specs.fits.Fits.{AreThere, IsThere}
 use Rattle.kilim_jvm_interp.specs.Step.{stack_limit}
 use Rattle.kilim_weaving_laws.specs.stands.Law.{IsFormOf}
 use Rattle.kilim_weaving_laws.specs.stands.example.Example.{two_steps, one_object, after, first}

@@ -31,9 +31,9 @@ use Rattle.kilim_typing.specs.Step.{Types, by_row, missing, may_make, may_name, 
 use Rattle.kilim_typing.specs.Typed.{IsWellTyped, typing_of}
 use Rattle.kilim_typing_laws.proofs.Edges.{stands_at}
 use Rattle.kilim_typing_laws.proofs.Tops.{passed}
-use Rattle.kilim_fits.proofs.BuiltInMembers.{NamedAt, built_in_at, named_at, none_built_in}
-use Rattle.kilim_fits.proofs.FromKeeps.{all_at}
-use Rattle.kilim_fits.proofs.ValueClasses.{all_of_at}
+use Rattle.kilim_typing_laws.proofs.fits.BuiltInMembers.{NamedAt, built_in_at, named_at, none_built_in}
+use Rattle.kilim_typing_laws.proofs.fits.FromKeeps.{all_at}
+use Rattle.kilim_typing_laws.proofs.fits.ValueClasses.{all_of_at}
 use Rattle.kilim_woven_form.proofs.woven_types.Codes.{whole_code}
 use Rattle.kilim_woven_form.proofs.woven_types.Old.{special_asks}
 use Rattle.kilim_woven_form.proofs.woven_programs.Frames.{by_place}

@@ -19,7 +19,7 @@ use Rattle.kilim_classes.specs.Program.{Program}
 use Rattle.kilim_classes.specs.Same.{answers, same_result, same_signature, same_types, selected}
 use Rattle.kilim_program.specs.Does.{chosen_by, chosen_on}
 use Rattle.kilim_program.specs.Natives.{FiberMember, Pc, Down, Up, Save, Place, Restore, Receiver, native_method}
-use Rattle.kilim_fits.proofs.SameNames.{signature_itself}
+use Rattle.kilim_typing_laws.proofs.fits.SameNames.{signature_itself}
 use Rattle.kilim_woven_form.specs.Form.{WovenForm, first_class, first_method}
 use Rattle.kilim_woven_form.specs.Woven.{fiber_ty, member}
 use Rattle.kilim_woven_form.proofs.woven_programs.ClassLists.{one_more}

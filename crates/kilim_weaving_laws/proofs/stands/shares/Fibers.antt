@@ -22,8 +22,8 @@ use Rattle.kilim_program.specs.Effect.{named_class, named_type}
 use Rattle.kilim_program.specs.Members.{is_task_execute}
 use Rattle.kilim_program.specs.Natives.{FiberMember, Pc, Down, Up, Save, Place, Restore, Receiver, OfFiber, is_built_in_constructor, is_handed_out, is_take, is_text_method, native_method, native_named, natives}
 use Rattle.kilim_lemmas.proofs.Lists.{get_right}
-use Rattle.kilim_fits.proofs.BuiltInMembers.{built_in_at, none_built_in}
-use Rattle.kilim_fits.proofs.ValueClasses.{all_of_at, type_is}
+use Rattle.kilim_typing_laws.proofs.fits.BuiltInMembers.{built_in_at, none_built_in}
+use Rattle.kilim_typing_laws.proofs.fits.ValueClasses.{all_of_at, type_is}
 use Rattle.kilim_isolation_laws.proofs.typed_threads.fine.Natives.{task_name}
 use Rattle.kilim_woven_form.specs.Form.{AllWoven, WovenForm, first_class}
 use Rattle.kilim_woven_form.specs.Woven.{fiber_ty, member}

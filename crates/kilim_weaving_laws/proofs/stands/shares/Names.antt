@@ -27,10 +27,10 @@ use Rattle.kilim_program.specs.Natives.{is_built_in_constructor, is_built_in_of,
 use Rattle.kilim_typing.specs.Step.{is_above, is_superclass_method, special_fits, superclass_at}
 use Rattle.kilim_typing.specs.Step as step
 use Rattle.kilim_lemmas.proofs.Lists.{get_right}
-use Rattle.kilim_fits.specs.Chosen.{IsChosen}
-use Rattle.kilim_fits.proofs.ClassMethods.{IsAmong, owner_has}
-use Rattle.kilim_fits.proofs.Finding.{answer_of, finds_chosen}
-use Rattle.kilim_fits.proofs.Through.{cases, message_at, message_top, object_at, object_top}
+use Rattle.kilim_typing_laws.specs.fits.Chosen.{IsChosen}
+use Rattle.kilim_typing_laws.proofs.fits.ClassMethods.{IsAmong, owner_has}
+use Rattle.kilim_typing_laws.proofs.fits.Finding.{answer_of, finds_chosen}
+use Rattle.kilim_typing_laws.proofs.fits.Through.{cases, message_at, message_top, object_at, object_top}
 use Rattle.kilim_woven_form.specs.Form.{WovenForm, has_calls, woven_as}
 use Rattle.kilim_woven_form.proofs.woven_programs.Methods.{Like, like, woven_at}
 use Rattle.kilim_woven_form.proofs.woven_programs.Naming.{owner_there}

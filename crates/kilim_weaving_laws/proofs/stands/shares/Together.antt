@@ -359,7 +359,7 @@ module _ (set : Setting) (W : Program) (counted : List (List Bool)) (keeps : Kee
   no_constructor : (id : MethodId) (a : Method) → method_at P id ≡ Some a → a.pausable ≡ true → is_constructor a ≡ false
   unfolding method_is_sound
   no_constructor id a at is =
-      let s = Rattle.kilim_fits.proofs.FromKeeps.all_at method_is_sound P.methods id.0 a keeps.methods at in
+      let s = Rattle.kilim_typing_laws.proofs.fits.FromKeeps.all_at method_is_sound P.methods id.0 a keeps.methods at in
       let t = and_parts (eqb (length a.qualifiers) (length a.params)) _ s in
       not_both (is_constructor a) a.pausable (and_parts (Rattle.std.specs.Prelude.nat_le (argument_slots a) 255) _ t.1).1 is
     where

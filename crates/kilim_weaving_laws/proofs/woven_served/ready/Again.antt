@@ -13,8 +13,8 @@ use Rattle.kilim_classes.specs.declared.verified.VType.{VType}
 use Rattle.kilim_classes.specs.Program.{Program}
 use Rattle.kilim_classes.specs.Same.{is_constructor}
 use Rattle.kilim_isolation_laws.proofs.typed_threads.fine.Heights.{some_size}
-use Rattle.kilim_fits.proofs.Basics.{takes_inverse}
-use Rattle.kilim_fits.specs.Fits.{Classes, have_types}
+use Rattle.kilim_typing_laws.proofs.fits.Basics.{takes_inverse}
+use Rattle.kilim_typing_laws.specs.fits.Fits.{Classes, have_types}
 use Rattle.kilim_pausable_graph.specs.Pausing.{called}
 use Rattle.kilim_typing.specs.Step.{Is, Operand, Types, all_meet, arguments, by_row, class_vtype, meets, result_types, row, special_by, special_row, special_rules, static_row, static_rules, type_step, virtual_row, virtual_rules, vtype, words}
 use Rattle.kilim_weaving_laws.proofs.courses.Roomy.{types_length}

@@ -21,9 +21,9 @@ use Rattle.kilim_classes.specs.Names.{is_empty, method_at}
 use Rattle.kilim_classes.specs.Program.{Program}
 use Rattle.kilim_classes.specs.Same.{is_constructor}
 use Rattle.kilim_isolation_laws.proofs.typed_threads.fine.Shown.{no_fiber_class}
-use Rattle.kilim_fits.proofs.Walk.{stands_at}
-use Rattle.kilim_fits.specs.Fits.{AreThere, Classes, HeapFits, IsThere, has_type, have_types}
-use Rattle.kilim_fits.specs.Sound.{argument_types}
+use Rattle.kilim_typing_laws.proofs.fits.Walk.{stands_at}
+use Rattle.kilim_typing_laws.specs.fits.Fits.{AreThere, Classes, HeapFits, IsThere, has_type, have_types}
+use Rattle.kilim_typing_laws.specs.fits.Sound.{argument_types}
 use Rattle.kilim_pausable_graph.specs.Pausing.{called}
 use Rattle.kilim_program.specs.declared.value.Object.{Object as HeapObject}
 use Rattle.kilim_program.specs.Does.{does}

@@ -14,7 +14,7 @@ use Rattle.kilim_classes.specs.declared.verified.VType.TheVariants.{Top, Int, Lo
 use Rattle.kilim_classes.specs.Names.{class_at}
 use Rattle.kilim_classes.specs.Program.{Program}
 use Rattle.kilim_classes.specs.Keeps.{has_base}
-use Rattle.kilim_fits.specs.Fits.{Classes, ContentFits, HeapFits, has_objects, has_type, have_types, is_made, refers}
+use Rattle.kilim_typing_laws.specs.fits.Fits.{Classes, ContentFits, HeapFits, has_objects, has_type, have_types, is_made, refers}
 use Rattle.kilim_program.specs.declared.value.Object.{Object as HeapObject}
 use Rattle.kilim_program.specs.Effect.{named_type}
 use Rattle.kilim_program.specs.Machine.{Objects}

@@ -18,9 +18,9 @@ use Rattle.kilim_classes.specs.Lengths.{fetched}
 use Rattle.kilim_classes.specs.Names.{◌>>=◌, method_at}
 use Rattle.kilim_classes.specs.Program.{Program}
 use Rattle.kilim_classes.specs.Same.{is_constructor}
-use Rattle.kilim_fits.specs.Facts.{Selected}
-use Rattle.kilim_fits.specs.Fits.{AreThere, Classes, HeapFits, Holds, has_type, have_types}
-use Rattle.kilim_fits.proofs.Grounds.{facts_hold}
+use Rattle.kilim_typing_laws.specs.fits.Facts.{Selected}
+use Rattle.kilim_typing_laws.specs.fits.Fits.{AreThere, Classes, HeapFits, Holds, has_type, have_types}
+use Rattle.kilim_typing_laws.proofs.fits.Grounds.{facts_hold}
 use Rattle.kilim_pausable_graph.specs.Pausing.{called}
 use Rattle.kilim_program.specs.Does.{calls_method, calls_on, chosen, does, special}
 use Rattle.kilim_program.specs.Effect.{Asks, Calls, named_type}
@@ -247,7 +247,7 @@ module _ (set : Setting) (run : IsRunOfAccepted set) (pauses : KeepsPauses set.p
   one_off (t ∷ ts) v vs e = and_parts (has_type set.program own of t v) (have_types set.program own of ts vs) e
 
   module _ (i : Instr) (f : fetch set.program m p ≡ Some (i, to)) (hp : pausable_callee set.program i ≡ Some callee) (receives : Receives set.program i s h) (slots : (k : ℕ) → Holds set.program own of (peek (typing_at set.program m p).locals k) (slice_get l k))
-      (locals : (j : ℕ) → (form m).live to j ≡ true → (v : Value) → slice_get l j ≡ Some v → Rattle.kilim_fits.specs.Fits.IsThere h v) (wl : List Value) (x : Value) (old : ℕ) (was : Value) (self_here : Rattle.kilim_fits.specs.Fits.IsThere h x) where
+      (locals : (j : ℕ) → (form m).live to j ≡ true → (v : Value) → slice_get l j ≡ Some v → Rattle.kilim_typing_laws.specs.fits.Fits.IsThere h v) (wl : List Value) (x : Value) (old : ℕ) (was : Value) (self_here : Rattle.kilim_typing_laws.specs.fits.Fits.IsThere h x) where
     stack_fits : (n : ℕ) → taken callee ≡ n → have_types set.program own of (drop n (typing_at set.program m p).stack) s2 ≡ true → AreThere h s2 → AllFit W h (below (plan_of set W marks form m) callee p) s2
     stack_fits n is typed inside =
         subst (λ (y : Types). AllFit W h (drop (taken callee) y.stack) s2) (sym (types_same set run pauses W marks form is_form agree of h heap m own there p))

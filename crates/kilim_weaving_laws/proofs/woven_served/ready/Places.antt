@@ -8,7 +8,7 @@ use Rattle.kilim_classes.specs.Keeps.{Keeps, code_is_whole}
 use Rattle.kilim_classes.specs.Lengths.{code_stands, fetched, first_place}
 use Rattle.kilim_classes.specs.Names.{method_at}
 use Rattle.kilim_classes.specs.Program.{Program}
-use Rattle.kilim_fits.proofs.FromKeeps.{all_at}
+use Rattle.kilim_typing_laws.proofs.fits.FromKeeps.{all_at}
 use Rattle.kilim_woven_runs.specs.Thread.{code_in, fetch}
 use Rattle.kilim_woven_form.proofs.woven_types.Codes.{whole_code}
 use Rattle.kilim_woven_form.proofs.woven_types.OldFacts.{GrowsTo}

@@ -13,9 +13,9 @@ use Rattle.kilim_classes.specs.declared.value.Value.TheVariants.{Box, Fiber, Int
 use Rattle.kilim_classes.specs.Lengths.{ends_path, fetched, jump_targets}
 use Rattle.kilim_classes.specs.Names.{is_task, method_at}
 use Rattle.kilim_classes.specs.Program.{Program}
-use Rattle.kilim_fits.specs.Fits.{Classes, IsThere}
-use Rattle.kilim_fits.proofs.Grounds.{facts_hold}
-use Rattle.kilim_fits.proofs.Walk.{stands_at}
+use Rattle.kilim_typing_laws.specs.fits.Fits.{Classes, IsThere}
+use Rattle.kilim_typing_laws.proofs.fits.Grounds.{facts_hold}
+use Rattle.kilim_typing_laws.proofs.fits.Walk.{stands_at}
 use Rattle.kilim_isolation_laws.proofs.kept.Serving.{accepted_is_kept}
 use Rattle.kilim_program.specs.Does.{does}
 use Rattle.kilim_program.specs.Effect.{Asks}
@@ -135,7 +135,7 @@ module _ (set : Setting) (run : IsRunOfAccepted set) (pauses : KeepsPauses set.p
         by leaf named is at.after at.step receives inside (subst (λ (o : Option Native). asks set (with_heap w w.heap) Stop (λ after r. Run m to l (push r s2) x (u_frames links) after) o args ≢ Stop Lost) named unlost)
       where
         by : (leaf : Native) → native_of set.program c ≡ Some leaf → is_leaf leaf ≡ true → (g : _) → Rattle.kilim_typing.specs.Step.type_step set.program typed.fits.frames.0.method p i (typing_at set.program m p) ≡ Rattle.std.proofs.Common.Ok g → Rattle.kilim_woven_runs.specs.Rows.Receives set.program i s w.heap →
-            Rattle.kilim_fits.specs.Fits.AreThere w.heap s → native_does set (with_heap w w.heap) Stop (λ after r. Run m to l (push r s2) x (u_frames links) after) leaf args ≢ Stop Lost → Fit set W marks form w.heap (Leaf leaf) (leaf_receiver leaf args) (Lk m p to i callee s2 l wl x old was)
+            Rattle.kilim_typing_laws.specs.fits.Fits.AreThere w.heap s → native_does set (with_heap w w.heap) Stop (λ after r. Run m to l (push r s2) x (u_frames links) after) leaf args ≢ Stop Lost → Fit set W marks form w.heap (Leaf leaf) (leaf_receiver leaf args) (Lk m p to i callee s2 l wl x old was)
         by native.Get named is g step receives inside unlost =
             let b = box_args set (with_heap w w.heap) (λ after r. Run m to l (push r s2) x (u_frames links) after) args unlost in
             fit_get set run pauses sound W marks form is_form agree of w.heap typed.fits.heap m typed.fits.frames.0.method typed.fits.frames.0.there p to l s typed.fits.frames.0.stack inside g callee c args s2 i f hp receives (λ k. typed.fits.frames.0.locals.slots k refl) locals wl x old was self_here d named step b.0 b.1

@@ -11,7 +11,7 @@ use Rattle.kilim_classes.specs.declared.value.Value.{Value}
 use Rattle.kilim_classes.specs.declared.value.Value.TheVariants.{Box, Fiber, Int, Long, Null, Ref, Text}
 use Rattle.kilim_classes.specs.Names.{method_at}
 use Rattle.kilim_classes.specs.Program.{Program}
-use Rattle.kilim_fits.specs.Fits.{Classes, HeapFits, IsThere}
+use Rattle.kilim_typing_laws.specs.fits.Fits.{Classes, HeapFits, IsThere}
 use Rattle.kilim_pausable_graph.specs.Pausing.{called}
 use Rattle.kilim_program.specs.declared.value.Object.{Object as HeapObject}
 use Rattle.kilim_program.specs.Does.{calls_method, calls_on, calls_text, does, special, takes_element}

@@ -11,7 +11,7 @@ use Rattle.kilim_classes.specs.declared.verified.VType.{VType}
 use Rattle.kilim_classes.specs.declared.verified.VType.TheVariants.{Top, Int, Long, Null, UninitThis, Uninit, Object}
 use Rattle.kilim_classes.specs.Fits.{fits_type}
 use Rattle.kilim_classes.specs.Program.{Program}
-use Rattle.kilim_fits.specs.Fits.{AreThere, Classes, HeapFits, Holds, IsThere, has_type, have_types, is_of}
+use Rattle.kilim_typing_laws.specs.fits.Fits.{AreThere, Classes, HeapFits, Holds, IsThere, has_type, have_types, is_of}
 use Rattle.kilim_program.specs.declared.cause.EndCause.TheVariants as cause
 use Rattle.kilim_program.specs.declared.value.Object.{Object as HeapObject}
 use Rattle.kilim_program.specs.Does.{cast_fits, does}

@@ -13,8 +13,8 @@ use Rattle.kilim_classes.specs.Fits.{fits_type}
 use Rattle.kilim_classes.specs.Names.{is_task, method_at}
 use Rattle.kilim_classes.specs.Program.{Program}
 use Rattle.kilim_isolation_laws.specs.typed_threads.fine.Typed.{FitsAs}
-use Rattle.kilim_fits.specs.Fits.{Classes, Holds, has_type, have_types}
-use Rattle.kilim_fits.specs.Sound.{argument_types}
+use Rattle.kilim_typing_laws.specs.fits.Fits.{Classes, Holds, has_type, have_types}
+use Rattle.kilim_typing_laws.specs.fits.Sound.{argument_types}
 use Rattle.kilim_pausable_graph.specs.Pausing.{called}
 use Rattle.kilim_program.specs.Does.{chosen, special}
 use Rattle.kilim_program.specs.Effect.{named_type}

@@ -14,7 +14,7 @@ use Rattle.kilim_classes.specs.declared.verified.VType.{VType}
 use Rattle.kilim_classes.specs.Keeps.{Keeps}
 use Rattle.kilim_classes.specs.Names.{is_task, method_at}
 use Rattle.kilim_classes.specs.Program.{Program}
-use Rattle.kilim_fits.specs.Fits.{AreThere, Classes, HeapFits, Holds, IsThere, have_types}
+use Rattle.kilim_typing_laws.specs.fits.Fits.{AreThere, Classes, HeapFits, Holds, IsThere, have_types}
 use Rattle.kilim_program.specs.Does.{does}
 use Rattle.kilim_program.specs.Effect.{Calls, named_type}
 use Rattle.kilim_program.specs.Machine.{Objects}

@@ -1,4 +1,4 @@
-use Rattle.kilim_worker_pool.specs.Pool.{IsOf}
+use Rattle.kilim_workers.specs.worker_pool.Pool.{IsOf}
 use Rattle.kilim_workers.proofs.pool.run_pool.Given as goal
 
 abbrev pub ghosts-run_of : goal.ghosts-run_of

@@ -1,6 +1,6 @@
 use Rattle.std.proofs.Common.{subst}
 use Rattle.kilim_fibers.specs.Fibers.{course_after, Resumed}
-use Rattle.kilim_worker_pool.proofs.Steps.{going}
+use Rattle.kilim_workers.proofs.worker_pool.Steps.{going}
 use Rattle.kilim_exchange.specs.Seen.{wish_in}
 use Rattle.kilim_turn.specs.Turns.{shows}
 use Rattle.kilim_workers.specs.Runs.{ActedAs}

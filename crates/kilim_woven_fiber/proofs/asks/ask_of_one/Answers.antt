@@ -7,9 +7,9 @@ use Rattle.kilim_program.specs.Trees.{OfTask}
 use Rattle.kilim_thread_model.specs.Kept.{given}
 use Rattle.kilim_weaving_laws.specs.woven_kin.Nexts.{start_next}
 use Rattle.kilim_woven_fiber.specs.Body.{behind_at}
-use Rattle.kilim_woven_natives.specs.Natives.{meaning}
-use Rattle.kilim_woven_natives.specs.declared.natives.Native.{Native}
-use Rattle.kilim_woven_natives.specs.declared.natives.Native.TheVariants as code
+use Rattle.kilim_fiber_records.specs.natives.Natives.{meaning}
+use Rattle.kilim_fiber_records.specs.declared.natives.natives.Native.{Native}
+use Rattle.kilim_fiber_records.specs.declared.natives.natives.Native.TheVariants as code
 use Rattle.kilim_woven_fiber.proofs.Asking.{come_by, native_same}
 use Rattle.kilim_woven_fiber.proofs.asks.ask_of_one.Goals as goal
 

@@ -27,7 +27,7 @@ use Rattle.kilim_woven_form.specs.Weight.{calls_in}
 use Rattle.kilim_woven_form.specs.Woven.{Item, Mark, Does, Plan, behind, fiber_ty, larger, local_size, woven_items, added, fiber_slot, keep_self, load_fiber, calls_member, switch_item, pieces, blocks}
 use Rattle.kilim_woven_form.proofs.woven_types.Codes.{whole_code}
 use Rattle.kilim_woven_form.proofs.woven_types.OldFacts.{GrowsTo}
-use Rattle.kilim_fits.proofs.FromKeeps.{all_at}
+use Rattle.kilim_typing_laws.proofs.fits.FromKeeps.{all_at}
 use Rattle.kilim_woven_form.proofs.woven_programs.Theorem.{how_many}
 use Rattle.kilim_woven_form.proofs.woven_programs.classes.Listing.{all_joined}
 

@@ -17,7 +17,7 @@ use Rattle.kilim_classes.specs.Program.{Program}
 use Rattle.kilim_classes.specs.Same.{all_differ, same_field, same_method, same_signature}
 use Rattle.kilim_lemmas.proofs.Texts.{same_text}
 use Rattle.kilim_woven_form.specs.Form.{AllWoven, WovenForm, first_class, first_method}
-use Rattle.kilim_fits.proofs.FromKeeps.{all_at}
+use Rattle.kilim_typing_laws.proofs.fits.FromKeeps.{all_at}
 use Rattle.kilim_woven_form.proofs.woven_programs.Methods.{Like, like}
 use Rattle.kilim_woven_form.proofs.woven_programs.Naming.{back, owner_there, params_there}
 use Rattle.kilim_woven_form.proofs.woven_programs.Theorem.{fiber_parts, first_is, grown, how_many}

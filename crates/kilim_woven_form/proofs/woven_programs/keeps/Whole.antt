@@ -31,7 +31,7 @@ use Rattle.kilim_woven_form.specs.woven_types.Theorem.{Weaving}
 use Rattle.kilim_woven_form.proofs.woven_types.OldFacts.{AllSane, GrowsTo}
 use Rattle.kilim_woven_form.proofs.woven_types.Sane.{sane, sane_item}
 use Rattle.kilim_woven_form.proofs.woven_types.Theorem.{frames_sane, proved}
-use Rattle.kilim_fits.proofs.FromKeeps.{all_at}
+use Rattle.kilim_typing_laws.proofs.fits.FromKeeps.{all_at}
 use Rattle.kilim_woven_form.specs.woven_programs.Law.{KeepsPauses}
 use Rattle.kilim_woven_form.proofs.woven_programs.Theorem.{weaving_of}
 use Rattle.kilim_woven_form.specs.woven_programs.keeps.Law.{MethodsKeep, NoneIsTooLong, WovenMethodsKeep, reach, NoneIsFull}

@@ -15,7 +15,7 @@ use Rattle.kilim_classes.specs.Kinds.{array_kind, base_kind, class_kind, field_m
 use Rattle.kilim_classes.specs.Names.{◌>>=◌, class_at, class_name, is_named_task, is_task, line_of, line_up_to}
 use Rattle.kilim_classes.specs.Program.{Program}
 use Rattle.kilim_lemmas.proofs.Lists.{get_front}
-use Rattle.kilim_fits.proofs.Through.{never_cut, up, up_there}
+use Rattle.kilim_typing_laws.proofs.fits.Through.{never_cut, up, up_there}
 use Rattle.kilim_woven_form.proofs.woven_programs.ClassLists.{one_more}
 
 module _ (P W : Program) (keeps : Keeps P) (extra : Class) (grown : W.classes ≡ P.classes ++ extra ∷ []) where

@@ -19,8 +19,8 @@ use Rattle.kilim_classes.specs.Names.{◌>>=◌, class_at, class_name, is_named_
 use Rattle.kilim_classes.specs.Program.{Program}
 use Rattle.kilim_lemmas.proofs.Lists.{get_last, get_right}
 use Rattle.kilim_woven_form.specs.Form.{WovenForm, first_class}
-use Rattle.kilim_fits.proofs.FromKeeps.{all_at}
-use Rattle.kilim_fits.proofs.Through.{up}
+use Rattle.kilim_typing_laws.proofs.fits.FromKeeps.{all_at}
+use Rattle.kilim_typing_laws.proofs.fits.Through.{up}
 use Rattle.kilim_woven_form.proofs.woven_programs.Naming.{all_parts}
 use Rattle.kilim_woven_form.proofs.woven_programs.Theorem.{fiber_parts, first_is, grown, how_many}
 use Rattle.kilim_woven_form.proofs.woven_programs.classes.Listing.{each_joined, each_kept}

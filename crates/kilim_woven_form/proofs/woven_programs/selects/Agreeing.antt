@@ -10,7 +10,7 @@ use Rattle.kilim_classes.specs.Keeps.{agrees, agrees_with, has_type, overrides}
 use Rattle.kilim_classes.specs.Program.{Program}
 use Rattle.kilim_classes.specs.Same.{is_constructor, same_flag, same_qualifier, same_qualifiers, same_result, same_types}
 use Rattle.kilim_woven_form.specs.Form.{IsWoven, has_calls, woven_as}
-use Rattle.kilim_fits.proofs.SameNames.{flag_is, qualifier_is, qualifiers_are}
+use Rattle.kilim_typing_laws.proofs.fits.SameNames.{flag_is, qualifier_is, qualifiers_are}
 use Rattle.kilim_woven_form.proofs.woven_programs.Methods.{Like}
 use Rattle.kilim_woven_form.proofs.woven_programs.Naming.{back}
 use Rattle.std.specs.List.{list_all}

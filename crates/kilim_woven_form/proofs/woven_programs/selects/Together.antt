@@ -18,11 +18,11 @@ use Rattle.kilim_classes.specs.Program.{Program}
 use Rattle.kilim_classes.specs.Same.{answers, argument_slots, is_constructor, same_flag, same_signature, selected}
 use Rattle.kilim_lemmas.proofs.Lists.{get_last, get_right, get_some}
 use Rattle.kilim_woven_form.specs.Form.{AllWoven, IsWoven, WovenForm, first_class, first_method}
-use Rattle.kilim_fits.proofs.ClassMethods.{IsAmong, names_owner}
-use Rattle.kilim_fits.proofs.Finding.{finds_chosen}
-use Rattle.kilim_fits.proofs.FromKeeps.{all_at}
-use Rattle.kilim_fits.proofs.SameNames.{named_alike}
-use Rattle.kilim_fits.proofs.Through.{up, up_there}
+use Rattle.kilim_typing_laws.proofs.fits.ClassMethods.{IsAmong, names_owner}
+use Rattle.kilim_typing_laws.proofs.fits.Finding.{finds_chosen}
+use Rattle.kilim_typing_laws.proofs.fits.FromKeeps.{all_at}
+use Rattle.kilim_typing_laws.proofs.fits.SameNames.{named_alike}
+use Rattle.kilim_typing_laws.proofs.fits.Through.{up, up_there}
 use Rattle.kilim_woven_form.proofs.woven_programs.ClassLists.{one_more}
 use Rattle.kilim_woven_form.proofs.woven_programs.Methods.{IsFound, Like, like, members_behind, woven_at}
 use Rattle.kilim_woven_form.proofs.woven_programs.Naming.{owner_there, params_there}

@@ -22,7 +22,7 @@ use Rattle.kilim_classes.specs.Program.{Program}
 use Rattle.kilim_typing.specs.Step.{Types, class_vtype, peek, result_types, text_type, vtype, vtype_of_class}
 use Rattle.kilim_typing.specs.Typed.{IsWellTyped, entry, has_code, typing_of}
 use Rattle.kilim_woven_form.proofs.woven_types.Codes.{whole_code}
-use Rattle.kilim_fits.proofs.FromKeeps.{all_at}
+use Rattle.kilim_typing_laws.proofs.fits.FromKeeps.{all_at}
 use Rattle.kilim_woven_form.proofs.woven_programs.Frames.{by_place}
 use Rattle.kilim_woven_form.proofs.woven_programs.Naming.{all_parts, flat_part, owner_there}
 use Rattle.kilim_woven_form.specs.woven_programs.types.Law.{StandAt, TypesAreThere, may_stand, stands}

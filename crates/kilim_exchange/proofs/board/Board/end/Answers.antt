@@ -1,8 +1,8 @@
 use Rattle.std.proofs.Common.{arith, length, refl}
 use Rattle.kilim_exchange.proofs.Seats.{lent_no_more}
-use Rattle.kilim_waiting.specs.Mailboxes.{mail_of}
-use Rattle.kilim_waiting.proofs.Named.{counted_same}
-use Rattle.kilim_waiting.proofs.Lists.{longer}
+use Rattle.kilim_fibers.specs.waiting.Mailboxes.{mail_of}
+use Rattle.kilim_fibers.proofs.waiting.Named.{counted_same}
+use Rattle.kilim_fibers.proofs.waiting.Lists.{longer}
 use Rattle.kilim_exchange.proofs.board.Board.end.Goals as goal
 
 pub returns-clause-roomy : goal.returns-clause-roomy

@@ -1,11 +1,11 @@
 use Rattle.std.proofs.Common.{arith, length, ◌≡◌, ◌==◌, true, false, ◌∙◌, sym, refl}
-use Rattle.kilim_waiting.specs.Mailboxes.{mail_of}
+use Rattle.kilim_fibers.specs.waiting.Mailboxes.{mail_of}
 use Rattle.kilim_exchange.specs.Seen.{seen}
 use Rattle.kilim_exchange.proofs.Seats.{lent_emptied}
 use Rattle.kilim_exchange.proofs.Closing.{give_stands}
 use Rattle.kilim_exchange.proofs.Boards.{gives_parked, gives_ready, gives_none}
-use Rattle.kilim_waiting.proofs.Lists.{longer}
-use Rattle.kilim_waiting.proofs.Waiting.{behind_longer}
+use Rattle.kilim_fibers.proofs.waiting.Lists.{longer}
+use Rattle.kilim_fibers.proofs.waiting.Waiting.{behind_longer}
 use Rattle.kilim_exchange.proofs.board.Board.give_back.Goals as goal
 
 pub park-requires : goal.park-requires

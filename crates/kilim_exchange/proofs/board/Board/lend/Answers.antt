@@ -3,7 +3,7 @@ use Rattle.kilim_exchange.proofs.Seats.{lent_filled}
 use Rattle.std.proofs.Common.{refl, Some}
 use Rattle.std.specs.Prelude.{slice_set}
 use Rattle.kilim_exchange.specs.Seen.{seen}
-use Rattle.kilim_waiting.specs.Mailboxes.{mail_of}
+use Rattle.kilim_fibers.specs.waiting.Mailboxes.{mail_of}
 use Rattle.kilim_exchange.proofs.Calls.{lend_stands}
 use Rattle.kilim_exchange.proofs.board.Board.lend.Goals as goal
 

@@ -1,7 +1,7 @@
 use Rattle.std.proofs.Common.{arith, ◌++◌, ◌∷◌, [], ap, ◌∙◌, length}
 use Rattle.kilim_exchange.specs.Board.{lent_of}
 use Rattle.kilim_exchange.proofs.Closing.{new_stands, none_lent}
-use Rattle.kilim_waiting.proofs.Named.{no_mails, none_counted}
+use Rattle.kilim_fibers.proofs.waiting.Named.{no_mails, none_counted}
 use Rattle.kilim_exchange.proofs.board.Board.new.Goals as goal
 
 pub returns-in-Ok-clause-roomy : goal.returns-in-Ok-clause-roomy

@@ -1,7 +1,7 @@
 use Rattle.std.proofs.Common.{arith, length}
-use Rattle.kilim_waiting.specs.Mailboxes.{mail_of}
-use Rattle.kilim_waiting.proofs.Named.{counted_put}
-use Rattle.kilim_waiting.proofs.Lists.{longer}
+use Rattle.kilim_fibers.specs.waiting.Mailboxes.{mail_of}
+use Rattle.kilim_fibers.proofs.waiting.Named.{counted_put}
+use Rattle.kilim_fibers.proofs.waiting.Lists.{longer}
 use Rattle.kilim_exchange.proofs.board.Board.put.Goals as goal
 
 pub put_message-number-requires-clause-few : goal.put_message-number-requires-clause-few

@@ -1,6 +1,6 @@
 use Rattle.std.proofs.Common.{arith, ap, length, refl}
-use Rattle.kilim_waiting.specs.Mailboxes.{mail_of}
-use Rattle.kilim_waiting.proofs.Named.{counted_same}
+use Rattle.kilim_fibers.specs.waiting.Mailboxes.{mail_of}
+use Rattle.kilim_fibers.proofs.waiting.Named.{counted_same}
 use Rattle.kilim_exchange.proofs.board.Board.reserve.Goals as goal
 
 pub returns-in-Put-clause-roomy : goal.returns-in-Put-clause-roomy

@@ -1,9 +1,9 @@
 use Rattle.std.proofs.Common.{arith, length, ◌≡◌, ◌∷◌, subst, refl}
 use Rattle.std.specs.Prelude.{IfSome, IfNone}
 use Rattle.kilim_thread_model.specs.State.{with_mailbox, with_queue}
-use Rattle.kilim_waiting.specs.Mailboxes.{SameMails, mail_of}
-use Rattle.kilim_waiting.proofs.Named.{counted_took, counted_same}
-use Rattle.kilim_waiting.proofs.Lists.{longer}
+use Rattle.kilim_fibers.specs.waiting.Mailboxes.{SameMails, mail_of}
+use Rattle.kilim_fibers.proofs.waiting.Named.{counted_took, counted_same}
+use Rattle.kilim_fibers.proofs.waiting.Lists.{longer}
 use Rattle.kilim_exchange.proofs.board.Board.take.Goals as goal
 
 pub returns-in-Some-clause-effect : goal.returns-in-Some-clause-effect

@@ -3,9 +3,9 @@ use Rattle.std.specs.Prelude.{IfSome, slice_get}
 use Rattle.kilim_classes.specs.declared.names.MethodId.{MethodId}
 use Rattle.kilim_classes.specs.Program.{Program}
 use Rattle.kilim_program.specs.Natives.{native_of}
-use Rattle.kilim_woven_natives.specs.Natives.{meaning}
-use Rattle.kilim_woven_natives.specs.Tables.{AreNatives}
-use Rattle.kilim_woven_natives.specs.declared.natives.Native.{Native}
+use Rattle.kilim_fiber_records.specs.natives.Natives.{meaning}
+use Rattle.kilim_fiber_records.specs.natives.Tables.{AreNatives}
+use Rattle.kilim_fiber_records.specs.declared.natives.natives.Native.{Native}
 use Rattle.kilim_woven_fiber.proofs.code.Code.native.Goals as goal
 
 told : (W : Program) (table : List (Option Native)) (method : MethodId) (found : Option Native) → AreNatives W table → IfSome found (λ native. slice_get table method.0 ≡ Some (Some native)) → IfSome found (λ native. native_of W method ≡ Some (meaning native))

@@ -1,0 +1,10 @@
+use Rattle.std.proofs.Common.{◌+◌, ◌++◌, List, ap, drop, sym, ◌∙◌}
+use Rattle.kilim_classes.specs.declared.verified.VType.{VType}
+use Rattle.kilim_code_builder.specs.stack_maps.Tables.{written}
+use Rattle.kilim_code_builder.proofs.stack_maps.Names.{drop_next}
+use Rattle.kilim_code_builder.proofs.stack_maps.types.written.Goals as goal
+
+pub loop-index-preserved : goal.loop-index-preserved
+loop-index-preserved c =
+    c.in_ok-skips.ensures (drop (c.loop-index.index + 1) c.args.locals.now)
+    ∙ (ap (λ (ts : List VType). c.loop-index.types.items ++ written c.loop-index.skips ts) (sym (drop_next c.args.locals.now c.loop-index.index c.local_at-t.result.now c.local_at-t.ensures)) ∙ c.loop-index.invariant)

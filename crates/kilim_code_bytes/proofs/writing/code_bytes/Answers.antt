@@ -1,9 +1,0 @@
-use Rattle.std.specs.List.{flat_map}
-use Rattle.kilim_bytecode.specs.Code.{placed_text}
-use Rattle.kilim_code_bytes.proofs.Lists.{text_step}
-use Rattle.kilim_code_bytes.proofs.writing.code_bytes.Goals as goal
-
-pub loop-at-preserved : goal.loop-at-preserved
-loop-at-preserved c =
-    text_step placed_text c.args.code.now c.loop-at.at-index c.loop-at-item.result c.loop-at.bytes.items c.push_instr.new.into.items (flat_map placed_text c.args.code.now)
-    c.loop-at-test.true c.loop-at-item.is c.loop-at.invariant c.in_ok-push_instr.ensures

@@ -1,6 +1,0 @@
-//! Code as bytes (JVMS 4.7.3), each instruction at its place, where it is asked whether it has a text there.
-#![tactic(auto)]
-
-mod writing;
-
-pub use writing::code_bytes;

@@ -1,0 +1,129 @@
+//! What each frame says.
+
+ghost use Rattle.std.specs.Prelude.{◌≡◌, ◌++◌, ◌∷◌, [], ◌-◌, map, take, length, IfOk};
+ghost use Rattle.kilim_link_spec.specs.Frames.{slot_in, delta_of, entries_of};
+
+use crate::link_frames::slots::{push_slots, slot_in};
+use kilim_attribute_parts::{Frame, VerificationType};
+use kilim_classes::VType;
+use kilim_constant_pool::Pool;
+use kilim_link_spec::Entries;
+use kilim_link_world::World;
+use kilim_units::{NoMemory, Seq};
+use std::alloc::Global;
+
+/// The distance that a frame writes down, in bytes (JVMS 4.7.4).
+pub fn delta_of(frame: &Frame) -> u16
+    ensures { result ≡ delta_of frame.now }
+{
+    match frame {
+        Frame::Same(delta) | Frame::SameLocals1StackItem(delta, _) => u16::from(*delta),
+        Frame::SameLocals1StackItemExtended(delta, _)
+        | Frame::Chop(_, delta)
+        | Frame::SameExtended(delta)
+        | Frame::Append(delta, _)
+        | Frame::Full(delta, _, _) => *delta,
+    }
+}
+
+fn copied(alloc: Global, locals: &[Option<VType>]) -> Result<Seq<Option<VType>>, NoMemory>
+    ensures { IfOk result (λ copy. copy ≡ locals.now) }
+{
+    Ok(Seq::from_vec(Vec::from_slice(alloc, locals)?))
+}
+
+// The same locals and nothing on the stack.
+fn same(alloc: Global, locals: &[Option<VType>]) -> Result<Entries, NoMemory>
+    ensures { IfOk result (λ e. e ≡ record { locals = locals.now; stack = [] }) }
+{
+    Ok(Entries {
+        locals: copied(alloc, locals)?,
+        stack: Seq::new(alloc),
+    })
+}
+
+// The same locals and one item on the stack.
+fn with_item(
+    alloc: Global,
+    world: &World,
+    pool: &Pool,
+    locals: &[Option<VType>],
+    item: VerificationType,
+) -> Result<Entries, NoMemory>
+    ensures { IfOk result (λ e. e ≡ record { locals = locals.now; stack = slot_in world.now pool.now item ∷ [] }) }
+{
+    let mut stack = Seq::new(alloc);
+    stack.push(slot_in(alloc, world, pool, item)?)?;
+    Ok(Entries {
+        locals: copied(alloc, locals)?,
+        stack,
+    })
+}
+
+// Without so many of the last locals; none where there are fewer.
+fn chopped(alloc: Global, locals: &[Option<VType>], count: u8) -> Result<Entries, NoMemory>
+    ensures { IfOk result (λ e. e ≡ record { locals = take (length locals.now - count) locals.now; stack = [] }) }
+{
+    let count = usize::from(count);
+    if locals.len() < count {
+        return same(alloc, &[]);
+    }
+    same(alloc, &locals[..locals.len() - count])
+}
+
+// With more locals behind the others.
+fn appended(
+    alloc: Global,
+    world: &World,
+    pool: &Pool,
+    locals: &[Option<VType>],
+    more: &[VerificationType],
+) -> Result<Entries, NoMemory>
+    ensures { IfOk result (λ e. e ≡ record { locals = locals.now ++ map (slot_in world.now pool.now) more.now; stack = [] }) }
+{
+    let mut all = copied(alloc, locals)?;
+    push_slots(alloc, &mut all, world, pool, more)?;
+    Ok(Entries {
+        locals: all,
+        stack: Seq::new(alloc),
+    })
+}
+
+// With all locals and the whole stack anew.
+fn full(
+    alloc: Global,
+    world: &World,
+    pool: &Pool,
+    all: &[VerificationType],
+    items: &[VerificationType],
+) -> Result<Entries, NoMemory>
+    ensures { IfOk result (λ e. e ≡ record { locals = map (slot_in world.now pool.now) all.now; stack = map (slot_in world.now pool.now) items.now }) }
+{
+    let mut locals = Seq::new(alloc);
+    push_slots(alloc, &mut locals, world, pool, all)?;
+    let mut stack = Seq::new(alloc);
+    push_slots(alloc, &mut stack, world, pool, items)?;
+    Ok(Entries { locals, stack })
+}
+
+/// The locals and the stack of a frame by entries, where the frame before it had these locals (JVMS 4.7.4). A chop that
+/// takes away more of them than there are leaves none.
+pub fn entries_of(
+    alloc: Global,
+    world: &World,
+    pool: &Pool,
+    locals: &[Option<VType>],
+    frame: &Frame,
+) -> Result<Entries, NoMemory>
+    ensures { IfOk result (λ e. e ≡ entries_of world.now pool.now locals.now frame.now) }
+{
+    match frame {
+        Frame::Same(_) | Frame::SameExtended(_) => same(alloc, locals),
+        Frame::SameLocals1StackItem(_, item) | Frame::SameLocals1StackItemExtended(_, item) => {
+            with_item(alloc, world, pool, locals, *item)
+        }
+        Frame::Chop(count, _) => chopped(alloc, locals, *count),
+        Frame::Append(_, more) => appended(alloc, world, pool, locals, more.as_slice()),
+        Frame::Full(_, all, items) => full(alloc, world, pool, all.as_slice(), items.as_slice()),
+    }
+}

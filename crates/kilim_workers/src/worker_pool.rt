@@ -1,0 +1,119 @@
+//! The runner: one worker takes every turn, until no fiber is ready.
+
+ghost use Rattle.std.specs.Prelude.{◌≡◌, ◌<◌, ◌≤◌, ◌∷◌, [], ℕ, Bool, true, false, Option, Some, None, OnOk, IfOk, List};
+ghost use Rattle.kilim_thread_model.specs.State.{Setting};
+ghost use Rattle.kilim_exchange.specs.Seen.{MovedWhole, seen};
+ghost use Rattle.kilim_workers.specs.worker_pool.Pool.{IsOf, IsLending, IsResting, TurnIs, IsCalm, EmptyAt, Falls, todo, left};
+
+use kilim_classes::ClassId;
+use kilim_exchange::{Acted, Board, Lent};
+use kilim_fibers::{Fibers, Wants};
+use kilim_journal::Entry;
+use kilim_outside::Gate;
+use kilim_program::Limits;
+use kilim_units::NoMemory;
+use std::alloc::Global;
+
+// What a lent fiber's step leaves.
+#[derive(Drop)]
+enum Turn<F> {
+    // The fiber goes on.
+    On(F),
+    // It rests or has ended.
+    Over,
+}
+
+// Runs a lent fiber up to the next thing that it wants, and does that.
+fn step<F: Fibers>(
+    board: &mut Board<F>,
+    fiber: F,
+    code: &F::Code,
+    limits: &Limits,
+    main: ClassId,
+) -> Result<Turn<F>, NoMemory>
+    requires some { (set : Setting) × IsOf F.serves code.now main limits.now set }
+    requires lending { IsLending F.task_of F.course_of F.holds (IsOf F.serves code.now main limits.now) board.old fiber }
+    requires calm { IsCalm F.refused (seen board.old) }
+    requires waits { EmptyAt F.refused board.old fiber }
+    ensures turn { IfOk result (λ turn. TurnIs F.task_of F.course_of F.holds (IsOf F.serves code.now main limits.now) board.new turn) }
+    ensures falls { IfOk result (λ turn. Falls F.count_of F.refused limits.now.steps (todo F.count_of F.refused limits.now.steps board.old fiber) board.new turn) }
+{
+    let mut fiber = fiber;
+    let wants = fiber.resume(code, limits)?;
+    match wants {
+        Wants::Rest(waits) => {
+            board.give_back(0, fiber, waits);
+            Ok(Turn::Over)
+        }
+        Wants::End(cause) => {
+            let wants = Wants::End(cause);
+            board.reserve(&wants)?;
+            board.act(0, wants);
+            Ok(Turn::Over)
+        }
+        wants => {
+            board.reserve(&wants)?;
+            match board.act(0, wants) {
+                Acted::Answer(answer) => {
+                    fiber.answer(code, answer)?;
+                    Ok(Turn::On(fiber))
+                }
+                Acted::OutOfTasks => Ok(Turn::Over),
+            }
+        }
+    }
+}
+
+// Runs a lent fiber until it rests or ends.
+fn run_fiber<F: Fibers>(
+    board: &mut Board<F>,
+    fiber: F,
+    code: &F::Code,
+    limits: &Limits,
+    main: ClassId,
+) -> Result<(), NoMemory>
+    requires some { (set : Setting) × IsOf F.serves code.now main limits.now set }
+    requires lending { IsLending F.task_of F.course_of F.holds (IsOf F.serves code.now main limits.now) board.old fiber }
+    requires calm { IsCalm F.refused (seen board.old) }
+    requires waits { EmptyAt F.refused board.old fiber }
+    ensures rest { OnOk result (IsResting F.task_of F.course_of F.holds (IsOf F.serves code.now main limits.now) board.new) }
+    ensures falls { OnOk result (IsCalm F.refused (seen board.new) × (left F.count_of limits.now.steps (seen board.new) ≤ todo F.count_of F.refused limits.now.steps board.old fiber)) }
+{
+    let mut fiber = fiber;
+    loop {
+        match step(board, fiber, code, limits, main)? {
+            Turn::On(next) => fiber = next,
+            Turn::Over => return Ok(()),
+        }
+    }
+}
+
+/// Runs a program to rest with one worker: the entries of a whole run of moved messages, and who waits at its end. It takes
+/// no turn, waits for nobody and returns. Before each fiber that it runs it passes the gate, which changes nothing.
+///
+/// The error is want of memory alone.
+pub fn run_one<F: Fibers, G: Gate>(
+    alloc: Global,
+    code: &F::Code,
+    main: ClassId,
+    limits: &Limits,
+    gate: &G,
+) -> Result<Vec<Entry>, NoMemory>
+    requires { (set : Setting) × IsOf F.serves code.now main limits.now set }
+    ensures { (set : Setting) → IsOf F.serves code.now main limits.now set → IfOk result (λ es. MovedWhole set es.items) }
+{
+    let fiber: F = F::boot(alloc, code, main)?;
+    let mut board = match Board::new(alloc, fiber, 1) {
+        Ok(board) => board,
+        Err(_) => return Err(NoMemory),
+    };
+    loop {
+        match board.lend(0) {
+            Lent::Fiber(fiber) => {
+                gate.pass(fiber.task(), fiber.records());
+                run_fiber(&mut board, fiber, code, limits, main)?
+            }
+            _ => return board.finish(),
+        }
+    }
+}

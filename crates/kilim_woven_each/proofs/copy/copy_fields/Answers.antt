@@ -1,6 +1,0 @@
-use Rattle.kilim_woven_method.proofs.Listing.{copied_more}
-use Rattle.kilim_woven_each.proofs.copy.copy_fields.Goals as goal
-
-pub loop-at-preserved : goal.loop-at-preserved
-loop-at-preserved c =
-    copied_more c.args.fields.now c.loop-at.at c.field_at-field.result.now c.in_ok-copy.copy c.loop-at.all c.push.new.self c.field_at-field.ensures c.loop-at.invariant c.in_ok-copy.ensures c.in_ok-push.ensures.ok

@@ -1,6 +1,0 @@
-use Rattle.std.proofs.Common.{false}
-use Rattle.kilim_woven_each.proofs.OfKind.{kept_as}
-use Rattle.kilim_woven_each.proofs.each.unchanged.Goals as goal
-
-pub returns : goal.returns
-returns c = kept_as c.args._program.now c.args.method.now c.in_ok-same.same c.in_ok-counted.counted false c.requires (c.in_ok-same.ensures, c.in_ok-counted.ensures)

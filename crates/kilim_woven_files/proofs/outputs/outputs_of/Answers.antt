@@ -1,8 +1,0 @@
-use Rattle.std.proofs.Common.{sym}
-use Rattle.kilim_woven_files.proofs.Written.{outputs_more}
-use Rattle.kilim_woven_files.proofs.outputs.outputs_of.Goals as goal
-
-pub loop-at-preserved : goal.loop-at-preserved
-loop-at-preserved c =
-    outputs_more c.args.program.now c.args.program.now.classes c.in-Some.class.now c.args.files.now c.loop-at.outputs.items c.push.new.self.items c.loop-at.at c.file_at-file.result.now c.in_ok-output.output c.file_at-file.ensures.there (sym c.in-Some.ensures)
-    c.in_ok-push.ensures.items c.in_ok-output.ensures c.loop-at.invariant

@@ -1,0 +1,16 @@
+use Rattle.kilim_liveness.specs.Table.{live_in}
+use Rattle.kilim_woven_method.proofs.woven_each.OfKind.{woven_by}
+use Rattle.kilim_woven_method.proofs.woven_each.each.with_calls.Goals as goal
+
+pub code_rises-requires : goal.code_rises-requires
+code_rises-requires c = c.requires.there
+
+pub live-requires : goal.live-requires
+live-requires c = c.code_rises.ensures
+
+pub woven-requires : goal.woven-requires
+woven-requires c = record { rising = c.code_rises.ensures; listed = c.requires.listed }
+
+pub returns : goal.returns
+returns c =
+    woven_by c.labels_are_found.ensures c.args.program.now c.keeps.ensures c.args.id c.args.method.now c.requires.there c.requires.pausable c.requires.calls (live_in c.in_ok-table.table) c.in_ok-table.ensures c.in_ok-pair.pair c.in_ok-pair.ensures

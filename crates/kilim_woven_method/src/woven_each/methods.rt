@@ -1,0 +1,173 @@
+//! All methods of a program, woven.
+
+ghost use Rattle.std.specs.Prelude.{◌≡◌, ◌<◌, ◌++◌, true, length, map, slice_get, option_copied, Some, IfOk};
+ghost use Rattle.kilim_classes.specs.Names.{method_at};
+ghost use Rattle.kilim_typing.specs.Typed.{has_code};
+ghost use Rattle.kilim_typing.specs.TypedProgram.{KeepsTyped};
+ghost use Rattle.kilim_woven_pieces.specs.Listed.{Listed};
+ghost use Rattle.kilim_woven_form.specs.Form.{AllWoven, IsWoven, all_counted};
+ghost use Rattle.kilim_woven_method.specs.woven_each.Each.{IsEachWoven};
+
+use crate::woven_each::built_in::fiber_methods;
+use crate::woven_each::copy::method_at;
+use crate::woven_each::each::woven_each;
+use crate::woven_each::extended::all_counted;
+use crate::woven_each::kept::keeps;
+use kilim_classes::{Frame, Method, MethodId, Program};
+use kilim_typing::Typed;
+use kilim_typing_laws::typed_by_place;
+use kilim_units::{NoMemory, Seq};
+use std::alloc::Global;
+
+/// Methods, and which of their instructions count.
+#[derive(Drop)]
+pub struct Methods {
+    pub methods: Seq<Method>,
+    pub counted: Seq<Seq<bool>>,
+}
+
+fn method_of(program: &Program, at: usize) -> &Method
+    requires { at < length program.now.methods }
+    ensures { slice_get program.now.methods at ≡ Some result.now }
+{
+    program.methods.get(at)
+}
+
+fn count_of(program: &Program) -> usize
+    ensures { result ≡ length program.now.methods }
+{
+    program.methods.len()
+}
+
+// A number as an id has it. A program with more methods would be answered as want of memory.
+fn id_of(at: usize) -> Result<MethodId, NoMemory>
+    ensures { IfOk result (λ id. id.0 ≡ at) }
+{
+    match u32::try_from(at) {
+        Ok(number) => Ok(MethodId(number)),
+        Err(_) => Err(NoMemory),
+    }
+}
+
+fn frames_at(frames: &[Seq<Frame>], at: usize) -> Option<&Seq<Frame>>
+    ensures { option_copied result ≡ slice_get frames.now at }
+{
+    frames.get(at)
+}
+
+// The frames of a method. They are always there: that they aren't would be answered as want of memory.
+fn frames_of<'a>(
+    program: &Program,
+    frames: &'a [Seq<Frame>],
+    id: MethodId,
+    method: &Method,
+) -> Result<&'a Seq<Frame>, NoMemory>
+    requires typed { KeepsTyped (record { program = program.now; frames = frames.now }) }
+    requires there { method_at program.now id ≡ Some method.now }
+    ensures { IfOk result (λ f. has_code method.now ≡ true → Listed program.now method.now f.now) }
+{
+    typed_by_place();
+    keeps(program);
+    match frames_at(frames, id.0 as usize) {
+        Some(found) => Ok(found),
+        None => Err(NoMemory),
+    }
+}
+
+// A method by its number.
+fn woven_at(
+    alloc: Global,
+    program: &Program,
+    frames: &[Seq<Frame>],
+    id: MethodId,
+    method: &Method,
+) -> Result<(Method, Seq<bool>), NoMemory>
+    requires typed { KeepsTyped (record { program = program.now; frames = frames.now }) }
+    requires there { method_at program.now id ≡ Some method.now }
+    ensures { IfOk result (λ r. IsWoven program.now method.now r.0 r.1) }
+{
+    let found = frames_of(program, frames, id, method)?;
+    woven_each(alloc, program, found.as_slice(), id, method)
+}
+
+// The program's own methods and the built-in ones of the plain form.
+fn woven_each_one(
+    alloc: Global,
+    program: &Program,
+    frames: &[Seq<Frame>],
+) -> Result<Methods, NoMemory>
+    requires { KeepsTyped (record { program = program.now; frames = frames.now }) }
+    ensures { IfOk result (λ all. IsEachWoven program.now program.now.methods all.methods all.counted) }
+{
+    let mut methods = Seq::new(alloc);
+    let mut counted = Seq::new(alloc);
+    let count = count_of(program);
+    for at in 0..count {
+        let method = method_of(program, at);
+        let id = id_of(at)?;
+        let pair = woven_at(alloc, program, frames, id, method)?;
+        methods.push(pair.0)?;
+        counted.push(pair.1)?;
+    }
+    Ok(Methods { methods, counted })
+}
+
+// All instructions of each method count.
+fn all_marks(alloc: Global, methods: &[Method]) -> Result<Seq<Seq<bool>>, NoMemory>
+    ensures { IfOk result (λ s. s ≡ map all_counted methods.now) }
+{
+    let mut all = Seq::new(alloc);
+    for at in 0..methods.len() {
+        let method = method_at(methods, at);
+        let marks = all_counted(alloc, method)?;
+        all.push(marks)?;
+    }
+    Ok(all)
+}
+
+fn joined_marks(own: Seq<Seq<bool>>, last: Seq<Seq<bool>>) -> Result<Seq<Seq<bool>>, NoMemory>
+    ensures { IfOk result (λ s. s ≡ own ++ last) }
+{
+    let mut marks = own.into_vec();
+    let mut more = last.into_vec();
+    marks.append(&mut more)?;
+    Ok(Seq::from_vec(marks))
+}
+
+fn joined(own: Seq<Method>, last: Seq<Method>) -> Result<Seq<Method>, NoMemory>
+    ensures { IfOk result (λ s. s ≡ own ++ last) }
+{
+    let mut methods = own.into_vec();
+    let mut more = last.into_vec();
+    methods.append(&mut more)?;
+    Ok(Seq::from_vec(methods))
+}
+
+fn with_fiber(alloc: Global, program: &Program, all: Methods) -> Result<Methods, NoMemory>
+    requires { IsEachWoven program.now program.now.methods all.methods all.counted }
+    ensures { IfOk result (λ all. AllWoven program.now program.now.methods all.methods all.counted) }
+{
+    let fiber = fiber_methods(alloc, program)?;
+    let marks = all_marks(alloc, fiber.as_slice())?;
+    let counted = joined_marks(all.counted, marks)?;
+    let methods = joined(all.methods, fiber)?;
+    Ok(Methods { methods, counted })
+}
+
+fn all_woven(alloc: Global, program: &Program, frames: &[Seq<Frame>]) -> Result<Methods, NoMemory>
+    requires { KeepsTyped (record { program = program.now; frames = frames.now }) }
+    ensures { IfOk result (λ all. AllWoven program.now program.now.methods all.methods all.counted) }
+{
+    let each = woven_each_one(alloc, program, frames)?;
+    with_fiber(alloc, program, each)
+}
+
+/// All methods of a typed program in their woven form, and behind them the members of the fiber.
+pub fn woven_methods(alloc: Global, typed: &Typed) -> Result<Methods, NoMemory>
+    ensures { IfOk result (λ all. AllWoven typed.now.program typed.now.program.methods all.methods all.counted) }
+{
+    let program = &typed.program;
+    let frames = typed.frames.as_slice();
+    let all = all_woven(alloc, program, frames)?;
+    Ok(all)
+}

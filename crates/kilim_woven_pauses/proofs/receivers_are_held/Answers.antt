@@ -1,5 +1,0 @@
-use Rattle.kilim_woven_pauses.proofs.Accepted.{receivers_held}
-use Rattle.kilim_woven_pauses.proofs.receivers_are_held.Goals as goal
-
-pub returns : goal.returns
-returns c = receivers_held

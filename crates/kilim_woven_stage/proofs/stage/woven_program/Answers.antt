@@ -1,5 +1,0 @@
-use Rattle.kilim_woven_stage.proofs.Plain.{plain_form}
-use Rattle.kilim_woven_stage.proofs.stage.woven_program.Goals as goal
-
-pub woven_by-requires : goal.woven_by-requires
-woven_by-requires c = plain_form c.linked_in_parts.ensures c.args.files.now c.in-Ok.isolated.typed.program c.in-Ok.ensures.accepted
