@@ -2,12 +2,12 @@
 use Rattle.std.proofs.Common.{◌≡◌, ℕ, ◌+◌, ℤ, List, [], ◌∷◌, ◌++◌, length, Option, Some, None, Result, Ok, Err, refl, sym, ap, subst, ◌∙◌, append_assoc, inl, inr, ◌⊎◌}
 use Rattle.std.specs.Prelude.{◌≢◌}
 use Rattle.std.proofs.lemmas.List.{append-nil}
-use Rattle.kilim_opcodes.specs.declared.fault.OpFault.{OpFault}
-use Rattle.kilim_opcodes.specs.declared.fault.OpFault.TheVariants as op
-use Rattle.kilim_opcodes.specs.declared.instr.RawInstr.{RawInstr}
-use Rattle.kilim_opcodes.specs.Instr.{instr_text, instr_len, InstrFits}
-use Rattle.kilim_opcodes.specs.Reading.{instr_at}
-use Rattle.kilim_opcodes.specs.Exact.{OneSpelling}
+use Rattle.kilim_bytecode.specs.declared.opcodes.fault.OpFault.{OpFault}
+use Rattle.kilim_bytecode.specs.declared.opcodes.fault.OpFault.TheVariants as op
+use Rattle.kilim_bytecode.specs.declared.opcodes.instr.RawInstr.{RawInstr}
+use Rattle.kilim_bytecode.specs.opcodes.Instr.{instr_text, instr_len, InstrFits}
+use Rattle.kilim_bytecode.specs.opcodes.Reading.{instr_at}
+use Rattle.kilim_bytecode.specs.opcodes.Exact.{OneSpelling}
 use Rattle.kilim_bytecode.specs.declared.fault.CodeFault.{CodeFault}
 use Rattle.kilim_bytecode.specs.declared.fault.CodeFault.TheVariants.{Op, MidTarget, FallsOff, Memory}
 use Rattle.kilim_bytecode.specs.Code.{Placed, placed_text, code_text, StandsFrom, mid_target, falls_off}

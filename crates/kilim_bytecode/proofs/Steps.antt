@@ -2,10 +2,10 @@
 use Rattle.std.proofs.Common.{◌≡◌, ℕ, zero, suc, ◌+◌, ◌<◌, ◌≤◌, List, [], ◌∷◌, ◌++◌, length, get_or, drop, refl, sym, ap, subst, ◌∙◌, append_assoc, arith}
 use Rattle.std.specs.Prelude.{◌≢◌}
 use Rattle.std.proofs.lemmas.List.{append-nil, length-append, length-drop, nil_from_length}
-use Rattle.kilim_opcodes.specs.declared.instr.RawInstr.{RawInstr}
-use Rattle.kilim_opcodes.specs.declared.instr.RawInstr.TheVariants.{Plain}
-use Rattle.kilim_opcodes.specs.Instr.{instr_text, instr_len, InstrFits}
-use Rattle.kilim_opcodes.specs.Exact.{Lengths}
+use Rattle.kilim_bytecode.specs.declared.opcodes.instr.RawInstr.{RawInstr}
+use Rattle.kilim_bytecode.specs.declared.opcodes.instr.RawInstr.TheVariants.{Plain}
+use Rattle.kilim_bytecode.specs.opcodes.Instr.{instr_text, instr_len, InstrFits}
+use Rattle.kilim_bytecode.specs.opcodes.Exact.{Lengths}
 use Rattle.kilim_bytecode.specs.Code.{Placed, placed_text, code_text, StandsFrom}
 use Rattle.kilim_bytecode.specs.Exact.{IsCode}
 use Rattle.kilim_bytecode.specs.Marks.{PlacesBelow}

@@ -1,9 +1,9 @@
 -- Code arrays: the text of instructions one behind the other (JVMS 4.7.3), and what is asked of them (JVMS 4.9).
 use Rattle.std.specs.Prelude.{◌≡◌, ℕ, ◌+◌, ◌-◌, ◌==◌, ◌||◌, Bool, true, false, not, if◌then◌else◌, ℤ, pos, negsuc, List, [], ◌∷◌, length, map, slice_get, Option, Some, None}
 use Rattle.std.specs.List.{flat_map, find}
-use Rattle.kilim_opcodes.specs.declared.instr.RawInstr.{RawInstr}
-use Rattle.kilim_opcodes.specs.declared.instr.RawInstr.TheVariants.{Plain, Jump, WideJump, TableSwitch, LookupSwitch}
-use Rattle.kilim_opcodes.specs.Instr.{instr_text, instr_len, InstrFits}
+use Rattle.kilim_bytecode.specs.declared.opcodes.instr.RawInstr.{RawInstr}
+use Rattle.kilim_bytecode.specs.declared.opcodes.instr.RawInstr.TheVariants.{Plain, Jump, WideJump, TableSwitch, LookupSwitch}
+use Rattle.kilim_bytecode.specs.opcodes.Instr.{instr_text, instr_len, InstrFits}
 
 -- an instruction with its place
 abbrev pub Placed : Type 0

@@ -1,9 +1,9 @@
 -- Which bytes are a code array, and what the first fault of others is.
 use Rattle.std.specs.Prelude.{◌≡◌, ◌≢◌, ◌⊎◌, ℕ, true, ℤ, List, [], ◌++◌, length, Option, Some, None, Err}
 use Rattle.std.specs.List.{AllByRecursion}
-use Rattle.kilim_opcodes.specs.declared.fault.OpFault.{OpFault}
-use Rattle.kilim_opcodes.specs.declared.fault.OpFault.TheVariants as op
-use Rattle.kilim_opcodes.specs.Reading.{instr_at}
+use Rattle.kilim_bytecode.specs.declared.opcodes.fault.OpFault.{OpFault}
+use Rattle.kilim_bytecode.specs.declared.opcodes.fault.OpFault.TheVariants as op
+use Rattle.kilim_bytecode.specs.opcodes.Reading.{instr_at}
 use Rattle.kilim_bytecode.specs.declared.fault.CodeFault.{CodeFault}
 use Rattle.kilim_bytecode.specs.declared.fault.CodeFault.TheVariants.{Op, MidTarget, FallsOff, Memory}
 use Rattle.kilim_bytecode.specs.Code.{Placed, code_text, StandsFrom, targets_of, is_place, mid_target, falls_off}

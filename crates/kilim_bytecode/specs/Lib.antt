@@ -1,3 +1,4 @@
 pub mod Code
 pub mod Exact
 pub mod Marks
+pub mod opcodes

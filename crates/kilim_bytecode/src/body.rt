@@ -1,6 +1,6 @@
 //! What a code array holds.
 
-use kilim_opcodes::RawInstr;
+use crate::opcodes::RawInstr;
 use kilim_units::Seq;
 
 /// The instructions of a code array.

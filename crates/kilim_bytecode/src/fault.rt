@@ -2,7 +2,7 @@
 
 ghost use Rattle.std.specs.Prelude.{◌≡◌};
 
-use kilim_opcodes::OpFault;
+use crate::opcodes::OpFault;
 use std::alloc::{AllocError, AllocFailed};
 
 /// Why bytes aren't a code array. Places are byte offsets from the first byte. The first fault of one instruction

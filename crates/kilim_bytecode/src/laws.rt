@@ -2,7 +2,7 @@
 
 ghost use Rattle.kilim_bytecode.specs.Exact.{OneCode, OneFault, TargetsArePlaces};
 
-use kilim_opcodes::one_spelling;
+use crate::opcodes::one_spelling;
 
 /// A law, and no work: no two lists of instructions have one text. So what was written is read again.
 pub fn one_code()

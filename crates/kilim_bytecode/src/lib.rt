@@ -8,6 +8,7 @@ mod body;
 mod fault;
 mod laws;
 mod marks;
+pub mod opcodes;
 mod reading;
 mod writing;
 

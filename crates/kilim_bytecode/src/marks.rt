@@ -2,11 +2,11 @@
 
 ghost use Rattle.std.specs.Prelude.{◌≡◌, ℤ, map, not, IfOk};
 ghost use Rattle.std.specs.List.{find};
-ghost use Rattle.kilim_opcodes.specs.declared.instr.RawInstr.{RawInstr};
+ghost use Rattle.kilim_bytecode.specs.declared.opcodes.instr.RawInstr.{RawInstr};
 ghost use Rattle.kilim_bytecode.specs.Code.{Placed, targets_of, is_place, first_failing, mid_target};
 ghost use Rattle.kilim_bytecode.specs.Marks.{is_marked, PlacesBelow};
 
-use kilim_opcodes::RawInstr;
+use crate::opcodes::RawInstr;
 use std::alloc::{AllocError, Global};
 
 // For each byte whether an instruction begins there.

@@ -11,7 +11,7 @@ ghost use Rattle.kilim_bytecode.specs.Marks.{PlacesBelow};
 use crate::body::Body;
 use crate::fault::CodeFault;
 use crate::marks::mid_target;
-use kilim_opcodes::{OpFault, RawInstr, lengths, one_spelling, read_instr};
+use crate::opcodes::{OpFault, RawInstr, lengths, one_spelling, read_instr};
 use kilim_units::Seq;
 use std::alloc::{AllocError, Global};
 

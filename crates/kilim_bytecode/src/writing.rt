@@ -5,7 +5,7 @@ ghost use Rattle.kilim_bytecode.specs.Code.{code_text};
 ghost use Rattle.kilim_bytecode.specs.Exact.{BodyFits};
 
 use crate::body::Body;
-use kilim_opcodes::write_instr;
+use crate::opcodes::write_instr;
 use kilim_units::NoMemory;
 use std::alloc::Global;
 

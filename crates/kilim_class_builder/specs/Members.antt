@@ -18,8 +18,8 @@ use Rattle.kilim_classfile.specs.Parts.{is_bodiless}
 use Rattle.kilim_constant_pool.specs.declared.entry.Entry.{Entry}
 use Rattle.kilim_constant_pool.specs.declared.fault.AddFault.{AddFault}
 use Rattle.kilim_grammar.specs.Reader.{◌>>=◌}
-use Rattle.kilim_opcodes.specs.declared.instr.RawInstr.{RawInstr}
-use Rattle.kilim_opcodes.specs.Instr.{instr_text}
+use Rattle.kilim_bytecode.specs.declared.opcodes.instr.RawInstr.{RawInstr}
+use Rattle.kilim_bytecode.specs.opcodes.Instr.{instr_text}
 use Rattle.kilim_class_builder.specs.declared.source.MethodSource.{MethodSource}
 use Rattle.kilim_class_builder.specs.Adding.{Adding, class_added, classes_added, text_added}
 use Rattle.kilim_class_builder.specs.Frames.{frames_names, full_frames}

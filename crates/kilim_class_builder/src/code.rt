@@ -4,7 +4,7 @@ ghost use Rattle.std.specs.Prelude.{◌≡◌, ◌<◌, ◌++◌, ◌∷◌, [],
 ghost use Rattle.kilim_attributes.specs.declared.attribute.CodeInfo.TheVariants as inside;
 ghost use Rattle.kilim_constant_pool.specs.declared.fault.AddFault.TheVariants as add;
 ghost use Rattle.kilim_grammar.specs.Reader.{ReadsUnless};
-ghost use Rattle.kilim_opcodes.specs.Instr.{instr_text};
+ghost use Rattle.kilim_bytecode.specs.opcodes.Instr.{instr_text};
 ghost use Rattle.kilim_class_builder.specs.Frames.{frames_names, full_frames};
 ghost use Rattle.kilim_class_builder.specs.Members.{attribute, body_added, code_with, source_text, table_added};
 
@@ -15,7 +15,7 @@ use kilim_attributes::{Attribute, Code, CodeAttribute, CodeInfo, Info};
 use kilim_classes::Frame;
 use kilim_class_fits::code_bytes::code_bytes;
 use kilim_constant_pool::{AddFault, Pool};
-use kilim_opcodes::RawInstr;
+use kilim_bytecode::opcodes::RawInstr;
 use kilim_units::{NoMemory, Seq, Units};
 use std::alloc::{AllocError, Global};
 

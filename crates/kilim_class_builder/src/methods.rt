@@ -17,7 +17,7 @@ use kilim_attributes::Attribute;
 use kilim_classes::Frame;
 use kilim_classfile::MemberInfo;
 use kilim_constant_pool::{AddFault, Pool};
-use kilim_opcodes::RawInstr;
+use kilim_bytecode::opcodes::RawInstr;
 use kilim_units::Seq;
 use std::alloc::{AllocError, Global};
 

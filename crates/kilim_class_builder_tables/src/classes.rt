@@ -7,7 +7,7 @@ use crate::parts::{add_constructor, class, field_ref, frame, method_ref, source}
 use kilim_class_builder::ClassBuilder;
 use kilim_classes::Qualifier;
 use kilim_classfile::ClassFile;
-use kilim_opcodes::RawInstr;
+use kilim_bytecode::opcodes::RawInstr;
 use std::alloc::Global;
 
 fn node_parts(alloc: Global) -> Option<ClassBuilder> {

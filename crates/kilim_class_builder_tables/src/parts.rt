@@ -3,7 +3,7 @@
 use kilim_class_builder::{ClassBuilder, MethodSource};
 use kilim_classes::{Base, ClassId, Frame, Ty, VType};
 use kilim_constant_pool::Entry;
-use kilim_opcodes::RawInstr;
+use kilim_bytecode::opcodes::RawInstr;
 use kilim_units::{Seq, Units};
 use std::alloc::Global;
 

@@ -3,7 +3,7 @@ use Rattle.std.proofs.Common.{◌≡◌, ℕ, zero, suc, ◌+◌, ◌*◌, List,
 use Rattle.std.proofs.lemmas.List.{length-map}
 use Rattle.std.proofs.lemmas.Option.{same_Some}
 use Rattle.kilim_bytecode.specs.Code.{Placed, StandsFrom}
-use Rattle.kilim_opcodes.specs.Instr.{instr_len, padding}
+use Rattle.kilim_bytecode.specs.opcodes.Instr.{instr_len, padding}
 use Rattle.kilim_code_builder.specs.declared.label.Label.{Label}
 use Rattle.kilim_code_builder.specs.declared.step.Step.{Step}
 use Rattle.kilim_code_builder.specs.declared.step.Step.TheVariants.{Emits, Jumps, Switches, Looks}

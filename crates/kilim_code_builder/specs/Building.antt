@@ -1,9 +1,9 @@
 -- Code that is being built, and what comes of it.
 use Rattle.std.specs.Prelude.{ℕ, ◌+◌, ◌*◌, pos, List, [], ◌∷◌, Option, Some, length, map, slice_get, unwrap_or}
 use Rattle.kilim_bytecode.specs.Code.{Placed}
-use Rattle.kilim_opcodes.specs.declared.instr.RawInstr.{RawInstr}
-use Rattle.kilim_opcodes.specs.declared.instr.RawInstr.TheVariants.{Jump, TableSwitch, LookupSwitch}
-use Rattle.kilim_opcodes.specs.Instr.{instr_len, padding}
+use Rattle.kilim_bytecode.specs.declared.opcodes.instr.RawInstr.{RawInstr}
+use Rattle.kilim_bytecode.specs.declared.opcodes.instr.RawInstr.TheVariants.{Jump, TableSwitch, LookupSwitch}
+use Rattle.kilim_bytecode.specs.opcodes.Instr.{instr_len, padding}
 use Rattle.kilim_code_builder.specs.declared.label.Label.{Label}
 use Rattle.kilim_code_builder.specs.declared.step.Step.{Step}
 use Rattle.kilim_code_builder.specs.declared.step.Step.TheVariants.{Emits, Jumps, Switches, Looks}

@@ -1,7 +1,7 @@
 -- What is built stands as code does, and labels are places of it.
 use Rattle.std.specs.Prelude.{◌≡◌, ℕ, ◌+◌, List, [], ◌∷◌, Some, length, slice_get}
 use Rattle.kilim_bytecode.specs.Code.{Placed, StandsFrom}
-use Rattle.kilim_opcodes.specs.Instr.{InstrFits}
+use Rattle.kilim_bytecode.specs.opcodes.Instr.{InstrFits}
 use Rattle.kilim_code_builder.specs.declared.label.Label.{Label}
 use Rattle.kilim_code_builder.specs.declared.step.Step.{Step}
 use Rattle.kilim_code_builder.specs.Building.{Building, built, end_from, made, place_of, step_len}

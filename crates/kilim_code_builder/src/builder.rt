@@ -8,7 +8,7 @@ use crate::finish::laid;
 use crate::label::Label;
 use crate::step::Step;
 use kilim_bytecode::Body;
-use kilim_opcodes::RawInstr;
+use kilim_bytecode::opcodes::RawInstr;
 use kilim_units::{NoMemory, Seq};
 use std::alloc::Global;
 use std::marker::Model;

@@ -6,7 +6,7 @@ ghost use Rattle.kilim_code_builder.specs.Building.{code_limit, end_from, laid_f
 use crate::label::Label;
 use crate::length::place_behind;
 use crate::step::Step;
-use kilim_opcodes::RawInstr;
+use kilim_bytecode::opcodes::RawInstr;
 use kilim_units::Seq;
 use std::alloc::{AllocError, Global};
 

@@ -1,11 +1,11 @@
 //! How long instructions are.
 
 ghost use Rattle.std.specs.Prelude.{◌≡◌, ◌+◌, ◌*◌, ◌<◌, length};
-ghost use Rattle.kilim_opcodes.specs.Instr.{instr_len, padding};
+ghost use Rattle.kilim_bytecode.specs.opcodes.Instr.{instr_len, padding};
 ghost use Rattle.kilim_code_builder.specs.Building.{code_limit, step_len};
 
 use crate::step::Step;
-use kilim_opcodes::RawInstr;
+use kilim_bytecode::opcodes::RawInstr;
 
 fn padding(at: u32) -> u32
     ensures { result ≡ padding at }
@@ -31,7 +31,7 @@ fn lookup_len(at: u32, count: usize) -> u32
     9 + padding(at) + 8 * count as u32
 }
 
-#[tactic(auto, unfolding(kilim_opcodes::specs::Instr::instr_len))]
+#[tactic(auto, unfolding(kilim_bytecode::specs::opcodes::Instr::instr_len))]
 fn instr_len(instr: &RawInstr, at: u32) -> u32
     requires { instr_len at instr.now < code_limit }
     ensures { result ≡ instr_len at instr.now }

@@ -14,7 +14,7 @@ mod step;
 
 pub use builder::Builder;
 pub use kilim_bytecode::Body;
-pub use kilim_opcodes::RawInstr;
+pub use kilim_bytecode::opcodes::RawInstr;
 pub use kilim_units::{NoMemory, Seq};
 pub use label::Label;
 pub use laws::{built_stands, labels_are_places};

@@ -1,7 +1,7 @@
 //! What code is built from.
 
 use crate::label::Label;
-use kilim_opcodes::RawInstr;
+use kilim_bytecode::opcodes::RawInstr;
 use kilim_units::Seq;
 
 /// One instruction, as it was added.

@@ -11,8 +11,8 @@ use Rattle.kilim_program.specs.declared.cause.EndCause.TheVariants as cause
 use Rattle.kilim_program.specs.Machine.{Activation, Objects}
 use Rattle.kilim_program.specs.Moves as move
 use Rattle.kilim_program.specs.Moves.{called, entered, push_result, receiver_of, returned}
-use Rattle.kilim_frames.specs.declared.frame.Frame.{Frame}
-use Rattle.kilim_frames.specs.Calls.{activation}
+use Rattle.kilim_machine_parts.specs.declared.frames.frame.Frame.{Frame}
+use Rattle.kilim_machine_parts.specs.frames.Calls.{activation}
 use Rattle.kilim_jvm_interp.specs.Step.{IsWent, RanOn, cause_of}
 
 pub too_deep : (p : Program) (m : MethodId) (args : List Value) (a : Activation) (below : List Frame) (h : Objects) → nat_le 511 (length below) ≡ true → cause_of (called p m args (a ∷ map activation below) h) ≡ Some cause.Depth

@@ -12,9 +12,9 @@ use Rattle.kilim_program.specs.Effect.{Effect}
 use Rattle.kilim_program.specs.Effect as effect
 use Rattle.kilim_program.specs.Does.{does}
 use Rattle.kilim_program.specs.Moves.{effect_found, effect_in, effect_of}
-use Rattle.kilim_frames.specs.declared.frame.Frame.{Frame}
-use Rattle.kilim_frames.specs.declared.frames.Frames.{Frames}
-use Rattle.kilim_frames.specs.Calls.{below_of}
+use Rattle.kilim_machine_parts.specs.declared.frames.frame.Frame.{Frame}
+use Rattle.kilim_machine_parts.specs.declared.frames.frames.Frames.{Frames}
+use Rattle.kilim_machine_parts.specs.frames.Calls.{below_of}
 use Rattle.kilim_rows.specs.declared.outcome.Moved.{Moved}
 use Rattle.kilim_rows.specs.declared.outcome.Moved.TheVariants.{Next, Jump, Made, Opened, Called, Asked, Returned, ReturnedValue, Raised, Ended, NoMemory}
 use Rattle.kilim_rows.specs.Outcome.{Shows, height, returned_by}

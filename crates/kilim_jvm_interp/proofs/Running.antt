@@ -9,8 +9,8 @@ use Rattle.kilim_program.specs.Machine.{Activation, Objects}
 use Rattle.kilim_program.specs.Does.{does}
 use Rattle.kilim_program.specs.Effect.{Effect, Goes}
 use Rattle.kilim_program.specs.Moves.{effect_of, moves}
-use Rattle.kilim_frames.specs.declared.frame.Frame.{Frame}
-use Rattle.kilim_frames.specs.Calls.{activation}
+use Rattle.kilim_machine_parts.specs.declared.frames.frame.Frame.{Frame}
+use Rattle.kilim_machine_parts.specs.frames.Calls.{activation}
 use Rattle.kilim_rows.specs.Outcome.{IsMade}
 use Rattle.kilim_jvm_interp.specs.Step.{IsWent}
 use Rattle.kilim_jvm_interp.proofs.Reading.{effect_is}

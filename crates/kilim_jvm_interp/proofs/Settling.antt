@@ -8,9 +8,9 @@ use Rattle.kilim_program.specs.Machine.{Activation, Objects}
 use Rattle.kilim_program.specs.Effect.{Effect, Goes, Raises, Ends}
 use Rattle.kilim_program.specs.Moves as move
 use Rattle.kilim_program.specs.Moves.{move_by}
-use Rattle.kilim_frames.specs.declared.frame.Frame.{Frame}
-use Rattle.kilim_frames.specs.declared.frames.Frames.{Frames}
-use Rattle.kilim_frames.specs.Calls.{activation}
+use Rattle.kilim_machine_parts.specs.declared.frames.frame.Frame.{Frame}
+use Rattle.kilim_machine_parts.specs.declared.frames.frames.Frames.{Frames}
+use Rattle.kilim_machine_parts.specs.frames.Calls.{activation}
 use Rattle.kilim_rows.specs.Outcome.{IsMade, IsStill}
 use Rattle.kilim_jvm_interp.specs.Step.{IsWent, RanOn, MadeOne, Steps, cause_of}
 use Rattle.kilim_jvm_interp.specs.declared.machine.Stepped.{Stepped}

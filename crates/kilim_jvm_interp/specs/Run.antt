@@ -3,7 +3,7 @@ use Rattle.std.specs.Prelude.{◌≡◌, false, List, [], ◌∷◌}
 use Rattle.kilim_classes.specs.Program.{Program}
 use Rattle.kilim_program.specs.Machine.{Activation, Objects}
 use Rattle.kilim_program.specs.Moves.{effect_of, moves}
-use Rattle.kilim_frames.specs.declared.frames.Frames.{Frames}
+use Rattle.kilim_machine_parts.specs.declared.frames.frames.Frames.{Frames}
 use Rattle.kilim_rows.specs.Outcome.{is_stuck}
 use Rattle.kilim_jvm_interp.specs.Step.{FitsStack, IsWent, Steps}
 use Rattle.kilim_jvm_interp.specs.declared.machine.Stepped.{Stepped}

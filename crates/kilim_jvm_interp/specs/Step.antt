@@ -13,9 +13,9 @@ use Rattle.kilim_program.specs.Machine.{Activation, Objects}
 use Rattle.kilim_program.specs.Effect.{Effect}
 use Rattle.kilim_program.specs.Effect as effect
 use Rattle.kilim_program.specs.Moves.{Change, Move, Runs, Makes, Opens, Asks, Returns, Raises, Ends, push_value}
-use Rattle.kilim_frames.specs.declared.frame.Frame.{Frame}
-use Rattle.kilim_frames.specs.declared.frames.Frames.{Frames}
-use Rattle.kilim_frames.specs.Calls.{answered, below_of, calls_of}
+use Rattle.kilim_machine_parts.specs.declared.frames.frame.Frame.{Frame}
+use Rattle.kilim_machine_parts.specs.declared.frames.frames.Frames.{Frames}
+use Rattle.kilim_machine_parts.specs.frames.Calls.{answered, below_of, calls_of}
 use Rattle.kilim_rows.specs.declared.outcome.Moved.{Moved}
 use Rattle.kilim_rows.specs.declared.outcome.Moved.TheVariants.{Called, Asked, ReturnedValue}
 use Rattle.kilim_rows.specs.Outcome.{height}

@@ -5,7 +5,7 @@ ghost use Rattle.kilim_program.specs.Machine.{Objects};
 ghost use Rattle.kilim_program.specs.Does.{narrowed_result};
 ghost use Rattle.kilim_classes.specs.Names.{method_at};
 ghost use Rattle.kilim_program.specs.Moves.{Asks, called, entered, goes_on, move_by, returned, slots_in};
-ghost use Rattle.kilim_frames.specs.Calls.{activation, below_of, calls_of};
+ghost use Rattle.kilim_machine_parts.specs.frames.Calls.{activation, below_of, calls_of};
 ghost use Rattle.kilim_rows.specs.Outcome.{Shows, returned_by};
 ghost use Rattle.kilim_rows.specs.declared.outcome.Moved.TheVariants.{Asked};
 ghost use Rattle.kilim_classes.specs.Program.{Program as AProgram};
@@ -14,10 +14,10 @@ ghost use Rattle.kilim_classes.specs.declared.names.MethodId.{MethodId as AMetho
 ghost use Rattle.kilim_jvm_interp.specs.declared.machine.Stepped.TheVariants.{AtNative};
 ghost use Rattle.kilim_jvm_interp.specs.Step.{AreRoomy, CallerFits, CanSettle, IsRoomy, Steps, stack_limit};
 ghost use Rattle.kilim_program.specs.Effect.{Effect};
-ghost use Rattle.kilim_frames.specs.declared.frame.Frame.{Frame as AFrame};
+ghost use Rattle.kilim_machine_parts.specs.declared.frames.frame.Frame.{Frame as AFrame};
 
 use kilim_classes::{Method, MethodId, Program, Value};
-use kilim_frames::{Frame, Frames, Locals, Stack};
+use kilim_machine_parts::frames::{Frame, Frames, Locals, Stack};
 use kilim_lookups::method_at;
 use kilim_program::EndCause;
 use kilim_rows::{Moved, narrowed};

@@ -8,7 +8,7 @@ use crate::instr::instr_in;
 use kilim_classes::Instr;
 use kilim_constant_pool::Pool;
 use kilim_link_world::World;
-use kilim_opcodes::RawInstr;
+use kilim_bytecode::opcodes::RawInstr;
 use kilim_units::{NoMemory, Seq};
 use std::alloc::Global;
 

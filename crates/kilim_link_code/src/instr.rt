@@ -12,7 +12,7 @@ use kilim_classes::Instr;
 use kilim_constant_pool::Pool;
 use kilim_link_mentions::operand_at;
 use kilim_link_world::World;
-use kilim_opcodes::RawInstr;
+use kilim_bytecode::opcodes::RawInstr;
 use kilim_units::{NoMemory, Seq};
 use std::alloc::Global;
 

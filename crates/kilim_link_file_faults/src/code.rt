@@ -16,7 +16,7 @@ use kilim_constant_pool::Pool;
 use kilim_link_mentions::{code_attribute, decoded, index_in, operand_at};
 use kilim_link_spec::Problem;
 use kilim_link_views::{member_descriptor, member_name};
-use kilim_opcodes::{OpFault, RawInstr};
+use kilim_bytecode::opcodes::{OpFault, RawInstr};
 use kilim_units::{NoMemory, Units};
 use std::alloc::Global;
 

@@ -19,7 +19,7 @@ use kilim_classfile::{ClassFile, MemberInfo};
 use kilim_link_mentions::{code_attribute, decoded};
 use kilim_link_views::{class_text, has_flag, is_pausable, is_text, member_name, own_name};
 use kilim_link_world::World;
-use kilim_opcodes::OpFault;
+use kilim_bytecode::opcodes::OpFault;
 use kilim_units::{NoMemory, Units};
 use std::alloc::Global;
 

@@ -12,7 +12,7 @@ use kilim_attributes::{Attribute, Code, Info};
 use kilim_bytecode::{Body, CodeFault, decode};
 use kilim_classfile::MemberInfo;
 use kilim_link_spec::decoded_is_decode;
-use kilim_opcodes::RawInstr;
+use kilim_bytecode::opcodes::RawInstr;
 use kilim_units::{NoMemory, Seq};
 use std::alloc::Global;
 

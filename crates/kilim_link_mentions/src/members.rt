@@ -9,7 +9,7 @@ use crate::operands::operand_of;
 use kilim_classfile::{ClassFile, MemberInfo};
 use kilim_constant_pool::Pool;
 use kilim_link_spec::{Member, Operand};
-use kilim_opcodes::RawInstr;
+use kilim_bytecode::opcodes::RawInstr;
 use kilim_units::{NoMemory, Seq};
 use std::alloc::Global;
 

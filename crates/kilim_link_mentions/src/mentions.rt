@@ -17,7 +17,7 @@ use crate::texts::{class_text, has_flag, member_descriptor, super_name};
 use kilim_classfile::{ClassFile, MemberInfo};
 use kilim_constant_pool::Pool;
 use kilim_link_spec::{Mention, Named, Operand};
-use kilim_opcodes::RawInstr;
+use kilim_bytecode::opcodes::RawInstr;
 use kilim_units::{NoMemory, Seq, Units};
 use std::alloc::Global;
 

@@ -14,7 +14,7 @@ use crate::texts::{class_text, text_of};
 use kilim_classes::Value;
 use kilim_constant_pool::{Entry, Pool};
 use kilim_link_spec::{MemberOf, Named, Operand};
-use kilim_opcodes::RawInstr;
+use kilim_bytecode::opcodes::RawInstr;
 use kilim_units::{NoMemory, Units};
 use std::alloc::Global;
 

@@ -1,9 +1,9 @@
 -- Code in a program: bytes to instructions, and each index by what it names.
 use Rattle.std.specs.Prelude.{ℕ, zero, suc, ◌+◌, ◌-◌, ◌==◌, ◌||◌, ℤ, pos, negsuc, if◌then◌else◌, List, [], ◌∷◌, length, Option, Some, None, option_map, option_and_then, Result, Ok, Err}
 use Rattle.kilim_grammar.specs.Reader.{◌>>=◌, with_fault}
-use Rattle.kilim_opcodes.specs.declared.instr.RawInstr.{RawInstr}
-use Rattle.kilim_opcodes.specs.declared.instr.RawInstr.TheVariants as raw
-use Rattle.kilim_opcodes.specs.Reading.{instr_at}
+use Rattle.kilim_bytecode.specs.declared.opcodes.instr.RawInstr.{RawInstr}
+use Rattle.kilim_bytecode.specs.declared.opcodes.instr.RawInstr.TheVariants as raw
+use Rattle.kilim_bytecode.specs.opcodes.Reading.{instr_at}
 use Rattle.kilim_bytecode.specs.declared.fault.CodeFault.{CodeFault}
 use Rattle.kilim_bytecode.specs.Code.{Placed}
 use Rattle.kilim_bytecode.specs.Exact.{op_fault, body_fault}

@@ -13,7 +13,7 @@ use Rattle.kilim_constant_pool.specs.declared.entry.Entry.{Entry}
 use Rattle.kilim_descriptors.specs.declared.types.MethodText.{MethodText}
 use Rattle.kilim_descriptors.specs.Text.{slots_of}
 use Rattle.kilim_mutf8.specs.Spelling.{spelling}
-use Rattle.kilim_opcodes.specs.declared.fault.OpFault.TheVariants as op
+use Rattle.kilim_bytecode.specs.declared.opcodes.fault.OpFault.TheVariants as op
 use Rattle.kilim_classes.specs.declared.class.Form.{Form}
 use Rattle.kilim_classes.specs.declared.names.ClassId.{ClassId}
 use Rattle.kilim_classes.specs.declared.ty.Ty.{Ty}

@@ -11,7 +11,7 @@ use Rattle.kilim_classfile.specs.declared.class_file.MemberInfo.{MemberInfo}
 use Rattle.kilim_descriptors.specs.declared.types.BaseText.{BaseText}
 use Rattle.kilim_descriptors.specs.declared.types.BaseText.TheVariants as text
 use Rattle.kilim_descriptors.specs.declared.types.MethodText.{MethodText}
-use Rattle.kilim_opcodes.specs.declared.fault.OpFault.TheVariants as op
+use Rattle.kilim_bytecode.specs.declared.opcodes.fault.OpFault.TheVariants as op
 use Rattle.kilim_classes.specs.declared.names.ClassId.{ClassId}
 use Rattle.kilim_classes.specs.declared.ty.Ty.{Ty}
 use Rattle.kilim_classes.specs.Names.{◌>>=◌, is_task, is_empty}

@@ -3,7 +3,7 @@
 ghost use Rattle.kilim_link_spec.specs.Laws.{DecodedIsDecode, LinkedInParts, NoneHasAProblem, NoneIsNamed, NoneOfEachKind};
 ghost use Rattle.kilim_link_spec.specs.Linked.{OneProgram};
 
-use kilim_opcodes::{lengths, one_spelling};
+use kilim_bytecode::opcodes::{lengths, one_spelling};
 
 /// A law, and no work: no class files link to two programs.
 pub fn one_program()

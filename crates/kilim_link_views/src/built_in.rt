@@ -8,7 +8,7 @@ ghost use Rattle.kilim_classes.specs.Names.{class_name, base_descriptor, array_d
 ghost use Rattle.kilim_link_spec.specs.declared.view.Marks.TheVariants.{Stated};
 ghost use Rattle.kilim_link_spec.specs.World.{result_descriptor, method_descriptor, declared_built_in, view_of_built_in, built_ins};
 
-use kilim_built_ins::{built_in_classes, built_in_methods};
+use crate::built_ins::{built_in_classes, built_in_methods};
 use kilim_classes::{Base, Class, ClassId, Form, Method, MethodId, Program, Ty, built_in_keeps};
 use kilim_link_spec::{ClassView, DeclaredMethod, Marks};
 use kilim_units::{NoMemory, Seq, Units};

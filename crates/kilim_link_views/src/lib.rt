@@ -2,6 +2,7 @@
 #![tactic(auto)]
 
 mod built_in;
+pub mod built_ins;
 mod file;
 mod marks;
 mod members;

@@ -9,9 +9,9 @@ use Rattle.kilim_program.specs.Machine.{Objects}
 use Rattle.kilim_program.specs.Does.{does}
 use Rattle.kilim_program.specs.Effect.{Effect, Goes}
 use Rattle.kilim_program.specs.Moves.{effect_of, moves}
-use Rattle.kilim_frames.specs.declared.frame.Frame.{Frame}
-use Rattle.kilim_frames.specs.declared.frames.Frames.{Frames}
-use Rattle.kilim_frames.specs.Calls.{activation, below_of, calls_of}
+use Rattle.kilim_machine_parts.specs.declared.frames.frame.Frame.{Frame}
+use Rattle.kilim_machine_parts.specs.declared.frames.frames.Frames.{Frames}
+use Rattle.kilim_machine_parts.specs.frames.Calls.{activation, below_of, calls_of}
 use Rattle.kilim_rows.specs.declared.outcome.Moved.{Moved}
 use Rattle.kilim_rows.specs.Outcome.{IsMade, SameFrame, Shows, height, is_stuck}
 use Rattle.kilim_jvm_interp.specs.Step.{AreRoomy, IsWent, stack_limit}

@@ -3,8 +3,8 @@ use Rattle.std.specs.Prelude.{◌≡◌, ℕ, suc, ◌<◌, ◌≤◌, Bool, tru
 use Rattle.kilim_classes.specs.declared.names.MethodId.{MethodId}
 use Rattle.kilim_classes.specs.Program.{Program}
 use Rattle.kilim_program.specs.Machine.{Activation, Objects}
-use Rattle.kilim_frames.specs.declared.frames.Frames.{Frames}
-use Rattle.kilim_frames.specs.Calls.{calls_of}
+use Rattle.kilim_machine_parts.specs.declared.frames.frames.Frames.{Frames}
+use Rattle.kilim_machine_parts.specs.frames.Calls.{calls_of}
 use Rattle.kilim_jvm_interp.specs.Run.{IsFine, LastSteps, StepsTo}
 use Rattle.kilim_jvm_interp.specs.declared.machine.NativeCall.{NativeCall}
 use Rattle.kilim_jvm_interp.specs.declared.machine.Stepped.{Stepped}

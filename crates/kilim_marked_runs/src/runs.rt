@@ -2,8 +2,8 @@
 
 ghost use Rattle.std.specs.Prelude.{◌≡◌, ◌<◌, ◌≤◌, ◌&&◌, ◌∷◌, Bool, true, false, Some, IfOk, OnOk};
 ghost use Rattle.kilim_classes.specs.Names.{method_at};
-ghost use Rattle.kilim_frames.specs.declared.frame.Frame.{Frame as AFrame};
-ghost use Rattle.kilim_frames.specs.Calls.{activation, below_of, calls_of};
+ghost use Rattle.kilim_machine_parts.specs.declared.frames.frame.Frame.{Frame as AFrame};
+ghost use Rattle.kilim_machine_parts.specs.frames.Calls.{activation, below_of, calls_of};
 ghost use Rattle.kilim_jvm_interp.specs.Run.{IsFine};
 ghost use Rattle.kilim_jvm_interp.specs.Step.{AreRoomy, CanSettle};
 ghost use Rattle.kilim_program.specs.Effect.{Effect};
@@ -16,12 +16,12 @@ ghost use Rattle.kilim_marked_runs.specs.Legs.{Does, IsCountedLeg, Settles};
 ghost use Rattle.kilim_marked_runs.specs.Marks.{IsMarked};
 
 use crate::places::{Places, marks_of, number_at, number_near};
-use kilim_act::act;
+use kilim_jvm_interp::instruction::act;
 use kilim_classes::{Method, MethodId, Program};
-use kilim_frames::Frames;
+use kilim_machine_parts::frames::Frames;
 use kilim_jvm_interp::{Stepped, await_answer, settle};
 use kilim_lookups::{code_rises, instr_at, method_at};
-use kilim_private_heap::Heap;
+use kilim_machine_parts::Heap;
 use kilim_program::EndCause;
 use kilim_rows::Moved;
 use kilim_units::{NoMemory, Seq};

@@ -8,8 +8,8 @@ use Rattle.kilim_program.specs.declared.value.Object.{Object}
 use Rattle.kilim_program.specs.Machine.{Objects}
 use Rattle.kilim_program.specs.Does.{narrowed_result}
 use Rattle.kilim_program.specs.Effect.{Effect, Goes, Makes, Opens, Calls, Asks, Returns, Raises, Ends, Stuck}
-use Rattle.kilim_private_heap.specs.Words.{element_at}
-use Rattle.kilim_frames.specs.declared.frame.Frame.{Frame}
+use Rattle.kilim_machine_parts.specs.Words.{element_at}
+use Rattle.kilim_machine_parts.specs.declared.frames.frame.Frame.{Frame}
 use Rattle.kilim_rows.specs.declared.outcome.Moved.{Moved}
 use Rattle.kilim_rows.specs.declared.outcome.Moved.TheVariants.{Next, Jump, Made, Opened, Called, Asked, Returned, ReturnedValue, Raised, Ended, NoMemory}
 

@@ -3,14 +3,14 @@
 ghost use Rattle.std.specs.Prelude.{◌≡◌, ◌≤◌, false, pos, None, IsSome, MatchOption};
 ghost use Rattle.kilim_program.specs.Does.{does, loads_int, stores_int, narrowed_int, narrowed_to};
 ghost use Rattle.kilim_classes.specs.declared.instr.Instr.TheVariants.{Getfield, Putfield, Getstatic, Arraylength, Laload, Aaload, Iastore, Lastore};
-ghost use Rattle.kilim_private_heap.specs.Words.{IsThere, element_at};
+ghost use Rattle.kilim_machine_parts.specs.Words.{IsThere, element_at};
 ghost use Rattle.kilim_rows.specs.Outcome.{is_stuck, height, Shows, SameFrame, found_in};
 
 use crate::numbers::{low_byte, low_char, low_short};
 use crate::outcome::Moved;
 use kilim_classes::{Base, FieldId, Method, Program, Ty, Value};
-use kilim_frames::Frame;
-use kilim_private_heap::Heap;
+use kilim_machine_parts::frames::Frame;
+use kilim_machine_parts::Heap;
 use kilim_program::EndCause;
 
 /// `getfield`.

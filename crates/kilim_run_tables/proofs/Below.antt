@@ -5,7 +5,7 @@ use Rattle.std.specs.FinMap.{get, insert}
 use Rattle.std.proofs.lemmas.List.{append-nil}
 use Rattle.kilim_program.specs.declared.value.Object.{Object}
 use Rattle.kilim_program.specs.Machine.{Objects}
-use Rattle.kilim_private_heap.proofs.Maps.{got-there}
+use Rattle.kilim_machine_parts.proofs.Maps.{got-there}
 use Rattle.kilim_tree_move.specs.Walk.{refs, Leads}
 use Rattle.kilim_tree_move.proofs.Stacks.{pop_reversed}
 use Rattle.kilim_run_tables.specs.Chains.{AreBelow, IsOwn}

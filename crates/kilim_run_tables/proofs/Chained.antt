@@ -8,7 +8,7 @@ use Rattle.kilim_classes.specs.declared.value.Value.{Value}
 use Rattle.kilim_classes.specs.declared.value.Value.TheVariants.{Null, Ref}
 use Rattle.kilim_program.specs.declared.value.Object.{Object}
 use Rattle.kilim_program.specs.Machine.{Objects}
-use Rattle.kilim_private_heap.proofs.Maps.{got-there, got-other}
+use Rattle.kilim_machine_parts.proofs.Maps.{got-there, got-other}
 use Rattle.kilim_tree_move.specs.Walk.{value_refs, refs, field_refs, element_refs, Leads, AreIn, places}
 use Rattle.kilim_run_tables.specs.Chains.{IsBelow, IsOwn}
 

@@ -7,7 +7,7 @@ use Rattle.std.specs.Cmp.{nat_cmp_total}
 use Rattle.std.specs.FinMap.{get, insert, empty, get-insert, get-empty}
 use Rattle.kilim_program.specs.declared.value.Object.{Object}
 use Rattle.kilim_program.specs.Machine.{Objects}
-use Rattle.kilim_private_heap.proofs.Maps.{got-there}
+use Rattle.kilim_machine_parts.proofs.Maps.{got-there}
 use Rattle.kilim_tree_move.specs.Walk.{refs, Leads, AreIn, AllThere}
 use Rattle.kilim_run_tables.specs.Chains.{IsFull, IsFullAt}
 

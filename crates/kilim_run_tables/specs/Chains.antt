@@ -5,7 +5,7 @@ use Rattle.std.specs.FinMap.{get}
 use Rattle.kilim_classes.specs.declared.value.Value.{Value}
 use Rattle.kilim_program.specs.declared.value.Object.{Object}
 use Rattle.kilim_program.specs.Machine.{Objects}
-use Rattle.kilim_private_heap.specs.Places.{AllDiffer}
+use Rattle.kilim_machine_parts.specs.Places.{AllDiffer}
 use Rattle.kilim_tree_move.specs.Walk.{value_refs, refs, Leads, AreIn, IsTree, places}
 
 -- objects below a value, none of which is met twice

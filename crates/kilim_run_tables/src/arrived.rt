@@ -5,7 +5,7 @@ ghost use Rattle.kilim_tree_move.specs.Walk.{value_refs, field_refs, element_ref
 
 use kilim_case_text::Text;
 use kilim_classes::{Base, FieldId, Value};
-use kilim_private_heap::Heap;
+use kilim_machine_parts::Heap;
 use kilim_program::Object;
 use std::alloc::Global;
 

@@ -8,7 +8,7 @@ use crate::arrived::push_tree;
 use crate::trees::{node, push_moved};
 use kilim_case_text::Text;
 use kilim_classes::{Base, BoxName, ClassId, FieldId, Ty, Value};
-use kilim_private_heap::Heap;
+use kilim_machine_parts::Heap;
 use kilim_program::Object;
 use kilim_tree_move::{MoveFault, Tree, put_in, reserve_tree, take_out};
 use kilim_units::Seq;

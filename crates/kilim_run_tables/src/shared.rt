@@ -8,7 +8,7 @@ ghost use Rattle.kilim_run_tables.specs.Chains.{IsFull, IsFullAt};
 use crate::trees::node;
 use kilim_case_text::Text;
 use kilim_classes::{Base, ClassId, FieldId, Ty, Value};
-use kilim_private_heap::Heap;
+use kilim_machine_parts::Heap;
 use kilim_program::Object;
 use kilim_tree_move::{MoveFault, reserve_tree};
 use kilim_units::Seq;

@@ -6,7 +6,7 @@ ghost use Rattle.kilim_run_tables.specs.Chains.{IsBelow, IsOwn};
 
 use kilim_case_text::Text;
 use kilim_classes::{Base, ClassId, FieldId, Ty, Value};
-use kilim_private_heap::Heap;
+use kilim_machine_parts::Heap;
 use kilim_program::Object;
 use kilim_tree_move::{MoveFault, put_in, reserve_tree, take_out};
 use kilim_units::Seq;

@@ -5,8 +5,8 @@ use Rattle.std.specs.Prelude.{IsSome}
 use Rattle.std.specs.FinMap.{get, insert, remove}
 use Rattle.kilim_program.specs.declared.value.Object.{Object}
 use Rattle.kilim_program.specs.Machine.{Objects}
-use Rattle.kilim_private_heap.specs.Places.{AllDiffer}
-use Rattle.kilim_private_heap.specs.Words.{IsThere}
+use Rattle.kilim_machine_parts.specs.Places.{AllDiffer}
+use Rattle.kilim_machine_parts.specs.Words.{IsThere}
 use Rattle.kilim_tree_move.specs.Steps.{Blanked}
 use Rattle.kilim_tree_move.proofs.Maps.{got-there, got-other, gone-there, gone-other, same_objects}
 

@@ -4,7 +4,7 @@ use Rattle.std.specs.Prelude.{IsSome}
 use Rattle.std.specs.FinMap.{get}
 use Rattle.kilim_program.specs.declared.value.Object.{Object}
 use Rattle.kilim_program.specs.Machine.{Objects}
-use Rattle.kilim_private_heap.specs.Places.{AllDiffer}
+use Rattle.kilim_machine_parts.specs.Places.{AllDiffer}
 use Rattle.kilim_tree_move.specs.Room.{RoomFor}
 use Rattle.kilim_tree_move.specs.Walk.{refs, Leads, AreIn, IsTree, AllThere, places}
 use Rattle.kilim_tree_move.specs.Moved.{Fits, CanLeave}

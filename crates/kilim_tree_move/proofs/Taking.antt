@@ -6,7 +6,7 @@ use Rattle.std.specs.Prelude.{IsSome}
 use Rattle.std.specs.FinMap.{get, remove}
 use Rattle.kilim_program.specs.declared.value.Object.{Object}
 use Rattle.kilim_program.specs.Machine.{Objects}
-use Rattle.kilim_private_heap.specs.Places.{AllDiffer}
+use Rattle.kilim_machine_parts.specs.Places.{AllDiffer}
 use Rattle.kilim_tree_move.specs.Walk.{refs, Leads, AreIn, places, objects}
 use Rattle.kilim_tree_move.specs.Moved.{without}
 use Rattle.kilim_tree_move.specs.Steps.{CanCollect, Collected}

@@ -8,7 +8,7 @@ use Rattle.kilim_classes.specs.declared.value.Value.{Value}
 use Rattle.kilim_program.specs.Machine.{Objects}
 use Rattle.kilim_program.specs.Shapes.{shape_of, tree_limit, value_tokens}
 use Rattle.kilim_program.specs.declared.value.Token.{Token}
-use Rattle.kilim_private_heap.specs.Places.{AllDiffer}
+use Rattle.kilim_machine_parts.specs.Places.{AllDiffer}
 use Rattle.kilim_tree_move.specs.declared.fault.MoveFault.{MoveFault}
 use Rattle.kilim_tree_move.specs.declared.fault.MoveFault.TheVariants.{TooLarge, Memory}
 use Rattle.kilim_tree_move.specs.Room.{RoomFor}

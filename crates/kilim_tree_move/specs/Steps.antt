@@ -8,8 +8,8 @@ use Rattle.kilim_classes.specs.declared.value.Value.{Value}
 use Rattle.kilim_classes.specs.declared.value.Value.TheVariants.{Int, Long, Null, Ref, Text, Box, Fiber}
 use Rattle.kilim_program.specs.Machine.{Objects}
 use Rattle.kilim_program.specs.Shapes.{tree_limit}
-use Rattle.kilim_private_heap.specs.Places.{AllDiffer}
-use Rattle.kilim_private_heap.specs.Words.{IsThere}
+use Rattle.kilim_machine_parts.specs.Places.{AllDiffer}
+use Rattle.kilim_machine_parts.specs.Words.{IsThere}
 use Rattle.kilim_tree_move.specs.Walk.{refs, Leads, IsTree, IsPreorder, AreIn, places, objects}
 use Rattle.kilim_tree_move.specs.Moved.{without, at_places, renamed_all}
 

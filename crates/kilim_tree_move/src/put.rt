@@ -9,7 +9,7 @@ ghost use Rattle.kilim_tree_move.specs.Steps.{Blanked, WasFree, CanFill, Filled}
 
 use crate::tree::Tree;
 use kilim_classes::{Base, FieldId, Ty, Value};
-use kilim_private_heap::Heap;
+use kilim_machine_parts::Heap;
 use kilim_program::Object;
 use kilim_units::Seq;
 use std::alloc::Global;

@@ -8,7 +8,7 @@ ghost use Rattle.kilim_tree_move.specs.Steps.{IsSize};
 use crate::fault::MoveFault;
 use crate::room::Room;
 use kilim_classes::{FieldId, Value};
-use kilim_private_heap::Heap;
+use kilim_machine_parts::Heap;
 use kilim_program::Object;
 use std::alloc::Global;
 

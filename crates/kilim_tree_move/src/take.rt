@@ -10,7 +10,7 @@ use crate::reserve::push_refs;
 use crate::room::Room;
 use crate::tree::Tree;
 use kilim_classes::{FieldId, Value};
-use kilim_private_heap::Heap;
+use kilim_machine_parts::Heap;
 use kilim_program::Object;
 use kilim_units::Seq;
 

@@ -10,7 +10,7 @@ use Rattle.kilim_class_fits.specs.pool_needs.Adding.{with_needs}
 use Rattle.kilim_classfile.specs.declared.class_file.MemberInfo.{MemberInfo}
 use Rattle.kilim_class_fits.proofs.pool_needs.Searching.{some_same, none_is_some}
 use Rattle.kilim_weave_file.specs.Parts.{member_by}
-use Rattle.kilim_woven_file_laws.specs.form.WovenFile.{MethodPair, member_needs, pairs_of, woven_file, woven_member, woven_pool}
+use Rattle.kilim_woven_sizes.specs.file_laws.form.WovenFile.{MethodPair, member_needs, pairs_of, woven_file, woven_member, woven_pool}
 
 abbrev one : MemberInfo → Method → Method → List Bool → List MethodPair
 one i p m c = record { info = i; plain = p; method = m; counted = c } ∷ []

@@ -7,8 +7,8 @@ use Rattle.kilim_classfile.specs.declared.class_file.ClassFile.{ClassFile}
 use Rattle.kilim_classfile.specs.declared.class_file.MemberInfo.{MemberInfo}
 use Rattle.kilim_classfile.specs.Text.{class_text as file_text}
 use Rattle.kilim_constant_pool.specs.Entries.{count_of}
-use Rattle.kilim_woven_file_laws.specs.form.Sizes.{added_entries, entry_bytes, file_size, longest_text, method_bytes, pool_sum}
-use Rattle.kilim_woven_file_laws.specs.form.WovenFile.{pairs_of}
+use Rattle.kilim_woven_sizes.specs.file_laws.form.Sizes.{added_entries, entry_bytes, file_size, longest_text, method_bytes, pool_sum}
+use Rattle.kilim_woven_sizes.specs.file_laws.form.WovenFile.{pairs_of}
 
 pub sum_is : (p : Program) (file : ClassFile) (infos : List MemberInfo) (ps ms : List Method) (cs : List (List Bool)) (count added sum : ℕ) → infos ≡ file.methods → count ≡ count_of file.constant_pool →
     added ≡ added_entries p (pairs_of infos ps ms cs) → sum ≡ count + added → sum ≡ pool_sum p file (pairs_of file.methods ps ms cs)

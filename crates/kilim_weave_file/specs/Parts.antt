@@ -9,7 +9,7 @@ use Rattle.kilim_classfile.specs.declared.class_file.ClassFile.{ClassFile}
 use Rattle.kilim_classfile.specs.declared.class_file.MemberInfo.{MemberInfo}
 use Rattle.kilim_constant_pool.specs.declared.entry.Entry.{Entry}
 use Rattle.kilim_typing.specs.Step.{is_long}
-use Rattle.kilim_woven_file_laws.specs.form.WovenFile.{woven_member}
+use Rattle.kilim_woven_sizes.specs.file_laws.form.WovenFile.{woven_member}
 
 -- the number of an added instruction without operands (JVMS 6.5)
 abbrev pub plain_number : Instr → ℕ

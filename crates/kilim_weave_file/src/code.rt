@@ -4,8 +4,8 @@ ghost use Rattle.std.specs.Prelude.{◌≡◌, ◌∷◌, [], None, if◌then◌
 ghost use Rattle.kilim_link_spec.specs.Code.{decoded};
 ghost use Rattle.kilim_link_spec.specs.Mentions.{instrs_if};
 ghost use Rattle.kilim_bytecode.specs.Code.{code_text};
-ghost use Rattle.kilim_woven_file_laws.specs.form.Raw.{raw_code};
-ghost use Rattle.kilim_woven_file_laws.specs.form.WovenFile.{has_calls, table_by, table_with, woven_code};
+ghost use Rattle.kilim_woven_sizes.specs.file_laws.form.Raw.{raw_code};
+ghost use Rattle.kilim_woven_sizes.specs.file_laws.form.WovenFile.{has_calls, table_by, table_with, woven_code};
 
 use crate::forms::{added_raw, moved_raw};
 use crate::frames::full_frames;
@@ -14,13 +14,13 @@ use kilim_attributes::{Code, CodeAttribute, CodeInfo};
 use kilim_classes::{Instr, Method, Program};
 use kilim_class_fits::code_bytes::code_bytes;
 use kilim_constant_pool::Pool;
-use kilim_opcodes::RawInstr;
+use kilim_bytecode::opcodes::RawInstr;
 use kilim_class_fits::pool_needs::text_index;
 use kilim_units::{NoMemory, Seq};
 use std::alloc::Global;
 
 // The instructions of a woven code in their forms; the counted ones are the old ones, in order.
-#[tactic(auto, unfolding(kilim_woven_file_laws::specs::form::Raw::raw_code))]
+#[tactic(auto, unfolding(kilim_woven_sizes::specs::file_laws::form::Raw::raw_code))]
 fn raw_code(
     alloc: Global,
     program: &Program,

@@ -6,7 +6,7 @@ ghost use Rattle.kilim_classes.specs.declared.verified.VType.{VType};
 ghost use Rattle.kilim_classes.specs.declared.verified.VType.TheVariants.{Object};
 ghost use Rattle.kilim_typing.specs.Step.{is_long};
 ghost use Rattle.kilim_weave_file.specs.Parts.{entries_from};
-ghost use Rattle.kilim_woven_file_laws.specs.form.FullFrames.{entries, full_frame, full_frames, slot_type};
+ghost use Rattle.kilim_woven_sizes.specs.file_laws.form.FullFrames.{entries, full_frame, full_frames, slot_type};
 
 use kilim_attribute_parts::{Frame as Entered, VerificationType};
 use kilim_classes::{Frame, Program, Ty, VType};
@@ -131,7 +131,7 @@ fn full_frame(
 }
 
 /// The frames of a table, in their order.
-#[tactic(auto, unfolding(kilim_woven_file_laws::specs::form::FullFrames::full_frames))]
+#[tactic(auto, unfolding(kilim_woven_sizes::specs::file_laws::form::FullFrames::full_frames))]
 pub fn full_frames(
     alloc: Global,
     program: &Program,

@@ -3,8 +3,8 @@
 ghost use Rattle.std.specs.Prelude.{◌≡◌, ◌++◌, ◌∷◌, [], IfOk, OnOk};
 ghost use Rattle.std.specs.List.{cons_option, filter_map};
 ghost use Rattle.kilim_link_spec.specs.World.{member_descriptor};
-ghost use Rattle.kilim_woven_file_laws.specs.form.Texts.{woven_descriptor};
-ghost use Rattle.kilim_woven_file_laws.specs.form.WovenFile.{attribute_with, one_parameter_more, rewritten, woven_attribute, woven_info};
+ghost use Rattle.kilim_woven_sizes.specs.file_laws.form.Texts.{woven_descriptor};
+ghost use Rattle.kilim_woven_sizes.specs.file_laws.form.WovenFile.{attribute_with, one_parameter_more, rewritten, woven_attribute, woven_info};
 
 use crate::code::woven_code;
 use crate::needs::text_of;

@@ -6,16 +6,16 @@ ghost use Rattle.kilim_attributes.specs.declared.attribute.Attribute.{Attribute}
 ghost use Rattle.kilim_classfile.specs.Parts.{text_of};
 ghost use Rattle.kilim_link_spec.specs.Code.{decoded};
 ghost use Rattle.kilim_link_spec.specs.Mentions.{instrs_if};
-ghost use Rattle.kilim_woven_file_laws.specs.form.FullFrames.{frame_needs, frames_needs, type_needs};
-ghost use Rattle.kilim_woven_file_laws.specs.form.Raw.{added_need, call_by, call_need, code_needs, listed, old_need};
-ghost use Rattle.kilim_woven_file_laws.specs.form.Texts.{needed_method};
-ghost use Rattle.kilim_woven_file_laws.specs.form.WovenFile.{has_calls, head_of, info_needs, instrs_needs, old_table, table_name, table_need};
+ghost use Rattle.kilim_woven_sizes.specs.file_laws.form.FullFrames.{frame_needs, frames_needs, type_needs};
+ghost use Rattle.kilim_woven_sizes.specs.file_laws.form.Raw.{added_need, call_by, call_need, code_needs, listed, old_need};
+ghost use Rattle.kilim_woven_sizes.specs.file_laws.form.Texts.{needed_method};
+ghost use Rattle.kilim_woven_sizes.specs.file_laws.form.WovenFile.{has_calls, head_of, info_needs, instrs_needs, old_table, table_name, table_need};
 
 use kilim_attributes::{Attribute, Code, CodeAttribute, CodeInfo, Info};
 use kilim_classes::{Frame, Instr, Method, MethodId, Program, VType};
 use kilim_constant_pool::{Entry, Pool};
 use kilim_link_mentions::decoded;
-use kilim_opcodes::RawInstr;
+use kilim_bytecode::opcodes::RawInstr;
 use kilim_class_fits::pool_needs::Need;
 use kilim_units::{NoMemory, Seq, Units};
 use kilim_woven_sizes::{is_pausable_call, needed_method, type_name, woven_descriptor};

@@ -5,10 +5,10 @@ ghost use Rattle.std.specs.List.{flat_map};
 ghost use Rattle.kilim_attributes.specs.declared.attribute.Attribute.{Attribute};
 ghost use Rattle.kilim_link_spec.specs.World.{member_descriptor};
 ghost use Rattle.kilim_class_fits.specs.declared.pool_needs.need.Need.TheVariants.{AText};
-ghost use Rattle.kilim_woven_file_laws.specs.form.Texts.{woven_descriptor};
+ghost use Rattle.kilim_woven_sizes.specs.file_laws.form.Texts.{woven_descriptor};
 ghost use Rattle.kilim_classfile.specs.Text.{ClassFits, class_text};
-ghost use Rattle.kilim_woven_file_laws.specs.form.Sizes.{longest_text};
-ghost use Rattle.kilim_woven_file_laws.specs.form.WovenFile.{info_needs, member_needs, pairs_of, woven_file, woven_member};
+ghost use Rattle.kilim_woven_sizes.specs.file_laws.form.Sizes.{longest_text};
+ghost use Rattle.kilim_woven_sizes.specs.file_laws.form.WovenFile.{info_needs, member_needs, pairs_of, woven_file, woven_member};
 ghost use Rattle.kilim_weave_file.specs.Parts.{member_by};
 ghost use Rattle.kilim_weave_file.specs.Applied.{Applied, SizesFit};
 

@@ -10,7 +10,7 @@ use Rattle.kilim_thread_model.specs.Reach.{Liveness}
 use Rattle.kilim_thread_model.specs.State.{Setting}
 use Rattle.kilim_thread_model.specs.Runs.{Whole}
 use Rattle.kilim_exchange.specs.Seen.{MovedWhole}
-use Rattle.kilim_record_fiber.specs.named.Named.{ServesNamed}
+use Rattle.kilim_whole_runs.specs.record_fiber.named.Named.{ServesNamed}
 use Rattle.kilim_one_heap.specs.Laws.{MovedIsWhole}
 use Rattle.kilim_isolation_laws.specs.at_rest.readable.Laws.{RunsAreReadable}
 use Rattle.kilim_workers.specs.worker_pool.Pool.{IsOf}

@@ -3,6 +3,7 @@
 
 mod laws;
 mod named;
+pub mod record_fiber;
 mod runs;
 
 pub use laws::woven_is_served;

@@ -2,7 +2,7 @@
 
 ghost use Rattle.std.specs.Prelude.{◌≤◌, IfOk};
 ghost use Rattle.kilim_exchange.specs.Seen.{MovedWhole};
-ghost use Rattle.kilim_record_fiber.specs.named.Named.{ServesNamed};
+ghost use Rattle.kilim_whole_runs.specs.record_fiber.named.Named.{ServesNamed};
 ghost use Rattle.kilim_thread_model.specs.State.{Setting};
 ghost use Rattle.kilim_workers.specs.worker_pool.Pool.{IsOf};
 
@@ -11,7 +11,7 @@ use kilim_fibers::boxed::Boxed;
 use kilim_journal::Entry;
 use kilim_outside::Gate;
 use kilim_program::Limits;
-use kilim_record_fiber::named::{Named, Woven};
+use crate::record_fiber::named::{Named, Woven};
 use kilim_units::NoMemory;
 use kilim_workers::worker_pool::run_one;
 use kilim_workers::run_pool;

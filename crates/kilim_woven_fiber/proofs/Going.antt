@@ -13,8 +13,8 @@ use Rattle.kilim_program.specs.Machine.{Objects, Activation}
 use Rattle.kilim_program.specs.Moves.{Change, Move, moves, push_value}
 use Rattle.kilim_program.specs.Moves as move
 use Rattle.kilim_program.specs.Natives.{native_of}
-use Rattle.kilim_frames.specs.declared.frames.Frames.{Frames}
-use Rattle.kilim_frames.specs.Calls.{answered}
+use Rattle.kilim_machine_parts.specs.declared.frames.frames.Frames.{Frames}
+use Rattle.kilim_machine_parts.specs.frames.Calls.{answered}
 use Rattle.kilim_thread_model.specs.State.{Setting}
 use Rattle.kilim_jvm_interp.specs.declared.machine.Stepped.TheVariants as stepped
 use Rattle.kilim_jvm_interp.specs.Step.{IsWent, RanOn, MadeOne, Steps, cause_of}

@@ -3,8 +3,8 @@ use Rattle.std.specs.Prelude.{◌<◌, ◌≤◌, ℕ, List, [], Option, Some, N
 use Rattle.kilim_classes.specs.declared.value.Value.{Value}
 use Rattle.kilim_classes.specs.Program.{Program}
 use Rattle.kilim_program.specs.Machine.{Activation}
-use Rattle.kilim_frames.specs.declared.frames.Frames.{Frames}
-use Rattle.kilim_frames.specs.Calls.{calls_of, answered}
+use Rattle.kilim_machine_parts.specs.declared.frames.frames.Frames.{Frames}
+use Rattle.kilim_machine_parts.specs.frames.Calls.{calls_of, answered}
 use Rattle.kilim_jvm_interp.specs.Step.{AreRoomy, stack_limit}
 use Rattle.kilim_weaving_laws.specs.woven_kin.Standing.{Standing}
 use Rattle.kilim_woven_fiber.specs.declared.body.Body.{Body}

@@ -1,6 +1,6 @@
 -- The operands of a built-in method that is called.
 use Rattle.std.specs.Prelude.{◌≡◌, [], ◌∷◌}
-use Rattle.kilim_frames.specs.declared.frames.Frames.{Frames}
+use Rattle.kilim_machine_parts.specs.declared.frames.frames.Frames.{Frames}
 use Rattle.kilim_woven_fiber.specs.Body.{operands_of}
 use Rattle.kilim_woven_fiber.specs.declared.operands.Operands.{Operands}
 use Rattle.kilim_woven_fiber.specs.declared.operands.Operands.TheVariants as copied

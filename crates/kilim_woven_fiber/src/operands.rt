@@ -2,13 +2,13 @@
 
 ghost use Rattle.std.specs.Prelude.{◌≡◌, ◌<◌, ◌≤◌, ◌^◌, ◌∷◌, [], true, pos, length, slice_get, Some, IfOk, IfSome};
 ghost use Rattle.kilim_classes.specs.declared.value.Value.TheVariants as a_value;
-ghost use Rattle.kilim_frames.specs.Calls.{calls_of, answered};
+ghost use Rattle.kilim_machine_parts.specs.frames.Calls.{calls_of, answered};
 ghost use Rattle.kilim_jvm_interp.specs.Step.{AreRoomy};
 ghost use Rattle.kilim_woven_fiber.specs.Body.{operands_of};
 ghost use Rattle.kilim_woven_fiber.specs.Operands.{AreOperands};
 
 use kilim_classes::{Program, Value};
-use kilim_frames::Frames;
+use kilim_machine_parts::frames::Frames;
 use kilim_units::NoMemory;
 
 /// Copies of the operands. No built-in method but a member of `kilim/Fiber` has more than two.

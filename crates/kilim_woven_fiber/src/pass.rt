@@ -2,12 +2,12 @@
 
 ghost use Rattle.std.specs.Prelude.{◌≡◌};
 ghost use Rattle.kilim_program.specs.Moves.{push_value};
-ghost use Rattle.kilim_frames.specs.Calls.{calls_of, answered};
+ghost use Rattle.kilim_machine_parts.specs.frames.Calls.{calls_of, answered};
 ghost use Rattle.kilim_jvm_interp.specs.Step.{AreRoomy};
 ghost use Rattle.kilim_woven_fiber.specs.Body.{RoomBehind};
 
 use kilim_classes::{Program, Value};
-use kilim_frames::Frames;
+use kilim_machine_parts::frames::Frames;
 
 /// Goes on behind the instruction: its operands leave the stack.
 pub fn pass(program: &Program, frames: &mut Frames)

@@ -4,7 +4,7 @@ use Rattle.kilim_classes.specs.declared.class.Method.{Method}
 use Rattle.kilim_classes.specs.Program.{Program}
 use Rattle.kilim_classfile.specs.declared.class_file.MemberInfo.{MemberInfo}
 use Rattle.kilim_woven_form.specs.Weight.{calls_in, weight}
-use Rattle.kilim_woven_file_laws.specs.form.Sizes.{frame_bytes, frames_number}
+use Rattle.kilim_woven_sizes.specs.file_laws.form.Sizes.{frame_bytes, frames_number}
 
 -- the bytes that a method may become longer by
 abbrev pub bytes_of : Program → MemberInfo → Method → ℕ

@@ -1,7 +1,7 @@
 //! Calls of methods that pause.
 
 ghost use Rattle.std.specs.Prelude.{◌≡◌, option_copied};
-ghost use Rattle.kilim_woven_file_laws.specs.form.Raw.{is_pausable_call, pauses};
+ghost use Rattle.kilim_woven_sizes.specs.file_laws.form.Raw.{is_pausable_call, pauses};
 
 use kilim_classes::{Instr, Method, Program};
 use kilim_lookups::method_at;

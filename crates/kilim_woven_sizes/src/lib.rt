@@ -1,7 +1,9 @@
-//! How large a woven class file may become, by the bounds of kilim_woven_file_laws::form.
+//! How large a woven class file may become, by the bounds of crate::file_laws::form.
 #![tactic(auto)]
 
 mod calls;
+pub mod file_laws;
+pub mod same_programs;
 mod sizes;
 mod texts;
 

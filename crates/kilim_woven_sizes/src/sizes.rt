@@ -4,9 +4,9 @@ ghost use Rattle.std.specs.Prelude.{◌≡◌, ◌+◌, ◌*◌, ◌≤◌, leng
 ghost use Rattle.kilim_classes.specs.Names.{descriptor};
 ghost use Rattle.kilim_link_spec.specs.World.{method_descriptor};
 ghost use Rattle.kilim_woven_form.specs.Weight.{calls_in, switch_bytes, switches_bytes, weight};
-ghost use Rattle.kilim_woven_file_laws.specs.form.Sizes.{added_entries, class_longest, entries_at_call, entry_bytes, field_longest, frame_bytes, frames_number, larger, longest_text, method_bytes, method_entries, method_longest, methods_entries, spelled_length};
+ghost use Rattle.kilim_woven_sizes.specs.file_laws.form.Sizes.{added_entries, class_longest, entries_at_call, entry_bytes, field_longest, frame_bytes, frames_number, larger, longest_text, method_bytes, method_entries, method_longest, methods_entries, spelled_length};
 ghost use Rattle.kilim_woven_sizes.specs.Parts.{bytes_of};
-ghost use Rattle.kilim_woven_file_laws.specs.form.WovenFile.{pairs_of};
+ghost use Rattle.kilim_woven_sizes.specs.file_laws.form.WovenFile.{pairs_of};
 
 use crate::{is_pausable_call, type_descriptor};
 use kilim_classes::{Class, Field, Instr, Method, Program};
@@ -198,7 +198,7 @@ fn field_longest(
 }
 
 /// The greatest length in bytes of a class name, a member's name or a descriptor of a program, in modified UTF-8 (JVMS 4.4.7).
-#[tactic(auto, unfolding(kilim_woven_file_laws::specs::form::Sizes::longest_text))]
+#[tactic(auto, unfolding(crate::specs::file_laws::form::Sizes::longest_text))]
 pub fn longest_text(alloc: Global, program: &Program) -> Result<usize, NoMemory>
     ensures { IfOk result (λ n. n ≡ longest_text program.now) }
 {

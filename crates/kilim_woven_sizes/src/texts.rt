@@ -5,7 +5,7 @@ ghost use Rattle.std.specs.List.{flat_map};
 ghost use Rattle.kilim_classes.specs.Names.{base_descriptor, class_name, descriptor};
 ghost use Rattle.kilim_descriptors.specs.Text.{base_text, field_text, method_text, result_text};
 ghost use Rattle.kilim_class_fits.specs.declared.pool_needs.need.Need.TheVariants.{AMethod};
-ghost use Rattle.kilim_woven_file_laws.specs.form.Texts.{class_entry_name, fiber_added, fiber_text, member_need, needed_method, type_name, with_fiber, woven_descriptor};
+ghost use Rattle.kilim_woven_sizes.specs.file_laws.form.Texts.{class_entry_name, fiber_added, fiber_text, member_need, needed_method, type_name, with_fiber, woven_descriptor};
 
 use kilim_classes::{Base, ClassId, Method, MethodId, Program, Ty};
 use kilim_descriptors::{BaseText, FieldText, MethodText};
@@ -108,7 +108,7 @@ fn text_with_fiber(alloc: Global, method: &MethodText) -> Result<Units, NoMemory
 }
 
 /// A method's descriptor with the fiber as its last parameter (JVMS 4.3.3); a text that is none stays.
-#[tactic(auto, unfolding(kilim_woven_file_laws::specs::form::Texts::woven_descriptor))]
+#[tactic(auto, unfolding(crate::specs::file_laws::form::Texts::woven_descriptor))]
 pub fn woven_descriptor(alloc: Global, units: &Units) -> Result<Units, NoMemory>
     ensures { IfOk result (λ text. text ≡ woven_descriptor units.now) }
 {

@@ -4,7 +4,7 @@ use Rattle.std.specs.Prelude.{FitsSigned}
 use Rattle.std.specs.Int.{w32}
 use Rattle.std.specs.List.{flat_map, AllByRecursion}
 use Rattle.std.proofs.lemmas.Option.{slice_get-get_or}
-use Rattle.kilim_opcodes.specs.Instr.{IsAbove, PairsFit, TargetFits}
+use Rattle.kilim_bytecode.specs.opcodes.Instr.{IsAbove, PairsFit, TargetFits}
 
 pub drop_next : {A : Type 0} (xs : List A) (n : ℕ) (x : A) → slice_get xs n ≡ Some x → drop n xs ≡ x ∷ drop (n + 1) xs
 drop_next [] n x e = absurd (cc)

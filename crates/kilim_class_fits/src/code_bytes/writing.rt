@@ -4,10 +4,10 @@ ghost use Rattle.std.specs.Prelude.{◌≡◌, ◌<◌, ◌^◌, ◌++◌, true,
 ghost use Rattle.std.specs.Int.{w8, w16, w32};
 ghost use Rattle.std.specs.List.{AllByRecursion};
 ghost use Rattle.kilim_bytecode.specs.Code.{code_text};
-ghost use Rattle.kilim_opcodes.specs.Instr.{InstrFits, IsAbove, PairsFit, TargetFits, high_of, instr_text, is_array_code};
-ghost use Rattle.kilim_opcodes.specs.Table.{form_of};
+ghost use Rattle.kilim_bytecode.specs.opcodes.Instr.{InstrFits, IsAbove, PairsFit, TargetFits, high_of, instr_text, is_array_code};
+ghost use Rattle.kilim_bytecode.specs.opcodes.Table.{form_of};
 
-use kilim_opcodes::{OpForm, RawInstr, form, write_instr};
+use kilim_bytecode::opcodes::{OpForm, RawInstr, form, write_instr};
 use kilim_units::{NoMemory, Seq};
 use std::alloc::Global;
 
@@ -152,7 +152,7 @@ fn lookup_fits(at: u32, default: i64, pairs: &[(i32, i64)]) -> bool
 }
 
 // An instruction has a text at a place.
-#[tactic(auto, unfolding(kilim_opcodes::specs::Instr::InstrFits))]
+#[tactic(auto, unfolding(kilim_bytecode::specs::opcodes::Instr::InstrFits))]
 fn fits(at: u32, instr: &RawInstr) -> bool
     ensures { result ≡ true → InstrFits at instr.now }
 {

@@ -9,7 +9,7 @@ use Rattle.kilim_bytecode.specs.Exact.{TargetsArePlaces}
 use Rattle.kilim_classfile.specs.declared.class_file.ClassFile.{ClassFile}
 use Rattle.kilim_classfile.specs.declared.class_file.MemberInfo.{MemberInfo}
 use Rattle.kilim_constant_pool.specs.declared.entry.Entry.{Entry}
-use Rattle.kilim_opcodes.specs.declared.fault.OpFault.TheVariants as op
+use Rattle.kilim_bytecode.specs.declared.opcodes.fault.OpFault.TheVariants as op
 use Rattle.kilim_classes.specs.declared.instr.Instr.{Instr}
 use Rattle.kilim_classes.specs.declared.names.ClassId.{ClassId}
 use Rattle.kilim_link_spec.specs.Code.{decoded, code_of, index_in, placed_in, instr_in}

@@ -5,7 +5,7 @@ use Rattle.std.specs.List.{list_all, AllByRecursion}
 use Rattle.std.proofs.lemmas.Bool.{and_from, or_cases, or_left, or_right, eq-eqb, eqb-true, false≢true}
 use Rattle.std.proofs.lemmas.Option.{same_Some}
 use Rattle.kilim_constant_pool.specs.declared.entry.Entry.{Entry}
-use Rattle.kilim_opcodes.specs.Instr.{instr_len}
+use Rattle.kilim_bytecode.specs.opcodes.Instr.{instr_len}
 use Rattle.kilim_bytecode.specs.Code.{Placed, StandsFrom, is_place, targets_of, ends, falls, falls_off, mid_target}
 use Rattle.kilim_bytecode.specs.Exact.{body_fault, target_or_end, TargetsArePlaces}
 use Rattle.kilim_classes.specs.declared.instr.Instr.{Instr}

@@ -8,12 +8,12 @@ use Rattle.std.proofs.lemmas.Bool.{false≢true, and_from, or_left, or_right, lt
 use Rattle.std.proofs.lemmas.Int.{ints}
 use Rattle.std.proofs.lemmas.Option.{same_Some, none-some}
 use Rattle.kilim_constant_pool.specs.declared.entry.Entry.{Entry}
-use Rattle.kilim_opcodes.specs.declared.forms.OpForm.{OpForm}
-use Rattle.kilim_opcodes.specs.declared.forms.OpForm.TheVariants as form
-use Rattle.kilim_opcodes.specs.declared.instr.RawInstr.{RawInstr}
-use Rattle.kilim_opcodes.specs.declared.instr.RawInstr.TheVariants as raw
-use Rattle.kilim_opcodes.specs.Instr.{padding, instr_len, high_of, InstrFits, TargetFits, PairsFit, IsAbove}
-use Rattle.kilim_opcodes.specs.Table.{rows, form_of}
+use Rattle.kilim_bytecode.specs.declared.opcodes.forms.OpForm.{OpForm}
+use Rattle.kilim_bytecode.specs.declared.opcodes.forms.OpForm.TheVariants as form
+use Rattle.kilim_bytecode.specs.declared.opcodes.instr.RawInstr.{RawInstr}
+use Rattle.kilim_bytecode.specs.declared.opcodes.instr.RawInstr.TheVariants as raw
+use Rattle.kilim_bytecode.specs.opcodes.Instr.{padding, instr_len, high_of, InstrFits, TargetFits, PairsFit, IsAbove}
+use Rattle.kilim_bytecode.specs.opcodes.Table.{rows, form_of}
 use Rattle.kilim_classes.specs.declared.instr.Instr.{Instr}
 use Rattle.kilim_classes.specs.declared.instr.Instr.TheVariants.{Bipush, Sipush, Iinc, Tableswitch, Lookupswitch, Newarray, New}
 use Rattle.kilim_classes.specs.declared.names.ClassId.{ClassId}

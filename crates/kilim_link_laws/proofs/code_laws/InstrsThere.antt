@@ -10,12 +10,12 @@ use Rattle.kilim_bytecode.specs.Code.{Placed, targets_of, is_place}
 use Rattle.kilim_classfile.specs.declared.class_file.ClassFile.{ClassFile}
 use Rattle.kilim_constant_pool.specs.declared.entry.Entry.{Entry}
 use Rattle.kilim_constant_pool.specs.Entries.{entry_at}
-use Rattle.kilim_opcodes.specs.declared.forms.OpForm.{OpForm}
-use Rattle.kilim_opcodes.specs.declared.forms.OpForm.TheVariants as form
-use Rattle.kilim_opcodes.specs.declared.instr.RawInstr.{RawInstr}
-use Rattle.kilim_opcodes.specs.declared.instr.RawInstr.TheVariants as raw
-use Rattle.kilim_opcodes.specs.Instr.{is_array_code}
-use Rattle.kilim_opcodes.specs.Table.{rows, form_of}
+use Rattle.kilim_bytecode.specs.declared.opcodes.forms.OpForm.{OpForm}
+use Rattle.kilim_bytecode.specs.declared.opcodes.forms.OpForm.TheVariants as form
+use Rattle.kilim_bytecode.specs.declared.opcodes.instr.RawInstr.{RawInstr}
+use Rattle.kilim_bytecode.specs.declared.opcodes.instr.RawInstr.TheVariants as raw
+use Rattle.kilim_bytecode.specs.opcodes.Instr.{is_array_code}
+use Rattle.kilim_bytecode.specs.opcodes.Table.{rows, form_of}
 use Rattle.kilim_classes.specs.declared.instr.Instr.TheVariants.{Bipush, Sipush, Iinc, New}
 use Rattle.kilim_classes.specs.declared.value.Value.{Value}
 use Rattle.kilim_classes.specs.declared.names.ClassId.{ClassId}

@@ -5,10 +5,10 @@ use Rattle.std.specs.Option.{option_map}
 use Rattle.std.proofs.lemmas.Bool.{false≢true}
 use Rattle.std.proofs.lemmas.Option.{same_Some, none-some}
 use Rattle.kilim_constant_pool.specs.declared.entry.Entry.{Entry}
-use Rattle.kilim_opcodes.specs.declared.forms.OpForm.TheVariants as form
-use Rattle.kilim_opcodes.specs.declared.instr.RawInstr.{RawInstr}
-use Rattle.kilim_opcodes.specs.declared.instr.RawInstr.TheVariants as raw
-use Rattle.kilim_opcodes.specs.Instr.{InstrFits}
+use Rattle.kilim_bytecode.specs.declared.opcodes.forms.OpForm.TheVariants as form
+use Rattle.kilim_bytecode.specs.declared.opcodes.instr.RawInstr.{RawInstr}
+use Rattle.kilim_bytecode.specs.declared.opcodes.instr.RawInstr.TheVariants as raw
+use Rattle.kilim_bytecode.specs.opcodes.Instr.{InstrFits}
 use Rattle.kilim_bytecode.specs.Code.{targets_of, ends}
 use Rattle.kilim_classes.specs.declared.instr.Instr.{Instr}
 use Rattle.kilim_classes.specs.declared.instr.Instr.TheVariants.{Bipush, Sipush, Iinc, Tableswitch, Lookupswitch, Newarray, New}

@@ -13,7 +13,7 @@ use Rattle.kilim_classfile.specs.declared.class_file.ClassFile.{ClassFile}
 use Rattle.kilim_classfile.specs.declared.class_file.MemberInfo.{MemberInfo}
 use Rattle.kilim_classfile.specs.Text.{ClassFits}
 use Rattle.kilim_constant_pool.specs.declared.entry.Entry.{Entry}
-use Rattle.kilim_opcodes.specs.Exact.{OneSpelling, Lengths}
+use Rattle.kilim_bytecode.specs.opcodes.Exact.{OneSpelling, Lengths}
 use Rattle.kilim_classes.specs.declared.class.Form.{Form}
 use Rattle.kilim_classes.specs.declared.class.Form.TheVariants.{Plain, Woven}
 use Rattle.kilim_classes.specs.declared.class.Method.{Method}

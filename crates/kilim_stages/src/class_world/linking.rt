@@ -10,7 +10,7 @@ ghost use Rattle.kilim_link_spec.specs.World.{world_of};
 ghost use Rattle.kilim_stages.specs.class_world.Linking.{IsLinkOf, Made};
 
 use crate::class_world::laws::{links_keep, no_fault_is_a_program};
-use kilim_built_ins::{built_in_classes, built_in_methods};
+use kilim_link_views::built_ins::{built_in_classes, built_in_methods};
 use kilim_classes::{Class, Field, Form, Method, Program};
 use kilim_classfile::ClassFile;
 use kilim_link_faults::first_fault;

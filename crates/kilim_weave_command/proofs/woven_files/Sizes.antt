@@ -13,8 +13,8 @@ use Rattle.kilim_weave_file.specs.Applied.{most_entries}
 use Rattle.kilim_weave_file.specs.Applied as apply
 use Rattle.kilim_weave_file.specs.declared.fault.ApplyFault.{ApplyFault}
 use Rattle.kilim_weave_file.specs.declared.fault.ApplyFault.TheVariants.{FileTooLarge, Memory, PoolFull}
-use Rattle.kilim_woven_file_laws.specs.form.Sizes.{added_entries, entry_bytes, file_size, longest_text, method_bytes, method_entries, methods_entries, other_entries, pool_sum}
-use Rattle.kilim_woven_file_laws.specs.form.WovenFile.{MethodPair, pairs_of}
+use Rattle.kilim_woven_sizes.specs.file_laws.form.Sizes.{added_entries, entry_bytes, file_size, longest_text, method_bytes, method_entries, methods_entries, other_entries, pool_sum}
+use Rattle.kilim_woven_sizes.specs.file_laws.form.WovenFile.{MethodPair, pairs_of}
 use Rattle.kilim_weave_command.specs.woven_files.Parts.{IsRefusedFor}
 use Rattle.kilim_weave_command.specs.woven_files.Reports.{IsSizeLine}
 use Rattle.kilim_weave_command.specs.woven_files.Sizes.{fault_by, plain_pairs, size_fault}

@@ -11,7 +11,7 @@ use Rattle.kilim_stages.specs.declared.refusal.Refusal.{Refusal}
 use Rattle.kilim_stages.specs.Parts.{IfReport}
 use Rattle.kilim_stages.proofs.Parts.{reported as told}
 use Rattle.kilim_weave_file.specs.declared.fault.ApplyFault.{ApplyFault}
-use Rattle.kilim_woven_file_laws.specs.form.WovenFile.{pairs_of, woven_file}
+use Rattle.kilim_woven_sizes.specs.file_laws.form.WovenFile.{pairs_of, woven_file}
 use Rattle.kilim_weave_command.specs.woven_files.Parts.{IsRefusedFor, IsSizeReportIn}
 use Rattle.kilim_weave_command.specs.woven_files.Sizes.{first_fault_in, first_size_fault, or_later, size_fault}
 use Rattle.kilim_weave_command.specs.woven_files.WovenFiles.{woven_by}

@@ -9,8 +9,8 @@ use Rattle.kilim_classfile.specs.Text.{size_limit}
 use Rattle.kilim_weave_file.specs.Applied.{most_entries}
 use Rattle.kilim_weave_file.specs.declared.fault.ApplyFault.{ApplyFault}
 use Rattle.kilim_weave_file.specs.declared.fault.ApplyFault.TheVariants.{FileTooLarge, PoolFull}
-use Rattle.kilim_woven_file_laws.specs.form.Sizes.{file_size, pool_sum}
-use Rattle.kilim_woven_file_laws.specs.form.WovenFile.{MethodPair}
+use Rattle.kilim_woven_sizes.specs.file_laws.form.Sizes.{file_size, pool_sum}
+use Rattle.kilim_woven_sizes.specs.file_laws.form.WovenFile.{MethodPair}
 
 -- the sums ask for the methods of the file and of the plain program alone
 abbrev pub plain_pairs : List MemberInfo → List Method → List MethodPair

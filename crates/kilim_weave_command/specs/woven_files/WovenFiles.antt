@@ -20,7 +20,7 @@ use Rattle.kilim_stages.specs.ProgramOf.{AreFiles}
 use Rattle.kilim_weaver.specs.declared.weaving.Woven.{Woven}
 use Rattle.kilim_weaver.specs.Faults.{weave_fault}
 use Rattle.kilim_weaver.specs.Weaves.{Weaves}
-use Rattle.kilim_woven_file_laws.specs.form.WovenFile.{pairs_of, woven_file}
+use Rattle.kilim_woven_sizes.specs.file_laws.form.WovenFile.{pairs_of, woven_file}
 use Rattle.kilim_weave_command.specs.declared.woven_files.made.WovenFile.{WovenFile}
 use Rattle.kilim_weave_command.specs.woven_files.Sizes.{first_size_fault}
 

@@ -4,8 +4,8 @@ ghost use Rattle.std.specs.Prelude.{◌≡◌, ◌≤◌, length, take, drop, No
 ghost use Rattle.std.specs.List.{AllByRecursion};
 ghost use Rattle.kilim_classfile.specs.Text.{ClassFits};
 ghost use Rattle.kilim_stages.specs.Parts.{IfReport};
-ghost use Rattle.kilim_woven_file_laws.specs.form.Sizes.{longest_text};
-ghost use Rattle.kilim_woven_file_laws.specs.form.WovenFile.{pairs_of, woven_file};
+ghost use Rattle.kilim_woven_sizes.specs.file_laws.form.Sizes.{longest_text};
+ghost use Rattle.kilim_woven_sizes.specs.file_laws.form.WovenFile.{pairs_of, woven_file};
 ghost use Rattle.kilim_weave_command.specs.woven_files.Parts.{IsRefusedFor, IsSizeReportIn};
 ghost use Rattle.kilim_weave_command.specs.woven_files.Sizes.{first_size_fault, size_fault};
 ghost use Rattle.kilim_weave_command.specs.woven_files.WovenFiles.{woven_of};

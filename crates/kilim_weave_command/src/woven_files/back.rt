@@ -8,7 +8,7 @@ ghost use Rattle.kilim_weave_command.specs.woven_files.Parts.{LinksBack};
 use kilim_stages::class_world::link;
 use kilim_classes::{Form, Program};
 use kilim_classfile::ClassFile;
-use kilim_same_programs::same_programs;
+use kilim_woven_sizes::same_programs::same_programs;
 use kilim_units::NoMemory;
 use std::alloc::Global;
 

@@ -27,7 +27,7 @@ use Rattle.kilim_one_heap.specs.Lones.{ThreadKin}
 use Rattle.kilim_one_heap.proofs.Owners.{marked, marked_in, marked_out, task_nobody}
 use Rattle.kilim_one_heap.proofs.Taken.{joined, joined_first, joined_old, joined_bound, alike_taken}
 use Rattle.kilim_one_heap.proofs.Nexts.{MaybeFrames}
-use Rattle.kilim_private_heap.specs.Places.{AllDiffer}
+use Rattle.kilim_machine_parts.specs.Places.{AllDiffer}
 use Rattle.kilim_tree_move.specs.Walk.{value_refs, element_refs, field_refs, refs, Leads, AreIn, IsTree, places, objects, renamed}
 use Rattle.kilim_tree_move.specs.Walk as walk
 use Rattle.kilim_tree_move.specs.Moved.{PutIn, renamed_all, at_places}

@@ -7,7 +7,7 @@ use Rattle.kilim_program.specs.declared.value.Token.{Token}
 use Rattle.kilim_program.specs.Machine.{Objects}
 use Rattle.kilim_program.specs.Shapes.{tree_limit, shape_of}
 use Rattle.kilim_program.specs.Trees.{Root}
-use Rattle.kilim_private_heap.specs.Places.{AllDiffer}
+use Rattle.kilim_machine_parts.specs.Places.{AllDiffer}
 use Rattle.kilim_tree_move.specs.Room.{RoomFor}
 use Rattle.kilim_tree_move.specs.Walk.{places}
 use Rattle.kilim_tree_move.specs.Moved.{Fits, CanLeave, TakenOut}

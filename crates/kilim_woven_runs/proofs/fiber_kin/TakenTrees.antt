@@ -13,7 +13,7 @@ use Rattle.kilim_program.specs.Machine.{Objects}
 use Rattle.kilim_program.specs.Shapes.{shape_of}
 use Rattle.kilim_program.specs.Trees.{Root}
 use Rattle.kilim_thread_model.specs.Kept.{IsFormed}
-use Rattle.kilim_private_heap.specs.Places.{AllDiffer}
+use Rattle.kilim_machine_parts.specs.Places.{AllDiffer}
 use Rattle.kilim_tree_move.specs.Walk.{value_refs, field_refs, element_refs, refs, renamed_value, renamed_fields, renamed_elements, renamed, places, objects}
 use Rattle.kilim_tree_move.specs.Moved.{TakenOut, at_places, renamed_all, tree_heap}
 use Rattle.kilim_tree_move.specs.Shaping.{field_values, held, IsShown, Suits}

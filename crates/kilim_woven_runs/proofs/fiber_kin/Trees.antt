@@ -20,7 +20,7 @@ use Rattle.kilim_kin.specs.trees.TreeKin.{AllFields, AllValues, IsIntact, IsWhol
 use Rattle.kilim_kin.proofs.trees.ReadBack.{shapes_give}
 use Rattle.kilim_kin.proofs.trees.Shaped.{shape_kin}
 use Rattle.kilim_one_heap.proofs.Given.{Named, AreThere, copies_there, there_in, named_in}
-use Rattle.kilim_private_heap.specs.Places.{AllDiffer}
+use Rattle.kilim_machine_parts.specs.Places.{AllDiffer}
 use Rattle.kilim_tree_move.specs.Walk.{places}
 use Rattle.kilim_tree_move.proofs.Named.{names_are_places}
 use Rattle.kilim_tree_move.proofs.Tokens.{has_shape}

@@ -13,7 +13,7 @@ use Rattle.kilim_thread_model.specs.Lone.{Lone}
 use Rattle.kilim_thread_model.specs.Kept.{IsFormed}
 use Rattle.kilim_kin.specs.Kin.{Names}
 use Rattle.kilim_kin.specs.trees.TreeKin.{IsWholeTree}
-use Rattle.kilim_private_heap.specs.Places.{AllDiffer}
+use Rattle.kilim_machine_parts.specs.Places.{AllDiffer}
 use Rattle.kilim_tree_move.specs.Walk.{IsTree, AllThere, places}
 use Rattle.kilim_tree_move.specs.Moved.{IsTooLarge, tree_heap}
 use Rattle.kilim_tree_move.specs.Shaping.{Suits}

@@ -1,6 +1,6 @@
 use Rattle.std.proofs.Common.{ℕ, ◌+◌, ◌<◌, ◌++◌, ◌∷◌, [], List, ap, drop, subst, sym, ◌∙◌}
 use Rattle.kilim_bytecode.specs.Code.{Placed}
-use Rattle.kilim_opcodes.specs.declared.instr.RawInstr.{RawInstr}
+use Rattle.kilim_bytecode.specs.declared.opcodes.instr.RawInstr.{RawInstr}
 use Rattle.kilim_code_builder.specs.declared.label.Label.{Label}
 use Rattle.kilim_code_builder.specs.Building.{code_limit, end_from, laid_from, place_among, step_len}
 use Rattle.kilim_code_builder.proofs.Places.{end_on, laid_on, within}

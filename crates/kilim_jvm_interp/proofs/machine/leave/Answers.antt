@@ -1,6 +1,6 @@
 use Rattle.std.proofs.Common.{◌∙◌, sym, ap, refl, List, ◌∷◌, None, map}
-use Rattle.kilim_frames.specs.declared.frame.Frame.{Frame}
-use Rattle.kilim_frames.specs.Calls.{activation}
+use Rattle.kilim_machine_parts.specs.declared.frames.frame.Frame.{Frame}
+use Rattle.kilim_machine_parts.specs.frames.Calls.{activation}
 use Rattle.kilim_jvm_interp.proofs.Entering.{leaves, ends_all}
 use Rattle.kilim_jvm_interp.proofs.machine.leave.Goals as goal
 

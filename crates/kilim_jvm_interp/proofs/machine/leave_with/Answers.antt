@@ -3,8 +3,8 @@ use Rattle.kilim_classes.specs.declared.value.Value.{Value}
 use Rattle.kilim_program.specs.Does.{narrowed_result}
 use Rattle.kilim_program.specs.Machine.{Activation}
 use Rattle.kilim_program.specs.Moves.{push_result}
-use Rattle.kilim_frames.specs.declared.frame.Frame.{Frame}
-use Rattle.kilim_frames.specs.Calls.{activation}
+use Rattle.kilim_machine_parts.specs.declared.frames.frame.Frame.{Frame}
+use Rattle.kilim_machine_parts.specs.frames.Calls.{activation}
 use Rattle.kilim_rows.specs.Outcome.{returned_by}
 use Rattle.kilim_jvm_interp.proofs.Entering.{leaves, ends_all, returned_is}
 use Rattle.kilim_jvm_interp.proofs.machine.leave_with.Goals as goal

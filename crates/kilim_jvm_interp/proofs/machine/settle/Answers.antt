@@ -3,7 +3,7 @@ use Rattle.kilim_classes.specs.declared.value.Value.{Value}
 use Rattle.kilim_program.specs.Effect as effect
 use Rattle.kilim_program.specs.Effect.{Effect}
 use Rattle.kilim_program.specs.Moves.{move_by}
-use Rattle.kilim_frames.specs.Calls.{activation, below_of}
+use Rattle.kilim_machine_parts.specs.frames.Calls.{activation, below_of}
 use Rattle.kilim_rows.specs.Outcome.{returned_by}
 use Rattle.kilim_jvm_interp.specs.Step.{Steps}
 use Rattle.kilim_jvm_interp.specs.declared.machine.Stepped.{Stepped}

@@ -1,5 +1,5 @@
 use Rattle.std.proofs.Common.{◌≤◌, ◌-◌}
-use Rattle.kilim_frames.specs.Calls.{calls_of}
+use Rattle.kilim_machine_parts.specs.frames.Calls.{calls_of}
 use Rattle.kilim_jvm_interp.specs.Step.{AreRoomy}
 use Rattle.kilim_marked_runs.specs.Counted.{CountedRunsTo}
 use Rattle.kilim_marked_runs.proofs.runs.run_counted.Given as goal

@@ -1,6 +1,6 @@
 use Rattle.std.proofs.Common.{◌∙◌, refl, sym, ap, arith}
 use Rattle.kilim_classes.specs.Names.{method_at}
-use Rattle.kilim_frames.specs.Calls.{activation, below_of, calls_of}
+use Rattle.kilim_machine_parts.specs.frames.Calls.{activation, below_of, calls_of}
 use Rattle.kilim_woven_runs.specs.Fibers.{marks_of}
 use Rattle.kilim_marked_runs.specs.Counted.{AtFirst}
 use Rattle.kilim_marked_runs.specs.Legs.{Does}

@@ -1,6 +1,6 @@
 use Rattle.std.proofs.Common.{◌≡◌, ◌≤◌, ◌-◌, Some}
 use Rattle.kilim_classes.specs.Names.{method_at}
-use Rattle.kilim_frames.specs.Calls.{calls_of}
+use Rattle.kilim_machine_parts.specs.frames.Calls.{calls_of}
 use Rattle.kilim_jvm_interp.specs.Step.{AreRoomy}
 use Rattle.kilim_woven_runs.specs.Fibers.{marks_of}
 use Rattle.kilim_marked_runs.specs.Counted.{CountedRunsTo}

@@ -2,7 +2,7 @@ use Rattle.std.proofs.Common.{◌++◌, List, [], Option, ap, ◌∙◌}
 use Rattle.std.specs.List.{cons_option, filter_map}
 use Rattle.kilim_attributes.specs.declared.attribute.Attribute.{Attribute}
 use Rattle.kilim_attributes.specs.declared.attribute.Info.{Info}
-use Rattle.kilim_woven_file_laws.specs.form.WovenFile.{attribute_with, woven_attribute}
+use Rattle.kilim_woven_sizes.specs.file_laws.form.WovenFile.{attribute_with, woven_attribute}
 use Rattle.kilim_weave_file.proofs.Lists.{filter_map_last}
 use Rattle.kilim_weave_file.proofs.members.woven_attributes.Goals as goal
 

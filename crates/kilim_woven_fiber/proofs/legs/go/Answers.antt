@@ -1,5 +1,5 @@
 use Rattle.std.proofs.Common.{◌+◌, ◌-◌, Bool, Option, Some, not, sym, ap, subst}
-use Rattle.kilim_frames.specs.declared.frames.Frames.{Frames}
+use Rattle.kilim_machine_parts.specs.declared.frames.frames.Frames.{Frames}
 use Rattle.kilim_marked_runs.specs.Counted.{HasCountedRun, IsCountedSafe}
 use Rattle.kilim_woven_fiber.specs.Body.{calls_in, standing_at}
 use Rattle.kilim_woven_fiber.specs.Legs.{HasGone}

@@ -1,5 +1,5 @@
 use Rattle.std.proofs.Common.{◌≡◌, drop}
-use Rattle.kilim_woven_file_laws.specs.form.Sizes.{class_longest}
+use Rattle.kilim_woven_sizes.specs.file_laws.form.Sizes.{class_longest}
 use Rattle.kilim_woven_sizes.proofs.sizes.class_longest.Given as goal
 
 abbrev pub invariant-loop-class : goal.invariant-loop-class

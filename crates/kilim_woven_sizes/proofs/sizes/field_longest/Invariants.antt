@@ -1,5 +1,5 @@
 use Rattle.std.proofs.Common.{◌≡◌, drop}
-use Rattle.kilim_woven_file_laws.specs.form.Sizes.{field_longest}
+use Rattle.kilim_woven_sizes.specs.file_laws.form.Sizes.{field_longest}
 use Rattle.kilim_woven_sizes.proofs.sizes.field_longest.Given as goal
 
 abbrev pub invariant-loop-field : goal.invariant-loop-field

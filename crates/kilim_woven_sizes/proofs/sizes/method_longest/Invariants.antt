@@ -1,5 +1,5 @@
 use Rattle.std.proofs.Common.{◌≡◌, drop}
-use Rattle.kilim_woven_file_laws.specs.form.Sizes.{method_longest}
+use Rattle.kilim_woven_sizes.specs.file_laws.form.Sizes.{method_longest}
 use Rattle.kilim_woven_sizes.proofs.sizes.method_longest.Given as goal
 
 abbrev pub invariant-loop-method : goal.invariant-loop-method

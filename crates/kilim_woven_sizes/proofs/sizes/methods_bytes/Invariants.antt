@@ -1,7 +1,7 @@
 use Rattle.std.proofs.Common.{◌≡◌, ◌+◌, drop}
 use Rattle.std.specs.Prelude.{sum_by}
-use Rattle.kilim_woven_file_laws.specs.form.Sizes.{method_bytes}
-use Rattle.kilim_woven_file_laws.specs.form.WovenFile.{pairs_of}
+use Rattle.kilim_woven_sizes.specs.file_laws.form.Sizes.{method_bytes}
+use Rattle.kilim_woven_sizes.specs.file_laws.form.WovenFile.{pairs_of}
 use Rattle.kilim_woven_sizes.proofs.sizes.methods_bytes.Given as goal
 
 abbrev pub invariant-loop-info : goal.invariant-loop-info

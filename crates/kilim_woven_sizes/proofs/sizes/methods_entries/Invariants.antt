@@ -1,6 +1,6 @@
 use Rattle.std.proofs.Common.{◌≡◌, ◌+◌, drop}
-use Rattle.kilim_woven_file_laws.specs.form.Sizes.{methods_entries}
-use Rattle.kilim_woven_file_laws.specs.form.WovenFile.{pairs_of}
+use Rattle.kilim_woven_sizes.specs.file_laws.form.Sizes.{methods_entries}
+use Rattle.kilim_woven_sizes.specs.file_laws.form.WovenFile.{pairs_of}
 use Rattle.kilim_woven_sizes.proofs.sizes.methods_entries.Given as goal
 
 abbrev pub invariant-loop-info : goal.invariant-loop-info

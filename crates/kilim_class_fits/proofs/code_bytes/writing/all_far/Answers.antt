@@ -2,7 +2,7 @@ use Rattle.std.proofs.Common.{pos, get_or, add-one, rules}
 use Rattle.std.specs.Prelude.{FitsSigned}
 use Rattle.std.specs.Int.{w32, w64}
 use Rattle.std.proofs.lemmas.Int.{to_z-of_z}
-use Rattle.kilim_opcodes.specs.Instr.{TargetFits}
+use Rattle.kilim_bytecode.specs.opcodes.Instr.{TargetFits}
 use Rattle.kilim_class_fits.proofs.code_bytes.Lists.{all_from}
 use Rattle.kilim_class_fits.proofs.code_bytes.writing.all_far.Goals as goal
 

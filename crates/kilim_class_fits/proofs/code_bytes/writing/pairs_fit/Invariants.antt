@@ -1,5 +1,5 @@
 use Rattle.std.proofs.Common.{drop, None}
-use Rattle.kilim_opcodes.specs.Instr.{PairsFit}
+use Rattle.kilim_bytecode.specs.opcodes.Instr.{PairsFit}
 use Rattle.kilim_class_fits.proofs.code_bytes.writing.pairs_fit.Given as goal
 
 abbrev pub invariant-loop-at : goal.invariant-loop-at

@@ -1,9 +1,0 @@
-//! One instruction of a frame. Calls and returns are told: the frames of the task are left to the caller.
-#![tactic(auto)]
-
-mod calls;
-mod making;
-mod table;
-
-pub use making::new_object;
-pub use table::act;

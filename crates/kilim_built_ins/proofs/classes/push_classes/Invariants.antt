@@ -1,7 +1,0 @@
-use Rattle.std.proofs.Common.{◌≡◌, ◌++◌, map, take, Some}
-use Rattle.kilim_classes.specs.BuiltIn.{class_id}
-use Rattle.kilim_built_ins.specs.Rows.{class_of}
-use Rattle.kilim_built_ins.proofs.classes.push_classes.Given as goal
-
-abbrev pub invariant-loop-row : goal.invariant-loop-row
-invariant-loop-row l = l.classes ≡ l.fn.classes ++ map (class_of (Some (class_id l.first)) l.method) (take l.row-index l.rows)

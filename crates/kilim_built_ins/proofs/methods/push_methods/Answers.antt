@@ -1,7 +1,0 @@
-use Rattle.kilim_built_ins.specs.Rows.{method_of}
-use Rattle.kilim_built_ins.proofs.Loops.{mapped}
-use Rattle.kilim_built_ins.proofs.methods.push_methods.Goals as goal
-
-pub loop-row-preserved : goal.loop-row-preserved
-loop-row-preserved c =
-    mapped (method_of c.args.form c.args.first) c.args.methods.now c.loop-row.methods c.push.new.self c.args.rows.now c.loop-row.row-index _ c.in_ok-method_of.field-0 c.loop-row-test.true c.loop-row.invariant c.in_ok-method_of.ensures c.in_ok-push.ensures.ok

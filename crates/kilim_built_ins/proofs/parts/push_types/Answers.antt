@@ -1,7 +1,0 @@
-use Rattle.kilim_built_ins.specs.Rows.{type_of}
-use Rattle.kilim_built_ins.proofs.Loops.{mapped}
-use Rattle.kilim_built_ins.proofs.parts.push_types.Goals as goal
-
-pub loop-kind-preserved : goal.loop-kind-preserved
-loop-kind-preserved c =
-    mapped (type_of c.args.first) c.args.types.now.items c.loop-kind.types.items c.push.new.self.items c.args.kinds.now c.loop-kind.kind-index _ c.type_of.result c.loop-kind-test.true c.loop-kind.invariant c.type_of.ensures c.in_ok-push.ensures.items

@@ -1,5 +1,0 @@
-use Rattle.kilim_built_ins.proofs.Loops.{copied}
-use Rattle.kilim_built_ins.proofs.parts.text.Goals as goal
-
-pub loop-byte-preserved : goal.loop-byte-preserved
-loop-byte-preserved c = copied c.loop-byte.units.items c.push.new.self.items c.args.ascii.now c.loop-byte.byte-index _ c.from.result c.loop-byte-test.true c.loop-byte.invariant c.from.ensures c.in_ok-push.ensures.items

@@ -1,0 +1,60 @@
+-- Bytes that are added piece by piece.
+use Rattle.std.proofs.Common.{◌≡◌, ℕ, zero, suc, ◌+◌, ◌<◌, ℤ, Option, Some, Result, Ok, Err, List, [], ◌∷◌, ◌++◌, length, take, drop, get_or, sym, ap, ◌∙◌, append_assoc, add-one, arith}
+use Rattle.std.specs.Prelude.{OnOk, OnErr}
+use Rattle.std.specs.Io.{StartsWith}
+use Rattle.std.specs.Int.{w32}
+use Rattle.std.specs.List.{flat_map, AllByRecursion}
+use Rattle.std.proofs.Math.Seq.{take-append_seam, take-length}
+use Rattle.std.proofs.lemmas.List.{append-nil, take-append-drop}
+use Rattle.kilim_bytecode.specs.opcodes.Instr.{TargetFits, PairsFit}
+
+pub joined : (old mid new x y : List ℕ) → mid ≡ old ++ x → new ≡ mid ++ y → new ≡ old ++ (x ++ y)
+joined old mid new x y e f = f ∙ (ap (λ (m : List ℕ). m ++ y) e ∙ append_assoc old x y)
+
+pub still : (old new : List ℕ) → new ≡ old → StartsWith new old
+still old new e = rw e (take-length old)
+
+pub begun : (old new x : List ℕ) → new ≡ old ++ x → StartsWith new old
+begun old new x e = rw e (take-append_seam old x)
+
+pub begun_more : (old mid new x : List ℕ) → mid ≡ old ++ x → StartsWith new mid → StartsWith new old
+begun_more old mid new x e h =
+    begun old new (x ++ drop (length mid) new)
+    (sym (take-append-drop (length mid) new) ∙ (ap (λ (front : List ℕ). front ++ drop (length mid) new) (h ∙ e) ∙ append_assoc old x (drop (length mid) new)))
+
+pub on_err : {T E : Type 0} {P : Type 0} (r : Result T E) → P → OnErr r P
+on_err (Ok v) h = tt
+on_err (Err v) h = h
+
+pub on_joined : {T E : Type 0} (r : Result T E) (old mid new x y : List ℕ) → mid ≡ old ++ x → OnOk r (new ≡ mid ++ y) → OnOk r (new ≡ old ++ (x ++ y))
+on_joined (Ok v) old mid new x y e h = joined old mid new x y e h
+on_joined (Err v) old mid new x y e h = tt
+
+pub on_begun : {T E : Type 0} (r : Result T E) (old mid new x : List ℕ) → mid ≡ old ++ x → OnErr r (StartsWith new mid) → OnErr r (StartsWith new old)
+on_begun (Ok v) old mid new x e h = tt
+on_begun (Err v) old mid new x e h = begun_more old mid new x e h
+
+pub on_stayed : {T E : Type 0} (r : Result T E) (old mid new x : List ℕ) → mid ≡ old ++ x → OnErr r (new ≡ mid) → OnErr r (StartsWith new old)
+on_stayed (Ok v) old mid new x e h = tt
+on_stayed (Err v) old mid new x e h = begun old new x (h ∙ e)
+
+pub target_fits : (at : ℕ) (targets : List ℤ) (i : ℕ) (d : ℤ) → AllByRecursion (TargetFits w32 at) targets → i < length targets → TargetFits w32 at (get_or targets i d)
+target_fits at [] i d all lt = absurd (omega arith)
+target_fits at (to ∷ targets) zero d all lt = all.0
+target_fits at (to ∷ targets) (suc i) d all lt = target_fits at targets i d all.1 (omega arith)
+
+pub pair_fits : (at : ℕ) (least : Option ℤ) (pairs : List (ℤ × ℤ)) (i : ℕ) (d : ℤ × ℤ) → PairsFit at least pairs → i < length pairs → TargetFits w32 at (get_or pairs i d).1
+pair_fits at least [] i d all lt = absurd (omega arith)
+pair_fits at least (pair ∷ pairs) zero d all lt = all.0.2
+pair_fits at least (pair ∷ pairs) (suc i) d all lt = pair_fits at (Some pair.0) pairs i d all.1 (omega arith)
+
+-- the texts of so many values, and that of one more
+flat_map_next : {A : Type 0} (f : A → List ℕ) (xs : List A) (i : ℕ) (d : A) → i < length xs → flat_map f (take i xs) ++ f (get_or xs i d) ≡ flat_map f (take (suc i) xs)
+flat_map_next f [] i d lt = absurd (omega arith)
+flat_map_next f (x ∷ xs) zero d lt = sym (append-nil (f x))
+flat_map_next f (x ∷ xs) (suc i) d lt =
+    append_assoc (f x) (flat_map f (take i xs)) (f (get_or xs i d)) ∙ ap (λ (more : List ℕ). f x ++ more) (flat_map_next f xs i d (omega arith))
+
+pub one_more : {A : Type 0} (f : A → List ℕ) (xs : List A) (i : ℕ) (d : A) (old mid new : List ℕ) → i < length xs → mid ≡ old ++ flat_map f (take i xs) → new ≡ mid ++ f (get_or xs i d) → new ≡ old ++ flat_map f (take (i + 1) xs)
+one_more f xs i d old mid new lt e h =
+    rw add-one (joined old mid new (flat_map f (take i xs)) (f (get_or xs i d)) e h ∙ ap (λ (texts : List ℕ). old ++ texts) (flat_map_next f xs i d lt))

@@ -1,0 +1,40 @@
+//! Why bytes aren't an instruction.
+
+ghost use Rattle.std.specs.Prelude.{◌≡◌};
+
+use std::alloc::{AllocError, AllocFailed};
+
+/// Why no instruction begins at a place. The fault is that of the first part that isn't spelled: a part is cut
+/// where the code ends inside it, and else it is left out or unknown.
+#[derive(Clone, Copy)]
+pub enum OpFault {
+    /// No instruction has this number (202 to 255), or the operands of the instruction with this number are none
+    /// that it takes.
+    Unknown(u8),
+    /// The code ends inside the instruction.
+    Cut,
+    /// The standard has an instruction of this number, or with these operands, and this project leaves it out.
+    LeftOut(u8),
+    /// Want of memory.
+    Memory,
+}
+
+impl From<AllocError> for OpFault {
+    ghost use Rattle.kilim_bytecode.specs.declared.opcodes.fault.OpFault.TheVariants as fault;
+
+    ghost from_gives = { λ _ e. e ≡ fault.Memory };
+
+    fn from(_: AllocError) -> OpFault {
+        OpFault::Memory
+    }
+}
+
+impl<T: Drop> From<AllocFailed<T>> for OpFault {
+    ghost use Rattle.kilim_bytecode.specs.declared.opcodes.fault.OpFault.TheVariants as fault;
+
+    ghost from_gives = { λ _ e. e ≡ fault.Memory };
+
+    fn from(_: AllocFailed<T>) -> OpFault {
+        OpFault::Memory
+    }
+}

@@ -1,6 +1,0 @@
-use Rattle.std.proofs.Common.{◌≡◌}
-use Rattle.kilim_program.specs.Moves.{slots_of}
-use Rattle.kilim_frames.proofs.frame.laid.Given as goal
-
-abbrev pub invariant-loop-value : goal.invariant-loop-value
-invariant-loop-value l = l.items.items ≡ slots_of l.yielded

@@ -1,0 +1,43 @@
+-- The fields of a new object, one after the other.
+use Rattle.std.proofs.lemmas.List.{map-append}
+use Rattle.std.proofs.lemmas.List.Elements.{filter-append}
+use Rattle.std.proofs.Common.{◌≡◌, cond, arith, subst, ◌∙◌, sym, ap, refl, append_assoc, Bool, true, false, not, List, [], ◌∷◌, ◌++◌, Option, Some, None, filter, map}
+use Rattle.kilim_classes.specs.declared.names.FieldId.{FieldId}
+use Rattle.kilim_classes.specs.declared.ty.Ty.{Ty}
+use Rattle.kilim_classes.specs.declared.value.Value.{Value}
+use Rattle.kilim_classes.specs.Program.{Program}
+use Rattle.kilim_program.specs.Members.{is_instance_field}
+use Rattle.kilim_program.specs.Objects.{first_field, first_value}
+use Rattle.kilim_classes.specs.declared.class.Field.{Field}
+use Rattle.kilim_classes.specs.declared.value.Value.TheVariants.{Null}
+use Rattle.kilim_classes.specs.Names.{field_of}
+use Rattle.kilim_jvm_interp.specs.instruction.Making.{type_in, instance_type, first_fields}
+
+passed_by : (o : Option Field) → type_in o ≡ None → elim o [ None ↦ false | Some field ↦ not field.is_static ] ≡ false
+passed_by None none = refl
+passed_by (Some field) none = by field.is_static none
+  where
+    by : (b : Bool) → cond b None (Some field.ty) ≡ None → not b ≡ false
+    by true e = refl
+    by false e = absurd (cc)
+
+taken_by : (o : Option Field) (ty : Ty) → type_in o ≡ Some ty → (elim o [ None ↦ false | Some field ↦ not field.is_static ] ≡ true) × (elim o [ None ↦ Null | Some field ↦ first_value field.ty ] ≡ first_value ty)
+taken_by None ty some = absurd (cc)
+taken_by (Some field) ty some = by field.is_static some
+  where
+    by : (b : Bool) → cond b None (Some field.ty) ≡ Some ty → (not b ≡ true) × (first_value field.ty ≡ first_value ty)
+    by true e = absurd (cc)
+    by false e = let same : field.ty ≡ ty = grind (arith, e) in let P : Ty → Type 0 = λ t. first_value field.ty ≡ first_value t in (refl, subst P same refl)
+
+pub field_passed : (p : Program) (done : List (FieldId × Value)) (f : FieldId) (fs : List FieldId) → instance_type p f ≡ None → done ++ first_fields p fs ≡ done ++ first_fields p (f ∷ fs)
+field_passed p done f fs none = rw (passed_by (field_of p f) none)
+
+pub field_taken : (p : Program) (done : List (FieldId × Value)) (f : FieldId) (fs : List FieldId) (ty : Ty) → instance_type p f ≡ Some ty → (done ++ (f, first_value ty) ∷ []) ++ first_fields p fs ≡ done ++ first_fields p (f ∷ fs)
+field_taken p done f fs ty some = let t = taken_by (field_of p f) ty some in rw (t.0, t.1) (append_assoc done ((f, first_value ty) ∷ []) (first_fields p fs))
+
+-- those of two lists, one behind the other
+pub fields_joined : (p : Program) (fs gs : List FieldId) → first_fields p (fs ++ gs) ≡ first_fields p fs ++ first_fields p gs
+fields_joined p fs gs = ap (λ (t : List FieldId). map (first_field p) t) (filter-append (is_instance_field p) fs gs) ∙ map-append (first_field p) (filter (is_instance_field p) fs) (filter (is_instance_field p) gs)
+
+pub class_taken : (p : Program) (done : List (FieldId × Value)) (fs gs : List FieldId) → (done ++ first_fields p fs) ++ first_fields p gs ≡ done ++ first_fields p (fs ++ gs)
+class_taken p done fs gs = append_assoc done (first_fields p fs) (first_fields p gs) ∙ ap (λ (t : List (FieldId × Value)). done ++ t) (sym (fields_joined p fs gs))

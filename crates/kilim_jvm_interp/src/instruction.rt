@@ -1,0 +1,8 @@
+//! One instruction of a frame. Calls and returns are told: the frames of the task are left to the caller.
+
+mod calls;
+mod making;
+mod table;
+
+pub use making::new_object;
+pub use table::act;

@@ -1,0 +1,7 @@
+use Rattle.kilim_link_views.specs.built_ins.Rows.{type_of}
+use Rattle.kilim_link_views.proofs.built_ins.Loops.{mapped}
+use Rattle.kilim_link_views.proofs.built_ins.parts.push_types.Goals as goal
+
+pub loop-kind-preserved : goal.loop-kind-preserved
+loop-kind-preserved c =
+    mapped (type_of c.args.first) c.args.types.now.items c.loop-kind.types.items c.push.new.self.items c.args.kinds.now c.loop-kind.kind-index _ c.type_of.result c.loop-kind-test.true c.loop-kind.invariant c.type_of.ensures c.in_ok-push.ensures.items

@@ -1,0 +1,5 @@
+use Rattle.kilim_link_views.proofs.built_ins.Loops.{copied}
+use Rattle.kilim_link_views.proofs.built_ins.parts.text.Goals as goal
+
+pub loop-byte-preserved : goal.loop-byte-preserved
+loop-byte-preserved c = copied c.loop-byte.units.items c.push.new.self.items c.args.ascii.now c.loop-byte.byte-index _ c.from.result c.loop-byte-test.true c.loop-byte.invariant c.from.ensures c.in_ok-push.ensures.items

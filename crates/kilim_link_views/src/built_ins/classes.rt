@@ -1,0 +1,92 @@
+//! The classes.
+
+ghost use Rattle.std.specs.Prelude.{◌≡◌, ◌<◌, ◌^◌, ℕ, ◌++◌, map, Some, OnOk, IfOk};
+ghost use Rattle.kilim_classes.specs.BuiltIn.{class_id, methods_from, fiber_classes, built_in_classes_in};
+ghost use Rattle.kilim_link_views.specs.built_ins.Rows.{class_of};
+
+use crate::built_ins::parts::text;
+use crate::built_ins::rows::{CLASSES, ClassRow, FIBER_CLASSES, OBJECT_CLASS};
+use kilim_classes::{Class, ClassId, Form, MethodId};
+use kilim_units::{NoMemory, Seq};
+use std::alloc::Global;
+
+// The methods at these distances from a first one.
+#[tactic(auto, using(crate::proofs::built_ins::Distances::from_more))]
+fn methods_from(alloc: Global, first: u32, distances: &[u8]) -> Result<Seq<MethodId>, NoMemory>
+    requires { first < 2 ^ 31 }
+    ensures { IfOk result (λ ids. ids ≡ methods_from first distances.now) }
+{
+    let mut ids = Seq::new(alloc);
+    for distance in distances {
+        ids.push(MethodId(first + u32::from(*distance)))?;
+    }
+    Ok(ids)
+}
+
+// A class without fields.
+fn built_in_class(
+    alloc: Global,
+    superclass: Option<ClassId>,
+    method: u32,
+    row: &ClassRow,
+) -> Result<Class, NoMemory>
+    requires { method < 2 ^ 31 }
+    ensures { IfOk result (λ class. class ≡ class_of superclass method row.now) }
+{
+    let name = text(alloc, row.name)?;
+    let methods = methods_from(alloc, method, row.methods)?;
+    Ok(Class {
+        name,
+        superclass,
+        is_abstract: false,
+        message: row.message,
+        fields: Seq::new(alloc),
+        methods,
+    })
+}
+
+// `kilim/Fiber`, in woven form alone.
+fn fiber_classes(form: Form) -> &'static [ClassRow<'static>]
+    ensures { (first method : ℕ) → map (class_of (Some (class_id first)) method) result.now ≡ fiber_classes form first method }
+{
+    match form {
+        Form::Plain => &[],
+        Form::Woven => FIBER_CLASSES,
+    }
+}
+
+// Appends classes that have `java/lang/Object` as their superclass.
+fn push_classes(
+    alloc: Global,
+    classes: &mut Seq<Class>,
+    first: u32,
+    method: u32,
+    rows: &[ClassRow],
+) -> Result<(), NoMemory>
+    requires { method < 2 ^ 31 }
+    ensures { OnOk result (classes.new ≡ classes.old ++ map (class_of (Some (class_id first)) method) rows.now) }
+{
+    for row in rows {
+        classes.push(built_in_class(alloc, Some(ClassId(first)), method, row)?)?;
+    }
+    Ok(())
+}
+
+/// The built-in classes of a form, in their order (own). The first of them and the first of their methods have these
+/// numbers. Takes memory and time for so many.
+pub fn built_in_classes(
+    alloc: Global,
+    form: Form,
+    first: u32,
+    method: u32,
+) -> Result<Seq<Class>, NoMemory>
+    requires first { first < 2 ^ 31 }
+    requires method { method < 2 ^ 31 }
+    ensures { IfOk result (λ classes. classes ≡ built_in_classes_in form first method) }
+{
+    let mut classes = Seq::new(alloc);
+    classes.push(built_in_class(alloc, None, method, &OBJECT_CLASS)?)?;
+    push_classes(alloc, &mut classes, first, method, CLASSES)?;
+    push_classes(alloc, &mut classes, first, method, fiber_classes(form))?;
+    Ok(classes)
+}

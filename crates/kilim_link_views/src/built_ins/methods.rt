@@ -1,0 +1,117 @@
+//! The methods, class by class.
+
+ghost use Rattle.std.specs.Prelude.{◌≡◌, ◌<◌, ◌^◌, ℕ, ◌++◌, map, OnOk, IfOk};
+ghost use Rattle.kilim_classes.specs.BuiltIn.{built_in_methods_in, fiber_methods};
+ghost use Rattle.kilim_link_views.specs.built_ins.Rows.{params_of, marks_of, fiber_kinds, fiber_marks, method_of};
+
+use crate::built_ins::parts::{gives_of, push_types, text};
+use crate::built_ins::rows::{FIBER_METHODS, Kind, METHODS, MethodRow};
+use kilim_classes::{ClassId, Form, Method, Qualifier, Ty};
+use kilim_units::{NoMemory, Seq};
+use std::alloc::Global;
+
+// The kind of the fiber, where a method takes it.
+fn fiber_kinds(form: Form, pausable: bool) -> &'static [Kind]
+    ensures { result.now ≡ fiber_kinds form pausable }
+{
+    match form {
+        Form::Woven if pausable => &[Kind::Object(7)],
+        _ => &[],
+    }
+}
+
+// Its qualifier.
+fn fiber_marks(form: Form, pausable: bool) -> &'static [Qualifier]
+    ensures { result.now ≡ fiber_marks form pausable }
+{
+    match form {
+        Form::Woven if pausable => &[Qualifier::Safe],
+        _ => &[],
+    }
+}
+
+fn params_of(alloc: Global, form: Form, first: u32, row: &MethodRow) -> Result<Seq<Ty>, NoMemory>
+    requires { first < 2 ^ 31 }
+    ensures { IfOk result (λ params. params ≡ params_of form first row.now) }
+{
+    let mut params = Vec::new(alloc);
+    push_types(&mut params, first, row.params)?;
+    push_types(&mut params, first, fiber_kinds(form, row.pausable))?;
+    Ok(Seq::from_vec(params))
+}
+
+fn marks_of(alloc: Global, form: Form, row: &MethodRow) -> Result<Seq<Qualifier>, NoMemory>
+    ensures { IfOk result (λ marks. marks ≡ marks_of form row.now) }
+{
+    let mut marks = Vec::from_slice(alloc, row.qualifiers)?;
+    marks.extend_from_slice(fiber_marks(form, row.pausable))?;
+    Ok(Seq::from_vec(marks))
+}
+
+// What a method of a built-in class is: it has no code.
+fn method_of(alloc: Global, form: Form, first: u32, row: &MethodRow) -> Result<Method, NoMemory>
+    requires { first < 2 ^ 31 }
+    ensures { IfOk result (λ m. m ≡ method_of form first row.now) }
+{
+    let name = text(alloc, row.name)?;
+    let params = params_of(alloc, form, first, row)?;
+    let qualifiers = marks_of(alloc, form, row)?;
+    Ok(Method {
+        name,
+        owner: ClassId(first + u32::from(row.owner)),
+        params,
+        result: gives_of(first, row.gives),
+        is_static: row.is_static,
+        is_private: false,
+        is_abstract: false,
+        built_in: true,
+        pausable: row.pausable,
+        receiver: row.receiver,
+        qualifiers,
+        max_stack: 0,
+        max_locals: 0,
+        code_length: 0,
+        code: Seq::new(alloc),
+        frames: Seq::new(alloc),
+        handlers: Seq::new(alloc),
+    })
+}
+
+// Appends the methods of some rows.
+fn push_methods(
+    alloc: Global,
+    methods: &mut Seq<Method>,
+    form: Form,
+    first: u32,
+    rows: &[MethodRow],
+) -> Result<(), NoMemory>
+    requires { first < 2 ^ 31 }
+    ensures { OnOk result (methods.new ≡ methods.old ++ map (method_of form first) rows.now) }
+{
+    for row in rows {
+        methods.push(method_of(alloc, form, first, row)?)?;
+    }
+    Ok(())
+}
+
+// Those of `kilim/Fiber`, in woven form alone.
+fn fiber_methods(form: Form) -> &'static [MethodRow<'static>]
+    ensures { (first : ℕ) → map (method_of form first) result.now ≡ fiber_methods form first }
+{
+    match form {
+        Form::Plain => &[],
+        Form::Woven => FIBER_METHODS,
+    }
+}
+
+/// The built-in methods of a form, in the order of their classes (own). The first of the classes has this number.
+/// Takes memory and time for so many.
+pub fn built_in_methods(alloc: Global, form: Form, first: u32) -> Result<Seq<Method>, NoMemory>
+    requires { first < 2 ^ 31 }
+    ensures { IfOk result (λ methods. methods ≡ built_in_methods_in form first) }
+{
+    let mut methods = Seq::new(alloc);
+    push_methods(alloc, &mut methods, form, first, METHODS)?;
+    push_methods(alloc, &mut methods, form, first, fiber_methods(form))?;
+    Ok(methods)
+}

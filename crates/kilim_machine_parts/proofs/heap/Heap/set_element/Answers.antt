@@ -1,0 +1,20 @@
+use Rattle.std.proofs.Common.{ap, List}
+use Rattle.kilim_classes.specs.declared.value.Value.{Value}
+use Rattle.kilim_machine_parts.proofs.Fields.{element_within}
+use Rattle.std.specs.Prelude.{slice_set}
+use Rattle.kilim_program.specs.declared.value.Object.{Object}
+use Rattle.kilim_machine_parts.proofs.Arena.{there_in, found_in}
+use Rattle.kilim_machine_parts.proofs.Fields.{changed_arena, now_changed}
+use Rattle.kilim_machine_parts.proofs.heap.Heap.set_element.Goals as goal
+
+pub exchange-object-requires : goal.exchange-object-requires
+exchange-object-requires c = there_in _ _ _ c.self.view_is c.requires.there
+
+pub invariant_of-self : goal.invariant_of-self
+invariant_of-self c = changed_arena _ _ _ _ _ _ _ _ c.self.invariant c.exchange-object.ensures.object c.exchange-object.ensures.places c.fill.ensures
+
+pub returns : goal.returns
+returns c = now_changed _ _ _ _ _ _ _ (λ (o : Object). record o { elements = slice_set o.elements c.args.index c.args.value }) c.self.view_is c.exchange-object.ensures.object c.exchange-object.ensures.places c.fill.ensures (ap (λ (es : List Value). record c.exchange-object.result { elements = es }) c.set_element_in.ensures)
+
+pub set_element_in-requires : goal.set_element_in-requires
+set_element_in-requires c = element_within c.args.self.now c.args.at c.args.index c.exchange-object.result (found_in _ _ _ _ c.self.view_is c.exchange-object.ensures.object) c.requires.element

@@ -1,0 +1,9 @@
+//! The frames of a task's calls (JVMS 2.6).
+
+mod frame;
+mod frames;
+mod stack;
+
+pub use frame::{Frame, Locals};
+pub use frames::{Callers, Frames};
+pub use stack::Stack;

@@ -1,0 +1,114 @@
+//! A frame: a method, a place in its code, the locals and the operand stack.
+
+ghost use Rattle.std.specs.Prelude.{◌≡◌, ◌<◌, ◌++◌, ◌∷◌, [], length, replicate, slice_get, slice_set, Some, IfOk, OnOk};
+ghost use Rattle.kilim_classes.specs.declared.value.Value.TheVariants.{Null};
+ghost use Rattle.kilim_program.specs.Moves.{slots_of};
+ghost use Rattle.kilim_machine_parts.specs.frames.Stacked.{is_long, begun_with};
+
+use crate::frames::stack::Stack;
+use kilim_classes::{MethodId, Value};
+use std::alloc::{AllocError, Global};
+use std::marker::Model;
+
+/// The local variables of a frame, by slot (JVMS 2.6.1). Contracts see the list of their values.
+#[derive(Drop)]
+pub struct Locals {
+    items: Vec<Value>,
+}
+
+impl Model for Locals {
+    ghost use Rattle.std.specs.Prelude.{List};
+    ghost use Rattle.kilim_classes.specs.declared.value.Value as a_value;
+
+    ghost Value = { List a_value.Value };
+
+    ghost view = { λ s. s.items.items };
+}
+
+impl Locals {
+    /// The value of a slot.
+    #[inline(always)]
+    pub fn get(&self, slot: usize) -> &Value
+        requires { slot < length self.now }
+        ensures { slice_get self.now slot ≡ Some result.now }
+    {
+        &self.items[slot]
+    }
+
+    /// Values as the locals with which a method begins: a long takes two slots, and there are at least so many slots.
+    pub fn of_arguments(
+        alloc: Global,
+        arguments: Vec<Value>,
+        slots: usize,
+    ) -> Result<Locals, AllocError>
+        ensures { IfOk result (λ locals. locals ≡ begun_with arguments.items slots) }
+    {
+        let mut items = laid(alloc, arguments, slots)?;
+        let missing = slots.saturating_sub(items.len());
+        push_nulls(&mut items, missing)?;
+        Ok(Locals { items })
+    }
+
+    /// Puts a value into a slot. Takes no memory.
+    #[inline(always)]
+    pub fn set(&mut self, slot: usize, value: Value)
+        requires { slot < length self.old }
+        ensures { self.new ≡ slice_set self.old slot value }
+    {
+        self.items[slot] = value;
+    }
+}
+
+/// A frame of the machine (JVMS 2.6).
+#[derive(Drop)]
+pub struct Frame {
+    pub method: MethodId,
+    /// The place of the next instruction; in a frame below another one, that of its call.
+    pub pc: u32,
+    pub locals: Locals,
+    pub stack: Stack,
+}
+
+// Values in their slots, with room for so many.
+#[tactic(auto, using(crate::proofs::frames::Slots::slots_append))]
+fn laid(alloc: Global, arguments: Vec<Value>, slots: usize) -> Result<Vec<Value>, AllocError>
+    ensures { IfOk result (λ items. items.items ≡ slots_of arguments.items) }
+{
+    let mut items = Vec::new(alloc);
+    items.reserve(slots)?;
+    for value in arguments {
+        push_slots(&mut items, value)?;
+    }
+    Ok(items)
+}
+
+fn push_nulls(items: &mut Vec<Value>, count: usize) -> Result<(), AllocError>
+    ensures { OnOk result (items.new.items ≡ items.old.items ++ replicate count Null) }
+{
+    for _ in 0..count {
+        items.push(Value::Null)?;
+    }
+    Ok(())
+}
+
+// A long takes two slots.
+#[tactic(auto, using(crate::proofs::frames::Slots::slots_of_long, crate::proofs::frames::Slots::slots_of_other))]
+fn push_slots(items: &mut Vec<Value>, value: Value) -> Result<(), AllocError>
+    ensures { OnOk result (items.new.items ≡ items.old.items ++ slots_of (value ∷ [])) }
+{
+    let wide = is_long(&value);
+    items.push(value)?;
+    if wide {
+        items.push(Value::Null)?;
+    }
+    Ok(())
+}
+
+fn is_long(value: &Value) -> bool
+    ensures { result ≡ is_long value.now }
+{
+    match value {
+        Value::Long(_) => true,
+        _ => false,
+    }
+}

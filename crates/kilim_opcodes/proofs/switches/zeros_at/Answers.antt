@@ -1,7 +1,0 @@
-use Rattle.kilim_opcodes.specs.Reading.{zeros_at}
-use Rattle.kilim_opcodes.proofs.SwitchLoops.{zero_more}
-use Rattle.kilim_opcodes.proofs.switches.zeros_at.Goals as goal
-
-pub loop-preserved : goal.loop-preserved
-loop-preserved c =
-    zero_more c.args.op c.args.count c.loop.counter c.loop.rest.now c.in_ok-zero.zero c.in_ok-zero.after.now (zeros_at c.args.op c.args.count c.args.bytes.now) c.loop-test.true c.in_ok-zero.ensures c.if-zero-ne0.false c.loop.invariant

@@ -1,5 +1,0 @@
-use Rattle.kilim_record_fiber.proofs.Answered.{goes}
-use Rattle.kilim_record_fiber.proofs.fiber.Fiber.answer.Goals as goal
-
-pub returns-clause-goes : goal.returns-clause-goes
-returns-clause-goes c = goes c.args.code.now c.args.answer c.args.self.now _ c.answered.new.self c.answered.result _ c.replace-asked.ensures.value c.answered.ensures

@@ -1,9 +1,0 @@
-use Rattle.std.proofs.Common.{Some, ap}
-use Rattle.kilim_fibers.specs.Wishes.{ToStart}
-use Rattle.kilim_record_fiber.proofs.Beginning.{wants_start}
-use Rattle.kilim_record_fiber.proofs.fiber.wanted.Goals as goal
-
-pub returns-in_ok-fiber-in-Starts : goal.returns-in_ok-fiber-in-Starts
-returns-in_ok-fiber-in-Starts c =
-    wants_start c.args.program.now c.args.main c.args.came c.in-Starts.tree c.in-Starts.shape c.in_ok-fiber-in-Starts.shape c.in_ok-fiber-in-Starts.fiber _ c.in-Starts.is c.in_ok-fiber-in-Starts.ensures.shape
-    (ap (λ z. Some (ToStart z)) c.of-kept-in-Starts.ensures) c.in_ok-fiber-in-Starts.ensures.fiber

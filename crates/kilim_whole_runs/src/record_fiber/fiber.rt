@@ -1,0 +1,437 @@
+//! A fiber.
+
+ghost use Rattle.std.specs.Prelude.{◌≡◌, ◌<◌, ◌≤◌, ◌+◌, ◌^◌, true, false, Some, None, ℕ, IfOk, OnOk};
+ghost use Rattle.kilim_classes.specs.declared.value.Value.TheVariants as a_value;
+ghost use Rattle.kilim_thread_model.specs.State.{Setting};
+ghost use Rattle.std.specs.Prelude.{List, [], Option};
+ghost use Rattle.kilim_thread_model.specs.declared.deed.Beginning.TheVariants.{Boot};
+ghost use Rattle.kilim_thread_model.specs.declared.deed.Deed.{Deed};
+ghost use Rattle.kilim_fibers.specs.Fibers.{Asks, CanAnswer, CanRun, Fits, IsNewCourse, StandsFor};
+ghost use Rattle.kilim_weaving_laws.specs.woven_kin.Nexts.{counted, with_result};
+ghost use Rattle.kilim_woven_fiber.specs.Body.{behind_at, RoomyIn, RoomIn, HasFrames};
+ghost use Rattle.std.specs.List.{AllByRecursion};
+ghost use Rattle.kilim_fibers.specs.Wishes.{ToEnd, Wish, end_wish};
+ghost use Rattle.kilim_fibers.specs.declared.Wants.TheVariants as wants;
+ghost use Rattle.kilim_tree_move.specs.Shaping.{Suits};
+ghost use Rattle.kilim_whole_runs.specs.record_fiber.Past.{deed_of};
+ghost use Rattle.kilim_whole_runs.specs.record_fiber.Fiber.{task_of, course_of, HoldsFiber, AskedOf, ServesCode, CameTo};
+ghost use Rattle.kilim_whole_runs.specs.record_fiber.Records.{records_of, NoFrameIsLeft};
+ghost use Rattle.kilim_whole_runs.specs.record_fiber.Clauses.{Resumes, RestsInRecords, Went};
+ghost use Rattle.kilim_whole_runs.specs.record_fiber.Calls.{IsNew, IsBegun, EndsIdle, RestsAt, HasWanted, MayAsk, asks_by, is_rest, WantsBy, Passed, Taken, Found, Refused, Answered, AnswerSuits, takes_value};
+
+use crate::record_fiber::past::{Did, Past, begun, no_past, note};
+use kilim_classes::{BoxName, ClassId, Program};
+use kilim_fibers::{Answer, Wants};
+use kilim_program::{EndCause, Limits, Shape};
+use kilim_thread_model::Beginning;
+use kilim_tree_move::Tree;
+use kilim_units::NoMemory;
+use kilim_woven_fiber::{
+    Body, Came, Code, begun_body, done, first_body, found, found_none, pause, reach, take,
+};
+use std::alloc::Global;
+use std::snapshot::Snapshot;
+
+/// What waits for an answer.
+#[derive(Drop)]
+pub enum Asked {
+    Nothing,
+    Put(BoxName, Snapshot<Shape>),
+    Take(BoxName),
+    Probe(BoxName),
+    Start(Snapshot<Shape>),
+    Print(Snapshot<Shape>),
+}
+
+/// A task that runs on a heap of its own. It keeps records while it rests.
+#[derive(Drop)]
+pub struct Fiber {
+    alloc: Global,
+    task: u32,
+    main: ClassId,
+    // what it began with, and what it did
+    beginning: Snapshot<Beginning>,
+    past: Snapshot<Past>,
+    body: Body,
+    // its `execute` is built in
+    idle: bool,
+    asked: Asked,
+    // the mailbox of the take that was just answered nothing
+    refused: Option<BoxName>,
+    rests: bool,
+}
+
+// A fiber that has done nothing yet.
+fn new_fiber(alloc: Global, main: ClassId, beginning: Snapshot<Beginning>, body: Body) -> Fiber
+    ensures { IsNew main beginning.value body result }
+{
+    let idle = body.idle;
+    Fiber {
+        alloc,
+        task: 0,
+        main,
+        beginning,
+        past: no_past(),
+        body,
+        idle,
+        asked: Asked::Nothing,
+        refused: None,
+        rests: true,
+    }
+}
+
+// A fiber that begins on the tree of a task object, and the shape that the object has.
+fn begun_fiber(
+    alloc: Global,
+    program: &Program,
+    main: ClassId,
+    tree: Tree,
+    shape: Shape,
+) -> Result<(Fiber, Shape), NoMemory>
+    ensures fiber { IfOk result (λ both. IsBegun program.now main tree shape both.0) }
+    ensures shape { IfOk result (λ both. both.1 ≡ shape) }
+{
+    let body = begun_body(alloc, program, tree)?;
+    let (beginning, shape) = begun(shape);
+    Ok((new_fiber(alloc, main, beginning, body), shape))
+}
+
+// An end. No task ends for want of tasks by itself.
+fn ended(cause: EndCause) -> Result<(Wants<Fiber>, Asked), NoMemory>
+    ensures { IfOk result (λ both. (both.0 ≡ wants.End cause) × (end_wish cause ≡ Some (ToEnd cause))) }
+{
+    match cause {
+        EndCause::Tasks => Err(NoMemory),
+        cause => Ok((Wants::End(cause), Asked::Nothing)),
+    }
+}
+
+// What is wanted by what a body came to, and asked then: nothing where it rests or ends.
+fn wanted(
+    alloc: Global,
+    program: &Program,
+    main: ClassId,
+    came: Came,
+) -> Result<(Wants<Fiber>, Asked), NoMemory>
+    ensures { IfOk result (λ both. WantsBy program.now main came both.0 both.1) }
+{
+    match came {
+        Came::On => Err(NoMemory),
+        Came::Puts(mailbox, tree, shape) => {
+            let kept = Snapshot::of(&shape);
+            Ok((Wants::Put(mailbox, tree, shape), Asked::Put(mailbox, kept)))
+        }
+        Came::Takes(mailbox) => Ok((Wants::Take(mailbox), Asked::Take(mailbox))),
+        Came::Probes(mailbox) => Ok((Wants::Probe(mailbox), Asked::Probe(mailbox))),
+        Came::Starts(tree, shape) => {
+            let (fiber, shape) = begun_fiber(alloc, program, main, tree, shape)?;
+            let kept = Snapshot::of(&shape);
+            Ok((Wants::Start(fiber, shape), Asked::Start(kept)))
+        }
+        Came::Prints(shape) => {
+            let kept = Snapshot::of(&shape);
+            Ok((Wants::Print(shape), Asked::Print(kept)))
+        }
+        Came::Rests => Ok((Wants::Rest(None), Asked::Nothing)),
+        Came::Ends(cause) => ended(cause),
+    }
+}
+
+impl Fiber {
+    // It goes on behind what it asked, and notes the deed.
+    fn pass_on(&mut self, code: &Code, did: Did) -> Result<(), NoMemory>
+        requires frames { HasFrames self.old.body.frames }
+        requires roomy { RoomyIn code.now.program self.old.body.frames }
+        ensures { OnOk result (Passed code.now.program self.old self.new (deed_of did) (counted (behind_at 0 self.old.body))) }
+    {
+        if self.body.count.checked_add(1).is_none() {
+            return Err(NoMemory);
+        }
+        done(&code.program, &mut self.body);
+        note(&mut self.past, did);
+        Ok(())
+    }
+
+    // The same with null.
+    fn pass_none(&mut self, code: &Code, did: Did) -> Result<(), NoMemory>
+        requires roomy { RoomyIn code.now.program self.old.body.frames }
+        requires room { RoomIn code.now.program self.old.body.frames }
+        ensures { OnOk result (Passed code.now.program self.old self.new (deed_of did) (with_result (Some a_value.Null) (counted (behind_at 0 self.old.body)))) }
+    {
+        if self.body.count.checked_add(1).is_none() {
+            return Err(NoMemory);
+        }
+        found_none(&code.program, &mut self.body);
+        note(&mut self.past, did);
+        Ok(())
+    }
+
+    // A message comes to a `get`.
+    fn receive(
+        &mut self,
+        code: &Code,
+        mailbox: BoxName,
+        tree: Tree,
+        number: u64,
+    ) -> Result<(), NoMemory>
+        requires suits { AllByRecursion (Suits code.now.plain) tree }
+        requires roomy { RoomyIn code.now.program self.old.body.frames }
+        requires room { RoomIn code.now.program self.old.body.frames }
+        ensures { OnOk result (Taken code.now.plain code.now.program self.old self.new mailbox tree number) }
+    {
+        if self.body.count.checked_add(1).is_none() {
+            return Err(NoMemory);
+        }
+        let shape = take(self.alloc, &code.plain, &code.program, tree, &mut self.body)?;
+        note(
+            &mut self.past,
+            Did::Take(mailbox, number, Snapshot::of(&shape)),
+        );
+        Ok(())
+    }
+
+    // A message is there where it looked for one.
+    fn find(
+        &mut self,
+        code: &Code,
+        mailbox: BoxName,
+        tree: Tree,
+        number: u64,
+    ) -> Result<(), NoMemory>
+        requires suits { AllByRecursion (Suits code.now.plain) tree }
+        requires roomy { RoomyIn code.now.program self.old.body.frames }
+        requires room { RoomIn code.now.program self.old.body.frames }
+        ensures { OnOk result (Found code.now.plain code.now.program self.old self.new mailbox tree number) }
+    {
+        if self.body.count.checked_add(1).is_none() {
+            return Err(NoMemory);
+        }
+        let shape = found(&code.plain, &code.program, tree, &mut self.body)?;
+        note(
+            &mut self.past,
+            Did::Take(mailbox, number, Snapshot::of(&shape)),
+        );
+        Ok(())
+    }
+
+    // A take is answered nothing: it pauses. No task takes before its first instruction.
+    fn refuse(&mut self, code: &Code, mailbox: BoxName) -> Result<(), NoMemory>
+        requires roomy { RoomyIn code.now.program self.old.body.frames }
+        requires room { RoomIn code.now.program self.old.body.frames }
+        ensures { OnOk result (Refused code.now.program self.old self.new mailbox) }
+    {
+        if self.body.count == 0 {
+            return Err(NoMemory);
+        }
+        pause(self.alloc, &code.program, mailbox, &mut self.body);
+        self.refused = Some(mailbox);
+        Ok(())
+    }
+
+    // The answer to what was asked.
+    fn answered(&mut self, code: &Code, asked: Asked, answer: Answer) -> Result<(), NoMemory>
+        requires frames { HasFrames self.old.body.frames }
+        requires roomy { RoomyIn code.now.program self.old.body.frames }
+        requires room { takes_value asked ≡ true → RoomIn code.now.program self.old.body.frames }
+        requires suits { AnswerSuits code.now.plain answer }
+        ensures { OnOk result (Answered code.now.plain code.now.program asked answer self.old self.new) }
+    {
+        match (asked, answer) {
+            (Asked::Put(mailbox, shape), Answer::Sent(number)) => {
+                self.pass_on(code, Did::Put(mailbox, number, shape))
+            }
+            (Asked::Take(mailbox), Answer::Message(tree, number)) => {
+                self.receive(code, mailbox, tree, number)
+            }
+            (Asked::Take(mailbox), Answer::Nothing) => self.refuse(code, mailbox),
+            (Asked::Probe(mailbox), Answer::Message(tree, number)) => {
+                self.find(code, mailbox, tree, number)
+            }
+            (Asked::Probe(mailbox), Answer::Nothing) => {
+                self.pass_none(code, Did::Empty(mailbox))
+            }
+            (Asked::Start(shape), Answer::Started(number)) => {
+                self.pass_on(code, Did::Start(number, shape))
+            }
+            (Asked::Print(shape), Answer::Done) => self.pass_on(code, Did::Print(shape)),
+            _ => Err(NoMemory),
+        }
+    }
+
+    // Runs up to the next thing that it wants.
+    fn come(&mut self, code: &Code, limits: &Limits) -> Result<Came, NoMemory>
+        requires some { CanRun task_of course_of (HoldsFiber code.now.program code.now.counted) ServesCode code.now limits.now self.old }
+        requires busy { self.old.idle ≡ false }
+        ensures came { (set : Setting) → ServesCode set code.now → set.limits ≡ limits.now → (s : StandsFor task_of course_of (HoldsFiber code.now.program code.now.counted) set self.old) →
+            IfOk result (λ came. CameTo code.now.program code.now.counted set self.old.task (course_of self.old) s.lone self.new.body came) }
+        ensures left { IfOk result (λ came. NoFrameIsLeft came self.new.body) }
+        ensures same { OnOk result (self.new ≡ record self.old { body = self.new.body }) }
+        ensures roomy { OnOk result (RoomyIn code.now.program self.new.body.frames) }
+        ensures counted { OnOk result (self.old.body.count ≤ self.new.body.count) }
+        ensures most { OnOk result (self.new.body.count ≤ limits.now.steps) }
+    {
+        let alloc = self.alloc;
+        let main = self.main;
+        let task = self.task;
+        reach(alloc, code, limits, main, task, &mut self.body)
+    }
+
+    // Its `execute` is built in: its task is over at once.
+    fn end_idle(&mut self, limits: &Limits) -> Result<Wants<Fiber>, NoMemory>
+        ensures { IfOk result (λ w. EndsIdle limits.now self.old self.new w) }
+    {
+        if self.refused.is_some() || self.body.count > limits.steps {
+            return Err(NoMemory);
+        }
+        self.rests = false;
+        if limits.steps == 0 {
+            Ok(Wants::End(EndCause::Spent))
+        } else {
+            Ok(Wants::End(EndCause::Done))
+        }
+    }
+
+    // It was refused a message: it rests at that mailbox, and comes to nothing else.
+    fn rest_at(&mut self, mailbox: BoxName, came: Came) -> Result<Wants<Fiber>, NoMemory>
+        ensures { IfOk result (λ w. RestsAt mailbox came self.old self.new w) }
+    {
+        match came {
+            Came::Rests => {
+                self.refused = None;
+                self.rests = true;
+                Ok(Wants::Rest(Some(mailbox)))
+            }
+            _ => Err(NoMemory),
+        }
+    }
+
+    // What it wants then. Where it asks something it has an instruction left for that, and where it rests by itself it has counted one.
+    fn want(
+        &mut self,
+        code: &Code,
+        limits: &Limits,
+        before: u64,
+        came: Came,
+    ) -> Result<Wants<Fiber>, NoMemory>
+        ensures { IfOk result (λ w. HasWanted code.now.program limits.now before came self.old self.new w) }
+    {
+        if !self.may_want(limits, before, &came) {
+            return Err(NoMemory);
+        }
+        self.rests = is_resting(&came);
+        let (wants, asked) = wanted(self.alloc, &code.program, self.main, came)?;
+        self.asked = asked;
+        Ok(wants)
+    }
+
+    /// The fiber of task 0: it begins with the constructor of the main class, on a new object.
+    pub fn boot(alloc: Global, code: &Code, main: ClassId) -> Result<Fiber, NoMemory>
+        ensures task { IfOk result (λ f. task_of f ≡ 0) }
+        ensures course { IfOk result (λ f. course_of f ≡ record { beginning = Boot; deeds = [] }) }
+        ensures rests { IfOk result (λ f. f.rests ≡ true) }
+        ensures refused { IfOk result (λ f. f.refused ≡ None) }
+        ensures stands { (set : Setting) → ServesCode set code.now → set.main ≡ main → IfOk result (λ f. StandsFor task_of course_of (HoldsFiber code.now.program code.now.counted) set f) }
+    {
+        let body = first_body(alloc, &code.plain, &code.program, main)?;
+        if body.idle {
+            return Err(NoMemory);
+        }
+        let boot = Beginning::Boot;
+        Ok(new_fiber(alloc, main, Snapshot::of(&boot), body))
+    }
+
+    /// Runs up to the next thing that it wants. After want of memory it may only be dropped.
+    pub fn resume(&mut self, code: &Code, limits: &Limits) -> Result<Wants<Fiber>, NoMemory>
+        requires { CanRun task_of course_of (HoldsFiber code.now.program code.now.counted) ServesCode code.now limits.now self.old }
+        ensures gives { IfOk result (λ w. Resumes code.now limits.now self.old self.new w) }
+        ensures rests { IfOk result (λ w. RestsInRecords code.now limits.now self.old self.new w) }
+    {
+        if self.idle {
+            return self.end_idle(limits);
+        }
+        let before = self.body.count;
+        let came = self.come(code, limits)?;
+        match self.refused {
+            Some(mailbox) => self.rest_at(mailbox, came),
+            None => self.want(code, limits, before, came),
+        }
+    }
+
+    /// Answers what it wanted last. After want of memory it may only be dropped.
+    pub fn answer(&mut self, code: &Code, answer: Answer) -> Result<(), NoMemory>
+        requires { CanAnswer task_of course_of (AskedOf code.now.program code.now.counted) ServesCode code.now self.old answer }
+        ensures task { OnOk result (task_of self.new ≡ task_of self.old) }
+        ensures goes { (set : Setting) (wish : Wish) (deed : Option Deed) → ServesCode set code.now → Asks task_of course_of (AskedOf code.now.program code.now.counted) set self.old wish → Fits set.program wish answer deed →
+            OnOk result (Went code.now set self.old wish deed self.new) }
+    {
+        self.refused = None;
+        let asked = std::mem::replace(&mut self.asked, Asked::Nothing);
+        self.answered(code, asked, answer)
+    }
+
+    /// Gives a newly begun fiber its task's number, which is 0 until then.
+    pub fn number(&mut self, task: u32)
+        requires course { IsNewCourse (course_of self.old) }
+        requires none { self.old.body.count ≡ 0 }
+        ensures same { self.new ≡ record self.old { task = task } }
+    {
+        self.task = task;
+    }
+
+    /// Its task's number.
+    pub fn task(&self) -> u32
+        ensures { result ≡ task_of self.now }
+    {
+        self.task
+    }
+
+    /// How many records it keeps while it rests: one for each frame, and the leaf's. 0 where it is newly begun, or runs.
+    pub fn records(&self) -> usize
+        ensures { result ≡ records_of self.now }
+    {
+        if self.body.frames.is_none() && !self.idle {
+            1 + self.body.records.deeper()
+        } else {
+            0
+        }
+    }
+
+    // Where it comes to rest it has counted an instruction, and where it asks something it has one left for that.
+    fn may_want(&self, limits: &Limits, before: u64, came: &Came) -> bool
+        ensures rested { result ≡ true → is_rest came.now ≡ true → before < self.now.body.count }
+        ensures may { result ≡ true → asks_by came.now ≡ true → MayAsk limits.now self.now }
+    {
+        if is_resting(came) && self.body.count <= before {
+            return false;
+        }
+        !asks(came) || self.may_ask(limits)
+    }
+
+    // It has frames, and an instruction left.
+    fn may_ask(&self, limits: &Limits) -> bool
+        ensures { result ≡ true → MayAsk limits.now self.now }
+    {
+        self.body.frames.is_some() && self.body.count < limits.steps
+    }
+}
+
+// Whether it rests.
+fn is_resting(came: &Came) -> bool
+    ensures { result ≡ is_rest came.now }
+{
+    match came {
+        Came::Rests => true,
+        _ => false,
+    }
+}
+
+// Whether it asks something.
+fn asks(came: &Came) -> bool
+    ensures { result ≡ asks_by came.now }
+{
+    match came {
+        Came::Rests => false,
+        Came::Ends(_) => false,
+        _ => true,
+    }
+}
