@@ -2,6 +2,7 @@
 #![tactic(auto)]
 
 mod files;
+pub mod run_tables;
 mod text;
 
 pub use files::{changed, read_file};

@@ -14,10 +14,10 @@ pub fn answer<R: Files + Threads + Wait + Sync>(
 ) -> Option<Vec<u8>> {
     let (table, words) = words.split_first()?;
     match table.as_str() {
-        "run" => kilim_run_tables::answer(rt, alloc, words),
-        "link" => kilim_link_tables::answer(rt, alloc, words),
-        "check" => kilim_check_tables::answer(rt, alloc, words),
-        "class_builder" => kilim_class_builder_tables::answer(alloc, words),
+        "run" => kilim_case_text::run_tables::answer(rt, alloc, words),
+        "link" => kilim_class_tables::answer(rt, alloc, words),
+        "check" => kilim_class_tables::check_tables::answer(rt, alloc, words),
+        "class_builder" => kilim_class_tables::class_builder_tables::answer(alloc, words),
         "top" => kilim_top_tables::answer(rt, alloc, words),
         _ => None,
     }

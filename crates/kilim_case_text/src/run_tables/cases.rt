@@ -1,0 +1,54 @@
+//! The words of the cases.
+
+use crate::run_tables::drawn::{array_case, numbers_case, tree_case};
+use crate::run_tables::journals::{journal_case, text_case};
+use crate::run_tables::shared::{circle_case, twice_case};
+use crate::run_tables::trees::list_case;
+use crate::Text;
+use std::alloc::Global;
+use std::rt::Files;
+
+fn push_counted(text: &mut Text, alloc: Global, word: &str, count: u32) {
+    match word {
+        "list" => list_case(text, alloc, count),
+        "array" => array_case(text, alloc, count),
+        "numbers" => numbers_case(text, alloc, count),
+        "twice" => twice_case(text, alloc, count),
+        _ => text.lacks(),
+    }
+}
+
+// The cases of a number.
+fn counted_case(text: &mut Text, alloc: Global, word: &str, words: &[String]) {
+    let [count] = words else {
+        text.lacks();
+        return;
+    };
+    match count.parse::<u32>() {
+        Ok(count) => push_counted(text, alloc, word, count),
+        Err(_) => text.lacks(),
+    }
+}
+
+fn push_case<R: Files>(text: &mut Text, rt: &R, alloc: Global, word: &str, words: &[String]) {
+    match word {
+        "journal" => journal_case(text, rt, alloc, words),
+        "line" => text_case(text, alloc, words, "\n"),
+        "open" => text_case(text, alloc, words, ""),
+        "tree" => tree_case(text, alloc, words),
+        "circle" => circle_case(text, alloc, words),
+        _ => counted_case(text, alloc, word, words),
+    }
+}
+
+/// The answer of a case, with its line feed: nothing where its words aren't those of a case, a file can't be read, or memory
+/// runs out.
+pub fn answer<R: Files>(rt: &R, alloc: Global, words: &[String]) -> Option<Vec<u8>> {
+    let mut text = Text::new(alloc);
+    match words {
+        [word, rest @ ..] => push_case(&mut text, rt, alloc, word.as_str(), rest),
+        _ => text.lacks(),
+    }
+    text.word("\n");
+    text.whole()
+}

@@ -1,0 +1,62 @@
+//! Which verification types flow where.
+
+use crate::check_tables::names::class_named;
+use crate::check_tables::text::Text;
+use kilim_classes::{Base, Program, Ty};
+use kilim_typing::{VType, assignable};
+
+// The type of a descriptor's letter, or of a class's name.
+fn base(program: &Program, word: &str) -> Option<Base> {
+    match word {
+        "Z" => Some(Base::Bool),
+        "B" => Some(Base::Byte),
+        "C" => Some(Base::Char),
+        "S" => Some(Base::Short),
+        "I" => Some(Base::Int),
+        "J" => Some(Base::Long),
+        _ => match class_named(program, word) {
+            Some(class) => Some(Base::Class(class)),
+            None => None,
+        },
+    }
+}
+
+// A class's name, or a type with a `[` in front for each dimension.
+fn object(program: &Program, word: &str) -> Option<VType> {
+    let name = word.trim_start_matches('[');
+    let base = base(program, name)?;
+    match u8::try_from(word.len().saturating_sub(name.len())) {
+        Ok(dims) => Some(VType::Object(Ty { dims, base })),
+        Err(_) => None,
+    }
+}
+
+// A verification type by its word: `top`, `int`, `long`, `null`, `this` and `new` for objects that aren't initialized, a class's
+// name, or an array.
+fn vtype(program: &Program, word: &str) -> Option<VType> {
+    match word {
+        "top" => Some(VType::Top),
+        "int" => Some(VType::Int),
+        "long" => Some(VType::Long),
+        "null" => Some(VType::Null),
+        "this" => Some(VType::UninitThis),
+        "new" => Some(VType::Uninit(0)),
+        _ => object(program, word),
+    }
+}
+
+// Whether a type may flow where another one is declared; none where one of them has no word.
+fn flows(program: &Program, from: &str, to: &str) -> Option<bool> {
+    let one = vtype(program, from)?;
+    let other = vtype(program, to)?;
+    Some(assignable(program, &one, &other))
+}
+
+/// Whether the first type may flow where the second is declared.
+pub fn fits_line(text: &mut Text, program: &Program, from: &str, to: &str) {
+    match flows(program, from, to) {
+        Some(true) => text.word("yes\n"),
+        Some(false) => text.word("no\n"),
+        None => text.lacks(),
+    }
+}

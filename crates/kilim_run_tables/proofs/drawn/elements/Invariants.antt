@@ -1,6 +1,0 @@
-use Rattle.std.proofs.Common.{◌≡◌, ◌++◌, reverse}
-use Rattle.kilim_tree_move.specs.Walk.{element_refs}
-use Rattle.kilim_run_tables.proofs.drawn.elements.Given as goal
-
-abbrev pub invariant-loop-part : goal.invariant-loop-part
-invariant-loop-part l = reverse l.initial.pending.items ≡ element_refs l.out ++ reverse l.pending.items

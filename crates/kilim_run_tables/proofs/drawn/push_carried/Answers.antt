@@ -1,8 +1,0 @@
-use Rattle.kilim_tree_move.proofs.Callers.{all_there, can_leave}
-use Rattle.kilim_run_tables.proofs.drawn.push_carried.Goals as goal
-
-pub reserve_tree-requires : goal.reserve_tree-requires
-reserve_tree-requires c = all_there _ _ _ c.requires.tree
-
-pub take_out-requires : goal.take_out-requires
-take_out-requires c = can_leave _ _ _ _ c.requires.tree c.requires.once c.in-Ok.ensures.ok

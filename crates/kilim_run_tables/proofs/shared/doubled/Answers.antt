@@ -1,5 +1,0 @@
-use Rattle.kilim_run_tables.proofs.Full.{full_next}
-use Rattle.kilim_run_tables.proofs.shared.doubled.Goals as goal
-
-pub loop-k-preserved : goal.loop-k-preserved
-loop-k-preserved c = full_next _ _ _ _ _ c.loop-k.invariant c.in_ok-pair.ensures c.in-Ok.ensures.ok.1

@@ -1,8 +1,0 @@
-use Rattle.kilim_run_tables.proofs.Chained.{none_below, one_more}
-use Rattle.kilim_run_tables.proofs.trees.chained.Goals as goal
-
-pub loop-k-init : goal.loop-k-init
-loop-k-init c = none_below _
-
-pub loop-k-preserved : goal.loop-k-preserved
-loop-k-preserved c = one_more _ _ _ _ _ c.loop-k.invariant c.in_ok-node.ensures c.in-Ok.ensures.ok.0 c.in-Ok.ensures.ok.1
