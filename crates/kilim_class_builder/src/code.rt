@@ -12,10 +12,10 @@ use crate::adding::{add_classes, add_text};
 use crate::frames::{frames_names, full_frames};
 use kilim_attribute_parts::Frame as Entered;
 use kilim_attributes::{Attribute, Code, CodeAttribute, CodeInfo, Info};
-use kilim_classes::Frame;
-use kilim_class_fits::code_bytes::code_bytes;
-use kilim_constant_pool::{AddFault, Pool};
 use kilim_bytecode::opcodes::RawInstr;
+use kilim_class_fits::code_bytes::code_bytes;
+use kilim_classes::Frame;
+use kilim_constant_pool::{AddFault, Pool};
 use kilim_units::{NoMemory, Seq, Units};
 use std::alloc::{AllocError, Global};
 

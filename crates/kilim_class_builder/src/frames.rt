@@ -8,9 +8,9 @@ ghost use Rattle.kilim_constant_pool.specs.Entries.{entry_at};
 ghost use Rattle.kilim_class_builder.specs.Frames.{array_names, array_text, base_text, class_number, frame_names, frames_names, full_frame, full_frames, is_long, name_in, object_index, slot_type, written};
 
 use kilim_attribute_parts::{Frame as Entered, VerificationType};
+use kilim_class_fits::pool_needs::{Need, index_of};
 use kilim_classes::{Base, Frame, Ty, VType};
 use kilim_constant_pool::{Entry, Pool};
-use kilim_class_fits::pool_needs::{Need, index_of};
 use kilim_units::{NoMemory, Seq, Units};
 use std::alloc::Global;
 

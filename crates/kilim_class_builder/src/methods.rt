@@ -14,10 +14,10 @@ use crate::code::{body, bytes_or_fault};
 use crate::names::utf16_of;
 use crate::source::MethodSource;
 use kilim_attributes::Attribute;
+use kilim_bytecode::opcodes::RawInstr;
 use kilim_classes::Frame;
 use kilim_classfile::MemberInfo;
 use kilim_constant_pool::{AddFault, Pool};
-use kilim_bytecode::opcodes::RawInstr;
 use kilim_units::Seq;
 use std::alloc::{AllocError, Global};
 

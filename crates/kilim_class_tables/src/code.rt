@@ -3,9 +3,9 @@
 ghost use Rattle.kilim_bytecode.specs.Exact.{BodyFits};
 ghost use Rattle.kilim_bytecode.specs.opcodes.Instr.{InstrFits};
 
+use kilim_bytecode::opcodes::{OpFault, RawInstr, read_instr, write_instr};
 use kilim_bytecode::{Body, CodeFault, decode, encode};
 use kilim_case_text::Text;
-use kilim_bytecode::opcodes::{OpFault, RawInstr, read_instr, write_instr};
 use std::alloc::Global;
 
 // Code is asked for below this many bytes.

@@ -6,11 +6,11 @@ ghost use Rattle.kilim_classfile.specs.Text.{ClassFits};
 
 use crate::classes::class_file;
 use kilim_case_text::Text;
-use kilim_stages::class_world::link;
 use kilim_classes::{Form, Program};
 use kilim_classfile::ClassFile;
 use kilim_link_spec::LinkFault;
 use kilim_reports::link_line;
+use kilim_stages::class_world::link;
 use std::alloc::Global;
 use std::rt::Files;
 

@@ -5,5 +5,5 @@ mod board;
 mod laws;
 
 pub use board::{Acted, Board, Lent};
-pub use laws::mailboxes_are_threads;
 pub use kilim_fibers::waiting::{Mailboxes, Parked, Waiter};
+pub use laws::mailboxes_are_threads;

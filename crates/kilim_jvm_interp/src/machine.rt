@@ -17,8 +17,8 @@ ghost use Rattle.kilim_program.specs.Effect.{Effect};
 ghost use Rattle.kilim_machine_parts.specs.declared.frames.frame.Frame.{Frame as AFrame};
 
 use kilim_classes::{Method, MethodId, Program, Value};
-use kilim_machine_parts::frames::{Frame, Frames, Locals, Stack};
 use kilim_lookups::method_at;
+use kilim_machine_parts::frames::{Frame, Frames, Locals, Stack};
 use kilim_program::EndCause;
 use kilim_rows::{Moved, narrowed};
 use kilim_units::{NoMemory, Seq};

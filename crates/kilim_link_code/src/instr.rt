@@ -8,11 +8,11 @@ ghost use Rattle.kilim_link_spec.specs.Code.{row, jump_instrs, array_codes, appl
 use crate::named::instr_with;
 use crate::places::{pairs_of, place_of, places_of};
 use crate::tables::{array_code, jump_instr, local_instr, plain_instr};
+use kilim_bytecode::opcodes::RawInstr;
 use kilim_classes::Instr;
 use kilim_constant_pool::Pool;
 use kilim_link_mentions::operand_at;
 use kilim_link_world::World;
-use kilim_bytecode::opcodes::RawInstr;
 use kilim_units::{NoMemory, Seq};
 use std::alloc::Global;
 

@@ -10,13 +10,13 @@ ghost use Rattle.kilim_link_spec.specs.Linked.{code_attribute, first_of};
 ghost use Rattle.kilim_link_spec.specs.LeftOut.{decoded_in};
 ghost use Rattle.kilim_link_spec.specs.Faults.{bad_index, code_fault, code_faults, code_broken};
 
+use kilim_bytecode::opcodes::{OpFault, RawInstr};
 use kilim_bytecode::{Body, CodeFault};
 use kilim_classfile::{ClassFile, MemberInfo, MemberName};
 use kilim_constant_pool::Pool;
 use kilim_link_mentions::{code_attribute, decoded, index_in, operand_at};
 use kilim_link_spec::Problem;
 use kilim_link_views::{member_descriptor, member_name};
-use kilim_bytecode::opcodes::{OpFault, RawInstr};
 use kilim_units::{NoMemory, Units};
 use std::alloc::Global;
 

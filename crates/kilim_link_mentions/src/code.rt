@@ -9,10 +9,10 @@ ghost use Rattle.kilim_link_spec.specs.Mentions.{instrs_in, instrs_of};
 ghost use Rattle.kilim_link_mentions.specs.Decoded.{code_found};
 
 use kilim_attributes::{Attribute, Code, Info};
+use kilim_bytecode::opcodes::RawInstr;
 use kilim_bytecode::{Body, CodeFault, decode};
 use kilim_classfile::MemberInfo;
 use kilim_link_spec::decoded_is_decode;
-use kilim_bytecode::opcodes::RawInstr;
 use kilim_units::{NoMemory, Seq};
 use std::alloc::Global;
 

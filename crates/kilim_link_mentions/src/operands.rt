@@ -11,10 +11,10 @@ ghost use Rattle.kilim_link_spec.specs.Mentions.{operand_of};
 use crate::code::index_in;
 use crate::descriptors::named_by;
 use crate::texts::{class_text, text_of};
+use kilim_bytecode::opcodes::RawInstr;
 use kilim_classes::Value;
 use kilim_constant_pool::{Entry, Pool};
 use kilim_link_spec::{MemberOf, Named, Operand};
-use kilim_bytecode::opcodes::RawInstr;
 use kilim_units::{NoMemory, Units};
 use std::alloc::Global;
 

@@ -9,8 +9,8 @@ ghost use Rattle.kilim_rows.specs.Outcome.{is_stuck, height, Shows, SameFrame};
 use crate::numbers::Test;
 use crate::outcome::Moved;
 use kilim_classes::{Method, Program, Value};
-use kilim_machine_parts::frames::Frame;
 use kilim_machine_parts::Heap;
+use kilim_machine_parts::frames::Frame;
 use kilim_units::Seq;
 
 /// A comparison of an int with zero.

@@ -9,8 +9,8 @@ ghost use Rattle.std.specs.Int.{w32, w64, IsNonZero};
 
 use crate::outcome::Moved;
 use kilim_classes::{Method, Program, Value};
-use kilim_machine_parts::frames::Frame;
 use kilim_machine_parts::Heap;
+use kilim_machine_parts::frames::Frame;
 use kilim_program::EndCause;
 
 /// An operation on two numbers that always has an answer.

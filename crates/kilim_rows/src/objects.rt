@@ -9,8 +9,8 @@ ghost use Rattle.kilim_rows.specs.Outcome.{is_stuck, height, Shows, SameFrame, f
 use crate::numbers::{low_byte, low_char, low_short};
 use crate::outcome::Moved;
 use kilim_classes::{Base, FieldId, Method, Program, Ty, Value};
-use kilim_machine_parts::frames::Frame;
 use kilim_machine_parts::Heap;
+use kilim_machine_parts::frames::Frame;
 use kilim_program::EndCause;
 
 /// `getfield`.

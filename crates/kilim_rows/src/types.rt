@@ -10,9 +10,9 @@ ghost use Rattle.kilim_rows.specs.Outcome.{is_stuck, height, Shows, SameFrame};
 use crate::objects::index_in;
 use crate::outcome::Moved;
 use kilim_classes::{Base, Method, Program, Ty, Value};
-use kilim_machine_parts::frames::Frame;
 use kilim_lookups::class_named;
 use kilim_machine_parts::Heap;
+use kilim_machine_parts::frames::Frame;
 use kilim_program::EndCause;
 use kilim_units::NoMemory;
 

@@ -10,9 +10,9 @@ ghost use Rattle.kilim_stages.specs.Accepted.{IsAcceptedOf};
 ghost use Rattle.kilim_stages.specs.Parts.{Refused, IfReport, IsAcceptedBy, IsAcceptedFrom, IsIsolated, IsLinkLine, IsReportOf, IsReportOfClasses, IsTypeLine, IsTyped, LinksTo, AreRuleLinesOf};
 ghost use Rattle.kilim_stages.specs.Reports.{IsStageReport};
 
+use crate::class_world::link;
 use crate::classes::classes_of;
 use crate::refusal::Refusal;
-use crate::class_world::link;
 use kilim_classes::{Form, MethodId, Program};
 use kilim_classfile::ClassFile;
 use kilim_isolation_check::{CheckFault, Isolated, Report, check_program};

@@ -19,13 +19,13 @@ use kilim_isolation_check::Isolated;
 use kilim_journal::Entry;
 use kilim_main_class::fit_main;
 use kilim_program::Limits;
+use kilim_stages::woven_stage::{WovenProgram, woven_program};
 use kilim_stages::{Refusal, accepted};
 use kilim_units::{NoMemory, Seq};
 use kilim_weave_command::{accepted_files_are_isolated, weave_files};
 use kilim_weaver::Woven;
 use kilim_whole_runs::woven_is_served;
 use kilim_words::{Asked, RunWords, WeaveWords, integers};
-use kilim_stages::woven_stage::{WovenProgram, woven_program};
 use kilim_written_files::OutputFile;
 use std::alloc::Global;
 

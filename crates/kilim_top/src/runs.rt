@@ -11,9 +11,9 @@ ghost use Rattle.kilim_top.specs.Inside.Answer.{IsDemoReply, IsReplyFor, IsRunRe
 ghost use Rattle.kilim_top.specs.Words.{workers_of};
 
 use crate::answer::{Ready, Reply, journal_reply, prepare, refused};
+use crate::demo::{demo_alone, demo_with};
 use crate::status::DONE;
 use kilim_classes::{ClassId, Program};
-use crate::demo::{demo_alone, demo_with};
 use kilim_outside::Gate;
 use kilim_program::Limits;
 use kilim_stages::Refusal;

@@ -2,9 +2,9 @@
 
 ghost use Rattle.kilim_weave_command.specs.Laws.{AcceptedFilesAreIsolated, NeverWeavableAndReported};
 
+use kilim_classfile::class_file_is_spelled;
 use kilim_isolation_laws::accepted_runs::accepted_is_isolated;
 use kilim_stages::class_world::links_keep;
-use kilim_classfile::class_file_is_spelled;
 use kilim_stages::{never_both, one_program_of};
 
 /// A law, and no work: no class files can be woven and are reported.

@@ -7,10 +7,10 @@ ghost use Rattle.kilim_weave_command.specs.woven_files.Reports.{IsWeaveReport};
 ghost use Rattle.kilim_weave_command.specs.woven_files.WovenFiles.{AreWovenFiles};
 ghost use Rattle.kilim_weave_command.specs.Weaving.{IsWeaving, output_of};
 
-use kilim_units::{NoMemory, Seq};
 use crate::woven_files::{
     Refusal, WovenFile, path_of, wove_lines, woven_files, woven_files_have_own_paths,
 };
+use kilim_units::{NoMemory, Seq};
 use kilim_written_files::OutputFile;
 use std::alloc::Global;
 

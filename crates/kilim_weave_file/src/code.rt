@@ -11,11 +11,11 @@ use crate::forms::{added_raw, moved_raw};
 use crate::frames::full_frames;
 use crate::needs::{has_calls, instrs_if, old_table, table_units};
 use kilim_attributes::{Code, CodeAttribute, CodeInfo};
-use kilim_classes::{Instr, Method, Program};
-use kilim_class_fits::code_bytes::code_bytes;
-use kilim_constant_pool::Pool;
 use kilim_bytecode::opcodes::RawInstr;
+use kilim_class_fits::code_bytes::code_bytes;
 use kilim_class_fits::pool_needs::text_index;
+use kilim_classes::{Instr, Method, Program};
+use kilim_constant_pool::Pool;
 use kilim_units::{NoMemory, Seq};
 use std::alloc::Global;
 

@@ -6,10 +6,10 @@ ghost use Rattle.kilim_weave_file.specs.Parts.{plain_number};
 ghost use Rattle.kilim_woven_sizes.specs.file_laws.form.Raw.{added_need, added_raw, index_or, int_form, local_form, long_form, moved_raw, pair_number, place_number, shortest, switched, target_of};
 
 use crate::needs::{added_need, old_need};
-use kilim_classes::{Instr, Program};
-use kilim_constant_pool::Pool;
 use kilim_bytecode::opcodes::RawInstr;
 use kilim_class_fits::pool_needs::{Need, index_of};
+use kilim_classes::{Instr, Program};
+use kilim_constant_pool::Pool;
 use kilim_units::{NoMemory, Seq};
 use std::alloc::Global;
 

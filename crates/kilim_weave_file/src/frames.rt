@@ -9,9 +9,9 @@ ghost use Rattle.kilim_weave_file.specs.Parts.{entries_from};
 ghost use Rattle.kilim_woven_sizes.specs.file_laws.form.FullFrames.{entries, full_frame, full_frames, slot_type};
 
 use kilim_attribute_parts::{Frame as Entered, VerificationType};
+use kilim_class_fits::pool_needs::{Need, index_of};
 use kilim_classes::{Frame, Program, Ty, VType};
 use kilim_constant_pool::Pool;
-use kilim_class_fits::pool_needs::{Need, index_of};
 use kilim_units::{NoMemory, Seq};
 use kilim_woven_sizes::type_name;
 use std::alloc::Global;

@@ -12,11 +12,11 @@ ghost use Rattle.kilim_woven_sizes.specs.file_laws.form.Texts.{needed_method};
 ghost use Rattle.kilim_woven_sizes.specs.file_laws.form.WovenFile.{has_calls, head_of, info_needs, instrs_needs, old_table, table_name, table_need};
 
 use kilim_attributes::{Attribute, Code, CodeAttribute, CodeInfo, Info};
+use kilim_bytecode::opcodes::RawInstr;
+use kilim_class_fits::pool_needs::Need;
 use kilim_classes::{Frame, Instr, Method, MethodId, Program, VType};
 use kilim_constant_pool::{Entry, Pool};
 use kilim_link_mentions::decoded;
-use kilim_bytecode::opcodes::RawInstr;
-use kilim_class_fits::pool_needs::Need;
 use kilim_units::{NoMemory, Seq, Units};
 use kilim_woven_sizes::{is_pausable_call, needed_method, type_name, woven_descriptor};
 use std::alloc::Global;

@@ -8,16 +8,16 @@ ghost use Rattle.kilim_weaver.specs.Weaves.{IsWoven, Weaves};
 
 use crate::fault::WeaveFault;
 use crate::faults::weave_fault;
+use crate::woven_pauses::pauses_are_kept;
 use kilim_classes::{Class, Field, Form, Program};
 use kilim_isolation_check::Isolated;
 use kilim_typing::Typed;
 use kilim_units::{NoMemory, Seq};
+use kilim_woven_form::woven_programs::kept::woven_is_kept;
+use kilim_woven_form::woven_programs::woven_programs_are_typed;
 use kilim_woven_method::woven_each::{
     Methods, keeps_program, keeps_typed, typed_classes, typed_fields, woven_methods,
 };
-use crate::woven_pauses::pauses_are_kept;
-use kilim_woven_form::woven_programs::kept::woven_is_kept;
-use kilim_woven_form::woven_programs::woven_programs_are_typed;
 use std::alloc::Global;
 
 /// A woven program, and for each method which of its instructions count as the task's own. The fields are public for reading.

@@ -6,15 +6,15 @@ ghost use Rattle.kilim_whole_runs.specs.record_fiber.named.Named.{ServesNamed};
 ghost use Rattle.kilim_thread_model.specs.State.{Setting};
 ghost use Rattle.kilim_workers.specs.worker_pool.Pool.{IsOf};
 
+use crate::record_fiber::named::{Named, Woven};
 use kilim_classes::ClassId;
 use kilim_fibers::boxed::Boxed;
 use kilim_journal::Entry;
 use kilim_outside::Gate;
 use kilim_program::Limits;
-use crate::record_fiber::named::{Named, Woven};
 use kilim_units::NoMemory;
-use kilim_workers::worker_pool::run_one;
 use kilim_workers::run_pool;
+use kilim_workers::worker_pool::run_one;
 use kilim_woven_fiber::Code;
 use std::alloc::Global;
 use std::sync::Wait;

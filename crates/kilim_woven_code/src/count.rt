@@ -4,10 +4,10 @@ ghost use Rattle.std.specs.Prelude.{◌≡◌, option_copied, IfOk};
 ghost use Rattle.kilim_woven_form.specs.Weight.{calls_in};
 ghost use Rattle.kilim_woven_form.specs.Woven as form;
 
-use crate::frames::{entry_at};
-use kilim_woven_pieces::{pausable_callee};
+use crate::frames::entry_at;
 use kilim_classes::{Instr, Method, Program};
 use kilim_units::NoMemory;
+use kilim_woven_pieces::pausable_callee;
 
 fn one_more(callee: Option<&Method>, count: u32) -> Result<u32, NoMemory>
     ensures { IfOk result (λ n. n ≡ form.count (option_copied callee.entry) count) }

@@ -10,10 +10,10 @@ ghost use Rattle.kilim_woven_pieces.specs.Places.{at_in};
 ghost use Rattle.kilim_woven_pieces.specs.Shown.{Shown};
 ghost use Rattle.kilim_woven_pieces.specs.Meant.{Ready, meant};
 
-use kilim_woven_pieces::{Places, Plan, class_vtype, type_at};
 use kilim_classes::{ClassId, Frame, Instr, Method, VType};
 use kilim_typing_laws::listed_frames_show;
 use kilim_units::{NoMemory, Seq};
+use kilim_woven_pieces::{Places, Plan, class_vtype, type_at};
 use std::alloc::Global;
 
 /// The entry of a number.

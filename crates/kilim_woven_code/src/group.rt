@@ -9,10 +9,13 @@ ghost use Rattle.kilim_woven_pieces.specs.Meant.{meant};
 ghost use Rattle.kilim_woven_pieces.specs.Items.{items_of};
 
 use crate::copies::copied;
-use crate::frames::{old_frame};
-use kilim_woven_pieces::{Item, Items, Label, Plan, Size, add, call_fiber, dummy_of, local_size, pop_of, return_of, save_fiber, save_locals, save_stack, taken, type_at, vtype};
+use crate::frames::old_frame;
 use kilim_classes::{Frame, Instr, Method, Ty, VType};
 use kilim_units::NoMemory;
+use kilim_woven_pieces::{
+    Item, Items, Label, Plan, Size, add, call_fiber, dummy_of, local_size, pop_of, return_of,
+    save_fiber, save_locals, save_stack, taken, type_at, vtype,
+};
 use std::alloc::Global;
 
 fn is_top(ty: VType) -> bool

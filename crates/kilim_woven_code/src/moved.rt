@@ -6,9 +6,9 @@ ghost use Rattle.kilim_woven_form.specs.Woven as form;
 ghost use Rattle.kilim_woven_pieces.specs.Places.{at_in};
 
 use crate::copies::copied;
-use kilim_woven_pieces::{Places, Size, local_size};
 use kilim_classes::Instr;
 use kilim_units::{NoMemory, Seq};
+use kilim_woven_pieces::{Places, Size, local_size};
 use std::alloc::Global;
 
 fn moved_places(alloc: Global, places: &Places, targets: &[u32]) -> Result<Seq<u32>, NoMemory>

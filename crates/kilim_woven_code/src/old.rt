@@ -11,9 +11,9 @@ ghost use Rattle.kilim_woven_pieces.specs.Items.{items_of};
 use crate::frames::{entry_of, frame_at, old_frame, place_behind};
 use crate::group::group;
 use crate::moved::{moved, old_size};
-use kilim_woven_pieces::{Item, Items, Label, Plan, pausable_callee};
 use kilim_classes::{Frame, Instr, Method};
 use kilim_units::NoMemory;
+use kilim_woven_pieces::{Item, Items, Label, Plan, pausable_callee};
 use std::alloc::Global;
 
 fn is_declared(plan: &Plan, place: u32) -> bool

@@ -12,9 +12,12 @@ ghost use Rattle.kilim_classes.specs.declared.instr.Instr.TheVariants.{Goto};
 use crate::frames::{entry_of, frame_at, place_behind, resume_frame};
 use crate::group::{below, saved};
 use crate::old::number_before;
-use kilim_woven_pieces::{Item, Items, Label, Plan, add, call_fiber, dummy_of, go_back, pausable_callee, restore_locals, restore_stack, type_at, vtype};
 use kilim_classes::{Frame, Instr, Method, Ty, VType};
 use kilim_units::NoMemory;
+use kilim_woven_pieces::{
+    Item, Items, Label, Plan, add, call_fiber, dummy_of, go_back, pausable_callee, restore_locals,
+    restore_stack, type_at, vtype,
+};
 use std::alloc::Global;
 
 fn receiver_of(plan: &Plan, ty: VType, items: &mut Items) -> Result<(), NoMemory>

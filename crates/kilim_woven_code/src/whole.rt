@@ -10,9 +10,9 @@ ghost use Rattle.kilim_woven_pieces.specs.Items.{items_of};
 use crate::count::calls_in;
 use crate::old::pieces;
 use crate::resume::blocks;
-use kilim_woven_pieces::{Item, Items, Plan, Size, add, call_fiber, local_size};
 use kilim_classes::Instr;
 use kilim_units::{NoMemory, Seq};
+use kilim_woven_pieces::{Item, Items, Plan, Size, add, call_fiber, local_size};
 use std::alloc::Global;
 
 // The places of the resume blocks, in order.

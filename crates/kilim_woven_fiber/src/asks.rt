@@ -20,9 +20,9 @@ use crate::members::{ask_member, pass_on};
 use crate::operands::{Operands, copy_operands};
 use crate::pass::{give, pass};
 use kilim_classes::{BoxName, MethodId, Program, Value};
+use kilim_fiber_records::natives::Native;
 use kilim_program::{EndCause, Limits, Shape, Token};
 use kilim_units::{NoMemory, Seq};
-use kilim_fiber_records::natives::Native;
 use std::alloc::Global;
 
 /// It goes on behind a method without a result.

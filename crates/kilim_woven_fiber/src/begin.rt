@@ -9,9 +9,9 @@ ghost use Rattle.kilim_weaving_laws.specs.woven_kin.Nexts.{begun_with};
 ghost use Rattle.kilim_woven_fiber.specs.Body.{calls_in, RoomyIn};
 
 use kilim_classes::{MethodId, Program, Value};
-use kilim_machine_parts::frames::{Callers, Frames};
 use kilim_jvm_interp::new_frame;
 use kilim_lookups::method_at;
+use kilim_machine_parts::frames::{Callers, Frames};
 use kilim_units::NoMemory;
 use std::alloc::Global;
 

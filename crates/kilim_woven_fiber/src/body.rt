@@ -13,12 +13,12 @@ use crate::code::Code;
 use crate::pass::give;
 use kilim_classes::{Base, BoxName, ClassId, MethodId, Program, Value};
 use kilim_fiber_records::Records;
-use kilim_machine_parts::frames::Frames;
+use kilim_fiber_records::natives::execute_of;
 use kilim_machine_parts::Heap;
+use kilim_machine_parts::frames::Frames;
 use kilim_program::{EndCause, Shape};
 use kilim_tree_move::Tree;
 use kilim_units::NoMemory;
-use kilim_fiber_records::natives::execute_of;
 use std::alloc::Global;
 
 /// The most mailboxes that a task makes.

@@ -10,7 +10,10 @@ mod saves;
 
 pub use back::go_back;
 pub use item::{Item, Items, Label, Size};
-pub use parts::{add, call_fiber, class_vtype, dummy_of, load_of, local_size, pausable_callee, pop_of, return_of, save_fiber, store_of, taken, vtype};
+pub use parts::{
+    add, call_fiber, class_vtype, dummy_of, load_of, local_size, pausable_callee, pop_of,
+    return_of, save_fiber, store_of, taken, vtype,
+};
 pub use places::Places;
 pub use plan::Plan;
 pub use saves::{restore, restore_locals, restore_stack, save, save_locals, save_stack, type_at};

@@ -1,10 +1,10 @@
 //! The words of the cases.
 
+use crate::Text;
 use crate::run_tables::drawn::{array_case, numbers_case, tree_case};
 use crate::run_tables::journals::{journal_case, text_case};
 use crate::run_tables::shared::{circle_case, twice_case};
 use crate::run_tables::trees::list_case;
-use crate::Text;
 use std::alloc::Global;
 use std::rt::Files;
 

@@ -4,9 +4,9 @@ ghost use Rattle.std.specs.Prelude.{◌≡◌, ◌++◌, ◌∷◌, [], true, re
 ghost use Rattle.kilim_tree_move.specs.Walk.{value_refs, field_refs, element_refs, refs};
 ghost use Rattle.kilim_case_text.specs.run_tables.Chains.{AreBelow, IsOwn};
 
+use crate::Text;
 use crate::run_tables::arrived::push_tree;
 use crate::run_tables::trees::{node, push_moved};
-use crate::Text;
 use kilim_classes::{Base, BoxName, ClassId, FieldId, Ty, Value};
 use kilim_machine_parts::Heap;
 use kilim_program::Object;

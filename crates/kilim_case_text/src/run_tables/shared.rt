@@ -5,8 +5,8 @@ ghost use Rattle.std.specs.FinMap.{get};
 ghost use Rattle.kilim_tree_move.specs.Walk.{refs, AllThere};
 ghost use Rattle.kilim_case_text.specs.run_tables.Chains.{IsFull, IsFullAt};
 
-use crate::run_tables::trees::node;
 use crate::Text;
+use crate::run_tables::trees::node;
 use kilim_classes::{Base, ClassId, FieldId, Ty, Value};
 use kilim_machine_parts::Heap;
 use kilim_program::Object;

@@ -3,9 +3,9 @@
 ghost use Rattle.std.specs.List.{AllByRecursion};
 ghost use Rattle.kilim_classfile.specs.Text.{ClassFits};
 
-use kilim_stages::class_world::link;
 use kilim_classes::{Form, Program};
 use kilim_classfile::ClassFile;
+use kilim_stages::class_world::link;
 use kilim_type_verify::verify;
 use kilim_typing::Typed;
 use std::alloc::Global;

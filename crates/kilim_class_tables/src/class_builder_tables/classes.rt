@@ -3,11 +3,13 @@
 ghost use Rattle.std.specs.Prelude.{IfSome};
 ghost use Rattle.kilim_classfile.specs.Text.{ClassFits};
 
-use crate::class_builder_tables::parts::{add_constructor, class, field_ref, frame, method_ref, source};
+use crate::class_builder_tables::parts::{
+    add_constructor, class, field_ref, frame, method_ref, source,
+};
+use kilim_bytecode::opcodes::RawInstr;
 use kilim_class_builder::ClassBuilder;
 use kilim_classes::Qualifier;
 use kilim_classfile::ClassFile;
-use kilim_bytecode::opcodes::RawInstr;
 use std::alloc::Global;
 
 fn node_parts(alloc: Global) -> Option<ClassBuilder> {

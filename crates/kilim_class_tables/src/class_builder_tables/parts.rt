@@ -1,9 +1,9 @@
 //! Entries of a builder's pool, and methods.
 
+use kilim_bytecode::opcodes::RawInstr;
 use kilim_class_builder::{ClassBuilder, MethodSource};
 use kilim_classes::{Base, ClassId, Frame, Ty, VType};
 use kilim_constant_pool::Entry;
-use kilim_bytecode::opcodes::RawInstr;
 use kilim_units::{Seq, Units};
 use std::alloc::Global;
 

@@ -4,11 +4,11 @@ ghost use Rattle.std.specs.List.{AllByRecursion};
 ghost use Rattle.kilim_classfile.specs.Text.{ClassFits};
 
 use crate::class_builder_tables::classes::{node, work};
-use kilim_stages::class_world::link;
 use kilim_classes::{Form, Program};
 use kilim_classfile::{ClassFile, write};
 use kilim_link_spec::LinkFault;
 use kilim_reports::{link_line, type_line};
+use kilim_stages::class_world::link;
 use kilim_type_verify::{TypeFault, verify};
 use std::alloc::Global;
 

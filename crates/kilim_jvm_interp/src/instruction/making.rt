@@ -11,9 +11,9 @@ ghost use Rattle.kilim_program.specs.Effect.{on_int};
 ghost use Rattle.kilim_rows.specs.Outcome.{is_stuck, height, Shows, SameFrame, IsAdded};
 
 use kilim_classes::{Base, ClassId, FieldId, Method, Program, Ty, Value};
-use kilim_machine_parts::frames::Frame;
 use kilim_lookups::{class_at, line_of};
 use kilim_machine_parts::Heap;
+use kilim_machine_parts::frames::Frame;
 use kilim_program::{EndCause, Object};
 use kilim_rows::Moved;
 use kilim_units::{NoMemory, Seq};

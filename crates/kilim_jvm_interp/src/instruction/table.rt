@@ -7,8 +7,8 @@ ghost use Rattle.kilim_rows.specs.Outcome.{is_stuck, height, Shows, SameFrame};
 use crate::instruction::calls::{call_special, call_static, call_virtual};
 use crate::instruction::making::{make_object, make_primitive_array, make_reference_array};
 use kilim_classes::{Instr, Method, Program, Value};
-use kilim_machine_parts::frames::Frame;
 use kilim_machine_parts::Heap;
+use kilim_machine_parts::frames::Frame;
 use kilim_rows::{
     Binary, Division, Moved, Shift, Test, Unary, array_length, cast, compare_longs, constant,
     copy_below_one, copy_below_two, copy_two, copy_two_below_one, copy_two_below_two, copy_word,

@@ -2,14 +2,14 @@
 
 ghost use Rattle.kilim_stages.specs.class_world.Keeping.{LinksKeep, NoFaultIsAProgram};
 
+use kilim_link_laws::code_laws::{
+    code_is_whole, constants_fit, frames_are_proper, frames_increase, ids_are_places,
+    methods_are_sound, no_fault_links, no_task_arrays, none_has_handlers,
+};
 use kilim_link_laws::{
     built_in_is_last, fields_fit, members_are_owned, names_differ, none_is_both,
     none_is_its_ancestor, none_is_left_abstract, none_is_named_as_array, outline_agrees,
     overriding_agrees, own_classes_fit, superclasses_fit,
-};
-use kilim_link_laws::code_laws::{
-    code_is_whole, constants_fit, frames_are_proper, frames_increase, ids_are_places,
-    methods_are_sound, no_fault_links, no_task_arrays, none_has_handlers,
 };
 
 /// A law, and no work: a program to which class files link, of which none has a fault, keeps the facts of programs.

@@ -10,12 +10,12 @@ ghost use Rattle.kilim_link_spec.specs.World.{world_of};
 ghost use Rattle.kilim_stages.specs.class_world.Linking.{IsLinkOf, Made};
 
 use crate::class_world::laws::{links_keep, no_fault_is_a_program};
-use kilim_link_views::built_ins::{built_in_classes, built_in_methods};
 use kilim_classes::{Class, Field, Form, Method, Program};
 use kilim_classfile::ClassFile;
 use kilim_link_faults::first_fault;
 use kilim_link_members::{linked_classes, linked_fields, linked_methods};
 use kilim_link_spec::{LinkFault, linked_in_parts, none_is_named};
+use kilim_link_views::built_ins::{built_in_classes, built_in_methods};
 use kilim_link_world::World;
 use kilim_units::{NoMemory, Seq};
 use std::alloc::Global;

@@ -8,10 +8,10 @@ ghost use Rattle.kilim_reports.specs.RuleLines.{method_words, words_of};
 ghost use Rattle.kilim_stages.specs.Parts.{Refused};
 ghost use Rattle.kilim_stages.specs.woven_stage.Reports.{IsMethodLine, arguments_line, too_long_line};
 
+use crate::Refusal;
 use kilim_classes::{ClassId, Method, MethodId, Program};
 use kilim_lookups::{class_at, method_at};
 use kilim_reports::{descriptor_text, member_name_text, method_descriptor};
-use crate::Refusal;
 use kilim_units::{NoMemory, Units};
 use kilim_weaver::WeaveFault;
 use std::alloc::Global;

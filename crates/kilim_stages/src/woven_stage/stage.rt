@@ -9,10 +9,10 @@ ghost use Rattle.kilim_stages.specs.woven_stage.Reports.{IsWovenReport};
 ghost use Rattle.kilim_stages.specs.woven_stage.Stage.{IsWovenOf};
 
 use crate::woven_stage::refusals::method_refusal;
+use crate::{Refusal, accepted};
 use kilim_classes::{Form, Program};
 use kilim_isolation_check::Isolated;
 use kilim_link_spec::linked_in_parts;
-use crate::{Refusal, accepted};
 use kilim_units::Seq;
 use kilim_weaver::{WeaveFault, Woven, weave};
 use std::alloc::Global;

@@ -5,11 +5,11 @@ ghost use Rattle.std.specs.List.{AllByRecursion};
 ghost use Rattle.kilim_classfile.specs.Text.{ClassFits};
 ghost use Rattle.kilim_weave_command.specs.woven_files.Parts.{LinksBack};
 
-use kilim_stages::class_world::link;
 use kilim_classes::{Form, Program};
 use kilim_classfile::ClassFile;
-use kilim_woven_sizes::same_programs::same_programs;
+use kilim_stages::class_world::link;
 use kilim_units::NoMemory;
+use kilim_woven_sizes::same_programs::same_programs;
 use std::alloc::Global;
 
 /// Links class files in woven form, and compares the program with this one. Where they don't link to it, it is answered as want of

@@ -2,9 +2,9 @@
 
 ghost use Rattle.kilim_weave_command.specs.woven_files.Laws.{NeverWovenAndReported, OwnPaths, StayBelow};
 
-use kilim_stages::class_world::links_keep;
 use kilim_classfile::class_file_is_spelled;
 use kilim_link_spec::{linked_in_parts, none_has_a_problem, none_of_each_kind};
+use kilim_stages::class_world::links_keep;
 use kilim_stages::one_program_of;
 use kilim_stages::woven_stage::woven_is_not_reported;
 

@@ -17,9 +17,9 @@ use crate::woven_files::outputs::woven_classes;
 use kilim_classes::Program;
 use kilim_classfile::{ClassFile, class_file_is_spelled};
 use kilim_stages::Refusal;
+use kilim_stages::woven_stage::woven_program;
 use kilim_units::{NoMemory, Seq};
 use kilim_weaver::Woven;
-use kilim_stages::woven_stage::woven_program;
 use std::alloc::Global;
 
 // A class file of accepted ones is read a second time. Where that failed, it would be answered as want of memory.

@@ -5,8 +5,8 @@ ghost use Rattle.kilim_classes.specs.BuiltIn.{fiber_classes, fiber_methods};
 ghost use Rattle.kilim_woven_form.specs.Form.{first_class, first_method};
 
 use crate::woven_each::copy::{copy_classes, copy_fields, copy_methods};
-use kilim_link_views::built_ins::{built_in_classes, built_in_methods};
 use kilim_classes::{Class, Field, Form, Method, Program};
+use kilim_link_views::built_ins::{built_in_classes, built_in_methods};
 use kilim_typing::Typed;
 use kilim_units::{NoMemory, Seq};
 use std::alloc::Global;

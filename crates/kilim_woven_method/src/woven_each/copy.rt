@@ -2,9 +2,9 @@
 
 ghost use Rattle.std.specs.Prelude.{◌≡◌, ◌<◌, Some, length, slice_get, IfOk};
 
+use crate::copy_method;
 use kilim_classes::{Class, Field, Method, Value};
 use kilim_units::{NoMemory, Seq};
-use crate::copy_method;
 use std::alloc::Global;
 
 fn copy_class(alloc: Global, class: &Class) -> Result<Class, NoMemory>

@@ -8,11 +8,11 @@ ghost use Rattle.kilim_woven_form.specs.Form.{IsWoven, has_calls};
 
 use crate::woven_each::extended::{all_counted, extended, has_calls};
 use crate::woven_each::kept::keeps;
+use crate::{copy_method, woven};
 use kilim_classes::{Frame, Method, MethodId, Program};
 use kilim_liveness::live;
 use kilim_lookups::code_rises;
 use kilim_units::{NoMemory, Seq};
-use crate::{copy_method, woven};
 use kilim_woven_form::woven_program::labels::labels_are_found;
 use std::alloc::Global;
 

@@ -7,10 +7,10 @@ ghost use Rattle.kilim_typing.specs.Typed.{has_code};
 ghost use Rattle.kilim_woven_form.specs.Form.{all_counted, has_calls, only_with_fiber};
 ghost use Rattle.kilim_woven_form.specs.Woven as form;
 
+use crate::{argument_slots, copy_method};
 use kilim_classes::{Base, ClassId, Method, Program, Qualifier, Ty};
 use kilim_units::{NoMemory, Seq};
 use kilim_woven_code::calls_in;
-use crate::{argument_slots, copy_method};
 use std::alloc::Global;
 
 /// All instructions of a method count.
