@@ -1,14 +1,8 @@
 -- The steps keep what holds of each graph (but that edges join nodes that live: the canonical form sees to that).
 use Rattle.std.proofs.Common.{◌≡◌, ℕ, zero, suc, Bool, true, false, true≢false, Option, Some, None, eqb, refl, ap, sym, subst, ◌∙◌, ◌⊎◌, inl, inr, arith}
 use Rattle.kilim_isolation_laws.specs.forest.Relation.{Standing, Root, Inner, Gone, is_gone, Label, Node}
-use Rattle.kilim_isolation_laws.specs.forest.Steps.{pick, either, is_part, is_that, is_left, climbs, no_parent, cut_node, join_node, IsTidy}
+use Rattle.kilim_isolation_laws.specs.forest.Steps.{pick, either, is_part, is_that, is_left, climbs, no_parent, cut_node, join_node, IsTidy, IsNearly_tidy}
 use Rattle.kilim_isolation_laws.proofs.forest.Store.{both_ways, is_same, is_not_same, same_is, no_parent_is, climbs_is, Climbs, Stop, Rise, left_elsewhere}
-
--- all of IsTidy but `live`
-pub record IsNearly_tidy (g : ℕ → Node) : Type 0 where
-  pub roots : (n : ℕ) → (g n).standing ≡ Root → (g n).head ≡ true
-  pub one_head : (n m : ℕ) → (g n).head ≡ true → (g m).head ≡ true → is_gone (g n).standing ≡ false → is_gone (g m).standing ≡ false → (g n).region ≡ (g m).region → n ≡ m
-  pub heads_top : (n : ℕ) (p : ℕ × Label) → (g n).head ≡ true → (g n).parent ≡ Some p → ⊥
 
 pub gone_no_root : Gone ≡ Root → ⊥
 gone_no_root e = cc

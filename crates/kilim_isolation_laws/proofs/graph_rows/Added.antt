@@ -12,7 +12,7 @@ use Rattle.kilim_isolation_laws.specs.forest.Relation.{Root, is_gone, Label, Fie
 use Rattle.kilim_isolation_laws.specs.forest.Steps.{pick, set_node}
 use Rattle.kilim_isolation_laws.specs.forest.Canonical.{node_at}
 use Rattle.kilim_isolation_laws.proofs.forest.Store.{both_ways, is_same, is_not_same, same_is}
-use Rattle.kilim_isolation_laws.proofs.forest.Tidy.{IsNearly_tidy}
+use Rattle.kilim_isolation_laws.specs.forest.Steps.{IsNearly_tidy}
 use Rattle.kilim_isolation_laws.proofs.forest.Moves.{set_named}
 use Rattle.kilim_shape_graph.specs.declared.graph.Graph.{Graph}
 use Rattle.kilim_shape_graph.specs.Graphs.{slot, added}

@@ -29,7 +29,7 @@ use Rattle.kilim_isolation_rules.specs.Calls.{is_owned, arguments}
 use Rattle.kilim_classes.specs.declared.ty.Qualifier.TheVariants as qualifier
 use Rattle.kilim_isolation_laws.specs.forest.Canonical.{node_at}
 use Rattle.kilim_isolation_laws.proofs.forest.Store.{same_is}
-use Rattle.kilim_isolation_laws.proofs.forest.Tidy.{IsNearly_tidy}
+use Rattle.kilim_isolation_laws.specs.forest.Steps.{IsNearly_tidy}
 use Rattle.kilim_isolation_laws.proofs.forest.Less.{IsLess}
 use Rattle.kilim_isolation_laws.proofs.forest.View.{respects_less}
 use Rattle.kilim_isolation_laws.proofs.forest.Called.{owned_region, root_free, no_parent}

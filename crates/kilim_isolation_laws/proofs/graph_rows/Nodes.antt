@@ -7,7 +7,7 @@ use Rattle.kilim_isolation_laws.specs.forest.Canonical.{absent, node_at, number_
 use Rattle.kilim_isolation_laws.proofs.forest.Store.{both_ways, is_same}
 use Rattle.kilim_isolation_laws.proofs.forest.View.{IsView, view_relates, respects_view}
 use Rattle.kilim_isolation_laws.proofs.forest.Frames.{respects_each}
-use Rattle.kilim_isolation_laws.proofs.forest.Tidy.{IsNearly_tidy}
+use Rattle.kilim_isolation_laws.specs.forest.Steps.{IsNearly_tidy}
 use Rattle.kilim_isolation_laws.proofs.forest.Canon.{same_index, member_at, firsts_once, in_firsts, member_map}
 use Rattle.kilim_shape_graph.specs.Nodes.{listed, new_region}
 

@@ -10,7 +10,8 @@ use Rattle.kilim_isolation_laws.specs.forest.Heap.{Below, IsForest, IsSet_at, Is
 use Rattle.kilim_isolation_laws.specs.forest.Relation.{Root, Inner, is_gone, is_safe, Label, Node, Named, Names, Owns, RespectsAll, Frames}
 use Rattle.kilim_isolation_laws.specs.forest.Steps.{join_node}
 use Rattle.kilim_isolation_laws.specs.forest.Canonical.{node_at}
-use Rattle.kilim_isolation_laws.proofs.forest.Tidy.{IsNearly_tidy, cut_tidy, cut_was_live, root_stays, join_tidy, join_was_live}
+use Rattle.kilim_isolation_laws.proofs.forest.Tidy.{cut_tidy, cut_was_live, root_stays, join_tidy, join_was_live}
+use Rattle.kilim_isolation_laws.specs.forest.Steps.{IsNearly_tidy}
 use Rattle.kilim_isolation_laws.proofs.forest.Store.{a_before}
 use Rattle.kilim_isolation_laws.proofs.forest.Nulls.{empty_keeps, graph, null_keeps}
 use Rattle.kilim_isolation_laws.proofs.forest.Paths.{one_step, some_is, under_below}

@@ -66,3 +66,9 @@ pub record IsCall (u : Named) (count : ℕ) (qual : ℕ → Qualifier) (arg valu
   pub cuttable : (k n : ℕ) → qual k ≡ Some qualifier.Cuttable → arg k ≡ Some n → is_safe (u.node n).standing ≡ false
   pub apart : (j k n m : ℕ) → (j ≡ k → ⊥) → arg j ≡ Some n → arg k ≡ Some m → (u.node n).region ≡ (u.node m).region → (is_owned (qual j) ≡ false) × (is_owned (qual k) ≡ false)
   pub within : (k : ℕ) → is_owned (qual k) ≡ true → k < count
+
+-- all of IsTidy but `live`
+pub record IsNearly_tidy (g : ℕ → Node) : Type 0 where
+  pub roots : (n : ℕ) → (g n).standing ≡ Root → (g n).head ≡ true
+  pub one_head : (n m : ℕ) → (g n).head ≡ true → (g m).head ≡ true → is_gone (g n).standing ≡ false → is_gone (g m).standing ≡ false → (g n).region ≡ (g m).region → n ≡ m
+  pub heads_top : (n : ℕ) (p : ℕ × Label) → (g n).head ≡ true → (g n).parent ≡ Some p → ⊥

@@ -28,7 +28,7 @@ use Rattle.kilim_typing.specs.Step.{Types, peek, assignable, made_at}
 use Rattle.kilim_isolation_laws.specs.forest.Heap.{Heap, IsForest}
 use Rattle.kilim_isolation_laws.specs.forest.Relation.{is_gone, Label, Named, Frames}
 use Rattle.kilim_isolation_laws.specs.forest.Steps.{IsTidy}
-use Rattle.kilim_isolation_laws.proofs.forest.Tidy.{IsNearly_tidy}
+use Rattle.kilim_isolation_laws.specs.forest.Steps.{IsNearly_tidy}
 use Rattle.kilim_isolation_laws.specs.forest.Canonical.{node_at}
 pub use Rattle.kilim_isolation_laws.specs.forest.Laws.{IsPlace}
 use Rattle.kilim_shape_graph.specs.declared.graph.Graph.{Graph}

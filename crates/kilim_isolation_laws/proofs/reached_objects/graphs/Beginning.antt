@@ -24,7 +24,7 @@ use Rattle.kilim_isolation_laws.specs.forest.Laws.{IsPlace}
 use Rattle.kilim_isolation_laws.specs.forest.Relation.{Frames, Label, Named, Node, Relates, Respects, Root, Safe, is_gone}
 use Rattle.kilim_isolation_laws.proofs.forest.Called.{no_parent, root_free}
 use Rattle.kilim_isolation_laws.proofs.forest.Paths.{never_round, some_is}
-use Rattle.kilim_isolation_laws.proofs.forest.Tidy.{IsNearly_tidy}
+use Rattle.kilim_isolation_laws.specs.forest.Steps.{IsNearly_tidy}
 use Rattle.kilim_shape_graph.specs.Entry.{declared_parameters, entry_names, entry_node, entry_nodes, parameters_of, quality, quality_from, tree_name}
 use Rattle.kilim_shape_graph.specs.Graphs.{slot}
 use Rattle.kilim_shape_graph.specs.Nodes.{listed}
