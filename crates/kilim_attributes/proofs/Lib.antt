@@ -1,4 +1,5 @@
 pub mod Loops
+pub mod Writes
 pub mod Lists
 pub mod Named
 pub mod CodeFormat

@@ -4,3 +4,4 @@ pub mod Codes
 pub mod Attributes
 pub mod Laws
 pub mod Fronts
+pub mod Wrapped

@@ -60,7 +60,12 @@ fn is_of(form: AttributeName, attribute: &CodeAttribute) -> bool
 fn code_repeats(form: AttributeName, before: &[CodeAttribute]) -> bool
     ensures { result ≡ code_repeats form before.now }
 {
-    before.iter().any(|attribute| is_of(form, attribute))
+    for attribute in before {
+        if is_of(form, attribute) {
+            return true;
+        }
+    }
+    false
 }
 
 fn code_unless_twice(

@@ -1,7 +1,11 @@
 //! Reading what attributes hold.
 
-ghost use Rattle.std.specs.Prelude.{◌≡◌};
-ghost use Rattle.kilim_grammar.specs.Reader.{Reads, ReadsUnless, many, filled};
+ghost use Rattle.std.specs.Prelude.{◌≡◌, Ok};
+ghost use Rattle.kilim_grammar.specs.Reader.{ReadsUnless, many, filled};
+ghost use Rattle.kilim_attribute_parts.specs.Frames.{frames_at};
+ghost use Rattle.kilim_attributes.specs.declared.attribute.Info.TheVariants.{ConstantValue, Code, StackMapTable, Exceptions, Raw};
+ghost use Rattle.kilim_attributes.specs.Lists.{as_a};
+ghost use Rattle.kilim_attributes.specs.Wrapped.{parts_as};
 ghost use Rattle.kilim_attribute_parts.specs.declared.fault.AttributeFault.TheVariants as fault;
 ghost use Rattle.kilim_attribute_parts.specs.declared.name.AttributeName.TheVariants as name;
 ghost use Rattle.kilim_attribute_parts.specs.declared.index.EntryKind.TheVariants as kind;
@@ -9,7 +13,7 @@ ghost use Rattle.kilim_attribute_parts.specs.Indices.{index_at};
 ghost use Rattle.kilim_attributes.specs.Codes.{code_at};
 ghost use Rattle.kilim_attributes.specs.Attributes.{exceptions_at, whole_parts, info_of};
 
-use crate::attribute::{Code, Info};
+use crate::attribute::Info;
 use crate::code_reading::{code_at, whole_frames};
 use kilim_attribute_parts::{
     AnnotationPart, AttributeFault, AttributeName, EntryKind, PartKind, index_at, parts_at,
@@ -21,25 +25,32 @@ use std::alloc::Global;
 
 const EXCEPTIONS_END: AttributeFault = AttributeFault::Length(AttributeName::Exceptions);
 
-fn whole_constant(pool: &Pool, bytes: &[u8]) -> Result<u16, AttributeFault>
-    ensures { Reads (λ x. x) result (filled (fault.Length name.ConstantValue) (index_at pool.now kind.Constant (fault.Length name.ConstantValue)) bytes.now) }
+fn constant_info(pool: &Pool, bytes: &[u8]) -> Result<Info, AttributeFault>
+    ensures { ReadsUnless fault.Memory (λ x. x) result (as_a ConstantValue (filled (fault.Length name.ConstantValue) (index_at pool.now kind.Constant (fault.Length name.ConstantValue)) bytes.now)) }
 {
     let ends = AttributeFault::Length(AttributeName::ConstantValue);
     let (index, rest) = index_at(pool, EntryKind::Constant, ends, bytes)?;
     if !rest.is_empty() {
         return Err(ends);
     }
-    Ok(index)
+    Ok(Info::ConstantValue(index))
 }
 
-fn whole_code(alloc: Global, pool: &Pool, bytes: &[u8]) -> Result<Code, AttributeFault>
-    ensures { ReadsUnless fault.Memory (λ x. x) result (filled (fault.Length name.Code) (code_at pool.now) bytes.now) }
+fn code_info(alloc: Global, pool: &Pool, bytes: &[u8]) -> Result<Info, AttributeFault>
+    ensures { ReadsUnless fault.Memory (λ x. x) result (as_a Code (filled (fault.Length name.Code) (code_at pool.now) bytes.now)) }
 {
     let (code, rest) = code_at(alloc, pool, bytes)?;
     if !rest.is_empty() {
         return Err(AttributeFault::Length(AttributeName::Code));
     }
-    Ok(code)
+    Ok(Info::Code(code))
+}
+
+fn frames_info(alloc: Global, pool: &Pool, bytes: &[u8]) -> Result<Info, AttributeFault>
+    ensures { ReadsUnless fault.Memory (λ x. x) result (as_a StackMapTable (filled (fault.Length name.StackMapTable) (frames_at pool.now) bytes.now)) }
+{
+    let frames = whole_frames(alloc, pool, bytes)?;
+    Ok(Info::StackMapTable(frames))
 }
 
 fn classes_at<'a>(
@@ -72,32 +83,53 @@ fn exceptions_at<'a>(
     classes_at(alloc, pool, count, rest)
 }
 
-fn whole_exceptions(alloc: Global, pool: &Pool, bytes: &[u8]) -> Result<Seq<u16>, AttributeFault>
-    ensures { ReadsUnless fault.Memory (λ x. x) result (filled (fault.Length name.Exceptions) (exceptions_at pool.now) bytes.now) }
+fn exceptions_info(alloc: Global, pool: &Pool, bytes: &[u8]) -> Result<Info, AttributeFault>
+    ensures { ReadsUnless fault.Memory (λ x. x) result (as_a Exceptions (filled (fault.Length name.Exceptions) (exceptions_at pool.now) bytes.now)) }
 {
     let (classes, rest) = exceptions_at(alloc, pool, bytes)?;
     if !rest.is_empty() {
         return Err(EXCEPTIONS_END);
     }
-    Ok(classes)
+    Ok(Info::Exceptions(classes))
+}
+
+// Parts of annotations in the form of a name.
+fn parts_as(form: AttributeName, parts: Seq<AnnotationPart>) -> Info
+    ensures { result ≡ parts_as form parts }
+{
+    match form {
+        AttributeName::RuntimeVisibleAnnotations => Info::RuntimeVisibleAnnotations(parts),
+        AttributeName::RuntimeInvisibleAnnotations => Info::RuntimeInvisibleAnnotations(parts),
+        AttributeName::RuntimeVisibleParameterAnnotations => {
+            Info::RuntimeVisibleParameterAnnotations(parts)
+        }
+        _ => Info::RuntimeInvisibleParameterAnnotations(parts),
+    }
 }
 
 #[tactic(auto, unfolding(crate::specs::Attributes::whole_parts))]
-fn whole_parts(
+fn parts_info(
     alloc: Global,
     pool: &Pool,
     form: AttributeName,
     kind: PartKind,
     bytes: &[u8],
-) -> Result<Seq<AnnotationPart>, AttributeFault>
-    ensures { ReadsUnless fault.Memory (λ x. x) result (whole_parts pool.now form kind bytes.now) }
+) -> Result<Info, AttributeFault>
+    ensures { ReadsUnless fault.Memory (λ x. x) result (as_a (parts_as form) (whole_parts pool.now form kind bytes.now)) }
 {
     let ends = AttributeFault::Length(form);
     let (parts, rest) = parts_at(alloc, pool, ends, kind, bytes)?;
     if !rest.is_empty() {
         return Err(ends);
     }
-    Ok(parts)
+    Ok(parts_as(form, parts))
+}
+
+fn raw_info(alloc: Global, bytes: &[u8]) -> Result<Info, AttributeFault>
+    ensures { ReadsUnless fault.Memory (λ x. x) result (Ok (Raw bytes.now)) }
+{
+    let content = Vec::from_slice(alloc, bytes)?;
+    Ok(Info::Raw(Seq::from_vec(content)))
 }
 
 /// What an attribute of a form holds, all of its bytes.
@@ -111,42 +143,24 @@ pub fn info_of(
     ensures { ReadsUnless fault.Memory (λ x. x) result (info_of pool.now form bytes.now) }
 {
     let Some(form) = form else {
-        return Ok(Info::Raw(Seq::from_vec(Vec::from_slice(alloc, bytes)?)));
+        return raw_info(alloc, bytes);
     };
     match form {
-        AttributeName::ConstantValue => Ok(Info::ConstantValue(whole_constant(pool, bytes)?)),
-        AttributeName::Code => Ok(Info::Code(whole_code(alloc, pool, bytes)?)),
-        AttributeName::StackMapTable => {
-            Ok(Info::StackMapTable(whole_frames(alloc, pool, bytes)?))
+        AttributeName::ConstantValue => constant_info(pool, bytes),
+        AttributeName::Code => code_info(alloc, pool, bytes),
+        AttributeName::StackMapTable => frames_info(alloc, pool, bytes),
+        AttributeName::Exceptions => exceptions_info(alloc, pool, bytes),
+        AttributeName::RuntimeVisibleAnnotations => {
+            parts_info(alloc, pool, form, PartKind::AnnotationList, bytes)
         }
-        AttributeName::Exceptions => Ok(Info::Exceptions(whole_exceptions(alloc, pool, bytes)?)),
-        AttributeName::RuntimeVisibleAnnotations => Ok(Info::RuntimeVisibleAnnotations(whole_parts(
-            alloc,
-            pool,
-            form,
-            PartKind::AnnotationList,
-            bytes,
-        )?)),
-        AttributeName::RuntimeInvisibleAnnotations => Ok(Info::RuntimeInvisibleAnnotations(
-            whole_parts(alloc, pool, form, PartKind::AnnotationList, bytes)?,
-        )),
+        AttributeName::RuntimeInvisibleAnnotations => {
+            parts_info(alloc, pool, form, PartKind::AnnotationList, bytes)
+        }
         AttributeName::RuntimeVisibleParameterAnnotations => {
-            Ok(Info::RuntimeVisibleParameterAnnotations(whole_parts(
-                alloc,
-                pool,
-                form,
-                PartKind::ParameterCount,
-                bytes,
-            )?))
+            parts_info(alloc, pool, form, PartKind::ParameterCount, bytes)
         }
         AttributeName::RuntimeInvisibleParameterAnnotations => {
-            Ok(Info::RuntimeInvisibleParameterAnnotations(whole_parts(
-                alloc,
-                pool,
-                form,
-                PartKind::ParameterCount,
-                bytes,
-            )?))
+            parts_info(alloc, pool, form, PartKind::ParameterCount, bytes)
         }
     }
 }

@@ -37,7 +37,12 @@ fn is_of(form: AttributeName, attribute: &Attribute) -> bool
 fn stands(form: AttributeName, before: &[Attribute]) -> bool
     ensures { result ≡ list_any (λ a. info_is form a.info) before.now }
 {
-    before.iter().any(|attribute| is_of(form, attribute))
+    for attribute in before {
+        if is_of(form, attribute) {
+            return true;
+        }
+    }
+    false
 }
 
 fn stands_once(form: AttributeName) -> bool

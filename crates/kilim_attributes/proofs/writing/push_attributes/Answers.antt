@@ -1,0 +1,8 @@
+use Rattle.kilim_attributes.specs.Attributes.{attribute_text}
+use Rattle.kilim_attributes.proofs.Writes.{behind}
+use Rattle.kilim_attributes.proofs.writing.push_attributes.Goals as goal
+
+pub loop-attribute-preserved : goal.loop-attribute-preserved
+loop-attribute-preserved c =
+    behind attribute_text c.args.into.now.items c.loop-attribute.into.items c.push_attribute.new.into.items c.args.attributes.now c.loop-attribute.attribute-index c.attribute-item.result _
+    c.loop-attribute-test.true c.attribute-item.is c.loop-attribute.invariant c.in_ok-push_attribute.ensures

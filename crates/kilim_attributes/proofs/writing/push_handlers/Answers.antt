@@ -1,0 +1,9 @@
+use Rattle.std.proofs.Common.{get_or, refl}
+use Rattle.kilim_attributes.specs.Codes.{handler_text}
+use Rattle.kilim_attributes.proofs.Writes.{behind}
+use Rattle.kilim_attributes.proofs.writing.push_handlers.Goals as goal
+
+pub loop-handler-preserved : goal.loop-handler-preserved
+loop-handler-preserved c =
+    behind handler_text c.args.into.now.items c.loop-handler.into.items c.push_handler.new.into.items c.args.handlers.now c.loop-handler.handler-index (get_or c.args.handlers.now c.loop-handler.handler-index _) _
+    c.loop-handler-test.true refl c.loop-handler.invariant c.in_ok-push_handler.ensures
