@@ -1,3 +1,4 @@
+pub mod Loops
 pub mod SlotLaws
 pub mod EntryLoop
 pub mod EntryFormat

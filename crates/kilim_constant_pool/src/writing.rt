@@ -2,6 +2,7 @@
 
 ghost use Rattle.std.specs.Prelude.{◌≡◌, ◌++◌, ◌+◌, ◌<◌, ◌^◌, OnOk, OnErr, length, take};
 ghost use Rattle.std.specs.List.{flat_map, All};
+ghost use Rattle.kilim_grammar.specs.Spelling.{u1, u2};
 ghost use Rattle.kilim_mutf8.specs.Spelling.{spelling};
 ghost use Rattle.kilim_constant_pool.specs.Spelling.{pair_text, string_text, tag_of, content_text, entry_text, pool_text, PoolFits, EntryFits};
 ghost use Rattle.kilim_constant_pool.specs.Slots.{slot_text, SlotFits};
@@ -10,53 +11,58 @@ use crate::entry::Entry;
 use crate::pool::Pool;
 use kilim_grammar::{push_u8, push_u16, push_u32, push_u64};
 use kilim_units::{NoMemory, Units};
+use std::alloc::AllocError;
 
 // Two numbers of two bytes.
-fn push_pair(into: &mut Vec<u8>, first: u16, second: u16) -> Result<(), NoMemory>
+fn push_pair(into: &mut Vec<u8>, first: u16, second: u16) -> Result<(), AllocError>
     ensures ok { OnOk result (into.new.items ≡ into.old.items ++ pair_text first second) }
 {
     push_u16(into, first)?;
-    push_u16(into, second)?;
-    Ok(())
+    push_u16(into, second)
+}
+
+// The kind of a method handle, and the index of what it names.
+fn push_handle(into: &mut Vec<u8>, kind: u8, named: u16) -> Result<(), AllocError>
+    ensures ok { OnOk result (into.new.items ≡ into.old.items ++ (u1 kind ++ u2 named)) }
+{
+    push_u8(into, kind)?;
+    push_u16(into, named)
 }
 
 // A length in bytes, and the text.
-fn push_string(into: &mut Vec<u8>, units: &Units) -> Result<(), NoMemory>
+fn push_string(into: &mut Vec<u8>, units: &Units) -> Result<(), AllocError>
     requires { length (spelling units.now) < 2 ^ 16 }
     ensures ok { OnOk result (into.new.items ≡ into.old.items ++ string_text units.now) }
 {
     let mut text = Vec::new(*into.allocator());
-    kilim_mutf8::write(units, &mut text)?;
+    if kilim_mutf8::write(units, &mut text).is_err() {
+        return Err(AllocError);
+    }
     push_u16(into, text.len() as u16)?;
-    into.extend_from_slice(text.as_slice())?;
-    Ok(())
+    into.extend_from_slice(text.as_slice())
 }
 
 // What follows the tag of an entry.
-fn push_content(into: &mut Vec<u8>, entry: &Entry) -> Result<(), NoMemory>
+fn push_content(into: &mut Vec<u8>, entry: &Entry) -> Result<(), AllocError>
     requires { EntryFits entry.now }
     ensures ok { OnOk result (into.new.items ≡ into.old.items ++ content_text entry.now) }
 {
     match entry {
-        Entry::Utf8(units) => push_string(into, units)?,
-        Entry::Integer(number) => push_u32(into, number.cast_unsigned())?,
-        Entry::Float(bits) => push_u32(into, *bits)?,
-        Entry::Long(number) => push_u64(into, number.cast_unsigned())?,
-        Entry::Double(bits) => push_u64(into, *bits)?,
+        Entry::Utf8(units) => push_string(into, units),
+        Entry::Integer(number) => push_u32(into, number.cast_unsigned()),
+        Entry::Float(bits) => push_u32(into, *bits),
+        Entry::Long(number) => push_u64(into, number.cast_unsigned()),
+        Entry::Double(bits) => push_u64(into, *bits),
         Entry::Class(index) | Entry::String(index) | Entry::MethodType(index) => {
-            push_u16(into, *index)?;
+            push_u16(into, *index)
         }
         Entry::Fieldref(first, second)
         | Entry::Methodref(first, second)
         | Entry::InterfaceMethodref(first, second)
         | Entry::NameAndType(first, second)
-        | Entry::InvokeDynamic(first, second) => push_pair(into, *first, *second)?,
-        Entry::MethodHandle(kind, named) => {
-            push_u8(into, *kind)?;
-            push_u16(into, *named)?;
-        }
+        | Entry::InvokeDynamic(first, second) => push_pair(into, *first, *second),
+        Entry::MethodHandle(kind, named) => push_handle(into, *kind, *named),
     }
-    Ok(())
 }
 
 fn tag_of(entry: &Entry) -> u8
@@ -80,7 +86,7 @@ fn tag_of(entry: &Entry) -> u8
     }
 }
 
-fn push_entry(into: &mut Vec<u8>, entry: &Entry) -> Result<(), NoMemory>
+fn push_entry(into: &mut Vec<u8>, entry: &Entry) -> Result<(), AllocError>
     requires { EntryFits entry.now }
     ensures ok { OnOk result (into.new.items ≡ into.old.items ++ entry_text entry.now) }
 {
@@ -88,7 +94,7 @@ fn push_entry(into: &mut Vec<u8>, entry: &Entry) -> Result<(), NoMemory>
     push_content(into, entry)
 }
 
-fn push_slot(into: &mut Vec<u8>, slot: &Option<Entry>) -> Result<(), NoMemory>
+fn push_slot(into: &mut Vec<u8>, slot: &Option<Entry>) -> Result<(), AllocError>
     requires { SlotFits slot.now }
     ensures ok { OnOk result (into.new.items ≡ into.old.items ++ slot_text slot.now) }
 {
@@ -99,7 +105,7 @@ fn push_slot(into: &mut Vec<u8>, slot: &Option<Entry>) -> Result<(), NoMemory>
 }
 
 // The entries of slots, in order.
-fn push_slots(into: &mut Vec<u8>, slots: &[Option<Entry>]) -> Result<(), NoMemory>
+fn push_slots(into: &mut Vec<u8>, slots: &[Option<Entry>]) -> Result<(), AllocError>
     requires { All SlotFits slots.now }
     ensures ok { OnOk result (into.new.items ≡ into.old.items ++ flat_map slot_text slots.now) }
 {
@@ -109,7 +115,7 @@ fn push_slots(into: &mut Vec<u8>, slots: &[Option<Entry>]) -> Result<(), NoMemor
     Ok(())
 }
 
-fn push_pool(into: &mut Vec<u8>, pool: &Pool) -> Result<(), NoMemory>
+fn push_pool(into: &mut Vec<u8>, pool: &Pool) -> Result<(), AllocError>
     requires { PoolFits pool.now }
     ensures ok { OnOk result (into.new.items ≡ into.old.items ++ pool_text pool.now) }
 {
