@@ -1,7 +1,7 @@
 //! Qualifiers by annotations.
 
 ghost use Rattle.std.specs.Prelude.{◌≡◌, ℕ, List, codes};
-ghost use Rattle.std.specs.List.{list_any, flat_map};
+ghost use Rattle.std.specs.List.{flat_map};
 ghost use Rattle.std.specs.Str.{bytes_eq};
 ghost use Rattle.kilim_link_spec.specs.Qualified.{names_one, annotated_as};
 ghost use Rattle.kilim_link_types.specs.Params.{first_mark, types_at, all_at};
@@ -63,38 +63,24 @@ fn types_at(attribute: &Seq<Seq<Units>>, at: usize) -> &[Units]
     }
 }
 
-// Whether an attribute says that annotation of the parameter at a place.
-fn names_one_at(attribute: &Seq<Seq<Units>>, at: usize, text: &[u8]) -> bool
-    ensures { result ≡ names_one (types_at at attribute.now) text.now }
-{
-    names_one(types_at(attribute, at), text)
-}
-
-// Whether one of the attributes says it.
+// Whether one of the attributes says that annotation of the parameter at a place.
 fn one_names(attributes: &[Seq<Seq<Units>>], at: usize, text: &[u8]) -> bool
-    ensures { result ≡ list_any (λ lists. names_one (types_at at lists) text.now) attributes.now }
+    ensures { result ≡ names_one (all_at at attributes.now) text.now }
 {
     for attribute in attributes {
-        if names_one_at(attribute, at, text) {
+        if names_one(types_at(attribute, at), text) {
             return true;
         }
     }
     false
 }
 
-// The same, by all that they say.
-fn all_name(attributes: &[Seq<Seq<Units>>], at: usize, text: &[u8]) -> bool
-    ensures { result ≡ names_one (all_at at attributes.now) text.now }
-{
-    one_names(attributes, at, text)
-}
-
 /// The qualifier that these attributes give the parameter at a place (own), else the default.
 pub fn annotated_at(attributes: &[Seq<Seq<Units>>], at: usize, default: Qualifier) -> Qualifier
     ensures { result ≡ annotated_as (all_at at attributes.now) default }
 {
-    let free = all_name(attributes, at, b"Lkilim/Free;");
-    let cuttable = all_name(attributes, at, b"Lkilim/Cuttable;");
-    let safe = all_name(attributes, at, b"Lkilim/Safe;");
+    let free = one_names(attributes, at, b"Lkilim/Free;");
+    let cuttable = one_names(attributes, at, b"Lkilim/Cuttable;");
+    let safe = one_names(attributes, at, b"Lkilim/Safe;");
     first_mark(free, cuttable, safe, default)
 }

@@ -4,7 +4,7 @@ ghost use Rattle.std.specs.Prelude.{◌≡◌, IfOk, option_copied};
 ghost use Rattle.kilim_link_spec.specs.Types.{method_text, type_in};
 ghost use Rattle.kilim_link_spec.specs.Qualified.{qualified, has_fiber, is_execute, default_receiver, is_constructor_name, receiver_by, is_tree, param_by, params_by, params_of};
 ghost use Rattle.kilim_classes.specs.Kinds.{is_tree_kind};
-ghost use Rattle.kilim_link_types.specs.Params.{all_at, params_from};
+ghost use Rattle.kilim_link_types.specs.Params.{all_at};
 
 use crate::marks::{annotated_as, annotated_at};
 use crate::types::type_in;
@@ -89,24 +89,6 @@ fn param_at(world: &World, text: &FieldText, attributes: &[Seq<Seq<Units>>], at:
     }
 }
 
-// The qualifiers of all parameters in order, by their places.
-fn params_from(
-    alloc: Global,
-    world: &World,
-    texts: &[FieldText],
-    attributes: &[Seq<Seq<Units>>],
-) -> Result<Seq<Qualifier>, NoMemory>
-    ensures { IfOk result (λ params. params ≡ params_from world.now 0 texts.now attributes.now) }
-{
-    let mut params: Seq<Qualifier> = Seq::new(alloc);
-    let mut i = 0;
-    while i < texts.len() {
-        params.push(param_at(world, &texts[i], attributes, i))?;
-        i += 1;
-    }
-    Ok(params)
-}
-
 // The qualifiers of all parameters in order.
 fn params_by(
     alloc: Global,
@@ -116,7 +98,13 @@ fn params_by(
 ) -> Result<Seq<Qualifier>, NoMemory>
     ensures { IfOk result (λ params. params ≡ params_by world.now texts.now attributes.now) }
 {
-    params_from(alloc, world, texts, attributes)
+    let mut params: Seq<Qualifier> = Seq::new(alloc);
+    let mut i = 0;
+    while i < texts.len() {
+        params.push(param_at(world, &texts[i], attributes, i))?;
+        i += 1;
+    }
+    Ok(params)
 }
 
 // The parameters of a descriptor, none where it is malformed.
