@@ -36,7 +36,12 @@ fn is_code(info: &Info) -> bool
 fn has_code(attributes: &[Attribute]) -> bool
     ensures { result ≡ has_code attributes.now }
 {
-    attributes.iter().any(|attribute| is_code(&attribute.info))
+    for attribute in attributes {
+        if is_code(&attribute.info) {
+            return true;
+        }
+    }
+    false
 }
 
 // ACC_NATIVE or ACC_ABSTRACT.

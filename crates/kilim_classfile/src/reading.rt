@@ -1,7 +1,7 @@
 //! Bytes to a class file.
 
 ghost use Rattle.std.specs.Prelude.{◌≡◌, ◌⊎◌, ◌++◌, List, ℕ, length, IfOk, IfErr, MatchResult};
-ghost use Rattle.kilim_grammar.specs.Reader.{Reads, ReadsUnless, both, counted, many};
+ghost use Rattle.kilim_grammar.specs.Reader.{Reads, ReadsUnless, counted, many};
 ghost use Rattle.kilim_grammar.specs.Format.{Format};
 ghost use Rattle.kilim_constant_pool.specs.Entries.{is_utf8, is_class};
 ghost use Rattle.kilim_attributes.specs.declared.attribute.Place.TheVariants as place;
@@ -10,8 +10,9 @@ ghost use Rattle.kilim_classfile.specs.declared.fault.ClassFault.{ClassFault};
 ghost use Rattle.kilim_classfile.specs.declared.fault.ClassFault.TheVariants as fault;
 ghost use Rattle.kilim_classfile.specs.Text.{class_text, ClassFits, size_limit};
 ghost use Rattle.kilim_classfile.specs.Law.{ClassFilesAreSpelled, PartsAreSpelled};
-ghost use Rattle.kilim_classfile.specs.Reading.{pool_fault, attribute_fault, u2_at, index_at, class_index_at, utf8_index_at, attributes_in, member_at, field_at, method_at, magic_at, version_at, front_at, names_at, list_at, lists_at, class_at, read_class};
+ghost use Rattle.kilim_classfile.specs.Reading.{pool_fault, attribute_fault, u2_at, index_at, class_index_at, utf8_index_at, attributes_in, member_at, field_at, method_at, list_at, magic_at, version_at, front_at, names_at, lists_at, class_at, read_class};
 ghost use Rattle.kilim_classfile.specs.Faults.{Says, FaultsAreTrue};
+ghost use Rattle.kilim_classfile.specs.Parts.{name_of};
 
 use crate::class_file::{ClassFile, MemberInfo};
 use crate::fault::ClassFault;
@@ -123,6 +124,16 @@ fn member_at<'a>(
     Ok((member, rest))
 }
 
+// That a method has Code where it may not, or none where it has to.
+fn code_presence(alloc: Global, pool: &Pool, method: &MemberInfo) -> ClassFault
+    ensures { (result ≡ fault.Memory) ⊎ (result ≡ fault.CodePresence (name_of pool.now method.now)) }
+{
+    match name_of(alloc, pool, method) {
+        Ok(name) => ClassFault::CodePresence(name),
+        Err(_) => ClassFault::Memory,
+    }
+}
+
 #[tactic(auto, unfolding(crate::specs::Reading::method_at))]
 fn method_at<'a>(
     alloc: Global,
@@ -136,7 +147,7 @@ fn method_at<'a>(
     if has_its_code(&method) {
         Ok((method, rest))
     } else {
-        Err(ClassFault::CodePresence(name_of(alloc, pool, &method)?))
+        Err(code_presence(alloc, pool, &method))
     }
 }
 
@@ -250,35 +261,41 @@ fn names_at<'a>(
     Ok(((access_flags, (this_class, super_class)), rest))
 }
 
-// Interfaces and fields.
-fn first_lists_at<'a>(
+// The interfaces.
+fn classes_at<'a>(
     alloc: Global,
     len: usize,
     pool: &Pool,
     bytes: &'a [u8],
-) -> Result<((Seq<u16>, Seq<MemberInfo>), &'a [u8]), ClassFault>
-    ensures { ReadsUnless fault.Memory (λ x. (x.0, x.1.now)) result (both (list_at len (class_index_at len pool.now)) (list_at len (field_at len pool.now)) bytes.now) }
+) -> Result<(Seq<u16>, &'a [u8]), ClassFault>
+    ensures { ReadsUnless fault.Memory (λ x. (x.0, x.1.now)) result (list_at len (class_index_at len pool.now) bytes.now) }
 {
     let (count, rest) = u2_at(len, bytes)?;
-    let (interfaces, rest) = so_many_classes_at(alloc, len, pool, count, rest)?;
-    let (count, rest) = u2_at(len, rest)?;
-    let (fields, rest) = so_many_fields_at(alloc, len, pool, count, rest)?;
-    Ok(((interfaces, fields), rest))
+    so_many_classes_at(alloc, len, pool, count, rest)
 }
 
-// Methods and attributes.
-fn last_lists_at<'a>(
+fn fields_at<'a>(
     alloc: Global,
     len: usize,
     pool: &Pool,
     bytes: &'a [u8],
-) -> Result<((Seq<MemberInfo>, Seq<Attribute>), &'a [u8]), ClassFault>
-    ensures { ReadsUnless fault.Memory (λ x. (x.0, x.1.now)) result (both (list_at len (method_at len pool.now)) (attributes_in len pool.now place.Class) bytes.now) }
+) -> Result<(Seq<MemberInfo>, &'a [u8]), ClassFault>
+    ensures { ReadsUnless fault.Memory (λ x. (x.0, x.1.now)) result (list_at len (field_at len pool.now) bytes.now) }
 {
     let (count, rest) = u2_at(len, bytes)?;
-    let (methods, rest) = so_many_methods_at(alloc, len, pool, count, rest)?;
-    let (attributes, rest) = attributes_in(alloc, len, pool, Place::Class, rest)?;
-    Ok(((methods, attributes), rest))
+    so_many_fields_at(alloc, len, pool, count, rest)
+}
+
+fn methods_at<'a>(
+    alloc: Global,
+    len: usize,
+    pool: &Pool,
+    bytes: &'a [u8],
+) -> Result<(Seq<MemberInfo>, &'a [u8]), ClassFault>
+    ensures { ReadsUnless fault.Memory (λ x. (x.0, x.1.now)) result (list_at len (method_at len pool.now) bytes.now) }
+{
+    let (count, rest) = u2_at(len, bytes)?;
+    so_many_methods_at(alloc, len, pool, count, rest)
 }
 
 type Lists = (
@@ -295,9 +312,11 @@ fn lists_at<'a>(
 ) -> Result<(Lists, &'a [u8]), ClassFault>
     ensures { ReadsUnless fault.Memory (λ x. (x.0, x.1.now)) result (lists_at len pool.now bytes.now) }
 {
-    let (first, rest) = first_lists_at(alloc, len, pool, bytes)?;
-    let (last, rest) = last_lists_at(alloc, len, pool, rest)?;
-    Ok(((first, last), rest))
+    let (interfaces, rest) = classes_at(alloc, len, pool, bytes)?;
+    let (fields, rest) = fields_at(alloc, len, pool, rest)?;
+    let (methods, rest) = methods_at(alloc, len, pool, rest)?;
+    let (attributes, rest) = attributes_in(alloc, len, pool, Place::Class, rest)?;
+    Ok((((interfaces, fields), (methods, attributes)), rest))
 }
 
 #[tactic(auto, unfolding(crate::specs::Reading::class_at))]
