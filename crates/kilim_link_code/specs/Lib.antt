@@ -1,3 +1,2 @@
 pub mod Groups
 pub mod Each
-pub mod link_frames

@@ -3,7 +3,6 @@
 
 mod code;
 mod instr;
-pub mod link_frames;
 mod named;
 mod places;
 mod tables;

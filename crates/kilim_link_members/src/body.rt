@@ -10,7 +10,7 @@ use kilim_classes::{ClassId, Frame, Instr};
 use kilim_classfile::{ClassFile, MemberInfo};
 use kilim_constant_pool::Pool;
 use kilim_link_code::code_of;
-use kilim_link_code::link_frames::frames_in;
+use kilim_link_frames::frames_in;
 use kilim_link_mentions::decoded;
 use kilim_link_spec::{Body, DeclaredMethod};
 use kilim_link_world::World;

@@ -6,9 +6,9 @@ ghost use Rattle.kilim_link_spec.specs.Types.{each_of, itself};
 ghost use Rattle.kilim_link_spec.specs.Code.{applied};
 ghost use Rattle.kilim_link_spec.specs.Frames.{table_in, tables_in, frame_of, frame_with, place_after, placed_frame, frames_from, frames_in};
 
-use crate::link_frames::begin::entry_locals;
-use crate::link_frames::entries::{delta_of, entries_of};
-use crate::link_frames::slots::{all_there, slots_of};
+use crate::begin::entry_locals;
+use crate::entries::{delta_of, entries_of};
+use crate::slots::{all_there, slots_of};
 use kilim_attribute_parts::{Frame as FrameForm, VerificationType};
 use kilim_attributes::{Code, CodeAttribute, CodeInfo};
 use kilim_classes::{ClassId, Frame, VType};

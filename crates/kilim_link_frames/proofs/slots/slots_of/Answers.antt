@@ -1,7 +1,7 @@
 use Rattle.std.proofs.Common.{refl}
 use Rattle.kilim_link_spec.specs.Frames.{local_slots}
-use Rattle.kilim_link_code.proofs.link_frames.Loops.{joined}
-use Rattle.kilim_link_code.proofs.link_frames.slots.slots_of.Goals as goal
+use Rattle.kilim_link_frames.proofs.Loops.{joined}
+use Rattle.kilim_link_frames.proofs.slots.slots_of.Goals as goal
 
 pub loop-local-preserved : goal.loop-local-preserved
 loop-local-preserved c = joined local_slots c.loop-local.slots c.push_local.new.into c.args.locals.now c.loop-local.local-index _ _ c.loop-local-test.true refl c.loop-local.invariant c.in_ok-push_local.ensures

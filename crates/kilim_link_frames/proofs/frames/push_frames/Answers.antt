@@ -1,5 +1,5 @@
-use Rattle.kilim_link_code.proofs.link_frames.Loops.{copied}
-use Rattle.kilim_link_code.proofs.link_frames.frames.push_frames.Goals as goal
+use Rattle.kilim_link_frames.proofs.Loops.{copied}
+use Rattle.kilim_link_frames.proofs.frames.push_frames.Goals as goal
 
 pub loop-frame-preserved : goal.loop-frame-preserved
 loop-frame-preserved c = copied c.args.into.now c.loop-frame.into c.push.new.self c.args.frames.now c.loop-frame.frame-index c.frame-item.result _ c.in_ok-copied.field-0 c.loop-frame-test.true c.frame-item.is c.loop-frame.invariant c.in_ok-copied.ensures c.in_ok-push.ensures.ok

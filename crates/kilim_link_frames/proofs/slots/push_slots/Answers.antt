@@ -1,7 +1,7 @@
 use Rattle.std.proofs.Common.{refl}
 use Rattle.kilim_link_spec.specs.Frames.{slot_in}
-use Rattle.kilim_link_code.proofs.link_frames.Loops.{more}
-use Rattle.kilim_link_code.proofs.link_frames.slots.push_slots.Goals as goal
+use Rattle.kilim_link_frames.proofs.Loops.{more}
+use Rattle.kilim_link_frames.proofs.slots.push_slots.Goals as goal
 
 pub loop-slot-preserved : goal.loop-slot-preserved
 loop-slot-preserved c = more (slot_in c.args.world.now c.args.pool.now) c.args.into.now c.loop-slot.into c.push.new.self c.args.slots.now c.loop-slot.slot-index _ _ c.in_ok-slot_in.field-0 c.loop-slot-test.true refl c.loop-slot.invariant c.in_ok-slot_in.ensures c.in_ok-push.ensures.ok

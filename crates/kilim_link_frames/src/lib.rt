@@ -1,4 +1,5 @@
 //! The declared frames of methods, linked: by slots, each with its place.
+#![tactic(auto)]
 
 mod begin;
 mod entries;

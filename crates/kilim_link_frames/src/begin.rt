@@ -5,7 +5,7 @@ ghost use Rattle.kilim_link_spec.specs.Types.{method_text, type_in};
 ghost use Rattle.kilim_link_spec.specs.Qualified.{is_constructor_name, params_of};
 ghost use Rattle.kilim_link_spec.specs.Frames.{receiver_entry, entry_locals, slot_of_type};
 
-use crate::link_frames::slots::slot_of_type;
+use crate::slots::slot_of_type;
 use kilim_classes::{Base, ClassId, Ty, VType};
 use kilim_descriptors::FieldText;
 use kilim_link_mentions::method_text;

@@ -3,7 +3,7 @@
 ghost use Rattle.std.specs.Prelude.{◌≡◌, ◌++◌, ◌∷◌, [], ◌-◌, map, take, length, IfOk};
 ghost use Rattle.kilim_link_spec.specs.Frames.{slot_in, delta_of, entries_of};
 
-use crate::link_frames::slots::{push_slots, slot_in};
+use crate::slots::{push_slots, slot_in};
 use kilim_attribute_parts::{Frame, VerificationType};
 use kilim_classes::VType;
 use kilim_constant_pool::Pool;

@@ -7,8 +7,8 @@ use Rattle.kilim_link_spec.specs.World.{World}
 use Rattle.kilim_link_spec.specs.Types.{each_of, itself, with_first}
 use Rattle.kilim_link_spec.specs.Frames.{delta_of, entries_of, frames_from, place_after, placed_frame}
 use Rattle.kilim_link_spec.specs.declared.named.Entries.{Entries}
-use Rattle.kilim_link_code.specs.link_frames.Each.{behind}
-use Rattle.kilim_link_code.proofs.link_frames.frames.frames_from.Goals as goal
+use Rattle.kilim_link_frames.specs.Each.{behind}
+use Rattle.kilim_link_frames.proofs.frames.frames_from.Goals as goal
 
 drop_one : {A : Type 0} (xs : List A) (i : ℕ) (d : A) → i < length xs → drop i xs ≡ get_or xs i d ∷ drop (i + 1) xs
 drop_one [] i d lt = absurd (omega arith)
