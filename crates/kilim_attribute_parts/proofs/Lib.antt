@@ -1,3 +1,4 @@
+pub mod Loops
 pub mod Choices
 pub mod Indices
 pub mod FrameFormats

@@ -221,6 +221,5 @@ pub fn frames_at<'a>(
     ensures sized { IfOk result (λ x. FramesAreSized x.0) }
 {
     let (count, rest) = u16_at(ENDS, bytes)?;
-    let (frames, rest) = so_many_frames_at(alloc, pool, count, rest)?;
-    Ok((frames, rest))
+    so_many_frames_at(alloc, pool, count, rest)
 }

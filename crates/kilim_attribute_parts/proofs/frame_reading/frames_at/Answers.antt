@@ -1,7 +1,21 @@
-use Rattle.std.proofs.Common.{arith}
+use Rattle.std.proofs.Common.{◌≡◌, ℕ, List, Result, Ok, Err, arith}
+use Rattle.std.specs.Prelude.{IfOk}
+use Rattle.std.specs.Int.{w16}
+use Rattle.kilim_grammar.specs.Reader.{ReadsUnless, many, number_at}
+use Rattle.kilim_grammar.proofs.Bytes.{IsBytes}
+use Rattle.kilim_constant_pool.specs.declared.entry.Entry.{Entry}
+use Rattle.kilim_attribute_parts.specs.declared.fault.AttributeFault.{AttributeFault}
+use Rattle.kilim_attribute_parts.specs.declared.fault.AttributeFault.TheVariants.{Memory}
+use Rattle.kilim_attribute_parts.specs.declared.frame.Frame.{Frame}
+use Rattle.kilim_attribute_parts.specs.Frames.{ends, frame_at, FramesAreSized}
 use Rattle.kilim_attribute_parts.proofs.FrameFormats.{read_sized}
 use Rattle.kilim_attribute_parts.proofs.frame_reading.frames_at.Goals as goal
 
+if_read : {X : Type 0} (pool : List Entry) (bytes : List ℕ) (count : ℕ) (behind : List ℕ) (r : Result X AttributeFault) (view : X → List Frame × List ℕ) → IsBytes bytes → number_at ends w16 bytes ≡ Ok (count, behind)
+    → ReadsUnless Memory view r (many (frame_at pool) count behind) → IfOk r (λ x. FramesAreSized (view x).0)
+if_read pool bytes count behind (Ok x) view fits n read = read_sized pool bytes count behind (view x).0 (view x).1 fits n read
+if_read pool bytes count behind (Err e) view fits n read = tt
+
 pub returns-clause-sized : goal.returns-clause-sized
 returns-clause-sized c =
-    read_sized c.args.pool.now c.args.bytes.now c.in_ok-count.count c.in_ok-count.rest.now c.in_ok-frames.frames c.in_ok-frames.rest.now (λ i. omega (arith, c.type_inv.bytes i)) c.in_ok-count.ensures c.in_ok-frames.ensures
+    if_read c.args.pool.now c.args.bytes.now c.in_ok-count.count c.in_ok-count.rest.now c.so_many_frames_at.result (λ x. (x.0, x.1.now)) (λ i. omega (arith, c.type_inv.bytes i)) c.in_ok-count.ensures c.so_many_frames_at.ensures

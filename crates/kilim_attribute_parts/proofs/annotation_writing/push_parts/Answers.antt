@@ -1,0 +1,9 @@
+use Rattle.std.proofs.Common.{◌++◌, get_or, refl}
+use Rattle.kilim_attribute_parts.specs.Annotations.{part_text, parts_text}
+use Rattle.kilim_attribute_parts.proofs.Loops.{ahead}
+use Rattle.kilim_attribute_parts.proofs.annotation_writing.push_parts.Goals as goal
+
+pub loop-part-preserved : goal.loop-part-preserved
+loop-part-preserved c =
+    ahead part_text c.loop-part.into.items c.push_part.new.into.items (c.args.into.now.items ++ parts_text c.as_slice-part-items.result.now) c.as_slice-part-items.result.now c.loop-part.part-index (get_or c.as_slice-part-items.result.now c.loop-part.part-index _) _
+    c.loop-part-test.true refl c.loop-part.invariant c.in_ok-push_part.ensures
