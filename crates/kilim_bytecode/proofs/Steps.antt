@@ -1,6 +1,7 @@
 -- Reading instruction behind instruction.
-use Rattle.std.proofs.Common.{◌≡◌, ℕ, zero, suc, ◌+◌, ◌<◌, ◌≤◌, List, [], ◌∷◌, ◌++◌, length, get_or, drop, refl, sym, ap, subst, ◌∙◌, append_assoc, arith}
+use Rattle.std.proofs.Common.{◌≡◌, ℕ, zero, suc, ◌+◌, ◌<◌, ◌≤◌, List, [], ◌∷◌, ◌++◌, length, get_or, take, drop, add-one, refl, sym, ap, subst, ◌∙◌, append_assoc, arith}
 use Rattle.std.specs.Prelude.{◌≢◌}
+use Rattle.std.proofs.Math.Seq.{take-suc}
 use Rattle.std.proofs.lemmas.List.{append-nil, length-append, length-drop, nil_from_length}
 use Rattle.kilim_bytecode.specs.declared.opcodes.instr.RawInstr.{RawInstr}
 use Rattle.kilim_bytecode.specs.declared.opcodes.instr.RawInstr.TheVariants.{Plain}
@@ -24,6 +25,12 @@ text_push : (code : List Placed) (p : Placed) → code_text (code ++ p ∷ []) �
 unfolding code_text
 text_push [] p = append-nil (placed_text p)
 text_push (q ∷ code) p = ap (λ (bs : List ℕ). placed_text q ++ bs) (text_push code p) ∙ sym (append_assoc (placed_text q) (code_text code) (placed_text p))
+
+-- so many instructions, and one more
+pub one_more : (now next : List ℕ) (code : List Placed) (i : ℕ) (p : Placed) → i < length code → p ≡ get_or code i p → now ≡ code_text (take i code) → next ≡ now ++ placed_text p → next ≡ code_text (take (i + 1) code)
+one_more now next code i p lt is so_far step =
+    let front : take (i + 1) code ≡ take i code ++ p ∷ [] = rw add-one (take-suc code i p lt ∙ ap (λ (q : Placed). take i code ++ q ∷ []) (sym is)) in
+    step ∙ (ap (λ (bytes : List ℕ). bytes ++ placed_text p) so_far ∙ (sym (text_push (take i code) p) ∙ ap code_text (sym front)))
 
 pub text_more : (bytes : List ℕ) (code : List Placed) (at : ℕ) (instr : RawInstr) (next : ℕ) → bytes ≡ code_text code ++ drop at bytes → drop at bytes ≡ instr_text at instr ++ drop next bytes → bytes ≡ code_text (code ++ (at, instr) ∷ []) ++ drop next bytes
 text_more bytes code at instr next e f =

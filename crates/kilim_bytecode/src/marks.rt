@@ -33,16 +33,23 @@ fn is_marked(marks: &[bool], to: i64) -> bool
 fn first_of(marks: &[bool], targets: &[i64]) -> Option<i64>
     ensures { result ≡ find (λ to. not (is_marked marks.now to)) targets.now }
 {
-    targets.iter().copied().find(|to| !is_marked(marks, *to))
+    for to in targets {
+        if !is_marked(marks, *to) {
+            return Some(*to);
+        }
+    }
+    None
 }
 
 fn first_of_pairs(marks: &[bool], pairs: &[(i32, i64)]) -> Option<i64>
     ensures { result ≡ find (λ to. not (is_marked marks.now to)) (map (λ pair. pair.1) pairs.now) }
 {
-    pairs
-        .iter()
-        .map(|pair| pair.1)
-        .find(|to| !is_marked(marks, *to))
+    for pair in pairs {
+        if !is_marked(marks, pair.1) {
+            return Some(pair.1);
+        }
+    }
+    None
 }
 
 // The first target of an instruction that isn't marked.

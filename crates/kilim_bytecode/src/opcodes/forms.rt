@@ -83,9 +83,12 @@ const FORMS: [(u8, u8, OpForm); 40] = [
 fn form_in(rows: &[(u8, u8, OpForm)], op: u8) -> Option<OpForm>
     ensures { result ≡ form_in rows.now op }
 {
-    rows.iter()
-        .find(|row| row.0 <= op && op <= row.1)
-        .map(|row| row.2)
+    for row in rows {
+        if row.0 <= op && op <= row.1 {
+            return Some(row.2);
+        }
+    }
+    None
 }
 
 /// The layout of the instruction with this number (JVMS 6.5), `None` exactly for a number that this project's

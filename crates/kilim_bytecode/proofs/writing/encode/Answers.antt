@@ -1,6 +1,6 @@
 use Rattle.std.proofs.Common.{◌≡◌, ap, subst, List, length, get_or, ◌<◌, ◌∙◌}
 use Rattle.kilim_bytecode.specs.Code.{Placed, code_text}
-use Rattle.kilim_bytecode.proofs.Steps.{item_fits}
+use Rattle.kilim_bytecode.proofs.Steps.{item_fits, one_more}
 use Rattle.kilim_bytecode.proofs.writing.encode.Goals as goal
 
 pub write_instr-requires : goal.write_instr-requires
@@ -10,3 +10,7 @@ write_instr-requires c =
     let item : c.loop-at-item.result ≡ get_or code c.loop-at.at-index c.loop-at-item.result = c.loop-at-item.is ∙ ap (λ (xs : List Placed). get_or xs c.loop-at.at-index c.loop-at-item.result) at in
     let within : c.loop-at.at-index < length code = subst (λ (xs : List Placed). c.loop-at.at-index < length xs) at c.loop-at-test.true in
     item_fits code (length (code_text code)) c.loop-at.at-index c.loop-at-item.result item c.requires.stands within
+
+pub loop-at-preserved : goal.loop-at-preserved
+loop-at-preserved c =
+    one_more c.loop-at.bytes.items c.write_instr.new.into.items c.as_slice-at-items.result.now c.loop-at.at-index c.loop-at-item.result c.loop-at-test.true c.loop-at-item.is c.loop-at.invariant c.in_ok-write_instr.ensures.ok
