@@ -37,7 +37,6 @@ fn times(a: u64, b: u64) -> Result<u64, NoMemory>
 
 // ---- entries
 
-#[tactic(auto, using(crate::proofs::PausableCalls::one_more_is))]
 fn calls_in(program: &Program, code: &[(u32, Instr)]) -> usize
     ensures calls { result ≡ calls_in program.now code.now }
     ensures few { result ≤ length code.now }

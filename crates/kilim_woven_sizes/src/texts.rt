@@ -2,7 +2,9 @@
 
 ghost use Rattle.std.specs.Prelude.{◌≡◌, ◌++◌, ◌∷◌, [], Some, None, IfOk, OnOk};
 ghost use Rattle.std.specs.List.{flat_map};
+ghost use Rattle.kilim_classes.specs.declared.ty.Base.TheVariants as of_base;
 ghost use Rattle.kilim_classes.specs.Names.{base_descriptor, class_name, descriptor};
+ghost use Rattle.kilim_descriptors.specs.declared.types.BaseText.TheVariants as of_text;
 ghost use Rattle.kilim_descriptors.specs.Text.{base_text, field_text, method_text, result_text};
 ghost use Rattle.kilim_class_fits.specs.declared.pool_needs.need.Need.TheVariants.{AMethod};
 ghost use Rattle.kilim_woven_sizes.specs.file_laws.form.Texts.{class_entry_name, fiber_added, fiber_text, member_need, needed_method, type_name, with_fiber, woven_descriptor};
@@ -21,25 +23,35 @@ const BRACKET: u16 = 91;
 
 // ---- descriptors as they are read
 
+fn push_unit(out: &mut Vec<u16>, unit: u16) -> Result<(), NoMemory>
+    ensures { OnOk result (out.new.items ≡ out.old.items ++ unit ∷ []) }
+{
+    out.push(unit)?;
+    Ok(())
+}
+
+fn push_class_text(out: &mut Vec<u16>, name: &Units) -> Result<(), NoMemory>
+    ensures { OnOk result (out.new.items ≡ out.old.items ++ base_text (of_text.Class name.now)) }
+{
+    out.push(76)?;
+    out.extend_from_slice(name.as_slice())?;
+    push_unit(out, 59)
+}
+
 fn push_base_text(out: &mut Vec<u16>, base: &BaseText) -> Result<(), NoMemory>
     ensures { OnOk result (out.new.items ≡ out.old.items ++ base_text base.now) }
 {
     match base {
-        BaseText::Bool => out.push(90)?,
-        BaseText::Byte => out.push(66)?,
-        BaseText::Char => out.push(67)?,
-        BaseText::Short => out.push(83)?,
-        BaseText::Int => out.push(73)?,
-        BaseText::Long => out.push(74)?,
-        BaseText::Float => out.push(70)?,
-        BaseText::Double => out.push(68)?,
-        BaseText::Class(name) => {
-            out.push(76)?;
-            out.extend_from_slice(name.as_slice())?;
-            out.push(59)?;
-        }
+        BaseText::Bool => push_unit(out, 90),
+        BaseText::Byte => push_unit(out, 66),
+        BaseText::Char => push_unit(out, 67),
+        BaseText::Short => push_unit(out, 83),
+        BaseText::Int => push_unit(out, 73),
+        BaseText::Long => push_unit(out, 74),
+        BaseText::Float => push_unit(out, 70),
+        BaseText::Double => push_unit(out, 68),
+        BaseText::Class(name) => push_class_text(out, name),
     }
-    Ok(())
 }
 
 fn push_field_text(alloc: Global, out: &mut Vec<u16>, field: &FieldText) -> Result<(), NoMemory>
@@ -67,10 +79,7 @@ fn push_result(
     ensures { OnOk result (out.new.items ≡ out.old.items ++ result_text outcome.now) }
 {
     match outcome {
-        None => {
-            out.push(86)?;
-            Ok(())
-        }
+        None => push_unit(out, 86),
         Some(field) => push_field_text(alloc, out, field),
     }
 }
@@ -132,23 +141,30 @@ fn push_class(out: &mut Vec<u16>, program: &Program, class: ClassId) -> Result<(
     }
 }
 
+fn push_class_descriptor(
+    out: &mut Vec<u16>,
+    program: &Program,
+    class: ClassId,
+) -> Result<(), NoMemory>
+    ensures { OnOk result (out.new.items ≡ out.old.items ++ base_descriptor program.now (of_base.Class class)) }
+{
+    out.push(76)?;
+    push_class(out, program, class)?;
+    push_unit(out, 59)
+}
+
 fn push_base(out: &mut Vec<u16>, program: &Program, base: Base) -> Result<(), NoMemory>
     ensures { OnOk result (out.new.items ≡ out.old.items ++ base_descriptor program.now base) }
 {
     match base {
-        Base::Bool => out.push(90)?,
-        Base::Byte => out.push(66)?,
-        Base::Char => out.push(67)?,
-        Base::Short => out.push(83)?,
-        Base::Int => out.push(73)?,
-        Base::Long => out.push(74)?,
-        Base::Class(class) => {
-            out.push(76)?;
-            push_class(out, program, class)?;
-            out.push(59)?;
-        }
+        Base::Bool => push_unit(out, 90),
+        Base::Byte => push_unit(out, 66),
+        Base::Char => push_unit(out, 67),
+        Base::Short => push_unit(out, 83),
+        Base::Int => push_unit(out, 73),
+        Base::Long => push_unit(out, 74),
+        Base::Class(class) => push_class_descriptor(out, program, class),
     }
-    Ok(())
 }
 
 fn push_type(out: &mut Vec<u16>, program: &Program, ty: Ty) -> Result<(), NoMemory>

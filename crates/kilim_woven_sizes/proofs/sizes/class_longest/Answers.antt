@@ -1,0 +1,10 @@
+use Rattle.std.proofs.Common.{ℕ, refl, ap, ◌∙◌}
+use Rattle.kilim_classes.specs.declared.class.Class.{Class}
+use Rattle.kilim_woven_sizes.specs.file_laws.form.Sizes.{class_longest, larger, spelled_length}
+use Rattle.kilim_woven_sizes.proofs.Loops.{passed}
+use Rattle.kilim_woven_sizes.proofs.sizes.class_longest.Goals as goal
+
+pub loop-class-preserved : goal.loop-class-preserved
+loop-class-preserved c =
+    passed class_longest (λ (n : ℕ) (x : Class). larger n (spelled_length x.name)) (λ x xs n. refl) c.args.classes.now c.loop-class.class-index c.class-item.result _ c.loop-class.longest c.larger-longest.result
+    (class_longest c.args.classes.now c.args.least) c.loop-class-test.true c.class-item.is (c.larger-longest.ensures ∙ ap (λ (k : ℕ). larger c.loop-class.longest k) c.in_ok-spelled_length.ensures) c.loop-class.invariant

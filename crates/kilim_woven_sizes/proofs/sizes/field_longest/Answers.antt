@@ -1,0 +1,11 @@
+use Rattle.std.proofs.Common.{ℕ, refl}
+use Rattle.kilim_classes.specs.declared.class.Field.{Field}
+use Rattle.kilim_classes.specs.Names.{descriptor}
+use Rattle.kilim_woven_sizes.specs.file_laws.form.Sizes.{field_longest, larger, spelled_length}
+use Rattle.kilim_woven_sizes.proofs.Loops.{passed}
+use Rattle.kilim_woven_sizes.proofs.sizes.field_longest.Goals as goal
+
+pub loop-field-preserved : goal.loop-field-preserved
+loop-field-preserved c =
+    passed (field_longest c.args.program.now) (λ (n : ℕ) (x : Field). larger (larger n (spelled_length x.name)) (spelled_length (descriptor c.args.program.now x.ty))) (λ x xs n. refl) c.args.fields.now c.loop-field.field-index c.field-item.result _ c.loop-field.longest c.in_ok-longest.longest
+    (field_longest c.args.program.now c.args.fields.now c.args.least) c.loop-field-test.true c.field-item.is c.in_ok-longest.ensures c.loop-field.invariant

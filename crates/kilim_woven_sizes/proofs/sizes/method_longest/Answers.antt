@@ -1,0 +1,11 @@
+use Rattle.std.proofs.Common.{ℕ, refl}
+use Rattle.kilim_classes.specs.declared.class.Method.{Method}
+use Rattle.kilim_link_spec.specs.World.{method_descriptor}
+use Rattle.kilim_woven_sizes.specs.file_laws.form.Sizes.{method_longest, larger, spelled_length}
+use Rattle.kilim_woven_sizes.proofs.Loops.{passed}
+use Rattle.kilim_woven_sizes.proofs.sizes.method_longest.Goals as goal
+
+pub loop-method-preserved : goal.loop-method-preserved
+loop-method-preserved c =
+    passed (method_longest c.args.program.now) (λ (n : ℕ) (x : Method). larger (larger n (spelled_length x.name)) (spelled_length (method_descriptor c.args.program.now x))) (λ x xs n. refl) c.args.methods.now c.loop-method.method-index c.method-item.result _ c.loop-method.longest c.in_ok-longest.longest
+    (method_longest c.args.program.now c.args.methods.now c.args.least) c.loop-method-test.true c.method-item.is c.in_ok-longest.ensures c.loop-method.invariant
