@@ -334,10 +334,13 @@ pub fn request(words: &[String]) -> Option<Asked<'_>>
     ensures request { option_map meant result ≡ request_of (map string_bytes words.now) }
 {
     match words {
-        [command, rest @ ..] if command.as_str() == "check" => check_request(rest),
-        [command, rest @ ..] if command.as_str() == "weave" => weave_request(rest),
-        [command, rest @ ..] if command.as_str() == "run" => run_request(rest),
-        [command, rest @ ..] if command.as_str() == "demo" => demo_request(rest),
-        _ => None,
+        [] => None,
+        [command, rest @ ..] => match command.as_str() {
+            "check" => check_request(rest),
+            "weave" => weave_request(rest),
+            "run" => run_request(rest),
+            "demo" => demo_request(rest),
+            _ => None,
+        },
     }
 }
