@@ -5,6 +5,7 @@ ghost use Rattle.std.specs.List.{flat_map};
 ghost use Rattle.kilim_link_spec.specs.Types.{each_of, itself};
 ghost use Rattle.kilim_link_spec.specs.Code.{applied};
 ghost use Rattle.kilim_link_spec.specs.Frames.{table_in, tables_in, frame_of, frame_with, place_after, placed_frame, frames_from, frames_in};
+ghost use Rattle.kilim_link_frames.specs.Next.{IsNext};
 
 use crate::begin::entry_locals;
 use crate::entries::{delta_of, entries_of};
@@ -144,6 +145,29 @@ fn placed_frame(
     }
 }
 
+// Appends the next frame, and answers its place and its locals; none where a type in it isn't there.
+fn push_next(
+    alloc: Global,
+    frames: &mut Seq<(u32, Frame)>,
+    world: &World,
+    pool: &Pool,
+    before: Option<u32>,
+    locals: &[Option<VType>],
+    form: &FrameForm,
+) -> Result<Option<(u32, Seq<Option<VType>>)>, NoMemory>
+    ensures { IfOk result (IsNext world.now pool.now before locals.now form.now frames.old frames.new) }
+{
+    let place = place_after(before, delta_of(form))?;
+    let entries = entries_of(alloc, world, pool, locals, form)?;
+    match placed_frame(alloc, place, &entries)? {
+        Some(frame) => {
+            frames.push(frame)?;
+            Ok(Some((place, entries.locals)))
+        }
+        None => Ok(None),
+    }
+}
+
 // All frames, where the method begins with these locals.
 #[tactic(auto, unfolding(kilim_link_spec::specs::Frames::frames_from))]
 fn frames_from(
@@ -159,21 +183,23 @@ fn frames_from(
     let mut locals = begin;
     let mut before = None;
     for form in forms {
-        let place = match place_after(before, delta_of(form)) {
-            Ok(place) => place,
-            Err(fault) => return Err(fault),
-        };
-        let entries = match entries_of(alloc, world, pool, locals.as_slice(), form) {
-            Ok(entries) => entries,
-            Err(fault) => return Err(fault),
-        };
-        match placed_frame(alloc, place, &entries) {
-            Ok(Some(frame)) => frames.push(frame)?,
+        let found = push_next(
+            alloc,
+            &mut frames,
+            world,
+            pool,
+            before,
+            locals.as_slice(),
+            form,
+        );
+        match found {
+            Ok(Some((place, next))) => {
+                before = Some(place);
+                locals = next;
+            }
             Ok(None) => return Ok(None),
             Err(fault) => return Err(fault),
         }
-        before = Some(place);
-        locals = entries.locals;
     }
     Ok(Some(frames))
 }
