@@ -1,5 +1,5 @@
 -- Making the elements of one list, and then of others behind it.
-use Rattle.std.proofs.Common.{◌≡◌, Bool, true, false, ℕ, ◌+◌, ◌<◌, zero, suc, List, [], ◌∷◌, ◌++◌, length, drop, get_or, map, Option, Some, None, refl, sym, ap, ◌∙◌, append_assoc, arith}
+use Rattle.std.proofs.Common.{◌≡◌, Bool, true, false, ℕ, ◌+◌, ◌<◌, zero, suc, List, [], ◌∷◌, ◌++◌, length, drop, get_or, map, Option, Some, None, refl, sym, ap, ◌∙◌, append_assoc, arith, subst}
 use Rattle.std.specs.List.{flat_map}
 use Rattle.std.proofs.lemmas.Option.{same_Some}
 use Rattle.kilim_classfile.specs.declared.class_file.ClassFile.{ClassFile}
@@ -56,6 +56,45 @@ drop_one (x ∷ xs) zero d lt = refl
 drop_one (x ∷ xs) (suc i) d lt =
     let n : suc i + 1 ≡ suc (i + 1) = omega arith in
     drop_one xs i d (omega arith) ∙ ap (λ (k : ℕ). get_or xs i d ∷ drop k (x ∷ xs)) (sym n)
+
+-- ---- a loop that makes each element, and stops where one isn't there
+
+made_then : {B : Type 0} (made : List B) (y : B) (others : Option (List B)) → behind made (with_first (Some y) others) ≡ behind (made ++ y ∷ []) others
+made_then made y None = refl
+made_then {B} made y (Some zs) = ap (λ (all : List B). Some all) (sym (append_assoc made (y ∷ []) zs))
+
+pub rest_at : {A : Type 0} (xs : List A) (i : ℕ) (x d : A) → i < length xs → x ≡ get_or xs i d → drop i xs ≡ x ∷ drop (i + 1) xs
+rest_at xs i x d lt is = drop_one xs i d lt ∙ ap (λ y. y ∷ drop (i + 1) xs) (sym is)
+
+module _ {A B : Type 0} (make : A → Option B) (items xs : List A) (i : ℕ) (x : A) (made : List B) {total : Option (List B)} (same : items ≡ xs) (lt : i < length items) (is : x ≡ get_or items i x) (so_far : behind made (each_of make (drop i xs)) ≡ total) where
+  here_at : behind made (with_first (make x) (each_of make (drop (i + 1) xs))) ≡ total
+  here_at =
+      let within = subst (λ (ys : List A). i < length ys) same lt in
+      let here = is ∙ ap (λ (ys : List A). get_or ys i x) same in
+      ap (λ ys. behind made (each_of make ys)) (sym (rest_at xs i x x within here)) ∙ so_far
+
+  pub one_more : (y : B) (new : List B) → Some y ≡ make x → new ≡ made ++ y ∷ [] → behind new (each_of make (drop (i + 1) xs)) ≡ total
+  one_more y new there step =
+      let others = each_of make (drop (i + 1) xs) in
+      ap (λ ys. behind ys others) step ∙ (sym (made_then made y others) ∙ (ap (λ o. behind made (with_first o others)) there ∙ here_at))
+
+  pub not_there : None ≡ make x → None ≡ total
+  not_there none = ap (λ o. behind made (with_first o (each_of make (drop (i + 1) xs)))) none ∙ here_at
+
+-- ---- a loop over files, which makes something of each with its number
+
+module _ {B : Type 0} (make : ClassFile → ClassId → Option B) (files : List ClassFile) (i n : ℕ) (file : ClassFile) (made : List B) {total : Option (List B)} (lt : i < length files) (is : file ≡ get_or files i file) (so_far : behind made (each_of itself (numbered make n (drop i files))) ≡ total) where
+  numbered_here : behind made (with_first (make file (class_id n)) (each_of itself (numbered make (suc n) (drop (i + 1) files)))) ≡ total
+  numbered_here = ap (λ fs. behind made (each_of itself (numbered make n fs))) (sym (rest_at files i file file lt is)) ∙ so_far
+
+  pub next_numbered : (next : ℕ) (y : B) (new : List B) → next ≡ n + 1 → Some y ≡ make file (class_id n) → new ≡ made ++ y ∷ [] → behind new (each_of itself (numbered make next (drop (i + 1) files))) ≡ total
+  next_numbered next y new after there step =
+      let k : next ≡ suc n = omega arith in
+      let others = each_of itself (numbered make (suc n) (drop (i + 1) files)) in
+      rw k (ap (λ ys. behind ys others) step ∙ (sym (made_then made y others) ∙ (ap (λ o. behind made (with_first o others)) there ∙ numbered_here)))
+
+  pub not_numbered : None ≡ make file (class_id n) → None ≡ total
+  not_numbered none = ap (λ o. behind made (with_first o (each_of itself (numbered make (suc n) (drop (i + 1) files))))) none ∙ numbered_here
 
 -- ---- a loop over files, which makes something of each member of each
 

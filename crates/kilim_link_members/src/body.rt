@@ -1,12 +1,12 @@
 //! What the code of a method comes to.
 
-ghost use Rattle.std.specs.Prelude.{◌≡◌, Some, IfOk, option_copied};
+ghost use Rattle.std.specs.Prelude.{◌≡◌, Some, IfOk, length, option_copied};
 ghost use Rattle.kilim_link_spec.specs.World.{declared_method};
 ghost use Rattle.kilim_link_spec.specs.Code.{decoded, code_of};
-ghost use Rattle.kilim_link_spec.specs.Linked.{no_body, body_with, body_in};
+ghost use Rattle.kilim_link_spec.specs.Linked.{no_body, body_in};
 
 use kilim_attributes::Code;
-use kilim_classes::{ClassId, Frame, Instr};
+use kilim_classes::{ClassId, Instr};
 use kilim_classfile::{ClassFile, MemberInfo};
 use kilim_constant_pool::Pool;
 use kilim_link_code::code_of;
@@ -44,22 +44,12 @@ fn instrs_in(
     }
 }
 
-// With code of these instructions and frames. Code of 4,294,967,296 bytes or more is answered as want of memory.
-fn body_with(
-    code: &Code,
-    instrs: Seq<(u32, Instr)>,
-    frames: Seq<(u32, Frame)>,
-) -> Result<Body, NoMemory>
-    ensures { IfOk result (λ body. body ≡ body_with code.now instrs frames) }
+// The number of bytes of code; 4,294,967,296 or more are answered as want of memory.
+fn length_of(code: &Code) -> Result<u32, NoMemory>
+    ensures { IfOk result (λ count. count ≡ length code.now.code) }
 {
     match u32::try_from(code.code.len()) {
-        Ok(code_length) => Ok(Body {
-            max_stack: code.max_stack,
-            max_locals: code.max_locals,
-            code_length,
-            code: instrs,
-            frames,
-        }),
+        Ok(count) => Ok(count),
         Err(_) => Err(NoMemory),
     }
 }
@@ -77,12 +67,19 @@ fn body_of(
     requires { declared.now ≡ declared_method file.now method.now }
     ensures { IfOk result (λ body. body ≡ body_in world.now file.now class method.now (Some code.now)) }
 {
+    let code_length = length_of(code)?;
     let instrs = instrs_in(alloc, world, &file.constant_pool, code.code.as_slice())?;
     let Some(instrs) = instrs else {
         return Ok(None);
     };
     match frames_in(alloc, world, file, class, declared, code)? {
-        Some(frames) => Ok(Some(body_with(code, instrs, frames)?)),
+        Some(frames) => Ok(Some(Body {
+            max_stack: code.max_stack,
+            max_locals: code.max_locals,
+            code_length,
+            code: instrs,
+            frames,
+        })),
         None => Ok(None),
     }
 }

@@ -71,10 +71,10 @@ fn linked_with(
     requires text { Some text.now ≡ method_text declared.now.descriptor }
     ensures { IfOk result (λ found. found ≡ linked_method world.now file.now class method.now) }
 {
-    let Some(params) = types_in(alloc, world, text.params.as_slice())? else {
+    let Some(gives) = result_in(world, text.result.as_ref()) else {
         return Ok(None);
     };
-    let Some(gives) = result_in(world, text.result.as_ref()) else {
+    let Some(params) = types_in(alloc, world, text.params.as_slice())? else {
         return Ok(None);
     };
     let code = code_attribute(method);
@@ -85,6 +85,24 @@ fn linked_with(
         alloc, world, file, class, method, declared, text, params, gives, body,
     )?;
     Ok(Some(found))
+}
+
+// A method as it is declared, in a program.
+fn linked_declared(
+    alloc: Global,
+    world: &World,
+    file: &ClassFile,
+    class: ClassId,
+    method: &MemberInfo,
+    declared: &DeclaredMethod,
+) -> Result<Option<Method>, NoMemory>
+    requires { declared.now ≡ declared_method file.now method.now }
+    ensures { IfOk result (λ found. found ≡ linked_method world.now file.now class method.now) }
+{
+    match method_text(alloc, &declared.descriptor)? {
+        Some(text) => linked_with(alloc, world, file, class, method, declared, &text),
+        None => Ok(None),
+    }
 }
 
 /// A method of a class in a program (JVMS 4.6), where its types, and all that its code and its frames name, are there.
@@ -99,8 +117,5 @@ pub fn linked_method(
     ensures { IfOk result (λ found. found ≡ linked_method world.now file.now class method.now) }
 {
     let declared = declared_method(alloc, file, method)?;
-    match method_text(alloc, &declared.descriptor)? {
-        Some(text) => linked_with(alloc, world, file, class, method, &declared, &text),
-        None => Ok(None),
-    }
+    linked_declared(alloc, world, file, class, method, &declared)
 }
