@@ -29,11 +29,11 @@ taken_by (Some field) ty some = by field.is_static some
     by true e = absurd (cc)
     by false e = let same : field.ty ≡ ty = grind (arith, e) in let P : Ty → Type 0 = λ t. first_value field.ty ≡ first_value t in (refl, subst P same refl)
 
-pub field_passed : (p : Program) (done : List (FieldId × Value)) (f : FieldId) (fs : List FieldId) → instance_type p f ≡ None → done ++ first_fields p fs ≡ done ++ first_fields p (f ∷ fs)
-field_passed p done f fs none = rw (passed_by (field_of p f) none)
+pub field_passed : (p : Program) (f : FieldId) → instance_type p f ≡ None → first_fields p (f ∷ []) ≡ []
+field_passed p f none = rw (passed_by (field_of p f) none) refl
 
-pub field_taken : (p : Program) (done : List (FieldId × Value)) (f : FieldId) (fs : List FieldId) (ty : Ty) → instance_type p f ≡ Some ty → (done ++ (f, first_value ty) ∷ []) ++ first_fields p fs ≡ done ++ first_fields p (f ∷ fs)
-field_taken p done f fs ty some = let t = taken_by (field_of p f) ty some in rw (t.0, t.1) (append_assoc done ((f, first_value ty) ∷ []) (first_fields p fs))
+pub field_taken : (p : Program) (f : FieldId) (ty : Ty) → instance_type p f ≡ Some ty → first_fields p (f ∷ []) ≡ (f, first_value ty) ∷ []
+field_taken p f ty some = let t = taken_by (field_of p f) ty some in rw (t.0, t.1) refl
 
 -- those of two lists, one behind the other
 pub fields_joined : (p : Program) (fs gs : List FieldId) → first_fields p (fs ++ gs) ≡ first_fields p fs ++ first_fields p gs

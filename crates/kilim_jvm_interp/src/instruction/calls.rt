@@ -219,12 +219,7 @@ fn unit_at(units: &[u16], index: i32) -> Option<u16>
     if index < 0 {
         return None;
     }
-    let index = index as usize;
-    if index < units.len() {
-        Some(units[index])
-    } else {
-        None
-    }
+    units.get(index as usize).copied()
 }
 
 fn call_text(named: &Method, own: &Method, next: u32, frame: &mut Frame, heap: &Heap) -> Moved

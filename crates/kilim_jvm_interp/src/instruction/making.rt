@@ -1,7 +1,8 @@
 //! New objects, arrays and mailboxes (JVMS 2.11.5).
 
-ghost use Rattle.std.specs.Prelude.{◌≡◌, ◌≤◌, ◌<◌, ◌++◌, ◌≤ℤ◌, false, pos, nat_lt, length, IfOk, IfSome, OnOk};
-ghost use Rattle.kilim_classes.specs.Names.{fields_of};
+ghost use Rattle.std.specs.Prelude.{◌≡◌, ◌≤◌, ◌<◌, ◌++◌, ◌∷◌, [], ◌≤ℤ◌, false, pos, nat_lt, length, option_copied, IfOk, IfSome, OnOk};
+ghost use Rattle.std.specs.List.{flat_map};
+ghost use Rattle.kilim_classes.specs.Names.{field_of, fields_of};
 ghost use Rattle.kilim_classes.specs.declared.instr.Instr.TheVariants.{New, Newarray, Anewarray};
 ghost use Rattle.kilim_program.specs.Members.{object_fields};
 ghost use Rattle.kilim_jvm_interp.specs.instruction.Making.{instance_type, first_fields};
@@ -10,7 +11,7 @@ ghost use Rattle.kilim_program.specs.Does.{does, array_limit, is_mailbox, makes_
 ghost use Rattle.kilim_program.specs.Effect.{on_int};
 ghost use Rattle.kilim_rows.specs.Outcome.{is_stuck, height, Shows, SameFrame, IsAdded};
 
-use kilim_classes::{Base, ClassId, FieldId, Method, Program, Ty, Value};
+use kilim_classes::{Base, ClassId, Field, FieldId, Method, Program, Ty, Value};
 use kilim_lookups::{class_at, line_of};
 use kilim_machine_parts::Heap;
 use kilim_machine_parts::frames::Frame;
@@ -51,11 +52,17 @@ fn first_value(ty: Ty) -> Value
     }
 }
 
+fn field_at(program: &Program, id: FieldId) -> Option<&Field>
+    ensures { option_copied result ≡ field_of program.now id }
+{
+    program.fields.as_slice().get(id.0 as usize)
+}
+
 // The type of an instance field; of a static one none.
 fn instance_type(program: &Program, id: FieldId) -> Option<Ty>
     ensures { result ≡ instance_type program.now id }
 {
-    match program.fields.as_slice().get(id.0 as usize) {
+    match field_at(program, id) {
         Some(field) => {
             if field.is_static {
                 None
@@ -67,8 +74,25 @@ fn instance_type(program: &Program, id: FieldId) -> Option<Ty>
     }
 }
 
-// The instance fields that a class declares, with their first values, behind others.
+// A field with its first value behind others; a static one isn't put there.
 #[tactic(auto, using(crate::proofs::instruction::Fields::field_passed, crate::proofs::instruction::Fields::field_taken))]
+fn push_field(
+    fields: &mut Vec<(FieldId, Value)>,
+    program: &Program,
+    id: FieldId,
+) -> Result<(), NoMemory>
+    ensures { OnOk result (fields.new.items ≡ fields.old.items ++ first_fields program.now (id ∷ [])) }
+{
+    match instance_type(program, id) {
+        Some(ty) => {
+            fields.push((id, first_value(ty)))?;
+            Ok(())
+        }
+        None => Ok(()),
+    }
+}
+
+// The instance fields that a class declares, with their first values, behind others.
 fn push_fields(
     fields: &mut Vec<(FieldId, Value)>,
     program: &Program,
@@ -77,9 +101,7 @@ fn push_fields(
     ensures { OnOk result (fields.new.items ≡ fields.old.items ++ first_fields program.now declared.now) }
 {
     for id in declared {
-        if let Some(ty) = instance_type(program, *id) {
-            fields.push((*id, first_value(ty)))?;
-        }
+        push_field(fields, program, *id)?;
     }
     Ok(())
 }
@@ -94,17 +116,28 @@ fn fields_of(program: &Program, class: ClassId) -> &[FieldId]
     }
 }
 
+// The instance fields of these classes, with their first values.
+fn fields_of_each(
+    alloc: Global,
+    program: &Program,
+    line: &[ClassId],
+) -> Result<Vec<(FieldId, Value)>, NoMemory>
+    ensures { IfOk result (λ fields. fields.items ≡ first_fields program.now (flat_map (fields_of program.now) line.now)) }
+{
+    let mut fields = Vec::new(alloc);
+    for at in line {
+        push_fields(&mut fields, program, fields_of(program, *at))?;
+    }
+    Ok(fields)
+}
+
 /// A new object of a class, with the fields of its superclasses first.
-#[tactic(auto, using(crate::proofs::instruction::Fields::class_taken))]
 pub fn new_object(alloc: Global, program: &Program, class: ClassId) -> Result<Object, NoMemory>
     ensures { IfOk result (λ object. object ≡ new_object program.now class) }
 {
     let mut line = line_of(alloc, program, class)?;
     line.reverse();
-    let mut fields = Vec::new(alloc);
-    for at in &line {
-        push_fields(&mut fields, program, fields_of(program, *at))?;
-    }
+    let fields = fields_of_each(alloc, program, &line)?;
     Ok(Object {
         class: Ty {
             dims: 0,
@@ -119,11 +152,8 @@ pub fn new_object(alloc: Global, program: &Program, class: ClassId) -> Result<Ob
 pub fn new_array(alloc: Global, ty: Ty, element: &Value, length: usize) -> Result<Object, NoMemory>
     ensures { IfOk result (λ object. object ≡ new_array ty element.now length) }
 {
-    let mut elements = Vec::new(alloc);
-    elements.reserve(length)?;
-    for _ in 0..length {
-        elements.push(element.clone()?)?;
-    }
+    let first = element.clone()?;
+    let elements = vec![in alloc; first; length]?;
     Ok(Object {
         class: ty,
         fields: Seq::new(alloc),
