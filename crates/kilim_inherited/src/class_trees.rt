@@ -3,12 +3,13 @@
 ghost use Rattle.std.specs.Prelude.{◌≡◌, ◌≤◌, ◌<◌, ◌^◌, ℕ, true, None, Some, IfOk, OnOk, is_some, length, slice_set};
 ghost use Rattle.kilim_classes.specs.declared.names.ClassId.{ClassId};
 ghost use Rattle.kilim_inherited.specs.Fronts.{IsFront, said_onto};
-ghost use Rattle.kilim_inherited.specs.Inherited.{said_at, said_in, up_in};
+ghost use Rattle.kilim_inherited.specs.Inherited.{said_at, said_in};
 ghost use Rattle.kilim_inherited.specs.Roots.{root_at, MadeBelow, Keeps, Sound};
 ghost use Rattle.kilim_inherited.specs.Trees.{IsTable, Makes, Has, Fits, value_at, key_levels};
 
 use crate::entry::Entry;
 use crate::node::Node;
+use crate::order::{superclass_in, superclasses_first};
 use crate::put::put_entries;
 use kilim_classes::ClassId;
 use kilim_units::{NoMemory, Seq};
@@ -20,16 +21,6 @@ pub fn root_of(roots: &[Option<u32>], class: ClassId) -> Option<u32>
 {
     match roots.get(class.0 as usize) {
         Some(root) => *root,
-        None => None,
-    }
-}
-
-/// The superclass of a class, none past the end.
-pub fn superclass_in(ups: &[Option<ClassId>], class: ClassId) -> Option<ClassId>
-    ensures { result ≡ up_in ups.now class }
-{
-    match ups.get(class.0 as usize) {
-        Some(up) => *up,
         None => None,
     }
 }
@@ -148,21 +139,21 @@ pub fn make_tree(
     Ok(())
 }
 
-/// Makes the trees of some classes, one after the other.
+/// Makes the trees of classes, each behind its superclass's.
 pub fn make_trees(
     alloc: Global,
     nodes: &mut Seq<Node>,
     roots: &mut Seq<Option<u32>>,
     ups: &[Option<ClassId>],
     entries: &[Seq<Entry>],
-    classes: &[ClassId],
 ) -> Result<(), NoMemory>
     requires said { length entries.now ≤ length ups.now }
     requires sound { Sound ups.now entries.now nodes.old roots.old }
     ensures sound { OnOk result (Sound ups.now entries.now nodes.new roots.new) }
     ensures kept { OnOk result (Keeps roots.old roots.new) }
 {
-    for class in classes {
+    let order = superclasses_first(alloc, ups)?;
+    for class in order.as_slice() {
         make_tree(alloc, nodes, roots, ups, entries, *class)?;
     }
     Ok(())

@@ -7,7 +7,6 @@ use crate::class_trees::{make_all, make_trees, no_roots, root_of};
 use crate::entry::Entry;
 use crate::lookup::{has_any, key_levels, value_at};
 use crate::node::{Node, add};
-use crate::order::superclasses_first;
 use kilim_classes::ClassId;
 use kilim_units::{NoMemory, Seq};
 use std::alloc::Global;
@@ -44,15 +43,7 @@ impl Inherited {
         let mut nodes: Seq<Node> = Seq::new(alloc);
         add(&mut nodes, Node::Empty)?;
         let mut roots = no_roots(alloc, ups.len())?;
-        let order = superclasses_first(alloc, ups)?;
-        make_trees(
-            alloc,
-            &mut nodes,
-            &mut roots,
-            ups,
-            entries,
-            order.as_slice(),
-        )?;
+        make_trees(alloc, &mut nodes, &mut roots, ups, entries)?;
         make_all(alloc, &mut nodes, &mut roots, ups, entries)?;
         Ok(Inherited { nodes, roots })
     }

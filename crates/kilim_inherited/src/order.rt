@@ -1,9 +1,21 @@
 //! The order in which trees are made.
 
-use crate::class_trees::superclass_in;
+ghost use Rattle.std.specs.Prelude.{◌≡◌};
+ghost use Rattle.kilim_inherited.specs.Inherited.{up_in};
+
 use kilim_classes::ClassId;
 use kilim_units::{NoMemory, Seq};
 use std::alloc::Global;
+
+/// The superclass of a class, none past the end.
+pub fn superclass_in(ups: &[Option<ClassId>], class: ClassId) -> Option<ClassId>
+    ensures { result ≡ up_in ups.now class }
+{
+    match ups.get(class.0 as usize) {
+        Some(up) => *up,
+        None => None,
+    }
+}
 
 // Whether a class is seen for the first time; never past the end.
 fn is_new(seen: &mut Vec<bool>, class: ClassId) -> bool {
