@@ -1,6 +1,6 @@
 //! Files by their names.
 
-ghost use Rattle.std.specs.Prelude.{◌≡◌, List, ℕ, Option, OnOk};
+ghost use Rattle.std.specs.Prelude.{◌≡◌, ◌⊎◌, ◌∷◌, ◌++◌, List, ℕ, [], Option, OnOk, IfOk};
 ghost use Rattle.std.specs.Io.{StartsWith};
 ghost use Rattle.kilim_outside.specs.Files.{Files, ReadsFile, KeepsOthers, HasFile};
 ghost use Rattle.kilim_outside.specs.Causes.{FolderCause};
@@ -8,7 +8,7 @@ ghost use Rattle.kilim_outside.specs.declared.folder.FailedCall.{FailedCall};
 ghost use Rattle.kilim_outside.specs.declared.folder.FailedCall.TheVariants.{Read, Write};
 
 use kilim_units::Seq;
-use std::alloc::{AllocError, AllocFailed};
+use std::alloc::{AllocError, AllocFailed, Global};
 
 /// Why a folder didn't read or write.
 #[derive(Clone, Copy)]
@@ -46,6 +46,46 @@ pub enum FailedCall {
     Read(Seq<u8>),
     /// A call of `write`.
     Write(Seq<u8>),
+}
+
+// A copy of a name.
+fn copy_of(alloc: Global, name: &str) -> Result<Seq<u8>, AllocError>
+    ensures { IfOk result (λ copy. copy ≡ name.now) }
+{
+    Ok(Seq::from_vec(Vec::from_slice(alloc, name.as_bytes())?))
+}
+
+// The fault of a call that fails, which is noted; for want of memory it isn't.
+fn refusal(faults: &mut Seq<FailedCall>, call: FailedCall) -> FolderFault
+    ensures own { (faults.new ≡ faults.old) ⊎ (faults.new ≡ faults.old ++ call ∷ []) }
+    ensures failed { result ≡ FolderFault.Failed → faults.new ≡ faults.old ++ call ∷ [] }
+{
+    match faults.push(call) {
+        Ok(()) => FolderFault::Failed,
+        Err(_) => FolderFault::NoMemory,
+    }
+}
+
+/// The fault of a read that fails, which is noted; for want of memory it isn't.
+pub(crate) fn read_refusal(faults: &mut Seq<FailedCall>, name: &str) -> FolderFault
+    ensures own { (faults.new ≡ faults.old) ⊎ (faults.new ≡ faults.old ++ Read name.now ∷ []) }
+    ensures failed { result ≡ FolderFault.Failed → faults.new ≡ faults.old ++ Read name.now ∷ [] }
+{
+    match copy_of(*faults.items.allocator(), name) {
+        Ok(copy) => refusal(faults, FailedCall::Read(copy)),
+        Err(_) => FolderFault::NoMemory,
+    }
+}
+
+/// The same of a write.
+pub(crate) fn write_refusal(faults: &mut Seq<FailedCall>, name: &str) -> FolderFault
+    ensures own { (faults.new ≡ faults.old) ⊎ (faults.new ≡ faults.old ++ Write name.now ∷ []) }
+    ensures failed { result ≡ FolderFault.Failed → faults.new ≡ faults.old ++ Write name.now ∷ [] }
+{
+    match copy_of(*faults.items.allocator(), name) {
+        Ok(copy) => refusal(faults, FailedCall::Write(copy)),
+        Err(_) => FolderFault::NoMemory,
+    }
 }
 
 /// Files that can be read and written by their names.

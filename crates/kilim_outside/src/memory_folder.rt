@@ -1,6 +1,6 @@
 //! Folders in memory, which tell what they hold.
 
-ghost use Rattle.std.specs.Prelude.{◌≡◌, ◌≢◌, ◌⊎◌, ◌∷◌, ◌++◌, List, ℕ, [], Option, Some, None, Err, true, false, is_some, take, unwrap_or, OnOk, OnErr, IfOk};
+ghost use Rattle.std.specs.Prelude.{◌≡◌, ◌≢◌, ◌⊎◌, ◌∷◌, ◌++◌, List, ℕ, [], Option, Some, None, Err, true, false, is_some, take, unwrap_or, OnOk, OnErr};
 ghost use Rattle.std.specs.Prelude.{find, nat_eq};
 ghost use Rattle.std.specs.Cmp.Lexicographic.{pointwise};
 ghost use Rattle.std.specs.Option.{option_copied};
@@ -13,7 +13,7 @@ ghost use Rattle.kilim_outside.specs.Asked.{is_asked, counted};
 ghost use Rattle.kilim_outside.specs.declared.folder.FailedCall.TheVariants.{Read, Write};
 ghost use Rattle.kilim_outside.specs.declared.memory_folder.NamedFile.{NamedFile};
 
-use crate::folder::{FailedCall, Folder, FolderFault};
+use crate::folder::{FailedCall, Folder, FolderFault, read_refusal, write_refusal};
 use crate::limits::file_limit;
 use kilim_units::Seq;
 use std::alloc::AllocError;
@@ -119,17 +119,6 @@ pub struct MapFolder {
     pub fails: Seq<u64>,
 }
 
-// The fault of a call that fails, which is noted; for want of memory it isn't.
-fn refusal(faults: &mut Seq<FailedCall>, call: FailedCall) -> FolderFault
-    ensures failed { result ≡ FolderFault.Failed → faults.new ≡ faults.old ++ call ∷ [] }
-    ensures memory { result ≡ FolderFault.NoMemory → faults.new ≡ faults.old }
-{
-    match faults.push(call) {
-        Ok(()) => FolderFault::Failed,
-        Err(_) => FolderFault::NoMemory,
-    }
-}
-
 impl MapFolder {
     // Counts a call, and says whether it is one that fails.
     fn fails_now(&mut self) -> bool
@@ -151,12 +140,19 @@ impl MapFolder {
         first_named(self.files.as_slice(), name.as_bytes()).is_some()
     }
 
-    // A copy of a name.
-    fn copy_of(&self, name: &str) -> Result<Seq<u8>, AllocError>
-        ensures { IfOk result (λ copy. copy ≡ name.now) }
+    // Counts a call, and says whether it can read that file.
+    fn can_read(&mut self, name: &str) -> bool
+        ensures yes { result ≡ true → (is_asked self.old.fails self.old.calls ≡ false) × (is_some (get (files_of self.old.files) name.now) ≡ true) }
+        ensures no { result ≡ false → (is_asked self.old.fails self.old.calls ≡ true) ⊎ (get (files_of self.old.files) name.now ≡ None) }
+        ensures calls { self.new.calls ≡ counted self.old.calls }
+        ensures fails { self.new.fails ≡ self.old.fails }
+        ensures files { self.new.files ≡ self.old.files }
+        ensures faults { self.new.faults ≡ self.old.faults }
     {
-        let alloc = *self.files.items.allocator();
-        Ok(Seq::from_vec(Vec::from_slice(alloc, name.as_bytes())?))
+        if self.fails_now() {
+            return false;
+        }
+        self.has(name)
     }
 }
 
@@ -165,7 +161,6 @@ impl Folder for MapFolder {
 
     ghost faults = { λ folder. folder.faults };
 
-    #[tactic(auto, using(crate::proofs::FileLemmas::is_there, crate::proofs::FileLemmas::is_absent))]
     fn read(&mut self, name: &str, into: &mut Vec<u8>) -> Result<(), FolderFault>
         ensures bytes { OnOk result (into.new.items ≡ into.old.items ++ take file_limit (content_of (files_of self.old.files) name.now)) }
         ensures ok { OnOk result ((is_asked self.old.fails self.old.calls ≡ false) × (is_some (get (files_of self.old.files) name.now) ≡ true)) }
@@ -176,9 +171,8 @@ impl Folder for MapFolder {
         ensures files { self.new.files ≡ self.old.files }
         ensures cause { FolderCause (Read name.now) self.old.faults self.new.faults result }
     {
-        let call = FailedCall::Read(self.copy_of(name)?);
-        if self.fails_now() || !self.has(name) {
-            return Err(refusal(&mut self.faults, call));
+        if !self.can_read(name) {
+            return Err(read_refusal(&mut self.faults, name));
         }
         append_content(self.files.as_slice(), name.as_bytes(), into)?;
         Ok(())
@@ -194,9 +188,8 @@ impl Folder for MapFolder {
         ensures fails { self.new.fails ≡ self.old.fails }
         ensures cause { FolderCause (Write name.now) self.old.faults self.new.faults result }
     {
-        let call = FailedCall::Write(self.copy_of(name)?);
         if self.fails_now() {
-            return Err(refusal(&mut self.faults, call));
+            return Err(write_refusal(&mut self.faults, name));
         }
         put_file(&mut self.files, name.as_bytes(), bytes)?;
         Ok(())

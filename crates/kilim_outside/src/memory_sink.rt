@@ -4,7 +4,7 @@ ghost use Rattle.std.specs.Prelude.{◌≡◌, ◌≢◌, ◌<◌, ◌⊎◌, �
 ghost use Rattle.kilim_outside.specs.Causes.{SinkCause};
 ghost use Rattle.kilim_outside.specs.Asked.{is_asked, counted};
 
-use crate::sink::{SinkFault, TextSink};
+use crate::sink::{SinkFault, TextSink, faults_behind};
 use kilim_units::Seq;
 
 /// A sink in memory in which no call fails but for want of memory. It takes every piece whole, and its
@@ -73,9 +73,7 @@ impl TextSink for VecSink {
         let count = piece.len().min(self.most);
         let (front, _) = piece.split_at(count);
         self.bytes.items.extend_from_slice(front)?;
-        if count == 0 && !piece.is_empty() {
-            self.faults = self.faults.saturating_add(1);
-        }
+        self.faults = faults_behind(self.faults, count, piece);
         Ok(count)
     }
 }

@@ -1,11 +1,11 @@
 //! The real disk and standard output: the trusted edge. They tell nothing but their faults.
 
-ghost use Rattle.std.specs.Prelude.{◌≡◌, ◌≤◌, ◌+◌, ◌++◌, [], None, vec_len, vec_capacity, OnOk, IfOk, IfErr};
+ghost use Rattle.std.specs.Prelude.{◌≡◌, [], None};
 ghost use Rattle.std.specs.Io.{StartsWith};
 
-use crate::folder::{FailedCall, Folder, FolderFault};
+use crate::folder::{FailedCall, Folder, FolderFault, read_refusal, write_refusal};
 use crate::limits::file_limit;
-use crate::sink::{SinkFault, TextSink};
+use crate::sink::{SinkFault, TextSink, faults_behind};
 use kilim_units::Seq;
 use std::alloc::Global;
 use std::fs::File;
@@ -18,7 +18,7 @@ use std::{fs, io};
 #[derive(Drop)]
 pub struct DiskFolder<'a, R: Files> {
     rt: &'a R,
-    faults: Vec<FailedCall>,
+    faults: Seq<FailedCall>,
 }
 
 impl<'a, R: Files> DiskFolder<'a, R> {
@@ -28,20 +28,8 @@ impl<'a, R: Files> DiskFolder<'a, R> {
     {
         DiskFolder {
             rt,
-            faults: Vec::new(alloc),
+            faults: Seq::new(alloc),
         }
-    }
-
-    // Makes room for one more entry, and copies the name.
-    fn name_of(&mut self, name: &str) -> Result<Seq<u8>, FolderFault>
-        ensures name { IfOk result (λ copy. copy ≡ name.now) }
-        ensures room { OnOk result (vec_len self.new.faults + 1 ≤ vec_capacity self.new.faults) }
-        ensures faults { self.new.faults.items ≡ self.old.faults.items }
-        ensures memory { IfErr result (λ fault. fault ≡ FolderFault.NoMemory) }
-    {
-        self.faults.reserve(1)?;
-        let alloc = *self.faults.allocator();
-        Ok(Seq::from_vec(Vec::from_slice(alloc, name.as_bytes())?))
     }
 }
 
@@ -67,27 +55,19 @@ fn write_file<R: Files>(rt: &R, name: &str, bytes: &[u8]) -> io::Result<()> {
 impl<R: Files> Folder for DiskFolder<'_, R> {
     ghost contents = { λ _. None };
 
-    ghost faults = { λ folder. folder.faults.items };
+    ghost faults = { λ folder. folder.faults };
 
     fn read(&mut self, name: &str, into: &mut Vec<u8>) -> Result<(), FolderFault> {
-        let entry = self.name_of(name)?;
         match read_file(self.rt, name, into) {
             Ok(()) => Ok(()),
-            Err(_) => {
-                self.faults.push(FailedCall::Read(entry)).unwrap();
-                Err(FolderFault::Failed)
-            }
+            Err(_) => Err(read_refusal(&mut self.faults, name)),
         }
     }
 
     fn write(&mut self, name: &str, bytes: &[u8]) -> Result<(), FolderFault> {
-        let entry = self.name_of(name)?;
         match write_file(self.rt, name, bytes) {
             Ok(()) => Ok(()),
-            Err(_) => {
-                self.faults.push(FailedCall::Write(entry)).unwrap();
-                Err(FolderFault::Failed)
-            }
+            Err(_) => Err(write_refusal(&mut self.faults, name)),
         }
     }
 }
@@ -116,9 +96,7 @@ impl<R: Print> TextSink for OutSink<'_, R> {
     fn write(&mut self, piece: &[u8]) -> Result<usize, SinkFault> {
         match io::writer(self.rt).write(piece) {
             Ok(count) => {
-                if count == 0 && !piece.is_empty() {
-                    self.faults = self.faults.saturating_add(1);
-                }
+                self.faults = faults_behind(self.faults, count, piece);
                 Ok(count)
             }
             Err(_) => {

@@ -1,6 +1,7 @@
 //! Where text goes.
 
-ghost use Rattle.std.specs.Prelude.{◌≡◌, ◌≢◌, ◌≤◌, ◌<◌, List, ℕ, [], Option, Ok, take, length, IfOk, OnErr};
+ghost use Rattle.std.specs.Prelude.{◌≡◌, ◌≢◌, ◌≤◌, ◌<◌, ◌⊎◌, List, ℕ, [], Option, Ok, take, length, IfOk, OnErr};
+ghost use Rattle.kilim_outside.specs.Asked.{counted};
 ghost use Rattle.kilim_outside.specs.Causes.{Appended, Rose, SinkCause};
 
 use std::alloc::{AllocError, AllocFailed};
@@ -31,6 +32,19 @@ impl<T: Drop> From<AllocFailed<T>> for SinkFault {
 
     fn from(_: AllocFailed<T>) -> SinkFault {
         SinkFault::NoMemory
+    }
+}
+
+/// The count of faults behind a call that took so many bytes of a piece: taking nothing of one that isn't empty is a fault.
+pub(crate) fn faults_behind(faults: u64, taken: usize, piece: &[u8]) -> u64
+    ensures nothing { taken ≡ 0 → piece.now ≢ [] → result ≡ counted faults }
+    ensures quiet { (0 < taken) ⊎ (piece.now ≡ []) → result ≡ faults }
+    ensures later { faults ≤ result }
+{
+    if taken == 0 && !piece.is_empty() {
+        faults.saturating_add(1)
+    } else {
+        faults
     }
 }
 
