@@ -41,7 +41,7 @@ fn hand_out<B: Cells>(shelf: &Shelf<B>, seat: &mut Chair<B>, passes: &mut Vec<Pa
 {
     for number in 1..seats {
         let badge = shelf.split_seat::<NextWorker>(seat).into_badge();
-        passes.push(Pass { badge, number }).unwrap();
+        passes.push_reserved(Pass { badge, number });
     }
 }
 
@@ -73,12 +73,10 @@ fn fill<B: Cells>(
     ensures made { AreMade 0 shelf.now.table_id seats (B.cells shelf.now.key.value) result.items }
 {
     name::<B, Brand>(shelf, &mut seat);
-    passes
-        .push(Pass {
-            badge: Badge::blank(),
-            number: 0,
-        })
-        .unwrap();
+    passes.push_reserved(Pass {
+        badge: Badge::blank(),
+        number: 0,
+    });
     hand_out(shelf, &mut seat, &mut passes, seats);
     begin(shelf, &mut seat, seats);
     put_in(shelf, &mut seat, 0, value);
