@@ -21,29 +21,7 @@ fn same_bytes(one: &[u8], other: &[u8]) -> bool
     one == other
 }
 
-fn same_type(one: &VerificationType, other: &VerificationType) -> bool
-    ensures { result ≡ true → one.now ≡ other.now }
-{
-    one == other
-}
-
 fn same_types(one: &[VerificationType], other: &[VerificationType]) -> bool
-    ensures { result ≡ true → one.now ≡ other.now }
-{
-    let mut rest = other;
-    for x in one {
-        let [y, later @ ..] = rest else {
-            return false;
-        };
-        if !same_type(x, y) {
-            return false;
-        }
-        rest = later;
-    }
-    rest.is_empty()
-}
-
-fn same_part(one: &AnnotationPart, other: &AnnotationPart) -> bool
     ensures { result ≡ true → one.now ≡ other.now }
 {
     one == other
@@ -52,39 +30,13 @@ fn same_part(one: &AnnotationPart, other: &AnnotationPart) -> bool
 fn same_parts(one: &[AnnotationPart], other: &[AnnotationPart]) -> bool
     ensures { result ≡ true → one.now ≡ other.now }
 {
-    let mut rest = other;
-    for x in one {
-        let [y, later @ ..] = rest else {
-            return false;
-        };
-        if !same_part(x, y) {
-            return false;
-        }
-        rest = later;
-    }
-    rest.is_empty()
-}
-
-fn same_handler(one: &ExceptionHandler, other: &ExceptionHandler) -> bool
-    ensures { result ≡ true → one.now ≡ other.now }
-{
     one == other
 }
 
 fn same_handlers(one: &[ExceptionHandler], other: &[ExceptionHandler]) -> bool
     ensures { result ≡ true → one.now ≡ other.now }
 {
-    let mut rest = other;
-    for x in one {
-        let [y, later @ ..] = rest else {
-            return false;
-        };
-        if !same_handler(x, y) {
-            return false;
-        }
-        rest = later;
-    }
-    rest.is_empty()
+    one == other
 }
 
 // ---- frames
