@@ -4,8 +4,7 @@ ghost use Rattle.std.specs.Prelude.{◌≡◌, ◌++◌, ◌<◌, ◌≤◌, ◌
 ghost use Rattle.kilim_link_spec.specs.Faults.{problems_of, first_fault, faults_in, circular, member_missing};
 ghost use Rattle.kilim_link_spec.specs.Linked.{first_of};
 ghost use Rattle.kilim_link_spec.specs.Mentions.{mentions_of, class_names};
-ghost use Rattle.kilim_link_spec.specs.World.{own_name, world_of};
-ghost use Rattle.kilim_link_spec.specs.declared.fault.LinkFault.TheVariants as link_fault;
+ghost use Rattle.kilim_link_spec.specs.World.{world_of};
 ghost use Rattle.kilim_link_override_faults.specs.Ancestry.{Knows};
 ghost use Rattle.kilim_link_faults.specs.Parts.{last_kinds, code_kinds, later_kinds};
 
@@ -165,15 +164,7 @@ pub fn first_problem(
     )
 }
 
-// A problem with the name of its class.
-fn named(alloc: Global, file: &ClassFile, problem: Problem) -> Result<LinkFault, NoMemory>
-    ensures { IfOk result (λ found. found ≡ link_fault.InClass (own_name file.now) problem) }
-{
-    let name = Units::from_slice(alloc, own_name(file))?;
-    Ok(LinkFault::InClass(name, problem))
-}
-
-// The same of the first problem of a class.
+// The first problem of a class, with its name.
 fn fault_in(
     alloc: Global,
     world: &World,
@@ -187,8 +178,9 @@ fn fault_in(
     requires whole { world.now ≡ world_of files.now world.now.form }
     ensures { IfOk result (λ found. found ≡ first_of (faults_in world.now file.now class)) }
 {
+    let name = Units::from_slice(alloc, own_name(file))?;
     match first_problem(alloc, world, files, file, class, ancestry)? {
-        Some(problem) => Ok(Some(named(alloc, file, problem)?)),
+        Some(problem) => Ok(Some(LinkFault::InClass(name, problem))),
         None => Ok(None),
     }
 }
@@ -237,5 +229,7 @@ pub fn first_fault(
     ensures { IfOk result (λ found. found ≡ first_fault files.now form) }
 {
     let ancestry = Ancestry::new(alloc, world)?;
-    first_known(alloc, world, files, form, &ancestry)
+    let found = first_known(alloc, world, files, form, &ancestry);
+    drop(ancestry);
+    found
 }
