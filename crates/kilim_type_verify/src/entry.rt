@@ -18,9 +18,9 @@ const NO_LOCAL: u8 = 6;
 fn push_slots(slots: &mut Vec<VType>, t: VType) -> Result<(), AllocError>
     ensures { OnOk result (slots.new.items ≡ slots.old.items ++ slots_of_type t []) }
 {
+    slots.push(t)?;
     match t {
         VType::Long => {
-            slots.push(VType::Long)?;
             slots.push(VType::Top)?;
             Ok(())
         }
@@ -29,10 +29,7 @@ fn push_slots(slots: &mut Vec<VType>, t: VType) -> Result<(), AllocError>
         | VType::Null
         | VType::UninitThis
         | VType::Uninit(_)
-        | VType::Object(_) => {
-            slots.push(t)?;
-            Ok(())
-        }
+        | VType::Object(_) => Ok(()),
     }
 }
 
@@ -43,11 +40,12 @@ fn this_types(alloc: Global, method: &Method) -> Result<Vec<VType>, AllocError>
     if method.is_static {
         return Ok(slots);
     }
-    if is_constructor(method) {
-        slots.push(VType::UninitThis)?;
-        return Ok(slots);
-    }
-    slots.push(class_vtype(method.owner))?;
+    let this = if is_constructor(method) {
+        VType::UninitThis
+    } else {
+        class_vtype(method.owner)
+    };
+    slots.push(this)?;
     Ok(slots)
 }
 

@@ -187,7 +187,6 @@ pub fn frame_fault(method: &Method) -> Option<u32>
 }
 
 // The first so many slots.
-#[tactic(auto, using(crate::proofs::Framed::padded_on))]
 fn padded(alloc: Global, types: &[VType], count: u16) -> Result<Vec<VType>, AllocError>
     ensures { IfOk result (λ v. v.items ≡ padded count types.now) }
 {
