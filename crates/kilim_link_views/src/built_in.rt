@@ -1,6 +1,6 @@
 //! The built-in classes.
 
-ghost use Rattle.std.specs.Prelude.{◌≡◌, ◌++◌, map, option_map, option_to_list, codes, IfOk, OnOk};
+ghost use Rattle.std.specs.Prelude.{◌≡◌, ◌++◌, ◌∷◌, [], map, option_map, option_to_list, codes, IfOk, OnOk};
 ghost use Rattle.std.specs.List.{flat_map, filter_map};
 ghost use Rattle.std.specs.Option.{option_copied};
 ghost use Rattle.kilim_classes.specs.BuiltIn.{built_in_classes_in, is_final_built_in};
@@ -43,15 +43,16 @@ fn class_name(program: &Program, class: ClassId) -> &[u16]
 fn push_base(text: &mut Vec<u16>, program: &Program, base: Base) -> Result<(), NoMemory>
     ensures { OnOk result (text.new.items ≡ text.old.items ++ base_descriptor program.now base) }
 {
-    match base {
-        Base::Bool => text.push(90)?,
-        Base::Byte => text.push(66)?,
-        Base::Char => text.push(67)?,
-        Base::Short => text.push(83)?,
-        Base::Int => text.push(73)?,
-        Base::Long => text.push(74)?,
-        Base::Class(class) => push_class(text, class_name(program, class))?,
-    }
+    let letter = match base {
+        Base::Bool => 90,
+        Base::Byte => 66,
+        Base::Char => 67,
+        Base::Short => 83,
+        Base::Int => 73,
+        Base::Long => 74,
+        Base::Class(class) => return push_class(text, class_name(program, class)),
+    };
+    text.push(letter)?;
     Ok(())
 }
 
@@ -119,24 +120,29 @@ fn stated(alloc: Global, method: &Method) -> Result<Marks, NoMemory>
     Ok(Marks::Stated(method.receiver, Seq::from_vec(qualifiers)))
 }
 
-// A built-in method as if it were declared.
-fn declared_built_in(
+// Appends a built-in method as if it were declared.
+fn push_built_in(
     alloc: Global,
+    methods: &mut Seq<DeclaredMethod>,
     program: &Program,
     method: &Method,
-) -> Result<DeclaredMethod, NoMemory>
-    ensures { IfOk result (λ declared. declared ≡ declared_built_in program.now method.now) }
+) -> Result<(), NoMemory>
+    ensures { OnOk result (methods.new ≡ methods.old ++ declared_built_in program.now method.now ∷ []) }
 {
-    Ok(DeclaredMethod {
-        name: Units::from_slice(alloc, method.name.as_slice())?,
-        descriptor: method_descriptor(alloc, program, method)?,
+    let name = Units::from_slice(alloc, method.name.as_slice())?;
+    let descriptor = method_descriptor(alloc, program, method)?;
+    let marks = stated(alloc, method)?;
+    methods.push(DeclaredMethod {
+        name,
+        descriptor,
         is_static: method.is_static,
         is_private: method.is_private,
         is_abstract: method.is_abstract,
         is_final: false,
         pausable: method.pausable,
-        marks: stated(alloc, method)?,
-    })
+        marks,
+    })?;
+    Ok(())
 }
 
 // The method of a number, none past the end.
@@ -156,10 +162,9 @@ fn push_declared(
     ensures { OnOk result (methods.new ≡ methods.old ++ map (declared_built_in program.now) (option_to_list (method_at program.now id))) }
 {
     match method_at(program, id) {
-        Some(method) => methods.push(declared_built_in(alloc, program, method)?)?,
-        None => {}
+        Some(method) => push_built_in(alloc, methods, program, method),
+        None => Ok(()),
     }
-    Ok(())
 }
 
 // The methods of these numbers as if they were declared.
@@ -200,20 +205,29 @@ fn is_final(name: &Units) -> bool
         || name.is_text(b"kilim/Sys")
 }
 
-// A built-in class as if it were given.
-fn view_of_built_in(alloc: Global, program: &Program, class: &Class) -> Result<ClassView, NoMemory>
-    ensures { IfOk result (λ view. view ≡ view_of_built_in program.now class.now) }
+// Appends a built-in class as if it were given.
+fn push_view(
+    alloc: Global,
+    views: &mut Seq<ClassView>,
+    program: &Program,
+    class: &Class,
+) -> Result<(), NoMemory>
+    ensures { OnOk result (views.new ≡ views.old ++ view_of_built_in program.now class.now ∷ []) }
 {
-    Ok(ClassView {
-        name: Units::from_slice(alloc, class.name.as_slice())?,
-        superclass: superclass_name(alloc, program, class.superclass)?,
+    let methods = declared_methods(alloc, program, class.methods.as_slice())?;
+    let name = Units::from_slice(alloc, class.name.as_slice())?;
+    let superclass = superclass_name(alloc, program, class.superclass)?;
+    views.push(ClassView {
+        name,
+        superclass,
         is_marked: class.message,
         is_abstract: class.is_abstract,
         is_final: is_final(&class.name),
         is_built_in: true,
         fields: Seq::new(alloc),
-        methods: declared_methods(alloc, program, class.methods.as_slice())?,
-    })
+        methods,
+    })?;
+    Ok(())
 }
 
 // The classes of a program as if they were given.
@@ -222,7 +236,7 @@ fn views_of(alloc: Global, program: &Program) -> Result<Seq<ClassView>, NoMemory
 {
     let mut views = Seq::new(alloc);
     for class in program.classes.as_slice() {
-        views.push(view_of_built_in(alloc, program, class)?)?;
+        push_view(alloc, &mut views, program, class)?;
     }
     Ok(views)
 }

@@ -1,6 +1,6 @@
 //! Fields and methods of a file.
 
-ghost use Rattle.std.specs.Prelude.{◌≡◌, map, IfOk};
+ghost use Rattle.std.specs.Prelude.{◌≡◌, ◌++◌, ◌∷◌, [], map, IfOk, OnOk};
 ghost use Rattle.kilim_link_spec.specs.declared.view.Marks.TheVariants.{Annotated};
 ghost use Rattle.kilim_link_spec.specs.World.{annotation_types, parameter_types, lists_pausable, is_pausable, declared_method, declared_field};
 
@@ -85,18 +85,19 @@ pub fn declared_methods(alloc: Global, file: &ClassFile) -> Result<Seq<DeclaredM
     Ok(methods)
 }
 
-// A field of a file as it is declared (JVMS 4.5).
-fn declared_field(
+// Appends a field of a file as it is declared (JVMS 4.5).
+fn push_declared_field(
     alloc: Global,
+    fields: &mut Seq<DeclaredField>,
     file: &ClassFile,
     field: &MemberInfo,
-) -> Result<DeclaredField, NoMemory>
-    ensures { IfOk result (λ declared. declared ≡ declared_field file.now field.now) }
+) -> Result<(), NoMemory>
+    ensures { OnOk result (fields.new ≡ fields.old ++ declared_field file.now field.now ∷ []) }
 {
-    Ok(DeclaredField {
-        name: Units::from_slice(alloc, member_name(file, field))?,
-        descriptor: Units::from_slice(alloc, member_descriptor(file, field))?,
-    })
+    let name = Units::from_slice(alloc, member_name(file, field))?;
+    let descriptor = Units::from_slice(alloc, member_descriptor(file, field))?;
+    fields.push(DeclaredField { name, descriptor })?;
+    Ok(())
 }
 
 /// The fields of a file as they are declared, in their order.
@@ -105,7 +106,7 @@ pub fn declared_fields(alloc: Global, file: &ClassFile) -> Result<Seq<DeclaredFi
 {
     let mut fields = Seq::new(alloc);
     for field in file.fields.as_slice() {
-        fields.push(declared_field(alloc, file, field)?)?;
+        push_declared_field(alloc, &mut fields, file, field)?;
     }
     Ok(fields)
 }

@@ -1,6 +1,6 @@
 //! The classes.
 
-ghost use Rattle.std.specs.Prelude.{◌≡◌, ◌<◌, ◌^◌, ℕ, ◌++◌, map, Some, OnOk, IfOk};
+ghost use Rattle.std.specs.Prelude.{◌≡◌, ◌<◌, ◌^◌, ℕ, ◌++◌, ◌∷◌, [], map, Some, OnOk, IfOk};
 ghost use Rattle.kilim_classes.specs.BuiltIn.{class_id, methods_from, fiber_classes, built_in_classes_in};
 ghost use Rattle.kilim_link_views.specs.built_ins.Rows.{class_of};
 
@@ -23,26 +23,28 @@ fn methods_from(alloc: Global, first: u32, distances: &[u8]) -> Result<Seq<Metho
     Ok(ids)
 }
 
-// A class without fields.
-fn built_in_class(
+// Appends a class without fields.
+fn push_class(
     alloc: Global,
+    classes: &mut Seq<Class>,
     superclass: Option<ClassId>,
     method: u32,
     row: &ClassRow,
-) -> Result<Class, NoMemory>
+) -> Result<(), NoMemory>
     requires { method < 2 ^ 31 }
-    ensures { IfOk result (λ class. class ≡ class_of superclass method row.now) }
+    ensures { OnOk result (classes.new ≡ classes.old ++ class_of superclass method row.now ∷ []) }
 {
     let name = text(alloc, row.name)?;
     let methods = methods_from(alloc, method, row.methods)?;
-    Ok(Class {
+    classes.push(Class {
         name,
         superclass,
         is_abstract: false,
         message: row.message,
         fields: Seq::new(alloc),
         methods,
-    })
+    })?;
+    Ok(())
 }
 
 // `kilim/Fiber`, in woven form alone.
@@ -67,7 +69,7 @@ fn push_classes(
     ensures { OnOk result (classes.new ≡ classes.old ++ map (class_of (Some (class_id first)) method) rows.now) }
 {
     for row in rows {
-        classes.push(built_in_class(alloc, Some(ClassId(first)), method, row)?)?;
+        push_class(alloc, classes, Some(ClassId(first)), method, row)?;
     }
     Ok(())
 }
@@ -85,7 +87,7 @@ pub fn built_in_classes(
     ensures { IfOk result (λ classes. classes ≡ built_in_classes_in form first method) }
 {
     let mut classes = Seq::new(alloc);
-    classes.push(built_in_class(alloc, None, method, &OBJECT_CLASS)?)?;
+    push_class(alloc, &mut classes, None, method, &OBJECT_CLASS)?;
     push_classes(alloc, &mut classes, first, method, CLASSES)?;
     push_classes(alloc, &mut classes, first, method, fiber_classes(form))?;
     Ok(classes)

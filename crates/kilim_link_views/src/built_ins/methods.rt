@@ -1,6 +1,6 @@
 //! The methods, class by class.
 
-ghost use Rattle.std.specs.Prelude.{◌≡◌, ◌<◌, ◌^◌, ℕ, ◌++◌, map, OnOk, IfOk};
+ghost use Rattle.std.specs.Prelude.{◌≡◌, ◌<◌, ◌^◌, ℕ, ◌++◌, ◌∷◌, [], map, OnOk, IfOk};
 ghost use Rattle.kilim_classes.specs.BuiltIn.{built_in_methods_in, fiber_methods};
 ghost use Rattle.kilim_link_views.specs.built_ins.Rows.{params_of, marks_of, fiber_kinds, fiber_marks, method_of};
 
@@ -48,15 +48,21 @@ fn marks_of(alloc: Global, form: Form, row: &MethodRow) -> Result<Seq<Qualifier>
     Ok(Seq::from_vec(marks))
 }
 
-// What a method of a built-in class is: it has no code.
-fn method_of(alloc: Global, form: Form, first: u32, row: &MethodRow) -> Result<Method, NoMemory>
+// Appends the method of a row: it has no code.
+fn push_method(
+    alloc: Global,
+    methods: &mut Seq<Method>,
+    form: Form,
+    first: u32,
+    row: &MethodRow,
+) -> Result<(), NoMemory>
     requires { first < 2 ^ 31 }
-    ensures { IfOk result (λ m. m ≡ method_of form first row.now) }
+    ensures { OnOk result (methods.new ≡ methods.old ++ method_of form first row.now ∷ []) }
 {
     let name = text(alloc, row.name)?;
     let params = params_of(alloc, form, first, row)?;
     let qualifiers = marks_of(alloc, form, row)?;
-    Ok(Method {
+    methods.push(Method {
         name,
         owner: ClassId(first + u32::from(row.owner)),
         params,
@@ -74,7 +80,8 @@ fn method_of(alloc: Global, form: Form, first: u32, row: &MethodRow) -> Result<M
         code: Seq::new(alloc),
         frames: Seq::new(alloc),
         handlers: Seq::new(alloc),
-    })
+    })?;
+    Ok(())
 }
 
 // Appends the methods of some rows.
@@ -89,7 +96,7 @@ fn push_methods(
     ensures { OnOk result (methods.new ≡ methods.old ++ map (method_of form first) rows.now) }
 {
     for row in rows {
-        methods.push(method_of(alloc, form, first, row)?)?;
+        push_method(alloc, methods, form, first, row)?;
     }
     Ok(())
 }

@@ -1,4 +1,4 @@
-use Rattle.std.proofs.Common.{Some}
+use Rattle.std.proofs.Common.{Some, refl}
 use Rattle.kilim_classes.specs.BuiltIn.{class_id}
 use Rattle.kilim_link_views.specs.built_ins.Rows.{class_of}
 use Rattle.kilim_link_views.proofs.built_ins.Loops.{mapped}
@@ -6,4 +6,4 @@ use Rattle.kilim_link_views.proofs.built_ins.classes.push_classes.Goals as goal
 
 pub loop-row-preserved : goal.loop-row-preserved
 loop-row-preserved c =
-    mapped (class_of (Some (class_id c.args.first)) c.args.method) c.args.classes.now c.loop-row.classes c.push.new.self c.args.rows.now c.loop-row.row-index _ c.in_ok-built_in_class.field-0 c.loop-row-test.true c.loop-row.invariant c.in_ok-built_in_class.ensures c.in_ok-push.ensures.ok
+    mapped (class_of (Some (class_id c.args.first)) c.args.method) c.args.classes.now c.loop-row.classes c.push_class.new.classes c.args.rows.now c.loop-row.row-index _ _ c.loop-row-test.true c.loop-row.invariant refl c.in_ok-push_class.ensures
