@@ -1,3 +1,4 @@
+pub mod Loops
 pub mod Counted
 pub mod Drawn
 pub mod Added

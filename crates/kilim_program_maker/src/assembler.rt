@@ -1,6 +1,7 @@
 //! Instructions as bytes (JVMS 6.5).
 
 ghost use Rattle.std.specs.Prelude.{◌≡◌, ◌++◌, OnOk};
+ghost use Rattle.kilim_program_maker.specs.declared.assembler.Op.TheVariants.{Pair};
 ghost use Rattle.kilim_program_maker.specs.Assembler.{bytes_of, code_of};
 
 use kilim_grammar::push_u16;
@@ -80,27 +81,29 @@ pub enum Op {
     Two(u8, u8, u8),
 }
 
+fn push_bytes(code: &mut Vec<u8>, bytes: &[u8]) -> Result<(), NoMemory>
+    ensures { OnOk result (code.new.items ≡ code.old.items ++ bytes.now) }
+{
+    code.extend_from_slice(bytes)?;
+    Ok(())
+}
+
+fn push_pair(code: &mut Vec<u8>, number: u8, n: u16) -> Result<(), NoMemory>
+    ensures { OnOk result (code.new.items ≡ code.old.items ++ bytes_of (Pair number n)) }
+{
+    code.push(number)?;
+    push_u16(code, n)?;
+    Ok(())
+}
+
 fn push_op(code: &mut Vec<u8>, op: Op) -> Result<(), NoMemory>
     ensures { OnOk result (code.new.items ≡ code.old.items ++ bytes_of op) }
 {
     match op {
-        Op::Plain(number) => {
-            code.push(number)?;
-            Ok(())
-        }
-        Op::Byte(number, n) => {
-            code.extend_from_slice(&[number, n])?;
-            Ok(())
-        }
-        Op::Pair(number, n) => {
-            code.push(number)?;
-            push_u16(code, n)?;
-            Ok(())
-        }
-        Op::Two(number, m, n) => {
-            code.extend_from_slice(&[number, m, n])?;
-            Ok(())
-        }
+        Op::Plain(number) => push_bytes(code, &[number]),
+        Op::Byte(number, n) => push_bytes(code, &[number, n]),
+        Op::Pair(number, n) => push_pair(code, number, n),
+        Op::Two(number, m, n) => push_bytes(code, &[number, m, n]),
     }
 }
 

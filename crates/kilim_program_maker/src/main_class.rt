@@ -1,7 +1,9 @@
 //! The main class.
 
-ghost use Rattle.std.specs.Prelude.{◌≡◌, ◌∷◌, ◌++◌, ◌+◌, ◌≤◌, ◌<◌, [], length, IfOk, OnOk};
-ghost use Rattle.kilim_program_maker.specs.MainClass.{beginning, box_types, boxes_from, main_code, main_constructor, main_entries, main_file, main_frames, main_pool, printing, putting, stage_entries_from, starts_from};
+ghost use Rattle.std.specs.Prelude.{◌≡◌, ◌∷◌, ◌++◌, ◌+◌, ◌≤◌, ◌<◌, [], length, map, IfOk, OnOk};
+ghost use Rattle.kilim_program_maker.specs.MainClass.{beginning, box_types, boxes_from, main_code, main_constructor, main_entries, main_file, main_frames, main_pool, printing, putting, putting_place, stage_entries_from, starts_from};
+ghost use Rattle.kilim_attribute_parts.specs.declared.frame.Frame.TheVariants.{Full, Same};
+ghost use Rattle.kilim_attribute_parts.specs.declared.frame.VerificationType.TheVariants.{Integer, Object};
 ghost use Rattle.kilim_program_maker.specs.Parts.{code_attribute, exceptions_attribute, frames_attribute, method, public_flag};
 
 use crate::assembler::*;
@@ -285,10 +287,10 @@ fn push_box_types(types: &mut Seq<VerificationType>, count: u8) -> Result<(), No
     Ok(())
 }
 
-#[tactic(auto, unfolding(crate::specs::MainClass::main_frames))]
-fn main_frames(alloc: Global, stages: u8) -> Result<Vec<Frame>, NoMemory>
+// The first frame, with all mailboxes.
+fn first_frame(alloc: Global, stages: u8) -> Result<Frame, NoMemory>
     requires { stages ≤ 15 }
-    ensures { IfOk result (λ frames. frames.items ≡ main_frames stages) }
+    ensures { IfOk result (λ frame. frame ≡ Full (putting_place stages) (Object 2 ∷ Integer ∷ Object 27 ∷ Integer ∷ box_types (stages + 1)) []) }
 {
     let first = [
         VerificationType::Object(2),
@@ -298,16 +300,28 @@ fn main_frames(alloc: Global, stages: u8) -> Result<Vec<Frame>, NoMemory>
     ];
     let mut locals = Seq::from_vec(Vec::from_slice(alloc, &first)?);
     push_box_types(&mut locals, stages + 1)?;
-    let mut frames = Vec::new(alloc);
     let place = 15 + 23 * u16::from(stages);
-    frames.push(Frame::Full(place, locals, Seq::new(alloc)))?;
-    frames.push(Frame::Same(10))?;
-    frames.push(Frame::Same(23))?;
-    frames.push(Frame::Same(11))?;
-    frames.push(Frame::Same(1))?;
-    frames.push(Frame::Same(17))?;
-    frames.push(Frame::Same(18))?;
-    frames.push(Frame::Same(9))?;
+    Ok(Frame::Full(place, locals, Seq::new(alloc)))
+}
+
+// Frames with the same locals, by their distances.
+fn push_same(frames: &mut Vec<Frame>, deltas: &[u8]) -> Result<(), NoMemory>
+    ensures { OnOk result (frames.new.items ≡ frames.old.items ++ map Same deltas.now) }
+{
+    for delta in deltas {
+        frames.push(Frame::Same(*delta))?;
+    }
+    Ok(())
+}
+
+#[tactic(auto, unfolding(crate::specs::MainClass::main_frames))]
+fn main_frames(alloc: Global, stages: u8) -> Result<Vec<Frame>, NoMemory>
+    requires { stages ≤ 15 }
+    ensures { IfOk result (λ frames. frames.items ≡ main_frames stages) }
+{
+    let mut frames = Vec::new(alloc);
+    frames.push(first_frame(alloc, stages)?)?;
+    push_same(&mut frames, &[10, 23, 11, 1, 17, 18, 9])?;
     Ok(frames)
 }
 
