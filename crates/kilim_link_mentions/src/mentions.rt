@@ -31,6 +31,15 @@ fn is_anewarray(x: Option<(u8, u16)>) -> bool
     }
 }
 
+// The class of a member.
+fn push_owner(alloc: Global, into: &mut Vec<Mention>, owner: Units) -> Result<(), NoMemory>
+    ensures { OnOk result (into.new.items ≡ into.old.items ++ OfClass (named_by owner) ∷ []) }
+{
+    let class = named_by(alloc, owner.as_slice())?;
+    into.push(Mention::OfClass(class))?;
+    Ok(())
+}
+
 // The class of a field, and its descriptor.
 fn push_access(
     alloc: Global,
@@ -40,8 +49,7 @@ fn push_access(
 ) -> Result<(), NoMemory>
     ensures { OnOk result (into.new.items ≡ into.old.items ++ OfClass (named_by owner) ∷ OfField descriptor ∷ []) }
 {
-    let class = named_by(alloc, owner.as_slice())?;
-    into.push(Mention::OfClass(class))?;
+    push_owner(alloc, into, owner)?;
     into.push(Mention::OfField(descriptor))?;
     Ok(())
 }
@@ -55,8 +63,7 @@ fn push_call(
 ) -> Result<(), NoMemory>
     ensures { OnOk result (into.new.items ≡ into.old.items ++ OfClass (named_by owner) ∷ OfMethod 0 descriptor ∷ []) }
 {
-    let class = named_by(alloc, owner.as_slice())?;
-    into.push(Mention::OfClass(class))?;
+    push_owner(alloc, into, owner)?;
     into.push(Mention::OfMethod(0, descriptor))?;
     Ok(())
 }
