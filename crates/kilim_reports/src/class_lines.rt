@@ -2,11 +2,12 @@
 
 ghost use Rattle.std.specs.Prelude.{◌≡◌, ◌++◌, IfOk, codes};
 ghost use Rattle.kilim_reports.specs.ClassLines.{one_number, two_numbers, pool_words, attribute_words, fault_words, class_line};
+ghost use Rattle.kilim_reports.specs.Names.{method_text};
 
 use crate::names::method_text;
 use crate::texts::{joined, line};
 use kilim_attribute_parts::AttributeFault;
-use kilim_classfile::ClassFault;
+use kilim_classfile::{ClassFault, MemberName};
 use kilim_constant_pool::PoolFault;
 use kilim_units::NoMemory;
 use std::alloc::Global;
@@ -54,25 +55,30 @@ fn attribute_words(alloc: Global, fault: AttributeFault) -> Result<Vec<u8>, NoMe
     }
 }
 
+fn code_words(alloc: Global, method: &MemberName) -> Result<Vec<u8>, NoMemory>
+    ensures { IfOk result (λ text. text.items ≡ codes "code " ++ method_text method.now) }
+{
+    let text = method_text(alloc, method)?;
+    joined(alloc, b"code ", text.as_slice())
+}
+
 fn fault_words(alloc: Global, fault: &ClassFault) -> Result<Vec<u8>, NoMemory>
     ensures { IfOk result (λ text. text.items ≡ fault_words fault.now) }
 {
-    match fault {
-        ClassFault::Magic => Ok(Vec::from_slice(alloc, b"magic")?),
+    let word: &[u8] = match fault {
+        ClassFault::Magic => b"magic",
         ClassFault::Version(major, minor) => {
-            two_numbers(alloc, "version", u64::from(*major), u64::from(*minor))
+            return two_numbers(alloc, "version", u64::from(*major), u64::from(*minor));
         }
-        ClassFault::Pool(fault) => pool_words(alloc, *fault),
-        ClassFault::Attribute(fault) => attribute_words(alloc, *fault),
-        ClassFault::Extra(at) => one_number(alloc, "extra", *at as u64),
-        ClassFault::Cut(at) => one_number(alloc, "cut", *at as u64),
-        ClassFault::TooLarge => Ok(Vec::from_slice(alloc, b"too-large")?),
-        ClassFault::CodePresence(method) => {
-            let text = method_text(alloc, method)?;
-            joined(alloc, b"code ", text.as_slice())
-        }
-        ClassFault::Memory => Ok(Vec::new(alloc)),
-    }
+        ClassFault::Pool(fault) => return pool_words(alloc, *fault),
+        ClassFault::Attribute(fault) => return attribute_words(alloc, *fault),
+        ClassFault::Extra(at) => return one_number(alloc, "extra", *at as u64),
+        ClassFault::Cut(at) => return one_number(alloc, "cut", *at as u64),
+        ClassFault::TooLarge => b"too-large",
+        ClassFault::CodePresence(method) => return code_words(alloc, method),
+        ClassFault::Memory => b"",
+    };
+    Ok(Vec::from_slice(alloc, word)?)
 }
 
 /// The line of a file that can't be read: `class`, the name of the file as it is given, and the words of its fault.

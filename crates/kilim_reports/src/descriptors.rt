@@ -10,35 +10,31 @@ use kilim_lookups::class_at;
 use kilim_units::{NoMemory, Units};
 use std::alloc::Global;
 
-// The name of a class behind the units that are there; nothing where there is no such class.
+// The descriptor of a class behind the units that are there; one without a name where there is no such class.
 fn push_class(units: &mut Vec<u16>, program: &Program, class: ClassId) -> Result<(), NoMemory>
-    ensures { IfOk result (λ u. units.new.items ≡ units.old.items ++ class_name program.now class) }
+    ensures { IfOk result (λ u. units.new.items ≡ units.old.items ++ (codes "L" ++ (class_name program.now class ++ codes ";"))) }
 {
-    match class_at(program, class) {
-        None => Ok(()),
-        Some(found) => {
-            units.extend_from_slice(found.name.as_slice())?;
-            Ok(())
-        }
+    units.push(76)?;
+    if let Some(found) = class_at(program, class) {
+        units.extend_from_slice(found.name.as_slice())?;
     }
+    units.push(59)?;
+    Ok(())
 }
 
 fn push_base(units: &mut Vec<u16>, program: &Program, base: Base) -> Result<(), NoMemory>
     ensures { IfOk result (λ u. units.new.items ≡ units.old.items ++ base_descriptor program.now base) }
 {
-    match base {
-        Base::Bool => units.push(90)?,
-        Base::Byte => units.push(66)?,
-        Base::Char => units.push(67)?,
-        Base::Short => units.push(83)?,
-        Base::Int => units.push(73)?,
-        Base::Long => units.push(74)?,
-        Base::Class(class) => {
-            units.push(76)?;
-            push_class(units, program, class)?;
-            units.push(59)?;
-        }
-    }
+    let letter = match base {
+        Base::Bool => 90,
+        Base::Byte => 66,
+        Base::Char => 67,
+        Base::Short => 83,
+        Base::Int => 73,
+        Base::Long => 74,
+        Base::Class(class) => return push_class(units, program, class),
+    };
+    units.push(letter)?;
     Ok(())
 }
 

@@ -10,6 +10,7 @@ mod texts;
 
 pub use class_lines::class_line;
 pub use descriptors::method_descriptor;
-pub use lines::{fault_line, fault_lines, type_line};
+pub use lines::{fault_line, fault_lines, push_number, type_line, words_of};
 pub use link_lines::link_line;
 pub use names::{descriptor_text, member_name_text};
+pub use texts::joined;

@@ -47,7 +47,8 @@ fn method_words(alloc: Global, program: &Program, method: &Method) -> Result<Vec
     Ok(text)
 }
 
-fn words_of(alloc: Global, program: &Program, id: MethodId) -> Result<Vec<u8>, NoMemory>
+/// The class that declares a method, and its name and descriptor; nothing where there is no such method.
+pub fn words_of(alloc: Global, program: &Program, id: MethodId) -> Result<Vec<u8>, NoMemory>
     ensures { IfOk result (λ text. text.items ≡ spec.words_of program.now (method_at program.now id)) }
 {
     match method_at(program, id) {
@@ -56,7 +57,8 @@ fn words_of(alloc: Global, program: &Program, id: MethodId) -> Result<Vec<u8>, N
     }
 }
 
-fn push_number(text: &mut Vec<u8>, number: u32) -> Result<(), NoMemory>
+/// Appends a number, by its digits.
+pub fn push_number(text: &mut Vec<u8>, number: u64) -> Result<(), NoMemory>
     ensures { IfOk result (λ u. text.new.items ≡ text.old.items ++ decimal number) }
 {
     let digits = format!(in *text.allocator(); "{number}")?;
@@ -69,7 +71,7 @@ fn push_places(text: &mut Vec<u8>, path: &[u32]) -> Result<(), NoMemory>
 {
     for at in path {
         text.push(b' ')?;
-        push_number(text, *at)?;
+        push_number(text, u64::from(*at))?;
     }
     Ok(())
 }
@@ -97,7 +99,7 @@ fn placed(
     let words = words_of(alloc, program, method)?;
     let mut text = joined(alloc, word, words.as_slice())?;
     text.push(b' ')?;
-    push_number(&mut text, pc)?;
+    push_number(&mut text, u64::from(pc))?;
     Ok(text)
 }
 
@@ -107,7 +109,7 @@ pub fn fault_line(alloc: Global, program: &Program, report: &Report) -> Result<V
 {
     let mut text = placed(alloc, program, b"fault ", report.method, report.pc)?;
     text.extend_from_slice(b" I")?;
-    push_number(&mut text, u32::from(report.rule))?;
+    push_number(&mut text, u64::from(report.rule))?;
     push_path(&mut text, report.path.as_slice())?;
     text.push(b'\n')?;
     Ok(text)
@@ -141,7 +143,7 @@ pub fn type_line(
 {
     let mut text = placed(alloc, program, b"type ", method, pc)?;
     text.extend_from_slice(b" rule ")?;
-    push_number(&mut text, u32::from(rule))?;
+    push_number(&mut text, u64::from(rule))?;
     text.push(b'\n')?;
     Ok(text)
 }
