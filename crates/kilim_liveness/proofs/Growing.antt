@@ -266,3 +266,7 @@ none_left (w ∷ work) h = absurd (omega arith)
 
 pub column_is : (m : Method) (k : ℕ) (marks : List Bool) (work : List ℕ) → length work ≡ 0 → Marks m k marks work → ReadsMarked m k (length m.code) marks → IsColumn m k marks
 column_is m k marks work none s reads_are p = (s.sound p, all_marked m k marks (subst (λ (ws : List ℕ). Marks m k marks ws) (none_left work none) s) reads_are p)
+
+-- a local that isn't marked as read
+pub none_reads : (m : Method) (read : List Bool) (k : ℕ) (b : Bool) → ReadMarked (length m.code) read m.code → b ≡ is_marked read k → b ≡ false → NoneReads m k
+none_reads m read k b marked is not_read at e there reads_it = both_ways (is_marked read k) (marked at k e (slice_get_within m.code at e there) there reads_it) (sym is ∙ not_read)

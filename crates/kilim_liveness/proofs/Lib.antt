@@ -4,3 +4,4 @@ pub mod Growing
 mod Entries
 mod Pairs
 mod Rising
+mod Loops

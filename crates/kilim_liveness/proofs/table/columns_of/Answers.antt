@@ -1,7 +1,15 @@
 use Rattle.std.proofs.Common.{◌∙◌, ◌+◌, ◌∷◌, [], List, Bool, ap, sym, subst, length, length-append, ◌≡◌, ℕ, arith}
 use Rattle.kilim_liveness.specs.Marks.{AreColumns}
-use Rattle.kilim_liveness.proofs.Growing.{column_more}
+use Rattle.kilim_liveness.proofs.Growing.{column_more, none_reads}
 use Rattle.kilim_liveness.proofs.table.columns_of.Goals as goal
+
+pub column_if-requires : goal.column_if-requires
+column_if-requires c = record {
+  rising = c.requires.rising;
+  below = c.requires.below;
+  befores = c.requires.befores;
+  unread = none_reads c.args.method.now c.args.read.now c.loop-local.local c.flag_at-is_read.result c.requires.marked c.flag_at-is_read.ensures;
+}
 
 pub loop-local-preserved : goal.loop-local-preserved
 loop-local-preserved c =

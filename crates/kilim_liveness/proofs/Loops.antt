@@ -1,0 +1,19 @@
+-- Loops that append something for each element, by what is left or by what is done.
+use Rattle.std.proofs.Common.{◌≡◌, ℕ, ◌+◌, ◌<◌, ◌≤◌, List, [], ◌∷◌, ◌++◌, length, get_or, map, take, drop, sym, ap, ◌∙◌, append_assoc}
+use Rattle.std.proofs.lemmas.List.{append-nil, drop_all, drop_more, map_more}
+
+pub mapped_on : {X A : Type 0} (f : X → A) (now next total : List A) (xs : List X) (i : ℕ) (x d : X) (y : A) → i < length xs → x ≡ get_or xs i d → now ++ map f (drop i xs) ≡ total → y ≡ f x → next ≡ now ++ y ∷ []
+    → next ++ map f (drop (i + 1) xs) ≡ total
+mapped_on f now next total xs i x d y lt is so_far made step =
+    let rest = map f (drop (i + 1) xs) in
+    ap (λ v. v ++ rest) step
+    ∙ (append_assoc now (y ∷ []) rest ∙ (ap (λ z. now ++ z ∷ rest) (made ∙ ap f is) ∙ (sym (ap (λ r. now ++ map f r) (drop_more xs i d lt)) ∙ so_far)))
+
+pub mapped_end : {X A : Type 0} (f : X → A) (now total : List A) (xs : List X) (i : ℕ) → length xs ≤ i → now ++ map f (drop i xs) ≡ total → now ≡ total
+mapped_end f now total xs i le so_far = sym (append-nil now) ∙ (ap (λ r. now ++ map f r) (sym (drop_all i xs le)) ∙ so_far)
+
+-- behind a first one
+pub mapped_behind : {X A : Type 0} (f : X → A) (first : A) (now next : List A) (xs : List X) (i : ℕ) (x d : X) (y : A) → i < length xs → x ≡ get_or xs i d → now ≡ first ∷ map f (take i xs) → y ≡ f x → next ≡ now ++ y ∷ []
+    → next ≡ first ∷ map f (take (i + 1) xs)
+mapped_behind f first now next xs i x d y lt is so_far made step =
+    step ∙ (ap (λ z. now ++ z ∷ []) (made ∙ ap f is) ∙ (ap (λ zs. zs ++ f (get_or xs i d) ∷ []) so_far ∙ ap (λ zs. first ∷ zs) (sym (map_more f xs i d lt))))
