@@ -5,3 +5,4 @@ pub mod Begins
 pub mod Together
 pub mod Numbered
 pub mod Left
+pub mod Loops

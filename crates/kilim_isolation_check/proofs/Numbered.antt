@@ -1,7 +1,7 @@
 -- What tables by place say.
-use Rattle.std.proofs.Common.{◌≡◌, ℕ, zero, suc, ◌+◌, ◌<◌, ◌≤◌, eqb, Bool, true, false, if◌then◌else◌, List, [], ◌∷◌, length, drop, set, replicate, get_or, slice_get, Option, Some, None, refl, sym, ap, ◌∙◌, inl, inr, arith}
+use Rattle.std.proofs.Common.{◌≡◌, ℕ, zero, suc, ◌+◌, ◌<◌, ◌≤◌, eqb, Bool, true, false, if◌then◌else◌, List, [], ◌∷◌, length, drop, set, replicate, get_or, slice_get, Option, Some, None, refl, sym, subst, ap, ◌∙◌, inl, inr, arith}
 use Rattle.std.proofs.lemmas.Bool.{cases_eq, eq-eqb, ne_eqb}
-use Rattle.std.proofs.lemmas.List.{length-set, length-replicate, get_or-replicate, get_or-set_same, get_or-set_other, drop_more, drop_all}
+use Rattle.std.proofs.lemmas.List.{length-map, length-set, length-replicate, get_or-map, get_or-replicate, get_or-set_same, get_or-set_other, drop_more, drop_all}
 use Rattle.std.proofs.lemmas.Option.{same_Some}
 use Rattle.kilim_classes.specs.Lengths.{fetched, first_place}
 use Rattle.kilim_classes.specs.declared.instr.Instr.{Instr}
@@ -100,14 +100,14 @@ pub record IsNoted (table places : List ℕ) (size number : ℕ) : Type 0 where
   pub long : length table ≡ size
   pub each : (at : ℕ) → at < size → get_or table at 0 ≡ number + index_of at (drop number places)
 
-pub noted_none : (places : List ℕ) (size : ℕ) → IsNoted (replicate size (length places)) places size (length places)
+noted_none : (places : List ℕ) (size : ℕ) → IsNoted (replicate size (length places)) places size (length places)
 noted_none places size = record {
   within = omega arith;
   long = length-replicate size (length places);
   each = λ at lt. get_or-replicate size at (length places) 0 lt ∙ (let zero_more : length places ≡ length places + 0 = omega arith in zero_more ∙ ap (λ xs. length places + index_of at xs) (sym (drop_all (length places) places (omega arith))));
 }
 
-pub noted_more : (old new places : List ℕ) (size number before place : ℕ) → IsNoted old places size before → before ≡ number + 1 → place ≡ get_or places number 0 → new ≡ set old place number → IsNoted new places size number
+noted_more : (old new places : List ℕ) (size number before place : ℕ) → IsNoted old places size before → before ≡ number + 1 → place ≡ get_or places number 0 → new ≡ set old place number → IsNoted new places size number
 noted_more old new places size number before place was next is set_is = record {
   within = omega (arith, was.within);
   long = ap length set_is ∙ (length-set old place number ∙ was.long);
@@ -130,6 +130,16 @@ noted_more old new places size number before place was next is set_is = record {
           let same : index_of at (drop before places) ≡ index_of at (drop (number + 1) places) = ap (λ (k : ℕ). index_of at (drop k places)) next in
           omega arith)
     ]
+
+-- of entries
+pub none_noted : {A : Type 0} (entries : List (ℕ × A)) (size : ℕ) → IsNoted (replicate size (length entries)) (places_of entries) size (length entries)
+none_noted {A} entries size = subst (λ (n : ℕ). IsNoted (replicate size n) (places_of entries) size n) (length-map entries (λ (e : ℕ × A). e.0)) (noted_none (places_of entries) size)
+
+pub one_noted : {A : Type 0} (old new : List ℕ) (entries : List (ℕ × A)) (size number before : ℕ) (d : ℕ × A) → IsNoted old (places_of entries) size before → before ≡ number + 1 → new ≡ set old (get_or entries number d).0 number
+    → IsNoted new (places_of entries) size number
+one_noted {A} old new entries size number before d was next is =
+    let less : number < length entries = omega (arith, was.within, next, length-map entries (λ (e : ℕ × A). e.0)) in
+    noted_more old new (places_of entries) size number before (get_or entries number d).0 was next (sym (get_or-map (λ (e : ℕ × A). e.0) entries number d 0 less)) is
 
 pub noted_all : (table places : List ℕ) (size number : ℕ) → IsNoted table places size number → number ≤ 0 → IsTable table places size
 noted_all table places size zero noted le = record { long = noted.long; each = λ at lt. noted.each at lt ∙ (let zero_more : 0 + index_of at places ≡ index_of at places = omega arith in zero_more) }

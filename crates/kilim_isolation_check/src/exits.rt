@@ -11,25 +11,21 @@ use std::alloc::Global;
 fn one(alloc: Global, exit: Option<u32>) -> Result<Seq<Option<u32>>, NoMemory>
     ensures { IfOk result (λ exits. exits ≡ exit ∷ []) }
 {
-    let mut exits = Seq::new(alloc);
-    exits.push(exit)?;
-    Ok(exits)
+    let exits = Vec::from_slice(alloc, &[exit])?;
+    Ok(Seq::from_vec(exits))
 }
 
 fn two(alloc: Global, first: u32, second: u32) -> Result<Seq<Option<u32>>, NoMemory>
     ensures { IfOk result (λ exits. exits ≡ Some first ∷ Some second ∷ []) }
 {
-    let mut exits = Seq::new(alloc);
-    exits.push(Some(first))?;
-    exits.push(Some(second))?;
-    Ok(exits)
+    let exits = Vec::from_slice(alloc, &[Some(first), Some(second)])?;
+    Ok(Seq::from_vec(exits))
 }
 
 fn of_table(alloc: Global, default: u32, targets: &[u32]) -> Result<Seq<Option<u32>>, NoMemory>
     ensures { IfOk result (λ exits. exits ≡ Some default ∷ map Some targets.now) }
 {
-    let mut exits = Seq::new(alloc);
-    exits.push(Some(default))?;
+    let mut exits = one(alloc, Some(default))?;
     for to in targets {
         exits.push(Some(*to))?;
     }
@@ -39,8 +35,7 @@ fn of_table(alloc: Global, default: u32, targets: &[u32]) -> Result<Seq<Option<u
 fn of_pairs(alloc: Global, default: u32, pairs: &[(i32, u32)]) -> Result<Seq<Option<u32>>, NoMemory>
     ensures { IfOk result (λ exits. exits ≡ Some default ∷ map Some (map (λ pair. pair.1) pairs.now)) }
 {
-    let mut exits = Seq::new(alloc);
-    exits.push(Some(default))?;
+    let mut exits = one(alloc, Some(default))?;
     for pair in pairs {
         exits.push(Some(pair.1))?;
     }

@@ -22,11 +22,12 @@ fn push_this(types: &mut Vec<VType>, method: &Method) -> Result<(), NoMemory>
     if method.is_static {
         return Ok(());
     }
-    if is_constructor(method) {
-        types.push(VType::UninitThis)?;
-        return Ok(());
-    }
-    types.push(class_vtype(method.owner))?;
+    let this = if is_constructor(method) {
+        VType::UninitThis
+    } else {
+        class_vtype(method.owner)
+    };
+    types.push(this)?;
     Ok(())
 }
 

@@ -1,6 +1,6 @@
 //! What the paths of a method give.
 
-ghost use Rattle.std.specs.Prelude.{◌≡◌, ◌∷◌, [], true, Ok, IfOk, map};
+ghost use Rattle.std.specs.Prelude.{◌≡◌, ◌∷◌, [], true, Ok, IfOk, map, option_copied, slice_get};
 ghost use Rattle.kilim_classes.specs.Keeps.{code_is_whole};
 ghost use Rattle.kilim_classes.specs.Names.{method_at};
 ghost use Rattle.kilim_typing.specs.Typed.{has_code};
@@ -170,10 +170,16 @@ fn walked(
     }
 }
 
+fn frames_of(typed: &Typed, id: MethodId) -> Option<&Seq<Frame>>
+    ensures { option_copied result ≡ slice_get typed.now.frames id.0 }
+{
+    typed.frames.as_slice().get(id.0 as usize)
+}
+
 fn frames_at(typed: &Typed, id: MethodId) -> &[Frame]
     ensures { result.now ≡ frames_at typed.now id }
 {
-    match typed.frames.as_slice().get(id.0 as usize) {
+    match frames_of(typed, id) {
         None => &[],
         Some(frames) => frames.as_slice(),
     }

@@ -13,26 +13,6 @@ use kilim_classes::{Frame, Instr, Method};
 use kilim_units::NoMemory;
 use std::alloc::Global;
 
-fn places_of_code(alloc: Global, code: &[(u32, Instr)]) -> Result<Vec<u32>, NoMemory>
-    ensures { IfOk result (λ places. places.items ≡ places_of code.now) }
-{
-    let mut places = Vec::new(alloc);
-    for entry in code {
-        places.push(entry.0)?;
-    }
-    Ok(places)
-}
-
-fn places_of_frames(alloc: Global, frames: &[(u32, Frame)]) -> Result<Vec<u32>, NoMemory>
-    ensures { IfOk result (λ places. places.items ≡ places_of frames.now) }
-{
-    let mut places = Vec::new(alloc);
-    for entry in frames {
-        places.push(entry.0)?;
-    }
-    Ok(places)
-}
-
 // Writes the number at a place, where the table has that place.
 fn note(table: &mut Vec<usize>, place: u32, number: usize)
     ensures { table.new.items ≡ set table.old.items place number }
@@ -43,15 +23,16 @@ fn note(table: &mut Vec<usize>, place: u32, number: usize)
     }
 }
 
-// For each place below a size the number of the first of these places that is it.
-fn table_of(alloc: Global, places: &[u32], size: usize) -> Result<Vec<usize>, NoMemory>
-    ensures { IfOk result (λ table. IsTable table.items places.now size) }
+// For each place below a size the number of the first of these entries that stands there.
+#[tactic(auto, using(crate::proofs::Numbered::none_noted, crate::proofs::Numbered::noted_all))]
+fn table_of<T>(alloc: Global, entries: &[(u32, T)], size: usize) -> Result<Vec<usize>, NoMemory>
+    ensures { IfOk result (λ table. IsTable table.items (places_of entries.now) size) }
 {
-    let mut table = vec![in alloc; places.len(); size]?;
-    let mut number = places.len();
+    let mut table = vec![in alloc; entries.len(); size]?;
+    let mut number = entries.len();
     while number > 0 {
         number -= 1;
-        note(&mut table, places[number], number);
+        note(&mut table, entries[number].0, number);
     }
     Ok(table)
 }
@@ -60,16 +41,14 @@ fn table_of(alloc: Global, places: &[u32], size: usize) -> Result<Vec<usize>, No
 pub fn code_table(alloc: Global, method: &Method) -> Result<Vec<usize>, NoMemory>
     ensures { IfOk result (λ table. IsTable table.items (places_of method.now.code) method.now.code_length) }
 {
-    let places = places_of_code(alloc, method.code.as_slice())?;
-    table_of(alloc, &places, method.code_length as usize)
+    table_of(alloc, method.code.as_slice(), method.code_length as usize)
 }
 
 /// The table of a method's declared frames.
 pub fn frame_table(alloc: Global, method: &Method) -> Result<Vec<usize>, NoMemory>
     ensures { IfOk result (λ table. IsTable table.items (places_of method.now.frames) method.now.code_length) }
 {
-    let places = places_of_frames(alloc, method.frames.as_slice())?;
-    table_of(alloc, &places, method.code_length as usize)
+    table_of(alloc, method.frames.as_slice(), method.code_length as usize)
 }
 
 // The number that a table has for a place.

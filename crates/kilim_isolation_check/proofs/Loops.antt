@@ -1,0 +1,27 @@
+-- Loops that append something for each element, by what is left.
+use Rattle.std.proofs.Common.{◌≡◌, ℕ, ◌+◌, ◌<◌, ◌≤◌, List, [], ◌∷◌, ◌++◌, length, get_or, map, take, drop, sym, ap, ◌∙◌, append_assoc, arith}
+use Rattle.std.proofs.lemmas.Grind.{common_steps}
+use Rattle.std.proofs.lemmas.List.{append-nil, drop_all, drop_more}
+
+pub mapped_on : {X A : Type 0} (f : X → A) (now next total : List A) (xs : List X) (i : ℕ) (x d : X) (y : A) → i < length xs → x ≡ get_or xs i d → now ++ map f (drop i xs) ≡ total → y ≡ f x → next ≡ now ++ y ∷ []
+    → next ++ map f (drop (i + 1) xs) ≡ total
+mapped_on f now next total xs i x d y lt is so_far made step =
+    let rest = map f (drop (i + 1) xs) in
+    ap (λ v. v ++ rest) step
+    ∙ (append_assoc now (y ∷ []) rest ∙ (ap (λ z. now ++ z ∷ rest) (made ∙ ap f is) ∙ (sym (ap (λ r. now ++ map f r) (drop_more xs i d lt)) ∙ so_far)))
+
+pub mapped_end : {X A : Type 0} (f : X → A) (now total : List A) (xs : List X) (i : ℕ) → length xs ≤ i → now ++ map f (drop i xs) ≡ total → now ≡ total
+mapped_end f now total xs i le so_far = sym (append-nil now) ∙ (ap (λ r. now ++ map f r) (sym (drop_all i xs le)) ∙ so_far)
+
+pub twice_mapped_on : {X Y A : Type 0} (g : Y → A) (f : X → Y) (now next total : List A) (xs : List X) (i : ℕ) (x d : X) (y : A) → i < length xs → x ≡ get_or xs i d → now ++ map g (map f (drop i xs)) ≡ total → y ≡ g (f x)
+    → next ≡ now ++ y ∷ [] → next ++ map g (map f (drop (i + 1) xs)) ≡ total
+twice_mapped_on {X} g f now next total xs i x d y lt is so_far made step =
+    let rest = map g (map f (drop (i + 1) xs)) in
+    ap (λ v. v ++ rest) step
+    ∙ (append_assoc now (y ∷ []) rest ∙ (ap (λ z. now ++ z ∷ rest) (made ∙ ap (λ (v : X). g (f v)) is) ∙ (sym (ap (λ r. now ++ map g (map f r)) (drop_more xs i d lt)) ∙ so_far)))
+
+pub twice_mapped_end : {X Y A : Type 0} (g : Y → A) (f : X → Y) (now total : List A) (xs : List X) (i : ℕ) → length xs ≤ i → now ++ map g (map f (drop i xs)) ≡ total → now ≡ total
+twice_mapped_end g f now total xs i le so_far = sym (append-nil now) ∙ (ap (λ r. now ++ map g (map f r)) (sym (drop_all i xs le)) ∙ so_far)
+
+pub copied : {A : Type 0} (before now next xs : List A) (i : ℕ) (x d : A) → i < length xs → x ≡ get_or xs i d → now ≡ before ++ take i xs → next ≡ now ++ x ∷ [] → next ≡ before ++ take (i + 1) xs
+copied before now next xs i x d lt is so_far step = grind (arith, common_steps)

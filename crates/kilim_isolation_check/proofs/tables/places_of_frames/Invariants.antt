@@ -1,6 +1,0 @@
-use Rattle.std.proofs.Common.{◌≡◌, ◌++◌, drop}
-use Rattle.kilim_isolation_check.specs.Tables.{places_of}
-use Rattle.kilim_isolation_check.proofs.tables.places_of_frames.Given as goal
-
-abbrev pub invariant-loop-entry : goal.invariant-loop-entry
-invariant-loop-entry l = l.places.items ++ places_of (drop l.entry-index l.frames) ≡ places_of l.frames

@@ -1,0 +1,7 @@
+use Rattle.std.proofs.Common.{◌-◌, arith}
+use Rattle.kilim_isolation_check.proofs.Numbered.{one_noted}
+use Rattle.kilim_isolation_check.proofs.tables.table_of.Goals as goal
+
+pub loop-number-preserved : goal.loop-number-preserved
+loop-number-preserved g c =
+    one_noted c.loop-number.table.items c.note.new.table.items c.args.entries.now c.args.size (c.loop-number.number - 1) c.loop-number.number c.index-entries-number.result c.loop-number.invariant (omega (arith, c.loop-number-test.true)) c.note.ensures
