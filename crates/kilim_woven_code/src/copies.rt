@@ -2,10 +2,11 @@
 
 ghost use Rattle.std.specs.Prelude.{◌≡◌, IfOk};
 
+use crate::moved::{jump_to, target_of};
 use kilim_classes::Instr;
 use kilim_units::NoMemory;
 
-// One that holds a constant of the pool or targets. None other is left.
+// One that holds a constant of the pool or the targets of a switch, or a jump. None other is left.
 fn copied_owner(instr: &Instr) -> Result<Instr, NoMemory>
     ensures { IfOk result (λ i. i ≡ instr.now) }
 {
@@ -30,34 +31,7 @@ fn copied_owner(instr: &Instr) -> Result<Instr, NoMemory>
             let lookup = pairs.clone()?;
             Ok(Instr::Lookupswitch(*default, lookup))
         }
-        _ => Err(NoMemory),
-    }
-}
-
-// A jump, or one of those below.
-fn copied_jump(instr: &Instr) -> Result<Instr, NoMemory>
-    ensures { IfOk result (λ i. i ≡ instr.now) }
-{
-    match instr {
-        Instr::Ifeq(to) => Ok(Instr::Ifeq(*to)),
-        Instr::Ifne(to) => Ok(Instr::Ifne(*to)),
-        Instr::Iflt(to) => Ok(Instr::Iflt(*to)),
-        Instr::Ifge(to) => Ok(Instr::Ifge(*to)),
-        Instr::Ifgt(to) => Ok(Instr::Ifgt(*to)),
-        Instr::Ifle(to) => Ok(Instr::Ifle(*to)),
-        Instr::Goto(to) => Ok(Instr::Goto(*to)),
-        Instr::Ifnull(to) => Ok(Instr::Ifnull(*to)),
-        Instr::Ifnonnull(to) => Ok(Instr::Ifnonnull(*to)),
-        Instr::GotoW(to) => Ok(Instr::GotoW(*to)),
-        Instr::IfIcmpeq(to) => Ok(Instr::IfIcmpeq(*to)),
-        Instr::IfIcmpne(to) => Ok(Instr::IfIcmpne(*to)),
-        Instr::IfIcmplt(to) => Ok(Instr::IfIcmplt(*to)),
-        Instr::IfIcmpge(to) => Ok(Instr::IfIcmpge(*to)),
-        Instr::IfIcmpgt(to) => Ok(Instr::IfIcmpgt(*to)),
-        Instr::IfIcmple(to) => Ok(Instr::IfIcmple(*to)),
-        Instr::IfAcmpeq(to) => Ok(Instr::IfAcmpeq(*to)),
-        Instr::IfAcmpne(to) => Ok(Instr::IfAcmpne(*to)),
-        _ => copied_owner(instr),
+        _ => jump_to(instr, target_of(instr)),
     }
 }
 
@@ -88,7 +62,7 @@ fn copied_local(instr: &Instr) -> Result<Instr, NoMemory>
         Instr::Anewarray(x) => Ok(Instr::Anewarray(*x)),
         Instr::Checkcast(x) => Ok(Instr::Checkcast(*x)),
         Instr::Instanceof(x) => Ok(Instr::Instanceof(*x)),
-        _ => copied_jump(instr),
+        _ => copied_owner(instr),
     }
 }
 

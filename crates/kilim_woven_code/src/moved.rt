@@ -78,8 +78,8 @@ fn moved_lookup(
     Ok(Instr::Lookupswitch(to, all))
 }
 
-// Where a jump goes; 0 for others.
-fn target_of(instr: &Instr) -> u32
+/// Where a jump goes; 0 for others.
+pub fn target_of(instr: &Instr) -> u32
     ensures { result ≡ target_of instr.now }
 {
     match instr {
@@ -105,8 +105,8 @@ fn target_of(instr: &Instr) -> u32
     }
 }
 
-// A jump that goes to a place. None other is given to it.
-fn jump_to(instr: &Instr, to: u32) -> Result<Instr, NoMemory>
+/// A jump that goes to a place. None other is given to it.
+pub fn jump_to(instr: &Instr, to: u32) -> Result<Instr, NoMemory>
     ensures { IfOk result (λ i. Moves to i instr.now) }
 {
     match instr {

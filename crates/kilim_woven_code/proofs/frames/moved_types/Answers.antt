@@ -1,4 +1,5 @@
-use Rattle.std.proofs.Common.{◌∙◌, ◌++◌, ◌∷◌, [], List, ap, map, take}
+use Rattle.std.proofs.Common.{◌∙◌, ◌++◌, ◌∷◌, [], List, ap, map, take, arith}
+use Rattle.std.proofs.lemmas.List.{take_all}
 use Rattle.kilim_classes.specs.declared.verified.VType.{VType}
 use Rattle.kilim_woven_form.specs.Woven.{moved_type}
 use Rattle.kilim_woven_pieces.specs.Places.{at_in}
@@ -12,3 +13,6 @@ loop-at-preserved c =
     c.in_ok-push.ensures.items
     ∙ (ap (λ (ts : List VType). ts ++ c.in_ok-new.new ∷ []) c.loop-at.invariant
     ∙ (ap (λ (t : VType). done ++ t ∷ []) c.in_ok-new.ensures ∙ map_next f c.args.types.now c.loop-at.at c.type_at-ty.result c.type_at-ty.ensures))
+
+pub returns : goal.returns
+returns c = c.loop-at.invariant ∙ ap (λ (ts : List VType). map (moved_type (at_in c.args.places.now)) ts) (take_all c.loop-at.at c.args.types.now (omega arith))
