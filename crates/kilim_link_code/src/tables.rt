@@ -224,18 +224,12 @@ fn either(first: Option<Instr>, later: Option<Instr>) -> Option<Instr>
 fn moves(number: u8) -> Option<Instr>
     ensures { result ≡ row (constants ++ (int_and_long_loads ++ (reference_loads ++ (array_loads ++ (int_and_long_stores ++ (reference_stores ++ (array_stores ++ stack_moves))))))) number }
 {
-    let stores = either(
-        reference_stores(number),
-        either(array_stores(number), stack_moves(number)),
-    );
-    let others = either(
-        array_loads(number),
-        either(int_and_long_stores(number), stores),
-    );
-    let loads = either(
-        int_and_long_loads(number),
-        either(reference_loads(number), others),
-    );
+    let array_or_stack = either(array_stores(number), stack_moves(number));
+    let stores = either(reference_stores(number), array_or_stack);
+    let all_stores = either(int_and_long_stores(number), stores);
+    let others = either(array_loads(number), all_stores);
+    let references = either(reference_loads(number), others);
+    let loads = either(int_and_long_loads(number), references);
     either(constants(number), loads)
 }
 
@@ -244,11 +238,10 @@ fn computations(number: u8) -> Option<Instr>
     ensures { result ≡ row (sums_and_products ++ (remainders_and_negations ++ (shifts ++ (bit_operations ++ (conversions ++ returns_and_length))))) number }
 {
     let ends = either(conversions(number), returns_and_length(number));
-    let bits = either(shifts(number), either(bit_operations(number), ends));
-    either(
-        sums_and_products(number),
-        either(remainders_and_negations(number), bits),
-    )
+    let bits = either(bit_operations(number), ends);
+    let shifted = either(shifts(number), bits);
+    let others = either(remainders_and_negations(number), shifted);
+    either(sums_and_products(number), others)
 }
 
 /// The instruction of a number without operands, a short form as its long form; nothing for other numbers.
