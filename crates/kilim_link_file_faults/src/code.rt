@@ -32,11 +32,13 @@ fn bad_index(
     let Some((number, index)) = index_in(instr) else {
         return Ok(None);
     };
-    let operand = operand_at(alloc, pool, number, index)?;
-    if operand.is_some() {
-        return Ok(None);
+    match operand_at(alloc, pool, number, index)? {
+        Some(operand) => {
+            drop(operand);
+            Ok(None)
+        }
+        None => Ok(Some(CodeFault::Op(OpFault::Unknown(number), at))),
     }
-    Ok(Some(CodeFault::Op(OpFault::Unknown(number), at)))
 }
 
 // The first of them in code.
