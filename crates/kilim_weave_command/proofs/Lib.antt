@@ -1,3 +1,4 @@
 pub mod Never
 pub mod Isolated
 pub mod Made
+pub mod Loops

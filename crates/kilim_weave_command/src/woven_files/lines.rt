@@ -1,33 +1,47 @@
-//! The lines of woven files.
+//! The lines of classes.
 
-ghost use Rattle.std.specs.Prelude.{◌≡◌, ◌++◌, IfOk};
+ghost use Rattle.std.specs.Prelude.{◌≡◌, ◌++◌, IfOk, codes};
 ghost use Rattle.std.specs.Fmt.{decimal};
+ghost use Rattle.kilim_reports.specs.Names.{member_name_text};
 ghost use Rattle.kilim_weave_command.specs.woven_files.WovenFiles.{wove_line, wove_lines};
 
 use crate::woven_files::made::WovenFile;
 use kilim_reports::member_name_text;
-use kilim_units::NoMemory;
+use kilim_units::{NoMemory, Units};
 use std::alloc::Global;
 
-fn push_count(text: &mut Vec<u8>, count: usize) -> Result<(), NoMemory>
-    ensures { IfOk result (λ u. text.new.items ≡ text.old.items ++ decimal count) }
+// A number ends a line.
+fn push_last(text: &mut Vec<u8>, number: u64) -> Result<(), NoMemory>
+    ensures { IfOk result (λ u. text.new.items ≡ text.old.items ++ (decimal number ++ codes "\n")) }
 {
-    let digits = format!(in *text.allocator(); "{count}")?;
+    let digits = format!(in *text.allocator(); "{number}\n")?;
     text.extend_from_slice(digits.as_bytes())?;
     Ok(())
+}
+
+/// A line: a word, the name of a class, a second word, and a number.
+pub fn class_line(
+    alloc: Global,
+    first: &[u8],
+    class: &Units,
+    second: &[u8],
+    number: u64,
+) -> Result<Vec<u8>, NoMemory>
+    ensures { IfOk result (λ text. text.items ≡ first.now ++ (member_name_text class.now ++ (second.now ++ (decimal number ++ codes "\n")))) }
+{
+    let name = member_name_text(alloc, class)?;
+    let mut text = Vec::from_slice(alloc, first)?;
+    text.extend_from_slice(name.as_slice())?;
+    text.extend_from_slice(second)?;
+    push_last(&mut text, number)?;
+    Ok(text)
 }
 
 #[tactic(auto, unfolding(crate::specs::woven_files::WovenFiles::wove_line))]
 fn wove_line(alloc: Global, file: &WovenFile) -> Result<Vec<u8>, NoMemory>
     ensures { IfOk result (λ text. text.items ≡ wove_line file.now) }
 {
-    let name = member_name_text(alloc, &file.class)?;
-    let mut text = Vec::from_slice(alloc, b"wove ")?;
-    text.extend_from_slice(name.as_slice())?;
-    text.push(b' ')?;
-    push_count(&mut text, file.pausables)?;
-    text.push(b'\n')?;
-    Ok(text)
+    class_line(alloc, b"wove ", &file.class, b" ", file.pausables as u64)
 }
 
 /// A line for each woven file, in their order: `wove`, the class, and how many of its methods can pause.

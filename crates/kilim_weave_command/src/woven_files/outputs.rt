@@ -9,7 +9,7 @@ ghost use Rattle.kilim_weave_command.specs.woven_files.Parts.{AreWovenFrom, IsSi
 ghost use Rattle.kilim_weave_command.specs.woven_files.WovenFiles.{AreOutputs, IsOutput, IsWovenProgramOf, can_pause, pausables_of};
 
 use crate::woven_files::applied::applied;
-use crate::woven_files::back::link_back;
+use crate::woven_files::back::links_back;
 use crate::woven_files::made::WovenFile;
 use crate::woven_files::places::{class_at, file_at};
 use crate::woven_files::text::text_of;
@@ -84,7 +84,7 @@ fn outputs_of(
     Ok(outputs)
 }
 
-// The woven files of class files that link to the woven program.
+// The woven files of class files that link to the woven program. Where they didn't, want of memory would be answered.
 fn linked_outputs(
     alloc: Global,
     files: &[ClassFile],
@@ -96,7 +96,9 @@ fn linked_outputs(
     ensures outputs { IfOk result (λ outputs. AreOutputs program.now program.now.classes files.now outputs.items) }
     ensures links { IfOk result (λ outputs. IsWovenProgramOf (map (λ (o : WovenFile). o.bytes) outputs.items) woven.now) }
 {
-    link_back(alloc, files, woven)?;
+    if !links_back(alloc, files, woven) {
+        return Err(NoMemory);
+    }
     outputs_of(alloc, files, program)
 }
 
