@@ -1,8 +1,12 @@
 -- Acts, entries and lines at the front of a text.
-use Rattle.std.proofs.Common.{◌≡◌, ℕ, ◌<◌, ◌≤◌, List, ◌∷◌, ◌++◌, get_or, refl, sym, ap, ◌∙◌, arith}
+use Rattle.std.proofs.Common.{◌≡◌, ℕ, ◌<◌, ◌≤◌, List, [], ◌∷◌, ◌++◌, get_or, refl, sym, ap, subst, ◌∙◌, arith}
+use Rattle.std.proofs.lemmas.List.{append_cancel_left}
+use Rattle.std.specs.Prelude.{◌==◌, if◌then◌else◌}
 use Rattle.kilim_program.specs.declared.cause.EndCause.{EndCause}
 use Rattle.kilim_program.specs.declared.cause.EndCause.TheVariants.{Done, Spent, Depth, Null, Index, Size, Large, Cast, Store, Zero, Boxes, Tasks, Full, Thrown}
 use Rattle.kilim_program.specs.Cause.{word_of}
+use Rattle.kilim_journal.specs.declared.acts.Word.{Word}
+use Rattle.kilim_journal.specs.declared.acts.Word.TheVariants as word
 use Rattle.kilim_journal.specs.declared.entry.Act.{Act}
 use Rattle.kilim_journal.specs.declared.entry.Act.TheVariants.{Put, Take, Empty, Start, Print, End, Wait, Bound}
 use Rattle.kilim_journal.specs.Text.{act_text}
@@ -50,3 +54,55 @@ act_parts (Print shape) bytes x e = e
 act_parts (End cause) bytes x e = e
 act_parts (Wait box) bytes x e = e
 act_parts (Bound box most) bytes x e = e
+
+-- ---- words
+
+abbrev pub words : List Word
+words = word.Put ∷ word.Take ∷ word.Empty ∷ word.Start ∷ word.Print ∷ word.End ∷ word.Wait ∷ word.Bound ∷ []
+
+-- the word that two letters begin
+abbrev begun : ℕ → ℕ → Word
+begun a b =
+    if a == 112 then (if b == 117 then word.Put else word.Print)
+    else (if a == 116 then word.Take else (if a == 101 then (if b == 109 then word.Empty else word.End) else (if a == 115 then word.Start else (if a == 119 then word.Wait else word.Bound))))
+
+abbrev first_word : List ℕ → Word
+first_word (a ∷ b ∷ rest) = begun a b
+first_word rest = word.Put
+
+word_again : (w : Word) (x : List ℕ) → first_word (word_text w ++ x) ≡ w
+word_again word.Put x = refl
+word_again word.Take x = refl
+word_again word.Empty x = refl
+word_again word.Start x = refl
+word_again word.Print x = refl
+word_again word.End x = refl
+word_again word.Wait x = refl
+word_again word.Bound x = refl
+
+pub same_word : (v w : Word) (bytes y x : List ℕ) → bytes ≡ word_text v ++ y → bytes ≡ word_text w ++ x → (v ≡ w) × (y ≡ x)
+same_word v w bytes y x is e =
+    let both = sym is ∙ e in
+    let same : v ≡ w = sym (word_again v y) ∙ (ap first_word both ∙ word_again w x) in
+    (same, append_cancel_left (word_text w) y x (subst (λ (u : Word). word_text u ++ y ≡ word_text w ++ x) same both))
+
+-- a word in the list of all
+pub record ListedWord (w : Word) : Type 0 where
+  pub place : ℕ
+  pub within : place < 8
+  pub there : get_or words place word.Put ≡ w
+
+listed_word : (w : Word) → ListedWord w
+listed_word word.Put = record { place = 0; within = omega arith; there = refl }
+listed_word word.Take = record { place = 1; within = omega arith; there = refl }
+listed_word word.Empty = record { place = 2; within = omega arith; there = refl }
+listed_word word.Start = record { place = 3; within = omega arith; there = refl }
+listed_word word.Print = record { place = 4; within = omega arith; there = refl }
+listed_word word.End = record { place = 5; within = omega arith; there = refl }
+listed_word word.Wait = record { place = 6; within = omega arith; there = refl }
+listed_word word.Bound = record { place = 7; within = omega arith; there = refl }
+
+pub no_word : (bytes : List ℕ) (k : ℕ) → 8 ≤ k → ((j : ℕ) (x : List ℕ) → j < k → bytes ≡ word_text (get_or words j word.Put) ++ x → ⊥) → (w : Word) (x : List ℕ) → bytes ≡ word_text w ++ x → ⊥
+no_word bytes k all none w x e =
+    let l = listed_word w in
+    none l.place x (omega (arith, l.within)) (e ∙ sym (ap (λ (u : Word). word_text u ++ x) l.there))

@@ -35,35 +35,52 @@ pub enum Word {
     Bound,
 }
 
+const WORDS: [Word; 8] = [
+    Word::Put,
+    Word::Take,
+    Word::Empty,
+    Word::Start,
+    Word::Print,
+    Word::End,
+    Word::Wait,
+    Word::Bound,
+];
+
+// A word, and the space behind it.
+fn text_of(word: Word) -> &'static [u8]
+    ensures { result.now ≡ word_text word }
+{
+    match word {
+        Word::Put => b"put ",
+        Word::Take => b"take ",
+        Word::Empty => b"empty ",
+        Word::Start => b"start ",
+        Word::Print => b"print ",
+        Word::End => b"end ",
+        Word::Wait => b"waits ",
+        Word::Bound => b"bound ",
+    }
+}
+
+// The bytes behind a word and its space.
+fn behind(bytes: &[u8], word: Word) -> Option<&[u8]>
+    ensures right { (x : List ℕ) → bytes.now ≡ word_text word ++ x → IsSomeAnd result (λ r. r.now ≡ x) }
+    ensures some { IfSome result (λ r. bytes.now ≡ word_text word ++ r.now) }
+{
+    after(bytes, text_of(word))
+}
+
 // The word of an act, and the bytes behind it and its space.
 fn act_word_at(bytes: &[u8]) -> Option<(Word, &[u8])>
     ensures { (w : Word) (x : List ℕ) → bytes.now ≡ word_text w ++ x → IsSomeAnd result (λ r. (r.0 ≡ w) × (r.1.now ≡ x)) }
 {
-    if let Some(rest) = after(bytes, b"put ") {
-        return Some((Word::Put, rest));
+    for k in 0..WORDS.len() {
+        match behind(bytes, WORDS[k]) {
+            Some(rest) => return Some((WORDS[k], rest)),
+            None => {}
+        }
     }
-    if let Some(rest) = after(bytes, b"take ") {
-        return Some((Word::Take, rest));
-    }
-    if let Some(rest) = after(bytes, b"empty ") {
-        return Some((Word::Empty, rest));
-    }
-    if let Some(rest) = after(bytes, b"start ") {
-        return Some((Word::Start, rest));
-    }
-    if let Some(rest) = after(bytes, b"print ") {
-        return Some((Word::Print, rest));
-    }
-    if let Some(rest) = after(bytes, b"end ") {
-        return Some((Word::End, rest));
-    }
-    if let Some(rest) = after(bytes, b"waits ") {
-        return Some((Word::Wait, rest));
-    }
-    match after(bytes, b"bound ") {
-        Some(rest) => Some((Word::Bound, rest)),
-        None => None,
-    }
+    None
 }
 
 const CAUSES: [EndCause; 14] = [
