@@ -350,15 +350,15 @@ impl<F: Fibers> Board<F> {
     }
 }
 
-// No task's mailbox.
-fn no_boxes(alloc: Global, tasks: usize) -> Result<Vec<Option<BoxName>>, NoMemory>
-    ensures { IfOk result (λ boxes. boxes.items ≡ replicate tasks None) }
+// So many places in which nothing is.
+fn empty_places<T: Drop>(alloc: Global, count: usize) -> Result<Vec<Option<T>>, NoMemory>
+    ensures { IfOk result (λ places. places.items ≡ replicate count None) }
 {
-    let mut boxes = Vec::new(alloc);
-    for i in 0..tasks {
-        boxes.push(None)?;
+    let mut places = Vec::new(alloc);
+    for i in 0..count {
+        places.push(None)?;
     }
-    Ok(boxes)
+    Ok(places)
 }
 
 // The mailbox of a task, where it is one of those that are asked for.
@@ -379,7 +379,7 @@ fn parked_boxes<F: Fibers>(
 ) -> Result<Vec<Option<BoxName>>, NoMemory>
     ensures { IfOk result (λ boxes. AreBoxes F.task_of waiters.now tasks boxes.items) }
 {
-    let mut boxes = no_boxes(alloc, tasks)?;
+    let mut boxes = empty_places(alloc, tasks)?;
     let mut left = waiters.len();
     while left > 0 {
         left -= 1;
@@ -397,21 +397,11 @@ fn parked_at(boxes: &Vec<Option<BoxName>>, t: u32) -> Option<BoxName>
     boxes[t as usize]
 }
 
-// Cells that are all empty.
-fn free_cells(alloc: Global, seats: usize) -> Result<Vec<Option<u32>>, NoMemory>
-    ensures { IfOk result (λ cells. cells.items ≡ replicate seats None) }
-{
-    let mut cells = Vec::new(alloc);
-    for i in 0..seats {
-        cells.push(None)?;
-    }
-    Ok(cells)
-}
-
 // A board without fibers.
 fn bare<F: Fibers>(alloc: Global, seats: usize) -> Result<Board<F>, NoMemory>
     ensures { IfOk result (λ b. (b.journal.items ≡ []) × (b.tasks ≡ 1) × (b.ready.items ≡ []) × (b.parked.items ≡ []) × (b.mailboxes.by_name.entries ≡ []) × (b.cells.items ≡ replicate seats None) × (b.stopped ≡ false) × (1 ≤ deque_capacity b.ready) × (1 ≤ b.parked.room)) }
 {
+    let cells = empty_places(alloc, seats)?;
     let mut ready = VecDeque::new(alloc);
     ready.reserve(1)?;
     let mut parked = Parked::new(alloc);
@@ -422,7 +412,7 @@ fn bare<F: Fibers>(alloc: Global, seats: usize) -> Result<Board<F>, NoMemory>
         ready,
         parked,
         mailboxes: Mailboxes::new(alloc),
-        cells: free_cells(alloc, seats)?,
+        cells,
         stopped: false,
     })
 }

@@ -1,6 +1,6 @@
 use Rattle.std.proofs.Common.{◌≡◌, None}
 use Rattle.std.specs.Prelude.{replicate}
-use Rattle.kilim_exchange.proofs.board.no_boxes.Given as goal
+use Rattle.kilim_exchange.proofs.board.empty_places.Given as goal
 
 abbrev pub invariant-loop-i : goal.invariant-loop-i
-invariant-loop-i l = l.boxes.items ≡ replicate l.i None
+invariant-loop-i g l = l.places.items ≡ replicate l.i None
