@@ -1,6 +1,6 @@
 //! A fiber.
 
-ghost use Rattle.std.specs.Prelude.{◌≡◌, ◌<◌, ◌≤◌, ◌+◌, ◌^◌, true, false, Some, None, ℕ, IfOk, OnOk};
+ghost use Rattle.std.specs.Prelude.{◌≡◌, ◌<◌, ◌+◌, ◌^◌, true, false, Some, None, ℕ, IfOk, OnOk};
 ghost use Rattle.kilim_classes.specs.declared.value.Value.TheVariants as a_value;
 ghost use Rattle.kilim_thread_model.specs.State.{Setting};
 ghost use Rattle.std.specs.Prelude.{List, [], Option};
@@ -14,8 +14,8 @@ ghost use Rattle.kilim_fibers.specs.Wishes.{ToEnd, Wish, end_wish};
 ghost use Rattle.kilim_fibers.specs.declared.Wants.TheVariants as wants;
 ghost use Rattle.kilim_tree_move.specs.Shaping.{Suits};
 ghost use Rattle.kilim_whole_runs.specs.record_fiber.Past.{deed_of};
-ghost use Rattle.kilim_whole_runs.specs.record_fiber.Fiber.{task_of, course_of, HoldsFiber, AskedOf, ServesCode, CameTo};
-ghost use Rattle.kilim_whole_runs.specs.record_fiber.Records.{records_of, NoFrameIsLeft};
+ghost use Rattle.kilim_whole_runs.specs.record_fiber.Fiber.{task_of, course_of, HoldsFiber, AskedOf, ServesCode};
+ghost use Rattle.kilim_whole_runs.specs.record_fiber.Records.{records_of};
 ghost use Rattle.kilim_whole_runs.specs.record_fiber.Clauses.{Resumes, RestsInRecords, Went};
 ghost use Rattle.kilim_whole_runs.specs.record_fiber.Calls.{IsNew, IsBegun, EndsIdle, RestsAt, HasWanted, MayAsk, asks_by, is_rest, WantsBy, Passed, Taken, Found, Refused, Answered, AnswerSuits, takes_value};
 
@@ -258,24 +258,6 @@ impl Fiber {
         }
     }
 
-    // Runs up to the next thing that it wants.
-    fn come(&mut self, code: &Code, limits: &Limits) -> Result<Came, NoMemory>
-        requires some { CanRun task_of course_of (HoldsFiber code.now.program code.now.counted) ServesCode code.now limits.now self.old }
-        requires busy { self.old.idle ≡ false }
-        ensures came { (set : Setting) → ServesCode set code.now → set.limits ≡ limits.now → (s : StandsFor task_of course_of (HoldsFiber code.now.program code.now.counted) set self.old) →
-            IfOk result (λ came. CameTo code.now.program code.now.counted set self.old.task (course_of self.old) s.lone self.new.body came) }
-        ensures left { IfOk result (λ came. NoFrameIsLeft came self.new.body) }
-        ensures same { OnOk result (self.new ≡ record self.old { body = self.new.body }) }
-        ensures roomy { OnOk result (RoomyIn code.now.program self.new.body.frames) }
-        ensures counted { OnOk result (self.old.body.count ≤ self.new.body.count) }
-        ensures most { OnOk result (self.new.body.count ≤ limits.now.steps) }
-    {
-        let alloc = self.alloc;
-        let main = self.main;
-        let task = self.task;
-        reach(alloc, code, limits, main, task, &mut self.body)
-    }
-
     // Its `execute` is built in: its task is over at once.
     fn end_idle(&mut self, limits: &Limits) -> Result<Wants<Fiber>, NoMemory>
         ensures { IfOk result (λ w. EndsIdle limits.now self.old self.new w) }
@@ -350,7 +332,14 @@ impl Fiber {
             return self.end_idle(limits);
         }
         let before = self.body.count;
-        let came = self.come(code, limits)?;
+        let came = reach(
+            self.alloc,
+            code,
+            limits,
+            self.main,
+            self.task,
+            &mut self.body,
+        )?;
         match self.refused {
             Some(mailbox) => self.rest_at(mailbox, came),
             None => self.want(code, limits, before, came),

@@ -1,5 +1,10 @@
+use Rattle.std.proofs.Common.{◌≤◌, Ok, refl, subst}
+use Rattle.kilim_program.specs.declared.run.Limits.{Limits}
+use Rattle.kilim_woven_fiber.specs.Body.{standing_at}
+use Rattle.kilim_woven_fiber.specs.Steps.{setting_of}
 use Rattle.kilim_whole_runs.proofs.record_fiber.Rested.{idle_rests, refused_rests, wants_rests}
-use Rattle.kilim_whole_runs.proofs.record_fiber.Resuming.{idle_ok, rest_ok, want_ok}
+use Rattle.kilim_whole_runs.proofs.record_fiber.Resting.{none_is_left}
+use Rattle.kilim_whole_runs.proofs.record_fiber.Resuming.{came_by, idle_ok, ready, rest_ok, want_ok}
 use Rattle.kilim_whole_runs.proofs.record_fiber.fiber.Fiber.resume.Goals as goal
 
 pub returns-then-self-clause-gives : goal.returns-then-self-clause-gives
@@ -8,22 +13,41 @@ returns-then-self-clause-gives c = idle_ok c.args.code.now c.args.limits.now c.a
 pub returns-then-self-clause-rests : goal.returns-then-self-clause-rests
 returns-then-self-clause-rests c = idle_rests c.args.code.now c.args.limits.now c.args.self.now c.end_idle.new.self c.end_idle.result c.end_idle.ensures
 
+pub reach-requires-clause-ready : goal.reach-requires-clause-ready
+reach-requires-clause-ready c = ready c.args.code.now c.args.limits.now c.args.self.now c.if-self.false c.requires
+
+pub reach-requires-clause-roomy : goal.reach-requires-clause-roomy
+reach-requires-clause-roomy c = c.requires.stands.held.roomy
+
+pub reach-requires-clause-most : goal.reach-requires-clause-most
+reach-requires-clause-most c = subst (λ (l : Limits). c.args.self.now.body.count ≤ l.steps) c.requires.is-limits c.requires.stands.held.most
+
 pub returns-in-Some-clause-gives : goal.returns-in-Some-clause-gives
 returns-in-Some-clause-gives c =
-    rest_ok c.args.code.now c.args.limits.now c.args.self.now c.come.new.self c.rest_at.new.self c.in-Some.mailbox c.in_ok-came.came c.rest_at.result c.if-self.false c.in_ok-came.ensures.same c.in_ok-came.ensures.roomy
-    c.in_ok-came.ensures.counted c.in_ok-came.ensures.most c.in-Some.is c.in_ok-came.ensures.came c.rest_at.ensures
+    let f = c.args.self.now in
+    let reached = c.in_ok-came.ensures in
+    rest_ok c.args.code.now c.args.limits.now f (record f { body = c.reach.new.body }) c.rest_at.new.self c.in-Some.mailbox c.in_ok-came.came c.rest_at.result c.if-self.false refl reached.roomy reached.counted reached.most c.in-Some.is
+    (came_by c.args.code.now c.args.limits.now f c.if-self.false c.reach.new.body (Ok c.in_ok-came.came) reached.reaches reached.wanting reached.room) c.rest_at.ensures
 
 pub returns-in-Some-clause-rests : goal.returns-in-Some-clause-rests
 returns-in-Some-clause-rests c =
-    refused_rests c.args.code.now c.args.limits.now c.args.self.now c.come.new.self c.rest_at.new.self c.in-Some.mailbox c.in_ok-came.came c.rest_at.result c.if-self.false c.in_ok-came.ensures.same c.requires
-    c.in_ok-came.ensures.left c.in_ok-came.ensures.came c.rest_at.ensures
+    let f = c.args.self.now in
+    let reached = c.in_ok-came.ensures in
+    refused_rests c.args.code.now c.args.limits.now f (record f { body = c.reach.new.body }) c.rest_at.new.self c.in-Some.mailbox c.in_ok-came.came c.rest_at.result c.if-self.false refl c.requires
+    (none_is_left (setting_of c.args.code.now c.args.limits.now f.main) c.args.code.now.program c.args.code.now.counted f.task (standing_at 0 f.body) c.reach.new.body (Ok c.in_ok-came.came) reached.reaches)
+    (came_by c.args.code.now c.args.limits.now f c.if-self.false c.reach.new.body (Ok c.in_ok-came.came) reached.reaches reached.wanting reached.room) c.rest_at.ensures
 
 pub returns-in-None-clause-gives : goal.returns-in-None-clause-gives
 returns-in-None-clause-gives c =
-    want_ok c.args.code.now c.args.limits.now c.args.self.now c.come.new.self c.want.new.self c.in_ok-came.came c.want.result c.if-self.false c.in_ok-came.ensures.same c.in_ok-came.ensures.roomy
-    c.in_ok-came.ensures.counted c.in_ok-came.ensures.most c.in-None.is c.in_ok-came.ensures.came c.want.ensures
+    let f = c.args.self.now in
+    let reached = c.in_ok-came.ensures in
+    want_ok c.args.code.now c.args.limits.now f (record f { body = c.reach.new.body }) c.want.new.self c.in_ok-came.came c.want.result c.if-self.false refl reached.roomy reached.counted reached.most c.in-None.is
+    (came_by c.args.code.now c.args.limits.now f c.if-self.false c.reach.new.body (Ok c.in_ok-came.came) reached.reaches reached.wanting reached.room) c.want.ensures
 
 pub returns-in-None-clause-rests : goal.returns-in-None-clause-rests
 returns-in-None-clause-rests c =
-    wants_rests c.args.code.now c.args.limits.now c.args.self.now c.come.new.self c.want.new.self c.in_ok-came.came c.want.result c.if-self.false c.in_ok-came.ensures.same c.requires
-    c.in_ok-came.ensures.left c.in_ok-came.ensures.came c.want.ensures
+    let f = c.args.self.now in
+    let reached = c.in_ok-came.ensures in
+    wants_rests c.args.code.now c.args.limits.now f (record f { body = c.reach.new.body }) c.want.new.self c.in_ok-came.came c.want.result c.if-self.false refl c.requires
+    (none_is_left (setting_of c.args.code.now c.args.limits.now f.main) c.args.code.now.program c.args.code.now.counted f.task (standing_at 0 f.body) c.reach.new.body (Ok c.in_ok-came.came) reached.reaches)
+    (came_by c.args.code.now c.args.limits.now f c.if-self.false c.reach.new.body (Ok c.in_ok-came.came) reached.reaches reached.wanting reached.room) c.want.ensures

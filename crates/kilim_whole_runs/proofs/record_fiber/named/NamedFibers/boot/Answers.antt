@@ -1,5 +1,20 @@
+use Rattle.std.proofs.Common.{ap, ◌∙◌}
+use Rattle.kilim_whole_runs.specs.record_fiber.Fiber.{task_of, course_of}
+use Rattle.kilim_whole_runs.specs.declared.record_fiber.fiber.Fiber.{Fiber}
 use Rattle.kilim_whole_runs.proofs.record_fiber.named.Naming.{boot_named}
 use Rattle.kilim_whole_runs.proofs.record_fiber.named.NamedFibers.boot.Goals as goal
+
+pub returns-clause-task : goal.returns-clause-task
+returns-clause-task g c = ap task_of c.name_program.ensures ∙ c.in_ok-fiber.ensures.task
+
+pub returns-clause-course : goal.returns-clause-course
+returns-clause-course g c = ap course_of c.name_program.ensures ∙ c.in_ok-fiber.ensures.course
+
+pub returns-clause-rests : goal.returns-clause-rests
+returns-clause-rests g c = ap (λ (f : Fiber). f.rests) c.name_program.ensures ∙ c.in_ok-fiber.ensures.rests
+
+pub returns-clause-refused : goal.returns-clause-refused
+returns-clause-refused g c = ap (λ (f : Fiber). f.refused) c.name_program.ensures ∙ c.in_ok-fiber.ensures.refused
 
 pub returns-clause-stands : goal.returns-clause-stands
 returns-clause-stands g c = λ set run.
