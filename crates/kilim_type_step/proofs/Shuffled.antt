@@ -3,7 +3,6 @@ use Rattle.std.proofs.Common.{◌≡◌, ℕ, ◌+◌, ◌-◌, ◌<◌, ◌≤�
 use Rattle.std.specs.Prelude.{nat_le}
 use Rattle.std.proofs.lemmas.Bool.{cases_lt, lt-leb, le-leb}
 use Rattle.std.proofs.lemmas.List.{drop_more, drop_all, take_all, append_assoc, append-nil, reverse-append, reverse-reverse}
-use Rattle.kilim_lemmas.proofs.Lists.{get_some, take_next}
 use Rattle.kilim_classes.specs.declared.verified.VType.{VType}
 use Rattle.kilim_classes.specs.declared.verified.VType.TheVariants.{Top, Int, Long, Null, UninitThis, Uninit, Object}
 use Rattle.kilim_typing.specs.Step.{words, off, then_off, shuffled, Drops, Copies, Swaps}
@@ -137,14 +136,6 @@ swaps_first r s e = ap (λ q. then_off q (λ x y. then_off (off 1 y) (λ z w. Ok
 
 pub swaps_second : (r : ℕ) (s a below : List VType) → off 1 s ≡ Ok (a, below) → off 1 below ≡ Err r → shuffled Swaps s ≡ Err r
 swaps_second r s a below e f = ap (λ q. then_off q (λ x y. then_off (off 1 y) (λ z w. Ok (z ++ (x ++ w))))) e ∙ ap (λ q. then_off q (λ z w. Ok (z ++ (a ++ w)))) f
-
--- ---- the types that are taken, one by one
-
-pub take_none : {A : Type 0} → (xs : List A) (k : ℕ) → slice_get xs k ≡ None → take (k + 1) xs ≡ take k xs
-take_none xs k e = elim (cases_lt k (length xs)) [ inl h ↦ (let found = get_some xs k h in let q : Some found.0 ≡ None = sym found.1 ∙ e in absurd (cc (q))) | inr h ↦ take_all (k + 1) xs (omega arith) ∙ sym (take_all k xs h) ]
-
-pub taken_on : {A : Type 0} → (xs ys : List A) (k : ℕ) (x : A) → slice_get xs k ≡ Some x → ys ≡ take k xs → ys ++ x ∷ [] ≡ take (k + 1) xs
-taken_on xs ys k x e is = ap (λ zs. zs ++ x ∷ []) is ∙ sym (take_next xs k x e)
 
 -- ---- types pushed one by one, the last first
 

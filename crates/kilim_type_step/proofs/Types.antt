@@ -1,6 +1,6 @@
 -- Types of arrays; stacks and locals as lists.
 use Rattle.std.proofs.Common.{◌≡◌, ℕ, zero, suc, ◌+◌, ◌-◌, ◌<◌, ◌≤◌, Bool, true, false, ◌||◌, refl, ap, sym, ◌∙◌, inl, inr, arith, List, [], ◌∷◌, ◌++◌, length, take, drop, reverse, get_or, set}
-use Rattle.std.proofs.lemmas.List.{reverse-append, length-reverse, length-take, length-drop, drop_at, drop_all, take-append-drop, drop_more, take_more, get_or_at, set_at, append_assoc, append-nil, take_all}
+use Rattle.std.proofs.lemmas.List.{reverse-append, length-reverse, length-take, length-drop, drop_at, drop_all, take-append-drop, drop_more, take_more, get_or_at, set_at, append_assoc, append-nil, take_all, take_at}
 use Rattle.std.proofs.lemmas.Bool.{cases_lt}
 use Rattle.std.proofs.lemmas.List.Folds.{list_any-append}
 use Rattle.std.specs.List.{list_any}
@@ -43,6 +43,16 @@ pub drop_reverse : {A : Type 0} → (n : ℕ) (xs : List A) → reverse (take (l
 drop_reverse n xs = elim (cases_lt (length xs) n) [
   | inl h ↦ ap (λ k. reverse (take k xs)) (let z : length xs - n ≡ 0 = omega arith in z) ∙ sym (drop_past n xs (omega arith))
   | inr h ↦ drop_reversed n (length xs - n) xs (omega arith)
+]
+
+pub top_reversed : {A : Type 0} → (n : ℕ) (xs : List A) → reverse (drop (length xs - n) xs) ≡ take n (reverse xs)
+top_reversed n xs = elim (cases_lt (length xs) n) [
+  | inl h ↦ ap (λ k. reverse (drop k xs)) (let z : length xs - n ≡ 0 = omega arith in z) ∙ sym (take_all n (reverse xs) (omega (arith, length-reverse xs)))
+  | inr h ↦ (
+      let k = length xs - n in
+      let joined : reverse xs ≡ reverse (drop k xs) ++ reverse (take k xs) = ap reverse (sym (take-append-drop k xs)) ∙ reverse-append (take k xs) (drop k xs) in
+      let long : length (reverse (drop k xs)) ≡ n = omega (arith, length-reverse (drop k xs), length-drop k xs) in
+      sym (ap (take n) joined ∙ take_at (reverse (drop k xs)) (reverse (take k xs)) n long))
 ]
 
 pub words_rest : (n : ℕ) (xs : List VType) → words (take (length xs - n) xs) ≡ words (drop n (reverse xs))

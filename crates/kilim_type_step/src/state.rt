@@ -277,18 +277,13 @@ impl State {
     }
 
     /// The topmost types, the top first; all where there are fewer.
-    #[tactic(auto, using(crate::proofs::Shuffled::taken_on, crate::proofs::Shuffled::take_none))]
     pub fn top(&self, alloc: Global, count: usize) -> Result<Vec<VType>, AllocError>
         ensures { IfOk result (λ v. v.items ≡ take count self.now.stack) }
     {
-        let mut taken = Vec::new(alloc);
-        for at in 0..count {
-            match self.below(at) {
-                Some(t) => taken.push(t)?,
-                None => (),
-            }
-        }
-        Ok(taken)
+        let rest = self.stack.len().saturating_sub(count);
+        let mut top = Vec::from_slice(alloc, &self.stack[rest..])?;
+        top.reverse();
+        Ok(top)
     }
 
     /// Puts types on the stack, the first of them on top.
