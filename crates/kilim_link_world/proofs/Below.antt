@@ -1,5 +1,5 @@
 -- Lists that are made of the numbers below a bound.
-use Rattle.std.proofs.Common.{◌≡◌, ℕ, zero, suc, ◌<◌, List, [], ◌∷◌, ◌++◌, length, Some, refl, ap, ◌∙◌, inl, inr, arith, length-append}
+use Rattle.std.proofs.Common.{◌≡◌, ℕ, zero, suc, ◌+◌, ◌<◌, List, [], ◌∷◌, ◌++◌, length, Some, refl, ap, ◌∙◌, inl, inr, arith, length-append}
 use Rattle.std.specs.Prelude.{slice_get}
 use Rattle.std.proofs.lemmas.Bool.{cases_lt}
 use Rattle.kilim_lemmas.proofs.Lists.{get_last, get_front}
@@ -20,3 +20,9 @@ module _ {A : Type 0} (make : ℕ → A) where
             let is : n ≡ k = omega arith in
             ap (slice_get (each_below make n ++ make n ∷ [])) at ∙ (get_last (each_below make n) (make n) ∙ ap (λ (i : ℕ). Some (make i)) is)
       ]
+
+  -- a loop that appends what is made of each number
+  pub one_more : (made new : List A) (n : ℕ) (x : A) → made ≡ each_below make n → x ≡ make n → new ≡ made ++ x ∷ [] → new ≡ each_below make (n + 1)
+  one_more made new n x so_far is step =
+      let next : n + 1 ≡ suc n = omega arith in
+      rw next (step ∙ (ap (λ xs. xs ++ x ∷ []) so_far ∙ ap (λ y. each_below make n ++ y ∷ []) is))

@@ -7,12 +7,13 @@ use Rattle.std.proofs.lemmas.Option.{slice_get_past, slice_get_within}
 use Rattle.std.proofs.lemmas.List.{length-append, length-take}
 use Rattle.std.proofs.lemmas.List.Sums.{sum_by-append, sum_by-cons}
 use Rattle.kilim_lemmas.proofs.Lists.{get_last, get_front, take_next}
-use Rattle.kilim_link_spec.specs.World.{or_else}
+use Rattle.kilim_link_spec.specs.World.{is_method, methods_at, or_else}
 use Rattle.kilim_link_spec.specs.declared.view.ClassView.{ClassView}
-use Rattle.kilim_inherited.specs.Index.{same_signature}
+use Rattle.kilim_inherited.specs.Index.{places_from, positions, same_signature}
+use Rattle.kilim_inherited.specs.declared.index.Index.{Index}
 use Rattle.kilim_inherited.specs.declared.said.Said.{Said}
 use Rattle.kilim_inherited.specs.Nearest.{said_by, said_of}
-use Rattle.kilim_link_world.specs.Agrees.{placed}
+use Rattle.kilim_link_world.specs.Agrees.{indexed, placed, places_at}
 use Rattle.kilim_link_world.proofs.Lists.{position_next}
 
 first_or : (found : Bool) (v : Option ℕ) (more others last : Option (Option ℕ)) → more ≡ or_else others last → (if found then Some v else more) ≡ or_else (if found then Some v else others) last
@@ -86,6 +87,18 @@ module _ {M : Type 0} (test : M → Bool) (members : Option ClassView → List M
       said (take i classes) of_class v same
       (one ∙ ap (λ (k : ℕ). place_in k (Some v)) (sym front)) before c
       ∙ ap (λ (vs : List ClassView). place_in c (slice_get vs c)) (sym (take_next classes i v is))
+
+-- where they have a method
+pub indices_next : (name descriptor : List ℕ) (classes : List ClassView) (i : ℕ) (v : ClassView) (indices : List Index) (own : Index) → slice_get classes i ≡ Some v → length indices ≡ i
+    → positions own.places name descriptor ≡ places_from (is_method name descriptor) 0 v.methods
+    → ((c : ℕ) → indexed indices c name descriptor ≡ places_from (is_method name descriptor) 0 (methods_at (slice_get (take i classes) c)))
+    → (c : ℕ) → indexed (indices ++ own ∷ []) c name descriptor ≡ places_from (is_method name descriptor) 0 (methods_at (slice_get (take (i + 1) classes) c))
+indices_next name descriptor classes i v indices own is len one before c =
+    let lt = slice_get_within classes i v is in
+    let front : length (take i classes) ≡ i = let k = length-take i classes in omega arith in
+    grown (λ (o : Option Index). places_at o name descriptor) (λ k o. places_from (is_method name descriptor) 0 (methods_at o)) (λ k. refl)
+    indices (take i classes) own v (len ∙ sym front) one before c
+    ∙ ap (λ (vs : List ClassView). places_from (is_method name descriptor) 0 (methods_at (slice_get vs c))) (sym (take_next classes i v is))
 
 -- ---- lengths and totals
 
