@@ -2,17 +2,64 @@
 
 ghost use Rattle.std.specs.Prelude.{◌≡◌, ◌<◌, Some, length, slice_get, IfOk};
 
-use kilim_classes::{Frame, Instr, Method, Ty};
-use kilim_units::{NoMemory, Seq};
+use kilim_classes::{Frame, Handler, Instr, Method, Qualifier, Ty};
+use kilim_units::{NoMemory, Seq, Units};
 use kilim_woven_code::copied;
 use std::alloc::Global;
 
-/// The same types.
-pub fn copy_types(alloc: Global, types: &[Ty]) -> Result<Vec<Ty>, NoMemory>
-    ensures { IfOk result (λ v. v.items ≡ types.now) }
+/// What a method owns beside its code: its name, its parameters with what it may do with them, and its handlers.
+#[derive(Drop)]
+pub struct Head {
+    pub name: Units,
+    pub params: Seq<Ty>,
+    pub qualifiers: Seq<Qualifier>,
+    pub handlers: Seq<Handler>,
+}
+
+/// The same head.
+pub fn copy_head(alloc: Global, method: &Method) -> Result<Head, NoMemory>
+    ensures { IfOk result (λ h. h ≡ record { name = method.now.name; params = method.now.params; qualifiers = method.now.qualifiers; handlers = method.now.handlers }) }
 {
-    let all = Vec::from_slice(alloc, types)?;
-    Ok(all)
+    let name = method.name.clone()?;
+    let params = Vec::from_slice(alloc, method.params.as_slice())?;
+    let qualifiers = Vec::from_slice(alloc, method.qualifiers.as_slice())?;
+    let handlers = Vec::from_slice(alloc, method.handlers.as_slice())?;
+    Ok(Head {
+        name,
+        params: Seq::from_vec(params),
+        qualifiers: Seq::from_vec(qualifiers),
+        handlers: Seq::from_vec(handlers),
+    })
+}
+
+/// A method with another head and other code. Takes no memory.
+pub fn with_parts(
+    method: &Method,
+    head: Head,
+    code: Seq<(u32, Instr)>,
+    frames: Seq<(u32, Frame)>,
+) -> Method
+    ensures { result ≡ record method.now { name = head.name; params = head.params; qualifiers = head.qualifiers; handlers = head.handlers; code = code; frames = frames } }
+{
+    Method {
+        name: head.name,
+        owner: method.owner,
+        params: head.params,
+        result: method.result,
+        is_static: method.is_static,
+        is_private: method.is_private,
+        is_abstract: method.is_abstract,
+        built_in: method.built_in,
+        pausable: method.pausable,
+        receiver: method.receiver,
+        qualifiers: head.qualifiers,
+        max_stack: method.max_stack,
+        max_locals: method.max_locals,
+        code_length: method.code_length,
+        code,
+        frames,
+        handlers: head.handlers,
+    }
 }
 
 fn instr_at(code: &[(u32, Instr)], at: usize) -> &(u32, Instr)
@@ -64,33 +111,19 @@ fn copy_frames(alloc: Global, frames: &[(u32, Frame)]) -> Result<Vec<(u32, Frame
     Ok(all)
 }
 
+/// The same method with another head.
+pub fn with_head(alloc: Global, method: &Method, head: Head) -> Result<Method, NoMemory>
+    ensures { IfOk result (λ m. m ≡ record method.now { name = head.name; params = head.params; qualifiers = head.qualifiers; handlers = head.handlers }) }
+{
+    let code = copy_code(alloc, method.code.as_slice())?;
+    let frames = copy_frames(alloc, method.frames.as_slice())?;
+    Ok(with_parts(method, head, Seq::from_vec(code), Seq::from_vec(frames)))
+}
+
 /// The same method.
 pub fn copy_method(alloc: Global, method: &Method) -> Result<Method, NoMemory>
     ensures { IfOk result (λ m. m ≡ method.now) }
 {
-    let params = copy_types(alloc, method.params.as_slice())?;
-    let qualifiers = Vec::from_slice(alloc, method.qualifiers.as_slice())?;
-    let code = copy_code(alloc, method.code.as_slice())?;
-    let frames = copy_frames(alloc, method.frames.as_slice())?;
-    let handlers = Vec::from_slice(alloc, method.handlers.as_slice())?;
-    let name = method.name.clone()?;
-    Ok(Method {
-        name,
-        owner: method.owner,
-        params: Seq::from_vec(params),
-        result: method.result,
-        is_static: method.is_static,
-        is_private: method.is_private,
-        is_abstract: method.is_abstract,
-        built_in: method.built_in,
-        pausable: method.pausable,
-        receiver: method.receiver,
-        qualifiers: Seq::from_vec(qualifiers),
-        max_stack: method.max_stack,
-        max_locals: method.max_locals,
-        code_length: method.code_length,
-        code: Seq::from_vec(code),
-        frames: Seq::from_vec(frames),
-        handlers: Seq::from_vec(handlers),
-    })
+    let head = copy_head(alloc, method)?;
+    with_head(alloc, method, head)
 }

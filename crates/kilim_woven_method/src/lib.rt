@@ -10,7 +10,7 @@ mod size;
 mod slots;
 pub mod woven_each;
 
-pub use copy::{copy_method, copy_types};
+pub use copy::copy_method;
 pub use find::{nowhere, places_of};
 pub use layout::{Laid, lay};
 pub use method::{Slots, woven};

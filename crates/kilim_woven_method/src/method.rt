@@ -13,7 +13,7 @@ ghost use Rattle.kilim_woven_pieces.specs.Places.{at_in, block_in};
 ghost use Rattle.kilim_woven_form.specs.woven_program.Made.{made_as};
 ghost use Rattle.kilim_woven_method.specs.Flags.{AreSlots};
 
-use crate::copy::copy_types;
+use crate::copy::{Head, copy_head, with_parts};
 use crate::flags::declared_flags;
 use crate::slots::{argument_slots, fiber_slot, plus};
 use crate::{Laid, lay, nowhere, places_of};
@@ -39,7 +39,8 @@ pub struct Slots {
     pub class: u32,
 }
 
-fn number_of(count: usize) -> Result<u32, NoMemory>
+/// A number as an id has it. Want of memory comes only where it is 2^32 or more.
+pub fn number_of(count: usize) -> Result<u32, NoMemory>
     ensures { IfOk result (λ n. n ≡ count) }
 {
     match u32::try_from(count) {
@@ -94,8 +95,7 @@ fn items_at(
         member: slots.member,
         class: slots.class,
     };
-    let items = woven_items(alloc, &plan, slots.arguments)?;
-    Ok(items)
+    woven_items(alloc, &plan, slots.arguments)
 }
 
 fn fiber_type(class: u32) -> Ty
@@ -107,22 +107,6 @@ fn fiber_type(class: u32) -> Ty
     }
 }
 
-fn params_with(alloc: Global, params: &[Ty], class: u32) -> Result<Vec<Ty>, NoMemory>
-    ensures { IfOk result (λ v. v.items ≡ params.now ++ class_type class ∷ []) }
-{
-    let mut all = copy_types(alloc, params)?;
-    all.push(fiber_type(class))?;
-    Ok(all)
-}
-
-fn qualifiers_with(alloc: Global, qualifiers: &[Qualifier]) -> Result<Vec<Qualifier>, NoMemory>
-    ensures { IfOk result (λ v. v.items ≡ qualifiers.now ++ Qualifier.Safe ∷ []) }
-{
-    let mut all = Vec::from_slice(alloc, qualifiers)?;
-    all.push(Qualifier::Safe)?;
-    Ok(all)
-}
-
 fn locals_with(slots: Slots, is_static: bool) -> Result<u16, NoMemory>
     ensures { IfOk result (λ n. n ≡ (if is_static then slots.receiver else slots.receiver + 1)) }
 {
@@ -131,6 +115,16 @@ fn locals_with(slots: Slots, is_static: bool) -> Result<u16, NoMemory>
     }
     let behind = plus(slots.receiver, 1)?;
     Ok(behind)
+}
+
+/// The head of a method with the fiber as one argument more.
+pub fn head_with(alloc: Global, method: &Method, class: u32) -> Result<Head, NoMemory>
+    ensures { IfOk result (λ h. h ≡ record { name = method.now.name; params = method.now.params ++ class_type class ∷ []; qualifiers = method.now.qualifiers ++ Qualifier.Safe ∷ []; handlers = method.now.handlers }) }
+{
+    let mut head = copy_head(alloc, method)?;
+    head.params.push(fiber_type(class))?;
+    head.qualifiers.push(Qualifier::Safe)?;
+    Ok(head)
 }
 
 // The method with other code and one argument more.
@@ -145,35 +139,17 @@ fn with_code(
 {
     let max_stack = plus(method.max_stack, 4)?;
     let max_locals = locals_with(slots, method.is_static)?;
-    let params = params_with(alloc, method.params.as_slice(), slots.class)?;
-    let qualifiers = qualifiers_with(alloc, method.qualifiers.as_slice())?;
-    let handlers = Vec::from_slice(alloc, method.handlers.as_slice())?;
-    let name = method.name.clone()?;
+    let head = head_with(alloc, method, slots.class)?;
     let Laid {
         code,
         frames,
         counted,
         end,
     } = laid;
-    let woven = Method {
-        name,
-        owner: method.owner,
-        params: Seq::from_vec(params),
-        result: method.result,
-        is_static: method.is_static,
-        is_private: method.is_private,
-        is_abstract: method.is_abstract,
-        built_in: method.built_in,
-        pausable: method.pausable,
-        receiver: method.receiver,
-        qualifiers: Seq::from_vec(qualifiers),
-        max_stack,
-        max_locals,
-        code_length: end,
-        code: Seq::from_vec(code),
-        frames: Seq::from_vec(frames),
-        handlers: Seq::from_vec(handlers),
-    };
+    let mut woven = with_parts(method, head, Seq::from_vec(code), Seq::from_vec(frames));
+    woven.max_stack = max_stack;
+    woven.max_locals = max_locals;
+    woven.code_length = end;
     Ok((woven, Seq::from_vec(counted)))
 }
 

@@ -4,7 +4,7 @@ ghost use Rattle.std.specs.Prelude.{◌≡◌, ◌<◌, ◌≤◌, ◌^◌, ◌+
 ghost use Rattle.kilim_classes.specs.BuiltIn.{fiber_classes, fiber_methods};
 ghost use Rattle.kilim_woven_form.specs.Form.{first_class, first_method};
 
-use crate::woven_each::copy::{copy_classes, copy_fields, copy_methods};
+use crate::woven_each::copy::{copy_classes, copy_fields, copy_methods, joined};
 use kilim_classes::{Class, Field, Form, Method, Program};
 use kilim_link_views::built_ins::{built_in_classes, built_in_methods};
 use kilim_typing::Typed;
@@ -84,10 +84,9 @@ fn fiber_classes(alloc: Global, program: &Program) -> Result<Seq<Class>, NoMemor
 fn woven_classes(alloc: Global, program: &Program) -> Result<Seq<Class>, NoMemory>
     ensures { IfOk result (λ s. s ≡ program.now.classes ++ fiber_classes Form.Woven (first_class program.now) (first_method program.now)) }
 {
-    let mut classes = copy_classes(alloc, program.classes.as_slice())?.into_vec();
-    let mut more = fiber_classes(alloc, program)?.into_vec();
-    classes.append(&mut more)?;
-    Ok(Seq::from_vec(classes))
+    let classes = copy_classes(alloc, program.classes.as_slice())?;
+    let more = fiber_classes(alloc, program)?;
+    joined(classes, more)
 }
 
 fn fields_of(alloc: Global, program: &Program) -> Result<Seq<Field>, NoMemory>

@@ -1,6 +1,6 @@
 //! Copies of classes, methods and fields.
 
-ghost use Rattle.std.specs.Prelude.{◌≡◌, ◌<◌, Some, length, slice_get, IfOk};
+ghost use Rattle.std.specs.Prelude.{◌≡◌, ◌<◌, ◌++◌, Some, length, slice_get, IfOk};
 
 use crate::copy_method;
 use kilim_classes::{Class, Field, Method, Value};
@@ -106,4 +106,14 @@ pub fn copy_fields(alloc: Global, fields: &[Field]) -> Result<Seq<Field>, NoMemo
         all.push(copy)?;
     }
     Ok(all)
+}
+
+/// The elements of both lists.
+pub fn joined<T: Drop>(own: Seq<T>, last: Seq<T>) -> Result<Seq<T>, NoMemory>
+    ensures { IfOk result (λ s. s ≡ own ++ last) }
+{
+    let mut all = own.into_vec();
+    let mut more = last.into_vec();
+    all.append(&mut more)?;
+    Ok(Seq::from_vec(all))
 }

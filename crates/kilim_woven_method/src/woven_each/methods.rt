@@ -9,7 +9,7 @@ ghost use Rattle.kilim_woven_form.specs.Form.{AllWoven, IsWoven, all_counted};
 ghost use Rattle.kilim_woven_method.specs.woven_each.Each.{IsEachWoven};
 
 use crate::woven_each::built_in::fiber_methods;
-use crate::woven_each::copy::method_at;
+use crate::woven_each::copy::{joined, method_at};
 use crate::woven_each::each::woven_each;
 use crate::woven_each::extended::all_counted;
 use crate::woven_each::kept::keeps;
@@ -125,31 +125,13 @@ fn all_marks(alloc: Global, methods: &[Method]) -> Result<Seq<Seq<bool>>, NoMemo
     Ok(all)
 }
 
-fn joined_marks(own: Seq<Seq<bool>>, last: Seq<Seq<bool>>) -> Result<Seq<Seq<bool>>, NoMemory>
-    ensures { IfOk result (λ s. s ≡ own ++ last) }
-{
-    let mut marks = own.into_vec();
-    let mut more = last.into_vec();
-    marks.append(&mut more)?;
-    Ok(Seq::from_vec(marks))
-}
-
-fn joined(own: Seq<Method>, last: Seq<Method>) -> Result<Seq<Method>, NoMemory>
-    ensures { IfOk result (λ s. s ≡ own ++ last) }
-{
-    let mut methods = own.into_vec();
-    let mut more = last.into_vec();
-    methods.append(&mut more)?;
-    Ok(Seq::from_vec(methods))
-}
-
 fn with_fiber(alloc: Global, program: &Program, all: Methods) -> Result<Methods, NoMemory>
     requires { IsEachWoven program.now program.now.methods all.methods all.counted }
     ensures { IfOk result (λ all. AllWoven program.now program.now.methods all.methods all.counted) }
 {
     let fiber = fiber_methods(alloc, program)?;
     let marks = all_marks(alloc, fiber.as_slice())?;
-    let counted = joined_marks(all.counted, marks)?;
+    let counted = joined(all.counted, marks)?;
     let methods = joined(all.methods, fiber)?;
     Ok(Methods { methods, counted })
 }

@@ -7,4 +7,4 @@ woven_items-requires c = record {
 }
 
 pub returns : goal.returns
-returns c = c.in_ok-items.ensures
+returns c = c.woven_items.ensures
