@@ -116,7 +116,9 @@ pub fn linked_field(
     let Some(text) = field_text(alloc, &descriptor)? else {
         return Ok(None);
     };
-    match type_in(world, &text) {
+    let ty = type_in(world, &text);
+    drop(text);
+    match ty {
         Some(ty) => Ok(Some(field_with(alloc, file, class, field, ty)?)),
         None => Ok(None),
     }

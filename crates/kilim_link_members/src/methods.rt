@@ -100,7 +100,11 @@ fn linked_declared(
     ensures { IfOk result (λ found. found ≡ linked_method world.now file.now class method.now) }
 {
     match method_text(alloc, &declared.descriptor)? {
-        Some(text) => linked_with(alloc, world, file, class, method, declared, &text),
+        Some(text) => {
+            let found = linked_with(alloc, world, file, class, method, declared, &text);
+            drop(text);
+            found
+        }
         None => Ok(None),
     }
 }
@@ -117,5 +121,7 @@ pub fn linked_method(
     ensures { IfOk result (λ found. found ≡ linked_method world.now file.now class method.now) }
 {
     let declared = declared_method(alloc, file, method)?;
-    linked_declared(alloc, world, file, class, method, &declared)
+    let found = linked_declared(alloc, world, file, class, method, &declared);
+    drop(declared);
+    found
 }
