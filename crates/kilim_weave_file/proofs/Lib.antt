@@ -1,3 +1,4 @@
+pub mod Loops
 pub mod Entries
 pub mod Lists
 pub mod Pairs

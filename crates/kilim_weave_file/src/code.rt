@@ -1,10 +1,10 @@
 //! Woven code.
 
-ghost use Rattle.std.specs.Prelude.{◌≡◌, ◌∷◌, [], None, if◌then◌else◌, IfOk};
+ghost use Rattle.std.specs.Prelude.{◌≡◌, ◌++◌, ◌∷◌, [], None, if◌then◌else◌, IfOk, OnOk};
 ghost use Rattle.kilim_link_spec.specs.Code.{decoded};
 ghost use Rattle.kilim_link_spec.specs.Mentions.{instrs_if};
 ghost use Rattle.kilim_bytecode.specs.Code.{code_text};
-ghost use Rattle.kilim_woven_sizes.specs.file_laws.form.Raw.{raw_code};
+ghost use Rattle.kilim_woven_sizes.specs.file_laws.form.Raw.{added_raw, moved_raw, raw_code};
 ghost use Rattle.kilim_woven_sizes.specs.file_laws.form.WovenFile.{has_calls, table_by, table_with, woven_code};
 
 use crate::forms::{added_raw, moved_raw};
@@ -18,6 +18,36 @@ use kilim_classes::{Instr, Method, Program};
 use kilim_constant_pool::Pool;
 use kilim_units::{NoMemory, Seq};
 use std::alloc::Global;
+
+fn push_moved(
+    alloc: Global,
+    into: &mut Vec<(u32, RawInstr)>,
+    program: &Program,
+    old: &Pool,
+    pool: &Pool,
+    entry: &(u32, Instr),
+    was: &RawInstr,
+) -> Result<(), NoMemory>
+    ensures { OnOk result (into.new.items ≡ into.old.items ++ (entry.now.0, moved_raw program.now old.now pool.now entry.now.1 was.now) ∷ []) }
+{
+    let raw = moved_raw(alloc, program, old, pool, &entry.1, was)?;
+    into.push((entry.0, raw))?;
+    Ok(())
+}
+
+fn push_added(
+    alloc: Global,
+    into: &mut Vec<(u32, RawInstr)>,
+    program: &Program,
+    pool: &Pool,
+    entry: &(u32, Instr),
+) -> Result<(), NoMemory>
+    ensures { OnOk result (into.new.items ≡ into.old.items ++ (entry.now.0, added_raw program.now pool.now entry.now.1) ∷ []) }
+{
+    let raw = added_raw(alloc, program, pool, &entry.1)?;
+    into.push((entry.0, raw))?;
+    Ok(())
+}
 
 // The instructions of a woven code in their forms; the counted ones are the old ones, in order.
 #[tactic(auto, unfolding(kilim_woven_sizes::specs::file_laws::form::Raw::raw_code))]
@@ -45,11 +75,9 @@ fn raw_code(
                 return Ok(all);
             };
             rest = behind;
-            let raw = moved_raw(alloc, program, old, pool, &entry.1, &was.1)?;
-            all.push((entry.0, raw))?;
+            push_moved(alloc, &mut all, program, old, pool, entry, &was.1)?;
         } else {
-            let raw = added_raw(alloc, program, pool, &entry.1)?;
-            all.push((entry.0, raw))?;
+            push_added(alloc, &mut all, program, pool, entry)?;
         }
     }
     Ok(all)

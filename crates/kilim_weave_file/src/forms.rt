@@ -3,7 +3,7 @@
 ghost use Rattle.std.specs.Prelude.{◌≡◌, ◌+◌, ◌≤◌, pos, map, IfOk};
 ghost use Rattle.kilim_bytecode.specs.declared.opcodes.instr.RawInstr.TheVariants as raw;
 ghost use Rattle.kilim_weave_file.specs.Parts.{plain_number};
-ghost use Rattle.kilim_woven_sizes.specs.file_laws.form.Raw.{added_need, added_raw, index_or, int_form, local_form, long_form, moved_raw, pair_number, place_number, shortest, switched, target_of};
+ghost use Rattle.kilim_woven_sizes.specs.file_laws.form.Raw.{added_need, added_raw, index_or, int_form, local_form, long_form, moved_raw, old_need, pair_number, place_number, shortest, switched, target_of};
 
 use crate::needs::{added_need, old_need};
 use kilim_bytecode::opcodes::RawInstr;
@@ -90,18 +90,24 @@ fn lookup_form(alloc: Global, default: u32, pairs: &[(i32, u32)]) -> Result<RawI
     Ok(RawInstr::LookupSwitch(LOOKUPSWITCH, i64::from(default), all))
 }
 
-/// A load or a store in its shortest form; other instructions stay.
-fn shortest(instr: &Instr, old: RawInstr) -> RawInstr
-    ensures { result ≡ shortest instr.now old }
+fn copied(instr: &RawInstr) -> Result<RawInstr, NoMemory>
+    ensures { IfOk result (λ r. r ≡ instr.now) }
+{
+    Ok(instr.clone()?)
+}
+
+// A load or a store in its shortest form; other instructions stay.
+fn shortest(instr: &Instr, old: &RawInstr) -> Result<RawInstr, NoMemory>
+    ensures { IfOk result (λ r. r ≡ shortest instr.now old.now) }
 {
     match instr {
-        Instr::Iload(slot) => local_form(26, 21, *slot),
-        Instr::Lload(slot) => local_form(30, 22, *slot),
-        Instr::Aload(slot) => local_form(42, 25, *slot),
-        Instr::Istore(slot) => local_form(59, 54, *slot),
-        Instr::Lstore(slot) => local_form(63, 55, *slot),
-        Instr::Astore(slot) => local_form(75, 58, *slot),
-        _ => old,
+        Instr::Iload(slot) => Ok(local_form(26, 21, *slot)),
+        Instr::Lload(slot) => Ok(local_form(30, 22, *slot)),
+        Instr::Aload(slot) => Ok(local_form(42, 25, *slot)),
+        Instr::Istore(slot) => Ok(local_form(59, 54, *slot)),
+        Instr::Lstore(slot) => Ok(local_form(63, 55, *slot)),
+        Instr::Astore(slot) => Ok(local_form(75, 58, *slot)),
+        _ => copied(old),
     }
 }
 
@@ -133,15 +139,15 @@ fn target_of(instr: &Instr) -> u32
 }
 
 // A switch where it goes now.
-fn switched(alloc: Global, instr: &Instr, old: RawInstr) -> Result<RawInstr, NoMemory>
-    ensures { IfOk result (λ r. r ≡ switched instr.now old) }
+fn switched(alloc: Global, instr: &Instr, old: &RawInstr) -> Result<RawInstr, NoMemory>
+    ensures { IfOk result (λ r. r ≡ switched instr.now old.now) }
 {
     match instr {
         Instr::Tableswitch(default, low, targets) => {
             table_form(alloc, *default, *low, targets.as_slice())
         }
         Instr::Lookupswitch(default, pairs) => lookup_form(alloc, *default, pairs.as_slice()),
-        _ => Ok(old),
+        _ => copied(old),
     }
 }
 
@@ -154,10 +160,21 @@ fn index_or(pool: &Pool, index: u16, need: &Option<Need>) -> u16
     }
 }
 
-fn copied(instr: &RawInstr) -> Result<RawInstr, NoMemory>
-    ensures { IfOk result (λ r. r ≡ instr.now) }
+// An instruction with its index, or with that of the method that is called with the fiber.
+fn moved_index(
+    alloc: Global,
+    program: &Program,
+    old: &Pool,
+    pool: &Pool,
+    instr: &Instr,
+    was: &RawInstr,
+    number: u8,
+    index: u16,
+) -> Result<RawInstr, NoMemory>
+    ensures { IfOk result (λ r. r ≡ raw.Index number (index_or pool.now index (old_need program.now old.now instr.now was.now))) }
 {
-    Ok(instr.clone()?)
+    let need = old_need(alloc, program, old, instr, was)?;
+    Ok(RawInstr::Index(number, index_or(pool, index, &need)))
 }
 
 /// An old instruction at its new place, with the indices of the new pool: it keeps its form and its index, but for jumps,
@@ -174,37 +191,35 @@ pub fn moved_raw(
     ensures { IfOk result (λ r. r ≡ moved_raw program.now old.now pool.now instr.now was.now) }
 {
     match was {
-        RawInstr::Plain(number) => Ok(shortest(instr, RawInstr::Plain(*number))),
-        RawInstr::Local(number, slot) => Ok(shortest(instr, RawInstr::Local(*number, *slot))),
-        RawInstr::WideLocal(number, slot) => {
-            Ok(shortest(instr, RawInstr::WideLocal(*number, *slot)))
+        RawInstr::Plain(_) | RawInstr::Local(_, _) | RawInstr::WideLocal(_, _) => {
+            shortest(instr, was)
         }
         RawInstr::Jump(number, _) => { Ok(RawInstr::Jump(*number, i64::from(target_of(instr)))) }
         RawInstr::WideJump(number, _) => {
             Ok(RawInstr::WideJump(*number, i64::from(target_of(instr))))
         }
         RawInstr::TableSwitch(_, _, _, _) | RawInstr::LookupSwitch(_, _, _) => {
-            switched(alloc, instr, copied(was)?)
+            switched(alloc, instr, was)
         }
         RawInstr::Index(number, index) => {
-            let need = old_need(alloc, program, old, instr, was)?;
-            Ok(RawInstr::Index(*number, index_or(pool, *index, &need)))
+            moved_index(alloc, program, old, pool, instr, was, *number, *index)
         }
         _ => copied(was),
     }
 }
 
-// The index of what an instruction needs that weaving adds.
+// An instruction that weaving adds, with the index of what it needs.
 fn added_index(
     alloc: Global,
     program: &Program,
     pool: &Pool,
     instr: &Instr,
-) -> Result<u16, NoMemory>
-    ensures { IfOk result (λ index. index ≡ index_or pool.now 0 (added_need program.now instr.now)) }
+    number: u8,
+) -> Result<RawInstr, NoMemory>
+    ensures { IfOk result (λ r. r ≡ raw.Index number (index_or pool.now 0 (added_need program.now instr.now))) }
 {
     let need = added_need(alloc, program, instr)?;
-    Ok(index_or(pool, 0, &need))
+    Ok(RawInstr::Index(number, index_or(pool, 0, &need)))
 }
 
 // An added instruction without operands.
@@ -239,7 +254,7 @@ pub fn added_raw(
         | Instr::Aload(_)
         | Instr::Istore(_)
         | Instr::Lstore(_)
-        | Instr::Astore(_) => Ok(shortest(instr, RawInstr::Plain(0))),
+        | Instr::Astore(_) => shortest(instr, &RawInstr::Plain(0)),
         Instr::Iconst(n) => int_form(*n),
         Instr::Lconst(n) => long_form(*n),
         Instr::Bipush(n) => Ok(RawInstr::Byte(16, *n)),
@@ -249,15 +264,9 @@ pub fn added_raw(
         Instr::Tableswitch(default, low, targets) => {
             table_form(alloc, *default, *low, targets.as_slice())
         }
-        Instr::Invokevirtual(_) => Ok(RawInstr::Index(
-            182,
-            added_index(alloc, program, pool, instr)?,
-        )),
-        Instr::Invokestatic(_) => Ok(RawInstr::Index(
-            184,
-            added_index(alloc, program, pool, instr)?,
-        )),
-        Instr::Checkcast(_) => Ok(RawInstr::Index(192, added_index(alloc, program, pool, instr)?)),
+        Instr::Invokevirtual(_) => added_index(alloc, program, pool, instr, 182),
+        Instr::Invokestatic(_) => added_index(alloc, program, pool, instr, 184),
+        Instr::Checkcast(_) => added_index(alloc, program, pool, instr, 192),
         _ => Ok(RawInstr::Plain(plain_number(instr))),
     }
 }

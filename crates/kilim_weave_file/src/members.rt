@@ -1,15 +1,16 @@
 //! Woven methods.
 
-ghost use Rattle.std.specs.Prelude.{◌≡◌, ◌++◌, ◌∷◌, [], IfOk, OnOk};
+ghost use Rattle.std.specs.Prelude.{◌≡◌, ◌++◌, ◌∷◌, [], Some, IfOk, OnOk};
+ghost use Rattle.kilim_attributes.specs.declared.attribute.Info.TheVariants as what;
 ghost use Rattle.std.specs.List.{cons_option, filter_map};
 ghost use Rattle.kilim_link_spec.specs.World.{member_descriptor};
 ghost use Rattle.kilim_woven_sizes.specs.file_laws.form.Texts.{woven_descriptor};
-ghost use Rattle.kilim_woven_sizes.specs.file_laws.form.WovenFile.{attribute_with, one_parameter_more, rewritten, woven_attribute, woven_info};
+ghost use Rattle.kilim_woven_sizes.specs.file_laws.form.WovenFile.{attribute_with, one_parameter_more, rewritten, woven_attribute, woven_code, woven_info};
 
 use crate::code::woven_code;
 use crate::needs::text_of;
 use kilim_attribute_parts::AnnotationPart;
-use kilim_attributes::{Attribute, Info};
+use kilim_attributes::{Attribute, Code, Info};
 use kilim_class_fits::pool_needs::text_index;
 use kilim_classes::{Method, Program};
 use kilim_classfile::{ClassFile, MemberInfo};
@@ -37,6 +38,35 @@ fn one_parameter_more(parts: Seq<AnnotationPart>) -> Result<Seq<AnnotationPart>,
     Ok(Seq::from_vec(items))
 }
 
+fn code_info(
+    alloc: Global,
+    program: &Program,
+    old: &Pool,
+    pool: &Pool,
+    method: &Method,
+    counted: &[bool],
+    code: Code,
+) -> Result<Option<Info>, NoMemory>
+    ensures { IfOk result (λ i. i ≡ Some (what.Code (woven_code program.now old.now pool.now method.now counted.now code))) }
+{
+    let woven = woven_code(alloc, program, old, pool, method, counted, code)?;
+    Ok(Some(Info::Code(woven)))
+}
+
+fn visible_info(parts: Seq<AnnotationPart>) -> Result<Option<Info>, NoMemory>
+    ensures { IfOk result (λ i. i ≡ Some (what.RuntimeVisibleParameterAnnotations (one_parameter_more parts))) }
+{
+    let more = one_parameter_more(parts)?;
+    Ok(Some(Info::RuntimeVisibleParameterAnnotations(more)))
+}
+
+fn invisible_info(parts: Seq<AnnotationPart>) -> Result<Option<Info>, NoMemory>
+    ensures { IfOk result (λ i. i ≡ Some (what.RuntimeInvisibleParameterAnnotations (one_parameter_more parts))) }
+{
+    let more = one_parameter_more(parts)?;
+    Ok(Some(Info::RuntimeInvisibleParameterAnnotations(more)))
+}
+
 // What an attribute of a method that pauses becomes: only code, exceptions and annotations stay.
 fn woven_info(
     alloc: Global,
@@ -50,9 +80,7 @@ fn woven_info(
     ensures { IfOk result (λ i. i ≡ woven_info program.now old.now pool.now method.now counted.now info) }
 {
     match info {
-        Info::Code(code) => {
-            Ok(Some(Info::Code(woven_code(alloc, program, old, pool, method, counted, code)?)))
-        }
+        Info::Code(code) => code_info(alloc, program, old, pool, method, counted, code),
         Info::Exceptions(classes) => Ok(Some(Info::Exceptions(classes))),
         Info::RuntimeVisibleAnnotations(parts) => {
             Ok(Some(Info::RuntimeVisibleAnnotations(parts)))
@@ -60,12 +88,8 @@ fn woven_info(
         Info::RuntimeInvisibleAnnotations(parts) => {
             Ok(Some(Info::RuntimeInvisibleAnnotations(parts)))
         }
-        Info::RuntimeVisibleParameterAnnotations(parts) => {
-            Ok(Some(Info::RuntimeVisibleParameterAnnotations(one_parameter_more(parts)?)))
-        }
-        Info::RuntimeInvisibleParameterAnnotations(parts) => {
-            Ok(Some(Info::RuntimeInvisibleParameterAnnotations(one_parameter_more(parts)?)))
-        }
+        Info::RuntimeVisibleParameterAnnotations(parts) => visible_info(parts),
+        Info::RuntimeInvisibleParameterAnnotations(parts) => invisible_info(parts),
         Info::ConstantValue(_) | Info::StackMapTable(_) | Info::Raw(_) => Ok(None),
     }
 }

@@ -1,0 +1,12 @@
+use Rattle.std.proofs.Common.{ℕ, ◌++◌}
+use Rattle.std.specs.List.{flat_map}
+use Rattle.kilim_classes.specs.declared.verified.Frame.{Frame}
+use Rattle.kilim_woven_sizes.specs.file_laws.form.FullFrames.{frame_needs}
+use Rattle.kilim_weave_file.proofs.Loops.{ahead}
+use Rattle.kilim_weave_file.proofs.needs.push_frames.Goals as goal
+
+pub loop-entry-preserved : goal.loop-entry-preserved
+loop-entry-preserved c =
+    let f = λ (e : ℕ × Frame). frame_needs c.args.program.now e.1 in
+    ahead f c.loop-entry.into.items c.push_frame.new.into.items (c.args.into.now.items ++ flat_map f c.args.frames.now) c.args.frames.now c.loop-entry.entry-index c.entry-item.result _
+    c.loop-entry-test.true c.entry-item.is c.loop-entry.invariant c.in_ok-push_frame.ensures
