@@ -54,6 +54,13 @@ pub struct NearestMembers {
     pub fields: Nearest,
 }
 
+/// Members of classes, and the nearest ones.
+#[derive(Drop)]
+pub struct AllMembers {
+    pub own: Members,
+    pub nearest: NearestMembers,
+}
+
 /// Superclasses, names, and places and numbers of members.
 #[derive(Drop)]
 pub struct Parts {
@@ -115,6 +122,26 @@ fn nearest_of(
     })
 }
 
+// The members of the classes that are declared and the nearest ones, by the superclass of each class.
+fn all_members_of(
+    alloc: Global,
+    classes: &[ClassView],
+    ups: &[Option<ClassId>],
+) -> Result<AllMembers, NoMemory>
+    requires one_each { length ups.now ≡ length classes.now }
+    requires methods_fit { sum_by method_count classes.now < 2 ^ 32 }
+    requires fields_fit { sum_by field_count classes.now < 2 ^ 32 }
+    ensures methods { IfOk result (λ m. (c : ℕ) (name descriptor : List ℕ) → indexed m.own.methods c name descriptor ≡ places_from (is_method name descriptor) 0 (methods_at (slice_get classes.now c))) }
+    ensures first_methods { IfOk result (λ m. m.own.first_methods ≡ firsts_of method_count classes.now) }
+    ensures first_fields { IfOk result (λ m. m.own.first_fields ≡ firsts_of field_count classes.now) }
+    ensures nearest_methods { IfOk result (λ m. (form : Form) (outline : Program) → AreSuperclasses outline ups.now → (c : number.ClassId) (name descriptor : List ℕ) → option_map method_id (known m.nearest.methods c name descriptor) ≡ find_method (record { form = form; classes = classes.now; outline = outline }) c name descriptor) }
+    ensures nearest_fields { IfOk result (λ m. (form : Form) (outline : Program) → AreSuperclasses outline ups.now → (c : number.ClassId) (name descriptor : List ℕ) → option_map field_id (known m.nearest.fields c name descriptor) ≡ find_field (record { form = form; classes = classes.now; outline = outline }) c name descriptor) }
+{
+    let own = members_of(alloc, classes)?;
+    let nearest = nearest_of(alloc, classes, ups)?;
+    Ok(AllMembers { own, nearest })
+}
+
 /// Of the classes that are declared.
 pub fn parts_of(alloc: Global, form: Form, classes: &[ClassView]) -> Result<Parts, NoMemory>
     requires few { length classes.now < 2 ^ 32 }
@@ -122,12 +149,11 @@ pub fn parts_of(alloc: Global, form: Form, classes: &[ClassView]) -> Result<Part
     requires fields_fit { sum_by field_count classes.now < 2 ^ 32 }
     ensures { IfOk result (λ p. Agrees form classes.now p.lines.outline p.lines.ids p.lines.superclasses p.lines.lineages p.members.methods p.members.first_methods p.members.first_fields p.nearest.methods p.nearest.fields) }
 {
-    let members = members_of(alloc, classes)?;
     let lines = lines_of(alloc, form, classes)?;
-    let nearest = nearest_of(alloc, classes, lines.superclasses.as_slice())?;
+    let members = all_members_of(alloc, classes, lines.superclasses.as_slice())?;
     Ok(Parts {
         lines,
-        members,
-        nearest,
+        members: members.own,
+        nearest: members.nearest,
     })
 }

@@ -4,8 +4,8 @@ use Rattle.kilim_link_world.specs.Superclasses.{AreSuperclasses}
 use Rattle.kilim_link_world.proofs.Outlines.{length_outline}
 use Rattle.kilim_link_world.proofs.parts.parts_of.Goals as goal
 
-pub nearest_of-requires : goal.nearest_of-requires
-nearest_of-requires c =
+pub all_members_of-requires : goal.all_members_of-requires
+all_members_of-requires c =
     let lines = c.in_ok-lines.lines in
     record {
       one_each = ap (λ (us : List (Option ClassId)). length us) c.as_slice.ensures
@@ -21,7 +21,6 @@ returns c =
     let outline = c.in_ok-lines.lines.outline in
     let lines = c.in_ok-lines.ensures in
     let members = c.in_ok-members.ensures in
-    let nearest = c.in_ok-nearest.ensures in
     let are = subst (λ (us : List (Option ClassId)). AreSuperclasses outline us) (sym c.as_slice.ensures) lines.superclasses in
     record {
       outlined = lines.outlined;
@@ -31,6 +30,6 @@ returns c =
       methods_are = members.methods;
       first_methods_are = members.first_methods;
       first_fields_are = members.first_fields;
-      nearest_methods_are = nearest.methods form outline are;
-      nearest_fields_are = nearest.fields form outline are;
+      nearest_methods_are = c.in_ok-members.ensures.nearest_methods form outline are;
+      nearest_fields_are = c.in_ok-members.ensures.nearest_fields form outline are;
     }
