@@ -30,6 +30,10 @@ pub on_joined : {T E : Type 0} (r : Result T E) (old mid new x y : List ℕ) →
 on_joined (Ok v) old mid new x y e h = joined old mid new x y e h
 on_joined (Err v) old mid new x y e h = tt
 
+pub on_still : {T E : Type 0} (r : Result T E) (old new : List ℕ) → OnErr r (new ≡ old) → OnErr r (StartsWith new old)
+on_still (Ok v) old new h = tt
+on_still (Err v) old new h = still old new h
+
 pub on_begun : {T E : Type 0} (r : Result T E) (old mid new x : List ℕ) → mid ≡ old ++ x → OnErr r (StartsWith new mid) → OnErr r (StartsWith new old)
 on_begun (Ok v) old mid new x e h = tt
 on_begun (Err v) old mid new x e h = begun_more old mid new x e h
