@@ -1,4 +1,4 @@
-use Rattle.std.proofs.Common.{List, Bool, ◌+◌, false, length, refl, ap, sym, subst, ◌∙◌}
+use Rattle.std.proofs.Common.{◌≡◌, ℕ, List, Bool, ◌+◌, arith, false, length, refl, ap, sym, subst, ◌∙◌}
 use Rattle.std.proofs.lemmas.List.{length-replicate}
 use Rattle.kilim_typing.specs.Typed.{writes}
 use Rattle.kilim_liveness.specs.Marks.{Opens}
@@ -21,3 +21,8 @@ loop-at-preserved c =
       subst (λ (ms : List Bool). Opens m c.args.local (c.loop-at.at + 1) ms) (sym is)
           (open_more m c.args.local c.requires.rising (writes e.1 c.args.local) c.args.size c.loop-at.at e c.loop-at.marks.items c.loop-at.invariant.0 c.requires.below c.entry_of-entry.ensures refl c.loop-at.invariant.1),
     )
+
+pub returns : goal.returns
+returns c =
+    let all : c.loop-at.at ≡ length c.args.method.now.code = omega arith in
+    subst (λ (n : ℕ). Opens c.args.method.now c.args.local n c.loop-at.marks.items) all c.loop-at.invariant.1
