@@ -1,0 +1,9 @@
+use Rattle.std.proofs.Common.{◌≡◌, ap, drop, arith}
+use Rattle.std.proofs.lemmas.List.{drop_all}
+use Rattle.kilim_shape_graph.specs.Canonical.{index_of}
+use Rattle.kilim_shape_graph.proofs.numbers.index_of.Goals as goal
+
+pub returns : goal.returns
+returns c =
+    let left : index_of c.args.wanted (drop c.loop-number.number-index c.args.numbers.now) ≡ 0 = ap (index_of c.args.wanted) (drop_all c.loop-number.number-index c.args.numbers.now (omega arith)) in
+    omega (arith, left, c.loop-number.invariant.1)

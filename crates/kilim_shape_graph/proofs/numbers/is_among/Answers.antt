@@ -1,0 +1,7 @@
+use Rattle.std.proofs.Common.{◌∙◌, ap, sym, arith}
+use Rattle.std.proofs.lemmas.List.{drop_all}
+use Rattle.kilim_shape_graph.specs.Canonical.{is_among}
+use Rattle.kilim_shape_graph.proofs.numbers.is_among.Goals as goal
+
+pub returns : goal.returns
+returns c = ap (is_among c.args.wanted) (sym (drop_all c.loop-number.number-index c.args.numbers.now (omega arith))) ∙ c.loop-number.invariant
