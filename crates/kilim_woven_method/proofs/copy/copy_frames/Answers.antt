@@ -1,4 +1,5 @@
-use Rattle.std.proofs.Common.{◌≡◌, ℕ, ap}
+use Rattle.std.proofs.Common.{◌≡◌, ◌∙◌, ℕ, ap, arith}
+use Rattle.std.proofs.lemmas.List.{take_all}
 use Rattle.kilim_classes.specs.declared.verified.Frame.{Frame}
 use Rattle.kilim_woven_method.proofs.Listing.{copied_more}
 use Rattle.kilim_woven_method.proofs.copy.copy_frames.Goals as goal
@@ -7,3 +8,6 @@ pub loop-at-preserved : goal.loop-at-preserved
 loop-at-preserved c =
     copied_more c.args.frames.now c.loop-at.at c.frame_at-entry.result.now (c.frame_at-entry.result.now.0, c.in_ok-frame.frame) c.loop-at.all.items c.push.new.self.items c.frame_at-entry.ensures c.loop-at.invariant
     (ap (λ (f : Frame). let e : ℕ × Frame = (c.frame_at-entry.result.now.0, f) in e) c.in_ok-frame.ensures) c.in_ok-push.ensures.items
+
+pub returns : goal.returns
+returns c = c.loop-at.invariant ∙ take_all c.loop-at.at c.args.frames.now (omega arith)
