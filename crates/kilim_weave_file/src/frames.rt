@@ -95,7 +95,6 @@ fn push_entry(all: &mut Vec<VType>, skips: bool, of: &VType) -> Result<bool, NoM
 }
 
 // In the locals of a frame a long is one entry.
-#[tactic(auto, using(crate::proofs::Entries::entries_are))]
 fn entries(alloc: Global, locals: &[VType]) -> Result<Vec<VType>, NoMemory>
     ensures { IfOk result (λ v. v.items ≡ entries locals.now) }
 {
