@@ -1,4 +1,5 @@
-use Rattle.std.proofs.Common.{List, ℕ, ◌+◌, ◌++◌, ◌∷◌, [], take, subst, sym, get_or, set}
+use Rattle.std.proofs.Common.{List, ℕ, ◌+◌, ◌++◌, ◌∷◌, [], take, subst, sym, arith, get_or, set}
+use Rattle.std.proofs.lemmas.List.{take_all}
 use Rattle.kilim_liveness.specs.Marks.{Further}
 use Rattle.kilim_liveness.proofs.FlowEdges.{no_further, one_further}
 use Rattle.kilim_liveness.proofs.Lists.{take_next}
@@ -12,3 +13,6 @@ loop-at-preserved c =
     let f = one_further c.args.place c.number_at-to.result (take c.loop-at.at c.args.tos.now) c.args.rows.now.items c.loop-at.rows.items c.loop-at.invariant in
     let g = subst (λ (ts : List ℕ). Further c.args.place ts c.args.rows.now.items (set c.loop-at.rows.items c.number_at-to.result (get_or c.loop-at.rows.items c.number_at-to.result [] ++ c.args.place ∷ []))) (sym (take_next c.args.tos.now c.loop-at.at c.number_at-to.result c.number_at-to.ensures)) f in
     subst (λ (rs : List (List ℕ)). Further c.args.place (take (c.loop-at.at + 1) c.args.tos.now) c.args.rows.now.items rs) (sym c.in_ok-push_before.ensures) g
+
+pub returns : goal.returns
+returns c = subst (λ (ts : List ℕ). Further c.args.place ts c.args.rows.now.items c.loop-at.rows.items) (take_all c.loop-at.at c.args.tos.now (omega arith)) c.loop-at.invariant
