@@ -1,8 +1,8 @@
 -- Pop, dup and swap forms.
-use Rattle.std.proofs.Common.{◌≡◌, ℕ, ◌+◌, ◌-◌, ◌<◌, ◌≤◌, true, false, not, refl, ap, sym, ◌∙◌, inl, inr, arith, List, [], ◌∷◌, ◌++◌, length, take, drop, reverse, slice_get, get_or, Option, Some, None, Result, Ok, Err}
+use Rattle.std.proofs.Common.{◌≡◌, ℕ, ◌+◌, ◌-◌, ◌<◌, ◌≤◌, true, false, not, refl, ap, sym, ◌∙◌, inl, inr, arith, List, [], ◌∷◌, ◌++◌, length, take, drop, reverse, slice_get, get_or, Option, Result, Ok, Err}
 use Rattle.std.specs.Prelude.{nat_le}
 use Rattle.std.proofs.lemmas.Bool.{cases_lt, lt-leb, le-leb}
-use Rattle.std.proofs.lemmas.List.{drop_more, drop_all, take_all, append_assoc, append-nil, reverse-append, reverse-reverse}
+use Rattle.std.proofs.lemmas.List.{drop_more, drop_all, append_assoc, append-nil, reverse-append, reverse-reverse}
 use Rattle.kilim_classes.specs.declared.verified.VType.{VType}
 use Rattle.kilim_classes.specs.declared.verified.VType.TheVariants.{Top, Int, Long, Null, UninitThis, Uninit, Object}
 use Rattle.kilim_typing.specs.Step.{words, off, then_off, shuffled, Drops, Copies, Swaps}
