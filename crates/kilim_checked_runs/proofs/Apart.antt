@@ -5,7 +5,7 @@ use Rattle.kilim_classes.specs.Keeps.{Keeps}
 use Rattle.kilim_classes.specs.Program.{Program}
 use Rattle.kilim_isolation_check.specs.Faults.{IsAccepted}
 use Rattle.kilim_isolation_laws.specs.kept.Laws.{AcceptedIsKept}
-use Rattle.kilim_one_heap.specs.Laws.{NoneShares, OneHeapIsMany, PlaysReplay}
+use Rattle.kilim_thread_model.specs.one_heap.Laws.{NoneShares, OneHeapIsMany, PlaysReplay}
 use Rattle.kilim_isolation_laws.specs.reached_objects.Laws.{AreLive, typed}
 use Rattle.kilim_isolation_laws.specs.Laws.{IsRunOfAccepted}
 use Rattle.kilim_isolation_laws.specs.Standing.{MainBegins}

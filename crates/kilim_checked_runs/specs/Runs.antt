@@ -3,7 +3,7 @@ use Rattle.std.specs.Prelude.{◌≡◌, ℕ, List, true}
 use Rattle.kilim_classes.specs.declared.class.Form.TheVariants.{Plain}
 use Rattle.kilim_classes.specs.Program.{Program}
 use Rattle.kilim_journal.specs.declared.entry.Entry.{Entry}
-use Rattle.kilim_one_heap.specs.Laws.{SameReplays}
+use Rattle.kilim_thread_model.specs.one_heap.Laws.{SameReplays}
 use Rattle.kilim_isolation_laws.specs.reached_objects.Laws.{AreLive}
 use Rattle.kilim_isolation_laws.specs.Standing.{MainBegins}
 use Rattle.kilim_thread_model.specs.Kept.{Kept}

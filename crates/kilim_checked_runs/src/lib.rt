@@ -15,7 +15,7 @@ ghost use Rattle.kilim_checked_runs.specs.Runs.{RunsApart};
 
 use kilim_isolation_check::{CheckFault, Isolated};
 use kilim_isolation_laws::kept::accepted_is_kept;
-use kilim_one_heap::{none_shares, one_heap_is_many, plays_replay};
+use kilim_thread_model::one_heap::{none_shares, one_heap_is_many, plays_replay};
 use kilim_typing::Typed;
 use std::alloc::Global;
 

@@ -8,3 +8,6 @@ pub mod Lengths
 pub mod Keeps
 pub mod Examples
 pub mod Broken
+pub mod lookups
+pub mod machine
+pub mod main_class

@@ -2,7 +2,7 @@
 //!
 //! The types follow the Java Virtual Machine Specification, Java SE 8 (JVMS), as far as this
 //! project's profile goes. They are plain data with public fields. `specs/` says what each program keeps, which kind a
-//! type is of, and which classes are built in. What an instruction does stands in `kilim_program`.
+//! type is of, and which classes are built in. What an instruction does stands in `crate::machine`.
 #![tactic(auto)]
 
 mod class;
@@ -10,6 +10,9 @@ mod fits;
 mod instr;
 mod kinds;
 mod laws;
+pub mod lookups;
+pub mod machine;
+pub mod main_class;
 mod names;
 mod ty;
 mod value;

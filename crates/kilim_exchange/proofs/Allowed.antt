@@ -5,11 +5,11 @@ use Rattle.kilim_classes.specs.Program.{Program}
 use Rattle.kilim_classes.specs.declared.ty.Ty.{Ty}
 use Rattle.kilim_classes.specs.declared.value.Value.{Value}
 use Rattle.kilim_classes.specs.declared.value.Value.TheVariants as value
-use Rattle.kilim_program.specs.declared.value.Object.{Object}
-use Rattle.kilim_program.specs.declared.value.Token.{Token}
-use Rattle.kilim_program.specs.declared.value.Token.TheVariants as token
+use Rattle.kilim_classes.specs.declared.machine.value.Object.{Object}
+use Rattle.kilim_classes.specs.declared.machine.value.Token.{Token}
+use Rattle.kilim_classes.specs.declared.machine.value.Token.TheVariants as token
 use Rattle.kilim_classes.specs.Names.{◌>>=◌}
-use Rattle.kilim_program.specs.Trees.{Read, Reads, read_value, read_values, closed, behind, and_then, root_alone, Awaits, Fields, Elements, awaited, opened, behind_token, is_complete, allowed_from, allowed_below, content_types, value_fits, is_root, is_whole_class, Root, is_allowed, built, object_of, type_named}
+use Rattle.kilim_classes.specs.machine.Trees.{Read, Reads, read_value, read_values, closed, behind, and_then, root_alone, Awaits, Fields, Elements, awaited, opened, behind_token, is_complete, allowed_from, allowed_below, content_types, value_fits, is_root, is_whole_class, Root, is_allowed, built, object_of, type_named}
 use Rattle.kilim_classes.specs.Fits.{fits_type}
 
 -- ---- one token

@@ -6,7 +6,7 @@ use Rattle.std.specs.List.{AllByRecursion}
 use Rattle.std.proofs.lemmas.Bool.Decides.{nat_tests}
 use Rattle.kilim_classes.specs.Program.{Program}
 use Rattle.kilim_classes.specs.declared.names.BoxName.{BoxName}
-use Rattle.kilim_program.specs.declared.value.Token.{Token}
+use Rattle.kilim_classes.specs.declared.machine.value.Token.{Token}
 use Rattle.kilim_journal.specs.declared.entry.Act.TheVariants.{Put, Start}
 use Rattle.kilim_classes.specs.Names.{◌>>=◌}
 use Rattle.kilim_thread_model.specs.State.{Setting, same_box, with_mailbox}

@@ -1,14 +1,14 @@
 -- What is asked next can be done.
 use Rattle.std.proofs.Common.{◌≡◌, ℕ, true, false, List, [], ◌∷◌, Some, refl, sym, ap, subst, ◌∙◌}
-use Rattle.kilim_program.specs.declared.cause.EndCause.{EndCause}
-use Rattle.kilim_program.specs.declared.cause.EndCause.TheVariants as cause
+use Rattle.kilim_classes.specs.declared.machine.cause.EndCause.{EndCause}
+use Rattle.kilim_classes.specs.declared.machine.cause.EndCause.TheVariants as cause
 use Rattle.kilim_classes.specs.declared.names.BoxName.{BoxName}
-use Rattle.kilim_program.specs.declared.value.Token.{Token}
+use Rattle.kilim_classes.specs.declared.machine.value.Token.{Token}
 use Rattle.kilim_journal.specs.declared.entry.Act.TheVariants.{Put, Take, Empty, Start, Print, End}
 use Rattle.kilim_thread_model.specs.State.{Setting}
 use Rattle.kilim_exchange.proofs.Replays.{some_injective}
-use Rattle.kilim_program.specs.Trees.{OfMessage, is_allowed, built}
-use Rattle.kilim_program.specs.declared.value.Object.{Object}
+use Rattle.kilim_classes.specs.machine.Trees.{OfMessage, is_allowed, built}
+use Rattle.kilim_classes.specs.declared.machine.value.Object.{Object}
 use Rattle.kilim_exchange.proofs.Allowed.{allowed_is_built}
 use Rattle.kilim_thread_model.specs.Lone.{Lone, Next, Goes, Puts, Gets, Probes, Starts, Prints, Ends, Stands}
 use Rattle.kilim_thread_model.specs.Course.{done_by, tree_came, plain}

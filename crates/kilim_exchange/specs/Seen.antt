@@ -10,11 +10,11 @@ use Rattle.kilim_exchange.specs.declared.board.Lent.{Lent}
 use Rattle.kilim_exchange.specs.declared.board.Lent.TheVariants as lent
 use Rattle.kilim_exchange.specs.declared.board.Acted.{Acted}
 use Rattle.kilim_exchange.specs.declared.board.Acted.TheVariants as acted
-use Rattle.kilim_program.specs.declared.cause.EndCause.TheVariants as cause
+use Rattle.kilim_classes.specs.declared.machine.cause.EndCause.TheVariants as cause
 use Rattle.kilim_journal.specs.declared.entry.Act.TheVariants as act
 use Rattle.kilim_thread_model.specs.State.{Setting}
 use Rattle.kilim_thread_model.specs.Turn.{task_limit}
-use Rattle.kilim_program.specs.declared.value.Token.{Token}
+use Rattle.kilim_classes.specs.declared.machine.value.Token.{Token}
 use Rattle.kilim_journal.specs.declared.entry.Entry.{Entry}
 use Rattle.kilim_fibers.specs.Fibers.{StandsAt, StandsFor}
 use Rattle.kilim_fibers.specs.Fibers.{NewCourse, Fits, course_after}

@@ -16,7 +16,7 @@ use kilim_classes::BoxName;
 use kilim_fibers::waiting::{Mailboxes, Parked, Waiter, line_up, note, wake};
 use kilim_fibers::{Answer, Fibers, Wants};
 use kilim_journal::{Act, Entry};
-use kilim_program::{EndCause, Shape};
+use kilim_classes::machine::{EndCause, Shape};
 use kilim_tree_move::Tree;
 use kilim_units::NoMemory;
 use std::alloc::Global;

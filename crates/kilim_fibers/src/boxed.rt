@@ -4,7 +4,7 @@ ghost use Rattle.std.specs.Prelude.{◌≡◌, IfOk};
 
 use crate::{Answer, Fibers, Wants};
 use kilim_classes::ClassId;
-use kilim_program::Limits;
+use kilim_classes::machine::Limits;
 use kilim_units::NoMemory;
 use std::alloc::Global;
 use std::marker::Model;

@@ -15,7 +15,7 @@ ghost use Rattle.kilim_fibers.specs.Wishes.{Wish};
 ghost use Rattle.kilim_fibers.specs.Fibers.{IsOfRun, StandsFor, Asks, Resumed, Fits, course_after, CanAnswer, CanRun, RestsRightly, CountsRightly, StartsFresh, StartsAtNone, IsNewCourse};
 
 use kilim_classes::{BoxName, ClassId};
-use kilim_program::{EndCause, Limits, Shape};
+use kilim_classes::machine::{EndCause, Limits, Shape};
 use kilim_tree_move::Tree;
 use kilim_units::NoMemory;
 use std::alloc::Global;

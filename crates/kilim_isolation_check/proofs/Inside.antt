@@ -12,7 +12,7 @@ use Rattle.kilim_classes.specs.Lengths.{has_length, code_stands, code_ends, targ
 use Rattle.kilim_classes.specs.Names.{method_at, is_empty}
 use Rattle.kilim_classes.specs.Program.{Program}
 use Rattle.kilim_paths.specs.Paths.{Has}
-use Rattle.kilim_lookups.proofs.Rising.{longer_by, all_there, same_number}
+use Rattle.kilim_classes.proofs.lookups.Rising.{longer_by, all_there, same_number}
 use Rattle.kilim_typing.specs.Typed.{edges, has_code}
 use Rattle.kilim_isolation_check.specs.Walks.{exits_to, exits_of, exits_at}
 

@@ -15,7 +15,7 @@ use crate::machine::Walk;
 use crate::tables::{code_table, frame_table};
 use crate::walk::whole;
 use kilim_classes::{Frame, Method, MethodId, Program};
-use kilim_lookups::method_at;
+use kilim_classes::lookups::method_at;
 use kilim_paths::{Explored, Report as PathReport, explore};
 use kilim_pausable_graph::Report;
 use kilim_shape_graph::Graph;

@@ -16,13 +16,13 @@ use Rattle.kilim_classes.specs.Program.{Program}
 use Rattle.kilim_classes.specs.Keeps.{Keeps, code_is_whole}
 use Rattle.kilim_classes.specs.Lengths.{code_ends, code_stands, fetched, first_place, has_length, is_primitive, is_reference, targets_stand}
 use Rattle.kilim_classes.specs.Names.{method_at}
-use Rattle.kilim_program.specs.declared.value.Object.{Object as HeapObject}
-use Rattle.kilim_program.specs.Effect.{is_wide, named_type}
-use Rattle.kilim_program.specs.Machine.{Objects}
+use Rattle.kilim_classes.specs.declared.machine.value.Object.{Object as HeapObject}
+use Rattle.kilim_classes.specs.machine.Effect.{is_wide, named_type}
+use Rattle.kilim_classes.specs.machine.Machine.{Objects}
 use Rattle.kilim_typing.specs.Step.{is_long, peek}
 use Rattle.kilim_typing.specs.Typed.{IsWellTyped, edges, has_code}
-use Rattle.kilim_typing_laws.specs.Laws.{typing_at}
-use Rattle.kilim_typing_laws.proofs.ByPlace.{typed_by_place}
+use Rattle.kilim_typing.specs.typing_laws.Laws.{typing_at}
+use Rattle.kilim_typing.proofs.typing_laws.ByPlace.{typed_by_place}
 use Rattle.kilim_paths.specs.Paths.{Has, Reaches}
 use Rattle.kilim_shape_graph.specs.declared.graph.Graph.{Graph}
 use Rattle.kilim_isolation_check.specs.Faults.{IsAccepted}
@@ -30,10 +30,10 @@ use Rattle.kilim_isolation_check.specs.Laws.{GoesOn}
 use Rattle.kilim_isolation_check.specs.Walks.{entry_graph, exits_to, machine_of}
 use Rattle.kilim_isolation_laws.proofs.reached_objects.walk.Methods.{every_method_goes}
 use Rattle.kilim_isolation_laws.proofs.reached_objects.walk.Walks.{walks_by_types}
-use Rattle.kilim_typing_laws.specs.fits.Fits.{Classes, HeapFits, has_type, have_types, is_made, is_of}
-use Rattle.kilim_typing_laws.specs.fits.Fits as fits
-use Rattle.kilim_typing_laws.proofs.fits.Bodies.{starts}
-use Rattle.kilim_typing_laws.proofs.fits.FromKeeps.{all_at}
+use Rattle.kilim_typing.specs.typing_laws.fits.Fits.{Classes, HeapFits, has_type, have_types, is_made, is_of}
+use Rattle.kilim_typing.specs.typing_laws.fits.Fits as fits
+use Rattle.kilim_typing.proofs.typing_laws.fits.Bodies.{starts}
+use Rattle.kilim_typing.proofs.typing_laws.fits.FromKeeps.{all_at}
 use Rattle.kilim_isolation_laws.specs.graph_rows.Facts.{IsOfType, IsVerified, IsWhole, class_in, class_of}
 use Rattle.kilim_isolation_laws.proofs.sorts.Keeping.{program_keeps}
 use Rattle.kilim_isolation_laws.specs.reached_objects.graphs.Threads.{IsSound, MethodKeeps, Passes}

@@ -18,17 +18,17 @@ use Rattle.kilim_classes.specs.BuiltIn.{class_id, class_type, int_type}
 use Rattle.kilim_classes.specs.Kinds.{class_kind, is_tree_kind, kind_of}
 use Rattle.kilim_classes.specs.Names.{method_at}
 use Rattle.kilim_classes.specs.Program.{Program}
-use Rattle.kilim_program.specs.declared.cause.EndCause.TheVariants as cause
-use Rattle.kilim_program.specs.declared.value.Object.{Object}
-use Rattle.kilim_program.specs.declared.value.Token.{Token}
-use Rattle.kilim_program.specs.Machine.{Objects, Activation}
-use Rattle.kilim_program.specs.Members.{execute_of}
-use Rattle.kilim_program.specs.Moves.{Move, moves, push_value}
-use Rattle.kilim_program.specs.Moves as move
-use Rattle.kilim_program.specs.Natives.{Native, native_of}
-use Rattle.kilim_program.specs.Natives as native
-use Rattle.kilim_program.specs.Shapes.{shape_of}
-use Rattle.kilim_program.specs.Trees.{OfMessage, built, tree_names, with_objects, without}
+use Rattle.kilim_classes.specs.declared.machine.cause.EndCause.TheVariants as cause
+use Rattle.kilim_classes.specs.declared.machine.value.Object.{Object}
+use Rattle.kilim_classes.specs.declared.machine.value.Token.{Token}
+use Rattle.kilim_classes.specs.machine.Machine.{Objects, Activation}
+use Rattle.kilim_classes.specs.machine.Members.{execute_of}
+use Rattle.kilim_classes.specs.machine.Moves.{Move, moves, push_value}
+use Rattle.kilim_classes.specs.machine.Moves as move
+use Rattle.kilim_classes.specs.machine.Natives.{Native, native_of}
+use Rattle.kilim_classes.specs.machine.Natives as native
+use Rattle.kilim_classes.specs.machine.Shapes.{shape_of}
+use Rattle.kilim_classes.specs.machine.Trees.{OfMessage, built, tree_names, with_objects, without}
 use Rattle.kilim_journal.specs.declared.entry.Act.{Act}
 use Rattle.kilim_journal.specs.declared.entry.Act.TheVariants.{Put, Take, Empty, Start, Print, End}
 use Rattle.kilim_thread_model.specs.State.{Setting, Thread, Alive, Ended, begun_on, is_fit}
@@ -37,14 +37,14 @@ use Rattle.kilim_thread_model.specs.Course.{Done, done_by, probes_deed, puts_dee
 use Rattle.kilim_thread_model.specs.declared.deed.Deed.{Deed}
 use Rattle.kilim_typing.specs.Step.{vtype}
 use Rattle.kilim_typing.specs.Typed.{has_code}
-use Rattle.kilim_typing_laws.specs.Laws.{typing_at}
+use Rattle.kilim_typing.specs.typing_laws.Laws.{typing_at}
 use Rattle.kilim_isolation_laws.specs.forest.Heap.{IsForest}
 use Rattle.kilim_shape_graph.specs.declared.entry.Parameter.{Parameter}
 use Rattle.kilim_shape_graph.specs.Entry.{parameters_of, quality}
-use Rattle.kilim_typing_laws.specs.fits.Fits.{Classes, Fits, FramesFit, HeapFits, Nothing, Wanted, have_types, is_of}
-use Rattle.kilim_typing_laws.specs.fits.Sound.{AsksFit, MoveFits, native_types}
-use Rattle.kilim_typing_laws.proofs.fits.Grounds.{facts_hold}
-use Rattle.kilim_typing_laws.proofs.fits.Theorem.{moves_fit}
+use Rattle.kilim_typing.specs.typing_laws.fits.Fits.{Classes, Fits, FramesFit, HeapFits, Nothing, Wanted, have_types, is_of}
+use Rattle.kilim_typing.specs.typing_laws.fits.Sound.{AsksFit, MoveFits, native_types}
+use Rattle.kilim_typing.proofs.typing_laws.fits.Grounds.{facts_hold}
+use Rattle.kilim_typing.proofs.typing_laws.fits.Theorem.{moves_fit}
 use Rattle.kilim_isolation_laws.specs.typed_threads.fine.Typed.{FitsAs, IsVerified, StackIsThere, TopIsThere, frames_of}
 use Rattle.kilim_isolation_laws.proofs.typed_threads.fine.Natives.{gives, native_gives}
 use Rattle.kilim_isolation_laws.specs.graph_rows.Holds.{IsOf, Tree, Trees, object_sort, trees, type_sort}
@@ -183,9 +183,9 @@ module _ (set : Setting) (wanted : Wanted) (listed : Listed) (sound : IsSound se
 
           types : native_types fits.callee ≡ Rattle.kilim_typing.specs.Step.class_vtype (class_id (number + 5)) ∷ vtype message ∷ []
           types =
-              ap (λ (z : Bool). Rattle.kilim_typing_laws.specs.fits.Sound.native_types (record fits.callee { is_static = z })) puts.0
-              ∙ (ap (λ (c : ClassId). Rattle.kilim_typing_laws.specs.fits.Sound.native_types (record fits.callee { is_static = false; owner = c })) puts.1
-              ∙ ap (λ (tys : List Ty). Rattle.kilim_typing_laws.specs.fits.Sound.native_types (record fits.callee { is_static = false; owner = class_id (number + 5); params = tys })) puts.3)
+              ap (λ (z : Bool). Rattle.kilim_typing.specs.typing_laws.fits.Sound.native_types (record fits.callee { is_static = z })) puts.0
+              ∙ (ap (λ (c : ClassId). Rattle.kilim_typing.specs.typing_laws.fits.Sound.native_types (record fits.callee { is_static = false; owner = c })) puts.1
+              ∙ ap (λ (tys : List Ty). Rattle.kilim_typing.specs.typing_laws.fits.Sound.native_types (record fits.callee { is_static = false; owner = class_id (number + 5); params = tys })) puts.3)
 
           typed : is_of p (of root) message ≡ true
           typed =
@@ -211,9 +211,9 @@ module _ (set : Setting) (wanted : Wanted) (listed : Listed) (sound : IsSound se
 
           types : native_types fits.callee ≡ Rattle.kilim_typing.specs.Step.class_vtype (class_id (number + 4)) ∷ []
           types =
-              ap (λ (z : Bool). Rattle.kilim_typing_laws.specs.fits.Sound.native_types (record fits.callee { is_static = z })) starts.0
-              ∙ (ap (λ (c : ClassId). Rattle.kilim_typing_laws.specs.fits.Sound.native_types (record fits.callee { is_static = false; owner = c })) starts.1
-              ∙ ap (λ (tys : List Ty). Rattle.kilim_typing_laws.specs.fits.Sound.native_types (record fits.callee { is_static = false; owner = class_id (number + 4); params = tys })) starts.3)
+              ap (λ (z : Bool). Rattle.kilim_typing.specs.typing_laws.fits.Sound.native_types (record fits.callee { is_static = z })) starts.0
+              ∙ (ap (λ (c : ClassId). Rattle.kilim_typing.specs.typing_laws.fits.Sound.native_types (record fits.callee { is_static = false; owner = c })) starts.1
+              ∙ ap (λ (tys : List Ty). Rattle.kilim_typing.specs.typing_laws.fits.Sound.native_types (record fits.callee { is_static = false; owner = class_id (number + 4); params = tys })) starts.3)
 
           typed : is_of p (of root) (class_type (number + 4)) ≡ true
           typed =

@@ -23,12 +23,12 @@ use Rattle.kilim_classes.specs.Keeps.{Keeps}
 use Rattle.kilim_classes.specs.Kinds.{class_kind, is_message, is_value_class}
 use Rattle.kilim_classes.specs.Names.{class_at, class_name, is_named_task, is_task, method_at, ◌>>=◌}
 use Rattle.kilim_classes.specs.Same.{is_constructor}
-use Rattle.kilim_program.specs.Natives.{Native, native_method, native_named, native_of, natives}
-use Rattle.kilim_program.specs.Natives as native
+use Rattle.kilim_classes.specs.machine.Natives.{Native, native_method, native_named, native_of, natives}
+use Rattle.kilim_classes.specs.machine.Natives as native
 use Rattle.kilim_lemmas.proofs.Texts.{same_text}
 use Rattle.kilim_shape_graph.specs.Entry.{declared_parameters, parameters_of}
 use Rattle.kilim_isolation_rules.specs.Calls.{is_owned}
-use Rattle.kilim_typing_laws.proofs.fits.BuiltInMembers.{NamedAt, named_at}
+use Rattle.kilim_typing.proofs.typing_laws.fits.BuiltInMembers.{NamedAt, named_at}
 use Rattle.kilim_isolation_laws.proofs.typed_threads.fine.Natives.{built_in_one, first, task_name}
 use Rattle.kilim_isolation_laws.proofs.typed_threads.Booting.{line_begins}
 use Rattle.kilim_isolation_laws.specs.graph_rows.Holds.{Sort, Tree, Trees, object_sort, sort_by}

@@ -7,10 +7,10 @@ use Rattle.kilim_thread_model.specs.Course.{Course, IsLone, Quiet}
 use Rattle.kilim_thread_model.specs.Lone.{Lone}
 use Rattle.kilim_thread_model.specs.State.{Setting, is_fit}
 use Rattle.kilim_typing.specs.Typed.{IsWellTyped}
-use Rattle.kilim_typing_laws.specs.Laws.{typing_at}
+use Rattle.kilim_typing.specs.typing_laws.Laws.{typing_at}
 use Rattle.kilim_pausable_graph.specs.Pausing.{frames_at}
 use Rattle.kilim_isolation_check.specs.Faults.{IsAccepted}
-use Rattle.kilim_typing_laws.specs.fits.Fits.{Classes}
+use Rattle.kilim_typing.specs.typing_laws.fits.Fits.{Classes}
 use Rattle.kilim_isolation_laws.specs.typed_threads.fine.Typed.{FitsAs}
 use Rattle.kilim_isolation_laws.specs.reached_objects.graphs.Threads.{Listed}
 use Rattle.kilim_isolation_laws.specs.reached_objects.Laws.{typed}

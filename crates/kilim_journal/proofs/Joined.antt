@@ -2,8 +2,8 @@
 use Rattle.std.proofs.Common.{◌≡◌, ℕ, Bool, true, false, List, [], ◌∷◌, ◌++◌, refl, sym, ap, ◌∙◌, append_assoc}
 use Rattle.std.specs.Prelude.{codes}
 use Rattle.std.proofs.lemmas.List.{append-nil}
-use Rattle.kilim_program.specs.declared.value.Token.{Token}
-use Rattle.kilim_program.specs.declared.value.Token.TheVariants.{Open, Close}
+use Rattle.kilim_classes.specs.declared.machine.value.Token.{Token}
+use Rattle.kilim_classes.specs.declared.machine.value.Token.TheVariants.{Open, Close}
 use Rattle.kilim_units.specs.NameText.{name_text}
 use Rattle.kilim_journal.specs.Text.{token_text, tokens_text}
 use Rattle.kilim_journal.specs.Readable.{Values, Nothing, Plain, Object, preorder, IsPlain, ArePlain, after_commas, joined, texts_of, ValuesAreJoined}

@@ -1,7 +1,7 @@
 -- The tokens of one value are those of one tree in preorder, and no other tokens are.
 use Rattle.std.proofs.Common.{◌≡◌, ℕ, zero, suc, true, List, [], ◌∷◌, ◌++◌, refl, ap, ◌∙◌, append_assoc}
-use Rattle.kilim_program.specs.declared.value.Token.{Token}
-use Rattle.kilim_program.specs.declared.value.Token.TheVariants.{Open, Close}
+use Rattle.kilim_classes.specs.declared.machine.value.Token.{Token}
+use Rattle.kilim_classes.specs.declared.machine.value.Token.TheVariants.{Open, Close}
 use Rattle.kilim_journal.specs.Readable.{ends_with_its_value, is_value, Values, Nothing, Plain, Object, preorder, IsPlain, ArePlain, IsSingle, IsOneValue, ShapesAreValues}
 use Rattle.kilim_journal.proofs.Tokens.{nothing}
 

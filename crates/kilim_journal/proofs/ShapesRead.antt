@@ -3,8 +3,8 @@ use Rattle.std.proofs.Common.{◌≡◌, ℕ, zero, suc, ◌<◌, ◌≤◌, Boo
 use Rattle.std.specs.List.{flat_map}
 use Rattle.std.specs.Fmt.{signed_decimal}
 use Rattle.kilim_units.specs.NameText.{name_text}
-use Rattle.kilim_program.specs.declared.value.Token.{Token}
-use Rattle.kilim_program.specs.declared.value.Token.TheVariants.{Open, Close, Int, Long, Null, Text, Box}
+use Rattle.kilim_classes.specs.declared.machine.value.Token.{Token}
+use Rattle.kilim_classes.specs.declared.machine.value.Token.TheVariants.{Open, Close, Int, Long, Null, Text, Box}
 use Rattle.kilim_journal.specs.Text.{box_text, text_unit, token_text, comma_before, is_followed, tokens_text, shape_text}
 use Rattle.kilim_journal.specs.Readable.{TokenFits, ShapeFits, is_empty, ends_with_its_value, is_value}
 use Rattle.kilim_journal.specs.Fronts.{IsEnded, begun_behind}

@@ -7,8 +7,8 @@ use Rattle.std.specs.Int.Signed.{mag}
 use Rattle.std.proofs.lemmas.Bool.{and_from, and_parts}
 use Rattle.std.proofs.lemmas.Bool.Decides.{nat_tests}
 use Rattle.kilim_classes.specs.declared.names.BoxName.{BoxName}
-use Rattle.kilim_program.specs.declared.value.Token.{Token}
-use Rattle.kilim_program.specs.declared.value.Token.TheVariants.{Open, Close, Int, Long, Null, Text, Box}
+use Rattle.kilim_classes.specs.declared.machine.value.Token.{Token}
+use Rattle.kilim_classes.specs.declared.machine.value.Token.TheVariants.{Open, Close, Int, Long, Null, Text, Box}
 use Rattle.kilim_units.specs.NameText.{name_text}
 use Rattle.kilim_journal.specs.Text.{box_text, text_unit, token_text, comma_before, is_followed, tokens_text}
 use Rattle.kilim_journal.specs.Readable.{BoxFits, TokenFits, ShapeFits, is_empty, ends_with_its_value}

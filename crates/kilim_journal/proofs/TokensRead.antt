@@ -4,8 +4,8 @@ use Rattle.std.specs.Prelude.{FitsSigned, if◌then◌else◌, ◌==◌}
 use Rattle.std.specs.Int.{w32, w64}
 use Rattle.std.specs.List.{AllByRecursion, flat_map}
 use Rattle.kilim_classes.specs.declared.names.BoxName.{BoxName}
-use Rattle.kilim_program.specs.declared.value.Token.{Token}
-use Rattle.kilim_program.specs.declared.value.Token.TheVariants.{Open, Close, Int, Long, Null, Text, Box}
+use Rattle.kilim_classes.specs.declared.machine.value.Token.{Token}
+use Rattle.kilim_classes.specs.declared.machine.value.Token.TheVariants.{Open, Close, Int, Long, Null, Text, Box}
 use Rattle.kilim_units.specs.NameText.{name_unit}
 use Rattle.kilim_journal.specs.Text.{token_text, text_unit}
 use Rattle.kilim_journal.specs.Readable.{BoxFits, UnitsFit, TokenFits}

@@ -1,14 +1,14 @@
 -- What stands at the front of a text. The inner calls of `read_text` cite this, and no clause of a public call does.
 use Rattle.std.specs.Prelude.{ℕ, zero, suc, Option, Some, None, Bool, true, false, not, ◌||◌, ◌==◌, if◌then◌else◌, List, [], ◌∷◌, ◌++◌, codes}
 use Rattle.std.specs.Char.{is_ascii_digit}
-use Rattle.kilim_program.specs.declared.value.Token.{Token}
-use Rattle.kilim_program.specs.declared.value.Token.TheVariants.{Open, Close, Text}
+use Rattle.kilim_classes.specs.declared.machine.value.Token.{Token}
+use Rattle.kilim_classes.specs.declared.machine.value.Token.TheVariants.{Open, Close, Text}
 use Rattle.kilim_journal.specs.declared.entry.Act.{Act}
 use Rattle.kilim_journal.specs.declared.entry.Act.TheVariants.{Put, Take, Empty, Start, Print, End, Wait, Bound}
 use Rattle.kilim_journal.specs.declared.acts.Word.{Word}
 use Rattle.kilim_journal.specs.declared.acts.Word.TheVariants as word
 use Rattle.kilim_units.specs.NameText.{escape}
-use Rattle.kilim_program.specs.Cause.{word_of as cause_word}
+use Rattle.kilim_classes.specs.machine.Cause.{word_of as cause_word}
 use Rattle.std.specs.Fmt.{decimal}
 use Rattle.kilim_journal.specs.Text.{box_text, shape_text}
 

@@ -3,9 +3,9 @@ use Rattle.std.specs.Prelude.{ℕ, Bool, true, false, ◌&&◌, ◌||◌, not, �
 use Rattle.std.specs.List.{flat_map}
 use Rattle.std.specs.Fmt.{decimal, signed_decimal}
 use Rattle.kilim_classes.specs.declared.names.BoxName.{BoxName}
-use Rattle.kilim_program.specs.declared.value.Token.{Token}
-use Rattle.kilim_program.specs.declared.value.Token.TheVariants.{Open, Close, Int, Long, Null, Text, Box}
-use Rattle.kilim_program.specs.Cause.{word_of}
+use Rattle.kilim_classes.specs.declared.machine.value.Token.{Token}
+use Rattle.kilim_classes.specs.declared.machine.value.Token.TheVariants.{Open, Close, Int, Long, Null, Text, Box}
+use Rattle.kilim_classes.specs.machine.Cause.{word_of}
 use Rattle.kilim_units.specs.NameText.{escape, is_within, name_text}
 use Rattle.kilim_journal.specs.declared.entry.Act.{Act}
 use Rattle.kilim_journal.specs.declared.entry.Act.TheVariants.{Put, Take, Empty, Start, Print, End, Wait, Bound}

@@ -4,9 +4,9 @@
 ghost use Rattle.std.specs.Prelude.{◌≡◌, ◌<◌, ◌^◌, ◌∷◌, ◌++◌, [], true, length, IfOk, IfSome, IsSomeAnd, List, ℕ, Some, codes};
 ghost use Rattle.std.specs.Fmt.{decimal};
 ghost use Rattle.kilim_classes.specs.declared.names.BoxName.{BoxName as Name};
-ghost use Rattle.kilim_program.specs.declared.value.Token.{Token as Part};
-ghost use Rattle.kilim_program.specs.declared.cause.EndCause.{EndCause as Cause};
-ghost use Rattle.kilim_program.specs.Cause.{word_of};
+ghost use Rattle.kilim_classes.specs.declared.machine.value.Token.{Token as Part};
+ghost use Rattle.kilim_classes.specs.declared.machine.cause.EndCause.{EndCause as Cause};
+ghost use Rattle.kilim_classes.specs.machine.Cause.{word_of};
 ghost use Rattle.kilim_journal.specs.declared.entry.Act.{Act as Deed};
 ghost use Rattle.kilim_journal.specs.declared.entry.Act.TheVariants as act;
 ghost use Rattle.kilim_journal.specs.declared.entry.Entry.{Entry as Event};
@@ -18,7 +18,7 @@ ghost use Rattle.kilim_journal.specs.Fronts.{word_text, word_of_act, text_behind
 use crate::entry::{Act, Entry};
 use crate::numbers::{after, box_at, number_at, small_at, word_at};
 use crate::values::shape_at;
-use kilim_program::{EndCause, Shape, Token};
+use kilim_classes::machine::{EndCause, Shape, Token};
 use kilim_units::NoMemory;
 use std::alloc::Global;
 

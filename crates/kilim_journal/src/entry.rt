@@ -1,7 +1,7 @@
 //! What the journal of a run is made of.
 
 use kilim_classes::BoxName;
-use kilim_program::{EndCause, Shape};
+use kilim_classes::machine::{EndCause, Shape};
 
 /// One event of a run.
 #[derive(Drop)]

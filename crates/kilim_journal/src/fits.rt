@@ -5,7 +5,7 @@ ghost use Rattle.kilim_journal.specs.Readable.{UnitsFit, BoxFits, TokenFits, Sha
 
 use crate::{Act, Entry};
 use kilim_classes::BoxName;
-use kilim_program::Token;
+use kilim_classes::machine::Token;
 
 fn unit_fits(unit: &u16)
     ensures { unit.now < 2 ^ 16 }

@@ -10,7 +10,7 @@ use crate::pieces::{
     push_box_behind, push_byte, push_number, push_number_behind, push_shape_behind,
 };
 use kilim_classes::BoxName;
-use kilim_program::{EndCause, Token};
+use kilim_classes::machine::{EndCause, Token};
 use kilim_units::NoMemory;
 use std::alloc::{AllocError, Global};
 

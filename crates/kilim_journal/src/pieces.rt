@@ -7,7 +7,7 @@ ghost use Rattle.kilim_units.specs.NameText.{escape, name_text};
 ghost use Rattle.kilim_journal.specs.Text.{box_text, stands_in_text, text_unit, token_text, comma_before, is_followed, tokens_text, shape_text};
 
 use kilim_classes::BoxName;
-use kilim_program::Token;
+use kilim_classes::machine::Token;
 use kilim_units::{push_escape, push_name};
 use std::alloc::AllocError;
 

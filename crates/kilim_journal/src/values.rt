@@ -6,8 +6,8 @@ ghost use Rattle.std.specs.Int.{w32, w64};
 ghost use Rattle.std.specs.Fmt.{signed_decimal};
 ghost use Rattle.std.specs.List.{flat_map};
 ghost use Rattle.kilim_classes.specs.declared.names.BoxName.{BoxName as Name};
-ghost use Rattle.kilim_program.specs.declared.value.Token.{Token as Part};
-ghost use Rattle.kilim_program.specs.declared.value.Token.TheVariants as part;
+ghost use Rattle.kilim_classes.specs.declared.machine.value.Token.{Token as Part};
+ghost use Rattle.kilim_classes.specs.declared.machine.value.Token.TheVariants as part;
 ghost use Rattle.kilim_units.specs.NameText.{hex_digit, escape, name_text};
 ghost use Rattle.kilim_journal.specs.Text.{box_text, text_unit, token_text, shape_text, is_followed, tokens_text, comma_before};
 ghost use Rattle.kilim_journal.specs.Readable.{BoxFits, UnitsFit, TokenFits, ShapeFits, is_value};
@@ -15,7 +15,7 @@ ghost use Rattle.kilim_journal.specs.Fronts.{AfterValue, IsEnded, unit_text, ope
 
 use crate::numbers::{after, box_at, is_number_unit, opens, signed_at};
 use crate::pieces::is_followed;
-use kilim_program::{Shape, Token};
+use kilim_classes::machine::{Shape, Token};
 use kilim_units::{NoMemory, Seq, Units};
 use std::alloc::Global;
 

@@ -2,15 +2,15 @@
 use Rattle.std.proofs.Common.{◌≡◌, ◌∙◌, sym, ap, true, false, List, [], ◌∷◌, Option, Some, length, map, nat_le, nat_lt, suc, arith}
 use Rattle.std.proofs.lemmas.List.{length-map}
 use Rattle.kilim_classes.specs.declared.class.Method.{Method}
-use Rattle.kilim_program.specs.Does.{narrowed_result}
+use Rattle.kilim_classes.specs.machine.Does.{narrowed_result}
 use Rattle.kilim_rows.specs.Outcome.{returned_by}
 use Rattle.kilim_classes.specs.declared.names.MethodId.{MethodId}
 use Rattle.kilim_classes.specs.declared.value.Value.{Value}
 use Rattle.kilim_classes.specs.Program.{Program}
-use Rattle.kilim_program.specs.declared.cause.EndCause.TheVariants as cause
-use Rattle.kilim_program.specs.Machine.{Activation, Objects}
-use Rattle.kilim_program.specs.Moves as move
-use Rattle.kilim_program.specs.Moves.{called, entered, push_result, receiver_of, returned}
+use Rattle.kilim_classes.specs.declared.machine.cause.EndCause.TheVariants as cause
+use Rattle.kilim_classes.specs.machine.Machine.{Activation, Objects}
+use Rattle.kilim_classes.specs.machine.Moves as move
+use Rattle.kilim_classes.specs.machine.Moves.{called, entered, push_result, receiver_of, returned}
 use Rattle.kilim_machine_parts.specs.declared.frames.frame.Frame.{Frame}
 use Rattle.kilim_machine_parts.specs.frames.Calls.{activation}
 use Rattle.kilim_jvm_interp.specs.Step.{IsWent, RanOn, cause_of}

@@ -7,11 +7,11 @@ use Rattle.kilim_classes.specs.declared.value.Value.{Value}
 use Rattle.kilim_classes.specs.Lengths.{fetched}
 use Rattle.kilim_classes.specs.Names.{method_at}
 use Rattle.kilim_classes.specs.Program.{Program}
-use Rattle.kilim_program.specs.Machine.{Activation, Objects}
-use Rattle.kilim_program.specs.Effect.{Effect}
-use Rattle.kilim_program.specs.Effect as effect
-use Rattle.kilim_program.specs.Does.{does}
-use Rattle.kilim_program.specs.Moves.{effect_found, effect_in, effect_of}
+use Rattle.kilim_classes.specs.machine.Machine.{Activation, Objects}
+use Rattle.kilim_classes.specs.machine.Effect.{Effect}
+use Rattle.kilim_classes.specs.machine.Effect as effect
+use Rattle.kilim_classes.specs.machine.Does.{does}
+use Rattle.kilim_classes.specs.machine.Moves.{effect_found, effect_in, effect_of}
 use Rattle.kilim_machine_parts.specs.declared.frames.frame.Frame.{Frame}
 use Rattle.kilim_machine_parts.specs.declared.frames.frames.Frames.{Frames}
 use Rattle.kilim_machine_parts.specs.frames.Calls.{below_of}

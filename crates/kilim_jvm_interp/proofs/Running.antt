@@ -5,10 +5,10 @@ use Rattle.kilim_classes.specs.declared.instr.Instr.{Instr}
 use Rattle.kilim_classes.specs.Lengths.{fetched}
 use Rattle.kilim_classes.specs.Names.{method_at}
 use Rattle.kilim_classes.specs.Program.{Program}
-use Rattle.kilim_program.specs.Machine.{Activation, Objects}
-use Rattle.kilim_program.specs.Does.{does}
-use Rattle.kilim_program.specs.Effect.{Effect, Goes}
-use Rattle.kilim_program.specs.Moves.{effect_of, moves}
+use Rattle.kilim_classes.specs.machine.Machine.{Activation, Objects}
+use Rattle.kilim_classes.specs.machine.Does.{does}
+use Rattle.kilim_classes.specs.machine.Effect.{Effect, Goes}
+use Rattle.kilim_classes.specs.machine.Moves.{effect_of, moves}
 use Rattle.kilim_machine_parts.specs.declared.frames.frame.Frame.{Frame}
 use Rattle.kilim_machine_parts.specs.frames.Calls.{activation}
 use Rattle.kilim_rows.specs.Outcome.{IsMade}

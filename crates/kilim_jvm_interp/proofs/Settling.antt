@@ -3,11 +3,11 @@ use Rattle.std.proofs.Common.{◌≡◌, ◌∙◌, sym, ap, subst, ℕ, List, �
 use Rattle.kilim_classes.specs.declared.names.MethodId.{MethodId}
 use Rattle.kilim_classes.specs.declared.value.Value.{Value}
 use Rattle.kilim_classes.specs.Program.{Program}
-use Rattle.kilim_program.specs.declared.cause.EndCause.{EndCause}
-use Rattle.kilim_program.specs.Machine.{Activation, Objects}
-use Rattle.kilim_program.specs.Effect.{Effect, Goes, Raises, Ends}
-use Rattle.kilim_program.specs.Moves as move
-use Rattle.kilim_program.specs.Moves.{move_by}
+use Rattle.kilim_classes.specs.declared.machine.cause.EndCause.{EndCause}
+use Rattle.kilim_classes.specs.machine.Machine.{Activation, Objects}
+use Rattle.kilim_classes.specs.machine.Effect.{Effect, Goes, Raises, Ends}
+use Rattle.kilim_classes.specs.machine.Moves as move
+use Rattle.kilim_classes.specs.machine.Moves.{move_by}
 use Rattle.kilim_machine_parts.specs.declared.frames.frame.Frame.{Frame}
 use Rattle.kilim_machine_parts.specs.declared.frames.frames.Frames.{Frames}
 use Rattle.kilim_machine_parts.specs.frames.Calls.{activation}

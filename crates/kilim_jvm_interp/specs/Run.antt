@@ -1,8 +1,8 @@
 -- Several steps of a task, one after the other.
 use Rattle.std.specs.Prelude.{◌≡◌, false, List, [], ◌∷◌}
 use Rattle.kilim_classes.specs.Program.{Program}
-use Rattle.kilim_program.specs.Machine.{Activation, Objects}
-use Rattle.kilim_program.specs.Moves.{effect_of, moves}
+use Rattle.kilim_classes.specs.machine.Machine.{Activation, Objects}
+use Rattle.kilim_classes.specs.machine.Moves.{effect_of, moves}
 use Rattle.kilim_machine_parts.specs.declared.frames.frames.Frames.{Frames}
 use Rattle.kilim_rows.specs.Outcome.{is_stuck}
 use Rattle.kilim_jvm_interp.specs.Step.{FitsStack, IsWent, Steps}

@@ -1,10 +1,10 @@
 //! One instruction of a task.
 
 ghost use Rattle.std.specs.Prelude.{◌≡◌, ◌<◌, ◌≤◌, ◌∷◌, ℕ, length, take, drop, reverse, map, Some, None, IfOk, OnOk, nat_le};
-ghost use Rattle.kilim_program.specs.Machine.{Objects};
-ghost use Rattle.kilim_program.specs.Does.{narrowed_result};
+ghost use Rattle.kilim_classes.specs.machine.Machine.{Objects};
+ghost use Rattle.kilim_classes.specs.machine.Does.{narrowed_result};
 ghost use Rattle.kilim_classes.specs.Names.{method_at};
-ghost use Rattle.kilim_program.specs.Moves.{Asks, called, entered, goes_on, move_by, returned, slots_in};
+ghost use Rattle.kilim_classes.specs.machine.Moves.{Asks, called, entered, goes_on, move_by, returned, slots_in};
 ghost use Rattle.kilim_machine_parts.specs.frames.Calls.{activation, below_of, calls_of};
 ghost use Rattle.kilim_rows.specs.Outcome.{Shows, returned_by};
 ghost use Rattle.kilim_rows.specs.declared.outcome.Moved.TheVariants.{Asked};
@@ -13,13 +13,13 @@ ghost use Rattle.kilim_classes.specs.declared.class.Method.{Method as AMethod};
 ghost use Rattle.kilim_classes.specs.declared.names.MethodId.{MethodId as AMethodId};
 ghost use Rattle.kilim_jvm_interp.specs.declared.machine.Stepped.TheVariants.{AtNative};
 ghost use Rattle.kilim_jvm_interp.specs.Step.{AreRoomy, CallerFits, CanSettle, IsRoomy, Steps, stack_limit};
-ghost use Rattle.kilim_program.specs.Effect.{Effect};
+ghost use Rattle.kilim_classes.specs.machine.Effect.{Effect};
 ghost use Rattle.kilim_machine_parts.specs.declared.frames.frame.Frame.{Frame as AFrame};
 
 use kilim_classes::{Method, MethodId, Program, Value};
-use kilim_lookups::method_at;
+use kilim_classes::lookups::method_at;
 use kilim_machine_parts::frames::{Frame, Frames, Locals, Stack};
-use kilim_program::EndCause;
+use kilim_classes::machine::EndCause;
 use kilim_rows::{Moved, narrowed};
 use kilim_units::{NoMemory, Seq};
 use std::alloc::Global;

@@ -4,7 +4,7 @@ use Rattle.std.specs.Prelude.{◌==◌}
 use Rattle.std.proofs.lemmas.Bool.{eqb-true}
 use Rattle.kilim_classes.specs.declared.instr.Instr.{Instr}
 use Rattle.kilim_classes.specs.Lengths.{fetched, first_place}
-use Rattle.kilim_lookups.specs.Places.{Above, Rising}
+use Rattle.kilim_classes.specs.lookups.Places.{Above, Rising}
 
 above_at : (place : ℕ) (code : List (ℕ × Instr)) (i : ℕ) (entry : ℕ × Instr) → Above place code → slice_get code i ≡ Some entry → place < entry.0
 above_at place [] i entry above found = absurd (cc)

@@ -7,7 +7,7 @@ use Rattle.std.proofs.lemmas.Option.{slice_get_within}
 use Rattle.kilim_classes.specs.declared.class.Method.{Method}
 use Rattle.kilim_classes.specs.declared.instr.Instr.{Instr}
 use Rattle.kilim_classes.specs.Lengths.{fetched, first_place}
-use Rattle.kilim_lookups.specs.Places.{Above, Rising}
+use Rattle.kilim_classes.specs.lookups.Places.{Above, Rising}
 use Rattle.kilim_typing.specs.Typed.{Among, edges}
 use Rattle.kilim_liveness.specs.Marks.{AreBefore, AreEmpty, BeforeSoFar, Further, Goes}
 use Rattle.kilim_liveness.proofs.Lists.{among_last, among_left, last_among, same_or}

@@ -5,7 +5,7 @@ use Rattle.std.proofs.lemmas.Option.{slice_get_within}
 use Rattle.kilim_classes.specs.declared.class.Method.{Method}
 use Rattle.kilim_classes.specs.declared.instr.Instr.{Instr}
 use Rattle.kilim_classes.specs.Lengths.{fetched, first_place}
-use Rattle.kilim_lookups.specs.Places.{Rising}
+use Rattle.kilim_classes.specs.lookups.Places.{Rising}
 use Rattle.kilim_typing.specs.Typed.{Among, GoesOn, IsLive, Live, ReadsIt, reads, writes}
 use Rattle.kilim_liveness.specs.Marks.{AreBefore, AreColumns, EachBelow, EachReadBelow, EachUpTo, Goes, Grown, IsColumn, Marks, NoneReads, Opens, Passes, ReadMarked, ReadsMarked, is_marked}
 use Rattle.kilim_liveness.specs.Table.{live_in}

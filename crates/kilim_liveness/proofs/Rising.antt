@@ -5,7 +5,7 @@ use Rattle.std.proofs.lemmas.Option.{slice_get_within}
 use Rattle.kilim_classes.specs.declared.class.Method.{Method}
 use Rattle.kilim_classes.specs.declared.instr.Instr.{Instr}
 use Rattle.kilim_classes.specs.Lengths.{fetched, first_place}
-use Rattle.kilim_lookups.specs.Places.{Rising}
+use Rattle.kilim_classes.specs.lookups.Places.{Rising}
 use Rattle.kilim_typing.specs.Paths.{Edge, Done, IsEdge, Leads}
 use Rattle.kilim_typing.specs.Typed.{Among, edges}
 use Rattle.kilim_liveness.specs.Edges.{AreEdges, Has, Increases, IsBefore}

@@ -2,7 +2,7 @@
 
 ghost use Rattle.std.specs.Prelude.{◌≡◌, ◌++◌, ◌∷◌, ◌+◌, ◌<◌, [], Some, length, get_or, set, slice_get, drop, IfOk, OnOk};
 ghost use Rattle.kilim_classes.specs.Lengths.{first_place};
-ghost use Rattle.kilim_lookups.specs.Places.{Rising};
+ghost use Rattle.kilim_classes.specs.lookups.Places.{Rising};
 ghost use Rattle.kilim_typing.specs.Typed.{edges};
 ghost use Rattle.kilim_liveness.specs.Marks.{AreBefore, AreEmpty, Further};
 

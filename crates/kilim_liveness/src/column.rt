@@ -1,7 +1,7 @@
 //! Where one local is live: a search from the instructions that read it, against the flow.
 
 ghost use Rattle.std.specs.Prelude.{◌≡◌, ◌<◌, ℕ, true, false, [], replicate, length, get_or, set, if◌then◌else◌, IfOk, OnOk};
-ghost use Rattle.kilim_lookups.specs.Places.{Rising};
+ghost use Rattle.kilim_classes.specs.lookups.Places.{Rising};
 ghost use Rattle.kilim_typing.specs.Typed.{Among, reads, writes};
 ghost use Rattle.kilim_liveness.specs.Marks.{AreBefore, EachBelow, Grown, IsColumn, Marks, Opens, ReadsMarked, is_marked};
 

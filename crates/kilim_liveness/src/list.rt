@@ -1,7 +1,7 @@
 //! The list of a method's flow edges.
 
 ghost use Rattle.std.specs.Prelude.{◌≡◌, ◌++◌, ◌<◌, length, map, IfOk, OnOk};
-ghost use Rattle.kilim_lookups.specs.Places.{Rising};
+ghost use Rattle.kilim_classes.specs.lookups.Places.{Rising};
 ghost use Rattle.kilim_liveness.specs.Edges.{AreEdges};
 ghost use Rattle.kilim_liveness.specs.Listing.{InOrder, Further, from_to};
 

@@ -1,7 +1,7 @@
 //! Where each local is live.
 
 ghost use Rattle.std.specs.Prelude.{◌≡◌, ◌⊎◌, ◌≤◌, ◌<◌, ◌^◌, ℕ, true, false, List, Bool, length, IfOk};
-ghost use Rattle.kilim_lookups.specs.Places.{Rising};
+ghost use Rattle.kilim_classes.specs.lookups.Places.{Rising};
 ghost use Rattle.kilim_typing.specs.Typed.{IsLive, reads};
 ghost use Rattle.kilim_liveness.specs.Marks.{AreBefore, AreColumns, EachBelow, EachReadBelow, IsColumn, NoneReads, ReadMarked, is_marked};
 ghost use Rattle.kilim_liveness.specs.Table.{live_in};

@@ -5,8 +5,8 @@ use Rattle.std.proofs.Math.ListN.{length-set}
 use Rattle.std.specs.FinMap.{empty, get, insert, remove, get-empty}
 use Rattle.std.specs.List.{AllByRecursion}
 use Rattle.std.specs.Ordering.{nat_cmp}
-use Rattle.kilim_program.specs.declared.value.Object.{Object}
-use Rattle.kilim_program.specs.Machine.{Objects}
+use Rattle.kilim_classes.specs.declared.machine.value.Object.{Object}
+use Rattle.kilim_classes.specs.machine.Machine.{Objects}
 use Rattle.kilim_machine_parts.specs.Places.{objects_from, IsArena, AllDiffer, IsFreeAt, taken}
 use Rattle.kilim_machine_parts.proofs.Maps.{got-there, got-other, gone-there, gone-other, same_objects}
 

@@ -3,11 +3,11 @@ use Rattle.std.proofs.Common.{◌≡◌, ℕ, zero, suc, ◌+◌, ◌<◌, ◌==
 use Rattle.std.specs.Prelude.{IsSome, slice_get, if◌then◌else◌}
 use Rattle.std.specs.FinMap.{get, insert}
 use Rattle.kilim_classes.specs.declared.names.FieldId.{FieldId}
-use Rattle.kilim_program.specs.declared.value.Object.{Object}
+use Rattle.kilim_classes.specs.declared.machine.value.Object.{Object}
 use Rattle.kilim_classes.specs.declared.value.Value.{Value}
-use Rattle.kilim_program.specs.Machine.{Objects}
+use Rattle.kilim_classes.specs.machine.Machine.{Objects}
 use Rattle.kilim_classes.specs.Names.{◌>>=◌}
-use Rattle.kilim_program.specs.Shapes.{field_in}
+use Rattle.kilim_classes.specs.machine.Shapes.{field_in}
 use Rattle.kilim_machine_parts.specs.Places.{IsPlaceOf, IsArena, objects_from}
 use Rattle.kilim_machine_parts.specs.Words.{with_field_in, changed, changed_to, element_at, field_at}
 use Rattle.kilim_machine_parts.proofs.Arena.{still_arena, now_replaced, found_in}

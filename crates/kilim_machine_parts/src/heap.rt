@@ -3,11 +3,11 @@
 ghost use Rattle.std.specs.Prelude.{◌≡◌, ◌<◌, ◌≤◌, ◌++◌, ◌∷◌, [], length, Some, None, IfOk, IfErr, IsSome, slice_index_or, slice_set, vec_len, vec_capacity};
 ghost use Rattle.std.specs.FinMap.{empty, get, insert, remove as without};
 ghost use Rattle.kilim_machine_parts.specs.Words.{IsThere, class_at, length_at, field_at, element_at, with_field_in, with_field, with_element};
-ghost use Rattle.kilim_program.specs.Shapes.{field_in};
+ghost use Rattle.kilim_classes.specs.machine.Shapes.{field_in};
 ghost use Rattle.kilim_machine_parts.specs.Places.{IsArena, IsPlaceOf};
 
 use kilim_classes::{FieldId, Ty, Value};
-use kilim_program::Object;
+use kilim_classes::machine::Object;
 use kilim_units::Seq;
 use std::alloc::Global;
 use std::marker::Model;
@@ -21,12 +21,12 @@ pub struct Heap {
 }
 
 impl Model for Heap {
-    ghost use Rattle.kilim_program.specs.Machine.{Objects};
+    ghost use Rattle.kilim_classes.specs.machine.Machine.{Objects};
     ghost use Rattle.kilim_machine_parts.specs.Places.{objects_from, IsArena};
     ghost use Rattle.std.specs.Prelude.{vec_capacity};
     ghost use Rattle.std.specs.Coded.{coded_ℕ};
     ghost use Rattle.std.specs.FinMap.{code};
-    ghost use Rattle.kilim_program.specs.contracts.value.Object as object;
+    ghost use Rattle.kilim_classes.specs.contracts.machine.value.Object as object;
 
     ghost Value = { Objects };
 

@@ -6,8 +6,8 @@ use Rattle.kilim_classes.specs.declared.names.MethodId.{MethodId}
 use Rattle.kilim_classes.specs.declared.value.Value.{Value}
 use Rattle.kilim_classes.specs.Names.{method_at}
 use Rattle.kilim_classes.specs.Program.{Program}
-use Rattle.kilim_program.specs.Machine.{Activation, Objects}
-use Rattle.kilim_program.specs.Moves.{Move, effect_of, move_by, moves}
+use Rattle.kilim_classes.specs.machine.Machine.{Activation, Objects}
+use Rattle.kilim_classes.specs.machine.Moves.{Move, effect_of, move_by, moves}
 use Rattle.kilim_machine_parts.specs.declared.frames.frames.Frames.{Frames}
 use Rattle.kilim_machine_parts.specs.frames.Calls.{activation, below_of, calls_of}
 use Rattle.kilim_rows.specs.declared.outcome.Moved.{Moved}

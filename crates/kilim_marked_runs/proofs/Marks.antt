@@ -9,7 +9,7 @@ use Rattle.kilim_classes.specs.declared.names.MethodId.{MethodId}
 use Rattle.kilim_classes.specs.Names.{method_at}
 use Rattle.kilim_classes.specs.Program.{Program}
 use Rattle.kilim_classes.specs.Lengths.{first_place}
-use Rattle.kilim_lookups.specs.Places.{Above, Rising}
+use Rattle.kilim_classes.specs.lookups.Places.{Above, Rising}
 use Rattle.kilim_woven_runs.specs.Fibers.{marked, marks_of, wcode_in}
 use Rattle.kilim_marked_runs.specs.Marks.{IsMark, IsMarked, IsNumber}
 

@@ -2,7 +2,7 @@
 use Rattle.std.specs.Prelude.{◌≡◌, ℕ, suc, ◌<◌, ◌≤◌, Bool, true, false, ◌&&◌, List, ◌∷◌, reverse, take, length}
 use Rattle.kilim_classes.specs.declared.names.MethodId.{MethodId}
 use Rattle.kilim_classes.specs.Program.{Program}
-use Rattle.kilim_program.specs.Machine.{Activation, Objects}
+use Rattle.kilim_classes.specs.machine.Machine.{Activation, Objects}
 use Rattle.kilim_machine_parts.specs.declared.frames.frames.Frames.{Frames}
 use Rattle.kilim_machine_parts.specs.frames.Calls.{calls_of}
 use Rattle.kilim_jvm_interp.specs.Run.{IsFine, LastSteps, StepsTo}

@@ -1,7 +1,7 @@
 //! Instructions and their marks by their places.
 
 ghost use Rattle.std.specs.Prelude.{◌≡◌, ◌<◌, IfSome, Some, length, slice_get};
-ghost use Rattle.kilim_lookups.specs.Places.{Rising};
+ghost use Rattle.kilim_classes.specs.lookups.Places.{Rising};
 ghost use Rattle.kilim_woven_runs.specs.Fibers.{marks_of};
 ghost use Rattle.kilim_marked_runs.specs.Marks.{IsNumber};
 

@@ -12,6 +12,7 @@ mod memory_folder;
 mod memory_sink;
 mod real;
 mod sink;
+pub mod words;
 
 pub use folder::{FailedCall, Folder, FolderFault};
 pub use gate::{Gate, HoldGate, NoteGate, OpenGate};

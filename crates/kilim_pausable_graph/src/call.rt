@@ -6,7 +6,7 @@ ghost use Rattle.kilim_typing.specs.Step as step;
 ghost use Rattle.kilim_pausable_graph.specs.Pausing as spec;
 
 use kilim_classes::{Frame, Instr, Method, Program, Qualifier, VType};
-use kilim_lookups::method_at;
+use kilim_classes::lookups::method_at;
 
 fn is_free(qualifier: Qualifier) -> bool
     ensures { result ≡ spec.is_free qualifier }

@@ -12,7 +12,7 @@ use crate::member_name_text;
 use crate::names::named_text;
 use crate::texts::joined;
 use kilim_classes::{ClassId, Method, MethodId, Program};
-use kilim_lookups::{class_at, method_at};
+use kilim_classes::lookups::{class_at, method_at};
 use kilim_pausable_graph::Report;
 use kilim_units::{NoMemory, Units};
 use std::alloc::Global;

@@ -4,9 +4,9 @@ use Rattle.kilim_classes.specs.declared.class.Method.{Method}
 use Rattle.kilim_classes.specs.declared.instr.Instr.TheVariants.{Dup2X1, Dup2X2}
 use Rattle.kilim_classes.specs.declared.value.Value.{Value}
 use Rattle.kilim_classes.specs.Program.{Program}
-use Rattle.kilim_program.specs.Machine.{Objects}
-use Rattle.kilim_program.specs.Effect.{Effect, Goes, is_wide, when, wide_or}
-use Rattle.kilim_program.specs.Does.{does}
+use Rattle.kilim_classes.specs.machine.Machine.{Objects}
+use Rattle.kilim_classes.specs.machine.Effect.{Effect, Goes, is_wide, when, wide_or}
+use Rattle.kilim_classes.specs.machine.Does.{does}
 use Rattle.kilim_rows.specs.Outcome.{is_stuck}
 
 -- no long on top, and one word behind it

@@ -2,7 +2,7 @@
 use Rattle.std.specs.Prelude.{ℕ, ℤ, pos, Bool, true, false, not, int_lt, int_rem}
 use Rattle.std.specs.Int.{w32, w64, int_wrapping_add, int_wrapping_sub, int_wrapping_mul, int_wrapping_div, int_wrapping_neg, int_bit_and, int_bit_or, int_bit_xor}
 use Rattle.std.specs.Ordering.{int_eq}
-use Rattle.kilim_program.specs.Does.{shifted_left, shifted_right, shifted_down, long_left, long_right, long_down, to_byte, to_char, to_short}
+use Rattle.kilim_classes.specs.machine.Does.{shifted_left, shifted_right, shifted_down, long_left, long_right, long_down, to_byte, to_char, to_short}
 use Rattle.kilim_rows.specs.declared.numbers.Binary.{Binary}
 use Rattle.kilim_rows.specs.declared.numbers.Binary.TheVariants.{Add, Sub, Mul, And, Or, Xor}
 use Rattle.kilim_rows.specs.declared.numbers.Division.{Division}

@@ -1,7 +1,7 @@
 //! Jumps (JVMS 2.11.7).
 
 ghost use Rattle.std.specs.Prelude.{◌≡◌, ◌≤◌, false, pos};
-ghost use Rattle.kilim_program.specs.Does.{does, int_jump, compare_jump, reference_jump, null_jump, same_reference, is_null, table_target, match_target};
+ghost use Rattle.kilim_classes.specs.machine.Does.{does, int_jump, compare_jump, reference_jump, null_jump, same_reference, is_null, table_target, match_target};
 ghost use Rattle.kilim_classes.specs.declared.instr.Instr.TheVariants.{Tableswitch, Lookupswitch};
 ghost use Rattle.kilim_rows.specs.Operations.{holds, kept_if};
 ghost use Rattle.kilim_rows.specs.Outcome.{is_stuck, height, Shows, SameFrame};
@@ -108,7 +108,7 @@ pub fn jump_on_null(
 }
 
 /// `tableswitch`.
-#[tactic(auto, unfolding(kilim_program::specs::Does::does))]
+#[tactic(auto, unfolding(kilim_classes::specs::machine::Does::does))]
 #[inline(always)]
 pub fn jump_by_table(
     default: u32,
@@ -130,7 +130,7 @@ pub fn jump_by_table(
 }
 
 /// `lookupswitch`.
-#[tactic(auto, unfolding(kilim_program::specs::Does::does))]
+#[tactic(auto, unfolding(kilim_classes::specs::machine::Does::does))]
 #[inline(always)]
 pub fn jump_by_match(
     default: u32,

@@ -1,8 +1,8 @@
 //! Constants, local variables and the forms that move words of the stack (JVMS 2.11.2 and 2.11.7).
 
 ghost use Rattle.std.specs.Prelude.{◌≡◌, ◌≤◌, ◌<◌, ◌∷◌, false, length, IfOk};
-ghost use Rattle.kilim_program.specs.Does.{does};
-ghost use Rattle.kilim_program.specs.Effect.{Goes, as_reference};
+ghost use Rattle.kilim_classes.specs.machine.Does.{does};
+ghost use Rattle.kilim_classes.specs.machine.Effect.{Goes, as_reference};
 ghost use Rattle.kilim_classes.specs.declared.instr.Instr.TheVariants.{Ldc, LdcW, Ldc2W, Iload, Lload, Aload, Istore, Lstore, Astore, Iinc, Pop, Pop2, Dup, DupX1, DupX2, Dup2, Dup2X1, Dup2X2, Swap};
 ghost use Rattle.kilim_rows.specs.Outcome.{is_stuck, height, Shows, SameFrame};
 
@@ -23,7 +23,7 @@ pub fn constant(value: Value, own: &Method, next: u32, frame: &mut Frame, heap: 
 }
 
 /// `ldc`.
-#[tactic(auto, unfolding(kilim_program::specs::Does::does))]
+#[tactic(auto, unfolding(kilim_classes::specs::machine::Does::does))]
 #[inline(always)]
 pub fn load_ldc(
     value: &Value,
@@ -48,7 +48,7 @@ pub fn load_ldc(
 }
 
 /// `ldc_w`.
-#[tactic(auto, unfolding(kilim_program::specs::Does::does))]
+#[tactic(auto, unfolding(kilim_classes::specs::machine::Does::does))]
 #[inline(always)]
 pub fn load_ldcw(
     value: &Value,
@@ -73,7 +73,7 @@ pub fn load_ldcw(
 }
 
 /// `ldc2_w`.
-#[tactic(auto, unfolding(kilim_program::specs::Does::does))]
+#[tactic(auto, unfolding(kilim_classes::specs::machine::Does::does))]
 #[inline(always)]
 pub fn load_ldc2w(
     value: &Value,
@@ -98,7 +98,7 @@ pub fn load_ldc2w(
 }
 
 /// `iload`.
-#[tactic(auto, unfolding(kilim_program::specs::Does::does))]
+#[tactic(auto, unfolding(kilim_classes::specs::machine::Does::does))]
 #[inline(always)]
 pub fn load_int(
     slot: u16,
@@ -124,7 +124,7 @@ pub fn load_int(
 }
 
 /// `lload`.
-#[tactic(auto, unfolding(kilim_program::specs::Does::does))]
+#[tactic(auto, unfolding(kilim_classes::specs::machine::Does::does))]
 #[inline(always)]
 pub fn load_long(
     slot: u16,
@@ -150,7 +150,7 @@ pub fn load_long(
 }
 
 /// `aload`.
-#[tactic(auto, unfolding(kilim_program::specs::Does::does))]
+#[tactic(auto, unfolding(kilim_classes::specs::machine::Does::does))]
 #[inline(always)]
 pub fn load_reference(
     slot: u16,
@@ -175,7 +175,7 @@ pub fn load_reference(
 }
 
 /// `istore`.
-#[tactic(auto, unfolding(kilim_program::specs::Does::does))]
+#[tactic(auto, unfolding(kilim_classes::specs::machine::Does::does))]
 #[inline(always)]
 pub fn store_int(
     slot: u16,
@@ -196,7 +196,7 @@ pub fn store_int(
 }
 
 /// `lstore`.
-#[tactic(auto, unfolding(kilim_program::specs::Does::does))]
+#[tactic(auto, unfolding(kilim_classes::specs::machine::Does::does))]
 #[inline(always)]
 pub fn store_long(
     slot: u16,
@@ -217,7 +217,7 @@ pub fn store_long(
 }
 
 /// `astore`.
-#[tactic(auto, unfolding(kilim_program::specs::Does::does))]
+#[tactic(auto, unfolding(kilim_classes::specs::machine::Does::does))]
 #[inline(always)]
 pub fn store_reference(
     slot: u16,
@@ -238,7 +238,7 @@ pub fn store_reference(
 }
 
 /// `iinc`.
-#[tactic(auto, unfolding(kilim_program::specs::Does::does))]
+#[tactic(auto, unfolding(kilim_classes::specs::machine::Does::does))]
 #[inline(always)]
 pub fn increase(
     slot: u16,

@@ -1,7 +1,7 @@
 //! Arithmetic on ints and longs (JVMS 2.11.3 and 2.11.4).
 
 ghost use Rattle.std.specs.Prelude.{◌≡◌, ◌≤◌, false};
-ghost use Rattle.kilim_program.specs.Does.{int_binary, int_division, int_unary, long_binary, long_division, long_shift, compared, to_byte, to_char, to_short, to_int, does};
+ghost use Rattle.kilim_classes.specs.machine.Does.{int_binary, int_division, int_unary, long_binary, long_division, long_shift, compared, to_byte, to_char, to_short, to_int, does};
 ghost use Rattle.kilim_classes.specs.declared.instr.Instr.TheVariants.{I2l, L2i, Lneg, Lcmp};
 ghost use Rattle.kilim_rows.specs.Operations.{int_of, long_of, int_quotient, long_quotient, int_shift, long_shift_of, int_of_one, holds};
 ghost use Rattle.kilim_rows.specs.Outcome.{is_stuck, height, Shows, SameFrame};
@@ -11,7 +11,7 @@ use crate::outcome::Moved;
 use kilim_classes::{Method, Program, Value};
 use kilim_machine_parts::Heap;
 use kilim_machine_parts::frames::Frame;
-use kilim_program::EndCause;
+use kilim_classes::machine::EndCause;
 
 /// An operation on two numbers that always has an answer.
 #[derive(Clone, Copy)]
@@ -344,7 +344,7 @@ pub fn shift_long(shift: Shift, own: &Method, next: u32, frame: &mut Frame, heap
 }
 
 /// `lneg`.
-#[tactic(auto, unfolding(kilim_program::specs::Does::does))]
+#[tactic(auto, unfolding(kilim_classes::specs::machine::Does::does))]
 #[inline(always)]
 pub fn negate_long(
     program: &Program,
@@ -364,7 +364,7 @@ pub fn negate_long(
 }
 
 /// `lcmp`.
-#[tactic(auto, unfolding(kilim_program::specs::Does::does))]
+#[tactic(auto, unfolding(kilim_classes::specs::machine::Does::does))]
 #[inline(always)]
 pub fn compare_longs(
     program: &Program,
@@ -385,7 +385,7 @@ pub fn compare_longs(
 }
 
 /// `i2l`.
-#[tactic(auto, unfolding(kilim_program::specs::Does::does))]
+#[tactic(auto, unfolding(kilim_classes::specs::machine::Does::does))]
 #[inline(always)]
 pub fn int_to_long(
     program: &Program,
@@ -405,7 +405,7 @@ pub fn int_to_long(
 }
 
 /// `l2i`.
-#[tactic(auto, unfolding(kilim_program::specs::Does::does))]
+#[tactic(auto, unfolding(kilim_classes::specs::machine::Does::does))]
 #[inline(always)]
 pub fn long_to_int(
     program: &Program,

@@ -1,7 +1,7 @@
 //! Fields and arrays (JVMS 2.11.5).
 
 ghost use Rattle.std.specs.Prelude.{◌≡◌, ◌≤◌, false, pos, None, IsSome, MatchOption};
-ghost use Rattle.kilim_program.specs.Does.{does, loads_int, stores_int, narrowed_int, narrowed_to};
+ghost use Rattle.kilim_classes.specs.machine.Does.{does, loads_int, stores_int, narrowed_int, narrowed_to};
 ghost use Rattle.kilim_classes.specs.declared.instr.Instr.TheVariants.{Getfield, Putfield, Getstatic, Arraylength, Laload, Aaload, Iastore, Lastore};
 ghost use Rattle.kilim_machine_parts.specs.Words.{IsThere, element_at};
 ghost use Rattle.kilim_rows.specs.Outcome.{is_stuck, height, Shows, SameFrame, found_in};
@@ -11,10 +11,10 @@ use crate::outcome::Moved;
 use kilim_classes::{Base, FieldId, Method, Program, Ty, Value};
 use kilim_machine_parts::Heap;
 use kilim_machine_parts::frames::Frame;
-use kilim_program::EndCause;
+use kilim_classes::machine::EndCause;
 
 /// `getfield`.
-#[tactic(auto, unfolding(kilim_program::specs::Does::does))]
+#[tactic(auto, unfolding(kilim_classes::specs::machine::Does::does))]
 #[inline(always)]
 pub fn read_field(
     field: FieldId,
@@ -42,7 +42,7 @@ pub fn read_field(
 }
 
 /// `putfield`. An int is narrowed to the field's type.
-#[tactic(auto, unfolding(kilim_program::specs::Does::does))]
+#[tactic(auto, unfolding(kilim_classes::specs::machine::Does::does))]
 #[inline(always)]
 pub fn write_field(
     field: FieldId,
@@ -67,7 +67,7 @@ pub fn write_field(
 }
 
 /// `getstatic`: the constant of the field.
-#[tactic(auto, unfolding(kilim_program::specs::Does::does))]
+#[tactic(auto, unfolding(kilim_classes::specs::machine::Does::does))]
 #[inline(always)]
 pub fn read_constant(
     field: FieldId,
@@ -96,7 +96,7 @@ pub fn read_constant(
 }
 
 /// `arraylength`.
-#[tactic(auto, unfolding(kilim_program::specs::Does::does))]
+#[tactic(auto, unfolding(kilim_classes::specs::machine::Does::does))]
 #[inline(always)]
 pub fn array_length(
     program: &Program,
@@ -145,7 +145,7 @@ pub fn read_int(own: &Method, next: u32, frame: &mut Frame, heap: &Heap) -> Move
 }
 
 /// `laload`.
-#[tactic(auto, unfolding(kilim_program::specs::Does::does))]
+#[tactic(auto, unfolding(kilim_classes::specs::machine::Does::does))]
 #[inline(always)]
 pub fn read_long(
     program: &Program,
@@ -177,7 +177,7 @@ pub fn read_long(
 }
 
 /// `aaload`.
-#[tactic(auto, unfolding(kilim_program::specs::Does::does))]
+#[tactic(auto, unfolding(kilim_classes::specs::machine::Does::does))]
 #[inline(always)]
 pub fn read_reference(
     program: &Program,
@@ -208,7 +208,7 @@ pub fn read_reference(
 }
 
 /// `iastore`.
-#[tactic(auto, unfolding(kilim_program::specs::Does::does))]
+#[tactic(auto, unfolding(kilim_classes::specs::machine::Does::does))]
 #[inline(always)]
 pub fn write_int(
     program: &Program,
@@ -256,7 +256,7 @@ pub fn write_narrowed(own: &Method, next: u32, frame: &mut Frame, heap: &mut Hea
 }
 
 /// `lastore`.
-#[tactic(auto, unfolding(kilim_program::specs::Does::does))]
+#[tactic(auto, unfolding(kilim_classes::specs::machine::Does::does))]
 #[inline(always)]
 pub fn write_long(
     program: &Program,

@@ -1,7 +1,7 @@
 //! What came of an instruction.
 
 use kilim_classes::MethodId;
-use kilim_program::EndCause;
+use kilim_classes::machine::EndCause;
 
 /// What came of an instruction of a frame. Where it calls, asks or returns, the arguments or the value are still on the
 /// frame's stack.

@@ -1,8 +1,8 @@
 //! What references refer to: `checkcast`, `instanceof` and `aastore` (JVMS 2.11.5).
 
 ghost use Rattle.std.specs.Prelude.{◌≡◌, ◌≤◌, false, true, codes, Some, IfOk};
-ghost use Rattle.kilim_program.specs.Does.{does, cast_fits, is_instance, element_type};
-ghost use Rattle.kilim_program.specs.Effect.{named_type};
+ghost use Rattle.kilim_classes.specs.machine.Does.{does, cast_fits, is_instance, element_type};
+ghost use Rattle.kilim_classes.specs.machine.Effect.{named_type};
 ghost use Rattle.kilim_classes.specs.declared.instr.Instr.TheVariants.{Checkcast, Instanceof, Aastore};
 ghost use Rattle.kilim_rows.specs.Types.{is_found, type_at};
 ghost use Rattle.kilim_rows.specs.Outcome.{is_stuck, height, Shows, SameFrame};
@@ -10,10 +10,10 @@ ghost use Rattle.kilim_rows.specs.Outcome.{is_stuck, height, Shows, SameFrame};
 use crate::objects::index_in;
 use crate::outcome::Moved;
 use kilim_classes::{Base, Method, Program, Ty, Value};
-use kilim_lookups::class_named;
+use kilim_classes::lookups::class_named;
 use kilim_machine_parts::Heap;
 use kilim_machine_parts::frames::Frame;
-use kilim_program::EndCause;
+use kilim_classes::machine::EndCause;
 use kilim_units::NoMemory;
 
 /// The class or array type of what a reference refers to, none of null. Want of memory comes only where a class has no
@@ -74,7 +74,7 @@ fn element_type(ty: Ty) -> Ty
 }
 
 /// `checkcast`.
-#[tactic(auto, unfolding(kilim_program::specs::Does::does))]
+#[tactic(auto, unfolding(kilim_classes::specs::machine::Does::does))]
 #[inline(always)]
 pub fn cast(
     ty: &Ty,
@@ -102,7 +102,7 @@ pub fn cast(
 }
 
 /// `instanceof`.
-#[tactic(auto, unfolding(kilim_program::specs::Does::does))]
+#[tactic(auto, unfolding(kilim_classes::specs::machine::Does::does))]
 #[inline(always)]
 pub fn test_type(
     ty: &Ty,
@@ -131,7 +131,7 @@ pub fn test_type(
 }
 
 /// `aastore`.
-#[tactic(auto, unfolding(kilim_program::specs::Does::does))]
+#[tactic(auto, unfolding(kilim_classes::specs::machine::Does::does))]
 #[inline(always)]
 pub fn write_reference(
     program: &Program,

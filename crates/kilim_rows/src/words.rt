@@ -1,8 +1,8 @@
 //! The forms that move words of the stack (JVMS 2.11.7). A long is one value and two words.
 
 ghost use Rattle.std.specs.Prelude.{◌≡◌, ◌≤◌, ◌+◌, ◌∷◌, false, length, IfOk};
-ghost use Rattle.kilim_program.specs.Does.{does};
-ghost use Rattle.kilim_program.specs.Effect.{is_wide};
+ghost use Rattle.kilim_classes.specs.machine.Does.{does};
+ghost use Rattle.kilim_classes.specs.machine.Effect.{is_wide};
 ghost use Rattle.kilim_classes.specs.declared.instr.Instr.TheVariants.{Pop, Pop2, Dup, DupX1, DupX2, Dup2, Dup2X1, Dup2X2, Swap};
 ghost use Rattle.kilim_rows.specs.Outcome.{is_stuck, height, Shows, SameFrame};
 
@@ -13,7 +13,7 @@ use kilim_machine_parts::frames::Frame;
 use std::alloc::AllocError;
 
 /// `pop`.
-#[tactic(auto, unfolding(kilim_program::specs::Does::does))]
+#[tactic(auto, unfolding(kilim_classes::specs::machine::Does::does))]
 #[inline(always)]
 pub fn pop_word(program: &Program, own: &Method, next: u32, frame: &mut Frame, heap: &Heap) -> Moved
     requires fine { is_stuck (does program.now own.now Pop next frame.old.locals frame.old.stack.values heap.now) ≡ false }
@@ -26,7 +26,7 @@ pub fn pop_word(program: &Program, own: &Method, next: u32, frame: &mut Frame, h
 }
 
 /// `pop2`.
-#[tactic(auto, unfolding(kilim_program::specs::Does::does))]
+#[tactic(auto, unfolding(kilim_classes::specs::machine::Does::does))]
 #[inline(always)]
 pub fn pop_two(program: &Program, own: &Method, next: u32, frame: &mut Frame, heap: &Heap) -> Moved
     requires fine { is_stuck (does program.now own.now Pop2 next frame.old.locals frame.old.stack.values heap.now) ≡ false }
@@ -42,7 +42,7 @@ pub fn pop_two(program: &Program, own: &Method, next: u32, frame: &mut Frame, he
 }
 
 /// `dup`.
-#[tactic(auto, unfolding(kilim_program::specs::Does::does))]
+#[tactic(auto, unfolding(kilim_classes::specs::machine::Does::does))]
 #[inline(always)]
 pub fn copy_word(
     program: &Program,
@@ -65,7 +65,7 @@ pub fn copy_word(
 }
 
 /// `dup_x1`.
-#[tactic(auto, unfolding(kilim_program::specs::Does::does))]
+#[tactic(auto, unfolding(kilim_classes::specs::machine::Does::does))]
 #[inline(always)]
 pub fn copy_below_one(
     program: &Program,
@@ -89,7 +89,7 @@ pub fn copy_below_one(
 }
 
 /// `swap`.
-#[tactic(auto, unfolding(kilim_program::specs::Does::does))]
+#[tactic(auto, unfolding(kilim_classes::specs::machine::Does::does))]
 #[inline(always)]
 pub fn swap_words(
     program: &Program,
@@ -110,7 +110,7 @@ pub fn swap_words(
 }
 
 /// `dup_x2`.
-#[tactic(auto, unfolding(kilim_program::specs::Does::does))]
+#[tactic(auto, unfolding(kilim_classes::specs::machine::Does::does))]
 #[inline(always)]
 pub fn copy_below_two(
     program: &Program,
@@ -140,7 +140,7 @@ pub fn copy_below_two(
 }
 
 /// `dup2`.
-#[tactic(auto, unfolding(kilim_program::specs::Does::does))]
+#[tactic(auto, unfolding(kilim_classes::specs::machine::Does::does))]
 #[inline(always)]
 pub fn copy_two(program: &Program, own: &Method, next: u32, frame: &mut Frame, heap: &Heap) -> Moved
     requires fine { is_stuck (does program.now own.now Dup2 next frame.old.locals frame.old.stack.values heap.now) ≡ false }
@@ -166,7 +166,7 @@ pub fn copy_two(program: &Program, own: &Method, next: u32, frame: &mut Frame, h
 }
 
 /// `dup2_x1`.
-#[tactic(auto, unfolding(kilim_program::specs::Does::does))]
+#[tactic(auto, unfolding(kilim_classes::specs::machine::Does::does))]
 #[inline(always)]
 pub fn copy_two_below_one(
     program: &Program,
@@ -199,7 +199,7 @@ pub fn copy_two_below_one(
 }
 
 /// `dup2_x2`.
-#[tactic(auto, unfolding(kilim_program::specs::Does::does))]
+#[tactic(auto, unfolding(kilim_classes::specs::machine::Does::does))]
 #[inline(always)]
 pub fn copy_two_below_two(
     program: &Program,

@@ -2,10 +2,10 @@
 use Rattle.std.proofs.Common.{◌≡◌, ℕ, zero, suc, ◌+◌, Bool, true, false, cond, List, [], ◌∷◌, ◌++◌, length, length-append, Option, Some, None, refl, sym, ap, subst, ◌∙◌, arith}
 use Rattle.kilim_classes.specs.Program.{Program}
 use Rattle.kilim_classes.specs.declared.ty.Ty.{Ty}
-use Rattle.kilim_program.specs.declared.value.Object.{Object}
-use Rattle.kilim_program.specs.declared.value.Token.{Token}
-use Rattle.kilim_program.specs.declared.value.Token.TheVariants as token
-use Rattle.kilim_program.specs.Trees.{Read, Reads, Root, type_named, object_of, closed, behind, and_then, read_value, read_values, is_allowed, root_alone, built}
+use Rattle.kilim_classes.specs.declared.machine.value.Object.{Object}
+use Rattle.kilim_classes.specs.declared.machine.value.Token.{Token}
+use Rattle.kilim_classes.specs.declared.machine.value.Token.TheVariants as token
+use Rattle.kilim_classes.specs.machine.Trees.{Read, Reads, Root, type_named, object_of, closed, behind, and_then, read_value, read_values, is_allowed, root_alone, built}
 use Rattle.kilim_thread_model.specs.Alone.{BuiltAnywhere}
 
 -- what was read under other names: as many objects, and the same is left

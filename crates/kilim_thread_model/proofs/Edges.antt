@@ -2,17 +2,17 @@
 use Rattle.std.proofs.Common.{◌≡◌, ℕ, suc, ◌+◌, ◌<◌, ◌≤◌, Bool, true, false, cond, List, [], ◌∷◌, Option, Some, None, length, refl, sym, ap, ◌∙◌, arith}
 use Rattle.std.specs.Prelude.{◌==◌, ◌&&◌, ℤ, pos, nat_lt, nat_le, count_by}
 use Rattle.std.proofs.lemmas.Bool.{lt-leb, le-leb, lt-ltb, le-ltb, eq-eqb}
-use Rattle.kilim_program.specs.declared.cause.EndCause.TheVariants.{Boxes, Depth, Done, Index, Large, Null, Spent, Tasks}
-use Rattle.kilim_program.specs.declared.value.Token.{Token}
+use Rattle.kilim_classes.specs.declared.machine.cause.EndCause.TheVariants.{Boxes, Depth, Done, Index, Large, Null, Spent, Tasks}
+use Rattle.kilim_classes.specs.declared.machine.value.Token.{Token}
 use Rattle.kilim_classes.specs.declared.value.Value.TheVariants as value
 use Rattle.kilim_classes.specs.declared.names.BoxName.{BoxName}
 use Rattle.kilim_classes.specs.Names.{◌>>=◌}
 use Rattle.kilim_journal.specs.declared.entry.Act.{Act}
 use Rattle.kilim_journal.specs.declared.entry.Act.TheVariants.{Start, End}
-use Rattle.kilim_program.specs.Machine.{Activation}
-use Rattle.kilim_program.specs.Moves.{Move, called, entered, receiver_of, Enters}
-use Rattle.kilim_program.specs.Moves as move
-use Rattle.kilim_program.specs.Shapes.{tree_limit, is_open, shape_by}
+use Rattle.kilim_classes.specs.machine.Machine.{Activation}
+use Rattle.kilim_classes.specs.machine.Moves.{Move, called, entered, receiver_of, Enters}
+use Rattle.kilim_classes.specs.machine.Moves as move
+use Rattle.kilim_classes.specs.machine.Shapes.{tree_limit, is_open, shape_by}
 use Rattle.kilim_thread_model.specs.State.{Setting, Thread, Alive, State, same_box, with_queue, execute_frames}
 use Rattle.kilim_thread_model.specs.Lone.{Lone, Next, Goes, ended, pushed, narrowed, over, frames_next, thread_next, next_move, get_at, message_next, put_next, start_next, arg_next, arg_at}
 use Rattle.kilim_thread_model.specs.Turn.{Moved, acted, lone_of, with_lone, starts, starts_with, moved_by}

@@ -1,15 +1,15 @@
 -- A run in which task 0 alone acts has one journal; the runs of the program that prints 7.
 use Rattle.std.proofs.Common.{◌≡◌, ℕ, zero, suc, Bool, false, pos, List, [], ◌∷◌, ◌++◌, Option, Some, None, refl, sym, ap, ◌∙◌, subst, arith}
 use Rattle.std.specs.Prelude.{slice_get}
-use Rattle.kilim_program.specs.declared.cause.EndCause.{EndCause}
-use Rattle.kilim_program.specs.declared.cause.EndCause.TheVariants.{Done, Spent}
-use Rattle.kilim_program.specs.declared.value.Token.TheVariants as token
+use Rattle.kilim_classes.specs.declared.machine.cause.EndCause.{EndCause}
+use Rattle.kilim_classes.specs.declared.machine.cause.EndCause.TheVariants.{Done, Spent}
+use Rattle.kilim_classes.specs.declared.machine.value.Token.TheVariants as token
 use Rattle.kilim_classes.specs.declared.value.Value.TheVariants.{Int}
 use Rattle.kilim_journal.specs.declared.entry.Act.{Act}
 use Rattle.kilim_journal.specs.declared.entry.Act.TheVariants.{Print, End}
 use Rattle.kilim_journal.specs.declared.entry.Entry.{Entry}
-use Rattle.kilim_program.specs.Does.{does}
-use Rattle.kilim_program.specs.Moves.{moves}
+use Rattle.kilim_classes.specs.machine.Does.{does}
+use Rattle.kilim_classes.specs.machine.Moves.{moves}
 use Rattle.kilim_thread_model.specs.State.{Setting, Ended, State, first_state}
 use Rattle.kilim_thread_model.specs.Lone.{next_move}
 use Rattle.kilim_thread_model.specs.Turn.{moved, quiet, thread_moved}

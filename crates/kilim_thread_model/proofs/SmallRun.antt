@@ -3,22 +3,22 @@ use Rattle.std.proofs.Common.{◌≡◌, ℕ, suc, ◌+◌, ◌-◌, ◌*◌, �
 use Rattle.std.specs.Prelude.{replicate, ◌||◌, ◌&&◌, codes}
 use Rattle.std.specs.Str.{bytes_eq}
 use Rattle.kilim_classes.specs.Names.{◌>>=◌, method_at}
-use Rattle.kilim_program.specs.Members.{is_own_constructor, constructor_of}
+use Rattle.kilim_classes.specs.machine.Members.{is_own_constructor, constructor_of}
 use Rattle.std.specs.FinMap.{empty, insert}
 use Rattle.std.proofs.lemmas.Bool.{ne_eqb, eq-eqb}
 use Rattle.std.proofs.lemmas.List.{append-nil}
-use Rattle.kilim_program.specs.declared.cause.EndCause.TheVariants.{Done}
+use Rattle.kilim_classes.specs.declared.machine.cause.EndCause.TheVariants.{Done}
 use Rattle.kilim_classes.specs.declared.instr.Instr.{Instr}
 use Rattle.kilim_classes.specs.declared.instr.Instr.TheVariants.{Aload, Bipush, Invokespecial, Invokestatic, Return}
 use Rattle.kilim_classes.specs.declared.value.Value.{Value}
 use Rattle.kilim_classes.specs.declared.value.Value.TheVariants.{Int, Null, Ref}
 use Rattle.kilim_journal.specs.declared.entry.Entry.{Entry}
 use Rattle.kilim_journal.specs.declared.entry.Act.TheVariants.{Print, End}
-use Rattle.kilim_program.specs.declared.value.Token.TheVariants as token
+use Rattle.kilim_classes.specs.declared.machine.value.Token.TheVariants as token
 use Rattle.kilim_classes.specs.BuiltIn.{class_id, method_id}
-use Rattle.kilim_program.specs.Does.{does}
+use Rattle.kilim_classes.specs.machine.Does.{does}
 use Rattle.kilim_classes.specs.Lengths.{fetched, first_place}
-use Rattle.kilim_program.specs.Objects.{new_object}
+use Rattle.kilim_classes.specs.machine.Objects.{new_object}
 use Rattle.kilim_thread_model.specs.State.{is_fit, Setting, Alive, Ended, State, empty_mailbox, first_state}
 use Rattle.kilim_thread_model.specs.Lone.{next_move}
 use Rattle.kilim_thread_model.specs.Turn.{moved, quiet, acted}

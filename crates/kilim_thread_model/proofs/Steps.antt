@@ -2,19 +2,19 @@
 use Rattle.std.proofs.Common.{◌≡◌, ℕ, zero, suc, ◌<◌, Bool, cond, List, [], ◌∷◌, Option, Some, None, refl, sym, ap, subst, ◌∙◌}
 use Rattle.std.specs.Prelude.{slice_get}
 use Rattle.std.proofs.lemmas.Bool.{lt-leb}
-use Rattle.kilim_program.specs.declared.cause.EndCause.{EndCause}
-use Rattle.kilim_program.specs.declared.cause.EndCause.TheVariants as cause
+use Rattle.kilim_classes.specs.declared.machine.cause.EndCause.{EndCause}
+use Rattle.kilim_classes.specs.declared.machine.cause.EndCause.TheVariants as cause
 use Rattle.kilim_classes.specs.declared.class.Method.{Method}
 use Rattle.kilim_classes.specs.declared.class.Program.{Program}
 use Rattle.kilim_classes.specs.declared.instr.Instr.{Instr}
 use Rattle.kilim_journal.specs.declared.entry.Act.{Act}
 use Rattle.kilim_journal.specs.declared.entry.Entry.{Entry}
-use Rattle.kilim_program.specs.Machine.{Objects, Activation}
+use Rattle.kilim_classes.specs.machine.Machine.{Objects, Activation}
 use Rattle.kilim_classes.specs.Names.{method_at}
-use Rattle.kilim_program.specs.Effect.{Effect}
-use Rattle.kilim_program.specs.Does.{does}
+use Rattle.kilim_classes.specs.machine.Effect.{Effect}
+use Rattle.kilim_classes.specs.machine.Does.{does}
 use Rattle.kilim_classes.specs.Lengths.{fetched}
-use Rattle.kilim_program.specs.Moves.{effect_found, effect_in, effect_of, move_by, moves}
+use Rattle.kilim_classes.specs.machine.Moves.{effect_found, effect_in, effect_of, move_by, moves}
 use Rattle.kilim_thread_model.specs.State.{Setting, Thread, Alive, Ended, State, noted}
 use Rattle.kilim_thread_model.specs.Lone.{Lone, Next, over, next_by, frames_next, thread_next, next_move}
 use Rattle.kilim_thread_model.specs.Turn.{Moved, quiet, acted, lone_of, moved_by, thread_moved, moved}

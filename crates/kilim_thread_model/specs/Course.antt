@@ -1,18 +1,18 @@
 -- What a task began with and did, and the thread on a heap of its own that did it.
 use Rattle.std.specs.Prelude.{◌≡◌, ℕ, zero, suc, ◌+◌, Bool, true, false, List, [], ◌∷◌, Option, Some, None, length}
 use Rattle.std.specs.FinMap.{empty, insert}
-use Rattle.kilim_program.specs.declared.cause.EndCause.TheVariants as cause
+use Rattle.kilim_classes.specs.declared.machine.cause.EndCause.TheVariants as cause
 use Rattle.kilim_classes.specs.Program.{Program}
 use Rattle.kilim_classes.specs.declared.names.BoxName.{BoxName}
-use Rattle.kilim_program.specs.declared.value.Object.{Object}
-use Rattle.kilim_program.specs.declared.value.Token.{Token}
+use Rattle.kilim_classes.specs.declared.machine.value.Object.{Object}
+use Rattle.kilim_classes.specs.declared.machine.value.Token.{Token}
 use Rattle.kilim_classes.specs.declared.value.Value.TheVariants.{Null, Ref}
 use Rattle.kilim_journal.specs.declared.entry.Act.{Act}
 use Rattle.kilim_journal.specs.declared.entry.Act.TheVariants.{Put, Take, Empty, Start, Print, End}
-use Rattle.kilim_program.specs.Machine.{Objects, Activation}
-use Rattle.kilim_program.specs.Members.{constructor_of}
-use Rattle.kilim_program.specs.Objects.{new_object}
-use Rattle.kilim_program.specs.Trees.{tree_names, without, with_objects, built, OfMessage, OfTask}
+use Rattle.kilim_classes.specs.machine.Machine.{Objects, Activation}
+use Rattle.kilim_classes.specs.machine.Members.{constructor_of}
+use Rattle.kilim_classes.specs.machine.Objects.{new_object}
+use Rattle.kilim_classes.specs.machine.Trees.{tree_names, without, with_objects, built, OfMessage, OfTask}
 use Rattle.kilim_thread_model.specs.State.{Setting, Alive, begun_on, execute_frames}
 use Rattle.kilim_thread_model.specs.Lone.{Lone, Next, Goes, Puts, Gets, Probes, Starts, Prints, Ends, Stands, pushed, ended, next_move, get_at}
 pub use Rattle.kilim_thread_model.specs.declared.deed.Deed.{Deed}

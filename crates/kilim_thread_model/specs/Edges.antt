@@ -1,20 +1,20 @@
 -- The machine at its edges: each fact beside its neighbour, where something else happens.
 use Rattle.std.specs.Prelude.{◌≡◌, ℕ, suc, ◌+◌, ◌<◌, ◌≤◌, ◌∷◌, ◌++◌, ℤ, pos, negsuc, List, [], Option, Some, None, length, count_by, codes}
-use Rattle.kilim_program.specs.declared.cause.EndCause.TheVariants.{Boxes, Depth, Done, Index, Large, Null, Spent, Tasks}
+use Rattle.kilim_classes.specs.declared.machine.cause.EndCause.TheVariants.{Boxes, Depth, Done, Index, Large, Null, Spent, Tasks}
 use Rattle.kilim_classes.specs.Program.{Program}
 use Rattle.kilim_classes.specs.declared.names.BoxName.{BoxName}
 use Rattle.kilim_classes.specs.declared.names.MethodId.{MethodId}
-use Rattle.kilim_program.specs.declared.value.Object.{Object}
-use Rattle.kilim_program.specs.declared.value.Token.{Token}
-use Rattle.kilim_program.specs.declared.value.Token.TheVariants as token
+use Rattle.kilim_classes.specs.declared.machine.value.Object.{Object}
+use Rattle.kilim_classes.specs.declared.machine.value.Token.{Token}
+use Rattle.kilim_classes.specs.declared.machine.value.Token.TheVariants as token
 use Rattle.kilim_classes.specs.declared.value.Value.{Value}
 use Rattle.kilim_classes.specs.declared.value.Value.TheVariants as value
 use Rattle.kilim_journal.specs.declared.entry.Act.TheVariants.{Take, Empty, Start, End}
-use Rattle.kilim_program.specs.Machine.{Objects, Activation}
-use Rattle.kilim_program.specs.Moves.{called, entered, receiver_of, push_value, Enters}
-use Rattle.kilim_program.specs.Moves as move
-use Rattle.kilim_program.specs.Natives as native
-use Rattle.kilim_program.specs.Shapes.{value_tokens, tree_limit, is_open, shape_by, shape_of}
+use Rattle.kilim_classes.specs.machine.Machine.{Objects, Activation}
+use Rattle.kilim_classes.specs.machine.Moves.{called, entered, receiver_of, push_value, Enters}
+use Rattle.kilim_classes.specs.machine.Moves as move
+use Rattle.kilim_classes.specs.machine.Natives as native
+use Rattle.kilim_classes.specs.machine.Shapes.{value_tokens, tree_limit, is_open, shape_by, shape_of}
 use Rattle.kilim_thread_model.specs.State.{Setting, Mailbox, empty_mailbox, with_message, Thread, Alive, Ended, State, execute_frames}
 use Rattle.kilim_thread_model.specs.Lone.{Lone, Next, Goes, Gets, Ends, went, pushed, ended, over, raised, native_next, opens_next, begins_next, finish_next, frames_next, thread_next, next_move, printed, arg_at}
 use Rattle.kilim_thread_model.specs.Turn.{Moved, quiet, acted, lone_of, with_lone, gets, probes, starts, moved_by}

@@ -1,7 +1,7 @@
 -- Examples: the right journal of a program that prints 7 is that of a whole run, and wrong ones aren't.
 use Rattle.std.specs.Prelude.{◌≡◌, ℕ, suc, pos, Bool, true, false, ◌&&◌, ◌==◌, List, [], ◌∷◌, Some, None, codes}
 use Rattle.std.specs.List.{list_all}
-use Rattle.kilim_program.specs.declared.cause.EndCause.TheVariants.{Spent}
+use Rattle.kilim_classes.specs.declared.machine.cause.EndCause.TheVariants.{Spent}
 use Rattle.kilim_classes.specs.declared.class.Class.{Class}
 use Rattle.kilim_classes.specs.declared.class.Method.{Method}
 use Rattle.kilim_classes.specs.declared.class.Program.{Program}

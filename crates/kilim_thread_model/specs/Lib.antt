@@ -10,3 +10,5 @@ pub mod Small
 pub mod Examples
 pub mod Edges
 pub mod Alone
+pub mod kin
+pub mod one_heap

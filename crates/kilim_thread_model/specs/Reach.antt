@@ -4,10 +4,10 @@ use Rattle.std.specs.FinMap.{get}
 use Rattle.kilim_classes.specs.declared.names.BoxName.{BoxName}
 use Rattle.kilim_classes.specs.declared.names.FieldId.{FieldId}
 use Rattle.kilim_classes.specs.declared.names.MethodId.{MethodId}
-use Rattle.kilim_program.specs.declared.value.Object.{Object}
+use Rattle.kilim_classes.specs.declared.machine.value.Object.{Object}
 use Rattle.kilim_classes.specs.declared.value.Value.{Value}
 use Rattle.kilim_classes.specs.declared.value.Value.TheVariants.{Ref}
-use Rattle.kilim_program.specs.Machine.{Objects, Activation}
+use Rattle.kilim_classes.specs.machine.Machine.{Objects, Activation}
 use Rattle.kilim_thread_model.specs.State.{Setting, Thread, Alive, Ended, State}
 use Rattle.kilim_thread_model.specs.Turn.{kept_by}
 use Rattle.kilim_thread_model.specs.Runs.{played}

@@ -2,7 +2,7 @@
 use Rattle.std.specs.Prelude.{◌≡◌, ℕ, ◌+◌, ◌*◌, ◌<◌, ◌≤◌, ℤ, Bool, true, false, List, [], ◌∷◌, ◌++◌, Some, None, FitsSigned, map, length, codes}
 use Rattle.std.specs.Int.{w8}
 use Rattle.std.specs.List.{AllByRecursion}
-use Rattle.kilim_program.specs.declared.cause.EndCause.TheVariants.{Done}
+use Rattle.kilim_classes.specs.declared.machine.cause.EndCause.TheVariants.{Done}
 use Rattle.kilim_classes.specs.declared.class.Class.{Class}
 use Rattle.kilim_classes.specs.declared.class.Method.{Method}
 use Rattle.kilim_classes.specs.declared.class.Program.{Program}
@@ -10,7 +10,7 @@ use Rattle.kilim_classes.specs.declared.class.Form.TheVariants.{Plain}
 use Rattle.kilim_classes.specs.declared.instr.Instr.{Instr}
 use Rattle.kilim_classes.specs.declared.instr.Instr.TheVariants.{Aload, Bipush, Invokespecial, Invokestatic, Return}
 use Rattle.kilim_classes.specs.declared.ty.Qualifier.TheVariants.{Cuttable}
-use Rattle.kilim_program.specs.declared.value.Token.TheVariants.{Int}
+use Rattle.kilim_classes.specs.declared.machine.value.Token.TheVariants.{Int}
 use Rattle.kilim_journal.specs.declared.entry.Act.TheVariants.{Print, End}
 use Rattle.kilim_journal.specs.declared.entry.Entry.{Entry}
 use Rattle.kilim_classes.specs.BuiltIn.{class_id, method_id, built_in_classes, built_in_methods}

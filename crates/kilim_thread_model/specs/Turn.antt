@@ -1,12 +1,12 @@
 -- One thread of the shared machine moves once: what it does next, with what the others decide.
 use Rattle.std.specs.Prelude.{ℕ, ◌==◌, nat_lt, if◌then◌else◌, List, [], ◌∷◌, ◌++◌, Option, Some, None, length, slice_get, slice_set}
-use Rattle.kilim_program.specs.declared.cause.EndCause.TheVariants as cause
+use Rattle.kilim_classes.specs.declared.machine.cause.EndCause.TheVariants as cause
 use Rattle.kilim_classes.specs.declared.names.BoxName.{BoxName}
-use Rattle.kilim_program.specs.declared.value.Token.{Token}
+use Rattle.kilim_classes.specs.declared.machine.value.Token.{Token}
 use Rattle.kilim_classes.specs.declared.value.Value.TheVariants.{Null, Ref}
 use Rattle.kilim_journal.specs.declared.entry.Act.{Act}
 use Rattle.kilim_journal.specs.declared.entry.Act.TheVariants.{Put, Take, Empty, Start, Print, End}
-use Rattle.kilim_program.specs.Machine.{Activation}
+use Rattle.kilim_classes.specs.machine.Machine.{Activation}
 use Rattle.kilim_thread_model.specs.State.{Setting, Thread, Alive, State, with_message, with_queue, with_mailbox, execute_frames, noted}
 use Rattle.kilim_thread_model.specs.Lone.{Lone, Next, Goes, Puts, Gets, Probes, Starts, Prints, Ends, Stands, pushed, ended, next_move}
 

@@ -1,7 +1,7 @@
 //! What a task began with, and what it did.
 
+use kilim_classes::machine::Shape;
 use kilim_journal::Act;
-use kilim_program::Shape;
 
 /// An act of a task, with what others decided: the numbers stand in the act itself, and beside a take stands the shape of
 /// the message that was taken. It is empty beside every other act.

@@ -9,6 +9,8 @@ ghost use Rattle.kilim_thread_model.specs.Runs.{OneNextAction, OneReplay};
 ghost use Rattle.kilim_thread_model.specs.Small.{SmallRunIsWhole};
 
 mod deed;
+pub mod kin;
+pub mod one_heap;
 mod small_programs;
 
 pub use deed::{Beginning, Deed};

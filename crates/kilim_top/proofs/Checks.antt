@@ -3,7 +3,7 @@ use Rattle.std.proofs.Common.{◌≡◌, ◌≤◌, ℕ, List, [], length, refl,
 use Rattle.kilim_classes.specs.Program.{Program}
 use Rattle.kilim_stages.specs.Accepted.{IsAcceptedOf}
 use Rattle.kilim_weave_command.specs.Laws.{AcceptedFilesAreIsolated}
-use Rattle.kilim_words.specs.Words.{Check}
+use Rattle.kilim_outside.specs.words.Words.{Check}
 use Rattle.kilim_written_files.specs.OutputFile.{OutputFile}
 use Rattle.kilim_top.specs.Inside.Answer.{IsReplyFor}
 use Rattle.kilim_top.specs.Report.{accepted_line, coded_methods}

@@ -6,7 +6,7 @@ use Rattle.kilim_top.specs.demo.Demo.{IsDemoReport}
 use Rattle.kilim_stages.specs.declared.refusal.Refusal.{Refusal}
 use Rattle.kilim_stages.specs.declared.refusal.Refusal.TheVariants as refusal
 use Rattle.kilim_stages.specs.Parts.{Refused}
-use Rattle.kilim_words.specs.Words.{Request, Demo}
+use Rattle.kilim_outside.specs.words.Words.{Request, Demo}
 use Rattle.kilim_written_files.specs.OutputFile.{OutputFile}
 use Rattle.kilim_top.specs.declared.answer.Reply.{Reply}
 use Rattle.kilim_top.specs.Inside.Answer.{IsDemoReply, IsRefusedBy, IsReplyFor, IsToDemo}

@@ -3,8 +3,8 @@ use Rattle.std.proofs.Common.{◌≡◌, ℕ, Bool, true, false, cond, List, Opt
 use Rattle.kilim_classes.specs.declared.names.ClassId.{ClassId}
 use Rattle.kilim_classes.specs.Names.{class_named}
 use Rattle.kilim_classes.specs.Program.{Program}
-use Rattle.kilim_main_class.specs.Main.{fit_class_named, if_fit}
-use Rattle.kilim_program.specs.Members.{is_fit_main}
+use Rattle.kilim_classes.specs.main_class.Main.{fit_class_named, if_fit}
+use Rattle.kilim_classes.specs.machine.Members.{is_fit_main}
 
 pub record Fit (p : Program) (o : Option ClassId) (c : ClassId) : Type 0 where
   pub named : o ≡ Some c

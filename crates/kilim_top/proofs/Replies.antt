@@ -5,8 +5,8 @@ use Rattle.kilim_units.specs.declared.memory.NoMemory.{NoMemory}
 use Rattle.kilim_classes.specs.declared.names.ClassId.{ClassId}
 use Rattle.kilim_classes.specs.Names.{class_named}
 use Rattle.kilim_classes.specs.Program.{Program}
-use Rattle.kilim_program.specs.declared.run.Limits.{Limits}
-use Rattle.kilim_program.specs.Members.{is_fit_main}
+use Rattle.kilim_classes.specs.declared.machine.run.Limits.{Limits}
+use Rattle.kilim_classes.specs.machine.Members.{is_fit_main}
 use Rattle.kilim_stages.specs.Accepted.{IsAcceptedOf}
 use Rattle.kilim_stages.specs.Laws.{NeverBoth, OneProgramOf}
 use Rattle.kilim_stages.specs.Parts.{Refused}
@@ -17,7 +17,7 @@ use Rattle.kilim_weave_command.specs.Laws.{AcceptedFilesAreIsolated, NeverWeavab
 use Rattle.kilim_weave_command.specs.Weaving.{IsWeaving}
 use Rattle.kilim_weaver.specs.Faults.{weave_fault}
 use Rattle.kilim_weaver.specs.declared.weaving.Woven.{Woven}
-use Rattle.kilim_words.specs.Words.{Request, Check, Weave, Run, Demo}
+use Rattle.kilim_outside.specs.words.Words.{Request, Check, Weave, Run, Demo}
 use Rattle.kilim_stages.specs.woven_stage.Laws.{WovenIsNotReported}
 use Rattle.kilim_stages.specs.woven_stage.Reports.{IsWovenReport}
 use Rattle.kilim_stages.specs.woven_stage.Stage.{IsWovenOf}
@@ -34,7 +34,7 @@ use Rattle.kilim_journal.specs.Text.{journal_text}
 use Rattle.kilim_journal.specs.declared.entry.Entry.{Entry}
 use Rattle.kilim_whole_runs.specs.Laws.{WovenIsServed}
 use Rattle.kilim_whole_runs.specs.Runs.{IsJournalOf, setting_of}
-use Rattle.kilim_main_class.specs.Main.{fit_class_named}
+use Rattle.kilim_classes.specs.main_class.Main.{fit_class_named}
 use Rattle.kilim_top.proofs.Mains.{fit_named, none_named}
 use Rattle.kilim_top.proofs.WholeRun.{to_run}
 

@@ -3,7 +3,7 @@ use Rattle.std.proofs.Common.{◌≡◌, ◌⊎◌, ℕ, List, [], Some, sym, su
 use Rattle.kilim_outside.specs.Causes.{Appended}
 use Rattle.kilim_stages.specs.Laws.{NeverBoth, OneProgramOf}
 use Rattle.kilim_weave_command.specs.Laws.{NeverWeavableAndReported}
-use Rattle.kilim_words.specs.Words.{Request, Check, Weave, Run, Demo}
+use Rattle.kilim_outside.specs.words.Words.{Request, Check, Weave, Run, Demo}
 use Rattle.kilim_stages.specs.woven_stage.Laws.{WovenIsNotReported}
 use Rattle.kilim_written_files.specs.OutputFile.{OutputFile}
 use Rattle.kilim_written_files.specs.Written.{HaveOwnPaths, WroteFiles}

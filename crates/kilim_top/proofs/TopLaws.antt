@@ -5,7 +5,7 @@ use Rattle.kilim_outside.specs.Causes.{Rose}
 use Rattle.kilim_outside.specs.declared.folder.FailedCall.{FailedCall}
 use Rattle.kilim_outside.specs.declared.folder.FailedCall.TheVariants.{Write}
 use Rattle.kilim_outside.specs.Files.{Files}
-use Rattle.kilim_words.specs.Words.{Request, files_read}
+use Rattle.kilim_outside.specs.words.Words.{Request, files_read}
 use Rattle.kilim_written_files.specs.OutputFile.{OutputFile}
 use Rattle.kilim_top.specs.Inside.Respond.{Wrote0, Wrote1, WroteFrontOf, Responded}
 use Rattle.kilim_top.specs.Outcome.{AsksForFiles, FailedAtMost, HasReport, HowFar, InFiles, InText, IsDone, IsFault, IsFit, IsFitFor, IsReport, IsToWrite, Outside, Promises, WereRead, WriteFailed, WroteFront, WroteReport, WroteSomeFiles, WroteText, read_of, shown}

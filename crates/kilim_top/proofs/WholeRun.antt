@@ -3,8 +3,8 @@ use Rattle.std.proofs.Common.{◌≡◌, ◌≤◌, ℕ, ℤ, true, List, Some, 
 use Rattle.kilim_classes.specs.Names.{class_named}
 use Rattle.kilim_classes.specs.Program.{Program}
 use Rattle.kilim_classes.specs.declared.names.ClassId.{ClassId}
-use Rattle.kilim_program.specs.declared.run.Limits.{Limits}
-use Rattle.kilim_program.specs.Members.{is_fit_main}
+use Rattle.kilim_classes.specs.declared.machine.run.Limits.{Limits}
+use Rattle.kilim_classes.specs.machine.Members.{is_fit_main}
 use Rattle.kilim_stages.specs.Accepted.{IsAcceptedOf}
 use Rattle.kilim_thread_model.specs.State.{Setting}
 use Rattle.kilim_weave_command.specs.Laws.{AcceptedFilesAreIsolated}
@@ -12,7 +12,7 @@ use Rattle.kilim_weaver.specs.Faults.{weave_fault}
 use Rattle.kilim_weaver.specs.declared.weaving.Woven.{Woven}
 use Rattle.kilim_whole_runs.specs.Laws.{WovenIsServed}
 use Rattle.kilim_whole_runs.specs.Runs.{setting_of}
-use Rattle.kilim_words.specs.Words.{Run}
+use Rattle.kilim_outside.specs.words.Words.{Run}
 use Rattle.kilim_weaving_laws.specs.Served.{CanServe}
 use Rattle.kilim_stages.specs.woven_stage.Stage.{IsWovenOf}
 use Rattle.kilim_stages.specs.declared.woven_stage.stage.WovenProgram.{WovenProgram}

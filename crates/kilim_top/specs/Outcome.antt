@@ -13,13 +13,13 @@ use Rattle.kilim_outside.specs.declared.folder.FailedCall.{FailedCall}
 use Rattle.kilim_outside.specs.declared.folder.FailedCall.TheVariants.{Read, Write}
 use Rattle.kilim_outside.specs.Files.{Files, content_of, file_limit}
 use Rattle.kilim_outside.specs.Causes.{Appended, Rose}
-use Rattle.kilim_program.specs.declared.run.Limits.{Limits}
-use Rattle.kilim_program.specs.Members.{is_fit_main}
+use Rattle.kilim_classes.specs.declared.machine.run.Limits.{Limits}
+use Rattle.kilim_classes.specs.machine.Members.{is_fit_main}
 use Rattle.kilim_thread_model.specs.Reach.{Liveness, PlaysIsolated}
 use Rattle.kilim_thread_model.specs.Runs.{Whole}
 use Rattle.kilim_thread_model.specs.State.{Setting}
 use Rattle.kilim_typing.specs.Typed.{Live}
-use Rattle.kilim_words.specs.Words.{Request, Check, Weave, Run, Demo, files_read}
+use Rattle.kilim_outside.specs.words.Words.{Request, Check, Weave, Run, Demo, files_read}
 use Rattle.kilim_written_files.specs.OutputFile.{OutputFile}
 use Rattle.kilim_written_files.specs.Written.{HasFailed, StoppedAtFile, WroteFiles}
 use Rattle.kilim_weave_command.specs.Weaving.{IsWeavable, IsWeaving}

@@ -1,6 +1,6 @@
 -- How many workers the words ask for.
 use Rattle.std.specs.Prelude.{◌<◌, ℕ, Option, Some, None}
-use Rattle.kilim_words.specs.Words.{Request, Check, Weave, Run, Demo}
+use Rattle.kilim_outside.specs.words.Words.{Request, Check, Weave, Run, Demo}
 
 -- to check and to weave take one
 abbrev pub workers_of : Request → ℕ

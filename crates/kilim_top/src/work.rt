@@ -1,8 +1,8 @@
 //! The work that the words ask for.
 
 ghost use Rattle.std.specs.Prelude.{◌≡◌, ◌≤◌, Some, length};
-ghost use Rattle.kilim_words.specs.Parts.{meant};
-ghost use Rattle.kilim_words.specs.Words.{files_read};
+ghost use Rattle.kilim_outside.specs.words.Parts.{meant};
+ghost use Rattle.kilim_outside.specs.words.Words.{files_read};
 ghost use Rattle.kilim_top.specs.Inside.Answer.{IsReplyFor};
 ghost use Rattle.kilim_top.specs.Inside.Respond.{Responded};
 ghost use Rattle.kilim_top.specs.Outcome.{Promises, shown};
@@ -17,7 +17,7 @@ use kilim_stages::woven_stage::woven_is_not_reported;
 use kilim_stages::{never_both, one_program_of};
 use kilim_units::Seq;
 use kilim_weave_command::never_weavable_and_reported;
-use kilim_words::Asked;
+use kilim_outside::words::Asked;
 use kilim_written_files::write_files;
 use std::alloc::Global;
 use std::sync::Wait;

@@ -3,8 +3,8 @@ use Rattle.std.proofs.Common.{◌≡◌, ℕ, zero, suc, ◌⊎◌, inl, inr, Li
 use Rattle.std.specs.List.{AllByRecursion}
 use Rattle.std.specs.Prelude.{IsSome}
 use Rattle.std.specs.FinMap.{get, insert, remove}
-use Rattle.kilim_program.specs.declared.value.Object.{Object}
-use Rattle.kilim_program.specs.Machine.{Objects}
+use Rattle.kilim_classes.specs.declared.machine.value.Object.{Object}
+use Rattle.kilim_classes.specs.machine.Machine.{Objects}
 use Rattle.kilim_machine_parts.specs.Places.{AllDiffer}
 use Rattle.kilim_machine_parts.specs.Words.{IsThere}
 use Rattle.kilim_tree_move.specs.Steps.{Blanked}

@@ -6,15 +6,15 @@ use Rattle.std.specs.Prelude.{Result, Ok, Err, IfOk}
 use Rattle.std.specs.Ordering.{nat_cmp}
 use Rattle.kilim_classes.specs.declared.class.Program.{Program}
 use Rattle.kilim_classes.specs.declared.names.FieldId.{FieldId}
-use Rattle.kilim_program.specs.declared.value.Object.{Object}
-use Rattle.kilim_program.specs.declared.value.Token.{Token}
-use Rattle.kilim_program.specs.declared.value.Token.TheVariants as token
+use Rattle.kilim_classes.specs.declared.machine.value.Object.{Object}
+use Rattle.kilim_classes.specs.declared.machine.value.Token.{Token}
+use Rattle.kilim_classes.specs.declared.machine.value.Token.TheVariants as token
 use Rattle.kilim_classes.specs.declared.value.Value.{Value}
 use Rattle.kilim_classes.specs.declared.value.Value.TheVariants.{Int, Long, Null, Ref, Text, Box, Fiber}
-use Rattle.kilim_program.specs.Machine.{Objects}
+use Rattle.kilim_classes.specs.machine.Machine.{Objects}
 use Rattle.kilim_classes.specs.Names.{◌>>=◌, array_descriptor}
-use Rattle.kilim_program.specs.Members.{shown_name}
-use Rattle.kilim_program.specs.Shapes.{shape_of, tree_limit, content_tokens, joined_tokens}
+use Rattle.kilim_classes.specs.machine.Members.{shown_name}
+use Rattle.kilim_classes.specs.machine.Shapes.{shape_of, tree_limit, content_tokens, joined_tokens}
 use Rattle.kilim_tree_move.specs.Moved.{heap_tokens}
 use Rattle.kilim_tree_move.specs.Walk.{numbered, AreIn}
 use Rattle.std.specs.List.{AllByRecursion}

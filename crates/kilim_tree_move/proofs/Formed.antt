@@ -7,9 +7,9 @@ use Rattle.std.proofs.lemmas.List.{append-nil}
 use Rattle.kilim_classes.specs.Program.{Program}
 use Rattle.kilim_classes.specs.declared.names.FieldId.{FieldId}
 use Rattle.kilim_classes.specs.declared.value.Value.{Value}
-use Rattle.kilim_program.specs.declared.value.Object.{Object}
-use Rattle.kilim_program.specs.Shapes.{field_in, fields_in_order}
-use Rattle.kilim_program.specs.Trees.{object_of, with_keys}
+use Rattle.kilim_classes.specs.declared.machine.value.Object.{Object}
+use Rattle.kilim_classes.specs.machine.Shapes.{field_in, fields_in_order}
+use Rattle.kilim_classes.specs.machine.Trees.{object_of, with_keys}
 use Rattle.kilim_tree_move.specs.Shaping.{field_values, held, found, IsShown, Suits}
 
 picked_true : {A : Type 0} (b : Bool) (x y : A) → b ≡ true → (if b then x else y) ≡ x

@@ -8,10 +8,10 @@ use Rattle.kilim_classes.specs.Program.{Program}
 use Rattle.kilim_classes.specs.declared.names.FieldId.{FieldId}
 use Rattle.kilim_classes.specs.declared.value.Value.{Value}
 use Rattle.kilim_classes.specs.declared.value.Value.TheVariants.{Int, Long, Null, Ref, Text, Box, Fiber}
-use Rattle.kilim_program.specs.declared.value.Object.{Object}
-use Rattle.kilim_program.specs.Machine.{Objects}
-use Rattle.kilim_program.specs.Shapes.{tree_limit, field_in, fields_in_order}
-use Rattle.kilim_program.specs.Trees.{joined_names, names_where, content_names, names_in, value_names, tree_names}
+use Rattle.kilim_classes.specs.declared.machine.value.Object.{Object}
+use Rattle.kilim_classes.specs.machine.Machine.{Objects}
+use Rattle.kilim_classes.specs.machine.Shapes.{tree_limit, field_in, fields_in_order}
+use Rattle.kilim_classes.specs.machine.Trees.{joined_names, names_where, content_names, names_in, value_names, tree_names}
 use Rattle.kilim_tree_move.specs.Walk.{value_refs, element_refs, refs, Leads, IsTree, places}
 use Rattle.kilim_tree_move.specs.Shaping.{held, Suits}
 use Rattle.kilim_tree_move.proofs.Tokens.{EachSuits, held_refs}

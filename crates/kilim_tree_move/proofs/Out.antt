@@ -1,8 +1,8 @@
 -- A tree has left a heap.
 use Rattle.std.proofs.Common.{◌≡◌, ℕ, suc, ◌≤◌, List, [], ◌∷◌, length, refl, sym, ap, ◌∙◌, arith}
-use Rattle.kilim_program.specs.declared.value.Object.{Object}
-use Rattle.kilim_program.specs.Machine.{Objects}
-use Rattle.kilim_program.specs.Shapes.{tree_limit}
+use Rattle.kilim_classes.specs.declared.machine.value.Object.{Object}
+use Rattle.kilim_classes.specs.machine.Machine.{Objects}
+use Rattle.kilim_classes.specs.machine.Shapes.{tree_limit}
 use Rattle.kilim_tree_move.specs.Room.{RoomFor}
 use Rattle.kilim_tree_move.specs.Walk.{objects, places}
 use Rattle.kilim_tree_move.specs.Moved.{CanLeave, TakenOut, IsTreeList, at_places, renamed_all}

@@ -2,9 +2,9 @@
 use Rattle.std.proofs.Common.{◌≡◌, ℕ, ◌+◌, ◌≤◌, List, [], ◌∷◌, ◌++◌, Some, length, refl, sym, ap, subst, ◌∙◌, arith, reverse, true, Bool}
 use Rattle.std.specs.Prelude.{IsSome, Result, Ok, Err, is_ok, IfOk}
 use Rattle.std.specs.FinMap.{get}
-use Rattle.kilim_program.specs.declared.value.Object.{Object}
-use Rattle.kilim_program.specs.Machine.{Objects}
-use Rattle.kilim_program.specs.Shapes.{tree_limit}
+use Rattle.kilim_classes.specs.declared.machine.value.Object.{Object}
+use Rattle.kilim_classes.specs.machine.Machine.{Objects}
+use Rattle.kilim_classes.specs.machine.Shapes.{tree_limit}
 use Rattle.kilim_tree_move.specs.Walk.{refs, Leads, AllThere}
 use Rattle.kilim_tree_move.specs.Moved.{IsTooLarge}
 use Rattle.kilim_tree_move.specs.Steps.{IsSize}

@@ -6,15 +6,15 @@ use Rattle.std.proofs.lemmas.List.Sums.{sum_by-cons}
 use Rattle.std.specs.FinMap.{get}
 use Rattle.kilim_classes.specs.declared.class.Program.{Program}
 use Rattle.kilim_classes.specs.declared.names.FieldId.{FieldId}
-use Rattle.kilim_program.specs.declared.value.Object.{Object}
-use Rattle.kilim_program.specs.declared.value.Token.{Token}
-use Rattle.kilim_program.specs.declared.value.Token.TheVariants as token
+use Rattle.kilim_classes.specs.declared.machine.value.Object.{Object}
+use Rattle.kilim_classes.specs.declared.machine.value.Token.{Token}
+use Rattle.kilim_classes.specs.declared.machine.value.Token.TheVariants as token
 use Rattle.kilim_classes.specs.declared.value.Value.{Value}
 use Rattle.kilim_classes.specs.declared.value.Value.TheVariants.{Int, Long, Null, Ref, Text, Box, Fiber}
-use Rattle.kilim_program.specs.Machine.{Objects}
+use Rattle.kilim_classes.specs.machine.Machine.{Objects}
 use Rattle.kilim_classes.specs.Names.{◌>>=◌}
-use Rattle.kilim_program.specs.Members.{shown_name}
-use Rattle.kilim_program.specs.Shapes.{shape_of, shape_by, tree_limit, content_tokens, joined_tokens, field_in, fields_in_order, is_open}
+use Rattle.kilim_classes.specs.machine.Members.{shown_name}
+use Rattle.kilim_classes.specs.machine.Shapes.{shape_of, shape_by, tree_limit, content_tokens, joined_tokens, field_in, fields_in_order, is_open}
 use Rattle.kilim_tree_move.specs.Moved.{heap_tokens}
 use Rattle.kilim_tree_move.specs.Walk.{value_refs, field_refs, element_refs, refs, Leads, AreIn, IsTree}
 use Rattle.kilim_tree_move.specs.Shaping.{held, field_values, IsShown, Suits, AllSuit, SizesAgree}

@@ -1,8 +1,8 @@
 -- Walks in preorder.
 use Rattle.std.proofs.Common.{◌≡◌, ℕ, ◌+◌, ◌<◌, ◌≤◌, List, [], ◌∷◌, ◌++◌, Some, length, refl, sym, ap, subst, ◌∙◌, arith, length-append}
 use Rattle.std.specs.FinMap.{get}
-use Rattle.kilim_program.specs.declared.value.Object.{Object}
-use Rattle.kilim_program.specs.Machine.{Objects}
+use Rattle.kilim_classes.specs.declared.machine.value.Object.{Object}
+use Rattle.kilim_classes.specs.machine.Machine.{Objects}
 use Rattle.kilim_tree_move.specs.Walk.{refs, Leads, AreIn}
 
 pub leads_more : (from : List ℕ) (es : List (ℕ × Object)) (n : ℕ) (o : Object) (ns : List ℕ) → Leads from es (n ∷ ns) → Leads from (es ++ (n, o) ∷ []) (refs o ++ ns)

@@ -1,14 +1,14 @@
 -- The tokens that are still to come. No clause of a public call cites this.
 use Rattle.std.specs.Prelude.{◌≡◌, ℕ, zero, suc, List, [], ◌∷◌, ◌++◌, Option, Some, drop, ◌<◌}
 use Rattle.kilim_classes.specs.declared.class.Program.{Program}
-use Rattle.kilim_program.specs.declared.value.Object.{Object}
-use Rattle.kilim_program.specs.declared.value.Token.{Token}
-use Rattle.kilim_program.specs.declared.value.Token.TheVariants as token
+use Rattle.kilim_classes.specs.declared.machine.value.Object.{Object}
+use Rattle.kilim_classes.specs.declared.machine.value.Token.{Token}
+use Rattle.kilim_classes.specs.declared.machine.value.Token.TheVariants as token
 use Rattle.kilim_classes.specs.declared.value.Value.{Value}
 use Rattle.kilim_classes.specs.declared.value.Value.TheVariants.{Int, Long, Null, Ref, Text, Box, Fiber}
-use Rattle.kilim_program.specs.Machine.{Objects}
-use Rattle.kilim_program.specs.Members.{shown_name}
-use Rattle.kilim_program.specs.Shapes.{joined_tokens, tree_limit}
+use Rattle.kilim_classes.specs.machine.Machine.{Objects}
+use Rattle.kilim_classes.specs.machine.Members.{shown_name}
+use Rattle.kilim_classes.specs.machine.Shapes.{joined_tokens, tree_limit}
 use Rattle.kilim_tree_move.specs.Moved.{heap_tokens}
 use Rattle.std.specs.FinMap.{get}
 use Rattle.kilim_tree_move.specs.Moved.{tree_heap}

@@ -4,11 +4,11 @@ use Rattle.std.specs.List.{AllByRecursion}
 use Rattle.std.specs.FinMap.{get}
 use Rattle.kilim_classes.specs.declared.class.Program.{Program}
 use Rattle.kilim_classes.specs.declared.names.FieldId.{FieldId}
-use Rattle.kilim_program.specs.declared.value.Object.{Object}
+use Rattle.kilim_classes.specs.declared.machine.value.Object.{Object}
 use Rattle.kilim_classes.specs.declared.value.Value.{Value}
 use Rattle.kilim_classes.specs.declared.value.Value.TheVariants.{Fiber}
-use Rattle.kilim_program.specs.Machine.{Objects}
-use Rattle.kilim_program.specs.Shapes.{shape_of, field_in, fields_in_order}
+use Rattle.kilim_classes.specs.machine.Machine.{Objects}
+use Rattle.kilim_classes.specs.machine.Shapes.{shape_of, field_in, fields_in_order}
 use Rattle.kilim_tree_move.specs.Moved.{IsTooLarge}
 
 abbrev pub field_values : List (FieldId × Value) → List Value

@@ -3,6 +3,7 @@
 
 mod fault;
 mod laws;
+pub mod mailbox;
 mod put;
 mod reserve;
 mod room;

@@ -2,15 +2,15 @@
 
 ghost use Rattle.std.specs.Prelude.{◌≡◌, ◌+◌, ◌<◌, ◌≤◌, ◌++◌, [], length, IfOk, IfErr, IfSome, IfNone, vec_len, vec_capacity};
 ghost use Rattle.std.specs.List.{AllByRecursion};
-ghost use Rattle.kilim_program.specs.Machine.{Objects};
+ghost use Rattle.kilim_classes.specs.machine.Machine.{Objects};
 ghost use Rattle.kilim_tree_move.specs.Walk.{value_refs, element_refs, field_refs, refs, renamed_value, renamed_elements, renamed_fields, renamed};
 ghost use Rattle.kilim_tree_move.specs.Moved.{PutIn, at_places};
 ghost use Rattle.kilim_tree_move.specs.Steps.{Blanked, WasFree, CanFill, Filled};
 
 use crate::tree::Tree;
+use kilim_classes::machine::Object;
 use kilim_classes::{Base, FieldId, Ty, Value};
 use kilim_machine_parts::Heap;
-use kilim_program::Object;
 use kilim_units::Seq;
 use std::alloc::Global;
 

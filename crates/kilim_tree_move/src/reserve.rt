@@ -7,9 +7,9 @@ ghost use Rattle.kilim_tree_move.specs.Steps.{IsSize};
 
 use crate::fault::MoveFault;
 use crate::room::Room;
+use kilim_classes::machine::Object;
 use kilim_classes::{FieldId, Value};
 use kilim_machine_parts::Heap;
-use kilim_program::Object;
 use std::alloc::Global;
 
 /// The most objects of a tree that is moved.

@@ -3,17 +3,17 @@
 ghost use Rattle.std.specs.Prelude.{◌≡◌, ◌<◌, ◌≤◌, ◌++◌, ◌∷◌, [], Some, length, IfOk, OnOk, MatchOption, slice_index_or, codes};
 ghost use Rattle.std.specs.List.{AllByRecursion};
 ghost use Rattle.kilim_classes.specs.declared.ty.Base.TheVariants as base;
-ghost use Rattle.kilim_program.specs.declared.value.Token.TheVariants as token;
+ghost use Rattle.kilim_classes.specs.declared.machine.value.Token.TheVariants as token;
 ghost use Rattle.kilim_classes.specs.Names.{class_name, base_descriptor, descriptor};
-ghost use Rattle.kilim_program.specs.Members.{name_in_base, shown_name};
-ghost use Rattle.kilim_program.specs.Shapes.{shape_of, tree_limit};
+ghost use Rattle.kilim_classes.specs.machine.Members.{name_in_base, shown_name};
+ghost use Rattle.kilim_classes.specs.machine.Shapes.{shape_of, tree_limit};
 ghost use Rattle.kilim_tree_move.specs.Moved.{tree_heap};
 ghost use Rattle.kilim_tree_move.specs.Shaping.{Suits};
 ghost use Rattle.kilim_tree_move.specs.Emitted.{plain_tokens, held_at, brackets, opening, RefWithin, Emits, HasShape, AreTokens};
 
 use crate::tree::Tree;
+use kilim_classes::machine::{Object, Shape, Token};
 use kilim_classes::{Base, ClassId, Program, Ty, Value};
-use kilim_program::{Object, Shape, Token};
 use kilim_units::{NoMemory, Seq, Units};
 use std::alloc::{AllocError, Global};
 

@@ -9,9 +9,9 @@ ghost use Rattle.kilim_tree_move.specs.Steps.{CanCollect, Collected, CanNumber, 
 use crate::reserve::push_refs;
 use crate::room::Room;
 use crate::tree::Tree;
+use kilim_classes::machine::Object;
 use kilim_classes::{FieldId, Value};
 use kilim_machine_parts::Heap;
-use kilim_program::Object;
 use kilim_units::Seq;
 
 // The objects of a tree, in preorder, leave the heap.

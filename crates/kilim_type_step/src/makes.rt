@@ -12,7 +12,7 @@ use crate::fault::StepFault;
 use crate::operands::{Also, Taken};
 use crate::state::State;
 use kilim_classes::{Base, ClassId, Instr, Method, Program, Ty, VType};
-use kilim_lookups::class_at;
+use kilim_classes::lookups::class_at;
 
 const INT: Taken = Taken::Is(VType::Int);
 

@@ -6,3 +6,5 @@ pub mod Samples
 pub mod Examples
 pub mod Laws
 pub mod TypedProgram
+pub mod typing_laws
+pub mod woven_form

@@ -7,6 +7,8 @@
 
 mod flows;
 mod typed;
+pub mod typing_laws;
+pub mod woven_form;
 
 ghost use Rattle.kilim_typing.specs.Examples.{ExamplesHold};
 ghost use Rattle.kilim_typing.specs.Laws.{NoFaultIsWellTyped};

@@ -11,14 +11,14 @@ use Rattle.kilim_classes.specs.Keeps.{Keeps}
 use Rattle.kilim_classes.specs.Names.{method_at}
 use Rattle.kilim_classes.specs.Program.{Program}
 use Rattle.kilim_classes.specs.Same.{argument_slots}
-use Rattle.kilim_typing_laws.proofs.fits.ClassMethods.{IsAmong, among_left, among_right, owner_has}
+use Rattle.kilim_typing.proofs.typing_laws.fits.ClassMethods.{IsAmong, among_left, among_right, owner_has}
 use Rattle.kilim_lemmas.proofs.Lists.{get_some}
 use Rattle.kilim_link_spec.specs.World.{method_descriptor}
 use Rattle.kilim_pausable_graph.specs.Pausing.{all_methods}
-use Rattle.kilim_woven_form.specs.Form.{has_calls}
-use Rattle.kilim_woven_form.specs.Weight.{calls_in, switches_bytes, weight}
-use Rattle.kilim_woven_form.specs.woven_programs.keeps.Law.{NoneIsFull, NoneIsTooLong, reach}
-use Rattle.kilim_woven_form.proofs.woven_programs.Naming.{owner_there}
+use Rattle.kilim_typing.specs.woven_form.Form.{has_calls}
+use Rattle.kilim_typing.specs.woven_form.Weight.{calls_in, switches_bytes, weight}
+use Rattle.kilim_typing.specs.woven_form.woven_programs.keeps.Law.{NoneIsFull, NoneIsTooLong, reach}
+use Rattle.kilim_typing.proofs.woven_form.woven_programs.Naming.{owner_there}
 use Rattle.kilim_weaver.specs.declared.fault.WeaveFault.{WeaveFault}
 use Rattle.kilim_weaver.specs.Faults.{fault_if, fault_if_there, fault_of, fault_of_method, first_fault, is_full, is_too_long, or_later, weave_fault}
 

@@ -8,8 +8,8 @@ use Rattle.kilim_classes.specs.Program.{Program}
 use Rattle.kilim_classes.specs.Same.{argument_slots}
 use Rattle.kilim_link_spec.specs.World.{method_descriptor}
 use Rattle.kilim_pausable_graph.specs.Pausing.{all_methods}
-use Rattle.kilim_woven_form.specs.Form.{has_calls}
-use Rattle.kilim_woven_form.specs.Weight.{weight}
+use Rattle.kilim_typing.specs.woven_form.Form.{has_calls}
+use Rattle.kilim_typing.specs.woven_form.Weight.{weight}
 use Rattle.kilim_weaver.specs.declared.fault.WeaveFault.{WeaveFault}
 use Rattle.kilim_weaver.specs.declared.fault.WeaveFault.TheVariants.{TooLong, ArgumentsFull}
 

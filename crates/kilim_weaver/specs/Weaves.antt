@@ -2,9 +2,9 @@
 use Rattle.std.specs.Prelude.{◌≡◌, Some, None, Result, Ok, Err}
 use Rattle.kilim_classes.specs.Program.{Program}
 use Rattle.kilim_typing.specs.Typed.{IsWellTyped}
-use Rattle.kilim_woven_form.specs.Form.{WovenForm}
-use Rattle.kilim_woven_form.specs.woven_programs.keeps.Law.{NoneIsFull, NoneIsTooLong}
-use Rattle.kilim_woven_form.specs.woven_programs.Law.{EachIsShort, KeepsPauses}
+use Rattle.kilim_typing.specs.woven_form.Form.{WovenForm}
+use Rattle.kilim_typing.specs.woven_form.woven_programs.keeps.Law.{NoneIsFull, NoneIsTooLong}
+use Rattle.kilim_typing.specs.woven_form.woven_programs.Law.{EachIsShort, KeepsPauses}
 use Rattle.kilim_weaver.specs.declared.fault.WeaveFault.{WeaveFault}
 use Rattle.kilim_weaver.specs.declared.fault.WeaveFault.TheVariants.{TooLong, ArgumentsFull, Memory}
 use Rattle.kilim_weaver.specs.declared.weaving.Woven.{Woven}

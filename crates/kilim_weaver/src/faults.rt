@@ -3,12 +3,12 @@
 ghost use Rattle.std.specs.Prelude.{◌≡◌, ◌<◌, ◌+◌, ◌*◌, ◌&&◌, nat_lt, Some, length, slice_get, IfOk};
 ghost use Rattle.kilim_mutf8.specs.Spelling.{spelling};
 ghost use Rattle.kilim_link_spec.specs.World.{method_descriptor};
-ghost use Rattle.kilim_woven_form.specs.Weight.{calls_in, switch_bytes, switches_bytes, weight};
+ghost use Rattle.kilim_typing.specs.woven_form.Weight.{calls_in, switch_bytes, switches_bytes, weight};
 ghost use Rattle.kilim_weaver.specs.Faults.{fault_if, fault_of, fault_of_method, first_fault, is_full, weave_fault};
 
 use crate::fault::WeaveFault;
 use kilim_classes::{Class, Instr, Method, MethodId, Program};
-use kilim_lookups::method_at;
+use kilim_classes::lookups::method_at;
 use kilim_mutf8::write;
 use kilim_reports::method_descriptor;
 use kilim_units::NoMemory;

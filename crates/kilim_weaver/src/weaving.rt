@@ -2,7 +2,7 @@
 
 ghost use Rattle.std.specs.Prelude.{◌≡◌, None, IfOk};
 ghost use Rattle.kilim_isolation_check.specs.Faults.{IsAccepted};
-ghost use Rattle.kilim_woven_form.specs.Form.{WovenForm};
+ghost use Rattle.kilim_typing.specs.woven_form.Form.{WovenForm};
 ghost use Rattle.kilim_weaver.specs.Faults.{weave_fault};
 ghost use Rattle.kilim_weaver.specs.Weaves.{IsWoven, Weaves};
 
@@ -13,8 +13,8 @@ use kilim_classes::{Class, Field, Form, Program};
 use kilim_isolation_check::Isolated;
 use kilim_typing::Typed;
 use kilim_units::{NoMemory, Seq};
-use kilim_woven_form::woven_programs::kept::woven_is_kept;
-use kilim_woven_form::woven_programs::woven_programs_are_typed;
+use kilim_typing::woven_form::woven_programs::kept::woven_is_kept;
+use kilim_typing::woven_form::woven_programs::woven_programs_are_typed;
 use kilim_woven_method::woven_each::{
     Methods, keeps_program, keeps_typed, typed_classes, typed_fields, woven_methods,
 };

@@ -17,15 +17,15 @@ use Rattle.kilim_woven_runs.proofs.fiber_kin.Boots.{boot_like}
 use Rattle.kilim_woven_runs.proofs.fiber_kin.Came.{no_names, nothing, none_below}
 use Rattle.kilim_woven_runs.specs.fiber_kin.Acts.{IsSound}
 use Rattle.kilim_woven_runs.specs.fiber_kin.Held as held
-use Rattle.kilim_kin.proofs.Kins.{kin_entered}
-use Rattle.kilim_program.specs.declared.cause.EndCause.TheVariants as cause
-use Rattle.kilim_program.specs.declared.value.Object.{Object}
-use Rattle.kilim_program.specs.declared.value.Token.{Token}
-use Rattle.kilim_program.specs.Machine.{Objects, Activation}
-use Rattle.kilim_program.specs.Members.{constructor_of, execute_of, is_concrete, is_own_constructor, is_task_execute}
-use Rattle.kilim_program.specs.Moves.{entered}
-use Rattle.kilim_program.specs.Objects.{new_object}
-use Rattle.kilim_program.specs.Trees.{OfTask, built, with_objects}
+use Rattle.kilim_thread_model.proofs.kin.Kins.{kin_entered}
+use Rattle.kilim_classes.specs.declared.machine.cause.EndCause.TheVariants as cause
+use Rattle.kilim_classes.specs.declared.machine.value.Object.{Object}
+use Rattle.kilim_classes.specs.declared.machine.value.Token.{Token}
+use Rattle.kilim_classes.specs.machine.Machine.{Objects, Activation}
+use Rattle.kilim_classes.specs.machine.Members.{constructor_of, execute_of, is_concrete, is_own_constructor, is_task_execute}
+use Rattle.kilim_classes.specs.machine.Moves.{entered}
+use Rattle.kilim_classes.specs.machine.Objects.{new_object}
+use Rattle.kilim_classes.specs.machine.Trees.{OfTask, built, with_objects}
 use Rattle.kilim_thread_model.specs.Course.{IsLone, lone_begun, lone_built, lone_in, next_action, next_or, next_within}
 use Rattle.kilim_thread_model.specs.declared.deed.Beginning.TheVariants.{Boot, Begun}
 use Rattle.kilim_thread_model.specs.Lone.{Lone, ended, next_move, over}

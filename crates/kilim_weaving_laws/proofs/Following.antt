@@ -8,11 +8,11 @@ use Rattle.kilim_woven_runs.proofs.fiber_kin.Trees.{is_given}
 use Rattle.kilim_woven_runs.specs.fiber_kin.Acts.{IsGiven}
 use Rattle.kilim_journal.specs.declared.entry.Act.{Act}
 use Rattle.kilim_journal.specs.declared.entry.Act.TheVariants as act
-use Rattle.kilim_kin.proofs.Kins.{kin_push}
-use Rattle.kilim_program.specs.declared.cause.EndCause.{EndCause}
-use Rattle.kilim_program.specs.declared.value.Token.{Token}
-use Rattle.kilim_program.specs.Moves.{push_value}
-use Rattle.kilim_program.specs.Trees.{OfMessage, OfTask, Root, built}
+use Rattle.kilim_thread_model.proofs.kin.Kins.{kin_push}
+use Rattle.kilim_classes.specs.declared.machine.cause.EndCause.{EndCause}
+use Rattle.kilim_classes.specs.declared.machine.value.Token.{Token}
+use Rattle.kilim_classes.specs.machine.Moves.{push_value}
+use Rattle.kilim_classes.specs.machine.Trees.{OfMessage, OfTask, Root, built}
 use Rattle.kilim_thread_model.specs.Course.{Course, done_by, next_action, plain, received}
 use Rattle.kilim_thread_model.specs.Course as course
 use Rattle.kilim_thread_model.specs.declared.deed.Deed.{Deed}

@@ -9,17 +9,17 @@ use Rattle.kilim_classes.specs.declared.value.Value.TheVariants.{Int, Long, Null
 use Rattle.kilim_classes.specs.Lengths.{fetched}
 use Rattle.kilim_classes.specs.Names.{method_at}
 use Rattle.kilim_classes.specs.Program.{Program}
-use Rattle.kilim_typing_laws.specs.fits.Fits.{AreThere}
+use Rattle.kilim_typing.specs.typing_laws.fits.Fits.{AreThere}
 use Rattle.kilim_journal.specs.declared.entry.Act.{Act}
-use Rattle.kilim_kin.specs.Kin.{AreHeld, IsThere}
-use Rattle.kilim_program.specs.declared.cause.EndCause.TheVariants as cause
-use Rattle.kilim_program.specs.Effect.{Effect}
-use Rattle.kilim_program.specs.Effect as effect
-use Rattle.kilim_program.specs.Machine.{Objects, Activation}
-use Rattle.kilim_program.specs.Moves.{Enters, Move, effect_found, effect_in, effect_of, entered, frame_limit, goes_on, move_by, moves, receiver_of, returned}
-use Rattle.kilim_program.specs.Moves as move
-use Rattle.kilim_program.specs.Natives.{native_of}
-use Rattle.kilim_program.specs.Trees.{Root}
+use Rattle.kilim_thread_model.specs.kin.Kin.{AreHeld, IsThere}
+use Rattle.kilim_classes.specs.declared.machine.cause.EndCause.TheVariants as cause
+use Rattle.kilim_classes.specs.machine.Effect.{Effect}
+use Rattle.kilim_classes.specs.machine.Effect as effect
+use Rattle.kilim_classes.specs.machine.Machine.{Objects, Activation}
+use Rattle.kilim_classes.specs.machine.Moves.{Enters, Move, effect_found, effect_in, effect_of, entered, frame_limit, goes_on, move_by, moves, receiver_of, returned}
+use Rattle.kilim_classes.specs.machine.Moves as move
+use Rattle.kilim_classes.specs.machine.Natives.{native_of}
+use Rattle.kilim_classes.specs.machine.Trees.{Root}
 use Rattle.kilim_thread_model.specs.Course.{Course}
 use Rattle.kilim_thread_model.specs.declared.deed.Deed.{Deed}
 use Rattle.kilim_thread_model.specs.Kept.{given}

@@ -16,22 +16,22 @@ use Rattle.kilim_woven_runs.specs.fiber_kin.Acts.{IsGiven}
 use Rattle.kilim_woven_runs.specs.fiber_kin.Mine.{all_mine}
 use Rattle.kilim_woven_runs.specs.fiber_kin.Served.{gives_value}
 use Rattle.kilim_jvm_interp.specs.Step.{stack_limit}
-use Rattle.kilim_kin.proofs.Kins.{kin_length}
-use Rattle.kilim_kin.proofs.Moving.{moves_kin}
-use Rattle.kilim_kin.proofs.Renamed.{renamed, number_of, are_is}
-use Rattle.kilim_kin.proofs.Rows.{rows_kin}
-use Rattle.kilim_kin.specs.Kin.{Names, IsKin, AreKin, StandsIn, FramesKin, MoveKin}
-use Rattle.kilim_program.specs.declared.value.Object.{Object}
-use Rattle.kilim_program.specs.Effect.{Effect}
-use Rattle.kilim_program.specs.Effect as effect
-use Rattle.kilim_program.specs.Machine.{Objects, Activation}
-use Rattle.kilim_program.specs.Members.{execute_of}
-use Rattle.kilim_program.specs.declared.cause.EndCause.TheVariants as cause
-use Rattle.kilim_program.specs.Moves.{Enters, Move, effect_of, entered, frame_limit, goes_on, move_by, moves, receiver_of, returned}
-use Rattle.kilim_program.specs.Moves as move
-use Rattle.kilim_program.specs.Natives.{Native, FiberMember, native_of}
-use Rattle.kilim_program.specs.Natives as native
-use Rattle.kilim_program.specs.Trees.{Root, OfMessage, OfTask}
+use Rattle.kilim_thread_model.proofs.kin.Kins.{kin_length}
+use Rattle.kilim_thread_model.proofs.kin.Moving.{moves_kin}
+use Rattle.kilim_thread_model.proofs.kin.Renamed.{renamed, number_of, are_is}
+use Rattle.kilim_thread_model.proofs.kin.Rows.{rows_kin}
+use Rattle.kilim_thread_model.specs.kin.Kin.{Names, IsKin, AreKin, StandsIn, FramesKin, MoveKin}
+use Rattle.kilim_classes.specs.declared.machine.value.Object.{Object}
+use Rattle.kilim_classes.specs.machine.Effect.{Effect}
+use Rattle.kilim_classes.specs.machine.Effect as effect
+use Rattle.kilim_classes.specs.machine.Machine.{Objects, Activation}
+use Rattle.kilim_classes.specs.machine.Members.{execute_of}
+use Rattle.kilim_classes.specs.declared.machine.cause.EndCause.TheVariants as cause
+use Rattle.kilim_classes.specs.machine.Moves.{Enters, Move, effect_of, entered, frame_limit, goes_on, move_by, moves, receiver_of, returned}
+use Rattle.kilim_classes.specs.machine.Moves as move
+use Rattle.kilim_classes.specs.machine.Natives.{Native, FiberMember, native_of}
+use Rattle.kilim_classes.specs.machine.Natives as native
+use Rattle.kilim_classes.specs.machine.Trees.{Root, OfMessage, OfTask}
 use Rattle.kilim_thread_model.specs.Course.{Course}
 use Rattle.kilim_thread_model.specs.Kept.{given}
 use Rattle.kilim_thread_model.specs.State.{Setting, class_of}

@@ -4,13 +4,13 @@ use Rattle.std.specs.FinMap.{empty, insert}
 use Rattle.kilim_classes.specs.declared.value.Value.TheVariants.{Ref, Fiber}
 use Rattle.kilim_classes.specs.Program.{Program}
 use Rattle.kilim_woven_runs.specs.fiber_kin.Acts.{IsSound}
-use Rattle.kilim_program.specs.declared.cause.EndCause.TheVariants as cause
-use Rattle.kilim_program.specs.declared.value.Object.{Object}
-use Rattle.kilim_program.specs.declared.value.Token.{Token}
-use Rattle.kilim_program.specs.Machine.{Objects, Activation}
-use Rattle.kilim_program.specs.Members.{constructor_of}
-use Rattle.kilim_program.specs.Objects.{new_object}
-use Rattle.kilim_program.specs.Trees.{OfTask}
+use Rattle.kilim_classes.specs.declared.machine.cause.EndCause.TheVariants as cause
+use Rattle.kilim_classes.specs.declared.machine.value.Object.{Object}
+use Rattle.kilim_classes.specs.declared.machine.value.Token.{Token}
+use Rattle.kilim_classes.specs.machine.Machine.{Objects, Activation}
+use Rattle.kilim_classes.specs.machine.Members.{constructor_of}
+use Rattle.kilim_classes.specs.machine.Objects.{new_object}
+use Rattle.kilim_classes.specs.machine.Trees.{OfTask}
 use Rattle.kilim_thread_model.specs.Course.{Course, IsLone, next_action}
 use Rattle.kilim_thread_model.specs.declared.deed.Beginning.{Beginning}
 use Rattle.kilim_thread_model.specs.declared.deed.Beginning.TheVariants.{Boot, Begun}

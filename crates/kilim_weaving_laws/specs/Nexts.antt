@@ -5,11 +5,11 @@ use Rattle.kilim_classes.specs.declared.value.Value.TheVariants.{Null, Ref}
 use Rattle.kilim_classes.specs.Program.{Program}
 use Rattle.kilim_woven_runs.specs.fiber_kin.Acts.{IsGiven, IsSound}
 use Rattle.kilim_journal.specs.declared.entry.Act.TheVariants as act
-use Rattle.kilim_program.specs.declared.value.Object.{Object}
-use Rattle.kilim_program.specs.declared.value.Token.{Token}
-use Rattle.kilim_program.specs.Machine.{Objects}
-use Rattle.kilim_program.specs.Moves.{push_value}
-use Rattle.kilim_program.specs.Trees.{OfMessage, OfTask, Root}
+use Rattle.kilim_classes.specs.declared.machine.value.Object.{Object}
+use Rattle.kilim_classes.specs.declared.machine.value.Token.{Token}
+use Rattle.kilim_classes.specs.machine.Machine.{Objects}
+use Rattle.kilim_classes.specs.machine.Moves.{push_value}
+use Rattle.kilim_classes.specs.machine.Trees.{OfMessage, OfTask, Root}
 use Rattle.kilim_thread_model.specs.Course.{Course, next_action, plain}
 use Rattle.kilim_thread_model.specs.declared.deed.Deed.{Deed}
 use Rattle.kilim_thread_model.specs.Lone.{Lone}

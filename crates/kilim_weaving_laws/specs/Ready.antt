@@ -9,13 +9,13 @@ use Rattle.kilim_woven_runs.specs.fiber_kin.Acts.{IsGiven}
 use Rattle.kilim_woven_runs.specs.fiber_kin.Served.{gives_value}
 use Rattle.kilim_jvm_interp.specs.Run.{IsFine}
 use Rattle.kilim_jvm_interp.specs.Step.{stack_limit}
-use Rattle.kilim_program.specs.declared.value.Object.{Object}
-use Rattle.kilim_program.specs.Machine.{Objects, Activation}
-use Rattle.kilim_program.specs.Moves.{Move, moves}
-use Rattle.kilim_program.specs.Moves as move
-use Rattle.kilim_program.specs.Natives.{Native, native_of}
-use Rattle.kilim_program.specs.Natives as native
-use Rattle.kilim_program.specs.Trees.{Root}
+use Rattle.kilim_classes.specs.declared.machine.value.Object.{Object}
+use Rattle.kilim_classes.specs.machine.Machine.{Objects, Activation}
+use Rattle.kilim_classes.specs.machine.Moves.{Move, moves}
+use Rattle.kilim_classes.specs.machine.Moves as move
+use Rattle.kilim_classes.specs.machine.Natives.{Native, native_of}
+use Rattle.kilim_classes.specs.machine.Natives as native
+use Rattle.kilim_classes.specs.machine.Trees.{Root}
 use Rattle.kilim_thread_model.specs.Kept.{given}
 
 -- a built-in method whose result goes on top of the stack, or a member of `kilim/Fiber`

@@ -3,7 +3,7 @@ use Rattle.std.specs.Prelude.{Bool, List}
 use Rattle.kilim_classes.specs.Program.{Program}
 use Rattle.kilim_isolation_laws.specs.Laws.{IsRunOfAccepted}
 use Rattle.kilim_thread_model.specs.State.{Setting}
-use Rattle.kilim_woven_form.specs.Form.{WovenForm}
+use Rattle.kilim_typing.specs.woven_form.Form.{WovenForm}
 use Rattle.kilim_weaving_laws.specs.woven_served.Served.{ServesRun}
 
 -- The setting is that of a run of an accepted program; the woven program is a woven form of it, and serves the run.

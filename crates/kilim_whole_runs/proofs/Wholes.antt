@@ -2,7 +2,7 @@
 use Rattle.std.proofs.Common.{◌≡◌, Bool, true, false, List, refl, sym, subst}
 use Rattle.kilim_classes.specs.declared.names.ClassId.{ClassId}
 use Rattle.kilim_classes.specs.Program.{Program}
-use Rattle.kilim_program.specs.declared.run.Limits.{Limits}
+use Rattle.kilim_classes.specs.declared.machine.run.Limits.{Limits}
 use Rattle.kilim_journal.specs.declared.entry.Entry.{Entry}
 use Rattle.kilim_journal.specs.Readable.{IsReadable, JournalFits}
 use Rattle.kilim_isolation_laws.specs.reached_objects.Laws.{AreLive}
@@ -11,7 +11,7 @@ use Rattle.kilim_thread_model.specs.State.{Setting}
 use Rattle.kilim_thread_model.specs.Runs.{Whole}
 use Rattle.kilim_exchange.specs.Seen.{MovedWhole}
 use Rattle.kilim_whole_runs.specs.record_fiber.named.Named.{ServesNamed}
-use Rattle.kilim_one_heap.specs.Laws.{MovedIsWhole}
+use Rattle.kilim_thread_model.specs.one_heap.Laws.{MovedIsWhole}
 use Rattle.kilim_isolation_laws.specs.at_rest.readable.Laws.{RunsAreReadable}
 use Rattle.kilim_workers.specs.worker_pool.Pool.{IsOf}
 use Rattle.kilim_woven_fiber.specs.declared.code.Code.{Code}

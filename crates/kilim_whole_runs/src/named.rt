@@ -11,7 +11,7 @@ use kilim_classes::ClassId;
 use kilim_fibers::boxed::Boxed;
 use kilim_journal::Entry;
 use kilim_outside::Gate;
-use kilim_program::Limits;
+use kilim_classes::machine::Limits;
 use kilim_units::NoMemory;
 use kilim_workers::run_pool;
 use kilim_workers::worker_pool::run_one;

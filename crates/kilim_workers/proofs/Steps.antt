@@ -1,7 +1,7 @@
 -- From one step of a worker to the next.
 use Rattle.std.proofs.Common.{◌≡◌, ℕ, List, Option, Some, None, sym, ◌∙◌}
 use Rattle.kilim_classes.specs.declared.names.BoxName.{BoxName}
-use Rattle.kilim_program.specs.declared.run.Limits.{Limits}
+use Rattle.kilim_classes.specs.declared.machine.run.Limits.{Limits}
 use Rattle.kilim_thread_model.specs.State.{Setting}
 use Rattle.kilim_fibers.specs.Fibers.{Asks, Resumed, Fits, course_after, StandsFor}
 use Rattle.kilim_fibers.specs.declared.Wants.{Wants}

@@ -2,7 +2,7 @@
 use Rattle.std.specs.Prelude.{◌≡◌, ℕ, List, [], Option, Some, None}
 use Rattle.kilim_classes.specs.declared.names.BoxName.{BoxName}
 use Rattle.kilim_classes.specs.declared.names.ClassId.{ClassId}
-use Rattle.kilim_program.specs.declared.run.Limits.{Limits}
+use Rattle.kilim_classes.specs.declared.machine.run.Limits.{Limits}
 use Rattle.kilim_thread_model.specs.State.{Setting}
 use Rattle.kilim_fibers.specs.Fibers.{Fits, course_after, StandsFor}
 use Rattle.kilim_fibers.specs.declared.Wants.{Wants}

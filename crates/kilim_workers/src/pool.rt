@@ -16,7 +16,7 @@ use kilim_exchange::Lent;
 use kilim_fibers::Fibers;
 use kilim_journal::Entry;
 use kilim_outside::Gate;
-use kilim_program::Limits;
+use kilim_classes::machine::Limits;
 use kilim_turn::{Pass, Turn};
 use kilim_units::NoMemory;
 use std::alloc::Global;

@@ -46,7 +46,7 @@ impl<F: Fibers, K: Run> Model for RunBoard<F, K> {
     ghost use Rattle.kilim_thread_model.specs.State.{Setting};
     ghost use Rattle.std.specs.Coded.{codes};
     ghost use Rattle.std_collections.specs.Layout.BTreeMap.{btree_map_code};
-    ghost use Rattle.kilim_mailbox.specs.Mailbox.{Content};
+    ghost use Rattle.kilim_tree_move.specs.mailbox.Mailbox.{Content};
 
     ghost Value = { kept.Board F };
 

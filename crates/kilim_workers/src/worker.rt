@@ -14,7 +14,7 @@ use kilim_classes::BoxName;
 use kilim_exchange::{Acted, Lent};
 use kilim_fibers::{Fibers, Wants};
 use kilim_outside::Gate;
-use kilim_program::Limits;
+use kilim_classes::machine::Limits;
 use kilim_turn::{Pass, Turn};
 use kilim_units::NoMemory;
 use std::sync::Wait;

@@ -10,7 +10,7 @@ use kilim_exchange::{Acted, Board, Lent};
 use kilim_fibers::{Fibers, Wants};
 use kilim_journal::Entry;
 use kilim_outside::Gate;
-use kilim_program::Limits;
+use kilim_classes::machine::Limits;
 use kilim_units::NoMemory;
 use std::alloc::Global;
 

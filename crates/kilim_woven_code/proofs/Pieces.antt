@@ -6,8 +6,8 @@ use Rattle.kilim_classes.specs.declared.class.Method.{Method}
 use Rattle.kilim_classes.specs.declared.instr.Instr.{Instr}
 use Rattle.kilim_classes.specs.Lengths.{first_place}
 use Rattle.kilim_classes.specs.Program.{Program}
-use Rattle.kilim_woven_form.specs.Weight.{calls_in, one_more}
-use Rattle.kilim_woven_form.specs.Woven.{Item, Plan, block, blocks, count, pausable_callee, piece, pieces, resume_places}
+use Rattle.kilim_typing.specs.woven_form.Weight.{calls_in, one_more}
+use Rattle.kilim_typing.specs.woven_form.Woven.{Item, Plan, block, blocks, count, pausable_callee, piece, pieces, resume_places}
 use Rattle.kilim_woven_pieces.specs.Shown.{calls_one, first_here}
 use Rattle.kilim_woven_pieces.proofs.Lists.{drop_next, take_next}
 

@@ -9,11 +9,11 @@ use Rattle.kilim_classes.specs.declared.verified.VType.{VType}
 use Rattle.kilim_classes.specs.declared.verified.VType.TheVariants.{Null, Top}
 use Rattle.kilim_classes.specs.Lengths.{is_code_place}
 use Rattle.kilim_classes.specs.Program.{Program}
-use Rattle.kilim_lookups.specs.Places.{Above, Rising}
+use Rattle.kilim_classes.specs.lookups.Places.{Above, Rising}
 use Rattle.kilim_typing.specs.Step.{Types, is_top, peek}
 use Rattle.kilim_typing.specs.Typed.{frame_among, frames_of, listed, padded, typing_of}
-use Rattle.kilim_typing_laws.specs.Laws.{ListedFramesShow}
-use Rattle.kilim_woven_form.specs.Woven.{Plan, added_types, fiber_slot, first_of, kept_local, moved_type, old_frame, saved_from, slots_from}
+use Rattle.kilim_typing.specs.typing_laws.Laws.{ListedFramesShow}
+use Rattle.kilim_typing.specs.woven_form.Woven.{Plan, added_types, fiber_slot, first_of, kept_local, moved_type, old_frame, saved_from, slots_from}
 use Rattle.kilim_woven_pieces.specs.Listed.{Listed}
 use Rattle.kilim_woven_pieces.specs.Shown.{Shown}
 use Rattle.kilim_woven_pieces.proofs.Lists.{drop_next, drop_whole, map_around, reverse_drop, reverse_take}

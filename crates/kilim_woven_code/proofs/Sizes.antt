@@ -2,7 +2,7 @@
 use Rattle.std.proofs.Common.{◌≡◌, ℕ, ℤ, true, List, length, refl, ap, sym, ◌∙◌}
 use Rattle.kilim_classes.specs.declared.instr.Instr.{Instr}
 use Rattle.kilim_classes.specs.declared.instr.Instr.TheVariants.{Iload, Lload, Aload, Istore, Lstore, Astore, Tableswitch, Lookupswitch}
-use Rattle.kilim_woven_form.specs.Woven.{old_size}
+use Rattle.kilim_typing.specs.woven_form.Woven.{old_size}
 use Rattle.kilim_woven_pieces.specs.declared.item.Size.TheVariants.{Fixed, Lookup}
 use Rattle.kilim_woven_pieces.specs.Items.{is_kept, size_of}
 

@@ -3,7 +3,7 @@ use Rattle.std.proofs.Common.{◌≡◌, ℕ, Bool, false, List, [], ◌∷◌, 
 use Rattle.std.specs.Prelude.{IfOk}
 use Rattle.kilim_classes.specs.declared.instr.Instr.{Instr}
 use Rattle.kilim_classes.specs.declared.instr.Instr.TheVariants.{Tableswitch, Lookupswitch, Ifeq, Ifne, Iflt, Ifge, Ifgt, Ifle, Goto, Ifnull, Ifnonnull, GotoW, IfIcmpeq, IfIcmpne, IfIcmplt, IfIcmpge, IfIcmpgt, IfIcmple, IfAcmpeq, IfAcmpne}
-use Rattle.kilim_woven_form.specs.Woven.{moved_instr, moved_pairs}
+use Rattle.kilim_typing.specs.woven_form.Woven.{moved_instr, moved_pairs}
 use Rattle.kilim_woven_pieces.specs.Items.{has_target, target_of, Moves}
 
 -- One without a target stays.

@@ -1,8 +1,8 @@
 //! How many pausable calls there are.
 
 ghost use Rattle.std.specs.Prelude.{◌≡◌, option_copied, IfOk};
-ghost use Rattle.kilim_woven_form.specs.Weight.{calls_in};
-ghost use Rattle.kilim_woven_form.specs.Woven as form;
+ghost use Rattle.kilim_typing.specs.woven_form.Weight.{calls_in};
+ghost use Rattle.kilim_typing.specs.woven_form.Woven as form;
 
 use crate::frames::entry_at;
 use kilim_classes::{Instr, Method, Program};

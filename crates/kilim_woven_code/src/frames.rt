@@ -5,13 +5,13 @@ ghost use Rattle.kilim_classes.specs.declared.instr.Instr.{Instr};
 ghost use Rattle.kilim_classes.specs.declared.verified.VType.TheVariants.{Top};
 ghost use Rattle.kilim_classes.specs.Lengths.{first_place};
 ghost use Rattle.kilim_typing.specs.Step.{peek};
-ghost use Rattle.kilim_woven_form.specs.Woven as form;
+ghost use Rattle.kilim_typing.specs.woven_form.Woven as form;
 ghost use Rattle.kilim_woven_pieces.specs.Places.{at_in};
 ghost use Rattle.kilim_woven_pieces.specs.Shown.{Shown};
 ghost use Rattle.kilim_woven_pieces.specs.Meant.{Ready, meant};
 
 use kilim_classes::{ClassId, Frame, Instr, Method, VType};
-use kilim_typing_laws::listed_frames_show;
+use kilim_typing::typing_laws::listed_frames_show;
 use kilim_units::{NoMemory, Seq};
 use kilim_woven_pieces::{Places, Plan, class_vtype, type_at};
 use std::alloc::Global;

@@ -3,7 +3,7 @@
 ghost use Rattle.std.specs.Prelude.{◌≡◌, ◌∷◌, ◌++◌, ◌&&◌, [], Some, true, not, drop, reverse, if◌then◌else◌, IfOk, OnOk};
 ghost use Rattle.kilim_typing.specs.Step.{is_top};
 ghost use Rattle.kilim_liveness.specs.Table.{live_in};
-ghost use Rattle.kilim_woven_form.specs.Woven as form;
+ghost use Rattle.kilim_typing.specs.woven_form.Woven as form;
 ghost use Rattle.kilim_woven_pieces.specs.Shown.{Shown};
 ghost use Rattle.kilim_woven_pieces.specs.Meant.{meant};
 ghost use Rattle.kilim_woven_pieces.specs.Items.{items_of};

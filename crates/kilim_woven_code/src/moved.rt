@@ -2,7 +2,7 @@
 
 ghost use Rattle.std.specs.Prelude.{◌≡◌, ◌-◌, ◌<◌, Some, length, map, slice_get, IfOk};
 ghost use Rattle.kilim_woven_pieces.specs.Items.{has_target, is_kept, size_of, target_of, Moves};
-ghost use Rattle.kilim_woven_form.specs.Woven as form;
+ghost use Rattle.kilim_typing.specs.woven_form.Woven as form;
 ghost use Rattle.kilim_woven_pieces.specs.Places.{at_in};
 
 use crate::copies::copied;

@@ -2,8 +2,8 @@
 
 ghost use Rattle.std.specs.Prelude.{◌≡◌, ◌<◌, ◌+◌, None, true, length, is_some, option_copied, IfOk, OnOk};
 ghost use Rattle.kilim_typing.specs.Typed.{declared};
-ghost use Rattle.kilim_woven_form.specs.Weight.{calls_in};
-ghost use Rattle.kilim_woven_form.specs.Woven as form;
+ghost use Rattle.kilim_typing.specs.woven_form.Weight.{calls_in};
+ghost use Rattle.kilim_typing.specs.woven_form.Woven as form;
 ghost use Rattle.kilim_woven_pieces.specs.Shown.{Shown, first_here};
 ghost use Rattle.kilim_woven_pieces.specs.Meant.{Ready, meant};
 ghost use Rattle.kilim_woven_pieces.specs.Items.{items_of};

@@ -1,8 +1,8 @@
 //! Resume blocks. All is put before the items behind it.
 
 ghost use Rattle.std.specs.Prelude.{◌≡◌, ◌∷◌, ◌<◌, ◌+◌, Some, [], drop, reverse, slice_get, length, option_copied, OnOk};
-ghost use Rattle.kilim_woven_form.specs.Weight.{calls_in};
-ghost use Rattle.kilim_woven_form.specs.Woven as form;
+ghost use Rattle.kilim_typing.specs.woven_form.Weight.{calls_in};
+ghost use Rattle.kilim_typing.specs.woven_form.Woven as form;
 ghost use Rattle.kilim_woven_pieces.specs.Shown.{Shown};
 ghost use Rattle.kilim_woven_pieces.specs.Meant.{Ready, meant};
 ghost use Rattle.kilim_woven_pieces.specs.Items.{items_of};

@@ -2,8 +2,8 @@
 
 ghost use Rattle.std.specs.Prelude.{◌≡◌, ◌∷◌, [], IfOk, OnOk};
 ghost use Rattle.kilim_classes.specs.Same.{argument_slots};
-ghost use Rattle.kilim_woven_form.specs.Weight.{calls_in};
-ghost use Rattle.kilim_woven_form.specs.Woven as form;
+ghost use Rattle.kilim_typing.specs.woven_form.Weight.{calls_in};
+ghost use Rattle.kilim_typing.specs.woven_form.Woven as form;
 ghost use Rattle.kilim_woven_pieces.specs.Meant.{Ready, meant};
 ghost use Rattle.kilim_woven_pieces.specs.Items.{items_of};
 

@@ -5,12 +5,12 @@ use Rattle.kilim_classes.specs.declared.names.BoxName.{BoxName}
 use Rattle.kilim_classes.specs.declared.value.Value.{Value}
 use Rattle.kilim_classes.specs.declared.value.Value.TheVariants.{Int, Long, Null, Ref, Text, Box, Fiber}
 use Rattle.kilim_classes.specs.Program.{Program}
-use Rattle.kilim_program.specs.declared.value.Object.{Object}
-use Rattle.kilim_program.specs.declared.value.Token.{Token}
-use Rattle.kilim_program.specs.Machine.{Objects}
-use Rattle.kilim_program.specs.Natives as native
-use Rattle.kilim_program.specs.Shapes.{shape_of}
-use Rattle.kilim_program.specs.Trees.{OfMessage}
+use Rattle.kilim_classes.specs.declared.machine.value.Object.{Object}
+use Rattle.kilim_classes.specs.declared.machine.value.Token.{Token}
+use Rattle.kilim_classes.specs.machine.Machine.{Objects}
+use Rattle.kilim_classes.specs.machine.Natives as native
+use Rattle.kilim_classes.specs.machine.Shapes.{shape_of}
+use Rattle.kilim_classes.specs.machine.Trees.{OfMessage}
 use Rattle.kilim_machine_parts.specs.declared.frames.frames.Frames.{Frames}
 use Rattle.kilim_units.specs.declared.memory.NoMemory.{NoMemory}
 use Rattle.kilim_thread_model.specs.State.{Setting}
@@ -21,13 +21,13 @@ use Rattle.kilim_woven_fiber.specs.Operands.{AreOperands}
 use Rattle.kilim_woven_fiber.specs.declared.operands.Operands.{Operands}
 use Rattle.kilim_woven_fiber.specs.declared.operands.Operands.TheVariants as copied
 use Rattle.kilim_woven_fiber.specs.Comes.{CanAsk, IsGivenBy, GiftIs, IsGift, Comes}
-use Rattle.kilim_fiber_records.specs.natives.Natives.{meaning}
+use Rattle.kilim_woven_runs.specs.fiber_records.natives.Natives.{meaning}
 use Rattle.kilim_woven_fiber.specs.declared.body.Body.{Body}
 use Rattle.kilim_woven_fiber.specs.declared.body.Came.{Came}
 use Rattle.kilim_woven_fiber.specs.declared.gifts.Gift.{Gift}
 use Rattle.kilim_woven_fiber.specs.declared.gifts.Gift.TheVariants as gift
-use Rattle.kilim_fiber_records.specs.declared.natives.natives.Native.{Native}
-use Rattle.kilim_fiber_records.specs.declared.natives.natives.Native.TheVariants as code
+use Rattle.kilim_woven_runs.specs.declared.fiber_records.natives.natives.Native.{Native}
+use Rattle.kilim_woven_runs.specs.declared.fiber_records.natives.natives.Native.TheVariants as code
 
 -- what comes, of the same next thing
 pub come_by : (x : ℕ) (new : Body) (r : Result Came NoMemory) (a b : Next) → a ≡ b → IfOk r (λ came. Comes x a new came) → IfOk r (λ came. Comes x b new came)

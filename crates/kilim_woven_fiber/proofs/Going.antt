@@ -7,12 +7,12 @@ use Rattle.kilim_classes.specs.declared.instr.Instr.{Instr}
 use Rattle.kilim_classes.specs.declared.names.MethodId.{MethodId}
 use Rattle.kilim_classes.specs.declared.value.Value.TheVariants.{Ref}
 use Rattle.kilim_classes.specs.Program.{Program}
-use Rattle.kilim_program.specs.declared.cause.EndCause.{EndCause}
-use Rattle.kilim_program.specs.declared.cause.EndCause.TheVariants as cause
-use Rattle.kilim_program.specs.Machine.{Objects, Activation}
-use Rattle.kilim_program.specs.Moves.{Change, Move, moves, push_value}
-use Rattle.kilim_program.specs.Moves as move
-use Rattle.kilim_program.specs.Natives.{native_of}
+use Rattle.kilim_classes.specs.declared.machine.cause.EndCause.{EndCause}
+use Rattle.kilim_classes.specs.declared.machine.cause.EndCause.TheVariants as cause
+use Rattle.kilim_classes.specs.machine.Machine.{Objects, Activation}
+use Rattle.kilim_classes.specs.machine.Moves.{Change, Move, moves, push_value}
+use Rattle.kilim_classes.specs.machine.Moves as move
+use Rattle.kilim_classes.specs.machine.Natives.{native_of}
 use Rattle.kilim_machine_parts.specs.declared.frames.frames.Frames.{Frames}
 use Rattle.kilim_machine_parts.specs.frames.Calls.{answered}
 use Rattle.kilim_thread_model.specs.State.{Setting}

@@ -2,9 +2,9 @@
 use Rattle.std.specs.Prelude.{◌≡◌, ℕ, List, Some}
 use Rattle.kilim_classes.specs.declared.value.Value.TheVariants.{Ref}
 use Rattle.kilim_classes.specs.Program.{Program}
-use Rattle.kilim_program.specs.declared.value.Object.{Object}
-use Rattle.kilim_program.specs.declared.value.Token.{Token}
-use Rattle.kilim_program.specs.Shapes.{shape_of}
+use Rattle.kilim_classes.specs.declared.machine.value.Object.{Object}
+use Rattle.kilim_classes.specs.declared.machine.value.Token.{Token}
+use Rattle.kilim_classes.specs.machine.Shapes.{shape_of}
 use Rattle.kilim_tree_move.specs.Moved.{PutIn, tree_heap}
 use Rattle.kilim_weaving_laws.specs.woven_kin.Nexts.{counted, taken_at, with_result}
 use Rattle.kilim_woven_fiber.specs.Body.{behind_at, standing_at, RoomyIn}

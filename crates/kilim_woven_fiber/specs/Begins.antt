@@ -4,9 +4,9 @@ use Rattle.std.specs.FinMap.{empty, insert}
 use Rattle.kilim_classes.specs.Program.{Program}
 use Rattle.kilim_classes.specs.declared.names.ClassId.{ClassId}
 use Rattle.kilim_classes.specs.declared.value.Value.TheVariants.{Ref, Fiber}
-use Rattle.kilim_program.specs.declared.value.Object.{Object}
-use Rattle.kilim_program.specs.Members.{constructor_of}
-use Rattle.kilim_program.specs.Objects.{new_object}
+use Rattle.kilim_classes.specs.declared.machine.value.Object.{Object}
+use Rattle.kilim_classes.specs.machine.Members.{constructor_of}
+use Rattle.kilim_classes.specs.machine.Objects.{new_object}
 use Rattle.kilim_tree_move.specs.Moved.{PutIn}
 use Rattle.kilim_woven_runs.specs.Fibers.{executes_on, new_fiber}
 use Rattle.kilim_weaving_laws.specs.woven_kin.Nexts.{begun_with}

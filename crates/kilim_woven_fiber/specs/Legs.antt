@@ -4,8 +4,8 @@ use Rattle.kilim_classes.specs.declared.names.MethodId.{MethodId}
 use Rattle.kilim_classes.specs.Program.{Program}
 use Rattle.kilim_marked_runs.specs.declared.runs.Halted.{Halted}
 use Rattle.kilim_marked_runs.specs.declared.runs.Halted.TheVariants as halted
-use Rattle.kilim_program.specs.declared.cause.EndCause.TheVariants as cause
-use Rattle.kilim_program.specs.Natives.{native_of}
+use Rattle.kilim_classes.specs.declared.machine.cause.EndCause.TheVariants as cause
+use Rattle.kilim_classes.specs.machine.Natives.{native_of}
 use Rattle.kilim_thread_model.specs.State.{Setting}
 use Rattle.kilim_weaving_laws.specs.woven_kin.Standing.{Standing}
 use Rattle.kilim_weaving_laws.specs.woven_kin.Nexts.{Next, Ends, asks_next, finish_next, next_of, opens_next}

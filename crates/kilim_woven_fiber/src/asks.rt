@@ -2,16 +2,16 @@
 
 ghost use Rattle.std.specs.Prelude.{◌≡◌, ◌<◌, ◌+◌, ◌^◌, ◌∷◌, [], true, length, Some, IfOk, OnOk};
 ghost use Rattle.kilim_classes.specs.declared.value.Value.TheVariants as a_value;
-ghost use Rattle.kilim_program.specs.Natives as a_native;
-ghost use Rattle.kilim_program.specs.Natives.{native_of};
-ghost use Rattle.kilim_program.specs.Shapes.{shape_of};
+ghost use Rattle.kilim_classes.specs.machine.Natives as a_native;
+ghost use Rattle.kilim_classes.specs.machine.Natives.{native_of};
+ghost use Rattle.kilim_classes.specs.machine.Shapes.{shape_of};
 ghost use Rattle.kilim_thread_model.specs.State.{Setting};
 ghost use Rattle.kilim_thread_model.specs.Lone.{narrowed, arg_at, printed};
 ghost use Rattle.kilim_weaving_laws.specs.woven_kin.Nexts.{Goes, counted, with_result, arg_next, print_next, put_next, message_next, start_next, native_next, asks_next, yield_next, spent_or, paused_at, taken_at, Gets};
 ghost use Rattle.kilim_woven_runs.specs.Fibers.{is_rewinding};
 ghost use Rattle.kilim_woven_fiber.specs.Body.{standing_at, behind_at, operands_in, RoomyIn, RoomIn, HasFrames, HasOperands};
 ghost use Rattle.kilim_woven_fiber.specs.Comes.{CanGive, IsGivenBy, CanAsk, Comes, HasRoomFor, IsNear};
-ghost use Rattle.kilim_fiber_records.specs.natives.Natives.{meaning};
+ghost use Rattle.kilim_woven_runs.specs.fiber_records.natives.Natives.{meaning};
 
 use crate::body::{Body, Came};
 use crate::code::Code;
@@ -20,8 +20,8 @@ use crate::members::{ask_member, pass_on};
 use crate::operands::{Operands, copy_operands};
 use crate::pass::{give, pass};
 use kilim_classes::{BoxName, MethodId, Program, Value};
-use kilim_fiber_records::natives::Native;
-use kilim_program::{EndCause, Limits, Shape, Token};
+use kilim_woven_runs::fiber_records::natives::Native;
+use kilim_classes::machine::{EndCause, Limits, Shape, Token};
 use kilim_units::{NoMemory, Seq};
 use std::alloc::Global;
 

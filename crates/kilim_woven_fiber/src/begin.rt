@@ -2,7 +2,7 @@
 
 ghost use Rattle.std.specs.Prelude.{◌≡◌, ◌∷◌, [], Some, IfOk};
 ghost use Rattle.kilim_classes.specs.declared.value.Value.TheVariants as a_value;
-ghost use Rattle.kilim_program.specs.Moves.{entered};
+ghost use Rattle.kilim_classes.specs.machine.Moves.{entered};
 ghost use Rattle.kilim_machine_parts.specs.frames.Calls.{calls_of};
 ghost use Rattle.kilim_jvm_interp.specs.Step.{AreRoomy};
 ghost use Rattle.kilim_weaving_laws.specs.woven_kin.Nexts.{begun_with};
@@ -10,7 +10,7 @@ ghost use Rattle.kilim_woven_fiber.specs.Body.{calls_in, RoomyIn};
 
 use kilim_classes::{MethodId, Program, Value};
 use kilim_jvm_interp::new_frame;
-use kilim_lookups::method_at;
+use kilim_classes::lookups::method_at;
 use kilim_machine_parts::frames::{Callers, Frames};
 use kilim_units::NoMemory;
 use std::alloc::Global;

@@ -2,13 +2,13 @@
 
 ghost use Rattle.std.specs.Prelude.{◌≡◌, IfOk, IfSome, Some};
 ghost use Rattle.std.proofs.Props.{props};
-ghost use Rattle.kilim_program.specs.Members.{execute_of};
-ghost use Rattle.kilim_program.specs.Natives.{native_of};
-ghost use Rattle.kilim_fiber_records.specs.natives.Natives.{meaning};
-ghost use Rattle.kilim_fiber_records.specs.natives.Tables.{AreExecutes, AreNatives};
+ghost use Rattle.kilim_classes.specs.machine.Members.{execute_of};
+ghost use Rattle.kilim_classes.specs.machine.Natives.{native_of};
+ghost use Rattle.kilim_woven_runs.specs.fiber_records.natives.Natives.{meaning};
+ghost use Rattle.kilim_woven_runs.specs.fiber_records.natives.Tables.{AreExecutes, AreNatives};
 
 use kilim_classes::{ClassId, MethodId, Program};
-use kilim_fiber_records::natives::{Native, execute_at, execute_table, native_at, native_table};
+use kilim_woven_runs::fiber_records::natives::{Native, execute_at, execute_table, native_at, native_table};
 use kilim_marked_runs::Places;
 use kilim_units::{NoMemory, Seq};
 use std::alloc::Global;

@@ -2,7 +2,7 @@
 
 ghost use Rattle.std.specs.Prelude.{◌≡◌, IfOk};
 
-use kilim_program::Shape;
+use kilim_classes::machine::Shape;
 use kilim_units::NoMemory;
 use std::alloc::Global;
 

@@ -2,17 +2,17 @@
 
 ghost use Rattle.std.specs.Prelude.{◌≡◌, ◌∷◌, [], true, Some, IfOk, OnOk};
 ghost use Rattle.kilim_classes.specs.declared.value.Value.TheVariants as a_value;
-ghost use Rattle.kilim_program.specs.Natives as native;
+ghost use Rattle.kilim_classes.specs.machine.Natives as native;
 ghost use Rattle.kilim_weaving_laws.specs.woven_kin.Nexts.{member_next, with_result};
 ghost use Rattle.kilim_woven_fiber.specs.Body.{behind_at, operands_in, standing_at, HasFrames, RoomyIn, RoomIn};
 ghost use Rattle.kilim_woven_fiber.specs.Comes.{Comes, gives_result};
-ghost use Rattle.kilim_fiber_records.specs.natives.Natives.{member_meant};
+ghost use Rattle.kilim_woven_runs.specs.fiber_records.natives.Natives.{member_meant};
 
 use crate::body::{Body, Came};
 use crate::operands::{is_alone, take_place, take_value};
 use crate::pass::{give, pass};
 use kilim_classes::{Program, Value};
-use kilim_fiber_records::natives::Member;
+use kilim_woven_runs::fiber_records::natives::Member;
 use kilim_units::NoMemory;
 use std::alloc::Global;
 

@@ -1,7 +1,7 @@
 //! Behind an instruction that was handed out.
 
 ghost use Rattle.std.specs.Prelude.{◌≡◌};
-ghost use Rattle.kilim_program.specs.Moves.{push_value};
+ghost use Rattle.kilim_classes.specs.machine.Moves.{push_value};
 ghost use Rattle.kilim_machine_parts.specs.frames.Calls.{calls_of, answered};
 ghost use Rattle.kilim_jvm_interp.specs.Step.{AreRoomy};
 ghost use Rattle.kilim_woven_fiber.specs.Body.{RoomBehind};

@@ -1,11 +1,11 @@
 -- The first place of each label.
 use Rattle.std.proofs.Common.{◌≡◌, ℕ, ◌+◌, Bool, true, false, List, [], ◌∷◌, Option, Some, None, get_or, refl, ap, sym, subst, ◌∙◌}
 use Rattle.std.specs.Prelude.{◌==◌, if◌then◌else◌}
-use Rattle.kilim_woven_form.specs.Woven.{Does, Item, Label, Mark, Old, Plan, Resumes, behind}
+use Rattle.kilim_typing.specs.woven_form.Woven.{Does, Item, Label, Mark, Old, Plan, Resumes, behind}
 use Rattle.kilim_classes.specs.declared.instr.Instr.{Instr}
 use Rattle.kilim_classes.specs.declared.verified.Frame.{Frame}
-use Rattle.kilim_woven_form.specs.woven_program.labels.Law.{found, same_label}
-use Rattle.kilim_woven_form.specs.shape.Law.{labels_from}
+use Rattle.kilim_typing.specs.woven_form.woven_program.labels.Law.{found, same_label}
+use Rattle.kilim_typing.specs.woven_form.shape.Law.{labels_from}
 use Rattle.kilim_woven_pieces.specs.Places.{Tables, or_else}
 use Rattle.kilim_woven_method.specs.Found.{AreFound, Finds, first_place_of, looked, or_first}
 

@@ -2,7 +2,7 @@
 use Rattle.std.proofs.Common.{◌≡◌, ℕ, ◌+◌, Bool, List, [], ◌∷◌, ◌++◌, Option, Some, None, refl, ap, sym, subst, ◌∙◌, append_assoc}
 use Rattle.kilim_classes.specs.declared.instr.Instr.{Instr}
 use Rattle.kilim_classes.specs.declared.verified.Frame.{Frame}
-use Rattle.kilim_woven_form.specs.Woven.{Does, Item, Label, Mark, behind, lay, lay_frames, marks, with_frame}
+use Rattle.kilim_typing.specs.woven_form.Woven.{Does, Item, Label, Mark, behind, lay, lay_frames, marks, with_frame}
 use Rattle.kilim_woven_method.specs.Laid.{Follows, IsLaid, Output}
 
 nil_behind : {A : Type 0} (xs : List A) → xs ++ [] ≡ xs

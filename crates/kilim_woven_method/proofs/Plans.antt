@@ -2,10 +2,10 @@
 use Rattle.std.proofs.Common.{◌≡◌, ℕ, ◌+◌, Bool, List, Option, get_or, None, refl, ap, sym, ◌∙◌}
 use Rattle.kilim_classes.specs.declared.class.Method.{Method}
 use Rattle.kilim_classes.specs.Program.{Program}
-use Rattle.kilim_woven_form.specs.Form.{plan_of}
-use Rattle.kilim_woven_form.specs.Woven.{Label, Old, Plan, Resumes, behind, woven_items}
-use Rattle.kilim_woven_form.specs.woven_program.labels.Law.{found, found_plan}
-use Rattle.kilim_woven_form.specs.shape.Law.{PlacesDontMatter, labels_from, placed}
+use Rattle.kilim_typing.specs.woven_form.Form.{plan_of}
+use Rattle.kilim_typing.specs.woven_form.Woven.{Label, Old, Plan, Resumes, behind, woven_items}
+use Rattle.kilim_typing.specs.woven_form.woven_program.labels.Law.{found, found_plan}
+use Rattle.kilim_typing.specs.woven_form.shape.Law.{PlacesDontMatter, labels_from, placed}
 use Rattle.kilim_woven_pieces.specs.Places.{Tables, at_in, block_in, or_else}
 use Rattle.kilim_woven_method.specs.Found.{AreFound, first_place_of, looked}
 use Rattle.kilim_woven_method.proofs.Finding.{found_is}

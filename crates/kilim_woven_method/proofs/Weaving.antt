@@ -9,9 +9,9 @@ use Rattle.kilim_classes.specs.declared.verified.VType.{VType}
 use Rattle.kilim_classes.specs.BuiltIn.{class_type}
 use Rattle.kilim_classes.specs.Program.{Program}
 use Rattle.kilim_typing.specs.Step.{class_vtype}
-use Rattle.kilim_woven_form.specs.Woven.{Item, added_types, behind, fiber, fiber_slot, lay, marks, woven_items, woven_method}
+use Rattle.kilim_typing.specs.woven_form.Woven.{Item, added_types, behind, fiber, fiber_slot, lay, marks, woven_items, woven_method}
 use Rattle.kilim_woven_method.specs.Laid.{IsLaid, Output}
-use Rattle.kilim_woven_form.specs.woven_program.Made.{made_as, method_plan}
+use Rattle.kilim_typing.specs.woven_form.woven_program.Made.{made_as, method_plan}
 use Rattle.kilim_woven_method.specs.declared.method.Slots.{Slots}
 use Rattle.kilim_woven_method.specs.Flags.{AreSlots}
 

@@ -5,7 +5,7 @@ use Rattle.kilim_classes.specs.declared.verified.Frame.{Frame}
 use Rattle.kilim_classes.specs.Program.{Program}
 use Rattle.kilim_classes.specs.Same.{argument_slots}
 use Rattle.kilim_typing.specs.Typed.{frame_in}
-use Rattle.kilim_woven_form.specs.Woven.{fiber_slot}
+use Rattle.kilim_typing.specs.woven_form.Woven.{fiber_slot}
 use Rattle.kilim_woven_method.specs.declared.method.Slots.{Slots}
 
 -- flags tell at which places frames of a list are declared

@@ -1,8 +1,8 @@
 -- The places of labels, by tables.
 use Rattle.std.specs.Prelude.{◌≡◌, ℕ, Bool, ◌==◌, if◌then◌else◌, List, [], ◌∷◌, Option, Some, None, get_or}
-use Rattle.kilim_woven_form.specs.Woven.{Item, Label, Old, Resumes, behind}
-use Rattle.kilim_woven_form.specs.woven_program.labels.Law.{same_label}
-use Rattle.kilim_woven_form.specs.shape.Law.{labels_from}
+use Rattle.kilim_typing.specs.woven_form.Woven.{Item, Label, Old, Resumes, behind}
+use Rattle.kilim_typing.specs.woven_form.woven_program.labels.Law.{same_label}
+use Rattle.kilim_typing.specs.woven_form.shape.Law.{labels_from}
 use Rattle.kilim_woven_pieces.specs.Places.{Tables}
 
 abbrev pub or_first : Option ℕ → Option ℕ → Option ℕ

@@ -2,7 +2,7 @@
 use Rattle.std.specs.Prelude.{◌≡◌, ℕ, Bool, List, ◌++◌}
 use Rattle.kilim_classes.specs.declared.instr.Instr.{Instr}
 use Rattle.kilim_classes.specs.declared.verified.Frame.{Frame}
-use Rattle.kilim_woven_form.specs.Woven.{Item, behind, lay, lay_frames, marks}
+use Rattle.kilim_typing.specs.woven_form.Woven.{Item, behind, lay, lay_frames, marks}
 
 -- what was laid out, and the place behind it
 pub record Output : Type 0 where

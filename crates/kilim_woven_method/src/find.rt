@@ -1,9 +1,9 @@
 //! Finding the places of labels.
 
 ghost use Rattle.std.specs.Prelude.{◌≡◌, ◌<◌, ◌∷◌, ◌+◌, ◌==◌, ℕ, List, [], Some, None, length, get_or, set, if◌then◌else◌, IfOk, OnOk};
-ghost use Rattle.kilim_woven_form.specs.Woven as form;
+ghost use Rattle.kilim_typing.specs.woven_form.Woven as form;
 ghost use Rattle.kilim_woven_pieces.specs.Items.{item_of, items_of, label_of, size_of};
-ghost use Rattle.kilim_woven_form.specs.woven_program.labels.Law.{same_label};
+ghost use Rattle.kilim_typing.specs.woven_form.woven_program.labels.Law.{same_label};
 ghost use Rattle.kilim_woven_method.specs.Found.{AreFound, Finds, looked, or_first};
 
 use crate::size::place_behind;

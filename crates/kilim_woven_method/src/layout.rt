@@ -1,7 +1,7 @@
 //! Laying items out.
 
 ghost use Rattle.std.specs.Prelude.{◌≡◌, ◌∷◌, ◌++◌, ◌+◌, List, [], IfOk, OnOk};
-ghost use Rattle.kilim_woven_form.specs.Woven as form;
+ghost use Rattle.kilim_typing.specs.woven_form.Woven as form;
 ghost use Rattle.kilim_woven_pieces.specs.Items.{item_of, items_of, size_of};
 ghost use Rattle.kilim_woven_method.specs.Laid.{Follows, IsLaid};
 

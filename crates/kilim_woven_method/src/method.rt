@@ -3,14 +3,14 @@
 ghost use Rattle.std.specs.Prelude.{◌≡◌, ◌+◌, ◌∷◌, ◌++◌, [], true, if◌then◌else◌, IfOk};
 ghost use Rattle.kilim_classes.specs.BuiltIn.{class_type};
 ghost use Rattle.kilim_liveness.specs.Table.{live_in};
-ghost use Rattle.kilim_lookups.specs.Places.{Rising};
-ghost use Rattle.kilim_woven_form.specs.Form.{plan_of};
-ghost use Rattle.kilim_woven_form.specs.Woven as form;
-ghost use Rattle.kilim_woven_form.specs.shape.Law.{placed};
+ghost use Rattle.kilim_classes.specs.lookups.Places.{Rising};
+ghost use Rattle.kilim_typing.specs.woven_form.Form.{plan_of};
+ghost use Rattle.kilim_typing.specs.woven_form.Woven as form;
+ghost use Rattle.kilim_typing.specs.woven_form.shape.Law.{placed};
 ghost use Rattle.kilim_woven_pieces.specs.Items.{items_of};
 ghost use Rattle.kilim_woven_pieces.specs.Listed.{AreDeclared, Listed};
 ghost use Rattle.kilim_woven_pieces.specs.Places.{at_in, block_in};
-ghost use Rattle.kilim_woven_form.specs.woven_program.Made.{made_as};
+ghost use Rattle.kilim_typing.specs.woven_form.woven_program.Made.{made_as};
 ghost use Rattle.kilim_woven_method.specs.Flags.{AreSlots};
 
 use crate::copy::{Head, copy_head, with_parts};
@@ -21,7 +21,7 @@ use kilim_classes::{Base, ClassId, Frame, Method, Program, Qualifier, Ty};
 use kilim_liveness::LiveTable;
 use kilim_units::{NoMemory, Seq};
 use kilim_woven_code::{Items, Places, Plan, woven_items};
-use kilim_woven_form::shape::places_dont_matter;
+use kilim_typing::woven_form::shape::places_dont_matter;
 use std::alloc::Global;
 
 /// The locals and numbers that a woven method names.

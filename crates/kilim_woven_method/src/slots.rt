@@ -2,7 +2,7 @@
 
 ghost use Rattle.std.specs.Prelude.{◌≡◌, ◌<◌, ◌+◌, Some, suc, length, slice_get, sum_by, IfOk};
 ghost use Rattle.kilim_classes.specs.Same.{argument_slots, type_slots};
-ghost use Rattle.kilim_woven_form.specs.Woven.{fiber_slot, larger};
+ghost use Rattle.kilim_typing.specs.woven_form.Woven.{fiber_slot, larger};
 
 use kilim_classes::{Base, Method, Ty};
 use kilim_units::NoMemory;

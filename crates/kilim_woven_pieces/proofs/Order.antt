@@ -1,6 +1,6 @@
 -- The last item of a list that is kept from its end comes first.
 use Rattle.std.proofs.Common.{◌≡◌, List, [], ◌∷◌, ◌++◌, length, refl, arith}
-use Rattle.kilim_woven_form.specs.Woven as form
+use Rattle.kilim_typing.specs.woven_form.Woven as form
 use Rattle.kilim_woven_pieces.specs.declared.item.Item.{Item}
 use Rattle.kilim_woven_pieces.specs.Items.{item_of, items_on}
 

@@ -3,7 +3,7 @@ use Rattle.std.proofs.Common.{◌≡◌, ℕ, ℤ, ◌+◌, List, [], ◌∷◌,
 use Rattle.kilim_classes.specs.declared.ty.Ty.{Ty}
 use Rattle.kilim_classes.specs.declared.verified.VType.{VType}
 use Rattle.kilim_typing.specs.Step.{vtype}
-use Rattle.kilim_woven_form.specs.Woven.{Item, Plan, moved_pairs, added, dummies, dummy_of, restore, restore_local, restore_locals, restore_stack, save, save_local, save_locals, save_stack}
+use Rattle.kilim_typing.specs.woven_form.Woven.{Item, Plan, moved_pairs, added, dummies, dummy_of, restore, restore_local, restore_locals, restore_stack, save, save_local, save_locals, save_stack}
 use Rattle.kilim_woven_pieces.proofs.Lists.{drop_next, reverse_take}
 
 module _ (x : Plan) (before now new : List Item) where

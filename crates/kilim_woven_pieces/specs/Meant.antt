@@ -1,8 +1,8 @@
 -- The plan of the definitions.
-use Rattle.kilim_lookups.specs.Places.{Rising}
+use Rattle.kilim_classes.specs.lookups.Places.{Rising}
 use Rattle.kilim_liveness.specs.Table.{live_in}
 use Rattle.kilim_typing.specs.Typed.{typing_of}
-use Rattle.kilim_woven_form.specs.Woven as form
+use Rattle.kilim_typing.specs.woven_form.Woven as form
 use Rattle.kilim_woven_pieces.specs.declared.plan.Plan.{Plan}
 use Rattle.kilim_woven_pieces.specs.Listed.{Listed}
 use Rattle.kilim_woven_pieces.specs.Places.{at_in, block_in}

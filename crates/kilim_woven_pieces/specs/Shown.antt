@@ -4,7 +4,7 @@ use Rattle.kilim_classes.specs.declared.instr.Instr.{Instr}
 use Rattle.kilim_classes.specs.declared.verified.Frame.{Frame}
 use Rattle.kilim_classes.specs.Program.{Program}
 use Rattle.kilim_typing.specs.Step.{peek}
-use Rattle.kilim_woven_form.specs.Woven.{Plan, pausable_callee, saved_from}
+use Rattle.kilim_typing.specs.woven_form.Woven.{Plan, pausable_callee, saved_from}
 
 pub record Shown (x : Plan) (place : ℕ) (frame : Frame) : Type 0 where
   pub locals : (slot : ℕ) → peek frame.locals slot ≡ peek (x.typing place).locals slot

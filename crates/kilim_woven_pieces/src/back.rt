@@ -1,7 +1,7 @@
 //! The way back to a call. All is put before the items behind it.
 
 ghost use Rattle.std.specs.Prelude.{◌≡◌, ◌∷◌, ◌<◌, Some, length, slice_get, OnOk};
-ghost use Rattle.kilim_woven_form.specs.Woven as form;
+ghost use Rattle.kilim_typing.specs.woven_form.Woven as form;
 ghost use Rattle.kilim_woven_pieces.specs.Meant.{meant};
 ghost use Rattle.kilim_woven_pieces.specs.Items.{items_of};
 ghost use Rattle.kilim_woven_pieces.specs.Places.{at_in};

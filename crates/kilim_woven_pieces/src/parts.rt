@@ -3,14 +3,14 @@
 ghost use Rattle.std.specs.Prelude.{◌≡◌, ◌∷◌, ◌<◌, ◌≤◌, ◌+◌, ◌*◌, IfOk, OnOk, option_copied};
 ghost use Rattle.kilim_classes.specs.BuiltIn.{class_type};
 ghost use Rattle.kilim_typing.specs.Step.{vtype, class_vtype};
-ghost use Rattle.kilim_woven_form.specs.Woven as form;
+ghost use Rattle.kilim_typing.specs.woven_form.Woven as form;
 ghost use Rattle.kilim_woven_pieces.specs.Meant.{meant};
 ghost use Rattle.kilim_woven_pieces.specs.Items.{items_of};
 
 use crate::item::{Item, Items, Size};
 use crate::plan::Plan;
 use kilim_classes::{Base, ClassId, Instr, Method, MethodId, Program, Ty, VType};
-use kilim_lookups::method_at;
+use kilim_classes::lookups::method_at;
 use kilim_units::NoMemory;
 
 /// The verification type of a value of a declared type.

@@ -1,7 +1,7 @@
 //! What a woven method is made from.
 
 ghost use Rattle.std.specs.Prelude.{◌≡◌, length};
-ghost use Rattle.kilim_woven_form.specs.Woven.{fiber_slot, self_slot};
+ghost use Rattle.kilim_typing.specs.woven_form.Woven.{fiber_slot, self_slot};
 ghost use Rattle.kilim_woven_pieces.specs.Listed.{AreDeclared};
 
 use crate::places::Places;

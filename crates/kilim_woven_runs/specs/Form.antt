@@ -8,19 +8,19 @@ use Rattle.kilim_classes.specs.declared.value.Value.{Value}
 use Rattle.kilim_classes.specs.declared.value.Value.TheVariants as value
 use Rattle.kilim_classes.specs.declared.verified.VType.{VType}
 use Rattle.kilim_classes.specs.Program.{Program}
-use Rattle.kilim_program.specs.Machine.{Objects}
+use Rattle.kilim_classes.specs.machine.Machine.{Objects}
 use Rattle.kilim_classes.specs.Names.{method_at}
 use Rattle.kilim_classes.specs.Lengths.{ends_path}
-use Rattle.kilim_program.specs.Effect.{Asks}
-use Rattle.kilim_program.specs.Does.{does, table_target}
+use Rattle.kilim_classes.specs.machine.Effect.{Asks}
+use Rattle.kilim_classes.specs.machine.Does.{does, table_target}
 use Rattle.kilim_classes.specs.Same.{argument_slots}
-use Rattle.kilim_program.specs.Moves.{slots_in}
+use Rattle.kilim_classes.specs.machine.Moves.{slots_in}
 use Rattle.kilim_jvm_interp.specs.Step.{stack_limit}
 use Rattle.kilim_typing.specs.Step.{Types, peek, is_top}
 use Rattle.kilim_typing.specs.Typed.{reads, Among, edges}
-use Rattle.kilim_woven_form.specs.Woven.{Plan, Item, Mark, Does, member, fiber_slot, moved_instr, load_fiber, calls_member, added, pausable_callee, saved, prologue, drop_result, leave, resume_code, resume_places}
+use Rattle.kilim_typing.specs.woven_form.Woven.{Plan, Item, Mark, Does, member, fiber_slot, moved_instr, load_fiber, calls_member, added, pausable_callee, saved, prologue, drop_result, leave, resume_code, resume_places}
 use Rattle.kilim_woven_runs.specs.Thread.{fetch}
-use Rattle.kilim_program.specs.Natives.{FiberMember, Pc, Down, Up, Save, Place, Restore, Receiver}
+use Rattle.kilim_classes.specs.machine.Natives.{FiberMember, Pc, Down, Up, Save, Place, Restore, Receiver}
 use Rattle.kilim_woven_runs.specs.Fibers.{member_of}
 
 -- ---- what stands from a place on

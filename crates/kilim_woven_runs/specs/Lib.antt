@@ -12,3 +12,4 @@ pub mod examples
 pub mod lone
 pub mod alike
 pub mod fiber_kin
+pub mod fiber_records

@@ -10,18 +10,18 @@ use Rattle.kilim_classes.specs.declared.value.Value.TheVariants as value
 use Rattle.kilim_classes.specs.declared.verified.VType.{VType}
 use Rattle.kilim_classes.specs.declared.verified.VType.TheVariants.{Int, Long, Null, Object}
 use Rattle.kilim_classes.specs.Program.{Program}
-use Rattle.kilim_program.specs.Machine.{Objects, Activation}
-use Rattle.kilim_program.specs.Natives.{Native, native_of}
-use Rattle.kilim_program.specs.Natives as native
-use Rattle.kilim_program.specs.Effect.{Effect, Goes, Calls, Asks, as_reference, is_wide}
-use Rattle.kilim_program.specs.Does.{does}
-use Rattle.kilim_program.specs.Moves.{slots_of, entered}
-use Rattle.kilim_typing_laws.specs.fits.Fits.{IsThere}
+use Rattle.kilim_classes.specs.machine.Machine.{Objects, Activation}
+use Rattle.kilim_classes.specs.machine.Natives.{Native, native_of}
+use Rattle.kilim_classes.specs.machine.Natives as native
+use Rattle.kilim_classes.specs.machine.Effect.{Effect, Goes, Calls, Asks, as_reference, is_wide}
+use Rattle.kilim_classes.specs.machine.Does.{does}
+use Rattle.kilim_classes.specs.machine.Moves.{slots_of, entered}
+use Rattle.kilim_typing.specs.typing_laws.fits.Fits.{IsThere}
 use Rattle.kilim_jvm_interp.specs.Step.{stack_limit}
 use Rattle.kilim_classes.specs.Same.{argument_slots}
 use Rattle.kilim_thread_model.specs.State.{Setting}
 use Rattle.kilim_typing.specs.Step.{is_long, vtype}
-use Rattle.kilim_woven_form.specs.Woven.{Plan, fiber_slot, self_slot, pausable_callee, below, saved, receiver}
+use Rattle.kilim_typing.specs.woven_form.Woven.{Plan, fiber_slot, self_slot, pausable_callee, below, saved, receiver}
 use Rattle.kilim_woven_runs.specs.Acts.{World}
 use Rattle.kilim_woven_runs.specs.Thread.{fetch, Frame, At, Thread, Run, self_of, push, own_of}
 use Rattle.kilim_woven_runs.specs.Fibers.{Rec, Saved, Fiber_at, Woven_state, WRun, Resting, frame, wfetch, executes_on}

@@ -6,21 +6,21 @@ use Rattle.kilim_classes.specs.declared.instr.Instr.{Instr}
 use Rattle.kilim_classes.specs.declared.names.MethodId.{MethodId}
 use Rattle.kilim_classes.specs.Program.{Program}
 use Rattle.kilim_classes.specs.declared.value.Value.{Value}
-use Rattle.kilim_program.specs.Machine.{Activation, Objects}
-use Rattle.kilim_program.specs.declared.value.Object.{Object}
-use Rattle.kilim_program.specs.Natives.{FiberMember, native_of}
-use Rattle.kilim_program.specs.Trees.{Root}
-use Rattle.kilim_program.specs.Effect.{Effect, Asks}
-use Rattle.kilim_program.specs.Moves.{effect_of}
+use Rattle.kilim_classes.specs.machine.Machine.{Activation, Objects}
+use Rattle.kilim_classes.specs.declared.machine.value.Object.{Object}
+use Rattle.kilim_classes.specs.machine.Natives.{FiberMember, native_of}
+use Rattle.kilim_classes.specs.machine.Trees.{Root}
+use Rattle.kilim_classes.specs.machine.Effect.{Effect, Asks}
+use Rattle.kilim_classes.specs.machine.Moves.{effect_of}
 use Rattle.kilim_jvm_interp.specs.Run.{IsFine}
 use Rattle.kilim_rows.specs.Outcome.{is_stuck}
 use Rattle.kilim_jvm_interp.specs.Step.{FitsStack, stack_limit}
 use Rattle.kilim_thread_model.specs.State.{Setting}
 use Rattle.kilim_thread_model.specs.Kept.{IsFormed, given}
 use Rattle.kilim_thread_model.specs.Reach.{Below}
-use Rattle.kilim_kin.specs.trees.TreeKin.{IsWholeTree}
+use Rattle.kilim_thread_model.specs.kin.trees.TreeKin.{IsWholeTree}
 use Rattle.kilim_tree_move.specs.Shaping.{IsShown, held}
-use Rattle.kilim_typing_laws.specs.fits.Fits.{AreThere, IsThere}
+use Rattle.kilim_typing.specs.typing_laws.fits.Fits.{AreThere, IsThere}
 use Rattle.kilim_woven_runs.specs.fiber_kin.Served.{gives_value}
 use Rattle.kilim_woven_runs.specs.Thread.{Frame, At}
 use Rattle.kilim_woven_runs.specs.Acts.{World}

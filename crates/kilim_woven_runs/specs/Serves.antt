@@ -1,25 +1,25 @@
 -- A woven fiber does what the unwoven thread does: what it rests on, and what it says.
 use Rattle.std.specs.Prelude.{◌≡◌, ◌≢◌, ◌⊎◌, ◌↔◌, ℕ, suc, ◌≤◌, Bool, true, false, List, [], ◌∷◌, Some, None, length}
-use Rattle.kilim_program.specs.declared.cause.EndCause.{EndCause}
+use Rattle.kilim_classes.specs.declared.machine.cause.EndCause.{EndCause}
 use Rattle.kilim_classes.specs.declared.class.Method.{Method}
 use Rattle.kilim_classes.specs.declared.instr.Instr.{Instr}
 use Rattle.kilim_classes.specs.declared.names.MethodId.{MethodId}
 use Rattle.kilim_classes.specs.declared.value.Value.{Value}
 use Rattle.kilim_classes.specs.declared.value.Value.TheVariants as value
 use Rattle.kilim_classes.specs.Program.{Program}
-use Rattle.kilim_program.specs.Machine.{Objects}
+use Rattle.kilim_classes.specs.machine.Machine.{Objects}
 use Rattle.kilim_classes.specs.Names.{method_at}
-use Rattle.kilim_program.specs.Members.{execute_of}
-use Rattle.kilim_program.specs.Natives.{Native, native_of}
-use Rattle.kilim_program.specs.Natives as native
-use Rattle.kilim_program.specs.Effect.{Effect, Calls, Asks, Raises, Ends, Stuck}
-use Rattle.kilim_program.specs.Does.{does}
+use Rattle.kilim_classes.specs.machine.Members.{execute_of}
+use Rattle.kilim_classes.specs.machine.Natives.{Native, native_of}
+use Rattle.kilim_classes.specs.machine.Natives as native
+use Rattle.kilim_classes.specs.machine.Effect.{Effect, Calls, Asks, Raises, Ends, Stuck}
+use Rattle.kilim_classes.specs.machine.Does.{does}
 use Rattle.kilim_classes.specs.Lengths.{ends_path}
-use Rattle.kilim_program.specs.Moves.{slots_in}
-use Rattle.kilim_typing_laws.specs.fits.Fits.{AreThere, IsThere}
+use Rattle.kilim_classes.specs.machine.Moves.{slots_in}
+use Rattle.kilim_typing.specs.typing_laws.fits.Fits.{AreThere, IsThere}
 use Rattle.kilim_jvm_interp.specs.Step.{stack_limit}
 use Rattle.kilim_thread_model.specs.State.{Setting}
-use Rattle.kilim_woven_form.specs.Woven.{moved_instr, pausable_callee}
+use Rattle.kilim_typing.specs.woven_form.Woven.{moved_instr, pausable_callee}
 use Rattle.kilim_woven_runs.specs.Acts.{World, Over, Lost}
 use Rattle.kilim_woven_runs.specs.Thread.{fetch, own_of, self_of, Frame, Thread, Run, Stop, step, steps}
 use Rattle.kilim_woven_runs.specs.Fibers.{Fib, member_of, Woven_state, WRun, Resting, WStop, wsteps}

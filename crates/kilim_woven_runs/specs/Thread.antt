@@ -1,7 +1,7 @@
 -- A thread on a heap of its own, with a list of deeds. Beside each frame stands the receiver with which it began, which no
 -- step reads.
 use Rattle.std.specs.Prelude.{ℕ, zero, suc, nat_lt, false, if◌then◌else◌, List, [], ◌∷◌, Option, Some, None, length}
-use Rattle.kilim_program.specs.declared.cause.EndCause.TheVariants as cause
+use Rattle.kilim_classes.specs.declared.machine.cause.EndCause.TheVariants as cause
 use Rattle.kilim_classes.specs.declared.class.Method.{Method}
 use Rattle.kilim_classes.specs.declared.instr.Instr.{Instr}
 use Rattle.kilim_classes.specs.declared.names.MethodId.{MethodId}
@@ -10,11 +10,11 @@ use Rattle.kilim_classes.specs.declared.value.Value.{Value}
 use Rattle.kilim_classes.specs.declared.value.Value.TheVariants.{Null, Ref}
 use Rattle.kilim_classes.specs.Program.{Program}
 use Rattle.kilim_classes.specs.Names.{method_at}
-use Rattle.kilim_program.specs.Members.{execute_of}
-use Rattle.kilim_program.specs.Natives.{native_of}
-use Rattle.kilim_program.specs.Effect.{Effect, Goes, Makes, Opens, Calls, Asks, Returns, Raises, Ends, Stuck}
-use Rattle.kilim_program.specs.Does.{does}
-use Rattle.kilim_program.specs.Moves.{frame_limit, entered}
+use Rattle.kilim_classes.specs.machine.Members.{execute_of}
+use Rattle.kilim_classes.specs.machine.Natives.{native_of}
+use Rattle.kilim_classes.specs.machine.Effect.{Effect, Goes, Makes, Opens, Calls, Asks, Returns, Raises, Ends, Stuck}
+use Rattle.kilim_classes.specs.machine.Does.{does}
+use Rattle.kilim_classes.specs.machine.Moves.{frame_limit, entered}
 use Rattle.kilim_classes.specs.Lengths.{fetched}
 use Rattle.kilim_thread_model.specs.State.{Setting}
 use Rattle.kilim_woven_runs.specs.Acts.{World, Over, Lost, counted, with_heap, ending, spending, makes, opens_box, asks}

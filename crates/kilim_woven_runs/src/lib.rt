@@ -6,6 +6,7 @@
 pub mod alike;
 pub mod examples;
 pub mod fiber_kin;
+pub mod fiber_records;
 pub mod lone;
 
 ghost use Rattle.kilim_woven_runs.specs.Law.{EndsStay};

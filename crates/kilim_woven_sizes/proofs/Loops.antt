@@ -8,8 +8,8 @@ use Rattle.kilim_classes.specs.declared.class.Method.{Method}
 use Rattle.kilim_classes.specs.declared.instr.Instr.{Instr}
 use Rattle.kilim_classes.specs.Program.{Program}
 use Rattle.kilim_classfile.specs.declared.class_file.MemberInfo.{MemberInfo}
-use Rattle.kilim_woven_form.specs.Weight.{calls_in, one_more}
-use Rattle.kilim_woven_form.specs.Woven.{pausable_callee}
+use Rattle.kilim_typing.specs.woven_form.Weight.{calls_in, one_more}
+use Rattle.kilim_typing.specs.woven_form.Woven.{pausable_callee}
 use Rattle.kilim_woven_sizes.specs.file_laws.form.Raw.{is_pausable_call}
 use Rattle.kilim_woven_sizes.specs.file_laws.form.WovenFile.{MethodPair, pairs_of}
 use Rattle.kilim_woven_sizes.proofs.PausableCalls.{one_more_is}

@@ -5,8 +5,8 @@ use Rattle.kilim_classes.specs.declared.instr.Instr.{Instr}
 use Rattle.kilim_classes.specs.declared.instr.Instr.TheVariants.{Invokevirtual, Invokespecial, Invokestatic}
 use Rattle.kilim_classes.specs.Names.{method_at}
 use Rattle.kilim_classes.specs.Program.{Program}
-use Rattle.kilim_woven_form.specs.Weight.{one_more}
-use Rattle.kilim_woven_form.specs.Woven.{if_there, pausable_callee}
+use Rattle.kilim_typing.specs.woven_form.Weight.{one_more}
+use Rattle.kilim_typing.specs.woven_form.Woven.{if_there, pausable_callee}
 use Rattle.kilim_woven_sizes.specs.file_laws.form.Raw.{is_pausable_call, pauses}
 
 by_flag : (m : Method) (n : ℕ) (b : Bool) → one_more (if b then Some m else None) n ≡ (if b then suc n else n)

@@ -3,7 +3,7 @@ use Rattle.std.specs.Prelude.{ℕ, ◌+◌, ◌*◌, if◌then◌else◌, length
 use Rattle.kilim_classes.specs.declared.class.Method.{Method}
 use Rattle.kilim_classes.specs.Program.{Program}
 use Rattle.kilim_classfile.specs.declared.class_file.MemberInfo.{MemberInfo}
-use Rattle.kilim_woven_form.specs.Weight.{calls_in, weight}
+use Rattle.kilim_typing.specs.woven_form.Weight.{calls_in, weight}
 use Rattle.kilim_woven_sizes.specs.file_laws.form.Sizes.{frame_bytes, frames_number}
 
 -- the bytes that a method may become longer by

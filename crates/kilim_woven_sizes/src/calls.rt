@@ -4,7 +4,7 @@ ghost use Rattle.std.specs.Prelude.{◌≡◌, option_copied};
 ghost use Rattle.kilim_woven_sizes.specs.file_laws.form.Raw.{is_pausable_call, pauses};
 
 use kilim_classes::{Instr, Method, Program};
-use kilim_lookups::method_at;
+use kilim_classes::lookups::method_at;
 
 fn pauses(method: Option<&Method>) -> bool
     ensures { result ≡ pauses (option_copied method.entry) }

@@ -3,7 +3,7 @@
 ghost use Rattle.std.specs.Prelude.{◌≡◌, ◌+◌, ◌*◌, ◌≤◌, length, sum_by, IfOk};
 ghost use Rattle.kilim_classes.specs.Names.{descriptor};
 ghost use Rattle.kilim_link_spec.specs.World.{method_descriptor};
-ghost use Rattle.kilim_woven_form.specs.Weight.{calls_in, switch_bytes, switches_bytes, weight};
+ghost use Rattle.kilim_typing.specs.woven_form.Weight.{calls_in, switch_bytes, switches_bytes, weight};
 ghost use Rattle.kilim_woven_sizes.specs.file_laws.form.Sizes.{added_entries, class_longest, entries_at_call, entry_bytes, field_longest, frame_bytes, frames_number, larger, longest_text, method_bytes, method_entries, method_longest, methods_entries, spelled_length};
 ghost use Rattle.kilim_woven_sizes.specs.Parts.{bytes_of};
 ghost use Rattle.kilim_woven_sizes.specs.file_laws.form.WovenFile.{pairs_of};

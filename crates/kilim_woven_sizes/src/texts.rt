@@ -13,7 +13,7 @@ use kilim_class_fits::pool_needs::Need;
 use kilim_classes::{Base, ClassId, Method, MethodId, Program, Ty};
 use kilim_descriptors::{BaseText, FieldText, MethodText};
 use kilim_link_mentions::method_text;
-use kilim_lookups::{class_at, method_at};
+use kilim_classes::lookups::{class_at, method_at};
 use kilim_reports::method_descriptor;
 use kilim_units::{NoMemory, Units};
 use std::alloc::Global;

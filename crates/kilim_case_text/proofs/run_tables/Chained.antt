@@ -6,8 +6,8 @@ use Rattle.std.proofs.lemmas.List.{append-nil}
 use Rattle.kilim_classes.specs.declared.names.FieldId.{FieldId}
 use Rattle.kilim_classes.specs.declared.value.Value.{Value}
 use Rattle.kilim_classes.specs.declared.value.Value.TheVariants.{Null, Ref}
-use Rattle.kilim_program.specs.declared.value.Object.{Object}
-use Rattle.kilim_program.specs.Machine.{Objects}
+use Rattle.kilim_classes.specs.declared.machine.value.Object.{Object}
+use Rattle.kilim_classes.specs.machine.Machine.{Objects}
 use Rattle.kilim_machine_parts.proofs.Maps.{got-there, got-other}
 use Rattle.kilim_tree_move.specs.Walk.{value_refs, refs, field_refs, element_refs, Leads, AreIn, places}
 use Rattle.kilim_case_text.specs.run_tables.Chains.{IsBelow, IsOwn}

@@ -9,7 +9,7 @@ use crate::run_tables::arrived::push_tree;
 use crate::run_tables::trees::{node, push_moved};
 use kilim_classes::{Base, BoxName, ClassId, FieldId, Ty, Value};
 use kilim_machine_parts::Heap;
-use kilim_program::Object;
+use kilim_classes::machine::Object;
 use kilim_tree_move::{MoveFault, Tree, put_in, reserve_tree, take_out};
 use kilim_units::Seq;
 use std::alloc::Global;

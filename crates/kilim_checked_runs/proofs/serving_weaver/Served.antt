@@ -5,8 +5,8 @@ use Rattle.kilim_classes.specs.Program.{Program}
 use Rattle.kilim_weaver.specs.Weaves.{IsWoven, Weaves}
 use Rattle.kilim_weaver.specs.declared.fault.WeaveFault.{WeaveFault}
 use Rattle.kilim_weaver.specs.declared.weaving.Woven.{Woven}
-use Rattle.kilim_woven_form.specs.Form.{WovenForm}
-use Rattle.kilim_woven_form.specs.woven_programs.keeps.Law.{NoneIsTooLong}
+use Rattle.kilim_typing.specs.woven_form.Form.{WovenForm}
+use Rattle.kilim_typing.specs.woven_form.woven_programs.keeps.Law.{NoneIsTooLong}
 use Rattle.kilim_weaving_laws.specs.woven_served.Served.{RunsServe}
 use Rattle.kilim_checked_runs.specs.serving_weaver.Serving.{ServesEachRun}
 

@@ -9,9 +9,9 @@ use Rattle.kilim_classes.specs.declared.instr.Instr.TheVariants.{I2b, I2c, I2l, 
 use Rattle.kilim_classes.specs.declared.value.Value.{Value}
 use Rattle.kilim_classes.specs.declared.value.Value.TheVariants.{Int, Long}
 use Rattle.kilim_classes.specs.Program.{Program}
-use Rattle.kilim_program.specs.Machine.{Objects}
-use Rattle.kilim_program.specs.Effect.{Effect, Goes}
-use Rattle.kilim_program.specs.Does.{does}
+use Rattle.kilim_classes.specs.machine.Machine.{Objects}
+use Rattle.kilim_classes.specs.machine.Effect.{Effect, Goes}
+use Rattle.kilim_classes.specs.machine.Does.{does}
 
 abbrev pub has_int : List Value → ℤ → Bool
 has_int (Int x ∷ []) r = int_eq x r

@@ -9,11 +9,11 @@ use Rattle.kilim_classes.specs.declared.ty.Ty.{Ty}
 use Rattle.kilim_classes.specs.declared.value.Value.{Value}
 use Rattle.kilim_classes.specs.declared.value.Value.TheVariants.{Int, Long, Null, Ref, Text, Box}
 use Rattle.kilim_classes.specs.Program.{Program}
-use Rattle.kilim_program.specs.declared.cause.EndCause.TheVariants as cause
-use Rattle.kilim_program.specs.Machine.{Objects}
-use Rattle.kilim_program.specs.Objects.{new_array}
-use Rattle.kilim_program.specs.Effect.{Effect, Goes, Makes, Raises, Ends, Stuck}
-use Rattle.kilim_program.specs.Does.{does, narrowed_int}
+use Rattle.kilim_classes.specs.declared.machine.cause.EndCause.TheVariants as cause
+use Rattle.kilim_classes.specs.machine.Machine.{Objects}
+use Rattle.kilim_classes.specs.machine.Objects.{new_array}
+use Rattle.kilim_classes.specs.machine.Effect.{Effect, Goes, Makes, Raises, Ends, Stuck}
+use Rattle.kilim_classes.specs.machine.Does.{does, narrowed_int}
 
 abbrev pub long_array : Ty
 long_array = record { dims = 1; base = base.Long }

@@ -5,7 +5,7 @@ use Rattle.kilim_isolation_laws.specs.Laws.{IsRunOfAccepted}
 use Rattle.kilim_thread_model.specs.State.{Setting}
 use Rattle.kilim_typing.specs.Typed.{IsWellTyped}
 use Rattle.kilim_weaver.specs.declared.weaving.Woven.{Woven}
-use Rattle.kilim_woven_form.specs.Form.{WovenForm}
+use Rattle.kilim_typing.specs.woven_form.Form.{WovenForm}
 use Rattle.kilim_weaving_laws.specs.woven_served.Served.{ServesRun}
 
 -- It is the woven form of the program and well typed; and in every run of the program, where it is accepted and the main class is fit, a fiber

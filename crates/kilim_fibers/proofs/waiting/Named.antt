@@ -9,7 +9,7 @@ use Rattle.std.specs.BTreeMap.{BTreeMap, get, UpdatesBy, is_at}
 use Rattle.std.specs.Map.{lookup}
 use Rattle.kilim_classes.specs.declared.names.BoxName.{BoxName}
 use Rattle.kilim_thread_model.specs.State.{same_box, with_mailbox, with_message, with_queue}
-use Rattle.kilim_mailbox.specs.Mailbox.{Content}
+use Rattle.kilim_tree_move.specs.mailbox.Mailbox.{Content}
 use Rattle.kilim_fibers.specs.waiting.Mailboxes.{Tree, Mail, SameMails, key_cmp, mail_in}
 use Rattle.kilim_fibers.proofs.waiting.Names.{both_ways, same_name}
 

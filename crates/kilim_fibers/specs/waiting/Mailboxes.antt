@@ -4,10 +4,10 @@ use Rattle.std.specs.declared.cmp.Ordering.{Ordering}
 use Rattle.std.specs.Ordering.{nat_cmp, ordering_then}
 use Rattle.std.specs.BTreeMap.{get}
 use Rattle.kilim_classes.specs.declared.names.BoxName.{BoxName}
-use Rattle.kilim_program.specs.declared.value.Object.{Object}
-use Rattle.kilim_program.specs.declared.value.Token.{Token}
+use Rattle.kilim_classes.specs.declared.machine.value.Object.{Object}
+use Rattle.kilim_classes.specs.declared.machine.value.Token.{Token}
 use Rattle.kilim_thread_model.specs.State.{Mailbox, empty_mailbox}
-use Rattle.kilim_mailbox.specs.Mailbox.{Content}
+use Rattle.kilim_tree_move.specs.mailbox.Mailbox.{Content}
 use Rattle.kilim_fibers.specs.declared.waiting.mailboxes.Mailboxes.{Mailboxes}
 
 -- a tree on its way: its objects in preorder, with places in this list as references

@@ -5,9 +5,9 @@ use Rattle.kilim_classes.specs.declared.names.ClassId.{ClassId}
 use Rattle.kilim_classes.specs.Keeps.{Keeps}
 use Rattle.kilim_classes.specs.Program.{Program}
 use Rattle.kilim_classfile.specs.declared.class_file.ClassFile.{ClassFile}
-use Rattle.kilim_program.specs.declared.run.Limits.{Limits}
-use Rattle.kilim_program.specs.Members.{is_fit_main}
-use Rattle.kilim_one_heap.specs.Laws.{NoneShares}
+use Rattle.kilim_classes.specs.declared.machine.run.Limits.{Limits}
+use Rattle.kilim_classes.specs.machine.Members.{is_fit_main}
+use Rattle.kilim_thread_model.specs.one_heap.Laws.{NoneShares}
 use Rattle.kilim_typing.specs.Typed.{IsWellTyped}
 use Rattle.kilim_isolation_check.specs.Faults.{IsAccepted}
 use Rattle.kilim_link_spec.specs.LinksWell.{LinksWell}

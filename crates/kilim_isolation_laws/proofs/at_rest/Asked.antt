@@ -14,12 +14,12 @@ use Rattle.kilim_classes.specs.declared.value.Value.{Value}
 use Rattle.kilim_classes.specs.declared.value.Value.TheVariants.{Int, Long, Null, Ref, Text, Box, Fiber}
 use Rattle.kilim_classes.specs.Names.{method_at}
 use Rattle.kilim_classes.specs.Lengths.{fetched}
-use Rattle.kilim_program.specs.declared.value.Object.{Object}
-use Rattle.kilim_program.specs.Machine.{Objects, Activation}
-use Rattle.kilim_program.specs.Natives.{is_built_in_constructor, is_handed_out, is_text_method}
-use Rattle.kilim_program.specs.Effect.{Effect, Goes, Makes, Opens, Calls, Asks, Returns, Raises, Ends, Stuck, with_some, on_value, on_values, on_receiver, as_receiver, as_class, named_type, text_of}
-use Rattle.kilim_program.specs.Does.{does, chosen, calls_method, calls_on, special, calls_text, takes_element, text_answers, at_unit, unit_at}
-use Rattle.kilim_program.specs.Moves.{effect_of, effect_in, effect_found}
+use Rattle.kilim_classes.specs.declared.machine.value.Object.{Object}
+use Rattle.kilim_classes.specs.machine.Machine.{Objects, Activation}
+use Rattle.kilim_classes.specs.machine.Natives.{is_built_in_constructor, is_handed_out, is_text_method}
+use Rattle.kilim_classes.specs.machine.Effect.{Effect, Goes, Makes, Opens, Calls, Asks, Returns, Raises, Ends, Stuck, with_some, on_value, on_values, on_receiver, as_receiver, as_class, named_type, text_of}
+use Rattle.kilim_classes.specs.machine.Does.{does, chosen, calls_method, calls_on, special, calls_text, takes_element, text_answers, at_unit, unit_at}
+use Rattle.kilim_classes.specs.machine.Moves.{effect_of, effect_in, effect_found}
 use Rattle.kilim_isolation_laws.proofs.at_rest.Quiet.{NoAsk, AsksNothing, is_call, no_if, no_when, no_some, no_value, no_int, no_receiver, no_on_int, no_on_object, no_on_receiver, no_index, no_ask}
 
 -- what a mailbox alone is asked, the other one asks too, on its own heap

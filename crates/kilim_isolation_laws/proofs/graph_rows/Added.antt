@@ -6,7 +6,7 @@ use Rattle.kilim_classes.specs.declared.names.FieldId.{FieldId}
 use Rattle.kilim_classes.specs.declared.value.Value.{Value}
 use Rattle.kilim_classes.specs.declared.verified.VType.{VType}
 use Rattle.kilim_classes.specs.Program.{Program}
-use Rattle.kilim_program.specs.Machine.{Objects}
+use Rattle.kilim_classes.specs.machine.Machine.{Objects}
 use Rattle.kilim_typing.specs.Step.{Types, peek}
 use Rattle.kilim_isolation_laws.specs.forest.Relation.{Root, is_gone, Label, Field, Element, Node, Named, Frames}
 use Rattle.kilim_isolation_laws.specs.forest.Steps.{pick, set_node}

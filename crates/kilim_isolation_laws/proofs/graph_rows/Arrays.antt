@@ -10,17 +10,17 @@ use Rattle.kilim_classes.specs.declared.verified.VType.TheVariants as vtype
 use Rattle.kilim_classes.specs.declared.class.Method.{Method}
 use Rattle.kilim_classes.specs.declared.ty.Kind.{Kind}
 use Rattle.kilim_classes.specs.declared.ty.Ty.{Ty}
-use Rattle.kilim_program.specs.declared.value.Object.{Object}
+use Rattle.kilim_classes.specs.declared.machine.value.Object.{Object}
 use Rattle.kilim_classes.specs.declared.value.Value.{Value}
 use Rattle.kilim_classes.specs.Program.{Program}
-use Rattle.kilim_program.specs.Machine.{Objects}
+use Rattle.kilim_classes.specs.machine.Machine.{Objects}
 use Rattle.kilim_classes.specs.declared.ty.Base.{Base}
 use Rattle.kilim_classes.specs.declared.value.Value.TheVariants.{Int, Ref}
 use Rattle.kilim_classes.specs.declared.verified.VType.{VType}
 use Rattle.kilim_classes.specs.Kinds.{kind_of, is_tree_kind, is_private_kind}
 use Rattle.kilim_classes.specs.Fits.{fits_type}
 use Rattle.kilim_classes.specs.Lengths.{jump_targets, ends_path}
-use Rattle.kilim_program.specs.Does.{does, element_type, cast_fits}
+use Rattle.kilim_classes.specs.machine.Does.{does, element_type, cast_fits}
 use Rattle.kilim_typing.specs.Step.{Types, peek, assignable, Is, References, meets, all_meet, object_type, is_array_of_references, dims_vtype, base_vtype, row}
 use Rattle.kilim_isolation_laws.specs.forest.Heap.{IsSet_at}
 use Rattle.kilim_isolation_laws.specs.forest.Relation.{is_gone, Element}

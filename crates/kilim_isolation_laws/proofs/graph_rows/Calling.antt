@@ -15,11 +15,11 @@ use Rattle.kilim_classes.specs.declared.verified.VType.{VType}
 use Rattle.kilim_classes.specs.Program.{Program}
 use Rattle.kilim_classes.specs.BuiltIn.{class_type}
 use Rattle.kilim_classes.specs.Kinds.{kind_of, is_tree_kind}
-use Rattle.kilim_program.specs.Machine.{Objects}
+use Rattle.kilim_classes.specs.machine.Machine.{Objects}
 use Rattle.kilim_classes.specs.Names.{method_at}
 use Rattle.kilim_classes.specs.Same.{is_constructor}
-use Rattle.kilim_program.specs.Effect.{is_wide}
-use Rattle.kilim_program.specs.Moves.{slots_of}
+use Rattle.kilim_classes.specs.machine.Effect.{is_wide}
+use Rattle.kilim_classes.specs.machine.Moves.{slots_of}
 use Rattle.kilim_typing.specs.Step.{Types, peek, class_vtype}
 use Rattle.kilim_typing.specs.Typed.{entry, param_slots, slots_of_type}
 use Rattle.kilim_isolation_laws.specs.forest.Heap.{Heap}
@@ -511,7 +511,7 @@ module _ (p : Program) (m : Method) (f : Types) (g : Graph) (at : ℕ → Option
     types = shape;
     graph = graph;
     at = λ n. value_by at (passed_at args n);
-    entered = call_begins types k (Rattle.kilim_program.specs.Moves.slots_in (method_at p id) - length (slots_of vs)) rest s;
+    entered = call_begins types k (Rattle.kilim_classes.specs.machine.Moves.slots_in (method_at p id) - length (slots_of vs)) rest s;
   }
 
   pub native_holds : (id : MethodId) (k : ℕ) (rest : List Value) (f1 : Types) (g1 : Graph) → method_at p id ≡ Some callee → AreSlots p m h (named_by g at) (length g.nodes) (drop k f.stack) (drop k g.stack) rest →

@@ -13,11 +13,11 @@ use Rattle.kilim_classes.specs.declared.value.Value.{Value}
 use Rattle.kilim_classes.specs.declared.verified.VType.{VType}
 use Rattle.kilim_classes.specs.Program.{Program}
 use Rattle.kilim_classes.specs.Kinds.{kind_of, is_tree_kind}
-use Rattle.kilim_program.specs.Machine.{Objects}
+use Rattle.kilim_classes.specs.machine.Machine.{Objects}
 use Rattle.kilim_classes.specs.Lengths.{jump_targets, ends_path}
-use Rattle.kilim_program.specs.Effect.{is_wide}
+use Rattle.kilim_classes.specs.machine.Effect.{is_wide}
 use Rattle.kilim_classes.specs.Fits.{fits_type}
-use Rattle.kilim_program.specs.Does.{does, cast_fits}
+use Rattle.kilim_classes.specs.machine.Does.{does, cast_fits}
 use Rattle.kilim_typing.specs.Step.{Types, peek, assignable, Is, meets, all_meet, object_type, vtype_of_class, row}
 use Rattle.kilim_isolation_laws.specs.forest.Relation.{Named}
 use Rattle.kilim_shape_graph.specs.declared.graph.Graph.{Graph}

@@ -12,15 +12,15 @@ use Rattle.kilim_classes.specs.declared.class.Method.{Method}
 use Rattle.kilim_classes.specs.declared.ty.Base.{Base}
 use Rattle.kilim_classes.specs.declared.ty.Kind.{Kind}
 use Rattle.kilim_classes.specs.declared.ty.Ty.{Ty}
-use Rattle.kilim_program.specs.declared.value.Object.{Object}
+use Rattle.kilim_classes.specs.declared.machine.value.Object.{Object}
 use Rattle.kilim_classes.specs.declared.value.Value.{Value}
 use Rattle.kilim_classes.specs.declared.value.Value.TheVariants.{Int, Ref}
 use Rattle.kilim_classes.specs.declared.verified.VType.{VType}
 use Rattle.kilim_classes.specs.Program.{Program}
 use Rattle.kilim_classes.specs.Kinds.{kind_of, base_kind, array_kind}
-use Rattle.kilim_program.specs.Machine.{Objects}
+use Rattle.kilim_classes.specs.machine.Machine.{Objects}
 use Rattle.kilim_classes.specs.Lengths.{jump_targets, ends_path}
-use Rattle.kilim_program.specs.Does.{does, element_type}
+use Rattle.kilim_classes.specs.machine.Does.{does, element_type}
 use Rattle.kilim_typing.specs.Step.{Types, peek, Operand, Is, References, meets, all_meet, is_array_of_references, by_row, row, type_step, dims_vtype, base_vtype, element, with_element}
 use Rattle.kilim_isolation_laws.specs.forest.Relation.{is_gone, Element, Named}
 use Rattle.kilim_isolation_laws.specs.forest.Canonical.{node_at}

@@ -8,13 +8,13 @@ use Rattle.kilim_classes.specs.declared.class.Method.{Method}
 use Rattle.kilim_classes.specs.declared.ty.Base.{Base}
 use Rattle.kilim_classes.specs.declared.ty.Kind.{Kind}
 use Rattle.kilim_classes.specs.declared.ty.Ty.{Ty}
-use Rattle.kilim_program.specs.declared.value.Object.{Object}
+use Rattle.kilim_classes.specs.declared.machine.value.Object.{Object}
 use Rattle.kilim_classes.specs.declared.value.Value.{Value}
 use Rattle.kilim_classes.specs.declared.value.Value.TheVariants.{Ref}
 use Rattle.kilim_classes.specs.declared.verified.VType.{VType}
 use Rattle.kilim_classes.specs.Program.{Program}
 use Rattle.kilim_classes.specs.Kinds.{kind_of, base_kind, array_kind}
-use Rattle.kilim_program.specs.Machine.{Objects}
+use Rattle.kilim_classes.specs.machine.Machine.{Objects}
 use Rattle.kilim_typing.specs.Step.{Types, peek, dims_vtype, base_vtype}
 use Rattle.kilim_isolation_laws.specs.forest.Relation.{Root, Inner, Safe, is_gone, is_safe, Label, Named}
 use Rattle.kilim_isolation_laws.specs.forest.Canonical.{node_at}

@@ -29,8 +29,8 @@ use Rattle.kilim_isolation_rules.specs.Marks.{mixes, names_gone, names_no_root, 
 use Rattle.kilim_isolation_rules.specs.Rules.{deed}
 use Rattle.kilim_isolation_rules.specs.declared.deed.Deed.{Deed}
 use Rattle.kilim_isolation_rules.specs.declared.deed.Passed.{Passed}
-use Rattle.kilim_program.specs.Does.{calls_method}
-use Rattle.kilim_program.specs.Machine.{Objects}
+use Rattle.kilim_classes.specs.machine.Does.{calls_method}
+use Rattle.kilim_classes.specs.machine.Machine.{Objects}
 use Rattle.kilim_shape_graph.specs.Entry.{quality, parameters_of, declared_parameters}
 use Rattle.kilim_shape_graph.specs.Graphs.{slot, popped}
 use Rattle.kilim_shape_graph.specs.declared.graph.Graph.{Graph}

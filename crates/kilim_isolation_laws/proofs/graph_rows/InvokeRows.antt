@@ -40,16 +40,16 @@ use Rattle.kilim_isolation_rules.specs.Calls.{quality_in, parameters, receiver, 
 use Rattle.kilim_isolation_rules.specs.Marks.{mixes, names_gone}
 use Rattle.kilim_isolation_rules.specs.Rules.{deed}
 use Rattle.kilim_isolation_rules.specs.declared.deed.Passed.{Passed}
-use Rattle.kilim_program.specs.Does.{calls_method, calls_text}
-use Rattle.kilim_program.specs.Does.{does, calls_on, chosen}
-use Rattle.kilim_program.specs.Does.{special, text_answers, at_unit, unit_at, is_text, bit, int_length}
-use Rattle.kilim_program.specs.Effect.{Effect, Calls, Asks}
-use Rattle.kilim_program.specs.Effect.{Goes, text_of}
-use Rattle.kilim_program.specs.Machine.{Objects}
-use Rattle.kilim_program.specs.Natives.{is_built_in_constructor, is_handed_out}
-use Rattle.kilim_program.specs.Does.{takes_element}
+use Rattle.kilim_classes.specs.machine.Does.{calls_method, calls_text}
+use Rattle.kilim_classes.specs.machine.Does.{does, calls_on, chosen}
+use Rattle.kilim_classes.specs.machine.Does.{special, text_answers, at_unit, unit_at, is_text, bit, int_length}
+use Rattle.kilim_classes.specs.machine.Effect.{Effect, Calls, Asks}
+use Rattle.kilim_classes.specs.machine.Effect.{Goes, text_of}
+use Rattle.kilim_classes.specs.machine.Machine.{Objects}
+use Rattle.kilim_classes.specs.machine.Natives.{is_built_in_constructor, is_handed_out}
+use Rattle.kilim_classes.specs.machine.Does.{takes_element}
 use Rattle.kilim_isolation_laws.proofs.graph_rows.Invoke.{cuttable, free, graph, shared}
-use Rattle.kilim_program.specs.Natives.{is_text_method}
+use Rattle.kilim_classes.specs.machine.Natives.{is_text_method}
 use Rattle.kilim_shape_graph.specs.Entry.{parameters_of, declared_parameters}
 use Rattle.kilim_shape_graph.specs.Graphs.{slot, popped}
 use Rattle.kilim_shape_graph.specs.declared.graph.Graph.{Graph}
@@ -259,7 +259,7 @@ module _ (p : Program) (k : ProgramKeeps p) (m : Method) (pl to : ℕ) (f f1 : T
           of_int (pos i) = of_unit (slice_get units i)
       answers_h w units (v ∷ u ∷ as1) = tt
 
-      pub virtual_h : EI (instr.Invokevirtual id) (cond (is_text_method p named) (calls_text named (reverse vs) to ls rest h r) (Rattle.kilim_program.specs.Effect.as_class p r h (calls_on p named id (reverse vs) to ls rest h r)))
+      pub virtual_h : EI (instr.Invokevirtual id) (cond (is_text_method p named) (calls_text named (reverse vs) to ls rest h r) (Rattle.kilim_classes.specs.machine.Effect.as_class p r h (calls_on p named id (reverse vs) to ls rest h r)))
       virtual_h = cond_h (EI (instr.Invokevirtual id)) tt (λ c. tt) (λ c. tt) (is_text_method p named) _ _
           (λ text. receiver_h (EI (instr.Invokevirtual id)) tt (λ c. tt) (λ c. tt) r _ (λ narrow. some_h (EI (instr.Invokevirtual id)) tt (λ c. tt) (λ c. tt) (text_of r) _ (λ units q. answers_h (number_left text) units (reverse vs))))
           (λ plain. class_of_h (EI (instr.Invokevirtual id)) tt (λ c. tt) (λ c. tt) p r h _ (λ class of. by class of))
@@ -377,10 +377,10 @@ module _ (p : Program) (k : ProgramKeeps p) (m : Method) (pl to : ℕ) (f f1 : T
       constructs_left : named.built_in ≡ false → EI (instr.Invokespecial id) (calls_method (method_at p (special p m named id)) (special p m named id) (r ∷ reverse vs) to ls rest h)
       constructs_left own = subst (λ z. EI (instr.Invokespecial id) (calls_method (method_at p z) z (r ∷ reverse vs) to ls rest h)) (sym itself)
           (subst (λ z. EI (instr.Invokespecial id) (calls_method z id (r ∷ reverse vs) to ls rest h)) (sym is)
-          (subst (λ b. EI (instr.Invokespecial id) (cond b (Rattle.kilim_program.specs.Effect.Asks id (r ∷ reverse vs) to ls rest h) (Rattle.kilim_program.specs.Effect.Calls id (r ∷ reverse vs) to ls rest h))) (sym own) (special_edge, call)))
+          (subst (λ b. EI (instr.Invokespecial id) (cond b (Rattle.kilim_classes.specs.machine.Effect.Asks id (r ∷ reverse vs) to ls rest h) (Rattle.kilim_classes.specs.machine.Effect.Calls id (r ∷ reverse vs) to ls rest h))) (sym own) (special_edge, call)))
         where
           itself : special p m named id ≡ id
-          itself = ap (λ b. cond (b || named.owner.0 == m.owner.0) id (Rattle.kilim_program.specs.Does.above_of p named id (Rattle.kilim_program.specs.Does.superclass_of (class_at p m.owner)))) con
+          itself = ap (λ b. cond (b || named.owner.0 == m.owner.0) id (Rattle.kilim_classes.specs.machine.Does.above_of p named id (Rattle.kilim_classes.specs.machine.Does.superclass_of (class_at p m.owner)))) con
 
           same : object_sort p (class_type built.2.made.0) ≡ object_sort p (class_type named.owner.0)
           same = same_sort (λ b q. true≢false (sym b ∙ own))
@@ -527,7 +527,7 @@ module _ (p : Program) (k : ProgramKeeps p) (m : Method) (pl to : ℕ) (f f1 : T
     unfolding does
     invokestatic_h take_h = some_h (EI (instr.Invokestatic id)) tt (λ c. tt) (λ c. tt) (method_at p id) _ (λ named is. cond_h (EI (instr.Invokestatic id)) tt (λ c. tt) (λ c. tt) (is_handed_out p named) _ _
         (λ out. values_h (EI (instr.Invokestatic id)) tt (λ c. tt) (λ c. tt) (length named.params) st _ (λ vs rest e size.
-        subst (λ b. EI (instr.Invokestatic id) (cond b (Rattle.kilim_program.specs.Effect.Asks id (reverse vs) to ls rest h) (Rattle.kilim_program.specs.Effect.Calls id (reverse vs) to ls rest h))) (and_left named.built_in _ out) (static_left named is vs rest e size)))
+        subst (λ b. EI (instr.Invokestatic id) (cond b (Rattle.kilim_classes.specs.machine.Effect.Asks id (reverse vs) to ls rest h) (Rattle.kilim_classes.specs.machine.Effect.Calls id (reverse vs) to ls rest h))) (and_left named.built_in _ out) (static_left named is vs rest e size)))
         (λ other. cond_h (EI (instr.Invokestatic id)) tt (λ c. tt) (λ c. tt) named.built_in _ _ (λ built. take_h named is (is_static named is) other built)
         (λ own. values_h (EI (instr.Invokestatic id)) tt (λ c. tt) (λ c. tt) (length named.params) st _ (λ vs rest e size.
-        subst (λ b. EI (instr.Invokestatic id) (cond b (Rattle.kilim_program.specs.Effect.Asks id (reverse vs) to ls rest h) (Rattle.kilim_program.specs.Effect.Calls id (reverse vs) to ls rest h))) own (static_left named is vs rest e size)))))
+        subst (λ b. EI (instr.Invokestatic id) (cond b (Rattle.kilim_classes.specs.machine.Effect.Asks id (reverse vs) to ls rest h) (Rattle.kilim_classes.specs.machine.Effect.Calls id (reverse vs) to ls rest h))) own (static_left named is vs rest e size)))))

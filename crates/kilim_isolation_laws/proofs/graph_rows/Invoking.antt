@@ -12,8 +12,8 @@ use Rattle.kilim_classes.specs.declared.ty.Ty.{Ty}
 use Rattle.kilim_classes.specs.declared.value.Value.{Value}
 use Rattle.kilim_classes.specs.declared.verified.VType.{VType}
 use Rattle.kilim_classes.specs.Program.{Program}
-use Rattle.kilim_program.specs.Machine.{Objects}
-use Rattle.kilim_program.specs.Effect.{Effect, Ends, Raises, Stuck, on_values}
+use Rattle.kilim_classes.specs.machine.Machine.{Objects}
+use Rattle.kilim_classes.specs.machine.Effect.{Effect, Ends, Raises, Stuck, on_values}
 use Rattle.kilim_typing.specs.Step.{Types, peek, assignable, Operand, Is, meets, all_meet, arguments, class_vtype}
 use Rattle.kilim_isolation_laws.specs.forest.Relation.{is_gone, Named}
 use Rattle.kilim_shape_graph.specs.Graphs.{slot}
@@ -27,7 +27,7 @@ use Rattle.kilim_isolation_laws.proofs.graph_rows.Words.{value_h}
 use Rattle.kilim_isolation_laws.proofs.graph_rows.Fields.{slot_sort}
 use Rattle.kilim_isolation_laws.proofs.graph_rows.Leaving.{mix_of}
 use Rattle.kilim_isolation_laws.specs.graph_rows.Outcome.{ArgsFit}
-use Rattle.kilim_program.specs.declared.cause.EndCause.{EndCause}
+use Rattle.kilim_classes.specs.declared.machine.cause.EndCause.{EndCause}
 
 -- so many values
 pub values_h : (P : Effect → Type 0) (stuck : P Stuck) (raises : (c : EndCause) → P (Raises c)) (ends : (c : EndCause) → P (Ends c)) (n : ℕ) (s : List Value) (go : List Value → List Value → Effect) →

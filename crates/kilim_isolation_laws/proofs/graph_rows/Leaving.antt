@@ -16,8 +16,8 @@ use Rattle.kilim_classes.specs.declared.value.Value.TheVariants.{Int, Long}
 use Rattle.kilim_classes.specs.declared.verified.VType.{VType}
 use Rattle.kilim_classes.specs.Program.{Program}
 use Rattle.kilim_classes.specs.Kinds.{kind_of}
-use Rattle.kilim_program.specs.Machine.{Objects}
-use Rattle.kilim_program.specs.Does.{does, narrowed_int, narrowed_result}
+use Rattle.kilim_classes.specs.machine.Machine.{Objects}
+use Rattle.kilim_classes.specs.machine.Does.{does, narrowed_int, narrowed_result}
 use Rattle.kilim_typing.specs.Step.{Types, peek, assignable, Operand, Further, Is, meets, all_meet, further, rule, by_row, row, type_step, returns_object, has_object, result_types, is_object, has_int, has_long, is_int, is_long, dims_vtype, base_vtype}
 use Rattle.kilim_isolation_laws.specs.forest.Relation.{Root, is_gone, Names}
 use Rattle.kilim_isolation_laws.specs.forest.Canonical.{node_at}
@@ -123,7 +123,7 @@ module _ (p : Program) (flow : KindsFlow p) (m : Method) (pl to : ℕ) (f f1 : T
   areturn_value (Some ty) w = value_holds ty w
 
 module _ (p : Program) (flow : KindsFlow p) (m : Method) (pl to : ℕ) (f f1 : Types) (g g1 : Graph) (at : ℕ → Option ℕ) (h : Objects) (ls st : List Value) (below : List Waiting) (after : Option Types) where
-  abbrev EI : Instr → Rattle.kilim_program.specs.Effect.Effect → Type 0
+  abbrev EI : Instr → Rattle.kilim_classes.specs.machine.Effect.Effect → Type 0
   EI i e = E p m pl to f f1 g g1 at h ls st below after i e
 
   pub areturn_h : IsStep p m pl to f f1 g g1 at h ls st below after instr.Areturn → EI instr.Areturn (does p m instr.Areturn to ls st h)

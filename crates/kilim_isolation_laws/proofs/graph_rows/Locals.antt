@@ -10,10 +10,10 @@ use Rattle.kilim_classes.specs.declared.value.Value.{Value}
 use Rattle.kilim_classes.specs.declared.value.Value.TheVariants.{Int, Long}
 use Rattle.kilim_classes.specs.declared.verified.VType.{VType}
 use Rattle.kilim_classes.specs.Program.{Program}
-use Rattle.kilim_program.specs.Machine.{Objects}
+use Rattle.kilim_classes.specs.machine.Machine.{Objects}
 use Rattle.kilim_classes.specs.Lengths.{jump_targets, ends_path}
-use Rattle.kilim_program.specs.Effect.{Effect}
-use Rattle.kilim_program.specs.Does.{does}
+use Rattle.kilim_classes.specs.machine.Effect.{Effect}
+use Rattle.kilim_classes.specs.machine.Does.{does}
 use Rattle.kilim_typing.specs.Step.{Types, peek, poke, stored, with_half, split_long, split_at, assignable, Operand, Is, AReference, meets, store, loaded, by_row, row, type_step}
 use Rattle.kilim_isolation_laws.specs.forest.Relation.{Named}
 use Rattle.kilim_shape_graph.specs.declared.graph.Graph.{Graph}

@@ -16,7 +16,7 @@ use Rattle.kilim_classes.specs.declared.names.FieldId.{FieldId}
 use Rattle.kilim_classes.specs.declared.ty.Base.{Base}
 use Rattle.kilim_classes.specs.declared.ty.Kind.{Kind}
 use Rattle.kilim_classes.specs.declared.ty.Ty.{Ty}
-use Rattle.kilim_program.specs.declared.value.Object.{Object}
+use Rattle.kilim_classes.specs.declared.machine.value.Object.{Object}
 use Rattle.kilim_classes.specs.declared.value.Value.{Value}
 use Rattle.kilim_classes.specs.declared.value.Value.TheVariants.{Null, Ref, Box}
 use Rattle.kilim_classes.specs.declared.verified.VType.{VType}
@@ -24,12 +24,12 @@ use Rattle.kilim_classes.specs.Program.{Program}
 use Rattle.kilim_classes.specs.BuiltIn.{class_type}
 use Rattle.kilim_classes.specs.Kinds.{kind_of, class_kind, is_value_class, is_message}
 use Rattle.kilim_classes.specs.Names.{field_of, class_name, is_task, class_at}
-use Rattle.kilim_program.specs.Members.{object_fields}
-use Rattle.kilim_program.specs.Machine.{Objects}
+use Rattle.kilim_classes.specs.machine.Members.{object_fields}
+use Rattle.kilim_classes.specs.machine.Machine.{Objects}
 use Rattle.kilim_classes.specs.Lengths.{jump_targets, ends_path}
-use Rattle.kilim_program.specs.Does.{does, is_mailbox}
-use Rattle.kilim_program.specs.Shapes.{field_in}
-use Rattle.kilim_program.specs.Objects.{new_object, first_field, first_value, first_value_of}
+use Rattle.kilim_classes.specs.machine.Does.{does, is_mailbox}
+use Rattle.kilim_classes.specs.machine.Shapes.{field_in}
+use Rattle.kilim_classes.specs.machine.Objects.{new_object, first_field, first_value, first_value_of}
 use Rattle.kilim_typing.specs.Step.{Types, peek, is_same, replaced, one_replaced, dims_vtype, base_vtype, made_at, made_by, may_make, by_row, Makes as MakesRow, row, type_step}
 use Rattle.kilim_isolation_laws.specs.forest.Heap.{Below, Here, Then}
 use Rattle.kilim_isolation_laws.specs.forest.Relation.{Root, Named, Names, Relates, Frames}

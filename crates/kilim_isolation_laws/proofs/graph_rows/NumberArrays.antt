@@ -18,10 +18,10 @@ use Rattle.kilim_classes.specs.declared.verified.VType.TheVariants as vtype
 use Rattle.kilim_classes.specs.Lengths.{ends_path, jump_targets}
 use Rattle.kilim_classes.specs.Program.{Program}
 use Rattle.kilim_classes.specs.Same.{same_base}
-use Rattle.kilim_program.specs.declared.value.Object.{Object}
-use Rattle.kilim_program.specs.Does.{does, element_type}
-use Rattle.kilim_program.specs.Effect.{Effect, is_wide}
-use Rattle.kilim_program.specs.Machine.{Objects}
+use Rattle.kilim_classes.specs.declared.machine.value.Object.{Object}
+use Rattle.kilim_classes.specs.machine.Does.{does, element_type}
+use Rattle.kilim_classes.specs.machine.Effect.{Effect, is_wide}
+use Rattle.kilim_classes.specs.machine.Machine.{Objects}
 use Rattle.kilim_typing.specs.Step as type
 use Rattle.kilim_typing.specs.Step.{ArrayOf, Is, Operand, Takes, Types, assignable, is_array_of, meets, peek, row, type_step}
 use Rattle.kilim_isolation_laws.specs.forest.Canonical.{node_at}

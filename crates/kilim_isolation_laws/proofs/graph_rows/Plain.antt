@@ -4,17 +4,17 @@ use Rattle.std.specs.Prelude.{drop, replicate, slice_get}
 use Rattle.std.specs.Ordering.{int_eq}
 use Rattle.kilim_classes.specs.declared.instr.Instr.TheVariants as instr
 use Rattle.kilim_classes.specs.declared.verified.VType.TheVariants as vtype
-use Rattle.kilim_program.specs.declared.cause.EndCause.{EndCause}
+use Rattle.kilim_classes.specs.declared.machine.cause.EndCause.{EndCause}
 use Rattle.kilim_classes.specs.declared.class.Method.{Method}
 use Rattle.kilim_classes.specs.declared.instr.Instr.{Instr}
 use Rattle.kilim_classes.specs.declared.value.Value.{Value}
 use Rattle.kilim_classes.specs.declared.value.Value.TheVariants.{Int, Long, Null}
 use Rattle.kilim_classes.specs.declared.verified.VType.{VType}
 use Rattle.kilim_classes.specs.Program.{Program}
-use Rattle.kilim_program.specs.Machine.{Objects}
+use Rattle.kilim_classes.specs.machine.Machine.{Objects}
 use Rattle.kilim_classes.specs.Lengths.{jump_targets, ends_path}
-use Rattle.kilim_program.specs.Effect.{Effect, Goes, Ends, is_wide}
-use Rattle.kilim_program.specs.Does.{does, int_binary, int_unary, int_division, long_binary, long_division, int_jump, compare_jump, reference_jump, null_jump, place_if, same_reference, is_null, table_target, target_or}
+use Rattle.kilim_classes.specs.machine.Effect.{Effect, Goes, Ends, is_wide}
+use Rattle.kilim_classes.specs.machine.Does.{does, int_binary, int_unary, int_division, long_binary, long_division, int_jump, compare_jump, reference_jump, null_jump, place_if, same_reference, is_null, table_target, target_or}
 use Rattle.kilim_typing.specs.Step.{Types, peek, Operand, Further, Row, Takes, ints, longs, gives_int, gives_long, row, type_step}
 use Rattle.kilim_typing.specs.Typed.{edges, Among}
 use Rattle.kilim_isolation_laws.specs.forest.Relation.{Named}
@@ -105,7 +105,7 @@ module _ (p : Program) (m : Method) (pl to : ℕ) (f f1 : Types) (g g1 : Graph) 
             }))),
       )
 
-  abbrev stuck : (i : Instr) → E i Rattle.kilim_program.specs.Effect.Stuck
+  abbrev stuck : (i : Instr) → E i Rattle.kilim_classes.specs.machine.Effect.Stuck
   stuck i = tt
 
   abbrev ends : (i : Instr) (c : EndCause) → E i (Ends c)

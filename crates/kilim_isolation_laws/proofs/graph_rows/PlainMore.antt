@@ -23,9 +23,9 @@ use Rattle.kilim_classes.specs.Keeps.{constant_fits, is_int_like, is_long, is_st
 use Rattle.kilim_classes.specs.Kinds.{array_kind, base_kind, class_kind, is_message}
 use Rattle.kilim_classes.specs.Lengths.{ends_path, jump_targets}
 use Rattle.kilim_classes.specs.Names.{class_name, class_named, field_of, is_task}
-use Rattle.kilim_program.specs.Machine.{Objects}
-use Rattle.kilim_program.specs.Effect.{Effect, Goes, on_constant}
-use Rattle.kilim_program.specs.Does.{does, match_target}
+use Rattle.kilim_classes.specs.machine.Machine.{Objects}
+use Rattle.kilim_classes.specs.machine.Effect.{Effect, Goes, on_constant}
+use Rattle.kilim_classes.specs.machine.Does.{does, match_target}
 use Rattle.kilim_typing.specs.Step as type
 use Rattle.kilim_typing.specs.Step.{Is, Takes, Types, row, text_type, type_step}
 use Rattle.kilim_typing.specs.Typed.{Among}

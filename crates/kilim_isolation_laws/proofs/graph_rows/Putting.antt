@@ -16,7 +16,7 @@ use Rattle.kilim_classes.specs.declared.names.FieldId.{FieldId}
 use Rattle.kilim_classes.specs.declared.ty.Base.{Base}
 use Rattle.kilim_classes.specs.declared.ty.Kind.{Kind}
 use Rattle.kilim_classes.specs.declared.ty.Ty.{Ty}
-use Rattle.kilim_program.specs.declared.value.Object.{Object}
+use Rattle.kilim_classes.specs.declared.machine.value.Object.{Object}
 use Rattle.kilim_classes.specs.declared.value.Value.{Value}
 use Rattle.kilim_classes.specs.declared.value.Value.TheVariants.{Int, Long, Null, Ref, Text, Box, Fiber}
 use Rattle.kilim_classes.specs.declared.verified.VType.{VType}
@@ -24,12 +24,12 @@ use Rattle.kilim_classes.specs.Program.{Program}
 use Rattle.kilim_classes.specs.BuiltIn.{class_type}
 use Rattle.kilim_classes.specs.Kinds.{kind_of, is_private_kind}
 use Rattle.kilim_classes.specs.Names.{field_of}
-use Rattle.kilim_program.specs.Machine.{Objects}
+use Rattle.kilim_classes.specs.machine.Machine.{Objects}
 use Rattle.kilim_classes.specs.Same.{is_constructor}
 use Rattle.kilim_classes.specs.Lengths.{jump_targets, ends_path}
-use Rattle.kilim_program.specs.Effect.{is_wide}
-use Rattle.kilim_program.specs.Does.{does, with_field, narrowed_to}
-use Rattle.kilim_program.specs.Shapes.{field_in}
+use Rattle.kilim_classes.specs.machine.Effect.{is_wide}
+use Rattle.kilim_classes.specs.machine.Does.{does, with_field, narrowed_to}
+use Rattle.kilim_classes.specs.machine.Shapes.{field_in}
 use Rattle.kilim_typing.specs.Step.{Types, peek, assignable, Operand, Is, Own as OwnOperand, meets, class_vtype, holder, by_row, field_row, dims_vtype, base_vtype, row, type_step}
 use Rattle.kilim_isolation_laws.specs.forest.Heap.{IsSet_at}
 use Rattle.kilim_isolation_laws.specs.forest.Relation.{Standing, Root, Inner, Safe, Gone, is_gone, is_safe, Label, Node, Named, Frames}

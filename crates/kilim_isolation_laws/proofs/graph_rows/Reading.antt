@@ -13,17 +13,17 @@ use Rattle.kilim_classes.specs.declared.class.Method.{Method}
 use Rattle.kilim_classes.specs.declared.names.FieldId.{FieldId}
 use Rattle.kilim_classes.specs.declared.ty.Kind.{Kind}
 use Rattle.kilim_classes.specs.declared.ty.Ty.{Ty}
-use Rattle.kilim_program.specs.declared.value.Object.{Object}
+use Rattle.kilim_classes.specs.declared.machine.value.Object.{Object}
 use Rattle.kilim_classes.specs.declared.value.Value.{Value}
 use Rattle.kilim_classes.specs.declared.value.Value.TheVariants.{Ref}
 use Rattle.kilim_classes.specs.declared.verified.VType.{VType}
 use Rattle.kilim_classes.specs.Program.{Program}
 use Rattle.kilim_classes.specs.Kinds.{kind_of}
 use Rattle.kilim_classes.specs.Names.{field_of}
-use Rattle.kilim_program.specs.Machine.{Objects}
+use Rattle.kilim_classes.specs.machine.Machine.{Objects}
 use Rattle.kilim_classes.specs.Lengths.{jump_targets, ends_path}
-use Rattle.kilim_program.specs.Does.{does}
-use Rattle.kilim_program.specs.Shapes.{field_in}
+use Rattle.kilim_classes.specs.machine.Does.{does}
+use Rattle.kilim_classes.specs.machine.Shapes.{field_in}
 use Rattle.kilim_typing.specs.Step.{Types, peek, assignable, Operand, Further, Is, meets, all_meet, class_vtype, further, by_row, field_row, missing, row, type_step}
 use Rattle.kilim_isolation_laws.specs.forest.Relation.{is_gone, Label, Element, Node, Named, Names}
 use Rattle.kilim_isolation_laws.specs.forest.Canonical.{node_at}

@@ -7,7 +7,7 @@ use Rattle.kilim_classes.specs.declared.ty.Ty.{Ty}
 use Rattle.kilim_classes.specs.declared.value.Value.{Value}
 use Rattle.kilim_classes.specs.Program.{Program}
 use Rattle.kilim_classes.specs.Kinds.{kind_of}
-use Rattle.kilim_program.specs.Machine.{Objects}
+use Rattle.kilim_classes.specs.machine.Machine.{Objects}
 use Rattle.kilim_typing.specs.Step.{Types, vtype, result_types}
 use Rattle.kilim_isolation_laws.specs.forest.Heap.{Heap, Below, IsForest}
 use Rattle.kilim_isolation_laws.specs.forest.Relation.{Root, is_gone, Label, Node, Named, Names, RespectsAll, Frames}

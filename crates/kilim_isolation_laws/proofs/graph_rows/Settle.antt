@@ -7,7 +7,7 @@ use Rattle.kilim_classes.specs.declared.class.Method.{Method}
 use Rattle.kilim_classes.specs.declared.value.Value.{Value}
 use Rattle.kilim_classes.specs.declared.verified.VType.{VType}
 use Rattle.kilim_classes.specs.Program.{Program}
-use Rattle.kilim_program.specs.Machine.{Objects}
+use Rattle.kilim_classes.specs.machine.Machine.{Objects}
 use Rattle.kilim_typing.specs.Step.{Types, peek, assignable}
 use Rattle.kilim_typing.specs.Typed.{FlowsInto, all_assignable}
 use Rattle.kilim_isolation_laws.specs.forest.Relation.{is_gone, Node, Named}

@@ -10,10 +10,10 @@ use Rattle.kilim_classes.specs.declared.instr.Instr.{Instr}
 use Rattle.kilim_classes.specs.declared.value.Value.{Value}
 use Rattle.kilim_classes.specs.declared.verified.VType.{VType}
 use Rattle.kilim_classes.specs.Program.{Program}
-use Rattle.kilim_program.specs.Machine.{Objects}
+use Rattle.kilim_classes.specs.machine.Machine.{Objects}
 use Rattle.kilim_classes.specs.Lengths.{jump_targets, ends_path}
-use Rattle.kilim_program.specs.Effect.{Effect, is_wide}
-use Rattle.kilim_program.specs.Does.{does}
+use Rattle.kilim_classes.specs.machine.Effect.{Effect, is_wide}
+use Rattle.kilim_classes.specs.machine.Does.{does}
 use Rattle.kilim_typing.specs.Step.{Types, peek, size, off, above, with_stack, Form, Drops, Copies, Swaps, form_words, words, by_row, row, type_step}
 use Rattle.kilim_isolation_laws.specs.forest.Relation.{is_gone}
 use Rattle.kilim_isolation_laws.specs.forest.Canonical.{node_at}

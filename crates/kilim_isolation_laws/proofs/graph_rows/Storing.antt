@@ -4,7 +4,7 @@ use Rattle.kilim_classes.specs.declared.class.Method.{Method}
 use Rattle.kilim_classes.specs.declared.value.Value.{Value}
 use Rattle.kilim_classes.specs.declared.verified.VType.{VType}
 use Rattle.kilim_classes.specs.Program.{Program}
-use Rattle.kilim_program.specs.Machine.{Objects}
+use Rattle.kilim_classes.specs.machine.Machine.{Objects}
 use Rattle.kilim_typing.specs.Step.{Types, peek}
 use Rattle.kilim_isolation_laws.specs.forest.Heap.{Below, IsForest, IsSet_at, IsUnder}
 use Rattle.kilim_isolation_laws.specs.forest.Relation.{Root, Inner, is_gone, is_safe, Label, Node, Named, Names, Owns, RespectsAll, Frames}

@@ -19,10 +19,10 @@ use Rattle.kilim_classes.specs.Kinds.{class_kind, kind_of}
 use Rattle.kilim_classes.specs.Lengths.{ends_path, jump_targets}
 use Rattle.kilim_classes.specs.Names.{method_at}
 use Rattle.kilim_classes.specs.Program.{Program}
-use Rattle.kilim_program.specs.declared.value.Object.{Object}
-use Rattle.kilim_program.specs.Does.{element_type, takes_element}
-use Rattle.kilim_program.specs.Effect.{Effect}
-use Rattle.kilim_program.specs.Machine.{Objects}
+use Rattle.kilim_classes.specs.declared.machine.value.Object.{Object}
+use Rattle.kilim_classes.specs.machine.Does.{element_type, takes_element}
+use Rattle.kilim_classes.specs.machine.Effect.{Effect}
+use Rattle.kilim_classes.specs.machine.Machine.{Objects}
 use Rattle.kilim_typing.specs.Step as type
 use Rattle.kilim_typing.specs.Step.{Is, Operand, Types, all_meet, arguments, assignable, by_row, meets, peek, result_types, row, type_step}
 use Rattle.kilim_typing.specs.Typed.{Among, edges}

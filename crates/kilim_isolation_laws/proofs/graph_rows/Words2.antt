@@ -9,9 +9,9 @@ use Rattle.kilim_classes.specs.declared.verified.VType.{VType}
 use Rattle.kilim_classes.specs.declared.verified.VType.TheVariants as vtype
 use Rattle.kilim_classes.specs.Lengths.{ends_path, jump_targets}
 use Rattle.kilim_classes.specs.Program.{Program}
-use Rattle.kilim_program.specs.Does.{does}
-use Rattle.kilim_program.specs.Effect.{Effect, Goes, is_wide, on_two_words, on_word}
-use Rattle.kilim_program.specs.Machine.{Objects}
+use Rattle.kilim_classes.specs.machine.Does.{does}
+use Rattle.kilim_classes.specs.machine.Effect.{Effect, Goes, is_wide, on_two_words, on_word}
+use Rattle.kilim_classes.specs.machine.Machine.{Objects}
 use Rattle.kilim_typing.specs.Step as type
 use Rattle.kilim_typing.specs.Step.{Copies, Drops, Swaps, Types, is_long, off, peek, row, then_off, type_step}
 use Rattle.kilim_shape_graph.specs.declared.graph.Graph.{Graph}

@@ -20,12 +20,12 @@ use Rattle.kilim_classes.specs.Program.{Program}
 use Rattle.kilim_classes.specs.Fits.{fits_type}
 use Rattle.kilim_classes.specs.Kinds.{class_kind, is_marked, is_message}
 use Rattle.kilim_classes.specs.Names.{class_at, class_name, field_of, is_task}
-use Rattle.kilim_program.specs.declared.value.Object.{Object}
-use Rattle.kilim_program.specs.declared.value.Token.{Token}
-use Rattle.kilim_program.specs.Does.{element_type}
-use Rattle.kilim_program.specs.Members.{is_instance_field, object_fields}
-use Rattle.kilim_program.specs.Shapes.{field_in}
-use Rattle.kilim_program.specs.Trees.{Awaits, Fields, Elements, Root, OfMessage, OfTask, built, content_types, field_types, is_root, is_root_class, is_whole_class, object_of, value_fits, with_keys}
+use Rattle.kilim_classes.specs.declared.machine.value.Object.{Object}
+use Rattle.kilim_classes.specs.declared.machine.value.Token.{Token}
+use Rattle.kilim_classes.specs.machine.Does.{element_type}
+use Rattle.kilim_classes.specs.machine.Members.{is_instance_field, object_fields}
+use Rattle.kilim_classes.specs.machine.Shapes.{field_in}
+use Rattle.kilim_classes.specs.machine.Trees.{Awaits, Fields, Elements, Root, OfMessage, OfTask, built, content_types, field_types, is_root, is_root_class, is_whole_class, object_of, value_fits, with_keys}
 use Rattle.kilim_isolation_laws.specs.graph_rows.Facts.{ProgramKeeps}
 use Rattle.kilim_isolation_laws.specs.graph_rows.Holds.{Sort, Tree, Trees, field_sort, field_sort_of, is_tree_sort, object_sort, sort_by, stuff_of, type_sort}
 use Rattle.kilim_isolation_laws.proofs.heaps.Contents.{AreShared, FitsBy, array_types, content_shared, leaf_fits, leaf_none, ref_fits}

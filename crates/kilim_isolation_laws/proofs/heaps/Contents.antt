@@ -16,13 +16,13 @@ use Rattle.kilim_classes.specs.Program.{Program}
 use Rattle.kilim_classes.specs.Fits.{fits_type}
 use Rattle.kilim_classes.specs.Kinds.{array_kind, base_kind, is_private_kind, kind_of}
 use Rattle.kilim_classes.specs.Names.{class_named, field_of}
-use Rattle.kilim_program.specs.declared.value.Token.{Token}
-use Rattle.kilim_program.specs.declared.value.Token.TheVariants as token
-use Rattle.kilim_program.specs.Effect.{is_wide, named_class}
-use Rattle.kilim_program.specs.Members.{object_fields}
-use Rattle.kilim_program.specs.Objects.{first_field}
-use Rattle.kilim_program.specs.Shapes.{field_in, fields_in_order}
-use Rattle.kilim_program.specs.Trees.{Awaits, Fields, Elements, content_types, field_types, int_fits, is_class, is_long, is_of, is_whole_class, value_fits}
+use Rattle.kilim_classes.specs.declared.machine.value.Token.{Token}
+use Rattle.kilim_classes.specs.declared.machine.value.Token.TheVariants as token
+use Rattle.kilim_classes.specs.machine.Effect.{is_wide, named_class}
+use Rattle.kilim_classes.specs.machine.Members.{object_fields}
+use Rattle.kilim_classes.specs.machine.Objects.{first_field}
+use Rattle.kilim_classes.specs.machine.Shapes.{field_in, fields_in_order}
+use Rattle.kilim_classes.specs.machine.Trees.{Awaits, Fields, Elements, content_types, field_types, int_fits, is_class, is_long, is_of, is_whole_class, value_fits}
 use Rattle.kilim_isolation_laws.specs.graph_rows.Facts.{ProgramKeeps}
 use Rattle.kilim_isolation_laws.specs.graph_rows.Holds.{Anything, Own, Sort, Tree, Wide, Word, field_sort, field_sort_of, is_tree_sort, object_sort, refers, sort_by, type_sort}
 use Rattle.kilim_isolation_laws.proofs.heaps.Reading.{IsLeaf}

@@ -16,7 +16,7 @@ use Rattle.kilim_classes.specs.Fits.{fits_type, type_assignable}
 use Rattle.kilim_classes.specs.Kinds.{array_kind, base_kind, class_kind, is_message, is_private_kind, is_value_class, kind_of}
 use Rattle.kilim_classes.specs.Lengths.{is_reference_type}
 use Rattle.kilim_classes.specs.Names.{class_at, class_name, is_task}
-use Rattle.kilim_program.specs.Trees.{is_class, is_whole_class}
+use Rattle.kilim_classes.specs.machine.Trees.{is_class, is_whole_class}
 use Rattle.kilim_isolation_rules.specs.Marks.{is_tree}
 use Rattle.kilim_isolation_laws.specs.graph_rows.Holds.{Anything, KindsFlow, MayHold, Own, Sort, Tree, Wide, Word, is_tree_sort, object_sort, sort_by, type_sort}
 use Rattle.kilim_isolation_laws.proofs.graph_rows.Casting.{flows_by, same_sort}

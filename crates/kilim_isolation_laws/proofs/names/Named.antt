@@ -12,18 +12,18 @@ use Rattle.kilim_classes.specs.declared.value.Value.TheVariants.{Int, Long, Null
 use Rattle.kilim_classes.specs.Keeps.{Keeps}
 use Rattle.kilim_classes.specs.Names.{◌>>=◌}
 use Rattle.kilim_classes.specs.Program.{Program}
-use Rattle.kilim_program.specs.declared.value.Object.{Object}
-use Rattle.kilim_program.specs.declared.value.Token.{Token}
-use Rattle.kilim_program.specs.declared.value.Token.TheVariants as token
-use Rattle.kilim_program.specs.Machine.{Objects}
-use Rattle.kilim_program.specs.Members.{object_fields, shown_name}
-use Rattle.kilim_program.specs.Shapes.{content_tokens, field_in, fields_in_order, joined_tokens, value_tokens}
-use Rattle.kilim_program.specs.Trees.{content_names, joined_names, names_in, names_where, value_names}
+use Rattle.kilim_classes.specs.declared.machine.value.Object.{Object}
+use Rattle.kilim_classes.specs.declared.machine.value.Token.{Token}
+use Rattle.kilim_classes.specs.declared.machine.value.Token.TheVariants as token
+use Rattle.kilim_classes.specs.machine.Machine.{Objects}
+use Rattle.kilim_classes.specs.machine.Members.{object_fields, shown_name}
+use Rattle.kilim_classes.specs.machine.Shapes.{content_tokens, field_in, fields_in_order, joined_tokens, value_tokens}
+use Rattle.kilim_classes.specs.machine.Trees.{content_names, joined_names, names_in, names_where, value_names}
 use Rattle.kilim_thread_model.specs.Kept.{IsIn, IsOnce}
 use Rattle.kilim_isolation_laws.specs.forest.Heap.{Below, Heap, Here, IsForest, Then}
 use Rattle.kilim_isolation_laws.proofs.forest.Paths.{joined, never_round, one_step, under_below}
-use Rattle.kilim_typing_laws.specs.fits.Fits.{Classes, ContentFits, FieldsFit, HeapFits}
-use Rattle.kilim_typing_laws.proofs.fits.ClassMethods.{IsAmong}
+use Rattle.kilim_typing.specs.typing_laws.fits.Fits.{Classes, ContentFits, FieldsFit, HeapFits}
+use Rattle.kilim_typing.proofs.typing_laws.fits.ClassMethods.{IsAmong}
 use Rattle.kilim_isolation_laws.specs.graph_rows.Holds.{Anything, Own, Sort, Tree, Wide, Word, field_id, half, held_at, held_by, is_tree_object, is_tree_sort, object_sort, refers_in, tree_held, trees}
 use Rattle.kilim_isolation_laws.proofs.graph_rows.Heaps.{half_even, half_odd}
 use Rattle.kilim_isolation_laws.proofs.tree_types.Apart.{AreApart, fields_apart}

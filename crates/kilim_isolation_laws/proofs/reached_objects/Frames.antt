@@ -16,14 +16,14 @@ use Rattle.kilim_classes.specs.declared.verified.VType.TheVariants.{Top, Int, Lo
 use Rattle.kilim_classes.specs.Kinds.{kind_of}
 use Rattle.kilim_classes.specs.Names.{method_at}
 use Rattle.kilim_classes.specs.Program.{Program}
-use Rattle.kilim_program.specs.declared.value.Object.{Object as HeapObject}
-use Rattle.kilim_program.specs.Machine.{Activation, Objects}
+use Rattle.kilim_classes.specs.declared.machine.value.Object.{Object as HeapObject}
+use Rattle.kilim_classes.specs.machine.Machine.{Activation, Objects}
 use Rattle.kilim_thread_model.specs.Reach.{Below, FramesName, LiveNames, Liveness, MaybeNames, Names as NamesOne, SomeNames}
 use Rattle.kilim_typing.specs.Step.{Types, assignable, is_top, peek, result_types, vtype}
 use Rattle.kilim_typing.specs.Typed.{FlowsInto, GoesOn, Live, ReadsIt, all_assignable, declared, has_code}
-use Rattle.kilim_typing_laws.specs.Laws.{typing_at}
-use Rattle.kilim_typing_laws.proofs.ByPlace.{typed_by_place}
-use Rattle.kilim_typing_laws.proofs.Itself.{flows_itself}
+use Rattle.kilim_typing.specs.typing_laws.Laws.{typing_at}
+use Rattle.kilim_typing.proofs.typing_laws.ByPlace.{typed_by_place}
+use Rattle.kilim_typing.proofs.typing_laws.Itself.{flows_itself}
 use Rattle.kilim_paths.specs.Paths.{Reaches}
 use Rattle.kilim_isolation_laws.specs.forest.Relation.{Frames}
 use Rattle.kilim_isolation_laws.specs.forest.Laws.{IsPlace}
@@ -35,8 +35,8 @@ use Rattle.kilim_isolation_rules.specs.Calls.{given_result}
 use Rattle.kilim_isolation_rules.specs.Marks.{given}
 use Rattle.kilim_pausable_graph.specs.Pausing.{frames_at}
 use Rattle.kilim_isolation_check.specs.Walks.{entry_graph, machine_of}
-use Rattle.kilim_typing_laws.specs.fits.Fits as fits
-use Rattle.kilim_typing_laws.specs.fits.Fits.{AValue, AreThere, Awaited, BelowFit, Classes, FrameFits, Holds, Nothing, StackFits, Wanted, has_type, have_types, result_awaited, result_of}
+use Rattle.kilim_typing.specs.typing_laws.fits.Fits as fits
+use Rattle.kilim_typing.specs.typing_laws.fits.Fits.{AValue, AreThere, Awaited, BelowFit, Classes, FrameFits, Holds, Nothing, StackFits, Wanted, has_type, have_types, result_awaited, result_of}
 use Rattle.kilim_isolation_laws.specs.reached_objects.live.Laws.{IsAcceptedBy, IsThere as LiveIsThere}
 use Rattle.kilim_isolation_laws.proofs.reached_objects.live.Gone.{result_stays}
 use Rattle.kilim_isolation_laws.proofs.reached_objects.live.Live.{live_is_there}

@@ -16,15 +16,15 @@ use Rattle.kilim_classes.specs.Keeps.{Keeps}
 use Rattle.kilim_classes.specs.Kinds.{kind_of}
 use Rattle.kilim_classes.specs.Names.{field_of}
 use Rattle.kilim_classes.specs.Program.{Program}
-use Rattle.kilim_program.specs.declared.value.Object.{Object}
-use Rattle.kilim_program.specs.Does.{element_type}
-use Rattle.kilim_program.specs.Machine.{Objects}
-use Rattle.kilim_program.specs.Members.{object_fields}
-use Rattle.kilim_program.specs.Shapes.{field_in}
+use Rattle.kilim_classes.specs.declared.machine.value.Object.{Object}
+use Rattle.kilim_classes.specs.machine.Does.{element_type}
+use Rattle.kilim_classes.specs.machine.Machine.{Objects}
+use Rattle.kilim_classes.specs.machine.Members.{object_fields}
+use Rattle.kilim_classes.specs.machine.Shapes.{field_in}
 use Rattle.kilim_thread_model.specs.Reach.{Below, FieldNames, Here, Holds, Names, SomeNames, Then}
-use Rattle.kilim_typing_laws.specs.fits.Fits.{Classes, ContentFits, FieldFits, FieldsFit}
-use Rattle.kilim_typing_laws.specs.fits.Fits as fits
-use Rattle.kilim_typing_laws.proofs.fits.ClassMethods.{IsAmong}
+use Rattle.kilim_typing.specs.typing_laws.fits.Fits.{Classes, ContentFits, FieldFits, FieldsFit}
+use Rattle.kilim_typing.specs.typing_laws.fits.Fits as fits
+use Rattle.kilim_typing.proofs.typing_laws.fits.ClassMethods.{IsAmong}
 use Rattle.kilim_isolation_laws.proofs.tree_types.Apart.{AreApart, fields_apart}
 use Rattle.kilim_isolation_laws.specs.graph_rows.Holds.{Anything, Fits, HeapFits, Own, Sort, Tree, Wide, Word, field_sort, field_sort_of, object_sort, sort_by, type_sort}
 

@@ -11,11 +11,11 @@ use Rattle.kilim_classes.specs.declared.verified.VType.{VType}
 use Rattle.kilim_classes.specs.declared.verified.VType.TheVariants.{Top, Int, Long, Null, UninitThis, Uninit, Object}
 use Rattle.kilim_classes.specs.Program.{Program}
 use Rattle.kilim_classes.specs.BuiltIn.{class_type}
-use Rattle.kilim_program.specs.Machine.{Objects}
+use Rattle.kilim_classes.specs.machine.Machine.{Objects}
 use Rattle.kilim_thread_model.specs.Reach.{LiveNames, SomeNames}
 use Rattle.kilim_typing.specs.Step.{assignable, made_at}
 use Rattle.kilim_typing.specs.Typed.{all_assignable}
-use Rattle.kilim_typing_laws.specs.fits.Fits.{Classes, has_type, have_types, is_made}
+use Rattle.kilim_typing.specs.typing_laws.fits.Fits.{Classes, has_type, have_types, is_made}
 use Rattle.kilim_isolation_laws.specs.forest.Relation.{Named}
 use Rattle.kilim_shape_graph.specs.declared.graph.Graph.{Graph}
 use Rattle.kilim_shape_graph.specs.Graphs.{node_of, slot}

@@ -23,17 +23,17 @@ use Rattle.kilim_classes.specs.Kinds.{class_kind, is_message, is_tree_kind}
 use Rattle.kilim_classes.specs.Keeps.{Keeps, method_is_sound}
 use Rattle.kilim_classes.specs.Names.{class_at, line_of, method_at}
 use Rattle.kilim_classes.specs.Same.{is_constructor, selected}
-use Rattle.kilim_program.specs.Does.{above_of, chosen, chosen_by, chosen_on, special}
-use Rattle.kilim_program.specs.Does as does
+use Rattle.kilim_classes.specs.machine.Does.{above_of, chosen, chosen_by, chosen_on, special}
+use Rattle.kilim_classes.specs.machine.Does as does
 use Rattle.kilim_typing.specs.Step.{is_above, is_superclass_method, may_name, special_fits, superclass_at}
 use Rattle.kilim_typing.specs.Step as step
 use Rattle.kilim_lemmas.proofs.Lists.{get_right}
 use Rattle.kilim_shape_graph.specs.Entry.{quality}
-use Rattle.kilim_typing_laws.specs.fits.Chosen.{IsChosen}
-use Rattle.kilim_typing_laws.proofs.fits.ClassMethods.{IsAmong, owner_has}
-use Rattle.kilim_typing_laws.proofs.fits.Finding.{finds}
-use Rattle.kilim_typing_laws.proofs.fits.FromKeeps.{all_at}
-use Rattle.kilim_typing_laws.proofs.fits.Through.{cases, message_at, message_top, object_at, object_top}
+use Rattle.kilim_typing.specs.typing_laws.fits.Chosen.{IsChosen}
+use Rattle.kilim_typing.proofs.typing_laws.fits.ClassMethods.{IsAmong, owner_has}
+use Rattle.kilim_typing.proofs.typing_laws.fits.Finding.{finds}
+use Rattle.kilim_typing.proofs.typing_laws.fits.FromKeeps.{all_at}
+use Rattle.kilim_typing.proofs.typing_laws.fits.Through.{cases, message_at, message_top, object_at, object_top}
 use Rattle.kilim_isolation_laws.specs.graph_rows.Holds.{Sort, sort_by, type_sort}
 use Rattle.kilim_isolation_laws.specs.graph_rows.Facts.{Agrees, ChoosesWell}
 use Rattle.kilim_isolation_laws.proofs.sorts.Lines.{in_line}

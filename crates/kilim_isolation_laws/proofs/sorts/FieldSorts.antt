@@ -20,15 +20,15 @@ use Rattle.kilim_classes.specs.Kinds.{class_kind, field_may_hold, is_private_kin
 use Rattle.kilim_classes.specs.Fits.{is_named}
 use Rattle.kilim_classes.specs.Keeps.{Keeps, fields_fit, members_are_owned, owned_from}
 use Rattle.kilim_classes.specs.Names.{class_at, field_of, fields_of, line_of}
-use Rattle.kilim_program.specs.Members.{is_instance_field, object_fields}
-use Rattle.kilim_program.specs.Objects.{first_field, new_object}
-use Rattle.kilim_program.specs.Shapes.{field_in}
+use Rattle.kilim_classes.specs.machine.Members.{is_instance_field, object_fields}
+use Rattle.kilim_classes.specs.machine.Objects.{first_field, new_object}
+use Rattle.kilim_classes.specs.machine.Shapes.{field_in}
 use Rattle.std.proofs.lemmas.Grind.{flat_map-append}
 use Rattle.std.proofs.lemmas.List.{reverse-append}
 use Rattle.kilim_lemmas.proofs.Texts.{text_is}
-use Rattle.kilim_typing_laws.proofs.fits.ClassMethods.{IsAmong, any_among, owner_is}
-use Rattle.kilim_typing_laws.proofs.fits.FromKeeps.{all_at}
-use Rattle.kilim_typing_laws.proofs.fits.Through.{each_at, object_at, object_top}
+use Rattle.kilim_typing.proofs.typing_laws.fits.ClassMethods.{IsAmong, any_among, owner_is}
+use Rattle.kilim_typing.proofs.typing_laws.fits.FromKeeps.{all_at}
+use Rattle.kilim_typing.proofs.typing_laws.fits.Through.{each_at, object_at, object_top}
 use Rattle.kilim_isolation_laws.proofs.sorts.Lines.{in_line}
 use Rattle.kilim_typing.specs.Step as type
 use Rattle.kilim_isolation_laws.specs.graph_rows.Holds.{MayHold, Wide, Word, field_sort, field_sort_of, object_sort, sort_by, sort_of_vtype, type_sort}

@@ -16,9 +16,9 @@ use Rattle.kilim_classes.specs.Kinds.{class_kind, kind_of}
 use Rattle.kilim_classes.specs.Keeps.{Keeps}
 use Rattle.kilim_classes.specs.Names.{class_at, method_at, ◌>>=◌}
 use Rattle.kilim_typing.specs.Step.{superclass_at, vtype}
-use Rattle.kilim_typing_laws.specs.fits.Facts.{IsCharAt, IsEquals, IsLength, TextKind}
-use Rattle.kilim_typing_laws.proofs.fits.ValueClasses.{found_name}
-use Rattle.kilim_typing_laws.proofs.fits.Grounds.{facts_hold}
+use Rattle.kilim_typing.specs.typing_laws.fits.Facts.{IsCharAt, IsEquals, IsLength, TextKind}
+use Rattle.kilim_typing.proofs.typing_laws.fits.ValueClasses.{found_name}
+use Rattle.kilim_typing.proofs.typing_laws.fits.Grounds.{facts_hold}
 use Rattle.kilim_isolation_laws.specs.graph_rows.Holds.{object_sort}
 use Rattle.kilim_isolation_laws.specs.graph_rows.Facts.{ProgramKeeps}
 use Rattle.kilim_isolation_laws.proofs.sorts.Choosing.{chooses_well, class_sort, of_object, sizes}

@@ -17,9 +17,9 @@ use Rattle.kilim_classes.specs.Names.{◌>>=◌, class_at, class_name, is_named_
 use Rattle.kilim_classes.specs.Keeps.{Keeps, is_object, is_open_superclass, own_class_fits, own_count, superclass_fits, superclasses_fit}
 use Rattle.kilim_lemmas.proofs.Lists.{get_right, get_some}
 use Rattle.kilim_lemmas.proofs.Texts.{text_is}
-use Rattle.kilim_typing_laws.proofs.fits.FromKeeps.{all_at}
-use Rattle.kilim_typing_laws.proofs.fits.Through.{each_at, object_at, object_top}
-use Rattle.kilim_typing_laws.proofs.fits.ValueClasses.{IsPlain, UpIs, all_of_at, apart, built_plain, own_counted, own_fits}
+use Rattle.kilim_typing.proofs.typing_laws.fits.FromKeeps.{all_at}
+use Rattle.kilim_typing.proofs.typing_laws.fits.Through.{each_at, object_at, object_top}
+use Rattle.kilim_typing.proofs.typing_laws.fits.ValueClasses.{IsPlain, UpIs, all_of_at, apart, built_plain, own_counted, own_fits}
 
 abbrev pub up : Program → ClassId → Option ClassId
 up p c = class_at p c >>= λ (class : Class). class.superclass

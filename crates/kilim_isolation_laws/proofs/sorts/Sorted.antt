@@ -16,7 +16,7 @@ use Rattle.kilim_classes.specs.Fits.{class_assignable, is_named, is_object_base}
 use Rattle.kilim_classes.specs.Kinds.{base_kind, class_kind, is_marked, is_message}
 use Rattle.kilim_classes.specs.Keeps.{Keeps}
 use Rattle.kilim_classes.specs.Names.{line_of, line_up_to}
-use Rattle.kilim_typing_laws.proofs.fits.Through.{cases, message_at, message_top}
+use Rattle.kilim_typing.proofs.typing_laws.fits.Through.{cases, message_at, message_top}
 use Rattle.kilim_isolation_laws.proofs.sorts.KindsOfClasses.{ClassFlow, ClassesFlow}
 use Rattle.kilim_isolation_laws.proofs.sorts.Lines.{in_line, message_kind, object_is_private, up}
 

@@ -17,10 +17,10 @@ use Rattle.kilim_classes.specs.BuiltIn.{built_in_methods_in, class_id}
 use Rattle.kilim_classes.specs.Kinds.{class_kind}
 use Rattle.kilim_classes.specs.Keeps.{Keeps}
 use Rattle.kilim_classes.specs.Names.{class_name, method_at}
-use Rattle.kilim_program.specs.Natives.{is_handed_out}
+use Rattle.kilim_classes.specs.machine.Natives.{is_handed_out}
 use Rattle.kilim_lemmas.proofs.Texts.{same_text}
-use Rattle.kilim_typing_laws.proofs.fits.BuiltInMembers.{NamedAt, built_in_at, named_at, none_built_in, takes}
-use Rattle.kilim_typing_laws.proofs.fits.ValueClasses.{all_of_at}
+use Rattle.kilim_typing.proofs.typing_laws.fits.BuiltInMembers.{NamedAt, built_in_at, named_at, none_built_in, takes}
+use Rattle.kilim_typing.proofs.typing_laws.fits.ValueClasses.{all_of_at}
 use Rattle.kilim_isolation_laws.specs.graph_rows.Facts.{IsTake}
 use Rattle.kilim_isolation_laws.proofs.sorts.Sorted.{message_is_tree}
 

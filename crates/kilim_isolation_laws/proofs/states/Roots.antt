@@ -19,9 +19,9 @@ use Rattle.kilim_classes.specs.Keeps.{Keeps, none_is_both}
 use Rattle.kilim_classes.specs.Kinds.{class_kind, is_marked, is_message, is_value_class}
 use Rattle.kilim_classes.specs.Names.{◌>>=◌, class_at, class_name, is_named_task, is_task, line_of, line_up_to}
 use Rattle.kilim_classes.specs.Program.{Program}
-use Rattle.kilim_program.specs.Trees.{OfMessage, OfTask, is_root}
-use Rattle.kilim_typing_laws.proofs.fits.BuiltInMembers.{NamedAt, named_at}
-use Rattle.kilim_typing_laws.proofs.fits.Through.{cases, each_at, message_at, message_top}
+use Rattle.kilim_classes.specs.machine.Trees.{OfMessage, OfTask, is_root}
+use Rattle.kilim_typing.proofs.typing_laws.fits.BuiltInMembers.{NamedAt, named_at}
+use Rattle.kilim_typing.proofs.typing_laws.fits.Through.{cases, each_at, message_at, message_top}
 use Rattle.kilim_isolation_laws.proofs.sorts.Lines.{message_kind, object_is_private, step_up}
 use Rattle.kilim_isolation_laws.proofs.typed_threads.fine.Natives.{first, object_name, task_name}
 use Rattle.kilim_isolation_laws.proofs.typed_threads.Booting.{line_begins}

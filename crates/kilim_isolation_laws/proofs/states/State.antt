@@ -19,26 +19,26 @@ use Rattle.kilim_classes.specs.Fits.{fits_type}
 use Rattle.kilim_classes.specs.Kinds.{class_kind, is_message, is_tree_kind, is_value_class}
 use Rattle.kilim_classes.specs.Names.{is_task}
 use Rattle.kilim_classes.specs.Program.{Program}
-use Rattle.kilim_program.specs.Machine.{Activation, Objects}
-use Rattle.kilim_program.specs.Moves.{Move, moves}
-use Rattle.kilim_program.specs.Moves as move
-use Rattle.kilim_program.specs.Natives.{Native, native_of}
-use Rattle.kilim_program.specs.Natives as native
-use Rattle.kilim_program.specs.Shapes.{tree_limit}
-use Rattle.kilim_program.specs.Trees.{OfMessage, OfTask, Root, is_root, tree_names}
+use Rattle.kilim_classes.specs.machine.Machine.{Activation, Objects}
+use Rattle.kilim_classes.specs.machine.Moves.{Move, moves}
+use Rattle.kilim_classes.specs.machine.Moves as move
+use Rattle.kilim_classes.specs.machine.Natives.{Native, native_of}
+use Rattle.kilim_classes.specs.machine.Natives as native
+use Rattle.kilim_classes.specs.machine.Shapes.{tree_limit}
+use Rattle.kilim_classes.specs.machine.Trees.{OfMessage, OfTask, Root, is_root, tree_names}
 use Rattle.kilim_thread_model.specs.State.{Setting, Thread}
 use Rattle.kilim_thread_model.specs.Kept.{GivesTree, IsGivenTree, given}
 use Rattle.kilim_typing.specs.Step.{class_vtype, vtype}
-use Rattle.kilim_typing_laws.specs.Laws.{typing_at}
+use Rattle.kilim_typing.specs.typing_laws.Laws.{typing_at}
 use Rattle.kilim_shape_graph.specs.declared.entry.Parameter.{Parameter}
 use Rattle.kilim_shape_graph.specs.Entry.{declared_parameters, parameters_of, quality}
 use Rattle.kilim_isolation_rules.specs.Calls.{is_owned}
 use Rattle.kilim_isolation_laws.specs.forest.Heap.{IsForest}
-use Rattle.kilim_typing_laws.specs.fits.Fits.{Classes, Fits, HeapFits, Wanted, has_type, have_types, is_of}
-use Rattle.kilim_typing_laws.specs.fits.Sound.{AsksFit, native_types}
-use Rattle.kilim_typing_laws.specs.fits.Sound as sound
-use Rattle.kilim_typing_laws.proofs.fits.Grounds.{facts_hold}
-use Rattle.kilim_typing_laws.proofs.fits.Theorem.{moves_fit}
+use Rattle.kilim_typing.specs.typing_laws.fits.Fits.{Classes, Fits, HeapFits, Wanted, has_type, have_types, is_of}
+use Rattle.kilim_typing.specs.typing_laws.fits.Sound.{AsksFit, native_types}
+use Rattle.kilim_typing.specs.typing_laws.fits.Sound as sound
+use Rattle.kilim_typing.proofs.typing_laws.fits.Grounds.{facts_hold}
+use Rattle.kilim_typing.proofs.typing_laws.fits.Theorem.{moves_fit}
 use Rattle.kilim_isolation_laws.specs.graph_rows.Holds.{trees}
 use Rattle.kilim_isolation_laws.specs.reached_objects.graphs.Threads.{AskFits, Gives, Listed, MoveFits}
 use Rattle.kilim_isolation_laws.specs.typed_threads.fine.Typed.{IsVerified, TopIsThere, frames_of}

@@ -10,9 +10,9 @@ use Rattle.kilim_classes.specs.BuiltIn.{built_in_methods_in, class_id, class_typ
 use Rattle.kilim_classes.specs.Keeps.{Keeps}
 use Rattle.kilim_classes.specs.Names.{◌>>=◌, class_name, method_at}
 use Rattle.kilim_classes.specs.Program.{Program}
-use Rattle.kilim_program.specs.Natives.{Native, natives, native_named, native_method, native_of}
-use Rattle.kilim_program.specs.Natives as native
-use Rattle.kilim_typing_laws.proofs.fits.BuiltInMembers.{NamedAt, named_at}
+use Rattle.kilim_classes.specs.machine.Natives.{Native, natives, native_named, native_method, native_of}
+use Rattle.kilim_classes.specs.machine.Natives as native
+use Rattle.kilim_typing.proofs.typing_laws.fits.BuiltInMembers.{NamedAt, named_at}
 use Rattle.kilim_isolation_laws.proofs.typed_threads.fine.Natives.{built_in_one, first, object_name, task_name}
 
 pub record PutIs (n : ℕ) (m : Method) : Type 0 where

@@ -18,18 +18,18 @@ use Rattle.kilim_classes.specs.Fits.{fits_type, is_reference_base}
 use Rattle.kilim_classes.specs.Keeps.{Keeps, has_base}
 use Rattle.kilim_classes.specs.Kinds.{is_value_class}
 use Rattle.kilim_classes.specs.Names.{◌>>=◌, class_at, field_of}
-use Rattle.kilim_program.specs.declared.value.Object.{Object}
-use Rattle.kilim_program.specs.declared.value.Token.{Token}
-use Rattle.kilim_program.specs.declared.value.Token.TheVariants as token
-use Rattle.kilim_program.specs.Effect.{named_type}
-use Rattle.kilim_program.specs.Machine.{Objects}
-use Rattle.kilim_program.specs.Members.{is_concrete, object_fields, shown_name}
-use Rattle.kilim_program.specs.Shapes.{content_tokens, field_in, fields_in_order, is_open, joined_tokens, shape_by, tree_limit, value_tokens}
-use Rattle.kilim_program.specs.Trees.{Awaits, Fields, Elements, Root, allowed_below, allowed_from, awaited, behind_token, content_types, field_types, is_allowed, is_class, is_long, is_root, is_whole_class, opened, type_named, value_fits}
-use Rattle.kilim_program.specs.Trees as trees
+use Rattle.kilim_classes.specs.declared.machine.value.Object.{Object}
+use Rattle.kilim_classes.specs.declared.machine.value.Token.{Token}
+use Rattle.kilim_classes.specs.declared.machine.value.Token.TheVariants as token
+use Rattle.kilim_classes.specs.machine.Effect.{named_type}
+use Rattle.kilim_classes.specs.machine.Machine.{Objects}
+use Rattle.kilim_classes.specs.machine.Members.{is_concrete, object_fields, shown_name}
+use Rattle.kilim_classes.specs.machine.Shapes.{content_tokens, field_in, fields_in_order, is_open, joined_tokens, shape_by, tree_limit, value_tokens}
+use Rattle.kilim_classes.specs.machine.Trees.{Awaits, Fields, Elements, Root, allowed_below, allowed_from, awaited, behind_token, content_types, field_types, is_allowed, is_class, is_long, is_root, is_whole_class, opened, type_named, value_fits}
+use Rattle.kilim_classes.specs.machine.Trees as trees
 use Rattle.kilim_thread_model.specs.Kept.{Finds}
-use Rattle.kilim_typing_laws.specs.fits.Fits.{Classes, ContentFits, FieldFits, FieldsFit, HeapFits, ObjectFits, has_objects, is_long_base, is_of, is_value_of}
-use Rattle.kilim_typing_laws.specs.fits.Fits as fits
+use Rattle.kilim_typing.specs.typing_laws.fits.Fits.{Classes, ContentFits, FieldFits, FieldsFit, HeapFits, ObjectFits, has_objects, is_long_base, is_of, is_value_of}
+use Rattle.kilim_typing.specs.typing_laws.fits.Fits as fits
 use Rattle.kilim_lemmas.proofs.Lists.{get_some}
 use Rattle.kilim_isolation_laws.specs.tree_types.Laws.{AreNamedPlainly, TreesAreAllowed}
 use Rattle.kilim_isolation_laws.proofs.tree_types.Formed.{finds_of, objects_formed, values_of}

@@ -14,10 +14,10 @@ use Rattle.kilim_classes.specs.Program.{Program}
 use Rattle.kilim_classes.specs.BuiltIn.{class_id}
 use Rattle.kilim_classes.specs.Names.{class_at, field_of, fields_of, line_of}
 use Rattle.kilim_classes.specs.Keeps.{Keeps, members_are_owned, owned_from}
-use Rattle.kilim_program.specs.Members.{is_instance_field, object_fields}
+use Rattle.kilim_classes.specs.machine.Members.{is_instance_field, object_fields}
 use Rattle.kilim_lemmas.proofs.Texts.{text_is}
-use Rattle.kilim_typing_laws.proofs.fits.ClassMethods.{IsAmong, owner_is}
-use Rattle.kilim_typing_laws.proofs.fits.Through.{distinct, each_at}
+use Rattle.kilim_typing.proofs.typing_laws.fits.ClassMethods.{IsAmong, owner_is}
+use Rattle.kilim_typing.proofs.typing_laws.fits.Through.{distinct, each_at}
 
 -- ---- lists in which nothing stands twice
 

@@ -13,16 +13,16 @@ use Rattle.kilim_classes.specs.Program.{Program}
 use Rattle.kilim_classes.specs.Keeps.{Keeps, has_base, names_differ}
 use Rattle.kilim_classes.specs.Names.{class_at}
 use Rattle.kilim_classes.specs.Same.{all_differ}
-use Rattle.kilim_program.specs.declared.value.Object.{Object}
-use Rattle.kilim_program.specs.Members.{is_concrete, object_fields, shown_name}
-use Rattle.kilim_program.specs.Shapes.{field_in, fields_in_order}
-use Rattle.kilim_program.specs.Trees.{object_of, type_named, with_keys}
+use Rattle.kilim_classes.specs.declared.machine.value.Object.{Object}
+use Rattle.kilim_classes.specs.machine.Members.{is_concrete, object_fields, shown_name}
+use Rattle.kilim_classes.specs.machine.Shapes.{field_in, fields_in_order}
+use Rattle.kilim_classes.specs.machine.Trees.{object_of, type_named, with_keys}
 use Rattle.kilim_thread_model.specs.Kept.{Finds, IsFormed}
 use Rattle.kilim_lemmas.proofs.Lists.{get_some}
-use Rattle.kilim_typing_laws.specs.fits.Fits.{Classes, ContentFits, FieldsFit, has_objects}
-use Rattle.kilim_typing_laws.proofs.fits.ClassMethods.{IsAmong}
-use Rattle.kilim_kin.specs.trees.Laws.{IsPlaced}
-use Rattle.kilim_kin.proofs.trees.NamedTypes.{array_is_named, class_is_named}
+use Rattle.kilim_typing.specs.typing_laws.fits.Fits.{Classes, ContentFits, FieldsFit, has_objects}
+use Rattle.kilim_typing.proofs.typing_laws.fits.ClassMethods.{IsAmong}
+use Rattle.kilim_thread_model.specs.kin.trees.Laws.{IsPlaced}
+use Rattle.kilim_thread_model.proofs.kin.trees.NamedTypes.{array_is_named, class_is_named}
 use Rattle.kilim_isolation_laws.specs.tree_types.Laws.{AreNamedPlainly, ObjectsAreFormed}
 use Rattle.kilim_isolation_laws.proofs.tree_types.Apart.{AreApart, fields_apart}
 

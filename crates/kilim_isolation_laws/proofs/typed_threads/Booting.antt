@@ -22,20 +22,20 @@ use Rattle.kilim_classes.specs.Keeps.{Keeps, is_left_abstract, is_same_id, none_
 use Rattle.kilim_classes.specs.Names.{◌>>=◌, class_at, class_name, field_of, fields_of, first_that, is_empty, is_named_task, is_task, line_of, line_up_to, method_at, methods_of}
 use Rattle.kilim_classes.specs.Program.{Program}
 use Rattle.kilim_classes.specs.Same.{answers, same_result, same_signature, same_types, selected}
-use Rattle.kilim_program.specs.Machine.{Objects, Activation}
-use Rattle.kilim_program.specs.Members.{constructor_of, is_concrete, is_fit_main, is_instance_field, is_own_constructor, is_plain_method}
-use Rattle.kilim_program.specs.Moves.{entered}
-use Rattle.kilim_program.specs.Objects.{first_field, first_value, first_value_of, new_object}
+use Rattle.kilim_classes.specs.machine.Machine.{Objects, Activation}
+use Rattle.kilim_classes.specs.machine.Members.{constructor_of, is_concrete, is_fit_main, is_instance_field, is_own_constructor, is_plain_method}
+use Rattle.kilim_classes.specs.machine.Moves.{entered}
+use Rattle.kilim_classes.specs.machine.Objects.{first_field, first_value, first_value_of, new_object}
 use Rattle.kilim_thread_model.specs.State.{begun_in, begun_on}
 use Rattle.kilim_lemmas.proofs.Lists.{get_right}
 use Rattle.kilim_lemmas.proofs.Texts.{text_is}
-use Rattle.kilim_typing_laws.specs.fits.Fits.{Classes, FieldFits, FieldsFit, Fits, HeapFits, ObjectFits, Typing, Verified, Wanted, has_objects, is_of, is_value_of}
-use Rattle.kilim_typing_laws.proofs.fits.Bodies.{bodies}
-use Rattle.kilim_typing_laws.proofs.fits.ClassMethods.{IsAmong, among_left, any_among, names_owner}
-use Rattle.kilim_typing_laws.proofs.fits.FromKeeps.{all_weaker, among_both, itself, own_body}
-use Rattle.kilim_typing_laws.proofs.fits.Grounds.{facts_hold}
-use Rattle.kilim_typing_laws.proofs.fits.Grown.{beginnings_fit}
-use Rattle.kilim_typing_laws.proofs.fits.Through.{each_at}
+use Rattle.kilim_typing.specs.typing_laws.fits.Fits.{Classes, FieldFits, FieldsFit, Fits, HeapFits, ObjectFits, Typing, Verified, Wanted, has_objects, is_of, is_value_of}
+use Rattle.kilim_typing.proofs.typing_laws.fits.Bodies.{bodies}
+use Rattle.kilim_typing.proofs.typing_laws.fits.ClassMethods.{IsAmong, among_left, any_among, names_owner}
+use Rattle.kilim_typing.proofs.typing_laws.fits.FromKeeps.{all_weaker, among_both, itself, own_body}
+use Rattle.kilim_typing.proofs.typing_laws.fits.Grounds.{facts_hold}
+use Rattle.kilim_typing.proofs.typing_laws.fits.Grown.{beginnings_fit}
+use Rattle.kilim_typing.proofs.typing_laws.fits.Through.{each_at}
 use Rattle.kilim_isolation_laws.proofs.typed_threads.fine.Natives.{first, object_name}
 use Rattle.kilim_isolation_laws.proofs.typed_threads.Executing.{same_class}
 

@@ -8,13 +8,13 @@ use Rattle.kilim_classes.specs.declared.ty.Base.TheVariants as base
 use Rattle.kilim_classes.specs.declared.ty.Ty.{Ty}
 use Rattle.kilim_classes.specs.Lengths.{is_reference_type}
 use Rattle.kilim_classes.specs.Program.{Program}
-use Rattle.kilim_program.specs.declared.value.Object.{Object}
-use Rattle.kilim_program.specs.Machine.{Objects}
-use Rattle.kilim_program.specs.Trees.{with_objects, without}
+use Rattle.kilim_classes.specs.declared.machine.value.Object.{Object}
+use Rattle.kilim_classes.specs.machine.Machine.{Objects}
+use Rattle.kilim_classes.specs.machine.Trees.{with_objects, without}
 use Rattle.kilim_lemmas.proofs.Maps.{put_there, put_other, out_there, out_other}
-use Rattle.kilim_typing_laws.specs.fits.Fits.{Classes, ContentFits, HeapFits, ObjectFits}
-use Rattle.kilim_typing_laws.specs.fits.Law.{Extends, with_class}
-use Rattle.kilim_typing_laws.proofs.fits.Grown.{came}
+use Rattle.kilim_typing.specs.typing_laws.fits.Fits.{Classes, ContentFits, HeapFits, ObjectFits}
+use Rattle.kilim_typing.specs.typing_laws.fits.Law.{Extends, with_class}
+use Rattle.kilim_typing.proofs.typing_laws.fits.Grown.{came}
 use Rattle.kilim_isolation_laws.proofs.typed_threads.Read.{AllFit, Placed}
 
 none_some : {A : Type 0} (x : A) → None ≡ Some x → ⊥

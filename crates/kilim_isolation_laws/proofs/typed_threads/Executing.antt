@@ -18,16 +18,16 @@ use Rattle.kilim_classes.specs.Keeps.{Keeps}
 use Rattle.kilim_classes.specs.Names.{◌>>=◌, class_at, class_name, first_that, is_named_task, is_task, line_of, method_at}
 use Rattle.kilim_classes.specs.Program.{Program}
 use Rattle.kilim_classes.specs.Same.{is_constructor, selected}
-use Rattle.kilim_program.specs.Does.{chosen, chosen_by}
-use Rattle.kilim_program.specs.Machine.{Objects, Activation}
-use Rattle.kilim_program.specs.Members.{execute_of, is_concrete, is_task_execute}
-use Rattle.kilim_program.specs.Moves.{entered}
+use Rattle.kilim_classes.specs.machine.Does.{chosen, chosen_by}
+use Rattle.kilim_classes.specs.machine.Machine.{Objects, Activation}
+use Rattle.kilim_classes.specs.machine.Members.{execute_of, is_concrete, is_task_execute}
+use Rattle.kilim_classes.specs.machine.Moves.{entered}
 use Rattle.kilim_thread_model.specs.State.{begun_in, begun_on}
-use Rattle.kilim_typing_laws.specs.fits.Facts.{Selected}
-use Rattle.kilim_typing_laws.specs.fits.Fits.{Classes, Fits, HeapFits, Typing, Verified, Wanted, is_of}
-use Rattle.kilim_typing_laws.proofs.fits.Grounds.{facts_hold}
-use Rattle.kilim_typing_laws.proofs.fits.Grown.{beginnings_fit}
-use Rattle.kilim_typing_laws.proofs.fits.ValueClasses.{type_is}
+use Rattle.kilim_typing.specs.typing_laws.fits.Facts.{Selected}
+use Rattle.kilim_typing.specs.typing_laws.fits.Fits.{Classes, Fits, HeapFits, Typing, Verified, Wanted, is_of}
+use Rattle.kilim_typing.proofs.typing_laws.fits.Grounds.{facts_hold}
+use Rattle.kilim_typing.proofs.typing_laws.fits.Grown.{beginnings_fit}
+use Rattle.kilim_typing.proofs.typing_laws.fits.ValueClasses.{type_is}
 use Rattle.kilim_isolation_laws.proofs.typed_threads.fine.Natives.{built_in_one, first, task_name}
 
 some_same : {A : Type 0} (x y : A) → Some x ≡ Some y → x ≡ y

@@ -21,18 +21,18 @@ use Rattle.kilim_classes.specs.Keeps.{Keeps}
 use Rattle.kilim_classes.specs.Kinds.{is_marked, is_message}
 use Rattle.kilim_classes.specs.Names.{class_at, is_task, line_of}
 use Rattle.kilim_classes.specs.Program.{Program}
-use Rattle.kilim_program.specs.declared.cause.EndCause.{EndCause}
-use Rattle.kilim_program.specs.declared.cause.EndCause.TheVariants as cause
-use Rattle.kilim_program.specs.declared.value.Object.{Object}
-use Rattle.kilim_program.specs.declared.value.Token.{Token}
-use Rattle.kilim_program.specs.Machine.{Objects, Activation}
-use Rattle.kilim_program.specs.Members.{execute_of, is_concrete}
-use Rattle.kilim_program.specs.Moves.{Move, moves, push_value}
-use Rattle.kilim_program.specs.Moves as move
-use Rattle.kilim_program.specs.Natives.{Native, native_of}
-use Rattle.kilim_program.specs.Natives as native
-use Rattle.kilim_program.specs.Shapes.{shape_of}
-use Rattle.kilim_program.specs.Trees.{OfMessage, built, is_root, tree_names, with_objects, without}
+use Rattle.kilim_classes.specs.declared.machine.cause.EndCause.{EndCause}
+use Rattle.kilim_classes.specs.declared.machine.cause.EndCause.TheVariants as cause
+use Rattle.kilim_classes.specs.declared.machine.value.Object.{Object}
+use Rattle.kilim_classes.specs.declared.machine.value.Token.{Token}
+use Rattle.kilim_classes.specs.machine.Machine.{Objects, Activation}
+use Rattle.kilim_classes.specs.machine.Members.{execute_of, is_concrete}
+use Rattle.kilim_classes.specs.machine.Moves.{Move, moves, push_value}
+use Rattle.kilim_classes.specs.machine.Moves as move
+use Rattle.kilim_classes.specs.machine.Natives.{Native, native_of}
+use Rattle.kilim_classes.specs.machine.Natives as native
+use Rattle.kilim_classes.specs.machine.Shapes.{shape_of}
+use Rattle.kilim_classes.specs.machine.Trees.{OfMessage, built, is_root, tree_names, with_objects, without}
 use Rattle.kilim_journal.specs.declared.entry.Act.{Act}
 use Rattle.kilim_journal.specs.declared.entry.Act.TheVariants.{Put, Take, Empty, Start, Print, End}
 use Rattle.kilim_thread_model.specs.State.{Setting, Thread, Alive, Ended, begun_on, is_fit}
@@ -40,13 +40,13 @@ use Rattle.kilim_thread_model.specs.Lone.{Lone, Next, Goes, Puts, Gets, Probes, 
 use Rattle.kilim_thread_model.specs.Course.{Done, done_by, probes_deed, puts_deed, received, starts_deed, takes_deed, tree_came, tree_left}
 use Rattle.kilim_thread_model.specs.declared.deed.Deed.{Deed}
 use Rattle.kilim_typing.specs.Step.{vtype}
-use Rattle.kilim_typing_laws.specs.fits.Fits.{Classes, Fits, HeapFits, Typing, Wanted, has_type, is_of}
-use Rattle.kilim_typing_laws.specs.fits.Law.{AnswersFit, Extends, with_class}
-use Rattle.kilim_typing_laws.specs.fits.Sound.{AsksFit, MoveFits}
-use Rattle.kilim_typing_laws.proofs.fits.BuiltInMembers.{NamedAt, named_at}
-use Rattle.kilim_typing_laws.proofs.fits.Grounds.{facts_hold}
-use Rattle.kilim_typing_laws.proofs.fits.Grown.{all_answers_fit}
-use Rattle.kilim_typing_laws.proofs.fits.Theorem.{moves_fit}
+use Rattle.kilim_typing.specs.typing_laws.fits.Fits.{Classes, Fits, HeapFits, Typing, Wanted, has_type, is_of}
+use Rattle.kilim_typing.specs.typing_laws.fits.Law.{AnswersFit, Extends, with_class}
+use Rattle.kilim_typing.specs.typing_laws.fits.Sound.{AsksFit, MoveFits}
+use Rattle.kilim_typing.proofs.typing_laws.fits.BuiltInMembers.{NamedAt, named_at}
+use Rattle.kilim_typing.proofs.typing_laws.fits.Grounds.{facts_hold}
+use Rattle.kilim_typing.proofs.typing_laws.fits.Grown.{all_answers_fit}
+use Rattle.kilim_typing.proofs.typing_laws.fits.Theorem.{moves_fit}
 use Rattle.kilim_isolation_laws.specs.typed_threads.fine.Typed.{FitsAs, IsVerified, StackIsThere, TopIsThere, frames_of}
 use Rattle.kilim_isolation_laws.proofs.typed_threads.fine.Natives.{first, gives, native_gives}
 use Rattle.kilim_isolation_laws.specs.typed_threads.Typed.{Further}

@@ -17,16 +17,16 @@ use Rattle.kilim_classes.specs.Fits.{fits_type, is_reference_base}
 use Rattle.kilim_classes.specs.Keeps.{has_base, has_class}
 use Rattle.kilim_classes.specs.Kinds.{is_value_class}
 use Rattle.kilim_classes.specs.Names.{◌>>=◌, class_at, field_of}
-use Rattle.kilim_program.specs.declared.value.Object.{Object}
-use Rattle.kilim_program.specs.declared.value.Token.{Token}
-use Rattle.kilim_program.specs.declared.value.Token.TheVariants as token
-use Rattle.kilim_program.specs.Effect.{named_type}
-use Rattle.kilim_program.specs.Members.{is_concrete, is_instance_field, object_fields}
-use Rattle.kilim_program.specs.Shapes.{fields_in_order}
-use Rattle.kilim_program.specs.Trees.{Awaits, Fields, Elements, Read, Reads, Root, allowed_below, allowed_from, and_then, awaited, behind, behind_token, built, closed, content_types, field_types, is_allowed, is_class, is_long, is_root, is_whole_class, leaf, object_of, opened, read_value, read_values, root_alone, type_named, value_fits, with_keys}
-use Rattle.kilim_program.specs.Trees as trees
-use Rattle.kilim_typing_laws.specs.fits.Fits.{Classes, ContentFits, FieldFits, FieldsFit, ObjectFits, has_objects, is_long_base, is_of, is_value_of}
-use Rattle.kilim_typing_laws.specs.fits.Fits as fits
+use Rattle.kilim_classes.specs.declared.machine.value.Object.{Object}
+use Rattle.kilim_classes.specs.declared.machine.value.Token.{Token}
+use Rattle.kilim_classes.specs.declared.machine.value.Token.TheVariants as token
+use Rattle.kilim_classes.specs.machine.Effect.{named_type}
+use Rattle.kilim_classes.specs.machine.Members.{is_concrete, is_instance_field, object_fields}
+use Rattle.kilim_classes.specs.machine.Shapes.{fields_in_order}
+use Rattle.kilim_classes.specs.machine.Trees.{Awaits, Fields, Elements, Read, Reads, Root, allowed_below, allowed_from, and_then, awaited, behind, behind_token, built, closed, content_types, field_types, is_allowed, is_class, is_long, is_root, is_whole_class, leaf, object_of, opened, read_value, read_values, root_alone, type_named, value_fits, with_keys}
+use Rattle.kilim_classes.specs.machine.Trees as trees
+use Rattle.kilim_typing.specs.typing_laws.fits.Fits.{Classes, ContentFits, FieldFits, FieldsFit, ObjectFits, has_objects, is_long_base, is_of, is_value_of}
+use Rattle.kilim_typing.specs.typing_laws.fits.Fits as fits
 
 -- ---- words of two definitions that are the same
 

@@ -5,8 +5,8 @@ use Rattle.kilim_classes.specs.declared.names.ClassId.{ClassId}
 use Rattle.kilim_classes.specs.Keeps.{Keeps}
 use Rattle.kilim_classes.specs.Program.{Program}
 use Rattle.kilim_classfile.specs.declared.class_file.ClassFile.{ClassFile}
-use Rattle.kilim_program.specs.declared.run.Limits.{Limits}
-use Rattle.kilim_program.specs.Members.{is_fit_main}
+use Rattle.kilim_classes.specs.declared.machine.run.Limits.{Limits}
+use Rattle.kilim_classes.specs.machine.Members.{is_fit_main}
 use Rattle.kilim_thread_model.specs.State.{Setting}
 use Rattle.kilim_thread_model.specs.Reach.{Liveness, PlaysIsolated}
 use Rattle.kilim_typing.specs.Typed.{IsWellTyped, listed_frames}

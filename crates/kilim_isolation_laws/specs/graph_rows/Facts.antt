@@ -7,7 +7,7 @@ use Rattle.kilim_classes.specs.declared.names.ClassId.{ClassId}
 use Rattle.kilim_classes.specs.declared.names.FieldId.{FieldId}
 use Rattle.kilim_classes.specs.declared.names.MethodId.{MethodId}
 use Rattle.kilim_classes.specs.declared.ty.Ty.{Ty}
-use Rattle.kilim_program.specs.declared.value.Object.{Object as HeapObject}
+use Rattle.kilim_classes.specs.declared.machine.value.Object.{Object as HeapObject}
 use Rattle.kilim_classes.specs.declared.value.Value.{Value}
 use Rattle.kilim_classes.specs.declared.value.Value.TheVariants.{Ref}
 use Rattle.kilim_classes.specs.declared.verified.VType.{VType}
@@ -19,18 +19,18 @@ use Rattle.kilim_classes.specs.declared.ty.Kind.TheVariants as kind
 use Rattle.kilim_classes.specs.declared.ty.Qualifier.TheVariants as qualifier
 use Rattle.kilim_classes.specs.declared.value.Value.TheVariants as value
 use Rattle.kilim_classes.specs.declared.verified.VType.TheVariants.{Int, Null, Object}
-use Rattle.kilim_program.specs.Effect.{is_wide, named_type}
-use Rattle.kilim_program.specs.Natives.{is_handed_out, is_text_method}
-use Rattle.kilim_program.specs.Machine.{Objects}
+use Rattle.kilim_classes.specs.machine.Effect.{is_wide, named_type}
+use Rattle.kilim_classes.specs.machine.Natives.{is_handed_out, is_text_method}
+use Rattle.kilim_classes.specs.machine.Machine.{Objects}
 use Rattle.kilim_classes.specs.Names.{class_at, class_name, class_named, field_of, method_at}
 use Rattle.kilim_classes.specs.Keeps.{constant_fits}
 use Rattle.kilim_classes.specs.declared.class.Field.{Field}
 use Rattle.kilim_classes.specs.declared.instr.Instr.TheVariants.{Anewarray, Newarray}
 use Rattle.std.specs.Str.{bytes_eq}
 use Rattle.kilim_classes.specs.Lengths.{fetched, is_primitive, is_reference}
-use Rattle.kilim_program.specs.Does.{does, chosen, special}
-use Rattle.kilim_program.specs.Shapes.{field_in}
-use Rattle.kilim_program.specs.Objects.{new_object}
+use Rattle.kilim_classes.specs.machine.Does.{does, chosen, special}
+use Rattle.kilim_classes.specs.machine.Shapes.{field_in}
+use Rattle.kilim_classes.specs.machine.Objects.{new_object}
 use Rattle.kilim_typing.specs.Step.{Types, is_long, may_name, peek, special_fits, superclass_at, type_step, vtype}
 use Rattle.kilim_typing.specs.Typed.{edges}
 use Rattle.kilim_isolation_laws.specs.forest.Heap.{Below, IsForest}

@@ -12,18 +12,18 @@ use Rattle.kilim_classes.specs.declared.names.FieldId.{FieldId}
 use Rattle.kilim_classes.specs.declared.ty.Base.{Base}
 use Rattle.kilim_classes.specs.declared.ty.Kind.{Kind}
 use Rattle.kilim_classes.specs.declared.ty.Ty.{Ty}
-use Rattle.kilim_program.specs.declared.value.Object.{Object}
+use Rattle.kilim_classes.specs.declared.machine.value.Object.{Object}
 use Rattle.kilim_classes.specs.declared.value.Value.{Value}
 use Rattle.kilim_classes.specs.declared.value.Value.TheVariants.{Int, Long, Null, Ref, Text, Box, Fiber}
 use Rattle.kilim_classes.specs.declared.verified.VType.{VType}
 use Rattle.kilim_classes.specs.Program.{Program}
 use Rattle.kilim_classes.specs.BuiltIn.{class_type}
-use Rattle.kilim_program.specs.Machine.{Objects}
+use Rattle.kilim_classes.specs.machine.Machine.{Objects}
 use Rattle.kilim_classes.specs.Names.{field_of}
 use Rattle.kilim_classes.specs.Kinds.{base_kind, kind_of}
-use Rattle.kilim_program.specs.Effect.{is_wide}
-use Rattle.kilim_program.specs.Shapes.{field_in}
-use Rattle.kilim_program.specs.Does.{element_type}
+use Rattle.kilim_classes.specs.machine.Effect.{is_wide}
+use Rattle.kilim_classes.specs.machine.Shapes.{field_in}
+use Rattle.kilim_classes.specs.machine.Does.{element_type}
 use Rattle.kilim_typing.specs.Step.{Types, peek, assignable, made_at}
 use Rattle.kilim_isolation_laws.specs.forest.Heap.{Heap, IsForest}
 use Rattle.kilim_isolation_laws.specs.forest.Relation.{is_gone, Label, Named, Frames}

@@ -10,9 +10,9 @@ use Rattle.kilim_classes.specs.declared.ty.Ty.{Ty}
 use Rattle.kilim_classes.specs.declared.value.Value.{Value}
 use Rattle.kilim_classes.specs.declared.value.Value.TheVariants.{Ref, Box}
 use Rattle.kilim_classes.specs.Program.{Program}
-use Rattle.kilim_program.specs.Machine.{Objects}
+use Rattle.kilim_classes.specs.machine.Machine.{Objects}
 use Rattle.kilim_classes.specs.Names.{method_at}
-use Rattle.kilim_program.specs.Effect.{Effect, Goes, Makes, Opens, Calls, Asks, Returns, Raises, Ends, Stuck}
+use Rattle.kilim_classes.specs.machine.Effect.{Effect, Goes, Makes, Opens, Calls, Asks, Returns, Raises, Ends, Stuck}
 use Rattle.kilim_typing.specs.Step.{Types, result_types}
 use Rattle.kilim_typing.specs.Typed.{entry, Among}
 use Rattle.kilim_isolation_laws.specs.forest.Relation.{Frames, Named, Names, Node, Root, is_gone}
@@ -40,7 +40,7 @@ pub record CallHolds (p : Program) (m : Method) (f : Types) (g : Graph) (h : Obj
   pub types : f ≡ record caller.types { stack = result_types callee.result ++ caller.types.stack }
   pub graph : g ≡ given_result p callee.result caller.graph
   pub at : ℕ → Option ℕ
-  pub entered : Holds p callee (entry callee) (entry_nodes p callee) at h (Rattle.kilim_program.specs.Moves.entered p id args).locals [] (caller ∷ below)
+  pub entered : Holds p callee (entry callee) (entry_nodes p callee) at h (Rattle.kilim_classes.specs.machine.Moves.entered p id args).locals [] (caller ∷ below)
 
 -- a value that is returned: a tree is the root of a whole one, or null
 abbrev pub ReturnHolds : Program → Method → Graph → (ℕ → Option ℕ) → Objects → Option Ty → Option Value → Type 0

@@ -6,15 +6,15 @@ use Rattle.kilim_classes.specs.declared.names.MethodId.{MethodId}
 use Rattle.kilim_classes.specs.Keeps.{Keeps}
 use Rattle.kilim_classes.specs.Names.{method_at}
 use Rattle.kilim_classes.specs.Program.{Program}
-use Rattle.kilim_program.specs.declared.value.Object.{Object}
-use Rattle.kilim_program.specs.Machine.{Activation, Objects}
+use Rattle.kilim_classes.specs.declared.machine.value.Object.{Object}
+use Rattle.kilim_classes.specs.machine.Machine.{Activation, Objects}
 use Rattle.kilim_thread_model.specs.Reach.{Below, FramesName, Liveness, MaybeNames}
 use Rattle.kilim_typing.specs.Typed.{IsWellTyped, Live, listed_frames}
-use Rattle.kilim_typing_laws.specs.Laws.{typing_at}
+use Rattle.kilim_typing.specs.typing_laws.Laws.{typing_at}
 use Rattle.kilim_typing.specs.TypedProgram.{TypedProgram}
 use Rattle.kilim_pausable_graph.specs.Pausing.{frames_at}
 use Rattle.kilim_isolation_check.specs.Faults.{IsAccepted}
-use Rattle.kilim_typing_laws.specs.fits.Fits.{AreThere, Classes, Fits, Verified, Wanted}
+use Rattle.kilim_typing.specs.typing_laws.fits.Fits.{AreThere, Classes, Fits, Verified, Wanted}
 use Rattle.kilim_isolation_laws.specs.reached_objects.graphs.Threads.{FramesFit}
 
 -- the program with the frames that verification lists

@@ -7,14 +7,14 @@ use Rattle.kilim_classes.specs.declared.ty.Ty.{Ty}
 use Rattle.kilim_classes.specs.Keeps.{Keeps}
 use Rattle.kilim_classes.specs.Names.{class_at}
 use Rattle.kilim_classes.specs.Program.{Program}
-use Rattle.kilim_program.specs.declared.value.Object.{Object}
-use Rattle.kilim_program.specs.declared.value.Token.{Token}
-use Rattle.kilim_program.specs.Machine.{Objects}
-use Rattle.kilim_program.specs.Shapes.{shape_of}
-use Rattle.kilim_program.specs.Trees.{Root, is_allowed, is_root}
+use Rattle.kilim_classes.specs.declared.machine.value.Object.{Object}
+use Rattle.kilim_classes.specs.declared.machine.value.Token.{Token}
+use Rattle.kilim_classes.specs.machine.Machine.{Objects}
+use Rattle.kilim_classes.specs.machine.Shapes.{shape_of}
+use Rattle.kilim_classes.specs.machine.Trees.{Root, is_allowed, is_root}
 use Rattle.kilim_thread_model.specs.Kept.{IsFormed}
-use Rattle.kilim_typing_laws.specs.fits.Fits.{Classes, HeapFits}
-use Rattle.kilim_kin.specs.trees.Laws.{IsPlain}
+use Rattle.kilim_typing.specs.typing_laws.fits.Fits.{Classes, HeapFits}
+use Rattle.kilim_thread_model.specs.kin.trees.Laws.{IsPlain}
 
 -- No class's name is empty, or begins as an array's descriptor does.
 abbrev pub AreNamedPlainly : Program → Type 0

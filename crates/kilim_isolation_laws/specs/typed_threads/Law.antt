@@ -1,6 +1,6 @@
 -- Threads of verified code go on fitting the frames of verification.
 use Rattle.std.specs.Prelude.{◌≡◌, ℕ, true, Some}
-use Rattle.kilim_typing_laws.specs.fits.Fits.{Classes, Typing, Wanted}
+use Rattle.kilim_typing.specs.typing_laws.fits.Fits.{Classes, Typing, Wanted}
 use Rattle.kilim_journal.specs.declared.entry.Act.{Act}
 use Rattle.kilim_thread_model.specs.State.{Setting, is_fit}
 use Rattle.kilim_thread_model.specs.Lone.{Lone, Goes, next_move}

@@ -1,6 +1,6 @@
 -- Words for threads that go on fitting.
-use Rattle.kilim_typing_laws.specs.fits.Fits.{Classes, Typing, Wanted}
-use Rattle.kilim_typing_laws.specs.fits.Law.{Extends}
+use Rattle.kilim_typing.specs.typing_laws.fits.Fits.{Classes, Typing, Wanted}
+use Rattle.kilim_typing.specs.typing_laws.fits.Law.{Extends}
 use Rattle.kilim_thread_model.specs.State.{Setting}
 use Rattle.kilim_thread_model.specs.Lone.{Lone}
 use Rattle.kilim_thread_model.specs.Course.{Course, IsLone, Quiet}

@@ -6,8 +6,8 @@ use Rattle.kilim_classes.specs.declared.names.FieldId.{FieldId}
 use Rattle.kilim_classes.specs.declared.ty.Ty.{Ty}
 use Rattle.kilim_classes.specs.declared.value.Value.{Value}
 use Rattle.kilim_classes.specs.Program.{Program}
-use Rattle.kilim_program.specs.Members.{is_instance_field}
-use Rattle.kilim_program.specs.Objects.{first_field, first_value}
+use Rattle.kilim_classes.specs.machine.Members.{is_instance_field}
+use Rattle.kilim_classes.specs.machine.Objects.{first_field, first_value}
 use Rattle.kilim_classes.specs.declared.class.Field.{Field}
 use Rattle.kilim_classes.specs.declared.value.Value.TheVariants.{Null}
 use Rattle.kilim_classes.specs.Names.{field_of}

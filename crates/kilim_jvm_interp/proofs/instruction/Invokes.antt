@@ -10,12 +10,12 @@ use Rattle.kilim_classes.specs.declared.value.Value.{Value}
 use Rattle.kilim_classes.specs.declared.value.Value.TheVariants.{Int, Long, Null, Ref, Text, Box, Fiber}
 use Rattle.kilim_classes.specs.Program.{Program}
 use Rattle.kilim_classes.specs.Names.{method_at}
-use Rattle.kilim_program.specs.declared.cause.EndCause.TheVariants as cause
-use Rattle.kilim_program.specs.declared.value.Object.{Object}
-use Rattle.kilim_program.specs.Machine.{Objects}
-use Rattle.kilim_program.specs.Natives.{is_built_in_constructor, is_handed_out, is_text_method}
-use Rattle.kilim_program.specs.Effect.{Effect, Goes, Calls, Asks, Raises, Stuck, on_values, as_receiver, as_class, with_some}
-use Rattle.kilim_program.specs.Does.{does, is_null, special, calls_method, calls_on, calls_text, text_answers}
+use Rattle.kilim_classes.specs.declared.machine.cause.EndCause.TheVariants as cause
+use Rattle.kilim_classes.specs.declared.machine.value.Object.{Object}
+use Rattle.kilim_classes.specs.machine.Machine.{Objects}
+use Rattle.kilim_classes.specs.machine.Natives.{is_built_in_constructor, is_handed_out, is_text_method}
+use Rattle.kilim_classes.specs.machine.Effect.{Effect, Goes, Calls, Asks, Raises, Stuck, on_values, as_receiver, as_class, with_some}
+use Rattle.kilim_classes.specs.machine.Does.{does, is_null, special, calls_method, calls_on, calls_text, text_answers}
 use Rattle.kilim_jvm_interp.specs.declared.instruction.calls.Target.TheVariants.{NoReceiver, WithCode, BuiltIn, Nowhere}
 use Rattle.kilim_jvm_interp.specs.instruction.Calls.{on_call, Reaches}
 use Rattle.kilim_rows.specs.Types.{is_found}

@@ -8,12 +8,12 @@ use Rattle.kilim_classes.specs.declared.ty.Ty.{Ty}
 use Rattle.kilim_classes.specs.declared.value.Value.{Value}
 use Rattle.kilim_classes.specs.declared.value.Value.TheVariants.{Int, Ref}
 use Rattle.kilim_classes.specs.Program.{Program}
-use Rattle.kilim_program.specs.declared.cause.EndCause.TheVariants as cause
-use Rattle.kilim_program.specs.declared.value.Object.{Object}
-use Rattle.kilim_program.specs.Machine.{Objects}
-use Rattle.kilim_program.specs.Objects.{new_array, new_object}
-use Rattle.kilim_program.specs.Effect.{Effect, Ends, Makes, on_int}
-use Rattle.kilim_program.specs.Does.{does, array_limit, is_mailbox, makes_array}
+use Rattle.kilim_classes.specs.declared.machine.cause.EndCause.TheVariants as cause
+use Rattle.kilim_classes.specs.declared.machine.value.Object.{Object}
+use Rattle.kilim_classes.specs.machine.Machine.{Objects}
+use Rattle.kilim_classes.specs.machine.Objects.{new_array, new_object}
+use Rattle.kilim_classes.specs.machine.Effect.{Effect, Ends, Makes, on_int}
+use Rattle.kilim_classes.specs.machine.Does.{does, array_limit, is_mailbox, makes_array}
 use Rattle.kilim_machine_parts.specs.declared.frames.frame.Frame.{Frame}
 use Rattle.kilim_rows.specs.Outcome.{IsAdded, IsMade, height}
 

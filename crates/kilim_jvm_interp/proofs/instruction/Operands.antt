@@ -6,8 +6,8 @@ use Rattle.kilim_classes.specs.declared.instr.Instr.TheVariants.{Invokevirtual}
 use Rattle.kilim_classes.specs.declared.names.MethodId.{MethodId}
 use Rattle.kilim_classes.specs.declared.value.Value.{Value}
 use Rattle.kilim_classes.specs.Program.{Program}
-use Rattle.kilim_program.specs.Machine.{Objects}
-use Rattle.kilim_program.specs.Effect.{Effect, Stuck, on_value, on_values}
+use Rattle.kilim_classes.specs.machine.Machine.{Objects}
+use Rattle.kilim_classes.specs.machine.Effect.{Effect, Stuck, on_value, on_values}
 use Rattle.kilim_jvm_interp.specs.instruction.Calls.{on_call}
 use Rattle.kilim_rows.specs.Outcome.{is_stuck}
 

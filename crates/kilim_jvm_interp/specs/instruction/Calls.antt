@@ -4,10 +4,10 @@ use Rattle.kilim_classes.specs.declared.class.Method.{Method}
 use Rattle.kilim_classes.specs.declared.names.MethodId.{MethodId}
 use Rattle.kilim_classes.specs.declared.value.Value.{Value}
 use Rattle.kilim_classes.specs.Program.{Program}
-use Rattle.kilim_program.specs.declared.cause.EndCause.TheVariants as cause
-use Rattle.kilim_program.specs.Machine.{Objects}
-use Rattle.kilim_program.specs.Effect.{Effect, Calls, Asks, Raises, Stuck, on_value, on_values, as_class}
-use Rattle.kilim_program.specs.Does.{calls_on}
+use Rattle.kilim_classes.specs.declared.machine.cause.EndCause.TheVariants as cause
+use Rattle.kilim_classes.specs.machine.Machine.{Objects}
+use Rattle.kilim_classes.specs.machine.Effect.{Effect, Calls, Asks, Raises, Stuck, on_value, on_values, as_class}
+use Rattle.kilim_classes.specs.machine.Does.{calls_on}
 use Rattle.kilim_jvm_interp.specs.declared.instruction.calls.Target.{Target}
 use Rattle.kilim_jvm_interp.specs.declared.instruction.calls.Target.TheVariants.{NoReceiver, WithCode, BuiltIn, Nowhere, NoMemory}
 

@@ -6,8 +6,8 @@ use Rattle.kilim_classes.specs.declared.ty.Ty.{Ty}
 use Rattle.kilim_classes.specs.declared.value.Value.{Value}
 use Rattle.kilim_classes.specs.Program.{Program}
 use Rattle.kilim_classes.specs.Names.{field_of}
-use Rattle.kilim_program.specs.Members.{is_instance_field}
-use Rattle.kilim_program.specs.Objects.{first_field}
+use Rattle.kilim_classes.specs.machine.Members.{is_instance_field}
+use Rattle.kilim_classes.specs.machine.Objects.{first_field}
 
 -- the type of an instance field; of a static one none
 abbrev pub type_in : Option Field → Option Ty

@@ -3,19 +3,19 @@
 ghost use Rattle.std.specs.Prelude.{◌≡◌, ◌≤◌, ◌<◌, ◌∷◌, [], false, true, codes, length, reverse, take, drop, option_copied, Some};
 ghost use Rattle.kilim_classes.specs.declared.instr.Instr.TheVariants.{Invokevirtual, Invokespecial, Invokestatic};
 ghost use Rattle.kilim_classes.specs.Names.{method_at};
-ghost use Rattle.kilim_program.specs.Natives.{is_built_in_constructor, is_built_in_of, is_text_method, is_take, is_handed_out};
-ghost use Rattle.kilim_program.specs.Effect.{Calls, Asks, on_value, on_values, as_receiver, as_class, text_of};
-ghost use Rattle.kilim_program.specs.Does.{does, chosen, special, calls_method, calls_on, calls_text, takes_element, is_text};
+ghost use Rattle.kilim_classes.specs.machine.Natives.{is_built_in_constructor, is_built_in_of, is_text_method, is_take, is_handed_out};
+ghost use Rattle.kilim_classes.specs.machine.Effect.{Calls, Asks, on_value, on_values, as_receiver, as_class, text_of};
+ghost use Rattle.kilim_classes.specs.machine.Does.{does, chosen, special, calls_method, calls_on, calls_text, takes_element, is_text};
 ghost use Rattle.kilim_jvm_interp.specs.instruction.Calls.{on_call, Reaches, unit_in};
 ghost use Rattle.std.specs.Str.{bytes_eq};
 ghost use Rattle.kilim_rows.specs.Types.{is_found};
 ghost use Rattle.kilim_rows.specs.Outcome.{is_stuck, height, Shows, SameFrame};
 
 use kilim_classes::{Base, Method, MethodId, Program, Ty, Value};
-use kilim_lookups::{class_at, method_at, selected};
+use kilim_classes::lookups::{class_at, method_at, selected};
 use kilim_machine_parts::Heap;
 use kilim_machine_parts::frames::Frame;
-use kilim_program::EndCause;
+use kilim_classes::machine::EndCause;
 use kilim_rows::{Moved, index_in, is_none, type_of};
 use kilim_units::Units;
 
@@ -280,7 +280,7 @@ fn take_element(own: &Method, next: u32, frame: &mut Frame, heap: &mut Heap) -> 
 // ---- the instructions
 
 /// `invokestatic`.
-#[tactic(auto, unfolding(kilim_program::specs::Does::does))]
+#[tactic(auto, unfolding(kilim_classes::specs::machine::Does::does))]
 #[inline(always)]
 pub fn call_static(
     method: MethodId,
@@ -309,7 +309,7 @@ pub fn call_static(
 }
 
 /// `invokespecial`.
-#[tactic(auto, unfolding(kilim_program::specs::Does::does))]
+#[tactic(auto, unfolding(kilim_classes::specs::machine::Does::does))]
 #[inline(always)]
 pub fn call_special(
     method: MethodId,
@@ -337,7 +337,7 @@ pub fn call_special(
 }
 
 /// `invokevirtual`.
-#[tactic(auto, unfolding(kilim_program::specs::Does::does))]
+#[tactic(auto, unfolding(kilim_classes::specs::machine::Does::does))]
 #[inline(always)]
 pub fn call_virtual(
     method: MethodId,

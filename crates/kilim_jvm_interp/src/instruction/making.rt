@@ -4,18 +4,18 @@ ghost use Rattle.std.specs.Prelude.{◌≡◌, ◌≤◌, ◌<◌, ◌++◌, ◌
 ghost use Rattle.std.specs.List.{flat_map};
 ghost use Rattle.kilim_classes.specs.Names.{field_of, fields_of};
 ghost use Rattle.kilim_classes.specs.declared.instr.Instr.TheVariants.{New, Newarray, Anewarray};
-ghost use Rattle.kilim_program.specs.Members.{object_fields};
+ghost use Rattle.kilim_classes.specs.machine.Members.{object_fields};
 ghost use Rattle.kilim_jvm_interp.specs.instruction.Making.{instance_type, first_fields};
-ghost use Rattle.kilim_program.specs.Objects.{first_value, first_value_of, new_array, new_object};
-ghost use Rattle.kilim_program.specs.Does.{does, array_limit, is_mailbox, makes_array};
-ghost use Rattle.kilim_program.specs.Effect.{on_int};
+ghost use Rattle.kilim_classes.specs.machine.Objects.{first_value, first_value_of, new_array, new_object};
+ghost use Rattle.kilim_classes.specs.machine.Does.{does, array_limit, is_mailbox, makes_array};
+ghost use Rattle.kilim_classes.specs.machine.Effect.{on_int};
 ghost use Rattle.kilim_rows.specs.Outcome.{is_stuck, height, Shows, SameFrame, IsAdded};
 
 use kilim_classes::{Base, ClassId, Field, FieldId, Method, Program, Ty, Value};
-use kilim_lookups::{class_at, line_of};
+use kilim_classes::lookups::{class_at, line_of};
 use kilim_machine_parts::Heap;
 use kilim_machine_parts::frames::Frame;
-use kilim_program::{EndCause, Object};
+use kilim_classes::machine::{EndCause, Object};
 use kilim_rows::Moved;
 use kilim_units::{NoMemory, Seq};
 use std::alloc::Global;
@@ -177,7 +177,7 @@ fn add_object(object: Object, frame: &mut Frame, heap: &mut Heap) -> Option<u32>
 }
 
 // Whether an array would have too many elements.
-#[tactic(auto, unfolding(kilim_program::specs::Does::array_limit))]
+#[tactic(auto, unfolding(kilim_classes::specs::machine::Does::array_limit))]
 fn is_too_long(length: usize) -> bool
     ensures { result ≡ nat_lt array_limit length }
 {
@@ -192,7 +192,7 @@ fn length_of(size: &i32) -> usize
 }
 
 /// `new`.
-#[tactic(auto, unfolding(kilim_program::specs::Does::does))]
+#[tactic(auto, unfolding(kilim_classes::specs::machine::Does::does))]
 #[inline(always)]
 pub fn make_object(
     alloc: Global,
@@ -254,7 +254,7 @@ pub fn make_array(
 }
 
 /// `newarray`.
-#[tactic(auto, unfolding(kilim_program::specs::Does::does))]
+#[tactic(auto, unfolding(kilim_classes::specs::machine::Does::does))]
 #[inline(always)]
 pub fn make_primitive_array(
     alloc: Global,
@@ -275,7 +275,7 @@ pub fn make_primitive_array(
 }
 
 /// `anewarray`. An array of 255 dimensions is refused by verification, so that there is want of memory for more.
-#[tactic(auto, unfolding(kilim_program::specs::Does::does))]
+#[tactic(auto, unfolding(kilim_classes::specs::machine::Does::does))]
 #[inline(always)]
 pub fn make_reference_array(
     alloc: Global,

@@ -1,7 +1,7 @@
 //! The table of instructions, in code.
 
 ghost use Rattle.std.specs.Prelude.{◌≡◌, ◌≤◌, false};
-ghost use Rattle.kilim_program.specs.Does.{does};
+ghost use Rattle.kilim_classes.specs.machine.Does.{does};
 ghost use Rattle.kilim_rows.specs.Outcome.{is_stuck, height, Shows, SameFrame};
 
 use crate::instruction::calls::{call_special, call_static, call_virtual};
@@ -22,7 +22,7 @@ use kilim_rows::{
 use std::alloc::Global;
 
 /// One instruction of a frame: a line for each.
-#[tactic(auto, unfolding(kilim_program::specs::Does::does))]
+#[tactic(auto, unfolding(kilim_classes::specs::machine::Does::does))]
 #[inline(always)]
 pub fn act(
     alloc: Global,

@@ -2,7 +2,7 @@
 use Rattle.std.proofs.Common.{◌≡◌, refl, ap, true, false, List, [], ◌∷◌, ◌++◌}
 use Rattle.kilim_classes.specs.declared.value.Value.{Value}
 use Rattle.kilim_classes.specs.declared.value.Value.TheVariants.{Int, Long, Null, Ref, Text, Box, Fiber}
-use Rattle.kilim_program.specs.Moves.{slots_of}
+use Rattle.kilim_classes.specs.machine.Moves.{slots_of}
 use Rattle.kilim_machine_parts.specs.frames.Stacked.{is_long}
 
 pub slots_append : (xs ys : List Value) → slots_of (xs ++ ys) ≡ slots_of xs ++ slots_of ys

@@ -1,6 +1,6 @@
 -- Frames as contracts see them: as the machine's.
 use Rattle.std.specs.Prelude.{List, ◌∷◌, map, drop}
-use Rattle.kilim_program.specs.Machine.{Activation}
+use Rattle.kilim_classes.specs.machine.Machine.{Activation}
 use Rattle.kilim_machine_parts.specs.declared.frames.frame.Frame.{Frame}
 use Rattle.kilim_machine_parts.specs.declared.frames.frames.Frames.{Frames}
 

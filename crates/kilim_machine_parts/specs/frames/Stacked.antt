@@ -1,6 +1,6 @@
 -- A stack of values as contracts see it (JVMS 2.6.2).
 use Rattle.std.specs.Prelude.{ℕ, ◌-◌, Bool, true, false, List, [], ◌∷◌, ◌++◌, Option, Some, None, length, replicate}
-use Rattle.kilim_program.specs.Moves.{slots_of}
+use Rattle.kilim_classes.specs.machine.Moves.{slots_of}
 use Rattle.kilim_classes.specs.declared.value.Value.{Value}
 use Rattle.kilim_classes.specs.declared.value.Value.TheVariants.{Int, Long, Null, Ref}
 

@@ -2,7 +2,7 @@
 
 ghost use Rattle.std.specs.Prelude.{◌≡◌, ◌<◌, ◌++◌, ◌∷◌, [], length, replicate, slice_get, slice_set, Some, IfOk, OnOk};
 ghost use Rattle.kilim_classes.specs.declared.value.Value.TheVariants.{Null};
-ghost use Rattle.kilim_program.specs.Moves.{slots_of};
+ghost use Rattle.kilim_classes.specs.machine.Moves.{slots_of};
 ghost use Rattle.kilim_machine_parts.specs.frames.Stacked.{is_long, begun_with};
 
 use crate::frames::stack::Stack;

@@ -7,9 +7,9 @@ use Rattle.kilim_classes.specs.Names.{class_named}
 use Rattle.kilim_classes.specs.Program.{Program}
 use Rattle.kilim_classfile.specs.Text.{class_text}
 use Rattle.kilim_journal.specs.declared.entry.Entry.{Entry}
-use Rattle.kilim_main_class.specs.Main.{fit_class_named, if_fit}
-use Rattle.kilim_program.specs.declared.run.Limits.{Limits}
-use Rattle.kilim_program.specs.Members.{is_fit_main}
+use Rattle.kilim_classes.specs.main_class.Main.{fit_class_named, if_fit}
+use Rattle.kilim_classes.specs.declared.machine.run.Limits.{Limits}
+use Rattle.kilim_classes.specs.machine.Members.{is_fit_main}
 use Rattle.kilim_program_maker.specs.Demo.{demo_of}
 use Rattle.kilim_program_maker.specs.Laws.{DemoIsShort}
 use Rattle.kilim_stages.specs.declared.refusal.Refusal.{Refusal}

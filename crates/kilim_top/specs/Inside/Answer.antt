@@ -6,14 +6,14 @@ use Rattle.kilim_classes.specs.Program.{Program}
 use Rattle.kilim_top.specs.demo.Demo.{IsDemoLine, IsDemoReport}
 use Rattle.kilim_journal.specs.Text.{journal_text}
 use Rattle.kilim_journal.specs.declared.entry.Entry.{Entry}
-use Rattle.kilim_program.specs.declared.run.Limits.{Limits}
-use Rattle.kilim_program.specs.Members.{is_fit_main}
+use Rattle.kilim_classes.specs.declared.machine.run.Limits.{Limits}
+use Rattle.kilim_classes.specs.machine.Members.{is_fit_main}
 use Rattle.kilim_stages.specs.declared.refusal.Refusal.{Refusal}
 use Rattle.kilim_stages.specs.declared.refusal.Refusal.TheVariants as refusal
 use Rattle.kilim_thread_model.specs.State.{Setting}
 use Rattle.kilim_weaver.specs.declared.weaving.Woven.{Woven}
 use Rattle.kilim_whole_runs.specs.Runs.{IsJournalOf, setting_of}
-use Rattle.kilim_words.specs.Words.{Request}
+use Rattle.kilim_outside.specs.words.Words.{Request}
 use Rattle.kilim_weaving_laws.specs.Served.{CanServe}
 use Rattle.kilim_stages.specs.declared.woven_stage.stage.WovenProgram.{WovenProgram}
 use Rattle.kilim_written_files.specs.OutputFile.{OutputFile}

@@ -1,7 +1,7 @@
 -- What was written for the bytes of files with these names.
 use Rattle.std.specs.Prelude.{◌≡◌, ◌≤◌, ℕ, List, Some, ◌⊎◌}
 use Rattle.kilim_outside.specs.Causes.{Appended}
-use Rattle.kilim_words.specs.Words.{Request}
+use Rattle.kilim_outside.specs.words.Words.{Request}
 use Rattle.kilim_written_files.specs.OutputFile.{OutputFile}
 use Rattle.kilim_written_files.specs.Written.{WroteFiles}
 use Rattle.kilim_top.specs.Outcome.{AsksForFiles, HowFar, IsDone, IsFault, IsFitFor, IsReport, IsToWrite, Outside}

@@ -5,8 +5,8 @@ use Rattle.std.specs.Int.{int_wrapping_add, w64}
 use Rattle.kilim_journal.specs.declared.entry.Act.{Act}
 use Rattle.kilim_journal.specs.declared.entry.Act.TheVariants.{Put, Take, Start, Print}
 use Rattle.kilim_journal.specs.declared.entry.Entry.{Entry}
-use Rattle.kilim_program.specs.declared.value.Token.{Token}
-use Rattle.kilim_program.specs.declared.value.Token.TheVariants.{Int}
+use Rattle.kilim_classes.specs.declared.machine.value.Token.{Token}
+use Rattle.kilim_classes.specs.declared.machine.value.Token.TheVariants.{Int}
 
 abbrev pub is_start : Act → Bool
 is_start (Start task shape) = true

@@ -1,7 +1,7 @@
 //! Runs of the demo.
 
 ghost use Rattle.std.specs.Prelude.{◌≡◌, ◌≤◌, length, Some, IfOk};
-ghost use Rattle.kilim_main_class.specs.Main.{fit_class_named};
+ghost use Rattle.kilim_classes.specs.main_class.Main.{fit_class_named};
 ghost use Rattle.kilim_stages.specs.Parts.{IfReport};
 ghost use Rattle.kilim_stages.specs.woven_stage.Stage.{IsWovenOf};
 ghost use Rattle.kilim_top.specs.demo.Demo.{demo_limits, demo_texts, main_name, IsDemoLine, IsDemoReport};
@@ -11,9 +11,9 @@ use crate::demo::line::demo_line;
 use crate::demo::texts::{demo_texts, no_names};
 use kilim_classes::{ClassId, Program};
 use kilim_classfile::class_file_is_spelled;
-use kilim_main_class::fit_main;
+use kilim_classes::main_class::fit_main;
 use kilim_outside::Gate;
-use kilim_program::Limits;
+use kilim_classes::machine::Limits;
 use kilim_program_maker::demo_fits;
 use kilim_stages::Refusal;
 use kilim_stages::woven_stage::{WovenProgram, woven_program};

@@ -15,7 +15,7 @@ use crate::woven_files::places::{class_at, file_at};
 use crate::woven_files::text::text_of;
 use kilim_classes::{Class, MethodId, Program};
 use kilim_classfile::{ClassFile, write};
-use kilim_lookups::method_at;
+use kilim_classes::lookups::method_at;
 use kilim_stages::Refusal;
 use kilim_units::{NoMemory, Seq};
 use kilim_weaver::Woven;

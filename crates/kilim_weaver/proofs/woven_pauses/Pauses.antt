@@ -21,18 +21,18 @@ use Rattle.kilim_lemmas.proofs.Lists.{front_none, get_some, rest_none}
 use Rattle.kilim_pausable_graph.specs.Pausing.{all_methods, arguments_of, below, called, frames_at, has_free_receiver, method_reports, pauses, pauses_in_plain, pausing_reports, report_if, reports_along, reports_at, reports_of, uninitialized_below}
 use Rattle.kilim_typing.specs.Step.{Types, is_unset, peek}
 use Rattle.kilim_typing.specs.Typed.{entry, frames_of, has_code, listed, typing_of}
-use Rattle.kilim_typing_laws.specs.Laws.{Shows}
-use Rattle.kilim_typing_laws.proofs.Listed.{listed_frames_show}
+use Rattle.kilim_typing.specs.typing_laws.Laws.{Shows}
+use Rattle.kilim_typing.proofs.typing_laws.Listed.{listed_frames_show}
 use Rattle.kilim_typing.specs.TypedProgram.{KeepsTyped, TypedProgram}
-use Rattle.kilim_woven_form.specs.Woven.{if_there, pausable_callee, taken}
-use Rattle.kilim_woven_form.specs.woven_types.Facts.{CallsNone}
-use Rattle.kilim_woven_form.proofs.woven_types.Codes.{whole_code}
-use Rattle.kilim_typing_laws.proofs.fits.ClassMethods.{IsAmong, among_left, among_right, owner_has}
-use Rattle.kilim_typing_laws.proofs.fits.FromKeeps.{all_at}
-use Rattle.kilim_woven_form.proofs.woven_programs.classes.Listing.{take_front}
-use Rattle.kilim_woven_form.specs.woven_programs.Law.{NoneAcross}
-use Rattle.kilim_woven_form.proofs.woven_programs.Frames.{Agree, by_place, same_listed}
-use Rattle.kilim_woven_form.proofs.woven_programs.Naming.{owner_there}
+use Rattle.kilim_typing.specs.woven_form.Woven.{if_there, pausable_callee, taken}
+use Rattle.kilim_typing.specs.woven_form.woven_types.Facts.{CallsNone}
+use Rattle.kilim_typing.proofs.woven_form.woven_types.Codes.{whole_code}
+use Rattle.kilim_typing.proofs.typing_laws.fits.ClassMethods.{IsAmong, among_left, among_right, owner_has}
+use Rattle.kilim_typing.proofs.typing_laws.fits.FromKeeps.{all_at}
+use Rattle.kilim_typing.proofs.woven_form.woven_programs.classes.Listing.{take_front}
+use Rattle.kilim_typing.specs.woven_form.woven_programs.Law.{NoneAcross}
+use Rattle.kilim_typing.proofs.woven_form.woven_programs.Frames.{Agree, by_place, same_listed}
+use Rattle.kilim_typing.proofs.woven_form.woven_programs.Naming.{owner_there}
 use Rattle.kilim_weaver.specs.woven_pauses.Law.{PausesAreKept}
 
 -- ---- lists

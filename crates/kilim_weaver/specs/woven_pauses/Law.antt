@@ -7,7 +7,7 @@ use Rattle.kilim_classes.specs.Names.{method_at}
 use Rattle.kilim_isolation_check.specs.Faults.{IsAccepted}
 use Rattle.kilim_pausable_graph.specs.Pausing.{has_free_receiver, pausing_reports}
 use Rattle.kilim_typing.specs.TypedProgram.{KeepsTyped, TypedProgram}
-use Rattle.kilim_woven_form.specs.woven_programs.Law.{KeepsPauses}
+use Rattle.kilim_typing.specs.woven_form.woven_programs.Law.{KeepsPauses}
 
 -- A typed program of which none of the rules 8, 10 and 11 is reported, keeps the rules of pausing that the types of its woven form
 -- rest on.

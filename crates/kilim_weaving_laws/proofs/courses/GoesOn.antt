@@ -1,14 +1,14 @@
 -- The thread of a course goes on as the thread of a course.
 use Rattle.std.proofs.Common.{◌≡◌, ℕ, true, List, [], ◌∷◌, ◌++◌, Option, Some, None, refl, sym, ap, subst, ◌∙◌}
 use Rattle.std.proofs.lemmas.Option.{none-some, same_Some}
-use Rattle.kilim_program.specs.declared.cause.EndCause.{EndCause}
-use Rattle.kilim_program.specs.declared.value.Object.{Object}
-use Rattle.kilim_program.specs.declared.value.Token.{Token}
+use Rattle.kilim_classes.specs.declared.machine.cause.EndCause.{EndCause}
+use Rattle.kilim_classes.specs.declared.machine.value.Object.{Object}
+use Rattle.kilim_classes.specs.declared.machine.value.Token.{Token}
 use Rattle.kilim_classes.specs.declared.names.BoxName.{BoxName}
 use Rattle.kilim_journal.specs.declared.entry.Act.{Act}
 use Rattle.kilim_journal.specs.declared.entry.Act.TheVariants.{Put, Take, Empty, Start, End}
-use Rattle.kilim_one_heap.proofs.Booking.{action_is, is_act}
-use Rattle.kilim_program.specs.Trees.{OfMessage, built}
+use Rattle.kilim_thread_model.proofs.one_heap.Booking.{action_is, is_act}
+use Rattle.kilim_classes.specs.machine.Trees.{OfMessage, built}
 use Rattle.kilim_thread_model.specs.Course.{Course, Done, Follows, IsLone, Moves, Quiet, Stays, done_by, next_action, probes_deed, puts_deed, starts_deed, takes_deed, tree_came}
 use Rattle.kilim_thread_model.specs.Lone.{Lone, Next, next_move}
 use Rattle.kilim_thread_model.specs.Lone as next

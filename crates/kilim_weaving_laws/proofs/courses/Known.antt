@@ -22,18 +22,18 @@ use Rattle.kilim_classes.specs.Program.{Program}
 use Rattle.kilim_isolation_laws.proofs.typed_threads.fine.Fine.{fitting_is_fine}
 use Rattle.kilim_isolation_laws.proofs.typed_threads.fine.Shown.{no_fiber_class}
 use Rattle.kilim_isolation_laws.specs.typed_threads.fine.Typed.{IsVerified, TopIsThere, frames_of}
-use Rattle.kilim_typing_laws.proofs.fits.Grounds.{facts_hold}
-use Rattle.kilim_typing_laws.proofs.fits.Narrowed.{narrows}
-use Rattle.kilim_typing_laws.proofs.fits.Table.{table_fits}
-use Rattle.kilim_typing_laws.proofs.fits.Walk.{stands_at}
-use Rattle.kilim_typing_laws.specs.fits.Sound.{CallFits, EffectFits, argument_types}
-use Rattle.kilim_typing_laws.specs.fits.Fits.{AreThere, Classes, ContentFits, HeapFits, IsThere, Typing, Wanted, has_objects, has_type, have_types, is_made, refers}
-use Rattle.kilim_program.specs.declared.value.Object.{Object as HeapObject}
-use Rattle.kilim_program.specs.Does.{does}
-use Rattle.kilim_program.specs.Effect.{Calls, Effect, Stuck, named_type}
-use Rattle.kilim_program.specs.Machine.{Objects}
-use Rattle.kilim_program.specs.Members.{execute_of, is_concrete}
-use Rattle.kilim_program.specs.Natives.{native_of}
+use Rattle.kilim_typing.proofs.typing_laws.fits.Grounds.{facts_hold}
+use Rattle.kilim_typing.proofs.typing_laws.fits.Narrowed.{narrows}
+use Rattle.kilim_typing.proofs.typing_laws.fits.Table.{table_fits}
+use Rattle.kilim_typing.proofs.typing_laws.fits.Walk.{stands_at}
+use Rattle.kilim_typing.specs.typing_laws.fits.Sound.{CallFits, EffectFits, argument_types}
+use Rattle.kilim_typing.specs.typing_laws.fits.Fits.{AreThere, Classes, ContentFits, HeapFits, IsThere, Typing, Wanted, has_objects, has_type, have_types, is_made, refers}
+use Rattle.kilim_classes.specs.declared.machine.value.Object.{Object as HeapObject}
+use Rattle.kilim_classes.specs.machine.Does.{does}
+use Rattle.kilim_classes.specs.machine.Effect.{Calls, Effect, Stuck, named_type}
+use Rattle.kilim_classes.specs.machine.Machine.{Objects}
+use Rattle.kilim_classes.specs.machine.Members.{execute_of, is_concrete}
+use Rattle.kilim_classes.specs.machine.Natives.{native_of}
 use Rattle.kilim_thread_model.specs.Kept.{Kept}
 use Rattle.kilim_thread_model.specs.Reach.{Below, Here, Liveness, Names, OptionNames, SomeNames}
 use Rattle.kilim_thread_model.specs.State.{Alive, Ended, Setting, Thread as ModelThread, is_fit}

@@ -15,11 +15,11 @@ use Rattle.kilim_classes.specs.declared.verified.VType.{VType}
 use Rattle.kilim_classes.specs.declared.verified.VType.TheVariants.{Object}
 use Rattle.kilim_classes.specs.Fits.{fits_type}
 use Rattle.kilim_classes.specs.Program.{Program}
-use Rattle.kilim_typing_laws.proofs.fits.Basics.{assigned, takes_inverse}
-use Rattle.kilim_typing_laws.specs.fits.Facts.{Ordered}
-use Rattle.kilim_typing_laws.specs.fits.Fits.{Classes, HeapFits, has_type, have_types, is_of}
-use Rattle.kilim_program.specs.declared.value.Object.{Object as HeapObject}
-use Rattle.kilim_program.specs.Machine.{Objects}
+use Rattle.kilim_typing.proofs.typing_laws.fits.Basics.{assigned, takes_inverse}
+use Rattle.kilim_typing.specs.typing_laws.fits.Facts.{Ordered}
+use Rattle.kilim_typing.specs.typing_laws.fits.Fits.{Classes, HeapFits, has_type, have_types, is_of}
+use Rattle.kilim_classes.specs.declared.machine.value.Object.{Object as HeapObject}
+use Rattle.kilim_classes.specs.machine.Machine.{Objects}
 use Rattle.kilim_typing.specs.Step.{Is, Operand, Types, all_meet, arguments, by_row, class_vtype, meets, result_types, row, type_step, virtual_row, virtual_rules, vtype}
 use Rattle.kilim_woven_runs.specs.Rows.{Receives, below_arguments, class_if, value_class}
 

@@ -18,21 +18,21 @@ use Rattle.kilim_woven_runs.specs.fiber_kin.Served.{IsFineThread, ResultFits}
 use Rattle.kilim_isolation_laws.proofs.typed_threads.fine.Fine.{fitting_is_fine}
 use Rattle.kilim_isolation_laws.proofs.typed_threads.fine.Heights.{low_stack, some_size}
 use Rattle.kilim_isolation_laws.specs.typed_threads.fine.Typed.{FitsAs, IsVerified}
-use Rattle.kilim_typing_laws.specs.fits.Fits.{AreThere, Classes, IsThere, Typing, Wanted, has_type, have_types}
+use Rattle.kilim_typing.specs.typing_laws.fits.Fits.{AreThere, Classes, IsThere, Typing, Wanted, has_type, have_types}
 use Rattle.kilim_jvm_interp.specs.Step.{FitsStack, limit_in, stack_limit}
-use Rattle.kilim_kin.proofs.Rows.{rows_kin}
-use Rattle.kilim_kin.specs.Kin.{Alike, AreHeld, AreKin, EffectKin, FieldsKin, IsAmong, IsHeld, IsKin, StandsIn}
-use Rattle.kilim_kin.specs.Kin as kin
-use Rattle.kilim_one_heap.proofs.Wholes.{is_whole}
-use Rattle.kilim_one_heap.specs.Lones.{WholeMove}
-use Rattle.kilim_program.specs.Does.{does}
+use Rattle.kilim_thread_model.proofs.kin.Rows.{rows_kin}
+use Rattle.kilim_thread_model.specs.kin.Kin.{Alike, AreHeld, AreKin, EffectKin, FieldsKin, IsAmong, IsHeld, IsKin, StandsIn}
+use Rattle.kilim_thread_model.specs.kin.Kin as kin
+use Rattle.kilim_thread_model.proofs.one_heap.Wholes.{is_whole}
+use Rattle.kilim_thread_model.specs.one_heap.Lones.{WholeMove}
+use Rattle.kilim_classes.specs.machine.Does.{does}
 use Rattle.kilim_rows.specs.Outcome.{is_stuck}
-use Rattle.kilim_program.specs.Effect.{Effect, Goes, Makes, Opens, Calls, Asks, Returns, Raises, Ends, Stuck}
-use Rattle.kilim_program.specs.Machine.{Activation, Objects}
-use Rattle.kilim_program.specs.Moves.{effect_found, effect_in, effect_of, move_by, moves}
-use Rattle.kilim_program.specs.Natives.{Native, native_of}
-use Rattle.kilim_program.specs.Natives as native
-use Rattle.kilim_program.specs.Trees.{OfMessage, OfTask, Root}
+use Rattle.kilim_classes.specs.machine.Effect.{Effect, Goes, Makes, Opens, Calls, Asks, Returns, Raises, Ends, Stuck}
+use Rattle.kilim_classes.specs.machine.Machine.{Activation, Objects}
+use Rattle.kilim_classes.specs.machine.Moves.{effect_found, effect_in, effect_of, move_by, moves}
+use Rattle.kilim_classes.specs.machine.Natives.{Native, native_of}
+use Rattle.kilim_classes.specs.machine.Natives as native
+use Rattle.kilim_classes.specs.machine.Trees.{OfMessage, OfTask, Root}
 use Rattle.kilim_thread_model.specs.Kept.{IsKept, given}
 use Rattle.kilim_thread_model.specs.Reach.{Liveness, Names, OptionNames, SomeNames}
 use Rattle.kilim_thread_model.specs.State.{Alive, Setting}

@@ -16,11 +16,11 @@ use Rattle.kilim_classes.specs.BuiltIn.{class_type}
 use Rattle.kilim_classes.specs.Names.{method_at}
 use Rattle.kilim_classes.specs.Program.{Program}
 use Rattle.kilim_classes.specs.Same.{argument_slots, is_constructor, is_wide_base, type_slots}
-use Rattle.kilim_typing_laws.specs.fits.Fits.{Classes, has_type, have_types, is_long_type}
-use Rattle.kilim_typing_laws.proofs.fits.Steps.{wide_as}
-use Rattle.kilim_typing_laws.specs.fits.Sound.{argument_types}
-use Rattle.kilim_program.specs.Effect.{is_wide}
-use Rattle.kilim_program.specs.Moves.{slots_of}
+use Rattle.kilim_typing.specs.typing_laws.fits.Fits.{Classes, has_type, have_types, is_long_type}
+use Rattle.kilim_typing.proofs.typing_laws.fits.Steps.{wide_as}
+use Rattle.kilim_typing.specs.typing_laws.fits.Sound.{argument_types}
+use Rattle.kilim_classes.specs.machine.Effect.{is_wide}
+use Rattle.kilim_classes.specs.machine.Moves.{slots_of}
 use Rattle.kilim_thread_model.specs.State.{Setting}
 use Rattle.kilim_typing.specs.Step.{base_vtype, class_vtype, dims_vtype, size, vtype, words}
 use Rattle.kilim_woven_runs.specs.Links.{Forms, IsReference, Takes}

@@ -3,8 +3,8 @@ use Rattle.std.proofs.Common.{ℕ, zero, suc, List, [], ◌∷◌, refl}
 use Rattle.kilim_classes.specs.declared.names.MethodId.{MethodId}
 use Rattle.kilim_classes.specs.declared.value.Value.{Value}
 use Rattle.kilim_classes.specs.declared.value.Value.TheVariants.{Box, Fiber, Int, Long, Null, Ref, Text}
-use Rattle.kilim_typing_laws.specs.fits.Fits.{Classes}
-use Rattle.kilim_program.specs.Machine.{Activation, Objects}
+use Rattle.kilim_typing.specs.typing_laws.fits.Fits.{Classes}
+use Rattle.kilim_classes.specs.machine.Machine.{Activation, Objects}
 use Rattle.kilim_isolation_laws.specs.Laws.{IsRunOfAccepted}
 use Rattle.kilim_thread_model.specs.State.{Setting}
 use Rattle.kilim_weaving_laws.proofs.receivers.Begins.{begins_held}

@@ -14,13 +14,13 @@ use Rattle.kilim_classes.specs.declared.value.Value.TheVariants.{Ref}
 use Rattle.kilim_classes.specs.BuiltIn.{class_type}
 use Rattle.kilim_classes.specs.Names.{◌>>=◌, is_task, method_at}
 use Rattle.kilim_isolation_laws.specs.graph_rows.Holds.{object_sort}
-use Rattle.kilim_program.specs.declared.value.Object.{Object}
-use Rattle.kilim_program.specs.declared.value.Token.{Token}
-use Rattle.kilim_program.specs.Machine.{Activation, Objects}
-use Rattle.kilim_program.specs.Members.{constructor_of, execute_of}
-use Rattle.kilim_program.specs.Moves.{entered}
-use Rattle.kilim_program.specs.Objects.{new_object}
-use Rattle.kilim_program.specs.Trees.{OfTask, built, is_root, with_objects}
+use Rattle.kilim_classes.specs.declared.machine.value.Object.{Object}
+use Rattle.kilim_classes.specs.declared.machine.value.Token.{Token}
+use Rattle.kilim_classes.specs.machine.Machine.{Activation, Objects}
+use Rattle.kilim_classes.specs.machine.Members.{constructor_of, execute_of}
+use Rattle.kilim_classes.specs.machine.Moves.{entered}
+use Rattle.kilim_classes.specs.machine.Objects.{new_object}
+use Rattle.kilim_classes.specs.machine.Trees.{OfTask, built, is_root, with_objects}
 use Rattle.kilim_isolation_laws.specs.Laws.{IsRunOfAccepted, listed_at}
 use Rattle.kilim_isolation_laws.proofs.Beginning.{beginnings_stand, kind_of_task, task_sort}
 use Rattle.kilim_isolation_laws.proofs.Moving.{top_coded}
@@ -33,7 +33,7 @@ use Rattle.kilim_thread_model.specs.State.{Alive, Setting, begun_in, begun_on, c
 use Rattle.kilim_isolation_laws.proofs.heaps.Heaps.{get_new}
 use Rattle.kilim_isolation_laws.proofs.typed_threads.Read.{built_is}
 use Rattle.kilim_isolation_laws.proofs.typed_threads.Threads.{beginnings_are_typed}
-use Rattle.kilim_typing_laws.specs.Laws.{typing_at}
+use Rattle.kilim_typing.specs.typing_laws.Laws.{typing_at}
 use Rattle.kilim_woven_runs.specs.lone.Law.{lone_at, lone_frames}
 use Rattle.kilim_weaving_laws.proofs.receivers.Chain.{IsWell, WellAs, wants_all}
 use Rattle.kilim_weaving_laws.proofs.receivers.Guards.{task_guards}

@@ -5,15 +5,15 @@ use Rattle.std.proofs.lemmas.Bool.{and_parts}
 use Rattle.kilim_classes.specs.BuiltIn.{class_type}
 use Rattle.kilim_classes.specs.Names.{is_task}
 use Rattle.kilim_isolation_laws.specs.typed_threads.fine.Typed.{FitsAs}
-use Rattle.kilim_typing_laws.specs.fits.Fits.{Classes, HeapFits, Wanted}
-use Rattle.kilim_typing_laws.specs.fits.Law.{Extends}
+use Rattle.kilim_typing.specs.typing_laws.fits.Fits.{Classes, HeapFits, Wanted}
+use Rattle.kilim_typing.specs.typing_laws.fits.Law.{Extends}
 use Rattle.kilim_isolation_laws.specs.graph_rows.Holds.{IsOf, Tree, Trees, is_tree_object, object_sort}
 use Rattle.kilim_journal.specs.declared.entry.Act.{Act}
 use Rattle.kilim_journal.specs.declared.entry.Act.TheVariants.{End}
-use Rattle.kilim_program.specs.declared.cause.EndCause.{EndCause}
-use Rattle.kilim_program.specs.declared.value.Object.{Object}
-use Rattle.kilim_program.specs.Machine.{Activation, Objects}
-use Rattle.kilim_program.specs.Members.{execute_of, is_concrete}
+use Rattle.kilim_classes.specs.declared.machine.cause.EndCause.{EndCause}
+use Rattle.kilim_classes.specs.declared.machine.value.Object.{Object}
+use Rattle.kilim_classes.specs.machine.Machine.{Activation, Objects}
+use Rattle.kilim_classes.specs.machine.Members.{execute_of, is_concrete}
 use Rattle.kilim_isolation_laws.specs.Laws.{IsRunOfAccepted, StandsWell, listed_at}
 use Rattle.kilim_isolation_laws.specs.Standing.{Standing}
 use Rattle.kilim_isolation_laws.proofs.Beginning.{execute_stands, task_sort}
@@ -27,7 +27,7 @@ use Rattle.kilim_thread_model.specs.Lone.{Lone, Next, next_move}
 use Rattle.kilim_thread_model.specs.Lone as next
 use Rattle.kilim_thread_model.specs.State.{Setting, begun_on}
 use Rattle.kilim_isolation_laws.proofs.typed_threads.Moving.{deeds_stay_typed, moves_stay_typed}
-use Rattle.kilim_typing_laws.specs.Laws.{typing_at}
+use Rattle.kilim_typing.specs.typing_laws.Laws.{typing_at}
 use Rattle.kilim_woven_runs.proofs.lone.Steps.{steps}
 use Rattle.kilim_woven_runs.specs.lone.Law.{IsActed, IsAt, IsBehind, IsDone, IsLast, IsNext, IsWanted, lone_at, wanted}
 use Rattle.kilim_woven_runs.specs.Acts.{Action, Astray, Finished, Lost, Over, Wants}

@@ -19,7 +19,7 @@ use Rattle.kilim_classes.specs.Lengths.{fetched}
 use Rattle.kilim_classes.specs.Names.{is_task, method_at}
 use Rattle.kilim_classes.specs.Program.{Program}
 use Rattle.kilim_classes.specs.Same.{is_constructor}
-use Rattle.kilim_typing_laws.specs.fits.Fits.{Classes}
+use Rattle.kilim_typing.specs.typing_laws.fits.Fits.{Classes}
 use Rattle.kilim_isolation_laws.specs.forest.Heap.{IsForest}
 use Rattle.kilim_isolation_laws.specs.graph_rows.Holds.{HeapFits, IsOf, SlotFits, Sort, Tree, Trees, is_tree_sort, named_by, refers, sort, sort_by, trees, value_at, Waiting, Holds}
 use Rattle.kilim_isolation_laws.specs.graph_rows.Outcome.{CallHolds, EffectHolds}
@@ -28,11 +28,11 @@ use Rattle.kilim_isolation_check.specs.Walks.{declared_to, exits_to}
 use Rattle.kilim_isolation_rules.specs.Rules.{deed}
 use Rattle.kilim_paths.specs.Paths.{Has}
 use Rattle.kilim_pausable_graph.specs.Pausing.{is_free}
-use Rattle.kilim_program.specs.Does.{does}
-use Rattle.kilim_program.specs.Effect.{Calls, Effect}
-use Rattle.kilim_program.specs.Machine.{Objects}
-use Rattle.kilim_program.specs.Members.{execute_of}
-use Rattle.kilim_program.specs.Moves.{entered}
+use Rattle.kilim_classes.specs.machine.Does.{does}
+use Rattle.kilim_classes.specs.machine.Effect.{Calls, Effect}
+use Rattle.kilim_classes.specs.machine.Machine.{Objects}
+use Rattle.kilim_classes.specs.machine.Members.{execute_of}
+use Rattle.kilim_classes.specs.machine.Moves.{entered}
 use Rattle.kilim_isolation_laws.specs.reached_objects.Laws.{typed}
 use Rattle.kilim_shape_graph.specs.Entry.{declared_parameters, entry_names, entry_nodes, parameters_of, tree_name}
 use Rattle.kilim_shape_graph.specs.Graphs.{slot}
@@ -43,7 +43,7 @@ use Rattle.kilim_isolation_laws.proofs.reached_objects.graphs.Thread.{flows, met
 use Rattle.kilim_thread_model.specs.State.{Setting}
 use Rattle.kilim_typing.specs.Step.{class_vtype, peek}
 use Rattle.kilim_typing.specs.Typed.{edges, entry, has_code, param_slots}
-use Rattle.kilim_typing_laws.specs.Laws.{typing_at}
+use Rattle.kilim_typing.specs.typing_laws.Laws.{typing_at}
 use Rattle.kilim_woven_runs.specs.lone.Law.{lone_at, lone_frames}
 use Rattle.kilim_weaver.proofs.woven_pauses.Accepted.{receivers_held}
 use Rattle.kilim_weaving_laws.proofs.receivers.Chain.{IsWell}

@@ -5,24 +5,24 @@ use Rattle.std.specs.FinMap.{get, insert}
 use Rattle.std.specs.Str.{bytes_eq}
 use Rattle.std.proofs.lemmas.Bool.{false≢true}
 use Rattle.std.proofs.lemmas.Bool.Decides.{eqb_tells}
-use Rattle.kilim_program.specs.declared.cause.EndCause.TheVariants as cause
+use Rattle.kilim_classes.specs.declared.machine.cause.EndCause.TheVariants as cause
 use Rattle.kilim_classes.specs.declared.class.Method.{Method}
 use Rattle.kilim_classes.specs.declared.instr.Instr.{Instr}
 use Rattle.kilim_classes.specs.declared.instr.Instr.TheVariants as instr
 use Rattle.kilim_classes.specs.declared.names.MethodId.{MethodId}
 use Rattle.kilim_classes.specs.declared.ty.Ty.{Ty}
-use Rattle.kilim_program.specs.declared.value.Object.{Object}
+use Rattle.kilim_classes.specs.declared.machine.value.Object.{Object}
 use Rattle.kilim_classes.specs.declared.value.Value.{Value}
 use Rattle.kilim_classes.specs.declared.value.Value.TheVariants.{Box, Fiber, Int, Long, Null, Ref, Text}
 use Rattle.kilim_classes.specs.Names.{field_of, method_at}
 use Rattle.kilim_classes.specs.Program.{Program}
-use Rattle.kilim_program.specs.Machine.{Objects}
-use Rattle.kilim_program.specs.Effect.{Effect, Goes, Makes, Opens, Calls, Asks, Returns, Raises, Ends, Stuck, with_some, on_value, on_values, as_class, as_reference, as_receiver, as_int, as_long, when, wide_or, as_object, at_place, at_index, on_constant}
-use Rattle.kilim_program.specs.Does.{at_unit, calls_method, calls_on, calls_text, cast_fits, chosen, does, element_type, makes_array, array_limit, takes_element, text_answers, unit_at, with_element}
-use Rattle.kilim_program.specs.Natives.{is_handed_out}
-use Rattle.kilim_program.specs.Objects.{new_array}
-use Rattle.kilim_program.specs.Shapes.{field_in}
-use Rattle.kilim_typing_laws.proofs.fits.Maps.{put_other, put_there}
+use Rattle.kilim_classes.specs.machine.Machine.{Objects}
+use Rattle.kilim_classes.specs.machine.Effect.{Effect, Goes, Makes, Opens, Calls, Asks, Returns, Raises, Ends, Stuck, with_some, on_value, on_values, as_class, as_reference, as_receiver, as_int, as_long, when, wide_or, as_object, at_place, at_index, on_constant}
+use Rattle.kilim_classes.specs.machine.Does.{at_unit, calls_method, calls_on, calls_text, cast_fits, chosen, does, element_type, makes_array, array_limit, takes_element, text_answers, unit_at, with_element}
+use Rattle.kilim_classes.specs.machine.Natives.{is_handed_out}
+use Rattle.kilim_classes.specs.machine.Objects.{new_array}
+use Rattle.kilim_classes.specs.machine.Shapes.{field_in}
+use Rattle.kilim_typing.proofs.typing_laws.fits.Maps.{put_other, put_there}
 use Rattle.kilim_woven_runs.proofs.alike.Effects.{is_simple}
 
 -- the same effect with another heap

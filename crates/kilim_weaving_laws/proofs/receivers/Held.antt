@@ -8,16 +8,16 @@ use Rattle.kilim_classes.specs.declared.value.Value.{Value}
 use Rattle.kilim_classes.specs.declared.value.Value.TheVariants.{Ref}
 use Rattle.kilim_classes.specs.Names.{method_at}
 use Rattle.kilim_classes.specs.Program.{Program}
-use Rattle.kilim_program.specs.declared.value.Object.{Object}
-use Rattle.kilim_program.specs.Does.{does}
-use Rattle.kilim_program.specs.Effect.{Effect}
-use Rattle.kilim_program.specs.Machine.{Activation, Objects}
-use Rattle.kilim_program.specs.Moves.{effect_found, effect_in, move_by, moves}
+use Rattle.kilim_classes.specs.declared.machine.value.Object.{Object}
+use Rattle.kilim_classes.specs.machine.Does.{does}
+use Rattle.kilim_classes.specs.machine.Effect.{Effect}
+use Rattle.kilim_classes.specs.machine.Machine.{Activation, Objects}
+use Rattle.kilim_classes.specs.machine.Moves.{effect_found, effect_in, move_by, moves}
 use Rattle.kilim_isolation_laws.specs.typed_threads.fine.Typed.{IsVerified}
-use Rattle.kilim_typing_laws.specs.fits.Sound as typed
-use Rattle.kilim_typing_laws.proofs.fits.Grounds.{facts_hold}
-use Rattle.kilim_typing_laws.proofs.fits.Theorem.{moves_fit}
-use Rattle.kilim_typing_laws.specs.fits.Fits.{Classes, Fits}
+use Rattle.kilim_typing.specs.typing_laws.fits.Sound as typed
+use Rattle.kilim_typing.proofs.typing_laws.fits.Grounds.{facts_hold}
+use Rattle.kilim_typing.proofs.typing_laws.fits.Theorem.{moves_fit}
+use Rattle.kilim_typing.specs.typing_laws.fits.Fits.{Classes, Fits}
 use Rattle.kilim_isolation_laws.specs.graph_rows.Holds.{is_tree_object, trees, waiting_named}
 use Rattle.kilim_isolation_laws.specs.forest.Laws.{IsPlace}
 use Rattle.kilim_isolation_laws.specs.forest.Relation.{Frames}
@@ -31,7 +31,7 @@ use Rattle.kilim_isolation_laws.specs.reached_objects.graphs.Threads.{AllWaitFor
 use Rattle.kilim_isolation_laws.specs.reached_objects.graphs.Threads as graphs
 use Rattle.kilim_isolation_laws.proofs.reached_objects.graphs.Thread.{moves_keep}
 use Rattle.kilim_thread_model.specs.State.{Setting}
-use Rattle.kilim_typing_laws.specs.Laws.{typing_at}
+use Rattle.kilim_typing.specs.typing_laws.Laws.{typing_at}
 use Rattle.kilim_woven_runs.specs.lone.Law.{lone_at, lone_frames}
 use Rattle.kilim_weaving_laws.proofs.receivers.Chain.{IsWell, as_well, wants_all}
 use Rattle.kilim_woven_runs.specs.Acts.{World}

@@ -8,7 +8,7 @@ use Rattle.kilim_classes.specs.declared.value.Value.{Value}
 use Rattle.kilim_classes.specs.BuiltIn.{class_type}
 use Rattle.kilim_classes.specs.Kinds.{is_tree_kind, kind_of}
 use Rattle.kilim_classes.specs.Program.{Program}
-use Rattle.kilim_program.specs.Machine.{Objects}
+use Rattle.kilim_classes.specs.machine.Machine.{Objects}
 use Rattle.kilim_typing.specs.Typed.{entry}
 use Rattle.kilim_isolation_laws.specs.forest.Canonical.{absent, node_at}
 use Rattle.kilim_isolation_laws.specs.forest.Heap.{Below, Here, IsUnder, Then}

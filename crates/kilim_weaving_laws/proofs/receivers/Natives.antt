@@ -18,23 +18,23 @@ use Rattle.kilim_classes.specs.BuiltIn.{class_id, class_type, int_type}
 use Rattle.kilim_classes.specs.Kinds.{class_kind, is_tree_kind, kind_of}
 use Rattle.kilim_classes.specs.Names.{method_at}
 use Rattle.kilim_isolation_laws.proofs.typed_threads.fine.Natives.{gives, native_gives}
-use Rattle.kilim_typing_laws.specs.fits.Fits.{Classes, have_types, is_of}
-use Rattle.kilim_typing_laws.specs.fits.Sound.{AsksFit, native_types}
+use Rattle.kilim_typing.specs.typing_laws.fits.Fits.{Classes, have_types, is_of}
+use Rattle.kilim_typing.specs.typing_laws.fits.Sound.{AsksFit, native_types}
 use Rattle.kilim_isolation_laws.specs.forest.Heap.{Below, Here, IsForest, Then}
 use Rattle.kilim_isolation_laws.specs.graph_rows.Facts.{IsGivenAway, IsTaken}
 use Rattle.kilim_isolation_laws.specs.graph_rows.Holds.{Fits, IsOf, Sort, Tree, Trees, is_tree_object, refers, trees, type_sort}
 use Rattle.kilim_journal.specs.declared.entry.Act.{Act}
 use Rattle.kilim_journal.specs.declared.entry.Act.TheVariants.{Empty, End, Put, Start, Take}
-use Rattle.kilim_program.specs.declared.cause.EndCause.{EndCause}
-use Rattle.kilim_program.specs.declared.cause.EndCause.TheVariants as cause
-use Rattle.kilim_program.specs.declared.value.Object.{Object}
-use Rattle.kilim_program.specs.declared.value.Token.{Token}
-use Rattle.kilim_program.specs.Machine.{Activation, Objects}
-use Rattle.kilim_program.specs.Moves.{push_value}
-use Rattle.kilim_program.specs.Natives.{Native, native_of}
-use Rattle.kilim_program.specs.Natives as native
-use Rattle.kilim_program.specs.Shapes.{shape_of}
-use Rattle.kilim_program.specs.Trees.{OfMessage, built, tree_names, with_objects, without}
+use Rattle.kilim_classes.specs.declared.machine.cause.EndCause.{EndCause}
+use Rattle.kilim_classes.specs.declared.machine.cause.EndCause.TheVariants as cause
+use Rattle.kilim_classes.specs.declared.machine.value.Object.{Object}
+use Rattle.kilim_classes.specs.declared.machine.value.Token.{Token}
+use Rattle.kilim_classes.specs.machine.Machine.{Activation, Objects}
+use Rattle.kilim_classes.specs.machine.Moves.{push_value}
+use Rattle.kilim_classes.specs.machine.Natives.{Native, native_of}
+use Rattle.kilim_classes.specs.machine.Natives as native
+use Rattle.kilim_classes.specs.machine.Shapes.{shape_of}
+use Rattle.kilim_classes.specs.machine.Trees.{OfMessage, built, tree_names, with_objects, without}
 use Rattle.kilim_shape_graph.specs.declared.entry.Parameter.{Parameter}
 use Rattle.kilim_shape_graph.specs.Entry.{parameters_of, quality}
 use Rattle.kilim_isolation_laws.specs.Laws.{IsRunOfAccepted, listed_at}
@@ -47,7 +47,7 @@ use Rattle.kilim_thread_model.specs.State.{Setting}
 use Rattle.kilim_isolation_laws.proofs.heaps.Heaps.{taken_trees_come}
 use Rattle.kilim_isolation_laws.proofs.names.Given.{given_trees_leave}
 use Rattle.kilim_typing.specs.Step.{class_vtype, vtype}
-use Rattle.kilim_typing_laws.specs.Laws.{typing_at}
+use Rattle.kilim_typing.specs.typing_laws.Laws.{typing_at}
 use Rattle.kilim_woven_runs.specs.lone.Law.{lone_frames}
 use Rattle.kilim_weaving_laws.proofs.receivers.Chain.{wants_all}
 use Rattle.kilim_weaving_laws.proofs.receivers.Held.{Held, HeldIn, IsPrivate, Keeps, held_map, rules_hold, verified}

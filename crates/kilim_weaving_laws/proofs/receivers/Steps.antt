@@ -10,19 +10,19 @@ use Rattle.kilim_classes.specs.declared.value.Value.{Value}
 use Rattle.kilim_classes.specs.declared.value.Value.TheVariants.{Box, Ref}
 use Rattle.kilim_classes.specs.BuiltIn.{class_type}
 use Rattle.kilim_classes.specs.Names.{◌>>=◌, class_at, is_task, method_at}
-use Rattle.kilim_typing_laws.proofs.fits.Maps.{put_other}
-use Rattle.kilim_typing_laws.specs.fits.Fits.{Classes, FramesFit as TypesFit, HeapFits, Nothing}
-use Rattle.kilim_typing_laws.specs.fits.Sound as typed
+use Rattle.kilim_typing.proofs.typing_laws.fits.Maps.{put_other}
+use Rattle.kilim_typing.specs.typing_laws.fits.Fits.{Classes, FramesFit as TypesFit, HeapFits, Nothing}
+use Rattle.kilim_typing.specs.typing_laws.fits.Sound as typed
 use Rattle.kilim_isolation_laws.specs.graph_rows.Holds.{is_tree_sort, object_sort}
-use Rattle.kilim_program.specs.declared.cause.EndCause.{EndCause}
-use Rattle.kilim_program.specs.declared.cause.EndCause.TheVariants as cause
-use Rattle.kilim_program.specs.declared.value.Object.{Object}
-use Rattle.kilim_program.specs.Does.{does}
-use Rattle.kilim_program.specs.Effect.{Asks, Calls, Effect, Ends, Goes, Makes, Opens, Raises, Returns, Stuck}
-use Rattle.kilim_program.specs.Machine.{Activation, Objects}
-use Rattle.kilim_program.specs.Members.{constructor_of, execute_of, is_concrete, is_own_constructor}
-use Rattle.kilim_program.specs.Moves.{entered, frame_limit, move_by}
-use Rattle.kilim_program.specs.Natives.{native_of}
+use Rattle.kilim_classes.specs.declared.machine.cause.EndCause.{EndCause}
+use Rattle.kilim_classes.specs.declared.machine.cause.EndCause.TheVariants as cause
+use Rattle.kilim_classes.specs.declared.machine.value.Object.{Object}
+use Rattle.kilim_classes.specs.machine.Does.{does}
+use Rattle.kilim_classes.specs.machine.Effect.{Asks, Calls, Effect, Ends, Goes, Makes, Opens, Raises, Returns, Stuck}
+use Rattle.kilim_classes.specs.machine.Machine.{Activation, Objects}
+use Rattle.kilim_classes.specs.machine.Members.{constructor_of, execute_of, is_concrete, is_own_constructor}
+use Rattle.kilim_classes.specs.machine.Moves.{entered, frame_limit, move_by}
+use Rattle.kilim_classes.specs.machine.Natives.{native_of}
 use Rattle.kilim_isolation_laws.specs.Laws.{IsRunOfAccepted, listed_at}
 use Rattle.kilim_isolation_laws.proofs.Beginning.{kind_of_task}
 use Rattle.kilim_isolation_laws.proofs.Moving.{top_coded}
@@ -30,7 +30,7 @@ use Rattle.kilim_isolation_laws.specs.reached_objects.graphs.Threads.{EndFits, F
 use Rattle.kilim_isolation_laws.specs.reached_objects.graphs.Threads as graphs
 use Rattle.kilim_thread_model.specs.Lone.{box_limit}
 use Rattle.kilim_thread_model.specs.State.{Setting}
-use Rattle.kilim_typing_laws.specs.Laws.{typing_at}
+use Rattle.kilim_typing.specs.typing_laws.Laws.{typing_at}
 use Rattle.kilim_woven_runs.specs.lone.Law.{lone_at, lone_frames}
 use Rattle.kilim_weaving_laws.proofs.receivers.Chain.{IsWell, WellAs, tree_there, wants_all}
 use Rattle.kilim_weaving_laws.proofs.receivers.Guards.{call_guards, task_guards}
@@ -124,11 +124,11 @@ module _ (set : Setting) (run : IsRunOfAccepted set) where
         is_coded : (pre : List Activation) → nat_lt (length (At m q l2 s2 x ∷ b)) frame_limit ≡ true → TopIsCoded set.program (entered set.program c args ∷ pre)
         is_coded pre z =
             coded of (entered set.program c args) (frame m q l2 s2 ∷ lone_frames b) pre
-            (subst (λ (y : Bool). typed.MoveFits set.program (typing_at set.program) wants_all of (cond y (Rattle.kilim_program.specs.Moves.Runs (Rattle.kilim_program.specs.Moves.Enters (Rattle.kilim_program.specs.Moves.receiver_of set.program c args)) (entered set.program c args ∷ frame m q l2 s2 ∷ lone_frames b) h) (Rattle.kilim_program.specs.Moves.Ends cause.Depth))) (full z) t).0
+            (subst (λ (y : Bool). typed.MoveFits set.program (typing_at set.program) wants_all of (cond y (Rattle.kilim_classes.specs.machine.Moves.Runs (Rattle.kilim_classes.specs.machine.Moves.Enters (Rattle.kilim_classes.specs.machine.Moves.receiver_of set.program c args)) (entered set.program c args ∷ frame m q l2 s2 ∷ lone_frames b) h) (Rattle.kilim_classes.specs.machine.Moves.Ends cause.Depth))) (full z) t).0
 
         each : nat_lt (length (At m q l2 s2 x ∷ b)) frame_limit ≡ true → (pre : List Activation) → length pre ≤ length b → (o : ℕ) → Keeps set run w.heap (frame m p l s ∷ pre) o → Keeps set run h (entered set.program c args ∷ frame m q l2 s2 ∷ pre) o
         each z pre le o k =
-            (subst (λ (y : Bool). graphs.MoveFits set.program (typing_at set.program) (listed_at set.program) (Some o) (cond y (Rattle.kilim_program.specs.Moves.Runs (Rattle.kilim_program.specs.Moves.Enters (Rattle.kilim_program.specs.Moves.receiver_of set.program c args)) (entered set.program c args ∷ frame m q l2 s2 ∷ pre) h) (Rattle.kilim_program.specs.Moves.Ends cause.Depth))) (few pre le z) (g (Some o) pre k))
+            (subst (λ (y : Bool). graphs.MoveFits set.program (typing_at set.program) (listed_at set.program) (Some o) (cond y (Rattle.kilim_classes.specs.machine.Moves.Runs (Rattle.kilim_classes.specs.machine.Moves.Enters (Rattle.kilim_classes.specs.machine.Moves.receiver_of set.program c args)) (entered set.program c args ∷ frame m q l2 s2 ∷ pre) h) (Rattle.kilim_classes.specs.machine.Moves.Ends cause.Depth))) (few pre le z) (g (Some o) pre k))
             (is_coded (frame m q l2 s2 ∷ pre) z)
 
         by : (z : Bool) → nat_lt (length (At m q l2 s2 x ∷ b)) frame_limit ≡ z → HeldIn set run (cond z (Run c 0 (entered set.program c args).locals [] (self_of set.program c args) (At m q l2 s2 x ∷ b) (counted (with_heap w h))) (ending set (with_heap w h) Stop cause.Depth))

@@ -14,10 +14,10 @@ use Rattle.kilim_classes.specs.Keeps.{Keeps}
 use Rattle.kilim_classes.specs.Names.{◌>>=◌, first_that, is_named_task, is_task, line_of, method_at}
 use Rattle.kilim_classes.specs.Program.{Program}
 use Rattle.kilim_classes.specs.Same.{is_constructor, selected}
-use Rattle.kilim_typing_laws.specs.fits.Chosen.{IsChosen}
-use Rattle.kilim_typing_laws.proofs.fits.Finding.{finds}
+use Rattle.kilim_typing.specs.typing_laws.fits.Chosen.{IsChosen}
+use Rattle.kilim_typing.proofs.typing_laws.fits.Finding.{finds}
 use Rattle.kilim_isolation_laws.specs.graph_rows.Holds.{Tree, Trees, object_sort}
-use Rattle.kilim_program.specs.Members.{execute_of, is_task_execute}
+use Rattle.kilim_classes.specs.machine.Members.{execute_of, is_task_execute}
 use Rattle.kilim_isolation_laws.proofs.sorts.Choosing.{of_object}
 use Rattle.kilim_isolation_laws.proofs.sorts.Lines.{in_line}
 use Rattle.kilim_isolation_laws.proofs.Natives.{Begins, execute_is, n, task_named, tree_of_task}

@@ -8,9 +8,9 @@ use Rattle.kilim_classes.specs.declared.ty.Ty.{Ty}
 use Rattle.kilim_classes.specs.declared.value.Value.{Value}
 use Rattle.kilim_classes.specs.declared.value.Value.TheVariants.{Int, Long, Null, Fiber}
 use Rattle.kilim_classes.specs.Program.{Program}
-use Rattle.kilim_program.specs.Machine.{Objects}
-use Rattle.kilim_program.specs.Effect.{Goes, Returns, with_some, as_reference, on_word, as_int, as_long, is_wide, when, wide_or}
-use Rattle.kilim_program.specs.Does.{does, table_target, narrowed_int, narrowed_result}
+use Rattle.kilim_classes.specs.machine.Machine.{Objects}
+use Rattle.kilim_classes.specs.machine.Effect.{Goes, Returns, with_some, as_reference, on_word, as_int, as_long, is_wide, when, wide_or}
+use Rattle.kilim_classes.specs.machine.Does.{does, table_target, narrowed_int, narrowed_result}
 use Rattle.kilim_classes.specs.declared.class.Method.{Method}
 use Rattle.kilim_woven_runs.specs.Links.{IsReference}
 

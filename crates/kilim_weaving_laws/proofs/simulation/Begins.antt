@@ -6,8 +6,8 @@ use Rattle.kilim_classes.specs.declared.names.MethodId.{MethodId}
 use Rattle.kilim_classes.specs.declared.value.Value.{Value}
 use Rattle.kilim_classes.specs.declared.value.Value.TheVariants as value
 use Rattle.kilim_classes.specs.Program.{Program}
-use Rattle.kilim_program.specs.Machine.{Activation}
-use Rattle.kilim_program.specs.Moves.{slots_of, entered}
+use Rattle.kilim_classes.specs.machine.Machine.{Activation}
+use Rattle.kilim_classes.specs.machine.Moves.{slots_of, entered}
 use Rattle.kilim_thread_model.specs.State.{Setting}
 use Rattle.kilim_woven_runs.specs.Acts.{World}
 use Rattle.kilim_woven_runs.specs.Thread.{Run, self_of}
@@ -18,7 +18,7 @@ use Rattle.kilim_woven_runs.specs.Links.{Forms, code, Takes, Both, Fw, unwoven, 
 use Rattle.kilim_weaving_laws.proofs.simulation.Paths as path
 use Rattle.std.specs.Prelude.{replicate, ◌-◌}
 use Rattle.kilim_woven_runs.specs.Fibers.{new_fiber, enter}
-use Rattle.kilim_typing_laws.specs.fits.Fits.{AreThere, IsThere}
+use Rattle.kilim_typing.specs.typing_laws.fits.Fits.{AreThere, IsThere}
 use Rattle.kilim_weaving_laws.proofs.simulation.Still.{StepIsKnown}
 use Rattle.kilim_weaving_laws.proofs.simulation.Forward.{calm}
 use Rattle.kilim_weaving_laws.proofs.simulation.Forward as forward

@@ -2,7 +2,7 @@
 use Rattle.std.proofs.Common.{◌≡◌, ◌≢◌, inl, inr, ℕ, suc, ◌+◌, ◌*◌, ◌≤◌, Bool, true, false, List, [], ◌∷◌, ◌++◌, length, Option, Some, None, refl, sym, ap, subst, ◌∙◌, arith}
 use Rattle.std.specs.Prelude.{nat_le, nat_lt, if◌then◌else◌}
 use Rattle.std.proofs.lemmas.Bool.{false≢true}
-use Rattle.kilim_program.specs.declared.cause.EndCause.TheVariants as cause
+use Rattle.kilim_classes.specs.declared.machine.cause.EndCause.TheVariants as cause
 use Rattle.kilim_classes.specs.declared.class.Method.{Method}
 use Rattle.kilim_classes.specs.declared.instr.Instr.{Instr}
 use Rattle.kilim_classes.specs.declared.instr.Instr.TheVariants as instr
@@ -10,24 +10,24 @@ use Rattle.kilim_classes.specs.declared.names.MethodId.{MethodId}
 use Rattle.kilim_classes.specs.declared.value.Value.{Value}
 use Rattle.kilim_classes.specs.declared.value.Value.TheVariants as value
 use Rattle.kilim_classes.specs.Program.{Program}
-use Rattle.kilim_program.specs.Machine.{Activation}
-use Rattle.kilim_program.specs.Natives.{Native, native_of}
-use Rattle.kilim_program.specs.Natives as native
-use Rattle.kilim_program.specs.Effect.{Effect, Goes, Asks}
-use Rattle.kilim_program.specs.Does.{does}
-use Rattle.kilim_program.specs.Moves.{entered, frame_limit}
+use Rattle.kilim_classes.specs.machine.Machine.{Activation}
+use Rattle.kilim_classes.specs.machine.Natives.{Native, native_of}
+use Rattle.kilim_classes.specs.machine.Natives as native
+use Rattle.kilim_classes.specs.machine.Effect.{Effect, Goes, Asks}
+use Rattle.kilim_classes.specs.machine.Does.{does}
+use Rattle.kilim_classes.specs.machine.Moves.{entered, frame_limit}
 use Rattle.kilim_thread_model.specs.State.{Setting}
-use Rattle.kilim_woven_form.specs.Woven.{member, fiber_slot, pausable_callee}
+use Rattle.kilim_typing.specs.woven_form.Woven.{member, fiber_slot, pausable_callee}
 use Rattle.kilim_woven_runs.specs.Acts.{World, Lost, counted, ending, spending, native_does, asks}
 use Rattle.kilim_woven_runs.specs.Thread.{fetch, push, Frame, At, Thread, Run, Stop, step, self_of, found_does, effect_does, calls, own_of}
-use Rattle.kilim_program.specs.Natives.{Down, FiberMember}
+use Rattle.kilim_classes.specs.machine.Natives.{Down, FiberMember}
 use Rattle.kilim_woven_runs.specs.Fibers.{Fib, Fiber_at, Saved, empty_record, member_of, without_fiber, before, Woven_state, WRun, Resting, WStop, wstep, weffect, wcalls, wasks, wnatives, wnative, handed_does, gets, getting, yielding, frame}
 use Rattle.kilim_woven_runs.specs.Form.{Facts, Group, Members, longest}
 use Rattle.kilim_woven_runs.specs.Rows.{handed}
 use Rattle.kilim_woven_runs.specs.Serves.{Rows, Known, Shape, IsCall, IsNative, IsRaise, IsEnd, IsStuck, is_pausing_native, IsThread, Now}
 use Rattle.kilim_woven_runs.specs.Links.{Link, Lk, u_frames, left_overs, bares, Leaf, Forms, code, w_frames, Holds, AllStand, Good, Goods, Takes, AreReady, Fw, Fine_at, record_of, first_record, next_records}
 use Rattle.kilim_woven_runs.specs.Rooms.{HasRoom, bare_frames}
-use Rattle.kilim_typing_laws.specs.fits.Fits.{AreThere}
+use Rattle.kilim_typing.specs.typing_laws.fits.Fits.{AreThere}
 use Rattle.kilim_weaving_laws.proofs.simulation.Still.{StepIsKnown}
 use Rattle.kilim_jvm_interp.specs.Step.{stack_limit}
 use Rattle.kilim_weaving_laws.proofs.simulation.Added as add
@@ -39,7 +39,7 @@ use Rattle.kilim_weaving_laws.proofs.simulation.Forward as forward
 use Rattle.kilim_weaving_laws.proofs.simulation.PlainStep.{stack_length}
 use Rattle.kilim_weaving_laws.proofs.simulation.Leaves.{frames_bare}
 use Rattle.kilim_weaving_laws.proofs.simulation.Leaves as leaf
-use Rattle.kilim_program.specs.Trees.{Root}
+use Rattle.kilim_classes.specs.machine.Trees.{Root}
 use Rattle.kilim_thread_model.specs.Kept.{given}
 use Rattle.kilim_weaving_laws.proofs.simulation.Held.{NextHeld}
 

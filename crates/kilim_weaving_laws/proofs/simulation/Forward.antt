@@ -2,7 +2,7 @@
 use Rattle.std.proofs.Common.{◌≡◌, inl, ℕ, suc, ◌+◌, ◌*◌, ◌≤◌, Bool, true, false, pos, List, [], ◌∷◌, ◌++◌, length, Option, Some, None, refl, sym, ap, subst, ◌∙◌, arith}
 use Rattle.std.proofs.lemmas.Option.{slice_get_within}
 use Rattle.std.proofs.lemmas.Bool.{false≢true}
-use Rattle.kilim_program.specs.declared.cause.EndCause.{EndCause}
+use Rattle.kilim_classes.specs.declared.machine.cause.EndCause.{EndCause}
 use Rattle.kilim_classes.specs.declared.class.Method.{Method}
 use Rattle.kilim_classes.specs.declared.instr.Instr.{Instr}
 use Rattle.kilim_classes.specs.declared.instr.Instr.TheVariants as instr
@@ -10,22 +10,22 @@ use Rattle.kilim_classes.specs.declared.names.MethodId.{MethodId}
 use Rattle.kilim_classes.specs.declared.value.Value.{Value}
 use Rattle.kilim_classes.specs.declared.value.Value.TheVariants as value
 use Rattle.kilim_classes.specs.Program.{Program}
-use Rattle.kilim_program.specs.Machine.{Activation}
+use Rattle.kilim_classes.specs.machine.Machine.{Activation}
 use Rattle.kilim_classes.specs.Names.{method_at}
-use Rattle.kilim_program.specs.Effect.{Goes}
-use Rattle.kilim_program.specs.Moves.{slots_of, slots_in, entered}
+use Rattle.kilim_classes.specs.machine.Effect.{Goes}
+use Rattle.kilim_classes.specs.machine.Moves.{slots_of, slots_in, entered}
 use Rattle.kilim_classes.specs.Same.{argument_slots}
 use Rattle.kilim_thread_model.specs.State.{Setting}
-use Rattle.kilim_woven_form.specs.Woven.{member, fiber_slot}
+use Rattle.kilim_typing.specs.woven_form.Woven.{member, fiber_slot}
 use Rattle.kilim_woven_runs.specs.Acts.{World, Over, ending}
 use Rattle.kilim_woven_runs.specs.Thread.{Thread, Run, Stop, own_of}
-use Rattle.kilim_program.specs.Natives.{Up}
+use Rattle.kilim_classes.specs.machine.Natives.{Up}
 use Rattle.kilim_woven_runs.specs.Fibers.{Fib, Fiber_at, Rec, Saved, Woven_state, WRun, WStop, wstep}
 use Rattle.kilim_woven_runs.specs.Form.{Facts, Starts, Members, longest, is_pausable}
 use Rattle.kilim_woven_runs.specs.Runs.{stop, idle, mark, done_in}
 use Rattle.kilim_woven_runs.specs.Serves.{Rows}
 use Rattle.kilim_woven_runs.specs.Links.{Link, Lk, PLink, u_stack, left_overs, Forms, code, w_frames, w_stack, Holds, Held, Good, Goods, Takes, Both, Fw, unwoven, woven, Fine, Fine_at}
-use Rattle.kilim_typing_laws.specs.fits.Fits.{AreThere, IsThere}
+use Rattle.kilim_typing.specs.typing_laws.fits.Fits.{AreThere, IsThere}
 use Rattle.kilim_weaving_laws.proofs.simulation.Still.{StepIsKnown}
 use Rattle.kilim_weaving_laws.proofs.simulation.Added as add
 use Rattle.kilim_weaving_laws.proofs.simulation.Paths as path

@@ -2,36 +2,36 @@
 use Rattle.std.proofs.Common.{◌≡◌, ℕ, zero, suc, ◌+◌, ◌*◌, ◌≤◌, Bool, true, false, List, [], ◌∷◌, ◌++◌, Option, Some, None, refl, sym, ap, subst, ◌∙◌, arith}
 use Rattle.std.proofs.lemmas.Bool.{false≢true}
 use Rattle.std.specs.Prelude.{nat_le, if◌then◌else◌}
-use Rattle.kilim_program.specs.declared.cause.EndCause.TheVariants as cause
+use Rattle.kilim_classes.specs.declared.machine.cause.EndCause.TheVariants as cause
 use Rattle.kilim_classes.specs.declared.class.Method.{Method}
 use Rattle.kilim_classes.specs.declared.instr.Instr.{Instr}
 use Rattle.kilim_classes.specs.declared.names.MethodId.{MethodId}
 use Rattle.kilim_classes.specs.declared.value.Value.{Value}
 use Rattle.kilim_classes.specs.declared.value.Value.TheVariants as value
 use Rattle.kilim_classes.specs.Program.{Program}
-use Rattle.kilim_program.specs.Machine.{Objects, Activation}
-use Rattle.kilim_program.specs.Natives.{Native, native_of}
-use Rattle.kilim_program.specs.Natives as native
-use Rattle.kilim_program.specs.Effect.{Asks}
+use Rattle.kilim_classes.specs.machine.Machine.{Objects, Activation}
+use Rattle.kilim_classes.specs.machine.Natives.{Native, native_of}
+use Rattle.kilim_classes.specs.machine.Natives as native
+use Rattle.kilim_classes.specs.machine.Effect.{Asks}
 use Rattle.kilim_thread_model.specs.State.{Setting}
 use Rattle.kilim_woven_runs.specs.Acts.{World, Lost, counted, ending, spending, native_does}
 use Rattle.kilim_woven_runs.specs.Thread.{push, Frame, At, Thread, Run, Stop}
-use Rattle.kilim_program.specs.Natives.{FiberMember}
+use Rattle.kilim_classes.specs.machine.Natives.{FiberMember}
 use Rattle.kilim_woven_runs.specs.Fibers.{Fib, Fiber_at, Rec, Saved, empty_record, Woven_state, WRun, WStop, wstep, wasks, wnatives, wnative, gets, yields}
 use Rattle.kilim_woven_runs.specs.Form.{Facts, Members, longest}
 use Rattle.kilim_woven_runs.specs.Rows.{handed}
 use Rattle.kilim_woven_runs.specs.Runs.{stop, idle}
 use Rattle.kilim_woven_runs.specs.Serves.{Rows}
-use Rattle.kilim_woven_form.specs.Woven.{below, receiver}
+use Rattle.kilim_typing.specs.woven_form.Woven.{below, receiver}
 use Rattle.kilim_woven_runs.specs.Links.{again, Link, Lk, u_frames, left_overs, rev_onto, bares, Target, Inner, Leaf, Forms, code, w_frames, Good, Goods, LeafTakes, AreReady, Fw, at_rest, at_leaf, plan_of}
-use Rattle.kilim_typing_laws.specs.fits.Fits.{AreThere}
+use Rattle.kilim_typing.specs.typing_laws.fits.Fits.{AreThere}
 use Rattle.kilim_weaving_laws.proofs.simulation.Still.{StepIsKnown}
 use Rattle.kilim_weaving_laws.proofs.simulation.Paths as path
 use Rattle.kilim_weaving_laws.proofs.simulation.Natural.{Outcome, GoesOn, IsOver, fold, Counts, native_same}
 use Rattle.kilim_weaving_laws.proofs.simulation.Unwinds.{count_of, push_low, rests}
 use Rattle.kilim_weaving_laws.proofs.simulation.Pauses as pause
 use Rattle.kilim_classes.specs.declared.ty.Ty.{Ty}
-use Rattle.kilim_program.specs.Trees.{Root}
+use Rattle.kilim_classes.specs.machine.Trees.{Root}
 use Rattle.kilim_thread_model.specs.Kept.{given}
 use Rattle.kilim_weaving_laws.proofs.simulation.Held.{NextHeld, all_there}
 use Rattle.kilim_weaving_laws.proofs.simulation.Rewinds.{again_there}

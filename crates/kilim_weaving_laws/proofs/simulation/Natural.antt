@@ -1,22 +1,22 @@
 -- What a built-in method does is one outcome, whichever machine goes on with it.
 use Rattle.std.proofs.Common.{◌≡◌, ℕ, ◌+◌, Bool, true, false, ℤ, List, [], ◌∷◌, Option, Some, None, refl, sym, ap, subst, ◌∙◌}
 use Rattle.std.specs.Prelude.{nat_lt, if◌then◌else◌}
-use Rattle.kilim_program.specs.declared.cause.EndCause.{EndCause}
-use Rattle.kilim_program.specs.declared.cause.EndCause.TheVariants as cause
+use Rattle.kilim_classes.specs.declared.machine.cause.EndCause.{EndCause}
+use Rattle.kilim_classes.specs.declared.machine.cause.EndCause.TheVariants as cause
 use Rattle.kilim_classes.specs.declared.names.BoxName.{BoxName}
-use Rattle.kilim_program.specs.declared.value.Object.{Object}
-use Rattle.kilim_program.specs.declared.value.Token.{Token}
+use Rattle.kilim_classes.specs.declared.machine.value.Object.{Object}
+use Rattle.kilim_classes.specs.declared.machine.value.Token.{Token}
 use Rattle.kilim_classes.specs.declared.value.Value.{Value}
 use Rattle.kilim_classes.specs.declared.value.Value.TheVariants.{Int, Null, Ref, Box}
-use Rattle.kilim_program.specs.Natives.{Native}
-use Rattle.kilim_program.specs.Natives as native
+use Rattle.kilim_classes.specs.machine.Natives.{Native}
+use Rattle.kilim_classes.specs.machine.Natives as native
 use Rattle.kilim_journal.specs.declared.entry.Act.{Act}
 use Rattle.kilim_journal.specs.declared.entry.Act.TheVariants.{Put, Take, Empty, Start, End}
 use Rattle.kilim_thread_model.specs.State.{Setting}
 use Rattle.kilim_thread_model.specs.declared.deed.Deed.{Deed}
-use Rattle.kilim_program.specs.Shapes.{shape_of}
+use Rattle.kilim_classes.specs.machine.Shapes.{shape_of}
 use Rattle.kilim_thread_model.specs.Lone.{box_limit, printed, arg_at}
-use Rattle.kilim_program.specs.Trees.{OfMessage, built}
+use Rattle.kilim_classes.specs.machine.Trees.{OfMessage, built}
 use Rattle.kilim_woven_runs.specs.Acts.{World, Over, Wants, Action, Puts, Gets, Probes, Starts, Prints, Ends, acting, last, ending, put_by, puts, puts_value, start_by, starts, receives, take_by, takes, probe_by, probes, prints, gives_arg, native_does, opens_box}
 
 pub data Outcome : Type 0 where

@@ -4,24 +4,24 @@ use Rattle.kilim_classes.specs.declared.instr.Instr.{Instr}
 use Rattle.kilim_classes.specs.declared.names.MethodId.{MethodId}
 use Rattle.kilim_classes.specs.declared.value.Value.{Value}
 use Rattle.kilim_classes.specs.Program.{Program}
-use Rattle.kilim_program.specs.Machine.{Activation, Objects}
-use Rattle.kilim_program.specs.Effect.{Effect, Goes, Calls, Asks}
-use Rattle.kilim_program.specs.Does.{does}
-use Rattle.kilim_program.specs.Natives.{Native, native_of}
-use Rattle.kilim_program.specs.Natives as native
-use Rattle.kilim_program.specs.Trees.{Root}
+use Rattle.kilim_classes.specs.machine.Machine.{Activation, Objects}
+use Rattle.kilim_classes.specs.machine.Effect.{Effect, Goes, Calls, Asks}
+use Rattle.kilim_classes.specs.machine.Does.{does}
+use Rattle.kilim_classes.specs.machine.Natives.{Native, native_of}
+use Rattle.kilim_classes.specs.machine.Natives as native
+use Rattle.kilim_classes.specs.machine.Trees.{Root}
 use Rattle.kilim_thread_model.specs.Kept.{given}
 use Rattle.kilim_thread_model.specs.State.{Setting}
-use Rattle.kilim_woven_form.specs.Woven.{Item}
+use Rattle.kilim_typing.specs.woven_form.Woven.{Item}
 use Rattle.kilim_woven_runs.specs.Acts.{World}
 use Rattle.kilim_woven_runs.specs.Thread.{push, own_of}
-use Rattle.kilim_program.specs.Natives.{FiberMember}
+use Rattle.kilim_classes.specs.machine.Natives.{FiberMember}
 use Rattle.kilim_woven_runs.specs.Fibers.{Fib, as_member, is_pausing, is_rewinding, member_of, member_does, Woven_state, WRun, WStop, wfetch, wstep, wfound, weffect, spending_if, wasks}
 use Rattle.kilim_woven_runs.specs.Acts.{Lost}
 use Rattle.kilim_woven_runs.specs.Form.{HasAt}
 use Rattle.kilim_woven_runs.specs.Runs.{Comes, stop, idle, mark}
 use Rattle.kilim_woven_runs.specs.Rooms.{GivesWhole, HasRoom, MemberHasRoom}
-use Rattle.kilim_typing_laws.specs.fits.Fits.{AreThere}
+use Rattle.kilim_typing.specs.typing_laws.fits.Fits.{AreThere}
 use Rattle.kilim_weaving_laws.proofs.simulation.Still.{IsStill, PausesOn, StepIsKnown, member_still}
 use Rattle.kilim_jvm_interp.specs.Step.{stack_limit}
 

@@ -6,12 +6,12 @@ use Rattle.kilim_classes.specs.declared.names.MethodId.{MethodId}
 use Rattle.kilim_classes.specs.declared.value.Value.{Value}
 use Rattle.kilim_classes.specs.declared.value.Value.TheVariants as value
 use Rattle.kilim_classes.specs.Program.{Program}
-use Rattle.kilim_program.specs.Machine.{Objects, Activation}
-use Rattle.kilim_program.specs.Natives.{Native}
-use Rattle.kilim_program.specs.Does.{does}
-use Rattle.kilim_program.specs.Moves.{frame_limit}
+use Rattle.kilim_classes.specs.machine.Machine.{Objects, Activation}
+use Rattle.kilim_classes.specs.machine.Natives.{Native}
+use Rattle.kilim_classes.specs.machine.Does.{does}
+use Rattle.kilim_classes.specs.machine.Moves.{frame_limit}
 use Rattle.kilim_thread_model.specs.State.{Setting}
-use Rattle.kilim_woven_form.specs.Woven.{pausable_callee}
+use Rattle.kilim_typing.specs.woven_form.Woven.{pausable_callee}
 use Rattle.kilim_woven_runs.specs.Acts.{World}
 use Rattle.kilim_woven_runs.specs.Thread.{fetch, own_of}
 use Rattle.kilim_woven_runs.specs.Fibers.{Fib, Fiber_at, Woven_state, WRun, wresumes, wstep, executes_on}
@@ -19,7 +19,7 @@ use Rattle.kilim_woven_runs.specs.Form.{Facts, Members, longest}
 use Rattle.kilim_woven_runs.specs.Rows.{handed, OldHeap, IsClean}
 use Rattle.kilim_woven_runs.specs.Runs.{mark}
 use Rattle.kilim_woven_runs.specs.Links.{Link, Lk, method_of, self_of_link, rev_onto, bares, Target, Inner, Leaf, Forms, code, record_of, first_record, next_records, Good, Goods, Takes, AreReady, Chained, unwinding, entering, at_leaf}
-use Rattle.kilim_typing_laws.specs.fits.Fits.{AreThere}
+use Rattle.kilim_typing.specs.typing_laws.fits.Fits.{AreThere}
 use Rattle.kilim_weaving_laws.proofs.simulation.Still.{StepIsKnown}
 use Rattle.kilim_weaving_laws.proofs.simulation.Held.{MaybeThere}
 use Rattle.kilim_weaving_laws.proofs.simulation.Paths as path

@@ -3,30 +3,30 @@ use Rattle.std.proofs.Common.{◌≡◌, ◌≢◌, ℕ, suc, ◌+◌, ◌*◌, 
 use Rattle.std.specs.Prelude.{slice_get, nat_lt, if◌then◌else◌, replicate, ◌-◌}
 use Rattle.std.proofs.lemmas.Bool.{false≢true}
 use Rattle.std.specs.FinMap.{insert}
-use Rattle.kilim_program.specs.declared.cause.EndCause.{EndCause}
-use Rattle.kilim_program.specs.declared.cause.EndCause.TheVariants as cause
+use Rattle.kilim_classes.specs.declared.machine.cause.EndCause.{EndCause}
+use Rattle.kilim_classes.specs.declared.machine.cause.EndCause.TheVariants as cause
 use Rattle.kilim_classes.specs.declared.class.Method.{Method}
 use Rattle.kilim_classes.specs.declared.names.MethodId.{MethodId}
 use Rattle.kilim_classes.specs.declared.value.Value.{Value}
 use Rattle.kilim_classes.specs.declared.value.Value.TheVariants as value
 use Rattle.kilim_classes.specs.Program.{Program}
-use Rattle.kilim_program.specs.Machine.{Objects, Activation}
+use Rattle.kilim_classes.specs.machine.Machine.{Objects, Activation}
 use Rattle.kilim_classes.specs.Names.{method_at}
-use Rattle.kilim_program.specs.Members.{execute_of}
-use Rattle.kilim_program.specs.Natives.{Native, native_of}
-use Rattle.kilim_program.specs.Natives as native
-use Rattle.kilim_program.specs.Effect.{Effect, Goes, Makes, Opens, Calls, Asks, Returns, Raises, Ends, Stuck}
-use Rattle.kilim_program.specs.Moves.{slots_of, entered, frame_limit}
+use Rattle.kilim_classes.specs.machine.Members.{execute_of}
+use Rattle.kilim_classes.specs.machine.Natives.{Native, native_of}
+use Rattle.kilim_classes.specs.machine.Natives as native
+use Rattle.kilim_classes.specs.machine.Effect.{Effect, Goes, Makes, Opens, Calls, Asks, Returns, Raises, Ends, Stuck}
+use Rattle.kilim_classes.specs.machine.Moves.{slots_of, entered, frame_limit}
 use Rattle.kilim_thread_model.specs.State.{Setting}
 use Rattle.kilim_woven_runs.specs.Acts.{World, Lost, counted, with_heap, ending, native_does, asks, opens_box}
 use Rattle.kilim_woven_runs.specs.Thread.{push, At, Thread, Run, Stop, self_of, effect_does, calls, returns, finishes, begins, begins_in}
-use Rattle.kilim_program.specs.Natives.{FiberMember}
+use Rattle.kilim_classes.specs.machine.Natives.{FiberMember}
 use Rattle.kilim_woven_runs.specs.Fibers.{Fib, Fiber_at, Saved, member_of, Woven_state, WRun, WStop, wstep, weffect, wcalls, wreturns, wfinishes, wbegins, wbegins_in, wasks, wnatives, wnative, frame}
 use Rattle.kilim_woven_runs.specs.Form.{Facts, Starts, Members, longest, is_pausable}
 use Rattle.kilim_woven_runs.specs.Rows.{elsewhere}
 use Rattle.kilim_woven_runs.specs.Serves.{Rows, Twins, is_pausing_native}
 use Rattle.kilim_woven_runs.specs.Links.{Link, Lk, PLink, Pk, u_frames, u_stack, left_overs, Forms, code, w_frames, w_stack, Takes, Fw, Fine_at}
-use Rattle.kilim_typing_laws.specs.fits.Fits.{AreThere}
+use Rattle.kilim_typing.specs.typing_laws.fits.Fits.{AreThere}
 use Rattle.kilim_weaving_laws.proofs.simulation.Still.{StepIsKnown}
 use Rattle.kilim_weaving_laws.proofs.simulation.Paths as path
 use Rattle.kilim_weaving_laws.proofs.simulation.Natural.{Outcome, GoesOn, IsOver, fold, Counts, native_same, opens_same}

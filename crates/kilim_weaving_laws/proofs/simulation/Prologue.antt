@@ -11,21 +11,21 @@ use Rattle.kilim_classes.specs.declared.names.MethodId.{MethodId}
 use Rattle.kilim_classes.specs.declared.value.Value.{Value}
 use Rattle.kilim_classes.specs.declared.value.Value.TheVariants as value
 use Rattle.kilim_classes.specs.Program.{Program}
-use Rattle.kilim_program.specs.Machine.{Activation}
+use Rattle.kilim_classes.specs.machine.Machine.{Activation}
 use Rattle.kilim_classes.specs.Names.{method_at}
-use Rattle.kilim_program.specs.Effect.{Goes}
-use Rattle.kilim_program.specs.Does.{does, table_target}
-use Rattle.kilim_program.specs.Moves.{slots_of, slots_in, entered}
+use Rattle.kilim_classes.specs.machine.Effect.{Goes}
+use Rattle.kilim_classes.specs.machine.Does.{does, table_target}
+use Rattle.kilim_classes.specs.machine.Moves.{slots_of, slots_in, entered}
 use Rattle.kilim_classes.specs.Same.{argument_slots}
 use Rattle.kilim_thread_model.specs.State.{Setting}
-use Rattle.kilim_woven_form.specs.Woven.{local_size, Plan, Item, member, fiber_slot, load_fiber, calls_member, added, larger, keep_self, switch_item, resume_places}
+use Rattle.kilim_typing.specs.woven_form.Woven.{local_size, Plan, Item, member, fiber_slot, load_fiber, calls_member, added, larger, keep_self, switch_item, resume_places}
 use Rattle.kilim_woven_runs.specs.Thread.{own_of}
 use Rattle.kilim_woven_runs.specs.Acts.{World}
-use Rattle.kilim_program.specs.Natives.{Pc}
+use Rattle.kilim_classes.specs.machine.Natives.{Pc}
 use Rattle.kilim_woven_runs.specs.Fibers.{Fib, Fiber_at, Rec, Saved, is_rewinding, place_while, Woven_state, WRun}
 use Rattle.kilim_woven_runs.specs.Form.{Facts, HasAt, Members, Starts}
 use Rattle.kilim_woven_runs.specs.Links.{IsReference, Forms, code, plan_of}
-use Rattle.kilim_typing_laws.specs.fits.Fits.{AreThere, IsThere}
+use Rattle.kilim_typing.specs.typing_laws.fits.Fits.{AreThere, IsThere}
 use Rattle.kilim_weaving_laws.proofs.simulation.Tally as tally
 use Rattle.kilim_weaving_laws.proofs.simulation.Still.{StepIsKnown}
 use Rattle.kilim_jvm_interp.specs.Step.{stack_limit}

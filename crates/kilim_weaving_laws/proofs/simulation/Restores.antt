@@ -9,18 +9,18 @@ use Rattle.kilim_classes.specs.declared.value.Value.TheVariants as value
 use Rattle.kilim_classes.specs.declared.verified.VType.{VType}
 use Rattle.kilim_classes.specs.declared.verified.VType.TheVariants.{Top, Int, Long, Null, UninitThis, Uninit, Object}
 use Rattle.kilim_classes.specs.Program.{Program}
-use Rattle.kilim_program.specs.Machine.{Activation}
-use Rattle.kilim_program.specs.Effect.{Goes}
-use Rattle.kilim_program.specs.Does.{does}
+use Rattle.kilim_classes.specs.machine.Machine.{Activation}
+use Rattle.kilim_classes.specs.machine.Effect.{Goes}
+use Rattle.kilim_classes.specs.machine.Does.{does}
 use Rattle.kilim_thread_model.specs.State.{Setting}
-use Rattle.kilim_woven_form.specs.Woven.{local_size, Plan, Item, member, fiber_slot, load_fiber, calls_member, added, restore, restore_stack, restore_local, restore_locals, store_of}
+use Rattle.kilim_typing.specs.woven_form.Woven.{local_size, Plan, Item, member, fiber_slot, load_fiber, calls_member, added, restore, restore_stack, restore_local, restore_locals, store_of}
 use Rattle.kilim_woven_runs.specs.Acts.{World}
 use Rattle.kilim_woven_runs.specs.Thread.{own_of}
-use Rattle.kilim_program.specs.Natives.{Restore}
+use Rattle.kilim_classes.specs.machine.Natives.{Restore}
 use Rattle.kilim_woven_runs.specs.Fibers.{Fib, Fiber_at, Rec, Saved, Woven_state, WRun}
 use Rattle.kilim_woven_runs.specs.Form.{Facts, HasAt, Among_slots, Members, members_in_order}
 use Rattle.kilim_woven_runs.specs.Links.{kept_one, kept_stack, kept_slots, value_or, Fits, AllFit, SlotsFit, Forms, code, plan_of}
-use Rattle.kilim_typing_laws.specs.fits.Fits.{AreThere}
+use Rattle.kilim_typing.specs.typing_laws.fits.Fits.{AreThere}
 use Rattle.kilim_weaving_laws.proofs.simulation.Still.{StepIsKnown}
 use Rattle.kilim_jvm_interp.specs.Step.{stack_limit}
 use Rattle.kilim_weaving_laws.proofs.simulation.Held.{all_there, fit_there}

@@ -3,7 +3,7 @@ use Rattle.std.proofs.Common.{◌≡◌, inl, inr, ℕ, suc, ◌+◌, ◌*◌, �
 use Rattle.std.specs.Prelude.{slice_get, if◌then◌else◌}
 use Rattle.std.proofs.lemmas.Option.{slice_get_within}
 use Rattle.std.proofs.lemmas.Bool.{false≢true, lt-ltb}
-use Rattle.kilim_program.specs.declared.cause.EndCause.TheVariants as cause
+use Rattle.kilim_classes.specs.declared.machine.cause.EndCause.TheVariants as cause
 use Rattle.kilim_classes.specs.declared.class.Method.{Method}
 use Rattle.kilim_classes.specs.declared.instr.Instr.{Instr}
 use Rattle.kilim_classes.specs.declared.instr.Instr.TheVariants as instr
@@ -14,23 +14,23 @@ use Rattle.kilim_classes.specs.declared.value.Value.TheVariants as value
 use Rattle.kilim_classes.specs.declared.verified.VType.{VType}
 use Rattle.kilim_classes.specs.declared.verified.VType.TheVariants.{Top, Int, Long, Null, UninitThis, Uninit, Object}
 use Rattle.kilim_classes.specs.Program.{Program}
-use Rattle.kilim_program.specs.Machine.{Objects, Activation}
-use Rattle.kilim_program.specs.Natives.{Native}
-use Rattle.kilim_program.specs.Effect.{Goes, Calls}
-use Rattle.kilim_program.specs.Does.{does}
-use Rattle.kilim_program.specs.Moves.{slots_of, entered, frame_limit}
+use Rattle.kilim_classes.specs.machine.Machine.{Objects, Activation}
+use Rattle.kilim_classes.specs.machine.Natives.{Native}
+use Rattle.kilim_classes.specs.machine.Effect.{Goes, Calls}
+use Rattle.kilim_classes.specs.machine.Does.{does}
+use Rattle.kilim_classes.specs.machine.Moves.{slots_of, entered, frame_limit}
 use Rattle.kilim_classes.specs.Same.{argument_slots}
 use Rattle.kilim_thread_model.specs.State.{Setting}
 use Rattle.kilim_typing.specs.Step.{vtype}
-use Rattle.kilim_woven_form.specs.Woven.{Plan, Item, member, fiber_slot, added, pausable_callee, below, saved, receiver, receiver_of, restore_receiver, restore_stack, dummies, dummy_of, resume_code}
+use Rattle.kilim_typing.specs.woven_form.Woven.{Plan, Item, member, fiber_slot, added, pausable_callee, below, saved, receiver, receiver_of, restore_receiver, restore_stack, dummies, dummy_of, resume_code}
 use Rattle.kilim_woven_runs.specs.Acts.{World, ending}
 use Rattle.kilim_woven_runs.specs.Thread.{fetch, own_of}
-use Rattle.kilim_program.specs.Natives.{Down, Receiver}
+use Rattle.kilim_classes.specs.machine.Natives.{Down, Receiver}
 use Rattle.kilim_woven_runs.specs.Fibers.{Fib, Fiber_at, Rec, Saved, is_rewinding, Woven_state, WRun, WStop, frame}
 use Rattle.kilim_woven_runs.specs.Form.{Facts, HasAt, Among_slots, Members, longest}
 use Rattle.kilim_woven_runs.specs.Rows.{handed, OldHeap, IsClean}
 use Rattle.kilim_woven_runs.specs.Links.{kept_stack, kept_slots, dummy_value, with_dummies, with_receiver, again, RefFits, AllFit, SlotsFit, Link, Lk, method_of, self_of_link, left_overs, rev_onto, bare, bares, Target, Inner, Leaf, Forms, code, plan_of, w_frames, record_of, first_record, next_records, Good, Goods, Takes, ReceiverFits, Fit, Chained, entering, at_leaf}
-use Rattle.kilim_typing_laws.specs.fits.Fits.{AreThere}
+use Rattle.kilim_typing.specs.typing_laws.fits.Fits.{AreThere}
 use Rattle.kilim_weaving_laws.proofs.simulation.Still.{StepIsKnown}
 use Rattle.kilim_jvm_interp.specs.Step.{stack_limit}
 use Rattle.kilim_weaving_laws.proofs.simulation.Held.{all_there, dummies_there, dummy_there, ref_there}

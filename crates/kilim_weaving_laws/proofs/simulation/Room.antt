@@ -10,14 +10,14 @@ use Rattle.kilim_classes.specs.declared.value.Value.TheVariants as value
 use Rattle.kilim_classes.specs.Lengths.{fetched, first_place}
 use Rattle.kilim_classes.specs.Names.{◌>>=◌, method_at}
 use Rattle.kilim_classes.specs.Program.{Program}
-use Rattle.kilim_typing_laws.specs.fits.Fits.{AreThere, IsThere}
+use Rattle.kilim_typing.specs.typing_laws.fits.Fits.{AreThere, IsThere}
 use Rattle.kilim_jvm_interp.specs.Step.{FitsStack}
-use Rattle.kilim_program.specs.Does.{does}
-use Rattle.kilim_program.specs.declared.value.Object.{Object}
-use Rattle.kilim_program.specs.Members.{execute_of}
-use Rattle.kilim_program.specs.Effect.{Effect}
-use Rattle.kilim_program.specs.Machine.{Activation}
-use Rattle.kilim_program.specs.Moves.{effect_found, effect_in, effect_of}
+use Rattle.kilim_classes.specs.machine.Does.{does}
+use Rattle.kilim_classes.specs.declared.machine.value.Object.{Object}
+use Rattle.kilim_classes.specs.machine.Members.{execute_of}
+use Rattle.kilim_classes.specs.machine.Effect.{Effect}
+use Rattle.kilim_classes.specs.machine.Machine.{Activation}
+use Rattle.kilim_classes.specs.machine.Moves.{effect_found, effect_in, effect_of}
 use Rattle.kilim_rows.specs.Outcome.{is_stuck}
 use Rattle.kilim_thread_model.specs.State.{Setting, class_of}
 use Rattle.kilim_woven_runs.specs.Acts.{Lost, World}

@@ -2,20 +2,20 @@
 use Rattle.std.proofs.Common.{◌≡◌, ◌≢◌, ◌⊎◌, inl, inr, ℕ, zero, suc, ◌+◌, ◌*◌, ◌≤◌, Bool, true, false, List, [], ◌∷◌, length, Option, Some, None, refl, sym, ap, subst, ◌∙◌, arith}
 use Rattle.std.specs.Prelude.{nat_le, nat_lt, if◌then◌else◌}
 use Rattle.std.proofs.lemmas.Bool.{false≢true}
-use Rattle.kilim_program.specs.declared.cause.EndCause.{EndCause}
-use Rattle.kilim_program.specs.declared.cause.EndCause.TheVariants as cause
+use Rattle.kilim_classes.specs.declared.machine.cause.EndCause.{EndCause}
+use Rattle.kilim_classes.specs.declared.machine.cause.EndCause.TheVariants as cause
 use Rattle.kilim_classes.specs.declared.class.Method.{Method}
 use Rattle.kilim_classes.specs.declared.instr.Instr.{Instr}
 use Rattle.kilim_classes.specs.declared.names.MethodId.{MethodId}
 use Rattle.kilim_classes.specs.declared.value.Value.{Value}
 use Rattle.kilim_classes.specs.Program.{Program}
-use Rattle.kilim_program.specs.Machine.{Activation}
+use Rattle.kilim_classes.specs.machine.Machine.{Activation}
 use Rattle.kilim_classes.specs.Names.{method_at}
-use Rattle.kilim_program.specs.Members.{execute_of}
-use Rattle.kilim_program.specs.Natives.{Native, native_of}
-use Rattle.kilim_program.specs.Effect.{Effect, Goes, Makes, Opens, Calls, Asks, Returns, Raises, Ends, Stuck}
-use Rattle.kilim_program.specs.Does.{does}
-use Rattle.kilim_program.specs.Moves.{frame_limit}
+use Rattle.kilim_classes.specs.machine.Members.{execute_of}
+use Rattle.kilim_classes.specs.machine.Natives.{Native, native_of}
+use Rattle.kilim_classes.specs.machine.Effect.{Effect, Goes, Makes, Opens, Calls, Asks, Returns, Raises, Ends, Stuck}
+use Rattle.kilim_classes.specs.machine.Does.{does}
+use Rattle.kilim_classes.specs.machine.Moves.{frame_limit}
 use Rattle.kilim_thread_model.specs.State.{Setting}
 use Rattle.kilim_woven_runs.specs.Acts.{World, Over, Lost, counted, with_heap, ending, native_does, asks, opens_box}
 use Rattle.kilim_woven_runs.specs.Thread.{fetch, push, Frame, At, Thread, Run, Stop, step, found_does, effect_does, finishes, begins, begins_in, own_of}
@@ -33,7 +33,7 @@ use Rattle.kilim_woven_runs.specs.Runs.{ComesToRest, IsMark, Soon}
 use Rattle.kilim_woven_runs.specs.Serves.{Serves}
 use Rattle.kilim_weaving_laws.proofs.simulation.Still.{StepIsKnown, comes_to_rest}
 use Rattle.kilim_weaving_laws.proofs.simulation.Room.{StackIsThere, is_fine}
-use Rattle.kilim_typing_laws.specs.fits.Fits.{AreThere}
+use Rattle.kilim_typing.specs.typing_laws.fits.Fits.{AreThere}
 use Rattle.kilim_woven_runs.specs.Rooms.{IsFineState}
 use Rattle.kilim_weaving_laws.proofs.simulation.Forward.{calm, Match, Goes_on, Overs}
 use Rattle.kilim_weaving_laws.proofs.simulation.Whole as whole

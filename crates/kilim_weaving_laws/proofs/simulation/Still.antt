@@ -1,14 +1,14 @@
 -- While a fiber pauses, nothing changes but its frames and its records; and so it comes to rest.
 use Rattle.std.proofs.Common.{◌≡◌, ◌≢◌, inl, inr, ℕ, zero, suc, ◌+◌, ◌≤◌, Bool, true, false, List, [], ◌∷◌, Option, Some, None, refl, sym, ap, subst, ◌∙◌, arith}
 use Rattle.std.specs.Prelude.{if◌then◌else◌, pos}
-use Rattle.kilim_program.specs.declared.cause.EndCause.TheVariants as cause
+use Rattle.kilim_classes.specs.declared.machine.cause.EndCause.TheVariants as cause
 use Rattle.std.proofs.lemmas.Option.{same_Some}
 use Rattle.kilim_classes.specs.declared.names.MethodId.{MethodId}
 use Rattle.kilim_classes.specs.declared.value.Value.{Value}
 use Rattle.kilim_classes.specs.declared.value.Value.TheVariants as value
 use Rattle.kilim_classes.specs.Program.{Program}
-use Rattle.kilim_program.specs.Machine.{Activation}
-use Rattle.kilim_program.specs.Natives.{FiberMember, Pc, Down, Up, Save, Place, Restore, Receiver}
+use Rattle.kilim_classes.specs.machine.Machine.{Activation}
+use Rattle.kilim_classes.specs.machine.Natives.{FiberMember, Pc, Down, Up, Save, Place, Restore, Receiver}
 use Rattle.kilim_thread_model.specs.State.{Setting}
 use Rattle.kilim_woven_runs.specs.Acts.{Lost, World, ending}
 use Rattle.kilim_woven_runs.specs.Fibers.{Fib, Fiber_at, Saved, Woven_state, WRun, Resting, WStop, is_pausing, member_does, wfinishes, wreturns, wstep, wsteps}

@@ -9,18 +9,18 @@ use Rattle.kilim_classes.specs.declared.value.Value.TheVariants as value
 use Rattle.kilim_classes.specs.declared.verified.VType.{VType}
 use Rattle.kilim_classes.specs.declared.verified.VType.TheVariants.{Top, Int, Long, Null, UninitThis, Uninit, Object}
 use Rattle.kilim_classes.specs.Program.{Program}
-use Rattle.kilim_program.specs.Machine.{Activation}
-use Rattle.kilim_program.specs.Effect.{Goes, Asks, is_wide}
-use Rattle.kilim_program.specs.Does.{does}
+use Rattle.kilim_classes.specs.machine.Machine.{Activation}
+use Rattle.kilim_classes.specs.machine.Effect.{Goes, Asks, is_wide}
+use Rattle.kilim_classes.specs.machine.Does.{does}
 use Rattle.kilim_thread_model.specs.State.{Setting}
-use Rattle.kilim_woven_form.specs.Woven.{load_fiber, calls_static, Plan, Item, member, fiber_slot, save, save_stack, save_local, save_locals}
+use Rattle.kilim_typing.specs.woven_form.Woven.{load_fiber, calls_static, Plan, Item, member, fiber_slot, save, save_stack, save_local, save_locals}
 use Rattle.kilim_woven_runs.specs.Acts.{World, Lost}
 use Rattle.kilim_woven_runs.specs.Thread.{push, own_of}
-use Rattle.kilim_program.specs.Natives.{FiberMember, Save}
+use Rattle.kilim_classes.specs.machine.Natives.{FiberMember, Save}
 use Rattle.kilim_woven_runs.specs.Fibers.{Fib, Fiber_at, Rec, Saved, is_rewinding, member_of, member_does, Woven_state, WRun, WStop}
 use Rattle.kilim_woven_runs.specs.Form.{Facts, HasAt, Members, members_in_order}
 use Rattle.kilim_woven_runs.specs.Links.{kept_one, kept_stack, kept_slots, value_or, Fits, AllFit, SlotsFit, Forms, code, plan_of}
-use Rattle.kilim_typing_laws.specs.fits.Fits.{AreThere}
+use Rattle.kilim_typing.specs.typing_laws.fits.Fits.{AreThere}
 use Rattle.kilim_weaving_laws.proofs.simulation.Still.{StepIsKnown}
 use Rattle.kilim_jvm_interp.specs.Step.{stack_limit}
 use Rattle.kilim_weaving_laws.proofs.simulation.Held.{all_there, fit_there}

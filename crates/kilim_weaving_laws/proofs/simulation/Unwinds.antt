@@ -11,20 +11,20 @@ use Rattle.kilim_classes.specs.declared.value.Value.TheVariants as value
 use Rattle.kilim_classes.specs.declared.verified.VType.{VType}
 use Rattle.kilim_classes.specs.declared.verified.VType.TheVariants.{Int, Long}
 use Rattle.kilim_classes.specs.Program.{Program}
-use Rattle.kilim_program.specs.Machine.{Objects, Activation}
-use Rattle.kilim_program.specs.Natives.{Native}
-use Rattle.kilim_program.specs.Effect.{Goes, Returns, is_wide}
-use Rattle.kilim_program.specs.Does.{does}
+use Rattle.kilim_classes.specs.machine.Machine.{Objects, Activation}
+use Rattle.kilim_classes.specs.machine.Natives.{Native}
+use Rattle.kilim_classes.specs.machine.Effect.{Goes, Returns, is_wide}
+use Rattle.kilim_classes.specs.machine.Does.{does}
 use Rattle.kilim_thread_model.specs.State.{Setting}
 use Rattle.kilim_typing.specs.Step.{is_long, vtype}
-use Rattle.kilim_woven_form.specs.Woven.{local_size, Plan, Item, member, self_slot, load_fiber, calls_static, added, below, saved, save_locals, drop_result, leave, number_item, self_item, dummy_return, dummy_of, return_of, pop_of}
+use Rattle.kilim_typing.specs.woven_form.Woven.{local_size, Plan, Item, member, self_slot, load_fiber, calls_static, added, below, saved, save_locals, drop_result, leave, number_item, self_item, dummy_return, dummy_of, return_of, pop_of}
 use Rattle.kilim_woven_runs.specs.Acts.{World, Lost}
 use Rattle.kilim_woven_runs.specs.Thread.{push, own_of}
-use Rattle.kilim_program.specs.Natives.{Up, Place}
+use Rattle.kilim_classes.specs.machine.Natives.{Up, Place}
 use Rattle.kilim_woven_runs.specs.Fibers.{Fib, Fiber_at, Rec, Saved, is_rewinding, Woven_state, WRun, WStop, wreturns, wfinishes}
 use Rattle.kilim_woven_runs.specs.Form.{Facts, HasAt, Among_slots, Members, longest}
 use Rattle.kilim_woven_runs.specs.Links.{kept_stack, kept_slots, dummy_value, AllFit, SlotsFit, Drops, Link, Lk, method_of, self_of_link, left_overs, rev_onto, Target, Inner, Leaf, Forms, code, plan_of, w_frames, record_of, first_record, next_records, Holds, Good, Goods, Fit, AreReady, target_of, receiver_at, Chained, unwinding, at_rest}
-use Rattle.kilim_typing_laws.specs.fits.Fits.{AreThere, IsThere}
+use Rattle.kilim_typing.specs.typing_laws.fits.Fits.{AreThere, IsThere}
 use Rattle.kilim_weaving_laws.proofs.simulation.Still.{StepIsKnown, return_still}
 use Rattle.kilim_jvm_interp.specs.Step.{CallerFits, stack_limit}
 use Rattle.kilim_weaving_laws.proofs.simulation.Held.{MaybeThere, all_there, dummy_there, pushed_there}

@@ -2,19 +2,19 @@
 use Rattle.std.proofs.Common.{◌≡◌, inl, inr, ℕ, zero, suc, ◌+◌, ◌*◌, ◌≤◌, Bool, true, false, List, [], ◌∷◌, Option, Some, None, refl, sym, ap, subst, ◌∙◌, arith}
 use Rattle.std.specs.Prelude.{nat_le, if◌then◌else◌}
 use Rattle.std.proofs.lemmas.Bool.{false≢true}
-use Rattle.kilim_program.specs.declared.cause.EndCause.TheVariants as cause
+use Rattle.kilim_classes.specs.declared.machine.cause.EndCause.TheVariants as cause
 use Rattle.kilim_classes.specs.declared.class.Method.{Method}
 use Rattle.kilim_classes.specs.declared.instr.Instr.{Instr}
 use Rattle.kilim_classes.specs.declared.names.MethodId.{MethodId}
 use Rattle.kilim_classes.specs.declared.value.Value.{Value}
 use Rattle.kilim_classes.specs.Program.{Program}
-use Rattle.kilim_program.specs.Effect.{Effect, Goes, Makes, Opens, Calls, Asks, Returns, Raises, Ends, Stuck}
-use Rattle.kilim_program.specs.Machine.{Activation, Objects}
-use Rattle.kilim_program.specs.Natives.{FiberMember, Native}
-use Rattle.kilim_program.specs.Does.{does}
+use Rattle.kilim_classes.specs.machine.Effect.{Effect, Goes, Makes, Opens, Calls, Asks, Returns, Raises, Ends, Stuck}
+use Rattle.kilim_classes.specs.machine.Machine.{Activation, Objects}
+use Rattle.kilim_classes.specs.machine.Natives.{FiberMember, Native}
+use Rattle.kilim_classes.specs.machine.Does.{does}
 use Rattle.kilim_rows.specs.Outcome.{is_stuck}
 use Rattle.kilim_thread_model.specs.State.{Setting}
-use Rattle.kilim_woven_form.specs.Woven.{pausable_callee, moved_instr}
+use Rattle.kilim_typing.specs.woven_form.Woven.{pausable_callee, moved_instr}
 use Rattle.kilim_woven_runs.specs.Acts.{World, Over, ending, spending}
 use Rattle.kilim_woven_runs.specs.Thread.{fetch, Thread, Run, Stop, step, found_does, effect_does, own_of}
 use Rattle.kilim_woven_runs.specs.Fibers.{Fib, Fiber_at, Saved, Woven_state, WRun, Resting, WStop, wstep, weffect, member_of}
@@ -28,7 +28,7 @@ use Rattle.kilim_weaving_laws.proofs.simulation.Paths as path
 use Rattle.kilim_woven_runs.specs.Thread.{steps, own_of}
 use Rattle.kilim_woven_runs.specs.Rooms.{GivesWhole, HasRoom, bare_frames}
 use Rattle.kilim_thread_model.specs.Kept.{given}
-use Rattle.kilim_typing_laws.specs.fits.Fits.{AreThere}
+use Rattle.kilim_typing.specs.typing_laws.fits.Fits.{AreThere}
 use Rattle.kilim_weaving_laws.proofs.simulation.Still.{StepIsKnown}
 use Rattle.kilim_woven_runs.specs.fiber_kin.Served.{gives_value}
 use Rattle.kilim_jvm_interp.specs.Step.{CallerFits}

@@ -15,24 +15,24 @@ use Rattle.kilim_classes.specs.Lengths.{code_ends, code_stands, targets_stand, f
 use Rattle.kilim_classes.specs.Names.{is_empty, method_at}
 use Rattle.kilim_classes.specs.Program.{Program}
 use Rattle.kilim_classes.specs.Same.{argument_slots}
-use Rattle.kilim_program.specs.Moves.{slots_in}
+use Rattle.kilim_classes.specs.machine.Moves.{slots_in}
 use Rattle.kilim_thread_model.specs.State.{Setting}
 use Rattle.kilim_typing.specs.Step.{class_vtype, is_top, peek}
 use Rattle.kilim_typing.specs.Typed.{IsLive, IsWellTyped, WellTypedBy, frame_among, frames_of, has_code, no_types, typing_of}
-use Rattle.kilim_typing_laws.proofs.fits.FromKeeps.{all_at}
-use Rattle.kilim_woven_form.specs.Form.{AllWoven, IsWoven, WovenForm, all_counted, first_class, has_calls, plan_of, woven_as}
-use Rattle.kilim_woven_form.specs.Weight.{calls_in, one_more}
-use Rattle.kilim_woven_form.specs.Woven.{fiber, Does, IsWovenBy, Item, Mark, Plan, behind, fiber_slot, larger, lay, marks, moved_instr, moved_pairs, pausable_callee, woven_items}
-use Rattle.kilim_woven_form.specs.woven_types.Facts.{CallsNone}
-use Rattle.kilim_woven_form.proofs.woven_types.Codes.{whole_code}
-use Rattle.kilim_woven_form.proofs.woven_types.Flow.{is_larger}
-use Rattle.kilim_woven_form.proofs.woven_types.Laying.{Grows, Sound, items_sound}
-use Rattle.kilim_woven_form.proofs.woven_types.OldFacts.{GrowsTo}
-use Rattle.kilim_woven_form.specs.woven_programs.Law.{KeepsPauses}
-use Rattle.kilim_woven_form.proofs.woven_programs.Frames.{by_place}
-use Rattle.kilim_woven_form.proofs.woven_programs.Theorem.{woven_programs}
-use Rattle.kilim_woven_form.specs.woven_programs.keeps.Law.{NoneIsTooLong}
-use Rattle.kilim_woven_form.proofs.woven_programs.keeps.Lengths.{reach_is}
+use Rattle.kilim_typing.proofs.typing_laws.fits.FromKeeps.{all_at}
+use Rattle.kilim_typing.specs.woven_form.Form.{AllWoven, IsWoven, WovenForm, all_counted, first_class, has_calls, plan_of, woven_as}
+use Rattle.kilim_typing.specs.woven_form.Weight.{calls_in, one_more}
+use Rattle.kilim_typing.specs.woven_form.Woven.{fiber, Does, IsWovenBy, Item, Mark, Plan, behind, fiber_slot, larger, lay, marks, moved_instr, moved_pairs, pausable_callee, woven_items}
+use Rattle.kilim_typing.specs.woven_form.woven_types.Facts.{CallsNone}
+use Rattle.kilim_typing.proofs.woven_form.woven_types.Codes.{whole_code}
+use Rattle.kilim_typing.proofs.woven_form.woven_types.Flow.{is_larger}
+use Rattle.kilim_typing.proofs.woven_form.woven_types.Laying.{Grows, Sound, items_sound}
+use Rattle.kilim_typing.proofs.woven_form.woven_types.OldFacts.{GrowsTo}
+use Rattle.kilim_typing.specs.woven_form.woven_programs.Law.{KeepsPauses}
+use Rattle.kilim_typing.proofs.woven_form.woven_programs.Frames.{by_place}
+use Rattle.kilim_typing.proofs.woven_form.woven_programs.Theorem.{woven_programs}
+use Rattle.kilim_typing.specs.woven_form.woven_programs.keeps.Law.{NoneIsTooLong}
+use Rattle.kilim_typing.proofs.woven_form.woven_programs.keeps.Lengths.{reach_is}
 use Rattle.kilim_woven_runs.specs.Fibers.{marked, marks_of, wcode_in}
 use Rattle.kilim_woven_runs.specs.Form.{Facts, Form, longest, sets}
 use Rattle.kilim_woven_runs.specs.Links.{code}

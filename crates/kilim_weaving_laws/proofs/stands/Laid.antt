@@ -11,7 +11,7 @@ use Rattle.kilim_classes.specs.declared.verified.VType.{VType}
 use Rattle.kilim_classes.specs.declared.verified.VType.TheVariants.{Int, Long, Null, Object}
 use Rattle.kilim_classes.specs.Lengths.{ends_path}
 use Rattle.kilim_classes.specs.Lengths.{first_place, fetched}
-use Rattle.kilim_woven_form.specs.Woven.{store_of, local_size, self_slot, Plan, Item, Mark, Does, added, lay, behind, marks, label_stands, Labelled, save, save_stack, save_local, save_locals, restore, restore_stack, restore_local, restore_locals, number_item, self_item, load_fiber, calls_static, dummy_return, drop_result, leave, group, piece, pieces, block, blocks, count, pausable_callee, dummies, receiver_of, restore_receiver, resume_code, below, saved, receiver}
+use Rattle.kilim_typing.specs.woven_form.Woven.{store_of, local_size, self_slot, Plan, Item, Mark, Does, added, lay, behind, marks, label_stands, Labelled, save, save_stack, save_local, save_locals, restore, restore_stack, restore_local, restore_locals, number_item, self_item, load_fiber, calls_static, dummy_return, drop_result, leave, group, piece, pieces, block, blocks, count, pausable_callee, dummies, receiver_of, restore_receiver, resume_code, below, saved, receiver}
 use Rattle.kilim_woven_runs.specs.Fibers.{marked}
 use Rattle.kilim_woven_runs.specs.Form.{HasAt}
 

@@ -15,12 +15,12 @@ use Rattle.kilim_classes.specs.Program.{Program}
 use Rattle.kilim_classes.specs.Same.{argument_slots, is_constructor, type_slots}
 use Rattle.kilim_typing.specs.Step.{Types, Is, peek, poke, is_top, meets, row, size, store, stored, split_long, vtype, class_vtype}
 use Rattle.kilim_typing.specs.Typed.{Among, GoesOn, Here, IsLive, Live, ReadsIt, TypedBy, WellTypedBy, declared, edges, entry, param_slots, reads, slots_of_type, this_types, writes}
-use Rattle.kilim_typing_laws.specs.Laws.{Arrives}
-use Rattle.kilim_typing_laws.proofs.Edges.{edges_flow, stands_at}
-use Rattle.kilim_typing_laws.proofs.Lives.{live_is_typed}
-use Rattle.kilim_typing_laws.proofs.Rooms.{size_is}
-use Rattle.kilim_typing_laws.proofs.Tops.{passed, read_has_type, top_flows, top_stays}
-use Rattle.kilim_woven_form.specs.Woven.{pausable_callee, saved_from}
+use Rattle.kilim_typing.specs.typing_laws.Laws.{Arrives}
+use Rattle.kilim_typing.proofs.typing_laws.Edges.{edges_flow, stands_at}
+use Rattle.kilim_typing.proofs.typing_laws.Lives.{live_is_typed}
+use Rattle.kilim_typing.proofs.typing_laws.Rooms.{size_is}
+use Rattle.kilim_typing.proofs.typing_laws.Tops.{passed, read_has_type, top_flows, top_stays}
+use Rattle.kilim_typing.specs.woven_form.Woven.{pausable_callee, saved_from}
 use Rattle.kilim_woven_runs.specs.Form.{Among_slots, sets}
 
 none_is : {A : Type 0} (a : A) → None ≡ Some a → ⊥

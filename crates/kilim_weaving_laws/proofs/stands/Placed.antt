@@ -6,13 +6,13 @@ use Rattle.kilim_classes.specs.declared.instr.Instr.{Instr}
 use Rattle.kilim_classes.specs.declared.instr.Instr.TheVariants as instr
 use Rattle.kilim_classes.specs.Program.{Program}
 use Rattle.kilim_classes.specs.Lengths.{fetched}
-use Rattle.kilim_woven_form.specs.Woven.{local_size, self_slot, Plan, Item, added, lay, behind, load_fiber, calls_member, drop_result, leave, piece, pieces, blocks, pausable_callee, resume_code}
+use Rattle.kilim_typing.specs.woven_form.Woven.{local_size, self_slot, Plan, Item, added, lay, behind, load_fiber, calls_member, drop_result, leave, piece, pieces, blocks, pausable_callee, resume_code}
 use Rattle.kilim_woven_runs.specs.Fibers.{marked}
 use Rattle.kilim_woven_runs.specs.Form.{HasAt}
 use Rattle.kilim_classes.specs.declared.names.MethodId.{MethodId}
 use Rattle.kilim_classes.specs.Names.{method_at}
 use Rattle.kilim_typing.specs.Step.{Types}
-use Rattle.kilim_woven_form.specs.Woven.{IsWovenBy, woven_items, member, fiber_slot, switch_item}
+use Rattle.kilim_typing.specs.woven_form.Woven.{IsWovenBy, woven_items, member, fiber_slot, switch_item}
 use Rattle.kilim_woven_runs.specs.Thread.{code_in, fetch}
 use Rattle.kilim_woven_runs.specs.Fibers.{wcode_in}
 use Rattle.kilim_woven_runs.specs.Form.{Form, Stays, Starts}

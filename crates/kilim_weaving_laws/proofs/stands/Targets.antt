@@ -4,9 +4,9 @@ use Rattle.std.specs.Prelude.{slice_get, if◌then◌else◌, ◌==◌, is_some,
 use Rattle.std.proofs.lemmas.Bool.Decides.{eqb_tells}
 use Rattle.kilim_classes.specs.declared.class.Method.{Method}
 use Rattle.kilim_classes.specs.declared.instr.Instr.{Instr}
-use Rattle.kilim_program.specs.Does.{table_target, target_or}
+use Rattle.kilim_classes.specs.machine.Does.{table_target, target_or}
 use Rattle.kilim_classes.specs.Lengths.{first_place, fetched}
-use Rattle.kilim_woven_form.specs.Woven.{Plan, pausable_callee, count, resume_places}
+use Rattle.kilim_typing.specs.woven_form.Woven.{Plan, pausable_callee, count, resume_places}
 use Rattle.kilim_weaving_laws.proofs.stands.Laid.{number_at}
 
 at_least : (n : ℕ) → 1 ≤ n → nat_lt n 1 ≡ false

@@ -3,9 +3,9 @@ use Rattle.std.proofs.Common.{◌≡◌, ℕ, Bool, false, not, List, [], ◌∷
 use Rattle.std.specs.Prelude.{◌&&◌, nat_le}
 use Rattle.kilim_classes.specs.declared.instr.Instr.{Instr}
 use Rattle.kilim_classes.specs.Program.{Program}
-use Rattle.kilim_program.specs.Machine.{Activation}
+use Rattle.kilim_classes.specs.machine.Machine.{Activation}
 use Rattle.kilim_thread_model.specs.State.{Setting}
-use Rattle.kilim_kin.specs.Kin.{FramesKin}
+use Rattle.kilim_thread_model.specs.kin.Kin.{FramesKin}
 use Rattle.kilim_jvm_interp.specs.Run.{IsFine}
 use Rattle.kilim_woven_runs.proofs.fiber_kin.Fine.{fine_kin}
 use Rattle.kilim_woven_runs.specs.Fibers.{wfetch}

@@ -11,29 +11,29 @@ use Rattle.kilim_classes.specs.declared.ty.Ty.{Ty}
 use Rattle.kilim_classes.specs.declared.value.Value.{Value}
 use Rattle.kilim_classes.specs.declared.value.Value.TheVariants.{Int, Long, Null, Ref, Text, Box, Fiber}
 use Rattle.kilim_classes.specs.Names.{◌>>=◌, method_at}
-use Rattle.kilim_program.specs.declared.cause.EndCause.{EndCause}
-use Rattle.kilim_program.specs.declared.cause.EndCause.TheVariants as cause
-use Rattle.kilim_program.specs.declared.value.Object.{Object}
-use Rattle.kilim_program.specs.declared.value.Token.{Token}
-use Rattle.kilim_program.specs.Machine.{Objects, Activation}
-use Rattle.kilim_program.specs.Members.{execute_of}
-use Rattle.kilim_program.specs.Moves.{Move, moves, entered, push_value, push_result}
-use Rattle.kilim_program.specs.Moves as move
-use Rattle.kilim_program.specs.Natives.{Native, FiberMember, Pc, Down, Up, Save, Place, Restore, Receiver, native_of}
-use Rattle.kilim_program.specs.Natives as native
-use Rattle.kilim_program.specs.Shapes.{shape_of}
-use Rattle.kilim_program.specs.Trees.{Root, OfMessage, OfTask}
+use Rattle.kilim_classes.specs.declared.machine.cause.EndCause.{EndCause}
+use Rattle.kilim_classes.specs.declared.machine.cause.EndCause.TheVariants as cause
+use Rattle.kilim_classes.specs.declared.machine.value.Object.{Object}
+use Rattle.kilim_classes.specs.declared.machine.value.Token.{Token}
+use Rattle.kilim_classes.specs.machine.Machine.{Objects, Activation}
+use Rattle.kilim_classes.specs.machine.Members.{execute_of}
+use Rattle.kilim_classes.specs.machine.Moves.{Move, moves, entered, push_value, push_result}
+use Rattle.kilim_classes.specs.machine.Moves as move
+use Rattle.kilim_classes.specs.machine.Natives.{Native, FiberMember, Pc, Down, Up, Save, Place, Restore, Receiver, native_of}
+use Rattle.kilim_classes.specs.machine.Natives as native
+use Rattle.kilim_classes.specs.machine.Shapes.{shape_of}
+use Rattle.kilim_classes.specs.machine.Trees.{Root, OfMessage, OfTask}
 use Rattle.kilim_thread_model.specs.State.{Setting, class_of}
 use Rattle.kilim_thread_model.specs.Lone.{box_limit, printed, arg_at}
 use Rattle.kilim_thread_model.specs.Kept.{given}
-use Rattle.kilim_kin.specs.Kin.{Names, IsKin, AreKin, FramesKin, MaybeKin, NameKin, ObjectsKin, Alike, AreHeld, IsThere, StandsIn, MoveKin}
-use Rattle.kilim_kin.proofs.Kins.{kin_entered, kin_push, kin_result, frames_up, name_up}
-use Rattle.kilim_kin.proofs.Renamed.{renamed, number_of, are_is}
-use Rattle.kilim_kin.proofs.Rows.{rows_kin}
-use Rattle.kilim_kin.proofs.Moving.{moves_kin}
-use Rattle.kilim_kin.specs.trees.TreeKin.{IsWholeTree}
-use Rattle.kilim_kin.proofs.trees.Shaped.{shape_kin}
-use Rattle.kilim_one_heap.proofs.Nexts.{printed_same}
+use Rattle.kilim_thread_model.specs.kin.Kin.{Names, IsKin, AreKin, FramesKin, MaybeKin, NameKin, ObjectsKin, Alike, AreHeld, IsThere, StandsIn, MoveKin}
+use Rattle.kilim_thread_model.proofs.kin.Kins.{kin_entered, kin_push, kin_result, frames_up, name_up}
+use Rattle.kilim_thread_model.proofs.kin.Renamed.{renamed, number_of, are_is}
+use Rattle.kilim_thread_model.proofs.kin.Rows.{rows_kin}
+use Rattle.kilim_thread_model.proofs.kin.Moving.{moves_kin}
+use Rattle.kilim_thread_model.specs.kin.trees.TreeKin.{IsWholeTree}
+use Rattle.kilim_thread_model.proofs.kin.trees.Shaped.{shape_kin}
+use Rattle.kilim_thread_model.proofs.one_heap.Nexts.{printed_same}
 use Rattle.kilim_woven_runs.specs.fiber_kin.Mine.{all_mine}
 use Rattle.kilim_woven_runs.specs.fiber_kin.Acts.{is_making}
 use Rattle.kilim_woven_runs.proofs.fiber_kin.Added.{added, added_new, added_old, added_bound, alike_made}

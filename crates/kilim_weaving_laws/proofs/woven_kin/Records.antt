@@ -1,8 +1,8 @@
 -- Records under other names.
 use Rattle.std.proofs.Common.{◌≡◌, ℕ, List, ◌∷◌, Some, refl, []}
 use Rattle.kilim_classes.specs.declared.value.Value.{Value}
-use Rattle.kilim_kin.specs.Kin.{Names, IsKin}
-use Rattle.kilim_kin.proofs.Kins.{value_up, values_up}
+use Rattle.kilim_thread_model.specs.kin.Kin.{Names, IsKin}
+use Rattle.kilim_thread_model.proofs.kin.Kins.{value_up, values_up}
 use Rattle.kilim_woven_runs.specs.Fibers.{Fib, Fiber_at, Rec, Saved, first_receiver, is_pausing, is_rewinding, pausing, resumed, rewound}
 use Rattle.kilim_weaving_laws.specs.woven_kin.Alike.{RecordKin, RecordsKin, FibersKin}
 

@@ -2,16 +2,16 @@
 use Rattle.std.proofs.Common.{◌≡◌, ℕ, List, ◌∷◌, ◌++◌, Some, refl, sym, ◌∙◌, []}
 use Rattle.kilim_classes.specs.Program.{Program}
 use Rattle.kilim_classes.specs.declared.value.Value.TheVariants.{Ref}
-use Rattle.kilim_program.specs.declared.value.Object.{Object}
-use Rattle.kilim_program.specs.declared.value.Token.{Token}
-use Rattle.kilim_program.specs.Machine.{Objects, Activation}
-use Rattle.kilim_program.specs.Moves.{push_value}
-use Rattle.kilim_program.specs.Shapes.{shape_of}
-use Rattle.kilim_program.specs.Trees.{Root, built}
+use Rattle.kilim_classes.specs.declared.machine.value.Object.{Object}
+use Rattle.kilim_classes.specs.declared.machine.value.Token.{Token}
+use Rattle.kilim_classes.specs.machine.Machine.{Objects, Activation}
+use Rattle.kilim_classes.specs.machine.Moves.{push_value}
+use Rattle.kilim_classes.specs.machine.Shapes.{shape_of}
+use Rattle.kilim_classes.specs.machine.Trees.{Root, built}
 use Rattle.kilim_thread_model.specs.State.{Alive}
 use Rattle.kilim_thread_model.specs.Lone.{Lone}
-use Rattle.kilim_kin.specs.Kin.{Names, FramesKin}
-use Rattle.kilim_kin.proofs.Kins.{kin_push}
+use Rattle.kilim_thread_model.specs.kin.Kin.{Names, FramesKin}
+use Rattle.kilim_thread_model.proofs.kin.Kins.{kin_push}
 use Rattle.kilim_tree_move.specs.Moved.{TakenOut, PutIn}
 use Rattle.kilim_woven_runs.specs.fiber_kin.Mine.{all_mine}
 use Rattle.kilim_woven_runs.specs.fiber_kin.Held as held
@@ -20,7 +20,7 @@ use Rattle.kilim_woven_runs.specs.fiber_kin.Acts as acts
 use Rattle.kilim_woven_runs.proofs.fiber_kin.Left.{left_like}
 use Rattle.kilim_woven_runs.proofs.fiber_kin.Leaving.{out_sound}
 use Rattle.kilim_woven_runs.proofs.fiber_kin.Came.{received_like}
-use Rattle.kilim_kin.proofs.trees.Shaped.{shape_kin}
+use Rattle.kilim_thread_model.proofs.kin.trees.Shaped.{shape_kin}
 use Rattle.kilim_woven_runs.specs.Fibers.{Fib, Fiber_at, Rec, Saved}
 use Rattle.kilim_weaving_laws.specs.woven_kin.Standing.{Standing}
 use Rattle.kilim_weaving_laws.specs.woven_kin.Alike.{RecordKin, RecordsKin, FibersKin, IsLike, Like, Giving}

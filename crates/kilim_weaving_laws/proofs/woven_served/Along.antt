@@ -8,10 +8,10 @@ use Rattle.kilim_thread_model.specs.Course.{Course, lone_begun}
 use Rattle.kilim_thread_model.specs.Lone.{Lone}
 use Rattle.kilim_thread_model.specs.State.{Setting}
 use Rattle.kilim_weaving_laws.proofs.woven_served.accepted.Along.{form, known_at}
-use Rattle.kilim_woven_form.specs.Form.{WovenForm}
+use Rattle.kilim_typing.specs.woven_form.Form.{WovenForm}
 use Rattle.kilim_weaving_laws.proofs.woven_served.gives.Gives.{Hands, threads_hand}
 use Rattle.kilim_weaving_laws.specs.woven_served.gives.Law.{HandsOut}
-use Rattle.kilim_woven_form.specs.woven_programs.keeps.Law.{NoneIsTooLong}
+use Rattle.kilim_typing.specs.woven_form.woven_programs.keeps.Law.{NoneIsTooLong}
 use Rattle.kilim_weaving_laws.proofs.woven_served.ready.Whole.{again, course, few, is_form, serves_tasks, stands}
 use Rattle.kilim_weaving_laws.specs.woven_served.ready.Law.{MayBegin}
 use Rattle.kilim_woven_runs.specs.Acts.{Lost, Over}

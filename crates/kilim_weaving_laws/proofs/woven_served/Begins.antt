@@ -11,15 +11,15 @@ use Rattle.kilim_classes.specs.declared.ty.Ty.{Ty}
 use Rattle.kilim_classes.specs.declared.value.Value.TheVariants.{Null, Ref}
 use Rattle.kilim_classes.specs.Names.{◌>>=◌, class_at, is_task, method_at}
 use Rattle.kilim_classes.specs.Program.{Program}
-use Rattle.kilim_program.specs.declared.cause.EndCause.{EndCause}
-use Rattle.kilim_program.specs.declared.cause.EndCause.TheVariants as cause
-use Rattle.kilim_program.specs.declared.value.Object.{Object}
-use Rattle.kilim_program.specs.declared.value.Token.{Token}
-use Rattle.kilim_program.specs.Machine.{Objects}
-use Rattle.kilim_program.specs.Members.{constructor_of, execute_of, is_concrete, is_own_constructor}
-use Rattle.kilim_program.specs.Moves.{entered}
-use Rattle.kilim_program.specs.Objects.{new_object}
-use Rattle.kilim_program.specs.Trees.{OfTask, built, with_objects}
+use Rattle.kilim_classes.specs.declared.machine.cause.EndCause.{EndCause}
+use Rattle.kilim_classes.specs.declared.machine.cause.EndCause.TheVariants as cause
+use Rattle.kilim_classes.specs.declared.machine.value.Object.{Object}
+use Rattle.kilim_classes.specs.declared.machine.value.Token.{Token}
+use Rattle.kilim_classes.specs.machine.Machine.{Objects}
+use Rattle.kilim_classes.specs.machine.Members.{constructor_of, execute_of, is_concrete, is_own_constructor}
+use Rattle.kilim_classes.specs.machine.Moves.{entered}
+use Rattle.kilim_classes.specs.machine.Objects.{new_object}
+use Rattle.kilim_classes.specs.machine.Trees.{OfTask, built, with_objects}
 use Rattle.kilim_isolation_laws.specs.Laws.{IsRunOfAccepted}
 use Rattle.kilim_thread_model.specs.declared.deed.Beginning.{Beginning}
 use Rattle.kilim_thread_model.specs.declared.deed.Beginning.TheVariants.{Boot, Begun}
@@ -29,7 +29,7 @@ use Rattle.kilim_thread_model.specs.Lone.{Lone}
 use Rattle.kilim_thread_model.specs.State.{Alive, Setting, begun_in, begun_on, class_of, execute_frames}
 use Rattle.kilim_weaving_laws.specs.simulation.beginnings.Law.{ServesAlong}
 use Rattle.kilim_weaving_laws.proofs.receivers.called.Begins as called
-use Rattle.kilim_woven_form.specs.Form.{WovenForm}
+use Rattle.kilim_typing.specs.woven_form.Form.{WovenForm}
 use Rattle.kilim_weaving_laws.proofs.woven_served.gives.Gives.{Hands}
 use Rattle.kilim_weaving_laws.proofs.woven_served.gives.Gives as gives
 use Rattle.kilim_weaving_laws.proofs.woven_served.ready.Executes.{execute_same}

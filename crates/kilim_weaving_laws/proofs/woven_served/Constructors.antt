@@ -11,11 +11,11 @@ use Rattle.kilim_classes.specs.declared.names.MethodId.{MethodId}
 use Rattle.kilim_classes.specs.Keeps.{Keeps}
 use Rattle.kilim_classes.specs.Names.{class_at, first_that, is_empty, method_at, methods_of}
 use Rattle.kilim_classes.specs.Program.{Program}
-use Rattle.kilim_program.specs.Members.{constructor_of, is_plain_method}
+use Rattle.kilim_classes.specs.machine.Members.{constructor_of, is_plain_method}
 use Rattle.kilim_weaving_laws.proofs.receivers.called.Called.{no_pause}
-use Rattle.kilim_woven_form.specs.Form.{WovenForm}
-use Rattle.kilim_woven_form.proofs.woven_programs.kinds.Lines as lines
-use Rattle.kilim_woven_form.proofs.woven_programs.Theorem as theorem
+use Rattle.kilim_typing.specs.woven_form.Form.{WovenForm}
+use Rattle.kilim_typing.proofs.woven_form.woven_programs.kinds.Lines as lines
+use Rattle.kilim_typing.proofs.woven_form.woven_programs.Theorem as theorem
 use Rattle.kilim_woven_runs.specs.Form.{is_pausable}
 use Rattle.kilim_weaving_laws.specs.woven_served.Served.{ConstructorIsSame}
 use Rattle.kilim_weaving_laws.proofs.stands.shares.Fibers as fibers_of

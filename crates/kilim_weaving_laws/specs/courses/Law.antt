@@ -6,18 +6,18 @@ use Rattle.kilim_classes.specs.declared.names.MethodId.{MethodId}
 use Rattle.kilim_classes.specs.declared.value.Value.{Value}
 use Rattle.kilim_classes.specs.Program.{Program}
 use Rattle.kilim_isolation_laws.specs.typed_threads.fine.Typed.{IsVerified}
-use Rattle.kilim_typing_laws.specs.fits.Fits.{Typing, Wanted}
-use Rattle.kilim_program.specs.Does.{does}
-use Rattle.kilim_program.specs.Effect.{Asks}
-use Rattle.kilim_program.specs.Machine.{Objects}
-use Rattle.kilim_program.specs.Natives.{Native, native_of}
+use Rattle.kilim_typing.specs.typing_laws.fits.Fits.{Typing, Wanted}
+use Rattle.kilim_classes.specs.machine.Does.{does}
+use Rattle.kilim_classes.specs.machine.Effect.{Asks}
+use Rattle.kilim_classes.specs.machine.Machine.{Objects}
+use Rattle.kilim_classes.specs.machine.Natives.{Native, native_of}
 use Rattle.kilim_thread_model.specs.declared.deed.Beginning.{Beginning}
 use Rattle.kilim_thread_model.specs.Course.{Course, IsLone, Quiet, lone_begun}
 use Rattle.kilim_thread_model.specs.Kept.{Kept}
 use Rattle.kilim_thread_model.specs.Lone.{Lone}
 use Rattle.kilim_thread_model.specs.Reach.{Liveness}
 use Rattle.kilim_thread_model.specs.State.{Setting, is_fit}
-use Rattle.kilim_woven_form.specs.Woven.{pausable_callee}
+use Rattle.kilim_typing.specs.woven_form.Woven.{pausable_callee}
 use Rattle.kilim_woven_runs.specs.lone.Law.{lone_at}
 use Rattle.kilim_woven_runs.specs.Acts.{Lost, World, asks, with_heap}
 use Rattle.kilim_woven_runs.specs.Links.{AllStand, AreReady, Forms, Leaf, Link, Lk, u_frames}

@@ -3,8 +3,8 @@ use Rattle.std.specs.Prelude.{◌≡◌, ℕ, true, List, [], ◌∷◌, Some}
 use Rattle.kilim_classes.specs.declared.names.MethodId.{MethodId}
 use Rattle.kilim_classes.specs.declared.value.Value.{Value}
 use Rattle.kilim_classes.specs.declared.value.Value.TheVariants.{Ref}
-use Rattle.kilim_typing_laws.specs.fits.Fits.{IsThere}
-use Rattle.kilim_program.specs.Machine.{Objects}
+use Rattle.kilim_typing.specs.typing_laws.fits.Fits.{IsThere}
+use Rattle.kilim_classes.specs.machine.Machine.{Objects}
 use Rattle.kilim_isolation_laws.specs.Laws.{IsRunOfAccepted}
 use Rattle.kilim_thread_model.specs.declared.deed.Beginning.{Beginning}
 use Rattle.kilim_thread_model.specs.Course.{lone_begun}

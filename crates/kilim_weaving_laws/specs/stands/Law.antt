@@ -10,9 +10,9 @@ use Rattle.kilim_classes.specs.Names.{method_at}
 use Rattle.kilim_classes.specs.Program.{Program}
 use Rattle.kilim_thread_model.specs.State.{Setting}
 use Rattle.kilim_typing.specs.Typed.{IsLive, IsWellTyped, typing_of}
-use Rattle.kilim_woven_form.specs.Form.{WovenForm}
-use Rattle.kilim_woven_form.specs.woven_programs.Law.{KeepsPauses}
-use Rattle.kilim_woven_form.specs.woven_programs.keeps.Law.{NoneIsTooLong}
+use Rattle.kilim_typing.specs.woven_form.Form.{WovenForm}
+use Rattle.kilim_typing.specs.woven_form.woven_programs.Law.{KeepsPauses}
+use Rattle.kilim_typing.specs.woven_form.woven_programs.keeps.Law.{NoneIsTooLong}
 use Rattle.kilim_woven_runs.specs.Form.{Facts, Form}
 use Rattle.kilim_woven_runs.specs.Links.{Forms, code}
 

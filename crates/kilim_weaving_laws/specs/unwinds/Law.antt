@@ -1,7 +1,7 @@
 -- A fiber that pauses wants nothing before it rests; and it comes to pause by itself only where it counts.
 use Rattle.std.specs.Prelude.{◌≡◌, ◌<◌, ◌≤◌, ℕ, Bool, true, false, List, ◌∷◌}
 use Rattle.kilim_classes.specs.Program.{Program}
-use Rattle.kilim_program.specs.Machine.{Activation}
+use Rattle.kilim_classes.specs.machine.Machine.{Activation}
 use Rattle.kilim_thread_model.specs.Course.{Course}
 use Rattle.kilim_thread_model.specs.State.{Setting}
 use Rattle.kilim_weaving_laws.specs.Fibers.{IsFiberOf}

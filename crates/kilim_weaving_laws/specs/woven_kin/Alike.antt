@@ -4,17 +4,17 @@ use Rattle.std.specs.Prelude.{◌≡◌, ◌<◌, ℕ, Bool, true, false, List, 
 use Rattle.std.specs.FinMap.{get}
 use Rattle.kilim_classes.specs.declared.instr.Instr.{Instr}
 use Rattle.kilim_classes.specs.Program.{Program}
-use Rattle.kilim_program.specs.declared.value.Token.{Token}
-use Rattle.kilim_program.specs.Machine.{Objects, Activation}
-use Rattle.kilim_program.specs.Moves.{Move, moves}
-use Rattle.kilim_program.specs.Moves as move
-use Rattle.kilim_program.specs.Natives.{native_of}
-use Rattle.kilim_program.specs.Shapes.{shape_of}
-use Rattle.kilim_program.specs.Trees.{Root, OfMessage, OfTask}
+use Rattle.kilim_classes.specs.declared.machine.value.Token.{Token}
+use Rattle.kilim_classes.specs.machine.Machine.{Objects, Activation}
+use Rattle.kilim_classes.specs.machine.Moves.{Move, moves}
+use Rattle.kilim_classes.specs.machine.Moves as move
+use Rattle.kilim_classes.specs.machine.Natives.{native_of}
+use Rattle.kilim_classes.specs.machine.Shapes.{shape_of}
+use Rattle.kilim_classes.specs.machine.Trees.{Root, OfMessage, OfTask}
 use Rattle.kilim_thread_model.specs.Kept.{given}
 use Rattle.kilim_thread_model.specs.State.{Setting}
-use Rattle.kilim_kin.specs.Kin.{Names, IsKin, AreKin, FramesKin, NameKin, Alike, AreHeld, IsThere}
-use Rattle.kilim_kin.specs.trees.TreeKin.{IsWholeTree}
+use Rattle.kilim_thread_model.specs.kin.Kin.{Names, IsKin, AreKin, FramesKin, NameKin, Alike, AreHeld, IsThere}
+use Rattle.kilim_thread_model.specs.kin.trees.TreeKin.{IsWholeTree}
 use Rattle.kilim_woven_runs.specs.fiber_kin.Mine.{all_mine}
 use Rattle.kilim_woven_runs.specs.fiber_kin.Acts.{is_making}
 use Rattle.kilim_woven_runs.specs.Fibers.{Fib, Fiber_at, Rec, Saved, is_rewinding, wfetch}

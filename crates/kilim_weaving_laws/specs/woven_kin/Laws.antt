@@ -2,11 +2,11 @@
 use Rattle.std.specs.Prelude.{◌≡◌, ◌+◌, ℕ, List, ◌∷◌, Some, length, false}
 use Rattle.kilim_classes.specs.declared.value.Value.TheVariants.{Ref}
 use Rattle.kilim_classes.specs.Program.{Program}
-use Rattle.kilim_program.specs.declared.value.Object.{Object}
-use Rattle.kilim_program.specs.declared.value.Token.{Token}
-use Rattle.kilim_program.specs.Machine.{Objects, Activation}
-use Rattle.kilim_program.specs.Moves.{push_value}
-use Rattle.kilim_program.specs.Trees.{Root, built, tree_names, without, with_objects}
+use Rattle.kilim_classes.specs.declared.machine.value.Object.{Object}
+use Rattle.kilim_classes.specs.declared.machine.value.Token.{Token}
+use Rattle.kilim_classes.specs.machine.Machine.{Objects, Activation}
+use Rattle.kilim_classes.specs.machine.Moves.{push_value}
+use Rattle.kilim_classes.specs.machine.Trees.{Root, built, tree_names, without, with_objects}
 use Rattle.kilim_thread_model.specs.State.{Setting}
 use Rattle.kilim_tree_move.specs.Moved.{TakenOut, PutIn}
 use Rattle.kilim_jvm_interp.specs.Run.{IsFine}

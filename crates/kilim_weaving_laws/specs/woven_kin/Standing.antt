@@ -1,6 +1,6 @@
 -- A woven fiber as it stands, but for what others decide.
 use Rattle.std.specs.Prelude.{ℕ, List, Option}
-use Rattle.kilim_program.specs.Machine.{Objects, Activation}
+use Rattle.kilim_classes.specs.machine.Machine.{Objects, Activation}
 use Rattle.kilim_woven_runs.specs.Fibers.{Fib}
 
 -- Its frames, the top first, none where it rests; what it keeps of frames in records; its heap, and the next object's name;

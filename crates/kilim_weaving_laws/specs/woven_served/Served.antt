@@ -7,8 +7,8 @@ use Rattle.kilim_classes.specs.declared.value.Value.TheVariants.{Ref}
 use Rattle.kilim_classes.specs.Keeps.{Keeps}
 use Rattle.kilim_classes.specs.Names.{class_at}
 use Rattle.kilim_classes.specs.Program.{Program}
-use Rattle.kilim_program.specs.declared.run.Limits.{Limits}
-use Rattle.kilim_program.specs.Members.{constructor_of, is_fit_main}
+use Rattle.kilim_classes.specs.declared.machine.run.Limits.{Limits}
+use Rattle.kilim_classes.specs.machine.Members.{constructor_of, is_fit_main}
 use Rattle.kilim_isolation_laws.specs.reached_objects.Laws.{AreLive}
 use Rattle.kilim_isolation_laws.specs.Laws.{IsRunOfAccepted}
 use Rattle.kilim_thread_model.specs.declared.deed.Beginning.{Beginning}
@@ -20,9 +20,9 @@ use Rattle.kilim_thread_model.specs.Reach.{Liveness}
 use Rattle.kilim_thread_model.specs.State.{Setting}
 use Rattle.kilim_typing.specs.Typed.{IsWellTyped}
 use Rattle.kilim_weaving_laws.specs.simulation.beginnings.Law.{StandsWith}
-use Rattle.kilim_woven_form.specs.Form.{WovenForm}
+use Rattle.kilim_typing.specs.woven_form.Form.{WovenForm}
 use Rattle.kilim_weaving_laws.specs.woven_served.gives.Law.{HandsOut}
-use Rattle.kilim_woven_form.specs.woven_programs.keeps.Law.{NoneIsTooLong}
+use Rattle.kilim_typing.specs.woven_form.woven_programs.keeps.Law.{NoneIsTooLong}
 use Rattle.kilim_weaving_laws.specs.woven_served.ready.Law.{FormServes}
 use Rattle.kilim_woven_runs.specs.Acts.{Lost, Over, World}
 use Rattle.kilim_woven_runs.specs.Fibers.{Fib, Resting, WStop, Woven_state, enter, executes_on, new_fiber, wstarted, wsteps}

@@ -6,11 +6,11 @@ use Rattle.kilim_classes.specs.Program.{Program}
 use Rattle.kilim_classes.specs.declared.names.BoxName.{BoxName}
 use Rattle.kilim_classes.specs.declared.value.Value.TheVariants.{Null, Ref}
 use Rattle.kilim_journal.specs.declared.entry.Act.TheVariants as act
-use Rattle.kilim_program.specs.Moves.{push_value}
-use Rattle.kilim_program.specs.Shapes.{shape_of}
-use Rattle.kilim_program.specs.Trees.{OfMessage}
-use Rattle.kilim_program.specs.declared.value.Object.{Object}
-use Rattle.kilim_program.specs.declared.value.Token.{Token}
+use Rattle.kilim_classes.specs.machine.Moves.{push_value}
+use Rattle.kilim_classes.specs.machine.Shapes.{shape_of}
+use Rattle.kilim_classes.specs.machine.Trees.{OfMessage}
+use Rattle.kilim_classes.specs.declared.machine.value.Object.{Object}
+use Rattle.kilim_classes.specs.declared.machine.value.Token.{Token}
 use Rattle.kilim_thread_model.specs.State.{Setting}
 use Rattle.kilim_thread_model.specs.Lone.{Lone}
 use Rattle.kilim_thread_model.specs.Course.{Course, plain, IsLone, stands_at}

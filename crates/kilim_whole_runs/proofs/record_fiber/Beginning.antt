@@ -4,16 +4,16 @@ use Rattle.std.specs.Prelude.{is_some}
 use Rattle.std.proofs.lemmas.Option.{same_Some, none-some}
 use Rattle.kilim_classes.specs.Program.{Program}
 use Rattle.kilim_classes.specs.declared.names.ClassId.{ClassId}
-use Rattle.kilim_program.specs.declared.value.Object.{Object}
-use Rattle.kilim_program.specs.declared.value.Token.{Token}
+use Rattle.kilim_classes.specs.declared.machine.value.Object.{Object}
+use Rattle.kilim_classes.specs.declared.machine.value.Token.{Token}
 use Rattle.kilim_thread_model.specs.declared.deed.Beginning.{Beginning}
 use Rattle.kilim_thread_model.specs.declared.deed.Beginning.TheVariants.{Boot, Begun}
 use Rattle.kilim_thread_model.specs.declared.deed.Deed.{Deed}
 use Rattle.kilim_thread_model.specs.Course.{Course, Follows, IsLone}
 use Rattle.kilim_thread_model.specs.Lone.{Lone}
 use Rattle.kilim_thread_model.specs.State.{Setting}
-use Rattle.kilim_program.specs.Trees.{OfTask}
-use Rattle.kilim_program.specs.Machine.{Activation}
+use Rattle.kilim_classes.specs.machine.Trees.{OfTask}
+use Rattle.kilim_classes.specs.machine.Machine.{Activation}
 use Rattle.kilim_machine_parts.specs.declared.frames.frames.Frames.{Frames}
 use Rattle.kilim_machine_parts.specs.frames.Calls.{activation, below_of}
 use Rattle.kilim_woven_runs.specs.fiber_kin.Acts.{IsSound}
@@ -26,8 +26,8 @@ use Rattle.kilim_weaving_laws.proofs.Begins.{first_begins, tasks_begin, tasks_en
 use Rattle.std.specs.FinMap.{empty, insert}
 use Rattle.kilim_classes.specs.declared.value.Value.TheVariants.{Ref}
 use Rattle.kilim_classes.specs.declared.value.Value.TheVariants as a_value
-use Rattle.kilim_program.specs.Members.{constructor_of}
-use Rattle.kilim_program.specs.Objects.{new_object}
+use Rattle.kilim_classes.specs.machine.Members.{constructor_of}
+use Rattle.kilim_classes.specs.machine.Objects.{new_object}
 use Rattle.kilim_woven_runs.specs.Fibers.{executes_on, new_fiber}
 use Rattle.kilim_weaving_laws.specs.woven_kin.Nexts.{begun_with}
 use Rattle.kilim_weaving_laws.specs.woven_kin.Standing.{Standing}

@@ -4,13 +4,13 @@ use Rattle.kilim_classes.specs.declared.names.BoxName.{BoxName}
 use Rattle.kilim_classes.specs.declared.names.MethodId.{MethodId}
 use Rattle.kilim_classes.specs.declared.value.Value.{Value}
 use Rattle.kilim_classes.specs.Program.{Program}
-use Rattle.kilim_program.specs.declared.value.Token.{Token}
-use Rattle.kilim_program.specs.Machine.{Objects, Activation}
-use Rattle.kilim_program.specs.Moves.{Move, moves}
-use Rattle.kilim_program.specs.Moves as move
-use Rattle.kilim_program.specs.Natives.{Native, native_of}
-use Rattle.kilim_program.specs.Natives as native
-use Rattle.kilim_program.specs.Trees.{Root}
+use Rattle.kilim_classes.specs.declared.machine.value.Token.{Token}
+use Rattle.kilim_classes.specs.machine.Machine.{Objects, Activation}
+use Rattle.kilim_classes.specs.machine.Moves.{Move, moves}
+use Rattle.kilim_classes.specs.machine.Moves as move
+use Rattle.kilim_classes.specs.machine.Natives.{Native, native_of}
+use Rattle.kilim_classes.specs.machine.Natives as native
+use Rattle.kilim_classes.specs.machine.Trees.{Root}
 use Rattle.kilim_thread_model.specs.Kept.{given}
 use Rattle.kilim_thread_model.specs.State.{Setting}
 use Rattle.kilim_thread_model.specs.Lone.{Lone, get_at}

@@ -5,11 +5,11 @@ use Rattle.kilim_classes.specs.declared.names.MethodId.{MethodId}
 use Rattle.kilim_classes.specs.declared.value.Value.{Value}
 use Rattle.kilim_classes.specs.Program.{Program}
 use Rattle.kilim_isolation_laws.specs.typed_threads.fine.Typed.{frames_of}
-use Rattle.kilim_kin.specs.Kin.{Names, FramesKin}
-use Rattle.kilim_one_heap.specs.Booked.{IsOf}
-use Rattle.kilim_program.specs.Machine.{Activation}
-use Rattle.kilim_program.specs.Natives.{Native}
-use Rattle.kilim_program.specs.Natives as native
+use Rattle.kilim_thread_model.specs.kin.Kin.{Names, FramesKin}
+use Rattle.kilim_thread_model.specs.one_heap.Booked.{IsOf}
+use Rattle.kilim_classes.specs.machine.Machine.{Activation}
+use Rattle.kilim_classes.specs.machine.Natives.{Native}
+use Rattle.kilim_classes.specs.machine.Natives as native
 use Rattle.kilim_thread_model.specs.Course.{Course}
 use Rattle.kilim_thread_model.specs.declared.deed.Deed.{Deed}
 use Rattle.kilim_thread_model.specs.Lone.{Lone}
@@ -28,7 +28,7 @@ use Rattle.kilim_woven_runs.specs.Serves.{IsThread, StandsFor}
 use Rattle.kilim_woven_runs.specs.Thread.{Run, Thread, steps}
 use Rattle.kilim_weaving_laws.proofs.receivers.states.Along.{append_none, same_deeds}
 use Rattle.kilim_weaving_laws.specs.receivers.states.Law.{Likewise, ThreadAlong, acts_of, first_thread, world_at}
-use Rattle.kilim_fiber_records.specs.Members.{deeper_of}
+use Rattle.kilim_woven_runs.specs.fiber_records.Members.{deeper_of}
 use Rattle.kilim_whole_runs.specs.record_fiber.Records.{HasLeftAll}
 
 -- ---- lengths

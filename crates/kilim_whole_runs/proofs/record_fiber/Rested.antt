@@ -6,7 +6,7 @@ use Rattle.kilim_fibers.specs.Fibers.{CanRun, StandsFor}
 use Rattle.kilim_fibers.specs.declared.Wants.{Wants}
 use Rattle.kilim_fibers.specs.declared.Wants.TheVariants as wants
 use Rattle.kilim_machine_parts.specs.declared.frames.frames.Frames.{Frames}
-use Rattle.kilim_program.specs.declared.run.Limits.{Limits}
+use Rattle.kilim_classes.specs.declared.machine.run.Limits.{Limits}
 use Rattle.kilim_thread_model.specs.State.{Setting}
 use Rattle.kilim_units.specs.declared.memory.NoMemory.{NoMemory}
 use Rattle.kilim_woven_fiber.specs.Body.{calls_in, standing_at}
@@ -17,7 +17,7 @@ use Rattle.kilim_woven_fiber.specs.declared.code.Code.{Code}
 use Rattle.kilim_whole_runs.specs.record_fiber.Calls.{EndsIdle, HasWanted, RestsAt, WantsBy, is_rest}
 use Rattle.kilim_whole_runs.specs.record_fiber.Clauses.{RestsInRecords}
 use Rattle.kilim_whole_runs.specs.record_fiber.Fiber.{task_of, course_of, CameTo, HoldsFiber, ServesCode}
-use Rattle.kilim_fiber_records.specs.Members.{deeper_of}
+use Rattle.kilim_woven_runs.specs.fiber_records.Members.{deeper_of}
 use Rattle.kilim_whole_runs.specs.record_fiber.Records.{NoFrameIsLeft, records_in, records_of}
 use Rattle.kilim_whole_runs.specs.declared.record_fiber.fiber.Asked.{Asked}
 use Rattle.kilim_whole_runs.specs.declared.record_fiber.fiber.Fiber.{Fiber}

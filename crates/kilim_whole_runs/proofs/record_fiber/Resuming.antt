@@ -5,12 +5,12 @@ use Rattle.std.proofs.lemmas.Option.{none-some}
 use Rattle.kilim_classes.specs.Program.{Program}
 use Rattle.kilim_classes.specs.declared.names.BoxName.{BoxName}
 use Rattle.kilim_classes.specs.declared.names.ClassId.{ClassId}
-use Rattle.kilim_program.specs.Trees.{OfMessage}
-use Rattle.kilim_program.specs.declared.cause.EndCause.{EndCause}
-use Rattle.kilim_program.specs.declared.cause.EndCause.TheVariants as cause
-use Rattle.kilim_program.specs.declared.run.Limits.{Limits}
-use Rattle.kilim_program.specs.declared.value.Object.{Object}
-use Rattle.kilim_program.specs.declared.value.Token.{Token}
+use Rattle.kilim_classes.specs.machine.Trees.{OfMessage}
+use Rattle.kilim_classes.specs.declared.machine.cause.EndCause.{EndCause}
+use Rattle.kilim_classes.specs.declared.machine.cause.EndCause.TheVariants as cause
+use Rattle.kilim_classes.specs.declared.machine.run.Limits.{Limits}
+use Rattle.kilim_classes.specs.declared.machine.value.Object.{Object}
+use Rattle.kilim_classes.specs.declared.machine.value.Token.{Token}
 use Rattle.kilim_units.specs.declared.memory.NoMemory.{NoMemory}
 use Rattle.kilim_thread_model.specs.Course.{next_action}
 use Rattle.kilim_thread_model.specs.State.{Setting}

@@ -1,6 +1,6 @@
 -- What `resume` and `answer` promise, as the board and the runner read it.
 use Rattle.std.specs.Prelude.{◌≡◌, ◌≤◌, Option, None}
-use Rattle.kilim_program.specs.declared.run.Limits.{Limits}
+use Rattle.kilim_classes.specs.declared.machine.run.Limits.{Limits}
 use Rattle.kilim_thread_model.specs.State.{Setting}
 use Rattle.kilim_thread_model.specs.declared.deed.Deed.{Deed}
 use Rattle.kilim_fibers.specs.Fibers.{CountsRightly, Resumed, RestsRightly, StandsFor, StartsAtNone, StartsFresh, course_after}

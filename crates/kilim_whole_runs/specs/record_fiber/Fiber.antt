@@ -3,8 +3,8 @@ use Rattle.std.specs.Prelude.{◌≡◌, ◌<◌, ◌≤◌, ℕ, nat_le, if◌t
 use Rattle.kilim_classes.specs.Program.{Program}
 use Rattle.kilim_classes.specs.declared.names.BoxName.{BoxName}
 use Rattle.kilim_classes.specs.declared.value.Value.TheVariants.{Null}
-use Rattle.kilim_program.specs.declared.cause.EndCause.{EndCause}
-use Rattle.kilim_program.specs.declared.cause.EndCause.TheVariants as cause
+use Rattle.kilim_classes.specs.declared.machine.cause.EndCause.{EndCause}
+use Rattle.kilim_classes.specs.declared.machine.cause.EndCause.TheVariants as cause
 use Rattle.kilim_journal.specs.declared.entry.Act.TheVariants as act
 use Rattle.kilim_thread_model.specs.State.{Setting}
 use Rattle.kilim_thread_model.specs.Lone.{Lone}
@@ -15,7 +15,7 @@ use Rattle.kilim_weaving_laws.specs.woven_kin.Nexts.{counted, paused_at, taken_a
 use Rattle.kilim_woven_fiber.specs.Body.{standing_at, behind_at, RoomyIn, RoomIn, HasFrames}
 use Rattle.kilim_woven_fiber.specs.declared.body.Body.{Body}
 use Rattle.kilim_woven_runs.specs.fiber_kin.Acts.{IsSound}
-use Rattle.kilim_program.specs.Trees.{OfMessage, OfTask}
+use Rattle.kilim_classes.specs.machine.Trees.{OfMessage, OfTask}
 use Rattle.kilim_woven_fiber.specs.declared.body.Came.{Came}
 use Rattle.kilim_woven_fiber.specs.declared.body.Came.TheVariants as came
 use Rattle.kilim_woven_fiber.specs.declared.code.Code.{Code}

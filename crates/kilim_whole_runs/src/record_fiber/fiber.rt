@@ -22,7 +22,7 @@ ghost use Rattle.kilim_whole_runs.specs.record_fiber.Calls.{IsNew, IsBegun, Ends
 use crate::record_fiber::past::{Did, Past, begun, no_past, note};
 use kilim_classes::{BoxName, ClassId, Program};
 use kilim_fibers::{Answer, Wants};
-use kilim_program::{EndCause, Limits, Shape};
+use kilim_classes::machine::{EndCause, Limits, Shape};
 use kilim_thread_model::Beginning;
 use kilim_tree_move::Tree;
 use kilim_units::NoMemory;

@@ -5,7 +5,7 @@ ghost use Rattle.kilim_thread_model.specs.declared.deed.Beginning.TheVariants.{B
 ghost use Rattle.kilim_whole_runs.specs.record_fiber.Past.{deed_of, deeds_of};
 
 use kilim_classes::BoxName;
-use kilim_program::Shape;
+use kilim_classes::machine::Shape;
 use kilim_thread_model::Beginning;
 use std::snapshot::Snapshot;
 

@@ -4,7 +4,7 @@ use Rattle.std.specs.List.{sum_by, AllByRecursion}
 use Rattle.std.specs.Prelude.{if◌then◌else◌}
 use Rattle.std.proofs.lemmas.List.Sums.{sum_by-cons, sum_by_push}
 use Rattle.kilim_classes.specs.declared.names.BoxName.{BoxName}
-use Rattle.kilim_program.specs.declared.value.Token.{Token}
+use Rattle.kilim_classes.specs.declared.machine.value.Token.{Token}
 use Rattle.kilim_thread_model.specs.State.{same_box}
 use Rattle.kilim_thread_model.specs.Turn.{task_limit}
 use Rattle.kilim_fibers.specs.declared.waiting.parked.Waiter.{Waiter}

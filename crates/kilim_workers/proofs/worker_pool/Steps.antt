@@ -1,7 +1,7 @@
 -- From one step of the runner to the next.
 use Rattle.std.proofs.Common.{◌<◌, ◌≤◌, ◌==◌, ◌⊎◌, inl, inr, arith, ◌≡◌, ℕ, Bool, false, [], ◌∷◌, List, Option, Some, None, true, refl, sym, ap, subst, ◌∙◌, length}
 use Rattle.std.specs.Prelude.{slice_get, slice_set}
-use Rattle.kilim_program.specs.declared.cause.EndCause.{EndCause}
+use Rattle.kilim_classes.specs.declared.machine.cause.EndCause.{EndCause}
 use Rattle.kilim_classes.specs.declared.names.BoxName.{BoxName}
 use Rattle.kilim_thread_model.specs.State.{Setting}
 use Rattle.kilim_fibers.specs.Fibers.{Asks, Resumed, Fits, course_after, CanAnswer, RestsRightly, CountsRightly, StartsAtNone, StartsFresh, StandsFor}
@@ -12,7 +12,7 @@ use Rattle.kilim_fibers.specs.declared.Answer.TheVariants as answer
 use Rattle.kilim_exchange.specs.declared.board.Acted.{Acted}
 use Rattle.kilim_exchange.specs.declared.board.Acted.TheVariants as acted
 use Rattle.kilim_classes.specs.declared.names.ClassId.{ClassId}
-use Rattle.kilim_program.specs.declared.run.Limits.{Limits}
+use Rattle.kilim_classes.specs.declared.machine.run.Limits.{Limits}
 use Rattle.kilim_exchange.specs.declared.board.Board as kept
 use Rattle.kilim_exchange.specs.declared.board.Lent.{Lent}
 use Rattle.kilim_exchange.specs.declared.board.Lent.TheVariants as lent

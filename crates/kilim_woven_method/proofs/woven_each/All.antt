@@ -4,7 +4,7 @@ use Rattle.kilim_classes.specs.declared.class.Form.TheVariants.{Woven}
 use Rattle.kilim_classes.specs.declared.class.Method.{Method}
 use Rattle.kilim_classes.specs.BuiltIn.{fiber_methods}
 use Rattle.kilim_classes.specs.Program.{Program}
-use Rattle.kilim_woven_form.specs.Form.{AllWoven, IsWoven, all_counted, first_class}
+use Rattle.kilim_typing.specs.woven_form.Form.{AllWoven, IsWoven, all_counted, first_class}
 use Rattle.kilim_woven_method.proofs.Listing.{take_next}
 use Rattle.kilim_woven_method.specs.woven_each.Each.{IsEachWoven}
 

@@ -10,15 +10,15 @@ use Rattle.kilim_classes.specs.Keeps.{Keeps, code_is_whole}
 use Rattle.kilim_classes.specs.Lengths.{code_ends, code_stands, targets_stand}
 use Rattle.kilim_classes.specs.Names.{is_empty, method_at}
 use Rattle.kilim_classes.specs.Program.{Program}
-use Rattle.kilim_typing_laws.proofs.fits.FromKeeps.{all_at}
+use Rattle.kilim_typing.proofs.typing_laws.fits.FromKeeps.{all_at}
 use Rattle.kilim_typing.specs.Typed.{IsLive, WellTypedBy, frames_of, has_code, listed}
-use Rattle.kilim_typing_laws.specs.Laws.{TypedByPlace, typing_in}
+use Rattle.kilim_typing.specs.typing_laws.Laws.{TypedByPlace, typing_in}
 use Rattle.kilim_typing.specs.TypedProgram.{KeepsTyped, TypedProgram}
 use Rattle.kilim_woven_pieces.specs.Listed.{Listed}
-use Rattle.kilim_woven_form.specs.Form.{IsWoven, has_calls, plan_of, woven_as}
-use Rattle.kilim_woven_form.specs.Weight.{calls_in}
-use Rattle.kilim_woven_form.specs.woven_program.labels.Law.{LabelsAreFound}
-use Rattle.kilim_woven_form.specs.woven_program.Made.{made_as, method_plan}
+use Rattle.kilim_typing.specs.woven_form.Form.{IsWoven, has_calls, plan_of, woven_as}
+use Rattle.kilim_typing.specs.woven_form.Weight.{calls_in}
+use Rattle.kilim_typing.specs.woven_form.woven_program.labels.Law.{LabelsAreFound}
+use Rattle.kilim_typing.specs.woven_form.woven_program.Made.{made_as, method_plan}
 
 -- ---- woven forms
 

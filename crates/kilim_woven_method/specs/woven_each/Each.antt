@@ -2,7 +2,7 @@
 use Rattle.std.specs.Prelude.{Bool, List, [], ◌∷◌}
 use Rattle.kilim_classes.specs.declared.class.Method.{Method}
 use Rattle.kilim_classes.specs.Program.{Program}
-use Rattle.kilim_woven_form.specs.Form.{IsWoven}
+use Rattle.kilim_typing.specs.woven_form.Form.{IsWoven}
 
 abbrev pub IsEachWoven : Program → List Method → List Method → List (List Bool) → Type 0
 IsEachWoven p [] [] [] = Unit {0}

@@ -2,7 +2,7 @@
 
 ghost use Rattle.std.specs.Prelude.{◌≡◌, ◌<◌, ◌≤◌, ◌^◌, ◌++◌, drop, length, IfOk};
 ghost use Rattle.kilim_classes.specs.BuiltIn.{fiber_classes, fiber_methods};
-ghost use Rattle.kilim_woven_form.specs.Form.{first_class, first_method};
+ghost use Rattle.kilim_typing.specs.woven_form.Form.{first_class, first_method};
 
 use crate::woven_each::copy::{copy_classes, copy_fields, copy_methods, joined};
 use kilim_classes::{Class, Field, Form, Method, Program};

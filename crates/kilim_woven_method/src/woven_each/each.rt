@@ -4,16 +4,16 @@ ghost use Rattle.std.specs.Prelude.{◌≡◌, true, false, Some, IfOk};
 ghost use Rattle.kilim_classes.specs.Names.{method_at};
 ghost use Rattle.kilim_typing.specs.Typed.{has_code};
 ghost use Rattle.kilim_woven_pieces.specs.Listed.{Listed};
-ghost use Rattle.kilim_woven_form.specs.Form.{IsWoven, has_calls};
+ghost use Rattle.kilim_typing.specs.woven_form.Form.{IsWoven, has_calls};
 
 use crate::woven_each::extended::{all_counted, extended, has_calls};
 use crate::woven_each::kept::keeps;
 use crate::{copy_method, woven};
 use kilim_classes::{Frame, Method, MethodId, Program};
 use kilim_liveness::live;
-use kilim_lookups::code_rises;
+use kilim_classes::lookups::code_rises;
 use kilim_units::{NoMemory, Seq};
-use kilim_woven_form::woven_program::labels::labels_are_found;
+use kilim_typing::woven_form::woven_program::labels::labels_are_found;
 use std::alloc::Global;
 
 // A method that doesn't pause.

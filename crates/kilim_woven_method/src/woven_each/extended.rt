@@ -3,8 +3,8 @@
 ghost use Rattle.std.specs.Prelude.{◌≡◌, suc, if◌then◌else◌, IfOk};
 ghost use Rattle.kilim_classes.specs.Same.{argument_slots};
 ghost use Rattle.kilim_typing.specs.Typed.{has_code};
-ghost use Rattle.kilim_woven_form.specs.Form.{all_counted, has_calls, only_with_fiber};
-ghost use Rattle.kilim_woven_form.specs.Woven as form;
+ghost use Rattle.kilim_typing.specs.woven_form.Form.{all_counted, has_calls, only_with_fiber};
+ghost use Rattle.kilim_typing.specs.woven_form.Woven as form;
 
 use crate::copy::with_head;
 use crate::method::{head_with, number_of};

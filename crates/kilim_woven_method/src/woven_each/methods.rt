@@ -5,7 +5,7 @@ ghost use Rattle.kilim_classes.specs.Names.{method_at};
 ghost use Rattle.kilim_typing.specs.Typed.{has_code};
 ghost use Rattle.kilim_typing.specs.TypedProgram.{KeepsTyped};
 ghost use Rattle.kilim_woven_pieces.specs.Listed.{Listed};
-ghost use Rattle.kilim_woven_form.specs.Form.{AllWoven, IsWoven, all_counted};
+ghost use Rattle.kilim_typing.specs.woven_form.Form.{AllWoven, IsWoven, all_counted};
 ghost use Rattle.kilim_woven_method.specs.woven_each.Each.{IsEachWoven};
 
 use crate::woven_each::built_in::fiber_methods;
@@ -15,7 +15,7 @@ use crate::woven_each::extended::all_counted;
 use crate::woven_each::kept::keeps;
 use kilim_classes::{Frame, Method, MethodId, Program};
 use kilim_typing::Typed;
-use kilim_typing_laws::typed_by_place;
+use kilim_typing::typing_laws::typed_by_place;
 use kilim_units::{NoMemory, Seq};
 use std::alloc::Global;
 

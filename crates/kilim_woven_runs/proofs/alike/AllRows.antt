@@ -6,15 +6,15 @@ use Rattle.kilim_classes.specs.declared.instr.Instr.{Instr}
 use Rattle.kilim_classes.specs.declared.instr.Instr.TheVariants as instr
 use Rattle.kilim_classes.specs.declared.names.MethodId.{MethodId}
 use Rattle.kilim_classes.specs.declared.ty.Ty.{Ty}
-use Rattle.kilim_program.specs.declared.value.Object.{Object}
+use Rattle.kilim_classes.specs.declared.machine.value.Object.{Object}
 use Rattle.kilim_classes.specs.declared.value.Value.{Value}
 use Rattle.kilim_classes.specs.declared.value.Value.TheVariants as value
 use Rattle.kilim_classes.specs.Program.{Program}
-use Rattle.kilim_program.specs.Machine.{Objects}
-use Rattle.kilim_program.specs.Effect.{Effect, Makes, Opens, Stuck}
-use Rattle.kilim_program.specs.Does.{does}
+use Rattle.kilim_classes.specs.machine.Machine.{Objects}
+use Rattle.kilim_classes.specs.machine.Effect.{Effect, Makes, Opens, Stuck}
+use Rattle.kilim_classes.specs.machine.Does.{does}
 use Rattle.kilim_thread_model.specs.State.{Setting}
-use Rattle.kilim_woven_form.specs.Woven.{pausable_callee, moved_instr}
+use Rattle.kilim_typing.specs.woven_form.Woven.{pausable_callee, moved_instr}
 use Rattle.kilim_woven_runs.specs.alike.Shares.{SharesPauses, SharesRows}
 use Rattle.kilim_woven_runs.specs.Thread.{fetch, own_of}
 use Rattle.kilim_woven_runs.specs.Form.{Facts}
@@ -24,9 +24,9 @@ use Rattle.kilim_woven_runs.specs.Links.{Forms, code, Alike, Held}
 use Rattle.std.specs.FinMap.{get}
 use Rattle.kilim_classes.specs.declared.names.ClassId.{ClassId}
 use Rattle.kilim_classes.specs.declared.names.FieldId.{FieldId}
-use Rattle.kilim_program.specs.Effect.{as_class}
-use Rattle.kilim_program.specs.Does.{is_mailbox}
-use Rattle.kilim_program.specs.Objects.{new_object}
+use Rattle.kilim_classes.specs.machine.Effect.{as_class}
+use Rattle.kilim_classes.specs.machine.Does.{is_mailbox}
+use Rattle.kilim_classes.specs.machine.Objects.{new_object}
 use Rattle.kilim_classes.specs.Lengths.{ends_path}
 use Rattle.kilim_woven_runs.specs.Rows.{IsClean}
 use Rattle.kilim_woven_runs.proofs.alike.Effects.{e_if}

@@ -3,20 +3,20 @@ use Rattle.std.proofs.Common.{◌≡◌, ℕ, zero, suc, Bool, true, false, ℤ,
 use Rattle.std.specs.Prelude.{slice_get, nat_lt, if◌then◌else◌}
 use Rattle.std.specs.Ordering.{int_eq}
 use Rattle.std.specs.FinMap.{get}
-use Rattle.kilim_program.specs.declared.cause.EndCause.TheVariants as cause
+use Rattle.kilim_classes.specs.declared.machine.cause.EndCause.TheVariants as cause
 use Rattle.kilim_classes.specs.declared.class.Method.{Method}
 use Rattle.kilim_classes.specs.declared.instr.Instr.{Instr}
 use Rattle.kilim_classes.specs.declared.instr.Instr.TheVariants as instr
 use Rattle.kilim_classes.specs.declared.ty.Ty.{Ty}
-use Rattle.kilim_program.specs.declared.value.Object.{Object}
+use Rattle.kilim_classes.specs.declared.machine.value.Object.{Object}
 use Rattle.kilim_classes.specs.declared.value.Value.{Value}
 use Rattle.kilim_classes.specs.declared.value.Value.TheVariants.{Int, Long, Ref, Text}
 use Rattle.kilim_classes.specs.Program.{Program}
-use Rattle.kilim_program.specs.Machine.{Objects}
-use Rattle.kilim_program.specs.Effect.{Effect, Goes, Makes, Ends, with_some, on_value, on_values, as_reference, as_receiver, as_int, as_long, when, wide_or, as_object, at_place, at_index, on_constant}
-use Rattle.kilim_program.specs.Does.{does, place_if, table_target, target_or, makes_array, array_limit, match_target}
-use Rattle.kilim_program.specs.Objects.{new_array}
-use Rattle.kilim_woven_form.specs.Woven.{moved_instr, moved_pairs}
+use Rattle.kilim_classes.specs.machine.Machine.{Objects}
+use Rattle.kilim_classes.specs.machine.Effect.{Effect, Goes, Makes, Ends, with_some, on_value, on_values, as_reference, as_receiver, as_int, as_long, when, wide_or, as_object, at_place, at_index, on_constant}
+use Rattle.kilim_classes.specs.machine.Does.{does, place_if, table_target, target_or, makes_array, array_limit, match_target}
+use Rattle.kilim_classes.specs.machine.Objects.{new_array}
+use Rattle.kilim_typing.specs.woven_form.Woven.{moved_instr, moved_pairs}
 use Rattle.kilim_woven_runs.specs.Rows.{elsewhere}
 use Rattle.std.proofs.lemmas.Bool.{false≢true}
 

@@ -8,13 +8,13 @@ use Rattle.kilim_classes.specs.declared.ty.Ty.{Ty}
 use Rattle.kilim_classes.specs.declared.value.Value.{Value}
 use Rattle.kilim_classes.specs.declared.value.Value.TheVariants as value
 use Rattle.kilim_classes.specs.Program.{Program}
-use Rattle.kilim_program.specs.Machine.{Objects}
+use Rattle.kilim_classes.specs.machine.Machine.{Objects}
 use Rattle.kilim_classes.specs.Names.{method_at}
-use Rattle.kilim_program.specs.Effect.{Effect, Asks, Calls, with_some, on_value, on_values, as_class, named_type}
-use Rattle.kilim_program.specs.Does.{does, calls_method, calls_on, calls_text, takes_element}
-use Rattle.kilim_program.specs.Natives.{is_text_method, is_handed_out}
-use Rattle.kilim_woven_form.specs.Woven.{member}
-use Rattle.kilim_program.specs.Natives.{FiberMember, Pc, Down, Up, Save, Place, Restore, Receiver}
+use Rattle.kilim_classes.specs.machine.Effect.{Effect, Asks, Calls, with_some, on_value, on_values, as_class, named_type}
+use Rattle.kilim_classes.specs.machine.Does.{does, calls_method, calls_on, calls_text, takes_element}
+use Rattle.kilim_classes.specs.machine.Natives.{is_text_method, is_handed_out}
+use Rattle.kilim_typing.specs.woven_form.Woven.{member}
+use Rattle.kilim_classes.specs.machine.Natives.{FiberMember, Pc, Down, Up, Save, Place, Restore, Receiver}
 use Rattle.kilim_woven_runs.specs.alike.Shares.{IsMember, size_of}
 use Rattle.kilim_woven_runs.specs.Form.{members_in_order, takes_alone, Members}
 

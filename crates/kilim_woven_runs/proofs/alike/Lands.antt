@@ -2,26 +2,26 @@
 use Rattle.std.proofs.Common.{◌≡◌, ◌≢◌, ◌⊎◌, inl, inr, ℕ, zero, suc, Bool, true, false, eqb, ℤ, pos, negsuc, List, [], ◌∷◌, map, Option, Some, None, refl, sym, ap, subst, ◌∙◌, arith}
 use Rattle.std.specs.Prelude.{slice_get, nat_lt, if◌then◌else◌}
 use Rattle.std.specs.FinMap.{get}
-use Rattle.kilim_program.specs.declared.cause.EndCause.TheVariants as cause
+use Rattle.kilim_classes.specs.declared.machine.cause.EndCause.TheVariants as cause
 use Rattle.kilim_classes.specs.declared.class.Method.{Method}
 use Rattle.kilim_classes.specs.declared.instr.Instr.{Instr}
 use Rattle.kilim_classes.specs.declared.instr.Instr.TheVariants as instr
 use Rattle.kilim_classes.specs.declared.ty.Ty.{Ty}
-use Rattle.kilim_program.specs.declared.value.Object.{Object}
+use Rattle.kilim_classes.specs.declared.machine.value.Object.{Object}
 use Rattle.kilim_classes.specs.declared.value.Value.{Value}
 use Rattle.kilim_classes.specs.declared.value.Value.TheVariants.{Int, Long, Ref, Text}
 use Rattle.kilim_classes.specs.Program.{Program}
-use Rattle.kilim_program.specs.Machine.{Objects}
-use Rattle.kilim_program.specs.Effect.{Effect, Goes, Makes, Opens, Calls, Asks, Returns, Raises, Ends, Stuck, with_some, on_value, on_values, as_reference, as_receiver, as_int, as_long, when, wide_or, as_object, at_place, at_index, on_constant}
-use Rattle.kilim_program.specs.Does.{does, makes_array, array_limit}
-use Rattle.kilim_program.specs.Objects.{new_array}
-use Rattle.kilim_woven_form.specs.Woven.{moved_instr}
+use Rattle.kilim_classes.specs.machine.Machine.{Objects}
+use Rattle.kilim_classes.specs.machine.Effect.{Effect, Goes, Makes, Opens, Calls, Asks, Returns, Raises, Ends, Stuck, with_some, on_value, on_values, as_reference, as_receiver, as_int, as_long, when, wide_or, as_object, at_place, at_index, on_constant}
+use Rattle.kilim_classes.specs.machine.Does.{does, makes_array, array_limit}
+use Rattle.kilim_classes.specs.machine.Objects.{new_array}
+use Rattle.kilim_typing.specs.woven_form.Woven.{moved_instr}
 use Rattle.kilim_woven_runs.specs.Rows.{elsewhere}
 use Rattle.std.specs.Prelude.{◌==◌, ◌||◌}
 use Rattle.std.proofs.lemmas.Bool.Decides.{eqb_tells}
 use Rattle.kilim_classes.specs.Lengths.{ends_path, jump_targets}
 use Rattle.kilim_typing.specs.Typed.{Among, edges}
-use Rattle.kilim_woven_form.specs.Woven.{moved_pairs}
+use Rattle.kilim_typing.specs.woven_form.Woven.{moved_pairs}
 use Rattle.kilim_woven_runs.specs.Rows.{goes_to}
 use Rattle.kilim_woven_runs.proofs.alike.Effects.{is_simple}
 use Rattle.std.proofs.lemmas.Bool.{false≢true}

@@ -3,23 +3,23 @@ use Rattle.std.proofs.Common.{◌≡◌, ◌≢◌, ◌⊎◌, inl, inr, ℕ, ze
 use Rattle.std.specs.Prelude.{slice_get, if◌then◌else◌}
 use Rattle.std.proofs.lemmas.Bool.{false≢true}
 use Rattle.std.specs.FinMap.{insert}
-use Rattle.kilim_program.specs.declared.cause.EndCause.TheVariants as cause
+use Rattle.kilim_classes.specs.declared.machine.cause.EndCause.TheVariants as cause
 use Rattle.kilim_classes.specs.declared.class.Method.{Method}
 use Rattle.kilim_classes.specs.declared.instr.Instr.{Instr}
 use Rattle.kilim_classes.specs.declared.instr.Instr.TheVariants as instr
 use Rattle.kilim_classes.specs.declared.names.MethodId.{MethodId}
 use Rattle.kilim_classes.specs.declared.ty.Ty.{Ty}
-use Rattle.kilim_program.specs.declared.value.Object.{Object}
+use Rattle.kilim_classes.specs.declared.machine.value.Object.{Object}
 use Rattle.kilim_classes.specs.declared.value.Value.{Value}
 use Rattle.kilim_classes.specs.declared.value.Value.TheVariants as value
 use Rattle.kilim_classes.specs.Program.{Program}
-use Rattle.kilim_program.specs.Machine.{Objects}
+use Rattle.kilim_classes.specs.machine.Machine.{Objects}
 use Rattle.kilim_classes.specs.Names.{method_at}
-use Rattle.kilim_program.specs.Natives.{Native, native_of}
-use Rattle.kilim_program.specs.Effect.{Effect, Goes, Calls, Asks, Returns, Raises, Stuck}
-use Rattle.kilim_program.specs.Does.{does}
+use Rattle.kilim_classes.specs.machine.Natives.{Native, native_of}
+use Rattle.kilim_classes.specs.machine.Effect.{Effect, Goes, Calls, Asks, Returns, Raises, Stuck}
+use Rattle.kilim_classes.specs.machine.Does.{does}
 use Rattle.kilim_thread_model.specs.State.{Setting}
-use Rattle.kilim_woven_form.specs.Woven.{moved_instr}
+use Rattle.kilim_typing.specs.woven_form.Woven.{moved_instr}
 use Rattle.kilim_woven_runs.specs.alike.Shares.{Agree, PlainCallee}
 use Rattle.kilim_woven_runs.specs.Thread.{fetch, calls, own_of}
 use Rattle.kilim_woven_runs.specs.Fibers.{member_of}
@@ -31,10 +31,10 @@ use Rattle.std.specs.Prelude.{codes, reverse}
 use Rattle.std.specs.FinMap.{get}
 use Rattle.kilim_classes.specs.declared.class.Field.{Field}
 use Rattle.kilim_classes.specs.declared.names.FieldId.{FieldId}
-use Rattle.kilim_program.specs.Effect.{with_some, on_constant, text_of, when, on_value, as_int, as_receiver, as_object, as_class, at_place, at_index, on_values, named_type}
-use Rattle.kilim_program.specs.Does.{calls_on, calls_method, chosen, special, calls_text, text_answers, unit_at, at_unit, takes_element, cast_fits, is_instance, narrowed_to, narrowed_result, with_field, with_element, bit, element_type}
-use Rattle.kilim_program.specs.Natives.{is_built_in_constructor, is_text_method, is_handed_out}
-use Rattle.kilim_program.specs.Shapes.{field_in}
+use Rattle.kilim_classes.specs.machine.Effect.{with_some, on_constant, text_of, when, on_value, as_int, as_receiver, as_object, as_class, at_place, at_index, on_values, named_type}
+use Rattle.kilim_classes.specs.machine.Does.{calls_on, calls_method, chosen, special, calls_text, text_answers, unit_at, at_unit, takes_element, cast_fits, is_instance, narrowed_to, narrowed_result, with_field, with_element, bit, element_type}
+use Rattle.kilim_classes.specs.machine.Natives.{is_built_in_constructor, is_text_method, is_handed_out}
+use Rattle.kilim_classes.specs.machine.Shapes.{field_in}
 use Rattle.std.specs.Str.{bytes_eq}
 use Rattle.kilim_classes.specs.Lengths.{ends_path}
 use Rattle.kilim_woven_runs.specs.Rows.{Clean, IsClean, below_arguments, class_if, is_old_base, value_class}

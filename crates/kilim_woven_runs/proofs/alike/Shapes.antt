@@ -2,22 +2,22 @@
 use Rattle.std.proofs.Common.{◌≡◌, ℕ, zero, suc, Bool, true, false, List, [], ◌∷◌, length, Option, Some, None, refl, sym, subst}
 use Rattle.std.specs.Prelude.{if◌then◌else◌, reverse}
 use Rattle.std.specs.FinMap.{get}
-use Rattle.kilim_program.specs.declared.cause.EndCause.TheVariants as cause
+use Rattle.kilim_classes.specs.declared.machine.cause.EndCause.TheVariants as cause
 use Rattle.kilim_classes.specs.declared.class.Method.{Method}
 use Rattle.kilim_classes.specs.declared.instr.Instr.{Instr}
 use Rattle.kilim_classes.specs.declared.instr.Instr.TheVariants as instr
 use Rattle.kilim_classes.specs.declared.names.MethodId.{MethodId}
 use Rattle.kilim_classes.specs.declared.ty.Ty.{Ty}
-use Rattle.kilim_program.specs.declared.value.Object.{Object}
+use Rattle.kilim_classes.specs.declared.machine.value.Object.{Object}
 use Rattle.kilim_classes.specs.declared.value.Value.{Value}
 use Rattle.kilim_classes.specs.declared.value.Value.TheVariants.{Int, Long, Null, Ref, Text, Box, Fiber}
 use Rattle.kilim_classes.specs.Program.{Program}
-use Rattle.kilim_program.specs.Machine.{Objects}
+use Rattle.kilim_classes.specs.machine.Machine.{Objects}
 use Rattle.kilim_classes.specs.Names.{method_at}
-use Rattle.kilim_program.specs.Effect.{Effect, Goes, Calls, Asks, with_some, on_value, on_values, as_receiver, as_class}
-use Rattle.kilim_program.specs.Does.{does, calls_method, calls_on, calls_text, chosen, special, takes_element}
-use Rattle.kilim_program.specs.Natives.{is_built_in_constructor, is_text_method, is_handed_out}
-use Rattle.kilim_woven_form.specs.Woven.{pausable_callee}
+use Rattle.kilim_classes.specs.machine.Effect.{Effect, Goes, Calls, Asks, with_some, on_value, on_values, as_receiver, as_class}
+use Rattle.kilim_classes.specs.machine.Does.{does, calls_method, calls_on, calls_text, chosen, special, takes_element}
+use Rattle.kilim_classes.specs.machine.Natives.{is_built_in_constructor, is_text_method, is_handed_out}
+use Rattle.kilim_typing.specs.woven_form.Woven.{pausable_callee}
 use Rattle.kilim_woven_runs.specs.Serves.{Shape, IsCall, IsNative, IsRaise, IsStuck}
 use Rattle.kilim_woven_runs.proofs.alike.Hands.{callee_is}
 

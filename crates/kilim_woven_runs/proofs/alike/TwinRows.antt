@@ -10,11 +10,11 @@ use Rattle.kilim_classes.specs.declared.names.MethodId.{MethodId}
 use Rattle.kilim_classes.specs.declared.value.Value.{Value}
 use Rattle.kilim_classes.specs.declared.value.Value.TheVariants as value
 use Rattle.kilim_classes.specs.Program.{Program}
-use Rattle.kilim_program.specs.Machine.{Objects}
-use Rattle.kilim_program.specs.Effect.{Effect, Goes, Calls, Asks, Stuck}
-use Rattle.kilim_program.specs.Does.{does}
+use Rattle.kilim_classes.specs.machine.Machine.{Objects}
+use Rattle.kilim_classes.specs.machine.Effect.{Effect, Goes, Calls, Asks, Stuck}
+use Rattle.kilim_classes.specs.machine.Does.{does}
 use Rattle.kilim_thread_model.specs.State.{Setting}
-use Rattle.kilim_woven_form.specs.Woven.{fiber_slot, self_slot, moved_instr}
+use Rattle.kilim_typing.specs.woven_form.Woven.{fiber_slot, self_slot, moved_instr}
 use Rattle.kilim_woven_runs.specs.Thread.{fetch, own_of}
 use Rattle.kilim_woven_runs.specs.Form.{Facts}
 use Rattle.kilim_woven_runs.specs.Rows.{elsewhere, goes_to}
@@ -29,7 +29,7 @@ use Rattle.std.proofs.lemmas.List.{length-set}
 use Rattle.std.specs.Prelude.{◌==◌}
 use Rattle.std.specs.Int.{w32, int_wrapping_add}
 use Rattle.kilim_classes.specs.Lengths.{jump_targets}
-use Rattle.kilim_program.specs.Effect.{with_some, on_value, as_int, as_long, as_reference}
+use Rattle.kilim_classes.specs.machine.Effect.{with_some, on_value, as_int, as_long, as_reference}
 use Rattle.kilim_woven_runs.proofs.alike.Slots.{set_same, set_other, get_within}
 use Rattle.kilim_woven_runs.proofs.alike.Effects.{is_simple, same_simple, e_some, e_int, e_long, e_reference}
 use Rattle.kilim_woven_runs.proofs.alike.Lands.{hushed, hushed_simple, lands, next_unused}

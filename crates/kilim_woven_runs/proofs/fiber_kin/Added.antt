@@ -5,11 +5,11 @@ use Rattle.std.specs.Prelude.{◌==◌}
 use Rattle.std.proofs.lemmas.Bool.Decides.{eqb_tells}
 use Rattle.std.specs.FinMap.{get, insert}
 use Rattle.std.proofs.lemmas.Option.{same_Some, none-some}
-use Rattle.kilim_program.specs.declared.value.Object.{Object}
-use Rattle.kilim_program.specs.Machine.{Objects}
-use Rattle.kilim_kin.specs.Kin.{Names, ObjectsKin, Alike}
+use Rattle.kilim_classes.specs.declared.machine.value.Object.{Object}
+use Rattle.kilim_classes.specs.machine.Machine.{Objects}
+use Rattle.kilim_thread_model.specs.kin.Kin.{Names, ObjectsKin, Alike}
 use Rattle.kilim_lemmas.proofs.Maps.{put_there, put_other}
-use Rattle.kilim_kin.proofs.Kins.{object_up}
+use Rattle.kilim_thread_model.proofs.kin.Kins.{object_up}
 use Rattle.kilim_woven_runs.specs.fiber_kin.Mine.{all_mine}
 
 pub added : Names → ℕ → ℕ → Names

@@ -8,12 +8,12 @@ use Rattle.kilim_classes.specs.Program.{Program}
 use Rattle.kilim_classes.specs.declared.names.FieldId.{FieldId}
 use Rattle.kilim_classes.specs.declared.value.Value.{Value}
 use Rattle.kilim_classes.specs.declared.value.Value.TheVariants.{Int, Long, Null, Ref, Text, Box, Fiber}
-use Rattle.kilim_program.specs.declared.value.Object.{Object}
-use Rattle.kilim_program.specs.Machine.{Objects}
+use Rattle.kilim_classes.specs.declared.machine.value.Object.{Object}
+use Rattle.kilim_classes.specs.machine.Machine.{Objects}
 use Rattle.kilim_thread_model.specs.Reach.{SomeNames, FieldNames, Holds, Below, Here, Then}
 use Rattle.kilim_thread_model.specs.Reach as reach
 use Rattle.kilim_thread_model.specs.Kept.{IsFormed, IsIn}
-use Rattle.kilim_kin.specs.Kin.{Names, IsKin, AreKin, FieldsKin, ObjectsKin, Alike}
+use Rattle.kilim_thread_model.specs.kin.Kin.{Names, IsKin, AreKin, FieldsKin, ObjectsKin, Alike}
 use Rattle.kilim_tree_move.specs.Walk.{value_refs, element_refs, field_refs, refs, Leads, AreIn, AllThere}
 use Rattle.kilim_tree_move.specs.Shaping.{held, IsShown}
 use Rattle.kilim_woven_runs.specs.fiber_kin.Mine.{all_mine}

@@ -11,15 +11,15 @@ use Rattle.kilim_classes.specs.declared.ty.Base.TheVariants as base
 use Rattle.kilim_classes.specs.declared.ty.Ty.{Ty}
 use Rattle.kilim_classes.specs.declared.value.Value.TheVariants.{Null}
 use Rattle.kilim_classes.specs.Names.{field_of}
-use Rattle.kilim_program.specs.Machine.{Objects, Activation}
-use Rattle.kilim_program.specs.Members.{object_fields, constructor_of}
-use Rattle.kilim_program.specs.Objects.{first_value_of, first_value, first_field, new_object}
+use Rattle.kilim_classes.specs.machine.Machine.{Objects, Activation}
+use Rattle.kilim_classes.specs.machine.Members.{object_fields, constructor_of}
+use Rattle.kilim_classes.specs.machine.Objects.{first_value_of, first_value, first_field, new_object}
 use Rattle.kilim_thread_model.specs.State.{Setting, Alive, begun_on}
 use Rattle.kilim_thread_model.specs.Lone.{Lone}
 use Rattle.kilim_thread_model.specs.Course.{lone_in, lone_begun}
 use Rattle.kilim_thread_model.specs.declared.deed.Beginning.TheVariants.{Boot}
-use Rattle.kilim_kin.specs.Kin.{Names, IsKin, FieldsKin, ObjectsKin}
-use Rattle.kilim_one_heap.proofs.Nexts.{begun_kin}
+use Rattle.kilim_thread_model.specs.kin.Kin.{Names, IsKin, FieldsKin, ObjectsKin}
+use Rattle.kilim_thread_model.proofs.one_heap.Nexts.{begun_kin}
 use Rattle.kilim_woven_runs.specs.fiber_kin.Held.{as_lone, Like}
 use Rattle.kilim_woven_runs.proofs.fiber_kin.Added.{added, added_new, added_bound, alike_made}
 use Rattle.kilim_woven_runs.proofs.fiber_kin.Came.{no_names, nothing, none_below, frames_some}

@@ -7,26 +7,26 @@ use Rattle.kilim_classes.specs.Program.{Program}
 use Rattle.kilim_classes.specs.declared.names.FieldId.{FieldId}
 use Rattle.kilim_classes.specs.declared.value.Value.{Value}
 use Rattle.kilim_classes.specs.declared.value.Value.TheVariants.{Int, Long, Null, Ref, Text, Box, Fiber}
-use Rattle.kilim_program.specs.declared.value.Object.{Object}
-use Rattle.kilim_program.specs.declared.value.Token.{Token}
-use Rattle.kilim_program.specs.Machine.{Objects, Activation}
-use Rattle.kilim_program.specs.Shapes.{tree_limit, shape_of}
-use Rattle.kilim_program.specs.Trees.{Root, tree_names, with_objects, built, is_allowed}
+use Rattle.kilim_classes.specs.declared.machine.value.Object.{Object}
+use Rattle.kilim_classes.specs.declared.machine.value.Token.{Token}
+use Rattle.kilim_classes.specs.machine.Machine.{Objects, Activation}
+use Rattle.kilim_classes.specs.machine.Shapes.{tree_limit, shape_of}
+use Rattle.kilim_classes.specs.machine.Trees.{Root, tree_names, with_objects, built, is_allowed}
 use Rattle.kilim_thread_model.specs.State.{Thread, Alive, Ended}
 use Rattle.kilim_thread_model.specs.Lone.{Lone, pushed, pushed_on}
 use Rattle.kilim_thread_model.specs.Course.{received}
 use Rattle.kilim_thread_model.specs.Reach.{FieldNames, SomeNames, Holds, Below, Here, Then}
 use Rattle.kilim_thread_model.specs.Reach as reach
 use Rattle.kilim_thread_model.specs.Kept.{IsFormed, IsIn, IsOnce}
-use Rattle.kilim_kin.specs.Kin.{Names, Owner, OfTask, OfNobody, FramesKin, Alike}
-use Rattle.kilim_kin.proofs.Kins.{kin_push, frames_up, name_up}
-use Rattle.kilim_kin.specs.trees.TreeKin.{AllFields, AllValues, IsIntact, IsWholeTree, Copies, names_from}
-use Rattle.kilim_kin.specs.trees.TreeKin as kin
-use Rattle.kilim_kin.proofs.trees.ReadBack.{shapes_give}
-use Rattle.kilim_one_heap.specs.Lones.{ThreadKin}
-use Rattle.kilim_one_heap.proofs.Owners.{marked, marked_in, marked_out, task_nobody}
-use Rattle.kilim_one_heap.proofs.Taken.{joined, joined_first, joined_old, joined_bound, alike_taken}
-use Rattle.kilim_one_heap.proofs.Nexts.{MaybeFrames}
+use Rattle.kilim_thread_model.specs.kin.Kin.{Names, Owner, OfTask, OfNobody, FramesKin, Alike}
+use Rattle.kilim_thread_model.proofs.kin.Kins.{kin_push, frames_up, name_up}
+use Rattle.kilim_thread_model.specs.kin.trees.TreeKin.{AllFields, AllValues, IsIntact, IsWholeTree, Copies, names_from}
+use Rattle.kilim_thread_model.specs.kin.trees.TreeKin as kin
+use Rattle.kilim_thread_model.proofs.kin.trees.ReadBack.{shapes_give}
+use Rattle.kilim_thread_model.specs.one_heap.Lones.{ThreadKin}
+use Rattle.kilim_thread_model.proofs.one_heap.Owners.{marked, marked_in, marked_out, task_nobody}
+use Rattle.kilim_thread_model.proofs.one_heap.Taken.{joined, joined_first, joined_old, joined_bound, alike_taken}
+use Rattle.kilim_thread_model.proofs.one_heap.Nexts.{MaybeFrames}
 use Rattle.kilim_machine_parts.specs.Places.{AllDiffer}
 use Rattle.kilim_tree_move.specs.Walk.{value_refs, element_refs, field_refs, refs, Leads, AreIn, IsTree, places, objects, renamed}
 use Rattle.kilim_tree_move.specs.Walk as walk

@@ -6,16 +6,16 @@ use Rattle.kilim_classes.specs.declared.instr.Instr.{Instr}
 use Rattle.kilim_classes.specs.declared.names.MethodId.{MethodId}
 use Rattle.kilim_classes.specs.Lengths.{fetched}
 use Rattle.kilim_classes.specs.Names.{method_at}
-use Rattle.kilim_program.specs.Machine.{Objects, Activation}
-use Rattle.kilim_program.specs.declared.cause.EndCause.TheVariants as cause
+use Rattle.kilim_classes.specs.machine.Machine.{Objects, Activation}
+use Rattle.kilim_classes.specs.declared.machine.cause.EndCause.TheVariants as cause
 use Rattle.std.specs.Prelude.{nat_lt, cond}
-use Rattle.kilim_program.specs.Effect.{Effect}
-use Rattle.kilim_program.specs.Effect as effect
-use Rattle.kilim_program.specs.Moves.{Move, effect_found, effect_in, effect_of, moves, Enters, move_by, goes_on, frame_limit, receiver_of, entered, returned}
-use Rattle.kilim_program.specs.Moves as move
-use Rattle.kilim_kin.specs.Kin.{Names, AreKin, AreHeld, IsThere, FramesKin, StandsIn, Alike, EffectKin}
-use Rattle.kilim_kin.proofs.Kins.{kin_length}
-use Rattle.kilim_kin.proofs.Rows.{rows_kin}
+use Rattle.kilim_classes.specs.machine.Effect.{Effect}
+use Rattle.kilim_classes.specs.machine.Effect as effect
+use Rattle.kilim_classes.specs.machine.Moves.{Move, effect_found, effect_in, effect_of, moves, Enters, move_by, goes_on, frame_limit, receiver_of, entered, returned}
+use Rattle.kilim_classes.specs.machine.Moves as move
+use Rattle.kilim_thread_model.specs.kin.Kin.{Names, AreKin, AreHeld, IsThere, FramesKin, StandsIn, Alike, EffectKin}
+use Rattle.kilim_thread_model.proofs.kin.Kins.{kin_length}
+use Rattle.kilim_thread_model.proofs.kin.Rows.{rows_kin}
 use Rattle.kilim_rows.specs.Outcome.{is_stuck}
 use Rattle.kilim_jvm_interp.specs.Step.{CallerFits, FitsStack, stack_limit}
 use Rattle.kilim_jvm_interp.specs.Run.{IsFine}

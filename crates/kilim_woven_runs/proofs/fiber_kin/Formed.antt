@@ -7,12 +7,12 @@ use Rattle.kilim_classes.specs.declared.names.FieldId.{FieldId}
 use Rattle.kilim_classes.specs.declared.ty.Ty.{Ty}
 use Rattle.kilim_classes.specs.declared.value.Value.{Value}
 use Rattle.kilim_classes.specs.declared.value.Value.TheVariants.{Int, Long, Null, Ref, Text, Box, Fiber}
-use Rattle.kilim_program.specs.declared.value.Object.{Object}
-use Rattle.kilim_program.specs.Shapes.{field_in, fields_in_order}
-use Rattle.kilim_program.specs.Trees.{with_keys, object_of}
+use Rattle.kilim_classes.specs.declared.machine.value.Object.{Object}
+use Rattle.kilim_classes.specs.machine.Shapes.{field_in, fields_in_order}
+use Rattle.kilim_classes.specs.machine.Trees.{with_keys, object_of}
 use Rattle.kilim_thread_model.specs.Kept.{Finds, IsFormed}
-use Rattle.kilim_kin.specs.Kin.{Names, IsKin, AreKin, FieldsKin, ObjectsKin}
-use Rattle.kilim_kin.proofs.Renamed.{renamed, kin_is}
+use Rattle.kilim_thread_model.specs.kin.Kin.{Names, IsKin, AreKin, FieldsKin, ObjectsKin}
+use Rattle.kilim_thread_model.proofs.kin.Renamed.{renamed, kin_is}
 use Rattle.kilim_tree_move.specs.Walk as walk
 use Rattle.kilim_tree_move.specs.Shaping.{field_values, held, IsShown, Suits}
 use Rattle.kilim_tree_move.proofs.Formed.{object_suits}

@@ -2,11 +2,11 @@
 use Rattle.std.proofs.Common.{◌≡◌, ◌∙◌, ℕ, ◌≤◌, List, ◌∷◌, [], Some, length, sym, subst}
 use Rattle.std.specs.List.{AllByRecursion}
 use Rattle.kilim_classes.specs.Program.{Program}
-use Rattle.kilim_program.specs.declared.value.Object.{Object}
-use Rattle.kilim_program.specs.declared.value.Token.{Token}
-use Rattle.kilim_program.specs.Machine.{Objects}
-use Rattle.kilim_program.specs.Shapes.{tree_limit, shape_of}
-use Rattle.kilim_program.specs.Trees.{Root}
+use Rattle.kilim_classes.specs.declared.machine.value.Object.{Object}
+use Rattle.kilim_classes.specs.declared.machine.value.Token.{Token}
+use Rattle.kilim_classes.specs.machine.Machine.{Objects}
+use Rattle.kilim_classes.specs.machine.Shapes.{tree_limit, shape_of}
+use Rattle.kilim_classes.specs.machine.Trees.{Root}
 use Rattle.kilim_machine_parts.specs.Places.{AllDiffer}
 use Rattle.kilim_tree_move.specs.Room.{RoomFor}
 use Rattle.kilim_tree_move.specs.Walk.{places}

@@ -5,17 +5,17 @@ use Rattle.std.proofs.lemmas.Bool.Decides.{eqb_tells}
 use Rattle.std.proofs.lemmas.Option.{none-some}
 use Rattle.kilim_lemmas.proofs.Maps.{out_there, out_other}
 use Rattle.kilim_classes.specs.Program.{Program}
-use Rattle.kilim_program.specs.declared.value.Object.{Object}
-use Rattle.kilim_program.specs.declared.value.Token.{Token}
-use Rattle.kilim_program.specs.Machine.{Objects}
-use Rattle.kilim_program.specs.Shapes.{shape_of}
-use Rattle.kilim_program.specs.Trees.{Root, tree_names, without}
+use Rattle.kilim_classes.specs.declared.machine.value.Object.{Object}
+use Rattle.kilim_classes.specs.declared.machine.value.Token.{Token}
+use Rattle.kilim_classes.specs.machine.Machine.{Objects}
+use Rattle.kilim_classes.specs.machine.Shapes.{shape_of}
+use Rattle.kilim_classes.specs.machine.Trees.{Root, tree_names, without}
 use Rattle.kilim_thread_model.specs.Kept.{IsIn}
 use Rattle.kilim_thread_model.specs.Lone.{Lone}
 use Rattle.kilim_thread_model.specs.Course.{tree_left}
-use Rattle.kilim_kin.specs.Kin.{Names, Alike}
-use Rattle.kilim_kin.proofs.trees.Shaped.{shape_kin}
-use Rattle.kilim_one_heap.proofs.Given.{Named, AreThere, there_in, named_in}
+use Rattle.kilim_thread_model.specs.kin.Kin.{Names, Alike}
+use Rattle.kilim_thread_model.proofs.kin.trees.Shaped.{shape_kin}
+use Rattle.kilim_thread_model.proofs.one_heap.Given.{Named, AreThere, there_in, named_in}
 use Rattle.kilim_tree_move.specs.Walk.{places}
 use Rattle.kilim_tree_move.specs.Moved as moved
 use Rattle.kilim_tree_move.specs.Moved.{TakenOut}

@@ -1,7 +1,7 @@
 -- Alike heaps, as they are now.
 use Rattle.std.proofs.Common.{refl, inl}
-use Rattle.kilim_program.specs.Machine.{Objects}
-use Rattle.kilim_kin.specs.Kin.{Names, Alike}
+use Rattle.kilim_classes.specs.machine.Machine.{Objects}
+use Rattle.kilim_thread_model.specs.kin.Kin.{Names, Alike}
 use Rattle.kilim_woven_runs.specs.fiber_kin.Mine.{all_mine}
 
 pub again : (of : Names) (k0 h k : Objects) → Alike of all_mine 0 k0 h k → Alike of all_mine 0 k h k

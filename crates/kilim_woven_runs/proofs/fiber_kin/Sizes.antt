@@ -6,12 +6,12 @@ use Rattle.kilim_classes.specs.Program.{Program}
 use Rattle.kilim_classes.specs.declared.value.Value.{Value}
 use Rattle.kilim_classes.specs.declared.value.Value.TheVariants.{Int, Long, Null, Ref, Text, Box, Fiber}
 use Rattle.kilim_classes.specs.Names.{◌>>=◌}
-use Rattle.kilim_program.specs.declared.value.Object.{Object}
-use Rattle.kilim_program.specs.declared.value.Token.{Token}
-use Rattle.kilim_program.specs.declared.value.Token.TheVariants as token
-use Rattle.kilim_program.specs.Machine.{Objects}
-use Rattle.kilim_program.specs.Members.{shown_name}
-use Rattle.kilim_program.specs.Shapes.{tree_limit, shape_of, shape_by, content_tokens, joined_tokens, is_open}
+use Rattle.kilim_classes.specs.declared.machine.value.Object.{Object}
+use Rattle.kilim_classes.specs.declared.machine.value.Token.{Token}
+use Rattle.kilim_classes.specs.declared.machine.value.Token.TheVariants as token
+use Rattle.kilim_classes.specs.machine.Machine.{Objects}
+use Rattle.kilim_classes.specs.machine.Members.{shown_name}
+use Rattle.kilim_classes.specs.machine.Shapes.{tree_limit, shape_of, shape_by, content_tokens, joined_tokens, is_open}
 use Rattle.kilim_thread_model.specs.Reach.{Below, Then}
 use Rattle.kilim_thread_model.specs.Kept.{IsIn}
 use Rattle.kilim_tree_move.specs.Walk.{value_refs, element_refs, refs, Leads, AreIn, IsTree}

@@ -9,17 +9,17 @@ use Rattle.kilim_classes.specs.declared.names.FieldId.{FieldId}
 use Rattle.kilim_classes.specs.declared.ty.Ty.{Ty}
 use Rattle.kilim_classes.specs.declared.value.Value.{Value}
 use Rattle.kilim_classes.specs.declared.value.Value.TheVariants.{Int, Long, Null, Ref, Text, Box, Fiber}
-use Rattle.kilim_program.specs.declared.value.Object.{Object}
-use Rattle.kilim_program.specs.declared.value.Token.{Token}
-use Rattle.kilim_program.specs.Machine.{Objects}
-use Rattle.kilim_program.specs.Shapes.{tree_limit, field_in, fields_in_order, shape_of}
-use Rattle.kilim_program.specs.Trees.{Root, joined_names, names_where, content_names, names_in, value_names, tree_names}
+use Rattle.kilim_classes.specs.declared.machine.value.Object.{Object}
+use Rattle.kilim_classes.specs.declared.machine.value.Token.{Token}
+use Rattle.kilim_classes.specs.machine.Machine.{Objects}
+use Rattle.kilim_classes.specs.machine.Shapes.{tree_limit, field_in, fields_in_order, shape_of}
+use Rattle.kilim_classes.specs.machine.Trees.{Root, joined_names, names_where, content_names, names_in, value_names, tree_names}
 use Rattle.kilim_thread_model.specs.Kept.{IsFormed, IsIn, IsOnce}
-use Rattle.kilim_kin.specs.Kin.{Names, IsKin, AreKin, FieldsKin, ObjectsKin, Alike}
-use Rattle.kilim_kin.specs.trees.TreeKin.{AllFields, AllValues, IsIntact, IsWholeTree}
-use Rattle.kilim_kin.proofs.trees.ReadBack.{shapes_give}
-use Rattle.kilim_kin.proofs.trees.Shaped.{shape_kin}
-use Rattle.kilim_one_heap.proofs.Given.{Named, AreThere, copies_there, there_in, named_in}
+use Rattle.kilim_thread_model.specs.kin.Kin.{Names, IsKin, AreKin, FieldsKin, ObjectsKin, Alike}
+use Rattle.kilim_thread_model.specs.kin.trees.TreeKin.{AllFields, AllValues, IsIntact, IsWholeTree}
+use Rattle.kilim_thread_model.proofs.kin.trees.ReadBack.{shapes_give}
+use Rattle.kilim_thread_model.proofs.kin.trees.Shaped.{shape_kin}
+use Rattle.kilim_thread_model.proofs.one_heap.Given.{Named, AreThere, copies_there, there_in, named_in}
 use Rattle.kilim_machine_parts.specs.Places.{AllDiffer}
 use Rattle.kilim_tree_move.specs.Walk.{places}
 use Rattle.kilim_tree_move.proofs.Named.{names_are_places}

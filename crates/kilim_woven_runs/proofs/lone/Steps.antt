@@ -1,31 +1,31 @@
 -- Row for row, a step of the thread is the next of the thread on its own heap.
 use Rattle.std.proofs.Common.{◌≡◌, ℕ, suc, ◌+◌, Bool, true, false, ℤ, List, [], ◌∷◌, length, Option, Some, None, refl, sym, ap, subst, ◌∙◌}
 use Rattle.std.specs.Prelude.{nat_le, nat_lt, if◌then◌else◌}
-use Rattle.kilim_program.specs.declared.cause.EndCause.{EndCause}
-use Rattle.kilim_program.specs.declared.cause.EndCause.TheVariants as cause
+use Rattle.kilim_classes.specs.declared.machine.cause.EndCause.{EndCause}
+use Rattle.kilim_classes.specs.declared.machine.cause.EndCause.TheVariants as cause
 use Rattle.kilim_classes.specs.declared.class.Method.{Method}
 use Rattle.kilim_classes.specs.declared.instr.Instr.{Instr}
 use Rattle.kilim_classes.specs.declared.names.BoxName.{BoxName}
 use Rattle.kilim_classes.specs.declared.names.MethodId.{MethodId}
-use Rattle.kilim_program.specs.declared.value.Object.{Object}
-use Rattle.kilim_program.specs.declared.value.Token.{Token}
+use Rattle.kilim_classes.specs.declared.machine.value.Object.{Object}
+use Rattle.kilim_classes.specs.declared.machine.value.Token.{Token}
 use Rattle.kilim_classes.specs.declared.value.Value.{Value}
 use Rattle.kilim_classes.specs.declared.value.Value.TheVariants.{Int, Long, Null, Ref, Text, Box, Fiber}
 use Rattle.kilim_classes.specs.Lengths.{fetched}
 use Rattle.kilim_classes.specs.Names.{method_at}
 use Rattle.kilim_journal.specs.declared.entry.Act.{Act}
 use Rattle.kilim_journal.specs.declared.entry.Act.TheVariants.{Put, Take, Empty, Start, Print, End, Wait, Bound}
-use Rattle.kilim_program.specs.Machine.{Objects}
-use Rattle.kilim_program.specs.Members.{execute_of}
-use Rattle.kilim_program.specs.Natives.{Native, native_of}
-use Rattle.kilim_program.specs.Natives as native
-use Rattle.kilim_program.specs.Effect.{Effect}
-use Rattle.kilim_program.specs.Effect as effect
-use Rattle.kilim_program.specs.Does.{does}
-use Rattle.kilim_program.specs.Moves.{Move, effect_found, effect_in, effect_of, entered, frame_limit, goes_on, move_by, moves, receiver_of}
-use Rattle.kilim_program.specs.Moves as move
-use Rattle.kilim_program.specs.Shapes.{shape_of}
-use Rattle.kilim_program.specs.Trees.{OfMessage, built}
+use Rattle.kilim_classes.specs.machine.Machine.{Objects}
+use Rattle.kilim_classes.specs.machine.Members.{execute_of}
+use Rattle.kilim_classes.specs.machine.Natives.{Native, native_of}
+use Rattle.kilim_classes.specs.machine.Natives as native
+use Rattle.kilim_classes.specs.machine.Effect.{Effect}
+use Rattle.kilim_classes.specs.machine.Effect as effect
+use Rattle.kilim_classes.specs.machine.Does.{does}
+use Rattle.kilim_classes.specs.machine.Moves.{Move, effect_found, effect_in, effect_of, entered, frame_limit, goes_on, move_by, moves, receiver_of}
+use Rattle.kilim_classes.specs.machine.Moves as move
+use Rattle.kilim_classes.specs.machine.Shapes.{shape_of}
+use Rattle.kilim_classes.specs.machine.Trees.{OfMessage, built}
 use Rattle.kilim_thread_model.specs.State.{Setting, Alive, begun_in, begun_on}
 use Rattle.kilim_thread_model.specs.Lone.{Lone, Next, arg_at, arg_next, asks_next, begins_next, box_limit, ended, finish_next, frames_next, message_next, native_next, next_by, next_move, on_heap, opens_next, print_next, printed, put_next, start_next, thread_next, went}
 use Rattle.kilim_thread_model.specs.Lone as next

@@ -3,10 +3,10 @@ use Rattle.std.specs.Prelude.{◌≡◌, ℕ, Bool, List, Some, codes, slice_get
 use Rattle.kilim_classes.specs.declared.names.MethodId.{MethodId}
 use Rattle.kilim_classes.specs.declared.ty.Ty.{Ty}
 use Rattle.kilim_classes.specs.Program.{Program}
-use Rattle.kilim_program.specs.Effect.{named_type}
-use Rattle.kilim_program.specs.Natives.{FiberMember}
+use Rattle.kilim_classes.specs.machine.Effect.{named_type}
+use Rattle.kilim_classes.specs.machine.Natives.{FiberMember}
 use Rattle.kilim_thread_model.specs.State.{Setting}
-use Rattle.kilim_woven_form.specs.Woven.{member}
+use Rattle.kilim_typing.specs.woven_form.Woven.{member}
 use Rattle.kilim_woven_runs.specs.Form.{Facts, Members, members_in_order}
 use Rattle.kilim_woven_runs.specs.Links.{Forms, code}
 use Rattle.kilim_woven_runs.specs.Serves.{Rows}

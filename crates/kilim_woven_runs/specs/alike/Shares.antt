@@ -12,15 +12,15 @@ use Rattle.kilim_classes.specs.BuiltIn.{class_type}
 use Rattle.kilim_classes.specs.Fits.{fits_type}
 use Rattle.kilim_classes.specs.Names.{field_of, method_at}
 use Rattle.kilim_classes.specs.Program.{Program}
-use Rattle.kilim_program.specs.Does.{cast_fits, chosen, does, is_instance, is_mailbox, special}
-use Rattle.kilim_program.specs.Effect.{Calls, Asks, named_type}
-use Rattle.kilim_program.specs.Machine.{Objects}
-use Rattle.kilim_program.specs.Members.{execute_of}
-use Rattle.kilim_program.specs.Moves.{slots_in}
-use Rattle.kilim_program.specs.Natives.{FiberMember, Save, Place, Native, native_of, is_built_in_constructor, is_handed_out, is_text_method}
-use Rattle.kilim_program.specs.Objects.{new_object}
+use Rattle.kilim_classes.specs.machine.Does.{cast_fits, chosen, does, is_instance, is_mailbox, special}
+use Rattle.kilim_classes.specs.machine.Effect.{Calls, Asks, named_type}
+use Rattle.kilim_classes.specs.machine.Machine.{Objects}
+use Rattle.kilim_classes.specs.machine.Members.{execute_of}
+use Rattle.kilim_classes.specs.machine.Moves.{slots_in}
+use Rattle.kilim_classes.specs.machine.Natives.{FiberMember, Save, Place, Native, native_of, is_built_in_constructor, is_handed_out, is_text_method}
+use Rattle.kilim_classes.specs.machine.Objects.{new_object}
 use Rattle.kilim_thread_model.specs.State.{Setting}
-use Rattle.kilim_woven_form.specs.Woven.{pausable_callee}
+use Rattle.kilim_typing.specs.woven_form.Woven.{pausable_callee}
 use Rattle.kilim_woven_runs.specs.Fibers.{member_of}
 use Rattle.kilim_woven_runs.specs.Form.{is_pausable}
 use Rattle.kilim_woven_runs.specs.Rows.{IsClean, is_old_base}

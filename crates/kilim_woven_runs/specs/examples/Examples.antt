@@ -2,10 +2,10 @@
 use Rattle.std.specs.Prelude.{◌≡◌, ℕ, [], ◌∷◌, Some}
 use Rattle.kilim_classes.specs.declared.value.Value.TheVariants.{Ref}
 use Rattle.kilim_classes.specs.BuiltIn.{class_id, method_id}
-use Rattle.kilim_program.specs.declared.cause.EndCause.{EndCause}
-use Rattle.kilim_program.specs.declared.cause.EndCause.TheVariants as cause
-use Rattle.kilim_program.specs.Members.{execute_of}
-use Rattle.kilim_woven_form.specs.Samples.{values}
+use Rattle.kilim_classes.specs.declared.machine.cause.EndCause.{EndCause}
+use Rattle.kilim_classes.specs.declared.machine.cause.EndCause.TheVariants as cause
+use Rattle.kilim_classes.specs.machine.Members.{execute_of}
+use Rattle.kilim_typing.specs.woven_form.Samples.{values}
 use Rattle.kilim_woven_runs.specs.Acts.{Ends, Wants, counted}
 use Rattle.kilim_woven_runs.specs.Fibers.{WRun, WStop, new_fiber, wresumes, wstarted, wstep, wsteps}
 use Rattle.kilim_woven_runs.specs.Thread.{Run, Stop, started, step}

@@ -1,4 +1,4 @@
--- A pause, computed: the second program of kilim_woven_form, woven, from its `yield` to its rest and back.
+-- A pause, computed: the second program of kilim_typing::woven_form, woven, from its `yield` to its rest and back.
 use Rattle.std.specs.Prelude.{ℕ, Bool, true, false, pos, List, [], ◌∷◌, Some, None, codes, map}
 use Rattle.std.specs.FinMap.{empty}
 use Rattle.kilim_classes.specs.declared.class.Form.TheVariants.{Woven}
@@ -7,8 +7,8 @@ use Rattle.kilim_classes.specs.declared.value.Value.TheVariants.{Int, Long, Null
 use Rattle.kilim_classes.specs.BuiltIn.{built_in_classes_in, built_in_methods_in, class_id, method_id}
 use Rattle.kilim_classes.specs.Program.{Program}
 use Rattle.kilim_thread_model.specs.State.{Setting}
-use Rattle.kilim_woven_form.specs.Samples.{sample_class, sample_constructor, values, values_plan}
-use Rattle.kilim_woven_form.specs.Woven.{marks, woven_items, woven_method}
+use Rattle.kilim_typing.specs.woven_form.Samples.{sample_class, sample_constructor, values, values_plan}
+use Rattle.kilim_typing.specs.woven_form.Woven.{marks, woven_items, woven_method}
 use Rattle.kilim_woven_runs.specs.Acts.{World, counted}
 use Rattle.kilim_woven_runs.specs.Fibers.{Fib, Fiber_at, Saved, Woven_state, WRun, Resting, new_fiber}
 

@@ -2,17 +2,17 @@
 use Rattle.std.specs.Prelude.{◌≡◌, ◌≤◌, ℕ, Bool, true, false, List, Some, None, length}
 use Rattle.std.specs.List.{AllByRecursion}
 use Rattle.kilim_classes.specs.Program.{Program}
-use Rattle.kilim_program.specs.declared.value.Object.{Object}
-use Rattle.kilim_program.specs.declared.value.Token.{Token}
-use Rattle.kilim_program.specs.Machine.{Objects}
-use Rattle.kilim_program.specs.Moves.{Move}
-use Rattle.kilim_program.specs.Moves as move
-use Rattle.kilim_program.specs.Shapes.{tree_limit, shape_of}
-use Rattle.kilim_program.specs.Trees.{Root, is_allowed}
+use Rattle.kilim_classes.specs.declared.machine.value.Object.{Object}
+use Rattle.kilim_classes.specs.declared.machine.value.Token.{Token}
+use Rattle.kilim_classes.specs.machine.Machine.{Objects}
+use Rattle.kilim_classes.specs.machine.Moves.{Move}
+use Rattle.kilim_classes.specs.machine.Moves as move
+use Rattle.kilim_classes.specs.machine.Shapes.{tree_limit, shape_of}
+use Rattle.kilim_classes.specs.machine.Trees.{Root, is_allowed}
 use Rattle.kilim_thread_model.specs.Lone.{Lone}
 use Rattle.kilim_thread_model.specs.Kept.{IsFormed}
-use Rattle.kilim_kin.specs.Kin.{Names}
-use Rattle.kilim_kin.specs.trees.TreeKin.{IsWholeTree}
+use Rattle.kilim_thread_model.specs.kin.Kin.{Names}
+use Rattle.kilim_thread_model.specs.kin.trees.TreeKin.{IsWholeTree}
 use Rattle.kilim_machine_parts.specs.Places.{AllDiffer}
 use Rattle.kilim_tree_move.specs.Walk.{IsTree, AllThere, places}
 use Rattle.kilim_tree_move.specs.Moved.{IsTooLarge, tree_heap}

@@ -1,10 +1,10 @@
 -- A running fiber, and the thread of its course, which has a heap of its own: the same but for the names of objects.
 use Rattle.std.specs.Prelude.{◌≡◌, ◌<◌, ℕ, List, Option, Some}
-use Rattle.kilim_program.specs.Machine.{Objects, Activation}
+use Rattle.kilim_classes.specs.machine.Machine.{Objects, Activation}
 use Rattle.kilim_thread_model.specs.State.{Alive}
 use Rattle.kilim_thread_model.specs.Lone.{Lone}
-use Rattle.kilim_kin.specs.Kin.{Names, NameKin, Alike}
-use Rattle.kilim_one_heap.specs.Lones.{ThreadKin}
+use Rattle.kilim_thread_model.specs.kin.Kin.{Names, NameKin, Alike}
+use Rattle.kilim_thread_model.specs.one_heap.Lones.{ThreadKin}
 use Rattle.kilim_woven_runs.specs.fiber_kin.Mine.{all_mine}
 
 -- What a running fiber is: its frames, the top first, its heap, whose places are used again, the instructions that it has

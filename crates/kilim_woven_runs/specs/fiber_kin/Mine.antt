@@ -1,6 +1,6 @@
 -- Whose an object of a fiber's heap is.
 use Rattle.std.specs.Prelude.{ℕ}
-use Rattle.kilim_kin.specs.Kin.{Owner, OfTask}
+use Rattle.kilim_thread_model.specs.kin.Kin.{Owner, OfTask}
 
 -- all of them are its own; no other thread is in sight
 abbrev pub all_mine : ℕ → Owner

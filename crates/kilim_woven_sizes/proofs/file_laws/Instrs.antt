@@ -29,7 +29,7 @@ use Rattle.kilim_class_fits.specs.declared.pool_needs.need.Need.TheVariants.{ATe
 use Rattle.kilim_class_fits.specs.pool_needs.Adding.{index_of}
 use Rattle.kilim_woven_sizes.specs.file_laws.pool.Pools.{Names, SameOperands}
 use Rattle.kilim_woven_sizes.specs.file_laws.Members.{pausing}
-use Rattle.kilim_woven_form.specs.Woven.{moved_instr, moved_pairs}
+use Rattle.kilim_typing.specs.woven_form.Woven.{moved_instr, moved_pairs}
 use Rattle.kilim_woven_sizes.specs.file_laws.form.Texts.{woven_descriptor, needed_method}
 use Rattle.kilim_woven_sizes.specs.file_laws.form.Raw.{pauses, is_pausable_call, local_form, shortest, target_of, moved_raw, old_need, call_need, call_by, index_or, switched, place_number, pair_number, added_raw, raw_code}
 use Rattle.kilim_woven_sizes.specs.file_laws.Resolving.{WorldsAgree, IsFound}

@@ -33,7 +33,7 @@ use Rattle.kilim_class_fits.specs.declared.pool_needs.need.Need.{Need}
 use Rattle.kilim_class_fits.specs.declared.pool_needs.need.Need.TheVariants.{ACall, AClass}
 use Rattle.kilim_woven_sizes.specs.file_laws.Descriptors.{IsPlain}
 use Rattle.kilim_woven_sizes.specs.file_laws.Resolving.{IsFound, WorldsAgree}
-use Rattle.kilim_woven_form.specs.Woven.{moved_instr}
+use Rattle.kilim_typing.specs.woven_form.Woven.{moved_instr}
 use Rattle.kilim_woven_sizes.specs.file_laws.pool.Pools.{Names, SameOperands}
 use Rattle.std.specs.List.{AllByRecursion}
 use Rattle.kilim_bytecode.specs.declared.opcodes.instr.RawInstr.TheVariants as raw

@@ -1,5 +1,5 @@
 use Rattle.std.proofs.Common.{refl}
-use Rattle.kilim_program.specs.Does.{does}
+use Rattle.kilim_classes.specs.machine.Does.{does}
 use Rattle.kilim_checked_runs.proofs.instruction_examples.arithmetic_is_javas.Goals as goal
 
 pub returns : goal.returns

@@ -1,5 +1,5 @@
 use Rattle.std.proofs.Common.{refl}
-use Rattle.kilim_program.specs.Does.{does, array_limit}
+use Rattle.kilim_classes.specs.machine.Does.{does, array_limit}
 use Rattle.kilim_checked_runs.proofs.instruction_examples.rows_are_at_edges.Goals as goal
 
 pub returns : goal.returns

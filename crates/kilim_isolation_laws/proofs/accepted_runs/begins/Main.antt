@@ -12,7 +12,7 @@ use Rattle.kilim_classes.specs.declared.ty.Qualifier.TheVariants.{Free, Cuttable
 use Rattle.kilim_classes.specs.Names.{method_at, methods_of, first_that, is_empty}
 use Rattle.kilim_classes.specs.Program.{Program}
 use Rattle.kilim_classes.specs.Same.{is_constructor, same_qualifier}
-use Rattle.kilim_program.specs.Members.{is_plain_method}
+use Rattle.kilim_classes.specs.machine.Members.{is_plain_method}
 use Rattle.kilim_link_laws.specs.code_laws.Facts.{cuts_its_receiver}
 use Rattle.kilim_isolation_laws.specs.accepted_runs.begins.Begins.{MainBegins}
 

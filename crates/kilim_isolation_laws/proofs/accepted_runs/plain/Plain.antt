@@ -12,7 +12,7 @@ use Rattle.kilim_classfile.specs.declared.class_file.ClassFile.{ClassFile}
 use Rattle.kilim_link_spec.specs.Laws.{LinkedInParts}
 use Rattle.kilim_link_spec.specs.LinksWell.{LinksWell}
 use Rattle.kilim_link_laws.specs.Facts.{EachIsNamed, each_is_named}
-use Rattle.kilim_kin.specs.trees.Laws.{IsPlain}
+use Rattle.kilim_thread_model.specs.kin.trees.Laws.{IsPlain}
 use Rattle.kilim_isolation_laws.specs.tree_types.Laws.{AreNamedPlainly}
 
 same_test : {A : Type 0} (test : A → Bool) (x y : A) → Some y ≡ Some x → test y ≡ true → test x ≡ true

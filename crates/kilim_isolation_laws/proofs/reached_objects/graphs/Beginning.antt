@@ -14,8 +14,8 @@ use Rattle.kilim_classes.specs.Kinds.{is_tree_kind, kind_of}
 use Rattle.kilim_classes.specs.Names.{method_at}
 use Rattle.kilim_classes.specs.Program.{Program}
 use Rattle.kilim_classes.specs.Same.{is_constructor}
-use Rattle.kilim_program.specs.Machine.{Objects}
-use Rattle.kilim_program.specs.Moves.{entered, slots_in}
+use Rattle.kilim_classes.specs.machine.Machine.{Objects}
+use Rattle.kilim_classes.specs.machine.Moves.{entered, slots_in}
 use Rattle.kilim_typing.specs.Step.{class_vtype, peek}
 use Rattle.kilim_typing.specs.Typed.{entry, this_types}
 use Rattle.kilim_isolation_laws.specs.forest.Canonical.{absent, node_at}

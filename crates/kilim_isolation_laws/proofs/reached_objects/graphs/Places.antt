@@ -10,7 +10,7 @@ use Rattle.kilim_classes.specs.declared.value.Value.{Value}
 use Rattle.kilim_classes.specs.declared.value.Value.TheVariants.{Ref, Box}
 use Rattle.kilim_classes.specs.declared.verified.VType.{VType}
 use Rattle.kilim_classes.specs.Program.{Program}
-use Rattle.kilim_program.specs.Machine.{Objects}
+use Rattle.kilim_classes.specs.machine.Machine.{Objects}
 use Rattle.kilim_classes.specs.Names.{method_at}
 use Rattle.kilim_typing.specs.Step.{Types, peek, Row, by_row, row, type_step, is_same, replaced, one_replaced, may_make}
 use Rattle.kilim_shape_graph.specs.declared.graph.Graph.{Graph}

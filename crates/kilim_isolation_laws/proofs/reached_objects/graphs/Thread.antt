@@ -11,9 +11,9 @@ use Rattle.kilim_classes.specs.declared.value.Value.TheVariants.{Box, Ref}
 use Rattle.kilim_classes.specs.Program.{Program}
 use Rattle.kilim_classes.specs.Lengths.{fetched}
 use Rattle.kilim_classes.specs.Names.{method_at}
-use Rattle.kilim_program.specs.Effect.{Effect, Goes, Makes, Opens, Calls, Asks, Returns, Raises, Ends, Stuck}
-use Rattle.kilim_program.specs.Machine.{Activation, Objects}
-use Rattle.kilim_program.specs.Moves.{Move, effect_found, effect_in, entered, frame_limit, goes_on, move_by, moves, push_result, returned}
+use Rattle.kilim_classes.specs.machine.Effect.{Effect, Goes, Makes, Opens, Calls, Asks, Returns, Raises, Ends, Stuck}
+use Rattle.kilim_classes.specs.machine.Machine.{Activation, Objects}
+use Rattle.kilim_classes.specs.machine.Moves.{Move, effect_found, effect_in, entered, frame_limit, goes_on, move_by, moves, push_result, returned}
 use Rattle.kilim_typing.specs.Step.{Types, result_types, type_step, vtype}
 use Rattle.kilim_typing.specs.Typed.{Among, declared, edges, entry, has_code}
 use Rattle.kilim_isolation_laws.specs.forest.Canonical.{node_at}

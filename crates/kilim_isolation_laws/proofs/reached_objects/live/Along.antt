@@ -7,7 +7,7 @@ use Rattle.kilim_classes.specs.declared.verified.Frame.{Frame}
 use Rattle.kilim_classes.specs.Lengths.{fetched}
 use Rattle.kilim_classes.specs.Program.{Program}
 use Rattle.kilim_typing.specs.Typed.{Among, declared, edges}
-use Rattle.kilim_typing_laws.proofs.Tops.{passed}
+use Rattle.kilim_typing.proofs.typing_laws.Tops.{passed}
 use Rattle.kilim_paths.specs.Paths.{ArrivesBy, Has, Leads, Reaches}
 use Rattle.kilim_shape_graph.specs.declared.graph.Graph.{Graph}
 use Rattle.kilim_shape_graph.specs.Canonical.{canonical_at}

@@ -14,9 +14,9 @@ use Rattle.kilim_classes.specs.Lengths.{fetched, is_code_place}
 use Rattle.kilim_classes.specs.Program.{Program}
 use Rattle.kilim_typing.specs.Step.{Types, Operand, Is, Loads, Adds, by_row, is_top, meets, peek, row, type_step}
 use Rattle.kilim_typing.specs.Typed.{Among, GoesOn, Live, ReadsIt, declared, edges, entry, reads}
-use Rattle.kilim_typing_laws.proofs.Edges.{edges_flow, stands_at}
-use Rattle.kilim_typing_laws.proofs.Lives.{live_is_typed}
-use Rattle.kilim_typing_laws.proofs.Tops.{passed}
+use Rattle.kilim_typing.proofs.typing_laws.Edges.{edges_flow, stands_at}
+use Rattle.kilim_typing.proofs.typing_laws.Lives.{live_is_typed}
+use Rattle.kilim_typing.proofs.typing_laws.Tops.{passed}
 use Rattle.kilim_paths.specs.Paths.{Reaches}
 use Rattle.kilim_paths.proofs.Accepted.{reaches_more}
 use Rattle.kilim_shape_graph.specs.declared.graph.Graph.{Graph}

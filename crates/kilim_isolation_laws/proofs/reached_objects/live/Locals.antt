@@ -21,7 +21,7 @@ use Rattle.kilim_classes.specs.Program.{Program}
 use Rattle.kilim_classes.specs.Same.{is_constructor}
 use Rattle.kilim_typing.specs.Step.{Types, Operand, Is, AReference, Further, Row, Takes, Element, Shuffles, Loads, Stores, Adds, Makes, Constructs, Leaves, array_ty, peek, poke, is_long, is_same, split_at, split_long, with_half, stored, one_replaced, replaced, meets, rule, shuffled, with_stack, store, element, with_element, class_vtype, constructed, by_row, row, type_step, constant_row, long_constant_row, field_row, static_row, virtual_row, special_row, special_by}
 use Rattle.kilim_typing.specs.Typed.{writes}
-use Rattle.kilim_typing_laws.proofs.Tops.{passed, past}
+use Rattle.kilim_typing.proofs.typing_laws.Tops.{passed, past}
 use Rattle.kilim_shape_graph.specs.declared.graph.Graph.{Graph}
 use Rattle.kilim_shape_graph.specs.declared.node.Label.{Label}
 use Rattle.kilim_shape_graph.specs.declared.node.Label.TheVariants as label

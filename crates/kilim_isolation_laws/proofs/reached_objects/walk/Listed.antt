@@ -9,7 +9,7 @@ use Rattle.kilim_classes.specs.Names.{method_at}
 use Rattle.kilim_classes.specs.Program.{Program}
 use Rattle.kilim_typing.specs.Step.{Types}
 use Rattle.kilim_typing.specs.Typed.{arriving, declared, entry, frame_among as types_among, frames_from, frames_of, left_by, listed, typing_of}
-use Rattle.kilim_typing_laws.specs.Laws.{typing_in}
+use Rattle.kilim_typing.specs.typing_laws.Laws.{typing_in}
 use Rattle.kilim_typing.specs.TypedProgram.{KeepsTyped, TypedProgram}
 use Rattle.kilim_pausable_graph.specs.Pausing.{frames_at}
 use Rattle.kilim_isolation_check.specs.Walks.{frame_among}

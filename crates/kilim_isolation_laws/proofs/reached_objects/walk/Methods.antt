@@ -7,7 +7,7 @@ use Rattle.kilim_classes.specs.declared.names.MethodId.{MethodId}
 use Rattle.kilim_classes.specs.Keeps.{Keeps}
 use Rattle.kilim_classes.specs.Names.{class_at, method_at}
 use Rattle.kilim_classes.specs.Program.{Program}
-use Rattle.kilim_typing_laws.proofs.fits.ClassMethods.{IsAmong, owner_lists}
+use Rattle.kilim_typing.proofs.typing_laws.fits.ClassMethods.{IsAmong, owner_lists}
 use Rattle.kilim_pausable_graph.specs.Pausing.{all_methods}
 use Rattle.kilim_isolation_check.proofs.Accepting.{goes_on}
 use Rattle.kilim_isolation_laws.specs.reached_objects.walk.Laws.{EveryMethodGoes}

@@ -8,10 +8,10 @@ use Rattle.kilim_classes.specs.Lengths.{fetched, first_place, is_code_place}
 use Rattle.kilim_classes.specs.Program.{Program}
 use Rattle.kilim_typing.specs.Step.{Types, peek}
 use Rattle.kilim_typing.specs.Typed.{declared, edges}
-use Rattle.kilim_typing_laws.specs.Laws.{typing_at}
-use Rattle.kilim_typing_laws.proofs.ByPlace.{typed_by_place}
-use Rattle.kilim_typing_laws.proofs.Listed.{listed_frames_show}
-use Rattle.kilim_typing_laws.proofs.Tops.{passed}
+use Rattle.kilim_typing.specs.typing_laws.Laws.{typing_at}
+use Rattle.kilim_typing.proofs.typing_laws.ByPlace.{typed_by_place}
+use Rattle.kilim_typing.proofs.typing_laws.Listed.{listed_frames_show}
+use Rattle.kilim_typing.proofs.typing_laws.Tops.{passed}
 use Rattle.kilim_paths.specs.Paths.{Has, Reaches}
 use Rattle.kilim_shape_graph.specs.declared.graph.Graph.{Graph}
 use Rattle.kilim_shape_graph.specs.Canonical.{canonical_at}

@@ -11,25 +11,25 @@ use Rattle.kilim_classes.specs.declared.verified.VType.{VType}
 use Rattle.kilim_classes.specs.Lengths.{fetched, first_place, is_code_place}
 use Rattle.kilim_classes.specs.Names.{method_at}
 use Rattle.kilim_classes.specs.Program.{Program}
-use Rattle.kilim_program.specs.declared.cause.EndCause.TheVariants as cause
-use Rattle.kilim_program.specs.Effect.{Effect, named_type}
-use Rattle.kilim_program.specs.Effect as effect
-use Rattle.kilim_program.specs.Machine.{Objects, Activation}
-use Rattle.kilim_program.specs.Moves.{effect_in, effect_found, effect_of, entered, frame_limit, goes_on, move_by, moves, receiver_of, returned}
-use Rattle.kilim_program.specs.Moves as move
-use Rattle.kilim_program.specs.Natives.{Native, native_of}
-use Rattle.kilim_program.specs.Natives as native
+use Rattle.kilim_classes.specs.declared.machine.cause.EndCause.TheVariants as cause
+use Rattle.kilim_classes.specs.machine.Effect.{Effect, named_type}
+use Rattle.kilim_classes.specs.machine.Effect as effect
+use Rattle.kilim_classes.specs.machine.Machine.{Objects, Activation}
+use Rattle.kilim_classes.specs.machine.Moves.{effect_in, effect_found, effect_of, entered, frame_limit, goes_on, move_by, moves, receiver_of, returned}
+use Rattle.kilim_classes.specs.machine.Moves as move
+use Rattle.kilim_classes.specs.machine.Natives.{Native, native_of}
+use Rattle.kilim_classes.specs.machine.Natives as native
 use Rattle.kilim_rows.specs.Outcome.{is_stuck}
 use Rattle.kilim_typing.specs.Step.{Types, made_at, made_by, result_types, words}
 use Rattle.kilim_jvm_interp.specs.Step.{CallerFits, FitsStack, limit_in, stack_limit}
 use Rattle.kilim_jvm_interp.specs.Run.{IsFine}
 use Rattle.kilim_thread_model.specs.State.{Setting, Thread, Alive}
-use Rattle.kilim_typing_laws.specs.fits.Fits.{Classes, Typing, Wanted, Awaited, AReference, AValue, BelowFit, FrameFits, Fits, AreThere, HeapFits, Nothing, StackFits, has_type, have_types, result_awaited, result_of}
-use Rattle.kilim_typing_laws.specs.fits.Sound.{EffectFits, GoesOn}
-use Rattle.kilim_typing_laws.proofs.fits.Grounds.{facts_hold}
-use Rattle.kilim_typing_laws.proofs.fits.Narrowed.{narrows}
-use Rattle.kilim_typing_laws.proofs.fits.Table.{table_fits}
-use Rattle.kilim_typing_laws.proofs.fits.Walk.{Stands, stands_at}
+use Rattle.kilim_typing.specs.typing_laws.fits.Fits.{Classes, Typing, Wanted, Awaited, AReference, AValue, BelowFit, FrameFits, Fits, AreThere, HeapFits, Nothing, StackFits, has_type, have_types, result_awaited, result_of}
+use Rattle.kilim_typing.specs.typing_laws.fits.Sound.{EffectFits, GoesOn}
+use Rattle.kilim_typing.proofs.typing_laws.fits.Grounds.{facts_hold}
+use Rattle.kilim_typing.proofs.typing_laws.fits.Narrowed.{narrows}
+use Rattle.kilim_typing.proofs.typing_laws.fits.Table.{table_fits}
+use Rattle.kilim_typing.proofs.typing_laws.fits.Walk.{Stands, stands_at}
 use Rattle.kilim_woven_runs.specs.fiber_kin.Served.{ResultFits, gives_value}
 use Rattle.kilim_isolation_laws.specs.typed_threads.fine.Typed.{IsVerified, TopIsThere, frames_of}
 use Rattle.kilim_isolation_laws.specs.typed_threads.fine.Law.{FittingIsFine}

@@ -14,10 +14,10 @@ use Rattle.kilim_classes.specs.Lengths.{ends_path, is_code_place}
 use Rattle.kilim_classes.specs.Program.{Program}
 use Rattle.kilim_typing.specs.Step.{Types, Operand, Row, Takes, Element, Shuffles, Loads, Stores, Adds, Makes, Constructs, Leaves, Further, Form, form_room, has_room, room_for, is_same, one_replaced, peek, pushed, size, replaced, stored, class_vtype, by_row, row, with_stack, with_element, element, shuffled, store, constructed, words}
 use Rattle.kilim_typing.specs.Typed.{Here, TypedBy, WellTypedBy, declared, entry, frame_fits, frame_in, frame_types, goes_on}
-use Rattle.kilim_typing_laws.proofs.Tops.{passed, past}
-use Rattle.kilim_woven_form.proofs.woven_types.Crux.{FirmRow}
-use Rattle.kilim_woven_form.proofs.woven_types.Forms.{form_low, given_low, element_low, words_append}
-use Rattle.kilim_woven_form.proofs.woven_types.Old.{firm_row}
+use Rattle.kilim_typing.proofs.typing_laws.Tops.{passed, past}
+use Rattle.kilim_typing.proofs.woven_form.woven_types.Crux.{FirmRow}
+use Rattle.kilim_typing.proofs.woven_form.woven_types.Forms.{form_low, given_low, element_low, words_append}
+use Rattle.kilim_typing.proofs.woven_form.woven_types.Old.{firm_row}
 
 -- ---- words
 

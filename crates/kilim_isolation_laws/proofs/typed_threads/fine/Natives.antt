@@ -11,10 +11,10 @@ use Rattle.kilim_classes.specs.BuiltIn.{built_in_methods_in, class_id, class_typ
 use Rattle.kilim_classes.specs.Keeps.{Keeps}
 use Rattle.kilim_classes.specs.Names.{◌>>=◌, class_name, method_at}
 use Rattle.kilim_classes.specs.Program.{Program}
-use Rattle.kilim_program.specs.Natives.{Native, natives, native_named, native_method, native_of}
-use Rattle.kilim_program.specs.Natives as native
-use Rattle.kilim_typing_laws.proofs.fits.BuiltInMembers.{NamedAt, built_in_at, named_at, none_built_in}
-use Rattle.kilim_typing_laws.proofs.fits.ValueClasses.{all_of_at}
+use Rattle.kilim_classes.specs.machine.Natives.{Native, natives, native_named, native_method, native_of}
+use Rattle.kilim_classes.specs.machine.Natives as native
+use Rattle.kilim_typing.proofs.typing_laws.fits.BuiltInMembers.{NamedAt, built_in_at, named_at, none_built_in}
+use Rattle.kilim_typing.proofs.typing_laws.fits.ValueClasses.{all_of_at}
 
 -- the type of its result, where the first built-in class has this number
 abbrev pub gives : ℕ → Native → Option Ty

@@ -19,13 +19,13 @@ use Rattle.kilim_classes.specs.BuiltIn.{built_in_classes_in}
 use Rattle.kilim_classes.specs.Keeps.{Keeps, is_open_superclass, own_class_fits}
 use Rattle.kilim_classes.specs.Names.{class_from, field_of}
 use Rattle.kilim_classes.specs.Program.{Program}
-use Rattle.kilim_program.specs.declared.value.Object.{Object}
-use Rattle.kilim_program.specs.Effect.{named_class, named_type}
-use Rattle.kilim_program.specs.Machine.{Objects}
-use Rattle.kilim_program.specs.Members.{object_fields}
+use Rattle.kilim_classes.specs.declared.machine.value.Object.{Object}
+use Rattle.kilim_classes.specs.machine.Effect.{named_class, named_type}
+use Rattle.kilim_classes.specs.machine.Machine.{Objects}
+use Rattle.kilim_classes.specs.machine.Members.{object_fields}
 use Rattle.kilim_tree_move.specs.Shaping.{IsShown, field_values, held}
-use Rattle.kilim_typing_laws.specs.fits.Fits.{Classes, ContentFits, FieldFits, FieldsFit, HeapFits, is_of, is_value_of}
-use Rattle.kilim_typing_laws.proofs.fits.ValueClasses.{own_fits}
+use Rattle.kilim_typing.specs.typing_laws.fits.Fits.{Classes, ContentFits, FieldFits, FieldsFit, HeapFits, is_of, is_value_of}
+use Rattle.kilim_typing.proofs.typing_laws.fits.ValueClasses.{own_fits}
 
 abbrev fiber_name : List ℕ
 fiber_name = codes "kilim/Fiber"

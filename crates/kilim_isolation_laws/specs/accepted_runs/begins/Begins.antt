@@ -9,7 +9,7 @@ use Rattle.kilim_classes.specs.Names.{method_at}
 use Rattle.kilim_classes.specs.Program.{Program}
 use Rattle.kilim_classfile.specs.declared.class_file.ClassFile.{ClassFile}
 use Rattle.kilim_link_spec.specs.LinksWell.{LinksWell}
-use Rattle.kilim_program.specs.Members.{constructor_of}
+use Rattle.kilim_classes.specs.machine.Members.{constructor_of}
 
 -- its receiver isn't free, so the object stays that task's own
 abbrev pub MainBegins : Program → ClassId → Type 0

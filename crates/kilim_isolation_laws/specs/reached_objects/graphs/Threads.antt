@@ -17,9 +17,9 @@ use Rattle.kilim_classes.specs.BuiltIn.{built_in_constructor, class_id, class_ty
 use Rattle.kilim_classes.specs.Kinds.{kind_of}
 use Rattle.kilim_classes.specs.Lengths.{fetched}
 use Rattle.kilim_classes.specs.Names.{method_at}
-use Rattle.kilim_program.specs.Machine.{Activation, Objects}
-use Rattle.kilim_program.specs.Moves.{Move, entered, moves, push_value}
-use Rattle.kilim_program.specs.Moves as move
+use Rattle.kilim_classes.specs.machine.Machine.{Activation, Objects}
+use Rattle.kilim_classes.specs.machine.Moves.{Move, entered, moves, push_value}
+use Rattle.kilim_classes.specs.machine.Moves as move
 use Rattle.kilim_typing.specs.Step.{Types, result_types, type_step}
 use Rattle.kilim_typing.specs.Typed.{Among, FlowsInto, declared, edges, entry, has_code, no_types}
 use Rattle.kilim_isolation_laws.specs.forest.Heap.{IsForest}

@@ -10,7 +10,7 @@ use Rattle.kilim_classes.specs.Names.{method_at}
 use Rattle.kilim_classes.specs.Program.{Program}
 use Rattle.kilim_typing.specs.Step.{Types}
 use Rattle.kilim_typing.specs.Typed.{declared, edges, has_code, listed}
-use Rattle.kilim_typing_laws.specs.Laws.{typing_at}
+use Rattle.kilim_typing.specs.typing_laws.Laws.{typing_at}
 use Rattle.kilim_typing.specs.TypedProgram.{KeepsTyped, TypedProgram}
 use Rattle.kilim_paths.specs.Paths.{Has, Reaches}
 use Rattle.kilim_shape_graph.specs.declared.graph.Graph.{Graph}

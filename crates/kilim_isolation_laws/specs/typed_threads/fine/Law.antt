@@ -1,5 +1,5 @@
 -- A thread that fits is fine.
-use Rattle.kilim_typing_laws.specs.fits.Fits.{Classes, Typing, Wanted}
+use Rattle.kilim_typing.specs.typing_laws.fits.Fits.{Classes, Typing, Wanted}
 use Rattle.kilim_thread_model.specs.State.{Setting}
 use Rattle.kilim_thread_model.specs.Lone.{Lone}
 use Rattle.kilim_woven_runs.specs.fiber_kin.Served.{IsFineThread}

@@ -3,8 +3,8 @@ use Rattle.std.specs.Prelude.{◌≡◌, ◌≤◌, ℕ, List, [], ◌∷◌, So
 use Rattle.kilim_classes.specs.declared.class.Form.TheVariants.{Plain}
 use Rattle.kilim_classes.specs.BuiltIn.{class_type}
 use Rattle.kilim_classes.specs.Keeps.{Keeps}
-use Rattle.kilim_program.specs.Machine.{Objects, Activation}
-use Rattle.kilim_typing_laws.specs.fits.Fits.{Classes, Typing, Wanted, Fits, AreThere, Verified}
+use Rattle.kilim_classes.specs.machine.Machine.{Objects, Activation}
+use Rattle.kilim_typing.specs.typing_laws.fits.Fits.{Classes, Typing, Wanted, Fits, AreThere, Verified}
 use Rattle.kilim_thread_model.specs.State.{Setting, Thread, Alive, Ended}
 use Rattle.kilim_thread_model.specs.Lone.{Lone}
 

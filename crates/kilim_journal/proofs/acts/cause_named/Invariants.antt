@@ -1,6 +1,6 @@
 use Rattle.std.proofs.Common.{◌≡◌, ℕ, ◌<◌, get_or}
-use Rattle.kilim_program.specs.declared.cause.EndCause.TheVariants.{Done}
-use Rattle.kilim_program.specs.Cause.{word_of}
+use Rattle.kilim_classes.specs.declared.machine.cause.EndCause.TheVariants.{Done}
+use Rattle.kilim_classes.specs.machine.Cause.{word_of}
 use Rattle.kilim_journal.proofs.Journals.{causes}
 use Rattle.kilim_journal.proofs.acts.cause_named.Given as goal
 

@@ -1,6 +1,6 @@
 use Rattle.std.proofs.Common.{◌≡◌, ◌∙◌, sym, ap, ℕ, ◌+◌, ◌<◌, suc, Bool, List, ◌∷◌, ◌++◌, length, drop, get_or, add-one, append_assoc}
 use Rattle.std.proofs.Math.Seq.{drop-cons}
-use Rattle.kilim_program.specs.declared.value.Token.{Token}
+use Rattle.kilim_classes.specs.declared.machine.value.Token.{Token}
 use Rattle.kilim_journal.specs.Text.{comma_before, is_followed, token_text, tokens_text}
 use Rattle.kilim_journal.proofs.pieces.push_shape.Goals as goal
 

@@ -2,7 +2,7 @@ use Rattle.std.proofs.Common.{◌≡◌, ◌∙◌, sym, ap, arith, refl, append
 use Rattle.std.specs.Fmt.{signed_decimal}
 use Rattle.std.specs.Int.{w32, w64}
 use Rattle.std.specs.Prelude.{FitsSigned}
-use Rattle.kilim_program.specs.declared.value.Token.TheVariants.{Long}
+use Rattle.kilim_classes.specs.declared.machine.value.Token.TheVariants.{Long}
 use Rattle.kilim_journal.specs.Text.{token_text}
 use Rattle.kilim_journal.specs.Fronts.{AfterValue}
 use Rattle.kilim_journal.proofs.Tokens.{is_long, after_is_long, after_number}

@@ -1,6 +1,6 @@
 use Rattle.std.proofs.Common.{◌≡◌, ◌∙◌, sym}
 use Rattle.std.specs.Prelude.{IsSomeAnd, IfOk}
-use Rattle.kilim_program.specs.declared.value.Token.TheVariants as part
+use Rattle.kilim_classes.specs.declared.machine.value.Token.TheVariants as part
 use Rattle.kilim_journal.proofs.TokensRead.{number_arm, text_arm, close_arm, box_arm, null_arm, found_close, at_unit}
 use Rattle.kilim_journal.proofs.values.plain_at.Goals as goal
 

@@ -1,7 +1,7 @@
 use Rattle.std.proofs.Common.{refl, List, reverse, take, drop}
 use Rattle.kilim_classes.specs.declared.value.Value.{Value}
-use Rattle.kilim_program.specs.Effect as effect
-use Rattle.kilim_program.specs.Effect.{Effect}
+use Rattle.kilim_classes.specs.machine.Effect as effect
+use Rattle.kilim_classes.specs.machine.Effect.{Effect}
 use Rattle.kilim_machine_parts.specs.frames.Calls.{below_of}
 use Rattle.kilim_jvm_interp.specs.declared.machine.Stepped.TheVariants.{AtNative}
 use Rattle.kilim_jvm_interp.proofs.Settling.{from_still}

@@ -1,7 +1,7 @@
 use Rattle.std.proofs.Common.{◌≡◌, ◌∙◌, sym, ap, ◌∷◌, reverse, take, drop}
-use Rattle.kilim_program.specs.Moves.{entered, goes_on}
+use Rattle.kilim_classes.specs.machine.Moves.{entered, goes_on}
 use Rattle.kilim_machine_parts.specs.frames.Calls.{activation, below_of, calls_of}
-use Rattle.kilim_program.specs.Machine.{Activation}
+use Rattle.kilim_classes.specs.machine.Machine.{Activation}
 use Rattle.kilim_jvm_interp.proofs.Entering.{too_deep, enters}
 use Rattle.kilim_jvm_interp.proofs.machine.enter.Goals as goal
 

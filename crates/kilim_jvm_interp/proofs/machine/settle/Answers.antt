@@ -1,8 +1,8 @@
 use Rattle.std.proofs.Common.{refl, None, List, ◌∷◌, reverse, take, drop}
 use Rattle.kilim_classes.specs.declared.value.Value.{Value}
-use Rattle.kilim_program.specs.Effect as effect
-use Rattle.kilim_program.specs.Effect.{Effect}
-use Rattle.kilim_program.specs.Moves.{move_by}
+use Rattle.kilim_classes.specs.machine.Effect as effect
+use Rattle.kilim_classes.specs.machine.Effect.{Effect}
+use Rattle.kilim_classes.specs.machine.Moves.{move_by}
 use Rattle.kilim_machine_parts.specs.frames.Calls.{activation, below_of}
 use Rattle.kilim_rows.specs.Outcome.{returned_by}
 use Rattle.kilim_jvm_interp.specs.Step.{Steps}

@@ -1,6 +1,6 @@
 use Rattle.std.proofs.Common.{◌∷◌}
 use Rattle.kilim_machine_parts.specs.frames.Calls.{activation, below_of}
-use Rattle.kilim_program.specs.Moves.{move_by}
+use Rattle.kilim_classes.specs.machine.Moves.{move_by}
 use Rattle.kilim_marked_runs.proofs.Counting.{asks_by}
 use Rattle.kilim_marked_runs.proofs.runs.go_on.Goals as goal
 

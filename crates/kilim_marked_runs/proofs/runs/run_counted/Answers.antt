@@ -1,6 +1,6 @@
 use Rattle.std.proofs.Common.{◌∙◌, refl, sym, ◌-◌, arith}
 use Rattle.kilim_machine_parts.specs.frames.Calls.{activation, calls_of}
-use Rattle.kilim_program.specs.Moves.{effect_of}
+use Rattle.kilim_classes.specs.machine.Moves.{effect_of}
 use Rattle.kilim_marked_runs.specs.Counted.{AtFirst}
 use Rattle.kilim_marked_runs.proofs.Counting.{can_go_on, further, halts, has_spent, has_stopped, no_more, safe_on}
 use Rattle.kilim_marked_runs.proofs.runs.run_counted.Goals as goal

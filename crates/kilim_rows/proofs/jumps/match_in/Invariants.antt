@@ -1,5 +1,5 @@
 use Rattle.std.proofs.Common.{◌≡◌, drop}
-use Rattle.kilim_program.specs.Does.{match_target}
+use Rattle.kilim_classes.specs.machine.Does.{match_target}
 use Rattle.kilim_rows.proofs.jumps.match_in.Given as goal
 
 abbrev pub invariant-loop-entry : goal.invariant-loop-entry

@@ -2,7 +2,7 @@ use Rattle.std.proofs.Common.{◌≡◌, ◌∙◌, sym, ap, List, ◌∷◌, fa
 use Rattle.kilim_classes.specs.declared.value.Value.{Value}
 use Rattle.kilim_machine_parts.specs.frames.Stacked.{Stacked}
 use Rattle.kilim_machine_parts.specs.declared.frames.frame.Frame.{Frame}
-use Rattle.kilim_program.specs.Effect.{is_wide}
+use Rattle.kilim_classes.specs.machine.Effect.{is_wide}
 use Rattle.kilim_rows.proofs.Pairs.{pair_below_one}
 use Rattle.kilim_rows.proofs.words.copy_two_below_one.Goals as goal
 

@@ -1,6 +1,6 @@
 use Rattle.std.proofs.Common.{subst, sym}
-use Rattle.kilim_words.specs.declared.asked.Asked.{Asked}
-use Rattle.kilim_words.specs.Parts.{meant}
+use Rattle.kilim_outside.specs.declared.words.asked.Asked.{Asked}
+use Rattle.kilim_outside.specs.words.Parts.{meant}
 use Rattle.kilim_top.specs.Inside.Answer.{IsReplyFor}
 use Rattle.kilim_top.proofs.answer.prepare.Goals as goal
 

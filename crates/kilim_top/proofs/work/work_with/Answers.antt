@@ -1,7 +1,7 @@
 use Rattle.std.proofs.Common.{◌≤◌, ℕ, map, subst}
 use Rattle.std.specs.String.{string_bytes}
-use Rattle.kilim_words.specs.Parts.{meant}
-use Rattle.kilim_words.specs.Words.{files_read}
+use Rattle.kilim_outside.specs.words.Parts.{meant}
+use Rattle.kilim_outside.specs.words.Words.{files_read}
 use Rattle.kilim_top.proofs.TopLaws.{many_read, responded, same_outside, were_read_as}
 use Rattle.kilim_top.proofs.work.work_with.Goals as goal
 

@@ -1,5 +1,5 @@
 use Rattle.std.proofs.Common.{vec_len}
-use Rattle.kilim_program.specs.Machine.{Objects}
+use Rattle.kilim_classes.specs.machine.Machine.{Objects}
 use Rattle.kilim_tree_move.specs.Steps.{Blanked, WasFree}
 use Rattle.kilim_tree_move.proofs.put.free_all.Given as goal
 

@@ -1,5 +1,5 @@
 use Rattle.std.proofs.Common.{arith, length, sym, ap, subst, length-append, ◌∷◌, []}
-use Rattle.kilim_program.specs.Machine.{Objects}
+use Rattle.kilim_classes.specs.machine.Machine.{Objects}
 use Rattle.kilim_tree_move.specs.Steps.{Blanked}
 use Rattle.kilim_tree_move.proofs.Blanks.{add_blank}
 use Rattle.kilim_tree_move.proofs.put.new_places.Goals as goal

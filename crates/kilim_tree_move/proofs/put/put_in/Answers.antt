@@ -1,5 +1,5 @@
 use Rattle.std.proofs.Common.{◌∙◌, subst, List}
-use Rattle.kilim_program.specs.declared.value.Object.{Object}
+use Rattle.kilim_classes.specs.declared.machine.value.Object.{Object}
 use Rattle.kilim_tree_move.specs.Moved.{PutIn}
 use Rattle.kilim_tree_move.proofs.Filling.{can_fill, put_in}
 use Rattle.kilim_tree_move.proofs.put.put_in.Goals as goal

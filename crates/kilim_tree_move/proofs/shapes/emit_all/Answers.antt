@@ -1,4 +1,4 @@
-use Rattle.kilim_program.specs.Shapes.{tree_limit}
+use Rattle.kilim_classes.specs.machine.Shapes.{tree_limit}
 use Rattle.kilim_tree_move.proofs.Emitting.{first_within, emitting_first, emitting_end, value_there, ref_within, value_done}
 use Rattle.kilim_tree_move.proofs.shapes.emit_all.Goals as goal
 

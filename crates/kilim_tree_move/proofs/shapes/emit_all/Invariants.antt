@@ -1,5 +1,5 @@
 use Rattle.std.proofs.Common.{reverse}
-use Rattle.kilim_program.specs.Shapes.{tree_limit}
+use Rattle.kilim_classes.specs.machine.Shapes.{tree_limit}
 use Rattle.kilim_tree_move.specs.Moved.{tree_heap}
 use Rattle.kilim_tree_move.specs.Emitted.{to_come}
 use Rattle.kilim_tree_move.proofs.Emitting.{Emitting, left_of}

@@ -1,7 +1,7 @@
 use Rattle.std.proofs.Common.{◌≡◌, sym, subst, List, Some}
 use Rattle.std.specs.List.{AllByRecursion}
-use Rattle.kilim_program.specs.declared.value.Object.{Object}
-use Rattle.kilim_program.specs.Shapes.{shape_of}
+use Rattle.kilim_classes.specs.declared.machine.value.Object.{Object}
+use Rattle.kilim_classes.specs.machine.Shapes.{shape_of}
 use Rattle.kilim_tree_move.specs.Moved.{tree_heap}
 use Rattle.kilim_tree_move.specs.Shaping.{Suits}
 use Rattle.kilim_tree_move.proofs.Emitting.{shape_there, shape_is}

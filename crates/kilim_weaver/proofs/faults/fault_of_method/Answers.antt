@@ -1,5 +1,5 @@
 use Rattle.std.proofs.Common.{◌∙◌, ap}
-use Rattle.kilim_woven_form.specs.Weight.{calls_in}
+use Rattle.kilim_typing.specs.woven_form.Weight.{calls_in}
 use Rattle.kilim_weaver.proofs.Searching.{method_fault}
 use Rattle.kilim_weaver.proofs.faults.fault_of_method.Goals as goal
 

@@ -5,15 +5,15 @@ use Rattle.kilim_classes.specs.declared.class.Method.{Method}
 use Rattle.kilim_classes.specs.declared.instr.Instr.{Instr}
 use Rattle.kilim_classes.specs.Lengths.{fetched, first_place}
 use Rattle.kilim_classes.specs.Names.{◌>>=◌, method_at}
-use Rattle.kilim_typing_laws.specs.fits.Sound.{EffectFits, NativeFits, native_types}
-use Rattle.kilim_typing_laws.specs.fits.Fits.{have_types}
-use Rattle.kilim_typing_laws.proofs.fits.Grounds.{facts_hold}
-use Rattle.kilim_typing_laws.proofs.fits.Narrowed.{narrows}
-use Rattle.kilim_typing_laws.proofs.fits.Table.{table_fits}
-use Rattle.kilim_typing_laws.proofs.fits.Walk.{stands_at}
-use Rattle.kilim_program.specs.Does.{does}
-use Rattle.kilim_program.specs.Effect.{Asks, Effect}
-use Rattle.kilim_program.specs.Natives.{Native, native_method, native_of}
+use Rattle.kilim_typing.specs.typing_laws.fits.Sound.{EffectFits, NativeFits, native_types}
+use Rattle.kilim_typing.specs.typing_laws.fits.Fits.{have_types}
+use Rattle.kilim_typing.proofs.typing_laws.fits.Grounds.{facts_hold}
+use Rattle.kilim_typing.proofs.typing_laws.fits.Narrowed.{narrows}
+use Rattle.kilim_typing.proofs.typing_laws.fits.Table.{table_fits}
+use Rattle.kilim_typing.proofs.typing_laws.fits.Walk.{stands_at}
+use Rattle.kilim_classes.specs.machine.Does.{does}
+use Rattle.kilim_classes.specs.machine.Effect.{Asks, Effect}
+use Rattle.kilim_classes.specs.machine.Natives.{Native, native_method, native_of}
 use Rattle.kilim_typing.specs.Step.{made_at, made_by}
 use Rattle.kilim_typing.specs.Typed.{edges}
 use Rattle.kilim_weaving_laws.proofs.courses.answers.Asked.{AsksWell, Asked, rows}

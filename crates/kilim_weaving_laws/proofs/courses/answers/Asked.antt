@@ -23,16 +23,16 @@ use Rattle.kilim_classes.specs.Names.{class_at, class_name, is_empty, method_at}
 use Rattle.kilim_classes.specs.Program.{Program}
 use Rattle.kilim_classes.specs.Same.{is_constructor}
 use Rattle.kilim_isolation_laws.proofs.typed_threads.fine.Shown.{no_fiber_class}
-use Rattle.kilim_typing_laws.specs.fits.Facts.{Facts, Selected, has_instances}
-use Rattle.kilim_typing_laws.specs.fits.Fits.{AreThere, Classes, ContentFits, HeapFits, IsThere}
-use Rattle.kilim_typing_laws.proofs.fits.Basics.{takes_inverse}
-use Rattle.kilim_typing_laws.proofs.fits.Grounds.{facts_hold}
-use Rattle.kilim_typing_laws.proofs.fits.TextClass.{alone}
-use Rattle.kilim_program.specs.declared.value.Object.{Object as HeapObject}
-use Rattle.kilim_program.specs.Does.{above_of, at_unit, calls_method, calls_on, calls_text, chosen, does, special, superclass_of, takes_element, text_answers, unit_at}
-use Rattle.kilim_program.specs.Effect.{Asks, Calls, Effect, Ends, Goes, Makes, Opens, Raises, Returns, Stuck, as_class, as_int, as_receiver, named_type, on_value, on_values, text_of, when, with_some}
-use Rattle.kilim_program.specs.Machine.{Objects}
-use Rattle.kilim_program.specs.Natives.{is_built_in_constructor, is_handed_out, is_take, is_text_method}
+use Rattle.kilim_typing.specs.typing_laws.fits.Facts.{Facts, Selected, has_instances}
+use Rattle.kilim_typing.specs.typing_laws.fits.Fits.{AreThere, Classes, ContentFits, HeapFits, IsThere}
+use Rattle.kilim_typing.proofs.typing_laws.fits.Basics.{takes_inverse}
+use Rattle.kilim_typing.proofs.typing_laws.fits.Grounds.{facts_hold}
+use Rattle.kilim_typing.proofs.typing_laws.fits.TextClass.{alone}
+use Rattle.kilim_classes.specs.declared.machine.value.Object.{Object as HeapObject}
+use Rattle.kilim_classes.specs.machine.Does.{above_of, at_unit, calls_method, calls_on, calls_text, chosen, does, special, superclass_of, takes_element, text_answers, unit_at}
+use Rattle.kilim_classes.specs.machine.Effect.{Asks, Calls, Effect, Ends, Goes, Makes, Opens, Raises, Returns, Stuck, as_class, as_int, as_receiver, named_type, on_value, on_values, text_of, when, with_some}
+use Rattle.kilim_classes.specs.machine.Machine.{Objects}
+use Rattle.kilim_classes.specs.machine.Natives.{is_built_in_constructor, is_handed_out, is_take, is_text_method}
 use Rattle.kilim_typing.specs.Step.{Is, Types, arguments, class_vtype, may_name, needs, result_types, row, special_by, special_fits, special_row, special_rules, static_row, static_rules, type_step, virtual_row, virtual_rules, by_row}
 use Rattle.kilim_typing.specs.Typed.{has_code}
 use Rattle.kilim_woven_runs.specs.Rows.{Receives, below_arguments, class_if}

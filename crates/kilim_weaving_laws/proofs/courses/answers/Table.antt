@@ -16,13 +16,13 @@ use Rattle.kilim_classes.specs.Keeps.{Keeps}
 use Rattle.kilim_classes.specs.Names.{class_name, method_at}
 use Rattle.kilim_classes.specs.Program.{Program}
 use Rattle.kilim_isolation_laws.proofs.typed_threads.fine.Natives.{built_in_one, first, task_name}
-use Rattle.kilim_typing_laws.specs.fits.Fits.{AreThere, Classes, HeapFits, has_type, have_types}
-use Rattle.kilim_typing_laws.specs.fits.Sound.{native_types}
-use Rattle.kilim_program.specs.declared.value.Token.{Token}
-use Rattle.kilim_program.specs.declared.value.Token.TheVariants as token
-use Rattle.kilim_program.specs.Machine.{Objects}
-use Rattle.kilim_program.specs.Natives.{Native, native_method, native_named, natives}
-use Rattle.kilim_program.specs.Natives as native
+use Rattle.kilim_typing.specs.typing_laws.fits.Fits.{AreThere, Classes, HeapFits, has_type, have_types}
+use Rattle.kilim_typing.specs.typing_laws.fits.Sound.{native_types}
+use Rattle.kilim_classes.specs.declared.machine.value.Token.{Token}
+use Rattle.kilim_classes.specs.declared.machine.value.Token.TheVariants as token
+use Rattle.kilim_classes.specs.machine.Machine.{Objects}
+use Rattle.kilim_classes.specs.machine.Natives.{Native, native_method, native_named, natives}
+use Rattle.kilim_classes.specs.machine.Natives as native
 use Rattle.kilim_thread_model.specs.Lone.{printed}
 use Rattle.kilim_weaving_laws.proofs.courses.answers.Asked.{AsksWell, HasFirst}
 use Rattle.kilim_weaving_laws.proofs.courses.answers.Deeds.{TakesSuch}
@@ -114,15 +114,15 @@ module _ (p : Program) (keeps : Keeps p) (form : p.form ≡ Plain) (of : Classes
       (native.Arg, known m name native.Arg named is, subst (λ (x : List Value). TakesSuch native.Arg x) (sym (o.1 ∙ ap (λ (v : Value). v ∷ []) r.1)) tt)
 
   -- those that aren't handed out
-  plainly : (m : Method) → Rattle.kilim_program.specs.Natives.is_built_in_constructor m ≡ true → AnswersAs p of h m
+  plainly : (m : Method) → Rattle.kilim_classes.specs.machine.Natives.is_built_in_constructor m ≡ true → AnswersAs p of h m
   unfolding AnswersAs
   plainly m is args a e = absurd (false≢true (sym a.plain ∙ is))
 
-  of_text : (m : Method) → Rattle.kilim_program.specs.Natives.is_text_method p m ≡ true → AnswersAs p of h m
+  of_text : (m : Method) → Rattle.kilim_classes.specs.machine.Natives.is_text_method p m ≡ true → AnswersAs p of h m
   unfolding AnswersAs
   of_text m is args a e = absurd (false≢true (sym a.other ∙ is))
 
-  takes : (m : Method) → m.is_static ≡ true → Rattle.kilim_program.specs.Natives.is_take p m ≡ true → AnswersAs p of h m
+  takes : (m : Method) → m.is_static ≡ true → Rattle.kilim_classes.specs.machine.Natives.is_take p m ≡ true → AnswersAs p of h m
   unfolding AnswersAs
   takes m static is args a e = absurd (false≢true (sym (a.taken static) ∙ is))
 

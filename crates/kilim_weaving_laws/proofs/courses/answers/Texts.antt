@@ -29,21 +29,21 @@ use Rattle.kilim_classes.specs.Program.{Program}
 use Rattle.kilim_classes.specs.Same.{is_constructor}
 use Rattle.kilim_lemmas.proofs.Lists.{get_right}
 use Rattle.kilim_lemmas.proofs.Texts.{text_is}
-use Rattle.kilim_typing_laws.specs.fits.Fits.{Classes, ContentFits, HeapFits, IsThere, has_type, is_of}
-use Rattle.kilim_typing_laws.proofs.fits.BuiltInMembers.{named_at}
-use Rattle.kilim_typing_laws.proofs.fits.ClassMethods.{IsAmong, owner_has}
-use Rattle.kilim_typing_laws.proofs.fits.TextClass.{alone}
-use Rattle.kilim_typing_laws.proofs.fits.Through.{Top, cases}
-use Rattle.kilim_typing_laws.proofs.fits.ValueClasses.{all_of_at, found_name, type_is}
+use Rattle.kilim_typing.specs.typing_laws.fits.Fits.{Classes, ContentFits, HeapFits, IsThere, has_type, is_of}
+use Rattle.kilim_typing.proofs.typing_laws.fits.BuiltInMembers.{named_at}
+use Rattle.kilim_typing.proofs.typing_laws.fits.ClassMethods.{IsAmong, owner_has}
+use Rattle.kilim_typing.proofs.typing_laws.fits.TextClass.{alone}
+use Rattle.kilim_typing.proofs.typing_laws.fits.Through.{Top, cases}
+use Rattle.kilim_typing.proofs.typing_laws.fits.ValueClasses.{all_of_at, found_name, type_is}
 use Rattle.kilim_isolation_laws.proofs.typed_threads.fine.Natives.{built_in_one, first, object_name, task_name}
 use Rattle.kilim_isolation_laws.proofs.typed_threads.fine.Shown.{no_fiber_class}
-use Rattle.kilim_program.specs.declared.value.Object.{Object as HeapObject}
-use Rattle.kilim_program.specs.declared.value.Token.{Token}
-use Rattle.kilim_program.specs.declared.value.Token.TheVariants as token
-use Rattle.kilim_program.specs.Effect.{named_class, named_type}
-use Rattle.kilim_program.specs.Machine.{Objects}
-use Rattle.kilim_program.specs.Members.{is_concrete}
-use Rattle.kilim_program.specs.Natives.{is_text_method}
+use Rattle.kilim_classes.specs.declared.machine.value.Object.{Object as HeapObject}
+use Rattle.kilim_classes.specs.declared.machine.value.Token.{Token}
+use Rattle.kilim_classes.specs.declared.machine.value.Token.TheVariants as token
+use Rattle.kilim_classes.specs.machine.Effect.{named_class, named_type}
+use Rattle.kilim_classes.specs.machine.Machine.{Objects}
+use Rattle.kilim_classes.specs.machine.Members.{is_concrete}
+use Rattle.kilim_classes.specs.machine.Natives.{is_text_method}
 use Rattle.kilim_isolation_laws.proofs.sorts.Choosing.{of_object}
 use Rattle.kilim_isolation_laws.proofs.sorts.KindsOfClasses.{ClassFlow}
 use Rattle.kilim_isolation_laws.proofs.sorts.Sorted.{classes_flow, message_is_tree}

@@ -1,6 +1,6 @@
 -- From the beginning of a task on.
 use Rattle.std.proofs.Common.{ℕ, zero, suc}
-use Rattle.kilim_typing_laws.specs.fits.Fits.{Classes}
+use Rattle.kilim_typing.specs.typing_laws.fits.Fits.{Classes}
 use Rattle.kilim_isolation_laws.specs.Laws.{IsRunOfAccepted}
 use Rattle.kilim_thread_model.specs.State.{Setting}
 use Rattle.kilim_weaving_laws.proofs.receivers.called.Begins.{begins_called}

@@ -22,24 +22,24 @@ use Rattle.kilim_classes.specs.Names.{class_at, method_at}
 use Rattle.kilim_classes.specs.Program.{Program}
 use Rattle.kilim_classes.specs.Same.{is_constructor}
 use Rattle.kilim_isolation_laws.proofs.typed_threads.fine.Shown.{no_fiber_class}
-use Rattle.kilim_typing_laws.specs.fits.Facts.{Facts, has_instances}
-use Rattle.kilim_typing_laws.specs.fits.Fits.{AreThere, Classes, ContentFits, HeapFits, Holds, has_type, have_types}
-use Rattle.kilim_typing_laws.specs.fits.Law.{Extends}
-use Rattle.kilim_typing_laws.proofs.fits.Basics.{takes_inverse}
-use Rattle.kilim_typing_laws.proofs.fits.FromKeeps.{all_at}
-use Rattle.kilim_typing_laws.proofs.fits.Grounds.{facts_hold}
-use Rattle.kilim_typing_laws.proofs.fits.Grown.{type_grown}
+use Rattle.kilim_typing.specs.typing_laws.fits.Facts.{Facts, has_instances}
+use Rattle.kilim_typing.specs.typing_laws.fits.Fits.{AreThere, Classes, ContentFits, HeapFits, Holds, has_type, have_types}
+use Rattle.kilim_typing.specs.typing_laws.fits.Law.{Extends}
+use Rattle.kilim_typing.proofs.typing_laws.fits.Basics.{takes_inverse}
+use Rattle.kilim_typing.proofs.typing_laws.fits.FromKeeps.{all_at}
+use Rattle.kilim_typing.proofs.typing_laws.fits.Grounds.{facts_hold}
+use Rattle.kilim_typing.proofs.typing_laws.fits.Grown.{type_grown}
 use Rattle.kilim_pausable_graph.specs.Pausing.{called}
-use Rattle.kilim_program.specs.declared.value.Object.{Object as HeapObject}
-use Rattle.kilim_program.specs.Does.{above_of, at_unit, calls_method, calls_on, calls_text, chosen, does, special, superclass_of, takes_element, text_answers, unit_at}
-use Rattle.kilim_program.specs.Effect.{Asks, Calls, Effect, Ends, Goes, Makes, Opens, Raises, Returns, Stuck, as_class, as_receiver, named_type, on_value, on_values, with_some}
-use Rattle.kilim_program.specs.Machine.{Objects}
-use Rattle.kilim_program.specs.Natives.{is_built_in_constructor, is_handed_out, is_text_method}
+use Rattle.kilim_classes.specs.declared.machine.value.Object.{Object as HeapObject}
+use Rattle.kilim_classes.specs.machine.Does.{above_of, at_unit, calls_method, calls_on, calls_text, chosen, does, special, superclass_of, takes_element, text_answers, unit_at}
+use Rattle.kilim_classes.specs.machine.Effect.{Asks, Calls, Effect, Ends, Goes, Makes, Opens, Raises, Returns, Stuck, as_class, as_receiver, named_type, on_value, on_values, with_some}
+use Rattle.kilim_classes.specs.machine.Machine.{Objects}
+use Rattle.kilim_classes.specs.machine.Natives.{is_built_in_constructor, is_handed_out, is_text_method}
 use Rattle.kilim_typing.specs.Step.{Is, Types, arguments, by_row, class_vtype, may_name, needs, peek, result_types, row, special_by, special_fits, special_row, special_rules, static_row, static_rules, type_step, virtual_row, virtual_rules}
-use Rattle.kilim_typing_laws.specs.Laws.{typing_at}
+use Rattle.kilim_typing.specs.typing_laws.Laws.{typing_at}
 use Rattle.kilim_weaving_laws.proofs.courses.answers.Asked.{quiet}
 use Rattle.kilim_weaving_laws.specs.receivers.called.Law.{Boundary, Target, class_named, is_object}
-use Rattle.kilim_woven_form.specs.Woven.{first_of, taken}
+use Rattle.kilim_typing.specs.woven_form.Woven.{first_of, taken}
 use Rattle.kilim_woven_runs.proofs.alike.Lands.{hushed, q_if, q_index, q_int, q_object, q_receiver, q_some, q_value, q_when}
 use Rattle.kilim_woven_runs.specs.Form.{is_pausable}
 use Rattle.kilim_woven_runs.specs.Rows.{Receives, below_arguments, class_if}

@@ -11,27 +11,27 @@ use Rattle.kilim_classes.specs.BuiltIn.{class_type}
 use Rattle.kilim_classes.specs.Lengths.{fetched, first_place}
 use Rattle.kilim_classes.specs.Names.{◌>>=◌, class_at, is_task, method_at}
 use Rattle.kilim_classes.specs.Program.{Program}
-use Rattle.kilim_typing_laws.specs.fits.Fits.{Classes}
-use Rattle.kilim_typing_laws.specs.fits.Law.{Extends}
-use Rattle.kilim_typing_laws.specs.fits.Sound.{EffectFits, argument_types}
-use Rattle.kilim_typing_laws.proofs.fits.Grounds.{facts_hold}
-use Rattle.kilim_typing_laws.proofs.fits.Narrowed.{narrows}
-use Rattle.kilim_typing_laws.proofs.fits.Table.{table_fits}
-use Rattle.kilim_typing_laws.proofs.fits.Walk.{stands_at}
-use Rattle.kilim_program.specs.declared.cause.EndCause.TheVariants as cause
-use Rattle.kilim_program.specs.Does.{does}
-use Rattle.kilim_program.specs.Effect.{Asks, Calls, Effect, Ends, Goes, Makes, Opens, Raises, Returns, Stuck}
-use Rattle.kilim_program.specs.Machine.{Objects}
-use Rattle.kilim_program.specs.Members.{constructor_of, execute_of, is_concrete, is_own_constructor}
-use Rattle.kilim_program.specs.Moves.{entered, frame_limit}
-use Rattle.kilim_program.specs.Natives.{native_of}
+use Rattle.kilim_typing.specs.typing_laws.fits.Fits.{Classes}
+use Rattle.kilim_typing.specs.typing_laws.fits.Law.{Extends}
+use Rattle.kilim_typing.specs.typing_laws.fits.Sound.{EffectFits, argument_types}
+use Rattle.kilim_typing.proofs.typing_laws.fits.Grounds.{facts_hold}
+use Rattle.kilim_typing.proofs.typing_laws.fits.Narrowed.{narrows}
+use Rattle.kilim_typing.proofs.typing_laws.fits.Table.{table_fits}
+use Rattle.kilim_typing.proofs.typing_laws.fits.Walk.{stands_at}
+use Rattle.kilim_classes.specs.declared.machine.cause.EndCause.TheVariants as cause
+use Rattle.kilim_classes.specs.machine.Does.{does}
+use Rattle.kilim_classes.specs.machine.Effect.{Asks, Calls, Effect, Ends, Goes, Makes, Opens, Raises, Returns, Stuck}
+use Rattle.kilim_classes.specs.machine.Machine.{Objects}
+use Rattle.kilim_classes.specs.machine.Members.{constructor_of, execute_of, is_concrete, is_own_constructor}
+use Rattle.kilim_classes.specs.machine.Moves.{entered, frame_limit}
+use Rattle.kilim_classes.specs.machine.Natives.{native_of}
 use Rattle.kilim_isolation_laws.specs.Laws.{IsRunOfAccepted}
 use Rattle.kilim_isolation_laws.proofs.Keeping.{is_verified, stack_there}
 use Rattle.kilim_thread_model.specs.Lone.{box_limit}
 use Rattle.kilim_thread_model.specs.State.{Setting}
 use Rattle.kilim_typing.specs.Step.{Types, made_at, made_by}
 use Rattle.kilim_typing.specs.Typed.{edges}
-use Rattle.kilim_typing_laws.specs.Laws.{typing_at}
+use Rattle.kilim_typing.specs.typing_laws.Laws.{typing_at}
 use Rattle.kilim_weaving_laws.specs.receivers.called.Law.{AllCalled, Bottom, CalledAs, Entered}
 use Rattle.kilim_weaving_laws.proofs.receivers.called.Called.{CallsFrom, boundary_grown, calls_from, types_grown}
 use Rattle.kilim_weaving_laws.proofs.receivers.called.Natives.{asks_so, ended}

@@ -5,10 +5,10 @@ use Rattle.kilim_classes.specs.declared.names.MethodId.{MethodId}
 use Rattle.kilim_classes.specs.declared.value.Value.{Value}
 use Rattle.kilim_journal.specs.declared.entry.Act.{Act}
 use Rattle.kilim_journal.specs.declared.entry.Act.TheVariants.{Bound, Empty, End, Print, Put, Start, Take, Wait}
-use Rattle.kilim_one_heap.proofs.Booking.{action_is, is_act}
-use Rattle.kilim_one_heap.specs.Booked.{IsOf}
-use Rattle.kilim_program.specs.declared.cause.EndCause.{EndCause}
-use Rattle.kilim_program.specs.declared.value.Token.{Token}
+use Rattle.kilim_thread_model.proofs.one_heap.Booking.{action_is, is_act}
+use Rattle.kilim_thread_model.specs.one_heap.Booked.{IsOf}
+use Rattle.kilim_classes.specs.declared.machine.cause.EndCause.{EndCause}
+use Rattle.kilim_classes.specs.declared.machine.value.Token.{Token}
 use Rattle.kilim_thread_model.specs.declared.deed.Beginning.{Beginning}
 use Rattle.kilim_thread_model.specs.declared.deed.Deed.{Deed}
 use Rattle.kilim_thread_model.specs.Course.{Course, Done, IsLone, Moves, Stays, done_by, next_action}

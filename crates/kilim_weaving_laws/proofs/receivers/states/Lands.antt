@@ -6,9 +6,9 @@ use Rattle.kilim_classes.specs.declared.names.MethodId.{MethodId}
 use Rattle.kilim_classes.specs.declared.value.Value.{Value}
 use Rattle.kilim_journal.specs.declared.entry.Act.{Act}
 use Rattle.kilim_journal.specs.declared.entry.Act.TheVariants.{Bound, Empty, End, Print, Put, Start, Take, Wait}
-use Rattle.kilim_one_heap.proofs.Booking.{action_is, is_act}
-use Rattle.kilim_one_heap.proofs.Ends.{ended_is, is_ended, still}
-use Rattle.kilim_one_heap.specs.Booked.{IsOf}
+use Rattle.kilim_thread_model.proofs.one_heap.Booking.{action_is, is_act}
+use Rattle.kilim_thread_model.proofs.one_heap.Ends.{ended_is, is_ended, still}
+use Rattle.kilim_thread_model.specs.one_heap.Booked.{IsOf}
 use Rattle.kilim_thread_model.specs.declared.deed.Beginning.{Beginning}
 use Rattle.kilim_thread_model.specs.declared.deed.Deed.{Deed}
 use Rattle.kilim_thread_model.specs.Course.{Course, Done, Follows, IsLone, Moves, Quiet, Stays, done_by, ends_in, is_end, next_action, next_or, next_within}

@@ -3,9 +3,9 @@ use Rattle.std.proofs.Common.{◌≡◌, ◌⊎◌, inl, inr, ℕ, zero, suc, Bo
 use Rattle.std.proofs.lemmas.Bool.{false≢true}
 use Rattle.kilim_journal.specs.declared.entry.Act.{Act}
 use Rattle.kilim_journal.specs.declared.entry.Act.TheVariants.{End}
-use Rattle.kilim_one_heap.proofs.Ends.{ended_is, is_ended}
-use Rattle.kilim_one_heap.specs.Booked.{IsOf}
-use Rattle.kilim_program.specs.declared.cause.EndCause.{EndCause}
+use Rattle.kilim_thread_model.proofs.one_heap.Ends.{ended_is, is_ended}
+use Rattle.kilim_thread_model.specs.one_heap.Booked.{IsOf}
+use Rattle.kilim_classes.specs.declared.machine.cause.EndCause.{EndCause}
 use Rattle.kilim_thread_model.proofs.Alone.{AreLeft, all_left, none_left, one_less}
 use Rattle.kilim_thread_model.specs.declared.deed.Beginning.{Beginning}
 use Rattle.kilim_thread_model.specs.declared.deed.Deed.{Deed}

@@ -10,16 +10,16 @@ use Rattle.kilim_classes.specs.declared.value.Value.TheVariants.{Ref}
 use Rattle.kilim_classes.specs.Names.{◌>>=◌, class_at, is_task, method_at}
 use Rattle.kilim_journal.specs.declared.entry.Act.{Act}
 use Rattle.kilim_journal.specs.declared.entry.Act.TheVariants.{End}
-use Rattle.kilim_one_heap.proofs.Ends.{ended_is, is_ended, still}
-use Rattle.kilim_one_heap.specs.Booked.{IsOf}
-use Rattle.kilim_program.specs.declared.cause.EndCause.{EndCause}
-use Rattle.kilim_program.specs.declared.cause.EndCause.TheVariants as cause
-use Rattle.kilim_program.specs.declared.value.Object.{Object}
-use Rattle.kilim_program.specs.Machine.{Objects}
-use Rattle.kilim_program.specs.Members.{constructor_of, execute_of, is_concrete, is_own_constructor}
-use Rattle.kilim_program.specs.Moves.{entered}
-use Rattle.kilim_program.specs.Objects.{new_object}
-use Rattle.kilim_program.specs.Trees.{OfTask, built, with_objects}
+use Rattle.kilim_thread_model.proofs.one_heap.Ends.{ended_is, is_ended, still}
+use Rattle.kilim_thread_model.specs.one_heap.Booked.{IsOf}
+use Rattle.kilim_classes.specs.declared.machine.cause.EndCause.{EndCause}
+use Rattle.kilim_classes.specs.declared.machine.cause.EndCause.TheVariants as cause
+use Rattle.kilim_classes.specs.declared.machine.value.Object.{Object}
+use Rattle.kilim_classes.specs.machine.Machine.{Objects}
+use Rattle.kilim_classes.specs.machine.Members.{constructor_of, execute_of, is_concrete, is_own_constructor}
+use Rattle.kilim_classes.specs.machine.Moves.{entered}
+use Rattle.kilim_classes.specs.machine.Objects.{new_object}
+use Rattle.kilim_classes.specs.machine.Trees.{OfTask, built, with_objects}
 use Rattle.kilim_thread_model.proofs.Alone.{all_left}
 use Rattle.kilim_thread_model.specs.declared.deed.Beginning.{Beginning}
 use Rattle.kilim_thread_model.specs.declared.deed.Beginning.TheVariants.{Boot, Begun}

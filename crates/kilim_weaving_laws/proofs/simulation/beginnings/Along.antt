@@ -8,9 +8,9 @@ use Rattle.kilim_classes.specs.declared.value.Value.{Value}
 use Rattle.kilim_classes.specs.declared.value.Value.TheVariants as value
 use Rattle.kilim_classes.specs.Names.{method_at}
 use Rattle.kilim_classes.specs.Program.{Program}
-use Rattle.kilim_program.specs.declared.cause.EndCause.TheVariants as cause
-use Rattle.kilim_program.specs.Machine.{Activation}
-use Rattle.kilim_program.specs.Moves.{entered}
+use Rattle.kilim_classes.specs.declared.machine.cause.EndCause.TheVariants as cause
+use Rattle.kilim_classes.specs.machine.Machine.{Activation}
+use Rattle.kilim_classes.specs.machine.Moves.{entered}
 use Rattle.kilim_thread_model.specs.State.{Setting}
 use Rattle.kilim_weaving_laws.specs.simulation.beginnings.Law.{BeginningsServe, ServesAlong, StandsWith}
 use Rattle.kilim_woven_runs.specs.Acts.{Lost, Over, World, ending, spending}
@@ -21,7 +21,7 @@ use Rattle.kilim_woven_runs.specs.Runs.{Comes, ComesToRest, IsMark, Soon, idle, 
 use Rattle.kilim_woven_runs.specs.Rooms.{IsFineState}
 use Rattle.kilim_woven_runs.specs.Serves.{From, Known, Rows, StandsFor}
 use Rattle.kilim_woven_runs.specs.Thread.{Run, Stop, Thread, self_of, started, started_in, steps}
-use Rattle.kilim_typing_laws.specs.fits.Fits.{AreThere, IsThere}
+use Rattle.kilim_typing.specs.typing_laws.fits.Fits.{AreThere, IsThere}
 use Rattle.kilim_weaving_laws.proofs.simulation.Still.{StepIsKnown, comes_to_rest}
 use Rattle.kilim_weaving_laws.proofs.simulation.Room.{StackIsThere, is_fine}
 use Rattle.kilim_weaving_laws.proofs.simulation.Begins.{constructor_begins, execute_begins}

@@ -13,20 +13,20 @@ use Rattle.kilim_classes.specs.Fits.{fits_type}
 use Rattle.kilim_classes.specs.Keeps.{Keeps, ids_are_places, none_is_its_ancestor, code_is_whole, members_are_owned, names_differ, method_is_sound, overriding_agrees, none_is_left_abstract, none_is_both, no_task_arrays, superclasses_fit, own_classes_fit, fields_fit, constants_fit, frames_are_proper, none_is_named_as_array}
 use Rattle.kilim_classes.specs.Lengths.{has_length, code_stands, targets_stand, code_ends, places_increase, jump_targets, ends_path}
 use Rattle.kilim_classes.specs.Names.{method_at, is_empty}
-use Rattle.kilim_lookups.proofs.Rising.{all_there}
-use Rattle.kilim_program.specs.Members.{is_fit_main}
+use Rattle.kilim_classes.proofs.lookups.Rising.{all_there}
+use Rattle.kilim_classes.specs.machine.Members.{is_fit_main}
 use Rattle.kilim_typing.proofs.FromFaults.{no_fault_is_well_typed}
 use Rattle.kilim_typing.specs.Faults.{method_fault}
 use Rattle.kilim_typing.specs.Step.{is_unset, meets, row, special_fits}
 use Rattle.kilim_typing.specs.Typed.{IsWellTyped, WellTyped, has_code, typing_of}
-use Rattle.kilim_woven_form.specs.Form.{has_calls}
-use Rattle.kilim_woven_form.specs.Samples.{loop, loop_execute, sample_constructor, sample_class}
-use Rattle.kilim_woven_form.specs.Weight.{calls_in, weight}
-use Rattle.kilim_woven_form.specs.Woven.{taken}
-use Rattle.kilim_woven_form.specs.woven_programs.keeps.Law.{NoneIsTooLong, reach}
-use Rattle.kilim_woven_form.specs.woven_programs.Law.{KeepsPauses, NoneAcross}
+use Rattle.kilim_typing.specs.woven_form.Form.{has_calls}
+use Rattle.kilim_typing.specs.woven_form.Samples.{loop, loop_execute, sample_constructor, sample_class}
+use Rattle.kilim_typing.specs.woven_form.Weight.{calls_in, weight}
+use Rattle.kilim_typing.specs.woven_form.Woven.{taken}
+use Rattle.kilim_typing.specs.woven_form.woven_programs.keeps.Law.{NoneIsTooLong, reach}
+use Rattle.kilim_typing.specs.woven_form.woven_programs.Law.{KeepsPauses, NoneAcross}
 use Rattle.kilim_woven_runs.specs.Thread.{own_of}
-use Rattle.kilim_woven_form.specs.woven_types.Facts.{CallsNone}
+use Rattle.kilim_typing.specs.woven_form.woven_types.Facts.{CallsNone}
 
 pub loop_keeps : Keeps loop
 unfolding has_length ids_are_places none_is_its_ancestor code_is_whole members_are_owned names_differ method_is_sound overriding_agrees none_is_left_abstract none_is_both no_task_arrays superclasses_fit own_classes_fit fields_fit constants_fit frames_are_proper none_is_named_as_array code_stands targets_stand code_ends places_increase jump_targets ends_path fits_type

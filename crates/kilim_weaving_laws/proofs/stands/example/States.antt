@@ -4,12 +4,12 @@ use Rattle.std.specs.Prelude.{if◌then◌else◌, drop, ◌&&◌}
 use Rattle.std.specs.FinMap.{empty, get, get-empty}
 use Rattle.std.proofs.lemmas.Bool.{false≢true}
 use Rattle.std.proofs.lemmas.Option.{none-some, same_Some}
-use Rattle.kilim_program.specs.declared.cause.EndCause.TheVariants as cause
+use Rattle.kilim_classes.specs.declared.machine.cause.EndCause.TheVariants as cause
 use Rattle.kilim_classes.specs.declared.class.Method.{Method}
 use Rattle.kilim_classes.specs.declared.instr.Instr.{Instr}
 use Rattle.kilim_classes.specs.declared.instr.Instr.TheVariants.{Goto, Invokestatic}
 use Rattle.kilim_classes.specs.declared.names.MethodId.{MethodId}
-use Rattle.kilim_program.specs.declared.value.Object.{Object}
+use Rattle.kilim_classes.specs.declared.machine.value.Object.{Object}
 use Rattle.kilim_classes.specs.declared.value.Value.{Value}
 use Rattle.kilim_classes.specs.declared.value.Value.TheVariants.{Null, Ref}
 use Rattle.kilim_classes.specs.BuiltIn.{class_type, method_id}
@@ -18,17 +18,17 @@ use Rattle.kilim_classes.specs.Lengths.{fetched, jump_targets, ends_path}
 use Rattle.kilim_classes.specs.Names.{method_at, ◌>>=◌}
 use Rattle.kilim_classes.specs.Same.{argument_slots}
 use Rattle.kilim_lemmas.proofs.Maps.{put_there, put_other}
-use Rattle.kilim_program.specs.Does.{does}
-use Rattle.kilim_program.specs.Effect.{Effect, Calls, Asks}
-use Rattle.kilim_program.specs.Machine.{Objects}
-use Rattle.kilim_program.specs.Members.{execute_of}
-use Rattle.kilim_program.specs.Natives.{Native, native_of}
-use Rattle.kilim_program.specs.Natives as native
+use Rattle.kilim_classes.specs.machine.Does.{does}
+use Rattle.kilim_classes.specs.machine.Effect.{Effect, Calls, Asks}
+use Rattle.kilim_classes.specs.machine.Machine.{Objects}
+use Rattle.kilim_classes.specs.machine.Members.{execute_of}
+use Rattle.kilim_classes.specs.machine.Natives.{Native, native_of}
+use Rattle.kilim_classes.specs.machine.Natives as native
 use Rattle.kilim_thread_model.specs.State.{class_of}
 use Rattle.kilim_typing.specs.Step.{Types, meets, row, special_fits}
 use Rattle.kilim_typing.specs.Typed.{Live, ReadsIt, GoesOn, reads, IsLive, typing_of}
-use Rattle.kilim_woven_form.specs.Samples.{loop_execute, loop, woven_loop, woven_loop_marks, of_class}
-use Rattle.kilim_woven_form.specs.Woven.{pausable_callee, taken, below, saved, saved_from}
+use Rattle.kilim_typing.specs.woven_form.Samples.{loop_execute, loop, woven_loop, woven_loop_marks, of_class}
+use Rattle.kilim_typing.specs.woven_form.Woven.{pausable_callee, taken, below, saved, saved_from}
 use Rattle.kilim_woven_runs.specs.Acts.{Lost, Wants, Ends}
 use Rattle.kilim_woven_runs.specs.Fibers.{executes_on}
 use Rattle.kilim_woven_runs.specs.Form.{Facts}
@@ -37,7 +37,7 @@ use Rattle.kilim_woven_runs.specs.Rows.{OldHeap, is_old_base, Receives, IsClean}
 use Rattle.kilim_woven_runs.specs.Serves.{From, Known, is_leaf, leaf_receiver}
 use Rattle.kilim_woven_runs.specs.Thread.{Frame, Thread, Run, Stop, own_of, fetch, self_of, step, steps}
 use Rattle.kilim_woven_runs.specs.Rooms.{GivesWhole, HasRoom, bare_frames}
-use Rattle.kilim_typing_laws.specs.fits.Fits.{AreThere, IsThere}
+use Rattle.kilim_typing.specs.typing_laws.fits.Fits.{AreThere, IsThere}
 use Rattle.kilim_jvm_interp.specs.Step.{stack_limit}
 use Rattle.kilim_weaving_laws.specs.stands.Law.{IsFormOf}
 use Rattle.kilim_weaving_laws.specs.stands.example.Example.{two_steps, one_object, after, first}

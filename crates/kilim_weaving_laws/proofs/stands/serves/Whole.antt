@@ -1,5 +1,5 @@
 -- All is put together.
-use Rattle.kilim_woven_form.specs.Woven.{fiber_ty}
+use Rattle.kilim_typing.specs.woven_form.Woven.{fiber_ty}
 use Rattle.kilim_woven_runs.specs.Runs.{most_uncounted}
 use Rattle.kilim_woven_runs.specs.Serves.{From}
 use Rattle.kilim_woven_runs.proofs.alike.AllRows.{rows_from}

@@ -22,21 +22,21 @@ use Rattle.kilim_classes.specs.Lengths.{code_stands, fetched}
 use Rattle.kilim_classes.specs.Names.{class_at, class_name, is_empty, method_at}
 use Rattle.kilim_classes.specs.Program.{Program}
 use Rattle.kilim_classes.specs.Same.{is_constructor}
-use Rattle.kilim_program.specs.declared.value.Object.{Object}
-use Rattle.kilim_program.specs.Does.{does, calls_method, calls_on, calls_text, chosen, special, takes_element, text_answers, unit_at, at_unit}
-use Rattle.kilim_program.specs.Effect.{Effect, Goes, Calls, Asks, with_some, on_value, on_values, as_receiver, as_class, as_int, as_object, at_index, at_place, named_type, text_of, when}
-use Rattle.kilim_program.specs.Machine.{Objects}
-use Rattle.kilim_program.specs.Natives.{Native, is_built_in_constructor, is_handed_out, is_take, is_text_method, native_method, native_named, natives}
+use Rattle.kilim_classes.specs.declared.machine.value.Object.{Object}
+use Rattle.kilim_classes.specs.machine.Does.{does, calls_method, calls_on, calls_text, chosen, special, takes_element, text_answers, unit_at, at_unit}
+use Rattle.kilim_classes.specs.machine.Effect.{Effect, Goes, Calls, Asks, with_some, on_value, on_values, as_receiver, as_class, as_int, as_object, at_index, at_place, named_type, text_of, when}
+use Rattle.kilim_classes.specs.machine.Machine.{Objects}
+use Rattle.kilim_classes.specs.machine.Natives.{Native, is_built_in_constructor, is_handed_out, is_take, is_text_method, native_method, native_named, natives}
 use Rattle.kilim_typing.specs.Step.{Types, by_row, missing, may_make, may_name, row, special_by, special_fits, special_row, static_row, type_step, virtual_row}
 use Rattle.kilim_typing.specs.Typed.{IsWellTyped, typing_of}
-use Rattle.kilim_typing_laws.proofs.Edges.{stands_at}
-use Rattle.kilim_typing_laws.proofs.Tops.{passed}
-use Rattle.kilim_typing_laws.proofs.fits.BuiltInMembers.{NamedAt, built_in_at, named_at, none_built_in}
-use Rattle.kilim_typing_laws.proofs.fits.FromKeeps.{all_at}
-use Rattle.kilim_typing_laws.proofs.fits.ValueClasses.{all_of_at}
-use Rattle.kilim_woven_form.proofs.woven_types.Codes.{whole_code}
-use Rattle.kilim_woven_form.proofs.woven_types.Old.{special_asks}
-use Rattle.kilim_woven_form.proofs.woven_programs.Frames.{by_place}
+use Rattle.kilim_typing.proofs.typing_laws.Edges.{stands_at}
+use Rattle.kilim_typing.proofs.typing_laws.Tops.{passed}
+use Rattle.kilim_typing.proofs.typing_laws.fits.BuiltInMembers.{NamedAt, built_in_at, named_at, none_built_in}
+use Rattle.kilim_typing.proofs.typing_laws.fits.FromKeeps.{all_at}
+use Rattle.kilim_typing.proofs.typing_laws.fits.ValueClasses.{all_of_at}
+use Rattle.kilim_typing.proofs.woven_form.woven_types.Codes.{whole_code}
+use Rattle.kilim_typing.proofs.woven_form.woven_types.Old.{special_asks}
+use Rattle.kilim_typing.proofs.woven_form.woven_programs.Frames.{by_place}
 use Rattle.kilim_woven_runs.specs.Fibers.{as_member}
 use Rattle.kilim_woven_runs.specs.Rows.{IsClean, below_arguments, class_if, value_class}
 use Rattle.kilim_woven_runs.specs.Serves.{is_pausing_native}

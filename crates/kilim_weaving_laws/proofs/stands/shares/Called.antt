@@ -17,13 +17,13 @@ use Rattle.kilim_classes.specs.Keeps.{Keeps}
 use Rattle.kilim_classes.specs.Names.{◌>>=◌, class_at, class_name, first_that, line_up_to, method_at, methods_of}
 use Rattle.kilim_classes.specs.Program.{Program}
 use Rattle.kilim_classes.specs.Same.{answers, same_result, same_signature, same_types, selected}
-use Rattle.kilim_program.specs.Does.{chosen_by, chosen_on}
-use Rattle.kilim_program.specs.Natives.{FiberMember, Pc, Down, Up, Save, Place, Restore, Receiver, native_method}
-use Rattle.kilim_typing_laws.proofs.fits.SameNames.{signature_itself}
-use Rattle.kilim_woven_form.specs.Form.{WovenForm, first_class, first_method}
-use Rattle.kilim_woven_form.specs.Woven.{fiber_ty, member}
-use Rattle.kilim_woven_form.proofs.woven_programs.ClassLists.{one_more}
-use Rattle.kilim_woven_form.proofs.woven_programs.Theorem as theorem
+use Rattle.kilim_classes.specs.machine.Does.{chosen_by, chosen_on}
+use Rattle.kilim_classes.specs.machine.Natives.{FiberMember, Pc, Down, Up, Save, Place, Restore, Receiver, native_method}
+use Rattle.kilim_typing.proofs.typing_laws.fits.SameNames.{signature_itself}
+use Rattle.kilim_typing.specs.woven_form.Form.{WovenForm, first_class, first_method}
+use Rattle.kilim_typing.specs.woven_form.Woven.{fiber_ty, member}
+use Rattle.kilim_typing.proofs.woven_form.woven_programs.ClassLists.{one_more}
+use Rattle.kilim_typing.proofs.woven_form.woven_programs.Theorem as theorem
 use Rattle.kilim_woven_runs.specs.Fibers.{as_member}
 use Rattle.kilim_woven_runs.specs.Form.{members_in_order}
 use Rattle.kilim_woven_runs.specs.alike.Shares.{IsMember, size_of}

@@ -18,18 +18,18 @@ use Rattle.kilim_classes.specs.Keeps.{Keeps}
 use Rattle.kilim_classes.specs.Names.{class_at, class_from, class_name, is_empty, is_named_task, is_task, line_of, method_at}
 use Rattle.kilim_classes.specs.Program.{Program}
 use Rattle.kilim_classes.specs.Same.{is_constructor}
-use Rattle.kilim_program.specs.Effect.{named_class, named_type}
-use Rattle.kilim_program.specs.Members.{is_task_execute}
-use Rattle.kilim_program.specs.Natives.{FiberMember, Pc, Down, Up, Save, Place, Restore, Receiver, OfFiber, is_built_in_constructor, is_handed_out, is_take, is_text_method, native_method, native_named, natives}
+use Rattle.kilim_classes.specs.machine.Effect.{named_class, named_type}
+use Rattle.kilim_classes.specs.machine.Members.{is_task_execute}
+use Rattle.kilim_classes.specs.machine.Natives.{FiberMember, Pc, Down, Up, Save, Place, Restore, Receiver, OfFiber, is_built_in_constructor, is_handed_out, is_take, is_text_method, native_method, native_named, natives}
 use Rattle.kilim_lemmas.proofs.Lists.{get_right}
-use Rattle.kilim_typing_laws.proofs.fits.BuiltInMembers.{built_in_at, none_built_in}
-use Rattle.kilim_typing_laws.proofs.fits.ValueClasses.{all_of_at, type_is}
+use Rattle.kilim_typing.proofs.typing_laws.fits.BuiltInMembers.{built_in_at, none_built_in}
+use Rattle.kilim_typing.proofs.typing_laws.fits.ValueClasses.{all_of_at, type_is}
 use Rattle.kilim_isolation_laws.proofs.typed_threads.fine.Natives.{task_name}
-use Rattle.kilim_woven_form.specs.Form.{AllWoven, WovenForm, first_class}
-use Rattle.kilim_woven_form.specs.Woven.{fiber_ty, member}
-use Rattle.kilim_woven_form.proofs.woven_programs.Methods.{members_behind}
-use Rattle.kilim_woven_form.proofs.woven_programs.Theorem as theorem
-use Rattle.kilim_woven_form.proofs.woven_programs.classes.BuiltIns as built
+use Rattle.kilim_typing.specs.woven_form.Form.{AllWoven, WovenForm, first_class}
+use Rattle.kilim_typing.specs.woven_form.Woven.{fiber_ty, member}
+use Rattle.kilim_typing.proofs.woven_form.woven_programs.Methods.{members_behind}
+use Rattle.kilim_typing.proofs.woven_form.woven_programs.Theorem as theorem
+use Rattle.kilim_typing.proofs.woven_form.woven_programs.classes.BuiltIns as built
 use Rattle.kilim_weaving_laws.proofs.stands.shares.Names as names
 
 -- a member of the fiber, in any program in which its class has that name

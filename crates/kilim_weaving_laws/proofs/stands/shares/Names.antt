@@ -21,22 +21,22 @@ use Rattle.kilim_classes.specs.Kinds.{is_message}
 use Rattle.kilim_classes.specs.Names.{class_at, class_from, class_name, class_named, first_that, line_of, method_at, methods_of}
 use Rattle.kilim_classes.specs.Program.{Program}
 use Rattle.kilim_classes.specs.Same.{answers, is_constructor, selected}
-use Rattle.kilim_program.specs.Does.{above_of, chosen, chosen_by, chosen_on, special, superclass_of}
-use Rattle.kilim_program.specs.Effect.{named_class, named_type}
-use Rattle.kilim_program.specs.Natives.{is_built_in_constructor, is_built_in_of, is_handed_out, is_take, is_text_method, native_method, native_named, natives}
+use Rattle.kilim_classes.specs.machine.Does.{above_of, chosen, chosen_by, chosen_on, special, superclass_of}
+use Rattle.kilim_classes.specs.machine.Effect.{named_class, named_type}
+use Rattle.kilim_classes.specs.machine.Natives.{is_built_in_constructor, is_built_in_of, is_handed_out, is_take, is_text_method, native_method, native_named, natives}
 use Rattle.kilim_typing.specs.Step.{is_above, is_superclass_method, special_fits, superclass_at}
 use Rattle.kilim_typing.specs.Step as step
 use Rattle.kilim_lemmas.proofs.Lists.{get_right}
-use Rattle.kilim_typing_laws.specs.fits.Chosen.{IsChosen}
-use Rattle.kilim_typing_laws.proofs.fits.ClassMethods.{IsAmong, owner_has}
-use Rattle.kilim_typing_laws.proofs.fits.Finding.{answer_of, finds_chosen}
-use Rattle.kilim_typing_laws.proofs.fits.Through.{cases, message_at, message_top, object_at, object_top}
-use Rattle.kilim_woven_form.specs.Form.{WovenForm, has_calls, woven_as}
-use Rattle.kilim_woven_form.proofs.woven_programs.Methods.{Like, like, woven_at}
-use Rattle.kilim_woven_form.proofs.woven_programs.Naming.{owner_there}
-use Rattle.kilim_woven_form.proofs.woven_programs.Selecting as kept
-use Rattle.kilim_woven_form.proofs.woven_programs.Theorem as theorem
-use Rattle.kilim_woven_form.proofs.woven_programs.kinds.Lines as lines
+use Rattle.kilim_typing.specs.typing_laws.fits.Chosen.{IsChosen}
+use Rattle.kilim_typing.proofs.typing_laws.fits.ClassMethods.{IsAmong, owner_has}
+use Rattle.kilim_typing.proofs.typing_laws.fits.Finding.{answer_of, finds_chosen}
+use Rattle.kilim_typing.proofs.typing_laws.fits.Through.{cases, message_at, message_top, object_at, object_top}
+use Rattle.kilim_typing.specs.woven_form.Form.{WovenForm, has_calls, woven_as}
+use Rattle.kilim_typing.proofs.woven_form.woven_programs.Methods.{Like, like, woven_at}
+use Rattle.kilim_typing.proofs.woven_form.woven_programs.Naming.{owner_there}
+use Rattle.kilim_typing.proofs.woven_form.woven_programs.Selecting as kept
+use Rattle.kilim_typing.proofs.woven_form.woven_programs.Theorem as theorem
+use Rattle.kilim_typing.proofs.woven_form.woven_programs.kinds.Lines as lines
 use Rattle.kilim_woven_runs.specs.Rows.{is_old_base}
 
 first_passes : (test : MethodId → Bool) (xs : List MethodId) (f : MethodId) → first_that test xs ≡ Some f → test f ≡ true

@@ -23,21 +23,21 @@ use Rattle.kilim_classes.specs.Lengths.{fetched}
 use Rattle.kilim_classes.specs.Names.{◌>>=◌, class_name, fields_of, first_that, is_empty, is_task, line_of, method_at}
 use Rattle.kilim_classes.specs.Program.{Program}
 use Rattle.kilim_classes.specs.Same.{argument_slots, is_constructor, selected}
-use Rattle.kilim_program.specs.Does.{does, is_mailbox}
-use Rattle.kilim_program.specs.Effect.{Effect, Calls, Asks}
-use Rattle.kilim_program.specs.Machine.{Objects}
-use Rattle.kilim_program.specs.Members.{execute_of, is_fit_main, is_instance_field, is_task_execute, object_fields}
-use Rattle.kilim_program.specs.Moves.{slots_in}
-use Rattle.kilim_program.specs.Natives.{FiberMember, Native, OfFiber, is_built_in_constructor, is_handed_out, is_take, is_text_method, native_method, native_of}
-use Rattle.kilim_program.specs.Objects.{first_field, first_value, new_object}
+use Rattle.kilim_classes.specs.machine.Does.{does, is_mailbox}
+use Rattle.kilim_classes.specs.machine.Effect.{Effect, Calls, Asks}
+use Rattle.kilim_classes.specs.machine.Machine.{Objects}
+use Rattle.kilim_classes.specs.machine.Members.{execute_of, is_fit_main, is_instance_field, is_task_execute, object_fields}
+use Rattle.kilim_classes.specs.machine.Moves.{slots_in}
+use Rattle.kilim_classes.specs.machine.Natives.{FiberMember, Native, OfFiber, is_built_in_constructor, is_handed_out, is_take, is_text_method, native_method, native_of}
+use Rattle.kilim_classes.specs.machine.Objects.{first_field, first_value, new_object}
 use Rattle.kilim_thread_model.specs.State.{Setting}
 use Rattle.kilim_typing.specs.Step.{may_name, special_fits}
 use Rattle.kilim_typing.specs.Typed.{IsWellTyped}
-use Rattle.kilim_woven_form.specs.Form.{AllWoven, IsWoven, WovenForm, first_class, has_calls}
-use Rattle.kilim_woven_form.specs.Woven.{fiber_ty, if_there, pausable_callee}
-use Rattle.kilim_woven_form.proofs.woven_programs.Methods.{Like, fibers, like}
-use Rattle.kilim_woven_form.proofs.woven_programs.Theorem as theorem
-use Rattle.kilim_woven_form.proofs.woven_programs.kinds.Lines as lines
+use Rattle.kilim_typing.specs.woven_form.Form.{AllWoven, IsWoven, WovenForm, first_class, has_calls}
+use Rattle.kilim_typing.specs.woven_form.Woven.{fiber_ty, if_there, pausable_callee}
+use Rattle.kilim_typing.proofs.woven_form.woven_programs.Methods.{Like, fibers, like}
+use Rattle.kilim_typing.proofs.woven_form.woven_programs.Theorem as theorem
+use Rattle.kilim_typing.proofs.woven_form.woven_programs.kinds.Lines as lines
 use Rattle.kilim_woven_runs.specs.Fibers.{as_member, member_of}
 use Rattle.kilim_woven_runs.specs.Form.{is_pausable}
 use Rattle.kilim_woven_runs.specs.Rows.{IsClean}
@@ -359,7 +359,7 @@ module _ (set : Setting) (W : Program) (counted : List (List Bool)) (keeps : Kee
   no_constructor : (id : MethodId) (a : Method) → method_at P id ≡ Some a → a.pausable ≡ true → is_constructor a ≡ false
   unfolding method_is_sound
   no_constructor id a at is =
-      let s = Rattle.kilim_typing_laws.proofs.fits.FromKeeps.all_at method_is_sound P.methods id.0 a keeps.methods at in
+      let s = Rattle.kilim_typing.proofs.typing_laws.fits.FromKeeps.all_at method_is_sound P.methods id.0 a keeps.methods at in
       let t = and_parts (eqb (length a.qualifiers) (length a.params)) _ s in
       not_both (is_constructor a) a.pausable (and_parts (Rattle.std.specs.Prelude.nat_le (argument_slots a) 255) _ t.1).1 is
     where

@@ -10,17 +10,17 @@ use Rattle.kilim_classes.specs.declared.value.Value.TheVariants.{Ref}
 use Rattle.kilim_classes.specs.Names.{method_at}
 use Rattle.kilim_classes.specs.Program.{Program}
 use Rattle.kilim_isolation_laws.proofs.kept.Serving.{accepted_is_kept}
-use Rattle.kilim_program.specs.declared.cause.EndCause.TheVariants as cause
-use Rattle.kilim_program.specs.Does.{does}
-use Rattle.kilim_program.specs.Effect.{Asks}
-use Rattle.kilim_program.specs.Machine.{Objects}
-use Rattle.kilim_program.specs.Moves.{entered}
-use Rattle.kilim_program.specs.Natives.{native_of}
+use Rattle.kilim_classes.specs.declared.machine.cause.EndCause.TheVariants as cause
+use Rattle.kilim_classes.specs.machine.Does.{does}
+use Rattle.kilim_classes.specs.machine.Effect.{Asks}
+use Rattle.kilim_classes.specs.machine.Machine.{Objects}
+use Rattle.kilim_classes.specs.machine.Moves.{entered}
+use Rattle.kilim_classes.specs.machine.Natives.{native_of}
 use Rattle.kilim_isolation_laws.specs.reached_objects.Laws.{typed}
 use Rattle.kilim_isolation_laws.specs.Laws.{IsRunOfAccepted}
 use Rattle.kilim_isolation_laws.proofs.Keeping.{is_verified, stack_there, threads_stand}
 use Rattle.kilim_thread_model.specs.State.{Setting}
-use Rattle.kilim_typing_laws.specs.Laws.{typing_at}
+use Rattle.kilim_typing.specs.typing_laws.Laws.{typing_at}
 use Rattle.kilim_weaving_laws.proofs.woven_served.accepted.Tasks.{execute_taken, takes_task}
 use Rattle.kilim_weaving_laws.specs.woven_served.accepted.Law.{AcceptedWeaves, CanPause, ServesCourses}
 use Rattle.kilim_weaving_laws.proofs.courses.answers.Answers.{natives_answer}
@@ -28,14 +28,14 @@ use Rattle.kilim_weaving_laws.proofs.simulation.beginnings.Along.{beginnings_ser
 use Rattle.kilim_weaving_laws.proofs.courses.GoesOn.{goes_on}
 use Rattle.kilim_weaving_laws.proofs.courses.Known.{known}
 use Rattle.kilim_weaving_laws.specs.courses.Law.{HasFew, IsOfCourse, Rest}
-use Rattle.kilim_woven_form.specs.Form.{WovenForm}
-use Rattle.kilim_woven_form.specs.Woven.{fiber_ty}
-use Rattle.kilim_woven_form.specs.woven_programs.keeps.Law.{NoneIsTooLong}
+use Rattle.kilim_typing.specs.woven_form.Form.{WovenForm}
+use Rattle.kilim_typing.specs.woven_form.Woven.{fiber_ty}
+use Rattle.kilim_typing.specs.woven_form.woven_programs.keeps.Law.{NoneIsTooLong}
 use Rattle.kilim_woven_runs.specs.lone.Law.{lone_at}
 use Rattle.kilim_weaver.proofs.woven_pauses.Accepted.{accepted_keeps}
-use Rattle.kilim_woven_form.proofs.woven_program.Made.{there}
-use Rattle.kilim_woven_form.specs.woven_program.Made.{woven_counted, woven_program}
-use Rattle.kilim_woven_form.specs.woven_programs.Law.{KeepsPauses}
+use Rattle.kilim_typing.proofs.woven_form.woven_program.Made.{there}
+use Rattle.kilim_typing.specs.woven_form.woven_program.Made.{woven_counted, woven_program}
+use Rattle.kilim_typing.specs.woven_form.woven_programs.Law.{KeepsPauses}
 use Rattle.kilim_woven_runs.proofs.alike.AllRows.{rows_from}
 use Rattle.kilim_woven_runs.proofs.alike.FiberCalls.{members_from}
 use Rattle.kilim_woven_runs.specs.Acts.{Lost, World, asks, ending, spending, with_heap}

@@ -19,12 +19,12 @@ use Rattle.kilim_classes.specs.Keeps.{Keeps}
 use Rattle.kilim_classes.specs.Names.{◌>>=◌, first_that, is_named_task, is_task, line_of, method_at}
 use Rattle.kilim_classes.specs.Program.{Program}
 use Rattle.kilim_classes.specs.Same.{is_constructor, selected}
-use Rattle.kilim_typing_laws.specs.fits.Chosen.{IsChosen}
-use Rattle.kilim_typing_laws.specs.fits.Fits.{have_types}
-use Rattle.kilim_typing_laws.specs.fits.Sound.{argument_types}
-use Rattle.kilim_typing_laws.proofs.fits.Finding.{finds}
-use Rattle.kilim_typing_laws.proofs.fits.Grounds.{facts_hold}
-use Rattle.kilim_program.specs.Members.{execute_of, is_task_execute}
+use Rattle.kilim_typing.specs.typing_laws.fits.Chosen.{IsChosen}
+use Rattle.kilim_typing.specs.typing_laws.fits.Fits.{have_types}
+use Rattle.kilim_typing.specs.typing_laws.fits.Sound.{argument_types}
+use Rattle.kilim_typing.proofs.typing_laws.fits.Finding.{finds}
+use Rattle.kilim_typing.proofs.typing_laws.fits.Grounds.{facts_hold}
+use Rattle.kilim_classes.specs.machine.Members.{execute_of, is_task_execute}
 use Rattle.kilim_isolation_laws.proofs.Natives.{Begins, execute_is, n, task_named}
 use Rattle.kilim_thread_model.specs.State.{Setting}
 use Rattle.kilim_isolation_laws.proofs.typed_threads.Executing.{same_class}

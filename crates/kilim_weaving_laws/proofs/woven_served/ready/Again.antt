@@ -13,12 +13,12 @@ use Rattle.kilim_classes.specs.declared.verified.VType.{VType}
 use Rattle.kilim_classes.specs.Program.{Program}
 use Rattle.kilim_classes.specs.Same.{is_constructor}
 use Rattle.kilim_isolation_laws.proofs.typed_threads.fine.Heights.{some_size}
-use Rattle.kilim_typing_laws.proofs.fits.Basics.{takes_inverse}
-use Rattle.kilim_typing_laws.specs.fits.Fits.{Classes, have_types}
+use Rattle.kilim_typing.proofs.typing_laws.fits.Basics.{takes_inverse}
+use Rattle.kilim_typing.specs.typing_laws.fits.Fits.{Classes, have_types}
 use Rattle.kilim_pausable_graph.specs.Pausing.{called}
 use Rattle.kilim_typing.specs.Step.{Is, Operand, Types, all_meet, arguments, by_row, class_vtype, meets, result_types, row, special_by, special_row, special_rules, static_row, static_rules, type_step, virtual_row, virtual_rules, vtype, words}
 use Rattle.kilim_weaving_laws.proofs.courses.Roomy.{types_length}
-use Rattle.kilim_woven_form.specs.Woven.{taken}
+use Rattle.kilim_typing.specs.woven_form.Woven.{taken}
 use Rattle.kilim_weaving_laws.proofs.woven_served.ready.Receiver.{argument_count, static_static}
 use Rattle.kilim_woven_runs.specs.Links.{again, dummy_value, with_dummies, with_receiver}
 

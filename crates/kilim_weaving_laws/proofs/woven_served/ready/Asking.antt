@@ -10,11 +10,11 @@ use Rattle.kilim_classes.specs.declared.value.Value.{Value}
 use Rattle.kilim_classes.specs.declared.value.Value.TheVariants.{Box, Fiber, Int, Long, Null, Ref, Text}
 use Rattle.kilim_classes.specs.Names.{method_at}
 use Rattle.kilim_classes.specs.Program.{Program}
-use Rattle.kilim_program.specs.declared.value.Object.{Object as HeapObject}
-use Rattle.kilim_program.specs.Does.{calls_method, calls_on, calls_text, chosen, does, special, takes_element}
-use Rattle.kilim_program.specs.Effect.{Asks, Calls, Effect, Goes, Raises, Stuck, as_class, as_receiver, named_type, on_value, on_values, with_some}
-use Rattle.kilim_program.specs.Machine.{Objects}
-use Rattle.kilim_program.specs.Natives.{is_built_in_constructor, is_handed_out, is_text_method}
+use Rattle.kilim_classes.specs.declared.machine.value.Object.{Object as HeapObject}
+use Rattle.kilim_classes.specs.machine.Does.{calls_method, calls_on, calls_text, chosen, does, special, takes_element}
+use Rattle.kilim_classes.specs.machine.Effect.{Asks, Calls, Effect, Goes, Raises, Stuck, as_class, as_receiver, named_type, on_value, on_values, with_some}
+use Rattle.kilim_classes.specs.machine.Machine.{Objects}
+use Rattle.kilim_classes.specs.machine.Natives.{is_built_in_constructor, is_handed_out, is_text_method}
 use Rattle.kilim_woven_runs.proofs.alike.Lands.{hushed, q_index, q_int, q_object, q_value}
 
 type_some : (x y : Ty) → Some x ≡ Some y → x ≡ y

@@ -21,25 +21,25 @@ use Rattle.kilim_classes.specs.Names.{is_empty, method_at}
 use Rattle.kilim_classes.specs.Program.{Program}
 use Rattle.kilim_classes.specs.Same.{is_constructor}
 use Rattle.kilim_isolation_laws.proofs.typed_threads.fine.Shown.{no_fiber_class}
-use Rattle.kilim_typing_laws.proofs.fits.Walk.{stands_at}
-use Rattle.kilim_typing_laws.specs.fits.Fits.{AreThere, Classes, HeapFits, IsThere, has_type, have_types}
-use Rattle.kilim_typing_laws.specs.fits.Sound.{argument_types}
+use Rattle.kilim_typing.proofs.typing_laws.fits.Walk.{stands_at}
+use Rattle.kilim_typing.specs.typing_laws.fits.Fits.{AreThere, Classes, HeapFits, IsThere, has_type, have_types}
+use Rattle.kilim_typing.specs.typing_laws.fits.Sound.{argument_types}
 use Rattle.kilim_pausable_graph.specs.Pausing.{called}
-use Rattle.kilim_program.specs.declared.value.Object.{Object as HeapObject}
-use Rattle.kilim_program.specs.Does.{does}
-use Rattle.kilim_program.specs.Effect.{Calls, named_type}
-use Rattle.kilim_program.specs.Machine.{Objects}
+use Rattle.kilim_classes.specs.declared.machine.value.Object.{Object as HeapObject}
+use Rattle.kilim_classes.specs.machine.Does.{does}
+use Rattle.kilim_classes.specs.machine.Effect.{Calls, named_type}
+use Rattle.kilim_classes.specs.machine.Machine.{Objects}
 use Rattle.kilim_isolation_laws.specs.Laws.{IsRunOfAccepted}
 use Rattle.kilim_isolation_laws.proofs.Keeping.{is_verified}
 use Rattle.kilim_thread_model.specs.State.{Setting}
 use Rattle.kilim_typing.specs.Step.{Types, assignable, class_vtype, is_unset, vtype}
 use Rattle.kilim_typing.specs.Typed.{has_code, typing_of}
-use Rattle.kilim_typing_laws.specs.Laws.{typing_at, typing_in}
+use Rattle.kilim_typing.specs.typing_laws.Laws.{typing_at, typing_in}
 use Rattle.kilim_weaving_laws.proofs.receivers.called.Called.{no_pause}
 use Rattle.kilim_weaving_laws.specs.receivers.called.Law.{Boundary, Entered, Target, class_named}
 use Rattle.kilim_weaving_laws.proofs.courses.Takes.{takes_typed}
-use Rattle.kilim_woven_form.specs.Woven.{below, first_of, if_there, pausable_callee, receiver, saved, taken}
-use Rattle.kilim_woven_form.specs.woven_programs.Law.{KeepsPauses, NoneAcross}
+use Rattle.kilim_typing.specs.woven_form.Woven.{below, first_of, if_there, pausable_callee, receiver, saved, taken}
+use Rattle.kilim_typing.specs.woven_form.woven_programs.Law.{KeepsPauses, NoneAcross}
 use Rattle.kilim_weaving_laws.proofs.woven_served.ready.Clean.{below_dummies, dummies_clean, heap_old, no_fiber, stack_clean}
 use Rattle.kilim_weaving_laws.proofs.woven_served.ready.Dummies.{dummies_reversed, dummies_typed}
 use Rattle.kilim_weaving_laws.proofs.woven_served.ready.Places.{one_call}
@@ -269,7 +269,7 @@ module _ (set : Setting) (run : IsRunOfAccepted set) (pauses : KeepsPauses set.p
 
       locals_fit : SlotsFit W h (saved (plan_of set W marks form m) b.from to) l
       locals_fit =
-          subst (λ (g : Types). SlotsFit W h (Rattle.kilim_woven_form.specs.Woven.saved_from ((form m).live to) 0 g.locals) l) (sym (types_same m b.own b.there b.from))
+          subst (λ (g : Types). SlotsFit W h (Rattle.kilim_typing.specs.woven_form.Woven.saved_from ((form m).live to) 0 g.locals) l) (sym (types_same m b.own b.there b.from))
           (slots_fit set.program W agree none_named of h heap (heap_old set.program of h heap) b.own ((form m).live to) l (typing_at set.program m b.from).locals
           (across m b.own b.there b.from to b.i b.named b.fetched (pausable ∙ ap (λ (k : Method). Some k) (sym same_callee.0))).1 b.slots locals)
 

@@ -11,17 +11,17 @@ use Rattle.kilim_classes.specs.declared.value.Value.TheVariants.{Ref}
 use Rattle.kilim_classes.specs.BuiltIn.{class_type}
 use Rattle.kilim_classes.specs.Names.{◌>>=◌, is_task, method_at}
 use Rattle.kilim_classes.specs.Program.{Program}
-use Rattle.kilim_typing_laws.specs.fits.Fits.{Classes, HeapFits, IsThere}
-use Rattle.kilim_program.specs.declared.value.Object.{Object as HeapObject}
-use Rattle.kilim_program.specs.Machine.{Objects}
-use Rattle.kilim_program.specs.Members.{execute_of}
+use Rattle.kilim_typing.specs.typing_laws.fits.Fits.{Classes, HeapFits, IsThere}
+use Rattle.kilim_classes.specs.declared.machine.value.Object.{Object as HeapObject}
+use Rattle.kilim_classes.specs.machine.Machine.{Objects}
+use Rattle.kilim_classes.specs.machine.Members.{execute_of}
 use Rattle.kilim_isolation_laws.specs.Laws.{IsRunOfAccepted}
 use Rattle.kilim_thread_model.specs.Reach.{Liveness}
 use Rattle.kilim_thread_model.specs.State.{Setting, class_of}
 use Rattle.kilim_weaving_laws.proofs.woven_served.accepted.Tasks.{execute_taken, takes_task}
 use Rattle.kilim_weaving_laws.specs.receivers.called.Law.{AllCalled, Bottom}
 use Rattle.kilim_woven_runs.specs.lone.Law.{lone_frames}
-use Rattle.kilim_woven_form.specs.woven_programs.Law.{KeepsPauses}
+use Rattle.kilim_typing.specs.woven_form.woven_programs.Law.{KeepsPauses}
 use Rattle.kilim_weaving_laws.proofs.woven_served.ready.Below.{fit_inner}
 use Rattle.kilim_weaving_laws.proofs.woven_served.ready.There.{AllThere, local_of, rest_of, stack_of}
 use Rattle.kilim_weaving_laws.specs.receivers.Law.{SelvesThere}

@@ -14,11 +14,11 @@ use Rattle.kilim_classes.specs.declared.verified.VType.TheVariants.{Top, Int, Lo
 use Rattle.kilim_classes.specs.Names.{class_at}
 use Rattle.kilim_classes.specs.Program.{Program}
 use Rattle.kilim_classes.specs.Keeps.{has_base}
-use Rattle.kilim_typing_laws.specs.fits.Fits.{Classes, ContentFits, HeapFits, has_objects, has_type, have_types, is_made, refers}
-use Rattle.kilim_program.specs.declared.value.Object.{Object as HeapObject}
-use Rattle.kilim_program.specs.Effect.{named_type}
-use Rattle.kilim_program.specs.Machine.{Objects}
-use Rattle.kilim_program.specs.Members.{is_concrete}
+use Rattle.kilim_typing.specs.typing_laws.fits.Fits.{Classes, ContentFits, HeapFits, has_objects, has_type, have_types, is_made, refers}
+use Rattle.kilim_classes.specs.declared.machine.value.Object.{Object as HeapObject}
+use Rattle.kilim_classes.specs.machine.Effect.{named_type}
+use Rattle.kilim_classes.specs.machine.Machine.{Objects}
+use Rattle.kilim_classes.specs.machine.Members.{is_concrete}
 use Rattle.kilim_typing.specs.Step.{made_at, vtype}
 use Rattle.kilim_woven_runs.specs.Links.{dummy_value, with_dummies}
 use Rattle.kilim_woven_runs.specs.Rows.{Clean, OldHeap, below_arguments, is_old_base}

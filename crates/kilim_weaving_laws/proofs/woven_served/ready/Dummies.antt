@@ -9,8 +9,8 @@ use Rattle.kilim_classes.specs.declared.ty.Base.TheVariants as base
 use Rattle.kilim_classes.specs.declared.ty.Ty.{Ty}
 use Rattle.kilim_classes.specs.declared.value.Value.{Value}
 use Rattle.kilim_classes.specs.Program.{Program}
-use Rattle.kilim_typing_laws.specs.fits.Fits.{Classes, has_type, have_types}
-use Rattle.kilim_program.specs.Effect.{Effect, on_values}
+use Rattle.kilim_typing.specs.typing_laws.fits.Fits.{Classes, has_type, have_types}
+use Rattle.kilim_classes.specs.machine.Effect.{Effect, on_values}
 use Rattle.kilim_typing.specs.Step.{vtype}
 use Rattle.kilim_weaving_laws.specs.woven_served.ready.Law.{dummies_down}
 use Rattle.kilim_woven_runs.specs.Links.{dummy_value, with_dummies}

@@ -11,9 +11,9 @@ use Rattle.kilim_classes.specs.Keeps.{Keeps}
 use Rattle.kilim_classes.specs.Names.{◌>>=◌, first_that, is_task}
 use Rattle.kilim_classes.specs.Program.{Program}
 use Rattle.kilim_classes.specs.Same.{selected}
-use Rattle.kilim_program.specs.Members.{execute_of, is_task_execute}
-use Rattle.kilim_woven_form.specs.Form.{AllWoven, IsWoven, WovenForm, first_class, has_calls}
-use Rattle.kilim_woven_form.proofs.woven_programs.Methods.{Like, like}
+use Rattle.kilim_classes.specs.machine.Members.{execute_of, is_task_execute}
+use Rattle.kilim_typing.specs.woven_form.Form.{AllWoven, IsWoven, WovenForm, first_class, has_calls}
+use Rattle.kilim_typing.proofs.woven_form.woven_programs.Methods.{Like, like}
 use Rattle.kilim_weaving_laws.proofs.stands.shares.Fibers as fibers_of
 use Rattle.kilim_weaving_laws.proofs.stands.shares.Names as names
 

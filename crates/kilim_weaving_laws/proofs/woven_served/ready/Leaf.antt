@@ -18,23 +18,23 @@ use Rattle.kilim_classes.specs.Lengths.{fetched}
 use Rattle.kilim_classes.specs.Names.{◌>>=◌, method_at}
 use Rattle.kilim_classes.specs.Program.{Program}
 use Rattle.kilim_classes.specs.Same.{is_constructor}
-use Rattle.kilim_typing_laws.specs.fits.Facts.{Selected}
-use Rattle.kilim_typing_laws.specs.fits.Fits.{AreThere, Classes, HeapFits, Holds, has_type, have_types}
-use Rattle.kilim_typing_laws.proofs.fits.Grounds.{facts_hold}
+use Rattle.kilim_typing.specs.typing_laws.fits.Facts.{Selected}
+use Rattle.kilim_typing.specs.typing_laws.fits.Fits.{AreThere, Classes, HeapFits, Holds, has_type, have_types}
+use Rattle.kilim_typing.proofs.typing_laws.fits.Grounds.{facts_hold}
 use Rattle.kilim_pausable_graph.specs.Pausing.{called}
-use Rattle.kilim_program.specs.Does.{calls_method, calls_on, chosen, does, special}
-use Rattle.kilim_program.specs.Effect.{Asks, Calls, named_type}
-use Rattle.kilim_program.specs.Machine.{Objects}
-use Rattle.kilim_program.specs.Natives.{is_built_in_constructor, is_handed_out, is_text_method, native_method, native_of}
-use Rattle.kilim_program.specs.Natives as native
+use Rattle.kilim_classes.specs.machine.Does.{calls_method, calls_on, chosen, does, special}
+use Rattle.kilim_classes.specs.machine.Effect.{Asks, Calls, named_type}
+use Rattle.kilim_classes.specs.machine.Machine.{Objects}
+use Rattle.kilim_classes.specs.machine.Natives.{is_built_in_constructor, is_handed_out, is_text_method, native_method, native_of}
+use Rattle.kilim_classes.specs.machine.Natives as native
 use Rattle.kilim_isolation_laws.specs.Laws.{IsRunOfAccepted}
 use Rattle.kilim_isolation_laws.proofs.Keeping.{is_verified}
 use Rattle.kilim_thread_model.specs.State.{Setting}
 use Rattle.kilim_typing.specs.Step.{Types, is_long, peek, type_step, vtype}
-use Rattle.kilim_typing_laws.specs.Laws.{typing_at}
+use Rattle.kilim_typing.specs.typing_laws.Laws.{typing_at}
 use Rattle.kilim_weaving_laws.proofs.receivers.called.Called.{no_pause}
-use Rattle.kilim_woven_form.specs.Woven.{below, first_of, if_there, pausable_callee, receiver, saved, saved_from, taken}
-use Rattle.kilim_woven_form.specs.woven_programs.Law.{KeepsPauses}
+use Rattle.kilim_typing.specs.woven_form.Woven.{below, first_of, if_there, pausable_callee, receiver, saved, saved_from, taken}
+use Rattle.kilim_typing.specs.woven_form.woven_programs.Law.{KeepsPauses}
 use Rattle.kilim_weaving_laws.proofs.woven_served.ready.Asking.{box_special, box_virtual, on_class, special_asked, static_again, static_asked, virtual_asked}
 use Rattle.kilim_weaving_laws.proofs.woven_served.ready.Below.{across, coded_at, none_named, receiver_assigns, types_same}
 use Rattle.kilim_weaving_laws.proofs.woven_served.ready.Clean.{heap_old, stack_clean}
@@ -247,7 +247,7 @@ module _ (set : Setting) (run : IsRunOfAccepted set) (pauses : KeepsPauses set.p
   one_off (t ∷ ts) v vs e = and_parts (has_type set.program own of t v) (have_types set.program own of ts vs) e
 
   module _ (i : Instr) (f : fetch set.program m p ≡ Some (i, to)) (hp : pausable_callee set.program i ≡ Some callee) (receives : Receives set.program i s h) (slots : (k : ℕ) → Holds set.program own of (peek (typing_at set.program m p).locals k) (slice_get l k))
-      (locals : (j : ℕ) → (form m).live to j ≡ true → (v : Value) → slice_get l j ≡ Some v → Rattle.kilim_typing_laws.specs.fits.Fits.IsThere h v) (wl : List Value) (x : Value) (old : ℕ) (was : Value) (self_here : Rattle.kilim_typing_laws.specs.fits.Fits.IsThere h x) where
+      (locals : (j : ℕ) → (form m).live to j ≡ true → (v : Value) → slice_get l j ≡ Some v → Rattle.kilim_typing.specs.typing_laws.fits.Fits.IsThere h v) (wl : List Value) (x : Value) (old : ℕ) (was : Value) (self_here : Rattle.kilim_typing.specs.typing_laws.fits.Fits.IsThere h x) where
     stack_fits : (n : ℕ) → taken callee ≡ n → have_types set.program own of (drop n (typing_at set.program m p).stack) s2 ≡ true → AreThere h s2 → AllFit W h (below (plan_of set W marks form m) callee p) s2
     stack_fits n is typed inside =
         subst (λ (y : Types). AllFit W h (drop (taken callee) y.stack) s2) (sym (types_same set run pauses W marks form is_form agree of h heap m own there p))

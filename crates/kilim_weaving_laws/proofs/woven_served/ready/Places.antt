@@ -8,10 +8,10 @@ use Rattle.kilim_classes.specs.Keeps.{Keeps, code_is_whole}
 use Rattle.kilim_classes.specs.Lengths.{code_stands, fetched, first_place}
 use Rattle.kilim_classes.specs.Names.{method_at}
 use Rattle.kilim_classes.specs.Program.{Program}
-use Rattle.kilim_typing_laws.proofs.fits.FromKeeps.{all_at}
+use Rattle.kilim_typing.proofs.typing_laws.fits.FromKeeps.{all_at}
 use Rattle.kilim_woven_runs.specs.Thread.{code_in, fetch}
-use Rattle.kilim_woven_form.proofs.woven_types.Codes.{whole_code}
-use Rattle.kilim_woven_form.proofs.woven_types.OldFacts.{GrowsTo}
+use Rattle.kilim_typing.proofs.woven_form.woven_types.Codes.{whole_code}
+use Rattle.kilim_typing.proofs.woven_form.woven_types.OldFacts.{GrowsTo}
 
 none_is : (x : Instr × ℕ) → None ≡ Some x → ⊥
 none_is x e = cc

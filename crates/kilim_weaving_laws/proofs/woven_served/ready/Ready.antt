@@ -13,22 +13,22 @@ use Rattle.kilim_classes.specs.declared.value.Value.TheVariants.{Box, Fiber, Int
 use Rattle.kilim_classes.specs.Lengths.{ends_path, fetched, jump_targets}
 use Rattle.kilim_classes.specs.Names.{is_task, method_at}
 use Rattle.kilim_classes.specs.Program.{Program}
-use Rattle.kilim_typing_laws.specs.fits.Fits.{Classes, IsThere}
-use Rattle.kilim_typing_laws.proofs.fits.Grounds.{facts_hold}
-use Rattle.kilim_typing_laws.proofs.fits.Walk.{stands_at}
+use Rattle.kilim_typing.specs.typing_laws.fits.Fits.{Classes, IsThere}
+use Rattle.kilim_typing.proofs.typing_laws.fits.Grounds.{facts_hold}
+use Rattle.kilim_typing.proofs.typing_laws.fits.Walk.{stands_at}
 use Rattle.kilim_isolation_laws.proofs.kept.Serving.{accepted_is_kept}
-use Rattle.kilim_program.specs.Does.{does}
-use Rattle.kilim_program.specs.Effect.{Asks}
-use Rattle.kilim_program.specs.Members.{execute_of}
-use Rattle.kilim_program.specs.Natives.{Native, native_of}
-use Rattle.kilim_program.specs.Natives as native
+use Rattle.kilim_classes.specs.machine.Does.{does}
+use Rattle.kilim_classes.specs.machine.Effect.{Asks}
+use Rattle.kilim_classes.specs.machine.Members.{execute_of}
+use Rattle.kilim_classes.specs.machine.Natives.{Native, native_of}
+use Rattle.kilim_classes.specs.machine.Natives as native
 use Rattle.kilim_isolation_laws.specs.Laws.{IsRunOfAccepted}
 use Rattle.kilim_isolation_laws.proofs.Keeping.{is_verified}
 use Rattle.kilim_thread_model.specs.Kept.{Kept}
 use Rattle.kilim_thread_model.specs.Reach.{Here}
 use Rattle.kilim_thread_model.specs.State.{Setting}
 use Rattle.kilim_typing.specs.Typed.{GoesOn, Live}
-use Rattle.kilim_typing_laws.specs.Laws.{typing_at}
+use Rattle.kilim_typing.specs.typing_laws.Laws.{typing_at}
 use Rattle.kilim_weaving_laws.proofs.woven_served.accepted.Along.{all_of_course}
 use Rattle.kilim_weaving_laws.specs.woven_served.accepted.Law.{CanPause}
 use Rattle.kilim_weaving_laws.proofs.courses.answers.Answers.{natives_answer}
@@ -36,9 +36,9 @@ use Rattle.kilim_weaving_laws.proofs.receivers.called.Along.{calls_stand}
 use Rattle.kilim_weaving_laws.specs.receivers.called.Law.{CalledAs, TypedAs}
 use Rattle.kilim_weaving_laws.proofs.courses.Receives.{receives_typed}
 use Rattle.kilim_weaving_laws.specs.courses.Law.{IsOfCourse}
-use Rattle.kilim_woven_form.specs.Woven.{pausable_callee}
+use Rattle.kilim_typing.specs.woven_form.Woven.{pausable_callee}
 use Rattle.kilim_woven_runs.specs.lone.Law.{lone_at, lone_frames}
-use Rattle.kilim_woven_form.specs.woven_programs.Law.{KeepsPauses}
+use Rattle.kilim_typing.specs.woven_form.woven_programs.Law.{KeepsPauses}
 use Rattle.kilim_weaving_laws.proofs.woven_served.ready.Chained.{live_in, ready_below, self_of_first}
 use Rattle.kilim_weaving_laws.proofs.woven_served.ready.Leaf.{IsSound, fit_get, fit_yield}
 use Rattle.kilim_weaving_laws.proofs.woven_served.ready.There.{AllThere, local_of, rest_of, stack_of}
@@ -135,7 +135,7 @@ module _ (set : Setting) (run : IsRunOfAccepted set) (pauses : KeepsPauses set.p
         by leaf named is at.after at.step receives inside (subst (λ (o : Option Native). asks set (with_heap w w.heap) Stop (λ after r. Run m to l (push r s2) x (u_frames links) after) o args ≢ Stop Lost) named unlost)
       where
         by : (leaf : Native) → native_of set.program c ≡ Some leaf → is_leaf leaf ≡ true → (g : _) → Rattle.kilim_typing.specs.Step.type_step set.program typed.fits.frames.0.method p i (typing_at set.program m p) ≡ Rattle.std.proofs.Common.Ok g → Rattle.kilim_woven_runs.specs.Rows.Receives set.program i s w.heap →
-            Rattle.kilim_typing_laws.specs.fits.Fits.AreThere w.heap s → native_does set (with_heap w w.heap) Stop (λ after r. Run m to l (push r s2) x (u_frames links) after) leaf args ≢ Stop Lost → Fit set W marks form w.heap (Leaf leaf) (leaf_receiver leaf args) (Lk m p to i callee s2 l wl x old was)
+            Rattle.kilim_typing.specs.typing_laws.fits.Fits.AreThere w.heap s → native_does set (with_heap w w.heap) Stop (λ after r. Run m to l (push r s2) x (u_frames links) after) leaf args ≢ Stop Lost → Fit set W marks form w.heap (Leaf leaf) (leaf_receiver leaf args) (Lk m p to i callee s2 l wl x old was)
         by native.Get named is g step receives inside unlost =
             let b = box_args set (with_heap w w.heap) (λ after r. Run m to l (push r s2) x (u_frames links) after) args unlost in
             fit_get set run pauses sound W marks form is_form agree of w.heap typed.fits.heap m typed.fits.frames.0.method typed.fits.frames.0.there p to l s typed.fits.frames.0.stack inside g callee c args s2 i f hp receives (λ k. typed.fits.frames.0.locals.slots k refl) locals wl x old was self_here d named step b.0 b.1

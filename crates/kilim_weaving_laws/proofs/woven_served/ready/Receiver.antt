@@ -13,10 +13,10 @@ use Rattle.kilim_classes.specs.declared.names.MethodId.{MethodId}
 use Rattle.kilim_classes.specs.Names.{method_at}
 use Rattle.kilim_classes.specs.Program.{Program}
 use Rattle.kilim_classes.specs.Same.{is_constructor}
-use Rattle.kilim_typing_laws.proofs.fits.Basics.{takes_inverse}
+use Rattle.kilim_typing.proofs.typing_laws.fits.Basics.{takes_inverse}
 use Rattle.kilim_pausable_graph.specs.Pausing.{called}
 use Rattle.kilim_typing.specs.Step.{Is, Operand, Types, all_meet, arguments, assignable, by_row, class_vtype, may_name, meets, result_types, row, special_by, special_fits, special_row, special_rules, static_row, static_rules, type_step, virtual_row, virtual_rules, vtype}
-use Rattle.kilim_woven_form.specs.Woven.{first_of}
+use Rattle.kilim_typing.specs.woven_form.Woven.{first_of}
 
 method_is : (x y : Method) → Some x ≡ Some y → x ≡ y
 method_is x y e = cc

@@ -11,13 +11,13 @@ use Rattle.kilim_classes.specs.declared.value.Value.{Value}
 use Rattle.kilim_classes.specs.declared.value.Value.TheVariants.{Box, Fiber, Int, Long, Null, Ref, Text}
 use Rattle.kilim_classes.specs.Names.{method_at}
 use Rattle.kilim_classes.specs.Program.{Program}
-use Rattle.kilim_typing_laws.specs.fits.Fits.{Classes, HeapFits, IsThere}
+use Rattle.kilim_typing.specs.typing_laws.fits.Fits.{Classes, HeapFits, IsThere}
 use Rattle.kilim_pausable_graph.specs.Pausing.{called}
-use Rattle.kilim_program.specs.declared.value.Object.{Object as HeapObject}
-use Rattle.kilim_program.specs.Does.{calls_method, calls_on, calls_text, does, special, takes_element}
-use Rattle.kilim_program.specs.Effect.{Asks, Calls, Effect, Goes, as_class, as_receiver, on_value, on_values, with_some}
-use Rattle.kilim_program.specs.Machine.{Objects}
-use Rattle.kilim_program.specs.Natives.{is_built_in_constructor, is_handed_out, is_take, is_text_method}
+use Rattle.kilim_classes.specs.declared.machine.value.Object.{Object as HeapObject}
+use Rattle.kilim_classes.specs.machine.Does.{calls_method, calls_on, calls_text, does, special, takes_element}
+use Rattle.kilim_classes.specs.machine.Effect.{Asks, Calls, Effect, Goes, as_class, as_receiver, on_value, on_values, with_some}
+use Rattle.kilim_classes.specs.machine.Machine.{Objects}
+use Rattle.kilim_classes.specs.machine.Natives.{is_built_in_constructor, is_handed_out, is_take, is_text_method}
 use Rattle.kilim_weaving_laws.specs.receivers.called.Law.{Target, class_named, is_object}
 use Rattle.kilim_weaving_laws.proofs.woven_served.ready.Dummies.{dummies_taken}
 use Rattle.kilim_weaving_laws.specs.woven_served.ready.Law.{dummies_down, new_args}

@@ -13,8 +13,8 @@ use Rattle.kilim_classes.specs.Keeps.{Keeps}
 use Rattle.kilim_classes.specs.Names.{class_name, method_at}
 use Rattle.kilim_classes.specs.Program.{Program}
 use Rattle.kilim_isolation_laws.proofs.typed_threads.fine.Natives.{built_in_one}
-use Rattle.kilim_program.specs.Natives.{Native, native_method, native_named, natives}
-use Rattle.kilim_program.specs.Natives as native
+use Rattle.kilim_classes.specs.machine.Natives.{Native, native_method, native_named, natives}
+use Rattle.kilim_classes.specs.machine.Natives as native
 use Rattle.kilim_typing.specs.Step.{is_long, vtype}
 
 native_is : (x y : Native) → Some x ≡ Some y → x ≡ y

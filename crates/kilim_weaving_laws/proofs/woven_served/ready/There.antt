@@ -4,9 +4,9 @@ use Rattle.std.specs.Prelude.{slice_get}
 use Rattle.std.specs.FinMap.{get}
 use Rattle.kilim_classes.specs.declared.value.Value.{Value}
 use Rattle.kilim_classes.specs.declared.value.Value.TheVariants as value
-use Rattle.kilim_typing_laws.specs.fits.Fits.{AreThere, IsThere}
-use Rattle.kilim_program.specs.declared.value.Object.{Object as HeapObject}
-use Rattle.kilim_program.specs.Machine.{Activation, Objects}
+use Rattle.kilim_typing.specs.typing_laws.fits.Fits.{AreThere, IsThere}
+use Rattle.kilim_classes.specs.declared.machine.value.Object.{Object as HeapObject}
+use Rattle.kilim_classes.specs.machine.Machine.{Activation, Objects}
 use Rattle.kilim_thread_model.specs.Reach.{FramesName, LiveNames, Liveness, Names, SomeNames}
 
 value_is : (x y : Value) → Some x ≡ Some y → x ≡ y

@@ -11,14 +11,14 @@ use Rattle.kilim_classes.specs.declared.verified.VType.{VType}
 use Rattle.kilim_classes.specs.declared.verified.VType.TheVariants.{Top, Int, Long, Null, UninitThis, Uninit, Object}
 use Rattle.kilim_classes.specs.Fits.{fits_type}
 use Rattle.kilim_classes.specs.Program.{Program}
-use Rattle.kilim_typing_laws.specs.fits.Fits.{AreThere, Classes, HeapFits, Holds, IsThere, has_type, have_types, is_of}
-use Rattle.kilim_program.specs.declared.cause.EndCause.TheVariants as cause
-use Rattle.kilim_program.specs.declared.value.Object.{Object as HeapObject}
-use Rattle.kilim_program.specs.Does.{cast_fits, does}
-use Rattle.kilim_program.specs.Effect.{Goes, Raises, named_type, with_some}
-use Rattle.kilim_program.specs.Machine.{Objects}
+use Rattle.kilim_typing.specs.typing_laws.fits.Fits.{AreThere, Classes, HeapFits, Holds, IsThere, has_type, have_types, is_of}
+use Rattle.kilim_classes.specs.declared.machine.cause.EndCause.TheVariants as cause
+use Rattle.kilim_classes.specs.declared.machine.value.Object.{Object as HeapObject}
+use Rattle.kilim_classes.specs.machine.Does.{cast_fits, does}
+use Rattle.kilim_classes.specs.machine.Effect.{Goes, Raises, named_type, with_some}
+use Rattle.kilim_classes.specs.machine.Machine.{Objects}
 use Rattle.kilim_typing.specs.Step.{assignable, is_top, is_unset, peek}
-use Rattle.kilim_woven_form.specs.Woven.{saved_from}
+use Rattle.kilim_typing.specs.woven_form.Woven.{saved_from}
 use Rattle.kilim_woven_runs.specs.alike.Shares.{Agree}
 use Rattle.kilim_woven_runs.specs.Links.{AllFit, Casts, Fits, IsReference, RefFits, SlotsFit}
 use Rattle.kilim_woven_runs.specs.Rows.{OldHeap, is_old_base}

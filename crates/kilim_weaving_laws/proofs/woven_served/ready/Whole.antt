@@ -6,18 +6,18 @@ use Rattle.kilim_classes.specs.declared.names.MethodId.{MethodId}
 use Rattle.kilim_classes.specs.declared.value.Value.TheVariants.{Ref}
 use Rattle.kilim_classes.specs.Names.{method_at}
 use Rattle.kilim_classes.specs.Program.{Program}
-use Rattle.kilim_program.specs.Moves.{entered}
+use Rattle.kilim_classes.specs.machine.Moves.{entered}
 use Rattle.kilim_isolation_laws.specs.Laws.{IsRunOfAccepted}
 use Rattle.kilim_thread_model.specs.Course.{Stays}
 use Rattle.kilim_thread_model.specs.State.{Setting}
 use Rattle.kilim_weaving_laws.proofs.woven_served.accepted.Along.{facts, form, pauses, serves_all}
 use Rattle.kilim_weaving_laws.specs.woven_served.accepted.Law.{CanPause}
 use Rattle.kilim_weaving_laws.specs.courses.Law.{HasFew, IsOfCourse}
-use Rattle.kilim_woven_form.specs.Form.{WovenForm}
-use Rattle.kilim_woven_form.specs.woven_programs.keeps.Law.{NoneIsTooLong}
+use Rattle.kilim_typing.specs.woven_form.Form.{WovenForm}
+use Rattle.kilim_typing.specs.woven_form.woven_programs.keeps.Law.{NoneIsTooLong}
 use Rattle.kilim_woven_runs.specs.lone.Law.{lone_at}
-use Rattle.kilim_woven_form.proofs.woven_program.Made.{there}
-use Rattle.kilim_woven_form.specs.woven_program.Made.{woven_counted, woven_program}
+use Rattle.kilim_typing.proofs.woven_form.woven_program.Made.{there}
+use Rattle.kilim_typing.specs.woven_form.woven_program.Made.{woven_counted, woven_program}
 use Rattle.kilim_weaving_laws.proofs.woven_served.ready.Executes.{execute_same}
 use Rattle.kilim_weaving_laws.proofs.woven_served.ready.Ready.{can_pause, over_pauses}
 use Rattle.kilim_weaving_laws.specs.woven_served.ready.Law.{FormServes, MayBegin, ServesTasks, TasksServe, WovenFormsServe}

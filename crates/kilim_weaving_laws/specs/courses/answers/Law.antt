@@ -4,11 +4,11 @@ use Rattle.kilim_classes.specs.declared.instr.Instr.{Instr}
 use Rattle.kilim_classes.specs.declared.names.MethodId.{MethodId}
 use Rattle.kilim_classes.specs.declared.value.Value.{Value}
 use Rattle.kilim_isolation_laws.specs.typed_threads.fine.Typed.{IsVerified}
-use Rattle.kilim_typing_laws.specs.fits.Fits.{AreThere, Classes, FrameFits, HeapFits, Nothing, Typing, Wanted}
-use Rattle.kilim_program.specs.Does.{does}
-use Rattle.kilim_program.specs.Effect.{Asks}
-use Rattle.kilim_program.specs.Machine.{Objects}
-use Rattle.kilim_program.specs.Natives.{native_of}
+use Rattle.kilim_typing.specs.typing_laws.fits.Fits.{AreThere, Classes, FrameFits, HeapFits, Nothing, Typing, Wanted}
+use Rattle.kilim_classes.specs.machine.Does.{does}
+use Rattle.kilim_classes.specs.machine.Effect.{Asks}
+use Rattle.kilim_classes.specs.machine.Machine.{Objects}
+use Rattle.kilim_classes.specs.machine.Natives.{native_of}
 use Rattle.kilim_thread_model.specs.State.{Setting}
 use Rattle.kilim_woven_runs.specs.Acts.{Lost, World, asks, with_heap}
 use Rattle.kilim_woven_runs.specs.Fibers.{frame}

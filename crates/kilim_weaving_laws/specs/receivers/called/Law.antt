@@ -13,18 +13,18 @@ use Rattle.kilim_classes.specs.Fits.{fits_type}
 use Rattle.kilim_classes.specs.Names.{is_task, method_at}
 use Rattle.kilim_classes.specs.Program.{Program}
 use Rattle.kilim_isolation_laws.specs.typed_threads.fine.Typed.{FitsAs}
-use Rattle.kilim_typing_laws.specs.fits.Fits.{Classes, Holds, has_type, have_types}
-use Rattle.kilim_typing_laws.specs.fits.Sound.{argument_types}
+use Rattle.kilim_typing.specs.typing_laws.fits.Fits.{Classes, Holds, has_type, have_types}
+use Rattle.kilim_typing.specs.typing_laws.fits.Sound.{argument_types}
 use Rattle.kilim_pausable_graph.specs.Pausing.{called}
-use Rattle.kilim_program.specs.Does.{chosen, special}
-use Rattle.kilim_program.specs.Effect.{named_type}
-use Rattle.kilim_program.specs.Members.{execute_of}
-use Rattle.kilim_program.specs.Natives.{is_built_in_constructor, is_text_method}
+use Rattle.kilim_classes.specs.machine.Does.{chosen, special}
+use Rattle.kilim_classes.specs.machine.Effect.{named_type}
+use Rattle.kilim_classes.specs.machine.Members.{execute_of}
+use Rattle.kilim_classes.specs.machine.Natives.{is_built_in_constructor, is_text_method}
 use Rattle.kilim_isolation_laws.specs.Laws.{IsRunOfAccepted}
 use Rattle.kilim_thread_model.specs.State.{Setting}
 use Rattle.kilim_typing.specs.Step.{peek}
-use Rattle.kilim_typing_laws.specs.Laws.{typing_at}
-use Rattle.kilim_woven_form.specs.Woven.{first_of, taken}
+use Rattle.kilim_typing.specs.typing_laws.Laws.{typing_at}
+use Rattle.kilim_typing.specs.woven_form.Woven.{first_of, taken}
 use Rattle.kilim_woven_runs.specs.lone.Law.{lone_at}
 use Rattle.kilim_weaving_laws.specs.receivers.Law.{IsBegun}
 use Rattle.kilim_woven_runs.specs.Form.{is_pausable}

@@ -6,11 +6,11 @@ use Rattle.kilim_classes.specs.declared.value.Value.TheVariants.{Ref}
 use Rattle.kilim_classes.specs.Names.{◌>>=◌}
 use Rattle.kilim_journal.specs.declared.entry.Act.{Act}
 use Rattle.kilim_journal.specs.declared.entry.Act.TheVariants.{End}
-use Rattle.kilim_one_heap.specs.Booked.{IsOf}
-use Rattle.kilim_program.specs.declared.cause.EndCause.{EndCause}
-use Rattle.kilim_program.specs.declared.value.Object.{Object}
-use Rattle.kilim_program.specs.Members.{constructor_of, execute_of}
-use Rattle.kilim_program.specs.Moves.{entered}
+use Rattle.kilim_thread_model.specs.one_heap.Booked.{IsOf}
+use Rattle.kilim_classes.specs.declared.machine.cause.EndCause.{EndCause}
+use Rattle.kilim_classes.specs.declared.machine.value.Object.{Object}
+use Rattle.kilim_classes.specs.machine.Members.{constructor_of, execute_of}
+use Rattle.kilim_classes.specs.machine.Moves.{entered}
 use Rattle.kilim_thread_model.specs.declared.deed.Beginning.{Beginning}
 use Rattle.kilim_thread_model.specs.declared.deed.Beginning.TheVariants.{Boot, Begun}
 use Rattle.kilim_thread_model.specs.declared.deed.Deed.{Deed}

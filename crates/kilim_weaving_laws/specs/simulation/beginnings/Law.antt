@@ -6,7 +6,7 @@ use Rattle.kilim_classes.specs.declared.value.Value.{Value}
 use Rattle.kilim_classes.specs.declared.value.Value.TheVariants.{Ref}
 use Rattle.kilim_classes.specs.Names.{method_at}
 use Rattle.kilim_classes.specs.Program.{Program}
-use Rattle.kilim_program.specs.Moves.{entered}
+use Rattle.kilim_classes.specs.machine.Moves.{entered}
 use Rattle.kilim_thread_model.specs.State.{Setting}
 use Rattle.kilim_woven_runs.specs.Acts.{Over, World}
 use Rattle.kilim_woven_runs.specs.Fibers.{Fib, Resting, WStop, Woven_state, enter, new_fiber, wstarted, wsteps}

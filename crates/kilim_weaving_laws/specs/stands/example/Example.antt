@@ -1,4 +1,4 @@
--- An example: the loop of one `yield` of kilim_woven_form, with two instructions to do, meets all that the law asks of a program, of its
+-- An example: the loop of one `yield` of kilim_typing::woven_form, with two instructions to do, meets all that the law asks of a program, of its
 -- woven form, and of a thread.
 use Rattle.std.specs.Prelude.{◌≡◌, ℕ, true, [], ◌∷◌, Some, None}
 use Rattle.std.specs.FinMap.{empty, insert}
@@ -9,14 +9,14 @@ use Rattle.kilim_classes.specs.declared.value.Value.TheVariants.{Ref}
 use Rattle.kilim_classes.specs.BuiltIn.{class_id, class_type, method_id}
 use Rattle.kilim_classes.specs.Keeps.{Keeps}
 use Rattle.kilim_classes.specs.Names.{method_at}
-use Rattle.kilim_program.specs.Machine.{Objects}
-use Rattle.kilim_program.specs.Members.{is_fit_main}
+use Rattle.kilim_classes.specs.machine.Machine.{Objects}
+use Rattle.kilim_classes.specs.machine.Members.{is_fit_main}
 use Rattle.kilim_thread_model.specs.State.{Setting}
 use Rattle.kilim_typing.specs.Typed.{IsWellTyped}
-use Rattle.kilim_woven_form.specs.Form.{WovenForm}
-use Rattle.kilim_woven_form.specs.Samples.{loop, woven_loop, woven_loop_marks}
-use Rattle.kilim_woven_form.specs.woven_programs.keeps.Law.{NoneIsTooLong}
-use Rattle.kilim_woven_form.specs.woven_programs.Law.{KeepsPauses}
+use Rattle.kilim_typing.specs.woven_form.Form.{WovenForm}
+use Rattle.kilim_typing.specs.woven_form.Samples.{loop, woven_loop, woven_loop_marks}
+use Rattle.kilim_typing.specs.woven_form.woven_programs.keeps.Law.{NoneIsTooLong}
+use Rattle.kilim_typing.specs.woven_form.woven_programs.Law.{KeepsPauses}
 use Rattle.kilim_woven_runs.specs.Acts.{World}
 use Rattle.kilim_woven_runs.specs.Form.{Facts}
 use Rattle.kilim_woven_runs.specs.Links.{Forms, code}

@@ -3,13 +3,13 @@ use Rattle.std.specs.Prelude.{◌≡◌, ℕ, Bool, true, List, Some, codes, sli
 use Rattle.kilim_classes.specs.declared.class.Form.TheVariants.{Plain}
 use Rattle.kilim_classes.specs.Keeps.{Keeps}
 use Rattle.kilim_classes.specs.Program.{Program}
-use Rattle.kilim_program.specs.Members.{is_fit_main}
-use Rattle.kilim_program.specs.Effect.{named_type}
-use Rattle.kilim_program.specs.Natives.{FiberMember}
+use Rattle.kilim_classes.specs.machine.Members.{is_fit_main}
+use Rattle.kilim_classes.specs.machine.Effect.{named_type}
+use Rattle.kilim_classes.specs.machine.Natives.{FiberMember}
 use Rattle.kilim_thread_model.specs.State.{Setting}
 use Rattle.kilim_typing.specs.Typed.{IsWellTyped}
-use Rattle.kilim_woven_form.specs.Form.{WovenForm}
-use Rattle.kilim_woven_form.specs.Woven.{fiber_ty, member}
+use Rattle.kilim_typing.specs.woven_form.Form.{WovenForm}
+use Rattle.kilim_typing.specs.woven_form.Woven.{fiber_ty, member}
 use Rattle.kilim_woven_runs.specs.Form.{members_in_order}
 use Rattle.kilim_woven_runs.specs.alike.Shares.{IsMember, SharesPauses, SharesRows, size_of}
 

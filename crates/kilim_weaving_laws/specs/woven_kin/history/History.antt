@@ -6,10 +6,10 @@ use Rattle.kilim_classes.specs.declared.value.Value.TheVariants.{Null}
 use Rattle.kilim_classes.specs.Program.{Program}
 use Rattle.kilim_journal.specs.declared.entry.Act.{Act}
 use Rattle.kilim_journal.specs.declared.entry.Act.TheVariants as act
-use Rattle.kilim_program.specs.declared.value.Object.{Object}
-use Rattle.kilim_program.specs.declared.value.Token.{Token}
-use Rattle.kilim_program.specs.Machine.{Activation}
-use Rattle.kilim_program.specs.Trees.{OfMessage, built}
+use Rattle.kilim_classes.specs.declared.machine.value.Object.{Object}
+use Rattle.kilim_classes.specs.declared.machine.value.Token.{Token}
+use Rattle.kilim_classes.specs.machine.Machine.{Activation}
+use Rattle.kilim_classes.specs.machine.Trees.{OfMessage, built}
 use Rattle.kilim_thread_model.specs.Course.{plain}
 use Rattle.kilim_thread_model.specs.declared.deed.Deed.{Deed}
 use Rattle.kilim_thread_model.specs.State.{Setting}

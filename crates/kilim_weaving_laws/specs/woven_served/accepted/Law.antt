@@ -7,19 +7,19 @@ use Rattle.kilim_classes.specs.declared.names.MethodId.{MethodId}
 use Rattle.kilim_classes.specs.declared.value.Value.{Value}
 use Rattle.kilim_classes.specs.Names.{is_task, method_at}
 use Rattle.kilim_classes.specs.Program.{Program}
-use Rattle.kilim_program.specs.Does.{does}
-use Rattle.kilim_program.specs.Effect.{Asks}
-use Rattle.kilim_program.specs.Members.{execute_of}
-use Rattle.kilim_program.specs.Moves.{entered}
-use Rattle.kilim_program.specs.Natives.{Native, native_of}
+use Rattle.kilim_classes.specs.machine.Does.{does}
+use Rattle.kilim_classes.specs.machine.Effect.{Asks}
+use Rattle.kilim_classes.specs.machine.Members.{execute_of}
+use Rattle.kilim_classes.specs.machine.Moves.{entered}
+use Rattle.kilim_classes.specs.machine.Natives.{Native, native_of}
 use Rattle.kilim_isolation_laws.specs.Laws.{IsRunOfAccepted}
 use Rattle.kilim_thread_model.specs.State.{Setting}
 use Rattle.kilim_typing.specs.Typed.{IsLive}
 use Rattle.kilim_weaving_laws.specs.simulation.beginnings.Law.{ServesAlong}
 use Rattle.kilim_weaving_laws.specs.courses.Law.{HasFew, IsOfCourse}
-use Rattle.kilim_woven_form.specs.Woven.{pausable_callee}
-use Rattle.kilim_woven_form.specs.woven_programs.keeps.Law.{NoneIsTooLong}
-use Rattle.kilim_woven_form.specs.woven_program.Made.{woven_counted, woven_program}
+use Rattle.kilim_typing.specs.woven_form.Woven.{pausable_callee}
+use Rattle.kilim_typing.specs.woven_form.woven_programs.keeps.Law.{NoneIsTooLong}
+use Rattle.kilim_typing.specs.woven_form.woven_program.Made.{woven_counted, woven_program}
 use Rattle.kilim_woven_runs.specs.Acts.{Lost, World}
 use Rattle.kilim_woven_runs.specs.Fibers.{enter, new_fiber, wstarted}
 use Rattle.kilim_woven_runs.specs.Form.{is_pausable}

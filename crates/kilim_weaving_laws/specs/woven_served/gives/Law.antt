@@ -3,15 +3,15 @@ use Rattle.std.specs.Prelude.{◌≡◌, ℕ, Bool, List, Some}
 use Rattle.kilim_classes.specs.declared.class.Method.{Method}
 use Rattle.kilim_classes.specs.declared.names.MethodId.{MethodId}
 use Rattle.kilim_classes.specs.Names.{method_at}
-use Rattle.kilim_program.specs.declared.value.Token.{Token}
-use Rattle.kilim_program.specs.Shapes.{shape_of}
-use Rattle.kilim_program.specs.Trees.{OfMessage, OfTask, Root}
+use Rattle.kilim_classes.specs.declared.machine.value.Token.{Token}
+use Rattle.kilim_classes.specs.machine.Shapes.{shape_of}
+use Rattle.kilim_classes.specs.machine.Trees.{OfMessage, OfTask, Root}
 use Rattle.kilim_isolation_laws.specs.Laws.{IsRunOfAccepted}
 use Rattle.kilim_thread_model.specs.Kept.{IsGivenTree}
 use Rattle.kilim_thread_model.specs.State.{Setting}
 use Rattle.kilim_typing.specs.Typed.{IsLive}
-use Rattle.kilim_woven_form.specs.woven_programs.keeps.Law.{NoneIsTooLong}
-use Rattle.kilim_woven_form.specs.woven_program.Made.{woven_counted, woven_program}
+use Rattle.kilim_typing.specs.woven_form.woven_programs.keeps.Law.{NoneIsTooLong}
+use Rattle.kilim_typing.specs.woven_form.woven_program.Made.{woven_counted, woven_program}
 use Rattle.kilim_weaving_laws.specs.woven_served.ready.Law.{MayBegin, ServesTasks}
 use Rattle.kilim_weaving_laws.specs.receivers.Law.{IsBegun}
 use Rattle.kilim_woven_runs.specs.Acts.{Over, Wants, World}

@@ -14,22 +14,22 @@ use Rattle.kilim_classes.specs.declared.verified.VType.{VType}
 use Rattle.kilim_classes.specs.Keeps.{Keeps}
 use Rattle.kilim_classes.specs.Names.{is_task, method_at}
 use Rattle.kilim_classes.specs.Program.{Program}
-use Rattle.kilim_typing_laws.specs.fits.Fits.{AreThere, Classes, HeapFits, Holds, IsThere, have_types}
-use Rattle.kilim_program.specs.Does.{does}
-use Rattle.kilim_program.specs.Effect.{Calls, named_type}
-use Rattle.kilim_program.specs.Machine.{Objects}
-use Rattle.kilim_program.specs.Members.{execute_of}
-use Rattle.kilim_program.specs.Moves.{entered}
+use Rattle.kilim_typing.specs.typing_laws.fits.Fits.{AreThere, Classes, HeapFits, Holds, IsThere, have_types}
+use Rattle.kilim_classes.specs.machine.Does.{does}
+use Rattle.kilim_classes.specs.machine.Effect.{Calls, named_type}
+use Rattle.kilim_classes.specs.machine.Machine.{Objects}
+use Rattle.kilim_classes.specs.machine.Members.{execute_of}
+use Rattle.kilim_classes.specs.machine.Moves.{entered}
 use Rattle.kilim_isolation_laws.specs.Laws.{IsRunOfAccepted}
 use Rattle.kilim_thread_model.specs.State.{Setting}
 use Rattle.kilim_typing.specs.Step.{is_unset, peek, vtype}
 use Rattle.kilim_typing.specs.Typed.{IsLive}
 use Rattle.kilim_weaving_laws.specs.simulation.beginnings.Law.{ServesAlong}
 use Rattle.kilim_weaving_laws.specs.receivers.called.Law.{Boundary}
-use Rattle.kilim_woven_form.specs.Form.{WovenForm}
-use Rattle.kilim_woven_form.specs.Woven.{saved_from}
-use Rattle.kilim_woven_form.specs.woven_programs.keeps.Law.{NoneIsTooLong}
-use Rattle.kilim_woven_form.specs.woven_program.Made.{woven_counted, woven_program}
+use Rattle.kilim_typing.specs.woven_form.Form.{WovenForm}
+use Rattle.kilim_typing.specs.woven_form.Woven.{saved_from}
+use Rattle.kilim_typing.specs.woven_form.woven_programs.keeps.Law.{NoneIsTooLong}
+use Rattle.kilim_typing.specs.woven_form.woven_program.Made.{woven_counted, woven_program}
 use Rattle.kilim_weaving_laws.specs.receivers.Law.{IsBegun}
 use Rattle.kilim_woven_runs.specs.alike.Shares.{Agree}
 use Rattle.kilim_woven_runs.specs.Acts.{Lost, World}

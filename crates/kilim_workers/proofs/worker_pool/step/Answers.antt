@@ -4,7 +4,7 @@ use Rattle.kilim_exchange.specs.Seen.{IsNumbered}
 use Rattle.kilim_workers.proofs.worker_pool.Steps.{going, actable, resumed, lent_now, done_now, asked_by, can_answer, goes_on, is_full, is_ended, counted, going_none, falls_on, falls_over, falls_rest}
 use Rattle.kilim_workers.proofs.worker_pool.Measures.{full_left, act_calm, same_calm}
 use Rattle.std.proofs.Common.{◌≤◌}
-use Rattle.kilim_program.specs.declared.run.Limits.{Limits}
+use Rattle.kilim_classes.specs.declared.machine.run.Limits.{Limits}
 use Rattle.kilim_exchange.specs.declared.board.Acted.TheVariants as acted
 use Rattle.kilim_exchange.specs.Seen.{seen}
 use Rattle.kilim_fibers.specs.Fibers.{RestsRightly}

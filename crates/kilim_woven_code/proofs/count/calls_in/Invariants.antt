@@ -1,5 +1,5 @@
 use Rattle.std.proofs.Common.{◌≡◌, take}
-use Rattle.kilim_woven_form.specs.Weight.{calls_in}
+use Rattle.kilim_typing.specs.woven_form.Weight.{calls_in}
 use Rattle.kilim_woven_code.proofs.count.calls_in.Given as goal
 
 abbrev pub invariant-loop-at : goal.invariant-loop-at

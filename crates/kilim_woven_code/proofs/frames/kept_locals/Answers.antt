@@ -1,6 +1,6 @@
 use Rattle.std.proofs.Common.{◌∙◌, ◌+◌, ◌-◌, ◌++◌, List, ℕ, ap, arith}
 use Rattle.kilim_classes.specs.declared.verified.VType.{VType}
-use Rattle.kilim_woven_form.specs.Woven.{kept_local, slots_from}
+use Rattle.kilim_typing.specs.woven_form.Woven.{kept_local, slots_from}
 use Rattle.kilim_woven_pieces.specs.Meant.{meant}
 use Rattle.kilim_woven_code.proofs.Showing.{slots_done, slots_more}
 use Rattle.kilim_woven_code.proofs.frames.kept_locals.Goals as goal

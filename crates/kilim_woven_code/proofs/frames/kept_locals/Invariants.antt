@@ -1,5 +1,5 @@
 use Rattle.std.proofs.Common.{◌≡◌, ◌++◌, ◌-◌}
-use Rattle.kilim_woven_form.specs.Woven.{kept_local, slots_from}
+use Rattle.kilim_typing.specs.woven_form.Woven.{kept_local, slots_from}
 use Rattle.kilim_woven_pieces.specs.Meant.{meant}
 use Rattle.kilim_woven_code.proofs.frames.kept_locals.Given as goal
 

@@ -1,7 +1,7 @@
 use Rattle.std.proofs.Common.{◌∙◌, ◌++◌, ◌∷◌, [], List, ap, map, take, arith}
 use Rattle.std.proofs.lemmas.List.{take_all}
 use Rattle.kilim_classes.specs.declared.verified.VType.{VType}
-use Rattle.kilim_woven_form.specs.Woven.{moved_type}
+use Rattle.kilim_typing.specs.woven_form.Woven.{moved_type}
 use Rattle.kilim_woven_pieces.specs.Places.{at_in}
 use Rattle.kilim_woven_pieces.proofs.Lists.{map_next}
 use Rattle.kilim_woven_code.proofs.frames.moved_types.Goals as goal

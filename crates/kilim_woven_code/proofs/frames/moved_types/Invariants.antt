@@ -1,5 +1,5 @@
 use Rattle.std.proofs.Common.{◌≡◌, map, take}
-use Rattle.kilim_woven_form.specs.Woven.{moved_type}
+use Rattle.kilim_typing.specs.woven_form.Woven.{moved_type}
 use Rattle.kilim_woven_pieces.specs.Places.{at_in}
 use Rattle.kilim_woven_code.proofs.frames.moved_types.Given as goal
 

@@ -1,6 +1,6 @@
 use Rattle.std.proofs.Common.{◌∙◌, ◌++◌, List, ap, map}
 use Rattle.kilim_classes.specs.declared.verified.VType.{VType}
-use Rattle.kilim_woven_form.specs.Woven.{added_types, moved_type}
+use Rattle.kilim_typing.specs.woven_form.Woven.{added_types, moved_type}
 use Rattle.kilim_woven_pieces.specs.Meant.{meant}
 use Rattle.kilim_woven_code.proofs.Showing.{frame_is}
 use Rattle.kilim_woven_code.proofs.frames.old_frame.Goals as goal

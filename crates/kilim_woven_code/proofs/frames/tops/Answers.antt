@@ -1,7 +1,7 @@
 use Rattle.std.proofs.Common.{◌∙◌, ◌+◌, ◌-◌, ◌++◌, List, ℕ, ap, refl, arith}
 use Rattle.kilim_classes.specs.declared.verified.VType.{VType}
 use Rattle.kilim_classes.specs.declared.verified.VType.TheVariants.{Top}
-use Rattle.kilim_woven_form.specs.Woven.{slots_from}
+use Rattle.kilim_typing.specs.woven_form.Woven.{slots_from}
 use Rattle.kilim_woven_code.proofs.Showing.{slots_done, slots_more}
 use Rattle.kilim_woven_code.proofs.frames.tops.Goals as goal
 

@@ -1,6 +1,6 @@
 use Rattle.std.proofs.Common.{◌≡◌, ◌++◌, ◌-◌}
 use Rattle.kilim_classes.specs.declared.verified.VType.TheVariants.{Top}
-use Rattle.kilim_woven_form.specs.Woven.{slots_from}
+use Rattle.kilim_typing.specs.woven_form.Woven.{slots_from}
 use Rattle.kilim_woven_code.proofs.frames.tops.Given as goal
 
 abbrev pub invariant-loop : goal.invariant-loop

@@ -1,7 +1,7 @@
 use Rattle.std.proofs.Common.{◌∙◌, ℕ, Bool, List, ap, arith}
 use Rattle.kilim_classes.specs.declared.verified.VType.{VType}
 use Rattle.kilim_liveness.specs.Table.{live_in}
-use Rattle.kilim_woven_form.specs.Woven.{saved_from}
+use Rattle.kilim_typing.specs.woven_form.Woven.{saved_from}
 use Rattle.kilim_woven_code.proofs.Showing.{saved_done, saved_more}
 use Rattle.kilim_woven_code.proofs.group.saved.Goals as goal
 

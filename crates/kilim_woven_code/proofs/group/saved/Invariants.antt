@@ -1,6 +1,6 @@
 use Rattle.std.proofs.Common.{◌≡◌, ◌++◌, drop}
 use Rattle.kilim_liveness.specs.Table.{live_in}
-use Rattle.kilim_woven_form.specs.Woven.{saved_from}
+use Rattle.kilim_typing.specs.woven_form.Woven.{saved_from}
 use Rattle.kilim_woven_code.proofs.group.saved.Given as goal
 
 abbrev pub invariant-loop-at : goal.invariant-loop-at

@@ -1,8 +1,8 @@
 use Rattle.std.proofs.Common.{◌≡◌, ◌∙◌, ◌+◌, ◌-◌, ℕ, Bool, Option, ap, sym, arith, take, drop}
 use Rattle.std.specs.Option.{option_copied}
 use Rattle.kilim_classes.specs.declared.class.Method.{Method}
-use Rattle.kilim_woven_form.specs.Weight.{calls_in}
-use Rattle.kilim_woven_form.specs.Woven.{count, piece, pieces}
+use Rattle.kilim_typing.specs.woven_form.Weight.{calls_in}
+use Rattle.kilim_typing.specs.woven_form.Woven.{count, piece, pieces}
 use Rattle.kilim_woven_pieces.specs.Meant.{meant}
 use Rattle.kilim_woven_pieces.specs.Shown.{first_here}
 use Rattle.kilim_woven_code.proofs.Pieces.{number_is, piece_more}

@@ -1,6 +1,6 @@
 use Rattle.std.proofs.Common.{◌≡◌, ◌≤◌, ◌+◌, length, take, drop}
-use Rattle.kilim_woven_form.specs.Weight.{calls_in}
-use Rattle.kilim_woven_form.specs.Woven.{pieces}
+use Rattle.kilim_typing.specs.woven_form.Weight.{calls_in}
+use Rattle.kilim_typing.specs.woven_form.Woven.{pieces}
 use Rattle.kilim_woven_pieces.specs.Meant.{meant}
 use Rattle.kilim_woven_pieces.specs.Shown.{first_here}
 use Rattle.kilim_woven_pieces.specs.Items.{items_of}

@@ -1,7 +1,7 @@
 use Rattle.std.proofs.Common.{◌≡◌, ◌∙◌, ◌+◌, ◌-◌, ℕ, Option, ap, sym, arith, take, drop}
 use Rattle.kilim_classes.specs.declared.class.Method.{Method}
-use Rattle.kilim_woven_form.specs.Weight.{calls_in}
-use Rattle.kilim_woven_form.specs.Woven.{blocks, count}
+use Rattle.kilim_typing.specs.woven_form.Weight.{calls_in}
+use Rattle.kilim_typing.specs.woven_form.Woven.{blocks, count}
 use Rattle.kilim_woven_pieces.specs.Meant.{meant}
 use Rattle.kilim_woven_code.proofs.Pieces.{block_more, number_is}
 use Rattle.kilim_woven_pieces.specs.Items.{items_of}

@@ -1,6 +1,6 @@
 use Rattle.std.proofs.Common.{◌≡◌, ◌≤◌, ◌+◌, length, take, drop}
-use Rattle.kilim_woven_form.specs.Weight.{calls_in}
-use Rattle.kilim_woven_form.specs.Woven.{blocks}
+use Rattle.kilim_typing.specs.woven_form.Weight.{calls_in}
+use Rattle.kilim_typing.specs.woven_form.Woven.{blocks}
 use Rattle.kilim_woven_pieces.specs.Meant.{meant}
 use Rattle.kilim_woven_pieces.specs.Items.{items_of}
 use Rattle.kilim_woven_code.proofs.resume.blocks.Given as goal

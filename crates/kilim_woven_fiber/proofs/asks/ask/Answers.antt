@@ -1,8 +1,8 @@
 use Rattle.std.proofs.Common.{Some, ap, ◌∙◌}
-use Rattle.kilim_program.specs.Natives as native
-use Rattle.kilim_program.specs.Natives.{native_of}
-use Rattle.kilim_fiber_records.specs.natives.Natives.{meaning, member_meant}
-use Rattle.kilim_fiber_records.specs.declared.natives.natives.Native.{Native}
+use Rattle.kilim_classes.specs.machine.Natives as native
+use Rattle.kilim_classes.specs.machine.Natives.{native_of}
+use Rattle.kilim_woven_runs.specs.fiber_records.natives.Natives.{meaning, member_meant}
+use Rattle.kilim_woven_runs.specs.declared.fiber_records.natives.natives.Native.{Native}
 use Rattle.kilim_woven_fiber.specs.Body.{behind_at, operands_in}
 use Rattle.kilim_woven_fiber.specs.Comes.{gives_result}
 use Rattle.kilim_woven_fiber.proofs.Asking.{asked_same, come_by, known_by}

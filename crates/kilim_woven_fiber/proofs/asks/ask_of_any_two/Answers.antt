@@ -2,7 +2,7 @@ use Rattle.std.proofs.Common.{[], ◌∷◌, ap, sym}
 use Rattle.kilim_classes.specs.declared.value.Value.{Value}
 use Rattle.kilim_weaving_laws.specs.woven_kin.Nexts.{native_next}
 use Rattle.kilim_woven_fiber.specs.Body.{behind_at}
-use Rattle.kilim_fiber_records.specs.natives.Natives.{meaning}
+use Rattle.kilim_woven_runs.specs.fiber_records.natives.Natives.{meaning}
 use Rattle.kilim_woven_fiber.proofs.Asking.{come_by}
 use Rattle.kilim_woven_fiber.proofs.asks.ask_of_any_two.Goals as goal
 

@@ -1,15 +1,15 @@
 use Rattle.std.proofs.Common.{◌∷◌, [], Some, ap, sym, ◌∙◌}
 use Rattle.kilim_classes.specs.declared.value.Value.{Value}
 use Rattle.kilim_classes.specs.Program.{Program}
-use Rattle.kilim_program.specs.Natives as native
-use Rattle.kilim_program.specs.Shapes.{shape_of}
-use Rattle.kilim_program.specs.Trees.{OfTask}
+use Rattle.kilim_classes.specs.machine.Natives as native
+use Rattle.kilim_classes.specs.machine.Shapes.{shape_of}
+use Rattle.kilim_classes.specs.machine.Trees.{OfTask}
 use Rattle.kilim_thread_model.specs.Kept.{given}
 use Rattle.kilim_weaving_laws.specs.woven_kin.Nexts.{start_next}
 use Rattle.kilim_woven_fiber.specs.Body.{behind_at}
-use Rattle.kilim_fiber_records.specs.natives.Natives.{meaning}
-use Rattle.kilim_fiber_records.specs.declared.natives.natives.Native.{Native}
-use Rattle.kilim_fiber_records.specs.declared.natives.natives.Native.TheVariants as code
+use Rattle.kilim_woven_runs.specs.fiber_records.natives.Natives.{meaning}
+use Rattle.kilim_woven_runs.specs.declared.fiber_records.natives.natives.Native.{Native}
+use Rattle.kilim_woven_runs.specs.declared.fiber_records.natives.natives.Native.TheVariants as code
 use Rattle.kilim_woven_fiber.proofs.Asking.{come_by, native_same}
 use Rattle.kilim_woven_fiber.proofs.asks.ask_of_one.Goals as goal
 

@@ -3,7 +3,7 @@ use Rattle.kilim_classes.specs.declared.value.Value.{Value}
 use Rattle.kilim_classes.specs.Program.{Program}
 use Rattle.kilim_weaving_laws.specs.woven_kin.Nexts.{message_next}
 use Rattle.kilim_woven_fiber.specs.Body.{behind_at}
-use Rattle.kilim_fiber_records.specs.declared.natives.natives.Native.TheVariants as code
+use Rattle.kilim_woven_runs.specs.declared.fiber_records.natives.natives.Native.TheVariants as code
 use Rattle.kilim_woven_fiber.proofs.Asking.{come_by, native_same, put_given}
 use Rattle.kilim_woven_fiber.proofs.asks.ask_of_two.Goals as goal
 

@@ -1,5 +1,5 @@
 use Rattle.std.proofs.Common.{[], ◌∷◌}
-use Rattle.kilim_fiber_records.specs.natives.Natives.{meaning}
+use Rattle.kilim_woven_runs.specs.fiber_records.natives.Natives.{meaning}
 use Rattle.kilim_woven_fiber.specs.Body.{behind_at, operands_in}
 use Rattle.kilim_woven_fiber.proofs.Asking.{args_same, come_by, told_none, told_one, told_two, with_args}
 use Rattle.kilim_woven_fiber.proofs.asks.ask_other.Goals as goal

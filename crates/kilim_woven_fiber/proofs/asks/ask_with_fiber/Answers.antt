@@ -5,9 +5,9 @@ use Rattle.kilim_weaving_laws.specs.woven_kin.Nexts.{native_next}
 use Rattle.std.proofs.Common.{sym, subst}
 use Rattle.kilim_woven_fiber.specs.Body.{behind_at}
 use Rattle.kilim_woven_fiber.specs.Comes.{Comes}
-use Rattle.kilim_fiber_records.specs.natives.Natives.{meaning}
-use Rattle.kilim_fiber_records.specs.declared.natives.natives.Native.{Native}
-use Rattle.kilim_fiber_records.specs.declared.natives.natives.Native.TheVariants as code
+use Rattle.kilim_woven_runs.specs.fiber_records.natives.Natives.{meaning}
+use Rattle.kilim_woven_runs.specs.declared.fiber_records.natives.natives.Native.{Native}
+use Rattle.kilim_woven_runs.specs.declared.fiber_records.natives.natives.Native.TheVariants as code
 use Rattle.kilim_woven_fiber.proofs.asks.ask_with_fiber.Goals as goal
 
 pub returns-in-Get-Box-clause-comes : goal.returns-in-Get-Box-clause-comes

@@ -1,5 +1,5 @@
 use Rattle.std.proofs.Common.{refl, ap, subst}
-use Rattle.kilim_program.specs.declared.cause.EndCause.TheVariants as cause
+use Rattle.kilim_classes.specs.declared.machine.cause.EndCause.TheVariants as cause
 use Rattle.kilim_marked_runs.specs.declared.runs.Halted.{Halted}
 use Rattle.kilim_woven_fiber.specs.Body.{calls_in, standing_at}
 use Rattle.kilim_woven_fiber.specs.Legs.{HasGone}

@@ -1,5 +1,5 @@
 use Rattle.std.proofs.Common.{◌≡◌, ◌<◌, ◌∷◌, List, ap, subst, length, arith}
-use Rattle.kilim_woven_form.specs.Woven as form
+use Rattle.kilim_typing.specs.woven_form.Woven as form
 use Rattle.kilim_woven_pieces.specs.Items.{items_of}
 use Rattle.kilim_woven_method.specs.Found.{Finds}
 use Rattle.kilim_woven_method.proofs.Finding.{all_found, none_found}

@@ -1,5 +1,5 @@
 use Rattle.std.proofs.Common.{◌≡◌, ◌∙◌, ◌∷◌, ℕ, ap, subst, refl}
-use Rattle.kilim_woven_form.specs.Woven as form
+use Rattle.kilim_typing.specs.woven_form.Woven as form
 use Rattle.kilim_woven_pieces.specs.declared.item.Item.{Item}
 use Rattle.kilim_woven_pieces.specs.Items.{item_of, label_of, size_of}
 use Rattle.kilim_woven_pieces.specs.Places.{Tables}

@@ -1,6 +1,6 @@
 use Rattle.std.proofs.Common.{◌≡◌, ◌∙◌, Some, None, sym, subst}
 use Rattle.std.specs.Prelude.{if◌then◌else◌}
-use Rattle.kilim_woven_form.specs.woven_program.labels.Law.{same_label}
+use Rattle.kilim_typing.specs.woven_form.woven_program.labels.Law.{same_label}
 use Rattle.kilim_woven_pieces.specs.declared.item.Label.{Label}
 use Rattle.kilim_woven_pieces.specs.Items.{label_of}
 use Rattle.kilim_woven_pieces.specs.Places.{Tables}

@@ -1,5 +1,5 @@
 use Rattle.std.proofs.Common.{◌≡◌, ◌<◌, ◌∷◌, List, ap, sym, subst, length, arith}
-use Rattle.kilim_woven_form.specs.Woven as form
+use Rattle.kilim_typing.specs.woven_form.Woven as form
 use Rattle.kilim_woven_pieces.specs.Items.{items_of}
 use Rattle.kilim_woven_method.specs.Laid.{Follows}
 use Rattle.kilim_woven_method.proofs.Laying.{all_laid, follow_on, nothing_laid}

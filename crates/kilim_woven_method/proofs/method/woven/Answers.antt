@@ -1,7 +1,7 @@
 use Rattle.std.proofs.Common.{◌≡◌, ◌∙◌, ℕ, Bool, List, ap, sym, subst}
 use Rattle.kilim_liveness.specs.Table.{live_in}
-use Rattle.kilim_woven_form.specs.Form.{plan_of}
-use Rattle.kilim_woven_form.specs.Woven as form
+use Rattle.kilim_typing.specs.woven_form.Form.{plan_of}
+use Rattle.kilim_typing.specs.woven_form.Woven as form
 use Rattle.kilim_woven_pieces.specs.Listed.{AreDeclared}
 use Rattle.kilim_woven_pieces.specs.Places.{at_in, block_in}
 use Rattle.kilim_woven_method.specs.Found.{AreFound}

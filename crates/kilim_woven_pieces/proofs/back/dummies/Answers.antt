@@ -1,6 +1,6 @@
 use Rattle.std.proofs.Common.{◌≡◌, ◌∙◌, ◌+◌, ◌-◌, ◌∷◌, ℕ, ap, sym, arith, drop}
 use Rattle.kilim_classes.specs.declared.instr.Instr.{Instr}
-use Rattle.kilim_woven_form.specs.Woven.{added, dummies, dummy_of}
+use Rattle.kilim_typing.specs.woven_form.Woven.{added, dummies, dummy_of}
 use Rattle.kilim_woven_pieces.proofs.Saving.{dummy_more}
 use Rattle.kilim_woven_pieces.specs.Items.{items_of}
 use Rattle.kilim_woven_pieces.proofs.back.dummies.Goals as goal

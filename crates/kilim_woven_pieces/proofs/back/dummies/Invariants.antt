@@ -1,5 +1,5 @@
 use Rattle.std.proofs.Common.{◌≡◌, ◌≤◌, length, drop}
-use Rattle.kilim_woven_form.specs.Woven.{dummies}
+use Rattle.kilim_typing.specs.woven_form.Woven.{dummies}
 use Rattle.kilim_woven_pieces.specs.Items.{items_of}
 use Rattle.kilim_woven_pieces.proofs.back.dummies.Given as goal
 

@@ -1,5 +1,5 @@
 use Rattle.std.proofs.Common.{◌≡◌, drop}
-use Rattle.kilim_woven_form.specs.Woven.{restore_locals}
+use Rattle.kilim_typing.specs.woven_form.Woven.{restore_locals}
 use Rattle.kilim_woven_pieces.specs.Meant.{meant}
 use Rattle.kilim_woven_pieces.specs.Items.{items_of}
 use Rattle.kilim_woven_pieces.proofs.saves.restore_locals.Given as goal

@@ -1,5 +1,5 @@
 use Rattle.std.proofs.Common.{◌≡◌, ◌≤◌, length, reverse, take}
-use Rattle.kilim_woven_form.specs.Woven.{restore_stack}
+use Rattle.kilim_typing.specs.woven_form.Woven.{restore_stack}
 use Rattle.kilim_woven_pieces.specs.Meant.{meant}
 use Rattle.kilim_woven_pieces.specs.Items.{items_of}
 use Rattle.kilim_woven_pieces.proofs.saves.restore_stack.Given as goal

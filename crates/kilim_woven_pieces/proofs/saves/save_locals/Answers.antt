@@ -1,5 +1,5 @@
 use Rattle.std.proofs.Common.{◌≡◌, ◌+◌, ◌-◌, ◌∙◌, ℕ, ap, sym, arith, drop}
-use Rattle.kilim_woven_form.specs.Woven.{save_locals}
+use Rattle.kilim_typing.specs.woven_form.Woven.{save_locals}
 use Rattle.kilim_woven_pieces.specs.Meant.{meant}
 use Rattle.kilim_woven_pieces.proofs.Saving.{save_local_more}
 use Rattle.kilim_woven_pieces.specs.Items.{items_of}

@@ -1,5 +1,5 @@
 use Rattle.std.proofs.Common.{◌≡◌, reverse, take}
-use Rattle.kilim_woven_form.specs.Woven.{save_stack}
+use Rattle.kilim_typing.specs.woven_form.Woven.{save_stack}
 use Rattle.kilim_woven_pieces.specs.Meant.{meant}
 use Rattle.kilim_woven_pieces.specs.Items.{items_of}
 use Rattle.kilim_woven_pieces.proofs.saves.save_stack.Given as goal

@@ -1,7 +1,7 @@
 use Rattle.std.proofs.Common.{refl}
 use Rattle.kilim_classes.specs.Lengths.{jump_targets, ends_path}
 use Rattle.kilim_classes.specs.Fits.{fits_type}
-use Rattle.kilim_program.specs.Does.{does}
+use Rattle.kilim_classes.specs.machine.Does.{does}
 use Rattle.kilim_typing.specs.Step.{meets, row, special_fits}
 use Rattle.kilim_typing.specs.Typed.{typing_of}
 use Rattle.kilim_woven_runs.proofs.examples.examples_hold.Goals as goal

@@ -1,5 +1,5 @@
 use Rattle.std.proofs.Common.{◌≡◌, ◌+◌, ◌≤◌, drop}
-use Rattle.kilim_woven_form.specs.Weight.{calls_in}
+use Rattle.kilim_typing.specs.woven_form.Weight.{calls_in}
 use Rattle.kilim_woven_sizes.proofs.sizes.calls_in.Given as goal
 
 abbrev pub invariant-loop-entry : goal.invariant-loop-entry

@@ -1,5 +1,5 @@
 use Rattle.std.proofs.Common.{◌≡◌, ◌+◌, drop}
-use Rattle.kilim_woven_form.specs.Weight.{switches_bytes}
+use Rattle.kilim_typing.specs.woven_form.Weight.{switches_bytes}
 use Rattle.kilim_woven_sizes.proofs.sizes.switches_bytes.Given as goal
 
 abbrev pub invariant-loop-entry : goal.invariant-loop-entry

@@ -10,7 +10,7 @@ use Rattle.kilim_classes.specs.Names.{descriptor}
 use Rattle.kilim_classfile.specs.declared.class_file.ClassFile.{ClassFile}
 use Rattle.kilim_classfile.specs.Text.{class_text as file_text}
 use Rattle.kilim_link_spec.specs.World.{method_descriptor}
-use Rattle.kilim_woven_form.specs.Weight.{calls_in, weight}
+use Rattle.kilim_typing.specs.woven_form.Weight.{calls_in, weight}
 use Rattle.kilim_woven_sizes.specs.file_laws.form.WovenFile.{MethodPair}
 
 -- ---- entries

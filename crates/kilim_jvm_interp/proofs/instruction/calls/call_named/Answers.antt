@@ -3,8 +3,8 @@ use Rattle.kilim_classes.specs.declared.class.Method.{Method}
 use Rattle.kilim_classes.specs.declared.instr.Instr.TheVariants.{Invokespecial}
 use Rattle.kilim_classes.specs.declared.value.Value.{Value}
 use Rattle.kilim_classes.specs.Names.{method_at}
-use Rattle.kilim_program.specs.Effect.{Asks, Calls}
-use Rattle.kilim_program.specs.Does.{does, is_null, special, calls_method}
+use Rattle.kilim_classes.specs.machine.Effect.{Asks, Calls}
+use Rattle.kilim_classes.specs.machine.Does.{does, is_null, special, calls_method}
 use Rattle.kilim_rows.specs.Outcome.{is_stuck}
 use Rattle.kilim_jvm_interp.proofs.instruction.Invokes.{special_there, special_null, special_goes, is_there, asks_built_in, calls_code}
 use Rattle.kilim_jvm_interp.proofs.instruction.calls.call_named.Goals as goal

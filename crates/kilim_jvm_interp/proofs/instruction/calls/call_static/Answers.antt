@@ -1,6 +1,6 @@
 use Rattle.std.proofs.Common.{◌≡◌, ◌∙◌, sym, ap, refl, ◌<◌, ◌≤◌, ◌+◌, Bool, true, false, Some, None, length, slice_get, option_copied, arith}
 use Rattle.kilim_classes.specs.Names.{method_at}
-use Rattle.kilim_program.specs.Natives.{is_handed_out}
+use Rattle.kilim_classes.specs.machine.Natives.{is_handed_out}
 use Rattle.kilim_jvm_interp.proofs.instruction.Invokes.{static_asks, static_calls}
 use Rattle.kilim_jvm_interp.proofs.instruction.calls.call_static.Goals as goal
 

@@ -1,5 +1,5 @@
 use Rattle.std.proofs.Common.{◌≡◌, ◌∙◌, sym, ◌<◌, false, true, Some, length, slice_get}
-use Rattle.kilim_program.specs.Does.{is_null}
+use Rattle.kilim_classes.specs.machine.Does.{is_null}
 use Rattle.kilim_jvm_interp.proofs.instruction.Invokes.{text_many, text_null, text_there}
 use Rattle.kilim_jvm_interp.proofs.instruction.calls.call_text.Goals as goal
 

@@ -1,6 +1,6 @@
 use Rattle.std.proofs.Common.{◌≡◌, ◌∙◌, sym, true, Some, arith}
 use Rattle.kilim_classes.specs.Names.{method_at}
-use Rattle.kilim_program.specs.Natives.{is_text_method}
+use Rattle.kilim_classes.specs.machine.Natives.{is_text_method}
 use Rattle.kilim_jvm_interp.proofs.instruction.Invokes.{text_row}
 use Rattle.kilim_jvm_interp.proofs.instruction.calls.call_virtual.Goals as goal
 

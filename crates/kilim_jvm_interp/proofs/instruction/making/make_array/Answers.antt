@@ -3,10 +3,10 @@ use Rattle.std.proofs.lemmas.Int.{to_z-of_z}
 use Rattle.kilim_classes.specs.declared.value.Value.{Value}
 use Rattle.kilim_classes.specs.declared.value.Value.TheVariants.{Int}
 use Rattle.kilim_machine_parts.specs.frames.Stacked.{Stacked}
-use Rattle.kilim_program.specs.declared.value.Object.{Object}
-use Rattle.kilim_program.specs.Effect.{Makes, on_int}
-use Rattle.kilim_program.specs.Does.{array_limit, makes_array}
-use Rattle.kilim_program.specs.Objects.{new_array}
+use Rattle.kilim_classes.specs.declared.machine.value.Object.{Object}
+use Rattle.kilim_classes.specs.machine.Effect.{Makes, on_int}
+use Rattle.kilim_classes.specs.machine.Does.{array_limit, makes_array}
+use Rattle.kilim_classes.specs.machine.Objects.{new_array}
 use Rattle.kilim_jvm_interp.proofs.instruction.News.{made_by, array_row, room_for}
 use Rattle.kilim_jvm_interp.proofs.instruction.making.make_array.Goals as goal
 

@@ -1,9 +1,9 @@
 use Rattle.std.proofs.Common.{◌≡◌, ◌∙◌, sym, ap, false, arith}
 use Rattle.kilim_classes.specs.declared.instr.Instr.TheVariants.{New}
-use Rattle.kilim_program.specs.declared.value.Object.{Object}
-use Rattle.kilim_program.specs.Effect.{Makes}
-use Rattle.kilim_program.specs.Does.{does, is_mailbox}
-use Rattle.kilim_program.specs.Objects.{new_object}
+use Rattle.kilim_classes.specs.declared.machine.value.Object.{Object}
+use Rattle.kilim_classes.specs.machine.Effect.{Makes}
+use Rattle.kilim_classes.specs.machine.Does.{does, is_mailbox}
+use Rattle.kilim_classes.specs.machine.Objects.{new_object}
 use Rattle.kilim_jvm_interp.proofs.instruction.News.{made_by, object_row, room_for}
 use Rattle.kilim_jvm_interp.proofs.instruction.making.make_object.Goals as goal
 

@@ -1,5 +1,5 @@
 -- A row for each instruction: what its call requires, and what it ensures.
-use Rattle.kilim_program.specs.Does.{does}
+use Rattle.kilim_classes.specs.machine.Does.{does}
 use Rattle.kilim_jvm_interp.proofs.instruction.table.act.Goals as goal
 
 pub load_ldc-requires : goal.load_ldc-requires

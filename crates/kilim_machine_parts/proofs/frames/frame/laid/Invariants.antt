@@ -1,5 +1,5 @@
 use Rattle.std.proofs.Common.{◌≡◌}
-use Rattle.kilim_program.specs.Moves.{slots_of}
+use Rattle.kilim_classes.specs.machine.Moves.{slots_of}
 use Rattle.kilim_machine_parts.proofs.frames.frame.laid.Given as goal
 
 abbrev pub invariant-loop-value : goal.invariant-loop-value

@@ -2,7 +2,7 @@ use Rattle.std.proofs.Common.{ap, List}
 use Rattle.kilim_classes.specs.declared.value.Value.{Value}
 use Rattle.kilim_machine_parts.proofs.Fields.{element_within}
 use Rattle.std.specs.Prelude.{slice_set}
-use Rattle.kilim_program.specs.declared.value.Object.{Object}
+use Rattle.kilim_classes.specs.declared.machine.value.Object.{Object}
 use Rattle.kilim_machine_parts.proofs.Arena.{there_in, found_in}
 use Rattle.kilim_machine_parts.proofs.Fields.{changed_arena, now_changed}
 use Rattle.kilim_machine_parts.proofs.heap.Heap.set_element.Goals as goal

@@ -2,7 +2,7 @@ use Rattle.std.proofs.Common.{ap, List}
 use Rattle.kilim_classes.specs.declared.value.Value.{Value}
 use Rattle.kilim_classes.specs.declared.names.FieldId.{FieldId}
 use Rattle.kilim_machine_parts.proofs.Fields.{field_there}
-use Rattle.kilim_program.specs.declared.value.Object.{Object}
+use Rattle.kilim_classes.specs.declared.machine.value.Object.{Object}
 use Rattle.kilim_machine_parts.specs.Words.{with_field_in}
 use Rattle.kilim_machine_parts.proofs.Arena.{there_in, found_in}
 use Rattle.kilim_machine_parts.proofs.Fields.{changed_arena, now_changed}

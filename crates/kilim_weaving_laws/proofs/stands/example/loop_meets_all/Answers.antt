@@ -1,6 +1,6 @@
 use Rattle.std.proofs.Common.{refl}
-use Rattle.kilim_woven_form.proofs.Loop.{loop_is_woven}
-use Rattle.kilim_woven_form.specs.Samples.{woven_loop, woven_loop_marks}
+use Rattle.kilim_typing.proofs.woven_form.Loop.{loop_is_woven}
+use Rattle.kilim_typing.specs.woven_form.Samples.{woven_loop, woven_loop_marks}
 use Rattle.kilim_weaving_laws.proofs.stands.serves.Whole.{whole}
 use Rattle.kilim_weaving_laws.specs.stands.example.Example.{first, two_steps}
 use Rattle.kilim_weaving_laws.proofs.stands.example.Program.{loop_keeps, loop_is_typed, loop_pauses, loop_is_short, main_is_fit}

@@ -2,10 +2,10 @@ use Rattle.std.proofs.Common.{◌≡◌, List, Option, Some, None, subst}
 use Rattle.std.specs.Prelude.{IfSome, slice_get}
 use Rattle.kilim_classes.specs.declared.names.MethodId.{MethodId}
 use Rattle.kilim_classes.specs.Program.{Program}
-use Rattle.kilim_program.specs.Natives.{native_of}
-use Rattle.kilim_fiber_records.specs.natives.Natives.{meaning}
-use Rattle.kilim_fiber_records.specs.natives.Tables.{AreNatives}
-use Rattle.kilim_fiber_records.specs.declared.natives.natives.Native.{Native}
+use Rattle.kilim_classes.specs.machine.Natives.{native_of}
+use Rattle.kilim_woven_runs.specs.fiber_records.natives.Natives.{meaning}
+use Rattle.kilim_woven_runs.specs.fiber_records.natives.Tables.{AreNatives}
+use Rattle.kilim_woven_runs.specs.declared.fiber_records.natives.natives.Native.{Native}
 use Rattle.kilim_woven_fiber.proofs.code.Code.native.Goals as goal
 
 told : (W : Program) (table : List (Option Native)) (method : MethodId) (found : Option Native) → AreNatives W table → IfSome found (λ native. slice_get table method.0 ≡ Some (Some native)) → IfSome found (λ native. native_of W method ≡ Some (meaning native))

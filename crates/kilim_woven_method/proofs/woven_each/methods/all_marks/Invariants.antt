@@ -1,5 +1,5 @@
 use Rattle.std.proofs.Common.{◌≡◌, map, take}
-use Rattle.kilim_woven_form.specs.Form.{all_counted}
+use Rattle.kilim_typing.specs.woven_form.Form.{all_counted}
 use Rattle.kilim_woven_method.proofs.woven_each.methods.all_marks.Given as goal
 
 abbrev pub invariant-loop-at : goal.invariant-loop-at

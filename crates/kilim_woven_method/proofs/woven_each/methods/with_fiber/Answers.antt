@@ -1,6 +1,6 @@
 use Rattle.std.proofs.Common.{◌∙◌, ◌++◌, List, Bool, map, ap}
 use Rattle.kilim_classes.specs.declared.class.Method.{Method}
-use Rattle.kilim_woven_form.specs.Form.{all_counted}
+use Rattle.kilim_typing.specs.woven_form.Form.{all_counted}
 use Rattle.kilim_woven_method.proofs.woven_each.All.{with_fiber_of}
 use Rattle.kilim_woven_method.proofs.woven_each.methods.with_fiber.Goals as goal
 

@@ -1,7 +1,7 @@
 use Rattle.std.proofs.Common.{List, subst, sym}
 use Rattle.kilim_classes.specs.declared.verified.Frame.{Frame}
 use Rattle.kilim_typing.specs.TypedProgram.{KeepsTyped, TypedProgram}
-use Rattle.kilim_woven_form.specs.Form.{AllWoven}
+use Rattle.kilim_typing.specs.woven_form.Form.{AllWoven}
 use Rattle.kilim_woven_method.proofs.woven_each.methods.woven_methods.Goals as goal
 
 pub all_woven-requires : goal.all_woven-requires

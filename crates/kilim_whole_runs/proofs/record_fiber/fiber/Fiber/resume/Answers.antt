@@ -1,5 +1,5 @@
 use Rattle.std.proofs.Common.{◌≤◌, Ok, refl, subst}
-use Rattle.kilim_program.specs.declared.run.Limits.{Limits}
+use Rattle.kilim_classes.specs.declared.machine.run.Limits.{Limits}
 use Rattle.kilim_woven_fiber.specs.Body.{standing_at}
 use Rattle.kilim_woven_fiber.specs.Steps.{setting_of}
 use Rattle.kilim_whole_runs.proofs.record_fiber.Rested.{idle_rests, refused_rests, wants_rests}

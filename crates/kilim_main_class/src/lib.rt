@@ -1,6 +1,0 @@
-//! The main class of a run, by its name.
-#![tactic(auto)]
-
-mod classes;
-
-pub use classes::{constructor_of, fit_main, is_fit_main};

@@ -1,5 +1,0 @@
-use Rattle.kilim_typing_laws.proofs.Lives.{live_is_typed}
-use Rattle.kilim_typing_laws.proofs.live_is_typed.Goals as goal
-
-pub returns : goal.returns
-returns c = live_is_typed

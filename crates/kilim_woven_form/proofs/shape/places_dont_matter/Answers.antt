@@ -1,5 +1,0 @@
-use Rattle.kilim_woven_form.proofs.shape.Shape.{same_places}
-use Rattle.kilim_woven_form.proofs.shape.places_dont_matter.Goals as goal
-
-pub returns : goal.returns
-returns c = same_places
