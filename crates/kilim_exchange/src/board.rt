@@ -13,10 +13,10 @@ ghost use Rattle.kilim_exchange.specs.Board.{BoardStands, lent_of, closing, AreB
 ghost use Rattle.kilim_exchange.specs.Seen.{seen, IsRoomy, LendAnswers, GiveAnswers, TakeAnswers, IsNumbered, ActAnswers, ProbeAnswers, StartAnswers, RoomFor, IsActable, SameBoard, CourseAt, ActMeets, IsAnswered, wish_in, LentStands, RestsAs, IsNewBoard, MovedWhole};
 
 use kilim_classes::BoxName;
+use kilim_classes::machine::{EndCause, Shape};
 use kilim_fibers::waiting::{Mailboxes, Parked, Waiter, line_up, note, wake};
 use kilim_fibers::{Answer, Fibers, Wants};
 use kilim_journal::{Act, Entry};
-use kilim_classes::machine::{EndCause, Shape};
 use kilim_tree_move::Tree;
 use kilim_units::NoMemory;
 use std::alloc::Global;

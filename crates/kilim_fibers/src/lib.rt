@@ -14,8 +14,8 @@ ghost use Rattle.kilim_thread_model.specs.declared.deed.Beginning.TheVariants.{B
 ghost use Rattle.kilim_fibers.specs.Wishes.{Wish};
 ghost use Rattle.kilim_fibers.specs.Fibers.{IsOfRun, StandsFor, Asks, Resumed, Fits, course_after, CanAnswer, CanRun, RestsRightly, CountsRightly, StartsFresh, StartsAtNone, IsNewCourse};
 
-use kilim_classes::{BoxName, ClassId};
 use kilim_classes::machine::{EndCause, Limits, Shape};
+use kilim_classes::{BoxName, ClassId};
 use kilim_tree_move::Tree;
 use kilim_units::NoMemory;
 use std::alloc::Global;

@@ -16,10 +16,10 @@ ghost use Rattle.kilim_jvm_interp.specs.Step.{AreRoomy, CallerFits, CanSettle, I
 ghost use Rattle.kilim_classes.specs.machine.Effect.{Effect};
 ghost use Rattle.kilim_machine_parts.specs.declared.frames.frame.Frame.{Frame as AFrame};
 
-use kilim_classes::{Method, MethodId, Program, Value};
 use kilim_classes::lookups::method_at;
-use kilim_machine_parts::frames::{Frame, Frames, Locals, Stack};
 use kilim_classes::machine::EndCause;
+use kilim_classes::{Method, MethodId, Program, Value};
+use kilim_machine_parts::frames::{Frame, Frames, Locals, Stack};
 use kilim_rows::{Moved, narrowed};
 use kilim_units::{NoMemory, Seq};
 use std::alloc::Global;

@@ -6,8 +6,8 @@ ghost use Rattle.kilim_machine_parts.specs.Words.{IsThere, class_at, length_at, 
 ghost use Rattle.kilim_classes.specs.machine.Shapes.{field_in};
 ghost use Rattle.kilim_machine_parts.specs.Places.{IsArena, IsPlaceOf};
 
-use kilim_classes::{FieldId, Ty, Value};
 use kilim_classes::machine::Object;
+use kilim_classes::{FieldId, Ty, Value};
 use kilim_units::Seq;
 use std::alloc::Global;
 use std::marker::Model;

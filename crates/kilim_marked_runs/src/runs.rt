@@ -16,13 +16,13 @@ ghost use Rattle.kilim_marked_runs.specs.Legs.{Does, IsCountedLeg, Settles};
 ghost use Rattle.kilim_marked_runs.specs.Marks.{IsMarked};
 
 use crate::places::{Places, marks_of, number_at, number_near};
+use kilim_classes::lookups::{code_rises, instr_at, method_at};
+use kilim_classes::machine::EndCause;
 use kilim_classes::{Method, MethodId, Program};
 use kilim_jvm_interp::instruction::act;
 use kilim_jvm_interp::{Stepped, await_answer, settle};
-use kilim_classes::lookups::{code_rises, instr_at, method_at};
 use kilim_machine_parts::Heap;
 use kilim_machine_parts::frames::Frames;
-use kilim_classes::machine::EndCause;
 use kilim_rows::Moved;
 use kilim_units::{NoMemory, Seq};
 use std::alloc::Global;

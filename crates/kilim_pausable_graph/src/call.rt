@@ -5,8 +5,8 @@ ghost use Rattle.std.specs.List.{list_any};
 ghost use Rattle.kilim_typing.specs.Step as step;
 ghost use Rattle.kilim_pausable_graph.specs.Pausing as spec;
 
-use kilim_classes::{Frame, Instr, Method, Program, Qualifier, VType};
 use kilim_classes::lookups::method_at;
+use kilim_classes::{Frame, Instr, Method, Program, Qualifier, VType};
 
 fn is_free(qualifier: Qualifier) -> bool
     ensures { result ≡ spec.is_free qualifier }

@@ -7,8 +7,8 @@ ghost use Rattle.kilim_pausable_graph.specs.Pausing as spec;
 
 use crate::call::{called_by, has_free_receiver, pauses, uninitialized_below};
 use crate::report::Report;
-use kilim_classes::{Frame, Instr, Method, MethodId, Program};
 use kilim_classes::lookups::method_at;
+use kilim_classes::{Frame, Instr, Method, MethodId, Program};
 use kilim_typing::Typed;
 use kilim_units::{NoMemory, Seq};
 use std::alloc::Global;

@@ -5,8 +5,8 @@ ghost use Rattle.std.specs.List.{flat_map};
 ghost use Rattle.kilim_classes.specs.Names.{base_descriptor, class_name, descriptor};
 ghost use Rattle.kilim_reports.specs.RuleLines.{method_descriptor, result_descriptor};
 
-use kilim_classes::{Base, ClassId, Method, Program, Ty};
 use kilim_classes::lookups::class_at;
+use kilim_classes::{Base, ClassId, Method, Program, Ty};
 use kilim_units::{NoMemory, Units};
 use std::alloc::Global;
 

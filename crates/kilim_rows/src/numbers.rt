@@ -8,10 +8,10 @@ ghost use Rattle.kilim_rows.specs.Outcome.{is_stuck, height, Shows, SameFrame};
 ghost use Rattle.std.specs.Int.{w32, w64, IsNonZero};
 
 use crate::outcome::Moved;
+use kilim_classes::machine::EndCause;
 use kilim_classes::{Method, Program, Value};
 use kilim_machine_parts::Heap;
 use kilim_machine_parts::frames::Frame;
-use kilim_classes::machine::EndCause;
 
 /// An operation on two numbers that always has an answer.
 #[derive(Clone, Copy)]

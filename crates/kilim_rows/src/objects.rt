@@ -8,10 +8,10 @@ ghost use Rattle.kilim_rows.specs.Outcome.{is_stuck, height, Shows, SameFrame, f
 
 use crate::numbers::{low_byte, low_char, low_short};
 use crate::outcome::Moved;
+use kilim_classes::machine::EndCause;
 use kilim_classes::{Base, FieldId, Method, Program, Ty, Value};
 use kilim_machine_parts::Heap;
 use kilim_machine_parts::frames::Frame;
-use kilim_classes::machine::EndCause;
 
 /// `getfield`.
 #[tactic(auto, unfolding(kilim_classes::specs::machine::Does::does))]

@@ -9,11 +9,11 @@ ghost use Rattle.kilim_rows.specs.Outcome.{is_stuck, height, Shows, SameFrame};
 
 use crate::objects::index_in;
 use crate::outcome::Moved;
-use kilim_classes::{Base, Method, Program, Ty, Value};
 use kilim_classes::lookups::class_named;
+use kilim_classes::machine::EndCause;
+use kilim_classes::{Base, Method, Program, Ty, Value};
 use kilim_machine_parts::Heap;
 use kilim_machine_parts::frames::Frame;
-use kilim_classes::machine::EndCause;
 use kilim_units::NoMemory;
 
 /// The class or array type of what a reference refers to, none of null. Want of memory comes only where a class has no

@@ -14,18 +14,18 @@ ghost use Rattle.kilim_top.specs.Outcome.{limits_of};
 
 use crate::report::{accepted_line, no_main, utf16_of};
 use crate::status::{DONE, REPORTED};
+use kilim_classes::machine::Limits;
+use kilim_classes::main_class::fit_main;
 use kilim_classes::{ClassId, Method, Program};
 use kilim_isolation_check::Isolated;
 use kilim_journal::Entry;
-use kilim_classes::main_class::fit_main;
-use kilim_classes::machine::Limits;
+use kilim_outside::words::{Asked, RunWords, WeaveWords, integers};
 use kilim_stages::woven_stage::{WovenProgram, woven_program};
 use kilim_stages::{Refusal, accepted};
 use kilim_units::{NoMemory, Seq};
 use kilim_weave_command::{accepted_files_are_isolated, weave_files};
 use kilim_weaver::Woven;
 use kilim_whole_runs::woven_is_served;
-use kilim_outside::words::{Asked, RunWords, WeaveWords, integers};
 use kilim_written_files::OutputFile;
 use std::alloc::Global;
 

@@ -9,8 +9,8 @@ use crate::apply::{WRONG_CONSTANT, apply};
 use crate::fault::StepFault;
 use crate::operands::{Also, class_vtype};
 use crate::state::State;
-use kilim_classes::{Instr, Method, Program, VType, Value};
 use kilim_classes::lookups::class_named;
+use kilim_classes::{Instr, Method, Program, VType, Value};
 use kilim_units::NoMemory;
 
 // The type of strings.

@@ -13,8 +13,8 @@ use crate::apply::{
 use crate::fault::StepFault;
 use crate::operands::{Taken, class_vtype};
 use crate::state::State;
-use kilim_classes::{ClassId, Instr, Method, Program, VType};
 use kilim_classes::lookups::class_at;
+use kilim_classes::{ClassId, Instr, Method, Program, VType};
 use std::alloc::AllocError;
 
 fn entry_at(code: &[(u32, Instr)], at: usize) -> &(u32, Instr)

@@ -11,8 +11,8 @@ use crate::constants::object_type;
 use crate::fault::StepFault;
 use crate::operands::{Also, Taken};
 use crate::state::State;
-use kilim_classes::{Base, ClassId, Instr, Method, Program, Ty, VType};
 use kilim_classes::lookups::class_at;
+use kilim_classes::{Base, ClassId, Instr, Method, Program, Ty, VType};
 
 const INT: Taken = Taken::Is(VType::Int);
 

@@ -14,8 +14,8 @@ use crate::construct::construct;
 use crate::fault::StepFault;
 use crate::operands::{Also, Taken, class_vtype, vtype};
 use crate::state::State;
-use kilim_classes::{ClassId, Field, FieldId, Instr, Method, MethodId, Program, VType};
 use kilim_classes::lookups::{class_at, method_at, selected};
+use kilim_classes::{ClassId, Field, FieldId, Instr, Method, MethodId, Program, VType};
 use std::alloc::{AllocError, Global};
 
 // A private member is of the own class.

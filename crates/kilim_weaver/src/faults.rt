@@ -7,8 +7,8 @@ ghost use Rattle.kilim_typing.specs.woven_form.Weight.{calls_in, switch_bytes, s
 ghost use Rattle.kilim_weaver.specs.Faults.{fault_if, fault_of, fault_of_method, first_fault, is_full, weave_fault};
 
 use crate::fault::WeaveFault;
-use kilim_classes::{Class, Instr, Method, MethodId, Program};
 use kilim_classes::lookups::method_at;
+use kilim_classes::{Class, Instr, Method, MethodId, Program};
 use kilim_mutf8::write;
 use kilim_reports::method_descriptor;
 use kilim_units::NoMemory;

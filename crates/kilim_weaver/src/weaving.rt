@@ -12,9 +12,9 @@ use crate::woven_pauses::pauses_are_kept;
 use kilim_classes::{Class, Field, Form, Program};
 use kilim_isolation_check::Isolated;
 use kilim_typing::Typed;
-use kilim_units::{NoMemory, Seq};
 use kilim_typing::woven_form::woven_programs::kept::woven_is_kept;
 use kilim_typing::woven_form::woven_programs::woven_programs_are_typed;
+use kilim_units::{NoMemory, Seq};
 use kilim_woven_method::woven_each::{
     Methods, keeps_program, keeps_typed, typed_classes, typed_fields, woven_methods,
 };

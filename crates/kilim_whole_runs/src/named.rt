@@ -8,10 +8,10 @@ ghost use Rattle.kilim_workers.specs.worker_pool.Pool.{IsOf};
 
 use crate::record_fiber::named::{Named, Woven};
 use kilim_classes::ClassId;
+use kilim_classes::machine::Limits;
 use kilim_fibers::boxed::Boxed;
 use kilim_journal::Entry;
 use kilim_outside::Gate;
-use kilim_classes::machine::Limits;
 use kilim_units::NoMemory;
 use kilim_workers::run_pool;
 use kilim_workers::worker_pool::run_one;

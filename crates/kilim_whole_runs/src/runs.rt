@@ -5,12 +5,12 @@ ghost use Rattle.kilim_whole_runs.specs.Runs.{IsJournalOf, setting_of};
 ghost use Rattle.kilim_weaving_laws.specs.Served.{CanServe};
 
 use crate::named::{named_alone, named_with};
+use kilim_classes::machine::Limits;
 use kilim_classes::{ClassId, Program};
 use kilim_isolation_laws::at_rest::readable::runs_are_readable;
 use kilim_journal::{Entry, journal_fits};
-use kilim_thread_model::one_heap::moved_is_whole;
 use kilim_outside::Gate;
-use kilim_classes::machine::Limits;
+use kilim_thread_model::one_heap::moved_is_whole;
 use kilim_units::NoMemory;
 use kilim_weaver::Woven;
 use kilim_woven_fiber::Code;

@@ -11,10 +11,10 @@ ghost use Rattle.kilim_thread_model.specs.Course.{Course};
 
 use crate::run::{Run, RunBoard};
 use kilim_classes::BoxName;
+use kilim_classes::machine::Limits;
 use kilim_exchange::{Acted, Lent};
 use kilim_fibers::{Fibers, Wants};
 use kilim_outside::Gate;
-use kilim_classes::machine::Limits;
 use kilim_turn::{Pass, Turn};
 use kilim_units::NoMemory;
 use std::sync::Wait;

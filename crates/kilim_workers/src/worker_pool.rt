@@ -6,11 +6,11 @@ ghost use Rattle.kilim_exchange.specs.Seen.{MovedWhole, seen};
 ghost use Rattle.kilim_workers.specs.worker_pool.Pool.{IsOf, IsLending, IsResting, TurnIs, IsCalm, EmptyAt, Falls, todo, left};
 
 use kilim_classes::ClassId;
+use kilim_classes::machine::Limits;
 use kilim_exchange::{Acted, Board, Lent};
 use kilim_fibers::{Fibers, Wants};
 use kilim_journal::Entry;
 use kilim_outside::Gate;
-use kilim_classes::machine::Limits;
 use kilim_units::NoMemory;
 use std::alloc::Global;
 

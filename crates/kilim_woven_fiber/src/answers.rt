@@ -11,8 +11,8 @@ ghost use Rattle.kilim_woven_fiber.specs.Body.{behind_at, standing_at, HasFrames
 use crate::asks::{go_on, go_on_with};
 use crate::body::Body;
 use crate::members::pass_with;
-use kilim_classes::{BoxName, Program, Value};
 use kilim_classes::machine::Shape;
+use kilim_classes::{BoxName, Program, Value};
 use kilim_tree_move::{Tree, put_in, shape};
 use kilim_units::NoMemory;
 use std::alloc::Global;

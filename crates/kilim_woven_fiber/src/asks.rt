@@ -19,10 +19,10 @@ use crate::gifts::{Gift, take_gift};
 use crate::members::{ask_member, pass_on};
 use crate::operands::{Operands, copy_operands};
 use crate::pass::{give, pass};
-use kilim_classes::{BoxName, MethodId, Program, Value};
-use kilim_woven_runs::fiber_records::natives::Native;
 use kilim_classes::machine::{EndCause, Limits, Shape, Token};
+use kilim_classes::{BoxName, MethodId, Program, Value};
 use kilim_units::{NoMemory, Seq};
+use kilim_woven_runs::fiber_records::natives::Native;
 use std::alloc::Global;
 
 /// It goes on behind a method without a result.

@@ -8,9 +8,9 @@ ghost use Rattle.kilim_jvm_interp.specs.Step.{AreRoomy};
 ghost use Rattle.kilim_weaving_laws.specs.woven_kin.Nexts.{begun_with};
 ghost use Rattle.kilim_woven_fiber.specs.Body.{calls_in, RoomyIn};
 
+use kilim_classes::lookups::method_at;
 use kilim_classes::{MethodId, Program, Value};
 use kilim_jvm_interp::new_frame;
-use kilim_classes::lookups::method_at;
 use kilim_machine_parts::frames::{Callers, Frames};
 use kilim_units::NoMemory;
 use std::alloc::Global;

@@ -6,15 +6,15 @@ ghost use Rattle.kilim_woven_fiber.specs.Body.{RoomyIn};
 
 use crate::begin::{begun_with, receiver_with_fiber};
 use crate::body::Body;
+use kilim_classes::main_class::constructor_of;
 use kilim_classes::{Base, ClassId, Program, Value};
-use kilim_woven_runs::fiber_records::Records;
-use kilim_woven_runs::fiber_records::natives::execute_of;
 use kilim_jvm_interp::instruction::new_object;
 use kilim_machine_parts::Heap;
 use kilim_machine_parts::frames::Frames;
-use kilim_classes::main_class::constructor_of;
 use kilim_tree_move::{Tree, put_in};
 use kilim_units::NoMemory;
+use kilim_woven_runs::fiber_records::Records;
+use kilim_woven_runs::fiber_records::natives::execute_of;
 use std::alloc::Global;
 
 fn new_body(

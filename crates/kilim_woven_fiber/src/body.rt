@@ -11,14 +11,14 @@ ghost use Rattle.kilim_woven_fiber.specs.Steps.{ReceiverThere};
 use crate::begin::{begun_with, frames_with, receiver_with_fiber};
 use crate::code::Code;
 use crate::pass::give;
+use kilim_classes::machine::{EndCause, Shape};
 use kilim_classes::{Base, BoxName, ClassId, MethodId, Program, Value};
-use kilim_woven_runs::fiber_records::Records;
-use kilim_woven_runs::fiber_records::natives::execute_of;
 use kilim_machine_parts::Heap;
 use kilim_machine_parts::frames::Frames;
-use kilim_classes::machine::{EndCause, Shape};
 use kilim_tree_move::Tree;
 use kilim_units::NoMemory;
+use kilim_woven_runs::fiber_records::Records;
+use kilim_woven_runs::fiber_records::natives::execute_of;
 use std::alloc::Global;
 
 /// The most mailboxes that a task makes.

@@ -8,9 +8,11 @@ ghost use Rattle.kilim_woven_runs.specs.fiber_records.natives.Natives.{meaning};
 ghost use Rattle.kilim_woven_runs.specs.fiber_records.natives.Tables.{AreExecutes, AreNatives};
 
 use kilim_classes::{ClassId, MethodId, Program};
-use kilim_woven_runs::fiber_records::natives::{Native, execute_at, execute_table, native_at, native_table};
 use kilim_marked_runs::Places;
 use kilim_units::{NoMemory, Seq};
+use kilim_woven_runs::fiber_records::natives::{
+    Native, execute_at, execute_table, native_at, native_table,
+};
 use std::alloc::Global;
 
 /// A program, and its woven form with its marks, and tables that make running it faster.

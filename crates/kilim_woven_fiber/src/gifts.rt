@@ -4,8 +4,8 @@ ghost use Rattle.std.specs.Prelude.{IfOk};
 ghost use Rattle.kilim_woven_fiber.specs.Comes.{CanGive, GiftIs};
 
 use kilim_classes::Program;
-use kilim_machine_parts::Heap;
 use kilim_classes::machine::Shape;
+use kilim_machine_parts::Heap;
 use kilim_tree_move::{MoveFault, Tree, reserve_tree, shape, take_out};
 use kilim_units::NoMemory;
 use std::alloc::Global;

@@ -11,8 +11,8 @@ use crate::asks::ask;
 use crate::body::{Body, Came, leave, open, rewind};
 use crate::code::Code;
 use kilim_classes::ClassId;
-use kilim_marked_runs::{Halted, run_counted};
 use kilim_classes::machine::{EndCause, Limits};
+use kilim_marked_runs::{Halted, run_counted};
 use kilim_units::NoMemory;
 use std::alloc::Global;
 

@@ -12,8 +12,8 @@ use crate::body::{Body, Came};
 use crate::operands::{is_alone, take_place, take_value};
 use crate::pass::{give, pass};
 use kilim_classes::{Program, Value};
-use kilim_woven_runs::fiber_records::natives::Member;
 use kilim_units::NoMemory;
+use kilim_woven_runs::fiber_records::natives::Member;
 use std::alloc::Global;
 
 /// It goes on behind a member without a result. No member counts.

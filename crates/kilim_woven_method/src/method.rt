@@ -19,9 +19,9 @@ use crate::slots::{argument_slots, fiber_slot, plus};
 use crate::{Laid, lay, nowhere, places_of};
 use kilim_classes::{Base, ClassId, Frame, Method, Program, Qualifier, Ty};
 use kilim_liveness::LiveTable;
+use kilim_typing::woven_form::shape::places_dont_matter;
 use kilim_units::{NoMemory, Seq};
 use kilim_woven_code::{Items, Places, Plan, woven_items};
-use kilim_typing::woven_form::shape::places_dont_matter;
 use std::alloc::Global;
 
 /// The locals and numbers that a woven method names.

@@ -9,8 +9,8 @@ ghost use Rattle.kilim_woven_pieces.specs.Items.{items_of};
 
 use crate::item::{Item, Items, Size};
 use crate::plan::Plan;
-use kilim_classes::{Base, ClassId, Instr, Method, MethodId, Program, Ty, VType};
 use kilim_classes::lookups::method_at;
+use kilim_classes::{Base, ClassId, Instr, Method, MethodId, Program, Ty, VType};
 use kilim_units::NoMemory;
 
 /// The verification type of a value of a declared type.

@@ -3,8 +3,8 @@
 ghost use Rattle.std.specs.Prelude.{◌≡◌, option_copied};
 ghost use Rattle.kilim_woven_sizes.specs.file_laws.form.Raw.{is_pausable_call, pauses};
 
-use kilim_classes::{Instr, Method, Program};
 use kilim_classes::lookups::method_at;
+use kilim_classes::{Instr, Method, Program};
 
 fn pauses(method: Option<&Method>) -> bool
     ensures { result ≡ pauses (option_copied method.entry) }

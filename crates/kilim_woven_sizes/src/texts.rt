@@ -10,10 +10,10 @@ ghost use Rattle.kilim_class_fits.specs.declared.pool_needs.need.Need.TheVariant
 ghost use Rattle.kilim_woven_sizes.specs.file_laws.form.Texts.{class_entry_name, fiber_added, fiber_text, member_need, needed_method, type_name, with_fiber, woven_descriptor};
 
 use kilim_class_fits::pool_needs::Need;
+use kilim_classes::lookups::{class_at, method_at};
 use kilim_classes::{Base, ClassId, Method, MethodId, Program, Ty};
 use kilim_descriptors::{BaseText, FieldText, MethodText};
 use kilim_link_mentions::method_text;
-use kilim_classes::lookups::{class_at, method_at};
 use kilim_reports::method_descriptor;
 use kilim_units::{NoMemory, Units};
 use std::alloc::Global;

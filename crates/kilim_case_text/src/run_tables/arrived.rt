@@ -4,9 +4,9 @@ ghost use Rattle.std.specs.Prelude.{◌≡◌, ◌++◌, [], reverse, IfSome};
 ghost use Rattle.kilim_tree_move.specs.Walk.{value_refs, field_refs, element_refs, refs, AllThere};
 
 use crate::Text;
+use kilim_classes::machine::Object;
 use kilim_classes::{Base, FieldId, Value};
 use kilim_machine_parts::Heap;
-use kilim_classes::machine::Object;
 use std::alloc::Global;
 
 /// No tree that came in has more objects.

@@ -7,9 +7,9 @@ ghost use Rattle.kilim_case_text.specs.run_tables.Chains.{IsFull, IsFullAt};
 
 use crate::Text;
 use crate::run_tables::trees::node;
+use kilim_classes::machine::Object;
 use kilim_classes::{Base, ClassId, FieldId, Ty, Value};
 use kilim_machine_parts::Heap;
-use kilim_classes::machine::Object;
 use kilim_tree_move::{MoveFault, reserve_tree};
 use kilim_units::Seq;
 use std::alloc::Global;

@@ -5,9 +5,9 @@ ghost use Rattle.kilim_tree_move.specs.Walk.{value_refs, refs};
 ghost use Rattle.kilim_case_text.specs.run_tables.Chains.{IsBelow, IsOwn};
 
 use crate::Text;
+use kilim_classes::machine::Object;
 use kilim_classes::{Base, ClassId, FieldId, Ty, Value};
 use kilim_machine_parts::Heap;
-use kilim_classes::machine::Object;
 use kilim_tree_move::{MoveFault, put_in, reserve_tree, take_out};
 use kilim_units::Seq;
 use std::alloc::Global;

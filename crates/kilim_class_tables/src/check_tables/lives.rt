@@ -2,9 +2,9 @@
 
 use crate::check_tables::names::method_named;
 use crate::check_tables::text::Text;
+use kilim_classes::lookups::{code_rises, method_at};
 use kilim_classes::{Method, MethodId, Program};
 use kilim_liveness::{LiveTable, live};
-use kilim_classes::lookups::{code_rises, method_at};
 use std::alloc::Global;
 
 // The line of a place: itself, then the locals that are live there.

@@ -5,8 +5,8 @@ ghost use Rattle.kilim_thread_model.specs.State.{with_message, with_queue, with_
 ghost use Rattle.kilim_fibers.specs.waiting.Mailboxes.{named, mail_of, SameMails, HasRoom};
 
 use kilim_classes::BoxName;
-use kilim_tree_move::mailbox::Mailbox;
 use kilim_tree_move::Tree;
+use kilim_tree_move::mailbox::Mailbox;
 use kilim_units::NoMemory;
 use std::alloc::Global;
 use std::collections::BTreeMap;

@@ -11,11 +11,11 @@ ghost use Rattle.std.specs.Str.{bytes_eq};
 ghost use Rattle.kilim_rows.specs.Types.{is_found};
 ghost use Rattle.kilim_rows.specs.Outcome.{is_stuck, height, Shows, SameFrame};
 
-use kilim_classes::{Base, Method, MethodId, Program, Ty, Value};
 use kilim_classes::lookups::{class_at, method_at, selected};
+use kilim_classes::machine::EndCause;
+use kilim_classes::{Base, Method, MethodId, Program, Ty, Value};
 use kilim_machine_parts::Heap;
 use kilim_machine_parts::frames::Frame;
-use kilim_classes::machine::EndCause;
 use kilim_rows::{Moved, index_in, is_none, type_of};
 use kilim_units::Units;
 

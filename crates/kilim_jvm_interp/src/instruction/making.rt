@@ -11,11 +11,11 @@ ghost use Rattle.kilim_classes.specs.machine.Does.{does, array_limit, is_mailbox
 ghost use Rattle.kilim_classes.specs.machine.Effect.{on_int};
 ghost use Rattle.kilim_rows.specs.Outcome.{is_stuck, height, Shows, SameFrame, IsAdded};
 
-use kilim_classes::{Base, ClassId, Field, FieldId, Method, Program, Ty, Value};
 use kilim_classes::lookups::{class_at, line_of};
+use kilim_classes::machine::{EndCause, Object};
+use kilim_classes::{Base, ClassId, Field, FieldId, Method, Program, Ty, Value};
 use kilim_machine_parts::Heap;
 use kilim_machine_parts::frames::Frame;
-use kilim_classes::machine::{EndCause, Object};
 use kilim_rows::Moved;
 use kilim_units::{NoMemory, Seq};
 use std::alloc::Global;

@@ -4,8 +4,8 @@ ghost use Rattle.std.specs.Prelude.{◌≡◌, ◌≤◌, ◌+◌, ◌++◌, pos
 ghost use Rattle.kilim_top.specs.demo.Kinds.{is_of};
 ghost use Rattle.kilim_top.specs.demo.Line.{back_of, demo_line, front_of, how_many, is_print, is_put, is_start, is_take, sum_from, with_act, with_token};
 
-use kilim_journal::{Act, Entry};
 use kilim_classes::machine::Token;
+use kilim_journal::{Act, Entry};
 use kilim_units::NoMemory;
 use std::alloc::Global;
 

@@ -9,11 +9,11 @@ ghost use Rattle.kilim_top.specs.demo.Ready.{IsReady};
 
 use crate::demo::line::demo_line;
 use crate::demo::texts::{demo_texts, no_names};
+use kilim_classes::machine::Limits;
+use kilim_classes::main_class::fit_main;
 use kilim_classes::{ClassId, Program};
 use kilim_classfile::class_file_is_spelled;
-use kilim_classes::main_class::fit_main;
 use kilim_outside::Gate;
-use kilim_classes::machine::Limits;
 use kilim_program_maker::demo_fits;
 use kilim_stages::Refusal;
 use kilim_stages::woven_stage::{WovenProgram, woven_program};

@@ -20,9 +20,9 @@ ghost use Rattle.kilim_whole_runs.specs.record_fiber.Clauses.{Resumes, RestsInRe
 ghost use Rattle.kilim_whole_runs.specs.record_fiber.Calls.{IsNew, IsBegun, EndsIdle, RestsAt, HasWanted, MayAsk, asks_by, is_rest, WantsBy, Passed, Taken, Found, Refused, Answered, AnswerSuits, takes_value};
 
 use crate::record_fiber::past::{Did, Past, begun, no_past, note};
+use kilim_classes::machine::{EndCause, Limits, Shape};
 use kilim_classes::{BoxName, ClassId, Program};
 use kilim_fibers::{Answer, Wants};
-use kilim_classes::machine::{EndCause, Limits, Shape};
 use kilim_thread_model::Beginning;
 use kilim_tree_move::Tree;
 use kilim_units::NoMemory;

@@ -8,8 +8,8 @@ ghost use Rattle.kilim_whole_runs.specs.record_fiber.named.Named.{ServesNamed};
 
 use crate::record_fiber::Fiber;
 use kilim_classes::ClassId;
-use kilim_fibers::{Answer, Fibers, Wants};
 use kilim_classes::machine::Limits;
+use kilim_fibers::{Answer, Fibers, Wants};
 use kilim_units::NoMemory;
 use kilim_woven_fiber::Code;
 use std::alloc::Global;

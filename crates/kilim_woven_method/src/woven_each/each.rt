@@ -9,11 +9,11 @@ ghost use Rattle.kilim_typing.specs.woven_form.Form.{IsWoven, has_calls};
 use crate::woven_each::extended::{all_counted, extended, has_calls};
 use crate::woven_each::kept::keeps;
 use crate::{copy_method, woven};
+use kilim_classes::lookups::code_rises;
 use kilim_classes::{Frame, Method, MethodId, Program};
 use kilim_liveness::live;
-use kilim_classes::lookups::code_rises;
-use kilim_units::{NoMemory, Seq};
 use kilim_typing::woven_form::woven_program::labels::labels_are_found;
+use kilim_units::{NoMemory, Seq};
 use std::alloc::Global;
 
 // A method that doesn't pause.
