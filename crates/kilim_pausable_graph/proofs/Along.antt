@@ -9,7 +9,7 @@ use Rattle.kilim_classes.specs.declared.names.MethodId.{MethodId}
 use Rattle.kilim_classes.specs.declared.verified.Frame.{Frame}
 use Rattle.kilim_classes.specs.Program.{Program}
 use Rattle.kilim_pausable_graph.specs.declared.report.Report.{Report}
-use Rattle.kilim_pausable_graph.specs.Pausing.{reports_along}
+use Rattle.kilim_pausable_graph.specs.Pausing.{reports_along, reports_at}
 use Rattle.std.proofs.lemmas.List.{length-drop, nil_from_length}
 
 drop_end : {A : Type 0} (xs : List A) (i : ℕ) → length xs ≤ i → drop i xs ≡ []
@@ -36,6 +36,18 @@ drop_at : {A : Type 0} (xs : List A) (i : ℕ) (d : A) → i < length xs → dro
 drop_at xs i d lt =
     let n : suc i ≡ i + 1 = omega arith in
     drop-cons xs i d lt ∙ ap (λ (k : ℕ). get_or xs i d ∷ drop k xs) n
+
+-- a step along the code and its frames
+pub along_more : (p : Program) (id : MethodId) (m : Method) (code es : List (ℕ × Instr)) (fs : List Frame) (i : ℕ) (e d : ℕ × Instr) (f g : Frame) (old new total : List Report) → code ≡ es → i < length code → i < length fs →
+    e ≡ get_or code i d → f ≡ get_or fs i g → old ++ reports_along p id m (drop i es) (drop i fs) ≡ total → new ≡ old ++ reports_at p id m e f → new ++ reports_along p id m (drop (i + 1) es) (drop (i + 1) fs) ≡ total
+along_more p id m code es fs i e d f g old new total same lt less is at so_far step =
+    let rest : List Report = reports_along p id m (drop (i + 1) es) (drop (i + 1) fs) in
+    let placed : drop i code ≡ e ∷ drop (i + 1) code = drop_at code i d lt ∙ ap (λ (x : ℕ × Instr). x ∷ drop (i + 1) code) (sym is) in
+    let instr : drop i es ≡ e ∷ drop (i + 1) es = ap (λ (t : List (ℕ × Instr)). drop i t) (sym same) ∙ (placed ∙ ap (λ (t : List (ℕ × Instr)). e ∷ drop (i + 1) t) same) in
+    let frame : drop i fs ≡ f ∷ drop (i + 1) fs = drop_at fs i g less ∙ ap (λ (x : Frame). x ∷ drop (i + 1) fs) (sym at) in
+    let one : reports_along p id m (drop i es) (drop i fs) ≡ reports_at p id m e f ++ rest =
+    ap (λ (t : List (ℕ × Instr)). reports_along p id m t (drop i fs)) instr ∙ ap (λ (t : List Frame). reports_along p id m (e ∷ drop (i + 1) es) t) frame in
+    ap (λ (v : List Report). v ++ rest) step ∙ (append_assoc old (reports_at p id m e f) rest ∙ (ap (λ (v : List Report). old ++ v) (sym one) ∙ so_far))
 
 -- what each of an element's parts gives, behind what is there
 pub each_more : {A B C : Type 0} (gives : B → List C) (parts : A → List B) (xs : List A) (i : ℕ) (d : A) (old new total : List C) → i < length xs →

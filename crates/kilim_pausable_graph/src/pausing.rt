@@ -175,6 +175,20 @@ pub fn pausing_reports(alloc: Global, typed: &Typed) -> Result<Seq<Report>, NoMe
     Ok(reports)
 }
 
+fn push_if_pausable(
+    calls: &mut Seq<(MethodId, u32)>,
+    program: &Program,
+    id: MethodId,
+    placed: &(u32, Instr),
+) -> Result<(), NoMemory>
+    ensures { IfOk result (λ u. calls.new ≡ calls.old ++ spec.call_if (spec.pauses (spec.called program.now placed.now.1)) id placed.now.0) }
+{
+    if pauses(called_by(program, &placed.1)) {
+        calls.push((id, placed.0))?;
+    }
+    Ok(())
+}
+
 fn push_calls(
     calls: &mut Seq<(MethodId, u32)>,
     program: &Program,
@@ -184,9 +198,7 @@ fn push_calls(
     ensures { IfOk result (λ u. calls.new ≡ calls.old ++ spec.calls_along program.now id code.now) }
 {
     for placed in code {
-        if pauses(called_by(program, &placed.1)) {
-            calls.push((id, placed.0))?;
-        }
+        push_if_pausable(calls, program, id, placed)?;
     }
     Ok(())
 }

@@ -1,7 +1,13 @@
 use Rattle.std.proofs.Common.{◌++◌, ap, length, arith}
 use Rattle.kilim_pausable_graph.specs.Pausing.{reports_along}
-use Rattle.kilim_pausable_graph.proofs.Along.{along_end}
+use Rattle.kilim_pausable_graph.proofs.Along.{along_more, along_end}
 use Rattle.kilim_pausable_graph.proofs.pausing.push_along.Goals as goal
+
+pub loop-at-preserved : goal.loop-at-preserved
+loop-at-preserved c =
+    along_more c.args.program.now c.args.id c.args.method.now c.as_slice-code.result.now c.args.method.now.code c.args.frames.now c.loop-at.at c.index-code-at.result _ c.index-frames-at.result _ c.loop-at.reports c.push_at.new.reports
+    (c.args.reports.now ++ reports_along c.args.program.now c.args.id c.args.method.now c.args.method.now.code c.args.frames.now) c.as_slice-code.ensures (omega arith) (omega arith) c.index-code-at.is c.index-frames-at.is c.loop-at.invariant
+    c.in_ok-push_at.ensures
 
 pub returns : goal.returns
 returns c =
