@@ -1,2 +1,3 @@
+mod First
 pub mod Joined
 mod Whole

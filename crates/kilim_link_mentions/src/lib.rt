@@ -6,18 +6,18 @@
 #![tactic(auto)]
 
 mod code;
+mod constants;
 mod descriptors;
 mod frames;
 mod members;
 mod mentions;
 mod names;
 mod operands;
-mod texts;
-mod types;
 
 pub use code::{code_attribute, decoded, index_in};
+pub use constants::constant_of;
 pub use descriptors::{field_text, method_text, named_by};
 pub use members::members_named;
 pub use mentions::mentions_of;
-pub use names::{class_names, names_mentioned};
+pub use names::class_names;
 pub use operands::operand_at;

@@ -13,11 +13,11 @@ use crate::code::{code_attribute, index_in, instrs_of};
 use crate::descriptors::named_by;
 use crate::frames::push_frames;
 use crate::operands::operand_of;
-use crate::texts::{class_text, has_flag, member_descriptor, super_name};
 use kilim_bytecode::opcodes::RawInstr;
 use kilim_classfile::{ClassFile, MemberInfo};
 use kilim_constant_pool::Pool;
 use kilim_link_spec::{Mention, Named, Operand};
+use kilim_link_views::{class_text, has_flag, member_descriptor, super_name};
 use kilim_units::{NoMemory, Seq, Units};
 use std::alloc::Global;
 

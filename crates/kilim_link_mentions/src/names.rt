@@ -2,11 +2,12 @@
 
 ghost use Rattle.std.specs.Prelude.{◌≡◌, ◌++◌, IfOk, OnOk};
 ghost use Rattle.std.specs.List.{flat_map};
-ghost use Rattle.kilim_link_spec.specs.Types.{base_names, type_names};
-ghost use Rattle.kilim_link_spec.specs.Mentions.{element_types, names_mentioned, plain_names, types_mentioned};
+ghost use Rattle.std.specs.Option.{option_copied};
+ghost use Rattle.kilim_link_spec.specs.Types.{base_names, field_text, method_text, method_types, result_types, type_names, types_of_field, types_of_method};
+ghost use Rattle.kilim_link_spec.specs.Mentions.{element_types, named_types, names_mentioned, plain_names, types_mentioned};
 
-use crate::types::types_mentioned;
-use kilim_descriptors::{BaseText, FieldText};
+use crate::descriptors::{field_text, method_text};
+use kilim_descriptors::{BaseText, FieldText, MethodText};
 use kilim_link_spec::{Mention, Named};
 use kilim_units::{NoMemory, Seq, Units};
 use std::alloc::Global;
@@ -41,6 +42,17 @@ fn push_plain(into: &mut Vec<Units>, mention: &Mention) -> Result<(), NoMemory>
     Ok(())
 }
 
+// The names in a type that is named as a class, where it is an array.
+fn push_array(into: &mut Vec<Units>, class: &Named) -> Result<(), NoMemory>
+    ensures { OnOk result (into.new.items ≡ into.old.items ++ flat_map type_names (named_types class.now)) }
+{
+    match class {
+        Named::AnArray(found) => push_base(into, &found.base),
+        Named::AClass(_) | Named::Malformed(_) => Ok(()),
+    }
+}
+
+// The names in an array of such elements, of any dimensions.
 fn push_element(into: &mut Vec<Units>, class: &Named) -> Result<(), NoMemory>
     ensures { OnOk result (into.new.items ≡ into.old.items ++ flat_map type_names (element_types class.now)) }
 {
@@ -52,19 +64,56 @@ fn push_element(into: &mut Vec<Units>, class: &Named) -> Result<(), NoMemory>
     Ok(())
 }
 
-// The names in the types of a mention, of an array of any dimensions.
+fn push_field(alloc: Global, into: &mut Vec<Units>, descriptor: &Units) -> Result<(), NoMemory>
+    ensures { OnOk result (into.new.items ≡ into.old.items ++ flat_map type_names (types_of_field (field_text descriptor.now))) }
+{
+    match field_text(alloc, descriptor)? {
+        Some(found) => push_base(into, &found.base),
+        None => Ok(()),
+    }
+}
+
+fn push_result(into: &mut Vec<Units>, found: Option<&FieldText>) -> Result<(), NoMemory>
+    ensures { OnOk result (into.new.items ≡ into.old.items ++ flat_map type_names (result_types (option_copied found.entry))) }
+{
+    match found {
+        Some(found) => push_base(into, &found.base),
+        None => Ok(()),
+    }
+}
+
+#[tactic(auto, using(crate::proofs::Joined::both_names))]
+fn push_method_types(into: &mut Vec<Units>, method: &MethodText) -> Result<(), NoMemory>
+    ensures { OnOk result (into.new.items ≡ into.old.items ++ flat_map type_names (method_types method.now)) }
+{
+    push_each(into, method.params.as_slice())?;
+    push_result(into, method.result.as_ref())
+}
+
+fn push_method(alloc: Global, into: &mut Vec<Units>, descriptor: &Units) -> Result<(), NoMemory>
+    ensures { OnOk result (into.new.items ≡ into.old.items ++ flat_map type_names (types_of_method (method_text descriptor.now))) }
+{
+    match method_text(alloc, descriptor)? {
+        Some(found) => push_method_types(into, &found),
+        None => Ok(()),
+    }
+}
+
+// The names in the types of a mention, in order: in those that a descriptor spells, none where it is malformed; in an
+// array that is named as a class, and in the array that `anewarray` makes (JVMS 4.3, 4.4.1, 6.5).
 fn push_in_types(alloc: Global, into: &mut Vec<Units>, mention: &Mention) -> Result<(), NoMemory>
     ensures { OnOk result (into.new.items ≡ into.old.items ++ flat_map type_names (types_mentioned mention.now)) }
 {
     match mention {
+        Mention::OfClass(class) => push_array(into, class),
         Mention::OfElement(class) => push_element(into, class),
-        _ => {
-            let types = types_mentioned(alloc, mention)?;
-            push_each(into, types.as_slice())
-        }
+        Mention::OfField(descriptor) => push_field(alloc, into, descriptor),
+        Mention::OfMethod(_, descriptor) => push_method(alloc, into, descriptor),
+        Mention::OfFloat => Ok(()),
     }
 }
 
+// The class that is named as one, and those in its types (JVMS 4.3, 4.4.1).
 fn push_names(alloc: Global, into: &mut Vec<Units>, mention: &Mention) -> Result<(), NoMemory>
     ensures { OnOk result (into.new.items ≡ into.old.items ++ names_mentioned mention.now) }
 {
@@ -83,16 +132,6 @@ fn push_names_of_each(
         push_names(alloc, into, mention)?;
     }
     Ok(())
-}
-
-/// The names of classes in a mention, in order: the class that is named as one, and those in its types (JVMS 4.3,
-/// 4.4.1).
-pub fn names_mentioned(alloc: Global, mention: &Mention) -> Result<Seq<Units>, NoMemory>
-    ensures { IfOk result (λ names. names ≡ names_mentioned mention.now) }
-{
-    let mut names = Vec::new(alloc);
-    push_names(alloc, &mut names, mention)?;
-    Ok(Seq::from_vec(names))
 }
 
 /// The names of classes in some mentions, in order, as often as they are named.

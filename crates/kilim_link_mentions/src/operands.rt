@@ -9,12 +9,12 @@ ghost use Rattle.kilim_link_spec.specs.Code.{operand_at, index_operand, constant
 ghost use Rattle.kilim_link_spec.specs.Mentions.{operand_of};
 
 use crate::code::index_in;
+use crate::constants::constant_ref;
 use crate::descriptors::named_by;
-use crate::texts::{class_text, text_of};
 use kilim_bytecode::opcodes::RawInstr;
-use kilim_classes::Value;
 use kilim_constant_pool::{Entry, Pool};
 use kilim_link_spec::{MemberOf, Named, Operand};
+use kilim_link_views::{class_text, text_of};
 use kilim_units::{NoMemory, Units};
 use std::alloc::Global;
 
@@ -171,14 +171,9 @@ fn constant_operand(
 ) -> Result<Option<Operand>, NoMemory>
     ensures { IfOk result (λ found. found ≡ option_map AConstant (constant_ref pool.now (option_copied entry.entry))) }
 {
-    match entry {
-        Some(Entry::Integer(n)) => Ok(Some(Operand::AConstant(Value::Int(*n)))),
-        Some(Entry::Long(n)) => Ok(Some(Operand::AConstant(Value::Long(*n)))),
-        Some(Entry::String(text)) => {
-            let text = Units::from_slice(alloc, text_of(pool, *text))?;
-            Ok(Some(Operand::AConstant(Value::Text(text))))
-        }
-        _ => Ok(None),
+    match constant_ref(alloc, pool, entry)? {
+        Some(value) => Ok(Some(Operand::AConstant(value))),
+        None => Ok(None),
     }
 }
 

@@ -1,0 +1,10 @@
+use Rattle.kilim_attributes.specs.declared.attribute.Attribute.{Attribute}
+use Rattle.kilim_link_spec.specs.Linked.{constant_by}
+use Rattle.kilim_link_mentions.proofs.First.{found_first, found_later}
+use Rattle.kilim_link_mentions.proofs.constants.constant_of.Goals as goal
+
+pub returns-in-Ok-Some : goal.returns-in-Ok-Some
+returns-in-Ok-Some c = found_first (λ (a : Attribute). constant_by c.args.pool.now a.info) c.as_slice-attribute-items.result.now c.args.field.now.attributes c.loop-attribute.attribute-index c.attribute-item.result c.in-Ok-Some.field-0 c.as_slice-attribute-items.ensures c.loop-attribute-test.true c.attribute-item.is c.in-Ok-Some.ensures c.loop-attribute.invariant c.in-Ok-Some.found c.in-Ok-Some.field-0-is
+
+pub loop-attribute-preserved : goal.loop-attribute-preserved
+loop-attribute-preserved c = found_later (λ (a : Attribute). constant_by c.args.pool.now a.info) c.as_slice-attribute-items.result.now c.args.field.now.attributes c.loop-attribute.attribute-index c.attribute-item.result c.in-Ok-None.field-0 c.as_slice-attribute-items.ensures c.loop-attribute-test.true c.attribute-item.is c.in-Ok-None.ensures c.loop-attribute.invariant c.in-Ok-None.field-0-is
