@@ -1,10 +1,9 @@
--- The descriptor of an array, one dimension at a time.
-use Rattle.std.proofs.Common.{◌≡◌, ℕ, zero, suc, ◌-◌, ◌<◌, List, [], ◌∷◌, ◌++◌, refl, ap, arith}
+-- The descriptor of an array, dimension by dimension.
+use Rattle.std.proofs.Common.{◌≡◌, ℕ, suc, ◌+◌, ◌-◌, ◌<◌, List, [], ◌∷◌, ◌++◌, ap, ◌∙◌, arith, append_assoc}
 use Rattle.kilim_classes.specs.Names.{array_descriptor}
 
-pub one_dimension : (text : List ℕ) (n : ℕ) (element : List ℕ) → 0 < n → (text ++ 91 ∷ []) ++ array_descriptor (n - 1) element ≡ text ++ array_descriptor n element
-one_dimension [] zero element lt = absurd (omega (arith, lt))
-one_dimension [] (suc n) element lt =
-    let e : suc n - 1 ≡ n = omega arith in
-    rw e refl
-one_dimension (u ∷ us) n element lt = ap (λ (t : List ℕ). u ∷ t) (one_dimension us n element lt)
+pub array_more : (n k : ℕ) (base old new total : List ℕ) → k < n → new ≡ old ++ 91 ∷ [] → old ++ array_descriptor (n - k) base ≡ total → new ++ array_descriptor (n - (k + 1)) base ≡ total
+array_more n k base old new total lt is so_far =
+    let e : suc (n - (k + 1)) ≡ n - k = omega arith in
+    ap (λ v. v ++ array_descriptor (n - (k + 1)) base) is
+    ∙ (append_assoc old (91 ∷ []) (array_descriptor (n - (k + 1)) base) ∙ (ap (λ (j : ℕ). old ++ array_descriptor j base) e ∙ so_far))

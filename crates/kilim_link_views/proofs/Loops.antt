@@ -1,20 +1,22 @@
 -- Loops that append something for each element.
-use Rattle.std.proofs.Common.{◌≡◌, ℕ, ◌+◌, ◌<◌, List, [], ◌∷◌, ◌++◌, length, get_or, map, take, arith}
+use Rattle.std.proofs.Common.{◌≡◌, ℕ, ◌+◌, ◌<◌, List, [], ◌∷◌, ◌++◌, length, get_or, map, take, sym, ap, ◌∙◌, subst}
 use Rattle.std.specs.List.{flat_map}
-use Rattle.std.proofs.lemmas.Grind.{common_steps}
+use Rattle.std.proofs.lemmas.List.{take_more, map_more, flat_map_more}
 
-pub mapped : {X A : Type 0} (f : X → A) (now next : List A) (xs : List X) (i : ℕ) (x d : X) (y : A) → i < length xs → x ≡ get_or xs i d → now ≡ map f (take i xs) → y ≡ f x
-    → next ≡ now ++ y ∷ [] → next ≡ map f (take (i + 1) xs)
-mapped f now next xs i x d y lt is so_far made step = grind (arith, common_steps)
+module _ {X A : Type 0} (f : X → A) (now next : List A) where
+  pub mapped : (xs : List X) (i : ℕ) (x d : X) (y : A) → i < length xs → x ≡ get_or xs i d → now ≡ map f (take i xs) → y ≡ f x → next ≡ now ++ y ∷ [] → next ≡ map f (take (i + 1) xs)
+  mapped xs i x d y lt is so_far made step =
+      step ∙ (ap (λ ys. ys ++ y ∷ []) so_far ∙ (ap (λ z. map f (take i xs) ++ z ∷ []) (made ∙ ap f is) ∙ sym (map_more f xs i d lt)))
 
-pub mapped_in : {X A : Type 0} (f : X → A) (now next : List A) (items xs : List X) (i : ℕ) (x : X) (y : A) → items ≡ xs → i < length items → x ≡ get_or items i x → now ≡ map f (take i xs) → y ≡ f x
-    → next ≡ now ++ y ∷ [] → next ≡ map f (take (i + 1) xs)
-mapped_in f now next items xs i x y same lt is so_far made step = grind (arith, common_steps)
+  pub mapped_in : (items xs : List X) (i : ℕ) (x : X) (y : A) → items ≡ xs → i < length items → x ≡ get_or items i x → now ≡ map f (take i xs) → y ≡ f x → next ≡ now ++ y ∷ [] → next ≡ map f (take (i + 1) xs)
+  mapped_in items xs i x y same lt is so_far made step =
+      mapped xs i x x y (subst (λ (ys : List X). i < length ys) same lt) (is ∙ ap (λ (ys : List X). get_or ys i x) same) so_far made step
 
-pub joined_in : {X A : Type 0} (f : X → List A) (now next : List A) (items xs : List X) (i : ℕ) (x : X) → items ≡ xs → i < length items → x ≡ get_or items i x → now ≡ flat_map f (take i xs)
-    → next ≡ now ++ f x → next ≡ flat_map f (take (i + 1) xs)
-joined_in f now next items xs i x same lt is so_far step = grind (arith, common_steps)
+module _ {X A : Type 0} (f : X → List A) where
+  pub behind : (before now next : List A) (xs : List X) (i : ℕ) (x d : X) → i < length xs → x ≡ get_or xs i d → now ≡ before ++ flat_map f (take i xs) → next ≡ now ++ f x → next ≡ before ++ flat_map f (take (i + 1) xs)
+  behind before now next xs i x d lt is so_far step =
+      step ∙ (ap (λ ys. ys ++ f x) so_far ∙ (ap (λ z. (before ++ flat_map f (take i xs)) ++ f z) is ∙ (flat_map_more f before (take i xs) (get_or xs i d) ∙ ap (λ ys. before ++ flat_map f ys) (sym (take_more xs i d lt)))))
 
-pub behind : {X A : Type 0} (f : X → List A) (before now next : List A) (xs : List X) (i : ℕ) (x d : X) → i < length xs → x ≡ get_or xs i d → now ≡ before ++ flat_map f (take i xs)
-    → next ≡ now ++ f x → next ≡ before ++ flat_map f (take (i + 1) xs)
-behind f before now next xs i x d lt is so_far step = grind (arith, common_steps)
+  pub joined_in : (now next : List A) (items xs : List X) (i : ℕ) (x : X) → items ≡ xs → i < length items → x ≡ get_or items i x → now ≡ flat_map f (take i xs) → next ≡ now ++ f x → next ≡ flat_map f (take (i + 1) xs)
+  joined_in now next items xs i x same lt is so_far step =
+      behind [] now next xs i x x (subst (λ (ys : List X). i < length ys) same lt) (is ∙ ap (λ (ys : List X). get_or ys i x) same) so_far step

@@ -2,13 +2,13 @@
 
 ghost use Rattle.std.specs.Prelude.{◌≡◌, ◌++◌, ◌∷◌, [], map, option_map, option_to_list, codes, IfOk, OnOk};
 ghost use Rattle.std.specs.List.{flat_map, filter_map};
-ghost use Rattle.std.specs.Option.{option_copied};
 ghost use Rattle.kilim_classes.specs.BuiltIn.{built_in_classes_in, is_final_built_in};
-ghost use Rattle.kilim_classes.specs.Names.{class_name, base_descriptor, array_descriptor, descriptor, method_at};
+ghost use Rattle.kilim_classes.specs.Names.{class_name, base_descriptor, descriptor, method_at};
 ghost use Rattle.kilim_link_spec.specs.declared.view.Marks.TheVariants.{Stated};
 ghost use Rattle.kilim_link_spec.specs.World.{result_descriptor, method_descriptor, declared_built_in, view_of_built_in, built_ins};
 
 use crate::built_ins::{built_in_classes, built_in_methods};
+use kilim_classes::lookups::method_at;
 use kilim_classes::{Base, Class, ClassId, Form, Method, MethodId, Program, Ty, built_in_keeps};
 use kilim_link_spec::{ClassView, DeclaredMethod, Marks};
 use kilim_units::{NoMemory, Seq, Units};
@@ -67,14 +67,11 @@ fn push_class(text: &mut Vec<u16>, name: &[u16]) -> Result<(), NoMemory>
 }
 
 // Appends the descriptor of a type.
-#[tactic(auto, using(crate::proofs::Dimensions::one_dimension))]
 fn push_type(text: &mut Vec<u16>, program: &Program, ty: Ty) -> Result<(), NoMemory>
     ensures { OnOk result (text.new.items ≡ text.old.items ++ descriptor program.now ty) }
 {
-    let mut left = ty.dims;
-    while left > 0 {
+    for _ in 0..ty.dims {
         text.push(91)?;
-        left -= 1;
     }
     push_base(text, program, ty.base)
 }
@@ -100,8 +97,12 @@ fn push_result(text: &mut Vec<u16>, program: &Program, gives: Option<Ty>) -> Res
     Ok(())
 }
 
-// The descriptor of a method.
-fn method_descriptor(alloc: Global, program: &Program, method: &Method) -> Result<Units, NoMemory>
+/// The descriptor of a method of a program (JVMS 4.3.3).
+pub fn method_descriptor(
+    alloc: Global,
+    program: &Program,
+    method: &Method,
+) -> Result<Units, NoMemory>
     ensures { IfOk result (λ text. text ≡ method_descriptor program.now method.now) }
 {
     let mut text = Vec::new(alloc);
@@ -143,13 +144,6 @@ fn push_built_in(
         marks,
     })?;
     Ok(())
-}
-
-// The method of a number, none past the end.
-fn method_at(program: &Program, id: MethodId) -> Option<&Method>
-    ensures { option_copied result ≡ method_at program.now id }
-{
-    program.methods.as_slice().get(id.0 as usize)
 }
 
 // Appends the method of a number, where there is one, as if it were declared.

@@ -8,7 +8,7 @@ mod marks;
 mod members;
 mod names;
 
-pub use built_in::built_in_views;
+pub use built_in::{built_in_views, method_descriptor};
 pub use file::view_of_file;
 pub use marks::params_in;
 pub use members::{declared_method, is_pausable};

@@ -4,19 +4,11 @@ use Rattle.std.specs.Fmt.{decimal}
 use Rattle.std.specs.List.{flat_map}
 use Rattle.kilim_classes.specs.declared.class.Method.{Method}
 use Rattle.kilim_classes.specs.declared.names.MethodId.{MethodId}
-use Rattle.kilim_classes.specs.declared.ty.Ty.{Ty}
-use Rattle.kilim_classes.specs.Names.{class_name, descriptor, method_at}
+use Rattle.kilim_classes.specs.Names.{class_name, method_at}
 use Rattle.kilim_classes.specs.Program.{Program}
+use Rattle.kilim_link_spec.specs.World.{method_descriptor}
 use Rattle.kilim_pausable_graph.specs.declared.report.Report.{Report}
 use Rattle.kilim_reports.specs.Names.{member_name_text, descriptor_text}
-
-abbrev pub result_descriptor : Program → Option Ty → List ℕ
-result_descriptor p None = codes "V"
-result_descriptor p (Some ty) = descriptor p ty
-
--- a method's descriptor (JVMS 4.3.3)
-abbrev pub method_descriptor : Program → Method → List ℕ
-method_descriptor p m = codes "(" ++ (flat_map (descriptor p) m.params ++ (codes ")" ++ result_descriptor p m.result))
 
 -- the class that declares it, and its name and descriptor
 abbrev pub method_words : Program → Method → List ℕ

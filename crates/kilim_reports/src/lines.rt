@@ -4,15 +4,16 @@ ghost use Rattle.std.specs.Prelude.{◌≡◌, ◌++◌, IfOk, codes};
 ghost use Rattle.std.specs.Fmt.{decimal};
 ghost use Rattle.std.specs.List.{flat_map};
 ghost use Rattle.kilim_classes.specs.Names.{class_name, method_at};
+ghost use Rattle.kilim_link_spec.specs.World.{method_descriptor};
 ghost use Rattle.kilim_reports.specs.Names.{member_name_text, descriptor_text};
 ghost use Rattle.kilim_reports.specs.RuleLines as spec;
 
-use crate::descriptors::method_descriptor;
 use crate::member_name_text;
 use crate::names::named_text;
 use crate::texts::joined;
 use kilim_classes::lookups::{class_at, method_at};
 use kilim_classes::{ClassId, Method, MethodId, Program};
+use kilim_link_views::method_descriptor;
 use kilim_pausable_graph::Report;
 use kilim_units::{NoMemory, Units};
 use std::alloc::Global;
@@ -31,7 +32,7 @@ fn class_text(alloc: Global, program: &Program, class: ClassId) -> Result<Vec<u8
 
 // The name and the descriptor of a method.
 fn named_words(alloc: Global, program: &Program, method: &Method) -> Result<Vec<u8>, NoMemory>
-    ensures { IfOk result (λ text. text.items ≡ member_name_text method.now.name ++ descriptor_text (spec.method_descriptor program.now method.now)) }
+    ensures { IfOk result (λ text. text.items ≡ member_name_text method.now.name ++ descriptor_text (method_descriptor program.now method.now)) }
 {
     let descriptor = method_descriptor(alloc, program, method)?;
     named_text(alloc, &method.name, &descriptor)
