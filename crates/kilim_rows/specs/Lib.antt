@@ -1,3 +1,4 @@
+pub mod Laid
 pub mod Operations
 pub mod Outcome
 pub mod Types

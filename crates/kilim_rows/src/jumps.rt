@@ -75,9 +75,12 @@ pub fn jump_on_references(
     ensures step { Shows own.now (reference_jump (kept_if same) to next frame.old.locals frame.old.stack.values heap.now) next result frame.old frame.new heap.now heap.now }
     ensures same { SameFrame frame.old frame.new }
 {
-    let b = frame.stack.pop();
-    let a = frame.stack.pop();
-    if are_same(&a, &b) == same {
+    let is_same = {
+        let b = frame.stack.pop();
+        let a = frame.stack.pop();
+        are_same(&a, &b)
+    };
+    if is_same == same {
         Moved::Jump(to)
     } else {
         Moved::Next
@@ -99,8 +102,11 @@ pub fn jump_on_null(
     ensures step { Shows own.now (null_jump (kept_if null) to next frame.old.locals frame.old.stack.values heap.now) next result frame.old frame.new heap.now heap.now }
     ensures same { SameFrame frame.old frame.new }
 {
-    let a = frame.stack.pop();
-    if is_none(&a) == null {
+    let is_null = {
+        let a = frame.stack.pop();
+        is_none(&a)
+    };
+    if is_null == null {
         Moved::Jump(to)
     } else {
         Moved::Next
@@ -155,13 +161,28 @@ pub fn jump_by_match(
 fn are_same(a: &Value, b: &Value) -> bool
     ensures { result ≡ same_reference a.now b.now }
 {
-    match (a, b) {
-        (Value::Null, Value::Null) => true,
-        (Value::Ref(n), Value::Ref(m)) => *n == *m,
-        (Value::Text(s), Value::Text(t)) => s.is_same(t),
-        (Value::Box(p), Value::Box(q)) => p.task == q.task && p.number == q.number,
-        (Value::Fiber, Value::Fiber) => true,
-        _ => false,
+    match a {
+        Value::Null => match b {
+            Value::Null => true,
+            _ => false,
+        },
+        Value::Ref(n) => match b {
+            Value::Ref(m) => *n == *m,
+            _ => false,
+        },
+        Value::Text(s) => match b {
+            Value::Text(t) => s.is_same(t),
+            _ => false,
+        },
+        Value::Box(p) => match b {
+            Value::Box(q) => p.task == q.task && p.number == q.number,
+            _ => false,
+        },
+        Value::Fiber => match b {
+            Value::Fiber => true,
+            _ => false,
+        },
+        Value::Int(_) | Value::Long(_) => false,
     }
 }
 

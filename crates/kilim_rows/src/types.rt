@@ -117,8 +117,11 @@ pub fn test_type(
     ensures step { Shows own.now (does program.now own.now (Instanceof ty.now) next frame.old.locals frame.old.stack.values heap.now) next result frame.old frame.new heap.now heap.now }
     ensures same { SameFrame frame.old frame.new }
 {
-    let value = frame.stack.pop();
-    let Ok(class) = type_of(program, &value, heap) else {
+    let class = {
+        let value = frame.stack.pop();
+        type_of(program, &value, heap)
+    };
+    let Ok(class) = class else {
         return Moved::NoMemory;
     };
     let bit = if is_instance(program, class, ty) {

@@ -1,0 +1,20 @@
+-- What a form that moves words leaves.
+use Rattle.std.specs.Prelude.{◌≡◌, List}
+use Rattle.kilim_classes.specs.declared.value.Value.{Value}
+use Rattle.kilim_machine_parts.specs.declared.frames.frame.Frame.{Frame}
+use Rattle.kilim_rows.specs.declared.outcome.Moved.{Moved}
+use Rattle.kilim_rows.specs.declared.outcome.Moved.TheVariants.{Next, Jump, Made, Opened, Called, Asked, Returned, ReturnedValue, Raised, Ended, NoMemory}
+
+-- The frame goes on behind, with these values on its stack. Want of memory tells nothing.
+abbrev pub IsLaid : Moved → Frame → Frame → List Value → Type 0
+IsLaid Next before after values = after ≡ record before { stack = record before.stack { values = values } }
+IsLaid (Jump to) before after values = ⊥
+IsLaid (Made at) before after values = ⊥
+IsLaid Opened before after values = ⊥
+IsLaid (Called m n) before after values = ⊥
+IsLaid (Asked m n) before after values = ⊥
+IsLaid Returned before after values = ⊥
+IsLaid ReturnedValue before after values = ⊥
+IsLaid (Raised cause) before after values = ⊥
+IsLaid (Ended cause) before after values = ⊥
+IsLaid NoMemory before after values = Unit {0}
