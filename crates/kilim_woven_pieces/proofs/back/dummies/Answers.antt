@@ -13,3 +13,8 @@ loop-left-preserved c =
           (c.loop-left.invariant.1 ∙ sym (ap (λ (n : ℕ). dummies (drop n c.args.params.now) (items_of c.args.items.now)) one))
           (c.in_ok-add.ensures ∙ ap (λ (i : Instr). added i 1 ∷ (items_of c.loop-left.items)) (c.dummy_of-dummy.ensures ∙ ap dummy_of c.vtype-value.ensures)),
     )
+
+pub returns : goal.returns
+returns c =
+    let none : c.loop-left.left ≡ 0 = omega arith in
+    c.loop-left.invariant.1 ∙ ap (λ (n : ℕ). dummies (drop n c.args.params.now) (items_of c.args.items.now)) none

@@ -12,3 +12,8 @@ loop-left-preserved c =
       restore_more (meant c.args.plan.now) (items_of c.args.items.now) (items_of c.loop-left.items) (items_of c.restore.new.items) c.args.stack.now (c.loop-left.left - 1) c.type_at.result c.type_at.ensures
           (ap (λ (n : ℕ). restore_stack (meant c.args.plan.now) (reverse (take n c.args.stack.now)) (items_of c.loop-left.items)) one ∙ c.loop-left.invariant.1) c.in_ok-restore.ensures,
     )
+
+pub returns : goal.returns
+returns c =
+    let none : 0 ≡ c.loop-left.left = omega arith in
+    ap (λ (n : ℕ). restore_stack (meant c.args.plan.now) (reverse (take n c.args.stack.now)) (items_of c.loop-left.items)) none ∙ c.loop-left.invariant.1
