@@ -1,3 +1,4 @@
+pub mod Loops
 pub mod Texts
 pub mod Adds
 pub mod Lists

@@ -33,9 +33,9 @@ pub fn exceptions(
     alloc: Global,
     pool: &mut Pool,
     pausable: bool,
-    all: &mut Vec<Attribute>,
+    all: &mut Seq<Attribute>,
 ) -> Result<(), AddFault>
-    ensures { ReadsUnless add.Memory (λ done. (all.new.items, pool.new)) result (appended all.old.items (exceptions_added pausable pool.old)) }
+    ensures { ReadsUnless add.Memory (λ done. (all.new, pool.new)) result (appended all.old (exceptions_added pausable pool.old)) }
 {
     if !pausable {
         return Ok(());
@@ -252,9 +252,9 @@ fn given(
     alloc: Global,
     pool: &mut Pool,
     qs: &[Option<Qualifier>],
-    all: &mut Vec<Attribute>,
+    all: &mut Seq<Attribute>,
 ) -> Result<(), AddFault>
-    ensures { ReadsUnless add.Memory (λ done. (all.new.items, pool.new)) result (appended all.old.items (given_added qs.now pool.old)) }
+    ensures { ReadsUnless add.Memory (λ done. (all.new, pool.new)) result (appended all.old (given_added qs.now pool.old)) }
 {
     let name = add_text(alloc, pool, b"RuntimeInvisibleParameterAnnotations")?;
     let parts = annotations(alloc, pool, qs)?;
@@ -271,9 +271,9 @@ pub fn parameters(
     alloc: Global,
     pool: &mut Pool,
     qs: &[Option<Qualifier>],
-    all: &mut Vec<Attribute>,
+    all: &mut Seq<Attribute>,
 ) -> Result<(), AddFault>
-    ensures { ReadsUnless add.Memory (λ done. (all.new.items, pool.new)) result (appended all.old.items (parameters_added qs.now pool.old)) }
+    ensures { ReadsUnless add.Memory (λ done. (all.new, pool.new)) result (appended all.old (parameters_added qs.now pool.old)) }
 {
     if are_given(qs) {
         given(alloc, pool, qs, all)

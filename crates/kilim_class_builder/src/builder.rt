@@ -167,10 +167,13 @@ impl ClassBuilder {
         ensures built { IfOk result (λ file. file ≡ self) }
         ensures fits { IfOk result ClassFits }
     {
-        if fits(alloc, &self.file)? {
-            Ok(self.file)
-        } else {
-            Err(NoMemory)
+        let file = self.file;
+        match fits(alloc, &file) {
+            Ok(true) => Ok(file),
+            _ => {
+                drop(file);
+                Err(NoMemory)
+            }
         }
     }
 }

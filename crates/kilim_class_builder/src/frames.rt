@@ -1,6 +1,6 @@
 //! Frames, all in the full form (JVMS 4.7.4).
 
-ghost use Rattle.std.specs.Prelude.{◌≡◌, ◌<◌, ◌-◌, ◌++◌, ◌∷◌, List, suc, length, map, slice_get, Some, false, IfOk, OnOk, option_copied};
+ghost use Rattle.std.specs.Prelude.{◌≡◌, ◌<◌, ◌-◌, ◌++◌, ◌∷◌, List, suc, length, map, slice_get, Some, false, IfOk, OnOk, codes, option_copied};
 ghost use Rattle.std.specs.List.{flat_map};
 ghost use Rattle.kilim_classfile.specs.Parts.{text_of};
 ghost use Rattle.kilim_classes.specs.declared.verified.VType.{VType};
@@ -57,22 +57,28 @@ fn push_class(out: &mut Vec<u16>, pool: &Pool, number: u32) -> Result<(), NoMemo
     push_name(out, pool, pool.entry(index))
 }
 
+fn push_class_text(out: &mut Vec<u16>, pool: &Pool, number: u32) -> Result<(), NoMemory>
+    ensures { OnOk result (out.new.items ≡ out.old.items ++ (codes "L" ++ (name_in pool.now (entry_at pool.now number) ++ codes ";"))) }
+{
+    out.push(u16::from(b'L'))?;
+    push_class(out, pool, number)?;
+    out.push(u16::from(b';'))?;
+    Ok(())
+}
+
 fn push_base(out: &mut Vec<u16>, pool: &Pool, base: Base) -> Result<(), NoMemory>
     ensures { OnOk result (out.new.items ≡ out.old.items ++ base_text pool.now base) }
 {
-    match base {
-        Base::Bool => out.push(u16::from(b'Z'))?,
-        Base::Byte => out.push(u16::from(b'B'))?,
-        Base::Char => out.push(u16::from(b'C'))?,
-        Base::Short => out.push(u16::from(b'S'))?,
-        Base::Int => out.push(u16::from(b'I'))?,
-        Base::Long => out.push(u16::from(b'J'))?,
-        Base::Class(class) => {
-            out.push(u16::from(b'L'))?;
-            push_class(out, pool, class.0)?;
-            out.push(u16::from(b';'))?;
-        }
-    }
+    let letter = match base {
+        Base::Bool => b'Z',
+        Base::Byte => b'B',
+        Base::Char => b'C',
+        Base::Short => b'S',
+        Base::Int => b'I',
+        Base::Long => b'J',
+        Base::Class(class) => return push_class_text(out, pool, class.0),
+    };
+    out.push(u16::from(letter))?;
     Ok(())
 }
 
@@ -277,12 +283,12 @@ pub fn full_frames(
 ) -> Result<Seq<Entered>, NoMemory>
     ensures { IfOk result (λ fs. fs ≡ full_frames pool.now 0 frames.now) }
 {
-    let mut all = Vec::new(alloc);
+    let mut all = Seq::new(alloc);
     let mut next = 0;
     for entry in frames {
         let delta = delta_from(next, entry.0)?;
         all.push(full_frame(alloc, pool, delta, &entry.1)?)?;
         next = behind(entry.0)?;
     }
-    Ok(Seq::from_vec(all))
+    Ok(all)
 }

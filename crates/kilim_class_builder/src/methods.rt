@@ -60,8 +60,8 @@ fn is_bodiless(flags: u16) -> bool
     flags & BODILESS != 0
 }
 
-fn push_listed(all: &mut Vec<Attribute>, attribute: Option<Attribute>) -> Result<(), AllocError>
-    ensures { OnOk result (all.new.items ≡ all.old.items ++ listed attribute) }
+fn push_listed(all: &mut Seq<Attribute>, attribute: Option<Attribute>) -> Result<(), AllocError>
+    ensures { OnOk result (all.new ≡ all.old ++ listed attribute) }
 {
     match attribute {
         None => {}
@@ -99,9 +99,9 @@ fn marks(
     alloc: Global,
     pool: &mut Pool,
     source: &MethodSource,
-    all: &mut Vec<Attribute>,
+    all: &mut Seq<Attribute>,
 ) -> Result<(), AddFault>
-    ensures { ReadsUnless add.Memory (λ done. (all.new.items, pool.new)) result (marks_added source.now all.old.items pool.old) }
+    ensures { ReadsUnless add.Memory (λ done. (all.new, pool.new)) result (marks_added source.now all.old pool.old) }
 {
     exceptions(alloc, pool, source.pausable, all)?;
     let found = receiver(alloc, pool, source.receiver)?;
@@ -116,13 +116,13 @@ fn head(alloc: Global, pool: &mut Pool, source: &MethodSource) -> Result<MemberI
 {
     let name_index = add_name(alloc, pool, source.name.as_str())?;
     let descriptor_index = add_name(alloc, pool, source.descriptor.as_str())?;
-    let mut all = Vec::new(alloc);
+    let mut all = Seq::new(alloc);
     marks(alloc, pool, source, &mut all)?;
     Ok(MemberInfo {
         access_flags: source.flags,
         name_index,
         descriptor_index,
-        attributes: Seq::from_vec(all),
+        attributes: all,
     })
 }
 
