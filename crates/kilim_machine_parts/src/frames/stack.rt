@@ -1,6 +1,6 @@
 //! An operand stack (JVMS 2.6.2), with room made once.
 
-ghost use Rattle.std.specs.Prelude.{◌≡◌, ◌<◌, ◌≤◌, ◌∷◌, [], ℕ, true, length, reverse, take, drop, IfOk, slice_get, Some, vec_capacity};
+ghost use Rattle.std.specs.Prelude.{◌≡◌, ◌<◌, ◌≤◌, ◌++◌, ◌∷◌, [], ℕ, true, length, reverse, take, drop, IfOk, OnOk, slice_get, Some, vec_capacity};
 ghost use Rattle.kilim_machine_parts.specs.frames.Stacked.{Stacked, top_is, is_int, is_long, is_object, object_value};
 ghost use Rattle.kilim_classes.specs.declared.value.Value.TheVariants as a_value;
 
@@ -132,10 +132,13 @@ impl Stack {
     }
 }
 
-fn copy_of(value: &Value) -> Result<Value, AllocError>
-    ensures { IfOk result (λ copy. copy ≡ value.now) }
+// A copy of a value behind those that are there.
+fn push_copy(into: &mut Vec<Value>, value: &Value) -> Result<(), AllocError>
+    ensures { OnOk result (into.new.items ≡ into.old.items ++ value.now ∷ []) }
 {
-    value.clone()
+    let copy = value.clone()?;
+    into.push(copy)?;
+    Ok(())
 }
 
 fn copies(alloc: Global, values: &[Value]) -> Result<Vec<Value>, AllocError>
@@ -144,8 +147,7 @@ fn copies(alloc: Global, values: &[Value]) -> Result<Vec<Value>, AllocError>
     let mut copies = Vec::new(alloc);
     copies.reserve(values.len())?;
     for value in values {
-        let copy = copy_of(value)?;
-        copies.push(copy)?;
+        push_copy(&mut copies, value)?;
     }
     Ok(copies)
 }
