@@ -1,14 +1,14 @@
 //! The instructions by their numbers (JVMS 6.5).
 
-ghost use Rattle.std.specs.Prelude.{◌≡◌, ◌++◌, Some};
+ghost use Rattle.std.specs.Prelude.{◌≡◌, Some};
 ghost use Rattle.kilim_link_spec.specs.Code.{row, plain_instrs, local_instrs, jump_instrs, constant_instrs, field_instrs, method_instrs, type_instrs, array_codes, applied};
 ghost use Rattle.kilim_link_spec.specs.World.{or_else};
-ghost use Rattle.kilim_link_code.specs.Groups.{constants, int_and_long_loads, reference_loads, array_loads, int_and_long_stores, reference_stores, array_stores, stack_moves, sums_and_products, remainders_and_negations, shifts, bit_operations, conversions, returns_and_length};
+ghost use Rattle.kilim_link_code.specs.Groups.{constants_and_loads, reference_and_array_loads, local_stores, array_stores_and_stack_moves, arithmetic, shifts_and_bit_operations, conversions_and_returns};
 
 use kilim_classes::{Base, FieldId, Instr, MethodId, Ty, Value};
 
-fn constants(number: u8) -> Option<Instr>
-    ensures { result ≡ row constants number }
+fn constants_and_loads(number: u8) -> Option<Instr>
+    ensures { result ≡ row constants_and_loads number }
 {
     match number {
         0 => Some(Instr::Nop),
@@ -22,14 +22,6 @@ fn constants(number: u8) -> Option<Instr>
         8 => Some(Instr::Iconst(5)),
         9 => Some(Instr::Lconst(0)),
         10 => Some(Instr::Lconst(1)),
-        _ => None,
-    }
-}
-
-fn int_and_long_loads(number: u8) -> Option<Instr>
-    ensures { result ≡ row int_and_long_loads number }
-{
-    match number {
         26 => Some(Instr::Iload(0)),
         27 => Some(Instr::Iload(1)),
         28 => Some(Instr::Iload(2)),
@@ -42,22 +34,14 @@ fn int_and_long_loads(number: u8) -> Option<Instr>
     }
 }
 
-fn reference_loads(number: u8) -> Option<Instr>
-    ensures { result ≡ row reference_loads number }
+fn reference_and_array_loads(number: u8) -> Option<Instr>
+    ensures { result ≡ row reference_and_array_loads number }
 {
     match number {
         42 => Some(Instr::Aload(0)),
         43 => Some(Instr::Aload(1)),
         44 => Some(Instr::Aload(2)),
         45 => Some(Instr::Aload(3)),
-        _ => None,
-    }
-}
-
-fn array_loads(number: u8) -> Option<Instr>
-    ensures { result ≡ row array_loads number }
-{
-    match number {
         46 => Some(Instr::Iaload),
         47 => Some(Instr::Laload),
         50 => Some(Instr::Aaload),
@@ -68,8 +52,8 @@ fn array_loads(number: u8) -> Option<Instr>
     }
 }
 
-fn int_and_long_stores(number: u8) -> Option<Instr>
-    ensures { result ≡ row int_and_long_stores number }
+fn local_stores(number: u8) -> Option<Instr>
+    ensures { result ≡ row local_stores number }
 {
     match number {
         59 => Some(Instr::Istore(0)),
@@ -80,14 +64,6 @@ fn int_and_long_stores(number: u8) -> Option<Instr>
         64 => Some(Instr::Lstore(1)),
         65 => Some(Instr::Lstore(2)),
         66 => Some(Instr::Lstore(3)),
-        _ => None,
-    }
-}
-
-fn reference_stores(number: u8) -> Option<Instr>
-    ensures { result ≡ row reference_stores number }
-{
-    match number {
         75 => Some(Instr::Astore(0)),
         76 => Some(Instr::Astore(1)),
         77 => Some(Instr::Astore(2)),
@@ -96,8 +72,8 @@ fn reference_stores(number: u8) -> Option<Instr>
     }
 }
 
-fn array_stores(number: u8) -> Option<Instr>
-    ensures { result ≡ row array_stores number }
+fn array_stores_and_stack_moves(number: u8) -> Option<Instr>
+    ensures { result ≡ row array_stores_and_stack_moves number }
 {
     match number {
         79 => Some(Instr::Iastore),
@@ -106,14 +82,6 @@ fn array_stores(number: u8) -> Option<Instr>
         84 => Some(Instr::Bastore),
         85 => Some(Instr::Castore),
         86 => Some(Instr::Sastore),
-        _ => None,
-    }
-}
-
-fn stack_moves(number: u8) -> Option<Instr>
-    ensures { result ≡ row stack_moves number }
-{
-    match number {
         87 => Some(Instr::Pop),
         88 => Some(Instr::Pop2),
         89 => Some(Instr::Dup),
@@ -127,8 +95,8 @@ fn stack_moves(number: u8) -> Option<Instr>
     }
 }
 
-fn sums_and_products(number: u8) -> Option<Instr>
-    ensures { result ≡ row sums_and_products number }
+fn arithmetic(number: u8) -> Option<Instr>
+    ensures { result ≡ row arithmetic number }
 {
     match number {
         96 => Some(Instr::Iadd),
@@ -139,14 +107,6 @@ fn sums_and_products(number: u8) -> Option<Instr>
         105 => Some(Instr::Lmul),
         108 => Some(Instr::Idiv),
         109 => Some(Instr::Ldiv),
-        _ => None,
-    }
-}
-
-fn remainders_and_negations(number: u8) -> Option<Instr>
-    ensures { result ≡ row remainders_and_negations number }
-{
-    match number {
         112 => Some(Instr::Irem),
         113 => Some(Instr::Lrem),
         116 => Some(Instr::Ineg),
@@ -155,8 +115,8 @@ fn remainders_and_negations(number: u8) -> Option<Instr>
     }
 }
 
-fn shifts(number: u8) -> Option<Instr>
-    ensures { result ≡ row shifts number }
+fn shifts_and_bit_operations(number: u8) -> Option<Instr>
+    ensures { result ≡ row shifts_and_bit_operations number }
 {
     match number {
         120 => Some(Instr::Ishl),
@@ -165,14 +125,6 @@ fn shifts(number: u8) -> Option<Instr>
         123 => Some(Instr::Lshr),
         124 => Some(Instr::Iushr),
         125 => Some(Instr::Lushr),
-        _ => None,
-    }
-}
-
-fn bit_operations(number: u8) -> Option<Instr>
-    ensures { result ≡ row bit_operations number }
-{
-    match number {
         126 => Some(Instr::Iand),
         127 => Some(Instr::Land),
         128 => Some(Instr::Ior),
@@ -183,8 +135,8 @@ fn bit_operations(number: u8) -> Option<Instr>
     }
 }
 
-fn conversions(number: u8) -> Option<Instr>
-    ensures { result ≡ row conversions number }
+fn conversions_and_returns(number: u8) -> Option<Instr>
+    ensures { result ≡ row conversions_and_returns number }
 {
     match number {
         133 => Some(Instr::I2l),
@@ -193,14 +145,6 @@ fn conversions(number: u8) -> Option<Instr>
         146 => Some(Instr::I2c),
         147 => Some(Instr::I2s),
         148 => Some(Instr::Lcmp),
-        _ => None,
-    }
-}
-
-fn returns_and_length(number: u8) -> Option<Instr>
-    ensures { result ≡ row returns_and_length number }
-{
-    match number {
         172 => Some(Instr::Ireturn),
         173 => Some(Instr::Lreturn),
         176 => Some(Instr::Areturn),
@@ -220,35 +164,19 @@ fn either(first: Option<Instr>, later: Option<Instr>) -> Option<Instr>
     }
 }
 
-// Those that move values.
-fn moves(number: u8) -> Option<Instr>
-    ensures { result ≡ row (constants ++ (int_and_long_loads ++ (reference_loads ++ (array_loads ++ (int_and_long_stores ++ (reference_stores ++ (array_stores ++ stack_moves))))))) number }
-{
-    let array_or_stack = either(array_stores(number), stack_moves(number));
-    let stores = either(reference_stores(number), array_or_stack);
-    let all_stores = either(int_and_long_stores(number), stores);
-    let others = either(array_loads(number), all_stores);
-    let references = either(reference_loads(number), others);
-    let loads = either(int_and_long_loads(number), references);
-    either(constants(number), loads)
-}
-
-// Those that compute, and the returns.
-fn computations(number: u8) -> Option<Instr>
-    ensures { result ≡ row (sums_and_products ++ (remainders_and_negations ++ (shifts ++ (bit_operations ++ (conversions ++ returns_and_length))))) number }
-{
-    let ends = either(conversions(number), returns_and_length(number));
-    let bits = either(bit_operations(number), ends);
-    let shifted = either(shifts(number), bits);
-    let others = either(remainders_and_negations(number), shifted);
-    either(sums_and_products(number), others)
-}
-
 /// The instruction of a number without operands, a short form as its long form; nothing for other numbers.
 pub fn plain_instr(number: u8) -> Option<Instr>
     ensures { result ≡ row plain_instrs number }
 {
-    either(moves(number), computations(number))
+    let ends = either(
+        shifts_and_bit_operations(number),
+        conversions_and_returns(number),
+    );
+    let computations = either(arithmetic(number), ends);
+    let array_or_stack = either(array_stores_and_stack_moves(number), computations);
+    let stores = either(local_stores(number), array_or_stack);
+    let loads = either(reference_and_array_loads(number), stores);
+    either(constants_and_loads(number), loads)
 }
 
 /// The load or the store of a local slot with this number; nothing for other numbers.
