@@ -1,12 +1,15 @@
 -- The files that are written.
-use Rattle.std.proofs.Common.{◌≡◌, ℕ, zero, suc, Bool, ◌+◌, ◌≤◌, List, [], ◌∷◌, ◌++◌, length, map, take, drop, slice_get, Some, None, refl, sym, ap, subst, ◌∙◌, arith}
+use Rattle.std.proofs.Common.{◌≡◌, ℕ, zero, suc, Bool, ◌+◌, ◌≤◌, List, [], ◌∷◌, ◌++◌, length, map, take, drop, slice_get, Some, None, Result, Ok, refl, sym, ap, subst, ◌∙◌, arith}
 use Rattle.std.specs.List.{AllByRecursion}
 use Rattle.kilim_classes.specs.declared.class.Class.{Class}
+use Rattle.kilim_classes.specs.declared.class.Form.TheVariants.{Woven}
 use Rattle.kilim_classes.specs.declared.class.Method.{Method}
 use Rattle.kilim_classes.specs.Program.{Program}
 use Rattle.kilim_classfile.specs.declared.class_file.ClassFile.{ClassFile}
 use Rattle.kilim_classfile.specs.Text.{ClassFits}
+use Rattle.kilim_link_spec.specs.declared.fault.LinkFault.{LinkFault}
 use Rattle.kilim_stages.specs.ProgramOf.{AreFiles}
+use Rattle.kilim_stages.specs.class_world.Linking.{IsLinkOf}
 use Rattle.kilim_weave_command.specs.declared.woven_files.made.WovenFile.{WovenFile}
 use Rattle.kilim_weave_command.specs.woven_files.Parts.{LinksBack}
 use Rattle.kilim_weave_command.specs.woven_files.WovenFiles.{AreOutputs, IsOutput, IsWovenProgramOf, woven_by}
@@ -60,3 +63,11 @@ woven_length w (f ∷ files) ps ms cs = ap suc (woven_length w files (drop (leng
 
 pub few_woven : (w : Program) (files made xs : List ClassFile) (ps ms : List Method) (cs : List (List Bool)) → xs ≡ made → made ≡ woven_by w files ps ms cs → length files ≤ 1000 → length xs ≤ 1000
 few_woven w files made xs ps ms cs same is few = subst (λ (n : ℕ). n ≤ 1000) (sym (ap length (same ∙ is) ∙ woven_length w files ps ms cs)) few
+
+-- ---- what class files link to
+
+links_as_ok : (files : List ClassFile) (p : Program) → IsLinkOf files Woven (Ok p) → LinksBack files p
+links_as_ok files p is = record { none = is.1; linked = is.0 }
+
+pub links_as : (files : List ClassFile) (p : Program) (r : Result Program LinkFault) → IsLinkOf files Woven r → r ≡ Ok p → LinksBack files p
+links_as files p r is same = links_as_ok files p (subst (IsLinkOf files Woven) same is)
