@@ -1,6 +1,7 @@
 //! Names of Class entries (JVMS 4.4.1).
 
 ghost use Rattle.std.specs.Prelude.{◌≡◌, ◌++◌, IfOk, OnOk};
+ghost use Rattle.kilim_classes.specs.declared.ty.Base.TheVariants as of_base;
 ghost use Rattle.kilim_classes.specs.Names.{base_descriptor, class_name, descriptor};
 ghost use Rattle.kilim_code_builder.specs.stack_maps.Tables.{base_text, type_text};
 
@@ -21,22 +22,32 @@ fn push_class(out: &mut Vec<u16>, program: &Program, class: ClassId) -> Result<(
     Ok(())
 }
 
+fn push_class_descriptor(
+    out: &mut Vec<u16>,
+    program: &Program,
+    class: ClassId,
+) -> Result<(), AllocError>
+    ensures { OnOk result (out.new.items ≡ out.old.items ++ base_descriptor program.now (of_base.Class class)) }
+{
+    out.push(u16::from(b'L'))?;
+    push_class(out, program, class)?;
+    out.push(u16::from(b';'))?;
+    Ok(())
+}
+
 fn push_base(out: &mut Vec<u16>, program: &Program, base: Base) -> Result<(), AllocError>
     ensures { OnOk result (out.new.items ≡ out.old.items ++ base_descriptor program.now base) }
 {
-    match base {
-        Base::Bool => out.push(u16::from(b'Z'))?,
-        Base::Byte => out.push(u16::from(b'B'))?,
-        Base::Char => out.push(u16::from(b'C'))?,
-        Base::Short => out.push(u16::from(b'S'))?,
-        Base::Int => out.push(u16::from(b'I'))?,
-        Base::Long => out.push(u16::from(b'J'))?,
-        Base::Class(class) => {
-            out.push(u16::from(b'L'))?;
-            push_class(out, program, class)?;
-            out.push(u16::from(b';'))?;
-        }
-    }
+    let letter = match base {
+        Base::Bool => b'Z',
+        Base::Byte => b'B',
+        Base::Char => b'C',
+        Base::Short => b'S',
+        Base::Int => b'I',
+        Base::Long => b'J',
+        Base::Class(class) => return push_class_descriptor(out, program, class),
+    };
+    out.push(u16::from(letter))?;
     Ok(())
 }
 
