@@ -179,14 +179,14 @@ fn so_many_fields_at<'a>(
 ) -> Result<(Seq<MemberInfo>, &'a [u8]), ClassFault>
     ensures { ReadsUnless fault.Memory (λ x. (x.0, x.1.now)) result (many (field_at len pool.now) count bytes.now) }
 {
-    let mut fields = Vec::new(alloc);
+    let mut fields = Seq::new(alloc);
     let mut rest = bytes;
     for _ in 0..count {
         let (field, after) = member_at(alloc, len, pool, Place::Field, rest)?;
         fields.push(field)?;
         rest = after;
     }
-    Ok((Seq::from_vec(fields), rest))
+    Ok((fields, rest))
 }
 
 fn so_many_methods_at<'a>(
@@ -198,14 +198,14 @@ fn so_many_methods_at<'a>(
 ) -> Result<(Seq<MemberInfo>, &'a [u8]), ClassFault>
     ensures { ReadsUnless fault.Memory (λ x. (x.0, x.1.now)) result (many (method_at len pool.now) count bytes.now) }
 {
-    let mut methods = Vec::new(alloc);
+    let mut methods = Seq::new(alloc);
     let mut rest = bytes;
     for _ in 0..count {
         let (method, after) = method_at(alloc, len, pool, rest)?;
         methods.push(method)?;
         rest = after;
     }
-    Ok((Seq::from_vec(methods), rest))
+    Ok((methods, rest))
 }
 
 #[tactic(auto, unfolding(crate::specs::Reading::magic_at))]

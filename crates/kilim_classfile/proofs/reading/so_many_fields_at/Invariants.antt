@@ -5,4 +5,4 @@ use Rattle.kilim_classfile.specs.Reading.{field_at}
 use Rattle.kilim_classfile.proofs.reading.so_many_fields_at.Given as goal
 
 abbrev pub invariant-loop : goal.invariant-loop
-invariant-loop l = with_front l.fields.items (many (field_at l.len l.pool) (l.count - l.counter) l.rest) ≡ many (field_at l.len l.pool) l.count l.bytes
+invariant-loop l = with_front l.fields (many (field_at l.len l.pool) (l.count - l.counter) l.rest) ≡ many (field_at l.len l.pool) l.count l.bytes

@@ -9,14 +9,14 @@ pub returns-in_err-method : goal.returns-in_err-method
 returns-in_err-method c =
     let p = err_from_is_err_and c.from_residual.result c.from_residual.ensures.1 in
     let one = method_at c.args.len c.args.pool.now in
-    rw (p.1, p.2) (stops one fault.Memory c.in_err-method.field-0.0 c.loop.methods.items c.args.count c.loop.counter c.loop.rest.now (many one c.args.count c.args.bytes.now) c.loop-test.true c.in_err-method.ensures c.loop.invariant)
+    rw (p.1, p.2) (stops one fault.Memory c.in_err-method.field-0.0 c.loop.methods c.args.count c.loop.counter c.loop.rest.now (many one c.args.count c.args.bytes.now) c.loop-test.true c.in_err-method.ensures c.loop.invariant)
 
 pub loop-preserved : goal.loop-preserved
 loop-preserved c =
     let one = method_at c.args.len c.args.pool.now in
-    rw c.in_ok-push.ensures.items (goes_on one c.loop.methods.items c.args.count c.loop.counter c.loop.rest.now c.in_ok-method.method c.in_ok-method.after.now (many one c.args.count c.args.bytes.now) c.loop-test.true c.in_ok-method.ensures c.loop.invariant)
+    rw c.in_ok-push.ensures.ok (goes_on one c.loop.methods c.args.count c.loop.counter c.loop.rest.now c.in_ok-method.method c.in_ok-method.after.now (many one c.args.count c.args.bytes.now) c.loop-test.true c.in_ok-method.ensures c.loop.invariant)
 
 pub returns : goal.returns
 returns c =
     let one = method_at c.args.len c.args.pool.now in
-    rw c.from_vec.ensures (is_done one c.loop.methods.items c.args.count c.loop.counter c.loop.rest.now (many one c.args.count c.args.bytes.now) c.loop-test.false c.loop.invariant)
+    is_done one c.loop.methods c.args.count c.loop.counter c.loop.rest.now (many one c.args.count c.args.bytes.now) c.loop-test.false c.loop.invariant

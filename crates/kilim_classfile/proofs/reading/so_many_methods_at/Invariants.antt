@@ -5,4 +5,4 @@ use Rattle.kilim_classfile.specs.Reading.{method_at}
 use Rattle.kilim_classfile.proofs.reading.so_many_methods_at.Given as goal
 
 abbrev pub invariant-loop : goal.invariant-loop
-invariant-loop l = with_front l.methods.items (many (method_at l.len l.pool) (l.count - l.counter) l.rest) ≡ many (method_at l.len l.pool) l.count l.bytes
+invariant-loop l = with_front l.methods (many (method_at l.len l.pool) (l.count - l.counter) l.rest) ≡ many (method_at l.len l.pool) l.count l.bytes

@@ -1,3 +1,6 @@
+use Rattle.std.proofs.Common.{◌∙◌, ◌++◌, ap}
+use Rattle.std.proofs.lemmas.List.{take_all}
+use Rattle.std.specs.List.{flat_map}
 use Rattle.kilim_classfile.specs.Text.{member_text}
 use Rattle.kilim_classfile.proofs.Loops.{behind}
 use Rattle.kilim_classfile.proofs.writing.push_each_member.Goals as goal
@@ -6,3 +9,6 @@ pub loop-member-preserved : goal.loop-member-preserved
 loop-member-preserved c =
     behind member_text c.args.into.now.items c.loop-member.into.items c.push_member.new.into.items c.args.members.now c.loop-member.member-index c.member-item.result _
     c.loop-member-test.true c.member-item.is c.loop-member.invariant c.in_ok-push_member.ensures
+
+pub returns : goal.returns
+returns c = c.loop-member.invariant ∙ ap (λ xs. c.args.into.now.items ++ flat_map member_text xs) (take_all c.loop-member.member-index c.args.members.now c.loop-member-test.false)
