@@ -15,7 +15,6 @@ mod names;
 mod operands;
 
 pub use code::{code_attribute, decoded, index_in};
-pub use constants::constant_of;
 pub use descriptors::{field_text, method_text, named_by};
 pub use members::members_named;
 pub use mentions::mentions_of;
