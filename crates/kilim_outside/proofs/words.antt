@@ -2,3 +2,4 @@ pub mod Read
 pub mod Mapped
 pub mod Texts
 mod Ints
+pub mod Loops
