@@ -45,6 +45,11 @@ impl Bytes {
         self.all(&number.to_be_bytes());
     }
 
+    /// A number of eight bytes.
+    pub fn eight(&mut self, number: u64) {
+        self.all(&number.to_be_bytes());
+    }
+
     /// A number of one byte and one of two.
     pub fn tagged(&mut self, tag: u8, number: u16) {
         self.byte(tag);

@@ -1,6 +1,6 @@
 //! The test.
 
-ghost use Rattle.std.specs.Prelude.{◌≡◌, true, IfOk};
+ghost use Rattle.std.specs.Prelude.{◌≡◌, true, false, IfOk};
 ghost use Rattle.kilim_classfile.specs.Text.{ClassFits};
 
 use crate::same::same_files;
@@ -8,6 +8,23 @@ use crate::text::bytes_of;
 use kilim_classfile::{ClassFault, ClassFile, read};
 use kilim_units::NoMemory;
 use std::alloc::Global;
+
+// Whether what was read is the file again.
+fn is_again(file: &ClassFile, found: ClassFile) -> bool
+    ensures { result ≡ true → file.now ≡ found }
+{
+    same_files(file, &found)
+}
+
+// Where the bytes aren't read, the file has no text, unless memory ran out.
+fn without_text(fault: ClassFault) -> Result<bool, NoMemory>
+    ensures { IfOk result (λ b. b ≡ false) }
+{
+    match fault {
+        ClassFault::Memory => Err(NoMemory),
+        _ => Ok(false),
+    }
+}
 
 /// Whether a class file has a text, so that it can be written and is read again: it is written, its bytes are read, and the file that
 /// is read is compared with it. Time is linear in the number of these bytes.
@@ -17,9 +34,10 @@ pub fn fits(alloc: Global, file: &ClassFile) -> Result<bool, NoMemory>
     ensures { IfOk result (λ b. b ≡ true → ClassFits file.now) }
 {
     let bytes = bytes_of(alloc, file)?;
-    match read(alloc, bytes.as_slice()) {
-        Ok(again) => Ok(same_files(file, &again)),
-        Err(ClassFault::Memory) => Err(NoMemory),
-        Err(_) => Ok(false),
+    let again = read(alloc, bytes.as_slice());
+    drop(bytes);
+    match again {
+        Ok(found) => Ok(is_again(file, found)),
+        Err(fault) => without_text(fault),
     }
 }

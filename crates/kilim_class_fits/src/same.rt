@@ -6,31 +6,40 @@ use crate::pools::same_pools;
 use kilim_attribute_parts::{AnnotationPart, Frame, VerificationType};
 use kilim_attributes::{Attribute, Code, CodeAttribute, CodeInfo, ExceptionHandler, Info};
 use kilim_classfile::{ClassFile, MemberInfo};
+use kilim_units::Seq;
 
 // ---- lists of numbers and of parts
 
-fn same_numbers(one: &[u16], other: &[u16]) -> bool
+fn same_numbers(one: &Seq<u16>, other: &Seq<u16>) -> bool
     ensures { result ≡ true → one.now ≡ other.now }
 {
-    one == other
+    let items = one.as_slice();
+    let others = other.as_slice();
+    items == others
 }
 
-fn same_bytes(one: &[u8], other: &[u8]) -> bool
+fn same_bytes(one: &Seq<u8>, other: &Seq<u8>) -> bool
     ensures { result ≡ true → one.now ≡ other.now }
 {
-    one == other
+    let items = one.as_slice();
+    let others = other.as_slice();
+    items == others
 }
 
-fn same_types(one: &[VerificationType], other: &[VerificationType]) -> bool
+fn same_types(one: &Seq<VerificationType>, other: &Seq<VerificationType>) -> bool
     ensures { result ≡ true → one.now ≡ other.now }
 {
-    one == other
+    let items = one.as_slice();
+    let others = other.as_slice();
+    items == others
 }
 
-fn same_parts(one: &[AnnotationPart], other: &[AnnotationPart]) -> bool
+fn same_parts(one: &Seq<AnnotationPart>, other: &Seq<AnnotationPart>) -> bool
     ensures { result ≡ true → one.now ≡ other.now }
 {
-    one == other
+    let items = one.as_slice();
+    let others = other.as_slice();
+    items == others
 }
 
 fn same_handlers(one: &[ExceptionHandler], other: &[ExceptionHandler]) -> bool
@@ -45,22 +54,18 @@ fn same_frame(one: &Frame, other: &Frame) -> bool
     ensures { result ≡ true → one.now ≡ other.now }
 {
     match (one, other) {
-        (Frame::Same(a), Frame::Same(b)) => a == b,
+        (Frame::Same(a), Frame::Same(b)) => *a == *b,
         (Frame::SameLocals1StackItem(a, t), Frame::SameLocals1StackItem(b, u)) => {
-            a == b && t == u
+            *a == *b && *t == *u
         }
-        (Frame::SameLocals1StackItemExtended(a, t), Frame::SameLocals1StackItemExtended(b, u)) => a
-            == b
-            && t == u,
-        (Frame::Chop(a, c), Frame::Chop(b, d)) => a == b && c == d,
-        (Frame::SameExtended(a), Frame::SameExtended(b)) => a == b,
-        (Frame::Append(a, ts), Frame::Append(b, us)) => {
-            a == b && same_types(ts.as_slice(), us.as_slice())
+        (Frame::SameLocals1StackItemExtended(a, t), Frame::SameLocals1StackItemExtended(b, u)) => {
+            *a == *b && *t == *u
         }
+        (Frame::Chop(a, c), Frame::Chop(b, d)) => *a == *b && *c == *d,
+        (Frame::SameExtended(a), Frame::SameExtended(b)) => *a == *b,
+        (Frame::Append(a, ts), Frame::Append(b, us)) => *a == *b && same_types(ts, us),
         (Frame::Full(a, ts, vs), Frame::Full(b, us, ws)) => {
-            a == b
-                && same_types(ts.as_slice(), us.as_slice())
-                && same_types(vs.as_slice(), ws.as_slice())
+            *a == *b && same_types(ts, us) && same_types(vs, ws)
         }
         _ => false,
     }
@@ -91,7 +96,7 @@ fn same_code_info(one: &CodeInfo, other: &CodeInfo) -> bool
         (CodeInfo::StackMapTable(a), CodeInfo::StackMapTable(b)) => {
             same_frames(a.as_slice(), b.as_slice())
         }
-        (CodeInfo::Raw(a), CodeInfo::Raw(b)) => same_bytes(a.as_slice(), b.as_slice()),
+        (CodeInfo::Raw(a), CodeInfo::Raw(b)) => same_bytes(a, b),
         _ => false,
     }
 }
@@ -123,7 +128,7 @@ fn same_code(one: &Code, other: &Code) -> bool
 {
     one.max_stack == other.max_stack
         && one.max_locals == other.max_locals
-        && same_bytes(one.code.as_slice(), other.code.as_slice())
+        && same_bytes(&one.code, &other.code)
         && same_handlers(
             one.exception_table.as_slice(),
             other.exception_table.as_slice(),
@@ -137,20 +142,20 @@ fn same_info(one: &Info, other: &Info) -> bool
     ensures { result ≡ true → one.now ≡ other.now }
 {
     match (one, other) {
-        (Info::ConstantValue(a), Info::ConstantValue(b)) => a == b,
+        (Info::ConstantValue(a), Info::ConstantValue(b)) => *a == *b,
         (Info::Code(a), Info::Code(b)) => same_code(a, b),
         (Info::StackMapTable(a), Info::StackMapTable(b)) => {
             same_frames(a.as_slice(), b.as_slice())
         }
-        (Info::Exceptions(a), Info::Exceptions(b)) => same_numbers(a.as_slice(), b.as_slice()),
+        (Info::Exceptions(a), Info::Exceptions(b)) => same_numbers(a, b),
         (Info::RuntimeVisibleAnnotations(a), Info::RuntimeVisibleAnnotations(b))
         | (Info::RuntimeInvisibleAnnotations(a), Info::RuntimeInvisibleAnnotations(b))
         | (Info::RuntimeVisibleParameterAnnotations(a), Info::RuntimeVisibleParameterAnnotations(b))
         | (
             Info::RuntimeInvisibleParameterAnnotations(a),
             Info::RuntimeInvisibleParameterAnnotations(b),
-        ) => same_parts(a.as_slice(), b.as_slice()),
-        (Info::Raw(a), Info::Raw(b)) => same_bytes(a.as_slice(), b.as_slice()),
+        ) => same_parts(a, b),
+        (Info::Raw(a), Info::Raw(b)) => same_bytes(a, b),
         _ => false,
     }
 }
@@ -216,7 +221,7 @@ pub fn same_files(one: &ClassFile, other: &ClassFile) -> bool
         && one.access_flags == other.access_flags
         && one.this_class == other.this_class
         && one.super_class == other.super_class
-        && same_numbers(one.interfaces.as_slice(), other.interfaces.as_slice())
+        && same_numbers(&one.interfaces, &other.interfaces)
         && same_members(one.fields.as_slice(), other.fields.as_slice())
         && same_members(one.methods.as_slice(), other.methods.as_slice())
         && same_attributes(one.attributes.as_slice(), other.attributes.as_slice())

@@ -6,7 +6,7 @@ use kilim_attribute_parts::{Frame, VerificationType};
 use kilim_attributes::{Attribute, Code, CodeAttribute, CodeInfo, ExceptionHandler, Info};
 use kilim_classfile::{ClassFile, MemberInfo};
 use kilim_constant_pool::{Entry, Pool};
-use kilim_units::NoMemory;
+use kilim_units::{NoMemory, Seq};
 use std::alloc::Global;
 
 // ---- the pool
@@ -36,8 +36,8 @@ fn push_entry(into: &mut Bytes, entry: &Entry) {
         Entry::Utf8(units) => into.text(units),
         Entry::Integer(number) => into.four(number.cast_unsigned()),
         Entry::Float(bits) => into.four(*bits),
-        Entry::Long(number) => into.all(&number.cast_unsigned().to_be_bytes()),
-        Entry::Double(bits) => into.all(&bits.to_be_bytes()),
+        Entry::Long(number) => into.eight(number.cast_unsigned()),
+        Entry::Double(bits) => into.eight(*bits),
         Entry::Class(index) | Entry::String(index) | Entry::MethodType(index) => into.pair(*index),
         Entry::Fieldref(first, second)
         | Entry::Methodref(first, second)
@@ -60,17 +60,26 @@ fn push_pool(into: &mut Bytes, pool: &Pool) {
 
 // ---- frames
 
-fn push_type(into: &mut Bytes, item: VerificationType) {
+// The tag of a type, and the index or the place behind it.
+fn type_parts(item: VerificationType) -> (u8, Option<u16>) {
     match item {
-        VerificationType::Top => into.byte(0),
-        VerificationType::Integer => into.byte(1),
-        VerificationType::Float => into.byte(2),
-        VerificationType::Double => into.byte(3),
-        VerificationType::Long => into.byte(4),
-        VerificationType::Null => into.byte(5),
-        VerificationType::UninitializedThis => into.byte(6),
-        VerificationType::Object(class) => into.tagged(7, class),
-        VerificationType::Uninitialized(place) => into.tagged(8, place),
+        VerificationType::Top => (0, None),
+        VerificationType::Integer => (1, None),
+        VerificationType::Float => (2, None),
+        VerificationType::Double => (3, None),
+        VerificationType::Long => (4, None),
+        VerificationType::Null => (5, None),
+        VerificationType::UninitializedThis => (6, None),
+        VerificationType::Object(class) => (7, Some(class)),
+        VerificationType::Uninitialized(place) => (8, Some(place)),
+    }
+}
+
+fn push_type(into: &mut Bytes, item: VerificationType) {
+    let (tag, behind) = type_parts(item);
+    into.byte(tag);
+    if let Some(number) = behind {
+        into.pair(number);
     }
 }
 
@@ -78,6 +87,19 @@ fn push_types(into: &mut Bytes, types: &[VerificationType]) {
     for item in types {
         push_type(into, *item);
     }
+}
+
+// Further locals, whose number is in the tag.
+fn push_append(into: &mut Bytes, delta: u16, locals: &Seq<VerificationType>) {
+    let more = (locals.len() % 256) as u8;
+    into.tagged(251_u8.wrapping_add(more), delta);
+    push_types(into, locals.as_slice());
+}
+
+// Types behind their number.
+fn push_counted(into: &mut Bytes, types: &Seq<VerificationType>) {
+    into.count(types.len());
+    push_types(into, types.as_slice());
 }
 
 fn push_frame(into: &mut Bytes, frame: &Frame) {
@@ -93,17 +115,11 @@ fn push_frame(into: &mut Bytes, frame: &Frame) {
         }
         Frame::Chop(absent, delta) => into.tagged(251_u8.wrapping_sub(*absent), *delta),
         Frame::SameExtended(delta) => into.tagged(251, *delta),
-        Frame::Append(delta, locals) => {
-            let more = (locals.len() % 256) as u8;
-            into.tagged(251_u8.wrapping_add(more), *delta);
-            push_types(into, locals.as_slice());
-        }
+        Frame::Append(delta, locals) => push_append(into, *delta, locals),
         Frame::Full(delta, locals, stack) => {
             into.tagged(255, *delta);
-            into.count(locals.len());
-            push_types(into, locals.as_slice());
-            into.count(stack.len());
-            push_types(into, stack.as_slice());
+            push_counted(into, locals);
+            push_counted(into, stack);
         }
     }
 }
@@ -190,17 +206,26 @@ fn push_members(alloc: Global, into: &mut Bytes, members: &[MemberInfo]) {
     }
 }
 
+// What stands before the file's lists.
+fn push_head(into: &mut Bytes, file: &ClassFile) {
+    into.four(0xCAFE_BABE);
+    into.two(file.minor_version, file.major_version);
+    push_pool(into, &file.constant_pool);
+    into.pair(file.access_flags);
+    into.two(file.this_class, file.super_class);
+}
+
+fn push_lists(alloc: Global, into: &mut Bytes, file: &ClassFile) {
+    push_indices(into, file.interfaces.as_slice());
+    push_members(alloc, into, file.fields.as_slice());
+    push_members(alloc, into, file.methods.as_slice());
+    push_attributes(alloc, into, file.attributes.as_slice());
+}
+
 /// The bytes.
 pub fn bytes_of(alloc: Global, file: &ClassFile) -> Result<Vec<u8>, NoMemory> {
     let mut into = Bytes::new(alloc);
-    into.four(0xCAFE_BABE);
-    into.two(file.minor_version, file.major_version);
-    push_pool(&mut into, &file.constant_pool);
-    into.pair(file.access_flags);
-    into.two(file.this_class, file.super_class);
-    push_indices(&mut into, file.interfaces.as_slice());
-    push_members(alloc, &mut into, file.fields.as_slice());
-    push_members(alloc, &mut into, file.methods.as_slice());
-    push_attributes(alloc, &mut into, file.attributes.as_slice());
+    push_head(&mut into, file);
+    push_lists(alloc, &mut into, file);
     into.whole()
 }

@@ -1,9 +1,10 @@
 -- Matches of a switch.
-use Rattle.std.proofs.Common.{◌≡◌, ℕ, zero, suc, ◌+◌, ℤ, List, [], ◌∷◌, ◌++◌, ◌<◌, length, drop, get_or, slice_get, Option, Some, None, sym, ap, subst, ◌∙◌, append_assoc, arith}
+use Rattle.std.proofs.Common.{◌≡◌, ℕ, zero, suc, ◌+◌, ℤ, List, [], ◌∷◌, ◌++◌, ◌<◌, length, drop, get_or, slice_get, Option, Some, None, sym, ap, subst, ◌∙◌, append_assoc, arith, ◌≤◌}
 use Rattle.std.specs.Prelude.{FitsSigned}
 use Rattle.std.specs.Int.{w32}
 use Rattle.std.specs.List.{flat_map, AllByRecursion}
 use Rattle.std.proofs.lemmas.Option.{slice_get-get_or}
+use Rattle.std.proofs.lemmas.List.{append-nil, drop_all}
 use Rattle.kilim_bytecode.specs.opcodes.Instr.{IsAbove, PairsFit, TargetFits}
 
 pub drop_next : {A : Type 0} (xs : List A) (n : ℕ) (x : A) → slice_get xs n ≡ Some x → drop n xs ≡ x ∷ drop (n + 1) xs
@@ -29,3 +30,7 @@ text_step f xs i x old new all lt is before more =
     let there : slice_get xs i ≡ Some x = slice_get-get_or xs i x lt ∙ ap Some (sym is) in
     let rest : List ℕ = flat_map f (drop (i + 1) xs) in
     ap (λ (bytes : List ℕ). bytes ++ rest) more ∙ (append_assoc old (f x) rest ∙ (ap (λ (ys : List _). old ++ flat_map f ys) (sym (drop_next xs i x there)) ∙ before))
+
+-- none is left
+pub all_written : {A : Type 0} (f : A → List ℕ) (xs : List A) (i : ℕ) (now whole : List ℕ) → length xs ≤ i → now ++ flat_map f (drop i xs) ≡ whole → now ≡ whole
+all_written {A = A} f xs i now whole le so_far = sym (append-nil now) ∙ (ap (λ (ys : List A). now ++ flat_map f ys) (sym (drop_all i xs le)) ∙ so_far)
