@@ -13,8 +13,15 @@ pub fn read_file<R: Files>(rt: &R, name: &str, bytes: &mut Vec<u8>) -> bool {
     }
 }
 
-fn put(bytes: &mut Vec<u8>, at: &str, byte: u8) -> bool {
-    let Ok(at) = at.parse::<usize>() else {
+// Makes a change with a byte: `AT=BYTE` or `more=BYTE`.
+fn change_byte(bytes: &mut Vec<u8>, what: &str, number: usize) -> bool {
+    let Ok(byte) = u8::try_from(number) else {
+        return false;
+    };
+    if what == "more" {
+        return bytes.push(byte).is_ok();
+    }
+    let Ok(at) = what.parse::<usize>() else {
         return false;
     };
     match bytes.get_mut(at) {
@@ -23,17 +30,6 @@ fn put(bytes: &mut Vec<u8>, at: &str, byte: u8) -> bool {
             true
         }
         None => false,
-    }
-}
-
-// Makes a change with a byte: `AT=BYTE` or `more=BYTE`.
-fn change_byte(bytes: &mut Vec<u8>, what: &str, number: usize) -> bool {
-    let Ok(byte) = u8::try_from(number) else {
-        return false;
-    };
-    match what {
-        "more" => bytes.push(byte).is_ok(),
-        at => put(bytes, at, byte),
     }
 }
 

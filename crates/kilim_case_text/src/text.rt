@@ -27,10 +27,8 @@ impl Text {
 
     /// Bytes behind the text.
     pub fn bytes(&mut self, bytes: &[u8]) {
-        match self.bytes.extend_from_slice(bytes) {
-            Ok(()) => {}
-            Err(_) => self.is_broken = true,
-        }
+        let failed = self.bytes.extend_from_slice(bytes).is_err();
+        self.is_broken |= failed;
     }
 
     /// A word behind the text.

@@ -46,19 +46,13 @@ fn push_parts(text: &mut Text, object: &Object) {
     }
 }
 
-// The marks around the values of an object, or of an array.
-fn marks(object: &Object) -> (&'static str, &'static str) {
-    if object.class.dims == 0 {
-        return ("(", ")");
-    }
-    match object.class.base {
-        Base::Int => ("[", "]"),
-        _ => ("{", "}"),
-    }
-}
-
+// An object with the marks around its values, or around those of an array.
 fn push_object(text: &mut Text, object: &Object) {
-    let (first, last) = marks(object);
+    let (first, last) = match (object.class.dims, object.class.base) {
+        (0, _) => ("(", ")"),
+        (_, Base::Int) => ("[", "]"),
+        _ => ("{", "}"),
+    };
     text.word(first);
     push_parts(text, object);
     text.word(last);

@@ -1,22 +1,12 @@
 //! The words of the cases.
 
 use crate::Text;
-use crate::run_tables::drawn::{array_case, numbers_case, tree_case};
+use crate::run_tables::drawn::{row_case, tree_case};
 use crate::run_tables::journals::{journal_case, text_case};
 use crate::run_tables::shared::{circle_case, twice_case};
 use crate::run_tables::trees::list_case;
 use std::alloc::Global;
 use std::rt::Files;
-
-fn push_counted(text: &mut Text, alloc: Global, word: &str, count: u32) {
-    match word {
-        "list" => list_case(text, alloc, count),
-        "array" => array_case(text, alloc, count),
-        "numbers" => numbers_case(text, alloc, count),
-        "twice" => twice_case(text, alloc, count),
-        _ => text.lacks(),
-    }
-}
 
 // The cases of a number.
 fn counted_case(text: &mut Text, alloc: Global, word: &str, words: &[String]) {
@@ -24,9 +14,16 @@ fn counted_case(text: &mut Text, alloc: Global, word: &str, words: &[String]) {
         text.lacks();
         return;
     };
-    match count.parse::<u32>() {
-        Ok(count) => push_counted(text, alloc, word, count),
-        Err(_) => text.lacks(),
+    let Ok(count) = count.parse::<u32>() else {
+        text.lacks();
+        return;
+    };
+    match word {
+        "list" => list_case(text, alloc, count),
+        "array" => row_case(text, alloc, ("{", "}"), "&", count, count),
+        "numbers" => row_case(text, alloc, ("[", "]"), "7", count, 0),
+        "twice" => twice_case(text, alloc, count),
+        _ => text.lacks(),
     }
 }
 

@@ -6,32 +6,35 @@ ghost use Rattle.kilim_case_text.specs.run_tables.Chains.{AreBelow, IsOwn};
 
 use crate::Text;
 use crate::run_tables::arrived::push_tree;
-use crate::run_tables::trees::{node, push_moved};
+use crate::run_tables::trees::{node, push_moved, taken};
 use kilim_classes::machine::Object;
 use kilim_classes::{Base, BoxName, ClassId, FieldId, Ty, Value};
 use kilim_machine_parts::Heap;
-use kilim_tree_move::{MoveFault, Tree, put_in, reserve_tree, take_out};
+use kilim_tree_move::{Tree, put_in};
 use kilim_units::Seq;
 use std::alloc::Global;
 
 const MESSAGE: Base = Base::Class(ClassId(0));
 
-// A value that is no object.
+// A mailbox, a long or an int.
 fn plain(part: &str) -> Option<Value>
     ensures { IfSome result (λ v. value_refs v ≡ []) }
 {
-    if part == "null" {
-        return Some(Value::Null);
-    }
     if let Some(task) = part.strip_prefix("@") {
-        return Some(Value::Box(BoxName {
-            task: task.parse::<u32>().ok()?,
-            number: 0,
-        }));
+        return match task.parse::<u32>() {
+            Ok(task) => Some(Value::Box(BoxName { task, number: 0 })),
+            Err(_) => None,
+        };
     }
-    match part.strip_suffix("L") {
-        Some(long) => Some(Value::Long(long.parse::<i64>().ok()?)),
-        None => Some(Value::Int(part.parse::<i32>().ok()?)),
+    if let Some(long) = part.strip_suffix("L") {
+        return match long.parse::<i64>() {
+            Ok(long) => Some(Value::Long(long)),
+            Err(_) => None,
+        };
+    }
+    match part.parse::<i32>() {
+        Ok(int) => Some(Value::Int(int)),
+        Err(_) => None,
     }
 }
 
@@ -39,10 +42,13 @@ fn plain(part: &str) -> Option<Value>
 fn value(part: &str, pending: &mut Vec<u32>) -> Option<Value>
     ensures { IfSome result (λ v. reverse pending.old.items ≡ value_refs v ++ reverse pending.new.items) }
 {
-    if part == "&" {
-        Some(Value::Ref(pending.pop()?))
-    } else {
-        plain(part)
+    match part {
+        "&" => match pending.pop() {
+            Some(at) => Some(Value::Ref(at)),
+            None => None,
+        },
+        "null" => Some(Value::Null),
+        _ => plain(part),
     }
 }
 
@@ -56,8 +62,12 @@ fn fields(alloc: Global, parts: &str, pending: &mut Vec<u32>) -> Option<Seq<(Fie
     }
     let mut number = 0;
     for part in parts.split(',') {
-        let next = value(part, pending)?;
-        out.push((FieldId(number), next)).ok()?;
+        let Some(next) = value(part, pending) else {
+            return None;
+        };
+        let Ok(()) = out.push((FieldId(number), next)) else {
+            return None;
+        };
         number = number.checked_add(1)?;
     }
     Some(out)
@@ -72,10 +82,45 @@ fn elements(alloc: Global, parts: &str, pending: &mut Vec<u32>) -> Option<Seq<Va
         return Some(out);
     }
     for part in parts.split(',') {
-        let next = value(part, pending)?;
-        out.push(next).ok()?;
+        let Some(next) = value(part, pending) else {
+            return None;
+        };
+        let Ok(()) = out.push(next) else {
+            return None;
+        };
     }
     Some(out)
+}
+
+// An object of these fields.
+fn message(alloc: Global, parts: &str, pending: &mut Vec<u32>) -> Option<Object>
+    ensures { IfSome result (λ o. reverse pending.old.items ≡ refs o ++ reverse pending.new.items) }
+{
+    match fields(alloc, parts, pending) {
+        Some(found) => Some(Object {
+            class: Ty {
+                dims: 0,
+                base: MESSAGE,
+            },
+            fields: found,
+            elements: Seq::new(alloc),
+        }),
+        None => None,
+    }
+}
+
+// An array of these elements.
+fn array(alloc: Global, base: Base, parts: &str, pending: &mut Vec<u32>) -> Option<Object>
+    ensures { IfSome result (λ o. reverse pending.old.items ≡ refs o ++ reverse pending.new.items) }
+{
+    match elements(alloc, parts, pending) {
+        Some(found) => Some(Object {
+            class: Ty { dims: 1, base },
+            fields: Seq::new(alloc),
+            elements: found,
+        }),
+        None => None,
+    }
 }
 
 // What stands between two marks.
@@ -88,24 +133,15 @@ fn object(alloc: Global, word: &str, pending: &mut Vec<u32>) -> Option<Object>
     ensures { IfSome result (λ o. reverse pending.old.items ≡ refs o ++ reverse pending.new.items) }
 {
     if let Some(parts) = between(word, "(", ")") {
-        return Some(Object {
-            class: Ty {
-                dims: 0,
-                base: MESSAGE,
-            },
-            fields: fields(alloc, parts, pending)?,
-            elements: Seq::new(alloc),
-        });
+        return message(alloc, parts, pending);
     }
-    let (base, parts) = match between(word, "[", "]") {
-        Some(parts) => (Base::Int, parts),
-        None => (MESSAGE, between(word, "{", "}")?),
-    };
-    Some(Object {
-        class: Ty { dims: 1, base },
-        fields: Seq::new(alloc),
-        elements: elements(alloc, parts, pending)?,
-    })
+    if let Some(parts) = between(word, "[", "]") {
+        return array(alloc, Base::Int, parts, pending);
+    }
+    match between(word, "{", "}") {
+        Some(parts) => array(alloc, MESSAGE, parts, pending),
+        None => None,
+    }
 }
 
 // Puts the object of a word into a heap, in front of those that are pending; whether that was possible.
@@ -161,17 +197,7 @@ fn push_other(text: &mut Text, alloc: Global, tree: Tree) {
     }
 }
 
-// Takes a tree out of its heap and puts it into another one.
-fn push_carried(text: &mut Text, alloc: Global, heap: &mut Heap, root: u32)
-    requires { IsOwn heap.old root }
-{
-    match reserve_tree(alloc, heap, root) {
-        Err(MoveFault::TooLarge) => text.word("large"),
-        Err(MoveFault::Memory) => text.lacks(),
-        Ok(room) => push_other(text, alloc, take_out(heap, root, room)),
-    }
-}
-
+// Takes the tree of words out of its heap and puts it into another one.
 fn push_drawn(
     text: &mut Text,
     alloc: Global,
@@ -185,9 +211,12 @@ fn push_drawn(
         text.lacks();
         return;
     }
-    match root_of(heap, pending) {
-        Some(root) => push_carried(text, alloc, heap, root),
-        None => text.lacks(),
+    let Some(root) = root_of(heap, pending) else {
+        text.lacks();
+        return;
+    };
+    if let Some(tree) = taken(text, alloc, heap, root) {
+        push_other(text, alloc, tree);
     }
 }
 
@@ -196,18 +225,6 @@ pub fn tree_case(text: &mut Text, alloc: Global, words: &[String]) {
     let mut heap = Heap::new(alloc);
     let mut pending = Vec::new(alloc);
     push_drawn(text, alloc, &mut heap, words, &mut pending);
-}
-
-// So many equal elements behind the mark of an array, with commas between them, and the mark of its end.
-fn push_row(row: &mut Text, first: &str, part: &str, last: &str, count: u32) {
-    row.word(first);
-    for k in 0..count {
-        if k > 0 {
-            row.word(",");
-        }
-        row.word(part);
-    }
-    row.word(last);
 }
 
 // The array of a word leaves its heap and comes back.
@@ -243,30 +260,37 @@ fn draw_empty(alloc: Global, heap: &mut Heap, count: u32, pending: &mut Vec<u32>
 }
 
 // The array of a word, which refers to so many objects.
-fn row_case(text: &mut Text, alloc: Global, row: Option<Vec<u8>>, count: u32) {
-    let Some(row) = row else {
-        text.lacks();
-        return;
-    };
+fn push_referring(text: &mut Text, alloc: Global, row: &[u8], objects: u32) {
     let mut heap = Heap::new(alloc);
     let mut pending = Vec::new(alloc);
-    if draw_empty(alloc, &mut heap, count, &mut pending) {
-        push_array(text, alloc, &mut heap, row.as_slice(), &mut pending);
+    if draw_empty(alloc, &mut heap, objects, &mut pending) {
+        push_array(text, alloc, &mut heap, row, &mut pending);
     } else {
         text.lacks();
     }
 }
 
-/// `array COUNT`: an array of so many objects leaves its heap and comes back.
-pub fn array_case(text: &mut Text, alloc: Global, count: u32) {
+/// An array of so many equal elements, which refer to so many objects, leaves its heap and comes back: `array COUNT` has references between
+/// the marks `{` and `}`, `numbers COUNT` has numbers between `[` and `]`.
+pub fn row_case(
+    text: &mut Text,
+    alloc: Global,
+    marks: (&str, &str),
+    part: &str,
+    count: u32,
+    objects: u32,
+) {
     let mut row = Text::new(alloc);
-    push_row(&mut row, "{", "&", "}", count);
-    row_case(text, alloc, row.whole(), count);
-}
-
-/// `numbers COUNT`: an array of so many numbers leaves its heap and comes back.
-pub fn numbers_case(text: &mut Text, alloc: Global, count: u32) {
-    let mut row = Text::new(alloc);
-    push_row(&mut row, "[", "7", "]", count);
-    row_case(text, alloc, row.whole(), 0);
+    row.word(marks.0);
+    for k in 0..count {
+        if k > 0 {
+            row.word(",");
+        }
+        row.word(part);
+    }
+    row.word(marks.1);
+    match row.whole() {
+        Some(row) => push_referring(text, alloc, row.as_slice(), objects),
+        None => text.lacks(),
+    }
 }

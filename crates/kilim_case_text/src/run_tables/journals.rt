@@ -35,37 +35,29 @@ fn push_read(answer: &mut Text, alloc: Global, bytes: &[u8]) {
     }
 }
 
-fn push_file<R: Files>(answer: &mut Text, rt: &R, alloc: Global, name: &str) {
+/// `journal FILE`: of what a file holds.
+pub fn journal_case<R: Files>(answer: &mut Text, rt: &R, alloc: Global, words: &[String]) {
+    let [name] = words else {
+        answer.lacks();
+        return;
+    };
     let mut bytes = Vec::new(alloc);
-    if read_file(rt, name, &mut bytes) {
+    if read_file(rt, name.as_str(), &mut bytes) {
         push_read(answer, alloc, bytes.as_slice());
     } else {
         answer.lacks();
     }
 }
 
-/// `journal FILE`: of what a file holds.
-pub fn journal_case<R: Files>(answer: &mut Text, rt: &R, alloc: Global, words: &[String]) {
-    match words {
-        [name] => push_file(answer, rt, alloc, name.as_str()),
-        _ => answer.lacks(),
-    }
-}
-
-// The words with blanks between them.
-fn push_joined(joined: &mut Text, words: &[String]) {
+/// `line TEXT`, of one line, and `open TEXT`, of text without a line feed at its end: the words, with blanks between them, and that end.
+pub fn text_case(answer: &mut Text, alloc: Global, words: &[String], end: &str) {
+    let mut joined = Text::new(alloc);
     for (i, word) in words.iter().enumerate() {
         if i > 0 {
             joined.word(" ");
         }
         joined.word(word.as_str());
     }
-}
-
-/// `line TEXT`, of one line, and `open TEXT`, of text without a line feed at its end: the words with that end.
-pub fn text_case(answer: &mut Text, alloc: Global, words: &[String], end: &str) {
-    let mut joined = Text::new(alloc);
-    push_joined(&mut joined, words);
     joined.word(end);
     match joined.whole() {
         Some(bytes) => push_read(answer, alloc, bytes.as_slice()),

@@ -19,8 +19,12 @@ fn pair(alloc: Global, at: u32) -> Option<Object>
     ensures { IfSome result (λ o. refs o ≡ at ∷ at ∷ []) }
 {
     let mut fields = Seq::new(alloc);
-    fields.push((FieldId(0), Value::Ref(at))).ok()?;
-    fields.push((FieldId(1), Value::Ref(at))).ok()?;
+    let Ok(()) = fields.push((FieldId(0), Value::Ref(at))) else {
+        return None;
+    };
+    let Ok(()) = fields.push((FieldId(1), Value::Ref(at))) else {
+        return None;
+    };
     Some(Object {
         class: Ty {
             dims: 0,

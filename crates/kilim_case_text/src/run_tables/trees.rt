@@ -8,7 +8,7 @@ use crate::Text;
 use kilim_classes::machine::Object;
 use kilim_classes::{Base, ClassId, FieldId, Ty, Value};
 use kilim_machine_parts::Heap;
-use kilim_tree_move::{MoveFault, put_in, reserve_tree, take_out};
+use kilim_tree_move::{MoveFault, Tree, put_in, reserve_tree, take_out};
 use kilim_units::Seq;
 use std::alloc::Global;
 
@@ -17,7 +17,9 @@ pub fn node(alloc: Global, next: Value) -> Option<Object>
     ensures { IfSome result (λ o. refs o ≡ value_refs next) }
 {
     let mut fields = Seq::new(alloc);
-    fields.push((FieldId(0), next)).ok()?;
+    let Ok(()) = fields.push((FieldId(0), next)) else {
+        return None;
+    };
     Some(Object {
         class: Ty {
             dims: 0,
@@ -43,20 +45,33 @@ fn chained(alloc: Global, heap: &mut Heap, count: u32) -> Option<Value>
     Some(head)
 }
 
+/// Takes a tree out of its heap, where it isn't too large: else that stands behind the text.
+pub fn taken(text: &mut Text, alloc: Global, heap: &mut Heap, root: u32) -> Option<Tree>
+    requires { IsOwn heap.old root }
+{
+    match reserve_tree(alloc, heap, root) {
+        Ok(room) => Some(take_out(heap, root, room)),
+        Err(MoveFault::TooLarge) => {
+            text.word("large");
+            None
+        }
+        Err(MoveFault::Memory) => {
+            text.lacks();
+            None
+        }
+    }
+}
+
 /// Takes a tree out, and puts it in again.
 pub fn push_moved(text: &mut Text, alloc: Global, heap: &mut Heap, root: u32)
     requires { IsOwn heap.old root }
 {
-    match reserve_tree(alloc, heap, root) {
-        Err(MoveFault::TooLarge) => text.word("large"),
-        Err(MoveFault::Memory) => text.lacks(),
-        Ok(room) => {
-            let tree = take_out(heap, root, room);
-            match put_in(heap, tree) {
-                Ok(_) => text.word("moved"),
-                Err(_) => text.lacks(),
-            }
-        }
+    let Some(tree) = taken(text, alloc, heap, root) else {
+        return;
+    };
+    match put_in(heap, tree) {
+        Ok(_) => text.word("moved"),
+        Err(_) => text.lacks(),
     }
 }
 

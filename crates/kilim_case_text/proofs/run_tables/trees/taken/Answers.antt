@@ -1,5 +1,5 @@
 use Rattle.kilim_tree_move.proofs.Callers.{all_there, can_leave}
-use Rattle.kilim_case_text.proofs.run_tables.drawn.push_carried.Goals as goal
+use Rattle.kilim_case_text.proofs.run_tables.trees.taken.Goals as goal
 
 pub reserve_tree-requires : goal.reserve_tree-requires
 reserve_tree-requires c = all_there _ _ _ c.requires.tree

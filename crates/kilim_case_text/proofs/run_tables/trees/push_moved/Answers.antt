@@ -1,8 +1,0 @@
-use Rattle.kilim_tree_move.proofs.Callers.{all_there, can_leave}
-use Rattle.kilim_case_text.proofs.run_tables.trees.push_moved.Goals as goal
-
-pub reserve_tree-requires : goal.reserve_tree-requires
-reserve_tree-requires c = all_there _ _ _ c.requires.tree
-
-pub take_out-tree-requires : goal.take_out-tree-requires
-take_out-tree-requires c = can_leave _ _ _ _ c.requires.tree c.requires.once c.in-Ok.ensures.ok
