@@ -1,5 +1,6 @@
 -- The class files of the demo of a number have texts.
 use Rattle.std.proofs.Common.{◌≡◌, ℕ, zero, suc, ◌+◌, ◌-◌, ◌%◌, ◌<◌, ◌≤◌, true, List, [], ◌∷◌, ◌++◌, take, drop, length, length-append, refl, sym, ap, ◌∙◌, subst, arith}
+use Rattle.std.specs.Fmt.{digits}
 use Rattle.std.specs.Prelude.{Ok}
 use Rattle.std.specs.List.{AllByRecursion}
 use Rattle.kilim_attribute_parts.specs.Indices.{has_kind, index_at as attribute_parts_index_at}
@@ -31,10 +32,11 @@ use Rattle.kilim_program_maker.specs.Demo.{demo_of, planned_files, stage_files}
 use Rattle.kilim_program_maker.specs.MainClass.{main_file}
 use Rattle.kilim_program_maker.specs.Node.{node_code, node_file, node_pool}
 use Rattle.kilim_program_maker.specs.Plan.{drawn, plan_from, plan_of, seeded, stage_drawn, stages_drawn}
-use Rattle.kilim_program_maker.specs.Stage.{stage_file}
+use Rattle.kilim_program_maker.specs.Stage.{stage_file, stage_name}
 use Rattle.kilim_program_maker.proofs.Bytes.{Small, are_bytes, are_small, small_both, small_by, small_drop, small_take, small_two}
 use Rattle.kilim_program_maker.proofs.Drawn.{drawn_length}
 use Rattle.kilim_program_maker.proofs.Mains as mains
+use Rattle.kilim_program_maker.proofs.Renamed.{NameFits, name_by, renamed}
 use Rattle.kilim_program_maker.proofs.Stages as stages
 
 node_small : are_small (class_text node_file) ≡ true
@@ -71,6 +73,10 @@ at_one P all k low high = let e : 1 + (k - 1) ≡ k = omega (arith, low) in subs
 
 -- ---- stages
 
+names_fit : From 1 15 NameFits
+unfolding digits stage_name
+names_fit = (name_by 1 refl refl, (name_by 2 refl refl, (name_by 3 refl refl, (name_by 4 refl refl, (name_by 5 refl refl, (name_by 6 refl refl, (name_by 7 refl refl, (name_by 8 refl refl, (name_by 9 refl refl, (name_by 10 refl refl, (name_by 11 refl refl, (name_by 12 refl refl, (name_by 13 refl refl, (name_by 14 refl refl, (name_by 15 refl refl, tt)))))))))))))))
+
 -- the front of these bytes, the number of messages, and others
 small_front : (bytes : List ℕ) (at m : ℕ) (others : List ℕ) → Small bytes → Small others → Small (take at bytes ++ (u2 m ++ others))
 small_front bytes at m others small rest = small_both (take at bytes) (u2 m ++ others) (small_take at bytes small) (small_both (u2 m) others (small_two m) rest)
@@ -99,12 +105,6 @@ module _ (law : ClassFilesAreSpelled) where
   stage_by k at op m c lt is =
       fits_by (stages.file_of k op m c) (stages.parts_of (stages.known k op) at op m c) is.parts (small_parts (stages.known k op) at op m c (small_by (stages.known k op) is.bytes) lt) is.read
 
-  abbrev StageFits : ℕ → Type 0
-  StageFits k = (op : Operation) (m c : ℕ) → c < 256 → ClassFits (stages.file_of k op m c)
-
-  stages_fit : From 1 15 StageFits
-  stages_fit = (λ op m c lt. stage_by 1 482 op m c lt (stages.read_1 op m c), (λ op m c lt. stage_by 2 482 op m c lt (stages.read_2 op m c), (λ op m c lt. stage_by 3 482 op m c lt (stages.read_3 op m c), (λ op m c lt. stage_by 4 482 op m c lt (stages.read_4 op m c), (λ op m c lt. stage_by 5 482 op m c lt (stages.read_5 op m c), (λ op m c lt. stage_by 6 482 op m c lt (stages.read_6 op m c), (λ op m c lt. stage_by 7 482 op m c lt (stages.read_7 op m c), (λ op m c lt. stage_by 8 482 op m c lt (stages.read_8 op m c), (λ op m c lt. stage_by 9 482 op m c lt (stages.read_9 op m c), (λ op m c lt. stage_by 10 483 op m c lt (stages.read_10 op m c), (λ op m c lt. stage_by 11 483 op m c lt (stages.read_11 op m c), (λ op m c lt. stage_by 12 483 op m c lt (stages.read_12 op m c), (λ op m c lt. stage_by 13 483 op m c lt (stages.read_13 op m c), (λ op m c lt. stage_by 14 483 op m c lt (stages.read_14 op m c), (λ op m c lt. stage_by 15 483 op m c lt (stages.read_15 op m c), tt)))))))))))))))
-
   main_by : (n at m : ℕ) → mains.IsRead n at m → ClassFits (main_file n m)
   main_by n at m is = fits_by (main_file n m) (mains.parts_of (mains.known n) at m) is.parts (small_main (mains.known n) at m (small_by (mains.known n) is.bytes)) is.read
 
@@ -127,7 +127,8 @@ module _ (law : ClassFilesAreSpelled) where
   all_both (x ∷ xs) ys a b = (a.0, all_both xs ys a.1 b)
 
   stage_fits : (k m : ℕ) (stage : Stage) → 1 ≤ k → k ≤ 15 → stage.number < 256 → ClassFits (stage_file k m stage)
-  stage_fits k m stage low high lt = at_one StageFits stages_fit k low high stage.operation m stage.number lt
+  stage_fits k m stage low high lt =
+      renamed k stage.operation m stage.number (at_one NameFits names_fit k low high) (stage_by 1 482 stage.operation m stage.number lt (stages.read_1 stage.operation m stage.number))
 
   drawn_small : (g : Lcg) → (stage_drawn g).0.number < 256
   unfolding stage_drawn

@@ -4,5 +4,6 @@ pub mod Drawn
 pub mod Added
 pub mod Bytes
 pub mod Stages
+pub mod Renamed
 pub mod Mains
 pub mod Fits

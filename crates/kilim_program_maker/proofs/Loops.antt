@@ -1,6 +1,7 @@
 -- Loops that append something for each element.
-use Rattle.std.proofs.Common.{◌≡◌, ℕ, zero, suc, ◌+◌, ◌<◌, List, [], ◌∷◌, ◌++◌, length, get_or, map, take, drop, drop-cons, refl, sym, ap, ◌∙◌, add-one, append_assoc, arith}
+use Rattle.std.proofs.Common.{◌≡◌, ℕ, zero, suc, ◌+◌, ◌<◌, ◌≤◌, List, [], ◌∷◌, ◌++◌, length, get_or, map, take, drop, drop-cons, refl, sym, ap, ◌∙◌, add-one, append_assoc, arith}
 use Rattle.std.specs.List.{flat_map}
+use Rattle.std.proofs.lemmas.List.{append-nil, drop_all}
 
 -- so many elements, and one more
 next_one : {X A : Type 0} (f : X → A) (xs : List X) (i : ℕ) (d : X) → i < length xs → map f (take i xs) ++ f (get_or xs i d) ∷ [] ≡ map f (take (suc i) xs)
@@ -32,3 +33,17 @@ copied_ahead now next whole xs i x lt is so_far step =
     (ap (λ (t : List ℕ). t ++ rest) step
     ∙ (append_assoc now (x ∷ []) rest
     ∙ (ap (λ (z : ℕ). now ++ (z ∷ rest)) is ∙ (ap (λ (t : List ℕ). now ++ t) (sym (drop-cons xs i 0 lt)) ∙ so_far))))
+
+pub mapped_ahead : {X A : Type 0} (f : X → A) (now next whole : List A) (xs : List X) (i : ℕ) (x d : X) → i < length xs → x ≡ get_or xs i d → now ++ map f (drop i xs) ≡ whole
+    → next ≡ now ++ f x ∷ [] → next ++ map f (drop (i + 1) xs) ≡ whole
+mapped_ahead {X = X} {A = A} f now next whole xs i x d lt is so_far step =
+    let rest : List A = map f (drop (suc i) xs) in
+    rw add-one
+    (ap (λ (t : List A). t ++ rest) step
+    ∙ (append_assoc now (f x ∷ []) rest
+    ∙ (ap (λ (z : X). now ++ (f z ∷ rest)) is ∙ (ap (λ (ys : List X). now ++ map f ys) (sym (drop-cons xs i d lt)) ∙ so_far))))
+
+-- none is left, of what is made of the rest
+pub all_made : {X A : Type 0} (rest : List X → List A) (now whole : List A) (xs : List X) (i : ℕ) → rest [] ≡ [] → length xs ≤ i → now ++ rest (drop i xs) ≡ whole → now ≡ whole
+all_made {X = X} {A = A} rest now whole xs i none le so_far =
+    sym (append-nil now) ∙ (ap (λ (t : List A). now ++ t) (sym none) ∙ (ap (λ (ys : List X). now ++ rest ys) (sym (drop_all i xs le)) ∙ so_far))

@@ -1,11 +1,12 @@
 //! Instructions as bytes (JVMS 6.5).
 
-ghost use Rattle.std.specs.Prelude.{◌≡◌, ◌++◌, OnOk};
+ghost use Rattle.std.specs.Prelude.{◌≡◌, ◌++◌, IfOk, OnOk};
 ghost use Rattle.kilim_program_maker.specs.declared.assembler.Op.TheVariants.{Pair};
 ghost use Rattle.kilim_program_maker.specs.Assembler.{bytes_of, code_of};
 
 use kilim_grammar::push_u16;
 use kilim_units::NoMemory;
+use std::alloc::Global;
 
 pub const ACONST_NULL: u8 = 1;
 
@@ -115,4 +116,13 @@ pub fn push_code(code: &mut Vec<u8>, ops: &[Op]) -> Result<(), NoMemory>
         push_op(code, *op)?;
     }
     Ok(())
+}
+
+/// Instructions as bytes.
+pub fn code_of(alloc: Global, ops: &[Op]) -> Result<Vec<u8>, NoMemory>
+    ensures { IfOk result (λ code. code.items ≡ code_of ops.now) }
+{
+    let mut code = Vec::new(alloc);
+    push_code(&mut code, ops)?;
+    Ok(code)
 }

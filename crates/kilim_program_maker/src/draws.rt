@@ -82,7 +82,6 @@ fn draw_stages(alloc: Global, count: u32, generator: &mut Pcg32) -> Result<Seq<S
     Ok(stages)
 }
 
-#[tactic(auto, using(crate::proofs::Drawn::plan_is, crate::proofs::Drawn::few_drawn))]
 fn draw_plan(alloc: Global, generator: &mut Pcg32) -> Result<Plan, NoMemory>
     ensures plan { IfOk result (λ plan. plan ≡ plan_from generator.old) }
     ensures few { IfOk result (λ plan. length plan.stages ≤ 15) }

@@ -1,7 +1,9 @@
 //! The class files of a number.
 
-ghost use Rattle.std.specs.Prelude.{◌≡◌, ◌++◌, ◌≤◌, length, IfOk, OnOk};
+ghost use Rattle.std.specs.Prelude.{◌≡◌, ◌∷◌, ◌++◌, ◌≤◌, [], length, IfOk, OnOk};
 ghost use Rattle.kilim_program_maker.specs.Demo.{demo_of, planned_files, stage_files};
+ghost use Rattle.kilim_program_maker.specs.MainClass.{main_file};
+ghost use Rattle.kilim_program_maker.specs.Node.{node_file};
 
 use crate::draws::{Plan, Stage, plan_of};
 use crate::main_class::main_file;
@@ -10,6 +12,13 @@ use crate::stage_class::stage_file;
 use kilim_classfile::ClassFile;
 use kilim_units::NoMemory;
 use std::alloc::Global;
+
+fn push_file(files: &mut Vec<ClassFile>, file: ClassFile) -> Result<(), NoMemory>
+    ensures { OnOk result (files.new.items ≡ files.old.items ++ file ∷ []) }
+{
+    files.push(file)?;
+    Ok(())
+}
 
 fn push_stages(
     alloc: Global,
@@ -21,20 +30,43 @@ fn push_stages(
     ensures { OnOk result (files.new.items ≡ files.old.items ++ stage_files 1 messages stages.now) }
 {
     for (index, stage) in stages.iter().enumerate() {
-        files.push(stage_file(alloc, index as u16 + 1, messages, *stage)?)?;
+        let file = stage_file(alloc, index as u16 + 1, messages, *stage)?;
+        push_file(files, file)?;
     }
     Ok(())
+}
+
+fn push_node(alloc: Global, files: &mut Vec<ClassFile>) -> Result<(), NoMemory>
+    ensures { OnOk result (files.new.items ≡ files.old.items ++ node_file ∷ []) }
+{
+    let file = node_file(alloc)?;
+    push_file(files, file)
+}
+
+fn push_main(alloc: Global, files: &mut Vec<ClassFile>, plan: &Plan) -> Result<(), NoMemory>
+    requires { length plan.now.stages ≤ 15 }
+    ensures { OnOk result (files.new.items ≡ files.old.items ++ main_file (length plan.now.stages) plan.now.messages ∷ []) }
+{
+    let stages = plan.stages.as_slice().len() as u8;
+    let file = main_file(alloc, stages, plan.messages)?;
+    push_file(files, file)
+}
+
+fn push_planned(alloc: Global, files: &mut Vec<ClassFile>, plan: &Plan) -> Result<(), NoMemory>
+    requires { length plan.now.stages ≤ 15 }
+    ensures { OnOk result (files.new.items ≡ files.old.items ++ planned_files plan.now) }
+{
+    push_node(alloc, files)?;
+    push_stages(alloc, files, plan.messages, plan.stages.as_slice())?;
+    push_main(alloc, files, plan)
 }
 
 fn planned_files(alloc: Global, plan: &Plan) -> Result<Vec<ClassFile>, NoMemory>
     requires { length plan.now.stages ≤ 15 }
     ensures { IfOk result (λ files. files.items ≡ planned_files plan.now) }
 {
-    let stages = plan.stages.as_slice();
     let mut files = Vec::new(alloc);
-    files.push(node_file(alloc)?)?;
-    push_stages(alloc, &mut files, plan.messages, stages)?;
-    files.push(main_file(alloc, stages.len() as u8, plan.messages)?)?;
+    push_planned(alloc, &mut files, plan)?;
     Ok(files)
 }
 

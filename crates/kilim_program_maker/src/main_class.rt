@@ -1,19 +1,19 @@
 //! The main class.
 
-ghost use Rattle.std.specs.Prelude.{◌≡◌, ◌∷◌, ◌++◌, ◌+◌, ◌≤◌, ◌<◌, [], length, map, IfOk, OnOk};
+ghost use Rattle.std.specs.Prelude.{◌≡◌, ◌∷◌, ◌++◌, ◌+◌, ◌≤◌, ◌<◌, [], map, IfOk, OnOk};
 ghost use Rattle.kilim_program_maker.specs.MainClass.{beginning, box_types, boxes_from, main_code, main_constructor, main_entries, main_file, main_frames, main_pool, printing, putting, putting_place, stage_entries_from, starts_from};
 ghost use Rattle.kilim_attribute_parts.specs.declared.frame.Frame.TheVariants.{Full, Same};
 ghost use Rattle.kilim_attribute_parts.specs.declared.frame.VerificationType.TheVariants.{Integer, Object};
-ghost use Rattle.kilim_program_maker.specs.Parts.{code_attribute, exceptions_attribute, frames_attribute, method, public_flag};
+ghost use Rattle.kilim_program_maker.specs.Parts.{class_file, code_attribute, exceptions_attribute, frames_attribute, method, public_flag};
 
 use crate::assembler::*;
 use crate::parts::{
-    PUBLIC, Sizes, class_file, code_attribute, frames_attribute, method, one, push_exceptions, two,
+    PUBLIC, Sizes, empty_file, frames_inside, push_code_attribute, push_exceptions, push_method,
 };
-use crate::pool::{Constant, add_all, add_text};
-use crate::stage_class::stage_name;
+use crate::pool::{Constant, add_all};
+use crate::stage_class::add_name;
 use kilim_attribute_parts::{Frame, VerificationType};
-use kilim_attributes::CodeAttribute;
+use kilim_attributes::{Attribute, CodeAttribute};
 use kilim_classfile::{ClassFile, MemberInfo};
 use kilim_constant_pool::Pool;
 use kilim_units::{NoMemory, Seq};
@@ -26,71 +26,92 @@ const BACK_TO_NODES: u16 = 65_515;
 
 const BACK_TO_SUM: u16 = 65_520;
 
-#[tactic(auto, unfolding(crate::specs::MainClass::main_entries))]
-fn add_entries(alloc: Global, pool: &mut Pool) -> Result<(), NoMemory>
-    ensures { OnOk result (pool.new ≡ pool.old ++ main_entries) }
-{
-    let constants = [
-        Constant::Text(b"D/Main"),
-        Constant::Class(1),
-        Constant::Text(b"kilim/Task"),
-        Constant::Class(3),
-        Constant::Text(b"<init>"),
-        Constant::Text(b"()V"),
-        Constant::NameAndType(5, 6),
-        Constant::Method(4, 7),
-        Constant::Text(b"Code"),
-        Constant::Text(b"execute"),
-        Constant::Text(b"Exceptions"),
-        Constant::Text(b"kilim/Pausable"),
-        Constant::Class(12),
-        Constant::Text(b"StackMapTable"),
-        Constant::Text(b"kilim/Mailbox"),
-        Constant::Class(15),
-        Constant::Method(16, 7),
-        Constant::Text(b"get"),
-        Constant::Text(b"()Lkilim/Message;"),
-        Constant::NameAndType(18, 19),
-        Constant::Method(16, 20),
-        Constant::Text(b"put"),
-        Constant::Text(b"(Lkilim/Message;)V"),
-        Constant::NameAndType(22, 23),
-        Constant::Method(16, 24),
-        Constant::Text(b"D/Node"),
-        Constant::Class(26),
-        Constant::Text(b"(ILD/Node;)V"),
-        Constant::NameAndType(5, 28),
-        Constant::Method(27, 29),
-        Constant::Text(b"v"),
-        Constant::Text(b"I"),
-        Constant::NameAndType(31, 32),
-        Constant::Field(27, 33),
-        Constant::Text(b"next"),
-        Constant::Text(b"LD/Node;"),
-        Constant::NameAndType(35, 36),
-        Constant::Field(27, 37),
-        Constant::Text(b"start"),
-        Constant::NameAndType(39, 6),
-        Constant::Method(4, 40),
-        Constant::Text(b"kilim/Sys"),
-        Constant::Class(42),
-        Constant::Text(b"print"),
-        Constant::Text(b"(I)V"),
-        Constant::NameAndType(44, 45),
-        Constant::Method(43, 46),
-        Constant::Text(b"(Lkilim/Mailbox;Lkilim/Mailbox;)V"),
-        Constant::NameAndType(5, 48),
-    ];
-    add_all(alloc, pool, &constants)
-}
+// The entries of the main class before those of its stages.
+const ENTRIES: &[Constant] = &[
+    Constant::Text(b"D/Main"),
+    Constant::Class(1),
+    Constant::Text(b"kilim/Task"),
+    Constant::Class(3),
+    Constant::Text(b"<init>"),
+    Constant::Text(b"()V"),
+    Constant::NameAndType(5, 6),
+    Constant::Method(4, 7),
+    Constant::Text(b"Code"),
+    Constant::Text(b"execute"),
+    Constant::Text(b"Exceptions"),
+    Constant::Text(b"kilim/Pausable"),
+    Constant::Class(12),
+    Constant::Text(b"StackMapTable"),
+    Constant::Text(b"kilim/Mailbox"),
+    Constant::Class(15),
+    Constant::Method(16, 7),
+    Constant::Text(b"get"),
+    Constant::Text(b"()Lkilim/Message;"),
+    Constant::NameAndType(18, 19),
+    Constant::Method(16, 20),
+    Constant::Text(b"put"),
+    Constant::Text(b"(Lkilim/Message;)V"),
+    Constant::NameAndType(22, 23),
+    Constant::Method(16, 24),
+    Constant::Text(b"D/Node"),
+    Constant::Class(26),
+    Constant::Text(b"(ILD/Node;)V"),
+    Constant::NameAndType(5, 28),
+    Constant::Method(27, 29),
+    Constant::Text(b"v"),
+    Constant::Text(b"I"),
+    Constant::NameAndType(31, 32),
+    Constant::Field(27, 33),
+    Constant::Text(b"next"),
+    Constant::Text(b"LD/Node;"),
+    Constant::NameAndType(35, 36),
+    Constant::Field(27, 37),
+    Constant::Text(b"start"),
+    Constant::NameAndType(39, 6),
+    Constant::Method(4, 40),
+    Constant::Text(b"kilim/Sys"),
+    Constant::Class(42),
+    Constant::Text(b"print"),
+    Constant::Text(b"(I)V"),
+    Constant::NameAndType(44, 45),
+    Constant::Method(43, 46),
+    Constant::Text(b"(Lkilim/Mailbox;Lkilim/Mailbox;)V"),
+    Constant::NameAndType(5, 48),
+];
+
+// The code of the constructor.
+const CONSTRUCTOR: &[Op] = &[
+    Op::Plain(ALOAD_0),
+    Op::Pair(INVOKESPECIAL, 8),
+    Op::Plain(RETURN),
+];
+
+const BEGINNING: &[Op] = &[
+    Op::Plain(ICONST_0),
+    Op::Plain(ISTORE_1),
+    Op::Plain(ACONST_NULL),
+    Op::Plain(ASTORE_2),
+    Op::Plain(ICONST_0),
+    Op::Plain(ISTORE_3),
+];
+
+// The locals that all frames have before the mailboxes.
+const LOCALS: &[VerificationType] = &[
+    VerificationType::Object(2),
+    VerificationType::Integer,
+    VerificationType::Object(27),
+    VerificationType::Integer,
+];
+
+// The distances of the frames behind the first one.
+const DELTAS: &[u8] = &[10, 23, 11, 1, 17, 18, 9];
 
 // The class of a stage, from 1 on, and its constructor.
 fn add_stage(alloc: Global, pool: &mut Pool, k: u16) -> Result<(), NoMemory>
     requires { k ≤ 15 }
     ensures { OnOk result (pool.new ≡ pool.old ++ stage_entries_from k 1) }
 {
-    let name = stage_name(alloc, k)?;
-    add_text(alloc, pool, name.as_bytes())?;
+    add_name(alloc, pool, k)?;
     let constants = [
         Constant::Class(47 + 3 * k),
         Constant::Method(48 + 3 * k, 49),
@@ -98,46 +119,44 @@ fn add_stage(alloc: Global, pool: &mut Pool, k: u16) -> Result<(), NoMemory>
     add_all(alloc, pool, &constants)
 }
 
-#[tactic(auto, unfolding(crate::specs::MainClass::main_pool))]
-fn main_pool(alloc: Global, stages: u16) -> Result<Pool, NoMemory>
+fn add_stages(alloc: Global, pool: &mut Pool, stages: u16) -> Result<(), NoMemory>
     requires { stages ≤ 15 }
-    ensures { IfOk result (λ pool. pool ≡ main_pool stages) }
+    ensures { OnOk result (pool.new ≡ pool.old ++ stage_entries_from 1 stages) }
 {
-    let mut pool = Pool::new(alloc);
-    add_entries(alloc, &mut pool)?;
     for k in 0..stages {
-        add_stage(alloc, &mut pool, k + 1)?;
+        add_stage(alloc, pool, k + 1)?;
     }
-    Ok(pool)
+    Ok(())
+}
+
+#[tactic(auto, unfolding(crate::specs::MainClass::main_entries))]
+fn add_first_entries(alloc: Global, pool: &mut Pool) -> Result<(), NoMemory>
+    ensures { OnOk result (pool.new ≡ pool.old ++ main_entries) }
+{
+    add_all(alloc, pool, ENTRIES)
+}
+
+#[tactic(auto, unfolding(crate::specs::MainClass::main_pool))]
+fn add_entries(alloc: Global, pool: &mut Pool, stages: u16) -> Result<(), NoMemory>
+    requires { stages ≤ 15 }
+    ensures { OnOk result (pool.new ≡ pool.old ++ main_pool stages) }
+{
+    add_first_entries(alloc, pool)?;
+    add_stages(alloc, pool, stages)
 }
 
 #[tactic(auto, unfolding(crate::specs::MainClass::main_constructor))]
 fn constructor_code(alloc: Global) -> Result<Vec<u8>, NoMemory>
     ensures { IfOk result (λ code. code.items ≡ main_constructor) }
 {
-    let mut code = Vec::new(alloc);
-    let ops = [
-        Op::Plain(ALOAD_0),
-        Op::Pair(INVOKESPECIAL, 8),
-        Op::Plain(RETURN),
-    ];
-    push_code(&mut code, &ops)?;
-    Ok(code)
+    code_of(alloc, CONSTRUCTOR)
 }
 
 #[tactic(auto, unfolding(crate::specs::MainClass::beginning))]
 fn push_beginning(code: &mut Vec<u8>) -> Result<(), NoMemory>
     ensures { OnOk result (code.new.items ≡ code.old.items ++ beginning) }
 {
-    let ops = [
-        Op::Plain(ICONST_0),
-        Op::Plain(ISTORE_1),
-        Op::Plain(ACONST_NULL),
-        Op::Plain(ASTORE_2),
-        Op::Plain(ICONST_0),
-        Op::Plain(ISTORE_3),
-    ];
-    push_code(code, &ops)
+    push_code(code, BEGINNING)
 }
 
 // Makes a mailbox.
@@ -265,16 +284,23 @@ fn push_printing(code: &mut Vec<u8>, stages: u8, messages: u16) -> Result<(), No
 }
 
 #[tactic(auto, unfolding(crate::specs::MainClass::main_code))]
+fn push_main_code(code: &mut Vec<u8>, stages: u8, messages: u16) -> Result<(), NoMemory>
+    requires { stages ≤ 15 }
+    ensures { OnOk result (code.new.items ≡ code.old.items ++ main_code stages messages) }
+{
+    push_beginning(code)?;
+    push_boxes(code, stages + 1)?;
+    push_starts(code, stages)?;
+    push_putting(code, messages)?;
+    push_printing(code, stages, messages)
+}
+
 fn main_code(alloc: Global, stages: u8, messages: u16) -> Result<Vec<u8>, NoMemory>
     requires { stages ≤ 15 }
     ensures { IfOk result (λ code. code.items ≡ main_code stages messages) }
 {
     let mut code = Vec::new(alloc);
-    push_beginning(&mut code)?;
-    push_boxes(&mut code, stages + 1)?;
-    push_starts(&mut code, stages)?;
-    push_putting(&mut code, messages)?;
-    push_printing(&mut code, stages, messages)?;
+    push_main_code(&mut code, stages, messages)?;
     Ok(code)
 }
 
@@ -287,26 +313,29 @@ fn push_box_types(types: &mut Seq<VerificationType>, count: u8) -> Result<(), No
     Ok(())
 }
 
-// The first frame, with all mailboxes.
-fn first_frame(alloc: Global, stages: u8) -> Result<Frame, NoMemory>
+// The locals, with all mailboxes.
+fn locals(alloc: Global, stages: u8) -> Result<Seq<VerificationType>, NoMemory>
     requires { stages ≤ 15 }
-    ensures { IfOk result (λ frame. frame ≡ Full (putting_place stages) (Object 2 ∷ Integer ∷ Object 27 ∷ Integer ∷ box_types (stages + 1)) []) }
+    ensures { IfOk result (λ locals. locals ≡ Object 2 ∷ Integer ∷ Object 27 ∷ Integer ∷ box_types (stages + 1)) }
 {
-    let first = [
-        VerificationType::Object(2),
-        VerificationType::Integer,
-        VerificationType::Object(27),
-        VerificationType::Integer,
-    ];
-    let mut locals = Seq::from_vec(Vec::from_slice(alloc, &first)?);
+    let mut locals = Seq::from_vec(Vec::from_slice(alloc, LOCALS)?);
     push_box_types(&mut locals, stages + 1)?;
+    Ok(locals)
+}
+
+fn push_first(alloc: Global, frames: &mut Seq<Frame>, stages: u8) -> Result<(), NoMemory>
+    requires { stages ≤ 15 }
+    ensures { OnOk result (frames.new ≡ frames.old ++ Full (putting_place stages) (Object 2 ∷ Integer ∷ Object 27 ∷ Integer ∷ box_types (stages + 1)) [] ∷ []) }
+{
     let place = 15 + 23 * u16::from(stages);
-    Ok(Frame::Full(place, locals, Seq::new(alloc)))
+    let locals = locals(alloc, stages)?;
+    frames.push(Frame::Full(place, locals, Seq::new(alloc)))?;
+    Ok(())
 }
 
 // Frames with the same locals, by their distances.
-fn push_same(frames: &mut Vec<Frame>, deltas: &[u8]) -> Result<(), NoMemory>
-    ensures { OnOk result (frames.new.items ≡ frames.old.items ++ map Same deltas.now) }
+fn push_same(frames: &mut Seq<Frame>, deltas: &[u8]) -> Result<(), NoMemory>
+    ensures { OnOk result (frames.new ≡ frames.old ++ map Same deltas.now) }
 {
     for delta in deltas {
         frames.push(Frame::Same(*delta))?;
@@ -315,25 +344,12 @@ fn push_same(frames: &mut Vec<Frame>, deltas: &[u8]) -> Result<(), NoMemory>
 }
 
 #[tactic(auto, unfolding(crate::specs::MainClass::main_frames))]
-fn main_frames(alloc: Global, stages: u8) -> Result<Vec<Frame>, NoMemory>
+fn push_frames(alloc: Global, frames: &mut Seq<Frame>, stages: u8) -> Result<(), NoMemory>
     requires { stages ≤ 15 }
-    ensures { IfOk result (λ frames. frames.items ≡ main_frames stages) }
+    ensures { OnOk result (frames.new ≡ frames.old ++ main_frames stages) }
 {
-    let mut frames = Vec::new(alloc);
-    frames.push(first_frame(alloc, stages)?)?;
-    push_same(&mut frames, &[10, 23, 11, 1, 17, 18, 9])?;
-    Ok(frames)
-}
-
-fn constructor(alloc: Global) -> Result<MemberInfo, NoMemory>
-    ensures { IfOk result (λ m. m ≡ method 0 5 6 (code_attribute 9 1 1 main_constructor [] ∷ [])) }
-{
-    let sizes = Sizes {
-        stack: 1,
-        locals: 1,
-    };
-    let code = code_attribute(alloc, 9, sizes, constructor_code(alloc)?, Seq::new(alloc));
-    Ok(method(0, 5, 6, one(alloc, code)?))
+    push_first(alloc, frames, stages)?;
+    push_same(frames, DELTAS)
 }
 
 // The frames of the code.
@@ -341,36 +357,79 @@ fn inside(alloc: Global, stages: u8) -> Result<Seq<CodeAttribute>, NoMemory>
     requires { stages ≤ 15 }
     ensures { IfOk result (λ inside. inside ≡ frames_attribute 14 (main_frames stages) ∷ []) }
 {
-    let frames = main_frames(alloc, stages)?;
-    one(alloc, frames_attribute(14, frames))
+    let mut frames = Seq::new(alloc);
+    push_frames(alloc, &mut frames, stages)?;
+    frames_inside(alloc, 14, frames)
 }
 
-fn execute(alloc: Global, stages: u8, messages: u16) -> Result<MemberInfo, NoMemory>
+fn push_constructor(alloc: Global, methods: &mut Seq<MemberInfo>) -> Result<(), NoMemory>
+    ensures { OnOk result (methods.new ≡ methods.old ++ method 0 5 6 (code_attribute 9 1 1 main_constructor [] ∷ []) ∷ []) }
+{
+    let sizes = Sizes {
+        stack: 1,
+        locals: 1,
+    };
+    let code = constructor_code(alloc)?;
+    let mut attributes = Seq::new(alloc);
+    push_code_attribute(alloc, &mut attributes, 9, sizes, code, Seq::new(alloc))?;
+    push_method(methods, 0, 5, 6, attributes)
+}
+
+fn push_execute_code(
+    alloc: Global,
+    attributes: &mut Seq<Attribute>,
+    stages: u8,
+    messages: u16,
+) -> Result<(), NoMemory>
     requires { stages ≤ 15 }
-    ensures { IfOk result (λ m. m ≡ method public_flag 10 6 (code_attribute 9 4 (5 + stages) (main_code stages messages) (frames_attribute 14 (main_frames stages) ∷ []) ∷ exceptions_attribute 11 13 ∷ [])) }
+    ensures { OnOk result (attributes.new ≡ attributes.old ++ code_attribute 9 4 (5 + stages) (main_code stages messages) (frames_attribute 14 (main_frames stages) ∷ []) ∷ []) }
 {
     let sizes = Sizes {
         stack: 4,
         locals: 5 + u16::from(stages),
     };
-    let inside = inside(alloc, stages)?;
     let code = main_code(alloc, stages, messages)?;
-    let mut attributes = one(alloc, code_attribute(alloc, 9, sizes, code, inside))?;
+    let inside = inside(alloc, stages)?;
+    push_code_attribute(alloc, attributes, 9, sizes, code, inside)
+}
+
+fn push_execute(
+    alloc: Global,
+    methods: &mut Seq<MemberInfo>,
+    stages: u8,
+    messages: u16,
+) -> Result<(), NoMemory>
+    requires { stages ≤ 15 }
+    ensures { OnOk result (methods.new ≡ methods.old ++ method public_flag 10 6 (code_attribute 9 4 (5 + stages) (main_code stages messages) (frames_attribute 14 (main_frames stages) ∷ []) ∷ exceptions_attribute 11 13 ∷ []) ∷ []) }
+{
+    let mut attributes = Seq::new(alloc);
+    push_execute_code(alloc, &mut attributes, stages, messages)?;
     push_exceptions(alloc, &mut attributes, 11, 13)?;
-    Ok(method(PUBLIC, 10, 6, attributes))
+    push_method(methods, PUBLIC, 10, 6, attributes)
+}
+
+#[tactic(auto, unfolding(crate::specs::MainClass::main_file))]
+fn fill(alloc: Global, file: &mut ClassFile, stages: u8, messages: u16) -> Result<(), NoMemory>
+    requires few { stages ≤ 15 }
+    requires empty { file.old ≡ class_file [] [] [] [] }
+    ensures { OnOk result (file.new ≡ main_file stages messages) }
+{
+    add_entries(alloc, &mut file.constant_pool, u16::from(stages))?;
+    push_constructor(alloc, &mut file.methods)?;
+    push_execute(alloc, &mut file.methods, stages, messages)
 }
 
 /// The class file of the main class, for so many stages and messages.
-#[tactic(auto, unfolding(crate::specs::MainClass::main_file))]
 pub fn main_file(alloc: Global, stages: u8, messages: u16) -> Result<ClassFile, NoMemory>
     requires { stages ≤ 15 }
     ensures { IfOk result (λ file. file ≡ main_file stages messages) }
 {
-    let pool = main_pool(alloc, u16::from(stages))?;
-    let methods = two(
-        alloc,
-        constructor(alloc)?,
-        execute(alloc, stages, messages)?,
-    )?;
-    Ok(class_file(alloc, pool, Seq::new(alloc), Seq::new(alloc), methods))
+    let mut file = empty_file(alloc);
+    match fill(alloc, &mut file, stages, messages) {
+        Ok(()) => Ok(file),
+        Err(refused) => {
+            drop(file);
+            Err(refused)
+        }
+    }
 }

@@ -1,12 +1,11 @@
 //! The class of nodes.
 
 ghost use Rattle.std.specs.Prelude.{◌≡◌, ◌∷◌, ◌++◌, [], IfOk, OnOk};
-ghost use Rattle.kilim_classfile.specs.declared.class_file.MemberInfo.{MemberInfo};
 ghost use Rattle.kilim_program_maker.specs.Node.{free_second, node_code, node_file, node_pool};
-ghost use Rattle.kilim_program_maker.specs.Parts.{code_attribute, field, method};
+ghost use Rattle.kilim_program_maker.specs.Parts.{class_file, code_attribute, field, method};
 
 use crate::assembler::*;
-use crate::parts::{Sizes, class_file, code_attribute, field, method, one, two};
+use crate::parts::{Sizes, empty_file, push_code_attribute, push_field, push_method};
 use crate::pool::{Constant, add_all};
 use kilim_attribute_parts::AnnotationPart;
 use kilim_attributes::{Attribute, Info};
@@ -15,57 +14,57 @@ use kilim_constant_pool::Pool;
 use kilim_units::{NoMemory, Seq};
 use std::alloc::Global;
 
+// The entries of the class of nodes.
+const ENTRIES: &[Constant] = &[
+    Constant::Text(b"D/Node"),
+    Constant::Class(1),
+    Constant::Text(b"java/lang/Object"),
+    Constant::Class(3),
+    Constant::Text(b"kilim/Message"),
+    Constant::Class(5),
+    Constant::Text(b"v"),
+    Constant::Text(b"I"),
+    Constant::Text(b"next"),
+    Constant::Text(b"LD/Node;"),
+    Constant::Text(b"<init>"),
+    Constant::Text(b"(ILD/Node;)V"),
+    Constant::Text(b"()V"),
+    Constant::NameAndType(11, 13),
+    Constant::Method(4, 14),
+    Constant::NameAndType(7, 8),
+    Constant::Field(2, 16),
+    Constant::NameAndType(9, 10),
+    Constant::Field(2, 18),
+    Constant::Text(b"Code"),
+    Constant::Text(b"RuntimeVisibleParameterAnnotations"),
+    Constant::Text(b"Lkilim/Free;"),
+];
+
+// The code of the constructor.
+const CONSTRUCTOR: &[Op] = &[
+    Op::Plain(ALOAD_0),
+    Op::Pair(INVOKESPECIAL, 15),
+    Op::Plain(ALOAD_0),
+    Op::Plain(ILOAD_1),
+    Op::Pair(PUTFIELD, 17),
+    Op::Plain(ALOAD_0),
+    Op::Plain(ALOAD_2),
+    Op::Pair(PUTFIELD, 19),
+    Op::Plain(RETURN),
+];
+
 #[tactic(auto, unfolding(crate::specs::Node::node_pool))]
-fn node_pool(alloc: Global) -> Result<Pool, NoMemory>
-    ensures { IfOk result (λ pool. pool ≡ node_pool) }
+fn add_entries(alloc: Global, pool: &mut Pool) -> Result<(), NoMemory>
+    ensures { OnOk result (pool.new ≡ pool.old ++ node_pool) }
 {
-    let mut pool = Pool::new(alloc);
-    let constants = [
-        Constant::Text(b"D/Node"),
-        Constant::Class(1),
-        Constant::Text(b"java/lang/Object"),
-        Constant::Class(3),
-        Constant::Text(b"kilim/Message"),
-        Constant::Class(5),
-        Constant::Text(b"v"),
-        Constant::Text(b"I"),
-        Constant::Text(b"next"),
-        Constant::Text(b"LD/Node;"),
-        Constant::Text(b"<init>"),
-        Constant::Text(b"(ILD/Node;)V"),
-        Constant::Text(b"()V"),
-        Constant::NameAndType(11, 13),
-        Constant::Method(4, 14),
-        Constant::NameAndType(7, 8),
-        Constant::Field(2, 16),
-        Constant::NameAndType(9, 10),
-        Constant::Field(2, 18),
-        Constant::Text(b"Code"),
-        Constant::Text(b"RuntimeVisibleParameterAnnotations"),
-        Constant::Text(b"Lkilim/Free;"),
-    ];
-    add_all(alloc, &mut pool, &constants)?;
-    Ok(pool)
+    add_all(alloc, pool, ENTRIES)
 }
 
 #[tactic(auto, unfolding(crate::specs::Node::node_code))]
 fn node_code(alloc: Global) -> Result<Vec<u8>, NoMemory>
     ensures { IfOk result (λ code. code.items ≡ node_code) }
 {
-    let mut code = Vec::new(alloc);
-    let ops = [
-        Op::Plain(ALOAD_0),
-        Op::Pair(INVOKESPECIAL, 15),
-        Op::Plain(ALOAD_0),
-        Op::Plain(ILOAD_1),
-        Op::Pair(PUTFIELD, 17),
-        Op::Plain(ALOAD_0),
-        Op::Plain(ALOAD_2),
-        Op::Pair(PUTFIELD, 19),
-        Op::Plain(RETURN),
-    ];
-    push_code(&mut code, &ops)?;
-    Ok(code)
+    code_of(alloc, CONSTRUCTOR)
 }
 
 fn push_free_second(alloc: Global, attributes: &mut Seq<Attribute>) -> Result<(), NoMemory>
@@ -85,43 +84,48 @@ fn push_free_second(alloc: Global, attributes: &mut Seq<Attribute>) -> Result<()
     Ok(())
 }
 
-fn constructor_code(alloc: Global) -> Result<Seq<Attribute>, NoMemory>
-    ensures { IfOk result (λ code. code ≡ code_attribute 20 2 3 node_code [] ∷ []) }
+fn push_attributes(alloc: Global, attributes: &mut Seq<Attribute>) -> Result<(), NoMemory>
+    ensures { OnOk result (attributes.new ≡ attributes.old ++ code_attribute 20 2 3 node_code [] ∷ free_second ∷ []) }
 {
     let sizes = Sizes {
         stack: 2,
         locals: 3,
     };
     let code = node_code(alloc)?;
-    one(
-        alloc,
-        code_attribute(alloc, 20, sizes, code, Seq::new(alloc)),
-    )
+    push_code_attribute(alloc, attributes, 20, sizes, code, Seq::new(alloc))?;
+    push_free_second(alloc, attributes)
 }
 
-fn constructor(alloc: Global) -> Result<MemberInfo, NoMemory>
-    ensures { IfOk result (λ m. m ≡ method 0 11 12 (code_attribute 20 2 3 node_code [] ∷ free_second ∷ [])) }
+fn push_constructor(alloc: Global, methods: &mut Seq<MemberInfo>) -> Result<(), NoMemory>
+    ensures { OnOk result (methods.new ≡ methods.old ++ method 0 11 12 (code_attribute 20 2 3 node_code [] ∷ free_second ∷ []) ∷ []) }
 {
-    let mut attributes = constructor_code(alloc)?;
-    push_free_second(alloc, &mut attributes)?;
-    Ok(method(0, 11, 12, attributes))
+    let mut attributes = Seq::new(alloc);
+    push_attributes(alloc, &mut attributes)?;
+    push_method(methods, 0, 11, 12, attributes)
 }
 
-fn methods(alloc: Global) -> Result<Seq<MemberInfo>, NoMemory>
-    ensures { IfOk result (λ methods. methods ≡ method 0 11 12 (code_attribute 20 2 3 node_code [] ∷ free_second ∷ []) ∷ []) }
+#[tactic(auto, unfolding(crate::specs::Node::node_file))]
+fn fill(alloc: Global, file: &mut ClassFile) -> Result<(), NoMemory>
+    requires { file.old ≡ class_file [] [] [] [] }
+    ensures { OnOk result (file.new ≡ node_file) }
 {
-    let constructor = constructor(alloc)?;
-    one(alloc, constructor)
+    add_entries(alloc, &mut file.constant_pool)?;
+    file.interfaces.push(6)?;
+    push_field(alloc, &mut file.fields, 7, 8)?;
+    push_field(alloc, &mut file.fields, 9, 10)?;
+    push_constructor(alloc, &mut file.methods)
 }
 
 /// The class file of nodes.
-#[tactic(auto, unfolding(crate::specs::Node::node_file))]
 pub fn node_file(alloc: Global) -> Result<ClassFile, NoMemory>
     ensures { IfOk result (λ file. file ≡ node_file) }
 {
-    let pool = node_pool(alloc)?;
-    let interfaces = one(alloc, 6)?;
-    let fields = two(alloc, field(alloc, 7, 8), field(alloc, 9, 10))?;
-    let methods = methods(alloc)?;
-    Ok(class_file(alloc, pool, interfaces, fields, methods))
+    let mut file = empty_file(alloc);
+    match fill(alloc, &mut file) {
+        Ok(()) => Ok(file),
+        Err(refused) => {
+            drop(file);
+            Err(refused)
+        }
+    }
 }

@@ -16,28 +16,41 @@ const SUPER: u16 = 0x20;
 /// ACC_PUBLIC (JVMS 4.6).
 pub const PUBLIC: u16 = 1;
 
-/// A field that is neither private nor static, by the indices of its name and its descriptor.
-pub fn field(alloc: Global, name: u16, descriptor: u16) -> MemberInfo
-    ensures { result ≡ field name descriptor }
+/// Adds a field that is neither private nor static behind the others, by the indices of its name and its descriptor.
+pub fn push_field(
+    alloc: Global,
+    fields: &mut Seq<MemberInfo>,
+    name: u16,
+    descriptor: u16,
+) -> Result<(), NoMemory>
+    ensures { OnOk result (fields.new ≡ fields.old ++ field name descriptor ∷ []) }
 {
-    MemberInfo {
+    fields.push(MemberInfo {
         access_flags: 0,
         name_index: name,
         descriptor_index: descriptor,
         attributes: Seq::new(alloc),
-    }
+    })?;
+    Ok(())
 }
 
-/// A method, by the indices of its name and its descriptor.
-pub fn method(flags: u16, name: u16, descriptor: u16, attributes: Seq<Attribute>) -> MemberInfo
-    ensures { result ≡ method flags name descriptor attributes }
+/// Adds a method behind the others, by the indices of its name and its descriptor.
+pub fn push_method(
+    methods: &mut Seq<MemberInfo>,
+    flags: u16,
+    name: u16,
+    descriptor: u16,
+    attributes: Seq<Attribute>,
+) -> Result<(), NoMemory>
+    ensures { OnOk result (methods.new ≡ methods.old ++ method flags name descriptor attributes ∷ []) }
 {
-    MemberInfo {
+    methods.push(MemberInfo {
         access_flags: flags,
         name_index: name,
         descriptor_index: descriptor,
         attributes,
-    }
+    })?;
+    Ok(())
 }
 
 /// The sizes of a method's stack and locals.
@@ -47,36 +60,45 @@ pub struct Sizes {
     pub locals: u16,
 }
 
-/// A Code attribute without handlers.
-pub fn code_attribute(
+/// Adds a Code attribute without handlers behind the others, with these attributes inside.
+pub fn push_code_attribute(
     alloc: Global,
+    attributes: &mut Seq<Attribute>,
     name: u16,
     sizes: Sizes,
     code: Vec<u8>,
-    attributes: Seq<CodeAttribute>,
-) -> Attribute
-    ensures { result ≡ code_attribute name sizes.stack sizes.locals code.items attributes }
+    inside: Seq<CodeAttribute>,
+) -> Result<(), NoMemory>
+    ensures { OnOk result (attributes.new ≡ attributes.old ++ code_attribute name sizes.stack sizes.locals code.items inside ∷ []) }
 {
-    Attribute {
+    attributes.push(Attribute {
         attribute_name_index: name,
         info: Info::Code(Code {
             max_stack: sizes.stack,
             max_locals: sizes.locals,
             code: Seq::from_vec(code),
             exception_table: Seq::new(alloc),
-            attributes,
+            attributes: inside,
         }),
-    }
+    })?;
+    Ok(())
 }
 
-/// A StackMapTable attribute.
-pub fn frames_attribute(name: u16, frames: Vec<Frame>) -> CodeAttribute
-    ensures { result ≡ frames_attribute name frames.items }
+/// A StackMapTable attribute, alone.
+pub fn frames_inside(
+    alloc: Global,
+    name: u16,
+    frames: Seq<Frame>,
+) -> Result<Seq<CodeAttribute>, NoMemory>
+    ensures { IfOk result (λ inside. inside ≡ frames_attribute name frames ∷ []) }
 {
-    CodeAttribute {
-        attribute_name_index: name,
-        info: CodeInfo::StackMapTable(Seq::from_vec(frames)),
-    }
+    one(
+        alloc,
+        CodeAttribute {
+            attribute_name_index: name,
+            info: CodeInfo::StackMapTable(frames),
+        },
+    )
 }
 
 /// An Exceptions attribute with one class, behind other attributes.
@@ -96,26 +118,20 @@ pub fn push_exceptions(
     Ok(())
 }
 
-/// A class file, with its own class at the index 2 and the superclass at 4.
-pub fn class_file(
-    alloc: Global,
-    pool: Pool,
-    interfaces: Seq<u16>,
-    fields: Seq<MemberInfo>,
-    methods: Seq<MemberInfo>,
-) -> ClassFile
-    ensures { result ≡ class_file pool interfaces fields methods }
+/// A class file without entries and members, which names its own class by the index 2 and the superclass by 4.
+pub fn empty_file(alloc: Global) -> ClassFile
+    ensures { result ≡ class_file [] [] [] [] }
 {
     ClassFile {
         minor_version: 0,
         major_version: 52,
-        constant_pool: pool,
+        constant_pool: Pool::new(alloc),
         access_flags: SUPER,
         this_class: 2,
         super_class: 4,
-        interfaces,
-        fields,
-        methods,
+        interfaces: Seq::new(alloc),
+        fields: Seq::new(alloc),
+        methods: Seq::new(alloc),
         attributes: Seq::new(alloc),
     }
 }
@@ -126,15 +142,5 @@ pub fn one<T: Drop>(alloc: Global, first: T) -> Result<Seq<T>, NoMemory>
 {
     let mut items = Seq::new(alloc);
     items.push(first)?;
-    Ok(items)
-}
-
-/// A list of two.
-pub fn two<T: Drop>(alloc: Global, first: T, second: T) -> Result<Seq<T>, NoMemory>
-    ensures { IfOk result (λ xs. xs ≡ first ∷ second ∷ []) }
-{
-    let mut items = Seq::new(alloc);
-    items.push(first)?;
-    items.push(second)?;
     Ok(items)
 }

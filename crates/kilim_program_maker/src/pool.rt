@@ -19,22 +19,36 @@ pub enum Constant<'a> {
     NameAndType(u16, u16),
 }
 
+fn push_ascii(units: &mut Vec<u16>, ascii: &[u8]) -> Result<(), NoMemory>
+    ensures { OnOk result (units.new.items ≡ units.old.items ++ ascii.now) }
+{
+    for byte in ascii {
+        units.push(u16::from(*byte))?;
+    }
+    Ok(())
+}
+
 // The units of an ASCII text.
 fn units(alloc: Global, ascii: &[u8]) -> Result<Units, NoMemory>
     ensures { IfOk result (λ text. text ≡ ascii.now) }
 {
     let mut units = Vec::new(alloc);
-    for byte in ascii {
-        units.push(u16::from(*byte))?;
-    }
+    push_ascii(&mut units, ascii)?;
     Ok(Units::from_vec(alloc, units)?)
 }
 
-fn entry_of(alloc: Global, constant: Constant<'_>) -> Result<Entry, NoMemory>
-    ensures { IfOk result (λ entry. entry ≡ entry_of constant.entry) }
+fn text_of(alloc: Global, ascii: &[u8]) -> Result<Entry, NoMemory>
+    ensures { IfOk result (λ entry. entry ≡ Utf8 ascii.now) }
 {
-    match constant {
-        Constant::Text(ascii) => Ok(Entry::Utf8(units(alloc, ascii)?)),
+    let units = units(alloc, ascii)?;
+    Ok(Entry::Utf8(units))
+}
+
+fn entry_of(alloc: Global, constant: &Constant<'_>) -> Result<Entry, NoMemory>
+    ensures { IfOk result (λ entry. entry ≡ entry_of constant.now) }
+{
+    match *constant {
+        Constant::Text(ascii) => text_of(alloc, ascii),
         Constant::Class(name) => Ok(Entry::Class(name)),
         Constant::Field(class, member) => Ok(Entry::Fieldref(class, member)),
         Constant::Method(class, member) => Ok(Entry::Methodref(class, member)),
@@ -60,12 +74,19 @@ fn add(pool: &mut Pool, entry: Entry) -> Result<(), NoMemory>
     }
 }
 
+fn add_constant(alloc: Global, pool: &mut Pool, constant: &Constant<'_>) -> Result<(), NoMemory>
+    ensures { OnOk result (pool.new ≡ pool.old ++ entry_of constant.now ∷ []) }
+{
+    let entry = entry_of(alloc, constant)?;
+    add(pool, entry)
+}
+
 /// Adds entries behind the others, in their order.
 pub fn add_all(alloc: Global, pool: &mut Pool, constants: &[Constant<'_>]) -> Result<(), NoMemory>
     ensures { OnOk result (pool.new ≡ pool.old ++ map entry_of constants.now) }
 {
     for constant in constants {
-        add(pool, entry_of(alloc, *constant)?)?;
+        add_constant(alloc, pool, constant)?;
     }
     Ok(())
 }
@@ -74,6 +95,6 @@ pub fn add_all(alloc: Global, pool: &mut Pool, constants: &[Constant<'_>]) -> Re
 pub fn add_text(alloc: Global, pool: &mut Pool, ascii: &[u8]) -> Result<(), NoMemory>
     ensures { OnOk result (pool.new ≡ pool.old ++ Utf8 ascii.now ∷ []) }
 {
-    let text = units(alloc, ascii)?;
-    add(pool, Entry::Utf8(text))
+    let text = text_of(alloc, ascii)?;
+    add(pool, text)
 }

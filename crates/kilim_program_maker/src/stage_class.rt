@@ -1,7 +1,9 @@
 //! The classes of stages.
 
 ghost use Rattle.std.specs.Prelude.{◌≡◌, ◌∷◌, ◌++◌, ◌+◌, ◌≤◌, ◌<◌, [], length, string_bytes, IfOk, OnOk};
-ghost use Rattle.kilim_program_maker.specs.Parts.{code_attribute, exceptions_attribute, frames_attribute, method, public_flag};
+ghost use Rattle.kilim_attribute_parts.specs.declared.frame.Frame.TheVariants.{Append};
+ghost use Rattle.kilim_constant_pool.specs.declared.entry.Entry.TheVariants.{Utf8};
+ghost use Rattle.kilim_program_maker.specs.Parts.{class_file, code_attribute, exceptions_attribute, frames_attribute, method, public_flag};
 ghost use Rattle.kilim_program_maker.specs.declared.draws.Operation.TheVariants.{Adds, Prepends, Cuts};
 ghost use Rattle.kilim_program_maker.specs.Assembler.{back};
 ghost use Rattle.kilim_program_maker.specs.Stage.{giving, operation_code, stage_code, stage_constructor, stage_entries, stage_file, stage_frames, stage_name, stage_pool, taking};
@@ -9,8 +11,8 @@ ghost use Rattle.kilim_program_maker.specs.Stage.{giving, operation_code, stage_
 use crate::assembler::*;
 use crate::draws::{Operation, Stage};
 use crate::parts::{
-    PUBLIC, Sizes, class_file, code_attribute, field, frames_attribute, method, one,
-    push_exceptions, two,
+    PUBLIC, Sizes, empty_file, frames_inside, one, push_code_attribute, push_exceptions,
+    push_field, push_method,
 };
 use crate::pool::{Constant, add_all, add_text};
 use kilim_attribute_parts::{Frame, VerificationType};
@@ -20,104 +22,132 @@ use kilim_constant_pool::Pool;
 use kilim_units::{NoMemory, Seq};
 use std::alloc::Global;
 
-/// The name of the class of a stage.
+// The entries of a stage behind the name of its class, which has the index 1.
+const ENTRIES: &[Constant] = &[
+    Constant::Class(1),
+    Constant::Text(b"kilim/Task"),
+    Constant::Class(3),
+    Constant::Text(b"in"),
+    Constant::Text(b"Lkilim/Mailbox;"),
+    Constant::Text(b"out"),
+    Constant::Text(b"<init>"),
+    Constant::Text(b"(Lkilim/Mailbox;Lkilim/Mailbox;)V"),
+    Constant::Text(b"()V"),
+    Constant::NameAndType(8, 10),
+    Constant::Method(4, 11),
+    Constant::NameAndType(5, 6),
+    Constant::Field(2, 13),
+    Constant::NameAndType(7, 6),
+    Constant::Field(2, 15),
+    Constant::Text(b"execute"),
+    Constant::Text(b"Code"),
+    Constant::Text(b"Exceptions"),
+    Constant::Text(b"kilim/Pausable"),
+    Constant::Class(20),
+    Constant::Text(b"StackMapTable"),
+    Constant::Text(b"kilim/Mailbox"),
+    Constant::Class(23),
+    Constant::Text(b"get"),
+    Constant::Text(b"()Lkilim/Message;"),
+    Constant::NameAndType(25, 26),
+    Constant::Method(24, 27),
+    Constant::Text(b"put"),
+    Constant::Text(b"(Lkilim/Message;)V"),
+    Constant::NameAndType(29, 30),
+    Constant::Method(24, 31),
+    Constant::Text(b"D/Node"),
+    Constant::Class(33),
+    Constant::Text(b"v"),
+    Constant::Text(b"I"),
+    Constant::NameAndType(35, 36),
+    Constant::Field(34, 37),
+    Constant::Text(b"next"),
+    Constant::Text(b"LD/Node;"),
+    Constant::NameAndType(39, 40),
+    Constant::Field(34, 41),
+    Constant::Text(b"(ILD/Node;)V"),
+    Constant::NameAndType(8, 43),
+    Constant::Method(34, 44),
+];
+
+// The code of the constructor.
+const CONSTRUCTOR: &[Op] = &[
+    Op::Plain(ALOAD_0),
+    Op::Pair(INVOKESPECIAL, 12),
+    Op::Plain(ALOAD_0),
+    Op::Plain(ALOAD_1),
+    Op::Pair(PUTFIELD, 14),
+    Op::Plain(ALOAD_0),
+    Op::Plain(ALOAD_2),
+    Op::Pair(PUTFIELD, 16),
+    Op::Plain(RETURN),
+];
+
+// Cuts the first node off where another one follows.
+const CUTS: &[Op] = &[
+    Op::Plain(ALOAD_2),
+    Op::Pair(GETFIELD, 42),
+    Op::Plain(ASTORE_3),
+    Op::Plain(ALOAD_3),
+    Op::Pair(IFNULL, 10),
+    Op::Plain(ALOAD_2),
+    Op::Plain(ACONST_NULL),
+    Op::Pair(PUTFIELD, 42),
+    Op::Plain(ALOAD_3),
+    Op::Plain(ASTORE_2),
+];
+
+// Takes the next message as a node.
+const NEXT_NODE: &[Op] = &[
+    Op::Plain(ALOAD_0),
+    Op::Pair(GETFIELD, 14),
+    Op::Pair(INVOKEVIRTUAL, 28),
+    Op::Pair(CHECKCAST, 34),
+    Op::Plain(ASTORE_2),
+];
+
+// The name of the class of a stage.
 #[tactic(auto, unfolding(crate::specs::Stage::stage_name))]
-pub fn stage_name(alloc: Global, k: u16) -> Result<String, NoMemory>
+fn stage_name(alloc: Global, k: u16) -> Result<String, NoMemory>
     ensures { IfOk result (λ name. string_bytes name ≡ stage_name k) }
 {
     Ok(format!(in alloc; "D/S{k}")?)
+}
+
+/// Adds the name of the class of a stage behind other entries.
+pub fn add_name(alloc: Global, pool: &mut Pool, k: u16) -> Result<(), NoMemory>
+    ensures { OnOk result (pool.new ≡ pool.old ++ Utf8 (stage_name k) ∷ []) }
+{
+    let name = stage_name(alloc, k)?;
+    add_text(alloc, pool, name.as_bytes())
 }
 
 #[tactic(auto, unfolding(crate::specs::Stage::stage_entries))]
 fn add_entries(alloc: Global, pool: &mut Pool) -> Result<(), NoMemory>
     ensures { OnOk result (pool.new ≡ pool.old ++ stage_entries) }
 {
-    let constants = [
-        Constant::Class(1),
-        Constant::Text(b"kilim/Task"),
-        Constant::Class(3),
-        Constant::Text(b"in"),
-        Constant::Text(b"Lkilim/Mailbox;"),
-        Constant::Text(b"out"),
-        Constant::Text(b"<init>"),
-        Constant::Text(b"(Lkilim/Mailbox;Lkilim/Mailbox;)V"),
-        Constant::Text(b"()V"),
-        Constant::NameAndType(8, 10),
-        Constant::Method(4, 11),
-        Constant::NameAndType(5, 6),
-        Constant::Field(2, 13),
-        Constant::NameAndType(7, 6),
-        Constant::Field(2, 15),
-        Constant::Text(b"execute"),
-        Constant::Text(b"Code"),
-        Constant::Text(b"Exceptions"),
-        Constant::Text(b"kilim/Pausable"),
-        Constant::Class(20),
-        Constant::Text(b"StackMapTable"),
-        Constant::Text(b"kilim/Mailbox"),
-        Constant::Class(23),
-        Constant::Text(b"get"),
-        Constant::Text(b"()Lkilim/Message;"),
-        Constant::NameAndType(25, 26),
-        Constant::Method(24, 27),
-        Constant::Text(b"put"),
-        Constant::Text(b"(Lkilim/Message;)V"),
-        Constant::NameAndType(29, 30),
-        Constant::Method(24, 31),
-        Constant::Text(b"D/Node"),
-        Constant::Class(33),
-        Constant::Text(b"v"),
-        Constant::Text(b"I"),
-        Constant::NameAndType(35, 36),
-        Constant::Field(34, 37),
-        Constant::Text(b"next"),
-        Constant::Text(b"LD/Node;"),
-        Constant::NameAndType(39, 40),
-        Constant::Field(34, 41),
-        Constant::Text(b"(ILD/Node;)V"),
-        Constant::NameAndType(8, 43),
-        Constant::Method(34, 44),
-    ];
-    add_all(alloc, pool, &constants)
+    add_all(alloc, pool, ENTRIES)
 }
 
 #[tactic(auto, unfolding(crate::specs::Stage::stage_pool))]
-fn stage_pool(alloc: Global, k: u16) -> Result<Pool, NoMemory>
-    ensures { IfOk result (λ pool. pool ≡ stage_pool k) }
+fn add_name_and_entries(alloc: Global, pool: &mut Pool, k: u16) -> Result<(), NoMemory>
+    ensures { OnOk result (pool.new ≡ pool.old ++ stage_pool k) }
 {
-    let mut pool = Pool::new(alloc);
-    let name = stage_name(alloc, k)?;
-    add_text(alloc, &mut pool, name.as_bytes())?;
-    add_entries(alloc, &mut pool)?;
-    Ok(pool)
+    add_name(alloc, pool, k)?;
+    add_entries(alloc, pool)
 }
 
 #[tactic(auto, unfolding(crate::specs::Stage::stage_constructor))]
 fn constructor_code(alloc: Global) -> Result<Vec<u8>, NoMemory>
     ensures { IfOk result (λ code. code.items ≡ stage_constructor) }
 {
-    let mut code = Vec::new(alloc);
-    let ops = [
-        Op::Plain(ALOAD_0),
-        Op::Pair(INVOKESPECIAL, 12),
-        Op::Plain(ALOAD_0),
-        Op::Plain(ALOAD_1),
-        Op::Pair(PUTFIELD, 14),
-        Op::Plain(ALOAD_0),
-        Op::Plain(ALOAD_2),
-        Op::Pair(PUTFIELD, 16),
-        Op::Plain(RETURN),
-    ];
-    push_code(&mut code, &ops)?;
-    Ok(code)
+    code_of(alloc, CONSTRUCTOR)
 }
 
 #[tactic(auto, unfolding(crate::specs::Stage::operation_code))]
-fn adds_code(alloc: Global, c: u8) -> Result<Vec<u8>, NoMemory>
-    ensures code { IfOk result (λ code. code.items ≡ operation_code Adds c) }
-    ensures few { IfOk result (λ code. length code.items ≤ 16) }
+fn push_adds(code: &mut Vec<u8>, c: u8) -> Result<(), NoMemory>
+    ensures { OnOk result (code.new.items ≡ code.old.items ++ operation_code Adds c) }
 {
-    let mut code = Vec::new(alloc);
     let node = Op::Plain(ALOAD_2);
     let ops = [
         node,
@@ -127,16 +157,13 @@ fn adds_code(alloc: Global, c: u8) -> Result<Vec<u8>, NoMemory>
         Op::Plain(IADD),
         Op::Pair(PUTFIELD, 38),
     ];
-    push_code(&mut code, &ops)?;
-    Ok(code)
+    push_code(code, &ops)
 }
 
 #[tactic(auto, unfolding(crate::specs::Stage::operation_code))]
-fn prepends_code(alloc: Global, c: u8) -> Result<Vec<u8>, NoMemory>
-    ensures code { IfOk result (λ code. code.items ≡ operation_code Prepends c) }
-    ensures few { IfOk result (λ code. length code.items ≤ 16) }
+fn push_prepends(code: &mut Vec<u8>, c: u8) -> Result<(), NoMemory>
+    ensures { OnOk result (code.new.items ≡ code.old.items ++ operation_code Prepends c) }
 {
-    let mut code = Vec::new(alloc);
     let ops = [
         Op::Pair(NEW, 34),
         Op::Plain(DUP),
@@ -145,42 +172,38 @@ fn prepends_code(alloc: Global, c: u8) -> Result<Vec<u8>, NoMemory>
         Op::Pair(INVOKESPECIAL, 45),
         Op::Plain(ASTORE_2),
     ];
-    push_code(&mut code, &ops)?;
-    Ok(code)
+    push_code(code, &ops)
 }
 
 #[tactic(auto, unfolding(crate::specs::Stage::operation_code))]
-fn cuts_code(alloc: Global, c: u8) -> Result<Vec<u8>, NoMemory>
-    ensures code { IfOk result (λ code. code.items ≡ operation_code Cuts c) }
-    ensures few { IfOk result (λ code. length code.items ≤ 16) }
+fn push_cuts(code: &mut Vec<u8>, c: u8) -> Result<(), NoMemory>
+    ensures { OnOk result (code.new.items ≡ code.old.items ++ operation_code Cuts c) }
 {
     let _c = c;
-    let mut code = Vec::new(alloc);
-    let ops = [
-        Op::Plain(ALOAD_2),
-        Op::Pair(GETFIELD, 42),
-        Op::Plain(ASTORE_3),
-        Op::Plain(ALOAD_3),
-        Op::Pair(IFNULL, 10),
-        Op::Plain(ALOAD_2),
-        Op::Plain(ACONST_NULL),
-        Op::Pair(PUTFIELD, 42),
-        Op::Plain(ALOAD_3),
-        Op::Plain(ASTORE_2),
-    ];
-    push_code(&mut code, &ops)?;
-    Ok(code)
+    push_code(code, CUTS)
 }
 
 // What is done to the node.
-fn operation_code(alloc: Global, stage: Stage) -> Result<Vec<u8>, NoMemory>
-    ensures code { IfOk result (λ code. code.items ≡ operation_code stage.operation stage.number) }
-    ensures few { IfOk result (λ code. length code.items ≤ 16) }
+fn push_operation(code: &mut Vec<u8>, stage: Stage) -> Result<(), NoMemory>
+    ensures { OnOk result (code.new.items ≡ code.old.items ++ operation_code stage.operation stage.number) }
 {
     match stage.operation {
-        Operation::Adds => adds_code(alloc, stage.number),
-        Operation::Prepends => prepends_code(alloc, stage.number),
-        Operation::Cuts => cuts_code(alloc, stage.number),
+        Operation::Adds => push_adds(code, stage.number),
+        Operation::Prepends => push_prepends(code, stage.number),
+        Operation::Cuts => push_cuts(code, stage.number),
+    }
+}
+
+// How many bytes that takes.
+#[tactic(auto, unfolding(crate::specs::Stage::operation_code))]
+fn operation_length(stage: Stage) -> u16
+    ensures long { result ≡ length (operation_code stage.operation stage.number) }
+    ensures few { result ≤ 16 }
+{
+    match stage.operation {
+        Operation::Adds => 11,
+        Operation::Prepends => 11,
+        Operation::Cuts => 16,
     }
 }
 
@@ -196,13 +219,9 @@ fn push_taking(code: &mut Vec<u8>, messages: u16, long: u16) -> Result<(), NoMem
         Op::Plain(ILOAD_1),
         Op::Pair(SIPUSH, messages),
         Op::Pair(IF_ICMPGE, 28 + long),
-        Op::Plain(ALOAD_0),
-        Op::Pair(GETFIELD, 14),
-        Op::Pair(INVOKEVIRTUAL, 28),
-        Op::Pair(CHECKCAST, 34),
-        Op::Plain(ASTORE_2),
     ];
-    push_code(code, &ops)
+    push_code(code, &ops)?;
+    push_code(code, NEXT_NODE)
 }
 
 // A distance of so many bytes back.
@@ -233,41 +252,45 @@ fn push_giving(code: &mut Vec<u8>, long: u16) -> Result<(), NoMemory>
 }
 
 #[tactic(auto, unfolding(crate::specs::Stage::stage_code))]
-fn stage_code(alloc: Global, messages: u16, stage: Stage, body: &[u8]) -> Result<Vec<u8>, NoMemory>
-    requires body { body.now ≡ operation_code stage.operation stage.number }
-    requires few { length body.now ≤ 16 }
+fn push_stage_code(code: &mut Vec<u8>, messages: u16, stage: Stage) -> Result<(), NoMemory>
+    ensures { OnOk result (code.new.items ≡ code.old.items ++ stage_code messages stage) }
+{
+    let long = operation_length(stage);
+    push_taking(code, messages, long)?;
+    push_operation(code, stage)?;
+    push_giving(code, long)
+}
+
+fn stage_code(alloc: Global, messages: u16, stage: Stage) -> Result<Vec<u8>, NoMemory>
     ensures { IfOk result (λ code. code.items ≡ stage_code messages stage) }
 {
-    let long = body.len() as u16;
     let mut code = Vec::new(alloc);
-    push_taking(&mut code, messages, long)?;
-    code.extend_from_slice(body)?;
-    push_giving(&mut code, long)?;
+    push_stage_code(&mut code, messages, stage)?;
     Ok(code)
 }
 
-#[tactic(auto, unfolding(crate::specs::Stage::stage_frames))]
-fn stage_frames(alloc: Global, long: u16) -> Result<Vec<Frame>, NoMemory>
-    requires { long ≤ 16 }
-    ensures { IfOk result (λ frames. frames.items ≡ stage_frames long) }
+fn push_append(
+    alloc: Global,
+    frames: &mut Seq<Frame>,
+    delta: u16,
+    local: VerificationType,
+) -> Result<(), NoMemory>
+    ensures { OnOk result (frames.new ≡ frames.old ++ Append delta (local ∷ []) ∷ []) }
 {
-    let mut frames = Vec::new(alloc);
-    frames.push(Frame::Append(2, one(alloc, VerificationType::Integer)?))?;
-    let node = one(alloc, VerificationType::Object(34))?;
-    frames.push(Frame::Append(17 + long, node))?;
-    frames.push(Frame::Chop(1, 13))?;
-    Ok(frames)
+    let locals = one(alloc, local)?;
+    frames.push(Frame::Append(delta, locals))?;
+    Ok(())
 }
 
-fn constructor(alloc: Global) -> Result<MemberInfo, NoMemory>
-    ensures { IfOk result (λ m. m ≡ method 0 8 9 (code_attribute 18 2 3 stage_constructor [] ∷ [])) }
+#[tactic(auto, unfolding(crate::specs::Stage::stage_frames))]
+fn push_frames(alloc: Global, frames: &mut Seq<Frame>, long: u16) -> Result<(), NoMemory>
+    requires { long ≤ 16 }
+    ensures { OnOk result (frames.new ≡ frames.old ++ stage_frames long) }
 {
-    let sizes = Sizes {
-        stack: 2,
-        locals: 3,
-    };
-    let code = code_attribute(alloc, 18, sizes, constructor_code(alloc)?, Seq::new(alloc));
-    Ok(method(0, 8, 9, one(alloc, code)?))
+    push_append(alloc, frames, 2, VerificationType::Integer)?;
+    push_append(alloc, frames, 17 + long, VerificationType::Object(34))?;
+    frames.push(Frame::Chop(1, 13))?;
+    Ok(())
 }
 
 // The frames of the code of a stage, whose operation has so many bytes.
@@ -275,47 +298,83 @@ fn inside(alloc: Global, long: u16) -> Result<Seq<CodeAttribute>, NoMemory>
     requires { long ≤ 16 }
     ensures { IfOk result (λ inside. inside ≡ frames_attribute 22 (stage_frames long) ∷ []) }
 {
-    let frames = stage_frames(alloc, long)?;
-    one(alloc, frames_attribute(22, frames))
+    let mut frames = Seq::new(alloc);
+    push_frames(alloc, &mut frames, long)?;
+    frames_inside(alloc, 22, frames)
 }
 
-fn execute_code(alloc: Global, messages: u16, stage: Stage) -> Result<Seq<Attribute>, NoMemory>
-    ensures { IfOk result (λ code. code ≡ code_attribute 18 4 4 (stage_code messages stage) (frames_attribute 22 (stage_frames (length (operation_code stage.operation stage.number))) ∷ []) ∷ []) }
+fn push_constructor(alloc: Global, methods: &mut Seq<MemberInfo>) -> Result<(), NoMemory>
+    ensures { OnOk result (methods.new ≡ methods.old ++ method 0 8 9 (code_attribute 18 2 3 stage_constructor [] ∷ []) ∷ []) }
+{
+    let sizes = Sizes {
+        stack: 2,
+        locals: 3,
+    };
+    let code = constructor_code(alloc)?;
+    let mut attributes = Seq::new(alloc);
+    push_code_attribute(alloc, &mut attributes, 18, sizes, code, Seq::new(alloc))?;
+    push_method(methods, 0, 8, 9, attributes)
+}
+
+fn push_execute_code(
+    alloc: Global,
+    attributes: &mut Seq<Attribute>,
+    messages: u16,
+    stage: Stage,
+) -> Result<(), NoMemory>
+    ensures { OnOk result (attributes.new ≡ attributes.old ++ code_attribute 18 4 4 (stage_code messages stage) (frames_attribute 22 (stage_frames (length (operation_code stage.operation stage.number))) ∷ []) ∷ []) }
 {
     let sizes = Sizes {
         stack: 4,
         locals: 4,
     };
-    let body = operation_code(alloc, stage)?;
-    let inside = inside(alloc, body.len() as u16)?;
-    let code = stage_code(alloc, messages, stage, body.as_slice())?;
-    one(alloc, code_attribute(alloc, 18, sizes, code, inside))
+    let code = stage_code(alloc, messages, stage)?;
+    let inside = inside(alloc, operation_length(stage))?;
+    push_code_attribute(alloc, attributes, 18, sizes, code, inside)
 }
 
-fn execute(alloc: Global, messages: u16, stage: Stage) -> Result<MemberInfo, NoMemory>
-    ensures { IfOk result (λ m. m ≡ method public_flag 17 10 (code_attribute 18 4 4 (stage_code messages stage) (frames_attribute 22 (stage_frames (length (operation_code stage.operation stage.number))) ∷ []) ∷ exceptions_attribute 19 21 ∷ [])) }
+fn push_execute(
+    alloc: Global,
+    methods: &mut Seq<MemberInfo>,
+    messages: u16,
+    stage: Stage,
+) -> Result<(), NoMemory>
+    ensures { OnOk result (methods.new ≡ methods.old ++ method public_flag 17 10 (code_attribute 18 4 4 (stage_code messages stage) (frames_attribute 22 (stage_frames (length (operation_code stage.operation stage.number))) ∷ []) ∷ exceptions_attribute 19 21 ∷ []) ∷ []) }
 {
-    let mut attributes = execute_code(alloc, messages, stage)?;
+    let mut attributes = Seq::new(alloc);
+    push_execute_code(alloc, &mut attributes, messages, stage)?;
     push_exceptions(alloc, &mut attributes, 19, 21)?;
-    Ok(method(PUBLIC, 17, 10, attributes))
+    push_method(methods, PUBLIC, 17, 10, attributes)
 }
 
-fn methods(alloc: Global, messages: u16, stage: Stage) -> Result<Seq<MemberInfo>, NoMemory>
-    ensures { IfOk result (λ methods. methods ≡ method 0 8 9 (code_attribute 18 2 3 stage_constructor [] ∷ [])
-        ∷ method public_flag 17 10 (code_attribute 18 4 4 (stage_code messages stage) (frames_attribute 22 (stage_frames (length (operation_code stage.operation stage.number))) ∷ []) ∷ exceptions_attribute 19 21 ∷ []) ∷ []) }
+#[tactic(auto, unfolding(crate::specs::Stage::stage_file))]
+fn fill(
+    alloc: Global,
+    file: &mut ClassFile,
+    k: u16,
+    messages: u16,
+    stage: Stage,
+) -> Result<(), NoMemory>
+    requires { file.old ≡ class_file [] [] [] [] }
+    ensures { OnOk result (file.new ≡ stage_file k messages stage) }
 {
-    let constructor = constructor(alloc)?;
-    let execute = execute(alloc, messages, stage)?;
-    two(alloc, constructor, execute)
+    add_name_and_entries(alloc, &mut file.constant_pool, k)?;
+    push_field(alloc, &mut file.fields, 5, 6)?;
+    push_field(alloc, &mut file.fields, 7, 6)?;
+    push_constructor(alloc, &mut file.methods)?;
+    push_execute(alloc, &mut file.methods, messages, stage)
 }
 
 /// The class file of a stage, from 1 on, for so many messages.
-#[tactic(auto, unfolding(crate::specs::Stage::stage_file))]
 pub fn stage_file(alloc: Global, k: u16, messages: u16, stage: Stage) -> Result<ClassFile, NoMemory>
     ensures { IfOk result (λ file. file ≡ stage_file k messages stage) }
 {
-    let pool = stage_pool(alloc, k)?;
-    let fields = two(alloc, field(alloc, 5, 6), field(alloc, 7, 6))?;
-    let methods = methods(alloc, messages, stage)?;
-    Ok(class_file(alloc, pool, Seq::new(alloc), fields, methods))
+    let mut file = empty_file(alloc);
+    match fill(alloc, &mut file, k, messages, stage) {
+        Ok(()) => Ok(file),
+        Err(refused) => {
+            drop(file);
+            Err(refused)
+        }
+    }
 }
