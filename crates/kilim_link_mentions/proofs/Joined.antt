@@ -1,7 +1,7 @@
 -- Lists put together in order, by appending each behind the last.
-use Rattle.std.proofs.Common.{◌≡◌, ℕ, ◌+◌, ◌<◌, List, [], ◌∷◌, ◌++◌, length, get_or, map, take, sym, ap, ◌∙◌, append_assoc}
+use Rattle.std.proofs.Common.{◌≡◌, ℕ, ◌+◌, ◌<◌, List, [], ◌∷◌, ◌++◌, length, get_or, map, take, sym, ap, ◌∙◌, append_assoc, ◌≤◌}
 use Rattle.std.specs.List.{flat_map}
-use Rattle.std.proofs.lemmas.List.{take_more, map_more, map_push, flat_map_more}
+use Rattle.std.proofs.lemmas.List.{take_more, map_more, map_push, flat_map_more, take_all}
 use Rattle.std.proofs.lemmas.Grind.{flat_map-append}
 use Rattle.kilim_descriptors.specs.declared.types.FieldText.{FieldText}
 use Rattle.kilim_link_spec.specs.Types.{type_names}
@@ -42,6 +42,20 @@ pushed_twice f g before now next xs i x lt is so_far step =
     let at = get_or xs i x in
     let more = ap (λ ys. flat_map f (flat_map g ys)) (take_more xs i x lt) ∙ (ap (flat_map f) (sym (flat_map_more g [] (take i xs) at)) ∙ flat_map-append f (flat_map g (take i xs)) (g at)) in
     step ∙ (ap (λ ys. ys ++ flat_map f (g x)) so_far ∙ (ap (λ z. (before ++ done) ++ flat_map f (g z)) is ∙ (append_assoc before done (flat_map f (g at)) ∙ ap (λ ys. before ++ ys) (sym more))))
+
+-- the same loops where no element is left
+pub all_pushed : {X A : Type 0} (f : X → List A) (before now : List A) (xs : List X) (i : ℕ) → length xs ≤ i → now ≡ before ++ flat_map f (take i xs) → now ≡ before ++ flat_map f xs
+all_pushed {X = X} f before now xs i le so_far = so_far ∙ ap (λ (ys : List X). before ++ flat_map f ys) (take_all i xs le)
+
+pub all_mapped : {X A : Type 0} (f : X → A) (before now : List A) (xs : List X) (i : ℕ) → length xs ≤ i → now ≡ before ++ map f (take i xs) → now ≡ before ++ map f xs
+all_mapped {X = X} f before now xs i le so_far = so_far ∙ ap (λ (ys : List X). before ++ map f ys) (take_all i xs le)
+
+pub all_mapped_twice : {X Y A : Type 0} (f : Y → A) (g : X → Y) (before now : List A) (xs : List X) (i : ℕ) → length xs ≤ i → now ≡ before ++ map f (map g (take i xs)) → now ≡ before ++ map f (map g xs)
+all_mapped_twice {X = X} f g before now xs i le so_far = so_far ∙ ap (λ (ys : List X). before ++ map f (map g ys)) (take_all i xs le)
+
+pub all_pushed_twice : {X Y A : Type 0} (f : Y → List A) (g : X → List Y) (before now : List A) (xs : List X) (i : ℕ) → length xs ≤ i → now ≡ before ++ flat_map f (flat_map g (take i xs))
+    → now ≡ before ++ flat_map f (flat_map g xs)
+all_pushed_twice {X = X} f g before now xs i le so_far = so_far ∙ ap (λ (ys : List X). before ++ flat_map f (flat_map g ys)) (take_all i xs le)
 
 -- the names in the types of a method: in those of its parameters, and behind them in that of its result
 pub both_names : (before : List (List ℕ)) (xs ys : List FieldText) → before ++ flat_map type_names xs ++ flat_map type_names ys ≡ before ++ flat_map type_names (xs ++ ys)

@@ -11,16 +11,16 @@ use kilim_attributes::{Code, CodeAttribute, CodeInfo, Frame, VerificationType};
 use kilim_constant_pool::Pool;
 use kilim_link_spec::Mention;
 use kilim_link_views::class_text;
-use kilim_units::NoMemory;
+use kilim_units::{NoMemory, Seq};
 use std::alloc::Global;
 
 fn push_slot(
     alloc: Global,
-    into: &mut Vec<Mention>,
+    into: &mut Seq<Mention>,
     pool: &Pool,
     slot: VerificationType,
 ) -> Result<(), NoMemory>
-    ensures { OnOk result (into.new.items ≡ into.old.items ++ mentions_of_slot pool.now slot) }
+    ensures { OnOk result (into.new ≡ into.old ++ mentions_of_slot pool.now slot) }
 {
     match slot {
         VerificationType::Object(class) => {
@@ -34,11 +34,11 @@ fn push_slot(
 
 fn push_slots(
     alloc: Global,
-    into: &mut Vec<Mention>,
+    into: &mut Seq<Mention>,
     pool: &Pool,
     slots: &[VerificationType],
 ) -> Result<(), NoMemory>
-    ensures { OnOk result (into.new.items ≡ into.old.items ++ flat_map (mentions_of_slot pool.now) slots.now) }
+    ensures { OnOk result (into.new ≡ into.old ++ flat_map (mentions_of_slot pool.now) slots.now) }
 {
     for slot in slots {
         push_slot(alloc, into, pool, *slot)?;
@@ -48,11 +48,11 @@ fn push_slots(
 
 fn push_frame(
     alloc: Global,
-    into: &mut Vec<Mention>,
+    into: &mut Seq<Mention>,
     pool: &Pool,
     frame: &Frame,
 ) -> Result<(), NoMemory>
-    ensures { OnOk result (into.new.items ≡ into.old.items ++ flat_map (mentions_of_slot pool.now) (slots_of_frame frame.now)) }
+    ensures { OnOk result (into.new ≡ into.old ++ flat_map (mentions_of_slot pool.now) (slots_of_frame frame.now)) }
 {
     match frame {
         Frame::SameLocals1StackItem(_, item) => push_slot(alloc, into, pool, *item),
@@ -68,11 +68,11 @@ fn push_frame(
 
 fn push_each_frame(
     alloc: Global,
-    into: &mut Vec<Mention>,
+    into: &mut Seq<Mention>,
     pool: &Pool,
     frames: &[Frame],
 ) -> Result<(), NoMemory>
-    ensures { OnOk result (into.new.items ≡ into.old.items ++ flat_map (λ f. flat_map (mentions_of_slot pool.now) (slots_of_frame f)) frames.now) }
+    ensures { OnOk result (into.new ≡ into.old ++ flat_map (λ f. flat_map (mentions_of_slot pool.now) (slots_of_frame f)) frames.now) }
 {
     for frame in frames {
         push_frame(alloc, into, pool, frame)?;
@@ -82,11 +82,11 @@ fn push_each_frame(
 
 fn push_table(
     alloc: Global,
-    into: &mut Vec<Mention>,
+    into: &mut Seq<Mention>,
     pool: &Pool,
     info: &CodeInfo,
 ) -> Result<(), NoMemory>
-    ensures { OnOk result (into.new.items ≡ into.old.items ++ flat_map (λ f. flat_map (mentions_of_slot pool.now) (slots_of_frame f)) (table_in info.now)) }
+    ensures { OnOk result (into.new ≡ into.old ++ flat_map (λ f. flat_map (mentions_of_slot pool.now) (slots_of_frame f)) (table_in info.now)) }
 {
     match info {
         CodeInfo::StackMapTable(frames) => push_each_frame(alloc, into, pool, frames.as_slice()),
@@ -96,11 +96,11 @@ fn push_table(
 
 fn push_tables(
     alloc: Global,
-    into: &mut Vec<Mention>,
+    into: &mut Seq<Mention>,
     pool: &Pool,
     attributes: &[CodeAttribute],
 ) -> Result<(), NoMemory>
-    ensures { OnOk result (into.new.items ≡ into.old.items ++ flat_map (λ f. flat_map (mentions_of_slot pool.now) (slots_of_frame f)) (flat_map (λ a. table_in a.info) attributes.now)) }
+    ensures { OnOk result (into.new ≡ into.old ++ flat_map (λ f. flat_map (mentions_of_slot pool.now) (slots_of_frame f)) (flat_map (λ a. table_in a.info) attributes.now)) }
 {
     for attribute in attributes {
         push_table(alloc, into, pool, &attribute.info)?;
@@ -111,11 +111,11 @@ fn push_tables(
 /// Appends what the frames of code name, of each of its tables, the locals before the stack (JVMS 4.7.4).
 pub fn push_frames(
     alloc: Global,
-    into: &mut Vec<Mention>,
+    into: &mut Seq<Mention>,
     pool: &Pool,
     code: Option<&Code>,
 ) -> Result<(), NoMemory>
-    ensures { OnOk result (into.new.items ≡ into.old.items ++ flat_map (λ f. flat_map (mentions_of_slot pool.now) (slots_of_frame f)) (frames_if (option_copied code.entry))) }
+    ensures { OnOk result (into.new ≡ into.old ++ flat_map (λ f. flat_map (mentions_of_slot pool.now) (slots_of_frame f)) (frames_if (option_copied code.entry))) }
 {
     match code {
         None => Ok(()),

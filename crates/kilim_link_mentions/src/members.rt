@@ -13,15 +13,15 @@ use kilim_link_spec::{Member, Operand};
 use kilim_units::{NoMemory, Seq};
 use std::alloc::Global;
 
-fn push_one(into: &mut Vec<Member>, member: Member) -> Result<(), NoMemory>
-    ensures { OnOk result (into.new.items ≡ into.old.items ++ member ∷ []) }
+fn push_one(into: &mut Seq<Member>, member: Member) -> Result<(), NoMemory>
+    ensures { OnOk result (into.new ≡ into.old ++ member ∷ []) }
 {
     into.push(member)?;
     Ok(())
 }
 
-fn push_member(into: &mut Vec<Member>, operand: Option<Operand>) -> Result<(), NoMemory>
-    ensures { OnOk result (into.new.items ≡ into.old.items ++ members_of_operand operand) }
+fn push_member(into: &mut Seq<Member>, operand: Option<Operand>) -> Result<(), NoMemory>
+    ensures { OnOk result (into.new ≡ into.old ++ members_of_operand operand) }
 {
     match operand {
         Some(Operand::AField(member)) => push_one(into, Member::Field(member)),
@@ -32,11 +32,11 @@ fn push_member(into: &mut Vec<Member>, operand: Option<Operand>) -> Result<(), N
 
 fn push_members(
     alloc: Global,
-    into: &mut Vec<Member>,
+    into: &mut Seq<Member>,
     pool: &Pool,
     instrs: &[(u32, RawInstr)],
 ) -> Result<(), NoMemory>
-    ensures { OnOk result (into.new.items ≡ into.old.items ++ flat_map (λ p. members_of_operand (operand_of pool.now p.1)) instrs.now) }
+    ensures { OnOk result (into.new ≡ into.old ++ flat_map (λ p. members_of_operand (operand_of pool.now p.1)) instrs.now) }
 {
     for (_, instr) in instrs {
         let operand = operand_of(alloc, pool, instr)?;
@@ -47,11 +47,11 @@ fn push_members(
 
 fn push_members_of(
     alloc: Global,
-    into: &mut Vec<Member>,
+    into: &mut Seq<Member>,
     pool: &Pool,
     method: &MemberInfo,
 ) -> Result<(), NoMemory>
-    ensures { OnOk result (into.new.items ≡ into.old.items ++ flat_map (λ p. members_of_operand (operand_of pool.now p.1)) (instrs_of method.now)) }
+    ensures { OnOk result (into.new ≡ into.old ++ flat_map (λ p. members_of_operand (operand_of pool.now p.1)) (instrs_of method.now)) }
 {
     let instrs = instrs_of(alloc, method)?;
     push_members(alloc, into, pool, instrs.as_slice())
@@ -59,11 +59,11 @@ fn push_members_of(
 
 fn push_members_of_each(
     alloc: Global,
-    into: &mut Vec<Member>,
+    into: &mut Seq<Member>,
     pool: &Pool,
     methods: &[MemberInfo],
 ) -> Result<(), NoMemory>
-    ensures { OnOk result (into.new.items ≡ into.old.items ++ flat_map (λ m. flat_map (λ p. members_of_operand (operand_of pool.now p.1)) (instrs_of m)) methods.now) }
+    ensures { OnOk result (into.new ≡ into.old ++ flat_map (λ m. flat_map (λ p. members_of_operand (operand_of pool.now p.1)) (instrs_of m)) methods.now) }
 {
     for method in methods {
         push_members_of(alloc, into, pool, method)?;
@@ -78,12 +78,12 @@ fn push_members_of_each(
 pub fn members_named(alloc: Global, file: &ClassFile) -> Result<Seq<Member>, NoMemory>
     ensures { IfOk result (λ members. members ≡ members_named file.now) }
 {
-    let mut members = Vec::new(alloc);
+    let mut members = Seq::new(alloc);
     push_members_of_each(
         alloc,
         &mut members,
         &file.constant_pool,
         file.methods.as_slice(),
     )?;
-    Ok(Seq::from_vec(members))
+    Ok(members)
 }

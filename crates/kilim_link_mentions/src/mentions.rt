@@ -32,8 +32,8 @@ fn is_anewarray(x: Option<(u8, u16)>) -> bool
 }
 
 // The class of a member.
-fn push_owner(alloc: Global, into: &mut Vec<Mention>, owner: Units) -> Result<(), NoMemory>
-    ensures { OnOk result (into.new.items ≡ into.old.items ++ OfClass (named_by owner) ∷ []) }
+fn push_owner(alloc: Global, into: &mut Seq<Mention>, owner: Units) -> Result<(), NoMemory>
+    ensures { OnOk result (into.new ≡ into.old ++ OfClass (named_by owner) ∷ []) }
 {
     let class = named_by(alloc, owner.as_slice())?;
     into.push(Mention::OfClass(class))?;
@@ -43,11 +43,11 @@ fn push_owner(alloc: Global, into: &mut Vec<Mention>, owner: Units) -> Result<()
 // The class of a field, and its descriptor.
 fn push_access(
     alloc: Global,
-    into: &mut Vec<Mention>,
+    into: &mut Seq<Mention>,
     owner: Units,
     descriptor: Units,
 ) -> Result<(), NoMemory>
-    ensures { OnOk result (into.new.items ≡ into.old.items ++ OfClass (named_by owner) ∷ OfField descriptor ∷ []) }
+    ensures { OnOk result (into.new ≡ into.old ++ OfClass (named_by owner) ∷ OfField descriptor ∷ []) }
 {
     push_owner(alloc, into, owner)?;
     into.push(Mention::OfField(descriptor))?;
@@ -57,11 +57,11 @@ fn push_access(
 // The same of a method.
 fn push_call(
     alloc: Global,
-    into: &mut Vec<Mention>,
+    into: &mut Seq<Mention>,
     owner: Units,
     descriptor: Units,
 ) -> Result<(), NoMemory>
-    ensures { OnOk result (into.new.items ≡ into.old.items ++ OfClass (named_by owner) ∷ OfMethod 0 descriptor ∷ []) }
+    ensures { OnOk result (into.new ≡ into.old ++ OfClass (named_by owner) ∷ OfMethod 0 descriptor ∷ []) }
 {
     push_owner(alloc, into, owner)?;
     into.push(Mention::OfMethod(0, descriptor))?;
@@ -78,8 +78,8 @@ fn type_mention(makes_array: bool, class: Named) -> Mention
     }
 }
 
-fn push_type(into: &mut Vec<Mention>, makes_array: bool, class: Named) -> Result<(), NoMemory>
-    ensures { OnOk result (into.new.items ≡ into.old.items ++ (if makes_array then OfElement class else OfClass class) ∷ []) }
+fn push_type(into: &mut Seq<Mention>, makes_array: bool, class: Named) -> Result<(), NoMemory>
+    ensures { OnOk result (into.new ≡ into.old ++ (if makes_array then OfElement class else OfClass class) ∷ []) }
 {
     into.push(type_mention(makes_array, class))?;
     Ok(())
@@ -87,11 +87,11 @@ fn push_type(into: &mut Vec<Mention>, makes_array: bool, class: Named) -> Result
 
 fn push_operand(
     alloc: Global,
-    into: &mut Vec<Mention>,
+    into: &mut Seq<Mention>,
     makes_array: bool,
     operand: Option<Operand>,
 ) -> Result<(), NoMemory>
-    ensures { OnOk result (into.new.items ≡ into.old.items ++ mentions_of_operand makes_array operand) }
+    ensures { OnOk result (into.new ≡ into.old ++ mentions_of_operand makes_array operand) }
 {
     match operand {
         None | Some(Operand::AConstant(_)) => Ok(()),
@@ -107,11 +107,11 @@ fn push_operand(
 
 fn push_instr(
     alloc: Global,
-    into: &mut Vec<Mention>,
+    into: &mut Seq<Mention>,
     pool: &Pool,
     instr: &RawInstr,
 ) -> Result<(), NoMemory>
-    ensures { OnOk result (into.new.items ≡ into.old.items ++ mentions_of_instr pool.now instr.now) }
+    ensures { OnOk result (into.new ≡ into.old ++ mentions_of_instr pool.now instr.now) }
 {
     let operand = operand_of(alloc, pool, instr)?;
     push_operand(alloc, into, is_anewarray(index_in(instr)), operand)
@@ -119,11 +119,11 @@ fn push_instr(
 
 fn push_code(
     alloc: Global,
-    into: &mut Vec<Mention>,
+    into: &mut Seq<Mention>,
     pool: &Pool,
     instrs: &[(u32, RawInstr)],
 ) -> Result<(), NoMemory>
-    ensures { OnOk result (into.new.items ≡ into.old.items ++ flat_map (λ p. mentions_of_instr pool.now p.1) instrs.now) }
+    ensures { OnOk result (into.new ≡ into.old ++ flat_map (λ p. mentions_of_instr pool.now p.1) instrs.now) }
 {
     for (_, instr) in instrs {
         push_instr(alloc, into, pool, instr)?;
@@ -133,11 +133,11 @@ fn push_code(
 
 fn push_code_of(
     alloc: Global,
-    into: &mut Vec<Mention>,
+    into: &mut Seq<Mention>,
     pool: &Pool,
     method: &MemberInfo,
 ) -> Result<(), NoMemory>
-    ensures { OnOk result (into.new.items ≡ into.old.items ++ flat_map (λ p. mentions_of_instr pool.now p.1) (instrs_of method.now)) }
+    ensures { OnOk result (into.new ≡ into.old ++ flat_map (λ p. mentions_of_instr pool.now p.1) (instrs_of method.now)) }
 {
     let instrs = instrs_of(alloc, method)?;
     push_code(alloc, into, pool, instrs.as_slice())
@@ -157,11 +157,11 @@ fn this_slots(method: &MemberInfo) -> u8
 #[tactic(auto, using(crate::proofs::Joined::three))]
 fn push_method(
     alloc: Global,
-    into: &mut Vec<Mention>,
+    into: &mut Seq<Mention>,
     file: &ClassFile,
     method: &MemberInfo,
 ) -> Result<(), NoMemory>
-    ensures { OnOk result (into.new.items ≡ into.old.items ++ mentions_of_method file.now method.now) }
+    ensures { OnOk result (into.new ≡ into.old ++ mentions_of_method file.now method.now) }
 {
     let descriptor = Units::from_slice(alloc, member_descriptor(file, method))?;
     into.push(Mention::OfMethod(this_slots(method), descriptor))?;
@@ -171,11 +171,11 @@ fn push_method(
 
 fn push_methods(
     alloc: Global,
-    into: &mut Vec<Mention>,
+    into: &mut Seq<Mention>,
     file: &ClassFile,
     methods: &[MemberInfo],
 ) -> Result<(), NoMemory>
-    ensures { OnOk result (into.new.items ≡ into.old.items ++ flat_map (mentions_of_method file.now) methods.now) }
+    ensures { OnOk result (into.new ≡ into.old ++ flat_map (mentions_of_method file.now) methods.now) }
 {
     for method in methods {
         push_method(alloc, into, file, method)?;
@@ -185,11 +185,11 @@ fn push_methods(
 
 fn push_interfaces(
     alloc: Global,
-    into: &mut Vec<Mention>,
+    into: &mut Seq<Mention>,
     pool: &Pool,
     interfaces: &[u16],
 ) -> Result<(), NoMemory>
-    ensures { OnOk result (into.new.items ≡ into.old.items ++ map (λ name. OfClass (AClass name)) (map (class_text pool.now) interfaces.now)) }
+    ensures { OnOk result (into.new ≡ into.old ++ map (λ name. OfClass (AClass name)) (map (class_text pool.now) interfaces.now)) }
 {
     for index in interfaces {
         let name = Units::from_slice(alloc, class_text(pool, *index))?;
@@ -200,11 +200,11 @@ fn push_interfaces(
 
 fn push_fields(
     alloc: Global,
-    into: &mut Vec<Mention>,
+    into: &mut Seq<Mention>,
     file: &ClassFile,
     fields: &[MemberInfo],
 ) -> Result<(), NoMemory>
-    ensures { OnOk result (into.new.items ≡ into.old.items ++ map (λ f. OfField (member_descriptor file.now f)) fields.now) }
+    ensures { OnOk result (into.new ≡ into.old ++ map (λ f. OfField (member_descriptor file.now f)) fields.now) }
 {
     for field in fields {
         let descriptor = Units::from_slice(alloc, member_descriptor(file, field))?;
@@ -214,8 +214,8 @@ fn push_fields(
 }
 
 #[tactic(auto, using(crate::proofs::Joined::four), unfolding(kilim_link_spec::specs::Mentions::mentions_of))]
-fn push_file(alloc: Global, into: &mut Vec<Mention>, file: &ClassFile) -> Result<(), NoMemory>
-    ensures { OnOk result (into.new.items ≡ into.old.items ++ mentions_of file.now) }
+fn push_file(alloc: Global, into: &mut Seq<Mention>, file: &ClassFile) -> Result<(), NoMemory>
+    ensures { OnOk result (into.new ≡ into.old ++ mentions_of file.now) }
 {
     let superclass = Units::from_slice(alloc, super_name(file))?;
     into.push(Mention::OfClass(Named::AClass(superclass)))?;
@@ -230,7 +230,7 @@ fn push_file(alloc: Global, into: &mut Vec<Mention>, file: &ClassFile) -> Result
 pub fn mentions_of(alloc: Global, file: &ClassFile) -> Result<Seq<Mention>, NoMemory>
     ensures { IfOk result (λ mentions. mentions ≡ mentions_of file.now) }
 {
-    let mut mentions = Vec::new(alloc);
+    let mut mentions = Seq::new(alloc);
     push_file(alloc, &mut mentions, file)?;
-    Ok(Seq::from_vec(mentions))
+    Ok(mentions)
 }

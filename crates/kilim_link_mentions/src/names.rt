@@ -12,8 +12,8 @@ use kilim_link_spec::{Mention, Named};
 use kilim_units::{NoMemory, Seq, Units};
 use std::alloc::Global;
 
-fn push_base(into: &mut Vec<Units>, base: &BaseText) -> Result<(), NoMemory>
-    ensures { OnOk result (into.new.items ≡ into.old.items ++ base_names base.now) }
+fn push_base(into: &mut Seq<Units>, base: &BaseText) -> Result<(), NoMemory>
+    ensures { OnOk result (into.new ≡ into.old ++ base_names base.now) }
 {
     match base {
         BaseText::Class(name) => into.push(name.clone()?)?,
@@ -22,8 +22,8 @@ fn push_base(into: &mut Vec<Units>, base: &BaseText) -> Result<(), NoMemory>
     Ok(())
 }
 
-fn push_each(into: &mut Vec<Units>, types: &[FieldText]) -> Result<(), NoMemory>
-    ensures { OnOk result (into.new.items ≡ into.old.items ++ flat_map type_names types.now) }
+fn push_each(into: &mut Seq<Units>, types: &[FieldText]) -> Result<(), NoMemory>
+    ensures { OnOk result (into.new ≡ into.old ++ flat_map type_names types.now) }
 {
     for found in types {
         push_base(into, &found.base)?;
@@ -32,8 +32,8 @@ fn push_each(into: &mut Vec<Units>, types: &[FieldText]) -> Result<(), NoMemory>
 }
 
 // The name of a class that is named as one.
-fn push_plain(into: &mut Vec<Units>, mention: &Mention) -> Result<(), NoMemory>
-    ensures { OnOk result (into.new.items ≡ into.old.items ++ plain_names mention.now) }
+fn push_plain(into: &mut Seq<Units>, mention: &Mention) -> Result<(), NoMemory>
+    ensures { OnOk result (into.new ≡ into.old ++ plain_names mention.now) }
 {
     match mention {
         Mention::OfClass(Named::AClass(name)) => into.push(name.clone()?)?,
@@ -43,8 +43,8 @@ fn push_plain(into: &mut Vec<Units>, mention: &Mention) -> Result<(), NoMemory>
 }
 
 // The names in a type that is named as a class, where it is an array.
-fn push_array(into: &mut Vec<Units>, class: &Named) -> Result<(), NoMemory>
-    ensures { OnOk result (into.new.items ≡ into.old.items ++ flat_map type_names (named_types class.now)) }
+fn push_array(into: &mut Seq<Units>, class: &Named) -> Result<(), NoMemory>
+    ensures { OnOk result (into.new ≡ into.old ++ flat_map type_names (named_types class.now)) }
 {
     match class {
         Named::AnArray(found) => push_base(into, &found.base),
@@ -53,8 +53,8 @@ fn push_array(into: &mut Vec<Units>, class: &Named) -> Result<(), NoMemory>
 }
 
 // The names in an array of such elements, of any dimensions.
-fn push_element(into: &mut Vec<Units>, class: &Named) -> Result<(), NoMemory>
-    ensures { OnOk result (into.new.items ≡ into.old.items ++ flat_map type_names (element_types class.now)) }
+fn push_element(into: &mut Seq<Units>, class: &Named) -> Result<(), NoMemory>
+    ensures { OnOk result (into.new ≡ into.old ++ flat_map type_names (element_types class.now)) }
 {
     match class {
         Named::AClass(name) => into.push(name.clone()?)?,
@@ -64,8 +64,8 @@ fn push_element(into: &mut Vec<Units>, class: &Named) -> Result<(), NoMemory>
     Ok(())
 }
 
-fn push_field(alloc: Global, into: &mut Vec<Units>, descriptor: &Units) -> Result<(), NoMemory>
-    ensures { OnOk result (into.new.items ≡ into.old.items ++ flat_map type_names (types_of_field (field_text descriptor.now))) }
+fn push_field(alloc: Global, into: &mut Seq<Units>, descriptor: &Units) -> Result<(), NoMemory>
+    ensures { OnOk result (into.new ≡ into.old ++ flat_map type_names (types_of_field (field_text descriptor.now))) }
 {
     match field_text(alloc, descriptor)? {
         Some(found) => push_base(into, &found.base),
@@ -73,8 +73,8 @@ fn push_field(alloc: Global, into: &mut Vec<Units>, descriptor: &Units) -> Resul
     }
 }
 
-fn push_result(into: &mut Vec<Units>, found: Option<&FieldText>) -> Result<(), NoMemory>
-    ensures { OnOk result (into.new.items ≡ into.old.items ++ flat_map type_names (result_types (option_copied found.entry))) }
+fn push_result(into: &mut Seq<Units>, found: Option<&FieldText>) -> Result<(), NoMemory>
+    ensures { OnOk result (into.new ≡ into.old ++ flat_map type_names (result_types (option_copied found.entry))) }
 {
     match found {
         Some(found) => push_base(into, &found.base),
@@ -83,15 +83,15 @@ fn push_result(into: &mut Vec<Units>, found: Option<&FieldText>) -> Result<(), N
 }
 
 #[tactic(auto, using(crate::proofs::Joined::both_names))]
-fn push_method_types(into: &mut Vec<Units>, method: &MethodText) -> Result<(), NoMemory>
-    ensures { OnOk result (into.new.items ≡ into.old.items ++ flat_map type_names (method_types method.now)) }
+fn push_method_types(into: &mut Seq<Units>, method: &MethodText) -> Result<(), NoMemory>
+    ensures { OnOk result (into.new ≡ into.old ++ flat_map type_names (method_types method.now)) }
 {
     push_each(into, method.params.as_slice())?;
     push_result(into, method.result.as_ref())
 }
 
-fn push_method(alloc: Global, into: &mut Vec<Units>, descriptor: &Units) -> Result<(), NoMemory>
-    ensures { OnOk result (into.new.items ≡ into.old.items ++ flat_map type_names (types_of_method (method_text descriptor.now))) }
+fn push_method(alloc: Global, into: &mut Seq<Units>, descriptor: &Units) -> Result<(), NoMemory>
+    ensures { OnOk result (into.new ≡ into.old ++ flat_map type_names (types_of_method (method_text descriptor.now))) }
 {
     match method_text(alloc, descriptor)? {
         Some(found) => push_method_types(into, &found),
@@ -101,8 +101,8 @@ fn push_method(alloc: Global, into: &mut Vec<Units>, descriptor: &Units) -> Resu
 
 // The names in the types of a mention, in order: in those that a descriptor spells, none where it is malformed; in an
 // array that is named as a class, and in the array that `anewarray` makes (JVMS 4.3, 4.4.1, 6.5).
-fn push_in_types(alloc: Global, into: &mut Vec<Units>, mention: &Mention) -> Result<(), NoMemory>
-    ensures { OnOk result (into.new.items ≡ into.old.items ++ flat_map type_names (types_mentioned mention.now)) }
+fn push_in_types(alloc: Global, into: &mut Seq<Units>, mention: &Mention) -> Result<(), NoMemory>
+    ensures { OnOk result (into.new ≡ into.old ++ flat_map type_names (types_mentioned mention.now)) }
 {
     match mention {
         Mention::OfClass(class) => push_array(into, class),
@@ -114,8 +114,8 @@ fn push_in_types(alloc: Global, into: &mut Vec<Units>, mention: &Mention) -> Res
 }
 
 // The class that is named as one, and those in its types (JVMS 4.3, 4.4.1).
-fn push_names(alloc: Global, into: &mut Vec<Units>, mention: &Mention) -> Result<(), NoMemory>
-    ensures { OnOk result (into.new.items ≡ into.old.items ++ names_mentioned mention.now) }
+fn push_names(alloc: Global, into: &mut Seq<Units>, mention: &Mention) -> Result<(), NoMemory>
+    ensures { OnOk result (into.new ≡ into.old ++ names_mentioned mention.now) }
 {
     push_plain(into, mention)?;
     push_in_types(alloc, into, mention)
@@ -123,10 +123,10 @@ fn push_names(alloc: Global, into: &mut Vec<Units>, mention: &Mention) -> Result
 
 fn push_names_of_each(
     alloc: Global,
-    into: &mut Vec<Units>,
+    into: &mut Seq<Units>,
     mentions: &[Mention],
 ) -> Result<(), NoMemory>
-    ensures { OnOk result (into.new.items ≡ into.old.items ++ flat_map names_mentioned mentions.now) }
+    ensures { OnOk result (into.new ≡ into.old ++ flat_map names_mentioned mentions.now) }
 {
     for mention in mentions {
         push_names(alloc, into, mention)?;
@@ -138,7 +138,7 @@ fn push_names_of_each(
 pub fn class_names(alloc: Global, mentions: &[Mention]) -> Result<Seq<Units>, NoMemory>
     ensures { IfOk result (λ names. names ≡ flat_map names_mentioned mentions.now) }
 {
-    let mut names = Vec::new(alloc);
+    let mut names = Seq::new(alloc);
     push_names_of_each(alloc, &mut names, mentions)?;
-    Ok(Seq::from_vec(names))
+    Ok(names)
 }

@@ -4,4 +4,4 @@ use Rattle.kilim_link_spec.specs.Types.{type_names}
 use Rattle.kilim_link_mentions.proofs.names.push_each.Given as goal
 
 abbrev pub invariant-loop-found : goal.invariant-loop-found
-invariant-loop-found l = l.into.items ≡ l.fn.into.items ++ flat_map type_names (take l.found-index l.types)
+invariant-loop-found l = l.into ≡ l.fn.into ++ flat_map type_names (take l.found-index l.types)
