@@ -73,6 +73,7 @@ fn count_args(program: &Program, limits: &Limits, body: &mut Body) -> Came
     ensures comes { Comes 0 (Goes (with_result (Some (a_value.Int (narrowed (length limits.now.args)))) (counted (behind_at 0 body.old)))) body.new result }
     ensures roomy { RoomyIn program.now body.new.frames }
     ensures counted { IsNear body.old.count body.new.count }
+    ensures room { HasRoomFor program.now body.new result }
 {
     go_on_with(program, body, Value::Int(narrowed(limits.args.len())));
     Came::On
@@ -96,6 +97,7 @@ fn arg(program: &Program, limits: &Limits, index: &i32, body: &mut Body) -> Came
     ensures comes { Comes 0 (arg_next (behind_at 0 body.old) (arg_at limits.now.args index.now)) body.new result }
     ensures roomy { RoomyIn program.now body.new.frames }
     ensures counted { IsNear body.old.count body.new.count }
+    ensures room { HasRoomFor program.now body.new result }
 {
     match arg_at(&limits.args, index) {
         Some(number) => {
@@ -129,7 +131,8 @@ fn one_token(alloc: Global, token: Token) -> Result<Shape, NoMemory>
 
 // `print`
 fn print(alloc: Global, program: &Program, value: &Value, body: &Body) -> Result<Came, NoMemory>
-    ensures { IfOk result (λ came. Comes 0 (print_next (behind_at 0 body.now) (printed value.now)) body.now came) }
+    ensures comes { IfOk result (λ came. Comes 0 (print_next (behind_at 0 body.now) (printed value.now)) body.now came) }
+    ensures room { IfOk result (λ came. HasRoomFor program.now body.now came) }
 {
     let _ = program;
     let _ = body;
@@ -214,6 +217,7 @@ fn yield_now(alloc: Global, program: &Program, body: &mut Body) -> Came
     ensures comes { Comes 0 (yield_next (is_rewinding body.old.records) (behind_at 0 body.old)) body.new result }
     ensures roomy { RoomyIn program.now body.new.frames }
     ensures counted { IsNear body.old.count body.new.count }
+    ensures room { HasRoomFor program.now body.new result }
 {
     if body.records.is_rewinding() {
         body.records.end_rewinding(alloc);
@@ -329,7 +333,9 @@ fn ask_with_fiber(
 
 // `get`: a task that has done its instructions takes nothing any more.
 fn takes(program: &Program, limits: &Limits, mailbox: BoxName, body: &Body) -> Came
-    ensures { (set : Setting) → set.limits ≡ limits.now → Comes 0 (spent_or set true body.now.count (Gets mailbox (paused_at mailbox (behind_at 0 body.now)) (taken_at (behind_at 0 body.now)))) body.now result }
+    requires { RoomIn program.now body.now.frames }
+    ensures comes { (set : Setting) → set.limits ≡ limits.now → Comes 0 (spent_or set true body.now.count (Gets mailbox (paused_at mailbox (behind_at 0 body.now)) (taken_at (behind_at 0 body.now)))) body.now result }
+    ensures room { HasRoomFor program.now body.now result }
 {
     let _ = program;
     if body.count >= limits.steps {

@@ -65,6 +65,7 @@ pub(crate) fn open(program: &Program, task: u32, counts: bool, body: &mut Body) 
     ensures comes { Comes 0 (opens_next task counts (behind_at 0 body.old)) body.new result }
     ensures roomy { RoomyIn program.now body.new.frames }
     ensures counted { IsNear body.old.count body.new.count }
+    ensures room { HasRoomFor program.now body.new result }
 {
     if body.boxes >= MOST_BOXES {
         return Came::Ends(EndCause::Boxes);
@@ -161,6 +162,7 @@ pub(crate) fn rewind(alloc: Global, code: &Code, body: &mut Body) -> Result<Came
     ensures comes { IfOk result (λ came. Comes 0 (resumes_next code.now.program (standing_at 0 body.old) (executes_on code.now.program body.old.heap (first_receiver body.old.records))) body.new came) }
     ensures roomy { OnOk result (RoomyIn code.now.program body.new.frames) }
     ensures counted { OnOk result (IsNear body.old.count body.new.count) }
+    ensures room { IfOk result (λ came. HasRoomFor code.now.program body.new came) }
 {
     let receiver = body.records.first_receiver()?;
     let Some(method) = execute_for(code, &body.heap, &receiver) else {

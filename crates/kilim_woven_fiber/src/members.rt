@@ -5,7 +5,7 @@ ghost use Rattle.kilim_classes.specs.declared.value.Value.TheVariants as a_value
 ghost use Rattle.kilim_classes.specs.machine.Natives as native;
 ghost use Rattle.kilim_weaving_laws.specs.woven_kin.Nexts.{member_next, with_result};
 ghost use Rattle.kilim_woven_fiber.specs.Body.{behind_at, operands_in, standing_at, HasFrames, RoomyIn, RoomIn};
-ghost use Rattle.kilim_woven_fiber.specs.Comes.{Comes, gives_result};
+ghost use Rattle.kilim_woven_fiber.specs.Comes.{Comes, HasRoomFor, gives_result};
 ghost use Rattle.kilim_woven_runs.specs.fiber_records.natives.Natives.{member_meant};
 
 use crate::body::{Body, Came};
@@ -50,6 +50,7 @@ fn place_number(program: &Program, body: &mut Body) -> Came
     ensures comes { Comes 0 (member_next native.Pc (a_value.Fiber ∷ []) (behind_at 0 body.old)) body.new result }
     ensures roomy { RoomyIn program.now body.new.frames }
     ensures count { body.new.count ≡ body.old.count }
+    ensures room { HasRoomFor program.now body.new result }
 {
     let number = body.records.pc();
     pass_with(program, body, Value::Int(number.cast_signed()));
@@ -62,6 +63,7 @@ fn go_down(alloc: Global, program: &Program, body: &mut Body) -> Result<Came, No
     ensures comes { IfOk result (λ came. Comes 0 (member_next native.Down (a_value.Fiber ∷ []) (behind_at 0 body.old)) body.new came) }
     ensures roomy { OnOk result (RoomyIn program.now body.new.frames) }
     ensures count { OnOk result (body.new.count ≡ body.old.count) }
+    ensures room { IfOk result (λ came. HasRoomFor program.now body.new came) }
 {
     body.records.down(alloc)?;
     pass_with(program, body, Value::Fiber);
@@ -74,6 +76,7 @@ fn go_up(program: &Program, body: &mut Body) -> Result<Came, NoMemory>
     ensures comes { IfOk result (λ came. Comes 0 (member_next native.Up (a_value.Fiber ∷ []) (behind_at 0 body.old)) body.new came) }
     ensures roomy { OnOk result (RoomyIn program.now body.new.frames) }
     ensures count { OnOk result (body.new.count ≡ body.old.count) }
+    ensures room { IfOk result (λ came. HasRoomFor program.now body.new came) }
 {
     let Some(pauses) = body.records.up()? else {
         return Err(NoMemory);
@@ -88,6 +91,7 @@ fn restore(program: &Program, body: &mut Body) -> Result<Came, NoMemory>
     ensures comes { IfOk result (λ came. Comes 0 (member_next native.Restore (a_value.Fiber ∷ []) (behind_at 0 body.old)) body.new came) }
     ensures roomy { OnOk result (RoomyIn program.now body.new.frames) }
     ensures count { OnOk result (body.new.count ≡ body.old.count) }
+    ensures room { IfOk result (λ came. HasRoomFor program.now body.new came) }
 {
     let Some(value) = body.records.restore() else {
         return Err(NoMemory);
@@ -102,6 +106,7 @@ fn receiver(program: &Program, body: &mut Body) -> Result<Came, NoMemory>
     ensures comes { IfOk result (λ came. Comes 0 (member_next native.Receiver (a_value.Fiber ∷ []) (behind_at 0 body.old)) body.new came) }
     ensures roomy { OnOk result (RoomyIn program.now body.new.frames) }
     ensures count { OnOk result (body.new.count ≡ body.old.count) }
+    ensures room { IfOk result (λ came. HasRoomFor program.now body.new came) }
 {
     let Some(value) = body.records.receiver()? else {
         return Err(NoMemory);
@@ -122,6 +127,7 @@ fn ask_alone(
     ensures comes { IfOk result (λ came. Comes 0 (member_next (member_meant member) (a_value.Fiber ∷ []) (behind_at 0 body.old)) body.new came) }
     ensures roomy { OnOk result (RoomyIn program.now body.new.frames) }
     ensures count { OnOk result (body.new.count ≡ body.old.count) }
+    ensures room { IfOk result (λ came. HasRoomFor program.now body.new came) }
 {
     match member {
         Member::Pc => Ok(place_number(program, body)),
@@ -140,6 +146,7 @@ fn save(program: &Program, body: &mut Body) -> Result<Came, NoMemory>
     ensures comes { IfOk result (λ came. Comes 0 (member_next native.Save (operands_in body.old.frames) (behind_at 0 body.old)) body.new came) }
     ensures roomy { OnOk result (RoomyIn program.now body.new.frames) }
     ensures count { OnOk result (body.new.count ≡ body.old.count) }
+    ensures room { IfOk result (λ came. HasRoomFor program.now body.new came) }
 {
     let Some(frames) = &mut body.frames else {
         unreachable!()
@@ -158,6 +165,7 @@ fn place(program: &Program, body: &mut Body) -> Result<Came, NoMemory>
     ensures comes { IfOk result (λ came. Comes 0 (member_next native.Place (operands_in body.old.frames) (behind_at 0 body.old)) body.new came) }
     ensures roomy { OnOk result (RoomyIn program.now body.new.frames) }
     ensures count { OnOk result (body.new.count ≡ body.old.count) }
+    ensures room { IfOk result (λ came. HasRoomFor program.now body.new came) }
 {
     let Some(frames) = &mut body.frames else {
         unreachable!()
@@ -182,6 +190,7 @@ pub fn ask_member(
     ensures comes { IfOk result (λ came. Comes 0 (member_next (member_meant member) (operands_in body.old.frames) (behind_at 0 body.old)) body.new came) }
     ensures roomy { OnOk result (RoomyIn program.now body.new.frames) }
     ensures count { OnOk result (body.new.count ≡ body.old.count) }
+    ensures room { IfOk result (λ came. HasRoomFor program.now body.new came) }
 {
     match member {
         Member::Save => save(program, body),

@@ -2,9 +2,9 @@ use Rattle.std.proofs.Common.{◌∷◌, []}
 use Rattle.kilim_classes.specs.declared.value.Value.{Value}
 use Rattle.kilim_classes.specs.declared.value.Value.TheVariants.{Fiber}
 use Rattle.kilim_weaving_laws.specs.woven_kin.Nexts.{native_next}
-use Rattle.std.proofs.Common.{sym, subst}
+use Rattle.std.proofs.Common.{Some, ap, sym, subst}
 use Rattle.kilim_woven_fiber.specs.Body.{behind_at}
-use Rattle.kilim_woven_fiber.specs.Comes.{Comes}
+use Rattle.kilim_woven_fiber.specs.Comes.{Comes, gives_result}
 use Rattle.kilim_woven_runs.specs.fiber_records.natives.Natives.{meaning}
 use Rattle.kilim_woven_runs.specs.declared.fiber_records.natives.natives.Native.{Native}
 use Rattle.kilim_woven_runs.specs.declared.fiber_records.natives.natives.Native.TheVariants as code
@@ -14,4 +14,7 @@ pub returns-in-Get-Box-clause-comes : goal.returns-in-Get-Box-clause-comes
 returns-in-Get-Box-clause-comes c = λ set is-program is-limits.
     subst (λ (n : Native). Comes 0 (native_next set (behind_at 0 c.args.body.now) (meaning n) (c.args.value.now ∷ Fiber ∷ [])) c.args.body.now c.takes.result) (sym c.in-Get-Box.is-0)
     (subst (λ (v : Value). Comes 0 (native_next set (behind_at 0 c.args.body.now) (meaning code.Get) (v ∷ Fiber ∷ [])) c.args.body.now c.takes.result) (sym c.in-Get-Box.is-1)
-    (c.takes.ensures set is-limits))
+    (c.takes.ensures.comes set is-limits))
+
+pub takes-requires : goal.takes-requires
+takes-requires c = c.requires.can.room (ap (λ (n : Native). gives_result (Some (meaning n))) c.in-Get-Box.is-0)
