@@ -1,5 +1,6 @@
 -- Loops over the elements of a list.
 use Rattle.std.proofs.Common.{◌≡◌, ℕ, suc, ◌+◌, ◌-◌, ◌<◌, ◌≤◌, Bool, true, false, if◌then◌else◌, List, [], ◌∷◌, ◌++◌, length, get_or, take, drop, drop-cons, add-one, append_assoc, sym, ap, ◌∙◌, arith}
+use Rattle.std.proofs.lemmas.List.{append-nil, drop_all}
 use Rattle.std.specs.Prelude.{sum_by}
 use Rattle.std.specs.List.{flat_map}
 use Rattle.std.proofs.Math.Seq.{take-length}
@@ -36,11 +37,22 @@ ahead {X = X} {A = A} f now next whole xs i x d lt is so_far step =
     ∙ (append_assoc now (f x) rest
     ∙ (ap (λ (z : X). now ++ (f z ++ rest)) is ∙ (ap (λ (ys : List X). now ++ flat_map f ys) (sym (drop-cons xs i d lt)) ∙ so_far))))
 
+-- none is left
+pub all_ahead : {X A : Type 0} (f : X → List A) (now whole : List A) (xs : List X) (i : ℕ) → length xs ≤ i → now ++ flat_map f (drop i xs) ≡ whole → now ≡ whole
+all_ahead {X = X} {A = A} f now whole xs i le so_far = sym (append-nil now) ∙ (ap (λ (ys : List X). now ++ flat_map f ys) (sym (drop_all i xs le)) ∙ so_far)
+
+pub summed : {X : Type 0} (size : X → ℕ) (total : List X → ℕ) → ((x : X) (xs : List X) → total (x ∷ xs) ≡ size x + total xs) → (xs : List X) (i : ℕ) (x d : X) (sum next whole : ℕ) → i < length xs → x ≡ get_or xs i d
+    → next ≡ sum + size x → sum + total (drop i xs) ≡ whole → next + total (drop (i + 1) xs) ≡ whole
+summed {X = X} size total first xs i x d sum next whole lt is made so_far =
+    let rest : ℕ = total (drop (suc i) xs) in
+    let there : total (drop i xs) ≡ size x + rest = ap total (drop-cons xs i d lt) ∙ (first (get_or xs i d) (drop (suc i) xs) ∙ ap (λ (z : X). size z + rest) (sym is)) in
+    rw add-one (omega (arith, there, made, so_far))
+
 -- what stands behind the first element
 abbrev pub behind_first : {A : Type 0} → List A → List A
 behind_first xs = take (length xs - 1) (drop 1 xs)
 
-all_behind : {A : Type 0} (x : A) (xs : List A) → behind_first (x ∷ xs) ≡ xs
+pub all_behind : {A : Type 0} (x : A) (xs : List A) → behind_first (x ∷ xs) ≡ xs
 all_behind x xs = let all : length (x ∷ xs) - 1 ≡ length xs = omega arith in rw all (take-length xs)
 
 -- the methods of a file with those of the two programs, behind one method more

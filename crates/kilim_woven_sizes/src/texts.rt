@@ -41,17 +41,18 @@ fn push_class_text(out: &mut Vec<u16>, name: &Units) -> Result<(), NoMemory>
 fn push_base_text(out: &mut Vec<u16>, base: &BaseText) -> Result<(), NoMemory>
     ensures { OnOk result (out.new.items ≡ out.old.items ++ base_text base.now) }
 {
-    match base {
-        BaseText::Bool => push_unit(out, 90),
-        BaseText::Byte => push_unit(out, 66),
-        BaseText::Char => push_unit(out, 67),
-        BaseText::Short => push_unit(out, 83),
-        BaseText::Int => push_unit(out, 73),
-        BaseText::Long => push_unit(out, 74),
-        BaseText::Float => push_unit(out, 70),
-        BaseText::Double => push_unit(out, 68),
-        BaseText::Class(name) => push_class_text(out, name),
-    }
+    let letter = match base {
+        BaseText::Bool => 90,
+        BaseText::Byte => 66,
+        BaseText::Char => 67,
+        BaseText::Short => 83,
+        BaseText::Int => 73,
+        BaseText::Long => 74,
+        BaseText::Float => 70,
+        BaseText::Double => 68,
+        BaseText::Class(name) => return push_class_text(out, name),
+    };
+    push_unit(out, letter)
 }
 
 fn push_field_text(alloc: Global, out: &mut Vec<u16>, field: &FieldText) -> Result<(), NoMemory>
@@ -105,14 +106,20 @@ fn push_params_and_fiber(
     push_fiber(out)
 }
 
+fn push_with_fiber(alloc: Global, out: &mut Vec<u16>, method: &MethodText) -> Result<(), NoMemory>
+    ensures { OnOk result (out.new.items ≡ out.old.items ++ method_text (with_fiber method.now)) }
+{
+    out.push(40)?;
+    push_params_and_fiber(alloc, out, method.params.as_slice())?;
+    out.push(41)?;
+    push_result(alloc, out, &method.result)
+}
+
 fn text_with_fiber(alloc: Global, method: &MethodText) -> Result<Units, NoMemory>
     ensures { IfOk result (λ units. units ≡ method_text (with_fiber method.now)) }
 {
     let mut out = Vec::new(alloc);
-    out.push(40)?;
-    push_params_and_fiber(alloc, &mut out, method.params.as_slice())?;
-    out.push(41)?;
-    push_result(alloc, &mut out, &method.result)?;
+    push_with_fiber(alloc, &mut out, method)?;
     Ok(Units::from_vec(alloc, out)?)
 }
 
@@ -156,15 +163,16 @@ fn push_class_descriptor(
 fn push_base(out: &mut Vec<u16>, program: &Program, base: Base) -> Result<(), NoMemory>
     ensures { OnOk result (out.new.items ≡ out.old.items ++ base_descriptor program.now base) }
 {
-    match base {
-        Base::Bool => push_unit(out, 90),
-        Base::Byte => push_unit(out, 66),
-        Base::Char => push_unit(out, 67),
-        Base::Short => push_unit(out, 83),
-        Base::Int => push_unit(out, 73),
-        Base::Long => push_unit(out, 74),
-        Base::Class(class) => push_class_descriptor(out, program, class),
-    }
+    let letter = match base {
+        Base::Bool => 90,
+        Base::Byte => 66,
+        Base::Char => 67,
+        Base::Short => 83,
+        Base::Int => 73,
+        Base::Long => 74,
+        Base::Class(class) => return push_class_descriptor(out, program, class),
+    };
+    push_unit(out, letter)
 }
 
 fn push_type(out: &mut Vec<u16>, program: &Program, ty: Ty) -> Result<(), NoMemory>

@@ -3,7 +3,7 @@
 ghost use Rattle.std.specs.Prelude.{◌≡◌, true};
 
 use crate::same_programs::lists::same_slots;
-use kilim_classes::{Frame, Ty, VType, Value};
+use kilim_classes::{Frame, Ty, Value};
 use kilim_units::Units;
 
 /// Two texts.
@@ -55,13 +55,6 @@ pub fn same_constant(one: &Option<Value>, other: &Option<Value>) -> bool
         (Some(a), Some(b)) => same_value(a, b),
         _ => false,
     }
-}
-
-/// Two verification types.
-pub fn same_slot(one: &VType, other: &VType) -> bool
-    ensures { result ≡ true → one.now ≡ other.now }
-{
-    one == other
 }
 
 /// Two frames.

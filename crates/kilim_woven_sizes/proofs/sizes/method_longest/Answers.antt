@@ -1,4 +1,5 @@
-use Rattle.std.proofs.Common.{ℕ, refl}
+use Rattle.std.proofs.Common.{ℕ, refl, List, sym, ap, ◌∙◌}
+use Rattle.std.proofs.lemmas.List.{drop_all}
 use Rattle.kilim_classes.specs.declared.class.Method.{Method}
 use Rattle.kilim_link_spec.specs.World.{method_descriptor}
 use Rattle.kilim_woven_sizes.specs.file_laws.form.Sizes.{method_longest, larger, spelled_length}
@@ -9,3 +10,6 @@ pub loop-method-preserved : goal.loop-method-preserved
 loop-method-preserved c =
     passed (method_longest c.args.program.now) (λ (n : ℕ) (x : Method). larger (larger n (spelled_length x.name)) (spelled_length (method_descriptor c.args.program.now x))) (λ x xs n. refl) c.args.methods.now c.loop-method.method-index c.method-item.result _ c.loop-method.longest c.in_ok-longest.longest
     (method_longest c.args.program.now c.args.methods.now c.args.least) c.loop-method-test.true c.method-item.is c.in_ok-longest.ensures c.loop-method.invariant
+
+pub returns : goal.returns
+returns c = ap (λ (xs : List Method). method_longest c.args.program.now xs c.loop-method.longest) (sym (drop_all c.loop-method.method-index c.args.methods.now c.loop-method-test.false)) ∙ c.loop-method.invariant

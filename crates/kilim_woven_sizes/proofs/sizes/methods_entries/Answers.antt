@@ -1,4 +1,5 @@
-use Rattle.std.proofs.Common.{ℕ, ◌+◌, ap, ◌∙◌}
+use Rattle.std.proofs.Common.{ℕ, ◌+◌, ap, ◌∙◌, ◌≡◌, List, drop, arith}
+use Rattle.std.proofs.lemmas.List.{drop_all}
 use Rattle.kilim_classes.specs.declared.class.Method.{Method}
 use Rattle.kilim_classfile.specs.declared.class_file.MemberInfo.{MemberInfo}
 use Rattle.kilim_woven_sizes.specs.file_laws.form.Sizes.{method_entries, methods_entries}
@@ -12,3 +13,9 @@ loop-info-preserved c =
     (methods_entries c.args.program.now (pairs_of c.args.infos.now c.args.plains.now c.args.wovens.now c.args.counted.now))
     c.loop-info-test.true c.info-item.is c.in-len1-up.len_at_least c.plain-item.is c.in-len1-up-ms.len_at_least c.in-len1-up-cs.len_at_least
     (c.in_ok-sum.ensures ∙ ap (λ (n : ℕ). c.loop-info.sum + n) c.in_ok-method_entries.ensures) c.loop-info.invariant
+
+pub returns : goal.returns
+returns c =
+    let left : methods_entries c.args.program.now (pairs_of (drop c.loop-info.info-index c.args.infos.now) c.loop-info.ps.now c.loop-info.ms.now c.loop-info.cs.now) ≡ 0 =
+    ap (λ (infos : List MemberInfo). methods_entries c.args.program.now (pairs_of infos c.loop-info.ps.now c.loop-info.ms.now c.loop-info.cs.now)) (drop_all c.loop-info.info-index c.args.infos.now c.loop-info-test.false) in
+    omega (arith, left, c.loop-info.invariant)
