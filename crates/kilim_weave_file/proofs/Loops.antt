@@ -1,7 +1,8 @@
 -- Loops that append something for each element.
-use Rattle.std.proofs.Common.{◌≡◌, ℕ, zero, suc, ◌+◌, ◌-◌, ◌<◌, ◌≤◌, Bool, true, false, List, [], ◌∷◌, ◌++◌, length, get_or, map, take, drop, drop-cons, refl, sym, ap, ◌∙◌, add-one, append_assoc, arith}
-use Rattle.std.specs.List.{flat_map}
+use Rattle.std.proofs.Common.{◌≡◌, ℕ, zero, suc, ◌+◌, ◌-◌, ◌<◌, ◌≤◌, Bool, true, false, List, [], ◌∷◌, ◌++◌, length, get_or, map, take, drop, drop-cons, refl, sym, ap, ◌∙◌, add-one, append_assoc, arith, ◌||◌}
+use Rattle.std.specs.List.{flat_map, list_any}
 use Rattle.std.proofs.Math.Seq.{take-length}
+use Rattle.std.proofs.lemmas.List.{append-nil, drop_all}
 use Rattle.kilim_classes.specs.declared.class.Method.{Method}
 use Rattle.kilim_classfile.specs.declared.class_file.MemberInfo.{MemberInfo}
 use Rattle.kilim_woven_sizes.specs.file_laws.form.WovenFile.{MethodPair, pairs_of}
@@ -24,6 +25,11 @@ mapped_ahead {X = X} {A = A} f now next whole xs i x d y lt is so_far made step 
     ∙ (append_assoc now (y ∷ []) rest
     ∙ (ap (λ (z : A). now ++ (z ∷ rest)) (made ∙ ap f is) ∙ (ap (λ (ys : List X). now ++ map f ys) (sym (drop-cons xs i d lt)) ∙ so_far))))
 
+-- none is left, of what is made of the rest
+pub all_made : {X A : Type 0} (rest : List X → List A) (now whole : List A) (xs : List X) (i : ℕ) → rest [] ≡ [] → length xs ≤ i → now ++ rest (drop i xs) ≡ whole → now ≡ whole
+all_made {X = X} {A = A} rest now whole xs i none le so_far =
+    sym (append-nil now) ∙ (ap (λ (t : List A). now ++ t) (sym none) ∙ (ap (λ (ys : List X). now ++ rest ys) (sym (drop_all i xs le)) ∙ so_far))
+
 -- so many elements, and one more
 next_one : {X A : Type 0} (f : X → A) (xs : List X) (i : ℕ) (d : X) → i < length xs → map f (take i xs) ++ f (get_or xs i d) ∷ [] ≡ map f (take (suc i) xs)
 next_one f [] i d lt = absurd (omega arith)
@@ -34,6 +40,21 @@ pub mapped : {X A : Type 0} (f : X → A) (now next : List A) (xs : List X) (i :
     → next ≡ now ++ y ∷ [] → next ≡ map f (take (i + 1) xs)
 mapped {A = A} f now next xs i x d y lt is so_far made step =
     rw add-one (step ∙ (ap (λ (t : List A). t ++ y ∷ []) so_far ∙ (ap (λ (z : A). map f (take i xs) ++ z ∷ []) (made ∙ ap f is) ∙ next_one f xs i d lt)))
+
+-- ---- whether one passes a test
+
+module _ {A : Type 0} (test : A → Bool) (items xs : List A) (i : ℕ) (x : A) {whole : Bool} (b : Bool) (same : items ≡ xs) (lt : i < length items) (is : x ≡ get_or items i x) (answers : b ≡ test x) (so_far : list_any test (drop i xs) ≡ whole) where
+  here : (b || list_any test (drop (suc i) xs)) ≡ whole
+  here =
+      ap (λ (c : Bool). c || list_any test (drop (suc i) xs)) (answers ∙ ap test is)
+      ∙ (ap (λ (ys : List A). test (get_or items i x) || list_any test (drop (suc i) ys)) (sym same)
+      ∙ (sym (ap (list_any test) (drop-cons items i x lt)) ∙ (ap (λ (ys : List A). list_any test (drop i ys)) same ∙ so_far)))
+
+  pub found_at : b ≡ true → true ≡ whole
+  found_at t = ap (λ (c : Bool). c || list_any test (drop (suc i) xs)) (sym t) ∙ here
+
+  pub passed_at : b ≡ false → list_any test (drop (i + 1) xs) ≡ whole
+  passed_at t = rw add-one (ap (λ (c : Bool). c || list_any test (drop (suc i) xs)) (sym t) ∙ here)
 
 -- ---- loops over several lists
 

@@ -62,7 +62,7 @@ pub length_more : (is : List MemberInfo) (i : MemberInfo) (at : ℕ) → at ≡ 
 length_more is i at h = ap (λ n. n + 1) h ∙ sym (last_length is i)
 
 -- the file, by its parts
-pub file_is : (w : Program) (file copy : ClassFile) (ps ms : List Method) (cs : List (List Bool)) (needs : List Need) (pool : List Entry) (methods : List MemberInfo) → copy ≡ file →
+file_is : (w : Program) (file copy : ClassFile) (ps ms : List Method) (cs : List (List Bool)) (needs : List Need) (pool : List Entry) (methods : List MemberInfo) → copy ≡ file →
     needs ≡ flat_map (member_needs w file) (pairs_of file.methods ps ms cs) → pool ≡ with_needs copy.constant_pool needs → methods ≡ map (woven_member w file pool) (pairs_of copy.methods ps ms cs) →
     record copy { constant_pool = pool; methods = methods } ≡ woven_file w file (pairs_of file.methods ps ms cs)
 unfolding woven_file
@@ -72,3 +72,10 @@ file_is w file copy ps ms cs needs pool methods same needed grown written =
     ap (λ (f : ClassFile). record f { constant_pool = pool; methods = methods }) same
     ∙ (ap (λ (ms : List MemberInfo). record file { constant_pool = pool; methods = ms }) m
     ∙ ap (λ (q : List Entry). record file { constant_pool = q; methods = map (woven_member w file q) (pairs_of file.methods ps ms cs) }) p)
+
+-- the same of what the file becomes step by step
+pub woven_so : (w : Program) (file copy made : ClassFile) (ps ms : List Method) (cs : List (List Bool)) (pool : List Entry) → copy ≡ file →
+    pool ≡ with_needs copy.constant_pool (flat_map (member_needs w file) (pairs_of file.methods ps ms cs)) → made ≡ record copy { constant_pool = pool; methods = map (woven_member w file pool) (pairs_of copy.methods ps ms cs) } →
+    made ≡ woven_file w file (pairs_of file.methods ps ms cs)
+woven_so w file copy made ps ms cs pool same grown is =
+    is ∙ file_is w file copy ps ms cs (flat_map (member_needs w file) (pairs_of file.methods ps ms cs)) pool (map (woven_member w file pool) (pairs_of copy.methods ps ms cs)) same refl grown refl

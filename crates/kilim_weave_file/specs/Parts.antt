@@ -1,8 +1,6 @@
 -- Parts of the definitions of woven files, named for the functions that make them.
-use Rattle.std.specs.Prelude.{ℕ, Bool, true, false, List, [], ◌∷◌, Option, Some, None}
+use Rattle.std.specs.Prelude.{Bool, true, false, List, [], ◌∷◌, Option, Some, None}
 use Rattle.kilim_classes.specs.declared.class.Method.{Method}
-use Rattle.kilim_classes.specs.declared.instr.Instr.{Instr}
-use Rattle.kilim_classes.specs.declared.instr.Instr.TheVariants.{AconstNull, Pop, Pop2, Ireturn, Lreturn, Areturn, Return}
 use Rattle.kilim_classes.specs.declared.verified.VType.{VType}
 use Rattle.kilim_classes.specs.Program.{Program}
 use Rattle.kilim_classfile.specs.declared.class_file.ClassFile.{ClassFile}
@@ -10,17 +8,6 @@ use Rattle.kilim_classfile.specs.declared.class_file.MemberInfo.{MemberInfo}
 use Rattle.kilim_constant_pool.specs.declared.entry.Entry.{Entry}
 use Rattle.kilim_typing.specs.Step.{is_long}
 use Rattle.kilim_woven_sizes.specs.file_laws.form.WovenFile.{woven_member}
-
--- the number of an added instruction without operands (JVMS 6.5)
-abbrev pub plain_number : Instr → ℕ
-plain_number AconstNull = 1
-plain_number Pop = 87
-plain_number Pop2 = 88
-plain_number Ireturn = 172
-plain_number Lreturn = 173
-plain_number Areturn = 176
-plain_number Return = 177
-plain_number i = 0
 
 -- the locals of a frame, one by one: the next one is the half of a long, or it isn't
 abbrev pub entries_from : Bool → List VType → List VType

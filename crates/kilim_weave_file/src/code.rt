@@ -21,14 +21,14 @@ use std::alloc::Global;
 
 fn push_moved(
     alloc: Global,
-    into: &mut Vec<(u32, RawInstr)>,
+    into: &mut Seq<(u32, RawInstr)>,
     program: &Program,
     old: &Pool,
     pool: &Pool,
     entry: &(u32, Instr),
     was: &RawInstr,
 ) -> Result<(), NoMemory>
-    ensures { OnOk result (into.new.items ≡ into.old.items ++ (entry.now.0, moved_raw program.now old.now pool.now entry.now.1 was.now) ∷ []) }
+    ensures { OnOk result (into.new ≡ into.old ++ (entry.now.0, moved_raw program.now old.now pool.now entry.now.1 was.now) ∷ []) }
 {
     let raw = moved_raw(alloc, program, old, pool, &entry.1, was)?;
     into.push((entry.0, raw))?;
@@ -37,12 +37,12 @@ fn push_moved(
 
 fn push_added(
     alloc: Global,
-    into: &mut Vec<(u32, RawInstr)>,
+    into: &mut Seq<(u32, RawInstr)>,
     program: &Program,
     pool: &Pool,
     entry: &(u32, Instr),
 ) -> Result<(), NoMemory>
-    ensures { OnOk result (into.new.items ≡ into.old.items ++ (entry.now.0, added_raw program.now pool.now entry.now.1) ∷ []) }
+    ensures { OnOk result (into.new ≡ into.old ++ (entry.now.0, added_raw program.now pool.now entry.now.1) ∷ []) }
 {
     let raw = added_raw(alloc, program, pool, &entry.1)?;
     into.push((entry.0, raw))?;
@@ -59,10 +59,10 @@ fn raw_code(
     code: &[(u32, Instr)],
     counted: &[bool],
     olds: &[(u32, RawInstr)],
-) -> Result<Vec<(u32, RawInstr)>, NoMemory>
-    ensures { IfOk result (λ v. v.items ≡ raw_code program.now old.now pool.now code.now counted.now olds.now) }
+) -> Result<Seq<(u32, RawInstr)>, NoMemory>
+    ensures { IfOk result (λ v. v ≡ raw_code program.now old.now pool.now code.now counted.now olds.now) }
 {
-    let mut all = Vec::new(alloc);
+    let mut all = Seq::new(alloc);
     let mut marks = counted;
     let mut rest = olds;
     for entry in code {
@@ -163,22 +163,22 @@ fn table_by(
     }
 }
 
-fn bytes_by(
+// The bytes of a method with pausable calls are written anew.
+fn renew_bytes(
     alloc: Global,
     program: &Program,
     old: &Pool,
     pool: &Pool,
     method: &Method,
     counted: &[bool],
-    bytes: Seq<u8>,
-) -> Result<Seq<u8>, NoMemory>
-    ensures { IfOk result (λ b. b ≡ (if has_calls program.now method.now then code_text (raw_code program.now old.now pool.now method.now.code counted.now (instrs_if (decoded bytes))) else bytes)) }
+    bytes: &mut Seq<u8>,
+) -> Result<(), NoMemory>
+    ensures { OnOk result (bytes.new ≡ (if has_calls program.now method.now then code_text (raw_code program.now old.now pool.now method.now.code counted.now (instrs_if (decoded bytes.old))) else bytes.old)) }
 {
     if has_calls(program, method) {
-        new_bytes(alloc, program, old, pool, method, counted, bytes.as_slice())
-    } else {
-        Ok(bytes)
+        *bytes = new_bytes(alloc, program, old, pool, method, counted, bytes.as_slice())?;
     }
+    Ok(())
 }
 
 /// The Code attribute of a method that pauses: with pausable calls its code is written anew, else it stays byte for byte. Of its
@@ -194,13 +194,10 @@ pub fn woven_code(
 ) -> Result<Code, NoMemory>
     ensures { IfOk result (λ c. c ≡ woven_code program.now old.now pool.now method.now counted.now code) }
 {
-    let attributes = table_by(alloc, program, pool, old_table(&code), method)?;
-    let bytes = bytes_by(alloc, program, old, pool, method, counted, code.code)?;
-    Ok(Code {
-        max_stack: method.max_stack,
-        max_locals: method.max_locals,
-        code: bytes,
-        exception_table: code.exception_table,
-        attributes,
-    })
+    let mut woven = code;
+    woven.attributes = table_by(alloc, program, pool, old_table(&woven), method)?;
+    renew_bytes(alloc, program, old, pool, method, counted, &mut woven.code)?;
+    woven.max_stack = method.max_stack;
+    woven.max_locals = method.max_locals;
+    Ok(woven)
 }

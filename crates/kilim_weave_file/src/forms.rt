@@ -2,7 +2,6 @@
 
 ghost use Rattle.std.specs.Prelude.{◌≡◌, ◌+◌, ◌≤◌, pos, map, IfOk};
 ghost use Rattle.kilim_bytecode.specs.declared.opcodes.instr.RawInstr.TheVariants as raw;
-ghost use Rattle.kilim_weave_file.specs.Parts.{plain_number};
 ghost use Rattle.kilim_woven_sizes.specs.file_laws.form.Raw.{added_need, added_raw, index_or, int_form, local_form, long_form, moved_raw, old_need, pair_number, place_number, shortest, switched, target_of};
 
 use crate::needs::{added_need, old_need};
@@ -222,22 +221,6 @@ fn added_index(
     Ok(RawInstr::Index(number, index_or(pool, 0, &need)))
 }
 
-// An added instruction without operands.
-fn plain_number(instr: &Instr) -> u8
-    ensures { result ≡ plain_number instr.now }
-{
-    match instr {
-        Instr::AconstNull => 1,
-        Instr::Pop => 87,
-        Instr::Pop2 => 88,
-        Instr::Ireturn => 172,
-        Instr::Lreturn => 173,
-        Instr::Areturn => 176,
-        Instr::Return => 177,
-        _ => 0,
-    }
-}
-
 /// An instruction that weaving adds, with the indices of the new pool.
 #[tactic(auto, unfolding(kilim_woven_sizes::specs::file_laws::form::Raw::added_raw))]
 pub fn added_raw(
@@ -255,10 +238,17 @@ pub fn added_raw(
         | Instr::Istore(_)
         | Instr::Lstore(_)
         | Instr::Astore(_) => shortest(instr, &RawInstr::Plain(0)),
+        Instr::AconstNull => Ok(RawInstr::Plain(1)),
         Instr::Iconst(n) => int_form(*n),
         Instr::Lconst(n) => long_form(*n),
         Instr::Bipush(n) => Ok(RawInstr::Byte(16, *n)),
         Instr::Sipush(n) => Ok(RawInstr::Short(17, *n)),
+        Instr::Pop => Ok(RawInstr::Plain(87)),
+        Instr::Pop2 => Ok(RawInstr::Plain(88)),
+        Instr::Ireturn => Ok(RawInstr::Plain(172)),
+        Instr::Lreturn => Ok(RawInstr::Plain(173)),
+        Instr::Areturn => Ok(RawInstr::Plain(176)),
+        Instr::Return => Ok(RawInstr::Plain(177)),
         Instr::Ifeq(to) => Ok(RawInstr::Jump(153, i64::from(*to))),
         Instr::Goto(to) => Ok(RawInstr::Jump(167, i64::from(*to))),
         Instr::Tableswitch(default, low, targets) => {
@@ -267,6 +257,6 @@ pub fn added_raw(
         Instr::Invokevirtual(_) => added_index(alloc, program, pool, instr, 182),
         Instr::Invokestatic(_) => added_index(alloc, program, pool, instr, 184),
         Instr::Checkcast(_) => added_index(alloc, program, pool, instr, 192),
-        _ => Ok(RawInstr::Plain(plain_number(instr))),
+        _ => Ok(RawInstr::Plain(0)),
     }
 }

@@ -139,14 +139,14 @@ pub fn full_frames(
 ) -> Result<Seq<Entered>, NoMemory>
     ensures { IfOk result (λ fs. fs ≡ full_frames program.now pool.now 0 frames.now) }
 {
-    let mut all = Vec::new(alloc);
+    let mut all = Seq::new(alloc);
     let mut next = 0;
     for entry in frames {
         let delta = delta_from(next, entry.0)?;
         all.push(full_frame(alloc, program, pool, delta, &entry.1)?)?;
         next = near_next(entry.0)?;
     }
-    Ok(Seq::from_vec(all))
+    Ok(all)
 }
 
 // The place behind.

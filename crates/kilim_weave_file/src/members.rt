@@ -94,8 +94,8 @@ fn woven_info(
     }
 }
 
-fn push_attribute(into: &mut Vec<Attribute>, name: u16, info: Option<Info>) -> Result<(), NoMemory>
-    ensures { OnOk result (into.new.items ≡ into.old.items ++ cons_option (attribute_with name info) []) }
+fn push_attribute(into: &mut Seq<Attribute>, name: u16, info: Option<Info>) -> Result<(), NoMemory>
+    ensures { OnOk result (into.new ≡ into.old ++ cons_option (attribute_with name info) []) }
 {
     match info {
         None => {}
@@ -118,13 +118,13 @@ fn woven_attributes(
 ) -> Result<Seq<Attribute>, NoMemory>
     ensures { IfOk result (λ v. v ≡ filter_map (woven_attribute program.now old.now pool.now method.now counted.now) attributes) }
 {
-    let mut all = Vec::new(alloc);
+    let mut all = Seq::new(alloc);
     for attribute in attributes.into_vec() {
         let name = attribute.attribute_name_index;
         let info = woven_info(alloc, program, old, pool, method, counted, attribute.info)?;
         push_attribute(&mut all, name, info)?;
     }
-    Ok(Seq::from_vec(all))
+    Ok(all)
 }
 
 /// The descriptor of a method that pauses, with the fiber.

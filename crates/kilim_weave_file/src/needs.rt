@@ -119,8 +119,8 @@ pub fn added_need(alloc: Global, program: &Program, instr: &Instr) -> Result<Opt
 
 // ---- code
 
-fn push_listed(into: &mut Vec<Need>, need: Option<Need>) -> Result<(), NoMemory>
-    ensures { OnOk result (into.new.items ≡ into.old.items ++ listed need) }
+fn push_listed(into: &mut Seq<Need>, need: Option<Need>) -> Result<(), NoMemory>
+    ensures { OnOk result (into.new ≡ into.old ++ listed need) }
 {
     match need {
         None => {}
@@ -131,13 +131,13 @@ fn push_listed(into: &mut Vec<Need>, need: Option<Need>) -> Result<(), NoMemory>
 
 fn push_old(
     alloc: Global,
-    into: &mut Vec<Need>,
+    into: &mut Seq<Need>,
     program: &Program,
     pool: &Pool,
     instr: &Instr,
     was: &RawInstr,
 ) -> Result<(), NoMemory>
-    ensures { OnOk result (into.new.items ≡ into.old.items ++ listed (old_need program.now pool.now instr.now was.now)) }
+    ensures { OnOk result (into.new ≡ into.old ++ listed (old_need program.now pool.now instr.now was.now)) }
 {
     let need = old_need(alloc, program, pool, instr, was)?;
     push_listed(into, need)
@@ -145,11 +145,11 @@ fn push_old(
 
 fn push_added(
     alloc: Global,
-    into: &mut Vec<Need>,
+    into: &mut Seq<Need>,
     program: &Program,
     instr: &Instr,
 ) -> Result<(), NoMemory>
-    ensures { OnOk result (into.new.items ≡ into.old.items ++ listed (added_need program.now instr.now)) }
+    ensures { OnOk result (into.new ≡ into.old ++ listed (added_need program.now instr.now)) }
 {
     let need = added_need(alloc, program, instr)?;
     push_listed(into, need)
@@ -158,14 +158,14 @@ fn push_added(
 // What the instructions of a woven code need; the counted ones are the old ones, in order.
 fn push_code(
     alloc: Global,
-    into: &mut Vec<Need>,
+    into: &mut Seq<Need>,
     program: &Program,
     pool: &Pool,
     code: &[(u32, Instr)],
     counted: &[bool],
     olds: &[(u32, RawInstr)],
 ) -> Result<(), NoMemory>
-    ensures { OnOk result (into.new.items ≡ into.old.items ++ code_needs program.now pool.now code.now counted.now olds.now) }
+    ensures { OnOk result (into.new ≡ into.old ++ code_needs program.now pool.now code.now counted.now olds.now) }
 {
     let mut marks = counted;
     let mut rest = olds;
@@ -199,14 +199,14 @@ pub fn instrs_if(alloc: Global, code: &[u8]) -> Result<Seq<(u32, RawInstr)>, NoM
 
 fn push_instrs(
     alloc: Global,
-    into: &mut Vec<Need>,
+    into: &mut Seq<Need>,
     program: &Program,
     pool: &Pool,
     method: &Method,
     counted: &[bool],
     code: &Code,
 ) -> Result<(), NoMemory>
-    ensures { OnOk result (into.new.items ≡ into.old.items ++ instrs_needs program.now pool.now method.now counted.now code.now) }
+    ensures { OnOk result (into.new ≡ into.old ++ instrs_needs program.now pool.now method.now counted.now code.now) }
 {
     if has_calls(program, method) {
         let olds = instrs_if(alloc, code.code.as_slice())?;
@@ -254,11 +254,11 @@ pub fn table_units(alloc: Global) -> Result<Units, NoMemory>
 
 fn push_table(
     alloc: Global,
-    into: &mut Vec<Need>,
+    into: &mut Seq<Need>,
     name: Option<u16>,
     method: &Method,
 ) -> Result<(), NoMemory>
-    ensures { OnOk result (into.new.items ≡ into.old.items ++ table_need name method.now) }
+    ensures { OnOk result (into.new ≡ into.old ++ table_need name method.now) }
 {
     if name.is_none() && !method.frames.is_empty() {
         into.push(Need::AText(table_units(alloc)?))?;
@@ -268,11 +268,11 @@ fn push_table(
 
 fn push_type(
     alloc: Global,
-    into: &mut Vec<Need>,
+    into: &mut Seq<Need>,
     program: &Program,
     ty: &VType,
 ) -> Result<(), NoMemory>
-    ensures { OnOk result (into.new.items ≡ into.old.items ++ type_needs program.now ty.now) }
+    ensures { OnOk result (into.new ≡ into.old ++ type_needs program.now ty.now) }
 {
     match ty {
         VType::Object(found) => into.push(Need::AClass(type_name(alloc, program, *found)?))?,
@@ -283,11 +283,11 @@ fn push_type(
 
 fn push_types(
     alloc: Global,
-    into: &mut Vec<Need>,
+    into: &mut Seq<Need>,
     program: &Program,
     types: &[VType],
 ) -> Result<(), NoMemory>
-    ensures { OnOk result (into.new.items ≡ into.old.items ++ flat_map (type_needs program.now) types.now) }
+    ensures { OnOk result (into.new ≡ into.old ++ flat_map (type_needs program.now) types.now) }
 {
     for ty in types {
         push_type(alloc, into, program, ty)?;
@@ -298,11 +298,11 @@ fn push_types(
 #[tactic(auto, using(crate::proofs::Lists::flat_map_append))]
 fn push_frame(
     alloc: Global,
-    into: &mut Vec<Need>,
+    into: &mut Seq<Need>,
     program: &Program,
     frame: &Frame,
 ) -> Result<(), NoMemory>
-    ensures { OnOk result (into.new.items ≡ into.old.items ++ frame_needs program.now frame.now) }
+    ensures { OnOk result (into.new ≡ into.old ++ frame_needs program.now frame.now) }
 {
     push_types(alloc, into, program, frame.locals.as_slice())?;
     push_types(alloc, into, program, frame.stack.as_slice())
@@ -310,11 +310,11 @@ fn push_frame(
 
 fn push_frames(
     alloc: Global,
-    into: &mut Vec<Need>,
+    into: &mut Seq<Need>,
     program: &Program,
     frames: &[(u32, Frame)],
 ) -> Result<(), NoMemory>
-    ensures { OnOk result (into.new.items ≡ into.old.items ++ frames_needs program.now frames.now) }
+    ensures { OnOk result (into.new ≡ into.old ++ frames_needs program.now frames.now) }
 {
     for entry in frames {
         push_frame(alloc, into, program, &entry.1)?;
@@ -326,14 +326,14 @@ fn push_frames(
 
 fn push_code_attribute(
     alloc: Global,
-    into: &mut Vec<Need>,
+    into: &mut Seq<Need>,
     program: &Program,
     pool: &Pool,
     method: &Method,
     counted: &[bool],
     code: &Code,
 ) -> Result<(), NoMemory>
-    ensures { OnOk result (into.new.items ≡ into.old.items ++ (instrs_needs program.now pool.now method.now counted.now code.now ++ (table_need (old_table code.now) method.now ++ frames_needs program.now method.now.frames))) }
+    ensures { OnOk result (into.new ≡ into.old ++ (instrs_needs program.now pool.now method.now counted.now code.now ++ (table_need (old_table code.now) method.now ++ frames_needs program.now method.now.frames))) }
 {
     push_instrs(alloc, into, program, pool, method, counted, code)?;
     push_table(alloc, into, old_table(code), method)?;
@@ -342,14 +342,14 @@ fn push_code_attribute(
 
 fn push_info(
     alloc: Global,
-    into: &mut Vec<Need>,
+    into: &mut Seq<Need>,
     program: &Program,
     pool: &Pool,
     method: &Method,
     counted: &[bool],
     info: &Info,
 ) -> Result<(), NoMemory>
-    ensures { OnOk result (into.new.items ≡ into.old.items ++ info_needs program.now pool.now method.now counted.now info.now) }
+    ensures { OnOk result (into.new ≡ into.old ++ info_needs program.now pool.now method.now counted.now info.now) }
 {
     match info {
         Info::Code(code) => push_code_attribute(alloc, into, program, pool, method, counted, code),
@@ -360,14 +360,14 @@ fn push_info(
 /// What the attributes of a method that pauses need.
 pub fn push_attributes(
     alloc: Global,
-    into: &mut Vec<Need>,
+    into: &mut Seq<Need>,
     program: &Program,
     pool: &Pool,
     method: &Method,
     counted: &[bool],
     attributes: &[Attribute],
 ) -> Result<(), NoMemory>
-    ensures { OnOk result (into.new.items ≡ into.old.items ++ flat_map (λ (a : Attribute). info_needs program.now pool.now method.now counted.now a.info) attributes.now) }
+    ensures { OnOk result (into.new ≡ into.old ++ flat_map (λ (a : Attribute). info_needs program.now pool.now method.now counted.now a.info) attributes.now) }
 {
     for attribute in attributes {
         push_info(alloc, into, program, pool, method, counted, &attribute.info)?;

@@ -5,6 +5,7 @@ ghost use Rattle.std.specs.List.{flat_map};
 ghost use Rattle.kilim_attributes.specs.declared.attribute.Attribute.{Attribute};
 ghost use Rattle.kilim_link_spec.specs.World.{member_descriptor};
 ghost use Rattle.kilim_class_fits.specs.declared.pool_needs.need.Need.TheVariants.{AText};
+ghost use Rattle.kilim_class_fits.specs.pool_needs.Adding.{with_needs};
 ghost use Rattle.kilim_woven_sizes.specs.file_laws.form.Texts.{woven_descriptor};
 ghost use Rattle.kilim_classfile.specs.Text.{ClassFits, class_text};
 ghost use Rattle.kilim_woven_sizes.specs.file_laws.form.Sizes.{longest_text};
@@ -23,6 +24,7 @@ use kilim_constant_pool::Pool;
 use kilim_units::{NoMemory, Seq};
 use kilim_woven_sizes::{added_entries, methods_bytes, plus, size_by};
 use std::alloc::Global;
+use std::mem::replace;
 
 /// The most indices of a pool (JVMS 4.1).
 const MOST_ENTRIES: u64 = 65_535;
@@ -34,14 +36,14 @@ const MOST_BYTES: u64 = 16_777_216;
 
 fn push_pausing(
     alloc: Global,
-    into: &mut Vec<Need>,
+    into: &mut Seq<Need>,
     program: &Program,
     file: &ClassFile,
     info: &MemberInfo,
     method: &Method,
     counted: &[bool],
 ) -> Result<(), NoMemory>
-    ensures { OnOk result (into.new.items ≡ into.old.items ++ (AText (woven_descriptor (member_descriptor file.now info.now)) ∷ flat_map (λ (a : Attribute). info_needs program.now file.now.constant_pool method.now counted.now a.info) info.now.attributes)) }
+    ensures { OnOk result (into.new ≡ into.old ++ (AText (woven_descriptor (member_descriptor file.now info.now)) ∷ flat_map (λ (a : Attribute). info_needs program.now file.now.constant_pool method.now counted.now a.info) info.now.attributes)) }
 {
     into.push(Need::AText(member_text(alloc, file, info)?))?;
     let pool = &file.constant_pool;
@@ -58,7 +60,7 @@ fn push_pausing(
 
 fn push_member(
     alloc: Global,
-    into: &mut Vec<Need>,
+    into: &mut Seq<Need>,
     program: &Program,
     file: &ClassFile,
     info: &MemberInfo,
@@ -66,7 +68,7 @@ fn push_member(
     method: &Method,
     counted: &[bool],
 ) -> Result<(), NoMemory>
-    ensures { OnOk result (into.new.items ≡ into.old.items ++ member_needs program.now file.now (record { info = info.now; plain = plain.now; method = method.now; counted = counted.now })) }
+    ensures { OnOk result (into.new ≡ into.old ++ member_needs program.now file.now (record { info = info.now; plain = plain.now; method = method.now; counted = counted.now })) }
 {
     if plain.pausable {
         push_pausing(alloc, into, program, file, info, method, counted)?;
@@ -81,10 +83,10 @@ fn file_needs(
     plains: &[Method],
     wovens: &[Method],
     counted: &[Seq<bool>],
-) -> Result<Vec<Need>, NoMemory>
-    ensures { IfOk result (λ v. v.items ≡ flat_map (member_needs program.now file.now) (pairs_of file.now.methods plains.now wovens.now counted.now)) }
+) -> Result<Seq<Need>, NoMemory>
+    ensures { IfOk result (λ v. v ≡ flat_map (member_needs program.now file.now) (pairs_of file.now.methods plains.now wovens.now counted.now)) }
 {
-    let mut all = Vec::new(alloc);
+    let mut all = Seq::new(alloc);
     let mut ps = plains;
     let mut ms = wovens;
     let mut cs = counted;
@@ -197,7 +199,7 @@ fn woven_members(
     requires counted { length infos ≡ length counted.now }
     ensures { IfOk result (λ v. v ≡ map (woven_member program.now file.now pool.now) (pairs_of infos plains.now wovens.now counted.now)) }
 {
-    let mut all = Vec::new(alloc);
+    let mut all = Seq::new(alloc);
     let mut at = 0;
     for info in infos.into_vec() {
         let plain = method_get(plains, at);
@@ -207,21 +209,60 @@ fn woven_members(
         all.push(member)?;
         at += 1;
     }
-    Ok(Seq::from_vec(all))
+    Ok(all)
 }
 
 // ---- the file
 
 // The file again, by its text.
-fn copy(alloc: Global, file: &ClassFile, text: &[u8]) -> Result<ClassFile, NoMemory>
+fn copy(alloc: Global, file: &ClassFile, text: Vec<u8>) -> Result<ClassFile, NoMemory>
     requires fits { ClassFits file.now }
-    requires text { text.now ≡ class_text file.now }
+    requires text { text.items ≡ class_text file.now }
     ensures { IfOk result (λ f. f ≡ file.now) }
 {
-    match read(alloc, text) {
+    let again = read(alloc, text.as_slice());
+    drop(text);
+    match again {
         Ok(found) => Ok(found),
         Err(_) => Err(NoMemory),
     }
+}
+
+// Adds what the methods of a file need to a pool.
+fn push_needs(
+    alloc: Global,
+    program: &Program,
+    file: &ClassFile,
+    pool: &mut Pool,
+    plains: &[Method],
+    wovens: &[Method],
+    counted: &[Seq<bool>],
+) -> Result<(), NoMemory>
+    ensures { OnOk result (pool.new ≡ with_needs pool.old (flat_map (member_needs program.now file.now) (pairs_of file.now.methods plains.now wovens.now counted.now))) }
+{
+    let needs = file_needs(alloc, program, file, plains, wovens, counted)?;
+    with_needs(pool, needs.as_slice())
+}
+
+// Weaves the methods of a copy whose pool has what they need.
+fn weave_methods(
+    alloc: Global,
+    program: &Program,
+    file: &ClassFile,
+    made: &mut ClassFile,
+    plains: &[Method],
+    wovens: &[Method],
+    counted: &[Seq<bool>],
+) -> Result<(), NoMemory>
+    requires plain { length made.old.methods ≡ length plains.now }
+    requires woven { length made.old.methods ≡ length wovens.now }
+    requires counted { length made.old.methods ≡ length counted.now }
+    ensures { OnOk result (made.new ≡ record made.old { methods = map (woven_member program.now file.now made.old.constant_pool) (pairs_of made.old.methods plains.now wovens.now counted.now) }) }
+{
+    let infos = replace(&mut made.methods, Seq::new(alloc));
+    let pool = &made.constant_pool;
+    made.methods = woven_members(alloc, program, file, pool, infos, plains, wovens, counted)?;
+    Ok(())
 }
 
 fn woven_file(
@@ -239,31 +280,11 @@ fn woven_file(
     requires counted { length file.now.methods ≡ length counted.now }
     ensures { IfOk result (λ f. f ≡ woven_file program.now file.now (pairs_of file.now.methods plains.now wovens.now counted.now)) }
 {
-    let needs = file_needs(alloc, program, file, plains, wovens, counted)?;
-    let mut pool = copy.constant_pool;
-    with_needs(&mut pool, needs.as_slice())?;
-    let methods = woven_members(
-        alloc,
-        program,
-        file,
-        &pool,
-        copy.methods,
-        plains,
-        wovens,
-        counted,
-    )?;
-    Ok(ClassFile {
-        minor_version: copy.minor_version,
-        major_version: copy.major_version,
-        constant_pool: pool,
-        access_flags: copy.access_flags,
-        this_class: copy.this_class,
-        super_class: copy.super_class,
-        interfaces: copy.interfaces,
-        fields: copy.fields,
-        methods,
-        attributes: copy.attributes,
-    })
+    let mut made = copy;
+    let pool = &mut made.constant_pool;
+    push_needs(alloc, program, file, pool, plains, wovens, counted)?;
+    weave_methods(alloc, program, file, &mut made, plains, wovens, counted)?;
+    Ok(made)
 }
 
 // The file, where it has a text. Each woven file within the bounds has one, where no method has too many arguments or too long a
@@ -272,11 +293,36 @@ fn fitting(alloc: Global, file: ClassFile) -> Result<ClassFile, NoMemory>
     ensures same { IfOk result (λ f. f ≡ file) }
     ensures fits { IfOk result ClassFits }
 {
-    if fits(alloc, &file)? {
-        Ok(file)
-    } else {
-        Err(NoMemory)
+    match fits(alloc, &file) {
+        Ok(true) => Ok(file),
+        _ => {
+            drop(file);
+            Err(NoMemory)
+        }
     }
+}
+
+// The woven file, where it has a text, of a file with this text.
+fn made(
+    alloc: Global,
+    program: &Program,
+    file: &ClassFile,
+    text: Vec<u8>,
+    plains: &[Method],
+    wovens: &[Method],
+    counted: &[Seq<bool>],
+) -> Result<ClassFile, NoMemory>
+    requires fits { ClassFits file.now }
+    requires text { text.items ≡ class_text file.now }
+    requires plain { length file.now.methods ≡ length plains.now }
+    requires woven { length file.now.methods ≡ length wovens.now }
+    requires counted { length file.now.methods ≡ length counted.now }
+    ensures made { IfOk result (λ f. f ≡ woven_file program.now file.now (pairs_of file.now.methods plains.now wovens.now counted.now)) }
+    ensures fits { IfOk result ClassFits }
+{
+    let again = copy(alloc, file, text)?;
+    let woven = woven_file(alloc, program, file, again, plains, wovens, counted)?;
+    fitting(alloc, woven)
 }
 
 // Whether pool and text stay within their bounds, by the bound on each.
@@ -338,7 +384,5 @@ pub fn apply(
 {
     let text = write(alloc, file)?;
     sizes_fit(plain, file, text.len(), longest, plains, wovens, counted)?;
-    let again = copy(alloc, file, text.as_slice())?;
-    let made = woven_file(alloc, woven, file, again, plains, wovens, counted)?;
-    Ok(fitting(alloc, made)?)
+    Ok(made(alloc, woven, file, text, plains, wovens, counted)?)
 }

@@ -1,9 +1,10 @@
-use Rattle.std.proofs.Common.{◌≡◌, ℕ, suc, ◌+◌, ◌-◌, ◌<◌, List, [], ◌∷◌, ◌++◌, length, get_or, drop, drop-cons, sym, ap, ◌∙◌, add-one, append_assoc}
+use Rattle.std.proofs.Common.{◌≡◌, ℕ, suc, ◌+◌, ◌-◌, ◌<◌, List, [], ◌∷◌, ◌++◌, length, get_or, drop, drop-cons, sym, ap, ◌∙◌, add-one, append_assoc, refl}
 use Rattle.kilim_attribute_parts.specs.declared.frame.Frame.{Frame as FrameForm}
 use Rattle.kilim_classes.specs.declared.verified.Frame.{Frame}
 use Rattle.kilim_classes.specs.Program.{Program}
 use Rattle.kilim_constant_pool.specs.declared.entry.Entry.{Entry}
 use Rattle.kilim_woven_sizes.specs.file_laws.form.FullFrames.{full_frame, full_frames}
+use Rattle.kilim_weave_file.proofs.Loops.{all_made}
 use Rattle.kilim_weave_file.proofs.frames.full_frames.Goals as goal
 
 -- the frames behind one more
@@ -21,5 +22,10 @@ one_more w pool frames i e next later delta made all new whole lt is far is_made
 
 pub loop-entry-preserved : goal.loop-entry-preserved
 loop-entry-preserved c =
-    one_more c.args.program.now c.args.pool.now c.args.frames.now c.loop-entry.entry-index c.entry-item.result c.loop-entry.next c.in_ok-next.next c.in_ok-delta.delta c.in_ok-full_frame.field-0 c.loop-entry.all.items c.push.new.self.items
-    (full_frames c.args.program.now c.args.pool.now 0 c.args.frames.now) c.loop-entry-test.true c.entry-item.is c.in_ok-delta.ensures c.in_ok-full_frame.ensures c.in_ok-next.ensures c.in_ok-push.ensures.items c.loop-entry.invariant
+    one_more c.args.program.now c.args.pool.now c.args.frames.now c.loop-entry.entry-index c.entry-item.result c.loop-entry.next c.in_ok-next.next c.in_ok-delta.delta c.in_ok-full_frame.field-0 c.loop-entry.all c.push.new.self
+    (full_frames c.args.program.now c.args.pool.now 0 c.args.frames.now) c.loop-entry-test.true c.entry-item.is c.in_ok-delta.ensures c.in_ok-full_frame.ensures c.in_ok-next.ensures c.in_ok-push.ensures.ok c.loop-entry.invariant
+
+pub returns : goal.returns
+unfolding full_frames
+returns c =
+    all_made (full_frames c.args.program.now c.args.pool.now c.loop-entry.next) c.loop-entry.all (full_frames c.args.program.now c.args.pool.now 0 c.args.frames.now) c.args.frames.now c.loop-entry.entry-index refl c.loop-entry-test.false c.loop-entry.invariant

@@ -3,4 +3,4 @@ use Rattle.kilim_woven_sizes.specs.file_laws.form.FullFrames.{full_frames}
 use Rattle.kilim_weave_file.proofs.frames.full_frames.Given as goal
 
 abbrev pub invariant-loop-entry : goal.invariant-loop-entry
-invariant-loop-entry l = l.all.items ++ full_frames l.program l.pool l.next (drop l.entry-index l.frames) ≡ full_frames l.program l.pool 0 l.frames
+invariant-loop-entry l = l.all ++ full_frames l.program l.pool l.next (drop l.entry-index l.frames) ≡ full_frames l.program l.pool 0 l.frames

@@ -4,4 +4,4 @@ use Rattle.kilim_woven_sizes.specs.file_laws.form.WovenFile.{woven_attribute}
 use Rattle.kilim_weave_file.proofs.members.woven_attributes.Given as goal
 
 abbrev pub invariant-loop-attribute : goal.invariant-loop-attribute
-invariant-loop-attribute l = l.all.items ≡ filter_map (woven_attribute l.program l.old l.pool l.method l.counted) l.yielded
+invariant-loop-attribute l = l.all ≡ filter_map (woven_attribute l.program l.old l.pool l.method l.counted) l.yielded

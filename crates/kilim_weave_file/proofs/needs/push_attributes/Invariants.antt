@@ -6,5 +6,5 @@ use Rattle.kilim_weave_file.proofs.needs.push_attributes.Given as goal
 
 abbrev pub invariant-loop-attribute : goal.invariant-loop-attribute
 invariant-loop-attribute l =
-    l.into.items ++ flat_map (λ (a : Attribute). info_needs l.program l.pool l.method l.counted a.info) (drop l.attribute-index l.attributes)
-    ≡ l.fn.into.items ++ flat_map (λ (a : Attribute). info_needs l.program l.pool l.method l.counted a.info) l.attributes
+    l.into ++ flat_map (λ (a : Attribute). info_needs l.program l.pool l.method l.counted a.info) (drop l.attribute-index l.attributes)
+    ≡ l.fn.into ++ flat_map (λ (a : Attribute). info_needs l.program l.pool l.method l.counted a.info) l.attributes

@@ -4,4 +4,4 @@ use Rattle.kilim_weave_file.proofs.needs.push_code.Given as goal
 
 abbrev pub invariant-loop-entry : goal.invariant-loop-entry
 invariant-loop-entry l =
-    l.into.items ++ code_needs l.program l.pool (drop l.entry-index l.code) l.marks l.rest ≡ l.fn.into.items ++ code_needs l.program l.pool l.code l.counted l.olds
+    l.into ++ code_needs l.program l.pool (drop l.entry-index l.code) l.marks l.rest ≡ l.fn.into ++ code_needs l.program l.pool l.code l.counted l.olds

@@ -1,12 +1,17 @@
-use Rattle.std.proofs.Common.{ℕ, ◌++◌}
+use Rattle.std.proofs.Common.{ℕ, ◌++◌, refl}
 use Rattle.std.specs.List.{flat_map}
 use Rattle.kilim_classes.specs.declared.verified.Frame.{Frame}
 use Rattle.kilim_woven_sizes.specs.file_laws.form.FullFrames.{frame_needs}
-use Rattle.kilim_weave_file.proofs.Loops.{ahead}
+use Rattle.kilim_weave_file.proofs.Loops.{ahead, all_made}
 use Rattle.kilim_weave_file.proofs.needs.push_frames.Goals as goal
 
 pub loop-entry-preserved : goal.loop-entry-preserved
 loop-entry-preserved c =
     let f = λ (e : ℕ × Frame). frame_needs c.args.program.now e.1 in
-    ahead f c.loop-entry.into.items c.push_frame.new.into.items (c.args.into.now.items ++ flat_map f c.args.frames.now) c.args.frames.now c.loop-entry.entry-index c.entry-item.result _
+    ahead f c.loop-entry.into c.push_frame.new.into (c.args.into.now ++ flat_map f c.args.frames.now) c.args.frames.now c.loop-entry.entry-index c.entry-item.result _
     c.loop-entry-test.true c.entry-item.is c.loop-entry.invariant c.in_ok-push_frame.ensures
+
+pub returns : goal.returns
+returns c =
+    let f = λ (e : ℕ × Frame). frame_needs c.args.program.now e.1 in
+    all_made (flat_map f) c.loop-entry.into (c.args.into.now ++ flat_map f c.args.frames.now) c.args.frames.now c.loop-entry.entry-index refl c.loop-entry-test.false c.loop-entry.invariant

@@ -3,4 +3,4 @@ use Rattle.kilim_woven_sizes.specs.file_laws.form.FullFrames.{frames_needs}
 use Rattle.kilim_weave_file.proofs.needs.push_frames.Given as goal
 
 abbrev pub invariant-loop-entry : goal.invariant-loop-entry
-invariant-loop-entry l = l.into.items ++ frames_needs l.program (drop l.entry-index l.frames) ≡ l.fn.into.items ++ frames_needs l.program l.frames
+invariant-loop-entry l = l.into ++ frames_needs l.program (drop l.entry-index l.frames) ≡ l.fn.into ++ frames_needs l.program l.frames

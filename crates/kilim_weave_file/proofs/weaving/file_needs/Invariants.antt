@@ -5,5 +5,5 @@ use Rattle.kilim_weave_file.proofs.weaving.file_needs.Given as goal
 
 abbrev pub invariant-loop-info : goal.invariant-loop-info
 invariant-loop-info l =
-    l.all.items ++ flat_map (member_needs l.program l.file) (pairs_of (drop l.info-index l.file.methods) l.ps l.ms l.cs)
+    l.all ++ flat_map (member_needs l.program l.file) (pairs_of (drop l.info-index l.file.methods) l.ps l.ms l.cs)
     ≡ flat_map (member_needs l.program l.file) (pairs_of l.file.methods l.plains l.wovens l.counted)
