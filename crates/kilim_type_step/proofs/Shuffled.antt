@@ -5,9 +5,12 @@ use Rattle.std.proofs.lemmas.Bool.{cases_lt, lt-leb, le-leb}
 use Rattle.std.proofs.lemmas.List.{drop_more, drop_all, append_assoc, append-nil, reverse-append, reverse-reverse}
 use Rattle.kilim_classes.specs.declared.verified.VType.{VType}
 use Rattle.kilim_classes.specs.declared.verified.VType.TheVariants.{Top, Int, Long, Null, UninitThis, Uninit, Object}
-use Rattle.kilim_typing.specs.Step.{words, off, then_off, shuffled, Drops, Copies, Swaps}
+use Rattle.kilim_typing.specs.Step.{Types, words, off, then_off, shuffled, with_stack, Drops, Copies, Swaps}
 use Rattle.kilim_type_step.proofs.Types.{words_reverse}
-use Rattle.kilim_type_step.specs.Forms.{count_off, number}
+use Rattle.kilim_type_step.specs.Answers.{answers}
+use Rattle.kilim_type_step.specs.Forms.{SplitFails, count_off, number}
+use Rattle.kilim_type_step.specs.declared.fault.StepFault.{StepFault}
+use Rattle.kilim_type_step.specs.declared.fault.StepFault.TheVariants.{Rule, Memory}
 use Rattle.kilim_type_step.specs.declared.shuffles.Words.{Words}
 use Rattle.kilim_type_step.specs.declared.shuffles.Words.TheVariants as number_of
 
@@ -111,6 +114,17 @@ off_ok w s a b k e f g = off_shown w s ∙ ap (λ (o : Option VType). parts (cou
 pub off_err : (w : Words) (s : List VType) (a b : Option VType) (r : ℕ) → a ≡ slice_get s 0 → b ≡ slice_get s 1 → count_off (number w) a b ≡ Err r → off (number w) s ≡ Err r
 off_err w s a b r e f g = off_shown w s ∙ ap (λ (o : Option VType). parts (count_off (number w) o (slice_get s 1)) s) (sym e) ∙ ap (λ (o : Option VType). parts (count_off (number w) a o) s) (sym f) ∙ ap (λ q. parts q s) g
 
+-- so many words are split off
+abbrev pub in_two : List VType → List VType → Result (List VType × List VType) ℕ
+in_two above below = Ok (above, below)
+
+pub split_ok : (w : Words) (f g : Types) (a b : Option VType) (k : ℕ) (xs : List VType) → a ≡ slice_get f.stack 0 → b ≡ slice_get f.stack 1 → count_off (number w) a b ≡ Ok k → xs ≡ take k f.stack → g ≡ record f { stack = drop k f.stack } →
+    off (number w) f.stack ≡ Ok (xs, g.stack)
+split_ok w f g a b k xs e h counted is after = off_ok w f.stack a b k e h counted ∙ (ap (λ (ys : List VType). in_two ys (drop k f.stack)) (sym is) ∙ ap (λ (t : Types). in_two xs t.stack) (sym after))
+
+pub rest_kept : (f g : Types) (s : List VType) → g ≡ record f { stack = s } → g ≡ record f { stack = g.stack }
+rest_kept f g s e = e ∙ ap (λ (t : Types). record f { stack = t.stack }) (sym e)
+
 -- ---- forms
 
 pub drops_ok : (n : ℕ) (s a rest : List VType) → off n s ≡ Ok (a, rest) → shuffled (Drops n) s ≡ Ok rest
@@ -136,6 +150,28 @@ swaps_first r s e = ap (λ q. then_off q (λ x y. then_off (off 1 y) (λ z w. Ok
 
 pub swaps_second : (r : ℕ) (s a below : List VType) → off 1 s ≡ Ok (a, below) → off 1 below ≡ Err r → shuffled Swaps s ≡ Err r
 swaps_second r s a below e f = ap (λ q. then_off q (λ x y. then_off (off 1 y) (λ z w. Ok (z ++ (x ++ w))))) e ∙ ap (λ q. then_off q (λ z w. Ok (z ++ (a ++ w)))) f
+
+-- ---- faults of splitting off
+
+pub drops_fault : (f g : Types) (n : ℕ) (fault : StepFault) → SplitFails n f.stack fault → answers (with_stack f (shuffled (Drops n) f.stack)) (Err fault) g
+drops_fault f g n (Rule r) h = ap (with_stack f) (drops_err n r f.stack h)
+drops_fault f g n Memory h = tt
+
+pub copies_fault : (f g : Types) (n k : ℕ) (fault : StepFault) → SplitFails n f.stack fault → answers (with_stack f (shuffled (Copies n k) f.stack)) (Err fault) g
+copies_fault f g n k (Rule r) h = ap (with_stack f) (copies_first n k r f.stack h)
+copies_fault f g n k Memory h = tt
+
+pub copies_later : (f g : Types) (n k : ℕ) (fault : StepFault) (a below : List VType) → off n f.stack ≡ Ok (a, below) → SplitFails k below fault → answers (with_stack f (shuffled (Copies n k) f.stack)) (Err fault) g
+copies_later f g n k (Rule r) a below e h = ap (with_stack f) (copies_second n k r f.stack a below e h)
+copies_later f g n k Memory a below e h = tt
+
+pub swaps_fault : (f g : Types) (fault : StepFault) → SplitFails 1 f.stack fault → answers (with_stack f (shuffled Swaps f.stack)) (Err fault) g
+swaps_fault f g (Rule r) h = ap (with_stack f) (swaps_first r f.stack h)
+swaps_fault f g Memory h = tt
+
+pub swaps_later : (f g : Types) (fault : StepFault) (a below : List VType) → off 1 f.stack ≡ Ok (a, below) → SplitFails 1 below fault → answers (with_stack f (shuffled Swaps f.stack)) (Err fault) g
+swaps_later f g (Rule r) a below e h = ap (with_stack f) (swaps_second r f.stack a below e h)
+swaps_later f g Memory a below e h = tt
 
 -- ---- types pushed one by one, the last first
 

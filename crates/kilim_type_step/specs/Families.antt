@@ -3,60 +3,6 @@ use Rattle.std.specs.Prelude.{Bool, true, false}
 use Rattle.kilim_classes.specs.declared.instr.Instr.{Instr}
 use Rattle.kilim_classes.specs.declared.instr.Instr.TheVariants.{Nop, AconstNull, Iconst, Lconst, Bipush, Sipush, Ldc, LdcW, Ldc2W, Iload, Lload, Aload, Iaload, Laload, Aaload, Baload, Caload, Saload, Istore, Lstore, Astore, Iastore, Lastore, Aastore, Bastore, Castore, Sastore, Pop, Pop2, Dup, DupX1, DupX2, Dup2, Dup2X1, Dup2X2, Swap, Iadd, Ladd, Isub, Lsub, Imul, Lmul, Idiv, Ldiv, Irem, Lrem, Ineg, Lneg, Ishl, Lshl, Ishr, Lshr, Iushr, Lushr, Iand, Land, Ior, Lor, Ixor, Lxor, Iinc, I2l, L2i, I2b, I2c, I2s, Lcmp, Ifeq, Ifne, Iflt, Ifge, Ifgt, Ifle, IfIcmpeq, IfIcmpne, IfIcmplt, IfIcmpge, IfIcmpgt, IfIcmple, IfAcmpeq, IfAcmpne, Goto, Tableswitch, Lookupswitch, Ireturn, Lreturn, Areturn, Return, Getstatic, Getfield, Putfield, Invokevirtual, Invokespecial, Invokestatic, New, Newarray, Anewarray, Arraylength, Checkcast, Instanceof, Ifnull, Ifnonnull, GotoW}
 
--- constants and nop
-abbrev pub is_constant : Instr → Bool
-is_constant Nop = true
-is_constant AconstNull = true
-is_constant (Iconst a) = true
-is_constant (Lconst a) = true
-is_constant (Bipush a) = true
-is_constant (Sipush a) = true
-is_constant (Ldc a) = true
-is_constant (LdcW a) = true
-is_constant (Ldc2W a) = true
-is_constant _ = false
-
--- loads and stores of locals
-abbrev pub is_local : Instr → Bool
-is_local (Iload a) = true
-is_local (Lload a) = true
-is_local (Aload a) = true
-is_local (Istore a) = true
-is_local (Lstore a) = true
-is_local (Astore a) = true
-is_local (Iinc a b) = true
-is_local _ = false
-
--- arrays
-abbrev pub is_array : Instr → Bool
-is_array Iaload = true
-is_array Laload = true
-is_array Aaload = true
-is_array Baload = true
-is_array Caload = true
-is_array Saload = true
-is_array Iastore = true
-is_array Lastore = true
-is_array Aastore = true
-is_array Bastore = true
-is_array Castore = true
-is_array Sastore = true
-is_array Arraylength = true
-is_array _ = false
-
--- pop, dup and swap forms
-abbrev pub is_shuffle : Instr → Bool
-is_shuffle Pop = true
-is_shuffle Pop2 = true
-is_shuffle Dup = true
-is_shuffle DupX1 = true
-is_shuffle DupX2 = true
-is_shuffle Dup2 = true
-is_shuffle Dup2X1 = true
-is_shuffle Dup2X2 = true
-is_shuffle Swap = true
-is_shuffle _ = false
-
 -- arithmetic and conversions
 abbrev pub is_arithmetic : Instr → Bool
 is_arithmetic Iadd = true
@@ -91,29 +37,79 @@ is_arithmetic I2s = true
 is_arithmetic Lcmp = true
 is_arithmetic _ = false
 
--- jumps and switches
-abbrev pub is_jump : Instr → Bool
-is_jump (Ifeq a) = true
-is_jump (Ifne a) = true
-is_jump (Iflt a) = true
-is_jump (Ifge a) = true
-is_jump (Ifgt a) = true
-is_jump (Ifle a) = true
-is_jump (IfIcmpeq a) = true
-is_jump (IfIcmpne a) = true
-is_jump (IfIcmplt a) = true
-is_jump (IfIcmpge a) = true
-is_jump (IfIcmpgt a) = true
-is_jump (IfIcmple a) = true
-is_jump (IfAcmpeq a) = true
-is_jump (IfAcmpne a) = true
-is_jump (Goto a) = true
-is_jump (Tableswitch a b c) = true
-is_jump (Lookupswitch a b) = true
-is_jump (Ifnull a) = true
-is_jump (Ifnonnull a) = true
-is_jump (GotoW a) = true
-is_jump _ = false
+-- the others whose operands depend on nothing: constants, jumps, and elements of arrays of primitive types
+abbrev pub is_plain : Instr → Bool
+is_plain Nop = true
+is_plain AconstNull = true
+is_plain (Iconst a) = true
+is_plain (Lconst a) = true
+is_plain (Bipush a) = true
+is_plain (Sipush a) = true
+is_plain Iaload = true
+is_plain Laload = true
+is_plain Baload = true
+is_plain Caload = true
+is_plain Saload = true
+is_plain Iastore = true
+is_plain Lastore = true
+is_plain Bastore = true
+is_plain Castore = true
+is_plain Sastore = true
+is_plain Arraylength = true
+is_plain (Ifeq a) = true
+is_plain (Ifne a) = true
+is_plain (Iflt a) = true
+is_plain (Ifge a) = true
+is_plain (Ifgt a) = true
+is_plain (Ifle a) = true
+is_plain (IfIcmpeq a) = true
+is_plain (IfIcmpne a) = true
+is_plain (IfIcmplt a) = true
+is_plain (IfIcmpge a) = true
+is_plain (IfIcmpgt a) = true
+is_plain (IfIcmple a) = true
+is_plain (Goto a) = true
+is_plain (Tableswitch a b c) = true
+is_plain (Lookupswitch a b) = true
+is_plain (GotoW a) = true
+is_plain _ = false
+
+-- constants of the pool
+abbrev pub is_constant : Instr → Bool
+is_constant (Ldc a) = true
+is_constant (LdcW a) = true
+is_constant (Ldc2W a) = true
+is_constant _ = false
+
+-- loads and stores of locals
+abbrev pub is_local : Instr → Bool
+is_local (Iload a) = true
+is_local (Lload a) = true
+is_local (Aload a) = true
+is_local (Istore a) = true
+is_local (Lstore a) = true
+is_local (Astore a) = true
+is_local (Iinc a b) = true
+is_local _ = false
+
+-- elements of arrays of references
+abbrev pub is_reference_element : Instr → Bool
+is_reference_element Aaload = true
+is_reference_element Aastore = true
+is_reference_element _ = false
+
+-- pop, dup and swap forms
+abbrev pub is_shuffle : Instr → Bool
+is_shuffle Pop = true
+is_shuffle Pop2 = true
+is_shuffle Dup = true
+is_shuffle DupX1 = true
+is_shuffle DupX2 = true
+is_shuffle Dup2 = true
+is_shuffle Dup2X1 = true
+is_shuffle Dup2X2 = true
+is_shuffle Swap = true
+is_shuffle _ = false
 
 -- returns
 abbrev pub is_return : Instr → Bool

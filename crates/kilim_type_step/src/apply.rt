@@ -132,7 +132,7 @@ fn number(also: Also) -> u8
 }
 
 /// The first further rule that fails.
-#[tactic(auto, using(crate::proofs::Rows::failing_on, crate::proofs::Rows::failing_at))]
+#[tactic(auto, using(crate::proofs::Rows::failing_at))]
 pub fn failing(program: &Program, also: &[Also], state: &State) -> Option<u8>
     ensures { result ≡ failing program.now (furthers_of also.now) state.now.stack }
 {

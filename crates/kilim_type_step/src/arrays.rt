@@ -1,28 +1,18 @@
-//! Elements and lengths of arrays.
+//! Elements of arrays of references.
 
 ghost use Rattle.std.specs.Prelude.{◌≡◌, true, Option};
 ghost use Rattle.kilim_typing.specs.Step.{by_row, type_step, Element};
 ghost use Rattle.kilim_type_step.specs.Answers.{answers, element_by};
-ghost use Rattle.kilim_type_step.specs.Families.{is_array};
+ghost use Rattle.kilim_type_step.specs.Families.{is_reference_element};
 
 use crate::apply::{MISSING_OPERAND, STACK_TOO_HIGH, WRONG_OPERAND, all_meet, apply, has_room_for};
 use crate::constants::object_type;
 use crate::fault::StepFault;
 use crate::operands::{Taken, vtype};
 use crate::state::State;
-use kilim_classes::{Base, Instr, Method, Program, Ty, VType};
+use kilim_classes::{Instr, Method, Program, Ty, VType};
 
 const INT: Taken = Taken::Is(VType::Int);
-
-const LONG: Taken = Taken::Is(VType::Long);
-
-const INTS: Taken = Taken::ArrayOf(Base::Int);
-
-const LONGS: Taken = Taken::ArrayOf(Base::Long);
-
-const CHARS: Taken = Taken::ArrayOf(Base::Char);
-
-const SHORTS: Taken = Taken::ArrayOf(Base::Short);
 
 // The type of an element of an array of references.
 fn element_by(t: Option<VType>) -> Option<VType>
@@ -60,65 +50,24 @@ fn take_element(program: &Program, method: &Method, state: &mut State) -> Result
     Ok(())
 }
 
-/// Loads and stores of elements, and the length.
+/// Loads and stores of references.
 #[tactic(auto, unfolding(kilim_typing::specs::Step::row))]
-pub fn on_array(
+pub fn on_reference_element(
     program: &Program,
     method: &Method,
     at: u32,
     instr: &Instr,
     state: &mut State,
 ) -> Result<(), StepFault>
-    requires { is_array instr.now ≡ true }
+    requires { is_reference_element instr.now ≡ true }
     ensures { answers (type_step program.now method.now at instr.now state.old) result state.new }
 {
     match instr {
-        Instr::Iaload => apply(program, method, state, &[INT, INTS], Some(VType::Int), &[]),
-        Instr::Laload => apply(
-            program,
-            method,
-            state,
-            &[INT, LONGS],
-            Some(VType::Long),
-            &[],
-        ),
         Instr::Aaload => take_element(program, method, state),
-        Instr::Baload => apply(
-            program,
-            method,
-            state,
-            &[INT, Taken::Bytes],
-            Some(VType::Int),
-            &[],
-        ),
-        Instr::Caload => apply(program, method, state, &[INT, CHARS], Some(VType::Int), &[]),
-        Instr::Saload => apply(
-            program,
-            method,
-            state,
-            &[INT, SHORTS],
-            Some(VType::Int),
-            &[],
-        ),
-        Instr::Iastore => apply(program, method, state, &[INT, INT, INTS], None, &[]),
-        Instr::Lastore => apply(program, method, state, &[LONG, INT, LONGS], None, &[]),
         Instr::Aastore => {
             let object = object_type(program)?;
             let takes = [Taken::Is(object), INT, Taken::References];
             apply(program, method, state, &takes, None, &[])
-        }
-        Instr::Bastore => apply(program, method, state, &[INT, INT, Taken::Bytes], None, &[]),
-        Instr::Castore => apply(program, method, state, &[INT, INT, CHARS], None, &[]),
-        Instr::Sastore => apply(program, method, state, &[INT, INT, SHORTS], None, &[]),
-        Instr::Arraylength => {
-            apply(
-                program,
-                method,
-                state,
-                &[Taken::Array],
-                Some(VType::Int),
-                &[],
-            )
         }
         _ => unreachable!(),
     }

@@ -80,7 +80,7 @@ fn on_two_words(
     }
 }
 
-/// Constants, and `nop`.
+/// Constants of the pool.
 #[tactic(auto, unfolding(kilim_typing::specs::Step::row), using(crate::proofs::Places::constant_place, crate::proofs::Places::long_place))]
 pub fn on_constant(
     program: &Program,
@@ -93,12 +93,6 @@ pub fn on_constant(
     ensures { answers (type_step program.now method.now at instr.now state.old) result state.new }
 {
     match instr {
-        Instr::Nop => apply(program, method, state, &[], None, &[]),
-        Instr::AconstNull => apply(program, method, state, &[], Some(VType::Null), &[]),
-        Instr::Iconst(_) | Instr::Bipush(_) | Instr::Sipush(_) => {
-            apply(program, method, state, &[], Some(VType::Int), &[])
-        }
-        Instr::Lconst(_) => apply(program, method, state, &[], Some(VType::Long), &[]),
         Instr::Ldc(value) | Instr::LdcW(value) => on_word(program, method, value, state),
         Instr::Ldc2W(value) => on_two_words(program, method, value, state),
         _ => unreachable!(),

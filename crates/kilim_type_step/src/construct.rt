@@ -159,7 +159,6 @@ fn finish(
 
 /// A call of a constructor: what it takes above the object, what it gives, its class, whether it may be named, and whether
 /// it has code.
-#[tactic(auto, using(crate::proofs::Constructing::constructs_not, crate::proofs::Constructing::constructs, crate::proofs::Constructing::constructs_none))]
 pub fn construct(
     program: &Program,
     method: &Method,

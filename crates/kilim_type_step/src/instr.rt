@@ -4,22 +4,22 @@ ghost use Rattle.std.specs.Prelude.{◌≡◌};
 ghost use Rattle.kilim_typing.specs.Step.{type_step};
 ghost use Rattle.kilim_type_step.specs.Answers.{answers};
 
-use crate::arrays::on_array;
+use crate::arrays::on_reference_element;
 use crate::constants::on_constant;
 use crate::fault::StepFault;
+use crate::jumps::on_reference_jump;
 use crate::locals::on_local;
 use crate::makes::on_made;
 use crate::members::{fail, on_member};
+use crate::plain::{on_arithmetic, on_plain};
 use crate::returns::on_return;
 use crate::shuffles::on_shuffle;
-use crate::simple::{on_arithmetic, on_jump};
 use crate::state::State;
 use kilim_classes::{Instr, Method, Program};
 use std::alloc::Global;
 
 /// What the instruction at a place of a method makes of the types there (JVMS 4.10.1.9), or the least rule but 1, 2
 /// and 12 that it breaks. After a fault nothing is known of the types.
-#[tactic(auto, unfolding(kilim_typing::specs::Step::row))]
 pub fn type_step(
     alloc: Global,
     program: &Program,
@@ -36,39 +36,18 @@ pub fn type_step(
         | Instr::Iconst(_)
         | Instr::Lconst(_)
         | Instr::Bipush(_)
-        | Instr::Sipush(_)
-        | Instr::Ldc(_)
-        | Instr::LdcW(_)
-        | Instr::Ldc2W(_) => { on_constant(program, method, at, instr, state) }
-        Instr::Iload(_)
-        | Instr::Lload(_)
-        | Instr::Aload(_)
-        | Instr::Istore(_)
-        | Instr::Lstore(_)
-        | Instr::Astore(_)
-        | Instr::Iinc(_, _) => { on_local(program, method, at, instr, state) }
+        | Instr::Sipush(_) => { on_plain(program, method, at, instr, state) }
         Instr::Iaload
         | Instr::Laload
-        | Instr::Aaload
         | Instr::Baload
         | Instr::Caload
         | Instr::Saload
         | Instr::Iastore
         | Instr::Lastore
-        | Instr::Aastore
         | Instr::Bastore
         | Instr::Castore
         | Instr::Sastore
-        | Instr::Arraylength => { on_array(program, method, at, instr, state) }
-        Instr::Pop
-        | Instr::Pop2
-        | Instr::Dup
-        | Instr::DupX1
-        | Instr::DupX2
-        | Instr::Dup2
-        | Instr::Dup2X1
-        | Instr::Dup2X2
-        | Instr::Swap => { on_shuffle(alloc, program, method, at, instr, state) }
+        | Instr::Arraylength => { on_plain(program, method, at, instr, state) }
         Instr::Iadd
         | Instr::Ladd
         | Instr::Isub
@@ -111,14 +90,33 @@ pub fn type_step(
         | Instr::IfIcmpge(_)
         | Instr::IfIcmpgt(_)
         | Instr::IfIcmple(_)
-        | Instr::IfAcmpeq(_)
-        | Instr::IfAcmpne(_)
         | Instr::Goto(_)
         | Instr::Tableswitch(_, _, _)
         | Instr::Lookupswitch(_, _)
-        | Instr::Ifnull(_)
-        | Instr::Ifnonnull(_)
-        | Instr::GotoW(_) => { on_jump(program, method, at, instr, state) }
+        | Instr::GotoW(_) => { on_plain(program, method, at, instr, state) }
+        Instr::Ldc(_) | Instr::LdcW(_) | Instr::Ldc2W(_) => {
+            on_constant(program, method, at, instr, state)
+        }
+        Instr::Iload(_)
+        | Instr::Lload(_)
+        | Instr::Aload(_)
+        | Instr::Istore(_)
+        | Instr::Lstore(_)
+        | Instr::Astore(_)
+        | Instr::Iinc(_, _) => { on_local(program, method, at, instr, state) }
+        Instr::Aaload | Instr::Aastore => on_reference_element(program, method, at, instr, state),
+        Instr::Pop
+        | Instr::Pop2
+        | Instr::Dup
+        | Instr::DupX1
+        | Instr::DupX2
+        | Instr::Dup2
+        | Instr::Dup2X1
+        | Instr::Dup2X2
+        | Instr::Swap => { on_shuffle(alloc, program, method, at, instr, state) }
+        Instr::IfAcmpeq(_) | Instr::IfAcmpne(_) | Instr::Ifnull(_) | Instr::Ifnonnull(_) => {
+            on_reference_jump(program, method, at, instr, state)
+        }
         Instr::Ireturn | Instr::Lreturn | Instr::Areturn | Instr::Return => {
             on_return(program, method, at, instr, state)
         }

@@ -7,13 +7,14 @@ mod constants;
 mod construct;
 mod fault;
 mod instr;
+mod jumps;
 mod locals;
 mod makes;
 mod members;
 mod operands;
+mod plain;
 mod returns;
 mod shuffles;
-mod simple;
 mod state;
 
 pub use construct::made_at;

@@ -152,7 +152,7 @@ fn on_field(
 }
 
 // The arguments of a call, the last first.
-#[tactic(auto, using(crate::proofs::Calls::argument_on, crate::proofs::Calls::arguments_none, crate::proofs::Calls::arguments_all))]
+#[tactic(auto, using(crate::proofs::Calls::arguments_none))]
 fn arguments(alloc: Global, callee: &Method) -> Result<Vec<Taken>, AllocError>
     ensures { IfOk result (λ v. operands_of v.items ≡ arguments callee.now) }
 {

@@ -1,14 +1,14 @@
 //! Returns.
 
 ghost use Rattle.std.specs.Prelude.{◌≡◌, true};
-ghost use Rattle.kilim_typing.specs.Step.{type_step, is_int, is_long, has_int, has_long};
+ghost use Rattle.kilim_typing.specs.Step.{type_step, is_int, has_int, has_long};
 ghost use Rattle.kilim_type_step.specs.Answers.{answers};
 ghost use Rattle.kilim_type_step.specs.Families.{is_return};
 
 use crate::apply::{WRONG_RETURN, leave};
 use crate::fault::StepFault;
 use crate::operands::{Also, Taken, vtype};
-use crate::state::State;
+use crate::state::{State, is_long};
 use kilim_classes::{Instr, Method, Program, Ty, VType};
 
 fn is_int(t: VType) -> bool
@@ -18,20 +18,6 @@ fn is_int(t: VType) -> bool
         VType::Int => true,
         VType::Top
         | VType::Long
-        | VType::Null
-        | VType::UninitThis
-        | VType::Uninit(_)
-        | VType::Object(_) => false,
-    }
-}
-
-fn is_long(t: VType) -> bool
-    ensures { result ≡ is_long t }
-{
-    match t {
-        VType::Long => true,
-        VType::Top
-        | VType::Int
         | VType::Null
         | VType::UninitThis
         | VType::Uninit(_)

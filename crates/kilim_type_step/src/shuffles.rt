@@ -1,7 +1,9 @@
 //! Pop, dup and swap forms.
 
 ghost use Rattle.std.specs.Prelude.{◌≡◌, ◌+◌, ◌≤◌, ◌++◌, true, MatchResult, OnOk, Ok};
-ghost use Rattle.kilim_typing.specs.Step.{by_row, type_step, off, shuffled, with_stack, words, Shuffles, form_words, form_adds, form_room};
+ghost use Rattle.kilim_classes.specs.declared.class.Method.{Method};
+ghost use Rattle.kilim_classes.specs.Program.{Program};
+ghost use Rattle.kilim_typing.specs.Step.{by_row, row, type_step, off, shuffled, with_stack, words, Shuffles, form_words, form_adds, form_room};
 ghost use Rattle.kilim_type_step.specs.Answers.{answers};
 ghost use Rattle.kilim_type_step.specs.Forms.{form_of, count_off, number, SplitFails};
 ghost use Rattle.kilim_type_step.specs.Families.{is_shuffle};
@@ -88,7 +90,6 @@ fn count_off(words: Words, first: Option<VType>, second: Option<VType>) -> Resul
 }
 
 // The types of so many words from the top, which are taken away.
-#[tactic(auto, using(crate::proofs::Shuffled::off_ok, crate::proofs::Shuffled::off_err))]
 fn split(alloc: Global, state: &mut State, words: Words) -> Result<Vec<VType>, StepFault>
     ensures split { MatchResult result (λ parts. off (number words) state.old.stack ≡ Ok (parts.items, state.new.stack)) (SplitFails (number words) state.old.stack) }
     ensures rest { state.new ≡ record state.old { stack = state.new.stack } }
@@ -103,14 +104,13 @@ fn split(alloc: Global, state: &mut State, words: Words) -> Result<Vec<VType>, S
     }
 }
 
-#[tactic(auto, using(crate::proofs::Shuffled::drops_ok, crate::proofs::Shuffled::drops_err))]
+#[tactic(auto, using(crate::proofs::Shuffled::drops_ok, crate::proofs::Shuffled::drops_fault))]
 fn drop_words(alloc: Global, state: &mut State, words: Words) -> Result<(), StepFault>
     ensures { answers (with_stack state.old (shuffled (form_of (Shuffle.Drops words)) state.old.stack)) result state.new }
 {
     match split(alloc, state, words) {
         Ok(_) => Ok(()),
-        Err(StepFault::Rule(rule)) => Err(StepFault::Rule(rule)),
-        Err(StepFault::Memory) => Err(StepFault::Memory),
+        Err(fault) => Err(fault),
     }
 }
 
@@ -128,7 +128,7 @@ fn push_all(
     Ok(())
 }
 
-#[tactic(auto, using(crate::proofs::Shuffled::copies_ok, crate::proofs::Shuffled::copies_first, crate::proofs::Shuffled::copies_second))]
+#[tactic(auto, using(crate::proofs::Shuffled::copies_ok, crate::proofs::Shuffled::copies_fault, crate::proofs::Shuffled::copies_later))]
 fn copy_words(
     alloc: Global,
     state: &mut State,
@@ -139,13 +139,11 @@ fn copy_words(
 {
     let copied = match split(alloc, state, words) {
         Ok(parts) => parts,
-        Err(StepFault::Rule(rule)) => return Err(StepFault::Rule(rule)),
-        Err(StepFault::Memory) => return Err(StepFault::Memory),
+        Err(fault) => return Err(fault),
     };
     let below = match split(alloc, state, passed) {
         Ok(parts) => parts,
-        Err(StepFault::Rule(rule)) => return Err(StepFault::Rule(rule)),
-        Err(StepFault::Memory) => return Err(StepFault::Memory),
+        Err(fault) => return Err(fault),
     };
     match push_all(state, &copied, &below, &copied) {
         Ok(()) => Ok(()),
@@ -153,19 +151,17 @@ fn copy_words(
     }
 }
 
-#[tactic(auto, using(crate::proofs::Shuffled::swaps_ok, crate::proofs::Shuffled::swaps_first, crate::proofs::Shuffled::swaps_second))]
+#[tactic(auto, using(crate::proofs::Shuffled::swaps_ok, crate::proofs::Shuffled::swaps_fault, crate::proofs::Shuffled::swaps_later))]
 fn swap_words(alloc: Global, state: &mut State) -> Result<(), StepFault>
     ensures { answers (with_stack state.old (shuffled (form_of Shuffle.Swaps) state.old.stack)) result state.new }
 {
     let top = match split(alloc, state, Words::One) {
         Ok(parts) => parts,
-        Err(StepFault::Rule(rule)) => return Err(StepFault::Rule(rule)),
-        Err(StepFault::Memory) => return Err(StepFault::Memory),
+        Err(fault) => return Err(fault),
     };
     let below = match split(alloc, state, Words::One) {
         Ok(parts) => parts,
-        Err(StepFault::Rule(rule)) => return Err(StepFault::Rule(rule)),
-        Err(StepFault::Memory) => return Err(StepFault::Memory),
+        Err(fault) => return Err(fault),
     };
     match push_all(state, &[], &top, &below) {
         Ok(()) => Ok(()),
@@ -232,8 +228,27 @@ fn shuffle_words(
     move_words(alloc, state, form)
 }
 
-/// Pop, dup and swap forms.
+// The form of an instruction.
 #[tactic(auto, unfolding(kilim_typing::specs::Step::row))]
+fn shuffle_of(instr: &Instr) -> Shuffle
+    requires { is_shuffle instr.now ≡ true }
+    ensures { (p : Program) (m : Method) → row p m instr.now ≡ Shuffles (form_of result) }
+{
+    match instr {
+        Instr::Pop => Shuffle::Drops(Words::One),
+        Instr::Pop2 => Shuffle::Drops(Words::Two),
+        Instr::Dup => Shuffle::Copies(Words::One, Words::Zero),
+        Instr::DupX1 => Shuffle::Copies(Words::One, Words::One),
+        Instr::DupX2 => Shuffle::Copies(Words::One, Words::Two),
+        Instr::Dup2 => Shuffle::Copies(Words::Two, Words::Zero),
+        Instr::Dup2X1 => Shuffle::Copies(Words::Two, Words::One),
+        Instr::Dup2X2 => Shuffle::Copies(Words::Two, Words::Two),
+        Instr::Swap => Shuffle::Swaps,
+        _ => unreachable!(),
+    }
+}
+
+/// Pop, dup and swap forms.
 pub fn on_shuffle(
     alloc: Global,
     program: &Program,
@@ -245,52 +260,5 @@ pub fn on_shuffle(
     requires { is_shuffle instr.now ≡ true }
     ensures { answers (type_step program.now method.now at instr.now state.old) result state.new }
 {
-    match instr {
-        Instr::Pop => shuffle_words(alloc, program, method, state, Shuffle::Drops(Words::One)),
-        Instr::Pop2 => shuffle_words(alloc, program, method, state, Shuffle::Drops(Words::Two)),
-        Instr::Dup => shuffle_words(
-            alloc,
-            program,
-            method,
-            state,
-            Shuffle::Copies(Words::One, Words::Zero),
-        ),
-        Instr::DupX1 => shuffle_words(
-            alloc,
-            program,
-            method,
-            state,
-            Shuffle::Copies(Words::One, Words::One),
-        ),
-        Instr::DupX2 => shuffle_words(
-            alloc,
-            program,
-            method,
-            state,
-            Shuffle::Copies(Words::One, Words::Two),
-        ),
-        Instr::Dup2 => shuffle_words(
-            alloc,
-            program,
-            method,
-            state,
-            Shuffle::Copies(Words::Two, Words::Zero),
-        ),
-        Instr::Dup2X1 => shuffle_words(
-            alloc,
-            program,
-            method,
-            state,
-            Shuffle::Copies(Words::Two, Words::One),
-        ),
-        Instr::Dup2X2 => shuffle_words(
-            alloc,
-            program,
-            method,
-            state,
-            Shuffle::Copies(Words::Two, Words::Two),
-        ),
-        Instr::Swap => shuffle_words(alloc, program, method, state, Shuffle::Swaps),
-        _ => unreachable!(),
-    }
+    shuffle_words(alloc, program, method, state, shuffle_of(instr))
 }

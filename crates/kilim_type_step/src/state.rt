@@ -85,7 +85,7 @@ fn is_same(a: VType, b: VType) -> bool
 }
 
 // Another type in place of an uninitialized one, wherever it stands.
-#[tactic(auto, using(crate::proofs::Types::step_set, crate::proofs::Types::step_kept, crate::proofs::Types::part_end))]
+#[tactic(auto, using(crate::proofs::Types::part_end))]
 fn replace(types: &mut Vec<VType>, old: VType, new: VType)
     ensures { types.new.items ≡ replaced old new types.old.items }
 {
@@ -102,7 +102,8 @@ fn is_among(types: &[VType], t: VType) -> bool
     types.iter().any(|other| is_same(t, *other))
 }
 
-fn is_long(t: VType) -> bool
+/// Whether a type has two words.
+pub fn is_long(t: VType) -> bool
     ensures { result ≡ is_long t }
 {
     match t {
@@ -129,7 +130,7 @@ pub fn type_at(types: &[VType], slot: usize) -> VType
 }
 
 // A slot gets a type; slots between the last one and it are Top.
-#[tactic(auto, using(crate::proofs::Types::poke_more, crate::proofs::Types::poke_end, crate::proofs::Types::poke_set))]
+#[tactic(auto, using(crate::proofs::Types::poke_end, crate::proofs::Types::poke_set))]
 fn poke(types: &mut Vec<VType>, slot: usize, t: VType) -> Result<(), AllocError>
     ensures { OnOk result (types.new.items ≡ poke types.old.items slot t) }
 {
@@ -173,7 +174,7 @@ fn with_half(types: &mut Vec<VType>, slot: usize, t: VType) -> Result<(), AllocE
 }
 
 // The last of the types first.
-#[tactic(auto, using(crate::proofs::Shuffled::reversed_on, crate::proofs::Shuffled::reversed_all, crate::proofs::Shuffled::reversed_none))]
+#[tactic(auto, using(crate::proofs::Shuffled::reversed_all))]
 fn push_reversed(stack: &mut Vec<VType>, types: &[VType]) -> Result<(), AllocError>
     ensures { OnOk result (stack.new.items ≡ stack.old.items ++ reverse types.now) }
 {

@@ -1,0 +1,10 @@
+use Rattle.std.proofs.Common.{option_to_list}
+use Rattle.kilim_typing.specs.Step.{row}
+use Rattle.kilim_type_step.specs.Operands.{operands_of}
+use Rattle.kilim_type_step.proofs.Places.{plain_place}
+use Rattle.kilim_type_step.proofs.plain.on_arithmetic.Goals as goal
+
+pub returns : goal.returns
+returns c =
+    plain_place c.args.program.now c.args.method.now c.args.at (row c.args.program.now c.args.method.now c.args.instr.now) (operands_of c.arithmetic_row-plain.result.0.now) (option_to_list c.arithmetic_row-plain.result.1) c.args.state.now c.apply.new.state c.apply.result
+    (c.arithmetic_row-plain.ensures c.args.program.now c.args.method.now) c.apply.ensures
