@@ -1,33 +1,37 @@
--- What is answered for a demo.
-use Rattle.std.proofs.Common.{inl, inr, ℕ, List, Result, Ok, Err, refl, sym, subst}
+-- What is to be done for a demo.
+use Rattle.std.proofs.Common.{◌≡◌, inr, ℕ, List, [], Result, Ok, Err, refl, sym, subst}
 use Rattle.std.specs.Prelude.{IfOk}
 use Rattle.kilim_units.specs.declared.memory.NoMemory.{NoMemory}
-use Rattle.kilim_top.specs.demo.Demo.{IsDemoReport}
+use Rattle.kilim_classes.specs.declared.machine.run.Limits.{Limits}
+use Rattle.kilim_classes.specs.declared.names.ClassId.{ClassId}
+use Rattle.kilim_classes.specs.Program.{Program}
+use Rattle.kilim_weaver.specs.declared.weaving.Woven.{Woven}
+use Rattle.kilim_whole_runs.specs.Runs.{setting_of}
 use Rattle.kilim_stages.specs.declared.refusal.Refusal.{Refusal}
 use Rattle.kilim_stages.specs.declared.refusal.Refusal.TheVariants as refusal
 use Rattle.kilim_stages.specs.Parts.{Refused}
-use Rattle.kilim_outside.specs.words.Words.{Request, Demo}
+use Rattle.kilim_outside.specs.words.Words.{Demo}
 use Rattle.kilim_written_files.specs.OutputFile.{OutputFile}
-use Rattle.kilim_top.specs.declared.answer.Reply.{Reply}
-use Rattle.kilim_top.specs.Inside.Answer.{IsDemoReply, IsRefusedBy, IsReplyFor, IsToDemo}
-use Rattle.kilim_top.specs.Outcome.{IsDone}
+use Rattle.kilim_top.specs.declared.answer.Ready.{Ready}
+use Rattle.kilim_top.specs.declared.answer.Ready.TheVariants as ready
+use Rattle.kilim_top.specs.demo.Demo.{demo_limits, IsDemoReport}
+use Rattle.kilim_top.specs.demo.Ready.{IsReady}
+use Rattle.kilim_top.specs.Inside.Answer.{IsDemoReady, IsReadyFor, IsRefusedBy, IsToRun}
+use Rattle.kilim_top.proofs.demo.Served.{line_is, served_by}
 
-refused_by : (number : ℕ) (r : Refusal) (status : ℕ) (made : List OutputFile) (text : List ℕ) → Refused r (IsDemoReport number) → IsRefusedBy r status made text → IsDemoReply number status made text
-refused_by number refusal.NoMemory status made text said by = absurd by
-refused_by number (refusal.Report t) status made text said by = inr (by.0, (by.1.0, subst (λ (s : List ℕ). IsDemoReport number s) (sym by.1.1) said))
+-- the report of the stage that has a fault
+pub demo_refused : (number : ℕ) (r : Refusal) (status : ℕ) (made : List OutputFile) (text : List ℕ) → Refused r (IsDemoReport number) → IsRefusedBy r status made text → (status ≡ 1) × ((made ≡ []) × IsDemoReport number text)
+demo_refused number refusal.NoMemory status made text said by = absurd by
+demo_refused number (refusal.Report t) status made text said by = (by.0, (by.1.0, subst (λ (s : List ℕ). IsDemoReport number s) (sym by.1.1) said))
 
-pub demo_refused : (number : ℕ) (r : Refusal) (a : Result Reply NoMemory) → Refused r (IsDemoReport number) → IfOk a (λ reply. IsRefusedBy r reply.status reply.files.items reply.text.items) → IfOk a (λ reply. IsDemoReply number reply.status reply.files.items reply.text.items)
-demo_refused number r (Ok reply) said by = refused_by number r reply.status reply.files.items reply.text.items said by
-demo_refused number r (Err e) said by = tt
+-- with the line of its run the work is done
+to_demo : (number workers : ℕ) (files : List (List ℕ)) (p : Program) (w : Woven) (main : ClassId) (limits : Limits) → IsReady number p w main → limits ≡ demo_limits → IsToRun (Demo number workers) files (setting_of p main limits) w
+to_demo number workers files p w main limits is e = record {
+  served = served_by number p w main limits is e;
+  done = λ text run. (refl, line_is number p w main limits run.journal text is e run.is run.is_text);
+}
 
--- a demo is to be run
-pub to_demo : (number workers : ℕ) (files : List (List ℕ)) → IsToDemo (Demo number workers) files number
-to_demo number workers files = record { done = λ text line. (refl, line); report = λ text report. report }
-
-replied : (work : Request) (files : List (List ℕ)) (number status : ℕ) (made : List OutputFile) (text : List ℕ) → IsToDemo work files number → IsDemoReply number status made text → IsReplyFor work files status made text
-replied work files number status made text to (inl done) = inl (done.0, subst (λ (fs : List OutputFile). IsDone work files fs text) (sym done.1.0) (to.done text done.1.1))
-replied work files number status made text to (inr report) = inr (report.0, (report.1.0, to.report text report.1.1))
-
-pub demoed : (work : Request) (files : List (List ℕ)) (number : ℕ) (r : Result Reply NoMemory) → IsToDemo work files number → IfOk r (λ reply. IsDemoReply number reply.status reply.files.items reply.text.items) → IfOk r (λ reply. IsReplyFor work files reply.status reply.files.items reply.text.items)
-demoed work files number (Ok reply) to h = replied work files number reply.status reply.files.items reply.text.items to h
-demoed work files number (Err e) to h = tt
+pub demo_prepared : (number workers : ℕ) (files : List (List ℕ)) (r : Result Ready NoMemory) → IfOk r (IsDemoReady number) → IfOk r (IsReadyFor (Demo number workers) files)
+demo_prepared number workers files (Ok (ready.Reply reply)) h = inr h
+demo_prepared number workers files (Ok (ready.Run plain woven class limits)) h = to_demo number workers files plain woven class limits h.0 h.1
+demo_prepared number workers files (Err e) h = tt

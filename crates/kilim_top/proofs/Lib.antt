@@ -10,3 +10,5 @@ pub mod Counts
 pub mod Demos
 pub mod Responses
 pub mod Steady
+pub mod Ends
+pub mod Loops

@@ -1,5 +1,5 @@
 -- What is answered for files: what the work makes, or a report, and never both.
-use Rattle.std.proofs.Common.{◌≡◌, ℕ, ℤ, ◌≤◌, true, List, [], length, Some, None, Result, Ok, Err, refl, sym, ap, subst, inl, inr}
+use Rattle.std.proofs.Common.{◌≡◌, ℕ, ℤ, ◌≤◌, true, List, [], length, Option, Some, None, Result, Ok, Err, refl, sym, ap, subst, inl, inr, ◌∙◌}
 use Rattle.std.specs.Prelude.{IfOk}
 use Rattle.kilim_units.specs.declared.memory.NoMemory.{NoMemory}
 use Rattle.kilim_classes.specs.declared.names.ClassId.{ClassId}
@@ -10,11 +10,13 @@ use Rattle.kilim_classes.specs.machine.Members.{is_fit_main}
 use Rattle.kilim_stages.specs.Accepted.{IsAcceptedOf}
 use Rattle.kilim_stages.specs.Laws.{NeverBoth, OneProgramOf}
 use Rattle.kilim_stages.specs.Parts.{Refused}
+use Rattle.kilim_stages.specs.Reports.{IsStageReport}
 use Rattle.kilim_stages.specs.declared.refusal.Refusal.{Refusal}
 use Rattle.kilim_stages.specs.declared.refusal.Refusal.TheVariants as refusal
 use Rattle.kilim_top.specs.demo.Demo.{demo_texts, IsDemoReport}
 use Rattle.kilim_weave_command.specs.Laws.{AcceptedFilesAreIsolated, NeverWeavableAndReported}
 use Rattle.kilim_weave_command.specs.Weaving.{IsWeaving}
+use Rattle.kilim_weave_command.specs.woven_files.Reports.{IsWeaveReport}
 use Rattle.kilim_weaver.specs.Faults.{weave_fault}
 use Rattle.kilim_weaver.specs.declared.weaving.Woven.{Woven}
 use Rattle.kilim_outside.specs.words.Words.{Request, Check, Weave, Run, Demo}
@@ -26,11 +28,10 @@ use Rattle.kilim_written_files.specs.OutputFile.{OutputFile}
 use Rattle.kilim_top.specs.declared.answer.Reply.{Reply}
 use Rattle.kilim_top.specs.declared.answer.Ready.{Ready}
 use Rattle.kilim_top.specs.declared.answer.Ready.TheVariants as ready
-use Rattle.kilim_top.specs.Inside.Answer.{IsMainOf, IsNoMain, IsReadyFor, IsReadyOf, IsRefusedBy, IsReplyFor, IsRunReply, IsToRun}
+use Rattle.kilim_top.specs.Inside.Answer.{demo_number, run_text, IsMainOf, IsNoMain, IsReadyFor, IsReadyOf, IsRefusedBy, IsReplyFor, IsToRun, IsWithoutMain}
 use Rattle.kilim_top.specs.Outcome.{IsDone, IsFitFor, IsFitRun, IsReport, limits_of}
 use Rattle.kilim_top.specs.Report.{accepted_line, coded_methods, main_line, utf16_of}
 use Rattle.kilim_thread_model.specs.State.{Setting}
-use Rattle.kilim_journal.specs.Text.{journal_text}
 use Rattle.kilim_journal.specs.declared.entry.Entry.{Entry}
 use Rattle.kilim_whole_runs.specs.Laws.{WovenIsServed}
 use Rattle.kilim_whole_runs.specs.Runs.{IsJournalOf, setting_of}
@@ -78,23 +79,21 @@ main_of p main limits l class found same =
 pub no_class : (p : Program) (main : List ℕ) (status : ℕ) (made : List OutputFile) (text : List ℕ) → fit_class_named p (utf16_of main) ≡ None → text ≡ main_line main → status ≡ 1 → made ≡ [] → (status ≡ 1) × ((made ≡ []) × IsNoMain p main text)
 no_class p main status made text found is one none = (one, (none, record { none = none_named p (utf16_of main) found; is_text = is }))
 
+pub without : (p : WovenProgram) (main : List ℕ) (limits : Limits) (r : Result Ready NoMemory) → fit_class_named p.plain (utf16_of main) ≡ None → IfOk r (IsWithoutMain main) → IfOk r (IsReadyOf p main limits)
+without p main limits (Ok (ready.Reply reply)) none h = no_class p.plain main reply.status reply.files.items reply.text.items none h.1.1 h.0 h.1.0
+without p main limits (Ok (ready.Run plain woven class l)) none h = absurd h
+without p main limits (Err e) none h = tt
+
 module _ (law : AcceptedFilesAreIsolated) (serves : WovenIsServed) (files : List (List ℕ)) (few : length files ≤ 1000) where
   ready_one : (main : List ℕ) (workers steps : ℕ) (args : List ℤ) (names : List (List ℕ)) (p : WovenProgram) (r : Ready) → IsWovenOf files p.plain p.woven → IsReadyOf p main (limits_of steps args) r → IsReadyFor (Run main workers steps args names) files r
   ready_one main workers steps args names p (ready.Reply reply) of h =
       inr (h.0, (h.1.0, inr (inr (record { program = p.plain; accepted = of.accepted; weavable = of.none; none = h.1.1.none; is_text = h.1.1.is_text }))))
   ready_one main workers steps args names p (ready.Run plain woven class l) of h = to_run law serves files p few of main workers steps args names (setting_of plain class l) woven h
-  ready_one main workers steps args names p (ready.Demo number) of h = elim h [ ]
 
   pub ready_run : (main : List ℕ) (workers steps : ℕ) (args : List ℤ) (names : List (List ℕ)) (p : WovenProgram) (r : Result Ready NoMemory) → IsWovenOf files p.plain p.woven →
       IfOk r (IsReadyOf p main (limits_of steps args)) → IfOk r (IsReadyFor (Run main workers steps args names) files)
   ready_run main workers steps args names p (Ok r) of h = ready_one main workers steps args names p r of h
   ready_run main workers steps args names p (Err e) of h = tt
-
--- the text of a journal
-pub text_reply : (set : Setting) (es : List Entry) (r : Result Reply NoMemory) → IsJournalOf set es → IfOk r (λ reply. reply.status ≡ 0) → IfOk r (λ reply. reply.files.items ≡ []) → IfOk r (λ reply. reply.text.items ≡ journal_text es) →
-    IfOk r (λ reply. IsRunReply set reply.status reply.files.items reply.text.items)
-text_reply set es (Ok reply) is zero none text = (zero, (none, record { journal = es; is = is; is_text = text }))
-text_reply set es (Err e) is zero none text = tt
 
 pub check_done : (names files : List (List ℕ)) (p : Program) (status : ℕ) (made : List OutputFile) (text : List ℕ) → AcceptedFilesAreIsolated → length files ≤ 1000 → IsAcceptedOf files p → status ≡ 0 → made ≡ [] →
     text ≡ accepted_line (length files) (coded_methods p) → IsReplyFor (Check names) files status made text
@@ -102,22 +101,36 @@ check_done names files p status made text law few is zero none e =
     inl (zero, (none, record { program = p; accepted = is; isolated = λ class fit limits live sound. law files p few is class fit limits live sound; is_text = e }))
 
 -- a run that was done
-ran_one : (work : Request) (files : List (List ℕ)) (set : Setting) (w : Woven) (status : ℕ) (made : List OutputFile) (text : List ℕ) → IsToRun work files set w → IsRunReply set status made text → IsReplyFor work files status made text
-ran_one work files set w status made text to run = inl (run.0, subst (λ (fs : List OutputFile). IsDone work files fs text) (sym run.1.0) (to.done text run.1.1))
+ran_one : (work : Request) (files : List (List ℕ)) (set : Setting) (w : Woven) (demo : Option ℕ) (es : List Entry) (made : List OutputFile) (text : List ℕ) → IsToRun work files set w → demo ≡ demo_number work → IsJournalOf set es → made ≡ [] → text ≡ run_text demo es → IsDone work files made text
+ran_one work files set w demo es made text to same is none e =
+    subst (λ (fs : List OutputFile). IsDone work files fs text) (sym none) (to.done text (record { journal = es; is = is; is_text = e ∙ ap (λ (d : Option ℕ). run_text d es) same }))
 
-pub ran : (work : Request) (files : List (List ℕ)) (set : Setting) (w : Woven) (r : Result Reply NoMemory) → IsToRun work files set w → IfOk r (λ reply. IsRunReply set reply.status reply.files.items reply.text.items) → IfOk r (λ reply. IsReplyFor work files reply.status reply.files.items reply.text.items)
-ran work files set w (Ok reply) to h = ran_one work files set w reply.status reply.files.items reply.text.items to h
-ran work files set w (Err e) to h = tt
+pub ran : (work : Request) (files : List (List ℕ)) (set : Setting) (w : Woven) (demo : Option ℕ) (es : List Entry) (r : Result Reply NoMemory) → IsToRun work files set w → demo ≡ demo_number work → IsJournalOf set es → IfOk r (λ reply. reply.status ≡ 0) →
+    IfOk r (λ reply. reply.files.items ≡ []) → IfOk r (λ reply. reply.text.items ≡ run_text demo es) → IfOk r (λ reply. IsReplyFor work files reply.status reply.files.items reply.text.items)
+ran work files set w demo es (Ok reply) to same is zero none text = inl (zero, ran_one work files set w demo es reply.files.items reply.text.items to same is none text)
+ran work files set w demo es (Err e) to same is zero none text = tt
 
 -- a report of the stages
 refused_one : (work : Request) (files : List (List ℕ)) (r : Refusal) (status : ℕ) (made : List OutputFile) (text : List ℕ) → Refused r (IsReport work files) → IsRefusedBy r status made text → IsReplyFor work files status made text
 refused_one work files refusal.NoMemory status made text said by = absurd by
 refused_one work files (refusal.Report t) status made text said by = inr (by.0, (by.1.0, subst (λ (s : List ℕ). IsReport work files s) (sym by.1.1) said))
 
-pub refused_reply : (work : Request) (files : List (List ℕ)) (refusal : Refusal) (r : Result Reply NoMemory) → Refused refusal (IsReport work files) → IfOk r (λ reply. IsRefusedBy refusal reply.status reply.files.items reply.text.items) →
+refused_reply : (work : Request) (files : List (List ℕ)) (refusal : Refusal) (r : Result Reply NoMemory) → Refused refusal (IsReport work files) → IfOk r (λ reply. IsRefusedBy refusal reply.status reply.files.items reply.text.items) →
     IfOk r (λ reply. IsReplyFor work files reply.status reply.files.items reply.text.items)
 refused_reply work files refusal (Ok reply) said by = refused_one work files refusal reply.status reply.files.items reply.text.items said by
 refused_reply work files refusal (Err e) said by = tt
+
+refused_as : (A B : List ℕ → Type 0) (r : Refusal) → ((text : List ℕ) → A text → B text) → Refused r A → Refused r B
+refused_as A B refusal.NoMemory f said = tt
+refused_as A B (refusal.Report t) f said = f t.items said
+
+pub refused_check : (names files : List (List ℕ)) (refusal : Refusal) (r : Result Reply NoMemory) → Refused refusal (IsStageReport names files) → IfOk r (λ reply. IsRefusedBy refusal reply.status reply.files.items reply.text.items) →
+    IfOk r (λ reply. IsReplyFor (Check names) files reply.status reply.files.items reply.text.items)
+refused_check names files refusal r said by = refused_reply (Check names) files refusal r (refused_as (IsStageReport names files) (IsReport (Check names) files) refusal (λ text report. report) said) by
+
+pub refused_weave : (to : List ℕ) (names files : List (List ℕ)) (refusal : Refusal) (r : Result Reply NoMemory) → Refused refusal (IsWeaveReport names files) → IfOk r (λ reply. IsRefusedBy refusal reply.status reply.files.items reply.text.items) →
+    IfOk r (λ reply. IsReplyFor (Weave to names) files reply.status reply.files.items reply.text.items)
+refused_weave to names files refusal r said by = refused_reply (Weave to names) files refusal r (refused_as (IsWeaveReport names files) (IsReport (Weave to names) files) refusal (λ text report. report) said) by
 
 run_report : (main : List ℕ) (workers steps : ℕ) (args : List ℤ) (names files : List (List ℕ)) (text : List ℕ) → IsWovenReport names files text → IsReport (Run main workers steps args names) files text
 run_report main workers steps args names files text (inl stage) = inl stage

@@ -4,7 +4,7 @@ use Rattle.std.specs.Prelude.{IfSome}
 use Rattle.kilim_outside.specs.Causes.{Rose}
 use Rattle.kilim_outside.specs.Files.{Files}
 use Rattle.kilim_outside.specs.words.Words.{Request}
-use Rattle.kilim_top.specs.Outcome.{Outside, Promises, ReadFailed, shown}
+use Rattle.kilim_top.specs.Outcome.{HasReport, IsFit, Outside, Promises, ReadFailed, shown}
 use Rattle.kilim_top.proofs.TopLaws.{faulty, not_still, six}
 
 calm : Rose 0 0 → ⊥
@@ -25,6 +25,20 @@ some_of status (inl e) = inr (inl (ap (λ (n : ℕ). Some n) e))
 some_of status (inr (inl e)) = inr (inr (inl (ap (λ (n : ℕ). Some n) e)))
 some_of status (inr (inr (inl e))) = inr (inr (inr (inl (ap (λ (n : ℕ). Some n) e))))
 some_of status (inr (inr (inr e))) = inr (inr (inr (inr (ap (λ (n : ℕ). Some n) e))))
+
+two_of : (a b status : ℕ) → (status ≡ a) ⊎ (status ≡ b) → (Some status ≡ None) ⊎ ((Some status ≡ Some a) ⊎ (Some status ≡ Some b))
+two_of a b status (inl e) = inr (inl (ap (λ (n : ℕ). Some n) e))
+two_of a b status (inr e) = inr (inr (ap (λ (n : ℕ). Some n) e))
+
+pub complete : (request : Option Request) (contents now_contents : Option Files) (w now_w : Option (List ℕ)) (result : Option ℕ) → IfSome result (λ status. Promises request (shown contents [] w 0) (shown now_contents [] now_w 0) status) → IsFit contents request →
+    (result ≡ None) ⊎ ((result ≡ Some 0) ⊎ (result ≡ Some 5))
+complete request contents now_contents w now_w None p fit = inl refl
+complete request contents now_contents w now_w (Some status) p fit = two_of 0 5 status (p.complete fit refl calm)
+
+pub reported : (request : Option Request) (contents now_contents : Option Files) (w now_w : Option (List ℕ)) (result : Option ℕ) → IfSome result (λ status. Promises request (shown contents [] w 0) (shown now_contents [] now_w 0) status) → HasReport contents request →
+    (result ≡ None) ⊎ ((result ≡ Some 1) ⊎ (result ≡ Some 5))
+reported request contents now_contents w now_w None p has = inl refl
+reported request contents now_contents w now_w (Some status) p has = two_of 1 5 status (p.reported has refl calm)
 
 -- of memory that tells all
 pub steady : (request : Option Request) (contents now_contents : Option Files) (w now_w : Option (List ℕ)) (result : Option ℕ) → IfSome result (λ status. Promises request (shown contents [] w 0) (shown now_contents [] now_w 0) status) →

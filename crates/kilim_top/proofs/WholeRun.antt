@@ -23,7 +23,7 @@ use Rattle.kilim_top.specs.Report.{utf16_of}
 fit_run : (main : List ℕ) (files : List (List ℕ)) (p : Program) (class : ClassId) → IsAcceptedOf files p → weave_fault p ≡ None → class_named p (utf16_of main) ≡ Some class → is_fit_main p class ≡ true → IsFitRun main files
 fit_run main files p class of none named fit = record { program = p; accepted = of; none = none; class = class; named = named; fit = fit }
 
-whole_run : (main : List ℕ) (limits : Limits) (files : List (List ℕ)) (p : Program) (class : ClassId) (text : List ℕ) → IsAcceptedOf files p → class_named p (utf16_of main) ≡ Some class → IsIsolatedRun p class limits → IsTextOf (setting_of p class limits) text → IsWholeRun main limits files text
+whole_run : (main : List ℕ) (limits : Limits) (files : List (List ℕ)) (p : Program) (class : ClassId) (text : List ℕ) → IsAcceptedOf files p → class_named p (utf16_of main) ≡ Some class → IsIsolatedRun p class limits → IsTextOf None (setting_of p class limits) text → IsWholeRun main limits files text
 whole_run main limits files p class text of named isolated run = record {
   program = p;
   accepted = of;
@@ -53,7 +53,7 @@ module _ (law : AcceptedFilesAreIsolated) (serves : WovenIsServed) (files : List
       refl,
       (
         fit_run main files p.plain set.main of.accepted of.none is.named is.fit,
-        whole_run main (limits_of steps args) files p.plain set.main text of.accepted is.named (isolated set.main (limits_of steps args) is.fit) (subst (λ (s : Setting). IsTextOf s text) is.is run),
+        whole_run main (limits_of steps args) files p.plain set.main text of.accepted is.named (isolated set.main (limits_of steps args) is.fit) (subst (λ (s : Setting). IsTextOf None s text) is.is run),
       ),
     );
   }

@@ -1,24 +1,22 @@
 //! From the bytes of class files to the text that is written.
 
-ghost use Rattle.std.specs.Prelude.{◌≡◌, ◌≤◌, [], IfOk, length, map};
+ghost use Rattle.std.specs.Prelude.{◌≡◌, ◌≤◌, IfOk, length, map};
 ghost use Rattle.std.specs.String.{string_bytes};
-ghost use Rattle.kilim_journal.specs.Readable.{IsReadable};
-ghost use Rattle.kilim_journal.specs.Text.{journal_text};
 ghost use Rattle.kilim_classes.specs.main_class.Main.{fit_class_named};
 ghost use Rattle.kilim_typing.specs.Typed.{has_code};
 ghost use Rattle.kilim_outside.specs.words.Parts.{meant, numbers_of};
 ghost use Rattle.kilim_outside.specs.words.Words.{Check, Run, Weave, files_read};
 ghost use Rattle.kilim_top.specs.Report.{utf16_of, accepted_line, coded_methods};
-ghost use Rattle.kilim_top.specs.Inside.Answer.{IsReadyFor, IsReadyOf, IsRefusedBy, IsReplyFor};
+ghost use Rattle.kilim_top.specs.Inside.Answer.{IsReadyFor, IsReadyOf, IsRefusedBy, IsReplyFor, IsStartOf, IsWithoutMain};
 ghost use Rattle.kilim_top.specs.Outcome.{limits_of};
 
+use crate::demo::demo_ready;
 use crate::report::{accepted_line, no_main, utf16_of};
 use crate::status::{DONE, REPORTED};
 use kilim_classes::machine::Limits;
 use kilim_classes::main_class::fit_main;
 use kilim_classes::{ClassId, Method, Program};
 use kilim_isolation_check::Isolated;
-use kilim_journal::Entry;
 use kilim_outside::words::{Asked, RunWords, WeaveWords, integers};
 use kilim_stages::woven_stage::{WovenProgram, woven_program};
 use kilim_stages::{Refusal, accepted};
@@ -38,14 +36,11 @@ pub struct Reply {
 }
 
 /// What is to be done for the bytes of files.
-#[derive(Drop)]
 pub enum Ready {
     /// To write files and a text.
     Reply(Reply),
     /// To run a program by its woven form, with its main class.
     Run(Program, Woven, ClassId, Limits),
-    /// To run the demo of a number.
-    Demo(u64),
 }
 
 // The class of that name, if it is fit to be the main class.
@@ -56,15 +51,39 @@ fn main_in(alloc: Global, program: &Program, main: &str) -> Result<Option<ClassI
     fit_main(program, units.as_slice())
 }
 
-// The limits of a run.
-fn limits_in(alloc: Global, words: &RunWords<'_>) -> Result<Limits, NoMemory>
-    ensures { IfOk result (λ limits. limits ≡ limits_of words.now.steps (numbers_of (map string_bytes words.now.args.now))) }
+// The main class of a run and its limits, or there is no class of that name that is fit.
+fn start_of(
+    alloc: Global,
+    words: &RunWords<'_>,
+    program: &Program,
+) -> Result<Option<(ClassId, Limits)>, NoMemory>
+    ensures { IfOk result (λ start. IsStartOf program.now words.now.main.now (limits_of words.now.steps (numbers_of (map string_bytes words.now.args.now))) start) }
 {
-    let args = integers(alloc, words.args)?;
-    Ok(Limits {
-        steps: words.steps,
-        args,
-    })
+    match main_in(alloc, program, words.main)? {
+        Some(class) => {
+            let args = integers(alloc, words.args)?;
+            Ok(Some((
+                class,
+                Limits {
+                    steps: words.steps,
+                    args,
+                },
+            )))
+        }
+        None => Ok(None),
+    }
+}
+
+// No class of that name is fit to be the main class.
+fn without_main(alloc: Global, main: &str) -> Result<Ready, NoMemory>
+    ensures { IfOk result (IsWithoutMain main.now) }
+{
+    let text = no_main(alloc, main)?;
+    Ok(Ready::Reply(Reply {
+        status: REPORTED,
+        files: Vec::new(alloc),
+        text,
+    }))
 }
 
 // What is to be done for an accepted program, woven, that is to be run.
@@ -75,18 +94,15 @@ fn program_ready(
 ) -> Result<Ready, NoMemory>
     ensures { IfOk result (λ ready. IsReadyOf program words.now.main.now (limits_of words.now.steps (numbers_of (map string_bytes words.now.args.now))) ready) }
 {
-    match main_in(alloc, &program.plain, words.main)? {
-        Some(class) => {
-            let limits = limits_in(alloc, words)?;
-            Ok(Ready::Run(program.plain, program.woven, class, limits))
+    match start_of(alloc, words, &program.plain) {
+        Ok(Some((class, limits))) => Ok(Ready::Run(program.plain, program.woven, class, limits)),
+        Ok(None) => {
+            drop(program);
+            without_main(alloc, words.main)
         }
-        None => {
-            let text = no_main(alloc, words.main)?;
-            Ok(Ready::Reply(Reply {
-                status: REPORTED,
-                files: Vec::new(alloc),
-                text,
-            }))
+        Err(_) => {
+            drop(program);
+            Err(NoMemory)
         }
     }
 }
@@ -128,13 +144,6 @@ fn has_code(method: &Method) -> bool
     !method.code.is_empty()
 }
 
-// The program that was accepted.
-fn program_of(isolated: Isolated) -> Program
-    ensures { result ≡ isolated.typed.program }
-{
-    isolated.typed.program
-}
-
 // How many of a program's methods have code.
 fn coded_methods(program: &Program) -> usize
     ensures { result ≡ coded_methods program.now }
@@ -148,6 +157,13 @@ fn coded_methods(program: &Program) -> usize
     count
 }
 
+// The same of a program that was accepted.
+fn methods_of(isolated: Isolated) -> usize
+    ensures { result ≡ coded_methods isolated.typed.program }
+{
+    coded_methods(&isolated.typed.program)
+}
+
 // What is answered for the bytes of files that are to be checked.
 fn check_reply(alloc: Global, names: &[String], files: &[Seq<u8>]) -> Result<Reply, NoMemory>
     requires few { length files.now ≤ 1000 }
@@ -157,8 +173,7 @@ fn check_reply(alloc: Global, names: &[String], files: &[Seq<u8>]) -> Result<Rep
     accepted_files_are_isolated();
     match accepted(alloc, names, files) {
         Ok(isolated) => {
-            let program = program_of(isolated);
-            let methods = coded_methods(&program);
+            let methods = methods_of(isolated);
             let text = accepted_line(alloc, files.len(), methods)?;
             Ok(Reply {
                 status: DONE,
@@ -203,21 +218,6 @@ pub fn prepare(alloc: Global, asked: &Asked<'_>, files: &[Seq<u8>]) -> Result<Re
             Ok(Ready::Reply(reply))
         }
         Asked::Run(words) => run_ready(alloc, words, files),
-        Asked::Demo(words) => Ok(Ready::Demo(words.number)),
+        Asked::Demo(words) => demo_ready(alloc, words.number),
     }
-}
-
-/// The text of a run's journal, with the status of a run that was done.
-pub fn journal_reply(alloc: Global, entries: &Vec<Entry>) -> Result<Reply, NoMemory>
-    requires { IsReadable entries.now.items }
-    ensures status { IfOk result (λ reply. reply.status ≡ 0) }
-    ensures files { IfOk result (λ reply. reply.files.items ≡ []) }
-    ensures text { IfOk result (λ reply. reply.text.items ≡ journal_text entries.now.items) }
-{
-    let text = kilim_journal::text(alloc, entries)?;
-    Ok(Reply {
-        status: DONE,
-        files: Vec::new(alloc),
-        text,
-    })
 }

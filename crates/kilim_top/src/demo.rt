@@ -1,9 +1,8 @@
-//! The demo: class files made from a number, their run, and its line.
+//! The demo: class files made from a number, the program to which they link, and the line of its run.
 
 mod line;
-mod runs;
+mod prepared;
 mod texts;
 
-pub use kilim_stages::Refusal;
 pub use line::demo_line;
-pub use runs::{demo_alone, demo_with};
+pub(crate) use prepared::demo_ready;

@@ -27,12 +27,12 @@ pub fn read_all<F: Folder>(
     alloc: Global,
     names: &[String],
     files: &mut F,
-) -> Result<Vec<Seq<u8>>, FolderFault>
-    ensures read { IfOk result (λ read. WereRead (F.contents files.old) (map string_bytes names.now) read.items) }
+) -> Result<Seq<Seq<u8>>, FolderFault>
+    ensures read { IfOk result (λ read. WereRead (F.contents files.old) (map string_bytes names.now) read) }
     ensures contents { F.contents files.new ≡ F.contents files.old }
     ensures cause { ReadsCause (map string_bytes names.now) (F.faults files.old) (F.faults files.new) result }
 {
-    let mut read = Vec::new(alloc);
+    let mut read = Seq::new(alloc);
     for name in names {
         match read_one(alloc, name.as_str(), files) {
             Ok(bytes) => read.push(bytes)?,

@@ -27,11 +27,11 @@ use std::thread::Threads;
 fn respond<F: Folder, K: TextSink>(
     asked: &Asked<'_>,
     bytes: &[Seq<u8>],
-    reply: Reply,
+    reply: &Reply,
     files: &mut F,
     out: &mut K,
 ) -> u8
-    requires { IsReplyFor (meant asked.now) bytes.now reply.status reply.files.items reply.text.items }
+    requires { IsReplyFor (meant asked.now) bytes.now reply.now.status reply.now.files.items reply.now.text.items }
     ensures { Responded (meant asked.now) bytes.now (shown (F.contents files.old) (F.faults files.old) (K.written out.old) (K.faults out.old)) (shown (F.contents files.new) (F.faults files.new) (K.written out.new) (K.faults out.new)) result }
 {
     never_both();
@@ -67,7 +67,7 @@ pub fn work_alone<F: Folder, K: TextSink, G: Gate>(
         Ok(read) => {
             let bytes = read.as_slice();
             match reply_alone(alloc, asked, bytes, gate) {
-                Ok(reply) => respond(asked, bytes, reply, files, out),
+                Ok(reply) => respond(asked, bytes, &reply, files, out),
                 Err(_) => NO_MEMORY,
             }
         }
@@ -93,7 +93,7 @@ pub fn work_with<R: Threads + Wait + Sync, F: Folder, K: TextSink, G: Gate>(
         Ok(read) => {
             let bytes = read.as_slice();
             match reply_with(rt, alloc, asked, bytes, gate) {
-                Ok(reply) => respond(asked, bytes, reply, files, out),
+                Ok(reply) => respond(asked, bytes, &reply, files, out),
                 Err(_) => NO_MEMORY,
             }
         }

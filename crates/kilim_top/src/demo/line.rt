@@ -1,6 +1,6 @@
 //! The line of a journal.
 
-ghost use Rattle.std.specs.Prelude.{◌≡◌, ◌≤◌, ◌+◌, ◌++◌, pos, length, IfOk};
+ghost use Rattle.std.specs.Prelude.{◌≡◌, ◌≤◌, ◌+◌, ◌++◌, pos, length, IfOk, OnOk};
 ghost use Rattle.kilim_top.specs.demo.Kinds.{is_of};
 ghost use Rattle.kilim_top.specs.demo.Line.{back_of, demo_line, front_of, how_many, is_print, is_put, is_start, is_take, sum_from, with_act, with_token};
 
@@ -90,21 +90,14 @@ fn front_of(alloc: Global, number: u64, tasks: usize, puts: usize) -> Result<Vec
     Ok(text.into_bytes())
 }
 
+// The rest of the line goes behind its front.
 #[tactic(auto, unfolding(crate::specs::demo::Line::back_of))]
-fn back_of(alloc: Global, takes: usize, prints: usize, sum: i64) -> Result<Vec<u8>, NoMemory>
-    ensures { IfOk result (λ text. text.items ≡ back_of takes prints sum) }
+fn push_back(text: &mut Vec<u8>, takes: usize, prints: usize, sum: i64) -> Result<(), NoMemory>
+    ensures { OnOk result (text.new.items ≡ text.old.items ++ back_of takes prints sum) }
 {
-    let text = format!(in alloc; " takes {takes} prints {prints} sum {sum}\n")?;
-    Ok(text.into_bytes())
-}
-
-// Two texts, one behind the other.
-fn joined(alloc: Global, first: &[u8], second: &[u8]) -> Result<Vec<u8>, NoMemory>
-    ensures { IfOk result (λ text. text.items ≡ first.now ++ second.now) }
-{
-    let mut text = Vec::from_slice(alloc, first)?;
-    text.extend_from_slice(second)?;
-    Ok(text)
+    let back = format!(in *text.allocator(); " takes {takes} prints {prints} sum {sum}\n")?;
+    text.extend_from_slice(back.as_bytes())?;
+    Ok(())
 }
 
 /// The line of the demo of a number, counted from its journal: how many tasks, puts, takes and prints, and the sum of the printed
@@ -117,10 +110,7 @@ pub fn demo_line(alloc: Global, number: u64, journal: &[Entry]) -> Result<Vec<u8
     let takes = count(Kind::Take, journal);
     let prints = count(Kind::Print, journal);
     let sum = sum_of(journal);
-    let front = front_of(alloc, number, tasks, puts)?;
-    let back = back_of(alloc, takes, prints, sum)?;
-    let first = front.as_slice();
-    let second = back.as_slice();
-    let text = joined(alloc, first, second)?;
+    let mut text = front_of(alloc, number, tasks, puts)?;
+    push_back(&mut text, takes, prints, sum)?;
     Ok(text)
 }

@@ -10,21 +10,22 @@ use kilim_program_maker::{demo_fits, make};
 use kilim_units::{NoMemory, Seq};
 use std::alloc::Global;
 
-fn texts_of(alloc: Global, files: &[ClassFile]) -> Result<Vec<Seq<u8>>, NoMemory>
+fn texts_of(alloc: Global, files: &[ClassFile]) -> Result<Seq<Seq<u8>>, NoMemory>
     requires { AllByRecursion ClassFits files.now }
-    ensures { IfOk result (λ texts. texts.items ≡ map class_text files.now) }
+    ensures { IfOk result (λ texts. texts ≡ map class_text files.now) }
 {
-    let mut texts = Vec::new(alloc);
+    let mut texts = Seq::new(alloc);
     for file in files {
-        texts.push(Seq::from_vec(write(alloc, file)?))?;
+        let text = write(alloc, file)?;
+        texts.push(Seq::from_vec(text))?;
     }
     Ok(texts)
 }
 
 /// The bytes of the class files of the demo of a number, in their order.
 #[tactic(auto, unfolding(crate::specs::demo::Demo::demo_texts))]
-pub fn demo_texts(alloc: Global, number: u64) -> Result<Vec<Seq<u8>>, NoMemory>
-    ensures { IfOk result (λ texts. texts.items ≡ demo_texts number) }
+pub fn demo_texts(alloc: Global, number: u64) -> Result<Seq<Seq<u8>>, NoMemory>
+    ensures { IfOk result (λ texts. texts ≡ demo_texts number) }
 {
     demo_fits();
     let files = make(alloc, number)?;
@@ -32,10 +33,10 @@ pub fn demo_texts(alloc: Global, number: u64) -> Result<Vec<Seq<u8>>, NoMemory>
 }
 
 /// So many names, which are empty.
-pub fn no_names(alloc: Global, count: usize) -> Result<Vec<String>, NoMemory>
-    ensures { IfOk result (λ names. length names.items ≡ count) }
+pub fn no_names(alloc: Global, count: usize) -> Result<Seq<String>, NoMemory>
+    ensures { IfOk result (λ names. length names ≡ count) }
 {
-    let mut names = Vec::new(alloc);
+    let mut names = Seq::new(alloc);
     for _ in 0..count {
         names.push(String::new(alloc))?;
     }

@@ -1,4 +1,4 @@
-use Rattle.std.proofs.Common.{ℤ, ap, rules, w64, ◌∙◌}
+use Rattle.std.proofs.Common.{ℤ, ap, rules, w64}
 use Rattle.std.proofs.lemmas.Int.{to_z-of_z}
 use Rattle.kilim_top.specs.demo.Line.{back_of}
 use Rattle.kilim_top.proofs.demo.Summed.{line_is}
@@ -6,6 +6,6 @@ use Rattle.kilim_top.proofs.demo.line.demo_line.Goals as goal
 
 pub returns : goal.returns
 returns c =
-    line_is c.args.number c.in_ok-tasks.tasks c.count-puts.result c.count-takes.result c.count-prints.result c.sum_of-sum.result c.args.journal.now c.as_slice-first.result.now c.as_slice-second.result.now c.in_ok-text.text.items
-    c.in_ok-tasks.ensures c.count-puts.ensures.count c.count-takes.ensures.count c.count-prints.ensures.count c.sum_of-sum.ensures (c.as_slice-first.ensures.value ∙ c.in_ok-front.ensures)
-    (c.as_slice-second.ensures.value ∙ (c.in_ok-back.ensures ∙ ap (λ (z : ℤ). back_of c.count-takes.result c.count-prints.result z) (to_z-of_z w64 c.sum_of-sum.result (search rules)))) c.in_ok-text.ensures
+    line_is c.args.number c.in_ok-tasks.tasks c.count-puts.result c.count-takes.result c.count-prints.result c.sum_of-sum.result c.args.journal.now c.in_ok-text.text.items _ c.push_back.new.text.items
+    c.in_ok-tasks.ensures c.count-puts.ensures.count c.count-takes.ensures.count c.count-prints.ensures.count c.sum_of-sum.ensures c.in_ok-text.ensures
+    (ap (λ (z : ℤ). back_of c.count-takes.result c.count-prints.result z) (to_z-of_z w64 c.sum_of-sum.result (search rules))) c.in_ok-push_back.ensures

@@ -2,4 +2,4 @@ use Rattle.std.proofs.Common.{◌≡◌, length}
 use Rattle.kilim_top.proofs.demo.texts.no_names.Given as goal
 
 abbrev pub invariant-loop : goal.invariant-loop
-invariant-loop l = length l.names.items ≡ l.counter
+invariant-loop l = length l.names ≡ l.counter

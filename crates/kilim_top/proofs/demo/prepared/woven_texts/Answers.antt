@@ -1,0 +1,10 @@
+use Rattle.kilim_top.proofs.demo.Reported.{report_of}
+use Rattle.kilim_top.proofs.demo.Served.{woven_of}
+use Rattle.kilim_top.proofs.demo.prepared.woven_texts.Goals as goal
+
+pub returns-clause-woven : goal.returns-clause-woven
+returns-clause-woven c = woven_of c.args.number c.args.texts.now c.woven_program.result c.requires c.woven_program.ensures.woven
+
+pub returns-clause-report : goal.returns-clause-report
+returns-clause-report c =
+    report_of c.class_file_is_spelled.ensures _ c.args.texts.now c.args.number c.woven_program.result (c.demo_fits.ensures.fits c.args.number) c.requires c.woven_program.ensures.report
