@@ -1,5 +1,5 @@
 -- From one step of a worker to the next.
-use Rattle.std.proofs.Common.{◌≡◌, ℕ, List, Option, Some, None, sym, ◌∙◌}
+use Rattle.std.proofs.Common.{◌≡◌, ℕ, List, [], Option, Some, None, sym, subst, ◌∙◌}
 use Rattle.kilim_classes.specs.declared.names.BoxName.{BoxName}
 use Rattle.kilim_classes.specs.declared.machine.run.Limits.{Limits}
 use Rattle.kilim_thread_model.specs.State.{Setting}
@@ -7,6 +7,7 @@ use Rattle.kilim_fibers.specs.Fibers.{Asks, Resumed, Fits, course_after, StandsF
 use Rattle.kilim_fibers.specs.declared.Wants.{Wants}
 use Rattle.kilim_fibers.specs.declared.Wants.TheVariants as wants
 use Rattle.kilim_fibers.specs.declared.Answer.{Answer}
+use Rattle.kilim_exchange.specs.declared.board.Acted.{Acted}
 use Rattle.kilim_exchange.specs.declared.board.Acted.TheVariants as acted
 use Rattle.kilim_exchange.specs.Seen.{RestsAs, wish_in}
 use Rattle.kilim_workers.proofs.worker_pool.Steps.{IsGoing}
@@ -15,7 +16,7 @@ use Rattle.kilim_workers.specs.Runs.{fiber_numbers, AllStand, ActedAs, RunsOn}
 use Rattle.kilim_thread_model.specs.Lone.{Lone}
 use Rattle.kilim_thread_model.specs.Course.{Course}
 use Rattle.kilim_thread_model.specs.declared.deed.Deed.{Deed}
-use Rattle.kilim_fibers.specs.Wishes.{Wish, ToPut, ToTake, ToProbe, ToStart, ToPrint}
+use Rattle.kilim_fibers.specs.Wishes.{Wish, ToPut, ToTake, ToProbe, ToStart, ToPrint, ToEnd}
 
 -- where it rests
 pub rested : {F : Type 0} (task : F → ℕ) (course : F → Course) (holds asked : Setting → F → Lone → Type 0) (set : Setting) (f : F) (waits : Option BoxName) → Resumed task course holds asked set f (wants.Rest waits) → RestsAs task course holds set f waits
@@ -51,3 +52,17 @@ module _ {F C : Type 0} (task : F → ℕ) (course : F → Course) (holds asked 
         k.now ∙ (λ i. lent_numbers (sym same i) (sym r.0 i)),
         λ set is. let q = all set is in (answered set q.wish q.deed (runs set is).0 q.asks q.fits).1,
       )
+
+-- a start where there is no task left
+module _ (Of : Setting → Type 0) (t : ℕ) (c : Course) (cell : List ℕ) where
+  full : (o : Option Wish) → ActedAs Of t c cell o acted.OutOfTasks → cell ≡ []
+  full None did = absurd did
+  full (Some (ToPut box shape)) did = did
+  full (Some (ToTake box)) did = did
+  full (Some (ToProbe box)) did = did
+  full (Some (ToStart shape)) did = did
+  full (Some (ToPrint shape)) did = did
+  full (Some (ToEnd why)) did = did
+
+  pub is_full : (o : Option Wish) (a : Acted) → a ≡ acted.OutOfTasks → ActedAs Of t c cell o a → cell ≡ []
+  is_full o a is did = full o (subst (λ a. ActedAs Of t c cell o a) is did)

@@ -4,7 +4,7 @@ use Rattle.kilim_workers.proofs.worker_pool.Steps.{going}
 use Rattle.kilim_exchange.specs.Seen.{wish_in}
 use Rattle.kilim_turn.specs.Turns.{shows}
 use Rattle.kilim_workers.specs.Runs.{ActedAs}
-use Rattle.kilim_workers.proofs.Steps.{asked_in, rested, went_on}
+use Rattle.kilim_workers.proofs.Steps.{asked_in, is_full, rested, went_on}
 use Rattle.kilim_workers.proofs.worker.go_on.Goals as goal
 
 pub act-requires-clause-meets : goal.act-requires-clause-meets
@@ -64,3 +64,7 @@ quit-requires-in-Err-answer-clause-lent g c =
     (going c.in-Ok.wants c.in_default.not-Rest c.in_default.not-End) (c.in-Ok.ensures.wants set r.0 r.1 (c.requires.stands set is))
     (subst (λ a. ActedAs g.K.Run.of (g.F.Fibers.task_of c.resume.new.self) (g.F.Fibers.course_of c.resume.new.self) (shows c.act-in_default.new.pass) (wish_in c.in-Ok.wants) a) c.in-Ok-Answer.field-0-is c.in-Ok-Answer.ensures.acted) in
     (g.F.Fibers.task_of c.resume.new.self, course_after (g.F.Fibers.course_of c.resume.new.self) k.deed, k.now)
+
+pub returns-in-Ok-OutOfTasks-clause-step : goal.returns-in-Ok-OutOfTasks-clause-step
+returns-in-Ok-OutOfTasks-clause-step g c =
+    is_full g.K.Run.of (g.F.Fibers.task_of c.resume.new.self) (g.F.Fibers.course_of c.resume.new.self) (shows c.act-in_default.new.pass) (wish_in c.in-Ok.wants) _ c.in-Ok-OutOfTasks.field-0-is c.in-Ok-OutOfTasks.ensures.acted
