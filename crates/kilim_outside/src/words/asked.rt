@@ -1,6 +1,6 @@
 //! What the words ask for.
 
-ghost use Rattle.std.specs.Prelude.{◌≡◌, ◌≤◌, ◌<◌, ◌&&◌, true, nat_lt, nat_le, is_some, length, map, take, drop, IfOk, IfSome, codes};
+ghost use Rattle.std.specs.Prelude.{◌≡◌, ◌≤◌, ◌<◌, ◌&&◌, ◌∷◌, true, nat_lt, nat_le, is_some, length, map, take, drop, IfOk, IfSome, codes};
 ghost use Rattle.std.specs.Option.{option_copied, option_map};
 ghost use Rattle.std.specs.List.{list_all};
 ghost use Rattle.std.specs.Str.{bytes_eq};
@@ -327,6 +327,20 @@ fn demo_request<'a>(words: &'a [String]) -> Option<Asked<'a>>
     demo_with(demo_number(words), number_or(1, 16, "--workers=", words))
 }
 
+// What a command asks for with the words behind it.
+fn asked_by<'a>(command: &str, words: &'a [String]) -> Option<Asked<'a>>
+    ensures few { IfSome result (λ asked. length (files_read (meant asked)) ≤ 1000) }
+    ensures request { option_map meant result ≡ request_of (command.now ∷ map string_bytes words.now) }
+{
+    match command {
+        "check" => check_request(words),
+        "weave" => weave_request(words),
+        "run" => run_request(words),
+        "demo" => demo_request(words),
+        _ => None,
+    }
+}
+
 /// What the words ask for, or nothing where they aren't in the grammar (specs/Words.antt). At most 1,000 files are named.
 /// It takes no memory.
 pub fn request(words: &[String]) -> Option<Asked<'_>>
@@ -335,12 +349,6 @@ pub fn request(words: &[String]) -> Option<Asked<'_>>
 {
     match words {
         [] => None,
-        [command, rest @ ..] => match command.as_str() {
-            "check" => check_request(rest),
-            "weave" => weave_request(rest),
-            "run" => run_request(rest),
-            "demo" => demo_request(rest),
-            _ => None,
-        },
+        [command, rest @ ..] => asked_by(command.as_str(), rest),
     }
 }
