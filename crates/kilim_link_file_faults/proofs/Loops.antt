@@ -1,14 +1,39 @@
 -- Loops that append something for each element, and loops that look for an element.
-use Rattle.std.proofs.Common.{◌≡◌, ℕ, ◌+◌, ◌<◌, Bool, true, false, ◌||◌, List, [], ◌∷◌, ◌++◌, length, get_or, map, take, drop, Option, Some, None, refl, sym, ap, ◌∙◌, arith, subst}
+use Rattle.std.proofs.Common.{◌≡◌, ℕ, ◌+◌, ◌<◌, ◌≤◌, Bool, true, false, ◌||◌, List, [], ◌∷◌, ◌++◌, length, get_or, map, take, drop, Option, Some, None, refl, sym, ap, ◌∙◌, append_assoc, subst}
 use Rattle.std.specs.List.{list_any, flat_map, filter_map}
+use Rattle.std.proofs.lemmas.List.{take_more, take_all, map_more, at_drop_all, flat_map_more}
 use Rattle.std.proofs.lemmas.List.Concat.{flat_map-cons}
 use Rattle.kilim_link_spec.specs.Linked.{first_of}
 use Rattle.kilim_lemmas.proofs.Lists.{drop_at}
-use Rattle.std.proofs.lemmas.Grind.{common_steps}
 
 pub more : {X A : Type 0} (f : X → A) (before now next : List A) (xs : List X) (i : ℕ) (x d : X) (y : A) → i < length xs → x ≡ get_or xs i d → now ≡ before ++ map f (take i xs) → y ≡ f x
     → next ≡ now ++ y ∷ [] → next ≡ before ++ map f (take (i + 1) xs)
-more f before now next xs i x d y lt is so_far made step = grind (arith, common_steps)
+more f before now next xs i x d y lt is so_far made step =
+    step ∙ (ap (λ ys. ys ++ y ∷ []) so_far ∙ (ap (λ z. (before ++ map f (take i xs)) ++ z ∷ []) (made ∙ ap f is) ∙ (append_assoc before (map f (take i xs)) (f (get_or xs i d) ∷ []) ∙ ap (λ ys. before ++ ys) (sym (map_more f xs i d lt)))))
+
+pub all_more : {X A : Type 0} (f : X → A) (before now : List A) (xs : List X) (i : ℕ) → length xs ≤ i → now ≡ before ++ map f (take i xs) → now ≡ before ++ map f xs
+all_more {X} f before now xs i le so_far = so_far ∙ ap (λ (ys : List X). before ++ map f ys) (take_all i xs le)
+
+pub pushed : {X A : Type 0} (f : X → List A) (before now next : List A) (xs : List X) (i : ℕ) (x : X) → i < length xs → x ≡ get_or xs i x → now ≡ before ++ flat_map f (take i xs) → next ≡ now ++ f x
+    → next ≡ before ++ flat_map f (take (i + 1) xs)
+pushed f before now next xs i x lt is so_far step =
+    step ∙ (ap (λ ys. ys ++ f x) so_far ∙ (ap (λ z. (before ++ flat_map f (take i xs)) ++ f z) is ∙ (flat_map_more f before (take i xs) (get_or xs i x) ∙ ap (λ ys. before ++ flat_map f ys) (sym (take_more xs i x lt)))))
+
+pub all_pushed : {X A : Type 0} (f : X → List A) (before now : List A) (xs : List X) (i : ℕ) → length xs ≤ i → now ≡ before ++ flat_map f (take i xs) → now ≡ before ++ flat_map f xs
+all_pushed {X} f before now xs i le so_far = so_far ∙ ap (λ (ys : List X). before ++ flat_map f ys) (take_all i xs le)
+
+-- nothing is left to be looked at
+ended : {X Y : Type 0} (f : List X → Y) (items xs : List X) (i : ℕ) {r : Y} → items ≡ xs → length items ≤ i → f (drop i xs) ≡ r → f [] ≡ r
+ended {X} f items xs i same le so_far = sym (at_drop_all f xs i (subst (λ (ys : List X). length ys ≤ i) same le)) ∙ so_far
+
+pub none_passes : {A : Type 0} (test : A → Bool) (items xs : List A) (i : ℕ) {r : Bool} → items ≡ xs → length items ≤ i → list_any test (drop i xs) ≡ r → false ≡ r
+none_passes test items xs i same le so_far = ended (list_any test) items xs i same le so_far
+
+pub none_first : {A B : Type 0} (f : A → List B) (items xs : List A) (i : ℕ) {r : Option B} → items ≡ xs → length items ≤ i → first_of (flat_map f (drop i xs)) ≡ r → None ≡ r
+none_first {A} f items xs i same le so_far = ended (λ (ys : List A). first_of (flat_map f ys)) items xs i same le so_far
+
+pub none_found : {A B : Type 0} (make : A → Option B) (items xs : List A) (i : ℕ) {r : Option B} → items ≡ xs → length items ≤ i → first_of (filter_map make (drop i xs)) ≡ r → None ≡ r
+none_found {A} make items xs i same le so_far = ended (λ (ys : List A). first_of (filter_map make ys)) items xs i same le so_far
 
 rest_at : {A : Type 0} (items xs : List A) (i : ℕ) (x : A) → items ≡ xs → i < length items → x ≡ get_or items i x → drop i xs ≡ x ∷ drop (i + 1) xs
 rest_at {A} items xs i x same lt is = drop_at xs i x (subst (λ (ys : List A). i < length ys) same lt) (is ∙ ap (λ (ys : List A). get_or ys i x) same)

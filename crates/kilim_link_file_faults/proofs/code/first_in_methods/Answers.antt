@@ -1,6 +1,6 @@
 use Rattle.std.proofs.Common.{refl}
 use Rattle.kilim_link_spec.specs.Faults.{code_faults}
-use Rattle.kilim_link_file_faults.proofs.Loops.{first_at, first_behind}
+use Rattle.kilim_link_file_faults.proofs.Loops.{first_at, first_behind, none_first}
 use Rattle.kilim_link_file_faults.proofs.code.first_in_methods.Goals as goal
 
 pub returns-in-Ok-Some : goal.returns-in-Ok-Some
@@ -8,3 +8,6 @@ returns-in-Ok-Some c = first_at (code_faults c.args.file.now) c.args.methods.now
 
 pub loop-method-preserved : goal.loop-method-preserved
 loop-method-preserved c = first_behind (code_faults c.args.file.now) c.args.methods.now c.args.methods.now c.loop-method.method-index c.method-item.result c.in-Ok-None.field-0 refl c.loop-method-test.true c.method-item.is c.in-Ok-None.ensures c.loop-method.invariant c.in-Ok-None.field-0-is
+
+pub returns : goal.returns
+returns c = none_first (code_faults c.args.file.now) c.args.methods.now c.args.methods.now c.loop-method.method-index refl c.loop-method-test.false c.loop-method.invariant

@@ -1,7 +1,7 @@
 use Rattle.std.proofs.Common.{refl}
 use Rattle.kilim_attributes.specs.declared.attribute.Attribute.{Attribute}
 use Rattle.kilim_link_spec.specs.Linked.{constant_by}
-use Rattle.kilim_link_file_faults.proofs.Loops.{found_first, found_later}
+use Rattle.kilim_link_file_faults.proofs.Loops.{found_first, found_later, none_found}
 use Rattle.kilim_link_file_faults.proofs.fields.first_constant.Goals as goal
 
 pub returns-in-Ok-Some : goal.returns-in-Ok-Some
@@ -9,3 +9,6 @@ returns-in-Ok-Some c = found_first (λ (a : Attribute). constant_by c.args.pool.
 
 pub loop-attribute-preserved : goal.loop-attribute-preserved
 loop-attribute-preserved c = found_later (λ (a : Attribute). constant_by c.args.pool.now a.info) c.args.attributes.now c.args.attributes.now c.loop-attribute.attribute-index c.attribute-item.result c.in-Ok-None.field-0 refl c.loop-attribute-test.true c.attribute-item.is c.in-Ok-None.ensures c.loop-attribute.invariant c.in-Ok-None.field-0-is
+
+pub returns : goal.returns
+returns c = none_found (λ (a : Attribute). constant_by c.args.pool.now a.info) c.args.attributes.now c.args.attributes.now c.loop-attribute.attribute-index refl c.loop-attribute-test.false c.loop-attribute.invariant

@@ -5,7 +5,7 @@ use Rattle.kilim_link_spec.specs.Annotations.{params_in}
 use Rattle.kilim_link_spec.specs.LeftOut.{differs_in}
 use Rattle.kilim_link_spec.specs.Types.{method_text}
 use Rattle.kilim_link_spec.specs.World.{member_descriptor, parameter_parts}
-use Rattle.kilim_link_file_faults.proofs.Loops.{found_at, passed_at}
+use Rattle.kilim_link_file_faults.proofs.Loops.{found_at, passed_at, none_passes}
 use Rattle.kilim_link_file_faults.proofs.parameters.has_other_parameters.Goals as goal
 
 pub returns-in-Ok-true : goal.returns-in-Ok-true
@@ -19,3 +19,8 @@ loop-method-preserved c =
     let file = c.args.file.now in
     passed_at (λ (m : MemberInfo). list_any (λ parts. differs_in (method_text (member_descriptor file m)) (length (params_in parts))) (filter_map (λ a. parameter_parts a.info) m.attributes)) c.as_slice-method-items.result.now file.methods c.loop-method.method-index c.method-item.result c.in-Ok-false.field-0
     c.as_slice-method-items.ensures c.loop-method-test.true c.method-item.is c.in-Ok-false.ensures c.loop-method.invariant c.in-Ok-false.field-0-test
+
+pub returns : goal.returns
+returns c =
+    let file = c.args.file.now in
+    none_passes (λ (m : MemberInfo). list_any (λ parts. differs_in (method_text (member_descriptor file m)) (length (params_in parts))) (filter_map (λ a. parameter_parts a.info) m.attributes)) c.as_slice-method-items.result.now file.methods c.loop-method.method-index c.as_slice-method-items.ensures c.loop-method-test.false c.loop-method.invariant
