@@ -1,7 +1,7 @@
 -- Loops that append something for each element, by what is left.
-use Rattle.std.proofs.Common.{◌≡◌, ℕ, ◌+◌, ◌<◌, ◌≤◌, List, [], ◌∷◌, ◌++◌, length, get_or, map, take, drop, sym, ap, ◌∙◌, append_assoc, arith}
-use Rattle.std.proofs.lemmas.Grind.{common_steps}
-use Rattle.std.proofs.lemmas.List.{append-nil, drop_all, drop_more}
+use Rattle.std.proofs.Common.{◌≡◌, ℕ, Bool, false, ◌+◌, ◌<◌, ◌≤◌, List, [], ◌∷◌, ◌++◌, length, get_or, map, take, drop, sym, ap, ◌∙◌, append_assoc}
+use Rattle.std.proofs.lemmas.List.{append-nil, drop_all, drop_more, take_all, take_more}
+use Rattle.std.specs.List.{list_any}
 
 pub mapped_on : {X A : Type 0} (f : X → A) (now next total : List A) (xs : List X) (i : ℕ) (x d : X) (y : A) → i < length xs → x ≡ get_or xs i d → now ++ map f (drop i xs) ≡ total → y ≡ f x → next ≡ now ++ y ∷ []
     → next ++ map f (drop (i + 1) xs) ≡ total
@@ -24,4 +24,15 @@ pub twice_mapped_end : {X Y A : Type 0} (g : Y → A) (f : X → Y) (now total :
 twice_mapped_end g f now total xs i le so_far = sym (append-nil now) ∙ (ap (λ r. now ++ map g (map f r)) (sym (drop_all i xs le)) ∙ so_far)
 
 pub copied : {A : Type 0} (before now next xs : List A) (i : ℕ) (x d : A) → i < length xs → x ≡ get_or xs i d → now ≡ before ++ take i xs → next ≡ now ++ x ∷ [] → next ≡ before ++ take (i + 1) xs
-copied before now next xs i x d lt is so_far step = grind (arith, common_steps)
+copied {A} before now next xs i x d lt is so_far step =
+    step
+    ∙ (ap (λ (z : A). now ++ z ∷ []) is
+    ∙ (ap (λ (zs : List A). zs ++ get_or xs i d ∷ []) so_far ∙ (append_assoc before (take i xs) (get_or xs i d ∷ []) ∙ ap (λ (zs : List A). before ++ zs) (sym (take_more xs i d lt)))))
+
+-- a search that finds nothing
+pub any_end : {X : Type 0} (test : X → Bool) (xs : List X) (i : ℕ) (b : Bool) → length xs ≤ i → list_any test (drop i xs) ≡ b → false ≡ b
+any_end test xs i b le so_far = sym (ap (list_any test) (drop_all i xs le)) ∙ so_far
+
+-- two lists that are the same as far as either goes
+pub same_end : {A : Type 0} (xs ys : List A) (k : ℕ) → length xs ≤ k → length ys ≤ k → take k xs ≡ take k ys → xs ≡ ys
+same_end xs ys k le less so_far = sym (take_all k xs le) ∙ (so_far ∙ take_all k ys less)

@@ -1,6 +1,6 @@
 -- Two lists of reports in one.
 use Rattle.std.proofs.Common.{◌≡◌, ℕ, suc, ◌+◌, ◌<◌, ◌≤◌, true, false, if◌then◌else◌, List, [], ◌∷◌, ◌++◌, length, get_or, drop, drop-cons, sym, ap, ◌∙◌, arith, append_assoc}
-use Rattle.std.proofs.lemmas.List.{length-drop, nil_from_length}
+use Rattle.std.proofs.lemmas.List.{append-nil, length-drop, nil_from_length}
 use Rattle.kilim_pausable_graph.specs.declared.report.Report.{Report}
 use Rattle.kilim_isolation_check.specs.Faults.{comes_before, earlier, later, merged}
 
@@ -24,6 +24,31 @@ earlier_stop r qs i d lt before = ap (earlier r) (drop_at qs i d lt) ∙ ap (λ 
 pub later_stop : (r : Report) (qs : List Report) (i : ℕ) (d : Report) → i < length qs → comes_before (get_or qs i d) r ≡ false → later r (drop i qs) ≡ drop i qs
 later_stop r qs i d lt before =
     ap (later r) (drop_at qs i d lt) ∙ (ap (λ b. if b then later r (drop (i + 1) qs) else get_or qs i d ∷ drop (i + 1) qs) before ∙ sym (drop_at qs i d lt))
+
+-- a turn of `push_earlier`, and its ends
+pub push_more : (r : Report) (qs now next total : List Report) (i : ℕ) (q d : Report) → i < length qs → q ≡ get_or qs i d → comes_before q r ≡ true → now ++ earlier r (drop i qs) ≡ total → next ≡ now ++ q ∷ [] →
+    next ++ earlier r (drop (i + 1) qs) ≡ total
+push_more r qs now next total i q d lt is before so_far step =
+    let rest : List Report = earlier r (drop (i + 1) qs) in
+    let passes : comes_before (get_or qs i d) r ≡ true = ap (λ (z : Report). comes_before z r) (sym is) ∙ before in
+    ap (λ (v : List Report). v ++ rest) (step ∙ ap (λ (z : Report). now ++ z ∷ []) is)
+    ∙ (append_assoc now (get_or qs i d ∷ []) rest ∙ (ap (λ (v : List Report). now ++ v) (sym (earlier_more r qs i d lt passes)) ∙ so_far))
+
+pub rest_more : (r : Report) (qs total : List Report) (i : ℕ) (q d : Report) → i < length qs → q ≡ get_or qs i d → comes_before q r ≡ true → later r (drop i qs) ≡ total → later r (drop (i + 1) qs) ≡ total
+rest_more r qs total i q d lt is before so_far = sym (later_more r qs i d lt (ap (λ (z : Report). comes_before z r) (sym is) ∙ before)) ∙ so_far
+
+pub push_stop : (r : Report) (qs now total : List Report) (i : ℕ) (q d : Report) → i < length qs → q ≡ get_or qs i d → comes_before q r ≡ false → now ++ earlier r (drop i qs) ≡ total → now ≡ total
+push_stop r qs now total i q d lt is before so_far =
+    sym (append-nil now) ∙ (ap (λ (v : List Report). now ++ v) (sym (earlier_stop r qs i d lt (ap (λ (z : Report). comes_before z r) (sym is) ∙ before))) ∙ so_far)
+
+pub rest_stop : (r : Report) (qs total : List Report) (i : ℕ) (q d : Report) → i < length qs → q ≡ get_or qs i d → comes_before q r ≡ false → later r (drop i qs) ≡ total → drop i qs ≡ total
+rest_stop r qs total i q d lt is before so_far = sym (later_stop r qs i d lt (ap (λ (z : Report). comes_before z r) (sym is) ∙ before)) ∙ so_far
+
+pub push_end : (r : Report) (qs now total : List Report) (i : ℕ) → length qs ≤ i → now ++ earlier r (drop i qs) ≡ total → now ≡ total
+push_end r qs now total i le so_far = sym (append-nil now) ∙ (ap (λ (v : List Report). now ++ earlier r v) (sym (drop_end qs i le)) ∙ so_far)
+
+pub rest_end : (r : Report) (qs total : List Report) (i k : ℕ) → length qs ≤ i → length qs ≤ k → later r (drop i qs) ≡ total → drop k qs ≡ total
+rest_end r qs total i k le past so_far = drop_end qs k past ∙ (ap (later r) (sym (drop_end qs i le)) ∙ so_far)
 
 -- a turn of `merge`
 pub merge_more : (rs qs old mid new total : List Report) (k at next : ℕ) (x : Report) → k < length rs → x ≡ get_or rs k x → mid ≡ old ++ earlier x (drop at qs) → drop next qs ≡ later x (drop at qs) →

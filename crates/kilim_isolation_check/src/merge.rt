@@ -13,23 +13,17 @@ fn comes_before(a: &Report, b: &Report) -> bool
     a.pc < b.pc || (a.pc == b.pc && a.rule < b.rule)
 }
 
-fn copy(alloc: Global, report: &Report) -> Result<Report, NoMemory>
-    ensures { IfOk result (λ new. new ≡ report.now) }
-{
-    Ok(Report {
-        method: report.method,
-        pc: report.pc,
-        rule: report.rule,
-        path: Seq::from_vec(Vec::from_slice(alloc, report.path.as_slice())?),
-    })
-}
-
 // A report behind those that are there.
 fn push_copy(alloc: Global, into: &mut Seq<Report>, report: &Report) -> Result<(), NoMemory>
     ensures { OnOk result (into.new ≡ into.old ++ report.now ∷ []) }
 {
-    let new = copy(alloc, report)?;
-    into.push(new)?;
+    let path = Vec::from_slice(alloc, report.path.as_slice())?;
+    into.push(Report {
+        method: report.method,
+        pc: report.pc,
+        rule: report.rule,
+        path: Seq::from_vec(path),
+    })?;
     Ok(())
 }
 
@@ -43,7 +37,6 @@ pub fn append(alloc: Global, into: &mut Seq<Report>, more: &[Report]) -> Result<
     Ok(())
 }
 
-#[tactic(auto, using(crate::proofs::Merging::earlier_more, crate::proofs::Merging::later_more, crate::proofs::Merging::earlier_stop, crate::proofs::Merging::later_stop, crate::proofs::Merging::drop_end))]
 // Those from a number on that come before a report, behind those that are there; the number of the first other one.
 fn push_earlier(
     alloc: Global,
@@ -56,10 +49,11 @@ fn push_earlier(
     ensures rest { IfOk result (λ at. drop at others.now ≡ spec.later report.now (drop from others.now)) }
 {
     for at in from..others.len() {
-        if !comes_before(&others[at], report) {
+        let other = &others[at];
+        if !comes_before(other, report) {
             return Ok(at);
         }
-        push_copy(alloc, into, &others[at])?;
+        push_copy(alloc, into, other)?;
     }
     Ok(from.max(others.len()))
 }
@@ -71,8 +65,9 @@ pub fn merged(alloc: Global, reports: &[Report], others: &[Report]) -> Result<Se
     let mut all = Seq::new(alloc);
     let mut at = 0;
     for report in reports {
-        at = push_earlier(alloc, report, others, at, &mut all)?;
+        let next = push_earlier(alloc, report, others, at, &mut all)?;
         push_copy(alloc, &mut all, report)?;
+        at = next;
     }
     append(alloc, &mut all, &others[at.min(others.len())..])?;
     Ok(all)

@@ -1,6 +1,6 @@
 //! What the paths of a method give.
 
-ghost use Rattle.std.specs.Prelude.{◌≡◌, ◌∷◌, [], true, Ok, IfOk, map, option_copied, slice_get};
+ghost use Rattle.std.specs.Prelude.{◌≡◌, ◌∷◌, ◌++◌, [], true, Ok, IfOk, map, option_copied, slice_get};
 ghost use Rattle.kilim_classes.specs.Keeps.{code_is_whole};
 ghost use Rattle.kilim_classes.specs.Names.{method_at};
 ghost use Rattle.kilim_typing.specs.Typed.{has_code};
@@ -29,6 +29,25 @@ pub const SHAPE_LIMIT: u8 = 12;
 /// The number of the rule that a tree stays a tree.
 pub const KIND_MIXED: u8 = 6;
 
+// The report of a fault along the paths of a method behind those that are there.
+fn push_shown(
+    alloc: Global,
+    id: MethodId,
+    report: &PathReport,
+    shown: &mut Seq<Report>,
+) -> Result<(), NoMemory>
+    ensures { IfOk result (λ u. shown.new ≡ shown.old ++ spec.report_of id report.now ∷ []) }
+{
+    let path = Vec::from_slice(alloc, report.path.as_slice())?;
+    shown.push(Report {
+        method: id,
+        pc: report.pc,
+        rule: report.rule,
+        path: Seq::from_vec(path),
+    })?;
+    Ok(())
+}
+
 // The reports of faults along the paths of a method.
 fn shown_faults(
     alloc: Global,
@@ -39,12 +58,7 @@ fn shown_faults(
 {
     let mut shown = Seq::new(alloc);
     for report in reports {
-        shown.push(Report {
-            method: id,
-            pc: report.pc,
-            rule: report.rule,
-            path: Seq::from_vec(Vec::from_slice(alloc, report.path.as_slice())?),
-        })?;
+        push_shown(alloc, id, report, &mut shown)?;
     }
     Ok(shown)
 }
