@@ -1,6 +1,7 @@
 //! The words of the cases.
 
-use crate::classes::{class_file, push_class, push_fronts};
+use crate::check_tables::checked_case;
+use crate::classes::{push_class, push_fronts};
 use crate::code::{code_case, instr_case};
 use crate::descriptors::descriptor_case;
 use crate::links::link_case;
@@ -9,32 +10,20 @@ use kilim_case_text::{Text, changed};
 use std::alloc::Global;
 use std::rt::Files;
 
-// `class FILE` and `fronts FILE`.
-fn bytes_case<R: Files>(text: &mut Text, rt: &R, alloc: Global, word: &str, name: &str) {
-    match changed(rt, alloc, name) {
-        Some(bytes) => match word {
-            "class" => push_class(text, alloc, name, bytes.as_slice()),
-            "fronts" => push_fronts(text, alloc, bytes.as_slice()),
-            _ => text.lacks(),
-        },
-        None => text.lacks(),
-    }
-}
-
-// `pool FILE`.
-fn pool_case<R: Files>(text: &mut Text, rt: &R, alloc: Global, name: &str) {
-    match class_file(rt, alloc, name) {
-        Some(file) => push_pool(text, alloc, &file.constant_pool),
-        None => text.lacks(),
-    }
-}
-
-// The cases of one file.
+// The cases of the bytes of one file: `class FILE`, `fronts FILE` and `pool FILE`.
 fn file_case<R: Files>(text: &mut Text, rt: &R, alloc: Global, word: &str, words: &[String]) {
-    match words {
-        [name] if word == "pool" => pool_case(text, rt, alloc, name.as_str()),
-        [name] => bytes_case(text, rt, alloc, word, name.as_str()),
-        _ => text.lacks(),
+    let [name] = words else {
+        text.lacks();
+        return;
+    };
+    let Some(bytes) = changed(rt, alloc, name.as_str()) else {
+        text.lacks();
+        return;
+    };
+    match word {
+        "class" => push_class(text, alloc, name.as_str(), bytes.as_slice()),
+        "fronts" => push_fronts(text, alloc, bytes.as_slice()),
+        _ => push_pool(text, alloc, bytes.as_slice()),
     }
 }
 
@@ -44,7 +33,8 @@ fn push_case<R: Files>(text: &mut Text, rt: &R, alloc: Global, word: &str, words
         "code" => code_case(text, alloc, words),
         "instr" => instr_case(text, alloc, words),
         "descriptor" => descriptor_case(text, alloc, words),
-        _ => file_case(text, rt, alloc, word, words),
+        "class" | "fronts" | "pool" => file_case(text, rt, alloc, word, words),
+        _ => checked_case(text, rt, alloc, word, words),
     }
 }
 

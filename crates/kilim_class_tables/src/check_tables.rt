@@ -2,12 +2,10 @@
 
 mod cases;
 mod edges;
-mod files;
 mod fits;
 mod graphs;
 mod lives;
 mod names;
-mod stages;
-mod text;
 
-pub use cases::answer;
+pub use crate::cases::answer;
+pub use cases::checked_case;

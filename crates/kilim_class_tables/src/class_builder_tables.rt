@@ -1,9 +1,8 @@
 //! Two classes that a builder makes: their bytes in hexadecimal digits, and that they link and are well typed. README.md has the classes, and
 //! the program kilim_tables asks for the lines.
 
-mod cases;
 mod classes;
+mod lines;
 mod parts;
-mod stages;
 
-pub use cases::answer;
+pub use lines::answer;

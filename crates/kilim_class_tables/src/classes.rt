@@ -1,26 +1,14 @@
 //! Class files, read and written again.
 
-ghost use Rattle.std.specs.Prelude.{IfSome};
 ghost use Rattle.kilim_classfile.specs.Text.{ClassFits};
 
 use crate::code::push_code;
 use kilim_attributes::Info;
-use kilim_case_text::{Text, changed};
+use kilim_case_text::Text;
 use kilim_classfile::{ClassFault, ClassFile, MemberInfo};
 use kilim_constant_pool::{Entry, Pool};
 use kilim_reports::{class_line, descriptor_text, member_name_text};
 use std::alloc::Global;
-use std::rt::Files;
-
-/// The class file of a word, where it is one.
-pub fn class_file<R: Files>(rt: &R, alloc: Global, word: &str) -> Option<ClassFile>
-    ensures { IfSome result ClassFits }
-{
-    match changed(rt, alloc, word) {
-        Some(bytes) => kilim_classfile::read(alloc, bytes.as_slice()).ok(),
-        None => None,
-    }
-}
 
 // The name of a method with its descriptor, as reports write it.
 fn push_name(text: &mut Text, alloc: Global, pool: &Pool, method: &MemberInfo) {
@@ -47,8 +35,8 @@ fn push_method(text: &mut Text, alloc: Global, pool: &Pool, method: &MemberInfo)
     }
 }
 
-// Whether a class file is written in these bytes.
-fn push_written(text: &mut Text, alloc: Global, bytes: &[u8], file: &ClassFile)
+// Whether a class file is written in the bytes in which it was read, and a line for each method with code.
+fn push_file(text: &mut Text, alloc: Global, bytes: &[u8], file: &ClassFile)
     requires { ClassFits file.now }
 {
     match kilim_classfile::write(alloc, file) {
@@ -59,13 +47,6 @@ fn push_written(text: &mut Text, alloc: Global, bytes: &[u8], file: &ClassFile)
         }),
         Err(_) => text.lacks(),
     }
-}
-
-// Whether a class file is written in the bytes in which it was read, and a line for each method with code.
-fn push_file(text: &mut Text, alloc: Global, bytes: &[u8], file: &ClassFile)
-    requires { ClassFits file.now }
-{
-    push_written(text, alloc, bytes, file);
     for method in file.methods.as_slice() {
         push_method(text, alloc, &file.constant_pool, method);
     }

@@ -11,16 +11,15 @@ use std::alloc::Global;
 // Code is asked for below this many bytes.
 const CODE_LIMIT: usize = 65_536;
 
-// The bytes of a word, in decimal, with commas between them.
-fn bytes_of(alloc: Global, word: &str) -> Option<Vec<u8>> {
-    let mut bytes = Vec::new(alloc);
+// Puts the bytes of a word, in decimal with commas between them, behind the others; whether that was possible.
+fn push_bytes(bytes: &mut Vec<u8>, word: &str) -> bool {
     for byte in word.split(',') {
         match byte.parse::<u8>() {
             Ok(byte) if bytes.push(byte).is_ok() => {}
-            _ => return None,
+            _ => return false,
         }
     }
-    Some(bytes)
+    true
 }
 
 // The words of a fault of one instruction.
@@ -85,19 +84,18 @@ pub fn push_code(text: &mut Text, alloc: Global, code: &[u8]) {
     }
 }
 
-fn push_code_of(text: &mut Text, alloc: Global, word: &str) {
-    match bytes_of(alloc, word) {
-        Some(code) => push_code(text, alloc, code.as_slice()),
-        None => text.lacks(),
-    }
-}
-
 /// `code`, or `code BYTES`.
 pub fn code_case(text: &mut Text, alloc: Global, words: &[String]) {
-    match words {
-        [] => push_code(text, alloc, &[]),
-        [word] => push_code_of(text, alloc, word.as_str()),
-        _ => text.lacks(),
+    let mut code = Vec::new(alloc);
+    let is_read = match words {
+        [] => true,
+        [word] => push_bytes(&mut code, word.as_str()),
+        _ => false,
+    };
+    if is_read {
+        push_code(text, alloc, code.as_slice());
+    } else {
+        text.lacks();
     }
 }
 
@@ -149,21 +147,20 @@ fn push_instr(text: &mut Text, alloc: Global, code: &[u8], at: usize) {
     }
 }
 
-fn push_instr_of(text: &mut Text, alloc: Global, word: &str, at: usize) {
-    match bytes_of(alloc, word) {
-        Some(code) => push_instr(text, alloc, code.as_slice(), at),
-        None => text.lacks(),
-    }
-}
-
 /// `instr AT BYTES`.
 pub fn instr_case(text: &mut Text, alloc: Global, words: &[String]) {
     let [at, word] = words else {
         text.lacks();
         return;
     };
-    match at.parse::<usize>() {
-        Ok(at) => push_instr_of(text, alloc, word.as_str(), at),
-        Err(_) => text.lacks(),
+    let Ok(at) = at.parse::<usize>() else {
+        text.lacks();
+        return;
+    };
+    let mut code = Vec::new(alloc);
+    if push_bytes(&mut code, word.as_str()) {
+        push_instr(text, alloc, code.as_slice(), at);
+    } else {
+        text.lacks();
     }
 }

@@ -9,7 +9,8 @@ use kilim_reports::descriptor_text;
 use kilim_units::Units;
 use std::alloc::Global;
 
-fn units_of(alloc: Global, text: &str) -> Option<Units> {
+/// A text as UTF-16 units; nothing for want of memory.
+pub fn units_of(alloc: Global, text: &str) -> Option<Units> {
     let mut units = Vec::new(alloc);
     for unit in text.encode_utf16() {
         if units.push(unit).is_err() {
@@ -91,51 +92,48 @@ fn push_method(text: &mut Text, alloc: Global, units: &Units) {
     }
 }
 
-fn is_field(alloc: Global, units: &Units) -> Option<bool> {
-    match any_field(alloc, units) {
-        Ok(found) => Some(found.is_some()),
-        Err(_) => None,
-    }
-}
-
-fn is_method(alloc: Global, units: &Units) -> Option<bool> {
-    match any_method(alloc, units) {
-        Ok(found) => Some(found.is_some()),
-        Err(_) => None,
-    }
-}
-
 // Whether a text is a field's descriptor, or a method's with any number of slots.
 fn push_any(text: &mut Text, alloc: Global, units: &Units) {
-    match (is_field(alloc, units), is_method(alloc, units)) {
-        (Some(true), Some(false)) => text.word("a field"),
-        (Some(false), Some(true)) => text.word("a method"),
-        (Some(true), Some(true)) => text.word("both"),
-        (Some(false), Some(false)) => text.word("neither"),
-        _ => text.lacks(),
-    }
-}
-
-// As a field's, as a method's, and what it spells whatever its slots.
-fn push_line(text: &mut Text, alloc: Global, word: &str) {
-    match units_of(alloc, word) {
-        Some(units) => {
-            push_field(text, alloc, &units);
-            text.word(", ");
-            push_method(text, alloc, &units);
-            text.word(", ");
-            push_any(text, alloc, &units);
-            text.word("\n");
+    let is_field = match any_field(alloc, units) {
+        Ok(found) => found.is_some(),
+        Err(_) => {
+            text.lacks();
+            false
         }
-        None => text.lacks(),
-    }
+    };
+    let is_method = match any_method(alloc, units) {
+        Ok(found) => found.is_some(),
+        Err(_) => {
+            text.lacks();
+            false
+        }
+    };
+    text.word(match (is_field, is_method) {
+        (true, true) => "both",
+        (true, false) => "a field",
+        (false, true) => "a method",
+        (false, false) => "neither",
+    });
 }
 
 /// `descriptor TEXT`: as a field's, as a method's, and what it spells whatever its slots.
 pub fn descriptor_case(text: &mut Text, alloc: Global, words: &[String]) {
-    match words {
-        [] => push_line(text, alloc, ""),
-        [word] => push_line(text, alloc, word.as_str()),
-        _ => text.lacks(),
-    }
+    let word = match words {
+        [] => "",
+        [word] => word.as_str(),
+        _ => {
+            text.lacks();
+            return;
+        }
+    };
+    let Some(units) = units_of(alloc, word) else {
+        text.lacks();
+        return;
+    };
+    push_field(text, alloc, &units);
+    text.word(", ");
+    push_method(text, alloc, &units);
+    text.word(", ");
+    push_any(text, alloc, &units);
+    text.word("\n");
 }

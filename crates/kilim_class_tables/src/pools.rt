@@ -1,13 +1,17 @@
 //! Pools, to which entries are added.
 
 use kilim_case_text::Text;
+use kilim_classfile::read;
 use kilim_constant_pool::{AddFault, Entry, Pool};
 use std::alloc::Global;
 
-// A copy of an entry that is no text.
-fn plain_copy(entry: &Entry) -> Option<Entry> {
+// A copy of an entry; nothing for want of memory.
+fn copy_of(entry: &Entry) -> Option<Entry> {
     Some(match entry {
-        Entry::Utf8(_) => return None,
+        Entry::Utf8(units) => match units.clone() {
+            Ok(units) => Entry::Utf8(units),
+            Err(_) => return None,
+        },
         Entry::Integer(number) => Entry::Integer(*number),
         Entry::Float(bits) => Entry::Float(*bits),
         Entry::Long(number) => Entry::Long(*number),
@@ -24,20 +28,13 @@ fn plain_copy(entry: &Entry) -> Option<Entry> {
     })
 }
 
-// A copy of an entry; nothing for want of memory.
-fn copy_of(entry: &Entry) -> Option<Entry> {
-    match entry {
-        Entry::Utf8(units) => match units.clone() {
-            Ok(units) => Some(Entry::Utf8(units)),
-            Err(_) => None,
-        },
-        other => plain_copy(other),
-    }
-}
-
-// Adds an entry to a pool: a line where it gets another index than this one, or isn't added.
-fn push_one(text: &mut Text, index: u16, entry: Entry, pool: &mut Pool) {
-    match pool.add(entry) {
+// Adds a copy of an entry to a pool: a line where it gets another index than this one, or isn't added.
+fn push_copy(text: &mut Text, index: u16, entry: &Entry, pool: &mut Pool) {
+    let Some(copy) = copy_of(entry) else {
+        text.lacks();
+        return;
+    };
+    match pool.add(copy) {
         Ok(added) => {
             if added != index {
                 text.number(usize::from(index));
@@ -48,13 +45,6 @@ fn push_one(text: &mut Text, index: u16, entry: Entry, pool: &mut Pool) {
         }
         Err(AddFault::Full) => text.word("the pool is full\n"),
         Err(AddFault::Memory) => text.lacks(),
-    }
-}
-
-fn push_copy(text: &mut Text, index: u16, entry: &Entry, pool: &mut Pool) {
-    match copy_of(entry) {
-        Some(copy) => push_one(text, index, copy, pool),
-        None => text.lacks(),
     }
 }
 
@@ -71,9 +61,13 @@ fn push_all(text: &mut Text, from: &Pool, pool: &mut Pool) {
 }
 
 /// `pool FILE`: the entries of the file's pool are added to an empty pool, and once more to that one.
-pub fn push_pool(text: &mut Text, alloc: Global, from: &Pool) {
-    let mut pool = Pool::new(alloc);
-    for _ in 0..2 {
-        push_all(text, from, &mut pool);
+pub fn push_pool(text: &mut Text, alloc: Global, bytes: &[u8]) {
+    match read(alloc, bytes) {
+        Ok(file) => {
+            let mut pool = Pool::new(alloc);
+            push_all(text, &file.constant_pool, &mut pool);
+            push_all(text, &file.constant_pool, &mut pool);
+        }
+        Err(_) => text.lacks(),
     }
 }

@@ -1,93 +1,63 @@
 //! The words of the cases.
 
 use crate::check_tables::edges::edge_lines;
-use crate::check_tables::files::class_files;
 use crate::check_tables::fits::fits_line;
 use crate::check_tables::graphs::graph_lines;
 use crate::check_tables::lives::live_lines;
-use crate::check_tables::stages::linked_and_typed;
-use crate::check_tables::text::Text;
+use crate::check_tables::names::method_named;
+use crate::links::{class_files, typed};
+use kilim_case_text::Text;
 use kilim_typing::Typed;
 use std::alloc::Global;
 use std::rt::Files;
 
-// The program of these class files with its frames.
-fn program_of<R: Files>(rt: &R, alloc: Global, names: &[String]) -> Option<Typed> {
-    let files = class_files(rt, alloc, names)?;
-    linked_and_typed(alloc, files.as_slice())
-}
-
+// The lines about the first method of a name, by the word of the case.
 fn push_lines(text: &mut Text, alloc: Global, word: &str, name: &str, typed: &Typed) {
+    let Some((number, method)) = method_named(&typed.program, name) else {
+        text.lacks();
+        return;
+    };
     match word {
-        "graphs" => graph_lines(text, alloc, name, typed),
-        "edges" => edge_lines(text, alloc, name, &typed.program),
-        "live" => live_lines(text, alloc, name, &typed.program),
+        "graphs" => graph_lines(text, alloc, typed, number, method),
+        "edges" => edge_lines(text, alloc, method),
+        "live" => live_lines(text, alloc, &typed.program, number),
         _ => text.lacks(),
     }
 }
 
-// The lines about a method, by the word of the case.
-fn lines_of(alloc: Global, word: &str, name: &str, typed: &Typed) -> Option<Vec<u8>> {
-    let mut text = Text::new(alloc);
-    push_lines(&mut text, alloc, word, name, typed);
-    text.whole()
-}
-
-// Whether a type fits another one.
-fn line_of(alloc: Global, from: &str, to: &str, typed: &Typed) -> Option<Vec<u8>> {
-    let mut text = Text::new(alloc);
-    fits_line(&mut text, &typed.program, from, to);
-    text.whole()
-}
-
-fn of_method<R: Files>(
-    rt: &R,
-    alloc: Global,
-    word: &str,
-    name: &str,
-    files: &[String],
-) -> Option<Vec<u8>> {
-    match program_of(rt, alloc, files) {
-        Some(typed) => lines_of(alloc, word, name, &typed),
+// The program of class files with its frames; nothing where there is none.
+fn typed_files<R: Files>(rt: &R, alloc: Global, names: &[String]) -> Option<Typed> {
+    match class_files(rt, alloc, names) {
+        Some(files) => typed(alloc, files.as_slice()),
         None => None,
     }
 }
 
-fn of_types<R: Files>(
-    rt: &R,
-    alloc: Global,
-    from: &str,
-    to: &str,
-    files: &[String],
-) -> Option<Vec<u8>> {
-    match program_of(rt, alloc, files) {
-        Some(typed) => line_of(alloc, from, to, &typed),
-        None => None,
+// The answer about a program, by the names in front of its files.
+fn push_checked(text: &mut Text, alloc: Global, word: &str, names: &[String], typed: &Typed) {
+    match names {
+        [from, to] => fits_line(text, &typed.program, from.as_str(), to.as_str()),
+        [name] => push_lines(text, alloc, word, name.as_str(), typed),
+        _ => text.lacks(),
     }
 }
 
-// What a case answers, by its word, its first name or type, and what stands behind it.
-fn by_word<R: Files>(
+/// The cases of a program: `fits FROM TO FILE..`, and those of a method, as `graphs METHOD FILE..`.
+pub fn checked_case<R: Files>(
+    text: &mut Text,
     rt: &R,
     alloc: Global,
     word: &str,
-    name: &str,
-    rest: &[String],
-) -> Option<Vec<u8>> {
-    if word != "fits" {
-        return of_method(rt, alloc, word, name, rest);
+    words: &[String],
+) {
+    let count = if word == "fits" { 2 } else { 1 };
+    if words.len() < count {
+        text.lacks();
+        return;
     }
-    match rest {
-        [to, files @ ..] => of_types(rt, alloc, name, to.as_str(), files),
-        _ => None,
-    }
-}
-
-/// The answer of a case, each line with its line feed: nothing where its words aren't those of a case, a file can't be
-/// read, or memory runs out.
-pub fn answer<R: Files>(rt: &R, alloc: Global, words: &[String]) -> Option<Vec<u8>> {
-    match words {
-        [word, name, rest @ ..] => by_word(rt, alloc, word.as_str(), name.as_str(), rest),
-        _ => None,
+    let (names, files) = words.split_at(count);
+    match typed_files(rt, alloc, files) {
+        Some(typed) => push_checked(text, alloc, word, names, &typed),
+        None => text.lacks(),
     }
 }

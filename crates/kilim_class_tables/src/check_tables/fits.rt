@@ -1,7 +1,7 @@
 //! Which verification types flow where.
 
 use crate::check_tables::names::class_named;
-use crate::check_tables::text::Text;
+use kilim_case_text::Text;
 use kilim_classes::{Base, Program, Ty};
 use kilim_typing::{VType, assignable};
 
@@ -45,18 +45,14 @@ fn vtype(program: &Program, word: &str) -> Option<VType> {
     }
 }
 
-// Whether a type may flow where another one is declared; none where one of them has no word.
-fn flows(program: &Program, from: &str, to: &str) -> Option<bool> {
-    let one = vtype(program, from)?;
-    let other = vtype(program, to)?;
-    Some(assignable(program, &one, &other))
-}
-
 /// Whether the first type may flow where the second is declared.
 pub fn fits_line(text: &mut Text, program: &Program, from: &str, to: &str) {
-    match flows(program, from, to) {
-        Some(true) => text.word("yes\n"),
-        Some(false) => text.word("no\n"),
-        None => text.lacks(),
+    match (vtype(program, from), vtype(program, to)) {
+        (Some(from), Some(to)) => text.word(if assignable(program, &from, &to) {
+            "yes\n"
+        } else {
+            "no\n"
+        }),
+        _ => text.lacks(),
     }
 }

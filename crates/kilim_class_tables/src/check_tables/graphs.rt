@@ -1,13 +1,13 @@
 //! The graphs along a method without jumps.
 
-use crate::check_tables::names::method_named;
-use crate::check_tables::text::Text;
+use kilim_case_text::Text;
 use kilim_classes::{Frame, Instr, Method, Program};
 use kilim_isolation_check::transfer;
 use kilim_isolation_rules::StepFault;
 use kilim_liveness::ends_path;
 use kilim_shape_graph::{Graph, Label, Node, Standing};
 use kilim_typing::Typed;
+use kilim_units::name_text;
 use std::alloc::Global;
 
 fn standing_word(standing: Standing) -> &'static str {
@@ -19,31 +19,27 @@ fn standing_word(standing: Standing) -> &'static str {
     }
 }
 
-fn push_slot(text: &mut Text, slot: Option<usize>) {
-    match slot {
-        Some(node) => text.number(node),
-        None => text.word("-"),
-    }
-}
-
 // Appends the nodes that slots name, with commas between them.
 fn push_slots(text: &mut Text, slots: &[Option<usize>]) {
     for (at, slot) in slots.iter().enumerate() {
         if at > 0 {
             text.word(",");
         }
-        push_slot(text, *slot);
+        match slot {
+            Some(node) => text.number(*node),
+            None => text.word("-"),
+        }
     }
 }
 
 // How a node hangs on its parent: `.FIELD`, or `[]` for an element.
-fn push_label(text: &mut Text, program: &Program, label: Label) {
+fn push_label(text: &mut Text, alloc: Global, program: &Program, label: Label) {
     match label {
         Label::Element => text.word("[]"),
         Label::Field(id) => match program.fields.as_slice().get(id.0 as usize) {
             Some(field) => {
                 text.word(".");
-                text.name(field.name.as_slice());
+                text.part(name_text(alloc, field.name.as_slice()).ok());
             }
             None => text.lacks(),
         },
@@ -51,7 +47,7 @@ fn push_label(text: &mut Text, program: &Program, label: Label) {
 }
 
 // A node: its number, its region, its standing, a star where it is the head, and where it hangs.
-fn push_node(text: &mut Text, program: &Program, number: usize, node: &Node) {
+fn push_node(text: &mut Text, alloc: Global, program: &Program, number: usize, node: &Node) {
     text.word(" ");
     text.number(number);
     text.word(":");
@@ -64,59 +60,76 @@ fn push_node(text: &mut Text, program: &Program, number: usize, node: &Node) {
     if let Some((parent, label)) = node.parent {
         text.word("<");
         text.number(parent);
-        push_label(text, program, label);
+        push_label(text, alloc, program, label);
     }
 }
 
 // A graph, and the end of its line.
-fn push_graph(text: &mut Text, program: &Program, graph: &Graph) {
+fn push_graph(text: &mut Text, alloc: Global, program: &Program, graph: &Graph) {
     text.word(" ");
     push_slots(text, graph.locals.as_slice());
     text.word("|");
     push_slots(text, graph.stack.as_slice());
     for (number, node) in graph.nodes.as_slice().iter().enumerate() {
-        push_node(text, program, number, node);
+        push_node(text, alloc, program, number, node);
     }
     text.word("\n");
 }
 
-fn canonical(alloc: Global, graph: &Graph) -> Result<Graph, StepFault> {
+// A graph in canonical form, which ends the line.
+fn canonical(text: &mut Text, alloc: Global, program: &Program, graph: &Graph) -> Option<Graph> {
     match graph.canonical(alloc, None) {
-        Ok(graph) => Ok(graph),
-        Err(_) => Err(StepFault::Memory),
+        Ok(graph) => {
+            push_graph(text, alloc, program, &graph);
+            Some(graph)
+        }
+        Err(_) => {
+            text.lacks();
+            None
+        }
     }
 }
 
-fn entry_graph(alloc: Global, program: &Program, method: &Method) -> Result<Graph, StepFault> {
+// The graph at entry, with its line.
+fn entry_graph(
+    text: &mut Text,
+    alloc: Global,
+    program: &Program,
+    method: &Method,
+) -> Option<Graph> {
+    text.word("entry");
     match Graph::entry(alloc, program, method) {
-        Ok(graph) => canonical(alloc, &graph),
-        Err(_) => Err(StepFault::Memory),
+        Ok(graph) => canonical(text, alloc, program, &graph),
+        Err(_) => {
+            text.lacks();
+            None
+        }
     }
 }
 
+// The graph behind an instruction, with its line; nothing where the instruction breaks a rule, which the line then says.
 fn next_graph(
+    text: &mut Text,
     alloc: Global,
     program: &Program,
     method: &Method,
     graph: &Graph,
     before: &Frame,
-    instr: &Instr,
-) -> Result<Graph, StepFault> {
-    match transfer(alloc, program, method, graph, before, instr, None) {
-        Ok(left) => canonical(alloc, &left),
-        Err(fault) => Err(fault),
-    }
-}
-
-// The rest of the line of an instruction that leaves no graph.
-fn push_fault(text: &mut Text, fault: StepFault) {
-    match fault {
-        StepFault::Rule(rule) => {
+    placed: &(u32, Instr),
+) -> Option<Graph> {
+    text.number(placed.0 as usize);
+    match transfer(alloc, program, method, graph, before, &placed.1, None) {
+        Ok(left) => canonical(text, alloc, program, &left),
+        Err(StepFault::Rule(rule)) => {
             text.word(" breaks ");
             text.number(usize::from(rule));
             text.word("\n");
+            None
         }
-        StepFault::Memory => text.lacks(),
+        Err(StepFault::Memory) => {
+            text.lacks();
+            None
+        }
     }
 }
 
@@ -130,17 +143,12 @@ fn push_next(
     before: &Frame,
     placed: &(u32, Instr),
 ) -> bool {
-    text.number(placed.0 as usize);
-    match next_graph(alloc, program, method, graph, before, &placed.1) {
-        Ok(left) => {
-            push_graph(text, program, &left);
+    match next_graph(text, alloc, program, method, graph, before, placed) {
+        Some(left) => {
             *graph = left;
             true
         }
-        Err(fault) => {
-            push_fault(text, fault);
-            false
-        }
+        None => false,
     }
 }
 
@@ -165,33 +173,21 @@ fn push_path(
     }
 }
 
-// A line for the graph at entry, and those for the instructions.
-fn push_graphs(
-    text: &mut Text,
-    alloc: Global,
-    program: &Program,
-    method: &Method,
-    frames: &[Frame],
-) {
-    match entry_graph(alloc, program, method) {
-        Ok(mut graph) => {
-            text.word("entry");
-            push_graph(text, program, &graph);
-            push_path(text, alloc, program, method, frames, &mut graph);
-        }
-        Err(fault) => push_fault(text, fault),
-    }
-}
-
-/// The graphs along the first method of that name: a line for the one at entry, and behind each instruction, up to the first that
-/// breaks a rule or ends the path.
-pub fn graph_lines(text: &mut Text, alloc: Global, name: &str, typed: &Typed) {
-    let Some((number, method)) = method_named(&typed.program, name) else {
+/// The graphs along a method, which has this number: a line for the one at entry, and behind each instruction, up to the first that breaks a
+/// rule or ends the path.
+pub fn graph_lines(text: &mut Text, alloc: Global, typed: &Typed, number: usize, method: &Method) {
+    let Some(frames) = typed.frames.as_slice().get(number) else {
         text.lacks();
         return;
     };
-    match typed.frames.as_slice().get(number) {
-        Some(frames) => push_graphs(text, alloc, &typed.program, method, frames.as_slice()),
-        None => text.lacks(),
+    if let Some(mut graph) = entry_graph(text, alloc, &typed.program, method) {
+        push_path(
+            text,
+            alloc,
+            &typed.program,
+            method,
+            frames.as_slice(),
+            &mut graph,
+        );
     }
 }

@@ -1,7 +1,6 @@
 //! The live slots along a method.
 
-use crate::check_tables::names::method_named;
-use crate::check_tables::text::Text;
+use kilim_case_text::Text;
 use kilim_classes::lookups::{code_rises, method_at};
 use kilim_classes::{Method, MethodId, Program};
 use kilim_liveness::{LiveTable, live};
@@ -25,21 +24,23 @@ fn push_table(text: &mut Text, method: &Method, table: &LiveTable) {
     }
 }
 
-fn table_of(alloc: Global, program: &Program, number: usize) -> Option<LiveTable> {
-    let id = MethodId(u32::try_from(number).ok()?);
-    let method = method_at(program, id)?;
-    code_rises(program, id, method);
-    live(alloc, method).ok()
-}
-
-/// The locals that are live at each place of the first method of that name.
-pub fn live_lines(text: &mut Text, alloc: Global, name: &str, program: &Program) {
-    let Some((number, method)) = method_named(program, name) else {
+// The lines of a method by its number.
+fn push_lives(text: &mut Text, alloc: Global, program: &Program, id: MethodId) {
+    let Some(method) = method_at(program, id) else {
         text.lacks();
         return;
     };
-    match table_of(alloc, program, number) {
-        Some(table) => push_table(text, method, &table),
-        None => text.lacks(),
+    code_rises(program, id, method);
+    match live(alloc, method) {
+        Ok(table) => push_table(text, method, &table),
+        Err(_) => text.lacks(),
+    }
+}
+
+/// The locals that are live at each place of the method of that number.
+pub fn live_lines(text: &mut Text, alloc: Global, program: &Program, number: usize) {
+    match u32::try_from(number) {
+        Ok(number) => push_lives(text, alloc, program, MethodId(number)),
+        Err(_) => text.lacks(),
     }
 }
