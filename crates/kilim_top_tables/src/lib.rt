@@ -1,14 +1,10 @@
 //! Answers of the top call, for a table of cases: README.md has them, and the program kilim_tables runs them.
 #![tactic(auto)]
 
-mod asked;
-mod bytes;
 mod calls;
 mod cases;
-mod files;
-mod held;
-mod holds;
-mod notes;
-mod runtime;
+mod left;
+mod sorted;
+mod world;
 
 pub use cases::answer;

@@ -1,0 +1,91 @@
+//! What a call is made over, in memory.
+
+use kilim_case_text::changed;
+use kilim_outside::{MapFolder, NamedFile, VecSink};
+use kilim_units::Seq;
+use std::alloc::Global;
+use std::rt::Files;
+
+/// More than any text of a call.
+const MOST: usize = 1_000_000_000;
+
+/// The words of a call, a folder, and a sink.
+#[derive(Drop)]
+pub struct World {
+    pub words: Vec<String>,
+    pub files: MapFolder,
+    pub out: VecSink,
+}
+
+/// No words, no files, and a sink that takes all.
+pub fn empty(alloc: Global) -> World {
+    World {
+        words: Vec::new(alloc),
+        files: MapFolder {
+            files: Seq::new(alloc),
+            faults: Seq::new(alloc),
+            calls: 0,
+            fails: Seq::new(alloc),
+        },
+        out: VecSink {
+            bytes: Seq::new(alloc),
+            calls: 0,
+            fails: Seq::new(alloc),
+            most: MOST,
+            faults: 0,
+        },
+    }
+}
+
+// Whether a word is one of a class file, with changes or without.
+fn is_class_file(word: &str) -> bool {
+    let name = match word.split_once(',') {
+        Some((name, _)) => name,
+        None => word,
+    };
+    name.ends_with(".class")
+}
+
+// A file of these bytes, named by the whole word; whether there was memory.
+fn push_file(files: &mut Seq<NamedFile>, alloc: Global, word: &str, bytes: Vec<u8>) -> bool {
+    match Vec::from_slice(alloc, word.as_bytes()) {
+        Ok(name) => files
+            .push(NamedFile {
+                name: Seq::from_vec(name),
+                bytes: Seq::from_vec(bytes),
+            })
+            .is_ok(),
+        Err(_) => false,
+    }
+}
+
+// The file of a word, which may have changes behind its name, as it lies where the program runs. A word that doesn't end as a class
+// file does names no file.
+fn load_file<R: Files>(rt: &R, alloc: Global, word: &str, files: &mut Seq<NamedFile>) -> bool {
+    if !is_class_file(word) {
+        return true;
+    }
+    match changed(rt, alloc, word) {
+        Some(bytes) => push_file(files, alloc, word, bytes),
+        None => false,
+    }
+}
+
+fn push_word(words: &mut Vec<String>, alloc: Global, word: &str) -> bool {
+    match String::from_str(alloc, word) {
+        Ok(copy) => words.push(copy).is_ok(),
+        Err(_) => false,
+    }
+}
+
+/// Puts the words of a call into a world, and the class files that they name; whether that was possible.
+pub fn load<R: Files>(rt: &R, alloc: Global, words: &[String], world: &mut World) -> bool {
+    for word in words {
+        if !push_word(&mut world.words, alloc, word.as_str())
+            || !load_file(rt, alloc, word.as_str(), &mut world.files.files)
+        {
+            return false;
+        }
+    }
+    true
+}
