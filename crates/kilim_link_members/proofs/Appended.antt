@@ -1,6 +1,7 @@
 -- Making the elements of one list, and then of others behind it.
-use Rattle.std.proofs.Common.{◌≡◌, Bool, true, false, ℕ, ◌+◌, ◌<◌, zero, suc, List, [], ◌∷◌, ◌++◌, length, drop, get_or, map, Option, Some, None, refl, sym, ap, ◌∙◌, append_assoc, arith, subst}
+use Rattle.std.proofs.Common.{◌≡◌, Bool, true, false, ℕ, ◌+◌, ◌<◌, ◌≤◌, zero, suc, List, [], ◌∷◌, ◌++◌, length, drop, get_or, map, Option, Some, None, refl, sym, ap, ◌∙◌, append_assoc, arith, subst}
 use Rattle.std.specs.List.{flat_map}
+use Rattle.std.proofs.lemmas.List.{append-nil, at_drop_all}
 use Rattle.std.proofs.lemmas.Option.{same_Some}
 use Rattle.kilim_classfile.specs.declared.class_file.ClassFile.{ClassFile}
 use Rattle.kilim_classes.specs.BuiltIn.{class_id}
@@ -125,3 +126,21 @@ module _ {A B : Type 0} (list : ClassFile → List A) (make : ClassFile → Clas
   stops files i n file made new all lt is not_all e so_far =
       let none = e ∙ ap (λ b. if_all b new) not_all in
       sym (none_then (make file (class_id n)) made (list file) (in_each (suc n) (drop (i + 1) files)) none) ∙ here files i n file made lt is so_far
+
+-- ---- the same loops where no element is left
+
+ended : {X B : Type 0} (others : List X → Option (List B)) (items xs : List X) (i : ℕ) (made : List B) {total : Option (List B)} → others [] ≡ Some [] → items ≡ xs → length items ≤ i → behind made (others (drop i xs)) ≡ total → Some made ≡ total
+ended {X} {B} others items xs i made none same le so_far =
+    let within = subst (λ (ys : List X). length ys ≤ i) same le in
+    ap (λ (all : List B). Some all) (sym (append-nil made))
+    ∙ (ap (behind made) (sym none) ∙ (sym (at_drop_all (λ (ys : List X). behind made (others ys)) xs i within) ∙ so_far))
+
+pub all_made : {A B : Type 0} (make : A → Option B) (items xs : List A) (i : ℕ) (made : List B) {total : Option (List B)} → items ≡ xs → length items ≤ i → behind made (each_of make (drop i xs)) ≡ total → Some made ≡ total
+all_made make items xs i made same le so_far = ended (each_of make) items xs i made refl same le so_far
+
+pub all_numbered : {B : Type 0} (make : ClassFile → ClassId → Option B) (files : List ClassFile) (i n : ℕ) (made : List B) {total : Option (List B)} → length files ≤ i → behind made (each_of itself (numbered make n (drop i files))) ≡ total → Some made ≡ total
+all_numbered make files i n made le so_far = ended (λ (fs : List ClassFile). each_of itself (numbered make n fs)) files files i made refl refl le so_far
+
+pub all_in_each : {A B : Type 0} (list : ClassFile → List A) (make : ClassFile → ClassId → A → Option B) (files : List ClassFile) (i n : ℕ) (made : List B) {total : Option (List B)} → length files ≤ i
+    → behind made (each_of itself (in_each list make n (drop i files))) ≡ total → Some made ≡ total
+all_in_each list make files i n made le so_far = ended (λ (fs : List ClassFile). each_of itself (in_each list make n fs)) files files i made refl refl le so_far

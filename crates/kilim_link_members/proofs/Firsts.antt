@@ -1,6 +1,7 @@
 -- A loop that looks for the first of what is made.
-use Rattle.std.proofs.Common.{◌≡◌, ℕ, ◌+◌, ◌<◌, List, ◌∷◌, length, drop, get_or, Option, Some, None, refl, sym, ap, ◌∙◌}
+use Rattle.std.proofs.Common.{◌≡◌, ℕ, ◌+◌, ◌<◌, ◌≤◌, List, ◌∷◌, length, drop, get_or, Option, Some, None, refl, sym, ap, ◌∙◌}
 use Rattle.std.specs.List.{filter_map}
+use Rattle.std.proofs.lemmas.List.{at_drop_all}
 use Rattle.kilim_link_spec.specs.Linked.{first_of}
 use Rattle.kilim_link_members.proofs.Appended.{rest_at}
 
@@ -20,3 +21,6 @@ module _ {A B : Type 0} (make : A → Option B) where
 
     pub found_later : o ≡ None → first_of (filter_map make (drop (i + 1) xs)) ≡ r
     found_later e = sym (passed x (drop (i + 1) xs) (sym answers ∙ e)) ∙ next
+
+pub none_found : {A B : Type 0} (make : A → Option B) (xs : List A) (i : ℕ) {r : Option B} → length xs ≤ i → first_of (filter_map make (drop i xs)) ≡ r → None ≡ r
+none_found {A} make xs i le so_far = sym (at_drop_all (λ (ys : List A). first_of (filter_map make ys)) xs i le) ∙ so_far

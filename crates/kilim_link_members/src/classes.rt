@@ -65,20 +65,20 @@ fn class_with(
     file: &ClassFile,
     class: ClassId,
     up: ClassId,
-) -> Result<Class, NoMemory>
+) -> Result<Option<Class>, NoMemory>
     requires { class_of world.now (super_name file.now) ≡ Some up }
-    ensures { IfOk result (λ found. linked_class world.now file.now class ≡ Some found) }
+    ensures { IfOk result (λ found. found ≡ linked_class world.now file.now class) }
 {
     let fields = field_ids(alloc, world.first_field(class), file.fields.len())?;
     let methods = method_ids(alloc, world.first_method(class), file.methods.len())?;
-    Ok(Class {
+    Ok(Some(Class {
         name: Units::from_slice(alloc, own_name(file))?,
         superclass: Some(up),
         is_abstract: has_flag(ABSTRACT, file.access_flags),
         message: world.is_message(class),
         fields,
         methods,
-    })
+    }))
 }
 
 /// A class in a program (JVMS 4.1), where its superclass is there: its members have the numbers from its first one on in
@@ -93,7 +93,7 @@ pub fn linked_class(
 {
     let name = Units::from_slice(alloc, super_name(file))?;
     match world.class_of(&name) {
-        Some(up) => Ok(Some(class_with(alloc, world, file, class, up)?)),
+        Some(up) => class_with(alloc, world, file, class, up),
         None => Ok(None),
     }
 }

@@ -1,6 +1,6 @@
 //! Fields.
 
-ghost use Rattle.std.specs.Prelude.{◌≡◌, None, if◌then◌else◌, IfOk};
+ghost use Rattle.std.specs.Prelude.{◌≡◌, Some, None, if◌then◌else◌, IfOk};
 ghost use Rattle.std.specs.List.{filter_map};
 ghost use Rattle.kilim_constant_pool.specs.Entries.{entry_at};
 ghost use Rattle.kilim_link_spec.specs.World.{has_flag, acc_static};
@@ -88,17 +88,17 @@ fn field_with(
     class: ClassId,
     field: &MemberInfo,
     ty: Ty,
-) -> Result<Field, NoMemory>
-    ensures { IfOk result (λ found. found ≡ field_with file.now class field.now ty) }
+) -> Result<Option<Field>, NoMemory>
+    ensures { IfOk result (λ found. found ≡ Some (field_with file.now class field.now ty)) }
 {
-    Ok(Field {
+    Ok(Some(Field {
         name: Units::from_slice(alloc, member_name(file, field))?,
         ty,
         owner: class,
         is_static: has_flag(STATIC, field.access_flags),
         is_private: has_flag(PRIVATE, field.access_flags),
         constant: constant_if_static(alloc, &file.constant_pool, field)?,
-    })
+    }))
 }
 
 /// A field of a class in a program (JVMS 4.5), where its type is there; a static one with its constant (JVMS 4.7.2),
@@ -119,7 +119,7 @@ pub fn linked_field(
     let ty = type_in(world, &text);
     drop(text);
     match ty {
-        Some(ty) => Ok(Some(field_with(alloc, file, class, field, ty)?)),
+        Some(ty) => field_with(alloc, file, class, field, ty),
         None => Ok(None),
     }
 }

@@ -30,13 +30,13 @@ fn method_with(
     params: Seq<Ty>,
     gives: Option<Ty>,
     body: Body,
-) -> Result<Method, NoMemory>
+) -> Result<Option<Method>, NoMemory>
     requires declared { declared.now ≡ declared_method file.now method.now }
     requires text { Some text.now ≡ method_text declared.now.descriptor }
-    ensures { IfOk result (λ found. found ≡ method_with world.now file.now class method.now params gives body) }
+    ensures { IfOk result (λ found. found ≡ Some (method_with world.now file.now class method.now params gives body)) }
 {
     let q = qualified(alloc, world, class, declared, Some(text))?;
-    Ok(Method {
+    Ok(Some(Method {
         name: declared.name.clone()?,
         owner: class,
         params,
@@ -54,7 +54,7 @@ fn method_with(
         code: body.code,
         frames: body.frames,
         handlers: Seq::new(alloc),
-    })
+    }))
 }
 
 // A method of which the descriptor is well formed.
@@ -81,10 +81,9 @@ fn linked_with(
     let Some(body) = body_in(alloc, world, file, class, method, declared, code)? else {
         return Ok(None);
     };
-    let found = method_with(
+    method_with(
         alloc, world, file, class, method, declared, text, params, gives, body,
-    )?;
-    Ok(Some(found))
+    )
 }
 
 // A method as it is declared, in a program.

@@ -1,5 +1,5 @@
 use Rattle.kilim_link_spec.specs.Linked.{linked_method}
-use Rattle.kilim_link_members.proofs.Appended.{goes_on, stops}
+use Rattle.kilim_link_members.proofs.Appended.{goes_on, stops, all_in_each}
 use Rattle.kilim_link_members.proofs.files.linked_methods.Goals as goal
 
 pub returns-in-Ok-false : goal.returns-in-Ok-false
@@ -7,3 +7,6 @@ returns-in-Ok-false c = stops (λ file. file.methods) (linked_method c.args.worl
 
 pub loop-file-preserved : goal.loop-file-preserved
 loop-file-preserved c = goes_on (λ file. file.methods) (linked_method c.args.world.now) c.args.files.now c.loop-file.file-index c.loop-file.number c.in-Ok.n c.file-item.result c.loop-file.methods c.push_methods.new.into c.in-Ok-true.field-0 c.loop-file-test.true c.file-item.is c.in-Ok.ensures c.in-Ok-true.field-0-test c.in-Ok-true.ensures c.loop-file.invariant
+
+pub returns : goal.returns
+returns c = all_in_each (λ file. file.methods) (linked_method c.args.world.now) c.args.files.now c.loop-file.file-index c.loop-file.number c.loop-file.methods c.loop-file-test.false c.loop-file.invariant
