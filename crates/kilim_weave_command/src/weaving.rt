@@ -35,11 +35,11 @@ fn output_of(alloc: Global, to: &str, file: WovenFile) -> Result<OutputFile, NoM
 fn outputs_of(alloc: Global, to: &str, files: Vec<WovenFile>) -> Result<Vec<OutputFile>, NoMemory>
     ensures { IfOk result (λ outputs. outputs.items ≡ map (output_of to.now) files.items) }
 {
-    let mut outputs = Vec::new(alloc);
+    let mut outputs = Seq::new(alloc);
     for file in files {
         outputs.push(output_of(alloc, to, file)?)?;
     }
-    Ok(outputs)
+    Ok(outputs.into_vec())
 }
 
 // The files and the text of woven files.

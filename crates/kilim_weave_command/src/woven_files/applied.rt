@@ -123,17 +123,17 @@ pub fn applied(
     files: &[ClassFile],
     program: &Program,
     woven: &Woven,
-) -> Result<Vec<ClassFile>, Refusal>
+) -> Result<Seq<ClassFile>, Refusal>
     requires fit { AllByRecursion ClassFits files.now }
-    ensures made { IfOk result (λ made. made.items ≡ woven_of program.now woven.now files.now) }
-    ensures fit { IfOk result (λ made. AllByRecursion ClassFits made.items) }
+    ensures made { IfOk result (λ made. made ≡ woven_of program.now woven.now files.now) }
+    ensures fit { IfOk result (λ made. AllByRecursion ClassFits made) }
     ensures none { IfOk result (λ made. first_size_fault program.now files.now ≡ None) }
     ensures report { IfReport result (IsSizeReportIn program.now files.now) }
 {
     let Ok(longest) = longest_text(alloc, program) else {
         return Err(Refusal::NoMemory);
     };
-    let mut made = Vec::new(alloc);
+    let mut made = Seq::new(alloc);
     let mut ps = program.methods.as_slice();
     let mut ms = woven.program.methods.as_slice();
     let mut cs = woven.counted.as_slice();

@@ -72,7 +72,7 @@ fn outputs_of(
     requires { AllByRecursion ClassFits files.now }
     ensures { IfOk result (λ outputs. AreOutputs program.now program.now.classes files.now outputs.items) }
 {
-    let mut outputs = Vec::new(alloc);
+    let mut outputs = Seq::new(alloc);
     for at in 0..files.len() {
         let file = file_at(files, at);
         let Some(class) = class_at(program, at) else {
@@ -81,7 +81,7 @@ fn outputs_of(
         let output = output_of(alloc, program, class, file)?;
         outputs.push(output)?;
     }
-    Ok(outputs)
+    Ok(outputs.into_vec())
 }
 
 // The woven files of class files that link to the woven program. Where they didn't, want of memory would be answered.

@@ -33,10 +33,10 @@ fn class_file(alloc: Global, bytes: &[u8]) -> Result<ClassFile, NoMemory>
     }
 }
 
-fn class_files(alloc: Global, files: &[Seq<u8>]) -> Result<Vec<ClassFile>, NoMemory>
-    ensures { IfOk result (λ classes. AreFiles files.now classes.items) }
+fn class_files(alloc: Global, files: &[Seq<u8>]) -> Result<Seq<ClassFile>, NoMemory>
+    ensures { IfOk result (λ classes. AreFiles files.now classes) }
 {
-    let mut classes = Vec::new(alloc);
+    let mut classes = Seq::new(alloc);
     for i in 0..files.len() {
         let file = class_file(alloc, files[i].as_slice())?;
         classes.push(file)?;

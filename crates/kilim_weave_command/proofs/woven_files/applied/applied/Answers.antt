@@ -15,9 +15,9 @@ returns-in-Err-clause-report c =
 pub loop-at-preserved : goal.loop-at-preserved
 loop-at-preserved c = record {
   so_far = woven_more c.args.program.now c.args.woven.now.program c.args.files.now c.loop-at.at c.file_at-file.result.now c.in-Some.class.now c.file_at-file.ensures.there (sym c.in-Some.ensures) c.len-count.result c.len-count.ensures
-      c.loop-at.ps.now c.loop-at.ms.now c.loop-at.cs.now c.loop-at.made.items c.push.new.self.items (woven_of c.args.program.now c.args.woven.now c.args.files.now) c.in-Ok-next.one c.behind-ps.result.now c.behind-ms.result.now c.behind-cs.result.now
-      c.behind-ps.ensures c.behind-ms.ensures c.behind-cs.ensures c.in-Ok-push.ensures.items c.in-Ok-next.ensures.made c.loop-at.invariant.so_far;
-  fit = one_more ClassFits c.loop-at.made.items c.push.new.self.items c.in-Ok-next.one c.in-Ok-push.ensures.items c.loop-at.invariant.fit c.in-Ok-next.ensures.fits;
+      c.loop-at.ps.now c.loop-at.ms.now c.loop-at.cs.now c.loop-at.made c.push.new.self (woven_of c.args.program.now c.args.woven.now c.args.files.now) c.in-Ok-next.one c.behind-ps.result.now c.behind-ms.result.now c.behind-cs.result.now
+      c.behind-ps.ensures c.behind-ms.ensures c.behind-cs.ensures c.in-Ok-push.ensures.ok c.in-Ok-next.ensures.made c.loop-at.invariant.so_far;
+  fit = one_more ClassFits c.loop-at.made c.push.new.self c.in-Ok-next.one c.in-Ok-push.ensures.ok c.loop-at.invariant.fit c.in-Ok-next.ensures.fits;
   none = faultless c.args.program.now c.args.woven.now.program c.args.files.now c.loop-at.at c.file_at-file.result.now c.in-Some.class.now c.file_at-file.ensures.there (sym c.in-Some.ensures) c.len-count.result c.len-count.ensures
       c.loop-at.ps.now c.behind-ps.result.now c.behind-ps.ensures c.in-Ok-next.ensures.none c.loop-at.invariant.none;
 }

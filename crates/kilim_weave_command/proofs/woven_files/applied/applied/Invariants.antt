@@ -7,7 +7,7 @@ use Rattle.kilim_weave_command.proofs.woven_files.applied.applied.Given as goal
 
 abbrev pub invariant-loop-at : goal.invariant-loop-at
 invariant-loop-at l = record {
-  so_far : l.made.items ++ woven_by l.woven.program (drop l.at l.files) l.ps l.ms l.cs ≡ woven_of l.program l.woven l.files;
-  fit : AllByRecursion ClassFits l.made.items;
+  so_far : l.made ++ woven_by l.woven.program (drop l.at l.files) l.ps l.ms l.cs ≡ woven_of l.program l.woven l.files;
+  fit : AllByRecursion ClassFits l.made;
   none : first_fault_in l.program (drop l.at l.program.classes) (drop l.at l.files) l.ps ≡ first_size_fault l.program l.files;
 }
