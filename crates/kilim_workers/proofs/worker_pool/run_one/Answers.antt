@@ -1,7 +1,8 @@
-use Rattle.std.proofs.Common.{ap}
+use Rattle.std.proofs.Common.{ap, subst, sym}
+use Rattle.std.specs.List.{AllByRecursion}
 use Rattle.std.specs.Prelude.{slice_get}
 use Rattle.kilim_exchange.specs.Seen.{seen}
-use Rattle.kilim_workers.specs.worker_pool.Pool.{IsOf}
+use Rattle.kilim_workers.specs.worker_pool.Pool.{IsCalmFiber, IsCalmWaiter, IsOf}
 use Rattle.kilim_workers.proofs.worker_pool.Lent.{lent_calm, lent_waits}
 use Rattle.kilim_workers.proofs.worker_pool.Steps.{lending, quiet_now}
 use Rattle.kilim_workers.proofs.worker_pool.run_one.Goals as goal
@@ -27,3 +28,13 @@ pub run_fiber-requires-clause-waits : goal.run_fiber-requires-clause-waits
 run_fiber-requires-clause-waits g c =
     lent_waits g.F.Fibers.refused g.F.Fibers.task_of 0 c.in-Fiber.fiber c.lend.new.self
     (lent_calm g.F.Fibers.refused g.F.Fibers.task_of 0 c.in-Fiber.fiber (seen c.loop-fiber.board) (seen c.lend.new.self) c.in-Fiber.ensures.effect.1 c.loop-fiber.invariant.1).1
+
+pub loop-fiber-init : goal.loop-fiber-init
+loop-fiber-init g c =
+    let new = c.in-Ok.ensures.board in (
+      record { roomy = c.in-Ok.ensures.roomy; cells = new.cells; running = new.stopped; stands = λ set is. c.in-Ok.ensures.stands set c.in_ok-fiber.ensures.task c.in_ok-fiber.ensures.course (c.in_ok-fiber.ensures.stands set is.run) },
+      record {
+        ready = subst (λ fs. AllByRecursion (IsCalmFiber g.F.Fibers.refused) fs) (sym new.ready) (c.in_ok-fiber.ensures.refused, tt);
+        parked = subst (λ ws. AllByRecursion (IsCalmWaiter g.F.Fibers.refused) ws) (sym new.parked) tt;
+      },
+    )
