@@ -43,7 +43,7 @@ all_free [] (suc n) e f = absurd (omega arith)
 all_free (z ∷ zs) zero e f = absurd (omega arith)
 all_free (z ∷ zs) (suc n) e f = λ i. f 0 i ∷ all_free zs n (omega arith) (λ k. f (suc k)) i
 
-long : (n : ℕ) → length (replicate {A = List ℕ} n []) ≡ n
+pub long : (n : ℕ) → length (replicate {A = List ℕ} n []) ≡ n
 long zero = refl
 long (suc n) = ap suc (long n)
 

@@ -3,7 +3,8 @@ use Rattle.kilim_exchange.specs.Seen.{seen, IsNumbered}
 use Rattle.kilim_turn.specs.Views.{cell_at}
 use Rattle.kilim_turn.specs.Turns.{KeepsOthers}
 use Rattle.kilim_workers.specs.Codes.{board_cells}
-use Rattle.kilim_workers.proofs.Effects.{lent_now, stands_now, others_now, acted_now, is_actable}
+use Rattle.kilim_workers.proofs.Effects.{all_keep, lent_now, stands_now, others_now, acted_now, is_actable}
+use Rattle.kilim_workers.proofs.Others.{cells_same}
 use Rattle.kilim_workers.proofs.run.RunBoard.act.Goals as goal
 
 pub act-requires-clause-lent : goal.act-requires-clause-lent
@@ -35,3 +36,8 @@ returns-clause-acted g c =
     acted_now (seen c.self.inside.board) (seen c.reserve.new.self) c.args.seat (g.F.Fibers.task_of c.args.fiber.now) (g.F.Fibers.course_of c.args.fiber.now) c.args.wants g.F.Fibers.task_of g.F.Fibers.course_of g.F.Fibers.holds g.K.Run.of c.requires.some
     (ap (λ b. cell_at (board_cells b) c.args.seat) c.self.view_is ∙ c.requires.lent) c.in_ok-reserve.ensures.same c.requires.meets (λ set is. c.in_ok-reserve.ensures.stands set (c.self.invariant.1 set is)) (seen c.act.new.self) c.act.result c.act.ensures.stands
     (IsNumbered g.F.Fibers.task_of g.F.Fibers.course_of g.F.Fibers.count_of g.F.Fibers.refused g.F.Fibers.holds) c.act.ensures.effect
+
+pub returns-in_err-reserve-clause-others : goal.returns-in_err-reserve-clause-others
+returns-in_err-reserve-clause-others g c =
+    subst (λ b. KeepsOthers c.args.seat (board_cells b) (board_cells c.reserve.new.self)) c.self.view_is
+    (all_keep c.args.seat _ _ (cells_same (seen c.self.inside.board) (seen c.reserve.new.self) c.args.seat c.in_err-reserve.ensures.same.run.journal c.in_err-reserve.ensures.same.spots.cells))
