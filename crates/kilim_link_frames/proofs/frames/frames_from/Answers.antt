@@ -1,4 +1,5 @@
-use Rattle.std.proofs.Common.{◌≡◌, ℕ, zero, suc, ◌+◌, ◌<◌, List, [], ◌∷◌, ◌++◌, length, drop, get_or, Option, Some, None, refl, sym, ap, ◌∙◌, append_assoc, arith, subst}
+use Rattle.std.proofs.Common.{◌≡◌, ℕ, zero, suc, ◌+◌, ◌<◌, ◌≤◌, List, [], ◌∷◌, ◌++◌, length, drop, get_or, Option, Some, None, refl, sym, ap, ◌∙◌, append_assoc, arith, subst}
+use Rattle.std.proofs.lemmas.List.{append-nil, at_drop_all}
 use Rattle.std.proofs.lemmas.Option.{same_Some}
 use Rattle.kilim_attribute_parts.specs.declared.frame.Frame.{Frame as FrameForm}
 use Rattle.kilim_constant_pool.specs.declared.entry.Entry.{Entry as PoolEntry}
@@ -50,6 +51,12 @@ module _ (w : World) (pool : List PoolEntry) (forms : List FrameForm) (i : ℕ) 
   stops : IsNext w pool before locals form made new None → None ≡ total
   stops none = sym (ap (λ (last : Option (ℕ × Frame)). behind made (with_first last (each_of itself (frames_from w pool (Some place) entries.locals (drop (i + 1) forms))))) none) ∙ here
 
+ends : (w : World) (pool : List PoolEntry) (forms : List FrameForm) (i : ℕ) (before : Option ℕ) (locals : List (Option VType)) (made : List (ℕ × Frame)) {total : Option (List (ℕ × Frame))} → length forms ≤ i
+    → behind made (each_of itself (frames_from w pool before locals (drop i forms))) ≡ total → Some made ≡ total
+unfolding frames_from
+ends w pool forms i before locals made le so_far =
+    ap (λ (all : List (ℕ × Frame)). Some all) (sym (append-nil made)) ∙ (sym (at_drop_all (λ (fs : List FrameForm). behind made (each_of itself (frames_from w pool before locals fs))) forms i le) ∙ so_far)
+
 pub loop-form-preserved : goal.loop-form-preserved
 loop-form-preserved c = goes_on c.args.world.now c.args.pool.now c.args.forms.now c.loop-form.form-index c.form-item.result c.loop-form.before c.loop-form.locals c.loop-form.frames c.push_next-found.new.frames c.loop-form-test.true c.form-item.is c.loop-form.invariant c.in-Ok-Some.place c.in-Ok-Some.next
     (subst (λ (found : Option (ℕ × List (Option VType))). IsNext c.args.world.now c.args.pool.now c.loop-form.before c.loop-form.locals c.form-item.result c.loop-form.frames c.push_next-found.new.frames found) c.in-Ok-Some.field-0-is
@@ -59,3 +66,6 @@ pub returns-in-Ok-None : goal.returns-in-Ok-None
 returns-in-Ok-None c = stops c.args.world.now c.args.pool.now c.args.forms.now c.loop-form.form-index c.form-item.result c.loop-form.before c.loop-form.locals c.loop-form.frames c.push_next-found.new.frames c.loop-form-test.true c.form-item.is c.loop-form.invariant
     (subst (λ (found : Option (ℕ × List (Option VType))). IsNext c.args.world.now c.args.pool.now c.loop-form.before c.loop-form.locals c.form-item.result c.loop-form.frames c.push_next-found.new.frames found) c.in-Ok-None.field-0-is
     (subst (λ (locals : List (Option VType)). IsNext c.args.world.now c.args.pool.now c.loop-form.before locals c.form-item.result c.loop-form.frames c.push_next-found.new.frames c.in-Ok-None.field-0) c.as_slice.ensures c.in-Ok-None.ensures))
+
+pub returns : goal.returns
+returns c = ends c.args.world.now c.args.pool.now c.args.forms.now c.loop-form.form-index c.loop-form.before c.loop-form.locals c.loop-form.frames c.loop-form-test.false c.loop-form.invariant
