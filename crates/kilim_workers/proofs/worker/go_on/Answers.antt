@@ -1,6 +1,6 @@
 use Rattle.std.proofs.Common.{subst}
 use Rattle.kilim_fibers.specs.Fibers.{course_after, Resumed}
-use Rattle.kilim_workers.proofs.worker_pool.Steps.{going}
+use Rattle.kilim_workers.proofs.worker_pool.Steps.{going, meets}
 use Rattle.kilim_exchange.specs.Seen.{wish_in}
 use Rattle.kilim_turn.specs.Turns.{shows}
 use Rattle.kilim_workers.specs.Runs.{ActedAs}
@@ -68,3 +68,8 @@ quit-requires-in-Err-answer-clause-lent g c =
 pub returns-in-Ok-OutOfTasks-clause-step : goal.returns-in-Ok-OutOfTasks-clause-step
 returns-in-Ok-OutOfTasks-clause-step g c =
     is_full g.K.Run.of (g.F.Fibers.task_of c.resume.new.self) (g.F.Fibers.course_of c.resume.new.self) (shows c.act-in_default.new.pass) (wish_in c.in-Ok.wants) _ c.in-Ok-OutOfTasks.field-0-is c.in-Ok-OutOfTasks.ensures.acted
+
+pub act-requires-in_default-clause-meets : goal.act-requires-in_default-clause-meets
+act-requires-in_default-clause-meets g c = λ set is.
+    let r = c.requires.run set is in
+    meets g.F.Fibers.task_of g.F.Fibers.course_of g.F.Fibers.holds g.F.Fibers.asked set c.resume.new.self c.in-Ok.wants (going c.in-Ok.wants c.in_default.not-Rest c.in_default.not-End) (c.in-Ok.ensures.wants set r.0 r.1 (c.requires.stands set is))
