@@ -13,24 +13,29 @@ use Rattle.kilim_typing.specs.Faults.{locals_flow, flows_into, flows_into_declar
 -- ---- locals, slot by slot
 
 -- where no slot is listed
-none_front : (p : Program) (ds : List VType) (k : ℕ) → k < length ds → locals_flow p [] (drop k ds) ≡ (assignable p Top (get_or ds k Top) && locals_flow p [] (drop (suc k) ds))
-none_front p [] k h = absurd (omega arith)
-none_front p (d ∷ ds) zero h = refl
-none_front p (d ∷ ds) (suc k) h = none_front p ds k (omega arith)
+none_front : (p : Program) (ds : List VType) (k : ℕ) (d : VType) → k < length ds → locals_flow p [] (drop k ds) ≡ (assignable p Top (get_or ds k d) && locals_flow p [] (drop (suc k) ds))
+none_front p [] k e h = absurd (omega arith)
+none_front p (d ∷ ds) zero e h = refl
+none_front p (d ∷ ds) (suc k) e h = none_front p ds k e (omega arith)
 
 -- what is left of the flow from a slot on
-front : (p : Program) (fs ds : List VType) (k : ℕ) → k < length ds → locals_flow p (drop k fs) (drop k ds) ≡ (assignable p (peek fs k) (get_or ds k Top) && locals_flow p (drop (suc k) fs) (drop (suc k) ds))
-front p fs [] k h = absurd (omega arith)
-front p [] (d ∷ ds) zero h = refl
-front p (f ∷ fs) (d ∷ ds) zero h = refl
-front p [] (d ∷ ds) (suc k) h = none_front p ds k (omega arith)
-front p (f ∷ fs) (d ∷ ds) (suc k) h = front p fs ds k (omega arith)
+front : (p : Program) (fs ds : List VType) (k : ℕ) (d : VType) → k < length ds → locals_flow p (drop k fs) (drop k ds) ≡ (assignable p (peek fs k) (get_or ds k d) && locals_flow p (drop (suc k) fs) (drop (suc k) ds))
+front p fs [] k e h = absurd (omega arith)
+front p [] (d ∷ ds) zero e h = refl
+front p (f ∷ fs) (d ∷ ds) zero e h = refl
+front p [] (d ∷ ds) (suc k) e h = none_front p ds k e (omega arith)
+front p (f ∷ fs) (d ∷ ds) (suc k) e h = front p fs ds k e (omega arith)
 
-pub flow_on : (p : Program) (fs ds : List VType) (k : ℕ) → k < length ds → assignable p (peek fs k) (get_or ds k Top) ≡ true → locals_flow p (drop (k + 1) fs) (drop (k + 1) ds) ≡ locals_flow p (drop k fs) (drop k ds)
-flow_on p fs ds k h e = ap (λ n. locals_flow p (drop n fs) (drop n ds)) (let n : k + 1 ≡ suc k = omega arith in n) ∙ sym (front p fs ds k h ∙ ap (λ b. b && locals_flow p (drop (suc k) fs) (drop (suc k) ds)) e)
+-- the slot's type flows into the wanted one, or doesn't
+front_by : (p : Program) (fs ds : List VType) (k : ℕ) (d t w : VType) (b : Bool) → k < length ds → t ≡ peek fs k → w ≡ get_or ds k d → assignable p t w ≡ b → locals_flow p (drop k fs) (drop k ds) ≡ (b && locals_flow p (drop (suc k) fs) (drop (suc k) ds))
+front_by p fs ds k d t w b h from to e =
+    front p fs ds k d h ∙ ap (λ x. x && locals_flow p (drop (suc k) fs) (drop (suc k) ds)) (ap (λ x. assignable p x (get_or ds k d)) (sym from) ∙ (ap (assignable p t) (sym to) ∙ e))
 
-pub flow_fails : (p : Program) (fs ds : List VType) (k : ℕ) → k < length ds → assignable p (peek fs k) (get_or ds k Top) ≡ false → locals_flow p (drop k fs) (drop k ds) ≡ false
-flow_fails p fs ds k h e = front p fs ds k h ∙ ap (λ b. b && locals_flow p (drop (suc k) fs) (drop (suc k) ds)) e
+pub flow_on : (p : Program) (fs ds : List VType) (k : ℕ) (d t w : VType) → k < length ds → t ≡ peek fs k → w ≡ get_or ds k d → assignable p t w ≡ true → locals_flow p (drop (k + 1) fs) (drop (k + 1) ds) ≡ locals_flow p (drop k fs) (drop k ds)
+flow_on p fs ds k d t w h from to e = ap (λ n. locals_flow p (drop n fs) (drop n ds)) (let n : k + 1 ≡ suc k = omega arith in n) ∙ sym (front_by p fs ds k d t w true h from to e)
+
+pub flow_fails : (p : Program) (fs ds : List VType) (k : ℕ) (d t w : VType) → k < length ds → t ≡ peek fs k → w ≡ get_or ds k d → assignable p t w ≡ false → locals_flow p (drop k fs) (drop k ds) ≡ false
+flow_fails p fs ds k d t w h from to e = front_by p fs ds k d t w false h from to e
 
 -- ---- stacks
 
@@ -70,17 +75,23 @@ more_none p [] x = refl
 more_none p (z ∷ xs) x = refl
 
 -- one type after the other, from the bottom
-stack_front : (p : Program) (xs ys : List VType) (k : ℕ) → k < length ys → length xs ≡ length ys → all_assignable p (drop k xs) (drop k ys) ≡ (assignable p (get_or xs k Top) (get_or ys k Top) && all_assignable p (drop (suc k) xs) (drop (suc k) ys))
-stack_front p xs [] k h e = absurd (omega arith)
-stack_front p [] (y ∷ ys) k h e = absurd (omega arith)
-stack_front p (x ∷ xs) (y ∷ ys) zero h e = refl
-stack_front p (x ∷ xs) (y ∷ ys) (suc k) h e = stack_front p xs ys k (omega arith) (omega arith)
+stack_front : (p : Program) (xs ys : List VType) (k : ℕ) (c d : VType) → k < length ys → length xs ≡ length ys → all_assignable p (drop k xs) (drop k ys) ≡ (assignable p (get_or xs k c) (get_or ys k d) && all_assignable p (drop (suc k) xs) (drop (suc k) ys))
+stack_front p xs [] k c d h e = absurd (omega arith)
+stack_front p [] (y ∷ ys) k c d h e = absurd (omega arith)
+stack_front p (x ∷ xs) (y ∷ ys) zero c d h e = refl
+stack_front p (x ∷ xs) (y ∷ ys) (suc k) c d h e = stack_front p xs ys k c d (omega arith) (omega arith)
 
-pub stack_on : (p : Program) (xs ys : List VType) (k : ℕ) → k < length ys → length xs ≡ length ys → assignable p (get_or xs k Top) (get_or ys k Top) ≡ true → all_assignable p (drop (k + 1) xs) (drop (k + 1) ys) ≡ all_assignable p (drop k xs) (drop k ys)
-stack_on p xs ys k h l e = ap (λ n. all_assignable p (drop n xs) (drop n ys)) (let n : k + 1 ≡ suc k = omega arith in n) ∙ sym (stack_front p xs ys k h l ∙ ap (λ b. b && all_assignable p (drop (suc k) xs) (drop (suc k) ys)) e)
+stack_by : (p : Program) (xs ys : List VType) (k : ℕ) (c d x y : VType) (b : Bool) → k < length ys → length xs ≡ length ys → x ≡ get_or xs k c → y ≡ get_or ys k d → assignable p x y ≡ b →
+    all_assignable p (drop k xs) (drop k ys) ≡ (b && all_assignable p (drop (suc k) xs) (drop (suc k) ys))
+stack_by p xs ys k c d x y b h l from to e =
+    stack_front p xs ys k c d h l ∙ ap (λ z. z && all_assignable p (drop (suc k) xs) (drop (suc k) ys)) (ap (λ z. assignable p z (get_or ys k d)) (sym from) ∙ (ap (assignable p x) (sym to) ∙ e))
 
-pub stack_fails : (p : Program) (xs ys : List VType) (k : ℕ) → k < length ys → length xs ≡ length ys → assignable p (get_or xs k Top) (get_or ys k Top) ≡ false → all_assignable p (drop k xs) (drop k ys) ≡ false
-stack_fails p xs ys k h l e = stack_front p xs ys k h l ∙ ap (λ b. b && all_assignable p (drop (suc k) xs) (drop (suc k) ys)) e
+pub stack_on : (p : Program) (xs ys : List VType) (k : ℕ) (c d x y : VType) → k < length ys → length xs ≡ length ys → x ≡ get_or xs k c → y ≡ get_or ys k d → assignable p x y ≡ true →
+    all_assignable p (drop (k + 1) xs) (drop (k + 1) ys) ≡ all_assignable p (drop k xs) (drop k ys)
+stack_on p xs ys k c d x y h l from to e = ap (λ n. all_assignable p (drop n xs) (drop n ys)) (let n : k + 1 ≡ suc k = omega arith in n) ∙ sym (stack_by p xs ys k c d x y true h l from to e)
+
+pub stack_fails : (p : Program) (xs ys : List VType) (k : ℕ) (c d x y : VType) → k < length ys → length xs ≡ length ys → x ≡ get_or xs k c → y ≡ get_or ys k d → assignable p x y ≡ false → all_assignable p (drop k xs) (drop k ys) ≡ false
+stack_fails p xs ys k c d x y h l from to e = stack_by p xs ys k c d x y false h l from to e
 
 pub lengths_differ : (p : Program) (xs ys : List VType) → (length xs ≡ length ys → ⊥) → all_assignable p xs ys ≡ false
 lengths_differ p [] [] h = absurd (h refl)

@@ -1,3 +1,4 @@
+pub mod Every
 pub mod Flowing
 pub mod Rules
 pub mod Framed

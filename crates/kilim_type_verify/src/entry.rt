@@ -49,7 +49,6 @@ fn this_types(alloc: Global, method: &Method) -> Result<Vec<VType>, AllocError>
     Ok(slots)
 }
 
-#[tactic(auto, using(crate::proofs::Begins::param_on, crate::proofs::Begins::params_end))]
 fn push_params(slots: &mut Vec<VType>, params: &[Ty]) -> Result<(), AllocError>
     ensures { OnOk result (slots.new.items ≡ slots.old.items ++ param_slots params.now) }
 {

@@ -10,7 +10,6 @@ use kilim_classes::{Frame, Method, Program, VType};
 use kilim_type_step::{State, type_at};
 use kilim_typing::assignable;
 
-#[tactic(auto, using(crate::proofs::Flowing::flow_on, crate::proofs::Flowing::flow_fails, crate::proofs::Flowing::flow_end))]
 fn locals_flow(program: &Program, from: &[VType], to: &[VType]) -> bool
     ensures { result ≡ locals_flow program.now from.now to.now }
 {
@@ -23,7 +22,6 @@ fn locals_flow(program: &Program, from: &[VType], to: &[VType]) -> bool
 }
 
 // Stacks, the bottom first.
-#[tactic(auto, using(crate::proofs::Flowing::stack_on, crate::proofs::Flowing::stack_fails, crate::proofs::Flowing::lengths_differ, crate::proofs::Flowing::stack_end))]
 fn stack_flows(program: &Program, from: &[VType], to: &[VType]) -> bool
     ensures { result ≡ all_assignable program.now from.now to.now }
 {
@@ -63,12 +61,22 @@ pub fn flows_to(program: &Program, method: &Method, from: &State, at: u32) -> bo
 pub fn flow_to_all(program: &Program, method: &Method, from: &State, places: &[u32]) -> bool
     ensures { result ≡ list_all (λ to. flows_into_declared program.now from.now (declared method.now to)) places.now }
 {
-    places.iter().all(|at| flows_to(program, method, from, *at))
+    for at in places {
+        if !flows_to(program, method, from, *at) {
+            return false;
+        }
+    }
+    true
 }
 
 /// Whether a frame is declared at each place.
 pub fn are_declared(method: &Method, places: &[u32]) -> bool
     ensures { result ≡ list_all (λ to. is_some (declared method.now to)) places.now }
 {
-    places.iter().all(|at| is_declared(method, *at))
+    for at in places {
+        if !is_declared(method, *at) {
+            return false;
+        }
+    }
+    true
 }

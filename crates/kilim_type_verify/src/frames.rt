@@ -55,7 +55,12 @@ fn is_top(t: &VType) -> bool
 fn has_top(types: &[VType]) -> bool
     ensures { result ≡ list_any is_top types.now }
 {
-    types.iter().any(|t| is_top(t))
+    for t in types {
+        if is_top(t) {
+            return true;
+        }
+    }
+    false
 }
 
 // An uninitialized type's place holds a `new`.
@@ -98,13 +103,23 @@ fn is_proper(t: &VType) -> bool
 fn all_at_new(method: &Method, types: &[VType]) -> bool
     ensures { result ≡ list_all (stands_at_new method.now) types.now }
 {
-    types.iter().all(|t| stands_at_new(method, t))
+    for t in types {
+        if !stands_at_new(method, t) {
+            return false;
+        }
+    }
+    true
 }
 
 fn all_proper(types: &[VType]) -> bool
     ensures { result ≡ list_all is_proper types.now }
 {
-    types.iter().all(|t| is_proper(t))
+    for t in types {
+        if !is_proper(t) {
+            return false;
+        }
+    }
+    true
 }
 
 fn is_long(t: VType) -> bool

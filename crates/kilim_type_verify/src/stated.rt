@@ -58,7 +58,12 @@ fn is_unset_this(t: &VType) -> bool
 pub fn has_unset_this(types: &[VType]) -> bool
     ensures { result ≡ list_any is_unset_this types.now }
 {
-    types.iter().any(|t| is_unset_this(t))
+    for t in types {
+        if is_unset_this(t) {
+            return true;
+        }
+    }
+    false
 }
 
 /// The types that a frame declares.

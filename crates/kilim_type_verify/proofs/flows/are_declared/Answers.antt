@@ -1,0 +1,16 @@
+use Rattle.std.proofs.Common.{◌∙◌, sym, ap, arith, refl}
+use Rattle.std.proofs.lemmas.List.{drop_all}
+use Rattle.std.specs.List.{list_all}
+use Rattle.std.specs.Prelude.{is_some}
+use Rattle.kilim_typing.specs.Typed.{declared}
+use Rattle.kilim_type_verify.proofs.Every.{fails_at, holds_at}
+use Rattle.kilim_type_verify.proofs.flows.are_declared.Goals as goal
+
+pub returns-then-not-is_declared : goal.returns-then-not-is_declared
+returns-then-not-is_declared c = fails_at (λ to. is_some (declared c.args.method.now to)) c.args.places.now c.loop-at.at-index _ _ c.loop-at-test.true refl c.if-not-is_declared.ensures c.loop-at.invariant
+
+pub loop-at-preserved : goal.loop-at-preserved
+loop-at-preserved c = holds_at (λ to. is_some (declared c.args.method.now to)) c.args.places.now c.loop-at.at-index _ _ c.loop-at-test.true refl c.if-not-is_declared.ensures c.loop-at.invariant
+
+pub returns : goal.returns
+returns c = ap (list_all (λ to. is_some (declared c.args.method.now to))) (sym (drop_all c.loop-at.at-index c.args.places.now (omega arith))) ∙ c.loop-at.invariant
