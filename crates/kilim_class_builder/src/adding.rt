@@ -1,12 +1,12 @@
 //! Entries that are looked for, and added.
 
-ghost use Rattle.std.specs.Prelude.{◌≡◌, IfOk};
+ghost use Rattle.std.specs.Prelude.{◌≡◌, ◌∷◌, [], IfOk};
 ghost use Rattle.kilim_constant_pool.specs.declared.fault.AddFault.TheVariants as add;
 ghost use Rattle.kilim_grammar.specs.Reader.{ReadsUnless};
 ghost use Rattle.kilim_class_builder.specs.Adding.{class_added, class_by, classes_added, text_added};
 
 use kilim_constant_pool::{AddFault, Entry, Pool};
-use kilim_units::Units;
+use kilim_units::{Seq, Units};
 use std::alloc::{AllocError, Global};
 
 // An ASCII text as units.
@@ -56,6 +56,15 @@ pub fn add_ascii_class(alloc: Global, pool: &mut Pool, name: &[u8]) -> Result<u1
 {
     let units = ascii(alloc, name)?;
     add_class(pool, units)
+}
+
+/// A list of one index.
+pub fn one(alloc: Global, class: u16) -> Result<Seq<u16>, AllocError>
+    ensures { IfOk result (λ all. all ≡ class ∷ []) }
+{
+    let mut all = Seq::new(alloc);
+    all.push(class)?;
+    Ok(all)
 }
 
 /// Classes, in order.

@@ -9,7 +9,7 @@ ghost use Rattle.kilim_class_builder.specs.Adding.{text_added};
 ghost use Rattle.kilim_class_builder.specs.Gathered.{appended};
 ghost use Rattle.kilim_class_builder.specs.Members.{all_parts, annotation_of, annotations_added, exceptions_added, given_added, is_given, is_same, is_some_of, parameter_parts, parameters_added, qualifier_text, receiver_added, used_added};
 
-use crate::adding::{add_ascii_class, add_text};
+use crate::adding::{add_ascii_class, add_text, one};
 use kilim_attribute_parts::AnnotationPart;
 use kilim_attributes::{Attribute, Info};
 use kilim_classes::Qualifier;
@@ -18,14 +18,6 @@ use kilim_units::{NoMemory, Seq};
 use std::alloc::{AllocError, Global};
 
 // ---- exceptions
-
-fn one(alloc: Global, class: u16) -> Result<Seq<u16>, AllocError>
-    ensures { IfOk result (λ all. all ≡ class ∷ []) }
-{
-    let mut all = Seq::new(alloc);
-    all.push(class)?;
-    Ok(all)
-}
 
 /// Adds the Exceptions of a method that pauses.
 #[tactic(auto, unfolding(crate::specs::Members::exceptions_added))]

@@ -1,6 +1,6 @@
 //! The builder.
 
-ghost use Rattle.std.specs.Prelude.{◌≡◌, ◌↔◌, ◌∷◌, ◌++◌, [], Err, Ok, IfOk, OnErr};
+ghost use Rattle.std.specs.Prelude.{◌≡◌, ◌↔◌, Err, Ok, IfOk, OnErr};
 ghost use Rattle.kilim_classfile.specs.declared.class_file.ClassFile.{ClassFile};
 ghost use Rattle.kilim_classfile.specs.Text.{ClassFits};
 ghost use Rattle.kilim_constant_pool.specs.Adding.{Adds, IsFull};
@@ -10,7 +10,7 @@ ghost use Rattle.kilim_class_builder.specs.Adding.{class_added};
 ghost use Rattle.kilim_class_builder.specs.Building.{Makes, begun, with_field, with_message, with_method};
 ghost use Rattle.kilim_class_builder.specs.Members.{utf16_of};
 
-use crate::adding::{add_ascii_class, add_class};
+use crate::adding::{add_ascii_class, add_class, one};
 use crate::methods::{field, method};
 use crate::names::utf16_of;
 use crate::source::MethodSource;
@@ -18,7 +18,7 @@ use kilim_class_fits::fits;
 use kilim_classfile::ClassFile;
 use kilim_constant_pool::{AddFault, Entry, Pool};
 use kilim_units::{NoMemory, Seq};
-use std::alloc::{AllocError, Global};
+use std::alloc::Global;
 use std::marker::Model;
 
 /// ACC_SUPER (JVMS 4.1).
@@ -64,14 +64,6 @@ fn begun(alloc: Global, name: &str, superclass: &str) -> Result<ClassFile, AddFa
         methods: Seq::new(alloc),
         attributes: Seq::new(alloc),
     })
-}
-
-fn one(alloc: Global, class: u16) -> Result<Seq<u16>, AllocError>
-    ensures { IfOk result (λ all. all ≡ class ∷ []) }
-{
-    let mut all = Seq::new(alloc);
-    all.push(class)?;
-    Ok(all)
 }
 
 #[tactic(auto, unfolding(crate::specs::Building::with_message))]

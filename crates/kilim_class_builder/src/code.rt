@@ -5,6 +5,7 @@ ghost use Rattle.kilim_attributes.specs.declared.attribute.CodeInfo.TheVariants 
 ghost use Rattle.kilim_constant_pool.specs.declared.fault.AddFault.TheVariants as add;
 ghost use Rattle.kilim_grammar.specs.Reader.{ReadsUnless};
 ghost use Rattle.kilim_bytecode.specs.opcodes.Instr.{instr_text};
+ghost use Rattle.kilim_class_builder.specs.Adding.{classes_added};
 ghost use Rattle.kilim_class_builder.specs.Frames.{frames_names, full_frames};
 ghost use Rattle.kilim_class_builder.specs.Members.{attribute, body_added, code_with, source_text, table_added};
 
@@ -99,6 +100,14 @@ fn one_table(
     Ok(all)
 }
 
+// Adds the classes of the arrays in frames.
+fn add_arrays(alloc: Global, pool: &mut Pool, frames: &[(u32, Frame)]) -> Result<(), AddFault>
+    ensures { ReadsUnless add.Memory (λ done. pool.new) result (classes_added (frames_names pool.old frames.now) pool.old) }
+{
+    let names = names_or_fault(alloc, pool, frames)?;
+    add_classes(pool, names.as_slice())
+}
+
 #[tactic(auto, unfolding(crate::specs::Members::table_added))]
 fn table(
     alloc: Global,
@@ -111,8 +120,7 @@ fn table(
         return Ok(Seq::new(alloc));
     }
     let name = add_text(alloc, pool, b"StackMapTable")?;
-    let names = names_or_fault(alloc, pool, frames)?;
-    add_classes(pool, names.as_slice())?;
+    add_arrays(alloc, pool, frames)?;
     let entered = frames_or_fault(alloc, pool, frames)?;
     Ok(one_table(alloc, name, entered)?)
 }
