@@ -1,8 +1,8 @@
 -- The first of a list, in loops and of lists that are put together.
-use Rattle.std.proofs.Common.{◌≡◌, ℕ, zero, suc, ◌+◌, ◌<◌, Bool, true, false, List, [], ◌∷◌, ◌++◌, length, get_or, take, drop, Option, Some, None, refl, sym, ap, ◌∙◌, arith, drop-cons, filter}
+use Rattle.std.proofs.Common.{◌≡◌, ℕ, zero, suc, ◌+◌, ◌<◌, ◌≤◌, Bool, true, false, List, [], ◌∷◌, ◌++◌, length, get_or, take, drop, Option, Some, None, refl, sym, ap, ◌∙◌, arith, drop-cons, filter}
 use Rattle.std.specs.Prelude.{◌||◌}
 use Rattle.std.specs.List.{flat_map, list_any}
-use Rattle.std.proofs.lemmas.List.{append-nil}
+use Rattle.std.proofs.lemmas.List.{append-nil, at_drop_all}
 use Rattle.std.proofs.lemmas.Grind.{flat_map-append}
 use Rattle.kilim_lemmas.proofs.Lists.{take_at}
 use Rattle.kilim_link_spec.specs.Linked.{first_of}
@@ -69,3 +69,10 @@ module _ {A : Type 0} (test : A → Bool) (xs : List A) (i : ℕ) (x d : A) (b :
 
   pub none_at : (r : Bool) → list_any test (drop i xs) ≡ r → b ≡ false → list_any test (drop (i + 1) xs) ≡ r
   none_at r so_far t = ap (λ (c : Bool). c || list_any test (drop (i + 1) xs)) (sym t ∙ answers) ∙ (sym (ap (list_any test) (rest_at xs i x d lt is)) ∙ so_far)
+
+-- none is left
+pub none_found : {A : Type 0} (test : A → Bool) (xs : List A) (i : ℕ) (r : Option A) → length xs ≤ i → first_of (filter test (drop i xs)) ≡ r → None ≡ r
+none_found {A} test xs i r le so_far = sym (at_drop_all (λ (ys : List A). first_of (filter test ys)) xs i le) ∙ so_far
+
+pub none_passes : {A : Type 0} (test : A → Bool) (xs : List A) (i : ℕ) (r : Bool) → length xs ≤ i → list_any test (drop i xs) ≡ r → false ≡ r
+none_passes test xs i r le so_far = sym (at_drop_all (list_any test) xs i le) ∙ so_far
