@@ -9,3 +9,4 @@ pub mod Examples
 pub mod Laws
 pub mod Checked
 pub mod Made
+pub mod woven_pauses

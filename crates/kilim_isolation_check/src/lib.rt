@@ -14,6 +14,7 @@ mod paths;
 mod shape;
 mod tables;
 mod walk;
+pub mod woven_pauses;
 
 pub use check::all_reports;
 pub use exits::exits_of;

@@ -12,7 +12,7 @@ use Rattle.kilim_typing.specs.TypedProgram.{KeepsTyped, TypedProgram}
 use Rattle.kilim_isolation_check.specs.Faults.{IsAccepted}
 use Rattle.kilim_typing.specs.woven_form.Form.{AllWoven, WovenForm, first_class, first_method}
 use Rattle.kilim_typing.specs.woven_form.woven_programs.kept.Law.{WovenIsKept}
-use Rattle.kilim_weaver.specs.woven_pauses.Law.{PausesAreKept}
+use Rattle.kilim_isolation_check.specs.woven_pauses.Law.{PausesAreKept}
 use Rattle.kilim_typing.specs.woven_form.woven_programs.Law.{KeepsPauses, WovenProgramsAreTyped}
 use Rattle.kilim_weaver.specs.declared.fault.WeaveFault.{WeaveFault}
 use Rattle.kilim_weaver.specs.declared.fault.WeaveFault.TheVariants.{TooLong, ArgumentsFull, Memory}

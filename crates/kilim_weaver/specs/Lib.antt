@@ -1,3 +1,2 @@
 pub mod Faults
 pub mod Weaves
-pub mod woven_pauses

@@ -4,7 +4,6 @@
 mod fault;
 mod faults;
 mod weaving;
-pub mod woven_pauses;
 
 pub use fault::WeaveFault;
 pub use weaving::{Woven, weave};

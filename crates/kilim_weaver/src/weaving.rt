@@ -8,9 +8,9 @@ ghost use Rattle.kilim_weaver.specs.Weaves.{IsWoven, Weaves};
 
 use crate::fault::WeaveFault;
 use crate::faults::weave_fault;
-use crate::woven_pauses::pauses_are_kept;
 use kilim_classes::{Class, Field, Form, Program};
 use kilim_isolation_check::Isolated;
+use kilim_isolation_check::woven_pauses::pauses_are_kept;
 use kilim_typing::Typed;
 use kilim_typing::woven_form::woven_programs::kept::woven_is_kept;
 use kilim_typing::woven_form::woven_programs::woven_programs_are_typed;

@@ -45,7 +45,7 @@ use Rattle.kilim_typing.specs.Step.{class_vtype, peek}
 use Rattle.kilim_typing.specs.Typed.{edges, entry, has_code, param_slots}
 use Rattle.kilim_typing.specs.typing_laws.Laws.{typing_at}
 use Rattle.kilim_woven_runs.specs.lone.Law.{lone_at, lone_frames}
-use Rattle.kilim_weaver.proofs.woven_pauses.Accepted.{receivers_held}
+use Rattle.kilim_isolation_check.proofs.woven_pauses.Accepted.{receivers_held}
 use Rattle.kilim_weaving_laws.proofs.receivers.Chain.{IsWell}
 use Rattle.kilim_weaving_laws.proofs.receivers.Held.{Guard, Stays, rules_hold, top_verified}
 use Rattle.kilim_weaving_laws.proofs.receivers.Keeper.{kept_below}

@@ -32,7 +32,7 @@ use Rattle.kilim_typing.specs.woven_form.Form.{WovenForm}
 use Rattle.kilim_typing.specs.woven_form.Woven.{fiber_ty}
 use Rattle.kilim_typing.specs.woven_form.woven_programs.keeps.Law.{NoneIsTooLong}
 use Rattle.kilim_woven_runs.specs.lone.Law.{lone_at}
-use Rattle.kilim_weaver.proofs.woven_pauses.Accepted.{accepted_keeps}
+use Rattle.kilim_isolation_check.proofs.woven_pauses.Accepted.{accepted_keeps}
 use Rattle.kilim_typing.proofs.woven_form.woven_program.Made.{there}
 use Rattle.kilim_typing.specs.woven_form.woven_program.Made.{woven_counted, woven_program}
 use Rattle.kilim_typing.specs.woven_form.woven_programs.Law.{KeepsPauses}

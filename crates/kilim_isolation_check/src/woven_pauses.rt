@@ -1,6 +1,6 @@
 //! Where no rule of pausing is broken, a program can be woven: laws, and no code that does work.
 
-ghost use Rattle.kilim_weaver.specs.woven_pauses.Law.{AcceptedKeepsPauses, PausesAreKept, ReceiversAreHeld};
+ghost use Rattle.kilim_isolation_check.specs.woven_pauses.Law.{AcceptedKeepsPauses, PausesAreKept, ReceiversAreHeld};
 
 /// A law, and no work: a typed program without a report of the rules of pausing keeps what its woven form's types rest on.
 pub fn pauses_are_kept()

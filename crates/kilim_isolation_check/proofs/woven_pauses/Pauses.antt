@@ -33,7 +33,7 @@ use Rattle.kilim_typing.proofs.woven_form.woven_programs.classes.Listing.{take_f
 use Rattle.kilim_typing.specs.woven_form.woven_programs.Law.{NoneAcross}
 use Rattle.kilim_typing.proofs.woven_form.woven_programs.Frames.{Agree, by_place, same_listed}
 use Rattle.kilim_typing.proofs.woven_form.woven_programs.Naming.{owner_there}
-use Rattle.kilim_weaver.specs.woven_pauses.Law.{PausesAreKept}
+use Rattle.kilim_isolation_check.specs.woven_pauses.Law.{PausesAreKept}
 
 -- ---- lists
 

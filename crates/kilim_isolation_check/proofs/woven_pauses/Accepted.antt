@@ -7,8 +7,8 @@ use Rattle.kilim_lemmas.proofs.Lists.{front_none, rest_none}
 use Rattle.kilim_pausable_graph.specs.declared.report.Report.{Report}
 use Rattle.kilim_pausable_graph.specs.Pausing.{all_methods, pausing_reports, reports_of}
 use Rattle.kilim_typing.specs.TypedProgram.{TypedProgram}
-use Rattle.kilim_weaver.proofs.woven_pauses.Pauses.{kept, none_free}
-use Rattle.kilim_weaver.specs.woven_pauses.Law.{AcceptedKeepsPauses, ReceiversAreHeld}
+use Rattle.kilim_isolation_check.proofs.woven_pauses.Pauses.{kept, none_free}
+use Rattle.kilim_isolation_check.specs.woven_pauses.Law.{AcceptedKeepsPauses, ReceiversAreHeld}
 
 not_none : (r : Report) (rs : List Report) → r ∷ rs ≡ [] → ⊥
 not_none r rs e = cc
