@@ -12,3 +12,4 @@ pub mod Responses
 pub mod Steady
 pub mod Ends
 pub mod Loops
+pub mod Served

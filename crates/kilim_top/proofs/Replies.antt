@@ -33,7 +33,7 @@ use Rattle.kilim_top.specs.Outcome.{IsDone, IsFitFor, IsFitRun, IsReport, limits
 use Rattle.kilim_top.specs.Report.{accepted_line, coded_methods, main_line, utf16_of}
 use Rattle.kilim_thread_model.specs.State.{Setting}
 use Rattle.kilim_journal.specs.declared.entry.Entry.{Entry}
-use Rattle.kilim_whole_runs.specs.Laws.{WovenIsServed}
+use Rattle.kilim_top.specs.Served.{WovenIsServed}
 use Rattle.kilim_whole_runs.specs.Runs.{IsJournalOf, setting_of}
 use Rattle.kilim_classes.specs.main_class.Main.{fit_class_named}
 use Rattle.kilim_top.proofs.Mains.{fit_named, none_named}

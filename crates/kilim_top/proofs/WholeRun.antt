@@ -10,7 +10,7 @@ use Rattle.kilim_thread_model.specs.State.{Setting}
 use Rattle.kilim_weave_command.specs.Laws.{AcceptedFilesAreIsolated}
 use Rattle.kilim_weaver.specs.Faults.{weave_fault}
 use Rattle.kilim_weaver.specs.declared.weaving.Woven.{Woven}
-use Rattle.kilim_whole_runs.specs.Laws.{WovenIsServed}
+use Rattle.kilim_top.specs.Served.{WovenIsServed}
 use Rattle.kilim_whole_runs.specs.Runs.{setting_of}
 use Rattle.kilim_outside.specs.words.Words.{Run}
 use Rattle.kilim_weaving_laws.specs.Served.{CanServe}

@@ -4,3 +4,4 @@ pub mod Writing
 pub mod Outcome
 pub mod Inside
 pub mod demo
+pub mod Served

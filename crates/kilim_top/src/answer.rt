@@ -12,6 +12,7 @@ ghost use Rattle.kilim_top.specs.Outcome.{limits_of};
 
 use crate::demo::demo_ready;
 use crate::report::{accepted_line, no_main, utf16_of};
+use crate::served::woven_is_served;
 use crate::status::{DONE, REPORTED};
 use kilim_classes::machine::Limits;
 use kilim_classes::main_class::fit_main;
@@ -23,7 +24,6 @@ use kilim_stages::{Refusal, accepted};
 use kilim_units::{NoMemory, Seq};
 use kilim_weave_command::{accepted_files_are_isolated, weave_files};
 use kilim_weaver::Woven;
-use kilim_whole_runs::woven_is_served;
 use kilim_written_files::OutputFile;
 use std::alloc::Global;
 

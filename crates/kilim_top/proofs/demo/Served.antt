@@ -15,7 +15,7 @@ use Rattle.kilim_program_maker.specs.Laws.{DemoIsShort}
 use Rattle.kilim_stages.specs.declared.refusal.Refusal.{Refusal}
 use Rattle.kilim_thread_model.specs.Runs.{Whole}
 use Rattle.kilim_weaver.specs.declared.weaving.Woven.{Woven}
-use Rattle.kilim_whole_runs.specs.Laws.{WovenIsServed}
+use Rattle.kilim_top.specs.Served.{WovenIsServed}
 use Rattle.kilim_whole_runs.specs.Runs.{IsJournalOf, setting_of}
 use Rattle.kilim_weaving_laws.specs.Served.{CanServe}
 use Rattle.kilim_stages.specs.declared.woven_stage.stage.WovenProgram.{WovenProgram}

@@ -9,6 +9,7 @@ ghost use Rattle.kilim_top.specs.Inside.Answer.{IsDemoReady};
 
 use crate::answer::{Ready, refused};
 use crate::demo::texts::{demo_texts, no_names};
+use crate::served::woven_is_served;
 use kilim_classes::machine::Limits;
 use kilim_classes::main_class::fit_main;
 use kilim_classes::{ClassId, Program};
@@ -17,7 +18,6 @@ use kilim_program_maker::demo_fits;
 use kilim_stages::Refusal;
 use kilim_stages::woven_stage::{WovenProgram, woven_program};
 use kilim_units::{NoMemory, Seq};
-use kilim_whole_runs::woven_is_served;
 use std::alloc::Global;
 
 /// How many instructions each task may do.

@@ -1,6 +1,6 @@
-//! Laws.
+//! Whose runs can be made.
 
-ghost use Rattle.kilim_whole_runs.specs.Laws.{WovenIsServed};
+ghost use Rattle.kilim_top.specs.Served.{WovenIsServed};
 
 use kilim_isolation_laws::accepted_runs::accepted_is_run;
 use kilim_stages::class_world::links_keep;

@@ -9,7 +9,7 @@ use Rattle.kilim_stages.specs.Accepted.{IsAcceptedOf}
 use Rattle.kilim_stages.proofs.Both.{all_fit, as_many}
 use Rattle.kilim_type_verify.proofs.Verified.{well_typed}
 use Rattle.kilim_weaving_laws.specs.woven_served.Served.{RunsServe}
-use Rattle.kilim_whole_runs.specs.Laws.{WovenIsServed}
+use Rattle.kilim_top.specs.Served.{WovenIsServed}
 use Rattle.kilim_whole_runs.specs.Runs.{setting_of}
 
 links_well : (files : List (List ℕ)) (p : Program) → length files ≤ 1000 → (is : IsAcceptedOf files p) → LinksWell is.of_files.classes Plain p
