@@ -11,8 +11,8 @@ ghost use Rattle.kilim_top.specs.Inside.Answer.{IsReadyFor, IsReadyOf, IsRefused
 ghost use Rattle.kilim_top.specs.Outcome.{limits_of};
 
 use crate::demo::demo_ready;
+use crate::laws::woven_is_served;
 use crate::report::{accepted_line, no_main, utf16_of};
-use crate::served::woven_is_served;
 use crate::status::{DONE, REPORTED};
 use kilim_classes::machine::Limits;
 use kilim_classes::main_class::fit_main;

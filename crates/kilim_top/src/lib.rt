@@ -5,14 +5,14 @@
 mod answer;
 pub mod demo;
 mod inputs;
+mod laws;
 mod report;
 mod runs;
-mod served;
 mod status;
 mod top;
 mod work;
 mod writing;
 
-pub use served::woven_is_served;
+pub use laws::woven_is_served;
 pub use status::{DONE, NO_MEMORY, REPORTED, UNREAD, UNWRITTEN, USAGE};
 pub use top::{kilim, kilim_alone, kilim_in_memory};

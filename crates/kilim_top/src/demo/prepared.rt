@@ -9,7 +9,7 @@ ghost use Rattle.kilim_top.specs.Inside.Answer.{IsDemoReady};
 
 use crate::answer::{Ready, refused};
 use crate::demo::texts::{demo_texts, no_names};
-use crate::served::woven_is_served;
+use crate::laws::woven_is_served;
 use kilim_classes::machine::Limits;
 use kilim_classes::main_class::fit_main;
 use kilim_classes::{ClassId, Program};
