@@ -1,90 +1,103 @@
 //! The line of a class file that can't be read.
 
-ghost use Rattle.std.specs.Prelude.{◌≡◌, ◌++◌, IfOk, codes};
+ghost use Rattle.std.specs.Prelude.{◌≡◌, ◌++◌, IfOk, OnOk, codes};
 ghost use Rattle.kilim_reports.specs.ClassLines.{one_number, two_numbers, pool_words, attribute_words, fault_words, class_line};
 ghost use Rattle.kilim_reports.specs.Names.{method_text};
 
-use crate::names::method_text;
-use crate::texts::{joined, line};
+use crate::lines::push_number;
+use crate::names::push_method;
+use crate::texts::{push, push_both};
 use kilim_attribute_parts::AttributeFault;
 use kilim_classfile::{ClassFault, MemberName};
 use kilim_constant_pool::PoolFault;
 use kilim_units::NoMemory;
 use std::alloc::Global;
 
-fn one_number(alloc: Global, word: &str, number: u64) -> Result<Vec<u8>, NoMemory>
-    ensures { IfOk result (λ text. text.items ≡ one_number word.now number) }
+fn push_one(text: &mut Vec<u8>, word: &[u8], number: u64) -> Result<(), NoMemory>
+    ensures { OnOk result (text.new.items ≡ text.old.items ++ one_number word.now number) }
 {
-    let text = format!(in alloc; "{word} {number}")?;
-    Ok(text.into_bytes())
+    push_both(text, word, b" ")?;
+    push_number(text, number)?;
+    Ok(())
 }
 
-fn two_numbers(alloc: Global, word: &str, first: u64, second: u64) -> Result<Vec<u8>, NoMemory>
-    ensures { IfOk result (λ text. text.items ≡ two_numbers word.now first second) }
+fn push_two(text: &mut Vec<u8>, word: &[u8], first: u64, second: u64) -> Result<(), NoMemory>
+    ensures { OnOk result (text.new.items ≡ text.old.items ++ two_numbers word.now first second) }
 {
-    let text = format!(in alloc; "{word} {first} {second}")?;
-    Ok(text.into_bytes())
+    push_one(text, word, first)?;
+    push(text, b" ")?;
+    push_number(text, second)?;
+    Ok(())
 }
 
-fn pool_words(alloc: Global, fault: PoolFault) -> Result<Vec<u8>, NoMemory>
-    ensures { IfOk result (λ text. text.items ≡ pool_words fault) }
+fn push_pool(text: &mut Vec<u8>, fault: PoolFault) -> Result<(), NoMemory>
+    ensures { OnOk result (text.new.items ≡ text.old.items ++ pool_words fault) }
 {
     match fault {
         PoolFault::Tag(index, tag) => {
-            two_numbers(alloc, "pool tag", u64::from(index), u64::from(tag))
+            push_two(text, b"pool tag", u64::from(index), u64::from(tag))
         }
-        PoolFault::BadIndex(index) => one_number(alloc, "pool index", u64::from(index)),
-        PoolFault::Text(index) => one_number(alloc, "pool text", u64::from(index)),
-        PoolFault::Cut | PoolFault::Memory => Ok(Vec::new(alloc)),
+        PoolFault::BadIndex(index) => push_one(text, b"pool index", u64::from(index)),
+        PoolFault::Text(index) => push_one(text, b"pool text", u64::from(index)),
+        PoolFault::Cut | PoolFault::Memory => Ok(()),
     }
 }
 
-fn attribute_words(alloc: Global, fault: AttributeFault) -> Result<Vec<u8>, NoMemory>
-    ensures { IfOk result (λ text. text.items ≡ attribute_words fault) }
+fn push_attribute(text: &mut Vec<u8>, fault: AttributeFault) -> Result<(), NoMemory>
+    ensures { OnOk result (text.new.items ≡ text.old.items ++ attribute_words fault) }
 {
     match fault {
         AttributeFault::Length(name) => {
-            joined(alloc, b"attribute length ", name.text().as_bytes())
+            push_both(text, b"attribute length ", name.text().as_bytes())
         }
-        AttributeFault::FrameTag(tag) => one_number(alloc, "attribute frame", u64::from(tag)),
-        AttributeFault::BadIndex(index) => one_number(alloc, "attribute index", u64::from(index)),
+        AttributeFault::FrameTag(tag) => push_one(text, b"attribute frame", u64::from(tag)),
+        AttributeFault::BadIndex(index) => push_one(text, b"attribute index", u64::from(index)),
         AttributeFault::Twice(name) => {
-            joined(alloc, b"attribute twice ", name.text().as_bytes())
+            push_both(text, b"attribute twice ", name.text().as_bytes())
         }
-        AttributeFault::Cut | AttributeFault::Memory => Ok(Vec::new(alloc)),
+        AttributeFault::Cut | AttributeFault::Memory => Ok(()),
     }
 }
 
-fn code_words(alloc: Global, method: &MemberName) -> Result<Vec<u8>, NoMemory>
-    ensures { IfOk result (λ text. text.items ≡ codes "code " ++ method_text method.now) }
+fn push_code(text: &mut Vec<u8>, method: &MemberName) -> Result<(), NoMemory>
+    ensures { OnOk result (text.new.items ≡ text.old.items ++ (codes "code " ++ method_text method.now)) }
 {
-    let text = method_text(alloc, method)?;
-    joined(alloc, b"code ", text.as_slice())
+    push(text, b"code ")?;
+    push_method(text, method)
 }
 
-fn fault_words(alloc: Global, fault: &ClassFault) -> Result<Vec<u8>, NoMemory>
-    ensures { IfOk result (λ text. text.items ≡ fault_words fault.now) }
+fn push_fault(text: &mut Vec<u8>, fault: &ClassFault) -> Result<(), NoMemory>
+    ensures { OnOk result (text.new.items ≡ text.old.items ++ fault_words fault.now) }
 {
-    let word: &[u8] = match fault {
-        ClassFault::Magic => b"magic",
+    match fault {
+        ClassFault::Magic => push(text, b"magic"),
         ClassFault::Version(major, minor) => {
-            return two_numbers(alloc, "version", u64::from(*major), u64::from(*minor));
+            push_two(text, b"version", u64::from(*major), u64::from(*minor))
         }
-        ClassFault::Pool(fault) => return pool_words(alloc, *fault),
-        ClassFault::Attribute(fault) => return attribute_words(alloc, *fault),
-        ClassFault::Extra(at) => return one_number(alloc, "extra", *at as u64),
-        ClassFault::Cut(at) => return one_number(alloc, "cut", *at as u64),
-        ClassFault::TooLarge => b"too-large",
-        ClassFault::CodePresence(method) => return code_words(alloc, method),
-        ClassFault::Memory => b"",
-    };
-    Ok(Vec::from_slice(alloc, word)?)
+        ClassFault::Pool(fault) => push_pool(text, *fault),
+        ClassFault::Attribute(fault) => push_attribute(text, *fault),
+        ClassFault::Extra(at) => push_one(text, b"extra", *at as u64),
+        ClassFault::Cut(at) => push_one(text, b"cut", *at as u64),
+        ClassFault::TooLarge => push(text, b"too-large"),
+        ClassFault::CodePresence(method) => push_code(text, method),
+        ClassFault::Memory => Ok(()),
+    }
+}
+
+fn push_line(text: &mut Vec<u8>, file: &str, fault: &ClassFault) -> Result<(), NoMemory>
+    ensures { OnOk result (text.new.items ≡ text.old.items ++ class_line file.now fault.now) }
+{
+    push_both(text, b"class ", file.as_bytes())?;
+    push(text, b" ")?;
+    push_fault(text, fault)?;
+    push(text, b"\n")
 }
 
 /// The line of a file that can't be read: `class`, the name of the file as it is given, and the words of its fault.
 pub fn class_line(alloc: Global, file: &str, fault: &ClassFault) -> Result<Vec<u8>, NoMemory>
     ensures { IfOk result (λ text. text.items ≡ class_line file.now fault.now) }
 {
-    let words = fault_words(alloc, fault)?;
-    line(alloc, b"class ", file.as_bytes(), words.as_slice())
+    let mut text = Vec::new(alloc);
+    push_line(&mut text, file, fault)?;
+    Ok(text)
 }

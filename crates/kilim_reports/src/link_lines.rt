@@ -1,43 +1,42 @@
 //! The line of class files that don't link.
 
-ghost use Rattle.std.specs.Prelude.{◌≡◌, ◌++◌, IfOk, codes};
+ghost use Rattle.std.specs.Prelude.{◌≡◌, ◌++◌, IfOk, OnOk, codes};
 ghost use Rattle.std.specs.Fmt.{decimal};
 ghost use Rattle.kilim_link_spec.specs.declared.fault.LeftOutPart.TheVariants as part;
 ghost use Rattle.kilim_reports.specs.Names.{method_text};
 ghost use Rattle.kilim_reports.specs.LinkLines.{part_word, fault_place, member_text, problem_words, link_line};
 ghost use Rattle.kilim_reports.specs.Problems.{problem_word, problem_told};
 
-use crate::names::{method_text, named_text};
-use crate::texts::{joined, line};
-use crate::{descriptor_text, member_name_text};
+use crate::lines::push_number;
+use crate::names::{push_descriptor, push_member_name, push_method, push_named};
+use crate::texts::push;
 use kilim_bytecode::CodeFault;
 use kilim_classfile::MemberName;
 use kilim_link_spec::{LeftOutPart, MemberOf, Problem};
 use kilim_units::{NoMemory, Units};
 use std::alloc::Global;
 
-fn member_text(alloc: Global, member: &MemberOf) -> Result<Vec<u8>, NoMemory>
-    ensures { IfOk result (λ text. text.items ≡ member_text member.now) }
+fn push_member(text: &mut Vec<u8>, member: &MemberOf) -> Result<(), NoMemory>
+    ensures { OnOk result (text.new.items ≡ text.old.items ++ member_text member.now) }
 {
-    let mut text = member_name_text(alloc, &member.owner)?;
-    let named = named_text(alloc, &member.name, &member.descriptor)?;
-    text.push(b'.')?;
-    text.extend_from_slice(named.as_slice())?;
-    Ok(text)
+    push_member_name(text, &member.owner)?;
+    push(text, b".")?;
+    push_named(text, &member.name, &member.descriptor)
 }
 
-fn opcode_word(alloc: Global, number: u8) -> Result<Vec<u8>, NoMemory>
-    ensures { IfOk result (λ text. text.items ≡ part_word (part.Opcode number)) }
+fn push_opcode(text: &mut Vec<u8>, number: u8) -> Result<(), NoMemory>
+    ensures { OnOk result (text.new.items ≡ text.old.items ++ part_word (part.Opcode number)) }
 {
-    let text = format!(in alloc; "opcode-{number}")?;
-    Ok(text.into_bytes())
+    push(text, b"opcode-")?;
+    push_number(text, u64::from(number))?;
+    Ok(())
 }
 
-fn part_word(alloc: Global, part: LeftOutPart) -> Result<Vec<u8>, NoMemory>
-    ensures { IfOk result (λ text. text.items ≡ part_word part) }
+fn push_part(text: &mut Vec<u8>, part: LeftOutPart) -> Result<(), NoMemory>
+    ensures { OnOk result (text.new.items ≡ text.old.items ++ part_word part) }
 {
     let word: &[u8] = match part {
-        LeftOutPart::Opcode(number) => return opcode_word(alloc, number),
+        LeftOutPart::Opcode(number) => return push_opcode(text, number),
         LeftOutPart::Float => b"float",
         LeftOutPart::ClassInitializer => b"clinit",
         LeftOutPart::StaticField => b"static-field",
@@ -51,7 +50,7 @@ fn part_word(alloc: Global, part: LeftOutPart) -> Result<Vec<u8>, NoMemory>
         LeftOutPart::Fiber => b"fiber",
         LeftOutPart::ParameterAnnotations => b"parameter-annotations",
     };
-    Ok(Vec::from_slice(alloc, word)?)
+    push(text, word)
 }
 
 fn fault_place(fault: CodeFault) -> u32
@@ -64,15 +63,14 @@ fn fault_place(fault: CodeFault) -> u32
 }
 
 // A method, and the place of a fault in its code.
-fn code_words(alloc: Global, method: &MemberName, fault: CodeFault) -> Result<Vec<u8>, NoMemory>
-    ensures { IfOk result (λ text. text.items ≡ codes "code " ++ (method_text method.now ++ (codes " " ++ decimal (fault_place fault)))) }
+fn push_code(text: &mut Vec<u8>, method: &MemberName, fault: CodeFault) -> Result<(), NoMemory>
+    ensures { OnOk result (text.new.items ≡ text.old.items ++ (codes "code " ++ (method_text method.now ++ (codes " " ++ decimal (fault_place fault))))) }
 {
-    let name = method_text(alloc, method)?;
-    let at = format!(in alloc; " {}", fault_place(fault))?;
-    let mut text = Vec::from_slice(alloc, b"code ")?;
-    text.extend_from_slice(name.as_slice())?;
-    text.extend_from_slice(at.as_bytes())?;
-    Ok(text)
+    push(text, b"code ")?;
+    push_method(text, method)?;
+    push(text, b" ")?;
+    push_number(text, u64::from(fault_place(fault)))?;
+    Ok(())
 }
 
 // The word of a problem.
@@ -97,31 +95,39 @@ fn problem_word(problem: &Problem) -> &[u8]
 }
 
 // What is told of it.
-fn problem_told(alloc: Global, problem: &Problem) -> Result<Vec<u8>, NoMemory>
-    ensures { IfOk result (λ text. text.items ≡ problem_told problem.now) }
+fn push_told(text: &mut Vec<u8>, problem: &Problem) -> Result<(), NoMemory>
+    ensures { OnOk result (text.new.items ≡ text.old.items ++ problem_told problem.now) }
 {
     match problem {
-        Problem::Twice(name) | Problem::Missing(name) => member_name_text(alloc, name),
-        Problem::FieldKind(field) => member_name_text(alloc, &field.name),
-        Problem::NoMember(member) => member_text(alloc, member),
-        Problem::LeftOut(part) => part_word(alloc, *part),
+        Problem::Twice(name) | Problem::Missing(name) => push_member_name(text, name),
+        Problem::FieldKind(field) => push_member_name(text, &field.name),
+        Problem::NoMember(member) => push_member(text, member),
+        Problem::LeftOut(part) => push_part(text, *part),
         Problem::OverrideDiffers(method) | Problem::AbstractLeft(method) => {
-            method_text(alloc, method)
+            push_method(text, method)
         }
-        Problem::Code(method, fault) => code_words(alloc, method, *fault),
-        Problem::Descriptor(text) => descriptor_text(alloc, text),
-        Problem::Circular | Problem::Both | Problem::SuperKind | Problem::Name => {
-            Ok(Vec::new(alloc))
-        }
+        Problem::Code(method, fault) => push_code(text, method, *fault),
+        Problem::Descriptor(descriptor) => push_descriptor(text, descriptor),
+        Problem::Circular | Problem::Both | Problem::SuperKind | Problem::Name => Ok(()),
     }
 }
 
-fn problem_words(alloc: Global, problem: &Problem) -> Result<Vec<u8>, NoMemory>
-    ensures { IfOk result (λ text. text.items ≡ problem_words problem.now) }
+fn push_problem(text: &mut Vec<u8>, problem: &Problem) -> Result<(), NoMemory>
+    ensures { OnOk result (text.new.items ≡ text.old.items ++ problem_words problem.now) }
 {
-    let told = problem_told(alloc, problem)?;
-    let text = joined(alloc, problem_word(problem), told.as_slice())?;
-    Ok(text)
+    push(text, problem_word(problem))?;
+    push_told(text, problem)?;
+    Ok(())
+}
+
+fn push_line(text: &mut Vec<u8>, class: &Units, problem: &Problem) -> Result<(), NoMemory>
+    ensures { OnOk result (text.new.items ≡ text.old.items ++ link_line class.now problem.now) }
+{
+    push(text, b"link ")?;
+    push_member_name(text, class)?;
+    push(text, b" ")?;
+    push_problem(text, problem)?;
+    push(text, b"\n")
 }
 
 /// The line of class files that don't link: `link`, the name of the class, and the words of its first problem. A name that
@@ -129,7 +135,7 @@ fn problem_words(alloc: Global, problem: &Problem) -> Result<Vec<u8>, NoMemory>
 pub fn link_line(alloc: Global, class: &Units, problem: &Problem) -> Result<Vec<u8>, NoMemory>
     ensures { IfOk result (λ text. text.items ≡ link_line class.now problem.now) }
 {
-    let name = member_name_text(alloc, class)?;
-    let words = problem_words(alloc, problem)?;
-    line(alloc, b"link ", name.as_slice(), words.as_slice())
+    let mut text = Vec::new(alloc);
+    push_line(&mut text, class, problem)?;
+    Ok(text)
 }

@@ -5,31 +5,50 @@ ghost use Rattle.std.specs.List.{flat_map};
 ghost use Rattle.kilim_reports.specs.Names.{member_name_text, descriptor_unit, descriptor_text, method_text};
 
 use kilim_classfile::MemberName;
-use kilim_units::{NoMemory, Units};
+use kilim_units::{NoMemory, Units, push_name};
 use std::alloc::Global;
 
-/// The name of a method as it stands in a report: in ASCII, as names stand in a journal, but `<init>` as it is.
+/// Appends the name of a method as it stands in a report: in ASCII, as names stand in a journal, but `<init>` as it is.
 #[tactic(auto, unfolding(crate::specs::Names::member_name_text))]
+pub fn push_member_name(text: &mut Vec<u8>, name: &Units) -> Result<(), NoMemory>
+    ensures { OnOk result (text.new.items ≡ text.old.items ++ member_name_text name.now) }
+{
+    if name.is_text(b"<init>") {
+        text.extend_from_slice(b"<init>")?;
+        return Ok(());
+    }
+    push_name(text, name.as_slice())?;
+    Ok(())
+}
+
+/// The name of a method as it stands in a report: in ASCII, as names stand in a journal, but `<init>` as it is.
 pub fn member_name_text(alloc: Global, name: &Units) -> Result<Vec<u8>, NoMemory>
     ensures { IfOk result (λ text. text.items ≡ member_name_text name.now) }
 {
-    if name.is_text(b"<init>") {
-        Ok(Vec::from_slice(alloc, b"<init>")?)
-    } else {
-        kilim_units::name_text(alloc, name.as_slice())
-    }
+    let mut text = Vec::new(alloc);
+    push_member_name(&mut text, name)?;
+    Ok(text)
 }
 
-fn push_descriptor_unit(into: &mut Vec<u8>, unit: u16) -> Result<(), NoMemory>
-    ensures { OnOk result (into.new.items ≡ into.old.items ++ descriptor_unit unit) }
+fn push_descriptor_unit(text: &mut Vec<u8>, unit: u16) -> Result<(), NoMemory>
+    ensures { OnOk result (text.new.items ≡ text.old.items ++ descriptor_unit unit) }
 {
     if unit == 40 {
-        into.push(b'(')?;
+        text.extend_from_slice(b"(")?;
     } else if unit == 41 {
-        into.push(b')')?;
+        text.extend_from_slice(b")")?;
     } else {
-        let text = kilim_units::name_text(*into.allocator(), &[unit])?;
-        into.extend_from_slice(text.as_slice())?;
+        push_name(text, &[unit])?;
+    }
+    Ok(())
+}
+
+/// Appends a descriptor as it stands in a report.
+pub fn push_descriptor(text: &mut Vec<u8>, descriptor: &Units) -> Result<(), NoMemory>
+    ensures { OnOk result (text.new.items ≡ text.old.items ++ descriptor_text descriptor.now) }
+{
+    for unit in descriptor.as_slice() {
+        push_descriptor_unit(text, *unit)?;
     }
     Ok(())
 }
@@ -39,25 +58,21 @@ pub fn descriptor_text(alloc: Global, descriptor: &Units) -> Result<Vec<u8>, NoM
     ensures { IfOk result (λ text. text.items ≡ descriptor_text descriptor.now) }
 {
     let mut text = Vec::new(alloc);
-    for unit in descriptor.as_slice() {
-        push_descriptor_unit(&mut text, *unit)?;
-    }
+    push_descriptor(&mut text, descriptor)?;
     Ok(text)
 }
 
-/// A name and a descriptor, one behind the other.
-pub fn named_text(alloc: Global, name: &Units, descriptor: &Units) -> Result<Vec<u8>, NoMemory>
-    ensures { IfOk result (λ text. text.items ≡ member_name_text name.now ++ descriptor_text descriptor.now) }
+/// Appends a name and a descriptor, one behind the other.
+pub fn push_named(text: &mut Vec<u8>, name: &Units, descriptor: &Units) -> Result<(), NoMemory>
+    ensures { OnOk result (text.new.items ≡ text.old.items ++ (member_name_text name.now ++ descriptor_text descriptor.now)) }
 {
-    let mut text = member_name_text(alloc, name)?;
-    let descriptor = descriptor_text(alloc, descriptor)?;
-    text.extend_from_slice(descriptor.as_slice())?;
-    Ok(text)
+    push_member_name(text, name)?;
+    push_descriptor(text, descriptor)
 }
 
-/// Name and descriptor of a method.
-pub fn method_text(alloc: Global, method: &MemberName) -> Result<Vec<u8>, NoMemory>
-    ensures { IfOk result (λ text. text.items ≡ method_text method.now) }
+/// Appends the name and the descriptor of a method.
+pub fn push_method(text: &mut Vec<u8>, method: &MemberName) -> Result<(), NoMemory>
+    ensures { OnOk result (text.new.items ≡ text.old.items ++ method_text method.now) }
 {
-    named_text(alloc, &method.name, &method.descriptor)
+    push_named(text, &method.name, &method.descriptor)
 }

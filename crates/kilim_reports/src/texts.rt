@@ -1,6 +1,6 @@
 //! Texts behind each other.
 
-ghost use Rattle.std.specs.Prelude.{◌≡◌, ◌++◌, IfOk, codes};
+ghost use Rattle.std.specs.Prelude.{◌≡◌, ◌++◌, IfOk, OnOk};
 
 use kilim_units::NoMemory;
 use std::alloc::Global;
@@ -14,13 +14,18 @@ pub fn joined(alloc: Global, first: &[u8], second: &[u8]) -> Result<Vec<u8>, NoM
     Ok(text)
 }
 
-/// A line: a word, a name, a space, and words, with its line feed.
-pub fn line(alloc: Global, word: &[u8], name: &[u8], words: &[u8]) -> Result<Vec<u8>, NoMemory>
-    ensures { IfOk result (λ text. text.items ≡ word.now ++ (name.now ++ (codes " " ++ (words.now ++ codes "\n")))) }
+/// Appends a text.
+pub fn push(text: &mut Vec<u8>, word: &[u8]) -> Result<(), NoMemory>
+    ensures { OnOk result (text.new.items ≡ text.old.items ++ word.now) }
 {
-    let mut text = joined(alloc, word, name)?;
-    text.push(b' ')?;
-    text.extend_from_slice(words)?;
-    text.push(b'\n')?;
-    Ok(text)
+    text.extend_from_slice(word)?;
+    Ok(())
+}
+
+/// Appends two texts, one behind the other.
+pub fn push_both(text: &mut Vec<u8>, first: &[u8], second: &[u8]) -> Result<(), NoMemory>
+    ensures { OnOk result (text.new.items ≡ text.old.items ++ (first.now ++ second.now)) }
+{
+    push(text, first)?;
+    push(text, second)
 }
