@@ -69,10 +69,10 @@ fn instr_at(code: &[(u32, Instr)], at: usize) -> &(u32, Instr)
     &code[at]
 }
 
-fn copy_code(alloc: Global, code: &[(u32, Instr)]) -> Result<Vec<(u32, Instr)>, NoMemory>
-    ensures { IfOk result (λ v. v.items ≡ code.now) }
+fn copy_code(alloc: Global, code: &[(u32, Instr)]) -> Result<Seq<(u32, Instr)>, NoMemory>
+    ensures { IfOk result (λ s. s ≡ code.now) }
 {
-    let mut all = Vec::new(alloc);
+    let mut all = Seq::new(alloc);
     for at in 0..code.len() {
         let entry = instr_at(code, at);
         let instr = copied(&entry.1)?;
@@ -99,10 +99,10 @@ fn frame_at(frames: &[(u32, Frame)], at: usize) -> &(u32, Frame)
     &frames[at]
 }
 
-fn copy_frames(alloc: Global, frames: &[(u32, Frame)]) -> Result<Vec<(u32, Frame)>, NoMemory>
-    ensures { IfOk result (λ v. v.items ≡ frames.now) }
+fn copy_frames(alloc: Global, frames: &[(u32, Frame)]) -> Result<Seq<(u32, Frame)>, NoMemory>
+    ensures { IfOk result (λ s. s ≡ frames.now) }
 {
-    let mut all = Vec::new(alloc);
+    let mut all = Seq::new(alloc);
     for at in 0..frames.len() {
         let entry = frame_at(frames, at);
         let frame = copy_frame(alloc, &entry.1)?;
@@ -111,13 +111,32 @@ fn copy_frames(alloc: Global, frames: &[(u32, Frame)]) -> Result<Vec<(u32, Frame
     Ok(all)
 }
 
+// What a method does: its code and its frames.
+#[derive(Drop)]
+struct Body {
+    code: Seq<(u32, Instr)>,
+    frames: Seq<(u32, Frame)>,
+}
+
+fn copy_body(alloc: Global, method: &Method) -> Result<Body, NoMemory>
+    ensures { IfOk result (λ b. b ≡ record { code = method.now.code; frames = method.now.frames }) }
+{
+    let code = copy_code(alloc, method.code.as_slice())?;
+    let frames = copy_frames(alloc, method.frames.as_slice())?;
+    Ok(Body { code, frames })
+}
+
 /// The same method with another head.
 pub fn with_head(alloc: Global, method: &Method, head: Head) -> Result<Method, NoMemory>
     ensures { IfOk result (λ m. m ≡ record method.now { name = head.name; params = head.params; qualifiers = head.qualifiers; handlers = head.handlers }) }
 {
-    let code = copy_code(alloc, method.code.as_slice())?;
-    let frames = copy_frames(alloc, method.frames.as_slice())?;
-    Ok(with_parts(method, head, Seq::from_vec(code), Seq::from_vec(frames)))
+    match copy_body(alloc, method) {
+        Ok(body) => Ok(with_parts(method, head, body.code, body.frames)),
+        Err(fault) => {
+            drop(head);
+            Err(fault)
+        }
+    }
 }
 
 /// The same method.

@@ -7,7 +7,7 @@ ghost use Rattle.kilim_woven_method.specs.Laid.{Follows, IsLaid};
 
 use crate::size::place_behind;
 use kilim_classes::{Frame, Instr};
-use kilim_units::NoMemory;
+use kilim_units::{NoMemory, Seq};
 use kilim_woven_code::{Item, Items, Size};
 use std::alloc::Global;
 use std::marker::Model;
@@ -16,11 +16,11 @@ use std::marker::Model;
 #[derive(Drop)]
 pub struct Laid {
     /// The instructions with their places.
-    pub code: Vec<(u32, Instr)>,
+    pub code: Seq<(u32, Instr)>,
     /// The declared frames with their places.
-    pub frames: Vec<(u32, Frame)>,
+    pub frames: Seq<(u32, Frame)>,
     /// Which instructions count.
-    pub counted: Vec<bool>,
+    pub counted: Seq<bool>,
     /// The place behind the code.
     pub end: u32,
 }
@@ -30,7 +30,7 @@ impl Model for Laid {
 
     ghost Value = { parts.Output };
 
-    ghost view = { λ s. record { code = s.code.items; frames = s.frames.items; counted = s.counted.items; end = s.end } };
+    ghost view = { λ s. record { code = s.code; frames = s.frames; counted = s.counted; end = s.end } };
 }
 
 fn stand(laid: &mut Laid, frame: Option<Frame>) -> Result<(), NoMemory>
@@ -51,9 +51,8 @@ fn add(laid: &mut Laid, instr: Instr, size: Size, counted: bool) -> Result<(), N
 {
     let at = laid.end;
     laid.code.push((at, instr))?;
-    let next = place_behind(at, size)?;
     laid.counted.push(counted)?;
-    laid.end = next;
+    laid.end = place_behind(at, size)?;
     Ok(())
 }
 
@@ -76,9 +75,9 @@ fn nothing(alloc: Global) -> Laid
     ensures { result ≡ record { code = []; frames = []; counted = []; end = 0 } }
 {
     Laid {
-        code: Vec::new(alloc),
-        frames: Vec::new(alloc),
-        counted: Vec::new(alloc),
+        code: Seq::new(alloc),
+        frames: Seq::new(alloc),
+        counted: Seq::new(alloc),
         end: 0,
     }
 }

@@ -1,6 +1,6 @@
 //! Woven methods.
 
-ghost use Rattle.std.specs.Prelude.{◌≡◌, ◌+◌, ◌∷◌, ◌++◌, [], true, if◌then◌else◌, IfOk};
+ghost use Rattle.std.specs.Prelude.{◌≡◌, ◌+◌, ◌∷◌, ◌++◌, [], true, if◌then◌else◌, IfOk, OnOk};
 ghost use Rattle.kilim_classes.specs.BuiltIn.{class_type};
 ghost use Rattle.kilim_liveness.specs.Table.{live_in};
 ghost use Rattle.kilim_classes.specs.lookups.Places.{Rising};
@@ -117,14 +117,66 @@ fn locals_with(slots: Slots, is_static: bool) -> Result<u16, NoMemory>
     Ok(behind)
 }
 
+// One argument more, which is the fiber.
+fn push_fiber(head: &mut Head, class: u32) -> Result<(), NoMemory>
+    ensures { OnOk result (head.new ≡ record head.old { params = head.old.params ++ class_type class ∷ []; qualifiers = head.old.qualifiers ++ Qualifier.Safe ∷ [] }) }
+{
+    head.params.push(fiber_type(class))?;
+    head.qualifiers.push(Qualifier::Safe)?;
+    Ok(())
+}
+
 /// The head of a method with the fiber as one argument more.
 pub fn head_with(alloc: Global, method: &Method, class: u32) -> Result<Head, NoMemory>
     ensures { IfOk result (λ h. h ≡ record { name = method.now.name; params = method.now.params ++ class_type class ∷ []; qualifiers = method.now.qualifiers ++ Qualifier.Safe ∷ []; handlers = method.now.handlers }) }
 {
     let mut head = copy_head(alloc, method)?;
-    head.params.push(fiber_type(class))?;
-    head.qualifiers.push(Qualifier::Safe)?;
-    Ok(head)
+    match push_fiber(&mut head, class) {
+        Ok(()) => Ok(head),
+        Err(fault) => {
+            drop(head);
+            Err(fault)
+        }
+    }
+}
+
+// What the woven method has beside its code.
+#[derive(Drop)]
+struct Outside {
+    head: Head,
+    max_stack: u16,
+    max_locals: u16,
+}
+
+fn outside_of(alloc: Global, method: &Method, slots: Slots) -> Result<Outside, NoMemory>
+    ensures { IfOk result (λ o. o ≡ record { head = record { name = method.now.name; params = method.now.params ++ class_type slots.class ∷ []; qualifiers = method.now.qualifiers ++ Qualifier.Safe ∷ []; handlers = method.now.handlers }; max_stack = method.now.max_stack + 4; max_locals = (if method.now.is_static then slots.receiver else slots.receiver + 1) }) }
+{
+    let max_stack = plus(method.max_stack, 4)?;
+    let max_locals = locals_with(slots, method.is_static)?;
+    let head = head_with(alloc, method, slots.class)?;
+    Ok(Outside {
+        head,
+        max_stack,
+        max_locals,
+    })
+}
+
+// The method of its parts. Takes no memory.
+fn made(method: &Method, outside: Outside, laid: Laid) -> (Method, Seq<bool>)
+    ensures method { result.0 ≡ record method.now { name = outside.head.name; params = outside.head.params; qualifiers = outside.head.qualifiers; handlers = outside.head.handlers; max_stack = outside.max_stack; max_locals = outside.max_locals; code_length = laid.end; code = laid.code; frames = laid.frames } }
+    ensures counted { result.1 ≡ laid.counted }
+{
+    let Laid {
+        code,
+        frames,
+        counted,
+        end,
+    } = laid;
+    let mut woven = with_parts(method, outside.head, code, frames);
+    woven.max_stack = outside.max_stack;
+    woven.max_locals = outside.max_locals;
+    woven.code_length = end;
+    (woven, counted)
 }
 
 // The method with other code and one argument more.
@@ -137,20 +189,13 @@ fn with_code(
     ensures method { IfOk result (λ r. r.0 ≡ record method.now { params = method.now.params ++ class_type slots.class ∷ []; qualifiers = method.now.qualifiers ++ Qualifier.Safe ∷ []; max_stack = method.now.max_stack + 4; max_locals = (if method.now.is_static then slots.receiver else slots.receiver + 1); code_length = laid.end; code = laid.code; frames = laid.frames }) }
     ensures counted { IfOk result (λ r. r.1 ≡ laid.counted) }
 {
-    let max_stack = plus(method.max_stack, 4)?;
-    let max_locals = locals_with(slots, method.is_static)?;
-    let head = head_with(alloc, method, slots.class)?;
-    let Laid {
-        code,
-        frames,
-        counted,
-        end,
-    } = laid;
-    let mut woven = with_parts(method, head, Seq::from_vec(code), Seq::from_vec(frames));
-    woven.max_stack = max_stack;
-    woven.max_locals = max_locals;
-    woven.code_length = end;
-    Ok((woven, Seq::from_vec(counted)))
+    match outside_of(alloc, method, slots) {
+        Ok(outside) => Ok(made(method, outside, laid)),
+        Err(fault) => {
+            drop(laid);
+            Err(fault)
+        }
+    }
 }
 
 /// The woven form of a method with pausable calls, and which of its instructions count (own, after Srinivasan and Mycroft, "Kilim:

@@ -2,4 +2,4 @@ use Rattle.std.proofs.Common.{◌≡◌, take}
 use Rattle.kilim_woven_method.proofs.copy.copy_code.Given as goal
 
 abbrev pub invariant-loop-at : goal.invariant-loop-at
-invariant-loop-at l = l.all.items ≡ take l.at l.fn.code
+invariant-loop-at l = l.all ≡ take l.at l.fn.code
