@@ -9,7 +9,7 @@ use Rattle.kilim_attribute_parts.specs.declared.annotation.Asked.{Asked}
 use Rattle.kilim_attribute_parts.specs.declared.annotation.PartKind.{PartKind}
 use Rattle.kilim_attribute_parts.specs.declared.annotation.AnnotationPart.{AnnotationPart}
 use Rattle.kilim_attribute_parts.specs.Choices.{sentence_at}
-use Rattle.kilim_attribute_parts.specs.Annotations.{asked, kinds_of, asks, part_at, parts_at}
+use Rattle.kilim_attribute_parts.specs.Annotations.{asked, asks, part_at, parts_at}
 use Rattle.kilim_attribute_parts.proofs.AnnotationFormats.{part_shorter, part_cut}
 use Rattle.kilim_attribute_parts.proofs.Pending.{pending, pending_last, first_kind}
 use Rattle.kilim_attribute_parts.proofs.Sentences.{LeadsTo, goes_on, stops, is_done}
@@ -47,12 +47,13 @@ module _ (pool : List Entry) (ends : AttributeFault) (kind : PartKind) (bytes : 
       after_part : Leads (front ++ part ∷ []) (asks part ++ others) after
       after_part = goes_on ends (part_at pool ends) asks front next.kind others rest part after (parts_at pool ends kind bytes) behind.0 read leads_next
 
-      pub leads_on : (less then_asked : Asked) (first second : List Asked) (parts : List AnnotationPart) → less ≡ record next { count = next.count - 1 } → first ≡ popped ++ less ∷ [] → then_asked ≡ asked part → second ≡ first ++ then_asked ∷ [] → parts ≡ front ++ part ∷ []
-          → Leads parts (pending second) after
+      pub leads_on : (now : List Asked) (parts : List AnnotationPart) → now ≡ (popped ++ (record next { count = next.count - 1 }) ∷ []) ++ asked part ∷ [] → parts ≡ front ++ part ∷ [] → Leads parts (pending now) after
       unfolding others
-      leads_on less then_asked first second parts less_is first_is asked_is second_is parts_is =
-          let a : pending first ≡ others = ap pending first_is ∙ (pending_last popped less ∙ ap (λ (x : Asked). kinds_of x ++ pending popped) less_is) in
-          let b : pending second ≡ asks part ++ others = ap pending second_is ∙ (pending_last first then_asked ∙ (ap (λ (x : Asked). kinds_of x ++ pending first) asked_is ∙ ap (λ (kinds : List PartKind). asks part ++ kinds) a)) in
+      leads_on now parts now_is parts_is =
+          let less : Asked = record next { count = next.count - 1 } in
+          let first : List Asked = popped ++ less ∷ [] in
+          let a : pending first ≡ others = pending_last popped less in
+          let b : pending now ≡ asks part ++ others = ap pending now_is ∙ (pending_last first (asked part) ∙ ap (λ (kinds : List PartKind). asks part ++ kinds) a) in
           subst (λ (kinds : List PartKind). Leads parts kinds after) (sym b) (subst (λ (ps : List AnnotationPart). Leads ps (asks part ++ others) after) (sym parts_is) after_part)
 
   nothing : (to_come : List Asked) → length to_come ≡ 0 → to_come ≡ []

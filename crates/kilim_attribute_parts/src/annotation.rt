@@ -63,21 +63,41 @@ impl Asked {
 }
 
 impl AnnotationPart {
+    // The kind of the parts that a part asks for; of those that ask for none it is that of values.
+    fn asked_kind(&self) -> PartKind
+        ensures { result ≡ (asked self.now).kind }
+    {
+        match self {
+            AnnotationPart::Parameters(_) => PartKind::AnnotationList,
+            AnnotationPart::Annotations(_) | AnnotationPart::Nested => PartKind::OneAnnotation,
+            AnnotationPart::Annotation(_, _) => PartKind::Pair,
+            _ => PartKind::Value,
+        }
+    }
+
+    // How many parts a part asks for.
+    fn asked_count(&self) -> u16
+        ensures { result ≡ (asked self.now).count }
+    {
+        match self {
+            AnnotationPart::Parameters(count) => u16::from(*count),
+            AnnotationPart::Annotations(count)
+            | AnnotationPart::Annotation(_, count)
+            | AnnotationPart::Array(count) => *count,
+            AnnotationPart::ElementName(_) | AnnotationPart::Nested => 1,
+            AnnotationPart::Constant(_, _)
+            | AnnotationPart::EnumConstant(_, _)
+            | AnnotationPart::Class(_) => 0,
+        }
+    }
+
     /// What a part asks for.
     pub(crate) fn asked(&self) -> Asked
         ensures { result ≡ asked self.now }
     {
-        let (kind, count) = match self {
-            AnnotationPart::Parameters(count) => (PartKind::AnnotationList, u16::from(*count)),
-            AnnotationPart::Annotations(count) => (PartKind::OneAnnotation, *count),
-            AnnotationPart::Annotation(_, count) => (PartKind::Pair, *count),
-            AnnotationPart::ElementName(_) => (PartKind::Value, 1),
-            AnnotationPart::Nested => (PartKind::OneAnnotation, 1),
-            AnnotationPart::Array(count) => (PartKind::Value, *count),
-            AnnotationPart::Constant(_, _)
-            | AnnotationPart::EnumConstant(_, _)
-            | AnnotationPart::Class(_) => (PartKind::Value, 0),
-        };
-        Asked { kind, count }
+        Asked {
+            kind: self.asked_kind(),
+            count: self.asked_count(),
+        }
     }
 }

@@ -1,9 +1,9 @@
 //! Reading the parts of annotations.
 
-ghost use Rattle.std.specs.Prelude.{◌≡◌};
+ghost use Rattle.std.specs.Prelude.{◌≡◌, ◌<◌, ◌+◌, ◌-◌, [], ◌∷◌, ◌++◌, OnOk, vec_len};
 ghost use Rattle.kilim_grammar.specs.Reader.{Reads, ReadsUnless};
 ghost use Rattle.kilim_attribute_parts.specs.declared.fault.AttributeFault.TheVariants.{Memory};
-ghost use Rattle.kilim_attribute_parts.specs.Annotations.{is_integer_tag, is_constant_tag, constant_kind, two_texts_at, value_behind, value_at, annotation_at, part_at, parts_at};
+ghost use Rattle.kilim_attribute_parts.specs.Annotations.{is_integer_tag, is_constant_tag, constant_kind, two_texts_at, value_behind, value_at, annotation_at, part_at, parts_at, asked};
 
 use crate::annotation::{AnnotationPart, Asked, PartKind};
 use crate::fault::AttributeFault;
@@ -11,7 +11,7 @@ use crate::index::{EntryKind, index_at};
 use kilim_constant_pool::Pool;
 use kilim_grammar::{u8_at, u16_at};
 use kilim_units::Seq;
-use std::alloc::Global;
+use std::alloc::{AllocError, Global};
 
 fn is_integer_tag(tag: u8) -> bool
     ensures { result ≡ is_integer_tag tag }
@@ -50,8 +50,10 @@ fn two_texts_at<'a>(
     ensures { Reads (λ x. (x.0, x.1.now)) result (two_texts_at pool.now ends bytes.now) }
 {
     let (first, rest) = index_at(pool, EntryKind::Text, ends, bytes)?;
-    let (second, rest) = index_at(pool, EntryKind::Text, ends, rest)?;
-    Ok(((first, second), rest))
+    match index_at(pool, EntryKind::Text, ends, rest) {
+        Ok((second, rest)) => Ok(((first, second), rest)),
+        Err(fault) => Err(fault),
+    }
 }
 
 #[tactic(auto, unfolding(crate::specs::Annotations::value_behind))]
@@ -64,19 +66,27 @@ fn value_behind<'a>(
     ensures { Reads (λ x. (x.0, x.1.now)) result (value_behind pool.now ends tag bytes.now) }
 {
     if is_constant_tag(tag) {
-        let (index, rest) = index_at(pool, constant_kind(tag), ends, bytes)?;
-        Ok((AnnotationPart::Constant(tag, index), rest))
+        match index_at(pool, constant_kind(tag), ends, bytes) {
+            Ok((index, rest)) => Ok((AnnotationPart::Constant(tag, index), rest)),
+            Err(fault) => Err(fault),
+        }
     } else if tag == b'e' {
-        let ((class, name), rest) = two_texts_at(pool, ends, bytes)?;
-        Ok((AnnotationPart::EnumConstant(class, name), rest))
+        match two_texts_at(pool, ends, bytes) {
+            Ok(((class, name), rest)) => Ok((AnnotationPart::EnumConstant(class, name), rest)),
+            Err(fault) => Err(fault),
+        }
     } else if tag == b'c' {
-        let (descriptor, rest) = index_at(pool, EntryKind::Text, ends, bytes)?;
-        Ok((AnnotationPart::Class(descriptor), rest))
+        match index_at(pool, EntryKind::Text, ends, bytes) {
+            Ok((descriptor, rest)) => Ok((AnnotationPart::Class(descriptor), rest)),
+            Err(fault) => Err(fault),
+        }
     } else if tag == b'@' {
         Ok((AnnotationPart::Nested, bytes))
     } else if tag == b'[' {
-        let (count, rest) = u16_at(ends, bytes)?;
-        Ok((AnnotationPart::Array(count), rest))
+        match u16_at(ends, bytes) {
+            Ok((count, rest)) => Ok((AnnotationPart::Array(count), rest)),
+            Err(fault) => Err(fault),
+        }
     } else {
         Err(ends)
     }
@@ -103,8 +113,10 @@ fn annotation_at<'a>(
     ensures { Reads (λ x. (x.0, x.1.now)) result (annotation_at pool.now ends bytes.now) }
 {
     let (class, rest) = index_at(pool, EntryKind::Text, ends, bytes)?;
-    let (count, rest) = u16_at(ends, rest)?;
-    Ok((AnnotationPart::Annotation(class, count), rest))
+    match u16_at(ends, rest) {
+        Ok((count, rest)) => Ok((AnnotationPart::Annotation(class, count), rest)),
+        Err(fault) => Err(fault),
+    }
 }
 
 #[tactic(auto, unfolding(crate::specs::Annotations::part_at))]
@@ -117,21 +129,63 @@ fn part_at<'a>(
     ensures { Reads (λ x. (x.0, x.1.now)) result (part_at pool.now ends kind bytes.now) }
 {
     match kind {
-        PartKind::ParameterCount => {
-            let (count, rest) = u8_at(ends, bytes)?;
-            Ok((AnnotationPart::Parameters(count), rest))
-        }
-        PartKind::AnnotationList => {
-            let (count, rest) = u16_at(ends, bytes)?;
-            Ok((AnnotationPart::Annotations(count), rest))
-        }
+        PartKind::ParameterCount => match u8_at(ends, bytes) {
+            Ok((count, rest)) => Ok((AnnotationPart::Parameters(count), rest)),
+            Err(fault) => Err(fault),
+        },
+        PartKind::AnnotationList => match u16_at(ends, bytes) {
+            Ok((count, rest)) => Ok((AnnotationPart::Annotations(count), rest)),
+            Err(fault) => Err(fault),
+        },
         PartKind::OneAnnotation => annotation_at(pool, ends, bytes),
-        PartKind::Pair => {
-            let (name, rest) = index_at(pool, EntryKind::Text, ends, bytes)?;
-            Ok((AnnotationPart::ElementName(name), rest))
-        }
+        PartKind::Pair => match index_at(pool, EntryKind::Text, ends, bytes) {
+            Ok((name, rest)) => Ok((AnnotationPart::ElementName(name), rest)),
+            Err(fault) => Err(fault),
+        },
         PartKind::Value => value_at(pool, ends, bytes),
     }
+}
+
+// A part is behind the others, and what it asks for comes before what is left of its kind.
+fn note(
+    next: Asked,
+    part: AnnotationPart,
+    to_come: &mut Vec<Asked>,
+    parts: &mut Seq<AnnotationPart>,
+) -> Result<(), AllocError>
+    requires { 0 < next.count }
+    ensures to_come { OnOk result (to_come.new.items ≡ (to_come.old.items ++ record next { count = next.count - 1 } ∷ []) ++ asked part ∷ []) }
+    ensures len { OnOk result (vec_len to_come.new ≡ vec_len to_come.old + 2) }
+    ensures parts { OnOk result (parts.new ≡ parts.old ++ part ∷ []) }
+{
+    to_come.push(next.one_less())?;
+    to_come.push(part.asked())?;
+    parts.push(part)
+}
+
+// The parts that come from one of a kind, put behind none, and the bytes behind them.
+fn push_parts_at<'a>(
+    pool: &Pool,
+    ends: AttributeFault,
+    kind: PartKind,
+    bytes: &'a [u8],
+    to_come: &mut Vec<Asked>,
+    parts: &mut Seq<AnnotationPart>,
+) -> Result<&'a [u8], AttributeFault>
+    requires none_to_come { to_come.old.items ≡ [] }
+    requires no_parts { parts.old ≡ [] }
+    ensures { ReadsUnless Memory (λ rest. (parts.new, rest.now)) result (parts_at pool.now ends kind bytes.now) }
+{
+    to_come.push(Asked { kind, count: 1 })?;
+    let mut rest = bytes;
+    while let Some(next) = to_come.pop() {
+        if next.count > 0 {
+            let (part, after) = part_at(pool, ends, next.kind, rest)?;
+            note(next, part, to_come, parts)?;
+            rest = after;
+        }
+    }
+    Ok(rest)
 }
 
 /// One part of a kind at the front of the bytes of an attribute, with all that it asks for, and the bytes behind
@@ -147,19 +201,10 @@ pub fn parts_at<'a>(
 ) -> Result<(Seq<AnnotationPart>, &'a [u8]), AttributeFault>
     ensures { ReadsUnless Memory (λ x. (x.0, x.1.now)) result (parts_at pool.now ends kind bytes.now) }
 {
-    let mut parts = Vec::new(alloc);
     let mut to_come = Vec::new(alloc);
-    to_come.push(Asked { kind, count: 1 })?;
-    let mut rest = bytes;
-    while let Some(next) = to_come.pop() {
-        if next.count > 0 {
-            let (part, after) = part_at(pool, ends, next.kind, rest)?;
-            let asked = part.asked();
-            to_come.push(next.one_less())?;
-            to_come.push(asked)?;
-            parts.push(part)?;
-            rest = after;
-        }
+    let mut parts = Seq::new(alloc);
+    match push_parts_at(pool, ends, kind, bytes, &mut to_come, &mut parts) {
+        Ok(rest) => Ok((parts, rest)),
+        Err(fault) => Err(fault),
     }
-    Ok((Seq::from_vec(parts), rest))
 }

@@ -41,11 +41,15 @@ fn type_behind<'a>(
     } else if tag == 6 {
         Ok((VerificationType::UninitializedThis, bytes))
     } else if tag == 7 {
-        let (class, rest) = index_at(pool, EntryKind::Class, ENDS, bytes)?;
-        Ok((VerificationType::Object(class), rest))
+        match index_at(pool, EntryKind::Class, ENDS, bytes) {
+            Ok((class, rest)) => Ok((VerificationType::Object(class), rest)),
+            Err(fault) => Err(fault),
+        }
     } else if tag == 8 {
-        let (place, rest) = u16_at(ENDS, bytes)?;
-        Ok((VerificationType::Uninitialized(place), rest))
+        match u16_at(ENDS, bytes) {
+            Ok((place, rest)) => Ok((VerificationType::Uninitialized(place), rest)),
+            Err(fault) => Err(fault),
+        }
     } else {
         Err(AttributeFault::FrameTag(tag))
     }
@@ -63,8 +67,10 @@ fn type_at<'a>(pool: &Pool, bytes: &'a [u8]) -> Result<(VerificationType, &'a [u
 fn item_at<'a>(pool: &Pool, delta: u8, bytes: &'a [u8]) -> Result<(Frame, &'a [u8]), AttributeFault>
     ensures { ReadsUnless Memory (λ x. (x.0, x.1.now)) result (made (SameLocals1StackItem delta) (type_at pool.now) bytes.now) }
 {
-    let (item, rest) = type_at(pool, bytes)?;
-    Ok((Frame::SameLocals1StackItem(delta, item), rest))
+    match type_at(pool, bytes) {
+        Ok((item, rest)) => Ok((Frame::SameLocals1StackItem(delta, item), rest)),
+        Err(fault) => Err(fault),
+    }
 }
 
 #[tactic(auto, unfolding(crate::specs::Frames::delta_and_type_at))]
@@ -72,22 +78,28 @@ fn extended_item_at<'a>(pool: &Pool, bytes: &'a [u8]) -> Result<(Frame, &'a [u8]
     ensures { ReadsUnless Memory (λ x. (x.0, x.1.now)) result (made (λ x. SameLocals1StackItemExtended x.0 x.1) (delta_and_type_at pool.now) bytes.now) }
 {
     let (delta, rest) = u16_at(ENDS, bytes)?;
-    let (item, rest) = type_at(pool, rest)?;
-    Ok((Frame::SameLocals1StackItemExtended(delta, item), rest))
+    match type_at(pool, rest) {
+        Ok((item, rest)) => Ok((Frame::SameLocals1StackItemExtended(delta, item), rest)),
+        Err(fault) => Err(fault),
+    }
 }
 
 fn chop_at(absent: u8, bytes: &[u8]) -> Result<(Frame, &[u8]), AttributeFault>
     ensures { ReadsUnless Memory (λ x. (x.0, x.1.now)) result (made (Chop absent) (number_at ends w16) bytes.now) }
 {
-    let (delta, rest) = u16_at(ENDS, bytes)?;
-    Ok((Frame::Chop(absent, delta), rest))
+    match u16_at(ENDS, bytes) {
+        Ok((delta, rest)) => Ok((Frame::Chop(absent, delta), rest)),
+        Err(fault) => Err(fault),
+    }
 }
 
 fn same_extended_at(bytes: &[u8]) -> Result<(Frame, &[u8]), AttributeFault>
     ensures { ReadsUnless Memory (λ x. (x.0, x.1.now)) result (made SameExtended (number_at ends w16) bytes.now) }
 {
-    let (delta, rest) = u16_at(ENDS, bytes)?;
-    Ok((Frame::SameExtended(delta), rest))
+    match u16_at(ENDS, bytes) {
+        Ok((delta, rest)) => Ok((Frame::SameExtended(delta), rest)),
+        Err(fault) => Err(fault),
+    }
 }
 
 fn types_at<'a>(
@@ -98,14 +110,14 @@ fn types_at<'a>(
 ) -> Result<(Seq<VerificationType>, &'a [u8]), AttributeFault>
     ensures { ReadsUnless Memory (λ x. (x.0, x.1.now)) result (many (type_at pool.now) count bytes.now) }
 {
-    let mut types = Vec::new(alloc);
+    let mut types = Seq::new(alloc);
     let mut rest = bytes;
     for _ in 0..count {
         let (item, after) = type_at(pool, rest)?;
         types.push(item)?;
         rest = after;
     }
-    Ok((Seq::from_vec(types), rest))
+    Ok((types, rest))
 }
 
 #[tactic(auto, unfolding(crate::specs::Frames::counted_types_at))]
@@ -130,8 +142,10 @@ fn append_at<'a>(
     ensures { ReadsUnless Memory (λ x. (x.0, x.1.now)) result (made (λ x. Append x.0 x.1) (appended_at pool.now count) bytes.now) }
 {
     let (delta, rest) = u16_at(ENDS, bytes)?;
-    let (locals, rest) = types_at(alloc, pool, count, rest)?;
-    Ok((Frame::Append(delta, locals), rest))
+    match types_at(alloc, pool, count, rest) {
+        Ok((locals, rest)) => Ok((Frame::Append(delta, locals), rest)),
+        Err(fault) => Err(fault),
+    }
 }
 
 #[tactic(auto, unfolding(crate::specs::Frames::full_at))]
@@ -144,8 +158,10 @@ fn full_at<'a>(
 {
     let (delta, rest) = u16_at(ENDS, bytes)?;
     let (locals, rest) = counted_types_at(alloc, pool, rest)?;
-    let (stack, rest) = counted_types_at(alloc, pool, rest)?;
-    Ok((Frame::Full(delta, locals, stack), rest))
+    match counted_types_at(alloc, pool, rest) {
+        Ok((stack, rest)) => Ok((Frame::Full(delta, locals, stack), rest)),
+        Err(fault) => Err(fault),
+    }
 }
 
 #[tactic(auto, unfolding(crate::specs::Frames::frame_behind))]
@@ -196,14 +212,14 @@ fn so_many_frames_at<'a>(
 ) -> Result<(Seq<Frame>, &'a [u8]), AttributeFault>
     ensures { ReadsUnless Memory (λ x. (x.0, x.1.now)) result (many (frame_at pool.now) count bytes.now) }
 {
-    let mut frames = Vec::new(alloc);
+    let mut frames = Seq::new(alloc);
     let mut rest = bytes;
     for _ in 0..count {
         let (frame, after) = frame_at(alloc, pool, rest)?;
         frames.push(frame)?;
         rest = after;
     }
-    Ok((Seq::from_vec(frames), rest))
+    Ok((frames, rest))
 }
 
 /// The frames at the front of the bytes of a StackMapTable (JVMS 4.7.4), a count and so many, and the bytes behind

@@ -8,11 +8,11 @@ use Rattle.kilim_attribute_parts.proofs.frame_reading.so_many_frames_at.Goals as
 pub returns-in_err-frame : goal.returns-in_err-frame
 returns-in_err-frame c =
     let p = err_from_is_err_and c.from_residual.result c.from_residual.ensures.1 in
-    rw (p.1, p.2) (stops (frame_at c.args.pool.now) Memory c.in_err-frame.field-0.0 c.loop.frames.items c.args.count c.loop.counter c.loop.rest.now (many (frame_at c.args.pool.now) c.args.count c.args.bytes.now) c.loop-test.true c.in_err-frame.ensures c.loop.invariant)
+    rw (p.1, p.2) (stops (frame_at c.args.pool.now) Memory c.in_err-frame.field-0.0 c.loop.frames c.args.count c.loop.counter c.loop.rest.now (many (frame_at c.args.pool.now) c.args.count c.args.bytes.now) c.loop-test.true c.in_err-frame.ensures c.loop.invariant)
 
 pub loop-preserved : goal.loop-preserved
 loop-preserved c =
-    rw c.in_ok-push.ensures.items (goes_on (frame_at c.args.pool.now) c.loop.frames.items c.args.count c.loop.counter c.loop.rest.now c.in_ok-frame.frame c.in_ok-frame.after.now (many (frame_at c.args.pool.now) c.args.count c.args.bytes.now) c.loop-test.true c.in_ok-frame.ensures c.loop.invariant)
+    rw c.in_ok-push.ensures.ok (goes_on (frame_at c.args.pool.now) c.loop.frames c.args.count c.loop.counter c.loop.rest.now c.in_ok-frame.frame c.in_ok-frame.after.now (many (frame_at c.args.pool.now) c.args.count c.args.bytes.now) c.loop-test.true c.in_ok-frame.ensures c.loop.invariant)
 
 pub returns : goal.returns
-returns c = rw c.from_vec.ensures (is_done (frame_at c.args.pool.now) c.loop.frames.items c.args.count c.loop.counter c.loop.rest.now (many (frame_at c.args.pool.now) c.args.count c.args.bytes.now) c.loop-test.false c.loop.invariant)
+returns c = is_done (frame_at c.args.pool.now) c.loop.frames c.args.count c.loop.counter c.loop.rest.now (many (frame_at c.args.pool.now) c.args.count c.args.bytes.now) c.loop-test.false c.loop.invariant

@@ -5,4 +5,4 @@ use Rattle.kilim_attribute_parts.specs.Frames.{frame_at}
 use Rattle.kilim_attribute_parts.proofs.frame_reading.so_many_frames_at.Given as goal
 
 abbrev pub invariant-loop : goal.invariant-loop
-invariant-loop l = with_front l.frames.items (many (frame_at l.pool) (l.count - l.counter) l.rest) ≡ many (frame_at l.pool) l.count l.bytes
+invariant-loop l = with_front l.frames (many (frame_at l.pool) (l.count - l.counter) l.rest) ≡ many (frame_at l.pool) l.count l.bytes

@@ -9,11 +9,11 @@ use Rattle.kilim_attribute_parts.proofs.frame_reading.types_at.Goals as goal
 pub returns-in_err-item : goal.returns-in_err-item
 returns-in_err-item c =
     let p = err_from_is_err_and c.from_residual.result c.from_residual.ensures.1 in
-    rw (p.1, p.2) (stops (type_at c.args.pool.now) Memory c.in_err-item.field-0.0 c.loop.types.items c.args.count c.loop.counter c.loop.rest.now (many (type_at c.args.pool.now) c.args.count c.args.bytes.now) c.loop-test.true (inr c.in_err-item.ensures) c.loop.invariant)
+    rw (p.1, p.2) (stops (type_at c.args.pool.now) Memory c.in_err-item.field-0.0 c.loop.types c.args.count c.loop.counter c.loop.rest.now (many (type_at c.args.pool.now) c.args.count c.args.bytes.now) c.loop-test.true (inr c.in_err-item.ensures) c.loop.invariant)
 
 pub loop-preserved : goal.loop-preserved
 loop-preserved c =
-    rw c.in_ok-push.ensures.items (goes_on (type_at c.args.pool.now) c.loop.types.items c.args.count c.loop.counter c.loop.rest.now c.in_ok-item.item c.in_ok-item.after.now (many (type_at c.args.pool.now) c.args.count c.args.bytes.now) c.loop-test.true c.in_ok-item.ensures c.loop.invariant)
+    rw c.in_ok-push.ensures.ok (goes_on (type_at c.args.pool.now) c.loop.types c.args.count c.loop.counter c.loop.rest.now c.in_ok-item.item c.in_ok-item.after.now (many (type_at c.args.pool.now) c.args.count c.args.bytes.now) c.loop-test.true c.in_ok-item.ensures c.loop.invariant)
 
 pub returns : goal.returns
-returns c = rw c.from_vec.ensures (is_done (type_at c.args.pool.now) c.loop.types.items c.args.count c.loop.counter c.loop.rest.now (many (type_at c.args.pool.now) c.args.count c.args.bytes.now) c.loop-test.false c.loop.invariant)
+returns c = is_done (type_at c.args.pool.now) c.loop.types c.args.count c.loop.counter c.loop.rest.now (many (type_at c.args.pool.now) c.args.count c.args.bytes.now) c.loop-test.false c.loop.invariant

@@ -5,4 +5,4 @@ use Rattle.kilim_attribute_parts.specs.Frames.{type_at}
 use Rattle.kilim_attribute_parts.proofs.frame_reading.types_at.Given as goal
 
 abbrev pub invariant-loop : goal.invariant-loop
-invariant-loop l = with_front l.types.items (many (type_at l.pool) (l.count - l.counter) l.rest) ≡ many (type_at l.pool) l.count l.bytes
+invariant-loop l = with_front l.types (many (type_at l.pool) (l.count - l.counter) l.rest) ≡ many (type_at l.pool) l.count l.bytes

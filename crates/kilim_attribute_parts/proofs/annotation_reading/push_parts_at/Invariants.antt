@@ -3,12 +3,12 @@ use Rattle.kilim_grammar.proofs.Bytes.{IsBytes}
 use Rattle.kilim_attribute_parts.specs.Annotations.{asks, part_at, parts_at}
 use Rattle.kilim_attribute_parts.proofs.Sentences.{LeadsTo}
 use Rattle.kilim_attribute_parts.proofs.Pending.{pending}
-use Rattle.kilim_attribute_parts.proofs.annotation_reading.parts_at.Given as goal
+use Rattle.kilim_attribute_parts.proofs.annotation_reading.push_parts_at.Given as goal
 
 abbrev pub invariant-loop-next : goal.invariant-loop-next
 invariant-loop-next l = record {
   fit : IsBytes l.rest;
-  leads : LeadsTo l.ends (part_at l.pool l.ends) asks l.parts.items (pending l.to_come.items) l.rest (parts_at l.pool l.ends l.fn.kind l.bytes);
+  leads : LeadsTo l.ends (part_at l.pool l.ends) asks l.parts (pending l.to_come.items) l.rest (parts_at l.pool l.ends l.fn.kind l.bytes);
 }
 
 abbrev pub decreases-loop-next : goal.decreases-loop-next
