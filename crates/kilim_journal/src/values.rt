@@ -245,7 +245,7 @@ pub fn shape_at(alloc: Global, bytes: &[u8]) -> Result<Option<Shape>, NoMemory>
     ensures right { (ts : List Part) (x : List ℕ) → is_value ts ≡ true → ShapeFits ts → bytes.now ≡ shape_text ts ++ (10 ∷ x) → IfOk result (λ found. found ≡ Some ts) }
     ensures value { IfOk result (λ found. IfSome found (λ shape. (is_value shape ≡ true) × ShapeFits shape)) }
 {
-    let mut tokens = Vec::new(alloc);
+    let mut tokens = Seq::new(alloc);
     let mut begun = 0;
     let mut follows = false;
     let mut rest = bytes;
@@ -258,7 +258,7 @@ pub fn shape_at(alloc: Global, bytes: &[u8]) -> Result<Option<Shape>, NoMemory>
                     follows = is_followed(&token);
                     tokens.push(token)?;
                     if now == 0 {
-                        return Ok(Some(Seq::from_vec(tokens)));
+                        return Ok(Some(tokens));
                     }
                     begun = now;
                     rest = behind;

@@ -4,11 +4,11 @@ use Rattle.kilim_journal.proofs.values.shape_at.Goals as goal
 
 pub loop-rest-preserved : goal.loop-rest-preserved
 loop-rest-preserved c =
-    shape_goes_on _ _ _ _ _ _ _ _ _ _ c.loop-rest.invariant (λ t x fits ended e. rw c.in-Some.is at (c.in_ok-next_at.ensures.right t x fits ended e)) (rw c.in-Some.is at c.in_ok-next_at.ensures.fits) (sym c.in_ok-begun_behind-in-Some.ensures ∙ c.in-Some-2.is) c.if-now-eq0.false c.is_followed-follows.ensures c.in_ok-push-in-Some-2.ensures.items
+    shape_goes_on _ _ _ _ _ _ _ _ _ _ c.loop-rest.invariant (λ t x fits ended e. rw c.in-Some.is at (c.in_ok-next_at.ensures.right t x fits ended e)) (rw c.in-Some.is at c.in_ok-next_at.ensures.fits) (sym c.in_ok-begun_behind-in-Some.ensures ∙ c.in-Some-2.is) c.if-now-eq0.false c.is_followed-follows.ensures c.in_ok-push-in-Some-2.ensures.ok
 
 pub returns-then-now-eq0-clause-right : goal.returns-then-now-eq0-clause-right
 returns-then-now-eq0-clause-right c ts x value fits text =
-    same_shape _ _ (c.from_vec.ensures ∙ shape_ends _ _ _ _ _ _ _ _ _ c.loop-rest.invariant (λ t x fits ended e. rw c.in-Some.is at (c.in_ok-next_at.ensures.right t x fits ended e)) (sym c.in_ok-begun_behind-in-Some.ensures ∙ c.in-Some-2.is) c.if-now-eq0.true c.in_ok-push-in-Some-2.ensures.items ts x value fits text)
+    same_shape _ _ (shape_ends _ _ _ _ _ _ _ _ _ c.loop-rest.invariant (λ t x fits ended e. rw c.in-Some.is at (c.in_ok-next_at.ensures.right t x fits ended e)) (sym c.in_ok-begun_behind-in-Some.ensures ∙ c.in-Some-2.is) c.if-now-eq0.true c.in_ok-push-in-Some-2.ensures.ok ts x value fits text)
 
 pub returns-in-None-clause-right : goal.returns-in-None-clause-right
 returns-in-None-clause-right c ts x value fits text =

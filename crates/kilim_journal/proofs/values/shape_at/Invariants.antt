@@ -3,7 +3,7 @@ use Rattle.kilim_journal.proofs.ShapesRead.{ShapeSoFar}
 use Rattle.kilim_journal.proofs.values.shape_at.Given as goal
 
 abbrev pub invariant-loop-rest : goal.invariant-loop-rest
-invariant-loop-rest l = ShapeSoFar l.bytes l.tokens.items l.begun l.follows l.rest
+invariant-loop-rest l = ShapeSoFar l.bytes l.tokens l.begun l.follows l.rest
 
 abbrev pub decreases-loop-rest : goal.decreases-loop-rest
 decreases-loop-rest l = length l.rest
