@@ -8,7 +8,7 @@ ghost use Rattle.kilim_link_spec.specs.declared.view.Marks.TheVariants.{Stated};
 ghost use Rattle.kilim_link_spec.specs.World.{result_descriptor, method_descriptor, declared_built_in, view_of_built_in, built_ins};
 
 use crate::built_ins::{built_in_classes, built_in_methods};
-use kilim_classes::lookups::method_at;
+use kilim_classes::lookups::{class_at, method_at};
 use kilim_classes::{Base, Class, ClassId, Form, Method, MethodId, Program, Ty, built_in_keeps};
 use kilim_link_spec::{ClassView, DeclaredMethod, Marks};
 use kilim_units::{NoMemory, Seq, Units};
@@ -33,7 +33,7 @@ fn built_ins(alloc: Global, form: Form) -> Result<Program, NoMemory>
 fn class_name(program: &Program, class: ClassId) -> &[u16]
     ensures { result.now ≡ class_name program.now class }
 {
-    match program.classes.as_slice().get(class.0 as usize) {
+    match class_at(program, class) {
         Some(found) => found.name.as_slice(),
         None => &[],
     }
@@ -97,6 +97,20 @@ fn push_result(text: &mut Vec<u16>, program: &Program, gives: Option<Ty>) -> Res
     Ok(())
 }
 
+// Appends the descriptor of a method.
+fn push_method_descriptor(
+    text: &mut Vec<u16>,
+    program: &Program,
+    method: &Method,
+) -> Result<(), NoMemory>
+    ensures { OnOk result (text.new.items ≡ text.old.items ++ method_descriptor program.now method.now) }
+{
+    text.push(40)?;
+    push_types(text, program, method.params.as_slice())?;
+    text.push(41)?;
+    push_result(text, program, method.result)
+}
+
 /// The descriptor of a method of a program (JVMS 4.3.3).
 pub fn method_descriptor(
     alloc: Global,
@@ -106,10 +120,7 @@ pub fn method_descriptor(
     ensures { IfOk result (λ text. text ≡ method_descriptor program.now method.now) }
 {
     let mut text = Vec::new(alloc);
-    text.push(40)?;
-    push_types(&mut text, program, method.params.as_slice())?;
-    text.push(41)?;
-    push_result(&mut text, program, method.result)?;
+    push_method_descriptor(&mut text, program, method)?;
     Ok(Units::from_vec(alloc, text)?)
 }
 

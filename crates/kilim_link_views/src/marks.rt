@@ -1,6 +1,6 @@
 //! The annotations on members and on parameters, by their types (JVMS 4.7.16 to 4.7.19).
 
-ghost use Rattle.std.specs.Prelude.{◌≡◌, ◌++◌, zero, map, option_to_list, IfOk, OnOk};
+ghost use Rattle.std.specs.Prelude.{◌≡◌, ◌++◌, ◌∷◌, [], zero, map, option_to_list, IfOk, OnOk};
 ghost use Rattle.std.specs.List.{flat_map, filter_map};
 ghost use Rattle.std.specs.Option.{option_copied};
 ghost use Rattle.kilim_attribute_parts.specs.Annotations.{asked};
@@ -104,6 +104,15 @@ pub fn params_in(alloc: Global, parts: &[AnnotationPart]) -> Result<Seq<Seq<u16>
     lists_of(alloc, outer.as_slice())
 }
 
+// Appends the text of an index.
+fn push_text(alloc: Global, texts: &mut Seq<Units>, pool: &Pool, index: u16) -> Result<(), NoMemory>
+    ensures { OnOk result (texts.new ≡ texts.old ++ text_of pool.now index ∷ []) }
+{
+    let text = Units::from_slice(alloc, text_of(pool, index))?;
+    texts.push(text)?;
+    Ok(())
+}
+
 // Appends the types of the parts that are annotations.
 fn push_types(
     alloc: Global,
@@ -115,7 +124,7 @@ fn push_types(
 {
     for part in outer {
         if let AnnotationPart::Annotation(ty, _) = part {
-            types.push(Units::from_slice(alloc, text_of(pool, *ty))?)?;
+            push_text(alloc, types, pool, *ty)?;
         }
     }
     Ok(())
@@ -179,7 +188,7 @@ fn texts_of(alloc: Global, pool: &Pool, indices: &[u16]) -> Result<Seq<Units>, N
 {
     let mut texts = Seq::new(alloc);
     for index in indices {
-        texts.push(Units::from_slice(alloc, text_of(pool, *index))?)?;
+        push_text(alloc, &mut texts, pool, *index)?;
     }
     Ok(texts)
 }
