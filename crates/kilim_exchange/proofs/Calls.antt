@@ -52,6 +52,9 @@ module _ {F : Type 0} (task : F → ℕ) (course : F → Course) (holds : Settin
   pub course_of_state : (b : Board F) (st : Stand b) (t : ℕ) (c : Course) → CourseAt b t c → slice_get st.state.books.courses t ≡ Some c
   course_of_state b st t c at = subst (λ (x : Books). slice_get x.courses t ≡ Some c) (some_injective at.0 st.state.books (sym at.1 ∙ st.replay.books)) at.2
 
+  pub same_stands : (b b' : Board F) → SameBoard b b' → Stand b → Stand b'
+  same_stands b b' same st = same_board task course holds set b b' same.run.journal same.run.tasks same.spots.ready same.spots.parked same.spots.cells same.run.mails same.spots.stopped st
+
   -- ---- lending and giving back
 
   pub lend_stands : (b b' : Board F) (seat : ℕ) (f : F) → slice_get b.cells seat ≡ Some None → Lends task b seat b' f → Stand b → Stand b' × StandsFor task course holds set f × CourseAt b' (task f) (course f)

@@ -1,5 +1,5 @@
 -- Giving back, the first board, and the close.
-use Rattle.std.proofs.Common.{◌≡◌, ℕ, zero, suc, ◌+◌, ◌<◌, Bool, true, false, cond, ◌==◌, List, [], ◌∷◌, ◌++◌, Option, Some, None, refl, sym, ap, subst, ◌∙◌, inl, inr, arith, get_or}
+use Rattle.std.proofs.Common.{◌≡◌, ℕ, zero, suc, ◌+◌, ◌<◌, ◌≤◌, Bool, true, false, cond, ◌==◌, List, [], ◌∷◌, ◌++◌, Option, Some, None, refl, sym, ap, subst, ◌∙◌, inl, inr, arith, get_or}
 use Rattle.std.specs.Prelude.{length, slice_get, slice_set, slice_index_or, drop, if◌then◌else◌, replicate}
 use Rattle.std.proofs.lemmas.Bool.Decides.{nat_tests}
 use Rattle.std.proofs.lemmas.Option.{get_or_from_slice_get}
@@ -12,7 +12,15 @@ use Rattle.kilim_fibers.specs.Fibers.{StandsFor}
 use Rattle.kilim_fibers.specs.declared.waiting.parked.Waiter.{Waiter}
 use Rattle.kilim_exchange.specs.Places.{Ready, is_task, Stood}
 use Rattle.kilim_exchange.specs.Board.{Board, BoardStands, is_alive, stands_in, to_serve, lent_of, closing, parked_box, AreBoxes, IsQuiet}
-use Rattle.kilim_exchange.specs.Seen.{CourseAt, GiveAnswers, gives_at, RestsAs, IsNewBoard, MovedWhole}
+use Rattle.std.specs.Vec.{vec_capacity}
+use Rattle.std.specs.VecDeque.{deque_capacity}
+use Rattle.kilim_classes.specs.declared.machine.value.Token.{Token}
+use Rattle.kilim_fibers.specs.declared.Wants.{Wants}
+use Rattle.kilim_fibers.specs.declared.Wants.TheVariants as wants
+use Rattle.kilim_fibers.specs.waiting.Mailboxes.{mail_of, Tree}
+use Rattle.kilim_fibers.proofs.waiting.Named.{counted_same}
+use Rattle.kilim_exchange.specs.declared.board.Board as kept
+use Rattle.kilim_exchange.specs.Seen.{seen, IsRoomy, RoomFor, SameBoard, CourseAt, GiveAnswers, gives_at, RestsAs, IsNewBoard, MovedWhole}
 use Rattle.kilim_exchange.proofs.Places.{front}
 use Rattle.kilim_fibers.proofs.waiting.Names.{both_ways}
 use Rattle.kilim_exchange.proofs.Boards.{same_board, quiet_at_rest}
@@ -185,6 +193,9 @@ not_same a b n = elim (both_ways (a == b)) [ inl is ↦ absurd (n (grind (arith,
 pub same_cell : (cells : List (Option ℕ)) (seat t u : ℕ) (o : Option ℕ) → slice_get cells seat ≡ Some (Some t) → o ≡ get_or cells seat o → o ≡ Some u → u ≡ t
 same_cell cells seat t u o e f g = let h : get_or cells seat o ≡ Some t = get_or_from_slice_get cells seat (Some t) o e in let k : Some u ≡ Some t = sym g ∙ (f ∙ h) in cc
 
+pub not_lent : (cells : List (Option ℕ)) (seat t : ℕ) (o : Option ℕ) → slice_get cells seat ≡ Some (Some t) → o ≡ get_or cells seat o → o ≡ None → ⊥
+not_lent cells seat t o e f g = let h : get_or cells seat o ≡ Some t = get_or_from_slice_get cells seat (Some t) o e in let k : None ≡ Some t = sym g ∙ (f ∙ h) in cc
+
 module _ {F : Type 0} (task : F → ℕ) where
   nothing_more : (es : List Entry) → es ≡ es ++ []
   nothing_more [] = refl
@@ -198,3 +209,27 @@ module _ {F : Type 0} (task : F → ℕ) where
 
   pub closes_some : (j l l' : List Entry) (ws : List (Waiter F)) (n : ℕ) (o : Option BoxName) (box : BoxName) → o ≡ parked_box task ws n → o ≡ Some box → l ≡ j ++ closing task ws 0 n → l' ≡ l ++ wait_entry n (Some box) → l' ≡ j ++ closing task ws 0 (n + 1)
   closes_some j l l' ws n o box is some e f = closes j l l' ws n o is e (f ∙ ap (λ x. l ++ wait_entry n x) (sym some))
+
+-- what makes room keeps the room that there is
+pub roomy_as : {F : Type 0} (b b' : kept.Board F) → IsRoomy b → SameBoard (seen b) (seen b') → deque_capacity b.ready ≤ deque_capacity b'.ready → b.parked.room ≤ b'.parked.room → IsRoomy b'
+roomy_as b b' r s ready parked =
+    let f = r.fits in
+    let m = r.ready in
+    let k = r.parked in
+    let w = r.few in
+    let t = s.run.tasks in
+    let i = ap length s.spots.ready in
+    let j = ap length s.spots.parked in
+    let l = ap (λ cells. length (lent_of cells)) s.spots.cells in
+    let n = ap length s.run.journal in
+    record { fits = omega arith; ready = omega arith; parked = omega arith; few = omega arith; counted = counted_same (mail_of b.mailboxes) (mail_of b'.mailboxes) (length b.journal.items) (length b'.journal.items) r.counted s.run.mails (omega arith) }
+
+-- where neither a message is put nor a task started, room in the journal is enough
+pub room_else : {F : Type 0} (b : kept.Board F) (w : Wants F) → ((box : BoxName) (tree : Tree) (shape : List Token) → w ≡ wants.Put box tree shape → ⊥) → ((f : F) (shape : List Token) → w ≡ wants.Start f shape → ⊥) → length b.journal.items < vec_capacity b.journal → RoomFor b w
+room_else b (wants.Put box tree shape) no-put no-start lt = absurd (no-put box tree shape refl)
+room_else b (wants.Start f shape) no-put no-start lt = absurd (no-start f shape refl)
+room_else b (wants.Take box) no-put no-start lt = lt
+room_else b (wants.Probe box) no-put no-start lt = lt
+room_else b (wants.Print shape) no-put no-start lt = lt
+room_else b (wants.Rest waits) no-put no-start lt = tt
+room_else b (wants.End why) no-put no-start lt = lt

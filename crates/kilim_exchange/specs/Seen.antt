@@ -14,7 +14,6 @@ use Rattle.kilim_classes.specs.declared.machine.cause.EndCause.TheVariants as ca
 use Rattle.kilim_journal.specs.declared.entry.Act.TheVariants as act
 use Rattle.kilim_thread_model.specs.State.{Setting}
 use Rattle.kilim_thread_model.specs.Turn.{task_limit}
-use Rattle.kilim_classes.specs.declared.machine.value.Token.{Token}
 use Rattle.kilim_journal.specs.declared.entry.Entry.{Entry}
 use Rattle.kilim_fibers.specs.Fibers.{StandsAt, StandsFor}
 use Rattle.kilim_fibers.specs.Fibers.{NewCourse, Fits, course_after}
@@ -138,11 +137,6 @@ abbrev pub ProbeAnswers : {F : Type 0} → Board F → ℕ → Board F → BoxNa
 ProbeAnswers b t b' box (acted.Answer (answer.Message tree n)) = (rest : List (ℕ × Tree)) × TakesMessage b t b' box n tree rest
 ProbeAnswers b t b' box (acted.Answer answer.Nothing) = ((b.mails box).queue ≡ []) × Notes b t b' (act.Empty box)
 ProbeAnswers b t b' box a = ⊥
-
-abbrev pub StartAnswers : {F : Type 0} → (F → F → ℕ → Type 0) → Board F → (seat t : ℕ) → Board F → F → List Token → Acted → Type 0
-StartAnswers {F} numbered b seat t b' f shape (acted.Answer (answer.Started k)) = (f' : F) × numbered f f' k × (k ≡ b.tasks) × (b.tasks < task_limit) × StartsTask b t b' f' shape
-StartAnswers numbered b seat t b' f shape acted.OutOfTasks = (b.tasks ≡ task_limit) × EndsTask b seat t b' cause.Tasks
-StartAnswers numbered b seat t b' f shape a = ⊥
 
 -- what is lent stands for its task's part of the journal
 abbrev pub LentStands : {F : Type 0} → (F → ℕ) → (F → Course) → (Setting → F → Lone → Type 0) → Setting → Board F → Lent F → Type 0

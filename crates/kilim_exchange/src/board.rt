@@ -8,9 +8,10 @@ ghost use Rattle.kilim_thread_model.specs.Turn.{task_limit};
 ghost use Rattle.kilim_thread_model.specs.Course.{Course};
 ghost use Rattle.kilim_thread_model.specs.declared.deed.Beginning.TheVariants.{Boot, Begun};
 ghost use Rattle.kilim_fibers.specs.Fibers.{StandsFor};
+ghost use Rattle.kilim_fibers.specs.declared.Wants.TheVariants as wanted;
 ghost use Rattle.kilim_fibers.specs.waiting.Mailboxes.{HasRoom};
 ghost use Rattle.kilim_exchange.specs.Board.{BoardStands, lent_of, closing, AreBoxes, IsQuiet, Stops, PutsMessage, Notes, EndsTask, StartsTask};
-ghost use Rattle.kilim_exchange.specs.Seen.{seen, IsRoomy, LendAnswers, GiveAnswers, TakeAnswers, IsNumbered, ActAnswers, ProbeAnswers, StartAnswers, RoomFor, IsActable, SameBoard, CourseAt, ActMeets, IsAnswered, wish_in, LentStands, RestsAs, IsNewBoard, MovedWhole};
+ghost use Rattle.kilim_exchange.specs.Seen.{seen, IsRoomy, LendAnswers, GiveAnswers, TakeAnswers, IsNumbered, ActAnswers, ProbeAnswers, RoomFor, IsActable, SameBoard, CourseAt, ActMeets, IsAnswered, wish_in, LentStands, RestsAs, IsNewBoard, MovedWhole};
 
 use kilim_classes::BoxName;
 use kilim_classes::machine::{EndCause, Shape};
@@ -227,10 +228,7 @@ impl<F: Fibers> Board<F> {
                 Ok(())
             }
             Wants::Take(mailbox) => self.parked.make_places(*mailbox, self.cells.len()),
-            Wants::Probe(_) => Ok(()),
-            Wants::Print(_) => Ok(()),
-            Wants::Rest(_) => Ok(()),
-            Wants::End(_) => Ok(()),
+            _ => Ok(()),
         }
     }
 
@@ -306,7 +304,7 @@ impl<F: Fibers> Board<F> {
         requires roomy { IsRoomy self.old }
         requires room { (length self.old.journal.items < vec_capacity self.old.journal) × (self.old.tasks + 1 ≤ deque_capacity self.old.ready) × (self.old.tasks + 1 ≤ self.old.parked.room) }
         requires begun { (F.course_of fiber ≡ record { beginning = Begun shape; deeds = [] }) × (F.count_of fiber ≡ 0) }
-        ensures effect { StartAnswers (IsNumbered F.task_of F.course_of F.count_of F.refused F.holds) (seen self.old) seat task (seen self.new) fiber shape result }
+        ensures effect { ActAnswers (IsNumbered F.task_of F.course_of F.count_of F.refused F.holds) (seen self.old) seat task (seen self.new) (wanted.Start fiber shape) result }
         ensures roomy { IsRoomy self.new }
     {
         let number = self.tasks;
@@ -327,7 +325,7 @@ impl<F: Fibers> Board<F> {
         ensures rest { (set : Setting) → BoardStands F.task_of F.course_of F.holds set (seen self) → self.stopped ≡ false → IsQuiet (seen self) → IfOk result (λ es. MovedWhole set es.items) }
     {
         let Board {
-            mut journal,
+            journal,
             tasks,
             ready: _,
             parked,
@@ -336,29 +334,30 @@ impl<F: Fibers> Board<F> {
             stopped: _,
         } = self;
         let waiters = parked.into_list()?;
-        let boxes = parked_boxes(mailboxes.alloc, waiters.as_slice(), tasks as usize)?;
-        for t in 0..tasks {
-            match parked_at(&boxes, t) {
-                Some(mailbox) => journal.push(Entry {
-                    task: t,
-                    act: Act::Wait(mailbox),
-                })?,
-                None => {}
-            }
-        }
-        Ok(journal)
+        with_waits(journal, mailboxes.alloc, waiters.as_slice(), tasks)
     }
 }
 
-// So many places in which nothing is.
-fn empty_places<T: Drop>(alloc: Global, count: usize) -> Result<Vec<Option<T>>, NoMemory>
-    ensures { IfOk result (λ places. places.items ≡ replicate count None) }
+// A journal with an entry for each of so many tasks that is parked, by increasing number.
+fn with_waits<F: Fibers>(
+    mut journal: Vec<Entry>,
+    alloc: Global,
+    waiters: &[Waiter<F>],
+    tasks: u32,
+) -> Result<Vec<Entry>, NoMemory>
+    ensures { IfOk result (λ es. es.items ≡ journal.items ++ closing F.task_of waiters.now 0 tasks) }
 {
-    let mut places = Vec::new(alloc);
-    for i in 0..count {
-        places.push(None)?;
+    let boxes = parked_boxes(alloc, waiters, tasks as usize)?;
+    for t in 0..tasks {
+        match parked_at(&boxes, t) {
+            Some(mailbox) => journal.push(Entry {
+                task: t,
+                act: Act::Wait(mailbox),
+            })?,
+            None => {}
+        }
     }
-    Ok(places)
+    Ok(journal)
 }
 
 // The mailbox of a task, where it is one of those that are asked for.
@@ -379,7 +378,8 @@ fn parked_boxes<F: Fibers>(
 ) -> Result<Vec<Option<BoxName>>, NoMemory>
     ensures { IfOk result (λ boxes. AreBoxes F.task_of waiters.now tasks boxes.items) }
 {
-    let mut boxes = empty_places(alloc, tasks)?;
+    let mut boxes = Vec::new(alloc);
+    boxes.resize(tasks, None)?;
     let mut left = waiters.len();
     while left > 0 {
         left -= 1;
@@ -397,24 +397,37 @@ fn parked_at(boxes: &Vec<Option<BoxName>>, t: u32) -> Option<BoxName>
     boxes[t as usize]
 }
 
+// Makes room for the first fiber, and so many cells, which are empty.
+fn furnish<F: Fibers>(board: &mut Board<F>, seats: usize) -> Result<(), NoMemory>
+    requires { board.old.cells.items ≡ [] }
+    ensures same { (board.new.journal.items ≡ board.old.journal.items) × (board.new.tasks ≡ board.old.tasks) × (board.new.ready.items ≡ board.old.ready.items) × (board.new.parked.items ≡ board.old.parked.items) × (board.new.mailboxes ≡ board.old.mailboxes) × (board.new.stopped ≡ board.old.stopped) }
+    ensures room { OnOk result ((board.new.cells.items ≡ replicate seats None) × (1 ≤ deque_capacity board.new.ready) × (1 ≤ board.new.parked.room)) }
+{
+    board.cells.resize(seats, None)?;
+    board.ready.reserve(1)?;
+    board.parked.reserve(1)
+}
+
 // A board without fibers.
 fn bare<F: Fibers>(alloc: Global, seats: usize) -> Result<Board<F>, NoMemory>
     ensures { IfOk result (λ b. (b.journal.items ≡ []) × (b.tasks ≡ 1) × (b.ready.items ≡ []) × (b.parked.items ≡ []) × (b.mailboxes.by_name.entries ≡ []) × (b.cells.items ≡ replicate seats None) × (b.stopped ≡ false) × (1 ≤ deque_capacity b.ready) × (1 ≤ b.parked.room)) }
 {
-    let cells = empty_places(alloc, seats)?;
-    let mut ready = VecDeque::new(alloc);
-    ready.reserve(1)?;
-    let mut parked = Parked::new(alloc);
-    parked.reserve(1)?;
-    Ok(Board {
+    let mut board = Board {
         journal: Vec::new(alloc),
         tasks: 1,
-        ready,
-        parked,
+        ready: VecDeque::new(alloc),
+        parked: Parked::new(alloc),
         mailboxes: Mailboxes::new(alloc),
-        cells,
+        cells: Vec::new(alloc),
         stopped: false,
-    })
+    };
+    match furnish(&mut board, seats) {
+        Ok(()) => Ok(board),
+        Err(fault) => {
+            drop(board);
+            Err(fault)
+        }
+    }
 }
 
 impl<F: Fibers> Board<F> {

@@ -12,3 +12,6 @@ returns-clause-roomy g c =
     let f = r.fits in
     let l = longer c.args.self.now.journal.items c.note.new.journal.items _ c.note.ensures in
     record { fits = omega arith; ready = r.ready; parked = r.parked; few = r.few; counted = counted_same (mail_of c.args.self.now.mailboxes) (mail_of c.args.self.now.mailboxes) (length c.args.self.now.journal.items) (length c.note.new.journal.items) r.counted (λ box. refl) (omega arith) }
+
+pub returns-clause-effect : goal.returns-clause-effect
+returns-clause-effect g c = record { journal = c.note.ensures; tasks = refl; mails = λ box. refl; ready = refl; parked = refl; cells = refl; stopped = refl }
