@@ -14,6 +14,7 @@ use Rattle.kilim_shape_graph.specs.declared.node.Standing.{Standing}
 use Rattle.kilim_shape_graph.specs.declared.node.Standing.TheVariants.{Root}
 use Rattle.kilim_shape_graph.specs.Nodes.{is_root, is_safe, is_gone, new_region}
 use Rattle.kilim_shape_graph.specs.Graphs.{node_of, push, added}
+use Rattle.kilim_isolation_rules.specs.declared.deed.Broken.{Broken}
 use Rattle.kilim_isolation_rules.specs.declared.deed.Deed.{Deed}
 
 -- ---- nodes of slots
@@ -61,6 +62,13 @@ flow_mixes p f d = any_mixes p f.locals d.locals || any_mixes p f.stack d.stack
 -- no rule is broken
 abbrev pub plain : Graph → Deed
 plain g = record { not_free = false; gone = false; safe_changed = false; cycle = false; shared = false; mixed = false; not_cuttable = false; graph = g }
+
+abbrev pub none_broken : Broken
+none_broken = record { not_free = false; gone = false; safe_changed = false; cycle = false; shared = false; mixed = false; not_cuttable = false }
+
+-- what leaves a graph and breaks these rules
+abbrev pub marked : Broken → Graph → Deed
+marked b g = record { not_free = b.not_free; gone = b.gone; safe_changed = b.safe_changed; cycle = b.cycle; shared = b.shared; mixed = b.mixed; not_cuttable = b.not_cuttable; graph = g }
 
 -- a root is the head of a new region
 abbrev pub root_node : Graph → Node

@@ -1,15 +1,15 @@
 //! Calls: the arguments with their rules, and then the result.
 
-ghost use Rattle.std.specs.Prelude.{◌≡◌, ◌++◌, [], length, reverse, take, IfOk, option_copied};
+ghost use Rattle.std.specs.Prelude.{◌≡◌, ◌++◌, [], length, reverse, take, IfOk, OnOk, option_copied};
 ghost use Rattle.std.specs.List.{list_any};
 ghost use Rattle.kilim_classes.specs.Same.{is_constructor};
 ghost use Rattle.kilim_isolation_rules.specs.Calls as spec;
+ghost use Rattle.kilim_isolation_rules.specs.Marks.{marked};
 ghost use Rattle.kilim_shape_graph.specs.Graphs.{popped, slot};
 ghost use Rattle.kilim_typing.specs.Step.{peek};
 
-use crate::deed::{Deed, Passed};
-use crate::fields::plain;
-use crate::growth::{given, popped, with_nodes};
+use crate::deed::{Broken, Passed, none_broken};
+use crate::growth::{give, pop};
 use crate::marks::{mixes, names_no_root, names_safe};
 use crate::shuffles::first;
 use crate::steps::{cut, give_away};
@@ -237,80 +237,79 @@ fn all_passed(
 }
 
 // What is left of a graph by one argument.
-fn after_passed(
+fn pass(
     alloc: Global,
     program: &Program,
-    graph: Graph,
+    graph: &mut Graph,
     argument: &Passed,
-) -> Result<Graph, NoMemory>
-    ensures { IfOk result (λ new. new ≡ spec.after_arguments (spec.more_arguments (spec.quality_in program.now argument.now) argument.now.name []) graph) }
+) -> Result<(), NoMemory>
+    ensures { OnOk result (graph.new ≡ spec.after_arguments (spec.more_arguments (spec.quality_in program.now argument.now) argument.now.name []) graph.old) }
 {
     let Some(name) = argument.name else {
-        return Ok(graph);
+        return Ok(());
     };
     match quality_in(program, argument) {
         Some(Qualifier::Free) => {
-            let nodes = give_away(alloc, graph.nodes.as_slice(), name)?;
-            Ok(with_nodes(graph, nodes))
+            graph.nodes = give_away(alloc, graph.nodes.as_slice(), name)?;
+            Ok(())
         }
         Some(Qualifier::Cuttable) => {
-            let nodes = cut(alloc, graph.nodes.as_slice(), name, None, 0)?;
-            Ok(with_nodes(graph, nodes))
+            graph.nodes = cut(alloc, graph.nodes.as_slice(), name, None, 0)?;
+            Ok(())
         }
-        Some(Qualifier::Safe) | None => Ok(graph),
+        Some(Qualifier::Safe) | None => Ok(()),
     }
 }
 
 // What is left of a graph by the arguments of a call.
-fn after_call(
+fn pass_all(
     alloc: Global,
     program: &Program,
     arguments: &[Passed],
-    graph: &Graph,
-) -> Result<Graph, NoMemory>
-    ensures { IfOk result (λ new. new ≡ spec.after_call program.now arguments.now graph.now) }
+    graph: &mut Graph,
+) -> Result<(), NoMemory>
+    ensures { OnOk result (graph.new ≡ spec.after_call program.now arguments.now graph.old) }
 {
-    let mut after = popped(alloc, graph, 0)?;
     for argument in arguments {
-        after = after_passed(alloc, program, after, argument)?;
+        pass(alloc, program, graph, argument)?;
     }
-    Ok(after)
+    Ok(())
 }
 
-// The graph without the arguments of a call.
+// Takes the arguments of a call.
 #[tactic(auto, using(crate::proofs::Slots::drop_both, crate::proofs::Slots::drop_none))]
-fn without_arguments(alloc: Global, callee: &Method, graph: &Graph) -> Result<Graph, NoMemory>
-    ensures { IfOk result (λ new. new ≡ popped (spec.takes_from callee.now) graph.now) }
+fn pop_arguments(alloc: Global, callee: &Method, graph: &mut Graph) -> Result<(), NoMemory>
+    ensures { OnOk result (graph.new ≡ popped (spec.takes_from callee.now) graph.old) }
 {
-    let below = popped(alloc, graph, callee.params.len())?;
+    pop(alloc, graph, callee.params.len())?;
     if callee.is_static {
-        return Ok(below);
+        return Ok(());
     }
-    popped(alloc, &below, 1)
+    pop(alloc, graph, 1)
 }
 
-fn given_result(program: &Program, result_ty: Option<Ty>, graph: Graph) -> Result<Graph, NoMemory>
-    ensures { IfOk result (λ new. new ≡ spec.given_result program.now result_ty graph) }
+fn give_result(program: &Program, result_ty: Option<Ty>, graph: &mut Graph) -> Result<(), NoMemory>
+    ensures { OnOk result (graph.new ≡ spec.given_result program.now result_ty graph.old) }
 {
     match result_ty {
-        None => Ok(graph),
-        Some(ty) => given(graph, program.kind(&ty)),
+        None => Ok(()),
+        Some(ty) => give(graph, program.kind(&ty)),
     }
 }
 
 // The graph after a call.
-fn after(
+fn call(
     alloc: Global,
     program: &Program,
     callee: &Method,
     arguments: &[Passed],
-    graph: &Graph,
-) -> Result<Graph, NoMemory>
-    ensures { IfOk result (λ new. new ≡ spec.given_result program.now callee.now.result (popped (spec.takes_from callee.now) (spec.after_call program.now arguments.now graph.now))) }
+    graph: &mut Graph,
+) -> Result<(), NoMemory>
+    ensures { OnOk result (graph.new ≡ spec.given_result program.now callee.now.result (popped (spec.takes_from callee.now) (spec.after_call program.now arguments.now graph.old))) }
 {
-    let passed = after_call(alloc, program, arguments, graph)?;
-    let below = without_arguments(alloc, callee, &passed)?;
-    given_result(program, callee.result, below)
+    pass_all(alloc, program, arguments, graph)?;
+    pop_arguments(alloc, callee, graph)?;
+    give_result(program, callee.result, graph)
 }
 
 // A call with these arguments.
@@ -319,30 +318,31 @@ fn call_with(
     program: &Program,
     callee: &Method,
     arguments: &[Passed],
-    graph: &Graph,
-) -> Result<Deed, NoMemory>
-    ensures { IfOk result (λ new. new ≡ spec.calls_with program.now callee.now arguments.now graph.now) }
+    graph: &mut Graph,
+) -> Result<Broken, NoMemory>
+    ensures { IfOk result (λ broken. marked broken graph.new ≡ spec.calls_with program.now callee.now arguments.now graph.old) }
 {
-    let mut deed = plain(after(alloc, program, callee, arguments, graph)?);
-    deed.not_free = any_not_free(program, graph, arguments);
-    deed.shared = any_shared(program, graph, arguments);
-    deed.mixed = any_mixed(program, arguments);
-    deed.not_cuttable = any_not_cuttable(program, graph, arguments);
-    Ok(deed)
+    let mut broken = none_broken();
+    broken.not_free = any_not_free(program, graph, arguments);
+    broken.shared = any_shared(program, graph, arguments);
+    broken.mixed = any_mixed(program, arguments);
+    broken.not_cuttable = any_not_cuttable(program, graph, arguments);
+    call(alloc, program, callee, arguments, graph)?;
+    Ok(broken)
 }
 
 /// A call; one of no method changes nothing.
 pub fn call_method(
     alloc: Global,
     program: &Program,
-    graph: &Graph,
+    graph: &mut Graph,
     types: &[VType],
     callee: Option<&Method>,
-) -> Result<Deed, NoMemory>
-    ensures { IfOk result (λ new. new ≡ spec.calls program.now graph.now types.now (option_copied callee.entry)) }
+) -> Result<Broken, NoMemory>
+    ensures { IfOk result (λ broken. marked broken graph.new ≡ spec.calls program.now graph.old types.now (option_copied callee.entry)) }
 {
     let Some(callee) = callee else {
-        return Ok(plain(popped(alloc, graph, 0)?));
+        return Ok(none_broken());
     };
     let arguments = all_passed(alloc, callee, graph, types)?;
     call_with(alloc, program, callee, arguments.as_slice(), graph)

@@ -1,5 +1,8 @@
 //! What an instruction makes of a graph, and which rules it breaks.
 
+ghost use Rattle.std.specs.Prelude.{◌≡◌};
+ghost use Rattle.kilim_isolation_rules.specs.Marks as spec;
+
 use kilim_classes::{Qualifier, Ty, VType};
 use kilim_shape_graph::Graph;
 
@@ -22,6 +25,49 @@ pub struct Deed {
     /// A safe object is passed as cuttable.
     pub not_cuttable: bool,
     pub graph: Graph,
+}
+
+/// A mark for each rule that an instruction breaks, as a deed has them.
+#[derive(Clone, Copy)]
+pub struct Broken {
+    pub not_free: bool,
+    pub gone: bool,
+    pub safe_changed: bool,
+    pub cycle: bool,
+    pub shared: bool,
+    pub mixed: bool,
+    pub not_cuttable: bool,
+}
+
+/// No rule is broken.
+pub fn none_broken() -> Broken
+    ensures { result ≡ spec.none_broken }
+{
+    Broken {
+        not_free: false,
+        gone: false,
+        safe_changed: false,
+        cycle: false,
+        shared: false,
+        mixed: false,
+        not_cuttable: false,
+    }
+}
+
+/// The deed that leaves a graph and breaks these rules.
+pub fn as_deed(broken: Broken, graph: Graph) -> Deed
+    ensures { result ≡ spec.marked broken graph }
+{
+    Deed {
+        not_free: broken.not_free,
+        gone: broken.gone,
+        safe_changed: broken.safe_changed,
+        cycle: broken.cycle,
+        shared: broken.shared,
+        mixed: broken.mixed,
+        not_cuttable: broken.not_cuttable,
+        graph,
+    }
 }
 
 /// An argument of a call; the receiver is one.

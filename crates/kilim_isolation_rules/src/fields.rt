@@ -1,33 +1,17 @@
 //! Reading and storing fields and elements.
 
-ghost use Rattle.std.specs.Prelude.{◌≡◌, IfOk, option_copied};
+ghost use Rattle.std.specs.Prelude.{◌≡◌, IfOk, OnOk, option_copied};
 ghost use Rattle.kilim_isolation_rules.specs.Fields as spec;
 ghost use Rattle.kilim_isolation_rules.specs.Marks as marks;
 
-use crate::deed::Deed;
-use crate::growth::{add, new_region, popped, push, with_nodes};
+use crate::deed::{Broken, none_broken};
+use crate::growth::{add, new_region, pop, push};
 use crate::marks::is_tree;
 use crate::steps::{cut, join};
 use kilim_classes::{Field, FieldId, Kind, Program, Ty, VType};
 use kilim_shape_graph::{Graph, Label, Node, Standing, slot_at, type_at};
 use kilim_units::{NoMemory, Seq};
 use std::alloc::Global;
-
-/// A deed that breaks no rule.
-pub fn plain(graph: Graph) -> Deed
-    ensures { result ≡ marks.plain graph }
-{
-    Deed {
-        not_free: false,
-        gone: false,
-        safe_changed: false,
-        cycle: false,
-        shared: false,
-        mixed: false,
-        not_cuttable: false,
-        graph,
-    }
-}
 
 fn is_child(parent: Option<(usize, Label)>, holder: usize, field: FieldId) -> bool
     ensures { result ≡ spec.is_child parent holder field }
@@ -60,8 +44,8 @@ fn child_by(graph: &Graph, label: Label, holder: usize) -> Option<usize>
 }
 
 // A tree is read from a field or an element of what a slot names.
-fn read_from(graph: Graph, label: Label, holder: Option<usize>) -> Result<Graph, NoMemory>
-    ensures { IfOk result (λ new. new ≡ spec.read_from graph label holder) }
+fn read_from(graph: &mut Graph, label: Label, holder: Option<usize>) -> Result<(), NoMemory>
+    ensures { OnOk result (graph.new ≡ spec.read_from graph.old label holder) }
 {
     let Some(at) = holder else {
         return push(graph, None);
@@ -78,7 +62,7 @@ fn read_from(graph: Graph, label: Label, holder: Option<usize>) -> Result<Graph,
             },
         );
     }
-    match child_by(&graph, label, at) {
+    match child_by(graph, label, at) {
         Some(child) => push(graph, Some(child)),
         None => add(
             graph,
@@ -99,14 +83,14 @@ fn reads(
     takes: usize,
     label: Label,
     holder: Option<usize>,
-    graph: &Graph,
-) -> Result<Graph, NoMemory>
-    ensures { IfOk result (λ new. new ≡ spec.reads kind takes label holder graph.now) }
+    graph: &mut Graph,
+) -> Result<(), NoMemory>
+    ensures { OnOk result (graph.new ≡ spec.reads kind takes label holder graph.old) }
 {
-    let below = popped(alloc, graph, takes)?;
+    pop(alloc, graph, takes)?;
     match kind {
-        Kind::Tree => read_from(below, label, holder),
-        Kind::Value | Kind::Private => push(below, None),
+        Kind::Tree => read_from(graph, label, holder),
+        Kind::Value | Kind::Private => push(graph, None),
     }
 }
 
@@ -124,58 +108,53 @@ fn nodes_without_child(
     cut(alloc, nodes, holder, child_by(graph, label, holder), region)
 }
 
-// The graph without the known child by a label.
-fn without_child(
-    alloc: Global,
-    graph: Graph,
-    label: Label,
-    holder: usize,
-) -> Result<Graph, NoMemory>
-    ensures { IfOk result (λ new. new ≡ spec.without_child graph label holder) }
+// The known child by a label leaves.
+fn drop_child(alloc: Global, graph: &mut Graph, label: Label, holder: usize) -> Result<(), NoMemory>
+    ensures { OnOk result (graph.new ≡ spec.without_child graph.old label holder) }
 {
-    let nodes = nodes_without_child(alloc, &graph, label, holder)?;
-    Ok(with_nodes(graph, nodes))
+    graph.nodes = nodes_without_child(alloc, graph, label, holder)?;
+    Ok(())
 }
 
-fn joined(
+fn hang(
     alloc: Global,
-    graph: Graph,
+    graph: &mut Graph,
     label: Label,
     holder: usize,
     value: usize,
-) -> Result<Graph, NoMemory>
-    ensures { IfOk result (λ new. new ≡ spec.joined graph label holder value) }
+) -> Result<(), NoMemory>
+    ensures { OnOk result (graph.new ≡ spec.joined graph.old label holder value) }
 {
-    let nodes = join(alloc, graph.nodes.as_slice(), holder, value, label)?;
-    Ok(with_nodes(graph, nodes))
+    graph.nodes = join(alloc, graph.nodes.as_slice(), holder, value, label)?;
+    Ok(())
 }
 
 // What a slot names is stored into a field or an element of what another names.
 fn stored(
     alloc: Global,
-    graph: Graph,
+    graph: &mut Graph,
     label: Label,
     holder: Option<usize>,
     value: Option<usize>,
-) -> Result<Deed, NoMemory>
-    ensures { IfOk result (λ new. new ≡ spec.stored graph label holder value) }
+) -> Result<Broken, NoMemory>
+    ensures { IfOk result (λ broken. marks.marked broken graph.new ≡ spec.stored graph.old label holder value) }
 {
+    let mut broken = none_broken();
     let Some(at) = holder else {
-        return Ok(plain(graph));
+        return Ok(broken);
     };
     let into = graph.node(at);
+    broken.safe_changed = into.standing.is_safe();
     let Some(from) = value else {
-        let mut deed = plain(without_child(alloc, graph, label, at)?);
-        deed.safe_changed = into.standing.is_safe();
-        return Ok(deed);
+        drop_child(alloc, graph, label, at)?;
+        return Ok(broken);
     };
     let node = graph.node(from);
-    let rest = without_child(alloc, graph, label, at)?;
-    let mut deed = plain(joined(alloc, rest, label, at, from)?);
-    deed.not_free = !node.standing.is_root();
-    deed.safe_changed = into.standing.is_safe();
-    deed.cycle = node.standing.is_root() && node.region == into.region;
-    Ok(deed)
+    broken.not_free = !node.standing.is_root();
+    broken.cycle = node.standing.is_root() && node.region == into.region;
+    drop_child(alloc, graph, label, at)?;
+    hang(alloc, graph, label, at, from)?;
+    Ok(broken)
 }
 
 // A value of a type is stored into a field or an element of a kind.
@@ -187,17 +166,17 @@ fn stores(
     label: Label,
     holder: Option<usize>,
     value: Option<usize>,
-    graph: Graph,
-) -> Result<Deed, NoMemory>
-    ensures { IfOk result (λ new. new ≡ spec.stores program.now kind ty label holder value graph) }
+    graph: &mut Graph,
+) -> Result<Broken, NoMemory>
+    ensures { IfOk result (λ broken. marks.marked broken graph.new ≡ spec.stores program.now kind ty label holder value graph.old) }
 {
     match kind {
-        Kind::Value => Ok(plain(graph)),
+        Kind::Value => Ok(none_broken()),
         Kind::Tree => stored(alloc, graph, label, holder, value),
         Kind::Private => {
-            let mut deed = plain(graph);
-            deed.mixed = is_tree(program, ty);
-            Ok(deed)
+            let mut broken = none_broken();
+            broken.mixed = is_tree(program, ty);
+            Ok(broken)
         }
     }
 }
@@ -206,51 +185,53 @@ fn stores(
 pub fn gets_field(
     alloc: Global,
     program: &Program,
-    graph: &Graph,
+    graph: &mut Graph,
     id: FieldId,
     field: Option<&Field>,
-) -> Result<Deed, NoMemory>
-    ensures { IfOk result (λ new. new ≡ spec.gets_field program.now graph.now id (option_copied field.entry)) }
+) -> Result<Broken, NoMemory>
+    ensures { IfOk result (λ broken. marks.marked broken graph.new ≡ spec.gets_field program.now graph.old id (option_copied field.entry)) }
 {
     let Some(field) = field else {
-        return Ok(plain(popped(alloc, graph, 0)?));
+        return Ok(none_broken());
     };
     let holder = slot_at(graph.stack.as_slice(), 0);
-    Ok(plain(reads(
+    reads(
         alloc,
         program.kind(&field.ty),
         1,
         Label::Field(id),
         holder,
         graph,
-    )?))
+    )?;
+    Ok(none_broken())
 }
 
 /// A field is stored; one that isn't there changes nothing.
 pub fn puts_field(
     alloc: Global,
     program: &Program,
-    graph: &Graph,
+    graph: &mut Graph,
     types: &[VType],
     id: FieldId,
     field: Option<&Field>,
-) -> Result<Deed, NoMemory>
-    ensures { IfOk result (λ new. new ≡ spec.puts_field program.now graph.now types.now id (option_copied field.entry)) }
+) -> Result<Broken, NoMemory>
+    ensures { IfOk result (λ broken. marks.marked broken graph.new ≡ spec.puts_field program.now graph.old types.now id (option_copied field.entry)) }
 {
     let Some(field) = field else {
-        return Ok(plain(popped(alloc, graph, 0)?));
+        return Ok(none_broken());
     };
-    let names = graph.stack.as_slice();
-    let below = popped(alloc, graph, 2)?;
+    let holder = slot_at(graph.stack.as_slice(), 1);
+    let value = slot_at(graph.stack.as_slice(), 0);
+    pop(alloc, graph, 2)?;
     stores(
         alloc,
         program,
         program.kind(&field.ty),
         type_at(types, 0),
         Label::Field(id),
-        slot_at(names, 1),
-        slot_at(names, 0),
-        below,
+        holder,
+        value,
+        graph,
     )
 }
 
@@ -275,35 +256,37 @@ fn element_kind(program: &Program, ty: VType) -> Kind
 pub fn gets_element(
     alloc: Global,
     program: &Program,
-    graph: &Graph,
+    graph: &mut Graph,
     types: &[VType],
-) -> Result<Deed, NoMemory>
-    ensures { IfOk result (λ new. new ≡ spec.gets_element program.now graph.now types.now) }
+) -> Result<Broken, NoMemory>
+    ensures { IfOk result (λ broken. marks.marked broken graph.new ≡ spec.gets_element program.now graph.old types.now) }
 {
     let kind = element_kind(program, type_at(types, 1));
     let holder = slot_at(graph.stack.as_slice(), 1);
-    Ok(plain(reads(alloc, kind, 2, Label::Element, holder, graph)?))
+    reads(alloc, kind, 2, Label::Element, holder, graph)?;
+    Ok(none_broken())
 }
 
 /// An element is stored.
 pub fn puts_element(
     alloc: Global,
     program: &Program,
-    graph: &Graph,
+    graph: &mut Graph,
     types: &[VType],
-) -> Result<Deed, NoMemory>
-    ensures { IfOk result (λ new. new ≡ spec.puts_element program.now graph.now types.now) }
+) -> Result<Broken, NoMemory>
+    ensures { IfOk result (λ broken. marks.marked broken graph.new ≡ spec.puts_element program.now graph.old types.now) }
 {
-    let names = graph.stack.as_slice();
-    let below = popped(alloc, graph, 3)?;
+    let holder = slot_at(graph.stack.as_slice(), 2);
+    let value = slot_at(graph.stack.as_slice(), 0);
+    pop(alloc, graph, 3)?;
     stores(
         alloc,
         program,
         element_kind(program, type_at(types, 2)),
         type_at(types, 0),
         Label::Element,
-        slot_at(names, 2),
-        slot_at(names, 0),
-        below,
+        holder,
+        value,
+        graph,
     )
 }

@@ -1,6 +1,6 @@
 //! How a graph's slots change.
 
-ghost use Rattle.std.specs.Prelude.{◌≡◌, IfOk};
+ghost use Rattle.std.specs.Prelude.{◌≡◌, ◌∷◌, IfOk, OnOk};
 ghost use Rattle.kilim_shape_graph.specs.Graphs as spec;
 ghost use Rattle.kilim_shape_graph.specs.Nodes as list;
 ghost use Rattle.kilim_isolation_rules.specs.Marks as marks;
@@ -11,12 +11,12 @@ use kilim_shape_graph::{Graph, Node, Standing};
 use kilim_units::{NoMemory, Seq};
 use std::alloc::Global;
 
-/// The graph without so many items of the stack.
-pub fn popped(alloc: Global, graph: &Graph, count: usize) -> Result<Graph, NoMemory>
-    ensures { IfOk result (λ new. new ≡ spec.popped count graph.now) }
+/// The same graph.
+pub fn copied(alloc: Global, graph: &Graph) -> Result<Graph, NoMemory>
+    ensures { IfOk result (λ new. new ≡ graph.now) }
 {
     let locals = Vec::from_slice(alloc, graph.locals.as_slice())?;
-    let stack = Vec::from_slice(alloc, behind(graph.stack.as_slice(), count))?;
+    let stack = Vec::from_slice(alloc, graph.stack.as_slice())?;
     let nodes = Vec::from_slice(alloc, graph.nodes.as_slice())?;
     Ok(Graph {
         locals: Seq::from_vec(locals),
@@ -25,65 +25,55 @@ pub fn popped(alloc: Global, graph: &Graph, count: usize) -> Result<Graph, NoMem
     })
 }
 
-/// The graph with a further item of the stack.
-pub fn push(graph: Graph, name: Option<usize>) -> Result<Graph, NoMemory>
-    ensures { IfOk result (λ new. new ≡ spec.push name graph) }
+/// Takes so many items from the stack.
+pub fn pop(alloc: Global, graph: &mut Graph, count: usize) -> Result<(), NoMemory>
+    ensures { OnOk result (graph.new ≡ spec.popped count graph.old) }
 {
-    let mut stack = graph.stack.into_vec();
-    stack.insert(0, name)?;
-    Ok(Graph {
-        locals: graph.locals,
-        stack: Seq::from_vec(stack),
-        nodes: graph.nodes,
-    })
+    let left = Vec::from_slice(alloc, behind(graph.stack.as_slice(), count))?;
+    graph.stack = Seq::from_vec(left);
+    Ok(())
 }
 
-/// The graph with a further node, which a further item of the stack names.
-pub fn add(graph: Graph, node: Node) -> Result<Graph, NoMemory>
-    ensures { IfOk result (λ new. new ≡ spec.added node graph) }
+fn put_first(slots: &mut Seq<Option<usize>>, name: Option<usize>) -> Result<(), NoMemory>
+    ensures { OnOk result (slots.new ≡ name ∷ slots.old) }
+{
+    slots.items.insert(0, name)?;
+    Ok(())
+}
+
+/// A further item of the stack.
+pub fn push(graph: &mut Graph, name: Option<usize>) -> Result<(), NoMemory>
+    ensures { OnOk result (graph.new ≡ spec.push name graph.old) }
+{
+    put_first(&mut graph.stack, name)
+}
+
+/// A further node, which a further item of the stack names.
+pub fn add(graph: &mut Graph, node: Node) -> Result<(), NoMemory>
+    ensures { OnOk result (graph.new ≡ spec.added node graph.old) }
 {
     let number = graph.nodes.len();
-    let mut graph = push(graph, Some(number))?;
+    push(graph, Some(number))?;
     graph.nodes.push(node)?;
-    Ok(graph)
+    Ok(())
 }
 
-/// The graph with other nodes.
-pub fn with_nodes(graph: Graph, nodes: Seq<Node>) -> Graph
-    ensures { result ≡ record graph { nodes = nodes } }
+// One of the slots names something else.
+fn set_slot(slots: &mut Vec<Option<usize>>, at: usize, name: Option<usize>) -> Result<(), NoMemory>
+    ensures { OnOk result (slots.new.items ≡ spec.with_slot slots.old.items at name) }
 {
-    Graph {
-        locals: graph.locals,
-        stack: graph.stack,
-        nodes,
+    while slots.len() <= at {
+        slots.push(None)?;
     }
+    slots[at] = name;
+    Ok(())
 }
 
-// The slots, where one names something else.
-fn with_slot(
-    slots: Seq<Option<usize>>,
-    at: usize,
-    name: Option<usize>,
-) -> Result<Seq<Option<usize>>, NoMemory>
-    ensures { IfOk result (λ new. new ≡ spec.with_slot slots at name) }
+/// A local names something else.
+pub fn set_local(graph: &mut Graph, at: usize, name: Option<usize>) -> Result<(), NoMemory>
+    ensures { OnOk result (graph.new ≡ record graph.old { locals = spec.with_slot graph.old.locals at name }) }
 {
-    let mut items = slots.into_vec();
-    while items.len() <= at {
-        items.push(None)?;
-    }
-    items[at] = name;
-    Ok(Seq::from_vec(items))
-}
-
-/// The graph, where a local names something else.
-pub fn with_local(graph: Graph, at: usize, name: Option<usize>) -> Result<Graph, NoMemory>
-    ensures { IfOk result (λ new. new ≡ record graph { locals = spec.with_slot graph.locals at name }) }
-{
-    Ok(Graph {
-        locals: with_slot(graph.locals, at, name)?,
-        stack: graph.stack,
-        nodes: graph.nodes,
-    })
+    set_slot(&mut graph.locals.items, at, name)
 }
 
 /// A number that is greater than each number of a region. Want of memory where there is none, which no graph in memory
@@ -98,9 +88,9 @@ pub fn new_region(nodes: &[Node]) -> Result<usize, NoMemory>
     Ok(region)
 }
 
-/// The graph with a new object or the result of a call: a tree is a root, another kind names no node.
-pub fn given(graph: Graph, kind: Kind) -> Result<Graph, NoMemory>
-    ensures { IfOk result (λ new. new ≡ marks.given kind graph) }
+/// A new object or the result of a call: a tree is a root, another kind names no node.
+pub fn give(graph: &mut Graph, kind: Kind) -> Result<(), NoMemory>
+    ensures { OnOk result (graph.new ≡ marks.given kind graph.old) }
 {
     match kind {
         Kind::Tree => {

@@ -1,6 +1,6 @@
 //! The step of an instruction.
 
-ghost use Rattle.std.specs.Prelude.{◌≡◌, [], Result, Ok, Err, MatchResult, IfOk, option_copied};
+ghost use Rattle.std.specs.Prelude.{◌≡◌, ◌++◌, [], None, Result, Ok, Err, MatchResult, replicate, IfOk, OnOk, option_copied};
 ghost use Rattle.kilim_classes.specs.declared.class.Method.{Method};
 ghost use Rattle.kilim_classes.specs.declared.ty.Base.TheVariants as Base;
 ghost use Rattle.kilim_classes.specs.Names.{method_at, field_of};
@@ -9,16 +9,16 @@ ghost use Rattle.kilim_typing.specs.Step.{Types};
 ghost use Rattle.kilim_isolation_rules.specs.Actions.{deed_by};
 ghost use Rattle.kilim_isolation_rules.specs.Actions as actions;
 ghost use Rattle.kilim_shape_graph.specs.Graphs.{popped};
-ghost use Rattle.kilim_isolation_rules.specs.Marks.{plain};
+ghost use Rattle.kilim_isolation_rules.specs.Marks.{marked, plain};
 ghost use Rattle.kilim_isolation_rules.specs.Marks as marks;
 ghost use Rattle.kilim_isolation_rules.specs.Answers.{IsStep};
 ghost use Rattle.kilim_isolation_rules.specs.Rules as spec;
 
 use crate::action::{Action, Words, action_of};
 use crate::calls::call_method;
-use crate::deed::Deed;
-use crate::fields::{gets_element, gets_field, plain, puts_element, puts_field};
-use crate::growth::{given, popped, push, with_local};
+use crate::deed::{Broken, Deed, as_deed, none_broken};
+use crate::fields::{gets_element, gets_field, puts_element, puts_field};
+use crate::growth::{copied, give, pop, push, set_local};
 use crate::marks::{mixes, names_gone, names_no_root, stack_lives};
 use crate::shuffles::shuffled;
 use kilim_classes::{
@@ -57,71 +57,90 @@ fn class_ty(class: ClassId) -> Ty
     }
 }
 
-// So many items are taken from the stack, and so many given, which name no node.
-fn passes(alloc: Global, graph: &Graph, takes: usize, gives: usize) -> Result<Deed, NoMemory>
-    ensures { IfOk result (λ deed. deed ≡ plain (spec.passed_by takes gives graph.now)) }
+// So many items are given, which name no node.
+fn push_none(graph: &mut Graph, count: usize) -> Result<(), NoMemory>
+    ensures { OnOk result (graph.new ≡ record graph.old { stack = replicate count None ++ graph.old.stack }) }
 {
-    let mut new = popped(alloc, graph, takes)?;
-    for _ in 0..gives {
-        new = push(new, None)?;
+    for _ in 0..count {
+        push(graph, None)?;
     }
-    Ok(plain(new))
+    Ok(())
+}
+
+// So many items are taken from the stack, and so many given, which name no node.
+fn passes(alloc: Global, graph: &mut Graph, takes: usize, gives: usize) -> Result<Broken, NoMemory>
+    ensures { IfOk result (λ broken. marked broken graph.new ≡ plain (spec.passed_by takes gives graph.old)) }
+{
+    pop(alloc, graph, takes)?;
+    push_none(graph, gives)?;
+    Ok(none_broken())
 }
 
 // So many items are taken from the stack, and a new object of a kind is given.
-fn makes(alloc: Global, graph: &Graph, takes: usize, kind: Kind) -> Result<Deed, NoMemory>
-    ensures { IfOk result (λ deed. deed ≡ plain (marks.given kind (popped takes graph.now))) }
+fn makes(alloc: Global, graph: &mut Graph, takes: usize, kind: Kind) -> Result<Broken, NoMemory>
+    ensures { IfOk result (λ broken. marked broken graph.new ≡ plain (marks.given kind (popped takes graph.old))) }
 {
-    let below = popped(alloc, graph, takes)?;
-    Ok(plain(given(below, kind)?))
+    pop(alloc, graph, takes)?;
+    give(graph, kind)?;
+    Ok(none_broken())
 }
 
-fn loads_reference(alloc: Global, graph: &Graph, slot: u16) -> Result<Deed, NoMemory>
-    ensures { IfOk result (λ deed. deed ≡ actions.reference_loaded graph.now slot) }
+fn loads_reference(graph: &mut Graph, slot: u16) -> Result<Broken, NoMemory>
+    ensures { IfOk result (λ broken. marked broken graph.new ≡ actions.reference_loaded graph.old slot) }
 {
     let name = slot_at(graph.locals.as_slice(), usize::from(slot));
-    let mut deed = plain(push(popped(alloc, graph, 0)?, name)?);
-    deed.gone = names_gone(graph, name);
-    Ok(deed)
+    let mut broken = none_broken();
+    broken.gone = names_gone(graph, name);
+    push(graph, name)?;
+    Ok(broken)
 }
 
-fn stores_reference(alloc: Global, graph: &Graph, slot: u16) -> Result<Deed, NoMemory>
-    ensures { IfOk result (λ deed. deed ≡ actions.reference_stored graph.now slot) }
+fn stores_reference(alloc: Global, graph: &mut Graph, slot: u16) -> Result<Broken, NoMemory>
+    ensures { IfOk result (λ broken. marked broken graph.new ≡ actions.reference_stored graph.old slot) }
 {
     let name = slot_at(graph.stack.as_slice(), 0);
-    Ok(plain(with_local(popped(alloc, graph, 1)?, usize::from(slot), name)?))
+    pop(alloc, graph, 1)?;
+    set_local(graph, usize::from(slot), name)?;
+    Ok(none_broken())
 }
 
-fn stores_value(alloc: Global, graph: &Graph, slot: u16, is_long: bool) -> Result<Deed, NoMemory>
-    ensures { IfOk result (λ deed. deed ≡ plain (actions.value_stored slot is_long graph.now)) }
+fn stores_value(
+    alloc: Global,
+    graph: &mut Graph,
+    slot: u16,
+    is_long: bool,
+) -> Result<Broken, NoMemory>
+    ensures { IfOk result (λ broken. marked broken graph.new ≡ plain (actions.value_stored slot is_long graph.old)) }
 {
-    let first = with_local(popped(alloc, graph, 1)?, usize::from(slot), None)?;
+    pop(alloc, graph, 1)?;
+    set_local(graph, usize::from(slot), None)?;
     if !is_long {
-        return Ok(plain(first));
+        return Ok(none_broken());
     }
-    Ok(plain(with_local(first, usize::from(slot) + 1, None)?))
+    set_local(graph, usize::from(slot) + 1, None)?;
+    Ok(none_broken())
 }
 
-fn shuffles(alloc: Global, graph: &Graph, types: &[VType], words: Words) -> Result<Deed, NoMemory>
-    ensures { IfOk result (λ deed. deed ≡ actions.words_shuffled graph.now types.now words) }
+fn shuffles(
+    alloc: Global,
+    graph: &mut Graph,
+    types: &[VType],
+    words: Words,
+) -> Result<Broken, NoMemory>
+    ensures { IfOk result (λ broken. marked broken graph.new ≡ actions.words_shuffled graph.old types.now words) }
 {
-    let stack = shuffled(alloc, words, types, graph.stack.as_slice())?;
-    let all = popped(alloc, graph, 0)?;
-    Ok(plain(Graph {
-        locals: all.locals,
-        stack,
-        nodes: all.nodes,
-    }))
+    graph.stack = shuffled(alloc, words, types, graph.stack.as_slice())?;
+    Ok(none_broken())
 }
 
 // A new array of references, by the type of its elements.
 fn makes_references(
     alloc: Global,
     program: &Program,
-    graph: &Graph,
+    graph: &mut Graph,
     element: Ty,
-) -> Result<Deed, NoMemory>
-    ensures { IfOk result (λ deed. deed ≡ actions.references_made program.now graph.now element) }
+) -> Result<Broken, NoMemory>
+    ensures { IfOk result (λ broken. marked broken graph.new ≡ actions.references_made program.now graph.old element) }
 {
     let kind = program.kind(&Ty {
         dims: 1,
@@ -133,10 +152,10 @@ fn makes_references(
 fn gets_static(
     alloc: Global,
     program: &Program,
-    graph: &Graph,
+    graph: &mut Graph,
     id: FieldId,
-) -> Result<Deed, NoMemory>
-    ensures { IfOk result (λ deed. (m : Method) (f : Types) → deed ≡ deed_by program.now m graph.now f (Action.GetsStatic id)) }
+) -> Result<Broken, NoMemory>
+    ensures { IfOk result (λ broken. (m : Method) (f : Types) → marked broken graph.new ≡ deed_by program.now m graph.old f (Action.GetsStatic id)) }
 {
     match field_of(program, id) {
         None => passes(alloc, graph, 0, 0),
@@ -145,49 +164,46 @@ fn gets_static(
 }
 
 // A value is returned, or nothing.
-fn returns(alloc: Global, graph: &Graph) -> Result<Deed, NoMemory>
-    ensures { IfOk result (λ deed. deed ≡ plain (record graph.now { stack = [] })) }
+fn returns(alloc: Global, graph: &mut Graph) -> Broken
+    ensures { marked result graph.new ≡ plain (record graph.old { stack = [] }) }
 {
-    let all = popped(alloc, graph, 0)?;
-    Ok(plain(Graph {
-        locals: all.locals,
-        stack: Seq::new(alloc),
-        nodes: all.nodes,
-    }))
+    graph.stack = Seq::new(alloc);
+    none_broken()
+}
+
+fn result_mixes(program: &Program, method: &Method, ty: VType) -> bool
+    ensures { result ≡ spec.result_mixes program.now method.now.result ty }
+{
+    match method.result {
+        None => false,
+        Some(into) => mixes(program, ty, VType::Object(into)),
+    }
 }
 
 fn returns_reference(
     alloc: Global,
     program: &Program,
     method: &Method,
-    graph: &Graph,
+    graph: &mut Graph,
     types: &[VType],
-) -> Result<Deed, NoMemory>
-    ensures { IfOk result (λ deed. deed ≡ spec.returns program.now method.now graph.now types.now) }
+) -> Broken
+    ensures { marked result graph.new ≡ spec.returns program.now method.now graph.old types.now }
 {
-    let mut deed = returns(alloc, graph)?;
-    deed.not_free = names_no_root(graph, slot_at(graph.stack.as_slice(), 0));
-    deed.mixed = match method.result {
-        None => false,
-        Some(ty) => mixes(program, type_at(types, 0), VType::Object(ty)),
-    };
-    Ok(deed)
+    let mut broken = none_broken();
+    broken.not_free = names_no_root(graph, slot_at(graph.stack.as_slice(), 0));
+    broken.mixed = result_mixes(program, method, type_at(types, 0));
+    graph.stack = Seq::new(alloc);
+    broken
 }
 
-fn casts(
-    alloc: Global,
-    program: &Program,
-    graph: &Graph,
-    types: &[VType],
-    into: Ty,
-) -> Result<Deed, NoMemory>
-    ensures { IfOk result (λ deed. deed ≡ actions.cast program.now graph.now types.now into) }
+fn casts(program: &Program, types: &[VType], into: Ty) -> Broken
+    ensures { (g : Graph) → marked result g ≡ actions.cast program.now g types.now into }
 {
     let from = type_at(types, 0);
     let to = VType::Object(into);
-    let mut deed = plain(popped(alloc, graph, 0)?);
-    deed.mixed = mixes(program, from, to) || mixes(program, to, from);
-    Ok(deed)
+    let mut broken = none_broken();
+    broken.mixed = mixes(program, from, to) || mixes(program, to, from);
+    broken
 }
 
 // What an action does, by the types of the stack, the top first.
@@ -195,15 +211,15 @@ fn act(
     alloc: Global,
     program: &Program,
     method: &Method,
-    graph: &Graph,
+    graph: &mut Graph,
     types: &[VType],
     action: Action,
-) -> Result<Deed, NoMemory>
-    ensures { IfOk result (λ deed. (f : Types) → f.stack ≡ types.now → deed ≡ deed_by program.now method.now graph.now f action) }
+) -> Result<Broken, NoMemory>
+    ensures { IfOk result (λ broken. (f : Types) → f.stack ≡ types.now → marked broken graph.new ≡ deed_by program.now method.now graph.old f action) }
 {
     match action {
         Action::Passes(takes, gives) => passes(alloc, graph, takes, gives),
-        Action::LoadsReference(slot) => loads_reference(alloc, graph, slot),
+        Action::LoadsReference(slot) => loads_reference(graph, slot),
         Action::StoresReference(slot) => stores_reference(alloc, graph, slot),
         Action::StoresValue(slot, is_long) => stores_value(alloc, graph, slot, is_long),
         Action::Shuffles(words) => shuffles(alloc, graph, types, words),
@@ -223,9 +239,9 @@ fn act(
         Action::GetsElement => gets_element(alloc, program, graph, types),
         Action::PutsElement => puts_element(alloc, program, graph, types),
         Action::Calls(id) => call_method(alloc, program, graph, types, method_at(program, id)),
-        Action::ReturnsReference => returns_reference(alloc, program, method, graph, types),
-        Action::Returns => returns(alloc, graph),
-        Action::Casts(ty) => casts(alloc, program, graph, types, ty),
+        Action::ReturnsReference => Ok(returns_reference(alloc, program, method, graph, types)),
+        Action::Returns => Ok(returns(alloc, graph)),
+        Action::Casts(ty) => Ok(casts(program, types, ty)),
     }
 }
 
@@ -240,7 +256,14 @@ pub fn deed_of(
 ) -> Result<Deed, NoMemory>
     ensures { IfOk result (λ deed. (f : Types) → f.stack ≡ types.now → deed ≡ spec.deed program.now method.now graph.now f instr.now) }
 {
-    act(alloc, program, method, graph, types, action_of(instr))
+    let mut new = copied(alloc, graph)?;
+    match act(alloc, program, method, &mut new, types, action_of(instr)) {
+        Ok(broken) => Ok(as_deed(broken, new)),
+        Err(fault) => {
+            drop(new);
+            Err(fault)
+        }
+    }
 }
 
 // The least rule that a deed breaks.
