@@ -1,10 +1,10 @@
 //! Marks that classes inherit.
 
-ghost use Rattle.std.specs.Prelude.{◌≡◌, ◌<◌, ◌^◌, IfOk, is_some, length, map};
+ghost use Rattle.std.specs.Prelude.{◌≡◌, ◌<◌, ◌≤◌, ◌^◌, IfOk, is_some, length, map};
 ghost use Rattle.std.specs.List.{list_any};
 ghost use Rattle.kilim_classes.specs.BuiltIn.{class_id};
 ghost use Rattle.kilim_inherited.specs.Inherited.{line_in};
-ghost use Rattle.kilim_inherited.specs.Roots.{inherits};
+ghost use Rattle.kilim_inherited.specs.Roots.{inherits, IsRight};
 ghost use Rattle.kilim_link_world.specs.Agrees.{each_below};
 ghost use Rattle.kilim_link_world.specs.Outlining.{mark_at};
 ghost use Rattle.kilim_link_world.specs.Superclasses.{mark_entries};
@@ -52,6 +52,15 @@ fn marks_of(alloc: Global, inherited: &Inherited, count: usize) -> Result<Seq<bo
     Ok(marks)
 }
 
+// Where classes inherit marks, by the superclass of each class and by which are marked themselves.
+fn marks_above(alloc: Global, ups: &[Option<ClassId>], own: &[bool]) -> Result<Inherited, NoMemory>
+    requires { length own.now ≤ length ups.now }
+    ensures { IfOk result (λ it. IsRight ups.now (map mark_entries own.now) it) }
+{
+    let entries = all_mark_entries(alloc, own)?;
+    Inherited::new(alloc, ups, entries.as_slice())
+}
+
 /// Which classes are marked themselves or by a superclass, by which are marked themselves.
 pub fn inherited_marks(
     alloc: Global,
@@ -63,7 +72,6 @@ pub fn inherited_marks(
     ensures { IfOk result (λ marks. marks ≡ each_below (λ k. list_any (mark_at own.now) (line_in (map (λ class. class.superclass) classes.now) (class_id k))) (length classes.now)) }
 {
     let ups = superclasses_of(alloc, classes)?;
-    let entries = all_mark_entries(alloc, own.as_slice())?;
-    let inherited = Inherited::new(alloc, ups.as_slice(), entries.as_slice())?;
+    let inherited = marks_above(alloc, ups.as_slice(), own.as_slice())?;
     marks_of(alloc, &inherited, classes.len())
 }

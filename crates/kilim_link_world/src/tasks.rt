@@ -58,8 +58,6 @@ pub fn message_marks(alloc: Global, classes: &[Class]) -> Result<Seq<bool>, NoMe
 pub fn mark_in(marks: &Seq<bool>, class: ClassId) -> bool
     ensures { result ≡ mark_at marks.now class }
 {
-    match marks.as_slice().get(class.0 as usize) {
-        Some(mark) => *mark,
-        None => false,
-    }
+    let mark = marks.as_slice().get(class.0 as usize).copied();
+    mark.unwrap_or(false)
 }

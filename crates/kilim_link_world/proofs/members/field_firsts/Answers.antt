@@ -1,7 +1,8 @@
-use Rattle.std.proofs.Common.{◌<◌, length, get_or, take, arith}
+use Rattle.std.proofs.lemmas.List.Sums.{sum_by_more_le}
+use Rattle.std.proofs.Common.{◌<◌, length, get_or, take, arith, ◌≡◌, ◌+◌, ℕ, ap, ◌∙◌}
 use Rattle.std.specs.Prelude.{sum_by}
 use Rattle.std.proofs.lemmas.Option.{slice_get-get_or}
-use Rattle.kilim_link_world.specs.Agrees.{field_count}
+use Rattle.kilim_link_world.specs.Agrees.{field_count, each_below}
 use Rattle.kilim_link_world.proofs.Below.{one_more}
 use Rattle.kilim_link_world.proofs.Saying.{total_next}
 use Rattle.kilim_link_world.proofs.members.field_firsts.Goals as goal
@@ -17,3 +18,31 @@ loop-i-preserved c =
       total_next field_count classes i at c.loop-i.total is c.loop-i.invariant.1 c.len.result c.len.ensures,
       one_more (λ n. sum_by field_count (take n classes)) c.loop-i.firsts c.push.new.self i c.loop-i.total c.loop-i.invariant.2 c.loop-i.invariant.1 c.in_ok-push.ensures.ok,
     )
+
+pub returns : goal.returns
+returns c =
+    let classes = c.args.classes.now in
+    let first = λ (n : ℕ). sum_by field_count (take n classes) in
+    let at_end : c.loop-i.i ≡ length classes = omega (arith, c.loop-i-test.false, c.loop-i.invariant.0) in
+    one_more first c.loop-i.firsts _ c.loop-i.i c.loop-i.total c.loop-i.invariant.2 c.loop-i.invariant.1 c.in_ok-push-2.ensures.ok
+    ∙ ap (λ (n : ℕ). each_below first (n + 1)) at_end
+
+pub overflow_cast-total : goal.overflow_cast-total
+overflow_cast-total c =
+    let classes = c.args.classes.now in
+    let lt : c.loop-i.i < length classes = omega (arith, c.loop-i-test.true) in
+    let fit = sum_by_more_le field_count classes c.loop-i.i c.index-classes-i.result lt in
+    let few = c.requires in
+    let so_far : c.loop-i.total ≡ sum_by field_count (take c.loop-i.i classes) = c.loop-i.invariant.1 in
+    let own = c.len.ensures in
+    omega arith
+
+pub overflow_add-total : goal.overflow_add-total
+overflow_add-total c =
+    let classes = c.args.classes.now in
+    let lt : c.loop-i.i < length classes = omega (arith, c.loop-i-test.true) in
+    let fit = sum_by_more_le field_count classes c.loop-i.i c.index-classes-i.result lt in
+    let few = c.requires in
+    let so_far : c.loop-i.total ≡ sum_by field_count (take c.loop-i.i classes) = c.loop-i.invariant.1 in
+    let own = c.len.ensures in
+    omega arith

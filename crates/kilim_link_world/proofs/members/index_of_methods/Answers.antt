@@ -1,9 +1,10 @@
+use Rattle.std.proofs.lemmas.List.{take_all}
 use Rattle.std.proofs.Common.{◌<◌, Bool, List, ℕ, length, refl, ap, ◌∙◌, arith}
 use Rattle.std.specs.Prelude.{◌&&◌}
 use Rattle.std.specs.Str.{bytes_eq}
 use Rattle.std.proofs.lemmas.Option.{slice_get_read}
 use Rattle.kilim_link_spec.specs.World.{is_method}
-use Rattle.kilim_inherited.specs.Index.{positions}
+use Rattle.kilim_inherited.specs.Index.{positions, places_from}
 use Rattle.kilim_link_world.proofs.Lists.{index_next}
 use Rattle.kilim_link_world.proofs.members.index_of_methods.Goals as goal
 
@@ -23,3 +24,9 @@ loop-i-preserved c =
           (ap (λ (n : List ℕ). s n c.in_ok-key.key.descriptor name descriptor) c.in_ok-key.ensures.name
           ∙ ap (λ (d : List ℕ). s at.name d name descriptor) c.in_ok-key.ensures.descriptor),
     )
+
+pub returns : goal.returns
+returns c =
+    λ name descriptor.
+    c.loop-i.invariant.1 name descriptor
+    ∙ ap (places_from (is_method name descriptor) 0) (take_all c.loop-i.i c.args.methods.now (omega (arith, c.loop-i-test.false)))

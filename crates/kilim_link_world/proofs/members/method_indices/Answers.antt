@@ -1,8 +1,11 @@
+use Rattle.kilim_link_spec.specs.declared.view.ClassView.{ClassView}
+use Rattle.std.specs.Prelude.{slice_get}
+use Rattle.std.proofs.lemmas.List.{take_all}
 use Rattle.std.proofs.Common.{◌<◌, List, length, get_or, ap, ◌∙◌, arith}
 use Rattle.std.proofs.lemmas.Option.{slice_get-get_or}
 use Rattle.kilim_inherited.specs.declared.index.Index.{Index}
 use Rattle.kilim_inherited.specs.Index.{places_from}
-use Rattle.kilim_link_spec.specs.World.{is_method}
+use Rattle.kilim_link_spec.specs.World.{is_method, methods_at}
 use Rattle.kilim_link_spec.specs.declared.view.DeclaredMethod.{DeclaredMethod}
 use Rattle.kilim_link_world.specs.Agrees.{indexed}
 use Rattle.kilim_link_world.proofs.Saying.{indices_next, length_next}
@@ -24,3 +27,9 @@ loop-i-preserved c =
           (c.in_ok-index_of_methods.ensures name descriptor ∙ ap (λ (methods : List DeclaredMethod). places_from (is_method name descriptor) 0 methods) c.as_slice.ensures)
           (λ j. c.loop-i.invariant.2 j name descriptor) k,
     )
+
+pub returns : goal.returns
+returns c =
+    λ k name descriptor.
+    c.loop-i.invariant.2 k name descriptor
+    ∙ ap (λ (vs : List ClassView). places_from (is_method name descriptor) 0 (methods_at (slice_get vs k))) (take_all c.loop-i.i c.args.classes.now (omega (arith, c.loop-i-test.false)))

@@ -1,3 +1,6 @@
+use Rattle.std.proofs.lemmas.List.Sums.{sum_by_more_le}
+use Rattle.kilim_link_spec.specs.declared.view.ClassView.{ClassView}
+use Rattle.std.proofs.lemmas.List.{take_all}
 use Rattle.std.proofs.Common.{◌≡◌, ◌<◌, List, ℕ, length, get_or, take, refl, ap, ◌∙◌, arith}
 use Rattle.std.specs.Prelude.{slice_get, sum_by}
 use Rattle.std.specs.List.{position_from}
@@ -37,3 +40,43 @@ loop-i-preserved c =
         ),
       ),
     )
+
+pub returns-clause-counted : goal.returns-clause-counted
+returns-clause-counted c = omega (arith, c.loop-i-test.false, c.loop-i.invariant.0, c.loop-i.invariant.1.0)
+
+pub returns-clause-said : goal.returns-clause-said
+returns-clause-said c =
+    let classes = c.args.classes.now in
+    λ d name descriptor.
+    c.loop-i.invariant.1.1.1 d.0 name descriptor
+    ∙ ap (λ (vs : List ClassView). placed (sum_by field_count (take d.0 classes)) (position_from (is_field name descriptor) 0 (fields_at (slice_get vs d.0)))) (take_all c.loop-i.i classes (omega (arith, c.loop-i-test.false)))
+
+pub fields_said-requires : goal.fields_said-requires
+fields_said-requires c =
+    let classes = c.args.classes.now in
+    let lt : c.loop-i.i < length classes = omega (arith, c.loop-i-test.true) in
+    let fit = sum_by_more_le field_count classes c.loop-i.i c.index-classes-i.result lt in
+    let few = c.requires in
+    let so_far : c.loop-i.total ≡ sum_by field_count (take c.loop-i.i classes) = c.loop-i.invariant.1.1.0 in
+    let own = ap length c.as_slice-fields.ensures in
+    omega arith
+
+pub overflow_cast-total : goal.overflow_cast-total
+overflow_cast-total c =
+    let classes = c.args.classes.now in
+    let lt : c.loop-i.i < length classes = omega (arith, c.loop-i-test.true) in
+    let fit = sum_by_more_le field_count classes c.loop-i.i c.index-classes-i.result lt in
+    let few = c.requires in
+    let so_far : c.loop-i.total ≡ sum_by field_count (take c.loop-i.i classes) = c.loop-i.invariant.1.1.0 in
+    let own = ap length c.as_slice-fields.ensures in
+    omega arith
+
+pub overflow_add-total : goal.overflow_add-total
+overflow_add-total c =
+    let classes = c.args.classes.now in
+    let lt : c.loop-i.i < length classes = omega (arith, c.loop-i-test.true) in
+    let fit = sum_by_more_le field_count classes c.loop-i.i c.index-classes-i.result lt in
+    let few = c.requires in
+    let so_far : c.loop-i.total ≡ sum_by field_count (take c.loop-i.i classes) = c.loop-i.invariant.1.1.0 in
+    let own = ap length c.as_slice-fields.ensures in
+    omega arith

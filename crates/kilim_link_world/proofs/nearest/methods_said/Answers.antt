@@ -1,3 +1,7 @@
+use Rattle.kilim_link_spec.specs.declared.view.DeclaredMethod.{DeclaredMethod}
+use Rattle.kilim_link_world.specs.Agrees.{placed}
+use Rattle.std.specs.List.{position_from}
+use Rattle.std.proofs.lemmas.List.{take_all}
 use Rattle.std.proofs.Common.{◌<◌, ◌+◌, List, ℕ, length, Some, refl, ap, ◌∙◌, arith}
 use Rattle.std.proofs.lemmas.Option.{slice_get_read}
 use Rattle.kilim_link_spec.specs.World.{is_method}
@@ -21,3 +25,9 @@ loop-i-preserved c =
           ∙ ap (λ (d : List ℕ). is_method name descriptor (record at { descriptor = d })) c.in_ok-signature.ensures.descriptor)
           refl (c.loop-i.invariant.1 name descriptor),
     )
+
+pub returns : goal.returns
+returns c =
+    λ name descriptor.
+    c.loop-i.invariant.1 name descriptor
+    ∙ ap (λ (ms : List DeclaredMethod). placed c.args.first (position_from (is_method name descriptor) 0 ms)) (take_all c.loop-i.i c.args.methods.now (omega (arith, c.loop-i-test.false)))

@@ -1,3 +1,4 @@
+use Rattle.std.proofs.lemmas.List.{take_all}
 use Rattle.std.proofs.Common.{◌<◌, Bool, false, List, [], ◌∷◌, ◌++◌, length, Option, refl, take, sym, ap, ◌∙◌, arith}
 use Rattle.std.specs.Prelude.{unwrap_or}
 use Rattle.std.proofs.lemmas.Option.{slice_get_read}
@@ -21,3 +22,8 @@ loop-i-preserved c =
           (slice_get_read vs (length vs) i at refl lt c.index-classes-i.is)
           (sym (ap (λ (o : Option Bool). unwrap_or o false) c.get-message.ensures)))),
     )
+
+pub returns : goal.returns
+returns c =
+    let vs = c.args.classes.now in
+    c.loop-i.invariant.1 ∙ ap (outlined vs (λ d v. mark_at c.args.marks.now d) 0) (take_all c.loop-i.i vs (omega (arith, c.loop-i-test.false)))

@@ -1,3 +1,5 @@
+use Rattle.kilim_link_world.specs.Ids.{named_in}
+use Rattle.std.proofs.lemmas.List.{take_all}
 use Rattle.std.proofs.Common.{◌<◌, length, get_or, sym, ap, ◌∙◌, arith, Some, None}
 use Rattle.std.specs.Prelude.{if◌then◌else◌}
 use Rattle.std.specs.Str.{bytes_eq}
@@ -16,3 +18,6 @@ loop-i-preserved c =
           ∙ (ap (λ o. or_else o (if bytes_eq at.name name then Some c.loop-i.i else None)) (c.loop-i.invariant.1 name)
           ∙ sym (position_next (λ v. bytes_eq v.name name) c.args.classes.now c.loop-i.i at (slice_get-get_or c.args.classes.now c.loop-i.i c.index-classes-i.result lt))),
     )
+
+pub returns : goal.returns
+returns c = λ name. c.loop-i.invariant.1 name ∙ ap (named_in name) (take_all c.loop-i.i c.args.classes.now (omega (arith, c.loop-i-test.false)))
