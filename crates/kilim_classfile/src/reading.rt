@@ -1,7 +1,7 @@
 //! Bytes to a class file.
 
-ghost use Rattle.std.specs.Prelude.{◌≡◌, ◌⊎◌, ◌++◌, List, ℕ, length, IfOk, IfErr, MatchResult};
-ghost use Rattle.kilim_grammar.specs.Reader.{Reads, ReadsUnless, counted, many};
+ghost use Rattle.std.specs.Prelude.{◌≡◌, ◌⊎◌, ◌++◌, List, [], ℕ, length, IfOk, IfErr, MatchResult};
+ghost use Rattle.kilim_grammar.specs.Reader.{Reads, ReadsUnless, both, counted, many};
 ghost use Rattle.kilim_grammar.specs.Format.{Format};
 ghost use Rattle.kilim_constant_pool.specs.Entries.{is_utf8, is_class};
 ghost use Rattle.kilim_attributes.specs.declared.attribute.Place.TheVariants as place;
@@ -62,11 +62,15 @@ fn class_index_at<'a>(
 ) -> Result<(u16, &'a [u8]), ClassFault>
     ensures { Reads (λ x. (x.0, x.1.now)) result (class_index_at len pool.now bytes.now) }
 {
-    let (index, rest) = u2_at(len, bytes)?;
-    if is_class(pool.entry(index)) {
-        Ok((index, rest))
-    } else {
-        Err(ClassFault::Pool(PoolFault::BadIndex(index)))
+    match u2_at(len, bytes) {
+        Ok((index, rest)) => {
+            if is_class(pool.entry(index)) {
+                Ok((index, rest))
+            } else {
+                Err(ClassFault::Pool(PoolFault::BadIndex(index)))
+            }
+        }
+        Err(fault) => Err(fault),
     }
 }
 
@@ -78,11 +82,15 @@ fn utf8_index_at<'a>(
 ) -> Result<(u16, &'a [u8]), ClassFault>
     ensures { Reads (λ x. (x.0, x.1.now)) result (utf8_index_at len pool.now bytes.now) }
 {
-    let (index, rest) = u2_at(len, bytes)?;
-    if is_utf8(pool.entry(index)) {
-        Ok((index, rest))
-    } else {
-        Err(ClassFault::Pool(PoolFault::BadIndex(index)))
+    match u2_at(len, bytes) {
+        Ok((index, rest)) => {
+            if is_utf8(pool.entry(index)) {
+                Ok((index, rest))
+            } else {
+                Err(ClassFault::Pool(PoolFault::BadIndex(index)))
+            }
+        }
+        Err(fault) => Err(fault),
     }
 }
 
@@ -111,17 +119,29 @@ fn member_at<'a>(
 ) -> Result<(MemberInfo, &'a [u8]), ClassFault>
     ensures { ReadsUnless fault.Memory (λ x. (x.0, x.1.now)) result (member_at len pool.now place bytes.now) }
 {
-    let (access_flags, rest) = u2_at(len, bytes)?;
-    let (name_index, rest) = utf8_index_at(len, pool, rest)?;
-    let (descriptor_index, rest) = utf8_index_at(len, pool, rest)?;
-    let (attributes, rest) = attributes_in(alloc, len, pool, place, rest)?;
-    let member = MemberInfo {
-        access_flags,
-        name_index,
-        descriptor_index,
-        attributes,
+    let (access_flags, rest) = match u2_at(len, bytes) {
+        Ok(read) => read,
+        Err(fault) => return Err(fault),
     };
-    Ok((member, rest))
+    let (name_index, rest) = match utf8_index_at(len, pool, rest) {
+        Ok(read) => read,
+        Err(fault) => return Err(fault),
+    };
+    match utf8_index_at(len, pool, rest) {
+        Ok((descriptor_index, rest)) => match attributes_in(alloc, len, pool, place, rest) {
+            Ok((attributes, rest)) => {
+                let member = MemberInfo {
+                    access_flags,
+                    name_index,
+                    descriptor_index,
+                    attributes,
+                };
+                Ok((member, rest))
+            }
+            Err(fault) => Err(fault),
+        },
+        Err(fault) => Err(fault),
+    }
 }
 
 // That a method has Code where it may not, or none where it has to.
@@ -143,11 +163,17 @@ fn method_at<'a>(
 ) -> Result<(MemberInfo, &'a [u8]), ClassFault>
     ensures { ReadsUnless fault.Memory (λ x. (x.0, x.1.now)) result (method_at len pool.now bytes.now) }
 {
-    let (method, rest) = member_at(alloc, len, pool, Place::Method, bytes)?;
-    if has_its_code(&method) {
-        Ok((method, rest))
-    } else {
-        Err(code_presence(alloc, pool, &method))
+    match member_at(alloc, len, pool, Place::Method, bytes) {
+        Ok((method, rest)) => {
+            if has_its_code(&method) {
+                Ok((method, rest))
+            } else {
+                let fault = code_presence(alloc, pool, &method);
+                drop(method);
+                Err(fault)
+            }
+        }
+        Err(fault) => Err(fault),
     }
 }
 
@@ -160,14 +186,43 @@ fn so_many_classes_at<'a>(
 ) -> Result<(Seq<u16>, &'a [u8]), ClassFault>
     ensures { ReadsUnless fault.Memory (λ x. (x.0, x.1.now)) result (many (class_index_at len pool.now) count bytes.now) }
 {
-    let mut classes = Vec::new(alloc);
+    let mut classes = Seq::new(alloc);
     let mut rest = bytes;
     for _ in 0..count {
-        let (class, after) = class_index_at(len, pool, rest)?;
-        classes.push(class)?;
-        rest = after;
+        match class_index_at(len, pool, rest) {
+            Ok((class, after)) => {
+                classes.push(class)?;
+                rest = after;
+            }
+            Err(fault) => return Err(fault),
+        }
     }
-    Ok((Seq::from_vec(classes), rest))
+    Ok((classes, rest))
+}
+
+// So many fields, put behind none, and the bytes behind them.
+fn push_fields_at<'a>(
+    alloc: Global,
+    len: usize,
+    pool: &Pool,
+    count: u16,
+    bytes: &'a [u8],
+    fields: &mut Seq<MemberInfo>,
+) -> Result<&'a [u8], ClassFault>
+    requires none { fields.old ≡ [] }
+    ensures { ReadsUnless fault.Memory (λ rest. (fields.new, rest.now)) result (many (field_at len pool.now) count bytes.now) }
+{
+    let mut rest = bytes;
+    for _ in 0..count {
+        match member_at(alloc, len, pool, Place::Field, rest) {
+            Ok((field, after)) => {
+                fields.push(field)?;
+                rest = after;
+            }
+            Err(fault) => return Err(fault),
+        }
+    }
+    Ok(rest)
 }
 
 fn so_many_fields_at<'a>(
@@ -180,13 +235,35 @@ fn so_many_fields_at<'a>(
     ensures { ReadsUnless fault.Memory (λ x. (x.0, x.1.now)) result (many (field_at len pool.now) count bytes.now) }
 {
     let mut fields = Seq::new(alloc);
+    match push_fields_at(alloc, len, pool, count, bytes, &mut fields) {
+        Ok(rest) => Ok((fields, rest)),
+        Err(fault) => Err(fault),
+    }
+}
+
+// So many methods, put behind none, and the bytes behind them.
+fn push_methods_at<'a>(
+    alloc: Global,
+    len: usize,
+    pool: &Pool,
+    count: u16,
+    bytes: &'a [u8],
+    methods: &mut Seq<MemberInfo>,
+) -> Result<&'a [u8], ClassFault>
+    requires none { methods.old ≡ [] }
+    ensures { ReadsUnless fault.Memory (λ rest. (methods.new, rest.now)) result (many (method_at len pool.now) count bytes.now) }
+{
     let mut rest = bytes;
     for _ in 0..count {
-        let (field, after) = member_at(alloc, len, pool, Place::Field, rest)?;
-        fields.push(field)?;
-        rest = after;
+        match method_at(alloc, len, pool, rest) {
+            Ok((method, after)) => {
+                methods.push(method)?;
+                rest = after;
+            }
+            Err(fault) => return Err(fault),
+        }
     }
-    Ok((fields, rest))
+    Ok(rest)
 }
 
 fn so_many_methods_at<'a>(
@@ -199,24 +276,25 @@ fn so_many_methods_at<'a>(
     ensures { ReadsUnless fault.Memory (λ x. (x.0, x.1.now)) result (many (method_at len pool.now) count bytes.now) }
 {
     let mut methods = Seq::new(alloc);
-    let mut rest = bytes;
-    for _ in 0..count {
-        let (method, after) = method_at(alloc, len, pool, rest)?;
-        methods.push(method)?;
-        rest = after;
+    match push_methods_at(alloc, len, pool, count, bytes, &mut methods) {
+        Ok(rest) => Ok((methods, rest)),
+        Err(fault) => Err(fault),
     }
-    Ok((methods, rest))
 }
 
 #[tactic(auto, unfolding(crate::specs::Reading::magic_at))]
 fn magic_at(len: usize, bytes: &[u8]) -> Result<(u32, &[u8]), ClassFault>
     ensures { Reads (λ x. (x.0, x.1.now)) result (magic_at len bytes.now) }
 {
-    let (magic, rest) = u32_at(ClassFault::Cut(len), bytes)?;
-    if magic == 0xCAFE_BABE {
-        Ok((magic, rest))
-    } else {
-        Err(ClassFault::Magic)
+    match u32_at(ClassFault::Cut(len), bytes) {
+        Ok((magic, rest)) => {
+            if magic == 0xCAFE_BABE {
+                Ok((magic, rest))
+            } else {
+                Err(ClassFault::Magic)
+            }
+        }
+        Err(fault) => Err(fault),
     }
 }
 
@@ -224,12 +302,20 @@ fn magic_at(len: usize, bytes: &[u8]) -> Result<(u32, &[u8]), ClassFault>
 fn version_at(len: usize, bytes: &[u8]) -> Result<((u16, u16), &[u8]), ClassFault>
     ensures { Reads (λ x. (x.0, x.1.now)) result (version_at len bytes.now) }
 {
-    let (minor, rest) = u2_at(len, bytes)?;
-    let (major, rest) = u2_at(len, rest)?;
-    if minor == 0 && major == 52 {
-        Ok(((minor, major), rest))
-    } else {
-        Err(ClassFault::Version(major, minor))
+    match u2_at(len, bytes) {
+        Ok((minor, rest)) => {
+            match u2_at(len, rest) {
+                Ok((major, rest)) => {
+                    if minor == 0 && major == 52 {
+                        Ok(((minor, major), rest))
+                    } else {
+                        Err(ClassFault::Version(major, minor))
+                    }
+                }
+                Err(fault) => Err(fault),
+            }
+        }
+        Err(fault) => Err(fault),
     }
 }
 
@@ -239,26 +325,37 @@ type Front = ((u32, (u16, u16)), Pool);
 fn front_at(alloc: Global, len: usize, bytes: &[u8]) -> Result<(Front, &[u8]), ClassFault>
     ensures { ReadsUnless fault.Memory (λ x. (x.0, x.1.now)) result (front_at len bytes.now) }
 {
-    let (magic, rest) = magic_at(len, bytes)?;
-    let (version, rest) = version_at(len, rest)?;
-    match Pool::read(alloc, rest) {
-        Ok((pool, end)) => Ok((((magic, version), pool), rest.split_at(end).1)),
-        Err(fault) => Err(pool_fault(len, fault)),
+    let (magic, rest) = match magic_at(len, bytes) {
+        Ok(read) => read,
+        Err(fault) => return Err(fault),
+    };
+    match version_at(len, rest) {
+        Ok((version, rest)) => match Pool::read(alloc, rest) {
+            Ok((pool, end)) => Ok((((magic, version), pool), rest.split_at(end).1)),
+            Err(fault) => Err(pool_fault(len, fault)),
+        },
+        Err(fault) => Err(fault),
     }
 }
 
+// The flags, this class and its superclass.
+type Names = (u16, (u16, u16));
+
 #[tactic(auto, unfolding(crate::specs::Reading::names_at))]
-fn names_at<'a>(
-    len: usize,
-    pool: &Pool,
-    bytes: &'a [u8],
-) -> Result<((u16, (u16, u16)), &'a [u8]), ClassFault>
+fn names_at<'a>(len: usize, pool: &Pool, bytes: &'a [u8]) -> Result<(Names, &'a [u8]), ClassFault>
     ensures { Reads (λ x. (x.0, x.1.now)) result (names_at len pool.now bytes.now) }
 {
-    let (access_flags, rest) = u2_at(len, bytes)?;
-    let (this_class, rest) = class_index_at(len, pool, rest)?;
-    let (super_class, rest) = class_index_at(len, pool, rest)?;
-    Ok(((access_flags, (this_class, super_class)), rest))
+    let (access_flags, rest) = match u2_at(len, bytes) {
+        Ok(read) => read,
+        Err(fault) => return Err(fault),
+    };
+    match class_index_at(len, pool, rest) {
+        Ok((this_class, rest)) => match class_index_at(len, pool, rest) {
+            Ok((super_class, rest)) => Ok(((access_flags, (this_class, super_class)), rest)),
+            Err(fault) => Err(fault),
+        },
+        Err(fault) => Err(fault),
+    }
 }
 
 // The interfaces.
@@ -270,8 +367,10 @@ fn classes_at<'a>(
 ) -> Result<(Seq<u16>, &'a [u8]), ClassFault>
     ensures { ReadsUnless fault.Memory (λ x. (x.0, x.1.now)) result (list_at len (class_index_at len pool.now) bytes.now) }
 {
-    let (count, rest) = u2_at(len, bytes)?;
-    so_many_classes_at(alloc, len, pool, count, rest)
+    match u2_at(len, bytes) {
+        Ok((count, rest)) => so_many_classes_at(alloc, len, pool, count, rest),
+        Err(fault) => Err(fault),
+    }
 }
 
 fn fields_at<'a>(
@@ -282,8 +381,10 @@ fn fields_at<'a>(
 ) -> Result<(Seq<MemberInfo>, &'a [u8]), ClassFault>
     ensures { ReadsUnless fault.Memory (λ x. (x.0, x.1.now)) result (list_at len (field_at len pool.now) bytes.now) }
 {
-    let (count, rest) = u2_at(len, bytes)?;
-    so_many_fields_at(alloc, len, pool, count, rest)
+    match u2_at(len, bytes) {
+        Ok((count, rest)) => so_many_fields_at(alloc, len, pool, count, rest),
+        Err(fault) => Err(fault),
+    }
 }
 
 fn methods_at<'a>(
@@ -294,14 +395,51 @@ fn methods_at<'a>(
 ) -> Result<(Seq<MemberInfo>, &'a [u8]), ClassFault>
     ensures { ReadsUnless fault.Memory (λ x. (x.0, x.1.now)) result (list_at len (method_at len pool.now) bytes.now) }
 {
-    let (count, rest) = u2_at(len, bytes)?;
-    so_many_methods_at(alloc, len, pool, count, rest)
+    match u2_at(len, bytes) {
+        Ok((count, rest)) => so_many_methods_at(alloc, len, pool, count, rest),
+        Err(fault) => Err(fault),
+    }
 }
 
-type Lists = (
-    (Seq<u16>, Seq<MemberInfo>),
-    (Seq<MemberInfo>, Seq<Attribute>),
-);
+type InterfacesAndFields = (Seq<u16>, Seq<MemberInfo>);
+
+type MethodsAndAttributes = (Seq<MemberInfo>, Seq<Attribute>);
+
+type Lists = (InterfacesAndFields, MethodsAndAttributes);
+
+fn interfaces_and_fields_at<'a>(
+    alloc: Global,
+    len: usize,
+    pool: &Pool,
+    bytes: &'a [u8],
+) -> Result<(InterfacesAndFields, &'a [u8]), ClassFault>
+    ensures { ReadsUnless fault.Memory (λ x. (x.0, x.1.now)) result (both (list_at len (class_index_at len pool.now)) (list_at len (field_at len pool.now)) bytes.now) }
+{
+    match classes_at(alloc, len, pool, bytes) {
+        Ok((interfaces, rest)) => match fields_at(alloc, len, pool, rest) {
+            Ok((fields, rest)) => Ok(((interfaces, fields), rest)),
+            Err(fault) => Err(fault),
+        },
+        Err(fault) => Err(fault),
+    }
+}
+
+fn methods_and_attributes_at<'a>(
+    alloc: Global,
+    len: usize,
+    pool: &Pool,
+    bytes: &'a [u8],
+) -> Result<(MethodsAndAttributes, &'a [u8]), ClassFault>
+    ensures { ReadsUnless fault.Memory (λ x. (x.0, x.1.now)) result (both (list_at len (method_at len pool.now)) (attributes_in len pool.now place.Class) bytes.now) }
+{
+    match methods_at(alloc, len, pool, bytes) {
+        Ok((methods, rest)) => match attributes_in(alloc, len, pool, Place::Class, rest) {
+            Ok((attributes, rest)) => Ok(((methods, attributes), rest)),
+            Err(fault) => Err(fault),
+        },
+        Err(fault) => Err(fault),
+    }
+}
 
 #[tactic(auto, unfolding(crate::specs::Reading::lists_at))]
 fn lists_at<'a>(
@@ -312,33 +450,64 @@ fn lists_at<'a>(
 ) -> Result<(Lists, &'a [u8]), ClassFault>
     ensures { ReadsUnless fault.Memory (λ x. (x.0, x.1.now)) result (lists_at len pool.now bytes.now) }
 {
-    let (interfaces, rest) = classes_at(alloc, len, pool, bytes)?;
-    let (fields, rest) = fields_at(alloc, len, pool, rest)?;
-    let (methods, rest) = methods_at(alloc, len, pool, rest)?;
-    let (attributes, rest) = attributes_in(alloc, len, pool, Place::Class, rest)?;
-    Ok((((interfaces, fields), (methods, attributes)), rest))
+    match interfaces_and_fields_at(alloc, len, pool, bytes) {
+        Ok((first, rest)) => match methods_and_attributes_at(alloc, len, pool, rest) {
+            Ok((last, rest)) => Ok(((first, last), rest)),
+            Err(fault) => Err(fault),
+        },
+        Err(fault) => Err(fault),
+    }
+}
+
+// What stands behind the pool.
+fn behind_pool_at<'a>(
+    alloc: Global,
+    len: usize,
+    pool: &Pool,
+    bytes: &'a [u8],
+) -> Result<((Names, Lists), &'a [u8]), ClassFault>
+    ensures { ReadsUnless fault.Memory (λ x. (x.0, x.1.now)) result (both (names_at len pool.now) (lists_at len pool.now) bytes.now) }
+{
+    match names_at(len, pool, bytes) {
+        Ok((names, rest)) => match lists_at(alloc, len, pool, rest) {
+            Ok((lists, rest)) => Ok(((names, lists), rest)),
+            Err(fault) => Err(fault),
+        },
+        Err(fault) => Err(fault),
+    }
 }
 
 #[tactic(auto, unfolding(crate::specs::Reading::class_at))]
 fn class_at(alloc: Global, len: usize, bytes: &[u8]) -> Result<(ClassFile, &[u8]), ClassFault>
     ensures { ReadsUnless fault.Memory (λ x. (x.0, x.1.now)) result (class_at len bytes.now) }
 {
-    let (((_, version), pool), rest) = front_at(alloc, len, bytes)?;
-    let (names, rest) = names_at(len, &pool, rest)?;
-    let (((interfaces, fields), (methods, attributes)), rest) = lists_at(alloc, len, &pool, rest)?;
-    let file = ClassFile {
-        minor_version: version.0,
-        major_version: version.1,
-        constant_pool: pool,
-        access_flags: names.0,
-        this_class: names.1.0,
-        super_class: names.1.1,
-        interfaces,
-        fields,
-        methods,
-        attributes,
+    let (front, rest) = match front_at(alloc, len, bytes) {
+        Ok(read) => read,
+        Err(fault) => return Err(fault),
     };
-    Ok((file, rest))
+    let ((_, version), pool) = front;
+    match behind_pool_at(alloc, len, &pool, rest) {
+        Ok((found, rest)) => {
+            let (names, ((interfaces, fields), (methods, attributes))) = found;
+            let file = ClassFile {
+                minor_version: version.0,
+                major_version: version.1,
+                constant_pool: pool,
+                access_flags: names.0,
+                this_class: names.1.0,
+                super_class: names.1.1,
+                interfaces,
+                fields,
+                methods,
+                attributes,
+            };
+            Ok((file, rest))
+        }
+        Err(fault) => {
+            drop(pool);
+            Err(fault)
+        }
+    }
 }
 
 #[tactic(auto, unfolding(crate::specs::Text::size_limit))]
@@ -365,11 +534,16 @@ fn class_of(alloc: Global, bytes: &[u8]) -> Result<ClassFile, ClassFault>
     if bytes.len() > size_limit() {
         return Err(ClassFault::TooLarge);
     }
-    let (file, rest) = class_at(alloc, bytes.len(), bytes)?;
-    if rest.is_empty() {
-        Ok(file)
-    } else {
-        Err(ClassFault::Extra(bytes.len() - rest.len()))
+    match class_at(alloc, bytes.len(), bytes) {
+        Ok((file, rest)) => {
+            if rest.is_empty() {
+                Ok(file)
+            } else {
+                drop(file);
+                Err(ClassFault::Extra(bytes.len() - rest.len()))
+            }
+        }
+        Err(fault) => Err(fault),
     }
 }
 

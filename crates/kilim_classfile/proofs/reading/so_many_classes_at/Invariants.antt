@@ -5,4 +5,4 @@ use Rattle.kilim_classfile.specs.Reading.{class_index_at}
 use Rattle.kilim_classfile.proofs.reading.so_many_classes_at.Given as goal
 
 abbrev pub invariant-loop : goal.invariant-loop
-invariant-loop l = with_front l.classes.items (many (class_index_at l.len l.pool) (l.count - l.counter) l.rest) ≡ many (class_index_at l.len l.pool) l.count l.bytes
+invariant-loop l = with_front l.classes (many (class_index_at l.len l.pool) (l.count - l.counter) l.rest) ≡ many (class_index_at l.len l.pool) l.count l.bytes
