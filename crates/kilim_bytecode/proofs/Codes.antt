@@ -130,6 +130,15 @@ module _ (spelling : OneSpelling) where
   no_body bytes (FallsOff a) code f fits is =
       some_none a (falls_off code) (subst (λ (c : List Placed). falls_off c ≡ Some a) (same_code bytes f.code code f.is (body_is bytes code fits is)) f.last) fits.last
 
+  -- what is said of a fault that isn't want of memory
+  pub only_memory : (bytes : List ℕ) (e : CodeFault) (code : List Placed) → (e ≡ Memory) ⊎ HasFault bytes e → BodyFits code → bytes ≡ code_text code → e ≡ Memory
+  only_memory bytes e code (inl m) fits is = m
+  only_memory bytes e code (inr f) fits is = absurd (no_body bytes e code f fits is)
+
+  pub is_first : (bytes : List ℕ) (e fault : CodeFault) → (e ≡ Memory) ⊎ HasFault bytes e → HasFault bytes fault → (e ≡ Memory) ⊎ (e ≡ fault)
+  is_first bytes e fault (inl m) h = inl m
+  is_first bytes e fault (inr f) h = inr (one_fault bytes e fault f h)
+
   pub one_code : OneCode
   one_code a b f g e = same_code (code_text a) a b (body_is (code_text a) a f refl) (body_is (code_text a) b g e)
 
@@ -144,9 +153,13 @@ by_parts bytes code e is (Some jump) last m l f = subst (λ (x : CodeFault). Has
 by_parts bytes code e is None (Some at) m l f = subst (λ (x : CodeFault). HasFault bytes x) (one_kind (FallsOff at) e f) (record { code = code; is = is; targets = m; last = l })
 by_parts bytes code e is None None m l f = absurd cc
 
-pub failed : (bytes : List ℕ) (code : List Placed) (e : CodeFault) → IsCode bytes code → body_fault code ≡ Some e → HasFault bytes e
+failed : (bytes : List ℕ) (code : List Placed) (e : CodeFault) → IsCode bytes code → body_fault code ≡ Some e → HasFault bytes e
 unfolding body_fault
 failed bytes code e is f = by_parts bytes code e is (mid_target code) (falls_off code) refl refl f
+
+pub of_body : (bytes : List ℕ) (code : List Placed) (e : CodeFault) → IsCode bytes code → (e ≡ Memory) ⊎ (body_fault code ≡ Some e) → (e ≡ Memory) ⊎ HasFault bytes e
+of_body bytes code e is (inl m) = inl m
+of_body bytes code e is (inr f) = inr (failed bytes code e is f)
 
 fits_by_parts : (bytes : List ℕ) (code : List Placed) → IsCode bytes code → (mid : Option (ℕ × ℤ)) (last : Option ℕ) → mid_target code ≡ mid → falls_off code ≡ last → target_or_end mid last ≡ None → BodyFits code
 fits_by_parts bytes code is (Some jump) last m l f = absurd cc

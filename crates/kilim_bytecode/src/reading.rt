@@ -1,6 +1,6 @@
 //! Bytes to a code array.
 
-ghost use Rattle.std.specs.Prelude.{◌≡◌, ◌⊎◌, ◌<◌, ◌^◌, ℕ, length, drop, None, IfOk, IfErr, MatchResult};
+ghost use Rattle.std.specs.Prelude.{◌≡◌, ◌⊎◌, ◌<◌, ◌^◌, ℕ, [], length, drop, Some, None, OnOk, IfOk, IfErr, MatchResult};
 ghost use Rattle.kilim_bytecode.specs.declared.body.Body.{Body};
 ghost use Rattle.kilim_bytecode.specs.declared.fault.CodeFault.{CodeFault};
 ghost use Rattle.kilim_bytecode.specs.declared.fault.CodeFault.TheVariants.{Memory};
@@ -13,7 +13,7 @@ use crate::fault::CodeFault;
 use crate::marks::mid_target;
 use crate::opcodes::{OpFault, RawInstr, lengths, one_spelling, read_instr};
 use kilim_units::Seq;
-use std::alloc::{AllocError, Global};
+use std::alloc::Global;
 
 fn op_fault(fault: OpFault, at: u32) -> CodeFault
     ensures { result ≡ op_fault at fault }
@@ -24,14 +24,18 @@ fn op_fault(fault: OpFault, at: u32) -> CodeFault
     }
 }
 
-// The instructions of a code array, whatever their targets.
-fn instrs_of(alloc: Global, code: &[u8]) -> Result<Vec<(u32, RawInstr)>, CodeFault>
-    requires { length code.now < 2 ^ 32 }
-    ensures found { IfOk result (λ instrs. IsCode code.now instrs.items) }
+// The instructions of a code array, whatever their targets, put behind none.
+fn push_instrs(
+    alloc: Global,
+    code: &[u8],
+    instrs: &mut Seq<(u32, RawInstr)>,
+) -> Result<(), CodeFault>
+    requires len { length code.now < 2 ^ 32 }
+    requires none { instrs.old ≡ [] }
+    ensures found { OnOk result (IsCode code.now instrs.new) }
     ensures fault { IfErr result (λ e. (e ≡ Memory) ⊎ HasFault code.now e) }
 {
     lengths();
-    let mut instrs = Vec::new(alloc);
     let mut at = 0;
     while at < code.len() {
         match read_instr(alloc, code, at) {
@@ -42,7 +46,19 @@ fn instrs_of(alloc: Global, code: &[u8]) -> Result<Vec<(u32, RawInstr)>, CodeFau
             Err(fault) => return Err(op_fault(fault, at as u32)),
         }
     }
-    Ok(instrs)
+    Ok(())
+}
+
+fn instrs_of(alloc: Global, code: &[u8]) -> Result<Seq<(u32, RawInstr)>, CodeFault>
+    requires { length code.now < 2 ^ 32 }
+    ensures found { IfOk result (λ instrs. IsCode code.now instrs) }
+    ensures fault { IfErr result (λ e. (e ≡ Memory) ⊎ HasFault code.now e) }
+{
+    let mut instrs = Seq::new(alloc);
+    match push_instrs(alloc, code, &mut instrs) {
+        Ok(()) => Ok(instrs),
+        Err(fault) => Err(fault),
+    }
 }
 
 #[tactic(auto, unfolding(crate::specs::Code::ends))]
@@ -69,19 +85,21 @@ fn falls_off(code: &[(u32, RawInstr)]) -> Option<u32>
     }
 }
 
-// The first fault of the targets and the end of instructions that stand one behind the other.
+// Whether the targets and the end of instructions that stand one behind the other are as they have to be; else the
+// first fault.
 #[tactic(auto, unfolding(crate::specs::Exact::body_fault))]
-fn body_fault(
-    alloc: Global,
-    code: &[(u32, RawInstr)],
-    len: usize,
-) -> Result<Option<CodeFault>, AllocError>
+fn check_body(alloc: Global, code: &[(u32, RawInstr)], len: usize) -> Result<(), CodeFault>
     requires { PlacesBelow len code.now }
-    ensures { IfOk result (λ fault. fault ≡ body_fault code.now) }
+    ensures ok { OnOk result (body_fault code.now ≡ None) }
+    ensures err { IfErr result (λ e. (e ≡ Memory) ⊎ (body_fault code.now ≡ Some e)) }
 {
-    match mid_target(alloc, code, len)? {
-        Some((at, to)) => Ok(Some(CodeFault::MidTarget(at, to))),
-        None => Ok(falls_off(code).map(CodeFault::FallsOff)),
+    match mid_target(alloc, code, len) {
+        Ok(Some((at, to))) => Err(CodeFault::MidTarget(at, to)),
+        Ok(None) => match falls_off(code) {
+            Some(at) => Err(CodeFault::FallsOff(at)),
+            None => Ok(()),
+        },
+        Err(_) => Err(CodeFault::Memory),
     }
 }
 
@@ -108,10 +126,11 @@ pub fn decode(alloc: Global, code: &[u8]) -> Result<Body, CodeFault>
 {
     one_spelling();
     let instrs = instrs_of(alloc, code)?;
-    match body_fault(alloc, instrs.as_slice(), code.len())? {
-        Some(fault) => Err(fault),
-        None => Ok(Body {
-            code: Seq::from_vec(instrs),
-        }),
+    match check_body(alloc, instrs.as_slice(), code.len()) {
+        Ok(()) => Ok(Body { code: instrs }),
+        Err(fault) => {
+            drop(instrs);
+            Err(fault)
+        }
     }
 }

@@ -1,46 +1,17 @@
 -- Bytes that are added piece by piece.
-use Rattle.std.proofs.Common.{◌≡◌, ℕ, zero, suc, ◌+◌, ◌<◌, ℤ, Option, Some, Result, Ok, Err, List, [], ◌∷◌, ◌++◌, length, take, drop, get_or, sym, ap, ◌∙◌, append_assoc, add-one, arith}
-use Rattle.std.specs.Prelude.{OnOk, OnErr}
-use Rattle.std.specs.Io.{StartsWith}
+use Rattle.std.proofs.Common.{◌≡◌, ℕ, zero, suc, ◌+◌, ◌<◌, ℤ, Option, Some, Result, Ok, Err, List, [], ◌∷◌, ◌++◌, length, take, get_or, sym, ap, ◌∙◌, append_assoc, add-one, arith}
+use Rattle.std.specs.Prelude.{OnOk}
 use Rattle.std.specs.Int.{w32}
 use Rattle.std.specs.List.{flat_map, AllByRecursion}
-use Rattle.std.proofs.Math.Seq.{take-append_seam, take-length}
-use Rattle.std.proofs.lemmas.List.{append-nil, take-append-drop}
+use Rattle.std.proofs.lemmas.List.{append-nil}
 use Rattle.kilim_bytecode.specs.opcodes.Instr.{TargetFits, PairsFit}
 
-pub joined : (old mid new x y : List ℕ) → mid ≡ old ++ x → new ≡ mid ++ y → new ≡ old ++ (x ++ y)
+joined : (old mid new x y : List ℕ) → mid ≡ old ++ x → new ≡ mid ++ y → new ≡ old ++ (x ++ y)
 joined old mid new x y e f = f ∙ (ap (λ (m : List ℕ). m ++ y) e ∙ append_assoc old x y)
-
-pub still : (old new : List ℕ) → new ≡ old → StartsWith new old
-still old new e = rw e (take-length old)
-
-pub begun : (old new x : List ℕ) → new ≡ old ++ x → StartsWith new old
-begun old new x e = rw e (take-append_seam old x)
-
-pub begun_more : (old mid new x : List ℕ) → mid ≡ old ++ x → StartsWith new mid → StartsWith new old
-begun_more old mid new x e h =
-    begun old new (x ++ drop (length mid) new)
-    (sym (take-append-drop (length mid) new) ∙ (ap (λ (front : List ℕ). front ++ drop (length mid) new) (h ∙ e) ∙ append_assoc old x (drop (length mid) new)))
-
-pub on_err : {T E : Type 0} {P : Type 0} (r : Result T E) → P → OnErr r P
-on_err (Ok v) h = tt
-on_err (Err v) h = h
 
 pub on_joined : {T E : Type 0} (r : Result T E) (old mid new x y : List ℕ) → mid ≡ old ++ x → OnOk r (new ≡ mid ++ y) → OnOk r (new ≡ old ++ (x ++ y))
 on_joined (Ok v) old mid new x y e h = joined old mid new x y e h
 on_joined (Err v) old mid new x y e h = tt
-
-pub on_still : {T E : Type 0} (r : Result T E) (old new : List ℕ) → OnErr r (new ≡ old) → OnErr r (StartsWith new old)
-on_still (Ok v) old new h = tt
-on_still (Err v) old new h = still old new h
-
-pub on_begun : {T E : Type 0} (r : Result T E) (old mid new x : List ℕ) → mid ≡ old ++ x → OnErr r (StartsWith new mid) → OnErr r (StartsWith new old)
-on_begun (Ok v) old mid new x e h = tt
-on_begun (Err v) old mid new x e h = begun_more old mid new x e h
-
-pub on_stayed : {T E : Type 0} (r : Result T E) (old mid new x : List ℕ) → mid ≡ old ++ x → OnErr r (new ≡ mid) → OnErr r (StartsWith new old)
-on_stayed (Ok v) old mid new x e h = tt
-on_stayed (Err v) old mid new x e h = begun old new x (h ∙ e)
 
 pub target_fits : (at : ℕ) (targets : List ℤ) (i : ℕ) (d : ℤ) → AllByRecursion (TargetFits w32 at) targets → i < length targets → TargetFits w32 at (get_or targets i d)
 target_fits at [] i d all lt = absurd (omega arith)

@@ -2,10 +2,11 @@
 
 ghost use Rattle.std.specs.Prelude.{◌≡◌, ◌⊎◌, ◌++◌, ◌<◌, ℕ, List, length, drop, Some, None, IfOk, IfErr, MatchResult};
 ghost use Rattle.std.specs.Int.{w8, w16, w32};
-ghost use Rattle.kilim_grammar.specs.Reader.{Reads, ReadsUnless, tested};
+ghost use Rattle.kilim_grammar.specs.Reader.{Reads, ReadsUnless, both, made, tested};
 ghost use Rattle.kilim_bytecode.specs.declared.opcodes.fault.OpFault.{OpFault};
 ghost use Rattle.kilim_bytecode.specs.declared.opcodes.fault.OpFault.TheVariants.{Memory};
 ghost use Rattle.kilim_bytecode.specs.declared.opcodes.instr.RawInstr.{RawInstr};
+ghost use Rattle.kilim_bytecode.specs.declared.opcodes.instr.RawInstr.TheVariants.{WideIinc};
 ghost use Rattle.kilim_bytecode.specs.declared.opcodes.forms.OpForm.TheVariants as form;
 ghost use Rattle.kilim_bytecode.specs.opcodes.Table.{form_of};
 ghost use Rattle.kilim_bytecode.specs.opcodes.Instr.{is_array_code, instr_text, InstrFits};
@@ -22,22 +23,28 @@ use std::alloc::Global;
 pub fn i8_at(bytes: &[u8]) -> Result<(i8, &[u8]), OpFault>
     ensures { Reads (λ x. (x.0, x.1.now)) result (integer_at w8 bytes.now) }
 {
-    let (number, rest) = u8_at(OpFault::Cut, bytes)?;
-    Ok((number.cast_signed(), rest))
+    match u8_at(OpFault::Cut, bytes) {
+        Ok((number, rest)) => Ok((number.cast_signed(), rest)),
+        Err(fault) => Err(fault),
+    }
 }
 
 pub fn i16_at(bytes: &[u8]) -> Result<(i16, &[u8]), OpFault>
     ensures { Reads (λ x. (x.0, x.1.now)) result (integer_at w16 bytes.now) }
 {
-    let (number, rest) = u16_at(OpFault::Cut, bytes)?;
-    Ok((number.cast_signed(), rest))
+    match u16_at(OpFault::Cut, bytes) {
+        Ok((number, rest)) => Ok((number.cast_signed(), rest)),
+        Err(fault) => Err(fault),
+    }
 }
 
 pub fn i32_at(bytes: &[u8]) -> Result<(i32, &[u8]), OpFault>
     ensures { Reads (λ x. (x.0, x.1.now)) result (integer_at w32 bytes.now) }
 {
-    let (number, rest) = u32_at(OpFault::Cut, bytes)?;
-    Ok((number.cast_signed(), rest))
+    match u32_at(OpFault::Cut, bytes) {
+        Ok((number, rest)) => Ok((number.cast_signed(), rest)),
+        Err(fault) => Err(fault),
+    }
 }
 
 // The place at this distance, if there is one.
@@ -51,10 +58,12 @@ fn place_at(at: usize, distance: i32) -> Option<i64>
 fn near_target_at(op: u8, at: usize, bytes: &[u8]) -> Result<(i64, &[u8]), OpFault>
     ensures { Reads (λ x. (x.0, x.1.now)) result (target_at op at w16 bytes.now) }
 {
-    let (distance, rest) = i16_at(bytes)?;
-    match place_at(at, i32::from(distance)) {
-        Some(to) => Ok((to, rest)),
-        None => Err(OpFault::Unknown(op)),
+    match i16_at(bytes) {
+        Ok((distance, rest)) => match place_at(at, i32::from(distance)) {
+            Some(to) => Ok((to, rest)),
+            None => Err(OpFault::Unknown(op)),
+        },
+        Err(fault) => Err(fault),
     }
 }
 
@@ -63,10 +72,12 @@ fn near_target_at(op: u8, at: usize, bytes: &[u8]) -> Result<(i64, &[u8]), OpFau
 pub fn target_at(op: u8, at: usize, bytes: &[u8]) -> Result<(i64, &[u8]), OpFault>
     ensures { Reads (λ x. (x.0, x.1.now)) result (target_at op at w32 bytes.now) }
 {
-    let (distance, rest) = i32_at(bytes)?;
-    match place_at(at, distance) {
-        Some(to) => Ok((to, rest)),
-        None => Err(OpFault::Unknown(op)),
+    match i32_at(bytes) {
+        Ok((distance, rest)) => match place_at(at, distance) {
+            Some(to) => Ok((to, rest)),
+            None => Err(OpFault::Unknown(op)),
+        },
+        Err(fault) => Err(fault),
     }
 }
 
@@ -80,78 +91,112 @@ fn is_array_code(code: u8) -> bool
 fn byte_at(op: u8, at: usize, bytes: &[u8]) -> Result<(RawInstr, &[u8]), OpFault>
     ensures { Reads (λ x. (x.0, x.1.now)) result (operands_at at op form.Byte bytes.now) }
 {
-    let (number, rest) = i8_at(bytes)?;
-    Ok((RawInstr::Byte(op, number), rest))
+    match i8_at(bytes) {
+        Ok((number, rest)) => Ok((RawInstr::Byte(op, number), rest)),
+        Err(fault) => Err(fault),
+    }
 }
 
 #[tactic(auto, unfolding(crate::specs::opcodes::Reading::operands_at))]
 fn short_at(op: u8, at: usize, bytes: &[u8]) -> Result<(RawInstr, &[u8]), OpFault>
     ensures { Reads (λ x. (x.0, x.1.now)) result (operands_at at op form.Short bytes.now) }
 {
-    let (number, rest) = i16_at(bytes)?;
-    Ok((RawInstr::Short(op, number), rest))
+    match i16_at(bytes) {
+        Ok((number, rest)) => Ok((RawInstr::Short(op, number), rest)),
+        Err(fault) => Err(fault),
+    }
 }
 
 #[tactic(auto, unfolding(crate::specs::opcodes::Reading::operands_at))]
 fn local_at(op: u8, at: usize, bytes: &[u8]) -> Result<(RawInstr, &[u8]), OpFault>
     ensures { Reads (λ x. (x.0, x.1.now)) result (operands_at at op form.Local bytes.now) }
 {
-    let (slot, rest) = u8_at(OpFault::Cut, bytes)?;
-    Ok((RawInstr::Local(op, slot), rest))
+    match u8_at(OpFault::Cut, bytes) {
+        Ok((slot, rest)) => Ok((RawInstr::Local(op, slot), rest)),
+        Err(fault) => Err(fault),
+    }
 }
 
 #[tactic(auto, unfolding(crate::specs::opcodes::Reading::operands_at))]
 fn constant_at(op: u8, at: usize, bytes: &[u8]) -> Result<(RawInstr, &[u8]), OpFault>
     ensures { Reads (λ x. (x.0, x.1.now)) result (operands_at at op form.Constant bytes.now) }
 {
-    let (index, rest) = u8_at(OpFault::Cut, bytes)?;
-    Ok((RawInstr::Constant(op, index), rest))
+    match u8_at(OpFault::Cut, bytes) {
+        Ok((index, rest)) => Ok((RawInstr::Constant(op, index), rest)),
+        Err(fault) => Err(fault),
+    }
 }
 
 #[tactic(auto, unfolding(crate::specs::opcodes::Reading::operands_at))]
 fn index_at(op: u8, at: usize, bytes: &[u8]) -> Result<(RawInstr, &[u8]), OpFault>
     ensures { Reads (λ x. (x.0, x.1.now)) result (operands_at at op form.Index bytes.now) }
 {
-    let (index, rest) = u16_at(OpFault::Cut, bytes)?;
-    Ok((RawInstr::Index(op, index), rest))
+    match u16_at(OpFault::Cut, bytes) {
+        Ok((index, rest)) => Ok((RawInstr::Index(op, index), rest)),
+        Err(fault) => Err(fault),
+    }
 }
 
 #[tactic(auto, unfolding(crate::specs::opcodes::Reading::operands_at))]
 fn iinc_at(op: u8, at: usize, bytes: &[u8]) -> Result<(RawInstr, &[u8]), OpFault>
     ensures { Reads (λ x. (x.0, x.1.now)) result (operands_at at op form.Iinc bytes.now) }
 {
-    let (slot, rest) = u8_at(OpFault::Cut, bytes)?;
-    let (number, rest) = i8_at(rest)?;
-    Ok((RawInstr::Iinc(op, slot, number), rest))
+    match u8_at(OpFault::Cut, bytes) {
+        Ok((slot, rest)) => match i8_at(rest) {
+            Ok((number, rest)) => Ok((RawInstr::Iinc(op, slot, number), rest)),
+            Err(fault) => Err(fault),
+        },
+        Err(fault) => Err(fault),
+    }
 }
 
 #[tactic(auto, unfolding(crate::specs::opcodes::Reading::operands_at))]
 fn jump_at(op: u8, at: usize, bytes: &[u8]) -> Result<(RawInstr, &[u8]), OpFault>
     ensures { Reads (λ x. (x.0, x.1.now)) result (operands_at at op form.Jump bytes.now) }
 {
-    let (to, rest) = near_target_at(op, at, bytes)?;
-    Ok((RawInstr::Jump(op, to), rest))
+    match near_target_at(op, at, bytes) {
+        Ok((to, rest)) => Ok((RawInstr::Jump(op, to), rest)),
+        Err(fault) => Err(fault),
+    }
 }
 
 #[tactic(auto, unfolding(crate::specs::opcodes::Reading::operands_at))]
 fn wide_jump_at(op: u8, at: usize, bytes: &[u8]) -> Result<(RawInstr, &[u8]), OpFault>
     ensures { Reads (λ x. (x.0, x.1.now)) result (operands_at at op form.WideJump bytes.now) }
 {
-    let (to, rest) = target_at(op, at, bytes)?;
-    Ok((RawInstr::WideJump(op, to), rest))
+    match target_at(op, at, bytes) {
+        Ok((to, rest)) => Ok((RawInstr::WideJump(op, to), rest)),
+        Err(fault) => Err(fault),
+    }
 }
 
 #[tactic(auto, unfolding(crate::specs::opcodes::Reading::operands_at))]
 fn new_array_at(op: u8, at: usize, bytes: &[u8]) -> Result<(RawInstr, &[u8]), OpFault>
     ensures { Reads (λ x. (x.0, x.1.now)) result (operands_at at op form.NewArray bytes.now) }
 {
-    let (code, rest) = u8_at(OpFault::Cut, bytes)?;
-    if is_array_code(code) {
-        Ok((RawInstr::NewArray(op, code), rest))
-    } else if code == 6 || code == 7 {
-        Err(OpFault::LeftOut(op))
-    } else {
-        Err(OpFault::Unknown(op))
+    match u8_at(OpFault::Cut, bytes) {
+        Ok((code, rest)) => {
+            if is_array_code(code) {
+                Ok((RawInstr::NewArray(op, code), rest))
+            } else if code == 6 || code == 7 {
+                Err(OpFault::LeftOut(op))
+            } else {
+                Err(OpFault::Unknown(op))
+            }
+        }
+        Err(fault) => Err(fault),
+    }
+}
+
+fn wide_iinc_at(op: u8, bytes: &[u8]) -> Result<(RawInstr, &[u8]), OpFault>
+    ensures { Reads (λ x. (x.0, x.1.now)) result (made (λ x. WideIinc op x.0 x.1) (both (unsigned_at w16) (integer_at w16)) bytes.now) }
+{
+    match u16_at(OpFault::Cut, bytes) {
+        Ok((slot, rest)) => match i16_at(rest) {
+            Ok((number, rest)) => Ok((RawInstr::WideIinc(op, slot, number), rest)),
+            Err(fault) => Err(fault),
+        },
+        Err(fault) => Err(fault),
     }
 }
 
@@ -164,15 +209,11 @@ fn wide_operands_at(
     ensures { Reads (λ x. (x.0, x.1.now)) result (wide_operands_at op layout bytes.now) }
 {
     match layout {
-        Some(OpForm::Local) => {
-            let (slot, rest) = u16_at(OpFault::Cut, bytes)?;
-            Ok((RawInstr::WideLocal(op, slot), rest))
-        }
-        Some(OpForm::Iinc) => {
-            let (slot, rest) = u16_at(OpFault::Cut, bytes)?;
-            let (number, rest) = i16_at(rest)?;
-            Ok((RawInstr::WideIinc(op, slot, number), rest))
-        }
+        Some(OpForm::Local) => match u16_at(OpFault::Cut, bytes) {
+            Ok((slot, rest)) => Ok((RawInstr::WideLocal(op, slot), rest)),
+            Err(fault) => Err(fault),
+        },
+        Some(OpForm::Iinc) => wide_iinc_at(op, bytes),
         _ => Err(OpFault::Unknown(196)),
     }
 }
@@ -181,8 +222,10 @@ fn wide_operands_at(
 fn wide_at(bytes: &[u8]) -> Result<(RawInstr, &[u8]), OpFault>
     ensures { Reads (λ x. (x.0, x.1.now)) result (wide_at bytes.now) }
 {
-    let (op, rest) = u8_at(OpFault::Cut, bytes)?;
-    wide_operands_at(op, form(op), rest)
+    match u8_at(OpFault::Cut, bytes) {
+        Ok((op, rest)) => wide_operands_at(op, form(op), rest),
+        Err(fault) => Err(fault),
+    }
 }
 
 #[tactic(auto, unfolding(crate::specs::opcodes::Reading::operands_at))]
@@ -217,10 +260,12 @@ fn operands_at(
 fn instr_at(alloc: Global, at: usize, bytes: &[u8]) -> Result<(RawInstr, &[u8]), OpFault>
     ensures { ReadsUnless Memory (λ x. (x.0, x.1.now)) result (instr_at at bytes.now) }
 {
-    let (op, rest) = u8_at(OpFault::Cut, bytes)?;
-    match form(op) {
-        Some(layout) => operands_at(alloc, op, layout, at, rest),
-        None => Err(unlisted(op)),
+    match u8_at(OpFault::Cut, bytes) {
+        Ok((op, rest)) => match form(op) {
+            Some(layout) => operands_at(alloc, op, layout, at, rest),
+            None => Err(unlisted(op)),
+        },
+        Err(fault) => Err(fault),
     }
 }
 
@@ -246,6 +291,8 @@ pub fn read_instr(alloc: Global, code: &[u8], at: usize) -> Result<(RawInstr, us
     ensures first { (fault : OpFault) → HasFault code.now at fault → MatchResult result (λ read. ⊥) (IsUnlessMemory fault) }
 {
     let (_, bytes) = code.split_at(at);
-    let (instr, rest) = instr_at(alloc, at, bytes)?;
-    Ok((instr, code.len() - rest.len()))
+    match instr_at(alloc, at, bytes) {
+        Ok((instr, rest)) => Ok((instr, code.len() - rest.len())),
+        Err(fault) => Err(fault),
+    }
 }

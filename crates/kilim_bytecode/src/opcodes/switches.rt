@@ -2,7 +2,7 @@
 
 ghost use Rattle.std.specs.Prelude.{◌≡◌, ◌≤ℤ◌, None, IfOk};
 ghost use Rattle.std.specs.Int.{w32};
-ghost use Rattle.kilim_grammar.specs.Reader.{Reads, ReadsUnless, many};
+ghost use Rattle.kilim_grammar.specs.Reader.{Reads, ReadsUnless, both, many};
 ghost use Rattle.kilim_bytecode.specs.declared.opcodes.fault.OpFault.TheVariants.{Memory};
 ghost use Rattle.kilim_bytecode.specs.declared.opcodes.forms.OpForm.TheVariants as form;
 ghost use Rattle.kilim_bytecode.specs.opcodes.Instr.{padding};
@@ -30,11 +30,15 @@ fn zeros_at(op: u8, count: usize, bytes: &[u8]) -> Result<&[u8], OpFault>
 {
     let mut rest = bytes;
     for _ in 0..count {
-        let (zero, after) = u8_at(OpFault::Cut, rest)?;
-        if zero != 0 {
-            return Err(OpFault::Unknown(op));
+        match u8_at(OpFault::Cut, rest) {
+            Ok((zero, after)) => {
+                if zero != 0 {
+                    return Err(OpFault::Unknown(op));
+                }
+                rest = after;
+            }
+            Err(fault) => return Err(fault),
         }
-        rest = after;
     }
     Ok(rest)
 }
@@ -44,12 +48,18 @@ fn range_at(op: u8, bytes: &[u8]) -> Result<((i32, i32), &[u8]), OpFault>
     ensures read { Reads (λ x. (x.0, x.1.now)) result (range_at op bytes.now) }
     ensures ordered { IfOk result (λ x. x.0.0 ≤ℤ x.0.1) }
 {
-    let (low, rest) = i32_at(bytes)?;
-    let (high, rest) = i32_at(rest)?;
-    if low <= high {
-        Ok(((low, high), rest))
-    } else {
-        Err(OpFault::Unknown(op))
+    match i32_at(bytes) {
+        Ok((low, rest)) => match i32_at(rest) {
+            Ok((high, rest)) => {
+                if low <= high {
+                    Ok(((low, high), rest))
+                } else {
+                    Err(OpFault::Unknown(op))
+                }
+            }
+            Err(fault) => Err(fault),
+        },
+        Err(fault) => Err(fault),
     }
 }
 
@@ -62,14 +72,18 @@ fn targets_at(
 ) -> Result<(Seq<i64>, &[u8]), OpFault>
     ensures { ReadsUnless Memory (λ x. (x.0, x.1.now)) result (many (target_at op at w32) count bytes.now) }
 {
-    let mut targets = Vec::new(alloc);
+    let mut targets = Seq::new(alloc);
     let mut rest = bytes;
     for _ in 0..count {
-        let (to, after) = target_at(op, at, rest)?;
-        targets.push(to)?;
-        rest = after;
+        match target_at(op, at, rest) {
+            Ok((to, after)) => {
+                targets.push(to)?;
+                rest = after;
+            }
+            Err(fault) => return Err(fault),
+        }
     }
-    Ok((Seq::from_vec(targets), rest))
+    Ok((targets, rest))
 }
 
 // How many numbers lie from the low to the high.
@@ -80,14 +94,33 @@ fn targets_in(low: i32, high: i32) -> u64
     u64::from(high.abs_diff(low)) + 1
 }
 
+// The default, the low and the high.
+fn table_head_at(op: u8, at: usize, bytes: &[u8]) -> Result<((i64, (i32, i32)), &[u8]), OpFault>
+    ensures read { Reads (λ x. (x.0, x.1.now)) result (both (target_at op at w32) (range_at op) bytes.now) }
+    ensures ordered { IfOk result (λ x. x.0.1.0 ≤ℤ x.0.1.1) }
+{
+    match target_at(op, at, bytes) {
+        Ok((default, rest)) => match range_at(op, rest) {
+            Ok((range, rest)) => Ok(((default, range), rest)),
+            Err(fault) => Err(fault),
+        },
+        Err(fault) => Err(fault),
+    }
+}
+
 #[tactic(auto, unfolding(crate::specs::opcodes::Reading::table_at))]
 fn table_at(alloc: Global, op: u8, at: usize, bytes: &[u8]) -> Result<(RawInstr, &[u8]), OpFault>
     ensures { ReadsUnless Memory (λ x. (x.0, x.1.now)) result (table_at op at bytes.now) }
 {
-    let (default, rest) = target_at(op, at, bytes)?;
-    let ((low, high), rest) = range_at(op, rest)?;
-    let (targets, rest) = targets_at(alloc, op, at, targets_in(low, high), rest)?;
-    Ok((RawInstr::TableSwitch(op, default, low, targets), rest))
+    match table_head_at(op, at, bytes) {
+        Ok(((default, (low, high)), rest)) => {
+            match targets_at(alloc, op, at, targets_in(low, high), rest) {
+                Ok((targets, rest)) => Ok((RawInstr::TableSwitch(op, default, low, targets), rest)),
+                Err(fault) => Err(fault),
+            }
+        }
+        Err(fault) => Err(fault),
+    }
 }
 
 #[tactic(auto, unfolding(crate::specs::opcodes::Reading::operands_at))]
@@ -99,19 +132,25 @@ pub fn table_switch_at(
 ) -> Result<(RawInstr, &[u8]), OpFault>
     ensures { ReadsUnless Memory (λ x. (x.0, x.1.now)) result (operands_at at op form.TableSwitch bytes.now) }
 {
-    let rest = zeros_at(op, padding(at), bytes)?;
-    table_at(alloc, op, at, rest)
+    match zeros_at(op, padding(at), bytes) {
+        Ok(rest) => table_at(alloc, op, at, rest),
+        Err(fault) => Err(fault),
+    }
 }
 
 #[tactic(auto, unfolding(crate::specs::opcodes::Reading::count_at))]
 fn count_at(op: u8, bytes: &[u8]) -> Result<(u32, &[u8]), OpFault>
     ensures { Reads (λ x. (x.0, x.1.now)) result (count_at op bytes.now) }
 {
-    let (count, rest) = u32_at(OpFault::Cut, bytes)?;
-    if count < 0x8000_0000 {
-        Ok((count, rest))
-    } else {
-        Err(OpFault::Unknown(op))
+    match u32_at(OpFault::Cut, bytes) {
+        Ok((count, rest)) => {
+            if count < 0x8000_0000 {
+                Ok((count, rest))
+            } else {
+                Err(OpFault::Unknown(op))
+            }
+        }
+        Err(fault) => Err(fault),
     }
 }
 
@@ -133,12 +172,18 @@ fn pair_at(
 ) -> Result<((i32, i64), &[u8]), OpFault>
     ensures { Reads (λ x. (x.0, x.1.now)) result (pair_at op at least bytes.now) }
 {
-    let (key, rest) = i32_at(bytes)?;
-    if !is_above(least, key) {
-        return Err(OpFault::Unknown(op));
+    match i32_at(bytes) {
+        Ok((key, rest)) => {
+            if !is_above(least, key) {
+                return Err(OpFault::Unknown(op));
+            }
+            match target_at(op, at, rest) {
+                Ok((to, rest)) => Ok(((key, to), rest)),
+                Err(fault) => Err(fault),
+            }
+        }
+        Err(fault) => Err(fault),
     }
-    let (to, rest) = target_at(op, at, rest)?;
-    Ok(((key, to), rest))
 }
 
 fn pairs_at(
@@ -150,26 +195,46 @@ fn pairs_at(
 ) -> Result<(Seq<(i32, i64)>, &[u8]), OpFault>
     ensures { ReadsUnless Memory (λ x. (x.0, x.1.now)) result (pairs_at op at count None bytes.now) }
 {
-    let mut pairs = Vec::new(alloc);
+    let mut pairs = Seq::new(alloc);
     let mut least = None;
     let mut rest = bytes;
     for _ in 0..count {
-        let (pair, after) = pair_at(op, at, least, rest)?;
-        pairs.push(pair)?;
-        least = Some(pair.0);
-        rest = after;
+        match pair_at(op, at, least, rest) {
+            Ok((pair, after)) => {
+                pairs.push(pair)?;
+                least = Some(pair.0);
+                rest = after;
+            }
+            Err(fault) => return Err(fault),
+        }
     }
-    Ok((Seq::from_vec(pairs), rest))
+    Ok((pairs, rest))
+}
+
+// The default and the count.
+fn lookup_head_at(op: u8, at: usize, bytes: &[u8]) -> Result<((i64, u32), &[u8]), OpFault>
+    ensures { Reads (λ x. (x.0, x.1.now)) result (both (target_at op at w32) (count_at op) bytes.now) }
+{
+    match target_at(op, at, bytes) {
+        Ok((default, rest)) => match count_at(op, rest) {
+            Ok((count, rest)) => Ok(((default, count), rest)),
+            Err(fault) => Err(fault),
+        },
+        Err(fault) => Err(fault),
+    }
 }
 
 #[tactic(auto, unfolding(crate::specs::opcodes::Reading::lookup_at))]
 fn lookup_at(alloc: Global, op: u8, at: usize, bytes: &[u8]) -> Result<(RawInstr, &[u8]), OpFault>
     ensures { ReadsUnless Memory (λ x. (x.0, x.1.now)) result (lookup_at op at bytes.now) }
 {
-    let (default, rest) = target_at(op, at, bytes)?;
-    let (count, rest) = count_at(op, rest)?;
-    let (pairs, rest) = pairs_at(alloc, op, at, count, rest)?;
-    Ok((RawInstr::LookupSwitch(op, default, pairs), rest))
+    match lookup_head_at(op, at, bytes) {
+        Ok(((default, count), rest)) => match pairs_at(alloc, op, at, count, rest) {
+            Ok((pairs, rest)) => Ok((RawInstr::LookupSwitch(op, default, pairs), rest)),
+            Err(fault) => Err(fault),
+        },
+        Err(fault) => Err(fault),
+    }
 }
 
 #[tactic(auto, unfolding(crate::specs::opcodes::Reading::operands_at))]
@@ -181,6 +246,8 @@ pub fn lookup_switch_at(
 ) -> Result<(RawInstr, &[u8]), OpFault>
     ensures { ReadsUnless Memory (λ x. (x.0, x.1.now)) result (operands_at at op form.LookupSwitch bytes.now) }
 {
-    let rest = zeros_at(op, padding(at), bytes)?;
-    lookup_at(alloc, op, at, rest)
+    match zeros_at(op, padding(at), bytes) {
+        Ok(rest) => lookup_at(alloc, op, at, rest),
+        Err(fault) => Err(fault),
+    }
 }

@@ -1,7 +1,6 @@
 //! An instruction to bytes.
 
 ghost use Rattle.std.specs.Prelude.{◌≡◌, ◌++◌, ◌<◌, ◌^◌, ℕ, pos, ◌-ℤ◌, length, replicate, slice_get, Some, None, OnOk, OnErr, FitsSigned};
-ghost use Rattle.std.specs.Io.{StartsWith};
 ghost use Rattle.std.specs.Int.{w8, w16, w32, w64};
 ghost use Rattle.std.specs.List.{flat_map, AllByRecursion};
 ghost use Rattle.kilim_grammar.specs.Spelling.{u1, u2, u4};
@@ -15,24 +14,21 @@ use std::alloc::AllocError;
 
 #[tactic(auto, unfolding(crate::specs::opcodes::Instr::integer_text))]
 fn put_i8(into: &mut Vec<u8>, number: i8) -> Result<(), AllocError>
-    ensures ok { OnOk result (into.new.items ≡ into.old.items ++ integer_text w8 number) }
-    ensures err { OnErr result (into.new.items ≡ into.old.items) }
+    ensures { OnOk result (into.new.items ≡ into.old.items ++ integer_text w8 number) }
 {
     push_u8(into, number.cast_unsigned())
 }
 
 #[tactic(auto, unfolding(crate::specs::opcodes::Instr::integer_text))]
 fn put_i16(into: &mut Vec<u8>, number: i16) -> Result<(), AllocError>
-    ensures ok { OnOk result (into.new.items ≡ into.old.items ++ integer_text w16 number) }
-    ensures err { OnErr result (into.new.items ≡ into.old.items) }
+    ensures { OnOk result (into.new.items ≡ into.old.items ++ integer_text w16 number) }
 {
     push_u16(into, number.cast_unsigned())
 }
 
 #[tactic(auto, unfolding(crate::specs::opcodes::Instr::integer_text))]
 fn put_i32(into: &mut Vec<u8>, number: i32) -> Result<(), AllocError>
-    ensures ok { OnOk result (into.new.items ≡ into.old.items ++ integer_text w32 number) }
-    ensures err { OnErr result (into.new.items ≡ into.old.items) }
+    ensures { OnOk result (into.new.items ≡ into.old.items ++ integer_text w32 number) }
 {
     push_u32(into, number.cast_unsigned())
 }
@@ -48,8 +44,7 @@ fn distance(at: usize, to: i64) -> i64
 #[tactic(auto, unfolding(crate::specs::opcodes::Instr::target_text))]
 fn put_near_target(into: &mut Vec<u8>, at: usize, to: i64) -> Result<(), AllocError>
     requires { TargetFits w16 at to }
-    ensures ok { OnOk result (into.new.items ≡ into.old.items ++ target_text w16 at to) }
-    ensures err { OnErr result (into.new.items ≡ into.old.items) }
+    ensures { OnOk result (into.new.items ≡ into.old.items ++ target_text w16 at to) }
 {
     put_i16(into, distance(at, to) as i16)
 }
@@ -57,16 +52,14 @@ fn put_near_target(into: &mut Vec<u8>, at: usize, to: i64) -> Result<(), AllocEr
 #[tactic(auto, unfolding(crate::specs::opcodes::Instr::target_text))]
 fn put_target(into: &mut Vec<u8>, at: usize, to: i64) -> Result<(), AllocError>
     requires { TargetFits w32 at to }
-    ensures ok { OnOk result (into.new.items ≡ into.old.items ++ target_text w32 at to) }
-    ensures err { OnErr result (into.new.items ≡ into.old.items) }
+    ensures { OnOk result (into.new.items ≡ into.old.items ++ target_text w32 at to) }
 {
     put_i32(into, distance(at, to) as i32)
 }
 
 fn put_targets(into: &mut Vec<u8>, at: usize, targets: &[i64]) -> Result<(), AllocError>
     requires { AllByRecursion (TargetFits w32 at) targets.now }
-    ensures ok { OnOk result (into.new.items ≡ into.old.items ++ flat_map (target_text w32 at) targets.now) }
-    ensures err { OnErr result (StartsWith into.new.items into.old.items) }
+    ensures { OnOk result (into.new.items ≡ into.old.items ++ flat_map (target_text w32 at) targets.now) }
 {
     for to in targets {
         put_target(into, at, *to)?;
@@ -77,8 +70,7 @@ fn put_targets(into: &mut Vec<u8>, at: usize, targets: &[i64]) -> Result<(), All
 #[tactic(auto, unfolding(crate::specs::opcodes::Instr::pair_text))]
 fn put_pair(into: &mut Vec<u8>, at: usize, pair: (i32, i64)) -> Result<(), AllocError>
     requires { TargetFits w32 at pair.1 }
-    ensures ok { OnOk result (into.new.items ≡ into.old.items ++ pair_text at pair) }
-    ensures err { OnErr result (StartsWith into.new.items into.old.items) }
+    ensures { OnOk result (into.new.items ≡ into.old.items ++ pair_text at pair) }
 {
     put_i32(into, pair.0)?;
     put_target(into, at, pair.1)
@@ -86,8 +78,7 @@ fn put_pair(into: &mut Vec<u8>, at: usize, pair: (i32, i64)) -> Result<(), Alloc
 
 fn put_pairs(into: &mut Vec<u8>, at: usize, pairs: &[(i32, i64)]) -> Result<(), AllocError>
     requires { PairsFit at None pairs.now }
-    ensures ok { OnOk result (into.new.items ≡ into.old.items ++ flat_map (pair_text at) pairs.now) }
-    ensures err { OnErr result (StartsWith into.new.items into.old.items) }
+    ensures { OnOk result (into.new.items ≡ into.old.items ++ flat_map (pair_text at) pairs.now) }
 {
     for pair in pairs {
         put_pair(into, at, *pair)?;
@@ -97,8 +88,7 @@ fn put_pairs(into: &mut Vec<u8>, at: usize, pairs: &[(i32, i64)]) -> Result<(), 
 
 #[tactic(auto, unfolding(crate::specs::opcodes::Instr::padding_text))]
 fn put_padding(into: &mut Vec<u8>, at: usize) -> Result<(), AllocError>
-    ensures ok { OnOk result (into.new.items ≡ into.old.items ++ padding_text at) }
-    ensures err { OnErr result (StartsWith into.new.items into.old.items) }
+    ensures { OnOk result (into.new.items ≡ into.old.items ++ padding_text at) }
 {
     for _ in 0..padding(at) {
         into.push(0)?;
@@ -115,8 +105,7 @@ fn high_of(low: i32, targets: &[i64]) -> i32
 }
 
 fn put_range(into: &mut Vec<u8>, low: i32, high: i32) -> Result<(), AllocError>
-    ensures ok { OnOk result (into.new.items ≡ into.old.items ++ (integer_text w32 low ++ integer_text w32 high)) }
-    ensures err { OnErr result (StartsWith into.new.items into.old.items) }
+    ensures { OnOk result (into.new.items ≡ into.old.items ++ (integer_text w32 low ++ integer_text w32 high)) }
 {
     put_i32(into, low)?;
     put_i32(into, high)
@@ -131,8 +120,7 @@ fn put_table_head(
     high: i32,
 ) -> Result<(), AllocError>
     requires { TargetFits w32 at default }
-    ensures ok { OnOk result (into.new.items ≡ into.old.items ++ (target_text w32 at default ++ (integer_text w32 low ++ integer_text w32 high))) }
-    ensures err { OnErr result (StartsWith into.new.items into.old.items) }
+    ensures { OnOk result (into.new.items ≡ into.old.items ++ (target_text w32 at default ++ (integer_text w32 low ++ integer_text w32 high))) }
 {
     put_target(into, at, default)?;
     put_range(into, low, high)
@@ -149,8 +137,7 @@ fn put_table(
     requires default { TargetFits w32 at default }
     requires high { FitsSigned w32 (high_of low targets.now) }
     requires targets { AllByRecursion (TargetFits w32 at) targets.now }
-    ensures ok { OnOk result (into.new.items ≡ into.old.items ++ table_text at default low targets.now) }
-    ensures err { OnErr result (StartsWith into.new.items into.old.items) }
+    ensures { OnOk result (into.new.items ≡ into.old.items ++ table_text at default low targets.now) }
 {
     let high = high_of(low, targets);
     put_table_head(into, at, default, low, high)?;
@@ -167,8 +154,7 @@ fn put_lookup(
     requires default { TargetFits w32 at default }
     requires count { length pairs.now < 2 ^ 31 }
     requires pairs { PairsFit at None pairs.now }
-    ensures ok { OnOk result (into.new.items ≡ into.old.items ++ lookup_text at default pairs.now) }
-    ensures err { OnErr result (StartsWith into.new.items into.old.items) }
+    ensures { OnOk result (into.new.items ≡ into.old.items ++ lookup_text at default pairs.now) }
 {
     put_target(into, at, default)?;
     push_u32(into, pairs.len() as u32)?;
@@ -185,8 +171,7 @@ fn put_table_switch(
     requires default { TargetFits w32 at default }
     requires high { FitsSigned w32 (high_of low targets.now) }
     requires targets { AllByRecursion (TargetFits w32 at) targets.now }
-    ensures ok { OnOk result (into.new.items ≡ into.old.items ++ (padding_text at ++ table_text at default low targets.now)) }
-    ensures err { OnErr result (StartsWith into.new.items into.old.items) }
+    ensures { OnOk result (into.new.items ≡ into.old.items ++ (padding_text at ++ table_text at default low targets.now)) }
 {
     put_padding(into, at)?;
     put_table(into, at, default, low, targets)
@@ -201,32 +186,28 @@ fn put_lookup_switch(
     requires default { TargetFits w32 at default }
     requires count { length pairs.now < 2 ^ 31 }
     requires pairs { PairsFit at None pairs.now }
-    ensures ok { OnOk result (into.new.items ≡ into.old.items ++ (padding_text at ++ lookup_text at default pairs.now)) }
-    ensures err { OnErr result (StartsWith into.new.items into.old.items) }
+    ensures { OnOk result (into.new.items ≡ into.old.items ++ (padding_text at ++ lookup_text at default pairs.now)) }
 {
     put_padding(into, at)?;
     put_lookup(into, at, default, pairs)
 }
 
 fn put_iinc(into: &mut Vec<u8>, slot: u8, number: i8) -> Result<(), AllocError>
-    ensures ok { OnOk result (into.new.items ≡ into.old.items ++ (u1 slot ++ integer_text w8 number)) }
-    ensures err { OnErr result (StartsWith into.new.items into.old.items) }
+    ensures { OnOk result (into.new.items ≡ into.old.items ++ (u1 slot ++ integer_text w8 number)) }
 {
     push_u8(into, slot)?;
     put_i8(into, number)
 }
 
 fn put_wide_local(into: &mut Vec<u8>, op: u8, slot: u16) -> Result<(), AllocError>
-    ensures ok { OnOk result (into.new.items ≡ into.old.items ++ (u1 op ++ u2 slot)) }
-    ensures err { OnErr result (StartsWith into.new.items into.old.items) }
+    ensures { OnOk result (into.new.items ≡ into.old.items ++ (u1 op ++ u2 slot)) }
 {
     push_u8(into, op)?;
     push_u16(into, slot)
 }
 
 fn put_wide_iinc(into: &mut Vec<u8>, op: u8, slot: u16, number: i16) -> Result<(), AllocError>
-    ensures ok { OnOk result (into.new.items ≡ into.old.items ++ (u1 op ++ (u2 slot ++ integer_text w16 number))) }
-    ensures err { OnErr result (StartsWith into.new.items into.old.items) }
+    ensures { OnOk result (into.new.items ≡ into.old.items ++ (u1 op ++ (u2 slot ++ integer_text w16 number))) }
 {
     push_u8(into, op)?;
     push_u16(into, slot)?;
@@ -257,20 +238,19 @@ fn number_of(instr: &RawInstr) -> u8
 #[tactic(auto, unfolding(crate::specs::opcodes::Instr::operands_text, crate::specs::opcodes::Instr::InstrFits))]
 fn put_operands(into: &mut Vec<u8>, instr: &RawInstr, at: usize) -> Result<(), AllocError>
     requires { InstrFits at instr.now }
-    ensures ok { OnOk result (into.new.items ≡ into.old.items ++ operands_text at instr.now) }
-    ensures err { OnErr result (StartsWith into.new.items into.old.items) }
+    ensures { OnOk result (into.new.items ≡ into.old.items ++ operands_text at instr.now) }
 {
     match instr {
         RawInstr::Plain(_) => Ok(()),
         RawInstr::Byte(_, number) => put_i8(into, *number),
         RawInstr::Short(_, number) => put_i16(into, *number),
-        RawInstr::Local(_, slot) => push_u8(into, *slot),
-        RawInstr::Constant(_, index) => push_u8(into, *index),
+        RawInstr::Local(_, byte) | RawInstr::Constant(_, byte) | RawInstr::NewArray(_, byte) => {
+            push_u8(into, *byte)
+        }
         RawInstr::Index(_, index) => push_u16(into, *index),
         RawInstr::Iinc(_, slot, number) => put_iinc(into, *slot, *number),
         RawInstr::Jump(_, to) => put_near_target(into, at, *to),
         RawInstr::WideJump(_, to) => put_target(into, at, *to),
-        RawInstr::NewArray(_, code) => push_u8(into, *code),
         RawInstr::TableSwitch(_, default, low, targets) => {
             put_table_switch(into, at, *default, *low, targets.as_slice())
         }
@@ -285,8 +265,7 @@ fn put_operands(into: &mut Vec<u8>, instr: &RawInstr, at: usize) -> Result<(), A
 #[tactic(auto, unfolding(crate::specs::opcodes::Instr::instr_text))]
 fn put_instr(into: &mut Vec<u8>, instr: &RawInstr, at: usize) -> Result<(), AllocError>
     requires { InstrFits at instr.now }
-    ensures ok { OnOk result (into.new.items ≡ into.old.items ++ instr_text at instr.now) }
-    ensures err { OnErr result (StartsWith into.new.items into.old.items) }
+    ensures { OnOk result (into.new.items ≡ into.old.items ++ instr_text at instr.now) }
 {
     push_u8(into, number_of(instr))?;
     put_operands(into, instr, at)
@@ -304,10 +283,8 @@ pub fn write_instr(instr: &RawInstr, at: usize, into: &mut Vec<u8>) -> Result<()
     ensures ok { OnOk result (into.new.items ≡ into.old.items ++ instr_text at instr.now) }
     ensures err { OnErr result (into.new.items ≡ into.old.items) }
 {
-    let before = into.len();
-    if put_instr(into, instr, at).is_err() {
-        into.truncate(before);
-        return Err(NoMemory);
-    }
+    let mut text = Vec::new(*into.allocator());
+    put_instr(&mut text, instr, at)?;
+    into.extend_from_slice(text.as_slice())?;
     Ok(())
 }

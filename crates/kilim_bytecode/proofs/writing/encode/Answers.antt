@@ -1,4 +1,5 @@
 use Rattle.std.proofs.Common.{◌≡◌, ap, subst, List, length, get_or, ◌<◌, ◌∙◌}
+use Rattle.std.proofs.lemmas.List.{take_all}
 use Rattle.kilim_bytecode.specs.Code.{Placed, code_text}
 use Rattle.kilim_bytecode.proofs.Steps.{item_fits, one_more}
 use Rattle.kilim_bytecode.proofs.writing.encode.Goals as goal
@@ -14,3 +15,6 @@ write_instr-requires c =
 pub loop-at-preserved : goal.loop-at-preserved
 loop-at-preserved c =
     one_more c.loop-at.bytes.items c.write_instr.new.into.items c.as_slice-at-items.result.now c.loop-at.at-index c.loop-at-item.result c.loop-at-test.true c.loop-at-item.is c.loop-at.invariant c.in_ok-write_instr.ensures.ok
+
+pub returns : goal.returns
+returns c = c.loop-at.invariant ∙ ap code_text (take_all c.loop-at.at-index c.as_slice-at-items.result.now c.loop-at-test.false ∙ c.as_slice-at-items.ensures)

@@ -5,4 +5,4 @@ use Rattle.kilim_bytecode.specs.opcodes.Reading.{pairs_at}
 use Rattle.kilim_bytecode.proofs.opcodes.switches.pairs_at.Given as goal
 
 abbrev pub invariant-loop : goal.invariant-loop
-invariant-loop l = with_front l.pairs.items (pairs_at l.op l.at (l.count - l.counter) l.least l.rest) ≡ pairs_at l.op l.at l.count None l.bytes
+invariant-loop l = with_front l.pairs (pairs_at l.op l.at (l.count - l.counter) l.least l.rest) ≡ pairs_at l.op l.at l.count None l.bytes

@@ -6,4 +6,4 @@ use Rattle.kilim_bytecode.specs.opcodes.Reading.{target_at}
 use Rattle.kilim_bytecode.proofs.opcodes.switches.targets_at.Given as goal
 
 abbrev pub invariant-loop : goal.invariant-loop
-invariant-loop l = with_front l.targets.items (many (target_at l.op l.at w32) (l.count - l.counter) l.rest) ≡ many (target_at l.op l.at w32) l.count l.bytes
+invariant-loop l = with_front l.targets (many (target_at l.op l.at w32) (l.count - l.counter) l.rest) ≡ many (target_at l.op l.at w32) l.count l.bytes

@@ -4,4 +4,4 @@ use Rattle.kilim_bytecode.proofs.opcodes.switches.zeros_at.Goals as goal
 
 pub loop-preserved : goal.loop-preserved
 loop-preserved c =
-    zero_more c.args.op c.args.count c.loop.counter c.loop.rest.now c.in_ok-zero.zero c.in_ok-zero.after.now (zeros_at c.args.op c.args.count c.args.bytes.now) c.loop-test.true c.in_ok-zero.ensures c.if-zero-ne0.false c.loop.invariant
+    zero_more c.args.op c.args.count c.loop.counter c.loop.rest.now c.in-Ok.zero c.in-Ok.after.now (zeros_at c.args.op c.args.count c.args.bytes.now) c.loop-test.true c.in-Ok.ensures c.if-zero-ne0.false c.loop.invariant

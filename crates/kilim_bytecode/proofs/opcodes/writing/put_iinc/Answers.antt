@@ -3,16 +3,10 @@ use Rattle.std.specs.Prelude.{FitsSigned}
 use Rattle.std.proofs.lemmas.Int.{to_z-of_z}
 use Rattle.kilim_grammar.specs.Spelling.{u1}
 use Rattle.kilim_bytecode.specs.opcodes.Instr.{integer_text}
-use Rattle.kilim_bytecode.proofs.opcodes.Pieces.{on_err, on_joined, on_stayed, still}
+use Rattle.kilim_bytecode.proofs.opcodes.Pieces.{on_joined}
 use Rattle.kilim_bytecode.proofs.opcodes.writing.put_iinc.Goals as goal
 
-pub returns-in_err-push_u8-clause-err : goal.returns-in_err-push_u8-clause-err
-returns-in_err-push_u8-clause-err c = on_err c.from_residual.result (still c.args.into.now.items c.push_u8.new.into.items c.in_err-push_u8.ensures.err)
-
-pub returns-clause-ok : goal.returns-clause-ok
-returns-clause-ok c =
+pub returns : goal.returns
+returns c =
     let number : FitsSigned w8 c.args.number = c.ranges.number in
-    on_joined c.put_i8.result c.args.into.now.items c.push_u8.new.into.items c.put_i8.new.into.items (u1 c.args.slot) (integer_text w8 c.args.number) c.in_ok-push_u8.ensures.ok (simp to_z-of_z at c.put_i8.ensures.ok)
-
-pub returns-clause-err : goal.returns-clause-err
-returns-clause-err c = on_stayed c.put_i8.result c.args.into.now.items c.push_u8.new.into.items c.put_i8.new.into.items (u1 c.args.slot) c.in_ok-push_u8.ensures.ok c.put_i8.ensures.err
+    on_joined c.put_i8.result c.args.into.now.items c.push_u8.new.into.items c.put_i8.new.into.items (u1 c.args.slot) (integer_text w8 c.args.number) c.in_ok-push_u8.ensures.ok (simp to_z-of_z at c.put_i8.ensures)

@@ -2,19 +2,12 @@ use Rattle.std.specs.Int.{w32, w64}
 use Rattle.std.specs.Prelude.{FitsSigned}
 use Rattle.std.proofs.lemmas.Int.{to_z-of_z}
 use Rattle.kilim_bytecode.specs.opcodes.Instr.{padding_text, table_text}
-use Rattle.kilim_bytecode.proofs.opcodes.Pieces.{on_err, on_joined, on_begun}
+use Rattle.kilim_bytecode.proofs.opcodes.Pieces.{on_joined}
 use Rattle.kilim_bytecode.proofs.opcodes.writing.put_table_switch.Goals as goal
 
-pub returns-clause-ok : goal.returns-clause-ok
-returns-clause-ok c =
+pub returns : goal.returns
+returns c =
     let default : FitsSigned w64 c.args.default = c.ranges.default in
     let low : FitsSigned w32 c.args.low = c.ranges.low in
     on_joined c.put_table.result c.args.into.now.items c.put_padding.new.into.items c.put_table.new.into.items (padding_text c.args.at) (table_text c.args.at c.args.default c.args.low c.args.targets.now)
-    c.in_ok-put_padding.ensures.ok (simp to_z-of_z at c.put_table.ensures.ok)
-
-pub returns-in_err-put_padding-clause-err : goal.returns-in_err-put_padding-clause-err
-returns-in_err-put_padding-clause-err c = on_err c.from_residual.result c.in_err-put_padding.ensures.err
-
-pub returns-clause-err : goal.returns-clause-err
-returns-clause-err c =
-    on_begun c.put_table.result c.args.into.now.items c.put_padding.new.into.items c.put_table.new.into.items (padding_text c.args.at) c.in_ok-put_padding.ensures.ok c.put_table.ensures.err
+    c.in_ok-put_padding.ensures (simp to_z-of_z at c.put_table.ensures)

@@ -1,10 +1,11 @@
-use Rattle.std.proofs.Common.{◌∙◌, pos, get_or, take}
+use Rattle.std.proofs.Common.{ℤ, pos, get_or, List, ◌++◌, ap, ◌∙◌}
 use Rattle.std.specs.Prelude.{FitsSigned}
 use Rattle.std.specs.Int.{w32, w64}
 use Rattle.std.specs.List.{flat_map}
+use Rattle.std.proofs.lemmas.List.{take_all}
 use Rattle.std.proofs.lemmas.Int.{to_z-of_z}
 use Rattle.kilim_bytecode.specs.opcodes.Instr.{target_text}
-use Rattle.kilim_bytecode.proofs.opcodes.Pieces.{on_err, begun, one_more, target_fits}
+use Rattle.kilim_bytecode.proofs.opcodes.Pieces.{one_more, target_fits}
 use Rattle.kilim_bytecode.proofs.opcodes.writing.put_targets.Goals as goal
 
 pub put_target-requires : goal.put_target-requires
@@ -13,14 +14,12 @@ put_target-requires c =
     let place : FitsSigned w64 (get_or c.args.targets.now c.loop-to.to-index (pos 0)) = fits.0 in
     simp to_z-of_z fits
 
-pub returns-in_err-put_target-clause-err : goal.returns-in_err-put_target-clause-err
-returns-in_err-put_target-clause-err c =
-    on_err c.from_residual.result
-    (begun c.args.into.now.items c.put_target.new.into.items (flat_map (target_text w32 c.args.at) (take c.loop-to.to-index c.args.targets.now)) (c.in_err-put_target.ensures.err ∙ c.loop-to.invariant))
-
 pub loop-to-preserved : goal.loop-to-preserved
 loop-to-preserved c =
     let fits = target_fits c.args.at c.args.targets.now c.loop-to.to-index (pos 0) c.requires c.loop-to-test.true in
     let place : FitsSigned w64 (get_or c.args.targets.now c.loop-to.to-index (pos 0)) = fits.0 in
     one_more (target_text w32 c.args.at) c.args.targets.now c.loop-to.to-index (pos 0) c.args.into.now.items c.loop-to.into.items c.put_target.new.into.items c.loop-to-test.true c.loop-to.invariant
-    (simp to_z-of_z at c.in_ok-put_target.ensures.ok)
+    (simp to_z-of_z at c.in_ok-put_target.ensures)
+
+pub returns : goal.returns
+returns c = c.loop-to.invariant ∙ ap (λ (xs : List ℤ). c.args.into.now.items ++ flat_map (target_text w32 c.args.at) xs) (take_all c.loop-to.to-index c.args.targets.now c.loop-to-test.false)

@@ -1,11 +1,11 @@
 use Rattle.std.proofs.Common.{◌≡◌, ◌++◌, ◌-◌, length, drop}
 use Rattle.kilim_bytecode.specs.Code.{StandsFrom, code_text}
-use Rattle.kilim_bytecode.proofs.reading.instrs_of.Given as goal
+use Rattle.kilim_bytecode.proofs.reading.push_instrs.Given as goal
 
 abbrev pub invariant-loop-at : goal.invariant-loop-at
 invariant-loop-at l = record {
-  stands : StandsFrom 0 l.instrs.items l.at;
-  text : l.code ≡ code_text l.instrs.items ++ drop l.at l.code;
+  stands : StandsFrom 0 l.instrs l.at;
+  text : l.code ≡ code_text l.instrs ++ drop l.at l.code;
 }
 
 abbrev pub decreases-loop-at : goal.decreases-loop-at
