@@ -1,8 +1,8 @@
 -- The first of a list, in loops and of lists that are put together.
-use Rattle.std.proofs.Common.{◌≡◌, ℕ, zero, suc, ◌+◌, ◌<◌, Bool, true, false, List, [], ◌∷◌, ◌++◌, length, get_or, take, drop, reverse, filter, Option, Some, None, refl, sym, ap, ◌∙◌, arith, drop-cons}
+use Rattle.std.proofs.Common.{◌≡◌, ℕ, zero, suc, ◌+◌, ◌<◌, ◌≤◌, Bool, true, false, List, [], ◌∷◌, ◌++◌, length, get_or, take, drop, reverse, filter, Option, Some, None, refl, sym, ap, ◌∙◌, arith, drop-cons}
 use Rattle.std.specs.Prelude.{◌||◌, slice_get}
 use Rattle.std.specs.List.{list_any}
-use Rattle.std.proofs.lemmas.List.{reverse-append}
+use Rattle.std.proofs.lemmas.List.{reverse-append, at_drop_all}
 use Rattle.std.proofs.lemmas.Option.{same_Some}
 use Rattle.kilim_lemmas.proofs.Lists.{take_at, drop_at}
 use Rattle.kilim_link_spec.specs.Linked.{first_of}
@@ -39,6 +39,9 @@ module _ {A : Type 0} (test : A → Bool) (xs : List A) (i : ℕ) (x : A) (r : O
 
   pub passed_at : b ≡ false → first_of (filter test (drop (i + 1) xs)) ≡ r
   passed_at t = sym (ap (first_that test) (drop_at xs i x lt is) ∙ skipped test x (drop (i + 1) xs) (sym answers ∙ t)) ∙ so_far
+
+pub none_passes : {A : Type 0} (test : A → Bool) (xs : List A) (i : ℕ) {r : Option A} → length xs ≤ i → first_of (filter test (drop i xs)) ≡ r → None ≡ r
+none_passes test xs i le so_far = sym (at_drop_all (first_that test) xs i le) ∙ so_far
 
 -- two lists put together
 pub here : {A : Type 0} (xs ys : List A) (x : A) → Some x ≡ first_of xs → Some x ≡ first_of (xs ++ ys)

@@ -1,7 +1,7 @@
 use Rattle.kilim_link_spec.specs.Faults.{is_no_member}
 use Rattle.kilim_link_spec.specs.Linked.{first_of}
 use Rattle.std.proofs.Common.{filter}
-use Rattle.kilim_link_faults.proofs.Firsts.{found_at, passed_at}
+use Rattle.kilim_link_faults.proofs.Firsts.{found_at, passed_at, none_passes}
 use Rattle.kilim_link_faults.proofs.members.first_missing.Goals as goal
 
 pub returns-then-branch : goal.returns-then-branch
@@ -13,3 +13,6 @@ pub loop-member-preserved : goal.loop-member-preserved
 loop-member-preserved c =
     passed_at (is_no_member c.args.world.now) c.args.members.now c.loop-member.member-index c.member-item.result (first_of (filter (is_no_member c.args.world.now) c.args.members.now)) c.in_ok-is_no_member.field-0
     c.loop-member-test.true c.member-item.is c.in_ok-is_no_member.ensures c.loop-member.invariant c.if-branch.false
+
+pub returns : goal.returns
+returns c = none_passes (is_no_member c.args.world.now) c.args.members.now c.loop-member.member-index c.loop-member-test.false c.loop-member.invariant

@@ -1,6 +1,7 @@
 use Rattle.std.proofs.Common.{[], sym, ap, ◌∙◌, reverse, take, List}
 use Rattle.std.specs.Prelude.{◌||◌, ◌&&◌, Bool}
 use Rattle.std.specs.Str.{bytes_eq}
+use Rattle.std.proofs.lemmas.List.{at_drop_all}
 use Rattle.kilim_classfile.specs.declared.class_file.MemberInfo.{MemberInfo}
 use Rattle.kilim_link_spec.specs.Faults.{repeated, same_member}
 use Rattle.kilim_link_spec.specs.Linked.{first_of}
@@ -37,3 +38,8 @@ loop-member-preserved c =
           ∙ (ap (λ k. (bytes_eq name (member_name file x) && bytes_eq descriptor k) || met_in file front name descriptor) c.in_ok-signature.ensures.descriptor
           ∙ ap (λ (ms : List MemberInfo). met_in file ms name descriptor) (sym (reverse_at c.args.members.now c.loop-member.member-index x c.loop-member-test.true c.member-item.is))))),
     )
+
+pub returns : goal.returns
+returns c =
+    let front = reverse (take c.loop-member.member-index c.args.members.now) in
+    sym (at_drop_all (λ (ms : List MemberInfo). first_of (repeated (same_member c.args.file.now) front ms)) c.args.members.now c.loop-member.member-index c.loop-member-test.false) ∙ c.loop-member.invariant.0
