@@ -1,3 +1,4 @@
+pub mod Any
 pub mod Loops
 pub mod Writes
 pub mod Lists

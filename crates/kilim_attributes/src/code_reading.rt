@@ -1,7 +1,7 @@
 //! Reading Code attributes.
 
 ghost use Rattle.std.specs.Prelude.{◌≡◌, []};
-ghost use Rattle.kilim_grammar.specs.Reader.{Reads, ReadsUnless, many, filled};
+ghost use Rattle.kilim_grammar.specs.Reader.{Reads, ReadsUnless, both, many, filled};
 ghost use Rattle.kilim_attribute_parts.specs.declared.fault.AttributeFault.TheVariants as fault;
 ghost use Rattle.kilim_attribute_parts.specs.declared.name.AttributeName.TheVariants as name;
 ghost use Rattle.kilim_attribute_parts.specs.Frames.{frames_at};
@@ -23,11 +23,17 @@ const ENDS: AttributeFault = AttributeFault::Length(AttributeName::Code);
 pub fn whole_frames(alloc: Global, pool: &Pool, bytes: &[u8]) -> Result<Seq<Frame>, AttributeFault>
     ensures { ReadsUnless fault.Memory (λ x. x) result (filled (fault.Length name.StackMapTable) (frames_at pool.now) bytes.now) }
 {
-    let (frames, rest) = frames_at(alloc, pool, bytes)?;
-    if !rest.is_empty() {
-        return Err(AttributeFault::Length(AttributeName::StackMapTable));
+    match frames_at(alloc, pool, bytes) {
+        Ok((frames, rest)) => {
+            if rest.is_empty() {
+                Ok(frames)
+            } else {
+                drop(frames);
+                Err(AttributeFault::Length(AttributeName::StackMapTable))
+            }
+        }
+        Err(fault) => Err(fault),
     }
-    Ok(frames)
 }
 
 #[tactic(auto, unfolding(crate::specs::Codes::code_info_of))]
@@ -40,9 +46,10 @@ fn code_info_of(
     ensures { ReadsUnless fault.Memory (λ x. x) result (code_info_of pool.now form bytes.now) }
 {
     match form {
-        Some(AttributeName::StackMapTable) => {
-            Ok(CodeInfo::StackMapTable(whole_frames(alloc, pool, bytes)?))
-        }
+        Some(AttributeName::StackMapTable) => match whole_frames(alloc, pool, bytes) {
+            Ok(frames) => Ok(CodeInfo::StackMapTable(frames)),
+            Err(fault) => Err(fault),
+        },
         _ => Ok(CodeInfo::Raw(Seq::from_vec(Vec::from_slice(alloc, bytes)?))),
     }
 }
@@ -98,11 +105,13 @@ fn code_attribute_of(
 {
     let form = form_at(pool, Place::Code, name)?;
     let once = code_unless_twice(form, before)?;
-    let info = code_info_of(alloc, pool, once, content)?;
-    Ok(CodeAttribute {
-        attribute_name_index: name,
-        info,
-    })
+    match code_info_of(alloc, pool, once, content) {
+        Ok(info) => Ok(CodeAttribute {
+            attribute_name_index: name,
+            info,
+        }),
+        Err(fault) => Err(fault),
+    }
 }
 
 #[tactic(auto, unfolding(crate::specs::Codes::code_attribute_at))]
@@ -114,9 +123,37 @@ fn code_attribute_at<'a>(
 ) -> Result<(CodeAttribute, &'a [u8]), AttributeFault>
     ensures { ReadsUnless fault.Memory (λ x. (x.0, x.1.now)) result (code_attribute_at pool.now before.now bytes.now) }
 {
-    let ((name, content), rest) = named_bytes_at(ENDS, bytes)?;
-    let attribute = code_attribute_of(alloc, pool, before, name, content)?;
-    Ok((attribute, rest))
+    match named_bytes_at(ENDS, bytes) {
+        Ok(((name, content), rest)) => match code_attribute_of(alloc, pool, before, name, content) {
+            Ok(attribute) => Ok((attribute, rest)),
+            Err(fault) => Err(fault),
+        },
+        Err(fault) => Err(fault),
+    }
+}
+
+// So many attributes, put behind none, and the bytes behind them.
+fn push_attributes_at<'a>(
+    alloc: Global,
+    pool: &Pool,
+    count: u16,
+    bytes: &'a [u8],
+    attributes: &mut Seq<CodeAttribute>,
+) -> Result<&'a [u8], AttributeFault>
+    requires none { attributes.old ≡ [] }
+    ensures { ReadsUnless fault.Memory (λ rest. (attributes.new, rest.now)) result (many_after (code_attribute_at pool.now) [] count bytes.now) }
+{
+    let mut rest = bytes;
+    for _ in 0..count {
+        match code_attribute_at(alloc, pool, attributes.as_slice(), rest) {
+            Ok((attribute, after)) => {
+                attributes.push(attribute)?;
+                rest = after;
+            }
+            Err(fault) => return Err(fault),
+        }
+    }
+    Ok(rest)
 }
 
 fn so_many_attributes_at<'a>(
@@ -127,14 +164,11 @@ fn so_many_attributes_at<'a>(
 ) -> Result<(Seq<CodeAttribute>, &'a [u8]), AttributeFault>
     ensures { ReadsUnless fault.Memory (λ x. (x.0, x.1.now)) result (many_after (code_attribute_at pool.now) [] count bytes.now) }
 {
-    let mut attributes = Vec::new(alloc);
-    let mut rest = bytes;
-    for _ in 0..count {
-        let (attribute, after) = code_attribute_at(alloc, pool, attributes.as_slice(), rest)?;
-        attributes.push(attribute)?;
-        rest = after;
+    let mut attributes = Seq::new(alloc);
+    match push_attributes_at(alloc, pool, count, bytes, &mut attributes) {
+        Ok(rest) => Ok((attributes, rest)),
+        Err(fault) => Err(fault),
     }
-    Ok((Seq::from_vec(attributes), rest))
 }
 
 #[tactic(auto, unfolding(crate::specs::Lists::listed))]
@@ -145,29 +179,41 @@ fn code_attributes_at<'a>(
 ) -> Result<(Seq<CodeAttribute>, &'a [u8]), AttributeFault>
     ensures { ReadsUnless fault.Memory (λ x. (x.0, x.1.now)) result (listed (fault.Length name.Code) (code_attribute_at pool.now) bytes.now) }
 {
-    let (count, rest) = u16_at(ENDS, bytes)?;
-    so_many_attributes_at(alloc, pool, count, rest)
+    match u16_at(ENDS, bytes) {
+        Ok((count, rest)) => so_many_attributes_at(alloc, pool, count, rest),
+        Err(fault) => Err(fault),
+    }
 }
 
 #[tactic(auto, unfolding(crate::specs::Codes::code_bytes_at))]
 fn code_bytes_at(alloc: Global, bytes: &[u8]) -> Result<(Seq<u8>, &[u8]), AttributeFault>
     ensures { ReadsUnless fault.Memory (λ x. (x.0, x.1.now)) result (code_bytes_at bytes.now) }
 {
-    let (size, rest) = u32_at(ENDS, bytes)?;
-    if size > 0 && size < 65536 {
-        let (code, rest) = bytes_at(ENDS, size as usize, rest)?;
-        Ok((Seq::from_vec(Vec::from_slice(alloc, code)?), rest))
-    } else {
-        Err(ENDS)
+    match u32_at(ENDS, bytes) {
+        Ok((size, rest)) => {
+            if size > 0 && size < 65536 {
+                match bytes_at(ENDS, size as usize, rest) {
+                    Ok((code, rest)) => Ok((Seq::from_vec(Vec::from_slice(alloc, code)?), rest)),
+                    Err(fault) => Err(fault),
+                }
+            } else {
+                Err(ENDS)
+            }
+        }
+        Err(fault) => Err(fault),
     }
 }
 
 fn two_at(bytes: &[u8]) -> Result<((u16, u16), &[u8]), AttributeFault>
     ensures { Reads (λ x. (x.0, x.1.now)) result (two_at bytes.now) }
 {
-    let (first, rest) = u16_at(ENDS, bytes)?;
-    let (second, rest) = u16_at(ENDS, rest)?;
-    Ok(((first, second), rest))
+    match u16_at(ENDS, bytes) {
+        Ok((first, rest)) => match u16_at(ENDS, rest) {
+            Ok((second, rest)) => Ok(((first, second), rest)),
+            Err(fault) => Err(fault),
+        },
+        Err(fault) => Err(fault),
+    }
 }
 
 #[tactic(auto, unfolding(crate::specs::Codes::handler_at))]
@@ -177,16 +223,27 @@ fn handler_at<'a>(
 ) -> Result<(ExceptionHandler, &'a [u8]), AttributeFault>
     ensures { Reads (λ x. (x.0, x.1.now)) result (handler_at pool.now bytes.now) }
 {
-    let ((start_pc, end_pc), rest) = two_at(bytes)?;
-    let (handler_pc, rest) = u16_at(ENDS, rest)?;
-    let (catch_type, rest) = index_at(pool, EntryKind::CatchType, ENDS, rest)?;
-    let handler = ExceptionHandler {
-        start_pc,
-        end_pc,
-        handler_pc,
-        catch_type,
+    let ((start_pc, end_pc), rest) = match two_at(bytes) {
+        Ok(read) => read,
+        Err(fault) => return Err(fault),
     };
-    Ok((handler, rest))
+    match u16_at(ENDS, rest) {
+        Ok((handler_pc, rest)) => {
+            match index_at(pool, EntryKind::CatchType, ENDS, rest) {
+                Ok((catch_type, rest)) => {
+                    let handler = ExceptionHandler {
+                        start_pc,
+                        end_pc,
+                        handler_pc,
+                        catch_type,
+                    };
+                    Ok((handler, rest))
+                }
+                Err(fault) => Err(fault),
+            }
+        }
+        Err(fault) => Err(fault),
+    }
 }
 
 fn so_many_handlers_at<'a>(
@@ -197,14 +254,18 @@ fn so_many_handlers_at<'a>(
 ) -> Result<(Seq<ExceptionHandler>, &'a [u8]), AttributeFault>
     ensures { ReadsUnless fault.Memory (λ x. (x.0, x.1.now)) result (many (handler_at pool.now) count bytes.now) }
 {
-    let mut handlers = Vec::new(alloc);
+    let mut handlers = Seq::new(alloc);
     let mut rest = bytes;
     for _ in 0..count {
-        let (handler, after) = handler_at(pool, rest)?;
-        handlers.push(handler)?;
-        rest = after;
+        match handler_at(pool, rest) {
+            Ok((handler, after)) => {
+                handlers.push(handler)?;
+                rest = after;
+            }
+            Err(fault) => return Err(fault),
+        }
     }
-    Ok((Seq::from_vec(handlers), rest))
+    Ok((handlers, rest))
 }
 
 #[tactic(auto, unfolding(crate::specs::Codes::handlers_at))]
@@ -215,8 +276,29 @@ fn handlers_at<'a>(
 ) -> Result<(Seq<ExceptionHandler>, &'a [u8]), AttributeFault>
     ensures { ReadsUnless fault.Memory (λ x. (x.0, x.1.now)) result (handlers_at pool.now bytes.now) }
 {
-    let (count, rest) = u16_at(ENDS, bytes)?;
-    so_many_handlers_at(alloc, pool, count, rest)
+    match u16_at(ENDS, bytes) {
+        Ok((count, rest)) => so_many_handlers_at(alloc, pool, count, rest),
+        Err(fault) => Err(fault),
+    }
+}
+
+type Tables = (Seq<ExceptionHandler>, Seq<CodeAttribute>);
+
+// The exception table and the attributes of code.
+fn tables_at<'a>(
+    alloc: Global,
+    pool: &Pool,
+    bytes: &'a [u8],
+) -> Result<(Tables, &'a [u8]), AttributeFault>
+    ensures { ReadsUnless fault.Memory (λ x. (x.0, x.1.now)) result (both (handlers_at pool.now) (listed (fault.Length name.Code) (code_attribute_at pool.now)) bytes.now) }
+{
+    match handlers_at(alloc, pool, bytes) {
+        Ok((exception_table, rest)) => match code_attributes_at(alloc, pool, rest) {
+            Ok((attributes, rest)) => Ok(((exception_table, attributes), rest)),
+            Err(fault) => Err(fault),
+        },
+        Err(fault) => Err(fault),
+    }
 }
 
 /// A Code attribute at the front of its bytes, and the bytes behind it.
@@ -228,16 +310,25 @@ pub fn code_at<'a>(
 ) -> Result<(Code, &'a [u8]), AttributeFault>
     ensures { ReadsUnless fault.Memory (λ x. (x.0, x.1.now)) result (code_at pool.now bytes.now) }
 {
-    let ((max_stack, max_locals), rest) = two_at(bytes)?;
-    let (code, rest) = code_bytes_at(alloc, rest)?;
-    let (exception_table, rest) = handlers_at(alloc, pool, rest)?;
-    let (attributes, rest) = code_attributes_at(alloc, pool, rest)?;
-    let code = Code {
-        max_stack,
-        max_locals,
-        code,
-        exception_table,
-        attributes,
+    let ((max_stack, max_locals), rest) = match two_at(bytes) {
+        Ok(read) => read,
+        Err(fault) => return Err(fault),
     };
-    Ok((code, rest))
+    match code_bytes_at(alloc, rest) {
+        Ok((code, rest)) => match tables_at(alloc, pool, rest) {
+            Ok((tables, rest)) => {
+                let (exception_table, attributes) = tables;
+                let code = Code {
+                    max_stack,
+                    max_locals,
+                    code,
+                    exception_table,
+                    attributes,
+                };
+                Ok((code, rest))
+            }
+            Err(fault) => Err(fault),
+        },
+        Err(fault) => Err(fault),
+    }
 }

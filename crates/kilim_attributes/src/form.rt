@@ -78,8 +78,15 @@ pub fn named_bytes_at(
 ) -> Result<((u16, &[u8]), &[u8]), AttributeFault>
     ensures { Reads (λ x. ((x.0.0, x.0.1.now), x.1.now)) result (named_bytes_at cut bytes.now) }
 {
-    let (name, rest) = u16_at(cut, bytes)?;
-    let (size, rest) = u32_at(cut, rest)?;
-    let (content, rest) = bytes_at(cut, size as usize, rest)?;
-    Ok(((name, content), rest))
+    let (name, rest) = match u16_at(cut, bytes) {
+        Ok(read) => read,
+        Err(fault) => return Err(fault),
+    };
+    match u32_at(cut, rest) {
+        Ok((size, rest)) => match bytes_at(cut, size as usize, rest) {
+            Ok((content, rest)) => Ok(((name, content), rest)),
+            Err(fault) => Err(fault),
+        },
+        Err(fault) => Err(fault),
+    }
 }

@@ -29,28 +29,41 @@ fn constant_info(pool: &Pool, bytes: &[u8]) -> Result<Info, AttributeFault>
     ensures { ReadsUnless fault.Memory (λ x. x) result (as_a ConstantValue (filled (fault.Length name.ConstantValue) (index_at pool.now kind.Constant (fault.Length name.ConstantValue)) bytes.now)) }
 {
     let ends = AttributeFault::Length(AttributeName::ConstantValue);
-    let (index, rest) = index_at(pool, EntryKind::Constant, ends, bytes)?;
-    if !rest.is_empty() {
-        return Err(ends);
+    match index_at(pool, EntryKind::Constant, ends, bytes) {
+        Ok((index, rest)) => {
+            if rest.is_empty() {
+                Ok(Info::ConstantValue(index))
+            } else {
+                Err(ends)
+            }
+        }
+        Err(fault) => Err(fault),
     }
-    Ok(Info::ConstantValue(index))
 }
 
 fn code_info(alloc: Global, pool: &Pool, bytes: &[u8]) -> Result<Info, AttributeFault>
     ensures { ReadsUnless fault.Memory (λ x. x) result (as_a Code (filled (fault.Length name.Code) (code_at pool.now) bytes.now)) }
 {
-    let (code, rest) = code_at(alloc, pool, bytes)?;
-    if !rest.is_empty() {
-        return Err(AttributeFault::Length(AttributeName::Code));
+    match code_at(alloc, pool, bytes) {
+        Ok((code, rest)) => {
+            if rest.is_empty() {
+                Ok(Info::Code(code))
+            } else {
+                drop(code);
+                Err(AttributeFault::Length(AttributeName::Code))
+            }
+        }
+        Err(fault) => Err(fault),
     }
-    Ok(Info::Code(code))
 }
 
 fn frames_info(alloc: Global, pool: &Pool, bytes: &[u8]) -> Result<Info, AttributeFault>
     ensures { ReadsUnless fault.Memory (λ x. x) result (as_a StackMapTable (filled (fault.Length name.StackMapTable) (frames_at pool.now) bytes.now)) }
 {
-    let frames = whole_frames(alloc, pool, bytes)?;
-    Ok(Info::StackMapTable(frames))
+    match whole_frames(alloc, pool, bytes) {
+        Ok(frames) => Ok(Info::StackMapTable(frames)),
+        Err(fault) => Err(fault),
+    }
 }
 
 fn classes_at<'a>(
@@ -61,14 +74,18 @@ fn classes_at<'a>(
 ) -> Result<(Seq<u16>, &'a [u8]), AttributeFault>
     ensures { ReadsUnless fault.Memory (λ x. (x.0, x.1.now)) result (many (index_at pool.now kind.Class (fault.Length name.Exceptions)) count bytes.now) }
 {
-    let mut classes = Vec::new(alloc);
+    let mut classes = Seq::new(alloc);
     let mut rest = bytes;
     for _ in 0..count {
-        let (class, after) = index_at(pool, EntryKind::Class, EXCEPTIONS_END, rest)?;
-        classes.push(class)?;
-        rest = after;
+        match index_at(pool, EntryKind::Class, EXCEPTIONS_END, rest) {
+            Ok((class, after)) => {
+                classes.push(class)?;
+                rest = after;
+            }
+            Err(fault) => return Err(fault),
+        }
     }
-    Ok((Seq::from_vec(classes), rest))
+    Ok((classes, rest))
 }
 
 #[tactic(auto, unfolding(crate::specs::Attributes::exceptions_at))]
@@ -79,18 +96,26 @@ fn exceptions_at<'a>(
 ) -> Result<(Seq<u16>, &'a [u8]), AttributeFault>
     ensures { ReadsUnless fault.Memory (λ x. (x.0, x.1.now)) result (exceptions_at pool.now bytes.now) }
 {
-    let (count, rest) = u16_at(EXCEPTIONS_END, bytes)?;
-    classes_at(alloc, pool, count, rest)
+    match u16_at(EXCEPTIONS_END, bytes) {
+        Ok((count, rest)) => classes_at(alloc, pool, count, rest),
+        Err(fault) => Err(fault),
+    }
 }
 
 fn exceptions_info(alloc: Global, pool: &Pool, bytes: &[u8]) -> Result<Info, AttributeFault>
     ensures { ReadsUnless fault.Memory (λ x. x) result (as_a Exceptions (filled (fault.Length name.Exceptions) (exceptions_at pool.now) bytes.now)) }
 {
-    let (classes, rest) = exceptions_at(alloc, pool, bytes)?;
-    if !rest.is_empty() {
-        return Err(EXCEPTIONS_END);
+    match exceptions_at(alloc, pool, bytes) {
+        Ok((classes, rest)) => {
+            if rest.is_empty() {
+                Ok(Info::Exceptions(classes))
+            } else {
+                drop(classes);
+                Err(EXCEPTIONS_END)
+            }
+        }
+        Err(fault) => Err(fault),
     }
-    Ok(Info::Exceptions(classes))
 }
 
 // Parts of annotations in the form of a name.
@@ -118,11 +143,17 @@ fn parts_info(
     ensures { ReadsUnless fault.Memory (λ x. x) result (as_a (parts_as form) (whole_parts pool.now form kind bytes.now)) }
 {
     let ends = AttributeFault::Length(form);
-    let (parts, rest) = parts_at(alloc, pool, ends, kind, bytes)?;
-    if !rest.is_empty() {
-        return Err(ends);
+    match parts_at(alloc, pool, ends, kind, bytes) {
+        Ok((parts, rest)) => {
+            if rest.is_empty() {
+                Ok(parts_as(form, parts))
+            } else {
+                drop(parts);
+                Err(ends)
+            }
+        }
+        Err(fault) => Err(fault),
     }
-    Ok(parts_as(form, parts))
 }
 
 fn raw_info(alloc: Global, bytes: &[u8]) -> Result<Info, AttributeFault>

@@ -96,11 +96,13 @@ fn attribute_of(
 {
     let form = form_at(pool, place, name)?;
     let once = unless_twice(form, before)?;
-    let info = info_of(alloc, pool, once, content)?;
-    Ok(Attribute {
-        attribute_name_index: name,
-        info,
-    })
+    match info_of(alloc, pool, once, content) {
+        Ok(info) => Ok(Attribute {
+            attribute_name_index: name,
+            info,
+        }),
+        Err(fault) => Err(fault),
+    }
 }
 
 #[tactic(auto, unfolding(crate::specs::Attributes::attribute_at))]
@@ -113,9 +115,40 @@ fn attribute_at<'a>(
 ) -> Result<(Attribute, &'a [u8]), AttributeFault>
     ensures { ReadsUnless fault.Memory (λ x. (x.0, x.1.now)) result (attribute_at pool.now place before.now bytes.now) }
 {
-    let ((name, content), rest) = named_bytes_at(AttributeFault::Cut, bytes)?;
-    let attribute = attribute_of(alloc, pool, place, before, name, content)?;
-    Ok((attribute, rest))
+    match named_bytes_at(AttributeFault::Cut, bytes) {
+        Ok(((name, content), rest)) => match attribute_of(
+            alloc, pool, place, before, name, content,
+        ) {
+            Ok(attribute) => Ok((attribute, rest)),
+            Err(fault) => Err(fault),
+        },
+        Err(fault) => Err(fault),
+    }
+}
+
+// So many attributes, put behind none, and the bytes behind them.
+fn push_attributes_at<'a>(
+    alloc: Global,
+    pool: &Pool,
+    place: Place,
+    count: u16,
+    bytes: &'a [u8],
+    attributes: &mut Seq<Attribute>,
+) -> Result<&'a [u8], AttributeFault>
+    requires none { attributes.old ≡ [] }
+    ensures { ReadsUnless fault.Memory (λ rest. (attributes.new, rest.now)) result (many_after (attribute_at pool.now place) [] count bytes.now) }
+{
+    let mut rest = bytes;
+    for _ in 0..count {
+        match attribute_at(alloc, pool, place, attributes.as_slice(), rest) {
+            Ok((attribute, after)) => {
+                attributes.push(attribute)?;
+                rest = after;
+            }
+            Err(fault) => return Err(fault),
+        }
+    }
+    Ok(rest)
 }
 
 fn so_many_attributes_at<'a>(
@@ -127,14 +160,11 @@ fn so_many_attributes_at<'a>(
 ) -> Result<(Seq<Attribute>, &'a [u8]), AttributeFault>
     ensures { ReadsUnless fault.Memory (λ x. (x.0, x.1.now)) result (many_after (attribute_at pool.now place) [] count bytes.now) }
 {
-    let mut attributes = Vec::new(alloc);
-    let mut rest = bytes;
-    for _ in 0..count {
-        let (attribute, after) = attribute_at(alloc, pool, place, attributes.as_slice(), rest)?;
-        attributes.push(attribute)?;
-        rest = after;
+    let mut attributes = Seq::new(alloc);
+    match push_attributes_at(alloc, pool, place, count, bytes, &mut attributes) {
+        Ok(rest) => Ok((attributes, rest)),
+        Err(fault) => Err(fault),
     }
-    Ok((Seq::from_vec(attributes), rest))
 }
 
 #[tactic(auto, unfolding(crate::specs::Attributes::attributes_at, crate::specs::Lists::listed))]
@@ -146,8 +176,10 @@ fn attributes_at<'a>(
 ) -> Result<(Seq<Attribute>, &'a [u8]), AttributeFault>
     ensures { ReadsUnless fault.Memory (λ x. (x.0, x.1.now)) result (attributes_at pool.now place bytes.now) }
 {
-    let (count, rest) = u16_at(AttributeFault::Cut, bytes)?;
-    so_many_attributes_at(alloc, pool, place, count, rest)
+    match u16_at(AttributeFault::Cut, bytes) {
+        Ok((count, rest)) => so_many_attributes_at(alloc, pool, place, count, rest),
+        Err(fault) => Err(fault),
+    }
 }
 
 /// The attributes of a list at the front of bytes, a count of two bytes and so many attributes (JVMS 4.7), and the
@@ -177,9 +209,13 @@ pub fn read_all(
 {
     parts_are_spelled();
     attributes_are_spelled();
-    let (attributes, rest) = attributes_at(alloc, pool, place, bytes)?;
-    let end = bytes.len() - rest.len();
-    Ok((attributes, end))
+    match attributes_at(alloc, pool, place, bytes) {
+        Ok((attributes, rest)) => {
+            let end = bytes.len() - rest.len();
+            Ok((attributes, end))
+        }
+        Err(fault) => Err(fault),
+    }
 }
 
 /// A law, and no work: what was written is read again, whatever follows, and all that has a text can be written.

@@ -5,4 +5,4 @@ use Rattle.kilim_attributes.specs.Codes.{handler_at}
 use Rattle.kilim_attributes.proofs.code_reading.so_many_handlers_at.Given as goal
 
 abbrev pub invariant-loop : goal.invariant-loop
-invariant-loop l = with_front l.handlers.items (many (handler_at l.pool) (l.count - l.counter) l.rest) ≡ many (handler_at l.pool) l.count l.bytes
+invariant-loop l = with_front l.handlers (many (handler_at l.pool) (l.count - l.counter) l.rest) ≡ many (handler_at l.pool) l.count l.bytes

@@ -8,4 +8,4 @@ use Rattle.kilim_attribute_parts.specs.Indices.{index_at}
 use Rattle.kilim_attributes.proofs.info_reading.classes_at.Given as goal
 
 abbrev pub invariant-loop : goal.invariant-loop
-invariant-loop l = with_front l.classes.items (many (index_at l.pool kind.Class (fault.Length name.Exceptions)) (l.count - l.counter) l.rest) ≡ many (index_at l.pool kind.Class (fault.Length name.Exceptions)) l.count l.bytes
+invariant-loop l = with_front l.classes (many (index_at l.pool kind.Class (fault.Length name.Exceptions)) (l.count - l.counter) l.rest) ≡ many (index_at l.pool kind.Class (fault.Length name.Exceptions)) l.count l.bytes
