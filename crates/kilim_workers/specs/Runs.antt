@@ -12,8 +12,8 @@ use Rattle.kilim_exchange.specs.declared.board.Acted.{Acted}
 use Rattle.kilim_exchange.specs.declared.board.Acted.TheVariants as acted
 use Rattle.kilim_exchange.specs.Seen.{RestsAs, ActMeets}
 use Rattle.kilim_workers.specs.Codes.{lent_numbers}
-use Rattle.kilim_workers.specs.declared.worker.Step.{Step}
-use Rattle.kilim_workers.specs.declared.worker.Step.TheVariants as step
+use Rattle.kilim_workers.specs.declared.worker_pool.Next.{Next}
+use Rattle.kilim_workers.specs.declared.worker_pool.Next.TheVariants as next
 use Rattle.kilim_thread_model.specs.Lone.{Lone}
 use Rattle.kilim_thread_model.specs.Course.{Course}
 use Rattle.kilim_thread_model.specs.declared.deed.Deed.{Deed}
@@ -40,6 +40,12 @@ module _ {F : Type 0} (task : F → ℕ) (course : F → Course) where
     IsTaken cell (lent.Fiber f) = (cell ≡ fiber_numbers f) × AllStand f
     IsTaken cell l = cell ≡ []
 
+    -- what a seat has when the fiber that is lent to it has come to this
+    abbrev pub NextIs : List ℕ → F → Next → Type 0
+    NextIs cell f next.On = (cell ≡ fiber_numbers f) × AllStand f
+    NextIs cell f next.Over = cell ≡ []
+    NextIs cell f (next.Rests waits) = (cell ≡ fiber_numbers f) × AllRest f waits
+
 -- What a seat has after an act of the task t with the course c: that course with the deed that the answer makes, or
 -- nothing where the task has ended.
 abbrev pub ActedAs : (Setting → Type 0) → ℕ → Course → List ℕ → Option Wish → Acted → Type 0
@@ -51,8 +57,3 @@ ActedAs Of t c cell None a = ⊥
 -- The code serves each setting of the run, and these are its limits.
 abbrev pub RunsOn : {C : Type 0} → (Setting → C → Type 0) → (Setting → Type 0) → C → Limits → Type 0
 RunsOn serves Of code limits = (set : Setting) → Of set → serves set code × (set.limits ≡ limits)
-
--- what a seat has when a worker's step is over
-abbrev pub StepIs : {F : Type 0} → (F → ℕ) → (F → Course) → (Setting → F → Lone → Type 0) → (Setting → Type 0) → List ℕ → Step F → Type 0
-StepIs task course holds Of cell (step.On f) = (cell ≡ fiber_numbers task course f) × AllStand task course holds Of f
-StepIs task course holds Of cell step.Over = cell ≡ []

@@ -1,8 +1,9 @@
 //! All workers.
 
-ghost use Rattle.std.specs.Prelude.{◌≡◌, ◌<◌, ◌≤◌, ℕ, List, [], All, IfOk, length, replicate, slice_index_or};
+ghost use Rattle.std.specs.Prelude.{◌≡◌, ◌<◌, ◌≤◌, ℕ, true, false, List, [], All, IfOk, length, replicate, slice_index_or};
 ghost use Rattle.kilim_thread_model.specs.State.{Setting};
-ghost use Rattle.kilim_exchange.specs.Seen.{MovedWhole};
+ghost use Rattle.kilim_exchange.specs.Board.{IsQuiet};
+ghost use Rattle.kilim_exchange.specs.Seen.{seen, MovedWhole};
 ghost use Rattle.kilim_turn.specs.declared.pass.Pass.{Pass};
 ghost use Rattle.kilim_turn.specs.Turns.{seat_of, shows, IsPassOf, AreAllOf};
 ghost use Rattle.kilim_workers.specs.Codes.{board_cells};
@@ -108,6 +109,54 @@ where
     Ok(turn.close(passes))
 }
 
+// Whether no fiber is ready between rounds: the first one that is ready is lent, and given back.
+fn is_quiet<F: Fibers, K: Run>(board: &mut RunBoard<F, K>, workers: usize) -> Result<bool, NoMemory>
+    requires some { (set : Setting) × K.of set }
+    requires workers { 1 ≤ workers }
+    requires free { board_cells board.old ≡ replicate workers [] }
+    ensures free { board_cells board.new ≡ replicate workers [] }
+    ensures quiet { IfOk result (λ quiet. quiet ≡ true → (board.new.stopped ≡ false) × IsQuiet (seen board.new)) }
+{
+    let _ = workers;
+    match board.lend(0) {
+        Lent::Fiber(fiber) => {
+            board.give_back(0, fiber, None);
+            Ok(false)
+        }
+        Lent::Idle => unreachable!(),
+        Lent::Quiet => Ok(true),
+        Lent::Stopped => Err(NoMemory),
+    }
+}
+
+// Rounds, until no fiber is ready.
+fn run_rounds<F: Fibers + Send, K: Run + Send, R: Threads + Wait + Sync, G: Gate>(
+    rt: &R,
+    alloc: Global,
+    board: RunBoard<F, K>,
+    workers: usize,
+    code: &F::Code,
+    limits: &Limits,
+    gate: &G,
+) -> Result<RunBoard<F, K>, NoMemory>
+where
+    F::Code: Sync,
+    requires workers { (1 ≤ workers) × (workers ≤ 16) }
+    requires some { (set : Setting) × K.of set }
+    requires run { RunsOn F.serves K.of code.now limits.now }
+    requires free { board_cells board ≡ replicate workers [] }
+    ensures { IfOk result (λ b. (b.stopped ≡ false) × IsQuiet (seen b)) }
+{
+    let mut board = board;
+    for _ in rt.forever() {
+        board = run_round(rt, alloc, board, workers, code, limits, gate)?;
+        if is_quiet(&mut board, workers)? {
+            return Ok(board);
+        }
+    }
+    unreachable!()
+}
+
 // A run that `K` names.
 fn run_of<F: Fibers + Send, K: Run + Send, R: Threads + Wait + Sync, G: Gate>(
     rt: &R,
@@ -126,17 +175,11 @@ where
     ensures { (set : Setting) → K.of set → IfOk result (λ es. MovedWhole set es.items) }
 {
     let fiber: F = F::boot(alloc, code, main)?;
-    let mut board: RunBoard<F, K> = RunBoard::new(alloc, fiber, workers)?;
-    for _ in rt.forever() {
-        board = run_round(rt, alloc, board, workers, code, limits, gate)?;
-        match board.lend(0) {
-            Lent::Fiber(fiber) => board.give_back(0, fiber, None),
-            Lent::Idle => unreachable!(),
-            Lent::Quiet => return board.finish(),
-            Lent::Stopped => return Err(NoMemory),
-        }
+    let board: RunBoard<F, K> = RunBoard::new(alloc, fiber, workers)?;
+    match run_rounds(rt, alloc, board, workers, code, limits, gate) {
+        Ok(board) => board.finish(),
+        Err(_) => Err(NoMemory),
     }
-    unreachable!()
 }
 
 /// Runs a program with so many workers. It may wait.

@@ -6,10 +6,11 @@ ghost use Rattle.kilim_fibers.specs.Fibers.{StartsAtNone};
 ghost use Rattle.kilim_exchange.specs.Seen.{wish_in};
 ghost use Rattle.kilim_turn.specs.Turns.{seat_of, shows, IsPassOf};
 ghost use Rattle.kilim_workers.specs.Codes.{board_cells, lent_numbers};
-ghost use Rattle.kilim_workers.specs.Runs.{fiber_numbers, AllStand, AllRest, AllMeet, IsTaken, ActedAs, RunsOn, StepIs};
+ghost use Rattle.kilim_workers.specs.Runs.{fiber_numbers, AllStand, AllRest, AllMeet, IsTaken, ActedAs, RunsOn, NextIs};
 ghost use Rattle.kilim_thread_model.specs.Course.{Course};
 
 use crate::run::{Run, RunBoard};
+use crate::worker_pool::Next;
 use kilim_classes::BoxName;
 use kilim_classes::machine::Limits;
 use kilim_exchange::{Acted, Lent};
@@ -95,67 +96,42 @@ fn act<F: Fibers, K: Run, R: Wait>(
     acted
 }
 
-/// What a step leaves of a lent fiber.
-#[derive(Drop)]
-pub enum Step<F> {
-    /// It goes on.
-    On(F),
-    /// It rests, or has ended, or the board was stopped.
-    Over,
-}
-
-// Runs a lent fiber up to the next thing that it wants, without the turn, and does that.
-fn go_on<F: Fibers, K: Run, R: Wait>(
+// Runs a lent fiber up to the next thing that it wants, without the turn, and does that. For want of memory its seat has the fiber's task.
+fn advance<F: Fibers, K: Run, R: Wait>(
     rt: &R,
     turn: &Turn<RunBoard<F, K>>,
     pass: &mut Pass,
-    fiber: F,
+    fiber: &mut F,
     code: &F::Code,
     limits: &Limits,
-) -> Step<F>
+) -> Result<Next, NoMemory>
     requires some { (set : Setting) × K.of set }
     requires run { RunsOn F.serves K.of code.now limits.now }
     requires pass { IsPassOf board_cells turn.now pass.old }
-    requires lent { shows pass.old ≡ fiber_numbers F.task_of F.course_of fiber }
-    requires stands { AllStand F.task_of F.course_of F.holds K.of fiber }
+    requires lent { shows pass.old ≡ fiber_numbers F.task_of F.course_of fiber.old }
+    requires stands { AllStand F.task_of F.course_of F.holds K.of fiber.old }
     ensures pass { IsPassOf board_cells turn.now pass.new }
     ensures seat { seat_of pass.new ≡ seat_of pass.old }
-    ensures step { StepIs F.task_of F.course_of F.holds K.of (shows pass.new) result }
+    ensures next { IfOk result (λ next. NextIs F.task_of F.course_of F.holds K.of (shows pass.new) fiber.new next) }
+    ensures refused { OnErr result ((t : ℕ) × (c : Course) × (shows pass.new ≡ lent_numbers t c)) }
 {
-    let mut fiber = fiber;
-    let wants = match fiber.resume(code, limits) {
-        Ok(wants) => wants,
-        Err(_) => {
-            quit(rt, turn, pass);
-            return Step::Over;
-        }
-    };
+    let wants = fiber.resume(code, limits)?;
     match wants {
-        Wants::Rest(waits) => {
-            hand_back(rt, turn, pass, fiber, waits);
-            Step::Over
-        }
+        Wants::Rest(waits) => Ok(Next::Rests(waits)),
         Wants::End(cause) => {
-            match act(rt, turn, pass, &fiber, Wants::End(cause)) {
-                Ok(_) => {}
-                Err(_) => quit(rt, turn, pass),
-            }
-            Step::Over
+            act(rt, turn, pass, fiber, Wants::End(cause))?;
+            Ok(Next::Over)
         }
-        wants => match act(rt, turn, pass, &fiber, wants) {
-            Ok(Acted::Answer(answer)) => match fiber.answer(code, answer) {
-                Ok(()) => Step::On(fiber),
-                Err(_) => {
-                    quit(rt, turn, pass);
-                    Step::Over
+        wants => {
+            let acted = act(rt, turn, pass, fiber, wants)?;
+            match acted {
+                Acted::Answer(answer) => {
+                    fiber.answer(code, answer)?;
+                    Ok(Next::On)
                 }
-            },
-            Ok(Acted::OutOfTasks) => Step::Over,
-            Err(_) => {
-                quit(rt, turn, pass);
-                Step::Over
+                Acted::OutOfTasks => Ok(Next::Over),
             }
-        },
+        }
     }
 }
 
@@ -179,9 +155,17 @@ fn run_fiber<F: Fibers, K: Run, R: Wait>(
 {
     let mut fiber = fiber;
     for _ in rt.forever() {
-        match go_on(rt, turn, pass, fiber, code, limits) {
-            Step::On(next) => fiber = next,
-            Step::Over => return,
+        match advance(rt, turn, pass, &mut fiber, code, limits) {
+            Ok(Next::On) => {}
+            Ok(Next::Over) => return,
+            Ok(Next::Rests(waits)) => {
+                hand_back(rt, turn, pass, fiber, waits);
+                return;
+            }
+            Err(_) => {
+                quit(rt, turn, pass);
+                return;
+            }
         }
     }
     unreachable!()

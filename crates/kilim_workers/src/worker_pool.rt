@@ -3,10 +3,10 @@
 ghost use Rattle.std.specs.Prelude.{◌≡◌, ◌<◌, ◌≤◌, ◌∷◌, [], ℕ, Bool, true, false, Option, Some, None, OnOk, IfOk, List};
 ghost use Rattle.kilim_thread_model.specs.State.{Setting};
 ghost use Rattle.kilim_exchange.specs.Seen.{MovedWhole, seen};
-ghost use Rattle.kilim_workers.specs.worker_pool.Pool.{IsOf, IsLending, IsResting, TurnIs, IsCalm, EmptyAt, Falls, todo, left};
+ghost use Rattle.kilim_workers.specs.worker_pool.Pool.{IsOf, IsLending, IsResting, NextIs, IsCalm, EmptyAt, Falls, todo, left};
 
-use kilim_classes::ClassId;
 use kilim_classes::machine::Limits;
+use kilim_classes::{BoxName, ClassId};
 use kilim_exchange::{Acted, Board, Lent};
 use kilim_fibers::{Fibers, Wants};
 use kilim_journal::Entry;
@@ -14,51 +14,49 @@ use kilim_outside::Gate;
 use kilim_units::NoMemory;
 use std::alloc::Global;
 
-// What a lent fiber's step leaves.
+/// What a lent fiber comes to.
 #[derive(Drop)]
-enum Turn<F> {
-    // The fiber goes on.
-    On(F),
-    // It rests or has ended.
+pub(crate) enum Next {
+    /// It was answered, and goes on.
+    On,
+    /// Its task has ended.
     Over,
+    /// It rests: at the `get` of an empty mailbox, or since it yielded.
+    Rests(Option<BoxName>),
 }
 
 // Runs a lent fiber up to the next thing that it wants, and does that.
-fn step<F: Fibers>(
+fn advance<F: Fibers>(
     board: &mut Board<F>,
-    fiber: F,
+    fiber: &mut F,
     code: &F::Code,
     limits: &Limits,
     main: ClassId,
-) -> Result<Turn<F>, NoMemory>
+) -> Result<Next, NoMemory>
     requires some { (set : Setting) × IsOf F.serves code.now main limits.now set }
-    requires lending { IsLending F.task_of F.course_of F.holds (IsOf F.serves code.now main limits.now) board.old fiber }
+    requires lending { IsLending F.task_of F.course_of F.holds (IsOf F.serves code.now main limits.now) board.old fiber.old }
     requires calm { IsCalm F.refused (seen board.old) }
-    requires waits { EmptyAt F.refused board.old fiber }
-    ensures turn { IfOk result (λ turn. TurnIs F.task_of F.course_of F.holds (IsOf F.serves code.now main limits.now) board.new turn) }
-    ensures falls { IfOk result (λ turn. Falls F.count_of F.refused limits.now.steps (todo F.count_of F.refused limits.now.steps board.old fiber) board.new turn) }
+    requires waits { EmptyAt F.refused board.old fiber.old }
+    ensures next { IfOk result (λ next. NextIs F.task_of F.course_of F.holds (IsOf F.serves code.now main limits.now) board.new fiber.new next) }
+    ensures falls { IfOk result (λ next. Falls F.count_of F.refused limits.now.steps (todo F.count_of F.refused limits.now.steps board.old fiber.old) board.new fiber.new next) }
 {
-    let mut fiber = fiber;
     let wants = fiber.resume(code, limits)?;
     match wants {
-        Wants::Rest(waits) => {
-            board.give_back(0, fiber, waits);
-            Ok(Turn::Over)
-        }
+        Wants::Rest(waits) => Ok(Next::Rests(waits)),
         Wants::End(cause) => {
             let wants = Wants::End(cause);
             board.reserve(&wants)?;
             board.act(0, wants);
-            Ok(Turn::Over)
+            Ok(Next::Over)
         }
         wants => {
             board.reserve(&wants)?;
             match board.act(0, wants) {
                 Acted::Answer(answer) => {
                     fiber.answer(code, answer)?;
-                    Ok(Turn::On(fiber))
+                    Ok(Next::On)
                 }
-                Acted::OutOfTasks => Ok(Turn::Over),
+                Acted::OutOfTasks => Ok(Next::Over),
             }
         }
     }
@@ -81,9 +79,14 @@ fn run_fiber<F: Fibers>(
 {
     let mut fiber = fiber;
     loop {
-        match step(board, fiber, code, limits, main)? {
-            Turn::On(next) => fiber = next,
-            Turn::Over => return Ok(()),
+        let next = advance(board, &mut fiber, code, limits, main)?;
+        match next {
+            Next::On => {}
+            Next::Over => return Ok(()),
+            Next::Rests(waits) => {
+                board.give_back(0, fiber, waits);
+                return Ok(());
+            }
         }
     }
 }

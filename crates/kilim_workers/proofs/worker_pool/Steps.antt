@@ -20,7 +20,7 @@ use Rattle.kilim_exchange.specs.Board.{Board, BoardStands, IsQuiet, lent_of, Par
 use Rattle.kilim_fibers.specs.waiting.Mailboxes.{Tree}
 use Rattle.kilim_workers.specs.worker_pool.Pool.{IsOf, IsLending, IsResting, IsCalm, EmptyAt, todo, left, one_if_none}
 use Rattle.kilim_workers.proofs.worker_pool.Measures.{same_left, act_left, back_left, park_left, nothing_left, same_calm, act_calm, back_calm, park_calm}
-use Rattle.kilim_exchange.specs.Seen.{seen, IsRoomy, LendAnswers, GiveAnswers, gives_at, LentStands, CourseAt, SameBoard, ActAnswers, ActMeets, IsActable, IsAnswered, wish_in}
+use Rattle.kilim_exchange.specs.Seen.{seen, IsRoomy, LendAnswers, GiveAnswers, gives_at, LentStands, CourseAt, SameBoard, ActAnswers, ActMeets, IsActable, IsAnswered, RestsAs, wish_in}
 use Rattle.kilim_thread_model.specs.Lone.{Lone}
 use Rattle.kilim_thread_model.specs.Course.{Course}
 use Rattle.kilim_thread_model.specs.declared.deed.Deed.{Deed}
@@ -182,6 +182,28 @@ module _ {F C : Type 0} (task : F → ℕ) (course : F → Course) (holds asked 
             (does set (task f) (course f) lent s.1 m s.0).0;
       }
 
+  -- a fiber that rests is still lent
+  rest_stands : (set : Setting) (f : F) (waits : Option BoxName) → Resumed task course holds asked set f (wants.Rest waits) → StandsFor task course holds set f × RestsAs task course holds set f waits
+  rest_stands set f None r = (r, r)
+  rest_stands set f (Some box) r = (r.stands, r)
+
+  pub rests_now : (b : kept.Board F) (f f' : F) (w : Wants F) (waits : Option BoxName) → w ≡ wants.Rest waits → IsLending task course holds Of b f → task f' ≡ task f → course f' ≡ course f →
+      ((set : Setting) → serves set code → set.limits ≡ limits → StandsFor task course holds set f → Resumed task course holds asked set f' w) → IsLending task course holds Of b f' × ((set : Setting) → Of set → RestsAs task course holds set f' waits)
+  rests_now b f f' w waits is lending same-task same-course wanted =
+      let rest : (set : Setting) → Of set → StandsFor task course holds set f' × RestsAs task course holds set f' waits = λ set of.
+      let s : BoardStands task course holds set (seen b) × StandsFor task course holds set f × CourseAt (seen b) (task f) (course f) = lending.stands set of in
+      rest_stands set f' waits (subst (λ x. Resumed task course holds asked set f' x) is (wanted set of.run.served of.is-limits s.1)) in (
+        record {
+          roomy = lending.roomy;
+          cells = lending.cells ∙ ap (λ t. Some t ∷ []) (sym same-task);
+          running = lending.running;
+          stands = λ set of.
+              let s : BoardStands task course holds set (seen b) × StandsFor task course holds set f × CourseAt (seen b) (task f) (course f) = lending.stands set of in
+              (s.0, (rest set of).0, subst (λ t. CourseAt (seen b) t (course f')) (sym same-task) (subst (λ c. CourseAt (seen b) (task f) c) (sym same-course) s.2));
+        },
+        λ set of. (rest set of).1,
+      )
+
 -- ---- lending
 
 module _ {F : Type 0} (task : F → ℕ) (course : F → Course) (holds : Setting → F → Lone → Type 0) (Of : Setting → Type 0) where
@@ -193,6 +215,27 @@ module _ {F : Type 0} (task : F → ℕ) (course : F → Course) (holds : Settin
     running = did.1.stopped ∙ resting.running;
     stands = λ set is. let s = kept-it set (resting.stands set is) in (s.0, s.1.0, s.1.1);
   }
+
+  -- a fiber that rests is given back
+  pub given : (b b' : kept.Board F) (f : F) (waits : Option BoxName) → IsLending task course holds Of b f → ((set : Setting) → Of set → RestsAs task course holds set f waits) → GiveAnswers (seen b) 0 (seen b') f waits → IsRoomy b' →
+      ((set : Setting) → BoardStands task course holds set (seen b) → RestsAs task course holds set f waits → CourseAt (seen b) (task f) (course f) → BoardStands task course holds set (seen b')) → IsResting task course holds Of b'
+  given b b' f waits lending rests did roomy kept-it =
+      let k = give_keeps (seen b) (seen b') f waits did in record {
+        roomy = roomy;
+        cells = k.0 ∙ ap (λ cs. slice_set cs 0 None) lending.cells;
+        running = k.1 ∙ lending.running;
+        stands = λ set of.
+            let s : BoardStands task course holds set (seen b) × StandsFor task course holds set f × CourseAt (seen b) (task f) (course f) = lending.stands set of in
+            kept-it set s.0 (rests set of) s.2;
+      }
+    where
+      give_keeps : (b b' : Board F) (f : F) (waits : Option BoxName) → GiveAnswers b 0 b' f waits → (b'.cells ≡ slice_set b.cells 0 None) × (b'.stopped ≡ b.stopped)
+      give_keeps b b' f None did = (did.cells, did.stopped)
+      give_keeps b b' f (Some box) did = give_at (length (b.mails box).queue == 0) did
+        where
+          give_at : (y : Bool) → gives_at y b 0 b' f box → (b'.cells ≡ slice_set b.cells 0 None) × (b'.stopped ≡ b.stopped)
+          give_at true did = (did.cells, did.stopped)
+          give_at false did = (did.cells, did.stopped)
 
   pub quiet_now : (b b' : kept.Board F) (l : Lent F) → ((f : F) → l ≡ lent.Fiber f → ⊥) → LendAnswers task (seen b) 0 (seen b') l → IsResting task course holds Of b → (b'.stopped ≡ false) × IsQuiet (seen b')
   quiet_now b b' (lent.Fiber f) not-fiber did resting = absurd (not-fiber f refl)
@@ -254,16 +297,16 @@ module _ {F : Type 0} (task count : F → ℕ) (rests : F → Bool) (refused : F
   falls_over b b1 b2 f same e calm = let k = same_left task count n (seen b) (seen b1) same.spots.ready same.spots.parked same.run.tasks in (calm, omega arith)
 
   -- a fiber that rests is given back: behind a yield it is ready, and at the mailbox that refused it it is parked
-  pub falls_rest : (b b1 : kept.Board F) (f f1 : F) (waits : Option BoxName) (at-rest : Bool) → GiveAnswers (seen b) 0 (seen b1) f1 waits → RestsRightly {F = F} at-rest (refused f) (count f) (count f1) (wants.Rest waits) → refused f1 ≡ None → count f ≤ count f1 → count f1 ≤ n →
-      EmptyAt refused b f → IsCalm refused (seen b) → IsCalm refused (seen b1) × (left count n (seen b1) ≤ todo count refused n b f)
+  pub falls_rest : (b : kept.Board F) (b1 : Board F) (f f1 : F) (waits : Option BoxName) (at-rest : Bool) → GiveAnswers (seen b) 0 b1 f1 waits → RestsRightly {F = F} at-rest (refused f) (count f) (count f1) (wants.Rest waits) → refused f1 ≡ None → count f ≤ count f1 → count f1 ≤ n →
+      EmptyAt refused b f → IsCalm refused (seen b) → IsCalm refused b1 × (left count n b1 ≤ todo count refused n b f)
   falls_rest b b1 f f1 None at-rest gives rightly clear up most empty calm =
-      let l = back_left task count n (seen b) (seen b1) 0 f1 gives in
+      let l = back_left task count n (seen b) b1 0 f1 gives in
       let r : one_if_none (refused f) ≡ 1 = ap one_if_none rightly.0 in
       let more = rightly.1 in
-      (back_calm refused (seen b) (seen b1) 0 f1 gives clear calm, omega arith)
+      (back_calm refused (seen b) b1 0 f1 gives clear calm, omega arith)
   falls_rest b b1 f f1 (Some box) at-rest gives rightly clear up most empty calm =
       let none : (length ((seen b).mails box).queue == 0) ≡ true = ap (λ (q : List (ℕ × Tree)). length q == 0) (empty box rightly.0) in
-      let parks : Parks (seen b) 0 (seen b1) f1 box = subst (λ y. gives_at y (seen b) 0 (seen b1) f1 box) none gives in
-      let l = park_left task count n (seen b) (seen b1) 0 f1 box parks in
+      let parks : Parks (seen b) 0 b1 f1 box = subst (λ y. gives_at y (seen b) 0 b1 f1 box) none gives in
+      let l = park_left task count n (seen b) b1 0 f1 box parks in
       let r : one_if_none (refused f) ≡ 0 = ap one_if_none rightly.0 in
-      (park_calm refused (seen b) (seen b1) 0 f1 box parks clear calm, omega arith)
+      (park_calm refused (seen b) b1 0 f1 box parks clear calm, omega arith)

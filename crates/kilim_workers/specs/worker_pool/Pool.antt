@@ -11,9 +11,9 @@ use Rattle.kilim_fibers.specs.Fibers.{IsOfRun, StandsFor}
 use Rattle.kilim_exchange.specs.declared.board.Board as kept
 use Rattle.kilim_exchange.specs.Board.{Board, BoardStands}
 use Rattle.kilim_fibers.specs.waiting.Mailboxes.{mail_of}
-use Rattle.kilim_exchange.specs.Seen.{seen, IsRoomy, CourseAt}
-use Rattle.kilim_workers.specs.declared.worker_pool.Turn.{Turn}
-use Rattle.kilim_workers.specs.declared.worker_pool.Turn.TheVariants as turn
+use Rattle.kilim_exchange.specs.Seen.{seen, GiveAnswers, IsRoomy, CourseAt, RestsAs}
+use Rattle.kilim_workers.specs.declared.worker_pool.Next.{Next}
+use Rattle.kilim_workers.specs.declared.worker_pool.Next.TheVariants as next
 use Rattle.kilim_thread_model.specs.Lone.{Lone}
 use Rattle.kilim_thread_model.specs.Course.{Course}
 
@@ -37,9 +37,11 @@ module _ {F : Type 0} (task : F → ℕ) (course : F → Course) (holds : Settin
     pub running : b.stopped ≡ false
     pub stands : (set : Setting) → Of set → BoardStands task course holds set (seen b)
 
-  abbrev pub TurnIs : kept.Board F → Turn F → Type 0
-  TurnIs b (turn.On f) = IsLending b f
-  TurnIs b turn.Over = IsResting b
+  -- the lent fiber has come to this
+  abbrev pub NextIs : kept.Board F → F → Next → Type 0
+  NextIs b f next.On = IsLending b f
+  NextIs b f next.Over = IsResting b
+  NextIs b f (next.Rests waits) = IsLending b f × ((set : Setting) → Of set → RestsAs task course holds set f waits)
 
 -- ---- what is left to do
 
@@ -82,6 +84,8 @@ module _ {F : Type 0} (count : F → ℕ) (refused : F → Option BoxName) (n : 
   abbrev pub todo : kept.Board F → F → ℕ
   todo b f = left count n (seen b) + weight count n f + one_if_none (refused f)
 
-  abbrev pub Falls : ℕ → kept.Board F → Turn F → Type 0
-  Falls before b' (turn.On f) = IsCalm refused (seen b') × EmptyAt refused b' f × (todo b' f < before)
-  Falls before b' turn.Over = IsCalm refused (seen b') × (left count n (seen b') ≤ before)
+  -- a fiber that rests is still to be given back
+  abbrev pub Falls : ℕ → kept.Board F → F → Next → Type 0
+  Falls before b' f next.On = IsCalm refused (seen b') × EmptyAt refused b' f × (todo b' f < before)
+  Falls before b' f next.Over = IsCalm refused (seen b') × (left count n (seen b') ≤ before)
+  Falls before b' f (next.Rests waits) = (b'' : Board F) → GiveAnswers (seen b') 0 b'' f waits → IsCalm refused b'' × (left count n b'' ≤ before)

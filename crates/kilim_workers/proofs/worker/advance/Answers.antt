@@ -1,0 +1,78 @@
+use Rattle.std.proofs.Common.{◌≡◌, subst, sym}
+use Rattle.kilim_fibers.specs.Fibers.{course_after, Resumed}
+use Rattle.kilim_workers.proofs.worker_pool.Steps.{going, meets}
+use Rattle.kilim_exchange.specs.Seen.{wish_in}
+use Rattle.kilim_turn.specs.Turns.{shows}
+use Rattle.kilim_workers.specs.Codes.{lent_numbers}
+use Rattle.kilim_workers.specs.Runs.{ActedAs}
+use Rattle.kilim_workers.proofs.Steps.{asked_in, fails, is_full, rested, went_on}
+use Rattle.kilim_workers.proofs.worker.advance.Goals as goal
+
+pub resume-requires : goal.resume-requires
+resume-requires g c =
+    let set = c.requires.some.0 in
+    let r = c.requires.run set c.requires.some.1 in
+    record { set = set; served = r.0; is-limits = r.1; stands = c.requires.stands set c.requires.some.1 }
+
+pub returns-in_err-wants-clause-refused : goal.returns-in_err-wants-clause-refused
+returns-in_err-wants-clause-refused g c = fails c.from_residual.result _ (g.F.Fibers.task_of c.args.fiber.now, g.F.Fibers.course_of c.args.fiber.now, c.requires.lent)
+
+pub returns-in-Rest-clause-next : goal.returns-in-Rest-clause-next
+returns-in-Rest-clause-next g c = (
+  subst (λ t. shows c.args.pass.now ≡ lent_numbers t (g.F.Fibers.course_of c.resume.new.self)) (sym c.in_ok-wants.ensures.task) (subst (λ d. shows c.args.pass.now ≡ lent_numbers (g.F.Fibers.task_of c.args.fiber.now) d) (sym c.in_ok-wants.ensures.course) c.requires.lent),
+  λ set is.
+      let r = c.requires.run set is in
+      rested g.F.Fibers.task_of g.F.Fibers.course_of g.F.Fibers.holds g.F.Fibers.asked set c.resume.new.self c.in-Rest.waits
+      (subst (λ w. Resumed g.F.Fibers.task_of g.F.Fibers.course_of g.F.Fibers.holds g.F.Fibers.asked set c.resume.new.self w) c.in-Rest.is (c.in_ok-wants.ensures.wants set r.0 r.1 (c.requires.stands set is))),
+)
+
+pub act-requires-clause-meets : goal.act-requires-clause-meets
+act-requires-clause-meets g c = λ set is.
+    let r = c.requires.run set is in
+    subst (λ w. Resumed g.F.Fibers.task_of g.F.Fibers.course_of g.F.Fibers.holds g.F.Fibers.asked set c.resume.new.self w) c.in-End.is (c.in_ok-wants.ensures.wants set r.0 r.1 (c.requires.stands set is))
+
+pub returns-in_err-act-in-End-clause-refused : goal.returns-in_err-act-in-End-clause-refused
+returns-in_err-act-in-End-clause-refused g c = fails c.from_residual-in_err-act-in-End.result _ (g.F.Fibers.task_of c.resume.new.self, g.F.Fibers.course_of c.resume.new.self, c.in_err-act-in-End.ensures.refused)
+
+pub act-requires-in_default-clause-meets : goal.act-requires-in_default-clause-meets
+act-requires-in_default-clause-meets g c = λ set is.
+    let r = c.requires.run set is in
+    meets g.F.Fibers.task_of g.F.Fibers.course_of g.F.Fibers.holds g.F.Fibers.asked set c.resume.new.self c.in_ok-wants.wants (going c.in_ok-wants.wants c.in_default.not-Rest c.in_default.not-End) (c.in_ok-wants.ensures.wants set r.0 r.1 (c.requires.stands set is))
+
+pub returns-in_err-acted-in_default-clause-refused : goal.returns-in_err-acted-in_default-clause-refused
+returns-in_err-acted-in_default-clause-refused g c = fails c.from_residual-in_err-acted-in_default.result _ (g.F.Fibers.task_of c.resume.new.self, g.F.Fibers.course_of c.resume.new.self, c.in_err-acted-in_default.ensures.refused)
+
+pub answer-requires : goal.answer-requires
+answer-requires g c =
+    let set = c.requires.some.0 in
+    let is = c.requires.some.1 in
+    let r = c.requires.run set is in
+    let k =
+    asked_in g.F.Fibers.task_of g.F.Fibers.course_of g.F.Fibers.holds g.F.Fibers.asked g.F.Fibers.serves g.K.Run.of c.args.code.now c.args.limits.now set is c.resume.new.self c.in_ok-wants.wants c.in-Answer.answer (shows c.act-in_default.new.pass)
+    (going c.in_ok-wants.wants c.in_default.not-Rest c.in_default.not-End) (c.in_ok-wants.ensures.wants set r.0 r.1 (c.requires.stands set is))
+    (subst (λ a. ActedAs g.K.Run.of (g.F.Fibers.task_of c.resume.new.self) (g.F.Fibers.course_of c.resume.new.self) (shows c.act-in_default.new.pass) (wish_in c.in_ok-wants.wants) a) c.in-Answer.is c.in_ok-acted-in_default.ensures.acted) in
+    record { set = set; served = r.0; wish = k.wish; deed = k.deed; asks = k.asks; fits = k.fits }
+
+pub returns-in_err-answer-in-Answer-clause-refused : goal.returns-in_err-answer-in-Answer-clause-refused
+returns-in_err-answer-in-Answer-clause-refused g c =
+    let set = c.requires.some.0 in
+    let is = c.requires.some.1 in
+    let r = c.requires.run set is in
+    let k =
+    asked_in g.F.Fibers.task_of g.F.Fibers.course_of g.F.Fibers.holds g.F.Fibers.asked g.F.Fibers.serves g.K.Run.of c.args.code.now c.args.limits.now set is c.resume.new.self c.in_ok-wants.wants c.in-Answer.answer (shows c.act-in_default.new.pass)
+    (going c.in_ok-wants.wants c.in_default.not-Rest c.in_default.not-End) (c.in_ok-wants.ensures.wants set r.0 r.1 (c.requires.stands set is))
+    (subst (λ a. ActedAs g.K.Run.of (g.F.Fibers.task_of c.resume.new.self) (g.F.Fibers.course_of c.resume.new.self) (shows c.act-in_default.new.pass) (wish_in c.in_ok-wants.wants) a) c.in-Answer.is c.in_ok-acted-in_default.ensures.acted) in
+    fails c.from_residual-in_err-answer-in-Answer.result _ (g.F.Fibers.task_of c.resume.new.self, course_after (g.F.Fibers.course_of c.resume.new.self) k.deed, k.now)
+
+pub returns-in_ok-answer-in-Answer-clause-next : goal.returns-in_ok-answer-in-Answer-clause-next
+returns-in_ok-answer-in-Answer-clause-next g c =
+    went_on g.F.Fibers.task_of g.F.Fibers.course_of g.F.Fibers.holds g.F.Fibers.asked g.F.Fibers.serves g.K.Run.of c.args.code.now c.args.limits.now c.resume.new.self c.answer.new.self c.in_ok-wants.wants c.in-Answer.answer (shows c.act-in_default.new.pass) c.requires.some c.requires.run
+    (going c.in_ok-wants.wants c.in_default.not-Rest c.in_default.not-End)
+    (λ set is. let r = c.requires.run set is in c.in_ok-wants.ensures.wants set r.0 r.1 (c.requires.stands set is))
+    (subst (λ a. ActedAs g.K.Run.of (g.F.Fibers.task_of c.resume.new.self) (g.F.Fibers.course_of c.resume.new.self) (shows c.act-in_default.new.pass) (wish_in c.in_ok-wants.wants) a) c.in-Answer.is c.in_ok-acted-in_default.ensures.acted)
+    c.in_ok-answer-in-Answer.ensures.task
+    (λ set wish deed served asks fits. let r = c.in_ok-answer-in-Answer.ensures.goes set wish deed served asks fits in (r.0, r.1))
+
+pub returns-in-OutOfTasks-clause-next : goal.returns-in-OutOfTasks-clause-next
+returns-in-OutOfTasks-clause-next g c =
+    is_full g.K.Run.of (g.F.Fibers.task_of c.resume.new.self) (g.F.Fibers.course_of c.resume.new.self) (shows c.act-in_default.new.pass) (wish_in c.in_ok-wants.wants) _ c.in-OutOfTasks.is c.in_ok-acted-in_default.ensures.acted
