@@ -2,3 +2,4 @@ mod Fields
 mod Invokes
 mod News
 mod Operands
+mod Tables

@@ -2,6 +2,7 @@
 
 mod calls;
 mod making;
+mod operations;
 mod table;
 
 pub use making::new_object;

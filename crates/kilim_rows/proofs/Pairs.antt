@@ -1,18 +1,19 @@
 -- The forms that copy words: what they come to, by the width of the words that they meet, and that an outcome shows it.
-use Rattle.std.proofs.Common.{◌≡◌, ◌∙◌, sym, ap, refl, ℕ, Bool, true, false, not, List, ◌∷◌}
+use Rattle.std.proofs.Common.{◌≡◌, ◌∙◌, sym, ap, refl, subst, arith, ℕ, ◌+◌, ◌<◌, ◌≤◌, Bool, true, false, not, List, [], ◌∷◌, ◌++◌, Some, length, take, drop, slice_get, Option}
+use Rattle.std.proofs.lemmas.List.{length-append, length-drop, length-take}
 use Rattle.kilim_classes.specs.declared.class.Method.{Method}
 use Rattle.kilim_classes.specs.declared.instr.Instr.{Instr}
 use Rattle.kilim_classes.specs.declared.instr.Instr.TheVariants.{Dup, DupX1, DupX2, Dup2, Dup2X1, Dup2X2}
 use Rattle.kilim_classes.specs.declared.value.Value.{Value}
 use Rattle.kilim_classes.specs.Program.{Program}
 use Rattle.kilim_classes.specs.machine.Machine.{Objects}
-use Rattle.kilim_classes.specs.machine.Effect.{Effect, Goes, is_wide, when, wide_or}
+use Rattle.kilim_classes.specs.machine.Effect.{Effect, Goes, Stuck, is_wide, when, wide_or}
 use Rattle.kilim_classes.specs.machine.Does.{does}
 use Rattle.kilim_machine_parts.specs.declared.frames.frame.Frame.{Frame}
 use Rattle.kilim_rows.specs.declared.outcome.Moved.{Moved}
 use Rattle.kilim_rows.specs.declared.outcome.Moved.TheVariants.{Next, Jump, Made, Opened, Called, Asked, Returned, ReturnedValue, Raised, Ended, NoMemory}
-use Rattle.kilim_rows.specs.Laid.{IsLaid}
-use Rattle.kilim_rows.specs.Outcome.{is_stuck, Shows}
+use Rattle.kilim_rows.specs.Laid.{IsLaid, copied}
+use Rattle.kilim_rows.specs.Outcome.{height, is_stuck, Shows}
 
 -- an outcome that lays these words shows the effect that they come to
 pub laid_shows : (own : Method) (e : Effect) (next : ℕ) (result : Moved) (old before after : Frame) (values : List Value) (h : Objects) → IsLaid result before after values → e ≡ Goes next before.locals values h →
@@ -45,73 +46,132 @@ one : (y : Bool) (g : Effect) → is_stuck (when (not y) g) ≡ false → (when 
 one true g fine = absurd (cc)
 one false g fine = (refl, fine)
 
--- the effect of an instruction on a stack that is known
-on_known : (p : Program) (own : Method) (i : Instr) (next : ℕ) (ls s t : List Value) (h : Objects) (e : Effect) → s ≡ t → is_stuck (does p own i next ls s h) ≡ false → (is_stuck (does p own i next ls t h) ≡ false → does p own i next ls t h ≡ e) → does p own i next ls s h ≡ e
-on_known p own i next ls s t h e is fine known =
-    ap (λ (v : List Value). does p own i next ls v h) is ∙ known (ap (λ (v : List Value). is_stuck (does p own i next ls v h)) (sym is) ∙ fine)
+-- An instruction copies so many words below so many: there are enough of them, and that is its effect.
+pub record Copies (p : Program) (own : Method) (i : Instr) (next : ℕ) (ls s : List Value) (h : Objects) (count depth : ℕ) : Type 0 where
+  pub there : depth ≤ length s
+  pub longer : length (copied count depth s) ≡ length s + count
+  pub is : does p own i next ls s h ≡ Goes next ls (copied count depth s) h
 
-pub word_again : (p : Program) (own : Method) (next : ℕ) (ls s rest : List Value) (a : Value) (h : Objects) → s ≡ a ∷ rest → is_stuck (does p own Dup next ls s h) ≡ false → does p own Dup next ls s h ≡ Goes next ls (a ∷ a ∷ rest) h
-unfolding does
-word_again p own next ls s rest a h is fine = on_known p own Dup next ls s _ h _ is fine (λ there. (one (is_wide a) _ there).0)
+-- there is room for the copies where there is room for what the instruction leaves
+pub has_room : (p : Program) (own : Method) (i : Instr) (next : ℕ) (ls s : List Value) (h : Objects) (count depth room : ℕ) → Copies p own i next ls s h count depth → height (does p own i next ls s h) ≤ room → length s + count ≤ room
+has_room p own i next ls s h count depth room copies fits = let tall : height (does p own i next ls s h) ≡ length (copied count depth s) = ap height copies.is in omega (arith, tall, copies.longer, fits)
 
-pub word_below_one : (p : Program) (own : Method) (next : ℕ) (ls s rest : List Value) (a b : Value) (h : Objects) → s ≡ a ∷ b ∷ rest → is_stuck (does p own DupX1 next ls s h) ≡ false → does p own DupX1 next ls s h ≡ Goes next ls (a ∷ b ∷ a ∷ rest) h
-unfolding does
-word_below_one p own next ls s rest a b h is fine =
-    on_known p own DupX1 next ls s _ h _ is fine (λ there. let first = one (is_wide a) _ there in first.0 ∙ (one (is_wide b) _ first.1).0)
+-- what a form shows that copies so many words below so many
+pub copies_show : (p : Program) (own : Method) (i : Instr) (next : ℕ) (result : Moved) (before after : Frame) (h : Objects) (count depth : ℕ) → Copies p own i next before.locals before.stack.values h count depth → IsLaid result before after (copied count depth before.stack.values) →
+    Shows own (does p own i next before.locals before.stack.values h) next result before after h h
+copies_show p own i next result before after h count depth copies laid = laid_shows own (does p own i next before.locals before.stack.values h) next result before before after (copied count depth before.stack.values) h laid copies.is
 
-pub word_below_long : (p : Program) (own : Method) (next : ℕ) (ls s rest : List Value) (a b : Value) (h : Objects) → s ≡ a ∷ b ∷ rest → is_wide b ≡ true → is_stuck (does p own DupX2 next ls s h) ≡ false →
-    does p own DupX2 next ls s h ≡ Goes next ls (a ∷ b ∷ a ∷ rest) h
-unfolding does
-word_below_long p own next ls s rest a b h is wide fine =
-    on_known p own DupX2 next ls s _ h _ is fine (λ there. let first = one (is_wide a) _ there in first.0 ∙ (long (is_wide b) _ _ wide first.1).0)
+same_value : (x v : Value) → ◌≡◌ {A = Option Value} (Some x) (Some v) → v ≡ x
+same_value x v e = cc
 
-pub word_below_pair : (p : Program) (own : Method) (next : ℕ) (ls s rest : List Value) (a b c : Value) (h : Objects) → s ≡ a ∷ b ∷ c ∷ rest → is_wide b ≡ false → is_stuck (does p own DupX2 next ls s h) ≡ false →
-    does p own DupX2 next ls s h ≡ Goes next ls (a ∷ b ∷ c ∷ a ∷ rest) h
-unfolding does
-word_below_pair p own next ls s rest a b c h is short fine =
-    on_known p own DupX2 next ls s _ h _ is fine (λ there. let first = one (is_wide a) _ there in first.0 ∙ (narrow (is_wide b) (is_wide c) _ _ short first.1).0)
+-- what is said of a value at a place of the stack, said of the value that stands there
+there_is : (x v : Value) (w : Bool) → ◌≡◌ {A = Option Value} (Some x) (Some v) → is_wide v ≡ w → is_wide x ≡ w
+there_is x v w at is = subst (λ (u : Value). is_wide u ≡ w) (same_value x v at) is
 
-pub long_again : (p : Program) (own : Method) (next : ℕ) (ls s rest : List Value) (a : Value) (h : Objects) → s ≡ a ∷ rest → is_wide a ≡ true → is_stuck (does p own Dup2 next ls s h) ≡ false → does p own Dup2 next ls s h ≡ Goes next ls (a ∷ a ∷ rest) h
-unfolding does
-long_again p own next ls s rest a h is wide fine = on_known p own Dup2 next ls s _ h _ is fine (λ there. (long (is_wide a) _ _ wide there).0)
+-- one word alone is stuck
+lone : (x : Bool) (e : Effect) → x ≡ false → is_stuck (wide_or x e Stuck) ≡ false → ⊥
+lone true e wide fine = cc
+lone false e wide fine = cc
 
-pub pair_again : (p : Program) (own : Method) (next : ℕ) (ls s rest : List Value) (a b : Value) (h : Objects) → s ≡ a ∷ b ∷ rest → is_wide a ≡ false → is_stuck (does p own Dup2 next ls s h) ≡ false →
-    does p own Dup2 next ls s h ≡ Goes next ls (a ∷ b ∷ a ∷ b ∷ rest) h
-unfolding does
-pair_again p own next ls s rest a b h is short fine = on_known p own Dup2 next ls s _ h _ is fine (λ there. (narrow (is_wide a) (is_wide b) _ _ short there).0)
+never : true ≡ false → ⊥
+never e = cc
 
-pub long_below_one : (p : Program) (own : Method) (next : ℕ) (ls s rest : List Value) (a b : Value) (h : Objects) → s ≡ a ∷ b ∷ rest → is_wide a ≡ true → is_stuck (does p own Dup2X1 next ls s h) ≡ false →
-    does p own Dup2X1 next ls s h ≡ Goes next ls (a ∷ b ∷ a ∷ rest) h
-unfolding does
-long_below_one p own next ls s rest a b h is wide fine =
-    on_known p own Dup2X1 next ls s _ h _ is fine (λ there. let first = long (is_wide a) _ _ wide there in first.0 ∙ (one (is_wide b) _ first.1).0)
+-- so many copies more
+longer_by : (count depth : ℕ) (s : List Value) → (count ≤ depth) × (depth ≤ length s) → length (copied count depth s) ≡ length s + count
+longer_by count depth s fits = omega (arith, length-append (take depth s) (take count s ++ drop depth s), length-append (take count s) (drop depth s), length-take depth s, length-take count s, length-drop depth s, fits.0, fits.1)
 
-pub pair_below_one : (p : Program) (own : Method) (next : ℕ) (ls s rest : List Value) (a b c : Value) (h : Objects) → s ≡ a ∷ b ∷ c ∷ rest → is_wide a ≡ false → is_stuck (does p own Dup2X1 next ls s h) ≡ false →
-    does p own Dup2X1 next ls s h ≡ Goes next ls (a ∷ b ∷ c ∷ a ∷ b ∷ rest) h
+pub word_copies : (p : Program) (own : Method) (next : ℕ) (ls s : List Value) (h : Objects) → is_stuck (does p own Dup next ls s h) ≡ false → Copies p own Dup next ls s h 1 1
 unfolding does
-pair_below_one p own next ls s rest a b c h is short fine =
-    on_known p own Dup2X1 next ls s _ h _ is fine (λ there. let first = narrow (is_wide a) (is_wide b) _ _ short there in first.0 ∙ (one (is_wide c) _ first.1).0)
+word_copies p own next ls [] h fine = absurd (cc)
+word_copies p own next ls (a ∷ rest) h fine = record { there = omega arith; longer = longer_by 1 1 (a ∷ rest) (omega arith, omega arith); is = (one (is_wide a) _ fine).0 }
 
-pub long_below_long : (p : Program) (own : Method) (next : ℕ) (ls s rest : List Value) (a b : Value) (h : Objects) → s ≡ a ∷ b ∷ rest → is_wide a ≡ true → is_wide b ≡ true → is_stuck (does p own Dup2X2 next ls s h) ≡ false →
-    does p own Dup2X2 next ls s h ≡ Goes next ls (a ∷ b ∷ a ∷ rest) h
+pub below_one_copies : (p : Program) (own : Method) (next : ℕ) (ls s : List Value) (h : Objects) → is_stuck (does p own DupX1 next ls s h) ≡ false → Copies p own DupX1 next ls s h 1 2
 unfolding does
-long_below_long p own next ls s rest a b h is wide below fine =
-    on_known p own Dup2X2 next ls s _ h _ is fine (λ there. let first = long (is_wide a) _ _ wide there in first.0 ∙ (long (is_wide b) _ _ below first.1).0)
+below_one_copies p own next ls [] h fine = absurd (cc)
+below_one_copies p own next ls (a ∷ []) h fine = absurd (never (one (is_wide a) _ fine).1)
+below_one_copies p own next ls (a ∷ b ∷ rest) h fine = let first = one (is_wide a) _ fine in record { there = omega arith; longer = longer_by 1 2 (a ∷ b ∷ rest) (omega arith, omega arith); is = first.0 ∙ (one (is_wide b) _ first.1).0 }
 
-pub long_below_pair : (p : Program) (own : Method) (next : ℕ) (ls s rest : List Value) (a b c : Value) (h : Objects) → s ≡ a ∷ b ∷ c ∷ rest → is_wide a ≡ true → is_wide b ≡ false → is_stuck (does p own Dup2X2 next ls s h) ≡ false →
-    does p own Dup2X2 next ls s h ≡ Goes next ls (a ∷ b ∷ c ∷ a ∷ rest) h
+pub below_long_copies : (p : Program) (own : Method) (next : ℕ) (ls s : List Value) (h : Objects) (x : Value) → slice_get s 1 ≡ Some x → is_wide x ≡ true → is_stuck (does p own DupX2 next ls s h) ≡ false → Copies p own DupX2 next ls s h 1 2
 unfolding does
-long_below_pair p own next ls s rest a b c h is wide below fine =
-    on_known p own Dup2X2 next ls s _ h _ is fine (λ there. let first = long (is_wide a) _ _ wide there in first.0 ∙ (narrow (is_wide b) (is_wide c) _ _ below first.1).0)
+below_long_copies p own next ls [] h x at_x is_x fine = absurd (cc)
+below_long_copies p own next ls (a ∷ []) h x at_x is_x fine = absurd (cc)
+below_long_copies p own next ls (a ∷ b ∷ rest) h x at_x is_x fine = let first = one (is_wide a) _ fine in record { there = omega arith; longer = longer_by 1 2 (a ∷ b ∷ rest) (omega arith, omega arith); is = first.0 ∙ (long (is_wide b) _ _ (there_is b x true at_x is_x) first.1).0 }
 
-pub pair_below_long : (p : Program) (own : Method) (next : ℕ) (ls s rest : List Value) (a b c : Value) (h : Objects) → s ≡ a ∷ b ∷ c ∷ rest → is_wide a ≡ false → is_wide c ≡ true → is_stuck (does p own Dup2X2 next ls s h) ≡ false →
-    does p own Dup2X2 next ls s h ≡ Goes next ls (a ∷ b ∷ c ∷ a ∷ b ∷ rest) h
+pub below_pair_copies : (p : Program) (own : Method) (next : ℕ) (ls s : List Value) (h : Objects) (x : Value) → slice_get s 1 ≡ Some x → is_wide x ≡ false → is_stuck (does p own DupX2 next ls s h) ≡ false → Copies p own DupX2 next ls s h 1 3
 unfolding does
-pair_below_long p own next ls s rest a b c h is short below fine =
-    on_known p own Dup2X2 next ls s _ h _ is fine (λ there. let first = narrow (is_wide a) (is_wide b) _ _ short there in first.0 ∙ (long (is_wide c) _ _ below first.1).0)
+below_pair_copies p own next ls [] h x at_x is_x fine = absurd (cc)
+below_pair_copies p own next ls (a ∷ []) h x at_x is_x fine = absurd (cc)
+below_pair_copies p own next ls (a ∷ b ∷ []) h x at_x is_x fine = let first = one (is_wide a) _ fine in absurd (lone (is_wide b) _ (there_is b x false at_x is_x) first.1)
+below_pair_copies p own next ls (a ∷ b ∷ c ∷ rest) h x at_x is_x fine = let first = one (is_wide a) _ fine in record { there = omega arith; longer = longer_by 1 3 (a ∷ b ∷ c ∷ rest) (omega arith, omega arith); is = first.0 ∙ (narrow (is_wide b) (is_wide c) _ _ (there_is b x false at_x is_x) first.1).0 }
 
-pub pair_below_pair : (p : Program) (own : Method) (next : ℕ) (ls s rest : List Value) (a b c d : Value) (h : Objects) → s ≡ a ∷ b ∷ c ∷ d ∷ rest → is_wide a ≡ false → is_wide c ≡ false → is_stuck (does p own Dup2X2 next ls s h) ≡ false →
-    does p own Dup2X2 next ls s h ≡ Goes next ls (a ∷ b ∷ c ∷ d ∷ a ∷ b ∷ rest) h
+pub long_copies : (p : Program) (own : Method) (next : ℕ) (ls s : List Value) (h : Objects) (x : Value) → slice_get s 0 ≡ Some x → is_wide x ≡ true → is_stuck (does p own Dup2 next ls s h) ≡ false → Copies p own Dup2 next ls s h 1 1
 unfolding does
-pair_below_pair p own next ls s rest a b c d h is short below fine =
-    on_known p own Dup2X2 next ls s _ h _ is fine (λ there. let first = narrow (is_wide a) (is_wide b) _ _ short there in first.0 ∙ (narrow (is_wide c) (is_wide d) _ _ below first.1).0)
+long_copies p own next ls [] h x at_x is_x fine = absurd (cc)
+long_copies p own next ls (a ∷ rest) h x at_x is_x fine = record { there = omega arith; longer = longer_by 1 1 (a ∷ rest) (omega arith, omega arith); is = (long (is_wide a) _ _ (there_is a x true at_x is_x) fine).0 }
+
+pub pair_copies : (p : Program) (own : Method) (next : ℕ) (ls s : List Value) (h : Objects) (x : Value) → slice_get s 0 ≡ Some x → is_wide x ≡ false → is_stuck (does p own Dup2 next ls s h) ≡ false → Copies p own Dup2 next ls s h 2 2
+unfolding does
+pair_copies p own next ls [] h x at_x is_x fine = absurd (cc)
+pair_copies p own next ls (a ∷ []) h x at_x is_x fine = absurd (lone (is_wide a) _ (there_is a x false at_x is_x) fine)
+pair_copies p own next ls (a ∷ b ∷ rest) h x at_x is_x fine = record { there = omega arith; longer = longer_by 2 2 (a ∷ b ∷ rest) (omega arith, omega arith); is = (narrow (is_wide a) (is_wide b) _ _ (there_is a x false at_x is_x) fine).0 }
+
+pub long_below_one_copies : (p : Program) (own : Method) (next : ℕ) (ls s : List Value) (h : Objects) (x : Value) → slice_get s 0 ≡ Some x → is_wide x ≡ true → is_stuck (does p own Dup2X1 next ls s h) ≡ false → Copies p own Dup2X1 next ls s h 1 2
+unfolding does
+long_below_one_copies p own next ls [] h x at_x is_x fine = absurd (cc)
+long_below_one_copies p own next ls (a ∷ []) h x at_x is_x fine = absurd (never (long (is_wide a) _ _ (there_is a x true at_x is_x) fine).1)
+long_below_one_copies p own next ls (a ∷ b ∷ rest) h x at_x is_x fine = let first = long (is_wide a) _ _ (there_is a x true at_x is_x) fine in record { there = omega arith; longer = longer_by 1 2 (a ∷ b ∷ rest) (omega arith, omega arith); is = first.0 ∙ (one (is_wide b) _ first.1).0 }
+
+pub pair_below_one_copies : (p : Program) (own : Method) (next : ℕ) (ls s : List Value) (h : Objects) (x : Value) → slice_get s 0 ≡ Some x → is_wide x ≡ false → is_stuck (does p own Dup2X1 next ls s h) ≡ false → Copies p own Dup2X1 next ls s h 2 3
+unfolding does
+pair_below_one_copies p own next ls [] h x at_x is_x fine = absurd (cc)
+pair_below_one_copies p own next ls (a ∷ []) h x at_x is_x fine = absurd (lone (is_wide a) _ (there_is a x false at_x is_x) fine)
+pair_below_one_copies p own next ls (a ∷ b ∷ []) h x at_x is_x fine = absurd (never (narrow (is_wide a) (is_wide b) _ _ (there_is a x false at_x is_x) fine).1)
+pair_below_one_copies p own next ls (a ∷ b ∷ c ∷ rest) h x at_x is_x fine = let first = narrow (is_wide a) (is_wide b) _ _ (there_is a x false at_x is_x) fine in record { there = omega arith; longer = longer_by 2 3 (a ∷ b ∷ c ∷ rest) (omega arith, omega arith); is = first.0 ∙ (one (is_wide c) _ first.1).0 }
+
+pub long_below_long_copies : (p : Program) (own : Method) (next : ℕ) (ls s : List Value) (h : Objects) (x y : Value) → slice_get s 0 ≡ Some x → is_wide x ≡ true → slice_get s 1 ≡ Some y → is_wide y ≡ true → is_stuck (does p own Dup2X2 next ls s h) ≡ false → Copies p own Dup2X2 next ls s h 1 2
+unfolding does
+long_below_long_copies p own next ls [] h x y at_x is_x at_y is_y fine = absurd (cc)
+long_below_long_copies p own next ls (a ∷ []) h x y at_x is_x at_y is_y fine = absurd (cc)
+long_below_long_copies p own next ls (a ∷ b ∷ rest) h x y at_x is_x at_y is_y fine = let first = long (is_wide a) _ _ (there_is a x true at_x is_x) fine in record { there = omega arith; longer = longer_by 1 2 (a ∷ b ∷ rest) (omega arith, omega arith); is = first.0 ∙ (long (is_wide b) _ _ (there_is b y true at_y is_y) first.1).0 }
+
+pub long_below_pair_copies : (p : Program) (own : Method) (next : ℕ) (ls s : List Value) (h : Objects) (x y : Value) → slice_get s 0 ≡ Some x → is_wide x ≡ true → slice_get s 1 ≡ Some y → is_wide y ≡ false → is_stuck (does p own Dup2X2 next ls s h) ≡ false → Copies p own Dup2X2 next ls s h 1 3
+unfolding does
+long_below_pair_copies p own next ls [] h x y at_x is_x at_y is_y fine = absurd (cc)
+long_below_pair_copies p own next ls (a ∷ []) h x y at_x is_x at_y is_y fine = absurd (cc)
+long_below_pair_copies p own next ls (a ∷ b ∷ []) h x y at_x is_x at_y is_y fine = let first = long (is_wide a) _ _ (there_is a x true at_x is_x) fine in absurd (lone (is_wide b) _ (there_is b y false at_y is_y) first.1)
+long_below_pair_copies p own next ls (a ∷ b ∷ c ∷ rest) h x y at_x is_x at_y is_y fine = let first = long (is_wide a) _ _ (there_is a x true at_x is_x) fine in record { there = omega arith; longer = longer_by 1 3 (a ∷ b ∷ c ∷ rest) (omega arith, omega arith); is = first.0 ∙ (narrow (is_wide b) (is_wide c) _ _ (there_is b y false at_y is_y) first.1).0 }
+
+pub pair_below_long_copies : (p : Program) (own : Method) (next : ℕ) (ls s : List Value) (h : Objects) (x y : Value) → slice_get s 0 ≡ Some x → is_wide x ≡ false → slice_get s 2 ≡ Some y → is_wide y ≡ true → is_stuck (does p own Dup2X2 next ls s h) ≡ false → Copies p own Dup2X2 next ls s h 2 3
+unfolding does
+pair_below_long_copies p own next ls [] h x y at_x is_x at_y is_y fine = absurd (cc)
+pair_below_long_copies p own next ls (a ∷ []) h x y at_x is_x at_y is_y fine = absurd (cc)
+pair_below_long_copies p own next ls (a ∷ b ∷ []) h x y at_x is_x at_y is_y fine = absurd (cc)
+pair_below_long_copies p own next ls (a ∷ b ∷ c ∷ rest) h x y at_x is_x at_y is_y fine = let first = narrow (is_wide a) (is_wide b) _ _ (there_is a x false at_x is_x) fine in record { there = omega arith; longer = longer_by 2 3 (a ∷ b ∷ c ∷ rest) (omega arith, omega arith); is = first.0 ∙ (long (is_wide c) _ _ (there_is c y true at_y is_y) first.1).0 }
+
+pub pair_below_pair_copies : (p : Program) (own : Method) (next : ℕ) (ls s : List Value) (h : Objects) (x y : Value) → slice_get s 0 ≡ Some x → is_wide x ≡ false → slice_get s 2 ≡ Some y → is_wide y ≡ false → is_stuck (does p own Dup2X2 next ls s h) ≡ false → Copies p own Dup2X2 next ls s h 2 4
+unfolding does
+pair_below_pair_copies p own next ls [] h x y at_x is_x at_y is_y fine = absurd (cc)
+pair_below_pair_copies p own next ls (a ∷ []) h x y at_x is_x at_y is_y fine = absurd (cc)
+pair_below_pair_copies p own next ls (a ∷ b ∷ []) h x y at_x is_x at_y is_y fine = absurd (cc)
+pair_below_pair_copies p own next ls (a ∷ b ∷ c ∷ []) h x y at_x is_x at_y is_y fine = let first = narrow (is_wide a) (is_wide b) _ _ (there_is a x false at_x is_x) fine in absurd (lone (is_wide c) _ (there_is c y false at_y is_y) first.1)
+pair_below_pair_copies p own next ls (a ∷ b ∷ c ∷ d ∷ rest) h x y at_x is_x at_y is_y fine = let first = narrow (is_wide a) (is_wide b) _ _ (there_is a x false at_x is_x) fine in record { there = omega arith; longer = longer_by 2 4 (a ∷ b ∷ c ∷ d ∷ rest) (omega arith, omega arith); is = first.0 ∙ (narrow (is_wide c) (is_wide d) _ _ (there_is c y false at_y is_y) first.1).0 }
+
+-- what is looked at is there
+pub two_below_pair : (p : Program) (own : Method) (next : ℕ) (ls s : List Value) (h : Objects) → is_stuck (does p own DupX2 next ls s h) ≡ false → 1 < length s
+unfolding does
+two_below_pair p own next ls [] h fine = absurd (cc)
+two_below_pair p own next ls (a ∷ []) h fine = absurd (never (one (is_wide a) _ fine).1)
+two_below_pair p own next ls (a ∷ b ∷ rest) h fine = omega arith
+
+pub two_below_long : (p : Program) (own : Method) (next : ℕ) (ls s : List Value) (h : Objects) (x : Value) → slice_get s 0 ≡ Some x → is_wide x ≡ true → is_stuck (does p own Dup2X2 next ls s h) ≡ false → 1 < length s
+unfolding does
+two_below_long p own next ls [] h x at_x is_x fine = absurd (cc)
+two_below_long p own next ls (a ∷ []) h x at_x is_x fine = absurd (never (long (is_wide a) _ _ (there_is a x true at_x is_x) fine).1)
+two_below_long p own next ls (a ∷ b ∷ rest) h x at_x is_x fine = omega arith
+
+pub three_below_pair : (p : Program) (own : Method) (next : ℕ) (ls s : List Value) (h : Objects) (x : Value) → slice_get s 0 ≡ Some x → is_wide x ≡ false → is_stuck (does p own Dup2X2 next ls s h) ≡ false → 2 < length s
+unfolding does
+three_below_pair p own next ls [] h x at_x is_x fine = absurd (cc)
+three_below_pair p own next ls (a ∷ []) h x at_x is_x fine = absurd (lone (is_wide a) _ (there_is a x false at_x is_x) fine)
+three_below_pair p own next ls (a ∷ b ∷ []) h x at_x is_x fine = absurd (never (narrow (is_wide a) (is_wide b) _ _ (there_is a x false at_x is_x) fine).1)
+three_below_pair p own next ls (a ∷ b ∷ c ∷ rest) h x at_x is_x fine = omega arith

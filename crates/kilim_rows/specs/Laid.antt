@@ -1,5 +1,5 @@
 -- What a form that moves words leaves.
-use Rattle.std.specs.Prelude.{◌≡◌, List}
+use Rattle.std.specs.Prelude.{◌≡◌, ℕ, List, ◌++◌, take, drop}
 use Rattle.kilim_classes.specs.declared.value.Value.{Value}
 use Rattle.kilim_machine_parts.specs.declared.frames.frame.Frame.{Frame}
 use Rattle.kilim_rows.specs.declared.outcome.Moved.{Moved}
@@ -18,3 +18,7 @@ IsLaid ReturnedValue before after values = ⊥
 IsLaid (Raised cause) before after values = ⊥
 IsLaid (Ended cause) before after values = ⊥
 IsLaid NoMemory before after values = Unit {0}
+
+-- copies of so many topmost values below so many
+abbrev pub copied : ℕ → ℕ → List Value → List Value
+copied count depth values = take depth values ++ (take count values ++ drop depth values)

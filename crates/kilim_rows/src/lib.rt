@@ -15,8 +15,8 @@ pub use jumps::{
     jump_on_two_ints,
 };
 pub use locals::{
-    constant, increase, load_int, load_ldc, load_ldc2w, load_ldcw, load_long, load_reference,
-    store_int, store_long, store_reference,
+    constant, increase, load_constant, load_int, load_long, load_reference, store_int, store_long,
+    store_reference,
 };
 pub use numbers::{
     Binary, Division, Shift, Test, Unary, compare_longs, divide_ints, divide_longs, int_to_long,

@@ -2,8 +2,8 @@
 
 ghost use Rattle.std.specs.Prelude.{◌≡◌, ◌≤◌, ◌<◌, ◌∷◌, false, length, IfOk};
 ghost use Rattle.kilim_classes.specs.machine.Does.{does};
-ghost use Rattle.kilim_classes.specs.machine.Effect.{Goes, as_reference};
-ghost use Rattle.kilim_classes.specs.declared.instr.Instr.TheVariants.{Ldc, LdcW, Ldc2W, Iload, Lload, Aload, Istore, Lstore, Astore, Iinc, Pop, Pop2, Dup, DupX1, DupX2, Dup2, Dup2X1, Dup2X2, Swap};
+ghost use Rattle.kilim_classes.specs.machine.Effect.{Goes, as_reference, on_constant};
+ghost use Rattle.kilim_classes.specs.declared.instr.Instr.TheVariants.{Iload, Lload, Aload, Istore, Lstore, Astore, Iinc};
 ghost use Rattle.kilim_rows.specs.Outcome.{is_stuck, height, Shows, SameFrame};
 
 use crate::outcome::Moved;
@@ -22,70 +22,18 @@ pub fn constant(value: Value, own: &Method, next: u32, frame: &mut Frame, heap: 
     Moved::Next
 }
 
-/// `ldc`.
-#[tactic(auto, unfolding(kilim_classes::specs::machine::Does::does))]
+/// A constant of the pool goes on top of the stack: `ldc`, `ldc_w` and `ldc2_w`.
 #[inline(always)]
-pub fn load_ldc(
+pub fn load_constant(
     value: &Value,
-    program: &Program,
     own: &Method,
     next: u32,
     frame: &mut Frame,
     heap: &Heap,
 ) -> Moved
-    requires fine { is_stuck (does program.now own.now (Ldc value.now) next frame.old.locals frame.old.stack.values heap.now) ≡ false }
-    requires room { height (does program.now own.now (Ldc value.now) next frame.old.locals frame.old.stack.values heap.now) ≤ frame.old.stack.room }
-    ensures step { Shows own.now (does program.now own.now (Ldc value.now) next frame.old.locals frame.old.stack.values heap.now) next result frame.old frame.new heap.now heap.now }
-    ensures same { SameFrame frame.old frame.new }
-{
-    match value.clone() {
-        Ok(copy) => {
-            frame.stack.push(copy);
-            Moved::Next
-        }
-        Err(_) => Moved::NoMemory,
-    }
-}
-
-/// `ldc_w`.
-#[tactic(auto, unfolding(kilim_classes::specs::machine::Does::does))]
-#[inline(always)]
-pub fn load_ldcw(
-    value: &Value,
-    program: &Program,
-    own: &Method,
-    next: u32,
-    frame: &mut Frame,
-    heap: &Heap,
-) -> Moved
-    requires fine { is_stuck (does program.now own.now (LdcW value.now) next frame.old.locals frame.old.stack.values heap.now) ≡ false }
-    requires room { height (does program.now own.now (LdcW value.now) next frame.old.locals frame.old.stack.values heap.now) ≤ frame.old.stack.room }
-    ensures step { Shows own.now (does program.now own.now (LdcW value.now) next frame.old.locals frame.old.stack.values heap.now) next result frame.old frame.new heap.now heap.now }
-    ensures same { SameFrame frame.old frame.new }
-{
-    match value.clone() {
-        Ok(copy) => {
-            frame.stack.push(copy);
-            Moved::Next
-        }
-        Err(_) => Moved::NoMemory,
-    }
-}
-
-/// `ldc2_w`.
-#[tactic(auto, unfolding(kilim_classes::specs::machine::Does::does))]
-#[inline(always)]
-pub fn load_ldc2w(
-    value: &Value,
-    program: &Program,
-    own: &Method,
-    next: u32,
-    frame: &mut Frame,
-    heap: &Heap,
-) -> Moved
-    requires fine { is_stuck (does program.now own.now (Ldc2W value.now) next frame.old.locals frame.old.stack.values heap.now) ≡ false }
-    requires room { height (does program.now own.now (Ldc2W value.now) next frame.old.locals frame.old.stack.values heap.now) ≤ frame.old.stack.room }
-    ensures step { Shows own.now (does program.now own.now (Ldc2W value.now) next frame.old.locals frame.old.stack.values heap.now) next result frame.old frame.new heap.now heap.now }
+    requires fine { is_stuck (on_constant value.now (λ c. Goes next frame.old.locals (c ∷ frame.old.stack.values) heap.now)) ≡ false }
+    requires room { height (on_constant value.now (λ c. Goes next frame.old.locals (c ∷ frame.old.stack.values) heap.now)) ≤ frame.old.stack.room }
+    ensures step { Shows own.now (on_constant value.now (λ c. Goes next frame.old.locals (c ∷ frame.old.stack.values) heap.now)) next result frame.old frame.new heap.now heap.now }
     ensures same { SameFrame frame.old frame.new }
 {
     match value.clone() {

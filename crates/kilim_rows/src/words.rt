@@ -1,10 +1,10 @@
 //! The forms that move words of the stack (JVMS 2.11.7). A long is one value and two words.
 
-ghost use Rattle.std.specs.Prelude.{◌≡◌, ◌≤◌, ◌+◌, ◌∷◌, false, length, IfOk};
+ghost use Rattle.std.specs.Prelude.{◌≡◌, ◌≤◌, ◌<◌, ◌+◌, ◌∷◌, ◌++◌, false, length, take, drop, IfOk};
 ghost use Rattle.kilim_classes.specs.machine.Does.{does};
 ghost use Rattle.kilim_classes.specs.machine.Effect.{is_wide};
 ghost use Rattle.kilim_classes.specs.declared.instr.Instr.TheVariants.{Pop, Pop2, Dup, DupX1, DupX2, Dup2, Dup2X1, Dup2X2, Swap};
-ghost use Rattle.kilim_rows.specs.Laid.{IsLaid};
+ghost use Rattle.kilim_rows.specs.Laid.{IsLaid, copied};
 ghost use Rattle.kilim_rows.specs.Outcome.{is_stuck, height, Shows, SameFrame};
 
 use crate::outcome::Moved;
@@ -60,8 +60,7 @@ pub fn copy_word(
     ensures step { Shows own.now (does program.now own.now Dup next frame.old.locals frame.old.stack.values heap.now) next result frame.old frame.new heap.now heap.now }
     ensures same { SameFrame frame.old frame.new }
 {
-    let a = frame.stack.pop();
-    word_again(frame, a)
+    word_again(frame)
 }
 
 /// `dup_x1`.
@@ -79,9 +78,7 @@ pub fn copy_below_one(
     ensures step { Shows own.now (does program.now own.now DupX1 next frame.old.locals frame.old.stack.values heap.now) next result frame.old frame.new heap.now heap.now }
     ensures same { SameFrame frame.old frame.new }
 {
-    let a = frame.stack.pop();
-    let b = frame.stack.pop();
-    word_under_one(frame, a, b)
+    word_below_two(frame)
 }
 
 /// `swap`.
@@ -101,7 +98,8 @@ pub fn swap_words(
 {
     let a = frame.stack.pop();
     let b = frame.stack.pop();
-    push_two(frame, a, b);
+    frame.stack.push(a);
+    frame.stack.push(b);
     Moved::Next
 }
 
@@ -120,13 +118,10 @@ pub fn copy_below_two(
     ensures step { Shows own.now (does program.now own.now DupX2 next frame.old.locals frame.old.stack.values heap.now) next result frame.old frame.new heap.now heap.now }
     ensures same { SameFrame frame.old frame.new }
 {
-    let a = frame.stack.pop();
-    let b = frame.stack.pop();
-    if is_long(&b) {
-        return word_under_one(frame, a, b);
+    if is_long(frame.stack.peek(1)) {
+        return word_below_two(frame);
     }
-    let c = frame.stack.pop();
-    word_under_two(frame, a, b, c)
+    word_below_three(frame)
 }
 
 /// `dup2`.
@@ -138,12 +133,10 @@ pub fn copy_two(program: &Program, own: &Method, next: u32, frame: &mut Frame, h
     ensures step { Shows own.now (does program.now own.now Dup2 next frame.old.locals frame.old.stack.values heap.now) next result frame.old frame.new heap.now heap.now }
     ensures same { SameFrame frame.old frame.new }
 {
-    let a = frame.stack.pop();
-    if is_long(&a) {
-        return word_again(frame, a);
+    if is_long(frame.stack.peek(0)) {
+        return word_again(frame);
     }
-    let b = frame.stack.pop();
-    pair_again(frame, a, b)
+    pair_again(frame)
 }
 
 /// `dup2_x1`.
@@ -161,13 +154,10 @@ pub fn copy_two_below_one(
     ensures step { Shows own.now (does program.now own.now Dup2X1 next frame.old.locals frame.old.stack.values heap.now) next result frame.old frame.new heap.now heap.now }
     ensures same { SameFrame frame.old frame.new }
 {
-    let a = frame.stack.pop();
-    let b = frame.stack.pop();
-    if is_long(&a) {
-        return word_under_one(frame, a, b);
+    if is_long(frame.stack.peek(0)) {
+        return word_below_two(frame);
     }
-    let c = frame.stack.pop();
-    pair_under_one(frame, a, b, c)
+    pair_below_three(frame)
 }
 
 /// `dup2_x2`.
@@ -185,108 +175,117 @@ pub fn copy_two_below_two(
     ensures step { Shows own.now (does program.now own.now Dup2X2 next frame.old.locals frame.old.stack.values heap.now) next result frame.old frame.new heap.now heap.now }
     ensures same { SameFrame frame.old frame.new }
 {
-    let a = frame.stack.pop();
-    let b = frame.stack.pop();
-    if is_long(&a) {
-        if is_long(&b) {
-            return word_under_one(frame, a, b);
+    if is_long(frame.stack.peek(0)) {
+        if is_long(frame.stack.peek(1)) {
+            return word_below_two(frame);
         }
-        let c = frame.stack.pop();
-        return word_under_two(frame, a, b, c);
+        return word_below_three(frame);
     }
-    let c = frame.stack.pop();
-    if is_long(&c) {
-        return pair_under_one(frame, a, b, c);
+    if is_long(frame.stack.peek(2)) {
+        return pair_below_three(frame);
     }
-    let d = frame.stack.pop();
-    pair_under_two(frame, a, b, c, d)
+    pair_below_four(frame)
 }
 
-// Puts a word back, and its copy.
+// A copy of the topmost word, on top.
 #[inline(always)]
-fn word_again(frame: &mut Frame, a: Value) -> Moved
-    requires { length frame.old.stack.values + 2 ≤ frame.old.stack.room }
-    ensures laid { IsLaid result frame.old frame.new (a ∷ a ∷ frame.old.stack.values) }
+fn word_again(frame: &mut Frame) -> Moved
+    requires there { 1 ≤ length frame.old.stack.values }
+    requires room { length frame.old.stack.values + 1 ≤ frame.old.stack.room }
+    ensures laid { IsLaid result frame.old frame.new (copied 1 1 frame.old.stack.values) }
     ensures same { SameFrame frame.old frame.new }
 {
-    let Ok(copy) = copy_of(&a) else {
+    let Ok(copy) = copy_of(frame.stack.peek(0)) else {
         return Moved::NoMemory;
     };
-    push_two(frame, copy, a);
+    frame.stack.push(copy);
     Moved::Next
 }
 
-// Puts two words back, and below them a copy of the upper one.
+// A copy of the topmost word, below two.
 #[inline(always)]
-fn word_under_one(frame: &mut Frame, a: Value, b: Value) -> Moved
-    requires { length frame.old.stack.values + 3 ≤ frame.old.stack.room }
-    ensures laid { IsLaid result frame.old frame.new (a ∷ b ∷ a ∷ frame.old.stack.values) }
+fn word_below_two(frame: &mut Frame) -> Moved
+    requires there { 2 ≤ length frame.old.stack.values }
+    requires room { length frame.old.stack.values + 1 ≤ frame.old.stack.room }
+    ensures laid { IsLaid result frame.old frame.new (copied 1 2 frame.old.stack.values) }
     ensures same { SameFrame frame.old frame.new }
 {
-    let Ok(copy) = copy_of(&a) else {
+    let Ok(copy) = copy_of(frame.stack.peek(0)) else {
         return Moved::NoMemory;
     };
-    push_three(frame, copy, b, a);
+    put_below_two(frame, copy);
     Moved::Next
 }
 
-// Puts three words back, and below them a copy of the uppermost.
+// A copy of the topmost word, below three.
 #[inline(always)]
-fn word_under_two(frame: &mut Frame, a: Value, b: Value, c: Value) -> Moved
-    requires { length frame.old.stack.values + 4 ≤ frame.old.stack.room }
-    ensures laid { IsLaid result frame.old frame.new (a ∷ b ∷ c ∷ a ∷ frame.old.stack.values) }
+fn word_below_three(frame: &mut Frame) -> Moved
+    requires there { 3 ≤ length frame.old.stack.values }
+    requires room { length frame.old.stack.values + 1 ≤ frame.old.stack.room }
+    ensures laid { IsLaid result frame.old frame.new (copied 1 3 frame.old.stack.values) }
     ensures same { SameFrame frame.old frame.new }
 {
-    let Ok(copy) = copy_of(&a) else {
+    let Ok(copy) = copy_of(frame.stack.peek(0)) else {
         return Moved::NoMemory;
     };
-    push_two(frame, copy, c);
-    push_two(frame, b, a);
+    put_below_three(frame, copy);
     Moved::Next
 }
 
-// Puts two words back, and below them their copies.
+// Copies of the two topmost words, on top.
 #[inline(always)]
-fn pair_again(frame: &mut Frame, a: Value, b: Value) -> Moved
-    requires { length frame.old.stack.values + 4 ≤ frame.old.stack.room }
-    ensures laid { IsLaid result frame.old frame.new (a ∷ b ∷ a ∷ b ∷ frame.old.stack.values) }
+fn pair_again(frame: &mut Frame) -> Moved
+    requires there { 2 ≤ length frame.old.stack.values }
+    requires room { length frame.old.stack.values + 2 ≤ frame.old.stack.room }
+    ensures laid { IsLaid result frame.old frame.new (copied 2 2 frame.old.stack.values) }
     ensures same { SameFrame frame.old frame.new }
 {
-    let Ok((other, copy)) = copies_of(&b, &a) else {
+    let Ok(other) = copy_of(frame.stack.peek(1)) else {
         return Moved::NoMemory;
     };
-    push_two(frame, other, copy);
-    push_two(frame, b, a);
+    let Ok(copy) = copy_of(frame.stack.peek(0)) else {
+        return Moved::NoMemory;
+    };
+    frame.stack.push(other);
+    frame.stack.push(copy);
     Moved::Next
 }
 
-// Puts three words back, and below them copies of the two upper ones.
+// Copies of the two topmost words, below three.
 #[inline(always)]
-fn pair_under_one(frame: &mut Frame, a: Value, b: Value, c: Value) -> Moved
-    requires { length frame.old.stack.values + 5 ≤ frame.old.stack.room }
-    ensures laid { IsLaid result frame.old frame.new (a ∷ b ∷ c ∷ a ∷ b ∷ frame.old.stack.values) }
+fn pair_below_three(frame: &mut Frame) -> Moved
+    requires there { 3 ≤ length frame.old.stack.values }
+    requires room { length frame.old.stack.values + 2 ≤ frame.old.stack.room }
+    ensures laid { IsLaid result frame.old frame.new (copied 2 3 frame.old.stack.values) }
     ensures same { SameFrame frame.old frame.new }
 {
-    let Ok((other, copy)) = copies_of(&b, &a) else {
+    let Ok(other) = copy_of(frame.stack.peek(1)) else {
         return Moved::NoMemory;
     };
-    push_two(frame, other, copy);
-    push_three(frame, c, b, a);
+    let Ok(copy) = copy_of(frame.stack.peek(0)) else {
+        return Moved::NoMemory;
+    };
+    put_below_three(frame, other);
+    put_below_three(frame, copy);
     Moved::Next
 }
 
-// Puts four words back, and below them copies of the two upper ones.
+// Copies of the two topmost words, below four.
 #[inline(always)]
-fn pair_under_two(frame: &mut Frame, a: Value, b: Value, c: Value, d: Value) -> Moved
-    requires { length frame.old.stack.values + 6 ≤ frame.old.stack.room }
-    ensures laid { IsLaid result frame.old frame.new (a ∷ b ∷ c ∷ d ∷ a ∷ b ∷ frame.old.stack.values) }
+fn pair_below_four(frame: &mut Frame) -> Moved
+    requires there { 4 ≤ length frame.old.stack.values }
+    requires room { length frame.old.stack.values + 2 ≤ frame.old.stack.room }
+    ensures laid { IsLaid result frame.old frame.new (copied 2 4 frame.old.stack.values) }
     ensures same { SameFrame frame.old frame.new }
 {
-    let Ok((other, copy)) = copies_of(&b, &a) else {
+    let Ok(other) = copy_of(frame.stack.peek(1)) else {
         return Moved::NoMemory;
     };
-    push_three(frame, other, copy, d);
-    push_three(frame, c, b, a);
+    let Ok(copy) = copy_of(frame.stack.peek(0)) else {
+        return Moved::NoMemory;
+    };
+    put_below_four(frame, other);
+    put_below_four(frame, copy);
     Moved::Next
 }
 
@@ -307,30 +306,40 @@ fn copy_of(value: &Value) -> Result<Value, AllocError>
     value.clone()
 }
 
+// Puts a value below the two topmost ones.
 #[inline(always)]
-fn copies_of(first: &Value, second: &Value) -> Result<(Value, Value), AllocError>
-    ensures { IfOk result (λ copies. (copies.0 ≡ first.now) × (copies.1 ≡ second.now)) }
+fn put_below_two(frame: &mut Frame, value: Value)
+    requires there { 2 ≤ length frame.old.stack.values }
+    requires room { length frame.old.stack.values < frame.old.stack.room }
+    ensures { frame.new ≡ record frame.old { stack = record frame.old.stack { values = take 2 frame.old.stack.values ++ (value ∷ drop 2 frame.old.stack.values) } } }
 {
-    let one = copy_of(first)?;
-    let other = copy_of(second)?;
-    Ok((one, other))
+    let a = frame.stack.pop();
+    let b = frame.stack.pop();
+    frame.stack.push(value);
+    frame.stack.push(b);
+    frame.stack.push(a);
 }
 
+// Puts a value below the three topmost ones.
 #[inline(always)]
-fn push_two(frame: &mut Frame, below: Value, top: Value)
-    requires { length frame.old.stack.values + 2 ≤ frame.old.stack.room }
-    ensures { frame.new ≡ record frame.old { stack = record frame.old.stack { values = top ∷ below ∷ frame.old.stack.values } } }
+fn put_below_three(frame: &mut Frame, value: Value)
+    requires there { 3 ≤ length frame.old.stack.values }
+    requires room { length frame.old.stack.values < frame.old.stack.room }
+    ensures { frame.new ≡ record frame.old { stack = record frame.old.stack { values = take 3 frame.old.stack.values ++ (value ∷ drop 3 frame.old.stack.values) } } }
 {
-    frame.stack.push(below);
+    let top = frame.stack.pop();
+    put_below_two(frame, value);
     frame.stack.push(top);
 }
 
+// Puts a value below the four topmost ones.
 #[inline(always)]
-fn push_three(frame: &mut Frame, lowest: Value, below: Value, top: Value)
-    requires { length frame.old.stack.values + 3 ≤ frame.old.stack.room }
-    ensures { frame.new ≡ record frame.old { stack = record frame.old.stack { values = top ∷ below ∷ lowest ∷ frame.old.stack.values } } }
+fn put_below_four(frame: &mut Frame, value: Value)
+    requires there { 4 ≤ length frame.old.stack.values }
+    requires room { length frame.old.stack.values < frame.old.stack.room }
+    ensures { frame.new ≡ record frame.old { stack = record frame.old.stack { values = take 4 frame.old.stack.values ++ (value ∷ drop 4 frame.old.stack.values) } } }
 {
-    frame.stack.push(lowest);
-    frame.stack.push(below);
+    let top = frame.stack.pop();
+    put_below_three(frame, value);
     frame.stack.push(top);
 }

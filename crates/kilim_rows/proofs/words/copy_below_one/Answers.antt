@@ -1,15 +1,13 @@
-use Rattle.std.proofs.Common.{◌≡◌, ◌∙◌, ap, List, ◌∷◌}
 use Rattle.kilim_classes.specs.declared.instr.Instr.TheVariants.{DupX1}
-use Rattle.kilim_classes.specs.declared.value.Value.{Value}
-use Rattle.kilim_classes.specs.machine.Does.{does}
-use Rattle.kilim_machine_parts.specs.frames.Stacked.{Stacked}
-use Rattle.kilim_rows.proofs.Pairs.{laid_shows, word_below_one}
+use Rattle.kilim_rows.proofs.Pairs.{below_one_copies, copies_show, has_room}
 use Rattle.kilim_rows.proofs.words.copy_below_one.Goals as goal
+
+pub word_below_two-requires : goal.word_below_two-requires
+word_below_two-requires c =
+    let row = below_one_copies c.args.program.now c.args.own.now c.args.next c.args.frame.now.locals c.args.frame.now.stack.values c.args.heap.now c.requires.fine in
+    record { there = row.there; room = has_room c.args.program.now c.args.own.now DupX1 c.args.next c.args.frame.now.locals c.args.frame.now.stack.values c.args.heap.now 1 2 c.args.frame.now.stack.room row c.requires.room }
 
 pub returns-clause-step : goal.returns-clause-step
 returns-clause-step c =
-    let pa : c.args.frame.now.stack.values ≡ c.pop-a.result ∷ c.pop-a.new.self.values = ap (λ (s : Stacked). s.values) c.pop-a.ensures in
-    let pb : c.pop-a.new.self.values ≡ c.pop-b.result ∷ c.pop-b.new.self.values = ap (λ (s : Stacked). s.values) c.pop-b.ensures in
-    let stack : c.args.frame.now.stack.values ≡ c.pop-a.result ∷ c.pop-b.result ∷ c.pop-b.new.self.values = pa ∙ ap (λ (t : List Value). c.pop-a.result ∷ t) (pb) in
-    let is = word_below_one c.args.program.now c.args.own.now c.args.next c.args.frame.now.locals c.args.frame.now.stack.values c.pop-b.new.self.values c.pop-a.result c.pop-b.result c.args.heap.now stack c.requires.fine in
-    laid_shows c.args.own.now (does c.args.program.now c.args.own.now DupX1 c.args.next c.args.frame.now.locals c.args.frame.now.stack.values c.args.heap.now) c.args.next c.word_under_one.result c.args.frame.now (record c.args.frame.now { stack = c.pop-b.new.self }) c.word_under_one.new.frame _ c.args.heap.now c.word_under_one.ensures.laid is
+    let row = below_one_copies c.args.program.now c.args.own.now c.args.next c.args.frame.now.locals c.args.frame.now.stack.values c.args.heap.now c.requires.fine in
+    copies_show c.args.program.now c.args.own.now DupX1 c.args.next c.word_below_two.result c.args.frame.now c.word_below_two.new.frame c.args.heap.now 1 2 row c.word_below_two.ensures.laid

@@ -1,24 +1,27 @@
-use Rattle.std.proofs.Common.{◌≡◌, ◌∙◌, ap, List, ◌∷◌, sym}
+use Rattle.std.proofs.Common.{◌∙◌, sym}
 use Rattle.kilim_classes.specs.declared.instr.Instr.TheVariants.{DupX2}
-use Rattle.kilim_classes.specs.declared.value.Value.{Value}
-use Rattle.kilim_classes.specs.machine.Does.{does}
-use Rattle.kilim_machine_parts.specs.frames.Stacked.{Stacked}
-use Rattle.kilim_rows.proofs.Pairs.{laid_shows, word_below_long, word_below_pair}
+use Rattle.kilim_rows.proofs.Pairs.{below_long_copies, below_pair_copies, copies_show, has_room, two_below_pair}
 use Rattle.kilim_rows.proofs.words.copy_below_two.Goals as goal
+
+pub peek-requires : goal.peek-requires
+peek-requires c = two_below_pair c.args.program.now c.args.own.now c.args.next c.args.frame.now.locals c.args.frame.now.stack.values c.args.heap.now c.requires.fine
+
+pub word_below_two-requires : goal.word_below_two-requires
+word_below_two-requires c =
+    let row = below_long_copies c.args.program.now c.args.own.now c.args.next c.args.frame.now.locals c.args.frame.now.stack.values c.args.heap.now c.peek.result.now c.peek.ensures (sym c.is_long.ensures ∙ c.if-is_long.true) c.requires.fine in
+    record { there = row.there; room = has_room c.args.program.now c.args.own.now DupX2 c.args.next c.args.frame.now.locals c.args.frame.now.stack.values c.args.heap.now 1 2 c.args.frame.now.stack.room row c.requires.room }
 
 pub returns-then-is_long-clause-step : goal.returns-then-is_long-clause-step
 returns-then-is_long-clause-step c =
-    let pa : c.args.frame.now.stack.values ≡ c.pop-a.result ∷ c.pop-a.new.self.values = ap (λ (s : Stacked). s.values) c.pop-a.ensures in
-    let pb : c.pop-a.new.self.values ≡ c.pop-b.result ∷ c.pop-b.new.self.values = ap (λ (s : Stacked). s.values) c.pop-b.ensures in
-    let stack : c.args.frame.now.stack.values ≡ c.pop-a.result ∷ c.pop-b.result ∷ c.pop-b.new.self.values = pa ∙ ap (λ (t : List Value). c.pop-a.result ∷ t) (pb) in
-    let is = word_below_long c.args.program.now c.args.own.now c.args.next c.args.frame.now.locals c.args.frame.now.stack.values c.pop-b.new.self.values c.pop-a.result c.pop-b.result c.args.heap.now stack (sym c.is_long.ensures ∙ c.if-is_long.true) c.requires.fine in
-    laid_shows c.args.own.now (does c.args.program.now c.args.own.now DupX2 c.args.next c.args.frame.now.locals c.args.frame.now.stack.values c.args.heap.now) c.args.next c.word_under_one.result c.args.frame.now (record c.args.frame.now { stack = c.pop-b.new.self }) c.word_under_one.new.frame _ c.args.heap.now c.word_under_one.ensures.laid is
+    let row = below_long_copies c.args.program.now c.args.own.now c.args.next c.args.frame.now.locals c.args.frame.now.stack.values c.args.heap.now c.peek.result.now c.peek.ensures (sym c.is_long.ensures ∙ c.if-is_long.true) c.requires.fine in
+    copies_show c.args.program.now c.args.own.now DupX2 c.args.next c.word_below_two.result c.args.frame.now c.word_below_two.new.frame c.args.heap.now 1 2 row c.word_below_two.ensures.laid
+
+pub word_below_three-requires : goal.word_below_three-requires
+word_below_three-requires c =
+    let row = below_pair_copies c.args.program.now c.args.own.now c.args.next c.args.frame.now.locals c.args.frame.now.stack.values c.args.heap.now c.peek.result.now c.peek.ensures (sym c.is_long.ensures ∙ c.if-is_long.false) c.requires.fine in
+    record { there = row.there; room = has_room c.args.program.now c.args.own.now DupX2 c.args.next c.args.frame.now.locals c.args.frame.now.stack.values c.args.heap.now 1 3 c.args.frame.now.stack.room row c.requires.room }
 
 pub returns-clause-step : goal.returns-clause-step
 returns-clause-step c =
-    let pa : c.args.frame.now.stack.values ≡ c.pop-a.result ∷ c.pop-a.new.self.values = ap (λ (s : Stacked). s.values) c.pop-a.ensures in
-    let pb : c.pop-a.new.self.values ≡ c.pop-b.result ∷ c.pop-b.new.self.values = ap (λ (s : Stacked). s.values) c.pop-b.ensures in
-    let pc : c.pop-b.new.self.values ≡ c.pop-c.result ∷ c.pop-c.new.self.values = ap (λ (s : Stacked). s.values) c.pop-c.ensures in
-    let stack : c.args.frame.now.stack.values ≡ c.pop-a.result ∷ c.pop-b.result ∷ c.pop-c.result ∷ c.pop-c.new.self.values = pa ∙ ap (λ (t : List Value). c.pop-a.result ∷ t) (pb ∙ ap (λ (t : List Value). c.pop-b.result ∷ t) (pc)) in
-    let is = word_below_pair c.args.program.now c.args.own.now c.args.next c.args.frame.now.locals c.args.frame.now.stack.values c.pop-c.new.self.values c.pop-a.result c.pop-b.result c.pop-c.result c.args.heap.now stack (sym c.is_long.ensures ∙ c.if-is_long.false) c.requires.fine in
-    laid_shows c.args.own.now (does c.args.program.now c.args.own.now DupX2 c.args.next c.args.frame.now.locals c.args.frame.now.stack.values c.args.heap.now) c.args.next c.word_under_two.result c.args.frame.now (record c.args.frame.now { stack = c.pop-c.new.self }) c.word_under_two.new.frame _ c.args.heap.now c.word_under_two.ensures.laid is
+    let row = below_pair_copies c.args.program.now c.args.own.now c.args.next c.args.frame.now.locals c.args.frame.now.stack.values c.args.heap.now c.peek.result.now c.peek.ensures (sym c.is_long.ensures ∙ c.if-is_long.false) c.requires.fine in
+    copies_show c.args.program.now c.args.own.now DupX2 c.args.next c.word_below_three.result c.args.frame.now c.word_below_three.new.frame c.args.heap.now 1 3 row c.word_below_three.ensures.laid

@@ -1,22 +1,24 @@
-use Rattle.std.proofs.Common.{◌≡◌, ◌∙◌, ap, List, ◌∷◌, sym}
+use Rattle.std.proofs.Common.{◌∙◌, sym}
 use Rattle.kilim_classes.specs.declared.instr.Instr.TheVariants.{Dup2}
-use Rattle.kilim_classes.specs.declared.value.Value.{Value}
-use Rattle.kilim_classes.specs.machine.Does.{does}
-use Rattle.kilim_machine_parts.specs.frames.Stacked.{Stacked}
-use Rattle.kilim_rows.proofs.Pairs.{laid_shows, long_again, pair_again}
+use Rattle.kilim_rows.proofs.Pairs.{copies_show, has_room, long_copies, pair_copies}
 use Rattle.kilim_rows.proofs.words.copy_two.Goals as goal
+
+pub word_again-requires : goal.word_again-requires
+word_again-requires c =
+    let row = long_copies c.args.program.now c.args.own.now c.args.next c.args.frame.now.locals c.args.frame.now.stack.values c.args.heap.now c.peek.result.now c.peek.ensures (sym c.is_long.ensures ∙ c.if-is_long.true) c.requires.fine in
+    record { there = row.there; room = has_room c.args.program.now c.args.own.now Dup2 c.args.next c.args.frame.now.locals c.args.frame.now.stack.values c.args.heap.now 1 1 c.args.frame.now.stack.room row c.requires.room }
 
 pub returns-then-is_long-clause-step : goal.returns-then-is_long-clause-step
 returns-then-is_long-clause-step c =
-    let pa : c.args.frame.now.stack.values ≡ c.pop-a.result ∷ c.pop-a.new.self.values = ap (λ (s : Stacked). s.values) c.pop-a.ensures in
-    let stack : c.args.frame.now.stack.values ≡ c.pop-a.result ∷ c.pop-a.new.self.values = pa in
-    let is = long_again c.args.program.now c.args.own.now c.args.next c.args.frame.now.locals c.args.frame.now.stack.values c.pop-a.new.self.values c.pop-a.result c.args.heap.now stack (sym c.is_long.ensures ∙ c.if-is_long.true) c.requires.fine in
-    laid_shows c.args.own.now (does c.args.program.now c.args.own.now Dup2 c.args.next c.args.frame.now.locals c.args.frame.now.stack.values c.args.heap.now) c.args.next c.word_again.result c.args.frame.now (record c.args.frame.now { stack = c.pop-a.new.self }) c.word_again.new.frame _ c.args.heap.now c.word_again.ensures.laid is
+    let row = long_copies c.args.program.now c.args.own.now c.args.next c.args.frame.now.locals c.args.frame.now.stack.values c.args.heap.now c.peek.result.now c.peek.ensures (sym c.is_long.ensures ∙ c.if-is_long.true) c.requires.fine in
+    copies_show c.args.program.now c.args.own.now Dup2 c.args.next c.word_again.result c.args.frame.now c.word_again.new.frame c.args.heap.now 1 1 row c.word_again.ensures.laid
+
+pub pair_again-requires : goal.pair_again-requires
+pair_again-requires c =
+    let row = pair_copies c.args.program.now c.args.own.now c.args.next c.args.frame.now.locals c.args.frame.now.stack.values c.args.heap.now c.peek.result.now c.peek.ensures (sym c.is_long.ensures ∙ c.if-is_long.false) c.requires.fine in
+    record { there = row.there; room = has_room c.args.program.now c.args.own.now Dup2 c.args.next c.args.frame.now.locals c.args.frame.now.stack.values c.args.heap.now 2 2 c.args.frame.now.stack.room row c.requires.room }
 
 pub returns-clause-step : goal.returns-clause-step
 returns-clause-step c =
-    let pa : c.args.frame.now.stack.values ≡ c.pop-a.result ∷ c.pop-a.new.self.values = ap (λ (s : Stacked). s.values) c.pop-a.ensures in
-    let pb : c.pop-a.new.self.values ≡ c.pop-b.result ∷ c.pop-b.new.self.values = ap (λ (s : Stacked). s.values) c.pop-b.ensures in
-    let stack : c.args.frame.now.stack.values ≡ c.pop-a.result ∷ c.pop-b.result ∷ c.pop-b.new.self.values = pa ∙ ap (λ (t : List Value). c.pop-a.result ∷ t) (pb) in
-    let is = pair_again c.args.program.now c.args.own.now c.args.next c.args.frame.now.locals c.args.frame.now.stack.values c.pop-b.new.self.values c.pop-a.result c.pop-b.result c.args.heap.now stack (sym c.is_long.ensures ∙ c.if-is_long.false) c.requires.fine in
-    laid_shows c.args.own.now (does c.args.program.now c.args.own.now Dup2 c.args.next c.args.frame.now.locals c.args.frame.now.stack.values c.args.heap.now) c.args.next c.pair_again.result c.args.frame.now (record c.args.frame.now { stack = c.pop-b.new.self }) c.pair_again.new.frame _ c.args.heap.now c.pair_again.ensures.laid is
+    let row = pair_copies c.args.program.now c.args.own.now c.args.next c.args.frame.now.locals c.args.frame.now.stack.values c.args.heap.now c.peek.result.now c.peek.ensures (sym c.is_long.ensures ∙ c.if-is_long.false) c.requires.fine in
+    copies_show c.args.program.now c.args.own.now Dup2 c.args.next c.pair_again.result c.args.frame.now c.pair_again.new.frame c.args.heap.now 2 2 row c.pair_again.ensures.laid

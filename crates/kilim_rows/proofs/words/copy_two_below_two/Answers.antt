@@ -1,43 +1,50 @@
-use Rattle.std.proofs.Common.{◌≡◌, ◌∙◌, ap, List, ◌∷◌, sym}
+use Rattle.std.proofs.Common.{◌∙◌, sym}
 use Rattle.kilim_classes.specs.declared.instr.Instr.TheVariants.{Dup2X2}
-use Rattle.kilim_classes.specs.declared.value.Value.{Value}
-use Rattle.kilim_classes.specs.machine.Does.{does}
-use Rattle.kilim_machine_parts.specs.frames.Stacked.{Stacked}
-use Rattle.kilim_rows.proofs.Pairs.{laid_shows, long_below_long, long_below_pair, pair_below_long, pair_below_pair}
+use Rattle.kilim_rows.proofs.Pairs.{copies_show, has_room, long_below_long_copies, long_below_pair_copies, pair_below_long_copies, pair_below_pair_copies, three_below_pair, two_below_long}
 use Rattle.kilim_rows.proofs.words.copy_two_below_two.Goals as goal
+
+pub peek-requires-then-is_long : goal.peek-requires-then-is_long
+peek-requires-then-is_long c = two_below_long c.args.program.now c.args.own.now c.args.next c.args.frame.now.locals c.args.frame.now.stack.values c.args.heap.now c.peek.result.now c.peek.ensures (sym c.is_long.ensures ∙ c.if-is_long.true) c.requires.fine
+
+pub peek-requires-2 : goal.peek-requires-2
+peek-requires-2 c = three_below_pair c.args.program.now c.args.own.now c.args.next c.args.frame.now.locals c.args.frame.now.stack.values c.args.heap.now c.peek.result.now c.peek.ensures (sym c.is_long.ensures ∙ c.if-is_long.false) c.requires.fine
+
+pub word_below_two-requires : goal.word_below_two-requires
+word_below_two-requires c =
+    let row = long_below_long_copies c.args.program.now c.args.own.now c.args.next c.args.frame.now.locals c.args.frame.now.stack.values c.args.heap.now c.peek.result.now c.peek-then-is_long.result.now c.peek.ensures (sym c.is_long.ensures ∙ c.if-is_long.true) c.peek-then-is_long.ensures (sym c.is_long-then-is_long.ensures ∙ c.if-is_long-2.true) c.requires.fine in
+    record { there = row.there; room = has_room c.args.program.now c.args.own.now Dup2X2 c.args.next c.args.frame.now.locals c.args.frame.now.stack.values c.args.heap.now 1 2 c.args.frame.now.stack.room row c.requires.room }
 
 pub returns-then-is_long-2-clause-step : goal.returns-then-is_long-2-clause-step
 returns-then-is_long-2-clause-step c =
-    let pa : c.args.frame.now.stack.values ≡ c.pop-a.result ∷ c.pop-a.new.self.values = ap (λ (s : Stacked). s.values) c.pop-a.ensures in
-    let pb : c.pop-a.new.self.values ≡ c.pop-b.result ∷ c.pop-b.new.self.values = ap (λ (s : Stacked). s.values) c.pop-b.ensures in
-    let stack : c.args.frame.now.stack.values ≡ c.pop-a.result ∷ c.pop-b.result ∷ c.pop-b.new.self.values = pa ∙ ap (λ (t : List Value). c.pop-a.result ∷ t) (pb) in
-    let is = long_below_long c.args.program.now c.args.own.now c.args.next c.args.frame.now.locals c.args.frame.now.stack.values c.pop-b.new.self.values c.pop-a.result c.pop-b.result c.args.heap.now stack (sym c.is_long.ensures ∙ c.if-is_long.true) (sym c.is_long-then-is_long.ensures ∙ c.if-is_long-2.true) c.requires.fine in
-    laid_shows c.args.own.now (does c.args.program.now c.args.own.now Dup2X2 c.args.next c.args.frame.now.locals c.args.frame.now.stack.values c.args.heap.now) c.args.next c.word_under_one.result c.args.frame.now (record c.args.frame.now { stack = c.pop-b.new.self }) c.word_under_one.new.frame _ c.args.heap.now c.word_under_one.ensures.laid is
+    let row = long_below_long_copies c.args.program.now c.args.own.now c.args.next c.args.frame.now.locals c.args.frame.now.stack.values c.args.heap.now c.peek.result.now c.peek-then-is_long.result.now c.peek.ensures (sym c.is_long.ensures ∙ c.if-is_long.true) c.peek-then-is_long.ensures (sym c.is_long-then-is_long.ensures ∙ c.if-is_long-2.true) c.requires.fine in
+    copies_show c.args.program.now c.args.own.now Dup2X2 c.args.next c.word_below_two.result c.args.frame.now c.word_below_two.new.frame c.args.heap.now 1 2 row c.word_below_two.ensures.laid
+
+pub word_below_three-requires : goal.word_below_three-requires
+word_below_three-requires c =
+    let row = long_below_pair_copies c.args.program.now c.args.own.now c.args.next c.args.frame.now.locals c.args.frame.now.stack.values c.args.heap.now c.peek.result.now c.peek-then-is_long.result.now c.peek.ensures (sym c.is_long.ensures ∙ c.if-is_long.true) c.peek-then-is_long.ensures (sym c.is_long-then-is_long.ensures ∙ c.if-is_long-2.false) c.requires.fine in
+    record { there = row.there; room = has_room c.args.program.now c.args.own.now Dup2X2 c.args.next c.args.frame.now.locals c.args.frame.now.stack.values c.args.heap.now 1 3 c.args.frame.now.stack.room row c.requires.room }
 
 pub returns-then-is_long-clause-step : goal.returns-then-is_long-clause-step
 returns-then-is_long-clause-step c =
-    let pa : c.args.frame.now.stack.values ≡ c.pop-a.result ∷ c.pop-a.new.self.values = ap (λ (s : Stacked). s.values) c.pop-a.ensures in
-    let pb : c.pop-a.new.self.values ≡ c.pop-b.result ∷ c.pop-b.new.self.values = ap (λ (s : Stacked). s.values) c.pop-b.ensures in
-    let pc : c.pop-b.new.self.values ≡ c.pop-c.result ∷ c.pop-c.new.self.values = ap (λ (s : Stacked). s.values) c.pop-c.ensures in
-    let stack : c.args.frame.now.stack.values ≡ c.pop-a.result ∷ c.pop-b.result ∷ c.pop-c.result ∷ c.pop-c.new.self.values = pa ∙ ap (λ (t : List Value). c.pop-a.result ∷ t) (pb ∙ ap (λ (t : List Value). c.pop-b.result ∷ t) (pc)) in
-    let is = long_below_pair c.args.program.now c.args.own.now c.args.next c.args.frame.now.locals c.args.frame.now.stack.values c.pop-c.new.self.values c.pop-a.result c.pop-b.result c.pop-c.result c.args.heap.now stack (sym c.is_long.ensures ∙ c.if-is_long.true) (sym c.is_long-then-is_long.ensures ∙ c.if-is_long-2.false) c.requires.fine in
-    laid_shows c.args.own.now (does c.args.program.now c.args.own.now Dup2X2 c.args.next c.args.frame.now.locals c.args.frame.now.stack.values c.args.heap.now) c.args.next c.word_under_two.result c.args.frame.now (record c.args.frame.now { stack = c.pop-c.new.self }) c.word_under_two.new.frame _ c.args.heap.now c.word_under_two.ensures.laid is
+    let row = long_below_pair_copies c.args.program.now c.args.own.now c.args.next c.args.frame.now.locals c.args.frame.now.stack.values c.args.heap.now c.peek.result.now c.peek-then-is_long.result.now c.peek.ensures (sym c.is_long.ensures ∙ c.if-is_long.true) c.peek-then-is_long.ensures (sym c.is_long-then-is_long.ensures ∙ c.if-is_long-2.false) c.requires.fine in
+    copies_show c.args.program.now c.args.own.now Dup2X2 c.args.next c.word_below_three.result c.args.frame.now c.word_below_three.new.frame c.args.heap.now 1 3 row c.word_below_three.ensures.laid
+
+pub pair_below_three-requires : goal.pair_below_three-requires
+pair_below_three-requires c =
+    let row = pair_below_long_copies c.args.program.now c.args.own.now c.args.next c.args.frame.now.locals c.args.frame.now.stack.values c.args.heap.now c.peek.result.now c.peek-2.result.now c.peek.ensures (sym c.is_long.ensures ∙ c.if-is_long.false) c.peek-2.ensures (sym c.is_long-2.ensures ∙ c.if-is_long-3.true) c.requires.fine in
+    record { there = row.there; room = has_room c.args.program.now c.args.own.now Dup2X2 c.args.next c.args.frame.now.locals c.args.frame.now.stack.values c.args.heap.now 2 3 c.args.frame.now.stack.room row c.requires.room }
 
 pub returns-then-is_long-3-clause-step : goal.returns-then-is_long-3-clause-step
 returns-then-is_long-3-clause-step c =
-    let pa : c.args.frame.now.stack.values ≡ c.pop-a.result ∷ c.pop-a.new.self.values = ap (λ (s : Stacked). s.values) c.pop-a.ensures in
-    let pb : c.pop-a.new.self.values ≡ c.pop-b.result ∷ c.pop-b.new.self.values = ap (λ (s : Stacked). s.values) c.pop-b.ensures in
-    let pc_2 : c.pop-b.new.self.values ≡ c.pop-c-2.result ∷ c.pop-c-2.new.self.values = ap (λ (s : Stacked). s.values) c.pop-c-2.ensures in
-    let stack : c.args.frame.now.stack.values ≡ c.pop-a.result ∷ c.pop-b.result ∷ c.pop-c-2.result ∷ c.pop-c-2.new.self.values = pa ∙ ap (λ (t : List Value). c.pop-a.result ∷ t) (pb ∙ ap (λ (t : List Value). c.pop-b.result ∷ t) (pc_2)) in
-    let is = pair_below_long c.args.program.now c.args.own.now c.args.next c.args.frame.now.locals c.args.frame.now.stack.values c.pop-c-2.new.self.values c.pop-a.result c.pop-b.result c.pop-c-2.result c.args.heap.now stack (sym c.is_long.ensures ∙ c.if-is_long.false) (sym c.is_long-2.ensures ∙ c.if-is_long-3.true) c.requires.fine in
-    laid_shows c.args.own.now (does c.args.program.now c.args.own.now Dup2X2 c.args.next c.args.frame.now.locals c.args.frame.now.stack.values c.args.heap.now) c.args.next c.pair_under_one.result c.args.frame.now (record c.args.frame.now { stack = c.pop-c-2.new.self }) c.pair_under_one.new.frame _ c.args.heap.now c.pair_under_one.ensures.laid is
+    let row = pair_below_long_copies c.args.program.now c.args.own.now c.args.next c.args.frame.now.locals c.args.frame.now.stack.values c.args.heap.now c.peek.result.now c.peek-2.result.now c.peek.ensures (sym c.is_long.ensures ∙ c.if-is_long.false) c.peek-2.ensures (sym c.is_long-2.ensures ∙ c.if-is_long-3.true) c.requires.fine in
+    copies_show c.args.program.now c.args.own.now Dup2X2 c.args.next c.pair_below_three.result c.args.frame.now c.pair_below_three.new.frame c.args.heap.now 2 3 row c.pair_below_three.ensures.laid
+
+pub pair_below_four-requires : goal.pair_below_four-requires
+pair_below_four-requires c =
+    let row = pair_below_pair_copies c.args.program.now c.args.own.now c.args.next c.args.frame.now.locals c.args.frame.now.stack.values c.args.heap.now c.peek.result.now c.peek-2.result.now c.peek.ensures (sym c.is_long.ensures ∙ c.if-is_long.false) c.peek-2.ensures (sym c.is_long-2.ensures ∙ c.if-is_long-3.false) c.requires.fine in
+    record { there = row.there; room = has_room c.args.program.now c.args.own.now Dup2X2 c.args.next c.args.frame.now.locals c.args.frame.now.stack.values c.args.heap.now 2 4 c.args.frame.now.stack.room row c.requires.room }
 
 pub returns-clause-step : goal.returns-clause-step
 returns-clause-step c =
-    let pa : c.args.frame.now.stack.values ≡ c.pop-a.result ∷ c.pop-a.new.self.values = ap (λ (s : Stacked). s.values) c.pop-a.ensures in
-    let pb : c.pop-a.new.self.values ≡ c.pop-b.result ∷ c.pop-b.new.self.values = ap (λ (s : Stacked). s.values) c.pop-b.ensures in
-    let pc_2 : c.pop-b.new.self.values ≡ c.pop-c-2.result ∷ c.pop-c-2.new.self.values = ap (λ (s : Stacked). s.values) c.pop-c-2.ensures in
-    let pd : c.pop-c-2.new.self.values ≡ c.pop-d.result ∷ c.pop-d.new.self.values = ap (λ (s : Stacked). s.values) c.pop-d.ensures in
-    let stack : c.args.frame.now.stack.values ≡ c.pop-a.result ∷ c.pop-b.result ∷ c.pop-c-2.result ∷ c.pop-d.result ∷ c.pop-d.new.self.values = pa ∙ ap (λ (t : List Value). c.pop-a.result ∷ t) (pb ∙ ap (λ (t : List Value). c.pop-b.result ∷ t) (pc_2 ∙ ap (λ (t : List Value). c.pop-c-2.result ∷ t) (pd))) in
-    let is = pair_below_pair c.args.program.now c.args.own.now c.args.next c.args.frame.now.locals c.args.frame.now.stack.values c.pop-d.new.self.values c.pop-a.result c.pop-b.result c.pop-c-2.result c.pop-d.result c.args.heap.now stack (sym c.is_long.ensures ∙ c.if-is_long.false) (sym c.is_long-2.ensures ∙ c.if-is_long-3.false) c.requires.fine in
-    laid_shows c.args.own.now (does c.args.program.now c.args.own.now Dup2X2 c.args.next c.args.frame.now.locals c.args.frame.now.stack.values c.args.heap.now) c.args.next c.pair_under_two.result c.args.frame.now (record c.args.frame.now { stack = c.pop-d.new.self }) c.pair_under_two.new.frame _ c.args.heap.now c.pair_under_two.ensures.laid is
+    let row = pair_below_pair_copies c.args.program.now c.args.own.now c.args.next c.args.frame.now.locals c.args.frame.now.stack.values c.args.heap.now c.peek.result.now c.peek-2.result.now c.peek.ensures (sym c.is_long.ensures ∙ c.if-is_long.false) c.peek-2.ensures (sym c.is_long-2.ensures ∙ c.if-is_long-3.false) c.requires.fine in
+    copies_show c.args.program.now c.args.own.now Dup2X2 c.args.next c.pair_below_four.result c.args.frame.now c.pair_below_four.new.frame c.args.heap.now 2 4 row c.pair_below_four.ensures.laid

@@ -1,24 +1,7 @@
 -- A row for each instruction: what its call requires, and what it ensures.
 use Rattle.kilim_classes.specs.machine.Does.{does}
+use Rattle.kilim_jvm_interp.proofs.instruction.Tables.{compare_jump_row, int_jump_row, int_load_row, int_shift_row, long_shift_row, narrow_store_row, one_int_row, two_ints_row, two_longs_row}
 use Rattle.kilim_jvm_interp.proofs.instruction.table.act.Goals as goal
-
-pub load_ldc-requires : goal.load_ldc-requires
-load_ldc-requires c = record { fine = rw c.in-Ldc.is at c.requires.fine; room = rw c.in-Ldc.is at c.requires.room }
-
-pub returns-in-Ldc : goal.returns-in-Ldc
-returns-in-Ldc c = record { step = rw c.in-Ldc.is c.load_ldc.ensures.step; same = c.load_ldc.ensures.same }
-
-pub load_ldcw-requires : goal.load_ldcw-requires
-load_ldcw-requires c = record { fine = rw c.in-LdcW.is at c.requires.fine; room = rw c.in-LdcW.is at c.requires.room }
-
-pub returns-in-LdcW : goal.returns-in-LdcW
-returns-in-LdcW c = record { step = rw c.in-LdcW.is c.load_ldcw.ensures.step; same = c.load_ldcw.ensures.same }
-
-pub load_ldc2w-requires : goal.load_ldc2w-requires
-load_ldc2w-requires c = record { fine = rw c.in-Ldc2W.is at c.requires.fine; room = rw c.in-Ldc2W.is at c.requires.room }
-
-pub returns-in-Ldc2W : goal.returns-in-Ldc2W
-returns-in-Ldc2W c = record { step = rw c.in-Ldc2W.is c.load_ldc2w.ensures.step; same = c.load_ldc2w.ensures.same }
 
 pub load_int-requires : goal.load_int-requires
 load_int-requires c = record { fine = rw c.in-Iload.is at c.requires.fine; room = rw c.in-Iload.is at c.requires.room }
@@ -56,38 +39,6 @@ store_reference-requires c = record { fine = rw c.in-Astore.is at c.requires.fin
 pub returns-in-Astore : goal.returns-in-Astore
 returns-in-Astore c = record { step = rw c.in-Astore.is c.store_reference.ensures.step; same = c.store_reference.ensures.same }
 
-pub read_int-requires : goal.read_int-requires
-unfolding does
-read_int-requires c = record { fine = rw c.in-Iaload.is at c.requires.fine; room = rw c.in-Iaload.is at c.requires.room }
-
-pub returns-in-Iaload : goal.returns-in-Iaload
-unfolding does
-returns-in-Iaload c = record { step = rw c.in-Iaload.is c.read_int.ensures.step; same = c.read_int.ensures.same }
-
-pub read_int-requires-in-Baload : goal.read_int-requires-in-Baload
-unfolding does
-read_int-requires-in-Baload c = record { fine = rw c.in-Baload.is at c.requires.fine; room = rw c.in-Baload.is at c.requires.room }
-
-pub returns-in-Baload : goal.returns-in-Baload
-unfolding does
-returns-in-Baload c = record { step = rw c.in-Baload.is c.read_int-in-Baload.ensures.step; same = c.read_int-in-Baload.ensures.same }
-
-pub read_int-requires-in-Caload : goal.read_int-requires-in-Caload
-unfolding does
-read_int-requires-in-Caload c = record { fine = rw c.in-Caload.is at c.requires.fine; room = rw c.in-Caload.is at c.requires.room }
-
-pub returns-in-Caload : goal.returns-in-Caload
-unfolding does
-returns-in-Caload c = record { step = rw c.in-Caload.is c.read_int-in-Caload.ensures.step; same = c.read_int-in-Caload.ensures.same }
-
-pub read_int-requires-in-Saload : goal.read_int-requires-in-Saload
-unfolding does
-read_int-requires-in-Saload c = record { fine = rw c.in-Saload.is at c.requires.fine; room = rw c.in-Saload.is at c.requires.room }
-
-pub returns-in-Saload : goal.returns-in-Saload
-unfolding does
-returns-in-Saload c = record { step = rw c.in-Saload.is c.read_int-in-Saload.ensures.step; same = c.read_int-in-Saload.ensures.same }
-
 pub read_long-requires : goal.read_long-requires
 read_long-requires c = record { fine = rw c.in-Laload.is at c.requires.fine; room = rw c.in-Laload.is at c.requires.room }
 
@@ -117,30 +68,6 @@ write_reference-requires c = record { fine = rw c.in-Aastore.is at c.requires.fi
 
 pub returns-in-Aastore : goal.returns-in-Aastore
 returns-in-Aastore c = record { step = rw c.in-Aastore.is c.write_reference.ensures.step; same = c.write_reference.ensures.same }
-
-pub write_narrowed-requires : goal.write_narrowed-requires
-unfolding does
-write_narrowed-requires c = record { fine = rw c.in-Bastore.is at c.requires.fine; room = rw c.in-Bastore.is at c.requires.room }
-
-pub returns-in-Bastore : goal.returns-in-Bastore
-unfolding does
-returns-in-Bastore c = record { step = rw c.in-Bastore.is c.write_narrowed.ensures.step; same = c.write_narrowed.ensures.same }
-
-pub write_narrowed-requires-in-Castore : goal.write_narrowed-requires-in-Castore
-unfolding does
-write_narrowed-requires-in-Castore c = record { fine = rw c.in-Castore.is at c.requires.fine; room = rw c.in-Castore.is at c.requires.room }
-
-pub returns-in-Castore : goal.returns-in-Castore
-unfolding does
-returns-in-Castore c = record { step = rw c.in-Castore.is c.write_narrowed-in-Castore.ensures.step; same = c.write_narrowed-in-Castore.ensures.same }
-
-pub write_narrowed-requires-in-Sastore : goal.write_narrowed-requires-in-Sastore
-unfolding does
-write_narrowed-requires-in-Sastore c = record { fine = rw c.in-Sastore.is at c.requires.fine; room = rw c.in-Sastore.is at c.requires.room }
-
-pub returns-in-Sastore : goal.returns-in-Sastore
-unfolding does
-returns-in-Sastore c = record { step = rw c.in-Sastore.is c.write_narrowed-in-Sastore.ensures.step; same = c.write_narrowed-in-Sastore.ensures.same }
 
 pub pop_word-requires : goal.pop_word-requires
 pop_word-requires c = record { fine = rw c.in-Pop.is at c.requires.fine; room = rw c.in-Pop.is at c.requires.room }
@@ -196,102 +123,6 @@ swap_words-requires c = record { fine = rw c.in-Swap.is at c.requires.fine; room
 pub returns-in-Swap : goal.returns-in-Swap
 returns-in-Swap c = record { step = rw c.in-Swap.is c.swap_words.ensures.step; same = c.swap_words.ensures.same }
 
-pub two_ints-requires : goal.two_ints-requires
-unfolding does
-two_ints-requires c = record { fine = rw c.in-Iadd.is at c.requires.fine; room = rw c.in-Iadd.is at c.requires.room }
-
-pub returns-in-Iadd : goal.returns-in-Iadd
-unfolding does
-returns-in-Iadd c = record { step = rw c.in-Iadd.is c.two_ints.ensures.step; same = c.two_ints.ensures.same }
-
-pub two_longs-requires : goal.two_longs-requires
-unfolding does
-two_longs-requires c = record { fine = rw c.in-Ladd.is at c.requires.fine; room = rw c.in-Ladd.is at c.requires.room }
-
-pub returns-in-Ladd : goal.returns-in-Ladd
-unfolding does
-returns-in-Ladd c = record { step = rw c.in-Ladd.is c.two_longs.ensures.step; same = c.two_longs.ensures.same }
-
-pub two_ints-requires-in-Isub : goal.two_ints-requires-in-Isub
-unfolding does
-two_ints-requires-in-Isub c = record { fine = rw c.in-Isub.is at c.requires.fine; room = rw c.in-Isub.is at c.requires.room }
-
-pub returns-in-Isub : goal.returns-in-Isub
-unfolding does
-returns-in-Isub c = record { step = rw c.in-Isub.is c.two_ints-in-Isub.ensures.step; same = c.two_ints-in-Isub.ensures.same }
-
-pub two_longs-requires-in-Lsub : goal.two_longs-requires-in-Lsub
-unfolding does
-two_longs-requires-in-Lsub c = record { fine = rw c.in-Lsub.is at c.requires.fine; room = rw c.in-Lsub.is at c.requires.room }
-
-pub returns-in-Lsub : goal.returns-in-Lsub
-unfolding does
-returns-in-Lsub c = record { step = rw c.in-Lsub.is c.two_longs-in-Lsub.ensures.step; same = c.two_longs-in-Lsub.ensures.same }
-
-pub two_ints-requires-in-Imul : goal.two_ints-requires-in-Imul
-unfolding does
-two_ints-requires-in-Imul c = record { fine = rw c.in-Imul.is at c.requires.fine; room = rw c.in-Imul.is at c.requires.room }
-
-pub returns-in-Imul : goal.returns-in-Imul
-unfolding does
-returns-in-Imul c = record { step = rw c.in-Imul.is c.two_ints-in-Imul.ensures.step; same = c.two_ints-in-Imul.ensures.same }
-
-pub two_longs-requires-in-Lmul : goal.two_longs-requires-in-Lmul
-unfolding does
-two_longs-requires-in-Lmul c = record { fine = rw c.in-Lmul.is at c.requires.fine; room = rw c.in-Lmul.is at c.requires.room }
-
-pub returns-in-Lmul : goal.returns-in-Lmul
-unfolding does
-returns-in-Lmul c = record { step = rw c.in-Lmul.is c.two_longs-in-Lmul.ensures.step; same = c.two_longs-in-Lmul.ensures.same }
-
-pub two_ints-requires-in-Iand : goal.two_ints-requires-in-Iand
-unfolding does
-two_ints-requires-in-Iand c = record { fine = rw c.in-Iand.is at c.requires.fine; room = rw c.in-Iand.is at c.requires.room }
-
-pub returns-in-Iand : goal.returns-in-Iand
-unfolding does
-returns-in-Iand c = record { step = rw c.in-Iand.is c.two_ints-in-Iand.ensures.step; same = c.two_ints-in-Iand.ensures.same }
-
-pub two_longs-requires-in-Land : goal.two_longs-requires-in-Land
-unfolding does
-two_longs-requires-in-Land c = record { fine = rw c.in-Land.is at c.requires.fine; room = rw c.in-Land.is at c.requires.room }
-
-pub returns-in-Land : goal.returns-in-Land
-unfolding does
-returns-in-Land c = record { step = rw c.in-Land.is c.two_longs-in-Land.ensures.step; same = c.two_longs-in-Land.ensures.same }
-
-pub two_ints-requires-in-Ior : goal.two_ints-requires-in-Ior
-unfolding does
-two_ints-requires-in-Ior c = record { fine = rw c.in-Ior.is at c.requires.fine; room = rw c.in-Ior.is at c.requires.room }
-
-pub returns-in-Ior : goal.returns-in-Ior
-unfolding does
-returns-in-Ior c = record { step = rw c.in-Ior.is c.two_ints-in-Ior.ensures.step; same = c.two_ints-in-Ior.ensures.same }
-
-pub two_longs-requires-in-Lor : goal.two_longs-requires-in-Lor
-unfolding does
-two_longs-requires-in-Lor c = record { fine = rw c.in-Lor.is at c.requires.fine; room = rw c.in-Lor.is at c.requires.room }
-
-pub returns-in-Lor : goal.returns-in-Lor
-unfolding does
-returns-in-Lor c = record { step = rw c.in-Lor.is c.two_longs-in-Lor.ensures.step; same = c.two_longs-in-Lor.ensures.same }
-
-pub two_ints-requires-in-Ixor : goal.two_ints-requires-in-Ixor
-unfolding does
-two_ints-requires-in-Ixor c = record { fine = rw c.in-Ixor.is at c.requires.fine; room = rw c.in-Ixor.is at c.requires.room }
-
-pub returns-in-Ixor : goal.returns-in-Ixor
-unfolding does
-returns-in-Ixor c = record { step = rw c.in-Ixor.is c.two_ints-in-Ixor.ensures.step; same = c.two_ints-in-Ixor.ensures.same }
-
-pub two_longs-requires-in-Lxor : goal.two_longs-requires-in-Lxor
-unfolding does
-two_longs-requires-in-Lxor c = record { fine = rw c.in-Lxor.is at c.requires.fine; room = rw c.in-Lxor.is at c.requires.room }
-
-pub returns-in-Lxor : goal.returns-in-Lxor
-unfolding does
-returns-in-Lxor c = record { step = rw c.in-Lxor.is c.two_longs-in-Lxor.ensures.step; same = c.two_longs-in-Lxor.ensures.same }
-
 pub divide_ints-requires : goal.divide_ints-requires
 unfolding does
 divide_ints-requires c = record { fine = rw c.in-Idiv.is at c.requires.fine; room = rw c.in-Idiv.is at c.requires.room }
@@ -324,86 +155,6 @@ pub returns-in-Lrem : goal.returns-in-Lrem
 unfolding does
 returns-in-Lrem c = record { step = rw c.in-Lrem.is c.divide_longs-in-Lrem.ensures.step; same = c.divide_longs-in-Lrem.ensures.same }
 
-pub shift_int-requires : goal.shift_int-requires
-unfolding does
-shift_int-requires c = record { fine = rw c.in-Ishl.is at c.requires.fine; room = rw c.in-Ishl.is at c.requires.room }
-
-pub returns-in-Ishl : goal.returns-in-Ishl
-unfolding does
-returns-in-Ishl c = record { step = rw c.in-Ishl.is c.shift_int.ensures.step; same = c.shift_int.ensures.same }
-
-pub shift_long-requires : goal.shift_long-requires
-unfolding does
-shift_long-requires c = record { fine = rw c.in-Lshl.is at c.requires.fine; room = rw c.in-Lshl.is at c.requires.room }
-
-pub returns-in-Lshl : goal.returns-in-Lshl
-unfolding does
-returns-in-Lshl c = record { step = rw c.in-Lshl.is c.shift_long.ensures.step; same = c.shift_long.ensures.same }
-
-pub shift_int-requires-in-Ishr : goal.shift_int-requires-in-Ishr
-unfolding does
-shift_int-requires-in-Ishr c = record { fine = rw c.in-Ishr.is at c.requires.fine; room = rw c.in-Ishr.is at c.requires.room }
-
-pub returns-in-Ishr : goal.returns-in-Ishr
-unfolding does
-returns-in-Ishr c = record { step = rw c.in-Ishr.is c.shift_int-in-Ishr.ensures.step; same = c.shift_int-in-Ishr.ensures.same }
-
-pub shift_long-requires-in-Lshr : goal.shift_long-requires-in-Lshr
-unfolding does
-shift_long-requires-in-Lshr c = record { fine = rw c.in-Lshr.is at c.requires.fine; room = rw c.in-Lshr.is at c.requires.room }
-
-pub returns-in-Lshr : goal.returns-in-Lshr
-unfolding does
-returns-in-Lshr c = record { step = rw c.in-Lshr.is c.shift_long-in-Lshr.ensures.step; same = c.shift_long-in-Lshr.ensures.same }
-
-pub shift_int-requires-in-Iushr : goal.shift_int-requires-in-Iushr
-unfolding does
-shift_int-requires-in-Iushr c = record { fine = rw c.in-Iushr.is at c.requires.fine; room = rw c.in-Iushr.is at c.requires.room }
-
-pub returns-in-Iushr : goal.returns-in-Iushr
-unfolding does
-returns-in-Iushr c = record { step = rw c.in-Iushr.is c.shift_int-in-Iushr.ensures.step; same = c.shift_int-in-Iushr.ensures.same }
-
-pub shift_long-requires-in-Lushr : goal.shift_long-requires-in-Lushr
-unfolding does
-shift_long-requires-in-Lushr c = record { fine = rw c.in-Lushr.is at c.requires.fine; room = rw c.in-Lushr.is at c.requires.room }
-
-pub returns-in-Lushr : goal.returns-in-Lushr
-unfolding does
-returns-in-Lushr c = record { step = rw c.in-Lushr.is c.shift_long-in-Lushr.ensures.step; same = c.shift_long-in-Lushr.ensures.same }
-
-pub one_int-requires : goal.one_int-requires
-unfolding does
-one_int-requires c = record { fine = rw c.in-Ineg.is at c.requires.fine; room = rw c.in-Ineg.is at c.requires.room }
-
-pub returns-in-Ineg : goal.returns-in-Ineg
-unfolding does
-returns-in-Ineg c = record { step = rw c.in-Ineg.is c.one_int.ensures.step; same = c.one_int.ensures.same }
-
-pub one_int-requires-in-I2b : goal.one_int-requires-in-I2b
-unfolding does
-one_int-requires-in-I2b c = record { fine = rw c.in-I2b.is at c.requires.fine; room = rw c.in-I2b.is at c.requires.room }
-
-pub returns-in-I2b : goal.returns-in-I2b
-unfolding does
-returns-in-I2b c = record { step = rw c.in-I2b.is c.one_int-in-I2b.ensures.step; same = c.one_int-in-I2b.ensures.same }
-
-pub one_int-requires-in-I2c : goal.one_int-requires-in-I2c
-unfolding does
-one_int-requires-in-I2c c = record { fine = rw c.in-I2c.is at c.requires.fine; room = rw c.in-I2c.is at c.requires.room }
-
-pub returns-in-I2c : goal.returns-in-I2c
-unfolding does
-returns-in-I2c c = record { step = rw c.in-I2c.is c.one_int-in-I2c.ensures.step; same = c.one_int-in-I2c.ensures.same }
-
-pub one_int-requires-in-I2s : goal.one_int-requires-in-I2s
-unfolding does
-one_int-requires-in-I2s c = record { fine = rw c.in-I2s.is at c.requires.fine; room = rw c.in-I2s.is at c.requires.room }
-
-pub returns-in-I2s : goal.returns-in-I2s
-unfolding does
-returns-in-I2s c = record { step = rw c.in-I2s.is c.one_int-in-I2s.ensures.step; same = c.one_int-in-I2s.ensures.same }
-
 pub negate_long-requires : goal.negate_long-requires
 negate_long-requires c = record { fine = rw c.in-Lneg.is at c.requires.fine; room = rw c.in-Lneg.is at c.requires.room }
 
@@ -427,102 +178,6 @@ compare_longs-requires c = record { fine = rw c.in-Lcmp.is at c.requires.fine; r
 
 pub returns-in-Lcmp : goal.returns-in-Lcmp
 returns-in-Lcmp c = record { step = rw c.in-Lcmp.is c.compare_longs.ensures.step; same = c.compare_longs.ensures.same }
-
-pub jump_on_int-requires : goal.jump_on_int-requires
-unfolding does
-jump_on_int-requires c = record { fine = rw c.in-Ifeq.is at c.requires.fine; room = rw c.in-Ifeq.is at c.requires.room }
-
-pub returns-in-Ifeq : goal.returns-in-Ifeq
-unfolding does
-returns-in-Ifeq c = record { step = rw c.in-Ifeq.is c.jump_on_int.ensures.step; same = c.jump_on_int.ensures.same }
-
-pub jump_on_two_ints-requires : goal.jump_on_two_ints-requires
-unfolding does
-jump_on_two_ints-requires c = record { fine = rw c.in-IfIcmpeq.is at c.requires.fine; room = rw c.in-IfIcmpeq.is at c.requires.room }
-
-pub returns-in-IfIcmpeq : goal.returns-in-IfIcmpeq
-unfolding does
-returns-in-IfIcmpeq c = record { step = rw c.in-IfIcmpeq.is c.jump_on_two_ints.ensures.step; same = c.jump_on_two_ints.ensures.same }
-
-pub jump_on_int-requires-in-Ifne : goal.jump_on_int-requires-in-Ifne
-unfolding does
-jump_on_int-requires-in-Ifne c = record { fine = rw c.in-Ifne.is at c.requires.fine; room = rw c.in-Ifne.is at c.requires.room }
-
-pub returns-in-Ifne : goal.returns-in-Ifne
-unfolding does
-returns-in-Ifne c = record { step = rw c.in-Ifne.is c.jump_on_int-in-Ifne.ensures.step; same = c.jump_on_int-in-Ifne.ensures.same }
-
-pub jump_on_two_ints-requires-in-IfIcmpne : goal.jump_on_two_ints-requires-in-IfIcmpne
-unfolding does
-jump_on_two_ints-requires-in-IfIcmpne c = record { fine = rw c.in-IfIcmpne.is at c.requires.fine; room = rw c.in-IfIcmpne.is at c.requires.room }
-
-pub returns-in-IfIcmpne : goal.returns-in-IfIcmpne
-unfolding does
-returns-in-IfIcmpne c = record { step = rw c.in-IfIcmpne.is c.jump_on_two_ints-in-IfIcmpne.ensures.step; same = c.jump_on_two_ints-in-IfIcmpne.ensures.same }
-
-pub jump_on_int-requires-in-Iflt : goal.jump_on_int-requires-in-Iflt
-unfolding does
-jump_on_int-requires-in-Iflt c = record { fine = rw c.in-Iflt.is at c.requires.fine; room = rw c.in-Iflt.is at c.requires.room }
-
-pub returns-in-Iflt : goal.returns-in-Iflt
-unfolding does
-returns-in-Iflt c = record { step = rw c.in-Iflt.is c.jump_on_int-in-Iflt.ensures.step; same = c.jump_on_int-in-Iflt.ensures.same }
-
-pub jump_on_two_ints-requires-in-IfIcmplt : goal.jump_on_two_ints-requires-in-IfIcmplt
-unfolding does
-jump_on_two_ints-requires-in-IfIcmplt c = record { fine = rw c.in-IfIcmplt.is at c.requires.fine; room = rw c.in-IfIcmplt.is at c.requires.room }
-
-pub returns-in-IfIcmplt : goal.returns-in-IfIcmplt
-unfolding does
-returns-in-IfIcmplt c = record { step = rw c.in-IfIcmplt.is c.jump_on_two_ints-in-IfIcmplt.ensures.step; same = c.jump_on_two_ints-in-IfIcmplt.ensures.same }
-
-pub jump_on_int-requires-in-Ifge : goal.jump_on_int-requires-in-Ifge
-unfolding does
-jump_on_int-requires-in-Ifge c = record { fine = rw c.in-Ifge.is at c.requires.fine; room = rw c.in-Ifge.is at c.requires.room }
-
-pub returns-in-Ifge : goal.returns-in-Ifge
-unfolding does
-returns-in-Ifge c = record { step = rw c.in-Ifge.is c.jump_on_int-in-Ifge.ensures.step; same = c.jump_on_int-in-Ifge.ensures.same }
-
-pub jump_on_two_ints-requires-in-IfIcmpge : goal.jump_on_two_ints-requires-in-IfIcmpge
-unfolding does
-jump_on_two_ints-requires-in-IfIcmpge c = record { fine = rw c.in-IfIcmpge.is at c.requires.fine; room = rw c.in-IfIcmpge.is at c.requires.room }
-
-pub returns-in-IfIcmpge : goal.returns-in-IfIcmpge
-unfolding does
-returns-in-IfIcmpge c = record { step = rw c.in-IfIcmpge.is c.jump_on_two_ints-in-IfIcmpge.ensures.step; same = c.jump_on_two_ints-in-IfIcmpge.ensures.same }
-
-pub jump_on_int-requires-in-Ifgt : goal.jump_on_int-requires-in-Ifgt
-unfolding does
-jump_on_int-requires-in-Ifgt c = record { fine = rw c.in-Ifgt.is at c.requires.fine; room = rw c.in-Ifgt.is at c.requires.room }
-
-pub returns-in-Ifgt : goal.returns-in-Ifgt
-unfolding does
-returns-in-Ifgt c = record { step = rw c.in-Ifgt.is c.jump_on_int-in-Ifgt.ensures.step; same = c.jump_on_int-in-Ifgt.ensures.same }
-
-pub jump_on_two_ints-requires-in-IfIcmpgt : goal.jump_on_two_ints-requires-in-IfIcmpgt
-unfolding does
-jump_on_two_ints-requires-in-IfIcmpgt c = record { fine = rw c.in-IfIcmpgt.is at c.requires.fine; room = rw c.in-IfIcmpgt.is at c.requires.room }
-
-pub returns-in-IfIcmpgt : goal.returns-in-IfIcmpgt
-unfolding does
-returns-in-IfIcmpgt c = record { step = rw c.in-IfIcmpgt.is c.jump_on_two_ints-in-IfIcmpgt.ensures.step; same = c.jump_on_two_ints-in-IfIcmpgt.ensures.same }
-
-pub jump_on_int-requires-in-Ifle : goal.jump_on_int-requires-in-Ifle
-unfolding does
-jump_on_int-requires-in-Ifle c = record { fine = rw c.in-Ifle.is at c.requires.fine; room = rw c.in-Ifle.is at c.requires.room }
-
-pub returns-in-Ifle : goal.returns-in-Ifle
-unfolding does
-returns-in-Ifle c = record { step = rw c.in-Ifle.is c.jump_on_int-in-Ifle.ensures.step; same = c.jump_on_int-in-Ifle.ensures.same }
-
-pub jump_on_two_ints-requires-in-IfIcmple : goal.jump_on_two_ints-requires-in-IfIcmple
-unfolding does
-jump_on_two_ints-requires-in-IfIcmple c = record { fine = rw c.in-IfIcmple.is at c.requires.fine; room = rw c.in-IfIcmple.is at c.requires.room }
-
-pub returns-in-IfIcmple : goal.returns-in-IfIcmple
-unfolding does
-returns-in-IfIcmple c = record { step = rw c.in-IfIcmple.is c.jump_on_two_ints-in-IfIcmple.ensures.step; same = c.jump_on_two_ints-in-IfIcmple.ensures.same }
 
 pub jump_on_references-requires : goal.jump_on_references-requires
 unfolding does
@@ -639,3 +294,93 @@ test_type-requires c = record { fine = rw c.in-Instanceof.is at c.requires.fine;
 
 pub returns-in-Instanceof : goal.returns-in-Instanceof
 returns-in-Instanceof c = record { step = rw c.in-Instanceof.is c.test_type.ensures.step; same = c.test_type.ensures.same }
+
+pub read_int-requires : goal.read_int-requires
+read_int-requires c =
+    let row = int_load_row c.args.program.now c.args.own.now c.args.instr.now c.args.next c.args.frame.now.locals c.args.frame.now.stack.values c.args.heap.now c.in-Iaload.is in
+    record { fine = rw row at c.requires.fine; room = rw row at c.requires.room }
+
+pub returns-in-Iaload : goal.returns-in-Iaload
+returns-in-Iaload c =
+    let row = int_load_row c.args.program.now c.args.own.now c.args.instr.now c.args.next c.args.frame.now.locals c.args.frame.now.stack.values c.args.heap.now c.in-Iaload.is in
+    record { step = rw row c.read_int.ensures.step; same = c.read_int.ensures.same }
+
+pub write_narrowed-requires : goal.write_narrowed-requires
+write_narrowed-requires c =
+    let row = narrow_store_row c.args.program.now c.args.own.now c.args.instr.now c.args.next c.args.frame.now.locals c.args.frame.now.stack.values c.args.heap.now c.in-Bastore.is in
+    record { fine = rw row at c.requires.fine; room = rw row at c.requires.room }
+
+pub returns-in-Bastore : goal.returns-in-Bastore
+returns-in-Bastore c =
+    let row = narrow_store_row c.args.program.now c.args.own.now c.args.instr.now c.args.next c.args.frame.now.locals c.args.frame.now.stack.values c.args.heap.now c.in-Bastore.is in
+    record { step = rw row c.write_narrowed.ensures.step; same = c.write_narrowed.ensures.same }
+
+pub two_ints-requires : goal.two_ints-requires
+two_ints-requires c =
+    let row = two_ints_row c.args.program.now c.args.own.now c.args.instr.now c.binary_of-in-Iadd.result c.args.next c.args.frame.now.locals c.args.frame.now.stack.values c.args.heap.now c.binary_of-in-Iadd.ensures c.in-Iadd.is in
+    record { fine = rw row at c.requires.fine; room = rw row at c.requires.room }
+
+pub returns-in-Iadd : goal.returns-in-Iadd
+returns-in-Iadd c =
+    let row = two_ints_row c.args.program.now c.args.own.now c.args.instr.now c.binary_of-in-Iadd.result c.args.next c.args.frame.now.locals c.args.frame.now.stack.values c.args.heap.now c.binary_of-in-Iadd.ensures c.in-Iadd.is in
+    record { step = rw row c.two_ints.ensures.step; same = c.two_ints.ensures.same }
+
+pub two_longs-requires : goal.two_longs-requires
+two_longs-requires c =
+    let row = two_longs_row c.args.program.now c.args.own.now c.args.instr.now c.binary_of.result c.args.next c.args.frame.now.locals c.args.frame.now.stack.values c.args.heap.now c.binary_of.ensures c.in-Ladd.is in
+    record { fine = rw row at c.requires.fine; room = rw row at c.requires.room }
+
+pub returns-in-Ladd : goal.returns-in-Ladd
+returns-in-Ladd c =
+    let row = two_longs_row c.args.program.now c.args.own.now c.args.instr.now c.binary_of.result c.args.next c.args.frame.now.locals c.args.frame.now.stack.values c.args.heap.now c.binary_of.ensures c.in-Ladd.is in
+    record { step = rw row c.two_longs.ensures.step; same = c.two_longs.ensures.same }
+
+pub shift_int-requires : goal.shift_int-requires
+shift_int-requires c =
+    let row = int_shift_row c.args.program.now c.args.own.now c.args.instr.now c.shift_of-in-Ishl.result c.args.next c.args.frame.now.locals c.args.frame.now.stack.values c.args.heap.now c.shift_of-in-Ishl.ensures c.in-Ishl.is in
+    record { fine = rw row at c.requires.fine; room = rw row at c.requires.room }
+
+pub returns-in-Ishl : goal.returns-in-Ishl
+returns-in-Ishl c =
+    let row = int_shift_row c.args.program.now c.args.own.now c.args.instr.now c.shift_of-in-Ishl.result c.args.next c.args.frame.now.locals c.args.frame.now.stack.values c.args.heap.now c.shift_of-in-Ishl.ensures c.in-Ishl.is in
+    record { step = rw row c.shift_int.ensures.step; same = c.shift_int.ensures.same }
+
+pub shift_long-requires : goal.shift_long-requires
+shift_long-requires c =
+    let row = long_shift_row c.args.program.now c.args.own.now c.args.instr.now c.shift_of.result c.args.next c.args.frame.now.locals c.args.frame.now.stack.values c.args.heap.now c.shift_of.ensures c.in-Lshl.is in
+    record { fine = rw row at c.requires.fine; room = rw row at c.requires.room }
+
+pub returns-in-Lshl : goal.returns-in-Lshl
+returns-in-Lshl c =
+    let row = long_shift_row c.args.program.now c.args.own.now c.args.instr.now c.shift_of.result c.args.next c.args.frame.now.locals c.args.frame.now.stack.values c.args.heap.now c.shift_of.ensures c.in-Lshl.is in
+    record { step = rw row c.shift_long.ensures.step; same = c.shift_long.ensures.same }
+
+pub one_int-requires : goal.one_int-requires
+one_int-requires c =
+    let row = one_int_row c.args.program.now c.args.own.now c.args.instr.now c.unary_of.result c.args.next c.args.frame.now.locals c.args.frame.now.stack.values c.args.heap.now c.unary_of.ensures c.in-Ineg.is in
+    record { fine = rw row at c.requires.fine; room = rw row at c.requires.room }
+
+pub returns-in-Ineg : goal.returns-in-Ineg
+returns-in-Ineg c =
+    let row = one_int_row c.args.program.now c.args.own.now c.args.instr.now c.unary_of.result c.args.next c.args.frame.now.locals c.args.frame.now.stack.values c.args.heap.now c.unary_of.ensures c.in-Ineg.is in
+    record { step = rw row c.one_int.ensures.step; same = c.one_int.ensures.same }
+
+pub jump_on_int-requires : goal.jump_on_int-requires
+jump_on_int-requires c =
+    let row = int_jump_row c.args.program.now c.args.own.now c.args.instr.now c.jump_of-test-in-Ifeq.result c.args.next c.args.frame.now.locals c.args.frame.now.stack.values c.args.heap.now c.jump_of-test-in-Ifeq.ensures c.in-Ifeq.is in
+    record { fine = rw row at c.requires.fine; room = rw row at c.requires.room }
+
+pub returns-in-Ifeq : goal.returns-in-Ifeq
+returns-in-Ifeq c =
+    let row = int_jump_row c.args.program.now c.args.own.now c.args.instr.now c.jump_of-test-in-Ifeq.result c.args.next c.args.frame.now.locals c.args.frame.now.stack.values c.args.heap.now c.jump_of-test-in-Ifeq.ensures c.in-Ifeq.is in
+    record { step = rw row c.jump_on_int.ensures.step; same = c.jump_on_int.ensures.same }
+
+pub jump_on_two_ints-requires : goal.jump_on_two_ints-requires
+jump_on_two_ints-requires c =
+    let row = compare_jump_row c.args.program.now c.args.own.now c.args.instr.now c.jump_of-test.result c.args.next c.args.frame.now.locals c.args.frame.now.stack.values c.args.heap.now c.jump_of-test.ensures c.in-IfIcmpeq.is in
+    record { fine = rw row at c.requires.fine; room = rw row at c.requires.room }
+
+pub returns-in-IfIcmpeq : goal.returns-in-IfIcmpeq
+returns-in-IfIcmpeq c =
+    let row = compare_jump_row c.args.program.now c.args.own.now c.args.instr.now c.jump_of-test.result c.args.next c.args.frame.now.locals c.args.frame.now.stack.values c.args.heap.now c.jump_of-test.ensures c.in-IfIcmpeq.is in
+    record { step = rw row c.jump_on_two_ints.ensures.step; same = c.jump_on_two_ints.ensures.same }
