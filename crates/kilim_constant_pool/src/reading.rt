@@ -1,6 +1,6 @@
 //! Bytes to a pool.
 
-ghost use Rattle.std.specs.Prelude.{◌≡◌, ◌==◌, ◌⊎◌, ◌+◌, ◌<◌, ◌≤◌, ◌^◌, ◌++◌, if◌then◌else◌, List, length, drop, ℕ, nat_lt, false, true, IfOk, MatchResult};
+ghost use Rattle.std.specs.Prelude.{◌≡◌, ◌==◌, ◌⊎◌, ◌+◌, ◌<◌, ◌≤◌, ◌^◌, ◌++◌, if◌then◌else◌, List, length, drop, ℕ, nat_lt, false, true, [], IfOk, MatchResult};
 ghost use Rattle.std.specs.Int.{w32, w64};
 ghost use Rattle.kilim_grammar.specs.Reader.{Reads, ReadsUnless, made, number_at, signed_at};
 ghost use Rattle.kilim_constant_pool.specs.declared.entry.Entry.TheVariants.{Utf8, Integer, Float, Long, Double, MethodHandle};
@@ -26,12 +26,17 @@ fn text_at(alloc: Global, index: u16, bytes: &[u8]) -> Result<(Entry, &[u8]), Po
     ensures read { ReadsUnless pool.Memory (λ x. (x.0, x.1.now)) result (made Utf8 (text_at index) bytes.now) }
     ensures narrow { IfOk result (λ x. is_wide x.0 ≡ false) }
 {
-    let (len, rest) = u16_at(PoolFault::Cut, bytes)?;
-    let (text, rest) = bytes_at(PoolFault::Cut, usize::from(len), rest)?;
-    match kilim_mutf8::read(alloc, text) {
-        Ok(units) => Ok((Entry::Utf8(units), rest)),
-        Err(kilim_mutf8::TextFault::Memory) => Err(PoolFault::Memory),
-        Err(_) => Err(PoolFault::Text(index)),
+    let (len, rest) = match u16_at(PoolFault::Cut, bytes) {
+        Ok(read) => read,
+        Err(fault) => return Err(fault),
+    };
+    match bytes_at(PoolFault::Cut, usize::from(len), rest) {
+        Ok((text, rest)) => match kilim_mutf8::read(alloc, text) {
+            Ok(units) => Ok((Entry::Utf8(units), rest)),
+            Err(kilim_mutf8::TextFault::Memory) => Err(PoolFault::Memory),
+            Err(_) => Err(PoolFault::Text(index)),
+        },
+        Err(fault) => Err(fault),
     }
 }
 
@@ -58,8 +63,10 @@ fn single_at(tag: u8, bytes: &[u8]) -> Result<(Entry, &[u8]), PoolFault>
     ensures read { Reads (λ x. (x.0, x.1.now)) result (made (single tag) index_at bytes.now) }
     ensures narrow { IfOk result (λ x. is_wide x.0 ≡ false) }
 {
-    let (index, rest) = u16_at(PoolFault::Cut, bytes)?;
-    Ok((single(tag, index), rest))
+    match u16_at(PoolFault::Cut, bytes) {
+        Ok((index, rest)) => Ok((single(tag, index), rest)),
+        Err(fault) => Err(fault),
+    }
 }
 
 fn is_paired(tag: u8) -> bool
@@ -90,9 +97,13 @@ fn paired_at(tag: u8, bytes: &[u8]) -> Result<(Entry, &[u8]), PoolFault>
     ensures read { Reads (λ x. (x.0, x.1.now)) result (made (paired tag) pair_at bytes.now) }
     ensures narrow { IfOk result (λ x. is_wide x.0 ≡ false) }
 {
-    let (first, rest) = u16_at(PoolFault::Cut, bytes)?;
-    let (second, rest) = u16_at(PoolFault::Cut, rest)?;
-    Ok((paired(tag, first, second), rest))
+    match u16_at(PoolFault::Cut, bytes) {
+        Ok((first, rest)) => match u16_at(PoolFault::Cut, rest) {
+            Ok((second, rest)) => Ok((paired(tag, first, second), rest)),
+            Err(fault) => Err(fault),
+        },
+        Err(fault) => Err(fault),
+    }
 }
 
 #[tactic(auto, unfolding(crate::specs::Reading::handle_at))]
@@ -100,9 +111,13 @@ fn handle_at(bytes: &[u8]) -> Result<(Entry, &[u8]), PoolFault>
     ensures read { Reads (λ x. (x.0, x.1.now)) result (made (λ p. MethodHandle p.0 p.1) handle_at bytes.now) }
     ensures narrow { IfOk result (λ x. is_wide x.0 ≡ false) }
 {
-    let (kind, rest) = u8_at(PoolFault::Cut, bytes)?;
-    let (named, rest) = u16_at(PoolFault::Cut, rest)?;
-    Ok((Entry::MethodHandle(kind, named), rest))
+    match u8_at(PoolFault::Cut, bytes) {
+        Ok((kind, rest)) => match u16_at(PoolFault::Cut, rest) {
+            Ok((named, rest)) => Ok((Entry::MethodHandle(kind, named), rest)),
+            Err(fault) => Err(fault),
+        },
+        Err(fault) => Err(fault),
+    }
 }
 
 fn reference_at(index: u16, tag: u8, bytes: &[u8]) -> Result<(Entry, &[u8]), PoolFault>
@@ -125,11 +140,15 @@ fn four_at(tag: u8, bytes: &[u8]) -> Result<(Entry, &[u8]), PoolFault>
     ensures read { Reads (λ x. (x.0, x.1.now)) result (if tag == 3 then made Integer (signed_at pool.Cut w32) bytes.now else made Float (number_at pool.Cut w32) bytes.now) }
     ensures narrow { IfOk result (λ x. is_wide x.0 ≡ false) }
 {
-    let (bits, rest) = u32_at(PoolFault::Cut, bytes)?;
-    if tag == 3 {
-        Ok((Entry::Integer(bits.cast_signed()), rest))
-    } else {
-        Ok((Entry::Float(bits), rest))
+    match u32_at(PoolFault::Cut, bytes) {
+        Ok((bits, rest)) => {
+            if tag == 3 {
+                Ok((Entry::Integer(bits.cast_signed()), rest))
+            } else {
+                Ok((Entry::Float(bits), rest))
+            }
+        }
+        Err(fault) => Err(fault),
     }
 }
 
@@ -137,11 +156,15 @@ fn four_at(tag: u8, bytes: &[u8]) -> Result<(Entry, &[u8]), PoolFault>
 fn eight_at(tag: u8, bytes: &[u8]) -> Result<(Entry, &[u8]), PoolFault>
     ensures { Reads (λ x. (x.0, x.1.now)) result (if tag == 5 then made Long (signed_at pool.Cut w64) bytes.now else made Double (number_at pool.Cut w64) bytes.now) }
 {
-    let (bits, rest) = u64_at(PoolFault::Cut, bytes)?;
-    if tag == 5 {
-        Ok((Entry::Long(bits.cast_signed()), rest))
-    } else {
-        Ok((Entry::Double(bits), rest))
+    match u64_at(PoolFault::Cut, bytes) {
+        Ok((bits, rest)) => {
+            if tag == 5 {
+                Ok((Entry::Long(bits.cast_signed()), rest))
+            } else {
+                Ok((Entry::Double(bits), rest))
+            }
+        }
+        Err(fault) => Err(fault),
     }
 }
 
@@ -171,19 +194,29 @@ fn entry_at_index(
     ensures read { ReadsUnless pool.Memory (λ x. (x.0, x.1.now)) result (entry_at_index index room bytes.now) }
     ensures wide { IfOk result (λ x. is_wide x.0 ≡ true → room ≡ true) }
 {
-    let (tag, rest) = u8_at(PoolFault::Cut, bytes)?;
-    if !room && (tag == 5 || tag == 6) {
-        return Err(PoolFault::BadIndex(index));
+    match u8_at(PoolFault::Cut, bytes) {
+        Ok((tag, rest)) => {
+            if !room && (tag == 5 || tag == 6) {
+                Err(PoolFault::BadIndex(index))
+            } else {
+                content_at(alloc, index, tag, rest)
+            }
+        }
+        Err(fault) => Err(fault),
     }
-    content_at(alloc, index, tag, rest)
 }
 
-// The entries of so many indices, from 1 on.
-fn entries_at(alloc: Global, count: u16, bytes: &[u8]) -> Result<(Pool, &[u8]), PoolFault>
-    requires { count + 1 < 2 ^ 16 }
-    ensures { ReadsUnless pool.Memory (λ x. (x.0, x.1.now)) result (entries_at count false 1 bytes.now) }
+// The entries of so many indices, from 1 on, put behind none, and the bytes behind them.
+fn push_entries<'a>(
+    alloc: Global,
+    count: u16,
+    bytes: &'a [u8],
+    entries: &mut Pool,
+) -> Result<&'a [u8], PoolFault>
+    requires count { count + 1 < 2 ^ 16 }
+    requires none { entries.old ≡ [] }
+    ensures { ReadsUnless pool.Memory (λ rest. (entries.new, rest.now)) result (entries_at count false 1 bytes.now) }
 {
-    let mut pool = Pool::new(alloc);
     let mut second = false;
     let mut rest = bytes;
     for i in 0..count {
@@ -192,25 +225,45 @@ fn entries_at(alloc: Global, count: u16, bytes: &[u8]) -> Result<(Pool, &[u8]), 
         } else {
             let (entry, after) = entry_at_index(alloc, i + 1, i + 1 < count, rest)?;
             second = is_wide(&entry);
-            pool.push(entry)?;
+            entries.push(entry)?;
             rest = after;
         }
     }
-    Ok((pool, rest))
+    Ok(rest)
+}
+
+fn entries_at(alloc: Global, count: u16, bytes: &[u8]) -> Result<(Pool, &[u8]), PoolFault>
+    requires { count + 1 < 2 ^ 16 }
+    ensures { ReadsUnless pool.Memory (λ x. (x.0, x.1.now)) result (entries_at count false 1 bytes.now) }
+{
+    let mut entries = Pool::new(alloc);
+    match push_entries(alloc, count, bytes, &mut entries) {
+        Ok(rest) => Ok((entries, rest)),
+        Err(fault) => Err(fault),
+    }
 }
 
 #[tactic(auto, unfolding(crate::specs::Reading::pool_at))]
 fn pool_at(alloc: Global, bytes: &[u8]) -> Result<(Pool, &[u8]), PoolFault>
     ensures { ReadsUnless pool.Memory (λ x. (x.0, x.1.now)) result (pool_at bytes.now) }
 {
-    let (count, rest) = u16_at(PoolFault::Cut, bytes)?;
-    if count == 0 {
-        return Err(PoolFault::BadIndex(0));
-    }
-    let (pool, rest) = entries_at(alloc, count - 1, rest)?;
-    match first_bad(&pool) {
-        Some(place) => Err(PoolFault::BadIndex((place + 1) as u16)),
-        None => Ok((pool, rest)),
+    match u16_at(PoolFault::Cut, bytes) {
+        Ok((count, rest)) => {
+            if count == 0 {
+                return Err(PoolFault::BadIndex(0));
+            }
+            match entries_at(alloc, count - 1, rest) {
+                Ok((pool, rest)) => match first_bad(&pool) {
+                    Some(place) => {
+                        drop(pool);
+                        Err(PoolFault::BadIndex((place + 1) as u16))
+                    }
+                    None => Ok((pool, rest)),
+                },
+                Err(fault) => Err(fault),
+            }
+        }
+        Err(fault) => Err(fault),
     }
 }
 
@@ -231,8 +284,10 @@ impl Pool {
         ensures reads { ReadsUnless pool.Memory (λ x. (x.0, drop x.1 bytes.now)) result (pool_at bytes.now) }
     {
         pool_is_spelled();
-        let (pool, rest) = pool_at(alloc, bytes)?;
-        Ok((pool, bytes.len() - rest.len()))
+        match pool_at(alloc, bytes) {
+            Ok((pool, rest)) => Ok((pool, bytes.len() - rest.len())),
+            Err(fault) => Err(fault),
+        }
     }
 }
 
