@@ -10,9 +10,11 @@ mod node_class;
 mod parts;
 mod pool;
 mod stage_class;
+mod texts;
 
 pub use draws::{Operation, Plan, Stage, plan_of};
 pub use files::make;
 pub use kilim_classfile::ClassFile;
 pub use kilim_units::NoMemory;
 pub use laws::demo_fits;
+pub use texts::{make_texts, no_names};

@@ -43,12 +43,12 @@ pub fn classes_of(
     alloc: Global,
     names: &[String],
     files: &[Seq<u8>],
-) -> Result<Vec<ClassFile>, Refusal>
+) -> Result<Seq<ClassFile>, Refusal>
     requires { length names.now ≡ length files.now }
-    ensures files { IfOk result (λ classes. AreFiles files.now classes.items) }
+    ensures files { IfOk result (λ classes. AreFiles files.now classes) }
     ensures report { IfReport result (λ text. IsClassReport (map string_bytes names.now) files.now text) }
 {
-    let mut classes = Vec::new(alloc);
+    let mut classes = Seq::new(alloc);
     for (i, name) in names.iter().enumerate() {
         match class_file(alloc, name.as_str(), files[i].as_slice()) {
             Ok(file) => match classes.push(file) {

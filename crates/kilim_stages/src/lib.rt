@@ -4,11 +4,13 @@
 
 pub mod class_world;
 mod classes;
+mod counts;
 mod laws;
 mod refusal;
 mod stages;
 pub mod woven_stage;
 
+pub use counts::coded_methods;
 pub use laws::{never_both, one_program_of};
 pub use refusal::Refusal;
 pub use stages::accepted;

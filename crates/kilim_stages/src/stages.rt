@@ -42,7 +42,11 @@ fn linked(alloc: Global, classes: &[ClassFile]) -> Result<Program, Refusal>
 {
     match link(alloc, classes, Form::Plain) {
         Ok(program) => Ok(program),
-        Err(LinkFault::InClass(class, problem)) => Err(link_refusal(alloc, &class, &problem)),
+        Err(LinkFault::InClass(class, problem)) => {
+            let refusal = link_refusal(alloc, &class, &problem);
+            drop(problem);
+            Err(refusal)
+        }
         Err(LinkFault::Memory) => Err(Refusal::NoMemory),
     }
 }
@@ -65,7 +69,9 @@ fn typed(alloc: Global, program: Program) -> Result<Typed, Refusal>
     match verify(alloc, program) {
         Ok(typed) => Ok(typed),
         Err(TypeFault::Rule(program, method, place, rule)) => {
-            Err(type_refusal(alloc, &program, method, place, rule))
+            let refusal = type_refusal(alloc, &program, method, place, rule);
+            drop(program);
+            Err(refusal)
         }
         Err(TypeFault::Memory) => Err(Refusal::NoMemory),
     }
@@ -89,7 +95,10 @@ fn isolated(alloc: Global, typed: Typed) -> Result<Isolated, Refusal>
     match check_program(alloc, typed) {
         Ok(isolated) => Ok(isolated),
         Err(CheckFault::Reports(program, reports)) => {
-            Err(rules_refusal(alloc, &program, reports.as_slice()))
+            let refusal = rules_refusal(alloc, &program, reports.as_slice());
+            drop(program);
+            drop(reports);
+            Err(refusal)
         }
         Err(CheckFault::Memory) => Err(Refusal::NoMemory),
     }

@@ -1,5 +1,5 @@
 -- What is to be done for a demo.
-use Rattle.std.proofs.Common.{◌≡◌, inr, ℕ, List, [], Result, Ok, Err, refl, sym, subst}
+use Rattle.std.proofs.Common.{◌≡◌, inr, ℕ, List, Result, Ok, Err, refl, sym, subst}
 use Rattle.std.specs.Prelude.{IfOk}
 use Rattle.kilim_units.specs.declared.memory.NoMemory.{NoMemory}
 use Rattle.kilim_classes.specs.declared.machine.run.Limits.{Limits}
@@ -11,7 +11,6 @@ use Rattle.kilim_stages.specs.declared.refusal.Refusal.{Refusal}
 use Rattle.kilim_stages.specs.declared.refusal.Refusal.TheVariants as refusal
 use Rattle.kilim_stages.specs.Parts.{Refused}
 use Rattle.kilim_outside.specs.words.Words.{Demo}
-use Rattle.kilim_written_files.specs.OutputFile.{OutputFile}
 use Rattle.kilim_top.specs.declared.answer.Ready.{Ready}
 use Rattle.kilim_top.specs.declared.answer.Ready.TheVariants as ready
 use Rattle.kilim_top.specs.demo.Demo.{demo_limits, IsDemoReport}
@@ -20,9 +19,14 @@ use Rattle.kilim_top.specs.Inside.Answer.{IsDemoReady, IsReadyFor, IsRefusedBy, 
 use Rattle.kilim_top.proofs.demo.Served.{line_is, served_by}
 
 -- the report of the stage that has a fault
-pub demo_refused : (number : ℕ) (r : Refusal) (status : ℕ) (made : List OutputFile) (text : List ℕ) → Refused r (IsDemoReport number) → IsRefusedBy r status made text → (status ≡ 1) × ((made ≡ []) × IsDemoReport number text)
-demo_refused number refusal.NoMemory status made text said by = absurd by
-demo_refused number (refusal.Report t) status made text said by = (by.0, (by.1.0, subst (λ (s : List ℕ). IsDemoReport number s) (sym by.1.1) said))
+refused_in : (number : ℕ) (r : Refusal) (d : Ready) → Refused r (IsDemoReport number) → IsRefusedBy r d → IsDemoReady number d
+refused_in number refusal.NoMemory d said by = absurd by
+refused_in number (refusal.Report t) (ready.Reply reply) said by = (by.0, (by.1.0, subst (λ (s : List ℕ). IsDemoReport number s) (sym by.1.1) said))
+refused_in number (refusal.Report t) (ready.Run plain woven class limits) said by = absurd by
+
+pub demo_refused : (number : ℕ) (r : Refusal) (d : Result Ready NoMemory) → Refused r (IsDemoReport number) → IfOk d (IsRefusedBy r) → IfOk d (IsDemoReady number)
+demo_refused number r (Ok d) said by = refused_in number r d said by
+demo_refused number r (Err e) said by = tt
 
 -- with the line of its run the work is done
 to_demo : (number workers : ℕ) (files : List (List ℕ)) (p : Program) (w : Woven) (main : ClassId) (limits : Limits) → IsReady number p w main → limits ≡ demo_limits → IsToRun (Demo number workers) files (setting_of p main limits) w

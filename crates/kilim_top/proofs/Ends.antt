@@ -3,7 +3,7 @@ use Rattle.std.proofs.Common.{◌≡◌, ◌⊎◌, ◌<◌, ◌≤◌, ℕ, Lis
 use Rattle.kilim_outside.specs.declared.folder.FailedCall.{FailedCall}
 use Rattle.kilim_outside.specs.Files.{Files}
 use Rattle.kilim_outside.specs.words.Words.{Request, files_read}
-use Rattle.kilim_top.specs.Inside.Reads.{OneFailed}
+use Rattle.kilim_top_parts.specs.Reads.{OneFailed}
 use Rattle.kilim_top.specs.Outcome.{FailedAtMost, HasReport, IsFit, Outside, Promises, shown}
 use Rattle.kilim_top.proofs.TopLaws.{not_still, some_work}
 

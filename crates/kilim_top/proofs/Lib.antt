@@ -1,15 +1,10 @@
-pub mod Texts
 pub mod Mains
 pub mod WholeRun
 pub mod Replies
 pub mod Checks
-pub mod Written
 pub mod TopLaws
-pub mod Named
-pub mod Counts
 pub mod Demos
 pub mod Responses
 pub mod Steady
 pub mod Ends
-pub mod Loops
 pub mod Served

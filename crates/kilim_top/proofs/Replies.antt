@@ -22,15 +22,17 @@ use Rattle.kilim_weaver.specs.declared.weaving.Woven.{Woven}
 use Rattle.kilim_outside.specs.words.Words.{Request, Check, Weave, Run, Demo}
 use Rattle.kilim_stages.specs.woven_stage.Laws.{WovenIsNotReported}
 use Rattle.kilim_stages.specs.woven_stage.Reports.{IsWovenReport}
-use Rattle.kilim_stages.specs.woven_stage.Stage.{IsWovenOf}
+use Rattle.kilim_stages.specs.woven_stage.Stage.{IsWithMain, IsWovenOf}
 use Rattle.kilim_stages.specs.declared.woven_stage.stage.WovenProgram.{WovenProgram}
 use Rattle.kilim_written_files.specs.OutputFile.{OutputFile}
 use Rattle.kilim_top.specs.declared.answer.Reply.{Reply}
 use Rattle.kilim_top.specs.declared.answer.Ready.{Ready}
 use Rattle.kilim_top.specs.declared.answer.Ready.TheVariants as ready
-use Rattle.kilim_top.specs.Inside.Answer.{demo_number, run_text, IsMainOf, IsNoMain, IsReadyFor, IsReadyOf, IsRefusedBy, IsReplyFor, IsToRun, IsWithoutMain}
-use Rattle.kilim_top.specs.Outcome.{IsDone, IsFitFor, IsFitRun, IsReport, limits_of}
-use Rattle.kilim_top.specs.Report.{accepted_line, coded_methods, main_line, utf16_of}
+use Rattle.kilim_top.specs.Inside.Answer.{IsMainOf, IsNoMain, IsReadyFor, IsReadyOf, IsRefusedBy, IsReplyFor, IsToRun, IsWithoutMain}
+use Rattle.kilim_top.specs.Outcome.{IsDone, IsFitFor, IsFitRun, IsReport, coded_methods}
+use Rattle.kilim_top_parts.specs.Report.{accepted_line, named_line, utf16_of}
+use Rattle.kilim_top_parts.specs.RunText.{demo_number, run_text}
+use Rattle.kilim_top_parts.specs.Words.{limits_of}
 use Rattle.kilim_thread_model.specs.State.{Setting}
 use Rattle.kilim_journal.specs.declared.entry.Entry.{Entry}
 use Rattle.kilim_top.specs.Served.{WovenIsServed}
@@ -71,29 +73,46 @@ fit_of (Demo number workers) files made text done = (done.1.program, done.1.acce
 
 -- ---- from an accepted program to the bytes of its files
 
-pub main_of : (p : WovenProgram) (main : List ℕ) (limits l : Limits) (class : ClassId) → fit_class_named p.plain (utf16_of main) ≡ Some class → l ≡ limits → IsMainOf p main limits (setting_of p.plain class l) p.woven
-main_of p main limits l class found same =
-    let f = fit_named p.plain (utf16_of main) class found in
-    record { is = ap (λ (x : Limits). setting_of p.plain class x) same; is_woven = refl; named = f.named; fit = f.fit }
+main_in : (p w : WovenProgram) (name : List ℕ) (limits : Limits) (class : ClassId) → w ≡ p → fit_class_named p.plain name ≡ Some class → IsMainOf p name limits (setting_of w.plain class limits) w.woven
+main_in p w name limits class same found =
+    let f = fit_named p.plain name class found in
+    subst (λ (v : WovenProgram). IsMainOf p name limits (setting_of v.plain class limits) v.woven) (sym same) (record { is = refl; is_woven = refl; named = f.named; fit = f.fit })
 
-pub no_class : (p : Program) (main : List ℕ) (status : ℕ) (made : List OutputFile) (text : List ℕ) → fit_class_named p (utf16_of main) ≡ None → text ≡ main_line main → status ≡ 1 → made ≡ [] → (status ≡ 1) × ((made ≡ []) × IsNoMain p main text)
-no_class p main status made text found is one none = (one, (none, record { none = none_named p (utf16_of main) found; is_text = is }))
+-- what is done with the main class, or without one
+pub main_of : (p w : WovenProgram) (seen name : List ℕ) (limits : Limits) (class : ClassId) (o : Option (WovenProgram × ClassId)) → o ≡ Some (w, class) → seen ≡ name → IsWithMain p seen o → IsMainOf p name limits (setting_of w.plain class limits) w.woven
+main_of p w seen name limits class o e same is =
+    let found = subst (λ (x : Option (WovenProgram × ClassId)). IsWithMain p seen x) e is in
+    main_in p w name limits class found.0 (subst (λ (n : List ℕ). fit_class_named p.plain n ≡ Some class) same found.1)
 
-pub without : (p : WovenProgram) (main : List ℕ) (limits : Limits) (r : Result Ready NoMemory) → fit_class_named p.plain (utf16_of main) ≡ None → IfOk r (IsWithoutMain main) → IfOk r (IsReadyOf p main limits)
-without p main limits (Ok (ready.Reply reply)) none h = no_class p.plain main reply.status reply.files.items reply.text.items none h.1.1 h.0 h.1.0
-without p main limits (Ok (ready.Run plain woven class l)) none h = absurd h
-without p main limits (Err e) none h = tt
+no_class : (p : Program) (name : List ℕ) (status : ℕ) (made : List OutputFile) (text : List ℕ) → fit_class_named p name ≡ None → text ≡ named_line name → status ≡ 1 → made ≡ [] → (status ≡ 1) × ((made ≡ []) × IsNoMain p name text)
+no_class p name status made text found is one none = (one, (none, record { none = none_named p name found; is_text = is }))
+
+without_in : (p : WovenProgram) (name : List ℕ) (limits : Limits) (r : Result Ready NoMemory) → fit_class_named p.plain name ≡ None → IfOk r (IsWithoutMain name) → IfOk r (IsReadyOf p name limits)
+without_in p name limits (Ok (ready.Reply reply)) none h = no_class p.plain name reply.status reply.files.items reply.text.items none h.1.1 h.0 h.1.0
+without_in p name limits (Ok (ready.Run plain woven class l)) none h = absurd h
+without_in p name limits (Err e) none h = tt
+
+pub without : (p : WovenProgram) (seen name : List ℕ) (limits : Limits) (r : Result Ready NoMemory) (o : Option (WovenProgram × ClassId)) → o ≡ None → seen ≡ name → IsWithMain p seen o → IfOk r (IsWithoutMain seen) → IfOk r (IsReadyOf p name limits)
+without p seen name limits r o e same is h =
+    without_in p name limits r (subst (λ (n : List ℕ). fit_class_named p.plain n ≡ None) same (subst (λ (x : Option (WovenProgram × ClassId)). IsWithMain p seen x) e is))
+    (subst (λ (n : List ℕ). IfOk r (IsWithoutMain n)) same h)
 
 module _ (law : AcceptedFilesAreIsolated) (serves : WovenIsServed) (files : List (List ℕ)) (few : length files ≤ 1000) where
-  ready_one : (main : List ℕ) (workers steps : ℕ) (args : List ℤ) (names : List (List ℕ)) (p : WovenProgram) (r : Ready) → IsWovenOf files p.plain p.woven → IsReadyOf p main (limits_of steps args) r → IsReadyFor (Run main workers steps args names) files r
+  ready_one : (main : List ℕ) (workers steps : ℕ) (args : List ℤ) (names : List (List ℕ)) (p : WovenProgram) (r : Ready) → IsWovenOf files p.plain p.woven → IsReadyOf p (utf16_of main) (limits_of steps args) r → IsReadyFor (Run main workers steps args names) files r
   ready_one main workers steps args names p (ready.Reply reply) of h =
       inr (h.0, (h.1.0, inr (inr (record { program = p.plain; accepted = of.accepted; weavable = of.none; none = h.1.1.none; is_text = h.1.1.is_text }))))
   ready_one main workers steps args names p (ready.Run plain woven class l) of h = to_run law serves files p few of main workers steps args names (setting_of plain class l) woven h
 
-  pub ready_run : (main : List ℕ) (workers steps : ℕ) (args : List ℤ) (names : List (List ℕ)) (p : WovenProgram) (r : Result Ready NoMemory) → IsWovenOf files p.plain p.woven →
-      IfOk r (IsReadyOf p main (limits_of steps args)) → IfOk r (IsReadyFor (Run main workers steps args names) files)
-  ready_run main workers steps args names p (Ok r) of h = ready_one main workers steps args names p r of h
-  ready_run main workers steps args names p (Err e) of h = tt
+  ready_of : (main : List ℕ) (workers steps : ℕ) (args : List ℤ) (names : List (List ℕ)) (p : WovenProgram) (r : Result Ready NoMemory) → IsWovenOf files p.plain p.woven →
+      IfOk r (IsReadyOf p (utf16_of main) (limits_of steps args)) → IfOk r (IsReadyFor (Run main workers steps args names) files)
+  ready_of main workers steps args names p (Ok r) of h = ready_one main workers steps args names p r of h
+  ready_of main workers steps args names p (Err e) of h = tt
+
+  pub ready_run : (main : List ℕ) (workers steps : ℕ) (args : List ℤ) (names : List (List ℕ)) (name : List ℕ) (limits : Limits) (p : WovenProgram) (r : Result Ready NoMemory) → name ≡ utf16_of main → limits ≡ limits_of steps args →
+      IsWovenOf files p.plain p.woven → IfOk r (IsReadyOf p name limits) → IfOk r (IsReadyFor (Run main workers steps args names) files)
+  ready_run main workers steps args names name limits p r named limited of h =
+      ready_of main workers steps args names p r of
+      (subst (λ (n : List ℕ). IfOk r (IsReadyOf p n (limits_of steps args))) named (subst (λ (l : Limits). IfOk r (IsReadyOf p name l)) limited h))
 
 pub check_done : (names files : List (List ℕ)) (p : Program) (status : ℕ) (made : List OutputFile) (text : List ℕ) → AcceptedFilesAreIsolated → length files ≤ 1000 → IsAcceptedOf files p → status ≡ 0 → made ≡ [] →
     text ≡ accepted_line (length files) (coded_methods p) → IsReplyFor (Check names) files status made text
@@ -111,26 +130,24 @@ ran work files set w demo es (Ok reply) to same is zero none text = inl (zero, r
 ran work files set w demo es (Err e) to same is zero none text = tt
 
 -- a report of the stages
-refused_one : (work : Request) (files : List (List ℕ)) (r : Refusal) (status : ℕ) (made : List OutputFile) (text : List ℕ) → Refused r (IsReport work files) → IsRefusedBy r status made text → IsReplyFor work files status made text
-refused_one work files refusal.NoMemory status made text said by = absurd by
-refused_one work files (refusal.Report t) status made text said by = inr (by.0, (by.1.0, subst (λ (s : List ℕ). IsReport work files s) (sym by.1.1) said))
+refused_one : (work : Request) (files : List (List ℕ)) (r : Refusal) (d : Ready) → Refused r (IsReport work files) → IsRefusedBy r d → IsReadyFor work files d
+refused_one work files refusal.NoMemory d said by = absurd by
+refused_one work files (refusal.Report t) (ready.Reply reply) said by = inr (by.0, (by.1.0, subst (λ (s : List ℕ). IsReport work files s) (sym by.1.1) said))
+refused_one work files (refusal.Report t) (ready.Run plain woven class limits) said by = absurd by
 
-refused_reply : (work : Request) (files : List (List ℕ)) (refusal : Refusal) (r : Result Reply NoMemory) → Refused refusal (IsReport work files) → IfOk r (λ reply. IsRefusedBy refusal reply.status reply.files.items reply.text.items) →
-    IfOk r (λ reply. IsReplyFor work files reply.status reply.files.items reply.text.items)
-refused_reply work files refusal (Ok reply) said by = refused_one work files refusal reply.status reply.files.items reply.text.items said by
-refused_reply work files refusal (Err e) said by = tt
+refused_ready : (work : Request) (files : List (List ℕ)) (refusal : Refusal) (r : Result Ready NoMemory) → Refused refusal (IsReport work files) → IfOk r (IsRefusedBy refusal) → IfOk r (IsReadyFor work files)
+refused_ready work files refusal (Ok d) said by = refused_one work files refusal d said by
+refused_ready work files refusal (Err e) said by = tt
 
 refused_as : (A B : List ℕ → Type 0) (r : Refusal) → ((text : List ℕ) → A text → B text) → Refused r A → Refused r B
 refused_as A B refusal.NoMemory f said = tt
 refused_as A B (refusal.Report t) f said = f t.items said
 
-pub refused_check : (names files : List (List ℕ)) (refusal : Refusal) (r : Result Reply NoMemory) → Refused refusal (IsStageReport names files) → IfOk r (λ reply. IsRefusedBy refusal reply.status reply.files.items reply.text.items) →
-    IfOk r (λ reply. IsReplyFor (Check names) files reply.status reply.files.items reply.text.items)
-refused_check names files refusal r said by = refused_reply (Check names) files refusal r (refused_as (IsStageReport names files) (IsReport (Check names) files) refusal (λ text report. report) said) by
+pub refused_check : (names files : List (List ℕ)) (refusal : Refusal) (r : Result Ready NoMemory) → Refused refusal (IsStageReport names files) → IfOk r (IsRefusedBy refusal) → IfOk r (IsReadyFor (Check names) files)
+refused_check names files refusal r said by = refused_ready (Check names) files refusal r (refused_as (IsStageReport names files) (IsReport (Check names) files) refusal (λ text report. report) said) by
 
-pub refused_weave : (to : List ℕ) (names files : List (List ℕ)) (refusal : Refusal) (r : Result Reply NoMemory) → Refused refusal (IsWeaveReport names files) → IfOk r (λ reply. IsRefusedBy refusal reply.status reply.files.items reply.text.items) →
-    IfOk r (λ reply. IsReplyFor (Weave to names) files reply.status reply.files.items reply.text.items)
-refused_weave to names files refusal r said by = refused_reply (Weave to names) files refusal r (refused_as (IsWeaveReport names files) (IsReport (Weave to names) files) refusal (λ text report. report) said) by
+pub refused_weave : (to : List ℕ) (names files : List (List ℕ)) (refusal : Refusal) (r : Result Ready NoMemory) → Refused refusal (IsWeaveReport names files) → IfOk r (IsRefusedBy refusal) → IfOk r (IsReadyFor (Weave to names) files)
+refused_weave to names files refusal r said by = refused_ready (Weave to names) files refusal r (refused_as (IsWeaveReport names files) (IsReport (Weave to names) files) refusal (λ text report. report) said) by
 
 run_report : (main : List ℕ) (workers steps : ℕ) (args : List ℤ) (names files : List (List ℕ)) (text : List ℕ) → IsWovenReport names files text → IsReport (Run main workers steps args names) files text
 run_report main workers steps args names files text (inl stage) = inl stage
@@ -140,9 +157,9 @@ run_refused : (main : List ℕ) (workers steps : ℕ) (args : List ℤ) (names f
 run_refused main workers steps args names files refusal.NoMemory said = tt
 run_refused main workers steps args names files (refusal.Report t) said = run_report main workers steps args names files t.items said
 
-pub refused_run : (main : List ℕ) (workers steps : ℕ) (args : List ℤ) (names files : List (List ℕ)) (refusal : Refusal) (r : Result Reply NoMemory) → Refused refusal (IsWovenReport names files) → IfOk r (λ reply. IsRefusedBy refusal reply.status reply.files.items reply.text.items) →
-    IfOk r (λ reply. IsReplyFor (Run main workers steps args names) files reply.status reply.files.items reply.text.items)
-refused_run main workers steps args names files refusal r said by = refused_reply (Run main workers steps args names) files refusal r (run_refused main workers steps args names files refusal said) by
+pub refused_run : (main : List ℕ) (workers steps : ℕ) (args : List ℤ) (names files : List (List ℕ)) (refusal : Refusal) (r : Result Ready NoMemory) → Refused refusal (IsWovenReport names files) → IfOk r (IsRefusedBy refusal) →
+    IfOk r (IsReadyFor (Run main workers steps args names) files)
+refused_run main workers steps args names files refusal r said by = refused_ready (Run main workers steps args names) files refusal r (run_refused main workers steps args names files refusal said) by
 
 -- woven files
 pub woven_reply : (to : List ℕ) (names files : List (List ℕ)) (made : List OutputFile) (text : List ℕ) → AcceptedFilesAreIsolated → length files ≤ 1000 → IsWeaving to files made text → IsReplyFor (Weave to names) files 0 made text

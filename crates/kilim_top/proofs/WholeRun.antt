@@ -17,8 +17,9 @@ use Rattle.kilim_weaving_laws.specs.Served.{CanServe}
 use Rattle.kilim_stages.specs.woven_stage.Stage.{IsWovenOf}
 use Rattle.kilim_stages.specs.declared.woven_stage.stage.WovenProgram.{WovenProgram}
 use Rattle.kilim_top.specs.Inside.Answer.{IsMainOf, IsTextOf, IsToRun}
-use Rattle.kilim_top.specs.Outcome.{IsFitRun, IsIsolatedRun, IsWholeRun, limits_of}
-use Rattle.kilim_top.specs.Report.{utf16_of}
+use Rattle.kilim_top.specs.Outcome.{IsFitRun, IsIsolatedRun, IsWholeRun}
+use Rattle.kilim_top_parts.specs.Report.{utf16_of}
+use Rattle.kilim_top_parts.specs.Words.{limits_of}
 
 fit_run : (main : List ℕ) (files : List (List ℕ)) (p : Program) (class : ClassId) → IsAcceptedOf files p → weave_fault p ≡ None → class_named p (utf16_of main) ≡ Some class → is_fit_main p class ≡ true → IsFitRun main files
 fit_run main files p class of none named fit = record { program = p; accepted = of; none = none; class = class; named = named; fit = fit }
@@ -46,7 +47,7 @@ module _ (law : AcceptedFilesAreIsolated) (serves : WovenIsServed) (files : List
   isolated : (class : ClassId) (limits : Limits) → is_fit_main p.plain class ≡ true → IsIsolatedRun p.plain class limits
   isolated class limits fit = λ live sound. law files p.plain few of.accepted class fit limits live sound
 
-  pub to_run : (main : List ℕ) (workers steps : ℕ) (args : List ℤ) (names : List (List ℕ)) (set : Setting) (w : Woven) → IsMainOf p main (limits_of steps args) set w → IsToRun (Run main workers steps args names) files set w
+  pub to_run : (main : List ℕ) (workers steps : ℕ) (args : List ℤ) (names : List (List ℕ)) (set : Setting) (w : Woven) → IsMainOf p (utf16_of main) (limits_of steps args) set w → IsToRun (Run main workers steps args names) files set w
   to_run main workers steps args names set w is = record {
     served = served set.main (limits_of steps args) set w is.fit is.is is.is_woven;
     done = λ text run. (

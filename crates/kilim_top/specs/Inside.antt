@@ -1,4 +1,3 @@
 -- How the code computes what it answers. No clause of `kilim` cites what stands in this folder.
 pub mod Answer
 pub mod Respond
-pub mod Reads

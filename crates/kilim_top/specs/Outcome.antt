@@ -1,6 +1,7 @@
 -- What the top call promises: what each status says of what was read, and of what was written. From `Promises` it is three
 -- steps to what a whole run is: `WroteText`, `IsWholeRun`, and `Whole` of kilim_thread_model.
-use Rattle.std.specs.Prelude.{◌≡◌, ℕ, ℤ, true, List, [], ◌∷◌, ◌++◌, take, map, length, Option, Some, None, Contains, ◌≤◌, ◌↔◌, ◌⊎◌}
+use Rattle.std.specs.Prelude.{◌≡◌, ℕ, true, List, [], ◌∷◌, ◌++◌, take, map, length, Option, Some, None, Contains, ◌≤◌, ◌↔◌, ◌⊎◌}
+use Rattle.std.specs.List.{filter}
 use Rattle.kilim_classes.specs.Program.{Program}
 use Rattle.kilim_classes.specs.declared.class.Method.{Method}
 use Rattle.kilim_classes.specs.declared.names.ClassId.{ClassId}
@@ -18,7 +19,7 @@ use Rattle.kilim_classes.specs.machine.Members.{is_fit_main}
 use Rattle.kilim_thread_model.specs.Reach.{Liveness, PlaysIsolated}
 use Rattle.kilim_thread_model.specs.Runs.{Whole}
 use Rattle.kilim_thread_model.specs.State.{Setting}
-use Rattle.kilim_typing.specs.Typed.{Live}
+use Rattle.kilim_typing.specs.Typed.{Live, has_code}
 use Rattle.kilim_outside.specs.words.Words.{Request, Check, Weave, Run, Demo, files_read}
 use Rattle.kilim_written_files.specs.OutputFile.{OutputFile}
 use Rattle.kilim_written_files.specs.Written.{HasFailed, StoppedAtFile, WroteFiles}
@@ -29,13 +30,11 @@ use Rattle.kilim_stages.specs.woven_stage.Reports.{IsMethodReport}
 use Rattle.kilim_top.specs.demo.Demo.{demo_texts, IsDemoLine, IsDemoReport}
 use Rattle.kilim_stages.specs.Accepted.{IsAcceptedOf}
 use Rattle.kilim_stages.specs.Reports.{IsStageReport}
-use Rattle.kilim_top.specs.declared.status.TheConstants.{DONE, REPORTED, USAGE, UNREAD, UNWRITTEN, NO_MEMORY}
-use Rattle.kilim_top.specs.Writing.{AppendedFront}
-use Rattle.kilim_top.specs.Report.{utf16_of, main_line, accepted_line, coded_methods}
-
--- the limits that the words give
-abbrev pub limits_of : ℕ → List ℤ → Limits
-limits_of steps args = record { steps = steps; args = args }
+use Rattle.kilim_top_parts.specs.declared.status.TheConstants.{DONE, REPORTED, USAGE, UNREAD, UNWRITTEN, NO_MEMORY}
+use Rattle.kilim_top_parts.specs.Reads.{WereRead}
+use Rattle.kilim_top_parts.specs.Report.{utf16_of, main_line, accepted_line}
+use Rattle.kilim_top_parts.specs.Words.{limits_of}
+use Rattle.kilim_top_parts.specs.Writing.{AppendedFront}
 
 -- what is run
 abbrev pub run_of : Program → ClassId → Limits → Setting
@@ -74,6 +73,10 @@ pub record IsFitRun (main : List ℕ) (files : List (List ℕ)) : Type 0 where
   pub class : ClassId
   pub named : class_named program (utf16_of main) ≡ Some class
   pub fit : is_fit_main program class ≡ true
+
+-- how many of a program's methods have code
+abbrev pub coded_methods : Program → ℕ
+coded_methods p = length (filter has_code p.methods)
 
 -- the class files link to an accepted program, none of whose runs shares an object, and this is its line
 pub record IsCheck (files : List (List ℕ)) (text : List ℕ) : Type 0 where
@@ -120,19 +123,6 @@ IsReport (Check names) files text = IsStageReport names files text
 IsReport (Weave to names) files text = IsWeaveReport names files text
 IsReport (Run main workers steps args names) files text = IsStageReport names files text ⊎ (IsMethodReport files text ⊎ IsMainReport main files text)
 IsReport (Demo number workers) files text = IsDemoReport number text
-
--- ---- what was read
-
--- Where the folder tells, what was read is what it held, of each file. Where it doesn't, this says only that there are
--- bytes for each name.
-abbrev pub WasRead : Option Files → List ℕ → List ℕ → Type 0
-WasRead None name bytes = Unit {0}
-WasRead (Some held) name bytes = bytes ≡ take file_limit (content_of held name)
-
-abbrev pub WereRead : Option Files → List (List ℕ) → List (List ℕ) → Type 0
-WereRead contents [] [] = Unit {0}
-WereRead contents (name ∷ names) (bytes ∷ files) = WasRead contents name bytes × WereRead contents names files
-WereRead contents names files = ⊥
 
 -- ---- the outside
 

@@ -1,4 +1,2 @@
-pub mod Line
-pub mod Kinds
 pub mod Demo
 pub mod Ready

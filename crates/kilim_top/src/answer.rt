@@ -2,25 +2,18 @@
 
 ghost use Rattle.std.specs.Prelude.{◌≡◌, ◌≤◌, IfOk, length, map};
 ghost use Rattle.std.specs.String.{string_bytes};
-ghost use Rattle.kilim_classes.specs.main_class.Main.{fit_class_named};
-ghost use Rattle.kilim_typing.specs.Typed.{has_code};
 ghost use Rattle.kilim_outside.specs.words.Parts.{meant, numbers_of};
 ghost use Rattle.kilim_outside.specs.words.Words.{Check, Run, Weave, files_read};
-ghost use Rattle.kilim_top.specs.Report.{utf16_of, accepted_line, coded_methods};
-ghost use Rattle.kilim_top.specs.Inside.Answer.{IsReadyFor, IsReadyOf, IsRefusedBy, IsReplyFor, IsStartOf, IsWithoutMain};
-ghost use Rattle.kilim_top.specs.Outcome.{limits_of};
+ghost use Rattle.kilim_top.specs.Inside.Answer.{IsReadyFor, IsReadyOf, IsRefusedBy, IsWithoutMain};
 
 use crate::demo::demo_ready;
 use crate::laws::woven_is_served;
-use crate::report::{accepted_line, no_main, utf16_of};
-use crate::status::{DONE, REPORTED};
 use kilim_classes::machine::Limits;
-use kilim_classes::main_class::fit_main;
-use kilim_classes::{ClassId, Method, Program};
-use kilim_isolation_check::Isolated;
-use kilim_outside::words::{Asked, RunWords, WeaveWords, integers};
-use kilim_stages::woven_stage::{WovenProgram, woven_program};
-use kilim_stages::{Refusal, accepted};
+use kilim_classes::{ClassId, Program};
+use kilim_outside::words::{Asked, RunWords, WeaveWords};
+use kilim_stages::woven_stage::{WovenProgram, with_main, woven_program};
+use kilim_stages::{Refusal, accepted, coded_methods};
+use kilim_top_parts::{DONE, REPORTED, Start, accepted_line, no_main, start_of};
 use kilim_units::{NoMemory, Seq};
 use kilim_weave_command::{accepted_files_are_isolated, weave_files};
 use kilim_weaver::Woven;
@@ -43,42 +36,11 @@ pub enum Ready {
     Run(Program, Woven, ClassId, Limits),
 }
 
-// The class of that name, if it is fit to be the main class.
-fn main_in(alloc: Global, program: &Program, main: &str) -> Result<Option<ClassId>, NoMemory>
-    ensures { IfOk result (λ found. found ≡ fit_class_named program.now (utf16_of main.now)) }
-{
-    let units = utf16_of(alloc, main)?;
-    fit_main(program, units.as_slice())
-}
-
-// The main class of a run and its limits, or there is no class of that name that is fit.
-fn start_of(
-    alloc: Global,
-    words: &RunWords<'_>,
-    program: &Program,
-) -> Result<Option<(ClassId, Limits)>, NoMemory>
-    ensures { IfOk result (λ start. IsStartOf program.now words.now.main.now (limits_of words.now.steps (numbers_of (map string_bytes words.now.args.now))) start) }
-{
-    match main_in(alloc, program, words.main)? {
-        Some(class) => {
-            let args = integers(alloc, words.args)?;
-            Ok(Some((
-                class,
-                Limits {
-                    steps: words.steps,
-                    args,
-                },
-            )))
-        }
-        None => Ok(None),
-    }
-}
-
 // No class of that name is fit to be the main class.
-fn without_main(alloc: Global, main: &str) -> Result<Ready, NoMemory>
-    ensures { IfOk result (IsWithoutMain main.now) }
+fn without_main(alloc: Global, name: &[u16]) -> Result<Ready, NoMemory>
+    ensures { IfOk result (IsWithoutMain name.now) }
 {
-    let text = no_main(alloc, main)?;
+    let text = no_main(alloc, name)?;
     Ok(Ready::Reply(Reply {
         status: REPORTED,
         files: Vec::new(alloc),
@@ -87,36 +49,27 @@ fn without_main(alloc: Global, main: &str) -> Result<Ready, NoMemory>
 }
 
 // What is to be done for an accepted program, woven, that is to be run.
-fn program_ready(
-    alloc: Global,
-    words: &RunWords<'_>,
-    program: WovenProgram,
-) -> Result<Ready, NoMemory>
-    ensures { IfOk result (λ ready. IsReadyOf program words.now.main.now (limits_of words.now.steps (numbers_of (map string_bytes words.now.args.now))) ready) }
+fn program_ready(alloc: Global, start: Start, program: WovenProgram) -> Result<Ready, NoMemory>
+    ensures { IfOk result (IsReadyOf program start.main.items start.limits) }
 {
-    match start_of(alloc, words, &program.plain) {
-        Ok(Some((class, limits))) => Ok(Ready::Run(program.plain, program.woven, class, limits)),
-        Ok(None) => {
-            drop(program);
-            without_main(alloc, words.main)
-        }
-        Err(_) => {
-            drop(program);
-            Err(NoMemory)
-        }
+    let name = start.main.as_slice();
+    match with_main(program, name) {
+        Ok(Some((found, class))) => Ok(Ready::Run(found.plain, found.woven, class, start.limits)),
+        Ok(None) => without_main(alloc, name),
+        Err(_) => Err(NoMemory),
     }
 }
 
-/// What is answered where the stages refuse.
-pub fn refused(alloc: Global, refusal: Refusal) -> Result<Reply, NoMemory>
-    ensures { IfOk result (λ reply. IsRefusedBy refusal reply.status reply.files.items reply.text.items) }
+/// What is to be done where the stages refuse: their report is to be written.
+pub fn refused(alloc: Global, refusal: Refusal) -> Result<Ready, NoMemory>
+    ensures { IfOk result (IsRefusedBy refusal) }
 {
     match refusal {
-        Refusal::Report(text) => Ok(Reply {
+        Refusal::Report(text) => Ok(Ready::Reply(Reply {
             status: REPORTED,
             files: Vec::new(alloc),
             text,
-        }),
+        })),
         Refusal::NoMemory => Err(NoMemory),
     }
 }
@@ -129,75 +82,47 @@ fn run_ready(alloc: Global, words: &RunWords<'_>, files: &[Seq<u8>]) -> Result<R
 {
     accepted_files_are_isolated();
     woven_is_served();
+    let start = start_of(alloc, words)?;
     match woven_program(alloc, words.files, files) {
-        Ok(program) => program_ready(alloc, words, program),
-        Err(refusal) => {
-            let reply = refused(alloc, refusal)?;
-            Ok(Ready::Reply(reply))
-        }
+        Ok(program) => program_ready(alloc, start, program),
+        Err(refusal) => refused(alloc, refusal),
     }
 }
 
-fn has_code(method: &Method) -> bool
-    ensures { result ≡ has_code method.now }
-{
-    !method.code.is_empty()
-}
-
-// How many of a program's methods have code.
-fn coded_methods(program: &Program) -> usize
-    ensures { result ≡ coded_methods program.now }
-{
-    let mut count = 0usize;
-    for method in program.methods.as_slice() {
-        if has_code(method) {
-            count += 1;
-        }
-    }
-    count
-}
-
-// The same of a program that was accepted.
-fn methods_of(isolated: Isolated) -> usize
-    ensures { result ≡ coded_methods isolated.typed.program }
-{
-    coded_methods(&isolated.typed.program)
-}
-
-// What is answered for the bytes of files that are to be checked.
-fn check_reply(alloc: Global, names: &[String], files: &[Seq<u8>]) -> Result<Reply, NoMemory>
+// What is to be done for the bytes of files that are to be checked.
+fn check_ready(alloc: Global, names: &[String], files: &[Seq<u8>]) -> Result<Ready, NoMemory>
     requires few { length files.now ≤ 1000 }
     requires same { length names.now ≡ length files.now }
-    ensures { IfOk result (λ reply. IsReplyFor (Check (map string_bytes names.now)) files.now reply.status reply.files.items reply.text.items) }
+    ensures { IfOk result (λ ready. IsReadyFor (Check (map string_bytes names.now)) files.now ready) }
 {
     accepted_files_are_isolated();
     match accepted(alloc, names, files) {
         Ok(isolated) => {
-            let methods = methods_of(isolated);
+            let methods = coded_methods(isolated);
             let text = accepted_line(alloc, files.len(), methods)?;
-            Ok(Reply {
+            Ok(Ready::Reply(Reply {
                 status: DONE,
                 files: Vec::new(alloc),
                 text,
-            })
+            }))
         }
         Err(refusal) => refused(alloc, refusal),
     }
 }
 
-// What is answered for the bytes of files that are to be woven.
-fn weave_reply(alloc: Global, words: &WeaveWords<'_>, files: &[Seq<u8>]) -> Result<Reply, NoMemory>
+// What is to be done for the bytes of files that are to be woven.
+fn weave_ready(alloc: Global, words: &WeaveWords<'_>, files: &[Seq<u8>]) -> Result<Ready, NoMemory>
     requires few { length files.now ≤ 1000 }
     requires same { length words.now.files.now ≡ length files.now }
-    ensures { IfOk result (λ reply. IsReplyFor (Weave words.now.to.now (map string_bytes words.now.files.now)) files.now reply.status reply.files.items reply.text.items) }
+    ensures { IfOk result (λ ready. IsReadyFor (Weave words.now.to.now (map string_bytes words.now.files.now)) files.now ready) }
 {
     accepted_files_are_isolated();
     match weave_files(alloc, words.to, words.files, files) {
-        Ok(output) => Ok(Reply {
+        Ok(output) => Ok(Ready::Reply(Reply {
             status: DONE,
             files: output.files,
             text: output.text,
-        }),
+        })),
         Err(refusal) => refused(alloc, refusal),
     }
 }
@@ -209,14 +134,8 @@ pub fn prepare(alloc: Global, asked: &Asked<'_>, files: &[Seq<u8>]) -> Result<Re
     ensures { IfOk result (λ ready. IsReadyFor (meant asked.now) files.now ready) }
 {
     match asked {
-        Asked::Check(names) => {
-            let reply = check_reply(alloc, names, files)?;
-            Ok(Ready::Reply(reply))
-        }
-        Asked::Weave(words) => {
-            let reply = weave_reply(alloc, words, files)?;
-            Ok(Ready::Reply(reply))
-        }
+        Asked::Check(names) => check_ready(alloc, names, files),
+        Asked::Weave(words) => weave_ready(alloc, words, files),
         Asked::Run(words) => run_ready(alloc, words, files),
         Asked::Demo(words) => demo_ready(alloc, words.number),
     }

@@ -1,8 +1,5 @@
-//! The demo: class files made from a number, the program to which they link, and the line of its run.
+//! The demo: class files made from a number, and the program to which they link.
 
-mod line;
 mod prepared;
-mod texts;
 
-pub use line::demo_line;
-pub(crate) use prepared::demo_ready;
+pub use prepared::demo_ready;

@@ -3,16 +3,14 @@
 #![tactic(auto)]
 
 mod answer;
-pub mod demo;
-mod inputs;
+mod demo;
 mod laws;
-mod report;
+mod program;
 mod runs;
-mod status;
 mod top;
 mod work;
-mod writing;
 
+pub use kilim_top_parts::{DONE, NO_MEMORY, REPORTED, UNREAD, UNWRITTEN, USAGE};
 pub use laws::woven_is_served;
-pub use status::{DONE, NO_MEMORY, REPORTED, UNREAD, UNWRITTEN, USAGE};
+pub use program::command;
 pub use top::{kilim, kilim_alone, kilim_in_memory};

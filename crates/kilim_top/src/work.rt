@@ -8,14 +8,12 @@ ghost use Rattle.kilim_top.specs.Inside.Respond.{Responded};
 ghost use Rattle.kilim_top.specs.Outcome.{Promises, shown};
 
 use crate::answer::Reply;
-use crate::inputs::read_all;
 use crate::runs::{reply_alone, reply_with};
-use crate::status::{NO_MEMORY, UNREAD, UNWRITTEN};
-use crate::writing::write_all;
 use kilim_outside::words::Asked;
 use kilim_outside::{Folder, FolderFault, Gate, SinkFault, TextSink};
 use kilim_stages::woven_stage::woven_is_not_reported;
 use kilim_stages::{never_both, one_program_of};
+use kilim_top_parts::{NO_MEMORY, UNREAD, UNWRITTEN, read_all, write_all};
 use kilim_units::Seq;
 use kilim_weave_command::never_weavable_and_reported;
 use kilim_written_files::write_files;

@@ -1,7 +1,10 @@
 -- The accepted program of some class files, and its woven form.
-use Rattle.std.specs.Prelude.{◌≡◌, ℕ, List, None}
+use Rattle.std.specs.Prelude.{◌≡◌, ℕ, List, Option, Some, None}
+use Rattle.kilim_classes.specs.declared.names.ClassId.{ClassId}
+use Rattle.kilim_classes.specs.main_class.Main.{fit_class_named}
 use Rattle.kilim_classes.specs.Program.{Program}
 use Rattle.kilim_stages.specs.Accepted.{IsAcceptedOf}
+use Rattle.kilim_stages.specs.declared.woven_stage.stage.WovenProgram.{WovenProgram}
 use Rattle.kilim_weaver.specs.declared.weaving.Woven.{Woven}
 use Rattle.kilim_weaver.specs.Faults.{weave_fault}
 use Rattle.kilim_weaver.specs.Weaves.{Weaves}
@@ -11,3 +14,8 @@ pub record IsWovenOf (files : List (List ℕ)) (p : Program) (w : Woven) : Type 
   pub accepted : IsAcceptedOf files p
   pub none : weave_fault p ≡ None
   pub weaves : Weaves p w
+
+-- this program with its main class of that name, or it has none that is fit
+abbrev pub IsWithMain : WovenProgram → List ℕ → Option (WovenProgram × ClassId) → Type 0
+IsWithMain program name None = fit_class_named program.plain name ≡ None
+IsWithMain program name (Some found) = (found.0 ≡ program) × (fit_class_named program.plain name ≡ Some found.1)

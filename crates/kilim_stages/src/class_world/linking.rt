@@ -173,7 +173,11 @@ pub fn link(alloc: Global, files: &[ClassFile], form: Form) -> Result<Program, L
     ensures { IsLinkOf files.now form result }
 {
     match World::new(alloc, files, form) {
-        Ok(world) => link_in(alloc, &world, files, form),
+        Ok(world) => {
+            let linked = link_in(alloc, &world, files, form);
+            drop(world);
+            linked
+        }
         Err(_) => Err(LinkFault::Memory),
     }
 }

@@ -46,7 +46,11 @@ fn woven_or_line(
             plain: program,
             woven,
         }),
-        Err(fault) => Err(method_refusal(alloc, &program, fault)),
+        Err(fault) => {
+            let refusal = method_refusal(alloc, &program, fault);
+            drop(program);
+            Err(refusal)
+        }
     }
 }
 

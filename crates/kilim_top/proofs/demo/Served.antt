@@ -1,15 +1,13 @@
 -- The runs of an accepted demo can be made.
-use Rattle.std.proofs.Common.{◌≡◌, ◌≤◌, ℕ, Bool, true, false, cond, List, Option, Some, None, Result, Ok, Err, length, refl, sym, subst, arith}
+use Rattle.std.proofs.Common.{◌≡◌, ◌≤◌, ℕ, List, Option, Some, Result, Ok, Err, length, sym, subst, arith}
 use Rattle.std.proofs.lemmas.List.{length-map}
 use Rattle.std.specs.Prelude.{IfOk}
 use Rattle.kilim_classes.specs.declared.names.ClassId.{ClassId}
-use Rattle.kilim_classes.specs.Names.{class_named}
 use Rattle.kilim_classes.specs.Program.{Program}
 use Rattle.kilim_classfile.specs.Text.{class_text}
 use Rattle.kilim_journal.specs.declared.entry.Entry.{Entry}
-use Rattle.kilim_classes.specs.main_class.Main.{fit_class_named, if_fit}
+use Rattle.kilim_classes.specs.main_class.Main.{fit_class_named}
 use Rattle.kilim_classes.specs.declared.machine.run.Limits.{Limits}
-use Rattle.kilim_classes.specs.machine.Members.{is_fit_main}
 use Rattle.kilim_program_maker.specs.Demo.{demo_of}
 use Rattle.kilim_program_maker.specs.Laws.{DemoIsShort}
 use Rattle.kilim_stages.specs.declared.refusal.Refusal.{Refusal}
@@ -19,42 +17,30 @@ use Rattle.kilim_top.specs.Served.{WovenIsServed}
 use Rattle.kilim_whole_runs.specs.Runs.{IsJournalOf, setting_of}
 use Rattle.kilim_weaving_laws.specs.Served.{CanServe}
 use Rattle.kilim_stages.specs.declared.woven_stage.stage.WovenProgram.{WovenProgram}
-use Rattle.kilim_stages.specs.woven_stage.Stage.{IsWovenOf}
-use Rattle.kilim_top.specs.demo.Line.{demo_line}
+use Rattle.kilim_stages.specs.woven_stage.Stage.{IsWithMain, IsWovenOf}
+use Rattle.kilim_top_parts.specs.DemoLine.{demo_line}
 use Rattle.kilim_top.specs.demo.Demo.{demo_limits, demo_texts, main_name, IsDemoLine}
 use Rattle.kilim_top.specs.demo.Ready.{IsReady}
+use Rattle.kilim_top.proofs.Mains.{fit_named}
 
 -- there are not too many to be linked
 pub few_texts : DemoIsShort → (number : ℕ) → length (demo_texts number) ≤ 1000
 unfolding demo_texts
 few_texts short number = let P : ℕ → Type 0 = λ n. n ≤ 1000 in subst P (sym (length-map (demo_of number) class_text)) (omega (arith, short number))
 
-some_is : (a b : ClassId) → Some a ≡ Some b → a ≡ b
-some_is a b e = cc
-
-picked : (p : Program) (a c : ClassId) (b : Bool) → is_fit_main p a ≡ b → cond b (Some a) None ≡ Some c → is_fit_main p c ≡ true
-picked p a c true e same = subst (λ (x : ClassId). is_fit_main p x ≡ true) (some_is a c same) e
-picked p a c false e same = absurd (cc)
-
-fit_in : (p : Program) (o : Option ClassId) (c : ClassId) → if_fit p o ≡ Some c → is_fit_main p c ≡ true
-fit_in p None c e = absurd (cc)
-fit_in p (Some a) c e = picked p a c (is_fit_main p a) refl e
-
-chosen : (a c : ClassId) (b : Bool) → cond b (Some a) None ≡ Some c → Some a ≡ Some c
-chosen a c true e = e
-chosen a c false e = absurd (cc)
-
-named_in : (p : Program) (o : Option ClassId) (c : ClassId) → if_fit p o ≡ Some c → o ≡ Some c
-named_in p None c e = e
-named_in p (Some a) c e = chosen a c (is_fit_main p a) e
-
-pub is_ready : WovenIsServed → DemoIsShort → (number : ℕ) (p : Program) (w : Woven) (main : ClassId) → IsWovenOf (demo_texts number) p w → fit_class_named p main_name ≡ Some main → IsReady number p w main
+is_ready : WovenIsServed → DemoIsShort → (number : ℕ) (p : Program) (w : Woven) (main : ClassId) → IsWovenOf (demo_texts number) p w → fit_class_named p main_name ≡ Some main → IsReady number p w main
 is_ready law short number p w main is fit = record {
   accepted = is.accepted;
   none = is.none;
   fit = fit;
-  served = law (demo_texts number) p w (few_texts short number) is.accepted is.weaves main (fit_in p (class_named p main_name) main fit) demo_limits;
+  served = law (demo_texts number) p w (few_texts short number) is.accepted is.weaves main (fit_named p main_name main fit).fit demo_limits;
 }
+
+pub ready_with : WovenIsServed → DemoIsShort → (number : ℕ) (p w : WovenProgram) (main : ClassId) (o : Option (WovenProgram × ClassId)) → o ≡ Some (w, main) → IsWovenOf (demo_texts number) p.plain p.woven → IsWithMain p main_name o → IsReady number w.plain w.woven main
+ready_with law short number p w main o e is has =
+    let found = subst (λ (x : Option (WovenProgram × ClassId)). IsWithMain p main_name x) e has in
+    is_ready law short number w.plain w.woven main (subst (λ (v : WovenProgram). IsWovenOf (demo_texts number) v.plain v.woven) (sym found.0) is)
+    (subst (λ (v : WovenProgram). fit_class_named v.plain main_name ≡ Some main) (sym found.0) found.1)
 
 -- ---- runs
 
@@ -67,8 +53,8 @@ line_is number p w main limits journal text ready e run is = record {
   accepted = ready.accepted;
   none = ready.none;
   main = main;
-  named = named_in p (class_named p main_name) main ready.fit;
-  fit = fit_in p (class_named p main_name) main ready.fit;
+  named = (fit_named p main_name main ready.fit).named;
+  fit = (fit_named p main_name main ready.fit).fit;
   journal = journal;
   whole = subst (λ (l : Limits). Whole (setting_of p main l) journal) e run.whole;
   is_text = is;

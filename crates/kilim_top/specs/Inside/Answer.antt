@@ -1,41 +1,27 @@
 -- What is answered for an accepted program, and for the bytes of files.
-use Rattle.std.specs.Prelude.{◌≡◌, ℕ, true, List, [], Option, Some, None, ◌⊎◌}
+use Rattle.std.specs.Prelude.{◌≡◌, ℕ, true, List, [], Option, Some, ◌⊎◌}
 use Rattle.kilim_classes.specs.declared.names.ClassId.{ClassId}
 use Rattle.kilim_classes.specs.Names.{class_named}
 use Rattle.kilim_classes.specs.Program.{Program}
 use Rattle.kilim_top.specs.demo.Demo.{demo_limits, IsDemoReport}
-use Rattle.kilim_top.specs.demo.Line.{demo_line}
 use Rattle.kilim_top.specs.demo.Ready.{IsReady}
-use Rattle.kilim_journal.specs.Text.{journal_text}
 use Rattle.kilim_journal.specs.declared.entry.Entry.{Entry}
 use Rattle.kilim_classes.specs.declared.machine.run.Limits.{Limits}
-use Rattle.kilim_classes.specs.main_class.Main.{fit_class_named}
 use Rattle.kilim_classes.specs.machine.Members.{is_fit_main}
 use Rattle.kilim_stages.specs.declared.refusal.Refusal.{Refusal}
 use Rattle.kilim_stages.specs.declared.refusal.Refusal.TheVariants as refusal
 use Rattle.kilim_thread_model.specs.State.{Setting}
 use Rattle.kilim_weaver.specs.declared.weaving.Woven.{Woven}
 use Rattle.kilim_whole_runs.specs.Runs.{IsJournalOf, setting_of}
-use Rattle.kilim_outside.specs.words.Words.{Request, Check, Weave, Run, Demo}
+use Rattle.kilim_outside.specs.words.Words.{Request}
 use Rattle.kilim_weaving_laws.specs.Served.{CanServe}
 use Rattle.kilim_stages.specs.declared.woven_stage.stage.WovenProgram.{WovenProgram}
 use Rattle.kilim_written_files.specs.OutputFile.{OutputFile}
 use Rattle.kilim_top.specs.declared.answer.Ready.{Ready}
 use Rattle.kilim_top.specs.declared.answer.Ready.TheVariants as ready
-use Rattle.kilim_top.specs.Report.{utf16_of, main_line}
+use Rattle.kilim_top_parts.specs.Report.{named_line}
+use Rattle.kilim_top_parts.specs.RunText.{demo_number, run_text}
 use Rattle.kilim_top.specs.Outcome.{IsDone, IsReport}
-
--- the number of the demo, where one is asked for
-abbrev pub demo_number : Request → Option ℕ
-demo_number (Check names) = None
-demo_number (Weave to names) = None
-demo_number (Run main workers steps args names) = None
-demo_number (Demo number workers) = Some number
-
--- what is written of a run: its journal, or the line of the demo of a number
-abbrev pub run_text : Option ℕ → List Entry → List ℕ
-run_text None journal = journal_text journal
-run_text (Some number) journal = demo_line number journal
 
 -- the text of the journal of a whole run
 pub record IsTextOf (demo : Option ℕ) (set : Setting) (text : List ℕ) : Type 0 where
@@ -44,9 +30,9 @@ pub record IsTextOf (demo : Option ℕ) (set : Setting) (text : List ℕ) : Type
   pub is_text : text ≡ run_text demo journal
 
 -- no class of that name is fit to be the main class
-pub record IsNoMain (program : Program) (main text : List ℕ) : Type 0 where
-  pub none : (class : ClassId) → class_named program (utf16_of main) ≡ Some class → is_fit_main program class ≡ true → ⊥
-  pub is_text : text ≡ main_line main
+pub record IsNoMain (program : Program) (name text : List ℕ) : Type 0 where
+  pub none : (class : ClassId) → class_named program name ≡ Some class → is_fit_main program class ≡ true → ⊥
+  pub is_text : text ≡ named_line name
 
 -- ---- replies
 
@@ -54,16 +40,17 @@ pub record IsNoMain (program : Program) (main text : List ℕ) : Type 0 where
 abbrev pub IsReply : (List OutputFile → List ℕ → Type 0) → (List ℕ → Type 0) → ℕ → List OutputFile → List ℕ → Type 0
 IsReply done report status made text = ((status ≡ 0) × done made text) ⊎ ((status ≡ 1) × ((made ≡ []) × report text))
 
--- where the stages refuse: their report
-abbrev pub IsRefusedBy : Refusal → ℕ → List OutputFile → List ℕ → Type 0
-IsRefusedBy refusal.NoMemory status made text = ⊥
-IsRefusedBy (refusal.Report report) status made text = (status ≡ 1) × ((made ≡ []) × (text ≡ report.items))
-
 -- of the bytes of the files that the words name
 abbrev pub IsReplyFor : Request → List (List ℕ) → ℕ → List OutputFile → List ℕ → Type 0
 IsReplyFor work files status made text = IsReply (IsDone work files) (IsReport work files) status made text
 
 -- ---- what is to be done
+
+-- where the stages refuse: their report is to be written
+abbrev pub IsRefusedBy : Refusal → Ready → Type 0
+IsRefusedBy refusal.NoMemory to_do = ⊥
+IsRefusedBy (refusal.Report report) (ready.Reply reply) = (reply.status ≡ 1) × ((reply.files.items ≡ []) × (reply.text.items ≡ report.items))
+IsRefusedBy (refusal.Report report) (ready.Run plain woven class limits) = ⊥
 
 -- a program is to be run by its woven form, and with the text of its run the work is done
 pub record IsToRun (work : Request) (files : List (List ℕ)) (set : Setting) (woven : Woven) : Type 0 where
@@ -79,23 +66,18 @@ abbrev pub IsDemoReady : ℕ → Ready → Type 0
 IsDemoReady number (ready.Reply reply) = (reply.status ≡ 1) × ((reply.files.items ≡ []) × IsDemoReport number reply.text.items)
 IsDemoReady number (ready.Run plain woven class limits) = IsReady number plain woven class × (limits ≡ demo_limits)
 
--- the main class, with the program, its woven form and the limits as they are
-pub record IsMainOf (program : WovenProgram) (main : List ℕ) (limits : Limits) (set : Setting) (woven : Woven) : Type 0 where
+-- the main class of that name, with the program, its woven form and the limits as they are
+pub record IsMainOf (program : WovenProgram) (name : List ℕ) (limits : Limits) (set : Setting) (woven : Woven) : Type 0 where
   pub is : set ≡ setting_of program.plain set.main limits
   pub is_woven : woven ≡ program.woven
-  pub named : class_named program.plain (utf16_of main) ≡ Some set.main
+  pub named : class_named program.plain name ≡ Some set.main
   pub fit : is_fit_main program.plain set.main ≡ true
-
--- the main class that the program has by that name, with the limits, or there is none that is fit
-abbrev pub IsStartOf : Program → List ℕ → Limits → Option (ClassId × Limits) → Type 0
-IsStartOf program main limits None = fit_class_named program (utf16_of main) ≡ None
-IsStartOf program main limits (Some start) = (fit_class_named program (utf16_of main) ≡ Some start.0) × (start.1 ≡ limits)
 
 -- the line that says that there is none
 abbrev pub IsWithoutMain : List ℕ → Ready → Type 0
-IsWithoutMain main (ready.Reply reply) = (reply.status ≡ 1) × ((reply.files.items ≡ []) × (reply.text.items ≡ main_line main))
-IsWithoutMain main (ready.Run plain woven class l) = ⊥
+IsWithoutMain name (ready.Reply reply) = (reply.status ≡ 1) × ((reply.files.items ≡ []) × (reply.text.items ≡ named_line name))
+IsWithoutMain name (ready.Run plain woven class l) = ⊥
 
 abbrev pub IsReadyOf : WovenProgram → List ℕ → Limits → Ready → Type 0
-IsReadyOf program main limits (ready.Reply reply) = (reply.status ≡ 1) × ((reply.files.items ≡ []) × IsNoMain program.plain main reply.text.items)
-IsReadyOf program main limits (ready.Run plain woven class l) = IsMainOf program main limits (setting_of plain class l) woven
+IsReadyOf program name limits (ready.Reply reply) = (reply.status ≡ 1) × ((reply.files.items ≡ []) × IsNoMain program.plain name reply.text.items)
+IsReadyOf program name limits (ready.Run plain woven class l) = IsMainOf program name limits (setting_of plain class l) woven

@@ -14,7 +14,7 @@ use Rattle.kilim_thread_model.specs.Runs.{Whole}
 use Rattle.kilim_thread_model.specs.State.{Setting}
 use Rattle.kilim_weaver.specs.Faults.{weave_fault}
 use Rattle.kilim_stages.specs.woven_stage.Reports.{IsMethodReport}
-use Rattle.kilim_top.specs.demo.Line.{demo_line}
+use Rattle.kilim_top_parts.specs.DemoLine.{demo_line}
 
 -- the bytes of its class files, in their order
 unfoldable pub demo_texts : ℕ → List (List ℕ)

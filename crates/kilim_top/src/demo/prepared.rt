@@ -1,22 +1,19 @@
 //! The program of the demo, woven, with its main class.
 
-ghost use Rattle.std.specs.Prelude.{◌≡◌, ◌≤◌, length, Some, IfOk};
-ghost use Rattle.kilim_classes.specs.main_class.Main.{fit_class_named};
+ghost use Rattle.std.specs.Prelude.{◌≡◌, ◌≤◌, length, IfOk};
 ghost use Rattle.kilim_stages.specs.Parts.{IfReport};
-ghost use Rattle.kilim_stages.specs.woven_stage.Stage.{IsWovenOf};
+ghost use Rattle.kilim_stages.specs.woven_stage.Stage.{IsWithMain, IsWovenOf};
 ghost use Rattle.kilim_top.specs.demo.Demo.{demo_limits, demo_texts, main_name, IsDemoReport};
 ghost use Rattle.kilim_top.specs.Inside.Answer.{IsDemoReady};
 
 use crate::answer::{Ready, refused};
-use crate::demo::texts::{demo_texts, no_names};
 use crate::laws::woven_is_served;
+use kilim_classes::ClassId;
 use kilim_classes::machine::Limits;
-use kilim_classes::main_class::fit_main;
-use kilim_classes::{ClassId, Program};
 use kilim_classfile::class_file_is_spelled;
-use kilim_program_maker::demo_fits;
+use kilim_program_maker::{demo_fits, make_texts, no_names};
 use kilim_stages::Refusal;
-use kilim_stages::woven_stage::{WovenProgram, woven_program};
+use kilim_stages::woven_stage::{WovenProgram, with_main, woven_program};
 use kilim_units::{NoMemory, Seq};
 use std::alloc::Global;
 
@@ -42,7 +39,15 @@ fn woven_texts(alloc: Global, number: u64, texts: &[Seq<u8>]) -> Result<WovenPro
     woven_program(alloc, names.as_slice(), texts)
 }
 
-// The same of the demo of a number.
+// The bytes of the class files of the demo of a number, in their order.
+#[tactic(auto, unfolding(crate::specs::demo::Demo::demo_texts))]
+fn demo_texts(alloc: Global, number: u64) -> Result<Seq<Seq<u8>>, NoMemory>
+    ensures { IfOk result (λ texts. texts ≡ demo_texts number) }
+{
+    make_texts(alloc, number)
+}
+
+// The program of the demo of a number, with its woven form, or a report.
 fn woven_demo(alloc: Global, number: u64) -> Result<WovenProgram, Refusal>
     ensures woven { IfOk result (λ w. IsWovenOf (demo_texts number) w.plain w.woven) }
     ensures report { IfReport result (IsDemoReport number) }
@@ -53,11 +58,11 @@ fn woven_demo(alloc: Global, number: u64) -> Result<WovenProgram, Refusal>
     woven_texts(alloc, number, texts.as_slice())
 }
 
-// The main class of the demo.
-fn main_of(program: &Program) -> Result<Option<ClassId>, NoMemory>
-    ensures { IfOk result (λ found. found ≡ fit_class_named program.now main_name) }
+// The program with the main class of the demo.
+fn with_demo_main(program: WovenProgram) -> Result<Option<(WovenProgram, ClassId)>, NoMemory>
+    ensures { IfOk result (IsWithMain program main_name) }
 {
-    fit_main(program, &MAIN)
+    with_main(program, &MAIN)
 }
 
 #[tactic(auto, unfolding(crate::specs::demo::Demo::demo_limits))]
@@ -79,17 +84,13 @@ pub fn demo_ready(alloc: Global, number: u64) -> Result<Ready, NoMemory>
     woven_is_served();
     demo_fits();
     match woven_demo(alloc, number) {
-        Ok(WovenProgram { plain, woven }) => match main_of(&plain) {
-            Ok(Some(main)) => Ok(Ready::Run(plain, woven, main, limits(alloc))),
-            _ => {
-                drop(plain);
-                drop(woven);
-                Err(NoMemory)
+        Ok(program) => match with_demo_main(program) {
+            Ok(Some((found, main))) => {
+                Ok(Ready::Run(found.plain, found.woven, main, limits(alloc)))
             }
+            Ok(None) => Err(NoMemory),
+            Err(_) => Err(NoMemory),
         },
-        Err(refusal) => {
-            let reply = refused(alloc, refusal)?;
-            Ok(Ready::Reply(reply))
-        }
+        Err(refusal) => refused(alloc, refusal),
     }
 }

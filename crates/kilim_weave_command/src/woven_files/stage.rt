@@ -86,7 +86,11 @@ pub fn woven_files(
     ensures report { IfReport result (IsWeaveReport (map string_bytes names.now) files.now) }
 {
     match woven_program(alloc, names, files) {
-        Ok(made) => files_of(alloc, files, &made.plain, &made.woven),
+        Ok(made) => {
+            let outputs = files_of(alloc, files, &made.plain, &made.woven);
+            drop(made);
+            outputs
+        }
         Err(refusal) => Err(refusal),
     }
 }

@@ -3,19 +3,15 @@ use Rattle.std.specs.Prelude.{IfOk}
 use Rattle.kilim_outside.specs.declared.words.asked.Asked.{Asked}
 use Rattle.kilim_outside.specs.words.Parts.{meant}
 use Rattle.kilim_top.specs.declared.answer.Ready.{Ready}
-use Rattle.kilim_top.specs.Inside.Answer.{IsReadyFor, IsReplyFor}
+use Rattle.kilim_top.specs.Inside.Answer.{IsReadyFor}
 use Rattle.kilim_top.proofs.Demos.{demo_prepared}
 use Rattle.kilim_top.proofs.answer.prepare.Goals as goal
 
-pub returns-in_ok-reply-in-Check : goal.returns-in_ok-reply-in-Check
-returns-in_ok-reply-in-Check c =
-    let reply = c.in_ok-reply-in-Check.reply in
-    subst (λ (a : Asked). IsReplyFor (meant a) c.args.files.now reply.status reply.files.items reply.text.items) (sym c.in-Check.is) c.in_ok-reply-in-Check.ensures
+pub returns-in-Check : goal.returns-in-Check
+returns-in-Check c = subst (λ (a : Asked). IfOk c.check_ready.result (λ (r : Ready). IsReadyFor (meant a) c.args.files.now r)) (sym c.in-Check.is) c.check_ready.ensures
 
-pub returns-in_ok-reply-in-Weave : goal.returns-in_ok-reply-in-Weave
-returns-in_ok-reply-in-Weave c =
-    let reply = c.in_ok-reply-in-Weave.reply in
-    subst (λ (a : Asked). IsReplyFor (meant a) c.args.files.now reply.status reply.files.items reply.text.items) (sym c.in-Weave.is) c.in_ok-reply-in-Weave.ensures
+pub returns-in-Weave : goal.returns-in-Weave
+returns-in-Weave c = subst (λ (a : Asked). IfOk c.weave_ready.result (λ (r : Ready). IsReadyFor (meant a) c.args.files.now r)) (sym c.in-Weave.is) c.weave_ready.ensures
 
 pub returns-in-Run : goal.returns-in-Run
 returns-in-Run c = subst (λ (a : Asked). IfOk c.run_ready.result (λ (r : Ready). IsReadyFor (meant a) c.args.files.now r)) (sym c.in-Run.is) c.run_ready.ensures
