@@ -181,6 +181,24 @@ fn renew_bytes(
     Ok(())
 }
 
+fn renew(
+    alloc: Global,
+    program: &Program,
+    old: &Pool,
+    pool: &Pool,
+    method: &Method,
+    counted: &[bool],
+    code: &mut Code,
+) -> Result<(), NoMemory>
+    ensures { OnOk result (code.new ≡ woven_code program.now old.now pool.now method.now counted.now code.old) }
+{
+    code.attributes = table_by(alloc, program, pool, old_table(code), method)?;
+    renew_bytes(alloc, program, old, pool, method, counted, &mut code.code)?;
+    code.max_stack = method.max_stack;
+    code.max_locals = method.max_locals;
+    Ok(())
+}
+
 /// The Code attribute of a method that pauses: with pausable calls its code is written anew, else it stays byte for byte. Of its
 /// attributes a StackMapTable is left.
 pub fn woven_code(
@@ -195,9 +213,11 @@ pub fn woven_code(
     ensures { IfOk result (λ c. c ≡ woven_code program.now old.now pool.now method.now counted.now code) }
 {
     let mut woven = code;
-    woven.attributes = table_by(alloc, program, pool, old_table(&woven), method)?;
-    renew_bytes(alloc, program, old, pool, method, counted, &mut woven.code)?;
-    woven.max_stack = method.max_stack;
-    woven.max_locals = method.max_locals;
-    Ok(woven)
+    match renew(alloc, program, old, pool, method, counted, &mut woven) {
+        Ok(()) => Ok(woven),
+        Err(fault) => {
+            drop(woven);
+            Err(fault)
+        }
+    }
 }

@@ -3,6 +3,7 @@
 ghost use Rattle.std.specs.Prelude.{◌≡◌, ◌++◌, ◌∷◌, [], Some, IfOk, OnOk};
 ghost use Rattle.kilim_attributes.specs.declared.attribute.Info.TheVariants as what;
 ghost use Rattle.std.specs.List.{cons_option, filter_map};
+ghost use Rattle.kilim_class_fits.specs.pool_needs.Adding.{text_index};
 ghost use Rattle.kilim_link_spec.specs.World.{member_descriptor};
 ghost use Rattle.kilim_woven_sizes.specs.file_laws.form.Texts.{woven_descriptor};
 ghost use Rattle.kilim_woven_sizes.specs.file_laws.form.WovenFile.{attribute_with, one_parameter_more, rewritten, woven_attribute, woven_code, woven_info};
@@ -107,6 +108,23 @@ fn push_attribute(into: &mut Seq<Attribute>, name: u16, info: Option<Info>) -> R
     Ok(())
 }
 
+fn push_woven(
+    alloc: Global,
+    into: &mut Seq<Attribute>,
+    program: &Program,
+    old: &Pool,
+    pool: &Pool,
+    method: &Method,
+    counted: &[bool],
+    attribute: Attribute,
+) -> Result<(), NoMemory>
+    ensures { OnOk result (into.new ≡ into.old ++ cons_option (woven_attribute program.now old.now pool.now method.now counted.now attribute) []) }
+{
+    let name = attribute.attribute_name_index;
+    let info = woven_info(alloc, program, old, pool, method, counted, attribute.info)?;
+    push_attribute(into, name, info)
+}
+
 fn woven_attributes(
     alloc: Global,
     program: &Program,
@@ -120,9 +138,9 @@ fn woven_attributes(
 {
     let mut all = Seq::new(alloc);
     for attribute in attributes.into_vec() {
-        let name = attribute.attribute_name_index;
-        let info = woven_info(alloc, program, old, pool, method, counted, attribute.info)?;
-        push_attribute(&mut all, name, info)?;
+        push_woven(
+            alloc, &mut all, program, old, pool, method, counted, attribute,
+        )?;
     }
     Ok(all)
 }
@@ -133,6 +151,42 @@ pub fn member_text(alloc: Global, file: &ClassFile, info: &MemberInfo) -> Result
 {
     let text = text_of(alloc, &file.constant_pool, info.descriptor_index)?;
     woven_descriptor(alloc, &text)
+}
+
+// The index of the descriptor with the fiber.
+fn descriptor_number(
+    alloc: Global,
+    file: &ClassFile,
+    pool: &Pool,
+    info: &MemberInfo,
+) -> Result<u16, NoMemory>
+    ensures { IfOk result (λ index. index ≡ text_index pool.now (woven_descriptor (member_descriptor file.now info.now))) }
+{
+    let text = member_text(alloc, file, info)?;
+    Ok(text_index(pool, &text))
+}
+
+// A method that pauses, written anew with this descriptor.
+fn renewed(
+    alloc: Global,
+    program: &Program,
+    file: &ClassFile,
+    pool: &Pool,
+    method: &Method,
+    counted: &[bool],
+    info: MemberInfo,
+    index: u16,
+) -> Result<MemberInfo, NoMemory>
+    ensures { IfOk result (λ i. i ≡ record (rewritten program.now file.now pool.now method.now counted.now info) { descriptor_index = index }) }
+{
+    let old = &file.constant_pool;
+    let attributes = woven_attributes(alloc, program, old, pool, method, counted, info.attributes)?;
+    Ok(MemberInfo {
+        access_flags: info.access_flags,
+        name_index: info.name_index,
+        descriptor_index: index,
+        attributes,
+    })
 }
 
 /// A method that pauses, written anew.
@@ -147,13 +201,11 @@ pub fn rewritten(
 ) -> Result<MemberInfo, NoMemory>
     ensures { IfOk result (λ i. i ≡ rewritten program.now file.now pool.now method.now counted.now info) }
 {
-    let text = member_text(alloc, file, &info)?;
-    let old = &file.constant_pool;
-    let attributes = woven_attributes(alloc, program, old, pool, method, counted, info.attributes)?;
-    Ok(MemberInfo {
-        access_flags: info.access_flags,
-        name_index: info.name_index,
-        descriptor_index: text_index(pool, &text),
-        attributes,
-    })
+    match descriptor_number(alloc, file, pool, &info) {
+        Ok(index) => renewed(alloc, program, file, pool, method, counted, info, index),
+        Err(fault) => {
+            drop(info);
+            Err(fault)
+        }
+    }
 }

@@ -151,25 +151,22 @@ fn member_at(
 ) -> Result<MemberInfo, NoMemory>
     ensures { IfOk result (λ i. member_by program.now file.now pool.now info (option_copied plain.entry) (option_copied method.entry) (option_copied counted.entry) ≡ Some i) }
 {
-    let Some(plain) = plain else {
-        return Err(NoMemory);
-    };
-    let Some(method) = method else {
-        return Err(NoMemory);
-    };
-    let Some(marks) = counted else {
-        return Err(NoMemory);
-    };
-    woven_member(
-        alloc,
-        program,
-        file,
-        pool,
-        info,
-        plain,
-        method,
-        marks.as_slice(),
-    )
+    match (plain, method, counted) {
+        (Some(plain), Some(method), Some(marks)) => woven_member(
+            alloc,
+            program,
+            file,
+            pool,
+            info,
+            plain,
+            method,
+            marks.as_slice(),
+        ),
+        _ => {
+            drop(info);
+            Err(NoMemory)
+        }
+    }
 }
 
 fn method_get(methods: &[Method], at: usize) -> Option<&Method>
@@ -265,6 +262,28 @@ fn weave_methods(
     Ok(())
 }
 
+// Weaves a copy of the file.
+fn weave(
+    alloc: Global,
+    program: &Program,
+    file: &ClassFile,
+    made: &mut ClassFile,
+    plains: &[Method],
+    wovens: &[Method],
+    counted: &[Seq<bool>],
+) -> Result<(), NoMemory>
+    requires same { made.old ≡ file.now }
+    requires plain { length file.now.methods ≡ length plains.now }
+    requires woven { length file.now.methods ≡ length wovens.now }
+    requires counted { length file.now.methods ≡ length counted.now }
+    ensures { OnOk result (made.new ≡ woven_file program.now file.now (pairs_of file.now.methods plains.now wovens.now counted.now)) }
+{
+    let pool = &mut made.constant_pool;
+    push_needs(alloc, program, file, pool, plains, wovens, counted)?;
+    weave_methods(alloc, program, file, made, plains, wovens, counted)?;
+    Ok(())
+}
+
 fn woven_file(
     alloc: Global,
     program: &Program,
@@ -281,10 +300,13 @@ fn woven_file(
     ensures { IfOk result (λ f. f ≡ woven_file program.now file.now (pairs_of file.now.methods plains.now wovens.now counted.now)) }
 {
     let mut made = copy;
-    let pool = &mut made.constant_pool;
-    push_needs(alloc, program, file, pool, plains, wovens, counted)?;
-    weave_methods(alloc, program, file, &mut made, plains, wovens, counted)?;
-    Ok(made)
+    match weave(alloc, program, file, &mut made, plains, wovens, counted) {
+        Ok(()) => Ok(made),
+        Err(fault) => {
+            drop(made);
+            Err(fault)
+        }
+    }
 }
 
 // The file, where it has a text. Each woven file within the bounds has one, where no method has too many arguments or too long a
