@@ -49,9 +49,11 @@ fn two_texts_at<'a>(
 ) -> Result<((u16, u16), &'a [u8]), AttributeFault>
     ensures { Reads (λ x. (x.0, x.1.now)) result (two_texts_at pool.now ends bytes.now) }
 {
-    let (first, rest) = index_at(pool, EntryKind::Text, ends, bytes)?;
-    match index_at(pool, EntryKind::Text, ends, rest) {
-        Ok((second, rest)) => Ok(((first, second), rest)),
+    match index_at(pool, EntryKind::Text, ends, bytes) {
+        Ok((first, rest)) => match index_at(pool, EntryKind::Text, ends, rest) {
+            Ok((second, rest)) => Ok(((first, second), rest)),
+            Err(fault) => Err(fault),
+        },
         Err(fault) => Err(fault),
     }
 }
@@ -100,8 +102,10 @@ fn value_at<'a>(
 ) -> Result<(AnnotationPart, &'a [u8]), AttributeFault>
     ensures { Reads (λ x. (x.0, x.1.now)) result (value_at pool.now ends bytes.now) }
 {
-    let (tag, rest) = u8_at(ends, bytes)?;
-    value_behind(pool, ends, tag, rest)
+    match u8_at(ends, bytes) {
+        Ok((tag, rest)) => value_behind(pool, ends, tag, rest),
+        Err(fault) => Err(fault),
+    }
 }
 
 #[tactic(auto, unfolding(crate::specs::Annotations::annotation_at))]
@@ -112,9 +116,11 @@ fn annotation_at<'a>(
 ) -> Result<(AnnotationPart, &'a [u8]), AttributeFault>
     ensures { Reads (λ x. (x.0, x.1.now)) result (annotation_at pool.now ends bytes.now) }
 {
-    let (class, rest) = index_at(pool, EntryKind::Text, ends, bytes)?;
-    match u16_at(ends, rest) {
-        Ok((count, rest)) => Ok((AnnotationPart::Annotation(class, count), rest)),
+    match index_at(pool, EntryKind::Text, ends, bytes) {
+        Ok((class, rest)) => match u16_at(ends, rest) {
+            Ok((count, rest)) => Ok((AnnotationPart::Annotation(class, count), rest)),
+            Err(fault) => Err(fault),
+        },
         Err(fault) => Err(fault),
     }
 }

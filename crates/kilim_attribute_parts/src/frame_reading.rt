@@ -59,8 +59,10 @@ fn type_behind<'a>(
 fn type_at<'a>(pool: &Pool, bytes: &'a [u8]) -> Result<(VerificationType, &'a [u8]), AttributeFault>
     ensures { Reads (λ x. (x.0, x.1.now)) result (type_at pool.now bytes.now) }
 {
-    let (tag, rest) = u8_at(ENDS, bytes)?;
-    type_behind(pool, tag, rest)
+    match u8_at(ENDS, bytes) {
+        Ok((tag, rest)) => type_behind(pool, tag, rest),
+        Err(fault) => Err(fault),
+    }
 }
 
 // A frame with one item on the stack.
@@ -77,9 +79,11 @@ fn item_at<'a>(pool: &Pool, delta: u8, bytes: &'a [u8]) -> Result<(Frame, &'a [u
 fn extended_item_at<'a>(pool: &Pool, bytes: &'a [u8]) -> Result<(Frame, &'a [u8]), AttributeFault>
     ensures { ReadsUnless Memory (λ x. (x.0, x.1.now)) result (made (λ x. SameLocals1StackItemExtended x.0 x.1) (delta_and_type_at pool.now) bytes.now) }
 {
-    let (delta, rest) = u16_at(ENDS, bytes)?;
-    match type_at(pool, rest) {
-        Ok((item, rest)) => Ok((Frame::SameLocals1StackItemExtended(delta, item), rest)),
+    match u16_at(ENDS, bytes) {
+        Ok((delta, rest)) => match type_at(pool, rest) {
+            Ok((item, rest)) => Ok((Frame::SameLocals1StackItemExtended(delta, item), rest)),
+            Err(fault) => Err(fault),
+        },
         Err(fault) => Err(fault),
     }
 }
@@ -113,9 +117,13 @@ fn types_at<'a>(
     let mut types = Seq::new(alloc);
     let mut rest = bytes;
     for _ in 0..count {
-        let (item, after) = type_at(pool, rest)?;
-        types.push(item)?;
-        rest = after;
+        match type_at(pool, rest) {
+            Ok((item, after)) => {
+                types.push(item)?;
+                rest = after;
+            }
+            Err(fault) => return Err(fault),
+        }
     }
     Ok((types, rest))
 }
@@ -128,8 +136,10 @@ fn counted_types_at<'a>(
 ) -> Result<(Seq<VerificationType>, &'a [u8]), AttributeFault>
     ensures { ReadsUnless Memory (λ x. (x.0, x.1.now)) result (counted_types_at pool.now bytes.now) }
 {
-    let (count, rest) = u16_at(ENDS, bytes)?;
-    types_at(alloc, pool, count, rest)
+    match u16_at(ENDS, bytes) {
+        Ok((count, rest)) => types_at(alloc, pool, count, rest),
+        Err(fault) => Err(fault),
+    }
 }
 
 #[tactic(auto, unfolding(crate::specs::Frames::appended_at))]
@@ -141,9 +151,11 @@ fn append_at<'a>(
 ) -> Result<(Frame, &'a [u8]), AttributeFault>
     ensures { ReadsUnless Memory (λ x. (x.0, x.1.now)) result (made (λ x. Append x.0 x.1) (appended_at pool.now count) bytes.now) }
 {
-    let (delta, rest) = u16_at(ENDS, bytes)?;
-    match types_at(alloc, pool, count, rest) {
-        Ok((locals, rest)) => Ok((Frame::Append(delta, locals), rest)),
+    match u16_at(ENDS, bytes) {
+        Ok((delta, rest)) => match types_at(alloc, pool, count, rest) {
+            Ok((locals, rest)) => Ok((Frame::Append(delta, locals), rest)),
+            Err(fault) => Err(fault),
+        },
         Err(fault) => Err(fault),
     }
 }
@@ -156,10 +168,15 @@ fn full_at<'a>(
 ) -> Result<(Frame, &'a [u8]), AttributeFault>
     ensures { ReadsUnless Memory (λ x. (x.0, x.1.now)) result (made (λ x. Full x.0 x.1.0 x.1.1) (full_at pool.now) bytes.now) }
 {
-    let (delta, rest) = u16_at(ENDS, bytes)?;
-    let (locals, rest) = counted_types_at(alloc, pool, rest)?;
+    let (delta, rest) = match u16_at(ENDS, bytes) {
+        Ok(read) => read,
+        Err(fault) => return Err(fault),
+    };
     match counted_types_at(alloc, pool, rest) {
-        Ok((stack, rest)) => Ok((Frame::Full(delta, locals, stack), rest)),
+        Ok((locals, rest)) => match counted_types_at(alloc, pool, rest) {
+            Ok((stack, rest)) => Ok((Frame::Full(delta, locals, stack), rest)),
+            Err(fault) => Err(fault),
+        },
         Err(fault) => Err(fault),
     }
 }
@@ -200,8 +217,10 @@ fn frame_at<'a>(
 ) -> Result<(Frame, &'a [u8]), AttributeFault>
     ensures { ReadsUnless Memory (λ x. (x.0, x.1.now)) result (frame_at pool.now bytes.now) }
 {
-    let (tag, rest) = u8_at(ENDS, bytes)?;
-    frame_behind(alloc, pool, tag, rest)
+    match u8_at(ENDS, bytes) {
+        Ok((tag, rest)) => frame_behind(alloc, pool, tag, rest),
+        Err(fault) => Err(fault),
+    }
 }
 
 fn so_many_frames_at<'a>(
@@ -215,9 +234,13 @@ fn so_many_frames_at<'a>(
     let mut frames = Seq::new(alloc);
     let mut rest = bytes;
     for _ in 0..count {
-        let (frame, after) = frame_at(alloc, pool, rest)?;
-        frames.push(frame)?;
-        rest = after;
+        match frame_at(alloc, pool, rest) {
+            Ok((frame, after)) => {
+                frames.push(frame)?;
+                rest = after;
+            }
+            Err(fault) => return Err(fault),
+        }
     }
     Ok((frames, rest))
 }
@@ -236,6 +259,8 @@ pub fn frames_at<'a>(
     // They can be written.
     ensures sized { IfOk result (λ x. FramesAreSized x.0) }
 {
-    let (count, rest) = u16_at(ENDS, bytes)?;
-    so_many_frames_at(alloc, pool, count, rest)
+    match u16_at(ENDS, bytes) {
+        Ok((count, rest)) => so_many_frames_at(alloc, pool, count, rest),
+        Err(fault) => Err(fault),
+    }
 }

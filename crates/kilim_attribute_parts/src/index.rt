@@ -75,10 +75,14 @@ pub fn index_at<'a>(
 ) -> Result<(u16, &'a [u8]), AttributeFault>
     ensures { Reads (λ x. (x.0, x.1.now)) result (index_at pool.now kind cut bytes.now) }
 {
-    let (index, rest) = u16_at(cut, bytes)?;
-    if has_kind(pool, kind, index) {
-        Ok((index, rest))
-    } else {
-        Err(AttributeFault::BadIndex(index))
+    match u16_at(cut, bytes) {
+        Ok((index, rest)) => {
+            if has_kind(pool, kind, index) {
+                Ok((index, rest))
+            } else {
+                Err(AttributeFault::BadIndex(index))
+            }
+        }
+        Err(fault) => Err(fault),
     }
 }

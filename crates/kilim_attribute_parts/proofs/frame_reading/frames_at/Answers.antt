@@ -16,6 +16,6 @@ if_read : {X : Type 0} (pool : List Entry) (bytes : List ℕ) (count : ℕ) (beh
 if_read pool bytes count behind (Ok x) view fits n read = read_sized pool bytes count behind (view x).0 (view x).1 fits n read
 if_read pool bytes count behind (Err e) view fits n read = tt
 
-pub returns-clause-sized : goal.returns-clause-sized
-returns-clause-sized c =
-    if_read c.args.pool.now c.args.bytes.now c.in_ok-count.count c.in_ok-count.rest.now c.so_many_frames_at.result (λ x. (x.0, x.1.now)) (λ i. omega (arith, c.type_inv.bytes i)) c.in_ok-count.ensures c.so_many_frames_at.ensures
+pub returns-in-Ok-clause-sized : goal.returns-in-Ok-clause-sized
+returns-in-Ok-clause-sized c =
+    if_read c.args.pool.now c.args.bytes.now c.in-Ok.count c.in-Ok.rest.now c.so_many_frames_at.result (λ x. (x.0, x.1.now)) (λ i. omega (arith, c.type_inv.bytes i)) c.in-Ok.ensures c.so_many_frames_at.ensures
