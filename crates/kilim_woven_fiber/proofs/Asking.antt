@@ -1,6 +1,6 @@
 -- What is asked of a built-in method.
-use Rattle.std.proofs.Common.{◌≡◌, ℕ, List, [], ◌∷◌, Option, Some, None, Result, refl, sym, ap, subst, ◌∙◌}
-use Rattle.std.specs.Prelude.{IfOk}
+use Rattle.std.proofs.Common.{◌≡◌, ℕ, true, List, [], ◌∷◌, Option, Some, None, Result, refl, sym, ap, subst, ◌∙◌}
+use Rattle.std.specs.Prelude.{IfOk, pos}
 use Rattle.kilim_classes.specs.declared.names.BoxName.{BoxName}
 use Rattle.kilim_classes.specs.declared.value.Value.{Value}
 use Rattle.kilim_classes.specs.declared.value.Value.TheVariants.{Int, Long, Null, Ref, Text, Box, Fiber}
@@ -8,19 +8,20 @@ use Rattle.kilim_classes.specs.Program.{Program}
 use Rattle.kilim_classes.specs.declared.machine.value.Object.{Object}
 use Rattle.kilim_classes.specs.declared.machine.value.Token.{Token}
 use Rattle.kilim_classes.specs.machine.Machine.{Objects}
+use Rattle.kilim_classes.specs.machine.Moves.{push_result}
 use Rattle.kilim_classes.specs.machine.Natives as native
 use Rattle.kilim_classes.specs.machine.Shapes.{shape_of}
 use Rattle.kilim_classes.specs.machine.Trees.{OfMessage}
-use Rattle.kilim_machine_parts.specs.declared.frames.frames.Frames.{Frames}
 use Rattle.kilim_units.specs.declared.memory.NoMemory.{NoMemory}
 use Rattle.kilim_thread_model.specs.State.{Setting}
 use Rattle.kilim_weaving_laws.specs.woven_kin.Standing.{Standing}
-use Rattle.kilim_weaving_laws.specs.woven_kin.Nexts.{Next, native_next, asks_next}
-use Rattle.kilim_woven_fiber.specs.Body.{operands_in}
-use Rattle.kilim_woven_fiber.specs.Operands.{AreOperands}
+use Rattle.kilim_weaving_laws.specs.woven_kin.Nexts.{Next, Goes, Stands, native_next, asks_next, member_next}
+use Rattle.kilim_woven_fiber.specs.Operands.{AreCopies}
 use Rattle.kilim_woven_fiber.specs.declared.operands.Operands.{Operands}
 use Rattle.kilim_woven_fiber.specs.declared.operands.Operands.TheVariants as copied
-use Rattle.kilim_woven_fiber.specs.Comes.{CanAsk, IsGivenBy, GiftIs, IsGift, Comes}
+use Rattle.kilim_woven_fiber.specs.Comes.{CanAsk, IsGivenBy, GiftIs, IsGift, Comes, gives_result}
+use Rattle.kilim_woven_runs.specs.Fibers.{Fib, Fiber_at, Saved, member_does}
+use Rattle.kilim_woven_runs.specs.fiber_records.Members.{Did, NotDone, Does, did}
 use Rattle.kilim_woven_runs.specs.fiber_records.natives.Natives.{meaning}
 use Rattle.kilim_woven_fiber.specs.declared.body.Body.{Body}
 use Rattle.kilim_woven_fiber.specs.declared.body.Came.{Came}
@@ -74,11 +75,48 @@ args_same set l n args brgs e = ap (native_next set l n) (sym e)
 
 -- ---- the operands, as they are told
 
-pub told_none : (o : Option Frames) (frames : Frames) (found : Operands) → o ≡ Some frames → found ≡ copied.None → AreOperands frames found → operands_in o ≡ []
-told_none o frames found is e are = ap operands_in is ∙ subst (AreOperands frames) e are
+pub told_none : (args : List Value) (found : Operands) → found ≡ copied.None → AreCopies args found → args ≡ []
+told_none args found e are = subst (AreCopies args) e are
 
-pub told_one : (o : Option Frames) (frames : Frames) (found : Operands) (v : Value) → o ≡ Some frames → found ≡ copied.One v → AreOperands frames found → operands_in o ≡ v ∷ []
-told_one o frames found v is e are = ap operands_in is ∙ subst (AreOperands frames) e are
+pub told_one : (args : List Value) (found : Operands) (v : Value) → found ≡ copied.One v → AreCopies args found → args ≡ v ∷ []
+told_one args found v e are = subst (AreCopies args) e are
 
-pub told_two : (o : Option Frames) (frames : Frames) (found : Operands) (v w : Value) → o ≡ Some frames → found ≡ copied.Two v w → AreOperands frames found → operands_in o ≡ v ∷ w ∷ []
-told_two o frames found v w is e are = ap operands_in is ∙ subst (AreOperands frames) e are
+pub told_two : (args : List Value) (found : Operands) (v w : Value) → found ≡ copied.Two v w → AreCopies args found → args ≡ v ∷ w ∷ []
+told_two args found v w e are = subst (AreCopies args) e are
+
+-- ---- a member that has the fiber alone
+
+-- what it does is what the woven fiber does next
+pub member_by : (member : native.FiberMember) (args : List Value) (f g : Fib) (v : Option Value) (l : Standing) → did member args f ≡ Does g v → l.fiber ≡ f → member_next member args l ≡ Goes (record l { fiber = g; frames = push_result v l.frames })
+member_by member args f g v l e is = goes_by member args l.fiber (ap (did member args) is ∙ e)
+  where
+    does : Did → Next
+    does NotDone = Stands
+    does (Does h w) = Goes (record l { fiber = h; frames = push_result w l.frames })
+
+    same : (member : native.FiberMember) (args : List Value) (f : Fib) → does (did member args f) ≡ member_does Stands (λ h w. Goes (record l { fiber = h; frames = push_result w l.frames })) member args f
+    same native.Pc (Fiber ∷ []) (Fiber_at lo (Saved q x vs) de re pa) = refl
+    same native.Down (Fiber ∷ []) (Fiber_at lo r [] re pa) = refl
+    same native.Down (Fiber ∷ []) (Fiber_at lo r (d ∷ de) re pa) = refl
+    same native.Up (Fiber ∷ []) (Fiber_at [] r de re pa) = refl
+    same native.Up (Fiber ∷ []) (Fiber_at (k ∷ lo) r de re pa) = refl
+    same native.Save (v ∷ Fiber ∷ []) (Fiber_at lo (Saved q x vs) de re pa) = refl
+    same native.Place (Int (pos n) ∷ y ∷ Fiber ∷ []) (Fiber_at lo (Saved q x vs) de re pa) = refl
+    same native.Restore (Fiber ∷ []) (Fiber_at lo (Saved q x []) de re pa) = refl
+    same native.Restore (Fiber ∷ []) (Fiber_at lo (Saved q x (v ∷ vs)) de re pa) = refl
+    same native.Receiver (Fiber ∷ []) (Fiber_at lo r [] re pa) = refl
+    same native.Receiver (Fiber ∷ []) (Fiber_at lo r (Saved q x vs ∷ de) re pa) = refl
+    same _ _ _ = refl
+
+    goes_by : (member : native.FiberMember) (args : List Value) (f : Fib) → did member args f ≡ Does g v → member_does Stands (λ h w. Goes (record l { fiber = h; frames = push_result w l.frames })) member args f ≡ Goes (record l { fiber = g; frames = push_result v l.frames })
+    goes_by member args f e = sym (same member args f) ∙ ap does e
+
+-- one with a result has room for it
+pub gives_by : (member : native.FiberMember) (f g : Fib) (v : Value) → did member (Fiber ∷ []) f ≡ Does g (Some v) → gives_result (Some (native.OfFiber member)) ≡ true
+gives_by native.Pc f g v e = refl
+gives_by native.Down f g v e = refl
+gives_by native.Up f g v e = refl
+gives_by native.Restore f g v e = refl
+gives_by native.Receiver f g v e = refl
+gives_by native.Save f g v e = absurd (let never : NotDone ≡ Does g (Some v) = e in cc)
+gives_by native.Place f g v e = absurd (let never : NotDone ≡ Does g (Some v) = e in cc)

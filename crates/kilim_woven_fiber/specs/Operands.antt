@@ -1,13 +1,17 @@
 -- The operands of a built-in method that is called.
-use Rattle.std.specs.Prelude.{◌≡◌, [], ◌∷◌}
+use Rattle.std.specs.Prelude.{◌≡◌, List, [], ◌∷◌}
+use Rattle.kilim_classes.specs.declared.value.Value.{Value}
 use Rattle.kilim_machine_parts.specs.declared.frames.frames.Frames.{Frames}
 use Rattle.kilim_woven_fiber.specs.Body.{operands_of}
 use Rattle.kilim_woven_fiber.specs.declared.operands.Operands.{Operands}
 use Rattle.kilim_woven_fiber.specs.declared.operands.Operands.TheVariants as copied
 
 -- copies of them, where there are at most two
+abbrev pub AreCopies : List Value → Operands → Type 0
+AreCopies args copied.None = args ≡ []
+AreCopies args (copied.One value) = args ≡ value ∷ []
+AreCopies args (copied.Two first second) = args ≡ first ∷ second ∷ []
+AreCopies args copied.More = Unit {0}
+
 abbrev pub AreOperands : Frames → Operands → Type 0
-AreOperands frames copied.None = operands_of frames ≡ []
-AreOperands frames (copied.One value) = operands_of frames ≡ value ∷ []
-AreOperands frames (copied.Two first second) = operands_of frames ≡ first ∷ second ∷ []
-AreOperands frames copied.More = Unit {0}
+AreOperands frames found = AreCopies (operands_of frames) found

@@ -11,6 +11,7 @@ ghost use Rattle.kilim_weaving_laws.specs.woven_kin.Nexts.{Goes, counted, with_r
 ghost use Rattle.kilim_woven_runs.specs.Fibers.{is_rewinding};
 ghost use Rattle.kilim_woven_fiber.specs.Body.{standing_at, behind_at, operands_in, RoomyIn, RoomIn, HasFrames, HasOperands};
 ghost use Rattle.kilim_woven_fiber.specs.Comes.{CanGive, IsGivenBy, CanAsk, Comes, HasRoomFor, IsNear};
+ghost use Rattle.kilim_woven_fiber.specs.Operands.{AreCopies};
 ghost use Rattle.kilim_woven_runs.specs.fiber_records.natives.Natives.{meaning};
 
 use crate::body::{Body, Came};
@@ -421,6 +422,36 @@ fn ask_of_any_two(
     }
 }
 
+// A method that is no member of `kilim/Fiber`, with copies of its operands.
+fn ask_with(
+    alloc: Global,
+    plain: &Program,
+    program: &Program,
+    limits: &Limits,
+    native: Native,
+    operands: &Operands,
+    body: &mut Body,
+) -> Result<Came, NoMemory>
+    requires frames { HasFrames body.old.frames }
+    requires operands { AreCopies (operands_in body.old.frames) operands.now }
+    requires roomy { RoomyIn program.now body.old.frames }
+    requires counts { body.old.count + 1 < 2 ^ 64 }
+    requires can { CanAsk plain.now program.now (Some (meaning native)) (operands_in body.old.frames) body.old }
+    ensures comes { (set : Setting) → set.program ≡ plain.now → set.limits ≡ limits.now → IfOk result (λ came. Comes 0 (native_next set (behind_at 0 body.old) (meaning native) (operands_in body.old.frames)) body.new came) }
+    ensures roomy { OnOk result (RoomyIn program.now body.new.frames) }
+    ensures counted { OnOk result (IsNear body.old.count body.new.count) }
+    ensures room { IfOk result (λ came. HasRoomFor program.now body.new came) }
+{
+    match operands {
+        Operands::None => ask_of_none(plain, program, limits, native, body),
+        Operands::One(value) => ask_of_any_one(alloc, plain, program, limits, native, value, body),
+        Operands::Two(first, second) => {
+            ask_of_any_two(alloc, plain, program, limits, native, first, second, body)
+        }
+        Operands::More => Err(NoMemory),
+    }
+}
+
 // A method that is no member of `kilim/Fiber`.
 fn ask_other(
     alloc: Global,
@@ -443,15 +474,8 @@ fn ask_other(
     let Some(frames) = &body.frames else {
         unreachable!()
     };
-    let found = copy_operands(frames)?;
-    match found {
-        Operands::None => ask_of_none(plain, program, limits, native, body),
-        Operands::One(value) => ask_of_any_one(alloc, plain, program, limits, native, &value, body),
-        Operands::Two(first, second) => {
-            ask_of_any_two(alloc, plain, program, limits, native, &first, &second, body)
-        }
-        Operands::More => Err(NoMemory),
-    }
+    let operands = copy_operands(frames)?;
+    ask_with(alloc, plain, program, limits, native, &operands, body)
 }
 
 /// A built-in method that is called. A call that no verified code makes is answered want of memory.

@@ -69,8 +69,8 @@ pub fn first_body(
 ) -> Result<Body, NoMemory>
     ensures { IfOk result (λ body. BodyBoots plain.now program.now main body) }
 {
-    let mut heap = Heap::new(alloc);
     let object = new_object(alloc, plain, main)?;
+    let mut heap = Heap::new(alloc);
     let Ok(root) = heap.add(object) else {
         return Err(NoMemory);
     };

@@ -6,6 +6,7 @@ ghost use Rattle.kilim_classes.specs.machine.Natives as native;
 ghost use Rattle.kilim_weaving_laws.specs.woven_kin.Nexts.{member_next, with_result};
 ghost use Rattle.kilim_woven_fiber.specs.Body.{behind_at, operands_in, standing_at, HasFrames, RoomyIn, RoomIn};
 ghost use Rattle.kilim_woven_fiber.specs.Comes.{Comes, HasRoomFor, gives_result};
+ghost use Rattle.kilim_woven_runs.specs.fiber_records.Members.{did, Does};
 ghost use Rattle.kilim_woven_runs.specs.fiber_records.natives.Natives.{member_meant};
 
 use crate::body::{Body, Came};
@@ -13,6 +14,7 @@ use crate::operands::{is_alone, take_place, take_value};
 use crate::pass::{give, pass};
 use kilim_classes::{Program, Value};
 use kilim_units::NoMemory;
+use kilim_woven_runs::fiber_records::Records;
 use kilim_woven_runs::fiber_records::natives::Member;
 use std::alloc::Global;
 
@@ -44,75 +46,40 @@ pub fn pass_with(program: &Program, body: &mut Body, value: Value)
     give(program, frames, value);
 }
 
-fn place_number(program: &Program, body: &mut Body) -> Came
-    requires roomy { RoomyIn program.now body.old.frames }
-    requires room { RoomIn program.now body.old.frames }
-    ensures comes { Comes 0 (member_next native.Pc (a_value.Fiber ∷ []) (behind_at 0 body.old)) body.new result }
-    ensures roomy { RoomyIn program.now body.new.frames }
-    ensures count { body.new.count ≡ body.old.count }
-    ensures room { HasRoomFor program.now body.new result }
+// What a member that has the fiber alone does to the records, and its result. One that isn't called so in verified code is answered
+// want of memory.
+fn result_of(alloc: Global, member: Member, records: &mut Records) -> Result<Value, NoMemory>
+    ensures { IfOk result (λ value. did (member_meant member) (a_value.Fiber ∷ []) records.old ≡ Does records.new (Some value)) }
 {
-    let number = body.records.pc();
-    pass_with(program, body, Value::Int(number.cast_signed()));
-    Came::On
-}
-
-fn go_down(alloc: Global, program: &Program, body: &mut Body) -> Result<Came, NoMemory>
-    requires roomy { RoomyIn program.now body.old.frames }
-    requires room { RoomIn program.now body.old.frames }
-    ensures comes { IfOk result (λ came. Comes 0 (member_next native.Down (a_value.Fiber ∷ []) (behind_at 0 body.old)) body.new came) }
-    ensures roomy { OnOk result (RoomyIn program.now body.new.frames) }
-    ensures count { OnOk result (body.new.count ≡ body.old.count) }
-    ensures room { IfOk result (λ came. HasRoomFor program.now body.new came) }
-{
-    body.records.down(alloc)?;
-    pass_with(program, body, Value::Fiber);
-    Ok(Came::On)
-}
-
-fn go_up(program: &Program, body: &mut Body) -> Result<Came, NoMemory>
-    requires roomy { RoomyIn program.now body.old.frames }
-    requires room { RoomIn program.now body.old.frames }
-    ensures comes { IfOk result (λ came. Comes 0 (member_next native.Up (a_value.Fiber ∷ []) (behind_at 0 body.old)) body.new came) }
-    ensures roomy { OnOk result (RoomyIn program.now body.new.frames) }
-    ensures count { OnOk result (body.new.count ≡ body.old.count) }
-    ensures room { IfOk result (λ came. HasRoomFor program.now body.new came) }
-{
-    let Some(pauses) = body.records.up()? else {
-        return Err(NoMemory);
-    };
-    pass_with(program, body, Value::Int(i32::from(pauses)));
-    Ok(Came::On)
-}
-
-fn restore(program: &Program, body: &mut Body) -> Result<Came, NoMemory>
-    requires roomy { RoomyIn program.now body.old.frames }
-    requires room { RoomIn program.now body.old.frames }
-    ensures comes { IfOk result (λ came. Comes 0 (member_next native.Restore (a_value.Fiber ∷ []) (behind_at 0 body.old)) body.new came) }
-    ensures roomy { OnOk result (RoomyIn program.now body.new.frames) }
-    ensures count { OnOk result (body.new.count ≡ body.old.count) }
-    ensures room { IfOk result (λ came. HasRoomFor program.now body.new came) }
-{
-    let Some(value) = body.records.restore() else {
-        return Err(NoMemory);
-    };
-    pass_with(program, body, value);
-    Ok(Came::On)
-}
-
-fn receiver(program: &Program, body: &mut Body) -> Result<Came, NoMemory>
-    requires roomy { RoomyIn program.now body.old.frames }
-    requires room { RoomIn program.now body.old.frames }
-    ensures comes { IfOk result (λ came. Comes 0 (member_next native.Receiver (a_value.Fiber ∷ []) (behind_at 0 body.old)) body.new came) }
-    ensures roomy { OnOk result (RoomyIn program.now body.new.frames) }
-    ensures count { OnOk result (body.new.count ≡ body.old.count) }
-    ensures room { IfOk result (λ came. HasRoomFor program.now body.new came) }
-{
-    let Some(value) = body.records.receiver()? else {
-        return Err(NoMemory);
-    };
-    pass_with(program, body, value);
-    Ok(Came::On)
+    match member {
+        Member::Pc => {
+            let number = records.pc();
+            Ok(Value::Int(number.cast_signed()))
+        }
+        Member::Down => {
+            records.down(alloc)?;
+            Ok(Value::Fiber)
+        }
+        Member::Up => {
+            let Some(pauses) = records.up()? else {
+                return Err(NoMemory);
+            };
+            Ok(Value::Int(i32::from(pauses)))
+        }
+        Member::Restore => {
+            let Some(value) = records.restore() else {
+                return Err(NoMemory);
+            };
+            Ok(value)
+        }
+        Member::Receiver => {
+            let Some(value) = records.receiver()? else {
+                return Err(NoMemory);
+            };
+            Ok(value)
+        }
+        Member::Save | Member::Place => Err(NoMemory),
+    }
 }
 
 // A member without arguments.
@@ -129,14 +96,9 @@ fn ask_alone(
     ensures count { OnOk result (body.new.count ≡ body.old.count) }
     ensures room { IfOk result (λ came. HasRoomFor program.now body.new came) }
 {
-    match member {
-        Member::Pc => Ok(place_number(program, body)),
-        Member::Down => go_down(alloc, program, body),
-        Member::Up => go_up(program, body),
-        Member::Restore => restore(program, body),
-        Member::Receiver => receiver(program, body),
-        Member::Save | Member::Place => Err(NoMemory),
-    }
+    let value = result_of(alloc, member, &mut body.records)?;
+    pass_with(program, body, value);
+    Ok(Came::On)
 }
 
 // `save`: the value is moved off the stack.

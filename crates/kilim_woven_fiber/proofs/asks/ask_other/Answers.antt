@@ -1,28 +1,8 @@
-use Rattle.std.proofs.Common.{[], ◌∷◌}
-use Rattle.kilim_woven_runs.specs.fiber_records.natives.Natives.{meaning}
-use Rattle.kilim_woven_fiber.specs.Body.{behind_at, operands_in}
-use Rattle.kilim_woven_fiber.proofs.Asking.{args_same, come_by, told_none, told_one, told_two, with_args}
+use Rattle.std.proofs.Common.{Option, sym, subst}
+use Rattle.kilim_machine_parts.specs.declared.frames.frames.Frames.{Frames}
+use Rattle.kilim_woven_fiber.specs.Body.{operands_in}
+use Rattle.kilim_woven_fiber.specs.Operands.{AreCopies}
 use Rattle.kilim_woven_fiber.proofs.asks.ask_other.Goals as goal
 
-pub ask_of_any_two-requires-clause-can : goal.ask_of_any_two-requires-clause-can
-ask_of_any_two-requires-clause-can c =
-    with_args c.args.plain.now c.args.program.now c.args.body.now (operands_in c.args.body.now.frames) (c.in-Two.first ∷ c.in-Two.second ∷ []) (meaning c.args.native)
-    (told_two c.args.body.now.frames c.in-Some.frames c.in_ok-found.found c.in-Two.first c.in-Two.second c.in-Some.is c.in-Two.is c.in_ok-found.ensures) c.requires.can
-
-pub returns-in-None-clause-comes : goal.returns-in-None-clause-comes
-returns-in-None-clause-comes c = λ set is-program is-limits.
-    come_by 0 c.ask_of_none.new.body c.ask_of_none.result _ _
-    (args_same set (behind_at 0 c.args.body.now) (meaning c.args.native) (operands_in c.args.body.now.frames) [] (told_none c.args.body.now.frames c.in-Some.frames c.in_ok-found.found c.in-Some.is c.in-None.is c.in_ok-found.ensures))
-    (c.ask_of_none.ensures.comes set is-program is-limits)
-
-pub returns-in-One-clause-comes : goal.returns-in-One-clause-comes
-returns-in-One-clause-comes c = λ set is-program is-limits.
-    come_by 0 c.ask_of_any_one.new.body c.ask_of_any_one.result _ _
-    (args_same set (behind_at 0 c.args.body.now) (meaning c.args.native) (operands_in c.args.body.now.frames) (c.in-One.value ∷ []) (told_one c.args.body.now.frames c.in-Some.frames c.in_ok-found.found c.in-One.value c.in-Some.is c.in-One.is c.in_ok-found.ensures))
-    (c.ask_of_any_one.ensures.comes set is-program is-limits)
-
-pub returns-in-Two-clause-comes : goal.returns-in-Two-clause-comes
-returns-in-Two-clause-comes c = λ set is-program is-limits.
-    come_by 0 c.ask_of_any_two.new.body c.ask_of_any_two.result _ _
-    (args_same set (behind_at 0 c.args.body.now) (meaning c.args.native) (operands_in c.args.body.now.frames) (c.in-Two.first ∷ c.in-Two.second ∷ []) (told_two c.args.body.now.frames c.in-Some.frames c.in_ok-found.found c.in-Two.first c.in-Two.second c.in-Some.is c.in-Two.is c.in_ok-found.ensures))
-    (c.ask_of_any_two.ensures.comes set is-program is-limits)
+pub ask_with-requires-clause-operands : goal.ask_with-requires-clause-operands
+ask_with-requires-clause-operands c = subst (λ (o : Option Frames). AreCopies (operands_in o) c.in_ok-operands.operands) (sym c.in-Some.is) c.in_ok-operands.ensures
