@@ -1,4 +1,5 @@
 pub mod OfKind
 pub mod All
+pub mod Extending
 pub mod BuiltIn
 pub mod Counting

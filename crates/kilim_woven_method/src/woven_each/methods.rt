@@ -1,11 +1,12 @@
 //! All methods of a program, woven.
 
-ghost use Rattle.std.specs.Prelude.{◌≡◌, ◌<◌, ◌++◌, true, length, map, slice_get, option_copied, Some, IfOk};
+ghost use Rattle.std.specs.Prelude.{◌≡◌, ◌<◌, ◌+◌, ◌++◌, true, length, map, slice_get, take, option_copied, Some, IfOk, OnOk};
+ghost use Rattle.kilim_classes.specs.BuiltIn.{fiber_methods};
 ghost use Rattle.kilim_classes.specs.Names.{method_at};
 ghost use Rattle.kilim_typing.specs.Typed.{has_code};
 ghost use Rattle.kilim_typing.specs.TypedProgram.{KeepsTyped};
 ghost use Rattle.kilim_woven_pieces.specs.Listed.{Listed};
-ghost use Rattle.kilim_typing.specs.woven_form.Form.{AllWoven, IsWoven, all_counted};
+ghost use Rattle.kilim_typing.specs.woven_form.Form.{AllWoven, IsWoven, all_counted, first_class};
 ghost use Rattle.kilim_woven_method.specs.woven_each.Each.{IsEachWoven};
 
 use crate::woven_each::built_in::fiber_methods;
@@ -13,7 +14,7 @@ use crate::woven_each::copy::{joined, method_at};
 use crate::woven_each::each::woven_each;
 use crate::woven_each::extended::all_counted;
 use crate::woven_each::kept::keeps;
-use kilim_classes::{Frame, Method, MethodId, Program};
+use kilim_classes::{Form, Frame, Method, MethodId, Program};
 use kilim_typing::Typed;
 use kilim_typing::typing_laws::typed_by_place;
 use kilim_units::{NoMemory, Seq};
@@ -90,6 +91,26 @@ fn woven_at(
     woven_each(alloc, program, found.as_slice(), id, method)
 }
 
+// The woven form of the method of a number, behind those that are there.
+fn push_woven(
+    alloc: Global,
+    program: &Program,
+    frames: &[Seq<Frame>],
+    at: usize,
+    all: &mut Methods,
+) -> Result<(), NoMemory>
+    requires typed { KeepsTyped (record { program = program.now; frames = frames.now }) }
+    requires there { at < length program.now.methods }
+    ensures { OnOk result (IsEachWoven program.now (take at program.now.methods) all.old.methods all.old.counted → IsEachWoven program.now (take (at + 1) program.now.methods) all.new.methods all.new.counted) }
+{
+    let method = method_of(program, at);
+    let id = id_of(at)?;
+    let pair = woven_at(alloc, program, frames, id, method)?;
+    all.methods.push(pair.0)?;
+    all.counted.push(pair.1)?;
+    Ok(())
+}
+
 // The program's own methods and the built-in ones of the plain form.
 fn woven_each_one(
     alloc: Global,
@@ -99,17 +120,15 @@ fn woven_each_one(
     requires { KeepsTyped (record { program = program.now; frames = frames.now }) }
     ensures { IfOk result (λ all. IsEachWoven program.now program.now.methods all.methods all.counted) }
 {
-    let mut methods = Seq::new(alloc);
-    let mut counted = Seq::new(alloc);
+    let mut all = Methods {
+        methods: Seq::new(alloc),
+        counted: Seq::new(alloc),
+    };
     let count = count_of(program);
     for at in 0..count {
-        let method = method_of(program, at);
-        let id = id_of(at)?;
-        let pair = woven_at(alloc, program, frames, id, method)?;
-        methods.push(pair.0)?;
-        counted.push(pair.1)?;
+        push_woven(alloc, program, frames, at, &mut all)?;
     }
-    Ok(Methods { methods, counted })
+    Ok(all)
 }
 
 // All instructions of each method count.
@@ -125,15 +144,39 @@ fn all_marks(alloc: Global, methods: &[Method]) -> Result<Seq<Seq<bool>>, NoMemo
     Ok(all)
 }
 
+// The members of the fiber, of which all instructions count.
+fn fiber_of(alloc: Global, program: &Program) -> Result<Methods, NoMemory>
+    ensures methods { IfOk result (λ all. all.methods ≡ fiber_methods Form.Woven (first_class program.now)) }
+    ensures counted { IfOk result (λ all. all.counted ≡ map all_counted all.methods) }
+{
+    let methods = fiber_methods(alloc, program)?;
+    let counted = all_marks(alloc, methods.as_slice())?;
+    Ok(Methods { methods, counted })
+}
+
+fn both(all: Methods, last: Methods) -> Result<Methods, NoMemory>
+    ensures methods { IfOk result (λ r. r.methods ≡ all.methods ++ last.methods) }
+    ensures counted { IfOk result (λ r. r.counted ≡ all.counted ++ last.counted) }
+{
+    let counted = joined(all.counted, last.counted)?;
+    let methods = joined(all.methods, last.methods)?;
+    Ok(Methods { methods, counted })
+}
+
 fn with_fiber(alloc: Global, program: &Program, all: Methods) -> Result<Methods, NoMemory>
     requires { IsEachWoven program.now program.now.methods all.methods all.counted }
     ensures { IfOk result (λ all. AllWoven program.now program.now.methods all.methods all.counted) }
 {
-    let fiber = fiber_methods(alloc, program)?;
-    let marks = all_marks(alloc, fiber.as_slice())?;
-    let counted = joined(all.counted, marks)?;
-    let methods = joined(all.methods, fiber)?;
-    Ok(Methods { methods, counted })
+    match fiber_of(alloc, program) {
+        Ok(fiber) => {
+            let whole = both(all, fiber)?;
+            Ok(whole)
+        }
+        Err(fault) => {
+            drop(all);
+            Err(fault)
+        }
+    }
 }
 
 fn all_woven(alloc: Global, program: &Program, frames: &[Seq<Frame>]) -> Result<Methods, NoMemory>
