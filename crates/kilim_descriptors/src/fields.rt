@@ -36,7 +36,10 @@ fn class_at(alloc: Global, units: &[u16]) -> Result<(BaseText, &[u16]), Stop>
             if name.is_empty() {
                 return Err(Stop::Left(units.len()));
             }
-            Ok((BaseText::Class(Units::from_slice(alloc, name)?), rest))
+            match Units::from_slice(alloc, name) {
+                Ok(name) => Ok((BaseText::Class(name), rest)),
+                Err(_) => Err(Stop::Memory),
+            }
         }
     }
 }
@@ -94,20 +97,29 @@ fn dims_at(units: &[u16]) -> Result<(u8, &[u16]), Stop>
 pub fn field_at(alloc: Global, units: &[u16]) -> Result<(FieldText, &[u16]), Stop>
     ensures { Gives (λ x. (x.0, x.1.now)) result (field_at units.now) }
 {
-    let (dims, rest) = dims_at(units)?;
-    let (base, rest) = base_at(alloc, rest)?;
-    Ok((FieldText { dims, base }, rest))
+    match dims_at(units) {
+        Ok((dims, rest)) => match base_at(alloc, rest) {
+            Ok((base, rest)) => Ok((FieldText { dims, base }, rest)),
+            Err(stop) => Err(stop),
+        },
+        Err(stop) => Err(stop),
+    }
 }
 
 #[tactic(auto, unfolding(crate::specs::Reading::whole_field))]
 fn whole_field(alloc: Global, units: &[u16]) -> Result<FieldText, Stop>
     ensures { Gives (λ f. f) result (whole_field units.now) }
 {
-    let (found, rest) = field_at(alloc, units)?;
-    if rest.is_empty() {
-        Ok(found)
-    } else {
-        Err(Stop::Left(rest.len()))
+    match field_at(alloc, units) {
+        Ok((found, rest)) => {
+            if rest.is_empty() {
+                Ok(found)
+            } else {
+                drop(found);
+                Err(Stop::Left(rest.len()))
+            }
+        }
+        Err(stop) => Err(stop),
     }
 }
 

@@ -1,6 +1,6 @@
 //! Types of methods.
 
-ghost use Rattle.std.specs.Prelude.{◌≡◌, ◌⊎◌, ◌<◌, ◌≤◌, ◌^◌, length, sum_by, IfOk, IfErr, MatchResult};
+ghost use Rattle.std.specs.Prelude.{◌≡◌, ◌⊎◌, [], ◌<◌, ◌≤◌, ◌^◌, length, sum_by, IfOk, IfErr, MatchResult};
 ghost use Rattle.kilim_descriptors.specs.declared.types.MethodText.{MethodText};
 ghost use Rattle.kilim_descriptors.specs.declared.fault.DescriptorFault.TheVariants.{Memory, TooManySlots};
 ghost use Rattle.kilim_descriptors.specs.Text.{method_text, MethodFits, is_wide, slots, slots_of};
@@ -21,28 +21,42 @@ fn param_at(alloc: Global, units: &[u16]) -> Result<(Option<FieldText>, &[u16]),
     match units {
         [] => Err(Stop::Left(0)),
         [41, rest @ ..] => Ok((None, rest)),
-        _ => {
-            let (param, rest) = field_at(alloc, units)?;
-            Ok((Some(param), rest))
-        }
+        _ => match field_at(alloc, units) {
+            Ok((param, rest)) => Ok((Some(param), rest)),
+            Err(stop) => Err(stop),
+        },
     }
 }
 
-// The parameters up to the closing parenthesis.
-fn params_at(alloc: Global, units: &[u16]) -> Result<(Seq<FieldText>, &[u16]), Stop>
-    ensures { Gives (λ x. (x.0, x.1.now)) result (params_at (length units.now) units.now) }
+// The parameters up to the closing parenthesis, put behind none, and the units behind it.
+fn push_params<'a>(
+    alloc: Global,
+    units: &'a [u16],
+    params: &mut Seq<FieldText>,
+) -> Result<&'a [u16], Stop>
+    requires none { params.old ≡ [] }
+    ensures { Gives (λ rest. (params.new, rest.now)) result (params_at (length units.now) units.now) }
 {
-    let mut params = Vec::new(alloc);
     let mut rest = units;
     for _ in 0..units.len() {
         let (param, after) = param_at(alloc, rest)?;
         let Some(param) = param else {
-            return Ok((Seq::from_vec(params), after));
+            return Ok(after);
         };
         params.push(param)?;
         rest = after;
     }
     Err(Stop::Left(rest.len()))
+}
+
+fn params_at(alloc: Global, units: &[u16]) -> Result<(Seq<FieldText>, &[u16]), Stop>
+    ensures { Gives (λ x. (x.0, x.1.now)) result (params_at (length units.now) units.now) }
+{
+    let mut params = Seq::new(alloc);
+    match push_params(alloc, units, &mut params) {
+        Ok(rest) => Ok((params, rest)),
+        Err(stop) => Err(stop),
+    }
 }
 
 #[tactic(auto, unfolding(crate::specs::Reading::result_at))]
@@ -52,10 +66,10 @@ fn result_at(alloc: Global, units: &[u16]) -> Result<(Option<FieldText>, &[u16])
     match units {
         [] => Err(Stop::Left(0)),
         [86, rest @ ..] => Ok((None, rest)),
-        _ => {
-            let (found, rest) = field_at(alloc, units)?;
-            Ok((Some(found), rest))
-        }
+        _ => match field_at(alloc, units) {
+            Ok((found, rest)) => Ok((Some(found), rest)),
+            Err(stop) => Err(stop),
+        },
     }
 }
 
@@ -69,12 +83,18 @@ fn whole_method(alloc: Global, units: &[u16]) -> Result<MethodText, Stop>
     if *unit != 40 {
         return Err(Stop::Left(units.len()));
     }
-    let (params, rest) = params_at(alloc, rest)?;
-    let (result, rest) = result_at(alloc, rest)?;
-    if rest.is_empty() {
-        Ok(MethodText { params, result })
-    } else {
-        Err(Stop::Left(rest.len()))
+    match params_at(alloc, rest) {
+        Ok((params, rest)) => match result_at(alloc, rest) {
+            Ok((result, rest)) => {
+                if rest.is_empty() {
+                    Ok(MethodText { params, result })
+                } else {
+                    Err(Stop::Left(rest.len()))
+                }
+            }
+            Err(stop) => Err(stop),
+        },
+        Err(stop) => Err(stop),
     }
 }
 
@@ -135,9 +155,11 @@ pub fn method(alloc: Global, text: &Units) -> Result<MethodText, DescriptorFault
         Ok(found) => {
             let slots = slots_of(found.params.as_slice());
             if slots > 255 {
-                return Err(DescriptorFault::TooManySlots(slots));
+                drop(found);
+                Err(DescriptorFault::TooManySlots(slots))
+            } else {
+                Ok(found)
             }
-            Ok(found)
         }
         Err(Stop::Left(left)) => Err(DescriptorFault::Malformed(units.len() - left)),
         Err(Stop::Memory) => Err(DescriptorFault::Memory),
