@@ -1,3 +1,4 @@
 pub mod Climbing
 pub mod Slots
 pub mod Constants
+pub mod Acting

@@ -1,12 +1,7 @@
 //! What instructions do to a graph, sorted by what the rules tell apart.
 
 ghost use Rattle.std.specs.Prelude.{◌≡◌};
-ghost use Rattle.kilim_classes.specs.declared.class.Method.{Method};
-ghost use Rattle.kilim_classes.specs.Program.{Program};
-ghost use Rattle.kilim_typing.specs.Step.{Types};
-ghost use Rattle.kilim_shape_graph.specs.declared.graph.Graph.{Graph};
-ghost use Rattle.kilim_isolation_rules.specs.Actions.{deed_by};
-ghost use Rattle.kilim_isolation_rules.specs.Rules.{deed};
+ghost use Rattle.kilim_isolation_rules.specs.Actions.{action, passing_action, word_action};
 
 use kilim_classes::{ClassId, FieldId, Instr, MethodId, Ty};
 
@@ -47,22 +42,24 @@ pub enum Action {
     Casts(Ty),
 }
 
-/// What an instruction does to a graph.
-#[tactic(auto, using(crate::proofs::Constants::constant_passes, crate::proofs::Constants::long_constant_passes), unfolding(crate::specs::Rules::deed, kilim_typing::specs::Step::row))]
-pub fn action_of(instr: &Instr) -> Action
-    ensures { (p : Program) (m : Method) (g : Graph) (f : Types) → deed p m g f instr.now ≡ deed_by p m g f result }
+// What an instruction does that only passes values: how many items it takes and gives. Sums, comparisons and loads of elements take two and give one.
+#[tactic(auto, unfolding(crate::specs::Actions::passing_action))]
+fn passing_action(instr: &Instr) -> Action
+    ensures { result ≡ passing_action instr.now }
 {
     match instr {
-        Instr::Nop | Instr::Iinc(_, _) | Instr::Goto(_) | Instr::GotoW(_) => Action::Passes(0, 0),
+        Instr::Nop | Instr::Iinc(_, _) | Instr::Goto(_) | Instr::GotoW(_) | Instr::Athrow =>
+            Action::Passes(0, 0),
         Instr::AconstNull
         | Instr::Iconst(_)
         | Instr::Lconst(_)
         | Instr::Bipush(_)
         | Instr::Sipush(_)
         | Instr::Iload(_)
-        | Instr::Lload(_) => Action::Passes(0, 1),
-        Instr::Ldc(_) | Instr::LdcW(_) => Action::Passes(0, 1),
-        Instr::Ldc2W(_) => Action::Passes(0, 1),
+        | Instr::Lload(_)
+        | Instr::Ldc(_)
+        | Instr::LdcW(_)
+        | Instr::Ldc2W(_) => Action::Passes(0, 1),
         Instr::Ineg
         | Instr::Lneg
         | Instr::I2l
@@ -82,34 +79,6 @@ pub fn action_of(instr: &Instr) -> Action
         | Instr::Ifnonnull(_)
         | Instr::Tableswitch(_, _, _)
         | Instr::Lookupswitch(_, _) => Action::Passes(1, 0),
-        Instr::Iadd
-        | Instr::Ladd
-        | Instr::Isub
-        | Instr::Lsub
-        | Instr::Imul
-        | Instr::Lmul
-        | Instr::Idiv
-        | Instr::Ldiv
-        | Instr::Irem
-        | Instr::Lrem
-        | Instr::Ishl
-        | Instr::Lshl
-        | Instr::Ishr
-        | Instr::Lshr
-        | Instr::Iushr
-        | Instr::Lushr
-        | Instr::Iand
-        | Instr::Land
-        | Instr::Ior
-        | Instr::Lor
-        | Instr::Ixor
-        | Instr::Lxor
-        | Instr::Lcmp
-        | Instr::Iaload
-        | Instr::Laload
-        | Instr::Baload
-        | Instr::Caload
-        | Instr::Saload => Action::Passes(2, 1),
         Instr::IfIcmpeq(_)
         | Instr::IfIcmpne(_)
         | Instr::IfIcmplt(_)
@@ -120,10 +89,16 @@ pub fn action_of(instr: &Instr) -> Action
         | Instr::IfAcmpne(_) => Action::Passes(2, 0),
         Instr::Iastore | Instr::Lastore | Instr::Bastore | Instr::Castore | Instr::Sastore =>
             Action::Passes(3, 0),
-        Instr::Aload(slot) => Action::LoadsReference(*slot),
-        Instr::Astore(slot) => Action::StoresReference(*slot),
-        Instr::Istore(slot) => Action::StoresValue(*slot, false),
-        Instr::Lstore(slot) => Action::StoresValue(*slot, true),
+        _ => Action::Passes(2, 1),
+    }
+}
+
+// What a pop, dup or swap form does, or one of those above.
+#[tactic(auto, unfolding(crate::specs::Actions::word_action))]
+fn word_action(instr: &Instr) -> Action
+    ensures { result ≡ word_action instr.now }
+{
+    match instr {
         Instr::Pop => Action::Shuffles(Words::Drops(1)),
         Instr::Pop2 => Action::Shuffles(Words::Drops(2)),
         Instr::Dup => Action::Shuffles(Words::Copies(1, 0)),
@@ -133,6 +108,20 @@ pub fn action_of(instr: &Instr) -> Action
         Instr::Dup2X1 => Action::Shuffles(Words::Copies(2, 1)),
         Instr::Dup2X2 => Action::Shuffles(Words::Copies(2, 2)),
         Instr::Swap => Action::Shuffles(Words::Swaps),
+        _ => passing_action(instr),
+    }
+}
+
+/// What an instruction does to a graph.
+#[tactic(auto, unfolding(crate::specs::Actions::action))]
+pub fn action_of(instr: &Instr) -> Action
+    ensures { result ≡ action instr.now }
+{
+    match instr {
+        Instr::Aload(slot) => Action::LoadsReference(*slot),
+        Instr::Astore(slot) => Action::StoresReference(*slot),
+        Instr::Istore(slot) => Action::StoresValue(*slot, false),
+        Instr::Lstore(slot) => Action::StoresValue(*slot, true),
         Instr::New(class) => Action::MakesObject(*class),
         Instr::Newarray(_) => Action::MakesValues,
         Instr::Anewarray(ty) => Action::MakesReferences(*ty),
@@ -146,6 +135,6 @@ pub fn action_of(instr: &Instr) -> Action
         Instr::Areturn => Action::ReturnsReference,
         Instr::Ireturn | Instr::Lreturn | Instr::Return => Action::Returns,
         Instr::Checkcast(ty) => Action::Casts(*ty),
-        Instr::Athrow => Action::Passes(0, 0),
+        _ => word_action(instr),
     }
 }

@@ -1,0 +1,13 @@
+use Rattle.std.proofs.Common.{◌∙◌, ap, sym}
+use Rattle.kilim_shape_graph.specs.declared.graph.Graph.{Graph}
+use Rattle.kilim_isolation_rules.specs.declared.action.Action.{Action}
+use Rattle.kilim_isolation_rules.specs.Actions.{deed_by}
+use Rattle.kilim_isolation_rules.proofs.Acting.{acts}
+use Rattle.kilim_isolation_rules.proofs.rules.deed_of.Goals as goal
+
+pub returns-in-Ok : goal.returns-in-Ok
+returns-in-Ok c f same =
+    c.as_deed.ensures
+    ∙ (c.in-Ok.ensures f same
+    ∙ (ap (λ (g : Graph). deed_by c.args.program.now c.args.method.now g f c.action_of.result) c.in_ok-new.ensures
+    ∙ (ap (λ (a : Action). deed_by c.args.program.now c.args.method.now c.args.graph.now f a) c.action_of.ensures ∙ sym (acts c.args.program.now c.args.method.now c.args.graph.now f c.args.instr.now))))
