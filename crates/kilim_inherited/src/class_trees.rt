@@ -1,6 +1,6 @@
 //! The trees of classes, each from its superclass's.
 
-ghost use Rattle.std.specs.Prelude.{◌≡◌, ◌≤◌, ◌<◌, ◌^◌, ℕ, true, None, Some, IfOk, OnOk, is_some, length, slice_set};
+ghost use Rattle.std.specs.Prelude.{◌≡◌, [], ◌≤◌, ◌<◌, ◌^◌, ℕ, true, None, Some, IfOk, OnOk, is_some, length, slice_set};
 ghost use Rattle.kilim_classes.specs.declared.names.ClassId.{ClassId};
 ghost use Rattle.kilim_inherited.specs.Fronts.{IsFront, said_onto};
 ghost use Rattle.kilim_inherited.specs.Inherited.{said_at, said_in};
@@ -8,7 +8,7 @@ ghost use Rattle.kilim_inherited.specs.Roots.{root_at, MadeBelow, Keeps, Sound};
 ghost use Rattle.kilim_inherited.specs.Trees.{IsTable, Makes, Has, Fits, value_at, key_levels};
 
 use crate::entry::Entry;
-use crate::node::Node;
+use crate::node::{Node, add};
 use crate::order::{superclass_in, superclasses_first};
 use crate::put::put_entries;
 use kilim_classes::ClassId;
@@ -42,6 +42,35 @@ pub struct Front {
     pub base: u32,
 }
 
+// The classes of the front of a class's line, put behind none, and the tree that their entries are put onto.
+fn push_front(
+    roots: &[Option<u32>],
+    ups: &[Option<ClassId>],
+    class: ClassId,
+    classes: &mut Seq<ClassId>,
+) -> Result<u32, NoMemory>
+    requires none { classes.old ≡ [] }
+    ensures { IfOk result (λ base. IsFront ups.now roots.now class classes.new base) }
+{
+    let mut at = class;
+    let mut left = ups.len();
+    while left > 0 {
+        classes.push(at)?;
+        let Some(up) = superclass_in(ups, at) else {
+            return Ok(0);
+        };
+        if up == class {
+            return Ok(0);
+        }
+        if let Some(base) = root_of(roots, up) {
+            return Ok(base);
+        }
+        at = up;
+        left -= 1;
+    }
+    Ok(0)
+}
+
 /// The front of a class's line up to the first class above it whose tree is made. Where the line ends before that, comes
 /// back to the class or has as many classes as there are, it says no more, and the front is put onto the empty tree.
 pub fn front_of(
@@ -53,23 +82,10 @@ pub fn front_of(
     ensures { IfOk result (λ front. IsFront ups.now roots.now class front.classes front.base) }
 {
     let mut classes: Seq<ClassId> = Seq::new(alloc);
-    let mut at = class;
-    let mut left = ups.len();
-    while left > 0 {
-        classes.push(at)?;
-        let Some(up) = superclass_in(ups, at) else {
-            return Ok(Front { classes, base: 0 });
-        };
-        if up == class {
-            return Ok(Front { classes, base: 0 });
-        }
-        if let Some(base) = root_of(roots, up) {
-            return Ok(Front { classes, base });
-        }
-        at = up;
-        left -= 1;
+    match push_front(roots, ups, class, &mut classes) {
+        Ok(base) => Ok(Front { classes, base }),
+        Err(fault) => Err(fault),
     }
-    Ok(Front { classes, base: 0 })
 }
 
 /// The tree where the entries of classes stand before what the tree has, those of the first class before the others.
@@ -179,4 +195,23 @@ pub fn make_all(
         make_tree(alloc, nodes, roots, ups, entries, ClassId(number))?;
     }
     Ok(())
+}
+
+/// Makes the trees of all classes, where there is no node and no tree.
+pub fn make(
+    alloc: Global,
+    nodes: &mut Seq<Node>,
+    roots: &mut Seq<Option<u32>>,
+    ups: &[Option<ClassId>],
+    entries: &[Seq<Entry>],
+) -> Result<(), NoMemory>
+    requires said { length entries.now ≤ length ups.now }
+    requires nodes { nodes.old ≡ [] }
+    requires none { (c : ClassId) → root_at roots.old c ≡ None }
+    ensures sound { OnOk result (Sound ups.now entries.now nodes.new roots.new) }
+    ensures made { OnOk result (MadeBelow (length roots.old) roots.new) }
+{
+    add(nodes, Node::Empty)?;
+    make_trees(alloc, nodes, roots, ups, entries)?;
+    make_all(alloc, nodes, roots, ups, entries)
 }

@@ -3,10 +3,10 @@
 ghost use Rattle.std.specs.Prelude.{◌≡◌, ◌≤◌, true, false, IfOk, length};
 ghost use Rattle.kilim_inherited.specs.Roots.{inherits, InheritsNone, InheritsSome, IsRight, OnlyKeys};
 
-use crate::class_trees::{make_all, make_trees, no_roots, root_of};
+use crate::class_trees::{make, no_roots, root_of};
 use crate::entry::Entry;
 use crate::lookup::{has_any, key_levels, value_at};
-use crate::node::{Node, add};
+use crate::node::Node;
 use kilim_classes::ClassId;
 use kilim_units::{NoMemory, Seq};
 use std::alloc::Global;
@@ -40,12 +40,12 @@ impl Inherited {
         requires { length entries.now ≤ length ups.now }
         ensures { IfOk result (λ it. IsRight ups.now entries.now it) }
     {
-        let mut nodes: Seq<Node> = Seq::new(alloc);
-        add(&mut nodes, Node::Empty)?;
         let mut roots = no_roots(alloc, ups.len())?;
-        make_trees(alloc, &mut nodes, &mut roots, ups, entries)?;
-        make_all(alloc, &mut nodes, &mut roots, ups, entries)?;
-        Ok(Inherited { nodes, roots })
+        let mut nodes: Seq<Node> = Seq::new(alloc);
+        match make(alloc, &mut nodes, &mut roots, ups, entries) {
+            Ok(()) => Ok(Inherited { nodes, roots }),
+            Err(fault) => Err(fault),
+        }
     }
 
     /// What a class inherits of a key: what the first class of its line says that says something; none where that says

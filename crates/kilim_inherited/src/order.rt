@@ -28,27 +28,26 @@ fn is_new(seen: &mut Vec<bool>, class: ClassId) -> bool {
 }
 
 // A class, its superclass, and so on up to the first one that was seen.
-fn unseen_line(
-    alloc: Global,
+fn push_unseen(
     ups: &[Option<ClassId>],
     class: ClassId,
     seen: &mut Vec<bool>,
-) -> Result<Seq<ClassId>, NoMemory> {
-    let mut line: Seq<ClassId> = Seq::new(alloc);
+    line: &mut Seq<ClassId>,
+) -> Result<(), NoMemory> {
     let mut at = class;
     let mut left = ups.len();
     while left > 0 {
         left -= 1;
         if !is_new(seen, at) {
-            return Ok(line);
+            return Ok(());
         }
         line.push(at)?;
         let Some(up) = superclass_in(ups, at) else {
-            return Ok(line);
+            return Ok(());
         };
         at = up;
     }
-    Ok(line)
+    Ok(())
 }
 
 fn add_back(order: &mut Seq<ClassId>, line: &[ClassId]) -> Result<(), NoMemory> {
@@ -56,6 +55,34 @@ fn add_back(order: &mut Seq<ClassId>, line: &[ClassId]) -> Result<(), NoMemory> 
     while left > 0 {
         left -= 1;
         order.push(line[left])?;
+    }
+    Ok(())
+}
+
+// The classes of a class's line that weren't seen, each behind its superclass.
+fn push_line(
+    alloc: Global,
+    ups: &[Option<ClassId>],
+    class: ClassId,
+    seen: &mut Vec<bool>,
+    order: &mut Seq<ClassId>,
+) -> Result<(), NoMemory> {
+    let mut line = Seq::new(alloc);
+    push_unseen(ups, class, seen, &mut line)?;
+    add_back(order, line.as_slice())
+}
+
+fn push_lines(
+    alloc: Global,
+    ups: &[Option<ClassId>],
+    seen: &mut Vec<bool>,
+    order: &mut Seq<ClassId>,
+) -> Result<(), NoMemory> {
+    for place in 0..ups.len() {
+        let Ok(number) = u32::try_from(place) else {
+            return Ok(());
+        };
+        push_line(alloc, ups, ClassId(number), seen, order)?;
     }
     Ok(())
 }
@@ -69,12 +96,8 @@ pub fn superclasses_first(
 ) -> Result<Seq<ClassId>, NoMemory> {
     let mut seen: Vec<bool> = vec![in alloc; false; ups.len()]?;
     let mut order: Seq<ClassId> = Seq::new(alloc);
-    for place in 0..ups.len() {
-        let Ok(number) = u32::try_from(place) else {
-            return Ok(order);
-        };
-        let line = unseen_line(alloc, ups, ClassId(number), &mut seen)?;
-        add_back(&mut order, line.as_slice())?;
+    match push_lines(alloc, ups, &mut seen, &mut order) {
+        Ok(()) => Ok(order),
+        Err(fault) => Err(fault),
     }
-    Ok(order)
 }

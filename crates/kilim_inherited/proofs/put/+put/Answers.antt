@@ -1,6 +1,7 @@
 use Rattle.std.proofs.Common.{◌≡◌, ℕ, ◌-◌, ◌<◌, ◌%◌, ◌==◌, true, false, arith, rules}
 use Rattle.kilim_inherited.specs.Trees.{Makes, Has, Joins, changed_at, value_at}
 use Rattle.kilim_inherited.proofs.Putting.{ok_then, put_even, put_odd, at_levels, rest_fits, opened_fits}
+use Rattle.kilim_inherited.proofs.Growing.{grown_length}
 use Rattle.kilim_inherited.proofs.put.+put.Goals as goal
 
 pub put-requires : goal.put-requires
@@ -52,3 +53,9 @@ returns-in_ok-odd t c =
     (λ (made : ℕ). Makes old new made × Has new levels made (changed_at key value (value_at old levels tree)))
     (λ made h. at_levels old new levels tree made key value some (put_odd old mid low new tree (levels - 1) key value c.in_ok-even.even c.in_ok-even.odd made_side made c.in_ok-even.ensures c.in_ok-odd.ensures.0 h.0 isnt c.in_ok-odd.ensures.1 h.1))
     c.branch-nodes-else-key-eq0.ensures
+
+pub branch-nodes-requires-clause-odd : goal.branch-nodes-requires-clause-odd
+branch-nodes-requires-clause-odd t c = grown_length c.opened.new.nodes c.put.new.nodes c.in_ok-even-2.ensures.0.grown c.in_ok-even.odd c.in_ok-even.ensures.odd_inside
+
+pub branch-nodes-requires-else-key-eq0-clause-even : goal.branch-nodes-requires-else-key-eq0-clause-even
+branch-nodes-requires-else-key-eq0-clause-even t c = grown_length c.opened.new.nodes c.put-else-key-eq0.new.nodes c.in_ok-odd.ensures.0.grown c.in_ok-even.even c.in_ok-even.ensures.even_inside

@@ -1,5 +1,5 @@
-use Rattle.std.proofs.Common.{◌≡◌, Some, None, ◌∙◌, arith}
-use Rattle.std.proofs.lemmas.Grind.{common_steps}
+use Rattle.std.proofs.Common.{◌≡◌, Some, None, sym, ap, ◌∙◌, arith}
+use Rattle.kilim_inherited.specs.declared.signature.Signature.{Signature}
 use Rattle.kilim_inherited.specs.Numbers.{number_at}
 use Rattle.kilim_inherited.proofs.Signatures.{same_is}
 use Rattle.kilim_inherited.proofs.Numbering.{kept, all_below, all_apart}
@@ -8,16 +8,16 @@ use Rattle.kilim_inherited.proofs.numbers.Numbers.add.Goals as goal
 pub returns-clause-kept : goal.returns-clause-kept
 returns-clause-kept c =
     let s = c.in_ok-copied.field-0 in
-    let none : number_at c.args.self.now.places s.name s.descriptor ≡ None = grind (arith, common_steps) in
-    let here : number_at c.insert.new.self s.name s.descriptor ≡ Some c.args.self.now.next = grind (arith, common_steps) in
+    let none : number_at c.args.self.now.places s.name s.descriptor ≡ None = ap (λ (q : Signature). number_at c.args.self.now.places q.name q.descriptor) c.in_ok-copied.ensures ∙ sym c.in_default.ensures in
+    let here : number_at c.insert.new.self s.name s.descriptor ≡ Some c.args.self.now.next = c.in_ok-insert.ensures.updates.1 in
     kept (number_at c.args.self.now.places) (number_at c.insert.new.self) s c.args.self.now.next none here
     (λ name descriptor apart. c.in_ok-insert.ensures.updates.2 (record { name = name; descriptor = descriptor }) (same_is s (record { name = name; descriptor = descriptor }) ∙ apart))
 
 pub returns-clause-numbered : goal.returns-clause-numbered
 returns-clause-numbered c =
     let s = c.in_ok-copied.field-0 in
-    let none : number_at c.args.self.now.places s.name s.descriptor ≡ None = grind (arith, common_steps) in
-    let here : number_at c.insert.new.self s.name s.descriptor ≡ Some c.args.self.now.next = grind (arith, common_steps) in
+    let none : number_at c.args.self.now.places s.name s.descriptor ≡ None = ap (λ (q : Signature). number_at c.args.self.now.places q.name q.descriptor) c.in_ok-copied.ensures ∙ sym c.in_default.ensures in
+    let here : number_at c.insert.new.self s.name s.descriptor ≡ Some c.args.self.now.next = c.in_ok-insert.ensures.updates.1 in
     record {
       apart =
           all_apart (number_at c.args.self.now.places) (number_at c.insert.new.self) s c.args.self.now.next none here

@@ -1,7 +1,7 @@
 use Rattle.std.proofs.Common.{◌-◌, length, sym, ◌∙◌, arith}
 use Rattle.kilim_inherited.specs.Inherited.{up_in}
 use Rattle.kilim_inherited.proofs.Fronts.{ends, comes_back, stands_on, goes_on, is_itself}
-use Rattle.kilim_inherited.proofs.class_trees.front_of.Goals as goal
+use Rattle.kilim_inherited.proofs.class_trees.push_front.Goals as goal
 
 pub returns-in_default : goal.returns-in_default
 returns-in_default c =

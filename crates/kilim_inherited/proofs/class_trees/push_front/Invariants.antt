@@ -1,7 +1,7 @@
 use Rattle.std.proofs.Common.{◌≡◌, ◌-◌, ◌≤◌, Some, length}
 use Rattle.kilim_inherited.specs.Inherited.{line_up}
 use Rattle.kilim_inherited.specs.Fronts.{class_after}
-use Rattle.kilim_inherited.proofs.class_trees.front_of.Given as goal
+use Rattle.kilim_inherited.proofs.class_trees.push_front.Given as goal
 
 abbrev pub invariant-loop-left : goal.invariant-loop-left
 invariant-loop-left l = record {
