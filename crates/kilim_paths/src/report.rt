@@ -3,7 +3,7 @@
 ghost use Rattle.std.specs.Prelude.{◌≡◌, ◌<◌, ◌≤◌, ◌++◌, ◌∷◌, [], ℕ, List, Option, Result, length, slice_get, IsTrue, ◌↔◌, IfOk, OnOk, OnErr, IfSome};
 ghost use Rattle.std.specs.List.{AllByRecursion, AllZip};
 ghost use Rattle.kilim_paths.specs.Paths.{Machine, Has, ArrivesBy};
-ghost use Rattle.kilim_paths.specs.Search.{AreLinked, IsFound, IsAt, IsReportOf};
+ghost use Rattle.kilim_paths.specs.Search.{AreLinked, Good, IsFound, IsAt, IsReportOf};
 ghost use Rattle.kilim_paths.specs.Answer.{IsAnswer};
 ghost use Rattle.kilim_paths.specs.declared.store.Reached.{Reached};
 
@@ -51,12 +51,12 @@ fn reports<S: State>(
     alloc: Global,
     store: &Store<S>,
     found: &[Found],
-) -> Result<Vec<Report>, NoMemory>
+) -> Result<Seq<Report>, NoMemory>
     requires linked { (m : Machine S) × AreLinked m store.now.entries }
     requires found { (m : Machine S) × AllByRecursion (IsFound m store.now.entries) found.now }
-    ensures { IfOk result (λ rs. (m : Machine S) → AreLinked m store.now.entries → AllByRecursion (IsFound m store.now.entries) found.now → AllZip (IsReportOf m) found.now rs.items) }
+    ensures { IfOk result (λ rs. (m : Machine S) → AreLinked m store.now.entries → AllByRecursion (IsFound m store.now.entries) found.now → AllZip (IsReportOf m) found.now rs) }
 {
-    let mut reports = Vec::new(alloc);
+    let mut reports = Seq::new(alloc);
     for fault in found {
         let path = path_to(alloc, store, fault.at)?;
         reports.push(Report {
@@ -68,17 +68,40 @@ fn reports<S: State>(
     Ok(reports)
 }
 
-/// Exactly the faults of all paths, or a place that more than 256 states reach.
-pub fn explore<M: Moves>(alloc: Global, machine: &M) -> Result<Explored, NoMemory>
-    ensures { IfOk result (λ answer. IsAnswer (M.means machine.now) answer) }
+// The store where only the entry was reached.
+fn started<M: Moves>(alloc: Global, machine: &M) -> Result<Store<M::State>, NoMemory>
+    ensures { IfOk result (λ store. Good (M.means machine.now) (M.fits machine.now) store []) }
 {
     let entry = machine.entry()?;
     let mut store = Store::new(alloc, machine.size())?;
     store.push(0, entry, 0)?;
-    let mut found = Vec::new(alloc);
-    if let Some(place) = search(machine, &mut store, &mut found)? {
+    Ok(store)
+}
+
+// What the search from there answers.
+fn answer<M: Moves>(
+    alloc: Global,
+    machine: &M,
+    store: &mut Store<M::State>,
+    found: &mut Vec<Found>,
+) -> Result<Explored, NoMemory>
+    requires { Good (M.means machine.now) (M.fits machine.now) store.old found.old.items }
+    ensures { IfOk result (λ answer. IsAnswer (M.means machine.now) answer) }
+{
+    if let Some(place) = search(machine, store, found)? {
         return Ok(Explored::Crowded(place));
     }
-    let reports = reports(alloc, &store, &found)?;
-    Ok(Explored::Faults(Seq::from_vec(reports)))
+    match reports(alloc, store, found.as_slice()) {
+        Ok(reports) => Ok(Explored::Faults(reports)),
+        Err(fault) => Err(fault),
+    }
+}
+
+/// Exactly the faults of all paths, or a place that more than 256 states reach.
+pub fn explore<M: Moves>(alloc: Global, machine: &M) -> Result<Explored, NoMemory>
+    ensures { IfOk result (λ answer. IsAnswer (M.means machine.now) answer) }
+{
+    let mut store = started(alloc, machine)?;
+    let mut found = Vec::new(alloc);
+    answer(alloc, machine, &mut store, &mut found)
 }

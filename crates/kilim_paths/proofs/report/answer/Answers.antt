@@ -2,9 +2,8 @@ use Rattle.std.proofs.Common.{ℕ, subst, sym, List, Option, None}
 use Rattle.std.specs.List.{AllByRecursion, AllZip}
 use Rattle.kilim_paths.specs.Search.{IsFound, Searched, IsReportOf}
 use Rattle.kilim_paths.specs.declared.found.Found.{Found}
-use Rattle.kilim_paths.specs.declared.report.Report.{Report}
 use Rattle.kilim_paths.proofs.Ends.{faults}
-use Rattle.kilim_paths.proofs.report.explore.Goals as goal
+use Rattle.kilim_paths.proofs.report.answer.Goals as goal
 
 pub reports-requires-clause-linked : goal.reports-requires-clause-linked
 reports-requires-clause-linked g c =
@@ -16,13 +15,12 @@ pub reports-requires-clause-found : goal.reports-requires-clause-found
 reports-requires-clause-found g c =
     let m = g.M.Moves.means c.args.machine.now in
     let s : Searched m (g.M.Moves.fits c.args.machine.now) c.search.new.store c.search.new.found.items None = subst (λ (o : Option ℕ). Searched m (g.M.Moves.fits c.args.machine.now) c.search.new.store c.search.new.found.items o) c.in_default.is c.in_ok-place.ensures in
-    (m, subst (λ (fs : List Found). AllByRecursion (IsFound m c.search.new.store.entries) fs) (sym c.deref.ensures.value) s.0.found)
+    (m, subst (λ (fs : List Found). AllByRecursion (IsFound m c.search.new.store.entries) fs) (sym c.as_slice.ensures.value) s.0.found)
 
-pub returns : goal.returns
-returns g c =
+pub returns-in-Ok : goal.returns-in-Ok
+returns-in-Ok g c =
     let m = g.M.Moves.means c.args.machine.now in
     let s : Searched m (g.M.Moves.fits c.args.machine.now) c.search.new.store c.search.new.found.items None = subst (λ (o : Option ℕ). Searched m (g.M.Moves.fits c.args.machine.now) c.search.new.store c.search.new.found.items o) c.in_default.is c.in_ok-place.ensures in
-    let fs : AllByRecursion (IsFound m c.search.new.store.entries) c.deref.result.now = subst (λ (fs : List Found). AllByRecursion (IsFound m c.search.new.store.entries) fs) (sym c.deref.ensures.value) s.0.found in
-    let zs : AllZip (IsReportOf m) c.search.new.found.items c.in_ok-reports.reports.items = subst (λ (fs : List Found). AllZip (IsReportOf m) fs c.in_ok-reports.reports.items) c.deref.ensures.value (c.in_ok-reports.ensures m s.0.known.linked fs) in
-    faults m (g.M.Moves.fits c.args.machine.now) c.search.new.store c.search.new.found.items c.from_vec.result s.0 s.1
-    (subst (λ (rs : List Report). AllZip (IsReportOf m) c.search.new.found.items rs) (sym c.from_vec.ensures) zs)
+    let fs : AllByRecursion (IsFound m c.search.new.store.entries) c.as_slice.result.now = subst (λ (fs : List Found). AllByRecursion (IsFound m c.search.new.store.entries) fs) (sym c.as_slice.ensures.value) s.0.found in
+    let zs : AllZip (IsReportOf m) c.search.new.found.items c.in-Ok.reports = subst (λ (fs : List Found). AllZip (IsReportOf m) fs c.in-Ok.reports) c.as_slice.ensures.value (c.in-Ok.ensures m s.0.known.linked fs) in
+    faults m (g.M.Moves.fits c.args.machine.now) c.search.new.store c.search.new.found.items c.in-Ok.reports s.0 s.1 zs
