@@ -8,6 +8,7 @@ ghost use Rattle.kilim_classes.specs.Fits.{fits_type, base_assignable, class_ass
 ghost use Rattle.kilim_classes.specs.declared.names.ClassId.{ClassId};
 
 use crate::class::Program;
+use crate::lookups::same_base;
 use crate::names::ClassId;
 use crate::ty::{Base, Ty};
 
@@ -99,12 +100,9 @@ impl Program {
                     false
                 }
             },
-            Base::Bool => to == Base::Bool,
-            Base::Byte => to == Base::Byte,
-            Base::Char => to == Base::Char,
-            Base::Short => to == Base::Short,
-            Base::Int => to == Base::Int,
-            Base::Long => to == Base::Long,
+            Base::Bool | Base::Byte | Base::Char | Base::Short | Base::Int | Base::Long => {
+                same_base(from, to)
+            }
         }
     }
 

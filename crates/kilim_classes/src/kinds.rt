@@ -6,6 +6,7 @@ ghost use Rattle.kilim_classes.specs.Names.{class_at, line_up_to, is_task, is_na
 ghost use Rattle.kilim_classes.specs.Kinds.{is_value_class, class_kind, base_kind, kind_of, array_kind};
 
 use crate::class::{Class, Program};
+use crate::lookups::class_at;
 use crate::names::ClassId;
 use crate::ty::{Base, Kind, Ty};
 use kilim_units::Units;
@@ -30,11 +31,11 @@ impl Program {
     pub(crate) fn class_at(&self, class: ClassId) -> Option<&Class>
         ensures { option_copied result ≡ class_at self.now class }
     {
-        self.classes.as_slice().get(class.0 as usize)
+        class_at(self, class)
     }
 
     // Whether a class, or one of its superclasses, is `kilim/Task`, among so many classes from it up.
-    fn is_task_within(&self, class: ClassId, most: usize) -> bool
+    pub(crate) fn is_task_within(&self, class: ClassId, most: usize) -> bool
         ensures { result ≡ list_any (is_named_task self.now) (line_up_to self.now most class) }
     {
         let mut at = class;

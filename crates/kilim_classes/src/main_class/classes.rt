@@ -2,8 +2,7 @@
 
 ghost use Rattle.std.specs.Prelude.{◌≡◌, codes, length, IfOk};
 ghost use Rattle.std.specs.Str.{bytes_eq};
-ghost use Rattle.std.specs.List.{list_any};
-ghost use Rattle.kilim_classes.specs.Names.{class_at, class_named, is_named_task, is_task, line_up_to, method_at, methods_of};
+ghost use Rattle.kilim_classes.specs.Names.{class_at, class_named, is_task, method_at, methods_of};
 ghost use Rattle.kilim_classes.specs.machine.Members.{constructor_of, is_concrete, is_fit_main, is_own_constructor, is_plain_method};
 ghost use Rattle.kilim_classes.specs.main_class.Main.{fit_class_named, own_in};
 
@@ -42,33 +41,11 @@ fn named(program: &Program, name: &[u16]) -> Result<Option<ClassId>, NoMemory>
     Ok(None)
 }
 
-// Whether a class, or one of its superclasses, is `kilim/Task`, among so many classes from it up.
-fn is_task_within(program: &Program, class: ClassId, most: usize) -> bool
-    ensures { result ≡ list_any (is_named_task program.now) (line_up_to program.now most class) }
-{
-    let mut at = class;
-    let mut left = most;
-    while left > 0 {
-        let Some(found) = class_at(program, at) else {
-            return false;
-        };
-        if found.name.is_text(b"kilim/Task") {
-            return true;
-        }
-        let Some(up) = found.superclass else {
-            return false;
-        };
-        at = up;
-        left -= 1;
-    }
-    false
-}
-
 // Whether objects of a class are tasks.
 fn is_task(program: &Program, class: ClassId) -> bool
     ensures { result ≡ is_task program.now class }
 {
-    is_task_within(program, class, program.classes.len())
+    program.is_task_within(class, program.classes.len())
 }
 
 // A class that is there and isn't abstract.
