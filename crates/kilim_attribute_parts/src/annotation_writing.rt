@@ -25,13 +25,13 @@ fn push_behind_value_tag(part: &AnnotationPart, into: &mut Vec<u8>) -> Result<()
     ensures { OnOk result (into.new.items ≡ into.old.items ++ behind_value_tag part.now) }
 {
     match part {
-        AnnotationPart::Constant(_, index) => push_u16(into, *index),
+        AnnotationPart::Constant(_, number)
+        | AnnotationPart::Class(number)
+        | AnnotationPart::Array(number) => push_u16(into, *number),
         AnnotationPart::EnumConstant(class, name) => {
             push_u16(into, *class)?;
             push_u16(into, *name)
         }
-        AnnotationPart::Class(descriptor) => push_u16(into, *descriptor),
-        AnnotationPart::Array(count) => push_u16(into, *count),
         _ => Ok(()),
     }
 }
@@ -48,12 +48,13 @@ fn push_part(part: &AnnotationPart, into: &mut Vec<u8>) -> Result<(), AllocError
 {
     match part {
         AnnotationPart::Parameters(count) => push_u8(into, *count),
-        AnnotationPart::Annotations(count) => push_u16(into, *count),
+        AnnotationPart::Annotations(number) | AnnotationPart::ElementName(number) => {
+            push_u16(into, *number)
+        }
         AnnotationPart::Annotation(class, count) => {
             push_u16(into, *class)?;
             push_u16(into, *count)
         }
-        AnnotationPart::ElementName(name) => push_u16(into, *name),
         _ => push_value(part, into),
     }
 }

@@ -30,8 +30,9 @@ fn push_behind_type_tag(item: VerificationType, into: &mut Vec<u8>) -> Result<()
     ensures { OnOk result (into.new.items ≡ into.old.items ++ behind_type_tag item) }
 {
     match item {
-        VerificationType::Object(class) => push_u16(into, class),
-        VerificationType::Uninitialized(place) => push_u16(into, place),
+        VerificationType::Object(number) | VerificationType::Uninitialized(number) => {
+            push_u16(into, number)
+        }
         _ => Ok(()),
     }
 }
@@ -86,8 +87,7 @@ fn push_behind_frame_tag(frame: &Frame, into: &mut Vec<u8>) -> Result<(), AllocE
             push_u16(into, *delta)?;
             push_type(*item, into)
         }
-        Frame::Chop(_, delta) => push_u16(into, *delta),
-        Frame::SameExtended(delta) => push_u16(into, *delta),
+        Frame::Chop(_, delta) | Frame::SameExtended(delta) => push_u16(into, *delta),
         Frame::Append(delta, locals) => {
             push_u16(into, *delta)?;
             push_types(locals.as_slice(), into)
