@@ -144,7 +144,10 @@ fn object_at(alloc: Global, bytes: &[u8]) -> Result<Option<Shape>, NoMemory>
     ensures right { (shape : List Part) (x : List ℕ) → is_object shape ≡ true → ShapeFits shape → bytes.now ≡ shape_text shape ++ (10 ∷ x) → IfOk result (λ found. found ≡ Some shape) }
     ensures object { IfOk result (λ found. IfSome found (λ shape. (is_object shape ≡ true) × ShapeFits shape)) }
 {
-    match shape_at(alloc, bytes)? {
+    let Ok(found) = shape_at(alloc, bytes) else {
+        return Err(NoMemory);
+    };
+    match found {
         None => Ok(None),
         Some(shape) => {
             if begins_object(shape.as_slice()) {
@@ -161,7 +164,10 @@ fn print_at(alloc: Global, bytes: &[u8]) -> Result<Option<Act>, NoMemory>
     ensures right { (shape : List Part) (x : List ℕ) → is_plain_value shape ≡ true → ShapeFits shape → bytes.now ≡ shape_text shape ++ (10 ∷ x) → IfOk result (λ found. found ≡ Some (act.Print shape)) }
     ensures readable { IfOk result (λ found. IfSome found (λ a. (is_readable_act a ≡ true) × ActFits a)) }
 {
-    match shape_at(alloc, bytes)? {
+    let Ok(found) = shape_at(alloc, bytes) else {
+        return Err(NoMemory);
+    };
+    match found {
         None => Ok(None),
         Some(shape) => {
             if begins_object(shape.as_slice()) {
@@ -190,7 +196,10 @@ fn put_at(alloc: Global, bytes: &[u8]) -> Result<Option<Act>, NoMemory>
     let Some(rest) = after(rest, b" ") else {
         return Ok(None);
     };
-    match object_at(alloc, rest)? {
+    let Ok(found) = object_at(alloc, rest) else {
+        return Err(NoMemory);
+    };
+    match found {
         Some(shape) => Ok(Some(Act::Put(name, number, shape))),
         None => Ok(None),
     }
@@ -224,7 +233,10 @@ fn start_at(alloc: Global, bytes: &[u8]) -> Result<Option<Act>, NoMemory>
     let Some(rest) = after(rest, b" ") else {
         return Ok(None);
     };
-    match object_at(alloc, rest)? {
+    let Ok(found) = object_at(alloc, rest) else {
+        return Err(NoMemory);
+    };
+    match found {
         Some(shape) => Ok(Some(Act::Start(task, shape))),
         None => Ok(None),
     }
@@ -308,7 +320,10 @@ pub fn entry_at(alloc: Global, bytes: &[u8]) -> Result<Option<Entry>, NoMemory>
     let Some(rest) = after(rest, b" ") else {
         return Ok(None);
     };
-    match act_at(alloc, rest)? {
+    let Ok(found) = act_at(alloc, rest) else {
+        return Err(NoMemory);
+    };
+    match found {
         Some(act) => Ok(Some(Entry { task, act })),
         None => Ok(None),
     }

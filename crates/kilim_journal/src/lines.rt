@@ -22,36 +22,48 @@ fn push_put(
 ) -> Result<(), AllocError>
     ensures { OnOk result (out.new.items ≡ out.old.items ++ act_text (act.Put name number shape.now)) }
 {
-    push_box_behind(out, b"put ", name)?;
-    push_number_behind(out, b" #", number)?;
+    let Ok(()) = push_box_behind(out, b"put ", name) else {
+        return Err(AllocError);
+    };
+    let Ok(()) = push_number_behind(out, b" #", number) else {
+        return Err(AllocError);
+    };
     push_shape_behind(out, b" ", shape)
 }
 
 fn push_take(out: &mut Vec<u8>, name: BoxName, number: u64) -> Result<(), AllocError>
     ensures { OnOk result (out.new.items ≡ out.old.items ++ act_text (act.Take name number)) }
 {
-    push_box_behind(out, b"take ", name)?;
+    let Ok(()) = push_box_behind(out, b"take ", name) else {
+        return Err(AllocError);
+    };
     push_number_behind(out, b" #", number)
 }
 
 fn push_start(out: &mut Vec<u8>, task: u32, shape: &[Token]) -> Result<(), AllocError>
     ensures { OnOk result (out.new.items ≡ out.old.items ++ act_text (act.Start task shape.now)) }
 {
-    push_number_behind(out, b"start ", u64::from(task))?;
+    let Ok(()) = push_number_behind(out, b"start ", u64::from(task)) else {
+        return Err(AllocError);
+    };
     push_shape_behind(out, b" ", shape)
 }
 
 fn push_end(out: &mut Vec<u8>, cause: EndCause) -> Result<(), AllocError>
     ensures { OnOk result (out.new.items ≡ out.old.items ++ act_text (act.End cause)) }
 {
-    out.extend_from_slice(b"end ")?;
+    let Ok(()) = out.extend_from_slice(b"end ") else {
+        return Err(AllocError);
+    };
     out.extend_from_slice(cause.word().as_bytes())
 }
 
 fn push_bound(out: &mut Vec<u8>, name: BoxName, most: u32) -> Result<(), AllocError>
     ensures { OnOk result (out.new.items ≡ out.old.items ++ act_text (act.Bound name most)) }
 {
-    push_box_behind(out, b"bound ", name)?;
+    let Ok(()) = push_box_behind(out, b"bound ", name) else {
+        return Err(AllocError);
+    };
     push_number_behind(out, b" ", u64::from(most))
 }
 
@@ -73,9 +85,15 @@ fn push_act(out: &mut Vec<u8>, act: &Act) -> Result<(), AllocError>
 pub(crate) fn push_entry(out: &mut Vec<u8>, entry: &Entry) -> Result<(), AllocError>
     ensures { OnOk result (out.new.items ≡ out.old.items ++ entry_text entry.now) }
 {
-    push_number(out, u64::from(entry.task))?;
-    push_byte(out, b' ')?;
-    push_act(out, &entry.act)?;
+    let Ok(()) = push_number(out, u64::from(entry.task)) else {
+        return Err(AllocError);
+    };
+    let Ok(()) = push_byte(out, b' ') else {
+        return Err(AllocError);
+    };
+    let Ok(()) = push_act(out, &entry.act) else {
+        return Err(AllocError);
+    };
     push_byte(out, b'\n')
 }
 
@@ -97,7 +115,10 @@ pub fn text(alloc: Global, entries: &Vec<Entry>) -> Result<Vec<u8>, NoMemory>
     requires { IsReadable entries.now.items }
     ensures { IfOk result (λ text. text.items ≡ journal_text entries.now.items) }
 {
-    Ok(lines(alloc, entries.as_slice())?)
+    match lines(alloc, entries.as_slice()) {
+        Ok(text) => Ok(text),
+        Err(_) => Err(NoMemory),
+    }
 }
 
 /// A law, and no work: no two journals have one text.

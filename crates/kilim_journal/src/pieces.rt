@@ -14,7 +14,9 @@ use std::alloc::AllocError;
 pub fn push_byte(out: &mut Vec<u8>, byte: u8) -> Result<(), AllocError>
     ensures { OnOk result (out.new.items ≡ out.old.items ++ byte ∷ []) }
 {
-    out.push(byte)?;
+    let Ok(()) = out.push(byte) else {
+        return Err(AllocError);
+    };
     Ok(())
 }
 
@@ -42,7 +44,9 @@ pub fn push_signed(out: &mut Vec<u8>, n: i64) -> Result<(), AllocError>
     ensures { OnOk result (out.new.items ≡ out.old.items ++ signed_decimal n) }
 {
     if n < 0 {
-        push_byte(out, b'-')?;
+        let Ok(()) = push_byte(out, b'-') else {
+            return Err(AllocError);
+        };
     }
     push_number(out, n.unsigned_abs())
 }
@@ -51,7 +55,9 @@ pub fn push_signed(out: &mut Vec<u8>, n: i64) -> Result<(), AllocError>
 pub fn push_number_behind(out: &mut Vec<u8>, word: &[u8], n: u64) -> Result<(), AllocError>
     ensures { OnOk result (out.new.items ≡ out.old.items ++ (word.now ++ decimal n)) }
 {
-    out.extend_from_slice(word)?;
+    let Ok(()) = out.extend_from_slice(word) else {
+        return Err(AllocError);
+    };
     push_number(out, n)
 }
 
@@ -59,7 +65,9 @@ pub fn push_number_behind(out: &mut Vec<u8>, word: &[u8], n: u64) -> Result<(), 
 pub fn push_box(out: &mut Vec<u8>, name: BoxName) -> Result<(), AllocError>
     ensures { OnOk result (out.new.items ≡ out.old.items ++ box_text name) }
 {
-    push_number(out, u64::from(name.task))?;
+    let Ok(()) = push_number(out, u64::from(name.task)) else {
+        return Err(AllocError);
+    };
     push_number_behind(out, b".", u64::from(name.number))
 }
 
@@ -67,7 +75,9 @@ pub fn push_box(out: &mut Vec<u8>, name: BoxName) -> Result<(), AllocError>
 pub fn push_box_behind(out: &mut Vec<u8>, word: &[u8], name: BoxName) -> Result<(), AllocError>
     ensures { OnOk result (out.new.items ≡ out.old.items ++ (word.now ++ box_text name)) }
 {
-    out.extend_from_slice(word)?;
+    let Ok(()) = out.extend_from_slice(word) else {
+        return Err(AllocError);
+    };
     push_box(out, name)
 }
 
@@ -100,14 +110,18 @@ fn push_text(out: &mut Vec<u8>, units: &[u16]) -> Result<(), AllocError>
 fn push_open(out: &mut Vec<u8>, name: &[u16]) -> Result<(), AllocError>
     ensures { OnOk result (out.new.items ≡ out.old.items ++ (name_text name.now ++ codes "(")) }
 {
-    push_name(out, name)?;
+    let Ok(()) = push_name(out, name) else {
+        return Err(AllocError);
+    };
     push_byte(out, b'(')
 }
 
 fn push_long(out: &mut Vec<u8>, n: i64) -> Result<(), AllocError>
     ensures { OnOk result (out.new.items ≡ out.old.items ++ (signed_decimal n ++ codes "L")) }
 {
-    push_signed(out, n)?;
+    let Ok(()) = push_signed(out, n) else {
+        return Err(AllocError);
+    };
     push_byte(out, b'L')
 }
 
@@ -115,8 +129,12 @@ fn push_long(out: &mut Vec<u8>, n: i64) -> Result<(), AllocError>
 fn push_quoted(out: &mut Vec<u8>, units: &[u16]) -> Result<(), AllocError>
     ensures { OnOk result (out.new.items ≡ out.old.items ++ (34 ∷ (flat_map text_unit units.now ++ 34 ∷ []))) }
 {
-    push_byte(out, b'"')?;
-    push_text(out, units)?;
+    let Ok(()) = push_byte(out, b'"') else {
+        return Err(AllocError);
+    };
+    let Ok(()) = push_text(out, units) else {
+        return Err(AllocError);
+    };
     push_byte(out, b'"')
 }
 
@@ -138,7 +156,9 @@ fn push_comma(out: &mut Vec<u8>, follows: bool, token: &Token) -> Result<(), All
     ensures { OnOk result (out.new.items ≡ out.old.items ++ comma_before follows token.now) }
 {
     if follows && !matches!(token, Token::Close) {
-        push_byte(out, b',')?;
+        let Ok(()) = push_byte(out, b',') else {
+            return Err(AllocError);
+        };
     }
     Ok(())
 }
@@ -166,6 +186,8 @@ pub fn push_shape(out: &mut Vec<u8>, shape: &[Token]) -> Result<(), AllocError>
 pub fn push_shape_behind(out: &mut Vec<u8>, word: &[u8], shape: &[Token]) -> Result<(), AllocError>
     ensures { OnOk result (out.new.items ≡ out.old.items ++ (word.now ++ shape_text shape.now)) }
 {
-    out.extend_from_slice(word)?;
+    let Ok(()) = out.extend_from_slice(word) else {
+        return Err(AllocError);
+    };
     push_shape(out, shape)
 }

@@ -26,7 +26,9 @@ fn written(alloc: Global, entry: &Entry) -> Result<Vec<u8>, AllocError>
     ensures { IfOk result (λ text. text.items ≡ entry_text entry.now) }
 {
     let mut out = Vec::new(alloc);
-    push_entry(&mut out, entry)?;
+    let Ok(()) = push_entry(&mut out, entry) else {
+        return Err(AllocError);
+    };
     Ok(out)
 }
 
@@ -35,10 +37,15 @@ fn written(alloc: Global, entry: &Entry) -> Result<Vec<u8>, AllocError>
 fn next_entry(alloc: Global, bytes: &[u8]) -> Result<Option<(Entry, &[u8])>, NoMemory>
     ensures { IfOk result (λ next. IsNext bytes.now next) }
 {
-    match entry_at(alloc, bytes)? {
+    let Ok(found) = entry_at(alloc, bytes) else {
+        return Err(NoMemory);
+    };
+    match found {
         None => Ok(None),
         Some(entry) => {
-            let text = written(alloc, &entry)?;
+            let Ok(text) = written(alloc, &entry) else {
+                return Err(NoMemory);
+            };
             match after(bytes, text.as_slice()) {
                 Some(rest) => Ok(Some((entry, rest))),
                 None => Ok(None),
