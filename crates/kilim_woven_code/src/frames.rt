@@ -76,7 +76,10 @@ fn moved_type(places: &Places, ty: VType) -> Result<VType, NoMemory>
     ensures { IfOk result (λ t. t ≡ form.moved_type (at_in places.now) ty) }
 {
     match ty {
-        VType::Uninit(place) => Ok(VType::Uninit(places.at(place)?)),
+        VType::Uninit(place) => match places.at(place) {
+            Ok(to) => Ok(VType::Uninit(to)),
+            Err(fault) => Err(fault),
+        },
         VType::Top
         | VType::Int
         | VType::Long
@@ -115,9 +118,13 @@ fn kept_local(plan: &Plan, frame: &Frame, place: u32, slot: u16) -> Result<VType
 fn push_added(plan: &Plan, locals: &mut Vec<VType>) -> Result<(), NoMemory>
     ensures { OnOk result (locals.new.items ≡ locals.old.items ++ form.added_types (meant plan.now)) }
 {
-    locals.push(class_vtype(ClassId(plan.class)))?;
+    let Ok(()) = locals.push(class_vtype(ClassId(plan.class))) else {
+        return Err(NoMemory);
+    };
     if !plan.method.is_static {
-        locals.push(class_vtype(plan.method.owner))?;
+        let Ok(()) = locals.push(class_vtype(plan.method.owner)) else {
+            return Err(NoMemory);
+        };
     }
     Ok(())
 }
@@ -182,8 +189,12 @@ fn tops(alloc: Global, count: u16) -> Result<Vec<VType>, NoMemory>
 pub fn resume_frame(alloc: Global, plan: &Plan) -> Result<Frame, NoMemory>
     ensures { IfOk result (λ f. f ≡ form.resume_frame (meant plan.now)) }
 {
-    let mut locals = tops(alloc, plan.fiber)?;
-    push_added(plan, &mut locals)?;
+    let Ok(mut locals) = tops(alloc, plan.fiber) else {
+        return Err(NoMemory);
+    };
+    let Ok(()) = push_added(plan, &mut locals) else {
+        return Err(NoMemory);
+    };
     Ok(Frame {
         locals: Seq::from_vec(locals),
         stack: Seq::new(alloc),

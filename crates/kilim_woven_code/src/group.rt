@@ -52,7 +52,9 @@ fn push_saved(
     ensures { OnOk result (saved.new.items ≡ saved.old.items ++ (if live_in plan.now.live.now next slot && not (is_top ty) then (slot, ty) ∷ [] else [])) }
 {
     if plan.live.is_live(next, slot) && !is_top(ty) {
-        saved.push((slot, ty))?;
+        let Ok(()) = saved.push((slot, ty)) else {
+            return Err(NoMemory);
+        };
     }
     Ok(())
 }
@@ -123,7 +125,9 @@ fn dummy_return(gives: Option<Ty>, items: &mut Items) -> Result<(), NoMemory>
     match gives {
         None => add(items, Instr::Return, 1),
         Some(ty) => {
-            add(items, return_of(vtype(ty)), 1)?;
+            let Ok(()) = add(items, return_of(vtype(ty)), 1) else {
+                return Err(NoMemory);
+            };
             add(items, dummy_of(vtype(ty)), 1)
         }
     }
@@ -142,8 +146,12 @@ fn drop_result(gives: Option<Ty>, items: &mut Items) -> Result<(), NoMemory>
 fn note_place(plan: &Plan, number: u32, items: &mut Items) -> Result<(), NoMemory>
     ensures { OnOk result (items_of items.new ≡ form.number_item number ∷ form.self_item (meant plan.now) ∷ form.load_fiber (meant plan.now) ∷ form.calls_static (meant plan.now) 6 ∷ (items_of items.old)) }
 {
-    save_fiber(plan, 6, items)?;
-    add_self(plan, items)?;
+    let Ok(()) = save_fiber(plan, 6, items) else {
+        return Err(NoMemory);
+    };
+    let Ok(()) = add_self(plan, items) else {
+        return Err(NoMemory);
+    };
     add_number(number, items)
 }
 
@@ -159,7 +167,9 @@ fn save_live(
     requires { Shown (meant plan.now) place frame.now }
     ensures { OnOk result (items_of items.new ≡ form.save_locals (meant plan.now) (form.saved (meant plan.now) place next) (items_of items.old)) }
 {
-    let saved = saved(alloc, plan, frame, place, next)?;
+    let Ok(saved) = saved(alloc, plan, frame, place, next) else {
+        return Err(NoMemory);
+    };
     save_locals(plan, saved.as_slice(), items)
 }
 
@@ -177,17 +187,31 @@ fn leave(
     requires { Shown (meant plan.now) place frame.now }
     ensures { OnOk result (items_of items.new ≡ form.leave (meant plan.now) number callee.now place next (items_of items.old)) }
 {
-    dummy_return(plan.method.result, items)?;
-    note_place(plan, number, items)?;
-    save_live(alloc, plan, place, next, frame, items)?;
-    save_stack(plan, below(frame, callee)?, items)
+    let Ok(()) = dummy_return(plan.method.result, items) else {
+        return Err(NoMemory);
+    };
+    let Ok(()) = note_place(plan, number, items) else {
+        return Err(NoMemory);
+    };
+    let Ok(()) = save_live(alloc, plan, place, next, frame, items) else {
+        return Err(NoMemory);
+    };
+    let Ok(below) = below(frame, callee) else {
+        return Err(NoMemory);
+    };
+    save_stack(plan, below, items)
 }
 
 // The call itself, one level below.
 fn call_below(plan: &Plan, instr: &Instr, items: &mut Items) -> Result<(), NoMemory>
     ensures { OnOk result (items_of items.new ≡ form.load_fiber (meant plan.now) ∷ form.calls_member (meant plan.now) 1 ∷ form.Does instr.now (λ place. 3) true ∷ (items_of items.old)) }
 {
-    items.put(Item::Adds(copied(instr)?, Size::Fixed(3), true))?;
+    let Ok(copy) = copied(instr) else {
+        return Err(NoMemory);
+    };
+    let Ok(()) = items.put(Item::Adds(copy, Size::Fixed(3), true)) else {
+        return Err(NoMemory);
+    };
     call_fiber(plan, 1, items)
 }
 
@@ -202,7 +226,9 @@ fn declare(
     requires { Shown (meant plan.now) place frame.now }
     ensures { OnOk result (items_of items.new ≡ form.Mark (form.Old place) (Some (form.old_frame (meant plan.now) place)) ∷ (items_of items.old)) }
 {
-    let declared = old_frame(alloc, plan, frame, place)?;
+    let Ok(declared) = old_frame(alloc, plan, frame, place) else {
+        return Err(NoMemory);
+    };
     items.put(Item::Stands(Label::Old(place), Some(declared)))
 }
 
@@ -221,11 +247,23 @@ pub fn group(
     requires { Shown (meant plan.now) place frame.now }
     ensures { OnOk result (items_of items.new ≡ form.group (meant plan.now) number callee.now place next instr.now (items_of items.old)) }
 {
-    leave(alloc, plan, number, callee, place, next, frame, items)?;
-    drop_result(callee.result, items)?;
-    let behind = plan.places.at(next)?;
-    add(items, Instr::Ifeq(behind), 3)?;
-    call_fiber(plan, 2, items)?;
-    call_below(plan, instr, items)?;
+    let Ok(()) = leave(alloc, plan, number, callee, place, next, frame, items) else {
+        return Err(NoMemory);
+    };
+    let Ok(()) = drop_result(callee.result, items) else {
+        return Err(NoMemory);
+    };
+    let Ok(behind) = plan.places.at(next) else {
+        return Err(NoMemory);
+    };
+    let Ok(()) = add(items, Instr::Ifeq(behind), 3) else {
+        return Err(NoMemory);
+    };
+    let Ok(()) = call_fiber(plan, 2, items) else {
+        return Err(NoMemory);
+    };
+    let Ok(()) = call_below(plan, instr, items) else {
+        return Err(NoMemory);
+    };
     declare(alloc, plan, frame, place, items)
 }

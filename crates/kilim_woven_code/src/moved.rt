@@ -16,8 +16,12 @@ fn moved_places(alloc: Global, places: &Places, targets: &[u32]) -> Result<Seq<u
 {
     let mut all = Seq::new(alloc);
     for target in targets {
-        let to = places.at(*target)?;
-        all.push(to)?;
+        let Ok(to) = places.at(*target) else {
+            return Err(NoMemory);
+        };
+        let Ok(()) = all.push(to) else {
+            return Err(NoMemory);
+        };
     }
     Ok(all)
 }
@@ -32,7 +36,9 @@ fn pair_at(pairs: &[(i32, u32)], at: usize) -> (i32, u32)
 fn moved_pair(places: &Places, pair: (i32, u32)) -> Result<(i32, u32), NoMemory>
     ensures { IfOk result (λ moved. moved ≡ (pair.0, at_in places.now pair.1)) }
 {
-    let to = places.at(pair.1)?;
+    let Ok(to) = places.at(pair.1) else {
+        return Err(NoMemory);
+    };
     Ok((pair.0, to))
 }
 
@@ -43,13 +49,13 @@ fn moved_pairs(
 ) -> Result<Seq<(i32, u32)>, NoMemory>
     ensures { IfOk result (λ v. v ≡ map (λ pair. (pair.0, at_in places.now pair.1)) pairs.now) }
 {
-    let mut all = Vec::new(alloc);
+    let mut all = Seq::new(alloc);
     for at in 0..pairs.len() {
         let pair = pair_at(pairs, at);
         let moved = moved_pair(places, pair)?;
         all.push(moved)?;
     }
-    Ok(Seq::from_vec(all))
+    Ok(all)
 }
 
 fn moved_table(
@@ -61,8 +67,13 @@ fn moved_table(
 ) -> Result<Instr, NoMemory>
     ensures { IfOk result (λ i. i ≡ Instr.Tableswitch (at_in places.now default) low (map (at_in places.now) targets.now)) }
 {
-    let to = places.at(default)?;
-    Ok(Instr::Tableswitch(to, low, moved_places(alloc, places, targets)?))
+    let Ok(to) = places.at(default) else {
+        return Err(NoMemory);
+    };
+    let Ok(table) = moved_places(alloc, places, targets) else {
+        return Err(NoMemory);
+    };
+    Ok(Instr::Tableswitch(to, low, table))
 }
 
 fn moved_lookup(

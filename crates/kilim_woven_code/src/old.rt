@@ -38,7 +38,9 @@ fn frame_if(
     if !is_needed {
         return Ok(None);
     }
-    let declared = old_frame(alloc, plan, frame, place)?;
+    let Ok(declared) = old_frame(alloc, plan, frame, place) else {
+        return Err(NoMemory);
+    };
     Ok(Some(declared))
 }
 
@@ -56,10 +58,19 @@ fn plain(
     requires { Shown (meant plan.now) place frame.now }
     ensures { OnOk result (items_of items.new ≡ form.piece None (meant plan.now) first 0 place next instr.now (items_of items.old)) }
 {
-    let size = old_size(instr, place, next)?;
-    items.put(Item::Adds(moved(alloc, plan.places, instr)?, size, true))?;
+    let Ok(size) = old_size(instr, place, next) else {
+        return Err(NoMemory);
+    };
+    let Ok(instr) = moved(alloc, plan.places, instr) else {
+        return Err(NoMemory);
+    };
+    let Ok(()) = items.put(Item::Adds(instr, size, true)) else {
+        return Err(NoMemory);
+    };
     let is_needed = first || is_declared(plan, place);
-    let declared = frame_if(alloc, plan, is_needed, place, frame)?;
+    let Ok(declared) = frame_if(alloc, plan, is_needed, place, frame) else {
+        return Err(NoMemory);
+    };
     items.put(Item::Stands(Label::Old(place), declared))
 }
 

@@ -25,7 +25,9 @@ fn receiver_of(plan: &Plan, ty: VType, items: &mut Items) -> Result<(), NoMemory
 {
     match ty {
         VType::Object(ty) => {
-            add(items, Instr::Checkcast(ty), 3)?;
+            let Ok(()) = add(items, Instr::Checkcast(ty), 3) else {
+                return Err(NoMemory);
+            };
             call_fiber(plan, 10, items)
         }
         VType::Top
@@ -76,7 +78,9 @@ fn restore_saved(
     requires { Shown (meant plan.now) place frame.now }
     ensures { OnOk result (items_of items.new ≡ form.restore_locals (meant plan.now) (form.saved (meant plan.now) place next) (items_of items.old)) }
 {
-    let saved = saved(alloc, plan, frame, place, next)?;
+    let Ok(saved) = saved(alloc, plan, frame, place, next) else {
+        return Err(NoMemory);
+    };
     restore_locals(plan, saved.as_slice(), items)
 }
 
@@ -92,9 +96,18 @@ fn resume_code(
     requires { Shown (meant plan.now) place frame.now }
     ensures { OnOk result (items_of items.new ≡ form.resume_code (meant plan.now) callee.now place next (items_of items.old)) }
 {
-    go_back(plan, callee, place, items)?;
-    restore_receiver(plan, callee.is_static, receiver(frame, callee), items)?;
-    restore_stack(plan, below(frame, callee)?, items)?;
+    let Ok(()) = go_back(plan, callee, place, items) else {
+        return Err(NoMemory);
+    };
+    let Ok(()) = restore_receiver(plan, callee.is_static, receiver(frame, callee), items) else {
+        return Err(NoMemory);
+    };
+    let Ok(below) = below(frame, callee) else {
+        return Err(NoMemory);
+    };
+    let Ok(()) = restore_stack(plan, below, items) else {
+        return Err(NoMemory);
+    };
     restore_saved(alloc, plan, place, next, frame, items)
 }
 
@@ -114,8 +127,12 @@ fn block(
     match callee {
         None => Ok(()),
         Some(callee) => {
-            resume_code(alloc, plan, callee, place, next, frame, items)?;
-            let declared = resume_frame(alloc, plan)?;
+            let Ok(()) = resume_code(alloc, plan, callee, place, next, frame, items) else {
+                return Err(NoMemory);
+            };
+            let Ok(declared) = resume_frame(alloc, plan) else {
+                return Err(NoMemory);
+            };
             items.put(Item::Stands(Label::Resumes(number), Some(declared)))
         }
     }

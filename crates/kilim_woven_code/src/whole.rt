@@ -32,8 +32,12 @@ fn add_switch(alloc: Global, plan: &Plan, calls: u32, items: &mut Items) -> Resu
     requires { calls ≡ calls_in plan.now.program.now plan.now.method.now.code }
     ensures { OnOk result (items_of items.new ≡ form.switch_item (meant plan.now) ∷ (items_of items.old)) }
 {
-    let default = plan.places.at(0)?;
-    let targets = resume_places(alloc, plan, calls)?;
+    let Ok(default) = plan.places.at(0) else {
+        return Err(NoMemory);
+    };
+    let Ok(targets) = resume_places(alloc, plan, calls) else {
+        return Err(NoMemory);
+    };
     let Ok(count) = u32::try_from(targets.len()) else {
         return Err(NoMemory);
     };
@@ -50,11 +54,13 @@ fn keep_self(plan: &Plan, items: &mut Items) -> Result<(), NoMemory>
     if plan.method.is_static {
         return Ok(());
     }
-    add(
+    let Ok(()) = add(
         items,
         Instr::Astore(plan.receiver),
         local_size(plan.receiver),
-    )?;
+    ) else {
+        return Err(NoMemory);
+    };
     add(items, Instr::Aload(0), 1)
 }
 
@@ -69,10 +75,18 @@ fn prologue(
     requires arguments { arguments ≡ argument_slots plan.now.method.now }
     ensures { OnOk result (items_of items.new ≡ form.prologue (meant plan.now) (items_of items.old)) }
 {
-    add_switch(alloc, plan, calls, items)?;
-    call_fiber(plan, 0, items)?;
-    keep_self(plan, items)?;
-    add(items, Instr::Astore(plan.fiber), local_size(plan.fiber))?;
+    let Ok(()) = add_switch(alloc, plan, calls, items) else {
+        return Err(NoMemory);
+    };
+    let Ok(()) = call_fiber(plan, 0, items) else {
+        return Err(NoMemory);
+    };
+    let Ok(()) = keep_self(plan, items) else {
+        return Err(NoMemory);
+    };
+    let Ok(()) = add(items, Instr::Astore(plan.fiber), local_size(plan.fiber)) else {
+        return Err(NoMemory);
+    };
     add(items, Instr::Aload(arguments), local_size(arguments))
 }
 
@@ -93,8 +107,12 @@ fn put_all(
     let Some(number) = calls.checked_add(1) else {
         return Err(NoMemory);
     };
-    blocks(alloc, plan, number, items)?;
-    pieces(alloc, plan, number, items)?;
+    let Ok(()) = blocks(alloc, plan, number, items) else {
+        return Err(NoMemory);
+    };
+    let Ok(()) = pieces(alloc, plan, number, items) else {
+        return Err(NoMemory);
+    };
     prologue(alloc, plan, arguments, calls, items)
 }
 
@@ -104,8 +122,12 @@ pub fn woven_items(alloc: Global, plan: &Plan, arguments: u16) -> Result<Items, 
     requires arguments { arguments ≡ argument_slots plan.now.method.now }
     ensures { IfOk result (λ items. items_of items ≡ form.woven_items (meant plan.now)) }
 {
-    let calls = calls_in(plan.program, plan.method.code.as_slice())?;
+    let Ok(calls) = calls_in(plan.program, plan.method.code.as_slice()) else {
+        return Err(NoMemory);
+    };
     let mut items = Items::new(alloc);
-    put_all(alloc, plan, arguments, calls, &mut items)?;
-    Ok(items)
+    match put_all(alloc, plan, arguments, calls, &mut items) {
+        Ok(()) => Ok(items),
+        Err(_) => Err(items.give_up()),
+    }
 }

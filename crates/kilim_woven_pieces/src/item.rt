@@ -60,6 +60,11 @@ impl Items {
         Ok(())
     }
 
+    /// Lets the items go, since there was no memory for more, and answers that fault.
+    pub fn give_up(self) -> NoMemory {
+        NoMemory
+    }
+
     /// Takes the first item. Takes no memory.
     pub fn take(&mut self) -> Option<Item>
         ensures { MatchOption result (items_of self.old ≡ []) (λ item. items_of self.old ≡ item_of item ∷ items_of self.new) }
