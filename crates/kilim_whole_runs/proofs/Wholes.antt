@@ -18,23 +18,15 @@ use Rattle.kilim_woven_fiber.specs.declared.code.Code.{Code}
 use Rattle.kilim_weaving_laws.specs.Served.{CanServe}
 use Rattle.kilim_whole_runs.specs.Runs.{IsJournalOf, setting_of}
 
+-- what the parts of a code serve, the code serves
+pub can_of : (plain W : Program) (marks : List (List Bool)) (main : ClassId) (limits : Limits) (code : Code) → code.plain ≡ plain → code.program ≡ W → code.counted ≡ marks → CanServe (setting_of plain main limits) W marks → CanServe (setting_of code.plain main limits) code.program code.counted
+can_of plain W marks main limits code same is are can =
+    subst (λ (V : Program). CanServe (setting_of V main limits) code.program code.counted) (sym same)
+    (subst (λ (V : Program). CanServe (setting_of plain main limits) V code.counted) (sym is) (subst (λ (ms : List (List Bool)). CanServe (setting_of plain main limits) W ms) (sym are) can))
+
 -- the setting is one of this code's, whose woven program and marks are named by themselves
-pub is_of : (plain W : Program) (marks : List (List Bool)) (main : ClassId) (limits : Limits) (code : Code) → code.plain ≡ plain → code.program ≡ W → code.counted ≡ marks → CanServe (setting_of plain main limits) W marks →
-    IsOf (ServesNamed code.program code.counted) code main limits (setting_of plain main limits)
-is_of plain W marks main limits code same is are can = record {
-  run = record {
-    served = record {
-      serves = record {
-        program = sym same;
-        can = subst (λ (V : Program). CanServe (setting_of plain main limits) V code.counted) (sym is) (subst (λ (ms : List (List Bool)). CanServe (setting_of plain main limits) W ms) (sym are) can);
-      };
-      program = refl;
-      counted = refl;
-    };
-    is-main = refl;
-  };
-  is-limits = refl;
-}
+pub is_of : (main : ClassId) (limits : Limits) (code : Code) → CanServe (setting_of code.plain main limits) code.program code.counted → IsOf (ServesNamed code.program code.counted) code main limits (setting_of code.plain main limits)
+is_of main limits code can = record { run = record { served = record { serves = record { program = refl; can = can }; program = refl; counted = refl }; is-main = refl }; is-limits = refl }
 
 -- where no local is taken for live, none has to be
 stacks_alone : Liveness

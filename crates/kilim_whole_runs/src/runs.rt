@@ -19,6 +19,45 @@ use std::marker::Brand;
 use std::sync::Wait;
 use std::thread::Threads;
 
+// The journal of a run of the code by one worker.
+fn journal_alone<G: Gate>(
+    alloc: Global,
+    code: &Code,
+    main: ClassId,
+    limits: &Limits,
+    gate: &G,
+) -> Result<Vec<Entry>, NoMemory>
+    requires served { CanServe (setting_of code.now.plain main limits.now) code.now.program code.now.counted }
+    ensures { IfOk result (λ es. IsJournalOf (setting_of code.now.plain main limits.now) es.items) }
+{
+    moved_is_whole();
+    runs_are_readable();
+    let entries = named_alone::<Brand, G>(alloc, code, main, limits, gate)?;
+    journal_fits(entries.as_slice());
+    Ok(entries)
+}
+
+// The same by so many workers.
+fn journal_by<R: Threads + Wait + Sync, G: Gate>(
+    rt: &R,
+    alloc: Global,
+    code: &Code,
+    main: ClassId,
+    limits: &Limits,
+    workers: usize,
+    gate: &G,
+) -> Result<Vec<Entry>, NoMemory>
+    requires workers { (1 ≤ workers) × (workers ≤ 16) }
+    requires served { CanServe (setting_of code.now.plain main limits.now) code.now.program code.now.counted }
+    ensures { IfOk result (λ es. IsJournalOf (setting_of code.now.plain main limits.now) es.items) }
+{
+    moved_is_whole();
+    runs_are_readable();
+    let entries = named_with::<Brand, R, G>(rt, alloc, code, main, limits, workers, gate)?;
+    journal_fits(entries.as_slice());
+    Ok(entries)
+}
+
 /// Runs the program with the main class by its woven form and one worker, the caller: it takes no runtime and waits for nobody. The
 /// error is want of memory alone.
 pub fn run_alone<G: Gate>(
@@ -32,12 +71,10 @@ pub fn run_alone<G: Gate>(
     requires { CanServe (setting_of plain main limits.now) woven.program woven.counted }
     ensures { IfOk result (λ es. IsJournalOf (setting_of plain main limits.now) es.items) }
 {
-    moved_is_whole();
-    runs_are_readable();
     let code = Code::new(alloc, plain, woven.program, woven.counted)?;
-    let entries = named_alone::<Brand, G>(alloc, &code, main, limits, gate)?;
-    journal_fits(entries.as_slice());
-    Ok(entries)
+    let ran = journal_alone(alloc, &code, main, limits, gate);
+    drop(code);
+    ran
 }
 
 // The same by so many workers.
@@ -55,12 +92,10 @@ fn run_by<R: Threads + Wait + Sync, G: Gate>(
     requires served { CanServe (setting_of plain main limits.now) woven.program woven.counted }
     ensures { IfOk result (λ es. IsJournalOf (setting_of plain main limits.now) es.items) }
 {
-    moved_is_whole();
-    runs_are_readable();
     let code = Code::new(alloc, plain, woven.program, woven.counted)?;
-    let entries = named_with::<Brand, R, G>(rt, alloc, &code, main, limits, workers, gate)?;
-    journal_fits(entries.as_slice());
-    Ok(entries)
+    let ran = journal_by(rt, alloc, &code, main, limits, workers, gate);
+    drop(code);
+    ran
 }
 
 /// Runs the program with the main class by its woven form and so many workers, from 2 to 16; another number is that of one. It may

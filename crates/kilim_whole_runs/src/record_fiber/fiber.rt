@@ -298,6 +298,7 @@ impl Fiber {
         ensures { IfOk result (λ w. HasWanted code.now.program limits.now before came self.old self.new w) }
     {
         if !self.may_want(limits, before, &came) {
+            drop(came);
             return Err(NoMemory);
         }
         self.rests = is_resting(&came);
@@ -316,6 +317,7 @@ impl Fiber {
     {
         let body = first_body(alloc, &code.plain, &code.program, main)?;
         if body.idle {
+            drop(body);
             return Err(NoMemory);
         }
         let boot = Beginning::Boot;

@@ -1,15 +1,14 @@
-use Rattle.kilim_whole_runs.specs.Runs.{setting_of}
-use Rattle.kilim_whole_runs.proofs.Wholes.{is_journal, is_of}
+use Rattle.std.proofs.Common.{subst}
+use Rattle.std.specs.Prelude.{IfOk}
+use Rattle.kilim_classes.specs.Program.{Program}
+use Rattle.kilim_whole_runs.specs.Runs.{IsJournalOf, setting_of}
+use Rattle.kilim_whole_runs.proofs.Wholes.{can_of}
 use Rattle.kilim_whole_runs.proofs.runs.run_by.Goals as goal
 
-pub named_with-requires-clause-some : goal.named_with-requires-clause-some
-named_with-requires-clause-some g c κs within =
+pub journal_by-ran-requires-clause-served : goal.journal_by-ran-requires-clause-served
+journal_by-ran-requires-clause-served g c κs within =
     let e = c.in_ok-code.ensures in
-    (setting_of c.args.plain c.args.main c.args.limits.now, is_of c.args.plain c.args.woven.program c.args.woven.counted c.args.main c.args.limits.now c.in_ok-code.code e.0 e.1 e.2 c.requires.served)
+    can_of c.args.plain c.args.woven.program c.args.woven.counted c.args.main c.args.limits.now c.in_ok-code.code e.0 e.1 e.2 c.requires.served
 
 pub returns : goal.returns
-returns g c =
-    let set = setting_of c.args.plain c.args.main c.args.limits.now in
-    let e = c.in_ok-code.ensures in
-    let of = is_of c.args.plain c.args.woven.program c.args.woven.counted c.args.main c.args.limits.now c.in_ok-code.code e.0 e.1 e.2 c.requires.served in
-    is_journal c.moved_is_whole.ensures c.runs_are_readable.ensures set c.args.woven.program c.args.woven.counted c.requires.served c.in_ok-entries.entries.items (c.in_ok-entries.ensures set of) (rw (← c.as_slice.ensures.value) c.journal_fits.ensures)
+returns g c = subst (λ (V : Program). IfOk c.journal_by-ran.result (λ es. IsJournalOf (setting_of V c.args.main c.args.limits.now) es.items)) c.in_ok-code.ensures.0 c.journal_by-ran.ensures
