@@ -68,6 +68,9 @@ pub fn check_program(alloc: Global, typed: Typed) -> Result<Isolated, CheckFault
     match accepted(alloc, &typed) {
         Ok(pausables) => Ok(Isolated { typed, pausables }),
         Err(Refused::Reports(reports)) => Err(CheckFault::Reports(typed.program, reports)),
-        Err(Refused::Memory) => Err(CheckFault::Memory),
+        Err(Refused::Memory) => {
+            drop(typed);
+            Err(CheckFault::Memory)
+        }
     }
 }

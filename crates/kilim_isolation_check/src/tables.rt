@@ -24,7 +24,6 @@ fn note(table: &mut Vec<usize>, place: u32, number: usize)
 }
 
 // For each place below a size the number of the first of these entries that stands there.
-#[tactic(auto, using(crate::proofs::Numbered::none_noted))]
 fn table_of<T>(alloc: Global, entries: &[(u32, T)], size: usize) -> Result<Vec<usize>, NoMemory>
     ensures { IfOk result (λ table. IsTable table.items (places_of entries.now) size) }
 {
