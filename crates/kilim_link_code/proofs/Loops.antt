@@ -1,5 +1,6 @@
 -- A loop that makes each element, and stops where one isn't there.
-use Rattle.std.proofs.Common.{◌≡◌, ℕ, suc, ◌+◌, ◌<◌, List, [], ◌∷◌, ◌++◌, length, drop, get_or, Option, Some, None, refl, sym, ap, ◌∙◌, append_assoc, arith, drop-cons}
+use Rattle.std.proofs.Common.{◌≡◌, ℕ, suc, ◌+◌, ◌<◌, ◌≤◌, List, [], ◌∷◌, ◌++◌, length, drop, get_or, Option, Some, None, refl, sym, ap, ◌∙◌, append_assoc, arith, drop-cons}
+use Rattle.std.proofs.lemmas.List.{append-nil, at_drop_all}
 use Rattle.kilim_link_spec.specs.Types.{each_of, with_first}
 use Rattle.kilim_link_code.specs.Each.{behind}
 
@@ -23,3 +24,8 @@ module _ {A B : Type 0} (make : A → Option B) (xs : List A) (i : ℕ) (x d : A
 
   pub not_there : None ≡ make x → None ≡ total
   not_there none = ap (λ o. behind made (with_first o (each_of make (drop (i + 1) xs)))) none ∙ here_at
+
+-- no element is left
+pub all_made : {A B : Type 0} (make : A → Option B) (xs : List A) (i : ℕ) (made : List B) {total : Option (List B)} → length xs ≤ i → behind made (each_of make (drop i xs)) ≡ total → Some made ≡ total
+all_made {A} {B} make xs i made le so_far =
+    ap (λ (all : List B). Some all) (sym (append-nil made)) ∙ (sym (at_drop_all (λ (ys : List A). behind made (each_of make ys)) xs i le) ∙ so_far)

@@ -17,8 +17,8 @@ use kilim_units::{NoMemory, Seq};
 use std::alloc::Global;
 
 // A jump to a target.
-fn jump(number: u8, to: i64) -> Result<Option<Instr>, NoMemory>
-    ensures { IfOk result (λ instr. instr ≡ applied (row jump_instrs number) (place_of to)) }
+fn jump(number: u8, to: &i64) -> Result<Option<Instr>, NoMemory>
+    ensures { IfOk result (λ instr. instr ≡ applied (row jump_instrs number) (place_of to.now)) }
 {
     match place_of(to)? {
         Some(place) => Ok(jump_instr(number, place)),
@@ -51,11 +51,11 @@ fn table_of(default: Option<u32>, low: i32, targets: Option<Seq<u32>>) -> Option
 
 fn table_switch(
     alloc: Global,
-    default: i64,
+    default: &i64,
     low: i32,
     targets: &[i64],
 ) -> Result<Option<Instr>, NoMemory>
-    ensures { IfOk result (λ instr. instr ≡ applied (option_map (λ to. Tableswitch to low) (place_of default)) (each_of place_of targets.now)) }
+    ensures { IfOk result (λ instr. instr ≡ applied (option_map (λ to. Tableswitch to low) (place_of default.now)) (each_of place_of targets.now)) }
 {
     let first = place_of(default)?;
     let places = places_of(alloc, targets)?;
@@ -77,10 +77,10 @@ fn lookup_of(default: Option<u32>, pairs: Option<Seq<(i32, u32)>>) -> Option<Ins
 
 fn lookup_switch(
     alloc: Global,
-    default: i64,
+    default: &i64,
     pairs: &[(i32, i64)],
 ) -> Result<Option<Instr>, NoMemory>
-    ensures { IfOk result (λ instr. instr ≡ applied (option_map (λ to. λ each. Lookupswitch to each) (place_of default)) (each_of pair_in pairs.now)) }
+    ensures { IfOk result (λ instr. instr ≡ applied (option_map (λ to. λ each. Lookupswitch to each) (place_of default.now)) (each_of pair_in pairs.now)) }
 {
     let first = place_of(default)?;
     let places = pairs_of(alloc, pairs)?;
@@ -122,13 +122,13 @@ pub fn instr_in(
         RawInstr::WideLocal(number, slot) => Ok(local_instr(*number, *slot)),
         RawInstr::Iinc(_, slot, n) => Ok(Some(Instr::Iinc(u16::from(*slot), i16::from(*n)))),
         RawInstr::WideIinc(_, slot, n) => Ok(Some(Instr::Iinc(*slot, *n))),
-        RawInstr::Jump(number, to) | RawInstr::WideJump(number, to) => jump(*number, *to),
+        RawInstr::Jump(number, to) | RawInstr::WideJump(number, to) => jump(*number, to),
         RawInstr::NewArray(_, code) => Ok(new_array(*code)),
         RawInstr::TableSwitch(_, default, low, targets) => {
-            table_switch(alloc, *default, *low, targets.as_slice())
+            table_switch(alloc, default, *low, targets.as_slice())
         }
         RawInstr::LookupSwitch(_, default, pairs) => {
-            lookup_switch(alloc, *default, pairs.as_slice())
+            lookup_switch(alloc, default, pairs.as_slice())
         }
         RawInstr::Constant(number, index) => {
             indexed(alloc, world, pool, *number, u16::from(*index))

@@ -26,14 +26,15 @@ fn owner_class(alloc: Global, world: &World, owner: &Units) -> Result<Option<Cla
 fn field_found(alloc: Global, world: &World, member: MemberOf) -> Result<Option<FieldId>, NoMemory>
     ensures { IfOk result (λ found. found ≡ field_found world.now member) }
 {
-    let owner = owner_class(alloc, world, &member.owner)?;
+    let owner = owner_class(alloc, world, &member.owner);
     let signature = Signature {
         name: member.name,
         descriptor: member.descriptor,
     };
     match owner {
-        Some(class) => Ok(world.find_field(class, &signature)),
-        None => Ok(None),
+        Ok(Some(class)) => Ok(world.find_field(class, &signature)),
+        Ok(None) => Ok(None),
+        Err(fault) => Err(fault),
     }
 }
 
@@ -45,14 +46,15 @@ fn method_found(
 ) -> Result<Option<MethodId>, NoMemory>
     ensures { IfOk result (λ found. found ≡ method_found world.now member) }
 {
-    let owner = owner_class(alloc, world, &member.owner)?;
+    let owner = owner_class(alloc, world, &member.owner);
     let signature = Signature {
         name: member.name,
         descriptor: member.descriptor,
     };
     match owner {
-        Some(class) => Ok(world.find_method(class, &signature)),
-        None => Ok(None),
+        Ok(Some(class)) => Ok(world.find_method(class, &signature)),
+        Ok(None) => Ok(None),
+        Err(fault) => Err(fault),
     }
 }
 

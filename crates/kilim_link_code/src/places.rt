@@ -9,13 +9,13 @@ use std::alloc::Global;
 
 /// A target as a place in bytes of the code, none where it is before the code. One of 4,294,967,296 or more, which no
 /// code has, is answered as want of memory.
-pub fn place_of(to: i64) -> Result<Option<u32>, NoMemory>
-    ensures { IfOk result (λ place. place ≡ place_of to) }
+pub fn place_of(to: &i64) -> Result<Option<u32>, NoMemory>
+    ensures { IfOk result (λ place. place ≡ place_of to.now) }
 {
-    if to < 0 {
+    if *to < 0 {
         return Ok(None);
     }
-    match u32::try_from(to) {
+    match u32::try_from(*to) {
         Ok(place) => Ok(Some(place)),
         Err(_) => Err(NoMemory),
     }
@@ -27,7 +27,7 @@ pub fn places_of(alloc: Global, targets: &[i64]) -> Result<Option<Seq<u32>>, NoM
 {
     let mut places = Seq::new(alloc);
     for to in targets {
-        match place_of(*to) {
+        match place_of(to) {
             Ok(Some(place)) => places.push(place)?,
             Ok(None) => return Ok(None),
             Err(fault) => return Err(fault),
@@ -37,10 +37,10 @@ pub fn places_of(alloc: Global, targets: &[i64]) -> Result<Option<Seq<u32>>, NoM
 }
 
 // A match with its target as a place.
-fn pair_in(pair: (i32, i64)) -> Result<Option<(i32, u32)>, NoMemory>
-    ensures { IfOk result (λ found. found ≡ pair_in pair) }
+fn pair_in(pair: &(i32, i64)) -> Result<Option<(i32, u32)>, NoMemory>
+    ensures { IfOk result (λ found. found ≡ pair_in pair.now) }
 {
-    match place_of(pair.1)? {
+    match place_of(&pair.1)? {
         Some(place) => Ok(Some((pair.0, place))),
         None => Ok(None),
     }
@@ -52,7 +52,7 @@ pub fn pairs_of(alloc: Global, pairs: &[(i32, i64)]) -> Result<Option<Seq<(i32, 
 {
     let mut found = Seq::new(alloc);
     for pair in pairs {
-        match pair_in(*pair) {
+        match pair_in(pair) {
             Ok(Some(made)) => found.push(made)?,
             Ok(None) => return Ok(None),
             Err(fault) => return Err(fault),

@@ -159,7 +159,10 @@ fn either(first: Option<Instr>, later: Option<Instr>) -> Option<Instr>
     ensures { result ≡ or_else first later }
 {
     match first {
-        Some(found) => Some(found),
+        Some(found) => {
+            drop(later);
+            Some(found)
+        }
         None => later,
     }
 }

@@ -1,4 +1,4 @@
-use Rattle.std.proofs.Common.{◌≡◌, List, ℕ, Option, ap, ◌∙◌}
+use Rattle.std.proofs.Common.{List, ℕ, Option, ap, ◌∙◌}
 use Rattle.std.specs.Prelude.{option_map}
 use Rattle.std.proofs.lemmas.Int.{to_z-of_z}
 use Rattle.kilim_classes.specs.declared.instr.Instr.TheVariants.{Tableswitch}
@@ -7,10 +7,8 @@ use Rattle.kilim_link_code.proofs.instr.table_switch.Goals as goal
 
 pub returns : goal.returns
 returns c =
-    let range = c.ranges.default in
-    let first : c.in_ok-first.first ≡ place_of c.args.default = simp to_z-of_z at c.in_ok-first.ensures in
     let low = c.ranges.low in
     let made = simp to_z-of_z at c.table_of.ensures in
     made
-    ∙ (ap (λ (first : Option ℕ). applied (option_map (λ to. Tableswitch to c.args.low) first) c.in_ok-places.places) first
-    ∙ ap (λ (places : Option (List ℕ)). applied (option_map (λ to. Tableswitch to c.args.low) (place_of c.args.default)) places) c.in_ok-places.ensures)
+    ∙ (ap (λ (first : Option ℕ). applied (option_map (λ to. Tableswitch to c.args.low) first) c.in_ok-places.places) c.in_ok-first.ensures
+    ∙ ap (λ (places : Option (List ℕ)). applied (option_map (λ to. Tableswitch to c.args.low) (place_of c.args.default.now)) places) c.in_ok-places.ensures)
