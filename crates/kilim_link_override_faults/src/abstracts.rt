@@ -85,22 +85,12 @@ fn stands_in_any(world: &World, signature: &Signature, classes: &[ClassId]) -> b
     false
 }
 
-fn stands_in_either(
-    world: &World,
-    signature: &Signature,
-    class: ClassId,
-    nearer: &[ClassId],
-) -> bool
-    ensures { result ≡ (stands_in world.now signature.now.name signature.now.descriptor class || list_any (stands_in world.now signature.now.name signature.now.descriptor) nearer.now) }
-{
-    stands_in(world, signature, class) || stands_in_any(world, signature, nearer)
-}
-
 // Whether the class or one of these, which are nearer, declares such a method.
+#[tactic(auto, using(crate::proofs::Places::nearer_is))]
 fn is_nearer(world: &World, signature: &Signature, class: ClassId, nearer: &[ClassId]) -> bool
     ensures { result ≡ is_nearer world.now class nearer.now signature.now.name signature.now.descriptor }
 {
-    stands_in_either(world, signature, class, nearer)
+    stands_in(world, signature, class) || stands_in_any(world, signature, nearer)
 }
 
 // Whether this ancestor is the nearest class from a class up that declares such a method.

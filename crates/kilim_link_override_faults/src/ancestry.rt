@@ -31,8 +31,13 @@ impl Ancestry {
         ensures { IfOk result (λ a. Knows world.now a) }
     {
         let heritage = Heritage::new(alloc, world)?;
-        let apart = apart_of(alloc, world, &heritage)?;
-        Ok(Ancestry { heritage, apart })
+        match apart_of(alloc, world, &heritage) {
+            Ok(apart) => Ok(Ancestry { heritage, apart }),
+            Err(fault) => {
+                drop(heritage);
+                Err(fault)
+            }
+        }
     }
 
     /// Whether a class or an ancestor declares a method of that name and descriptor that differs from the nearest one

@@ -66,15 +66,17 @@ fn differs(
     heritage: &Heritage,
     class: ClassId,
     method: &DeclaredMethod,
+    signature: &Signature,
 ) -> Result<bool, NoMemory>
-    requires { Inherits world.now heritage.now }
+    requires inherits { Inherits world.now heritage.now }
+    requires name { signature.now.name ≡ method.now.name }
+    requires descriptor { signature.now.descriptor ≡ method.now.descriptor }
     ensures { IfOk result (λ apart. apart ≡ (differs_here world.now class method.now || differs_nearest world.now class method.now)) }
 {
-    let signature = signature_of(&method.name, &method.descriptor)?;
-    if differs_here(alloc, world, heritage, class, method, &signature)? {
+    if differs_here(alloc, world, heritage, class, method, signature)? {
         return Ok(true);
     }
-    differs_nearest(alloc, world, heritage, class, method, &signature)
+    differs_nearest(alloc, world, heritage, class, method, signature)
 }
 
 // The same of a method that overrides: constructors and private ones override nothing.
@@ -94,7 +96,8 @@ fn is_apart(
     if method.is_private {
         return Ok(false);
     }
-    differs(alloc, world, heritage, class, method)
+    let signature = signature_of(&method.name, &method.descriptor)?;
+    differs(alloc, world, heritage, class, method, &signature)
 }
 
 // Says 0 of each such method of a class.

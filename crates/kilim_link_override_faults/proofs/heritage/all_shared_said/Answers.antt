@@ -1,8 +1,10 @@
-use Rattle.std.proofs.Common.{◌≡◌, ◌+◌, ◌++◌, List, length, get_or, drop, ap, ◌∙◌, arith}
+use Rattle.std.proofs.Common.{◌≡◌, ◌+◌, ◌++◌, List, length, get_or, drop, sym, ap, ◌∙◌, append-nil, arith}
+use Rattle.std.proofs.lemmas.List.{at_drop_all}
 use Rattle.kilim_classes.specs.BuiltIn.{class_id}
 use Rattle.kilim_link_spec.specs.declared.view.DeclaredMethod.{DeclaredMethod}
 use Rattle.kilim_inherited.specs.declared.said.Said.{Said}
-use Rattle.kilim_link_override_faults.specs.Heritage.{numbered, places_in, all_numbered}
+use Rattle.kilim_link_spec.specs.declared.view.ClassView.{ClassView}
+use Rattle.kilim_link_override_faults.specs.Heritage.{numbered, places_in, all_numbered, all_places}
 use Rattle.kilim_link_override_faults.proofs.Placing.{said_more, places_more}
 use Rattle.kilim_link_override_faults.proofs.heritage.all_shared_said.Goals as goal
 
@@ -22,3 +24,15 @@ loop-i-preserved c =
           ∙ said_more i classes v lt is places more kept c.loop-i.said c.in_ok-shared_said.field-0 one c.loop-i.invariant.1,
       places_more i classes v lt is places more kept c.loop-i.invariant.2,
     )
+
+pub returns-clause-said : goal.returns-clause-said
+returns-clause-said c =
+    let said = c.loop-i.said in
+    sym (append-nil said)
+    ∙ (sym (at_drop_all (λ (vs : List ClassView). said ++ all_numbered (length c.loop-i.places) vs) c.args.classes.now c.loop-i.i c.loop-i-test.false) ∙ c.loop-i.invariant.1)
+
+pub returns-clause-kept : goal.returns-clause-kept
+returns-clause-kept c =
+    let places = c.loop-i.places in
+    sym (append-nil places)
+    ∙ (sym (at_drop_all (λ (vs : List ClassView). places ++ all_places c.loop-i.i vs) c.args.classes.now c.loop-i.i c.loop-i-test.false) ∙ c.loop-i.invariant.2)
