@@ -2,6 +2,7 @@
 
 ghost use Rattle.std.specs.Prelude.{◌≡◌, Some, IfOk};
 ghost use Rattle.kilim_link_spec.specs.World.{declared_method};
+ghost use Rattle.kilim_link_spec.specs.Qualified.{qualified};
 ghost use Rattle.kilim_link_spec.specs.Types.{method_text};
 ghost use Rattle.kilim_link_spec.specs.Linked.{method_with, linked_method};
 
@@ -11,12 +12,28 @@ use kilim_classes::{ClassId, Method, Ty};
 use kilim_classfile::{ClassFile, MemberInfo};
 use kilim_descriptors::MethodText;
 use kilim_link_mentions::{code_attribute, method_text};
-use kilim_link_spec::{Body, DeclaredMethod};
+use kilim_link_spec::{Body, DeclaredMethod, Qualified};
 use kilim_link_types::qualified;
 use kilim_link_views::declared_method;
 use kilim_link_world::World;
-use kilim_units::{NoMemory, Seq};
+use kilim_units::{NoMemory, Seq, Units};
 use std::alloc::Global;
+
+// The name of a method, and its qualifiers.
+fn heading(
+    alloc: Global,
+    world: &World,
+    class: ClassId,
+    declared: &DeclaredMethod,
+    text: &MethodText,
+) -> Result<(Units, Qualified), NoMemory>
+    requires { Some text.now ≡ method_text declared.now.descriptor }
+    ensures name { IfOk result (λ h. h.0 ≡ declared.now.name) }
+    ensures qualified { IfOk result (λ h. h.1 ≡ qualified world.now class declared.now) }
+{
+    let q = qualified(alloc, world, class, declared, Some(text))?;
+    Ok((declared.name.clone()?, q))
+}
 
 // A method with its types and its body.
 fn method_with(
@@ -35,26 +52,32 @@ fn method_with(
     requires text { Some text.now ≡ method_text declared.now.descriptor }
     ensures { IfOk result (λ found. found ≡ Some (method_with world.now file.now class method.now params gives body)) }
 {
-    let q = qualified(alloc, world, class, declared, Some(text))?;
-    Ok(Some(Method {
-        name: declared.name.clone()?,
-        owner: class,
-        params,
-        result: gives,
-        is_static: declared.is_static,
-        is_private: declared.is_private,
-        is_abstract: declared.is_abstract,
-        built_in: false,
-        pausable: declared.pausable,
-        receiver: q.receiver,
-        qualifiers: q.params,
-        max_stack: body.max_stack,
-        max_locals: body.max_locals,
-        code_length: body.code_length,
-        code: body.code,
-        frames: body.frames,
-        handlers: Seq::new(alloc),
-    }))
+    match heading(alloc, world, class, declared, text) {
+        Ok((name, q)) => Ok(Some(Method {
+            name,
+            owner: class,
+            params,
+            result: gives,
+            is_static: declared.is_static,
+            is_private: declared.is_private,
+            is_abstract: declared.is_abstract,
+            built_in: false,
+            pausable: declared.pausable,
+            receiver: q.receiver,
+            qualifiers: q.params,
+            max_stack: body.max_stack,
+            max_locals: body.max_locals,
+            code_length: body.code_length,
+            code: body.code,
+            frames: body.frames,
+            handlers: Seq::new(alloc),
+        })),
+        Err(fault) => {
+            drop(params);
+            drop(body);
+            Err(fault)
+        }
+    }
 }
 
 // A method of which the descriptor is well formed.
