@@ -80,13 +80,20 @@ fn lines_of(alloc: Global, form: Form, classes: &[ClassView]) -> Result<Lines, N
     let ids = Ids::new(alloc, classes)?;
     let outline = Outline::new(alloc, form, classes, &ids)?;
     let superclasses = outline.superclasses(alloc)?;
-    let lineages = lineages_of(alloc, superclasses.as_slice())?;
-    Ok(Lines {
-        outline,
-        ids,
-        superclasses,
-        lineages,
-    })
+    match lineages_of(alloc, superclasses.as_slice()) {
+        Ok(lineages) => Ok(Lines {
+            outline,
+            ids,
+            superclasses,
+            lineages,
+        }),
+        Err(fault) => {
+            drop(superclasses);
+            drop(outline);
+            drop(ids);
+            Err(fault)
+        }
+    }
 }
 
 // The members of the classes that are declared.
@@ -116,10 +123,14 @@ fn nearest_of(
     ensures methods { IfOk result (λ n. (form : Form) (outline : Program) → AreSuperclasses outline ups.now → (c : number.ClassId) (name descriptor : List ℕ) → option_map method_id (known n.methods c name descriptor) ≡ find_method (record { form = form; classes = classes.now; outline = outline }) c name descriptor) }
     ensures fields { IfOk result (λ n. (form : Form) (outline : Program) → AreSuperclasses outline ups.now → (c : number.ClassId) (name descriptor : List ℕ) → option_map field_id (known n.fields c name descriptor) ≡ find_field (record { form = form; classes = classes.now; outline = outline }) c name descriptor) }
 {
-    Ok(NearestMembers {
-        methods: nearest_methods(alloc, classes, ups)?,
-        fields: nearest_fields(alloc, classes, ups)?,
-    })
+    let methods = nearest_methods(alloc, classes, ups)?;
+    match nearest_fields(alloc, classes, ups) {
+        Ok(fields) => Ok(NearestMembers { methods, fields }),
+        Err(fault) => {
+            drop(methods);
+            Err(fault)
+        }
+    }
 }
 
 // The members of the classes that are declared and the nearest ones, by the superclass of each class.
@@ -138,8 +149,13 @@ fn all_members_of(
     ensures nearest_fields { IfOk result (λ m. (form : Form) (outline : Program) → AreSuperclasses outline ups.now → (c : number.ClassId) (name descriptor : List ℕ) → option_map field_id (known m.nearest.fields c name descriptor) ≡ find_field (record { form = form; classes = classes.now; outline = outline }) c name descriptor) }
 {
     let own = members_of(alloc, classes)?;
-    let nearest = nearest_of(alloc, classes, ups)?;
-    Ok(AllMembers { own, nearest })
+    match nearest_of(alloc, classes, ups) {
+        Ok(nearest) => Ok(AllMembers { own, nearest }),
+        Err(fault) => {
+            drop(own);
+            Err(fault)
+        }
+    }
 }
 
 /// Of the classes that are declared.
@@ -150,10 +166,15 @@ pub fn parts_of(alloc: Global, form: Form, classes: &[ClassView]) -> Result<Part
     ensures { IfOk result (λ p. Agrees form classes.now p.lines.outline p.lines.ids p.lines.superclasses p.lines.lineages p.members.methods p.members.first_methods p.members.first_fields p.nearest.methods p.nearest.fields) }
 {
     let lines = lines_of(alloc, form, classes)?;
-    let members = all_members_of(alloc, classes, lines.superclasses.as_slice())?;
-    Ok(Parts {
-        lines,
-        members: members.own,
-        nearest: members.nearest,
-    })
+    match all_members_of(alloc, classes, lines.superclasses.as_slice()) {
+        Ok(members) => Ok(Parts {
+            lines,
+            members: members.own,
+            nearest: members.nearest,
+        }),
+        Err(fault) => {
+            drop(lines);
+            Err(fault)
+        }
+    }
 }

@@ -15,16 +15,16 @@ lineages_of-requires c =
     let few = c.requires in
     omega arith
 
-pub returns : goal.returns
-returns c =
+pub returns-in-Ok : goal.returns-in-Ok
+returns-in-Ok c =
     let outline = c.in_ok-outline.outline in
     let ups = c.in_ok-superclasses.superclasses in
     let are = c.in_ok-superclasses.ensures in
     let len : length ups ≡ length c.args.classes.now = are.one_each ∙ length_outline c.args.form c.args.classes.now outline c.in_ok-outline.ensures in
-    let right = subst (λ (us : List (Option ClassId)). IsRight us (each_below own_key (length us)) c.in_ok-lineages.lineages) c.as_slice.ensures c.in_ok-lineages.ensures in
+    let right = subst (λ (us : List (Option ClassId)). IsRight us (each_below own_key (length us)) c.in-Ok.lineages) c.as_slice.ensures c.in-Ok.ensures in
     record {
       outlined = c.in_ok-outline.ensures;
       named = c.in_ok-ids.ensures;
       superclasses = are;
-      lineages = λ d k lt. lineages_are outline ups c.in_ok-lineages.lineages (length ups) are right d k (omega arith);
+      lineages = λ d k lt. lineages_are outline ups c.in-Ok.lineages (length ups) are right d k (omega arith);
     }

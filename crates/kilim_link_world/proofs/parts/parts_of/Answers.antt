@@ -15,12 +15,12 @@ all_members_of-requires c =
       fields_fit = c.requires.fields_fit;
     }
 
-pub returns : goal.returns
-returns c =
+pub returns-in-Ok : goal.returns-in-Ok
+returns-in-Ok c =
     let form = c.args.form in
     let outline = c.in_ok-lines.lines.outline in
     let lines = c.in_ok-lines.ensures in
-    let members = c.in_ok-members.ensures in
+    let members = c.in-Ok.ensures in
     let are = subst (λ (us : List (Option ClassId)). AreSuperclasses outline us) (sym c.as_slice.ensures) lines.superclasses in
     record {
       outlined = lines.outlined;
@@ -30,6 +30,6 @@ returns c =
       methods_are = members.methods;
       first_methods_are = members.first_methods;
       first_fields_are = members.first_fields;
-      nearest_methods_are = c.in_ok-members.ensures.nearest_methods form outline are;
-      nearest_fields_are = c.in_ok-members.ensures.nearest_fields form outline are;
+      nearest_methods_are = c.in-Ok.ensures.nearest_methods form outline are;
+      nearest_fields_are = c.in-Ok.ensures.nearest_fields form outline are;
     }
