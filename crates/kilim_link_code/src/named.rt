@@ -22,39 +22,46 @@ fn owner_class(alloc: Global, world: &World, owner: &Units) -> Result<Option<Cla
     Ok(class_named_by(world, &owner))
 }
 
-// The field of a member that code names, where its class, which is no array, or an ancestor has it (JVMS 5.4.3.2).
-fn field_found(alloc: Global, world: &World, member: MemberOf) -> Result<Option<FieldId>, NoMemory>
-    ensures { IfOk result (λ found. found ≡ field_found world.now member) }
+// The owner of a member, and its name with its descriptor as a key.
+fn parted(member: MemberOf) -> (Units, Signature)
+    ensures owner { result.0 ≡ member.owner }
+    ensures name { result.1.name ≡ member.name }
+    ensures descriptor { result.1.descriptor ≡ member.descriptor }
 {
-    let owner = owner_class(alloc, world, &member.owner);
     let signature = Signature {
         name: member.name,
         descriptor: member.descriptor,
     };
-    match owner {
-        Ok(Some(class)) => Ok(world.find_field(class, &signature)),
-        Ok(None) => Ok(None),
-        Err(fault) => Err(fault),
+    (member.owner, signature)
+}
+
+// The field that code names, where its class, which is no array, or an ancestor has it (JVMS 5.4.3.2).
+fn field_found(
+    alloc: Global,
+    world: &World,
+    owner: &Units,
+    signature: &Signature,
+) -> Result<Option<FieldId>, NoMemory>
+    ensures { IfOk result (λ found. found ≡ field_found world.now (record { owner = owner.now; name = signature.now.name; descriptor = signature.now.descriptor })) }
+{
+    match owner_class(alloc, world, owner)? {
+        Some(class) => Ok(world.find_field(class, signature)),
+        None => Ok(None),
     }
 }
 
-// The method of a member that code names, where its class, which is no array, or an ancestor has it (JVMS 5.4.3.3).
+// The method that code names, where its class, which is no array, or an ancestor has it (JVMS 5.4.3.3).
 fn method_found(
     alloc: Global,
     world: &World,
-    member: MemberOf,
+    owner: &Units,
+    signature: &Signature,
 ) -> Result<Option<MethodId>, NoMemory>
-    ensures { IfOk result (λ found. found ≡ method_found world.now member) }
+    ensures { IfOk result (λ found. found ≡ method_found world.now (record { owner = owner.now; name = signature.now.name; descriptor = signature.now.descriptor })) }
 {
-    let owner = owner_class(alloc, world, &member.owner);
-    let signature = Signature {
-        name: member.name,
-        descriptor: member.descriptor,
-    };
-    match owner {
-        Ok(Some(class)) => Ok(world.find_method(class, &signature)),
-        Ok(None) => Ok(None),
-        Err(fault) => Err(fault),
+    match owner_class(alloc, world, owner)? {
+        Some(class) => Ok(world.find_method(class, signature)),
+        None => Ok(None),
     }
 }
 
@@ -83,9 +90,14 @@ fn access(
 ) -> Result<Option<Instr>, NoMemory>
     ensures { IfOk result (λ instr. instr ≡ instr_with world.now number (Some (AField member))) }
 {
-    match field_found(alloc, world, member)? {
-        Some(field) => Ok(field_instr(number, field)),
-        None => Ok(None),
+    let (owner, signature) = parted(member);
+    let found = field_found(alloc, world, &owner, &signature);
+    drop(signature);
+    drop(owner);
+    match found {
+        Ok(Some(field)) => Ok(field_instr(number, field)),
+        Ok(None) => Ok(None),
+        Err(fault) => Err(fault),
     }
 }
 
@@ -97,9 +109,14 @@ fn call(
 ) -> Result<Option<Instr>, NoMemory>
     ensures { IfOk result (λ instr. instr ≡ instr_with world.now number (Some (AMethod member))) }
 {
-    match method_found(alloc, world, member)? {
-        Some(method) => Ok(method_instr(number, method)),
-        None => Ok(None),
+    let (owner, signature) = parted(member);
+    let found = method_found(alloc, world, &owner, &signature);
+    drop(signature);
+    drop(owner);
+    match found {
+        Ok(Some(method)) => Ok(method_instr(number, method)),
+        Ok(None) => Ok(None),
+        Err(fault) => Err(fault),
     }
 }
 
