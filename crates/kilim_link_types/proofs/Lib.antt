@@ -1,1 +1,2 @@
+mod Any
 mod ByPlace
