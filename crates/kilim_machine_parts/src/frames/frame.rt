@@ -7,6 +7,7 @@ ghost use Rattle.kilim_machine_parts.specs.frames.Stacked.{is_long, begun_with};
 
 use crate::frames::stack::Stack;
 use kilim_classes::{MethodId, Value};
+use kilim_units::Seq;
 use std::alloc::{AllocError, Global};
 use std::marker::Model;
 
@@ -43,10 +44,16 @@ impl Locals {
     ) -> Result<Locals, AllocError>
         ensures { IfOk result (λ locals. locals ≡ begun_with arguments.items slots) }
     {
-        let mut items = laid(alloc, arguments, slots)?;
+        let Ok(mut items) = laid(alloc, arguments, slots) else {
+            return Err(AllocError);
+        };
         let missing = slots.saturating_sub(items.len());
-        push_nulls(&mut items, missing)?;
-        Ok(Locals { items })
+        let Ok(()) = push_nulls(&mut items, missing) else {
+            return Err(AllocError);
+        };
+        Ok(Locals {
+            items: items.into_vec(),
+        })
     }
 
     /// Puts a value into a slot. Takes no memory.
@@ -71,19 +78,20 @@ pub struct Frame {
 
 // Values in their slots, with room for so many.
 #[tactic(auto, using(crate::proofs::frames::Slots::slots_append))]
-fn laid(alloc: Global, arguments: Vec<Value>, slots: usize) -> Result<Vec<Value>, AllocError>
-    ensures { IfOk result (λ items. items.items ≡ slots_of arguments.items) }
+fn laid(alloc: Global, arguments: Vec<Value>, slots: usize) -> Result<Seq<Value>, AllocError>
+    ensures { IfOk result (λ items. items ≡ slots_of arguments.items) }
 {
-    let mut items = Vec::new(alloc);
-    items.reserve(slots)?;
+    let mut room = Vec::new(alloc);
+    room.reserve(slots)?;
+    let mut items = Seq::from_vec(room);
     for value in arguments {
         push_slots(&mut items, value)?;
     }
     Ok(items)
 }
 
-fn push_nulls(items: &mut Vec<Value>, count: usize) -> Result<(), AllocError>
-    ensures { OnOk result (items.new.items ≡ items.old.items ++ replicate count Null) }
+fn push_nulls(items: &mut Seq<Value>, count: usize) -> Result<(), AllocError>
+    ensures { OnOk result (items.new ≡ items.old ++ replicate count Null) }
 {
     for _ in 0..count {
         items.push(Value::Null)?;
@@ -93,13 +101,15 @@ fn push_nulls(items: &mut Vec<Value>, count: usize) -> Result<(), AllocError>
 
 // A long takes two slots.
 #[tactic(auto, using(crate::proofs::frames::Slots::slots_of_long, crate::proofs::frames::Slots::slots_of_other))]
-fn push_slots(items: &mut Vec<Value>, value: Value) -> Result<(), AllocError>
-    ensures { OnOk result (items.new.items ≡ items.old.items ++ slots_of (value ∷ [])) }
+fn push_slots(items: &mut Seq<Value>, value: Value) -> Result<(), AllocError>
+    ensures { OnOk result (items.new ≡ items.old ++ slots_of (value ∷ [])) }
 {
     let wide = is_long(&value);
-    items.push(value)?;
+    let Ok(()) = items.push(value) else {
+        return Err(AllocError);
+    };
     if wide {
-        items.push(Value::Null)?;
+        return items.push(Value::Null);
     }
     Ok(())
 }

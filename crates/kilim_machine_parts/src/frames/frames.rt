@@ -3,13 +3,14 @@
 ghost use Rattle.std.specs.Prelude.{◌≡◌, ◌∷◌, [], length, MatchOption, OnOk};
 
 use crate::frames::frame::Frame;
+use kilim_units::Seq;
 use std::alloc::{AllocError, Global};
 use std::marker::Model;
 
 /// The frames below the top one. Contracts see them as a list, the topmost first.
 #[derive(Drop)]
 pub struct Callers {
-    frames: Vec<Frame>,
+    frames: Seq<Frame>,
 }
 
 impl Model for Callers {
@@ -18,7 +19,7 @@ impl Model for Callers {
 
     ghost Value = { List a_frame.Frame };
 
-    ghost view = { λ c. reverse c.frames.items };
+    ghost view = { λ c. reverse c.frames };
 }
 
 impl Callers {
@@ -27,7 +28,7 @@ impl Callers {
         ensures { result ≡ [] }
     {
         Callers {
-            frames: Vec::new(alloc),
+            frames: Seq::new(alloc),
         }
     }
 
@@ -42,15 +43,14 @@ impl Callers {
     pub fn push(&mut self, frame: Frame) -> Result<(), AllocError>
         ensures { OnOk result (self.new ≡ frame ∷ self.old) }
     {
-        self.frames.push(frame)?;
-        Ok(())
+        self.frames.push(frame)
     }
 
     /// Takes the topmost frame off, where there is one.
     pub fn pop(&mut self) -> Option<Frame>
         ensures { MatchOption result ((self.old ≡ []) × (self.new ≡ [])) (λ frame. self.old ≡ frame ∷ self.new) }
     {
-        self.frames.pop()
+        self.frames.items.pop()
     }
 }
 

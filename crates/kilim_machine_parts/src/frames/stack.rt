@@ -5,6 +5,7 @@ ghost use Rattle.kilim_machine_parts.specs.frames.Stacked.{Stacked, top_is, is_i
 ghost use Rattle.kilim_classes.specs.declared.value.Value.TheVariants as a_value;
 
 use kilim_classes::Value;
+use kilim_units::Seq;
 use std::alloc::{AllocError, Global};
 use std::marker::Model;
 
@@ -133,23 +134,25 @@ impl Stack {
 }
 
 // A copy of a value behind those that are there.
-fn push_copy(into: &mut Vec<Value>, value: &Value) -> Result<(), AllocError>
-    ensures { OnOk result (into.new.items ≡ into.old.items ++ value.now ∷ []) }
+fn push_copy(into: &mut Seq<Value>, value: &Value) -> Result<(), AllocError>
+    ensures { OnOk result (into.new ≡ into.old ++ value.now ∷ []) }
 {
-    let copy = value.clone()?;
-    into.push(copy)?;
-    Ok(())
+    match value.clone() {
+        Ok(copy) => into.push(copy),
+        Err(fault) => Err(fault),
+    }
 }
 
 fn copies(alloc: Global, values: &[Value]) -> Result<Vec<Value>, AllocError>
     ensures { IfOk result (λ copies. copies.items ≡ values.now) }
 {
-    let mut copies = Vec::new(alloc);
-    copies.reserve(values.len())?;
+    let mut room = Vec::new(alloc);
+    room.reserve(values.len())?;
+    let mut copies = Seq::from_vec(room);
     for value in values {
         push_copy(&mut copies, value)?;
     }
-    Ok(copies)
+    Ok(copies.into_vec())
 }
 
 // Drops so many from the end.

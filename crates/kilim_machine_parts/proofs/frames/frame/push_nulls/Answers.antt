@@ -4,9 +4,9 @@ use Rattle.kilim_machine_parts.proofs.frames.Loops.{repeated}
 use Rattle.kilim_machine_parts.proofs.frames.frame.push_nulls.Goals as goal
 
 pub loop-preserved : goal.loop-preserved
-loop-preserved c = repeated c.args.items.now.items c.loop.items.items c.push.new.self.items c.loop.counter Null c.loop.invariant c.in_ok-push.ensures.items
+loop-preserved c = repeated c.args.items.now c.loop.items c.push.new.self c.loop.counter Null c.loop.invariant c.in_ok-push.ensures.ok
 
 pub returns : goal.returns
 returns c =
     let all : c.loop.counter ≡ c.args.count = omega arith in
-    c.loop.invariant ∙ ap (λ (n : ℕ). c.args.items.now.items ++ replicate n Null) all
+    c.loop.invariant ∙ ap (λ (n : ℕ). c.args.items.now ++ replicate n Null) all
