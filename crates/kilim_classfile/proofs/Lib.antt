@@ -1,3 +1,4 @@
+pub mod Boths
 pub mod Loops
 pub mod ClassFormat
 pub mod WholeClass

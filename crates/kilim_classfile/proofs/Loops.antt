@@ -1,6 +1,6 @@
 -- Loops that write something for each element.
-use Rattle.std.proofs.Common.{◌≡◌, ℕ, zero, suc, ◌+◌, ◌<◌, List, [], ◌∷◌, ◌++◌, length, get_or, take, sym, ap, ◌∙◌, add-one, append_assoc, arith, Bool, true, false, ◌||◌, drop, drop-cons}
-use Rattle.std.specs.List.{flat_map, list_any}
+use Rattle.std.proofs.Common.{◌≡◌, ℕ, zero, suc, ◌+◌, ◌<◌, List, [], ◌∷◌, ◌++◌, length, get_or, take, sym, ap, subst, ◌∙◌, add-one, append_assoc, arith, Bool, true, false, ◌||◌, drop, drop-cons}
+use Rattle.std.specs.List.{flat_map, list_any, AllByRecursion}
 use Rattle.std.proofs.lemmas.List.{append-nil}
 
 -- the texts of so many elements, and that of one more
@@ -28,3 +28,12 @@ module _ {A : Type 0} (test : A → Bool) (xs : List A) (i : ℕ) (x : A) {whole
 
   pub passed_at : b ≡ false → list_any test (drop (i + 1) xs) ≡ whole
   passed_at t = rw add-one (ap (λ (c : Bool). c || list_any test (drop (suc i) xs)) (sym t) ∙ here)
+
+-- what is so of each element is so of the one at a place
+of_each : {X : Type 0} (P : X → Type 0) (xs : List X) (i : ℕ) (d : X) → AllByRecursion P xs → i < length xs → P (get_or xs i d)
+of_each P [] i d all lt = absurd (omega arith)
+of_each P (x ∷ xs) zero d all lt = all.0
+of_each P (x ∷ xs) (suc i) d all lt = of_each P xs i d all.1 (omega arith)
+
+pub of_item : {X : Type 0} (P : X → Type 0) (xs : List X) (i : ℕ) (x d : X) → x ≡ get_or xs i d → AllByRecursion P xs → i < length xs → P x
+of_item P xs i x d is all lt = subst P (sym is) (of_each P xs i d all lt)

@@ -2,7 +2,8 @@ use Rattle.std.proofs.Common.{◌∙◌, ◌++◌, ap}
 use Rattle.std.proofs.lemmas.List.{take_all}
 use Rattle.std.specs.List.{flat_map}
 use Rattle.kilim_classfile.specs.Text.{member_text}
-use Rattle.kilim_classfile.proofs.Loops.{behind}
+use Rattle.kilim_classfile.specs.Writing.{MemberIsSized}
+use Rattle.kilim_classfile.proofs.Loops.{behind, of_item}
 use Rattle.kilim_classfile.proofs.writing.push_each_member.Goals as goal
 
 pub loop-member-preserved : goal.loop-member-preserved
@@ -12,3 +13,6 @@ loop-member-preserved c =
 
 pub returns : goal.returns
 returns c = c.loop-member.invariant ∙ ap (λ xs. c.args.into.now.items ++ flat_map member_text xs) (take_all c.loop-member.member-index c.args.members.now c.loop-member-test.false)
+
+pub push_member-requires : goal.push_member-requires
+push_member-requires c = of_item MemberIsSized c.args.members.now c.loop-member.member-index c.member-item.result _ c.member-item.is c.requires c.loop-member-test.true
