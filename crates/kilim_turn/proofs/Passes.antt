@@ -1,13 +1,13 @@
 -- Passes, one by one and all together.
-use Rattle.std.proofs.Common.{◌≡◌, ℕ, ◌+◌, ◌<◌, List, [], ◌∷◌, ◌++◌, length, map, get_or, take, sym, refl, ap, ◌∙◌, subst, Option, Some, option_to_list, arith, zero-add, zero-le, length-append, append_assoc, length-set, get_or-set_other, ext_get_or, slice_set}
+use Rattle.std.proofs.Common.{◌≡◌, ◌⊎◌, inl, inr, ℕ, zero, suc, ◌+◌, ◌<◌, List, [], ◌∷◌, ◌++◌, length, map, get_or, take, sym, refl, ap, ◌∙◌, subst, Option, Some, option_to_list, arith, zero-add, zero-le, length-append, append_assoc, length-set, get_or-set_other, ext_get_or, slice_set}
 use lib.ListN.{length-map, get_or-map}
 use lib.Seq.{map-set, take-append_seam}
-use Rattle.std.proofs.lemmas.List.{get_or_at}
+use Rattle.std.proofs.lemmas.List.{get_or_append_left, get_or_at}
 use Rattle.atomic_table.specs.Seated.{TableId}
 use Rattle.kilim_turn.specs.declared.pass.Pass.{Pass}
 use Rattle.kilim_turn.specs.Views.{cell_at, no_table, worker, holder, both}
 use Rattle.kilim_turn.specs.Steps.{Sat, IsInside, IsTold}
-use Rattle.kilim_turn.specs.Turns.{first_shown, shows, IsOutside, AreAllAt, AreMade, KeepsOthers}
+use Rattle.kilim_turn.specs.Turns.{first_shown, shows, IsOutside, AreAllAt, AreMade, IsMade, KeepsOthers}
 use Rattle.kilim_turn.proofs.Hands.{heads}
 
 -- a seat has taken over the passes behind those that are left
@@ -48,6 +48,21 @@ shown_all z q cells passes size made =
     (λ i lt.
     let less : i < length passes = omega (arith, length-map passes shows) in
     get_or-map shows passes i no_pass ∙ ap first_shown (made i no_pass zero-le less).knows)
+
+-- one more pass is made
+pub made_next : (first : ℕ) (z : TableId) (q n : ℕ) (cells : List (List ℕ)) (old new : List Pass) (p : Pass) → AreMade first z q cells old → new ≡ old ++ p ∷ [] → length old ≡ n → IsMade z q cells n p → AreMade first z q cells new
+made_next first z q n cells old new p made e size one = λ k d least lt.
+    let more : k < length old + 1 = let g = ap length e ∙ length-append old (p ∷ []) in omega arith in
+    subst (λ (l : List Pass). IsMade z q cells k (get_or l k d)) (sym e) (elim (either k (length old) more) [
+      | inl less ↦ subst (λ (x : Pass). IsMade z q cells k x) (sym (get_or_append_left old (p ∷ []) d k less)) (made k d least less)
+      | inr same ↦ subst (λ (x : Pass). IsMade z q cells k x) (sym (get_or_at old p [] d k (sym same))) (subst (λ (j : ℕ). IsMade z q cells j p) (sym (same ∙ size)) one)
+    ])
+  where
+    either : (k n : ℕ) → k < n + 1 → (k < n) ⊎ (k ≡ n)
+    either zero zero lt = inr refl
+    either zero (suc n) lt = inl (omega arith)
+    either (suc k) zero lt = absurd (omega arith)
+    either (suc k) (suc n) lt = elim (either k n (omega arith)) [ inl less ↦ inl (omega arith) | inr same ↦ inr (ap suc same) ]
 
 module _ {S : Type 0} where
   -- the seat of a pass that is outside
