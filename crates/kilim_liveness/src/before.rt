@@ -15,12 +15,18 @@ use std::alloc::Global;
 pub fn edges_of(alloc: Global, instr: &Instr, next: u32) -> Result<Vec<u32>, NoMemory>
     ensures { IfOk result (λ v. v.items ≡ edges instr.now next) }
 {
-    let targets = jump_targets(alloc, instr)?;
+    let Ok(targets) = jump_targets(alloc, instr) else {
+        return Err(NoMemory);
+    };
     if ends_path(instr) {
         return Ok(targets);
     }
-    let mut all = Vec::from_slice(alloc, &[next])?;
-    all.extend_from_slice(targets.as_slice())?;
+    let Ok(mut all) = Vec::from_slice(alloc, &[next]) else {
+        return Err(NoMemory);
+    };
+    let Ok(()) = all.extend_from_slice(targets.as_slice()) else {
+        return Err(NoMemory);
+    };
     Ok(all)
 }
 
@@ -58,7 +64,9 @@ fn push_before(rows: &mut Vec<Seq<u32>>, to: u32, place: u32) -> Result<(), NoMe
 {
     let at = to as usize;
     if at < rows.len() {
-        rows[at].push(place)?;
+        let Ok(()) = rows[at].push(place) else {
+            return Err(NoMemory);
+        };
     }
     Ok(())
 }
@@ -76,7 +84,9 @@ fn add_edges(rows: &mut Vec<Seq<u32>>, place: u32, tos: &[u32]) -> Result<(), No
 {
     for at in 0..tos.len() {
         let to = number_at(tos, at);
-        push_before(rows, to, place)?;
+        let Ok(()) = push_before(rows, to, place) else {
+            return Err(NoMemory);
+        };
     }
     Ok(())
 }
@@ -87,7 +97,9 @@ fn empty_rows(alloc: Global, size: usize) -> Result<Vec<Seq<u32>>, NoMemory>
     let mut rows = Vec::new(alloc);
     for _ in 0..size {
         let row = Seq::new(alloc);
-        rows.push(row)?;
+        let Ok(()) = rows.push(row) else {
+            return Err(NoMemory);
+        };
     }
     Ok(rows)
 }
@@ -97,13 +109,19 @@ pub fn befores(alloc: Global, method: &Method, size: usize) -> Result<Vec<Seq<u3
     requires { Rising method.now.code }
     ensures { IfOk result (λ rows. AreBefore method.now size rows.items) }
 {
-    let mut rows = empty_rows(alloc, size)?;
+    let Ok(mut rows) = empty_rows(alloc, size) else {
+        return Err(NoMemory);
+    };
     for at in 0..method.code.len() {
         let entry = entry_of(method, at);
         let next = place_behind(method, at);
-        let tos = edges_of(alloc, &entry.1, next)?;
+        let Ok(tos) = edges_of(alloc, &entry.1, next) else {
+            return Err(NoMemory);
+        };
         let targets = tos.as_slice();
-        add_edges(&mut rows, entry.0, targets)?;
+        let Ok(()) = add_edges(&mut rows, entry.0, targets) else {
+            return Err(NoMemory);
+        };
     }
     Ok(rows)
 }

@@ -26,7 +26,9 @@ fn free_places(alloc: Global, size: usize) -> Result<Vec<bool>, NoMemory>
 {
     let mut marks = Vec::new(alloc);
     for _ in 0..size {
-        marks.push(false)?;
+        let Ok(()) = marks.push(false) else {
+            return Err(NoMemory);
+        };
     }
     Ok(marks)
 }
@@ -51,7 +53,9 @@ fn visit(marks: &mut Vec<bool>, work: &mut Vec<u32>, place: u32) -> Result<(), N
         return Ok(());
     }
     mark(marks, place);
-    work.push(place)?;
+    let Ok(()) = work.push(place) else {
+        return Err(NoMemory);
+    };
     Ok(())
 }
 
@@ -67,7 +71,9 @@ fn visit_open(
     ensures marked { OnOk result (is_marked passing.now place ≡ true → is_marked marks.new.items place ≡ true) }
 {
     if is_marked(passing, place) {
-        visit(marks, work, place)?;
+        let Ok(()) = visit(marks, work, place) else {
+            return Err(NoMemory);
+        };
         return Ok(());
     }
     Ok(())
@@ -94,7 +100,9 @@ fn visit_read(
     ensures marked { OnOk result (reads entry.now.1 local ≡ true → is_marked marks.new.items entry.now.0 ≡ true) }
 {
     if reads(&entry.1, local) {
-        visit(marks, work, entry.0)?;
+        let Ok(()) = visit(marks, work, entry.0) else {
+            return Err(NoMemory);
+        };
         return Ok(());
     }
     Ok(())
@@ -121,7 +129,9 @@ fn open_places(
     requires below { EachBelow size method.now.code }
     ensures { IfOk result (λ marks. Opens method.now local (length method.now.code) marks.items) }
 {
-    let mut marks = free_places(alloc, size)?;
+    let Ok(mut marks) = free_places(alloc, size) else {
+        return Err(NoMemory);
+    };
     for at in 0..method.code.len() {
         let entry = entry_of(method, at);
         mark_open(&mut marks, entry, local);
@@ -145,7 +155,9 @@ fn start(
 {
     for at in 0..method.code.len() {
         let entry = entry_of(method, at);
-        visit_read(entry, local, marks, work)?;
+        let Ok(()) = visit_read(entry, local, marks, work) else {
+            return Err(NoMemory);
+        };
     }
     Ok(())
 }
@@ -163,7 +175,9 @@ fn spread(
 {
     for at in 0..befores.len() {
         let place = number_at(befores, at);
-        visit_open(passing, marks, work, place)?;
+        let Ok(()) = visit_open(passing, marks, work, place) else {
+            return Err(NoMemory);
+        };
     }
     Ok(())
 }
@@ -195,7 +209,9 @@ fn spread_all(
 {
     while let Some(place) = work.pop() {
         let row = row_at(befores, place);
-        spread(row, passing, marks, work)?;
+        let Ok(()) = spread(row, passing, marks, work) else {
+            return Err(NoMemory);
+        };
     }
     Ok(())
 }
@@ -212,12 +228,20 @@ pub fn column(
     requires befores { AreBefore method.now (length befores.now) befores.now }
     ensures { IfOk result (λ marks. IsColumn method.now local marks.items) }
 {
-    let opens = open_places(alloc, method, befores.len(), local)?;
+    let Ok(opens) = open_places(alloc, method, befores.len(), local) else {
+        return Err(NoMemory);
+    };
     let passing = opens.as_slice();
     let size = befores.len();
-    let mut marks = free_places(alloc, size)?;
+    let Ok(mut marks) = free_places(alloc, size) else {
+        return Err(NoMemory);
+    };
     let mut work = Vec::new(alloc);
-    start(method, local, &mut marks, &mut work)?;
-    spread_all(method, local, befores, passing, &mut marks, &mut work)?;
+    let Ok(()) = start(method, local, &mut marks, &mut work) else {
+        return Err(NoMemory);
+    };
+    let Ok(()) = spread_all(method, local, befores, passing, &mut marks, &mut work) else {
+        return Err(NoMemory);
+    };
     Ok(marks)
 }

@@ -23,7 +23,9 @@ fn push_from(pairs: &mut Vec<(u32, u32)>, from: u32, tos: &[u32]) -> Result<(), 
     ensures { OnOk result (pairs.new.items ≡ pairs.old.items ++ map (from_to from) tos.now) }
 {
     for to in tos {
-        pairs.push((from, *to))?;
+        let Ok(()) = pairs.push((from, *to)) else {
+            return Err(NoMemory);
+        };
     }
     Ok(())
 }
@@ -40,9 +42,13 @@ fn push_edges(
 {
     let entry = entry_of(method, at);
     let next = place_behind(method, at);
-    let mut tos = edges_of(alloc, &entry.1, next)?;
+    let Ok(mut tos) = edges_of(alloc, &entry.1, next) else {
+        return Err(NoMemory);
+    };
     put_in_order(&mut tos);
-    push_from(pairs, entry.0, tos.as_slice())?;
+    let Ok(()) = push_from(pairs, entry.0, tos.as_slice()) else {
+        return Err(NoMemory);
+    };
     Ok(())
 }
 
@@ -54,7 +60,9 @@ pub fn edges(alloc: Global, method: &Method) -> Result<Vec<(u32, u32)>, NoMemory
 {
     let mut pairs = Vec::new(alloc);
     for at in 0..method.code.len() {
-        push_edges(alloc, method, at, &mut pairs)?;
+        let Ok(()) = push_edges(alloc, method, at, &mut pairs) else {
+            return Err(NoMemory);
+        };
     }
     Ok(pairs)
 }

@@ -89,7 +89,9 @@ fn read_locals(alloc: Global, method: &Method, most: usize) -> Result<Vec<bool>,
     ensures same { IfOk result (λ marks. length marks.items ≡ most) }
     ensures marked { IfOk result (λ marks. ReadMarked (length method.now.code) marks.items method.now.code) }
 {
-    let mut marks = vec![in alloc; false; most]?;
+    let Ok(mut marks) = vec![in alloc; false; most] else {
+        return Err(NoMemory);
+    };
     for at in 0..method.code.len() {
         let entry = entry_of(method, at);
         mark_read(&mut marks, &entry.1);
@@ -119,7 +121,9 @@ fn column_if(
     ensures { IfOk result (λ marks. IsColumn method.now local marks) }
 {
     if is_read {
-        let marks = column(alloc, method, befores, local)?;
+        let Ok(marks) = column(alloc, method, befores, local) else {
+            return Err(NoMemory);
+        };
         return Ok(Seq::from_vec(marks));
     }
     Ok(Seq::new(alloc))
@@ -142,8 +146,12 @@ fn columns_of(
     let mut columns = Vec::new(alloc);
     for local in 0..read.len() {
         let is_read = flag_at(read, local);
-        let column = column_if(alloc, method, befores, is_read, local as u16)?;
-        columns.push(column)?;
+        let Ok(column) = column_if(alloc, method, befores, is_read, local as u16) else {
+            return Err(NoMemory);
+        };
+        let Ok(()) = columns.push(column) else {
+            return Err(NoMemory);
+        };
     }
     Ok(columns)
 }
@@ -155,12 +163,18 @@ pub fn live(alloc: Global, method: &Method) -> Result<LiveTable, NoMemory>
     ensures { IfOk result (λ table. IsLive method.now (live_in table)) }
 {
     let size = places_below(method);
-    let rows = befores(alloc, method, size)?;
+    let Ok(rows) = befores(alloc, method, size) else {
+        return Err(NoMemory);
+    };
     let before = rows.as_slice();
     let most = locals_below(method);
-    let flags = read_locals(alloc, method, most)?;
+    let Ok(flags) = read_locals(alloc, method, most) else {
+        return Err(NoMemory);
+    };
     let read = flags.as_slice();
-    let columns = columns_of(alloc, method, before, read)?;
+    let Ok(columns) = columns_of(alloc, method, before, read) else {
+        return Err(NoMemory);
+    };
     Ok(LiveTable { columns })
 }
 

@@ -15,17 +15,25 @@ fn one(alloc: Global, to: u32) -> Result<Vec<u32>, AllocError>
 fn of_table(alloc: Global, first: u32, targets: &[u32]) -> Result<Vec<u32>, AllocError>
     ensures { IfOk result (λ v. v.items ≡ first ∷ targets.now) }
 {
-    let mut all = one(alloc, first)?;
-    all.extend_from_slice(targets)?;
+    let Ok(mut all) = one(alloc, first) else {
+        return Err(AllocError);
+    };
+    let Ok(()) = all.extend_from_slice(targets) else {
+        return Err(AllocError);
+    };
     Ok(all)
 }
 
 fn of_pairs(alloc: Global, first: u32, pairs: &[(i32, u32)]) -> Result<Vec<u32>, AllocError>
     ensures { IfOk result (λ v. v.items ≡ first ∷ map (λ (pair : ℤ × ℕ). pair.1) pairs.now) }
 {
-    let mut all = one(alloc, first)?;
+    let Ok(mut all) = one(alloc, first) else {
+        return Err(AllocError);
+    };
     for pair in pairs {
-        all.push(pair.1)?;
+        let Ok(()) = all.push(pair.1) else {
+            return Err(AllocError);
+        };
     }
     Ok(all)
 }

@@ -6,4 +6,4 @@ pub loop-init : goal.loop-init
 loop-init c = rw c.new-rows.ensures.items (record { long = refl; none = λ q. refl })
 
 pub loop-preserved : goal.loop-preserved
-loop-preserved c = rw (c.in_ok-push.ensures.items, c.new-row.ensures) (no_more_rows c.loop.counter c.loop.rows.items c.loop.invariant)
+loop-preserved c = rw (c.in-Ok.ensures.items, c.new-row.ensures) (no_more_rows c.loop.counter c.loop.rows.items c.loop.invariant)

@@ -3,4 +3,4 @@ use Rattle.kilim_liveness.proofs.Lists.{one_free}
 use Rattle.kilim_liveness.proofs.column.free_places.Goals as goal
 
 pub loop-preserved : goal.loop-preserved
-loop-preserved c = c.in_ok-push.ensures.items ∙ (ap (λ (bs : List Bool). bs ++ false ∷ []) c.loop.invariant ∙ one_free c.loop.counter)
+loop-preserved c = c.in-Ok.ensures.items ∙ (ap (λ (bs : List Bool). bs ++ false ∷ []) c.loop.invariant ∙ one_free c.loop.counter)

@@ -7,7 +7,7 @@ use Rattle.kilim_liveness.proofs.column.open_places.Goals as goal
 
 pub loop-at-init : goal.loop-at-init
 loop-at-init c =
-    let e = c.in_ok-marks.ensures in (
+    let e = c.in-Ok.ensures in (
       ap length e ∙ length-replicate c.args.size false,
       subst (λ (ms : List Bool). Opens c.args.method.now c.args.local 0 ms) (sym e) (no_opens c.args.method.now c.args.local c.requires.rising c.args.size),
     )

@@ -18,7 +18,7 @@ loop-at-init c = (no_growth _ c.args.marks.now.items c.args.work.now.items, λ x
 pub loop-at-preserved : goal.loop-at-preserved
 loop-at-preserved c =
     took c.args.befores.now c.args.passing.now c.loop-at.at c.number_at-place.result c.args.marks.now.items c.args.work.now.items c.loop-at.marks.items c.loop-at.work.items c.visit_open.new.marks.items c.visit_open.new.work.items
-    c.number_at-place.ensures c.loop-at.invariant c.in_ok-visit_open.ensures.grown c.in_ok-visit_open.ensures.marked
+    c.number_at-place.ensures c.loop-at.invariant c.in-Ok.ensures.grown c.in-Ok.ensures.marked
 
 pub returns : goal.returns
 returns c =

@@ -19,19 +19,19 @@ spread-requires c x h =
 pub loop-place-preserved : goal.loop-place-preserved
 loop-place-preserved c =
     let m = c.args.method.now in
-    let g = c.in_ok-spread.ensures.grown in
+    let g = c.in-Ok.ensures.grown in
     let s = c.loop-place.invariant.0 in (
       g.same ∙ s,
       turned m c.args.local c.in-Some.place c.args.befores.now c.row_at-row.result.now c.args.passing.now c.loop-place.marks.items c.pop.new.self.items c.loop-place.work.items c.spread.new.marks.items c.spread.new.work.items
           c.row_at-row.ensures
           (subst (λ (n : ℕ). AreBefore m n c.args.befores.now) (sym s) c.requires.befores) c.requires.opens (subst (λ (n : ℕ). EachBelow n m.code) (sym s) c.requires.below) c.requires.rising
-          c.in-Some.ensures.items c.loop-place.invariant.1 g c.in_ok-spread.ensures.all,
+          c.in-Some.ensures.items c.loop-place.invariant.1 g c.in-Ok.ensures.all,
       reads_kept m c.args.local (length m.code) c.loop-place.marks.items c.spread.new.marks.items g.keeps c.loop-place.invariant.2,
     )
 
 pub loop-place-smaller : goal.loop-place-smaller
 loop-place-smaller c =
-    let n = c.in_ok-spread.ensures.grown.count in
+    let n = c.in-Ok.ensures.grown.count in
     let l = ap length c.in-Some.ensures.items ∙ length-append c.pop.new.self.items (c.in-Some.place ∷ []) in
     omega (arith, n, l)
 

@@ -15,8 +15,8 @@ pub loop-at-preserved : goal.loop-at-preserved
 loop-at-preserved c =
     let m = c.args.method.now in
     let e = c.entry_of-entry.result.now in
-    let g = c.in_ok-visit_read.ensures.grown in (
+    let g = c.in-Ok.ensures.grown in (
       g.same ∙ c.loop-at.invariant.0,
       read_more m c.args.local c.requires.rising c.loop-at.at e c.loop-at.marks.items c.loop-at.work.items c.visit_read.new.marks.items c.visit_read.new.work.items c.entry_of-entry.ensures g c.loop-at.invariant.1,
-      reads_more m c.args.local c.loop-at.at e c.loop-at.marks.items c.visit_read.new.marks.items c.entry_of-entry.ensures g.keeps c.loop-at.invariant.2 c.in_ok-visit_read.ensures.marked,
+      reads_more m c.args.local c.loop-at.at e c.loop-at.marks.items c.visit_read.new.marks.items c.entry_of-entry.ensures g.keeps c.loop-at.invariant.2 c.in-Ok.ensures.marked,
     )

@@ -11,7 +11,7 @@ pub returns-clause-grown : goal.returns-clause-grown
 returns-clause-grown c =
     let free : is_marked c.args.marks.now.items c.args.place ≡ false = cc in
     subst (λ (ms : List Bool). Grown (λ x. x ≡ c.args.place) c.args.marks.now.items c.args.work.now.items ms c.push.new.self.items) (sym c.mark.ensures)
-    (subst (λ (ws : List ℕ). Grown (λ x. x ≡ c.args.place) c.args.marks.now.items c.args.work.now.items (set c.args.marks.now.items c.args.place true) ws) (sym c.in_ok-push.ensures.items)
+    (subst (λ (ws : List ℕ). Grown (λ x. x ≡ c.args.place) c.args.marks.now.items c.args.work.now.items (set c.args.marks.now.items c.args.place true) ws) (sym c.in-Ok.ensures.items)
     (one_grown c.args.marks.now.items c.args.work.now.items c.args.place c.requires free))
 
 pub returns-clause-marked : goal.returns-clause-marked

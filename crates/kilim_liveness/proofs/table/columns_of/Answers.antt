@@ -13,10 +13,10 @@ column_if-requires c = record {
 
 pub loop-local-preserved : goal.loop-local-preserved
 loop-local-preserved c =
-    let is = c.in_ok-push.ensures.items in (
-      ap length is ∙ (length-append c.loop-local.columns.items (c.in_ok-column.column ∷ []) ∙ ap (λ n. n + 1) c.loop-local.invariant.0),
+    let is = c.in-Ok-push.ensures.items in (
+      ap length is ∙ (length-append c.loop-local.columns.items (c.in-Ok.column ∷ []) ∙ ap (λ n. n + 1) c.loop-local.invariant.0),
       subst (λ (cs : List (List Bool)). AreColumns c.args.method.now (c.loop-local.local + 1) cs) (sym is)
-          (column_more c.args.method.now c.loop-local.local c.loop-local.columns.items c.in_ok-column.column c.loop-local.invariant.0 c.loop-local.invariant.1 c.in_ok-column.ensures),
+          (column_more c.args.method.now c.loop-local.local c.loop-local.columns.items c.in-Ok.column c.loop-local.invariant.0 c.loop-local.invariant.1 c.in-Ok.ensures),
     )
 
 pub returns : goal.returns

@@ -4,11 +4,11 @@ use Rattle.kilim_liveness.proofs.Loops.{mapped_behind}
 use Rattle.kilim_liveness.proofs.targets.of_pairs.Goals as goal
 
 pub loop-pair-init : goal.loop-pair-init
-loop-pair-init c = c.in_ok-all.ensures
+loop-pair-init c = c.in-Ok.ensures
 
 pub loop-pair-preserved : goal.loop-pair-preserved
 loop-pair-preserved c =
-    mapped_behind (λ (pair : ℤ × ℕ). pair.1) c.args.first c.loop-pair.all.items c.push.new.self.items c.args.pairs.now c.loop-pair.pair-index _ (pos 0, 0) _ c.loop-pair-test.true refl c.loop-pair.invariant refl c.in_ok-push.ensures.items
+    mapped_behind (λ (pair : ℤ × ℕ). pair.1) c.args.first c.loop-pair.all.items c.push.new.self.items c.args.pairs.now c.loop-pair.pair-index _ (pos 0, 0) _ c.loop-pair-test.true refl c.loop-pair.invariant refl c.in-Ok-push.ensures.items
 
 pub returns : goal.returns
 returns c = c.loop-pair.invariant ∙ ap (λ (ps : List (ℤ × ℕ)). c.args.first ∷ map (λ (pair : ℤ × ℕ). pair.1) ps) (take_all c.loop-pair.pair-index c.args.pairs.now (omega arith))
