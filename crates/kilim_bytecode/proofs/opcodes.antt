@@ -6,3 +6,4 @@ pub mod OneInstr
 pub mod InstrLengths
 pub mod ReadAt
 pub mod Pieces
+pub mod Boths

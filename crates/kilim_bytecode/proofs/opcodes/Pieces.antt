@@ -1,5 +1,5 @@
 -- Bytes that are added piece by piece.
-use Rattle.std.proofs.Common.{◌≡◌, ℕ, zero, suc, ◌+◌, ◌<◌, ℤ, Option, Some, Result, Ok, Err, List, [], ◌∷◌, ◌++◌, length, take, get_or, sym, ap, ◌∙◌, append_assoc, add-one, arith}
+use Rattle.std.proofs.Common.{◌≡◌, ℕ, zero, suc, ◌+◌, ◌<◌, ℤ, Option, Some, Result, Ok, Err, List, [], ◌∷◌, ◌++◌, length, take, replicate, get_or, refl, sym, ap, ◌∙◌, append_assoc, add-one, arith}
 use Rattle.std.specs.Prelude.{OnOk}
 use Rattle.std.specs.Int.{w32}
 use Rattle.std.specs.List.{flat_map, AllByRecursion}
@@ -12,6 +12,20 @@ joined old mid new x y e f = f ∙ (ap (λ (m : List ℕ). m ++ y) e ∙ append_
 pub on_joined : {T E : Type 0} (r : Result T E) (old mid new x y : List ℕ) → mid ≡ old ++ x → OnOk r (new ≡ mid ++ y) → OnOk r (new ≡ old ++ (x ++ y))
 on_joined (Ok v) old mid new x y e h = joined old mid new x y e h
 on_joined (Err v) old mid new x y e h = tt
+
+abbrev zeros : ℕ → List ℕ
+zeros n = replicate n 0
+
+abbrev one_zero : List ℕ
+one_zero = 0 ∷ []
+
+-- so many zeros, and one more
+zeros_more : (n : ℕ) → zeros n ++ one_zero ≡ zeros (suc n)
+zeros_more zero = refl
+zeros_more (suc n) = ap (λ (others : List ℕ). 0 ∷ others) (zeros_more n)
+
+pub padded_more : (old now next : List ℕ) (n : ℕ) → now ≡ old ++ zeros n → next ≡ now ++ one_zero → next ≡ old ++ zeros (n + 1)
+padded_more old now next n e f = rw add-one (joined old now next (zeros n) one_zero e f ∙ ap (λ (others : List ℕ). old ++ others) (zeros_more n))
 
 pub target_fits : (at : ℕ) (targets : List ℤ) (i : ℕ) (d : ℤ) → AllByRecursion (TargetFits w32 at) targets → i < length targets → TargetFits w32 at (get_or targets i d)
 target_fits at [] i d all lt = absurd (omega arith)

@@ -1,0 +1,30 @@
+-- A part behind another one, and what is made of both.
+use Rattle.std.proofs.Common.{◌≡◌, ℕ, List, Result, Ok, Err, ap, ◌∙◌}
+use Rattle.kilim_grammar.specs.Reader.{◌>>=◌, both, followed, made}
+use Rattle.kilim_bytecode.specs.declared.opcodes.fault.OpFault.{OpFault}
+use Rattle.kilim_bytecode.specs.opcodes.Reading.{InstrReader}
+
+abbrev Read : Type 0 → Type 0
+Read A = Result (A × List ℕ) OpFault
+
+module _ {A B C : Type 0} (make : A × B → C) (one : InstrReader A) (bytes : List ℕ) (x : A) (rest : List ℕ) (e : one bytes ≡ Ok (x, rest)) where
+  abbrev pair_of : A → B × List ℕ → Read (A × B)
+  pair_of a y = Ok ((a, y.0), y.1)
+
+  abbrev made_from : (A × B) × List ℕ → Read C
+  made_from z = Ok (make z.0, z.1)
+
+  abbrev made_of : Read B → Read C
+  made_of r = (r >>= pair_of x) >>= made_from
+
+  abbrev behind : (A → InstrReader B) → A × List ℕ → Read (A × B)
+  behind others p = others p.0 p.1 >>= pair_of p.0
+
+  pub followed_made : (others : A → InstrReader B) (y : B) (after : List ℕ) → others x rest ≡ Ok (y, after) → made make (followed one others) bytes ≡ Ok (make (x, y), after)
+  followed_made others y after f = ap (λ (r : Read A). (r >>= behind others) >>= made_from) e ∙ ap made_of f
+
+  pub both_made : (other : InstrReader B) (y : B) (after : List ℕ) → other rest ≡ Ok (y, after) → made make (both one other) bytes ≡ Ok (make (x, y), after)
+  both_made other y after f = ap (λ (r : Read A). (r >>= behind (λ a. other)) >>= made_from) e ∙ ap made_of f
+
+  pub both_fails : (other : InstrReader B) (fault : OpFault) → other rest ≡ Err fault → made make (both one other) bytes ≡ Err fault
+  both_fails other fault f = ap (λ (r : Read A). (r >>= behind (λ a. other)) >>= made_from) e ∙ ap made_of f
