@@ -1,1 +1,2 @@
 pub mod FromFaults
+pub mod SameTypes

@@ -1,6 +1,6 @@
 //! Assignability of verification types.
 
-ghost use Rattle.std.specs.Prelude.{◌≡◌};
+ghost use Rattle.std.specs.Prelude.{◌≡◌, ◌↔◌, IsTrue};
 ghost use Rattle.kilim_typing.specs.Step.{assignable};
 
 use kilim_classes::{Program, VType};
@@ -13,55 +13,19 @@ pub fn assignable(program: &Program, from: &VType, to: &VType) -> bool
 {
     match to {
         VType::Top => true,
-        VType::Int => match from {
-            VType::Int => true,
-            VType::Top
-            | VType::Long
-            | VType::Null
-            | VType::UninitThis
-            | VType::Uninit(_)
-            | VType::Object(_) => false,
-        },
-        VType::Long => match from {
-            VType::Long => true,
-            VType::Top
-            | VType::Int
-            | VType::Null
-            | VType::UninitThis
-            | VType::Uninit(_)
-            | VType::Object(_) => false,
-        },
-        VType::Null => match from {
-            VType::Null => true,
-            VType::Top
-            | VType::Int
-            | VType::Long
-            | VType::UninitThis
-            | VType::Uninit(_)
-            | VType::Object(_) => false,
-        },
-        VType::UninitThis => match from {
-            VType::UninitThis => true,
-            VType::Top
-            | VType::Int
-            | VType::Long
-            | VType::Null
-            | VType::Uninit(_)
-            | VType::Object(_) => false,
-        },
-        VType::Uninit(at) => match from {
-            VType::Uninit(other) => *other == *at,
-            VType::Top
-            | VType::Int
-            | VType::Long
-            | VType::Null
-            | VType::UninitThis
-            | VType::Object(_) => false,
-        },
+        VType::Int | VType::Long | VType::Null | VType::UninitThis | VType::Uninit(_) => {
+            is_same(from, to)
+        }
         VType::Object(ty) => match from {
             VType::Null => true,
             VType::Object(other) => program.fits_type(other, ty),
             VType::Top | VType::Int | VType::Long | VType::UninitThis | VType::Uninit(_) => false,
         },
     }
+}
+
+fn is_same(from: &VType, to: &VType) -> bool
+    ensures { IsTrue result ↔ (from.now ≡ to.now) }
+{
+    *from == *to
 }
