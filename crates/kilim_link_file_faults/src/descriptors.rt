@@ -49,7 +49,9 @@ fn no_field(alloc: Global, descriptor: &Units) -> Result<Option<Units>, NoMemory
     ensures { IfOk result (λ found. found ≡ first_of (no_descriptors (OfField descriptor.now))) }
 {
     let found = field_text(alloc, descriptor)?;
-    if found.is_none() {
+    let is_none = found.is_none();
+    drop(found);
+    if is_none {
         Ok(Some(descriptor.clone()?))
     } else {
         Ok(None)
