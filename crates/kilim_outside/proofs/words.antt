@@ -3,3 +3,4 @@ pub mod Mapped
 pub mod Texts
 mod Ints
 pub mod Loops
+pub mod Split

@@ -1,4 +1,5 @@
 pub mod Loops
+pub mod Filed
 pub mod Counted
 pub mod Drawn
 pub mod Added

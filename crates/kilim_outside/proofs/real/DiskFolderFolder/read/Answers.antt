@@ -1,0 +1,6 @@
+use Rattle.std.proofs.Common.{refl}
+use Rattle.kilim_outside.proofs.Refused.{refused_cause}
+use Rattle.kilim_outside.proofs.real.DiskFolderFolder.read.Goals as goal
+
+pub returns-in-Err-clause-cause : goal.returns-in-Err-clause-cause
+returns-in-Err-clause-cause g c = refused_cause _ _ _ _ c.read_refusal.result refl c.read_refusal.ensures.own c.read_refusal.ensures.failed
