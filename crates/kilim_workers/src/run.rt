@@ -126,8 +126,13 @@ impl<F: Fibers, K: Run> RunBoard<F, K> {
         ensures acted { IfOk result (λ a. ActedAs K.of (F.task_of fiber.now) (F.course_of fiber.now) (cell_at (board_cells self.new) seat) (wish_in wants) a) }
     {
         let _ = fiber;
-        self.board.reserve(&wants)?;
-        Ok(self.board.act(seat, wants))
+        match self.board.reserve(&wants) {
+            Ok(()) => Ok(self.board.act(seat, wants)),
+            Err(fault) => {
+                drop(wants);
+                Err(fault)
+            }
+        }
     }
 
     /// The journal of a run that is over, with the closing waits.

@@ -11,33 +11,33 @@ pub act-requires-clause-lent : goal.act-requires-clause-lent
 act-requires-clause-lent g c = (
   _,
   (lent_now (seen c.self.inside.board) (seen c.reserve.new.self) c.args.seat (g.F.Fibers.task_of c.args.fiber.now) (g.F.Fibers.course_of c.args.fiber.now) c.args.wants g.F.Fibers.task_of g.F.Fibers.course_of g.F.Fibers.holds g.K.Run.of c.requires.some
-      (ap (λ b. cell_at (board_cells b) c.args.seat) c.self.view_is ∙ c.requires.lent) c.in_ok-reserve.ensures.same c.requires.meets (λ set is. c.in_ok-reserve.ensures.stands set (c.self.invariant.1 set is))).0,
+      (ap (λ b. cell_at (board_cells b) c.args.seat) c.self.view_is ∙ c.requires.lent) c.in-Ok.ensures.same c.requires.meets (λ set is. c.in-Ok.ensures.stands set (c.self.invariant.1 set is))).0,
 )
 
 pub act-requires-clause-acts : goal.act-requires-clause-acts
 act-requires-clause-acts g c = is_actable (seen c.self.inside.board) (seen c.self.inside.board) c.args.seat g.F.Fibers.task_of g.F.Fibers.course_of g.F.Fibers.holds g.K.Run.of c.requires.some g.F.Fibers.count_of (g.F.Fibers.task_of c.args.fiber.now) (g.F.Fibers.course_of c.args.fiber.now) c.args.wants c.requires.meets c.requires.none
 
-pub invariant_of-self-2 : goal.invariant_of-self-2
-invariant_of-self-2 g c = (
+pub invariant_of-self : goal.invariant_of-self
+invariant_of-self g c = (
   c.act.ensures.roomy,
   λ set is. (stands_now (seen c.self.inside.board) (seen c.reserve.new.self) c.args.seat (g.F.Fibers.task_of c.args.fiber.now) (g.F.Fibers.course_of c.args.fiber.now) c.args.wants g.F.Fibers.task_of g.F.Fibers.course_of g.F.Fibers.holds g.K.Run.of c.requires.some
-      (ap (λ b. cell_at (board_cells b) c.args.seat) c.self.view_is ∙ c.requires.lent) c.in_ok-reserve.ensures.same c.requires.meets (λ set is. c.in_ok-reserve.ensures.stands set (c.self.invariant.1 set is)) (seen c.act.new.self) c.act.result c.act.ensures.stands set is).0,
+      (ap (λ b. cell_at (board_cells b) c.args.seat) c.self.view_is ∙ c.requires.lent) c.in-Ok.ensures.same c.requires.meets (λ set is. c.in-Ok.ensures.stands set (c.self.invariant.1 set is)) (seen c.act.new.self) c.act.result c.act.ensures.stands set is).0,
 )
 
-pub returns-clause-others : goal.returns-clause-others
-returns-clause-others g c =
+pub returns-in-Ok-clause-others : goal.returns-in-Ok-clause-others
+returns-in-Ok-clause-others g c =
     subst (λ b. KeepsOthers c.args.seat (board_cells b) (board_cells c.act.new.self)) c.self.view_is
     (others_now (seen c.self.inside.board) (seen c.reserve.new.self) c.args.seat (g.F.Fibers.task_of c.args.fiber.now) (g.F.Fibers.course_of c.args.fiber.now) c.args.wants g.F.Fibers.task_of g.F.Fibers.course_of g.F.Fibers.holds g.K.Run.of c.requires.some
-    (ap (λ b. cell_at (board_cells b) c.args.seat) c.self.view_is ∙ c.requires.lent) c.in_ok-reserve.ensures.same c.requires.meets (λ set is. c.in_ok-reserve.ensures.stands set (c.self.invariant.1 set is)) (seen c.act.new.self) c.act.result c.act.ensures.stands
+    (ap (λ b. cell_at (board_cells b) c.args.seat) c.self.view_is ∙ c.requires.lent) c.in-Ok.ensures.same c.requires.meets (λ set is. c.in-Ok.ensures.stands set (c.self.invariant.1 set is)) (seen c.act.new.self) c.act.result c.act.ensures.stands
     (IsNumbered g.F.Fibers.task_of g.F.Fibers.course_of g.F.Fibers.count_of g.F.Fibers.refused g.F.Fibers.holds) c.act.ensures.effect)
 
-pub returns-clause-acted : goal.returns-clause-acted
-returns-clause-acted g c =
+pub returns-in-Ok-clause-acted : goal.returns-in-Ok-clause-acted
+returns-in-Ok-clause-acted g c =
     acted_now (seen c.self.inside.board) (seen c.reserve.new.self) c.args.seat (g.F.Fibers.task_of c.args.fiber.now) (g.F.Fibers.course_of c.args.fiber.now) c.args.wants g.F.Fibers.task_of g.F.Fibers.course_of g.F.Fibers.holds g.K.Run.of c.requires.some
-    (ap (λ b. cell_at (board_cells b) c.args.seat) c.self.view_is ∙ c.requires.lent) c.in_ok-reserve.ensures.same c.requires.meets (λ set is. c.in_ok-reserve.ensures.stands set (c.self.invariant.1 set is)) (seen c.act.new.self) c.act.result c.act.ensures.stands
+    (ap (λ b. cell_at (board_cells b) c.args.seat) c.self.view_is ∙ c.requires.lent) c.in-Ok.ensures.same c.requires.meets (λ set is. c.in-Ok.ensures.stands set (c.self.invariant.1 set is)) (seen c.act.new.self) c.act.result c.act.ensures.stands
     (IsNumbered g.F.Fibers.task_of g.F.Fibers.course_of g.F.Fibers.count_of g.F.Fibers.refused g.F.Fibers.holds) c.act.ensures.effect
 
-pub returns-in_err-reserve-clause-others : goal.returns-in_err-reserve-clause-others
-returns-in_err-reserve-clause-others g c =
+pub returns-in-Err-clause-others : goal.returns-in-Err-clause-others
+returns-in-Err-clause-others g c =
     subst (λ b. KeepsOthers c.args.seat (board_cells b) (board_cells c.reserve.new.self)) c.self.view_is
-    (all_keep c.args.seat _ _ (cells_same (seen c.self.inside.board) (seen c.reserve.new.self) c.args.seat c.in_err-reserve.ensures.same.run.journal c.in_err-reserve.ensures.same.spots.cells))
+    (all_keep c.args.seat _ _ (cells_same (seen c.self.inside.board) (seen c.reserve.new.self) c.args.seat c.in-Err.ensures.same.run.journal c.in-Err.ensures.same.spots.cells))
