@@ -8,3 +8,4 @@ pub mod Loops
 pub mod Same
 pub mod Ends
 pub mod Accepted
+pub mod Begins
