@@ -29,7 +29,9 @@ pub fn calls_in(program: &Program, code: &[(u32, Instr)]) -> Result<u32, NoMemor
     for at in 0..code.len() {
         let entry = entry_at(code, at);
         let callee = pausable_callee(program, &entry.1);
-        let more = one_more(callee, count)?;
+        let Ok(more) = one_more(callee, count) else {
+            return Err(NoMemory);
+        };
         count = more;
     }
     Ok(count)

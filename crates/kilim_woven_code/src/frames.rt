@@ -135,8 +135,12 @@ fn moved_types(alloc: Global, places: &Places, types: &[VType]) -> Result<Vec<VT
     let mut moved = Vec::new(alloc);
     for at in 0..types.len() {
         let ty = type_at(types, at);
-        let new = moved_type(places, ty)?;
-        moved.push(new)?;
+        let Ok(new) = moved_type(places, ty) else {
+            return Err(NoMemory);
+        };
+        let Ok(()) = moved.push(new) else {
+            return Err(NoMemory);
+        };
     }
     Ok(moved)
 }
@@ -152,8 +156,12 @@ fn kept_locals(
 {
     let mut locals = Vec::new(alloc);
     for slot in 0..plan.fiber {
-        let ty = kept_local(plan, frame, place, slot)?;
-        locals.push(ty)?;
+        let Ok(ty) = kept_local(plan, frame, place, slot) else {
+            return Err(NoMemory);
+        };
+        let Ok(()) = locals.push(ty) else {
+            return Err(NoMemory);
+        };
     }
     Ok(locals)
 }
@@ -163,10 +171,16 @@ pub fn old_frame(alloc: Global, plan: &Plan, frame: &Frame, place: u32) -> Resul
     requires { Shown (meant plan.now) place frame.now }
     ensures { IfOk result (λ f. f ≡ form.old_frame (meant plan.now) place) }
 {
-    let mut locals = kept_locals(alloc, plan, frame, place)?;
-    push_added(plan, &mut locals)?;
+    let Ok(mut locals) = kept_locals(alloc, plan, frame, place) else {
+        return Err(NoMemory);
+    };
+    let Ok(()) = push_added(plan, &mut locals) else {
+        return Err(NoMemory);
+    };
     let types = frame.stack.as_slice();
-    let moved = moved_types(alloc, plan.places, types)?;
+    let Ok(moved) = moved_types(alloc, plan.places, types) else {
+        return Err(NoMemory);
+    };
     let kept = Seq::from_vec(locals);
     let stack = Seq::from_vec(moved);
     Ok(Frame {
@@ -180,7 +194,9 @@ fn tops(alloc: Global, count: u16) -> Result<Vec<VType>, NoMemory>
 {
     let mut locals = Vec::new(alloc);
     for _ in 0..count {
-        locals.push(VType::Top)?;
+        let Ok(()) = locals.push(VType::Top) else {
+            return Err(NoMemory);
+        };
     }
     Ok(locals)
 }

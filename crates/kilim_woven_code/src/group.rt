@@ -73,9 +73,13 @@ pub fn saved(
     let locals = frame.locals.as_slice();
     let mut saved = Vec::new(alloc);
     for at in 0..locals.len() {
-        let slot = local_of(at)?;
+        let Ok(slot) = local_of(at) else {
+            return Err(NoMemory);
+        };
         let ty = type_at(locals, at);
-        push_saved(plan, next, slot, ty, &mut saved)?;
+        let Ok(()) = push_saved(plan, next, slot, ty, &mut saved) else {
+            return Err(NoMemory);
+        };
     }
     Ok(saved)
 }
@@ -85,7 +89,9 @@ pub fn below<'a>(frame: &'a Frame, callee: &Method) -> Result<&'a [VType], NoMem
     ensures { IfOk result (λ v. reverse v.now ≡ drop (form.taken callee.now) (reverse frame.now.stack)) }
 {
     let stack = frame.stack.as_slice();
-    let count = taken(callee)?;
+    let Ok(count) = taken(callee) else {
+        return Err(NoMemory);
+    };
     let left = stack.len().saturating_sub(count);
     let parts = stack.split_at(left);
     Ok(parts.0)

@@ -52,8 +52,12 @@ fn moved_pairs(
     let mut all = Seq::new(alloc);
     for at in 0..pairs.len() {
         let pair = pair_at(pairs, at);
-        let moved = moved_pair(places, pair)?;
-        all.push(moved)?;
+        let Ok(moved) = moved_pair(places, pair) else {
+            return Err(NoMemory);
+        };
+        let Ok(()) = all.push(moved) else {
+            return Err(NoMemory);
+        };
     }
     Ok(all)
 }
@@ -84,8 +88,12 @@ fn moved_lookup(
 ) -> Result<Instr, NoMemory>
     ensures { IfOk result (λ i. i ≡ Instr.Lookupswitch (at_in places.now default) (form.moved_pairs (at_in places.now) pairs.now)) }
 {
-    let to = places.at(default)?;
-    let all = moved_pairs(alloc, places, pairs)?;
+    let Ok(to) = places.at(default) else {
+        return Err(NoMemory);
+    };
+    let Ok(all) = moved_pairs(alloc, places, pairs) else {
+        return Err(NoMemory);
+    };
     Ok(Instr::Lookupswitch(to, all))
 }
 
@@ -147,7 +155,9 @@ pub fn jump_to(instr: &Instr, to: u32) -> Result<Instr, NoMemory>
 fn moved_jump(places: &Places, instr: &Instr) -> Result<Instr, NoMemory>
     ensures { IfOk result (λ i. i ≡ form.moved_instr (at_in places.now) instr.now) }
 {
-    let to = places.at(target_of(instr))?;
+    let Ok(to) = places.at(target_of(instr)) else {
+        return Err(NoMemory);
+    };
     jump_to(instr, to)
 }
 

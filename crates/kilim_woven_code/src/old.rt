@@ -135,13 +135,17 @@ pub fn pieces(alloc: Global, plan: &Plan, number: u32, items: &mut Items) -> Res
         let entry = entry_of(plan.method, left);
         let next = place_behind(plan.method, left);
         let callee = pausable_callee(plan.program, &entry.1);
-        let frame = frame_at(plan, left)?;
+        let Ok(frame) = frame_at(plan, left) else {
+            return Err(NoMemory);
+        };
         let mine = number_before(callee, number);
         number = mine;
         let first = is_first(plan, left);
-        piece(
+        let Ok(()) = piece(
             alloc, plan, callee, first, mine, entry.0, next, &entry.1, frame, items,
-        )?;
+        ) else {
+            return Err(NoMemory);
+        };
     }
     Ok(())
 }

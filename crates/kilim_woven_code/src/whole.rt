@@ -23,7 +23,9 @@ fn resume_places(alloc: Global, plan: &Plan, calls: u32) -> Result<Seq<u32>, NoM
     let mut places = Seq::new(alloc);
     for before in 0..calls {
         let place = plan.places.block(before + 1);
-        places.push(place)?;
+        let Ok(()) = places.push(place) else {
+            return Err(NoMemory);
+        };
     }
     Ok(places)
 }

@@ -3,4 +3,4 @@ use Rattle.kilim_woven_code.proofs.count.calls_in.Goals as goal
 
 pub loop-at-preserved : goal.loop-at-preserved
 loop-at-preserved c =
-    calls_more c.args.program.now c.args.code.now c.loop-at.at c.loop-at.count c.in_ok-more.more c.entry_at-entry.result.now _ c.entry_at-entry.ensures c.pausable_callee-callee.ensures c.in_ok-more.ensures c.loop-at.invariant
+    calls_more c.args.program.now c.args.code.now c.loop-at.at c.loop-at.count c.in-Ok.more c.entry_at-entry.result.now _ c.entry_at-entry.ensures c.pausable_callee-callee.ensures c.in-Ok.ensures c.loop-at.invariant

@@ -8,8 +8,8 @@ use Rattle.kilim_woven_code.proofs.frames.kept_locals.Goals as goal
 pub loop-slot-preserved : goal.loop-slot-preserved
 loop-slot-preserved c =
     let f : ℕ → VType = kept_local (meant c.args.plan.now) c.args.place in
-    ap (λ (xs : List VType). xs ++ slots_from (c.loop-slot.slot + 1) (c.args.plan.now.fiber - (c.loop-slot.slot + 1)) f) c.in_ok-push.ensures.items
-    ∙ slots_more f c.loop-slot.slot c.args.plan.now.fiber c.in_ok-ty.ty c.loop-slot.locals.items (slots_from 0 c.args.plan.now.fiber f) (omega arith) c.in_ok-ty.ensures c.loop-slot.invariant
+    ap (λ (xs : List VType). xs ++ slots_from (c.loop-slot.slot + 1) (c.args.plan.now.fiber - (c.loop-slot.slot + 1)) f) c.in-Ok-push.ensures.items
+    ∙ slots_more f c.loop-slot.slot c.args.plan.now.fiber c.in-Ok.ty c.loop-slot.locals.items (slots_from 0 c.args.plan.now.fiber f) (omega arith) c.in-Ok.ensures c.loop-slot.invariant
 
 pub returns : goal.returns
 returns c =

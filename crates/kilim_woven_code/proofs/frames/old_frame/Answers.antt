@@ -9,6 +9,6 @@ pub returns : goal.returns
 returns c =
     let x = meant c.args.plan.now in
     frame_is x c.args.place c.args.frame.now (record { locals = c.from_vec-kept.result; stack = c.from_vec-stack.result })
-    (c.from_vec-kept.ensures ∙ (c.in_ok-push_added.ensures ∙ ap (λ (ts : List VType). ts ++ added_types x) c.in_ok-locals.ensures))
-    (c.from_vec-stack.ensures ∙ (c.in_ok-moved.ensures ∙ ap (map (moved_type x.at)) c.as_slice-types.ensures))
+    (c.from_vec-kept.ensures ∙ (c.in-Ok-push_added.ensures ∙ ap (λ (ts : List VType). ts ++ added_types x) c.in-Ok.ensures))
+    (c.from_vec-stack.ensures ∙ (c.in-Ok-moved_types.ensures ∙ ap (map (moved_type x.at)) c.as_slice-types.ensures))
     c.requires

@@ -8,7 +8,7 @@ use Rattle.kilim_woven_code.proofs.frames.tops.Goals as goal
 pub loop-preserved : goal.loop-preserved
 loop-preserved c =
     let f : ℕ → VType = λ slot. Top in
-    ap (λ (xs : List VType). xs ++ slots_from (c.loop.counter + 1) (c.args.count - (c.loop.counter + 1)) f) c.in_ok-push.ensures.items
+    ap (λ (xs : List VType). xs ++ slots_from (c.loop.counter + 1) (c.args.count - (c.loop.counter + 1)) f) c.in-Ok.ensures.items
     ∙ slots_more f c.loop.counter c.args.count Top c.loop.locals.items (slots_from 0 c.args.count f) (omega arith) refl c.loop.invariant
 
 pub returns : goal.returns

@@ -8,5 +8,5 @@ returns c =
     let stack = c.args.frame.now.stack in
     let front = c.split_at-parts.ensures.front
     ∙ (ap (λ (ts : List VType). take c.saturating_sub-left.result ts) c.as_slice-stack.ensures
-    ∙ ap (λ (n : ℕ). take n stack) (c.saturating_sub-left.ensures ∙ (ap (λ (ts : List VType). length ts - c.in_ok-count.count) c.as_slice-stack.ensures ∙ ap (λ (n : ℕ). length stack - n) c.in_ok-count.ensures))) in
+    ∙ ap (λ (n : ℕ). take n stack) (c.saturating_sub-left.ensures ∙ (ap (λ (ts : List VType). length ts - c.in-Ok.count) c.as_slice-stack.ensures ∙ ap (λ (n : ℕ). length stack - n) c.in-Ok.ensures))) in
     ap reverse front ∙ reverse_drop stack _

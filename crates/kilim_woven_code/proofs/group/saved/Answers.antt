@@ -8,7 +8,7 @@ use Rattle.kilim_woven_code.proofs.group.saved.Goals as goal
 pub loop-at-preserved : goal.loop-at-preserved
 loop-at-preserved c =
     let live : ℕ → Bool = live_in c.args.plan.now.live.now c.args.next in
-    saved_more live c.loop-at.at c.in_ok-slot.slot c.type_at-ty.result c.as_slice-locals.result.now c.loop-at.saved.items c.push_saved.new.saved.items (saved_from live 0 c.as_slice-locals.result.now) c.in_ok-slot.ensures c.type_at-ty.ensures c.in_ok-push_saved.ensures c.loop-at.invariant
+    saved_more live c.loop-at.at c.in-Ok.slot c.type_at-ty.result c.as_slice-locals.result.now c.loop-at.saved.items c.push_saved.new.saved.items (saved_from live 0 c.as_slice-locals.result.now) c.in-Ok.ensures c.type_at-ty.ensures c.in-Ok-push_saved.ensures c.loop-at.invariant
 
 pub returns : goal.returns
 returns c =

@@ -6,5 +6,5 @@ use Rattle.kilim_woven_code.proofs.moved.moved_jump.Goals as goal
 pub returns : goal.returns
 returns c =
     let at = at_in c.args.places.now in
-    let goes = sym (c.in_ok-to.ensures ∙ ap at c.target_of.ensures) in
-    moved_by c.jump_to.result at c.in_ok-to.to c.args.instr.now goes c.jump_to.ensures
+    let goes = sym (c.in-Ok.ensures ∙ ap at c.target_of.ensures) in
+    moved_by c.jump_to.result at c.in-Ok.to c.args.instr.now goes c.jump_to.ensures

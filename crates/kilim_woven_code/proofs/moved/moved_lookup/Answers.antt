@@ -7,5 +7,5 @@ use Rattle.kilim_woven_code.proofs.moved.moved_lookup.Goals as goal
 pub returns : goal.returns
 returns c =
     let at = at_in c.args.places.now in
-    let e = c.in_ok-all.ensures ∙ pairs_are at c.args.pairs.now in
-    ap (λ (n : ℕ). Lookupswitch n c.in_ok-all.all) c.in_ok-to.ensures ∙ ap (λ (ps : List (ℤ × ℕ)). Lookupswitch (at c.args.default) ps) e
+    let e = c.in-Ok-moved_pairs.ensures ∙ pairs_are at c.args.pairs.now in
+    ap (λ (n : ℕ). Lookupswitch n c.in-Ok-moved_pairs.all) c.in-Ok.ensures ∙ ap (λ (ps : List (ℤ × ℕ)). Lookupswitch (at c.args.default) ps) e

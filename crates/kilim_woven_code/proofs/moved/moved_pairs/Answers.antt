@@ -8,9 +8,9 @@ pub loop-at-preserved : goal.loop-at-preserved
 loop-at-preserved c =
     let f : ℤ × ℕ → ℤ × ℕ = λ (pair : ℤ × ℕ). (pair.0, at_in c.args.places.now pair.1) in
     let done = map f (take c.loop-at.at c.args.pairs.now) in
-    c.in_ok-push.ensures.ok
-    ∙ (ap (λ (ps : List (ℤ × ℕ)). ps ++ c.in_ok-moved.moved ∷ []) c.loop-at.invariant
-    ∙ (ap (λ (p : ℤ × ℕ). done ++ p ∷ []) c.in_ok-moved.ensures ∙ map_next f c.args.pairs.now c.loop-at.at c.pair_at-pair.result c.pair_at-pair.ensures))
+    c.in-Ok-push.ensures.ok
+    ∙ (ap (λ (ps : List (ℤ × ℕ)). ps ++ c.in-Ok.moved ∷ []) c.loop-at.invariant
+    ∙ (ap (λ (p : ℤ × ℕ). done ++ p ∷ []) c.in-Ok.ensures ∙ map_next f c.args.pairs.now c.loop-at.at c.pair_at-pair.result c.pair_at-pair.ensures))
 
 pub returns : goal.returns
 returns c =

@@ -6,7 +6,7 @@ use Rattle.kilim_woven_code.proofs.whole.resume_places.Goals as goal
 pub loop-before-preserved : goal.loop-before-preserved
 loop-before-preserved c =
     let x = meant c.args.plan.now in
-    ap (λ (xs : List ℕ). xs ++ from_block x (c.loop-before.before + 1 + 1) (c.args.calls - (c.loop-before.before + 1))) c.in_ok-push.ensures.ok
+    ap (λ (xs : List ℕ). xs ++ from_block x (c.loop-before.before + 1 + 1) (c.args.calls - (c.loop-before.before + 1))) c.in-Ok.ensures.ok
     ∙ block_pushed x c.loop-before.before c.args.calls c.block-place.result c.loop-before.places (from_block x 1 c.args.calls) (omega arith) c.block-place.ensures c.loop-before.invariant
 
 pub returns : goal.returns
