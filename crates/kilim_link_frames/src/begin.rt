@@ -69,6 +69,23 @@ fn push_arguments(
     Ok(())
 }
 
+// Appends `this` and the arguments by entries.
+fn push_entry_locals(
+    alloc: Global,
+    into: &mut Seq<Option<VType>>,
+    world: &World,
+    class: ClassId,
+    method: &DeclaredMethod,
+) -> Result<(), NoMemory>
+    ensures { OnOk result (into.new ≡ into.old ++ entry_locals world.now class method.now) }
+{
+    push_receiver(into, class, method)?;
+    match method_text(alloc, &method.descriptor)? {
+        Some(text) => push_arguments(into, world, text.params.as_slice()),
+        None => Ok(()),
+    }
+}
+
 /// `this` and the arguments by entries, of which a long is one (JVMS 4.10.1.6); no arguments where the descriptor is
 /// malformed.
 pub fn entry_locals(
@@ -80,10 +97,6 @@ pub fn entry_locals(
     ensures { IfOk result (λ locals. locals ≡ entry_locals world.now class method.now) }
 {
     let mut locals = Seq::new(alloc);
-    push_receiver(&mut locals, class, method)?;
-    match method_text(alloc, &method.descriptor)? {
-        Some(text) => push_arguments(&mut locals, world, text.params.as_slice())?,
-        None => {}
-    }
+    push_entry_locals(alloc, &mut locals, world, class, method)?;
     Ok(locals)
 }

@@ -3,7 +3,7 @@
 ghost use Rattle.std.specs.Prelude.{◌≡◌, ◌++◌, ◌∷◌, [], ◌-◌, map, take, length, IfOk};
 ghost use Rattle.kilim_link_spec.specs.Frames.{slot_in, delta_of, entries_of};
 
-use crate::slots::{push_slots, slot_in};
+use crate::slots::push_slots;
 use kilim_attribute_parts::{Frame, VerificationType};
 use kilim_classes::VType;
 use kilim_constant_pool::Pool;
@@ -42,6 +42,20 @@ fn same(alloc: Global, locals: &[Option<VType>]) -> Result<Entries, NoMemory>
     })
 }
 
+// The types of slots, each where it is there.
+fn slots_in(
+    alloc: Global,
+    world: &World,
+    pool: &Pool,
+    slots: &[VerificationType],
+) -> Result<Seq<Option<VType>>, NoMemory>
+    ensures { IfOk result (λ found. found ≡ map (slot_in world.now pool.now) slots.now) }
+{
+    let mut found = Seq::new(alloc);
+    push_slots(alloc, &mut found, world, pool, slots)?;
+    Ok(found)
+}
+
 // The same locals and one item on the stack.
 fn with_item(
     alloc: Global,
@@ -52,8 +66,7 @@ fn with_item(
 ) -> Result<Entries, NoMemory>
     ensures { IfOk result (λ e. e ≡ record { locals = locals.now; stack = slot_in world.now pool.now item ∷ [] }) }
 {
-    let mut stack = Seq::new(alloc);
-    stack.push(slot_in(alloc, world, pool, item)?)?;
+    let stack = slots_in(alloc, world, pool, &[item])?;
     Ok(Entries {
         locals: copied(alloc, locals)?,
         stack,
@@ -99,10 +112,8 @@ fn full(
 ) -> Result<Entries, NoMemory>
     ensures { IfOk result (λ e. e ≡ record { locals = map (slot_in world.now pool.now) all.now; stack = map (slot_in world.now pool.now) items.now }) }
 {
-    let mut locals = Seq::new(alloc);
-    push_slots(alloc, &mut locals, world, pool, all)?;
-    let mut stack = Seq::new(alloc);
-    push_slots(alloc, &mut stack, world, pool, items)?;
+    let locals = slots_in(alloc, world, pool, all)?;
+    let stack = slots_in(alloc, world, pool, items)?;
     Ok(Entries { locals, stack })
 }
 

@@ -5,7 +5,7 @@ ghost use Rattle.std.specs.List.{flat_map};
 ghost use Rattle.kilim_link_spec.specs.Types.{each_of, itself};
 ghost use Rattle.kilim_link_spec.specs.Code.{applied};
 ghost use Rattle.kilim_link_spec.specs.Frames.{table_in, tables_in, frame_of, frame_with, place_after, placed_frame, frames_from, frames_in};
-ghost use Rattle.kilim_link_frames.specs.Next.{IsNext};
+ghost use Rattle.kilim_link_frames.specs.Next.{IsLast, IsNext};
 
 use crate::begin::entry_locals;
 use crate::entries::{delta_of, entries_of};
@@ -145,6 +145,24 @@ fn placed_frame(
     }
 }
 
+// Appends a frame with its place, and answers whether all its types are there.
+fn push_placed(
+    alloc: Global,
+    frames: &mut Seq<(u32, Frame)>,
+    place: u32,
+    entries: &Entries,
+) -> Result<bool, NoMemory>
+    ensures { IfOk result (IsLast (placed_frame place entries.now) frames.old frames.new) }
+{
+    match placed_frame(alloc, place, entries)? {
+        Some(frame) => {
+            frames.push(frame)?;
+            Ok(true)
+        }
+        None => Ok(false),
+    }
+}
+
 // Appends the next frame, and answers its place and its locals; none where a type in it isn't there.
 fn push_next(
     alloc: Global,
@@ -159,12 +177,16 @@ fn push_next(
 {
     let place = place_after(before, delta_of(form))?;
     let entries = entries_of(alloc, world, pool, locals, form)?;
-    match placed_frame(alloc, place, &entries)? {
-        Some(frame) => {
-            frames.push(frame)?;
-            Ok(Some((place, entries.locals)))
+    match push_placed(alloc, frames, place, &entries) {
+        Ok(true) => Ok(Some((place, entries.locals))),
+        Ok(false) => {
+            drop(entries);
+            Ok(None)
         }
-        None => Ok(None),
+        Err(fault) => {
+            drop(entries);
+            Err(fault)
+        }
     }
 }
 

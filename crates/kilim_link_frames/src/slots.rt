@@ -27,7 +27,9 @@ fn object_in(
     ensures { IfOk result (λ slot. slot ≡ option_map Object (type_named world.now (named_by (class_text pool.now class)))) }
 {
     let named = named_by(alloc, class_text(pool, class))?;
-    match type_named(world, &named) {
+    let ty = type_named(world, &named);
+    drop(named);
+    match ty {
         Some(ty) => Ok(Some(VType::Object(ty))),
         None => Ok(None),
     }
