@@ -1,3 +1,4 @@
 pub mod FileLemmas
 pub mod Refused
 pub mod Started
+pub mod Sinks
