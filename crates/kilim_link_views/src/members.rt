@@ -74,13 +74,26 @@ pub fn declared_method(
     })
 }
 
+// Appends a method of a file as it is declared.
+fn push_declared_method(
+    alloc: Global,
+    methods: &mut Seq<DeclaredMethod>,
+    file: &ClassFile,
+    method: &MemberInfo,
+) -> Result<(), NoMemory>
+    ensures { OnOk result (methods.new ≡ methods.old ++ declared_method file.now method.now ∷ []) }
+{
+    methods.push(declared_method(alloc, file, method)?)?;
+    Ok(())
+}
+
 /// The methods of a file as they are declared, in their order.
 pub fn declared_methods(alloc: Global, file: &ClassFile) -> Result<Seq<DeclaredMethod>, NoMemory>
     ensures { IfOk result (λ methods. methods ≡ map (declared_method file.now) file.now.methods) }
 {
     let mut methods = Seq::new(alloc);
     for method in file.methods.as_slice() {
-        methods.push(declared_method(alloc, file, method)?)?;
+        push_declared_method(alloc, &mut methods, file, method)?;
     }
     Ok(methods)
 }
