@@ -1,5 +1,6 @@
 -- Slots, their types, and what is passed.
 use Rattle.std.proofs.Common.{◌≡◌, ℕ, zero, suc, ◌+◌, ◌-◌, ◌<◌, ◌≤◌, Bool, true, false, min, List, [], ◌∷◌, ◌++◌, length, get_or, set, drop, Option, Some, None, refl, sym, ap, ◌∙◌, ◌⊎◌, inl, inr, arith, append_assoc}
+use Rattle.std.specs.Prelude.{◌||◌}
 use Rattle.std.proofs.lemmas.List.{append-nil, drop-drop}
 use Rattle.kilim_classes.specs.declared.ty.Qualifier.{Qualifier}
 use Rattle.kilim_classes.specs.declared.ty.Ty.{Ty}
@@ -9,7 +10,7 @@ use Rattle.kilim_shape_graph.specs.Graphs.{with_slot}
 use Rattle.kilim_shape_graph.proofs.Lists.{drop_at, drop_end}
 use Rattle.kilim_isolation_rules.specs.declared.deed.Passed.{Passed}
 use Rattle.kilim_isolation_rules.specs.Calls.{parameters}
-use Rattle.kilim_isolation_rules.specs.Marks.{any_mixes}
+use Rattle.kilim_isolation_rules.specs.Marks.{any_mixes, mixes}
 
 pub slot_more : (xs : List (Option ℕ)) (k : ℕ) (x : Option ℕ) → length xs ≤ k → with_slot (xs ++ None ∷ []) k x ≡ with_slot xs k x
 slot_more [] zero x le = refl
@@ -28,6 +29,15 @@ none_mixes p (t ∷ ts) = refl
 
 pub mixes_end : (p : Program) (ts into : List VType) (k : ℕ) (total : Bool) → length into ≤ k → any_mixes p (drop k ts) (drop k into) ≡ total → false ≡ total
 mixes_end p ts into k total le so_far = sym (none_mixes p (drop k ts)) ∙ (ap (λ ds. any_mixes p (drop k ts) ds) (sym (drop_end into k le)) ∙ so_far)
+
+pub mixes_past : (p : Program) (ts into : List VType) (k : ℕ) (total : Bool) → length ts ≤ k → any_mixes p (drop k ts) (drop k into) ≡ total → false ≡ total
+mixes_past p ts into k total le so_far = sym (ap (λ xs. any_mixes p xs (drop k into)) (drop_end ts k le)) ∙ so_far
+
+pub mixes_at : (p : Program) (ts into : List VType) (k : ℕ) (t d : VType) (b total : Bool) → k < length ts → k < length into → b ≡ mixes p (get_or ts k t) (get_or into k d) → any_mixes p (drop k ts) (drop k into) ≡ total →
+    (b || any_mixes p (drop (k + 1) ts) (drop (k + 1) into)) ≡ total
+mixes_at p ts into k t d b total lt within is so_far =
+    ap (λ z. z || any_mixes p (drop (k + 1) ts) (drop (k + 1) into)) is
+    ∙ (sym (ap (λ xs. any_mixes p xs (drop k into)) (drop_at ts k t lt) ∙ ap (λ ys. any_mixes p (get_or ts k t ∷ drop (k + 1) ts) ys) (drop_at into k d within)) ∙ so_far)
 
 pub passed_more : (tys : List Ty) (qs : List Qualifier) (xs : List (Option ℕ)) (ts : List VType) (old new total : List Passed) (i : ℕ) (d : Ty) (e : Qualifier) (f : Option ℕ) (g : VType) →
     i < min (min (min (length tys) (length qs)) (length xs)) (length ts) →
