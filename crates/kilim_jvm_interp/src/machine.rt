@@ -74,8 +74,12 @@ pub fn new_frame(
     ensures roomy { IfOk result (λ frame. IsRoomy program.now frame) }
 {
     let (slots, room) = slots_of_method(program, id);
-    let locals = Locals::of_arguments(alloc, args, slots)?;
-    let stack = Stack::with_room(alloc, room)?;
+    let Ok(locals) = Locals::of_arguments(alloc, args, slots) else {
+        return Err(NoMemory);
+    };
+    let Ok(stack) = Stack::with_room(alloc, room) else {
+        return Err(NoMemory);
+    };
     Ok(Frame {
         method: id,
         pc: 0,
@@ -103,7 +107,9 @@ fn called_frame(
     ensures frame { IfOk result (λ frame. activation frame ≡ entered program.now id (reverse (take count frames.now.top.stack.values))) }
     ensures roomy { IfOk result (λ frame. IsRoomy program.now frame) }
 {
-    let args = frames.top.stack.last(alloc, count)?;
+    let Ok(args) = frames.top.stack.last(alloc, count) else {
+        return Err(NoMemory);
+    };
     new_frame(alloc, program, id, args)
 }
 
@@ -150,7 +156,9 @@ fn put_on(
     frames.top.stack.drop_top(count);
     frames.top.pc = next;
     let caller = replace(&mut frames.top, frame);
-    frames.below.push(caller)?;
+    let Ok(()) = frames.below.push(caller) else {
+        return Err(NoMemory);
+    };
     Ok(())
 }
 

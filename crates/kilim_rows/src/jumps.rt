@@ -132,7 +132,8 @@ pub fn jump_by_table(
     ensures same { SameFrame frame.old frame.new }
 {
     let a = frame.stack.pop_int();
-    Moved::Jump(target_in(targets.as_slice(), i64::from(a) - i64::from(*low), default))
+    let index = i64::from(a) - i64::from(*low);
+    Moved::Jump(target_in(targets.as_slice(), &index, default))
 }
 
 /// `lookupswitch`.
@@ -153,7 +154,7 @@ pub fn jump_by_match(
     ensures same { SameFrame frame.old frame.new }
 {
     let a = frame.stack.pop_int();
-    Moved::Jump(match_in(matches.as_slice(), a, default))
+    Moved::Jump(match_in(matches.as_slice(), &a, default))
 }
 
 // Two strings by content, two mailboxes by name, two objects by identity.
@@ -197,13 +198,13 @@ pub fn is_none(value: &Value) -> bool
 }
 
 #[inline(always)]
-fn target_in(targets: &[u32], index: i64, default: u32) -> u32
-    ensures { result ≡ table_target targets.now index default }
+fn target_in(targets: &[u32], index: &i64, default: u32) -> u32
+    ensures { result ≡ table_target targets.now index.now default }
 {
-    if index < 0 {
+    if *index < 0 {
         return default;
     }
-    let index = index as usize;
+    let index = *index as usize;
     if index < targets.len() {
         targets[index]
     } else {
@@ -211,11 +212,11 @@ fn target_in(targets: &[u32], index: i64, default: u32) -> u32
     }
 }
 
-fn match_in(matches: &[(i32, u32)], key: i32, default: u32) -> u32
-    ensures { result ≡ match_target matches.now key default }
+fn match_in(matches: &[(i32, u32)], key: &i32, default: u32) -> u32
+    ensures { result ≡ match_target matches.now key.now default }
 {
     for entry in matches {
-        if entry.0 == key {
+        if entry.0 == *key {
             return entry.1;
         }
     }

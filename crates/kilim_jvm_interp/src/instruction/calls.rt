@@ -199,7 +199,7 @@ fn text_char(named: &Method, own: &Method, next: u32, frame: &mut Frame, heap: &
             let Value::Int(index) = other else {
                 unreachable!()
             };
-            match unit_at(units.as_slice(), index) {
+            match unit_at(units.as_slice(), &index) {
                 Some(unit) => {
                     frame.stack.push(Value::Int(i32::from(unit)));
                     Moved::Next
@@ -213,13 +213,13 @@ fn text_char(named: &Method, own: &Method, next: u32, frame: &mut Frame, heap: &
 }
 
 #[inline(always)]
-fn unit_at(units: &[u16], index: i32) -> Option<u16>
-    ensures { result ≡ unit_in units.now index }
+fn unit_at(units: &[u16], index: &i32) -> Option<u16>
+    ensures { result ≡ unit_in units.now index.now }
 {
-    if index < 0 {
+    if *index < 0 {
         return None;
     }
-    units.get(index as usize).copied()
+    units.get(*index as usize).copied()
 }
 
 fn call_text(named: &Method, own: &Method, next: u32, frame: &mut Frame, heap: &Heap) -> Moved

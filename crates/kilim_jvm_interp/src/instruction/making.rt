@@ -85,7 +85,9 @@ fn push_field(
 {
     match instance_type(program, id) {
         Some(ty) => {
-            fields.push((id, first_value(ty)))?;
+            let Ok(()) = fields.push((id, first_value(ty))) else {
+                return Err(NoMemory);
+            };
             Ok(())
         }
         None => Ok(()),
@@ -101,7 +103,9 @@ fn push_fields(
     ensures { OnOk result (fields.new.items ≡ fields.old.items ++ first_fields program.now declared.now) }
 {
     for id in declared {
-        push_field(fields, program, *id)?;
+        let Ok(()) = push_field(fields, program, *id) else {
+            return Err(NoMemory);
+        };
     }
     Ok(())
 }
@@ -126,7 +130,9 @@ fn fields_of_each(
 {
     let mut fields = Vec::new(alloc);
     for at in line {
-        push_fields(&mut fields, program, fields_of(program, *at))?;
+        let Ok(()) = push_fields(&mut fields, program, fields_of(program, *at)) else {
+            return Err(NoMemory);
+        };
     }
     Ok(fields)
 }
@@ -135,9 +141,13 @@ fn fields_of_each(
 pub fn new_object(alloc: Global, program: &Program, class: ClassId) -> Result<Object, NoMemory>
     ensures { IfOk result (λ object. object ≡ new_object program.now class) }
 {
-    let mut line = line_of(alloc, program, class)?;
+    let Ok(mut line) = line_of(alloc, program, class) else {
+        return Err(NoMemory);
+    };
     line.reverse();
-    let fields = fields_of_each(alloc, program, &line)?;
+    let Ok(fields) = fields_of_each(alloc, program, &line) else {
+        return Err(NoMemory);
+    };
     Ok(Object {
         class: Ty {
             dims: 0,
@@ -152,8 +162,12 @@ pub fn new_object(alloc: Global, program: &Program, class: ClassId) -> Result<Ob
 pub fn new_array(alloc: Global, ty: Ty, element: &Value, length: usize) -> Result<Object, NoMemory>
     ensures { IfOk result (λ object. object ≡ new_array ty element.now length) }
 {
-    let first = element.clone()?;
-    let elements = vec![in alloc; first; length]?;
+    let Ok(first) = element.clone() else {
+        return Err(NoMemory);
+    };
+    let Ok(elements) = vec![in alloc; first; length] else {
+        return Err(NoMemory);
+    };
     Ok(Object {
         class: ty,
         fields: Seq::new(alloc),

@@ -13,7 +13,7 @@ loop-at-preserved c =
     let done = c.loop-at.fields.items in
     let own = fields_of p (get_or line c.loop-at.at-index (record { 0 = 0 })) in
     let rest = flat_map (fields_of p) (drop (c.loop-at.at-index + 1) line) in
-    ap (λ fs. fs ++ first_fields p rest) (c.in_ok-push_fields.ensures ∙ ap (λ fs. done ++ first_fields p fs) c.fields_of.ensures)
+    ap (λ fs. fs ++ first_fields p rest) (c.in-Ok.ensures ∙ ap (λ fs. done ++ first_fields p fs) c.fields_of.ensures)
     ∙ (class_taken p done own rest
     ∙ (ap (λ cs. done ++ first_fields p (flat_map (fields_of p) cs)) (sym (drop_more line c.loop-at.at-index (record { 0 = 0 }) c.loop-at-test.true)) ∙ c.loop-at.invariant))
 

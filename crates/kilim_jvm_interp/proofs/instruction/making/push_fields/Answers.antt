@@ -11,7 +11,7 @@ loop-id-preserved c =
     let done = c.loop-id.fields.items in
     let own = get_or ids c.loop-id.id-index (record { 0 = 0 }) in
     let rest = drop (c.loop-id.id-index + 1) ids in
-    ap (λ fs. fs ++ first_fields p rest) c.in_ok-push_field.ensures
+    ap (λ fs. fs ++ first_fields p rest) c.in-Ok.ensures
     ∙ (class_taken p done (own ∷ []) rest ∙ (ap (λ fs. done ++ first_fields p fs) (sym (drop_more ids c.loop-id.id-index (record { 0 = 0 }) c.loop-id-test.true)) ∙ c.loop-id.invariant))
 
 pub returns : goal.returns
