@@ -58,15 +58,22 @@ impl Code {
     ) -> Result<Code, NoMemory>
         ensures { IfOk result (λ code. (code.plain ≡ plain) × (code.program ≡ program) × (code.counted ≡ counted)) }
     {
-        let (places, natives, executes) = tables_of(alloc, &program)?;
-        Ok(Code {
-            plain,
-            program,
-            counted,
-            places,
-            natives,
-            executes,
-        })
+        match tables_of(alloc, &program) {
+            Ok((places, natives, executes)) => Ok(Code {
+                plain,
+                program,
+                counted,
+                places,
+                natives,
+                executes,
+            }),
+            Err(fault) => {
+                drop(plain);
+                drop(program);
+                drop(counted);
+                Err(fault)
+            }
+        }
     }
 
     /// The built-in method that a method of the woven program is, where it is one that is handed out.
