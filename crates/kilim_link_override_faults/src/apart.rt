@@ -1,7 +1,7 @@
 //! Methods that differ from the nearest one that they override or from one beside them, each by two comparisons,
 //! however many have one name and descriptor.
 
-ghost use Rattle.std.specs.Prelude.{◌≡◌, ◌<◌, ◌^◌, ◌||◌, Some, false, IfOk, length};
+ghost use Rattle.std.specs.Prelude.{◌≡◌, ◌<◌, ◌^◌, ◌||◌, ◌++◌, ◌∷◌, [], Some, false, IfOk, OnOk, length};
 ghost use Rattle.kilim_link_spec.specs.Qualified.{is_constructor_name};
 ghost use Rattle.kilim_link_override_faults.specs.Apart.{differs_nearest, differs_here, is_apart, says_apart, apart_from};
 ghost use Rattle.kilim_link_override_faults.specs.Heritage.{Finds, Inherits, sayings};
@@ -120,6 +120,22 @@ fn apart_said(
     Ok(said)
 }
 
+// Appends the same of a class.
+fn push_apart_said(
+    alloc: Global,
+    said: &mut Seq<Seq<Said>>,
+    world: &World,
+    heritage: &Heritage,
+    class: ClassId,
+    methods: &[DeclaredMethod],
+) -> Result<(), NoMemory>
+    requires { Inherits world.now heritage.now }
+    ensures { OnOk result (said.new ≡ said.old ++ sayings (is_apart world.now class) (Some 0) methods.now ∷ []) }
+{
+    said.push(apart_said(alloc, world, heritage, class, methods)?)?;
+    Ok(())
+}
+
 fn all_apart_said(
     alloc: Global,
     world: &World,
@@ -134,7 +150,7 @@ fn all_apart_said(
     let mut i: u32 = 0;
     while (i as usize) < classes.len() {
         let methods = classes[i as usize].methods.as_slice();
-        said.push(apart_said(alloc, world, heritage, ClassId(i), methods)?)?;
+        push_apart_said(alloc, &mut said, world, heritage, ClassId(i), methods)?;
         i += 1;
     }
     Ok(said)

@@ -81,6 +81,22 @@ fn next_number(places: &Seq<Place>) -> Result<u32, NoMemory>
     }
 }
 
+// Says of a method its number, and keeps where it stands.
+fn say_number(
+    said: &mut Seq<Said>,
+    places: &mut Seq<Place>,
+    place: Place,
+    method: &DeclaredMethod,
+) -> Result<(), NoMemory>
+    ensures said { OnOk result (said.new ≡ said.old ++ saying (Some (length places.old)) method.now ∷ []) }
+    ensures kept { OnOk result (places.new ≡ places.old ++ place ∷ []) }
+{
+    let number = next_number(places)?;
+    say(said, method, Some(number))?;
+    places.push(place)?;
+    Ok(())
+}
+
 // Says of each method of a class that isn't private its number, and keeps where it stands.
 fn shared_said(
     alloc: Global,
@@ -94,9 +110,8 @@ fn shared_said(
     let mut said: Seq<Said> = Seq::new(alloc);
     for index in 0..methods.len() {
         if !methods[index].is_private {
-            let number = next_number(places)?;
-            say(&mut said, &methods[index], Some(number))?;
-            places.push(Place { class, index })?;
+            let place = Place { class, index };
+            say_number(&mut said, places, place, &methods[index])?;
         }
     }
     Ok(said)
@@ -132,12 +147,24 @@ fn all_shared_said(
     Ok(said)
 }
 
+// Appends the same of a class.
+fn push_left_said(
+    alloc: Global,
+    said: &mut Seq<Seq<Said>>,
+    methods: &[DeclaredMethod],
+) -> Result<(), NoMemory>
+    ensures { OnOk result (said.new ≡ said.old ++ left_sayings methods.now ∷ []) }
+{
+    said.push(left_said(alloc, methods)?)?;
+    Ok(())
+}
+
 fn all_left_said(alloc: Global, classes: &[ClassView]) -> Result<Seq<Seq<Said>>, NoMemory>
     ensures { IfOk result (λ said. said ≡ left_by_class classes.now) }
 {
     let mut said: Seq<Seq<Said>> = Seq::new(alloc);
     for view in classes {
-        said.push(left_said(alloc, view.methods.as_slice())?)?;
+        push_left_said(alloc, &mut said, view.methods.as_slice())?;
     }
     Ok(said)
 }

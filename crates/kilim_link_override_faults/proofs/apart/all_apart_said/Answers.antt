@@ -25,7 +25,7 @@ loop-i-preserved c =
     let i = c.loop-i.i in
     let classes = c.args.classes.now in
     let d = c.index-classes-i.result in
-    let one = c.in_ok-apart_said.ensures ∙ ap (sayings (is_apart w (class_id i)) (Some 0)) c.as_slice-methods.ensures in (
+    let says = sayings (is_apart w (class_id i)) (Some 0) in (
       omega (arith, c.loop-i-test.true),
-      more w classes i (get_or classes i d) d c.loop-i.said c.push.new.self c.in_ok-apart_said.field-0 c.loop-i-test.true refl one c.in_ok-push.ensures.ok c.loop-i.invariant.1,
+      more w classes i (get_or classes i d) d c.loop-i.said c.push_apart_said.new.said (says c.as_slice-methods.result.now) c.loop-i-test.true refl (ap says c.as_slice-methods.ensures) c.in_ok-push_apart_said.ensures c.loop-i.invariant.1,
     )
