@@ -154,8 +154,10 @@ fn first_left_over<'a>(
     ensures { IfOk result (λ found. option_copied found ≡ first_of (filter (is_left_over world.now class nearer.now) methods.now)) }
 {
     for method in methods {
-        if is_left_over(world, heritage, class, nearer, above, method)? {
-            return Ok(Some(method));
+        match is_left_over(world, heritage, class, nearer, above, method) {
+            Ok(true) => return Ok(Some(method)),
+            Ok(false) => {}
+            Err(fault) => return Err(fault),
         }
     }
     Ok(None)
@@ -237,14 +239,13 @@ pub fn abstract_left(
     requires { Knows world.now ancestry.now }
     ensures { IfOk result (λ found. found ≡ first_of (abstract_left world.now file.now class)) }
 {
-    match first_left(
-        alloc,
-        world,
-        &ancestry.heritage,
-        class,
-        has_flag(ABSTRACT, file.access_flags),
-    )? {
-        Some(method) => Ok(Some(Problem::AbstractLeft(declared_of(method)?))),
-        None => Ok(None),
+    let is_abstract = has_flag(ABSTRACT, file.access_flags);
+    match first_left(alloc, world, &ancestry.heritage, class, is_abstract) {
+        Ok(Some(method)) => match declared_of(method) {
+            Ok(declared) => Ok(Some(Problem::AbstractLeft(declared))),
+            Err(fault) => Err(fault),
+        },
+        Ok(None) => Ok(None),
+        Err(fault) => Err(fault),
     }
 }

@@ -113,8 +113,13 @@ fn apart_said(
 {
     let mut said: Seq<Said> = Seq::new(alloc);
     for method in methods {
-        if is_apart(alloc, world, heritage, class, method)? {
-            say(&mut said, method, Some(0))?;
+        let Ok(apart) = is_apart(alloc, world, heritage, class, method) else {
+            return Err(NoMemory);
+        };
+        if apart {
+            let Ok(()) = say(&mut said, method, Some(0)) else {
+                return Err(NoMemory);
+            };
         }
     }
     Ok(said)
@@ -132,7 +137,12 @@ fn push_apart_said(
     requires { Inherits world.now heritage.now }
     ensures { OnOk result (said.new ≡ said.old ++ sayings (is_apart world.now class) (Some 0) methods.now ∷ []) }
 {
-    said.push(apart_said(alloc, world, heritage, class, methods)?)?;
+    let Ok(own) = apart_said(alloc, world, heritage, class, methods) else {
+        return Err(NoMemory);
+    };
+    let Ok(()) = said.push(own) else {
+        return Err(NoMemory);
+    };
     Ok(())
 }
 
@@ -150,7 +160,9 @@ fn all_apart_said(
     let mut i: u32 = 0;
     while (i as usize) < classes.len() {
         let methods = classes[i as usize].methods.as_slice();
-        push_apart_said(alloc, &mut said, world, heritage, ClassId(i), methods)?;
+        let Ok(()) = push_apart_said(alloc, &mut said, world, heritage, ClassId(i), methods) else {
+            return Err(NoMemory);
+        };
         i += 1;
     }
     Ok(said)

@@ -42,8 +42,12 @@ pub fn say(
 ) -> Result<(), NoMemory>
     ensures { OnOk result (said.new ≡ said.old ++ saying value method.now ∷ []) }
 {
-    let signature = signature_of(&method.name, &method.descriptor)?;
-    said.push(Said { signature, value })?;
+    let Ok(signature) = signature_of(&method.name, &method.descriptor) else {
+        return Err(NoMemory);
+    };
+    let Ok(()) = said.push(Said { signature, value }) else {
+        return Err(NoMemory);
+    };
     Ok(())
 }
 
@@ -91,9 +95,15 @@ fn say_number(
     ensures said { OnOk result (said.new ≡ said.old ++ saying (Some (length places.old)) method.now ∷ []) }
     ensures kept { OnOk result (places.new ≡ places.old ++ place ∷ []) }
 {
-    let number = next_number(places)?;
-    say(said, method, Some(number))?;
-    places.push(place)?;
+    let Ok(number) = next_number(places) else {
+        return Err(NoMemory);
+    };
+    let Ok(()) = say(said, method, Some(number)) else {
+        return Err(NoMemory);
+    };
+    let Ok(()) = places.push(place) else {
+        return Err(NoMemory);
+    };
     Ok(())
 }
 
@@ -111,7 +121,9 @@ fn shared_said(
     for index in 0..methods.len() {
         if !methods[index].is_private {
             let place = Place { class, index };
-            say_number(&mut said, places, place, &methods[index])?;
+            let Ok(()) = say_number(&mut said, places, place, &methods[index]) else {
+                return Err(NoMemory);
+            };
         }
     }
     Ok(said)
@@ -122,8 +134,12 @@ fn left_said(alloc: Global, methods: &[DeclaredMethod]) -> Result<Seq<Said>, NoM
     ensures { IfOk result (λ said. said ≡ left_sayings methods.now) }
 {
     let mut said: Seq<Said> = Seq::new(alloc);
-    say_abstract(&mut said, methods)?;
-    say_shared(&mut said, methods)?;
+    let Ok(()) = say_abstract(&mut said, methods) else {
+        return Err(NoMemory);
+    };
+    let Ok(()) = say_shared(&mut said, methods) else {
+        return Err(NoMemory);
+    };
     Ok(said)
 }
 
@@ -141,7 +157,12 @@ fn all_shared_said(
     let mut i: u32 = 0;
     while (i as usize) < classes.len() {
         let methods = classes[i as usize].methods.as_slice();
-        said.push(shared_said(alloc, places, ClassId(i), methods)?)?;
+        let Ok(own) = shared_said(alloc, places, ClassId(i), methods) else {
+            return Err(NoMemory);
+        };
+        let Ok(()) = said.push(own) else {
+            return Err(NoMemory);
+        };
         i += 1;
     }
     Ok(said)
@@ -155,7 +176,12 @@ fn push_left_said(
 ) -> Result<(), NoMemory>
     ensures { OnOk result (said.new ≡ said.old ++ left_sayings methods.now ∷ []) }
 {
-    said.push(left_said(alloc, methods)?)?;
+    let Ok(own) = left_said(alloc, methods) else {
+        return Err(NoMemory);
+    };
+    let Ok(()) = said.push(own) else {
+        return Err(NoMemory);
+    };
     Ok(())
 }
 
@@ -164,7 +190,9 @@ fn all_left_said(alloc: Global, classes: &[ClassView]) -> Result<Seq<Seq<Said>>,
 {
     let mut said: Seq<Seq<Said>> = Seq::new(alloc);
     for view in classes {
-        push_left_said(alloc, &mut said, view.methods.as_slice())?;
+        let Ok(()) = push_left_said(alloc, &mut said, view.methods.as_slice()) else {
+            return Err(NoMemory);
+        };
     }
     Ok(said)
 }
@@ -208,9 +236,15 @@ impl Heritage {
     {
         let ups = world.superclasses();
         let mut places: Seq<Place> = Seq::new(alloc);
-        let shared_said = all_shared_said(alloc, &mut places, world.classes())?;
-        let shared = Nearest::new(alloc, ups, shared_said.as_slice())?;
-        let left = left_of(alloc, world)?;
+        let Ok(shared_said) = all_shared_said(alloc, &mut places, world.classes()) else {
+            return Err(NoMemory);
+        };
+        let Ok(shared) = Nearest::new(alloc, ups, shared_said.as_slice()) else {
+            return Err(NoMemory);
+        };
+        let Ok(left) = left_of(alloc, world) else {
+            return Err(NoMemory);
+        };
         Ok(Heritage {
             places,
             shared,

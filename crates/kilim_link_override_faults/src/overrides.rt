@@ -35,10 +35,13 @@ pub fn methods_of(world: &World, class: ClassId) -> &[DeclaredMethod]
 pub fn declared_of(method: &DeclaredMethod) -> Result<MemberName, NoMemory>
     ensures { IfOk result (λ named. named ≡ declared_of method.now) }
 {
-    Ok(MemberName {
-        name: method.name.clone()?,
-        descriptor: method.descriptor.clone()?,
-    })
+    let Ok(name) = method.name.clone() else {
+        return Err(NoMemory);
+    };
+    let Ok(descriptor) = method.descriptor.clone() else {
+        return Err(NoMemory);
+    };
+    Ok(MemberName { name, descriptor })
 }
 
 fn same_flag(a: bool, b: bool) -> bool
@@ -139,8 +142,12 @@ fn qualifiers_agree(
     if are_unmarked(method, other) {
         return Ok(true);
     }
-    let one = qualified_of(alloc, world, class, method)?;
-    let another = qualified_of(alloc, world, above, other)?;
+    let Ok(one) = qualified_of(alloc, world, class, method) else {
+        return Err(NoMemory);
+    };
+    let Ok(another) = qualified_of(alloc, world, above, other) else {
+        return Err(NoMemory);
+    };
     Ok(same_qualified(&one, &another))
 }
 
@@ -234,8 +241,10 @@ fn differs_at_any(
     ensures { IfOk result (λ apart. apart ≡ list_any (passes_at (other_differs world.now class method.now above) (declared_methods world.now above)) places.now) }
 {
     for place in places {
-        if differs_at(alloc, world, class, method, above, *place)? {
-            return Ok(true);
+        match differs_at(alloc, world, class, method, above, *place) {
+            Ok(true) => return Ok(true),
+            Ok(false) => {}
+            Err(fault) => return Err(fault),
         }
     }
     Ok(false)
@@ -271,8 +280,10 @@ fn differs_in_any(
     ensures { IfOk result (λ apart. apart ≡ list_any (differs_in world.now class method.now) ancestors.now) }
 {
     for above in ancestors {
-        if differs_in(alloc, world, class, method, signature, *above)? {
-            return Ok(true);
+        match differs_in(alloc, world, class, method, signature, *above) {
+            Ok(true) => return Ok(true),
+            Ok(false) => {}
+            Err(fault) => return Err(fault),
         }
     }
     Ok(false)
@@ -351,8 +362,10 @@ fn first_bad<'a>(
     ensures { IfOk result (λ found. option_copied found ≡ first_of (filter (overrides_badly world.now class) methods.now)) }
 {
     for method in methods {
-        if overrides_badly(alloc, world, class, method, ancestry)? {
-            return Ok(Some(method));
+        match overrides_badly(alloc, world, class, method, ancestry) {
+            Ok(true) => return Ok(Some(method)),
+            Ok(false) => {}
+            Err(fault) => return Err(fault),
         }
     }
     Ok(None)
@@ -372,8 +385,12 @@ pub fn override_differs(
     ensures { IfOk result (λ found. found ≡ first_of (override_differs world.now file.now class)) }
 {
     let methods = methods_of(world, class);
-    match first_bad(alloc, world, class, methods, ancestry)? {
-        Some(method) => Ok(Some(Problem::OverrideDiffers(declared_of(method)?))),
-        None => Ok(None),
+    match first_bad(alloc, world, class, methods, ancestry) {
+        Ok(Some(method)) => match declared_of(method) {
+            Ok(declared) => Ok(Some(Problem::OverrideDiffers(declared))),
+            Err(fault) => Err(fault),
+        },
+        Ok(None) => Ok(None),
+        Err(fault) => Err(fault),
     }
 }

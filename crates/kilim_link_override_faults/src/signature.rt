@@ -10,8 +10,11 @@ pub fn signature_of(name: &Units, descriptor: &Units) -> Result<Signature, NoMem
     ensures name { IfOk result (λ s. s.name ≡ name.now) }
     ensures descriptor { IfOk result (λ s. s.descriptor ≡ descriptor.now) }
 {
-    Ok(Signature {
-        name: name.clone()?,
-        descriptor: descriptor.clone()?,
-    })
+    let Ok(name) = name.clone() else {
+        return Err(NoMemory);
+    };
+    let Ok(descriptor) = descriptor.clone() else {
+        return Err(NoMemory);
+    };
+    Ok(Signature { name, descriptor })
 }

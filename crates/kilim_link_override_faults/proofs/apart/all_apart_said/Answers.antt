@@ -27,5 +27,5 @@ loop-i-preserved c =
     let d = c.index-classes-i.result in
     let says = sayings (is_apart w (class_id i)) (Some 0) in (
       omega (arith, c.loop-i-test.true),
-      more w classes i (get_or classes i d) d c.loop-i.said c.push_apart_said.new.said (says c.as_slice-methods.result.now) c.loop-i-test.true refl (ap says c.as_slice-methods.ensures) c.in_ok-push_apart_said.ensures c.loop-i.invariant.1,
+      more w classes i (get_or classes i d) d c.loop-i.said c.push_apart_said.new.said (says c.as_slice-methods.result.now) c.loop-i-test.true refl (ap says c.as_slice-methods.ensures) c.in-Ok.ensures c.loop-i.invariant.1,
     )

@@ -17,11 +17,11 @@ loop-i-preserved c =
     let lt = c.loop-i-test.true in
     let places = c.loop-i.places in
     let more = c.shared_said.new.places in
-    let kept : more ≡ places ++ places_in (class_id i) 0 v.methods = c.in_ok-shared_said.ensures.kept ∙ ap (λ (ms : List DeclaredMethod). places ++ places_in (class_id i) 0 ms) c.as_slice-methods.ensures in
-    let one : c.in_ok-shared_said.field-0 ≡ numbered (length places) v.methods = c.in_ok-shared_said.ensures.said ∙ ap (numbered (length places)) c.as_slice-methods.ensures in (
+    let kept : more ≡ places ++ places_in (class_id i) 0 v.methods = c.in-Ok.ensures.kept ∙ ap (λ (ms : List DeclaredMethod). places ++ places_in (class_id i) 0 ms) c.as_slice-methods.ensures in
+    let one : c.in-Ok.own ≡ numbered (length places) v.methods = c.in-Ok.ensures.said ∙ ap (numbered (length places)) c.as_slice-methods.ensures in (
       omega (arith, lt),
-      ap (λ (ss : List (List Said)). ss ++ all_numbered (length more) (drop (i + 1) classes)) c.in_ok-push.ensures.ok
-          ∙ said_more i classes v lt is places more kept c.loop-i.said c.in_ok-shared_said.field-0 one c.loop-i.invariant.1,
+      ap (λ (ss : List (List Said)). ss ++ all_numbered (length more) (drop (i + 1) classes)) c.in-Ok-push.ensures.ok
+          ∙ said_more i classes v lt is places more kept c.loop-i.said c.in-Ok.own one c.loop-i.invariant.1,
       places_more i classes v lt is places more kept c.loop-i.invariant.2,
     )
 

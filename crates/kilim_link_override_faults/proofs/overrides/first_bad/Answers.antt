@@ -2,11 +2,11 @@ use Rattle.kilim_link_spec.specs.Faults.{overrides_badly}
 use Rattle.kilim_link_override_faults.proofs.Firsts.{found_at, passed_at, none_found}
 use Rattle.kilim_link_override_faults.proofs.overrides.first_bad.Goals as goal
 
-pub returns-then-branch : goal.returns-then-branch
-returns-then-branch c = found_at (overrides_badly c.args.world.now c.args.class) c.args.methods.now c.loop-method.method-index c.method-item.result _ c.in_ok-overrides_badly.field-0 c.loop-method-test.true c.method-item.is c.in_ok-overrides_badly.ensures _ c.loop-method.invariant c.if-branch.true
+pub returns-in-Ok-true : goal.returns-in-Ok-true
+returns-in-Ok-true c = found_at (overrides_badly c.args.world.now c.args.class) c.args.methods.now c.loop-method.method-index c.method-item.result _ c.in-Ok-true.field-0 c.loop-method-test.true c.method-item.is c.in-Ok-true.ensures _ c.loop-method.invariant c.in-Ok-true.field-0-test
 
 pub loop-method-preserved : goal.loop-method-preserved
-loop-method-preserved c = passed_at (overrides_badly c.args.world.now c.args.class) c.args.methods.now c.loop-method.method-index c.method-item.result _ c.in_ok-overrides_badly.field-0 c.loop-method-test.true c.method-item.is c.in_ok-overrides_badly.ensures _ c.loop-method.invariant c.if-branch.false
+loop-method-preserved c = passed_at (overrides_badly c.args.world.now c.args.class) c.args.methods.now c.loop-method.method-index c.method-item.result _ c.in-Ok-false.field-0 c.loop-method-test.true c.method-item.is c.in-Ok-false.ensures _ c.loop-method.invariant c.in-Ok-false.field-0-test
 
 pub returns : goal.returns
 returns c = none_found (overrides_badly c.args.world.now c.args.class) c.args.methods.now c.loop-method.method-index _ c.loop-method-test.false c.loop-method.invariant
