@@ -20,10 +20,13 @@ use std::alloc::Global;
 fn member_of(alloc: Global, file: &ClassFile, member: &MemberInfo) -> Result<MemberName, NoMemory>
     ensures { IfOk result (λ named. named ≡ member_of file.now member.now) }
 {
-    Ok(MemberName {
-        name: Units::from_slice(alloc, member_name(file, member))?,
-        descriptor: Units::from_slice(alloc, member_descriptor(file, member))?,
-    })
+    let Ok(name) = Units::from_slice(alloc, member_name(file, member)) else {
+        return Err(NoMemory);
+    };
+    let Ok(descriptor) = Units::from_slice(alloc, member_descriptor(file, member)) else {
+        return Err(NoMemory);
+    };
+    Ok(MemberName { name, descriptor })
 }
 
 // The type of a descriptor, where it is one and its class is there.
@@ -58,8 +61,12 @@ fn holds_badly(
 ) -> Result<bool, NoMemory>
     ensures { IfOk result (λ bad. bad ≡ holds_badly world.now file.now class field.now) }
 {
-    let descriptor = Units::from_slice(alloc, member_descriptor(file, field))?;
-    let text = field_text(alloc, &descriptor)?;
+    let Ok(descriptor) = Units::from_slice(alloc, member_descriptor(file, field)) else {
+        return Err(NoMemory);
+    };
+    let Ok(text) = field_text(alloc, &descriptor) else {
+        return Err(NoMemory);
+    };
     Ok(!may_hold(world, class, type_of(world, text.as_ref())))
 }
 
@@ -73,8 +80,10 @@ fn first_held_badly<'a>(
     ensures { IfOk result (λ found. option_copied found ≡ first_of (filter (holds_badly world.now file.now class) fields.now)) }
 {
     for field in fields {
-        if holds_badly(alloc, world, file, class, field)? {
-            return Ok(Some(field));
+        match holds_badly(alloc, world, file, class, field) {
+            Ok(true) => return Ok(Some(field)),
+            Ok(false) => {}
+            Err(fault) => return Err(fault),
         }
     }
     Ok(None)
@@ -90,8 +99,12 @@ pub fn field_kinds(
 ) -> Result<Option<Problem>, NoMemory>
     ensures { IfOk result (λ found. found ≡ first_of (field_kinds world.now file.now class)) }
 {
-    match first_held_badly(alloc, world, file, class, file.fields.as_slice())? {
-        Some(field) => Ok(Some(Problem::FieldKind(member_of(alloc, file, field)?))),
-        None => Ok(None),
+    match first_held_badly(alloc, world, file, class, file.fields.as_slice()) {
+        Ok(Some(field)) => match member_of(alloc, file, field) {
+            Ok(member) => Ok(Some(Problem::FieldKind(member))),
+            Err(fault) => Err(fault),
+        },
+        Ok(None) => Ok(None),
+        Err(fault) => Err(fault),
     }
 }

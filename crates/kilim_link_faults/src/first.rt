@@ -34,11 +34,15 @@ fn last_kinds(
     requires { Knows world.now ancestry.now }
     ensures { IfOk result (λ found. found ≡ first_of (last_kinds world.now file.now class)) }
 {
-    if let Some(problem) = super_kind(alloc, world, file, class)? {
-        return Ok(Some(problem));
+    match super_kind(alloc, world, file, class) {
+        Ok(Some(problem)) => return Ok(Some(problem)),
+        Ok(None) => {}
+        Err(fault) => return Err(fault),
     }
-    if let Some(problem) = name_broken(file)? {
-        return Ok(Some(problem));
+    match name_broken(file) {
+        Ok(Some(problem)) => return Ok(Some(problem)),
+        Ok(None) => {}
+        Err(fault) => return Err(fault),
     }
     abstract_left(alloc, world, ancestry, file, class)
 }
@@ -56,14 +60,20 @@ fn code_kinds(
     requires known { Knows world.now ancestry.now }
     ensures { IfOk result (λ found. found ≡ first_of (code_kinds world.now file.now class)) }
 {
-    if let Some(problem) = override_differs(alloc, world, file, class, ancestry)? {
-        return Ok(Some(problem));
+    match override_differs(alloc, world, file, class, ancestry) {
+        Ok(Some(problem)) => return Ok(Some(problem)),
+        Ok(None) => {}
+        Err(fault) => return Err(fault),
     }
-    if let Some(problem) = code_broken(alloc, file)? {
-        return Ok(Some(problem));
+    match code_broken(alloc, file) {
+        Ok(Some(problem)) => return Ok(Some(problem)),
+        Ok(None) => {}
+        Err(fault) => return Err(fault),
     }
-    if let Some(problem) = descriptor_broken(alloc, mentions, file)? {
-        return Ok(Some(problem));
+    match descriptor_broken(alloc, mentions, file) {
+        Ok(Some(problem)) => return Ok(Some(problem)),
+        Ok(None) => {}
+        Err(fault) => return Err(fault),
     }
     last_kinds(alloc, world, file, class, ancestry)
 }
@@ -83,14 +93,20 @@ fn later_kinds(
     requires known { Knows world.now ancestry.now }
     ensures { IfOk result (λ found. found ≡ first_of (later_kinds world.now file.now class)) }
 {
-    if let Some(problem) = left_out_problem(alloc, world, file, mentions, names)? {
-        return Ok(Some(problem));
+    match left_out_problem(alloc, world, file, mentions, names) {
+        Ok(Some(problem)) => return Ok(Some(problem)),
+        Ok(None) => {}
+        Err(fault) => return Err(fault),
     }
-    if let Some(problem) = both_kinds(world, file, class)? {
-        return Ok(Some(problem));
+    match both_kinds(world, file, class) {
+        Ok(Some(problem)) => return Ok(Some(problem)),
+        Ok(None) => {}
+        Err(fault) => return Err(fault),
     }
-    if let Some(problem) = field_kinds(alloc, world, file, class)? {
-        return Ok(Some(problem));
+    match field_kinds(alloc, world, file, class) {
+        Ok(Some(problem)) => return Ok(Some(problem)),
+        Ok(None) => {}
+        Err(fault) => return Err(fault),
     }
     code_kinds(alloc, world, file, class, mentions, ancestry)
 }
@@ -111,12 +127,18 @@ fn from_circular(
     requires known { Knows world.now ancestry.now }
     ensures { IfOk result (λ found. found ≡ first_of (circular world.now file.now class ++ (member_missing world.now file.now class ++ later_kinds world.now file.now class))) }
 {
-    if let Some(problem) = circular(world, file, class)? {
-        return Ok(Some(problem));
+    match circular(world, file, class) {
+        Ok(Some(problem)) => return Ok(Some(problem)),
+        Ok(None) => {}
+        Err(fault) => return Err(fault),
     }
-    let members = members_named(alloc, file)?;
-    if let Some(problem) = member_missing(alloc, world, file, class, members.as_slice())? {
-        return Ok(Some(problem));
+    let Ok(members) = members_named(alloc, file) else {
+        return Err(NoMemory);
+    };
+    match member_missing(alloc, world, file, class, members.as_slice()) {
+        Ok(Some(problem)) => return Ok(Some(problem)),
+        Ok(None) => {}
+        Err(fault) => return Err(fault),
     }
     later_kinds(alloc, world, file, class, mentions, names, ancestry)
 }
@@ -145,13 +167,21 @@ pub fn first_problem(
     requires whole { world.now ≡ world_of files.now world.now.form }
     ensures { IfOk result (λ found. found ≡ first_of (problems_of world.now file.now class)) }
 {
-    if let Some(problem) = declared_twice(alloc, world, files, file, class)? {
-        return Ok(Some(problem));
+    match declared_twice(alloc, world, files, file, class) {
+        Ok(Some(problem)) => return Ok(Some(problem)),
+        Ok(None) => {}
+        Err(fault) => return Err(fault),
     }
-    let mentions = mentions_of(alloc, file)?;
-    let names = names_of(alloc, file, mentions.as_slice())?;
-    if let Some(problem) = class_missing(world, file, class, names.as_slice())? {
-        return Ok(Some(problem));
+    let Ok(mentions) = mentions_of(alloc, file) else {
+        return Err(NoMemory);
+    };
+    let Ok(names) = names_of(alloc, file, mentions.as_slice()) else {
+        return Err(NoMemory);
+    };
+    match class_missing(world, file, class, names.as_slice()) {
+        Ok(Some(problem)) => return Ok(Some(problem)),
+        Ok(None) => {}
+        Err(fault) => return Err(fault),
     }
     from_circular(
         alloc,
@@ -178,10 +208,13 @@ fn fault_in(
     requires whole { world.now ≡ world_of files.now world.now.form }
     ensures { IfOk result (λ found. found ≡ first_of (faults_in world.now file.now class)) }
 {
-    let name = Units::from_slice(alloc, own_name(file))?;
-    match first_problem(alloc, world, files, file, class, ancestry)? {
-        Some(problem) => Ok(Some(LinkFault::InClass(name, problem))),
-        None => Ok(None),
+    let Ok(name) = Units::from_slice(alloc, own_name(file)) else {
+        return Err(NoMemory);
+    };
+    match first_problem(alloc, world, files, file, class, ancestry) {
+        Ok(Some(problem)) => Ok(Some(LinkFault::InClass(name, problem))),
+        Ok(None) => Ok(None),
+        Err(fault) => Err(fault),
     }
 }
 

@@ -96,8 +96,10 @@ fn first_missing<'a>(
     ensures { IfOk result (λ found. option_copied found ≡ first_of (filter (is_no_member world.now) members.now)) }
 {
     for member in members {
-        if is_no_member(alloc, world, member)? {
-            return Ok(Some(member));
+        match is_no_member(alloc, world, member) {
+            Ok(true) => return Ok(Some(member)),
+            Ok(false) => {}
+            Err(fault) => return Err(fault),
         }
     }
     Ok(None)
@@ -106,10 +108,19 @@ fn first_missing<'a>(
 fn no_member_of(member: &MemberOf) -> Result<Problem, NoMemory>
     ensures { IfOk result (λ problem. problem ≡ no_member_of member.now) }
 {
+    let Ok(owner) = member.owner.clone() else {
+        return Err(NoMemory);
+    };
+    let Ok(name) = member.name.clone() else {
+        return Err(NoMemory);
+    };
+    let Ok(descriptor) = member.descriptor.clone() else {
+        return Err(NoMemory);
+    };
     Ok(Problem::NoMember(MemberOf {
-        owner: member.owner.clone()?,
-        name: member.name.clone()?,
-        descriptor: member.descriptor.clone()?,
+        owner,
+        name,
+        descriptor,
     }))
 }
 
@@ -127,8 +138,12 @@ pub fn member_missing(
     requires { members.now ≡ members_named file.now }
     ensures { IfOk result (λ found. found ≡ first_of (member_missing world.now file.now class)) }
 {
-    match first_missing(alloc, world, members)? {
-        Some(member) => Ok(Some(no_member_of(ref_of(member))?)),
-        None => Ok(None),
+    match first_missing(alloc, world, members) {
+        Ok(Some(member)) => match no_member_of(ref_of(member)) {
+            Ok(problem) => Ok(Some(problem)),
+            Err(fault) => Err(fault),
+        },
+        Ok(None) => Ok(None),
+        Err(fault) => Err(fault),
     }
 }

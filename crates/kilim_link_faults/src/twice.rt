@@ -77,10 +77,13 @@ fn signature_in(alloc: Global, file: &ClassFile, member: &MemberInfo) -> Result<
     ensures name { IfOk result (λ s. s.name ≡ member_name file.now member.now) }
     ensures descriptor { IfOk result (λ s. s.descriptor ≡ member_descriptor file.now member.now) }
 {
-    Ok(Signature {
-        name: Units::from_slice(alloc, member_name(file, member))?,
-        descriptor: Units::from_slice(alloc, member_descriptor(file, member))?,
-    })
+    let Ok(name) = Units::from_slice(alloc, member_name(file, member)) else {
+        return Err(NoMemory);
+    };
+    let Ok(descriptor) = Units::from_slice(alloc, member_descriptor(file, member)) else {
+        return Err(NoMemory);
+    };
+    Ok(Signature { name, descriptor })
 }
 
 fn has_seen(seen: &BTreeMap<Signature, ()>, signature: &Signature) -> bool
@@ -105,11 +108,15 @@ fn first_repeated<'a>(
 {
     let mut seen: BTreeMap<Signature, ()> = BTreeMap::new(alloc);
     for member in members {
-        let signature = signature_in(alloc, file, member)?;
+        let Ok(signature) = signature_in(alloc, file, member) else {
+            return Err(NoMemory);
+        };
         if has_seen(&seen, &signature) {
             return Ok(Some(member));
         }
-        add_seen(&mut seen, signature)?;
+        let Ok(()) = add_seen(&mut seen, signature) else {
+            return Err(NoMemory);
+        };
     }
     Ok(None)
 }
@@ -121,12 +128,13 @@ fn repeated_in(
 ) -> Result<Option<Problem>, NoMemory>
     ensures { IfOk result (λ found. found ≡ first_of (repeated_names file.now members.now)) }
 {
-    match first_repeated(alloc, file, members)? {
-        Some(member) => Ok(Some(Problem::Twice(Units::from_slice(
-            alloc,
-            member_name(file, member),
-        )?))),
-        None => Ok(None),
+    match first_repeated(alloc, file, members) {
+        Ok(Some(member)) => match Units::from_slice(alloc, member_name(file, member)) {
+            Ok(name) => Ok(Some(Problem::Twice(name))),
+            Err(_) => Err(NoMemory),
+        },
+        Ok(None) => Ok(None),
+        Err(fault) => Err(fault),
     }
 }
 
@@ -134,8 +142,10 @@ fn repeated_in(
 fn repeated_in_either(alloc: Global, file: &ClassFile) -> Result<Option<Problem>, NoMemory>
     ensures { IfOk result (λ found. found ≡ first_of (repeated_names file.now file.now.fields ++ repeated_names file.now file.now.methods)) }
 {
-    if let Some(problem) = repeated_in(alloc, file, file.fields.as_slice())? {
-        return Ok(Some(problem));
+    match repeated_in(alloc, file, file.fields.as_slice()) {
+        Ok(Some(problem)) => return Ok(Some(problem)),
+        Ok(None) => {}
+        Err(fault) => return Err(fault),
     }
     repeated_in(alloc, file, file.methods.as_slice())
 }

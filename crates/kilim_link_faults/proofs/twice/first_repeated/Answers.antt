@@ -16,9 +16,9 @@ returns-then-has_seen c =
     let x = c.member-item.result in
     let file = c.args.file.now in
     found_again file c.args.members.now c.loop-member.member-index x (first_of (repeated (same_member file) [] c.args.members.now)) c.has_seen.result c.loop-member-test.true c.member-item.is c.loop-member.invariant.0
-    (c.has_seen.ensures ∙ (c.loop-member.invariant.1 c.in_ok-signature.signature.name c.in_ok-signature.signature.descriptor
-    ∙ (ap (λ k. met_in file (reverse (take c.loop-member.member-index c.args.members.now)) k c.in_ok-signature.signature.descriptor) c.in_ok-signature.ensures.name
-    ∙ ap (met_in file (reverse (take c.loop-member.member-index c.args.members.now)) (member_name file x)) c.in_ok-signature.ensures.descriptor)))
+    (c.has_seen.ensures ∙ (c.loop-member.invariant.1 c.in-Ok.signature.name c.in-Ok.signature.descriptor
+    ∙ (ap (λ k. met_in file (reverse (take c.loop-member.member-index c.args.members.now)) k c.in-Ok.signature.descriptor) c.in-Ok.ensures.name
+    ∙ ap (met_in file (reverse (take c.loop-member.member-index c.args.members.now)) (member_name file x)) c.in-Ok.ensures.descriptor)))
     c.if-has_seen.true
 
 pub loop-member-preserved : goal.loop-member-preserved
@@ -27,15 +27,15 @@ loop-member-preserved c =
     let file = c.args.file.now in
     let front = reverse (take c.loop-member.member-index c.args.members.now) in (
       is_fresh file c.args.members.now c.loop-member.member-index x (first_of (repeated (same_member file) [] c.args.members.now)) c.has_seen.result c.loop-member-test.true c.member-item.is c.loop-member.invariant.0
-          (c.has_seen.ensures ∙ (c.loop-member.invariant.1 c.in_ok-signature.signature.name c.in_ok-signature.signature.descriptor
-          ∙ (ap (λ k. met_in file front k c.in_ok-signature.signature.descriptor) c.in_ok-signature.ensures.name
-          ∙ ap (met_in file front (member_name file x)) c.in_ok-signature.ensures.descriptor)))
+          (c.has_seen.ensures ∙ (c.loop-member.invariant.1 c.in-Ok.signature.name c.in-Ok.signature.descriptor
+          ∙ (ap (λ k. met_in file front k c.in-Ok.signature.descriptor) c.in-Ok.ensures.name
+          ∙ ap (met_in file front (member_name file x)) c.in-Ok.ensures.descriptor)))
           c.if-has_seen.false,
       λ name descriptor.
-          c.in_ok-add_seen.ensures name descriptor
-          ∙ (ap (λ (b : Bool). (bytes_eq name c.in_ok-signature.signature.name && bytes_eq descriptor c.in_ok-signature.signature.descriptor) || b) (c.loop-member.invariant.1 name descriptor)
-          ∙ (ap (λ k. (bytes_eq name k && bytes_eq descriptor c.in_ok-signature.signature.descriptor) || met_in file front name descriptor) c.in_ok-signature.ensures.name
-          ∙ (ap (λ k. (bytes_eq name (member_name file x) && bytes_eq descriptor k) || met_in file front name descriptor) c.in_ok-signature.ensures.descriptor
+          c.in-Ok-add_seen.ensures name descriptor
+          ∙ (ap (λ (b : Bool). (bytes_eq name c.in-Ok.signature.name && bytes_eq descriptor c.in-Ok.signature.descriptor) || b) (c.loop-member.invariant.1 name descriptor)
+          ∙ (ap (λ k. (bytes_eq name k && bytes_eq descriptor c.in-Ok.signature.descriptor) || met_in file front name descriptor) c.in-Ok.ensures.name
+          ∙ (ap (λ k. (bytes_eq name (member_name file x) && bytes_eq descriptor k) || met_in file front name descriptor) c.in-Ok.ensures.descriptor
           ∙ ap (λ (ms : List MemberInfo). met_in file ms name descriptor) (sym (reverse_at c.args.members.now c.loop-member.member-index x c.loop-member-test.true c.member-item.is))))),
     )
 
