@@ -34,13 +34,17 @@ fn push_receiver(
         return Ok(());
     }
     if is_constructor_name(&method.name) {
-        into.push(Some(VType::UninitThis))?;
+        let Ok(()) = into.push(Some(VType::UninitThis)) else {
+            return Err(NoMemory);
+        };
     } else {
         let ty = Ty {
             dims: 0,
             base: Base::Class(class),
         };
-        into.push(Some(VType::Object(ty)))?;
+        let Ok(()) = into.push(Some(VType::Object(ty))) else {
+            return Err(NoMemory);
+        };
     }
     Ok(())
 }
@@ -64,7 +68,9 @@ fn push_arguments(
     ensures { OnOk result (into.new ≡ into.old ++ map (λ f. option_map slot_of_type (type_in world.now f)) params.now) }
 {
     for text in params {
-        into.push(argument(world, text))?;
+        let Ok(()) = into.push(argument(world, text)) else {
+            return Err(NoMemory);
+        };
     }
     Ok(())
 }
@@ -79,10 +85,13 @@ fn push_entry_locals(
 ) -> Result<(), NoMemory>
     ensures { OnOk result (into.new ≡ into.old ++ entry_locals world.now class method.now) }
 {
-    push_receiver(into, class, method)?;
-    match method_text(alloc, &method.descriptor)? {
-        Some(text) => push_arguments(into, world, text.params.as_slice()),
-        None => Ok(()),
+    let Ok(()) = push_receiver(into, class, method) else {
+        return Err(NoMemory);
+    };
+    match method_text(alloc, &method.descriptor) {
+        Ok(Some(text)) => push_arguments(into, world, text.params.as_slice()),
+        Ok(None) => Ok(()),
+        Err(fault) => Err(fault),
     }
 }
 
@@ -97,6 +106,8 @@ pub fn entry_locals(
     ensures { IfOk result (λ locals. locals ≡ entry_locals world.now class method.now) }
 {
     let mut locals = Seq::new(alloc);
-    push_entry_locals(alloc, &mut locals, world, class, method)?;
+    let Ok(()) = push_entry_locals(alloc, &mut locals, world, class, method) else {
+        return Err(NoMemory);
+    };
     Ok(locals)
 }

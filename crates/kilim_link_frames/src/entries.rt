@@ -52,7 +52,9 @@ fn slots_in(
     ensures { IfOk result (λ found. found ≡ map (slot_in world.now pool.now) slots.now) }
 {
     let mut found = Seq::new(alloc);
-    push_slots(alloc, &mut found, world, pool, slots)?;
+    let Ok(()) = push_slots(alloc, &mut found, world, pool, slots) else {
+        return Err(NoMemory);
+    };
     Ok(found)
 }
 
@@ -66,11 +68,13 @@ fn with_item(
 ) -> Result<Entries, NoMemory>
     ensures { IfOk result (λ e. e ≡ record { locals = locals.now; stack = slot_in world.now pool.now item ∷ [] }) }
 {
-    let stack = slots_in(alloc, world, pool, &[item])?;
-    Ok(Entries {
-        locals: copied(alloc, locals)?,
-        stack,
-    })
+    let Ok(stack) = slots_in(alloc, world, pool, &[item]) else {
+        return Err(NoMemory);
+    };
+    let Ok(locals) = copied(alloc, locals) else {
+        return Err(NoMemory);
+    };
+    Ok(Entries { locals, stack })
 }
 
 // Without so many of the last locals; none where there are fewer.
@@ -94,8 +98,12 @@ fn appended(
 ) -> Result<Entries, NoMemory>
     ensures { IfOk result (λ e. e ≡ record { locals = locals.now ++ map (slot_in world.now pool.now) more.now; stack = [] }) }
 {
-    let mut all = copied(alloc, locals)?;
-    push_slots(alloc, &mut all, world, pool, more)?;
+    let Ok(mut all) = copied(alloc, locals) else {
+        return Err(NoMemory);
+    };
+    let Ok(()) = push_slots(alloc, &mut all, world, pool, more) else {
+        return Err(NoMemory);
+    };
     Ok(Entries {
         locals: all,
         stack: Seq::new(alloc),
@@ -112,8 +120,12 @@ fn full(
 ) -> Result<Entries, NoMemory>
     ensures { IfOk result (λ e. e ≡ record { locals = map (slot_in world.now pool.now) all.now; stack = map (slot_in world.now pool.now) items.now }) }
 {
-    let locals = slots_in(alloc, world, pool, all)?;
-    let stack = slots_in(alloc, world, pool, items)?;
+    let Ok(locals) = slots_in(alloc, world, pool, all) else {
+        return Err(NoMemory);
+    };
+    let Ok(stack) = slots_in(alloc, world, pool, items) else {
+        return Err(NoMemory);
+    };
     Ok(Entries { locals, stack })
 }
 

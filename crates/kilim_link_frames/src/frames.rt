@@ -53,12 +53,18 @@ fn copied(alloc: Global, frame: &FrameForm) -> Result<FrameForm, NoMemory>
         FrameForm::Chop(count, delta) => Ok(FrameForm::Chop(*count, *delta)),
         FrameForm::SameExtended(delta) => Ok(FrameForm::SameExtended(*delta)),
         FrameForm::Append(delta, locals) => {
-            let locals = copied_types(alloc, locals.as_slice())?;
+            let Ok(locals) = copied_types(alloc, locals.as_slice()) else {
+                return Err(NoMemory);
+            };
             Ok(FrameForm::Append(*delta, locals))
         }
         FrameForm::Full(delta, locals, stack) => {
-            let locals = copied_types(alloc, locals.as_slice())?;
-            let stack = copied_types(alloc, stack.as_slice())?;
+            let Ok(locals) = copied_types(alloc, locals.as_slice()) else {
+                return Err(NoMemory);
+            };
+            let Ok(stack) = copied_types(alloc, stack.as_slice()) else {
+                return Err(NoMemory);
+            };
             Ok(FrameForm::Full(*delta, locals, stack))
         }
     }
@@ -73,7 +79,12 @@ fn push_frames(
     ensures { OnOk result (into.new ≡ into.old ++ frames.now) }
 {
     for frame in frames {
-        into.push(copied(alloc, frame)?)?;
+        let Ok(copy) = copied(alloc, frame) else {
+            return Err(NoMemory);
+        };
+        let Ok(()) = into.push(copy) else {
+            return Err(NoMemory);
+        };
     }
     Ok(())
 }
@@ -84,7 +95,9 @@ fn tables_in(alloc: Global, code: &Code) -> Result<Seq<FrameForm>, NoMemory>
 {
     let mut frames = Seq::new(alloc);
     for attribute in code.attributes.as_slice() {
-        push_frames(alloc, &mut frames, table_in(&attribute.info))?;
+        let Ok(()) = push_frames(alloc, &mut frames, table_in(&attribute.info)) else {
+            return Err(NoMemory);
+        };
     }
     Ok(frames)
 }
@@ -101,10 +114,10 @@ fn joined(
         return Ok(None);
     };
     match stack {
-        Some(stack) => Ok(Some(Frame {
-            locals: slots_of(alloc, locals.as_slice())?,
-            stack,
-        })),
+        Some(stack) => match slots_of(alloc, locals.as_slice()) {
+            Ok(locals) => Ok(Some(Frame { locals, stack })),
+            Err(fault) => Err(fault),
+        },
         None => Ok(None),
     }
 }
@@ -113,8 +126,12 @@ fn joined(
 fn frame_of(alloc: Global, entries: &Entries) -> Result<Option<Frame>, NoMemory>
     ensures { IfOk result (λ frame. frame ≡ frame_of entries.now) }
 {
-    let locals = all_there(alloc, entries.locals.as_slice())?;
-    let stack = all_there(alloc, entries.stack.as_slice())?;
+    let Ok(locals) = all_there(alloc, entries.locals.as_slice()) else {
+        return Err(NoMemory);
+    };
+    let Ok(stack) = all_there(alloc, entries.stack.as_slice()) else {
+        return Err(NoMemory);
+    };
     joined(alloc, locals, stack)
 }
 
@@ -139,9 +156,10 @@ fn placed_frame(
 ) -> Result<Option<(u32, Frame)>, NoMemory>
     ensures { IfOk result (λ found. found ≡ placed_frame place entries.now) }
 {
-    match frame_of(alloc, entries)? {
-        Some(frame) => Ok(Some((place, frame))),
-        None => Ok(None),
+    match frame_of(alloc, entries) {
+        Ok(Some(frame)) => Ok(Some((place, frame))),
+        Ok(None) => Ok(None),
+        Err(fault) => Err(fault),
     }
 }
 
@@ -154,12 +172,13 @@ fn push_placed(
 ) -> Result<bool, NoMemory>
     ensures { IfOk result (IsLast (placed_frame place entries.now) frames.old frames.new) }
 {
-    match placed_frame(alloc, place, entries)? {
-        Some(frame) => {
-            frames.push(frame)?;
-            Ok(true)
-        }
-        None => Ok(false),
+    match placed_frame(alloc, place, entries) {
+        Ok(Some(frame)) => match frames.push(frame) {
+            Ok(()) => Ok(true),
+            Err(_) => Err(NoMemory),
+        },
+        Ok(None) => Ok(false),
+        Err(fault) => Err(fault),
     }
 }
 
@@ -175,8 +194,12 @@ fn push_next(
 ) -> Result<Option<(u32, Seq<Option<VType>>)>, NoMemory>
     ensures { IfOk result (IsNext world.now pool.now before locals.now form.now frames.old frames.new) }
 {
-    let place = place_after(before, delta_of(form))?;
-    let entries = entries_of(alloc, world, pool, locals, form)?;
+    let Ok(place) = place_after(before, delta_of(form)) else {
+        return Err(NoMemory);
+    };
+    let Ok(entries) = entries_of(alloc, world, pool, locals, form) else {
+        return Err(NoMemory);
+    };
     match push_placed(alloc, frames, place, &entries) {
         Ok(true) => Ok(Some((place, entries.locals))),
         Ok(false) => {
@@ -239,7 +262,11 @@ pub fn frames_in(
 ) -> Result<Option<Seq<(u32, Frame)>>, NoMemory>
     ensures { IfOk result (λ frames. frames ≡ frames_in world.now file.now class method.now code.now) }
 {
-    let begin = entry_locals(alloc, world, class, method)?;
-    let forms = tables_in(alloc, code)?;
+    let Ok(begin) = entry_locals(alloc, world, class, method) else {
+        return Err(NoMemory);
+    };
+    let Ok(forms) = tables_in(alloc, code) else {
+        return Err(NoMemory);
+    };
     frames_from(alloc, world, &file.constant_pool, begin, forms.as_slice())
 }

@@ -67,7 +67,12 @@ pub fn push_slots(
     ensures { OnOk result (into.new ≡ into.old ++ map (slot_in world.now pool.now) slots.now) }
 {
     for slot in slots {
-        into.push(slot_in(alloc, world, pool, *slot)?)?;
+        let Ok(found) = slot_in(alloc, world, pool, *slot) else {
+            return Err(NoMemory);
+        };
+        let Ok(()) = into.push(found) else {
+            return Err(NoMemory);
+        };
     }
     Ok(())
 }
@@ -100,7 +105,11 @@ pub fn all_there(alloc: Global, slots: &[Option<VType>]) -> Result<Option<Seq<VT
     let mut found = Seq::new(alloc);
     for slot in slots {
         match *slot {
-            Some(there) => found.push(there)?,
+            Some(there) => {
+                let Ok(()) = found.push(there) else {
+                    return Err(NoMemory);
+                };
+            }
             None => return Ok(None),
         }
     }
@@ -111,9 +120,13 @@ pub fn all_there(alloc: Global, slots: &[Option<VType>]) -> Result<Option<Seq<VT
 fn push_local(into: &mut Seq<VType>, local: VType) -> Result<(), NoMemory>
     ensures { OnOk result (into.new ≡ into.old ++ local_slots local) }
 {
-    into.push(local)?;
+    let Ok(()) = into.push(local) else {
+        return Err(NoMemory);
+    };
     if let VType::Long = local {
-        into.push(VType::Top)?;
+        let Ok(()) = into.push(VType::Top) else {
+            return Err(NoMemory);
+        };
     }
     Ok(())
 }
@@ -124,7 +137,9 @@ pub fn slots_of(alloc: Global, locals: &[VType]) -> Result<Seq<VType>, NoMemory>
 {
     let mut slots = Seq::new(alloc);
     for local in locals {
-        push_local(&mut slots, *local)?;
+        let Ok(()) = push_local(&mut slots, *local) else {
+            return Err(NoMemory);
+        };
     }
     Ok(slots)
 }
