@@ -32,12 +32,13 @@ fn bad_index(
     let Some((number, index)) = index_in(instr) else {
         return Ok(None);
     };
-    match operand_at(alloc, pool, number, index)? {
-        Some(operand) => {
+    match operand_at(alloc, pool, number, index) {
+        Ok(Some(operand)) => {
             drop(operand);
             Ok(None)
         }
-        None => Ok(Some(CodeFault::Op(OpFault::Unknown(number), at))),
+        Ok(None) => Ok(Some(CodeFault::Op(OpFault::Unknown(number), at))),
+        Err(fault) => Err(fault),
     }
 }
 
@@ -99,11 +100,18 @@ fn method_problem(
 ) -> Result<Option<Problem>, NoMemory>
     ensures { IfOk result (λ problem. problem ≡ first_of (code_faults file.now method.now)) }
 {
-    let Some(fault) = method_fault(alloc, &file.constant_pool, method)? else {
+    let Ok(found) = method_fault(alloc, &file.constant_pool, method) else {
+        return Err(NoMemory);
+    };
+    let Some(fault) = found else {
         return Ok(None);
     };
-    let name = Units::from_slice(alloc, member_name(file, method))?;
-    let descriptor = Units::from_slice(alloc, member_descriptor(file, method))?;
+    let Ok(name) = Units::from_slice(alloc, member_name(file, method)) else {
+        return Err(NoMemory);
+    };
+    let Ok(descriptor) = Units::from_slice(alloc, member_descriptor(file, method)) else {
+        return Err(NoMemory);
+    };
     Ok(Some(Problem::Code(MemberName { name, descriptor }, fault)))
 }
 

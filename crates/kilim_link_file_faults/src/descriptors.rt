@@ -48,11 +48,16 @@ fn named_badly(class: &Named) -> Result<Option<Units>, NoMemory>
 fn no_field(alloc: Global, descriptor: &Units) -> Result<Option<Units>, NoMemory>
     ensures { IfOk result (λ found. found ≡ first_of (no_descriptors (OfField descriptor.now))) }
 {
-    let found = field_text(alloc, descriptor)?;
+    let Ok(found) = field_text(alloc, descriptor) else {
+        return Err(NoMemory);
+    };
     let is_none = found.is_none();
     drop(found);
     if is_none {
-        Ok(Some(descriptor.clone()?))
+        match descriptor.clone() {
+            Ok(text) => Ok(Some(text)),
+            Err(_) => Err(NoMemory),
+        }
     } else {
         Ok(None)
     }
@@ -62,9 +67,14 @@ fn no_field(alloc: Global, descriptor: &Units) -> Result<Option<Units>, NoMemory
 fn no_method(alloc: Global, slots: u8, descriptor: &Units) -> Result<Option<Units>, NoMemory>
     ensures { IfOk result (λ found. found ≡ first_of (no_descriptors (OfMethod slots descriptor.now))) }
 {
-    let found = method_text(alloc, descriptor)?;
+    let Ok(found) = method_text(alloc, descriptor) else {
+        return Err(NoMemory);
+    };
     if is_no_method(slots, found) {
-        Ok(Some(descriptor.clone()?))
+        match descriptor.clone() {
+            Ok(text) => Ok(Some(text)),
+            Err(_) => Err(NoMemory),
+        }
     } else {
         Ok(None)
     }
@@ -106,8 +116,9 @@ pub fn descriptor_broken(
     requires named { mentions.now ≡ mentions_of file.now }
     ensures { IfOk result (λ found. (w : World) → (c : ClassId) → found ≡ first_of (descriptor_broken w file.now c)) }
 {
-    match first_text(alloc, mentions)? {
-        Some(text) => Ok(Some(Problem::Descriptor(text))),
-        None => Ok(None),
+    match first_text(alloc, mentions) {
+        Ok(Some(text)) => Ok(Some(Problem::Descriptor(text))),
+        Ok(None) => Ok(None),
+        Err(fault) => Err(fault),
     }
 }

@@ -32,9 +32,10 @@ fn constant_ref(
     match entry {
         Some(Entry::Integer(n)) => Ok(Some(Value::Int(*n))),
         Some(Entry::Long(n)) => Ok(Some(Value::Long(*n))),
-        Some(Entry::String(text)) => {
-            Ok(Some(Value::Text(Units::from_slice(alloc, text_of(pool, *text))?)))
-        }
+        Some(Entry::String(text)) => match Units::from_slice(alloc, text_of(pool, *text)) {
+            Ok(text) => Ok(Some(Value::Text(text))),
+            Err(_) => Err(NoMemory),
+        },
         _ => Ok(None),
     }
 }
@@ -75,10 +76,13 @@ fn field_type(
 ) -> Result<Option<Ty>, NoMemory>
     ensures { IfOk result (λ found. found ≡ field_type world.now file.now field.now) }
 {
-    let descriptor = Units::from_slice(alloc, member_descriptor(file, field))?;
-    match field_text(alloc, &descriptor)? {
-        Some(found) => Ok(type_in(world, &found)),
-        None => Ok(None),
+    let Ok(descriptor) = Units::from_slice(alloc, member_descriptor(file, field)) else {
+        return Err(NoMemory);
+    };
+    match field_text(alloc, &descriptor) {
+        Ok(Some(found)) => Ok(type_in(world, &found)),
+        Ok(None) => Ok(None),
+        Err(fault) => Err(fault),
     }
 }
 
@@ -130,8 +134,13 @@ fn is_left_out(
     if !has_flag(0x0008, field.access_flags) {
         return Ok(false);
     }
-    let ty = field_type(alloc, world, file, field)?;
-    Ok(!has_its_constant(alloc, world, file, field, ty)?)
+    let Ok(ty) = field_type(alloc, world, file, field) else {
+        return Err(NoMemory);
+    };
+    let Ok(has_constant) = has_its_constant(alloc, world, file, field, ty) else {
+        return Err(NoMemory);
+    };
+    Ok(!has_constant)
 }
 
 /// Whether a static field has no ConstantValue of its type (JVMS 4.7.2, own).

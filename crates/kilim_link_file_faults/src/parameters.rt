@@ -77,8 +77,12 @@ fn differs_in_one(
 fn method_differs(alloc: Global, file: &ClassFile, method: &MemberInfo) -> Result<bool, NoMemory>
     ensures { IfOk result (λ differs. differs ≡ list_any (λ parts. differs_in (method_text (member_descriptor file.now method.now)) (length (params_in parts))) (filter_map (λ a. parameter_parts a.info) method.now.attributes)) }
 {
-    let descriptor = Units::from_slice(alloc, member_descriptor(file, method))?;
-    let found = method_text(alloc, &descriptor)?;
+    let Ok(descriptor) = Units::from_slice(alloc, member_descriptor(file, method)) else {
+        return Err(NoMemory);
+    };
+    let Ok(found) = method_text(alloc, &descriptor) else {
+        return Err(NoMemory);
+    };
     differs_in_one(alloc, found.as_ref(), method.attributes.as_slice())
 }
 

@@ -54,13 +54,17 @@ fn first_tested(
     requires named { names.now ≡ class_names file.now }
     ensures { IfOk result (λ found. found ≡ first_of (tested_parts world.now file.now)) }
 {
-    let types = shapes(alloc, mentions)?;
+    let Ok(types) = shapes(alloc, mentions) else {
+        return Err(NoMemory);
+    };
     let types = types.as_slice();
-    let static_field = has_static_field(alloc, world, file)?;
-    let other_parameters = has_other_parameters(alloc, file)?;
+    let Ok(static_field) = has_static_field(alloc, world, file) else {
+        return Err(NoMemory);
+    };
+    let Ok(other_parameters) = has_other_parameters(alloc, file) else {
+        return Err(NoMemory);
+    };
     let synchronized = has_method_flag(SYNCHRONIZED, file);
-    let super_flag = has_flag(SUPER, file.access_flags);
-    let pausable = has_pausable_constructor(file);
     let task_array = has_task_array(world, file, mentions, types);
     let tests = [
         (has_float(file, mentions, types), LeftOutPart::Float),
@@ -69,8 +73,14 @@ fn first_tested(
         (synchronized, LeftOutPart::Synchronized),
         (has_method_flag(NATIVE, file), LeftOutPart::Native),
         (has_interface(file), LeftOutPart::Interface),
-        (!super_flag, LeftOutPart::NoSuperFlag),
-        (pausable, LeftOutPart::PausableConstructor),
+        (
+            !has_flag(SUPER, file.access_flags),
+            LeftOutPart::NoSuperFlag,
+        ),
+        (
+            has_pausable_constructor(file),
+            LeftOutPart::PausableConstructor,
+        ),
         (has_handlers(file), LeftOutPart::Handlers),
         (task_array, LeftOutPart::TaskArray),
         (has_fiber_name(world, file, names), LeftOutPart::Fiber),
@@ -93,9 +103,10 @@ pub fn left_out(
     requires named { names.now ≡ class_names file.now }
     ensures { IfOk result (λ found. found ≡ first_of (left_out_parts world.now file.now)) }
 {
-    match left_out_op(alloc, file)? {
-        Some(number) => Ok(Some(LeftOutPart::Opcode(number))),
-        None => first_tested(alloc, world, file, mentions, names),
+    match left_out_op(alloc, file) {
+        Ok(Some(number)) => Ok(Some(LeftOutPart::Opcode(number))),
+        Ok(None) => first_tested(alloc, world, file, mentions, names),
+        Err(fault) => Err(fault),
     }
 }
 
@@ -112,8 +123,9 @@ pub fn left_out_problem(
     requires named { names.now ≡ class_names file.now }
     ensures { IfOk result (λ found. (c : ClassId) → found ≡ first_of (left_out world.now file.now c)) }
 {
-    match left_out(alloc, world, file, mentions, names)? {
-        Some(part) => Ok(Some(Problem::LeftOut(part))),
-        None => Ok(None),
+    match left_out(alloc, world, file, mentions, names) {
+        Ok(Some(part)) => Ok(Some(Problem::LeftOut(part))),
+        Ok(None) => Ok(None),
+        Err(fault) => Err(fault),
     }
 }

@@ -1,6 +1,6 @@
 //! The types that a file names, by what is asked of them.
 
-ghost use Rattle.std.specs.Prelude.{◌≡◌, [], ◌∷◌, ◌++◌, ◌||◌, ◌&&◌, map, IfOk, OnOk};
+ghost use Rattle.std.specs.Prelude.{◌≡◌, [], ◌∷◌, ◌++◌, ◌||◌, ◌&&◌, true, map, IfOk, OnOk};
 ghost use Rattle.std.specs.List.{flat_map, list_any};
 ghost use Rattle.std.specs.Option.{option_copied};
 ghost use Rattle.kilim_link_spec.specs.LeftOut.{has_float, has_task_array, is_float_base, is_float_mention, is_task_base};
@@ -26,10 +26,13 @@ pub struct Shape {
 fn push_shape(into: &mut Vec<Shape>, found: &FieldText) -> Result<(), NoMemory>
     ensures { OnOk result (into.new.items ≡ into.old.items ++ shape_of found.now ∷ []) }
 {
-    into.push(Shape {
-        is_array: 0 < found.dims,
-        base: found.base.clone()?,
-    })?;
+    let Ok(base) = found.base.clone() else {
+        return Err(NoMemory);
+    };
+    let is_array = 0 < found.dims;
+    let Ok(()) = into.push(Shape { is_array, base }) else {
+        return Err(NoMemory);
+    };
     Ok(())
 }
 
@@ -37,7 +40,9 @@ fn push_each(into: &mut Vec<Shape>, types: &[FieldText]) -> Result<(), NoMemory>
     ensures { OnOk result (into.new.items ≡ into.old.items ++ map shape_of types.now) }
 {
     for found in types {
-        push_shape(into, found)?;
+        let Ok(()) = push_shape(into, found) else {
+            return Err(NoMemory);
+        };
     }
     Ok(())
 }
@@ -62,18 +67,20 @@ fn push_method_types(into: &mut Vec<Shape>, method: &MethodText) -> Result<(), N
 fn push_method(alloc: Global, into: &mut Vec<Shape>, descriptor: &Units) -> Result<(), NoMemory>
     ensures { OnOk result (into.new.items ≡ into.old.items ++ map shape_of (types_of_method (method_text descriptor.now))) }
 {
-    match method_text(alloc, descriptor)? {
-        Some(found) => push_method_types(into, &found),
-        None => Ok(()),
+    match method_text(alloc, descriptor) {
+        Ok(Some(found)) => push_method_types(into, &found),
+        Ok(None) => Ok(()),
+        Err(fault) => Err(fault),
     }
 }
 
 fn push_field(alloc: Global, into: &mut Vec<Shape>, descriptor: &Units) -> Result<(), NoMemory>
     ensures { OnOk result (into.new.items ≡ into.old.items ++ map shape_of (types_of_field (field_text descriptor.now))) }
 {
-    match field_text(alloc, descriptor)? {
-        Some(found) => push_shape(into, &found),
-        None => Ok(()),
+    match field_text(alloc, descriptor) {
+        Ok(Some(found)) => push_shape(into, &found),
+        Ok(None) => Ok(()),
+        Err(fault) => Err(fault),
     }
 }
 
@@ -86,22 +93,32 @@ fn push_named(into: &mut Vec<Shape>, class: &Named) -> Result<(), NoMemory>
     }
 }
 
+// Appends an array of an element.
+fn push_array(into: &mut Vec<Shape>, base: BaseText) -> Result<(), NoMemory>
+    ensures { OnOk result (into.new.items ≡ into.old.items ++ record { is_array = true; base = base } ∷ []) }
+{
+    let is_array = true;
+    match into.push(Shape { is_array, base }) {
+        Ok(()) => Ok(()),
+        Err(_) => Err(NoMemory),
+    }
+}
+
 // Of an array of any dimensions one more is an array.
 fn push_element(into: &mut Vec<Shape>, class: &Named) -> Result<(), NoMemory>
     ensures { OnOk result (into.new.items ≡ into.old.items ++ map shape_of (element_types class.now)) }
 {
     match class {
-        Named::AClass(name) => into.push(Shape {
-            is_array: true,
-            base: BaseText::Class(name.clone()?),
-        })?,
-        Named::AnArray(found) => into.push(Shape {
-            is_array: true,
-            base: found.base.clone()?,
-        })?,
-        Named::Malformed(_) => {}
+        Named::AClass(name) => match name.clone() {
+            Ok(name) => push_array(into, BaseText::Class(name)),
+            Err(_) => Err(NoMemory),
+        },
+        Named::AnArray(found) => match found.base.clone() {
+            Ok(base) => push_array(into, base),
+            Err(_) => Err(NoMemory),
+        },
+        Named::Malformed(_) => Ok(()),
     }
-    Ok(())
 }
 
 fn push_types(alloc: Global, into: &mut Vec<Shape>, mention: &Mention) -> Result<(), NoMemory>
@@ -124,7 +141,9 @@ fn push_types_of_each(
     ensures { OnOk result (into.new.items ≡ into.old.items ++ flat_map (λ m. map shape_of (types_mentioned m)) mentions.now) }
 {
     for mention in mentions {
-        push_types(alloc, into, mention)?;
+        let Ok(()) = push_types(alloc, into, mention) else {
+            return Err(NoMemory);
+        };
     }
     Ok(())
 }
@@ -134,7 +153,9 @@ pub fn shapes(alloc: Global, mentions: &[Mention]) -> Result<Vec<Shape>, NoMemor
     ensures { IfOk result (λ shapes. shapes.items ≡ flat_map (λ m. map shape_of (types_mentioned m)) mentions.now) }
 {
     let mut shapes = Vec::new(alloc);
-    push_types_of_each(alloc, &mut shapes, mentions)?;
+    let Ok(()) = push_types_of_each(alloc, &mut shapes, mentions) else {
+        return Err(NoMemory);
+    };
     Ok(shapes)
 }
 
