@@ -116,7 +116,9 @@ pub fn no_roots(alloc: Global, count: usize) -> Result<Seq<Option<u32>>, NoMemor
 {
     let mut roots: Seq<Option<u32>> = Seq::new(alloc);
     for _ in 0..count {
-        roots.push(None)?;
+        let Ok(()) = roots.push(None) else {
+            return Err(NoMemory);
+        };
     }
     Ok(roots)
 }
@@ -149,8 +151,12 @@ pub fn make_tree(
     if root_of(roots.as_slice(), class).is_some() {
         return Ok(());
     }
-    let front = front_of(alloc, roots.as_slice(), ups, class)?;
-    let root = put_classes(nodes, front.base, entries, front.classes.as_slice())?;
+    let Ok(front) = front_of(alloc, roots.as_slice(), ups, class) else {
+        return Err(NoMemory);
+    };
+    let Ok(root) = put_classes(nodes, front.base, entries, front.classes.as_slice()) else {
+        return Err(NoMemory);
+    };
     set_root(roots, class, root);
     Ok(())
 }
@@ -168,9 +174,13 @@ pub fn make_trees(
     ensures sound { OnOk result (Sound ups.now entries.now nodes.new roots.new) }
     ensures kept { OnOk result (Keeps roots.old roots.new) }
 {
-    let order = superclasses_first(alloc, ups)?;
+    let Ok(order) = superclasses_first(alloc, ups) else {
+        return Err(NoMemory);
+    };
     for class in order.as_slice() {
-        make_tree(alloc, nodes, roots, ups, entries, *class)?;
+        let Ok(()) = make_tree(alloc, nodes, roots, ups, entries, *class) else {
+            return Err(NoMemory);
+        };
     }
     Ok(())
 }
@@ -192,7 +202,9 @@ pub fn make_all(
         let Ok(number) = u32::try_from(place) else {
             return Err(NoMemory);
         };
-        make_tree(alloc, nodes, roots, ups, entries, ClassId(number))?;
+        let Ok(()) = make_tree(alloc, nodes, roots, ups, entries, ClassId(number)) else {
+            return Err(NoMemory);
+        };
     }
     Ok(())
 }
@@ -211,7 +223,11 @@ pub fn make(
     ensures sound { OnOk result (Sound ups.now entries.now nodes.new roots.new) }
     ensures made { OnOk result (MadeBelow (length roots.old) roots.new) }
 {
-    add(nodes, Node::Empty)?;
-    make_trees(alloc, nodes, roots, ups, entries)?;
+    let Ok(_) = add(nodes, Node::Empty) else {
+        return Err(NoMemory);
+    };
+    let Ok(()) = make_trees(alloc, nodes, roots, ups, entries) else {
+        return Err(NoMemory);
+    };
     make_all(alloc, nodes, roots, ups, entries)
 }

@@ -22,9 +22,13 @@ pub fn entries_of(
 {
     let mut entries: Seq<Entry> = Seq::new(alloc);
     for one in said {
-        let key = numbers.add(&one.signature)?;
+        let Ok(key) = numbers.add(&one.signature) else {
+            return Err(NoMemory);
+        };
         let value = one.value;
-        entries.push(Entry { key, value })?;
+        let Ok(()) = entries.push(Entry { key, value }) else {
+            return Err(NoMemory);
+        };
     }
     Ok(entries)
 }
@@ -41,8 +45,12 @@ pub fn all_entries(
 {
     let mut entries: Seq<Seq<Entry>> = Seq::new(alloc);
     for one in said {
-        let of_one = entries_of(alloc, numbers, one.as_slice())?;
-        entries.push(of_one)?;
+        let Ok(of_one) = entries_of(alloc, numbers, one.as_slice()) else {
+            return Err(NoMemory);
+        };
+        let Ok(()) = entries.push(of_one) else {
+            return Err(NoMemory);
+        };
     }
     Ok(entries)
 }

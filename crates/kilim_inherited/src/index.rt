@@ -42,8 +42,12 @@ impl Index {
             Some(places) => places,
             None => Vec::new(alloc),
         };
-        places.push(place)?;
-        self.places.insert(signature, places)?;
+        let Ok(()) = places.push(place) else {
+            return Err(NoMemory);
+        };
+        let Ok(_) = self.places.insert(signature, places) else {
+            return Err(NoMemory);
+        };
         Ok(())
     }
 }

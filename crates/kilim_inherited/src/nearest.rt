@@ -28,8 +28,12 @@ impl Nearest {
         ensures { IfOk result (λ it. Tells it ups.now said.now) }
     {
         let mut numbers = Numbers::new(alloc);
-        let entries = all_entries(alloc, &mut numbers, said)?;
-        let inherited = Inherited::new(alloc, ups, entries.as_slice())?;
+        let Ok(entries) = all_entries(alloc, &mut numbers, said) else {
+            return Err(NoMemory);
+        };
+        let Ok(inherited) = Inherited::new(alloc, ups, entries.as_slice()) else {
+            return Err(NoMemory);
+        };
         Ok(Nearest { numbers, inherited })
     }
 

@@ -50,7 +50,12 @@ impl Numbers {
         if number == u32::MAX {
             return Err(NoMemory);
         }
-        self.places.insert(signature.copied()?, number)?;
+        let Ok(copy) = signature.copied() else {
+            return Err(NoMemory);
+        };
+        let Ok(_) = self.places.insert(copy, number) else {
+            return Err(NoMemory);
+        };
         self.next = number + 1;
         Ok(number)
     }

@@ -41,7 +41,9 @@ fn push_unseen(
         if !is_new(seen, at) {
             return Ok(());
         }
-        line.push(at)?;
+        let Ok(()) = line.push(at) else {
+            return Err(NoMemory);
+        };
         let Some(up) = superclass_in(ups, at) else {
             return Ok(());
         };
@@ -54,7 +56,9 @@ fn add_back(order: &mut Seq<ClassId>, line: &[ClassId]) -> Result<(), NoMemory> 
     let mut left = line.len();
     while left > 0 {
         left -= 1;
-        order.push(line[left])?;
+        let Ok(()) = order.push(line[left]) else {
+            return Err(NoMemory);
+        };
     }
     Ok(())
 }
@@ -68,7 +72,9 @@ fn push_line(
     order: &mut Seq<ClassId>,
 ) -> Result<(), NoMemory> {
     let mut line = Seq::new(alloc);
-    push_unseen(ups, class, seen, &mut line)?;
+    let Ok(()) = push_unseen(ups, class, seen, &mut line) else {
+        return Err(NoMemory);
+    };
     add_back(order, line.as_slice())
 }
 
@@ -82,7 +88,9 @@ fn push_lines(
         let Ok(number) = u32::try_from(place) else {
             return Ok(());
         };
-        push_line(alloc, ups, ClassId(number), seen, order)?;
+        let Ok(()) = push_line(alloc, ups, ClassId(number), seen, order) else {
+            return Err(NoMemory);
+        };
     }
     Ok(())
 }

@@ -78,9 +78,12 @@ impl Signature {
     pub fn copied(&self) -> Result<Signature, NoMemory>
         ensures { IfOk result (λ copy. copy ≡ self.now) }
     {
-        Ok(Signature {
-            name: self.name.clone()?,
-            descriptor: self.descriptor.clone()?,
-        })
+        let Ok(name) = self.name.clone() else {
+            return Err(NoMemory);
+        };
+        let Ok(descriptor) = self.descriptor.clone() else {
+            return Err(NoMemory);
+        };
+        Ok(Signature { name, descriptor })
     }
 }

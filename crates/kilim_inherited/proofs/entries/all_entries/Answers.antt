@@ -13,9 +13,9 @@ loop-one-preserved c =
     let said = c.args.said.now in
     let i = c.loop-one.one-index in
     let lt : i < length said = omega (arith, c.loop-one-test.true) in
-    let so_far = all_kept before after c.in_ok-of_one.ensures.kept (take i said) c.loop-one.entries c.loop-one.invariant.1 in
-    let one : Keyed after c.one-item.result c.in_ok-of_one.of_one = subst (λ (ss : List Said). Keyed after ss c.in_ok-of_one.of_one) c.as_slice.ensures c.in_ok-of_one.ensures.keyed in
-    let next = all_next after said i c.one-item.result c.loop-one.entries c.in_ok-of_one.of_one lt c.one-item.is so_far one in (
-      c.in_ok-of_one.ensures.numbered,
-      subst (λ (ess : List (List Entry)). AllKeyed after (take (i + 1) said) ess) (sym c.in_ok-push.ensures.ok) next,
+    let so_far = all_kept before after c.in-Ok.ensures.kept (take i said) c.loop-one.entries c.loop-one.invariant.1 in
+    let one : Keyed after c.one-item.result c.in-Ok.of_one = subst (λ (ss : List Said). Keyed after ss c.in-Ok.of_one) c.as_slice.ensures c.in-Ok.ensures.keyed in
+    let next = all_next after said i c.one-item.result c.loop-one.entries c.in-Ok.of_one lt c.one-item.is so_far one in (
+      c.in-Ok.ensures.numbered,
+      subst (λ (ess : List (List Entry)). AllKeyed after (take (i + 1) said) ess) (sym c.in-Ok-push.ensures.ok) next,
     )

@@ -11,13 +11,13 @@ loop-one-preserved c =
     let after = number_at c.add.new.self.places in
     let said = c.args.said.now in
     let i = c.loop-one.one-index in
-    let kept = c.in_ok-key.ensures.kept in
+    let kept = c.in-Ok.ensures.kept in
     let lt : i < length said = omega (arith, c.loop-one-test.true) in
     let so_far = keyed_kept before after kept (take i said) c.loop-one.entries c.loop-one.invariant.1.1 in
-    let next = keyed_next after said i c.one-item.result c.loop-one.entries (record { key = c.in_ok-key.key; value = c.one-item.result.value }) lt c.one-item.is so_far c.in_ok-key.ensures.here refl in (
-      c.in_ok-key.ensures.numbered,
+    let next = keyed_next after said i c.one-item.result c.loop-one.entries (record { key = c.in-Ok.key; value = c.one-item.result.value }) lt c.one-item.is so_far c.in-Ok.ensures.here refl in (
+      c.in-Ok.ensures.numbered,
       (
         λ name descriptor k is. kept name descriptor k (c.loop-one.invariant.1.0 name descriptor k is),
-        subst (λ (es : List Entry). Keyed after (take (i + 1) said) es) (sym c.in_ok-push.ensures.ok) next,
+        subst (λ (es : List Entry). Keyed after (take (i + 1) said) es) (sym c.in-Ok-push.ensures.ok) next,
       ),
     )

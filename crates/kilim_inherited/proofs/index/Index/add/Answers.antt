@@ -14,5 +14,5 @@ returns c = λ name descriptor.
           rw same (grind (arith, common_steps, key))
       | inr apart ↦
           let other : is_eq (signature_cmp c.args.signature (record { name = name; descriptor = descriptor })) ≡ false = same_is c.args.signature (record { name = name; descriptor = descriptor }) ∙ apart in
-          rw apart (ap items_of (c.in_ok-insert.ensures.updates.2 (record { name = name; descriptor = descriptor }) other ∙ c.remove.ensures.updates.2 (record { name = name; descriptor = descriptor }) other))
+          rw apart (ap items_of (c.in-Ok-insert.ensures.updates.2 (record { name = name; descriptor = descriptor }) other ∙ c.remove.ensures.updates.2 (record { name = name; descriptor = descriptor }) other))
     ]

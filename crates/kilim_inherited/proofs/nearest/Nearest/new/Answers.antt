@@ -10,7 +10,7 @@ use Rattle.kilim_inherited.proofs.nearest.Nearest.new.Goals as goal
 
 pub new-requires : goal.new-requires
 new-requires c =
-    let same = keyed_length (number_at c.all_entries.new.numbers.places) c.args.said.now c.in_ok-entries.entries c.in_ok-entries.ensures.keyed in
+    let same = keyed_length (number_at c.all_entries.new.numbers.places) c.args.said.now c.in-Ok.entries c.in-Ok.ensures.keyed in
     let listed = ap (λ (ess : List (List Entry)). length ess) c.as_slice.ensures in
     let few = c.requires in
     omega arith
@@ -18,17 +18,17 @@ new-requires c =
 pub returns : goal.returns
 returns c =
     let numbers = c.all_entries.new.numbers in
-    let it = c.in_ok-inherited.inherited in
+    let it = c.in-Ok-new.inherited in
     let ups = c.args.ups.now in
-    let ess = c.in_ok-entries.entries in
-    let numbered = c.in_ok-entries.ensures.numbered in
-    let right = subst (λ (es : List (List Entry)). IsRight ups es it) c.as_slice.ensures c.in_ok-inherited.ensures in
+    let ess = c.in-Ok.entries in
+    let numbered = c.in-Ok.ensures.numbered in
+    let right = subst (λ (es : List (List Entry)). IsRight ups es it) c.as_slice.ensures c.in-Ok-new.ensures in
     record {
       nearest_is = λ d name descriptor.
-          nearest_told (number_at numbers.places) (inherits it) c.args.said.now ess ups numbered.apart c.in_ok-entries.ensures.keyed name descriptor d
+          nearest_told (number_at numbers.places) (inherits it) c.args.said.now ess ups numbered.apart c.in-Ok.ensures.keyed name descriptor d
           (right.inherited_is d);
       by_one = λ d name descriptor.
-          one_told (number_at numbers.places) (inherits it) c.args.said.now ess ups numbered.apart c.in_ok-entries.ensures.keyed name descriptor d
+          one_told (number_at numbers.places) (inherits it) c.args.said.now ess ups numbered.apart c.in-Ok.ensures.keyed name descriptor d
           (right.by_one d);
-      named = λ d k is. in_line (number_at numbers.places) k c.args.said.now ess c.in_ok-entries.ensures.keyed (line_in ups d) (sym (ap is_some (right.inherited_is d k)) ∙ is);
+      named = λ d k is. in_line (number_at numbers.places) k c.args.said.now ess c.in-Ok.ensures.keyed (line_in ups d) (sym (ap is_some (right.inherited_is d k)) ∙ is);
     }

@@ -7,25 +7,25 @@ use Rattle.kilim_inherited.proofs.numbers.Numbers.add.Goals as goal
 
 pub returns-clause-kept : goal.returns-clause-kept
 returns-clause-kept c =
-    let s = c.in_ok-copied.field-0 in
-    let none : number_at c.args.self.now.places s.name s.descriptor ≡ None = ap (λ (q : Signature). number_at c.args.self.now.places q.name q.descriptor) c.in_ok-copied.ensures ∙ sym c.in_default.ensures in
-    let here : number_at c.insert.new.self s.name s.descriptor ≡ Some c.args.self.now.next = c.in_ok-insert.ensures.updates.1 in
+    let s = c.in-Ok.copy in
+    let none : number_at c.args.self.now.places s.name s.descriptor ≡ None = ap (λ (q : Signature). number_at c.args.self.now.places q.name q.descriptor) c.in-Ok.ensures ∙ sym c.in_default.ensures in
+    let here : number_at c.insert.new.self s.name s.descriptor ≡ Some c.args.self.now.next = c.in-Ok-insert.ensures.updates.1 in
     kept (number_at c.args.self.now.places) (number_at c.insert.new.self) s c.args.self.now.next none here
-    (λ name descriptor apart. c.in_ok-insert.ensures.updates.2 (record { name = name; descriptor = descriptor }) (same_is s (record { name = name; descriptor = descriptor }) ∙ apart))
+    (λ name descriptor apart. c.in-Ok-insert.ensures.updates.2 (record { name = name; descriptor = descriptor }) (same_is s (record { name = name; descriptor = descriptor }) ∙ apart))
 
 pub returns-clause-numbered : goal.returns-clause-numbered
 returns-clause-numbered c =
-    let s = c.in_ok-copied.field-0 in
-    let none : number_at c.args.self.now.places s.name s.descriptor ≡ None = ap (λ (q : Signature). number_at c.args.self.now.places q.name q.descriptor) c.in_ok-copied.ensures ∙ sym c.in_default.ensures in
-    let here : number_at c.insert.new.self s.name s.descriptor ≡ Some c.args.self.now.next = c.in_ok-insert.ensures.updates.1 in
+    let s = c.in-Ok.copy in
+    let none : number_at c.args.self.now.places s.name s.descriptor ≡ None = ap (λ (q : Signature). number_at c.args.self.now.places q.name q.descriptor) c.in-Ok.ensures ∙ sym c.in_default.ensures in
+    let here : number_at c.insert.new.self s.name s.descriptor ≡ Some c.args.self.now.next = c.in-Ok-insert.ensures.updates.1 in
     record {
       apart =
           all_apart (number_at c.args.self.now.places) (number_at c.insert.new.self) s c.args.self.now.next none here
-          (λ name descriptor apart. c.in_ok-insert.ensures.updates.2 (record { name = name; descriptor = descriptor }) (same_is s (record { name = name; descriptor = descriptor }) ∙ apart))
+          (λ name descriptor apart. c.in-Ok-insert.ensures.updates.2 (record { name = name; descriptor = descriptor }) (same_is s (record { name = name; descriptor = descriptor }) ∙ apart))
           c.requires.below c.requires.apart;
       below =
           all_below (number_at c.args.self.now.places) (number_at c.insert.new.self) s c.args.self.now.next none here
-          (λ name descriptor apart. c.in_ok-insert.ensures.updates.2 (record { name = name; descriptor = descriptor }) (same_is s (record { name = name; descriptor = descriptor }) ∙ apart))
+          (λ name descriptor apart. c.in-Ok-insert.ensures.updates.2 (record { name = name; descriptor = descriptor }) (same_is s (record { name = name; descriptor = descriptor }) ∙ apart))
           c.requires.below;
       fits = omega arith;
     }
