@@ -85,16 +85,22 @@ pub enum Op {
 fn push_bytes(code: &mut Vec<u8>, bytes: &[u8]) -> Result<(), NoMemory>
     ensures { OnOk result (code.new.items ≡ code.old.items ++ bytes.now) }
 {
-    code.extend_from_slice(bytes)?;
-    Ok(())
+    match code.extend_from_slice(bytes) {
+        Ok(()) => Ok(()),
+        Err(_) => Err(NoMemory),
+    }
 }
 
 fn push_pair(code: &mut Vec<u8>, number: u8, n: u16) -> Result<(), NoMemory>
     ensures { OnOk result (code.new.items ≡ code.old.items ++ bytes_of (Pair number n)) }
 {
-    code.push(number)?;
-    push_u16(code, n)?;
-    Ok(())
+    let Ok(()) = code.push(number) else {
+        return Err(NoMemory);
+    };
+    match push_u16(code, n) {
+        Ok(()) => Ok(()),
+        Err(_) => Err(NoMemory),
+    }
 }
 
 fn push_op(code: &mut Vec<u8>, op: Op) -> Result<(), NoMemory>
@@ -113,7 +119,9 @@ pub fn push_code(code: &mut Vec<u8>, ops: &[Op]) -> Result<(), NoMemory>
     ensures { OnOk result (code.new.items ≡ code.old.items ++ code_of ops.now) }
 {
     for op in ops {
-        push_op(code, *op)?;
+        let Ok(()) = push_op(code, *op) else {
+            return Err(NoMemory);
+        };
     }
     Ok(())
 }
@@ -123,6 +131,8 @@ pub fn code_of(alloc: Global, ops: &[Op]) -> Result<Vec<u8>, NoMemory>
     ensures { IfOk result (λ code. code.items ≡ code_of ops.now) }
 {
     let mut code = Vec::new(alloc);
-    push_code(&mut code, ops)?;
+    let Ok(()) = push_code(&mut code, ops) else {
+        return Err(NoMemory);
+    };
     Ok(code)
 }

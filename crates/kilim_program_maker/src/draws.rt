@@ -77,7 +77,9 @@ fn draw_stages(alloc: Global, count: u32, generator: &mut Pcg32) -> Result<Seq<S
 {
     let mut stages = Seq::new(alloc);
     for _ in 0..count {
-        stages.push(draw_stage(generator))?;
+        let Ok(()) = stages.push(draw_stage(generator)) else {
+            return Err(NoMemory);
+        };
     }
     Ok(stages)
 }

@@ -16,8 +16,10 @@ use std::alloc::Global;
 fn push_file(files: &mut Vec<ClassFile>, file: ClassFile) -> Result<(), NoMemory>
     ensures { OnOk result (files.new.items ≡ files.old.items ++ file ∷ []) }
 {
-    files.push(file)?;
-    Ok(())
+    match files.push(file) {
+        Ok(()) => Ok(()),
+        Err(_) => Err(NoMemory),
+    }
 }
 
 fn push_stages(
@@ -30,8 +32,12 @@ fn push_stages(
     ensures { OnOk result (files.new.items ≡ files.old.items ++ stage_files 1 messages stages.now) }
 {
     for (index, stage) in stages.iter().enumerate() {
-        let file = stage_file(alloc, index as u16 + 1, messages, *stage)?;
-        push_file(files, file)?;
+        let Ok(file) = stage_file(alloc, index as u16 + 1, messages, *stage) else {
+            return Err(NoMemory);
+        };
+        let Ok(()) = push_file(files, file) else {
+            return Err(NoMemory);
+        };
     }
     Ok(())
 }
@@ -56,8 +62,12 @@ fn push_planned(alloc: Global, files: &mut Vec<ClassFile>, plan: &Plan) -> Resul
     requires { length plan.now.stages ≤ 15 }
     ensures { OnOk result (files.new.items ≡ files.old.items ++ planned_files plan.now) }
 {
-    push_node(alloc, files)?;
-    push_stages(alloc, files, plan.messages, plan.stages.as_slice())?;
+    let Ok(()) = push_node(alloc, files) else {
+        return Err(NoMemory);
+    };
+    let Ok(()) = push_stages(alloc, files, plan.messages, plan.stages.as_slice()) else {
+        return Err(NoMemory);
+    };
     push_main(alloc, files, plan)
 }
 
@@ -66,7 +76,9 @@ fn planned_files(alloc: Global, plan: &Plan) -> Result<Vec<ClassFile>, NoMemory>
     ensures { IfOk result (λ files. files.items ≡ planned_files plan.now) }
 {
     let mut files = Vec::new(alloc);
-    push_planned(alloc, &mut files, plan)?;
+    let Ok(()) = push_planned(alloc, &mut files, plan) else {
+        return Err(NoMemory);
+    };
     Ok(files)
 }
 

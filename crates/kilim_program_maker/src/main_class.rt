@@ -124,7 +124,9 @@ fn add_stages(alloc: Global, pool: &mut Pool, stages: u16) -> Result<(), NoMemor
     ensures { OnOk result (pool.new ≡ pool.old ++ stage_entries_from 1 stages) }
 {
     for k in 0..stages {
-        add_stage(alloc, pool, k + 1)?;
+        let Ok(()) = add_stage(alloc, pool, k + 1) else {
+            return Err(NoMemory);
+        };
     }
     Ok(())
 }
@@ -178,7 +180,9 @@ fn push_boxes(code: &mut Vec<u8>, count: u8) -> Result<(), NoMemory>
     ensures { OnOk result (code.new.items ≡ code.old.items ++ boxes_from 0 count) }
 {
     for k in 0..count {
-        push_box(code, k)?;
+        let Ok(()) = push_box(code, k) else {
+            return Err(NoMemory);
+        };
     }
     Ok(())
 }
@@ -205,7 +209,9 @@ fn push_starts(code: &mut Vec<u8>, count: u8) -> Result<(), NoMemory>
     ensures { OnOk result (code.new.items ≡ code.old.items ++ starts_from 0 count) }
 {
     for k in 0..count {
-        push_start(code, k)?;
+        let Ok(()) = push_start(code, k) else {
+            return Err(NoMemory);
+        };
     }
     Ok(())
 }
@@ -288,10 +294,18 @@ fn push_main_code(code: &mut Vec<u8>, stages: u8, messages: u16) -> Result<(), N
     requires { stages ≤ 15 }
     ensures { OnOk result (code.new.items ≡ code.old.items ++ main_code stages messages) }
 {
-    push_beginning(code)?;
-    push_boxes(code, stages + 1)?;
-    push_starts(code, stages)?;
-    push_putting(code, messages)?;
+    let Ok(()) = push_beginning(code) else {
+        return Err(NoMemory);
+    };
+    let Ok(()) = push_boxes(code, stages + 1) else {
+        return Err(NoMemory);
+    };
+    let Ok(()) = push_starts(code, stages) else {
+        return Err(NoMemory);
+    };
+    let Ok(()) = push_putting(code, messages) else {
+        return Err(NoMemory);
+    };
     push_printing(code, stages, messages)
 }
 
@@ -300,7 +314,9 @@ fn main_code(alloc: Global, stages: u8, messages: u16) -> Result<Vec<u8>, NoMemo
     ensures { IfOk result (λ code. code.items ≡ main_code stages messages) }
 {
     let mut code = Vec::new(alloc);
-    push_main_code(&mut code, stages, messages)?;
+    let Ok(()) = push_main_code(&mut code, stages, messages) else {
+        return Err(NoMemory);
+    };
     Ok(code)
 }
 
@@ -308,7 +324,9 @@ fn push_box_types(types: &mut Seq<VerificationType>, count: u8) -> Result<(), No
     ensures { OnOk result (types.new ≡ types.old ++ box_types count) }
 {
     for _ in 0..count {
-        types.push(VerificationType::Object(16))?;
+        let Ok(()) = types.push(VerificationType::Object(16)) else {
+            return Err(NoMemory);
+        };
     }
     Ok(())
 }
@@ -318,8 +336,13 @@ fn locals(alloc: Global, stages: u8) -> Result<Seq<VerificationType>, NoMemory>
     requires { stages ≤ 15 }
     ensures { IfOk result (λ locals. locals ≡ Object 2 ∷ Integer ∷ Object 27 ∷ Integer ∷ box_types (stages + 1)) }
 {
-    let mut locals = Seq::from_vec(Vec::from_slice(alloc, LOCALS)?);
-    push_box_types(&mut locals, stages + 1)?;
+    let Ok(first) = Vec::from_slice(alloc, LOCALS) else {
+        return Err(NoMemory);
+    };
+    let mut locals = Seq::from_vec(first);
+    let Ok(()) = push_box_types(&mut locals, stages + 1) else {
+        return Err(NoMemory);
+    };
     Ok(locals)
 }
 
@@ -328,9 +351,13 @@ fn push_first(alloc: Global, frames: &mut Seq<Frame>, stages: u8) -> Result<(), 
     ensures { OnOk result (frames.new ≡ frames.old ++ Full (putting_place stages) (Object 2 ∷ Integer ∷ Object 27 ∷ Integer ∷ box_types (stages + 1)) [] ∷ []) }
 {
     let place = 15 + 23 * u16::from(stages);
-    let locals = locals(alloc, stages)?;
-    frames.push(Frame::Full(place, locals, Seq::new(alloc)))?;
-    Ok(())
+    let Ok(locals) = locals(alloc, stages) else {
+        return Err(NoMemory);
+    };
+    match frames.push(Frame::Full(place, locals, Seq::new(alloc))) {
+        Ok(()) => Ok(()),
+        Err(_) => Err(NoMemory),
+    }
 }
 
 // Frames with the same locals, by their distances.
@@ -338,7 +365,9 @@ fn push_same(frames: &mut Seq<Frame>, deltas: &[u8]) -> Result<(), NoMemory>
     ensures { OnOk result (frames.new ≡ frames.old ++ map Same deltas.now) }
 {
     for delta in deltas {
-        frames.push(Frame::Same(*delta))?;
+        let Ok(()) = frames.push(Frame::Same(*delta)) else {
+            return Err(NoMemory);
+        };
     }
     Ok(())
 }
@@ -358,7 +387,9 @@ fn inside(alloc: Global, stages: u8) -> Result<Seq<CodeAttribute>, NoMemory>
     ensures { IfOk result (λ inside. inside ≡ frames_attribute 14 (main_frames stages) ∷ []) }
 {
     let mut frames = Seq::new(alloc);
-    push_frames(alloc, &mut frames, stages)?;
+    let Ok(()) = push_frames(alloc, &mut frames, stages) else {
+        return Err(NoMemory);
+    };
     frames_inside(alloc, 14, frames)
 }
 
@@ -369,9 +400,13 @@ fn push_constructor(alloc: Global, methods: &mut Seq<MemberInfo>) -> Result<(), 
         stack: 1,
         locals: 1,
     };
-    let code = constructor_code(alloc)?;
+    let Ok(code) = constructor_code(alloc) else {
+        return Err(NoMemory);
+    };
     let mut attributes = Seq::new(alloc);
-    push_code_attribute(alloc, &mut attributes, 9, sizes, code, Seq::new(alloc))?;
+    let Ok(()) = push_code_attribute(alloc, &mut attributes, 9, sizes, code, Seq::new(alloc)) else {
+        return Err(NoMemory);
+    };
     push_method(methods, 0, 5, 6, attributes)
 }
 
@@ -388,8 +423,12 @@ fn push_execute_code(
         stack: 4,
         locals: 5 + u16::from(stages),
     };
-    let code = main_code(alloc, stages, messages)?;
-    let inside = inside(alloc, stages)?;
+    let Ok(code) = main_code(alloc, stages, messages) else {
+        return Err(NoMemory);
+    };
+    let Ok(inside) = inside(alloc, stages) else {
+        return Err(NoMemory);
+    };
     push_code_attribute(alloc, attributes, 9, sizes, code, inside)
 }
 
@@ -403,8 +442,12 @@ fn push_execute(
     ensures { OnOk result (methods.new ≡ methods.old ++ method public_flag 10 6 (code_attribute 9 4 (5 + stages) (main_code stages messages) (frames_attribute 14 (main_frames stages) ∷ []) ∷ exceptions_attribute 11 13 ∷ []) ∷ []) }
 {
     let mut attributes = Seq::new(alloc);
-    push_execute_code(alloc, &mut attributes, stages, messages)?;
-    push_exceptions(alloc, &mut attributes, 11, 13)?;
+    let Ok(()) = push_execute_code(alloc, &mut attributes, stages, messages) else {
+        return Err(NoMemory);
+    };
+    let Ok(()) = push_exceptions(alloc, &mut attributes, 11, 13) else {
+        return Err(NoMemory);
+    };
     push_method(methods, PUBLIC, 10, 6, attributes)
 }
 
@@ -414,8 +457,12 @@ fn fill(alloc: Global, file: &mut ClassFile, stages: u8, messages: u16) -> Resul
     requires empty { file.old ≡ class_file [] [] [] [] }
     ensures { OnOk result (file.new ≡ main_file stages messages) }
 {
-    add_entries(alloc, &mut file.constant_pool, u16::from(stages))?;
-    push_constructor(alloc, &mut file.methods)?;
+    let Ok(()) = add_entries(alloc, &mut file.constant_pool, u16::from(stages)) else {
+        return Err(NoMemory);
+    };
+    let Ok(()) = push_constructor(alloc, &mut file.methods) else {
+        return Err(NoMemory);
+    };
     push_execute(alloc, &mut file.methods, stages, messages)
 }
 

@@ -76,12 +76,17 @@ fn push_free_second(alloc: Global, attributes: &mut Seq<Attribute>) -> Result<()
         AnnotationPart::Annotations(1),
         AnnotationPart::Annotation(22, 0),
     ];
-    let parts = Vec::from_slice(alloc, &parts)?;
-    attributes.push(Attribute {
+    let Ok(parts) = Vec::from_slice(alloc, &parts) else {
+        return Err(NoMemory);
+    };
+    let attribute = Attribute {
         attribute_name_index: 21,
         info: Info::RuntimeVisibleParameterAnnotations(Seq::from_vec(parts)),
-    })?;
-    Ok(())
+    };
+    match attributes.push(attribute) {
+        Ok(()) => Ok(()),
+        Err(_) => Err(NoMemory),
+    }
 }
 
 fn push_attributes(alloc: Global, attributes: &mut Seq<Attribute>) -> Result<(), NoMemory>
@@ -91,8 +96,12 @@ fn push_attributes(alloc: Global, attributes: &mut Seq<Attribute>) -> Result<(),
         stack: 2,
         locals: 3,
     };
-    let code = node_code(alloc)?;
-    push_code_attribute(alloc, attributes, 20, sizes, code, Seq::new(alloc))?;
+    let Ok(code) = node_code(alloc) else {
+        return Err(NoMemory);
+    };
+    let Ok(()) = push_code_attribute(alloc, attributes, 20, sizes, code, Seq::new(alloc)) else {
+        return Err(NoMemory);
+    };
     push_free_second(alloc, attributes)
 }
 
@@ -100,7 +109,9 @@ fn push_constructor(alloc: Global, methods: &mut Seq<MemberInfo>) -> Result<(), 
     ensures { OnOk result (methods.new ≡ methods.old ++ method 0 11 12 (code_attribute 20 2 3 node_code [] ∷ free_second ∷ []) ∷ []) }
 {
     let mut attributes = Seq::new(alloc);
-    push_attributes(alloc, &mut attributes)?;
+    let Ok(()) = push_attributes(alloc, &mut attributes) else {
+        return Err(NoMemory);
+    };
     push_method(methods, 0, 11, 12, attributes)
 }
 
@@ -109,10 +120,18 @@ fn fill(alloc: Global, file: &mut ClassFile) -> Result<(), NoMemory>
     requires { file.old ≡ class_file [] [] [] [] }
     ensures { OnOk result (file.new ≡ node_file) }
 {
-    add_entries(alloc, &mut file.constant_pool)?;
-    file.interfaces.push(6)?;
-    push_field(alloc, &mut file.fields, 7, 8)?;
-    push_field(alloc, &mut file.fields, 9, 10)?;
+    let Ok(()) = add_entries(alloc, &mut file.constant_pool) else {
+        return Err(NoMemory);
+    };
+    let Ok(()) = file.interfaces.push(6) else {
+        return Err(NoMemory);
+    };
+    let Ok(()) = push_field(alloc, &mut file.fields, 7, 8) else {
+        return Err(NoMemory);
+    };
+    let Ok(()) = push_field(alloc, &mut file.fields, 9, 10) else {
+        return Err(NoMemory);
+    };
     push_constructor(alloc, &mut file.methods)
 }
 

@@ -110,12 +110,17 @@ pub fn push_exceptions(
 ) -> Result<(), NoMemory>
     ensures { OnOk result (attributes.new ≡ attributes.old ++ exceptions_attribute name class ∷ []) }
 {
-    let classes = one(alloc, class)?;
-    attributes.push(Attribute {
+    let Ok(classes) = one(alloc, class) else {
+        return Err(NoMemory);
+    };
+    let attribute = Attribute {
         attribute_name_index: name,
         info: Info::Exceptions(classes),
-    })?;
-    Ok(())
+    };
+    match attributes.push(attribute) {
+        Ok(()) => Ok(()),
+        Err(_) => Err(NoMemory),
+    }
 }
 
 /// A class file without entries and members, which names its own class by the index 2 and the superclass by 4.
@@ -141,6 +146,8 @@ pub fn one<T: Drop>(alloc: Global, first: T) -> Result<Seq<T>, NoMemory>
     ensures { IfOk result (λ xs. xs ≡ first ∷ []) }
 {
     let mut items = Seq::new(alloc);
-    items.push(first)?;
+    let Ok(()) = items.push(first) else {
+        return Err(NoMemory);
+    };
     Ok(items)
 }

@@ -23,7 +23,9 @@ fn push_ascii(units: &mut Vec<u16>, ascii: &[u8]) -> Result<(), NoMemory>
     ensures { OnOk result (units.new.items ≡ units.old.items ++ ascii.now) }
 {
     for byte in ascii {
-        units.push(u16::from(*byte))?;
+        let Ok(()) = units.push(u16::from(*byte)) else {
+            return Err(NoMemory);
+        };
     }
     Ok(())
 }
@@ -33,8 +35,13 @@ fn units(alloc: Global, ascii: &[u8]) -> Result<Units, NoMemory>
     ensures { IfOk result (λ text. text ≡ ascii.now) }
 {
     let mut units = Vec::new(alloc);
-    push_ascii(&mut units, ascii)?;
-    Ok(Units::from_vec(alloc, units)?)
+    let Ok(()) = push_ascii(&mut units, ascii) else {
+        return Err(NoMemory);
+    };
+    match Units::from_vec(alloc, units) {
+        Ok(text) => Ok(text),
+        Err(_) => Err(NoMemory),
+    }
 }
 
 fn text_of(alloc: Global, ascii: &[u8]) -> Result<Entry, NoMemory>
@@ -86,7 +93,9 @@ pub fn add_all(alloc: Global, pool: &mut Pool, constants: &[Constant<'_>]) -> Re
     ensures { OnOk result (pool.new ≡ pool.old ++ map entry_of constants.now) }
 {
     for constant in constants {
-        add_constant(alloc, pool, constant)?;
+        let Ok(()) = add_constant(alloc, pool, constant) else {
+            return Err(NoMemory);
+        };
     }
     Ok(())
 }

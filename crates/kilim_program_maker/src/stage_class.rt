@@ -111,7 +111,10 @@ const NEXT_NODE: &[Op] = &[
 fn stage_name(alloc: Global, k: u16) -> Result<String, NoMemory>
     ensures { IfOk result (λ name. string_bytes name ≡ stage_name k) }
 {
-    Ok(format!(in alloc; "D/S{k}")?)
+    match format!(in alloc; "D/S{k}") {
+        Ok(name) => Ok(name),
+        Err(_) => Err(NoMemory),
+    }
 }
 
 /// Adds the name of the class of a stage behind other entries.
@@ -256,8 +259,12 @@ fn push_stage_code(code: &mut Vec<u8>, messages: u16, stage: Stage) -> Result<()
     ensures { OnOk result (code.new.items ≡ code.old.items ++ stage_code messages stage) }
 {
     let long = operation_length(stage);
-    push_taking(code, messages, long)?;
-    push_operation(code, stage)?;
+    let Ok(()) = push_taking(code, messages, long) else {
+        return Err(NoMemory);
+    };
+    let Ok(()) = push_operation(code, stage) else {
+        return Err(NoMemory);
+    };
     push_giving(code, long)
 }
 
@@ -265,7 +272,9 @@ fn stage_code(alloc: Global, messages: u16, stage: Stage) -> Result<Vec<u8>, NoM
     ensures { IfOk result (λ code. code.items ≡ stage_code messages stage) }
 {
     let mut code = Vec::new(alloc);
-    push_stage_code(&mut code, messages, stage)?;
+    let Ok(()) = push_stage_code(&mut code, messages, stage) else {
+        return Err(NoMemory);
+    };
     Ok(code)
 }
 
@@ -277,9 +286,13 @@ fn push_append(
 ) -> Result<(), NoMemory>
     ensures { OnOk result (frames.new ≡ frames.old ++ Append delta (local ∷ []) ∷ []) }
 {
-    let locals = one(alloc, local)?;
-    frames.push(Frame::Append(delta, locals))?;
-    Ok(())
+    let Ok(locals) = one(alloc, local) else {
+        return Err(NoMemory);
+    };
+    match frames.push(Frame::Append(delta, locals)) {
+        Ok(()) => Ok(()),
+        Err(_) => Err(NoMemory),
+    }
 }
 
 #[tactic(auto, unfolding(crate::specs::Stage::stage_frames))]
@@ -287,10 +300,16 @@ fn push_frames(alloc: Global, frames: &mut Seq<Frame>, long: u16) -> Result<(), 
     requires { long ≤ 16 }
     ensures { OnOk result (frames.new ≡ frames.old ++ stage_frames long) }
 {
-    push_append(alloc, frames, 2, VerificationType::Integer)?;
-    push_append(alloc, frames, 17 + long, VerificationType::Object(34))?;
-    frames.push(Frame::Chop(1, 13))?;
-    Ok(())
+    let Ok(()) = push_append(alloc, frames, 2, VerificationType::Integer) else {
+        return Err(NoMemory);
+    };
+    let Ok(()) = push_append(alloc, frames, 17 + long, VerificationType::Object(34)) else {
+        return Err(NoMemory);
+    };
+    match frames.push(Frame::Chop(1, 13)) {
+        Ok(()) => Ok(()),
+        Err(_) => Err(NoMemory),
+    }
 }
 
 // The frames of the code of a stage, whose operation has so many bytes.
@@ -299,7 +318,9 @@ fn inside(alloc: Global, long: u16) -> Result<Seq<CodeAttribute>, NoMemory>
     ensures { IfOk result (λ inside. inside ≡ frames_attribute 22 (stage_frames long) ∷ []) }
 {
     let mut frames = Seq::new(alloc);
-    push_frames(alloc, &mut frames, long)?;
+    let Ok(()) = push_frames(alloc, &mut frames, long) else {
+        return Err(NoMemory);
+    };
     frames_inside(alloc, 22, frames)
 }
 
@@ -310,9 +331,14 @@ fn push_constructor(alloc: Global, methods: &mut Seq<MemberInfo>) -> Result<(), 
         stack: 2,
         locals: 3,
     };
-    let code = constructor_code(alloc)?;
+    let Ok(code) = constructor_code(alloc) else {
+        return Err(NoMemory);
+    };
     let mut attributes = Seq::new(alloc);
-    push_code_attribute(alloc, &mut attributes, 18, sizes, code, Seq::new(alloc))?;
+    let Ok(()) = push_code_attribute(alloc, &mut attributes, 18, sizes, code, Seq::new(alloc))
+    else {
+        return Err(NoMemory);
+    };
     push_method(methods, 0, 8, 9, attributes)
 }
 
@@ -328,8 +354,12 @@ fn push_execute_code(
         stack: 4,
         locals: 4,
     };
-    let code = stage_code(alloc, messages, stage)?;
-    let inside = inside(alloc, operation_length(stage))?;
+    let Ok(code) = stage_code(alloc, messages, stage) else {
+        return Err(NoMemory);
+    };
+    let Ok(inside) = inside(alloc, operation_length(stage)) else {
+        return Err(NoMemory);
+    };
     push_code_attribute(alloc, attributes, 18, sizes, code, inside)
 }
 
@@ -342,8 +372,12 @@ fn push_execute(
     ensures { OnOk result (methods.new ≡ methods.old ++ method public_flag 17 10 (code_attribute 18 4 4 (stage_code messages stage) (frames_attribute 22 (stage_frames (length (operation_code stage.operation stage.number))) ∷ []) ∷ exceptions_attribute 19 21 ∷ []) ∷ []) }
 {
     let mut attributes = Seq::new(alloc);
-    push_execute_code(alloc, &mut attributes, messages, stage)?;
-    push_exceptions(alloc, &mut attributes, 19, 21)?;
+    let Ok(()) = push_execute_code(alloc, &mut attributes, messages, stage) else {
+        return Err(NoMemory);
+    };
+    let Ok(()) = push_exceptions(alloc, &mut attributes, 19, 21) else {
+        return Err(NoMemory);
+    };
     push_method(methods, PUBLIC, 17, 10, attributes)
 }
 
@@ -358,10 +392,18 @@ fn fill(
     requires { file.old ≡ class_file [] [] [] [] }
     ensures { OnOk result (file.new ≡ stage_file k messages stage) }
 {
-    add_name_and_entries(alloc, &mut file.constant_pool, k)?;
-    push_field(alloc, &mut file.fields, 5, 6)?;
-    push_field(alloc, &mut file.fields, 7, 6)?;
-    push_constructor(alloc, &mut file.methods)?;
+    let Ok(()) = add_name_and_entries(alloc, &mut file.constant_pool, k) else {
+        return Err(NoMemory);
+    };
+    let Ok(()) = push_field(alloc, &mut file.fields, 5, 6) else {
+        return Err(NoMemory);
+    };
+    let Ok(()) = push_field(alloc, &mut file.fields, 7, 6) else {
+        return Err(NoMemory);
+    };
+    let Ok(()) = push_constructor(alloc, &mut file.methods) else {
+        return Err(NoMemory);
+    };
     push_execute(alloc, &mut file.methods, messages, stage)
 }
 

@@ -17,8 +17,12 @@ fn texts_of(alloc: Global, files: &[ClassFile]) -> Result<Seq<Seq<u8>>, NoMemory
 {
     let mut texts = Seq::new(alloc);
     for file in files {
-        let text = write(alloc, file)?;
-        texts.push(Seq::from_vec(text))?;
+        let Ok(text) = write(alloc, file) else {
+            return Err(NoMemory);
+        };
+        let Ok(()) = texts.push(Seq::from_vec(text)) else {
+            return Err(NoMemory);
+        };
     }
     Ok(texts)
 }
@@ -38,7 +42,9 @@ pub fn no_names(alloc: Global, count: usize) -> Result<Seq<String>, NoMemory>
 {
     let mut names = Seq::new(alloc);
     for _ in 0..count {
-        names.push(String::new(alloc))?;
+        let Ok(()) = names.push(String::new(alloc)) else {
+            return Err(NoMemory);
+        };
     }
     Ok(names)
 }

@@ -6,7 +6,7 @@ use Rattle.kilim_program_maker.proofs.assembler.push_code.Goals as goal
 pub loop-op-preserved : goal.loop-op-preserved
 loop-op-preserved c =
     ahead bytes_of c.loop-op.code.items c.push_op.new.code.items (c.args.code.now.items ++ code_of c.args.ops.now) c.args.ops.now c.loop-op.op-index (get_or c.args.ops.now c.loop-op.op-index _) _
-    c.loop-op-test.true refl c.loop-op.invariant c.in_ok-push_op.ensures
+    c.loop-op-test.true refl c.loop-op.invariant c.in-Ok.ensures
 
 pub returns : goal.returns
 returns c = all_made code_of c.loop-op.code.items (c.args.code.now.items ++ code_of c.args.ops.now) c.args.ops.now c.loop-op.op-index refl c.loop-op-test.false c.loop-op.invariant

@@ -4,8 +4,8 @@ use Rattle.kilim_program_maker.proofs.files.push_stages.Goals as goal
 
 pub loop-index-preserved : goal.loop-index-preserved
 loop-index-preserved c =
-    filed_more c.args.messages c.loop-index.files.items c.push_file.new.files.items _ c.args.stages.now c.loop-index.index _ _ c.in_ok-file.file (omega (arith, c.loop-index-test.true, c.loop-index.auto.index-end)) refl
-    c.loop-index.invariant c.in_ok-file.ensures c.in_ok-push_file.ensures
+    filed_more c.args.messages c.loop-index.files.items c.push_file.new.files.items _ c.args.stages.now c.loop-index.index _ _ c.in-Ok.file (omega (arith, c.loop-index-test.true, c.loop-index.auto.index-end)) refl
+    c.loop-index.invariant c.in-Ok.ensures c.in-Ok-push_file.ensures
 
 pub returns : goal.returns
 returns c = filed_all c.args.messages c.loop-index.files.items _ c.args.stages.now c.loop-index.index (omega (arith, c.loop-index-test.false, c.loop-index.auto.index-end)) c.loop-index.invariant

@@ -7,7 +7,7 @@ use Rattle.kilim_program_maker.proofs.main_class.push_same.Goals as goal
 pub loop-delta-preserved : goal.loop-delta-preserved
 loop-delta-preserved c =
     more Same c.args.frames.now c.loop-delta.frames c.push.new.self c.args.deltas.now c.loop-delta.delta-index (get_or c.args.deltas.now c.loop-delta.delta-index 0) 0 (Same (get_or c.args.deltas.now c.loop-delta.delta-index 0))
-    c.loop-delta-test.true refl c.loop-delta.invariant refl c.in_ok-push.ensures.ok
+    c.loop-delta-test.true refl c.loop-delta.invariant refl c.in-Ok.ensures.ok
 
 pub returns : goal.returns
 returns c = c.loop-delta.invariant ∙ ap (λ xs. c.args.frames.now ++ map Same xs) (take_all c.loop-delta.delta-index c.args.deltas.now c.loop-delta-test.false)

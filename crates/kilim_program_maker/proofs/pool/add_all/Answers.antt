@@ -7,7 +7,7 @@ use Rattle.kilim_program_maker.proofs.pool.add_all.Goals as goal
 pub loop-constant-preserved : goal.loop-constant-preserved
 loop-constant-preserved c =
     mapped_ahead entry_of c.loop-constant.pool c.add_constant.new.pool (c.args.pool.now ++ map entry_of c.args.constants.now) c.args.constants.now c.loop-constant.constant-index (get_or c.args.constants.now c.loop-constant.constant-index _) _
-    c.loop-constant-test.true refl c.loop-constant.invariant c.in_ok-add_constant.ensures
+    c.loop-constant-test.true refl c.loop-constant.invariant c.in-Ok.ensures
 
 pub returns : goal.returns
 returns c = all_made (λ (constants : List Constant). map entry_of constants) c.loop-constant.pool (c.args.pool.now ++ map entry_of c.args.constants.now) c.args.constants.now c.loop-constant.constant-index refl c.loop-constant-test.false c.loop-constant.invariant
