@@ -38,9 +38,10 @@ fn instrs_in(
 ) -> Result<Option<Seq<(u32, Instr)>>, NoMemory>
     ensures { IfOk result (λ found. found ≡ code_of world.now pool.now (decoded code.now)) }
 {
-    match decoded(alloc, code)? {
-        Ok(body) => code_of(alloc, world, pool, body.code.as_slice()),
-        Err(_) => Ok(None),
+    match decoded(alloc, code) {
+        Ok(Ok(body)) => code_of(alloc, world, pool, body.code.as_slice()),
+        Ok(Err(_)) => Ok(None),
+        Err(fault) => Err(fault),
     }
 }
 
@@ -67,20 +68,25 @@ fn body_of(
     requires { declared.now ≡ declared_method file.now method.now }
     ensures { IfOk result (λ body. body ≡ body_in world.now file.now class method.now (Some code.now)) }
 {
-    let code_length = length_of(code)?;
-    let instrs = instrs_in(alloc, world, &file.constant_pool, code.code.as_slice())?;
+    let Ok(code_length) = length_of(code) else {
+        return Err(NoMemory);
+    };
+    let Ok(instrs) = instrs_in(alloc, world, &file.constant_pool, code.code.as_slice()) else {
+        return Err(NoMemory);
+    };
     let Some(instrs) = instrs else {
         return Ok(None);
     };
-    match frames_in(alloc, world, file, class, declared, code)? {
-        Some(frames) => Ok(Some(Body {
+    match frames_in(alloc, world, file, class, declared, code) {
+        Ok(Some(frames)) => Ok(Some(Body {
             max_stack: code.max_stack,
             max_locals: code.max_locals,
             code_length,
             code: instrs,
             frames,
         })),
-        None => Ok(None),
+        Ok(None) => Ok(None),
+        Err(fault) => Err(fault),
     }
 }
 

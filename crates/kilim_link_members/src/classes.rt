@@ -33,7 +33,9 @@ fn field_ids(alloc: Global, first: u32, count: usize) -> Result<Seq<FieldId>, No
     let mut ids = Seq::new(alloc);
     let mut number = first;
     for _ in 0..count {
-        ids.push(FieldId(number))?;
+        let Ok(()) = ids.push(FieldId(number)) else {
+            return Err(NoMemory);
+        };
         number = match next(number) {
             Ok(n) => n,
             Err(fault) => return Err(fault),
@@ -49,7 +51,9 @@ fn method_ids(alloc: Global, first: u32, count: usize) -> Result<Seq<MethodId>, 
     let mut ids = Seq::new(alloc);
     let mut number = first;
     for _ in 0..count {
-        ids.push(MethodId(number))?;
+        let Ok(()) = ids.push(MethodId(number)) else {
+            return Err(NoMemory);
+        };
         number = match next(number) {
             Ok(n) => n,
             Err(fault) => return Err(fault),
@@ -69,10 +73,17 @@ fn class_with(
     requires { class_of world.now (super_name file.now) ≡ Some up }
     ensures { IfOk result (λ found. found ≡ linked_class world.now file.now class) }
 {
-    let fields = field_ids(alloc, world.first_field(class), file.fields.len())?;
-    let methods = method_ids(alloc, world.first_method(class), file.methods.len())?;
+    let Ok(fields) = field_ids(alloc, world.first_field(class), file.fields.len()) else {
+        return Err(NoMemory);
+    };
+    let Ok(methods) = method_ids(alloc, world.first_method(class), file.methods.len()) else {
+        return Err(NoMemory);
+    };
+    let Ok(name) = Units::from_slice(alloc, own_name(file)) else {
+        return Err(NoMemory);
+    };
     Ok(Some(Class {
-        name: Units::from_slice(alloc, own_name(file))?,
+        name,
         superclass: Some(up),
         is_abstract: has_flag(ABSTRACT, file.access_flags),
         message: world.is_message(class),

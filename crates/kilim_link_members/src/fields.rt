@@ -91,13 +91,19 @@ fn field_with(
 ) -> Result<Option<Field>, NoMemory>
     ensures { IfOk result (λ found. found ≡ Some (field_with file.now class field.now ty)) }
 {
+    let Ok(name) = Units::from_slice(alloc, member_name(file, field)) else {
+        return Err(NoMemory);
+    };
+    let Ok(constant) = constant_if_static(alloc, &file.constant_pool, field) else {
+        return Err(NoMemory);
+    };
     Ok(Some(Field {
-        name: Units::from_slice(alloc, member_name(file, field))?,
+        name,
         ty,
         owner: class,
         is_static: has_flag(STATIC, field.access_flags),
         is_private: has_flag(PRIVATE, field.access_flags),
-        constant: constant_if_static(alloc, &file.constant_pool, field)?,
+        constant,
     }))
 }
 
@@ -113,7 +119,10 @@ pub fn linked_field(
     ensures { IfOk result (λ found. found ≡ linked_field world.now file.now class field.now) }
 {
     let descriptor = Units::from_slice(alloc, member_descriptor(file, field))?;
-    let Some(text) = field_text(alloc, &descriptor)? else {
+    let Ok(found) = field_text(alloc, &descriptor) else {
+        return Err(NoMemory);
+    };
+    let Some(text) = found else {
         return Ok(None);
     };
     let ty = type_in(world, &text);

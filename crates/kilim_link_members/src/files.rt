@@ -28,7 +28,11 @@ pub fn linked_classes(
     let mut number = 0;
     for file in files {
         match linked_class(alloc, world, file, ClassId(number)) {
-            Ok(Some(class)) => classes.push(class)?,
+            Ok(Some(class)) => {
+                let Ok(()) = classes.push(class) else {
+                    return Err(NoMemory);
+                };
+            }
             Ok(None) => return Ok(None),
             Err(fault) => return Err(fault),
         }
@@ -52,7 +56,11 @@ fn push_fields(
 {
     for field in file.fields.as_slice() {
         match linked_field(alloc, world, file, class, field) {
-            Ok(Some(found)) => into.push(found)?,
+            Ok(Some(found)) => {
+                let Ok(()) = into.push(found) else {
+                    return Err(NoMemory);
+                };
+            }
             Ok(None) => return Ok(false),
             Err(fault) => return Err(fault),
         }
@@ -97,7 +105,11 @@ fn push_methods(
 {
     for method in file.methods.as_slice() {
         match linked_method(alloc, world, file, class, method) {
-            Ok(Some(found)) => into.push(found)?,
+            Ok(Some(found)) => {
+                let Ok(()) = into.push(found) else {
+                    return Err(NoMemory);
+                };
+            }
             Ok(None) => return Ok(false),
             Err(fault) => return Err(fault),
         }

@@ -31,8 +31,13 @@ fn heading(
     ensures name { IfOk result (λ h. h.0 ≡ declared.now.name) }
     ensures qualified { IfOk result (λ h. h.1 ≡ qualified world.now class declared.now) }
 {
-    let q = qualified(alloc, world, class, declared, Some(text))?;
-    Ok((declared.name.clone()?, q))
+    let Ok(q) = qualified(alloc, world, class, declared, Some(text)) else {
+        return Err(NoMemory);
+    };
+    let Ok(name) = declared.name.clone() else {
+        return Err(NoMemory);
+    };
+    Ok((name, q))
 }
 
 // A method with its types and its body.
@@ -97,11 +102,17 @@ fn linked_with(
     let Some(gives) = result_in(world, text.result.as_ref()) else {
         return Ok(None);
     };
-    let Some(params) = types_in(alloc, world, text.params.as_slice())? else {
+    let Ok(types) = types_in(alloc, world, text.params.as_slice()) else {
+        return Err(NoMemory);
+    };
+    let Some(params) = types else {
         return Ok(None);
     };
     let code = code_attribute(method);
-    let Some(body) = body_in(alloc, world, file, class, method, declared, code)? else {
+    let Ok(found) = body_in(alloc, world, file, class, method, declared, code) else {
+        return Err(NoMemory);
+    };
+    let Some(body) = found else {
         return Ok(None);
     };
     method_with(
@@ -121,13 +132,14 @@ fn linked_declared(
     requires { declared.now ≡ declared_method file.now method.now }
     ensures { IfOk result (λ found. found ≡ linked_method world.now file.now class method.now) }
 {
-    match method_text(alloc, &declared.descriptor)? {
-        Some(text) => {
+    match method_text(alloc, &declared.descriptor) {
+        Ok(Some(text)) => {
             let found = linked_with(alloc, world, file, class, method, declared, &text);
             drop(text);
             found
         }
-        None => Ok(None),
+        Ok(None) => Ok(None),
+        Err(fault) => Err(fault),
     }
 }
 

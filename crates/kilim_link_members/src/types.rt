@@ -21,7 +21,11 @@ pub fn types_in(
     let mut types = Seq::new(alloc);
     for text in texts {
         match type_in(world, text) {
-            Some(ty) => types.push(ty)?,
+            Some(ty) => {
+                let Ok(()) = types.push(ty) else {
+                    return Err(NoMemory);
+                };
+            }
             None => return Ok(None),
         }
     }

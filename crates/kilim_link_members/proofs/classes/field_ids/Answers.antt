@@ -3,4 +3,4 @@ use Rattle.kilim_link_members.proofs.Numbers.{one_more}
 use Rattle.kilim_link_members.proofs.classes.field_ids.Goals as goal
 
 pub loop-preserved : goal.loop-preserved
-loop-preserved c = one_more field_id c.args.first c.loop.counter c.loop.number c.in-Ok.n c.loop.ids c.push.new.self c.loop.invariant.0 c.loop.invariant.1 c.in-Ok.ensures c.in_ok-push.ensures.ok
+loop-preserved c = one_more field_id c.args.first c.loop.counter c.loop.number c.in-Ok-next.n c.loop.ids c.push.new.self c.loop.invariant.0 c.loop.invariant.1 c.in-Ok-next.ensures c.in-Ok.ensures.ok
