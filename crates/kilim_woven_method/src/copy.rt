@@ -20,10 +20,18 @@ pub struct Head {
 pub fn copy_head(alloc: Global, method: &Method) -> Result<Head, NoMemory>
     ensures { IfOk result (λ h. h ≡ record { name = method.now.name; params = method.now.params; qualifiers = method.now.qualifiers; handlers = method.now.handlers }) }
 {
-    let name = method.name.clone()?;
-    let params = Vec::from_slice(alloc, method.params.as_slice())?;
-    let qualifiers = Vec::from_slice(alloc, method.qualifiers.as_slice())?;
-    let handlers = Vec::from_slice(alloc, method.handlers.as_slice())?;
+    let Ok(name) = method.name.clone() else {
+        return Err(NoMemory);
+    };
+    let Ok(params) = Vec::from_slice(alloc, method.params.as_slice()) else {
+        return Err(NoMemory);
+    };
+    let Ok(qualifiers) = Vec::from_slice(alloc, method.qualifiers.as_slice()) else {
+        return Err(NoMemory);
+    };
+    let Ok(handlers) = Vec::from_slice(alloc, method.handlers.as_slice()) else {
+        return Err(NoMemory);
+    };
     Ok(Head {
         name,
         params: Seq::from_vec(params),
@@ -75,8 +83,12 @@ fn copy_code(alloc: Global, code: &[(u32, Instr)]) -> Result<Seq<(u32, Instr)>, 
     let mut all = Seq::new(alloc);
     for at in 0..code.len() {
         let entry = instr_at(code, at);
-        let instr = copied(&entry.1)?;
-        all.push((entry.0, instr))?;
+        let Ok(instr) = copied(&entry.1) else {
+            return Err(NoMemory);
+        };
+        let Ok(()) = all.push((entry.0, instr)) else {
+            return Err(NoMemory);
+        };
     }
     Ok(all)
 }
@@ -84,8 +96,12 @@ fn copy_code(alloc: Global, code: &[(u32, Instr)]) -> Result<Seq<(u32, Instr)>, 
 fn copy_frame(alloc: Global, frame: &Frame) -> Result<Frame, NoMemory>
     ensures { IfOk result (λ f. f ≡ frame.now) }
 {
-    let locals = Vec::from_slice(alloc, frame.locals.as_slice())?;
-    let stack = Vec::from_slice(alloc, frame.stack.as_slice())?;
+    let Ok(locals) = Vec::from_slice(alloc, frame.locals.as_slice()) else {
+        return Err(NoMemory);
+    };
+    let Ok(stack) = Vec::from_slice(alloc, frame.stack.as_slice()) else {
+        return Err(NoMemory);
+    };
     Ok(Frame {
         locals: Seq::from_vec(locals),
         stack: Seq::from_vec(stack),
@@ -105,8 +121,12 @@ fn copy_frames(alloc: Global, frames: &[(u32, Frame)]) -> Result<Seq<(u32, Frame
     let mut all = Seq::new(alloc);
     for at in 0..frames.len() {
         let entry = frame_at(frames, at);
-        let frame = copy_frame(alloc, &entry.1)?;
-        all.push((entry.0, frame))?;
+        let Ok(frame) = copy_frame(alloc, &entry.1) else {
+            return Err(NoMemory);
+        };
+        let Ok(()) = all.push((entry.0, frame)) else {
+            return Err(NoMemory);
+        };
     }
     Ok(all)
 }
@@ -121,8 +141,12 @@ struct Body {
 fn copy_body(alloc: Global, method: &Method) -> Result<Body, NoMemory>
     ensures { IfOk result (λ b. b ≡ record { code = method.now.code; frames = method.now.frames }) }
 {
-    let code = copy_code(alloc, method.code.as_slice())?;
-    let frames = copy_frames(alloc, method.frames.as_slice())?;
+    let Ok(code) = copy_code(alloc, method.code.as_slice()) else {
+        return Err(NoMemory);
+    };
+    let Ok(frames) = copy_frames(alloc, method.frames.as_slice()) else {
+        return Err(NoMemory);
+    };
     Ok(Body { code, frames })
 }
 

@@ -17,7 +17,9 @@ fn grow(table: &mut Vec<Option<u32>>, number: usize) -> Result<(), NoMemory>
     ensures room { OnOk result (number < length table.new.items) }
 {
     while table.len() <= number {
-        table.push(None)?;
+        let Ok(()) = table.push(None) else {
+            return Err(NoMemory);
+        };
     }
     Ok(())
 }
@@ -90,12 +92,16 @@ fn put(places: &mut Places, item: Item) -> Result<(), NoMemory>
     match item {
         Item::Stands(label, frame) => {
             drop(frame);
-            stand(places, label)?;
+            let Ok(()) = stand(places, label) else {
+                return Err(NoMemory);
+            };
             Ok(())
         }
         Item::Adds(instr, size, _) => {
             drop(instr);
-            advance(places, size)?;
+            let Ok(()) = advance(places, size) else {
+                return Err(NoMemory);
+            };
             Ok(())
         }
     }
@@ -119,7 +125,9 @@ pub fn places_of(alloc: Global, items: Items) -> Result<Places, NoMemory>
     let mut left = items;
     let mut places = nowhere(alloc);
     while let Some(item) = left.take() {
-        put(&mut places, item)?;
+        let Ok(()) = put(&mut places, item) else {
+            return Err(NoMemory);
+        };
     }
     Ok(places)
 }

@@ -14,7 +14,9 @@ fn grow(flags: &mut Vec<bool>, number: usize) -> Result<(), NoMemory>
     ensures room { OnOk result (number < length flags.new.items) }
 {
     while flags.len() <= number {
-        flags.push(false)?;
+        let Ok(()) = flags.push(false) else {
+            return Err(NoMemory);
+        };
     }
     Ok(())
 }
@@ -51,7 +53,9 @@ fn flags_of(alloc: Global, frames: &[(u32, Frame)]) -> Result<Vec<bool>, NoMemor
     while left > 0 {
         left -= 1;
         let entry = entry_at(frames, left);
-        flag(&mut flags, entry.0)?;
+        let Ok(()) = flag(&mut flags, entry.0) else {
+            return Err(NoMemory);
+        };
     }
     Ok(flags)
 }

@@ -50,9 +50,16 @@ fn add(laid: &mut Laid, instr: Instr, size: Size, counted: bool) -> Result<(), N
     ensures { OnOk result (laid.new ≡ record { code = laid.old.code ++ (laid.old.end, instr) ∷ []; frames = laid.old.frames; counted = laid.old.counted ++ counted ∷ []; end = laid.old.end + size_of size laid.old.end }) }
 {
     let at = laid.end;
-    laid.code.push((at, instr))?;
-    laid.counted.push(counted)?;
-    laid.end = place_behind(at, size)?;
+    let Ok(()) = laid.code.push((at, instr)) else {
+        return Err(NoMemory);
+    };
+    let Ok(()) = laid.counted.push(counted) else {
+        return Err(NoMemory);
+    };
+    let Ok(end) = place_behind(at, size) else {
+        return Err(NoMemory);
+    };
+    laid.end = end;
     Ok(())
 }
 
@@ -61,11 +68,15 @@ fn put(laid: &mut Laid, item: Item) -> Result<(), NoMemory>
 {
     match item {
         Item::Stands(_, frame) => {
-            stand(laid, frame)?;
+            let Ok(()) = stand(laid, frame) else {
+                return Err(NoMemory);
+            };
             Ok(())
         }
         Item::Adds(instr, size, counted) => {
-            add(laid, instr, size, counted)?;
+            let Ok(()) = add(laid, instr, size, counted) else {
+                return Err(NoMemory);
+            };
             Ok(())
         }
     }
@@ -90,7 +101,9 @@ pub fn lay(alloc: Global, items: Items) -> Result<Laid, NoMemory>
     let mut left = items;
     let mut laid = nothing(alloc);
     while let Some(item) = left.take() {
-        put(&mut laid, item)?;
+        let Ok(()) = put(&mut laid, item) else {
+            return Err(NoMemory);
+        };
     }
     Ok(laid)
 }

@@ -52,11 +52,21 @@ pub fn number_of(count: usize) -> Result<u32, NoMemory>
 fn slots_of(program: &Program, method: &Method) -> Result<Slots, NoMemory>
     ensures { IfOk result (λ s. AreSlots program.now method.now s) }
 {
-    let arguments = argument_slots(method)?;
-    let fiber = fiber_slot(method, arguments)?;
-    let receiver = plus(fiber, 1)?;
-    let member = number_of(program.methods.len())?;
-    let class = number_of(program.classes.len())?;
+    let Ok(arguments) = argument_slots(method) else {
+        return Err(NoMemory);
+    };
+    let Ok(fiber) = fiber_slot(method, arguments) else {
+        return Err(NoMemory);
+    };
+    let Ok(receiver) = plus(fiber, 1) else {
+        return Err(NoMemory);
+    };
+    let Ok(member) = number_of(program.methods.len()) else {
+        return Err(NoMemory);
+    };
+    let Ok(class) = number_of(program.classes.len()) else {
+        return Err(NoMemory);
+    };
     Ok(Slots {
         arguments,
         fiber,
@@ -121,8 +131,12 @@ fn locals_with(slots: Slots, is_static: bool) -> Result<u16, NoMemory>
 fn push_fiber(head: &mut Head, class: u32) -> Result<(), NoMemory>
     ensures { OnOk result (head.new ≡ record head.old { params = head.old.params ++ class_type class ∷ []; qualifiers = head.old.qualifiers ++ Qualifier.Safe ∷ [] }) }
 {
-    head.params.push(fiber_type(class))?;
-    head.qualifiers.push(Qualifier::Safe)?;
+    let Ok(()) = head.params.push(fiber_type(class)) else {
+        return Err(NoMemory);
+    };
+    let Ok(()) = head.qualifiers.push(Qualifier::Safe) else {
+        return Err(NoMemory);
+    };
     Ok(())
 }
 
@@ -151,9 +165,15 @@ struct Outside {
 fn outside_of(alloc: Global, method: &Method, slots: Slots) -> Result<Outside, NoMemory>
     ensures { IfOk result (λ o. o ≡ record { head = record { name = method.now.name; params = method.now.params ++ class_type slots.class ∷ []; qualifiers = method.now.qualifiers ++ Qualifier.Safe ∷ []; handlers = method.now.handlers }; max_stack = method.now.max_stack + 4; max_locals = (if method.now.is_static then slots.receiver else slots.receiver + 1) }) }
 {
-    let max_stack = plus(method.max_stack, 4)?;
-    let max_locals = locals_with(slots, method.is_static)?;
-    let head = head_with(alloc, method, slots.class)?;
+    let Ok(max_stack) = plus(method.max_stack, 4) else {
+        return Err(NoMemory);
+    };
+    let Ok(max_locals) = locals_with(slots, method.is_static) else {
+        return Err(NoMemory);
+    };
+    let Ok(head) = head_with(alloc, method, slots.class) else {
+        return Err(NoMemory);
+    };
     Ok(Outside {
         head,
         max_stack,
@@ -212,14 +232,28 @@ pub fn woven(
     ensures { IfOk result (λ r. r ≡ made_as true true program.now method.now (live_in live.now)) }
 {
     places_dont_matter();
-    let slots = slots_of(program, method)?;
-    let declared = declared_flags(alloc, method)?;
+    let Ok(slots) = slots_of(program, method) else {
+        return Err(NoMemory);
+    };
+    let Ok(declared) = declared_flags(alloc, method) else {
+        return Err(NoMemory);
+    };
     let flags = declared.as_slice();
     let first = nowhere(alloc);
-    let unplaced = items_at(alloc, program, method, frames, live, flags, slots, &first)?;
-    let places = places_of(alloc, unplaced)?;
-    let items = items_at(alloc, program, method, frames, live, flags, slots, &places)?;
-    let laid = lay(alloc, items)?;
-    let pair = with_code(alloc, method, slots, laid)?;
+    let Ok(unplaced) = items_at(alloc, program, method, frames, live, flags, slots, &first) else {
+        return Err(NoMemory);
+    };
+    let Ok(places) = places_of(alloc, unplaced) else {
+        return Err(NoMemory);
+    };
+    let Ok(items) = items_at(alloc, program, method, frames, live, flags, slots, &places) else {
+        return Err(NoMemory);
+    };
+    let Ok(laid) = lay(alloc, items) else {
+        return Err(NoMemory);
+    };
+    let Ok(pair) = with_code(alloc, method, slots, laid) else {
+        return Err(NoMemory);
+    };
     Ok(pair)
 }

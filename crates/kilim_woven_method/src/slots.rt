@@ -53,9 +53,13 @@ fn param_slots(params: &[Ty]) -> Result<u16, NoMemory>
 pub fn argument_slots(method: &Method) -> Result<u16, NoMemory>
     ensures { IfOk result (λ n. n ≡ argument_slots method.now) }
 {
-    let params = param_slots(method.params.as_slice())?;
+    let Ok(params) = param_slots(method.params.as_slice()) else {
+        return Err(NoMemory);
+    };
     let this: u16 = if method.is_static { 0 } else { 1 };
-    let all = plus(this, params)?;
+    let Ok(all) = plus(this, params) else {
+        return Err(NoMemory);
+    };
     Ok(all)
 }
 

@@ -54,10 +54,16 @@ fn last_methods(methods: &[Method]) -> &[Method]
 pub fn fiber_methods(alloc: Global, program: &Program) -> Result<Seq<Method>, NoMemory>
     ensures { IfOk result (λ s. s ≡ fiber_methods Form.Woven (first_class program.now)) }
 {
-    let first = small(first_class(program))?;
-    let methods = built_in_methods(alloc, Form::Woven, first)?;
+    let Ok(first) = small(first_class(program)) else {
+        return Err(NoMemory);
+    };
+    let Ok(methods) = built_in_methods(alloc, Form::Woven, first) else {
+        return Err(NoMemory);
+    };
     let members = last_methods(methods.as_slice());
-    let copies = copy_methods(alloc, members)?;
+    let Ok(copies) = copy_methods(alloc, members) else {
+        return Err(NoMemory);
+    };
     Ok(copies)
 }
 
@@ -72,11 +78,19 @@ fn last_classes(classes: &[Class]) -> &[Class]
 fn fiber_classes(alloc: Global, program: &Program) -> Result<Seq<Class>, NoMemory>
     ensures { IfOk result (λ s. s ≡ fiber_classes Form.Woven (first_class program.now) (first_method program.now)) }
 {
-    let first = small(first_class(program))?;
-    let method = small(first_method(program))?;
-    let classes = built_in_classes(alloc, Form::Woven, first, method)?;
+    let Ok(first) = small(first_class(program)) else {
+        return Err(NoMemory);
+    };
+    let Ok(method) = small(first_method(program)) else {
+        return Err(NoMemory);
+    };
+    let Ok(classes) = built_in_classes(alloc, Form::Woven, first, method) else {
+        return Err(NoMemory);
+    };
     let last = last_classes(classes.as_slice());
-    let copies = copy_classes(alloc, last)?;
+    let Ok(copies) = copy_classes(alloc, last) else {
+        return Err(NoMemory);
+    };
     Ok(copies)
 }
 
@@ -84,8 +98,12 @@ fn fiber_classes(alloc: Global, program: &Program) -> Result<Seq<Class>, NoMemor
 fn woven_classes(alloc: Global, program: &Program) -> Result<Seq<Class>, NoMemory>
     ensures { IfOk result (λ s. s ≡ program.now.classes ++ fiber_classes Form.Woven (first_class program.now) (first_method program.now)) }
 {
-    let classes = copy_classes(alloc, program.classes.as_slice())?;
-    let more = fiber_classes(alloc, program)?;
+    let Ok(classes) = copy_classes(alloc, program.classes.as_slice()) else {
+        return Err(NoMemory);
+    };
+    let Ok(more) = fiber_classes(alloc, program) else {
+        return Err(NoMemory);
+    };
     joined(classes, more)
 }
 

@@ -10,9 +10,15 @@ use std::alloc::Global;
 fn copy_class(alloc: Global, class: &Class) -> Result<Class, NoMemory>
     ensures { IfOk result (λ c. c ≡ class.now) }
 {
-    let fields = Vec::from_slice(alloc, class.fields.as_slice())?;
-    let methods = Vec::from_slice(alloc, class.methods.as_slice())?;
-    let name = class.name.clone()?;
+    let Ok(fields) = Vec::from_slice(alloc, class.fields.as_slice()) else {
+        return Err(NoMemory);
+    };
+    let Ok(methods) = Vec::from_slice(alloc, class.methods.as_slice()) else {
+        return Err(NoMemory);
+    };
+    let Ok(name) = class.name.clone() else {
+        return Err(NoMemory);
+    };
     Ok(Class {
         name,
         superclass: class.superclass,
@@ -37,8 +43,12 @@ pub fn copy_classes(alloc: Global, classes: &[Class]) -> Result<Seq<Class>, NoMe
     let mut all = Seq::new(alloc);
     for at in 0..classes.len() {
         let class = class_at(classes, at);
-        let copy = copy_class(alloc, class)?;
-        all.push(copy)?;
+        let Ok(copy) = copy_class(alloc, class) else {
+            return Err(NoMemory);
+        };
+        let Ok(()) = all.push(copy) else {
+            return Err(NoMemory);
+        };
     }
     Ok(all)
 }
@@ -58,8 +68,12 @@ pub fn copy_methods(alloc: Global, methods: &[Method]) -> Result<Seq<Method>, No
     let mut all = Seq::new(alloc);
     for at in 0..methods.len() {
         let method = method_at(methods, at);
-        let copy = copy_method(alloc, method)?;
-        all.push(copy)?;
+        let Ok(copy) = copy_method(alloc, method) else {
+            return Err(NoMemory);
+        };
+        let Ok(()) = all.push(copy) else {
+            return Err(NoMemory);
+        };
     }
     Ok(all)
 }
@@ -76,8 +90,12 @@ fn copy_constant(constant: &Option<Value>) -> Result<Option<Value>, NoMemory>
 fn copy_field(field: &Field) -> Result<Field, NoMemory>
     ensures { IfOk result (λ f. f ≡ field.now) }
 {
-    let name = field.name.clone()?;
-    let constant = copy_constant(&field.constant)?;
+    let Ok(name) = field.name.clone() else {
+        return Err(NoMemory);
+    };
+    let Ok(constant) = copy_constant(&field.constant) else {
+        return Err(NoMemory);
+    };
     Ok(Field {
         name,
         ty: field.ty,
@@ -102,8 +120,12 @@ pub fn copy_fields(alloc: Global, fields: &[Field]) -> Result<Seq<Field>, NoMemo
     let mut all = Seq::new(alloc);
     for at in 0..fields.len() {
         let field = field_at(fields, at);
-        let copy = copy_field(field)?;
-        all.push(copy)?;
+        let Ok(copy) = copy_field(field) else {
+            return Err(NoMemory);
+        };
+        let Ok(()) = all.push(copy) else {
+            return Err(NoMemory);
+        };
     }
     Ok(all)
 }
@@ -114,6 +136,8 @@ pub fn joined<T: Drop>(own: Seq<T>, last: Seq<T>) -> Result<Seq<T>, NoMemory>
 {
     let mut all = own.into_vec();
     let mut more = last.into_vec();
-    all.append(&mut more)?;
+    let Ok(()) = all.append(&mut more) else {
+        return Err(NoMemory);
+    };
     Ok(Seq::from_vec(all))
 }

@@ -25,8 +25,12 @@ fn unchanged(
     requires { method.now.pausable ≡ false }
     ensures { IfOk result (λ r. IsWoven _program.now method.now r.0 r.1) }
 {
-    let counted = all_counted(alloc, method)?;
-    let same = copy_method(alloc, method)?;
+    let Ok(counted) = all_counted(alloc, method) else {
+        return Err(NoMemory);
+    };
+    let Ok(same) = copy_method(alloc, method) else {
+        return Err(NoMemory);
+    };
     Ok((same, counted))
 }
 
@@ -40,8 +44,12 @@ fn without_calls(
     requires calls { has_calls program.now method.now ≡ false }
     ensures { IfOk result (λ r. IsWoven program.now method.now r.0 r.1) }
 {
-    let counted = all_counted(alloc, method)?;
-    let more = extended(alloc, program, method)?;
+    let Ok(counted) = all_counted(alloc, method) else {
+        return Err(NoMemory);
+    };
+    let Ok(more) = extended(alloc, program, method) else {
+        return Err(NoMemory);
+    };
     Ok((more, counted))
 }
 
@@ -62,8 +70,12 @@ fn with_calls(
     labels_are_found();
     keeps(program);
     code_rises(program, id, method);
-    let table = live(alloc, method)?;
-    let pair = woven(alloc, program, method, frames, &table)?;
+    let Ok(table) = live(alloc, method) else {
+        return Err(NoMemory);
+    };
+    let Ok(pair) = woven(alloc, program, method, frames, &table) else {
+        return Err(NoMemory);
+    };
     Ok(pair)
 }
 

@@ -21,7 +21,9 @@ pub fn all_counted(alloc: Global, method: &Method) -> Result<Seq<bool>, NoMemory
     let mut all = Seq::new(alloc);
     let count = method.code.len();
     for _ in 0..count {
-        all.push(true)?;
+        let Ok(()) = all.push(true) else {
+            return Err(NoMemory);
+        };
     }
     Ok(all)
 }
@@ -50,10 +52,18 @@ fn locals_of(method: &Method) -> Result<u16, NoMemory>
 pub fn extended(alloc: Global, program: &Program, method: &Method) -> Result<Method, NoMemory>
     ensures { IfOk result (λ w. w ≡ only_with_fiber program.now method.now) }
 {
-    let class = number_of(program.classes.len())?;
-    let locals = locals_of(method)?;
-    let head = head_with(alloc, method, class)?;
-    let mut woven = with_head(alloc, method, head)?;
+    let Ok(class) = number_of(program.classes.len()) else {
+        return Err(NoMemory);
+    };
+    let Ok(locals) = locals_of(method) else {
+        return Err(NoMemory);
+    };
+    let Ok(head) = head_with(alloc, method, class) else {
+        return Err(NoMemory);
+    };
+    let Ok(mut woven) = with_head(alloc, method, head) else {
+        return Err(NoMemory);
+    };
     woven.max_locals = locals;
     Ok(woven)
 }

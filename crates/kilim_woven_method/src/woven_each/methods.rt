@@ -104,10 +104,18 @@ fn push_woven(
     ensures { OnOk result (IsEachWoven program.now (take at program.now.methods) all.old.methods all.old.counted → IsEachWoven program.now (take (at + 1) program.now.methods) all.new.methods all.new.counted) }
 {
     let method = method_of(program, at);
-    let id = id_of(at)?;
-    let pair = woven_at(alloc, program, frames, id, method)?;
-    all.methods.push(pair.0)?;
-    all.counted.push(pair.1)?;
+    let Ok(id) = id_of(at) else {
+        return Err(NoMemory);
+    };
+    let Ok(pair) = woven_at(alloc, program, frames, id, method) else {
+        return Err(NoMemory);
+    };
+    let Ok(()) = all.methods.push(pair.0) else {
+        return Err(NoMemory);
+    };
+    let Ok(()) = all.counted.push(pair.1) else {
+        return Err(NoMemory);
+    };
     Ok(())
 }
 
@@ -126,7 +134,9 @@ fn woven_each_one(
     };
     let count = count_of(program);
     for at in 0..count {
-        push_woven(alloc, program, frames, at, &mut all)?;
+        let Ok(()) = push_woven(alloc, program, frames, at, &mut all) else {
+            return Err(NoMemory);
+        };
     }
     Ok(all)
 }
@@ -138,8 +148,12 @@ fn all_marks(alloc: Global, methods: &[Method]) -> Result<Seq<Seq<bool>>, NoMemo
     let mut all = Seq::new(alloc);
     for at in 0..methods.len() {
         let method = method_at(methods, at);
-        let marks = all_counted(alloc, method)?;
-        all.push(marks)?;
+        let Ok(marks) = all_counted(alloc, method) else {
+            return Err(NoMemory);
+        };
+        let Ok(()) = all.push(marks) else {
+            return Err(NoMemory);
+        };
     }
     Ok(all)
 }
@@ -149,8 +163,12 @@ fn fiber_of(alloc: Global, program: &Program) -> Result<Methods, NoMemory>
     ensures methods { IfOk result (λ all. all.methods ≡ fiber_methods Form.Woven (first_class program.now)) }
     ensures counted { IfOk result (λ all. all.counted ≡ map all_counted all.methods) }
 {
-    let methods = fiber_methods(alloc, program)?;
-    let counted = all_marks(alloc, methods.as_slice())?;
+    let Ok(methods) = fiber_methods(alloc, program) else {
+        return Err(NoMemory);
+    };
+    let Ok(counted) = all_marks(alloc, methods.as_slice()) else {
+        return Err(NoMemory);
+    };
     Ok(Methods { methods, counted })
 }
 
@@ -158,8 +176,12 @@ fn both(all: Methods, last: Methods) -> Result<Methods, NoMemory>
     ensures methods { IfOk result (λ r. r.methods ≡ all.methods ++ last.methods) }
     ensures counted { IfOk result (λ r. r.counted ≡ all.counted ++ last.counted) }
 {
-    let counted = joined(all.counted, last.counted)?;
-    let methods = joined(all.methods, last.methods)?;
+    let Ok(counted) = joined(all.counted, last.counted) else {
+        return Err(NoMemory);
+    };
+    let Ok(methods) = joined(all.methods, last.methods) else {
+        return Err(NoMemory);
+    };
     Ok(Methods { methods, counted })
 }
 

@@ -6,8 +6,8 @@ use Rattle.kilim_woven_method.proofs.copy.copy_code.Goals as goal
 
 pub loop-at-preserved : goal.loop-at-preserved
 loop-at-preserved c =
-    copied_more c.args.code.now c.loop-at.at c.instr_at-entry.result.now (c.instr_at-entry.result.now.0, c.in_ok-instr.instr) c.loop-at.all c.push.new.self c.instr_at-entry.ensures c.loop-at.invariant
-    (ap (λ (i : Instr). let e : ℕ × Instr = (c.instr_at-entry.result.now.0, i) in e) c.in_ok-instr.ensures) c.in_ok-push.ensures.ok
+    copied_more c.args.code.now c.loop-at.at c.instr_at-entry.result.now (c.instr_at-entry.result.now.0, c.in-Ok.instr) c.loop-at.all c.push.new.self c.instr_at-entry.ensures c.loop-at.invariant
+    (ap (λ (i : Instr). let e : ℕ × Instr = (c.instr_at-entry.result.now.0, i) in e) c.in-Ok.ensures) c.in-Ok-push.ensures.ok
 
 pub returns : goal.returns
 returns c = c.loop-at.invariant ∙ take_all c.loop-at.at c.args.code.now (omega arith)

@@ -6,8 +6,8 @@ use Rattle.kilim_woven_method.proofs.copy.copy_frames.Goals as goal
 
 pub loop-at-preserved : goal.loop-at-preserved
 loop-at-preserved c =
-    copied_more c.args.frames.now c.loop-at.at c.frame_at-entry.result.now (c.frame_at-entry.result.now.0, c.in_ok-frame.frame) c.loop-at.all c.push.new.self c.frame_at-entry.ensures c.loop-at.invariant
-    (ap (λ (f : Frame). let e : ℕ × Frame = (c.frame_at-entry.result.now.0, f) in e) c.in_ok-frame.ensures) c.in_ok-push.ensures.ok
+    copied_more c.args.frames.now c.loop-at.at c.frame_at-entry.result.now (c.frame_at-entry.result.now.0, c.in-Ok.frame) c.loop-at.all c.push.new.self c.frame_at-entry.ensures c.loop-at.invariant
+    (ap (λ (f : Frame). let e : ℕ × Frame = (c.frame_at-entry.result.now.0, f) in e) c.in-Ok.ensures) c.in-Ok-push.ensures.ok
 
 pub returns : goal.returns
 returns c = c.loop-at.invariant ∙ take_all c.loop-at.at c.args.frames.now (omega arith)

@@ -10,7 +10,7 @@ loop-item-init c = none_found (items_of c.args.items) c.nowhere-places.result c.
 
 pub loop-item-preserved : goal.loop-item-preserved
 loop-item-preserved c =
-    c.in_ok-put.ensures (items_of c.args.items) (items_of c.take.new.self) (subst (λ (is : List form.Item). Finds (items_of c.args.items) c.loop-item.places is) c.in-Some.ensures c.loop-item.invariant)
+    c.in-Ok.ensures (items_of c.args.items) (items_of c.take.new.self) (subst (λ (is : List form.Item). Finds (items_of c.args.items) c.loop-item.places is) c.in-Some.ensures c.loop-item.invariant)
 
 pub loop-item-smaller : goal.loop-item-smaller
 loop-item-smaller c = let e = ap length c.in-Some.ensures in omega (arith, e)

@@ -11,6 +11,6 @@ pub loop-left-preserved : goal.loop-left-preserved
 loop-left-preserved c =
     let one : c.loop-left.left - 1 + 1 ≡ c.loop-left.left = omega (arith, c.loop-left-test.true) in (
       omega (arith, c.loop-left.invariant.0),
-      flag_more c.args.frames.now (c.loop-left.left - 1) c.entry_at-entry.result.now c.loop-left.flags.items c.flag.new.flags.items c.entry_at-entry.ensures c.in_ok-flag.ensures
+      flag_more c.args.frames.now (c.loop-left.left - 1) c.entry_at-entry.result.now c.loop-left.flags.items c.flag.new.flags.items c.entry_at-entry.ensures c.in-Ok.ensures
           (subst (λ (n : ℕ). AreFlags (drop n c.args.frames.now) c.loop-left.flags.items) (sym one) c.loop-left.invariant.1),
     )

@@ -12,7 +12,7 @@ pub loop-item-preserved : goal.loop-item-preserved
 loop-item-preserved c =
     let rest = items_of c.take.new.self in
     follow_on c.nothing-laid.result c.loop-item.laid c.put.new.laid (items_of c.args.items) (items_of c.loop-item.left) rest c.loop-item.invariant
-    (subst (λ (is : List form.Item). Follows c.loop-item.laid is c.put.new.laid rest) (sym c.in-Some.ensures) (c.in_ok-put.ensures rest))
+    (subst (λ (is : List form.Item). Follows c.loop-item.laid is c.put.new.laid rest) (sym c.in-Some.ensures) (c.in-Ok.ensures rest))
 
 pub loop-item-smaller : goal.loop-item-smaller
 loop-item-smaller c = let e = ap length c.in-Some.ensures in omega (arith, e)

@@ -5,11 +5,11 @@ use Rattle.kilim_woven_method.specs.Laid.{Follows}
 use Rattle.kilim_woven_method.proofs.Laying.{adds_follow, stands_follow}
 use Rattle.kilim_woven_method.proofs.layout.put.Goals as goal
 
-pub returns-in_ok-stand-in-Stands : goal.returns-in_ok-stand-in-Stands
-returns-in_ok-stand-in-Stands c rest =
-    subst (λ (i : Item). Follows c.args.laid.now (item_of i ∷ rest) c.stand.new.laid rest) (sym c.in-Stands.is) (stands_follow c.args.laid.now c.stand.new.laid _ c.in-Stands.frame rest c.in_ok-stand-in-Stands.ensures)
+pub returns-in-Ok : goal.returns-in-Ok
+returns-in-Ok c rest =
+    subst (λ (i : Item). Follows c.args.laid.now (item_of i ∷ rest) c.stand.new.laid rest) (sym c.in-Stands.is) (stands_follow c.args.laid.now c.stand.new.laid _ c.in-Stands.frame rest c.in-Ok.ensures)
 
-pub returns-in_ok-add-in-Adds : goal.returns-in_ok-add-in-Adds
-returns-in_ok-add-in-Adds c rest =
+pub returns-in-Ok-add : goal.returns-in-Ok-add
+returns-in-Ok-add c rest =
     subst (λ (i : Item). Follows c.args.laid.now (item_of i ∷ rest) c.add.new.laid rest) (sym c.in-Adds.is)
-    (adds_follow c.args.laid.now c.add.new.laid c.in-Adds.instr (size_of c.in-Adds.size) c.in-Adds.counted rest c.in_ok-add-in-Adds.ensures)
+    (adds_follow c.args.laid.now c.add.new.laid c.in-Adds.instr (size_of c.in-Adds.size) c.in-Adds.counted rest c.in-Ok-add.ensures)

@@ -12,16 +12,16 @@ use Rattle.kilim_woven_method.proofs.method.woven.Goals as goal
 
 pub items_at-requires : goal.items_at-requires
 items_at-requires c = record {
-  slots = c.in_ok-slots.ensures;
-  flags = subst (λ (bs : List Bool). AreDeclared c.args.method.now bs) (sym c.as_slice-flags.ensures.value) c.in_ok-declared.ensures;
+  slots = c.in-Ok.ensures;
+  flags = subst (λ (bs : List Bool). AreDeclared c.args.method.now bs) (sym c.as_slice-flags.ensures.value) c.in-Ok-declared_flags.ensures;
   rising = c.requires.rising;
   listed = c.requires.listed;
 }
 
 pub items_at-requires-2 : goal.items_at-requires-2
 items_at-requires-2 c = record {
-  slots = c.in_ok-slots.ensures;
-  flags = subst (λ (bs : List Bool). AreDeclared c.args.method.now bs) (sym c.as_slice-flags.ensures.value) c.in_ok-declared.ensures;
+  slots = c.in-Ok.ensures;
+  flags = subst (λ (bs : List Bool). AreDeclared c.args.method.now bs) (sym c.as_slice-flags.ensures.value) c.in-Ok-declared_flags.ensures;
   rising = c.requires.rising;
   listed = c.requires.listed;
 }
@@ -32,7 +32,7 @@ returns c =
     let m = c.args.method.now in
     let live : ℕ → ℕ → Bool = live_in c.args.live.now in
     let x = plan_of p m live (λ place. 0) (λ number. 0) in
-    let found = subst (λ (is : List form.Item). AreFound is c.in_ok-places.places) c.in_ok-unplaced.ensures c.in_ok-places.ensures in
-    let plan = plan_found c.places_dont_matter.ensures x (at_in c.nowhere-first.result) (block_in c.nowhere-first.result) c.in_ok-places.places found in
-    let laid = subst (λ (is : List form.Item). IsLaid is c.in_ok-laid.laid) (c.in_ok-items.ensures ∙ ap form.woven_items plan) c.in_ok-laid.ensures in
-    woven_is p m live c.in_ok-slots.slots c.in_ok-laid.laid c.in_ok-pair.pair c.in_ok-slots.ensures laid c.in_ok-pair.ensures.method c.in_ok-pair.ensures.counted
+    let found = subst (λ (is : List form.Item). AreFound is c.in-Ok-places_of.places) c.in-Ok-items_at.ensures c.in-Ok-places_of.ensures in
+    let plan = plan_found c.places_dont_matter.ensures x (at_in c.nowhere-first.result) (block_in c.nowhere-first.result) c.in-Ok-places_of.places found in
+    let laid = subst (λ (is : List form.Item). IsLaid is c.in-Ok-lay.laid) (c.in-Ok-items_at-2.ensures ∙ ap form.woven_items plan) c.in-Ok-lay.ensures in
+    woven_is p m live c.in-Ok.slots c.in-Ok-lay.laid c.in-Ok-with_code.pair c.in-Ok.ensures laid c.in-Ok-with_code.ensures.method c.in-Ok-with_code.ensures.counted

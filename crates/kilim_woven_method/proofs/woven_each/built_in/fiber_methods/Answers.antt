@@ -4,4 +4,4 @@ use Rattle.kilim_woven_method.proofs.woven_each.built_in.fiber_methods.Goals as 
 
 pub returns : goal.returns
 returns c =
-    last_methods_are c.in_ok-first.first _ c.in_ok-methods.methods c.as_slice.result.now c.in_ok-copies.copies (c.in_ok-first.ensures.value ∙ c.first_class.ensures) c.in_ok-methods.ensures c.as_slice.ensures (c.in_ok-copies.ensures ∙ c.last_methods-members.ensures)
+    last_methods_are c.in-Ok.first _ c.in-Ok-built_in_methods.methods c.as_slice.result.now c.in-Ok-copy_methods.copies (c.in-Ok.ensures.value ∙ c.first_class.ensures) c.in-Ok-built_in_methods.ensures c.as_slice.ensures (c.in-Ok-copy_methods.ensures ∙ c.last_methods-members.ensures)

@@ -3,4 +3,4 @@ use Rattle.kilim_woven_method.proofs.woven_each.copy.copy_fields.Goals as goal
 
 pub loop-at-preserved : goal.loop-at-preserved
 loop-at-preserved c =
-    copied_more c.args.fields.now c.loop-at.at c.field_at-field.result.now c.in_ok-copy.copy c.loop-at.all c.push.new.self c.field_at-field.ensures c.loop-at.invariant c.in_ok-copy.ensures c.in_ok-push.ensures.ok
+    copied_more c.args.fields.now c.loop-at.at c.field_at-field.result.now c.in-Ok.copy c.loop-at.all c.push.new.self c.field_at-field.ensures c.loop-at.invariant c.in-Ok.ensures c.in-Ok-push.ensures.ok

@@ -13,4 +13,4 @@ woven-requires c = record { rising = c.code_rises.ensures; listed = c.requires.l
 
 pub returns : goal.returns
 returns c =
-    woven_by c.labels_are_found.ensures c.args.program.now c.keeps.ensures c.args.id c.args.method.now c.requires.there c.requires.pausable c.requires.calls (live_in c.in_ok-table.table) c.in_ok-table.ensures c.in_ok-pair.pair c.in_ok-pair.ensures
+    woven_by c.labels_are_found.ensures c.args.program.now c.keeps.ensures c.args.id c.args.method.now c.requires.there c.requires.pausable c.requires.calls (live_in c.in-Ok.table) c.in-Ok.ensures c.in-Ok-woven.pair c.in-Ok-woven.ensures

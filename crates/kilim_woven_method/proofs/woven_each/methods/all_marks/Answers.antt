@@ -3,4 +3,4 @@ use Rattle.kilim_woven_method.proofs.woven_each.methods.all_marks.Goals as goal
 
 pub loop-at-preserved : goal.loop-at-preserved
 loop-at-preserved c =
-    marks_more c.args.methods.now c.loop-at.at c.method_at-method.result.now c.in_ok-marks.marks c.loop-at.all c.push.new.self c.method_at-method.ensures c.loop-at.invariant c.in_ok-marks.ensures c.in_ok-push.ensures.ok
+    marks_more c.args.methods.now c.loop-at.at c.method_at-method.result.now c.in-Ok.marks c.loop-at.all c.push.new.self c.method_at-method.ensures c.loop-at.invariant c.in-Ok.ensures c.in-Ok-push.ensures.ok

@@ -5,7 +5,7 @@ use Rattle.kilim_woven_method.specs.woven_each.Each.{IsEachWoven}
 use Rattle.kilim_woven_method.proofs.woven_each.methods.woven_each_one.Goals as goal
 
 pub loop-at-preserved : goal.loop-at-preserved
-loop-at-preserved c = c.in_ok-push_woven.ensures c.loop-at.invariant
+loop-at-preserved c = c.in-Ok.ensures c.loop-at.invariant
 
 pub returns : goal.returns
 returns c =
