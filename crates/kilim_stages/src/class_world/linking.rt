@@ -75,8 +75,13 @@ fn all_classes(
 {
     let first = own.len() as u32;
     let mut classes = own.into_vec();
-    let mut built_in = built_in_classes(alloc, form, first, methods)?.into_vec();
-    classes.append(&mut built_in)?;
+    let Ok(built_in) = built_in_classes(alloc, form, first, methods) else {
+        return Err(NoMemory);
+    };
+    let mut built_in = built_in.into_vec();
+    let Ok(()) = classes.append(&mut built_in) else {
+        return Err(NoMemory);
+    };
     Ok(Seq::from_vec(classes))
 }
 
@@ -91,8 +96,13 @@ fn all_methods(
     ensures { IfOk result (λ methods. methods ≡ own ++ built_in_methods_in form classes) }
 {
     let mut methods = own.into_vec();
-    let mut built_in = built_in_methods(alloc, form, classes)?.into_vec();
-    methods.append(&mut built_in)?;
+    let Ok(built_in) = built_in_methods(alloc, form, classes) else {
+        return Err(NoMemory);
+    };
+    let mut built_in = built_in.into_vec();
+    let Ok(()) = methods.append(&mut built_in) else {
+        return Err(NoMemory);
+    };
     Ok(Seq::from_vec(methods))
 }
 
@@ -110,10 +120,16 @@ fn program_of(
     ensures { IfOk result (λ p. Linked files.now form p) }
 {
     links_keep();
-    let parts = parts_of(alloc, world, files, form)?;
+    let Ok(parts) = parts_of(alloc, world, files, form) else {
+        return Err(NoMemory);
+    };
     let count = parts.methods.len() as u32;
-    let classes = all_classes(alloc, form, parts.classes, count)?;
-    let methods = all_methods(alloc, form, parts.methods, files.len() as u32)?;
+    let Ok(classes) = all_classes(alloc, form, parts.classes, count) else {
+        return Err(NoMemory);
+    };
+    let Ok(methods) = all_methods(alloc, form, parts.methods, files.len() as u32) else {
+        return Err(NoMemory);
+    };
     Ok(Program {
         classes,
         methods,

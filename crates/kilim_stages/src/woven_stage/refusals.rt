@@ -32,10 +32,18 @@ fn too_long_line(
 ) -> Result<Vec<u8>, NoMemory>
     ensures { IfOk result (λ text. text.items ≡ too_long_line program.now id weight) }
 {
-    let mut text = begun(alloc, program, id)?;
-    text.extend_from_slice(b" too-long ")?;
-    push_number(&mut text, weight)?;
-    text.push(b'\n')?;
+    let Ok(mut text) = begun(alloc, program, id) else {
+        return Err(NoMemory);
+    };
+    let Ok(()) = text.extend_from_slice(b" too-long ") else {
+        return Err(NoMemory);
+    };
+    let Ok(()) = push_number(&mut text, weight) else {
+        return Err(NoMemory);
+    };
+    let Ok(()) = text.push(b'\n') else {
+        return Err(NoMemory);
+    };
     Ok(text)
 }
 
@@ -43,8 +51,12 @@ fn too_long_line(
 fn arguments_line(alloc: Global, program: &Program, id: MethodId) -> Result<Vec<u8>, NoMemory>
     ensures { IfOk result (λ text. text.items ≡ arguments_line program.now id) }
 {
-    let mut text = begun(alloc, program, id)?;
-    text.extend_from_slice(b" arguments\n")?;
+    let Ok(mut text) = begun(alloc, program, id) else {
+        return Err(NoMemory);
+    };
+    let Ok(()) = text.extend_from_slice(b" arguments\n") else {
+        return Err(NoMemory);
+    };
     Ok(text)
 }
 
