@@ -25,7 +25,9 @@ pub struct WeaveOutput {
 fn output_of(alloc: Global, to: &str, file: WovenFile) -> Result<OutputFile, NoMemory>
     ensures { IfOk result (λ output. output ≡ output_of to.now file) }
 {
-    let path = path_of(alloc, to, &file)?;
+    let Ok(path) = path_of(alloc, to, &file) else {
+        return Err(NoMemory);
+    };
     Ok(OutputFile {
         path,
         bytes: file.bytes,
@@ -37,7 +39,12 @@ fn outputs_of(alloc: Global, to: &str, files: Vec<WovenFile>) -> Result<Vec<Outp
 {
     let mut outputs = Seq::new(alloc);
     for file in files {
-        outputs.push(output_of(alloc, to, file)?)?;
+        let Ok(output) = output_of(alloc, to, file) else {
+            return Err(NoMemory);
+        };
+        let Ok(()) = outputs.push(output) else {
+            return Err(NoMemory);
+        };
     }
     Ok(outputs.into_vec())
 }
@@ -55,8 +62,12 @@ fn with_lines(
 {
     woven_files_have_own_paths();
     let _files = files;
-    let text = wove_lines(alloc, woven.as_slice())?;
-    let outputs = outputs_of(alloc, to, woven)?;
+    let Ok(text) = wove_lines(alloc, woven.as_slice()) else {
+        return Err(NoMemory);
+    };
+    let Ok(outputs) = outputs_of(alloc, to, woven) else {
+        return Err(NoMemory);
+    };
     Ok(WeaveOutput {
         files: outputs,
         text,

@@ -14,8 +14,12 @@ use std::alloc::Global;
 fn push_last(text: &mut Vec<u8>, number: u64) -> Result<(), NoMemory>
     ensures { IfOk result (λ u. text.new.items ≡ text.old.items ++ (decimal number ++ codes "\n")) }
 {
-    let digits = format!(in *text.allocator(); "{number}\n")?;
-    text.extend_from_slice(digits.as_bytes())?;
+    let Ok(digits) = format!(in *text.allocator(); "{number}\n") else {
+        return Err(NoMemory);
+    };
+    let Ok(()) = text.extend_from_slice(digits.as_bytes()) else {
+        return Err(NoMemory);
+    };
     Ok(())
 }
 
@@ -29,11 +33,21 @@ pub fn class_line(
 ) -> Result<Vec<u8>, NoMemory>
     ensures { IfOk result (λ text. text.items ≡ first.now ++ (member_name_text class.now ++ (second.now ++ (decimal number ++ codes "\n")))) }
 {
-    let name = member_name_text(alloc, class)?;
-    let mut text = Vec::from_slice(alloc, first)?;
-    text.extend_from_slice(name.as_slice())?;
-    text.extend_from_slice(second)?;
-    push_last(&mut text, number)?;
+    let Ok(name) = member_name_text(alloc, class) else {
+        return Err(NoMemory);
+    };
+    let Ok(mut text) = Vec::from_slice(alloc, first) else {
+        return Err(NoMemory);
+    };
+    let Ok(()) = text.extend_from_slice(name.as_slice()) else {
+        return Err(NoMemory);
+    };
+    let Ok(()) = text.extend_from_slice(second) else {
+        return Err(NoMemory);
+    };
+    let Ok(()) = push_last(&mut text, number) else {
+        return Err(NoMemory);
+    };
     Ok(text)
 }
 
@@ -50,8 +64,12 @@ pub fn wove_lines(alloc: Global, files: &[WovenFile]) -> Result<Vec<u8>, NoMemor
 {
     let mut text = Vec::new(alloc);
     for file in files {
-        let line = wove_line(alloc, file)?;
-        text.extend_from_slice(line.as_slice())?;
+        let Ok(line) = wove_line(alloc, file) else {
+            return Err(NoMemory);
+        };
+        let Ok(()) = text.extend_from_slice(line.as_slice()) else {
+            return Err(NoMemory);
+        };
     }
     Ok(text)
 }

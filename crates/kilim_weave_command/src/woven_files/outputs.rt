@@ -53,10 +53,17 @@ fn output_of(
     requires { ClassFits file.now }
     ensures { IfOk result (λ output. IsOutput program.now class.now file.now output) }
 {
-    let bytes = write(alloc, file)?;
-    let name = text_of(alloc, &class.name)?;
+    let Ok(bytes) = write(alloc, file) else {
+        return Err(NoMemory);
+    };
+    let Ok(name) = text_of(alloc, &class.name) else {
+        return Err(NoMemory);
+    };
+    let Ok(units) = class.name.clone() else {
+        return Err(NoMemory);
+    };
     Ok(WovenFile {
-        class: class.name.clone()?,
+        class: units,
         name,
         bytes: Seq::from_vec(bytes),
         pausables: pausables_of(program, class),
@@ -78,8 +85,12 @@ fn outputs_of(
         let Some(class) = class_at(program, at) else {
             return Err(NoMemory);
         };
-        let output = output_of(alloc, program, class, file)?;
-        outputs.push(output)?;
+        let Ok(output) = output_of(alloc, program, class, file) else {
+            return Err(NoMemory);
+        };
+        let Ok(()) = outputs.push(output) else {
+            return Err(NoMemory);
+        };
     }
     Ok(outputs.into_vec())
 }

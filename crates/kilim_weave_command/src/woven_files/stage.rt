@@ -38,8 +38,12 @@ fn class_files(alloc: Global, files: &[Seq<u8>]) -> Result<Seq<ClassFile>, NoMem
 {
     let mut classes = Seq::new(alloc);
     for i in 0..files.len() {
-        let file = class_file(alloc, files[i].as_slice())?;
-        classes.push(file)?;
+        let Ok(file) = class_file(alloc, files[i].as_slice()) else {
+            return Err(NoMemory);
+        };
+        let Ok(()) = classes.push(file) else {
+            return Err(NoMemory);
+        };
     }
     Ok(classes)
 }

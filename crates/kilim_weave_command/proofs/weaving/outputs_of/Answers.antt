@@ -4,4 +4,4 @@ use Rattle.kilim_weave_command.proofs.weaving.outputs_of.Goals as goal
 
 pub loop-file-preserved : goal.loop-file-preserved
 loop-file-preserved c =
-    mapped_last (output_of c.args.to.now) c.loop-file.outputs c.push.new.self c.loop-file.yielded c.in-Some.file c.in_ok-output_of.field-0 c.loop-file.invariant c.in_ok-output_of.ensures c.in_ok-push.ensures.ok
+    mapped_last (output_of c.args.to.now) c.loop-file.outputs c.push.new.self c.loop-file.yielded c.in-Some.file c.in-Ok.output c.loop-file.invariant c.in-Ok.ensures c.in-Ok-push.ensures.ok

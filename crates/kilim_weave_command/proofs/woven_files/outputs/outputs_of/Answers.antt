@@ -4,5 +4,5 @@ use Rattle.kilim_weave_command.proofs.woven_files.outputs.outputs_of.Goals as go
 
 pub loop-at-preserved : goal.loop-at-preserved
 loop-at-preserved c =
-    outputs_more c.args.program.now c.args.program.now.classes c.in-Some.class.now c.args.files.now c.loop-at.outputs c.push.new.self c.loop-at.at c.file_at-file.result.now c.in_ok-output.output c.file_at-file.ensures.there (sym c.in-Some.ensures)
-    c.in_ok-push.ensures.ok c.in_ok-output.ensures c.loop-at.invariant
+    outputs_more c.args.program.now c.args.program.now.classes c.in-Some.class.now c.args.files.now c.loop-at.outputs c.push.new.self c.loop-at.at c.file_at-file.result.now c.in-Ok.output c.file_at-file.ensures.there (sym c.in-Some.ensures)
+    c.in-Ok-push.ensures.ok c.in-Ok.ensures c.loop-at.invariant

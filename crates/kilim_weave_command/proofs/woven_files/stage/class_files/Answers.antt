@@ -4,5 +4,5 @@ use Rattle.kilim_weave_command.proofs.woven_files.stage.class_files.Goals as goa
 
 pub loop-i-preserved : goal.loop-i-preserved
 loop-i-preserved c =
-    files_more c.args.files.now c.loop-i.classes c.push.new.self c.loop-i.i c.index-files-i.result c.as_slice.result.now c.in_ok-file.file c.index-files-i.is (omega (arith, c.loop-i-test.true)) c.as_slice.ensures
-    c.in_ok-push.ensures.ok c.loop-i.invariant c.in_ok-file.ensures
+    files_more c.args.files.now c.loop-i.classes c.push.new.self c.loop-i.i c.index-files-i.result c.as_slice.result.now c.in-Ok.file c.index-files-i.is (omega (arith, c.loop-i-test.true)) c.as_slice.ensures
+    c.in-Ok-push.ensures.ok c.loop-i.invariant c.in-Ok.ensures
