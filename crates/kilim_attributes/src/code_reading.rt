@@ -147,7 +147,9 @@ fn push_attributes_at<'a>(
     for _ in 0..count {
         match code_attribute_at(alloc, pool, attributes.as_slice(), rest) {
             Ok((attribute, after)) => {
-                attributes.push(attribute)?;
+                let Ok(()) = attributes.push(attribute) else {
+                    return Err(AttributeFault::Memory);
+                };
                 rest = after;
             }
             Err(fault) => return Err(fault),
@@ -259,7 +261,9 @@ fn so_many_handlers_at<'a>(
     for _ in 0..count {
         match handler_at(pool, rest) {
             Ok((handler, after)) => {
-                handlers.push(handler)?;
+                let Ok(()) = handlers.push(handler) else {
+                    return Err(AttributeFault::Memory);
+                };
                 rest = after;
             }
             Err(fault) => return Err(fault),

@@ -79,7 +79,9 @@ fn classes_at<'a>(
     for _ in 0..count {
         match index_at(pool, EntryKind::Class, EXCEPTIONS_END, rest) {
             Ok((class, after)) => {
-                classes.push(class)?;
+                let Ok(()) = classes.push(class) else {
+                    return Err(AttributeFault::Memory);
+                };
                 rest = after;
             }
             Err(fault) => return Err(fault),

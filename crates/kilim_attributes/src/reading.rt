@@ -142,7 +142,9 @@ fn push_attributes_at<'a>(
     for _ in 0..count {
         match attribute_at(alloc, pool, place, attributes.as_slice(), rest) {
             Ok((attribute, after)) => {
-                attributes.push(attribute)?;
+                let Ok(()) = attributes.push(attribute) else {
+                    return Err(AttributeFault::Memory);
+                };
                 rest = after;
             }
             Err(fault) => return Err(fault),

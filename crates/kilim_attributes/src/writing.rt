@@ -18,8 +18,12 @@ fn push_named(name: u16, content: &[u8], into: &mut Vec<u8>) -> Result<(), Alloc
     requires { length content.now < 2 ^ 32 }
     ensures { OnOk result (into.new.items ≡ into.old.items ++ named_text name content.now) }
 {
-    push_u16(into, name)?;
-    push_u32(into, content.len() as u32)?;
+    let Ok(()) = push_u16(into, name) else {
+        return Err(AllocError);
+    };
+    let Ok(()) = push_u32(into, content.len() as u32) else {
+        return Err(AllocError);
+    };
     into.extend_from_slice(content)
 }
 
@@ -42,7 +46,9 @@ fn push_code_attribute(
     ensures { OnOk result (into.new.items ≡ into.old.items ++ code_attribute_text attribute.now) }
 {
     let mut content = Vec::new(alloc);
-    push_code_info(&attribute.info, &mut content)?;
+    let Ok(()) = push_code_info(&attribute.info, &mut content) else {
+        return Err(AllocError);
+    };
     push_named(attribute.attribute_name_index, content.as_slice(), into)
 }
 
@@ -55,7 +61,9 @@ fn push_code_attributes(
     ensures { OnOk result (into.new.items ≡ into.old.items ++ flat_map code_attribute_text attributes.now) }
 {
     for attribute in attributes {
-        push_code_attribute(alloc, attribute, into)?;
+        let Ok(()) = push_code_attribute(alloc, attribute, into) else {
+            return Err(AllocError);
+        };
     }
     Ok(())
 }
@@ -63,9 +71,15 @@ fn push_code_attributes(
 fn push_handler(handler: &ExceptionHandler, into: &mut Vec<u8>) -> Result<(), AllocError>
     ensures { OnOk result (into.new.items ≡ into.old.items ++ handler_text handler.now) }
 {
-    push_u16(into, handler.start_pc)?;
-    push_u16(into, handler.end_pc)?;
-    push_u16(into, handler.handler_pc)?;
+    let Ok(()) = push_u16(into, handler.start_pc) else {
+        return Err(AllocError);
+    };
+    let Ok(()) = push_u16(into, handler.end_pc) else {
+        return Err(AllocError);
+    };
+    let Ok(()) = push_u16(into, handler.handler_pc) else {
+        return Err(AllocError);
+    };
     push_u16(into, handler.catch_type)
 }
 
@@ -73,7 +87,9 @@ fn push_handlers(handlers: &[ExceptionHandler], into: &mut Vec<u8>) -> Result<()
     ensures { OnOk result (into.new.items ≡ into.old.items ++ flat_map handler_text handlers.now) }
 {
     for handler in handlers {
-        push_handler(handler, into)?;
+        let Ok(()) = push_handler(handler, into) else {
+            return Err(AllocError);
+        };
     }
     Ok(())
 }
@@ -90,12 +106,24 @@ fn push_code(alloc: Global, code: &Code, into: &mut Vec<u8>) -> Result<(), Alloc
     requires { CodeIsSized code.now }
     ensures { OnOk result (into.new.items ≡ into.old.items ++ code_text code.now) }
 {
-    push_u16(into, code.max_stack)?;
-    push_u16(into, code.max_locals)?;
-    push_code_bytes(code.code.as_slice(), into)?;
-    push_u16(into, code.exception_table.len() as u16)?;
-    push_handlers(code.exception_table.as_slice(), into)?;
-    push_u16(into, code.attributes.len() as u16)?;
+    let Ok(()) = push_u16(into, code.max_stack) else {
+        return Err(AllocError);
+    };
+    let Ok(()) = push_u16(into, code.max_locals) else {
+        return Err(AllocError);
+    };
+    let Ok(()) = push_code_bytes(code.code.as_slice(), into) else {
+        return Err(AllocError);
+    };
+    let Ok(()) = push_u16(into, code.exception_table.len() as u16) else {
+        return Err(AllocError);
+    };
+    let Ok(()) = push_handlers(code.exception_table.as_slice(), into) else {
+        return Err(AllocError);
+    };
+    let Ok(()) = push_u16(into, code.attributes.len() as u16) else {
+        return Err(AllocError);
+    };
     push_code_attributes(alloc, code.attributes.as_slice(), into)
 }
 
@@ -103,7 +131,9 @@ fn push_each_class(classes: &[u16], into: &mut Vec<u8>) -> Result<(), AllocError
     ensures { OnOk result (into.new.items ≡ into.old.items ++ flat_map u2 classes.now) }
 {
     for class in classes {
-        push_u16(into, *class)?;
+        let Ok(()) = push_u16(into, *class) else {
+            return Err(AllocError);
+        };
     }
     Ok(())
 }
@@ -142,7 +172,9 @@ fn push_attribute(
     ensures { OnOk result (into.new.items ≡ into.old.items ++ attribute_text attribute.now) }
 {
     let mut content = Vec::new(alloc);
-    push_info(alloc, &attribute.info, &mut content)?;
+    let Ok(()) = push_info(alloc, &attribute.info, &mut content) else {
+        return Err(AllocError);
+    };
     push_named(attribute.attribute_name_index, content.as_slice(), into)
 }
 
@@ -155,7 +187,9 @@ fn push_attributes(
     ensures { OnOk result (into.new.items ≡ into.old.items ++ flat_map attribute_text attributes.now) }
 {
     for attribute in attributes {
-        push_attribute(alloc, attribute, into)?;
+        let Ok(()) = push_attribute(alloc, attribute, into) else {
+            return Err(AllocError);
+        };
     }
     Ok(())
 }
@@ -166,8 +200,12 @@ fn text_of(alloc: Global, attributes: &Seq<Attribute>) -> Result<Vec<u8>, AllocE
     ensures { IfOk result (λ text. text.items ≡ attributes_text attributes.now) }
 {
     let mut text = Vec::new(alloc);
-    push_u16(&mut text, attributes.len() as u16)?;
-    push_attributes(alloc, attributes.as_slice(), &mut text)?;
+    let Ok(()) = push_u16(&mut text, attributes.len() as u16) else {
+        return Err(AllocError);
+    };
+    let Ok(()) = push_attributes(alloc, attributes.as_slice(), &mut text) else {
+        return Err(AllocError);
+    };
     Ok(text)
 }
 

@@ -13,7 +13,7 @@ returns-in-Err c =
 
 pub loop-preserved : goal.loop-preserved
 loop-preserved c =
-    rw c.in_ok-push-in-Ok.ensures.ok (goes_on (index_at c.args.pool.now kind.Class (fault.Length name.Exceptions)) c.loop.classes c.args.count c.loop.counter c.loop.rest.now c.in-Ok.class c.in-Ok.after.now (many (index_at c.args.pool.now kind.Class (fault.Length name.Exceptions)) c.args.count c.args.bytes.now) c.loop-test.true c.in-Ok.ensures c.loop.invariant)
+    rw c.in-Ok-push.ensures.ok (goes_on (index_at c.args.pool.now kind.Class (fault.Length name.Exceptions)) c.loop.classes c.args.count c.loop.counter c.loop.rest.now c.in-Ok.class c.in-Ok.after.now (many (index_at c.args.pool.now kind.Class (fault.Length name.Exceptions)) c.args.count c.args.bytes.now) c.loop-test.true c.in-Ok.ensures c.loop.invariant)
 
 pub returns : goal.returns
 returns c = is_done (index_at c.args.pool.now kind.Class (fault.Length name.Exceptions)) c.loop.classes c.args.count c.loop.counter c.loop.rest.now (many (index_at c.args.pool.now kind.Class (fault.Length name.Exceptions)) c.args.count c.args.bytes.now) c.loop-test.false c.loop.invariant

@@ -8,7 +8,7 @@ use Rattle.kilim_attributes.proofs.writing.push_code_attributes.Goals as goal
 pub loop-attribute-preserved : goal.loop-attribute-preserved
 loop-attribute-preserved c =
     behind code_attribute_text c.args.into.now.items c.loop-attribute.into.items c.push_code_attribute.new.into.items c.args.attributes.now c.loop-attribute.attribute-index c.attribute-item.result _
-    c.loop-attribute-test.true c.attribute-item.is c.loop-attribute.invariant c.in_ok-push_code_attribute.ensures
+    c.loop-attribute-test.true c.attribute-item.is c.loop-attribute.invariant c.in-Ok.ensures
 
 pub returns : goal.returns
 returns c = c.loop-attribute.invariant ∙ ap (λ xs. c.args.into.now.items ++ flat_map code_attribute_text xs) (take_all c.loop-attribute.attribute-index c.args.attributes.now c.loop-attribute-test.false)
