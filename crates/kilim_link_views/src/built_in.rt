@@ -19,8 +19,12 @@ fn built_ins(alloc: Global, form: Form) -> Result<Program, NoMemory>
     ensures { IfOk result (λ program. program ≡ built_ins form) }
 {
     built_in_keeps();
-    let classes = built_in_classes(alloc, form, 0, 0)?;
-    let methods = built_in_methods(alloc, form, 0)?;
+    let Ok(classes) = built_in_classes(alloc, form, 0, 0) else {
+        return Err(NoMemory);
+    };
+    let Ok(methods) = built_in_methods(alloc, form, 0) else {
+        return Err(NoMemory);
+    };
     Ok(Program {
         classes,
         methods,
@@ -60,9 +64,15 @@ fn push_base(text: &mut Vec<u16>, program: &Program, base: Base) -> Result<(), N
 fn push_class(text: &mut Vec<u16>, name: &[u16]) -> Result<(), NoMemory>
     ensures { OnOk result (text.new.items ≡ text.old.items ++ (codes "L" ++ (name.now ++ codes ";"))) }
 {
-    text.push(76)?;
-    text.extend_from_slice(name)?;
-    text.push(59)?;
+    let Ok(()) = text.push(76) else {
+        return Err(NoMemory);
+    };
+    let Ok(()) = text.extend_from_slice(name) else {
+        return Err(NoMemory);
+    };
+    let Ok(()) = text.push(59) else {
+        return Err(NoMemory);
+    };
     Ok(())
 }
 
@@ -91,10 +101,14 @@ fn push_result(text: &mut Vec<u16>, program: &Program, gives: Option<Ty>) -> Res
     ensures { OnOk result (text.new.items ≡ text.old.items ++ result_descriptor program.now gives) }
 {
     match gives {
-        None => text.push(86)?,
-        Some(ty) => push_type(text, program, ty)?,
+        None => {
+            let Ok(()) = text.push(86) else {
+                return Err(NoMemory);
+            };
+            Ok(())
+        }
+        Some(ty) => push_type(text, program, ty),
     }
-    Ok(())
 }
 
 // Appends the descriptor of a method.
@@ -105,9 +119,15 @@ fn push_method_descriptor(
 ) -> Result<(), NoMemory>
     ensures { OnOk result (text.new.items ≡ text.old.items ++ method_descriptor program.now method.now) }
 {
-    text.push(40)?;
-    push_types(text, program, method.params.as_slice())?;
-    text.push(41)?;
+    let Ok(()) = text.push(40) else {
+        return Err(NoMemory);
+    };
+    let Ok(()) = push_types(text, program, method.params.as_slice()) else {
+        return Err(NoMemory);
+    };
+    let Ok(()) = text.push(41) else {
+        return Err(NoMemory);
+    };
     push_result(text, program, method.result)
 }
 
@@ -120,8 +140,13 @@ pub fn method_descriptor(
     ensures { IfOk result (λ text. text ≡ method_descriptor program.now method.now) }
 {
     let mut text = Vec::new(alloc);
-    push_method_descriptor(&mut text, program, method)?;
-    Ok(Units::from_vec(alloc, text)?)
+    let Ok(()) = push_method_descriptor(&mut text, program, method) else {
+        return Err(NoMemory);
+    };
+    let Ok(text) = Units::from_vec(alloc, text) else {
+        return Err(NoMemory);
+    };
+    Ok(text)
 }
 
 // What a built-in method may do with what it is handed.
@@ -141,10 +166,16 @@ fn push_built_in(
 ) -> Result<(), NoMemory>
     ensures { OnOk result (methods.new ≡ methods.old ++ declared_built_in program.now method.now ∷ []) }
 {
-    let name = Units::from_slice(alloc, method.name.as_slice())?;
-    let descriptor = method_descriptor(alloc, program, method)?;
-    let marks = stated(alloc, method)?;
-    methods.push(DeclaredMethod {
+    let Ok(name) = Units::from_slice(alloc, method.name.as_slice()) else {
+        return Err(NoMemory);
+    };
+    let Ok(descriptor) = method_descriptor(alloc, program, method) else {
+        return Err(NoMemory);
+    };
+    let Ok(marks) = stated(alloc, method) else {
+        return Err(NoMemory);
+    };
+    let Ok(()) = methods.push(DeclaredMethod {
         name,
         descriptor,
         is_static: method.is_static,
@@ -153,7 +184,9 @@ fn push_built_in(
         is_final: false,
         pausable: method.pausable,
         marks,
-    })?;
+    }) else {
+        return Err(NoMemory);
+    };
     Ok(())
 }
 
@@ -182,7 +215,9 @@ fn declared_methods(
 {
     let mut methods = Seq::new(alloc);
     for id in ids {
-        push_declared(alloc, &mut methods, program, *id)?;
+        let Ok(()) = push_declared(alloc, &mut methods, program, *id) else {
+            return Err(NoMemory);
+        };
     }
     Ok(methods)
 }
@@ -219,10 +254,16 @@ fn push_view(
 ) -> Result<(), NoMemory>
     ensures { OnOk result (views.new ≡ views.old ++ view_of_built_in program.now class.now ∷ []) }
 {
-    let methods = declared_methods(alloc, program, class.methods.as_slice())?;
-    let name = Units::from_slice(alloc, class.name.as_slice())?;
-    let superclass = superclass_name(alloc, program, class.superclass)?;
-    views.push(ClassView {
+    let Ok(methods) = declared_methods(alloc, program, class.methods.as_slice()) else {
+        return Err(NoMemory);
+    };
+    let Ok(name) = Units::from_slice(alloc, class.name.as_slice()) else {
+        return Err(NoMemory);
+    };
+    let Ok(superclass) = superclass_name(alloc, program, class.superclass) else {
+        return Err(NoMemory);
+    };
+    let Ok(()) = views.push(ClassView {
         name,
         superclass,
         is_marked: class.message,
@@ -231,7 +272,9 @@ fn push_view(
         is_built_in: true,
         fields: Seq::new(alloc),
         methods,
-    })?;
+    }) else {
+        return Err(NoMemory);
+    };
     Ok(())
 }
 
@@ -241,7 +284,9 @@ fn views_of(alloc: Global, program: &Program) -> Result<Seq<ClassView>, NoMemory
 {
     let mut views = Seq::new(alloc);
     for class in program.classes.as_slice() {
-        push_view(alloc, &mut views, program, class)?;
+        let Ok(()) = push_view(alloc, &mut views, program, class) else {
+            return Err(NoMemory);
+        };
     }
     Ok(views)
 }
@@ -250,6 +295,10 @@ fn views_of(alloc: Global, program: &Program) -> Result<Seq<ClassView>, NoMemory
 pub fn built_in_views(alloc: Global, form: Form) -> Result<Seq<ClassView>, NoMemory>
     ensures { IfOk result (λ views. views ≡ map (view_of_built_in (built_ins form)) (built_in_classes_in form 0 0)) }
 {
-    let program = built_ins(alloc, form)?;
-    views_of(alloc, &program)
+    let Ok(program) = built_ins(alloc, form) else {
+        return Err(NoMemory);
+    };
+    let views = views_of(alloc, &program);
+    drop(program);
+    views
 }

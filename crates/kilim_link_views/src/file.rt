@@ -29,15 +29,27 @@ fn is_marked(file: &ClassFile) -> bool
 pub fn view_of_file(alloc: Global, file: &ClassFile) -> Result<ClassView, NoMemory>
     ensures { IfOk result (λ view. view ≡ view_of_file file.now) }
 {
+    let Ok(name) = Units::from_slice(alloc, own_name(file)) else {
+        return Err(NoMemory);
+    };
+    let Ok(superclass) = Units::from_slice(alloc, super_name(file)) else {
+        return Err(NoMemory);
+    };
+    let Ok(fields) = declared_fields(alloc, file) else {
+        return Err(NoMemory);
+    };
+    let Ok(methods) = declared_methods(alloc, file) else {
+        return Err(NoMemory);
+    };
     let flags = file.access_flags;
     Ok(ClassView {
-        name: Units::from_slice(alloc, own_name(file))?,
-        superclass: Some(Units::from_slice(alloc, super_name(file))?),
+        name,
+        superclass: Some(superclass),
         is_marked: is_marked(file),
         is_abstract: has_flag(ABSTRACT, flags),
         is_final: has_flag(FINAL, flags),
         is_built_in: false,
-        fields: declared_fields(alloc, file)?,
-        methods: declared_methods(alloc, file)?,
+        fields,
+        methods,
     })
 }

@@ -52,7 +52,9 @@ fn outermost(alloc: Global, parts: &[AnnotationPart]) -> Result<Seq<AnnotationPa
     let mut pending = 0u128;
     for part in parts {
         if pending == 0 {
-            outer.push(*part)?;
+            let Ok(()) = outer.push(*part) else {
+                return Err(NoMemory);
+            };
             pending = u128::from(opened(part));
         } else {
             pending = u128::from(asked_count(part)) + (pending - 1);
@@ -70,7 +72,11 @@ fn types_before(alloc: Global, parts: &[AnnotationPart]) -> Result<Seq<u16>, NoM
     while let [part, after @ ..] = rest {
         match part {
             AnnotationPart::Annotations(_) => return Ok(types),
-            AnnotationPart::Annotation(ty, _) => types.push(*ty)?,
+            AnnotationPart::Annotation(ty, _) => {
+                let Ok(()) = types.push(*ty) else {
+                    return Err(NoMemory);
+                };
+            }
             _ => {}
         }
         rest = after;
@@ -86,7 +92,14 @@ fn lists_of(alloc: Global, parts: &[AnnotationPart]) -> Result<Seq<Seq<u16>>, No
     let mut rest = parts;
     while let [part, after @ ..] = rest {
         match part {
-            AnnotationPart::Annotations(_) => lists.push(types_before(alloc, after)?)?,
+            AnnotationPart::Annotations(_) => {
+                let Ok(types) = types_before(alloc, after) else {
+                    return Err(NoMemory);
+                };
+                let Ok(()) = lists.push(types) else {
+                    return Err(NoMemory);
+                };
+            }
             _ => {}
         }
         rest = after;
@@ -108,8 +121,12 @@ pub fn params_in(alloc: Global, parts: &[AnnotationPart]) -> Result<Seq<Seq<u16>
 fn push_text(alloc: Global, texts: &mut Seq<Units>, pool: &Pool, index: u16) -> Result<(), NoMemory>
     ensures { OnOk result (texts.new ≡ texts.old ++ text_of pool.now index ∷ []) }
 {
-    let text = Units::from_slice(alloc, text_of(pool, index))?;
-    texts.push(text)?;
+    let Ok(text) = Units::from_slice(alloc, text_of(pool, index)) else {
+        return Err(NoMemory);
+    };
+    let Ok(()) = texts.push(text) else {
+        return Err(NoMemory);
+    };
     Ok(())
 }
 
@@ -166,7 +183,9 @@ pub fn annotation_types(
 {
     let mut types = Seq::new(alloc);
     for attribute in member.attributes.as_slice() {
-        push_types_of(alloc, &mut types, pool, &attribute.info)?;
+        let Ok(()) = push_types_of(alloc, &mut types, pool, &attribute.info) else {
+            return Err(NoMemory);
+        };
     }
     Ok(types)
 }
@@ -188,7 +207,9 @@ fn texts_of(alloc: Global, pool: &Pool, indices: &[u16]) -> Result<Seq<Units>, N
 {
     let mut texts = Seq::new(alloc);
     for index in indices {
-        push_text(alloc, &mut texts, pool, *index)?;
+        let Ok(()) = push_text(alloc, &mut texts, pool, *index) else {
+            return Err(NoMemory);
+        };
     }
     Ok(texts)
 }
@@ -199,7 +220,12 @@ fn each_texts(alloc: Global, pool: &Pool, lists: &[Seq<u16>]) -> Result<Seq<Seq<
 {
     let mut texts = Seq::new(alloc);
     for list in lists {
-        texts.push(texts_of(alloc, pool, list.as_slice())?)?;
+        let Ok(of_list) = texts_of(alloc, pool, list.as_slice()) else {
+            return Err(NoMemory);
+        };
+        let Ok(()) = texts.push(of_list) else {
+            return Err(NoMemory);
+        };
     }
     Ok(texts)
 }
@@ -226,7 +252,14 @@ fn push_parameter_types(
     ensures { OnOk result (types.new ≡ types.old ++ map (λ parts. map (λ types. map (text_of pool.now) types) (params_in parts)) (option_to_list (parameter_parts info.now))) }
 {
     match parameter_parts(info) {
-        Some(parts) => types.push(texts_in(alloc, pool, parts.as_slice())?)?,
+        Some(parts) => {
+            let Ok(texts) = texts_in(alloc, pool, parts.as_slice()) else {
+                return Err(NoMemory);
+            };
+            let Ok(()) = types.push(texts) else {
+                return Err(NoMemory);
+            };
+        }
         None => {}
     }
     Ok(())
@@ -242,7 +275,9 @@ pub fn parameter_types(
 {
     let mut types = Seq::new(alloc);
     for attribute in method.attributes.as_slice() {
-        push_parameter_types(alloc, &mut types, pool, &attribute.info)?;
+        let Ok(()) = push_parameter_types(alloc, &mut types, pool, &attribute.info) else {
+            return Err(NoMemory);
+        };
     }
     Ok(types)
 }

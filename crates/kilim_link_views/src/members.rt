@@ -48,8 +48,12 @@ pub fn is_pausable(pool: &Pool, method: &MemberInfo) -> bool
 fn marks(alloc: Global, pool: &Pool, method: &MemberInfo) -> Result<Marks, NoMemory>
     ensures { IfOk result (λ marks. marks ≡ Annotated (annotation_types pool.now method.now) (parameter_types pool.now method.now)) }
 {
-    let on_it = annotation_types(alloc, pool, method)?;
-    let on_parameters = parameter_types(alloc, pool, method)?;
+    let Ok(on_it) = annotation_types(alloc, pool, method) else {
+        return Err(NoMemory);
+    };
+    let Ok(on_parameters) = parameter_types(alloc, pool, method) else {
+        return Err(NoMemory);
+    };
     Ok(Marks::Annotated(on_it, on_parameters))
 }
 
@@ -61,16 +65,25 @@ pub fn declared_method(
 ) -> Result<DeclaredMethod, NoMemory>
     ensures { IfOk result (λ declared. declared ≡ declared_method file.now method.now) }
 {
+    let Ok(name) = Units::from_slice(alloc, member_name(file, method)) else {
+        return Err(NoMemory);
+    };
+    let Ok(descriptor) = Units::from_slice(alloc, member_descriptor(file, method)) else {
+        return Err(NoMemory);
+    };
+    let Ok(marks) = marks(alloc, &file.constant_pool, method) else {
+        return Err(NoMemory);
+    };
     let flags = method.access_flags;
     Ok(DeclaredMethod {
-        name: Units::from_slice(alloc, member_name(file, method))?,
-        descriptor: Units::from_slice(alloc, member_descriptor(file, method))?,
+        name,
+        descriptor,
         is_static: has_flag(STATIC, flags),
         is_private: has_flag(PRIVATE, flags),
         is_abstract: has_flag(ABSTRACT, flags),
         is_final: has_flag(FINAL, flags),
         pausable: is_pausable(&file.constant_pool, method),
-        marks: marks(alloc, &file.constant_pool, method)?,
+        marks,
     })
 }
 
@@ -83,7 +96,12 @@ fn push_declared_method(
 ) -> Result<(), NoMemory>
     ensures { OnOk result (methods.new ≡ methods.old ++ declared_method file.now method.now ∷ []) }
 {
-    methods.push(declared_method(alloc, file, method)?)?;
+    let Ok(declared) = declared_method(alloc, file, method) else {
+        return Err(NoMemory);
+    };
+    let Ok(()) = methods.push(declared) else {
+        return Err(NoMemory);
+    };
     Ok(())
 }
 
@@ -93,7 +111,9 @@ pub fn declared_methods(alloc: Global, file: &ClassFile) -> Result<Seq<DeclaredM
 {
     let mut methods = Seq::new(alloc);
     for method in file.methods.as_slice() {
-        push_declared_method(alloc, &mut methods, file, method)?;
+        let Ok(()) = push_declared_method(alloc, &mut methods, file, method) else {
+            return Err(NoMemory);
+        };
     }
     Ok(methods)
 }
@@ -107,9 +127,15 @@ fn push_declared_field(
 ) -> Result<(), NoMemory>
     ensures { OnOk result (fields.new ≡ fields.old ++ declared_field file.now field.now ∷ []) }
 {
-    let name = Units::from_slice(alloc, member_name(file, field))?;
-    let descriptor = Units::from_slice(alloc, member_descriptor(file, field))?;
-    fields.push(DeclaredField { name, descriptor })?;
+    let Ok(name) = Units::from_slice(alloc, member_name(file, field)) else {
+        return Err(NoMemory);
+    };
+    let Ok(descriptor) = Units::from_slice(alloc, member_descriptor(file, field)) else {
+        return Err(NoMemory);
+    };
+    let Ok(()) = fields.push(DeclaredField { name, descriptor }) else {
+        return Err(NoMemory);
+    };
     Ok(())
 }
 
@@ -119,7 +145,9 @@ pub fn declared_fields(alloc: Global, file: &ClassFile) -> Result<Seq<DeclaredFi
 {
     let mut fields = Seq::new(alloc);
     for field in file.fields.as_slice() {
-        push_declared_field(alloc, &mut fields, file, field)?;
+        let Ok(()) = push_declared_field(alloc, &mut fields, file, field) else {
+            return Err(NoMemory);
+        };
     }
     Ok(fields)
 }

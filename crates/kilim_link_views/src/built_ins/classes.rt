@@ -18,7 +18,9 @@ fn methods_from(alloc: Global, first: u32, distances: &[u8]) -> Result<Seq<Metho
 {
     let mut ids = Seq::new(alloc);
     for distance in distances {
-        ids.push(MethodId(first + u32::from(*distance)))?;
+        let Ok(()) = ids.push(MethodId(first + u32::from(*distance))) else {
+            return Err(NoMemory);
+        };
     }
     Ok(ids)
 }
@@ -34,16 +36,22 @@ fn push_class(
     requires { method < 2 ^ 31 }
     ensures { OnOk result (classes.new ≡ classes.old ++ class_of superclass method row.now ∷ []) }
 {
-    let name = text(alloc, row.name)?;
-    let methods = methods_from(alloc, method, row.methods)?;
-    classes.push(Class {
+    let Ok(name) = text(alloc, row.name) else {
+        return Err(NoMemory);
+    };
+    let Ok(methods) = methods_from(alloc, method, row.methods) else {
+        return Err(NoMemory);
+    };
+    let Ok(()) = classes.push(Class {
         name,
         superclass,
         is_abstract: false,
         message: row.message,
         fields: Seq::new(alloc),
         methods,
-    })?;
+    }) else {
+        return Err(NoMemory);
+    };
     Ok(())
 }
 
@@ -87,8 +95,14 @@ pub fn built_in_classes(
     ensures { IfOk result (λ classes. classes ≡ built_in_classes_in form first method) }
 {
     let mut classes = Seq::new(alloc);
-    push_class(alloc, &mut classes, None, method, &OBJECT_CLASS)?;
-    push_classes(alloc, &mut classes, first, method, CLASSES)?;
-    push_classes(alloc, &mut classes, first, method, fiber_classes(form))?;
+    let Ok(()) = push_class(alloc, &mut classes, None, method, &OBJECT_CLASS) else {
+        return Err(NoMemory);
+    };
+    let Ok(()) = push_classes(alloc, &mut classes, first, method, CLASSES) else {
+        return Err(NoMemory);
+    };
+    let Ok(()) = push_classes(alloc, &mut classes, first, method, fiber_classes(form)) else {
+        return Err(NoMemory);
+    };
     Ok(classes)
 }

@@ -35,16 +35,24 @@ fn params_of(alloc: Global, form: Form, first: u32, row: &MethodRow) -> Result<S
     ensures { IfOk result (λ params. params ≡ params_of form first row.now) }
 {
     let mut params = Vec::new(alloc);
-    push_types(&mut params, first, row.params)?;
-    push_types(&mut params, first, fiber_kinds(form, row.pausable))?;
+    let Ok(()) = push_types(&mut params, first, row.params) else {
+        return Err(NoMemory);
+    };
+    let Ok(()) = push_types(&mut params, first, fiber_kinds(form, row.pausable)) else {
+        return Err(NoMemory);
+    };
     Ok(Seq::from_vec(params))
 }
 
 fn marks_of(alloc: Global, form: Form, row: &MethodRow) -> Result<Seq<Qualifier>, NoMemory>
     ensures { IfOk result (λ marks. marks ≡ marks_of form row.now) }
 {
-    let mut marks = Vec::from_slice(alloc, row.qualifiers)?;
-    marks.extend_from_slice(fiber_marks(form, row.pausable))?;
+    let Ok(mut marks) = Vec::from_slice(alloc, row.qualifiers) else {
+        return Err(NoMemory);
+    };
+    let Ok(()) = marks.extend_from_slice(fiber_marks(form, row.pausable)) else {
+        return Err(NoMemory);
+    };
     Ok(Seq::from_vec(marks))
 }
 
@@ -60,8 +68,12 @@ fn push_method(
     ensures { OnOk result (methods.new ≡ methods.old ++ method_of form first row.now ∷ []) }
 {
     let name = text(alloc, row.name)?;
-    let params = params_of(alloc, form, first, row)?;
-    let qualifiers = marks_of(alloc, form, row)?;
+    let Ok(params) = params_of(alloc, form, first, row) else {
+        return Err(NoMemory);
+    };
+    let Ok(qualifiers) = marks_of(alloc, form, row) else {
+        return Err(NoMemory);
+    };
     methods.push(Method {
         name,
         owner: ClassId(first + u32::from(row.owner)),
@@ -118,7 +130,11 @@ pub fn built_in_methods(alloc: Global, form: Form, first: u32) -> Result<Seq<Met
     ensures { IfOk result (λ methods. methods ≡ built_in_methods_in form first) }
 {
     let mut methods = Seq::new(alloc);
-    push_methods(alloc, &mut methods, form, first, METHODS)?;
-    push_methods(alloc, &mut methods, form, first, fiber_methods(form))?;
+    let Ok(()) = push_methods(alloc, &mut methods, form, first, METHODS) else {
+        return Err(NoMemory);
+    };
+    let Ok(()) = push_methods(alloc, &mut methods, form, first, fiber_methods(form)) else {
+        return Err(NoMemory);
+    };
     Ok(methods)
 }

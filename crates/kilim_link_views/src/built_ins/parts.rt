@@ -14,9 +14,14 @@ pub fn text(alloc: Global, ascii: &[u8]) -> Result<Units, NoMemory>
 {
     let mut units = Vec::new(alloc);
     for byte in ascii {
-        units.push(u16::from(*byte))?;
+        let Ok(()) = units.push(u16::from(*byte)) else {
+            return Err(NoMemory);
+        };
     }
-    Ok(Units::from_vec(alloc, units)?)
+    let Ok(text) = Units::from_vec(alloc, units) else {
+        return Err(NoMemory);
+    };
+    Ok(text)
 }
 
 // The type of a kind.

@@ -8,7 +8,7 @@ use Rattle.std.specs.List.{flat_map}
 use Rattle.kilim_link_views.proofs.marks.annotation_types.Goals as goal
 
 pub loop-attribute-preserved : goal.loop-attribute-preserved
-loop-attribute-preserved c = joined_in (λ (a : Attribute). map (text_of c.args.pool.now) (types_on_member (annotation_parts a.info))) c.loop-attribute.types c.push_types_of.new.types c.as_slice-attribute-items.result.now c.args.member.now.attributes c.loop-attribute.attribute-index c.attribute-item.result c.as_slice-attribute-items.ensures c.loop-attribute-test.true c.attribute-item.is c.loop-attribute.invariant c.in_ok-push_types_of.ensures
+loop-attribute-preserved c = joined_in (λ (a : Attribute). map (text_of c.args.pool.now) (types_on_member (annotation_parts a.info))) c.loop-attribute.types c.push_types_of.new.types c.as_slice-attribute-items.result.now c.args.member.now.attributes c.loop-attribute.attribute-index c.attribute-item.result c.as_slice-attribute-items.ensures c.loop-attribute-test.true c.attribute-item.is c.loop-attribute.invariant c.in-Ok.ensures
 
 pub returns : goal.returns
 returns c = c.loop-attribute.invariant ∙ ap (flat_map (λ (a : Attribute). map (text_of c.args.pool.now) (types_on_member (annotation_parts a.info)))) (taken_in c.as_slice-attribute-items.result.now c.args.member.now.attributes c.loop-attribute.attribute-index c.as_slice-attribute-items.ensures c.loop-attribute-test.false)

@@ -15,7 +15,7 @@ loop-attribute-preserved c =
     let make = λ (parts : List AnnotationPart). map (λ (types : List ℕ). map (text_of c.args.pool.now) types) (params_in parts) in
     let search = λ (a : Attribute). parameter_parts a.info in
     found_step make search c.as_slice-attribute-items.result.now c.loop-attribute.attribute-index c.attribute-item.result c.loop-attribute.types c.push_parameter_types.new.types c.loop-attribute-test.true c.loop-attribute.invariant
-    (c.in_ok-push_parameter_types.ensures ∙ ap (λ (a : Attribute). c.loop-attribute.types ++ map make (option_to_list (search a))) c.attribute-item.is)
+    (c.in-Ok.ensures ∙ ap (λ (a : Attribute). c.loop-attribute.types ++ map make (option_to_list (search a))) c.attribute-item.is)
 
 pub returns : goal.returns
 returns c =
