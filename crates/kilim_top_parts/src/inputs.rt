@@ -17,8 +17,10 @@ fn read_one<F: Folder>(alloc: Global, name: &str, files: &mut F) -> Result<Seq<u
     ensures cause { FolderCause (Read name.now) (F.faults files.old) (F.faults files.new) result }
 {
     let mut bytes = Vec::new(alloc);
-    files.read(name, &mut bytes)?;
-    Ok(Seq::from_vec(bytes))
+    match files.read(name, &mut bytes) {
+        Ok(()) => Ok(Seq::from_vec(bytes)),
+        Err(fault) => Err(fault),
+    }
 }
 
 /// Reads the files of these names in order, up to the first that can't be read.
@@ -34,7 +36,11 @@ pub fn read_all<F: Folder>(
     let mut read = Seq::new(alloc);
     for name in names {
         match read_one(alloc, name.as_str(), files) {
-            Ok(bytes) => read.push(bytes)?,
+            Ok(bytes) => {
+                let Ok(()) = read.push(bytes) else {
+                    return Err(FolderFault::NoMemory);
+                };
+            }
             Err(fault) => return Err(fault),
         }
     }

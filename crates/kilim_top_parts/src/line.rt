@@ -86,8 +86,10 @@ fn tasks_of(journal: &[Entry]) -> Result<usize, NoMemory>
 fn front_of(alloc: Global, number: u64, tasks: usize, puts: usize) -> Result<Vec<u8>, NoMemory>
     ensures { IfOk result (λ text. text.items ≡ front_of number tasks puts) }
 {
-    let text = format!(in alloc; "demo {number} tasks {tasks} puts {puts}")?;
-    Ok(text.into_bytes())
+    match format!(in alloc; "demo {number} tasks {tasks} puts {puts}") {
+        Ok(text) => Ok(text.into_bytes()),
+        Err(_) => Err(NoMemory),
+    }
 }
 
 // The rest of the line goes behind its front.
@@ -95,9 +97,14 @@ fn front_of(alloc: Global, number: u64, tasks: usize, puts: usize) -> Result<Vec
 fn push_back(text: &mut Vec<u8>, takes: usize, prints: usize, sum: i64) -> Result<(), NoMemory>
     ensures { OnOk result (text.new.items ≡ text.old.items ++ back_of takes prints sum) }
 {
-    let back = format!(in *text.allocator(); " takes {takes} prints {prints} sum {sum}\n")?;
-    text.extend_from_slice(back.as_bytes())?;
-    Ok(())
+    let Ok(back) = format!(in *text.allocator(); " takes {takes} prints {prints} sum {sum}\n")
+    else {
+        return Err(NoMemory);
+    };
+    match text.extend_from_slice(back.as_bytes()) {
+        Ok(()) => Ok(()),
+        Err(_) => Err(NoMemory),
+    }
 }
 
 /// The line of the demo of a number, counted from its journal: how many tasks, puts, takes and prints, and the sum of the printed
@@ -105,12 +112,18 @@ fn push_back(text: &mut Vec<u8>, takes: usize, prints: usize, sum: i64) -> Resul
 pub fn demo_line(alloc: Global, number: u64, journal: &[Entry]) -> Result<Vec<u8>, NoMemory>
     ensures { IfOk result (λ text. text.items ≡ demo_line number journal.now) }
 {
-    let tasks = tasks_of(journal)?;
+    let Ok(tasks) = tasks_of(journal) else {
+        return Err(NoMemory);
+    };
     let puts = count(Kind::Put, journal);
     let takes = count(Kind::Take, journal);
     let prints = count(Kind::Print, journal);
     let sum = sum_of(journal);
-    let mut text = front_of(alloc, number, tasks, puts)?;
-    push_back(&mut text, takes, prints, sum)?;
+    let Ok(mut text) = front_of(alloc, number, tasks, puts) else {
+        return Err(NoMemory);
+    };
+    let Ok(()) = push_back(&mut text, takes, prints, sum) else {
+        return Err(NoMemory);
+    };
     Ok(text)
 }

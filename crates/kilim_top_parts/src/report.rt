@@ -23,7 +23,9 @@ fn encoded(alloc: Global, chars: &[char]) -> Result<Vec<u16>, AllocError>
     let mut units = Vec::new(alloc);
     for c in chars {
         let mut pair = [0u16; 2];
-        units.extend_from_slice(c.encode_utf16(&mut pair))?;
+        let Ok(()) = units.extend_from_slice(c.encode_utf16(&mut pair)) else {
+            return Err(AllocError);
+        };
     }
     Ok(units)
 }
@@ -39,9 +41,15 @@ pub fn utf16_of(alloc: Global, text: &str) -> Result<Vec<u16>, AllocError>
 fn line_of(alloc: Global, name: &[u8]) -> Result<Vec<u8>, AllocError>
     ensures { IfOk result (λ text. text.items ≡ codes "main " ++ (name.now ++ codes "\n")) }
 {
-    let mut text = Vec::from_slice(alloc, b"main ")?;
-    text.extend_from_slice(name)?;
-    text.push(b'\n')?;
+    let Ok(mut text) = Vec::from_slice(alloc, b"main ") else {
+        return Err(AllocError);
+    };
+    let Ok(()) = text.extend_from_slice(name) else {
+        return Err(AllocError);
+    };
+    let Ok(()) = text.push(b'\n') else {
+        return Err(AllocError);
+    };
     Ok(text)
 }
 
@@ -49,14 +57,21 @@ fn line_of(alloc: Global, name: &[u8]) -> Result<Vec<u8>, AllocError>
 pub fn no_main(alloc: Global, name: &[u16]) -> Result<Vec<u8>, NoMemory>
     ensures { IfOk result (λ text. text.items ≡ named_line name.now) }
 {
-    let text = kilim_units::name_text(alloc, name)?;
-    Ok(line_of(alloc, text.as_slice())?)
+    let Ok(text) = kilim_units::name_text(alloc, name) else {
+        return Err(NoMemory);
+    };
+    match line_of(alloc, text.as_slice()) {
+        Ok(line) => Ok(line),
+        Err(_) => Err(NoMemory),
+    }
 }
 
 /// The line of accepted files: how many classes they have, and how many methods with code.
 pub fn accepted_line(alloc: Global, classes: usize, methods: usize) -> Result<Vec<u8>, AllocError>
     ensures { IfOk result (λ text. text.items ≡ accepted_line classes methods) }
 {
-    let line = format!(in alloc; "accepted {classes} {methods}\n")?;
-    Ok(line.into_bytes())
+    match format!(in alloc; "accepted {classes} {methods}\n") {
+        Ok(line) => Ok(line.into_bytes()),
+        Err(_) => Err(AllocError),
+    }
 }

@@ -47,8 +47,12 @@ pub fn start_of(alloc: Global, words: &RunWords<'_>) -> Result<Start, NoMemory>
     ensures main { IfOk result (λ start. start.main.items ≡ utf16_of words.now.main.now) }
     ensures limits { IfOk result (λ start. start.limits ≡ limits_of words.now.steps (numbers_of (map string_bytes words.now.args.now))) }
 {
-    let main = utf16_of(alloc, words.main)?;
-    let args = integers(alloc, words.args)?;
+    let Ok(main) = utf16_of(alloc, words.main) else {
+        return Err(NoMemory);
+    };
+    let Ok(args) = integers(alloc, words.args) else {
+        return Err(NoMemory);
+    };
     let limits = Limits {
         steps: words.steps,
         args,

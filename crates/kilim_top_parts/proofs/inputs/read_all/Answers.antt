@@ -11,7 +11,7 @@ returns-in-Err-clause-cause g c =
 pub loop-name-preserved : goal.loop-name-preserved
 loop-name-preserved g c = record {
   read = read_more string_bytes _ _ c.args.names.now c.loop-name.name-index c.name-item.result c.loop-name.read _ c.as_str.result.now c.in-Ok.bytes c.name-item.is (omega (arith, c.loop-name-test.true, c.loop-name.auto.name-index-end)) c.as_str.ensures.value
-      c.loop-name.invariant.contents c.in_ok-push-in-Ok.ensures.ok c.loop-name.invariant.read c.in-Ok.ensures.read;
+      c.loop-name.invariant.contents c.in-Ok-push.ensures.ok c.loop-name.invariant.read c.in-Ok.ensures.read;
   contents = c.in-Ok.ensures.contents ∙ c.loop-name.invariant.contents;
   faults = c.in-Ok.ensures.cause.ok ∙ c.loop-name.invariant.faults;
 }
