@@ -155,13 +155,15 @@ fn push_passed(
         .min(names.len())
         .min(types.len());
     for at in 0..count {
-        passed.push(Passed {
+        let Ok(()) = passed.push(Passed {
             name: names[at],
             ty: types[at],
             into: tys[at],
             qualifier: qualifiers[at],
             is_begun: false,
-        })?;
+        }) else {
+            return Err(NoMemory);
+        };
     }
     Ok(())
 }
@@ -170,7 +172,9 @@ fn push_passed(
 fn turned<T: Copy + Drop>(alloc: Global, items: &[T]) -> Result<Vec<T>, NoMemory>
     ensures { IfOk result (λ v. v.items ≡ reverse items.now) }
 {
-    let mut turned = Vec::from_slice(alloc, items)?;
+    let Ok(mut turned) = Vec::from_slice(alloc, items) else {
+        return Err(NoMemory);
+    };
     turned.reverse();
     Ok(turned)
 }
@@ -192,8 +196,12 @@ fn push_parameters(
     ensures { IfOk result (λ u. passed.new ≡ passed.old ++ spec.parameters callee.now.params callee.now.qualifiers (reverse (take (length callee.now.params) graph.now.stack)) (reverse (take (length callee.now.params) types.now))) }
 {
     let count = callee.params.len();
-    let names: Vec<Option<usize>> = turned(alloc, first(graph.stack.as_slice(), count))?;
-    let above: Vec<VType> = turned(alloc, first(types, count))?;
+    let Ok(names) = turned::<Option<usize>>(alloc, first(graph.stack.as_slice(), count)) else {
+        return Err(NoMemory);
+    };
+    let Ok(above) = turned::<VType>(alloc, first(types, count)) else {
+        return Err(NoMemory);
+    };
     push_passed(
         callee.params.as_slice(),
         callee.qualifiers.as_slice(),
@@ -230,9 +238,13 @@ fn all_passed(
 {
     let mut passed = Seq::new(alloc);
     if !callee.is_static {
-        passed.push(receiver(callee, graph, types))?;
+        let Ok(()) = passed.push(receiver(callee, graph, types)) else {
+            return Err(NoMemory);
+        };
     }
-    push_parameters(alloc, callee, graph, types, &mut passed)?;
+    let Ok(()) = push_parameters(alloc, callee, graph, types, &mut passed) else {
+        return Err(NoMemory);
+    };
     Ok(passed)
 }
 
@@ -250,11 +262,17 @@ fn pass(
     };
     match quality_in(program, argument) {
         Some(Qualifier::Free) => {
-            graph.nodes = give_away(alloc, graph.nodes.as_slice(), name)?;
+            let Ok(nodes) = give_away(alloc, graph.nodes.as_slice(), name) else {
+                return Err(NoMemory);
+            };
+            graph.nodes = nodes;
             Ok(())
         }
         Some(Qualifier::Cuttable) => {
-            graph.nodes = cut(alloc, graph.nodes.as_slice(), name, None, 0)?;
+            let Ok(nodes) = cut(alloc, graph.nodes.as_slice(), name, None, 0) else {
+                return Err(NoMemory);
+            };
+            graph.nodes = nodes;
             Ok(())
         }
         Some(Qualifier::Safe) | None => Ok(()),
@@ -271,7 +289,9 @@ fn pass_all(
     ensures { OnOk result (graph.new ≡ spec.after_call program.now arguments.now graph.old) }
 {
     for argument in arguments {
-        pass(alloc, program, graph, argument)?;
+        let Ok(()) = pass(alloc, program, graph, argument) else {
+            return Err(NoMemory);
+        };
     }
     Ok(())
 }
@@ -307,8 +327,12 @@ fn call(
 ) -> Result<(), NoMemory>
     ensures { OnOk result (graph.new ≡ spec.given_result program.now callee.now.result (popped (spec.takes_from callee.now) (spec.after_call program.now arguments.now graph.old))) }
 {
-    pass_all(alloc, program, arguments, graph)?;
-    pop_arguments(alloc, callee, graph)?;
+    let Ok(()) = pass_all(alloc, program, arguments, graph) else {
+        return Err(NoMemory);
+    };
+    let Ok(()) = pop_arguments(alloc, callee, graph) else {
+        return Err(NoMemory);
+    };
     give_result(program, callee.result, graph)
 }
 
@@ -344,6 +368,8 @@ pub fn call_method(
     let Some(callee) = callee else {
         return Ok(none_broken());
     };
-    let arguments = all_passed(alloc, callee, graph, types)?;
+    let Ok(arguments) = all_passed(alloc, callee, graph, types) else {
+        return Err(NoMemory);
+    };
     call_with(alloc, program, callee, arguments.as_slice(), graph)
 }

@@ -146,14 +146,20 @@ fn stored(
     let into = graph.node(at);
     broken.safe_changed = into.standing.is_safe();
     let Some(from) = value else {
-        drop_child(alloc, graph, label, at)?;
+        let Ok(()) = drop_child(alloc, graph, label, at) else {
+            return Err(NoMemory);
+        };
         return Ok(broken);
     };
     let node = graph.node(from);
     broken.not_free = !node.standing.is_root();
     broken.cycle = node.standing.is_root() && node.region == into.region;
-    drop_child(alloc, graph, label, at)?;
-    hang(alloc, graph, label, at, from)?;
+    let Ok(()) = drop_child(alloc, graph, label, at) else {
+        return Err(NoMemory);
+    };
+    let Ok(()) = hang(alloc, graph, label, at, from) else {
+        return Err(NoMemory);
+    };
     Ok(broken)
 }
 

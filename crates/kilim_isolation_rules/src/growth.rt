@@ -15,9 +15,15 @@ use std::alloc::Global;
 pub fn copied(alloc: Global, graph: &Graph) -> Result<Graph, NoMemory>
     ensures { IfOk result (λ new. new ≡ graph.now) }
 {
-    let locals = Vec::from_slice(alloc, graph.locals.as_slice())?;
-    let stack = Vec::from_slice(alloc, graph.stack.as_slice())?;
-    let nodes = Vec::from_slice(alloc, graph.nodes.as_slice())?;
+    let Ok(locals) = Vec::from_slice(alloc, graph.locals.as_slice()) else {
+        return Err(NoMemory);
+    };
+    let Ok(stack) = Vec::from_slice(alloc, graph.stack.as_slice()) else {
+        return Err(NoMemory);
+    };
+    let Ok(nodes) = Vec::from_slice(alloc, graph.nodes.as_slice()) else {
+        return Err(NoMemory);
+    };
     Ok(Graph {
         locals: Seq::from_vec(locals),
         stack: Seq::from_vec(stack),
@@ -29,7 +35,9 @@ pub fn copied(alloc: Global, graph: &Graph) -> Result<Graph, NoMemory>
 pub fn pop(alloc: Global, graph: &mut Graph, count: usize) -> Result<(), NoMemory>
     ensures { OnOk result (graph.new ≡ spec.popped count graph.old) }
 {
-    let left = Vec::from_slice(alloc, behind(graph.stack.as_slice(), count))?;
+    let Ok(left) = Vec::from_slice(alloc, behind(graph.stack.as_slice(), count)) else {
+        return Err(NoMemory);
+    };
     graph.stack = Seq::from_vec(left);
     Ok(())
 }
@@ -53,8 +61,12 @@ pub fn add(graph: &mut Graph, node: Node) -> Result<(), NoMemory>
     ensures { OnOk result (graph.new ≡ spec.added node graph.old) }
 {
     let number = graph.nodes.len();
-    push(graph, Some(number))?;
-    graph.nodes.push(node)?;
+    let Ok(()) = push(graph, Some(number)) else {
+        return Err(NoMemory);
+    };
+    let Ok(()) = graph.nodes.push(node) else {
+        return Err(NoMemory);
+    };
     Ok(())
 }
 
@@ -63,7 +75,9 @@ fn set_slot(slots: &mut Vec<Option<usize>>, at: usize, name: Option<usize>) -> R
     ensures { OnOk result (slots.new.items ≡ spec.with_slot slots.old.items at name) }
 {
     while slots.len() <= at {
-        slots.push(None)?;
+        let Ok(()) = slots.push(None) else {
+            return Err(NoMemory);
+        };
     }
     slots[at] = name;
     Ok(())
@@ -83,7 +97,10 @@ pub fn new_region(nodes: &[Node]) -> Result<usize, NoMemory>
 {
     let mut region = 0usize;
     for node in nodes {
-        region = region.max(node.region.checked_add(1).ok_or(NoMemory)?);
+        let Some(next) = node.region.checked_add(1) else {
+            return Err(NoMemory);
+        };
+        region = region.max(next);
     }
     Ok(region)
 }

@@ -62,7 +62,9 @@ fn push_none(graph: &mut Graph, count: usize) -> Result<(), NoMemory>
     ensures { OnOk result (graph.new ≡ record graph.old { stack = replicate count None ++ graph.old.stack }) }
 {
     for _ in 0..count {
-        push(graph, None)?;
+        let Ok(()) = push(graph, None) else {
+            return Err(NoMemory);
+        };
     }
     Ok(())
 }
@@ -71,8 +73,12 @@ fn push_none(graph: &mut Graph, count: usize) -> Result<(), NoMemory>
 fn passes(alloc: Global, graph: &mut Graph, takes: usize, gives: usize) -> Result<Broken, NoMemory>
     ensures { IfOk result (λ broken. marked broken graph.new ≡ plain (spec.passed_by takes gives graph.old)) }
 {
-    pop(alloc, graph, takes)?;
-    push_none(graph, gives)?;
+    let Ok(()) = pop(alloc, graph, takes) else {
+        return Err(NoMemory);
+    };
+    let Ok(()) = push_none(graph, gives) else {
+        return Err(NoMemory);
+    };
     Ok(none_broken())
 }
 
@@ -80,8 +86,12 @@ fn passes(alloc: Global, graph: &mut Graph, takes: usize, gives: usize) -> Resul
 fn makes(alloc: Global, graph: &mut Graph, takes: usize, kind: Kind) -> Result<Broken, NoMemory>
     ensures { IfOk result (λ broken. marked broken graph.new ≡ plain (marks.given kind (popped takes graph.old))) }
 {
-    pop(alloc, graph, takes)?;
-    give(graph, kind)?;
+    let Ok(()) = pop(alloc, graph, takes) else {
+        return Err(NoMemory);
+    };
+    let Ok(()) = give(graph, kind) else {
+        return Err(NoMemory);
+    };
     Ok(none_broken())
 }
 
@@ -99,8 +109,12 @@ fn stores_reference(alloc: Global, graph: &mut Graph, slot: u16) -> Result<Broke
     ensures { IfOk result (λ broken. marked broken graph.new ≡ actions.reference_stored graph.old slot) }
 {
     let name = slot_at(graph.stack.as_slice(), 0);
-    pop(alloc, graph, 1)?;
-    set_local(graph, usize::from(slot), name)?;
+    let Ok(()) = pop(alloc, graph, 1) else {
+        return Err(NoMemory);
+    };
+    let Ok(()) = set_local(graph, usize::from(slot), name) else {
+        return Err(NoMemory);
+    };
     Ok(none_broken())
 }
 
@@ -112,12 +126,18 @@ fn stores_value(
 ) -> Result<Broken, NoMemory>
     ensures { IfOk result (λ broken. marked broken graph.new ≡ plain (actions.value_stored slot is_long graph.old)) }
 {
-    pop(alloc, graph, 1)?;
-    set_local(graph, usize::from(slot), None)?;
+    let Ok(()) = pop(alloc, graph, 1) else {
+        return Err(NoMemory);
+    };
+    let Ok(()) = set_local(graph, usize::from(slot), None) else {
+        return Err(NoMemory);
+    };
     if !is_long {
         return Ok(none_broken());
     }
-    set_local(graph, usize::from(slot) + 1, None)?;
+    let Ok(()) = set_local(graph, usize::from(slot) + 1, None) else {
+        return Err(NoMemory);
+    };
     Ok(none_broken())
 }
 

@@ -61,19 +61,33 @@ fn copied(
 {
     let copied = first(names, count);
     let others = behind(names, count);
-    let mut new = Vec::from_slice(alloc, copied)?;
-    new.extend_from_slice(first(others, passed))?;
-    new.extend_from_slice(copied)?;
-    new.extend_from_slice(behind(others, passed))?;
+    let Ok(mut new) = Vec::from_slice(alloc, copied) else {
+        return Err(NoMemory);
+    };
+    let Ok(()) = new.extend_from_slice(first(others, passed)) else {
+        return Err(NoMemory);
+    };
+    let Ok(()) = new.extend_from_slice(copied) else {
+        return Err(NoMemory);
+    };
+    let Ok(()) = new.extend_from_slice(behind(others, passed)) else {
+        return Err(NoMemory);
+    };
     Ok(Seq::from_vec(new))
 }
 
 fn swapped(alloc: Global, names: &[Option<usize>]) -> Result<Seq<Option<usize>>, NoMemory>
     ensures { IfOk result (λ new. new ≡ spec.shuffled type_step.Swaps [] names.now) }
 {
-    let mut new = Vec::from_slice(alloc, first(behind(names, 1), 1))?;
-    new.extend_from_slice(first(names, 1))?;
-    new.extend_from_slice(behind(names, 2))?;
+    let Ok(mut new) = Vec::from_slice(alloc, first(behind(names, 1), 1)) else {
+        return Err(NoMemory);
+    };
+    let Ok(()) = new.extend_from_slice(first(names, 1)) else {
+        return Err(NoMemory);
+    };
+    let Ok(()) = new.extend_from_slice(behind(names, 2)) else {
+        return Err(NoMemory);
+    };
     Ok(Seq::from_vec(new))
 }
 

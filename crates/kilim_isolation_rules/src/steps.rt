@@ -151,7 +151,9 @@ pub fn cut(
 {
     let mut new = Seq::new(alloc);
     for number in 0..nodes.len() {
-        new.push(cut_node(nodes, holder, child, region, number))?;
+        let Ok(()) = new.push(cut_node(nodes, holder, child, region, number)) else {
+            return Err(NoMemory);
+        };
     }
     Ok(new)
 }
@@ -168,7 +170,9 @@ pub fn join(
 {
     let mut new = Seq::new(alloc);
     for number in 0..nodes.len() {
-        new.push(join_node(nodes, holder, value, label, number))?;
+        let Ok(()) = new.push(join_node(nodes, holder, value, label, number)) else {
+            return Err(NoMemory);
+        };
     }
     Ok(new)
 }
@@ -179,7 +183,9 @@ pub fn give_away(alloc: Global, nodes: &[Node], value: usize) -> Result<Seq<Node
 {
     let mut new = Seq::new(alloc);
     for number in 0..nodes.len() {
-        new.push(gone_node(nodes, value, number))?;
+        let Ok(()) = new.push(gone_node(nodes, value, number)) else {
+            return Err(NoMemory);
+        };
     }
     Ok(new)
 }

@@ -5,7 +5,7 @@ use Rattle.kilim_isolation_rules.proofs.growth.set_slot.Goals as goal
 
 pub loop-slots-preserved : goal.loop-slots-preserved
 loop-slots-preserved c =
-    ap (λ (xs : List (Option ℕ)). with_slot xs c.args.at c.args.name) c.in_ok-push.ensures.items
+    ap (λ (xs : List (Option ℕ)). with_slot xs c.args.at c.args.name) c.in-Ok.ensures.items
     ∙ (slot_more c.loop-slots.slots.items c.args.at c.args.name (search rules) ∙ c.loop-slots.invariant)
 
 pub returns : goal.returns

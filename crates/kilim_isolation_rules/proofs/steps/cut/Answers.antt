@@ -6,4 +6,4 @@ use Rattle.kilim_isolation_rules.proofs.steps.cut.Goals as goal
 
 pub loop-number-preserved : goal.loop-number-preserved
 loop-number-preserved c =
-    listed_more (cut_node (node_at c.args.nodes.now) (length c.args.nodes.now) c.args.holder c.args.child c.args.region) c.loop-number.number c.cut_node.result c.loop-number.new c.push.new.self c.cut_node.ensures c.in_ok-push.ensures.ok c.loop-number.invariant
+    listed_more (cut_node (node_at c.args.nodes.now) (length c.args.nodes.now) c.args.holder c.args.child c.args.region) c.loop-number.number c.cut_node.result c.loop-number.new c.push.new.self c.cut_node.ensures c.in-Ok.ensures.ok c.loop-number.invariant

@@ -6,4 +6,4 @@ use Rattle.kilim_isolation_rules.proofs.steps.give_away.Goals as goal
 
 pub loop-number-preserved : goal.loop-number-preserved
 loop-number-preserved c =
-    listed_more (gone_node (node_at c.args.nodes.now) c.args.value) c.loop-number.number c.gone_node.result c.loop-number.new c.push.new.self c.gone_node.ensures c.in_ok-push.ensures.ok c.loop-number.invariant
+    listed_more (gone_node (node_at c.args.nodes.now) c.args.value) c.loop-number.number c.gone_node.result c.loop-number.new c.push.new.self c.gone_node.ensures c.in-Ok.ensures.ok c.loop-number.invariant

@@ -6,4 +6,4 @@ use Rattle.kilim_isolation_rules.proofs.steps.join.Goals as goal
 
 pub loop-number-preserved : goal.loop-number-preserved
 loop-number-preserved c =
-    listed_more (join_node (node_at c.args.nodes.now) c.args.holder c.args.value c.args.label) c.loop-number.number c.join_node.result c.loop-number.new c.push.new.self c.join_node.ensures c.in_ok-push.ensures.ok c.loop-number.invariant
+    listed_more (join_node (node_at c.args.nodes.now) c.args.holder c.args.value c.args.label) c.loop-number.number c.join_node.result c.loop-number.new c.push.new.self c.join_node.ensures c.in-Ok.ensures.ok c.loop-number.invariant
