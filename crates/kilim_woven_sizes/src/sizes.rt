@@ -93,7 +93,13 @@ fn methods_entries(
         ps = later_plains;
         ms = later_wovens;
         cs = later_counted;
-        sum = plus(sum, method_entries(program, plain)?)?;
+        let Ok(entries) = method_entries(program, plain) else {
+            return Err(NoMemory);
+        };
+        let Ok(more) = plus(sum, entries) else {
+            return Err(NoMemory);
+        };
+        sum = more;
     }
     Ok(sum)
 }
@@ -148,9 +154,16 @@ fn method_length(
 ) -> Result<usize, NoMemory>
     ensures { IfOk result (λ n. n ≡ larger (larger least (spelled_length method.now.name)) (spelled_length (method_descriptor program.now method.now))) }
 {
-    let name = spelled_length(alloc, &method.name)?;
-    let text = method_descriptor(alloc, program, method)?;
-    Ok(larger(larger(least, name), spelled_length(alloc, &text)?))
+    let Ok(name) = spelled_length(alloc, &method.name) else {
+        return Err(NoMemory);
+    };
+    let Ok(text) = method_descriptor(alloc, program, method) else {
+        return Err(NoMemory);
+    };
+    let Ok(length) = spelled_length(alloc, &text) else {
+        return Err(NoMemory);
+    };
+    Ok(larger(larger(least, name), length))
 }
 
 fn method_longest(
@@ -176,9 +189,16 @@ fn field_length(
 ) -> Result<usize, NoMemory>
     ensures { IfOk result (λ n. n ≡ larger (larger least (spelled_length field.now.name)) (spelled_length (descriptor program.now field.now.ty))) }
 {
-    let name = spelled_length(alloc, &field.name)?;
-    let text = type_descriptor(alloc, program, field.ty)?;
-    Ok(larger(larger(least, name), spelled_length(alloc, &text)?))
+    let Ok(name) = spelled_length(alloc, &field.name) else {
+        return Err(NoMemory);
+    };
+    let Ok(text) = type_descriptor(alloc, program, field.ty) else {
+        return Err(NoMemory);
+    };
+    let Ok(length) = spelled_length(alloc, &text) else {
+        return Err(NoMemory);
+    };
+    Ok(larger(larger(least, name), length))
 }
 
 fn field_longest(
@@ -201,8 +221,12 @@ fn field_longest(
 pub fn longest_text(alloc: Global, program: &Program) -> Result<usize, NoMemory>
     ensures { IfOk result (λ n. n ≡ longest_text program.now) }
 {
-    let classes = class_longest(alloc, program.classes.as_slice(), 0)?;
-    let methods = method_longest(alloc, program, program.methods.as_slice(), classes)?;
+    let Ok(classes) = class_longest(alloc, program.classes.as_slice(), 0) else {
+        return Err(NoMemory);
+    };
+    let Ok(methods) = method_longest(alloc, program, program.methods.as_slice(), classes) else {
+        return Err(NoMemory);
+    };
     field_longest(alloc, program, program.fields.as_slice(), methods)
 }
 
@@ -231,9 +255,19 @@ fn weight(program: &Program, method: &Method, calls: u64) -> Result<u64, NoMemor
     ensures { IfOk result (λ n. n ≡ weight program.now method.now) }
 {
     let words = u64::from(method.max_locals) + u64::from(method.max_stack);
-    let groups = times(calls, 56 + 28 * words)?;
-    let rest = plus(switches_bytes(method.code.as_slice())?, groups)?;
-    plus(u64::from(method.code_length), plus(64, rest)?)
+    let Ok(groups) = times(calls, 56 + 28 * words) else {
+        return Err(NoMemory);
+    };
+    let Ok(switches) = switches_bytes(method.code.as_slice()) else {
+        return Err(NoMemory);
+    };
+    let Ok(rest) = plus(switches, groups) else {
+        return Err(NoMemory);
+    };
+    let Ok(added) = plus(64, rest) else {
+        return Err(NoMemory);
+    };
+    plus(u64::from(method.code_length), added)
 }
 
 fn frame_bytes(method: &Method) -> u64
@@ -246,7 +280,13 @@ fn frames_number(program: &Program, method: &Method, calls: u64) -> Result<u64, 
     requires { calls ≡ calls_in program.now method.now.code }
     ensures { IfOk result (λ n. n ≡ frames_number program.now method.now) }
 {
-    plus(method.frames.len() as u64, plus(times(4, calls)?, 1)?)
+    let Ok(groups) = times(4, calls) else {
+        return Err(NoMemory);
+    };
+    let Ok(added) = plus(groups, 1) else {
+        return Err(NoMemory);
+    };
+    plus(method.frames.len() as u64, added)
 }
 
 // The bytes of a method that pauses, beside its own.
@@ -254,10 +294,31 @@ fn pausing_bytes(program: &Program, info: &MemberInfo, method: &Method) -> Resul
     ensures { IfOk result (λ n. n ≡ weight program.now method.now + (64 + (8 * calls_in program.now method.now.code + (frames_number program.now method.now * frame_bytes method.now + 2 * length info.now.attributes)))) }
 {
     let calls = calls_in(program, method.code.as_slice()) as u64;
-    let frames = times(frames_number(program, method, calls)?, frame_bytes(method))?;
-    let parts = plus(frames, times(2, info.attributes.len() as u64)?)?;
-    let rest = plus(times(8, calls)?, parts)?;
-    plus(weight(program, method, calls)?, plus(64, rest)?)
+    let Ok(number) = frames_number(program, method, calls) else {
+        return Err(NoMemory);
+    };
+    let Ok(frames) = times(number, frame_bytes(method)) else {
+        return Err(NoMemory);
+    };
+    let Ok(attributes) = times(2, info.attributes.len() as u64) else {
+        return Err(NoMemory);
+    };
+    let Ok(parts) = plus(frames, attributes) else {
+        return Err(NoMemory);
+    };
+    let Ok(groups) = times(8, calls) else {
+        return Err(NoMemory);
+    };
+    let Ok(rest) = plus(groups, parts) else {
+        return Err(NoMemory);
+    };
+    let Ok(added) = plus(64, rest) else {
+        return Err(NoMemory);
+    };
+    let Ok(weight) = weight(program, method, calls) else {
+        return Err(NoMemory);
+    };
+    plus(weight, added)
 }
 
 fn method_bytes(program: &Program, info: &MemberInfo, method: &Method) -> Result<u64, NoMemory>
@@ -297,7 +358,13 @@ pub fn methods_bytes(
         ps = later_plains;
         ms = later_wovens;
         cs = later_counted;
-        sum = plus(sum, method_bytes(program, info, plain)?)?;
+        let Ok(bytes) = method_bytes(program, info, plain) else {
+            return Err(NoMemory);
+        };
+        let Ok(more) = plus(sum, bytes) else {
+            return Err(NoMemory);
+        };
+        sum = more;
     }
     Ok(sum)
 }
@@ -306,6 +373,14 @@ pub fn methods_bytes(
 pub fn size_by(old: usize, added: u64, longest: usize, methods: u64) -> Result<u64, NoMemory>
     ensures { IfOk result (λ n. n ≡ old + (added * entry_bytes longest + methods)) }
 {
-    let entries = times(added, plus(longest as u64, 280)?)?;
-    plus(old as u64, plus(entries, methods)?)
+    let Ok(each) = plus(longest as u64, 280) else {
+        return Err(NoMemory);
+    };
+    let Ok(entries) = times(added, each) else {
+        return Err(NoMemory);
+    };
+    let Ok(more) = plus(entries, methods) else {
+        return Err(NoMemory);
+    };
+    plus(old as u64, more)
 }

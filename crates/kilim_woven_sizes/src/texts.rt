@@ -21,6 +21,12 @@ use std::alloc::Global;
 /// The unit with which an array's descriptor begins, once for each dimension.
 const BRACKET: u16 = 91;
 
+fn units_of(alloc: Global, out: Vec<u16>) -> Result<Units, NoMemory>
+    ensures { IfOk result (λ units. units ≡ out.items) }
+{
+    Ok(Units::from_vec(alloc, out)?)
+}
+
 // ---- descriptors as they are read
 
 fn push_unit(out: &mut Vec<u16>, unit: u16) -> Result<(), NoMemory>
@@ -33,8 +39,12 @@ fn push_unit(out: &mut Vec<u16>, unit: u16) -> Result<(), NoMemory>
 fn push_class_text(out: &mut Vec<u16>, name: &Units) -> Result<(), NoMemory>
     ensures { OnOk result (out.new.items ≡ out.old.items ++ base_text (of_text.Class name.now)) }
 {
-    out.push(76)?;
-    out.extend_from_slice(name.as_slice())?;
+    let Ok(()) = out.push(76) else {
+        return Err(NoMemory);
+    };
+    let Ok(()) = out.extend_from_slice(name.as_slice()) else {
+        return Err(NoMemory);
+    };
     push_unit(out, 59)
 }
 
@@ -58,8 +68,12 @@ fn push_base_text(out: &mut Vec<u16>, base: &BaseText) -> Result<(), NoMemory>
 fn push_field_text(alloc: Global, out: &mut Vec<u16>, field: &FieldText) -> Result<(), NoMemory>
     ensures { OnOk result (out.new.items ≡ out.old.items ++ field_text field.now) }
 {
-    let brackets = vec![in alloc; BRACKET; usize::from(field.dims)]?;
-    out.extend_from_slice(brackets.as_slice())?;
+    let Ok(brackets) = vec![in alloc; BRACKET; usize::from(field.dims)] else {
+        return Err(NoMemory);
+    };
+    let Ok(()) = out.extend_from_slice(brackets.as_slice()) else {
+        return Err(NoMemory);
+    };
     push_base_text(out, &field.base)
 }
 
@@ -109,9 +123,15 @@ fn push_params_and_fiber(
 fn push_with_fiber(alloc: Global, out: &mut Vec<u16>, method: &MethodText) -> Result<(), NoMemory>
     ensures { OnOk result (out.new.items ≡ out.old.items ++ method_text (with_fiber method.now)) }
 {
-    out.push(40)?;
-    push_params_and_fiber(alloc, out, method.params.as_slice())?;
-    out.push(41)?;
+    let Ok(()) = out.push(40) else {
+        return Err(NoMemory);
+    };
+    let Ok(()) = push_params_and_fiber(alloc, out, method.params.as_slice()) else {
+        return Err(NoMemory);
+    };
+    let Ok(()) = out.push(41) else {
+        return Err(NoMemory);
+    };
     push_result(alloc, out, &method.result)
 }
 
@@ -119,8 +139,10 @@ fn text_with_fiber(alloc: Global, method: &MethodText) -> Result<Units, NoMemory
     ensures { IfOk result (λ units. units ≡ method_text (with_fiber method.now)) }
 {
     let mut out = Vec::new(alloc);
-    push_with_fiber(alloc, &mut out, method)?;
-    Ok(Units::from_vec(alloc, out)?)
+    let Ok(()) = push_with_fiber(alloc, &mut out, method) else {
+        return Err(NoMemory);
+    };
+    units_of(alloc, out)
 }
 
 /// A method's descriptor with the fiber as its last parameter (JVMS 4.3.3); a text that is none stays.
@@ -128,9 +150,10 @@ fn text_with_fiber(alloc: Global, method: &MethodText) -> Result<Units, NoMemory
 pub fn woven_descriptor(alloc: Global, units: &Units) -> Result<Units, NoMemory>
     ensures { IfOk result (λ text. text ≡ woven_descriptor units.now) }
 {
-    match method_text(alloc, units)? {
-        Some(method) => text_with_fiber(alloc, &method),
-        None => Ok(units.clone()?),
+    match method_text(alloc, units) {
+        Ok(Some(method)) => text_with_fiber(alloc, &method),
+        Ok(None) => Ok(units.clone()?),
+        Err(fault) => Err(fault),
     }
 }
 
@@ -155,8 +178,12 @@ fn push_class_descriptor(
 ) -> Result<(), NoMemory>
     ensures { OnOk result (out.new.items ≡ out.old.items ++ base_descriptor program.now (of_base.Class class)) }
 {
-    out.push(76)?;
-    push_class(out, program, class)?;
+    let Ok(()) = out.push(76) else {
+        return Err(NoMemory);
+    };
+    let Ok(()) = push_class(out, program, class) else {
+        return Err(NoMemory);
+    };
     push_unit(out, 59)
 }
 
@@ -204,8 +231,10 @@ pub fn type_name(alloc: Global, program: &Program, ty: Ty) -> Result<Units, NoMe
     ensures { IfOk result (λ name. name ≡ type_name program.now ty) }
 {
     let mut out = Vec::new(alloc);
-    push_entry_name(&mut out, program, ty)?;
-    Ok(Units::from_vec(alloc, out)?)
+    let Ok(()) = push_entry_name(&mut out, program, ty) else {
+        return Err(NoMemory);
+    };
+    units_of(alloc, out)
 }
 
 /// A type's descriptor (JVMS 4.3.2).
@@ -213,31 +242,50 @@ pub fn type_descriptor(alloc: Global, program: &Program, ty: Ty) -> Result<Units
     ensures { IfOk result (λ text. text ≡ descriptor program.now ty) }
 {
     let mut out = Vec::new(alloc);
-    push_type(&mut out, program, ty)?;
-    Ok(Units::from_vec(alloc, out)?)
+    let Ok(()) = push_type(&mut out, program, ty) else {
+        return Err(NoMemory);
+    };
+    units_of(alloc, out)
 }
 
 fn class_units(alloc: Global, program: &Program, class: ClassId) -> Result<Units, NoMemory>
     ensures { IfOk result (λ name. name ≡ class_name program.now class) }
 {
     let mut out = Vec::new(alloc);
-    push_class(&mut out, program, class)?;
-    Ok(Units::from_vec(alloc, out)?)
+    let Ok(()) = push_class(&mut out, program, class) else {
+        return Err(NoMemory);
+    };
+    units_of(alloc, out)
 }
 
 fn member_need(alloc: Global, program: &Program, method: &Method) -> Result<Need, NoMemory>
     ensures { IfOk result (λ need. need ≡ member_need program.now (Some method.now)) }
 {
-    let owner = class_units(alloc, program, method.owner)?;
-    let descriptor = method_descriptor(alloc, program, method)?;
-    Ok(Need::AMethod(owner, method.name.clone()?, descriptor))
+    let Ok(owner) = class_units(alloc, program, method.owner) else {
+        return Err(NoMemory);
+    };
+    let Ok(descriptor) = method_descriptor(alloc, program, method) else {
+        return Err(NoMemory);
+    };
+    let Ok(name) = method.name.clone() else {
+        return Err(NoMemory);
+    };
+    Ok(Need::AMethod(owner, name, descriptor))
 }
 
 fn no_member(alloc: Global) -> Result<Need, NoMemory>
     ensures { IfOk result (λ need. need ≡ AMethod [] [] []) }
 {
-    let nothing = Units::from_slice(alloc, &[])?;
-    Ok(Need::AMethod(nothing.clone()?, nothing.clone()?, nothing))
+    let Ok(nothing) = Units::from_slice(alloc, &[]) else {
+        return Err(NoMemory);
+    };
+    let Ok(owner) = nothing.clone() else {
+        return Err(NoMemory);
+    };
+    let Ok(name) = nothing.clone() else {
+        return Err(NoMemory);
+    };
+    Ok(Need::AMethod(owner, name, nothing))
 }
 
 /// What a call of a method needs, by its names in the program.

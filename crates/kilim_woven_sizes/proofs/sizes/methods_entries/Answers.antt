@@ -9,10 +9,10 @@ use Rattle.kilim_woven_sizes.proofs.sizes.methods_entries.Goals as goal
 
 pub loop-info-preserved : goal.loop-info-preserved
 loop-info-preserved c =
-    paired (λ (info : MemberInfo) (m : Method). method_entries c.args.program.now m) c.args.infos.now c.loop-info.ps.now c.loop-info.ms.now c.loop-info.cs.now c.loop-info.info-index c.info-item.result _ c.plain-item.result c.loop-info.sum c.in_ok-sum.sum
+    paired (λ (info : MemberInfo) (m : Method). method_entries c.args.program.now m) c.args.infos.now c.loop-info.ps.now c.loop-info.ms.now c.loop-info.cs.now c.loop-info.info-index c.info-item.result _ c.plain-item.result c.loop-info.sum c.in-Ok-plus.more
     (methods_entries c.args.program.now (pairs_of c.args.infos.now c.args.plains.now c.args.wovens.now c.args.counted.now))
     c.loop-info-test.true c.info-item.is c.in-len1-up.len_at_least c.plain-item.is c.in-len1-up-ms.len_at_least c.in-len1-up-cs.len_at_least
-    (c.in_ok-sum.ensures ∙ ap (λ (n : ℕ). c.loop-info.sum + n) c.in_ok-method_entries.ensures) c.loop-info.invariant
+    (c.in-Ok-plus.ensures ∙ ap (λ (n : ℕ). c.loop-info.sum + n) c.in-Ok.ensures) c.loop-info.invariant
 
 pub returns : goal.returns
 returns c =
