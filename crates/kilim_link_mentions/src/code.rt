@@ -65,10 +65,15 @@ fn instrs_in(alloc: Global, code: Option<&Code>) -> Result<Seq<(u32, RawInstr)>,
 {
     match code {
         None => Ok(Seq::new(alloc)),
-        Some(code) => match decoded(alloc, code.code.as_slice())? {
-            Ok(body) => Ok(body.code),
-            Err(_) => Ok(Seq::new(alloc)),
-        },
+        Some(code) => {
+            let Ok(found) = decoded(alloc, code.code.as_slice()) else {
+                return Err(NoMemory);
+            };
+            match found {
+                Ok(body) => Ok(body.code),
+                Err(_) => Ok(Seq::new(alloc)),
+            }
+        }
     }
 }
 

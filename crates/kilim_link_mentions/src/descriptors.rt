@@ -27,12 +27,19 @@ pub fn method_text(alloc: Global, units: &Units) -> Result<Option<MethodText>, N
 pub fn named_by(alloc: Global, name: &[u16]) -> Result<Named, NoMemory>
     ensures { IfOk result (λ found. found ≡ named_by name.now) }
 {
-    let text = Units::from_slice(alloc, name)?;
+    let Ok(text) = Units::from_slice(alloc, name) else {
+        return Err(NoMemory);
+    };
     match name {
-        [91, ..] => match field_text(alloc, &text)? {
-            Some(found) => Ok(Named::AnArray(found)),
-            None => Ok(Named::Malformed(text)),
-        },
+        [91, ..] => {
+            let Ok(found) = field_text(alloc, &text) else {
+                return Err(NoMemory);
+            };
+            match found {
+                Some(found) => Ok(Named::AnArray(found)),
+                None => Ok(Named::Malformed(text)),
+            }
+        }
         _ => Ok(Named::AClass(text)),
     }
 }

@@ -24,9 +24,18 @@ fn push_slot(
 {
     match slot {
         VerificationType::Object(class) => {
-            into.push(Mention::OfClass(named_by(alloc, class_text(pool, class))?))?;
+            let Ok(class) = named_by(alloc, class_text(pool, class)) else {
+                return Err(NoMemory);
+            };
+            let Ok(()) = into.push(Mention::OfClass(class)) else {
+                return Err(NoMemory);
+            };
         }
-        VerificationType::Float | VerificationType::Double => into.push(Mention::OfFloat)?,
+        VerificationType::Float | VerificationType::Double => {
+            let Ok(()) = into.push(Mention::OfFloat) else {
+                return Err(NoMemory);
+            };
+        }
         _ => {}
     }
     Ok(())

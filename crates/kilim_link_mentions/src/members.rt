@@ -39,8 +39,12 @@ fn push_members(
     ensures { OnOk result (into.new ≡ into.old ++ flat_map (λ p. members_of_operand (operand_of pool.now p.1)) instrs.now) }
 {
     for (_, instr) in instrs {
-        let operand = operand_of(alloc, pool, instr)?;
-        push_member(into, operand)?;
+        let Ok(operand) = operand_of(alloc, pool, instr) else {
+            return Err(NoMemory);
+        };
+        let Ok(()) = push_member(into, operand) else {
+            return Err(NoMemory);
+        };
     }
     Ok(())
 }
@@ -79,11 +83,13 @@ pub fn members_named(alloc: Global, file: &ClassFile) -> Result<Seq<Member>, NoM
     ensures { IfOk result (λ members. members ≡ members_named file.now) }
 {
     let mut members = Seq::new(alloc);
-    push_members_of_each(
+    let Ok(()) = push_members_of_each(
         alloc,
         &mut members,
         &file.constant_pool,
         file.methods.as_slice(),
-    )?;
+    ) else {
+        return Err(NoMemory);
+    };
     Ok(members)
 }

@@ -35,8 +35,12 @@ fn is_anewarray(x: Option<(u8, u16)>) -> bool
 fn push_owner(alloc: Global, into: &mut Seq<Mention>, owner: Units) -> Result<(), NoMemory>
     ensures { OnOk result (into.new ≡ into.old ++ OfClass (named_by owner) ∷ []) }
 {
-    let class = named_by(alloc, owner.as_slice())?;
-    into.push(Mention::OfClass(class))?;
+    let Ok(class) = named_by(alloc, owner.as_slice()) else {
+        return Err(NoMemory);
+    };
+    let Ok(()) = into.push(Mention::OfClass(class)) else {
+        return Err(NoMemory);
+    };
     Ok(())
 }
 
@@ -49,8 +53,12 @@ fn push_access(
 ) -> Result<(), NoMemory>
     ensures { OnOk result (into.new ≡ into.old ++ OfClass (named_by owner) ∷ OfField descriptor ∷ []) }
 {
-    push_owner(alloc, into, owner)?;
-    into.push(Mention::OfField(descriptor))?;
+    let Ok(()) = push_owner(alloc, into, owner) else {
+        return Err(NoMemory);
+    };
+    let Ok(()) = into.push(Mention::OfField(descriptor)) else {
+        return Err(NoMemory);
+    };
     Ok(())
 }
 
@@ -63,8 +71,12 @@ fn push_call(
 ) -> Result<(), NoMemory>
     ensures { OnOk result (into.new ≡ into.old ++ OfClass (named_by owner) ∷ OfMethod 0 descriptor ∷ []) }
 {
-    push_owner(alloc, into, owner)?;
-    into.push(Mention::OfMethod(0, descriptor))?;
+    let Ok(()) = push_owner(alloc, into, owner) else {
+        return Err(NoMemory);
+    };
+    let Ok(()) = into.push(Mention::OfMethod(0, descriptor)) else {
+        return Err(NoMemory);
+    };
     Ok(())
 }
 
@@ -163,9 +175,15 @@ fn push_method(
 ) -> Result<(), NoMemory>
     ensures { OnOk result (into.new ≡ into.old ++ mentions_of_method file.now method.now) }
 {
-    let descriptor = Units::from_slice(alloc, member_descriptor(file, method))?;
-    into.push(Mention::OfMethod(this_slots(method), descriptor))?;
-    push_code_of(alloc, into, &file.constant_pool, method)?;
+    let Ok(descriptor) = Units::from_slice(alloc, member_descriptor(file, method)) else {
+        return Err(NoMemory);
+    };
+    let Ok(()) = into.push(Mention::OfMethod(this_slots(method), descriptor)) else {
+        return Err(NoMemory);
+    };
+    let Ok(()) = push_code_of(alloc, into, &file.constant_pool, method) else {
+        return Err(NoMemory);
+    };
     push_frames(alloc, into, &file.constant_pool, code_attribute(method))
 }
 
@@ -192,8 +210,12 @@ fn push_interfaces(
     ensures { OnOk result (into.new ≡ into.old ++ map (λ name. OfClass (AClass name)) (map (class_text pool.now) interfaces.now)) }
 {
     for index in interfaces {
-        let name = Units::from_slice(alloc, class_text(pool, *index))?;
-        into.push(Mention::OfClass(Named::AClass(name)))?;
+        let Ok(name) = Units::from_slice(alloc, class_text(pool, *index)) else {
+            return Err(NoMemory);
+        };
+        let Ok(()) = into.push(Mention::OfClass(Named::AClass(name))) else {
+            return Err(NoMemory);
+        };
     }
     Ok(())
 }
@@ -207,8 +229,12 @@ fn push_fields(
     ensures { OnOk result (into.new ≡ into.old ++ map (λ f. OfField (member_descriptor file.now f)) fields.now) }
 {
     for field in fields {
-        let descriptor = Units::from_slice(alloc, member_descriptor(file, field))?;
-        into.push(Mention::OfField(descriptor))?;
+        let Ok(descriptor) = Units::from_slice(alloc, member_descriptor(file, field)) else {
+            return Err(NoMemory);
+        };
+        let Ok(()) = into.push(Mention::OfField(descriptor)) else {
+            return Err(NoMemory);
+        };
     }
     Ok(())
 }
@@ -217,10 +243,19 @@ fn push_fields(
 fn push_file(alloc: Global, into: &mut Seq<Mention>, file: &ClassFile) -> Result<(), NoMemory>
     ensures { OnOk result (into.new ≡ into.old ++ mentions_of file.now) }
 {
-    let superclass = Units::from_slice(alloc, super_name(file))?;
-    into.push(Mention::OfClass(Named::AClass(superclass)))?;
-    push_interfaces(alloc, into, &file.constant_pool, file.interfaces.as_slice())?;
-    push_fields(alloc, into, file, file.fields.as_slice())?;
+    let Ok(superclass) = Units::from_slice(alloc, super_name(file)) else {
+        return Err(NoMemory);
+    };
+    let Ok(()) = into.push(Mention::OfClass(Named::AClass(superclass))) else {
+        return Err(NoMemory);
+    };
+    let Ok(()) = push_interfaces(alloc, into, &file.constant_pool, file.interfaces.as_slice())
+    else {
+        return Err(NoMemory);
+    };
+    let Ok(()) = push_fields(alloc, into, file, file.fields.as_slice()) else {
+        return Err(NoMemory);
+    };
     push_methods(alloc, into, file, file.methods.as_slice())
 }
 
@@ -231,6 +266,8 @@ pub fn mentions_of(alloc: Global, file: &ClassFile) -> Result<Seq<Mention>, NoMe
     ensures { IfOk result (λ mentions. mentions ≡ mentions_of file.now) }
 {
     let mut mentions = Seq::new(alloc);
-    push_file(alloc, &mut mentions, file)?;
+    let Ok(()) = push_file(alloc, &mut mentions, file) else {
+        return Err(NoMemory);
+    };
     Ok(mentions)
 }

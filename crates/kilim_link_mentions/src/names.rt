@@ -16,7 +16,14 @@ fn push_base(into: &mut Seq<Units>, base: &BaseText) -> Result<(), NoMemory>
     ensures { OnOk result (into.new ≡ into.old ++ base_names base.now) }
 {
     match base {
-        BaseText::Class(name) => into.push(name.clone()?)?,
+        BaseText::Class(name) => {
+            let Ok(name) = name.clone() else {
+                return Err(NoMemory);
+            };
+            let Ok(()) = into.push(name) else {
+                return Err(NoMemory);
+            };
+        }
         _ => {}
     }
     Ok(())
@@ -36,7 +43,14 @@ fn push_plain(into: &mut Seq<Units>, mention: &Mention) -> Result<(), NoMemory>
     ensures { OnOk result (into.new ≡ into.old ++ plain_names mention.now) }
 {
     match mention {
-        Mention::OfClass(Named::AClass(name)) => into.push(name.clone()?)?,
+        Mention::OfClass(Named::AClass(name)) => {
+            let Ok(name) = name.clone() else {
+                return Err(NoMemory);
+            };
+            let Ok(()) = into.push(name) else {
+                return Err(NoMemory);
+            };
+        }
         _ => {}
     }
     Ok(())
@@ -57,8 +71,19 @@ fn push_element(into: &mut Seq<Units>, class: &Named) -> Result<(), NoMemory>
     ensures { OnOk result (into.new ≡ into.old ++ flat_map type_names (element_types class.now)) }
 {
     match class {
-        Named::AClass(name) => into.push(name.clone()?)?,
-        Named::AnArray(found) => push_base(into, &found.base)?,
+        Named::AClass(name) => {
+            let Ok(name) = name.clone() else {
+                return Err(NoMemory);
+            };
+            let Ok(()) = into.push(name) else {
+                return Err(NoMemory);
+            };
+        }
+        Named::AnArray(found) => {
+            let Ok(()) = push_base(into, &found.base) else {
+                return Err(NoMemory);
+            };
+        }
         Named::Malformed(_) => {}
     }
     Ok(())
@@ -139,6 +164,8 @@ pub fn class_names(alloc: Global, mentions: &[Mention]) -> Result<Seq<Units>, No
     ensures { IfOk result (λ names. names ≡ flat_map names_mentioned mentions.now) }
 {
     let mut names = Seq::new(alloc);
-    push_names_of_each(alloc, &mut names, mentions)?;
+    let Ok(()) = push_names_of_each(alloc, &mut names, mentions) else {
+        return Err(NoMemory);
+    };
     Ok(names)
 }

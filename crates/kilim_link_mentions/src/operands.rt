@@ -28,10 +28,19 @@ fn member_of(
 ) -> Result<MemberOf, NoMemory>
     ensures { IfOk result (λ found. found ≡ record { owner = class_text pool.now class; name = text_of pool.now name; descriptor = text_of pool.now descriptor }) }
 {
+    let Ok(owner) = Units::from_slice(alloc, class_text(pool, class)) else {
+        return Err(NoMemory);
+    };
+    let Ok(name) = Units::from_slice(alloc, text_of(pool, name)) else {
+        return Err(NoMemory);
+    };
+    let Ok(descriptor) = Units::from_slice(alloc, text_of(pool, descriptor)) else {
+        return Err(NoMemory);
+    };
     Ok(MemberOf {
-        owner: Units::from_slice(alloc, class_text(pool, class))?,
-        name: Units::from_slice(alloc, text_of(pool, name))?,
-        descriptor: Units::from_slice(alloc, text_of(pool, descriptor))?,
+        owner,
+        name,
+        descriptor,
     })
 }
 

@@ -6,7 +6,7 @@ use Rattle.kilim_link_mentions.proofs.Joined.{mapped_twice, all_mapped_twice}
 use Rattle.kilim_link_mentions.proofs.mentions.push_interfaces.Goals as goal
 
 pub loop-index-preserved : goal.loop-index-preserved
-loop-index-preserved c = mapped_twice (λ name. OfClass (AClass name)) (class_text c.args.pool.now) c.args.into.now c.loop-index.into c.push.new.self c.args.interfaces.now c.loop-index.index-index _ _ (OfClass (AClass c.in_ok-name.name)) c.loop-index-test.true refl c.loop-index.invariant (ap (λ (text : List ℕ). OfClass (AClass text)) (c.in_ok-name.ensures ∙ c.class_text.ensures)) c.in_ok-push.ensures.ok
+loop-index-preserved c = mapped_twice (λ name. OfClass (AClass name)) (class_text c.args.pool.now) c.args.into.now c.loop-index.into c.push.new.self c.args.interfaces.now c.loop-index.index-index _ _ (OfClass (AClass c.in-Ok.name)) c.loop-index-test.true refl c.loop-index.invariant (ap (λ (text : List ℕ). OfClass (AClass text)) (c.in-Ok.ensures ∙ c.class_text.ensures)) c.in-Ok-push.ensures.ok
 
 pub returns : goal.returns
 returns c = all_mapped_twice (λ name. OfClass (AClass name)) (class_text c.args.pool.now) c.args.into.now c.loop-index.into c.args.interfaces.now c.loop-index.index-index c.loop-index-test.false c.loop-index.invariant
