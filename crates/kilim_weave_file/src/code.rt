@@ -30,8 +30,12 @@ fn push_moved(
 ) -> Result<(), NoMemory>
     ensures { OnOk result (into.new ≡ into.old ++ (entry.now.0, moved_raw program.now old.now pool.now entry.now.1 was.now) ∷ []) }
 {
-    let raw = moved_raw(alloc, program, old, pool, &entry.1, was)?;
-    into.push((entry.0, raw))?;
+    let Ok(raw) = moved_raw(alloc, program, old, pool, &entry.1, was) else {
+        return Err(NoMemory);
+    };
+    let Ok(()) = into.push((entry.0, raw)) else {
+        return Err(NoMemory);
+    };
     Ok(())
 }
 
@@ -44,8 +48,12 @@ fn push_added(
 ) -> Result<(), NoMemory>
     ensures { OnOk result (into.new ≡ into.old ++ (entry.now.0, added_raw program.now pool.now entry.now.1) ∷ []) }
 {
-    let raw = added_raw(alloc, program, pool, &entry.1)?;
-    into.push((entry.0, raw))?;
+    let Ok(raw) = added_raw(alloc, program, pool, &entry.1) else {
+        return Err(NoMemory);
+    };
+    let Ok(()) = into.push((entry.0, raw)) else {
+        return Err(NoMemory);
+    };
     Ok(())
 }
 
@@ -94,8 +102,10 @@ fn new_bytes(
 ) -> Result<Seq<u8>, NoMemory>
     ensures { IfOk result (λ b. b ≡ code_text (raw_code program.now old.now pool.now method.now.code counted.now (instrs_if (decoded bytes.now)))) }
 {
-    let olds = instrs_if(alloc, bytes)?;
-    let raw = raw_code(
+    let Ok(olds) = instrs_if(alloc, bytes) else {
+        return Err(NoMemory);
+    };
+    let Ok(raw) = raw_code(
         alloc,
         program,
         old,
@@ -103,7 +113,9 @@ fn new_bytes(
         method.code.as_slice(),
         counted,
         olds.as_slice(),
-    )?;
+    ) else {
+        return Err(NoMemory);
+    };
     code_bytes(alloc, raw.as_slice())
 }
 
@@ -127,7 +139,9 @@ fn one(alloc: Global, table: CodeAttribute) -> Result<Seq<CodeAttribute>, NoMemo
     ensures { IfOk result (λ v. v ≡ table ∷ []) }
 {
     let mut all = Seq::new(alloc);
-    all.push(table)?;
+    let Ok(()) = all.push(table) else {
+        return Err(NoMemory);
+    };
     Ok(all)
 }
 
@@ -142,9 +156,14 @@ fn new_table(
     if method.frames.is_empty() {
         return Ok(Seq::new(alloc));
     }
-    let units = table_units(alloc)?;
+    let Ok(units) = table_units(alloc) else {
+        return Err(NoMemory);
+    };
     let name = text_index(pool, &units);
-    one(alloc, table_with(alloc, program, pool, name, method)?)
+    let Ok(table) = table_with(alloc, program, pool, name, method) else {
+        return Err(NoMemory);
+    };
+    one(alloc, table)
 }
 
 // The StackMapTable, where there was one or there are frames.
@@ -192,8 +211,13 @@ fn renew(
 ) -> Result<(), NoMemory>
     ensures { OnOk result (code.new ≡ woven_code program.now old.now pool.now method.now counted.now code.old) }
 {
-    code.attributes = table_by(alloc, program, pool, old_table(code), method)?;
-    renew_bytes(alloc, program, old, pool, method, counted, &mut code.code)?;
+    let Ok(attributes) = table_by(alloc, program, pool, old_table(code), method) else {
+        return Err(NoMemory);
+    };
+    code.attributes = attributes;
+    let Ok(()) = renew_bytes(alloc, program, old, pool, method, counted, &mut code.code) else {
+        return Err(NoMemory);
+    };
     code.max_stack = method.max_stack;
     code.max_locals = method.max_locals;
     Ok(())

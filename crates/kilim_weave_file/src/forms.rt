@@ -60,7 +60,9 @@ fn place_numbers(alloc: Global, targets: &[u32]) -> Result<Seq<i64>, NoMemory>
 {
     let mut all = Vec::new(alloc);
     for to in targets {
-        all.push(i64::from(*to))?;
+        let Ok(()) = all.push(i64::from(*to)) else {
+            return Err(NoMemory);
+        };
     }
     Ok(Seq::from_vec(all))
 }
@@ -70,7 +72,9 @@ fn pair_numbers(alloc: Global, pairs: &[(i32, u32)]) -> Result<Seq<(i32, i64)>, 
 {
     let mut all = Vec::new(alloc);
     for pair in pairs {
-        all.push((pair.0, i64::from(pair.1)))?;
+        let Ok(()) = all.push((pair.0, i64::from(pair.1))) else {
+            return Err(NoMemory);
+        };
     }
     Ok(Seq::from_vec(all))
 }

@@ -48,10 +48,14 @@ fn slot_type(
         VType::Long => Ok(VerificationType::Long),
         VType::Null => Ok(VerificationType::Null),
         VType::UninitThis => Ok(VerificationType::UninitializedThis),
-        VType::Uninit(place) => Ok(VerificationType::Uninitialized(near_place(*place)?)),
-        VType::Object(ty) => {
-            Ok(VerificationType::Object(class_entry(alloc, program, pool, *ty)?))
-        }
+        VType::Uninit(place) => match near_place(*place) {
+            Ok(near) => Ok(VerificationType::Uninitialized(near)),
+            Err(fault) => Err(fault),
+        },
+        VType::Object(ty) => match class_entry(alloc, program, pool, *ty) {
+            Ok(index) => Ok(VerificationType::Object(index)),
+            Err(fault) => Err(fault),
+        },
     }
 }
 
@@ -65,7 +69,12 @@ fn slot_types(
 {
     let mut all = Vec::new(alloc);
     for of in types {
-        all.push(slot_type(alloc, program, pool, of)?)?;
+        let Ok(slot) = slot_type(alloc, program, pool, of) else {
+            return Err(NoMemory);
+        };
+        let Ok(()) = all.push(slot) else {
+            return Err(NoMemory);
+        };
     }
     Ok(Seq::from_vec(all))
 }
@@ -102,7 +111,10 @@ fn entries(alloc: Global, locals: &[VType]) -> Result<Vec<VType>, NoMemory>
     let mut skips = false;
     for index in 0..locals.len() {
         let of = local_at(locals, index);
-        skips = push_entry(&mut all, skips, of)?;
+        let Ok(is_next_skipped) = push_entry(&mut all, skips, of) else {
+            return Err(NoMemory);
+        };
+        skips = is_next_skipped;
     }
     Ok(all)
 }
@@ -123,9 +135,15 @@ fn full_frame(
 ) -> Result<Entered, NoMemory>
     ensures { IfOk result (λ f. f ≡ full_frame program.now pool.now delta frame.now) }
 {
-    let written = entries(alloc, frame.locals.as_slice())?;
-    let locals = slot_types(alloc, program, pool, written.as_slice())?;
-    let stack = slot_types(alloc, program, pool, frame.stack.as_slice())?;
+    let Ok(written) = entries(alloc, frame.locals.as_slice()) else {
+        return Err(NoMemory);
+    };
+    let Ok(locals) = slot_types(alloc, program, pool, written.as_slice()) else {
+        return Err(NoMemory);
+    };
+    let Ok(stack) = slot_types(alloc, program, pool, frame.stack.as_slice()) else {
+        return Err(NoMemory);
+    };
     Ok(Entered::Full(delta, locals, stack))
 }
 
@@ -142,9 +160,19 @@ pub fn full_frames(
     let mut all = Seq::new(alloc);
     let mut next = 0;
     for entry in frames {
-        let delta = delta_from(next, entry.0)?;
-        all.push(full_frame(alloc, program, pool, delta, &entry.1)?)?;
-        next = near_next(entry.0)?;
+        let Ok(delta) = delta_from(next, entry.0) else {
+            return Err(NoMemory);
+        };
+        let Ok(frame) = full_frame(alloc, program, pool, delta, &entry.1) else {
+            return Err(NoMemory);
+        };
+        let Ok(()) = all.push(frame) else {
+            return Err(NoMemory);
+        };
+        let Ok(behind) = near_next(entry.0) else {
+            return Err(NoMemory);
+        };
+        next = behind;
     }
     Ok(all)
 }

@@ -35,7 +35,9 @@ fn one_parameter_more(parts: Seq<AnnotationPart>) -> Result<Seq<AnnotationPart>,
         return Err(NoMemory);
     };
     items[0] = AnnotationPart::Parameters(more);
-    items.push(AnnotationPart::Annotations(0))?;
+    let Ok(()) = items.push(AnnotationPart::Annotations(0)) else {
+        return Err(NoMemory);
+    };
     Ok(Seq::from_vec(items))
 }
 
@@ -138,9 +140,11 @@ fn woven_attributes(
 {
     let mut all = Seq::new(alloc);
     for attribute in attributes.into_vec() {
-        push_woven(
+        let Ok(()) = push_woven(
             alloc, &mut all, program, old, pool, method, counted, attribute,
-        )?;
+        ) else {
+            return Err(NoMemory);
+        };
     }
     Ok(all)
 }
@@ -180,7 +184,17 @@ fn renewed(
     ensures { IfOk result (λ i. i ≡ record (rewritten program.now file.now pool.now method.now counted.now info) { descriptor_index = index }) }
 {
     let old = &file.constant_pool;
-    let attributes = woven_attributes(alloc, program, old, pool, method, counted, info.attributes)?;
+    let Ok(attributes) = woven_attributes(
+        alloc,
+        program,
+        old,
+        pool,
+        method,
+        counted,
+        info.attributes,
+    ) else {
+        return Err(NoMemory);
+    };
     Ok(MemberInfo {
         access_flags: info.access_flags,
         name_index: info.name_index,

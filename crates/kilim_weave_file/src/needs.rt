@@ -56,8 +56,12 @@ fn call_by(
 {
     match member {
         Some(Entry::NameAndType(name, descriptor)) => {
-            let text = text_of(alloc, pool, *descriptor)?;
-            let woven = woven_descriptor(alloc, &text)?;
+            let Ok(text) = text_of(alloc, pool, *descriptor) else {
+                return Err(NoMemory);
+            };
+            let Ok(woven) = woven_descriptor(alloc, &text) else {
+                return Err(NoMemory);
+            };
             Ok(Some(Need::ACall(class, *name, woven)))
         }
         _ => Ok(None),
@@ -209,8 +213,10 @@ fn push_instrs(
     ensures { OnOk result (into.new ≡ into.old ++ instrs_needs program.now pool.now method.now counted.now code.now) }
 {
     if has_calls(program, method) {
-        let olds = instrs_if(alloc, code.code.as_slice())?;
-        push_code(
+        let Ok(olds) = instrs_if(alloc, code.code.as_slice()) else {
+            return Err(NoMemory);
+        };
+        let Ok(()) = push_code(
             alloc,
             into,
             program,
@@ -218,7 +224,9 @@ fn push_instrs(
             method.code.as_slice(),
             counted,
             olds.as_slice(),
-        )?;
+        ) else {
+            return Err(NoMemory);
+        };
     }
     Ok(())
 }
@@ -261,7 +269,12 @@ fn push_table(
     ensures { OnOk result (into.new ≡ into.old ++ table_need name method.now) }
 {
     if name.is_none() && !method.frames.is_empty() {
-        into.push(Need::AText(table_units(alloc)?))?;
+        let Ok(units) = table_units(alloc) else {
+            return Err(NoMemory);
+        };
+        let Ok(()) = into.push(Need::AText(units)) else {
+            return Err(NoMemory);
+        };
     }
     Ok(())
 }
@@ -275,7 +288,14 @@ fn push_type(
     ensures { OnOk result (into.new ≡ into.old ++ type_needs program.now ty.now) }
 {
     match ty {
-        VType::Object(found) => into.push(Need::AClass(type_name(alloc, program, *found)?))?,
+        VType::Object(found) => {
+            let Ok(name) = type_name(alloc, program, *found) else {
+                return Err(NoMemory);
+            };
+            let Ok(()) = into.push(Need::AClass(name)) else {
+                return Err(NoMemory);
+            };
+        }
         _ => {}
     }
     Ok(())
@@ -290,7 +310,9 @@ fn push_types(
     ensures { OnOk result (into.new ≡ into.old ++ flat_map (type_needs program.now) types.now) }
 {
     for ty in types {
-        push_type(alloc, into, program, ty)?;
+        let Ok(()) = push_type(alloc, into, program, ty) else {
+            return Err(NoMemory);
+        };
     }
     Ok(())
 }
@@ -304,7 +326,9 @@ fn push_frame(
 ) -> Result<(), NoMemory>
     ensures { OnOk result (into.new ≡ into.old ++ frame_needs program.now frame.now) }
 {
-    push_types(alloc, into, program, frame.locals.as_slice())?;
+    let Ok(()) = push_types(alloc, into, program, frame.locals.as_slice()) else {
+        return Err(NoMemory);
+    };
     push_types(alloc, into, program, frame.stack.as_slice())
 }
 
@@ -317,7 +341,9 @@ fn push_frames(
     ensures { OnOk result (into.new ≡ into.old ++ frames_needs program.now frames.now) }
 {
     for entry in frames {
-        push_frame(alloc, into, program, &entry.1)?;
+        let Ok(()) = push_frame(alloc, into, program, &entry.1) else {
+            return Err(NoMemory);
+        };
     }
     Ok(())
 }
@@ -335,8 +361,12 @@ fn push_code_attribute(
 ) -> Result<(), NoMemory>
     ensures { OnOk result (into.new ≡ into.old ++ (instrs_needs program.now pool.now method.now counted.now code.now ++ (table_need (old_table code.now) method.now ++ frames_needs program.now method.now.frames))) }
 {
-    push_instrs(alloc, into, program, pool, method, counted, code)?;
-    push_table(alloc, into, old_table(code), method)?;
+    let Ok(()) = push_instrs(alloc, into, program, pool, method, counted, code) else {
+        return Err(NoMemory);
+    };
+    let Ok(()) = push_table(alloc, into, old_table(code), method) else {
+        return Err(NoMemory);
+    };
     push_frames(alloc, into, program, method.frames.as_slice())
 }
 
@@ -370,7 +400,9 @@ pub fn push_attributes(
     ensures { OnOk result (into.new ≡ into.old ++ flat_map (λ (a : Attribute). info_needs program.now pool.now method.now counted.now a.info) attributes.now) }
 {
     for attribute in attributes {
-        push_info(alloc, into, program, pool, method, counted, &attribute.info)?;
+        let Ok(()) = push_info(alloc, into, program, pool, method, counted, &attribute.info) else {
+            return Err(NoMemory);
+        };
     }
     Ok(())
 }

@@ -45,7 +45,12 @@ fn push_pausing(
 ) -> Result<(), NoMemory>
     ensures { OnOk result (into.new ≡ into.old ++ (AText (woven_descriptor (member_descriptor file.now info.now)) ∷ flat_map (λ (a : Attribute). info_needs program.now file.now.constant_pool method.now counted.now a.info) info.now.attributes)) }
 {
-    into.push(Need::AText(member_text(alloc, file, info)?))?;
+    let Ok(text) = member_text(alloc, file, info) else {
+        return Err(NoMemory);
+    };
+    let Ok(()) = into.push(Need::AText(text)) else {
+        return Err(NoMemory);
+    };
     let pool = &file.constant_pool;
     push_attributes(
         alloc,
@@ -71,7 +76,9 @@ fn push_member(
     ensures { OnOk result (into.new ≡ into.old ++ member_needs program.now file.now (record { info = info.now; plain = plain.now; method = method.now; counted = counted.now })) }
 {
     if plain.pausable {
-        push_pausing(alloc, into, program, file, info, method, counted)?;
+        let Ok(()) = push_pausing(alloc, into, program, file, info, method, counted) else {
+            return Err(NoMemory);
+        };
     }
     Ok(())
 }
@@ -103,7 +110,7 @@ fn file_needs(
         ps = later_plains;
         ms = later_wovens;
         cs = later_counted;
-        push_member(
+        let Ok(()) = push_member(
             alloc,
             &mut all,
             program,
@@ -112,7 +119,9 @@ fn file_needs(
             plain,
             method,
             marks.as_slice(),
-        )?;
+        ) else {
+            return Err(NoMemory);
+        };
     }
     Ok(all)
 }
@@ -202,8 +211,12 @@ fn woven_members(
         let plain = method_get(plains, at);
         let method = method_get(wovens, at);
         let marks = marks_get(counted, at);
-        let member = member_at(alloc, program, file, pool, info, plain, method, marks)?;
-        all.push(member)?;
+        let Ok(member) = member_at(alloc, program, file, pool, info, plain, method, marks) else {
+            return Err(NoMemory);
+        };
+        let Ok(()) = all.push(member) else {
+            return Err(NoMemory);
+        };
         at += 1;
     }
     Ok(all)
@@ -258,7 +271,11 @@ fn weave_methods(
 {
     let infos = replace(&mut made.methods, Seq::new(alloc));
     let pool = &made.constant_pool;
-    made.methods = woven_members(alloc, program, file, pool, infos, plains, wovens, counted)?;
+    let Ok(methods) = woven_members(alloc, program, file, pool, infos, plains, wovens, counted)
+    else {
+        return Err(NoMemory);
+    };
+    made.methods = methods;
     Ok(())
 }
 
@@ -279,8 +296,12 @@ fn weave(
     ensures { OnOk result (made.new ≡ woven_file program.now file.now (pairs_of file.now.methods plains.now wovens.now counted.now)) }
 {
     let pool = &mut made.constant_pool;
-    push_needs(alloc, program, file, pool, plains, wovens, counted)?;
-    weave_methods(alloc, program, file, made, plains, wovens, counted)?;
+    let Ok(()) = push_needs(alloc, program, file, pool, plains, wovens, counted) else {
+        return Err(NoMemory);
+    };
+    let Ok(()) = weave_methods(alloc, program, file, made, plains, wovens, counted) else {
+        return Err(NoMemory);
+    };
     Ok(())
 }
 
@@ -342,8 +363,12 @@ fn made(
     ensures made { IfOk result (λ f. f ≡ woven_file program.now file.now (pairs_of file.now.methods plains.now wovens.now counted.now)) }
     ensures fits { IfOk result ClassFits }
 {
-    let again = copy(alloc, file, text)?;
-    let woven = woven_file(alloc, program, file, again, plains, wovens, counted)?;
+    let Ok(again) = copy(alloc, file, text) else {
+        return Err(NoMemory);
+    };
+    let Ok(woven) = woven_file(alloc, program, file, again, plains, wovens, counted) else {
+        return Err(NoMemory);
+    };
     fitting(alloc, woven)
 }
 
@@ -362,13 +387,21 @@ fn sizes_fit(
     ensures { SizesFit program.now file.now (pairs_of file.now.methods plains.now wovens.now counted.now) result }
 {
     let infos = file.methods.as_slice();
-    let added = added_entries(program, infos, plains, wovens, counted)?;
-    let sum = plus(u64::from(file.constant_pool.count()), added)?;
+    let Ok(added) = added_entries(program, infos, plains, wovens, counted) else {
+        return Err(ApplyFault::Memory);
+    };
+    let Ok(sum) = plus(u64::from(file.constant_pool.count()), added) else {
+        return Err(ApplyFault::Memory);
+    };
     if sum > MOST_ENTRIES {
         return Err(ApplyFault::PoolFull(sum));
     }
-    let methods = methods_bytes(program, infos, plains, wovens, counted)?;
-    let size = size_by(old, added, longest, methods)?;
+    let Ok(methods) = methods_bytes(program, infos, plains, wovens, counted) else {
+        return Err(ApplyFault::Memory);
+    };
+    let Ok(size) = size_by(old, added, longest, methods) else {
+        return Err(ApplyFault::Memory);
+    };
     if size > MOST_BYTES {
         return Err(ApplyFault::FileTooLarge(size));
     }
@@ -404,7 +437,17 @@ pub fn apply(
     // It has a text: it can be written, and is read again.
     ensures fits { IfOk result ClassFits }
 {
-    let text = write(alloc, file)?;
-    sizes_fit(plain, file, text.len(), longest, plains, wovens, counted)?;
-    Ok(made(alloc, woven, file, text, plains, wovens, counted)?)
+    let Ok(text) = write(alloc, file) else {
+        return Err(ApplyFault::Memory);
+    };
+    match sizes_fit(plain, file, text.len(), longest, plains, wovens, counted) {
+        Ok(()) => match made(alloc, woven, file, text, plains, wovens, counted) {
+            Ok(made) => Ok(made),
+            Err(_) => Err(ApplyFault::Memory),
+        },
+        Err(fault) => {
+            drop(text);
+            Err(fault)
+        }
+    }
 }

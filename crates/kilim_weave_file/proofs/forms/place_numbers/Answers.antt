@@ -11,7 +11,7 @@ pub loop-to-preserved : goal.loop-to-preserved
 loop-to-preserved c =
     let fits : FitsSigned w64 c.from.result = search rules in
     mapped place_number c.loop-to.all.items c.push.new.self.items c.args.targets.now c.loop-to.to-index (get_or c.args.targets.now c.loop-to.to-index 0) 0 c.from.result
-    c.loop-to-test.true refl c.loop-to.invariant c.from.ensures (simp to_z-of_z at c.in_ok-push.ensures.items)
+    c.loop-to-test.true refl c.loop-to.invariant c.from.ensures (simp to_z-of_z at c.in-Ok.ensures.items)
 
 pub returns : goal.returns
 returns c = rw c.from_vec.ensures (c.loop-to.invariant ∙ ap (map place_number) (take_all c.loop-to.to-index c.args.targets.now c.loop-to-test.false))

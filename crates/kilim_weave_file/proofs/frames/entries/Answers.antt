@@ -9,7 +9,7 @@ use Rattle.kilim_weave_file.proofs.frames.entries.Goals as goal
 
 pub loop-index-preserved : goal.loop-index-preserved
 loop-index-preserved c =
-    c.in_ok-skips.ensures (drop (c.loop-index.index + 1) c.args.locals.now)
+    c.in-Ok.ensures (drop (c.loop-index.index + 1) c.args.locals.now)
     ∙ (ap (λ (ts : List VType). c.loop-index.all.items ++ entries_from c.loop-index.skips ts) (sym (drop_next c.args.locals.now c.loop-index.index c.local_at-of.result.now c.local_at-of.ensures)) ∙ c.loop-index.invariant)
 
 none_left : (all : List VType) (skips : Bool) (locals : List VType) (i : ℕ) (whole : List VType) → length locals ≤ i → all ++ entries_from skips (drop i locals) ≡ whole → all ≡ whole

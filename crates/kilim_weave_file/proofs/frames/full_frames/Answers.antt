@@ -22,8 +22,8 @@ one_more w pool frames i e next later delta made all new whole lt is far is_made
 
 pub loop-entry-preserved : goal.loop-entry-preserved
 loop-entry-preserved c =
-    one_more c.args.program.now c.args.pool.now c.args.frames.now c.loop-entry.entry-index c.entry-item.result c.loop-entry.next c.in_ok-next.next c.in_ok-delta.delta c.in_ok-full_frame.field-0 c.loop-entry.all c.push.new.self
-    (full_frames c.args.program.now c.args.pool.now 0 c.args.frames.now) c.loop-entry-test.true c.entry-item.is c.in_ok-delta.ensures c.in_ok-full_frame.ensures c.in_ok-next.ensures c.in_ok-push.ensures.ok c.loop-entry.invariant
+    one_more c.args.program.now c.args.pool.now c.args.frames.now c.loop-entry.entry-index c.entry-item.result c.loop-entry.next c.in-Ok-near_next.behind c.in-Ok.delta c.in-Ok-full_frame.frame c.loop-entry.all c.push.new.self
+    (full_frames c.args.program.now c.args.pool.now 0 c.args.frames.now) c.loop-entry-test.true c.entry-item.is c.in-Ok.ensures c.in-Ok-full_frame.ensures c.in-Ok-near_next.ensures c.in-Ok-push.ensures.ok c.loop-entry.invariant
 
 pub returns : goal.returns
 unfolding full_frames

@@ -6,8 +6,8 @@ use Rattle.kilim_weave_file.proofs.frames.slot_types.Goals as goal
 pub loop-of-preserved : goal.loop-of-preserved
 loop-of-preserved c =
     let f = slot_type c.args.program.now c.args.pool.now in
-    mapped_ahead f c.loop-of.all.items c.push.new.self.items (map f c.args.types.now) c.args.types.now c.loop-of.of-index (get_or c.args.types.now c.loop-of.of-index _) _ c.in_ok-slot_type.field-0
-    c.loop-of-test.true refl c.loop-of.invariant c.in_ok-slot_type.ensures c.in_ok-push.ensures.items
+    mapped_ahead f c.loop-of.all.items c.push.new.self.items (map f c.args.types.now) c.args.types.now c.loop-of.of-index (get_or c.args.types.now c.loop-of.of-index _) _ c.in-Ok.slot
+    c.loop-of-test.true refl c.loop-of.invariant c.in-Ok.ensures c.in-Ok-push.ensures.items
 
 pub returns : goal.returns
 returns c =

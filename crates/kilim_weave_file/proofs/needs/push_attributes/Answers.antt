@@ -9,7 +9,7 @@ pub loop-attribute-preserved : goal.loop-attribute-preserved
 loop-attribute-preserved c =
     let f = λ (a : Attribute). info_needs c.args.program.now c.args.pool.now c.args.method.now c.args.counted.now a.info in
     ahead f c.loop-attribute.into c.push_info.new.into (c.args.into.now ++ flat_map f c.args.attributes.now) c.args.attributes.now c.loop-attribute.attribute-index c.attribute-item.result _
-    c.loop-attribute-test.true c.attribute-item.is c.loop-attribute.invariant c.in_ok-push_info.ensures
+    c.loop-attribute-test.true c.attribute-item.is c.loop-attribute.invariant c.in-Ok.ensures
 
 pub returns : goal.returns
 returns c =

@@ -9,7 +9,7 @@ pub loop-entry-preserved : goal.loop-entry-preserved
 loop-entry-preserved c =
     let f = λ (e : ℕ × Frame). frame_needs c.args.program.now e.1 in
     ahead f c.loop-entry.into c.push_frame.new.into (c.args.into.now ++ flat_map f c.args.frames.now) c.args.frames.now c.loop-entry.entry-index c.entry-item.result _
-    c.loop-entry-test.true c.entry-item.is c.loop-entry.invariant c.in_ok-push_frame.ensures
+    c.loop-entry-test.true c.entry-item.is c.loop-entry.invariant c.in-Ok.ensures
 
 pub returns : goal.returns
 returns c =

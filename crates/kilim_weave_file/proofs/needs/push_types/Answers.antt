@@ -8,7 +8,7 @@ pub loop-ty-preserved : goal.loop-ty-preserved
 loop-ty-preserved c =
     let f = type_needs c.args.program.now in
     ahead f c.loop-ty.into c.push_type.new.into (c.args.into.now ++ flat_map f c.args.types.now) c.args.types.now c.loop-ty.ty-index (get_or c.args.types.now c.loop-ty.ty-index _) _
-    c.loop-ty-test.true refl c.loop-ty.invariant c.in_ok-push_type.ensures
+    c.loop-ty-test.true refl c.loop-ty.invariant c.in-Ok.ensures
 
 pub returns : goal.returns
 returns c =

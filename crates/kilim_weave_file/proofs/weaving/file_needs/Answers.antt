@@ -12,7 +12,7 @@ loop-info-preserved c =
     paired f c.args.file.now.methods c.loop-info.ps.now c.loop-info.ms.now c.loop-info.cs.now c.loop-info.info-index c.info-item.result c.info-item.result c.plain-item.result c.method-item.result c.as_slice.result.now c.marks-item.result
     c.loop-info.all c.push_member.new.into (flat_map f (pairs_of c.args.file.now.methods c.args.plains.now c.args.wovens.now c.args.counted.now))
     (subst (λ (xs : List MemberInfo). c.loop-info.info-index < length xs) same c.loop-info-test.true) (c.info-item.is ∙ ap (λ (xs : List MemberInfo). get_or xs c.loop-info.info-index c.info-item.result) same)
-    c.in-len1-up.len_at_least c.plain-item.is c.in-len1-up-ms.len_at_least c.method-item.is c.in-len1-up-cs.len_at_least (c.as_slice.ensures ∙ c.marks-item.is) c.in_ok-push_member.ensures c.loop-info.invariant
+    c.in-len1-up.len_at_least c.plain-item.is c.in-len1-up-ms.len_at_least c.method-item.is c.in-len1-up-cs.len_at_least (c.as_slice.ensures ∙ c.marks-item.is) c.in-Ok.ensures c.loop-info.invariant
 
 pub returns : goal.returns
 returns c =

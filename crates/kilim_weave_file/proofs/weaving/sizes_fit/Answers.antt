@@ -9,14 +9,14 @@ pub returns-then-sum-gt-MOST_ENTRIES : goal.returns-then-sum-gt-MOST_ENTRIES
 unfolding most_entries
 returns-then-sum-gt-MOST_ENTRIES c =
     let count : c.from.result ≡ count_of c.args.file.now.constant_pool = search rules in
-    (sum_is c.args.program.now c.args.file.now c.as_slice-infos.result.now c.args.plains.now c.args.wovens.now c.args.counted.now c.from.result c.in_ok-added.added c.in_ok-sum.sum c.as_slice-infos.ensures count c.in_ok-added.ensures c.in_ok-sum.ensures, omega arith)
+    (sum_is c.args.program.now c.args.file.now c.as_slice-infos.result.now c.args.plains.now c.args.wovens.now c.args.counted.now c.from.result c.in-Ok.added c.in-Ok-plus.sum c.as_slice-infos.ensures count c.in-Ok.ensures c.in-Ok-plus.ensures, omega arith)
 
 pub returns-then-size-gt-MOST_BYTES : goal.returns-then-size-gt-MOST_BYTES
 unfolding most_entries size_limit
 returns-then-size-gt-MOST_BYTES c =
     let count : c.from.result ≡ count_of c.args.file.now.constant_pool = search rules in
-    let sum = sum_is c.args.program.now c.args.file.now c.as_slice-infos.result.now c.args.plains.now c.args.wovens.now c.args.counted.now c.from.result c.in_ok-added.added c.in_ok-sum.sum c.as_slice-infos.ensures count c.in_ok-added.ensures c.in_ok-sum.ensures in (
-      size_is c.args.program.now c.args.file.now c.as_slice-infos.result.now c.args.plains.now c.args.wovens.now c.args.counted.now c.args.old c.args.longest c.in_ok-added.added c.in_ok-methods.methods c.in_ok-size.size c.as_slice-infos.ensures c.requires.old c.requires.longest c.in_ok-added.ensures c.in_ok-methods.ensures c.in_ok-size.ensures,
+    let sum = sum_is c.args.program.now c.args.file.now c.as_slice-infos.result.now c.args.plains.now c.args.wovens.now c.args.counted.now c.from.result c.in-Ok.added c.in-Ok-plus.sum c.as_slice-infos.ensures count c.in-Ok.ensures c.in-Ok-plus.ensures in (
+      size_is c.args.program.now c.args.file.now c.as_slice-infos.result.now c.args.plains.now c.args.wovens.now c.args.counted.now c.args.old c.args.longest c.in-Ok.added c.in-Ok-methods_bytes.methods c.in-Ok-size_by.size c.as_slice-infos.ensures c.requires.old c.requires.longest c.in-Ok.ensures c.in-Ok-methods_bytes.ensures c.in-Ok-size_by.ensures,
       omega (arith, sum),
       omega arith,
     )
@@ -25,6 +25,6 @@ pub returns : goal.returns
 unfolding most_entries size_limit
 returns c =
     let count : c.from.result ≡ count_of c.args.file.now.constant_pool = search rules in
-    let sum = sum_is c.args.program.now c.args.file.now c.as_slice-infos.result.now c.args.plains.now c.args.wovens.now c.args.counted.now c.from.result c.in_ok-added.added c.in_ok-sum.sum c.as_slice-infos.ensures count c.in_ok-added.ensures c.in_ok-sum.ensures in
-    let size = size_is c.args.program.now c.args.file.now c.as_slice-infos.result.now c.args.plains.now c.args.wovens.now c.args.counted.now c.args.old c.args.longest c.in_ok-added.added c.in_ok-methods.methods c.in_ok-size.size c.as_slice-infos.ensures c.requires.old c.requires.longest c.in_ok-added.ensures c.in_ok-methods.ensures c.in_ok-size.ensures in
+    let sum = sum_is c.args.program.now c.args.file.now c.as_slice-infos.result.now c.args.plains.now c.args.wovens.now c.args.counted.now c.from.result c.in-Ok.added c.in-Ok-plus.sum c.as_slice-infos.ensures count c.in-Ok.ensures c.in-Ok-plus.ensures in
+    let size = size_is c.args.program.now c.args.file.now c.as_slice-infos.result.now c.args.plains.now c.args.wovens.now c.args.counted.now c.args.old c.args.longest c.in-Ok.added c.in-Ok-methods_bytes.methods c.in-Ok-size_by.size c.as_slice-infos.ensures c.requires.old c.requires.longest c.in-Ok.ensures c.in-Ok-methods_bytes.ensures c.in-Ok-size_by.ensures in
     (omega (arith, sum), omega (arith, size))
