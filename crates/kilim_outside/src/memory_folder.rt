@@ -73,12 +73,20 @@ fn put_file(files: &mut Seq<NamedFile>, name: &[u8], bytes: &[u8]) -> Result<(),
     ensures err { OnErr result (files.new ≡ files.old) }
 {
     let alloc = *files.items.allocator();
-    let file = NamedFile {
-        name: Seq::from_vec(Vec::from_slice(alloc, name)?),
-        bytes: Seq::from_vec(Vec::from_slice(alloc, bytes)?),
+    let Ok(name) = Vec::from_slice(alloc, name) else {
+        return Err(AllocError);
     };
-    files.items.insert(0, file)?;
-    Ok(())
+    let Ok(bytes) = Vec::from_slice(alloc, bytes) else {
+        return Err(AllocError);
+    };
+    let file = NamedFile {
+        name: Seq::from_vec(name),
+        bytes: Seq::from_vec(bytes),
+    };
+    match files.items.insert(0, file) {
+        Ok(()) => Ok(()),
+        Err(_) => Err(AllocError),
+    }
 }
 
 /// A folder in memory in which no call fails but for want of memory: a name that wasn't given is an
@@ -95,14 +103,18 @@ impl Folder for SteadyFolder {
     ghost faults = { λ _. [] };
 
     fn read(&mut self, name: &str, into: &mut Vec<u8>) -> Result<(), FolderFault> {
-        append_content(self.files.as_slice(), name.as_bytes(), into)?;
-        Ok(())
+        match append_content(self.files.as_slice(), name.as_bytes(), into) {
+            Ok(()) => Ok(()),
+            Err(_) => Err(FolderFault::NoMemory),
+        }
     }
 
     #[tactic(auto, using(crate::proofs::FileLemmas::get_put, crate::proofs::FileLemmas::get_other))]
     fn write(&mut self, name: &str, bytes: &[u8]) -> Result<(), FolderFault> {
-        put_file(&mut self.files, name.as_bytes(), bytes)?;
-        Ok(())
+        match put_file(&mut self.files, name.as_bytes(), bytes) {
+            Ok(()) => Ok(()),
+            Err(_) => Err(FolderFault::NoMemory),
+        }
     }
 }
 
@@ -174,8 +186,10 @@ impl Folder for MapFolder {
         if !self.can_read(name) {
             return Err(read_refusal(&mut self.faults, name));
         }
-        append_content(self.files.as_slice(), name.as_bytes(), into)?;
-        Ok(())
+        match append_content(self.files.as_slice(), name.as_bytes(), into) {
+            Ok(()) => Ok(()),
+            Err(_) => Err(FolderFault::NoMemory),
+        }
     }
 
     #[tactic(auto, using(crate::proofs::FileLemmas::get_put, crate::proofs::FileLemmas::get_other))]
@@ -191,7 +205,9 @@ impl Folder for MapFolder {
         if self.fails_now() {
             return Err(write_refusal(&mut self.faults, name));
         }
-        put_file(&mut self.files, name.as_bytes(), bytes)?;
-        Ok(())
+        match put_file(&mut self.files, name.as_bytes(), bytes) {
+            Ok(()) => Ok(()),
+            Err(_) => Err(FolderFault::NoMemory),
+        }
     }
 }

@@ -26,8 +26,10 @@ impl TextSink for SteadySink {
         ensures err { OnErr result (self.new.bytes ≡ self.old.bytes) }
         ensures memory { IfErr result (λ fault. fault ≡ SinkFault.NoMemory) }
     {
-        self.bytes.items.extend_from_slice(piece)?;
-        Ok(piece.len())
+        match self.bytes.items.extend_from_slice(piece) {
+            Ok(()) => Ok(piece.len()),
+            Err(_) => Err(SinkFault::NoMemory),
+        }
     }
 }
 
@@ -72,7 +74,9 @@ impl TextSink for VecSink {
         }
         let count = piece.len().min(self.most);
         let (front, _) = piece.split_at(count);
-        self.bytes.items.extend_from_slice(front)?;
+        let Ok(()) = self.bytes.items.extend_from_slice(front) else {
+            return Err(SinkFault::NoMemory);
+        };
         self.faults = faults_behind(self.faults, count, piece);
         Ok(count)
     }

@@ -173,7 +173,11 @@ pub fn integers(alloc: Global, words: &[String]) -> Result<Seq<i32>, NoMemory>
     let mut ints = Vec::new(alloc);
     for word in words {
         match int_of(word.as_str()) {
-            Some(n) => ints.push(n)?,
+            Some(n) => {
+                let Ok(()) = ints.push(n) else {
+                    return Err(NoMemory);
+                };
+            }
             None => return Ok(Seq::new(alloc)),
         }
     }
