@@ -16,18 +16,22 @@ use std::alloc::Global;
 fn push_one(text: &mut Vec<u8>, word: &[u8], number: u64) -> Result<(), NoMemory>
     ensures { OnOk result (text.new.items ≡ text.old.items ++ one_number word.now number) }
 {
-    push_both(text, word, b" ")?;
-    push_number(text, number)?;
-    Ok(())
+    let Ok(()) = push_both(text, word, b" ") else {
+        return Err(NoMemory);
+    };
+    push_number(text, number)
 }
 
 fn push_two(text: &mut Vec<u8>, word: &[u8], first: u64, second: u64) -> Result<(), NoMemory>
     ensures { OnOk result (text.new.items ≡ text.old.items ++ two_numbers word.now first second) }
 {
-    push_one(text, word, first)?;
-    push(text, b" ")?;
-    push_number(text, second)?;
-    Ok(())
+    let Ok(()) = push_one(text, word, first) else {
+        return Err(NoMemory);
+    };
+    let Ok(()) = push(text, b" ") else {
+        return Err(NoMemory);
+    };
+    push_number(text, second)
 }
 
 fn push_pool(text: &mut Vec<u8>, fault: PoolFault) -> Result<(), NoMemory>
@@ -87,9 +91,15 @@ fn push_fault(text: &mut Vec<u8>, fault: &ClassFault) -> Result<(), NoMemory>
 fn push_line(text: &mut Vec<u8>, file: &str, fault: &ClassFault) -> Result<(), NoMemory>
     ensures { OnOk result (text.new.items ≡ text.old.items ++ class_line file.now fault.now) }
 {
-    push_both(text, b"class ", file.as_bytes())?;
-    push(text, b" ")?;
-    push_fault(text, fault)?;
+    let Ok(()) = push_both(text, b"class ", file.as_bytes()) else {
+        return Err(NoMemory);
+    };
+    let Ok(()) = push(text, b" ") else {
+        return Err(NoMemory);
+    };
+    let Ok(()) = push_fault(text, fault) else {
+        return Err(NoMemory);
+    };
     push(text, b"\n")
 }
 
@@ -98,6 +108,8 @@ pub fn class_line(alloc: Global, file: &str, fault: &ClassFault) -> Result<Vec<u
     ensures { IfOk result (λ text. text.items ≡ class_line file.now fault.now) }
 {
     let mut text = Vec::new(alloc);
-    push_line(&mut text, file, fault)?;
+    let Ok(()) = push_line(&mut text, file, fault) else {
+        return Err(NoMemory);
+    };
     Ok(text)
 }

@@ -31,15 +31,21 @@ fn push_class(text: &mut Vec<u8>, program: &Program, class: ClassId) -> Result<(
 fn push_name_of(text: &mut Vec<u8>, program: &Program, method: &Method) -> Result<(), NoMemory>
     ensures { OnOk result (text.new.items ≡ text.old.items ++ (member_name_text method.now.name ++ descriptor_text (method_descriptor program.now method.now))) }
 {
-    let descriptor = method_descriptor(*text.allocator(), program, method)?;
+    let Ok(descriptor) = method_descriptor(*text.allocator(), program, method) else {
+        return Err(NoMemory);
+    };
     push_named(text, &method.name, &descriptor)
 }
 
 fn push_method_words(text: &mut Vec<u8>, program: &Program, method: &Method) -> Result<(), NoMemory>
     ensures { OnOk result (text.new.items ≡ text.old.items ++ spec.method_words program.now method.now) }
 {
-    push_class(text, program, method.owner)?;
-    push(text, b" ")?;
+    let Ok(()) = push_class(text, program, method.owner) else {
+        return Err(NoMemory);
+    };
+    let Ok(()) = push(text, b" ") else {
+        return Err(NoMemory);
+    };
     push_name_of(text, program, method)
 }
 
@@ -57,7 +63,9 @@ pub fn words_of(alloc: Global, program: &Program, id: MethodId) -> Result<Vec<u8
     ensures { IfOk result (λ text. text.items ≡ spec.words_of program.now (method_at program.now id)) }
 {
     let mut text = Vec::new(alloc);
-    push_words(&mut text, program, id)?;
+    let Ok(()) = push_words(&mut text, program, id) else {
+        return Err(NoMemory);
+    };
     Ok(text)
 }
 
@@ -65,17 +73,22 @@ pub fn words_of(alloc: Global, program: &Program, id: MethodId) -> Result<Vec<u8
 pub fn push_number(text: &mut Vec<u8>, number: u64) -> Result<(), NoMemory>
     ensures { IfOk result (λ u. text.new.items ≡ text.old.items ++ decimal number) }
 {
-    let digits = format!(in *text.allocator(); "{number}")?;
-    text.extend_from_slice(digits.as_bytes())?;
-    Ok(())
+    let Ok(digits) = format!(in *text.allocator(); "{number}") else {
+        return Err(NoMemory);
+    };
+    push(text, digits.as_bytes())
 }
 
 fn push_places(text: &mut Vec<u8>, path: &[u32]) -> Result<(), NoMemory>
     ensures { IfOk result (λ u. text.new.items ≡ text.old.items ++ spec.places path.now) }
 {
     for at in path {
-        push(text, b" ")?;
-        push_number(text, u64::from(*at))?;
+        let Ok(()) = push(text, b" ") else {
+            return Err(NoMemory);
+        };
+        let Ok(()) = push_number(text, u64::from(*at)) else {
+            return Err(NoMemory);
+        };
     }
     Ok(())
 }
@@ -100,20 +113,33 @@ fn push_placed(
 ) -> Result<(), NoMemory>
     ensures { OnOk result (text.new.items ≡ text.old.items ++ (word.now ++ (spec.words_of program.now (method_at program.now method) ++ (codes " " ++ decimal pc)))) }
 {
-    push(text, word)?;
-    push_words(text, program, method)?;
-    push(text, b" ")?;
-    push_number(text, u64::from(pc))?;
-    Ok(())
+    let Ok(()) = push(text, word) else {
+        return Err(NoMemory);
+    };
+    let Ok(()) = push_words(text, program, method) else {
+        return Err(NoMemory);
+    };
+    let Ok(()) = push(text, b" ") else {
+        return Err(NoMemory);
+    };
+    push_number(text, u64::from(pc))
 }
 
 fn push_fault(text: &mut Vec<u8>, program: &Program, report: &Report) -> Result<(), NoMemory>
     ensures { OnOk result (text.new.items ≡ text.old.items ++ spec.fault_line program.now report.now) }
 {
-    push_placed(text, program, b"fault ", report.method, report.pc)?;
-    push(text, b" I")?;
-    push_number(text, u64::from(report.rule))?;
-    push_path(text, report.path.as_slice())?;
+    let Ok(()) = push_placed(text, program, b"fault ", report.method, report.pc) else {
+        return Err(NoMemory);
+    };
+    let Ok(()) = push(text, b" I") else {
+        return Err(NoMemory);
+    };
+    let Ok(()) = push_number(text, u64::from(report.rule)) else {
+        return Err(NoMemory);
+    };
+    let Ok(()) = push_path(text, report.path.as_slice()) else {
+        return Err(NoMemory);
+    };
     push(text, b"\n")
 }
 
@@ -122,7 +148,9 @@ pub fn fault_line(alloc: Global, program: &Program, report: &Report) -> Result<V
     ensures { IfOk result (λ text. text.items ≡ spec.fault_line program.now report.now) }
 {
     let mut text = Vec::new(alloc);
-    push_fault(&mut text, program, report)?;
+    let Ok(()) = push_fault(&mut text, program, report) else {
+        return Err(NoMemory);
+    };
     Ok(text)
 }
 
@@ -136,7 +164,9 @@ pub fn fault_lines(
 {
     let mut text = Vec::new(alloc);
     for report in reports {
-        push_fault(&mut text, program, report)?;
+        let Ok(()) = push_fault(&mut text, program, report) else {
+            return Err(NoMemory);
+        };
     }
     Ok(text)
 }
@@ -150,9 +180,15 @@ fn push_type(
 ) -> Result<(), NoMemory>
     ensures { OnOk result (text.new.items ≡ text.old.items ++ spec.type_line program.now method pc rule) }
 {
-    push_placed(text, program, b"type ", method, pc)?;
-    push(text, b" rule ")?;
-    push_number(text, u64::from(rule))?;
+    let Ok(()) = push_placed(text, program, b"type ", method, pc) else {
+        return Err(NoMemory);
+    };
+    let Ok(()) = push(text, b" rule ") else {
+        return Err(NoMemory);
+    };
+    let Ok(()) = push_number(text, u64::from(rule)) else {
+        return Err(NoMemory);
+    };
     push(text, b"\n")
 }
 
@@ -167,6 +203,8 @@ pub fn type_line(
     ensures { IfOk result (λ text. text.items ≡ spec.type_line program.now method pc rule) }
 {
     let mut text = Vec::new(alloc);
-    push_type(&mut text, program, method, pc, rule)?;
+    let Ok(()) = push_type(&mut text, program, method, pc, rule) else {
+        return Err(NoMemory);
+    };
     Ok(text)
 }

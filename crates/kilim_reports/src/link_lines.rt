@@ -19,17 +19,22 @@ use std::alloc::Global;
 fn push_member(text: &mut Vec<u8>, member: &MemberOf) -> Result<(), NoMemory>
     ensures { OnOk result (text.new.items ≡ text.old.items ++ member_text member.now) }
 {
-    push_member_name(text, &member.owner)?;
-    push(text, b".")?;
+    let Ok(()) = push_member_name(text, &member.owner) else {
+        return Err(NoMemory);
+    };
+    let Ok(()) = push(text, b".") else {
+        return Err(NoMemory);
+    };
     push_named(text, &member.name, &member.descriptor)
 }
 
 fn push_opcode(text: &mut Vec<u8>, number: u8) -> Result<(), NoMemory>
     ensures { OnOk result (text.new.items ≡ text.old.items ++ part_word (part.Opcode number)) }
 {
-    push(text, b"opcode-")?;
-    push_number(text, u64::from(number))?;
-    Ok(())
+    let Ok(()) = push(text, b"opcode-") else {
+        return Err(NoMemory);
+    };
+    push_number(text, u64::from(number))
 }
 
 fn push_part(text: &mut Vec<u8>, part: LeftOutPart) -> Result<(), NoMemory>
@@ -66,11 +71,16 @@ fn fault_place(fault: CodeFault) -> u32
 fn push_code(text: &mut Vec<u8>, method: &MemberName, fault: CodeFault) -> Result<(), NoMemory>
     ensures { OnOk result (text.new.items ≡ text.old.items ++ (codes "code " ++ (method_text method.now ++ (codes " " ++ decimal (fault_place fault))))) }
 {
-    push(text, b"code ")?;
-    push_method(text, method)?;
-    push(text, b" ")?;
-    push_number(text, u64::from(fault_place(fault)))?;
-    Ok(())
+    let Ok(()) = push(text, b"code ") else {
+        return Err(NoMemory);
+    };
+    let Ok(()) = push_method(text, method) else {
+        return Err(NoMemory);
+    };
+    let Ok(()) = push(text, b" ") else {
+        return Err(NoMemory);
+    };
+    push_number(text, u64::from(fault_place(fault)))
 }
 
 // The word of a problem.
@@ -115,18 +125,30 @@ fn push_told(text: &mut Vec<u8>, problem: &Problem) -> Result<(), NoMemory>
 fn push_problem(text: &mut Vec<u8>, problem: &Problem) -> Result<(), NoMemory>
     ensures { OnOk result (text.new.items ≡ text.old.items ++ problem_words problem.now) }
 {
-    push(text, problem_word(problem))?;
-    push_told(text, problem)?;
+    let Ok(()) = push(text, problem_word(problem)) else {
+        return Err(NoMemory);
+    };
+    let Ok(()) = push_told(text, problem) else {
+        return Err(NoMemory);
+    };
     Ok(())
 }
 
 fn push_line(text: &mut Vec<u8>, class: &Units, problem: &Problem) -> Result<(), NoMemory>
     ensures { OnOk result (text.new.items ≡ text.old.items ++ link_line class.now problem.now) }
 {
-    push(text, b"link ")?;
-    push_member_name(text, class)?;
-    push(text, b" ")?;
-    push_problem(text, problem)?;
+    let Ok(()) = push(text, b"link ") else {
+        return Err(NoMemory);
+    };
+    let Ok(()) = push_member_name(text, class) else {
+        return Err(NoMemory);
+    };
+    let Ok(()) = push(text, b" ") else {
+        return Err(NoMemory);
+    };
+    let Ok(()) = push_problem(text, problem) else {
+        return Err(NoMemory);
+    };
     push(text, b"\n")
 }
 
@@ -136,6 +158,8 @@ pub fn link_line(alloc: Global, class: &Units, problem: &Problem) -> Result<Vec<
     ensures { IfOk result (λ text. text.items ≡ link_line class.now problem.now) }
 {
     let mut text = Vec::new(alloc);
-    push_line(&mut text, class, problem)?;
+    let Ok(()) = push_line(&mut text, class, problem) else {
+        return Err(NoMemory);
+    };
     Ok(text)
 }

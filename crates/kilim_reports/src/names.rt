@@ -3,10 +3,19 @@
 ghost use Rattle.std.specs.Prelude.{◌≡◌, ◌++◌, OnOk, IfOk, codes};
 ghost use Rattle.std.specs.List.{flat_map};
 ghost use Rattle.kilim_reports.specs.Names.{member_name_text, descriptor_unit, descriptor_text, method_text};
+ghost use Rattle.kilim_units.specs.NameText.{name_text};
 
+use crate::texts::push;
 use kilim_classfile::MemberName;
 use kilim_units::{NoMemory, Units, push_name};
 use std::alloc::Global;
+
+fn push_units(text: &mut Vec<u8>, units: &[u16]) -> Result<(), NoMemory>
+    ensures { OnOk result (text.new.items ≡ text.old.items ++ name_text units.now) }
+{
+    push_name(text, units)?;
+    Ok(())
+}
 
 /// Appends the name of a method as it stands in a report: in ASCII, as names stand in a journal, but `<init>` as it is.
 #[tactic(auto, unfolding(crate::specs::Names::member_name_text))]
@@ -14,11 +23,9 @@ pub fn push_member_name(text: &mut Vec<u8>, name: &Units) -> Result<(), NoMemory
     ensures { OnOk result (text.new.items ≡ text.old.items ++ member_name_text name.now) }
 {
     if name.is_text(b"<init>") {
-        text.extend_from_slice(b"<init>")?;
-        return Ok(());
+        return push(text, b"<init>");
     }
-    push_name(text, name.as_slice())?;
-    Ok(())
+    push_units(text, name.as_slice())
 }
 
 /// The name of a method as it stands in a report: in ASCII, as names stand in a journal, but `<init>` as it is.
@@ -26,7 +33,9 @@ pub fn member_name_text(alloc: Global, name: &Units) -> Result<Vec<u8>, NoMemory
     ensures { IfOk result (λ text. text.items ≡ member_name_text name.now) }
 {
     let mut text = Vec::new(alloc);
-    push_member_name(&mut text, name)?;
+    let Ok(()) = push_member_name(&mut text, name) else {
+        return Err(NoMemory);
+    };
     Ok(text)
 }
 
@@ -34,13 +43,12 @@ fn push_descriptor_unit(text: &mut Vec<u8>, unit: u16) -> Result<(), NoMemory>
     ensures { OnOk result (text.new.items ≡ text.old.items ++ descriptor_unit unit) }
 {
     if unit == 40 {
-        text.extend_from_slice(b"(")?;
+        push(text, b"(")
     } else if unit == 41 {
-        text.extend_from_slice(b")")?;
+        push(text, b")")
     } else {
-        push_name(text, &[unit])?;
+        push_units(text, &[unit])
     }
-    Ok(())
 }
 
 /// Appends a descriptor as it stands in a report.
@@ -48,7 +56,9 @@ pub fn push_descriptor(text: &mut Vec<u8>, descriptor: &Units) -> Result<(), NoM
     ensures { OnOk result (text.new.items ≡ text.old.items ++ descriptor_text descriptor.now) }
 {
     for unit in descriptor.as_slice() {
-        push_descriptor_unit(text, *unit)?;
+        let Ok(()) = push_descriptor_unit(text, *unit) else {
+            return Err(NoMemory);
+        };
     }
     Ok(())
 }
@@ -58,7 +68,9 @@ pub fn descriptor_text(alloc: Global, descriptor: &Units) -> Result<Vec<u8>, NoM
     ensures { IfOk result (λ text. text.items ≡ descriptor_text descriptor.now) }
 {
     let mut text = Vec::new(alloc);
-    push_descriptor(&mut text, descriptor)?;
+    let Ok(()) = push_descriptor(&mut text, descriptor) else {
+        return Err(NoMemory);
+    };
     Ok(text)
 }
 

@@ -9,8 +9,12 @@ use std::alloc::Global;
 pub fn joined(alloc: Global, first: &[u8], second: &[u8]) -> Result<Vec<u8>, NoMemory>
     ensures { IfOk result (λ text. text.items ≡ first.now ++ second.now) }
 {
-    let mut text = Vec::from_slice(alloc, first)?;
-    text.extend_from_slice(second)?;
+    let Ok(mut text) = Vec::from_slice(alloc, first) else {
+        return Err(NoMemory);
+    };
+    let Ok(()) = text.extend_from_slice(second) else {
+        return Err(NoMemory);
+    };
     Ok(text)
 }
 

@@ -6,8 +6,8 @@ use Rattle.kilim_reports.proofs.Loops.{behind}
 use Rattle.kilim_reports.proofs.lines.push_places.Goals as goal
 
 pub loop-at-preserved : goal.loop-at-preserved
-loop-at-preserved c = behind (λ at. codes " " ++ decimal at) c.args.text.now.items c.loop-at.text.items c.push_number.new.text.items c.args.path.now c.loop-at.at-index _ _ c.loop-at-test.true refl c.loop-at.invariant (c.in_ok-push_number.ensures
-    ∙ (ap (λ (text : List ℕ). text ++ decimal c.from.result) c.in_ok-push.ensures
+loop-at-preserved c = behind (λ at. codes " " ++ decimal at) c.args.text.now.items c.loop-at.text.items c.push_number.new.text.items c.args.path.now c.loop-at.at-index _ _ c.loop-at-test.true refl c.loop-at.invariant (c.in-Ok-push_number.ensures
+    ∙ (ap (λ (text : List ℕ). text ++ decimal c.from.result) c.in-Ok.ensures
     ∙ (append_assoc c.loop-at.text.items (codes " ") (decimal c.from.result) ∙ ap (λ (n : ℕ). c.loop-at.text.items ++ (codes " " ++ decimal n)) c.from.ensures)))
 
 pub returns : goal.returns

@@ -12,4 +12,4 @@ joins p before word between behind first is then =
     ∙ (append_assoc before word (problem_told p) ∙ ap (λ (t : List ℕ). before ++ t) (ap (λ (w : List ℕ). w ++ problem_told p) is ∙ said p)))
 
 pub returns : goal.returns
-returns c = joins c.args.problem.now c.args.text.now.items _ _ _ c.in_ok-push.ensures c.problem_word.ensures c.in_ok-push_told.ensures
+returns c = joins c.args.problem.now c.args.text.now.items _ _ _ c.in-Ok.ensures c.problem_word.ensures c.in-Ok-push_told.ensures
