@@ -42,7 +42,10 @@ fn wants_in_box<F: Drop>(alloc: Global, wants: Wants<F>) -> Result<Wants<Boxed<F
         Wants::Put(mailbox, tree, shape) => Ok(Wants::Put(mailbox, tree, shape)),
         Wants::Take(mailbox) => Ok(Wants::Take(mailbox)),
         Wants::Probe(mailbox) => Ok(Wants::Probe(mailbox)),
-        Wants::Start(fiber, shape) => Ok(Wants::Start(in_box(alloc, fiber)?, shape)),
+        Wants::Start(fiber, shape) => match in_box(alloc, fiber) {
+            Ok(fiber) => Ok(Wants::Start(fiber, shape)),
+            Err(fault) => Err(fault),
+        },
         Wants::Print(shape) => Ok(Wants::Print(shape)),
         Wants::Rest(waits) => Ok(Wants::Rest(waits)),
         Wants::End(cause) => Ok(Wants::End(cause)),
@@ -69,12 +72,17 @@ impl<F: Fibers> Fibers for Boxed<F> {
     ghost rests = { F.rests };
 
     fn boot(alloc: Global, code: &F::Code, main: ClassId) -> Result<Boxed<F>, NoMemory> {
-        in_box(alloc, F::boot(alloc, code, main)?)
+        match F::boot(alloc, code, main) {
+            Ok(fiber) => in_box(alloc, fiber),
+            Err(fault) => Err(fault),
+        }
     }
 
     fn resume(&mut self, code: &F::Code, limits: &Limits) -> Result<Wants<Boxed<F>>, NoMemory> {
-        let wants = self.fiber.resume(code, limits)?;
-        wants_in_box(self.alloc, wants)
+        match self.fiber.resume(code, limits) {
+            Ok(wants) => wants_in_box(self.alloc, wants),
+            Err(fault) => Err(fault),
+        }
     }
 
     fn answer(&mut self, code: &F::Code, answer: Answer) -> Result<(), NoMemory> {

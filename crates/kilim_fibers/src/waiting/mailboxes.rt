@@ -59,8 +59,12 @@ impl Mailboxes {
         ensures room { OnOk result (HasRoom self.new name) }
     {
         let mut mailbox = Mailbox::new(self.alloc);
-        mailbox.reserve()?;
-        self.by_name.insert((name.task, name.number), mailbox)?;
+        let Ok(()) = mailbox.reserve() else {
+            return Err(NoMemory);
+        };
+        let Ok(_) = self.by_name.insert((name.task, name.number), mailbox) else {
+            return Err(NoMemory);
+        };
         Ok(())
     }
 

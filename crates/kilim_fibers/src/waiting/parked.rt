@@ -72,8 +72,12 @@ fn open<F: Drop>(
     ensures { in_order deque_items queues.new.entries ≡ in_order deque_items queues.old.entries }
 {
     let mut queue = VecDeque::new(alloc);
-    queue.reserve(more)?;
-    queues.insert((mailbox.task, mailbox.number), queue)?;
+    let Ok(()) = queue.reserve(more) else {
+        return Err(NoMemory);
+    };
+    let Ok(_) = queues.insert((mailbox.task, mailbox.number), queue) else {
+        return Err(NoMemory);
+    };
     Ok(())
 }
 
@@ -87,10 +91,10 @@ fn make_places<F: Drop>(
     ensures { in_order deque_items queues.new.entries ≡ in_order deque_items queues.old.entries }
 {
     match queues.get_mut(&(mailbox.task, mailbox.number)) {
-        Some(queue) => {
-            queue.reserve(more)?;
-            Ok(())
-        }
+        Some(queue) => match queue.reserve(more) {
+            Ok(()) => Ok(()),
+            Err(_) => Err(NoMemory),
+        },
         None => open(queues, alloc, mailbox, more),
     }
 }
@@ -188,7 +192,9 @@ fn add_all<F: Drop>(
     ensures { OnOk result (waiters.new.items ≡ waiters.old.items ++ at_mailbox mailbox queue.items) }
 {
     for fiber in queue {
-        waiters.push(Waiter { mailbox, fiber })?;
+        let Ok(()) = waiters.push(Waiter { mailbox, fiber }) else {
+            return Err(NoMemory);
+        };
     }
     Ok(())
 }
@@ -206,7 +212,9 @@ fn list_all<F: Drop>(
             task: name.0,
             number: name.1,
         };
-        add_all(&mut waiters, mailbox, queue)?;
+        let Ok(()) = add_all(&mut waiters, mailbox, queue) else {
+            return Err(NoMemory);
+        };
     }
     Ok(waiters)
 }
@@ -279,8 +287,12 @@ impl<F: Drop> Parked<F> {
             mut apart,
             alloc,
         } = self;
-        let mut waiters = list_all(alloc, by_mailbox)?;
-        waiters.append(&mut apart)?;
+        let Ok(mut waiters) = list_all(alloc, by_mailbox) else {
+            return Err(NoMemory);
+        };
+        let Ok(()) = waiters.append(&mut apart) else {
+            return Err(NoMemory);
+        };
         Ok(waiters)
     }
 }

@@ -11,8 +11,8 @@ returns-in-Take g c = sym c.in-Take.is
 pub returns-in-Probe : goal.returns-in-Probe
 returns-in-Probe g c = sym c.in-Probe.is
 
-pub returns-in_ok-in_box-in-Start : goal.returns-in_ok-in_box-in-Start
-returns-in_ok-in_box-in-Start g c = ap (λ f. Start f c.in-Start.shape) c.in_ok-in_box-in-Start.ensures ∙ sym c.in-Start.is
+pub returns-in-Ok : goal.returns-in-Ok
+returns-in-Ok g c = ap (λ f. Start f c.in-Start.shape) c.in-Ok.ensures ∙ sym c.in-Start.is
 
 pub returns-in-Print : goal.returns-in-Print
 returns-in-Print g c = sym c.in-Print.is

@@ -5,6 +5,6 @@ use Rattle.kilim_fibers.proofs.waiting.parked.list_all.Goals as goal
 
 pub loop-name-preserved : goal.loop-name-preserved
 loop-name-preserved g c =
-    ap (λ ws. ws ++ in_order deque_items c.next.new.self) c.in_ok-add_all.ensures
+    ap (λ ws. ws ++ in_order deque_items c.next.new.self) c.in-Ok.ensures
     ∙ (append_assoc c.loop-name.waiters.items (at_mailbox (record { task = c.in-Some.name.0; number = c.in-Some.name.1 }) c.in-Some.queue.items) (in_order deque_items c.next.new.self)
     ∙ (ap (λ es. c.loop-name.waiters.items ++ in_order deque_items es) (sym c.in-Some.ensures.steps) ∙ c.loop-name.invariant))
