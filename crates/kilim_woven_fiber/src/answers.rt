@@ -55,7 +55,9 @@ fn tree_comes(plain: &Program, tree: Tree, body: &mut Body) -> Result<(Shape, u3
     requires suits { AllByRecursion (Suits plain.now) tree }
     ensures { IfOk result (λ came. Received plain.now body.old body.new tree came.0 came.1) }
 {
-    let shape = shape(plain, &tree)?;
+    let Ok(shape) = shape(plain, &tree) else {
+        return Err(NoMemory);
+    };
     let Ok(root) = put_in(&mut body.heap, tree) else {
         return Err(NoMemory);
     };

@@ -126,7 +126,9 @@ fn one_token(alloc: Global, token: Token) -> Result<Shape, NoMemory>
     ensures { IfOk result (λ shape. shape ≡ token ∷ []) }
 {
     let mut shape = Seq::new(alloc);
-    shape.push(token)?;
+    let Ok(()) = shape.push(token) else {
+        return Err(NoMemory);
+    };
     Ok(shape)
 }
 
@@ -137,11 +139,13 @@ fn print(alloc: Global, program: &Program, value: &Value, body: &Body) -> Result
 {
     let _ = program;
     let _ = body;
-    let Some(token) = printed(value)? else {
+    let Ok(Some(token)) = printed(value) else {
         return Err(NoMemory);
     };
-    let shape = one_token(alloc, token)?;
-    Ok(Came::Prints(shape))
+    match one_token(alloc, token) {
+        Ok(shape) => Ok(Came::Prints(shape)),
+        Err(fault) => Err(fault),
+    }
 }
 
 // `put` of a message
@@ -160,9 +164,10 @@ fn put_tree(
     ensures counted { OnOk result (IsNear body.old.count body.new.count) }
     ensures room { IfOk result (λ came. HasRoomFor program.now body.new came) }
 {
-    match take_gift(alloc, plain, root, &mut body.heap)? {
-        Gift::Tree(tree, shape) => Ok(Came::Puts(mailbox, tree, shape)),
-        Gift::TooLarge => Ok(Came::Ends(EndCause::Large)),
+    match take_gift(alloc, plain, root, &mut body.heap) {
+        Ok(Gift::Tree(tree, shape)) => Ok(Came::Puts(mailbox, tree, shape)),
+        Ok(Gift::TooLarge) => Ok(Came::Ends(EndCause::Large)),
+        Err(fault) => Err(fault),
     }
 }
 
@@ -204,9 +209,10 @@ fn start(
     ensures counted { OnOk result (IsNear body.old.count body.new.count) }
     ensures room { IfOk result (λ came. HasRoomFor program.now body.new came) }
 {
-    match take_gift(alloc, plain, root, &mut body.heap)? {
-        Gift::Tree(tree, shape) => Ok(Came::Starts(tree, shape)),
-        Gift::TooLarge => Ok(Came::Ends(EndCause::Large)),
+    match take_gift(alloc, plain, root, &mut body.heap) {
+        Ok(Gift::Tree(tree, shape)) => Ok(Came::Starts(tree, shape)),
+        Ok(Gift::TooLarge) => Ok(Came::Ends(EndCause::Large)),
+        Err(fault) => Err(fault),
     }
 }
 

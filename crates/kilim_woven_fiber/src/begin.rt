@@ -39,8 +39,12 @@ pub fn receiver_with_fiber(alloc: Global, receiver: Value) -> Result<Vec<Value>,
     ensures { IfOk result (λ args. args.items ≡ receiver ∷ a_value.Fiber ∷ []) }
 {
     let mut args = Vec::new(alloc);
-    args.push(receiver)?;
-    args.push(Value::Fiber)?;
+    let Ok(()) = args.push(receiver) else {
+        return Err(NoMemory);
+    };
+    let Ok(()) = args.push(Value::Fiber) else {
+        return Err(NoMemory);
+    };
     Ok(args)
 }
 
@@ -64,6 +68,24 @@ pub fn begun_with(
     if method.built_in {
         return Ok(None);
     }
-    let frames = frames_with(alloc, program, id, args)?;
-    Ok(Some(frames))
+    match frames_with(alloc, program, id, args) {
+        Ok(frames) => Ok(Some(frames)),
+        Err(fault) => Err(fault),
+    }
+}
+
+/// The same of an `execute` in woven form, on the object with that name.
+pub fn begun_on(
+    alloc: Global,
+    program: &Program,
+    id: Option<MethodId>,
+    object: u32,
+) -> Result<Option<Frames>, NoMemory>
+    ensures frames { IfOk result (λ frames. begun_with program.now id (a_value.Ref object ∷ a_value.Fiber ∷ []) ≡ Some (calls_in frames)) }
+    ensures roomy { IfOk result (λ frames. RoomyIn program.now frames) }
+{
+    let Ok(args) = receiver_with_fiber(alloc, Value::Ref(object)) else {
+        return Err(NoMemory);
+    };
+    begun_with(alloc, program, id, args)
 }

@@ -4,7 +4,7 @@ ghost use Rattle.std.specs.Prelude.{◌≡◌, IfOk};
 ghost use Rattle.kilim_woven_fiber.specs.Begins.{BodyBegins, BodyBoots, IsFresh};
 ghost use Rattle.kilim_woven_fiber.specs.Body.{RoomyIn};
 
-use crate::begin::{begun_with, receiver_with_fiber};
+use crate::begin::{begun_on, begun_with};
 use crate::body::Body;
 use kilim_classes::main_class::constructor_of;
 use kilim_classes::{Base, ClassId, Program, Value};
@@ -55,8 +55,9 @@ pub fn begun_body(alloc: Global, program: &Program, tree: Tree) -> Result<Body, 
         return Err(NoMemory);
     };
     let method = execute_of(program, class);
-    let args = receiver_with_fiber(alloc, Value::Ref(root))?;
-    let frames = begun_with(alloc, program, method, args)?;
+    let Ok(frames) = begun_on(alloc, program, method, root) else {
+        return Err(NoMemory);
+    };
     Ok(new_body(alloc, program, frames, heap, None))
 }
 
@@ -69,14 +70,20 @@ pub fn first_body(
 ) -> Result<Body, NoMemory>
     ensures { IfOk result (λ body. BodyBoots plain.now program.now main body) }
 {
-    let object = new_object(alloc, plain, main)?;
+    let Ok(object) = new_object(alloc, plain, main) else {
+        return Err(NoMemory);
+    };
     let mut heap = Heap::new(alloc);
     let Ok(root) = heap.add(object) else {
         return Err(NoMemory);
     };
     let method = constructor_of(program, main);
     let mut args = Vec::new(alloc);
-    args.push(Value::Ref(root))?;
-    let frames = begun_with(alloc, program, method, args)?;
+    let Ok(()) = args.push(Value::Ref(root)) else {
+        return Err(NoMemory);
+    };
+    let Ok(frames) = begun_with(alloc, program, method, args) else {
+        return Err(NoMemory);
+    };
     Ok(new_body(alloc, program, frames, heap, Some(root)))
 }

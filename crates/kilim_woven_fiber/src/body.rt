@@ -8,7 +8,7 @@ ghost use Rattle.kilim_woven_fiber.specs.Body.{standing_at, behind_at, RoomyIn, 
 ghost use Rattle.kilim_woven_fiber.specs.Comes.{Comes, HasRoomFor, IsNear};
 ghost use Rattle.kilim_woven_fiber.specs.Steps.{ReceiverThere};
 
-use crate::begin::{begun_with, frames_with, receiver_with_fiber};
+use crate::begin::{begun_on, frames_with, receiver_with_fiber};
 use crate::code::Code;
 use crate::pass::give;
 use kilim_classes::machine::{EndCause, Shape};
@@ -113,15 +113,15 @@ pub(crate) fn leave(
         return Ok(left(program, body));
     };
     let method = execute_of(program, main);
-    let args = receiver_with_fiber(alloc, Value::Ref(name))?;
-    match begun_with(alloc, program, method, args)? {
-        None => Ok(Came::Ends(EndCause::Done)),
-        Some(frames) => {
+    match begun_on(alloc, program, method, name) {
+        Ok(None) => Ok(Came::Ends(EndCause::Done)),
+        Ok(Some(frames)) => {
             body.frames = Some(frames);
             body.kept = None;
             body.count += 1;
             Ok(Came::On)
         }
+        Err(fault) => Err(fault),
     }
 }
 
@@ -164,12 +164,18 @@ pub(crate) fn rewind(alloc: Global, code: &Code, body: &mut Body) -> Result<Came
     ensures counted { OnOk result (IsNear body.old.count body.new.count) }
     ensures room { IfOk result (λ came. HasRoomFor code.now.program body.new came) }
 {
-    let receiver = body.records.first_receiver()?;
+    let Ok(receiver) = body.records.first_receiver() else {
+        return Err(NoMemory);
+    };
     let Some(method) = execute_for(code, &body.heap, &receiver) else {
         return Err(NoMemory);
     };
-    let args = receiver_with_fiber(alloc, receiver)?;
-    let frames = frames_with(alloc, &code.program, method, args)?;
+    let Ok(args) = receiver_with_fiber(alloc, receiver) else {
+        return Err(NoMemory);
+    };
+    let Ok(frames) = frames_with(alloc, &code.program, method, args) else {
+        return Err(NoMemory);
+    };
     body.frames = Some(frames);
     body.records.resume();
     Ok(Came::On)

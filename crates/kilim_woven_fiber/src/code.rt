@@ -42,9 +42,15 @@ fn tables_of(
     ensures natives { IfOk result (λ tables. AreNatives program.now tables.1.items) }
     ensures executes { IfOk result (λ tables. AreExecutes program.now tables.2.items) }
 {
-    let places = Places::new(alloc, program)?;
-    let natives = native_table(alloc, program)?;
-    let executes = execute_table(alloc, program)?;
+    let Ok(places) = Places::new(alloc, program) else {
+        return Err(NoMemory);
+    };
+    let Ok(natives) = native_table(alloc, program) else {
+        return Err(NoMemory);
+    };
+    let Ok(executes) = execute_table(alloc, program) else {
+        return Err(NoMemory);
+    };
     Ok((places, natives, executes))
 }
 

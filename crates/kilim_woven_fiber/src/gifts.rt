@@ -32,7 +32,9 @@ pub fn take_gift(
     match reserve_tree(alloc, heap, root) {
         Ok(room) => {
             let tree = take_out(heap, root, room);
-            let shape = shape(program, &tree)?;
+            let Ok(shape) = shape(program, &tree) else {
+                return Err(NoMemory);
+            };
             Ok(Gift::Tree(tree, shape))
         }
         Err(MoveFault::TooLarge) => Ok(Gift::TooLarge),

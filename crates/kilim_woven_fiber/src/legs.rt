@@ -117,8 +117,11 @@ pub fn reach(
     ensures most { OnOk result (body.new.count ≤ limits.now.steps) }
 {
     for _ in 0..MOST_LEGS {
-        let came = leg(alloc, code, limits, main, task, body)?;
+        let Ok(came) = leg(alloc, code, limits, main, task, body) else {
+            return Err(NoMemory);
+        };
         if body.count > limits.steps {
+            drop(came);
             return Err(NoMemory);
         }
         match came {

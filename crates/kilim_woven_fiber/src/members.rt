@@ -57,11 +57,13 @@ fn result_of(alloc: Global, member: Member, records: &mut Records) -> Result<Val
             Ok(Value::Int(number.cast_signed()))
         }
         Member::Down => {
-            records.down(alloc)?;
+            let Ok(()) = records.down(alloc) else {
+                return Err(NoMemory);
+            };
             Ok(Value::Fiber)
         }
         Member::Up => {
-            let Some(pauses) = records.up()? else {
+            let Ok(Some(pauses)) = records.up() else {
                 return Err(NoMemory);
             };
             Ok(Value::Int(i32::from(pauses)))
@@ -73,7 +75,7 @@ fn result_of(alloc: Global, member: Member, records: &mut Records) -> Result<Val
             Ok(value)
         }
         Member::Receiver => {
-            let Some(value) = records.receiver()? else {
+            let Ok(Some(value)) = records.receiver() else {
                 return Err(NoMemory);
             };
             Ok(value)

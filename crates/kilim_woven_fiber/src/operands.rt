@@ -36,12 +36,18 @@ pub fn copy_operands(frames: &Frames) -> Result<Operands, NoMemory>
     match frames.operands {
         0 => Ok(Operands::None),
         1 => {
-            let value = operand(frames, 0)?;
+            let Ok(value) = operand(frames, 0) else {
+                return Err(NoMemory);
+            };
             Ok(Operands::One(value))
         }
         2 => {
-            let first = operand(frames, 1)?;
-            let second = operand(frames, 0)?;
+            let Ok(first) = operand(frames, 1) else {
+                return Err(NoMemory);
+            };
+            let Ok(second) = operand(frames, 0) else {
+                return Err(NoMemory);
+            };
             Ok(Operands::Two(first, second))
         }
         _ => Ok(Operands::More),

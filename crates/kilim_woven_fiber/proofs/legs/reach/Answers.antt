@@ -15,26 +15,26 @@ pub loop-preserved : goal.loop-preserved
 loop-preserved c =
     let set = setting_of c.args.code.now c.args.limits.now c.args.main in
     record {
-      goes = went_later set c.args.code.now.program c.args.code.now.counted c.args.task (standing_at 0 c.args.body.now) (standing_at 0 c.loop.body) c.leg.new.body c.in_ok-came.came c.in-On.is c.loop.invariant.goes c.in_ok-came.ensures.reached;
-      roomy = c.in_ok-came.ensures.roomy;
+      goes = went_later set c.args.code.now.program c.args.code.now.counted c.args.task (standing_at 0 c.args.body.now) (standing_at 0 c.loop.body) c.leg.new.body c.in-Ok.came c.in-On.is c.loop.invariant.goes c.in-Ok.ensures.reached;
+      roomy = c.in-Ok.ensures.roomy;
       counted =
           let a : c.args.body.now.count ≤ c.loop.body.count = c.loop.invariant.counted in
-          let m : c.loop.body.count ≤ c.leg.new.body.count = c.in_ok-came.ensures.counted in
+          let m : c.loop.body.count ≤ c.leg.new.body.count = c.in-Ok.ensures.counted in
           omega arith;
       most = let over = c.if-body-limits.false in omega arith;
     }
 
-pub returns-in_default : goal.returns-in_default
-returns-in_default c =
+pub returns-in_default-came : goal.returns-in_default-came
+returns-in_default-came c =
     let set = setting_of c.args.code.now c.args.limits.now c.args.main in
     record {
-      reaches = reached_later set c.args.code.now.program c.args.code.now.counted c.args.task (standing_at 0 c.args.body.now) (standing_at 0 c.loop.body) c.leg.new.body c.in_ok-came.came c.in_default.not-On c.loop.invariant.goes c.in_ok-came.ensures.reached;
-      wanting = wanting_by c.in_ok-came.came c.in_default.not-On;
-      room = c.in_ok-came.ensures.room;
-      roomy = c.in_ok-came.ensures.roomy;
+      reaches = reached_later set c.args.code.now.program c.args.code.now.counted c.args.task (standing_at 0 c.args.body.now) (standing_at 0 c.loop.body) c.leg.new.body c.in-Ok.came c.in_default-came.not-On c.loop.invariant.goes c.in-Ok.ensures.reached;
+      wanting = wanting_by c.in-Ok.came c.in_default-came.not-On;
+      room = c.in-Ok.ensures.room;
+      roomy = c.in-Ok.ensures.roomy;
       counted =
           let a : c.args.body.now.count ≤ c.loop.body.count = c.loop.invariant.counted in
-          let m : c.loop.body.count ≤ c.leg.new.body.count = c.in_ok-came.ensures.counted in
+          let m : c.loop.body.count ≤ c.leg.new.body.count = c.in-Ok.ensures.counted in
           omega arith;
       most = let over = c.if-body-limits.false in omega arith;
     }
