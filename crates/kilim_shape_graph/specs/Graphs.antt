@@ -1,8 +1,6 @@
 -- Shape graphs: which nodes slots name.
 use Rattle.std.specs.Prelude.{ℕ, zero, suc, List, [], ◌∷◌, ◌++◌, Option, Some, None, length, drop}
 use Rattle.kilim_shape_graph.specs.declared.graph.Graph.{Graph}
-use Rattle.kilim_shape_graph.specs.declared.graph.Slot.{Slot}
-use Rattle.kilim_shape_graph.specs.declared.graph.Slot.TheVariants.{Local, Stack}
 use Rattle.kilim_shape_graph.specs.declared.node.Node.{Node}
 use Rattle.kilim_shape_graph.specs.Nodes.{node_at, listed}
 
@@ -18,10 +16,6 @@ with_slot [] zero x = x ∷ []
 with_slot [] (suc k) x = None ∷ with_slot [] k x
 with_slot (y ∷ ys) zero x = x ∷ ys
 with_slot (y ∷ ys) (suc k) x = y ∷ with_slot ys k x
-
-abbrev pub named_by : Graph → Slot → Option ℕ
-named_by g (Local k) = slot g.locals k
-named_by g (Stack k) = slot g.stack k
 
 abbrev pub node_of : Graph → ℕ → Node
 node_of g n = node_at g.nodes n

@@ -8,6 +8,7 @@ ghost use Rattle.std.specs.Option.{option_map};
 use crate::graph::Graph;
 use crate::node::{Label, Node, node_at};
 use crate::numbers::{firsts, index_of, is_among};
+use crate::reversed::turned;
 use crate::types::type_at;
 use kilim_classes::{Frame, VType};
 use kilim_units::{NoMemory, Seq};
@@ -19,35 +20,36 @@ fn push_named(slots: &[Option<usize>], named: &mut Seq<usize>) -> Result<(), NoM
 {
     for slot in slots {
         if let Some(node) = slot {
-            named.push(*node)?;
+            let Ok(()) = named.push(*node) else {
+                return Err(NoMemory);
+            };
         }
     }
     Ok(())
 }
 
-// The items the other way round.
-fn turned<T: Copy + Drop>(alloc: Global, items: &[T]) -> Result<Vec<T>, NoMemory>
-    ensures { IfOk result (λ v. v.items ≡ reverse items.now) }
-{
-    let mut turned = Vec::from_slice(alloc, items)?;
-    turned.reverse();
-    Ok(turned)
-}
-
 fn slots_of(alloc: Global, graph: &Graph) -> Result<Seq<usize>, NoMemory>
     ensures { IfOk result (λ named. named ≡ form.slots_of graph.now) }
 {
-    let stack: Vec<Option<usize>> = turned(alloc, graph.stack.as_slice())?;
+    let Ok(stack) = turned::<Option<usize>>(alloc, graph.stack.as_slice()) else {
+        return Err(NoMemory);
+    };
     let mut named = Seq::new(alloc);
-    push_named(graph.locals.as_slice(), &mut named)?;
-    push_named(&stack, &mut named)?;
+    let Ok(()) = push_named(graph.locals.as_slice(), &mut named) else {
+        return Err(NoMemory);
+    };
+    let Ok(()) = push_named(&stack, &mut named) else {
+        return Err(NoMemory);
+    };
     Ok(named)
 }
 
 fn order_of(alloc: Global, graph: &Graph) -> Result<Seq<usize>, NoMemory>
     ensures { IfOk result (λ order. order ≡ form.order_of graph.now) }
 {
-    let named = slots_of(alloc, graph)?;
+    let Ok(named) = slots_of(alloc, graph) else {
+        return Err(NoMemory);
+    };
     firsts(alloc, named.as_slice())
 }
 
@@ -56,7 +58,9 @@ fn regions_of(alloc: Global, nodes: &[Node], order: &[usize]) -> Result<Seq<usiz
 {
     let mut regions = Seq::new(alloc);
     for node in order {
-        regions.push(node_at(nodes, *node).region)?;
+        let Ok(()) = regions.push(node_at(nodes, *node).region) else {
+            return Err(NoMemory);
+        };
     }
     firsts(alloc, regions.as_slice())
 }
@@ -94,7 +98,9 @@ fn slots_in(
 {
     let mut new = Seq::new(alloc);
     for slot in slots {
-        new.push(renumbered(order, *slot))?;
+        let Ok(()) = new.push(renumbered(order, *slot)) else {
+            return Err(NoMemory);
+        };
     }
     Ok(new)
 }
@@ -102,16 +108,20 @@ fn slots_in(
 fn nodes_in(alloc: Global, nodes: &[Node], order: &[usize]) -> Result<Seq<Node>, NoMemory>
     ensures { IfOk result (λ new. new ≡ map (form.canonical_node nodes.now order.now) order.now) }
 {
-    let regions = regions_of(alloc, nodes, order)?;
+    let Ok(regions) = regions_of(alloc, nodes, order) else {
+        return Err(NoMemory);
+    };
     let mut new = Seq::new(alloc);
     for number in order {
         let node = node_at(nodes, *number);
-        new.push(Node {
+        let Ok(()) = new.push(Node {
             region: index_of(regions.as_slice(), node.region),
             standing: node.standing,
             head: node.head,
             parent: parent_in(nodes, order, node.standing.is_gone(), node.parent),
-        })?;
+        }) else {
+            return Err(NoMemory);
+        };
     }
     Ok(new)
 }
@@ -140,7 +150,9 @@ fn kept_names(
 {
     let mut new = Seq::new(alloc);
     for (at, slot) in slots.iter().enumerate() {
-        new.push(kept_name(type_at(types, at), *slot))?;
+        let Ok(()) = new.push(kept_name(type_at(types, at), *slot)) else {
+            return Err(NoMemory);
+        };
     }
     Ok(new)
 }
@@ -149,11 +161,22 @@ fn kept_names(
 fn canonical_of(alloc: Global, graph: &Graph) -> Result<Graph, NoMemory>
     ensures { IfOk result (λ new. new ≡ form.canonical graph.now) }
 {
-    let order = order_of(alloc, graph)?;
+    let Ok(order) = order_of(alloc, graph) else {
+        return Err(NoMemory);
+    };
+    let Ok(locals) = slots_in(alloc, order.as_slice(), graph.locals.as_slice()) else {
+        return Err(NoMemory);
+    };
+    let Ok(stack) = slots_in(alloc, order.as_slice(), graph.stack.as_slice()) else {
+        return Err(NoMemory);
+    };
+    let Ok(nodes) = nodes_in(alloc, graph.nodes.as_slice(), order.as_slice()) else {
+        return Err(NoMemory);
+    };
     Ok(Graph {
-        locals: slots_in(alloc, order.as_slice(), graph.locals.as_slice())?,
-        stack: slots_in(alloc, order.as_slice(), graph.stack.as_slice())?,
-        nodes: nodes_in(alloc, graph.nodes.as_slice(), order.as_slice())?,
+        locals,
+        stack,
+        nodes,
     })
 }
 
@@ -164,7 +187,9 @@ fn stack_names(
 ) -> Result<Seq<Option<usize>>, NoMemory>
     ensures { IfOk result (λ new. new ≡ form.kept_names (reverse types.now) slots.now) }
 {
-    let types: Vec<VType> = turned(alloc, types)?;
+    let Ok(types) = turned::<VType>(alloc, types) else {
+        return Err(NoMemory);
+    };
     kept_names(alloc, &types, slots)
 }
 
@@ -172,9 +197,15 @@ fn stack_names(
 fn cleared(alloc: Global, graph: &Graph, frame: &Frame) -> Result<Graph, NoMemory>
     ensures { IfOk result (λ new. new ≡ form.cleared (frame_types frame.now) graph.now) }
 {
-    let locals = kept_names(alloc, frame.locals.as_slice(), graph.locals.as_slice())?;
-    let stack = stack_names(alloc, frame.stack.as_slice(), graph.stack.as_slice())?;
-    let nodes = Vec::from_slice(alloc, graph.nodes.as_slice())?;
+    let Ok(locals) = kept_names(alloc, frame.locals.as_slice(), graph.locals.as_slice()) else {
+        return Err(NoMemory);
+    };
+    let Ok(stack) = stack_names(alloc, frame.stack.as_slice(), graph.stack.as_slice()) else {
+        return Err(NoMemory);
+    };
+    let Ok(nodes) = Vec::from_slice(alloc, graph.nodes.as_slice()) else {
+        return Err(NoMemory);
+    };
     Ok(Graph {
         locals,
         stack,
@@ -192,7 +223,9 @@ impl Graph {
         let Some(frame) = declared else {
             return canonical_of(alloc, self);
         };
-        let graph = cleared(alloc, self, frame)?;
+        let Ok(graph) = cleared(alloc, self, frame) else {
+            return Err(NoMemory);
+        };
         canonical_of(alloc, &graph)
     }
 }

@@ -37,10 +37,12 @@ fn push_parameters(
     ensures { IfOk result (λ u. list.new ≡ list.old ++ spec.declared_parameters tys.now qualifiers.now) }
 {
     for at in 0..tys.len().min(qualifiers.len()) {
-        list.push(Parameter {
+        let Ok(()) = list.push(Parameter {
             ty: tys[at],
             qualifier: qualifiers[at],
-        })?;
+        }) else {
+            return Err(NoMemory);
+        };
     }
     Ok(())
 }
@@ -51,19 +53,23 @@ pub fn parameters_of(alloc: Global, method: &Method) -> Result<Seq<Parameter>, N
 {
     let mut list = Seq::new(alloc);
     if !method.is_static {
-        list.push(Parameter {
+        let Ok(()) = list.push(Parameter {
             ty: Ty {
                 dims: 0,
                 base: Base::Class(method.owner),
             },
             qualifier: method.receiver,
-        })?;
+        }) else {
+            return Err(NoMemory);
+        };
     }
-    push_parameters(
+    let Ok(()) = push_parameters(
         method.params.as_slice(),
         method.qualifiers.as_slice(),
         &mut list,
-    )?;
+    ) else {
+        return Err(NoMemory);
+    };
     Ok(list)
 }
 
@@ -92,9 +98,13 @@ fn is_long(ty: &Ty) -> bool
 fn push_slots(locals: &mut Seq<Option<usize>>, ty: &Ty, name: Option<usize>) -> Result<(), NoMemory>
     ensures { IfOk result (λ u. locals.new ≡ locals.old ++ spec.name_slots (vtype ty.now) name []) }
 {
-    locals.push(name)?;
+    let Ok(()) = locals.push(name) else {
+        return Err(NoMemory);
+    };
     if is_long(ty) {
-        locals.push(None)?;
+        let Ok(()) = locals.push(None) else {
+            return Err(NoMemory);
+        };
     }
     Ok(())
 }
@@ -108,11 +118,13 @@ fn entry_names(
 {
     let mut names = Seq::new(alloc);
     for (number, parameter) in parameters.iter().enumerate() {
-        push_slots(
+        let Ok(()) = push_slots(
             &mut names,
             &parameter.ty,
             tree_name(program, &parameter.ty, number),
-        )?;
+        ) else {
+            return Err(NoMemory);
+        };
     }
     Ok(names)
 }
@@ -122,7 +134,9 @@ fn pad(locals: &mut Seq<Option<usize>>, least: usize) -> Result<(), NoMemory>
     ensures { IfOk result (λ u. locals.new ≡ locals.old ++ replicate (least - length locals.old) None) }
 {
     while locals.len() < least {
-        locals.push(None)?;
+        let Ok(()) = locals.push(None) else {
+            return Err(NoMemory);
+        };
     }
     Ok(())
 }
@@ -154,7 +168,12 @@ fn entry_nodes(
 {
     let mut nodes = Seq::new(alloc);
     for (number, parameter) in parameters.iter().enumerate() {
-        nodes.push(entry_node(quality(program, &parameter.ty, parameter.qualifier), number))?;
+        let Ok(()) = nodes.push(entry_node(
+            quality(program, &parameter.ty, parameter.qualifier),
+            number,
+        )) else {
+            return Err(NoMemory);
+        };
     }
     Ok(nodes)
 }
@@ -167,13 +186,22 @@ impl Graph {
     pub fn entry(alloc: Global, program: &Program, method: &Method) -> Result<Graph, NoMemory>
         ensures { IfOk result (λ graph. graph ≡ spec.entry_nodes program.now method.now) }
     {
-        let parameters = parameters_of(alloc, method)?;
-        let mut locals = entry_names(alloc, program, parameters.as_slice())?;
-        pad(&mut locals, usize::from(method.max_locals))?;
+        let Ok(parameters) = parameters_of(alloc, method) else {
+            return Err(NoMemory);
+        };
+        let Ok(mut locals) = entry_names(alloc, program, parameters.as_slice()) else {
+            return Err(NoMemory);
+        };
+        let Ok(()) = pad(&mut locals, usize::from(method.max_locals)) else {
+            return Err(NoMemory);
+        };
+        let Ok(nodes) = entry_nodes(alloc, program, parameters.as_slice()) else {
+            return Err(NoMemory);
+        };
         Ok(Graph {
             locals,
             stack: Seq::new(alloc),
-            nodes: entry_nodes(alloc, program, parameters.as_slice())?,
+            nodes,
         })
     }
 }

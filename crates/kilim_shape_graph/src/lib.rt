@@ -6,9 +6,11 @@ mod entry;
 mod graph;
 mod node;
 mod numbers;
+mod reversed;
 mod types;
 
 pub use entry::{Parameter, parameters_of, quality};
-pub use graph::{Graph, Slot, slot_at};
+pub use graph::{Graph, slot_at};
 pub use node::{Label, Node, Standing, node_at};
+pub use reversed::turned;
 pub use types::type_at;

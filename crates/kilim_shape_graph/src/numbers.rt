@@ -49,7 +49,9 @@ pub fn firsts(alloc: Global, numbers: &[usize]) -> Result<Seq<usize>, NoMemory>
 {
     let mut order = Seq::new(alloc);
     for number in numbers {
-        push_first(&mut order, *number)?;
+        let Ok(()) = push_first(&mut order, *number) else {
+            return Err(NoMemory);
+        };
     }
     Ok(order)
 }

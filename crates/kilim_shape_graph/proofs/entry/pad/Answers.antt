@@ -4,4 +4,4 @@ use Rattle.kilim_shape_graph.proofs.entry.pad.Goals as goal
 
 pub loop-locals-preserved : goal.loop-locals-preserved
 loop-locals-preserved c =
-    pad_more c.loop-locals.locals c.push.new.self (c.args.locals.now ++ replicate (c.args.least - length c.args.locals.now) None) c.args.least (omega arith) c.in_ok-push.ensures.ok c.loop-locals.invariant
+    pad_more c.loop-locals.locals c.push.new.self (c.args.locals.now ++ replicate (c.args.least - length c.args.locals.now) None) c.args.least (omega arith) c.in-Ok.ensures.ok c.loop-locals.invariant

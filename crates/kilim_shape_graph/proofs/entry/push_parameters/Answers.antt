@@ -5,7 +5,7 @@ use Rattle.kilim_shape_graph.proofs.entry.push_parameters.Goals as goal
 
 pub loop-at-preserved : goal.loop-at-preserved
 loop-at-preserved c =
-    parameters_more c.args.tys.now c.args.qualifiers.now c.loop-at.list c.push.new.self (c.args.list.now ++ declared_parameters c.args.tys.now c.args.qualifiers.now) c.loop-at.at _ _ (omega arith) c.in_ok-push.ensures.ok c.loop-at.invariant
+    parameters_more c.args.tys.now c.args.qualifiers.now c.loop-at.list c.push.new.self (c.args.list.now ++ declared_parameters c.args.tys.now c.args.qualifiers.now) c.loop-at.at _ _ (omega arith) c.in-Ok.ensures.ok c.loop-at.invariant
 
 pub returns : goal.returns
 returns c =

@@ -5,4 +5,4 @@ use Rattle.kilim_shape_graph.proofs.numbers.firsts.Goals as goal
 
 pub loop-number-preserved : goal.loop-number-preserved
 loop-number-preserved c =
-    firsts_more c.loop-number.order c.args.numbers.now c.loop-number.number-index 0 c.push_first.new.order (firsts [] c.args.numbers.now) c.loop-number-test.true c.in_ok-push_first.ensures c.loop-number.invariant
+    firsts_more c.loop-number.order c.args.numbers.now c.loop-number.number-index 0 c.push_first.new.order (firsts [] c.args.numbers.now) c.loop-number-test.true c.in-Ok.ensures c.loop-number.invariant
