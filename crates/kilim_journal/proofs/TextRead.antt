@@ -1,5 +1,5 @@
 -- Reading entries one after the other, and the lines of a text.
-use Rattle.std.proofs.Common.{◌≡◌, ℕ, zero, suc, ◌+◌, ◌<◌, ◌^◌, Bool, true, false, not, List, [], ◌∷◌, ◌++◌, length, map, refl, sym, ap, subst, ◌∙◌, inl, inr, arith, append_assoc, ◌/◌, ◌%◌}
+use Rattle.std.proofs.Common.{◌≡◌, ℕ, zero, suc, ◌+◌, ◌<◌, ◌^◌, Bool, true, false, not, List, [], ◌∷◌, ◌++◌, length, length-append, map, refl, sym, ap, subst, ◌∙◌, inl, inr, arith, append_assoc, ◌/◌, ◌%◌}
 use Rattle.std.specs.Prelude.{◌==◌, codes}
 use Rattle.std.specs.List.{AllByRecursion, flat_map, list_all}
 use Rattle.std.specs.Fmt.{decimal, signed_decimal}
@@ -198,6 +198,10 @@ reading_goes_on bytes es all rest e behind r h at is =
       each = one_more es e r.each h;
       split = r.split ∙ (ap (λ t. journal_text es ++ t) at ∙ sym (text_more es e behind));
     })
+
+pub shorter : (rest : List ℕ) (e : Entry) (behind : List ℕ) → rest ≡ entry_text e ++ behind → length behind < length rest
+shorter rest e behind at =
+    omega (arith, ap length at, length-append (entry_text e) behind, length-append (decimal e.task) (codes " " ++ (act_text e.act ++ codes "\n")))
 
 no_more : (rest : List ℕ) → length rest ≡ 0 → rest ≡ []
 no_more [] h = refl

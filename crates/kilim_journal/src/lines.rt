@@ -103,7 +103,9 @@ fn lines(alloc: Global, entries: &[Entry]) -> Result<Vec<u8>, AllocError>
 {
     let mut out = Vec::new(alloc);
     for entry in entries {
-        push_entry(&mut out, entry)?;
+        let Ok(()) = push_entry(&mut out, entry) else {
+            return Err(AllocError);
+        };
     }
     Ok(out)
 }

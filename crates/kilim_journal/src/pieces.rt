@@ -35,7 +35,9 @@ pub fn push_number(out: &mut Vec<u8>, n: u64) -> Result<(), AllocError>
     if n < 10 {
         return push_digit(out, n);
     }
-    push_number(out, n / 10)?;
+    let Ok(()) = push_number(out, n / 10) else {
+        return Err(AllocError);
+    };
     push_digit(out, n % 10)
 }
 
@@ -102,7 +104,9 @@ fn push_text(out: &mut Vec<u8>, units: &[u16]) -> Result<(), AllocError>
     ensures { OnOk result (out.new.items ≡ out.old.items ++ flat_map text_unit units.now) }
 {
     for unit in units {
-        push_text_unit(out, *unit)?;
+        let Ok(()) = push_text_unit(out, *unit) else {
+            return Err(AllocError);
+        };
     }
     Ok(())
 }
@@ -175,8 +179,12 @@ pub fn push_shape(out: &mut Vec<u8>, shape: &[Token]) -> Result<(), AllocError>
 {
     let mut follows = false;
     for token in shape {
-        push_comma(out, follows, token)?;
-        push_token(out, token)?;
+        let Ok(()) = push_comma(out, follows, token) else {
+            return Err(AllocError);
+        };
+        let Ok(()) = push_token(out, token) else {
+            return Err(AllocError);
+        };
         follows = is_followed(token);
     }
     Ok(())

@@ -75,9 +75,9 @@ pub fn read_text(alloc: Global, bytes: &[u8]) -> Result<Vec<Entry>, TextFault>
                 return Err(TextFault::BadLine(line));
             }
             Ok(Some((entry, behind))) => {
-                if entries.push(entry).is_err() {
+                let Ok(()) = entries.push(entry) else {
                     return Err(TextFault::Memory);
-                }
+                };
                 rest = behind;
             }
         }

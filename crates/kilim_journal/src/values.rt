@@ -35,10 +35,18 @@ fn four_digits(digits: &[u8]) -> Option<u16>
     requires { length digits.now ≡ 4 }
     ensures { (a b c d : ℕ) → a < 16 → b < 16 → c < 16 → d < 16 → digits.now ≡ hex_digit a ∷ hex_digit b ∷ hex_digit c ∷ hex_digit d ∷ [] → result ≡ Some (a * 4096 + b * 256 + c * 16 + d) }
 {
-    let a = hex_value(digits[0])?;
-    let b = hex_value(digits[1])?;
-    let c = hex_value(digits[2])?;
-    let d = hex_value(digits[3])?;
+    let Some(a) = hex_value(digits[0]) else {
+        return None;
+    };
+    let Some(b) = hex_value(digits[1]) else {
+        return None;
+    };
+    let Some(c) = hex_value(digits[2]) else {
+        return None;
+    };
+    let Some(d) = hex_value(digits[3]) else {
+        return None;
+    };
     Some(a * 4096 + b * 256 + c * 16 + d)
 }
 
@@ -85,12 +93,16 @@ fn units_at(alloc: Global, end: u8, bytes: &[u8]) -> Result<Option<(Units, &[u8]
     let mut rest = bytes;
     while let Some((first, others)) = rest.split_first() {
         if *first == end {
-            let text = Units::from_vec(alloc, units)?;
+            let Ok(text) = Units::from_vec(alloc, units) else {
+                return Err(NoMemory);
+            };
             return Ok(Some((text, others)));
         }
         match unit_at(rest) {
             Some((unit, behind)) => {
-                units.push(unit)?;
+                let Ok(()) = units.push(unit) else {
+                    return Err(NoMemory);
+                };
                 rest = behind;
             }
             None => return Ok(None),
@@ -104,7 +116,10 @@ fn open_at(alloc: Global, bytes: &[u8]) -> Result<Option<(Token, &[u8])>, NoMemo
     ensures right { (name x : List ℕ) → UnitsFit name → bytes.now ≡ token_text (part.Open name) ++ x → IfOk result (λ found. IsSomeAnd found (λ r. (r.0 ≡ part.Open name) × (r.1.now ≡ x))) }
     ensures fits { IfOk result (λ found. IfSome found (λ r. TokenFits r.0)) }
 {
-    match units_at(alloc, b'(', bytes)? {
+    let Ok(found) = units_at(alloc, b'(', bytes) else {
+        return Err(NoMemory);
+    };
+    match found {
         Some((name, rest)) => Ok(Some((Token::Open(name), rest))),
         None => Ok(None),
     }
@@ -115,7 +130,10 @@ fn text_at(alloc: Global, bytes: &[u8]) -> Result<Option<(Token, &[u8])>, NoMemo
     ensures right { (units x : List ℕ) → UnitsFit units → 34 ∷ bytes.now ≡ token_text (part.Text units) ++ x → IfOk result (λ found. IsSomeAnd found (λ r. (r.0 ≡ part.Text units) × (r.1.now ≡ x))) }
     ensures fits { IfOk result (λ found. IfSome found (λ r. TokenFits r.0)) }
 {
-    match units_at(alloc, b'"', bytes)? {
+    let Ok(found) = units_at(alloc, b'"', bytes) else {
+        return Err(NoMemory);
+    };
+    match found {
         Some((units, rest)) => Ok(Some((Token::Text(units), rest))),
         None => Ok(None),
     }
@@ -214,7 +232,10 @@ fn next_at(alloc: Global, follows: bool, bytes: &[u8]) -> Result<Option<(Token, 
     ensures fits { IfOk result (λ found. IfSome found (λ r. TokenFits r.0)) }
     ensures less { IfOk result (λ found. IfSome found (λ r. length r.1.now < length bytes.now)) }
 {
-    match token_at(alloc, behind_comma(follows, bytes))? {
+    let Ok(found) = token_at(alloc, behind_comma(follows, bytes)) else {
+        return Err(NoMemory);
+    };
+    match found {
         None => Ok(None),
         Some((token, rest)) => {
             if rest.len() < bytes.len() {
@@ -250,20 +271,30 @@ pub fn shape_at(alloc: Global, bytes: &[u8]) -> Result<Option<Shape>, NoMemory>
     let mut follows = false;
     let mut rest = bytes;
     while !rest.is_empty() {
-        match next_at(alloc, follows, rest)? {
+        let Ok(next) = next_at(alloc, follows, rest) else {
+            return Err(NoMemory);
+        };
+        match next {
             None => return Ok(None),
-            Some((token, behind)) => match begun_behind(begun, &token)? {
-                None => return Ok(None),
-                Some(now) => {
-                    follows = is_followed(&token);
-                    tokens.push(token)?;
-                    if now == 0 {
-                        return Ok(Some(tokens));
+            Some((token, behind)) => {
+                let Ok(open) = begun_behind(begun, &token) else {
+                    return Err(NoMemory);
+                };
+                match open {
+                    None => return Ok(None),
+                    Some(now) => {
+                        follows = is_followed(&token);
+                        let Ok(()) = tokens.push(token) else {
+                            return Err(NoMemory);
+                        };
+                        if now == 0 {
+                            return Ok(Some(tokens));
+                        }
+                        begun = now;
+                        rest = behind;
                     }
-                    begun = now;
-                    rest = behind;
                 }
-            },
+            }
         }
     }
     Ok(None)

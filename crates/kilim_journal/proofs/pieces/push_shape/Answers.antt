@@ -1,4 +1,4 @@
-use Rattle.std.proofs.Common.{◌≡◌, ◌∙◌, sym, ap, ℕ, ◌+◌, ◌<◌, suc, Bool, List, ◌∷◌, ◌++◌, length, drop, get_or, add-one, append_assoc}
+use Rattle.std.proofs.Common.{◌≡◌, ◌∙◌, sym, ap, refl, arith, ℕ, ◌+◌, ◌<◌, ◌≤◌, zero, suc, Bool, List, [], ◌∷◌, ◌++◌, length, drop, get_or, add-one, append_assoc}
 use Rattle.std.proofs.Math.Seq.{drop-cons}
 use Rattle.kilim_classes.specs.declared.machine.value.Token.{Token}
 use Rattle.kilim_journal.specs.Text.{comma_before, is_followed, token_text, tokens_text}
@@ -17,4 +17,19 @@ token_more follows next ts i t out mid now all lt is so comma token behind =
     ∙ (ap (λ l. out ++ tokens_text follows l) (sym (one_less ts i t lt is)) ∙ so))))
 
 pub loop-token-preserved : goal.loop-token-preserved
-loop-token-preserved c = token_more c.loop-token.follows c.is_followed-follows.result c.args.shape.now c.loop-token.token-index c.token-item.result c.loop-token.out.items c.push_comma.new.out.items c.push_token.new.out.items _ c.loop-token-test.true c.token-item.is c.loop-token.invariant c.in_ok-push_comma.ensures c.in_ok-push_token.ensures c.is_followed-follows.ensures
+loop-token-preserved c = token_more c.loop-token.follows c.is_followed-follows.result c.args.shape.now c.loop-token.token-index c.token-item.result c.loop-token.out.items c.push_comma.new.out.items c.push_token.new.out.items _ c.loop-token-test.true c.token-item.is c.loop-token.invariant c.in-Ok.ensures c.in-Ok-push_token.ensures c.is_followed-follows.ensures
+
+none_left : (ts : List Token) (i : ℕ) → length ts ≤ i → drop i ts ≡ []
+none_left [] zero h = refl
+none_left [] (suc i) h = refl
+none_left (t ∷ ts) zero h = absurd (omega arith)
+none_left (t ∷ ts) (suc i) h = none_left ts i (omega arith)
+
+nothing_more : (xs : List ℕ) → xs ≡ xs ++ []
+nothing_more [] = refl
+nothing_more (x ∷ xs) = ap (λ ys. x ∷ ys) (nothing_more xs)
+
+pub returns : goal.returns
+returns c =
+    let out = c.loop-token.out.items in
+    nothing_more out ∙ (ap (λ l. out ++ tokens_text c.loop-token.follows l) (sym (none_left c.args.shape.now c.loop-token.token-index (omega arith))) ∙ c.loop-token.invariant)

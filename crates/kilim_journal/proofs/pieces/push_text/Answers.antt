@@ -6,7 +6,7 @@ use Rattle.kilim_journal.proofs.Pushed.{text_more}
 use Rattle.kilim_journal.proofs.pieces.push_text.Goals as goal
 
 pub loop-unit-preserved : goal.loop-unit-preserved
-loop-unit-preserved c = text_more text_unit c.args.units.now c.loop-unit.unit-index 0 (get_or c.args.units.now c.loop-unit.unit-index 0) c.args.out.now.items c.loop-unit.out.items c.push_text_unit.new.out.items c.loop-unit-test.true refl c.loop-unit.invariant c.in_ok-push_text_unit.ensures
+loop-unit-preserved c = text_more text_unit c.args.units.now c.loop-unit.unit-index 0 (get_or c.args.units.now c.loop-unit.unit-index 0) c.args.out.now.items c.loop-unit.out.items c.push_text_unit.new.out.items c.loop-unit-test.true refl c.loop-unit.invariant c.in-Ok.ensures
 
 pub returns : goal.returns
 returns c = c.loop-unit.invariant ∙ ap (λ units. c.args.out.now.items ++ flat_map text_unit units) (take_all c.loop-unit.unit-index c.args.units.now (omega arith))

@@ -1,7 +1,10 @@
-use Rattle.std.proofs.Common.{◌≡◌, ◌∙◌, sym}
+use Rattle.std.proofs.Common.{◌≡◌, ◌∙◌, ◌++◌, sym, ap, refl, false, arith}
 use Rattle.std.specs.Prelude.{IsSomeAnd, IfOk}
 use Rattle.kilim_classes.specs.declared.machine.value.Token.TheVariants as part
 use Rattle.kilim_journal.proofs.TokensRead.{number_arm, text_arm, close_arm, box_arm, null_arm, found_close, at_unit}
+use Rattle.kilim_journal.specs.Text.{token_text}
+use Rattle.kilim_journal.proofs.Tokens.{none_before}
+use Rattle.kilim_journal.proofs.ShapesRead.{takes_some_behind}
 use Rattle.kilim_journal.proofs.values.plain_at.Goals as goal
 
 pub returns-then-is_number_unit-clause-right : goal.returns-then-is_number_unit-clause-right
@@ -26,3 +29,8 @@ returns-then-first-eq64-clause-right c =
 pub returns-else-first-eq64-clause-right : goal.returns-else-first-eq64-clause-right
 returns-else-first-eq64-clause-right c =
     null_arm (λ t x. IsSomeAnd c.null_at.result (λ r. (r.0 ≡ t) × (r.1.now ≡ x))) _ _ _ c.in-Some.ensures.cases.0 (sym c.is_number_unit.ensures ∙ c.if-is_number_unit.false) c.if-first-eq34.false c.if-first-eq41.false c.if-first-eq64.false c.null_at.ensures.right
+
+pub returns-in-None-clause-right : goal.returns-in-None-clause-right
+returns-in-None-clause-right c t x plain fits ended e =
+    let some = takes_some_behind false t x c.args.bytes.now x fits (e ∙ sym (ap (λ front. front ++ (token_text t ++ x)) (none_before t))) refl in
+    omega (arith, some, c.in-None.ensures.cases)
