@@ -23,7 +23,12 @@ fn add_first(places: &mut BTreeMap<Units, u32>, name: &Units, place: u32) -> Res
     ensures { OnOk result ((other : List ℕ) → id_in places.new other ≡ or_else (id_in places.old other) (if bytes_eq name.now other then Some place else None)) }
 {
     if !places.contains_key(name) {
-        places.insert(name.clone()?, place)?;
+        let Ok(key) = name.clone() else {
+            return Err(NoMemory);
+        };
+        let Ok(_) = places.insert(key, place) else {
+            return Err(NoMemory);
+        };
     }
     Ok(())
 }
@@ -37,7 +42,9 @@ impl Ids {
         let mut places: BTreeMap<Units, u32> = BTreeMap::new(alloc);
         let mut i: u32 = 0;
         while (i as usize) < classes.len() {
-            add_first(&mut places, &classes[i as usize].name, i)?;
+            let Ok(()) = add_first(&mut places, &classes[i as usize].name, i) else {
+                return Err(NoMemory);
+            };
             i += 1;
         }
         Ok(Ids { places })

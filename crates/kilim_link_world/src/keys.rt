@@ -10,8 +10,11 @@ pub fn key_of(name: &Units, descriptor: &Units) -> Result<Signature, NoMemory>
     ensures name { IfOk result (λ key. key.name ≡ name.now) }
     ensures descriptor { IfOk result (λ key. key.descriptor ≡ descriptor.now) }
 {
-    Ok(Signature {
-        name: name.clone()?,
-        descriptor: descriptor.clone()?,
-    })
+    let Ok(name) = name.clone() else {
+        return Err(NoMemory);
+    };
+    let Ok(descriptor) = descriptor.clone() else {
+        return Err(NoMemory);
+    };
+    Ok(Signature { name, descriptor })
 }

@@ -15,10 +15,12 @@ fn own_key(alloc: Global, number: u32) -> Result<Seq<Entry>, NoMemory>
     ensures { IfOk result (λ entries. entries ≡ own_key number) }
 {
     let mut entries: Seq<Entry> = Seq::new(alloc);
-    entries.push(Entry {
+    let Ok(()) = entries.push(Entry {
         key: number,
         value: Some(0),
-    })?;
+    }) else {
+        return Err(NoMemory);
+    };
     Ok(entries)
 }
 
@@ -30,7 +32,12 @@ fn own_keys(alloc: Global, count: usize) -> Result<Seq<Seq<Entry>>, NoMemory>
     let mut entries: Seq<Seq<Entry>> = Seq::new(alloc);
     let mut i: u32 = 0;
     while (i as usize) < count {
-        entries.push(own_key(alloc, i)?)?;
+        let Ok(own) = own_key(alloc, i) else {
+            return Err(NoMemory);
+        };
+        let Ok(()) = entries.push(own) else {
+            return Err(NoMemory);
+        };
         i += 1;
     }
     Ok(entries)

@@ -15,7 +15,9 @@ pub fn superclasses_of(alloc: Global, classes: &[Class]) -> Result<Seq<Option<Cl
 {
     let mut ups: Seq<Option<ClassId>> = Seq::new(alloc);
     for class in classes {
-        ups.push(class.superclass)?;
+        let Ok(()) = ups.push(class.superclass) else {
+            return Err(NoMemory);
+        };
     }
     Ok(ups)
 }
@@ -29,7 +31,9 @@ impl Outline {
         let mut at = class;
         let mut left = self.classes.len();
         while left > 0 {
-            line.push(at)?;
+            let Ok(()) = line.push(at) else {
+                return Err(NoMemory);
+            };
             let Some(up) = self.superclass_of(at) else {
                 return Ok(line);
             };

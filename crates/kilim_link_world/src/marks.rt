@@ -22,7 +22,9 @@ fn mark_entries(alloc: Global, mark: bool) -> Result<Seq<Entry>, NoMemory>
     let mut entries: Seq<Entry> = Seq::new(alloc);
     if mark {
         let value = Some(0);
-        entries.push(Entry { key: 0, value })?;
+        let Ok(()) = entries.push(Entry { key: 0, value }) else {
+            return Err(NoMemory);
+        };
     }
     Ok(entries)
 }
@@ -33,7 +35,12 @@ fn all_mark_entries(alloc: Global, own: &[bool]) -> Result<Seq<Seq<Entry>>, NoMe
 {
     let mut entries: Seq<Seq<Entry>> = Seq::new(alloc);
     for mark in own {
-        entries.push(mark_entries(alloc, *mark)?)?;
+        let Ok(said) = mark_entries(alloc, *mark) else {
+            return Err(NoMemory);
+        };
+        let Ok(()) = entries.push(said) else {
+            return Err(NoMemory);
+        };
     }
     Ok(entries)
 }
@@ -46,7 +53,9 @@ fn marks_of(alloc: Global, inherited: &Inherited, count: usize) -> Result<Seq<bo
     let mut marks: Seq<bool> = Seq::new(alloc);
     let mut i: u32 = 0;
     while (i as usize) < count {
-        marks.push(inherited.find(ClassId(i), 0).is_some())?;
+        let Ok(()) = marks.push(inherited.find(ClassId(i), 0).is_some()) else {
+            return Err(NoMemory);
+        };
         i += 1;
     }
     Ok(marks)
@@ -71,7 +80,11 @@ pub fn inherited_marks(
     requires one_each { length own.now ≡ length classes.now }
     ensures { IfOk result (λ marks. marks ≡ each_below (λ k. list_any (mark_at own.now) (line_in (map (λ class. class.superclass) classes.now) (class_id k))) (length classes.now)) }
 {
-    let ups = superclasses_of(alloc, classes)?;
-    let inherited = marks_above(alloc, ups.as_slice(), own.as_slice())?;
+    let Ok(ups) = superclasses_of(alloc, classes) else {
+        return Err(NoMemory);
+    };
+    let Ok(inherited) = marks_above(alloc, ups.as_slice(), own.as_slice()) else {
+        return Err(NoMemory);
+    };
     marks_of(alloc, &inherited, classes.len())
 }

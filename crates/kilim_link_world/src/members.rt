@@ -20,8 +20,12 @@ fn index_of_methods(alloc: Global, methods: &[DeclaredMethod]) -> Result<Index, 
     let mut i: u32 = 0;
     while (i as usize) < methods.len() {
         let method = &methods[i as usize];
-        let key = key_of(&method.name, &method.descriptor)?;
-        index.add(alloc, key, i)?;
+        let Ok(key) = key_of(&method.name, &method.descriptor) else {
+            return Err(NoMemory);
+        };
+        let Ok(()) = index.add(alloc, key, i) else {
+            return Err(NoMemory);
+        };
         i += 1;
     }
     Ok(index)
@@ -35,7 +39,12 @@ pub fn method_indices(alloc: Global, classes: &[ClassView]) -> Result<Seq<Index>
     let mut indices: Seq<Index> = Seq::new(alloc);
     let mut i = 0;
     while i < classes.len() {
-        indices.push(index_of_methods(alloc, classes[i].methods.as_slice())?)?;
+        let Ok(index) = index_of_methods(alloc, classes[i].methods.as_slice()) else {
+            return Err(NoMemory);
+        };
+        let Ok(()) = indices.push(index) else {
+            return Err(NoMemory);
+        };
         i += 1;
     }
     Ok(indices)
@@ -50,11 +59,15 @@ pub fn method_firsts(alloc: Global, classes: &[ClassView]) -> Result<Seq<u32>, N
     let mut total: u32 = 0;
     let mut i = 0;
     while i < classes.len() {
-        firsts.push(total)?;
+        let Ok(()) = firsts.push(total) else {
+            return Err(NoMemory);
+        };
         total += classes[i].methods.len() as u32;
         i += 1;
     }
-    firsts.push(total)?;
+    let Ok(()) = firsts.push(total) else {
+        return Err(NoMemory);
+    };
     Ok(firsts)
 }
 
@@ -67,10 +80,14 @@ pub fn field_firsts(alloc: Global, classes: &[ClassView]) -> Result<Seq<u32>, No
     let mut total: u32 = 0;
     let mut i = 0;
     while i < classes.len() {
-        firsts.push(total)?;
+        let Ok(()) = firsts.push(total) else {
+            return Err(NoMemory);
+        };
         total += classes[i].fields.len() as u32;
         i += 1;
     }
-    firsts.push(total)?;
+    let Ok(()) = firsts.push(total) else {
+        return Err(NoMemory);
+    };
     Ok(firsts)
 }

@@ -32,9 +32,13 @@ fn methods_said(
     let mut i: u32 = 0;
     while (i as usize) < methods.len() {
         let method = &methods[i as usize];
-        let signature = key_of(&method.name, &method.descriptor)?;
+        let Ok(signature) = key_of(&method.name, &method.descriptor) else {
+            return Err(NoMemory);
+        };
         let value = Some(first + i);
-        said.push(Said { signature, value })?;
+        let Ok(()) = said.push(Said { signature, value }) else {
+            return Err(NoMemory);
+        };
         i += 1;
     }
     Ok(said)
@@ -49,9 +53,13 @@ fn fields_said(alloc: Global, fields: &[DeclaredField], first: u32) -> Result<Se
     let mut i: u32 = 0;
     while (i as usize) < fields.len() {
         let field = &fields[i as usize];
-        let signature = key_of(&field.name, &field.descriptor)?;
+        let Ok(signature) = key_of(&field.name, &field.descriptor) else {
+            return Err(NoMemory);
+        };
         let value = Some(first + i);
-        said.push(Said { signature, value })?;
+        let Ok(()) = said.push(Said { signature, value }) else {
+            return Err(NoMemory);
+        };
         i += 1;
     }
     Ok(said)
@@ -68,7 +76,12 @@ fn all_methods_said(alloc: Global, classes: &[ClassView]) -> Result<Seq<Seq<Said
     let mut i = 0;
     while i < classes.len() {
         let methods = classes[i].methods.as_slice();
-        said.push(methods_said(alloc, methods, total)?)?;
+        let Ok(own) = methods_said(alloc, methods, total) else {
+            return Err(NoMemory);
+        };
+        let Ok(()) = said.push(own) else {
+            return Err(NoMemory);
+        };
         total += methods.len() as u32;
         i += 1;
     }
@@ -86,7 +99,12 @@ fn all_fields_said(alloc: Global, classes: &[ClassView]) -> Result<Seq<Seq<Said>
     let mut i = 0;
     while i < classes.len() {
         let fields = classes[i].fields.as_slice();
-        said.push(fields_said(alloc, fields, total)?)?;
+        let Ok(own) = fields_said(alloc, fields, total) else {
+            return Err(NoMemory);
+        };
+        let Ok(()) = said.push(own) else {
+            return Err(NoMemory);
+        };
         total += fields.len() as u32;
         i += 1;
     }

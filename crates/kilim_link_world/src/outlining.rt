@@ -57,7 +57,12 @@ fn outlined(
     let mut i = 0;
     while i < classes.len() {
         let message = *marks.get(i);
-        list.push(without_members(alloc, &classes[i], ids, message)?)?;
+        let Ok(class) = without_members(alloc, &classes[i], ids, message) else {
+            return Err(NoMemory);
+        };
+        let Ok(()) = list.push(class) else {
+            return Err(NoMemory);
+        };
         i += 1;
     }
     Ok(list)
@@ -76,8 +81,12 @@ fn outline_with(
     requires named { (name : List ℕ) → id_in ids.now.places name ≡ named_in name classes.now }
     ensures { IfOk result (λ outline. outline ≡ outline_with form classes.now (λ c v. mark_at marks.now c)) }
 {
-    let classes = outlined(alloc, classes, ids, marks)?;
-    let tasks = task_marks(alloc, classes.as_slice())?;
+    let Ok(classes) = outlined(alloc, classes, ids, marks) else {
+        return Err(NoMemory);
+    };
+    let Ok(tasks) = task_marks(alloc, classes.as_slice()) else {
+        return Err(NoMemory);
+    };
     Ok(Outline {
         classes,
         form,
@@ -91,7 +100,9 @@ fn own_marks(alloc: Global, classes: &[ClassView]) -> Result<Seq<bool>, NoMemory
 {
     let mut marks: Seq<bool> = Seq::new(alloc);
     for class in classes {
-        marks.push(class.is_marked)?;
+        let Ok(()) = marks.push(class.is_marked) else {
+            return Err(NoMemory);
+        };
     }
     Ok(marks)
 }
@@ -109,9 +120,15 @@ impl Outline {
         requires named { (name : List ℕ) → id_in ids.now.places name ≡ named_in name classes.now }
         ensures { IfOk result (λ outline. outline ≡ outline_of form classes.now) }
     {
-        let own = own_marks(alloc, classes)?;
-        let marked = outlined(alloc, classes, ids, &own)?;
-        let marks = message_marks(alloc, marked.as_slice())?;
+        let Ok(own) = own_marks(alloc, classes) else {
+            return Err(NoMemory);
+        };
+        let Ok(marked) = outlined(alloc, classes, ids, &own) else {
+            return Err(NoMemory);
+        };
+        let Ok(marks) = message_marks(alloc, marked.as_slice()) else {
+            return Err(NoMemory);
+        };
         outline_with(alloc, form, classes, ids, &marks)
     }
 }

@@ -77,9 +77,15 @@ fn lines_of(alloc: Global, form: Form, classes: &[ClassView]) -> Result<Lines, N
     ensures superclasses { IfOk result (λ l. AreSuperclasses l.outline l.superclasses) }
     ensures lineages { IfOk result (λ l. (c : number.ClassId) (k : ℕ) → k < length classes.now → is_some (inherits l.lineages c k) ≡ list_any (λ d. d.0 == k) (line_of l.outline c)) }
 {
-    let ids = Ids::new(alloc, classes)?;
-    let outline = Outline::new(alloc, form, classes, &ids)?;
-    let superclasses = outline.superclasses(alloc)?;
+    let Ok(ids) = Ids::new(alloc, classes) else {
+        return Err(NoMemory);
+    };
+    let Ok(outline) = Outline::new(alloc, form, classes, &ids) else {
+        return Err(NoMemory);
+    };
+    let Ok(superclasses) = outline.superclasses(alloc) else {
+        return Err(NoMemory);
+    };
     match lineages_of(alloc, superclasses.as_slice()) {
         Ok(lineages) => Ok(Lines {
             outline,
@@ -104,10 +110,19 @@ fn members_of(alloc: Global, classes: &[ClassView]) -> Result<Members, NoMemory>
     ensures first_methods { IfOk result (λ m. m.first_methods ≡ firsts_of method_count classes.now) }
     ensures first_fields { IfOk result (λ m. m.first_fields ≡ firsts_of field_count classes.now) }
 {
+    let Ok(methods) = method_indices(alloc, classes) else {
+        return Err(NoMemory);
+    };
+    let Ok(first_methods) = method_firsts(alloc, classes) else {
+        return Err(NoMemory);
+    };
+    let Ok(first_fields) = field_firsts(alloc, classes) else {
+        return Err(NoMemory);
+    };
     Ok(Members {
-        methods: method_indices(alloc, classes)?,
-        first_methods: method_firsts(alloc, classes)?,
-        first_fields: field_firsts(alloc, classes)?,
+        methods,
+        first_methods,
+        first_fields,
     })
 }
 

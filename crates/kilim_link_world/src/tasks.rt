@@ -20,7 +20,9 @@ fn named_tasks(alloc: Global, classes: &[Class]) -> Result<Seq<bool>, NoMemory>
 {
     let mut marks: Seq<bool> = Seq::new(alloc);
     for class in classes {
-        marks.push(class.name.is_text(b"kilim/Task"))?;
+        let Ok(()) = marks.push(class.name.is_text(b"kilim/Task")) else {
+            return Err(NoMemory);
+        };
     }
     Ok(marks)
 }
@@ -40,7 +42,9 @@ fn own_messages(alloc: Global, classes: &[Class]) -> Result<Seq<bool>, NoMemory>
 {
     let mut marks: Seq<bool> = Seq::new(alloc);
     for class in classes {
-        marks.push(class.message)?;
+        let Ok(()) = marks.push(class.message) else {
+            return Err(NoMemory);
+        };
     }
     Ok(marks)
 }

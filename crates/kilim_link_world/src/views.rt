@@ -17,7 +17,12 @@ fn file_views(alloc: Global, files: &[ClassFile]) -> Result<Seq<ClassView>, NoMe
 {
     let mut views: Seq<ClassView> = Seq::new(alloc);
     for file in files {
-        views.push(view_of_file(alloc, file)?)?;
+        let Ok(view) = view_of_file(alloc, file) else {
+            return Err(NoMemory);
+        };
+        let Ok(()) = views.push(view) else {
+            return Err(NoMemory);
+        };
     }
     Ok(views)
 }
@@ -26,8 +31,16 @@ fn file_views(alloc: Global, files: &[ClassFile]) -> Result<Seq<ClassView>, NoMe
 pub fn views_of(alloc: Global, files: &[ClassFile], form: Form) -> Result<Seq<ClassView>, NoMemory>
     ensures { IfOk result (λ views. views ≡ map view_of_file files.now ++ map (view_of_built_in (built_ins form)) (built_in_classes_in form 0 0)) }
 {
-    let mut views = file_views(alloc, files)?.into_vec();
-    let mut more = built_in_views(alloc, form)?.into_vec();
-    views.append(&mut more)?;
+    let Ok(views) = file_views(alloc, files) else {
+        return Err(NoMemory);
+    };
+    let Ok(more) = built_in_views(alloc, form) else {
+        return Err(NoMemory);
+    };
+    let mut views = views.into_vec();
+    let mut more = more.into_vec();
+    let Ok(()) = views.append(&mut more) else {
+        return Err(NoMemory);
+    };
     Ok(Seq::from_vec(views))
 }

@@ -63,7 +63,9 @@ impl World {
         requires fields_fit { sum_by field_count classes < 2 ^ 32 }
         ensures { IfOk result (λ w. w ≡ world_with form classes) }
     {
-        let parts = parts_of(alloc, form, classes.as_slice())?;
+        let Ok(parts) = parts_of(alloc, form, classes.as_slice()) else {
+            return Err(NoMemory);
+        };
         Ok(World {
             form,
             classes,

@@ -7,7 +7,7 @@ use Rattle.kilim_link_world.proofs.lineages.own_keys.Goals as goal
 pub loop-i-preserved : goal.loop-i-preserved
 loop-i-preserved c = (
   omega (arith, c.loop-i-test.true),
-  one_more own_key c.loop-i.entries c.push.new.self c.loop-i.i c.in_ok-own_key.field-0 c.loop-i.invariant.1 c.in_ok-own_key.ensures c.in_ok-push.ensures.ok,
+  one_more own_key c.loop-i.entries c.push.new.self c.loop-i.i c.in-Ok.own c.loop-i.invariant.1 c.in-Ok.ensures c.in-Ok-push.ensures.ok,
 )
 
 pub returns : goal.returns

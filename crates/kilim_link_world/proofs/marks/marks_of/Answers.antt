@@ -10,7 +10,7 @@ pub loop-i-preserved : goal.loop-i-preserved
 loop-i-preserved c =
     let mark = λ (k : ℕ). is_some (inherits c.args.inherited.now (class_id k) 0) in (
       omega (arith, c.loop-i-test.true),
-      one_more mark c.loop-i.marks c.push.new.self c.loop-i.i c.is_some.result c.loop-i.invariant.1 (c.is_some.ensures ∙ ap (λ (o : Option ℕ). is_some o) c.find.ensures.found) c.in_ok-push.ensures.ok,
+      one_more mark c.loop-i.marks c.push.new.self c.loop-i.i c.is_some.result c.loop-i.invariant.1 (c.is_some.ensures ∙ ap (λ (o : Option ℕ). is_some o) c.find.ensures.found) c.in-Ok.ensures.ok,
     )
 
 pub returns : goal.returns

@@ -17,12 +17,12 @@ loop-i-preserved c =
     let s : List ℕ → List ℕ → List ℕ → List ℕ → Bool = λ n d name descriptor. bytes_eq n name && bytes_eq d descriptor in (
       omega (arith, c.loop-i-test.true),
       λ name descriptor.
-          c.in_ok-add.ensures name descriptor
+          c.in-Ok-add.ensures name descriptor
           ∙ index_next (is_method name descriptor) xs i at (slice_get_read xs (length xs) i at refl lt c.index-methods-i.is)
-          (s c.in_ok-key.key.name c.in_ok-key.key.descriptor name descriptor) (positions c.loop-i.index.places name descriptor)
+          (s c.in-Ok.key.name c.in-Ok.key.descriptor name descriptor) (positions c.loop-i.index.places name descriptor)
           (c.loop-i.invariant.1 name descriptor)
-          (ap (λ (n : List ℕ). s n c.in_ok-key.key.descriptor name descriptor) c.in_ok-key.ensures.name
-          ∙ ap (λ (d : List ℕ). s at.name d name descriptor) c.in_ok-key.ensures.descriptor),
+          (ap (λ (n : List ℕ). s n c.in-Ok.key.descriptor name descriptor) c.in-Ok.ensures.name
+          ∙ ap (λ (d : List ℕ). s at.name d name descriptor) c.in-Ok.ensures.descriptor),
     )
 
 pub returns : goal.returns

@@ -16,7 +16,7 @@ loop-i-preserved c =
     let is = slice_get-get_or classes i c.index-classes-i.result lt in (
       omega (arith, c.loop-i-test.true),
       total_next method_count classes i at c.loop-i.total is c.loop-i.invariant.1 c.len.result c.len.ensures,
-      one_more (λ n. sum_by method_count (take n classes)) c.loop-i.firsts c.push.new.self i c.loop-i.total c.loop-i.invariant.2 c.loop-i.invariant.1 c.in_ok-push.ensures.ok,
+      one_more (λ n. sum_by method_count (take n classes)) c.loop-i.firsts c.push.new.self i c.loop-i.total c.loop-i.invariant.2 c.loop-i.invariant.1 c.in-Ok.ensures.ok,
     )
 
 pub returns : goal.returns
@@ -24,7 +24,7 @@ returns c =
     let classes = c.args.classes.now in
     let first = λ (n : ℕ). sum_by method_count (take n classes) in
     let at_end : c.loop-i.i ≡ length classes = omega (arith, c.loop-i-test.false, c.loop-i.invariant.0) in
-    one_more first c.loop-i.firsts _ c.loop-i.i c.loop-i.total c.loop-i.invariant.2 c.loop-i.invariant.1 c.in_ok-push-2.ensures.ok
+    one_more first c.loop-i.firsts _ c.loop-i.i c.loop-i.total c.loop-i.invariant.2 c.loop-i.invariant.1 c.in-Ok-push.ensures.ok
     ∙ ap (λ (n : ℕ). each_below first (n + 1)) at_end
 
 pub overflow_cast-total : goal.overflow_cast-total

@@ -18,13 +18,13 @@ loop-i-preserved c =
     let lt : i < length classes = omega (arith, c.loop-i-test.true) in
     let at = get_or classes i c.index-classes-i.result in
     let is = slice_get-get_or classes i c.index-classes-i.result lt in
-    let own = c.in_ok-index_of_methods.field-0 in (
+    let own = c.in-Ok.index in (
       omega (arith, c.loop-i-test.true),
-      length_next c.loop-i.indices own c.push.new.self i c.in_ok-push.ensures.ok c.loop-i.invariant.1,
+      length_next c.loop-i.indices own c.push.new.self i c.in-Ok-push.ensures.ok c.loop-i.invariant.1,
       λ k name descriptor.
-          ap (λ (indices : List Index). indexed indices k name descriptor) c.in_ok-push.ensures.ok
+          ap (λ (indices : List Index). indexed indices k name descriptor) c.in-Ok-push.ensures.ok
           ∙ indices_next name descriptor classes i at c.loop-i.indices own is c.loop-i.invariant.1
-          (c.in_ok-index_of_methods.ensures name descriptor ∙ ap (λ (methods : List DeclaredMethod). places_from (is_method name descriptor) 0 methods) c.as_slice.ensures)
+          (c.in-Ok.ensures name descriptor ∙ ap (λ (methods : List DeclaredMethod). places_from (is_method name descriptor) 0 methods) c.as_slice.ensures)
           (λ j. c.loop-i.invariant.2 j name descriptor) k,
     )
 

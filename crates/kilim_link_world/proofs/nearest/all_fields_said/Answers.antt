@@ -20,21 +20,21 @@ loop-i-preserved c =
     let lt : i < length classes = omega (arith, c.loop-i-test.true) in
     let at = get_or classes i c.index-classes-i.result in
     let is = slice_get-get_or classes i c.index-classes-i.result lt in
-    let own = c.in_ok-fields_said.field-0 in
+    let own = c.in-Ok.own in
     let first : c.loop-i.total ≡ sum_by field_count (take i classes) = c.loop-i.invariant.1.1.0 in
     let listed = c.as_slice-fields.ensures in
     let said_first : (name descriptor : List ℕ) → said_by own name descriptor ≡ placed (sum_by field_count (take i classes)) (position_from (is_field name descriptor) 0 at.fields) =
     λ name descriptor.
-    c.in_ok-fields_said.ensures name descriptor
+    c.in-Ok.ensures name descriptor
     ∙ (ap (λ (n : ℕ). placed n (position_from (is_field name descriptor) 0 c.as_slice-fields.result.now)) first
     ∙ ap (λ (ms : List DeclaredField). placed (sum_by field_count (take i classes)) (position_from (is_field name descriptor) 0 ms)) listed) in (
       omega (arith, c.loop-i-test.true),
       (
-        length_next c.loop-i.said own c.push.new.self i c.in_ok-push.ensures.ok c.loop-i.invariant.1.0,
+        length_next c.loop-i.said own c.push.new.self i c.in-Ok-push.ensures.ok c.loop-i.invariant.1.0,
         (
           total_next field_count classes i at c.loop-i.total is first (length c.as_slice-fields.result.now) (ap length listed),
           λ d name descriptor.
-              ap (λ (ss : List (List Said)). said_of (slice_get ss d) name descriptor) c.in_ok-push.ensures.ok
+              ap (λ (ss : List (List Said)). said_of (slice_get ss d) name descriptor) c.in-Ok-push.ensures.ok
               ∙ class_next (is_field name descriptor) fields_at refl name descriptor (λ k. sum_by field_count (take k classes)) classes i at c.loop-i.said own is c.loop-i.invariant.1.0 (said_first name descriptor)
               (λ k. c.loop-i.invariant.1.1.1 k name descriptor) d,
         ),

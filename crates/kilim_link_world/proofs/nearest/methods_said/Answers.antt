@@ -16,13 +16,13 @@ loop-i-preserved c =
     let i = c.loop-i.i in
     let lt : i < length xs = omega (arith, c.loop-i-test.true) in
     let at = c.index-methods-i.result in
-    let one : Said = record { signature = c.in_ok-signature.signature; value = Some (c.args.first + i) } in (
+    let one : Said = record { signature = c.in-Ok.signature; value = Some (c.args.first + i) } in (
       omega (arith, c.loop-i-test.true),
       λ name descriptor.
-          ap (λ (ss : List Said). said_by ss name descriptor) c.in_ok-push.ensures.ok
+          ap (λ (ss : List Said). said_by ss name descriptor) c.in-Ok-push.ensures.ok
           ∙ said_next (is_method name descriptor) c.args.first xs i at (slice_get_read xs (length xs) i at refl lt c.index-methods-i.is) name descriptor c.loop-i.said one
-          (ap (λ (n : List ℕ). is_method name descriptor (record at { name = n; descriptor = c.in_ok-signature.signature.descriptor })) c.in_ok-signature.ensures.name
-          ∙ ap (λ (d : List ℕ). is_method name descriptor (record at { descriptor = d })) c.in_ok-signature.ensures.descriptor)
+          (ap (λ (n : List ℕ). is_method name descriptor (record at { name = n; descriptor = c.in-Ok.signature.descriptor })) c.in-Ok.ensures.name
+          ∙ ap (λ (d : List ℕ). is_method name descriptor (record at { descriptor = d })) c.in-Ok.ensures.descriptor)
           refl (c.loop-i.invariant.1 name descriptor),
     )
 

@@ -10,10 +10,10 @@ use Rattle.kilim_link_world.proofs.outlining.outline_with.Goals as goal
 pub task_marks-requires : goal.task_marks-requires
 task_marks-requires c =
     let vs = c.args.classes.now in
-    let len : length c.as_slice.result.now ≡ length vs = ap length c.as_slice.ensures ∙ (ap length c.in_ok-classes.ensures ∙ length_outlined vs (λ d v. mark_at c.args.marks.now d) 0 vs) in
+    let len : length c.as_slice.result.now ≡ length vs = ap length c.as_slice.ensures ∙ (ap length c.in-Ok.ensures ∙ length_outlined vs (λ d v. mark_at c.args.marks.now d) 0 vs) in
     let few = c.requires.few in
     omega arith
 
 pub invariant_of-result : goal.invariant_of-result
 invariant_of-result c =
-    subst (λ (cs : List Class). c.in_ok-tasks.tasks ≡ each_below (λ k. is_task (bare cs c.args.form) (class_id k)) (length cs)) c.as_slice.ensures (c.in_ok-tasks.ensures c.args.form)
+    subst (λ (cs : List Class). c.in-Ok-task_marks.tasks ≡ each_below (λ k. is_task (bare cs c.args.form) (class_id k)) (length cs)) c.as_slice.ensures (c.in-Ok-task_marks.ensures c.args.form)

@@ -15,9 +15,9 @@ loop-i-preserved c =
     let lt : i < length vs = omega (arith, c.loop-i-test.true) in
     let at = c.index-classes-i.result in (
       omega (arith, c.loop-i-test.true),
-      c.in_ok-push.ensures.ok
-          ∙ (ap (λ (cs : List Class). cs ++ c.in_ok-without_members.field-0 ∷ []) c.loop-i.invariant.1
-          ∙ (ap (λ (class : Class). outlined vs (λ d v. mark_at c.args.marks.now d) 0 (take i vs) ++ class ∷ []) c.in_ok-without_members.ensures
+      c.in-Ok-push.ensures.ok
+          ∙ (ap (λ (cs : List Class). cs ++ c.in-Ok.class ∷ []) c.loop-i.invariant.1
+          ∙ (ap (λ (class : Class). outlined vs (λ d v. mark_at c.args.marks.now d) 0 (take i vs) ++ class ∷ []) c.in-Ok.ensures
           ∙ outlined_next c.args.ids.now (λ d v. mark_at c.args.marks.now d) vs i at c.get-message.result.now c.requires.named
           (slice_get_read vs (length vs) i at refl lt c.index-classes-i.is)
           (sym (ap (λ (o : Option Bool). unwrap_or o false) c.get-message.ensures)))),

@@ -14,7 +14,7 @@ loop-i-preserved c =
     let lt : c.loop-i.i < length c.args.classes.now = omega (arith, c.loop-i-test.true) in (
       omega (arith, c.loop-i-test.true),
       λ name.
-          c.in_ok-add_first.ensures name
+          c.in-Ok.ensures name
           ∙ (ap (λ o. or_else o (if bytes_eq at.name name then Some c.loop-i.i else None)) (c.loop-i.invariant.1 name)
           ∙ sym (position_next (λ v. bytes_eq v.name name) c.args.classes.now c.loop-i.i at (slice_get-get_or c.args.classes.now c.loop-i.i c.index-classes-i.result lt))),
     )

@@ -10,5 +10,5 @@ loop-left-preserved c =
     let p = c.args.self.now in
     let some : 0 < c.loop-left.left = omega (arith, c.loop-left-test.true) in
     let is : superclass_of (class_at p c.loop-left.at) ≡ Some c.in-Some.up = sym c.superclass_of.ensures ∙ c.in-Some.is in
-    ap (λ (ds : List ClassId). ds ++ line_up_to p (c.loop-left.left - 1) c.in-Some.up) c.in_ok-push.ensures.ok
+    ap (λ (ds : List ClassId). ds ++ line_up_to p (c.loop-left.left - 1) c.in-Some.up) c.in-Ok.ensures.ok
     ∙ (line_up p c.loop-left.left c.loop-left.at some c.loop-left.line c.in-Some.up is ∙ c.loop-left.invariant)

@@ -11,7 +11,7 @@ pub message_marks-requires : goal.message_marks-requires
 message_marks-requires c =
     let vs = c.args.classes.now in
     let len : length c.as_slice.result.now ≡ length vs =
-    ap length c.as_slice.ensures ∙ (ap length c.in_ok-marked.ensures ∙ length_outlined vs (λ d v. mark_at c.in_ok-own.own d) 0 vs) in
+    ap length c.as_slice.ensures ∙ (ap length c.in-Ok-outlined.ensures ∙ length_outlined vs (λ d v. mark_at c.in-Ok.own d) 0 vs) in
     let few = c.requires.few in
     omega arith
 
@@ -19,18 +19,18 @@ pub outline_with-requires-clause-marked : goal.outline_with-requires-clause-mark
 outline_with-requires-clause-marked c =
     let vs = c.args.classes.now in
     let form = c.args.form in
-    let p = bare c.in_ok-marked.marked form in
+    let p = bare c.in-Ok-outlined.marked form in
     let is : p ≡ outline_with form vs (λ d v. v.is_marked) =
-    ap (λ (cs : List Class). bare cs form) c.in_ok-marked.ensures ∙ (ap (λ (ms : List Bool). outline_with form vs (λ d v. mark_at ms d)) c.in_ok-own.ensures ∙ own_outline form vs) in
-    let are = subst (λ (cs : List Class). c.in_ok-marks.marks ≡ each_below (λ k. is_message_by (bare cs form) (class_id k)) (length cs)) c.as_slice.ensures (c.in_ok-marks.ensures form) in
-    length_messages (λ k. is_message_by p (class_id k)) form vs c.in_ok-marks.marks p is are
+    ap (λ (cs : List Class). bare cs form) c.in-Ok-outlined.ensures ∙ (ap (λ (ms : List Bool). outline_with form vs (λ d v. mark_at ms d)) c.in-Ok.ensures ∙ own_outline form vs) in
+    let are = subst (λ (cs : List Class). c.in-Ok-message_marks.marks ≡ each_below (λ k. is_message_by (bare cs form) (class_id k)) (length cs)) c.as_slice.ensures (c.in-Ok-message_marks.ensures form) in
+    length_messages (λ k. is_message_by p (class_id k)) form vs c.in-Ok-message_marks.marks p is are
 
 pub returns : goal.returns
 returns c =
     let vs = c.args.classes.now in
     let form = c.args.form in
-    let p = bare c.in_ok-marked.marked form in
+    let p = bare c.in-Ok-outlined.marked form in
     let is : p ≡ outline_with form vs (λ d v. v.is_marked) =
-    ap (λ (cs : List Class). bare cs form) c.in_ok-marked.ensures ∙ (ap (λ (ms : List Bool). outline_with form vs (λ d v. mark_at ms d)) c.in_ok-own.ensures ∙ own_outline form vs) in
-    let are = subst (λ (cs : List Class). c.in_ok-marks.marks ≡ each_below (λ k. is_message_by (bare cs form) (class_id k)) (length cs)) c.as_slice.ensures (c.in_ok-marks.ensures form) in
-    rw (← message_outline form vs c.in_ok-marks.marks p is are) c.outline_with.ensures
+    ap (λ (cs : List Class). bare cs form) c.in-Ok-outlined.ensures ∙ (ap (λ (ms : List Bool). outline_with form vs (λ d v. mark_at ms d)) c.in-Ok.ensures ∙ own_outline form vs) in
+    let are = subst (λ (cs : List Class). c.in-Ok-message_marks.marks ≡ each_below (λ k. is_message_by (bare cs form) (class_id k)) (length cs)) c.as_slice.ensures (c.in-Ok-message_marks.ensures form) in
+    rw (← message_outline form vs c.in-Ok-message_marks.marks p is are) c.outline_with.ensures
