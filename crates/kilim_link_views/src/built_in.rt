@@ -56,7 +56,9 @@ fn push_base(text: &mut Vec<u16>, program: &Program, base: Base) -> Result<(), N
         Base::Long => 74,
         Base::Class(class) => return push_class(text, class_name(program, class)),
     };
-    text.push(letter)?;
+    let Ok(()) = text.push(letter) else {
+        return Err(NoMemory);
+    };
     Ok(())
 }
 
@@ -81,7 +83,9 @@ fn push_type(text: &mut Vec<u16>, program: &Program, ty: Ty) -> Result<(), NoMem
     ensures { OnOk result (text.new.items ≡ text.old.items ++ descriptor program.now ty) }
 {
     for _ in 0..ty.dims {
-        text.push(91)?;
+        let Ok(()) = text.push(91) else {
+            return Err(NoMemory);
+        };
     }
     push_base(text, program, ty.base)
 }
@@ -91,7 +95,9 @@ fn push_types(text: &mut Vec<u16>, program: &Program, types: &[Ty]) -> Result<()
     ensures { OnOk result (text.new.items ≡ text.old.items ++ flat_map (descriptor program.now) types.now) }
 {
     for ty in types {
-        push_type(text, program, *ty)?;
+        let Ok(()) = push_type(text, program, *ty) else {
+            return Err(NoMemory);
+        };
     }
     Ok(())
 }

@@ -141,7 +141,9 @@ fn push_types(
 {
     for part in outer {
         if let AnnotationPart::Annotation(ty, _) = part {
-            push_text(alloc, types, pool, *ty)?;
+            let Ok(()) = push_text(alloc, types, pool, *ty) else {
+                return Err(NoMemory);
+            };
         }
     }
     Ok(())

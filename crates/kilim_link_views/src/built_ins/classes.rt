@@ -77,7 +77,9 @@ fn push_classes(
     ensures { OnOk result (classes.new ≡ classes.old ++ map (class_of (Some (class_id first)) method) rows.now) }
 {
     for row in rows {
-        push_class(alloc, classes, Some(ClassId(first)), method, row)?;
+        let Ok(()) = push_class(alloc, classes, Some(ClassId(first)), method, row) else {
+            return Err(NoMemory);
+        };
     }
     Ok(())
 }

@@ -108,7 +108,9 @@ fn push_methods(
     ensures { OnOk result (methods.new ≡ methods.old ++ map (method_of form first) rows.now) }
 {
     for row in rows {
-        push_method(alloc, methods, form, first, row)?;
+        let Ok(()) = push_method(alloc, methods, form, first, row) else {
+            return Err(NoMemory);
+        };
     }
     Ok(())
 }

@@ -57,7 +57,9 @@ pub fn push_types(types: &mut Vec<Ty>, first: u32, kinds: &[Kind]) -> Result<(),
     ensures { OnOk result (types.new.items ≡ types.old.items ++ map (type_of first) kinds.now) }
 {
     for kind in kinds {
-        types.push(type_of(first, *kind))?;
+        let Ok(()) = types.push(type_of(first, *kind)) else {
+            return Err(NoMemory);
+        };
     }
     Ok(())
 }

@@ -7,7 +7,7 @@ use Rattle.kilim_link_views.proofs.built_ins.classes.push_classes.Goals as goal
 
 pub loop-row-preserved : goal.loop-row-preserved
 loop-row-preserved c =
-    mapped (class_of (Some (class_id c.args.first)) c.args.method) c.args.classes.now c.loop-row.classes c.push_class.new.classes c.args.rows.now c.loop-row.row-index _ _ c.loop-row-test.true c.loop-row.invariant refl c.in_ok-push_class.ensures
+    mapped (class_of (Some (class_id c.args.first)) c.args.method) c.args.classes.now c.loop-row.classes c.push_class.new.classes c.args.rows.now c.loop-row.row-index _ _ c.loop-row-test.true c.loop-row.invariant refl c.in-Ok.ensures
 
 pub returns : goal.returns
 returns c = c.loop-row.invariant ∙ ap (λ xs. c.args.classes.now ++ map (class_of (Some (class_id c.args.first)) c.args.method) xs) (take_all c.loop-row.row-index c.args.rows.now c.loop-row-test.false)
