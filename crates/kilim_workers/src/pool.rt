@@ -149,9 +149,17 @@ where
 {
     let mut board = board;
     for _ in rt.forever() {
-        board = run_round(rt, alloc, board, workers, code, limits, gate)?;
-        if is_quiet(&mut board, workers)? {
-            return Ok(board);
+        let Ok(next) = run_round(rt, alloc, board, workers, code, limits, gate) else {
+            return Err(NoMemory);
+        };
+        board = next;
+        match is_quiet(&mut board, workers) {
+            Ok(true) => return Ok(board),
+            Ok(false) => {}
+            Err(fault) => {
+                drop(board);
+                return Err(fault);
+            }
         }
     }
     unreachable!()
@@ -174,8 +182,12 @@ where
     requires run { (set : Setting) → K.of set → IsOf F.serves code.now main limits.now set }
     ensures { (set : Setting) → K.of set → IfOk result (λ es. MovedWhole set es.items) }
 {
-    let fiber: F = F::boot(alloc, code, main)?;
-    let board: RunBoard<F, K> = RunBoard::new(alloc, fiber, workers)?;
+    let Ok(fiber) = F::boot(alloc, code, main) else {
+        return Err(NoMemory);
+    };
+    let Ok(board) = RunBoard::<F, K>::new(alloc, fiber, workers) else {
+        return Err(NoMemory);
+    };
     match run_rounds(rt, alloc, board, workers, code, limits, gate) {
         Ok(board) => board.finish(),
         Err(_) => Err(NoMemory),

@@ -115,20 +115,25 @@ fn advance<F: Fibers, K: Run, R: Wait>(
     ensures next { IfOk result (λ next. NextIs F.task_of F.course_of F.holds K.of (shows pass.new) fiber.new next) }
     ensures refused { OnErr result ((t : ℕ) × (c : Course) × (shows pass.new ≡ lent_numbers t c)) }
 {
-    let wants = fiber.resume(code, limits)?;
+    let Ok(wants) = fiber.resume(code, limits) else {
+        return Err(NoMemory);
+    };
     match wants {
         Wants::Rest(waits) => Ok(Next::Rests(waits)),
-        Wants::End(cause) => {
-            act(rt, turn, pass, fiber, Wants::End(cause))?;
-            Ok(Next::Over)
-        }
+        Wants::End(cause) => match act(rt, turn, pass, fiber, Wants::End(cause)) {
+            Ok(_) => Ok(Next::Over),
+            Err(fault) => Err(fault),
+        },
         wants => {
-            let acted = act(rt, turn, pass, fiber, wants)?;
+            let acted = match act(rt, turn, pass, fiber, wants) {
+                Ok(acted) => acted,
+                Err(fault) => return Err(fault),
+            };
             match acted {
-                Acted::Answer(answer) => {
-                    fiber.answer(code, answer)?;
-                    Ok(Next::On)
-                }
+                Acted::Answer(answer) => match fiber.answer(code, answer) {
+                    Ok(()) => Ok(Next::On),
+                    Err(fault) => Err(fault),
+                },
                 Acted::OutOfTasks => Ok(Next::Over),
             }
         }

@@ -40,22 +40,30 @@ fn advance<F: Fibers>(
     ensures next { IfOk result (λ next. NextIs F.task_of F.course_of F.holds (IsOf F.serves code.now main limits.now) board.new fiber.new next) }
     ensures falls { IfOk result (λ next. Falls F.count_of F.refused limits.now.steps (todo F.count_of F.refused limits.now.steps board.old fiber.old) board.new fiber.new next) }
 {
-    let wants = fiber.resume(code, limits)?;
+    let Ok(wants) = fiber.resume(code, limits) else {
+        return Err(NoMemory);
+    };
     match wants {
         Wants::Rest(waits) => Ok(Next::Rests(waits)),
         Wants::End(cause) => {
             let wants = Wants::End(cause);
-            board.reserve(&wants)?;
+            let Ok(()) = board.reserve(&wants) else {
+                drop(wants);
+                return Err(NoMemory);
+            };
             board.act(0, wants);
             Ok(Next::Over)
         }
         wants => {
-            board.reserve(&wants)?;
+            let Ok(()) = board.reserve(&wants) else {
+                drop(wants);
+                return Err(NoMemory);
+            };
             match board.act(0, wants) {
-                Acted::Answer(answer) => {
-                    fiber.answer(code, answer)?;
-                    Ok(Next::On)
-                }
+                Acted::Answer(answer) => match fiber.answer(code, answer) {
+                    Ok(()) => Ok(Next::On),
+                    Err(fault) => Err(fault),
+                },
                 Acted::OutOfTasks => Ok(Next::Over),
             }
         }
@@ -79,7 +87,9 @@ fn run_fiber<F: Fibers>(
 {
     let mut fiber = fiber;
     loop {
-        let next = advance(board, &mut fiber, code, limits, main)?;
+        let Ok(next) = advance(board, &mut fiber, code, limits, main) else {
+            return Err(NoMemory);
+        };
         match next {
             Next::On => {}
             Next::Over => return Ok(()),
@@ -105,7 +115,9 @@ pub fn run_one<F: Fibers, G: Gate>(
     requires { (set : Setting) × IsOf F.serves code.now main limits.now set }
     ensures { (set : Setting) → IsOf F.serves code.now main limits.now set → IfOk result (λ es. MovedWhole set es.items) }
 {
-    let fiber: F = F::boot(alloc, code, main)?;
+    let Ok(fiber) = F::boot(alloc, code, main) else {
+        return Err(NoMemory);
+    };
     let mut board = match Board::new(alloc, fiber, 1) {
         Ok(board) => board,
         Err(_) => return Err(NoMemory),
@@ -114,7 +126,13 @@ pub fn run_one<F: Fibers, G: Gate>(
         match board.lend(0) {
             Lent::Fiber(fiber) => {
                 gate.pass(fiber.task(), fiber.records());
-                run_fiber(&mut board, fiber, code, limits, main)?
+                match run_fiber(&mut board, fiber, code, limits, main) {
+                    Ok(()) => {}
+                    Err(fault) => {
+                        drop(board);
+                        return Err(fault);
+                    }
+                }
             }
             _ => return board.finish(),
         }

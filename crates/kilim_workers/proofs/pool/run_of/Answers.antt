@@ -7,13 +7,13 @@ pub new-requires : goal.new-requires
 new-requires g c = record {
   some = c.requires.workers.0;
   few = c.requires.workers.1;
-  task = c.in_ok-fiber.ensures.task;
-  course = c.in_ok-fiber.ensures.course;
-  stands = λ set is. c.in_ok-fiber.ensures.stands set (c.requires.run set is).run;
+  task = c.in-Ok.ensures.task;
+  course = c.in-Ok.ensures.course;
+  stands = λ set is. c.in-Ok.ensures.stands set (c.requires.run set is).run;
 }
 
 pub run_rounds-requires-clause-run : goal.run_rounds-requires-clause-run
 run_rounds-requires-clause-run g c κs _ = λ set is. let r = c.requires.run set is in (r.run.served, r.is-limits)
 
 pub finish-requires : goal.finish-requires
-finish-requires g c = record { running = c.in-Ok.ensures.0; quiet = c.in-Ok.ensures.1 }
+finish-requires g c = record { running = c.in-Ok-run_rounds.ensures.0; quiet = c.in-Ok-run_rounds.ensures.1 }

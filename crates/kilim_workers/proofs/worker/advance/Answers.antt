@@ -5,7 +5,7 @@ use Rattle.kilim_exchange.specs.Seen.{wish_in}
 use Rattle.kilim_turn.specs.Turns.{shows}
 use Rattle.kilim_workers.specs.Codes.{lent_numbers}
 use Rattle.kilim_workers.specs.Runs.{ActedAs}
-use Rattle.kilim_workers.proofs.Steps.{asked_in, fails, is_full, rested, went_on}
+use Rattle.kilim_workers.proofs.Steps.{asked_in, is_full, rested, went_on}
 use Rattle.kilim_workers.proofs.worker.advance.Goals as goal
 
 pub resume-requires : goal.resume-requires
@@ -14,33 +14,30 @@ resume-requires g c =
     let r = c.requires.run set c.requires.some.1 in
     record { set = set; served = r.0; is-limits = r.1; stands = c.requires.stands set c.requires.some.1 }
 
-pub returns-in_err-wants-clause-refused : goal.returns-in_err-wants-clause-refused
-returns-in_err-wants-clause-refused g c = fails c.from_residual.result _ (g.F.Fibers.task_of c.args.fiber.now, g.F.Fibers.course_of c.args.fiber.now, c.requires.lent)
+pub returns-in_default-clause-refused : goal.returns-in_default-clause-refused
+returns-in_default-clause-refused g c = (g.F.Fibers.task_of c.args.fiber.now, g.F.Fibers.course_of c.args.fiber.now, c.requires.lent)
 
 pub returns-in-Rest-clause-next : goal.returns-in-Rest-clause-next
 returns-in-Rest-clause-next g c = (
-  subst (λ t. shows c.args.pass.now ≡ lent_numbers t (g.F.Fibers.course_of c.resume.new.self)) (sym c.in_ok-wants.ensures.task) (subst (λ d. shows c.args.pass.now ≡ lent_numbers (g.F.Fibers.task_of c.args.fiber.now) d) (sym c.in_ok-wants.ensures.course) c.requires.lent),
+  subst (λ t. shows c.args.pass.now ≡ lent_numbers t (g.F.Fibers.course_of c.resume.new.self)) (sym c.in-Ok.ensures.task) (subst (λ d. shows c.args.pass.now ≡ lent_numbers (g.F.Fibers.task_of c.args.fiber.now) d) (sym c.in-Ok.ensures.course) c.requires.lent),
   λ set is.
       let r = c.requires.run set is in
       rested g.F.Fibers.task_of g.F.Fibers.course_of g.F.Fibers.holds g.F.Fibers.asked set c.resume.new.self c.in-Rest.waits
-      (subst (λ w. Resumed g.F.Fibers.task_of g.F.Fibers.course_of g.F.Fibers.holds g.F.Fibers.asked set c.resume.new.self w) c.in-Rest.is (c.in_ok-wants.ensures.wants set r.0 r.1 (c.requires.stands set is))),
+      (subst (λ w. Resumed g.F.Fibers.task_of g.F.Fibers.course_of g.F.Fibers.holds g.F.Fibers.asked set c.resume.new.self w) c.in-Rest.is (c.in-Ok.ensures.wants set r.0 r.1 (c.requires.stands set is))),
 )
 
 pub act-requires-clause-meets : goal.act-requires-clause-meets
 act-requires-clause-meets g c = λ set is.
     let r = c.requires.run set is in
-    subst (λ w. Resumed g.F.Fibers.task_of g.F.Fibers.course_of g.F.Fibers.holds g.F.Fibers.asked set c.resume.new.self w) c.in-End.is (c.in_ok-wants.ensures.wants set r.0 r.1 (c.requires.stands set is))
+    subst (λ w. Resumed g.F.Fibers.task_of g.F.Fibers.course_of g.F.Fibers.holds g.F.Fibers.asked set c.resume.new.self w) c.in-End.is (c.in-Ok.ensures.wants set r.0 r.1 (c.requires.stands set is))
 
-pub returns-in_err-act-in-End-clause-refused : goal.returns-in_err-act-in-End-clause-refused
-returns-in_err-act-in-End-clause-refused g c = fails c.from_residual-in_err-act-in-End.result _ (g.F.Fibers.task_of c.resume.new.self, g.F.Fibers.course_of c.resume.new.self, c.in_err-act-in-End.ensures.refused)
-
-pub act-requires-in_default-clause-meets : goal.act-requires-in_default-clause-meets
-act-requires-in_default-clause-meets g c = λ set is.
+pub act-requires-in_default-wants-clause-meets : goal.act-requires-in_default-wants-clause-meets
+act-requires-in_default-wants-clause-meets g c = λ set is.
     let r = c.requires.run set is in
-    meets g.F.Fibers.task_of g.F.Fibers.course_of g.F.Fibers.holds g.F.Fibers.asked set c.resume.new.self c.in_ok-wants.wants (going c.in_ok-wants.wants c.in_default.not-Rest c.in_default.not-End) (c.in_ok-wants.ensures.wants set r.0 r.1 (c.requires.stands set is))
+    meets g.F.Fibers.task_of g.F.Fibers.course_of g.F.Fibers.holds g.F.Fibers.asked set c.resume.new.self c.in-Ok.wants (going c.in-Ok.wants c.in_default-wants.not-Rest c.in_default-wants.not-End) (c.in-Ok.ensures.wants set r.0 r.1 (c.requires.stands set is))
 
-pub returns-in_err-acted-in_default-clause-refused : goal.returns-in_err-acted-in_default-clause-refused
-returns-in_err-acted-in_default-clause-refused g c = fails c.from_residual-in_err-acted-in_default.result _ (g.F.Fibers.task_of c.resume.new.self, g.F.Fibers.course_of c.resume.new.self, c.in_err-acted-in_default.ensures.refused)
+pub returns-in-Err-act-clause-refused : goal.returns-in-Err-act-clause-refused
+returns-in-Err-act-clause-refused g c = (g.F.Fibers.task_of c.resume.new.self, g.F.Fibers.course_of c.resume.new.self, c.in-Err-act.ensures.refused)
 
 pub answer-requires : goal.answer-requires
 answer-requires g c =
@@ -48,31 +45,31 @@ answer-requires g c =
     let is = c.requires.some.1 in
     let r = c.requires.run set is in
     let k =
-    asked_in g.F.Fibers.task_of g.F.Fibers.course_of g.F.Fibers.holds g.F.Fibers.asked g.F.Fibers.serves g.K.Run.of c.args.code.now c.args.limits.now set is c.resume.new.self c.in_ok-wants.wants c.in-Answer.answer (shows c.act-in_default.new.pass)
-    (going c.in_ok-wants.wants c.in_default.not-Rest c.in_default.not-End) (c.in_ok-wants.ensures.wants set r.0 r.1 (c.requires.stands set is))
-    (subst (λ a. ActedAs g.K.Run.of (g.F.Fibers.task_of c.resume.new.self) (g.F.Fibers.course_of c.resume.new.self) (shows c.act-in_default.new.pass) (wish_in c.in_ok-wants.wants) a) c.in-Answer.is c.in_ok-acted-in_default.ensures.acted) in
+    asked_in g.F.Fibers.task_of g.F.Fibers.course_of g.F.Fibers.holds g.F.Fibers.asked g.F.Fibers.serves g.K.Run.of c.args.code.now c.args.limits.now set is c.resume.new.self c.in-Ok.wants c.in-Answer.answer (shows c.act-in_default-wants.new.pass)
+    (going c.in-Ok.wants c.in_default-wants.not-Rest c.in_default-wants.not-End) (c.in-Ok.ensures.wants set r.0 r.1 (c.requires.stands set is))
+    (subst (λ a. ActedAs g.K.Run.of (g.F.Fibers.task_of c.resume.new.self) (g.F.Fibers.course_of c.resume.new.self) (shows c.act-in_default-wants.new.pass) (wish_in c.in-Ok.wants) a) c.in-Answer.is c.in-Ok-act-2.ensures.acted) in
     record { set = set; served = r.0; wish = k.wish; deed = k.deed; asks = k.asks; fits = k.fits }
 
-pub returns-in_err-answer-in-Answer-clause-refused : goal.returns-in_err-answer-in-Answer-clause-refused
-returns-in_err-answer-in-Answer-clause-refused g c =
+pub returns-in-Err-answer-clause-refused : goal.returns-in-Err-answer-clause-refused
+returns-in-Err-answer-clause-refused g c =
     let set = c.requires.some.0 in
     let is = c.requires.some.1 in
     let r = c.requires.run set is in
     let k =
-    asked_in g.F.Fibers.task_of g.F.Fibers.course_of g.F.Fibers.holds g.F.Fibers.asked g.F.Fibers.serves g.K.Run.of c.args.code.now c.args.limits.now set is c.resume.new.self c.in_ok-wants.wants c.in-Answer.answer (shows c.act-in_default.new.pass)
-    (going c.in_ok-wants.wants c.in_default.not-Rest c.in_default.not-End) (c.in_ok-wants.ensures.wants set r.0 r.1 (c.requires.stands set is))
-    (subst (λ a. ActedAs g.K.Run.of (g.F.Fibers.task_of c.resume.new.self) (g.F.Fibers.course_of c.resume.new.self) (shows c.act-in_default.new.pass) (wish_in c.in_ok-wants.wants) a) c.in-Answer.is c.in_ok-acted-in_default.ensures.acted) in
-    fails c.from_residual-in_err-answer-in-Answer.result _ (g.F.Fibers.task_of c.resume.new.self, course_after (g.F.Fibers.course_of c.resume.new.self) k.deed, k.now)
+    asked_in g.F.Fibers.task_of g.F.Fibers.course_of g.F.Fibers.holds g.F.Fibers.asked g.F.Fibers.serves g.K.Run.of c.args.code.now c.args.limits.now set is c.resume.new.self c.in-Ok.wants c.in-Answer.answer (shows c.act-in_default-wants.new.pass)
+    (going c.in-Ok.wants c.in_default-wants.not-Rest c.in_default-wants.not-End) (c.in-Ok.ensures.wants set r.0 r.1 (c.requires.stands set is))
+    (subst (λ a. ActedAs g.K.Run.of (g.F.Fibers.task_of c.resume.new.self) (g.F.Fibers.course_of c.resume.new.self) (shows c.act-in_default-wants.new.pass) (wish_in c.in-Ok.wants) a) c.in-Answer.is c.in-Ok-act-2.ensures.acted) in
+    (g.F.Fibers.task_of c.resume.new.self, course_after (g.F.Fibers.course_of c.resume.new.self) k.deed, k.now)
 
-pub returns-in_ok-answer-in-Answer-clause-next : goal.returns-in_ok-answer-in-Answer-clause-next
-returns-in_ok-answer-in-Answer-clause-next g c =
-    went_on g.F.Fibers.task_of g.F.Fibers.course_of g.F.Fibers.holds g.F.Fibers.asked g.F.Fibers.serves g.K.Run.of c.args.code.now c.args.limits.now c.resume.new.self c.answer.new.self c.in_ok-wants.wants c.in-Answer.answer (shows c.act-in_default.new.pass) c.requires.some c.requires.run
-    (going c.in_ok-wants.wants c.in_default.not-Rest c.in_default.not-End)
-    (λ set is. let r = c.requires.run set is in c.in_ok-wants.ensures.wants set r.0 r.1 (c.requires.stands set is))
-    (subst (λ a. ActedAs g.K.Run.of (g.F.Fibers.task_of c.resume.new.self) (g.F.Fibers.course_of c.resume.new.self) (shows c.act-in_default.new.pass) (wish_in c.in_ok-wants.wants) a) c.in-Answer.is c.in_ok-acted-in_default.ensures.acted)
-    c.in_ok-answer-in-Answer.ensures.task
-    (λ set wish deed served asks fits. let r = c.in_ok-answer-in-Answer.ensures.goes set wish deed served asks fits in (r.0, r.1))
+pub returns-in-Ok-answer-clause-next : goal.returns-in-Ok-answer-clause-next
+returns-in-Ok-answer-clause-next g c =
+    went_on g.F.Fibers.task_of g.F.Fibers.course_of g.F.Fibers.holds g.F.Fibers.asked g.F.Fibers.serves g.K.Run.of c.args.code.now c.args.limits.now c.resume.new.self c.answer.new.self c.in-Ok.wants c.in-Answer.answer (shows c.act-in_default-wants.new.pass) c.requires.some c.requires.run
+    (going c.in-Ok.wants c.in_default-wants.not-Rest c.in_default-wants.not-End)
+    (λ set is. let r = c.requires.run set is in c.in-Ok.ensures.wants set r.0 r.1 (c.requires.stands set is))
+    (subst (λ a. ActedAs g.K.Run.of (g.F.Fibers.task_of c.resume.new.self) (g.F.Fibers.course_of c.resume.new.self) (shows c.act-in_default-wants.new.pass) (wish_in c.in-Ok.wants) a) c.in-Answer.is c.in-Ok-act-2.ensures.acted)
+    c.in-Ok-answer.ensures.task
+    (λ set wish deed served asks fits. let r = c.in-Ok-answer.ensures.goes set wish deed served asks fits in (r.0, r.1))
 
 pub returns-in-OutOfTasks-clause-next : goal.returns-in-OutOfTasks-clause-next
 returns-in-OutOfTasks-clause-next g c =
-    is_full g.K.Run.of (g.F.Fibers.task_of c.resume.new.self) (g.F.Fibers.course_of c.resume.new.self) (shows c.act-in_default.new.pass) (wish_in c.in_ok-wants.wants) _ c.in-OutOfTasks.is c.in_ok-acted-in_default.ensures.acted
+    is_full g.K.Run.of (g.F.Fibers.task_of c.resume.new.self) (g.F.Fibers.course_of c.resume.new.self) (shows c.act-in_default-wants.new.pass) (wish_in c.in-Ok.wants) _ c.in-OutOfTasks.is c.in-Ok-act-2.ensures.acted

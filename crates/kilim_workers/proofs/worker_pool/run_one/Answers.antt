@@ -10,9 +10,9 @@ use Rattle.kilim_workers.proofs.worker_pool.run_one.Goals as goal
 pub run_fiber-requires-clause-lending : goal.run_fiber-requires-clause-lending
 run_fiber-requires-clause-lending g c = lending g.F.Fibers.task_of g.F.Fibers.course_of g.F.Fibers.holds (IsOf g.F.Fibers.serves c.args.code.now c.args.main c.args.limits.now) c.loop-fiber.board c.lend.new.self c.in-Fiber.fiber c.loop-fiber.invariant.0 c.in-Fiber.ensures.roomy c.in-Fiber.ensures.effect c.in-Fiber.ensures.stands
 
-pub returns-in_default : goal.returns-in_default
-returns-in_default g c = λ set is.
-    let q = quiet_now g.F.Fibers.task_of g.F.Fibers.course_of g.F.Fibers.holds (IsOf g.F.Fibers.serves c.args.code.now c.args.main c.args.limits.now) c.loop-fiber.board c.lend.new.self c.lend.result c.in_default.not-Fiber c.lend.ensures.effect c.loop-fiber.invariant.0 in
+pub returns-in_default-lend : goal.returns-in_default-lend
+returns-in_default-lend g c = λ set is.
+    let q = quiet_now g.F.Fibers.task_of g.F.Fibers.course_of g.F.Fibers.holds (IsOf g.F.Fibers.serves c.args.code.now c.args.main c.args.limits.now) c.loop-fiber.board c.lend.new.self c.lend.result c.in_default-lend.not-Fiber c.lend.ensures.effect c.loop-fiber.invariant.0 in
     c.finish.ensures.rest set (c.lend.ensures.stands set (c.loop-fiber.invariant.0.stands set is)).0 q.0 q.1
 
 pub boot-requires : goal.boot-requires
@@ -31,10 +31,10 @@ run_fiber-requires-clause-waits g c =
 
 pub loop-fiber-init : goal.loop-fiber-init
 loop-fiber-init g c =
-    let new = c.in-Ok.ensures.board in (
-      record { roomy = c.in-Ok.ensures.roomy; cells = new.cells; running = new.stopped; stands = λ set is. c.in-Ok.ensures.stands set c.in_ok-fiber.ensures.task c.in_ok-fiber.ensures.course (c.in_ok-fiber.ensures.stands set is.run) },
+    let new = c.in-Ok-new.ensures.board in (
+      record { roomy = c.in-Ok-new.ensures.roomy; cells = new.cells; running = new.stopped; stands = λ set is. c.in-Ok-new.ensures.stands set c.in-Ok.ensures.task c.in-Ok.ensures.course (c.in-Ok.ensures.stands set is.run) },
       record {
-        ready = subst (λ fs. AllByRecursion (IsCalmFiber g.F.Fibers.refused) fs) (sym new.ready) (c.in_ok-fiber.ensures.refused, tt);
+        ready = subst (λ fs. AllByRecursion (IsCalmFiber g.F.Fibers.refused) fs) (sym new.ready) (c.in-Ok.ensures.refused, tt);
         parked = subst (λ ws. AllByRecursion (IsCalmWaiter g.F.Fibers.refused) ws) (sym new.parked) tt;
       },
     )
