@@ -5,3 +5,4 @@ pub mod Weaving
 pub mod Laying
 pub mod Finding
 pub mod Tabled
+pub mod Outcomes

@@ -10,8 +10,9 @@ ghost use Rattle.kilim_typing.specs.woven_form.shape.Law.{placed};
 ghost use Rattle.kilim_woven_pieces.specs.Items.{items_of};
 ghost use Rattle.kilim_woven_pieces.specs.Listed.{AreDeclared, Listed};
 ghost use Rattle.kilim_woven_pieces.specs.Places.{at_in, block_in};
-ghost use Rattle.kilim_typing.specs.woven_form.woven_program.Made.{made_as};
+ghost use Rattle.kilim_typing.specs.woven_form.woven_program.Made.{made_as, method_plan};
 ghost use Rattle.kilim_woven_method.specs.Flags.{AreSlots};
+ghost use Rattle.kilim_woven_method.specs.Laid.{IsLaid};
 
 use crate::copy::{Head, copy_head, with_parts};
 use crate::flags::declared_flags;
@@ -106,6 +107,76 @@ fn items_at(
         class: slots.class,
     };
     woven_items(alloc, &plan, slots.arguments)
+}
+
+// The places of the labels, by the items without any.
+fn found_places(
+    alloc: Global,
+    program: &Program,
+    method: &Method,
+    frames: &[Frame],
+    live: &LiveTable,
+    flags: &[bool],
+    slots: Slots,
+) -> Result<Places, NoMemory>
+    requires slots { AreSlots program.now method.now slots }
+    requires flags { AreDeclared method.now flags.now }
+    requires rising { Rising method.now.code }
+    requires listed { Listed program.now method.now frames.now }
+    ensures { IfOk result (λ places. placed (plan_of program.now method.now (live_in live.now) (λ place. 0) (λ number. 0)) (at_in places) (block_in places) ≡ method_plan program.now method.now (live_in live.now)) }
+{
+    places_dont_matter();
+    let first = nowhere(alloc);
+    let Ok(items) = items_at(alloc, program, method, frames, live, flags, slots, &first) else {
+        return Err(NoMemory);
+    };
+    places_of(alloc, items)
+}
+
+// The items of the woven method, with the places of its labels.
+fn placed_items(
+    alloc: Global,
+    program: &Program,
+    method: &Method,
+    frames: &[Frame],
+    live: &LiveTable,
+    flags: &[bool],
+    slots: Slots,
+) -> Result<Items, NoMemory>
+    requires slots { AreSlots program.now method.now slots }
+    requires flags { AreDeclared method.now flags.now }
+    requires rising { Rising method.now.code }
+    requires listed { Listed program.now method.now frames.now }
+    ensures { IfOk result (λ items. items_of items ≡ form.woven_items (method_plan program.now method.now (live_in live.now))) }
+{
+    let Ok(places) = found_places(alloc, program, method, frames, live, flags, slots) else {
+        return Err(NoMemory);
+    };
+    items_at(alloc, program, method, frames, live, flags, slots, &places)
+}
+
+// The code of the woven method, laid out.
+fn laid_out(
+    alloc: Global,
+    program: &Program,
+    method: &Method,
+    frames: &[Frame],
+    live: &LiveTable,
+    slots: Slots,
+) -> Result<Laid, NoMemory>
+    requires slots { AreSlots program.now method.now slots }
+    requires rising { Rising method.now.code }
+    requires listed { Listed program.now method.now frames.now }
+    ensures { IfOk result (λ laid. IsLaid (form.woven_items (method_plan program.now method.now (live_in live.now))) laid) }
+{
+    let Ok(declared) = declared_flags(alloc, method) else {
+        return Err(NoMemory);
+    };
+    let flags = declared.as_slice();
+    let Ok(items) = placed_items(alloc, program, method, frames, live, flags, slots) else {
+        return Err(NoMemory);
+    };
+    lay(alloc, items)
 }
 
 fn fiber_type(class: u32) -> Ty
@@ -231,29 +302,11 @@ pub fn woven(
     requires listed { Listed program.now method.now frames.now }
     ensures { IfOk result (λ r. r ≡ made_as true true program.now method.now (live_in live.now)) }
 {
-    places_dont_matter();
     let Ok(slots) = slots_of(program, method) else {
         return Err(NoMemory);
     };
-    let Ok(declared) = declared_flags(alloc, method) else {
+    let Ok(laid) = laid_out(alloc, program, method, frames, live, slots) else {
         return Err(NoMemory);
     };
-    let flags = declared.as_slice();
-    let first = nowhere(alloc);
-    let Ok(unplaced) = items_at(alloc, program, method, frames, live, flags, slots, &first) else {
-        return Err(NoMemory);
-    };
-    let Ok(places) = places_of(alloc, unplaced) else {
-        return Err(NoMemory);
-    };
-    let Ok(items) = items_at(alloc, program, method, frames, live, flags, slots, &places) else {
-        return Err(NoMemory);
-    };
-    let Ok(laid) = lay(alloc, items) else {
-        return Err(NoMemory);
-    };
-    let Ok(pair) = with_code(alloc, method, slots, laid) else {
-        return Err(NoMemory);
-    };
-    Ok(pair)
+    with_code(alloc, method, slots, laid)
 }
