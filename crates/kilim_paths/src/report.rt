@@ -37,10 +37,14 @@ fn path_to<S: State>(alloc: Global, store: &Store<S>, at: usize) -> Result<Seq<u
 {
     let mut path = Vec::new(alloc);
     let mut k = at;
-    path.push(store.get(k).place)?;
+    let Ok(()) = path.push(store.get(k).place) else {
+        return Err(NoMemory);
+    };
     while k > 0 {
         k = store.get(k).from;
-        path.push(store.get(k).place)?;
+        let Ok(()) = path.push(store.get(k).place) else {
+            return Err(NoMemory);
+        };
     }
     path.reverse();
     Ok(Seq::from_vec(path))
@@ -58,12 +62,17 @@ fn reports<S: State>(
 {
     let mut reports = Seq::new(alloc);
     for fault in found {
-        let path = path_to(alloc, store, fault.at)?;
-        reports.push(Report {
+        let Ok(path) = path_to(alloc, store, fault.at) else {
+            return Err(NoMemory);
+        };
+        let report = Report {
             pc: fault.pc,
             rule: fault.rule,
             path,
-        })?;
+        };
+        let Ok(()) = reports.push(report) else {
+            return Err(NoMemory);
+        };
     }
     Ok(reports)
 }
@@ -72,9 +81,15 @@ fn reports<S: State>(
 fn started<M: Moves>(alloc: Global, machine: &M) -> Result<Store<M::State>, NoMemory>
     ensures { IfOk result (λ store. Good (M.means machine.now) (M.fits machine.now) store []) }
 {
-    let entry = machine.entry()?;
-    let mut store = Store::new(alloc, machine.size())?;
-    store.push(0, entry, 0)?;
+    let Ok(entry) = machine.entry() else {
+        return Err(NoMemory);
+    };
+    let Ok(mut store) = Store::new(alloc, machine.size()) else {
+        return Err(NoMemory);
+    };
+    let Ok(()) = store.push(0, entry, 0) else {
+        return Err(NoMemory);
+    };
     Ok(store)
 }
 
@@ -88,7 +103,10 @@ fn answer<M: Moves>(
     requires { Good (M.means machine.now) (M.fits machine.now) store.old found.old.items }
     ensures { IfOk result (λ answer. IsAnswer (M.means machine.now) answer) }
 {
-    if let Some(place) = search(machine, store, found)? {
+    let Ok(full) = search(machine, store, found) else {
+        return Err(NoMemory);
+    };
+    if let Some(place) = full {
         return Ok(Explored::Crowded(place));
     }
     match reports(alloc, store, found.as_slice()) {

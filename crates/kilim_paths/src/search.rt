@@ -30,17 +30,20 @@ fn take<M: Moves>(
 {
     let entry = store.get(at);
     let place = entry.place;
-    match machine.step(place, &entry.state, exit)? {
+    let Ok(stepped) = machine.step(place, &entry.state, exit) else {
+        return Err(NoMemory);
+    };
+    match stepped {
         Err(rule) => {
-            note(
-                found,
-                Found {
-                    pc: place,
-                    rule,
-                    at,
-                },
-            )?;
-            Ok(None)
+            let new = Found {
+                pc: place,
+                rule,
+                at,
+            };
+            match note(found, new) {
+                Ok(()) => Ok(None),
+                Err(fault) => Err(fault),
+            }
         }
         Ok(state) => {
             let Some(to) = exit else {
@@ -49,7 +52,9 @@ fn take<M: Moves>(
             if store.has(to, &state) {
                 return Ok(None);
             }
-            store.push(to, state, at)?;
+            let Ok(()) = store.push(to, state, at) else {
+                return Err(NoMemory);
+            };
             Ok(if store.count(to) > MOST_STATES {
                 Some(to)
             } else {
@@ -71,9 +76,13 @@ fn visit<M: Moves>(
     ensures { IfOk result (Visited (M.means machine.now) (M.fits machine.now) store.old store.new found.old.items found.new.items at) }
 {
     let place = store.get(at).place;
-    let exits = machine.exits(place)?;
+    let Ok(exits) = machine.exits(place) else {
+        return Err(NoMemory);
+    };
     for exit in exits.as_slice() {
-        let full = take(machine, store, found, at, *exit)?;
+        let Ok(full) = take(machine, store, found, at, *exit) else {
+            return Err(NoMemory);
+        };
         if full.is_some() {
             return Ok(full);
         }
@@ -92,7 +101,9 @@ pub fn search<M: Moves>(
 {
     let mut at = 0;
     while at < store.len() {
-        let full = visit(machine, store, found, at)?;
+        let Ok(full) = visit(machine, store, found, at) else {
+            return Err(NoMemory);
+        };
         if full.is_some() {
             return Ok(full);
         }

@@ -43,7 +43,9 @@ impl<S: State> Store<S> {
     {
         let mut rows = Vec::new(alloc);
         for _ in 0..size {
-            rows.push(Vec::new(alloc))?;
+            let Ok(()) = rows.push(Vec::new(alloc)) else {
+                return Err(NoMemory);
+            };
         }
         Ok(Store {
             entries: Vec::new(alloc),
@@ -99,12 +101,14 @@ impl<S: State> Store<S> {
         ensures err { OnErr result (self.new ≡ self.old) }
     {
         let at = self.entries.len();
-        self.entries.push(Reached { place, state, from })?;
+        let Ok(()) = self.entries.push(Reached { place, state, from }) else {
+            return Err(NoMemory);
+        };
         match self.rows[place as usize].push(at) {
             Ok(()) => Ok(()),
-            Err(error) => {
+            Err(_) => {
                 self.entries.truncate(at);
-                Err(error.into())
+                Err(NoMemory)
             }
         }
     }

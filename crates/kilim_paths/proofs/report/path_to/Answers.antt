@@ -11,7 +11,7 @@ loop-k-smaller g c = (back_within c.requires.linked.0 c.args.store.now.entries c
 pub loop-k-preserved : goal.loop-k-preserved
 loop-k-preserved g c = record {
   within = (back_within c.requires.linked.0 c.args.store.now.entries c.loop-k.k c.get-in-loop-k.result.now c.requires.linked.1 c.get-in-loop-k.ensures (omega arith)).1;
-  back = leads_back c.args.store.now.entries c.args.at c.loop-k.k c.get-in-loop-k.result.now c.get-in-loop-k-2.result.now c.loop-k.path.items c.push-in-loop-k.new.self.items c.loop-k.invariant.back c.get-in-loop-k.ensures (omega arith) c.get-in-loop-k-2.ensures c.in_ok-push-2.ensures.items;
+  back = leads_back c.args.store.now.entries c.args.at c.loop-k.k c.get-in-loop-k.result.now c.get-in-loop-k-2.result.now c.loop-k.path.items c.push-in-loop-k.new.self.items c.loop-k.invariant.back c.get-in-loop-k.ensures (omega arith) c.get-in-loop-k-2.ensures c.in-Ok-push.ensures.items;
 }
 
 pub returns : goal.returns

@@ -14,8 +14,8 @@ path_to-requires-clause-at g c =
 
 pub loop-fault-preserved : goal.loop-fault-preserved
 loop-fault-preserved g c =
-    reports_step c.args.store.now.entries c.args.found.now c.loop-fault.fault-index _ c.in_ok-path.path c.loop-fault.reports c.push.new.self c.loop-fault.invariant
-    (slice_get-get_or c.args.found.now c.loop-fault.fault-index _ (omega arith)) c.in_ok-path.ensures c.in_ok-push.ensures.ok
+    reports_step c.args.store.now.entries c.args.found.now c.loop-fault.fault-index _ c.in-Ok.path c.loop-fault.reports c.push.new.self c.loop-fault.invariant
+    (slice_get-get_or c.args.found.now c.loop-fault.fault-index _ (omega arith)) c.in-Ok.ensures c.in-Ok-push.ensures.ok
 
 pub returns : goal.returns
 returns g c m l i = subst (λ (fs : List Found). AllZip (IsReportOf m) fs c.loop-fault.reports) (take_whole c.args.found.now c.loop-fault.fault-index (omega arith)) (c.loop-fault.invariant m l i)

@@ -11,7 +11,7 @@ loop-at-smaller g c =
 
 pub loop-at-preserved : goal.loop-at-preserved
 loop-at-preserved g c =
-    let r = search_step (g.M.Moves.means c.args.machine.now) (g.M.Moves.fits c.args.machine.now) c.loop-at.store c.visit.new.store c.loop-at.found.items c.visit.new.found.items c.loop-at.at c.in_ok-full.full c.loop-at.invariant.done (omega arith) c.in_ok-full.ensures (is_none c.in_ok-full.full (sym c.is_some.ensures ∙ c.if-is_some.false)) in
+    let r = search_step (g.M.Moves.means c.args.machine.now) (g.M.Moves.fits c.args.machine.now) c.loop-at.store c.visit.new.store c.loop-at.found.items c.visit.new.found.items c.loop-at.at c.in-Ok.full c.loop-at.invariant.done (omega arith) c.in-Ok.ensures (is_none c.in-Ok.full (sym c.is_some.ensures ∙ c.if-is_some.false)) in
     record { good = r.0; done = r.1 }
 
 pub returns : goal.returns

@@ -11,19 +11,19 @@ step-requires-clause-fits g c = has_in (λ (e : Reached _). g.M.Moves.fits c.arg
 pub has-requires : goal.has-requires
 has-requires g c = inside_of c.args.store.now.size c.args.exit c.in-Some.to c.in-Some.is c.requires.inside
 
-pub returns-in_ok-note-in-Err : goal.returns-in_ok-note-in-Err
-returns-in_ok-note-in-Err g c =
-    took_noted (g.M.Moves.means c.args.machine.now) (g.M.Moves.fits c.args.machine.now) c.args.store.now c.args.found.now.items c.note.new.found.items c.args.at c.get-entry.result.now c.args.exit c.in_ok-rule.field-0 c.in-Err.rule
-    c.requires.good c.get-entry.ensures (c.requires.exit c.get-entry.result.now c.get-entry.ensures) c.in_ok-rule.ensures.step c.in-Err.is c.in_ok-note-in-Err.ensures.ok
+pub returns-in-Ok-note : goal.returns-in-Ok-note
+returns-in-Ok-note g c =
+    took_noted (g.M.Moves.means c.args.machine.now) (g.M.Moves.fits c.args.machine.now) c.args.store.now c.args.found.now.items c.note.new.found.items c.args.at c.get-entry.result.now c.args.exit c.in-Ok.stepped c.in-Err.rule
+    c.requires.good c.get-entry.ensures (c.requires.exit c.get-entry.result.now c.get-entry.ensures) c.in-Ok.ensures.step c.in-Err.is c.in-Ok-note.ensures.ok
 
 pub returns-then-count-gt-MOST_STATES : goal.returns-then-count-gt-MOST_STATES
 returns-then-count-gt-MOST_STATES g c =
-    took_crowded (g.M.Moves.means c.args.machine.now) (g.M.Moves.fits c.args.machine.now) c.args.store.now c.push.new.self c.args.found.now.items c.args.at c.get-entry.result.now c.args.exit c.in_ok-rule.field-0 c.in-Some.to c.in-Ok.state
-    c.requires.good c.get-entry.ensures (c.requires.exit c.get-entry.result.now c.get-entry.ensures) c.in_ok-rule.ensures.step c.in-Ok.is c.in-Some.is c.in_ok-rule.ensures.fits c.requires.inside
-    (λ h. both_ways c.has.result c.if-has.false (c.has.ensures.1 h)) c.in_ok-push-in-Ok.ensures.ok (omega arith)
+    took_crowded (g.M.Moves.means c.args.machine.now) (g.M.Moves.fits c.args.machine.now) c.args.store.now c.push.new.self c.args.found.now.items c.args.at c.get-entry.result.now c.args.exit c.in-Ok.stepped c.in-Some.to c.in-Ok-stepped.state
+    c.requires.good c.get-entry.ensures (c.requires.exit c.get-entry.result.now c.get-entry.ensures) c.in-Ok.ensures.step c.in-Ok-stepped.is c.in-Some.is c.in-Ok.ensures.fits c.requires.inside
+    (λ h. both_ways c.has.result c.if-has.false (c.has.ensures.1 h)) c.in-Ok-push.ensures.ok (omega arith)
 
 pub returns-else-count-gt-MOST_STATES : goal.returns-else-count-gt-MOST_STATES
 returns-else-count-gt-MOST_STATES g c =
-    took_pushed (g.M.Moves.means c.args.machine.now) (g.M.Moves.fits c.args.machine.now) c.args.store.now c.push.new.self c.args.found.now.items c.args.at c.get-entry.result.now c.args.exit c.in_ok-rule.field-0 c.in-Some.to c.in-Ok.state
-    c.requires.good c.get-entry.ensures (c.requires.exit c.get-entry.result.now c.get-entry.ensures) c.in_ok-rule.ensures.step c.in-Ok.is c.in-Some.is c.in_ok-rule.ensures.fits c.requires.inside
-    (λ h. both_ways c.has.result c.if-has.false (c.has.ensures.1 h)) c.in_ok-push-in-Ok.ensures.ok (omega arith)
+    took_pushed (g.M.Moves.means c.args.machine.now) (g.M.Moves.fits c.args.machine.now) c.args.store.now c.push.new.self c.args.found.now.items c.args.at c.get-entry.result.now c.args.exit c.in-Ok.stepped c.in-Some.to c.in-Ok-stepped.state
+    c.requires.good c.get-entry.ensures (c.requires.exit c.get-entry.result.now c.get-entry.ensures) c.in-Ok.ensures.step c.in-Ok-stepped.is c.in-Some.is c.in-Ok.ensures.fits c.requires.inside
+    (λ h. both_ways c.has.result c.if-has.false (c.has.ensures.1 h)) c.in-Ok-push.ensures.ok (omega arith)

@@ -1,4 +1,4 @@
-use Rattle.std.proofs.Common.{◌≡◌, ◌∙◌, ap, Some, arith, refl}
+use Rattle.std.proofs.Common.{◌≡◌, ◌∙◌, ap, Some, arith, refl, false}
 use Rattle.std.proofs.lemmas.Bool.{both_ways}
 use Rattle.kilim_paths.proofs.Rows.{row_reads, row_within, row_get, row_step, row_none}
 use Rattle.kilim_paths.proofs.store.Store.has.Goals as goal
@@ -18,4 +18,4 @@ loop-k-preserved g c =
     (λ same. both_ways c.is_same.result c.if-is_same.false (c.is_same.ensures.1 same))
 
 pub returns : goal.returns
-returns g c = (λ f. absurd (cc), λ h. absurd (row_none c.args.place c.args.self.now.entries c.row-k-items.result.now c.loop-k.k-index c.args.state.now c.row-k-items.ensures (omega arith) c.loop-k.invariant h))
+returns g c = (λ f. absurd (both_ways false refl f), λ h. absurd (row_none c.args.place c.args.self.now.entries c.row-k-items.result.now c.loop-k.k-index c.args.state.now c.row-k-items.ensures (omega arith) c.loop-k.invariant h))

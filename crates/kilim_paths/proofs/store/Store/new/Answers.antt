@@ -5,7 +5,7 @@ use Rattle.kilim_paths.proofs.store.Store.new.Goals as goal
 
 pub loop-preserved : goal.loop-preserved
 loop-preserved g c = record {
-  count = ap length c.in_ok-push.ensures.items ∙ length-append c.loop.rows.items (c.new.result ∷ []) ∙ ap (λ (n : ℕ). n + 1) c.loop.invariant.count;
+  count = ap length c.in-Ok.ensures.items ∙ length-append c.loop.rows.items (c.new.result ∷ []) ∙ ap (λ (n : ℕ). n + 1) c.loop.invariant.count;
   empty = λ q row h.
-      rows_empty c.loop.rows.items c.new.result c.loop.invariant.empty c.new.ensures.items q row (ap (λ (rows : List (Vec ℕ Global)). slice_get rows q) (sym c.in_ok-push.ensures.items) ∙ h);
+      rows_empty c.loop.rows.items c.new.result c.loop.invariant.empty c.new.ensures.items q row (ap (λ (rows : List (Vec ℕ Global)). slice_get rows q) (sym c.in-Ok.ensures.items) ∙ h);
 }

@@ -3,10 +3,10 @@ use Rattle.std.proofs.lemmas.Grind.{common_steps}
 use Rattle.kilim_paths.proofs.Rows.{rows_pushed, rows_back}
 use Rattle.kilim_paths.proofs.store.Store.push.Goals as goal
 
-pub invariant_of-self-in-Ok : goal.invariant_of-self-in-Ok
-invariant_of-self-in-Ok g c =
+pub invariant_of-self-in-Ok-push : goal.invariant_of-self-in-Ok-push
+invariant_of-self-in-Ok-push g c =
     let size : length c.self.inside.rows.items ≡ c.args.self.now.size = ap (λ v. v.size) c.self.view_is in
-    rows_pushed c.self.inside.entries.items c.push.new.self.items _ c.self.inside.rows.items c.len-at.result c.args.place c.index_mut.result.now c.push-2.new.self c.self.invariant (omega arith) c.index_mut.ensures.value c.in-Ok.ensures.items (search rules) c.in_ok-push.ensures.items refl
+    rows_pushed c.self.inside.entries.items c.push.new.self.items _ c.self.inside.rows.items c.len-at.result c.args.place c.index_mut.result.now c.push-2.new.self c.self.invariant (omega arith) c.index_mut.ensures.value c.in-Ok-push.ensures.items (search rules) c.in-Ok.ensures.items refl
 
 pub invariant_of-self-in-Err : goal.invariant_of-self-in-Err
 invariant_of-self-in-Err g c =
