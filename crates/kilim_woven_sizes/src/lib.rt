@@ -1,8 +1,7 @@
-//! How large a woven class file may become, by the bounds of crate::file_laws::form.
+//! How large a woven class file may become, by the bounds of specs/file_laws/form.
 #![tactic(auto)]
 
 mod calls;
-pub mod file_laws;
 pub mod same_programs;
 mod sizes;
 mod texts;

@@ -4,9 +4,9 @@ ghost use Rattle.std.specs.Prelude.{◌≡◌, ◌+◌, ◌*◌, ◌≤◌, leng
 ghost use Rattle.kilim_classes.specs.Names.{descriptor};
 ghost use Rattle.kilim_link_spec.specs.World.{method_descriptor};
 ghost use Rattle.kilim_typing.specs.woven_form.Weight.{calls_in, switch_bytes, switches_bytes, weight};
-ghost use Rattle.kilim_woven_sizes.specs.file_laws.form.Sizes.{added_entries, class_longest, entries_at_call, entry_bytes, field_longest, frame_bytes, frames_number, larger, longest_text, method_bytes, method_entries, method_longest, methods_entries, spelled_length};
-ghost use Rattle.kilim_woven_sizes.specs.Parts.{bytes_of};
-ghost use Rattle.kilim_woven_sizes.specs.file_laws.form.WovenFile.{pairs_of};
+ghost use Rattle.kilim_woven_sizes.specs.file_laws.form.Sizes.{added_entries, class_longest, entries_at_call, entry_bytes, field_longest, frame_bytes, frames_number, larger, longest_text, method_bytes, method_entries, method_longest, spelled_length};
+ghost use Rattle.kilim_woven_sizes.specs.Parts.{bytes_of, measured, product};
+ghost use Rattle.kilim_woven_sizes.specs.file_laws.form.WovenFile.{MethodPair, pairs_of};
 
 use crate::{is_pausable_call, type_descriptor};
 use kilim_classes::{Class, Field, Instr, Method, Program};
@@ -33,6 +33,22 @@ fn times(a: u64, b: u64) -> Result<u64, NoMemory>
         Some(n) => Ok(n),
         None => Err(NoMemory),
     }
+}
+
+fn sum_of(products: &[(u64, u64)]) -> Result<u64, NoMemory>
+    ensures { IfOk result (λ n. n ≡ sum_by product products.now) }
+{
+    let mut sum = 0;
+    for factors in products {
+        let Ok(product) = times(factors.0, factors.1) else {
+            return Err(NoMemory);
+        };
+        let Ok(more) = plus(sum, product) else {
+            return Err(NoMemory);
+        };
+        sum = more;
+    }
+    Ok(sum)
 }
 
 // ---- entries
@@ -64,60 +80,6 @@ fn method_entries(program: &Program, method: &Method) -> Result<u64, NoMemory>
     }
     let calls = plus(calls_in(program, method.code.as_slice()) as u64, 1)?;
     times(entries_at_call(method), calls)
-}
-
-fn methods_entries(
-    program: &Program,
-    infos: &[MemberInfo],
-    plains: &[Method],
-    wovens: &[Method],
-    counted: &[Seq<bool>],
-) -> Result<u64, NoMemory>
-    ensures { IfOk result (λ n. n ≡ methods_entries program.now (pairs_of infos.now plains.now wovens.now counted.now)) }
-{
-    let mut sum = 0;
-    let mut ps = plains;
-    let mut ms = wovens;
-    let mut cs = counted;
-    for info in infos {
-        let _flags = info.access_flags;
-        let [plain, later_plains @ ..] = ps else {
-            return Ok(sum);
-        };
-        let [_, later_wovens @ ..] = ms else {
-            return Ok(sum);
-        };
-        let [_, later_counted @ ..] = cs else {
-            return Ok(sum);
-        };
-        ps = later_plains;
-        ms = later_wovens;
-        cs = later_counted;
-        let Ok(entries) = method_entries(program, plain) else {
-            return Err(NoMemory);
-        };
-        let Ok(more) = plus(sum, entries) else {
-            return Err(NoMemory);
-        };
-        sum = more;
-    }
-    Ok(sum)
-}
-
-/// What the entries may be that weaving adds to a file's pool.
-pub fn added_entries(
-    program: &Program,
-    infos: &[MemberInfo],
-    plains: &[Method],
-    wovens: &[Method],
-    counted: &[Seq<bool>],
-) -> Result<u64, NoMemory>
-    ensures { IfOk result (λ n. n ≡ added_entries program.now (pairs_of infos.now plains.now wovens.now counted.now)) }
-{
-    plus(
-        64,
-        methods_entries(program, infos, plains, wovens, counted)?,
-    )
 }
 
 // ---- bytes
@@ -255,19 +217,14 @@ fn weight(program: &Program, method: &Method, calls: u64) -> Result<u64, NoMemor
     ensures { IfOk result (λ n. n ≡ weight program.now method.now) }
 {
     let words = u64::from(method.max_locals) + u64::from(method.max_stack);
-    let Ok(groups) = times(calls, 56 + 28 * words) else {
-        return Err(NoMemory);
-    };
-    let Ok(switches) = switches_bytes(method.code.as_slice()) else {
-        return Err(NoMemory);
-    };
-    let Ok(rest) = plus(switches, groups) else {
-        return Err(NoMemory);
-    };
-    let Ok(added) = plus(64, rest) else {
-        return Err(NoMemory);
-    };
-    plus(u64::from(method.code_length), added)
+    let length = u64::from(method.code_length);
+    let switches = switches_bytes(method.code.as_slice())?;
+    sum_of(&[
+        (length, 1),
+        (64, 1),
+        (switches, 1),
+        (calls, 56 + 28 * words),
+    ])
 }
 
 fn frame_bytes(method: &Method) -> u64
@@ -280,13 +237,7 @@ fn frames_number(program: &Program, method: &Method, calls: u64) -> Result<u64, 
     requires { calls ≡ calls_in program.now method.now.code }
     ensures { IfOk result (λ n. n ≡ frames_number program.now method.now) }
 {
-    let Ok(groups) = times(4, calls) else {
-        return Err(NoMemory);
-    };
-    let Ok(added) = plus(groups, 1) else {
-        return Err(NoMemory);
-    };
-    plus(method.frames.len() as u64, added)
+    sum_of(&[(method.frames.len() as u64, 1), (4, calls), (1, 1)])
 }
 
 // The bytes of a method that pauses, beside its own.
@@ -297,28 +248,17 @@ fn pausing_bytes(program: &Program, info: &MemberInfo, method: &Method) -> Resul
     let Ok(number) = frames_number(program, method, calls) else {
         return Err(NoMemory);
     };
-    let Ok(frames) = times(number, frame_bytes(method)) else {
-        return Err(NoMemory);
-    };
-    let Ok(attributes) = times(2, info.attributes.len() as u64) else {
-        return Err(NoMemory);
-    };
-    let Ok(parts) = plus(frames, attributes) else {
-        return Err(NoMemory);
-    };
-    let Ok(groups) = times(8, calls) else {
-        return Err(NoMemory);
-    };
-    let Ok(rest) = plus(groups, parts) else {
-        return Err(NoMemory);
-    };
-    let Ok(added) = plus(64, rest) else {
-        return Err(NoMemory);
-    };
     let Ok(weight) = weight(program, method, calls) else {
         return Err(NoMemory);
     };
-    plus(weight, added)
+    let attributes = info.attributes.len() as u64;
+    sum_of(&[
+        (weight, 1),
+        (64, 1),
+        (8, calls),
+        (number, frame_bytes(method)),
+        (2, attributes),
+    ])
 }
 
 fn method_bytes(program: &Program, info: &MemberInfo, method: &Method) -> Result<u64, NoMemory>
@@ -331,15 +271,39 @@ fn method_bytes(program: &Program, info: &MemberInfo, method: &Method) -> Result
     }
 }
 
-/// The sum of `method_bytes` over the methods of a file.
-pub fn methods_bytes(
+// ---- over the methods of a file
+
+// What is summed over methods.
+enum Measure {
+    // The entries that a method may need more.
+    Entries,
+    // The bytes that it may become longer by.
+    Bytes,
+}
+
+fn measured(
+    program: &Program,
+    info: &MemberInfo,
+    method: &Method,
+    measure: &Measure,
+) -> Result<u64, NoMemory>
+    ensures { IfOk result (λ n. n ≡ measured measure.now program.now info.now method.now) }
+{
+    match measure {
+        Measure::Entries => method_entries(program, method),
+        Measure::Bytes => method_bytes(program, info, method),
+    }
+}
+
+fn sum_over(
     program: &Program,
     infos: &[MemberInfo],
     plains: &[Method],
     wovens: &[Method],
     counted: &[Seq<bool>],
+    measure: &Measure,
 ) -> Result<u64, NoMemory>
-    ensures { IfOk result (λ n. n ≡ sum_by (method_bytes program.now) (pairs_of infos.now plains.now wovens.now counted.now)) }
+    ensures { IfOk result (λ n. n ≡ sum_by (λ (x : MethodPair). measured measure.now program.now x.info x.plain) (pairs_of infos.now plains.now wovens.now counted.now)) }
 {
     let mut sum = 0;
     let mut ps = plains;
@@ -358,10 +322,10 @@ pub fn methods_bytes(
         ps = later_plains;
         ms = later_wovens;
         cs = later_counted;
-        let Ok(bytes) = method_bytes(program, info, plain) else {
+        let Ok(size) = measured(program, info, plain, measure) else {
             return Err(NoMemory);
         };
-        let Ok(more) = plus(sum, bytes) else {
+        let Ok(more) = plus(sum, size) else {
             return Err(NoMemory);
         };
         sum = more;
@@ -369,18 +333,41 @@ pub fn methods_bytes(
     Ok(sum)
 }
 
+/// What the entries may be that weaving adds to a file's pool.
+pub fn added_entries(
+    program: &Program,
+    infos: &[MemberInfo],
+    plains: &[Method],
+    wovens: &[Method],
+    counted: &[Seq<bool>],
+) -> Result<u64, NoMemory>
+    ensures { IfOk result (λ n. n ≡ added_entries program.now (pairs_of infos.now plains.now wovens.now counted.now)) }
+{
+    let methods = sum_over(program, infos, plains, wovens, counted, &Measure::Entries)?;
+    plus(64, methods)
+}
+
+/// The sum of `method_bytes` over the methods of a file.
+pub fn methods_bytes(
+    program: &Program,
+    infos: &[MemberInfo],
+    plains: &[Method],
+    wovens: &[Method],
+    counted: &[Seq<bool>],
+) -> Result<u64, NoMemory>
+    ensures { IfOk result (λ n. n ≡ sum_by (method_bytes program.now) (pairs_of infos.now plains.now wovens.now counted.now)) }
+{
+    sum_over(program, infos, plains, wovens, counted, &Measure::Bytes)
+}
+
 /// The length that a woven file may reach, by that of the file, what its pool may take more, and the longest text.
 pub fn size_by(old: usize, added: u64, longest: usize, methods: u64) -> Result<u64, NoMemory>
     ensures { IfOk result (λ n. n ≡ old + (added * entry_bytes longest + methods)) }
 {
-    let Ok(each) = plus(longest as u64, 280) else {
-        return Err(NoMemory);
-    };
-    let Ok(entries) = times(added, each) else {
-        return Err(NoMemory);
-    };
-    let Ok(more) = plus(entries, methods) else {
-        return Err(NoMemory);
-    };
-    plus(old as u64, more)
+    sum_of(&[
+        (old as u64, 1),
+        (added, longest as u64),
+        (added, 280),
+        (methods, 1),
+    ])
 }

@@ -3,5 +3,3 @@ pub mod Raw
 pub mod FullFrames
 pub mod WovenFile
 pub mod Sizes
-pub mod Samples
-pub mod Examples

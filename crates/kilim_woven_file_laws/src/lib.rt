@@ -1,0 +1,43 @@
+//! A woven class file is read back to the woven program: laws, and no code that does work.
+#![tactic(auto)]
+
+pub mod form;
+pub mod link_examples;
+pub mod pool;
+
+ghost use Rattle.kilim_woven_file_laws.specs.Descriptors.{DescriptorsApart};
+ghost use Rattle.kilim_woven_file_laws.specs.Laws.{CodeIsReadBack, FramesAreReadBack, MethodsLinkAgain, ParametersAreMore, PlainMethodsAreFound};
+
+use kilim_link_spec::decoded_is_decode;
+
+/// A law, and no work: no two descriptors get one with the fiber, and none in plain form has it.
+pub fn descriptors_are_apart()
+    ensures { DescriptorsApart }
+{}
+
+/// A law, and no work: a method is found in woven form where it was found before, with the fiber where it pauses.
+pub fn methods_are_found()
+    ensures { PlainMethodsAreFound }
+{}
+
+/// A law, and no work: woven code that was written is, in the woven world, the code of the woven method.
+pub fn code_is_read_back()
+    ensures { CodeIsReadBack }
+{}
+
+/// A law, and no work: frames that were written in the full form are those that were declared.
+pub fn frames_are_read_back()
+    ensures { FramesAreReadBack }
+{}
+
+/// A law, and no work: a method that pauses, written anew, links in woven form to the method of the woven program.
+pub fn methods_link_again()
+    ensures { MethodsLinkAgain }
+{
+    decoded_is_decode();
+}
+
+/// A law, and no work: annotations of parameters with one parameter more have a text, and one empty list more.
+pub fn parameters_are_more()
+    ensures { ParametersAreMore }
+{}
