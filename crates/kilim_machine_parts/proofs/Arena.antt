@@ -127,6 +127,10 @@ there_within [] q o e = cc
 there_within (p ∷ ps) zero o e = omega arith
 there_within (p ∷ ps) (suc q) o e = let h = there_within ps q o e in omega arith
 
+-- a place that was emptied is still there
+pub emptied_within : (ps mid : List (Option Object)) (q : ℕ) (o : Object) → get_or ps q None ≡ Some o → mid ≡ set ps q None → q < length mid
+emptied_within ps mid q o there is = omega (arith, there_within ps q o there, ap length is, length-set ps q None)
+
 -- ---- the arena's facts
 
 pub new_arena : (ps : List (Option Object)) (fs : List ℕ) (room : ℕ) → ps ≡ [] → fs ≡ [] → IsArena ps fs room

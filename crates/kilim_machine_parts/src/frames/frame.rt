@@ -82,10 +82,14 @@ fn laid(alloc: Global, arguments: Vec<Value>, slots: usize) -> Result<Seq<Value>
     ensures { IfOk result (λ items. items ≡ slots_of arguments.items) }
 {
     let mut room = Vec::new(alloc);
-    room.reserve(slots)?;
+    let Ok(()) = room.reserve(slots) else {
+        return Err(AllocError);
+    };
     let mut items = Seq::from_vec(room);
     for value in arguments {
-        push_slots(&mut items, value)?;
+        let Ok(()) = push_slots(&mut items, value) else {
+            return Err(AllocError);
+        };
     }
     Ok(items)
 }
@@ -94,7 +98,9 @@ fn push_nulls(items: &mut Seq<Value>, count: usize) -> Result<(), AllocError>
     ensures { OnOk result (items.new ≡ items.old ++ replicate count Null) }
 {
     for _ in 0..count {
-        items.push(Value::Null)?;
+        let Ok(()) = items.push(Value::Null) else {
+            return Err(AllocError);
+        };
     }
     Ok(())
 }

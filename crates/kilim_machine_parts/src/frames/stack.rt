@@ -33,7 +33,9 @@ impl Stack {
         ensures { IfOk result (λ s. s ≡ record { values = []; room = room }) }
     {
         let mut values = Vec::new(alloc);
-        values.reserve(room)?;
+        let Ok(()) = values.reserve(room) else {
+            return Err(AllocError);
+        };
         Ok(Stack { values, room })
     }
 
@@ -147,10 +149,14 @@ fn copies(alloc: Global, values: &[Value]) -> Result<Vec<Value>, AllocError>
     ensures { IfOk result (λ copies. copies.items ≡ values.now) }
 {
     let mut room = Vec::new(alloc);
-    room.reserve(values.len())?;
+    let Ok(()) = room.reserve(values.len()) else {
+        return Err(AllocError);
+    };
     let mut copies = Seq::from_vec(room);
     for value in values {
-        push_copy(&mut copies, value)?;
+        let Ok(()) = push_copy(&mut copies, value) else {
+            return Err(AllocError);
+        };
     }
     Ok(copies.into_vec())
 }

@@ -6,5 +6,5 @@ use Rattle.kilim_machine_parts.proofs.frames.frame.laid.Goals as goal
 
 pub loop-value-preserved : goal.loop-value-preserved
 loop-value-preserved c =
-    c.in_ok-push_slots.ensures
+    c.in-Ok-push_slots.ensures
     ∙ (ap (λ (xs : List Value). xs ++ slots_of (c.in-Some.value ∷ [])) c.loop-value.invariant ∙ sym (slots_append c.loop-value.yielded (c.in-Some.value ∷ [])))

@@ -4,7 +4,7 @@ use Rattle.kilim_machine_parts.proofs.frames.Loops.{repeated}
 use Rattle.kilim_machine_parts.proofs.frames.frame.push_nulls.Goals as goal
 
 pub loop-preserved : goal.loop-preserved
-loop-preserved c = repeated c.args.items.now c.loop.items c.push.new.self c.loop.counter Null c.loop.invariant c.in_ok-push.ensures.ok
+loop-preserved c = repeated c.args.items.now c.loop.items c.push.new.self c.loop.counter Null c.loop.invariant c.in-Ok.ensures.ok
 
 pub returns : goal.returns
 returns c =

@@ -1,6 +1,9 @@
 use Rattle.kilim_machine_parts.proofs.Arena.{now_filled, last_is_free, now_added, grown_or_not}
 use Rattle.kilim_machine_parts.proofs.heap.Heap.add.Goals as goal
 
+pub fill-requires : goal.fill-requires
+fill-requires c = (last_is_free _ _ _ _ _ c.self.invariant c.in-Some.ensures.items).0
+
 pub invariant_of-self : goal.invariant_of-self
 invariant_of-self c = now_filled _ _ _ _ _ _ _ _ c.self.invariant c.in-Some.ensures.items c.fill.ensures c.pop.ensures.capacity
 

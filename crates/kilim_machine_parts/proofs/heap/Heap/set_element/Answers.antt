@@ -3,12 +3,15 @@ use Rattle.kilim_classes.specs.declared.value.Value.{Value}
 use Rattle.kilim_machine_parts.proofs.Fields.{element_within}
 use Rattle.std.specs.Prelude.{slice_set}
 use Rattle.kilim_classes.specs.declared.machine.value.Object.{Object}
-use Rattle.kilim_machine_parts.proofs.Arena.{there_in, found_in}
+use Rattle.kilim_machine_parts.proofs.Arena.{there_in, found_in, emptied_within}
 use Rattle.kilim_machine_parts.proofs.Fields.{changed_arena, now_changed}
 use Rattle.kilim_machine_parts.proofs.heap.Heap.set_element.Goals as goal
 
 pub exchange-object-requires : goal.exchange-object-requires
 exchange-object-requires c = there_in _ _ _ c.self.view_is c.requires.there
+
+pub fill-requires : goal.fill-requires
+fill-requires c = emptied_within _ _ _ _ c.exchange-object.ensures.object c.exchange-object.ensures.places
 
 pub invariant_of-self : goal.invariant_of-self
 invariant_of-self c = changed_arena _ _ _ _ _ _ _ _ c.self.invariant c.exchange-object.ensures.object c.exchange-object.ensures.places c.fill.ensures
