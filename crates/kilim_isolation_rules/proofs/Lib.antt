@@ -1,3 +1,5 @@
+pub mod Pieces
+pub mod Every
 pub mod Climbing
 pub mod Slots
 pub mod Constants

@@ -6,7 +6,6 @@ ghost use Rattle.kilim_isolation_rules.specs.Actions.{action, passing_action, wo
 use kilim_classes::{ClassId, FieldId, Instr, MethodId, Ty};
 
 /// Which words pop, dup and swap forms take, pass over and give (JVMS 6.5, `pop` to `swap`).
-#[derive(Clone, Copy)]
 pub enum Words {
     /// So many words are dropped.
     Drops(usize),
@@ -16,7 +15,6 @@ pub enum Words {
 }
 
 /// What an instruction does to a graph.
-#[derive(Clone, Copy)]
 pub enum Action {
     /// So many items of the stack are taken, and so many given, which name no node.
     Passes(usize, usize),

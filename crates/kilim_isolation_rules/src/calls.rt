@@ -14,7 +14,7 @@ use crate::marks::{mixes, names_no_root, names_safe};
 use crate::shuffles::first;
 use crate::steps::{cut, give_away};
 use kilim_classes::{Base, Method, Program, Qualifier, Ty, VType};
-use kilim_shape_graph::{Graph, quality, slot_at, type_at};
+use kilim_shape_graph::{Graph, quality, slot_at, turned, type_at};
 use kilim_units::{NoMemory, Seq};
 use std::alloc::Global;
 
@@ -168,17 +168,6 @@ fn push_passed(
     Ok(())
 }
 
-// The items the other way round.
-fn turned<T: Copy + Drop>(alloc: Global, items: &[T]) -> Result<Vec<T>, NoMemory>
-    ensures { IfOk result (λ v. v.items ≡ reverse items.now) }
-{
-    let Ok(mut turned) = Vec::from_slice(alloc, items) else {
-        return Err(NoMemory);
-    };
-    turned.reverse();
-    Ok(turned)
-}
-
 fn is_constructor(method: &Method) -> bool
     ensures { result ≡ is_constructor method.now }
 {
@@ -301,7 +290,9 @@ fn pass_all(
 fn pop_arguments(alloc: Global, callee: &Method, graph: &mut Graph) -> Result<(), NoMemory>
     ensures { OnOk result (graph.new ≡ popped (spec.takes_from callee.now) graph.old) }
 {
-    pop(alloc, graph, callee.params.len())?;
+    let Ok(()) = pop(alloc, graph, callee.params.len()) else {
+        return Err(NoMemory);
+    };
     if callee.is_static {
         return Ok(());
     }
@@ -351,7 +342,9 @@ fn call_with(
     broken.shared = any_shared(program, graph, arguments);
     broken.mixed = any_mixed(program, arguments);
     broken.not_cuttable = any_not_cuttable(program, graph, arguments);
-    call(alloc, program, callee, arguments, graph)?;
+    let Ok(()) = call(alloc, program, callee, arguments, graph) else {
+        return Err(NoMemory);
+    };
     Ok(broken)
 }
 

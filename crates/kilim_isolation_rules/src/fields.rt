@@ -87,7 +87,9 @@ fn reads(
 ) -> Result<(), NoMemory>
     ensures { OnOk result (graph.new ≡ spec.reads kind takes label holder graph.old) }
 {
-    pop(alloc, graph, takes)?;
+    let Ok(()) = pop(alloc, graph, takes) else {
+        return Err(NoMemory);
+    };
     match kind {
         Kind::Tree => read_from(graph, label, holder),
         Kind::Value | Kind::Private => push(graph, None),
@@ -104,7 +106,9 @@ fn nodes_without_child(
     ensures { IfOk result (λ nodes. nodes ≡ (spec.without_child graph.now label holder).nodes) }
 {
     let nodes = graph.nodes.as_slice();
-    let region = new_region(nodes)?;
+    let Ok(region) = new_region(nodes) else {
+        return Err(NoMemory);
+    };
     cut(alloc, nodes, holder, child_by(graph, label, holder), region)
 }
 
@@ -112,7 +116,10 @@ fn nodes_without_child(
 fn drop_child(alloc: Global, graph: &mut Graph, label: Label, holder: usize) -> Result<(), NoMemory>
     ensures { OnOk result (graph.new ≡ spec.without_child graph.old label holder) }
 {
-    graph.nodes = nodes_without_child(alloc, graph, label, holder)?;
+    let Ok(nodes) = nodes_without_child(alloc, graph, label, holder) else {
+        return Err(NoMemory);
+    };
+    graph.nodes = nodes;
     Ok(())
 }
 
@@ -125,7 +132,10 @@ fn hang(
 ) -> Result<(), NoMemory>
     ensures { OnOk result (graph.new ≡ spec.joined graph.old label holder value) }
 {
-    graph.nodes = join(alloc, graph.nodes.as_slice(), holder, value, label)?;
+    let Ok(nodes) = join(alloc, graph.nodes.as_slice(), holder, value, label) else {
+        return Err(NoMemory);
+    };
+    graph.nodes = nodes;
     Ok(())
 }
 
@@ -201,14 +211,16 @@ pub fn gets_field(
         return Ok(none_broken());
     };
     let holder = slot_at(graph.stack.as_slice(), 0);
-    reads(
+    let Ok(()) = reads(
         alloc,
         program.kind(&field.ty),
         1,
         Label::Field(id),
         holder,
         graph,
-    )?;
+    ) else {
+        return Err(NoMemory);
+    };
     Ok(none_broken())
 }
 
@@ -228,7 +240,9 @@ pub fn puts_field(
     };
     let holder = slot_at(graph.stack.as_slice(), 1);
     let value = slot_at(graph.stack.as_slice(), 0);
-    pop(alloc, graph, 2)?;
+    let Ok(()) = pop(alloc, graph, 2) else {
+        return Err(NoMemory);
+    };
     stores(
         alloc,
         program,
@@ -269,7 +283,9 @@ pub fn gets_element(
 {
     let kind = element_kind(program, type_at(types, 1));
     let holder = slot_at(graph.stack.as_slice(), 1);
-    reads(alloc, kind, 2, Label::Element, holder, graph)?;
+    let Ok(()) = reads(alloc, kind, 2, Label::Element, holder, graph) else {
+        return Err(NoMemory);
+    };
     Ok(none_broken())
 }
 
@@ -284,7 +300,9 @@ pub fn puts_element(
 {
     let holder = slot_at(graph.stack.as_slice(), 2);
     let value = slot_at(graph.stack.as_slice(), 0);
-    pop(alloc, graph, 3)?;
+    let Ok(()) = pop(alloc, graph, 3) else {
+        return Err(NoMemory);
+    };
     stores(
         alloc,
         program,

@@ -45,7 +45,9 @@ pub fn pop(alloc: Global, graph: &mut Graph, count: usize) -> Result<(), NoMemor
 fn put_first(slots: &mut Seq<Option<usize>>, name: Option<usize>) -> Result<(), NoMemory>
     ensures { OnOk result (slots.new ≡ name ∷ slots.old) }
 {
-    slots.items.insert(0, name)?;
+    let Ok(()) = slots.items.insert(0, name) else {
+        return Err(NoMemory);
+    };
     Ok(())
 }
 
@@ -111,7 +113,9 @@ pub fn give(graph: &mut Graph, kind: Kind) -> Result<(), NoMemory>
 {
     match kind {
         Kind::Tree => {
-            let region = new_region(graph.nodes.as_slice())?;
+            let Ok(region) = new_region(graph.nodes.as_slice()) else {
+                return Err(NoMemory);
+            };
             add(
                 graph,
                 Node {

@@ -12,5 +12,6 @@ mod shuffles;
 mod steps;
 
 pub use deed::{Deed, Passed};
+pub use growth::copied;
 pub use marks::any_mixes;
 pub use rules::{StepFault, deed_of, judge};

@@ -3,7 +3,7 @@
 ghost use Rattle.std.specs.Prelude.{◌≡◌, ◌++◌, [], None, Result, Ok, Err, MatchResult, replicate, IfOk, OnOk, option_copied};
 ghost use Rattle.kilim_classes.specs.declared.class.Method.{Method};
 ghost use Rattle.kilim_classes.specs.declared.ty.Base.TheVariants as Base;
-ghost use Rattle.kilim_classes.specs.Names.{method_at, field_of};
+ghost use Rattle.kilim_classes.specs.Names.{field_of};
 ghost use Rattle.kilim_classes.specs.Program.{Program};
 ghost use Rattle.kilim_typing.specs.Step.{Types};
 ghost use Rattle.kilim_isolation_rules.specs.Actions.{deed_by};
@@ -21,9 +21,8 @@ use crate::fields::{gets_element, gets_field, puts_element, puts_field};
 use crate::growth::{copied, give, pop, push, set_local};
 use crate::marks::{mixes, names_gone, names_no_root, stack_lives};
 use crate::shuffles::shuffled;
-use kilim_classes::{
-    Base, ClassId, Field, FieldId, Instr, Kind, Method, MethodId, Program, Ty, VType,
-};
+use kilim_classes::lookups::method_at;
+use kilim_classes::{Base, ClassId, Field, FieldId, Instr, Kind, Method, Program, Ty, VType};
 use kilim_shape_graph::{Graph, slot_at, type_at};
 use kilim_units::{NoMemory, Seq};
 use std::alloc::Global;
@@ -34,12 +33,6 @@ pub enum StepFault {
     /// The least rule that is broken: 1 to 7, or 9.
     Rule(u8),
     Memory,
-}
-
-fn method_at(program: &Program, id: MethodId) -> Option<&Method>
-    ensures { option_copied result ≡ method_at program.now id }
-{
-    program.methods.as_slice().get(id.0 as usize)
 }
 
 fn field_of(program: &Program, id: FieldId) -> Option<&Field>
@@ -101,7 +94,9 @@ fn loads_reference(graph: &mut Graph, slot: u16) -> Result<Broken, NoMemory>
     let name = slot_at(graph.locals.as_slice(), usize::from(slot));
     let mut broken = none_broken();
     broken.gone = names_gone(graph, name);
-    push(graph, name)?;
+    let Ok(()) = push(graph, name) else {
+        return Err(NoMemory);
+    };
     Ok(broken)
 }
 
@@ -149,7 +144,10 @@ fn shuffles(
 ) -> Result<Broken, NoMemory>
     ensures { IfOk result (λ broken. marked broken graph.new ≡ actions.words_shuffled graph.old types.now words) }
 {
-    graph.stack = shuffled(alloc, words, types, graph.stack.as_slice())?;
+    let Ok(stack) = shuffled(alloc, words, types, graph.stack.as_slice()) else {
+        return Err(NoMemory);
+    };
+    graph.stack = stack;
     Ok(none_broken())
 }
 
@@ -276,7 +274,9 @@ pub fn deed_of(
 ) -> Result<Deed, NoMemory>
     ensures { IfOk result (λ deed. (f : Types) → f.stack ≡ types.now → deed ≡ spec.deed program.now method.now graph.now f instr.now) }
 {
-    let mut new = copied(alloc, graph)?;
+    let Ok(mut new) = copied(alloc, graph) else {
+        return Err(NoMemory);
+    };
     match act(alloc, program, method, &mut new, types, action_of(instr)) {
         Ok(broken) => Ok(as_deed(broken, new)),
         Err(fault) => {

@@ -101,10 +101,12 @@ pub fn shuffled(
     ensures { IfOk result (λ new. new ≡ spec.shuffled (form_of words) types.now names.now) }
 {
     match words {
-        Words::Drops(count) => Ok(Seq::from_vec(Vec::from_slice(
-            alloc,
-            behind(names, items(count, types)),
-        )?)),
+        Words::Drops(count) => {
+            let Ok(left) = Vec::from_slice(alloc, behind(names, items(count, types))) else {
+                return Err(NoMemory);
+            };
+            Ok(Seq::from_vec(left))
+        }
         Words::Copies(count, passed) => {
             let top = items(count, types);
             copied(alloc, top, items(passed, behind(types, top)), names)
