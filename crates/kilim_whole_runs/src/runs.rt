@@ -71,7 +71,9 @@ pub fn run_alone<G: Gate>(
     requires { CanServe (setting_of plain main limits.now) woven.program woven.counted }
     ensures { IfOk result (λ es. IsJournalOf (setting_of plain main limits.now) es.items) }
 {
-    let code = Code::new(alloc, plain, woven.program, woven.counted)?;
+    let Ok(code) = Code::new(alloc, plain, woven.program, woven.counted) else {
+        return Err(NoMemory);
+    };
     let ran = journal_alone(alloc, &code, main, limits, gate);
     drop(code);
     ran
@@ -92,7 +94,9 @@ fn run_by<R: Threads + Wait + Sync, G: Gate>(
     requires served { CanServe (setting_of plain main limits.now) woven.program woven.counted }
     ensures { IfOk result (λ es. IsJournalOf (setting_of plain main limits.now) es.items) }
 {
-    let code = Code::new(alloc, plain, woven.program, woven.counted)?;
+    let Ok(code) = Code::new(alloc, plain, woven.program, woven.counted) else {
+        return Err(NoMemory);
+    };
     let ran = journal_by(rt, alloc, &code, main, limits, workers, gate);
     drop(code);
     ran

@@ -91,7 +91,9 @@ fn begun_fiber(
     ensures fiber { IfOk result (λ both. IsBegun program.now main tree shape both.0) }
     ensures shape { IfOk result (λ both. both.1 ≡ shape) }
 {
-    let body = begun_body(alloc, program, tree)?;
+    let Ok(body) = begun_body(alloc, program, tree) else {
+        return Err(NoMemory);
+    };
     let (beginning, shape) = begun(shape);
     Ok((new_fiber(alloc, main, beginning, body), shape))
 }
@@ -124,7 +126,9 @@ fn wanted(
         Came::Takes(mailbox) => Ok((Wants::Take(mailbox), Asked::Take(mailbox))),
         Came::Probes(mailbox) => Ok((Wants::Probe(mailbox), Asked::Probe(mailbox))),
         Came::Starts(tree, shape) => {
-            let (fiber, shape) = begun_fiber(alloc, program, main, tree, shape)?;
+            let Ok((fiber, shape)) = begun_fiber(alloc, program, main, tree, shape) else {
+                return Err(NoMemory);
+            };
             let kept = Snapshot::of(&shape);
             Ok((Wants::Start(fiber, shape), Asked::Start(kept)))
         }
@@ -182,7 +186,9 @@ impl Fiber {
         if self.body.count.checked_add(1).is_none() {
             return Err(NoMemory);
         }
-        let shape = take(self.alloc, &code.plain, &code.program, tree, &mut self.body)?;
+        let Ok(shape) = take(self.alloc, &code.plain, &code.program, tree, &mut self.body) else {
+            return Err(NoMemory);
+        };
         note(
             &mut self.past,
             Did::Take(mailbox, number, Snapshot::of(&shape)),
@@ -206,7 +212,9 @@ impl Fiber {
         if self.body.count.checked_add(1).is_none() {
             return Err(NoMemory);
         }
-        let shape = found(&code.plain, &code.program, tree, &mut self.body)?;
+        let Ok(shape) = found(&code.plain, &code.program, tree, &mut self.body) else {
+            return Err(NoMemory);
+        };
         note(
             &mut self.past,
             Did::Take(mailbox, number, Snapshot::of(&shape)),
@@ -302,7 +310,9 @@ impl Fiber {
             return Err(NoMemory);
         }
         self.rests = is_resting(&came);
-        let (wants, asked) = wanted(self.alloc, &code.program, self.main, came)?;
+        let Ok((wants, asked)) = wanted(self.alloc, &code.program, self.main, came) else {
+            return Err(NoMemory);
+        };
         self.asked = asked;
         Ok(wants)
     }
