@@ -1,5 +1,5 @@
 -- The instructions without operands in groups, as the code asks for them.
-use Rattle.std.specs.Prelude.{ℕ, pos, negsuc, List, [], ◌∷◌}
+use Rattle.std.specs.Prelude.{ℕ, pos, negsuc, List, [], ◌∷◌, ◌++◌}
 use Rattle.kilim_classes.specs.declared.instr.Instr.{Instr}
 use Rattle.kilim_classes.specs.declared.instr.Instr.TheVariants as instr
 
@@ -23,3 +23,20 @@ shifts_and_bit_operations = (120, instr.Ishl) ∷ (121, instr.Lshl) ∷ (122, in
 
 abbrev pub conversions_and_returns : List (ℕ × Instr)
 conversions_and_returns = (133, instr.I2l) ∷ (136, instr.L2i) ∷ (145, instr.I2b) ∷ (146, instr.I2c) ∷ (147, instr.I2s) ∷ (148, instr.Lcmp) ∷ (172, instr.Ireturn) ∷ (173, instr.Lreturn) ∷ (176, instr.Areturn) ∷ (177, instr.Return) ∷ (190, instr.Arraylength) ∷ []
+
+-- ---- a group, and those behind it
+
+abbrev pub from_shifts : List (ℕ × Instr)
+from_shifts = shifts_and_bit_operations ++ conversions_and_returns
+
+abbrev pub from_arithmetic : List (ℕ × Instr)
+from_arithmetic = arithmetic ++ from_shifts
+
+abbrev pub from_array_stores : List (ℕ × Instr)
+from_array_stores = array_stores_and_stack_moves ++ from_arithmetic
+
+abbrev pub from_local_stores : List (ℕ × Instr)
+from_local_stores = local_stores ++ from_array_stores
+
+abbrev pub from_array_loads : List (ℕ × Instr)
+from_array_loads = reference_and_array_loads ++ from_local_stores

@@ -21,9 +21,10 @@ fn placed_in(
 ) -> Result<Option<(u32, Instr)>, NoMemory>
     ensures { IfOk result (λ found. found ≡ placed_in world.now pool.now placed.now) }
 {
-    match instr_in(alloc, world, pool, &placed.1)? {
-        Some(instr) => Ok(Some((placed.0, instr))),
-        None => Ok(None),
+    match instr_in(alloc, world, pool, &placed.1) {
+        Ok(Some(instr)) => Ok(Some((placed.0, instr))),
+        Ok(None) => Ok(None),
+        Err(fault) => Err(fault),
     }
 }
 
@@ -40,7 +41,11 @@ pub fn code_of(
     let mut instrs = Seq::new(alloc);
     for placed in code {
         match placed_in(alloc, world, pool, placed) {
-            Ok(Some(instr)) => instrs.push(instr)?,
+            Ok(Some(instr)) => {
+                let Ok(()) = instrs.push(instr) else {
+                    return Err(NoMemory);
+                };
+            }
             Ok(None) => return Ok(None),
             Err(fault) => return Err(fault),
         }

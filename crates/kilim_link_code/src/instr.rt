@@ -20,9 +20,10 @@ use std::alloc::Global;
 fn jump(number: u8, to: &i64) -> Result<Option<Instr>, NoMemory>
     ensures { IfOk result (λ instr. instr ≡ applied (row jump_instrs number) (place_of to.now)) }
 {
-    match place_of(to)? {
-        Some(place) => Ok(jump_instr(number, place)),
-        None => Ok(None),
+    match place_of(to) {
+        Ok(Some(place)) => Ok(jump_instr(number, place)),
+        Ok(None) => Ok(None),
+        Err(fault) => Err(fault),
     }
 }
 
@@ -57,8 +58,12 @@ fn table_switch(
 ) -> Result<Option<Instr>, NoMemory>
     ensures { IfOk result (λ instr. instr ≡ applied (option_map (λ to. Tableswitch to low) (place_of default.now)) (each_of place_of targets.now)) }
 {
-    let first = place_of(default)?;
-    let places = places_of(alloc, targets)?;
+    let Ok(first) = place_of(default) else {
+        return Err(NoMemory);
+    };
+    let Ok(places) = places_of(alloc, targets) else {
+        return Err(NoMemory);
+    };
     Ok(table_of(first, low, places))
 }
 
@@ -82,8 +87,12 @@ fn lookup_switch(
 ) -> Result<Option<Instr>, NoMemory>
     ensures { IfOk result (λ instr. instr ≡ applied (option_map (λ to. λ each. Lookupswitch to each) (place_of default.now)) (each_of pair_in pairs.now)) }
 {
-    let first = place_of(default)?;
-    let places = pairs_of(alloc, pairs)?;
+    let Ok(first) = place_of(default) else {
+        return Err(NoMemory);
+    };
+    let Ok(places) = pairs_of(alloc, pairs) else {
+        return Err(NoMemory);
+    };
     Ok(lookup_of(first, places))
 }
 

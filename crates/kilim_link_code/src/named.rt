@@ -44,9 +44,10 @@ fn field_found(
 ) -> Result<Option<FieldId>, NoMemory>
     ensures { IfOk result (λ found. found ≡ field_found world.now (record { owner = owner.now; name = signature.now.name; descriptor = signature.now.descriptor })) }
 {
-    match owner_class(alloc, world, owner)? {
-        Some(class) => Ok(world.find_field(class, signature)),
-        None => Ok(None),
+    match owner_class(alloc, world, owner) {
+        Ok(Some(class)) => Ok(world.find_field(class, signature)),
+        Ok(None) => Ok(None),
+        Err(fault) => Err(fault),
     }
 }
 
@@ -59,9 +60,10 @@ fn method_found(
 ) -> Result<Option<MethodId>, NoMemory>
     ensures { IfOk result (λ found. found ≡ method_found world.now (record { owner = owner.now; name = signature.now.name; descriptor = signature.now.descriptor })) }
 {
-    match owner_class(alloc, world, owner)? {
-        Some(class) => Ok(world.find_method(class, signature)),
-        None => Ok(None),
+    match owner_class(alloc, world, owner) {
+        Ok(Some(class)) => Ok(world.find_method(class, signature)),
+        Ok(None) => Ok(None),
+        Err(fault) => Err(fault),
     }
 }
 

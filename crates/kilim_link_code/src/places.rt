@@ -28,7 +28,11 @@ pub fn places_of(alloc: Global, targets: &[i64]) -> Result<Option<Seq<u32>>, NoM
     let mut places = Seq::new(alloc);
     for to in targets {
         match place_of(to) {
-            Ok(Some(place)) => places.push(place)?,
+            Ok(Some(place)) => {
+                let Ok(()) = places.push(place) else {
+                    return Err(NoMemory);
+                };
+            }
             Ok(None) => return Ok(None),
             Err(fault) => return Err(fault),
         }
@@ -40,9 +44,10 @@ pub fn places_of(alloc: Global, targets: &[i64]) -> Result<Option<Seq<u32>>, NoM
 fn pair_in(pair: &(i32, i64)) -> Result<Option<(i32, u32)>, NoMemory>
     ensures { IfOk result (λ found. found ≡ pair_in pair.now) }
 {
-    match place_of(&pair.1)? {
-        Some(place) => Ok(Some((pair.0, place))),
-        None => Ok(None),
+    match place_of(&pair.1) {
+        Ok(Some(place)) => Ok(Some((pair.0, place))),
+        Ok(None) => Ok(None),
+        Err(fault) => Err(fault),
     }
 }
 
@@ -53,7 +58,11 @@ pub fn pairs_of(alloc: Global, pairs: &[(i32, i64)]) -> Result<Option<Seq<(i32, 
     let mut found = Seq::new(alloc);
     for pair in pairs {
         match pair_in(pair) {
-            Ok(Some(made)) => found.push(made)?,
+            Ok(Some(made)) => {
+                let Ok(()) = found.push(made) else {
+                    return Err(NoMemory);
+                };
+            }
             Ok(None) => return Ok(None),
             Err(fault) => return Err(fault),
         }

@@ -2,13 +2,139 @@
 
 ghost use Rattle.std.specs.Prelude.{◌≡◌, Some};
 ghost use Rattle.kilim_link_spec.specs.Code.{row, plain_instrs, local_instrs, jump_instrs, constant_instrs, field_instrs, method_instrs, type_instrs, array_codes, applied};
-ghost use Rattle.kilim_link_spec.specs.World.{or_else};
-ghost use Rattle.kilim_link_code.specs.Groups.{constants_and_loads, reference_and_array_loads, local_stores, array_stores_and_stack_moves, arithmetic, shifts_and_bit_operations, conversions_and_returns};
+ghost use Rattle.kilim_link_code.specs.Groups.{from_array_loads, from_local_stores, from_array_stores, from_arithmetic, from_shifts, conversions_and_returns};
 
 use kilim_classes::{Base, FieldId, Instr, MethodId, Ty, Value};
 
-fn constants_and_loads(number: u8) -> Option<Instr>
-    ensures { result ≡ row constants_and_loads number }
+// Conversions, a comparison, returns and the length of an array.
+fn conversions_and_returns(number: u8) -> Option<Instr>
+    ensures { result ≡ row conversions_and_returns number }
+{
+    match number {
+        133 => Some(Instr::I2l),
+        136 => Some(Instr::L2i),
+        145 => Some(Instr::I2b),
+        146 => Some(Instr::I2c),
+        147 => Some(Instr::I2s),
+        148 => Some(Instr::Lcmp),
+        172 => Some(Instr::Ireturn),
+        173 => Some(Instr::Lreturn),
+        176 => Some(Instr::Areturn),
+        177 => Some(Instr::Return),
+        190 => Some(Instr::Arraylength),
+        _ => None,
+    }
+}
+
+// Shifts and bit operations, and those behind them.
+fn from_shifts(number: u8) -> Option<Instr>
+    ensures { result ≡ row from_shifts number }
+{
+    match number {
+        120 => Some(Instr::Ishl),
+        121 => Some(Instr::Lshl),
+        122 => Some(Instr::Ishr),
+        123 => Some(Instr::Lshr),
+        124 => Some(Instr::Iushr),
+        125 => Some(Instr::Lushr),
+        126 => Some(Instr::Iand),
+        127 => Some(Instr::Land),
+        128 => Some(Instr::Ior),
+        129 => Some(Instr::Lor),
+        130 => Some(Instr::Ixor),
+        131 => Some(Instr::Lxor),
+        _ => conversions_and_returns(number),
+    }
+}
+
+// Arithmetic, and those behind it.
+fn from_arithmetic(number: u8) -> Option<Instr>
+    ensures { result ≡ row from_arithmetic number }
+{
+    match number {
+        96 => Some(Instr::Iadd),
+        97 => Some(Instr::Ladd),
+        100 => Some(Instr::Isub),
+        101 => Some(Instr::Lsub),
+        104 => Some(Instr::Imul),
+        105 => Some(Instr::Lmul),
+        108 => Some(Instr::Idiv),
+        109 => Some(Instr::Ldiv),
+        112 => Some(Instr::Irem),
+        113 => Some(Instr::Lrem),
+        116 => Some(Instr::Ineg),
+        117 => Some(Instr::Lneg),
+        _ => from_shifts(number),
+    }
+}
+
+// Stores to arrays and moves on the stack, and those behind them.
+fn from_array_stores(number: u8) -> Option<Instr>
+    ensures { result ≡ row from_array_stores number }
+{
+    match number {
+        79 => Some(Instr::Iastore),
+        80 => Some(Instr::Lastore),
+        83 => Some(Instr::Aastore),
+        84 => Some(Instr::Bastore),
+        85 => Some(Instr::Castore),
+        86 => Some(Instr::Sastore),
+        87 => Some(Instr::Pop),
+        88 => Some(Instr::Pop2),
+        89 => Some(Instr::Dup),
+        90 => Some(Instr::DupX1),
+        91 => Some(Instr::DupX2),
+        92 => Some(Instr::Dup2),
+        93 => Some(Instr::Dup2X1),
+        94 => Some(Instr::Dup2X2),
+        95 => Some(Instr::Swap),
+        _ => from_arithmetic(number),
+    }
+}
+
+// Stores to local slots, and those behind them.
+fn from_local_stores(number: u8) -> Option<Instr>
+    ensures { result ≡ row from_local_stores number }
+{
+    match number {
+        59 => Some(Instr::Istore(0)),
+        60 => Some(Instr::Istore(1)),
+        61 => Some(Instr::Istore(2)),
+        62 => Some(Instr::Istore(3)),
+        63 => Some(Instr::Lstore(0)),
+        64 => Some(Instr::Lstore(1)),
+        65 => Some(Instr::Lstore(2)),
+        66 => Some(Instr::Lstore(3)),
+        75 => Some(Instr::Astore(0)),
+        76 => Some(Instr::Astore(1)),
+        77 => Some(Instr::Astore(2)),
+        78 => Some(Instr::Astore(3)),
+        _ => from_array_stores(number),
+    }
+}
+
+// Loads of references and from arrays, and those behind them.
+fn from_array_loads(number: u8) -> Option<Instr>
+    ensures { result ≡ row from_array_loads number }
+{
+    match number {
+        42 => Some(Instr::Aload(0)),
+        43 => Some(Instr::Aload(1)),
+        44 => Some(Instr::Aload(2)),
+        45 => Some(Instr::Aload(3)),
+        46 => Some(Instr::Iaload),
+        47 => Some(Instr::Laload),
+        50 => Some(Instr::Aaload),
+        51 => Some(Instr::Baload),
+        52 => Some(Instr::Caload),
+        53 => Some(Instr::Saload),
+        _ => from_local_stores(number),
+    }
+}
+
+/// The instruction of a number without operands, a short form as its long form; nothing for other numbers.
+pub fn plain_instr(number: u8) -> Option<Instr>
+    ensures { result ≡ row plain_instrs number }
 {
     match number {
         0 => Some(Instr::Nop),
@@ -30,156 +156,8 @@ fn constants_and_loads(number: u8) -> Option<Instr>
         31 => Some(Instr::Lload(1)),
         32 => Some(Instr::Lload(2)),
         33 => Some(Instr::Lload(3)),
-        _ => None,
+        _ => from_array_loads(number),
     }
-}
-
-fn reference_and_array_loads(number: u8) -> Option<Instr>
-    ensures { result ≡ row reference_and_array_loads number }
-{
-    match number {
-        42 => Some(Instr::Aload(0)),
-        43 => Some(Instr::Aload(1)),
-        44 => Some(Instr::Aload(2)),
-        45 => Some(Instr::Aload(3)),
-        46 => Some(Instr::Iaload),
-        47 => Some(Instr::Laload),
-        50 => Some(Instr::Aaload),
-        51 => Some(Instr::Baload),
-        52 => Some(Instr::Caload),
-        53 => Some(Instr::Saload),
-        _ => None,
-    }
-}
-
-fn local_stores(number: u8) -> Option<Instr>
-    ensures { result ≡ row local_stores number }
-{
-    match number {
-        59 => Some(Instr::Istore(0)),
-        60 => Some(Instr::Istore(1)),
-        61 => Some(Instr::Istore(2)),
-        62 => Some(Instr::Istore(3)),
-        63 => Some(Instr::Lstore(0)),
-        64 => Some(Instr::Lstore(1)),
-        65 => Some(Instr::Lstore(2)),
-        66 => Some(Instr::Lstore(3)),
-        75 => Some(Instr::Astore(0)),
-        76 => Some(Instr::Astore(1)),
-        77 => Some(Instr::Astore(2)),
-        78 => Some(Instr::Astore(3)),
-        _ => None,
-    }
-}
-
-fn array_stores_and_stack_moves(number: u8) -> Option<Instr>
-    ensures { result ≡ row array_stores_and_stack_moves number }
-{
-    match number {
-        79 => Some(Instr::Iastore),
-        80 => Some(Instr::Lastore),
-        83 => Some(Instr::Aastore),
-        84 => Some(Instr::Bastore),
-        85 => Some(Instr::Castore),
-        86 => Some(Instr::Sastore),
-        87 => Some(Instr::Pop),
-        88 => Some(Instr::Pop2),
-        89 => Some(Instr::Dup),
-        90 => Some(Instr::DupX1),
-        91 => Some(Instr::DupX2),
-        92 => Some(Instr::Dup2),
-        93 => Some(Instr::Dup2X1),
-        94 => Some(Instr::Dup2X2),
-        95 => Some(Instr::Swap),
-        _ => None,
-    }
-}
-
-fn arithmetic(number: u8) -> Option<Instr>
-    ensures { result ≡ row arithmetic number }
-{
-    match number {
-        96 => Some(Instr::Iadd),
-        97 => Some(Instr::Ladd),
-        100 => Some(Instr::Isub),
-        101 => Some(Instr::Lsub),
-        104 => Some(Instr::Imul),
-        105 => Some(Instr::Lmul),
-        108 => Some(Instr::Idiv),
-        109 => Some(Instr::Ldiv),
-        112 => Some(Instr::Irem),
-        113 => Some(Instr::Lrem),
-        116 => Some(Instr::Ineg),
-        117 => Some(Instr::Lneg),
-        _ => None,
-    }
-}
-
-fn shifts_and_bit_operations(number: u8) -> Option<Instr>
-    ensures { result ≡ row shifts_and_bit_operations number }
-{
-    match number {
-        120 => Some(Instr::Ishl),
-        121 => Some(Instr::Lshl),
-        122 => Some(Instr::Ishr),
-        123 => Some(Instr::Lshr),
-        124 => Some(Instr::Iushr),
-        125 => Some(Instr::Lushr),
-        126 => Some(Instr::Iand),
-        127 => Some(Instr::Land),
-        128 => Some(Instr::Ior),
-        129 => Some(Instr::Lor),
-        130 => Some(Instr::Ixor),
-        131 => Some(Instr::Lxor),
-        _ => None,
-    }
-}
-
-fn conversions_and_returns(number: u8) -> Option<Instr>
-    ensures { result ≡ row conversions_and_returns number }
-{
-    match number {
-        133 => Some(Instr::I2l),
-        136 => Some(Instr::L2i),
-        145 => Some(Instr::I2b),
-        146 => Some(Instr::I2c),
-        147 => Some(Instr::I2s),
-        148 => Some(Instr::Lcmp),
-        172 => Some(Instr::Ireturn),
-        173 => Some(Instr::Lreturn),
-        176 => Some(Instr::Areturn),
-        177 => Some(Instr::Return),
-        190 => Some(Instr::Arraylength),
-        _ => None,
-    }
-}
-
-// The first one that there is.
-fn either(first: Option<Instr>, later: Option<Instr>) -> Option<Instr>
-    ensures { result ≡ or_else first later }
-{
-    match first {
-        Some(found) => {
-            drop(later);
-            Some(found)
-        }
-        None => later,
-    }
-}
-
-/// The instruction of a number without operands, a short form as its long form; nothing for other numbers.
-pub fn plain_instr(number: u8) -> Option<Instr>
-    ensures { result ≡ row plain_instrs number }
-{
-    let ends = either(
-        shifts_and_bit_operations(number),
-        conversions_and_returns(number),
-    );
-    let computations = either(arithmetic(number), ends);
-    let array_or_stack = either(array_stores_and_stack_moves(number), computations);
-    let stores = either(local_stores(number), array_or_stack);
-    let loads = either(reference_and_array_loads(number), stores);
-    either(constants_and_loads(number), loads)
 }
 
 /// The load or the store of a local slot with this number; nothing for other numbers.

@@ -10,5 +10,5 @@ returns c =
     let low = c.ranges.low in
     let made = simp to_z-of_z at c.table_of.ensures in
     made
-    ∙ (ap (λ (first : Option ℕ). applied (option_map (λ to. Tableswitch to c.args.low) first) c.in_ok-places.places) c.in_ok-first.ensures
-    ∙ ap (λ (places : Option (List ℕ)). applied (option_map (λ to. Tableswitch to c.args.low) (place_of c.args.default.now)) places) c.in_ok-places.ensures)
+    ∙ (ap (λ (first : Option ℕ). applied (option_map (λ to. Tableswitch to c.args.low) first) c.in-Ok-places_of.places) c.in-Ok.ensures
+    ∙ ap (λ (places : Option (List ℕ)). applied (option_map (λ to. Tableswitch to c.args.low) (place_of c.args.default.now)) places) c.in-Ok-places_of.ensures)
