@@ -1,8 +1,7 @@
 -- Files by their names, as a list of named files.
-use Rattle.std.proofs.Common.{◌≡◌, ℕ, Bool, true, false, cond, List, [], ◌∷◌, map, Option, Some, None, Bor, refl, sym, ap, ◌∙◌, nat_eq}
-use Rattle.std.specs.Prelude.{◌≢◌, ◌||◌, find, is_some}
-use Rattle.std.specs.List.{list_any}
-use Rattle.std.specs.Option.{option_copied, option_map}
+use Rattle.std.proofs.Common.{◌≡◌, ℕ, Bool, true, false, cond, List, [], ◌∷◌, map, Option, Some, None, refl, ap, ◌∙◌, nat_eq}
+use Rattle.std.specs.Prelude.{◌≢◌, find}
+use Rattle.std.specs.Option.{option_map}
 use Rattle.std.specs.Ordering.{nat_cmp, eq_by_cmp, is_eq}
 use Rattle.std.specs.declared.cmp.Ordering.TheVariants.{Less, Equal, Greater}
 use Rattle.std.specs.Cmp.{tied_itself}
@@ -54,47 +53,3 @@ other_test b x y e = rw e refl
 pub get_other : (name bytes other : List ℕ) (files : List NamedFile) → other ≢ name → get (files_of (record { name = name; bytes = bytes } ∷ files)) other ≡ get (files_of files) other
 get_other name bytes other files ne =
     get-insert nat_list_cmp_total (files_of files) name bytes other ∙ other_test _ (Some bytes) _ (not_tied other name ne)
-
--- the test for a name finds what the map has
-any_is_found : (name : List ℕ) (files : List NamedFile) → list_any (λ file. pointwise nat_eq name file.name) files ≡ is_some (entries.find (slice_cmp nat_cmp) name (map entry_of files))
-any_is_found name [] = refl
-any_is_found name (file ∷ files) =
-    rw (texts_ties name file.name)
-    (elim (eq_by_cmp (slice_cmp nat_cmp) name file.name) as (λ b. (b || list_any (λ f. pointwise nat_eq name f.name) files) ≡ is_some (cond b (Some file.bytes) (entries.find (slice_cmp nat_cmp) name (map entry_of files)))) [
-      | true ↦ refl
-      | false ↦ any_is_found name files
-    ])
-
-any_is_there : (name : List ℕ) (files : List NamedFile) → list_any (λ file. pointwise nat_eq name file.name) files ≡ is_some (get (files_of files) name)
-any_is_there name files = rw (get-from_entries nat_list_cmp_total (map entry_of files) name) (any_is_found name files)
-
-pub is_there : (name : List ℕ) (files : List NamedFile) → list_any (λ file. pointwise nat_eq name file.name) files ≡ true → is_some (get (files_of files) name) ≡ true
-is_there name files e = sym (any_is_there name files) ∙ e
-
-not_some : (found : Option (List ℕ)) → is_some found ≡ false → found ≡ None
-not_some None e = refl
-not_some (Some bytes) e = absurd (cc)
-
-pub is_absent : (name : List ℕ) (files : List NamedFile) → list_any (λ file. pointwise nat_eq name file.name) files ≡ false → get (files_of files) name ≡ None
-is_absent name files e = not_some (get (files_of files) name) (sym (any_is_there name files) ∙ e)
-
-find_any : (test : NamedFile → Bool) (files : List NamedFile) → is_some (find test files) ≡ list_any test files
-find_any test [] = refl
-find_any test (file ∷ files) =
-    elim (test file) as (λ b. is_some (cond b (Some file) (find test files)) ≡ (b || list_any test files)) [
-      | true ↦ refl
-      | false ↦ find_any test files
-    ]
-
-copied_some : (found : Option (Bor NamedFile)) → is_some (option_copied found) ≡ is_some found
-copied_some None = refl
-copied_some (Some file) = refl
-
--- one is there where the first one is
-pub has_found : (found : Option (Bor NamedFile)) (bytes name : List ℕ) (all files : List NamedFile) (has : Bool) → option_copied found ≡ find (λ file. pointwise nat_eq bytes file.name) all → bytes ≡ name → all ≡ files → has ≡ is_some found →
-    has ≡ list_any (λ file. pointwise nat_eq name file.name) files
-has_found found bytes name all files has first same these is =
-    is ∙ (sym (copied_some found) ∙ (ap (λ (o : Option NamedFile). is_some o) first
-    ∙ (ap (λ (b : List ℕ). is_some (find (λ file. pointwise nat_eq b file.name) all)) same
-    ∙ (ap (λ (fs : List NamedFile). is_some (find (λ file. pointwise nat_eq name file.name) fs)) these
-    ∙ find_any (λ file. pointwise nat_eq name file.name) files))))

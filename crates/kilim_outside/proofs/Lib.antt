@@ -1,4 +1,3 @@
 pub mod FileLemmas
 pub mod Refused
 pub mod Started
-pub mod Sinks

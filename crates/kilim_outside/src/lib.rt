@@ -15,9 +15,9 @@ mod sink;
 pub mod words;
 
 pub use folder::{FailedCall, Folder, FolderFault};
-pub use gate::{Gate, HoldGate, NoteGate, OpenGate};
+pub use gate::{Gate, OpenGate};
 pub use limits::file_limit;
-pub use memory_folder::{MapFolder, NamedFile, SteadyFolder};
-pub use memory_sink::{SteadySink, VecSink};
+pub use memory_folder::{NamedFile, SteadyFolder};
+pub use memory_sink::SteadySink;
 pub use real::{DiskFolder, OutSink};
 pub use sink::{SinkFault, TextSink};

@@ -1,10 +1,11 @@
 //! Calls of the top call over files and sinks in memory.
 
+use crate::gates::{HoldGate, NoteGate};
 use crate::left::{push_files, push_status};
 use crate::sorted::push_sorted;
 use crate::world::{World, load};
 use kilim_case_text::Text;
-use kilim_outside::{Gate, HoldGate, NoteGate, OpenGate};
+use kilim_outside::{Gate, OpenGate};
 use kilim_top::{kilim, kilim_alone};
 use std::alloc::Global;
 use std::rt::Files;

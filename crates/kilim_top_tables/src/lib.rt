@@ -3,7 +3,10 @@
 
 mod calls;
 mod cases;
+mod folder;
+mod gates;
 mod left;
+mod sink;
 mod sorted;
 mod world;
 

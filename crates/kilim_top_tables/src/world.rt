@@ -1,7 +1,9 @@
 //! What a call is made over, in memory.
 
+use crate::folder::MapFolder;
+use crate::sink::VecSink;
 use kilim_case_text::changed;
-use kilim_outside::{MapFolder, NamedFile, VecSink};
+use kilim_outside::NamedFile;
 use kilim_units::Seq;
 use std::alloc::Global;
 use std::rt::Files;
