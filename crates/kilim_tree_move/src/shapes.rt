@@ -30,7 +30,9 @@ fn push_letter(out: &mut Vec<u16>, letter: u8) -> Result<(), AllocError>
 fn push_token(tokens: &mut Vec<Token>, token: Token) -> Result<(), AllocError>
     ensures { OnOk result (tokens.new.items ≡ tokens.old.items ++ token ∷ []) }
 {
-    tokens.push(token)?;
+    let Ok(()) = tokens.push(token) else {
+        return Err(AllocError);
+    };
     Ok(())
 }
 
@@ -57,8 +59,12 @@ fn push_class_name(out: &mut Vec<u16>, program: &Program, class: ClassId) -> Res
 fn push_class(out: &mut Vec<u16>, program: &Program, class: ClassId) -> Result<(), AllocError>
     ensures { OnOk result (out.new.items ≡ out.old.items ++ base_descriptor program.now (base.Class class)) }
 {
-    push_letter(out, b'L')?;
-    push_class_name(out, program, class)?;
+    let Ok(()) = push_letter(out, b'L') else {
+        return Err(AllocError);
+    };
+    let Ok(()) = push_class_name(out, program, class) else {
+        return Err(AllocError);
+    };
     push_letter(out, b';')
 }
 
@@ -81,7 +87,9 @@ fn push_brackets(out: &mut Vec<u16>, dims: u8) -> Result<(), AllocError>
 {
     for k in 0..dims {
         let _ = k;
-        push_letter(out, BRACKET)?;
+        let Ok(()) = push_letter(out, BRACKET) else {
+            return Err(AllocError);
+        };
     }
     Ok(())
 }
@@ -89,9 +97,10 @@ fn push_brackets(out: &mut Vec<u16>, dims: u8) -> Result<(), AllocError>
 fn push_descriptor(out: &mut Vec<u16>, program: &Program, ty: Ty) -> Result<(), AllocError>
     ensures { OnOk result (out.new.items ≡ out.old.items ++ descriptor program.now ty) }
 {
-    push_brackets(out, ty.dims)?;
-    push_base(out, program, ty.base)?;
-    Ok(())
+    let Ok(()) = push_brackets(out, ty.dims) else {
+        return Err(AllocError);
+    };
+    push_base(out, program, ty.base)
 }
 
 // The name of a class, which isn't copied.
@@ -113,7 +122,9 @@ fn base_shown(alloc: Global, program: &Program, base: Base) -> Result<Units, All
         Base::Class(class) => class_shown(alloc, program, class),
         _ => {
             let mut out = Vec::new(alloc);
-            push_base(&mut out, program, base)?;
+            let Ok(()) = push_base(&mut out, program, base) else {
+                return Err(AllocError);
+            };
             Units::from_vec(alloc, out)
         }
     }
@@ -126,15 +137,19 @@ fn shown(alloc: Global, program: &Program, ty: Ty) -> Result<Units, AllocError>
         return base_shown(alloc, program, ty.base);
     }
     let mut out = Vec::new(alloc);
-    push_descriptor(&mut out, program, ty)?;
+    let Ok(()) = push_descriptor(&mut out, program, ty) else {
+        return Err(AllocError);
+    };
     Units::from_vec(alloc, out)
 }
 
 fn push_text(tokens: &mut Vec<Token>, units: &Units) -> Result<(), AllocError>
     ensures { OnOk result (tokens.new.items ≡ tokens.old.items ++ token.Text units.now ∷ []) }
 {
-    let copy = units.clone()?;
-    push_token(tokens, Token::Text(copy))
+    match units.clone() {
+        Ok(copy) => push_token(tokens, Token::Text(copy)),
+        Err(fault) => Err(fault),
+    }
 }
 
 // A value that is no object has one token.
@@ -186,10 +201,13 @@ fn begin(
     ensures tokens { OnOk result (tokens.new.items ≡ tokens.old.items ++ opening program.now objects.now at) }
     ensures frames { OnOk result (frames.new.items ≡ frames.old.items ++ (at, 0) ∷ []) }
 {
-    let name = shown(alloc, program, objects[at as usize].class)?;
-    push_token(tokens, Token::Open(name))?;
-    push_frame(frames, at, 0)?;
-    Ok(())
+    let Ok(name) = shown(alloc, program, objects[at as usize].class) else {
+        return Err(NoMemory);
+    };
+    let Ok(()) = push_token(tokens, Token::Open(name)) else {
+        return Err(NoMemory);
+    };
+    push_frame(frames, at, 0)
 }
 
 // One token, or the beginning of an object.
@@ -206,8 +224,50 @@ fn emit(
 {
     match value {
         Value::Ref(at) => begin(alloc, program, objects, *at, tokens, frames),
-        _ => Ok(push_plain(tokens, value)?),
+        _ => match push_plain(tokens, value) {
+            Ok(()) => Ok(()),
+            Err(_) => Err(NoMemory),
+        },
     }
+}
+
+// Adds the tokens of the first object.
+fn emit_into(
+    alloc: Global,
+    program: &Program,
+    objects: &[Object],
+    tokens: &mut Vec<Token>,
+    frames: &mut Vec<(u32, usize)>,
+) -> Result<(), NoMemory>
+    requires shape { HasShape program.now objects.now }
+    requires no_tokens { tokens.old.items ≡ [] }
+    requires no_frames { frames.old.items ≡ [] }
+    ensures { OnOk result (AreTokens program.now objects.now tokens.new.items) }
+{
+    let Ok(()) = begin(alloc, program, objects, 0, tokens, frames) else {
+        return Err(NoMemory);
+    };
+    while let Some((at, next)) = frames.pop() {
+        match value_at(objects, at as usize, next) {
+            None => {
+                let Ok(()) = push_token(tokens, Token::Close) else {
+                    return Err(NoMemory);
+                };
+            }
+            Some(value) => {
+                let Some(after) = next.checked_add(1) else {
+                    return Err(NoMemory);
+                };
+                let Ok(()) = push_frame(frames, at, after) else {
+                    return Err(NoMemory);
+                };
+                let Ok(()) = emit(alloc, program, objects, value, tokens, frames) else {
+                    return Err(NoMemory);
+                };
+            }
+        }
+    }
+    Ok(())
 }
 
 // The tokens of the first object.
@@ -217,20 +277,10 @@ fn emit_all(alloc: Global, program: &Program, objects: &[Object]) -> Result<Vec<
 {
     let mut tokens = Vec::new(alloc);
     let mut frames = Vec::new(alloc);
-    begin(alloc, program, objects, 0, &mut tokens, &mut frames)?;
-    while let Some((at, next)) = frames.pop() {
-        match value_at(objects, at as usize, next) {
-            None => push_token(&mut tokens, Token::Close)?,
-            Some(value) => {
-                let Some(after) = next.checked_add(1) else {
-                    return Err(NoMemory);
-                };
-                push_frame(&mut frames, at, after)?;
-                emit(alloc, program, objects, value, &mut tokens, &mut frames)?;
-            }
-        }
+    match emit_into(alloc, program, objects, &mut tokens, &mut frames) {
+        Ok(()) => Ok(tokens),
+        Err(fault) => Err(fault),
     }
-    Ok(tokens)
 }
 
 /// The shape of a tree under a program.
@@ -240,5 +290,8 @@ pub fn shape(program: &Program, tree: &Tree) -> Result<Shape, NoMemory>
 {
     let objects = tree.objects.as_slice();
     let alloc = *tree.objects.allocator();
-    Ok(Seq::from_vec(emit_all(alloc, program, objects)?))
+    match emit_all(alloc, program, objects) {
+        Ok(tokens) => Ok(Seq::from_vec(tokens)),
+        Err(fault) => Err(fault),
+    }
 }

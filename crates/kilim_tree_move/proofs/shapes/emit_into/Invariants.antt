@@ -3,7 +3,7 @@ use Rattle.kilim_classes.specs.machine.Shapes.{tree_limit}
 use Rattle.kilim_tree_move.specs.Moved.{tree_heap}
 use Rattle.kilim_tree_move.specs.Emitted.{to_come}
 use Rattle.kilim_tree_move.proofs.Emitting.{Emitting, left_of}
-use Rattle.kilim_tree_move.proofs.shapes.emit_all.Given as goal
+use Rattle.kilim_tree_move.proofs.shapes.emit_into.Given as goal
 
 abbrev pub invariant-loop-at : goal.invariant-loop-at
 invariant-loop-at l = Emitting l.program l.objects tree_limit l.tokens.items (reverse l.frames.items)
