@@ -47,11 +47,16 @@ pub fn read(alloc: Global, bytes: &[u8]) -> Result<Units, TextFault>
     while !rest.is_empty() {
         match unit_at(rest) {
             Ok((unit, after)) => {
-                units.push(unit)?;
+                let Ok(()) = units.push(unit) else {
+                    return Err(TextFault::Memory);
+                };
                 rest = after;
             }
             Err(fault) => return Err(placed(bytes.len() - rest.len(), fault)),
         }
     }
-    Ok(Units::from_vec(alloc, units)?)
+    let Ok(text) = Units::from_vec(alloc, units) else {
+        return Err(TextFault::Memory);
+    };
+    Ok(text)
 }

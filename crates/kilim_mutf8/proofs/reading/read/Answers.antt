@@ -10,7 +10,7 @@ loop-rest-smaller c = shorter c.loop-rest.rest.now c.in-Ok.unit c.in-Ok.after.no
 pub loop-rest-preserved : goal.loop-rest-preserved
 loop-rest-preserved c =
     let m = one_more c.args.bytes.now c.loop-rest.units.items c.loop-rest.rest.now c.in-Ok.unit c.in-Ok.after.now c.loop-rest.invariant.parts c.loop-rest.invariant.fit c.in-Ok.ensures in
-    record { parts = rw c.in_ok-push-in-Ok.ensures.items m.0; fit = rw c.in_ok-push-in-Ok.ensures.items m.1 }
+    record { parts = rw c.in-Ok-push.ensures.items m.0; fit = rw c.in-Ok-push.ensures.items m.1 }
 
 pub returns-in-Err-clause-only : goal.returns-in-Err-clause-only
 returns-in-Err-clause-only c = λ units fit e.
@@ -24,7 +24,7 @@ returns-in-Err-clause-first c = λ fault h.
 
 pub returns-clause-only : goal.returns-clause-only
 returns-clause-only c = λ units fit e.
-    c.in_ok-from_vec.ensures ∙ all_read c.args.bytes.now c.loop-rest.units.items c.loop-rest.rest.now c.loop-rest.invariant.parts c.loop-rest.invariant.fit (emptied c.loop-rest.rest.now c.loop-rest-test.ensures) units fit e
+    c.in-Ok-from_vec.ensures ∙ all_read c.args.bytes.now c.loop-rest.units.items c.loop-rest.rest.now c.loop-rest.invariant.parts c.loop-rest.invariant.fit (emptied c.loop-rest.rest.now c.loop-rest-test.ensures) units fit e
 
 pub returns-clause-first : goal.returns-clause-first
 returns-clause-first c = λ fault h.
@@ -37,4 +37,4 @@ returns-in-Err-clause-units c =
 
 pub returns-clause-units : goal.returns-clause-units
 returns-clause-units c =
-    rw c.in_ok-from_vec.ensures (all_units c.args.bytes.now c.loop-rest.units.items c.loop-rest.rest.now c.loop-rest.invariant.parts c.loop-rest.invariant.fit (emptied c.loop-rest.rest.now c.loop-rest-test.ensures))
+    rw c.in-Ok-from_vec.ensures (all_units c.args.bytes.now c.loop-rest.units.items c.loop-rest.rest.now c.loop-rest.invariant.parts c.loop-rest.invariant.fit (emptied c.loop-rest.rest.now c.loop-rest-test.ensures))
