@@ -55,7 +55,9 @@ fn push_front(
     let mut at = class;
     let mut left = ups.len();
     while left > 0 {
-        classes.push(at)?;
+        let Ok(()) = classes.push(at) else {
+            return Err(NoMemory);
+        };
         let Some(up) = superclass_in(ups, at) else {
             return Ok(0);
         };

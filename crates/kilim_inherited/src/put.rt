@@ -54,7 +54,9 @@ pub fn opened(nodes: &mut Seq<Node>, tree: u32) -> Result<(u32, u32), NoMemory>
     match node_at(nodes.as_slice(), tree) {
         Some(Node::Branch(even, odd)) => Ok((even, odd)),
         Some(Node::Leaf(rest, value)) => {
-            let below = add(nodes, Node::Leaf(rest / 2, value))?;
+            let Ok(below) = add(nodes, Node::Leaf(rest / 2, value)) else {
+                return Err(NoMemory);
+            };
             Ok(if rest % 2 == 0 {
                 (below, 0)
             } else {
@@ -82,12 +84,18 @@ pub fn put(
     if levels == 0 || is_alone(nodes.as_slice(), tree, key) {
         return leaf(nodes, key, value);
     }
-    let (even, odd) = opened(nodes, tree)?;
+    let Ok((even, odd)) = opened(nodes, tree) else {
+        return Err(NoMemory);
+    };
     if key % 2 == 0 {
-        let even = put(nodes, levels - 1, even, key / 2, value)?;
+        let Ok(even) = put(nodes, levels - 1, even, key / 2, value) else {
+            return Err(NoMemory);
+        };
         branch(nodes, even, odd)
     } else {
-        let odd = put(nodes, levels - 1, odd, key / 2, value)?;
+        let Ok(odd) = put(nodes, levels - 1, odd, key / 2, value) else {
+            return Err(NoMemory);
+        };
         branch(nodes, even, odd)
     }
 }
