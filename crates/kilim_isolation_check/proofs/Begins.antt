@@ -1,16 +1,12 @@
 -- How methods begin, and what their paths give.
-use Rattle.std.proofs.Common.{◌≡◌, ℕ, ◌+◌, ◌<◌, Bool, true, false, ◌||◌, List, [], ◌∷◌, ◌++◌, length, drop, get_or, arith, Option, Some, None, Result, Ok, Err, refl, sym, ap, ◌∙◌, subst}
-use Rattle.std.proofs.lemmas.List.{drop_more, drop_all, append_assoc, append-nil}
+use Rattle.std.proofs.Common.{◌≡◌, ℕ, Bool, true, false, ◌||◌, List, [], ◌∷◌, Option, Some, None, Result, Ok, Err, refl, sym, ap, ◌∙◌, subst}
 use Rattle.kilim_classes.specs.declared.class.Method.{Method}
 use Rattle.kilim_classes.specs.declared.names.MethodId.{MethodId}
-use Rattle.kilim_classes.specs.declared.ty.Ty.{Ty}
 use Rattle.kilim_classes.specs.declared.verified.Frame.{Frame}
-use Rattle.kilim_classes.specs.declared.verified.VType.{VType}
-use Rattle.kilim_classes.specs.declared.verified.VType.TheVariants.{Long}
 use Rattle.kilim_classes.specs.Names.{method_at}
 use Rattle.kilim_classes.specs.Program.{Program}
-use Rattle.kilim_typing.specs.Step.{Types, vtype}
-use Rattle.kilim_typing.specs.Typed.{declared, entry, has_code, param_slots, slots_of_type}
+use Rattle.kilim_typing.specs.Step.{Types}
+use Rattle.kilim_typing.specs.Typed.{declared, entry, has_code}
 use Rattle.kilim_paths.specs.declared.report.Explored.{Explored}
 use Rattle.kilim_paths.specs.Answer.{IsAnswer}
 use Rattle.kilim_shape_graph.specs.declared.graph.Graph.{Graph}
@@ -18,18 +14,6 @@ use Rattle.kilim_isolation_rules.specs.Marks.{any_mixes}
 use Rattle.kilim_pausable_graph.specs.declared.report.Report.{Report}
 use Rattle.kilim_isolation_check.specs.Faults.{ArePathReports, ArePathsIf, ArePathsOf, shown}
 use Rattle.kilim_isolation_check.specs.Walks.{entry_graph, entry_mixes, machine_of}
-
-slots_more : (t : VType) (rest : List VType) → slots_of_type t rest ≡ slots_of_type t [] ++ rest
-slots_more Long rest = refl
-slots_more t rest = refl
-
-pub param_on : (tys : List Ty) (slots : List VType) (k : ℕ) (d : Ty) → k < length tys → (slots ++ slots_of_type (vtype (get_or tys k d)) []) ++ param_slots (drop (k + 1) tys) ≡ slots ++ param_slots (drop k tys)
-param_on tys slots k d h =
-    append_assoc slots (slots_of_type (vtype (get_or tys k d)) []) (param_slots (drop (k + 1) tys))
-    ∙ ap (λ xs. slots ++ xs) (sym (ap param_slots (drop_more tys k d h) ∙ slots_more (vtype (get_or tys k d)) (param_slots (drop (k + 1) tys))))
-
-pub params_end : (tys : List Ty) (slots : List VType) (k : ℕ) → k ≡ length tys → slots ++ param_slots (drop k tys) ≡ slots
-params_end tys slots k e = ap (λ xs. slots ++ param_slots xs) (drop_all k tys (omega arith)) ∙ append-nil slots
 
 or_none : (b : Bool) → (b || false) ≡ b
 or_none true = refl

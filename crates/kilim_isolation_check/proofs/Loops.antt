@@ -1,7 +1,6 @@
 -- Loops that append something for each element, by what is left.
-use Rattle.std.proofs.Common.{◌≡◌, ℕ, Bool, false, ◌+◌, ◌<◌, ◌≤◌, List, [], ◌∷◌, ◌++◌, length, get_or, map, take, drop, sym, ap, ◌∙◌, append_assoc}
+use Rattle.std.proofs.Common.{◌≡◌, ℕ, ◌+◌, ◌<◌, ◌≤◌, List, [], ◌∷◌, ◌++◌, length, get_or, map, take, drop, sym, ap, ◌∙◌, append_assoc}
 use Rattle.std.proofs.lemmas.List.{append-nil, drop_all, drop_more, take_all, take_more}
-use Rattle.std.specs.List.{list_any}
 
 pub mapped_on : {X A : Type 0} (f : X → A) (now next total : List A) (xs : List X) (i : ℕ) (x d : X) (y : A) → i < length xs → x ≡ get_or xs i d → now ++ map f (drop i xs) ≡ total → y ≡ f x → next ≡ now ++ y ∷ []
     → next ++ map f (drop (i + 1) xs) ≡ total
@@ -28,10 +27,6 @@ copied {A} before now next xs i x d lt is so_far step =
     step
     ∙ (ap (λ (z : A). now ++ z ∷ []) is
     ∙ (ap (λ (zs : List A). zs ++ get_or xs i d ∷ []) so_far ∙ (append_assoc before (take i xs) (get_or xs i d ∷ []) ∙ ap (λ (zs : List A). before ++ zs) (sym (take_more xs i d lt)))))
-
--- a search that finds nothing
-pub any_end : {X : Type 0} (test : X → Bool) (xs : List X) (i : ℕ) (b : Bool) → length xs ≤ i → list_any test (drop i xs) ≡ b → false ≡ b
-any_end test xs i b le so_far = sym (ap (list_any test) (drop_all i xs le)) ∙ so_far
 
 -- two lists that are the same as far as either goes
 pub same_end : {A : Type 0} (xs ys : List A) (k : ℕ) → length xs ≤ k → length ys ≤ k → take k xs ≡ take k ys → xs ≡ ys

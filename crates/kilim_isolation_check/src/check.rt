@@ -16,8 +16,12 @@ use std::alloc::Global;
 fn reports_of(alloc: Global, typed: &Typed, id: MethodId) -> Result<Seq<Report>, NoMemory>
     ensures { IfOk result (λ reports. spec.AreReportsOf typed.now id reports) }
 {
-    let walked = paths_of(alloc, typed, id)?;
-    let others = method_reports(alloc, typed, id)?;
+    let Ok(walked) = paths_of(alloc, typed, id) else {
+        return Err(NoMemory);
+    };
+    let Ok(others) = method_reports(alloc, typed, id) else {
+        return Err(NoMemory);
+    };
     merged(alloc, walked.as_slice(), others.as_slice())
 }
 
@@ -32,8 +36,12 @@ fn push_each(
     ensures { IfOk result (λ u. (done : List MethodId) → spec.AreReportsOfAll typed.now done reports.old → spec.AreReportsOfAll typed.now (done ++ ids.now) reports.new) }
 {
     for id in ids {
-        let more = reports_of(alloc, typed, *id)?;
-        append(alloc, reports, more.as_slice())?;
+        let Ok(more) = reports_of(alloc, typed, *id) else {
+            return Err(NoMemory);
+        };
+        let Ok(()) = append(alloc, reports, more.as_slice()) else {
+            return Err(NoMemory);
+        };
     }
     Ok(())
 }
@@ -51,7 +59,9 @@ pub fn all_reports(alloc: Global, typed: &Typed) -> Result<Seq<Report>, NoMemory
 {
     let mut reports = Seq::new(alloc);
     for class in classes_of(typed) {
-        push_each(alloc, typed, class.methods.as_slice(), &mut reports)?;
+        let Ok(()) = push_each(alloc, typed, class.methods.as_slice(), &mut reports) else {
+            return Err(NoMemory);
+        };
     }
     Ok(reports)
 }

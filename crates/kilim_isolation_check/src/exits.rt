@@ -25,9 +25,13 @@ fn two(alloc: Global, first: u32, second: u32) -> Result<Seq<Option<u32>>, NoMem
 fn of_table(alloc: Global, default: u32, targets: &[u32]) -> Result<Seq<Option<u32>>, NoMemory>
     ensures { IfOk result (λ exits. exits ≡ Some default ∷ map Some targets.now) }
 {
-    let mut exits = one(alloc, Some(default))?;
+    let Ok(mut exits) = one(alloc, Some(default)) else {
+        return Err(NoMemory);
+    };
     for to in targets {
-        exits.push(Some(*to))?;
+        let Ok(()) = exits.push(Some(*to)) else {
+            return Err(NoMemory);
+        };
     }
     Ok(exits)
 }
@@ -35,9 +39,13 @@ fn of_table(alloc: Global, default: u32, targets: &[u32]) -> Result<Seq<Option<u
 fn of_pairs(alloc: Global, default: u32, pairs: &[(i32, u32)]) -> Result<Seq<Option<u32>>, NoMemory>
     ensures { IfOk result (λ exits. exits ≡ Some default ∷ map Some (map (λ pair. pair.1) pairs.now)) }
 {
-    let mut exits = one(alloc, Some(default))?;
+    let Ok(mut exits) = one(alloc, Some(default)) else {
+        return Err(NoMemory);
+    };
     for pair in pairs {
-        exits.push(Some(pair.1))?;
+        let Ok(()) = exits.push(Some(pair.1)) else {
+            return Err(NoMemory);
+        };
     }
     Ok(exits)
 }

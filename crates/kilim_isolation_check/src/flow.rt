@@ -1,9 +1,7 @@
 //! The step of an instruction on a path.
 
-ghost use Rattle.std.specs.Prelude.{◌≡◌, reverse, IfOk, option_copied};
-ghost use Rattle.std.specs.List.{list_any};
+ghost use Rattle.std.specs.Prelude.{◌≡◌, IfOk, option_copied};
 ghost use Rattle.std.specs.Option.{option_map};
-ghost use Rattle.kilim_typing.specs.Step.{is_unset_this};
 ghost use Rattle.kilim_typing.specs.Typed.{frame_types};
 ghost use Rattle.kilim_isolation_rules.specs.Answers.{IsLeft, IsStep};
 ghost use Rattle.kilim_isolation_rules.specs.Marks.{flow_mixes};
@@ -12,36 +10,10 @@ ghost use Rattle.kilim_isolation_check.specs.Made.{is_new};
 
 use kilim_classes::{Frame, Instr, Method, Program, VType};
 use kilim_isolation_rules::{Deed, StepFault, any_mixes, deed_of, judge};
-use kilim_shape_graph::Graph;
-use kilim_type_step::{State, StepFault as TypeFault, type_step};
+use kilim_shape_graph::{Graph, turned};
+use kilim_type_step::{State, StepFault as TypeFault, state_of, type_step};
 use kilim_units::NoMemory;
 use std::alloc::Global;
-
-fn any_unset_this(types: &[VType]) -> bool
-    ensures { result ≡ list_any is_unset_this types.now }
-{
-    for ty in types {
-        match ty {
-            VType::UninitThis => return true,
-            VType::Top
-            | VType::Int
-            | VType::Long
-            | VType::Null
-            | VType::Uninit(_)
-            | VType::Object(_) => (),
-        }
-    }
-    false
-}
-
-fn state_of(alloc: Global, frame: &Frame) -> Result<State, NoMemory>
-    ensures { IfOk result (λ state. state ≡ frame_types frame.now) }
-{
-    let locals = frame.locals.as_slice();
-    let unset = any_unset_this(locals);
-    let stack = Vec::from_slice(alloc, frame.stack.as_slice())?;
-    Ok(State::new(Vec::from_slice(alloc, locals)?, stack, unset))
-}
 
 fn is_new(instr: &Instr) -> bool
     ensures { result ≡ is_new instr.now }
@@ -63,9 +35,13 @@ fn left(
 ) -> Result<Option<State>, NoMemory>
     ensures { IfOk result (λ left. IsLeft (spec.left_by program.now method.now instr.now (frame_types before.now)) left) }
 {
-    let mut state = state_of(alloc, before)?;
+    let Ok(mut state) = state_of(alloc, before) else {
+        return Err(NoMemory);
+    };
     if is_new(instr) {
-        state.push(VType::Top)?;
+        let Ok(()) = state.push(VType::Top) else {
+            return Err(NoMemory);
+        };
         return Ok(Some(state));
     }
     match type_step(alloc, program, method, 0, instr, &mut state) {
@@ -73,15 +49,6 @@ fn left(
         Err(TypeFault::Rule(_)) => Ok(None),
         Err(TypeFault::Memory) => Err(NoMemory),
     }
-}
-
-// The types, the other way round.
-fn turned(alloc: Global, types: &[VType]) -> Result<Vec<VType>, NoMemory>
-    ensures { IfOk result (λ v. v.items ≡ reverse types.now) }
-{
-    let mut turned = Vec::from_slice(alloc, types)?;
-    turned.reverse();
-    Ok(turned)
 }
 
 // Whether a tree becomes private where types flow into a declared frame.
@@ -93,8 +60,12 @@ fn mixes_into(
 ) -> Result<bool, NoMemory>
     ensures { IfOk result (λ mix. mix ≡ flow_mixes program.now state.now (frame_types frame.now)) }
 {
-    let from = turned(alloc, state.stack())?;
-    let into = turned(alloc, frame.stack.as_slice())?;
+    let Ok(from) = turned::<VType>(alloc, state.stack()) else {
+        return Err(NoMemory);
+    };
+    let Ok(into) = turned::<VType>(alloc, frame.stack.as_slice()) else {
+        return Err(NoMemory);
+    };
     Ok(
         any_mixes(program, state.locals(), frame.locals.as_slice())
             || any_mixes(program, &from, &into),
@@ -115,9 +86,10 @@ fn flows_mix(
     let Some(frame) = after else {
         return Ok(false);
     };
-    match left(alloc, program, method, before, instr)? {
-        Some(state) => mixes_into(alloc, program, &state, frame),
-        None => Ok(false),
+    match left(alloc, program, method, before, instr) {
+        Ok(Some(state)) => mixes_into(alloc, program, &state, frame),
+        Ok(None) => Ok(false),
+        Err(NoMemory) => Err(NoMemory),
     }
 }
 
@@ -132,7 +104,9 @@ fn deed(
 ) -> Result<Deed, NoMemory>
     ensures { IfOk result (λ deed. deed ≡ spec.deed program.now method.now graph.now (frame_types before.now) instr.now) }
 {
-    let types = turned(alloc, before.stack.as_slice())?;
+    let Ok(types) = turned::<VType>(alloc, before.stack.as_slice()) else {
+        return Err(NoMemory);
+    };
     deed_of(alloc, program, method, graph, &types, instr)
 }
 

@@ -6,6 +6,7 @@ ghost use Rattle.kilim_isolation_check.specs.Judged.{IsJudged};
 use crate::check::all_reports;
 use kilim_classes::Program;
 use kilim_pausable_graph::{Pausables, Report, pausable_calls};
+use kilim_type_step::discard;
 use kilim_typing::Typed;
 use kilim_units::{NoMemory, Seq};
 use std::alloc::Global;
@@ -69,7 +70,7 @@ pub fn check_program(alloc: Global, typed: Typed) -> Result<Isolated, CheckFault
         Ok(pausables) => Ok(Isolated { typed, pausables }),
         Err(Refused::Reports(reports)) => Err(CheckFault::Reports(typed.program, reports)),
         Err(Refused::Memory) => {
-            drop(typed);
+            discard(typed.program);
             Err(CheckFault::Memory)
         }
     }

@@ -28,4 +28,4 @@ pub use merge::{append, merged};
 pub use paths::{KIND_MIXED, SHAPE_LIMIT};
 pub use shape::Shape;
 pub use tables::{code_table, declared_by, fetch, frame_by, frame_table};
-pub use walk::{declared_at, exits_at, step, whole};
+pub use walk::{exits_at, step, whole};

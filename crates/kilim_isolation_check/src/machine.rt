@@ -1,6 +1,6 @@
 //! A method with the graph with which it begins, as a machine.
 
-ghost use Rattle.std.specs.Prelude.{◌≡◌, true, IfOk};
+ghost use Rattle.std.specs.Prelude.{◌≡◌, true};
 ghost use Rattle.kilim_classes.specs.Keeps.{code_is_whole};
 ghost use Rattle.kilim_typing.specs.Typed.{has_code};
 ghost use Rattle.kilim_isolation_check.specs.Tables.{IsTable, places_of};
@@ -8,7 +8,7 @@ ghost use Rattle.kilim_isolation_check.specs.Tables.{IsTable, places_of};
 use crate::shape::Shape;
 use crate::walk::{exits_at, step};
 use kilim_classes::{Frame, Method, Program};
-use kilim_isolation_rules::StepFault;
+use kilim_isolation_rules::{StepFault, copied};
 use kilim_paths::Moves;
 use kilim_shape_graph::Graph;
 use kilim_units::{NoMemory, Seq};
@@ -46,7 +46,7 @@ impl<'a> Moves for Walk<'a> {
 
     #[tactic(auto, using(crate::proofs::Inside::starts))]
     fn entry(&self) -> Result<Shape, NoMemory> {
-        Ok(Shape::new(copy(self.alloc, self.first)?))
+        Ok(Shape::new(copied(self.alloc, self.first)?))
     }
 
     fn exits(&self, place: u32) -> Result<Seq<Option<u32>>, NoMemory> {
@@ -76,17 +76,4 @@ impl<'a> Moves for Walk<'a> {
             Err(StepFault::Memory) => Err(NoMemory),
         }
     }
-}
-
-fn copy(alloc: Global, graph: &Graph) -> Result<Graph, NoMemory>
-    ensures { IfOk result (λ new. new ≡ graph.now) }
-{
-    let locals = Vec::from_slice(alloc, graph.locals.as_slice())?;
-    let stack = Vec::from_slice(alloc, graph.stack.as_slice())?;
-    let nodes = Vec::from_slice(alloc, graph.nodes.as_slice())?;
-    Ok(Graph {
-        locals: Seq::from_vec(locals),
-        stack: Seq::from_vec(stack),
-        nodes: Seq::from_vec(nodes),
-    })
 }

@@ -3,6 +3,7 @@
 ghost use Rattle.std.specs.Prelude.{◌≡◌, ◌≤◌, ◌++◌, ◌∷◌, [], drop, length, IfOk, OnOk};
 ghost use Rattle.kilim_isolation_check.specs.Faults as spec;
 
+use kilim_classes::MethodId;
 use kilim_pausable_graph::Report;
 use kilim_units::{NoMemory, Seq};
 use std::alloc::Global;
@@ -13,18 +14,43 @@ fn comes_before(a: &Report, b: &Report) -> bool
     a.pc < b.pc || (a.pc == b.pc && a.rule < b.rule)
 }
 
+/// A report with a copy of its path behind those that are there.
+pub fn push_report(
+    alloc: Global,
+    into: &mut Seq<Report>,
+    method: MethodId,
+    pc: u32,
+    rule: u8,
+    path: &[u32],
+) -> Result<(), NoMemory>
+    ensures { OnOk result (into.new ≡ into.old ++ record { method = method; pc = pc; rule = rule; path = path.now } ∷ []) }
+{
+    let Ok(path) = Vec::from_slice(alloc, path) else {
+        return Err(NoMemory);
+    };
+    let Ok(()) = into.push(Report {
+        method,
+        pc,
+        rule,
+        path: Seq::from_vec(path),
+    }) else {
+        return Err(NoMemory);
+    };
+    Ok(())
+}
+
 // A report behind those that are there.
 fn push_copy(alloc: Global, into: &mut Seq<Report>, report: &Report) -> Result<(), NoMemory>
     ensures { OnOk result (into.new ≡ into.old ++ report.now ∷ []) }
 {
-    let path = Vec::from_slice(alloc, report.path.as_slice())?;
-    into.push(Report {
-        method: report.method,
-        pc: report.pc,
-        rule: report.rule,
-        path: Seq::from_vec(path),
-    })?;
-    Ok(())
+    push_report(
+        alloc,
+        into,
+        report.method,
+        report.pc,
+        report.rule,
+        report.path.as_slice(),
+    )
 }
 
 /// The reports behind those that are there.
@@ -32,7 +58,9 @@ pub fn append(alloc: Global, into: &mut Seq<Report>, more: &[Report]) -> Result<
     ensures { IfOk result (λ u. into.new ≡ into.old ++ more.now) }
 {
     for report in more {
-        push_copy(alloc, into, report)?;
+        let Ok(()) = push_copy(alloc, into, report) else {
+            return Err(NoMemory);
+        };
     }
     Ok(())
 }
@@ -53,7 +81,9 @@ fn push_earlier(
         if !comes_before(other, report) {
             return Ok(at);
         }
-        push_copy(alloc, into, other)?;
+        let Ok(()) = push_copy(alloc, into, other) else {
+            return Err(NoMemory);
+        };
     }
     Ok(from.max(others.len()))
 }
@@ -65,10 +95,16 @@ pub fn merged(alloc: Global, reports: &[Report], others: &[Report]) -> Result<Se
     let mut all = Seq::new(alloc);
     let mut at = 0;
     for report in reports {
-        let next = push_earlier(alloc, report, others, at, &mut all)?;
-        push_copy(alloc, &mut all, report)?;
+        let Ok(next) = push_earlier(alloc, report, others, at, &mut all) else {
+            return Err(NoMemory);
+        };
+        let Ok(()) = push_copy(alloc, &mut all, report) else {
+            return Err(NoMemory);
+        };
         at = next;
     }
-    append(alloc, &mut all, &others[at.min(others.len())..])?;
+    let Ok(()) = append(alloc, &mut all, &others[at.min(others.len())..]) else {
+        return Err(NoMemory);
+    };
     Ok(all)
 }

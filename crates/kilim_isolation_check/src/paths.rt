@@ -12,6 +12,7 @@ ghost use Rattle.kilim_paths.specs.Answer.{IsAnswer};
 
 use crate::first::first_graph;
 use crate::machine::Walk;
+use crate::merge::push_report;
 use crate::tables::{code_table, frame_table};
 use crate::walk::whole;
 use kilim_classes::lookups::method_at;
@@ -38,14 +39,14 @@ fn push_shown(
 ) -> Result<(), NoMemory>
     ensures { IfOk result (λ u. shown.new ≡ shown.old ++ spec.report_of id report.now ∷ []) }
 {
-    let path = Vec::from_slice(alloc, report.path.as_slice())?;
-    shown.push(Report {
-        method: id,
-        pc: report.pc,
-        rule: report.rule,
-        path: Seq::from_vec(path),
-    })?;
-    Ok(())
+    push_report(
+        alloc,
+        shown,
+        id,
+        report.pc,
+        report.rule,
+        report.path.as_slice(),
+    )
 }
 
 // The reports of faults along the paths of a method.
@@ -58,23 +59,28 @@ fn shown_faults(
 {
     let mut shown = Seq::new(alloc);
     for report in reports {
-        push_shown(alloc, id, report, &mut shown)?;
+        let Ok(()) = push_shown(alloc, id, report, &mut shown) else {
+            return Err(NoMemory);
+        };
     }
     Ok(shown)
 }
 
-// The report of a method in which too many graphs come to a place.
-fn shown_place(alloc: Global, id: MethodId, pc: u32) -> Result<Seq<Report>, NoMemory>
-    ensures { IfOk result (λ shown. shown ≡ record { method = id; pc = pc; rule = 12; path = [] } ∷ []) }
+// One report.
+fn one_report(
+    alloc: Global,
+    id: MethodId,
+    pc: u32,
+    rule: u8,
+    path: &[u32],
+) -> Result<Seq<Report>, NoMemory>
+    ensures { IfOk result (λ reports. reports ≡ record { method = id; pc = pc; rule = rule; path = path.now } ∷ []) }
 {
-    let mut shown = Seq::new(alloc);
-    shown.push(Report {
-        method: id,
-        pc,
-        rule: SHAPE_LIMIT,
-        path: Seq::new(alloc),
-    })?;
-    Ok(shown)
+    let mut reports = Seq::new(alloc);
+    let Ok(()) = push_report(alloc, &mut reports, id, pc, rule, path) else {
+        return Err(NoMemory);
+    };
+    Ok(reports)
 }
 
 fn shown(alloc: Global, id: MethodId, found: Explored) -> Result<Seq<Report>, NoMemory>
@@ -82,24 +88,8 @@ fn shown(alloc: Global, id: MethodId, found: Explored) -> Result<Seq<Report>, No
 {
     match found {
         Explored::Faults(reports) => shown_faults(alloc, id, reports.as_slice()),
-        Explored::Crowded(pc) => shown_place(alloc, id, pc),
+        Explored::Crowded(pc) => one_report(alloc, id, pc, SHAPE_LIMIT, &[]),
     }
-}
-
-// The report of a method that a tree becomes private at its first place.
-fn entry_report(alloc: Global, id: MethodId) -> Result<Seq<Report>, NoMemory>
-    ensures { IfOk result (λ reports. reports ≡ record { method = id; pc = 0; rule = 6; path = 0 ∷ [] } ∷ []) }
-{
-    let mut path = Seq::new(alloc);
-    path.push(0)?;
-    let mut reports = Seq::new(alloc);
-    reports.push(Report {
-        method: id,
-        pc: 0,
-        rule: KIND_MIXED,
-        path,
-    })?;
-    Ok(reports)
 }
 
 // What the paths from a graph come to, by the tables of the places.
@@ -142,8 +132,12 @@ fn explored(
     requires coded { has_code method.now ≡ true }
     ensures { IfOk result (λ found. IsAnswer (machine_of program.now method.now frames.now first.now) found) }
 {
-    let code_at = code_table(alloc, method)?;
-    let frames_at = frame_table(alloc, method)?;
+    let Ok(code_at) = code_table(alloc, method) else {
+        return Err(NoMemory);
+    };
+    let Ok(frames_at) = frame_table(alloc, method) else {
+        return Err(NoMemory);
+    };
     found_from(alloc, program, method, &code_at, &frames_at, frames, first)
 }
 
@@ -161,7 +155,9 @@ fn walked_from(
     requires coded { has_code method.now ≡ true }
     ensures { IfOk result (λ reports. spec.ArePathReports program.now id method.now frames.now (Ok first.now) reports) }
 {
-    let found = explored(alloc, program, method, frames, first)?;
+    let Ok(found) = explored(alloc, program, method, frames, first) else {
+        return Err(NoMemory);
+    };
     shown(alloc, id, found)
 }
 
@@ -178,9 +174,10 @@ fn walked(
     requires coded { has_code method.now ≡ true }
     ensures { IfOk result (λ reports. spec.ArePathReports program.now id method.now frames.now (entry_graph program.now method.now) reports) }
 {
-    match first_graph(alloc, program, method)? {
-        Some(first) => walked_from(alloc, program, id, method, frames, &first),
-        None => entry_report(alloc, id),
+    match first_graph(alloc, program, method) {
+        Ok(Some(first)) => walked_from(alloc, program, id, method, frames, &first),
+        Ok(None) => one_report(alloc, id, 0, KIND_MIXED, &[0]),
+        Err(NoMemory) => Err(NoMemory),
     }
 }
 

@@ -27,7 +27,9 @@ fn note(table: &mut Vec<usize>, place: u32, number: usize)
 fn table_of<T>(alloc: Global, entries: &[(u32, T)], size: usize) -> Result<Vec<usize>, NoMemory>
     ensures { IfOk result (λ table. IsTable table.items (places_of entries.now) size) }
 {
-    let mut table = vec![in alloc; entries.len(); size]?;
+    let Ok(mut table) = vec![in alloc; entries.len(); size] else {
+        return Err(NoMemory);
+    };
     let mut number = entries.len();
     while number > 0 {
         number -= 1;

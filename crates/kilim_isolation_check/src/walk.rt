@@ -4,7 +4,7 @@ ghost use Rattle.std.specs.Prelude.{◌≡◌, ◌<◌, true, length, Some, None
 ghost use Rattle.std.specs.Option.{option_map, IfSome};
 ghost use Rattle.kilim_classes.specs.Keeps.{code_is_whole};
 ghost use Rattle.kilim_classes.specs.Names.{method_at};
-ghost use Rattle.kilim_typing.specs.Typed.{declared, frame_types};
+ghost use Rattle.kilim_typing.specs.Typed.{frame_types};
 ghost use Rattle.kilim_shape_graph.specs.Canonical.{canonical_at};
 ghost use Rattle.kilim_isolation_rules.specs.Answers.{IsStep};
 ghost use Rattle.kilim_isolation_check.specs.Answers.{IsStepOf};
@@ -26,18 +26,6 @@ pub fn whole(program: &Program, id: MethodId, method: &Method)
     ensures { code_is_whole method.now ≡ true }
 {
     let _classes = &program.classes;
-}
-
-/// The frame that is declared at a place, or none.
-pub fn declared_at(method: &Method, place: u32) -> Option<&Frame>
-    ensures { option_map frame_types (option_copied result) ≡ declared method.now place }
-{
-    for entry in method.frames.as_slice() {
-        if entry.0 == place {
-            return Some(&entry.1);
-        }
-    }
-    None
 }
 
 /// The exits of a place.

@@ -1,4 +1,6 @@
 pub mod Types
+pub mod Parameters
+pub mod Searched
 pub mod Rows
 pub mod Forms
 pub mod Places

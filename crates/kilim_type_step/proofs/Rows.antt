@@ -114,3 +114,14 @@ below_met p n o s t e =
 
 pub below_lacks : (p : Program) (n : ℕ) (o : Operand) (s : List VType) → slice_get s n ≡ None → all_meet p (anything n ++ (o ∷ [])) s ≡ false
 below_lacks p n o s e = elim (cases_lt n (length s)) [ inl h ↦ (let found = get_some s n h in let q : Some found.0 ≡ None = sym found.1 ∙ e in absurd (cc (q))) | inr h ↦ short p n o s h ]
+
+-- ---- the first rules of a row
+
+pub stops_at_room : (a b : Bool) (x : Result Types ℕ) → a ≡ true → b ≡ false → rule 3 a (rule 4 b x) ≡ Err 4
+stops_at_room a b x ea eb = ap (λ t. rule 3 t (rule 4 b x)) ea ∙ ap (λ t. rule 4 t x) eb
+
+pub stops_at_operands : (a b c : Bool) (x : Result Types ℕ) → a ≡ true → b ≡ true → c ≡ false → rule 3 a (rule 4 b (rule 5 c x)) ≡ Err 5
+stops_at_operands a b c x ea eb ec = ap (λ t. rule 3 t (rule 4 b (rule 5 c x))) ea ∙ ap (λ t. rule 4 t (rule 5 c x)) eb ∙ ap (λ t. rule 5 t x) ec
+
+pub passes_three : (a b c : Bool) (x y : Result Types ℕ) → a ≡ true → b ≡ true → c ≡ true → x ≡ y → rule 3 a (rule 4 b (rule 5 c x)) ≡ y
+passes_three a b c x y ea eb ec e = ap (λ t. rule 3 t (rule 4 b (rule 5 c x))) ea ∙ ap (λ t. rule 4 t (rule 5 c x)) eb ∙ ap (λ t. rule 5 t x) ec ∙ e

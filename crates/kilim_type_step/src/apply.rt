@@ -150,10 +150,7 @@ fn put(state: &mut State, takes: &[Taken], gives: Option<VType>) -> Result<(), A
 {
     state.drop_top(takes.len());
     match gives {
-        Some(t) => {
-            state.push(t)?;
-            Ok(())
-        }
+        Some(t) => state.push(t),
         None => Ok(()),
     }
 }
@@ -182,8 +179,10 @@ pub fn apply(
     if let Some(rule) = failing(program, also, state) {
         return Err(StepFault::Rule(rule));
     }
-    put(state, takes, gives)?;
-    Ok(())
+    match put(state, takes, gives) {
+        Ok(()) => Ok(()),
+        Err(AllocError) => Err(StepFault::Memory),
+    }
 }
 
 // A constructor before its object is initialized.

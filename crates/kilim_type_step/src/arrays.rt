@@ -11,6 +11,7 @@ use crate::fault::StepFault;
 use crate::operands::{Taken, vtype};
 use crate::state::State;
 use kilim_classes::{Instr, Method, Program, Ty, VType};
+use std::alloc::AllocError;
 
 const INT: Taken = Taken::Is(VType::Int);
 
@@ -46,8 +47,10 @@ fn take_element(program: &Program, method: &Method, state: &mut State) -> Result
         return Err(StepFault::Rule(WRONG_OPERAND));
     };
     state.drop_top(2);
-    state.push(t)?;
-    Ok(())
+    match state.push(t) {
+        Ok(()) => Ok(()),
+        Err(AllocError) => Err(StepFault::Memory),
+    }
 }
 
 /// Loads and stores of references.
@@ -65,7 +68,9 @@ pub fn on_reference_element(
     match instr {
         Instr::Aaload => take_element(program, method, state),
         Instr::Aastore => {
-            let object = object_type(program)?;
+            let Ok(object) = object_type(program) else {
+                return Err(StepFault::Memory);
+            };
             let takes = [Taken::Is(object), INT, Taken::References];
             apply(program, method, state, &takes, None, &[])
         }

@@ -1,7 +1,8 @@
 //! Constants.
 
 ghost use Rattle.std.specs.Prelude.{◌≡◌, true, IfOk, IfErr};
-ghost use Rattle.kilim_typing.specs.Step.{by_row, type_step, text_type, object_type, constant_row, long_constant_row};
+ghost use Rattle.kilim_classes.specs.Names.{class_named};
+ghost use Rattle.kilim_typing.specs.Step.{by_row, type_step, text_type, object_type, vtype_of_class, constant_row, long_constant_row};
 ghost use Rattle.kilim_type_step.specs.Answers.{answers};
 ghost use Rattle.kilim_type_step.specs.Families.{is_constant};
 
@@ -13,16 +14,24 @@ use kilim_classes::lookups::class_named;
 use kilim_classes::{Instr, Method, Program, VType, Value};
 use kilim_units::NoMemory;
 
+// The type of the class of that name. Want of memory comes only where there are too many classes.
+fn named_type(program: &Program, name: &[u8]) -> Result<VType, StepFault>
+    ensures found { IfOk result (λ t. t ≡ vtype_of_class (class_named program.now name.now)) }
+    ensures memory { IfErr result (λ e. e ≡ StepFault.Memory) }
+{
+    match class_named(program, name) {
+        Ok(Some(class)) => Ok(class_vtype(class)),
+        Ok(None) => Ok(VType::Null),
+        Err(NoMemory) => Err(StepFault::Memory),
+    }
+}
+
 // The type of strings.
 fn text_type(program: &Program) -> Result<VType, StepFault>
     ensures memory { IfErr result (λ e. e ≡ StepFault.Memory) }
     ensures found { IfOk result (λ t. t ≡ text_type program.now) }
 {
-    match class_named(program, b"java/lang/String") {
-        Ok(Some(class)) => Ok(class_vtype(class)),
-        Ok(None) => Ok(VType::Null),
-        Err(NoMemory) => Err(StepFault::Memory),
-    }
+    named_type(program, b"java/lang/String")
 }
 
 /// The type of all references. Want of memory comes only where there are too many classes.
@@ -30,11 +39,7 @@ pub fn object_type(program: &Program) -> Result<VType, StepFault>
     ensures found { IfOk result (λ t. t ≡ object_type program.now) }
     ensures memory { IfErr result (λ e. e ≡ StepFault.Memory) }
 {
-    match class_named(program, b"java/lang/Object") {
-        Ok(Some(class)) => Ok(class_vtype(class)),
-        Ok(None) => Ok(VType::Null),
-        Err(NoMemory) => Err(StepFault::Memory),
-    }
+    named_type(program, b"java/lang/Object")
 }
 
 fn on_word(
@@ -48,7 +53,9 @@ fn on_word(
     match value {
         Value::Int(_) => apply(program, method, state, &[], Some(VType::Int), &[]),
         Value::Text(_) => {
-            let text = text_type(program)?;
+            let Ok(text) = text_type(program) else {
+                return Err(StepFault::Memory);
+            };
             apply(program, method, state, &[], Some(text), &[])
         }
         Value::Long(_) | Value::Null | Value::Ref(_) | Value::Box(_) | Value::Fiber => {

@@ -111,10 +111,7 @@ fn push_result(state: &mut State, gives: Option<VType>) -> Result<(), AllocError
     ensures { OnOk result (state.new ≡ record state.old { stack = option_to_list gives ++ state.old.stack }) }
 {
     match gives {
-        Some(t) => {
-            state.push(t)?;
-            Ok(())
-        }
+        Some(t) => state.push(t),
         None => Ok(()),
     }
 }
@@ -153,8 +150,7 @@ fn finish(
 {
     state.drop_top(takes.len() + 1);
     initialize(state, object, made);
-    push_result(state, gives)?;
-    Ok(())
+    push_result(state, gives)
 }
 
 /// A call of a constructor: what it takes above the object, what it gives, its class, whether it may be named, and whether
@@ -189,8 +185,10 @@ pub fn construct(
                 if !fits {
                     return Err(StepFault::Rule(WRONG_SPECIAL));
                 }
-                finish(state, takes, object, made, gives)?;
-                Ok(())
+                match finish(state, takes, object, made, gives) {
+                    Ok(()) => Ok(()),
+                    Err(AllocError) => Err(StepFault::Memory),
+                }
             }
             None => Err(StepFault::Rule(NOT_INITIALIZED)),
         },

@@ -36,8 +36,8 @@ pub fn type_step(
         | Instr::Iconst(_)
         | Instr::Lconst(_)
         | Instr::Bipush(_)
-        | Instr::Sipush(_) => { on_plain(program, method, at, instr, state) }
-        Instr::Iaload
+        | Instr::Sipush(_)
+        | Instr::Iaload
         | Instr::Laload
         | Instr::Baload
         | Instr::Caload
@@ -47,7 +47,23 @@ pub fn type_step(
         | Instr::Bastore
         | Instr::Castore
         | Instr::Sastore
-        | Instr::Arraylength => { on_plain(program, method, at, instr, state) }
+        | Instr::Arraylength
+        | Instr::Ifeq(_)
+        | Instr::Ifne(_)
+        | Instr::Iflt(_)
+        | Instr::Ifge(_)
+        | Instr::Ifgt(_)
+        | Instr::Ifle(_)
+        | Instr::IfIcmpeq(_)
+        | Instr::IfIcmpne(_)
+        | Instr::IfIcmplt(_)
+        | Instr::IfIcmpge(_)
+        | Instr::IfIcmpgt(_)
+        | Instr::IfIcmple(_)
+        | Instr::Goto(_)
+        | Instr::Tableswitch(_, _, _)
+        | Instr::Lookupswitch(_, _)
+        | Instr::GotoW(_) => { on_plain(program, method, at, instr, state) }
         Instr::Iadd
         | Instr::Ladd
         | Instr::Isub
@@ -78,22 +94,6 @@ pub fn type_step(
         | Instr::I2c
         | Instr::I2s
         | Instr::Lcmp => { on_arithmetic(program, method, at, instr, state) }
-        Instr::Ifeq(_)
-        | Instr::Ifne(_)
-        | Instr::Iflt(_)
-        | Instr::Ifge(_)
-        | Instr::Ifgt(_)
-        | Instr::Ifle(_)
-        | Instr::IfIcmpeq(_)
-        | Instr::IfIcmpne(_)
-        | Instr::IfIcmplt(_)
-        | Instr::IfIcmpge(_)
-        | Instr::IfIcmpgt(_)
-        | Instr::IfIcmple(_)
-        | Instr::Goto(_)
-        | Instr::Tableswitch(_, _, _)
-        | Instr::Lookupswitch(_, _)
-        | Instr::GotoW(_) => { on_plain(program, method, at, instr, state) }
         Instr::Ldc(_) | Instr::LdcW(_) | Instr::Ldc2W(_) => {
             on_constant(program, method, at, instr, state)
         }

@@ -5,6 +5,8 @@ mod apply;
 mod arrays;
 mod constants;
 mod construct;
+mod dropped;
+mod entry;
 mod fault;
 mod instr;
 mod jumps;
@@ -18,6 +20,8 @@ mod shuffles;
 mod state;
 
 pub use construct::made_at;
+pub use dropped::discard;
+pub use entry::{declared_at, entry_state, has_unset_this, state_of};
 pub use fault::StepFault;
 pub use instr::type_step;
 pub use members::is_constructor;

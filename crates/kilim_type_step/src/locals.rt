@@ -11,6 +11,7 @@ use crate::fault::StepFault;
 use crate::operands::{Taken, meets};
 use crate::state::{State, size};
 use kilim_classes::{Instr, Method, Program, VType};
+use std::alloc::AllocError;
 
 fn pushed(taken: Taken) -> VType
     ensures { result ≡ pushed (operand_of taken) }
@@ -43,8 +44,10 @@ fn load(
     if slot >= method.max_locals || !meets(program, taken, t) {
         return Err(StepFault::Rule(WRONG_LOCAL));
     }
-    state.push(t)?;
-    Ok(())
+    match state.push(t) {
+        Ok(()) => Ok(()),
+        Err(AllocError) => Err(StepFault::Memory),
+    }
 }
 
 #[tactic(auto, using(crate::proofs::Forms::store_lacks, crate::proofs::Forms::store_on))]
@@ -67,8 +70,10 @@ fn store(
         return Err(StepFault::Rule(WRONG_LOCAL));
     }
     state.drop_top(1);
-    state.store(slot, t)?;
-    Ok(())
+    match state.store(slot, t) {
+        Ok(()) => Ok(()),
+        Err(AllocError) => Err(StepFault::Memory),
+    }
 }
 
 fn change(program: &Program, method: &Method, state: &mut State, slot: u16) -> Result<(), StepFault>

@@ -13,6 +13,7 @@ use crate::operands::{Also, Taken};
 use crate::state::State;
 use kilim_classes::lookups::class_at;
 use kilim_classes::{Base, ClassId, Instr, Method, Program, Ty, VType};
+use std::alloc::AllocError;
 
 const INT: Taken = Taken::Is(VType::Int);
 
@@ -54,8 +55,10 @@ fn make(
         return Err(StepFault::Rule(NOT_MADE));
     }
     state.replace_in_locals(made, VType::Top);
-    state.push(made)?;
-    Ok(())
+    match state.push(made) {
+        Ok(()) => Ok(()),
+        Err(AllocError) => Err(StepFault::Memory),
+    }
 }
 
 // An array of references, by the type of its elements.
@@ -118,7 +121,9 @@ pub fn on_made(
         }
         Instr::Anewarray(element) => make_array(program, method, at, *element, state),
         Instr::Checkcast(ty) => {
-            let object = object_type(program)?;
+            let Ok(object) = object_type(program) else {
+                return Err(StepFault::Memory);
+            };
             apply(
                 program,
                 method,
@@ -129,7 +134,9 @@ pub fn on_made(
             )
         }
         Instr::Instanceof(_) => {
-            let object = object_type(program)?;
+            let Ok(object) = object_type(program) else {
+                return Err(StepFault::Memory);
+            };
             apply(
                 program,
                 method,

@@ -161,7 +161,9 @@ fn arguments(alloc: Global, callee: &Method) -> Result<Vec<Taken>, AllocError>
     let mut left = params.len();
     while left > 0 {
         left -= 1;
-        takes.push(Taken::Is(vtype(params[left])))?;
+        let Ok(()) = takes.push(Taken::Is(vtype(params[left]))) else {
+            return Err(AllocError);
+        };
     }
     Ok(takes)
 }
@@ -171,8 +173,12 @@ fn arguments(alloc: Global, callee: &Method) -> Result<Vec<Taken>, AllocError>
 fn with_receiver(alloc: Global, callee: &Method) -> Result<Vec<Taken>, AllocError>
     ensures { IfOk result (λ v. operands_of v.items ≡ arguments callee.now ++ (Is (class_vtype callee.now.owner) ∷ [])) }
 {
-    let mut takes = arguments(alloc, callee)?;
-    takes.push(Taken::Is(class_vtype(callee.owner)))?;
+    let Ok(mut takes) = arguments(alloc, callee) else {
+        return Err(AllocError);
+    };
+    let Ok(()) = takes.push(Taken::Is(class_vtype(callee.owner))) else {
+        return Err(AllocError);
+    };
     Ok(takes)
 }
 
@@ -194,7 +200,9 @@ fn on_static(
 ) -> Result<(), StepFault>
     ensures { answers (by_row program.now method.now 0 (static_row method.now (Some callee.now)) state.old) result state.new }
 {
-    let takes = arguments(alloc, callee)?;
+    let Ok(takes) = arguments(alloc, callee) else {
+        return Err(StepFault::Memory);
+    };
     let named = is_static_named(method, callee.is_static, callee.is_private, callee.owner);
     let also = [
         Also::Needs(WRONG_MEMBER, named),
@@ -212,7 +220,9 @@ fn on_virtual(
 ) -> Result<(), StepFault>
     ensures { answers (by_row program.now method.now 0 (virtual_row method.now (Some callee.now)) state.old) result state.new }
 {
-    let takes = with_receiver(alloc, callee)?;
+    let Ok(takes) = with_receiver(alloc, callee) else {
+        return Err(StepFault::Memory);
+    };
     let named = is_instance_named(method, callee.is_static, callee.is_private, callee.owner);
     let also = [
         Also::Needs(WRONG_MEMBER, named),
@@ -258,7 +268,9 @@ fn on_special(
 ) -> Result<(), StepFault>
     ensures { answers (by_row program.now method.now 0 (special_by false program.now method.now id callee.now) state.old) result state.new }
 {
-    let takes = with_receiver(alloc, callee)?;
+    let Ok(takes) = with_receiver(alloc, callee) else {
+        return Err(StepFault::Memory);
+    };
     let named = is_instance_named(method, callee.is_static, callee.is_private, callee.owner);
     let fits = special_fits(program, method, id, callee);
     let also = [
@@ -278,7 +290,9 @@ fn on_constructor(
 ) -> Result<(), StepFault>
     ensures { (id : MethodId) → answers (by_row program.now method.now 0 (special_by true program.now method.now id callee.now) state.old) result state.new }
 {
-    let takes = arguments(alloc, callee)?;
+    let Ok(takes) = arguments(alloc, callee) else {
+        return Err(StepFault::Memory);
+    };
     let named = is_instance_named(method, callee.is_static, callee.is_private, callee.owner);
     construct(
         program,

@@ -96,7 +96,9 @@ fn split(alloc: Global, state: &mut State, words: Words) -> Result<Vec<VType>, S
 {
     match count_off(words, state.below(0), state.below(1)) {
         Ok(count) => {
-            let parts = state.top(alloc, count)?;
+            let Ok(parts) = state.top(alloc, count) else {
+                return Err(StepFault::Memory);
+            };
             state.drop_top(count);
             Ok(parts)
         }
@@ -122,10 +124,13 @@ fn push_all(
 ) -> Result<(), AllocError>
     ensures { OnOk result (state.new ≡ record state.old { stack = last.now ++ (then.now ++ (first.now ++ state.old.stack)) }) }
 {
-    state.push_all(first)?;
-    state.push_all(then)?;
-    state.push_all(last)?;
-    Ok(())
+    let Ok(()) = state.push_all(first) else {
+        return Err(AllocError);
+    };
+    let Ok(()) = state.push_all(then) else {
+        return Err(AllocError);
+    };
+    state.push_all(last)
 }
 
 #[tactic(auto, using(crate::proofs::Shuffled::copies_ok, crate::proofs::Shuffled::copies_fault, crate::proofs::Shuffled::copies_later))]

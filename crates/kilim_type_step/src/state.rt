@@ -96,7 +96,8 @@ fn replace(types: &mut Vec<VType>, old: VType, new: VType)
     }
 }
 
-fn is_among(types: &[VType], t: VType) -> bool
+/// Whether an uninitialized type is among some types.
+pub fn is_among(types: &[VType], t: VType) -> bool
     ensures { result ≡ list_any (is_same t) types.now }
 {
     types.iter().any(|other| is_same(t, *other))
@@ -135,10 +136,14 @@ fn poke(types: &mut Vec<VType>, slot: usize, t: VType) -> Result<(), AllocError>
     ensures { OnOk result (types.new.items ≡ poke types.old.items slot t) }
 {
     while types.len() < slot {
-        types.push(VType::Top)?;
+        let Ok(()) = types.push(VType::Top) else {
+            return Err(AllocError);
+        };
     }
     if slot == types.len() {
-        types.push(t)?;
+        let Ok(()) = types.push(t) else {
+            return Err(AllocError);
+        };
     } else {
         types[slot] = t;
     }
@@ -154,7 +159,9 @@ fn split_long(types: &mut Vec<VType>, slot: usize) -> Result<(), AllocError>
         return Ok(());
     }
     if is_long(type_at(types, slot - 1)) {
-        poke(types, slot - 1, VType::Top)?;
+        let Ok(()) = poke(types, slot - 1, VType::Top) else {
+            return Err(AllocError);
+        };
         return Ok(());
     }
     Ok(())
@@ -167,7 +174,9 @@ fn with_half(types: &mut Vec<VType>, slot: usize, t: VType) -> Result<(), AllocE
     ensures { OnOk result (types.new.items ≡ with_half t types.old.items slot) }
 {
     if is_long(t) {
-        poke(types, slot + 1, VType::Top)?;
+        let Ok(()) = poke(types, slot + 1, VType::Top) else {
+            return Err(AllocError);
+        };
         return Ok(());
     }
     Ok(())
@@ -181,7 +190,9 @@ fn push_reversed(stack: &mut Vec<VType>, types: &[VType]) -> Result<(), AllocErr
     let mut left = types.len();
     while left > 0 {
         left -= 1;
-        stack.push(types[left])?;
+        let Ok(()) = stack.push(types[left]) else {
+            return Err(AllocError);
+        };
     }
     Ok(())
 }
@@ -257,7 +268,9 @@ impl State {
     pub fn push(&mut self, t: VType) -> Result<(), AllocError>
         ensures { OnOk result (self.new ≡ record self.old { stack = t ∷ self.old.stack }) }
     {
-        self.stack.push(t)?;
+        let Ok(()) = self.stack.push(t) else {
+            return Err(AllocError);
+        };
         Ok(())
     }
 
@@ -282,7 +295,9 @@ impl State {
         ensures { IfOk result (λ v. v.items ≡ take count self.now.stack) }
     {
         let rest = self.stack.len().saturating_sub(count);
-        let mut top = Vec::from_slice(alloc, &self.stack[rest..])?;
+        let Ok(mut top) = Vec::from_slice(alloc, &self.stack[rest..]) else {
+            return Err(AllocError);
+        };
         top.reverse();
         Ok(top)
     }
@@ -292,8 +307,7 @@ impl State {
     pub fn push_all(&mut self, types: &[VType]) -> Result<(), AllocError>
         ensures { OnOk result (self.new ≡ record self.old { stack = types.now ++ self.old.stack }) }
     {
-        push_reversed(&mut self.stack, types)?;
-        Ok(())
+        push_reversed(&mut self.stack, types)
     }
 
     /// Whether the stack has at least so many words.
@@ -323,10 +337,13 @@ impl State {
         ensures { OnOk result (self.new ≡ record self.old { locals = stored self.old.locals slot t }) }
     {
         let slot = usize::from(slot);
-        split_long(&mut self.locals, slot)?;
-        poke(&mut self.locals, slot, t)?;
-        with_half(&mut self.locals, slot, t)?;
-        Ok(())
+        let Ok(()) = split_long(&mut self.locals, slot) else {
+            return Err(AllocError);
+        };
+        let Ok(()) = poke(&mut self.locals, slot, t) else {
+            return Err(AllocError);
+        };
+        with_half(&mut self.locals, slot, t)
     }
 
     /// Whether the uninitialized type is on the stack.

@@ -1,37 +1,15 @@
 -- The frame with which a method begins, and its argument slots.
-use Rattle.std.proofs.Common.{◌≡◌, ℕ, zero, suc, ◌+◌, ◌-◌, ◌<◌, Bool, true, false, ◌&&◌, refl, ap, sym, ◌∙◌, inl, inr, arith, List, [], ◌++◌, length, drop, get_or}
+use Rattle.std.proofs.Common.{◌≡◌, ℕ, zero, suc, ◌+◌, ◌-◌, ◌<◌, Bool, true, false, ◌&&◌, refl, ap, sym, ◌∙◌, inl, inr, arith, List, length, drop, get_or}
 use Rattle.std.specs.Prelude.{nat_le, sum_by, if◌then◌else◌}
 use Rattle.std.proofs.lemmas.Bool.{cases_lt, lt-leb, le-leb, ne_eqb}
-use Rattle.std.proofs.lemmas.List.{drop_more, drop_all, append_assoc, append-nil}
+use Rattle.std.proofs.lemmas.List.{drop_more, drop_all}
 use Rattle.std.proofs.lemmas.List.Sums.{sum_by-cons}
 use Rattle.kilim_classes.specs.declared.class.Method.{Method}
 use Rattle.kilim_classes.specs.declared.ty.Base.{Base}
 use Rattle.kilim_classes.specs.declared.ty.Base.TheVariants as base
 use Rattle.kilim_classes.specs.declared.ty.Ty.{Ty}
-use Rattle.kilim_classes.specs.declared.verified.VType.{VType}
-use Rattle.kilim_classes.specs.declared.verified.VType.TheVariants.{Top, Int, Long, Null, UninitThis, Uninit, Object}
 use Rattle.kilim_classes.specs.Same.{argument_slots, type_slots, is_wide_base}
 use Rattle.kilim_typing.specs.Step.{vtype, size}
-use Rattle.kilim_typing.specs.Typed.{param_slots, slots_of_type}
-
--- ---- slots of parameters
-
-slots_before : (t : VType) (rest : List VType) → slots_of_type t rest ≡ slots_of_type t [] ++ rest
-slots_before Long rest = refl
-slots_before Top rest = refl
-slots_before Int rest = refl
-slots_before Null rest = refl
-slots_before UninitThis rest = refl
-slots_before (Uninit at) rest = refl
-slots_before (Object ty) rest = refl
-
-pub param_on : (tys : List Ty) (slots : List VType) (k : ℕ) (d : Ty) → k < length tys → (slots ++ slots_of_type (vtype (get_or tys k d)) []) ++ param_slots (drop (k + 1) tys) ≡ slots ++ param_slots (drop k tys)
-param_on tys slots k d h =
-    append_assoc slots (slots_of_type (vtype (get_or tys k d)) []) (param_slots (drop (k + 1) tys))
-    ∙ ap (λ xs. slots ++ xs) (sym (ap param_slots (drop_more tys k d h) ∙ slots_before (vtype (get_or tys k d)) (param_slots (drop (k + 1) tys))))
-
-pub params_end : (tys : List Ty) (slots : List VType) (k : ℕ) → k ≡ length tys → slots ++ param_slots (drop k tys) ≡ slots
-params_end tys slots k e = ap (λ xs. slots ++ param_slots xs) (drop_all k tys (omega arith)) ∙ append-nil slots
 
 -- ---- how many slots
 

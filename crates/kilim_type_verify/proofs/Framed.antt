@@ -12,7 +12,7 @@ use Rattle.kilim_classes.specs.declared.verified.VType.{VType}
 use Rattle.kilim_classes.specs.Lengths.{is_code_place}
 use Rattle.kilim_classes.specs.Same.{is_constructor}
 use Rattle.kilim_typing.specs.Step.{peek, is_top, is_long, is_unset_this, words}
-use Rattle.kilim_typing.specs.Typed.{frame_in, frame_types, frame_fits, stands_at_new, halves, is_proper, padded}
+use Rattle.kilim_typing.specs.Typed.{frame_fits, stands_at_new, halves, is_proper, padded}
 use Rattle.kilim_typing.specs.Faults.{frame_fault}
 use Rattle.kilim_type_verify.specs.Frames.{half_at, locals_fit, types_fit}
 
@@ -30,14 +30,6 @@ or_assoc false b c = refl
 and_false : (a : Bool) → (a && false) ≡ false
 and_false true = refl
 and_false false = refl
-
--- ---- the frame at a place
-
-pub frame_here : (fs : List (ℕ × Frame)) (k at : ℕ) (e : ℕ × Frame) → slice_get fs k ≡ Some e → e.0 ≡ at → Some (frame_types e.1) ≡ frame_in (drop k fs) at
-frame_here fs k at e is here = sym (ap (λ es. frame_in es at) (front_is fs k e is) ∙ ap (λ b. cond b (Some (frame_types e.1)) (frame_in (drop (k + 1) fs) at)) (eq-eqb e.0 at here))
-
-pub frame_on : (fs : List (ℕ × Frame)) (k at : ℕ) (e : ℕ × Frame) → slice_get fs k ≡ Some e → (e.0 ≡ at → ⊥) → frame_in (drop (k + 1) fs) at ≡ frame_in (drop k fs) at
-frame_on fs k at e is other = sym (ap (λ es. frame_in es at) (front_is fs k e is) ∙ ap (λ b. cond b (Some (frame_types e.1)) (frame_in (drop (k + 1) fs) at)) (ne_eqb e.0 at other))
 
 -- ---- places of code
 

@@ -5,9 +5,9 @@ ghost use Rattle.std.specs.List.{list_all};
 ghost use Rattle.kilim_typing.specs.Typed.{declared, frame_types, all_assignable};
 ghost use Rattle.kilim_typing.specs.Faults.{locals_flow, flows_into, flows_into_declared};
 
-use crate::stated::{declared, has_unset_this, is_declared};
+use crate::stated::is_declared;
 use kilim_classes::{Frame, Method, Program, VType};
-use kilim_type_step::{State, type_at};
+use kilim_type_step::{State, declared_at, has_unset_this, type_at};
 use kilim_typing::assignable;
 
 fn locals_flow(program: &Program, from: &[VType], to: &[VType]) -> bool
@@ -51,7 +51,7 @@ pub fn flows_into(program: &Program, from: &State, to: &Frame) -> bool
 pub fn flows_to(program: &Program, method: &Method, from: &State, at: u32) -> bool
     ensures { result ≡ flows_into_declared program.now from.now (declared method.now at) }
 {
-    match declared(method, at) {
+    match declared_at(method, at) {
         Some(frame) => flows_into(program, from, frame),
         None => true,
     }

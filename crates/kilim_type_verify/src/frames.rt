@@ -8,9 +8,9 @@ ghost use Rattle.kilim_typing.specs.Typed.{frame_fits, stands_at_new, halves, is
 ghost use Rattle.kilim_typing.specs.Faults.{frame_fault};
 ghost use Rattle.kilim_type_verify.specs.Frames.{half_at, locals_fit, types_fit};
 
-use crate::stated::{entry_at, has_unset_this};
+use crate::stated::entry_at;
 use kilim_classes::{Frame, Instr, Method, VType};
-use kilim_type_step::{State, are_within, is_constructor, made_at, type_at, vtype};
+use kilim_type_step::{State, are_within, has_unset_this, is_constructor, made_at, type_at, vtype};
 use kilim_units::Seq;
 use std::alloc::{AllocError, Global};
 
@@ -205,9 +205,13 @@ pub fn frame_fault(method: &Method) -> Option<u32>
 fn padded(alloc: Global, types: &[VType], count: u16) -> Result<Vec<VType>, AllocError>
     ensures { IfOk result (λ v. v.items ≡ padded count types.now) }
 {
-    let mut slots = Vec::with_capacity(alloc, usize::from(count))?;
+    let Ok(mut slots) = Vec::with_capacity(alloc, usize::from(count)) else {
+        return Err(AllocError);
+    };
     for at in 0..usize::from(count) {
-        slots.push(type_at(types, at))?;
+        let Ok(()) = slots.push(type_at(types, at)) else {
+            return Err(AllocError);
+        };
     }
     Ok(slots)
 }
@@ -216,8 +220,12 @@ fn padded(alloc: Global, types: &[VType], count: u16) -> Result<Vec<VType>, Allo
 pub fn listed(alloc: Global, method: &Method, state: &State) -> Result<Frame, AllocError>
     ensures { IfOk result (λ frame. frame ≡ listed method.now state.now) }
 {
-    let locals = padded(alloc, state.locals(), method.max_locals)?;
-    let stack = Vec::from_slice(alloc, state.stack())?;
+    let Ok(locals) = padded(alloc, state.locals(), method.max_locals) else {
+        return Err(AllocError);
+    };
+    let Ok(stack) = Vec::from_slice(alloc, state.stack()) else {
+        return Err(AllocError);
+    };
     Ok(Frame {
         locals: Seq::from_vec(locals),
         stack: Seq::from_vec(stack),

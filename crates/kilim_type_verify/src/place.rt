@@ -1,6 +1,7 @@
 //! One instruction: the least rule but 12 that fails there, or what it leaves.
 
 ghost use Rattle.std.specs.Prelude.{◌≡◌, IfOk};
+ghost use Rattle.kilim_classes.specs.Lengths.{jump_targets};
 ghost use Rattle.kilim_typing.specs.Step.{type_step};
 ghost use Rattle.kilim_typing.specs.Faults.{lesser, fails_unless, instr_rule, targets_declared};
 ghost use Rattle.kilim_type_verify.specs.Places.{declared_all, flow_all, place_of, IsStepped};
@@ -83,31 +84,34 @@ pub fn is_followed(
 ) -> Result<bool, NoMemory>
     ensures { IfOk result (λ b. (es : List (ℕ × Instr)) → place_of es ≡ behind → b ≡ targets_declared method.now instr.now es) }
 {
-    let targets = jump_targets(alloc, instr)?;
+    let Ok(targets) = jump_targets(alloc, instr) else {
+        return Err(NoMemory);
+    };
     Ok(targets_declared(method, ends_path(instr), &targets, behind))
 }
 
-/// Steps an instruction: the least rule but 12 that fails there. If none does, the state is what it leaves.
+// Steps an instruction with these targets.
 #[tactic(auto, using(crate::proofs::Rules::stepped, crate::proofs::Rules::no_flow, crate::proofs::Rules::no_frame, crate::proofs::Rules::step_fails, crate::proofs::Rules::both_fail))]
-pub fn step(
+fn step_to(
     alloc: Global,
     program: &Program,
     method: &Method,
     at: u32,
     instr: &Instr,
+    targets: &[u32],
     behind: Option<u32>,
     state: &mut State,
 ) -> Result<Option<u8>, NoMemory>
+    requires { targets.now ≡ jump_targets instr.now }
     ensures { IfOk result (λ rule. (es : List (ℕ × Instr)) → place_of es ≡ behind →
         IsStepped (instr_rule program.now method.now instr.now es (type_step program.now method.now at instr.now state.old)) (type_step program.now method.now at instr.now state.old) rule state.new) }
 {
-    let targets = jump_targets(alloc, instr)?;
     let ends = ends_path(instr);
     let stepped = type_step(alloc, program, method, at, instr, state);
-    let followed = targets_declared(method, ends, &targets, behind);
+    let followed = targets_declared(method, ends, targets, behind);
     match stepped {
         Ok(()) => {
-            if !all_flow(program, method, state, ends, &targets, behind) {
+            if !all_flow(program, method, state, ends, targets, behind) {
                 return Ok(Some(NO_FLOW));
             }
             if !followed {
@@ -124,4 +128,25 @@ pub fn step(
         }
         Err(StepFault::Memory) => Err(NoMemory),
     }
+}
+
+/// Steps an instruction: the least rule but 12 that fails there. If none does, the state is what it leaves.
+pub fn step(
+    alloc: Global,
+    program: &Program,
+    method: &Method,
+    at: u32,
+    instr: &Instr,
+    behind: Option<u32>,
+    state: &mut State,
+) -> Result<Option<u8>, NoMemory>
+    ensures { IfOk result (λ rule. (es : List (ℕ × Instr)) → place_of es ≡ behind →
+        IsStepped (instr_rule program.now method.now instr.now es (type_step program.now method.now at instr.now state.old)) (type_step program.now method.now at instr.now state.old) rule state.new) }
+{
+    let Ok(targets) = jump_targets(alloc, instr) else {
+        return Err(NoMemory);
+    };
+    let found = step_to(alloc, program, method, at, instr, &targets, behind, state);
+    drop(targets);
+    found
 }

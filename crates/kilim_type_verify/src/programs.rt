@@ -5,6 +5,7 @@ ghost use Rattle.kilim_type_verify.specs.Verified.{IsVerified, MethodsWalked};
 
 use crate::walk::{Walked, walk};
 use kilim_classes::{Frame, Method, MethodId, Program};
+use kilim_type_step::discard;
 use kilim_typing::Typed;
 use kilim_units::{NoMemory, Seq};
 use std::alloc::Global;
@@ -38,11 +39,20 @@ fn walk_methods(alloc: Global, program: &Program) -> Result<Methods, NoMemory>
     ensures { IfOk result (λ walked. MethodsWalked program.now walked) }
 {
     let methods = program.methods.as_slice();
-    let mut all = Vec::with_capacity(alloc, methods.len())?;
+    let Ok(mut all) = Vec::with_capacity(alloc, methods.len()) else {
+        return Err(NoMemory);
+    };
     for number in 0..methods.len() {
         let method = method_of(methods, number);
-        match walk(alloc, program, method)? {
-            Walked::Frames(frames) => all.push(Seq::from_vec(frames))?,
+        let Ok(walked) = walk(alloc, program, method) else {
+            return Err(NoMemory);
+        };
+        match walked {
+            Walked::Frames(frames) => {
+                let Ok(()) = all.push(Seq::from_vec(frames)) else {
+                    return Err(NoMemory);
+                };
+            }
             Walked::Fault(place, rule) => {
                 let Ok(id) = u32::try_from(number) else {
                     return Err(NoMemory);
@@ -60,6 +70,8 @@ fn walk_methods(alloc: Global, program: &Program) -> Result<Methods, NoMemory>
 pub fn verify(alloc: Global, program: Program) -> Result<Typed, TypeFault>
     ensures { IsVerified program result }
 {
+    // What a program keeps is known where it is opened.
+    let _methods = &program.methods;
     let walked = walk_methods(alloc, &program);
     match walked {
         Ok(Methods::Frames(frames)) => Ok(Typed {
@@ -69,6 +81,9 @@ pub fn verify(alloc: Global, program: Program) -> Result<Typed, TypeFault>
         Ok(Methods::Fault(method, place, rule)) => {
             Err(TypeFault::Rule(program, method, place, rule))
         }
-        Err(NoMemory) => Err(TypeFault::Memory),
+        Err(NoMemory) => {
+            discard(program);
+            Err(TypeFault::Memory)
+        }
     }
 }

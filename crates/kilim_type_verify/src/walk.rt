@@ -9,13 +9,12 @@ ghost use Rattle.kilim_typing.specs.Faults.{comes_first, frame_fault};
 ghost use Rattle.kilim_type_verify.specs.Places.{place_of};
 ghost use Rattle.kilim_type_verify.specs.Walks.{VisitedUnder, CodeWalked, BodyWalked, MethodWalked};
 
-use crate::entry::{entry_rule, entry_state};
+use crate::entry::entry_rule;
 use crate::frames::{NO_FIT, code_at, frame_fault, listed};
 use crate::place::{NO_FRAME, fails_unless, is_followed, lesser, step};
-use crate::stated::{declared, state_of};
 use kilim_classes::{Frame, Instr, Method, Program};
 use kilim_liveness::ends_path;
-use kilim_type_step::State;
+use kilim_type_step::{State, declared_at, entry_state, state_of};
 use kilim_units::NoMemory;
 use std::alloc::{AllocError, Global};
 
@@ -46,9 +45,11 @@ fn arrive(
 ) -> Result<Option<State>, AllocError>
     ensures { IfOk result (λ s. s ≡ arriving flow (declared method.now at)) }
 {
-    match declared(method, at) {
+    match declared_at(method, at) {
         Some(frame) => {
-            let state = state_of(alloc, frame)?;
+            let Ok(state) = state_of(alloc, frame) else {
+                return Err(AllocError);
+            };
             Ok(Some(state))
         }
         None => Ok(flow),
@@ -83,8 +84,12 @@ fn push_listed(
 ) -> Result<(), AllocError>
     ensures { OnOk result (frames.new.items ≡ frames.old.items ++ listed method.now state.now ∷ []) }
 {
-    let frame = listed(alloc, method, state)?;
-    frames.push(frame)?;
+    let Ok(frame) = listed(alloc, method, state) else {
+        return Err(AllocError);
+    };
+    let Ok(()) = frames.push(frame) else {
+        return Err(AllocError);
+    };
     Ok(())
 }
 
@@ -103,11 +108,15 @@ fn visit_under(
     ensures { IfOk result (λ v. (es : List (ℕ × Instr)) → place_of es ≡ behind →
         VisitedUnder program.now method.now pending (Some state) entry.now es frames.old.items frames.new.items v) }
 {
-    push_listed(alloc, method, &state, frames)?;
+    let Ok(()) = push_listed(alloc, method, &state, frames) else {
+        return Err(NoMemory);
+    };
     let mut after = state;
-    let found = step(
+    let Ok(found) = step(
         alloc, program, method, entry.0, &entry.1, behind, &mut after,
-    )?;
+    ) else {
+        return Err(NoMemory);
+    };
     match lesser(pending, found) {
         Some(rule) => Ok(Visited::Fails(rule)),
         None => Ok(Visited::Goes(goes_on(ends_path(&entry.1), after))),
@@ -128,8 +137,12 @@ fn visit_unreached(
         VisitedUnder p method.now pending None entry.now es frames.old.items frames.new.items v) }
 {
     let none = State::new(Vec::new(alloc), Vec::new(alloc), false);
-    push_listed(alloc, method, &none, frames)?;
-    let followed = is_followed(alloc, method, &entry.1, behind)?;
+    let Ok(()) = push_listed(alloc, method, &none, frames) else {
+        return Err(NoMemory);
+    };
+    let Ok(followed) = is_followed(alloc, method, &entry.1, behind) else {
+        return Err(NoMemory);
+    };
     match lesser(pending, fails_unless(followed, NO_FRAME)) {
         Some(rule) => Ok(Visited::Fails(rule)),
         None => Ok(Visited::Goes(None)),
@@ -150,14 +163,14 @@ fn visit(
     ensures { IfOk result (λ v. (es : List (ℕ × Instr)) → place_of es ≡ behind →
         VisitedUnder program.now method.now pending (arriving flow (declared method.now entry.now.0)) entry.now es frames.old.items frames.new.items v) }
 {
-    let arrived = arrive(alloc, method, entry.0, flow)?;
-    match arrived {
-        Some(state) => {
+    match arrive(alloc, method, entry.0, flow) {
+        Ok(Some(state)) => {
             visit_under(
                 alloc, program, method, entry, behind, pending, state, frames,
             )
         }
-        None => visit_unreached(alloc, method, entry, behind, pending, frames),
+        Ok(None) => visit_unreached(alloc, method, entry, behind, pending, frames),
+        Err(_) => Err(NoMemory),
     }
 }
 
@@ -172,13 +185,15 @@ fn walk_code(
     ensures { IfOk result (λ walked. CodeWalked program.now method.now first (Some begins) walked) }
 {
     let code = method.code.as_slice();
-    let mut frames = Vec::with_capacity(alloc, code.len())?;
+    let Ok(mut frames) = Vec::with_capacity(alloc, code.len()) else {
+        return Err(NoMemory);
+    };
     let mut flow = Some(begins);
     let mut pending = first;
     for index in 0..code.len() {
         let entry = code_at(code, index);
         let behind = place_behind(code, index);
-        let visited = visit(
+        let Ok(visited) = visit(
             alloc,
             program,
             method,
@@ -187,7 +202,9 @@ fn walk_code(
             pending,
             flow,
             &mut frames,
-        )?;
+        ) else {
+            return Err(NoMemory);
+        };
         match visited {
             Visited::Goes(next) => flow = next,
             Visited::Fails(rule) => return Ok(Walked::Fault(entry.0, rule)),
@@ -206,7 +223,9 @@ fn walk_body(alloc: Global, program: &Program, method: &Method) -> Result<Walked
         return Ok(Walked::Frames(Vec::new(alloc)));
     }
     let entry = code_at(code, 0);
-    let begins = entry_state(alloc, method)?;
+    let Ok(begins) = entry_state(alloc, method) else {
+        return Err(NoMemory);
+    };
     let first = entry_rule(program, method, entry.0, &begins);
     walk_code(alloc, program, method, begins, first)
 }

@@ -5,7 +5,7 @@ use Rattle.kilim_isolation_check.proofs.Loops.{copied}
 use Rattle.kilim_isolation_check.proofs.merge.append.Goals as goal
 
 pub loop-report-preserved : goal.loop-report-preserved
-loop-report-preserved c = copied c.args.into.now c.loop-report.into c.push_copy.new.into c.args.more.now c.loop-report.report-index c.report-item.result _ c.loop-report-test.true c.report-item.is c.loop-report.invariant c.in_ok-push_copy.ensures
+loop-report-preserved c = copied c.args.into.now c.loop-report.into c.push_copy.new.into c.args.more.now c.loop-report.report-index c.report-item.result _ c.loop-report-test.true c.report-item.is c.loop-report.invariant c.in-Ok.ensures
 
 pub returns : goal.returns
 returns c = c.loop-report.invariant ∙ ap (λ (xs : List Report). c.args.into.now ++ xs) (take_all c.loop-report.report-index c.args.more.now (omega arith))

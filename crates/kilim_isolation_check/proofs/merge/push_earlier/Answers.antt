@@ -6,7 +6,7 @@ use Rattle.kilim_isolation_check.proofs.merge.push_earlier.Goals as goal
 pub loop-at-preserved : goal.loop-at-preserved
 loop-at-preserved c = record {
   pushed = push_more c.args.report.now c.args.others.now c.loop-at.into c.push_copy.new.into (c.args.into.now ++ earlier c.args.report.now (drop c.args.from c.args.others.now)) c.loop-at.at c.index-others-at.result _ c.loop-at-test.true c.index-others-at.is
-      (sym c.if-not-comes_before.ensures) c.loop-at.invariant.pushed c.in_ok-push_copy.ensures;
+      (sym c.if-not-comes_before.ensures) c.loop-at.invariant.pushed c.in-Ok.ensures;
   rest = rest_more c.args.report.now c.args.others.now (later c.args.report.now (drop c.args.from c.args.others.now)) c.loop-at.at c.index-others-at.result _ c.loop-at-test.true c.index-others-at.is (sym c.if-not-comes_before.ensures)
       c.loop-at.invariant.rest;
 }

@@ -6,7 +6,7 @@ use Rattle.kilim_isolation_check.proofs.tables.table_of.Goals as goal
 pub loop-number-init : goal.loop-number-init
 loop-number-init g c = (
   omega arith,
-  subst (λ (t : List ℕ). IsNoted t (places_of c.args.entries.now) c.args.size (length c.args.entries.now)) (sym (c.in_ok-table.ensures.items_if_clones_equal (λ y e. e))) (none_noted c.args.entries.now c.args.size),
+  subst (λ (t : List ℕ). IsNoted t (places_of c.args.entries.now) c.args.size (length c.args.entries.now)) (sym (c.in-Ok.ensures.items_if_clones_equal (λ y e. e))) (none_noted c.args.entries.now c.args.size),
 )
 
 pub loop-number-preserved : goal.loop-number-preserved

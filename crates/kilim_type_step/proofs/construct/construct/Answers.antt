@@ -11,11 +11,11 @@ returns-then-not-fits c =
     (constructs_abstract c.args.program.now c.args.method.now c.args.class (option_to_list c.args.gives) c.args.fits (length (operands_of c.args.takes.now)) c.in-Some.object c.args.state.now c.in-Some-class_made.made
     (sym c.in-Some.ensures) (sym c.in-Some-class_made.ensures) c.if-not-fits.true)
 
-pub returns-in_ok-finish-in-Some-class_made : goal.returns-in_ok-finish-in-Some-class_made
-returns-in_ok-finish-in-Some-class_made c =
+pub returns-in-Ok : goal.returns-in-Ok
+returns-in-Ok c =
     passes_four _ _ _ _ _ _ (sym c.if-not-has_object.ensures) (sym c.if-not-has_room_above.ensures) (sym c.if-not-all_meet.ensures) c.if-not-named.false
     (constructs_fits c.args.program.now c.args.method.now c.args.class (option_to_list c.args.gives) c.args.fits (length (operands_of c.args.takes.now)) c.in-Some.object c.args.state.now c.finish.new.state c.in-Some-class_made.made
-    (sym c.in-Some.ensures) (sym c.in-Some-class_made.ensures) c.if-not-fits.false c.in_ok-finish-in-Some-class_made.ensures)
+    (sym c.in-Some.ensures) (sym c.in-Some-class_made.ensures) c.if-not-fits.false c.in-Ok.ensures)
 
 pub returns-in-None-class_made : goal.returns-in-None-class_made
 returns-in-None-class_made c =

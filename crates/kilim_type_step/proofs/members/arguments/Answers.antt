@@ -10,7 +10,7 @@ use Rattle.kilim_type_step.proofs.members.arguments.Goals as goal
 pub loop-left-preserved : goal.loop-left-preserved
 loop-left-preserved c = (
   omega arith,
-  ap (λ (ts : List Taken). operands_of ts ++ reverse (types_of (take (c.loop-left.left - 1) c.as_slice-params.result.now))) (c.in_ok-push.ensures.items ∙ ap (λ (t : VType). c.loop-left.takes.items ++ taken.Is t ∷ []) c.vtype.ensures)
+  ap (λ (ts : List Taken). operands_of ts ++ reverse (types_of (take (c.loop-left.left - 1) c.as_slice-params.result.now))) (c.in-Ok.ensures.items ∙ ap (λ (t : VType). c.loop-left.takes.items ++ taken.Is t ∷ []) c.vtype.ensures)
       ∙ argument_on c.as_slice-params.result.now c.loop-left.takes.items c.loop-left.left _ c.loop-left-test.true c.loop-left.invariant.0 c.loop-left.invariant.1,
 )
 

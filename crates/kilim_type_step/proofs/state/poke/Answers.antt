@@ -6,4 +6,4 @@ use Rattle.kilim_type_step.proofs.state.poke.Goals as goal
 
 pub loop-types-preserved : goal.loop-types-preserved
 loop-types-preserved c =
-    ap (λ (xs : List VType). poke xs c.args.slot c.args.t) c.in_ok-push.ensures.items ∙ (poke_more c.loop-types.types.items c.args.slot c.args.t (search rules) ∙ c.loop-types.invariant)
+    ap (λ (xs : List VType). poke xs c.args.slot c.args.t) c.in-Ok.ensures.items ∙ (poke_more c.loop-types.types.items c.args.slot c.args.t (search rules) ∙ c.loop-types.invariant)

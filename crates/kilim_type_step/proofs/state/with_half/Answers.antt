@@ -7,7 +7,7 @@ overflow_add-slot c = omega arith
 
 pub returns-then-is_long : goal.returns-then-is_long
 returns-then-is_long c =
-    c.in_ok-poke.ensures ∙ sym (half_poked c.args.t c.args.types.now.items c.args.slot (sym c.is_long.ensures ∙ c.if-is_long.true))
+    c.in-Ok.ensures ∙ sym (half_poked c.args.t c.args.types.now.items c.args.slot (sym c.is_long.ensures ∙ c.if-is_long.true))
 
 pub returns : goal.returns
 returns c = sym (half_kept c.args.t c.args.types.now.items c.args.slot (sym c.is_long.ensures ∙ c.if-is_long.false))

@@ -9,7 +9,7 @@ loop-at-preserved c =
     let ts = c.args.types.now in
     let at = c.loop-at.at in
     let slots = c.loop-at.slots.items in
-    ap (λ xs. xs ++ padded (c.args.count - (at + 1)) (drop (at + 1) ts)) (c.in_ok-push.ensures.items ∙ ap (λ t. slots ++ t ∷ []) c.type_at.ensures) ∙ padded_on ts slots c.args.count at (omega arith) c.loop-at.invariant
+    ap (λ xs. xs ++ padded (c.args.count - (at + 1)) (drop (at + 1) ts)) (c.in-Ok-push.ensures.items ∙ ap (λ t. slots ++ t ∷ []) c.type_at.ensures) ∙ padded_on ts slots c.args.count at (omega arith) c.loop-at.invariant
 
 pub returns : goal.returns
 returns c =

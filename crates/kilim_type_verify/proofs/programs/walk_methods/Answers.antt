@@ -8,19 +8,19 @@ loop-number-preserved c =
     let p = c.args.program.now in
     let ms = c.as_slice-methods.result.now in
     let m = c.method_of-method.result.now in
-    let walked = c.in_ok-frames.ensures in
+    let walked = c.in-Ok-walk.ensures in
     let frames = rw c.in-Frames.is at walked in (
       fault_on p ms c.loop-number.number m c.method_of-method.ensures frames.0 ∙ c.loop-number.invariant.0,
-      c.in_ok-push-in-Frames.ensures.items
+      c.in-Ok-push.ensures.items
           ∙ frames_on p ms c.loop-number.number m c.loop-number.all.items c.from_vec.result c.method_of-method.ensures (c.from_vec.ensures ∙ frames.1) c.loop-number.invariant.1,
     )
 
 pub returns-in-Fault : goal.returns-in-Fault
 returns-in-Fault c =
-    let walked = c.in_ok-frames.ensures in
+    let walked = c.in-Ok-walk.ensures in
     let fault = rw c.in-Fault.is at walked in
-    let number = rw c.in-Ok.is at c.try_from.ensures in
-    fault_of c.args.program.now c.as_slice-methods.result.now c.loop-number.number c.in-Ok.id c.method_of-method.result.now c.in-Fault.place c.in-Fault.rule c.method_of-method.ensures fault number.1 c.loop-number.invariant.0
+    let number = rw c.in-Ok-try_from.is at c.try_from.ensures in
+    fault_of c.args.program.now c.as_slice-methods.result.now c.loop-number.number c.in-Ok-try_from.id c.method_of-method.result.now c.in-Fault.place c.in-Fault.rule c.method_of-method.ensures fault number.1 c.loop-number.invariant.0
 
 pub returns : goal.returns
 returns c =

@@ -1,7 +1,7 @@
 use Rattle.std.proofs.Common.{ap, length, arith}
 use Rattle.kilim_typing.specs.Typed.{frame_in}
-use Rattle.kilim_isolation_check.proofs.Numbered.{search_end, search_here, search_more}
-use Rattle.kilim_isolation_check.proofs.walk.declared_at.Goals as goal
+use Rattle.kilim_type_step.proofs.Searched.{search_end, search_here, search_more}
+use Rattle.kilim_type_step.proofs.entry.declared_at.Goals as goal
 
 pub returns-then-entry-place : goal.returns-then-entry-place
 returns-then-entry-place c =
