@@ -4,3 +4,8 @@ pub mod Given
 pub mod Following
 pub mod Ready
 pub mod Begins
+pub mod courses
+pub mod receivers
+pub mod simulation
+pub mod stands
+pub mod woven_kin

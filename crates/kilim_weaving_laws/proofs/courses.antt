@@ -6,3 +6,4 @@ pub mod Executes
 pub mod Unstuck
 pub mod Roomy
 pub mod Known
+pub mod answers

@@ -8,3 +8,5 @@ pub mod Keeper
 pub mod Natives
 pub mod Steps
 pub mod Tasks
+pub mod called
+pub mod states

@@ -19,3 +19,4 @@ pub mod Begins
 pub mod Whole
 pub mod Same
 pub mod Tally
+pub mod beginnings

@@ -3,3 +3,5 @@ pub mod Placed
 pub mod Targets
 pub mod LiveFacts
 pub mod Formed
+pub mod serves
+pub mod shares

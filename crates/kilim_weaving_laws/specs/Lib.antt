@@ -3,7 +3,6 @@ pub mod Fibers
 pub mod Nexts
 pub mod Ready
 pub mod Laws
-pub mod unwinds
 pub mod courses
 pub mod receivers
 pub mod simulation

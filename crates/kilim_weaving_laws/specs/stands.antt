@@ -1,4 +1,3 @@
 pub mod Law
-pub mod example
 pub mod serves
 pub mod shares

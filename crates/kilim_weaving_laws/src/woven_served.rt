@@ -1,15 +1,6 @@
 //! A fiber of a woven program does what the task of each course does: a law, and no code that does work.
 
-pub mod accepted;
-pub mod gives;
-pub mod ready;
-
-ghost use Rattle.kilim_weaving_laws.specs.woven_served.Served.{ConstructorIsSame, RunsServe};
-
-/// A law, and no work: the constructor of task 0 is the same method in the woven program.
-pub fn constructor_is_same()
-    ensures { ConstructorIsSame }
-{}
+ghost use Rattle.kilim_weaving_laws.specs.woven_served.Served.{RunsServe};
 
 /// A law, and no work: in each run of an accepted program a fiber of each woven form of it does what the task does, along each course.
 pub fn runs_serve()

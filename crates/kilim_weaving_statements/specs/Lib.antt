@@ -1,0 +1,2 @@
+pub mod unwinds
+pub mod stands
