@@ -99,12 +99,14 @@ fn check_ready(alloc: Global, names: &[String], files: &[Seq<u8>]) -> Result<Rea
     match accepted(alloc, names, files) {
         Ok(isolated) => {
             let methods = coded_methods(isolated);
-            let text = accepted_line(alloc, files.len(), methods)?;
-            Ok(Ready::Reply(Reply {
-                status: DONE,
-                files: Vec::new(alloc),
-                text,
-            }))
+            match accepted_line(alloc, files.len(), methods) {
+                Ok(text) => Ok(Ready::Reply(Reply {
+                    status: DONE,
+                    files: Vec::new(alloc),
+                    text,
+                })),
+                Err(_) => Err(NoMemory),
+            }
         }
         Err(refusal) => refused(alloc, refusal),
     }

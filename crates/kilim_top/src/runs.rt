@@ -45,11 +45,15 @@ pub fn reply_alone<G: Gate>(
     ensures { IfOk result (λ reply. IsReplyFor (meant asked.now) files.now reply.status reply.files.items reply.text.items) }
 {
     let demo = demo_number(asked);
-    let ready = prepare(alloc, asked, files)?;
+    let Ok(ready) = prepare(alloc, asked, files) else {
+        return Err(NoMemory);
+    };
     match ready {
         Ready::Reply(reply) => Ok(reply),
         Ready::Run(plain, woven, class, limits) => {
-            let entries = run_alone(alloc, plain, woven, class, &limits, gate)?;
+            let Ok(entries) = run_alone(alloc, plain, woven, class, &limits, gate) else {
+                return Err(NoMemory);
+            };
             run_reply(alloc, demo, entries)
         }
     }
@@ -69,11 +73,16 @@ pub fn reply_with<R: Threads + Wait + Sync, G: Gate>(
 {
     let workers = workers_of(asked);
     let demo = demo_number(asked);
-    let ready = prepare(alloc, asked, files)?;
+    let Ok(ready) = prepare(alloc, asked, files) else {
+        return Err(NoMemory);
+    };
     match ready {
         Ready::Reply(reply) => Ok(reply),
         Ready::Run(plain, woven, class, limits) => {
-            let entries = run_with(rt, alloc, plain, woven, class, &limits, workers, gate)?;
+            let Ok(entries) = run_with(rt, alloc, plain, woven, class, &limits, workers, gate)
+            else {
+                return Err(NoMemory);
+            };
             run_reply(alloc, demo, entries)
         }
     }

@@ -24,7 +24,6 @@ const STEPS: u64 = 1_000_000;
 const MAIN: [u16; 6] = [68, 47, 77, 97, 105, 110];
 
 // The program to which the class files with these bytes link, with its woven form, or a report.
-#[tactic(auto, using(crate::proofs::demo::Served::few_texts))]
 fn woven_texts(alloc: Global, number: u64, texts: &[Seq<u8>]) -> Result<WovenProgram, Refusal>
     requires { texts.now ≡ demo_texts number }
     ensures woven { IfOk result (λ w. IsWovenOf (demo_texts number) w.plain w.woven) }

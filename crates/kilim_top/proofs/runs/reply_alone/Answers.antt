@@ -6,8 +6,11 @@ use Rattle.kilim_top.specs.Inside.Answer.{IsReadyFor}
 use Rattle.kilim_top.proofs.Replies.{ran}
 use Rattle.kilim_top.proofs.runs.reply_alone.Goals as goal
 
-pub returns-in_ok-entries-in-Run : goal.returns-in_ok-entries-in-Run
-returns-in_ok-entries-in-Run g c =
-    ran (meant c.args.asked.now) c.args.files.now (setting_of c.in-Run.plain c.in-Run.class c.in-Run.limits) c.in-Run.woven c.demo_number-demo.result c.in_ok-entries-in-Run.entries.items c.run_reply.result
-    (subst (λ (r : Ready). IsReadyFor (meant c.args.asked.now) c.args.files.now r) c.in-Run.is c.in_ok-ready.ensures) c.demo_number-demo.ensures c.in_ok-entries-in-Run.ensures c.run_reply.ensures.status c.run_reply.ensures.files
+pub returns-in-Ok-run_alone : goal.returns-in-Ok-run_alone
+returns-in-Ok-run_alone g c =
+    ran (meant c.args.asked.now) c.args.files.now (setting_of c.in-Run.plain c.in-Run.class c.in-Run.limits) c.in-Run.woven c.demo_number-demo.result c.in-Ok-run_alone.entries.items c.run_reply.result
+    (subst (λ (r : Ready). IsReadyFor (meant c.args.asked.now) c.args.files.now r) c.in-Run.is c.in-Ok.ensures) c.demo_number-demo.ensures c.in-Ok-run_alone.ensures c.run_reply.ensures.status c.run_reply.ensures.files
     c.run_reply.ensures.text
+
+pub run_reply-requires : goal.run_reply-requires
+run_reply-requires g c = c.in-Ok-run_alone.ensures.readable
