@@ -1,7 +1,5 @@
 //! Why a text is no descriptor.
 
-use std::alloc::{AllocError, AllocFailed};
-
 /// Why a text is no descriptor.
 #[derive(Clone, Copy)]
 pub enum DescriptorFault {
@@ -21,26 +19,4 @@ pub enum Stop {
     Memory,
     /// No descriptor goes on like this where so many units are left.
     Left(usize),
-}
-
-impl From<AllocError> for Stop {
-    ghost use Rattle.std.specs.Prelude.{◌≡◌};
-    ghost use Rattle.kilim_descriptors.specs.declared.fault.Stop.TheVariants as stop;
-
-    ghost from_gives = { λ _ e. e ≡ stop.Memory };
-
-    fn from(_: AllocError) -> Stop {
-        Stop::Memory
-    }
-}
-
-impl<T: Drop> From<AllocFailed<T>> for Stop {
-    ghost use Rattle.std.specs.Prelude.{◌≡◌};
-    ghost use Rattle.kilim_descriptors.specs.declared.fault.Stop.TheVariants as stop;
-
-    ghost from_gives = { λ _ e. e ≡ stop.Memory };
-
-    fn from(_: AllocFailed<T>) -> Stop {
-        Stop::Memory
-    }
 }

@@ -39,12 +39,18 @@ fn push_params<'a>(
 {
     let mut rest = units;
     for _ in 0..units.len() {
-        let (param, after) = param_at(alloc, rest)?;
-        let Some(param) = param else {
-            return Ok(after);
-        };
-        params.push(param)?;
-        rest = after;
+        match param_at(alloc, rest) {
+            Ok((param, after)) => {
+                let Some(param) = param else {
+                    return Ok(after);
+                };
+                let Ok(()) = params.push(param) else {
+                    return Err(Stop::Memory);
+                };
+                rest = after;
+            }
+            Err(stop) => return Err(stop),
+        }
     }
     Err(Stop::Left(rest.len()))
 }
