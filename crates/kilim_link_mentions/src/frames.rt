@@ -50,7 +50,9 @@ fn push_slots(
     ensures { OnOk result (into.new ≡ into.old ++ flat_map (mentions_of_slot pool.now) slots.now) }
 {
     for slot in slots {
-        push_slot(alloc, into, pool, *slot)?;
+        let Ok(()) = push_slot(alloc, into, pool, *slot) else {
+            return Err(NoMemory);
+        };
     }
     Ok(())
 }
@@ -68,7 +70,9 @@ fn push_frame(
         Frame::SameLocals1StackItemExtended(_, item) => push_slot(alloc, into, pool, *item),
         Frame::Append(_, locals) => push_slots(alloc, into, pool, locals.as_slice()),
         Frame::Full(_, locals, stack) => {
-            push_slots(alloc, into, pool, locals.as_slice())?;
+            let Ok(()) = push_slots(alloc, into, pool, locals.as_slice()) else {
+                return Err(NoMemory);
+            };
             push_slots(alloc, into, pool, stack.as_slice())
         }
         _ => Ok(()),
@@ -84,7 +88,9 @@ fn push_each_frame(
     ensures { OnOk result (into.new ≡ into.old ++ flat_map (λ f. flat_map (mentions_of_slot pool.now) (slots_of_frame f)) frames.now) }
 {
     for frame in frames {
-        push_frame(alloc, into, pool, frame)?;
+        let Ok(()) = push_frame(alloc, into, pool, frame) else {
+            return Err(NoMemory);
+        };
     }
     Ok(())
 }
@@ -112,7 +118,9 @@ fn push_tables(
     ensures { OnOk result (into.new ≡ into.old ++ flat_map (λ f. flat_map (mentions_of_slot pool.now) (slots_of_frame f)) (flat_map (λ a. table_in a.info) attributes.now)) }
 {
     for attribute in attributes {
-        push_table(alloc, into, pool, &attribute.info)?;
+        let Ok(()) = push_table(alloc, into, pool, &attribute.info) else {
+            return Err(NoMemory);
+        };
     }
     Ok(())
 }

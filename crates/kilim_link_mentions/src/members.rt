@@ -70,7 +70,9 @@ fn push_members_of_each(
     ensures { OnOk result (into.new ≡ into.old ++ flat_map (λ m. flat_map (λ p. members_of_operand (operand_of pool.now p.1)) (instrs_of m)) methods.now) }
 {
     for method in methods {
-        push_members_of(alloc, into, pool, method)?;
+        let Ok(()) = push_members_of(alloc, into, pool, method) else {
+            return Err(NoMemory);
+        };
     }
     Ok(())
 }

@@ -138,7 +138,9 @@ fn push_code(
     ensures { OnOk result (into.new ≡ into.old ++ flat_map (λ p. mentions_of_instr pool.now p.1) instrs.now) }
 {
     for (_, instr) in instrs {
-        push_instr(alloc, into, pool, instr)?;
+        let Ok(()) = push_instr(alloc, into, pool, instr) else {
+            return Err(NoMemory);
+        };
     }
     Ok(())
 }
@@ -196,7 +198,9 @@ fn push_methods(
     ensures { OnOk result (into.new ≡ into.old ++ flat_map (mentions_of_method file.now) methods.now) }
 {
     for method in methods {
-        push_method(alloc, into, file, method)?;
+        let Ok(()) = push_method(alloc, into, file, method) else {
+            return Err(NoMemory);
+        };
     }
     Ok(())
 }

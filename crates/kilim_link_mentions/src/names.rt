@@ -33,7 +33,9 @@ fn push_each(into: &mut Seq<Units>, types: &[FieldText]) -> Result<(), NoMemory>
     ensures { OnOk result (into.new ≡ into.old ++ flat_map type_names types.now) }
 {
     for found in types {
-        push_base(into, &found.base)?;
+        let Ok(()) = push_base(into, &found.base) else {
+            return Err(NoMemory);
+        };
     }
     Ok(())
 }
@@ -92,9 +94,10 @@ fn push_element(into: &mut Seq<Units>, class: &Named) -> Result<(), NoMemory>
 fn push_field(alloc: Global, into: &mut Seq<Units>, descriptor: &Units) -> Result<(), NoMemory>
     ensures { OnOk result (into.new ≡ into.old ++ flat_map type_names (types_of_field (field_text descriptor.now))) }
 {
-    match field_text(alloc, descriptor)? {
-        Some(found) => push_base(into, &found.base),
-        None => Ok(()),
+    match field_text(alloc, descriptor) {
+        Ok(Some(found)) => push_base(into, &found.base),
+        Ok(None) => Ok(()),
+        Err(fault) => Err(fault),
     }
 }
 
@@ -118,9 +121,10 @@ fn push_method_types(into: &mut Seq<Units>, method: &MethodText) -> Result<(), N
 fn push_method(alloc: Global, into: &mut Seq<Units>, descriptor: &Units) -> Result<(), NoMemory>
     ensures { OnOk result (into.new ≡ into.old ++ flat_map type_names (types_of_method (method_text descriptor.now))) }
 {
-    match method_text(alloc, descriptor)? {
-        Some(found) => push_method_types(into, &found),
-        None => Ok(()),
+    match method_text(alloc, descriptor) {
+        Ok(Some(found)) => push_method_types(into, &found),
+        Ok(None) => Ok(()),
+        Err(fault) => Err(fault),
     }
 }
 
@@ -154,7 +158,9 @@ fn push_names_of_each(
     ensures { OnOk result (into.new ≡ into.old ++ flat_map names_mentioned mentions.now) }
 {
     for mention in mentions {
-        push_names(alloc, into, mention)?;
+        let Ok(()) = push_names(alloc, into, mention) else {
+            return Err(NoMemory);
+        };
     }
     Ok(())
 }

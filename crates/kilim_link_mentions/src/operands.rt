@@ -180,9 +180,10 @@ fn constant_operand(
 ) -> Result<Option<Operand>, NoMemory>
     ensures { IfOk result (λ found. found ≡ option_map AConstant (constant_ref pool.now (option_copied entry.entry))) }
 {
-    match constant_ref(alloc, pool, entry)? {
-        Some(value) => Ok(Some(Operand::AConstant(value))),
-        None => Ok(None),
+    match constant_ref(alloc, pool, entry) {
+        Ok(Some(value)) => Ok(Some(Operand::AConstant(value))),
+        Ok(None) => Ok(None),
+        Err(fault) => Err(fault),
     }
 }
 
