@@ -1,13 +1,14 @@
 //! Parts that are left out.
 
-ghost use Rattle.std.specs.Prelude.{◌≡◌, IfOk};
+ghost use Rattle.std.specs.Prelude.{◌≡◌, map, IfOk};
 ghost use Rattle.std.specs.List.{flat_map};
 ghost use Rattle.kilim_classes.specs.declared.names.ClassId.{ClassId};
 ghost use Rattle.kilim_link_spec.specs.Linked.{first_of};
-ghost use Rattle.kilim_link_spec.specs.LeftOut.{if_left, left_out_parts};
-ghost use Rattle.kilim_link_spec.specs.Mentions.{class_names, mentions_of};
+ghost use Rattle.kilim_link_spec.specs.LeftOut.{has_other_parameters, has_static_field, if_left, left_out_parts};
+ghost use Rattle.kilim_link_spec.specs.Mentions.{class_names, mentions_of, types_mentioned};
 ghost use Rattle.kilim_link_spec.specs.Faults.{left_out};
 ghost use Rattle.kilim_link_file_faults.specs.Lefts.{tested_parts};
+ghost use Rattle.kilim_link_file_faults.specs.Shapes.{shape_of};
 
 use crate::fields::has_static_field;
 use crate::methods::{
@@ -15,7 +16,7 @@ use crate::methods::{
     has_pausable_constructor, left_out_op,
 };
 use crate::parameters::has_other_parameters;
-use crate::types::{has_float, has_task_array, shapes};
+use crate::types::{Shape, has_float, has_task_array, shapes};
 use kilim_classfile::ClassFile;
 use kilim_link_spec::{LeftOutPart, Mention, Problem};
 use kilim_link_views::has_flag;
@@ -42,7 +43,45 @@ fn first_held(tests: &[(bool, LeftOutPart)]) -> Option<LeftOutPart>
     None
 }
 
-// The first of those that stand behind the left-out instructions.
+// The first of those that stand behind the left-out instructions. It is known what types the file names, whether it has
+// a static field that is left out, and whether it has other parameters.
+fn first_passed(
+    world: &World,
+    file: &ClassFile,
+    mentions: &[Mention],
+    names: &[Units],
+    types: &[Shape],
+    static_field: bool,
+    other_parameters: bool,
+) -> Option<LeftOutPart>
+    requires mentioned { mentions.now ≡ mentions_of file.now }
+    requires named { names.now ≡ class_names file.now }
+    requires shaped { types.now ≡ flat_map (λ m. map shape_of (types_mentioned m)) mentions.now }
+    requires fields { static_field ≡ has_static_field world.now file.now }
+    requires parameters { other_parameters ≡ has_other_parameters file.now }
+    ensures { result ≡ first_of (tested_parts world.now file.now) }
+{
+    let has_super = has_flag(SUPER, file.access_flags);
+    let synchronized = has_method_flag(SYNCHRONIZED, file);
+    let pausable_constructor = has_pausable_constructor(file);
+    let task_array = has_task_array(world, file, mentions, types);
+    first_held(&[
+        (has_float(file, mentions, types), LeftOutPart::Float),
+        (has_initializer(file), LeftOutPart::ClassInitializer),
+        (static_field, LeftOutPart::StaticField),
+        (synchronized, LeftOutPart::Synchronized),
+        (has_method_flag(NATIVE, file), LeftOutPart::Native),
+        (has_interface(file), LeftOutPart::Interface),
+        (!has_super, LeftOutPart::NoSuperFlag),
+        (pausable_constructor, LeftOutPart::PausableConstructor),
+        (has_handlers(file), LeftOutPart::Handlers),
+        (task_array, LeftOutPart::TaskArray),
+        (has_fiber_name(world, file, names), LeftOutPart::Fiber),
+        (other_parameters, LeftOutPart::ParameterAnnotations),
+    ])
+}
+
+// The same, where nothing is known yet.
 fn first_tested(
     alloc: Global,
     world: &World,
@@ -54,39 +93,25 @@ fn first_tested(
     requires named { names.now ≡ class_names file.now }
     ensures { IfOk result (λ found. found ≡ first_of (tested_parts world.now file.now)) }
 {
-    let Ok(types) = shapes(alloc, mentions) else {
-        return Err(NoMemory);
-    };
-    let types = types.as_slice();
     let Ok(static_field) = has_static_field(alloc, world, file) else {
         return Err(NoMemory);
     };
     let Ok(other_parameters) = has_other_parameters(alloc, file) else {
         return Err(NoMemory);
     };
-    let synchronized = has_method_flag(SYNCHRONIZED, file);
-    let task_array = has_task_array(world, file, mentions, types);
-    let tests = [
-        (has_float(file, mentions, types), LeftOutPart::Float),
-        (has_initializer(file), LeftOutPart::ClassInitializer),
-        (static_field, LeftOutPart::StaticField),
-        (synchronized, LeftOutPart::Synchronized),
-        (has_method_flag(NATIVE, file), LeftOutPart::Native),
-        (has_interface(file), LeftOutPart::Interface),
-        (
-            !has_flag(SUPER, file.access_flags),
-            LeftOutPart::NoSuperFlag,
-        ),
-        (
-            has_pausable_constructor(file),
-            LeftOutPart::PausableConstructor,
-        ),
-        (has_handlers(file), LeftOutPart::Handlers),
-        (task_array, LeftOutPart::TaskArray),
-        (has_fiber_name(world, file, names), LeftOutPart::Fiber),
-        (other_parameters, LeftOutPart::ParameterAnnotations),
-    ];
-    Ok(first_held(&tests))
+    let Ok(shapes) = shapes(alloc, mentions) else {
+        return Err(NoMemory);
+    };
+    let types = shapes.as_slice();
+    Ok(first_passed(
+        world,
+        file,
+        mentions,
+        names,
+        types,
+        static_field,
+        other_parameters,
+    ))
 }
 
 /// The first part of a class, in the order of `LeftOutPart`, that is left out (own); none where there is none. Takes the
