@@ -59,36 +59,36 @@ fn push_added(
 
 // The instructions of a woven code in their forms; the counted ones are the old ones, in order.
 #[tactic(auto, unfolding(kilim_woven_sizes::specs::file_laws::form::Raw::raw_code))]
-fn raw_code(
+fn push_raw(
     alloc: Global,
+    into: &mut Seq<(u32, RawInstr)>,
     program: &Program,
     old: &Pool,
     pool: &Pool,
     code: &[(u32, Instr)],
     counted: &[bool],
     olds: &[(u32, RawInstr)],
-) -> Result<Seq<(u32, RawInstr)>, NoMemory>
-    ensures { IfOk result (λ v. v ≡ raw_code program.now old.now pool.now code.now counted.now olds.now) }
+) -> Result<(), NoMemory>
+    ensures { OnOk result (into.new ≡ into.old ++ raw_code program.now old.now pool.now code.now counted.now olds.now) }
 {
-    let mut all = Seq::new(alloc);
     let mut marks = counted;
     let mut rest = olds;
     for entry in code {
         let [mark, others @ ..] = marks else {
-            return Ok(all);
+            return Ok(());
         };
         marks = others;
         if *mark {
             let [was, behind @ ..] = rest else {
-                return Ok(all);
+                return Ok(());
             };
             rest = behind;
-            push_moved(alloc, &mut all, program, old, pool, entry, &was.1)?;
+            push_moved(alloc, into, program, old, pool, entry, &was.1)?;
         } else {
-            push_added(alloc, &mut all, program, pool, entry)?;
+            push_added(alloc, into, program, pool, entry)?;
         }
     }
-    Ok(all)
+    Ok(())
 }
 
 fn new_bytes(
@@ -105,8 +105,10 @@ fn new_bytes(
     let Ok(olds) = instrs_if(alloc, bytes) else {
         return Err(NoMemory);
     };
-    let Ok(raw) = raw_code(
+    let mut raw = Seq::new(alloc);
+    let Ok(()) = push_raw(
         alloc,
+        &mut raw,
         program,
         old,
         pool,

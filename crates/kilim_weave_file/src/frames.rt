@@ -1,6 +1,6 @@
 //! Declared frames, all in the full form (JVMS 4.7.4).
 
-ghost use Rattle.std.specs.Prelude.{◌≡◌, ◌<◌, ◌-◌, ◌++◌, ◌∷◌, List, suc, length, map, slice_get, Some, IfOk};
+ghost use Rattle.std.specs.Prelude.{◌≡◌, ◌<◌, ◌-◌, ◌++◌, ◌∷◌, [], List, suc, length, map, slice_get, Some, IfOk};
 ghost use Rattle.kilim_attribute_parts.specs.declared.frame.VerificationType.TheVariants as slot;
 ghost use Rattle.kilim_classes.specs.declared.verified.VType.{VType};
 ghost use Rattle.kilim_classes.specs.declared.verified.VType.TheVariants.{Object};
@@ -147,6 +147,29 @@ fn full_frame(
     Ok(Entered::Full(delta, locals, stack))
 }
 
+// One frame more, and the place behind it.
+fn push_frame(
+    alloc: Global,
+    into: &mut Seq<Entered>,
+    program: &Program,
+    pool: &Pool,
+    next: u32,
+    entry: &(u32, Frame),
+) -> Result<u32, NoMemory>
+    ensures { IfOk result (λ behind. (behind ≡ suc entry.now.0) × (into.new ≡ into.old ++ full_frame program.now pool.now (entry.now.0 - next) entry.now.1 ∷ [])) }
+{
+    let Ok(delta) = delta_from(next, entry.0) else {
+        return Err(NoMemory);
+    };
+    let Ok(frame) = full_frame(alloc, program, pool, delta, &entry.1) else {
+        return Err(NoMemory);
+    };
+    let Ok(()) = into.push(frame) else {
+        return Err(NoMemory);
+    };
+    near_next(entry.0)
+}
+
 /// The frames of a table, in their order.
 #[tactic(auto, unfolding(kilim_woven_sizes::specs::file_laws::form::FullFrames::full_frames))]
 pub fn full_frames(
@@ -160,16 +183,7 @@ pub fn full_frames(
     let mut all = Seq::new(alloc);
     let mut next = 0;
     for entry in frames {
-        let Ok(delta) = delta_from(next, entry.0) else {
-            return Err(NoMemory);
-        };
-        let Ok(frame) = full_frame(alloc, program, pool, delta, &entry.1) else {
-            return Err(NoMemory);
-        };
-        let Ok(()) = all.push(frame) else {
-            return Err(NoMemory);
-        };
-        let Ok(behind) = near_next(entry.0) else {
+        let Ok(behind) = push_frame(alloc, &mut all, program, pool, next, entry) else {
             return Err(NoMemory);
         };
         next = behind;

@@ -83,36 +83,36 @@ fn push_member(
     Ok(())
 }
 
-fn file_needs(
+fn push_members(
     alloc: Global,
+    into: &mut Seq<Need>,
     program: &Program,
     file: &ClassFile,
     plains: &[Method],
     wovens: &[Method],
     counted: &[Seq<bool>],
-) -> Result<Seq<Need>, NoMemory>
-    ensures { IfOk result (λ v. v ≡ flat_map (member_needs program.now file.now) (pairs_of file.now.methods plains.now wovens.now counted.now)) }
+) -> Result<(), NoMemory>
+    ensures { OnOk result (into.new ≡ into.old ++ flat_map (member_needs program.now file.now) (pairs_of file.now.methods plains.now wovens.now counted.now)) }
 {
-    let mut all = Seq::new(alloc);
     let mut ps = plains;
     let mut ms = wovens;
     let mut cs = counted;
     for info in file.methods.as_slice() {
         let [plain, later_plains @ ..] = ps else {
-            return Ok(all);
+            return Ok(());
         };
         let [method, later_wovens @ ..] = ms else {
-            return Ok(all);
+            return Ok(());
         };
         let [marks, later_counted @ ..] = cs else {
-            return Ok(all);
+            return Ok(());
         };
         ps = later_plains;
         ms = later_wovens;
         cs = later_counted;
         let Ok(()) = push_member(
             alloc,
-            &mut all,
+            into,
             program,
             file,
             info,
@@ -123,7 +123,7 @@ fn file_needs(
             return Err(NoMemory);
         };
     }
-    Ok(all)
+    Ok(())
 }
 
 // ---- its methods
@@ -250,7 +250,10 @@ fn push_needs(
 ) -> Result<(), NoMemory>
     ensures { OnOk result (pool.new ≡ with_needs pool.old (flat_map (member_needs program.now file.now) (pairs_of file.now.methods plains.now wovens.now counted.now))) }
 {
-    let needs = file_needs(alloc, program, file, plains, wovens, counted)?;
+    let mut needs = Seq::new(alloc);
+    let Ok(()) = push_members(alloc, &mut needs, program, file, plains, wovens, counted) else {
+        return Err(NoMemory);
+    };
     with_needs(pool, needs.as_slice())
 }
 

@@ -8,22 +8,21 @@ use Rattle.kilim_weave_file.proofs.Loops.{all_made}
 use Rattle.kilim_weave_file.proofs.frames.full_frames.Goals as goal
 
 -- the frames behind one more
-one_more : (w : Program) (pool : List Entry) (frames : List (ℕ × Frame)) (i : ℕ) (e : ℕ × Frame) (next later delta : ℕ) (made : FrameForm) (all new whole : List FrameForm) → i < length frames → e ≡ get_or frames i e
-    → delta ≡ e.0 - next → made ≡ full_frame w pool delta e.1 → later ≡ suc e.0 → new ≡ all ++ made ∷ [] → all ++ full_frames w pool next (drop i frames) ≡ whole → new ++ full_frames w pool later (drop (i + 1) frames) ≡ whole
+one_more : (w : Program) (pool : List Entry) (frames : List (ℕ × Frame)) (i : ℕ) (e : ℕ × Frame) (next later : ℕ) (all new whole : List FrameForm) → i < length frames → e ≡ get_or frames i e
+    → (later ≡ suc e.0) × (new ≡ all ++ full_frame w pool (e.0 - next) e.1 ∷ []) → all ++ full_frames w pool next (drop i frames) ≡ whole → new ++ full_frames w pool later (drop (i + 1) frames) ≡ whole
 unfolding full_frames
-one_more w pool frames i e next later delta made all new whole lt is far is_made behind step so_far =
+one_more w pool frames i e next later all new whole lt is made so_far =
     let rest : List FrameForm = full_frames w pool (suc e.0) (drop (suc i) frames) in
     rw add-one
-    (ap (λ (n : ℕ). new ++ full_frames w pool n (drop (suc i) frames)) behind
-    ∙ (ap (λ (t : List FrameForm). t ++ rest) step
-    ∙ (append_assoc all (made ∷ []) rest
-    ∙ (ap (λ (f : FrameForm). all ++ (f ∷ rest)) (is_made ∙ ap (λ (n : ℕ). full_frame w pool n e.1) far)
-    ∙ (ap (λ (x : ℕ × Frame). all ++ full_frames w pool next (x ∷ drop (suc i) frames)) is ∙ (ap (λ (es : List (ℕ × Frame)). all ++ full_frames w pool next es) (sym (drop-cons frames i e lt)) ∙ so_far))))))
+    (ap (λ (n : ℕ). new ++ full_frames w pool n (drop (suc i) frames)) made.0
+    ∙ (ap (λ (t : List FrameForm). t ++ rest) made.1
+    ∙ (append_assoc all (full_frame w pool (e.0 - next) e.1 ∷ []) rest
+    ∙ (ap (λ (x : ℕ × Frame). all ++ full_frames w pool next (x ∷ drop (suc i) frames)) is ∙ (ap (λ (es : List (ℕ × Frame)). all ++ full_frames w pool next es) (sym (drop-cons frames i e lt)) ∙ so_far)))))
 
 pub loop-entry-preserved : goal.loop-entry-preserved
 loop-entry-preserved c =
-    one_more c.args.program.now c.args.pool.now c.args.frames.now c.loop-entry.entry-index c.entry-item.result c.loop-entry.next c.in-Ok-near_next.behind c.in-Ok.delta c.in-Ok-full_frame.frame c.loop-entry.all c.push.new.self
-    (full_frames c.args.program.now c.args.pool.now 0 c.args.frames.now) c.loop-entry-test.true c.entry-item.is c.in-Ok.ensures c.in-Ok-full_frame.ensures c.in-Ok-near_next.ensures c.in-Ok-push.ensures.ok c.loop-entry.invariant
+    one_more c.args.program.now c.args.pool.now c.args.frames.now c.loop-entry.entry-index c.entry-item.result c.loop-entry.next c.in-Ok.behind c.loop-entry.all c.push_frame.new.into
+    (full_frames c.args.program.now c.args.pool.now 0 c.args.frames.now) c.loop-entry-test.true c.entry-item.is c.in-Ok.ensures c.loop-entry.invariant
 
 pub returns : goal.returns
 unfolding full_frames

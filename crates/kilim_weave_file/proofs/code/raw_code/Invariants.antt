@@ -1,6 +1,0 @@
-use Rattle.std.proofs.Common.{◌≡◌, ◌++◌, drop}
-use Rattle.kilim_woven_sizes.specs.file_laws.form.Raw.{raw_code}
-use Rattle.kilim_weave_file.proofs.code.raw_code.Given as goal
-
-abbrev pub invariant-loop-entry : goal.invariant-loop-entry
-invariant-loop-entry l = l.all ++ raw_code l.program l.old l.pool (drop l.entry-index l.code) l.marks l.rest ≡ raw_code l.program l.old l.pool l.code l.counted l.olds
