@@ -75,6 +75,14 @@ module _ {S : Type 0} where
   pub reshown : (m : Sat S) (z : TableId) (q n : ℕ) (shown list : List (List ℕ)) (c : List (ℕ × Option S)) → m ≡ (holder z q n shown list, c) → m ≡ (holder z q n m.0.shown list, c)
   reshown m z q n shown list c e = e ∙ ap (λ (l : List (List ℕ)). (holder z q n l list, c)) (sym (ap (λ (p : Sat S). p.0.shown) e))
 
+  -- a worker's seat shows what it shows
+  pub seen : (m : Sat S) (z : TableId) (q n : ℕ) (shown : List (List ℕ)) → m ≡ (worker z q n shown, []) → m ≡ (worker z q n m.0.shown, [])
+  seen m z q n shown e = e ∙ ap (λ (l : List (List ℕ)). (worker z q n l, [])) (sym (ap (λ (p : Sat S). p.0.shown) e))
+
+  -- and has the slots that it has
+  pub slots_are : (m : Sat S) (v : View) (c : List (ℕ × Option S)) → m ≡ (v, c) → m ≡ (v, m.1)
+  slots_are m v c e = e ∙ ap (λ (l : List (ℕ × Option S)). (v, l)) (sym (ap (λ (p : Sat S). p.1) e))
+
 -- what was found in the slot is the value that fits
 pub found_fits : {B : Type 0} (cells : B → List (List ℕ)) (z : TableId) (m : Sat (Kept B)) (v : View) (x : Option (Kept B)) (y k : Kept B) → Lies cells z y → m ≡ (v, (0, Some y) ∷ [])
     → m.1 ≡ (0, x) ∷ rest m.1 → x ≡ Some k → Lies cells z k

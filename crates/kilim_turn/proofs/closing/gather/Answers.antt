@@ -19,6 +19,12 @@ join_seat-requires g c =
       takes_over (Lies g.B.Cells.cells) (length (g.B.Cells.cells c.args.shelf.now.key.value)) _ _ _ _ _ _ _ _ _ _ (ap (λ m. m.0) own) (ap (λ m. m.0) v.knows) (one_less _ _ _ e),
     )
 
+pub into_seat-seat-requires-in-Some : goal.into_seat-seat-requires-in-Some
+into_seat-seat-requires-in-Some g c =
+    let v = c.loop-pass.invariant in
+    let e = popped _ _ _ _ c.pop-in-loop-pass.ensures.items c.in-Some.is in
+    (_, (last_of _ _ _ _ _ _ _ c.requires.all v.split e).0.knows)
+
 pub loop-pass-preserved : goal.loop-pass-preserved
 loop-pass-preserved g c =
     let v = c.loop-pass.invariant in

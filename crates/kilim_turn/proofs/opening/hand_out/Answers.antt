@@ -1,6 +1,6 @@
-use Rattle.std.proofs.Common.{◌∷◌, [], ◌+◌, length, arith, refl, ap, ◌∙◌}
+use Rattle.std.proofs.Common.{◌≡◌, ℕ, ◌∷◌, [], ◌+◌, length, arith, refl, ap, ◌∙◌}
 use Rattle.kilim_turn.specs.Rule.{Lies}
-use Rattle.kilim_turn.specs.Views.{made_more, next_worker}
+use Rattle.kilim_turn.specs.Views.{opener, made_more, next_worker}
 use Rattle.kilim_turn.specs.Steps.{Sat}
 use Rattle.kilim_turn.proofs.Keeps.{splits}
 use Rattle.kilim_turn.proofs.Passes.{made_next}
@@ -32,3 +32,8 @@ loop-number-preserved g c =
         knows = b.2 ∙ (ap (λ (m : Sat _). m.0 ∷ []) s.4 ∙ ap (λ (m : Sat _). next_worker m.0 ∷ []) v.1);
       }),
     )
+
+pub returns-clause-opening : goal.returns-clause-opening
+returns-clause-opening g c =
+    let all : c.loop-number.number ≡ c.args.seats = omega arith in
+    c.loop-number.invariant.1 ∙ ap (λ (n : ℕ). (opener c.args.shelf.now.table_id c.args.seats n (g.B.Cells.cells c.args.shelf.now.key.value), [])) all

@@ -1,11 +1,15 @@
-use Rattle.std.proofs.Common.{length, sym, refl, ap, ◌∙◌}
+use Rattle.std.proofs.Common.{length, sym, refl, ap, ◌∙◌, []}
 use Rattle.kilim_turn.specs.Rule.{Lies}
+use Rattle.kilim_turn.specs.Views.{fresh}
 use Rattle.kilim_turn.proofs.Keeps.{begins}
 use Rattle.kilim_turn.proofs.Passes.{shown_all}
 use Rattle.kilim_turn.proofs.lending.Turn.open.Goals as goal
 
 pub vacant-requires : goal.vacant-requires
 vacant-requires g c = begins (Lies g.B.Cells.cells) (length (g.B.Cells.cells c.of-key.result.value)) _ _ (c.requires.seats ∙ ap (λ b. length (g.B.Cells.cells b)) (sym c.of-key.ensures)) refl
+
+pub fill-passes-requires-clause-fresh : goal.fill-passes-requires-clause-fresh
+fill-passes-requires-clause-fresh g c = let key = c.in-Ok-vacant.ensures in key.4 ∙ ap (λ k. (fresh (g.B.Cells.cells k.value), [])) (sym key.5)
 
 pub returns-clause-cells : goal.returns-clause-cells
 returns-clause-cells g c =
