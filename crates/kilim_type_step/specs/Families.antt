@@ -37,7 +37,7 @@ is_arithmetic I2s = true
 is_arithmetic Lcmp = true
 is_arithmetic _ = false
 
--- the others whose operands depend on nothing: constants, jumps, and elements of arrays of primitive types
+-- those whose operands depend on nothing: constants, jumps, elements of arrays of primitive types, and arithmetic
 abbrev pub is_plain : Instr → Bool
 is_plain Nop = true
 is_plain AconstNull = true
@@ -72,7 +72,7 @@ is_plain (Goto a) = true
 is_plain (Tableswitch a b c) = true
 is_plain (Lookupswitch a b) = true
 is_plain (GotoW a) = true
-is_plain _ = false
+is_plain i = is_arithmetic i
 
 -- constants of the pool
 abbrev pub is_constant : Instr → Bool

@@ -11,7 +11,7 @@ use crate::jumps::on_reference_jump;
 use crate::locals::on_local;
 use crate::makes::on_made;
 use crate::members::{fail, on_member};
-use crate::plain::{on_arithmetic, on_plain};
+use crate::plain::on_plain;
 use crate::returns::on_return;
 use crate::shuffles::on_shuffle;
 use crate::state::State;
@@ -31,69 +31,6 @@ pub fn type_step(
     ensures { answers (type_step program.now method.now at instr.now state.old) result state.new }
 {
     match instr {
-        Instr::Nop
-        | Instr::AconstNull
-        | Instr::Iconst(_)
-        | Instr::Lconst(_)
-        | Instr::Bipush(_)
-        | Instr::Sipush(_)
-        | Instr::Iaload
-        | Instr::Laload
-        | Instr::Baload
-        | Instr::Caload
-        | Instr::Saload
-        | Instr::Iastore
-        | Instr::Lastore
-        | Instr::Bastore
-        | Instr::Castore
-        | Instr::Sastore
-        | Instr::Arraylength
-        | Instr::Ifeq(_)
-        | Instr::Ifne(_)
-        | Instr::Iflt(_)
-        | Instr::Ifge(_)
-        | Instr::Ifgt(_)
-        | Instr::Ifle(_)
-        | Instr::IfIcmpeq(_)
-        | Instr::IfIcmpne(_)
-        | Instr::IfIcmplt(_)
-        | Instr::IfIcmpge(_)
-        | Instr::IfIcmpgt(_)
-        | Instr::IfIcmple(_)
-        | Instr::Goto(_)
-        | Instr::Tableswitch(_, _, _)
-        | Instr::Lookupswitch(_, _)
-        | Instr::GotoW(_) => { on_plain(program, method, at, instr, state) }
-        Instr::Iadd
-        | Instr::Ladd
-        | Instr::Isub
-        | Instr::Lsub
-        | Instr::Imul
-        | Instr::Lmul
-        | Instr::Idiv
-        | Instr::Ldiv
-        | Instr::Irem
-        | Instr::Lrem
-        | Instr::Ineg
-        | Instr::Lneg
-        | Instr::Ishl
-        | Instr::Lshl
-        | Instr::Ishr
-        | Instr::Lshr
-        | Instr::Iushr
-        | Instr::Lushr
-        | Instr::Iand
-        | Instr::Land
-        | Instr::Ior
-        | Instr::Lor
-        | Instr::Ixor
-        | Instr::Lxor
-        | Instr::I2l
-        | Instr::L2i
-        | Instr::I2b
-        | Instr::I2c
-        | Instr::I2s
-        | Instr::Lcmp => { on_arithmetic(program, method, at, instr, state) }
         Instr::Ldc(_) | Instr::LdcW(_) | Instr::Ldc2W(_) => {
             on_constant(program, method, at, instr, state)
         }
@@ -132,5 +69,7 @@ pub fn type_step(
         | Instr::Checkcast(_)
         | Instr::Instanceof(_) => { on_made(program, method, at, instr, state) }
         Instr::Athrow => fail(program, method, state),
+        // Arithmetic, constants, jumps that test no reference, and elements of arrays of primitive types.
+        _ => on_plain(program, method, at, instr, state),
     }
 }

@@ -89,22 +89,7 @@ fn arithmetic_row(instr: &Instr) -> (&'static [Taken], Option<VType>)
     }
 }
 
-/// Arithmetic and conversions.
-pub fn on_arithmetic(
-    program: &Program,
-    method: &Method,
-    at: u32,
-    instr: &Instr,
-    state: &mut State,
-) -> Result<(), StepFault>
-    requires { is_arithmetic instr.now ≡ true }
-    ensures { answers (type_step program.now method.now at instr.now state.old) result state.new }
-{
-    let plain = arithmetic_row(instr);
-    apply(program, method, state, plain.0, plain.1, &[])
-}
-
-// What a constant, a jump or an element's instruction takes, and what it gives.
+// What a constant, a jump, an element's instruction or one of arithmetic takes, and what it gives.
 #[tactic(auto, unfolding(kilim_typing::specs::Step::row))]
 fn plain_row(instr: &Instr) -> (&'static [Taken], Option<VType>)
     requires { is_plain instr.now ≡ true }
@@ -140,11 +125,11 @@ fn plain_row(instr: &Instr) -> (&'static [Taken], Option<VType>)
         Instr::Bastore => (STORED_BYTE, None),
         Instr::Castore => (STORED_CHAR, None),
         Instr::Sastore => (STORED_SHORT, None),
-        _ => unreachable!(),
+        _ => arithmetic_row(instr),
     }
 }
 
-/// Constants, jumps that test no reference, and elements of arrays of primitive types.
+/// Arithmetic, constants, jumps that test no reference, and elements of arrays of primitive types.
 pub fn on_plain(
     program: &Program,
     method: &Method,
