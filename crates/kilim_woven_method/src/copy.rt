@@ -17,26 +17,26 @@ pub struct Head {
 }
 
 /// The same head.
-pub fn copy_head(alloc: Global, method: &Method) -> Result<Head, NoMemory>
+pub fn copy_head(method: &Method) -> Result<Head, NoMemory>
     ensures { IfOk result (λ h. h ≡ record { name = method.now.name; params = method.now.params; qualifiers = method.now.qualifiers; handlers = method.now.handlers }) }
 {
     let Ok(name) = method.name.clone() else {
         return Err(NoMemory);
     };
-    let Ok(params) = Vec::from_slice(alloc, method.params.as_slice()) else {
+    let Ok(params) = method.params.clone() else {
         return Err(NoMemory);
     };
-    let Ok(qualifiers) = Vec::from_slice(alloc, method.qualifiers.as_slice()) else {
+    let Ok(qualifiers) = method.qualifiers.clone() else {
         return Err(NoMemory);
     };
-    let Ok(handlers) = Vec::from_slice(alloc, method.handlers.as_slice()) else {
+    let Ok(handlers) = method.handlers.clone() else {
         return Err(NoMemory);
     };
     Ok(Head {
         name,
-        params: Seq::from_vec(params),
-        qualifiers: Seq::from_vec(qualifiers),
-        handlers: Seq::from_vec(handlers),
+        params,
+        qualifiers,
+        handlers,
     })
 }
 
@@ -93,19 +93,16 @@ fn copy_code(alloc: Global, code: &[(u32, Instr)]) -> Result<Seq<(u32, Instr)>, 
     Ok(all)
 }
 
-fn copy_frame(alloc: Global, frame: &Frame) -> Result<Frame, NoMemory>
+fn copy_frame(frame: &Frame) -> Result<Frame, NoMemory>
     ensures { IfOk result (λ f. f ≡ frame.now) }
 {
-    let Ok(locals) = Vec::from_slice(alloc, frame.locals.as_slice()) else {
+    let Ok(locals) = frame.locals.clone() else {
         return Err(NoMemory);
     };
-    let Ok(stack) = Vec::from_slice(alloc, frame.stack.as_slice()) else {
+    let Ok(stack) = frame.stack.clone() else {
         return Err(NoMemory);
     };
-    Ok(Frame {
-        locals: Seq::from_vec(locals),
-        stack: Seq::from_vec(stack),
-    })
+    Ok(Frame { locals, stack })
 }
 
 fn frame_at(frames: &[(u32, Frame)], at: usize) -> &(u32, Frame)
@@ -121,7 +118,7 @@ fn copy_frames(alloc: Global, frames: &[(u32, Frame)]) -> Result<Seq<(u32, Frame
     let mut all = Seq::new(alloc);
     for at in 0..frames.len() {
         let entry = frame_at(frames, at);
-        let Ok(frame) = copy_frame(alloc, &entry.1) else {
+        let Ok(frame) = copy_frame(&entry.1) else {
             return Err(NoMemory);
         };
         let Ok(()) = all.push((entry.0, frame)) else {
@@ -167,6 +164,6 @@ pub fn with_head(alloc: Global, method: &Method, head: Head) -> Result<Method, N
 pub fn copy_method(alloc: Global, method: &Method) -> Result<Method, NoMemory>
     ensures { IfOk result (λ m. m ≡ method.now) }
 {
-    let head = copy_head(alloc, method)?;
+    let head = copy_head(method)?;
     with_head(alloc, method, head)
 }

@@ -212,10 +212,10 @@ fn push_fiber(head: &mut Head, class: u32) -> Result<(), NoMemory>
 }
 
 /// The head of a method with the fiber as one argument more.
-pub fn head_with(alloc: Global, method: &Method, class: u32) -> Result<Head, NoMemory>
+pub fn head_with(method: &Method, class: u32) -> Result<Head, NoMemory>
     ensures { IfOk result (λ h. h ≡ record { name = method.now.name; params = method.now.params ++ class_type class ∷ []; qualifiers = method.now.qualifiers ++ Qualifier.Safe ∷ []; handlers = method.now.handlers }) }
 {
-    let mut head = copy_head(alloc, method)?;
+    let mut head = copy_head(method)?;
     match push_fiber(&mut head, class) {
         Ok(()) => Ok(head),
         Err(fault) => {
@@ -233,7 +233,7 @@ struct Outside {
     max_locals: u16,
 }
 
-fn outside_of(alloc: Global, method: &Method, slots: Slots) -> Result<Outside, NoMemory>
+fn outside_of(method: &Method, slots: Slots) -> Result<Outside, NoMemory>
     ensures { IfOk result (λ o. o ≡ record { head = record { name = method.now.name; params = method.now.params ++ class_type slots.class ∷ []; qualifiers = method.now.qualifiers ++ Qualifier.Safe ∷ []; handlers = method.now.handlers }; max_stack = method.now.max_stack + 4; max_locals = (if method.now.is_static then slots.receiver else slots.receiver + 1) }) }
 {
     let Ok(max_stack) = plus(method.max_stack, 4) else {
@@ -242,7 +242,7 @@ fn outside_of(alloc: Global, method: &Method, slots: Slots) -> Result<Outside, N
     let Ok(max_locals) = locals_with(slots, method.is_static) else {
         return Err(NoMemory);
     };
-    let Ok(head) = head_with(alloc, method, slots.class) else {
+    let Ok(head) = head_with(method, slots.class) else {
         return Err(NoMemory);
     };
     Ok(Outside {
@@ -271,16 +271,11 @@ fn made(method: &Method, outside: Outside, laid: Laid) -> (Method, Seq<bool>)
 }
 
 // The method with other code and one argument more.
-fn with_code(
-    alloc: Global,
-    method: &Method,
-    slots: Slots,
-    laid: Laid,
-) -> Result<(Method, Seq<bool>), NoMemory>
+fn with_code(method: &Method, slots: Slots, laid: Laid) -> Result<(Method, Seq<bool>), NoMemory>
     ensures method { IfOk result (λ r. r.0 ≡ record method.now { params = method.now.params ++ class_type slots.class ∷ []; qualifiers = method.now.qualifiers ++ Qualifier.Safe ∷ []; max_stack = method.now.max_stack + 4; max_locals = (if method.now.is_static then slots.receiver else slots.receiver + 1); code_length = laid.end; code = laid.code; frames = laid.frames }) }
     ensures counted { IfOk result (λ r. r.1 ≡ laid.counted) }
 {
-    match outside_of(alloc, method, slots) {
+    match outside_of(method, slots) {
         Ok(outside) => Ok(made(method, outside, laid)),
         Err(fault) => {
             drop(laid);
@@ -308,5 +303,5 @@ pub fn woven(
     let Ok(laid) = laid_out(alloc, program, method, frames, live, slots) else {
         return Err(NoMemory);
     };
-    with_code(alloc, method, slots, laid)
+    with_code(method, slots, laid)
 }

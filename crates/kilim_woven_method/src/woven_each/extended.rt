@@ -58,7 +58,7 @@ pub fn extended(alloc: Global, program: &Program, method: &Method) -> Result<Met
     let Ok(locals) = locals_of(method) else {
         return Err(NoMemory);
     };
-    let Ok(head) = head_with(alloc, method, class) else {
+    let Ok(head) = head_with(method, class) else {
         return Err(NoMemory);
     };
     let Ok(mut woven) = with_head(alloc, method, head) else {

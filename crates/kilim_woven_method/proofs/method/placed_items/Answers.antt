@@ -1,5 +1,6 @@
-use Rattle.std.proofs.Common.{ap, ◌∙◌}
+use Rattle.std.proofs.Common.{◌≡◌, subst}
 use Rattle.kilim_typing.specs.woven_form.Woven as form
+use Rattle.kilim_woven_pieces.specs.Items.{items_of}
 use Rattle.kilim_woven_method.proofs.Outcomes.{so_of}
 use Rattle.kilim_woven_method.proofs.method.placed_items.Goals as goal
 
@@ -10,4 +11,4 @@ pub items_at-requires : goal.items_at-requires
 items_at-requires c = record { slots = c.requires.slots; flags = c.requires.flags; rising = c.requires.rising; listed = c.requires.listed }
 
 pub returns : goal.returns
-returns c = so_of c.items_at.result (λ items is. is ∙ ap form.woven_items c.in-Ok.ensures) c.items_at.ensures
+returns c = so_of c.items_at.result (λ items is. subst (λ (x : form.Plan). items_of items ≡ form.woven_items x) c.in-Ok.ensures is) c.items_at.ensures
