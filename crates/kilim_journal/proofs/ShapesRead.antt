@@ -1,5 +1,5 @@
 -- A shape at the front of a text, token by token.
-use Rattle.std.proofs.Common.{◌≡◌, ℕ, zero, suc, ◌<◌, ◌≤◌, Bool, true, false, List, [], ◌∷◌, ◌++◌, length, get_or, Option, Some, None, refl, sym, ap, subst, ◌∙◌, arith, append_assoc}
+use Rattle.std.proofs.Common.{◌≡◌, ℕ, zero, suc, ◌<◌, ◌≤◌, Bool, true, false, List, [], ◌∷◌, ◌++◌, length, get_or, Some, None, refl, sym, ap, subst, ◌∙◌, arith, append_assoc}
 use Rattle.std.specs.List.{flat_map}
 use Rattle.std.specs.Fmt.{signed_decimal}
 use Rattle.kilim_units.specs.NameText.{name_text}
@@ -169,6 +169,3 @@ shape_out bytes done begun follows rest s none ts x value fits text =
     let l = left bytes done begun follows rest s ts x value fits text in
     let some = takes_some_behind follows l.token _ rest _ l.fits l.text refl in
     absurd (omega arith)
-
-pub same_shape : (a b : List Token) → a ≡ b → ◌≡◌ {A = Option (List Token)} (Some a) (Some b)
-same_shape a b e = ap (λ ts. Some ts) e

@@ -261,12 +261,12 @@ fn begun_behind(begun: usize, token: &Token) -> Result<Option<usize>, NoMemory>
     }
 }
 
-// A shape, at the end of a line.
-pub fn shape_at(alloc: Global, bytes: &[u8]) -> Result<Option<Shape>, NoMemory>
-    ensures right { (ts : List Part) (x : List ℕ) → is_value ts ≡ true → ShapeFits ts → bytes.now ≡ shape_text ts ++ (10 ∷ x) → IfOk result (λ found. found ≡ Some ts) }
-    ensures value { IfOk result (λ found. IfSome found (λ shape. (is_value shape ≡ true) × ShapeFits shape)) }
+// The tokens of a shape, put behind none, at the end of a line; whether there is one.
+fn push_tokens(alloc: Global, bytes: &[u8], tokens: &mut Seq<Token>) -> Result<bool, NoMemory>
+    requires none { tokens.old ≡ [] }
+    ensures right { (ts : List Part) (x : List ℕ) → is_value ts ≡ true → ShapeFits ts → bytes.now ≡ shape_text ts ++ (10 ∷ x) → IfOk result (λ whole. (whole ≡ true) × (tokens.new ≡ ts)) }
+    ensures value { IfOk result (λ whole. whole ≡ true → (is_value tokens.new ≡ true) × ShapeFits tokens.new) }
 {
-    let mut tokens = Seq::new(alloc);
     let mut begun = 0;
     let mut follows = false;
     let mut rest = bytes;
@@ -275,20 +275,20 @@ pub fn shape_at(alloc: Global, bytes: &[u8]) -> Result<Option<Shape>, NoMemory>
             return Err(NoMemory);
         };
         match next {
-            None => return Ok(None),
+            None => return Ok(false),
             Some((token, behind)) => {
                 let Ok(open) = begun_behind(begun, &token) else {
                     return Err(NoMemory);
                 };
                 match open {
-                    None => return Ok(None),
+                    None => return Ok(false),
                     Some(now) => {
                         follows = is_followed(&token);
                         let Ok(()) = tokens.push(token) else {
                             return Err(NoMemory);
                         };
                         if now == 0 {
-                            return Ok(Some(tokens));
+                            return Ok(true);
                         }
                         begun = now;
                         rest = behind;
@@ -297,5 +297,18 @@ pub fn shape_at(alloc: Global, bytes: &[u8]) -> Result<Option<Shape>, NoMemory>
             }
         }
     }
-    Ok(None)
+    Ok(false)
+}
+
+// A shape, at the end of a line.
+pub fn shape_at(alloc: Global, bytes: &[u8]) -> Result<Option<Shape>, NoMemory>
+    ensures right { (ts : List Part) (x : List ℕ) → is_value ts ≡ true → ShapeFits ts → bytes.now ≡ shape_text ts ++ (10 ∷ x) → IfOk result (λ found. found ≡ Some ts) }
+    ensures value { IfOk result (λ found. IfSome found (λ shape. (is_value shape ≡ true) × ShapeFits shape)) }
+{
+    let mut tokens = Seq::new(alloc);
+    match push_tokens(alloc, bytes, &mut tokens) {
+        Ok(true) => Ok(Some(tokens)),
+        Ok(false) => Ok(None),
+        Err(fault) => Err(fault),
+    }
 }

@@ -1,6 +1,6 @@
 use Rattle.std.proofs.Common.{length}
 use Rattle.kilim_journal.proofs.ShapesRead.{ShapeSoFar}
-use Rattle.kilim_journal.proofs.values.shape_at.Given as goal
+use Rattle.kilim_journal.proofs.values.push_tokens.Given as goal
 
 abbrev pub invariant-loop-rest : goal.invariant-loop-rest
 invariant-loop-rest l = ShapeSoFar l.bytes l.tokens l.begun l.follows l.rest
