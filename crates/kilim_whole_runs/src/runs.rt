@@ -75,7 +75,7 @@ pub fn run_alone<G: Gate>(
         return Err(NoMemory);
     };
     let ran = journal_alone(alloc, &code, main, limits, gate);
-    drop(code);
+    code.end();
     ran
 }
 
@@ -98,7 +98,7 @@ fn run_by<R: Threads + Wait + Sync, G: Gate>(
         return Err(NoMemory);
     };
     let ran = journal_by(rt, alloc, &code, main, limits, workers, gate);
-    drop(code);
+    code.end();
     ran
 }
 

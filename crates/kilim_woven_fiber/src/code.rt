@@ -82,6 +82,11 @@ impl Code {
         }
     }
 
+    /// Lets the code go.
+    pub fn end(self) {
+        drop(self);
+    }
+
     /// The built-in method that a method of the woven program is, where it is one that is handed out.
     #[inline(always)]
     pub(crate) fn native(&self, method: MethodId) -> Option<Native>

@@ -148,7 +148,8 @@ impl Fiber {
         requires roomy { RoomyIn code.now.program self.old.body.frames }
         ensures { OnOk result (Passed code.now.program self.old self.new (deed_of did) (counted (behind_at 0 self.old.body))) }
     {
-        if self.body.count.checked_add(1).is_none() {
+        if self.body.count == u64::MAX {
+            drop(did);
             return Err(NoMemory);
         }
         done(&code.program, &mut self.body);
@@ -162,7 +163,8 @@ impl Fiber {
         requires room { RoomIn code.now.program self.old.body.frames }
         ensures { OnOk result (Passed code.now.program self.old self.new (deed_of did) (with_result (Some a_value.Null) (counted (behind_at 0 self.old.body)))) }
     {
-        if self.body.count.checked_add(1).is_none() {
+        if self.body.count == u64::MAX {
+            drop(did);
             return Err(NoMemory);
         }
         found_none(&code.program, &mut self.body);
@@ -183,7 +185,8 @@ impl Fiber {
         requires room { RoomIn code.now.program self.old.body.frames }
         ensures { OnOk result (Taken code.now.plain code.now.program self.old self.new mailbox tree number) }
     {
-        if self.body.count.checked_add(1).is_none() {
+        if self.body.count == u64::MAX {
+            drop(tree);
             return Err(NoMemory);
         }
         let Ok(shape) = take(self.alloc, &code.plain, &code.program, tree, &mut self.body) else {
@@ -209,7 +212,8 @@ impl Fiber {
         requires room { RoomIn code.now.program self.old.body.frames }
         ensures { OnOk result (Found code.now.plain code.now.program self.old self.new mailbox tree number) }
     {
-        if self.body.count.checked_add(1).is_none() {
+        if self.body.count == u64::MAX {
+            drop(tree);
             return Err(NoMemory);
         }
         let Ok(shape) = found(&code.plain, &code.program, tree, &mut self.body) else {
