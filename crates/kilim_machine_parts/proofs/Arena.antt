@@ -265,6 +265,9 @@ now_replaced h ps ps' q o new e there p = ap (objects_from 0) p ∙ (filled_map 
 pub still_arena : (ps ps' : List (Option Object)) (fs : List ℕ) (q : ℕ) (o new : Object) (room : ℕ) → IsArena ps fs room → get_or ps q None ≡ Some o → ps' ≡ set ps q (Some new) → IsArena ps' fs room
 still_arena ps ps' fs q o new room a e p = subst (λ ps. IsArena ps fs room) (sym p) (kept_arena ps fs q o new room a e)
 
+pub roomier : (ps ps' : List (Option Object)) (fs fs' : List ℕ) (room room' : ℕ) → IsArena ps fs room → ps' ≡ ps → fs' ≡ fs → room ≤ room' → IsArena ps' fs' room'
+roomier ps ps' fs fs' room room' a p f le = subst (λ ps. IsArena ps fs' room') (sym p) (subst (λ fs. IsArena ps fs room') (sym f) (more_room ps fs room room' a le))
+
 pub at_end_arena : (ps ps' : List (Option Object)) (fs fs' : List ℕ) (o : Object) (room room' : ℕ) → IsArena ps fs room → length fs ≡ 0 → fs' ≡ fs → ps' ≡ ps ++ Some o ∷ [] → length ps + 1 ≤ room' → IsArena ps' fs' room'
 at_end_arena ps ps' fs fs' o room room' a none f p fits =
     let fits' : length (ps ++ Some o ∷ []) ≤ room' = omega (arith, fits, length-append ps (Some o ∷ [])) in

@@ -1,7 +1,13 @@
-use Rattle.std.proofs.Common.{arith, length, ◌+◌, ◌≤◌, ◌∙◌, ap, ◌++◌, ◌∷◌, [], Some}
+use Rattle.std.proofs.Common.{arith, length, ◌+◌, ◌≤◌, ◌∙◌, ap, ◌++◌, ◌∷◌, [], Some, refl}
 use Rattle.std.specs.Vec.{vec_capacity}
-use Rattle.kilim_machine_parts.proofs.Arena.{at_end_arena, ok_then}
+use Rattle.kilim_machine_parts.proofs.Arena.{at_end_arena, roomier, ok_then}
 use Rattle.kilim_machine_parts.proofs.heap.add_at_end.Goals as goal
+
+pub returns-then-is_err-clause-arena : goal.returns-then-is_err-clause-arena
+returns-then-is_err-clause-arena c = roomier _ _ _ _ _ _ c.requires.arena refl c.reserve.ensures.items c.reserve.ensures.capacity
+
+pub returns-then-is_err-2-clause-arena : goal.returns-then-is_err-2-clause-arena
+returns-then-is_err-2-clause-arena c = roomier _ _ _ _ _ _ c.requires.arena c.reserve-2.ensures.items c.reserve.ensures.items c.reserve.ensures.capacity
 
 pub returns-clause-arena : goal.returns-clause-arena
 returns-clause-arena c =
