@@ -34,7 +34,10 @@ fn differs_nearest(
         return Ok(false);
     };
     match heritage.first_declared(world, above, signature) {
-        Some(other) => Ok(!agrees(alloc, world, class, method, above, other)?),
+        Some(other) => match agrees(alloc, world, class, method, above, other) {
+            Ok(agree) => Ok(!agree),
+            Err(fault) => Err(fault),
+        },
         None => Ok(false),
     }
 }
@@ -54,7 +57,10 @@ fn differs_here(
     ensures { IfOk result (λ apart. apart ≡ differs_here world.now class method.now) }
 {
     match heritage.first_declared(world, class, signature) {
-        Some(first) => Ok(!alike(alloc, world, class, method, first)?),
+        Some(first) => match alike(alloc, world, class, method, first) {
+            Ok(alike) => Ok(!alike),
+            Err(fault) => Err(fault),
+        },
         None => Ok(false),
     }
 }
@@ -73,10 +79,11 @@ fn differs(
     requires descriptor { signature.now.descriptor ≡ method.now.descriptor }
     ensures { IfOk result (λ apart. apart ≡ (differs_here world.now class method.now || differs_nearest world.now class method.now)) }
 {
-    if differs_here(alloc, world, heritage, class, method, signature)? {
-        return Ok(true);
+    match differs_here(alloc, world, heritage, class, method, signature) {
+        Ok(true) => Ok(true),
+        Ok(false) => differs_nearest(alloc, world, heritage, class, method, signature),
+        Err(fault) => Err(fault),
     }
-    differs_nearest(alloc, world, heritage, class, method, signature)
 }
 
 // The same of a method that overrides: constructors and private ones override nothing.

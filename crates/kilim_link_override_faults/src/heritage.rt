@@ -57,7 +57,9 @@ fn say_shared(said: &mut Seq<Said>, methods: &[DeclaredMethod]) -> Result<(), No
 {
     for method in methods {
         if !method.is_private {
-            say(said, method, None)?;
+            let Ok(()) = say(said, method, None) else {
+                return Err(NoMemory);
+            };
         }
     }
     Ok(())
@@ -69,7 +71,9 @@ fn say_abstract(said: &mut Seq<Said>, methods: &[DeclaredMethod]) -> Result<(), 
 {
     for method in methods {
         if method.is_abstract && !method.is_private {
-            say(said, method, Some(0))?;
+            let Ok(()) = say(said, method, Some(0)) else {
+                return Err(NoMemory);
+            };
         }
     }
     Ok(())

@@ -211,7 +211,10 @@ fn differs(
     if other.is_private {
         return Ok(false);
     }
-    Ok(!agrees(alloc, world, class, method, above, other)?)
+    match agrees(alloc, world, class, method, above, other) {
+        Ok(agree) => Ok(!agree),
+        Err(fault) => Err(fault),
+    }
 }
 
 fn differs_at(
