@@ -22,7 +22,10 @@ fn reports_of(alloc: Global, typed: &Typed, id: MethodId) -> Result<Seq<Report>,
     let Ok(others) = method_reports(alloc, typed, id) else {
         return Err(NoMemory);
     };
-    merged(alloc, walked.as_slice(), others.as_slice())
+    let all = merged(alloc, walked.as_slice(), others.as_slice());
+    drop(others);
+    drop(walked);
+    all
 }
 
 #[tactic(auto, using(crate::proofs::Together::each_more))]

@@ -35,7 +35,9 @@ fn begun(alloc: Global, program: &Program, method: &Method) -> Result<Graph, NoM
     let Ok(graph) = Graph::entry(alloc, program, method) else {
         return Err(NoMemory);
     };
-    graph.canonical(alloc, declared_at(method, 0))
+    let canonical = graph.canonical(alloc, declared_at(method, 0));
+    drop(graph);
+    canonical
 }
 
 /// The graph with which a method begins; none where a tree becomes private in the frame that is declared at its first place.

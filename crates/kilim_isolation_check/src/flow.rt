@@ -87,7 +87,11 @@ fn flows_mix(
         return Ok(false);
     };
     match left(alloc, program, method, before, instr) {
-        Ok(Some(state)) => mixes_into(alloc, program, &state, frame),
+        Ok(Some(state)) => {
+            let mixes = mixes_into(alloc, program, &state, frame);
+            drop(state);
+            mixes
+        }
         Ok(None) => Ok(false),
         Err(NoMemory) => Err(NoMemory),
     }
@@ -107,7 +111,9 @@ fn deed(
     let Ok(types) = turned::<VType>(alloc, before.stack.as_slice()) else {
         return Err(NoMemory);
     };
-    deed_of(alloc, program, method, graph, &types, instr)
+    let deed = deed_of(alloc, program, method, graph, &types, instr);
+    drop(types);
+    deed
 }
 
 /// The graph that an instruction leaves, or the least of the rules 1 to 7 and 9 that it breaks. `before` is the verified frame at

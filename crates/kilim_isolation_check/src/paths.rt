@@ -138,7 +138,10 @@ fn explored(
     let Ok(frames_at) = frame_table(alloc, method) else {
         return Err(NoMemory);
     };
-    found_from(alloc, program, method, &code_at, &frames_at, frames, first)
+    let found = found_from(alloc, program, method, &code_at, &frames_at, frames, first);
+    drop(frames_at);
+    drop(code_at);
+    found
 }
 
 // What the paths of a method with code give that begins with a graph.
@@ -175,7 +178,11 @@ fn walked(
     ensures { IfOk result (λ reports. spec.ArePathReports program.now id method.now frames.now (entry_graph program.now method.now) reports) }
 {
     match first_graph(alloc, program, method) {
-        Ok(Some(first)) => walked_from(alloc, program, id, method, frames, &first),
+        Ok(Some(first)) => {
+            let walked = walked_from(alloc, program, id, method, frames, &first);
+            drop(first);
+            walked
+        }
         Ok(None) => one_report(alloc, id, 0, KIND_MIXED, &[0]),
         Err(NoMemory) => Err(NoMemory),
     }

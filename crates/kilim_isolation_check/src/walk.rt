@@ -67,7 +67,11 @@ fn step_by(
     ensures { IsStepOf program.now method.now graph.now (frame_types before.now) instr.now (option_map frame_types (option_copied after.entry)) result }
 {
     match transfer(alloc, program, method, graph, before, instr, after) {
-        Ok(left) => canonical(alloc, &left, after),
+        Ok(left) => {
+            let stepped = canonical(alloc, &left, after);
+            drop(left);
+            stepped
+        }
         Err(fault) => Err(fault),
     }
 }
@@ -114,7 +118,9 @@ pub fn step(
                 locals: Seq::new(alloc),
                 stack: Seq::new(alloc),
             };
-            step_by(alloc, program, method, graph, &nothing, instr, after)
+            let stepped = step_by(alloc, program, method, graph, &nothing, instr, after);
+            drop(nothing);
+            stepped
         }
     }
 }
