@@ -78,7 +78,9 @@ impl<T> Seq<T> {
         ensures ok { OnOk result (self.new ≡ self.old ++ item ∷ []) }
         ensures err { OnErr result (self.new ≡ self.old) }
     {
-        self.items.push(item)?;
+        let Ok(()) = self.items.push(item) else {
+            return Err(AllocError);
+        };
         Ok(())
     }
 }

@@ -60,7 +60,9 @@ pub fn push_name(out: &mut Vec<u8>, units: &[u16]) -> Result<(), AllocError>
     ensures { OnOk result (out.new.items ≡ out.old.items ++ name_text units.now) }
 {
     for unit in units {
-        push_name_unit(out, *unit)?;
+        let Ok(()) = push_name_unit(out, *unit) else {
+            return Err(AllocError);
+        };
     }
     Ok(())
 }
@@ -73,6 +75,8 @@ pub fn name_text(alloc: Global, units: &[u16]) -> Result<Vec<u8>, NoMemory>
     ensures { IfOk result (λ text. text.items ≡ name_text units.now) }
 {
     let mut out = Vec::new(alloc);
-    push_name(&mut out, units)?;
+    let Ok(()) = push_name(&mut out, units) else {
+        return Err(NoMemory);
+    };
     Ok(out)
 }

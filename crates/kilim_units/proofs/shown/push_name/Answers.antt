@@ -21,4 +21,4 @@ one_more before now next units i lt so_far step =
 
 pub loop-unit-preserved : goal.loop-unit-preserved
 loop-unit-preserved c =
-    one_more c.args.out.now.items c.loop-unit.out.items c.push_name_unit.new.out.items c.args.units.now c.loop-unit.unit-index c.loop-unit-test.true c.loop-unit.invariant c.in_ok-push_name_unit.ensures
+    one_more c.args.out.now.items c.loop-unit.out.items c.push_name_unit.new.out.items c.args.units.now c.loop-unit.unit-index c.loop-unit-test.true c.loop-unit.invariant c.in-Ok.ensures
