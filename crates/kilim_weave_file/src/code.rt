@@ -83,9 +83,13 @@ fn push_raw(
                 return Ok(());
             };
             rest = behind;
-            push_moved(alloc, into, program, old, pool, entry, &was.1)?;
+            let Ok(()) = push_moved(alloc, into, program, old, pool, entry, &was.1) else {
+                return Err(NoMemory);
+            };
         } else {
-            push_added(alloc, into, program, pool, entry)?;
+            let Ok(()) = push_added(alloc, into, program, pool, entry) else {
+                return Err(NoMemory);
+            };
         }
     }
     Ok(())

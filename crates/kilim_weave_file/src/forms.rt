@@ -176,8 +176,12 @@ fn moved_index(
 ) -> Result<RawInstr, NoMemory>
     ensures { IfOk result (λ r. r ≡ raw.Index number (index_or pool.now index (old_need program.now old.now instr.now was.now))) }
 {
-    let need = old_need(alloc, program, old, instr, was)?;
-    Ok(RawInstr::Index(number, index_or(pool, index, &need)))
+    let Ok(need) = old_need(alloc, program, old, instr, was) else {
+        return Err(NoMemory);
+    };
+    let found = index_or(pool, index, &need);
+    drop(need);
+    Ok(RawInstr::Index(number, found))
 }
 
 /// An old instruction at its new place, with the indices of the new pool: it keeps its form and its index, but for jumps,
@@ -221,8 +225,12 @@ fn added_index(
 ) -> Result<RawInstr, NoMemory>
     ensures { IfOk result (λ r. r ≡ raw.Index number (index_or pool.now 0 (added_need program.now instr.now))) }
 {
-    let need = added_need(alloc, program, instr)?;
-    Ok(RawInstr::Index(number, index_or(pool, 0, &need)))
+    let Ok(need) = added_need(alloc, program, instr) else {
+        return Err(NoMemory);
+    };
+    let found = index_or(pool, 0, &need);
+    drop(need);
+    Ok(RawInstr::Index(number, found))
 }
 
 /// An instruction that weaving adds, with the indices of the new pool.

@@ -20,8 +20,13 @@ use std::alloc::Global;
 fn class_entry(alloc: Global, program: &Program, pool: &Pool, ty: Ty) -> Result<u16, NoMemory>
     ensures { IfOk result (λ index. slot_type program.now pool.now (Object ty) ≡ slot.Object index) }
 {
-    let need = Need::AClass(type_name(alloc, program, ty)?);
-    Ok(index_of(pool, &need))
+    let Ok(name) = type_name(alloc, program, ty) else {
+        return Err(NoMemory);
+    };
+    let need = Need::AClass(name);
+    let index = index_of(pool, &need);
+    drop(need);
+    Ok(index)
 }
 
 // A place is below 65,536; another would be answered as want of memory.

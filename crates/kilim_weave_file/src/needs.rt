@@ -183,9 +183,13 @@ fn push_code(
                 return Ok(());
             };
             rest = behind;
-            push_old(alloc, into, program, pool, &entry.1, &was.1)?;
+            let Ok(()) = push_old(alloc, into, program, pool, &entry.1, &was.1) else {
+                return Err(NoMemory);
+            };
         } else {
-            push_added(alloc, into, program, &entry.1)?;
+            let Ok(()) = push_added(alloc, into, program, &entry.1) else {
+                return Err(NoMemory);
+            };
         }
     }
     Ok(())
