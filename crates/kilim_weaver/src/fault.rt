@@ -1,9 +1,6 @@
 //! Why a program isn't woven.
 
-ghost use Rattle.std.specs.Prelude.{◌≡◌};
-
 use kilim_classes::MethodId;
-use kilim_units::NoMemory;
 
 /// Why a program isn't woven.
 #[derive(Clone, Copy)]
@@ -15,14 +12,4 @@ pub enum WeaveFault {
     ArgumentsFull(MethodId),
     /// Want of memory.
     Memory,
-}
-
-impl From<NoMemory> for WeaveFault {
-    ghost use Rattle.kilim_weaver.specs.declared.fault.WeaveFault.TheVariants as fault;
-
-    ghost from_gives = { λ _ e. e ≡ fault.Memory };
-
-    fn from(_: NoMemory) -> WeaveFault {
-        WeaveFault::Memory
-    }
 }

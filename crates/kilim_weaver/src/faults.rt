@@ -70,9 +70,19 @@ fn weight(method: &Method, calls: u32) -> Result<u64, NoMemory>
     ensures { IfOk result (λ n. n ≡ method.now.code_length + (64 + (switches_bytes method.now.code + calls * (56 + 28 * (method.now.max_locals + method.now.max_stack))))) }
 {
     let words = u64::from(method.max_locals) + u64::from(method.max_stack);
-    let groups = times(u64::from(calls), 56 + 28 * words)?;
-    let rest = plus(switches_bytes(method.code.as_slice())?, groups)?;
-    plus(u64::from(method.code_length), plus(64, rest)?)
+    let Ok(groups) = times(u64::from(calls), 56 + 28 * words) else {
+        return Err(NoMemory);
+    };
+    let Ok(switches) = switches_bytes(method.code.as_slice()) else {
+        return Err(NoMemory);
+    };
+    let Ok(rest) = plus(switches, groups) else {
+        return Err(NoMemory);
+    };
+    let Ok(added) = plus(64, rest) else {
+        return Err(NoMemory);
+    };
+    plus(u64::from(method.code_length), added)
 }
 
 // ---- the faults of a method
@@ -80,9 +90,13 @@ fn weight(method: &Method, calls: u32) -> Result<u64, NoMemory>
 fn descriptor_length(alloc: Global, program: &Program, method: &Method) -> Result<usize, NoMemory>
     ensures { IfOk result (λ n. n ≡ length (spelling (method_descriptor program.now method.now))) }
 {
-    let text = method_descriptor(alloc, program, method)?;
+    let Ok(text) = method_descriptor(alloc, program, method) else {
+        return Err(NoMemory);
+    };
     let mut bytes = Vec::new(alloc);
-    write(&text, &mut bytes)?;
+    let Ok(()) = write(&text, &mut bytes) else {
+        return Err(NoMemory);
+    };
     Ok(bytes.len())
 }
 
@@ -93,11 +107,15 @@ fn is_full(alloc: Global, program: &Program, method: &Method) -> Result<bool, No
     if !method.pausable {
         return Ok(false);
     }
-    let slots = argument_slots(method)?;
+    let Ok(slots) = argument_slots(method) else {
+        return Err(NoMemory);
+    };
     if MOST_SLOTS < slots {
         return Ok(true);
     }
-    let bytes = descriptor_length(alloc, program, method)?;
+    let Ok(bytes) = descriptor_length(alloc, program, method) else {
+        return Err(NoMemory);
+    };
     Ok(MOST_BYTES < bytes)
 }
 
@@ -127,10 +145,16 @@ fn fault_of_method(
 ) -> Result<Option<WeaveFault>, NoMemory>
     ensures { IfOk result (λ o. o ≡ fault_of_method program.now id method.now) }
 {
-    let calls = calls_in(program, method.code.as_slice())?;
-    let weight = weight(method, calls)?;
+    let Ok(calls) = calls_in(program, method.code.as_slice()) else {
+        return Err(NoMemory);
+    };
+    let Ok(weight) = weight(method, calls) else {
+        return Err(NoMemory);
+    };
     let too_long = is_too_long(calls, weight);
-    let full = is_full(alloc, program, method)?;
+    let Ok(full) = is_full(alloc, program, method) else {
+        return Err(NoMemory);
+    };
     let fault = fault_if(too_long, full, id, weight);
     Ok(fault)
 }
@@ -162,9 +186,10 @@ fn first_of(
 {
     for at in 0..ids.len() {
         let id = id_at(ids, at);
-        let fault = fault_of(alloc, program, id)?;
-        if let Some(found) = fault {
-            return Ok(Some(found));
+        match fault_of(alloc, program, id) {
+            Ok(Some(found)) => return Ok(Some(found)),
+            Ok(None) => {}
+            Err(fault) => return Err(fault),
         }
     }
     Ok(None)
@@ -197,9 +222,10 @@ pub fn weave_fault(alloc: Global, program: &Program) -> Result<Option<WeaveFault
     let count = count_of(program);
     for at in 0..count {
         let class = class_at(program, at);
-        let fault = first_in(alloc, program, class)?;
-        if let Some(found) = fault {
-            return Ok(Some(found));
+        match first_in(alloc, program, class) {
+            Ok(Some(found)) => return Ok(Some(found)),
+            Ok(None) => {}
+            Err(fault) => return Err(fault),
         }
     }
     Ok(None)

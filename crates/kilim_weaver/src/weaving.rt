@@ -59,9 +59,15 @@ fn woven_program(alloc: Global, typed: &Typed) -> Result<Woven, NoMemory>
     requires none { weave_fault typed.now.program ≡ None }
     ensures { IfOk result (Weaves typed.now.program) }
 {
-    let classes = typed_classes(alloc, typed)?;
-    let fields = typed_fields(alloc, typed)?;
-    let methods = woven_methods(alloc, typed)?;
+    let Ok(classes) = typed_classes(alloc, typed) else {
+        return Err(NoMemory);
+    };
+    let Ok(fields) = typed_fields(alloc, typed) else {
+        return Err(NoMemory);
+    };
+    let Ok(methods) = woven_methods(alloc, typed) else {
+        return Err(NoMemory);
+    };
     let woven = assembled(typed, classes, methods, fields);
     Ok(woven)
 }
@@ -80,13 +86,13 @@ fn woven_or_fault(alloc: Global, typed: &Typed) -> Result<Woven, WeaveFault>
     requires accepted { IsAccepted typed.now }
     ensures { IsWoven typed.now.program result }
 {
-    let found = fault_of_typed(alloc, typed)?;
-    match found {
-        Some(fault) => Err(fault),
-        None => {
-            let woven = woven_program(alloc, typed)?;
-            Ok(woven)
-        }
+    match fault_of_typed(alloc, typed) {
+        Ok(Some(fault)) => Err(fault),
+        Ok(None) => match woven_program(alloc, typed) {
+            Ok(woven) => Ok(woven),
+            Err(_) => Err(WeaveFault::Memory),
+        },
+        Err(_) => Err(WeaveFault::Memory),
     }
 }
 

@@ -5,4 +5,4 @@ use Rattle.kilim_weaver.proofs.faults.fault_of_method.Goals as goal
 
 pub returns : goal.returns
 returns c =
-    method_fault c.args.program.now c.args.method.now c.args.id c.in_ok-calls.calls c.in_ok-weight.weight c.is_too_long-too_long.result c.in_ok-full.full c.fault_if-fault.result (c.in_ok-calls.ensures ∙ ap (calls_in c.args.program.now) c.as_slice.ensures) c.in_ok-weight.ensures c.is_too_long-too_long.ensures c.in_ok-full.ensures c.fault_if-fault.ensures
+    method_fault c.args.program.now c.args.method.now c.args.id c.in-Ok.calls c.in-Ok-weight.weight c.is_too_long-too_long.result c.in-Ok-is_full.full c.fault_if-fault.result (c.in-Ok.ensures ∙ ap (calls_in c.args.program.now) c.as_slice.ensures) c.in-Ok-weight.ensures c.is_too_long-too_long.ensures c.in-Ok-is_full.ensures c.fault_if-fault.ensures

@@ -6,7 +6,7 @@ assembled-woven-requires c = record {
   plain = c.requires.plain;
   accepted = c.requires.accepted;
   none = c.requires.none;
-  form = form_of c.args.typed.now.program c.in_ok-classes.classes c.in_ok-methods.methods.methods c.in_ok-fields.fields c.in_ok-methods.methods.counted c.in_ok-classes.ensures c.in_ok-fields.ensures c.in_ok-methods.ensures;
+  form = form_of c.args.typed.now.program c.in-Ok.classes c.in-Ok-woven_methods.methods.methods c.in-Ok-typed_fields.fields c.in-Ok-woven_methods.methods.counted c.in-Ok.ensures c.in-Ok-typed_fields.ensures c.in-Ok-woven_methods.ensures;
 }
 
 pub returns : goal.returns
