@@ -40,7 +40,9 @@ fn push_instrs(
     while at < code.len() {
         match read_instr(alloc, code, at) {
             Ok((instr, next)) => {
-                instrs.push((at as u32, instr))?;
+                let Ok(()) = instrs.push((at as u32, instr)) else {
+                    return Err(CodeFault::Memory);
+                };
                 at = next;
             }
             Err(fault) => return Err(op_fault(fault, at as u32)),

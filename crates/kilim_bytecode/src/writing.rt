@@ -18,7 +18,9 @@ pub fn encode(alloc: Global, body: &Body) -> Result<Vec<u8>, NoMemory>
 {
     let mut bytes = Vec::new(alloc);
     for (at, instr) in body.code.as_slice() {
-        write_instr(instr, *at as usize, &mut bytes)?;
+        let Ok(()) = write_instr(instr, *at as usize, &mut bytes) else {
+            return Err(NoMemory);
+        };
     }
     Ok(bytes)
 }

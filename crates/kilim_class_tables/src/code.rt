@@ -3,6 +3,7 @@
 ghost use Rattle.kilim_bytecode.specs.Exact.{BodyFits};
 ghost use Rattle.kilim_bytecode.specs.opcodes.Instr.{InstrFits};
 
+use crate::shown::push_shown;
 use kilim_bytecode::opcodes::{OpFault, RawInstr, read_instr, write_instr};
 use kilim_bytecode::{Body, CodeFault, decode, encode};
 use kilim_case_text::Text;
@@ -99,13 +100,6 @@ pub fn code_case(text: &mut Text, alloc: Global, words: &[String]) {
     }
 }
 
-fn push_shown(text: &mut Text, alloc: Global, instr: &RawInstr) {
-    match format!(in alloc; "{instr:?} to ") {
-        Ok(shown) => text.word(shown.as_str()),
-        Err(_) => text.lacks(),
-    }
-}
-
 // Whether an instruction is written in the bytes from its place up to the next one's.
 fn push_written(
     text: &mut Text,
@@ -137,6 +131,7 @@ fn push_instr(text: &mut Text, alloc: Global, code: &[u8], at: usize) {
     match read_instr(alloc, code, at) {
         Ok((instr, next)) => {
             push_shown(text, alloc, &instr);
+            text.word(" to ");
             text.number(next);
             push_written(text, alloc, code, at, &instr, next);
         }

@@ -9,5 +9,6 @@ mod code;
 mod descriptors;
 mod links;
 mod pools;
+mod shown;
 
 pub use cases::answer;

@@ -8,7 +8,7 @@ use std::alloc::AllocError;
 
 /// An instruction in the form in which it is written. First stands its number; in the two wide variants that is
 /// the number behind `wide`. Targets are places, byte offsets in the code array.
-#[derive(Debug, Drop)]
+#[derive(Drop)]
 pub enum RawInstr {
     /// No operands.
     Plain(u8),
@@ -68,13 +68,17 @@ impl Clone for RawInstr {
 fn table_switch(op: u8, default: i64, low: i32, targets: &Seq<i64>) -> Result<RawInstr, AllocError>
     ensures { IfOk result (λ i. i ≡ TableSwitch op default low targets.now) }
 {
-    let targets = targets.clone()?;
-    Ok(RawInstr::TableSwitch(op, default, low, targets))
+    match targets.clone() {
+        Ok(targets) => Ok(RawInstr::TableSwitch(op, default, low, targets)),
+        Err(fault) => Err(fault),
+    }
 }
 
 fn lookup_switch(op: u8, default: i64, pairs: &Seq<(i32, i64)>) -> Result<RawInstr, AllocError>
     ensures { IfOk result (λ i. i ≡ LookupSwitch op default pairs.now) }
 {
-    let pairs = pairs.clone()?;
-    Ok(RawInstr::LookupSwitch(op, default, pairs))
+    match pairs.clone() {
+        Ok(pairs) => Ok(RawInstr::LookupSwitch(op, default, pairs)),
+        Err(fault) => Err(fault),
+    }
 }

@@ -77,7 +77,9 @@ fn targets_at(
     for _ in 0..count {
         match target_at(op, at, rest) {
             Ok((to, after)) => {
-                targets.push(to)?;
+                let Ok(()) = targets.push(to) else {
+                    return Err(OpFault::Memory);
+                };
                 rest = after;
             }
             Err(fault) => return Err(fault),
@@ -201,7 +203,9 @@ fn pairs_at(
     for _ in 0..count {
         match pair_at(op, at, least, rest) {
             Ok((pair, after)) => {
-                pairs.push(pair)?;
+                let Ok(()) = pairs.push(pair) else {
+                    return Err(OpFault::Memory);
+                };
                 least = Some(pair.0);
                 rest = after;
             }

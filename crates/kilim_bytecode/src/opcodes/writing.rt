@@ -62,7 +62,9 @@ fn put_targets(into: &mut Vec<u8>, at: usize, targets: &[i64]) -> Result<(), All
     ensures { OnOk result (into.new.items ≡ into.old.items ++ flat_map (target_text w32 at) targets.now) }
 {
     for to in targets {
-        put_target(into, at, *to)?;
+        let Ok(()) = put_target(into, at, *to) else {
+            return Err(AllocError);
+        };
     }
     Ok(())
 }
@@ -81,7 +83,9 @@ fn put_pairs(into: &mut Vec<u8>, at: usize, pairs: &[(i32, i64)]) -> Result<(), 
     ensures { OnOk result (into.new.items ≡ into.old.items ++ flat_map (pair_text at) pairs.now) }
 {
     for pair in pairs {
-        put_pair(into, at, *pair)?;
+        let Ok(()) = put_pair(into, at, *pair) else {
+            return Err(AllocError);
+        };
     }
     Ok(())
 }
@@ -91,7 +95,9 @@ fn put_padding(into: &mut Vec<u8>, at: usize) -> Result<(), AllocError>
     ensures { OnOk result (into.new.items ≡ into.old.items ++ padding_text at) }
 {
     for _ in 0..padding(at) {
-        into.push(0)?;
+        let Ok(()) = into.push(0) else {
+            return Err(AllocError);
+        };
     }
     Ok(())
 }
@@ -156,8 +162,12 @@ fn put_lookup(
     requires pairs { PairsFit at None pairs.now }
     ensures { OnOk result (into.new.items ≡ into.old.items ++ lookup_text at default pairs.now) }
 {
-    put_target(into, at, default)?;
-    push_u32(into, pairs.len() as u32)?;
+    let Ok(()) = put_target(into, at, default) else {
+        return Err(AllocError);
+    };
+    let Ok(()) = push_u32(into, pairs.len() as u32) else {
+        return Err(AllocError);
+    };
     put_pairs(into, at, pairs)
 }
 
@@ -209,8 +219,12 @@ fn put_wide_local(into: &mut Vec<u8>, op: u8, slot: u16) -> Result<(), AllocErro
 fn put_wide_iinc(into: &mut Vec<u8>, op: u8, slot: u16, number: i16) -> Result<(), AllocError>
     ensures { OnOk result (into.new.items ≡ into.old.items ++ (u1 op ++ (u2 slot ++ integer_text w16 number))) }
 {
-    push_u8(into, op)?;
-    push_u16(into, slot)?;
+    let Ok(()) = push_u8(into, op) else {
+        return Err(AllocError);
+    };
+    let Ok(()) = push_u16(into, slot) else {
+        return Err(AllocError);
+    };
     put_i16(into, number)
 }
 
@@ -284,7 +298,11 @@ pub fn write_instr(instr: &RawInstr, at: usize, into: &mut Vec<u8>) -> Result<()
     ensures err { OnErr result (into.new.items ≡ into.old.items) }
 {
     let mut text = Vec::new(*into.allocator());
-    put_instr(&mut text, instr, at)?;
-    into.extend_from_slice(text.as_slice())?;
+    let Ok(()) = put_instr(&mut text, instr, at) else {
+        return Err(NoMemory);
+    };
+    let Ok(()) = into.extend_from_slice(text.as_slice()) else {
+        return Err(NoMemory);
+    };
     Ok(())
 }

@@ -14,8 +14,8 @@ loop-at-smaller c =
 
 pub loop-at-preserved : goal.loop-at-preserved
 loop-at-preserved c = record {
-  stands = rw c.in_ok-push-in-Ok.ensures.ok (stands_push 0 c.loop-at.instrs c.loop-at.at c.in-Ok.instr c.in-Ok.next c.loop-at.invariant.stands c.in-Ok.ensures.found.fits c.in-Ok.ensures.found.behind);
-  text = rw c.in_ok-push-in-Ok.ensures.ok (text_more c.args.code.now c.loop-at.instrs c.loop-at.at c.in-Ok.instr c.in-Ok.next c.loop-at.invariant.text c.in-Ok.ensures.found.parts);
+  stands = rw c.in-Ok-push.ensures.ok (stands_push 0 c.loop-at.instrs c.loop-at.at c.in-Ok.instr c.in-Ok.next c.loop-at.invariant.stands c.in-Ok.ensures.found.fits c.in-Ok.ensures.found.behind);
+  text = rw c.in-Ok-push.ensures.ok (text_more c.args.code.now c.loop-at.instrs c.loop-at.at c.in-Ok.instr c.in-Ok.next c.loop-at.invariant.text c.in-Ok.ensures.found.parts);
 }
 
 pub returns-in-Err-clause-fault : goal.returns-in-Err-clause-fault

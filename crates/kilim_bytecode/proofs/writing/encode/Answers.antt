@@ -14,7 +14,7 @@ write_instr-requires c =
 
 pub loop-at-preserved : goal.loop-at-preserved
 loop-at-preserved c =
-    one_more c.loop-at.bytes.items c.write_instr.new.into.items c.as_slice-at-items.result.now c.loop-at.at-index c.loop-at-item.result c.loop-at-test.true c.loop-at-item.is c.loop-at.invariant c.in_ok-write_instr.ensures.ok
+    one_more c.loop-at.bytes.items c.write_instr.new.into.items c.as_slice-at-items.result.now c.loop-at.at-index c.loop-at-item.result c.loop-at-test.true c.loop-at-item.is c.loop-at.invariant c.in-Ok.ensures.ok
 
 pub returns : goal.returns
 returns c = c.loop-at.invariant ∙ ap code_text (take_all c.loop-at.at-index c.as_slice-at-items.result.now c.loop-at-test.false ∙ c.as_slice-at-items.ensures)

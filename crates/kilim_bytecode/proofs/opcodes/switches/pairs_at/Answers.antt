@@ -13,7 +13,7 @@ returns-in-Err c =
 pub loop-preserved : goal.loop-preserved
 loop-preserved c =
     let fits : FitsSigned w32 c.in-Ok.pair.0 = search rules in
-    rw (c.in_ok-push-in-Ok.ensures.ok, to_z-of_z w32 c.in-Ok.pair.0 fits) (pair_more c.args.op c.args.at c.loop.pairs c.args.count c.loop.counter c.loop.least c.loop.rest.now c.in-Ok.pair c.in-Ok.after.now (pairs_at c.args.op c.args.at c.args.count None c.args.bytes.now) c.loop-test.true c.in-Ok.ensures c.loop.invariant)
+    rw (c.in-Ok-push.ensures.ok, to_z-of_z w32 c.in-Ok.pair.0 fits) (pair_more c.args.op c.args.at c.loop.pairs c.args.count c.loop.counter c.loop.least c.loop.rest.now c.in-Ok.pair c.in-Ok.after.now (pairs_at c.args.op c.args.at c.args.count None c.args.bytes.now) c.loop-test.true c.in-Ok.ensures c.loop.invariant)
 
 pub returns : goal.returns
 returns c = pairs_done c.args.op c.args.at c.loop.pairs c.args.count c.loop.counter c.loop.least c.loop.rest.now (pairs_at c.args.op c.args.at c.args.count None c.args.bytes.now) c.loop-test.false c.loop.invariant

@@ -15,7 +15,7 @@ returns-in-Err c =
 pub loop-preserved : goal.loop-preserved
 loop-preserved c =
     let fits : FitsSigned w64 c.in-Ok.to = search rules in
-    rw (c.in_ok-push-in-Ok.ensures.ok, to_z-of_z w64 c.in-Ok.to fits) (goes_on (target_at c.args.op c.args.at w32) c.loop.targets c.args.count c.loop.counter c.loop.rest.now c.in-Ok.to c.in-Ok.after.now (many (target_at c.args.op c.args.at w32) c.args.count c.args.bytes.now) c.loop-test.true c.in-Ok.ensures c.loop.invariant)
+    rw (c.in-Ok-push.ensures.ok, to_z-of_z w64 c.in-Ok.to fits) (goes_on (target_at c.args.op c.args.at w32) c.loop.targets c.args.count c.loop.counter c.loop.rest.now c.in-Ok.to c.in-Ok.after.now (many (target_at c.args.op c.args.at w32) c.args.count c.args.bytes.now) c.loop-test.true c.in-Ok.ensures c.loop.invariant)
 
 pub returns : goal.returns
 returns c = is_done (target_at c.args.op c.args.at w32) c.loop.targets c.args.count c.loop.counter c.loop.rest.now (many (target_at c.args.op c.args.at w32) c.args.count c.args.bytes.now) c.loop-test.false c.loop.invariant

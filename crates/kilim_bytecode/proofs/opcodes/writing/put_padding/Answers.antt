@@ -10,4 +10,4 @@ returns c =
     subst (λ (n : ℕ). c.loop.into.items ≡ c.args.into.now.items ++ replicate n 0) (all ∙ c.padding-end.ensures) c.loop.invariant
 
 pub loop-preserved : goal.loop-preserved
-loop-preserved c = padded_more c.args.into.now.items c.loop.into.items c.push.new.self.items c.loop.counter c.loop.invariant c.in_ok-push.ensures.items
+loop-preserved c = padded_more c.args.into.now.items c.loop.into.items c.push.new.self.items c.loop.counter c.loop.invariant c.in-Ok.ensures.items

@@ -11,7 +11,7 @@ put_pair-requires c = pair_fits c.args.at None c.args.pairs.now c.loop-pair.pair
 
 pub loop-pair-preserved : goal.loop-pair-preserved
 loop-pair-preserved c =
-    one_more (pair_text c.args.at) c.args.pairs.now c.loop-pair.pair-index (pos 0, pos 0) c.args.into.now.items c.loop-pair.into.items c.put_pair.new.into.items c.loop-pair-test.true c.loop-pair.invariant c.in_ok-put_pair.ensures
+    one_more (pair_text c.args.at) c.args.pairs.now c.loop-pair.pair-index (pos 0, pos 0) c.args.into.now.items c.loop-pair.into.items c.put_pair.new.into.items c.loop-pair-test.true c.loop-pair.invariant c.in-Ok.ensures
 
 pub returns : goal.returns
 returns c = c.loop-pair.invariant ∙ ap (λ (xs : List (ℤ × ℤ)). c.args.into.now.items ++ flat_map (pair_text c.args.at) xs) (take_all c.loop-pair.pair-index c.args.pairs.now c.loop-pair-test.false)

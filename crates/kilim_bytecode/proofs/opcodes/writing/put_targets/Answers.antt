@@ -19,7 +19,7 @@ loop-to-preserved c =
     let fits = target_fits c.args.at c.args.targets.now c.loop-to.to-index (pos 0) c.requires c.loop-to-test.true in
     let place : FitsSigned w64 (get_or c.args.targets.now c.loop-to.to-index (pos 0)) = fits.0 in
     one_more (target_text w32 c.args.at) c.args.targets.now c.loop-to.to-index (pos 0) c.args.into.now.items c.loop-to.into.items c.put_target.new.into.items c.loop-to-test.true c.loop-to.invariant
-    (simp to_z-of_z at c.in_ok-put_target.ensures)
+    (simp to_z-of_z at c.in-Ok.ensures)
 
 pub returns : goal.returns
 returns c = c.loop-to.invariant ∙ ap (λ (xs : List ℤ). c.args.into.now.items ++ flat_map (target_text w32 c.args.at) xs) (take_all c.loop-to.to-index c.args.targets.now c.loop-to-test.false)
