@@ -1,4 +1,4 @@
-use Rattle.std.proofs.Common.{arith}
+use Rattle.std.proofs.Common.{ℕ, ◌<◌, sym, ap, subst, arith}
 use Rattle.std.proofs.lemmas.Bool.{both_ways}
 use Rattle.kilim_paths.proofs.Takes.{inside_of, took_noted, took_crowded, took_pushed}
 use Rattle.kilim_paths.specs.declared.store.Reached.{Reached}
@@ -10,6 +10,12 @@ step-requires-clause-fits g c = has_in (λ (e : Reached _). g.M.Moves.fits c.arg
 
 pub has-requires : goal.has-requires
 has-requires g c = inside_of c.args.store.now.size c.args.exit c.in-Some.to c.in-Some.is c.requires.inside
+
+pub push-requires : goal.push-requires
+push-requires g c = inside_of c.args.store.now.size c.args.exit c.in-Some.to c.in-Some.is c.requires.inside
+
+pub count-requires : goal.count-requires
+count-requires g c = subst (λ (n : ℕ). c.in-Some.to < n) (sym (ap (λ s. s.size) c.in-Ok-push.ensures.ok)) (inside_of c.args.store.now.size c.args.exit c.in-Some.to c.in-Some.is c.requires.inside)
 
 pub returns-in-Ok-note : goal.returns-in-Ok-note
 returns-in-Ok-note g c =

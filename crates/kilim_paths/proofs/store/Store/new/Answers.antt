@@ -1,5 +1,7 @@
 use Rattle.std.proofs.Common.{ℕ, ◌+◌, List, [], ◌∷◌, slice_get, length, length-append, ap, sym, ◌∙◌, Vec}
 use Rattle.std.specs.declared.alloc.Global.{Global}
+use Rattle.kilim_paths.specs.Stored.{positions}
+use Rattle.kilim_paths.specs.declared.store.Reached.{Reached}
 use Rattle.kilim_paths.proofs.Rows.{rows_empty}
 use Rattle.kilim_paths.proofs.store.Store.new.Goals as goal
 
@@ -9,3 +11,6 @@ loop-preserved g c = record {
   empty = λ q row h.
       rows_empty c.loop.rows.items c.new.result c.loop.invariant.empty c.new.ensures.items q row (ap (λ (rows : List (Vec ℕ Global)). slice_get rows q) (sym c.in-Ok.ensures.items) ∙ h);
 }
+
+pub invariant_of-result : goal.invariant_of-result
+invariant_of-result g c q row h = c.loop.invariant.empty q row h ∙ sym (ap (λ (es : List (Reached _)). positions q 0 es) c.new-2.ensures.items)

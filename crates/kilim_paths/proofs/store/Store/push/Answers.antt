@@ -3,6 +3,9 @@ use Rattle.std.proofs.lemmas.Grind.{common_steps}
 use Rattle.kilim_paths.proofs.Rows.{rows_pushed, rows_back}
 use Rattle.kilim_paths.proofs.store.Store.push.Goals as goal
 
+pub index_mut-requires : goal.index_mut-requires
+index_mut-requires g c = let size : length c.self.inside.rows.items ≡ c.args.self.now.size = ap (λ v. v.size) c.self.view_is in omega (arith, size, c.requires)
+
 pub invariant_of-self-in-Ok-push : goal.invariant_of-self-in-Ok-push
 invariant_of-self-in-Ok-push g c =
     let size : length c.self.inside.rows.items ≡ c.args.self.now.size = ap (λ v. v.size) c.self.view_is in
