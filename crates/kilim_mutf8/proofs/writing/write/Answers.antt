@@ -1,7 +1,18 @@
-use Rattle.std.proofs.Common.{◌∙◌, sym, take}
+use Rattle.std.proofs.Common.{◌≡◌, ◌≤◌, ℕ, zero, suc, List, [], ◌∷◌, ◌++◌, length, ◌∙◌, refl, sym, ap, arith, take}
 use Rattle.kilim_mutf8.specs.Spelling.{spelling}
 use Rattle.kilim_mutf8.proofs.Written.{one_written, taken_back}
 use Rattle.kilim_mutf8.proofs.writing.write.Goals as goal
+
+take_all : (units : List ℕ) (i : ℕ) → length units ≤ i → take i units ≡ units
+take_all [] zero all = refl
+take_all [] (suc i) all = refl
+take_all (u ∷ units) zero all = absurd (omega arith)
+take_all (u ∷ units) (suc i) all = ap (λ (us : List ℕ). u ∷ us) (take_all units i (omega arith))
+
+pub returns-clause-ok : goal.returns-clause-ok
+returns-clause-ok c =
+    c.loop-unit.invariant.written
+    ∙ ap (λ (units : List ℕ). c.args.into.now.items ++ spelling units) (take_all c.as_slice-unit-items.result.now c.loop-unit.unit-index (omega arith) ∙ c.as_slice-unit-items.ensures)
 
 pub loop-unit-preserved : goal.loop-unit-preserved
 loop-unit-preserved c = record {
