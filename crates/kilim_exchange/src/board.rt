@@ -218,14 +218,17 @@ impl<F: Fibers> Board<F> {
         ensures stands { (set : Setting) → BoardStands F.task_of F.course_of F.holds set (seen self.old) → BoardStands F.task_of F.course_of F.holds set (seen self.new) }
         ensures roomy { IsRoomy self.new }
     {
-        self.journal.reserve(1)?;
+        let Ok(()) = self.journal.reserve(1) else {
+            return Err(NoMemory);
+        };
         match wants {
             Wants::Put(mailbox, _, _) => self.mailboxes.reserve_message(*mailbox),
             Wants::Start(_, _) => {
                 let more = self.tasks as usize + 1;
-                self.ready.reserve(more)?;
-                self.parked.reserve(more)?;
-                Ok(())
+                let Ok(()) = self.ready.reserve(more) else {
+                    return Err(NoMemory);
+                };
+                self.parked.reserve(more)
             }
             Wants::Take(mailbox) => self.parked.make_places(*mailbox, self.cells.len()),
             _ => Ok(()),
@@ -327,14 +330,20 @@ impl<F: Fibers> Board<F> {
         let Board {
             journal,
             tasks,
-            ready: _,
+            ready,
             parked,
             mailboxes,
-            cells: _,
+            cells,
             stopped: _,
         } = self;
-        let waiters = parked.into_list()?;
-        with_waits(journal, mailboxes.alloc, waiters.as_slice(), tasks)
+        let alloc = mailboxes.alloc;
+        drop(ready);
+        drop(mailboxes);
+        drop(cells);
+        match parked.into_list() {
+            Ok(waiters) => with_waits(journal, alloc, waiters.as_slice(), tasks),
+            Err(fault) => Err(fault),
+        }
     }
 }
 
@@ -347,13 +356,17 @@ fn with_waits<F: Fibers>(
 ) -> Result<Vec<Entry>, NoMemory>
     ensures { IfOk result (λ es. es.items ≡ journal.items ++ closing F.task_of waiters.now 0 tasks) }
 {
-    let boxes = parked_boxes(alloc, waiters, tasks as usize)?;
+    let Ok(boxes) = parked_boxes(alloc, waiters, tasks as usize) else {
+        return Err(NoMemory);
+    };
     for t in 0..tasks {
         match parked_at(&boxes, t) {
-            Some(mailbox) => journal.push(Entry {
-                task: t,
-                act: Act::Wait(mailbox),
-            })?,
+            Some(mailbox) => {
+                let act = Act::Wait(mailbox);
+                let Ok(()) = journal.push(Entry { task: t, act }) else {
+                    return Err(NoMemory);
+                };
+            }
             None => {}
         }
     }
@@ -379,7 +392,9 @@ fn parked_boxes<F: Fibers>(
     ensures { IfOk result (λ boxes. AreBoxes F.task_of waiters.now tasks boxes.items) }
 {
     let mut boxes = Vec::new(alloc);
-    boxes.resize(tasks, None)?;
+    let Ok(()) = boxes.resize(tasks, None) else {
+        return Err(NoMemory);
+    };
     let mut left = waiters.len();
     while left > 0 {
         left -= 1;
@@ -403,8 +418,12 @@ fn furnish<F: Fibers>(board: &mut Board<F>, seats: usize) -> Result<(), NoMemory
     ensures same { (board.new.journal.items ≡ board.old.journal.items) × (board.new.tasks ≡ board.old.tasks) × (board.new.ready.items ≡ board.old.ready.items) × (board.new.parked.items ≡ board.old.parked.items) × (board.new.mailboxes ≡ board.old.mailboxes) × (board.new.stopped ≡ board.old.stopped) }
     ensures room { OnOk result ((board.new.cells.items ≡ replicate seats None) × (1 ≤ deque_capacity board.new.ready) × (1 ≤ board.new.parked.room)) }
 {
-    board.cells.resize(seats, None)?;
-    board.ready.reserve(1)?;
+    let Ok(()) = board.cells.resize(seats, None) else {
+        return Err(NoMemory);
+    };
+    let Ok(()) = board.ready.reserve(1) else {
+        return Err(NoMemory);
+    };
     board.parked.reserve(1)
 }
 

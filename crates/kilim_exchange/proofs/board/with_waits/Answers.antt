@@ -2,13 +2,13 @@ use Rattle.std.proofs.Common.{arith, ◌≡◌, ◌++◌, ap, ◌∙◌}
 use Rattle.kilim_exchange.specs.Board.{closing}
 use Rattle.kilim_exchange.proofs.Closing.{closes_none, closes_some}
 use Rattle.kilim_exchange.proofs.board.with_waits.Goals as goal
-use Rattle.kilim_exchange.proofs.board.with_waits.Goals.{in-Some+in_ok-push-in-Some, in-None}
+use Rattle.kilim_exchange.proofs.board.with_waits.Goals.{in-Some+in-Ok-push, in-None}
 
 pub loop-t-preserved : goal.loop-t-preserved
 loop-t-preserved g c =
-    let is = c.parked_at.ensures ∙ c.in_ok-boxes.ensures.at c.loop-t.t (omega arith) in
+    let is = c.parked_at.ensures ∙ c.in-Ok.ensures.at c.loop-t.t (omega arith) in
     elim c.match-parked_at.branch [
-      | in-Some+in_ok-push-in-Some w ↦ closes_some g.F.Fibers.task_of c.args.journal.items c.loop-t.journal.items _ c.args.waiters.now c.loop-t.t c.parked_at.result w.in-Some.mailbox is w.in-Some.is c.loop-t.invariant (ap (λ v. v.items) w.journal-is ∙ w.in_ok-push-in-Some.ensures.items)
+      | in-Some+in-Ok-push w ↦ closes_some g.F.Fibers.task_of c.args.journal.items c.loop-t.journal.items _ c.args.waiters.now c.loop-t.t c.parked_at.result w.in-Some.mailbox is w.in-Some.is c.loop-t.invariant (ap (λ v. v.items) w.journal-is ∙ w.in-Ok-push.ensures.items)
       | in-None w ↦ closes_none g.F.Fibers.task_of c.args.journal.items c.loop-t.journal.items _ c.args.waiters.now c.loop-t.t c.parked_at.result is w.in-None.is c.loop-t.invariant (ap (λ v. v.items) w.journal-is)
     ]
 

@@ -6,12 +6,12 @@ use Rattle.kilim_exchange.specs.Seen.{seen, MovedWhole}
 use Rattle.kilim_exchange.proofs.Closing.{finished}
 use Rattle.kilim_exchange.proofs.board.Board.finish.Goals as goal
 
-pub returns-clause-entries : goal.returns-clause-entries
-returns-clause-entries g c =
+pub returns-in-Ok-clause-entries : goal.returns-in-Ok-clause-entries
+returns-in-Ok-clause-entries g c =
     subst (λ ws. IfOk c.with_waits.result (λ es. es.items ≡ c.args.self.journal.items ++ closing g.F.Fibers.task_of ws 0 c.args.self.tasks))
-    (c.as_slice.ensures.value ∙ c.in_ok-waiters.ensures) c.with_waits.ensures
+    (c.as_slice.ensures.value ∙ c.in-Ok.ensures) c.with_waits.ensures
 
-pub returns-clause-rest : goal.returns-clause-rest
-returns-clause-rest g c = λ set st running quiet.
+pub returns-in-Ok-clause-rest : goal.returns-in-Ok-clause-rest
+returns-in-Ok-clause-rest g c = λ set st running quiet.
     IfOk-weaker c.with_waits.result (λ es. es.items ≡ c.args.self.journal.items ++ closing g.F.Fibers.task_of c.args.self.parked.items 0 c.args.self.tasks) (λ es. MovedWhole set es.items)
-    (λ es e. finished g.F.Fibers.task_of g.F.Fibers.course_of g.F.Fibers.holds set (seen c.args.self) es.items st running quiet e) (returns-clause-entries g c)
+    (λ es e. finished g.F.Fibers.task_of g.F.Fibers.course_of g.F.Fibers.holds set (seen c.args.self) es.items st running quiet e) (returns-in-Ok-clause-entries g c)

@@ -5,81 +5,9 @@ use Rattle.kilim_exchange.proofs.Calls.{same_stands}
 use Rattle.kilim_exchange.proofs.Closing.{room_else, roomy_as}
 use Rattle.kilim_exchange.proofs.board.Board.reserve.Goals as goal
 
-pub returns-in_err-reserve-clause-same : goal.returns-in_err-reserve-clause-same
-returns-in_err-reserve-clause-same g c = record {
-  run = record { journal = c.in_err-reserve.ensures.items; tasks = refl; mails = λ box. refl };
-  spots = record { ready = refl; parked = refl; cells = refl; stopped = refl };
-}
-
-pub returns-in_err-reserve-clause-stands : goal.returns-in_err-reserve-clause-stands
-returns-in_err-reserve-clause-stands g c = λ set st. same_stands g.F.Fibers.task_of g.F.Fibers.course_of g.F.Fibers.holds set (seen c.args.self.now) _ (returns-in_err-reserve-clause-same g c) st
-
-pub returns-in_err-reserve-clause-roomy : goal.returns-in_err-reserve-clause-roomy
-returns-in_err-reserve-clause-roomy g c = roomy_as c.args.self.now _ c.requires.roomy (returns-in_err-reserve-clause-same g c) (omega arith) (omega arith)
-
-pub returns-in_err-reserve-in-Start-clause-same : goal.returns-in_err-reserve-in-Start-clause-same
-returns-in_err-reserve-in-Start-clause-same g c = record {
-  run = record { journal = c.in_ok-reserve.ensures.items; tasks = refl; mails = λ box. refl };
-  spots = record { ready = c.in_err-reserve-in-Start.ensures.items; parked = refl; cells = refl; stopped = refl };
-}
-
-pub returns-in_err-reserve-in-Start-clause-stands : goal.returns-in_err-reserve-in-Start-clause-stands
-returns-in_err-reserve-in-Start-clause-stands g c = λ set st. same_stands g.F.Fibers.task_of g.F.Fibers.course_of g.F.Fibers.holds set (seen c.args.self.now) _ (returns-in_err-reserve-in-Start-clause-same g c) st
-
-pub returns-in_err-reserve-in-Start-clause-roomy : goal.returns-in_err-reserve-in-Start-clause-roomy
-returns-in_err-reserve-in-Start-clause-roomy g c = roomy_as c.args.self.now _ c.requires.roomy (returns-in_err-reserve-in-Start-clause-same g c) c.in_err-reserve-in-Start.ensures.capacity (omega arith)
-
-pub returns-in_err-reserve-in-Start-2-clause-same : goal.returns-in_err-reserve-in-Start-2-clause-same
-returns-in_err-reserve-in-Start-2-clause-same g c = record {
-  run = record { journal = c.in_ok-reserve.ensures.items; tasks = refl; mails = λ box. refl };
-  spots = record { ready = c.in_ok-reserve-in-Start.ensures.items; parked = c.in_err-reserve-in-Start-2.ensures.items; cells = refl; stopped = refl };
-}
-
-pub returns-in_err-reserve-in-Start-2-clause-stands : goal.returns-in_err-reserve-in-Start-2-clause-stands
-returns-in_err-reserve-in-Start-2-clause-stands g c = λ set st. same_stands g.F.Fibers.task_of g.F.Fibers.course_of g.F.Fibers.holds set (seen c.args.self.now) _ (returns-in_err-reserve-in-Start-2-clause-same g c) st
-
-pub returns-in_err-reserve-in-Start-2-clause-roomy : goal.returns-in_err-reserve-in-Start-2-clause-roomy
-returns-in_err-reserve-in-Start-2-clause-roomy g c = roomy_as c.args.self.now _ c.requires.roomy (returns-in_err-reserve-in-Start-2-clause-same g c) c.in_ok-reserve-in-Start.ensures.capacity c.in_err-reserve-in-Start-2.ensures.kept
-
-pub returns-in-Put-clause-same : goal.returns-in-Put-clause-same
-returns-in-Put-clause-same g c = record {
-  run = record { journal = c.in_ok-reserve.ensures.items; tasks = refl; mails = c.reserve_message.ensures.same };
-  spots = record { ready = refl; parked = refl; cells = refl; stopped = refl };
-}
-
-pub returns-in-Put-clause-stands : goal.returns-in-Put-clause-stands
-returns-in-Put-clause-stands g c = λ set st. same_stands g.F.Fibers.task_of g.F.Fibers.course_of g.F.Fibers.holds set (seen c.args.self.now) _ (returns-in-Put-clause-same g c) st
-
-pub returns-in-Put-clause-roomy : goal.returns-in-Put-clause-roomy
-returns-in-Put-clause-roomy g c = roomy_as c.args.self.now _ c.requires.roomy (returns-in-Put-clause-same g c) (omega arith) (omega arith)
-
-pub returns-in_ok-reserve-in-Start-2-clause-same : goal.returns-in_ok-reserve-in-Start-2-clause-same
-returns-in_ok-reserve-in-Start-2-clause-same g c = record {
-  run = record { journal = c.in_ok-reserve.ensures.items; tasks = refl; mails = λ box. refl };
-  spots = record { ready = c.in_ok-reserve-in-Start.ensures.items; parked = c.in_ok-reserve-in-Start-2.ensures.items; cells = refl; stopped = refl };
-}
-
-pub returns-in_ok-reserve-in-Start-2-clause-stands : goal.returns-in_ok-reserve-in-Start-2-clause-stands
-returns-in_ok-reserve-in-Start-2-clause-stands g c = λ set st. same_stands g.F.Fibers.task_of g.F.Fibers.course_of g.F.Fibers.holds set (seen c.args.self.now) _ (returns-in_ok-reserve-in-Start-2-clause-same g c) st
-
-pub returns-in_ok-reserve-in-Start-2-clause-roomy : goal.returns-in_ok-reserve-in-Start-2-clause-roomy
-returns-in_ok-reserve-in-Start-2-clause-roomy g c = roomy_as c.args.self.now _ c.requires.roomy (returns-in_ok-reserve-in-Start-2-clause-same g c) c.in_ok-reserve-in-Start.ensures.capacity c.in_ok-reserve-in-Start-2.ensures.kept
-
-pub returns-in-Take-clause-same : goal.returns-in-Take-clause-same
-returns-in-Take-clause-same g c = record {
-  run = record { journal = c.in_ok-reserve.ensures.items; tasks = refl; mails = λ box. refl };
-  spots = record { ready = refl; parked = c.make_places.ensures.items; cells = refl; stopped = refl };
-}
-
-pub returns-in-Take-clause-stands : goal.returns-in-Take-clause-stands
-returns-in-Take-clause-stands g c = λ set st. same_stands g.F.Fibers.task_of g.F.Fibers.course_of g.F.Fibers.holds set (seen c.args.self.now) _ (returns-in-Take-clause-same g c) st
-
-pub returns-in-Take-clause-roomy : goal.returns-in-Take-clause-roomy
-returns-in-Take-clause-roomy g c = roomy_as c.args.self.now _ c.requires.roomy (returns-in-Take-clause-same g c) (omega arith) (let e = c.make_places.ensures.room in omega arith)
-
 pub returns-in_default-clause-same : goal.returns-in_default-clause-same
 returns-in_default-clause-same g c = record {
-  run = record { journal = c.in_ok-reserve.ensures.items; tasks = refl; mails = λ box. refl };
+  run = record { journal = c.reserve.ensures.items; tasks = refl; mails = λ box. refl };
   spots = record { ready = refl; parked = refl; cells = refl; stopped = refl };
 }
 
@@ -89,9 +17,69 @@ returns-in_default-clause-stands g c = λ set st. same_stands g.F.Fibers.task_of
 pub returns-in_default-clause-roomy : goal.returns-in_default-clause-roomy
 returns-in_default-clause-roomy g c = roomy_as c.args.self.now _ c.requires.roomy (returns-in_default-clause-same g c) (omega arith) (omega arith)
 
-pub returns-in_default-clause-room : goal.returns-in_default-clause-room
-returns-in_default-clause-room g c =
-    let more = c.in_ok-reserve.ensures.ok in
+pub returns-in_default-reserve-clause-same : goal.returns-in_default-reserve-clause-same
+returns-in_default-reserve-clause-same g c = record {
+  run = record { journal = c.reserve.ensures.items; tasks = refl; mails = λ box. refl };
+  spots = record { ready = c.reserve-in-Start.ensures.items; parked = refl; cells = refl; stopped = refl };
+}
+
+pub returns-in_default-reserve-clause-stands : goal.returns-in_default-reserve-clause-stands
+returns-in_default-reserve-clause-stands g c = λ set st. same_stands g.F.Fibers.task_of g.F.Fibers.course_of g.F.Fibers.holds set (seen c.args.self.now) _ (returns-in_default-reserve-clause-same g c) st
+
+pub returns-in_default-reserve-clause-roomy : goal.returns-in_default-reserve-clause-roomy
+returns-in_default-reserve-clause-roomy g c = roomy_as c.args.self.now _ c.requires.roomy (returns-in_default-reserve-clause-same g c) c.reserve-in-Start.ensures.capacity (omega arith)
+
+pub returns-in-Ok-reserve-clause-same : goal.returns-in-Ok-reserve-clause-same
+returns-in-Ok-reserve-clause-same g c = record {
+  run = record { journal = c.reserve.ensures.items; tasks = refl; mails = λ box. refl };
+  spots = record { ready = c.reserve-in-Start.ensures.items; parked = c.reserve-in-Start-2.ensures.items; cells = refl; stopped = refl };
+}
+
+pub returns-in-Ok-reserve-clause-stands : goal.returns-in-Ok-reserve-clause-stands
+returns-in-Ok-reserve-clause-stands g c = λ set st. same_stands g.F.Fibers.task_of g.F.Fibers.course_of g.F.Fibers.holds set (seen c.args.self.now) _ (returns-in-Ok-reserve-clause-same g c) st
+
+pub returns-in-Ok-reserve-clause-roomy : goal.returns-in-Ok-reserve-clause-roomy
+returns-in-Ok-reserve-clause-roomy g c = roomy_as c.args.self.now _ c.requires.roomy (returns-in-Ok-reserve-clause-same g c) c.reserve-in-Start.ensures.capacity c.reserve-in-Start-2.ensures.kept
+
+pub returns-in-Put-clause-same : goal.returns-in-Put-clause-same
+returns-in-Put-clause-same g c = record {
+  run = record { journal = c.reserve.ensures.items; tasks = refl; mails = c.reserve_message.ensures.same };
+  spots = record { ready = refl; parked = refl; cells = refl; stopped = refl };
+}
+
+pub returns-in-Put-clause-stands : goal.returns-in-Put-clause-stands
+returns-in-Put-clause-stands g c = λ set st. same_stands g.F.Fibers.task_of g.F.Fibers.course_of g.F.Fibers.holds set (seen c.args.self.now) _ (returns-in-Put-clause-same g c) st
+
+pub returns-in-Put-clause-roomy : goal.returns-in-Put-clause-roomy
+returns-in-Put-clause-roomy g c = roomy_as c.args.self.now _ c.requires.roomy (returns-in-Put-clause-same g c) (omega arith) (omega arith)
+
+pub returns-in-Take-clause-same : goal.returns-in-Take-clause-same
+returns-in-Take-clause-same g c = record {
+  run = record { journal = c.reserve.ensures.items; tasks = refl; mails = λ box. refl };
+  spots = record { ready = refl; parked = c.make_places.ensures.items; cells = refl; stopped = refl };
+}
+
+pub returns-in-Take-clause-stands : goal.returns-in-Take-clause-stands
+returns-in-Take-clause-stands g c = λ set st. same_stands g.F.Fibers.task_of g.F.Fibers.course_of g.F.Fibers.holds set (seen c.args.self.now) _ (returns-in-Take-clause-same g c) st
+
+pub returns-in-Take-clause-roomy : goal.returns-in-Take-clause-roomy
+returns-in-Take-clause-roomy g c = roomy_as c.args.self.now _ c.requires.roomy (returns-in-Take-clause-same g c) (omega arith) (let e = c.make_places.ensures.room in omega arith)
+
+pub returns-in_default-wants-clause-same : goal.returns-in_default-wants-clause-same
+returns-in_default-wants-clause-same g c = record {
+  run = record { journal = c.reserve.ensures.items; tasks = refl; mails = λ box. refl };
+  spots = record { ready = refl; parked = refl; cells = refl; stopped = refl };
+}
+
+pub returns-in_default-wants-clause-stands : goal.returns-in_default-wants-clause-stands
+returns-in_default-wants-clause-stands g c = λ set st. same_stands g.F.Fibers.task_of g.F.Fibers.course_of g.F.Fibers.holds set (seen c.args.self.now) _ (returns-in_default-wants-clause-same g c) st
+
+pub returns-in_default-wants-clause-roomy : goal.returns-in_default-wants-clause-roomy
+returns-in_default-wants-clause-roomy g c = roomy_as c.args.self.now _ c.requires.roomy (returns-in_default-wants-clause-same g c) (omega arith) (omega arith)
+
+pub returns-in_default-wants-clause-room : goal.returns-in_default-wants-clause-room
+returns-in_default-wants-clause-room g c =
+    let more = c.in-Ok.ensures.ok in
     let is = c.reserve.new.self.ok in
     let room : length c.reserve.new.self.items < vec_capacity c.reserve.new.self = omega arith in
-    room_else (record c.args.self.now { journal = c.reserve.new.self }) c.args.wants.now c.in_default.not-Put c.in_default.not-Start room
+    room_else (record c.args.self.now { journal = c.reserve.new.self }) c.args.wants.now c.in_default-wants.not-Put c.in_default-wants.not-Start room
