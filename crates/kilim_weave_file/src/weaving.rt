@@ -1,13 +1,12 @@
 //! The woven class file.
 
-ghost use Rattle.std.specs.Prelude.{◌≡◌, ◌++◌, ◌∷◌, [], length, map, slice_get, option_copied, Some, IfOk, OnOk};
+ghost use Rattle.std.specs.Prelude.{◌≡◌, ◌++◌, ◌∷◌, length, map, slice_get, option_copied, Some, IfOk, OnOk};
 ghost use Rattle.std.specs.List.{flat_map};
 ghost use Rattle.kilim_attributes.specs.declared.attribute.Attribute.{Attribute};
 ghost use Rattle.kilim_link_spec.specs.World.{member_descriptor};
 ghost use Rattle.kilim_class_fits.specs.declared.pool_needs.need.Need.TheVariants.{AText};
 ghost use Rattle.kilim_class_fits.specs.pool_needs.Adding.{with_needs};
 ghost use Rattle.kilim_woven_sizes.specs.file_laws.form.Texts.{woven_descriptor};
-ghost use Rattle.kilim_classfile.specs.declared.class_file.MemberInfo.{MemberInfo};
 ghost use Rattle.kilim_classfile.specs.Text.{ClassFits, class_text};
 ghost use Rattle.kilim_woven_sizes.specs.file_laws.form.Sizes.{longest_text};
 ghost use Rattle.kilim_woven_sizes.specs.file_laws.form.WovenFile.{info_needs, member_needs, pairs_of, woven_file, woven_member};
@@ -179,29 +178,6 @@ fn member_at(
     }
 }
 
-// One method more, with those of the programs.
-fn push_woven(
-    alloc: Global,
-    into: &mut Seq<MemberInfo>,
-    program: &Program,
-    file: &ClassFile,
-    pool: &Pool,
-    info: MemberInfo,
-    plain: Option<&Method>,
-    method: Option<&Method>,
-    counted: Option<&Seq<bool>>,
-) -> Result<(), NoMemory>
-    ensures { OnOk result ((made : MemberInfo) × (into.new ≡ into.old ++ made ∷ []) × (member_by program.now file.now pool.now info (option_copied plain.entry) (option_copied method.entry) (option_copied counted.entry) ≡ Some made)) }
-{
-    let Ok(made) = member_at(alloc, program, file, pool, info, plain, method, counted) else {
-        return Err(NoMemory);
-    };
-    let Ok(()) = into.push(made) else {
-        return Err(NoMemory);
-    };
-    Ok(())
-}
-
 fn method_get(methods: &[Method], at: usize) -> Option<&Method>
     ensures { option_copied result ≡ slice_get methods.now at }
 {
@@ -235,9 +211,10 @@ fn woven_members(
         let plain = method_get(plains, at);
         let method = method_get(wovens, at);
         let marks = marks_get(counted, at);
-        let Ok(()) = push_woven(
-            alloc, &mut all, program, file, pool, info, plain, method, marks,
-        ) else {
+        let Ok(member) = member_at(alloc, program, file, pool, info, plain, method, marks) else {
+            return Err(NoMemory);
+        };
+        let Ok(()) = all.push(member) else {
             return Err(NoMemory);
         };
         at += 1;
