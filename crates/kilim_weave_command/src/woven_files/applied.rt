@@ -1,6 +1,6 @@
 //! The class files of a program are woven, one after the other.
 
-ghost use Rattle.std.specs.Prelude.{◌≡◌, ◌≤◌, length, take, drop, None, true, IfOk};
+ghost use Rattle.std.specs.Prelude.{◌≡◌, ◌≤◌, length, take, drop, [], None, true, IfOk, OnOk};
 ghost use Rattle.std.specs.List.{AllByRecursion};
 ghost use Rattle.kilim_classfile.specs.Text.{ClassFits};
 ghost use Rattle.kilim_stages.specs.Parts.{IfReport};
@@ -116,24 +116,23 @@ fn woven_next(
     )
 }
 
-/// The woven class files, or the report of the first that may get too large. Where a class were missing, which none is, want of
-/// memory would be answered.
-pub fn applied(
+// The woven class files, one after the other, into a list without any.
+fn push_applied(
     alloc: Global,
+    into: &mut Seq<ClassFile>,
     files: &[ClassFile],
     program: &Program,
     woven: &Woven,
-) -> Result<Seq<ClassFile>, Refusal>
+    longest: usize,
+) -> Result<(), Refusal>
+    requires none { into.old ≡ [] }
     requires fit { AllByRecursion ClassFits files.now }
-    ensures made { IfOk result (λ made. made ≡ woven_of program.now woven.now files.now) }
-    ensures fit { IfOk result (λ made. AllByRecursion ClassFits made) }
-    ensures none { IfOk result (λ made. first_size_fault program.now files.now ≡ None) }
+    requires longest { longest ≡ longest_text program.now }
+    ensures made { OnOk result (into.new ≡ woven_of program.now woven.now files.now) }
+    ensures fit { OnOk result (AllByRecursion ClassFits into.new) }
+    ensures none { OnOk result (first_size_fault program.now files.now ≡ None) }
     ensures report { IfReport result (IsSizeReportIn program.now files.now) }
 {
-    let Ok(longest) = longest_text(alloc, program) else {
-        return Err(Refusal::NoMemory);
-    };
-    let mut made = Seq::new(alloc);
     let mut ps = program.methods.as_slice();
     let mut ms = woven.program.methods.as_slice();
     let mut cs = woven.counted.as_slice();
@@ -154,7 +153,7 @@ pub fn applied(
             cs,
         );
         match next {
-            Ok(one) => match made.push(one) {
+            Ok(one) => match into.push(one) {
                 Ok(()) => {}
                 Err(_) => return Err(Refusal::NoMemory),
             },
@@ -165,5 +164,29 @@ pub fn applied(
         ms = behind(ms, count);
         cs = behind(cs, count);
     }
-    Ok(made)
+    Ok(())
+}
+
+/// The woven class files, or the report of the first that may get too large. Where a class were missing, which none is, want of
+/// memory would be answered.
+pub fn applied(
+    alloc: Global,
+    files: &[ClassFile],
+    program: &Program,
+    woven: &Woven,
+) -> Result<Seq<ClassFile>, Refusal>
+    requires fit { AllByRecursion ClassFits files.now }
+    ensures made { IfOk result (λ made. made ≡ woven_of program.now woven.now files.now) }
+    ensures fit { IfOk result (λ made. AllByRecursion ClassFits made) }
+    ensures none { IfOk result (λ made. first_size_fault program.now files.now ≡ None) }
+    ensures report { IfReport result (IsSizeReportIn program.now files.now) }
+{
+    let Ok(longest) = longest_text(alloc, program) else {
+        return Err(Refusal::NoMemory);
+    };
+    let mut made = Seq::new(alloc);
+    match push_applied(alloc, &mut made, files, program, woven, longest) {
+        Ok(()) => Ok(made),
+        Err(refusal) => Err(refusal),
+    }
 }

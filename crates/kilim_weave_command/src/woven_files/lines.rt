@@ -1,6 +1,6 @@
 //! The lines of classes.
 
-ghost use Rattle.std.specs.Prelude.{◌≡◌, ◌++◌, IfOk, codes};
+ghost use Rattle.std.specs.Prelude.{◌≡◌, ◌++◌, IfOk, OnOk, codes};
 ghost use Rattle.std.specs.Fmt.{decimal};
 ghost use Rattle.kilim_reports.specs.Names.{member_name_text};
 ghost use Rattle.kilim_weave_command.specs.woven_files.WovenFiles.{wove_line, wove_lines};
@@ -12,7 +12,7 @@ use std::alloc::Global;
 
 // A number ends a line.
 fn push_last(text: &mut Vec<u8>, number: u64) -> Result<(), NoMemory>
-    ensures { IfOk result (λ u. text.new.items ≡ text.old.items ++ (decimal number ++ codes "\n")) }
+    ensures { OnOk result (text.new.items ≡ text.old.items ++ (decimal number ++ codes "\n")) }
 {
     let Ok(digits) = format!(in *text.allocator(); "{number}\n") else {
         return Err(NoMemory);
@@ -23,39 +23,51 @@ fn push_last(text: &mut Vec<u8>, number: u64) -> Result<(), NoMemory>
     Ok(())
 }
 
-/// A line: a word, the name of a class, a second word, and a number.
-pub fn class_line(
-    alloc: Global,
+// Adds a word, a name, a second word, and a number.
+fn push_words(
+    text: &mut Vec<u8>,
     first: &[u8],
-    class: &Units,
+    name: &[u8],
     second: &[u8],
     number: u64,
-) -> Result<Vec<u8>, NoMemory>
-    ensures { IfOk result (λ text. text.items ≡ first.now ++ (member_name_text class.now ++ (second.now ++ (decimal number ++ codes "\n")))) }
+) -> Result<(), NoMemory>
+    ensures { OnOk result (text.new.items ≡ text.old.items ++ (first.now ++ (name.now ++ (second.now ++ (decimal number ++ codes "\n"))))) }
 {
-    let Ok(name) = member_name_text(alloc, class) else {
+    let Ok(()) = text.extend_from_slice(first) else {
         return Err(NoMemory);
     };
-    let Ok(mut text) = Vec::from_slice(alloc, first) else {
-        return Err(NoMemory);
-    };
-    let Ok(()) = text.extend_from_slice(name.as_slice()) else {
+    let Ok(()) = text.extend_from_slice(name) else {
         return Err(NoMemory);
     };
     let Ok(()) = text.extend_from_slice(second) else {
         return Err(NoMemory);
     };
-    let Ok(()) = push_last(&mut text, number) else {
+    push_last(text, number)
+}
+
+/// Adds a line: a word, the name of a class, a second word, and a number.
+pub fn push_class_line(
+    alloc: Global,
+    text: &mut Vec<u8>,
+    first: &[u8],
+    class: &Units,
+    second: &[u8],
+    number: u64,
+) -> Result<(), NoMemory>
+    ensures { OnOk result (text.new.items ≡ text.old.items ++ (first.now ++ (member_name_text class.now ++ (second.now ++ (decimal number ++ codes "\n"))))) }
+{
+    let Ok(name) = member_name_text(alloc, class) else {
         return Err(NoMemory);
     };
-    Ok(text)
+    push_words(text, first, name.as_slice(), second, number)
 }
 
 #[tactic(auto, unfolding(crate::specs::woven_files::WovenFiles::wove_line))]
-fn wove_line(alloc: Global, file: &WovenFile) -> Result<Vec<u8>, NoMemory>
-    ensures { IfOk result (λ text. text.items ≡ wove_line file.now) }
+fn push_wove_line(alloc: Global, text: &mut Vec<u8>, file: &WovenFile) -> Result<(), NoMemory>
+    ensures { OnOk result (text.new.items ≡ text.old.items ++ wove_line file.now) }
 {
-    class_line(alloc, b"wove ", &file.class, b" ", file.pausables as u64)
+    let number = file.pausables as u64;
+    push_class_line(alloc, text, b"wove ", &file.class, b" ", number)
 }
 
 /// A line for each woven file, in their order: `wove`, the class, and how many of its methods can pause.
@@ -64,10 +76,7 @@ pub fn wove_lines(alloc: Global, files: &[WovenFile]) -> Result<Vec<u8>, NoMemor
 {
     let mut text = Vec::new(alloc);
     for file in files {
-        let Ok(line) = wove_line(alloc, file) else {
-            return Err(NoMemory);
-        };
-        let Ok(()) = text.extend_from_slice(line.as_slice()) else {
+        let Ok(()) = push_wove_line(alloc, &mut text, file) else {
             return Err(NoMemory);
         };
     }

@@ -6,7 +6,7 @@ ghost use Rattle.kilim_reports.specs.Names.{member_name_text};
 ghost use Rattle.kilim_stages.specs.Parts.{Refused};
 ghost use Rattle.kilim_weave_command.specs.woven_files.Reports.{IsSizeLine};
 
-use crate::woven_files::lines::class_line;
+use crate::woven_files::lines::push_class_line;
 use kilim_stages::Refusal;
 use kilim_units::Units;
 use kilim_weave_file::ApplyFault;
@@ -16,8 +16,9 @@ use std::alloc::Global;
 fn line_refusal(alloc: Global, class: &Units, word: &[u8], number: u64) -> Refusal
     ensures { Refused result (λ text. text ≡ codes "weave " ++ (member_name_text class.now ++ (word.now ++ (decimal number ++ codes "\n")))) }
 {
-    match class_line(alloc, b"weave ", class, word, number) {
-        Ok(text) => Refusal::Report(text),
+    let mut text = Vec::new(alloc);
+    match push_class_line(alloc, &mut text, b"weave ", class, word, number) {
+        Ok(()) => Refusal::Report(text),
         Err(_) => Refusal::NoMemory,
     }
 }

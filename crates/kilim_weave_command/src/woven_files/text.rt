@@ -24,5 +24,8 @@ pub fn path_of(alloc: Global, to: &str, file: &WovenFile) -> Result<String, NoMe
     ensures { IfOk result (λ path. string_bytes path ≡ path_of to.now (string_bytes file.now.name)) }
 {
     let name = file.name.as_str();
-    Ok(format!(in alloc; "{to}/{name}.class")?)
+    let Ok(path) = format!(in alloc; "{to}/{name}.class") else {
+        return Err(NoMemory);
+    };
+    Ok(path)
 }
