@@ -1,6 +1,6 @@
 //! The test.
 
-ghost use Rattle.std.specs.Prelude.{◌≡◌, true, false, IfOk};
+ghost use Rattle.std.specs.Prelude.{◌≡◌, true, IfOk};
 ghost use Rattle.kilim_classfile.specs.Text.{ClassFits};
 
 use crate::same::same_files;
@@ -9,20 +9,15 @@ use kilim_classfile::{ClassFault, ClassFile, read};
 use kilim_units::NoMemory;
 use std::alloc::Global;
 
-// Whether what was read is the file again.
-fn is_again(file: &ClassFile, found: ClassFile) -> bool
-    ensures { result ≡ true → file.now ≡ found }
+// Whether what was read is the file again. Where nothing was read, the file has no text, unless memory ran out.
+fn is_again(file: &ClassFile, again: &Result<ClassFile, ClassFault>) -> Result<bool, NoMemory>
+    requires fit { IfOk again.now (λ found. ClassFits found) }
+    ensures { IfOk result (λ b. b ≡ true → ClassFits file.now) }
 {
-    same_files(file, &found)
-}
-
-// Where the bytes aren't read, the file has no text, unless memory ran out.
-fn without_text(fault: ClassFault) -> Result<bool, NoMemory>
-    ensures { IfOk result (λ b. b ≡ false) }
-{
-    match fault {
-        ClassFault::Memory => Err(NoMemory),
-        _ => Ok(false),
+    match again {
+        Ok(found) => Ok(same_files(file, found)),
+        Err(ClassFault::Memory) => Err(NoMemory),
+        Err(_) => Ok(false),
     }
 }
 
@@ -36,8 +31,7 @@ pub fn fits(alloc: Global, file: &ClassFile) -> Result<bool, NoMemory>
     let bytes = bytes_of(alloc, file)?;
     let again = read(alloc, bytes.as_slice());
     drop(bytes);
-    match again {
-        Ok(found) => Ok(is_again(file, found)),
-        Err(fault) => without_text(fault),
-    }
+    let answer = is_again(file, &again);
+    drop(again);
+    answer
 }

@@ -1,10 +1,10 @@
 -- A pool with entries behind it.
-use Rattle.std.proofs.Common.{◌≡◌, ◌==◌, ◌<◌, ◌^◌, ◌+◌, ℕ, zero, suc, Bool, true, false, not, ◌&&◌, ◌||◌, cond, List, [], ◌∷◌, ◌++◌, Option, Some, None, refl, sym, ap, subst, ◌∙◌}
+use Rattle.std.proofs.Common.{◌≡◌, ◌==◌, ◌+◌, ℕ, zero, suc, Bool, true, false, not, ◌&&◌, ◌||◌, cond, List, [], ◌∷◌, ◌++◌, Option, Some, None, refl, sym, ap, subst, ◌∙◌}
 use Rattle.std.specs.List.{AllByRecursion, position_from}
 use Rattle.std.proofs.lemmas.Iterator.Adapters.{position_from-zero}
 use Rattle.kilim_constant_pool.specs.declared.entry.Entry.{Entry}
 use Rattle.kilim_constant_pool.specs.declared.entry.Entry.TheVariants.{Utf8, Integer, Float, Long, Double, Class, String, Fieldref, Methodref, InterfaceMethodref, NameAndType, MethodHandle, MethodType, InvokeDynamic}
-use Rattle.kilim_constant_pool.specs.Entries.{count_of, entry_at, first_bad, is_bad, is_class, is_handled, is_member, is_name_and_type, is_utf8, is_wide, refers_well, slot, slots_of}
+use Rattle.kilim_constant_pool.specs.Entries.{entry_at, first_bad, is_bad, is_class, is_handled, is_member, is_name_and_type, is_utf8, is_wide, refers_well, slot, slots_of}
 use Rattle.kilim_constant_pool.specs.Spelling.{EntryFits, PoolFits}
 use Rattle.kilim_constant_pool.proofs.SlotLaws.{slots-append}
 use Rattle.kilim_class_fits.specs.pool_needs.growth.Growth.{CanFollow, Extends, Grows}
@@ -26,12 +26,6 @@ slot_stays (x ∷ xs) ys (suc k) entry is = slot_stays xs ys k entry is
 pub extends_by : (old more : List Entry) → Extends old (old ++ more)
 extends_by old more zero entry is = absurd (nothing_there entry is)
 extends_by old more (suc k) entry is = ap (λ (ss : Slots). slot ss k) (slots-append old more) ∙ slot_stays (slots_of old) (slots_of more) k entry is
-
-pub extends_same : (old : List Entry) → Extends old old
-extends_same old index entry is = is
-
-pub extends_both : (a b c : List Entry) → Extends a b → Extends b c → Extends a c
-extends_both a b c one other index entry is = other index entry (one index entry is)
 
 -- ---- entries that refer well
 
@@ -143,8 +137,3 @@ grows old more fits can =
         refer = none_first new (subst (NoneBad new) (sym (slots-append old more)) all);
       };
     }
-
--- one entry that already names what it has to
-pub one_grows : (old : List Entry) (entry : Entry) → PoolFits old → EntryFits entry → refers_well old entry ≡ true → count_of (old ++ entry ∷ []) < 2 ^ 16 → Grows old (old ++ entry ∷ [])
-one_grows old entry fits fit well few =
-    grows old (entry ∷ []) fits (record { few = few; fit = (fit, tt); refer = (refers_too old (old ++ entry ∷ []) (extends_by old (entry ∷ [])) entry well, tt) })
