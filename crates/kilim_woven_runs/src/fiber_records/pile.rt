@@ -45,8 +45,10 @@ impl Pile {
     pub fn push(&mut self, one: Record) -> Result<(), AllocError>
         ensures { OnOk result (self.new ≡ one ∷ self.old) }
     {
-        self.records.push(one)?;
-        Ok(())
+        match self.records.push(one) {
+            Ok(()) => Ok(()),
+            Err(_) => Err(AllocError),
+        }
     }
 
     /// Takes the topmost record off, where there is one.
@@ -74,7 +76,9 @@ impl Pile {
         if count == 0 {
             return Ok(None);
         }
-        let receiver = self.records[count - 1].receiver()?;
-        Ok(Some(receiver))
+        match self.records[count - 1].receiver() {
+            Ok(receiver) => Ok(Some(receiver)),
+            Err(fault) => Err(fault),
+        }
     }
 }

@@ -78,8 +78,10 @@ impl Record {
     pub fn save(&mut self, value: Value) -> Result<(), AllocError>
         ensures { OnOk result (self.new ≡ Saved (place_of self.old) (receiver_of self.old) (value ∷ values_of self.old)) }
     {
-        self.values.push(value)?;
-        Ok(())
+        match self.values.push(value) {
+            Ok(()) => Ok(()),
+            Err(_) => Err(AllocError),
+        }
     }
 
     /// Takes back the value that was saved last, where there is one.

@@ -62,8 +62,10 @@ impl Records {
     {
         let next = self.deeper.pop_or_new(alloc);
         let here = replace(&mut self.here, next);
-        self.lower.push(here)?;
-        Ok(())
+        match self.lower.push(here) {
+            Ok(()) => Ok(()),
+            Err(_) => Err(NoMemory),
+        }
     }
 
     /// `up`: a call returned, one level back, and whether the fiber pauses. Then the record of the level that is left stays, and else
@@ -76,7 +78,9 @@ impl Records {
         };
         let left = replace(&mut self.here, lower);
         if self.pausing {
-            self.deeper.push(left)?;
+            let Ok(()) = self.deeper.push(left) else {
+                return Err(NoMemory);
+            };
         }
         Ok(Some(self.pausing))
     }
@@ -85,8 +89,10 @@ impl Records {
     pub fn save(&mut self, value: Value) -> Result<(), NoMemory>
         ensures { OnOk result (did native.Save (value ∷ a_value.Fiber ∷ []) self.old ≡ Does self.new None) }
     {
-        self.here.save(value)?;
-        Ok(())
+        match self.here.save(value) {
+            Ok(()) => Ok(()),
+            Err(_) => Err(NoMemory),
+        }
     }
 
     /// `place`: the number of the resume point and the frame's receiver are written down at this level.
@@ -108,8 +114,10 @@ impl Records {
     pub fn receiver(&self) -> Result<Option<Value>, NoMemory>
         ensures { IfOk result (λ found. MatchOption found (did native.Receiver (a_value.Fiber ∷ []) self.now ≡ NotDone) (λ value. did native.Receiver (a_value.Fiber ∷ []) self.now ≡ Does self.now (Some value))) }
     {
-        let found = self.deeper.receiver()?;
-        Ok(found)
+        match self.deeper.receiver() {
+            Ok(found) => Ok(found),
+            Err(_) => Err(NoMemory),
+        }
     }
 
     /// A leaf pauses: it writes its receiver down, and all frames are to be left.
@@ -153,8 +161,10 @@ impl Records {
     pub fn first_receiver(&self) -> Result<Value, NoMemory>
         ensures { IfOk result (λ value. value ≡ first_receiver self.now) }
     {
-        let receiver = self.here.receiver()?;
-        Ok(receiver)
+        match self.here.receiver() {
+            Ok(receiver) => Ok(receiver),
+            Err(_) => Err(NoMemory),
+        }
     }
 
     /// How many records are kept above this level.

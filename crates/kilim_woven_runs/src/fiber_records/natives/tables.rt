@@ -19,7 +19,9 @@ pub fn native_table(alloc: Global, program: &Program) -> Result<Vec<Option<Nativ
             return Ok(table);
         };
         let native = native_of(program, MethodId(number));
-        table.push(native)?;
+        let Ok(()) = table.push(native) else {
+            return Err(NoMemory);
+        };
     }
     Ok(table)
 }
@@ -43,7 +45,9 @@ pub fn execute_table(alloc: Global, program: &Program) -> Result<Vec<Option<Meth
             return Ok(table);
         };
         let method = execute_of(program, ClassId(number));
-        table.push(method)?;
+        let Ok(()) = table.push(method) else {
+            return Err(NoMemory);
+        };
     }
     Ok(table)
 }

@@ -5,7 +5,7 @@ use Rattle.kilim_woven_runs.proofs.fiber_records.natives.tables.execute_table.Go
 
 pub loop-at-preserved : goal.loop-at-preserved
 loop-at-preserved c =
-    let e = c.in_ok-push.ensures.items in
+    let e = c.in-Ok-push.ensures.items in
     record {
       tell =
           subst (AreExecutes c.args.program.now) (sym e)

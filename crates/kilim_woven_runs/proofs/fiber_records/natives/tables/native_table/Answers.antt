@@ -5,7 +5,7 @@ use Rattle.kilim_woven_runs.proofs.fiber_records.natives.tables.native_table.Goa
 
 pub loop-at-preserved : goal.loop-at-preserved
 loop-at-preserved c =
-    let e = c.in_ok-push.ensures.items in
+    let e = c.in-Ok-push.ensures.items in
     record {
       tell =
           subst (AreNatives c.args.program.now) (sym e)
