@@ -1,5 +1,5 @@
 -- Values of types, and what operands are.
-use Rattle.std.proofs.Common.{◌≡◌, ◌⊎◌, inl, inr, ℕ, zero, suc, ℤ, Bool, true, false, eqb, List, [], ◌∷◌, ◌++◌, length, drop, Option, Some, None, Result, Ok, refl, sym, subst}
+use Rattle.std.proofs.Common.{◌≡◌, ◌⊎◌, inl, inr, ℕ, zero, suc, ℤ, Bool, true, false, true≢false, eqb, List, [], ◌∷◌, ◌++◌, length, drop, Option, Some, None, Result, Ok, refl, sym, subst}
 use Rattle.std.specs.Prelude.{◌&&◌, ◌||◌, nat_lt, codes}
 use Rattle.std.specs.List.{list_any}
 use Rattle.std.proofs.lemmas.Bool.{and_parts, and_from, eqb-true}
@@ -135,7 +135,7 @@ module _ (p : Program) (order : Ordered p) (m : Method) (of : Classes) where
 
   -- a value of a type is of each type that it is assignable to
   pub assigned : (a b : VType) (v : Value) → assignable p a b ≡ true → is_top b ≡ false → has_type p m of a v ≡ true → has_type p m of b v ≡ true
-  assigned a Top v h n k = absurd (cc)
+  assigned a Top v h n k = absurd (true≢false n)
   assigned Int Int v h n k = k
   assigned Long Long v h n k = k
   assigned Null Null v h n k = k
@@ -143,7 +143,7 @@ module _ (p : Program) (order : Ordered p) (m : Method) (of : Classes) where
   assigned (Uninit a) (Uninit b) v h n k = subst (λ (q : ℕ). has_type p m of (Uninit q) v ≡ true) (eqb-true a b h) k
   assigned Null (Object b) v h n k = subst (λ (w : Value). has_type p m of (Object b) w ≡ true) (sym (null_alone v k)) refl
   assigned (Object a) (Object b) v h n k = object_assigned a b v h k
-  assigned a b v h n k = absurd (cc)
+  assigned a b v h n k = absurd (true≢false (sym h))
 
   -- ---- operands
 

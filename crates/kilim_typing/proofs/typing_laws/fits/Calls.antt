@@ -1,5 +1,5 @@
 -- Calls fit.
-use Rattle.std.proofs.Common.{◌≡◌, ◌≢◌, ◌⊎◌, inl, inr, ℕ, zero, suc, ℤ, pos, negsuc, ◌%◌, ◌^◌, Bool, true, false, cond, List, [], ◌∷◌, ◌++◌, map, length, reverse, Option, Some, None, Ok, refl, sym, ap, subst, ◌∙◌}
+use Rattle.std.proofs.Common.{◌≡◌, ◌≢◌, ◌⊎◌, inl, inr, ℕ, zero, suc, ℤ, pos, negsuc, ◌%◌, ◌^◌, Bool, true, false, true≢false, cond, List, [], ◌∷◌, ◌++◌, map, length, reverse, Option, Some, None, Ok, refl, sym, ap, subst, ◌∙◌}
 use mathlib.Core.List.{reverse_aux}
 use Rattle.std.specs.Prelude.{◌||◌, not, slice_get, codes}
 use Rattle.std.proofs.lemmas.Bool.{and_parts, and_from}
@@ -331,13 +331,13 @@ module _ (p : Program) (facts : Facts p) (m : Method) (of : Classes) (h : Object
         plain_tops (o ∷ os) = (tt, plain_tops os)
 
         reference_of : (v : Value) → has_type p m of (Object (class_type callee.owner.0)) v ≡ true → is_reference v ≡ true
-        reference_of (value.Int x) d = absurd (cc)
-        reference_of (value.Long x) d = absurd (cc)
+        reference_of (value.Int x) d = absurd (true≢false (sym d))
+        reference_of (value.Long x) d = absurd (true≢false (sym d))
         reference_of v d = refl
 
         through : (v : Value) → v ≢ value.Null → has_type p m of (Object (class_type m.owner.0)) v ≡ true → (up : Ty) → fits_type p (class_type m.owner.0) up ≡ true → is_of p (class_of p of v) up ≡ true
-        through (value.Int x) nn d up a = absurd (cc)
-        through (value.Long x) nn d up a = absurd (cc)
+        through (value.Int x) nn d up a = absurd (true≢false (sym d))
+        through (value.Long x) nn d up a = absurd (true≢false (sym d))
         through value.Null nn d up a = absurd (nn refl)
         through (value.Ref n) nn d up a = of_through p facts.order m of (of n) _ _ d a
         through (value.Text x) nn d up a = of_through p facts.order m of _ _ _ d a
@@ -402,17 +402,17 @@ module _ (p : Program) (facts : Facts p) (m : Method) (of : Classes) (h : Object
         on_text text ts v d vt (reverse xs) rest e q)))
       where
         no_object : (o : HeapObject) (c : Ty) → o.class ≡ c → (k : ClassId) → c ≡ class_type k.0 → is_value_class (class_name p k) ≡ true → ObjectFits p of o → ⊥
-        no_object o c e k z v fit = absurd (let a = subst (λ (ty : Ty). ContentFits p of ty.dims ty.base o) (e ∙ z) fit in let n = (and_parts (is_concrete (class_at p k)) (not (is_value_class (class_name p k))) a.0).1 in let y = subst (λ (q : Bool). not q ≡ true) v n in cc)
+        no_object o c e k z v fit = absurd (let a = subst (λ (ty : Ty). ContentFits p of ty.dims ty.base o) (e ∙ z) fit in let n = (and_parts (is_concrete (class_at p k)) (not (is_value_class (class_name p k))) a.0).1 in let y = subst (λ (q : Bool). not q ≡ true) v n in true≢false (sym y))
 
         value_named : is_value_class (class_name p callee.owner) ≡ true
         value_named = subst (λ (z : Bool). (z || bytes_eq (class_name p callee.owner) (codes "kilim/Mailbox")) ≡ true) (sym (and_parts callee.built_in (bytes_eq (class_name p callee.owner) (codes "java/lang/String")) is).1) refl
 
         on_text : TextMethod p callee → (ts : List VType) (v : Value) → has_type p m of (Object (class_type callee.owner.0)) v ≡ true → IsThere h v → (args rest : List Value) → have_types p m of (map vtype callee.params) args ≡ true → have_types p m of ts rest ≡ true →
             At i (result_types callee.result ++ ts) (calls_text callee args next ls rest h v)
-        on_text x ts (value.Int n) d vt args rest e q = absurd (cc)
-        on_text x ts (value.Long n) d vt args rest e q = absurd (cc)
+        on_text x ts (value.Int n) d vt args rest e q = absurd (true≢false (sym d))
+        on_text x ts (value.Long n) d vt args rest e q = absurd (true≢false (sym d))
         on_text x ts value.Null d vt args rest e q = tt
         on_text x ts (value.Ref n) d vt args rest e q = absurd (no_object vt.0 vt.0.class refl callee.owner (x.alone vt.0.class (subst (λ (o : Option Ty). is_of p o (class_type callee.owner.0) ≡ true) (heap.classes n vt.0 vt.1) d)) value_named (heap.objects n vt.0 vt.1))
         on_text x ts (value.Text units) d vt args rest e q = text_gives callee x.kind units args rest ts e q
-        on_text x ts (value.Box n) d vt args rest e q = absurd (let z = x.no_box in cc)
-        on_text x ts value.Fiber d vt args rest e q = absurd (let z = x.no_fiber in cc)
+        on_text x ts (value.Box n) d vt args rest e q = absurd (true≢false (sym d ∙ x.no_box))
+        on_text x ts value.Fiber d vt args rest e q = absurd (true≢false (sym d ∙ x.no_fiber))

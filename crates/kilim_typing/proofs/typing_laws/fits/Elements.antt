@@ -1,5 +1,5 @@
 -- An element of an array of references fits.
-use Rattle.std.proofs.Common.{◌≡◌, ℕ, zero, suc, ℤ, ◌-◌, Bool, true, false, List, [], ◌∷◌, drop, Option, Result, Ok, Err, refl, sym, ap, subst, ◌∙◌, arith}
+use Rattle.std.proofs.Common.{◌≡◌, ℕ, zero, suc, ℤ, ◌-◌, Bool, true, false, true≢false, List, [], ◌∷◌, drop, Option, Result, Ok, Err, refl, sym, ap, subst, ◌∙◌, arith}
 use Rattle.std.specs.Prelude.{◌&&◌, slice_set}
 use Rattle.std.specs.FinMap.{insert}
 use Rattle.std.proofs.lemmas.Bool.{and_parts, and_from}
@@ -51,7 +51,7 @@ module _ (p : Program) (order : Ordered p) (m : Method) (of : Classes) (h : Obje
   element_typed : (a d : ℕ) (x y : Base) → is_ref_array d y ≡ true → fits_type p (record { dims = a; base = x }) (record { dims = d; base = y }) ≡ true → (v : Value) → ((e : ℕ) → a ≡ suc e → is_value_of p of (record { dims = e; base = x }) v ≡ true) →
       has_type p m of (vtype (record { dims = d - 1; base = y })) v ≡ true
   unfolding fits_type
-  element_typed zero d x y r e v k = absurd (let z = parts d y r in let w = subst (λ (n : ℕ). type_assignable p zero x n y ≡ true) z.1 e in cc)
+  element_typed zero d x y r e v k = absurd (let z = parts d y r in let w = subst (λ (n : ℕ). type_assignable p zero x n y ≡ true) z.1 e in true≢false (sym w))
   element_typed (suc a) d x y r e v k =
       let z = parts d y r in
       let less : d - 1 ≡ z.0 = let q = z.1 in omega (arith, q) in
@@ -62,10 +62,10 @@ module _ (p : Program) (order : Ordered p) (m : Method) (of : Classes) (h : Obje
     where
       below : (a e : ℕ) (x y : Base) → type_assignable p a x e y ≡ true → is_reference_type e y ≡ true → is_reference_type a x ≡ true
       below (suc a) e x y k r = refl
-      below zero (suc e) x y k r = absurd (cc)
+      below zero (suc e) x y k r = absurd (true≢false (sym k))
       below zero zero (base.Class c) y k r = refl
-      below zero zero x (base.Class c) k r = absurd (cc)
-      below zero zero x y k r = absurd (cc)
+      below zero zero x (base.Class c) k r = absurd (true≢false (sym k))
+      below zero zero x y k r = absurd (true≢false (sym r))
 
   module _ (i : Instr) (b : Before p m of h live at next f ls vs i) (w : (k : ℕ) → writes i k ≡ false) (on : Among (edges i next) next) where
     abbrev After : Effect → Type 0

@@ -1,5 +1,5 @@
 -- Fields fit.
-use Rattle.std.proofs.Common.{◌≡◌, inl, inr, ℕ, zero, suc, ℤ, Bool, true, false, cond, eqb, List, [], ◌∷◌, Option, Some, None, Ok, refl, sym, ap, subst, ◌∙◌, arith}
+use Rattle.std.proofs.Common.{◌≡◌, inl, inr, ℕ, zero, suc, ℤ, Bool, true, false, true≢false, cond, eqb, List, [], ◌∷◌, Option, Some, None, Ok, refl, sym, ap, subst, ◌∙◌, arith}
 use Rattle.std.specs.Prelude.{◌&&◌, ◌||◌, not, slice_get, codes}
 use Rattle.std.specs.FinMap.{get, insert}
 use Rattle.std.specs.List.{list_any}
@@ -93,8 +93,8 @@ module _ (p : Program) (facts : Facts p) (narrows : Narrows) (m : Method) (of : 
   no_value x field e s name n k = by (class_named p name) refl k
     where
       by : (o : Option ClassId) → class_named p name ≡ o → is_of p (named_class o) (class_type field.owner.0) ≡ true → ⊥
-      by None q k = absurd (cc)
-      by (Some c) q k = absurd (let a = facts.fields x field e s 0 (base.Class c) k in let b = subst (λ (fs : List FieldId). list_any (λ (y : FieldId). eqb y.0 x.0) fs ≡ true) (facts.no_fields name c n q) a in cc)
+      by None q k = absurd (true≢false (sym k))
+      by (Some c) q k = absurd (let a = facts.fields x field e s 0 (base.Class c) k in let b = subst (λ (fs : List FieldId). list_any (λ (y : FieldId). eqb y.0 x.0) fs ≡ true) (facts.no_fields name c n q) a in true≢false (sym b))
 
   holder_is : (S : Effect → Type 0) → ((c : _) → S (Raises c)) → (x : FieldId) (field : Field) → field_of p x ≡ Some field → field.is_static ≡ false → (v : Value) → has_type p m of (Object (class_type field.owner.0)) v ≡ true → IsThere h v → (go : ℕ → HeapObject → Effect) →
       ((n : ℕ) (o : HeapObject) → get h n ≡ Some o → OwnsField p o.class.dims o.class.base x → S (go n o)) → S (as_object v h go)

@@ -1,5 +1,5 @@
 -- Lines of superclasses are never cut short, so which type fits which is transitive.
-use Rattle.std.proofs.Common.{◌≡◌, ℕ, zero, suc, ◌+◌, ◌<◌, ◌≤◌, Bool, true, false, eqb, List, [], ◌∷◌, length, map, Option, Some, None, refl, sym, ap, subst, ◌∙◌, arith}
+use Rattle.std.proofs.Common.{◌≡◌, ℕ, zero, suc, ◌+◌, ◌<◌, ◌≤◌, Bool, true, false, true≢false, eqb, List, [], ◌∷◌, length, map, Option, Some, None, refl, sym, ap, subst, ◌∙◌, arith}
 use Rattle.std.specs.Prelude.{◌&&◌, ◌||◌, not, slice_get, codes}
 use Rattle.std.specs.List.{list_all, list_any, AllByRecursion, IsDistinct}
 use Rattle.std.specs.Str.{bytes_eq}
@@ -299,35 +299,35 @@ module _ (p : Program) (keeps : Keeps p) where
 
   base_through : (a b c : Base) → base_assignable p a b ≡ true → base_assignable p b c ≡ true → base_assignable p a c ≡ true
   base_through (base.Class a) (base.Class b) (base.Class c) e f = class_through a b c e f
-  base_through (base.Class a) (base.Class b) base.Bool e f = absurd (cc)
-  base_through (base.Class a) (base.Class b) base.Byte e f = absurd (cc)
-  base_through (base.Class a) (base.Class b) base.Char e f = absurd (cc)
-  base_through (base.Class a) (base.Class b) base.Short e f = absurd (cc)
-  base_through (base.Class a) (base.Class b) base.Int e f = absurd (cc)
-  base_through (base.Class a) (base.Class b) base.Long e f = absurd (cc)
-  base_through (base.Class a) base.Bool c e f = absurd (cc)
-  base_through (base.Class a) base.Byte c e f = absurd (cc)
-  base_through (base.Class a) base.Char c e f = absurd (cc)
-  base_through (base.Class a) base.Short c e f = absurd (cc)
-  base_through (base.Class a) base.Int c e f = absurd (cc)
-  base_through (base.Class a) base.Long c e f = absurd (cc)
+  base_through (base.Class a) (base.Class b) base.Bool e f = absurd (true≢false (sym f))
+  base_through (base.Class a) (base.Class b) base.Byte e f = absurd (true≢false (sym f))
+  base_through (base.Class a) (base.Class b) base.Char e f = absurd (true≢false (sym f))
+  base_through (base.Class a) (base.Class b) base.Short e f = absurd (true≢false (sym f))
+  base_through (base.Class a) (base.Class b) base.Int e f = absurd (true≢false (sym f))
+  base_through (base.Class a) (base.Class b) base.Long e f = absurd (true≢false (sym f))
+  base_through (base.Class a) base.Bool c e f = absurd (true≢false (sym e))
+  base_through (base.Class a) base.Byte c e f = absurd (true≢false (sym e))
+  base_through (base.Class a) base.Char c e f = absurd (true≢false (sym e))
+  base_through (base.Class a) base.Short c e f = absurd (true≢false (sym e))
+  base_through (base.Class a) base.Int c e f = absurd (true≢false (sym e))
+  base_through (base.Class a) base.Long c e f = absurd (true≢false (sym e))
   base_through base.Bool base.Bool c e f = f
   base_through base.Byte base.Byte c e f = f
   base_through base.Char base.Char c e f = f
   base_through base.Short base.Short c e f = f
   base_through base.Int base.Int c e f = f
   base_through base.Long base.Long c e f = f
-  base_through a b c e f = absurd (cc)
+  base_through a b c e f = absurd (true≢false (sym e))
 
   object_base_through : (b c : Base) → is_object_base p b ≡ true → base_assignable p b c ≡ true → is_object_base p c ≡ true
   object_base_through (base.Class b) (base.Class c) o f = above_object b c o f
-  object_base_through (base.Class b) base.Bool o f = absurd (cc)
-  object_base_through (base.Class b) base.Byte o f = absurd (cc)
-  object_base_through (base.Class b) base.Char o f = absurd (cc)
-  object_base_through (base.Class b) base.Short o f = absurd (cc)
-  object_base_through (base.Class b) base.Int o f = absurd (cc)
-  object_base_through (base.Class b) base.Long o f = absurd (cc)
-  object_base_through b c o f = absurd (cc)
+  object_base_through (base.Class b) base.Bool o f = absurd (true≢false (sym f))
+  object_base_through (base.Class b) base.Byte o f = absurd (true≢false (sym f))
+  object_base_through (base.Class b) base.Char o f = absurd (true≢false (sym f))
+  object_base_through (base.Class b) base.Short o f = absurd (true≢false (sym f))
+  object_base_through (base.Class b) base.Int o f = absurd (true≢false (sym f))
+  object_base_through (base.Class b) base.Long o f = absurd (true≢false (sym f))
+  object_base_through b c o f = absurd (true≢false (sym o))
 
   type_through : (m n k : ℕ) (a b c : Base) → type_assignable p m a n b ≡ true → type_assignable p n b k c ≡ true → type_assignable p m a k c ≡ true
   type_through zero zero zero a b c e f = base_through a b c e f

@@ -46,10 +46,6 @@ all_joined : {A : Type 0} (test : A → Bool) (xs ys : List A) → list_all test
 all_joined test [] ys a b = b
 all_joined test (x ∷ xs) ys a b = let p = and_parts (test x) (list_all test xs) a in and_from (test x) _ p.0 (all_joined test xs ys p.1 b)
 
-is_false : (b : Bool) → not b ≡ true → b ≡ false
-is_false true e = absurd (cc)
-is_false false e = refl
-
 module _ (P W : Program) (keeps : Keeps P) (extra : Class) (grown : W.classes ≡ P.classes ++ extra ∷ [])
     (woven : (id : MethodId) (a : Method) → method_at P id ≡ Some a → (b : Method) × (method_at W id ≡ Some b) × Like P a b) where
   methods_by : (o : Option Class) → (c : ClassId) → class_at P c ≡ o → list_all (has_method P) (methods_of P c) ≡ true

@@ -115,15 +115,6 @@ untouched_half UninitThis ls k j ne = refl
 untouched_half (Uninit q) ls k j ne = refl
 untouched_half (Object ty) ls k j ne = refl
 
-short_half : (t : VType) (ls : List VType) (k j : ℕ) → is_long t ≡ false → peek (with_half t ls k) j ≡ peek ls j
-short_half Long ls k j h = absurd (cc)
-short_half Top ls k j h = refl
-short_half Int ls k j h = refl
-short_half Null ls k j h = refl
-short_half UninitThis ls k j h = refl
-short_half (Uninit q) ls k j h = refl
-short_half (Object ty) ls k j h = refl
-
 stored_by : (t : VType) (ls : List VType) (k j : ℕ) → k ≤ j → j ≢ k → peek (with_half t (poke (split_long ls k) k t) k) j ≡ peek (poke (split_long ls k) k t) j → peek (stored ls k t) j ≡ peek ls j
 stored_by t ls k j h ne e = e ∙ (peek_other (split_long ls k) k j t ne ∙ untouched_split ls k j h)
 

@@ -24,6 +24,9 @@ use Rattle.kilim_typing.proofs.woven_form.woven_types.Locals.{Covers}
 use Rattle.kilim_typing.proofs.woven_form.woven_types.Crux.{plain, twin, RowReads, RowWrites, Firm, FirmRow, row_next}
 use Rattle.kilim_typing.proofs.woven_form.woven_types.Rows.{Named, Settled, row_moved, Fitting}
 
+no_callee : (m : Method) → Some m ≡ None → ⊥
+no_callee m e = cc
+
 -- rows that load nothing
 Quiet : Program → Row → Type 0
 Quiet P r = ((j : ℕ) → RowReads r j → ⊥) × FirmRow P r
@@ -166,7 +169,7 @@ module _ (P : Program) where
   there id (Some callee) e some n = (callee, e, plain_callee callee.pausable n)
     where
       plain_callee : (b : Bool) → cond b (Some callee) None ≡ None → b ≡ false
-      plain_callee true h = absurd (cc)
+      plain_callee true h = absurd (no_callee callee h)
       plain_callee false h = refl
 
   missing_fails : (m : Method) (q : ℕ) (f g : Types) → by_row P m q missing f ≡ Ok g → ⊥
@@ -193,7 +196,7 @@ module _ (P : Program) where
       (callee, at, plain_callee callee.pausable n, λ c. special_asks m q id callee f g (ap (λ z. by_row P m q (special_by z P m id callee) f) (sym c) ∙ e))
     where
       plain_callee : (b : Bool) → cond b (Some callee) None ≡ None → b ≡ false
-      plain_callee true h = absurd (cc)
+      plain_callee true h = absurd (no_callee callee h)
       plain_callee false h = refl
 
   pub settled : (m : Method) (q : ℕ) (i : Instr) (f g : Types) → pausable_callee P i ≡ None → type_step P m q i f ≡ Ok g → Settled P m i

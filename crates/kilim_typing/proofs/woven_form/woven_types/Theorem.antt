@@ -148,21 +148,3 @@ pub jump_fits : (at to most : ℕ) → at ≤ most → to ≤ most → most ≤ 
 jump_fits at to most a b m =
     and_from (nat_lt to (at + 32768)) (nat_lt at (to + 32769) && true) (lt-ltb to (at + 32768) (omega (arith, a, b, m)))
     (and_from (nat_lt at (to + 32769)) true (lt-ltb at (to + 32769) (omega (arith, a, b, m))) refl)
-
--- each label stands within the code
-labels_within : (x : Plan) (items : List Item) (q : ℕ) → q ≤ behind q items
-labels_within x [] q = omega arith
-labels_within x (Mark label frame ∷ rest) q = labels_within x rest q
-labels_within x (Does i size counted ∷ rest) q = let h = labels_within x rest (q + size q) in omega (arith, h)
-
-abbrev pub EachLabel : (ℕ → Type 0) → Plan → List Item → Type 0
-EachLabel F x [] = Unit {0}
-EachLabel F x (Mark (Old place) frame ∷ rest) = F (x.at place) × EachLabel F x rest
-EachLabel F x (Mark (Resumes number) frame ∷ rest) = F (x.block number) × EachLabel F x rest
-EachLabel F x (Does i size counted ∷ rest) = EachLabel F x rest
-
-pub each_within : (x : Plan) (items : List Item) (q : ℕ) → Labelled x q items → EachLabel (λ place. place ≤ behind q items) x items
-each_within x [] q l = tt
-each_within x (Mark (Old place) frame ∷ rest) q l = (subst (λ z. z ≤ behind q rest) (sym l.0) (labels_within x rest q), each_within x rest q l.1)
-each_within x (Mark (Resumes number) frame ∷ rest) q l = (subst (λ z. z ≤ behind q rest) (sym l.0) (labels_within x rest q), each_within x rest q l.1)
-each_within x (Does i size counted ∷ rest) q l = each_within x rest (q + size q) l
