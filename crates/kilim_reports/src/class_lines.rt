@@ -66,7 +66,9 @@ fn push_attribute(text: &mut Vec<u8>, fault: AttributeFault) -> Result<(), NoMem
 fn push_code(text: &mut Vec<u8>, method: &MemberName) -> Result<(), NoMemory>
     ensures { OnOk result (text.new.items ≡ text.old.items ++ (codes "code " ++ method_text method.now)) }
 {
-    push(text, b"code ")?;
+    let Ok(()) = push(text, b"code ") else {
+        return Err(NoMemory);
+    };
     push_method(text, method)
 }
 

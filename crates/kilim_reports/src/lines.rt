@@ -99,7 +99,9 @@ fn push_path(text: &mut Vec<u8>, path: &[u32]) -> Result<(), NoMemory>
     if path.is_empty() {
         return Ok(());
     }
-    push(text, b" path")?;
+    let Ok(()) = push(text, b" path") else {
+        return Err(NoMemory);
+    };
     push_places(text, path)
 }
 
@@ -141,17 +143,6 @@ fn push_fault(text: &mut Vec<u8>, program: &Program, report: &Report) -> Result<
         return Err(NoMemory);
     };
     push(text, b"\n")
-}
-
-/// The line of a broken rule, with its line feed.
-pub fn fault_line(alloc: Global, program: &Program, report: &Report) -> Result<Vec<u8>, NoMemory>
-    ensures { IfOk result (λ text. text.items ≡ spec.fault_line program.now report.now) }
-{
-    let mut text = Vec::new(alloc);
-    let Ok(()) = push_fault(&mut text, program, report) else {
-        return Err(NoMemory);
-    };
-    Ok(text)
 }
 
 /// The lines of broken rules, in their order.

@@ -13,8 +13,10 @@ use std::alloc::Global;
 fn push_units(text: &mut Vec<u8>, units: &[u16]) -> Result<(), NoMemory>
     ensures { OnOk result (text.new.items ≡ text.old.items ++ name_text units.now) }
 {
-    push_name(text, units)?;
-    Ok(())
+    match push_name(text, units) {
+        Ok(()) => Ok(()),
+        Err(_) => Err(NoMemory),
+    }
 }
 
 /// Appends the name of a method as it stands in a report: in ASCII, as names stand in a journal, but `<init>` as it is.
@@ -78,7 +80,9 @@ pub fn descriptor_text(alloc: Global, descriptor: &Units) -> Result<Vec<u8>, NoM
 pub fn push_named(text: &mut Vec<u8>, name: &Units, descriptor: &Units) -> Result<(), NoMemory>
     ensures { OnOk result (text.new.items ≡ text.old.items ++ (member_name_text name.now ++ descriptor_text descriptor.now)) }
 {
-    push_member_name(text, name)?;
+    let Ok(()) = push_member_name(text, name) else {
+        return Err(NoMemory);
+    };
     push_descriptor(text, descriptor)
 }
 

@@ -22,14 +22,18 @@ pub fn joined(alloc: Global, first: &[u8], second: &[u8]) -> Result<Vec<u8>, NoM
 pub fn push(text: &mut Vec<u8>, word: &[u8]) -> Result<(), NoMemory>
     ensures { OnOk result (text.new.items ≡ text.old.items ++ word.now) }
 {
-    text.extend_from_slice(word)?;
-    Ok(())
+    match text.extend_from_slice(word) {
+        Ok(()) => Ok(()),
+        Err(_) => Err(NoMemory),
+    }
 }
 
 /// Appends two texts, one behind the other.
 pub fn push_both(text: &mut Vec<u8>, first: &[u8], second: &[u8]) -> Result<(), NoMemory>
     ensures { OnOk result (text.new.items ≡ text.old.items ++ (first.now ++ second.now)) }
 {
-    push(text, first)?;
+    let Ok(()) = push(text, first) else {
+        return Err(NoMemory);
+    };
     push(text, second)
 }
