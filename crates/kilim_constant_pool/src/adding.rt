@@ -57,7 +57,9 @@ impl Pool {
         if usize::from(index) + width_of(&entry) > 65_535 {
             return Err(AddFault::Full);
         }
-        self.push(entry)?;
-        Ok(index)
+        match self.push(entry) {
+            Ok(()) => Ok(index),
+            Err(_) => Err(AddFault::Memory),
+        }
     }
 }

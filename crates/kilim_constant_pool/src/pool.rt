@@ -47,7 +47,9 @@ fn push_slots(slots: &mut Vec<Option<Entry>>, entry: Entry) -> Result<(), AllocE
     ensures ok { OnOk result (slots.new.items ≡ slots.old.items ++ slots_of_entry entry) }
     ensures err { OnErr result (slots.new.items ≡ slots.old.items) }
 {
-    slots.reserve(2)?;
+    let Ok(()) = slots.reserve(2) else {
+        return Err(AllocError);
+    };
     let wide = is_wide(&entry);
     slots.push(Some(entry)).unwrap(); // proved: there is room
     if wide {

@@ -38,7 +38,9 @@ fn push_string(into: &mut Vec<u8>, units: &Units) -> Result<(), AllocError>
     if kilim_mutf8::write(units, &mut text).is_err() {
         return Err(AllocError);
     }
-    push_u16(into, text.len() as u16)?;
+    let Ok(()) = push_u16(into, text.len() as u16) else {
+        return Err(AllocError);
+    };
     into.extend_from_slice(text.as_slice())
 }
 
@@ -110,7 +112,9 @@ fn push_slots(into: &mut Vec<u8>, slots: &[Option<Entry>]) -> Result<(), AllocEr
     ensures ok { OnOk result (into.new.items ≡ into.old.items ++ flat_map slot_text slots.now) }
 {
     for slot in slots {
-        push_slot(into, slot)?;
+        let Ok(()) = push_slot(into, slot) else {
+            return Err(AllocError);
+        };
     }
     Ok(())
 }
@@ -132,8 +136,12 @@ impl Pool {
         ensures err { OnErr result (into.new.items ≡ into.old.items) }
     {
         let mut text = Vec::new(*into.allocator());
-        push_pool(&mut text, self)?;
-        into.extend_from_slice(text.as_slice())?;
+        let Ok(()) = push_pool(&mut text, self) else {
+            return Err(NoMemory);
+        };
+        let Ok(()) = into.extend_from_slice(text.as_slice()) else {
+            return Err(NoMemory);
+        };
         Ok(())
     }
 }

@@ -7,7 +7,7 @@ use Rattle.kilim_constant_pool.proofs.writing.push_slots.Goals as goal
 pub loop-slot-preserved : goal.loop-slot-preserved
 loop-slot-preserved c =
     ahead slot_text c.loop-slot.into.items c.push_slot.new.into.items (c.args.into.now.items ++ flat_map slot_text c.args.slots.now) c.args.slots.now c.loop-slot.slot-index c.slot-item.result _
-    c.loop-slot-test.true c.slot-item.is c.loop-slot.invariant c.in_ok-push_slot.ensures.ok
+    c.loop-slot-test.true c.slot-item.is c.loop-slot.invariant c.in-Ok.ensures.ok
 
 pub returns : goal.returns
 returns c = record { ok = all_ahead slot_text c.loop-slot.into.items (c.args.into.now.items ++ flat_map slot_text c.args.slots.now) c.args.slots.now c.loop-slot.slot-index c.loop-slot-test.false c.loop-slot.invariant }
