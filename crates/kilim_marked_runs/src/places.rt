@@ -20,8 +20,12 @@ impl Places {
     pub fn new(alloc: Global, program: &Program) -> Result<Places, NoMemory> {
         let mut numbers = Vec::new(alloc);
         for method in program.methods.as_slice() {
-            let of_method = numbers_of(alloc, method.code.as_slice())?;
-            numbers.push(of_method)?;
+            let Ok(of_method) = numbers_of(alloc, method.code.as_slice()) else {
+                return Err(NoMemory);
+            };
+            let Ok(()) = numbers.push(of_method) else {
+                return Err(NoMemory);
+            };
         }
         Ok(Places { numbers })
     }
@@ -42,9 +46,13 @@ fn numbers_of(alloc: Global, code: &[(u32, Instr)]) -> Result<Vec<u32>, NoMemory
         let place = entry.0 as usize;
         let missing = place.saturating_sub(numbers.len());
         for _ in 0..missing {
-            numbers.push(0)?;
+            let Ok(()) = numbers.push(0) else {
+                return Err(NoMemory);
+            };
         }
-        numbers.push(u32::try_from(at).unwrap_or(0))?;
+        let Ok(()) = numbers.push(u32::try_from(at).unwrap_or(0)) else {
+            return Err(NoMemory);
+        };
     }
     Ok(numbers)
 }
