@@ -1,4 +1,4 @@
-use Rattle.std.proofs.Common.{◌≡◌, ◌∙◌, sym, ap, arith, refl, append_assoc, ℕ, ℤ, List, ◌∷◌, ◌++◌, codes, true, false}
+use Rattle.std.proofs.Common.{◌≡◌, ◌∙◌, sym, ap, subst, arith, refl, append_assoc, ℕ, ℤ, List, ◌∷◌, ◌++◌, codes, true, false}
 use Rattle.std.specs.Fmt.{signed_decimal}
 use Rattle.std.specs.Int.{w32, w64}
 use Rattle.std.specs.Prelude.{FitsSigned}
@@ -6,6 +6,7 @@ use Rattle.kilim_classes.specs.declared.machine.value.Token.TheVariants.{Long}
 use Rattle.kilim_journal.specs.Text.{token_text}
 use Rattle.kilim_journal.specs.Fronts.{AfterValue}
 use Rattle.kilim_journal.proofs.Tokens.{is_long, after_is_long, after_number}
+use Rattle.kilim_journal.proofs.Readings.{same_signed}
 use Rattle.kilim_journal.proofs.values.number_token_at.Goals as goal
 
 wider : (z : ℤ) → FitsSigned w32 z → FitsSigned w64 z
@@ -35,3 +36,8 @@ returns-in-Ok-clause-long c n x fits e = absurd (c.in-None.ensures.right x (c.in
 
 pub returns-in-Err-clause-long : goal.returns-in-Err-clause-long
 returns-in-Err-clause-long c n x fits e = absurd (c.in-None.ensures.right x (c.in-Some.ensures n (76 ∷ x) fits refl (long_text n x _ e)).1)
+
+pub returns-in-Err-clause-int : goal.returns-in-Err-clause-int
+returns-in-Err-clause-int c n x fits ended e =
+    let found = c.in-Some.ensures n x (wider n fits) (after_number x ended) e in
+    absurd (c.in-Err.ensures (subst (λ (z : ℤ). FitsSigned w32 z) (sym (same_signed _ n found.0 (wider n fits))) fits))
