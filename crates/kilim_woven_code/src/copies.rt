@@ -12,23 +12,33 @@ fn copied_owner(instr: &Instr) -> Result<Instr, NoMemory>
 {
     match instr {
         Instr::Ldc(value) => {
-            let load = value.clone()?;
+            let Ok(load) = value.clone() else {
+                return Err(NoMemory);
+            };
             Ok(Instr::Ldc(load))
         }
         Instr::LdcW(value) => {
-            let wide = value.clone()?;
+            let Ok(wide) = value.clone() else {
+                return Err(NoMemory);
+            };
             Ok(Instr::LdcW(wide))
         }
         Instr::Ldc2W(value) => {
-            let double = value.clone()?;
+            let Ok(double) = value.clone() else {
+                return Err(NoMemory);
+            };
             Ok(Instr::Ldc2W(double))
         }
         Instr::Tableswitch(default, low, targets) => {
-            let table = targets.clone()?;
+            let Ok(table) = targets.clone() else {
+                return Err(NoMemory);
+            };
             Ok(Instr::Tableswitch(*default, *low, table))
         }
         Instr::Lookupswitch(default, pairs) => {
-            let lookup = pairs.clone()?;
+            let Ok(lookup) = pairs.clone() else {
+                return Err(NoMemory);
+            };
             Ok(Instr::Lookupswitch(*default, lookup))
         }
         _ => jump_to(instr, target_of(instr)),
