@@ -1,5 +1,5 @@
 -- A thread that stands goes on standing: its moves, and what others decide.
-use Rattle.std.proofs.Common.{◌≡◌, inl, inr, ℕ, ◌+◌, ◌≤◌, ℤ, Bool, true, false, cond, List, [], ◌∷◌, Option, Some, None, refl, sym, ap, subst, ◌∙◌, arith}
+use Rattle.std.proofs.Common.{◌≡◌, inl, inr, ℕ, ◌+◌, ◌≤◌, ℤ, Bool, true, false, true≢false, cond, List, [], ◌∷◌, Option, Some, None, refl, sym, ap, subst, ◌∙◌, arith}
 use Rattle.std.specs.Prelude.{◌&&◌, nat_le, nat_lt}
 use Rattle.std.specs.FinMap.{get}
 use Rattle.std.proofs.lemmas.Bool.{and_parts}
@@ -168,7 +168,7 @@ module _ (set : Setting) (wanted : Wanted) (listed : Listed) (sound : IsSound se
           fits.gives (result k known ∙ none) root gives_it (without h (tree_names p h root)) (given_trees_leave p of h root shape is.keeps asks.heap forest (root_is (get h root) refl w.0) e).0
         where
           root_is : (o : Option Object) → get h root ≡ o → Rattle.kilim_isolation_laws.specs.graph_rows.Holds.is_tree_object p o ≡ true → IsOf p h root (Tree 0 Trees)
-          root_is None at e = absurd (cc)
+          root_is None at e = absurd (true≢false (sym e))
           root_is (Some object) at e = (object, at, below_tree p is.keeps is.form object.class c tree (subst (λ (o : Option Ty). is_of p o (class_type c.0) ≡ true) (asks.heap.classes root object at) typed))
 
       quality_free : (c : ClassId) → class_kind p c ≡ kind.Tree → quality p (class_type c.0) Free ≡ Some Free

@@ -35,6 +35,9 @@ use Rattle.kilim_isolation_laws.specs.graph_rows.Holds.{Sort, Tree, Trees, objec
 use Rattle.kilim_isolation_laws.proofs.sorts.KindsOfClasses.{ClassFlow}
 use Rattle.kilim_isolation_laws.proofs.sorts.Sorted.{classes_flow, message_is_tree}
 
+no_native : (k : Native) → None ≡ Some k → ⊥
+no_native k e = cc
+
 -- ---- by their names
 
 abbrev pub Puts : ℕ → Method → Type 0
@@ -109,7 +112,7 @@ module _ (p : Program) (keeps : Keeps p) (form : p.form ≡ Plain) where
     where
       by : (z : Bool) → m.built_in ≡ z → cond z (native_named natives (class_name p m.owner) m.name) None ≡ Some k → (m.built_in ≡ true) × (bytes_eq m.name text ≡ true)
       by true b e = (b, called_so test text natives all (class_name p m.owner) m.name k e is)
-      by false b e = absurd (cc)
+      by false b e = absurd (no_native k e)
 
   pub put_is : (id : MethodId) (m : Method) → method_at p id ≡ Some m → native_of p id ≡ Some native.Put → Puts n m
   put_is id m there known = let w = name_of is_put (codes "put") all_put id m native.Put there known refl in built_in_one p keeps form (NamedSo (codes "put") (Puts n)) (puts_so n) id m there w.0 w.1

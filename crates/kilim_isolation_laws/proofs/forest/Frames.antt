@@ -20,10 +20,6 @@ respects_kept h h' u l way r = record {
   no_edge = r.no_edge;
 }
 
-pub respects_all_kept : (h h' : Heap) (u : Named) (ls : List Named) (ways : (l : Named) → Respects h u l → NoNewWay h h' l) → RespectsAll h u ls → RespectsAll h' u ls
-respects_all_kept h h' u [] ways r = tt
-respects_all_kept h h' u (l ∷ ls) ways r = (respects_kept h h' u l (ways l r.0) r.0, respects_all_kept h h' u ls ways r.1)
-
 -- the lower frames, where each that the top frame respects keeps its relation and has no new way
 pub lower_kept : (p : ℕ → Label → Type 0) (h h' : Heap) (top : Named) → ((l : Named) → Respects h top l → Relates p h l → Relates p h' l) →
     ((l : Named) → Respects h top l → NoNewWay h h' l) → (ls : List Named) → RespectsAll h top ls → Frames p h ls → Frames p h' ls

@@ -222,17 +222,3 @@ below_root IsPlace h u nb b names root l rs m x w down = elim (here_or_under h b
   | inl e ↦ rs.root nb b m (names.0, ap is_safe root, names.1) root (subst (λ z. Names l m z) (sym e) w)
   | inr under ↦ rs.strictly nb b m x (names.0, ap is_safe root, names.1) w under
 ]
-
-pub return_keeps : (IsPlace : ℕ → Label → Type 0) (h : Heap) (callee u : Named) (ls : List Named) (nb b k new : ℕ) → IsForest h → Frames IsPlace h (callee ∷ u ∷ ls) →
-    Names callee nb b → (callee.node nb).standing ≡ Root → IsTidy u.node → is_gone (u.node k).standing ≡ true →
-    ((n : ℕ) → is_gone (u.node n).standing ≡ false → (u.node n).region ≡ new → ⊥) →
-    Frames IsPlace h (set_named u k (record { region = new; standing = Root; head = true; parent = None }) (Some b) ∷ ls)
-return_keeps IsPlace h callee u ls nb b k new forest fs names root tidy fresh unused = root_keeps IsPlace h u ls forest fs.2 tidy k new (Some b) fresh unused
-    (λ o e. ap h.has (sym (some_is b o e)) ∙ fs.0.there nb b names)
-    (λ o p i e edge. fs.0.whole nb b p i names root (edge ∙ sym e))
-    (λ o n x e w down. below_root IsPlace h callee nb b names root u fs.1.0 n x w (subst (λ z. Below h z x) (sym (some_is b o e)) down))
-    (lower ls fs.1.1)
-  where
-    lower : (los : List Named) → RespectsAll h callee los → AllBelow h (Some b) los
-    lower [] rs = tt
-    lower (lo ∷ los) rs = ((λ o m x e w down. below_root IsPlace h callee nb b names root lo rs.0 m x w (subst (λ z. Below h z x) (sym (some_is b o e)) down)), lower los rs.1)

@@ -13,10 +13,6 @@ use Rattle.kilim_isolation_laws.proofs.forest.Grow.{more_back}
 abbrev pub keeper : ℕ → Named
 keeper o = record { node = λ n. record { region = 0; standing = pick (eqb n 0) Safe Gone; head = false; parent = None }; at = λ n. Some o }
 
-pub keeper_zero : (n : ℕ) (b : Bool) → eqb n 0 ≡ b → is_gone (pick b Safe Gone) ≡ false → n ≡ 0
-keeper_zero n true e live = is_same n 0 e
-keeper_zero n false e live = absurd (true≢false live)
-
 pub no_parent_here : (p : ℕ × Label) → None ≡ Some p → ⊥
 no_parent_here p e = cc
 
@@ -31,25 +27,6 @@ keeper_relates IsPlace h o there = record {
   headed = λ n m x hd ln wm same. absurd (true≢false (sym hd));
   edged = λ n m l e ln lm. absurd (no_parent_here (n, l) e);
   whole = λ n x p i w root_is e. safe_no_root (eqb n 0) root_is;
-}
-
--- it respects every frame, and is respected where no node that may be changed is above the receiver, but its own
-pub keeper_respects : (h : Heap) (o : ℕ) (l : Named) → Respects h (keeper o) l
-keeper_respects h o l = record {
-  strictly = λ n x m y w wm under. safe_owned (eqb n 0) w.0 w.1;
-  root = λ n x m w root_is wm. safe_owned (eqb n 0) w.0 w.1;
-  no_edge = λ n x m k lb w wm e live. safe_owned (eqb n 0) w.0 w.1;
-}
-  where
-    safe_owned : (b : Bool) → is_gone (pick b Safe Gone) ≡ false → is_safe (pick b Safe Gone) ≡ false → ⊥
-    safe_owned true live safe = true≢false safe
-    safe_owned false live safe = true≢false live
-
-pub keeper_respected : (h : Heap) (u : Named) (o : ℕ) → ((n x : ℕ) → Owns u n x → IsUnder h x o → ⊥) → ((n : ℕ) → Owns u n o → (u.node n).standing ≡ Root → ⊥) → Respects h u (keeper o)
-keeper_respected h u o strictly root = record {
-  strictly = λ n x m y w wm under. strictly n x w (subst (λ z. IsUnder h x z) (sym (some_is o y wm.1)) under);
-  root = λ n x m w root_is wm. root n (w.0, w.1, w.2 ∙ ap Some (sym (some_is o x wm.1))) root_is;
-  no_edge = λ n x m k lb w wm e live. no_parent_here (m, lb) e;
 }
 
 -- new objects whose names grow downwards make a forest again
@@ -161,27 +138,3 @@ module _ (IsPlace : ℕ → Label → Type 0) (h : Heap) (u : Named) (r : Relate
 
   pub null_relates : Relates IsPlace h null_named
   null_relates = view_relates IsPlace h u null_named (λ n. n) r null_view
-
--- two frames of two threads: nothing is at or below objects of both
-abbrev pub IsApart : Heap → Named → Named → Type 0
-IsApart h u l = (n m o x y : ℕ) → Names u n o → Names l m x → Below h o y → Below h x y → ⊥
-
--- who is apart is respected
-pub apart_respects : (h : Heap) (u l : Named) → IsApart h u l → Respects h u l
-apart_respects h u l apart = record {
-  strictly = λ n o m x w wm under. apart n m o x x (w.0, w.2) wm (below_of h o x under) (Here refl);
-  root = λ n o m w root_is wm. apart n m o o o (w.0, w.2) wm (Here refl) (Here refl);
-  no_edge = λ n o m k lb w wm e live. apart n m o o o (w.0, w.2) wm (Here refl) (Here refl);
-}
-
--- a tree that joins below a: all that is apart from a's and b's frames stays apart
-pub join_apart : (h h' : Heap) (a f b : ℕ) (forest : IsForest h) (s : IsSet_at h h' a f (Some b)) (empty : h.to a f ≡ None) (top : (p i : ℕ) → h.to p i ≡ Some b → ⊥)
-    (not_above : Below h b a → ⊥) (there : (h.has a ≡ true) × (h.has b ≡ true)) (u top_frame l : Named) (na nb : ℕ) →
-    Names top_frame na a → Names top_frame nb b → IsApart h u l → IsApart h top_frame l → IsApart h' u l
-join_apart h h' a f b forest s empty top not_above there u top_frame l na nb names_a names_b apart apart_top n m o x y w wm down_o down_x =
-    by (join_splits h h' a f b forest s empty top not_above there o y down_o) (join_splits h h' a f b forest s empty top not_above there x y down_x)
-  where
-    by : (Below h o y) ⊎ (Below h o a) × (Below h b y) → (Below h x y) ⊎ (Below h x a) × (Below h b y) → ⊥
-    by (inl p) (inl q) = apart n m o x y w wm p q
-    by (inr p) (inl q) = apart_top nb m b x y names_b wm p.1 q
-    by p (inr q) = apart_top na m a x a names_a wm (Here refl) q.0

@@ -39,9 +39,6 @@ filled_is h h' a f v s = record {
   same = s.same;
 }
 
-pub root_not_safe : (s : Standing) → s ≡ Root → is_safe s ≡ false
-root_not_safe s e = ap is_safe e
-
 pub inner_not_root : Inner ≡ Root → ⊥
 inner_not_root e = cc
 

@@ -10,9 +10,6 @@ gone_no_root e = cc
 pub inner_no_root : Inner ≡ Root → ⊥
 inner_no_root e = cc
 
-pub none_no_some : (p : Option (ℕ × Label)) (q : ℕ × Label) → p ≡ None → p ≡ Some q → ⊥
-none_no_some p q e f = cc
-
 pub parent_less : (a : ℕ) (p : Option (ℕ × Label)) (q : ℕ × Label) → no_parent a p ≡ Some q → p ≡ Some q
 parent_less a p q e = (no_parent_is a p q.0 q.1 e).0
 

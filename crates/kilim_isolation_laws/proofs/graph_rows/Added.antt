@@ -125,14 +125,6 @@ module _ (p : Program) (m : Method) (f : Types) (g : Graph) (at : ℕ → Option
           let e = more_length g.nodes node in
           subst (λ k. length g.nodes < k) (sym e) (omega arith)
 
--- ---- what lies on the stack lives
-
-pub top_lives : (g : Graph) (n : ℕ) (xs : List (Option ℕ)) → list_any (names_gone g) (Some n ∷ xs) ≡ false → is_gone (node_at g.nodes n).standing ≡ false
-top_lives g n xs e = or_left (is_gone (node_at g.nodes n).standing) (list_any (names_gone g) xs) e
-
-pub rest_lives : (g : Graph) (x : Option ℕ) (xs : List (Option ℕ)) → list_any (names_gone g) (x ∷ xs) ≡ false → list_any (names_gone g) xs ≡ false
-rest_lives g x xs e = or_right (names_gone g x) (list_any (names_gone g) xs) e
-
 -- ---- the search for a known child is right
 
 label_is : (l : Label) (f : FieldId) → same_label l f ≡ true → l ≡ Field f

@@ -315,11 +315,6 @@ declared_is ty = by ty.dims
     by zero = of_base ty.base
     by (suc d) = IsObject refl
 
-nulls : (k j : ℕ) → value_at (replicate k Null) j ≡ Null
-nulls zero j = refl
-nulls (suc k) zero = refl
-nulls (suc k) (suc j) = nulls k j
-
 module _ (p : Program) (h : Objects) (u : Named) (count : ℕ) (callee : Method) (at : ℕ → Option ℕ) (total : ℕ) (node : ℕ → Node) (value : ℕ → Option ℕ) where
   abbrev inside : Named
   inside = record { node = node; at = value }

@@ -29,6 +29,9 @@ use Rattle.kilim_isolation_laws.proofs.graph_rows.Heaps.{half_even, half_odd}
 use Rattle.kilim_isolation_laws.proofs.tree_types.Apart.{AreApart, fields_apart}
 use Rattle.kilim_isolation_laws.proofs.names.Joined.{child_in, child_tokens, in_child, look, once_held}
 
+no_object : (x : ℕ) → Some x ≡ None → ⊥
+no_object x e = cc
+
 some_same : {A : Type 0} (x y : A) → Some x ≡ Some y → x ≡ y
 some_same x y e = cc
 
@@ -127,7 +130,7 @@ module _ (p : Program) (keeps : Keeps p) (of : Classes) (h : Objects) (heap : He
 
         back_by : (b : Bool × ℕ) (x : ℕ) → held_by o b ≡ Some x → (k : ℕ) × (f : FieldId) × (slice_get fs k ≡ Some f) × (val f ≡ Some (Ref x))
         back_by (false, j) x e = let v = refers_ref (field_in o.fields (field_id j)) x e in let k = found_key p of fs o.fields fit (field_id j) (Ref x) v in (k.0, field_id j, k.1, v)
-        back_by (true, j) x e = absurd (let none2 = ap (λ (vs : List Value). refers_in (slice_get vs j)) none in cc)
+        back_by (true, j) x e = absurd (let none2 = ap (λ (vs : List Value). refers_in (slice_get vs j)) none in no_object x (sym e ∙ none2))
 
         back : (i x : ℕ) → t.to n i ≡ Some x → (k : ℕ) × (f : FieldId) × (slice_get fs k ≡ Some f) × (val f ≡ Some (Ref x))
         back i x e = back_by (half i) x (sym (held i) ∙ e)

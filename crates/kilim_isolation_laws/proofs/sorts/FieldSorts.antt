@@ -1,5 +1,5 @@
 -- An object of a class may hold what its fields are declared to hold.
-use Rattle.std.proofs.Common.{◌≡◌, ◌⊎◌, inl, inr, ℕ, zero, suc, ◌+◌, Bool, true, false, cond, eqb, List, [], ◌∷◌, ◌++◌, length, map, reverse, filter, Option, Some, None, refl, sym, ap, subst, ◌∙◌, arith}
+use Rattle.std.proofs.Common.{◌≡◌, ◌⊎◌, inl, inr, ℕ, zero, suc, ◌+◌, Bool, true, false, true≢false, cond, eqb, List, [], ◌∷◌, ◌++◌, length, map, reverse, filter, Option, Some, None, refl, sym, ap, subst, ◌∙◌, arith}
 use Rattle.std.specs.Prelude.{◌&&◌, ◌||◌, not, slice_get, codes}
 use Rattle.std.specs.List.{flat_map}
 use Rattle.std.specs.Str.{bytes_eq}
@@ -80,13 +80,13 @@ module _ (p : Program) where
   held c ty holder e may = by_dims ty.dims ty.base refl refl
     where
       objects : (h k : Kind) → class_kind p c ≡ h → kind_of p ty ≡ k → field_may_hold p h ty ≡ true → MayHold (sort_by p (class_type c.0) h) (sort_by p ty k)
-      objects kind.Value k eh ek m = absurd (cc)
+      objects kind.Value k eh ek m = absurd (true≢false (sym m))
       objects kind.Tree kind.Value eh ek m = tt
       objects kind.Tree kind.Tree eh ek m = tt
-      objects kind.Tree kind.Private eh ek m = absurd (let z : (false || (false && not (is_task_type p ty))) ≡ true = subst (λ (k : Kind). (is_value_kind k || (is_tree_kind k && not (is_task_type p ty))) ≡ true) ek m in cc)
+      objects kind.Tree kind.Private eh ek m = absurd (let z : (false || (false && not (is_task_type p ty))) ≡ true = subst (λ (k : Kind). (is_value_kind k || (is_tree_kind k && not (is_task_type p ty))) ≡ true) ek m in true≢false (sym z))
       objects kind.Private kind.Value eh ek m = tt
       objects kind.Private kind.Private eh ek m = tt
-      objects kind.Private kind.Tree eh ek m = absurd (let z : (false || false) ≡ true = subst (λ (k : Kind). (is_value_kind k || is_private_kind k) ≡ true) ek m in cc)
+      objects kind.Private kind.Tree eh ek m = absurd (let z : (false || false) ≡ true = subst (λ (k : Kind). (is_value_kind k || is_private_kind k) ≡ true) ek m in true≢false (sym z))
 
       object : MayHold (object_sort p (class_type c.0)) (object_sort p ty)
       object = subst (λ (h : Kind). MayHold (sort_by p (class_type c.0) h) (object_sort p ty)) (sym e) (objects holder (kind_of p ty) e refl may)

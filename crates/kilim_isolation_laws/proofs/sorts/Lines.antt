@@ -1,5 +1,5 @@
 -- The classes in a line of superclasses are of one kind, but for `java/lang/Object`.
-use Rattle.std.proofs.Common.{◌≡◌, ◌⊎◌, inl, inr, ℕ, zero, suc, ◌+◌, ◌-◌, ◌<◌, ◌≤◌, Bool, true, false, cond, eqb, List, [], ◌∷◌, ◌++◌, length, Option, Some, None, refl, sym, ap, subst, ◌∙◌, arith}
+use Rattle.std.proofs.Common.{◌≡◌, ◌⊎◌, inl, inr, ℕ, zero, suc, ◌+◌, ◌-◌, ◌<◌, ◌≤◌, Bool, true, false, true≢false, cond, eqb, List, [], ◌∷◌, ◌++◌, length, Option, Some, None, refl, sym, ap, subst, ◌∙◌, arith}
 use Rattle.std.specs.Prelude.{◌&&◌, ◌||◌, not, slice_get, codes}
 use Rattle.std.specs.List.{list_any, list_all, AllByRecursion}
 use Rattle.std.specs.Str.{bytes_eq}
@@ -211,8 +211,8 @@ module _ (p : Program) (keeps : Keeps p) where
             where
               private_is : (k : Kind) → is_private_kind k ≡ true → k ≡ kind.Private
               private_is kind.Private e = refl
-              private_is kind.Tree e = absurd (cc)
-              private_is kind.Value e = absurd (cc)
+              private_is kind.Tree e = absurd (true≢false (sym e))
+              private_is kind.Value e = absurd (true≢false (sym e))
 
               go : (z : Bool) → is_task p c ≡ z → (class_kind p u ≡ class_kind p c) ⊎ (is_object p u ≡ true)
               go true t = inl (by_kind (is_value_class (class_name p u)) (is_task p u) (is_message p u) none (inl (task_above c u e (own_is_no_task c class at own_class) t)) ∙ sym (by_kind (is_value_class (class_name p c)) (is_task p c) (is_message p c) (own_is_no_value c class at own_class) (inl t)))
@@ -227,7 +227,7 @@ module _ (p : Program) (keeps : Keeps p) where
               go : (a b t : Bool) → Rattle.std.specs.Prelude.nat_lt u.0 (own_count p) ≡ a → is_object p u ≡ b → is_named_task p u ≡ t → (a || (b || t)) ≡ true → (class_kind p u ≡ class_kind p c) ⊎ (is_object p u ≡ true)
               go a true t ea eb et w = inr eb
               go false false true ea eb et w = further (ap is_value_class (text_is (class_name p u) (codes "kilim/Task") et))
-              go false false false ea eb et w = absurd (cc)
+              go false false false ea eb et w = absurd (true≢false (sym w))
               go true false t ea eb et w =
                   let less : u.0 < length own = subst (λ (n : ℕ). u.0 < n) (own_counted p keeps) (ltb-true u.0 (own_count p) ea) in
                   let s = get_some own u.0 less in
@@ -256,13 +256,13 @@ module _ (p : Program) (keeps : Keeps p) where
   -- ---- up a line
 
   pub in_line : (n : ℕ) (c d : ClassId) → list_any (λ (x : ClassId). eqb x.0 d.0) (line_up_to p n c) ≡ true → (class_kind p d ≡ class_kind p c) ⊎ (is_object p d ≡ true)
-  in_line zero c d e = absurd (cc)
+  in_line zero c d e = absurd (true≢false (sym e))
   in_line (suc n) c d e = by (eqb c.0 d.0) (up p c) refl refl e (λ u later. in_line n u d later)
     where
       by : (z : Bool) (o : Option ClassId) → eqb c.0 d.0 ≡ z → up p c ≡ o → (z || list_any (λ (x : ClassId). eqb x.0 d.0) (elim o [ None ↦ [] | Some u ↦ line_up_to p n u ])) ≡ true →
           ((u : ClassId) → list_any (λ (x : ClassId). eqb x.0 d.0) (line_up_to p n u) ≡ true → (class_kind p d ≡ class_kind p u) ⊎ (is_object p d ≡ true)) → (class_kind p d ≡ class_kind p c) ⊎ (is_object p d ≡ true)
       by true o same f e again = inl (ap (λ (k : ℕ). class_kind p (class_id k)) (sym (eqb-true c.0 d.0 same)))
-      by false None same f e again = absurd (cc)
+      by false None same f e again = absurd (true≢false (sym e))
       by false (Some u) same f e again = elim (again u e) [
         | inr o ↦ inr o
         | inl k ↦ elim (step_up c u f) [
@@ -272,9 +272,9 @@ module _ (p : Program) (keeps : Keeps p) where
       ]
         where
           above_object : (u : ClassId) → is_object p u ≡ true → (n : ℕ) → list_any (λ (x : ClassId). eqb x.0 d.0) (line_up_to p n u) ≡ true → is_object p d ≡ true
-          above_object u o zero any = absurd (cc)
+          above_object u o zero any = absurd (true≢false (sym any))
           above_object u o (suc n) any = alone (eqb u.0 d.0) refl (subst (λ (o : Option ClassId). (eqb u.0 d.0 || list_any (λ (x : ClassId). eqb x.0 d.0) (elim o [ None ↦ [] | Some u ↦ line_up_to p n u ])) ≡ true) (object_up u o) any)
             where
               alone : (z : Bool) → eqb u.0 d.0 ≡ z → (z || false) ≡ true → is_object p d ≡ true
               alone true same w = subst (λ (k : ℕ). is_object p (class_id k) ≡ true) (eqb-true u.0 d.0 same) o
-              alone false same w = absurd (cc)
+              alone false same w = absurd (true≢false (sym w))

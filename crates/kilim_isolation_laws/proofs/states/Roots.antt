@@ -1,5 +1,5 @@
 -- What is of the class of messages may be put, and what is of that of tasks may be started.
-use Rattle.std.proofs.Common.{◌≡◌, inl, inr, ℕ, zero, suc, ◌+◌, ◌≤◌, Bool, true, false, cond, eqb, List, [], ◌∷◌, length, Option, Some, None, refl, sym, ap, subst, ◌∙◌, arith}
+use Rattle.std.proofs.Common.{◌≡◌, inl, inr, ℕ, zero, suc, ◌+◌, ◌≤◌, Bool, true, false, true≢false, cond, eqb, List, [], ◌∷◌, length, Option, Some, None, refl, sym, ap, subst, ◌∙◌, arith}
 use Rattle.std.specs.Prelude.{◌&&◌, ◌||◌, not, slice_get, codes}
 use Rattle.std.specs.List.{list_any}
 use Rattle.std.specs.Str.{bytes_eq}
@@ -199,7 +199,7 @@ module _ (p : Program) (keeps : Keeps p) (form : p.form ≡ Plain) where
       cases (list_any (λ (d : ClassId). eqb d.0 (n + 4)) (line_of p c)) (is_named p (codes "java/lang/Object") task) (is_named p (codes "kilim/Message") task) (list_any (is_message p) (line_of p c)) e
       (λ l. any_weaker (λ (d : ClassId). eqb d.0 (n + 4)) (is_named_task p) (λ d s. subst (λ (k : ℕ). is_named_task p (class_id k) ≡ true) (sym (eqb-true d.0 (n + 4) s)) (ap (λ (x : List ℕ). bytes_eq x (codes "kilim/Task")) (task_name p keeps form))) (line_of p c) l)
       (λ o. absurd (not_object task (codes "kilim/Task") (task_name p keeps form) refl o))
-      (λ m any. absurd (let no = ap (λ (x : List ℕ). bytes_eq x (codes "kilim/Message")) (task_name p keeps form) in cc))
+      (λ m any. absurd (let no = ap (λ (x : List ℕ). bytes_eq x (codes "kilim/Message")) (task_name p keeps form) in true≢false (sym m ∙ no)))
 
   message_by : (d : ℕ) (b : Base) → type_assignable p d b 0 (base.Class message) ≡ true → is_root p OfMessage (record { dims = d; base = b }) ≡ true
   message_by zero (base.Class c) e = sym (marked (class_at p c)) ∙ class_message c e

@@ -52,6 +52,9 @@ use Rattle.kilim_isolation_laws.proofs.states.AskedHeap.{MoveStays, asking_stays
 use Rattle.kilim_isolation_laws.proofs.states.Roots.{message_root, message_tree, task_root, task_tree}
 use Rattle.kilim_isolation_laws.proofs.states.Takers.{PutIs, StartIs, mailbox_name, native_takes}
 
+none_given : (given : Root × ℕ) → None ≡ Some given → ⊥
+none_given given e = cc
+
 some_same : {A : Type 0} (x y : A) → Some x ≡ Some y → x ≡ y
 some_same x y e = cc
 
@@ -138,7 +141,7 @@ module _ (set : Setting) (wanted : Wanted) (listed : Listed) (of : Classes) (is 
     asked_gives : (o : Option Native) → native_of p id ≡ o → (own : List Value) → args ≡ own → (root : Root) (q : ℕ) → given o own ≡ Some (root, q) → IsGivenTree p root h q
     asked_gives (Some native.Put) known (Box box ∷ Ref m ∷ []) e root q g = let w = some_same (OfMessage, m) (root, q) g in subst (λ (x : Root × ℕ). IsGivenTree p x.0 h x.1) w (put_gives box m e known)
     asked_gives (Some native.Start) known (Ref m ∷ []) e root q g = let w = some_same (OfTask, m) (root, q) g in subst (λ (x : Root × ℕ). IsGivenTree p x.0 h x.1) w (start_gives m e known)
-    asked_gives _ known _ e root q g = absurd (cc)
+    asked_gives _ known _ e root q g = absurd (none_given (root, q) g)
 
   move_gives : (kept : Option ℕ) (m : Move) → sound.MoveFits p (typing_at p) wanted of m → MoveFits p (typing_at p) listed kept m → MoveStays h m → GivesTree p h m
   move_gives kept (move.Asks id args frames k) typed asks same = λ root q g. asked_gives id args frames k same typed kept asks (native_of p id) refl args refl root q g

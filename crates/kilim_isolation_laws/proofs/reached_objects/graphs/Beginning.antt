@@ -34,13 +34,6 @@ use Rattle.kilim_isolation_laws.proofs.reached_objects.graphs.Thread.{method_beg
 
 -- ---- the object that is kept, as a frame
 
-keeper_at : (n : ℕ) → (node_at (record { region = 0; standing = Safe; head = false; parent = None } ∷ []) n ≡ record { region = 0; standing = Safe; head = false; parent = None }) ⊎ (node_at (record { region = 0; standing = Safe; head = false; parent = None } ∷ []) n ≡ absent)
-keeper_at zero = inl refl
-keeper_at (suc n) = inr refl
-
-keeper_node : Node
-keeper_node = record { region = 0; standing = Safe; head = false; parent = None }
-
 module _ (p : Program) (h : Objects) (o : ℕ) (there : (trees p h).has o ≡ true) where
   abbrev k : Named
   k = waiting_named (keeper o)
