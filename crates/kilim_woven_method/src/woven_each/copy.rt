@@ -7,13 +7,13 @@ use kilim_classes::{Class, Field, Method, Value};
 use kilim_units::{NoMemory, Seq};
 use std::alloc::Global;
 
-fn copy_class(class: &Class) -> Result<Class, NoMemory>
+fn copy_class(alloc: Global, class: &Class) -> Result<Class, NoMemory>
     ensures { IfOk result (λ c. c ≡ class.now) }
 {
-    let Ok(fields) = class.fields.clone() else {
+    let Ok(fields) = Vec::from_slice(alloc, class.fields.as_slice()) else {
         return Err(NoMemory);
     };
-    let Ok(methods) = class.methods.clone() else {
+    let Ok(methods) = Vec::from_slice(alloc, class.methods.as_slice()) else {
         return Err(NoMemory);
     };
     let Ok(name) = class.name.clone() else {
@@ -24,8 +24,8 @@ fn copy_class(class: &Class) -> Result<Class, NoMemory>
         superclass: class.superclass,
         is_abstract: class.is_abstract,
         message: class.message,
-        fields,
-        methods,
+        fields: Seq::from_vec(fields),
+        methods: Seq::from_vec(methods),
     })
 }
 
@@ -43,7 +43,7 @@ pub fn copy_classes(alloc: Global, classes: &[Class]) -> Result<Seq<Class>, NoMe
     let mut all = Seq::new(alloc);
     for at in 0..classes.len() {
         let class = class_at(classes, at);
-        let Ok(copy) = copy_class(class) else {
+        let Ok(copy) = copy_class(alloc, class) else {
             return Err(NoMemory);
         };
         let Ok(()) = all.push(copy) else {
