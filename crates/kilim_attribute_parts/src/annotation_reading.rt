@@ -164,8 +164,12 @@ fn note(
     ensures len { OnOk result (vec_len to_come.new ≡ vec_len to_come.old + 2) }
     ensures parts { OnOk result (parts.new ≡ parts.old ++ part ∷ []) }
 {
-    to_come.push(next.one_less())?;
-    to_come.push(part.asked())?;
+    let Ok(()) = to_come.push(next.one_less()) else {
+        return Err(AllocError);
+    };
+    let Ok(()) = to_come.push(part.asked()) else {
+        return Err(AllocError);
+    };
     parts.push(part)
 }
 
@@ -182,13 +186,21 @@ fn push_parts_at<'a>(
     requires no_parts { parts.old ≡ [] }
     ensures { ReadsUnless Memory (λ rest. (parts.new, rest.now)) result (parts_at pool.now ends kind bytes.now) }
 {
-    to_come.push(Asked { kind, count: 1 })?;
+    let Ok(()) = to_come.push(Asked { kind, count: 1 }) else {
+        return Err(AttributeFault::Memory);
+    };
     let mut rest = bytes;
     while let Some(next) = to_come.pop() {
         if next.count > 0 {
-            let (part, after) = part_at(pool, ends, next.kind, rest)?;
-            note(next, part, to_come, parts)?;
-            rest = after;
+            match part_at(pool, ends, next.kind, rest) {
+                Ok((part, after)) => {
+                    let Ok(()) = note(next, part, to_come, parts) else {
+                        return Err(AttributeFault::Memory);
+                    };
+                    rest = after;
+                }
+                Err(fault) => return Err(fault),
+            }
         }
     }
     Ok(rest)

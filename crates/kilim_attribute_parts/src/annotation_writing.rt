@@ -29,7 +29,9 @@ fn push_behind_value_tag(part: &AnnotationPart, into: &mut Vec<u8>) -> Result<()
         | AnnotationPart::Class(number)
         | AnnotationPart::Array(number) => push_u16(into, *number),
         AnnotationPart::EnumConstant(class, name) => {
-            push_u16(into, *class)?;
+            let Ok(()) = push_u16(into, *class) else {
+                return Err(AllocError);
+            };
             push_u16(into, *name)
         }
         _ => Ok(()),
@@ -52,7 +54,9 @@ fn push_part(part: &AnnotationPart, into: &mut Vec<u8>) -> Result<(), AllocError
             push_u16(into, *number)
         }
         AnnotationPart::Annotation(class, count) => {
-            push_u16(into, *class)?;
+            let Ok(()) = push_u16(into, *class) else {
+                return Err(AllocError);
+            };
             push_u16(into, *count)
         }
         _ => push_value(part, into),
@@ -64,7 +68,9 @@ pub fn push_parts(parts: &Seq<AnnotationPart>, into: &mut Vec<u8>) -> Result<(),
     ensures { OnOk result (into.new.items ≡ into.old.items ++ parts_text parts.now) }
 {
     for part in parts.as_slice() {
-        push_part(part, into)?;
+        let Ok(()) = push_part(part, into) else {
+            return Err(AllocError);
+        };
     }
     Ok(())
 }

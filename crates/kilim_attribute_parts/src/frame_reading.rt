@@ -119,7 +119,9 @@ fn types_at<'a>(
     for _ in 0..count {
         match type_at(pool, rest) {
             Ok((item, after)) => {
-                types.push(item)?;
+                let Ok(()) = types.push(item) else {
+                    return Err(AttributeFault::Memory);
+                };
                 rest = after;
             }
             Err(fault) => return Err(fault),
@@ -236,7 +238,9 @@ fn so_many_frames_at<'a>(
     for _ in 0..count {
         match frame_at(alloc, pool, rest) {
             Ok((frame, after)) => {
-                frames.push(frame)?;
+                let Ok(()) = frames.push(frame) else {
+                    return Err(AttributeFault::Memory);
+                };
                 rest = after;
             }
             Err(fault) => return Err(fault),

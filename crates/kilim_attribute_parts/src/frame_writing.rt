@@ -48,7 +48,9 @@ fn push_types(types: &[VerificationType], into: &mut Vec<u8>) -> Result<(), Allo
     ensures { OnOk result (into.new.items ≡ into.old.items ++ types_text types.now) }
 {
     for item in types {
-        push_type(*item, into)?;
+        let Ok(()) = push_type(*item, into) else {
+            return Err(AllocError);
+        };
     }
     Ok(())
 }
@@ -84,17 +86,25 @@ fn push_behind_frame_tag(frame: &Frame, into: &mut Vec<u8>) -> Result<(), AllocE
         Frame::Same(_) => Ok(()),
         Frame::SameLocals1StackItem(_, item) => push_type(*item, into),
         Frame::SameLocals1StackItemExtended(delta, item) => {
-            push_u16(into, *delta)?;
+            let Ok(()) = push_u16(into, *delta) else {
+                return Err(AllocError);
+            };
             push_type(*item, into)
         }
         Frame::Chop(_, delta) | Frame::SameExtended(delta) => push_u16(into, *delta),
         Frame::Append(delta, locals) => {
-            push_u16(into, *delta)?;
+            let Ok(()) = push_u16(into, *delta) else {
+                return Err(AllocError);
+            };
             push_types(locals.as_slice(), into)
         }
         Frame::Full(delta, locals, stack) => {
-            push_u16(into, *delta)?;
-            push_counted_types(locals.as_slice(), into)?;
+            let Ok(()) = push_u16(into, *delta) else {
+                return Err(AllocError);
+            };
+            let Ok(()) = push_counted_types(locals.as_slice(), into) else {
+                return Err(AllocError);
+            };
             push_counted_types(stack.as_slice(), into)
         }
     }
@@ -113,7 +123,9 @@ fn push_each_frame(frames: &[Frame], into: &mut Vec<u8>) -> Result<(), AllocErro
     ensures { OnOk result (into.new.items ≡ into.old.items ++ flat_map frame_text frames.now) }
 {
     for frame in frames {
-        push_frame(frame, into)?;
+        let Ok(()) = push_frame(frame, into) else {
+            return Err(AllocError);
+        };
     }
     Ok(())
 }

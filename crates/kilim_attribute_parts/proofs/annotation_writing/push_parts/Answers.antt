@@ -6,7 +6,7 @@ use Rattle.kilim_attribute_parts.proofs.annotation_writing.push_parts.Goals as g
 pub loop-part-preserved : goal.loop-part-preserved
 loop-part-preserved c =
     ahead part_text c.loop-part.into.items c.push_part.new.into.items (c.args.into.now.items ++ parts_text c.as_slice-part-items.result.now) c.as_slice-part-items.result.now c.loop-part.part-index (get_or c.as_slice-part-items.result.now c.loop-part.part-index _) _
-    c.loop-part-test.true refl c.loop-part.invariant c.in_ok-push_part.ensures
+    c.loop-part-test.true refl c.loop-part.invariant c.in-Ok.ensures
 
 pub returns : goal.returns
 returns c =

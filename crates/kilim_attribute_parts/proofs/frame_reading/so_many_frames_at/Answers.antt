@@ -10,7 +10,7 @@ returns-in-Err c =
 
 pub loop-preserved : goal.loop-preserved
 loop-preserved c =
-    rw c.in_ok-push-in-Ok.ensures.ok (goes_on (frame_at c.args.pool.now) c.loop.frames c.args.count c.loop.counter c.loop.rest.now c.in-Ok.frame c.in-Ok.after.now (many (frame_at c.args.pool.now) c.args.count c.args.bytes.now) c.loop-test.true c.in-Ok.ensures c.loop.invariant)
+    rw c.in-Ok-push.ensures.ok (goes_on (frame_at c.args.pool.now) c.loop.frames c.args.count c.loop.counter c.loop.rest.now c.in-Ok.frame c.in-Ok.after.now (many (frame_at c.args.pool.now) c.args.count c.args.bytes.now) c.loop-test.true c.in-Ok.ensures c.loop.invariant)
 
 pub returns : goal.returns
 returns c = is_done (frame_at c.args.pool.now) c.loop.frames c.args.count c.loop.counter c.loop.rest.now (many (frame_at c.args.pool.now) c.args.count c.args.bytes.now) c.loop-test.false c.loop.invariant

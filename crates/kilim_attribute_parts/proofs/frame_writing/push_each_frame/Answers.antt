@@ -7,7 +7,7 @@ use Rattle.kilim_attribute_parts.proofs.frame_writing.push_each_frame.Goals as g
 pub loop-frame-preserved : goal.loop-frame-preserved
 loop-frame-preserved c =
     ahead frame_text c.loop-frame.into.items c.push_frame.new.into.items (c.args.into.now.items ++ flat_map frame_text c.args.frames.now) c.args.frames.now c.loop-frame.frame-index c.frame-item.result _
-    c.loop-frame-test.true c.frame-item.is c.loop-frame.invariant c.in_ok-push_frame.ensures
+    c.loop-frame-test.true c.frame-item.is c.loop-frame.invariant c.in-Ok.ensures
 
 pub returns : goal.returns
 returns c = all_ahead frame_text c.loop-frame.into.items (c.args.into.now.items ++ flat_map frame_text c.args.frames.now) c.args.frames.now c.loop-frame.frame-index c.loop-frame-test.false c.loop-frame.invariant
