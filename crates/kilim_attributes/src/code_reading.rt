@@ -50,7 +50,10 @@ fn code_info_of(
             Ok(frames) => Ok(CodeInfo::StackMapTable(frames)),
             Err(fault) => Err(fault),
         },
-        _ => Ok(CodeInfo::Raw(Seq::from_vec(Vec::from_slice(alloc, bytes)?))),
+        _ => match Vec::from_slice(alloc, bytes) {
+            Ok(content) => Ok(CodeInfo::Raw(Seq::from_vec(content))),
+            Err(_) => Err(AttributeFault::Memory),
+        },
     }
 }
 
@@ -103,8 +106,14 @@ fn code_attribute_of(
 ) -> Result<CodeAttribute, AttributeFault>
     ensures { ReadsUnless fault.Memory (λ x. x) result (code_attribute_of pool.now before.now (name, content.now)) }
 {
-    let form = form_at(pool, Place::Code, name)?;
-    let once = code_unless_twice(form, before)?;
+    let form = match form_at(pool, Place::Code, name) {
+        Ok(form) => form,
+        Err(fault) => return Err(fault),
+    };
+    let once = match code_unless_twice(form, before) {
+        Ok(once) => once,
+        Err(fault) => return Err(fault),
+    };
     match code_info_of(alloc, pool, once, content) {
         Ok(info) => Ok(CodeAttribute {
             attribute_name_index: name,
@@ -195,7 +204,10 @@ fn code_bytes_at(alloc: Global, bytes: &[u8]) -> Result<(Seq<u8>, &[u8]), Attrib
         Ok((size, rest)) => {
             if size > 0 && size < 65536 {
                 match bytes_at(ENDS, size as usize, rest) {
-                    Ok((code, rest)) => Ok((Seq::from_vec(Vec::from_slice(alloc, code)?), rest)),
+                    Ok((code, rest)) => match Vec::from_slice(alloc, code) {
+                        Ok(code) => Ok((Seq::from_vec(code), rest)),
+                        Err(_) => Err(AttributeFault::Memory),
+                    },
                     Err(fault) => Err(fault),
                 }
             } else {

@@ -161,8 +161,10 @@ fn parts_info(
 fn raw_info(alloc: Global, bytes: &[u8]) -> Result<Info, AttributeFault>
     ensures { ReadsUnless fault.Memory (λ x. x) result (Ok (Raw bytes.now)) }
 {
-    let content = Vec::from_slice(alloc, bytes)?;
-    Ok(Info::Raw(Seq::from_vec(content)))
+    match Vec::from_slice(alloc, bytes) {
+        Ok(content) => Ok(Info::Raw(Seq::from_vec(content))),
+        Err(_) => Err(AttributeFault::Memory),
+    }
 }
 
 /// What an attribute of a form holds, all of its bytes.

@@ -94,8 +94,14 @@ fn attribute_of(
 ) -> Result<Attribute, AttributeFault>
     ensures { ReadsUnless fault.Memory (λ x. x) result (attribute_of pool.now place before.now (name, content.now)) }
 {
-    let form = form_at(pool, place, name)?;
-    let once = unless_twice(form, before)?;
+    let form = match form_at(pool, place, name) {
+        Ok(form) => form,
+        Err(fault) => return Err(fault),
+    };
+    let once = match unless_twice(form, before) {
+        Ok(once) => once,
+        Err(fault) => return Err(fault),
+    };
     match info_of(alloc, pool, once, content) {
         Ok(info) => Ok(Attribute {
             attribute_name_index: name,

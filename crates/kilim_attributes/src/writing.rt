@@ -214,7 +214,9 @@ fn append_text(attributes: &Seq<Attribute>, into: &mut Vec<u8>) -> Result<(), Al
     ensures ok { OnOk result (into.new.items ≡ into.old.items ++ attributes_text attributes.now) }
     ensures err { OnErr result (into.new.items ≡ into.old.items) }
 {
-    let text = text_of(*into.allocator(), attributes)?;
+    let Ok(text) = text_of(*into.allocator(), attributes) else {
+        return Err(AllocError);
+    };
     into.extend_from_slice(text.as_slice())
 }
 
@@ -225,6 +227,8 @@ pub fn write_all(attributes: &Seq<Attribute>, into: &mut Vec<u8>) -> Result<(), 
     ensures ok { OnOk result (into.new.items ≡ into.old.items ++ attributes_text attributes.now) }
     ensures err { OnErr result (into.new.items ≡ into.old.items) }
 {
-    append_text(attributes, into)?;
-    Ok(())
+    match append_text(attributes, into) {
+        Ok(()) => Ok(()),
+        Err(_) => Err(NoMemory),
+    }
 }
