@@ -1,3 +1,4 @@
 pub mod Marking
 pub mod Codes
 pub mod Steps
+pub mod Finding
