@@ -1,7 +1,7 @@
 -- Loops that append something for each element.
 use Rattle.std.proofs.Common.{◌≡◌, ℕ, zero, suc, ◌+◌, ◌<◌, ◌≤◌, List, [], ◌∷◌, ◌++◌, length, get_or, map, take, drop, drop-cons, refl, sym, ap, ◌∙◌, add-one, append_assoc, arith}
 use Rattle.std.specs.List.{flat_map}
-use Rattle.std.proofs.lemmas.List.{append-nil, drop_all}
+use Rattle.std.proofs.lemmas.List.{append-nil, drop_all, length-append}
 
 -- so many elements, and one more
 next_one : {X A : Type 0} (f : X → A) (xs : List X) (i : ℕ) (d : X) → i < length xs → map f (take i xs) ++ f (get_or xs i d) ∷ [] ≡ map f (take (suc i) xs)
@@ -47,3 +47,6 @@ mapped_ahead {X = X} {A = A} f now next whole xs i x d lt is so_far step =
 pub all_made : {X A : Type 0} (rest : List X → List A) (now whole : List A) (xs : List X) (i : ℕ) → rest [] ≡ [] → length xs ≤ i → now ++ rest (drop i xs) ≡ whole → now ≡ whole
 all_made {X = X} {A = A} rest now whole xs i none le so_far =
     sym (append-nil now) ∙ (ap (λ (t : List A). now ++ t) (sym none) ∙ (ap (λ (ys : List X). now ++ rest ys) (sym (drop_all i xs le)) ∙ so_far))
+
+pub one_longer : {A : Type 0} (now next : List A) (n : ℕ) (x : A) → length now ≡ n → next ≡ now ++ x ∷ [] → length next ≡ n + 1
+one_longer now next n x is step = ap length step ∙ (length-append now (x ∷ []) ∙ ap (λ (k : ℕ). k + 1) is)
