@@ -1,5 +1,5 @@
 -- Lists, by recursion
-use Rattle.std.proofs.Common.{◌≡◌, ◌≢◌, ℕ, zero, suc, ◌+◌, ◌<◌, ◌≤◌, List, [], ◌∷◌, ◌++◌, length, slice_get, Some, None, Option, refl, ap, subst, ◌⊎◌, inl, inr, arith, false, add-one, take, is_some}
+use Rattle.std.proofs.Common.{◌≡◌, ◌≢◌, ℕ, zero, suc, ◌+◌, ◌<◌, ◌≤◌, List, [], ◌∷◌, ◌++◌, length, slice_get, Some, None, Option, refl, ap, subst, ◌∙◌, ◌⊎◌, inl, inr, arith, false, add-one, take, is_some}
 use Rattle.std.specs.List.{AllByRecursion, AllZip}
 use Rattle.std.proofs.lemmas.Grind.{common_steps}
 use Rattle.kilim_paths.specs.Paths.{Has, AreDifferent}
@@ -111,3 +111,11 @@ take_whole [] zero h = refl
 take_whole [] (suc n) h = refl
 take_whole (x ∷ xs) zero h = absurd (omega arith)
 take_whole (x ∷ xs) (suc n) h = ap (λ ys. x ∷ ys) (take_whole xs n (omega arith))
+
+front_of : {X : Type 0} (xs ys : List X) → take (length xs) (xs ++ ys) ≡ xs
+front_of [] ys = refl
+front_of (x ∷ xs) ys = ap (λ zs. x ∷ zs) (front_of xs ys)
+
+-- what was pushed is cut off again
+pub cut_back : {X : Type 0} (xs pushed now : List X) (y : X) (n : ℕ) → n ≡ length xs → pushed ≡ xs ++ y ∷ [] → now ≡ take n pushed → now ≡ xs
+cut_back xs pushed now y n at push cut = cut ∙ (ap (λ zs. take n zs) push ∙ (ap (λ m. take m (xs ++ y ∷ [])) at ∙ front_of xs (y ∷ [])))

@@ -1,5 +1,6 @@
 -- A fault put into the list in order
-use Rattle.std.proofs.Common.{◌≡◌, ℕ, zero, suc, List, [], ◌∷◌, refl, sym, arith, cond, true, false}
+use Rattle.std.proofs.Common.{◌≡◌, ℕ, zero, suc, ◌+◌, ◌<◌, Bool, List, [], ◌∷◌, ◌++◌, length, get_or, take, drop, append_assoc, refl, sym, ap, ◌∙◌, arith, cond, true, false}
+use Rattle.std.proofs.lemmas.List.{take_more, drop_more}
 use Rattle.std.specs.List.{AllByRecursion}
 use Rattle.std.proofs.lemmas.Grind.{common_steps}
 use Rattle.kilim_paths.specs.Search.{before, noted, AreOrdered, IsNoted}
@@ -61,3 +62,14 @@ noted_ordered (g ∷ gs) f o = elim (before g f) as (λ b. (before g f ≡ b) �
     | false ↦ λ d. o
   ] refl
 ] refl
+
+-- a fault that comes before the new one stays in front of it
+pub passed : (fs : List Found) (k : ℕ) (f new : Found) → k < length fs → f ≡ get_or fs k f → before f new ≡ true → take k fs ++ noted (drop k fs) new ≡ noted fs new → take (k + 1) fs ++ noted (drop (k + 1) fs) new ≡ noted fs new
+passed fs k f new lt is first so_far =
+    let g = get_or fs k f in
+    let rest = drop (k + 1) fs in
+    let goes : before g new ≡ true = ap (λ (h : Found). before h new) (sym is) ∙ first in
+    ap (λ (front : List Found). front ++ noted rest new) (take_more fs k f lt)
+    ∙ (append_assoc (take k fs) (g ∷ []) (noted rest new)
+    ∙ (ap (λ (b : Bool). take k fs ++ cond b (g ∷ noted rest new) (cond (before new g) (new ∷ g ∷ rest) (g ∷ rest))) (sym goes)
+    ∙ (ap (λ (gs : List Found). take k fs ++ noted gs new) (sym (drop_more fs k f lt)) ∙ so_far)))
