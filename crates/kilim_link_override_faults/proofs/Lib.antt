@@ -9,3 +9,4 @@ pub mod Truth
 pub mod Passing
 pub mod Lines
 pub mod Settling
+mod Lookups
