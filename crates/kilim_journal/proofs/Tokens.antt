@@ -1,10 +1,10 @@
 -- Tokens: what a token is written as, before what may come after it, it is read as.
-use Rattle.std.proofs.Common.{◌≡◌, ℕ, zero, suc, ◌<◌, ◌^◌, Bool, true, false, List, [], ◌∷◌, ◌++◌, refl, sym, ap, subst, ◌⊎◌, ◌∙◌, inl, inr, append_assoc, arith, ℤ}
+use Rattle.std.proofs.Common.{◌≡◌, ℕ, zero, suc, ◌<◌, ◌^◌, Bool, true, false, List, [], ◌∷◌, ◌++◌, refl, sym, ap, subst, ◌⊎◌, ◌∙◌, inl, inr, append_assoc, arith, ℤ, drop}
 use Rattle.std.specs.Prelude.{if◌then◌else◌, ◌==◌}
 use Rattle.std.specs.List.{flat_map, list_all}
 use Rattle.std.specs.Fmt.{decimal, signed_decimal}
 use Rattle.std.specs.Int.Signed.{mag}
-use Rattle.std.proofs.lemmas.Bool.{and_from, and_parts}
+use Rattle.std.proofs.lemmas.Bool.{and_from, and_parts, false≢true}
 use Rattle.std.proofs.lemmas.Bool.Decides.{nat_tests}
 use Rattle.kilim_classes.specs.declared.names.BoxName.{BoxName}
 use Rattle.kilim_classes.specs.declared.machine.value.Token.{Token}
@@ -131,27 +131,40 @@ boxes_parted a b x y ha hb hx hy e =
     let second = decimals_parted a.number b.number x y (omega arith) (omega arith) hx hy rest in
     (λ i. record { task = first.0 i; number = second.0 i }, second.1)
 
+abbrev same_kind : Kind → Kind → Bool
+same_kind Opens Opens = true
+same_kind Closes Closes = true
+same_kind Ints Ints = true
+same_kind Longs Longs = true
+same_kind Nulls Nulls = true
+same_kind Texts Texts = true
+same_kind Boxes Boxes = true
+same_kind k l = false
+
+behind : (n : ℕ) (xs ys : List ℕ) → xs ≡ ys → drop n xs ≡ drop n ys
+behind n xs ys e = ap (λ (bs : List ℕ). drop n bs) e
+
 same_token : (t u : Token) (x y : List ℕ) → TokenFits t → TokenFits u → IsEnded t x → IsEnded u y → kind t ≡ kind u → token_text t ++ x ≡ token_text u ++ y → (t ≡ u) × (x ≡ y)
 same_token (Open a) (Open b) x y ht hu tx uy k e =
     let both = names_parted a b x y (sym (append_assoc (name_text a) (40 ∷ []) x) ∙ (e ∙ append_assoc (name_text b) (40 ∷ []) y)) in
     (ap Open both.0, both.1)
-same_token Close Close x y ht hu tx uy k e = (refl, cc)
+same_token Close Close x y ht hu tx uy k e = (refl, behind 1 (41 ∷ x) (41 ∷ y) e)
 same_token (Int m) (Int n) x y ht hu tx uy k e =
     let both = signed_parted m n x y (fits_32 m ht) (fits_32 n hu) (after_number x tx) (after_number y uy) e in
     (ap Int both.0, both.1)
 same_token (Long m) (Long n) x y ht hu tx uy k e =
     let both = signed_parted m n (76 ∷ x) (76 ∷ y) (fits_64 m ht) (fits_64 n hu) refl refl (sym (append_assoc (signed_decimal m) (76 ∷ []) x) ∙ (e ∙ append_assoc (signed_decimal n) (76 ∷ []) y)) in
-    (ap Long both.0, cc both.1)
-same_token Null Null x y ht hu tx uy k e = (refl, cc)
+    (ap Long both.0, behind 1 (76 ∷ x) (76 ∷ y) both.1)
+same_token Null Null x y ht hu tx uy k e = (refl, behind 4 (token_text Null ++ x) (token_text Null ++ y) e)
 same_token (Text a) (Text b) x y ht hu tx uy k e =
-    let inside : (flat_map text_unit a ++ 34 ∷ []) ++ x ≡ (flat_map text_unit b ++ 34 ∷ []) ++ y = cc in
+    let inside : (flat_map text_unit a ++ 34 ∷ []) ++ x ≡ (flat_map text_unit b ++ 34 ∷ []) ++ y = behind 1 (token_text (Text a) ++ x) (token_text (Text b) ++ y) e in
     let both = texts_parted a b x y (sym (append_assoc (flat_map text_unit a) (34 ∷ []) x) ∙ (inside ∙ append_assoc (flat_map text_unit b) (34 ∷ []) y)) in
     (ap Text both.0, both.1)
 same_token (Box a) (Box b) x y ht hu tx uy k e =
-    let inside : box_text a ++ x ≡ box_text b ++ y = cc in
+    let inside : box_text a ++ x ≡ box_text b ++ y = behind 1 (token_text (Box a) ++ x) (token_text (Box b) ++ y) e in
     let both = boxes_parted a b x y ht hu (after_number x tx) (after_number y uy) inside in
     (ap Box both.0, both.1)
-same_token t u x y ht hu tx uy k e = absurd cc
+same_token t u x y ht hu tx uy k e = absurd (false≢true (sym (ap (same_kind (kind t)) k)))
 
 -- equal texts that begin with a token, which ends there, begin with the same token
 token_parted : (t u : Token) (x y : List ℕ) → TokenFits t → TokenFits u → IsEnded t x → IsEnded u y → token_text t ++ x ≡ token_text u ++ y → (t ≡ u) × (x ≡ y)
@@ -163,11 +176,11 @@ none_before t = refl
 
 -- equal texts are equal behind the comma too, if one stands before their first tokens
 commas_parted : (follows : Bool) (t u : Token) (x y : List ℕ) → comma_before follows t ++ (token_text t ++ x) ≡ comma_before follows u ++ (token_text u ++ y) → token_text t ++ x ≡ token_text u ++ y
-commas_parted false t u x y e = rw (none_before t, none_before u) at e
+commas_parted false t u x y e = sym (ap (λ (front : List ℕ). front ++ (token_text t ++ x)) (none_before t)) ∙ (e ∙ ap (λ (front : List ℕ). front ++ (token_text u ++ y)) (none_before u))
 commas_parted true Close Close x y e = e
 commas_parted true Close u x y e = absurd (omega (arith, first_units 41 44 _ _ e))
 commas_parted true t Close x y e = absurd (omega (arith, first_units 44 41 _ _ e))
-commas_parted true t u x y e = cc
+commas_parted true t u x y e = behind 1 (44 ∷ (token_text t ++ x)) (44 ∷ (token_text u ++ y)) e
 
 -- after a value comes a comma, the end of its object, or the end of the line
 after_tokens : (ts : List Token) (x : List ℕ) → AfterValue (tokens_text true ts ++ (10 ∷ x))
