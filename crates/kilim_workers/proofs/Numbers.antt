@@ -66,6 +66,12 @@ past_map f [] k t ts e = absurd (cc)
 past_map f (y ∷ ys) zero t ts e = (y, refl, e)
 past_map f (y ∷ ys) (suc k) t ts e = past_map f ys k t ts e
 
+-- what has an element lies inside
+pub inside : {A : Type 0} (xs : List A) (k : ℕ) (x : A) → slice_get xs k ≡ Some x → k < length xs
+inside [] k x e = absurd (cc)
+inside (y ∷ ys) zero x e = omega arith
+inside (y ∷ ys) (suc k) x e = let h = inside ys k x e in omega (arith, h)
+
 module _ {F : Type 0} (b : Board F) (k : ℕ) where
   -- an empty cell has no numbers
   pub free_cell : slice_get b.cells k ≡ Some None → cell_at (cells_of b) k ≡ []

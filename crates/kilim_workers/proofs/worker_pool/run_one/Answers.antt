@@ -2,8 +2,8 @@ use Rattle.std.proofs.Common.{ap, subst, sym}
 use Rattle.std.specs.List.{AllByRecursion}
 use Rattle.std.specs.Prelude.{slice_get}
 use Rattle.kilim_exchange.specs.Seen.{seen}
-use Rattle.kilim_workers.specs.worker_pool.Pool.{IsCalmFiber, IsCalmWaiter, IsOf}
-use Rattle.kilim_workers.proofs.worker_pool.Lent.{lent_calm, lent_waits}
+use Rattle.kilim_workers.specs.worker_pool.Pool.{IsCalmFiber, IsCalmWaiter, IsOf, left}
+use Rattle.kilim_workers.proofs.worker_pool.Lent.{lent_calm, lent_falls, lent_waits}
 use Rattle.kilim_workers.proofs.worker_pool.Steps.{lending, quiet_now}
 use Rattle.kilim_workers.proofs.worker_pool.run_one.Goals as goal
 
@@ -38,3 +38,6 @@ loop-fiber-init g c =
         parked = subst (λ ws. AllByRecursion (IsCalmWaiter g.F.Fibers.refused) ws) (sym new.parked) tt;
       },
     )
+
+pub loop-fiber-smaller : goal.loop-fiber-smaller
+loop-fiber-smaller g c = lent_falls g.F.Fibers.task_of g.F.Fibers.count_of g.F.Fibers.refused c.args.limits.now.steps c.loop-fiber.board c.lend.new.self c.in-Fiber.fiber (left g.F.Fibers.count_of c.args.limits.now.steps (seen c.run_fiber.new.board)) c.in-Fiber.ensures.effect.1 c.in-Ok-run_fiber.ensures.falls.1

@@ -41,3 +41,9 @@ pub returns-in-Err-clause-others : goal.returns-in-Err-clause-others
 returns-in-Err-clause-others g c =
     subst (λ b. KeepsOthers c.args.seat (board_cells b) (board_cells c.reserve.new.self)) c.self.view_is
     (all_keep c.args.seat _ _ (cells_same (seen c.self.inside.board) (seen c.reserve.new.self) c.args.seat c.in-Err.ensures.same.run.journal c.in-Err.ensures.same.spots.cells))
+
+pub invariant_of-self-in-Err : goal.invariant_of-self-in-Err
+invariant_of-self-in-Err g c = (
+  c.in-Err.ensures.roomy,
+  λ set is. c.in-Err.ensures.stands set (c.self.invariant.1 set is),
+)
