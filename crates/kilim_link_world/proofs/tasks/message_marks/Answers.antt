@@ -1,4 +1,5 @@
-use Rattle.std.proofs.Common.{ℕ, Bool, length, map}
+use Rattle.std.proofs.Common.{ℕ, Bool, length, map, ap, ◌∙◌}
+use Rattle.std.proofs.lemmas.List.{length-map}
 use Rattle.std.specs.List.{list_any}
 use Rattle.kilim_classes.specs.declared.class.Class.{Class}
 use Rattle.kilim_classes.specs.declared.class.Form.{Form}
@@ -11,6 +12,9 @@ use Rattle.kilim_link_world.specs.Agrees.{each_below}
 use Rattle.kilim_link_world.specs.Outlining.{bare, mark_at}
 use Rattle.kilim_link_world.proofs.Climbing.{for_each, passed_down, same_below, message_marked}
 use Rattle.kilim_link_world.proofs.tasks.message_marks.Goals as goal
+
+pub inherited_marks-requires-clause-one_each : goal.inherited_marks-requires-clause-one_each
+inherited_marks-requires-clause-one_each c = ap length c.in_ok-own.ensures ∙ length-map c.args.classes.now (λ (class : Class). class.message)
 
 pub returns : goal.returns
 returns c =

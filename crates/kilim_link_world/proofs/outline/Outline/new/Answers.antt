@@ -1,11 +1,16 @@
 use Rattle.std.proofs.Common.{◌≡◌, Bool, List, length, ap, ◌∙◌, subst, arith}
+use Rattle.std.proofs.lemmas.List.{length-map}
 use Rattle.kilim_classes.specs.declared.class.Class.{Class}
 use Rattle.kilim_classes.specs.BuiltIn.{class_id}
+use Rattle.kilim_link_spec.specs.declared.view.ClassView.{ClassView}
 use Rattle.kilim_link_spec.specs.World.{outline_with, is_message_by}
 use Rattle.kilim_link_world.specs.Agrees.{each_below}
 use Rattle.kilim_link_world.specs.Outlining.{bare, mark_at}
 use Rattle.kilim_link_world.proofs.Outlines.{length_outlined, own_outline, message_outline, length_messages}
 use Rattle.kilim_link_world.proofs.outline.Outline.new.Goals as goal
+
+pub outlined-requires-clause-marked : goal.outlined-requires-clause-marked
+outlined-requires-clause-marked c = ap length c.in-Ok.ensures ∙ length-map c.args.classes.now (λ (v : ClassView). v.is_marked)
 
 pub message_marks-requires : goal.message_marks-requires
 message_marks-requires c =
