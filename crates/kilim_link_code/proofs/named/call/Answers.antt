@@ -1,0 +1,19 @@
+use Rattle.std.proofs.Common.{◌≡◌, Some, None, ◌∙◌}
+use Rattle.kilim_link_spec.specs.Code.{method_found, method_instrs, row}
+use Rattle.kilim_link_code.proofs.Found.{by_parts, none_by_parts}
+use Rattle.kilim_link_code.proofs.named.call.Goals as goal
+
+pub returns-in-Ok-Some : goal.returns-in-Ok-Some
+returns-in-Ok-Some c =
+    let ref = c.parted-owner.result in
+    let has : c.in-Ok-Some.field-0 ≡ Some c.in-Ok-Some.method = simp c.in-Ok-Some.is at c.in-Ok-Some.field-0-is in
+    c.method_instr.ensures
+    ∙ by_parts (method_found c.args.world.now) (row method_instrs c.args.number) c.method_found-found.result c.in-Ok-Some.field-0 ref.0 ref.1.name ref.1.descriptor c.args.member c.in-Ok-Some.method
+    c.in-Ok-Some.is has c.method_found-found.ensures c.parted-owner.ensures.owner c.parted-owner.ensures.name c.parted-owner.ensures.descriptor
+
+pub returns-in-Ok-None : goal.returns-in-Ok-None
+returns-in-Ok-None c =
+    let ref = c.parted-owner.result in
+    let has : c.in-Ok-None.field-0 ≡ None = simp c.in-Ok-None.is at c.in-Ok-None.field-0-is in
+    none_by_parts (method_found c.args.world.now) (row method_instrs c.args.number) c.method_found-found.result c.in-Ok-None.field-0 ref.0 ref.1.name ref.1.descriptor c.args.member
+    c.in-Ok-None.is has c.method_found-found.ensures c.parted-owner.ensures.owner c.parted-owner.ensures.name c.parted-owner.ensures.descriptor
