@@ -1,5 +1,5 @@
 -- From class files to the bytes.
-use Rattle.std.proofs.Common.{◌≡◌, ◌≤◌, ℕ, List, length, None, Result, sym, ap, subst, ◌∙◌}
+use Rattle.std.proofs.Common.{◌≡◌, ◌≤◌, ℕ, List, length, None, Result, inl, inr, sym, ap, subst, ◌∙◌}
 use Rattle.std.specs.List.{AllByRecursion}
 use Rattle.kilim_classes.specs.Program.{Program}
 use Rattle.kilim_classfile.specs.declared.class_file.ClassFile.{ClassFile}
@@ -8,6 +8,7 @@ use Rattle.kilim_stages.specs.Accepted.{IsAcceptedOf}
 use Rattle.kilim_stages.specs.Parts.{IfReport}
 use Rattle.kilim_stages.specs.ProgramOf.{AreFiles}
 use Rattle.kilim_stages.specs.declared.refusal.Refusal.{Refusal}
+use Rattle.kilim_stages.specs.woven_stage.Reports.{IsWovenReport}
 use Rattle.kilim_stages.proofs.Both.{all_fit, as_many}
 use Rattle.kilim_stages.proofs.Parts.{reported}
 use Rattle.kilim_weaver.specs.declared.weaving.Woven.{Woven}
@@ -15,7 +16,7 @@ use Rattle.kilim_weaver.specs.Faults.{weave_fault}
 use Rattle.kilim_weaver.specs.Weaves.{Weaves}
 use Rattle.kilim_weave_command.specs.declared.woven_files.made.WovenFile.{WovenFile}
 use Rattle.kilim_weave_command.specs.woven_files.Parts.{AreWovenFrom, IsSizeReportIn}
-use Rattle.kilim_weave_command.specs.woven_files.Reports.{IsSizeReport}
+use Rattle.kilim_weave_command.specs.woven_files.Reports.{IsSizeReport, IsWeaveReport}
 use Rattle.kilim_weave_command.specs.woven_files.WovenFiles.{AreWovenFiles}
 
 module _ (files : List (List ℕ)) (p : Program) (is : IsAcceptedOf files p) (none : weave_fault p ≡ None) (classes : List ClassFile) (are : AreFiles files classes) where
@@ -36,6 +37,12 @@ module _ (files : List (List ℕ)) (p : Program) (is : IsAcceptedOf files p) (no
     are_outputs = from.are_outputs;
     links = from.links;
   }
+
+-- ---- the reports of the stages before
+
+pub woven_report : (names files : List (List ℕ)) (text : List ℕ) → IsWovenReport names files text → IsWeaveReport names files text
+woven_report names files text (inl stage) = inl stage
+woven_report names files text (inr method) = inr (inl method)
 
 -- ---- the class files of some bytes
 
