@@ -1,6 +1,7 @@
 mod Halves
 mod Growing
 mod Putting
+mod Entered
 mod Some
 mod Stable
 mod Fronts

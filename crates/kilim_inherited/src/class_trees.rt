@@ -106,7 +106,11 @@ pub fn put_classes(
     let mut left = classes.len();
     while left > 0 {
         left -= 1;
-        made = put_entries(nodes, made, entries_of(entries, classes[left]))?;
+        let own = entries_of(entries, classes[left]);
+        let Ok(next) = put_entries(nodes, made, own) else {
+            return Err(NoMemory);
+        };
+        made = next;
     }
     Ok(made)
 }

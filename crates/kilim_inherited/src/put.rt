@@ -125,7 +125,10 @@ pub fn put_entries(nodes: &mut Seq<Node>, tree: u32, entries: &[Entry]) -> Resul
     let mut left = entries.len();
     while left > 0 {
         left -= 1;
-        made = put_entry(nodes, made, entries[left])?;
+        let Ok(next) = put_entry(nodes, made, entries[left]) else {
+            return Err(NoMemory);
+        };
+        made = next;
     }
     Ok(made)
 }
