@@ -1,12 +1,13 @@
-use Rattle.std.proofs.Common.{◌≡◌, ◌∙◌, sym, ap, subst, arith, ℕ, suc, ◌-◌, ◌<◌, ◌==◌, Bool, true, false, List, ◌∷◌, Option, Some, None, length, drop, get_or}
+use Rattle.std.proofs.Common.{◌≡◌, ◌∙◌, refl, sym, ap, subst, arith, ℕ, zero, suc, ◌-◌, ◌<◌, ◌==◌, Bool, true, false, List, [], ◌∷◌, ◌++◌, Option, Some, None, length, take, drop, get_or}
 use Rattle.std.proofs.lemmas.Bool.Decides.{nat_tests}
-use Rattle.std.specs.Prelude.{if◌then◌else◌, slice_set, slice_index_or}
+use Rattle.std.specs.Prelude.{if◌then◌else◌, slice_set, slice_index_or, replicate}
 use Rattle.std.proofs.Math.Seq.{drop-cons}
 use Rattle.std.proofs.lemmas.List.{length-set, get_or-set_other}
 use Rattle.std.proofs.lemmas.Grind.{get_or-set_at}
 use Rattle.kilim_classes.specs.declared.names.BoxName.{BoxName}
 use Rattle.kilim_fibers.specs.declared.waiting.parked.Waiter.{Waiter}
 use Rattle.kilim_exchange.specs.Board.{AreBoxes}
+use Rattle.kilim_exchange.proofs.Closing.{none_boxed}
 use Rattle.kilim_exchange.proofs.board.parked_boxes.Goals as goal
 
 read_box : (x : Bool) (k t : ℕ) (boxes : List (Option BoxName)) (v r : Option BoxName) → (k == t) ≡ x → t < length boxes → slice_index_or boxes t None ≡ r → slice_index_or (slice_set boxes k v) t None ≡ if x then v else r
@@ -24,8 +25,21 @@ one_less ws left w some lt is =
     let next : suc (left - 1) ≡ left = omega (arith, some) in
     drop-cons ws (left - 1) w lt ∙ (ap (λ u. u ∷ drop (suc (left - 1)) ws) (sym is) ∙ ap (λ n. w ∷ drop n ws) next)
 
+take_none : {A : Type 0} (n : ℕ) (l : List A) → l ≡ [] → take n l ≡ []
+take_none zero l e = refl
+take_none (suc n) [] e = refl
+take_none (suc n) (x ∷ l) e = absurd (cc)
+
+resized : {A : Type 0} (n m : ℕ) (x : A) (old now : List A) → now ≡ take n old ++ replicate (n - m) x → old ≡ [] → m ≡ 0 → now ≡ replicate n x
+resized n m x old now e none nothing =
+    let z : n - m ≡ n = omega (arith, nothing) in
+    e ∙ (ap (λ l. l ++ replicate (n - m) x) (take_none n old none) ∙ ap (λ k. replicate k x) z)
+
 pub loop-left-preserved : goal.loop-left-preserved
 loop-left-preserved g c =
     let w = c.index-waiters-left.result in
     let boxes = one_box g.F.Fibers.task_of w (drop c.loop-left.left c.args.waiters.now) c.args.tasks c.task.result c.loop-left.boxes.items c.set_box.new.boxes.items c.loop-left.invariant.0 c.task.ensures c.set_box.ensures in
     (subst (λ ws. AreBoxes g.F.Fibers.task_of ws c.args.tasks c.set_box.new.boxes.items) (sym (one_less c.args.waiters.now c.loop-left.left w c.loop-left-test.true (omega (arith, c.loop-left-test.true, c.loop-left.invariant.1)) c.index-waiters-left.is)) boxes, omega (arith, c.loop-left.invariant.1))
+
+pub loop-left-init : goal.loop-left-init
+loop-left-init g c = (none_boxed g.F.Fibers.task_of c.args.waiters.now c.args.tasks (length c.args.waiters.now) c.resize.new.self.items (resized c.args.tasks _ None c.new-boxes.result.items c.resize.new.self.items c.in-Ok.ensures.items c.new-boxes.ensures.items c.new-boxes.ensures.len) refl, omega arith)
