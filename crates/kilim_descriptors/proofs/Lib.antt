@@ -1,5 +1,6 @@
 pub mod Fronts
 pub mod Steps
+mod Names
 pub mod Spelled
 pub mod SpelledMethods
 pub mod Places
