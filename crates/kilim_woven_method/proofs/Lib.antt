@@ -6,3 +6,4 @@ pub mod Laying
 pub mod Finding
 pub mod Tabled
 pub mod Outcomes
+pub mod Parts

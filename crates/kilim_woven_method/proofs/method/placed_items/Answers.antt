@@ -1,7 +1,6 @@
-use Rattle.std.proofs.Common.{◌≡◌, subst}
-use Rattle.kilim_typing.specs.woven_form.Woven as form
-use Rattle.kilim_woven_pieces.specs.Items.{items_of}
-use Rattle.kilim_woven_method.proofs.Outcomes.{so_of}
+use Rattle.kilim_liveness.specs.Table.{live_in}
+use Rattle.kilim_typing.specs.woven_form.woven_program.Made.{method_plan}
+use Rattle.kilim_woven_method.proofs.Parts.{items_by}
 use Rattle.kilim_woven_method.proofs.method.placed_items.Goals as goal
 
 pub found_places-requires : goal.found_places-requires
@@ -11,4 +10,4 @@ pub items_at-requires : goal.items_at-requires
 items_at-requires c = record { slots = c.requires.slots; flags = c.requires.flags; rising = c.requires.rising; listed = c.requires.listed }
 
 pub returns : goal.returns
-returns c = so_of c.items_at.result (λ items is. subst (λ (x : form.Plan). items_of items ≡ form.woven_items x) c.in-Ok.ensures is) c.items_at.ensures
+returns c = items_by c.items_at.result _ (method_plan c.args.program.now c.args.method.now (live_in c.args.live.now)) c.in-Ok.ensures c.items_at.ensures
