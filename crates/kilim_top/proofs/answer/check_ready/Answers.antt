@@ -11,3 +11,6 @@ returns-in-Ok-accepted_line c =
 
 pub returns-in-Err : goal.returns-in-Err
 returns-in-Err c = refused_check (map string_bytes c.args.names.now) c.args.files.now c.in-Err.refusal c.refused.result c.in-Err.ensures.report c.refused.ensures
+
+pub accepted-requires-clause-same : goal.accepted-requires-clause-same
+accepted-requires-clause-same c = c.requires.same

@@ -13,3 +13,9 @@ pub returns-in-Err : goal.returns-in-Err
 returns-in-Err c =
     refused_run c.args.words.now.main.now c.args.words.now.workers c.args.words.now.steps (numbers_of (map string_bytes c.args.words.now.args.now)) (map string_bytes c.args.words.now.files.now) c.args.files.now c.in-Err.refusal
     c.refused.result c.in-Err.ensures.report c.refused.ensures
+
+pub woven_program-requires-clause-same : goal.woven_program-requires-clause-same
+woven_program-requires-clause-same c = c.requires.same
+
+pub woven_program-requires-clause-few : goal.woven_program-requires-clause-few
+woven_program-requires-clause-few c = c.requires.few

@@ -9,3 +9,6 @@ returns-in-Ok c =
 
 pub returns-in-Err : goal.returns-in-Err
 returns-in-Err c = refused_weave c.args.words.now.to.now (map string_bytes c.args.words.now.files.now) c.args.files.now c.in-Err.refusal c.refused.result c.in-Err.ensures.report c.refused.ensures
+
+pub weave_files-requires-clause-same : goal.weave_files-requires-clause-same
+weave_files-requires-clause-same c = c.requires.same

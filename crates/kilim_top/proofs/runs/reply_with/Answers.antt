@@ -14,3 +14,15 @@ returns-in-Ok-run_with g c =
 
 pub run_reply-requires : goal.run_reply-requires
 run_reply-requires g c = c.in-Ok-run_with.ensures.readable
+
+pub run_with-requires-after_bounds : goal.run_with-requires-after_bounds
+run_with-requires-after_bounds g c κs within = (subst (λ (r : Ready). IsReadyFor (meant c.args.asked.now) c.args.files.now r) c.in-Run.is c.in-Ok.ensures).served
+
+pub returns-in-Reply : goal.returns-in-Reply
+returns-in-Reply g c = subst (λ (r : Ready). IsReadyFor (meant c.args.asked.now) c.args.files.now r) c.in-Reply.is c.in-Ok.ensures
+
+pub prepare-requires-clause-few : goal.prepare-requires-clause-few
+prepare-requires-clause-few g c = c.requires.few
+
+pub prepare-requires-clause-same : goal.prepare-requires-clause-same
+prepare-requires-clause-same g c = c.requires.same
