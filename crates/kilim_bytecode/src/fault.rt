@@ -1,9 +1,6 @@
 //! Why bytes aren't a code array.
 
-ghost use Rattle.std.specs.Prelude.{◌≡◌};
-
 use crate::opcodes::OpFault;
-use std::alloc::{AllocError, AllocFailed};
 
 /// Why bytes aren't a code array. Places are byte offsets from the first byte. The first fault of one instruction
 /// comes first, then a target that is no place, in the order of the code, and of a switch its default and then its
@@ -19,24 +16,4 @@ pub enum CodeFault {
     FallsOff(u32),
     /// Want of memory.
     Memory,
-}
-
-impl From<AllocError> for CodeFault {
-    ghost use Rattle.kilim_bytecode.specs.declared.fault.CodeFault.TheVariants as fault;
-
-    ghost from_gives = { λ _ e. e ≡ fault.Memory };
-
-    fn from(_: AllocError) -> CodeFault {
-        CodeFault::Memory
-    }
-}
-
-impl<T: Drop> From<AllocFailed<T>> for CodeFault {
-    ghost use Rattle.kilim_bytecode.specs.declared.fault.CodeFault.TheVariants as fault;
-
-    ghost from_gives = { λ _ e. e ≡ fault.Memory };
-
-    fn from(_: AllocFailed<T>) -> CodeFault {
-        CodeFault::Memory
-    }
 }

@@ -127,12 +127,14 @@ pub fn decode(alloc: Global, code: &[u8]) -> Result<Body, CodeFault>
     ensures first { (fault : CodeFault) → HasFault code.now fault → MatchResult result (λ read. ⊥) (IsUnlessMemory fault) }
 {
     one_spelling();
-    let instrs = instrs_of(alloc, code)?;
-    match check_body(alloc, instrs.as_slice(), code.len()) {
-        Ok(()) => Ok(Body { code: instrs }),
-        Err(fault) => {
-            drop(instrs);
-            Err(fault)
-        }
+    match instrs_of(alloc, code) {
+        Ok(instrs) => match check_body(alloc, instrs.as_slice(), code.len()) {
+            Ok(()) => Ok(Body { code: instrs }),
+            Err(fault) => {
+                drop(instrs);
+                Err(fault)
+            }
+        },
+        Err(fault) => Err(fault),
     }
 }

@@ -1,17 +1,22 @@
 -- Bytes that are added piece by piece.
-use Rattle.std.proofs.Common.{◌≡◌, ℕ, zero, suc, ◌+◌, ◌<◌, ℤ, Option, Some, Result, Ok, Err, List, [], ◌∷◌, ◌++◌, length, take, replicate, get_or, refl, sym, ap, ◌∙◌, append_assoc, add-one, arith}
+use Rattle.std.proofs.Common.{◌≡◌, ℕ, zero, suc, ◌+◌, ◌<◌, ℤ, Option, Some, Result, Ok, Err, List, [], ◌∷◌, ◌++◌, length, take, replicate, get_or, refl, sym, ap, subst, ◌∙◌, append_assoc, add-one, arith}
 use Rattle.std.specs.Prelude.{OnOk}
 use Rattle.std.specs.Int.{w32}
 use Rattle.std.specs.List.{flat_map, AllByRecursion}
 use Rattle.std.proofs.lemmas.List.{append-nil}
-use Rattle.kilim_bytecode.specs.opcodes.Instr.{TargetFits, PairsFit}
+use Rattle.kilim_bytecode.specs.declared.opcodes.instr.RawInstr.{RawInstr}
+use Rattle.kilim_bytecode.specs.opcodes.Instr.{TargetFits, PairsFit, operands_text}
 
-joined : (old mid new x y : List ℕ) → mid ≡ old ++ x → new ≡ mid ++ y → new ≡ old ++ (x ++ y)
+pub joined : (old mid new x y : List ℕ) → mid ≡ old ++ x → new ≡ mid ++ y → new ≡ old ++ (x ++ y)
 joined old mid new x y e f = f ∙ (ap (λ (m : List ℕ). m ++ y) e ∙ append_assoc old x y)
 
 pub on_joined : {T E : Type 0} (r : Result T E) (old mid new x y : List ℕ) → mid ≡ old ++ x → OnOk r (new ≡ mid ++ y) → OnOk r (new ≡ old ++ (x ++ y))
 on_joined (Ok v) old mid new x y e h = joined old mid new x y e h
 on_joined (Err v) old mid new x y e h = tt
+
+-- the operands of an instruction that is known to have this form
+pub on_operands : {T E : Type 0} (r : Result T E) (old new : List ℕ) (at : ℕ) (instr known : RawInstr) → instr ≡ known → OnOk r (new ≡ old ++ operands_text at known) → OnOk r (new ≡ old ++ operands_text at instr)
+on_operands r old new at instr known is h = subst (λ (i : RawInstr). OnOk r (new ≡ old ++ operands_text at i)) (sym is) h
 
 abbrev zeros : ℕ → List ℕ
 zeros n = replicate n 0

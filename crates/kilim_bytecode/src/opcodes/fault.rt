@@ -1,9 +1,5 @@
 //! Why bytes aren't an instruction.
 
-ghost use Rattle.std.specs.Prelude.{◌≡◌};
-
-use std::alloc::{AllocError, AllocFailed};
-
 /// Why no instruction begins at a place. The fault is that of the first part that isn't spelled: a part is cut
 /// where the code ends inside it, and else it is left out or unknown.
 #[derive(Clone, Copy)]
@@ -17,24 +13,4 @@ pub enum OpFault {
     LeftOut(u8),
     /// Want of memory.
     Memory,
-}
-
-impl From<AllocError> for OpFault {
-    ghost use Rattle.kilim_bytecode.specs.declared.opcodes.fault.OpFault.TheVariants as fault;
-
-    ghost from_gives = { λ _ e. e ≡ fault.Memory };
-
-    fn from(_: AllocError) -> OpFault {
-        OpFault::Memory
-    }
-}
-
-impl<T: Drop> From<AllocFailed<T>> for OpFault {
-    ghost use Rattle.kilim_bytecode.specs.declared.opcodes.fault.OpFault.TheVariants as fault;
-
-    ghost from_gives = { λ _ e. e ≡ fault.Memory };
-
-    fn from(_: AllocFailed<T>) -> OpFault {
-        OpFault::Memory
-    }
 }

@@ -69,7 +69,6 @@ fn put_targets(into: &mut Vec<u8>, at: usize, targets: &[i64]) -> Result<(), All
     Ok(())
 }
 
-#[tactic(auto, unfolding(crate::specs::opcodes::Instr::pair_text))]
 fn put_pair(into: &mut Vec<u8>, at: usize, pair: (i32, i64)) -> Result<(), AllocError>
     requires { TargetFits w32 at pair.1 }
     ensures { OnOk result (into.new.items ≡ into.old.items ++ pair_text at pair) }
@@ -110,13 +109,6 @@ fn high_of(low: i32, targets: &[i64]) -> i32
     (i64::from(low) + targets.len() as i64 - 1) as i32
 }
 
-fn put_range(into: &mut Vec<u8>, low: i32, high: i32) -> Result<(), AllocError>
-    ensures { OnOk result (into.new.items ≡ into.old.items ++ (integer_text w32 low ++ integer_text w32 high)) }
-{
-    put_i32(into, low)?;
-    put_i32(into, high)
-}
-
 // What stands before the targets.
 fn put_table_head(
     into: &mut Vec<u8>,
@@ -128,47 +120,13 @@ fn put_table_head(
     requires { TargetFits w32 at default }
     ensures { OnOk result (into.new.items ≡ into.old.items ++ (target_text w32 at default ++ (integer_text w32 low ++ integer_text w32 high))) }
 {
-    put_target(into, at, default)?;
-    put_range(into, low, high)
-}
-
-#[tactic(auto, unfolding(crate::specs::opcodes::Instr::table_text))]
-fn put_table(
-    into: &mut Vec<u8>,
-    at: usize,
-    default: i64,
-    low: i32,
-    targets: &[i64],
-) -> Result<(), AllocError>
-    requires default { TargetFits w32 at default }
-    requires high { FitsSigned w32 (high_of low targets.now) }
-    requires targets { AllByRecursion (TargetFits w32 at) targets.now }
-    ensures { OnOk result (into.new.items ≡ into.old.items ++ table_text at default low targets.now) }
-{
-    let high = high_of(low, targets);
-    put_table_head(into, at, default, low, high)?;
-    put_targets(into, at, targets)
-}
-
-#[tactic(auto, unfolding(crate::specs::opcodes::Instr::lookup_text))]
-fn put_lookup(
-    into: &mut Vec<u8>,
-    at: usize,
-    default: i64,
-    pairs: &[(i32, i64)],
-) -> Result<(), AllocError>
-    requires default { TargetFits w32 at default }
-    requires count { length pairs.now < 2 ^ 31 }
-    requires pairs { PairsFit at None pairs.now }
-    ensures { OnOk result (into.new.items ≡ into.old.items ++ lookup_text at default pairs.now) }
-{
     let Ok(()) = put_target(into, at, default) else {
         return Err(AllocError);
     };
-    let Ok(()) = push_u32(into, pairs.len() as u32) else {
+    let Ok(()) = put_i32(into, low) else {
         return Err(AllocError);
     };
-    put_pairs(into, at, pairs)
+    put_i32(into, high)
 }
 
 fn put_table_switch(
@@ -183,8 +141,14 @@ fn put_table_switch(
     requires targets { AllByRecursion (TargetFits w32 at) targets.now }
     ensures { OnOk result (into.new.items ≡ into.old.items ++ (padding_text at ++ table_text at default low targets.now)) }
 {
-    put_padding(into, at)?;
-    put_table(into, at, default, low, targets)
+    let Ok(()) = put_padding(into, at) else {
+        return Err(AllocError);
+    };
+    let high = high_of(low, targets);
+    let Ok(()) = put_table_head(into, at, default, low, high) else {
+        return Err(AllocError);
+    };
+    put_targets(into, at, targets)
 }
 
 fn put_lookup_switch(
@@ -198,8 +162,16 @@ fn put_lookup_switch(
     requires pairs { PairsFit at None pairs.now }
     ensures { OnOk result (into.new.items ≡ into.old.items ++ (padding_text at ++ lookup_text at default pairs.now)) }
 {
-    put_padding(into, at)?;
-    put_lookup(into, at, default, pairs)
+    let Ok(()) = put_padding(into, at) else {
+        return Err(AllocError);
+    };
+    let Ok(()) = put_target(into, at, default) else {
+        return Err(AllocError);
+    };
+    let Ok(()) = push_u32(into, pairs.len() as u32) else {
+        return Err(AllocError);
+    };
+    put_pairs(into, at, pairs)
 }
 
 fn put_iinc(into: &mut Vec<u8>, slot: u8, number: i8) -> Result<(), AllocError>
@@ -249,7 +221,6 @@ fn number_of(instr: &RawInstr) -> u8
     }
 }
 
-#[tactic(auto, unfolding(crate::specs::opcodes::Instr::operands_text, crate::specs::opcodes::Instr::InstrFits))]
 fn put_operands(into: &mut Vec<u8>, instr: &RawInstr, at: usize) -> Result<(), AllocError>
     requires { InstrFits at instr.now }
     ensures { OnOk result (into.new.items ≡ into.old.items ++ operands_text at instr.now) }
@@ -276,7 +247,6 @@ fn put_operands(into: &mut Vec<u8>, instr: &RawInstr, at: usize) -> Result<(), A
     }
 }
 
-#[tactic(auto, unfolding(crate::specs::opcodes::Instr::instr_text))]
 fn put_instr(into: &mut Vec<u8>, instr: &RawInstr, at: usize) -> Result<(), AllocError>
     requires { InstrFits at instr.now }
     ensures { OnOk result (into.new.items ≡ into.old.items ++ instr_text at instr.now) }

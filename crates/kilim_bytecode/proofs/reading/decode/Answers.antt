@@ -1,5 +1,4 @@
 use Rattle.std.proofs.Common.{◌∙◌, sym, ap, subst, List, length}
-use Rattle.std.proofs.lemmas.Result.{err_from_is_err_and}
 use Rattle.kilim_bytecode.specs.Code.{Placed}
 use Rattle.kilim_bytecode.specs.Exact.{body_fault}
 use Rattle.kilim_bytecode.specs.Marks.{PlacesBelow}
@@ -7,46 +6,42 @@ use Rattle.kilim_bytecode.proofs.Codes.{no_body, only_memory, is_first, of_body,
 use Rattle.kilim_bytecode.proofs.Steps.{places_below}
 use Rattle.kilim_bytecode.proofs.reading.decode.Goals as goal
 
-pub returns-in_err-instrs-clause-only : goal.returns-in_err-instrs-clause-only
-returns-in_err-instrs-clause-only c = λ body fits is.
-    let p = err_from_is_err_and c.from_residual.result c.from_residual.ensures.1 in
-    rw (p.1, p.2) (only_memory c.one_spelling.ensures c.args.code.now c.in_err-instrs.field-0.0 body.code c.in_err-instrs.ensures.fault fits is)
+pub returns-in-Err-clause-only : goal.returns-in-Err-clause-only
+returns-in-Err-clause-only c = λ body fits is. only_memory c.one_spelling.ensures c.args.code.now c.in-Err.fault body.code c.in-Err.ensures.fault fits is
 
-pub returns-in_err-instrs-clause-first : goal.returns-in_err-instrs-clause-first
-returns-in_err-instrs-clause-first c = λ fault h.
-    let p = err_from_is_err_and c.from_residual.result c.from_residual.ensures.1 in
-    rw (p.1, p.2) (is_first c.one_spelling.ensures c.args.code.now c.in_err-instrs.field-0.0 fault c.in_err-instrs.ensures.fault h)
+pub returns-in-Err-clause-first : goal.returns-in-Err-clause-first
+returns-in-Err-clause-first c = λ fault h. is_first c.one_spelling.ensures c.args.code.now c.in-Err.fault fault c.in-Err.ensures.fault h
 
 pub check_body-requires : goal.check_body-requires
 check_body-requires c =
     subst (λ (code : List Placed). PlacesBelow (length c.args.code.now) code) (sym c.as_slice.ensures)
-    (places_below 0 c.in_ok-instrs.instrs (length c.args.code.now) c.in_ok-instrs.ensures.found.stands).0
+    (places_below 0 c.in-Ok.instrs (length c.args.code.now) c.in-Ok.ensures.found.stands).0
 
-pub returns-in-Ok-clause-found : goal.returns-in-Ok-clause-found
-returns-in-Ok-clause-found c = sound c.args.code.now c.in_ok-instrs.instrs c.in_ok-instrs.ensures.found (ap body_fault (sym c.as_slice.ensures) ∙ c.in-Ok.ensures.ok)
+pub returns-in-Ok-check_body-clause-found : goal.returns-in-Ok-check_body-clause-found
+returns-in-Ok-check_body-clause-found c = sound c.args.code.now c.in-Ok.instrs c.in-Ok.ensures.found (ap body_fault (sym c.as_slice.ensures) ∙ c.in-Ok-check_body.ensures.ok)
 
-pub returns-in-Ok-clause-text : goal.returns-in-Ok-clause-text
-returns-in-Ok-clause-text c = c.in_ok-instrs.ensures.found.text
+pub returns-in-Ok-check_body-clause-text : goal.returns-in-Ok-check_body-clause-text
+returns-in-Ok-check_body-clause-text c = c.in-Ok.ensures.found.text
 
-pub returns-in-Ok-clause-only : goal.returns-in-Ok-clause-only
-returns-in-Ok-clause-only c = λ body fits is.
-    same_code c.one_spelling.ensures c.args.code.now c.in_ok-instrs.instrs body.code c.in_ok-instrs.ensures.found (body_is c.one_spelling.ensures c.args.code.now body.code fits is)
+pub returns-in-Ok-check_body-clause-only : goal.returns-in-Ok-check_body-clause-only
+returns-in-Ok-check_body-clause-only c = λ body fits is.
+    same_code c.one_spelling.ensures c.args.code.now c.in-Ok.instrs body.code c.in-Ok.ensures.found (body_is c.one_spelling.ensures c.args.code.now body.code fits is)
 
-pub returns-in-Ok-clause-first : goal.returns-in-Ok-clause-first
-returns-in-Ok-clause-first c = λ fault h.
-    no_body c.one_spelling.ensures c.args.code.now fault c.in_ok-instrs.instrs h
-    (sound c.args.code.now c.in_ok-instrs.instrs c.in_ok-instrs.ensures.found (ap body_fault (sym c.as_slice.ensures) ∙ c.in-Ok.ensures.ok))
-    c.in_ok-instrs.ensures.found.text
+pub returns-in-Ok-check_body-clause-first : goal.returns-in-Ok-check_body-clause-first
+returns-in-Ok-check_body-clause-first c = λ fault h.
+    no_body c.one_spelling.ensures c.args.code.now fault c.in-Ok.instrs h
+    (sound c.args.code.now c.in-Ok.instrs c.in-Ok.ensures.found (ap body_fault (sym c.as_slice.ensures) ∙ c.in-Ok-check_body.ensures.ok))
+    c.in-Ok.ensures.found.text
 
-pub returns-in-Err-clause-only : goal.returns-in-Err-clause-only
-returns-in-Err-clause-only c = λ body fits is.
-    let is_fault = of_body c.args.code.now c.in_ok-instrs.instrs c.in-Err.fault c.in_ok-instrs.ensures.found (rw c.as_slice.ensures at c.in-Err.ensures.err) in
-    only_memory c.one_spelling.ensures c.args.code.now c.in-Err.fault body.code is_fault fits is
+pub returns-in-Err-check_body-clause-only : goal.returns-in-Err-check_body-clause-only
+returns-in-Err-check_body-clause-only c = λ body fits is.
+    let is_fault = of_body c.args.code.now c.in-Ok.instrs c.in-Err-check_body.fault c.in-Ok.ensures.found (rw c.as_slice.ensures at c.in-Err-check_body.ensures.err) in
+    only_memory c.one_spelling.ensures c.args.code.now c.in-Err-check_body.fault body.code is_fault fits is
 
-pub returns-in-Err-clause-fault : goal.returns-in-Err-clause-fault
-returns-in-Err-clause-fault c = of_body c.args.code.now c.in_ok-instrs.instrs c.in-Err.fault c.in_ok-instrs.ensures.found (rw c.as_slice.ensures at c.in-Err.ensures.err)
+pub returns-in-Err-check_body-clause-fault : goal.returns-in-Err-check_body-clause-fault
+returns-in-Err-check_body-clause-fault c = of_body c.args.code.now c.in-Ok.instrs c.in-Err-check_body.fault c.in-Ok.ensures.found (rw c.as_slice.ensures at c.in-Err-check_body.ensures.err)
 
-pub returns-in-Err-clause-first : goal.returns-in-Err-clause-first
-returns-in-Err-clause-first c = λ fault h.
-    let is_fault = of_body c.args.code.now c.in_ok-instrs.instrs c.in-Err.fault c.in_ok-instrs.ensures.found (rw c.as_slice.ensures at c.in-Err.ensures.err) in
-    is_first c.one_spelling.ensures c.args.code.now c.in-Err.fault fault is_fault h
+pub returns-in-Err-check_body-clause-first : goal.returns-in-Err-check_body-clause-first
+returns-in-Err-check_body-clause-first c = λ fault h.
+    let is_fault = of_body c.args.code.now c.in-Ok.instrs c.in-Err-check_body.fault c.in-Ok.ensures.found (rw c.as_slice.ensures at c.in-Err-check_body.ensures.err) in
+    is_first c.one_spelling.ensures c.args.code.now c.in-Err-check_body.fault fault is_fault h

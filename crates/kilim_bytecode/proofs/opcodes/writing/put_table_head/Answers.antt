@@ -11,5 +11,7 @@ returns c =
     let default : FitsSigned w64 c.args.default = c.ranges.default in
     let low : FitsSigned w32 c.args.low = c.ranges.low in
     let high : FitsSigned w32 c.args.high = c.ranges.high in
-    on_joined c.put_range.result c.args.into.now.items c.put_target.new.into.items c.put_range.new.into.items (target_text w32 c.args.at c.args.default) (integer_text w32 c.args.low ++ integer_text w32 c.args.high)
-    (simp to_z-of_z at c.in_ok-put_target.ensures) (simp to_z-of_z at c.put_range.ensures)
+    on_joined c.put_i32-2.result c.args.into.now.items c.put_target.new.into.items c.put_i32-2.new.into.items (target_text w32 c.args.at c.args.default) (integer_text w32 c.args.low ++ integer_text w32 c.args.high)
+    (simp to_z-of_z at c.in-Ok.ensures)
+    (on_joined c.put_i32-2.result c.put_target.new.into.items c.put_i32.new.into.items c.put_i32-2.new.into.items (integer_text w32 c.args.low) (integer_text w32 c.args.high)
+    (simp to_z-of_z at c.in-Ok-put_i32.ensures) (simp to_z-of_z at c.put_i32-2.ensures))
