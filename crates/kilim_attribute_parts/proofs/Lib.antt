@@ -7,3 +7,5 @@ pub mod Sentences
 pub mod Pending
 pub mod PartsLoop
 pub mod PartsFormat
+pub mod Tags
+pub mod FrameTags

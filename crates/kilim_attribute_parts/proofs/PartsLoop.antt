@@ -1,5 +1,5 @@
 -- Reading the parts of annotations with a list of what is still to come.
-use Rattle.std.proofs.Common.{◌≡◌, ℕ, ◌-◌, ◌<◌, List, [], ◌∷◌, ◌++◌, length, replicate, Result, Ok, Err, refl, sym, ap, subst, ◌∙◌, arith}
+use Rattle.std.proofs.Common.{◌≡◌, ℕ, ◌-◌, ◌<◌, ◌≤◌, List, [], ◌∷◌, ◌++◌, length, replicate, Result, Ok, Err, refl, sym, ap, subst, ◌∙◌, arith}
 use Rattle.kilim_grammar.proofs.Bytes.{IsBytes}
 use Rattle.kilim_grammar.proofs.Loops.{with_front, FailsUnless}
 use Rattle.kilim_constant_pool.specs.declared.entry.Entry.{Entry}
@@ -55,6 +55,14 @@ module _ (pool : List Entry) (ends : AttributeFault) (kind : PartKind) (bytes : 
           let a : pending first ≡ others = pending_last popped less in
           let b : pending now ≡ asks part ++ others = ap pending now_is ∙ (pending_last first (asked part) ∙ ap (λ (kinds : List PartKind). asks part ++ kinds) a) in
           subst (λ (kinds : List PartKind). Leads parts kinds after) (sym b) (subst (λ (ps : List AnnotationPart). Leads ps (asks part ++ others) after) (sym parts_is) after_part)
+
+  -- one of a kind of which none is left
+  pub skips : (front : List AnnotationPart) (to_come popped : List Asked) (next : Asked) (rest : List ℕ) → to_come ≡ popped ++ next ∷ [] → next.count ≤ 0 → Leads front (pending to_come) rest → Leads front (pending popped) rest
+  skips front to_come popped next rest is none leads =
+      let zero : next.count ≡ 0 = omega arith in
+      let kinds_are : pending to_come ≡ pending popped =
+      ap pending is ∙ (pending_last popped next ∙ ap (λ (n : ℕ). replicate n next.kind ++ pending popped) zero) in
+      subst (λ (kinds : List PartKind). Leads front kinds rest) kinds_are leads
 
   nothing : (to_come : List Asked) → length to_come ≡ 0 → to_come ≡ []
   nothing [] e = refl

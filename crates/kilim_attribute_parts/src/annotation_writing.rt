@@ -41,7 +41,9 @@ fn push_behind_value_tag(part: &AnnotationPart, into: &mut Vec<u8>) -> Result<()
 fn push_value(part: &AnnotationPart, into: &mut Vec<u8>) -> Result<(), AllocError>
     ensures { OnOk result (into.new.items ≡ into.old.items ++ value_text part.now) }
 {
-    push_u8(into, value_tag(part))?;
+    let Ok(()) = push_u8(into, value_tag(part)) else {
+        return Err(AllocError);
+    };
     push_behind_value_tag(part, into)
 }
 

@@ -1,8 +1,9 @@
 //! Reading frames.
 
-ghost use Rattle.std.specs.Prelude.{◌≡◌, ◌<◌, IfOk};
+ghost use Rattle.std.specs.Prelude.{◌≡◌, ◌<◌, ℕ, List, Ok, IfOk};
 ghost use Rattle.std.specs.Int.{w16};
 ghost use Rattle.kilim_grammar.specs.Reader.{Reads, ReadsUnless, made, many, number_at};
+ghost use Rattle.kilim_constant_pool.specs.declared.entry.Entry.{Entry};
 ghost use Rattle.kilim_attribute_parts.specs.declared.frame.Frame.TheVariants.{SameLocals1StackItem, SameLocals1StackItemExtended, Chop, SameExtended, Append, Full};
 ghost use Rattle.kilim_attribute_parts.specs.declared.fault.AttributeFault.TheVariants.{Memory};
 ghost use Rattle.kilim_attribute_parts.specs.Frames.{ends, type_behind, type_at, delta_and_type_at, counted_types_at, appended_at, full_at, frame_behind, frame_at, frames_at, FramesAreSized};
@@ -18,6 +19,28 @@ use std::alloc::Global;
 
 const ENDS: AttributeFault = AttributeFault::Length(AttributeName::StackMapTable);
 
+// The type of a tag below 7, behind which nothing follows.
+fn plain_type(tag: u8) -> VerificationType
+    requires { tag < 7 }
+    ensures { (pool : List Entry) (bytes : List ℕ) → type_behind pool tag bytes ≡ Ok (result, bytes) }
+{
+    if tag == 0 {
+        VerificationType::Top
+    } else if tag == 1 {
+        VerificationType::Integer
+    } else if tag == 2 {
+        VerificationType::Float
+    } else if tag == 3 {
+        VerificationType::Double
+    } else if tag == 4 {
+        VerificationType::Long
+    } else if tag == 5 {
+        VerificationType::Null
+    } else {
+        VerificationType::UninitializedThis
+    }
+}
+
 #[tactic(auto, unfolding(crate::specs::Frames::type_behind))]
 fn type_behind<'a>(
     pool: &Pool,
@@ -26,20 +49,8 @@ fn type_behind<'a>(
 ) -> Result<(VerificationType, &'a [u8]), AttributeFault>
     ensures { Reads (λ x. (x.0, x.1.now)) result (type_behind pool.now tag bytes.now) }
 {
-    if tag == 0 {
-        Ok((VerificationType::Top, bytes))
-    } else if tag == 1 {
-        Ok((VerificationType::Integer, bytes))
-    } else if tag == 2 {
-        Ok((VerificationType::Float, bytes))
-    } else if tag == 3 {
-        Ok((VerificationType::Double, bytes))
-    } else if tag == 4 {
-        Ok((VerificationType::Long, bytes))
-    } else if tag == 5 {
-        Ok((VerificationType::Null, bytes))
-    } else if tag == 6 {
-        Ok((VerificationType::UninitializedThis, bytes))
+    if tag < 7 {
+        Ok((plain_type(tag), bytes))
     } else if tag == 7 {
         match index_at(pool, EntryKind::Class, ENDS, bytes) {
             Ok((class, rest)) => Ok((VerificationType::Object(class), rest)),

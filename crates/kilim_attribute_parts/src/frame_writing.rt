@@ -40,7 +40,9 @@ fn push_behind_type_tag(item: VerificationType, into: &mut Vec<u8>) -> Result<()
 fn push_type(item: VerificationType, into: &mut Vec<u8>) -> Result<(), AllocError>
     ensures { OnOk result (into.new.items ≡ into.old.items ++ type_text item) }
 {
-    push_u8(into, type_tag(item))?;
+    let Ok(()) = push_u8(into, type_tag(item)) else {
+        return Err(AllocError);
+    };
     push_behind_type_tag(item, into)
 }
 
@@ -59,7 +61,9 @@ fn push_counted_types(types: &[VerificationType], into: &mut Vec<u8>) -> Result<
     requires { length types.now < 2 ^ 16 }
     ensures { OnOk result (into.new.items ≡ into.old.items ++ counted_types_text types.now) }
 {
-    push_u16(into, types.len() as u16)?;
+    let Ok(()) = push_u16(into, types.len() as u16) else {
+        return Err(AllocError);
+    };
     push_types(types, into)
 }
 
@@ -114,7 +118,9 @@ fn push_frame(frame: &Frame, into: &mut Vec<u8>) -> Result<(), AllocError>
     requires { FrameIsSized frame.now }
     ensures { OnOk result (into.new.items ≡ into.old.items ++ frame_text frame.now) }
 {
-    push_u8(into, frame_tag(frame))?;
+    let Ok(()) = push_u8(into, frame_tag(frame)) else {
+        return Err(AllocError);
+    };
     push_behind_frame_tag(frame, into)
 }
 
@@ -136,6 +142,8 @@ pub fn push_frames(frames: &Seq<Frame>, into: &mut Vec<u8>) -> Result<(), AllocE
     requires { FramesAreSized frames.now }
     ensures { OnOk result (into.new.items ≡ into.old.items ++ frames_text frames.now) }
 {
-    push_u16(into, frames.len() as u16)?;
+    let Ok(()) = push_u16(into, frames.len() as u16) else {
+        return Err(AllocError);
+    };
     push_each_frame(frames.as_slice(), into)
 }
