@@ -157,20 +157,17 @@ fn kept_names(
     Ok(new)
 }
 
-#[tactic(auto, unfolding(crate::specs::Canonical::canonical))]
-fn canonical_of(alloc: Global, graph: &Graph) -> Result<Graph, NoMemory>
-    ensures { IfOk result (λ new. new ≡ form.canonical graph.now) }
+// The graph with these nodes alone, numbered in their order.
+fn ordered(alloc: Global, graph: &Graph, order: &[usize]) -> Result<Graph, NoMemory>
+    ensures { IfOk result (λ new. new ≡ record { locals = map (form.renumbered order.now) graph.now.locals; stack = map (form.renumbered order.now) graph.now.stack; nodes = map (form.canonical_node graph.now.nodes order.now) order.now }) }
 {
-    let Ok(order) = order_of(alloc, graph) else {
+    let Ok(locals) = slots_in(alloc, order, graph.locals.as_slice()) else {
         return Err(NoMemory);
     };
-    let Ok(locals) = slots_in(alloc, order.as_slice(), graph.locals.as_slice()) else {
+    let Ok(stack) = slots_in(alloc, order, graph.stack.as_slice()) else {
         return Err(NoMemory);
     };
-    let Ok(stack) = slots_in(alloc, order.as_slice(), graph.stack.as_slice()) else {
-        return Err(NoMemory);
-    };
-    let Ok(nodes) = nodes_in(alloc, graph.nodes.as_slice(), order.as_slice()) else {
+    let Ok(nodes) = nodes_in(alloc, graph.nodes.as_slice(), order) else {
         return Err(NoMemory);
     };
     Ok(Graph {
@@ -178,6 +175,18 @@ fn canonical_of(alloc: Global, graph: &Graph) -> Result<Graph, NoMemory>
         stack,
         nodes,
     })
+}
+
+#[tactic(auto, unfolding(crate::specs::Canonical::canonical))]
+fn canonical_of(alloc: Global, graph: &Graph) -> Result<Graph, NoMemory>
+    ensures { IfOk result (λ new. new ≡ form.canonical graph.now) }
+{
+    let Ok(order) = order_of(alloc, graph) else {
+        return Err(NoMemory);
+    };
+    let new = ordered(alloc, graph, order.as_slice());
+    drop(order);
+    new
 }
 
 fn stack_names(

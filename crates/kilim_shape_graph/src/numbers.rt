@@ -39,7 +39,9 @@ fn push_first(order: &mut Seq<usize>, number: usize) -> Result<(), NoMemory>
     if is_among(order.as_slice(), number) {
         return Ok(());
     }
-    order.push(number)?;
+    let Ok(()) = order.push(number) else {
+        return Err(NoMemory);
+    };
     Ok(())
 }
 
