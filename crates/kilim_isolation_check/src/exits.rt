@@ -11,14 +11,18 @@ use std::alloc::Global;
 fn one(alloc: Global, exit: Option<u32>) -> Result<Seq<Option<u32>>, NoMemory>
     ensures { IfOk result (λ exits. exits ≡ exit ∷ []) }
 {
-    let exits = Vec::from_slice(alloc, &[exit])?;
+    let Ok(exits) = Vec::from_slice(alloc, &[exit]) else {
+        return Err(NoMemory);
+    };
     Ok(Seq::from_vec(exits))
 }
 
 fn two(alloc: Global, first: u32, second: u32) -> Result<Seq<Option<u32>>, NoMemory>
     ensures { IfOk result (λ exits. exits ≡ Some first ∷ Some second ∷ []) }
 {
-    let exits = Vec::from_slice(alloc, &[Some(first), Some(second)])?;
+    let Ok(exits) = Vec::from_slice(alloc, &[Some(first), Some(second)]) else {
+        return Err(NoMemory);
+    };
     Ok(Seq::from_vec(exits))
 }
 

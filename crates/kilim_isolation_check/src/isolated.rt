@@ -56,6 +56,7 @@ fn accepted(alloc: Global, typed: &Typed) -> Result<Pausables, Refused>
     if !reports.is_empty() {
         return Err(Refused::Reports(reports));
     }
+    drop(reports);
     match pausable_calls(alloc, &typed.program) {
         Ok(pausables) => Ok(pausables),
         Err(NoMemory) => Err(Refused::Memory),

@@ -46,11 +46,16 @@ impl<'a> Moves for Walk<'a> {
 
     #[tactic(auto, using(crate::proofs::Inside::starts))]
     fn entry(&self) -> Result<Shape, NoMemory> {
-        Ok(Shape::new(copied(self.alloc, self.first)?))
+        let Ok(graph) = copied(self.alloc, self.first) else {
+            return Err(NoMemory);
+        };
+        Ok(Shape::new(graph))
     }
 
     fn exits(&self, place: u32) -> Result<Seq<Option<u32>>, NoMemory> {
-        let exits = exits_at(self.alloc, self.method, self.code_at, place)?;
+        let Ok(exits) = exits_at(self.alloc, self.method, self.code_at, place) else {
+            return Err(NoMemory);
+        };
         Ok(exits)
     }
 

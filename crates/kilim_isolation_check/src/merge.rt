@@ -88,22 +88,34 @@ fn push_earlier(
     Ok(from.max(others.len()))
 }
 
+// Both lists in one behind those that are there, each of the second before the first of the first list before which it comes.
+fn push_merged(
+    alloc: Global,
+    into: &mut Seq<Report>,
+    reports: &[Report],
+    others: &[Report],
+) -> Result<(), NoMemory>
+    ensures { IfOk result (λ u. into.new ≡ into.old ++ spec.merged reports.now others.now) }
+{
+    let mut at = 0;
+    for report in reports {
+        let Ok(next) = push_earlier(alloc, report, others, at, into) else {
+            return Err(NoMemory);
+        };
+        let Ok(()) = push_copy(alloc, into, report) else {
+            return Err(NoMemory);
+        };
+        at = next;
+    }
+    append(alloc, into, &others[at.min(others.len())..])
+}
+
 /// Both lists in one, each of the second before the first of the first list before which it comes.
 pub fn merged(alloc: Global, reports: &[Report], others: &[Report]) -> Result<Seq<Report>, NoMemory>
     ensures { IfOk result (λ all. all ≡ spec.merged reports.now others.now) }
 {
     let mut all = Seq::new(alloc);
-    let mut at = 0;
-    for report in reports {
-        let Ok(next) = push_earlier(alloc, report, others, at, &mut all) else {
-            return Err(NoMemory);
-        };
-        let Ok(()) = push_copy(alloc, &mut all, report) else {
-            return Err(NoMemory);
-        };
-        at = next;
-    }
-    let Ok(()) = append(alloc, &mut all, &others[at.min(others.len())..]) else {
+    let Ok(()) = push_merged(alloc, &mut all, reports, others) else {
         return Err(NoMemory);
     };
     Ok(all)

@@ -6,5 +6,5 @@ use Rattle.kilim_isolation_check.proofs.machine.WalkMoves.exits.Goals as goal
 
 pub returns-clause-within : goal.returns-clause-within
 returns-clause-within c =
-    subst (λ (xs : List (Option ℕ)). AllByRecursion (λ x. IfSome x (λ q. q < c.args.self.now.method.now.code_length)) xs) (sym c.in_ok-exits.ensures)
+    subst (λ (xs : List (Option ℕ)). AllByRecursion (λ x. IfSome x (λ q. q < c.args.self.now.method.now.code_length)) xs) (sym c.in-Ok.ensures)
     (exits_inside c.args.self.now.method.now c.args.place c.args.self.now.whole)

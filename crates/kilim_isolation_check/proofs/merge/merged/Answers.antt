@@ -1,8 +1,0 @@
-use Rattle.kilim_isolation_check.specs.Faults.{merged}
-use Rattle.kilim_isolation_check.proofs.Merging.{merge_more}
-use Rattle.kilim_isolation_check.proofs.merge.merged.Goals as goal
-
-pub loop-report-preserved : goal.loop-report-preserved
-loop-report-preserved c =
-    merge_more c.args.reports.now c.args.others.now c.loop-report.all c.push_earlier.new.into c.push_copy.new.into (merged c.args.reports.now c.args.others.now) c.loop-report.report-index c.loop-report.at c.in-Ok.next c.report-item.result
-    c.loop-report-test.true c.report-item.is c.in-Ok.ensures.pushed c.in-Ok.ensures.rest c.in-Ok-push_copy.ensures c.loop-report.invariant
