@@ -96,6 +96,10 @@ pub ok_into : {A E : Type 0} (r : Result A E) (P Q : Type 0) → IfOk r (λ x. P
 ok_into (Ok x) P Q p f = f p
 ok_into (Err x) P Q p f = tt
 
+pub ok_as : {A E : Type 0} (r : Result A E) (P Q : A → Type 0) → IfOk r P → ((x : A) → P x → Q x) → IfOk r Q
+ok_as (Ok x) P Q p f = f x p
+ok_as (Err x) P Q p f = tt
+
 pub described : (old mid new base : List ℕ) (n : ℕ) → mid ≡ old ++ brackets n → new ≡ mid ++ base → new ≡ old ++ array_descriptor n base
 described old mid new base n m e = e ∙ (ap (λ xs. xs ++ base) m ∙ (append_assoc old (brackets n) base ∙ ap (λ xs. old ++ xs) (sym (array_brackets n base))))
 
@@ -355,10 +359,10 @@ own_shape p os t a = has_shape p (tree_heap os) 0 (numbered 0 os) (each_suit p o
 pub shape_there : (p : Program) (os objects : List Object) → IsTreeList os → AllByRecursion (Suits p) os → objects ≡ os → HasShape p objects
 shape_there p os objects t a e = let s = own_shape p os t a in subst (HasShape p) (sym e) (record { suit = λ j o h. suits_from p os 0 j o a (ap (get (tree_heap os)) (sym (zero_plus j)) ∙ h); tokens = s.0; are = s.2 })
 
-pub shape_is : (p : Program) (os objects : List Object) (tokens result : List Token) → IsTreeList os → AllByRecursion (Suits p) os → objects ≡ os → AreTokens p objects tokens → result ≡ tokens → shape_of p (tree_heap os) 0 ≡ Some result
-shape_is p os objects tokens result t a e are r =
+pub shape_is : (p : Program) (os objects : List Object) (tokens : List Token) → IsTreeList os → AllByRecursion (Suits p) os → objects ≡ os → AreTokens p objects tokens → shape_of p (tree_heap os) 0 ≡ Some tokens
+shape_is p os objects tokens t a e are =
     let s = own_shape p os t a in
     let are' : heap_tokens p (tree_heap os) tree_limit (Ref 0) ≡ Some tokens = subst (λ os. AreTokens p os tokens) e are in
     let q : Some s.0 ≡ Some tokens = sym s.2 ∙ are' in
     let h : s.0 ≡ tokens = cc in
-    s.1 ∙ ap (λ ts. Some ts) (h ∙ sym r)
+    s.1 ∙ ap (λ ts. Some ts) h

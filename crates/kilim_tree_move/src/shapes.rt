@@ -27,15 +27,6 @@ fn push_letter(out: &mut Vec<u16>, letter: u8) -> Result<(), AllocError>
     Ok(())
 }
 
-fn push_token(tokens: &mut Vec<Token>, token: Token) -> Result<(), AllocError>
-    ensures { OnOk result (tokens.new.items ≡ tokens.old.items ++ token ∷ []) }
-{
-    let Ok(()) = tokens.push(token) else {
-        return Err(AllocError);
-    };
-    Ok(())
-}
-
 // An object, and how many of its values are done.
 fn push_frame(frames: &mut Vec<(u32, usize)>, at: u32, next: usize) -> Result<(), NoMemory>
     ensures { OnOk result (frames.new.items ≡ frames.old.items ++ (at, next) ∷ []) }
@@ -143,26 +134,26 @@ fn shown(alloc: Global, program: &Program, ty: Ty) -> Result<Units, AllocError>
     Units::from_vec(alloc, out)
 }
 
-fn push_text(tokens: &mut Vec<Token>, units: &Units) -> Result<(), AllocError>
-    ensures { OnOk result (tokens.new.items ≡ tokens.old.items ++ token.Text units.now ∷ []) }
+fn push_text(tokens: &mut Shape, units: &Units) -> Result<(), AllocError>
+    ensures { OnOk result (tokens.new ≡ tokens.old ++ token.Text units.now ∷ []) }
 {
     match units.clone() {
-        Ok(copy) => push_token(tokens, Token::Text(copy)),
+        Ok(copy) => tokens.push(Token::Text(copy)),
         Err(fault) => Err(fault),
     }
 }
 
 // A value that is no object has one token.
-fn push_plain(tokens: &mut Vec<Token>, value: &Value) -> Result<(), AllocError>
-    ensures { OnOk result (tokens.new.items ≡ tokens.old.items ++ plain_tokens value.now) }
+fn push_plain(tokens: &mut Shape, value: &Value) -> Result<(), AllocError>
+    ensures { OnOk result (tokens.new ≡ tokens.old ++ plain_tokens value.now) }
 {
     match value {
-        Value::Int(n) => push_token(tokens, Token::Int(*n)),
-        Value::Long(n) => push_token(tokens, Token::Long(*n)),
-        Value::Null => push_token(tokens, Token::Null),
+        Value::Int(n) => tokens.push(Token::Int(*n)),
+        Value::Long(n) => tokens.push(Token::Long(*n)),
+        Value::Null => tokens.push(Token::Null),
         Value::Ref(_) => Ok(()),
         Value::Text(units) => push_text(tokens, units),
-        Value::Box(name) => push_token(tokens, Token::Box(*name)),
+        Value::Box(name) => tokens.push(Token::Box(*name)),
         Value::Fiber => Ok(()),
     }
 }
@@ -194,17 +185,17 @@ fn begin(
     program: &Program,
     objects: &[Object],
     at: u32,
-    tokens: &mut Vec<Token>,
+    tokens: &mut Shape,
     frames: &mut Vec<(u32, usize)>,
 ) -> Result<(), NoMemory>
     requires { at < length objects.now }
-    ensures tokens { OnOk result (tokens.new.items ≡ tokens.old.items ++ opening program.now objects.now at) }
+    ensures tokens { OnOk result (tokens.new ≡ tokens.old ++ opening program.now objects.now at) }
     ensures frames { OnOk result (frames.new.items ≡ frames.old.items ++ (at, 0) ∷ []) }
 {
     let Ok(name) = shown(alloc, program, objects[at as usize].class) else {
         return Err(NoMemory);
     };
-    let Ok(()) = push_token(tokens, Token::Open(name)) else {
+    let Ok(()) = tokens.push(Token::Open(name)) else {
         return Err(NoMemory);
     };
     push_frame(frames, at, 0)
@@ -216,11 +207,11 @@ fn emit(
     program: &Program,
     objects: &[Object],
     value: &Value,
-    tokens: &mut Vec<Token>,
+    tokens: &mut Shape,
     frames: &mut Vec<(u32, usize)>,
 ) -> Result<(), NoMemory>
     requires { RefWithin value.now (length objects.now) }
-    ensures { OnOk result (Emits program.now objects.now value.now tokens.old.items tokens.new.items frames.old.items frames.new.items) }
+    ensures { OnOk result (Emits program.now objects.now value.now tokens.old tokens.new frames.old.items frames.new.items) }
 {
     match value {
         Value::Ref(at) => begin(alloc, program, objects, *at, tokens, frames),
@@ -236,13 +227,13 @@ fn emit_into(
     alloc: Global,
     program: &Program,
     objects: &[Object],
-    tokens: &mut Vec<Token>,
+    tokens: &mut Shape,
     frames: &mut Vec<(u32, usize)>,
 ) -> Result<(), NoMemory>
     requires shape { HasShape program.now objects.now }
-    requires no_tokens { tokens.old.items ≡ [] }
+    requires no_tokens { tokens.old ≡ [] }
     requires no_frames { frames.old.items ≡ [] }
-    ensures { OnOk result (AreTokens program.now objects.now tokens.new.items) }
+    ensures { OnOk result (AreTokens program.now objects.now tokens.new) }
 {
     let Ok(()) = begin(alloc, program, objects, 0, tokens, frames) else {
         return Err(NoMemory);
@@ -250,7 +241,7 @@ fn emit_into(
     while let Some((at, next)) = frames.pop() {
         match value_at(objects, at as usize, next) {
             None => {
-                let Ok(()) = push_token(tokens, Token::Close) else {
+                let Ok(()) = tokens.push(Token::Close) else {
                     return Err(NoMemory);
                 };
             }
@@ -271,15 +262,18 @@ fn emit_into(
 }
 
 // The tokens of the first object.
-fn emit_all(alloc: Global, program: &Program, objects: &[Object]) -> Result<Vec<Token>, NoMemory>
+fn emit_all(alloc: Global, program: &Program, objects: &[Object]) -> Result<Shape, NoMemory>
     requires { HasShape program.now objects.now }
-    ensures { IfOk result (λ tokens. AreTokens program.now objects.now tokens.items) }
+    ensures { IfOk result (λ tokens. AreTokens program.now objects.now tokens) }
 {
-    let mut tokens = Vec::new(alloc);
+    let mut tokens = Seq::new(alloc);
     let mut frames = Vec::new(alloc);
     match emit_into(alloc, program, objects, &mut tokens, &mut frames) {
         Ok(()) => Ok(tokens),
-        Err(fault) => Err(fault),
+        Err(fault) => {
+            drop(tokens);
+            Err(fault)
+        }
     }
 }
 
@@ -290,8 +284,5 @@ pub fn shape(program: &Program, tree: &Tree) -> Result<Shape, NoMemory>
 {
     let objects = tree.objects.as_slice();
     let alloc = *tree.objects.allocator();
-    match emit_all(alloc, program, objects) {
-        Ok(tokens) => Ok(Seq::from_vec(tokens)),
-        Err(fault) => Err(fault),
-    }
+    emit_all(alloc, program, objects)
 }

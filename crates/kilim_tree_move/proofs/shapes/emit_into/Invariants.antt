@@ -6,7 +6,7 @@ use Rattle.kilim_tree_move.proofs.Emitting.{Emitting, left_of}
 use Rattle.kilim_tree_move.proofs.shapes.emit_into.Given as goal
 
 abbrev pub invariant-loop-at : goal.invariant-loop-at
-invariant-loop-at l = Emitting l.program l.objects tree_limit l.tokens.items (reverse l.frames.items)
+invariant-loop-at l = Emitting l.program l.objects tree_limit l.tokens (reverse l.frames.items)
 
 abbrev pub decreases-loop-at : goal.decreases-loop-at
 decreases-loop-at l = left_of (to_come l.program (tree_heap l.objects) tree_limit l.objects (reverse l.frames.items))
