@@ -67,14 +67,8 @@ fn stand(places: &mut Places, label: Label) -> Result<(), NoMemory>
 {
     let at = places.end;
     match label {
-        Label::Old(place) => {
-            note(&mut places.old, place, at)?;
-            Ok(())
-        }
-        Label::Resumes(number) => {
-            note(&mut places.blocks, number, at)?;
-            Ok(())
-        }
+        Label::Old(place) => note(&mut places.old, place, at),
+        Label::Resumes(number) => note(&mut places.blocks, number, at),
     }
 }
 
@@ -92,17 +86,11 @@ fn put(places: &mut Places, item: Item) -> Result<(), NoMemory>
     match item {
         Item::Stands(label, frame) => {
             drop(frame);
-            let Ok(()) = stand(places, label) else {
-                return Err(NoMemory);
-            };
-            Ok(())
+            stand(places, label)
         }
         Item::Adds(instr, size, _) => {
             drop(instr);
-            let Ok(()) = advance(places, size) else {
-                return Err(NoMemory);
-            };
-            Ok(())
+            advance(places, size)
         }
     }
 }

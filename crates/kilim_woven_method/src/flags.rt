@@ -64,7 +64,5 @@ fn flags_of(alloc: Global, frames: &[(u32, Frame)]) -> Result<Vec<bool>, NoMemor
 pub fn declared_flags(alloc: Global, method: &Method) -> Result<Vec<bool>, NoMemory>
     ensures { IfOk result (λ flags. AreDeclared method.now flags.items) }
 {
-    let frames = method.frames.as_slice();
-    let flags = flags_of(alloc, frames)?;
-    Ok(flags)
+    flags_of(alloc, method.frames.as_slice())
 }

@@ -67,18 +67,8 @@ fn put(laid: &mut Laid, item: Item) -> Result<(), NoMemory>
     ensures { OnOk result ((rest : List form.Item) → Follows laid.old (item_of item ∷ rest) laid.new rest) }
 {
     match item {
-        Item::Stands(_, frame) => {
-            let Ok(()) = stand(laid, frame) else {
-                return Err(NoMemory);
-            };
-            Ok(())
-        }
-        Item::Adds(instr, size, counted) => {
-            let Ok(()) = add(laid, instr, size, counted) else {
-                return Err(NoMemory);
-            };
-            Ok(())
-        }
+        Item::Stands(_, frame) => stand(laid, frame),
+        Item::Adds(instr, size, counted) => add(laid, instr, size, counted),
     }
 }
 

@@ -127,10 +127,12 @@ fn found_places(
 {
     places_dont_matter();
     let first = nowhere(alloc);
-    let Ok(items) = items_at(alloc, program, method, frames, live, flags, slots, &first) else {
-        return Err(NoMemory);
-    };
-    places_of(alloc, items)
+    let without = items_at(alloc, program, method, frames, live, flags, slots, &first);
+    drop(first);
+    match without {
+        Ok(items) => places_of(alloc, items),
+        Err(fault) => Err(fault),
+    }
 }
 
 // The items of the woven method, with the places of its labels.
@@ -152,7 +154,9 @@ fn placed_items(
     let Ok(places) = found_places(alloc, program, method, frames, live, flags, slots) else {
         return Err(NoMemory);
     };
-    items_at(alloc, program, method, frames, live, flags, slots, &places)
+    let items = items_at(alloc, program, method, frames, live, flags, slots, &places);
+    drop(places);
+    items
 }
 
 // The code of the woven method, laid out.
@@ -173,10 +177,12 @@ fn laid_out(
         return Err(NoMemory);
     };
     let flags = declared.as_slice();
-    let Ok(items) = placed_items(alloc, program, method, frames, live, flags, slots) else {
-        return Err(NoMemory);
-    };
-    lay(alloc, items)
+    let placed = placed_items(alloc, program, method, frames, live, flags, slots);
+    drop(declared);
+    match placed {
+        Ok(items) => lay(alloc, items),
+        Err(fault) => Err(fault),
+    }
 }
 
 fn fiber_type(class: u32) -> Ty

@@ -60,11 +60,9 @@ pub fn fiber_methods(alloc: Global, program: &Program) -> Result<Seq<Method>, No
     let Ok(methods) = built_in_methods(alloc, Form::Woven, first) else {
         return Err(NoMemory);
     };
-    let members = last_methods(methods.as_slice());
-    let Ok(copies) = copy_methods(alloc, members) else {
-        return Err(NoMemory);
-    };
-    Ok(copies)
+    let copies = copy_methods(alloc, last_methods(methods.as_slice()));
+    drop(methods);
+    copies
 }
 
 fn last_classes(classes: &[Class]) -> &[Class]
@@ -87,11 +85,9 @@ fn fiber_classes(alloc: Global, program: &Program) -> Result<Seq<Class>, NoMemor
     let Ok(classes) = built_in_classes(alloc, Form::Woven, first, method) else {
         return Err(NoMemory);
     };
-    let last = last_classes(classes.as_slice());
-    let Ok(copies) = copy_classes(alloc, last) else {
-        return Err(NoMemory);
-    };
-    Ok(copies)
+    let copies = copy_classes(alloc, last_classes(classes.as_slice()));
+    drop(classes);
+    copies
 }
 
 // The classes of a program, and the fiber's behind them.

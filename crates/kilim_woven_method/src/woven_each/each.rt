@@ -73,10 +73,9 @@ fn with_calls(
     let Ok(table) = live(alloc, method) else {
         return Err(NoMemory);
     };
-    let Ok(pair) = woven(alloc, program, method, frames, &table) else {
-        return Err(NoMemory);
-    };
-    Ok(pair)
+    let pair = woven(alloc, program, method, frames, &table);
+    drop(table);
+    pair
 }
 
 /// The woven form of a method, and which of its instructions count (own, after Srinivasan and Mycroft, "Kilim: Isolation-Typed Actors

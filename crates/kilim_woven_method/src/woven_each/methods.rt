@@ -190,10 +190,7 @@ fn with_fiber(alloc: Global, program: &Program, all: Methods) -> Result<Methods,
     ensures { IfOk result (λ all. AllWoven program.now program.now.methods all.methods all.counted) }
 {
     match fiber_of(alloc, program) {
-        Ok(fiber) => {
-            let whole = both(all, fiber)?;
-            Ok(whole)
-        }
+        Ok(fiber) => both(all, fiber),
         Err(fault) => {
             drop(all);
             Err(fault)
@@ -213,8 +210,5 @@ fn all_woven(alloc: Global, program: &Program, frames: &[Seq<Frame>]) -> Result<
 pub fn woven_methods(alloc: Global, typed: &Typed) -> Result<Methods, NoMemory>
     ensures { IfOk result (λ all. AllWoven typed.now.program typed.now.program.methods all.methods all.counted) }
 {
-    let program = &typed.program;
-    let frames = typed.frames.as_slice();
-    let all = all_woven(alloc, program, frames)?;
-    Ok(all)
+    all_woven(alloc, &typed.program, typed.frames.as_slice())
 }

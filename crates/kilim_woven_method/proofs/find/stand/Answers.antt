@@ -5,23 +5,28 @@ use Rattle.kilim_woven_pieces.specs.declared.item.Label.{Label}
 use Rattle.kilim_woven_pieces.specs.Items.{label_of}
 use Rattle.kilim_woven_pieces.specs.Places.{Tables}
 use Rattle.kilim_woven_method.specs.Found.{looked, or_first}
+use Rattle.kilim_woven_method.proofs.Outcomes.{on_ok}
 use Rattle.kilim_woven_method.proofs.Finding.{block_noted, old_noted}
 use Rattle.kilim_woven_method.proofs.find.stand.Goals as goal
 
-pub returns-in_ok-note-in-Old-clause-first : goal.returns-in_ok-note-in-Old-clause-first
-returns-in_ok-note-in-Old-clause-first c l =
+pub returns-in-Old-clause-first : goal.returns-in-Old-clause-first
+returns-in-Old-clause-first c =
     let a : Tables = record { old = c.places.inside.old.items; blocks = c.places.inside.blocks.items; end = c.places.inside.end } in
     let b : Tables = record a { old = c.note.new.table.items } in
     let v : c.args.places.now ≡ a = cc (c.places.view_is) in
-    subst (λ (t : Tables). looked b l ≡ or_first (looked t l) (if same_label l (label_of c.args.label) then Some t.end else None)) (sym v)
+    on_ok c.note.result
+    (λ noted l. subst (λ (t : Tables). looked b l ≡ or_first (looked t l) (if same_label l (label_of c.args.label) then Some t.end else None)) (sym v)
     (subst (λ (d : Label). looked b l ≡ or_first (looked a l) (if same_label l (label_of d) then Some a.end else None)) (sym c.in-Old.is)
-    (old_noted a c.note.new.table.items c.in-Old.place c.in_ok-note-in-Old.ensures l))
+    (old_noted a c.note.new.table.items c.in-Old.place noted l)))
+    c.note.ensures
 
-pub returns-in_ok-note-in-Resumes-clause-first : goal.returns-in_ok-note-in-Resumes-clause-first
-returns-in_ok-note-in-Resumes-clause-first c l =
+pub returns-in-Resumes-clause-first : goal.returns-in-Resumes-clause-first
+returns-in-Resumes-clause-first c =
     let a : Tables = record { old = c.places.inside.old.items; blocks = c.places.inside.blocks.items; end = c.places.inside.end } in
     let b : Tables = record a { blocks = c.note-in-Resumes.new.table.items } in
     let v : c.args.places.now ≡ a = cc (c.places.view_is) in
-    subst (λ (t : Tables). looked b l ≡ or_first (looked t l) (if same_label l (label_of c.args.label) then Some t.end else None)) (sym v)
+    on_ok c.note-in-Resumes.result
+    (λ noted l. subst (λ (t : Tables). looked b l ≡ or_first (looked t l) (if same_label l (label_of c.args.label) then Some t.end else None)) (sym v)
     (subst (λ (d : Label). looked b l ≡ or_first (looked a l) (if same_label l (label_of d) then Some a.end else None)) (sym c.in-Resumes.is)
-    (block_noted a c.note-in-Resumes.new.table.items c.in-Resumes.number c.in_ok-note-in-Resumes.ensures l))
+    (block_noted a c.note-in-Resumes.new.table.items c.in-Resumes.number noted l)))
+    c.note-in-Resumes.ensures

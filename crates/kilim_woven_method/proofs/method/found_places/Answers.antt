@@ -8,11 +8,11 @@ use Rattle.kilim_woven_method.proofs.Outcomes.{so_of}
 use Rattle.kilim_woven_method.proofs.Plans.{plan_found}
 use Rattle.kilim_woven_method.proofs.method.found_places.Goals as goal
 
-pub items_at-requires : goal.items_at-requires
-items_at-requires c = record { slots = c.requires.slots; flags = c.requires.flags; rising = c.requires.rising; listed = c.requires.listed }
+pub items_at-without-requires : goal.items_at-without-requires
+items_at-without-requires c = record { slots = c.requires.slots; flags = c.requires.flags; rising = c.requires.rising; listed = c.requires.listed }
 
-pub returns : goal.returns
-returns c =
+pub returns-in-Ok : goal.returns-in-Ok
+returns-in-Ok c =
     let x = plan_of c.args.program.now c.args.method.now (live_in c.args.live.now) (λ place. 0) (λ number. 0) in
     so_of c.places_of.result
     (λ places found. plan_found c.places_dont_matter.ensures x (at_in c.nowhere-first.result) (block_in c.nowhere-first.result) places (subst (λ (is : List form.Item). AreFound is places) c.in-Ok.ensures found))

@@ -5,13 +5,13 @@ use Rattle.kilim_woven_method.specs.Laid.{IsLaid}
 use Rattle.kilim_woven_method.proofs.Outcomes.{so_of}
 use Rattle.kilim_woven_method.proofs.method.laid_out.Goals as goal
 
-pub placed_items-requires : goal.placed_items-requires
-placed_items-requires c = record {
+pub placed_items-placed-requires : goal.placed_items-placed-requires
+placed_items-placed-requires c = record {
   slots = c.requires.slots;
   flags = subst (λ (bs : List Bool). AreDeclared c.args.method.now bs) (sym c.as_slice-flags.ensures.value) c.in-Ok.ensures;
   rising = c.requires.rising;
   listed = c.requires.listed;
 }
 
-pub returns : goal.returns
-returns c = so_of c.lay.result (λ laid so. subst (λ (is : List form.Item). IsLaid is laid) c.in-Ok-placed_items.ensures so) c.lay.ensures
+pub returns-in-Ok-placed : goal.returns-in-Ok-placed
+returns-in-Ok-placed c = so_of c.lay.result (λ laid so. subst (λ (is : List form.Item). IsLaid is laid) c.in-Ok-placed.ensures so) c.lay.ensures

@@ -6,8 +6,8 @@ use Rattle.kilim_woven_method.proofs.method.placed_items.Goals as goal
 pub found_places-requires : goal.found_places-requires
 found_places-requires c = record { slots = c.requires.slots; flags = c.requires.flags; rising = c.requires.rising; listed = c.requires.listed }
 
-pub items_at-requires : goal.items_at-requires
-items_at-requires c = record { slots = c.requires.slots; flags = c.requires.flags; rising = c.requires.rising; listed = c.requires.listed }
+pub items_at-items-requires : goal.items_at-items-requires
+items_at-items-requires c = record { slots = c.requires.slots; flags = c.requires.flags; rising = c.requires.rising; listed = c.requires.listed }
 
 pub returns : goal.returns
-returns c = items_by c.items_at.result _ (method_plan c.args.program.now c.args.method.now (live_in c.args.live.now)) c.in-Ok.ensures c.items_at.ensures
+returns c = items_by c.items_at-items.result _ (method_plan c.args.program.now c.args.method.now (live_in c.args.live.now)) c.in-Ok.ensures c.items_at-items.ensures

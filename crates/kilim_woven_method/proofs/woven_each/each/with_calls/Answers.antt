@@ -1,4 +1,5 @@
 use Rattle.kilim_liveness.specs.Table.{live_in}
+use Rattle.kilim_woven_method.proofs.Outcomes.{so_of}
 use Rattle.kilim_woven_method.proofs.woven_each.OfKind.{woven_by}
 use Rattle.kilim_woven_method.proofs.woven_each.each.with_calls.Goals as goal
 
@@ -8,9 +9,11 @@ code_rises-requires c = c.requires.there
 pub live-requires : goal.live-requires
 live-requires c = c.code_rises.ensures
 
-pub woven-requires : goal.woven-requires
-woven-requires c = record { rising = c.code_rises.ensures; listed = c.requires.listed }
+pub woven-pair-requires : goal.woven-pair-requires
+woven-pair-requires c = record { rising = c.code_rises.ensures; listed = c.requires.listed }
 
 pub returns : goal.returns
 returns c =
-    woven_by c.labels_are_found.ensures c.args.program.now c.keeps.ensures c.args.id c.args.method.now c.requires.there c.requires.pausable c.requires.calls (live_in c.in-Ok.table) c.in-Ok.ensures c.in-Ok-woven.pair c.in-Ok-woven.ensures
+    so_of c.woven-pair.result
+    (λ pair made. woven_by c.labels_are_found.ensures c.args.program.now c.keeps.ensures c.args.id c.args.method.now c.requires.there c.requires.pausable c.requires.calls (live_in c.in-Ok.table) c.in-Ok.ensures pair made)
+    c.woven-pair.ensures
