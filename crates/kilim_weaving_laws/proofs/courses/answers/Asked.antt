@@ -48,6 +48,22 @@ is_call (instr.Invokespecial m) = true
 is_call (instr.Invokestatic m) = true
 is_call i = false
 
+-- an instruction is a call of one of three kinds, or none
+pub data Seen (i : Instr) : Type 0 where
+  Virtual : (id : MethodId) → i ≡ instr.Invokevirtual id → Seen i
+  Special : (id : MethodId) → i ≡ instr.Invokespecial id → Seen i
+  Static : (id : MethodId) → i ≡ instr.Invokestatic id → Seen i
+  Other : is_call i ≡ false → Seen i
+
+pub seen : (i : Instr) → Seen i
+seen (instr.Invokevirtual id) = Virtual id refl
+seen (instr.Invokespecial id) = Special id refl
+seen (instr.Invokestatic id) = Static id refl
+seen i = Other refl
+
+stuck_asks : (c : MethodId) (args : List Value) (q : ℕ) (l s : List Value) (heap : Objects) → Stuck ≡ Asks c args q l s heap → ⊥
+stuck_asks c args q l s heap k = cc
+
 q_class : (p : Program) (v : Value) (heap : Objects) (go : Option Ty → Effect) → hushed (as_class p v heap go) ≡ as_class p v heap (λ o. hushed (go o))
 q_class p (Int x) heap go = refl
 q_class p (Long x) heap go = refl
@@ -133,10 +149,7 @@ module _ (p : Program) (h : Objects) where
   Asked e = Unit {0}
 
   asked_quiet : (e : Effect) → hushed e ≡ e → Asked e
-  asked_quiet (Asks c args q l s heap) k = absurd (stuck k)
-    where
-      stuck : Stuck ≡ Asks c args q l s heap → ⊥
-      stuck k = absurd (cc)
+  asked_quiet (Asks c args q l s heap) k = absurd (stuck_asks c args q l s heap k)
   asked_quiet (Goes q l s heap) k = tt
   asked_quiet (Makes o q l s heap) k = tt
   asked_quiet (Opens q l s heap) k = tt
@@ -355,9 +368,12 @@ module _ (p : Program) (keeps : Keeps p) (form : p.form ≡ Plain) (of : Classes
     missing : (i : Instr) → by_row p own at (static_row own None) f ≡ Ok g → Asked p h (does p own i to l s h)
     missing i e = absurd (false≢true (takes_inverse p own at [] [] (needs 8 false ∷ []) f g e).also_hold.0)
 
-    pub rows : (i : Instr) → type_step p own at i f ≡ Ok g → Receives p i s h → Asked p h (does p own i to l s h)
+    abbrev Row : Instr → Type 0
+    Row i = type_step p own at i f ≡ Ok g → Receives p i s h → Asked p h (does p own i to l s h)
+
+    virtual_rows : (id : MethodId) → Row (instr.Invokevirtual id)
     unfolding row
-    rows (instr.Invokevirtual id) step receives = by (method_at p id) refl step
+    virtual_rows id step receives = by (method_at p id) refl step
       where
         by : (o : Option Method) → method_at p id ≡ o → by_row p own at (virtual_row own o) f ≡ Ok g → Asked p h (does p own (instr.Invokevirtual id) to l s h)
         by None there e = missing (instr.Invokevirtual id) e
@@ -366,14 +382,20 @@ module _ (p : Program) (keeps : Keeps p) (form : p.form ≡ Plain) (of : Classes
             let eight = (and_parts (not named.is_static && may_name own named.is_private named.owner) true a.0).0 in
             let instance = not-true named.is_static (and_parts (not named.is_static) (may_name own named.is_private named.owner) eight).0 in
             virtual_asks id named there instance (not-true (is_constructor named) (and_parts (not (is_constructor named)) true a.1.0).0) receives
-    rows (instr.Invokestatic id) step receives = by (method_at p id) refl step
+
+    static_rows : (id : MethodId) → Row (instr.Invokestatic id)
+    unfolding row
+    static_rows id step receives = by (method_at p id) refl step
       where
         by : (o : Option Method) → method_at p id ≡ o → by_row p own at (static_row own o) f ≡ Ok g → Asked p h (does p own (instr.Invokestatic id) to l s h)
         by None there e = missing (instr.Invokestatic id) e
         by (Some named) there e =
             let a = (takes_inverse p own at (arguments named) (result_types named.result) (static_rules own named) f g e).also_hold in
             static_asks id named there (and_parts named.is_static (may_name own named.is_private named.owner) (and_parts (named.is_static && may_name own named.is_private named.owner) true a.0).0).0
-    rows (instr.Invokespecial id) step receives = by (method_at p id) refl step
+
+    special_rows : (id : MethodId) → Row (instr.Invokespecial id)
+    unfolding row
+    special_rows id step receives = by (method_at p id) refl step
       where
         special_by_kind : (named : Method) → method_at p id ≡ Some named → (z : Bool) → is_constructor named ≡ z → by_row p own at (special_by z p own id named) f ≡ Ok g → Asked p h (does p own (instr.Invokespecial id) to l s h)
         special_by_kind named there true con e = constructs mid owned coded id named there con
@@ -385,4 +407,12 @@ module _ (p : Program) (keeps : Keeps p) (form : p.form ≡ Plain) (of : Classes
         by : (o : Option Method) → method_at p id ≡ o → by_row p own at (special_row p own id o) f ≡ Ok g → Asked p h (does p own (instr.Invokespecial id) to l s h)
         by None there e = missing (instr.Invokespecial id) e
         by (Some named) there e = special_by_kind named there (is_constructor named) refl e
-    rows i step receives = asked_quiet p h (does p own i to l s h) (quiet p own to l s h i refl)
+
+    pub rows : (i : Instr) → type_step p own at i f ≡ Ok g → Receives p i s h → Asked p h (does p own i to l s h)
+    rows i = by (seen i)
+      where
+        by : Seen i → Row i
+        by (Virtual id e) = subst Row (sym e) (virtual_rows id)
+        by (Static id e) = subst Row (sym e) (static_rows id)
+        by (Special id e) = subst Row (sym e) (special_rows id)
+        by (Other k) = λ step receives. asked_quiet p h (does p own i to l s h) (quiet p own to l s h i k)

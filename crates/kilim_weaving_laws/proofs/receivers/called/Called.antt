@@ -37,7 +37,7 @@ use Rattle.kilim_classes.specs.machine.Machine.{Objects}
 use Rattle.kilim_classes.specs.machine.Natives.{is_built_in_constructor, is_handed_out, is_text_method}
 use Rattle.kilim_typing.specs.Step.{Is, Types, arguments, by_row, class_vtype, may_name, needs, peek, result_types, row, special_by, special_fits, special_row, special_rules, static_row, static_rules, type_step, virtual_row, virtual_rules}
 use Rattle.kilim_typing.specs.typing_laws.Laws.{typing_at}
-use Rattle.kilim_weaving_laws.proofs.courses.answers.Asked.{quiet}
+use Rattle.kilim_weaving_laws.proofs.courses.answers.Asked.{Other, Seen, Special, Static, Virtual, quiet, seen}
 use Rattle.kilim_weaving_laws.specs.receivers.called.Law.{Boundary, Target, class_named, is_object}
 use Rattle.kilim_typing.specs.woven_form.Woven.{first_of, taken}
 use Rattle.kilim_woven_runs.proofs.alike.Lands.{hushed, q_if, q_index, q_int, q_object, q_receiver, q_some, q_value, q_when}
@@ -144,6 +144,9 @@ abbrev pub CallsFrom : Program → Classes → MethodId → Effect → Type 0
 CallsFrom p of m (Calls c args q l2 s2 k) = is_pausable p c ≡ true → Boundary p of c (self_of p c args) m q l2 s2
 CallsFrom p of m e = Unit {0}
 
+stuck_calls : (c : MethodId) (args : List Value) (q : ℕ) (l s : List Value) (k : Objects) → Stuck ≡ Calls c args q l s k → ⊥
+stuck_calls c args q l s k e = cc
+
 instances_of : (p : Program) (of : Classes) (d : ℕ) (b : Base) (o : HeapObject) → ContentFits p of d b o → has_instances p d b ≡ true
 instances_of p of zero (base.Class c) o e = (and_parts _ _ e.0).0
 instances_of p of (suc d) b o e = refl
@@ -175,10 +178,7 @@ module _ (p : Program) (keeps : Keeps p) (form : p.form ≡ Plain) (of : Classes
       (r.0, subst (λ (k : ℕ). have_types p own of (drop k (t ∷ ts)) rest ≡ true) (sym z) r.1)
 
   from_quiet : (e : Effect) → hushed e ≡ e → CallsFrom p of m e
-  from_quiet (Calls c args q l2 s2 k) e = absurd (stuck e)
-    where
-      stuck : Stuck ≡ Calls c args q l2 s2 k → ⊥
-      stuck e = absurd (cc)
+  from_quiet (Calls c args q l2 s2 k) e = absurd (stuck_calls c args q l2 s2 k e)
   from_quiet (Asks c args q l2 s2 k) e = tt
   from_quiet (Goes q l2 s2 k) e = tt
   from_quiet (Makes o q l2 s2 k) e = tt
@@ -365,9 +365,12 @@ module _ (p : Program) (keeps : Keeps p) (form : p.form ≡ Plain) (of : Classes
   missing : (g : Types) {A : Type 0} → by_row p own at (static_row own None) (typing_at p m at) ≡ Ok g → A
   missing g e = absurd (false≢true (takes_inverse p own at [] [] (needs 8 false ∷ []) (typing_at p m at) g e).also_hold.0)
 
-  pub calls_from : (g : Types) (i : Instr) (f : fetch p m at ≡ Some (i, to)) → type_step p own at i (typing_at p m at) ≡ Ok g → Receives p i s h → CallsFrom p of m (does p own i to l s h)
+  abbrev Row : Types → Instr → Type 0
+  Row g i = fetch p m at ≡ Some (i, to) → type_step p own at i (typing_at p m at) ≡ Ok g → Receives p i s h → CallsFrom p of m (does p own i to l s h)
+
+  virtual_calls : (g : Types) (id : MethodId) → Row g (instr.Invokevirtual id)
   unfolding row
-  calls_from g (instr.Invokevirtual id) f step receives = by (method_at p id) refl step
+  virtual_calls g id f step receives = by (method_at p id) refl step
     where
       kinds : (named : Method) → method_at p id ≡ Some named → named.is_static ≡ false → is_constructor named ≡ false → (z : Bool) → is_text_method p named ≡ z → CallsFrom p of m (does p own (instr.Invokevirtual id) to l s h)
       kinds named named_there instance plain true text = text_quiet id named named_there text f
@@ -379,14 +382,20 @@ module _ (p : Program) (keeps : Keeps p) (form : p.form ≡ Plain) (of : Classes
           let a = (takes_inverse p own at (arguments named ++ (Is (class_vtype named.owner) ∷ [])) (result_types named.result) (virtual_rules own named) (typing_at p m at) g e).also_hold in
           let eight = (and_parts (not named.is_static && may_name own named.is_private named.owner) true a.0).0 in
           kinds named named_there (not-true named.is_static (and_parts (not named.is_static) (may_name own named.is_private named.owner) eight).0) (not-true (is_constructor named) (and_parts (not (is_constructor named)) true a.1.0).0) (is_text_method p named) refl
-  calls_from g (instr.Invokestatic id) f step receives = by (method_at p id) refl step
+
+  static_calls : (g : Types) (id : MethodId) → Row g (instr.Invokestatic id)
+  unfolding row
+  static_calls g id f step receives = by (method_at p id) refl step
     where
       by : (o : Option Method) → method_at p id ≡ o → by_row p own at (static_row own o) (typing_at p m at) ≡ Ok g → CallsFrom p of m (does p own (instr.Invokestatic id) to l s h)
       by None named_there e = missing g e
       by (Some named) named_there e =
           let a = (takes_inverse p own at (arguments named) (result_types named.result) (static_rules own named) (typing_at p m at) g e).also_hold in
           static_from id named named_there (and_parts named.is_static (may_name own named.is_private named.owner) (and_parts (named.is_static && may_name own named.is_private named.owner) true a.0).0).0 f
-  calls_from g (instr.Invokespecial id) f step receives = by (method_at p id) refl step
+
+  special_calls : (g : Types) (id : MethodId) → Row g (instr.Invokespecial id)
+  unfolding row
+  special_calls g id f step receives = by (method_at p id) refl step
     where
       kinds : (named : Method) → method_at p id ≡ Some named → (z : Bool) → is_constructor named ≡ z → by_row p own at (special_by z p own id named) (typing_at p m at) ≡ Ok g → CallsFrom p of m (does p own (instr.Invokespecial id) to l s h)
       kinds named named_there true con e = constructs_from id named named_there con
@@ -400,4 +409,12 @@ module _ (p : Program) (keeps : Keeps p) (form : p.form ≡ Plain) (of : Classes
       by : (o : Option Method) → method_at p id ≡ o → by_row p own at (special_row p own id o) (typing_at p m at) ≡ Ok g → CallsFrom p of m (does p own (instr.Invokespecial id) to l s h)
       by None named_there e = missing g e
       by (Some named) named_there e = kinds named named_there (is_constructor named) refl e
-  calls_from g i f step receives = from_quiet (does p own i to l s h) (quiet p own to l s h i refl)
+
+  pub calls_from : (g : Types) (i : Instr) (f : fetch p m at ≡ Some (i, to)) → type_step p own at i (typing_at p m at) ≡ Ok g → Receives p i s h → CallsFrom p of m (does p own i to l s h)
+  calls_from g i = by (seen i)
+    where
+      by : Seen i → Row g i
+      by (Virtual id e) = subst (Row g) (sym e) (virtual_calls g id)
+      by (Static id e) = subst (Row g) (sym e) (static_calls g id)
+      by (Special id e) = subst (Row g) (sym e) (special_calls g id)
+      by (Other k) = λ f step receives. from_quiet (does p own i to l s h) (quiet p own to l s h i k)

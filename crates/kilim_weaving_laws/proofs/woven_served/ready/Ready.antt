@@ -2,6 +2,7 @@
 use Rattle.std.proofs.Common.{◌≡◌, ◌≢◌, inl, ℕ, zero, suc, Bool, true, false, List, [], ◌∷◌, Option, Some, None, refl, sym, ap, subst, ◌∙◌}
 use Rattle.std.specs.Prelude.{slice_get}
 use Rattle.std.proofs.lemmas.Bool.{and_from, and_parts, false≢true}
+use Rattle.std.proofs.lemmas.Option.{none-some}
 use Rattle.kilim_classes.specs.declared.class.Method.{Method}
 use Rattle.kilim_classes.specs.declared.instr.Instr.{Instr}
 use Rattle.kilim_classes.specs.declared.instr.Instr.TheVariants as instr
@@ -67,10 +68,7 @@ unfolding ends_path jump_targets
 live_before p (instr.Invokevirtual id) callee own q to j hp f live = GoesOn q to to (instr.Invokevirtual id) f refl (inl refl) live
 live_before p (instr.Invokespecial id) callee own q to j hp f live = GoesOn q to to (instr.Invokespecial id) f refl (inl refl) live
 live_before p (instr.Invokestatic id) callee own q to j hp f live = GoesOn q to to (instr.Invokestatic id) f refl (inl refl) live
-live_before p i callee own q to j hp f live = absurd (none hp)
-  where
-    none : None ≡ Some callee → ⊥
-    none e = cc
+live_before p i callee own q to j hp f live = absurd (none-some callee hp)
 
 -- ---- what `get` and `yield` take, where the thread isn't lost
 
