@@ -22,11 +22,12 @@ use Rattle.kilim_woven_fiber.specs.declared.operands.Operands.TheVariants as cop
 use Rattle.kilim_woven_fiber.specs.Comes.{CanAsk, IsGivenBy, GiftIs, IsGift, Comes, gives_result}
 use Rattle.kilim_woven_runs.specs.Fibers.{Fib, Fiber_at, Saved, member_does}
 use Rattle.kilim_woven_runs.specs.fiber_records.Members.{Did, NotDone, Does, did}
-use Rattle.kilim_woven_runs.specs.fiber_records.natives.Natives.{meaning}
+use Rattle.kilim_woven_runs.specs.fiber_records.natives.Natives.{meaning, member_meant}
 use Rattle.kilim_woven_fiber.specs.declared.body.Body.{Body}
 use Rattle.kilim_woven_fiber.specs.declared.body.Came.{Came}
 use Rattle.kilim_woven_fiber.specs.declared.gifts.Gift.{Gift}
 use Rattle.kilim_woven_fiber.specs.declared.gifts.Gift.TheVariants as gift
+use Rattle.kilim_woven_runs.specs.declared.fiber_records.natives.natives.Member.{Member}
 use Rattle.kilim_woven_runs.specs.declared.fiber_records.natives.natives.Native.{Native}
 use Rattle.kilim_woven_runs.specs.declared.fiber_records.natives.natives.Native.TheVariants as code
 
@@ -110,6 +111,10 @@ member_by member args f g v l e is = goes_by member args l.fiber (ap (did member
 
     goes_by : (member : native.FiberMember) (args : List Value) (f : Fib) → did member args f ≡ Does g v → member_does Stands (λ h w. Goes (record l { fiber = h; frames = push_result w l.frames })) member args f ≡ Goes (record l { fiber = g; frames = push_result v l.frames })
     goes_by member args f e = sym (same member args f) ∙ ap does e
+
+-- its result, where the member is known
+pub result_by : (m known : Member) (f g : Fib) (v w : Value) → m ≡ known → did (member_meant known) (Fiber ∷ []) f ≡ Does g (Some v) → v ≡ w → did (member_meant m) (Fiber ∷ []) f ≡ Does g (Some w)
+result_by m known f g v w is done same = ap (λ (z : Member). did (member_meant z) (Fiber ∷ []) f) is ∙ (done ∙ ap (λ (z : Value). Does g (Some z)) same)
 
 -- one with a result has room for it
 pub gives_by : (member : native.FiberMember) (f g : Fib) (v : Value) → did member (Fiber ∷ []) f ≡ Does g (Some v) → gives_result (Some (native.OfFiber member)) ≡ true

@@ -2,3 +2,4 @@ pub mod Roots
 pub mod Asking
 pub mod Reaching
 pub mod Going
+pub mod Rewinding

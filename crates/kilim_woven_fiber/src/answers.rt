@@ -78,7 +78,9 @@ pub fn take(
     requires counts { body.old.count + 1 < 2 ^ 64 }
     ensures { IfOk result (λ shape. HasTaken plain.now program.now body.old body.new tree shape) }
 {
-    let (shape, root) = tree_comes(plain, tree, body)?;
+    let Ok((shape, root)) = tree_comes(plain, tree, body) else {
+        return Err(NoMemory);
+    };
     body.records.end_rewinding(alloc);
     go_on_with(program, body, Value::Ref(root));
     Ok(shape)
@@ -97,7 +99,9 @@ pub fn found(
     requires counts { body.old.count + 1 < 2 ^ 64 }
     ensures { IfOk result (λ shape. HasFound plain.now program.now body.old body.new tree shape) }
 {
-    let (shape, root) = tree_comes(plain, tree, body)?;
+    let Ok((shape, root)) = tree_comes(plain, tree, body) else {
+        return Err(NoMemory);
+    };
     go_on_with(program, body, Value::Ref(root));
     Ok(shape)
 }

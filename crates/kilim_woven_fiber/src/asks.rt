@@ -480,8 +480,12 @@ fn ask_other(
     let Some(frames) = &body.frames else {
         unreachable!()
     };
-    let operands = copy_operands(frames)?;
-    ask_with(alloc, plain, program, limits, native, &operands, body)
+    let Ok(operands) = copy_operands(frames) else {
+        return Err(NoMemory);
+    };
+    let asked = ask_with(alloc, plain, program, limits, native, &operands, body);
+    drop(operands);
+    asked
 }
 
 /// A built-in method that is called. A call that no verified code makes is answered want of memory.

@@ -25,7 +25,9 @@ pub fn frames_with(
     ensures frames { IfOk result (λ frames. calls_of frames ≡ entered program.now id args.items ∷ []) }
     ensures roomy { IfOk result (λ frames. AreRoomy program.now frames) }
 {
-    let top = new_frame(alloc, program, id, args)?;
+    let Ok(top) = new_frame(alloc, program, id, args) else {
+        return Err(NoMemory);
+    };
     Ok(Frames {
         top,
         below: Callers::new(alloc),

@@ -1,6 +1,11 @@
 //! What a fiber runs: its frames, or its records where it rests, its heap and its counts. It runs up to the next thing that it wants.
 
-ghost use Rattle.std.specs.Prelude.{◌≡◌, ◌<◌, ◌+◌, ◌^◌, ℕ, None, Some, IfOk, IfSome, OnOk};
+ghost use Rattle.std.specs.Prelude.{◌≡◌, ◌<◌, ◌+◌, ◌^◌, ◌∷◌, [], ℕ, None, Some, IfOk, IfSome, OnOk};
+ghost use Rattle.kilim_classes.specs.declared.names.MethodId.{MethodId};
+ghost use Rattle.kilim_classes.specs.declared.value.Value.TheVariants as a_value;
+ghost use Rattle.kilim_classes.specs.machine.Moves.{entered};
+ghost use Rattle.kilim_machine_parts.specs.frames.Calls.{calls_of};
+ghost use Rattle.kilim_jvm_interp.specs.Step.{AreRoomy};
 ghost use Rattle.kilim_thread_model.specs.State.{Setting};
 ghost use Rattle.kilim_woven_runs.specs.Fibers.{executes_on, first_receiver};
 ghost use Rattle.kilim_weaving_laws.specs.woven_kin.Nexts.{finish_next, opens_next, resumes_next, ticked};
@@ -116,7 +121,7 @@ pub(crate) fn leave(
     match begun_on(alloc, program, method, name) {
         Ok(None) => Ok(Came::Ends(EndCause::Done)),
         Ok(Some(frames)) => {
-            body.frames = Some(frames);
+            stand_at(frames, body);
             body.kept = None;
             body.count += 1;
             Ok(Came::On)
@@ -156,6 +161,34 @@ fn execute_for(code: &Code, heap: &Heap, receiver: &Value) -> Option<MethodId>
     code.execute(class)
 }
 
+// The frames of the method `execute` of a receiver, which is handed the fiber.
+fn execute_frames(
+    alloc: Global,
+    code: &Code,
+    heap: &Heap,
+    receiver: Value,
+) -> Result<Frames, NoMemory>
+    requires { ReceiverThere heap.now receiver }
+    ensures frames { IfOk result (λ frames. (method : MethodId) × (executes_on code.now.program heap.now receiver ≡ Some method) × (calls_of frames ≡ entered code.now.program method (receiver ∷ a_value.Fiber ∷ []) ∷ [])) }
+    ensures roomy { IfOk result (λ frames. AreRoomy code.now.program frames) }
+{
+    let Some(method) = execute_for(code, heap, &receiver) else {
+        drop(receiver);
+        return Err(NoMemory);
+    };
+    let Ok(args) = receiver_with_fiber(alloc, receiver) else {
+        return Err(NoMemory);
+    };
+    frames_with(alloc, &code.program, method, args)
+}
+
+// It stands at these frames.
+fn stand_at(frames: Frames, body: &mut Body)
+    ensures { body.new ≡ record body.old { frames = Some frames } }
+{
+    body.frames = Some(frames);
+}
+
 /// Where it rests it goes on with `execute`, and rewinds.
 pub(crate) fn rewind(alloc: Global, code: &Code, body: &mut Body) -> Result<Came, NoMemory>
     requires there { ReceiverThere body.old.heap (first_receiver body.old.records) }
@@ -167,16 +200,10 @@ pub(crate) fn rewind(alloc: Global, code: &Code, body: &mut Body) -> Result<Came
     let Ok(receiver) = body.records.first_receiver() else {
         return Err(NoMemory);
     };
-    let Some(method) = execute_for(code, &body.heap, &receiver) else {
+    let Ok(frames) = execute_frames(alloc, code, &body.heap, receiver) else {
         return Err(NoMemory);
     };
-    let Ok(args) = receiver_with_fiber(alloc, receiver) else {
-        return Err(NoMemory);
-    };
-    let Ok(frames) = frames_with(alloc, &code.program, method, args) else {
-        return Err(NoMemory);
-    };
-    body.frames = Some(frames);
+    stand_at(frames, body);
     body.records.resume();
     Ok(Came::On)
 }

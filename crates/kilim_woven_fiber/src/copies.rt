@@ -11,6 +11,8 @@ pub fn copy(alloc: Global, shape: &Shape) -> Result<Shape, NoMemory>
     ensures { IfOk result (λ copy. copy ≡ shape.now) }
 {
     let _ = alloc;
-    let copy = shape.clone()?;
+    let Ok(copy) = shape.clone() else {
+        return Err(NoMemory);
+    };
     Ok(copy)
 }

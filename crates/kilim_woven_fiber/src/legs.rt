@@ -49,7 +49,7 @@ fn go(
     let Some(frames) = &mut body.frames else {
         unreachable!()
     };
-    let ran = run_counted(
+    let Ok(ran) = run_counted(
         alloc,
         &code.program,
         &code.counted,
@@ -58,7 +58,9 @@ fn go(
         frames,
         &mut body.heap,
         limits.steps - body.count,
-    )?;
+    ) else {
+        return Err(NoMemory);
+    };
     body.count += ran.steps;
     Ok((counts_by(ran.mark, live), ran.halted))
 }
@@ -83,7 +85,9 @@ fn leg(
     let Some(_) = &body.frames else {
         return rewind(alloc, code, body);
     };
-    let gone = go(alloc, code, limits, main, task, body)?;
+    let Ok(gone) = go(alloc, code, limits, main, task, body) else {
+        return Err(NoMemory);
+    };
     if body.count == u64::MAX {
         return Err(NoMemory);
     }

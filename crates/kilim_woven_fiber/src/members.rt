@@ -98,7 +98,9 @@ fn ask_alone(
     ensures count { OnOk result (body.new.count ≡ body.old.count) }
     ensures room { IfOk result (λ came. HasRoomFor program.now body.new came) }
 {
-    let value = result_of(alloc, member, &mut body.records)?;
+    let Ok(value) = result_of(alloc, member, &mut body.records) else {
+        return Err(NoMemory);
+    };
     pass_with(program, body, value);
     Ok(Came::On)
 }
@@ -118,7 +120,9 @@ fn save(program: &Program, body: &mut Body) -> Result<Came, NoMemory>
     let Some(value) = take_value(program, frames) else {
         return Err(NoMemory);
     };
-    body.records.save(value)?;
+    let Ok(()) = body.records.save(value) else {
+        return Err(NoMemory);
+    };
     Ok(Came::On)
 }
 

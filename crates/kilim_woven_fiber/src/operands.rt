@@ -24,7 +24,9 @@ fn operand(frames: &Frames, depth: usize) -> Result<Value, NoMemory>
     requires { depth < length frames.now.top.stack.values }
     ensures { IfOk result (λ value. slice_get frames.now.top.stack.values depth ≡ Some value) }
 {
-    let copy = frames.top.stack.peek(depth).clone()?;
+    let Ok(copy) = frames.top.stack.peek(depth).clone() else {
+        return Err(NoMemory);
+    };
     Ok(copy)
 }
 
@@ -90,7 +92,7 @@ pub fn take_value(program: &Program, frames: &mut Frames) -> Option<Value>
     if !has_last(frames, 2) {
         return None;
     }
-    let _fiber = frames.top.stack.pop();
+    frames.top.stack.drop_top(1);
     let value = frames.top.stack.pop();
     frames.top.pc = frames.next;
     Some(value)
@@ -122,9 +124,9 @@ pub fn take_place(program: &Program, frames: &mut Frames) -> Option<(u32, Value)
     let Some(number) = number_of(frames.top.stack.peek(2)) else {
         return None;
     };
-    let _fiber = frames.top.stack.pop();
+    frames.top.stack.drop_top(1);
     let receiver = frames.top.stack.pop();
-    let _number = frames.top.stack.pop();
+    frames.top.stack.drop_top(1);
     frames.top.pc = frames.next;
     Some((number, receiver))
 }

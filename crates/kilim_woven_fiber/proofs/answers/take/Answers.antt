@@ -8,8 +8,8 @@ use Rattle.kilim_woven_fiber.proofs.answers.take.Goals as goal
 pub returns : goal.returns
 returns c = record {
   mid = c.tree_comes.new.body;
-  root = c.in_ok-shape.root;
-  received = c.in_ok-shape.ensures;
-  stands = c.go_on_with.ensures.stands ∙ ap (λ (f : Fib). with_result (Some (Ref c.in_ok-shape.root)) (record (counted (behind_at 0 c.tree_comes.new.body)) { fiber = f })) c.end_rewinding.ensures;
+  root = c.in-Ok.root;
+  received = c.in-Ok.ensures;
+  stands = c.go_on_with.ensures.stands ∙ ap (λ (f : Fib). with_result (Some (Ref c.in-Ok.root)) (record (counted (behind_at 0 c.tree_comes.new.body)) { fiber = f })) c.end_rewinding.ensures;
   roomy = c.go_on_with.ensures.roomy;
 }

@@ -20,8 +20,14 @@ returns-in-OfFiber-clause-comes c = λ set is-program is-limits.
 pub ask_other-requires-clause-can : goal.ask_other-requires-clause-can
 ask_other-requires-clause-can c = known_by c.args.code.now.plain c.args.code.now.program c.args.body.now (operands_in c.args.body.now.frames) (native_of c.args.code.now.program c.args.method) (meaning c.in-Some.native) c.in-Some.ensures c.requires.can
 
-pub returns-in_default-native-clause-comes : goal.returns-in_default-native-clause-comes
-returns-in_default-native-clause-comes c = λ set is-program is-limits.
-    come_by 0 c.ask_other.new.body c.ask_other.result _ _
-    (asked_same set (behind_at 0 c.args.body.now) (operands_in c.args.body.now.frames) (native_of c.args.code.now.program c.args.method) (meaning c.in-Some.native) c.in-Some.ensures)
-    (c.ask_other.ensures.comes set is-program is-limits)
+pub returns-in_default-native : goal.returns-in_default-native
+returns-in_default-native c = record {
+  comes =
+      λ set is-program is-limits.
+      come_by 0 c.ask_other.new.body c.ask_other.result _ _
+      (asked_same set (behind_at 0 c.args.body.now) (operands_in c.args.body.now.frames) (native_of c.args.code.now.program c.args.method) (meaning c.in-Some.native) c.in-Some.ensures)
+      (c.ask_other.ensures.comes set is-program is-limits);
+  roomy = c.ask_other.ensures.roomy;
+  counted = c.ask_other.ensures.counted;
+  room = c.ask_other.ensures.room;
+}

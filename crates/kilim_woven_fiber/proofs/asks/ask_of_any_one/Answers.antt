@@ -6,6 +6,12 @@ use Rattle.kilim_woven_runs.specs.fiber_records.natives.Natives.{meaning}
 use Rattle.kilim_woven_fiber.proofs.Asking.{come_by}
 use Rattle.kilim_woven_fiber.proofs.asks.ask_of_any_one.Goals as goal
 
-pub returns-in-Fiber-clause-comes : goal.returns-in-Fiber-clause-comes
-returns-in-Fiber-clause-comes c = λ set is-program is-limits.
-    come_by 0 c.ask_of_fiber.new.body c.ask_of_fiber.result _ _ (ap (λ (v : Value). native_next set (behind_at 0 c.args.body.now) (meaning c.args.native) (v ∷ [])) (sym c.in-Fiber.is)) (c.ask_of_fiber.ensures.comes set is-program)
+pub returns-in-Fiber : goal.returns-in-Fiber
+returns-in-Fiber c = record {
+  comes =
+      λ set is-program is-limits.
+      come_by 0 c.ask_of_fiber.new.body c.ask_of_fiber.result _ _ (ap (λ (v : Value). native_next set (behind_at 0 c.args.body.now) (meaning c.args.native) (v ∷ [])) (sym c.in-Fiber.is)) (c.ask_of_fiber.ensures.comes set is-program);
+  roomy = c.ask_of_fiber.ensures.roomy;
+  counted = c.ask_of_fiber.ensures.counted;
+  room = c.ask_of_fiber.ensures.room;
+}

@@ -7,6 +7,7 @@ use Rattle.kilim_classes.specs.machine.Trees.{OfTask}
 use Rattle.kilim_thread_model.specs.Kept.{given}
 use Rattle.kilim_weaving_laws.specs.woven_kin.Nexts.{start_next}
 use Rattle.kilim_woven_fiber.specs.Body.{behind_at}
+use Rattle.kilim_woven_fiber.specs.Comes.{gives_result}
 use Rattle.kilim_woven_runs.specs.fiber_records.natives.Natives.{meaning}
 use Rattle.kilim_woven_runs.specs.declared.fiber_records.natives.natives.Native.{Native}
 use Rattle.kilim_woven_runs.specs.declared.fiber_records.natives.natives.Native.TheVariants as code
@@ -19,10 +20,25 @@ start-requires-clause-gives c =
     (ap (λ (n : Native). given (Some (meaning n)) (c.args.value.now ∷ [])) c.in-Start-Ref.is-0
     ∙ ap (λ (v : Value). given (Some native.Start) (v ∷ [])) c.in-Start-Ref.is-1)
 
-pub returns-in-Start-Ref-clause-comes : goal.returns-in-Start-Ref-clause-comes
-returns-in-Start-Ref-clause-comes c = λ set is-program is-limits.
-    let l = behind_at 0 c.args.body.now in
-    come_by 0 c.start.new.body c.start.result _ _
-    (ap (λ (p : Program). start_next l c.in-Start-Ref.root (shape_of p l.heap c.in-Start-Ref.root)) (sym is-program)
-    ∙ native_same set l c.args.native code.Start (c.args.value.now ∷ []) _ c.in-Start-Ref.is-0 (ap (λ (v : Value). v ∷ []) c.in-Start-Ref.is-1))
-    c.start.ensures.comes
+pub returns-in-Start-Ref : goal.returns-in-Start-Ref
+returns-in-Start-Ref c = record {
+  comes =
+      λ set is-program is-limits.
+      let l = behind_at 0 c.args.body.now in
+      come_by 0 c.start.new.body c.start.result _ _
+      (ap (λ (p : Program). start_next l c.in-Start-Ref.root (shape_of p l.heap c.in-Start-Ref.root)) (sym is-program)
+      ∙ native_same set l c.args.native code.Start (c.args.value.now ∷ []) _ c.in-Start-Ref.is-0 (ap (λ (v : Value). v ∷ []) c.in-Start-Ref.is-1))
+      c.start.ensures.comes;
+  roomy = c.start.ensures.roomy;
+  counted = c.start.ensures.counted;
+  room = c.start.ensures.room;
+}
+
+pub returns-in-Getnb-Box-clause-comes : goal.returns-in-Getnb-Box-clause-comes
+returns-in-Getnb-Box-clause-comes c = λ set is-program is-limits. sym (native_same set (behind_at 0 c.args.body.now) c.args.native code.Getnb (c.args.value.now ∷ []) _ c.in-Getnb-Box.is-0 (ap (λ (v : Value). v ∷ []) c.in-Getnb-Box.is-1))
+
+pub returns-in-Getnb-Box-clause-room : goal.returns-in-Getnb-Box-clause-room
+returns-in-Getnb-Box-clause-room c = c.requires.can.room (ap (λ (n : Native). gives_result (Some (meaning n))) c.in-Getnb-Box.is-0)
+
+pub arg-requires-clause-room : goal.arg-requires-clause-room
+arg-requires-clause-room c = c.requires.can.room (ap (λ (n : Native). gives_result (Some (meaning n))) c.in-Arg-Int.is-0)

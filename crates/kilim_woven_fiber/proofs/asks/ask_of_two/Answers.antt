@@ -10,10 +10,16 @@ use Rattle.kilim_woven_fiber.proofs.asks.ask_of_two.Goals as goal
 pub put-requires-clause-gives : goal.put-requires-clause-gives
 put-requires-clause-gives c = put_given c.args.plain.now c.args.program.now c.args.body.now c.args.native c.in-Put-Box.mailbox c.args.first.now c.args.second.now c.in-Put-Box.is-0 c.in-Put-Box.is-1 c.requires.can
 
-pub returns-in-Put-Box-clause-comes : goal.returns-in-Put-Box-clause-comes
-returns-in-Put-Box-clause-comes c = λ set is-program.
-    let l = behind_at 0 c.args.body.now in
-    come_by 0 c.put.new.body c.put.result _ _
-    (ap (λ (p : Program). message_next p l c.in-Put-Box.mailbox c.args.second.now) (sym is-program)
-    ∙ native_same set l c.args.native code.Put (c.args.first.now ∷ c.args.second.now ∷ []) _ c.in-Put-Box.is-0 (ap (λ (v : Value). v ∷ c.args.second.now ∷ []) c.in-Put-Box.is-1))
-    c.put.ensures.comes
+pub returns-in-Put-Box : goal.returns-in-Put-Box
+returns-in-Put-Box c = record {
+  comes =
+      λ set is-program.
+      let l = behind_at 0 c.args.body.now in
+      come_by 0 c.put.new.body c.put.result _ _
+      (ap (λ (p : Program). message_next p l c.in-Put-Box.mailbox c.args.second.now) (sym is-program)
+      ∙ native_same set l c.args.native code.Put (c.args.first.now ∷ c.args.second.now ∷ []) _ c.in-Put-Box.is-0 (ap (λ (v : Value). v ∷ c.args.second.now ∷ []) c.in-Put-Box.is-1))
+      c.put.ensures.comes;
+  roomy = c.put.ensures.roomy;
+  counted = c.put.ensures.counted;
+  room = c.put.ensures.room;
+}

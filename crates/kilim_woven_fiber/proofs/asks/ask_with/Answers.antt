@@ -8,28 +8,46 @@ pub ask_of_none-requires-clause-can : goal.ask_of_none-requires-clause-can
 ask_of_none-requires-clause-can c =
     with_args c.args.plain.now c.args.program.now c.args.body.now (operands_in c.args.body.now.frames) [] (meaning c.args.native) (told_none (operands_in c.args.body.now.frames) c.args.operands.now c.in-None.is c.requires.operands) c.requires.can
 
-pub returns-in-None-clause-comes : goal.returns-in-None-clause-comes
-returns-in-None-clause-comes c = λ set is-program is-limits.
-    come_by 0 c.ask_of_none.new.body c.ask_of_none.result _ _
-    (args_same set (behind_at 0 c.args.body.now) (meaning c.args.native) (operands_in c.args.body.now.frames) [] (told_none (operands_in c.args.body.now.frames) c.args.operands.now c.in-None.is c.requires.operands))
-    (c.ask_of_none.ensures.comes set is-program is-limits)
+pub returns-in-None : goal.returns-in-None
+returns-in-None c = record {
+  comes =
+      λ set is-program is-limits.
+      come_by 0 c.ask_of_none.new.body c.ask_of_none.result _ _
+      (args_same set (behind_at 0 c.args.body.now) (meaning c.args.native) (operands_in c.args.body.now.frames) [] (told_none (operands_in c.args.body.now.frames) c.args.operands.now c.in-None.is c.requires.operands))
+      (c.ask_of_none.ensures.comes set is-program is-limits);
+  roomy = c.ask_of_none.ensures.roomy;
+  counted = c.ask_of_none.ensures.counted;
+  room = c.ask_of_none.ensures.room;
+}
 
 pub ask_of_any_one-requires-clause-can : goal.ask_of_any_one-requires-clause-can
 ask_of_any_one-requires-clause-can c =
     with_args c.args.plain.now c.args.program.now c.args.body.now (operands_in c.args.body.now.frames) (c.in-One.value ∷ []) (meaning c.args.native) (told_one (operands_in c.args.body.now.frames) c.args.operands.now c.in-One.value c.in-One.is c.requires.operands) c.requires.can
 
-pub returns-in-One-clause-comes : goal.returns-in-One-clause-comes
-returns-in-One-clause-comes c = λ set is-program is-limits.
-    come_by 0 c.ask_of_any_one.new.body c.ask_of_any_one.result _ _
-    (args_same set (behind_at 0 c.args.body.now) (meaning c.args.native) (operands_in c.args.body.now.frames) (c.in-One.value ∷ []) (told_one (operands_in c.args.body.now.frames) c.args.operands.now c.in-One.value c.in-One.is c.requires.operands))
-    (c.ask_of_any_one.ensures.comes set is-program is-limits)
+pub returns-in-One : goal.returns-in-One
+returns-in-One c = record {
+  comes =
+      λ set is-program is-limits.
+      come_by 0 c.ask_of_any_one.new.body c.ask_of_any_one.result _ _
+      (args_same set (behind_at 0 c.args.body.now) (meaning c.args.native) (operands_in c.args.body.now.frames) (c.in-One.value ∷ []) (told_one (operands_in c.args.body.now.frames) c.args.operands.now c.in-One.value c.in-One.is c.requires.operands))
+      (c.ask_of_any_one.ensures.comes set is-program is-limits);
+  roomy = c.ask_of_any_one.ensures.roomy;
+  counted = c.ask_of_any_one.ensures.counted;
+  room = c.ask_of_any_one.ensures.room;
+}
 
 pub ask_of_any_two-requires-clause-can : goal.ask_of_any_two-requires-clause-can
 ask_of_any_two-requires-clause-can c =
     with_args c.args.plain.now c.args.program.now c.args.body.now (operands_in c.args.body.now.frames) (c.in-Two.first ∷ c.in-Two.second ∷ []) (meaning c.args.native) (told_two (operands_in c.args.body.now.frames) c.args.operands.now c.in-Two.first c.in-Two.second c.in-Two.is c.requires.operands) c.requires.can
 
-pub returns-in-Two-clause-comes : goal.returns-in-Two-clause-comes
-returns-in-Two-clause-comes c = λ set is-program is-limits.
-    come_by 0 c.ask_of_any_two.new.body c.ask_of_any_two.result _ _
-    (args_same set (behind_at 0 c.args.body.now) (meaning c.args.native) (operands_in c.args.body.now.frames) (c.in-Two.first ∷ c.in-Two.second ∷ []) (told_two (operands_in c.args.body.now.frames) c.args.operands.now c.in-Two.first c.in-Two.second c.in-Two.is c.requires.operands))
-    (c.ask_of_any_two.ensures.comes set is-program is-limits)
+pub returns-in-Two : goal.returns-in-Two
+returns-in-Two c = record {
+  comes =
+      λ set is-program is-limits.
+      come_by 0 c.ask_of_any_two.new.body c.ask_of_any_two.result _ _
+      (args_same set (behind_at 0 c.args.body.now) (meaning c.args.native) (operands_in c.args.body.now.frames) (c.in-Two.first ∷ c.in-Two.second ∷ []) (told_two (operands_in c.args.body.now.frames) c.args.operands.now c.in-Two.first c.in-Two.second c.in-Two.is c.requires.operands))
+      (c.ask_of_any_two.ensures.comes set is-program is-limits);
+  roomy = c.ask_of_any_two.ensures.roomy;
+  counted = c.ask_of_any_two.ensures.counted;
+  room = c.ask_of_any_two.ensures.room;
+}

@@ -19,8 +19,8 @@ returns-clause-gone c =
     let set = setting_of c.args.code.now c.args.limits.now c.args.main in
     let steps = c.args.limits.now.steps in
     let count = c.args.body.now.count in
-    subst (λ (counts : Bool). HasGone set c.args.code.now.program c.args.code.now.counted c.args.task (standing_at 0 c.args.body.now) (record c.args.body.now { frames = Some c.run_counted.new.frames; heap = c.run_counted.new.heap; count = count + c.in_ok-ran.ran.steps }) counts c.in_ok-ran.ran.halted) (sym c.counts_by.ensures)
+    subst (λ (counts : Bool). HasGone set c.args.code.now.program c.args.code.now.counted c.args.task (standing_at 0 c.args.body.now) (record c.args.body.now { frames = Some c.run_counted.new.frames; heap = c.run_counted.new.heap; count = count + c.in-Ok.ran.steps }) counts c.in-Ok.ran.halted) (sym c.counts_by.ensures)
     (gone_to (setting_of c.args.code.now c.args.limits.now c.args.main) c.args.code.now.program c.args.code.now.counted c.args.task c.args.body.now (not c.is_rewinding-live.result) (ap not c.is_rewinding-live.ensures) (steps - count) (whole_limit count steps c.requires.most)
-    c.in_ok-ran.ran.steps c.in_ok-ran.ran.mark c.in_ok-ran.ran.halted c.run_counted.new.frames c.run_counted.new.heap c.requires.ready
-    (subst (λ (o : Option Frames). HasCountedRun c.args.code.now.program c.args.code.now.counted (not c.is_rewinding-live.result) (steps - count) (calls_in o) c.args.body.now.heap c.in_ok-ran.ran.steps c.in_ok-ran.ran.mark c.in_ok-ran.ran.halted c.run_counted.new.frames c.run_counted.new.heap)
-    (sym c.in-Some.is) c.in_ok-ran.ensures.run))
+    c.in-Ok.ran.steps c.in-Ok.ran.mark c.in-Ok.ran.halted c.run_counted.new.frames c.run_counted.new.heap c.requires.ready
+    (subst (λ (o : Option Frames). HasCountedRun c.args.code.now.program c.args.code.now.counted (not c.is_rewinding-live.result) (steps - count) (calls_in o) c.args.body.now.heap c.in-Ok.ran.steps c.in-Ok.ran.mark c.in-Ok.ran.halted c.run_counted.new.frames c.run_counted.new.heap)
+    (sym c.in-Some.is) c.in-Ok.ensures.run))

@@ -1,4 +1,5 @@
-use Rattle.std.proofs.Common.{ap, sym}
+use Rattle.std.proofs.Common.{List, ap, sym, ◌∙◌}
+use Rattle.kilim_classes.specs.declared.value.Value.{Value}
 use Rattle.kilim_weaving_laws.specs.woven_kin.Nexts.{member_next}
 use Rattle.kilim_woven_fiber.specs.Body.{behind_at, operands_in}
 use Rattle.kilim_woven_runs.specs.declared.fiber_records.natives.natives.Member.{Member}
@@ -6,10 +7,30 @@ use Rattle.kilim_woven_runs.specs.fiber_records.natives.Natives.{member_meant}
 use Rattle.kilim_woven_fiber.proofs.Asking.{come_by}
 use Rattle.kilim_woven_fiber.proofs.members.ask_member.Goals as goal
 
-pub returns-in-Save-clause-comes : goal.returns-in-Save-clause-comes
-returns-in-Save-clause-comes c =
-    come_by 0 c.save.new.body c.save.result _ _ (ap (λ (m : Member). member_next (member_meant m) (operands_in c.args.body.now.frames) (behind_at 0 c.args.body.now)) (sym c.in-Save.is)) c.save.ensures.comes
+pub returns-in-Save : goal.returns-in-Save
+returns-in-Save c = record {
+  comes =
+      come_by 0 c.save.new.body c.save.result _ _ (ap (λ (m : Member). member_next (member_meant m) (operands_in c.args.body.now.frames) (behind_at 0 c.args.body.now)) (sym c.in-Save.is)) c.save.ensures.comes;
+  roomy = c.save.ensures.roomy;
+  count = c.save.ensures.count;
+  room = c.save.ensures.room;
+}
 
-pub returns-in-Place-clause-comes : goal.returns-in-Place-clause-comes
-returns-in-Place-clause-comes c =
-    come_by 0 c.place.new.body c.place.result _ _ (ap (λ (m : Member). member_next (member_meant m) (operands_in c.args.body.now.frames) (behind_at 0 c.args.body.now)) (sym c.in-Place.is)) c.place.ensures.comes
+pub returns-in-Place : goal.returns-in-Place
+returns-in-Place c = record {
+  comes =
+      come_by 0 c.place.new.body c.place.result _ _ (ap (λ (m : Member). member_next (member_meant m) (operands_in c.args.body.now.frames) (behind_at 0 c.args.body.now)) (sym c.in-Place.is)) c.place.ensures.comes;
+  roomy = c.place.ensures.roomy;
+  count = c.place.ensures.count;
+  room = c.place.ensures.room;
+}
+
+pub returns-else-not-is_alone : goal.returns-else-not-is_alone
+returns-else-not-is_alone c = record {
+  comes =
+      come_by 0 c.ask_alone.new.body c.ask_alone.result _ _
+      (ap (λ (args : List Value). member_next (member_meant c.args.member) args (behind_at 0 c.args.body.now)) (sym (ap operands_in c.in-Some.is ∙ c.is_alone.ensures c.if-not-is_alone.false))) c.ask_alone.ensures.comes;
+  roomy = c.ask_alone.ensures.roomy;
+  count = c.ask_alone.ensures.count;
+  room = c.ask_alone.ensures.room;
+}

@@ -1,0 +1,18 @@
+use Rattle.std.proofs.Common.{sym, subst}
+use Rattle.kilim_classes.specs.declared.value.Value.{Value}
+use Rattle.kilim_woven_fiber.specs.Body.{RoomyIn}
+use Rattle.kilim_woven_fiber.specs.Steps.{ReceiverThere}
+use Rattle.kilim_woven_fiber.specs.declared.body.Body.{Body}
+use Rattle.kilim_woven_fiber.proofs.Rewinding.{goes_on}
+use Rattle.kilim_woven_fiber.proofs.body.rewind.Goals as goal
+
+pub execute_frames-requires : goal.execute_frames-requires
+execute_frames-requires c = subst (λ (v : Value). ReceiverThere c.args.body.now.heap v) (sym c.in-Ok.ensures) c.requires.there
+
+pub returns-clause-comes : goal.returns-clause-comes
+returns-clause-comes c =
+    let begun = c.in-Ok-execute_frames.ensures.frames in
+    goes_on c.args.code.now.program c.args.body.now c.stand_at.new.body c.in-Ok-execute_frames.frames c.resume.new.self c.in-Ok.receiver begun.0 c.in-Ok.ensures begun.1 begun.2 c.stand_at.ensures c.resume.ensures
+
+pub returns-clause-roomy : goal.returns-clause-roomy
+returns-clause-roomy c = subst (λ (b : Body). RoomyIn c.args.code.now.program b.frames) (sym c.stand_at.ensures) c.in-Ok-execute_frames.ensures.roomy

@@ -1,0 +1,16 @@
+use Rattle.std.proofs.Common.{refl}
+use Rattle.kilim_classes.specs.declared.value.Value.TheVariants.{Fiber}
+use Rattle.kilim_woven_runs.specs.declared.fiber_records.natives.natives.Member.TheVariants as code
+use Rattle.kilim_woven_fiber.proofs.Asking.{result_by}
+use Rattle.kilim_woven_fiber.proofs.members.result_of.Goals as goal
+
+pub returns-in-Ok : goal.returns-in-Ok
+returns-in-Ok c = result_by c.args.member code.Down c.args.records.now _ Fiber _ c.in-Down.is c.in-Ok.ensures refl
+
+pub returns-in-Some : goal.returns-in-Some
+returns-in-Some c = result_by c.args.member code.Restore c.args.records.now _ c.in-Some.value _ c.in-Restore.is c.in-Some.ensures refl
+
+pub returns-in-Ok-Some-receiver : goal.returns-in-Ok-Some-receiver
+returns-in-Ok-Some-receiver c =
+    let told = rw c.in-Ok-Some-receiver.field-0-is at c.in-Ok-Some-receiver.ensures in
+    result_by c.args.member code.Receiver c.args.records.now _ c.in-Ok-Some-receiver.value _ c.in-Receiver.is told refl
