@@ -32,7 +32,9 @@ fn journal_alone<G: Gate>(
 {
     moved_is_whole();
     runs_are_readable();
-    let entries = named_alone::<Brand, G>(alloc, code, main, limits, gate)?;
+    let Ok(entries) = named_alone::<Brand, G>(alloc, code, main, limits, gate) else {
+        return Err(NoMemory);
+    };
     journal_fits(entries.as_slice());
     Ok(entries)
 }
@@ -53,7 +55,9 @@ fn journal_by<R: Threads + Wait + Sync, G: Gate>(
 {
     moved_is_whole();
     runs_are_readable();
-    let entries = named_with::<Brand, R, G>(rt, alloc, code, main, limits, workers, gate)?;
+    let Ok(entries) = named_with::<Brand, R, G>(rt, alloc, code, main, limits, workers, gate) else {
+        return Err(NoMemory);
+    };
     journal_fits(entries.as_slice());
     Ok(entries)
 }

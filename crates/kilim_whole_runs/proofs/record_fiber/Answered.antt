@@ -41,6 +41,10 @@ on_ok : {A E : Type 0} (r : Result A E) (P Q : Type 0) → (P → Q) → OnOk r 
 on_ok (Ok x) P Q go w = go w
 on_ok (Err x) P Q go w = w
 
+-- what comes of an answer that is known, to what is known to be asked
+pub answer_is : {A E : Type 0} (p W : Program) (q known : Asked) (a given : Answer) (old new : Fiber) (r : Result A E) → q ≡ known → a ≡ given → OnOk r (Answered p W known given old new) → OnOk r (Answered p W q a old new)
+answer_is p W q known a given old new r e d w = subst (λ (z : Asked). OnOk r (Answered p W z a old new)) (sym e) (subst (λ (z : Answer). OnOk r (Answered p W known z old new)) (sym d) w)
+
 -- ---- what may be answered
 
 message_sound : (p : Program) (tree : List Object) (shape : List Token) → IsMessage p tree shape → IsSound p OfMessage tree shape

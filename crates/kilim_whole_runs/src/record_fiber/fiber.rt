@@ -248,25 +248,33 @@ impl Fiber {
         requires suits { AnswerSuits code.now.plain answer }
         ensures { OnOk result (Answered code.now.plain code.now.program asked answer self.old self.new) }
     {
-        match (asked, answer) {
-            (Asked::Put(mailbox, shape), Answer::Sent(number)) => {
-                self.pass_on(code, Did::Put(mailbox, number, shape))
+        match asked {
+            Asked::Put(mailbox, shape) => match answer {
+                Answer::Sent(number) => self.pass_on(code, Did::Put(mailbox, number, shape)),
+                _ => Err(NoMemory),
+            },
+            Asked::Take(mailbox) => match answer {
+                Answer::Message(tree, number) => self.receive(code, mailbox, tree, number),
+                Answer::Nothing => self.refuse(code, mailbox),
+                _ => Err(NoMemory),
+            },
+            Asked::Probe(mailbox) => match answer {
+                Answer::Message(tree, number) => self.find(code, mailbox, tree, number),
+                Answer::Nothing => self.pass_none(code, Did::Empty(mailbox)),
+                _ => Err(NoMemory),
+            },
+            Asked::Start(shape) => match answer {
+                Answer::Started(number) => self.pass_on(code, Did::Start(number, shape)),
+                _ => Err(NoMemory),
+            },
+            Asked::Print(shape) => match answer {
+                Answer::Done => self.pass_on(code, Did::Print(shape)),
+                _ => Err(NoMemory),
+            },
+            Asked::Nothing => {
+                drop(answer);
+                Err(NoMemory)
             }
-            (Asked::Take(mailbox), Answer::Message(tree, number)) => {
-                self.receive(code, mailbox, tree, number)
-            }
-            (Asked::Take(mailbox), Answer::Nothing) => self.refuse(code, mailbox),
-            (Asked::Probe(mailbox), Answer::Message(tree, number)) => {
-                self.find(code, mailbox, tree, number)
-            }
-            (Asked::Probe(mailbox), Answer::Nothing) => {
-                self.pass_none(code, Did::Empty(mailbox))
-            }
-            (Asked::Start(shape), Answer::Started(number)) => {
-                self.pass_on(code, Did::Start(number, shape))
-            }
-            (Asked::Print(shape), Answer::Done) => self.pass_on(code, Did::Print(shape)),
-            _ => Err(NoMemory),
         }
     }
 
@@ -329,7 +337,9 @@ impl Fiber {
         ensures refused { IfOk result (λ f. f.refused ≡ None) }
         ensures stands { (set : Setting) → ServesCode set code.now → set.main ≡ main → IfOk result (λ f. StandsFor task_of course_of (HoldsFiber code.now.program code.now.counted) set f) }
     {
-        let body = first_body(alloc, &code.plain, &code.program, main)?;
+        let Ok(body) = first_body(alloc, &code.plain, &code.program, main) else {
+            return Err(NoMemory);
+        };
         if body.idle {
             drop(body);
             return Err(NoMemory);
@@ -348,14 +358,16 @@ impl Fiber {
             return self.end_idle(limits);
         }
         let before = self.body.count;
-        let came = reach(
+        let Ok(came) = reach(
             self.alloc,
             code,
             limits,
             self.main,
             self.task,
             &mut self.body,
-        )?;
+        ) else {
+            return Err(NoMemory);
+        };
         match self.refused {
             Some(mailbox) => self.rest_at(mailbox, came),
             None => self.want(code, limits, before, came),

@@ -91,12 +91,16 @@ impl<K: Woven> Fibers for Named<K> {
     ghost rests = { λ f. f.rests };
 
     fn boot(alloc: Global, code: &Code, main: ClassId) -> Result<Named<K>, NoMemory> {
-        let fiber = Fiber::boot(alloc, code, main)?;
+        let Ok(fiber) = Fiber::boot(alloc, code, main) else {
+            return Err(NoMemory);
+        };
         Ok(name_program::<K>(fiber))
     }
 
     fn resume(&mut self, code: &Code, limits: &Limits) -> Result<Wants<Named<K>>, NoMemory> {
-        let wants = self.fiber.resume(code, limits)?;
+        let Ok(wants) = self.fiber.resume(code, limits) else {
+            return Err(NoMemory);
+        };
         Ok(with_program::<K>(wants))
     }
 

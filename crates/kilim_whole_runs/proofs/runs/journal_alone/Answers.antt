@@ -9,4 +9,4 @@ pub returns : goal.returns
 returns g c =
     let set = setting_of c.args.code.now.plain c.args.main c.args.limits.now in
     let of = is_of c.args.main c.args.limits.now c.args.code.now c.requires.served in
-    is_journal c.moved_is_whole.ensures c.runs_are_readable.ensures set c.args.code.now.program c.args.code.now.counted c.requires.served c.in_ok-entries.entries.items (c.in_ok-entries.ensures set of) (rw (← c.as_slice.ensures.value) c.journal_fits.ensures)
+    is_journal c.moved_is_whole.ensures c.runs_are_readable.ensures set c.args.code.now.program c.args.code.now.counted c.requires.served c.in-Ok.entries.items (c.in-Ok.ensures set of) (rw (← c.as_slice.ensures.value) c.journal_fits.ensures)

@@ -15,4 +15,4 @@ pub returns-clause-refused : goal.returns-clause-refused
 returns-clause-refused c = c.new_fiber.ensures.refused
 
 pub returns-clause-stands : goal.returns-clause-stands
-returns-clause-stands c = λ set served is-main. boot_stands set c.args.code.now served c.args.main _ c.in_ok-body.body c.new_fiber.result c.of.ensures c.if-body.false c.in_ok-body.ensures c.new_fiber.ensures is-main
+returns-clause-stands c = λ set served is-main. boot_stands set c.args.code.now served c.args.main _ c.in-Ok.body c.new_fiber.result c.of.ensures c.if-body.false c.in-Ok.ensures c.new_fiber.ensures is-main
