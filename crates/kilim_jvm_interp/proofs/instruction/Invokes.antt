@@ -1,5 +1,5 @@
 -- What the rows of calls say, with the operands as they stand on the stack.
-use Rattle.std.proofs.Common.{◌≡◌, ◌∙◌, sym, ap, refl, subst, ℕ, zero, suc, ◌+◌, ◌<◌, ◌≤◌, Bool, true, false, cond, List, [], ◌∷◌, ◌++◌, Option, Some, None, length, take, drop, reverse, slice_get, is_some, arith, length-take}
+use Rattle.std.proofs.Common.{◌≡◌, ◌∙◌, sym, ap, refl, subst, ℕ, zero, suc, ◌+◌, ◌<◌, ◌≤◌, Bool, true, false, true≢false, cond, List, [], ◌∷◌, ◌++◌, Option, Some, None, length, take, drop, reverse, slice_get, is_some, arith, length-take}
 use Rattle.std.proofs.lemmas.List.{length-reverse}
 use Rattle.kilim_classes.specs.declared.ty.Ty.{Ty}
 use Rattle.std.specs.FinMap.{get}
@@ -25,21 +25,21 @@ use Rattle.kilim_jvm_interp.proofs.instruction.Operands.{values_there, values_ta
 -- ---- values
 
 receiver_goes : (r : Value) (go : Value → Effect) → is_stuck (as_receiver r go) ≡ false → is_null r ≡ false → as_receiver r go ≡ go r
-receiver_goes (Int x) go fine other = absurd (cc)
-receiver_goes (Long x) go fine other = absurd (cc)
-receiver_goes Null go fine other = absurd (cc)
+receiver_goes (Int x) go fine other = absurd (true≢false fine)
+receiver_goes (Long x) go fine other = absurd (true≢false fine)
+receiver_goes Null go fine other = absurd (true≢false other)
 receiver_goes (Ref n) go fine other = refl
 receiver_goes (Text t) go fine other = refl
 receiver_goes (Box b) go fine other = refl
 receiver_goes Fiber go fine other = refl
 
 found_by : (o : Option Object) (f : Option Ty → Effect) → is_stuck (with_some o (λ (object : Object). f (Some object.class))) ≡ false → is_some o ≡ true
-found_by None f fine = absurd (cc)
+found_by None f fine = absurd (true≢false fine)
 found_by (Some object) f fine = refl
 
 found : (p : Program) (r : Value) (h : Objects) (f : Option Ty → Effect) → is_stuck (as_class p r h f) ≡ false → is_found r h ≡ true
-found p (Int x) h f fine = absurd (cc)
-found p (Long x) h f fine = absurd (cc)
+found p (Int x) h f fine = absurd (true≢false fine)
+found p (Long x) h f fine = absurd (true≢false fine)
 found p Null h f fine = refl
 found p (Ref n) h f fine = found_by (get h n) f fine
 found p (Text t) h f fine = refl
@@ -52,15 +52,15 @@ answers_two name units (v ∷ []) go more = absurd (omega (arith, more))
 answers_two name units (v ∷ w ∷ vs) go more = refl
 
 text_two : (named : Method) (args : List Value) (next : ℕ) (ls rest : List Value) (h : Objects) (r : Value) → 1 < length args → is_null r ≡ false → is_stuck (calls_text named args next ls rest h r) ≡ false → ⊥
-text_two named args next ls rest h (Int x) more other fine = absurd (cc)
-text_two named args next ls rest h (Long x) more other fine = absurd (cc)
-text_two named args next ls rest h Null more other fine = absurd (cc)
-text_two named args next ls rest h (Ref n) more other fine = absurd (cc)
+text_two named args next ls rest h (Int x) more other fine = absurd (true≢false fine)
+text_two named args next ls rest h (Long x) more other fine = absurd (true≢false fine)
+text_two named args next ls rest h Null more other fine = absurd (true≢false other)
+text_two named args next ls rest h (Ref n) more other fine = absurd (true≢false fine)
 text_two named args next ls rest h (Text t) more other fine =
     let stuck = answers_two named.name t args (λ v. Goes next ls (v ∷ rest) h) more in
-    absurd (let f = ap is_stuck (sym stuck) ∙ fine in cc)
-text_two named args next ls rest h (Box b) more other fine = absurd (cc)
-text_two named args next ls rest h Fiber more other fine = absurd (cc)
+    true≢false (ap is_stuck (sym stuck) ∙ fine)
+text_two named args next ls rest h (Box b) more other fine = absurd (true≢false fine)
+text_two named args next ls rest h Fiber more other fine = absurd (true≢false fine)
 
 text_go : Method → ℕ → List Value → Objects → List Value → Value → List Value → Effect
 text_go named next ls h args receiver rest = calls_text named (reverse args) next ls rest h receiver
@@ -79,13 +79,13 @@ pub text_null : (named : Method) (n next : ℕ) (ls stack : List Value) (h : Obj
     is_stuck (on_call n stack (λ args receiver rest. calls_text named (reverse args) next ls rest h receiver)) ≡ false →
     on_call n stack (λ args receiver rest. calls_text named (reverse args) next ls rest h receiver) ≡ Raises cause.Null
 unfolding text_go
-text_null named n next ls stack h (Int x) at null fine = absurd (cc)
-text_null named n next ls stack h (Long x) at null fine = absurd (cc)
+text_null named n next ls stack h (Int x) at null fine = absurd (true≢false (sym null))
+text_null named n next ls stack h (Long x) at null fine = absurd (true≢false (sym null))
 text_null named n next ls stack h Null at null fine = call_taken n stack (text_go named next ls h) Null at
-text_null named n next ls stack h (Ref m) at null fine = absurd (cc)
-text_null named n next ls stack h (Text t) at null fine = absurd (cc)
-text_null named n next ls stack h (Box b) at null fine = absurd (cc)
-text_null named n next ls stack h Fiber at null fine = absurd (cc)
+text_null named n next ls stack h (Ref m) at null fine = absurd (true≢false (sym null))
+text_null named n next ls stack h (Text t) at null fine = absurd (true≢false (sym null))
+text_null named n next ls stack h (Box b) at null fine = absurd (true≢false (sym null))
+text_null named n next ls stack h Fiber at null fine = absurd (true≢false (sym null))
 
 pub text_there : (named : Method) (n next : ℕ) (ls stack : List Value) (h : Objects) →
     is_stuck (on_call n stack (λ args receiver rest. calls_text named (reverse args) next ls rest h receiver)) ≡ false → n < length stack
@@ -136,13 +136,13 @@ module _ (p : Program) (own : Method) (m : MethodId) (named : Method) (next : �
   pub special_null : (r : Value) → is_built_in_constructor named ≡ false → slice_get stack (length named.params) ≡ Some r → is_null r ≡ true →
       is_stuck (does p own (Invokespecial m) next ls stack h) ≡ false → does p own (Invokespecial m) next ls stack h ≡ Raises cause.Null
   unfolding special_go
-  special_null (Int x) other at null fine = absurd (cc)
-  special_null (Long x) other at null fine = absurd (cc)
+  special_null (Int x) other at null fine = absurd (true≢false (sym null))
+  special_null (Long x) other at null fine = absurd (true≢false (sym null))
   special_null Null other at null fine = special_at Null other at
-  special_null (Ref n) other at null fine = absurd (cc)
-  special_null (Text t) other at null fine = absurd (cc)
-  special_null (Box b) other at null fine = absurd (cc)
-  special_null Fiber other at null fine = absurd (cc)
+  special_null (Ref n) other at null fine = absurd (true≢false (sym null))
+  special_null (Text t) other at null fine = absurd (true≢false (sym null))
+  special_null (Box b) other at null fine = absurd (true≢false (sym null))
+  special_null Fiber other at null fine = absurd (true≢false (sym null))
 
   pub special_goes : (r : Value) → is_built_in_constructor named ≡ false → slice_get stack (length named.params) ≡ Some r → is_null r ≡ false →
       is_stuck (does p own (Invokespecial m) next ls stack h) ≡ false →
@@ -200,11 +200,11 @@ module _ (p : Program) (own : Method) (m : MethodId) (named : Method) (next : �
   pub virtual_nowhere : (r : Value) → is_text_method p named ≡ false → slice_get stack (length named.params) ≡ Some r → Reaches p named m r h Nowhere → is_stuck (does p own (Invokevirtual m) next ls stack h) ≡ false → ⊥
   virtual_nowhere r other at reaches fine =
       let stuck = virtual_at r other at ∙ reaches (reverse (take (length named.params) stack)) next ls (drop (length named.params + 1) stack) in
-      absurd (let f = ap is_stuck (sym stuck) ∙ fine in cc)
+      true≢false (ap is_stuck (sym stuck) ∙ fine)
 
 -- a call of a method that isn't there is stuck
 pub is_there : (o : Option Method) (id : MethodId) (args : List Value) (next : ℕ) (ls rest : List Value) (h : Objects) → is_stuck (calls_method o id args next ls rest h) ≡ false → o ≡ None → ⊥
-is_there None id args next ls rest h fine none = absurd (cc)
+is_there None id args next ls rest h fine none = absurd (true≢false fine)
 is_there (Some method) id args next ls rest h fine none = absurd (cc)
 
 pub asks_built_in : (o : Option Method) (method : Method) (id : MethodId) (args : List Value) (next : ℕ) (ls rest : List Value) (h : Objects) → o ≡ Some method → method.built_in ≡ true →

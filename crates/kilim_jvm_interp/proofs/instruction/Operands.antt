@@ -1,5 +1,5 @@
 -- The operands of calls, as they stand on the stack.
-use Rattle.std.proofs.Common.{◌≡◌, ◌∙◌, sym, ap, refl, subst, ℕ, zero, suc, ◌+◌, ◌<◌, ◌≤◌, Bool, true, false, List, [], ◌∷◌, ◌++◌, Option, Some, None, length, take, drop, reverse, slice_get, arith}
+use Rattle.std.proofs.Common.{◌≡◌, ◌∙◌, sym, ap, refl, subst, ℕ, zero, suc, ◌+◌, ◌<◌, ◌≤◌, Bool, true, false, true≢false, List, [], ◌∷◌, ◌++◌, Option, Some, None, length, take, drop, reverse, slice_get, arith}
 use Rattle.std.proofs.lemmas.List.{reverse-append}
 use Rattle.kilim_classes.specs.declared.class.Method.{Method}
 use Rattle.kilim_classes.specs.declared.instr.Instr.TheVariants.{Invokevirtual}
@@ -13,7 +13,7 @@ use Rattle.kilim_rows.specs.Outcome.{is_stuck}
 
 pub values_there : (n : ℕ) (stack : List Value) (go : List Value → List Value → Effect) → is_stuck (on_values n stack go) ≡ false → n ≤ length stack
 values_there zero stack go fine = omega arith
-values_there (suc n) [] go fine = absurd (cc)
+values_there (suc n) [] go fine = absurd (true≢false fine)
 values_there (suc n) (v ∷ rest) go fine = let less = values_there n rest (λ vs below. go (v ∷ vs) below) fine in omega (arith, less)
 
 pub values_taken : (n : ℕ) (stack : List Value) (go : List Value → List Value → Effect) → n ≤ length stack → on_values n stack go ≡ go (take n stack) (drop n stack)
@@ -22,9 +22,9 @@ values_taken (suc n) [] go less = absurd (omega (arith, less))
 values_taken (suc n) (v ∷ rest) go less = values_taken n rest (λ vs below. go (v ∷ vs) below) (omega (arith, less))
 
 pub call_there : (n : ℕ) (stack : List Value) (go : List Value → Value → List Value → Effect) → is_stuck (on_call n stack go) ≡ false → n < length stack
-call_there zero [] go fine = absurd (cc)
+call_there zero [] go fine = absurd (true≢false fine)
 call_there zero (v ∷ rest) go fine = omega arith
-call_there (suc n) [] go fine = absurd (cc)
+call_there (suc n) [] go fine = absurd (true≢false fine)
 call_there (suc n) (v ∷ rest) go fine = let less = call_there n rest (λ vs r below. go (v ∷ vs) r below) fine in omega (arith, less)
 
 pub call_taken : (n : ℕ) (stack : List Value) (go : List Value → Value → List Value → Effect) (r : Value) → slice_get stack n ≡ Some r → on_call n stack go ≡ go (take n stack) r (drop (n + 1) stack)

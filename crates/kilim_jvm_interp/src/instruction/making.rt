@@ -120,21 +120,20 @@ fn fields_of(program: &Program, class: ClassId) -> &[FieldId]
     }
 }
 
-// The instance fields of these classes, with their first values.
-fn fields_of_each(
-    alloc: Global,
+// The instance fields of these classes, with their first values, behind others.
+fn push_fields_of(
+    fields: &mut Vec<(FieldId, Value)>,
     program: &Program,
     line: &[ClassId],
-) -> Result<Vec<(FieldId, Value)>, NoMemory>
-    ensures { IfOk result (λ fields. fields.items ≡ first_fields program.now (flat_map (fields_of program.now) line.now)) }
+) -> Result<(), NoMemory>
+    ensures { OnOk result (fields.new.items ≡ fields.old.items ++ first_fields program.now (flat_map (fields_of program.now) line.now)) }
 {
-    let mut fields = Vec::new(alloc);
     for at in line {
-        let Ok(()) = push_fields(&mut fields, program, fields_of(program, *at)) else {
+        let Ok(()) = push_fields(fields, program, fields_of(program, *at)) else {
             return Err(NoMemory);
         };
     }
-    Ok(fields)
+    Ok(())
 }
 
 /// A new object of a class, with the fields of its superclasses first.
@@ -145,7 +144,8 @@ pub fn new_object(alloc: Global, program: &Program, class: ClassId) -> Result<Ob
         return Err(NoMemory);
     };
     line.reverse();
-    let Ok(fields) = fields_of_each(alloc, program, &line) else {
+    let mut fields = Vec::new(alloc);
+    let Ok(()) = push_fields_of(&mut fields, program, &line) else {
         return Err(NoMemory);
     };
     Ok(Object {

@@ -51,13 +51,13 @@ pub fn unary_of(instr: &Instr) -> Unary
 pub fn jump_of(instr: &Instr) -> (Test, u32)
     ensures { result ≡ jump_of instr.now }
 {
-    match instr {
-        Instr::Ifeq(to) | Instr::IfIcmpeq(to) => (Test::Eq, *to),
-        Instr::Ifne(to) | Instr::IfIcmpne(to) => (Test::Ne, *to),
-        Instr::Iflt(to) | Instr::IfIcmplt(to) => (Test::Lt, *to),
-        Instr::Ifge(to) | Instr::IfIcmpge(to) => (Test::Ge, *to),
-        Instr::Ifgt(to) | Instr::IfIcmpgt(to) => (Test::Gt, *to),
-        Instr::Ifle(to) | Instr::IfIcmple(to) => (Test::Le, *to),
+    match *instr {
+        Instr::Ifeq(to) | Instr::IfIcmpeq(to) => (Test::Eq, to),
+        Instr::Ifne(to) | Instr::IfIcmpne(to) => (Test::Ne, to),
+        Instr::Iflt(to) | Instr::IfIcmplt(to) => (Test::Lt, to),
+        Instr::Ifge(to) | Instr::IfIcmpge(to) => (Test::Ge, to),
+        Instr::Ifgt(to) | Instr::IfIcmpgt(to) => (Test::Gt, to),
+        Instr::Ifle(to) | Instr::IfIcmple(to) => (Test::Le, to),
         _ => (Test::Eq, 0),
     }
 }

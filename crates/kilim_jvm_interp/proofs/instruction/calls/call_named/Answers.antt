@@ -1,6 +1,7 @@
-use Rattle.std.proofs.Common.{◌≡◌, ◌∙◌, sym, ap, refl, ◌<◌, ◌≤◌, ◌+◌, Bool, true, false, Option, Some, None, List, length, take, drop, reverse, slice_get, arith}
+use Rattle.std.proofs.Common.{◌≡◌, ◌∙◌, sym, ap, refl, ◌<◌, ◌≤◌, ◌+◌, Bool, true, false, Option, Some, None, List, length, take, drop, reverse, slice_get, option_copied, arith}
 use Rattle.kilim_classes.specs.declared.class.Method.{Method}
 use Rattle.kilim_classes.specs.declared.instr.Instr.TheVariants.{Invokespecial}
+use Rattle.kilim_classes.specs.declared.names.MethodId.{MethodId}
 use Rattle.kilim_classes.specs.declared.value.Value.{Value}
 use Rattle.kilim_classes.specs.Names.{method_at}
 use Rattle.kilim_classes.specs.machine.Effect.{Asks, Calls}
@@ -19,7 +20,7 @@ returns-then-target c =
     let at : slice_get c.args.frame.now.stack.values (length c.args.named.now.params) ≡ Some c.peek.result.now = rw c.len-count.ensures at c.peek.ensures in
     let less = special_there c.args.program.now c.args.own.now c.args.method c.args.named.now c.args.next c.args.frame.now.locals c.args.frame.now.stack.values c.args.heap.now c.requires.there c.requires.other c.requires.fine in
     let row = special_goes c.args.program.now c.args.own.now c.args.method c.args.named.now c.args.next c.args.frame.now.locals c.args.frame.now.stack.values c.args.heap.now c.requires.there c.peek.result.now c.requires.other at (sym c.is_none.ensures ∙ c.if-is_none.false) c.requires.fine in
-    let there : method_at c.args.program.now (special c.args.program.now c.args.own.now c.args.named.now c.args.method) ≡ Some c.in-Some.target.now = grind (arith, c.method_at.ensures, c.in-Some.ensures, c.special-id.ensures) in
+    let there : method_at c.args.program.now (special c.args.program.now c.args.own.now c.args.named.now c.args.method) ≡ Some c.in-Some.target.now = ap (λ (id : MethodId). method_at c.args.program.now id) (sym c.special-id.ensures) ∙ sym c.in-Some.ensures in
     let asks = asks_built_in (method_at c.args.program.now (special c.args.program.now c.args.own.now c.args.named.now c.args.method)) c.in-Some.target.now (special c.args.program.now c.args.own.now c.args.named.now c.args.method)
     (reverse (take (length c.args.named.now.params + 1) c.args.frame.now.stack.values)) c.args.next c.args.frame.now.locals (drop (length c.args.named.now.params + 1) c.args.frame.now.stack.values) c.args.heap.now there c.if-target.true in
     record { step = rw (c.len-count.ensures, c.special-id.ensures) (omega (arith, less), row ∙ asks, record { frame = refl; heap = refl }) }
@@ -29,7 +30,7 @@ returns-else-target c =
     let at : slice_get c.args.frame.now.stack.values (length c.args.named.now.params) ≡ Some c.peek.result.now = rw c.len-count.ensures at c.peek.ensures in
     let less = special_there c.args.program.now c.args.own.now c.args.method c.args.named.now c.args.next c.args.frame.now.locals c.args.frame.now.stack.values c.args.heap.now c.requires.there c.requires.other c.requires.fine in
     let row = special_goes c.args.program.now c.args.own.now c.args.method c.args.named.now c.args.next c.args.frame.now.locals c.args.frame.now.stack.values c.args.heap.now c.requires.there c.peek.result.now c.requires.other at (sym c.is_none.ensures ∙ c.if-is_none.false) c.requires.fine in
-    let there : method_at c.args.program.now (special c.args.program.now c.args.own.now c.args.named.now c.args.method) ≡ Some c.in-Some.target.now = grind (arith, c.method_at.ensures, c.in-Some.ensures, c.special-id.ensures) in
+    let there : method_at c.args.program.now (special c.args.program.now c.args.own.now c.args.named.now c.args.method) ≡ Some c.in-Some.target.now = ap (λ (id : MethodId). method_at c.args.program.now id) (sym c.special-id.ensures) ∙ sym c.in-Some.ensures in
     let calls = calls_code (method_at c.args.program.now (special c.args.program.now c.args.own.now c.args.named.now c.args.method)) c.in-Some.target.now (special c.args.program.now c.args.own.now c.args.named.now c.args.method)
     (reverse (take (length c.args.named.now.params + 1) c.args.frame.now.stack.values)) c.args.next c.args.frame.now.locals (drop (length c.args.named.now.params + 1) c.args.frame.now.stack.values) c.args.heap.now there c.if-target.false in
     record { step = rw (c.len-count.ensures, c.special-id.ensures) (omega (arith, less), row ∙ calls, record { frame = refl; heap = refl }) }
@@ -42,7 +43,7 @@ pub unreachable-requires-in_default : goal.unreachable-requires-in_default
 unreachable-requires-in_default c =
     let at : slice_get c.args.frame.now.stack.values (length c.args.named.now.params) ≡ Some c.peek.result.now = rw c.len-count.ensures at c.peek.ensures in
     let row = special_goes c.args.program.now c.args.own.now c.args.method c.args.named.now c.args.next c.args.frame.now.locals c.args.frame.now.stack.values c.args.heap.now c.requires.there c.peek.result.now c.requires.other at (sym c.is_none.ensures ∙ c.if-is_none.false) c.requires.fine in
-    let none : method_at c.args.program.now (special c.args.program.now c.args.own.now c.args.named.now c.args.method) ≡ None = grind (arith, c.method_at.ensures, c.in_default.is, c.special-id.ensures) in
+    let none : method_at c.args.program.now (special c.args.program.now c.args.own.now c.args.named.now c.args.method) ≡ None = ap (λ (id : MethodId). method_at c.args.program.now id) (sym c.special-id.ensures) ∙ (sym c.method_at.ensures ∙ ap option_copied c.in_default.is) in
     is_there (method_at c.args.program.now (special c.args.program.now c.args.own.now c.args.named.now c.args.method)) (special c.args.program.now c.args.own.now c.args.named.now c.args.method)
     (reverse (take (length c.args.named.now.params + 1) c.args.frame.now.stack.values)) c.args.next c.args.frame.now.locals (drop (length c.args.named.now.params + 1) c.args.frame.now.stack.values) c.args.heap.now
     (ap is_stuck (sym row) ∙ c.requires.fine) none

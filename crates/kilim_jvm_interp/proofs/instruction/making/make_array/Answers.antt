@@ -1,4 +1,4 @@
-use Rattle.std.proofs.Common.{◌≡◌, ◌∙◌, sym, ap, rules, FitsSigned, w32, pos, List, ◌∷◌, false, nat_lt, arith}
+use Rattle.std.proofs.Common.{◌≡◌, ◌∙◌, sym, ap, rules, FitsSigned, w32, pos, List, ◌∷◌, false, true, nat_lt, arith}
 use Rattle.std.proofs.lemmas.Int.{to_z-of_z}
 use Rattle.kilim_classes.specs.declared.value.Value.{Value}
 use Rattle.kilim_classes.specs.declared.value.Value.TheVariants.{Int}
@@ -7,7 +7,7 @@ use Rattle.kilim_classes.specs.declared.machine.value.Object.{Object}
 use Rattle.kilim_classes.specs.machine.Effect.{Makes, on_int}
 use Rattle.kilim_classes.specs.machine.Does.{array_limit, makes_array}
 use Rattle.kilim_classes.specs.machine.Objects.{new_array}
-use Rattle.kilim_jvm_interp.proofs.instruction.News.{made_by, array_row, room_for}
+use Rattle.kilim_jvm_interp.proofs.instruction.News.{made_by, array_row, large_row, room_for}
 use Rattle.kilim_jvm_interp.proofs.instruction.making.make_array.Goals as goal
 
 pub add_object-requires : goal.add_object-requires
@@ -34,3 +34,11 @@ returns-in-Some-clause-step c =
     c.in-Ok.object c.args.next c.in-Some.at (record c.args.frame.now { stack = c.pop_int-size.new.self }) c.add_object.new.frame c.args.heap.now c.add_object.new.heap
     (row ∙ ap (λ (o : Object). Makes o c.args.next c.args.frame.now.locals c.pop_int-size.new.self.values c.args.heap.now) (sym object))
     (rw c.in-Some.is at c.add_object.ensures.added)
+
+pub returns-then-is_too_long-clause-step : goal.returns-then-is_too_long-clause-step
+returns-then-is_too_long-clause-step c =
+    let is : c.args.frame.now.stack.values ≡ Int c.pop_int-size.result ∷ c.pop_int-size.new.self.values = ap (λ (s : Stacked). s.values) c.pop_int-size.ensures in
+    let many : nat_lt array_limit c.length_of-length.result ≡ true = sym c.is_too_long.ensures ∙ c.if-is_too_long.true in
+    let fits : FitsSigned w32 c.pop_int-size.result = search rules in
+    let size : c.pop_int-size.result ≡ pos c.length_of-length.result = simp to_z-of_z at c.length_of-length.ensures in
+    large_row c.args.ty c.args.element.now c.pop_int-size.result c.length_of-length.result c.args.next c.args.frame.now.locals c.args.frame.now.stack.values c.pop_int-size.new.self.values c.args.heap.now is size many

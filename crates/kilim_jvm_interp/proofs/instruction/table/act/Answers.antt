@@ -1,7 +1,28 @@
 -- A row for each instruction: what its call requires, and what it ensures.
+use Rattle.std.proofs.Common.{refl, true≢false, arith}
 use Rattle.kilim_classes.specs.machine.Does.{does}
-use Rattle.kilim_jvm_interp.proofs.instruction.Tables.{compare_jump_row, int_jump_row, int_load_row, int_shift_row, long_shift_row, narrow_store_row, one_int_row, two_ints_row, two_longs_row}
+use Rattle.kilim_jvm_interp.proofs.instruction.Tables.{compare_jump_row, int_jump_row, int_load_row, int_shift_row, long_shift_row, narrow_store_row, one_int_row, two_ints_row, two_longs_row, value_returned}
 use Rattle.kilim_jvm_interp.proofs.instruction.table.act.Goals as goal
+
+pub returns-in-Nop : goal.returns-in-Nop
+unfolding does
+returns-in-Nop c = record { step = rw c.in-Nop.is; same = record { method = refl; room = refl } }
+
+pub constant-requires : goal.constant-requires
+unfolding does
+constant-requires c = let fits = rw c.in-AconstNull.is at c.requires.room in omega (arith, fits)
+
+pub returns-in-AconstNull : goal.returns-in-AconstNull
+unfolding does
+returns-in-AconstNull c = record { step = rw c.in-AconstNull.is c.constant.ensures.step; same = c.constant.ensures.same }
+
+pub constant-requires-in-Iconst : goal.constant-requires-in-Iconst
+unfolding does
+constant-requires-in-Iconst c = let fits = rw c.in-Iconst.is at c.requires.room in omega (arith, fits)
+
+pub constant-requires-in-Lconst : goal.constant-requires-in-Lconst
+unfolding does
+constant-requires-in-Lconst c = let fits = rw c.in-Lconst.is at c.requires.room in omega (arith, fits)
 
 pub load_int-requires : goal.load_int-requires
 load_int-requires c = record { fine = rw c.in-Iload.is at c.requires.fine; room = rw c.in-Iload.is at c.requires.room }
@@ -317,42 +338,42 @@ returns-in-Bastore c =
 
 pub two_ints-requires : goal.two_ints-requires
 two_ints-requires c =
-    let row = two_ints_row c.args.program.now c.args.own.now c.args.instr.now c.binary_of-in-Iadd.result c.args.next c.args.frame.now.locals c.args.frame.now.stack.values c.args.heap.now c.binary_of-in-Iadd.ensures c.in-Iadd.is in
+    let row = two_ints_row c.args.program.now c.args.own.now c.args.instr.now c.binary_of.result c.args.next c.args.frame.now.locals c.args.frame.now.stack.values c.args.heap.now c.binary_of.ensures c.in-Iadd.is in
     record { fine = rw row at c.requires.fine; room = rw row at c.requires.room }
 
 pub returns-in-Iadd : goal.returns-in-Iadd
 returns-in-Iadd c =
-    let row = two_ints_row c.args.program.now c.args.own.now c.args.instr.now c.binary_of-in-Iadd.result c.args.next c.args.frame.now.locals c.args.frame.now.stack.values c.args.heap.now c.binary_of-in-Iadd.ensures c.in-Iadd.is in
+    let row = two_ints_row c.args.program.now c.args.own.now c.args.instr.now c.binary_of.result c.args.next c.args.frame.now.locals c.args.frame.now.stack.values c.args.heap.now c.binary_of.ensures c.in-Iadd.is in
     record { step = rw row c.two_ints.ensures.step; same = c.two_ints.ensures.same }
 
 pub two_longs-requires : goal.two_longs-requires
 two_longs-requires c =
-    let row = two_longs_row c.args.program.now c.args.own.now c.args.instr.now c.binary_of.result c.args.next c.args.frame.now.locals c.args.frame.now.stack.values c.args.heap.now c.binary_of.ensures c.in-Ladd.is in
+    let row = two_longs_row c.args.program.now c.args.own.now c.args.instr.now c.binary_of-in-Ladd.result c.args.next c.args.frame.now.locals c.args.frame.now.stack.values c.args.heap.now c.binary_of-in-Ladd.ensures c.in-Ladd.is in
     record { fine = rw row at c.requires.fine; room = rw row at c.requires.room }
 
 pub returns-in-Ladd : goal.returns-in-Ladd
 returns-in-Ladd c =
-    let row = two_longs_row c.args.program.now c.args.own.now c.args.instr.now c.binary_of.result c.args.next c.args.frame.now.locals c.args.frame.now.stack.values c.args.heap.now c.binary_of.ensures c.in-Ladd.is in
+    let row = two_longs_row c.args.program.now c.args.own.now c.args.instr.now c.binary_of-in-Ladd.result c.args.next c.args.frame.now.locals c.args.frame.now.stack.values c.args.heap.now c.binary_of-in-Ladd.ensures c.in-Ladd.is in
     record { step = rw row c.two_longs.ensures.step; same = c.two_longs.ensures.same }
 
 pub shift_int-requires : goal.shift_int-requires
 shift_int-requires c =
-    let row = int_shift_row c.args.program.now c.args.own.now c.args.instr.now c.shift_of-in-Ishl.result c.args.next c.args.frame.now.locals c.args.frame.now.stack.values c.args.heap.now c.shift_of-in-Ishl.ensures c.in-Ishl.is in
+    let row = int_shift_row c.args.program.now c.args.own.now c.args.instr.now c.shift_of.result c.args.next c.args.frame.now.locals c.args.frame.now.stack.values c.args.heap.now c.shift_of.ensures c.in-Ishl.is in
     record { fine = rw row at c.requires.fine; room = rw row at c.requires.room }
 
 pub returns-in-Ishl : goal.returns-in-Ishl
 returns-in-Ishl c =
-    let row = int_shift_row c.args.program.now c.args.own.now c.args.instr.now c.shift_of-in-Ishl.result c.args.next c.args.frame.now.locals c.args.frame.now.stack.values c.args.heap.now c.shift_of-in-Ishl.ensures c.in-Ishl.is in
+    let row = int_shift_row c.args.program.now c.args.own.now c.args.instr.now c.shift_of.result c.args.next c.args.frame.now.locals c.args.frame.now.stack.values c.args.heap.now c.shift_of.ensures c.in-Ishl.is in
     record { step = rw row c.shift_int.ensures.step; same = c.shift_int.ensures.same }
 
 pub shift_long-requires : goal.shift_long-requires
 shift_long-requires c =
-    let row = long_shift_row c.args.program.now c.args.own.now c.args.instr.now c.shift_of.result c.args.next c.args.frame.now.locals c.args.frame.now.stack.values c.args.heap.now c.shift_of.ensures c.in-Lshl.is in
+    let row = long_shift_row c.args.program.now c.args.own.now c.args.instr.now c.shift_of-in-Lshl.result c.args.next c.args.frame.now.locals c.args.frame.now.stack.values c.args.heap.now c.shift_of-in-Lshl.ensures c.in-Lshl.is in
     record { fine = rw row at c.requires.fine; room = rw row at c.requires.room }
 
 pub returns-in-Lshl : goal.returns-in-Lshl
 returns-in-Lshl c =
-    let row = long_shift_row c.args.program.now c.args.own.now c.args.instr.now c.shift_of.result c.args.next c.args.frame.now.locals c.args.frame.now.stack.values c.args.heap.now c.shift_of.ensures c.in-Lshl.is in
+    let row = long_shift_row c.args.program.now c.args.own.now c.args.instr.now c.shift_of-in-Lshl.result c.args.next c.args.frame.now.locals c.args.frame.now.stack.values c.args.heap.now c.shift_of-in-Lshl.ensures c.in-Lshl.is in
     record { step = rw row c.shift_long.ensures.step; same = c.shift_long.ensures.same }
 
 pub one_int-requires : goal.one_int-requires
@@ -367,20 +388,33 @@ returns-in-Ineg c =
 
 pub jump_on_int-requires : goal.jump_on_int-requires
 jump_on_int-requires c =
-    let row = int_jump_row c.args.program.now c.args.own.now c.args.instr.now c.jump_of-test-in-Ifeq.result c.args.next c.args.frame.now.locals c.args.frame.now.stack.values c.args.heap.now c.jump_of-test-in-Ifeq.ensures c.in-Ifeq.is in
+    let row = int_jump_row c.args.program.now c.args.own.now c.args.instr.now c.jump_of-test.result c.args.next c.args.frame.now.locals c.args.frame.now.stack.values c.args.heap.now c.jump_of-test.ensures c.in-Ifeq.is in
     record { fine = rw row at c.requires.fine; room = rw row at c.requires.room }
 
 pub returns-in-Ifeq : goal.returns-in-Ifeq
 returns-in-Ifeq c =
-    let row = int_jump_row c.args.program.now c.args.own.now c.args.instr.now c.jump_of-test-in-Ifeq.result c.args.next c.args.frame.now.locals c.args.frame.now.stack.values c.args.heap.now c.jump_of-test-in-Ifeq.ensures c.in-Ifeq.is in
+    let row = int_jump_row c.args.program.now c.args.own.now c.args.instr.now c.jump_of-test.result c.args.next c.args.frame.now.locals c.args.frame.now.stack.values c.args.heap.now c.jump_of-test.ensures c.in-Ifeq.is in
     record { step = rw row c.jump_on_int.ensures.step; same = c.jump_on_int.ensures.same }
 
 pub jump_on_two_ints-requires : goal.jump_on_two_ints-requires
 jump_on_two_ints-requires c =
-    let row = compare_jump_row c.args.program.now c.args.own.now c.args.instr.now c.jump_of-test.result c.args.next c.args.frame.now.locals c.args.frame.now.stack.values c.args.heap.now c.jump_of-test.ensures c.in-IfIcmpeq.is in
+    let row = compare_jump_row c.args.program.now c.args.own.now c.args.instr.now c.jump_of-test-in-IfIcmpeq.result c.args.next c.args.frame.now.locals c.args.frame.now.stack.values c.args.heap.now c.jump_of-test-in-IfIcmpeq.ensures c.in-IfIcmpeq.is in
     record { fine = rw row at c.requires.fine; room = rw row at c.requires.room }
 
 pub returns-in-IfIcmpeq : goal.returns-in-IfIcmpeq
 returns-in-IfIcmpeq c =
-    let row = compare_jump_row c.args.program.now c.args.own.now c.args.instr.now c.jump_of-test.result c.args.next c.args.frame.now.locals c.args.frame.now.stack.values c.args.heap.now c.jump_of-test.ensures c.in-IfIcmpeq.is in
+    let row = compare_jump_row c.args.program.now c.args.own.now c.args.instr.now c.jump_of-test-in-IfIcmpeq.result c.args.next c.args.frame.now.locals c.args.frame.now.stack.values c.args.heap.now c.jump_of-test-in-IfIcmpeq.ensures c.in-IfIcmpeq.is in
     record { step = rw row c.jump_on_two_ints.ensures.step; same = c.jump_on_two_ints.ensures.same }
+
+pub returns-in-Ireturn : goal.returns-in-Ireturn
+returns-in-Ireturn c =
+    let row = value_returned c.args.program.now c.args.own.now c.args.instr.now c.args.next c.args.frame.now.locals c.args.frame.now.stack.values c.args.heap.now c.in-Ireturn.is c.requires.fine in
+    record { step = (row.0, row.1, record { frame = refl; heap = refl }); same = record { method = refl; room = refl } }
+
+pub returns-in-Return : goal.returns-in-Return
+unfolding does
+returns-in-Return c = record { step = (rw c.in-Return.is, record { frame = refl; heap = refl }); same = record { method = refl; room = refl } }
+
+pub unreachable-requires : goal.unreachable-requires
+unfolding does
+unreachable-requires c = true≢false (rw c.in-Athrow.is at c.requires.fine)

@@ -4,7 +4,7 @@ use Rattle.std.specs.List.{flat_map}
 use Rattle.kilim_classes.specs.Names.{fields_of}
 use Rattle.kilim_jvm_interp.specs.instruction.Making.{first_fields}
 use Rattle.kilim_jvm_interp.proofs.instruction.Fields.{class_taken}
-use Rattle.kilim_jvm_interp.proofs.instruction.making.fields_of_each.Goals as goal
+use Rattle.kilim_jvm_interp.proofs.instruction.making.push_fields_of.Goals as goal
 
 pub loop-at-preserved : goal.loop-at-preserved
 loop-at-preserved c =
