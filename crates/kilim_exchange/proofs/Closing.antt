@@ -1,6 +1,6 @@
 -- Giving back, the first board, and the close.
 use Rattle.std.proofs.Common.{◌≡◌, ℕ, zero, suc, ◌+◌, ◌<◌, ◌≤◌, Bool, true, false, cond, ◌==◌, List, [], ◌∷◌, ◌++◌, Option, Some, None, refl, sym, ap, subst, ◌∙◌, inl, inr, arith, get_or}
-use Rattle.std.specs.Prelude.{length, slice_get, slice_set, slice_index_or, drop, if◌then◌else◌, replicate}
+use Rattle.std.specs.Prelude.{OnOk, Result, Ok, Err, length, slice_get, slice_set, slice_index_or, drop, if◌then◌else◌, replicate}
 use Rattle.std.proofs.lemmas.Bool.Decides.{nat_tests}
 use Rattle.std.proofs.lemmas.Option.{get_or_from_slice_get}
 use Rattle.std.proofs.lemmas.List.{get_or-set_same, get_or-set_other, length-set}
@@ -17,7 +17,7 @@ use Rattle.std.specs.VecDeque.{deque_capacity}
 use Rattle.kilim_classes.specs.declared.machine.value.Token.{Token}
 use Rattle.kilim_fibers.specs.declared.Wants.{Wants}
 use Rattle.kilim_fibers.specs.declared.Wants.TheVariants as wants
-use Rattle.kilim_fibers.specs.waiting.Mailboxes.{mail_of, Tree}
+use Rattle.kilim_fibers.specs.waiting.Mailboxes.{mail_of, Tree, HasRoom}
 use Rattle.kilim_fibers.proofs.waiting.Named.{counted_same}
 use Rattle.kilim_exchange.specs.declared.board.Board as kept
 use Rattle.kilim_exchange.specs.Seen.{seen, IsRoomy, RoomFor, SameBoard, CourseAt, GiveAnswers, gives_at, RestsAs, IsNewBoard, MovedWhole}
@@ -223,6 +223,23 @@ roomy_as b b' r s ready parked =
     let l = ap (λ cells. length (lent_of cells)) s.spots.cells in
     let n = ap length s.run.journal in
     record { fits = omega arith; ready = omega arith; parked = omega arith; few = omega arith; counted = counted_same (mail_of b.mailboxes) (mail_of b'.mailboxes) (length b.journal.items) (length b'.journal.items) r.counted s.run.mails (omega arith) }
+
+pub room_kept : (m n : ℕ) → n ≡ m → m ≤ n
+room_kept m n e = omega arith
+
+-- room in the journal and in the mailbox is enough for a put
+pub room_put : {T E F : Type 0} (r : Result T E) (b : kept.Board F) (w : Wants F) (box : BoxName) (tree : Tree) (shape : List Token) → w ≡ wants.Put box tree shape → length b.journal.items < vec_capacity b.journal → OnOk r (HasRoom b.mailboxes box) → OnOk r (RoomFor b w)
+room_put (Ok v) b w box tree shape is lt h = subst (RoomFor b) (sym is) (lt, h)
+room_put (Err e) b w box tree shape is lt h = tt
+
+pub room_take : {T E F : Type 0} (r : Result T E) (b : kept.Board F) (w : Wants F) (box : BoxName) → w ≡ wants.Take box → length b.journal.items < vec_capacity b.journal → OnOk r (RoomFor b w)
+room_take (Ok v) b w box is lt = subst (RoomFor b) (sym is) lt
+room_take (Err e) b w box is lt = tt
+
+-- and for a start room in the journal, among the ready and among the parked ones
+pub room_start : {T E F : Type 0} (r : Result T E) (b : kept.Board F) (w : Wants F) (f : F) (shape : List Token) → w ≡ wants.Start f shape → length b.journal.items < vec_capacity b.journal → b.tasks + 1 ≤ deque_capacity b.ready → OnOk r (b.tasks + 1 ≤ b.parked.room) → OnOk r (RoomFor b w)
+room_start (Ok v) b w f shape is lt ready parked = subst (RoomFor b) (sym is) (lt, ready, parked)
+room_start (Err e) b w f shape is lt ready parked = tt
 
 -- where neither a message is put nor a task started, room in the journal is enough
 pub room_else : {F : Type 0} (b : kept.Board F) (w : Wants F) → ((box : BoxName) (tree : Tree) (shape : List Token) → w ≡ wants.Put box tree shape → ⊥) → ((f : F) (shape : List Token) → w ≡ wants.Start f shape → ⊥) → length b.journal.items < vec_capacity b.journal → RoomFor b w
