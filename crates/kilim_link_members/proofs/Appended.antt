@@ -144,3 +144,14 @@ all_numbered make files i n made le so_far = ended (λ (fs : List ClassFile). ea
 pub all_in_each : {A B : Type 0} (list : ClassFile → List A) (make : ClassFile → ClassId → A → Option B) (files : List ClassFile) (i n : ℕ) (made : List B) {total : Option (List B)} → length files ≤ i
     → behind made (each_of itself (in_each list make n (drop i files))) ≡ total → Some made ≡ total
 all_in_each list make files i n made le so_far = ended (λ (fs : List ClassFile). each_of itself (in_each list make n fs)) files files i made refl refl le so_far
+
+-- ---- what was appended to the empty list
+
+alone : {B : Type 0} (before new : List B) (all : Bool) (others : Option (List B)) → before ≡ [] → behind before others ≡ if_all all new → others ≡ if_all all new
+alone {B} before new all others none e = begins others ∙ (ap (λ (bs : List B). behind bs others) (sym none) ∙ e)
+
+pub all_alone : {B : Type 0} (before new : List B) (all : Bool) (others : Option (List B)) → before ≡ [] → all ≡ true → behind before others ≡ if_all all new → Some new ≡ others
+all_alone before new all others none is e = sym (alone before new all others none e ∙ ap (λ (b : Bool). if_all b new) is)
+
+pub none_alone : {B : Type 0} (before new : List B) (all : Bool) (others : Option (List B)) → before ≡ [] → all ≡ false → behind before others ≡ if_all all new → None ≡ others
+none_alone before new all others none is e = sym (alone before new all others none e ∙ ap (λ (b : Bool). if_all b new) is)

@@ -1,3 +1,4 @@
 mod Appended
 mod Firsts
 mod Numbers
+mod Bodies

@@ -85,8 +85,14 @@ fn body_of(
             code: instrs,
             frames,
         })),
-        Ok(None) => Ok(None),
-        Err(fault) => Err(fault),
+        Ok(None) => {
+            drop(instrs);
+            Ok(None)
+        }
+        Err(fault) => {
+            drop(instrs);
+            Err(fault)
+        }
     }
 }
 

@@ -102,7 +102,9 @@ pub fn linked_class(
 ) -> Result<Option<Class>, NoMemory>
     ensures { IfOk result (λ found. found ≡ linked_class world.now file.now class) }
 {
-    let name = Units::from_slice(alloc, super_name(file))?;
+    let Ok(name) = Units::from_slice(alloc, super_name(file)) else {
+        return Err(NoMemory);
+    };
     match world.class_of(&name) {
         Some(up) => class_with(alloc, world, file, class, up),
         None => Ok(None),

@@ -30,10 +30,10 @@ fn constant_at(alloc: Global, pool: &Pool, index: u16) -> Result<Option<Value>, 
     match pool.entry(index) {
         Some(Entry::Integer(n)) => Ok(Some(Value::Int(*n))),
         Some(Entry::Long(n)) => Ok(Some(Value::Long(*n))),
-        Some(Entry::String(text)) => {
-            let units = Units::from_slice(alloc, text_of(pool, *text))?;
-            Ok(Some(Value::Text(units)))
-        }
+        Some(Entry::String(text)) => match Units::from_slice(alloc, text_of(pool, *text)) {
+            Ok(units) => Ok(Some(Value::Text(units))),
+            Err(_) => Err(NoMemory),
+        },
         _ => Ok(None),
     }
 }
@@ -118,7 +118,9 @@ pub fn linked_field(
 ) -> Result<Option<Field>, NoMemory>
     ensures { IfOk result (λ found. found ≡ linked_field world.now file.now class field.now) }
 {
-    let descriptor = Units::from_slice(alloc, member_descriptor(file, field))?;
+    let Ok(descriptor) = Units::from_slice(alloc, member_descriptor(file, field)) else {
+        return Err(NoMemory);
+    };
     let Ok(found) = field_text(alloc, &descriptor) else {
         return Err(NoMemory);
     };

@@ -15,6 +15,34 @@ use kilim_link_world::World;
 use kilim_units::{NoMemory, Seq};
 use std::alloc::Global;
 
+// Appends the classes of files, and answers whether all are there.
+fn push_classes(
+    alloc: Global,
+    into: &mut Seq<Class>,
+    world: &World,
+    files: &[ClassFile],
+) -> Result<bool, NoMemory>
+    ensures { IfOk result (λ all. behind into.old (each_of itself (numbered (linked_class world.now) 0 files.now)) ≡ if_all all into.new) }
+{
+    let mut number = 0;
+    for file in files {
+        match linked_class(alloc, world, file, ClassId(number)) {
+            Ok(Some(class)) => {
+                let Ok(()) = into.push(class) else {
+                    return Err(NoMemory);
+                };
+            }
+            Ok(None) => return Ok(false),
+            Err(fault) => return Err(fault),
+        }
+        number = match next(number) {
+            Ok(n) => n,
+            Err(fault) => return Err(fault),
+        };
+    }
+    Ok(true)
+}
+
 /// The classes of some files in a program, numbered from 0; none where one of them isn't there. More than
 /// 4,294,967,295 files are answered as want of memory.
 pub fn linked_classes(
@@ -25,23 +53,17 @@ pub fn linked_classes(
     ensures { IfOk result (λ classes. classes ≡ each_of itself (numbered (linked_class world.now) 0 files.now)) }
 {
     let mut classes = Seq::new(alloc);
-    let mut number = 0;
-    for file in files {
-        match linked_class(alloc, world, file, ClassId(number)) {
-            Ok(Some(class)) => {
-                let Ok(()) = classes.push(class) else {
-                    return Err(NoMemory);
-                };
-            }
-            Ok(None) => return Ok(None),
-            Err(fault) => return Err(fault),
+    match push_classes(alloc, &mut classes, world, files) {
+        Ok(true) => Ok(Some(classes)),
+        Ok(false) => {
+            drop(classes);
+            Ok(None)
         }
-        number = match next(number) {
-            Ok(n) => n,
-            Err(fault) => return Err(fault),
-        };
+        Err(fault) => {
+            drop(classes);
+            Err(fault)
+        }
     }
-    Ok(Some(classes))
 }
 
 // Appends the fields of a class, and answers whether all are there.
@@ -68,6 +90,30 @@ fn push_fields(
     Ok(true)
 }
 
+// Appends the fields of files, class by class, and answers whether all are there.
+fn push_all_fields(
+    alloc: Global,
+    into: &mut Seq<Field>,
+    world: &World,
+    files: &[ClassFile],
+) -> Result<bool, NoMemory>
+    ensures { IfOk result (λ all. behind into.old (each_of itself (members (λ file. file.fields) (linked_field world.now) files.now)) ≡ if_all all into.new) }
+{
+    let mut number = 0;
+    for file in files {
+        match push_fields(alloc, into, world, file, ClassId(number)) {
+            Ok(true) => {}
+            Ok(false) => return Ok(false),
+            Err(fault) => return Err(fault),
+        }
+        number = match next(number) {
+            Ok(n) => n,
+            Err(fault) => return Err(fault),
+        };
+    }
+    Ok(true)
+}
+
 /// The fields of some files in a program, class by class, the classes numbered from 0; none where one of them isn't
 /// there. More than 4,294,967,295 files are answered as want of memory.
 pub fn linked_fields(
@@ -78,19 +124,17 @@ pub fn linked_fields(
     ensures { IfOk result (λ fields. fields ≡ each_of itself (members (λ file. file.fields) (linked_field world.now) files.now)) }
 {
     let mut fields = Seq::new(alloc);
-    let mut number = 0;
-    for file in files {
-        match push_fields(alloc, &mut fields, world, file, ClassId(number)) {
-            Ok(true) => {}
-            Ok(false) => return Ok(None),
-            Err(fault) => return Err(fault),
+    match push_all_fields(alloc, &mut fields, world, files) {
+        Ok(true) => Ok(Some(fields)),
+        Ok(false) => {
+            drop(fields);
+            Ok(None)
         }
-        number = match next(number) {
-            Ok(n) => n,
-            Err(fault) => return Err(fault),
-        };
+        Err(fault) => {
+            drop(fields);
+            Err(fault)
+        }
     }
-    Ok(Some(fields))
 }
 
 // Appends the methods of a class, and answers whether all are there.
@@ -117,6 +161,30 @@ fn push_methods(
     Ok(true)
 }
 
+// Appends the methods of files, class by class, and answers whether all are there.
+fn push_all_methods(
+    alloc: Global,
+    into: &mut Seq<Method>,
+    world: &World,
+    files: &[ClassFile],
+) -> Result<bool, NoMemory>
+    ensures { IfOk result (λ all. behind into.old (each_of itself (members (λ file. file.methods) (linked_method world.now) files.now)) ≡ if_all all into.new) }
+{
+    let mut number = 0;
+    for file in files {
+        match push_methods(alloc, into, world, file, ClassId(number)) {
+            Ok(true) => {}
+            Ok(false) => return Ok(false),
+            Err(fault) => return Err(fault),
+        }
+        number = match next(number) {
+            Ok(n) => n,
+            Err(fault) => return Err(fault),
+        };
+    }
+    Ok(true)
+}
+
 /// The methods of some files in a program, class by class, the classes numbered from 0; none where one of them isn't
 /// there. More than 4,294,967,295 files are answered as want of memory.
 pub fn linked_methods(
@@ -127,17 +195,15 @@ pub fn linked_methods(
     ensures { IfOk result (λ methods. methods ≡ each_of itself (members (λ file. file.methods) (linked_method world.now) files.now)) }
 {
     let mut methods = Seq::new(alloc);
-    let mut number = 0;
-    for file in files {
-        match push_methods(alloc, &mut methods, world, file, ClassId(number)) {
-            Ok(true) => {}
-            Ok(false) => return Ok(None),
-            Err(fault) => return Err(fault),
+    match push_all_methods(alloc, &mut methods, world, files) {
+        Ok(true) => Ok(Some(methods)),
+        Ok(false) => {
+            drop(methods);
+            Ok(None)
         }
-        number = match next(number) {
-            Ok(n) => n,
-            Err(fault) => return Err(fault),
-        };
+        Err(fault) => {
+            drop(methods);
+            Err(fault)
+        }
     }
-    Ok(Some(methods))
 }

@@ -154,7 +154,9 @@ pub fn linked_method(
 ) -> Result<Option<Method>, NoMemory>
     ensures { IfOk result (λ found. found ≡ linked_method world.now file.now class method.now) }
 {
-    let declared = declared_method(alloc, file, method)?;
+    let Ok(declared) = declared_method(alloc, file, method) else {
+        return Err(NoMemory);
+    };
     let found = linked_declared(alloc, world, file, class, method, &declared);
     drop(declared);
     found

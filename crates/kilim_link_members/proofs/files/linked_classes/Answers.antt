@@ -1,13 +1,10 @@
-use Rattle.std.proofs.Common.{sym, ◌∙◌}
-use Rattle.kilim_link_spec.specs.Linked.{linked_class}
-use Rattle.kilim_link_members.proofs.Appended.{next_numbered, not_numbered, all_numbered}
+use Rattle.kilim_link_spec.specs.Types.{each_of, itself}
+use Rattle.kilim_link_spec.specs.Linked.{linked_class, numbered}
+use Rattle.kilim_link_members.proofs.Appended.{all_alone, none_alone}
 use Rattle.kilim_link_members.proofs.files.linked_classes.Goals as goal
 
-pub returns-in-Ok-None : goal.returns-in-Ok-None
-returns-in-Ok-None c = not_numbered (linked_class c.args.world.now) c.args.files.now c.loop-file.file-index c.loop-file.number c.file-item.result c.loop-file.classes c.loop-file-test.true c.file-item.is c.loop-file.invariant (sym c.in-Ok-None.field-0-is ∙ c.in-Ok-None.ensures)
+pub returns-in-Ok-true : goal.returns-in-Ok-true
+returns-in-Ok-true c = all_alone c.new-classes.result c.push_classes.new.into c.in-Ok-true.field-0 (each_of itself (numbered (linked_class c.args.world.now) 0 c.args.files.now)) c.new-classes.ensures c.in-Ok-true.field-0-test c.in-Ok-true.ensures
 
-pub loop-file-preserved : goal.loop-file-preserved
-loop-file-preserved c = next_numbered (linked_class c.args.world.now) c.args.files.now c.loop-file.file-index c.loop-file.number c.file-item.result c.loop-file.classes c.loop-file-test.true c.file-item.is c.loop-file.invariant c.in-Ok-next.n c.in-Ok-Some.class c.push.new.self c.in-Ok-next.ensures (sym c.in-Ok-Some.field-0-is ∙ c.in-Ok-Some.ensures) c.in-Ok.ensures.ok
-
-pub returns : goal.returns
-returns c = all_numbered (linked_class c.args.world.now) c.args.files.now c.loop-file.file-index c.loop-file.number c.loop-file.classes c.loop-file-test.false c.loop-file.invariant
+pub returns-in-Ok-false : goal.returns-in-Ok-false
+returns-in-Ok-false c = none_alone c.new-classes.result c.push_classes.new.into c.in-Ok-false.field-0 (each_of itself (numbered (linked_class c.args.world.now) 0 c.args.files.now)) c.new-classes.ensures c.in-Ok-false.field-0-test c.in-Ok-false.ensures

@@ -1,0 +1,95 @@
+-- What a method comes to, part by part.
+use Rattle.std.proofs.Common.{◌≡◌, ℕ, List, length, Option, Some, None, Result, refl, sym, ap, subst, ◌∙◌}
+use Rattle.std.specs.Prelude.{IfOk}
+use Rattle.kilim_attributes.specs.declared.attribute.Code.{Code}
+use Rattle.kilim_classfile.specs.declared.class_file.ClassFile.{ClassFile}
+use Rattle.kilim_classfile.specs.declared.class_file.MemberInfo.{MemberInfo}
+use Rattle.kilim_classes.specs.declared.class.Method.{Method}
+use Rattle.kilim_classes.specs.declared.instr.Instr.{Instr}
+use Rattle.kilim_classes.specs.declared.names.ClassId.{ClassId}
+use Rattle.kilim_classes.specs.declared.ty.Ty.{Ty}
+use Rattle.kilim_classes.specs.declared.verified.Frame.{Frame}
+use Rattle.kilim_classes.specs.Names.{◌>>=◌}
+use Rattle.kilim_descriptors.specs.declared.types.MethodText.{MethodText}
+use Rattle.kilim_link_spec.specs.Code.{code_of, decoded}
+use Rattle.kilim_link_spec.specs.Frames.{frames_in}
+use Rattle.kilim_link_spec.specs.Linked.{body_in, body_with, code_attribute, linked_method, method_with}
+use Rattle.kilim_link_spec.specs.Types.{method_text, result_in, types_in}
+use Rattle.kilim_link_spec.specs.World.{World, declared_method}
+use Rattle.kilim_link_spec.specs.declared.view.DeclaredMethod.{DeclaredMethod}
+use Rattle.kilim_link_spec.specs.declared.named.Body.{Body}
+
+-- ---- of its code
+
+module _ (w : World) (file : ClassFile) (c : ClassId) (method : MemberInfo) (declared : DeclaredMethod) (declared_is : declared ≡ declared_method file method) (code : Code) (bytes : List ℕ) (bytes_are : bytes ≡ code.code) where
+  abbrev Instrs : Type 0
+  Instrs = Option (List (ℕ × Instr))
+
+  abbrev Frames : Type 0
+  Frames = Option (List (ℕ × Frame))
+
+  abbrev body : Instrs → Frames → Option Body
+  body instrs frames = do
+    is ← instrs
+    fs ← frames
+    Some (body_with code is fs)
+
+  abbrev counted : ℕ → List (ℕ × Instr) → List (ℕ × Frame) → Body
+  counted count instrs frames = record { max_stack = code.max_stack; max_locals = code.max_locals; code_length = count; code = instrs; frames = frames }
+
+  whole : (instrs : Instrs) → instrs ≡ code_of w file.constant_pool (decoded bytes) → body instrs (frames_in w file c declared code) ≡ body_in w file c method (Some code)
+  whole instrs are =
+      ap (λ (is : Instrs). body is (frames_in w file c declared code)) (are ∙ ap (λ (bs : List ℕ). code_of w file.constant_pool (decoded bs)) bytes_are)
+      ∙ ap (λ (m : DeclaredMethod). body (code_of w file.constant_pool (decoded code.code)) (frames_in w file c m code)) declared_is
+
+  pub no_instrs : (instrs : Instrs) → instrs ≡ code_of w file.constant_pool (decoded bytes) → instrs ≡ None → None ≡ body_in w file c method (Some code)
+  no_instrs instrs are none = ap (λ (is : Instrs). body is (frames_in w file c declared code)) (sym none) ∙ whole instrs are
+
+  module _ (found : Instrs) (are : found ≡ code_of w file.constant_pool (decoded bytes)) (instrs : List (ℕ × Instr)) (there : found ≡ Some instrs) where
+    with_frames : body (Some instrs) (frames_in w file c declared code) ≡ body_in w file c method (Some code)
+    with_frames = ap (λ (is : Instrs). body is (frames_in w file c declared code)) (sym there) ∙ whole found are
+
+    pub no_frames : None ≡ frames_in w file c declared code → None ≡ body_in w file c method (Some code)
+    no_frames none = ap (body (Some instrs)) none ∙ with_frames
+
+    pub has_body : (count : ℕ) (frames : List (ℕ × Frame)) → count ≡ length code.code → Some frames ≡ frames_in w file c declared code → Some (counted count instrs frames) ≡ body_in w file c method (Some code)
+    has_body count frames count_is fs = ap (λ (n : ℕ). Some (counted n instrs frames)) count_is ∙ (ap (body (Some instrs)) fs ∙ with_frames)
+
+-- ---- of its types and its body
+
+module _ (w : World) (file : ClassFile) (c : ClassId) (method : MemberInfo) (declared : DeclaredMethod) (declared_is : declared ≡ declared_method file method) (text : MethodText) (text_is : Some text ≡ method_text declared.descriptor) where
+  abbrev made : Option (List Ty) → Option (Option Ty) → Option Body → Option Method
+  made types gives found = do
+    params ← types
+    result ← gives
+    b ← found
+    Some (method_with w file c method params result b)
+
+  all_made : made (types_in w text.params) (result_in w text.result) (body_in w file c method (code_attribute method)) ≡ linked_method w file c method
+  all_made =
+      let here : Some text ≡ method_text (declared_method file method).descriptor = text_is ∙ ap (λ (m : DeclaredMethod). method_text m.descriptor) declared_is in
+      ap (λ (t : Option MethodText). t >>= λ (t : MethodText). made (types_in w t.params) (result_in w t.result) (body_in w file c method (code_attribute method))) here
+
+  without_result : (types : Option (List Ty)) (found : Option Body) → None ≡ made types None found
+  without_result None found = refl
+  without_result (Some params) found = refl
+
+  pub no_result : None ≡ result_in w text.result → None ≡ linked_method w file c method
+  no_result none =
+      without_result (types_in w text.params) (body_in w file c method (code_attribute method))
+      ∙ (ap (λ (r : Option (Option Ty)). made (types_in w text.params) r (body_in w file c method (code_attribute method))) none ∙ all_made)
+
+  pub no_types : None ≡ types_in w text.params → None ≡ linked_method w file c method
+  no_types none = ap (λ (ts : Option (List Ty)). made ts (result_in w text.result) (body_in w file c method (code_attribute method))) none ∙ all_made
+
+  module _ (params : List Ty) (gives : Option Ty) (types_are : Some params ≡ types_in w text.params) (gives_is : Some gives ≡ result_in w text.result) where
+    with_types : made (Some params) (Some gives) (body_in w file c method (code_attribute method)) ≡ linked_method w file c method
+    with_types =
+        ap (λ (r : Option (Option Ty)). made (Some params) r (body_in w file c method (code_attribute method))) gives_is
+        ∙ (ap (λ (ts : Option (List Ty)). made ts (result_in w text.result) (body_in w file c method (code_attribute method))) types_are ∙ all_made)
+
+    pub no_body : None ≡ body_in w file c method (code_attribute method) → None ≡ linked_method w file c method
+    no_body none = ap (made (Some params) (Some gives)) none ∙ with_types
+
+    pub has_all : (body : Body) → Some body ≡ body_in w file c method (code_attribute method) → Some (method_with w file c method params gives body) ≡ linked_method w file c method
+    has_all found is = ap (made (Some params) (Some gives)) is ∙ with_types
