@@ -262,7 +262,9 @@ pub fn walk(alloc: Global, program: &Program, method: &Method) -> Result<Walked,
     if method.code.is_empty() {
         return Ok(Walked::Frames(Vec::new(alloc)));
     }
-    let walked = walk_body(alloc, program, method)?;
+    let Ok(walked) = walk_body(alloc, program, method) else {
+        return Err(NoMemory);
+    };
     let unfit = frame_fault(method);
     Ok(earlier(walked, unfit))
 }

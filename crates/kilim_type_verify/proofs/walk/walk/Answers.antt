@@ -9,4 +9,4 @@ returns-then-is_empty c =
 
 pub returns : goal.returns
 returns c =
-    c.earlier.ensures c.args.program.now c.args.method.now c.in_ok-walked.ensures c.frame_fault-unfit.ensures (some_code c.args.method.now (sym c.is_empty.ensures ∙ c.if-is_empty.false))
+    c.earlier.ensures c.args.program.now c.args.method.now c.in-Ok.ensures c.frame_fault-unfit.ensures (some_code c.args.method.now (sym c.is_empty.ensures ∙ c.if-is_empty.false))
