@@ -176,7 +176,9 @@ fn save_live(
     let Ok(saved) = saved(alloc, plan, frame, place, next) else {
         return Err(NoMemory);
     };
-    save_locals(plan, saved.as_slice(), items)
+    let kept = save_locals(plan, saved.as_slice(), items);
+    drop(saved);
+    kept
 }
 
 // What leaves the method where the fiber is pausing: the saves, the place, a dummy return.

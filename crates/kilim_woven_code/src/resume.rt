@@ -81,7 +81,9 @@ fn restore_saved(
     let Ok(saved) = saved(alloc, plan, frame, place, next) else {
         return Err(NoMemory);
     };
-    restore_locals(plan, saved.as_slice(), items)
+    let restored = restore_locals(plan, saved.as_slice(), items);
+    drop(saved);
+    restored
 }
 
 fn resume_code(
