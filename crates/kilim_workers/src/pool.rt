@@ -61,29 +61,6 @@ where
     );
 }
 
-// The same over all passes.
-fn work_all<F: Fibers + Send, K: Run + Send, R: Threads + Wait + Sync, G: Gate>(
-    rt: &R,
-    turn: &Turn<RunBoard<F, K>>,
-    passes: &mut Vec<Pass>,
-    workers: usize,
-    code: &F::Code,
-    limits: &Limits,
-    gate: &G,
-)
-where
-    F::Code: Sync,
-    requires workers { 0 < workers }
-    requires some { (set : Setting) × K.of set }
-    requires run { RunsOn F.serves K.of code.now limits.now }
-    requires all { AreAllOf board_cells turn.now passes.old.items }
-    requires free { All (λ p. shows p ≡ []) passes.old.items }
-    ensures all { AreAllOf board_cells turn.now passes.new.items }
-    ensures empty { All (λ p. shows p ≡ []) passes.new.items }
-{
-    work_each(rt, turn, passes.as_mut_slice(), workers, code, limits, gate);
-}
-
 // Puts the board away, lets all workers work, and takes it out again.
 fn run_round<F: Fibers + Send, K: Run + Send, R: Threads + Wait + Sync, G: Gate>(
     rt: &R,
@@ -102,11 +79,24 @@ where
     requires free { board_cells board ≡ replicate workers [] }
     ensures { IfOk result (λ b. board_cells b ≡ replicate workers []) }
 {
-    let Ok((turn, mut passes)) = Turn::open(alloc, board, workers) else {
-        return Err(NoMemory);
-    };
-    work_all(rt, &turn, &mut passes, workers, code, limits, gate);
-    Ok(turn.close(passes))
+    match Turn::open(alloc, board, workers) {
+        Ok((turn, mut passes)) => {
+            work_each(
+                rt,
+                &turn,
+                passes.as_mut_slice(),
+                workers,
+                code,
+                limits,
+                gate,
+            );
+            Ok(turn.close(passes))
+        }
+        Err(board) => {
+            drop(board);
+            Err(NoMemory)
+        }
+    }
 }
 
 // Whether no fiber is ready between rounds: the first one that is ready is lent, and given back.
@@ -129,7 +119,7 @@ fn is_quiet<F: Fibers, K: Run>(board: &mut RunBoard<F, K>, workers: usize) -> Re
     }
 }
 
-// Rounds, until no fiber is ready.
+// Rounds, until no fiber is ready: the journal of the run.
 fn run_rounds<F: Fibers + Send, K: Run + Send, R: Threads + Wait + Sync, G: Gate>(
     rt: &R,
     alloc: Global,
@@ -138,14 +128,14 @@ fn run_rounds<F: Fibers + Send, K: Run + Send, R: Threads + Wait + Sync, G: Gate
     code: &F::Code,
     limits: &Limits,
     gate: &G,
-) -> Result<RunBoard<F, K>, NoMemory>
+) -> Result<Vec<Entry>, NoMemory>
 where
     F::Code: Sync,
     requires workers { (1 ≤ workers) × (workers ≤ 16) }
     requires some { (set : Setting) × K.of set }
     requires run { RunsOn F.serves K.of code.now limits.now }
     requires free { board_cells board ≡ replicate workers [] }
-    ensures { IfOk result (λ b. (b.stopped ≡ false) × IsQuiet (seen b)) }
+    ensures { (set : Setting) → K.of set → IfOk result (λ es. MovedWhole set es.items) }
 {
     let mut board = board;
     for _ in rt.forever() {
@@ -154,7 +144,7 @@ where
         };
         board = next;
         match is_quiet(&mut board, workers) {
-            Ok(true) => return Ok(board),
+            Ok(true) => return board.finish(),
             Ok(false) => {}
             Err(fault) => {
                 drop(board);
@@ -188,10 +178,7 @@ where
     let Ok(board) = RunBoard::<F, K>::new(alloc, fiber, workers) else {
         return Err(NoMemory);
     };
-    match run_rounds(rt, alloc, board, workers, code, limits, gate) {
-        Ok(board) => board.finish(),
-        Err(_) => Err(NoMemory),
-    }
+    run_rounds(rt, alloc, board, workers, code, limits, gate)
 }
 
 /// Runs a program with so many workers. It may wait.

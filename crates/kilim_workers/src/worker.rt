@@ -176,6 +176,38 @@ fn run_fiber<F: Fibers, K: Run, R: Wait>(
     unreachable!()
 }
 
+// Runs the next fiber that is ready, or waits a short while for one. Whether there may be more to do.
+fn work_once<F: Fibers, K: Run, R: Wait, G: Gate>(
+    rt: &R,
+    turn: &Turn<RunBoard<F, K>>,
+    pass: &mut Pass,
+    code: &F::Code,
+    limits: &Limits,
+    gate: &G,
+) -> bool
+    requires some { (set : Setting) × K.of set }
+    requires run { RunsOn F.serves K.of code.now limits.now }
+    requires pass { IsPassOf board_cells turn.now pass.old }
+    requires free { shows pass.old ≡ [] }
+    ensures pass { IsPassOf board_cells turn.now pass.new }
+    ensures seat { seat_of pass.new ≡ seat_of pass.old }
+    ensures empty { shows pass.new ≡ [] }
+{
+    match take_one(rt, turn, pass) {
+        Lent::Fiber(fiber) => {
+            gate.pass(fiber.task(), fiber.records());
+            run_fiber(rt, turn, pass, fiber, code, limits);
+            true
+        }
+        Lent::Idle => {
+            turn.rest(rt, pass);
+            true
+        }
+        Lent::Quiet => false,
+        Lent::Stopped => false,
+    }
+}
+
 /// Runs fibers until none is ready and none is lent, or the board is stopped.
 pub fn run_worker<F: Fibers, K: Run, R: Wait, G: Gate>(
     rt: &R,
@@ -194,14 +226,8 @@ pub fn run_worker<F: Fibers, K: Run, R: Wait, G: Gate>(
     ensures empty { shows pass.new ≡ [] }
 {
     for _ in rt.forever() {
-        match take_one(rt, turn, pass) {
-            Lent::Fiber(fiber) => {
-                gate.pass(fiber.task(), fiber.records());
-                run_fiber(rt, turn, pass, fiber, code, limits);
-            }
-            Lent::Idle => turn.rest(rt, pass),
-            Lent::Quiet => return,
-            Lent::Stopped => return,
+        if !work_once(rt, turn, pass, code, limits, gate) {
+            return;
         }
     }
     unreachable!()

@@ -14,6 +14,3 @@ new-requires g c = record {
 
 pub run_rounds-requires-clause-run : goal.run_rounds-requires-clause-run
 run_rounds-requires-clause-run g c κs _ = λ set is. let r = c.requires.run set is in (r.run.served, r.is-limits)
-
-pub finish-requires : goal.finish-requires
-finish-requires g c = record { running = c.in-Ok-run_rounds.ensures.0; quiet = c.in-Ok-run_rounds.ensures.1 }
