@@ -7,3 +7,4 @@ pub mod CodeFormat
 pub mod AttributeFormat
 pub mod Sized
 pub mod Fronts
+pub mod ByForm

@@ -98,7 +98,9 @@ fn push_code_bytes(code: &[u8], into: &mut Vec<u8>) -> Result<(), AllocError>
     requires { length code.now < 2 ^ 32 }
     ensures { OnOk result (into.new.items ≡ into.old.items ++ (u4 (length code.now) ++ code.now)) }
 {
-    push_u32(into, code.len() as u32)?;
+    let Ok(()) = push_u32(into, code.len() as u32) else {
+        return Err(AllocError);
+    };
     into.extend_from_slice(code)
 }
 
@@ -142,7 +144,9 @@ fn push_classes(classes: &Seq<u16>, into: &mut Vec<u8>) -> Result<(), AllocError
     requires { length classes.now < 2 ^ 16 }
     ensures { OnOk result (into.new.items ≡ into.old.items ++ list_text u2 classes.now) }
 {
-    push_u16(into, classes.len() as u16)?;
+    let Ok(()) = push_u16(into, classes.len() as u16) else {
+        return Err(AllocError);
+    };
     push_each_class(classes.as_slice(), into)
 }
 
