@@ -19,7 +19,7 @@ use kilim_fibers::waiting::{Mailboxes, Parked, Waiter, line_up, note, wake};
 use kilim_fibers::{Answer, Fibers, Wants};
 use kilim_journal::{Act, Entry};
 use kilim_tree_move::Tree;
-use kilim_units::NoMemory;
+use kilim_units::{NoMemory, Seq};
 use std::alloc::Global;
 use std::collections::VecDeque;
 
@@ -349,7 +349,7 @@ impl<F: Fibers> Board<F> {
 
 // A journal with an entry for each of so many tasks that is parked, by increasing number.
 fn with_waits<F: Fibers>(
-    mut journal: Vec<Entry>,
+    journal: Vec<Entry>,
     alloc: Global,
     waiters: &[Waiter<F>],
     tasks: u32,
@@ -359,18 +359,19 @@ fn with_waits<F: Fibers>(
     let Ok(boxes) = parked_boxes(alloc, waiters, tasks as usize) else {
         return Err(NoMemory);
     };
+    let mut entries = Seq::from_vec(journal);
     for t in 0..tasks {
         match parked_at(&boxes, t) {
             Some(mailbox) => {
                 let act = Act::Wait(mailbox);
-                let Ok(()) = journal.push(Entry { task: t, act }) else {
+                let Ok(()) = entries.push(Entry { task: t, act }) else {
                     return Err(NoMemory);
                 };
             }
             None => {}
         }
     }
-    Ok(journal)
+    Ok(entries.into_vec())
 }
 
 // The mailbox of a task, where it is one of those that are asked for.

@@ -3,4 +3,4 @@ use Rattle.kilim_exchange.specs.Board.{closing}
 use Rattle.kilim_exchange.proofs.board.with_waits.Given as goal
 
 abbrev pub invariant-loop-t : goal.invariant-loop-t
-invariant-loop-t g l = l.journal.items ≡ l.fn.journal.items ++ closing g.F.Fibers.task_of l.waiters 0 l.t
+invariant-loop-t g l = l.entries ≡ l.fn.journal.items ++ closing g.F.Fibers.task_of l.waiters 0 l.t
