@@ -89,12 +89,10 @@ pub fn cast(
     ensures step { Shows own.now (does program.now own.now (Checkcast ty.now) next frame.old.locals frame.old.stack.values heap.now) next result frame.old frame.new heap.now heap.now }
     ensures same { SameFrame frame.old frame.new }
 {
-    let value = frame.stack.pop();
-    let Ok(class) = type_of(program, &value, heap) else {
+    let Ok(class) = type_of(program, frame.stack.peek(0), heap) else {
         return Moved::NoMemory;
     };
     if cast_fits(program, class, ty) {
-        frame.stack.push(value);
         Moved::Next
     } else {
         Moved::Raised(EndCause::Cast)
