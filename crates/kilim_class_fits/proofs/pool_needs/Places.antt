@@ -1,5 +1,5 @@
 -- The index at which a search through a pool's indices stops.
-use Rattle.std.proofs.Common.{◌&&◌, ◌==◌, bytes_eq, eq-eqb, ◌≡◌, inl, inr, ℕ, zero, suc, ◌+◌, ◌<◌, ◌≤◌, Bool, true, false, cond, List, [], ◌∷◌, ◌++◌, length, Option, Some, None, option_map, refl, sym, ap, ◌∙◌, arith}
+use Rattle.std.proofs.Common.{OnOk, Result, Ok, Err, ◌&&◌, ◌==◌, bytes_eq, eq-eqb, ◌≡◌, inl, inr, ℕ, zero, suc, ◌+◌, ◌<◌, ◌≤◌, Bool, true, false, cond, List, [], ◌∷◌, ◌++◌, length, Option, Some, None, option_map, refl, sym, ap, ◌∙◌, arith}
 use Rattle.std.specs.List.{position_from}
 use Rattle.std.proofs.lemmas.Slice.Eq.{bytes_eq-Decides}
 use Rattle.kilim_constant_pool.specs.declared.entry.Entry.{Entry}
@@ -121,6 +121,11 @@ pub same_numbers : (a b : ℕ) → ((a == a) && (b == b)) ≡ true
 same_numbers a b = ap (λ x. x && (b == b)) (eq-eqb a a refl) ∙ eq-eqb b b refl
 
 -- ---- a method, step by step
+
+-- what follows where all was added
+pub on_ok : {A E P Q : Type 0} (r : Result A E) → (P → Q) → OnOk r P → OnOk r Q
+on_ok (Ok x) go p = go p
+on_ok (Err x) go p = p
 
 pub method_chain : (o n d : List ℕ) (p0 p1 p2 : List Entry) (c t : ℕ) → p1 ≡ with_class o p0 → p2 ≡ with_text n p1 → c ≡ class_index p2 o → t ≡ text_index p2 n → with_call c t d p2 ≡ with_method o n d p0
 method_chain o n d p0 p1 p2 c t e1 e2 ec et =

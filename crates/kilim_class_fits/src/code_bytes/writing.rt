@@ -222,7 +222,9 @@ pub fn code_bytes(alloc: Global, code: &[(u32, RawInstr)]) -> Result<Seq<u8>, No
 {
     let mut bytes = Vec::new(alloc);
     for (at, instr) in code {
-        push_instr(&mut bytes, *at, instr)?;
+        let Ok(()) = push_instr(&mut bytes, *at, instr) else {
+            return Err(NoMemory);
+        };
     }
     Ok(Seq::from_vec(bytes))
 }

@@ -21,58 +21,65 @@ fn append(pool: &mut Pool, entry: Entry) -> Result<(), NoMemory>
 fn with_text(pool: &mut Pool, units: &Units) -> Result<(), NoMemory>
     ensures { OnOk result (pool.new ≡ with_text units.now pool.old) }
 {
-    if text_index(pool, units) == 0 {
-        append(pool, Entry::Utf8(units.clone()?))?;
+    if text_index(pool, units) != 0 {
+        return Ok(());
     }
-    Ok(())
+    let Ok(text) = units.clone() else {
+        return Err(NoMemory);
+    };
+    append(pool, Entry::Utf8(text))
 }
 
 fn with_pair(pool: &mut Pool, name: u16, descriptor: u16) -> Result<(), NoMemory>
     ensures { OnOk result (pool.new ≡ with_pair name descriptor pool.old) }
 {
-    if pair_index(pool, name, descriptor) == 0 {
-        append(pool, Entry::NameAndType(name, descriptor))?;
+    if pair_index(pool, name, descriptor) != 0 {
+        return Ok(());
     }
-    Ok(())
+    append(pool, Entry::NameAndType(name, descriptor))
 }
 
 fn with_ref(pool: &mut Pool, class: u16, member: u16) -> Result<(), NoMemory>
     ensures { OnOk result (pool.new ≡ with_ref class member pool.old) }
 {
-    if ref_index(pool, class, member) == 0 {
-        append(pool, Entry::Methodref(class, member))?;
+    if ref_index(pool, class, member) != 0 {
+        return Ok(());
     }
-    Ok(())
+    append(pool, Entry::Methodref(class, member))
 }
 
 // A class whose name is there.
 fn class_behind(pool: &mut Pool, name: &Units) -> Result<(), NoMemory>
     ensures { OnOk result (pool.new ≡ class_behind name.now pool.old) }
 {
-    if class_index(pool, name) == 0 {
-        let text = text_index(pool, name);
-        if text == 0 {
-            return Err(NoMemory); // the name was added before
-        }
-        append(pool, Entry::Class(text))?;
+    if class_index(pool, name) != 0 {
+        return Ok(());
     }
-    Ok(())
+    let text = text_index(pool, name);
+    if text == 0 {
+        return Err(NoMemory); // the name was added before
+    }
+    append(pool, Entry::Class(text))
 }
 
 fn with_class(pool: &mut Pool, name: &Units) -> Result<(), NoMemory>
     ensures { OnOk result (pool.new ≡ with_class name.now pool.old) }
 {
-    if class_index(pool, name) == 0 {
-        with_text(pool, name)?;
-        class_behind(pool, name)?;
+    if class_index(pool, name) != 0 {
+        return Ok(());
     }
-    Ok(())
+    let Ok(()) = with_text(pool, name) else {
+        return Err(NoMemory);
+    };
+    class_behind(pool, name)
 }
 
 fn with_member(pool: &mut Pool, class: u16, name: u16, descriptor: u16) -> Result<(), NoMemory>
     ensures { OnOk result (pool.new ≡ with_member class name descriptor pool.old) }
 {
-    with_pair(pool, name, descriptor)?;
+    let Ok(()) = with_pair(pool, name, descriptor) else {
+        return Err(NoMemory);
+    };
     let pair = pair_index(pool, name, descriptor);
     with_ref(pool, class, pair)
 }
@@ -80,7 +87,9 @@ fn with_member(pool: &mut Pool, class: u16, name: u16, descriptor: u16) -> Resul
 fn with_call(pool: &mut Pool, class: u16, name: u16, descriptor: &Units) -> Result<(), NoMemory>
     ensures { OnOk result (pool.new ≡ with_call class name descriptor.now pool.old) }
 {
-    with_text(pool, descriptor)?;
+    let Ok(()) = with_text(pool, descriptor) else {
+        return Err(NoMemory);
+    };
     let text = text_index(pool, descriptor);
     with_member(pool, class, name, text)
 }
@@ -93,8 +102,12 @@ fn with_method(
 ) -> Result<(), NoMemory>
     ensures { OnOk result (pool.new ≡ with_method owner.now name.now descriptor.now pool.old) }
 {
-    with_class(pool, owner)?;
-    with_text(pool, name)?;
+    let Ok(()) = with_class(pool, owner) else {
+        return Err(NoMemory);
+    };
+    let Ok(()) = with_text(pool, name) else {
+        return Err(NoMemory);
+    };
     let class = class_index(pool, owner);
     let text = text_index(pool, name);
     with_call(pool, class, text, descriptor)
@@ -122,7 +135,9 @@ pub fn with_needs(pool: &mut Pool, needs: &[Need]) -> Result<(), NoMemory>
     ensures { OnOk result (pool.new ≡ with_needs pool.old needs.now) }
 {
     for need in needs {
-        with_need(pool, need)?;
+        let Ok(()) = with_need(pool, need) else {
+            return Err(NoMemory);
+        };
     }
     Ok(())
 }

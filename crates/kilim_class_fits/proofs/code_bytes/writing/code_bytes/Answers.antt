@@ -6,7 +6,7 @@ use Rattle.kilim_class_fits.proofs.code_bytes.writing.code_bytes.Goals as goal
 pub loop-at-preserved : goal.loop-at-preserved
 loop-at-preserved c =
     text_step placed_text c.args.code.now c.loop-at.at-index c.loop-at-item.result c.loop-at.bytes.items c.push_instr.new.into.items (flat_map placed_text c.args.code.now)
-    c.loop-at-test.true c.loop-at-item.is c.loop-at.invariant c.in_ok-push_instr.ensures
+    c.loop-at-test.true c.loop-at-item.is c.loop-at.invariant c.in-Ok.ensures
 
 pub returns : goal.returns
 unfolding code_text

@@ -14,7 +14,7 @@ one_more needs i need pool next whole lt is made so_far =
 
 pub loop-need-preserved : goal.loop-need-preserved
 loop-need-preserved c =
-    one_more c.args.needs.now c.loop-need.need-index c.need-item.result c.loop-need.pool c.with_need.new.pool _ c.loop-need-test.true c.need-item.is c.in_ok-with_need.ensures c.loop-need.invariant
+    one_more c.args.needs.now c.loop-need.need-index c.need-item.result c.loop-need.pool c.with_need.new.pool _ c.loop-need-test.true c.need-item.is c.in-Ok.ensures c.loop-need.invariant
 
 pub returns : goal.returns
 unfolding with_needs
