@@ -48,6 +48,8 @@ pub fn lineages_of(alloc: Global, ups: &[Option<ClassId>]) -> Result<Inherited, 
     requires { length ups.now < 2 ^ 32 }
     ensures { IfOk result (λ it. IsRight ups.now (each_below own_key (length ups.now)) it) }
 {
-    let entries = own_keys(alloc, ups.len())?;
+    let Ok(entries) = own_keys(alloc, ups.len()) else {
+        return Err(NoMemory);
+    };
     Inherited::new(alloc, ups, entries.as_slice())
 }

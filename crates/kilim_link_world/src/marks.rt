@@ -66,7 +66,9 @@ fn marks_above(alloc: Global, ups: &[Option<ClassId>], own: &[bool]) -> Result<I
     requires { length own.now ≤ length ups.now }
     ensures { IfOk result (λ it. IsRight ups.now (map mark_entries own.now) it) }
 {
-    let entries = all_mark_entries(alloc, own)?;
+    let Ok(entries) = all_mark_entries(alloc, own) else {
+        return Err(NoMemory);
+    };
     Inherited::new(alloc, ups, entries.as_slice())
 }
 

@@ -121,7 +121,9 @@ pub fn nearest_methods(
     requires fit { sum_by method_count classes.now < 2 ^ 32 }
     ensures { IfOk result (λ it. (form : Form) (outline : Program) → AreSuperclasses outline ups.now → (c : ids.ClassId) (name descriptor : List ℕ) → option_map method_id (known it c name descriptor) ≡ find_method (record { form = form; classes = classes.now; outline = outline }) c name descriptor) }
 {
-    let said = all_methods_said(alloc, classes)?;
+    let Ok(said) = all_methods_said(alloc, classes) else {
+        return Err(NoMemory);
+    };
     Nearest::new(alloc, ups, said.as_slice())
 }
 
@@ -135,6 +137,8 @@ pub fn nearest_fields(
     requires fit { sum_by field_count classes.now < 2 ^ 32 }
     ensures { IfOk result (λ it. (form : Form) (outline : Program) → AreSuperclasses outline ups.now → (c : ids.ClassId) (name descriptor : List ℕ) → option_map field_id (known it c name descriptor) ≡ find_field (record { form = form; classes = classes.now; outline = outline }) c name descriptor) }
 {
-    let said = all_fields_said(alloc, classes)?;
+    let Ok(said) = all_fields_said(alloc, classes) else {
+        return Err(NoMemory);
+    };
     Nearest::new(alloc, ups, said.as_slice())
 }

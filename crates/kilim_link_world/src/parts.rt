@@ -138,7 +138,9 @@ fn nearest_of(
     ensures methods { IfOk result (λ n. (form : Form) (outline : Program) → AreSuperclasses outline ups.now → (c : number.ClassId) (name descriptor : List ℕ) → option_map method_id (known n.methods c name descriptor) ≡ find_method (record { form = form; classes = classes.now; outline = outline }) c name descriptor) }
     ensures fields { IfOk result (λ n. (form : Form) (outline : Program) → AreSuperclasses outline ups.now → (c : number.ClassId) (name descriptor : List ℕ) → option_map field_id (known n.fields c name descriptor) ≡ find_field (record { form = form; classes = classes.now; outline = outline }) c name descriptor) }
 {
-    let methods = nearest_methods(alloc, classes, ups)?;
+    let Ok(methods) = nearest_methods(alloc, classes, ups) else {
+        return Err(NoMemory);
+    };
     match nearest_fields(alloc, classes, ups) {
         Ok(fields) => Ok(NearestMembers { methods, fields }),
         Err(fault) => {
@@ -163,7 +165,9 @@ fn all_members_of(
     ensures nearest_methods { IfOk result (λ m. (form : Form) (outline : Program) → AreSuperclasses outline ups.now → (c : number.ClassId) (name descriptor : List ℕ) → option_map method_id (known m.nearest.methods c name descriptor) ≡ find_method (record { form = form; classes = classes.now; outline = outline }) c name descriptor) }
     ensures nearest_fields { IfOk result (λ m. (form : Form) (outline : Program) → AreSuperclasses outline ups.now → (c : number.ClassId) (name descriptor : List ℕ) → option_map field_id (known m.nearest.fields c name descriptor) ≡ find_field (record { form = form; classes = classes.now; outline = outline }) c name descriptor) }
 {
-    let own = members_of(alloc, classes)?;
+    let Ok(own) = members_of(alloc, classes) else {
+        return Err(NoMemory);
+    };
     match nearest_of(alloc, classes, ups) {
         Ok(nearest) => Ok(AllMembers { own, nearest }),
         Err(fault) => {
@@ -180,7 +184,9 @@ pub fn parts_of(alloc: Global, form: Form, classes: &[ClassView]) -> Result<Part
     requires fields_fit { sum_by field_count classes.now < 2 ^ 32 }
     ensures { IfOk result (λ p. Agrees form classes.now p.lines.outline p.lines.ids p.lines.superclasses p.lines.lineages p.members.methods p.members.first_methods p.members.first_fields p.nearest.methods p.nearest.fields) }
 {
-    let lines = lines_of(alloc, form, classes)?;
+    let Ok(lines) = lines_of(alloc, form, classes) else {
+        return Err(NoMemory);
+    };
     match all_members_of(alloc, classes, lines.superclasses.as_slice()) {
         Ok(members) => Ok(Parts {
             lines,

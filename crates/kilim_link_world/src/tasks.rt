@@ -32,7 +32,9 @@ pub fn task_marks(alloc: Global, classes: &[Class]) -> Result<Seq<bool>, NoMemor
     requires { length classes.now < 2 ^ 32 }
     ensures { IfOk result (λ marks. (form : Form) → marks ≡ each_below (λ k. is_task (bare classes.now form) (class_id k)) (length classes.now)) }
 {
-    let own = named_tasks(alloc, classes)?;
+    let Ok(own) = named_tasks(alloc, classes) else {
+        return Err(NoMemory);
+    };
     inherited_marks(alloc, classes, &own)
 }
 
@@ -54,7 +56,9 @@ pub fn message_marks(alloc: Global, classes: &[Class]) -> Result<Seq<bool>, NoMe
     requires { length classes.now < 2 ^ 32 }
     ensures { IfOk result (λ marks. (form : Form) → marks ≡ each_below (λ k. is_message_by (bare classes.now form) (class_id k)) (length classes.now)) }
 {
-    let own = own_messages(alloc, classes)?;
+    let Ok(own) = own_messages(alloc, classes) else {
+        return Err(NoMemory);
+    };
     inherited_marks(alloc, classes, &own)
 }
 

@@ -52,7 +52,9 @@ impl World {
         requires sized { AllByRecursion ClassFits files.now }
         ensures { IfOk result (λ w. w ≡ world_of files.now form) }
     {
-        let classes = views_of(alloc, files, form)?;
+        let Ok(classes) = views_of(alloc, files, form) else {
+            return Err(NoMemory);
+        };
         World::of_views(alloc, form, classes)
     }
 

@@ -6,5 +6,5 @@ use Rattle.kilim_link_world.proofs.lineages.lineages_of.Goals as goal
 
 pub new-requires : goal.new-requires
 new-requires c =
-    let len = ap (λ (ess : List (List Entry)). length ess) (c.as_slice.ensures ∙ c.in_ok-entries.ensures) ∙ length_below own_key (length c.args.ups.now) in
+    let len = ap (λ (ess : List (List Entry)). length ess) (c.as_slice.ensures ∙ c.in-Ok.ensures) ∙ length_below own_key (length c.args.ups.now) in
     omega arith

@@ -9,9 +9,9 @@ use Rattle.kilim_link_world.proofs.marks.marks_above.Goals as goal
 
 pub new-requires : goal.new-requires
 new-requires c =
-    let len = ap (λ (ess : List (List Entry)). length ess) (c.as_slice.ensures ∙ c.in_ok-entries.ensures) ∙ length-map c.args.own.now mark_entries in
+    let len = ap (λ (ess : List (List Entry)). length ess) (c.as_slice.ensures ∙ c.in-Ok.ensures) ∙ length-map c.args.own.now mark_entries in
     let within = c.requires in
     omega arith
 
 pub returns : goal.returns
-returns c = subst (λ (ess : List (List Entry)). IfOk c.new.result (λ (it : Forest). IsRight c.args.ups.now ess it)) (c.as_slice.ensures ∙ c.in_ok-entries.ensures) c.new.ensures
+returns c = subst (λ (ess : List (List Entry)). IfOk c.new.result (λ (it : Forest). IsRight c.args.ups.now ess it)) (c.as_slice.ensures ∙ c.in-Ok.ensures) c.new.ensures

@@ -15,13 +15,13 @@ use Rattle.kilim_link_world.proofs.nearest.nearest_fields.Goals as goal
 pub new-requires : goal.new-requires
 new-requires c =
     let listed = ap (λ (ss : List (List Said)). length ss) c.as_slice.ensures in
-    let counted = c.in_ok-said.ensures.counted in
+    let counted = c.in-Ok.ensures.counted in
     let each = c.requires.one_each in
     omega arith
 
 pub returns : goal.returns
 returns c =
     let ups = c.args.ups.now in
-    let said = c.in_ok-said.said in
+    let said = c.in-Ok.said in
     let found = subst (λ (ss : List (List Said)). IfOk c.new.result (λ (it : Nearest). Tells it ups ss)) c.as_slice.ensures c.new.ensures in
-    IfOk-weaker c.new.result (λ (it : Nearest). Tells it ups said) _ (λ it tells form outline are d name descriptor. field_told (record { form = form; classes = c.args.classes.now; outline = outline }) ups are said it tells d name descriptor (λ e. c.in_ok-said.ensures.said e name descriptor)) found
+    IfOk-weaker c.new.result (λ (it : Nearest). Tells it ups said) _ (λ it tells form outline are d name descriptor. field_told (record { form = form; classes = c.args.classes.now; outline = outline }) ups are said it tells d name descriptor (λ e. c.in-Ok.ensures.said e name descriptor)) found

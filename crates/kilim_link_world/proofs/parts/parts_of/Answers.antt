@@ -6,21 +6,21 @@ use Rattle.kilim_link_world.proofs.parts.parts_of.Goals as goal
 
 pub all_members_of-requires : goal.all_members_of-requires
 all_members_of-requires c =
-    let lines = c.in_ok-lines.lines in
+    let lines = c.in-Ok.lines in
     record {
       one_each = ap (λ (us : List (Option ClassId)). length us) c.as_slice.ensures
-          ∙ (c.in_ok-lines.ensures.superclasses.one_each
-          ∙ length_outline c.args.form c.args.classes.now lines.outline c.in_ok-lines.ensures.outlined);
+          ∙ (c.in-Ok.ensures.superclasses.one_each
+          ∙ length_outline c.args.form c.args.classes.now lines.outline c.in-Ok.ensures.outlined);
       methods_fit = c.requires.methods_fit;
       fields_fit = c.requires.fields_fit;
     }
 
-pub returns-in-Ok : goal.returns-in-Ok
-returns-in-Ok c =
+pub returns-in-Ok-all_members_of : goal.returns-in-Ok-all_members_of
+returns-in-Ok-all_members_of c =
     let form = c.args.form in
-    let outline = c.in_ok-lines.lines.outline in
-    let lines = c.in_ok-lines.ensures in
-    let members = c.in-Ok.ensures in
+    let outline = c.in-Ok.lines.outline in
+    let lines = c.in-Ok.ensures in
+    let members = c.in-Ok-all_members_of.ensures in
     let are = subst (λ (us : List (Option ClassId)). AreSuperclasses outline us) (sym c.as_slice.ensures) lines.superclasses in
     record {
       outlined = lines.outlined;
@@ -30,6 +30,6 @@ returns-in-Ok c =
       methods_are = members.methods;
       first_methods_are = members.first_methods;
       first_fields_are = members.first_fields;
-      nearest_methods_are = c.in-Ok.ensures.nearest_methods form outline are;
-      nearest_fields_are = c.in-Ok.ensures.nearest_fields form outline are;
+      nearest_methods_are = c.in-Ok-all_members_of.ensures.nearest_methods form outline are;
+      nearest_fields_are = c.in-Ok-all_members_of.ensures.nearest_fields form outline are;
     }

@@ -14,17 +14,17 @@ use Rattle.kilim_link_world.proofs.Climbing.{for_each, passed_down, same_below, 
 use Rattle.kilim_link_world.proofs.tasks.message_marks.Goals as goal
 
 pub inherited_marks-requires-clause-one_each : goal.inherited_marks-requires-clause-one_each
-inherited_marks-requires-clause-one_each c = ap length c.in_ok-own.ensures ∙ length-map c.args.classes.now (λ (class : Class). class.message)
+inherited_marks-requires-clause-one_each c = ap length c.in-Ok.ensures ∙ length-map c.args.classes.now (λ (class : Class). class.message)
 
 pub returns : goal.returns
 returns c =
     let classes = c.args.classes.now in
-    let own = c.in_ok-own.own in
+    let own = c.in-Ok.own in
     let of_one : Class → Bool = λ class. class.message in
     let marks : ℕ → Bool = λ k. list_any (mark_at own) (line_in (map (λ class. class.superclass) classes) (class_id k)) in
     let going_up : Form → ℕ → Bool = λ form k. is_message_by (bare classes form) (class_id k) in
     for_each c.inherited_marks.result (each_below marks (length classes)) (λ (form : Form). each_below (going_up form) (length classes))
     (λ form.
     let p = bare classes form in
-    same_below marks (going_up form) (λ k. passed_down p of_one (λ d. is_marked (class_at p d)) (λ d. message_marked (class_at p d)) own c.in_ok-own.ensures (class_id k)) (length classes))
+    same_below marks (going_up form) (λ k. passed_down p of_one (λ d. is_marked (class_at p d)) (λ d. message_marked (class_at p d)) own c.in-Ok.ensures (class_id k)) (length classes))
     c.inherited_marks.ensures

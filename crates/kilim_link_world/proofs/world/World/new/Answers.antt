@@ -8,12 +8,12 @@ use Rattle.kilim_link_world.proofs.world.World.new.Goals as goal
 
 pub of_views-requires-clause-methods_fit : goal.of_views-requires-clause-methods_fit
 of_views-requires-clause-methods_fit c =
-    subst (λ (vs : List ClassView). sum_by method_count vs < 2 ^ 32) (sym c.in_ok-classes.ensures) (methods_fit c.args.files.now c.args.form c.requires.few c.requires.sized)
+    subst (λ (vs : List ClassView). sum_by method_count vs < 2 ^ 32) (sym c.in-Ok.ensures) (methods_fit c.args.files.now c.args.form c.requires.few c.requires.sized)
 
 pub of_views-requires-clause-fields_fit : goal.of_views-requires-clause-fields_fit
 of_views-requires-clause-fields_fit c =
-    subst (λ (vs : List ClassView). sum_by field_count vs < 2 ^ 32) (sym c.in_ok-classes.ensures) (fields_fit c.args.files.now c.args.form c.requires.few c.requires.sized)
+    subst (λ (vs : List ClassView). sum_by field_count vs < 2 ^ 32) (sym c.in-Ok.ensures) (fields_fit c.args.files.now c.args.form c.requires.few c.requires.sized)
 
 pub returns : goal.returns
 unfolding world_of
-returns c = rw (← c.in_ok-classes.ensures) c.of_views.ensures
+returns c = rw (← c.in-Ok.ensures) c.of_views.ensures
