@@ -141,6 +141,12 @@ fn wanted(
     }
 }
 
+// An answer to something else, which doesn't come.
+fn mistaken(answer: Answer) -> NoMemory {
+    drop(answer);
+    NoMemory
+}
+
 impl Fiber {
     // It goes on behind what it asked, and notes the deed.
     fn pass_on(&mut self, code: &Code, did: Did) -> Result<(), NoMemory>
@@ -251,30 +257,27 @@ impl Fiber {
         match asked {
             Asked::Put(mailbox, shape) => match answer {
                 Answer::Sent(number) => self.pass_on(code, Did::Put(mailbox, number, shape)),
-                _ => Err(NoMemory),
+                other => Err(mistaken(other)),
             },
             Asked::Take(mailbox) => match answer {
                 Answer::Message(tree, number) => self.receive(code, mailbox, tree, number),
                 Answer::Nothing => self.refuse(code, mailbox),
-                _ => Err(NoMemory),
+                other => Err(mistaken(other)),
             },
             Asked::Probe(mailbox) => match answer {
                 Answer::Message(tree, number) => self.find(code, mailbox, tree, number),
                 Answer::Nothing => self.pass_none(code, Did::Empty(mailbox)),
-                _ => Err(NoMemory),
+                other => Err(mistaken(other)),
             },
             Asked::Start(shape) => match answer {
                 Answer::Started(number) => self.pass_on(code, Did::Start(number, shape)),
-                _ => Err(NoMemory),
+                other => Err(mistaken(other)),
             },
             Asked::Print(shape) => match answer {
                 Answer::Done => self.pass_on(code, Did::Print(shape)),
-                _ => Err(NoMemory),
+                other => Err(mistaken(other)),
             },
-            Asked::Nothing => {
-                drop(answer);
-                Err(NoMemory)
-            }
+            Asked::Nothing => Err(mistaken(answer)),
         }
     }
 
