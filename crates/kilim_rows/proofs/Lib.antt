@@ -1,3 +1,6 @@
+mod Arithmetic
 mod Classes
+mod Comparing
 mod Matches
 mod Pairs
+mod Slots

@@ -1,0 +1,16 @@
+use Rattle.std.proofs.Common.{◌≡◌, FitsSigned, rules, w32, w64, ◌∷◌}
+use Rattle.std.proofs.lemmas.Int.{to_z-of_z}
+use Rattle.kilim_classes.specs.declared.value.Value.TheVariants.{Long}
+use Rattle.kilim_rows.specs.Operations.{long_shift_of}
+use Rattle.kilim_rows.proofs.Arithmetic.{shift_left}
+use Rattle.kilim_rows.proofs.numbers.shift_long.Goals as goal
+
+pub returns-clause-step : goal.returns-clause-step
+returns-clause-step c =
+    let fits_a : FitsSigned w64 c.pop_long-a.result = search rules in
+    let fits_b : FitsSigned w32 c.pop_int-b.result = search rules in
+    let fits : FitsSigned w64 c.of_longs.result = search rules in
+    let is : c.of_longs.result ≡ long_shift_of c.args.shift c.pop_long-a.result c.pop_int-b.result = simp to_z-of_z at c.of_longs.ensures in
+    let pushed : c.push.new.self ≡ record c.pop_long-a.new.self { values = Long c.of_longs.result ∷ c.pop_long-a.new.self.values } = simp to_z-of_z at c.push.ensures in
+    shift_left (long_shift_of c.args.shift) c.args.next c.args.frame.now.locals c.args.frame.now.stack c.pop_int-b.new.self c.pop_long-a.new.self c.push.new.self c.args.heap.now c.pop_long-a.result c.pop_int-b.result c.of_longs.result
+    c.pop_int-b.ensures c.pop_long-a.ensures pushed is

@@ -1,0 +1,16 @@
+use Rattle.std.proofs.Common.{◌≡◌, FitsSigned, rules, w64, ◌∷◌}
+use Rattle.std.proofs.lemmas.Int.{to_z-of_z}
+use Rattle.kilim_classes.specs.declared.value.Value.TheVariants.{Long}
+use Rattle.kilim_rows.specs.Operations.{long_of}
+use Rattle.kilim_rows.proofs.Arithmetic.{longs_left}
+use Rattle.kilim_rows.proofs.numbers.two_longs.Goals as goal
+
+pub returns-clause-step : goal.returns-clause-step
+returns-clause-step c =
+    let fits_a : FitsSigned w64 c.pop_long-a.result = search rules in
+    let fits_b : FitsSigned w64 c.pop_long-b.result = search rules in
+    let fits : FitsSigned w64 c.of_longs.result = search rules in
+    let is : c.of_longs.result ≡ long_of c.args.operation c.pop_long-a.result c.pop_long-b.result = simp to_z-of_z at c.of_longs.ensures in
+    let pushed : c.push.new.self ≡ record c.pop_long-a.new.self { values = Long c.of_longs.result ∷ c.pop_long-a.new.self.values } = simp to_z-of_z at c.push.ensures in
+    longs_left (long_of c.args.operation) c.args.next c.args.frame.now.locals c.args.frame.now.stack c.pop_long-b.new.self c.pop_long-a.new.self c.push.new.self c.args.heap.now c.pop_long-a.result c.pop_long-b.result c.of_longs.result
+    c.pop_long-b.ensures c.pop_long-a.ensures pushed is
