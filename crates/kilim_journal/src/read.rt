@@ -1,6 +1,6 @@
 //! The entries of a text.
 
-ghost use Rattle.std.specs.Prelude.{◌≡◌, ◌++◌, length, IfOk, IfErr, List, MatchResult};
+ghost use Rattle.std.specs.Prelude.{◌≡◌, ◌++◌, ℕ, length, IfOk, IfErr, IfSome, IsSomeAnd, List, MatchResult};
 ghost use Rattle.kilim_journal.specs.declared.entry.Entry.{Entry as Event};
 ghost use Rattle.kilim_journal.specs.Text.{entry_text};
 ghost use Rattle.kilim_journal.specs.Read.{IsEntry, IsJournal, IsTextFault};
@@ -10,8 +10,8 @@ use crate::acts::entry_at;
 use crate::entry::Entry;
 use crate::lines::push_entry;
 use crate::numbers::after;
-use kilim_units::NoMemory;
-use std::alloc::{AllocError, Global};
+use kilim_units::{NoMemory, Seq};
+use std::alloc::Global;
 
 /// Why bytes are no journal's text.
 #[derive(Clone, Copy)]
@@ -22,14 +22,20 @@ pub enum TextFault {
     Memory,
 }
 
-fn written(alloc: Global, entry: &Entry) -> Result<Vec<u8>, AllocError>
-    ensures { IfOk result (λ text. text.items ≡ entry_text entry.now) }
+// The bytes behind the text of an entry, where that stands at the front.
+fn behind_text<'a>(
+    alloc: Global,
+    entry: &Entry,
+    bytes: &'a [u8],
+) -> Result<Option<&'a [u8]>, NoMemory>
+    ensures right { (tail : List ℕ) → bytes.now ≡ entry_text entry.now ++ tail → IfOk result (λ found. IsSomeAnd found (λ r. r.now ≡ tail)) }
+    ensures some { IfOk result (λ found. IfSome found (λ r. bytes.now ≡ entry_text entry.now ++ r.now)) }
 {
-    let mut out = Vec::new(alloc);
-    let Ok(()) = push_entry(&mut out, entry) else {
-        return Err(AllocError);
+    let mut text = Vec::new(alloc);
+    let Ok(()) = push_entry(&mut text, entry) else {
+        return Err(NoMemory);
     };
-    Ok(out)
+    Ok(after(bytes, text.as_slice()))
 }
 
 // The entry at the front and the bytes behind its line, or there is none. What seems to be one is written again, and
@@ -43,12 +49,16 @@ fn next_entry(alloc: Global, bytes: &[u8]) -> Result<Option<(Entry, &[u8])>, NoM
     match found {
         None => Ok(None),
         Some(entry) => {
-            let Ok(text) = written(alloc, &entry) else {
+            let Ok(behind) = behind_text(alloc, &entry, bytes) else {
+                drop(entry);
                 return Err(NoMemory);
             };
-            match after(bytes, text.as_slice()) {
+            match behind {
                 Some(rest) => Ok(Some((entry, rest))),
-                None => Ok(None),
+                None => {
+                    drop(entry);
+                    Ok(None)
+                }
             }
         }
     }
@@ -63,7 +73,7 @@ pub fn read_text(alloc: Global, bytes: &[u8]) -> Result<Vec<Entry>, TextFault>
     // a journal's text is read, whatever else may be
     ensures whole { (es : List Event) → IsJournal bytes.now es → MatchResult result (λ entries. entries.items ≡ es) IsMemory }
 {
-    let mut entries = Vec::new(alloc);
+    let mut entries = Seq::new(alloc);
     let mut rest = bytes;
     while !rest.is_empty() {
         match next_entry(alloc, rest) {
@@ -82,5 +92,5 @@ pub fn read_text(alloc: Global, bytes: &[u8]) -> Result<Vec<Entry>, TextFault>
             }
         }
     }
-    Ok(entries)
+    Ok(entries.into_vec())
 }

@@ -3,7 +3,7 @@ use Rattle.kilim_journal.proofs.TextRead.{Reading}
 use Rattle.kilim_journal.proofs.read.read_text.Given as goal
 
 abbrev pub invariant-loop-rest : goal.invariant-loop-rest
-invariant-loop-rest l = Reading l.bytes l.entries.items l.rest
+invariant-loop-rest l = Reading l.bytes l.entries l.rest
 
 abbrev pub decreases-loop-rest : goal.decreases-loop-rest
 decreases-loop-rest l = length l.rest
