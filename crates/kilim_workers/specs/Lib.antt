@@ -1,3 +1,4 @@
 pub mod Runs
 pub mod Codes
+pub mod Workers
 pub mod worker_pool

@@ -9,6 +9,7 @@ ghost use Rattle.kilim_turn.specs.Turns.{seat_of, shows, IsPassOf, AreAllOf};
 ghost use Rattle.kilim_workers.specs.Codes.{board_cells};
 ghost use Rattle.kilim_workers.specs.worker_pool.Pool.{IsOf};
 ghost use Rattle.kilim_workers.specs.Runs.{RunsOn};
+ghost use Rattle.kilim_workers.specs.Workers.{MayWork, HasWorked};
 
 use crate::run::{Run, RunBoard};
 use crate::worker::run_worker;
@@ -53,10 +54,8 @@ where
         workers,
         &|_, pass: &mut Pass|
             requires some { (set : Setting) × K.of set }
-            requires run { RunsOn F.serves K.of code.now limits.now }
-            requires pass { IsPassOf board_cells turn.now pass.now }
-            requires free { shows pass.now ≡ [] }
-            ensures { IsPassOf board_cells turn.entry.now pass.exit.now × (seat_of pass.exit.now ≡ seat_of pass.entry.now) × (shows pass.exit.now ≡ []) }
+            requires may { MayWork turn.now F.serves K.of code.now limits.now pass.now }
+            ensures { HasWorked turn.entry.now pass.entry.now pass.exit.now }
         { run_worker(rt, turn, pass, code, limits, gate) },
     );
 }

@@ -1,0 +1,23 @@
+-- What a worker is given, and what it leaves.
+use Rattle.std.specs.Prelude.{◌≡◌, []}
+use Rattle.kilim_classes.specs.declared.machine.run.Limits.{Limits}
+use Rattle.kilim_exchange.specs.declared.board.Board as kept
+use Rattle.kilim_thread_model.specs.State.{Setting}
+use Rattle.kilim_turn.specs.declared.lending.Turn.{Turn}
+use Rattle.kilim_turn.specs.declared.pass.Pass.{Pass}
+use Rattle.kilim_turn.specs.Turns.{seat_of, shows, IsPassOf}
+use Rattle.kilim_workers.specs.Codes.{board_cells}
+use Rattle.kilim_workers.specs.Runs.{RunsOn}
+
+module _ {F : Type 0} (turn : Turn (kept.Board F)) where
+  -- the code serves the run, and the worker's pass is of this turn and shows an empty cell
+  pub record MayWork {C : Type 0} (serves : Setting → C → Type 0) (Of : Setting → Type 0) (code : C) (limits : Limits) (p : Pass) : Type 0 where
+    pub run : RunsOn serves Of code limits
+    pub pass : IsPassOf board_cells turn p
+    pub free : shows p ≡ []
+
+  -- the worker is through: its pass is of this turn and of the same seat, and shows an empty cell again
+  pub record HasWorked (before after : Pass) : Type 0 where
+    pub pass : IsPassOf board_cells turn after
+    pub seat : seat_of after ≡ seat_of before
+    pub empty : shows after ≡ []
