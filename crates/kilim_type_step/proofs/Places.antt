@@ -39,3 +39,7 @@ shuffle_place p m at r form f after result is done = subst (λ (x : Row). answer
 pub athrow_place : (p : Program) (m : Method) (at : ℕ) (i : Instr) (f after : Types) (result : Result Unit StepFault) → i ≡ Athrow → answers (by_row p m 0 missing f) result after → answers (type_step p m at i f) result after
 unfolding row
 athrow_place p m at i f after result is done = subst (λ (x : Instr). answers (type_step p m at x f) result after) (sym is) done
+
+-- an instruction that is known
+pub instr_is : (p : Program) (m : Method) (at : ℕ) (i known : Instr) (f after : Types) (result : Result Unit StepFault) → i ≡ known → answers (type_step p m at known f) result after → answers (type_step p m at i f) result after
+instr_is p m at i known f after result is done = subst (λ (x : Instr). answers (type_step p m at x f) result after) (sym is) done

@@ -125,3 +125,6 @@ stops_at_operands a b c x ea eb ec = ap (λ t. rule 3 t (rule 4 b (rule 5 c x)))
 
 pub passes_three : (a b c : Bool) (x y : Result Types ℕ) → a ≡ true → b ≡ true → c ≡ true → x ≡ y → rule 3 a (rule 4 b (rule 5 c x)) ≡ y
 passes_three a b c x y ea eb ec e = ap (λ t. rule 3 t (rule 4 b (rule 5 c x))) ea ∙ ap (λ t. rule 4 t (rule 5 c x)) eb ∙ ap (λ t. rule 5 t x) ec ∙ e
+
+pub passes_two : (a b : Bool) (x y : Result Types ℕ) → a ≡ true → b ≡ true → x ≡ y → rule 3 a (rule 5 b x) ≡ y
+passes_two a b x y ea eb e = ap (λ t. rule 3 t (rule 5 b x)) ea ∙ ap (λ t. rule 5 t x) eb ∙ e

@@ -208,7 +208,9 @@ fn on_static(
         Also::Needs(WRONG_MEMBER, named),
         Also::Needs(NOT_INITIALIZED, is_plain(callee)),
     ];
-    apply(program, method, state, &takes, result_of(callee), &also)
+    let applied = apply(program, method, state, &takes, result_of(callee), &also);
+    drop(takes);
+    applied
 }
 
 fn on_virtual(
@@ -228,7 +230,9 @@ fn on_virtual(
         Also::Needs(WRONG_MEMBER, named),
         Also::Needs(NOT_INITIALIZED, is_plain(callee)),
     ];
-    apply(program, method, state, &takes, result_of(callee), &also)
+    let applied = apply(program, method, state, &takes, result_of(callee), &also);
+    drop(takes);
+    applied
 }
 
 // What a call from a superclass up selects isn't abstract.
@@ -278,7 +282,9 @@ fn on_special(
         Also::Needs(WRONG_MEMBER, named),
         Also::Needs(WRONG_SPECIAL, fits),
     ];
-    apply(program, method, state, &takes, result_of(callee), &also)
+    let applied = apply(program, method, state, &takes, result_of(callee), &also);
+    drop(takes);
+    applied
 }
 
 fn on_constructor(
@@ -294,7 +300,7 @@ fn on_constructor(
         return Err(StepFault::Memory);
     };
     let named = is_instance_named(method, callee.is_static, callee.is_private, callee.owner);
-    construct(
+    let constructed = construct(
         program,
         method,
         state,
@@ -303,7 +309,9 @@ fn on_constructor(
         callee.owner,
         named,
         !callee.is_abstract,
-    )
+    );
+    drop(takes);
+    constructed
 }
 
 /// Fields and calls.

@@ -150,7 +150,10 @@ fn copy_words(
         Ok(parts) => parts,
         Err(fault) => return Err(fault),
     };
-    match push_all(state, &copied, &below, &copied) {
+    let pushed = push_all(state, &copied, &below, &copied);
+    drop(below);
+    drop(copied);
+    match pushed {
         Ok(()) => Ok(()),
         Err(_) => Err(StepFault::Memory),
     }
@@ -168,7 +171,10 @@ fn swap_words(alloc: Global, state: &mut State) -> Result<(), StepFault>
         Ok(parts) => parts,
         Err(fault) => return Err(fault),
     };
-    match push_all(state, &[], &top, &below) {
+    let pushed = push_all(state, &[], &top, &below);
+    drop(below);
+    drop(top);
+    match pushed {
         Ok(()) => Ok(()),
         Err(_) => Err(StepFault::Memory),
     }
