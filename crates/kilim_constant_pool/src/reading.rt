@@ -223,10 +223,16 @@ fn push_entries<'a>(
         if second {
             second = false;
         } else {
-            let (entry, after) = entry_at_index(alloc, i + 1, i + 1 < count, rest)?;
-            second = is_wide(&entry);
-            entries.push(entry)?;
-            rest = after;
+            match entry_at_index(alloc, i + 1, i + 1 < count, rest) {
+                Ok((entry, after)) => {
+                    second = is_wide(&entry);
+                    let Ok(()) = entries.push(entry) else {
+                        return Err(PoolFault::Memory);
+                    };
+                    rest = after;
+                }
+                Err(fault) => return Err(fault),
+            }
         }
     }
     Ok(rest)

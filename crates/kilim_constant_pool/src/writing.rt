@@ -17,7 +17,9 @@ use std::alloc::AllocError;
 fn push_pair(into: &mut Vec<u8>, first: u16, second: u16) -> Result<(), AllocError>
     ensures ok { OnOk result (into.new.items ≡ into.old.items ++ pair_text first second) }
 {
-    push_u16(into, first)?;
+    let Ok(()) = push_u16(into, first) else {
+        return Err(AllocError);
+    };
     push_u16(into, second)
 }
 
@@ -25,7 +27,9 @@ fn push_pair(into: &mut Vec<u8>, first: u16, second: u16) -> Result<(), AllocErr
 fn push_handle(into: &mut Vec<u8>, kind: u8, named: u16) -> Result<(), AllocError>
     ensures ok { OnOk result (into.new.items ≡ into.old.items ++ (u1 kind ++ u2 named)) }
 {
-    push_u8(into, kind)?;
+    let Ok(()) = push_u8(into, kind) else {
+        return Err(AllocError);
+    };
     push_u16(into, named)
 }
 
@@ -92,7 +96,9 @@ fn push_entry(into: &mut Vec<u8>, entry: &Entry) -> Result<(), AllocError>
     requires { EntryFits entry.now }
     ensures ok { OnOk result (into.new.items ≡ into.old.items ++ entry_text entry.now) }
 {
-    push_u8(into, tag_of(entry))?;
+    let Ok(()) = push_u8(into, tag_of(entry)) else {
+        return Err(AllocError);
+    };
     push_content(into, entry)
 }
 
@@ -123,7 +129,9 @@ fn push_pool(into: &mut Vec<u8>, pool: &Pool) -> Result<(), AllocError>
     requires { PoolFits pool.now }
     ensures ok { OnOk result (into.new.items ≡ into.old.items ++ pool_text pool.now) }
 {
-    push_u16(into, pool.count())?;
+    let Ok(()) = push_u16(into, pool.count()) else {
+        return Err(AllocError);
+    };
     push_slots(into, pool.slots())
 }
 

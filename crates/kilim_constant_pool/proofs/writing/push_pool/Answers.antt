@@ -11,5 +11,5 @@ push_slots-requires c = λ k d.
 
 pub returns : goal.returns
 returns c = record {
-  ok = written c.push_slots.result c.args.into.now.items c.push_u16.new.into.items c.push_slots.new.into.items c.args.pool.now c.slots.result.now c.slots.ensures.slots (c.in_ok-push_u16.ensures.ok ∙ ap (λ n. c.args.into.now.items ++ u2 n) c.count.ensures) c.push_slots.ensures.ok;
+  ok = written c.push_slots.result c.args.into.now.items c.push_u16.new.into.items c.push_slots.new.into.items c.args.pool.now c.slots.result.now c.slots.ensures.slots (c.in-Ok.ensures.ok ∙ ap (λ n. c.args.into.now.items ++ u2 n) c.count.ensures) c.push_slots.ensures.ok;
 }
