@@ -103,7 +103,10 @@ fn class_longest(alloc: Global, classes: &[Class], least: usize) -> Result<usize
 {
     let mut longest = least;
     for class in classes {
-        longest = larger(longest, spelled_length(alloc, &class.name)?);
+        let Ok(length) = spelled_length(alloc, &class.name) else {
+            return Err(NoMemory);
+        };
+        longest = larger(longest, length);
     }
     Ok(longest)
 }
@@ -138,7 +141,10 @@ fn method_longest(
 {
     let mut longest = least;
     for method in methods {
-        longest = method_length(alloc, program, method, longest)?;
+        let Ok(length) = method_length(alloc, program, method, longest) else {
+            return Err(NoMemory);
+        };
+        longest = length;
     }
     Ok(longest)
 }
@@ -173,7 +179,10 @@ fn field_longest(
 {
     let mut longest = least;
     for field in fields {
-        longest = field_length(alloc, program, field, longest)?;
+        let Ok(length) = field_length(alloc, program, field, longest) else {
+            return Err(NoMemory);
+        };
+        longest = length;
     }
     Ok(longest)
 }
@@ -206,7 +215,10 @@ fn switches_bytes(code: &[(u32, Instr)]) -> Result<u64, NoMemory>
 {
     let mut sum = 0;
     for entry in code {
-        sum = plus(sum, switch_bytes(&entry.1))?;
+        let Ok(more) = plus(sum, switch_bytes(&entry.1)) else {
+            return Err(NoMemory);
+        };
+        sum = more;
     }
     Ok(sum)
 }

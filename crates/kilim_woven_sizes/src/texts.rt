@@ -81,7 +81,9 @@ fn push_params(alloc: Global, out: &mut Vec<u16>, params: &[FieldText]) -> Resul
     ensures { OnOk result (out.new.items ≡ out.old.items ++ flat_map field_text params.now) }
 {
     for field in params {
-        push_field_text(alloc, out, field)?;
+        let Ok(()) = push_field_text(alloc, out, field) else {
+            return Err(NoMemory);
+        };
     }
     Ok(())
 }
@@ -151,7 +153,11 @@ pub fn woven_descriptor(alloc: Global, units: &Units) -> Result<Units, NoMemory>
     ensures { IfOk result (λ text. text ≡ woven_descriptor units.now) }
 {
     match method_text(alloc, units) {
-        Ok(Some(method)) => text_with_fiber(alloc, &method),
+        Ok(Some(method)) => {
+            let woven = text_with_fiber(alloc, &method);
+            drop(method);
+            woven
+        }
         Ok(None) => Ok(units.clone()?),
         Err(fault) => Err(fault),
     }
@@ -206,7 +212,9 @@ fn push_type(out: &mut Vec<u16>, program: &Program, ty: Ty) -> Result<(), NoMemo
     ensures { OnOk result (out.new.items ≡ out.old.items ++ descriptor program.now ty) }
 {
     for _ in 0..ty.dims {
-        out.push(BRACKET)?;
+        let Ok(()) = out.push(BRACKET) else {
+            return Err(NoMemory);
+        };
     }
     push_base(out, program, ty.base)
 }

@@ -257,7 +257,6 @@ fn same_numbers(one: &Instr, other: &Instr) -> bool
 }
 
 // Two that have a kind.
-#[tactic(auto, using(crate::proofs::same_programs::Rebuilt::same_by_kind))]
 fn same_kinds(one: &Instr, other: &Instr) -> bool
     ensures { result ≡ true → one.now ≡ other.now }
 {

@@ -8,8 +8,8 @@ use Rattle.kilim_woven_sizes.proofs.sizes.method_longest.Goals as goal
 
 pub loop-method-preserved : goal.loop-method-preserved
 loop-method-preserved c =
-    passed (method_longest c.args.program.now) (λ (n : ℕ) (x : Method). larger (larger n (spelled_length x.name)) (spelled_length (method_descriptor c.args.program.now x))) (λ x xs n. refl) c.args.methods.now c.loop-method.method-index c.method-item.result _ c.loop-method.longest c.in_ok-longest.longest
-    (method_longest c.args.program.now c.args.methods.now c.args.least) c.loop-method-test.true c.method-item.is c.in_ok-longest.ensures c.loop-method.invariant
+    passed (method_longest c.args.program.now) (λ (n : ℕ) (x : Method). larger (larger n (spelled_length x.name)) (spelled_length (method_descriptor c.args.program.now x))) (λ x xs n. refl) c.args.methods.now c.loop-method.method-index c.method-item.result _ c.loop-method.longest c.in-Ok.length
+    (method_longest c.args.program.now c.args.methods.now c.args.least) c.loop-method-test.true c.method-item.is c.in-Ok.ensures c.loop-method.invariant
 
 pub returns : goal.returns
 returns c = ap (λ (xs : List Method). method_longest c.args.program.now xs c.loop-method.longest) (sym (drop_all c.loop-method.method-index c.args.methods.now c.loop-method-test.false)) ∙ c.loop-method.invariant

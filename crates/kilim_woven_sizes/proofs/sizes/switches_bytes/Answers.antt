@@ -7,8 +7,8 @@ use Rattle.kilim_woven_sizes.proofs.sizes.switches_bytes.Goals as goal
 
 pub loop-entry-preserved : goal.loop-entry-preserved
 loop-entry-preserved c =
-    summed (λ (e : ℕ × Instr). switch_bytes e.1) switches_bytes (λ e es. refl) c.args.code.now c.loop-entry.entry-index c.entry-item.result _ c.loop-entry.sum c.in_ok-sum.sum (switches_bytes c.args.code.now)
-    c.loop-entry-test.true c.entry-item.is (c.in_ok-sum.ensures ∙ ap (λ (n : ℕ). c.loop-entry.sum + n) c.switch_bytes.ensures) c.loop-entry.invariant
+    summed (λ (e : ℕ × Instr). switch_bytes e.1) switches_bytes (λ e es. refl) c.args.code.now c.loop-entry.entry-index c.entry-item.result _ c.loop-entry.sum c.in-Ok.more (switches_bytes c.args.code.now)
+    c.loop-entry-test.true c.entry-item.is (c.in-Ok.ensures ∙ ap (λ (n : ℕ). c.loop-entry.sum + n) c.switch_bytes.ensures) c.loop-entry.invariant
 
 pub returns : goal.returns
 returns c =
