@@ -1,6 +1,7 @@
 mod Arithmetic
 mod Classes
 mod Comparing
+mod Elements
 mod Matches
 mod Pairs
 mod Slots
