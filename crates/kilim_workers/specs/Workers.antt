@@ -10,8 +10,9 @@ use Rattle.kilim_workers.specs.Codes.{board_cells}
 use Rattle.kilim_workers.specs.Runs.{RunsOn}
 
 module _ {F : Type 0} (turn : Turn (kept.Board F)) where
-  -- the code serves the run, and the worker's pass is of this turn and shows an empty cell
+  -- there is a setting of the run, which the code serves, and the worker's pass is of this turn and shows an empty cell
   pub record MayWork {C : Type 0} (serves : Setting → C → Type 0) (Of : Setting → Type 0) (code : C) (limits : Limits) (p : Pass) : Type 0 where
+    pub some : (set : Setting) × Of set
     pub run : RunsOn serves Of code limits
     pub pass : IsPassOf board_cells turn p
     pub free : shows p ≡ []

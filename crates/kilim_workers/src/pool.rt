@@ -53,7 +53,6 @@ where
         passes,
         workers,
         &|_, pass: &mut Pass|
-            requires some { (set : Setting) × K.of set }
             requires may { MayWork turn.now F.serves K.of code.now limits.now pass.now }
             ensures { HasWorked turn.entry.now pass.entry.now pass.exit.now }
         { run_worker(rt, turn, pass, code, limits, gate) },

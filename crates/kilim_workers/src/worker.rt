@@ -7,6 +7,7 @@ ghost use Rattle.kilim_exchange.specs.Seen.{wish_in};
 ghost use Rattle.kilim_turn.specs.Turns.{seat_of, shows, IsPassOf};
 ghost use Rattle.kilim_workers.specs.Codes.{board_cells, lent_numbers};
 ghost use Rattle.kilim_workers.specs.Runs.{fiber_numbers, AllStand, AllRest, AllMeet, IsTaken, ActedAs, RunsOn, NextIs};
+ghost use Rattle.kilim_workers.specs.Workers.{MayWork, HasWorked};
 ghost use Rattle.kilim_thread_model.specs.Course.{Course};
 
 use crate::run::{Run, RunBoard};
@@ -185,13 +186,8 @@ fn work_once<F: Fibers, K: Run, R: Wait, G: Gate>(
     limits: &Limits,
     gate: &G,
 ) -> bool
-    requires some { (set : Setting) × K.of set }
-    requires run { RunsOn F.serves K.of code.now limits.now }
-    requires pass { IsPassOf board_cells turn.now pass.old }
-    requires free { shows pass.old ≡ [] }
-    ensures pass { IsPassOf board_cells turn.now pass.new }
-    ensures seat { seat_of pass.new ≡ seat_of pass.old }
-    ensures empty { shows pass.new ≡ [] }
+    requires may { MayWork turn.now F.serves K.of code.now limits.now pass.old }
+    ensures { HasWorked turn.now pass.old pass.new }
 {
     match take_one(rt, turn, pass) {
         Lent::Fiber(fiber) => {
@@ -217,13 +213,8 @@ pub fn run_worker<F: Fibers, K: Run, R: Wait, G: Gate>(
     limits: &Limits,
     gate: &G,
 )
-    requires some { (set : Setting) × K.of set }
-    requires run { RunsOn F.serves K.of code.now limits.now }
-    requires pass { IsPassOf board_cells turn.now pass.old }
-    requires free { shows pass.old ≡ [] }
-    ensures pass { IsPassOf board_cells turn.now pass.new }
-    ensures seat { seat_of pass.new ≡ seat_of pass.old }
-    ensures empty { shows pass.new ≡ [] }
+    requires may { MayWork turn.now F.serves K.of code.now limits.now pass.old }
+    ensures { HasWorked turn.now pass.old pass.new }
 {
     for _ in rt.forever() {
         if !work_once(rt, turn, pass, code, limits, gate) {

@@ -1,13 +1,14 @@
+use Rattle.std.proofs.Common.{refl, ◌∙◌}
 use Rattle.kilim_workers.proofs.worker.run_worker.Goals as goal
 
-pub work_once-requires-clause-some : goal.work_once-requires-clause-some
-work_once-requires-clause-some g c κs _ = c.requires.some
+pub loop-init : goal.loop-init
+loop-init g c = let may = c.requires.may in record { pass = may.pass; seat = refl; empty = may.free }
 
-pub work_once-requires-clause-run : goal.work_once-requires-clause-run
-work_once-requires-clause-run g c κs _ = c.requires.run
+pub work_once-requires-clause-may : goal.work_once-requires-clause-may
+work_once-requires-clause-may g c κs _ =
+    let may = c.requires.may in
+    let worked = c.loop.invariant in
+    record { some = may.some; run = may.run; pass = worked.pass; free = worked.empty }
 
-pub work_once-requires-clause-pass : goal.work_once-requires-clause-pass
-work_once-requires-clause-pass g c κs _ = c.loop.invariant.0
-
-pub work_once-requires-clause-free : goal.work_once-requires-clause-free
-work_once-requires-clause-free g c κs _ = c.loop.invariant.2
+pub loop-preserved : goal.loop-preserved
+loop-preserved g c = let next = c.work_once.ensures in record { pass = next.pass; seat = next.seat ∙ c.loop.invariant.seat; empty = next.empty }

@@ -5,12 +5,12 @@ use Rattle.kilim_workers.specs.Codes.{board_cells}
 use Rattle.kilim_workers.proofs.worker.work_once.Goals as goal
 
 pub take_one-requires : goal.take_one-requires
-take_one-requires g c = record { some = c.requires.some; pass = c.requires.pass; free = c.requires.free }
+take_one-requires g c = record { some = c.requires.may.some; pass = c.requires.may.pass; free = c.requires.may.free }
 
 pub run_fiber-requires : goal.run_fiber-requires
 run_fiber-requires g c = record {
-  some = c.requires.some;
-  run = c.requires.run;
+  some = c.requires.may.some;
+  run = c.requires.may.run;
   pass = c.in-Fiber.ensures.pass;
   lent = c.in-Fiber.ensures.taken.0;
   stands = c.in-Fiber.ensures.taken.1;
