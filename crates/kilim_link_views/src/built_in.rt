@@ -159,7 +159,9 @@ pub fn method_descriptor(
 fn stated(alloc: Global, method: &Method) -> Result<Marks, NoMemory>
     ensures { IfOk result (λ marks. marks ≡ Stated method.now.receiver method.now.qualifiers) }
 {
-    let qualifiers = Vec::from_slice(alloc, method.qualifiers.as_slice())?;
+    let Ok(qualifiers) = Vec::from_slice(alloc, method.qualifiers.as_slice()) else {
+        return Err(NoMemory);
+    };
     Ok(Marks::Stated(method.receiver, Seq::from_vec(qualifiers)))
 }
 
@@ -238,7 +240,10 @@ fn superclass_name(
 {
     match superclass {
         None => Ok(None),
-        Some(class) => Ok(Some(Units::from_slice(alloc, class_name(program, class))?)),
+        Some(class) => match Units::from_slice(alloc, class_name(program, class)) {
+            Ok(name) => Ok(Some(name)),
+            Err(_) => Err(NoMemory),
+        },
     }
 }
 

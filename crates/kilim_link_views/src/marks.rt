@@ -113,7 +113,9 @@ fn lists_of(alloc: Global, parts: &[AnnotationPart]) -> Result<Seq<Seq<u16>>, No
 pub fn params_in(alloc: Global, parts: &[AnnotationPart]) -> Result<Seq<Seq<u16>>, NoMemory>
     ensures { IfOk result (λ lists. lists ≡ params_in parts.now) }
 {
-    let outer = outermost(alloc, parts)?;
+    let Ok(outer) = outermost(alloc, parts) else {
+        return Err(NoMemory);
+    };
     lists_of(alloc, outer.as_slice())
 }
 
@@ -171,7 +173,9 @@ fn push_types_of(
 ) -> Result<(), NoMemory>
     ensures { OnOk result (types.new ≡ types.old ++ map (text_of pool.now) (types_on_member (annotation_parts info.now))) }
 {
-    let outer = outermost(alloc, annotation_parts(info))?;
+    let Ok(outer) = outermost(alloc, annotation_parts(info)) else {
+        return Err(NoMemory);
+    };
     push_types(alloc, types, pool, outer.as_slice())
 }
 
@@ -240,7 +244,9 @@ fn texts_in(
 ) -> Result<Seq<Seq<Units>>, NoMemory>
     ensures { IfOk result (λ texts. texts ≡ map (λ types. map (text_of pool.now) types) (params_in parts.now)) }
 {
-    let lists = params_in(alloc, parts)?;
+    let Ok(lists) = params_in(alloc, parts) else {
+        return Err(NoMemory);
+    };
     each_texts(alloc, pool, lists.as_slice())
 }
 

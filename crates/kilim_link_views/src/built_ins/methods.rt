@@ -67,14 +67,16 @@ fn push_method(
     requires { first < 2 ^ 31 }
     ensures { OnOk result (methods.new ≡ methods.old ++ method_of form first row.now ∷ []) }
 {
-    let name = text(alloc, row.name)?;
+    let Ok(name) = text(alloc, row.name) else {
+        return Err(NoMemory);
+    };
     let Ok(params) = params_of(alloc, form, first, row) else {
         return Err(NoMemory);
     };
     let Ok(qualifiers) = marks_of(alloc, form, row) else {
         return Err(NoMemory);
     };
-    methods.push(Method {
+    let Ok(()) = methods.push(Method {
         name,
         owner: ClassId(first + u32::from(row.owner)),
         params,
@@ -92,7 +94,9 @@ fn push_method(
         code: Seq::new(alloc),
         frames: Seq::new(alloc),
         handlers: Seq::new(alloc),
-    })?;
+    }) else {
+        return Err(NoMemory);
+    };
     Ok(())
 }
 

@@ -6,10 +6,10 @@ use Rattle.kilim_link_views.proofs.built_ins.methods.push_method.Goals as goal
 pub returns : goal.returns
 returns c =
     let row = c.args.row.now in
-    c.in_ok-push.ensures.ok ∙ ap (λ (m : Method). c.args.methods.now ++ m ∷ []) (λ i. record {
-      name = c.in_ok-name.ensures i;
+    c.in-Ok-push.ensures.ok ∙ ap (λ (m : Method). c.args.methods.now ++ m ∷ []) (λ i. record {
+      name = c.in-Ok.ensures i;
       owner = class_id (c.args.first + c.from.ensures i);
-      params = c.in-Ok.ensures i;
+      params = c.in-Ok-params_of.ensures i;
       result = c.gives_of.ensures i;
       is_static = row.is_static;
       is_private = false;
