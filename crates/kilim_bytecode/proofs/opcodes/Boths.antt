@@ -23,6 +23,9 @@ module _ {A B C : Type 0} (make : A × B → C) (one : InstrReader A) (bytes : L
   pub followed_made : (others : A → InstrReader B) (y : B) (after : List ℕ) → others x rest ≡ Ok (y, after) → made make (followed one others) bytes ≡ Ok (make (x, y), after)
   followed_made others y after f = ap (λ (r : Read A). (r >>= behind others) >>= made_from) e ∙ ap made_of f
 
+  pub followed_fails : (others : A → InstrReader B) (fault : OpFault) → others x rest ≡ Err fault → made make (followed one others) bytes ≡ Err fault
+  followed_fails others fault f = ap (λ (r : Read A). (r >>= behind others) >>= made_from) e ∙ ap made_of f
+
   pub both_made : (other : InstrReader B) (y : B) (after : List ℕ) → other rest ≡ Ok (y, after) → made make (both one other) bytes ≡ Ok (make (x, y), after)
   both_made other y after f = ap (λ (r : Read A). (r >>= behind (λ a. other)) >>= made_from) e ∙ ap made_of f
 
