@@ -31,3 +31,8 @@ copied {A} before now next xs i x d lt is so_far step =
 -- two lists that are the same as far as either goes
 pub same_end : {A : Type 0} (xs ys : List A) (k : ℕ) → length xs ≤ k → length ys ≤ k → take k xs ≡ take k ys → xs ≡ ys
 same_end xs ys k le less so_far = sym (take_all k xs le) ∙ (so_far ∙ take_all k ys less)
+
+-- and at the next place too
+pub same_on : {A : Type 0} (xs ys : List A) (k : ℕ) (d : A) → k < length xs → k < length ys → take k xs ≡ take k ys → get_or xs k d ≡ get_or ys k d → take (k + 1) xs ≡ take (k + 1) ys
+same_on {A} xs ys k d lt less so_far here =
+    take_more xs k d lt ∙ (ap (λ (zs : List A). zs ++ get_or xs k d ∷ []) so_far ∙ (ap (λ (z : A). take k ys ++ z ∷ []) here ∙ sym (take_more ys k d less)))
