@@ -134,7 +134,9 @@ fn table_with(
 ) -> Result<CodeAttribute, NoMemory>
     ensures { IfOk result (λ a. a ≡ table_with program.now pool.now name method.now) }
 {
-    let frames = full_frames(alloc, program, pool, method.frames.as_slice())?;
+    let Ok(frames) = full_frames(alloc, program, pool, method.frames.as_slice()) else {
+        return Err(NoMemory);
+    };
     Ok(CodeAttribute {
         attribute_name_index: name,
         info: CodeInfo::StackMapTable(frames),
@@ -183,7 +185,12 @@ fn table_by(
     ensures { IfOk result (λ v. v ≡ table_by program.now pool.now name method.now) }
 {
     match name {
-        Some(found) => one(alloc, table_with(alloc, program, pool, found, method)?),
+        Some(found) => {
+            let Ok(table) = table_with(alloc, program, pool, found, method) else {
+                return Err(NoMemory);
+            };
+            one(alloc, table)
+        }
         None => new_table(alloc, program, pool, method),
     }
 }
@@ -201,7 +208,11 @@ fn renew_bytes(
     ensures { OnOk result (bytes.new ≡ (if has_calls program.now method.now then code_text (raw_code program.now old.now pool.now method.now.code counted.now (instrs_if (decoded bytes.old))) else bytes.old)) }
 {
     if has_calls(program, method) {
-        *bytes = new_bytes(alloc, program, old, pool, method, counted, bytes.as_slice())?;
+        let now = bytes.as_slice();
+        let Ok(woven) = new_bytes(alloc, program, old, pool, method, counted, now) else {
+            return Err(NoMemory);
+        };
+        *bytes = woven;
     }
     Ok(())
 }

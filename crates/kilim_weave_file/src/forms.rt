@@ -82,14 +82,18 @@ fn pair_numbers(alloc: Global, pairs: &[(i32, u32)]) -> Result<Seq<(i32, i64)>, 
 fn table_form(alloc: Global, default: u32, low: i32, targets: &[u32]) -> Result<RawInstr, NoMemory>
     ensures { IfOk result (λ r. r ≡ raw.TableSwitch 170 (pos default) low (map place_number targets.now)) }
 {
-    let all = place_numbers(alloc, targets)?;
+    let Ok(all) = place_numbers(alloc, targets) else {
+        return Err(NoMemory);
+    };
     Ok(RawInstr::TableSwitch(TABLESWITCH, i64::from(default), low, all))
 }
 
 fn lookup_form(alloc: Global, default: u32, pairs: &[(i32, u32)]) -> Result<RawInstr, NoMemory>
     ensures { IfOk result (λ r. r ≡ raw.LookupSwitch 171 (pos default) (map pair_number pairs.now)) }
 {
-    let all = pair_numbers(alloc, pairs)?;
+    let Ok(all) = pair_numbers(alloc, pairs) else {
+        return Err(NoMemory);
+    };
     Ok(RawInstr::LookupSwitch(LOOKUPSWITCH, i64::from(default), all))
 }
 

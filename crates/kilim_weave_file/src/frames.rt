@@ -104,7 +104,9 @@ fn push_entry(all: &mut Vec<VType>, skips: bool, of: &VType) -> Result<bool, NoM
     if skips {
         return Ok(false);
     }
-    all.push(*of)?;
+    let Ok(()) = all.push(*of) else {
+        return Err(NoMemory);
+    };
     Ok(is_long(of))
 }
 

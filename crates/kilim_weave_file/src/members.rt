@@ -52,21 +52,27 @@ fn code_info(
 ) -> Result<Option<Info>, NoMemory>
     ensures { IfOk result (λ i. i ≡ Some (what.Code (woven_code program.now old.now pool.now method.now counted.now code))) }
 {
-    let woven = woven_code(alloc, program, old, pool, method, counted, code)?;
+    let Ok(woven) = woven_code(alloc, program, old, pool, method, counted, code) else {
+        return Err(NoMemory);
+    };
     Ok(Some(Info::Code(woven)))
 }
 
 fn visible_info(parts: Seq<AnnotationPart>) -> Result<Option<Info>, NoMemory>
     ensures { IfOk result (λ i. i ≡ Some (what.RuntimeVisibleParameterAnnotations (one_parameter_more parts))) }
 {
-    let more = one_parameter_more(parts)?;
+    let Ok(more) = one_parameter_more(parts) else {
+        return Err(NoMemory);
+    };
     Ok(Some(Info::RuntimeVisibleParameterAnnotations(more)))
 }
 
 fn invisible_info(parts: Seq<AnnotationPart>) -> Result<Option<Info>, NoMemory>
     ensures { IfOk result (λ i. i ≡ Some (what.RuntimeInvisibleParameterAnnotations (one_parameter_more parts))) }
 {
-    let more = one_parameter_more(parts)?;
+    let Ok(more) = one_parameter_more(parts) else {
+        return Err(NoMemory);
+    };
     Ok(Some(Info::RuntimeInvisibleParameterAnnotations(more)))
 }
 
@@ -100,13 +106,15 @@ fn woven_info(
 fn push_attribute(into: &mut Seq<Attribute>, name: u16, info: Option<Info>) -> Result<(), NoMemory>
     ensures { OnOk result (into.new ≡ into.old ++ cons_option (attribute_with name info) []) }
 {
-    match info {
-        None => {}
-        Some(found) => into.push(Attribute {
-            attribute_name_index: name,
-            info: found,
-        })?,
-    }
+    let Some(found) = info else {
+        return Ok(());
+    };
+    let Ok(()) = into.push(Attribute {
+        attribute_name_index: name,
+        info: found,
+    }) else {
+        return Err(NoMemory);
+    };
     Ok(())
 }
 
@@ -123,7 +131,9 @@ fn push_woven(
     ensures { OnOk result (into.new ≡ into.old ++ cons_option (woven_attribute program.now old.now pool.now method.now counted.now attribute) []) }
 {
     let name = attribute.attribute_name_index;
-    let info = woven_info(alloc, program, old, pool, method, counted, attribute.info)?;
+    let Ok(info) = woven_info(alloc, program, old, pool, method, counted, attribute.info) else {
+        return Err(NoMemory);
+    };
     push_attribute(into, name, info)
 }
 
@@ -153,8 +163,12 @@ fn woven_attributes(
 pub fn member_text(alloc: Global, file: &ClassFile, info: &MemberInfo) -> Result<Units, NoMemory>
     ensures { IfOk result (λ units. units ≡ woven_descriptor (member_descriptor file.now info.now)) }
 {
-    let text = text_of(alloc, &file.constant_pool, info.descriptor_index)?;
-    woven_descriptor(alloc, &text)
+    let Ok(text) = text_of(alloc, &file.constant_pool, info.descriptor_index) else {
+        return Err(NoMemory);
+    };
+    let woven = woven_descriptor(alloc, &text);
+    drop(text);
+    woven
 }
 
 // The index of the descriptor with the fiber.
@@ -166,7 +180,9 @@ fn descriptor_number(
 ) -> Result<u16, NoMemory>
     ensures { IfOk result (λ index. index ≡ text_index pool.now (woven_descriptor (member_descriptor file.now info.now))) }
 {
-    let text = member_text(alloc, file, info)?;
+    let Ok(text) = member_text(alloc, file, info) else {
+        return Err(NoMemory);
+    };
     Ok(text_index(pool, &text))
 }
 

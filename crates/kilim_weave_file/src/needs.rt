@@ -126,10 +126,12 @@ pub fn added_need(alloc: Global, program: &Program, instr: &Instr) -> Result<Opt
 fn push_listed(into: &mut Seq<Need>, need: Option<Need>) -> Result<(), NoMemory>
     ensures { OnOk result (into.new ≡ into.old ++ listed need) }
 {
-    match need {
-        None => {}
-        Some(found) => into.push(found)?,
-    }
+    let Some(found) = need else {
+        return Ok(());
+    };
+    let Ok(()) = into.push(found) else {
+        return Err(NoMemory);
+    };
     Ok(())
 }
 
@@ -143,7 +145,9 @@ fn push_old(
 ) -> Result<(), NoMemory>
     ensures { OnOk result (into.new ≡ into.old ++ listed (old_need program.now pool.now instr.now was.now)) }
 {
-    let need = old_need(alloc, program, pool, instr, was)?;
+    let Ok(need) = old_need(alloc, program, pool, instr, was) else {
+        return Err(NoMemory);
+    };
     push_listed(into, need)
 }
 
@@ -155,7 +159,9 @@ fn push_added(
 ) -> Result<(), NoMemory>
     ensures { OnOk result (into.new ≡ into.old ++ listed (added_need program.now instr.now)) }
 {
-    let need = added_need(alloc, program, instr)?;
+    let Ok(need) = added_need(alloc, program, instr) else {
+        return Err(NoMemory);
+    };
     push_listed(into, need)
 }
 
