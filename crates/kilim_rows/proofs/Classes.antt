@@ -1,5 +1,5 @@
 -- What a reference is, by what it refers to; and a cast of the topmost value.
-use Rattle.std.proofs.Common.{◌≡◌, ◌∙◌, sym, ap, refl, arith, ℕ, ◌<◌, Bool, true, false, true≢false, List, [], ◌∷◌, Option, Some, None, length, slice_get, is_some}
+use Rattle.std.proofs.Common.{◌≡◌, ◌∙◌, sym, ap, refl, arith, ℕ, ◌<◌, Bool, true, false, true≢false, List, [], ◌∷◌, Option, Some, None, Result, Ok, Err, IfOk, length, slice_get, is_some}
 use Rattle.std.specs.Prelude.{if◌then◌else◌}
 use Rattle.std.specs.FinMap.{get}
 use Rattle.kilim_classes.specs.declared.class.Method.{Method}
@@ -11,7 +11,7 @@ use Rattle.kilim_classes.specs.Program.{Program}
 use Rattle.kilim_classes.specs.declared.machine.cause.EndCause.TheVariants as cause
 use Rattle.kilim_classes.specs.declared.machine.value.Object.{Object}
 use Rattle.kilim_classes.specs.machine.Machine.{Objects}
-use Rattle.kilim_classes.specs.machine.Effect.{Effect, Goes, Raises, Stuck, as_class, with_some}
+use Rattle.kilim_classes.specs.machine.Effect.{Effect, Goes, Raises, as_class, named_type, with_some}
 use Rattle.kilim_classes.specs.machine.Does.{cast_fits, does}
 use Rattle.kilim_rows.specs.Outcome.{is_stuck}
 use Rattle.kilim_rows.specs.Types.{class_of, is_found, type_at}
@@ -55,6 +55,11 @@ class_is p (Ref n) h go c is = object_is (get h n) go c is
 class_is p (Text units) h go c is = ap go (same_class _ c is)
 class_is p (Box box) h go c is = ap go (same_class _ c is)
 class_is p Fiber h go c is = ap go (same_class _ c is)
+
+-- what is found of a class by its name is what such a value is
+pub named_is : {E : Type 0} (p : Program) (v : Value) (h : Objects) (name : List ℕ) (r : Result (Option Ty) E) → type_at p v h ≡ Some (named_type p name) → IfOk r (λ ty. ty ≡ named_type p name) → IfOk r (λ ty. type_at p v h ≡ Some ty)
+named_is p v h name (Ok ty) at is = at ∙ ap (λ (t : Option Ty). Some t) (sym is)
+named_is p v h name (Err e) at is = tt
 
 abbrev cast_of : Program → Ty → ℕ → List Value → List Value → Objects → Option Ty → Effect
 cast_of p ty next ls s h c = if cast_fits p c ty then Goes next ls s h else Raises cause.Cast

@@ -42,6 +42,13 @@ written_by : (o : Option Object) (h : Objects) (n k next : ℕ) (ls rest : List 
 written_by None h n k next ls rest v there = absurd (true≢false (sym there))
 written_by (Some object) h n k next ls rest v there = placed (slice_get object.elements k) (Goes next ls rest (insert h n (with_element object k v))) there
 
+no_value : (v : Value) → ◌≡◌ {A = Option Value} None (Some v) → ⊥
+no_value v e = cc
+
+read_by : (o : Option Object) (k : ℕ) (v : Value) (go : Value → Effect) → (o >>= λ (x : Object). slice_get x.elements k) ≡ Some v → with_some o (λ (object : Object). at_index object.elements (pos k) (λ l w. go w)) ≡ go v
+read_by None k v go there = absurd (no_value v there)
+read_by (Some object) k v go there = ap (λ (w : Option Value). at_place w go) there
+
 -- an array and an index on the stack
 module _ (h : Objects) (s t u : Stacked) (i : ℤ) (n : ℕ) (first : s ≡ record t { values = Int i ∷ t.values }) (second : t ≡ record u { values = Ref n ∷ u.values }) where
   row : (go : List Value → ℕ → Object → ℕ → Value → Effect) → on_int s.values (λ j below. on_object below h (λ m object rest. at_index object.elements j (go rest m object))) ≡ with_some (get h n) (λ (object : Object). at_index object.elements i (go u.values n object))
@@ -95,3 +102,19 @@ module _ (h : Objects) (s t u : Stacked) (i : ℤ) (n : ℕ) (first : s ≡ reco
   pub long_written : (p : Program) (own : Method) (next k : ℕ) (ls : List Value) (r : Stacked) (x : ℤ) → r ≡ record s { values = Long x ∷ s.values } → i ≡ pos k → is_some (element_at h n k) ≡ true → does p own Lastore next ls r.values h ≡ Goes next ls u.values (words.with_element h n k (Long x))
   unfolding does
   long_written p own next k ls r x top is there = ap (λ (y : Stacked). does p own Lastore next ls y.values h) top ∙ written next k ls (Long x) is there
+
+  -- what is read is put on top
+  pub int_read : (next k : ℕ) (ls : List Value) (w : Stacked) (x : ℤ) → i ≡ pos k → element_at h n k ≡ Some (Int x) → w ≡ record u { values = Int x ∷ u.values } → loads_int next ls s.values h ≡ Goes next ls w.values h
+  int_read next k ls w x is there pushed =
+      let go : Value → Effect = λ (v : Value). as_int v (λ y. Goes next ls (Int y ∷ u.values) h) in
+      row (λ rest m object l v. as_int v (λ y. Goes next ls (Int y ∷ rest) h))
+      ∙ (ap (λ (j : ℤ). with_some (get h n) (λ (object : Object). at_index object.elements j (λ l v. go v))) is
+      ∙ (read_by (get h n) k (Int x) go there ∙ ap (λ (y : Stacked). Goes next ls y.values h) (sym pushed)))
+
+  pub long_read : (p : Program) (own : Method) (next k : ℕ) (ls : List Value) (w : Stacked) (x : ℤ) → i ≡ pos k → element_at h n k ≡ Some (Long x) → w ≡ record u { values = Long x ∷ u.values } → does p own Laload next ls s.values h ≡ Goes next ls w.values h
+  unfolding does
+  long_read p own next k ls w x is there pushed =
+      let go : Value → Effect = λ (v : Value). as_long v (λ y. Goes next ls (Long y ∷ u.values) h) in
+      row (λ rest m object l v. as_long v (λ y. Goes next ls (Long y ∷ rest) h))
+      ∙ (ap (λ (j : ℤ). with_some (get h n) (λ (object : Object). at_index object.elements j (λ l v. go v))) is
+      ∙ (read_by (get h n) k (Long x) go there ∙ ap (λ (y : Stacked). Goes next ls y.values h) (sym pushed)))

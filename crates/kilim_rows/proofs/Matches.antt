@@ -5,7 +5,7 @@ use Rattle.std.proofs.lemmas.Bool.Decides.{Decides-int_eq}
 use Rattle.std.specs.Ordering.{int_eq}
 use Rattle.kilim_classes.specs.machine.Does.{match_target}
 
-differ : (b : Bool) (x y : ℤ) → Decides b (x ≡ y) → (x ≡ y → ⊥) → b ≡ false
+pub differ : (b : Bool) (x y : ℤ) → Decides b (x ≡ y) → (x ≡ y → ⊥) → b ≡ false
 differ true x y same not = absurd (not (same.0 refl))
 differ false x y same not = refl
 

@@ -1,7 +1,10 @@
-use Rattle.std.proofs.Common.{◌≡◌, FitsSigned, rules, w32, None}
+use Rattle.std.proofs.Common.{◌≡◌, ◌∙◌, ap, FitsSigned, rules, w32, w64, pos, ◌∷◌, Option, Some, None}
 use Rattle.std.proofs.lemmas.Int.{to_z-of_z}
+use Rattle.kilim_classes.specs.declared.value.Value.{Value}
+use Rattle.kilim_classes.specs.declared.value.Value.TheVariants.{Long}
+use Rattle.kilim_machine_parts.specs.Words.{element_at}
 use Rattle.kilim_rows.specs.Outcome.{found_in}
-use Rattle.kilim_rows.proofs.Elements.{no_long}
+use Rattle.kilim_rows.proofs.Elements.{long_read, no_long}
 use Rattle.kilim_rows.proofs.objects.read_long.Goals as goal
 
 pub returns-in_default-index_in-clause-step : goal.returns-in_default-index_in-clause-step
@@ -9,3 +12,14 @@ returns-in_default-index_in-clause-step c =
     let fits : FitsSigned w32 c.pop_int-i.result = search rules in
     let none : found_in c.args.heap.now c.in-Some.at c.pop_int-i.result ≡ None = simp to_z-of_z at (rw c.in_default-index_in.is at c.index_in.ensures) in
     no_long c.args.heap.now c.args.frame.now.stack c.pop_int-i.new.self c.pop_object.new.self c.pop_int-i.result c.in-Some.at c.pop_int-i.ensures (rw c.in-Some.is at c.pop_object.ensures) c.args.program.now c.args.own.now c.args.next c.args.frame.now.locals c.requires.fine none
+
+pub returns-clause-step : goal.returns-clause-step
+returns-clause-step c =
+    let fits_i : FitsSigned w32 c.pop_int-i.result = search rules in
+    let fits_x : FitsSigned w64 c.in-Long.x = search rules in
+    let here = rw c.in-Some-index_in.is at c.index_in.ensures in
+    let is : c.pop_int-i.result ≡ pos c.in-Some-index_in.index = simp to_z-of_z at here.0 in
+    let there : element_at c.args.heap.now c.in-Some.at c.in-Some-index_in.index ≡ Some (Long c.in-Long.x) = c.element.ensures ∙ ap (λ (v : Value). Some v) c.in-Long.is in
+    let pushed : c.push.new.self ≡ record c.pop_object.new.self { values = Long c.in-Long.x ∷ c.pop_object.new.self.values } = simp to_z-of_z at c.push.ensures in
+    long_read c.args.heap.now c.args.frame.now.stack c.pop_int-i.new.self c.pop_object.new.self c.pop_int-i.result c.in-Some.at c.pop_int-i.ensures (rw c.in-Some.is at c.pop_object.ensures)
+    c.args.program.now c.args.own.now c.args.next c.in-Some-index_in.index c.args.frame.now.locals c.push.new.self c.in-Long.x is there pushed
