@@ -1,5 +1,5 @@
 -- The places of an arena as a map.
-use Rattle.std.proofs.Common.{◌≡◌, ℕ, zero, suc, ◌+◌, ◌<◌, ◌≤◌, Bool, false, List, [], ◌∷◌, ◌++◌, Option, Some, None, length, get_or, set, refl, sym, ap, subst, ◌∙◌, rules, arith, length-append, get_or-set_other, get_or-set_same, inl, inr, ◌⊎◌}
+use Rattle.std.proofs.Common.{◌≡◌, ℕ, zero, suc, ◌+◌, ◌<◌, ◌≤◌, Bool, false, true≢false, List, [], ◌∷◌, ◌++◌, Option, Some, None, length, get_or, set, refl, sym, ap, subst, ◌∙◌, rules, arith, length-append, get_or-set_other, get_or-set_same, inl, inr, ◌⊎◌}
 use Rattle.std.specs.Prelude.{IsSome, IfOk, Result, Ok, Err, is_err}
 use Rattle.std.proofs.Math.ListN.{length-set}
 use Rattle.std.specs.FinMap.{empty, get, insert, remove, get-empty}
@@ -288,7 +288,7 @@ pub read_there : (ps : List (Option Object)) (h : Objects) (q : ℕ) (v : Option
 read_there ps h q v e there is = found_in ps h q v e (read_at ps q v (there_is_within ps q (there_in ps h q e there)) is)
 
 pub none_there : (ps : List (Option Object)) (h : Objects) (q : ℕ) (v : Option Object) → objects_from 0 ps ≡ h → IsSome (get h q) → v ≡ get_or ps q v → v ≡ None → ⊥
-none_there ps h q v e there is none = let no : get h q ≡ None = read_there ps h q v e there is ∙ none in let none_is : Option Object = None in let bad : IsSome none_is = subst (λ o. IsSome o) no there in cc
+none_there ps h q v e there is none = let no : get h q ≡ None = read_there ps h q v e there is ∙ none in let none_is : Option Object = None in let bad : IsSome none_is = subst (λ o. IsSome o) no there in true≢false (sym bad)
 
 pub ok_then : {A E : Type 0} (r : Result A E) (P : Type 0) (b : Bool) → b ≡ is_err r → b ≡ false → IfOk r (λ x. P) → P
 ok_then (Ok x) P b e f p = p

@@ -1,5 +1,5 @@
 -- Arguments as locals.
-use Rattle.std.proofs.Common.{◌≡◌, refl, ap, true, false, List, [], ◌∷◌, ◌++◌}
+use Rattle.std.proofs.Common.{◌≡◌, refl, sym, ap, true, false, true≢false, List, [], ◌∷◌, ◌++◌}
 use Rattle.kilim_classes.specs.declared.value.Value.{Value}
 use Rattle.kilim_classes.specs.declared.value.Value.TheVariants.{Int, Long, Null, Ref, Text, Box, Fiber}
 use Rattle.kilim_classes.specs.machine.Moves.{slots_of}
@@ -16,17 +16,17 @@ slots_append (Box b ∷ xs) ys = ap (λ (t : List Value). Box b ∷ t) (slots_ap
 slots_append (Fiber ∷ xs) ys = ap (λ (t : List Value). Fiber ∷ t) (slots_append xs ys)
 
 pub slots_of_long : (v : Value) → is_long v ≡ true → slots_of (v ∷ []) ≡ v ∷ Null ∷ []
-slots_of_long (Int n) wide = absurd (cc)
+slots_of_long (Int n) wide = absurd (true≢false (sym wide))
 slots_of_long (Long n) wide = refl
-slots_of_long Null wide = absurd (cc)
-slots_of_long (Ref n) wide = absurd (cc)
-slots_of_long (Text t) wide = absurd (cc)
-slots_of_long (Box b) wide = absurd (cc)
-slots_of_long Fiber wide = absurd (cc)
+slots_of_long Null wide = absurd (true≢false (sym wide))
+slots_of_long (Ref n) wide = absurd (true≢false (sym wide))
+slots_of_long (Text t) wide = absurd (true≢false (sym wide))
+slots_of_long (Box b) wide = absurd (true≢false (sym wide))
+slots_of_long Fiber wide = absurd (true≢false (sym wide))
 
 pub slots_of_other : (v : Value) → is_long v ≡ false → slots_of (v ∷ []) ≡ v ∷ []
 slots_of_other (Int n) narrow = refl
-slots_of_other (Long n) narrow = absurd (cc)
+slots_of_other (Long n) narrow = absurd (true≢false narrow)
 slots_of_other Null narrow = refl
 slots_of_other (Ref n) narrow = refl
 slots_of_other (Text t) narrow = refl

@@ -1,4 +1,4 @@
-use Rattle.std.proofs.Common.{arith, ◌≡◌, length, None, subst, Option}
+use Rattle.std.proofs.Common.{arith, ◌≡◌, sym, true≢false, length, None, subst, Option}
 use Rattle.std.specs.Prelude.{IsSome}
 use Rattle.kilim_classes.specs.declared.value.Value.{Value}
 use Rattle.kilim_classes.specs.declared.value.Value.TheVariants.{Null}
@@ -19,4 +19,4 @@ unreachable-requires c =
     let at_end : c.loop-i.i ≡ length c.args.fields.now = omega (arith, c.loop-i-test.false, c.loop-i.auto.i-end) in
     let none = (found_nowhere c.args.fields.now c.args.field Null c.loop-i.i (c.loop-i.invariant Null) at_end).0 in
     let nothing : Option Value = None in
-    let bad : IsSome nothing = subst (λ (x : Option Value). IsSome x) none c.requires in cc
+    let bad : IsSome nothing = subst (λ (x : Option Value). IsSome x) none c.requires in true≢false (sym bad)
