@@ -80,3 +80,27 @@ pub returns-in-Rest-clause-next : goal.returns-in-Rest-clause-next
 returns-in-Rest-clause-next g c =
     rests_now g.F.Fibers.task_of g.F.Fibers.course_of g.F.Fibers.holds g.F.Fibers.asked g.F.Fibers.serves c.args.code.now c.args.main c.args.limits.now c.args.board.now c.args.fiber.now c.resume.new.self c.in-Ok.wants c.in-Rest.waits c.in-Rest.is
     c.requires.lending c.in-Ok.ensures.task c.in-Ok.ensures.course c.in-Ok.ensures.wants
+
+pub resume-requires : goal.resume-requires
+resume-requires g c = let r = c.requires.some in record { set = r.0; served = r.1.run.served; is-limits = r.1.is-limits; stands = (c.requires.lending.stands r.0 r.1).1 }
+
+pub reserve-requires : goal.reserve-requires
+reserve-requires g c = record { roomy = c.requires.lending.roomy }
+
+pub reserve-requires-in_default-wants : goal.reserve-requires-in_default-wants
+reserve-requires-in_default-wants g c = record { roomy = c.requires.lending.roomy }
+
+pub act-requires-clause-room : goal.act-requires-clause-room
+act-requires-clause-room g c = c.in-Ok-reserve.ensures.room
+
+pub returns-in_default : goal.returns-in_default
+returns-in_default g c = record { next = tt; falls = tt }
+
+pub returns-in_default-reserve : goal.returns-in_default-reserve
+returns-in_default-reserve g c = record { next = tt; falls = tt }
+
+pub returns-in_default-reserve-2 : goal.returns-in_default-reserve-2
+returns-in_default-reserve-2 g c = record { next = tt; falls = tt }
+
+pub returns-in-Err : goal.returns-in-Err
+returns-in-Err g c = record { next = tt; falls = tt }
