@@ -106,7 +106,9 @@ fn indexed(
 ) -> Result<Option<Instr>, NoMemory>
     ensures { IfOk result (λ instr. instr ≡ instr_with world.now number (operand_at pool.now (number, index))) }
 {
-    let operand = operand_at(alloc, pool, number, index)?;
+    let Ok(operand) = operand_at(alloc, pool, number, index) else {
+        return Err(NoMemory);
+    };
     instr_with(alloc, world, number, operand)
 }
 

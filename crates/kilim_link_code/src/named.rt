@@ -18,7 +18,9 @@ use std::alloc::Global;
 fn owner_class(alloc: Global, world: &World, owner: &Units) -> Result<Option<ClassId>, NoMemory>
     ensures { IfOk result (λ found. found ≡ class_named_by world.now (named_by owner.now)) }
 {
-    let owner = named_by(alloc, owner.as_slice())?;
+    let Ok(owner) = named_by(alloc, owner.as_slice()) else {
+        return Err(NoMemory);
+    };
     Ok(class_named_by(world, &owner))
 }
 
