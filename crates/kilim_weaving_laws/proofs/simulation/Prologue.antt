@@ -192,45 +192,16 @@ module _ (set : Setting) (W : Program) (marks : List (List Bool)) (most : ℕ) (
   starts y l0 c b lo p0 y0 vs de re pa w ps calls e first is room self_there =
       let h0 = subst (λ (a : Bool). Starts set.program W (code set W marks) (form m) a) calls (facts m).starts in
       let h = h0.1 in
-      let room2 = (facts m).room calls in
-      let high = (facts m).higher calls in
       let old_limit = stack_limit set.program m in
       let limit = stack_limit W m in
       let f = Fiber_at lo (Saved p0 y0 vs) de re pa in
-      let old = get_within l0 L (by_room (form m).method.is_static room2) in
+      let old = get_within l0 L (by_room (form m).method.is_static ((facts m).room calls)) in
       let l1 = slice_set l0 L value.Fiber in
       let rest = load_fiber x ∷ calls_member x 0 ∷ switch_item x ∷ h0.0 in
-      let r1 = goes (keep_self x rest) c 0 h.0 (instr.Aload F) false l0 [] l0 (value.Fiber ∷ []) l1 [] b f f w ps h.1 refl (add.aload W (own_of W m) h.0 l0 [] w.heap F value.Fiber e add.fiber_is_reference) (tally.has_one old_limit limit high) tt
+      keeps h0
+      (goes (keep_self x rest) c 0 h.0 (instr.Aload F) false l0 [] l0 (value.Fiber ∷ []) l1 [] b f f w ps h.1 refl (add.aload W (own_of W m) h.0 l0 [] w.heap F value.Fiber e add.fiber_is_reference) (tally.has_one old_limit limit ((facts m).higher calls)) tt
       (goes (keep_self x rest) (suc c) h.0 h.2.0 (instr.Astore L) false l0 (value.Fiber ∷ []) l1 [] l1 [] b f f w ps h.2.1 refl (add.astore W (own_of W m) h.2.0 l0 [] w.heap L value.Fiber old.0 old.1 add.fiber_is_reference) (tally.none_within limit) (tt, tt)
-      (here (keep_self x rest) (suc (suc c)) h.2.0 l1 [] b f w ps h.2.2)) in
-      let le = length-set l0 L value.Fiber in
-      let r2 = keeps_self y l0 l1 rest r1.count r1.place b f w ps (set_same l0 L value.Fiber (by_room (form m).method.is_static room2)) (λ k u. set_other l0 L k value.Fiber (λ v. omega (arith, u, v))) le
-      (λ z. set_other l0 L 0 value.Fiber (λ v. not_zero v) ∙ first z) is (by_both (form m).method.is_static room2 le) r1.has (tally.has_one old_limit limit high) self_there in
-      let l2 = r2.0 in
-      let t2 = r2.2 in
-      let g = t2.has in
-      let t3 = stretch.fiber_goes set W marks most Q runs members form facts m (switch_item x ∷ h0.0) t2.count t2.place g.0 l2 [] l2 (value.Int (pos (place_while re p0)) ∷ []) b f f w ps r2.1.fiber g.1 (tally.above_none old_limit limit high) tt
-      (stretch.member_goes set W marks most Q runs members form facts m (switch_item x ∷ h0.0) (suc t2.count) g.0 g.2.0 (instr.Invokevirtual (member set.program 0)) (member set.program 0) (value.Fiber ∷ []) Pc l2 (value.Fiber ∷ []) [] l2 (value.Int (pos (place_while re p0)) ∷ []) b f f f (Some (value.Int (pos (place_while re p0)))) w ps g.2.1
-      (members.alone 0 Pc refl refl (own_of W m) g.2.0 l2 [] w.heap) (members.named 0 Pc refl) refl (tally.above_none old_limit limit high) (tt, tt)
-      (here (switch_item x ∷ h0.0) (suc (suc t2.count)) g.2.0 l2 (value.Int (pos (place_while re p0)) ∷ []) b f w ps g.2.2)) in
-      let u = t3.has in
-      let sw = instr.Tableswitch ((form m).at 0) (pos 1) (resume_places x 1 (form m).method.code) in
-      let far2 = tally.joined c 0 r1.count r1.place t2.count t2.place r1.few t2.few in
-      let far3 = tally.joined c 0 t2.count t2.place t3.count t3.place far2 t3.few in
-      let a4 = (facts m).grows t3.place u.0 sw false u.1 in
-      record {
-        locals = l2;
-        sets = r2.1;
-        count = suc t3.count;
-        switch = t3.place;
-        last = u.0;
-        is_switch = u.1;
-        few = tally.last_more c t3.count t3.place u.0 far3 a4;
-        way = path.joins set W marks most Q runs r1.way (path.joins set W marks most Q runs t2.way (path.joins set W marks most Q runs t3.way
-            (path.one set W marks most Q runs t3.count m t3.place l2 (value.Int (pos (place_while re p0)) ∷ []) b f w ps sw u.0 false (Goes (goes_by (place_while re p0)) l2 [] w.heap) u.1 refl
-            (add.table W (own_of W m) u.0 l2 [] w.heap ((form m).at 0) (resume_places x 1 (form m).method.code) (place_while re p0))
-            (path.goes_room set.program W m b w.heap (goes_by (place_while re p0)) l2 [] w.heap (tally.none_within limit)) (tt, tt) (λ on. (on, refl, refl)))));
-      }
+      (here (keep_self x rest) (suc (suc c)) h.2.0 l1 [] b f w ps h.2.2)))
     where
       by_room : (a : Bool) → L + (if a then 1 else 2) ≤ slots_in (method_at W m) → L < length l0
       by_room true r = omega (arith, r, room)
@@ -242,3 +213,46 @@ module _ (set : Setting) (W : Program) (marks : List (List Bool)) (most : ℕ) (
 
       not_zero : larger (form m).method.max_locals (suc F) ≡ 0 → ⊥
       not_zero e = let z = larger_right (form m).method.max_locals (suc F) in omega (arith, z, e)
+
+      -- the way to the switch, by its parts
+      ends : (h0 : Starts set.program W (code set W marks) (form m) true) (r1 : Reach (keep_self x (load_fiber x ∷ calls_member x 0 ∷ switch_item x ∷ h0.0)) c 0 (WRun m 0 l0 [] b (Fiber_at lo (Saved p0 y0 vs) de re pa) w ps) (slice_set l0 L value.Fiber) [] b (Fiber_at lo (Saved p0 y0 vs) de re pa) w ps) (l2 : List Value) → Sets y l0 l2
+          → (t2 : Reach (load_fiber x ∷ calls_member x 0 ∷ switch_item x ∷ h0.0) r1.count r1.place (WRun m r1.place (slice_set l0 L value.Fiber) [] b (Fiber_at lo (Saved p0 y0 vs) de re pa) w ps) l2 [] b (Fiber_at lo (Saved p0 y0 vs) de re pa) w ps) → Reach (switch_item x ∷ h0.0) t2.count t2.place (WRun m t2.place l2 [] b (Fiber_at lo (Saved p0 y0 vs) de re pa) w ps) l2 (value.Int (pos (place_while re p0)) ∷ []) b (Fiber_at lo (Saved p0 y0 vs) de re pa) w ps → Started y l0 c b (place_while re p0) (Fiber_at lo (Saved p0 y0 vs) de re pa) w ps
+      ends h0 r1 l2 sets t2 t3 =
+          let u = t3.has in
+          let sw = instr.Tableswitch ((form m).at 0) (pos 1) (resume_places x 1 (form m).method.code) in
+          let far2 = tally.joined c 0 r1.count r1.place t2.count t2.place r1.few t2.few in
+          let far3 = tally.joined c 0 t2.count t2.place t3.count t3.place far2 t3.few in
+          record {
+            locals = l2;
+            sets = sets;
+            count = suc t3.count;
+            switch = t3.place;
+            last = u.0;
+            is_switch = u.1;
+            few = tally.last_more c t3.count t3.place u.0 far3 ((facts m).grows t3.place u.0 sw false u.1);
+            way = path.joins set W marks most Q runs r1.way (path.joins set W marks most Q runs t2.way (path.joins set W marks most Q runs t3.way
+                (path.one set W marks most Q runs t3.count m t3.place l2 (value.Int (pos (place_while re p0)) ∷ []) b (Fiber_at lo (Saved p0 y0 vs) de re pa) w ps sw u.0 false (Goes (goes_by (place_while re p0)) l2 [] w.heap) u.1 refl
+                (add.table W (own_of W m) u.0 l2 [] w.heap ((form m).at 0) (resume_places x 1 (form m).method.code) (place_while re p0))
+                (path.goes_room set.program W m b w.heap (goes_by (place_while re p0)) l2 [] w.heap (tally.none_within (stack_limit W m))) (tt, tt) (λ on. (on, refl, refl)))));
+          }
+
+      asks : (h0 : Starts set.program W (code set W marks) (form m) true) (r1 : Reach (keep_self x (load_fiber x ∷ calls_member x 0 ∷ switch_item x ∷ h0.0)) c 0 (WRun m 0 l0 [] b (Fiber_at lo (Saved p0 y0 vs) de re pa) w ps) (slice_set l0 L value.Fiber) [] b (Fiber_at lo (Saved p0 y0 vs) de re pa) w ps) (l2 : List Value) → Sets y l0 l2
+          → Reach (load_fiber x ∷ calls_member x 0 ∷ switch_item x ∷ h0.0) r1.count r1.place (WRun m r1.place (slice_set l0 L value.Fiber) [] b (Fiber_at lo (Saved p0 y0 vs) de re pa) w ps) l2 [] b (Fiber_at lo (Saved p0 y0 vs) de re pa) w ps → Started y l0 c b (place_while re p0) (Fiber_at lo (Saved p0 y0 vs) de re pa) w ps
+      asks h0 r1 l2 sets t2 =
+          let g = t2.has in
+          let high = (facts m).higher calls in
+          let old_limit = stack_limit set.program m in
+          let limit = stack_limit W m in
+          ends h0 r1 l2 sets t2
+          (stretch.fiber_goes set W marks most Q runs members form facts m (switch_item x ∷ h0.0) t2.count t2.place g.0 l2 [] l2 (value.Int (pos (place_while re p0)) ∷ []) b (Fiber_at lo (Saved p0 y0 vs) de re pa) (Fiber_at lo (Saved p0 y0 vs) de re pa) w ps sets.fiber g.1 (tally.above_none old_limit limit high) tt
+          (stretch.member_goes set W marks most Q runs members form facts m (switch_item x ∷ h0.0) (suc t2.count) g.0 g.2.0 (instr.Invokevirtual (member set.program 0)) (member set.program 0) (value.Fiber ∷ []) Pc l2 (value.Fiber ∷ []) [] l2 (value.Int (pos (place_while re p0)) ∷ []) b (Fiber_at lo (Saved p0 y0 vs) de re pa) (Fiber_at lo (Saved p0 y0 vs) de re pa) (Fiber_at lo (Saved p0 y0 vs) de re pa) (Some (value.Int (pos (place_while re p0)))) w ps g.2.1
+          (members.alone 0 Pc refl refl (own_of W m) g.2.0 l2 [] w.heap) (members.named 0 Pc refl) refl (tally.above_none old_limit limit high) (tt, tt)
+          (here (switch_item x ∷ h0.0) (suc (suc t2.count)) g.2.0 l2 (value.Int (pos (place_while re p0)) ∷ []) b (Fiber_at lo (Saved p0 y0 vs) de re pa) w ps g.2.2)))
+
+      keeps : (h0 : Starts set.program W (code set W marks) (form m) true) → Reach (keep_self x (load_fiber x ∷ calls_member x 0 ∷ switch_item x ∷ h0.0)) c 0 (WRun m 0 l0 [] b (Fiber_at lo (Saved p0 y0 vs) de re pa) w ps) (slice_set l0 L value.Fiber) [] b (Fiber_at lo (Saved p0 y0 vs) de re pa) w ps → Started y l0 c b (place_while re p0) (Fiber_at lo (Saved p0 y0 vs) de re pa) w ps
+      keeps h0 r1 =
+          let room2 = (facts m).room calls in
+          let le = length-set l0 L value.Fiber in
+          let r2 = keeps_self y l0 (slice_set l0 L value.Fiber) (load_fiber x ∷ calls_member x 0 ∷ switch_item x ∷ h0.0) r1.count r1.place b (Fiber_at lo (Saved p0 y0 vs) de re pa) w ps (set_same l0 L value.Fiber (by_room (form m).method.is_static room2)) (λ k u. set_other l0 L k value.Fiber (λ v. omega (arith, u, v))) le
+          (λ z. set_other l0 L 0 value.Fiber (λ v. not_zero v) ∙ first z) is (by_both (form m).method.is_static room2 le) r1.has (tally.has_one (stack_limit set.program m) (stack_limit W m) ((facts m).higher calls)) self_there in
+          asks h0 r1 r2.0 r2.1 r2.2
