@@ -7,6 +7,16 @@ use Rattle.kilim_bytecode.specs.opcodes.Reading.{InstrReader}
 abbrev Read : Type 0 → Type 0
 Read A = Result (A × List ℕ) OpFault
 
+module _ {A C : Type 0} (make : A → C) (one : InstrReader A) (bytes : List ℕ) where
+  abbrev made_of_one : Read A → Read C
+  made_of_one r = r >>= λ z. Ok (make z.0, z.1)
+
+  pub made_one : (x : A) (rest : List ℕ) → one bytes ≡ Ok (x, rest) → made make one bytes ≡ Ok (make x, rest)
+  made_one x rest e = ap made_of_one e
+
+  pub made_fails : (fault : OpFault) → one bytes ≡ Err fault → made make one bytes ≡ Err fault
+  made_fails fault e = ap made_of_one e
+
 module _ {A B C : Type 0} (make : A × B → C) (one : InstrReader A) (bytes : List ℕ) (x : A) (rest : List ℕ) (e : one bytes ≡ Ok (x, rest)) where
   abbrev pair_of : A → B × List ℕ → Read (A × B)
   pair_of a y = Ok ((a, y.0), y.1)
