@@ -136,31 +136,43 @@ module _ (set : Setting) (W : Program) (marks : List (List Bool)) (most : ℕ) (
         → (d : ℕ) × (d + q ≤ c + longest) × To c (WRun m q l0 [] b (Fiber_at lo (Saved n self (kept_slots (saved x from to) wl (kept_stack (below x callee from) s []))) (Saved p2 y vs2 ∷ de) true false) w ps)
         d (WRun m ((form m).at from) (put_back (saved x from to) wl l0) (again callee y s) b (Fiber_at lo (Saved n self []) (Saved p2 y vs2 ∷ de) true false) w ps)
     blocks rest callee from to n self y wl l0 s c q b lo p2 vs2 de w ps e inside fits slots recv h low =
-        let more = more_dummies callee.params (with_receiver callee.is_static y s) in
-        let most_of = more_receiver callee.is_static y s in
-        let jump = added (instr.Goto ((form m).at from)) 3 ∷ rest in
-        let i3 = dummies callee.params jump in
-        let i2 = restore_receiver callee.is_static x (receiver x callee from) i3 in
-        let i1 = restore_stack x (below x callee from) i2 in
-        let deep = Saved p2 y vs2 ∷ de in
-        let l2 = put_back (saved x from to) wl l0 in
-        let vs = kept_stack (below x callee from) s [] in
-        let e2 = back_other (saved x from to) wl l0 (fiber_slot x.method) (λ z. not_self (inside (fiber_slot x.method) z)) ∙ e in
-        let r1 = restore.restores_locals set W marks most Q runs members form facts m (saved x from to) i1 c q wl l0 b lo n self vs deep true false w ps e inside slots h (omega (arith, low)) in
-        let r2 = restore.restores_stack set W marks most Q runs members form facts m (below x callee from) i2 r1.count r1.place l2 s b lo n self [] deep true false w ps e2 fits r1.has (omega (arith, low, more, most_of)) in
-        let r3 = receivers_if callee.is_static (receiver x callee from) i3 r2.count r2.place y l2 s b lo (Saved n self []) p2 vs2 de true false w ps e2 recv r2.has (omega (arith, low, more)) (all_there W w.heap (below x callee from) s fits) in
-        let r4 = dummies_go callee.params jump r3.count r3.place l2 (with_receiver callee.is_static y s) b (Fiber_at lo (Saved n self []) deep true false) w ps r3.has (omega (arith, low)) (receiver_there w.heap callee.is_static (receiver x callee from) y s recv (all_there W w.heap (below x callee from) s fits)) in
-        let g = r4.has in
-        let a1 = r1.few in let a2 = r2.few in let a3 = r3.few in let a4 = r4.few in
-        let a5 = (facts m).grows r4.place g.0 (instr.Goto ((form m).at from)) false g.1 in
-        let a6 = (facts m).within r4.place g.0 (instr.Goto ((form m).at from)) g.1 in (
-          suc r4.count,
-          omega (arith, a1, a2, a3, a4, a5, a6),
-          path.joins set W marks most Q runs r1.way (path.joins set W marks most Q runs r2.way (path.joins set W marks most Q runs r3.way (path.joins set W marks most Q runs r4.way
-              (path.one set W marks most Q runs r4.count m r4.place l2 (again callee y s) b (Fiber_at lo (Saved n self []) deep true false) w ps (instr.Goto ((form m).at from)) g.0 false (Goes ((form m).at from) l2 (again callee y s) w.heap) g.1 refl
-              (add.goto W (own_of W m) g.0 l2 (again callee y s) w.heap ((form m).at from))
-              (path.goes_room set.program W m b w.heap ((form m).at from) l2 (again callee y s) w.heap (omega (arith, low))) (again_there w.heap callee (below x callee from) (receiver x callee from) y s fits recv) (λ on. (on, refl, refl)))))),
-        )
+        jumps (dummies_behind (receiver_behind (stack_behind
+        (restore.restores_locals set W marks most Q runs members form facts m (saved x from to) (restore_stack x (below x callee from) (restore_receiver callee.is_static x (receiver x callee from) (dummies callee.params (added (instr.Goto ((form m).at from)) 3 ∷ rest)))) c q wl l0 b lo n self (kept_stack (below x callee from) s []) (Saved p2 y vs2 ∷ de) true false w ps e inside slots h (omega (arith, low))))))
+      where
+        fiber_there : slice_get (put_back (saved x from to) wl l0) (fiber_slot x.method) ≡ Some value.Fiber
+        fiber_there = back_other (saved x from to) wl l0 (fiber_slot x.method) (λ z. not_self (inside (fiber_slot x.method) z)) ∙ e
+
+        stack_behind : Reach (restore_stack x (below x callee from) (restore_receiver callee.is_static x (receiver x callee from) (dummies callee.params (added (instr.Goto ((form m).at from)) 3 ∷ rest)))) c q (WRun m q l0 [] b (Fiber_at lo (Saved n self (kept_slots (saved x from to) wl (kept_stack (below x callee from) s []))) (Saved p2 y vs2 ∷ de) true false) w ps) (put_back (saved x from to) wl l0) [] b (Fiber_at lo (Saved n self (kept_stack (below x callee from) s [])) (Saved p2 y vs2 ∷ de) true false) w ps → Reach (restore_receiver callee.is_static x (receiver x callee from) (dummies callee.params (added (instr.Goto ((form m).at from)) 3 ∷ rest))) c q (WRun m q l0 [] b (Fiber_at lo (Saved n self (kept_slots (saved x from to) wl (kept_stack (below x callee from) s []))) (Saved p2 y vs2 ∷ de) true false) w ps) (put_back (saved x from to) wl l0) s b (Fiber_at lo (Saved n self []) (Saved p2 y vs2 ∷ de) true false) w ps
+        stack_behind r =
+            let more = more_dummies callee.params (with_receiver callee.is_static y s) in
+            let most_of = more_receiver callee.is_static y s in
+            path.then_reach set W marks most Q runs m (restore_stack x (below x callee from) (restore_receiver callee.is_static x (receiver x callee from) (dummies callee.params (added (instr.Goto ((form m).at from)) 3 ∷ rest)))) (restore_receiver callee.is_static x (receiver x callee from) (dummies callee.params (added (instr.Goto ((form m).at from)) 3 ∷ rest))) c q (WRun m q l0 [] b (Fiber_at lo (Saved n self (kept_slots (saved x from to) wl (kept_stack (below x callee from) s []))) (Saved p2 y vs2 ∷ de) true false) w ps) (put_back (saved x from to) wl l0) [] (put_back (saved x from to) wl l0) s b (Fiber_at lo (Saved n self (kept_stack (below x callee from) s [])) (Saved p2 y vs2 ∷ de) true false) (Fiber_at lo (Saved n self []) (Saved p2 y vs2 ∷ de) true false) w ps r
+            (restore.restores_stack set W marks most Q runs members form facts m (below x callee from) (restore_receiver callee.is_static x (receiver x callee from) (dummies callee.params (added (instr.Goto ((form m).at from)) 3 ∷ rest))) r.count r.place (put_back (saved x from to) wl l0) s b lo n self [] (Saved p2 y vs2 ∷ de) true false w ps fiber_there fits r.has (omega (arith, low, more, most_of)))
+
+        receiver_behind : Reach (restore_receiver callee.is_static x (receiver x callee from) (dummies callee.params (added (instr.Goto ((form m).at from)) 3 ∷ rest))) c q (WRun m q l0 [] b (Fiber_at lo (Saved n self (kept_slots (saved x from to) wl (kept_stack (below x callee from) s []))) (Saved p2 y vs2 ∷ de) true false) w ps) (put_back (saved x from to) wl l0) s b (Fiber_at lo (Saved n self []) (Saved p2 y vs2 ∷ de) true false) w ps → Reach (dummies callee.params (added (instr.Goto ((form m).at from)) 3 ∷ rest)) c q (WRun m q l0 [] b (Fiber_at lo (Saved n self (kept_slots (saved x from to) wl (kept_stack (below x callee from) s []))) (Saved p2 y vs2 ∷ de) true false) w ps) (put_back (saved x from to) wl l0) (with_receiver callee.is_static y s) b (Fiber_at lo (Saved n self []) (Saved p2 y vs2 ∷ de) true false) w ps
+        receiver_behind r =
+            let more = more_dummies callee.params (with_receiver callee.is_static y s) in
+            path.then_reach set W marks most Q runs m (restore_receiver callee.is_static x (receiver x callee from) (dummies callee.params (added (instr.Goto ((form m).at from)) 3 ∷ rest))) (dummies callee.params (added (instr.Goto ((form m).at from)) 3 ∷ rest)) c q (WRun m q l0 [] b (Fiber_at lo (Saved n self (kept_slots (saved x from to) wl (kept_stack (below x callee from) s []))) (Saved p2 y vs2 ∷ de) true false) w ps) (put_back (saved x from to) wl l0) s (put_back (saved x from to) wl l0) (with_receiver callee.is_static y s) b (Fiber_at lo (Saved n self []) (Saved p2 y vs2 ∷ de) true false) (Fiber_at lo (Saved n self []) (Saved p2 y vs2 ∷ de) true false) w ps r
+            (receivers_if callee.is_static (receiver x callee from) (dummies callee.params (added (instr.Goto ((form m).at from)) 3 ∷ rest)) r.count r.place y (put_back (saved x from to) wl l0) s b lo (Saved n self []) p2 vs2 de true false w ps fiber_there recv r.has (omega (arith, low, more)) (all_there W w.heap (below x callee from) s fits))
+
+        dummies_behind : Reach (dummies callee.params (added (instr.Goto ((form m).at from)) 3 ∷ rest)) c q (WRun m q l0 [] b (Fiber_at lo (Saved n self (kept_slots (saved x from to) wl (kept_stack (below x callee from) s []))) (Saved p2 y vs2 ∷ de) true false) w ps) (put_back (saved x from to) wl l0) (with_receiver callee.is_static y s) b (Fiber_at lo (Saved n self []) (Saved p2 y vs2 ∷ de) true false) w ps → Reach (added (instr.Goto ((form m).at from)) 3 ∷ rest) c q (WRun m q l0 [] b (Fiber_at lo (Saved n self (kept_slots (saved x from to) wl (kept_stack (below x callee from) s []))) (Saved p2 y vs2 ∷ de) true false) w ps) (put_back (saved x from to) wl l0) (again callee y s) b (Fiber_at lo (Saved n self []) (Saved p2 y vs2 ∷ de) true false) w ps
+        dummies_behind r =
+            path.then_reach set W marks most Q runs m (dummies callee.params (added (instr.Goto ((form m).at from)) 3 ∷ rest)) (added (instr.Goto ((form m).at from)) 3 ∷ rest) c q (WRun m q l0 [] b (Fiber_at lo (Saved n self (kept_slots (saved x from to) wl (kept_stack (below x callee from) s []))) (Saved p2 y vs2 ∷ de) true false) w ps) (put_back (saved x from to) wl l0) (with_receiver callee.is_static y s) (put_back (saved x from to) wl l0) (again callee y s) b (Fiber_at lo (Saved n self []) (Saved p2 y vs2 ∷ de) true false) (Fiber_at lo (Saved n self []) (Saved p2 y vs2 ∷ de) true false) w ps r
+            (dummies_go callee.params (added (instr.Goto ((form m).at from)) 3 ∷ rest) r.count r.place (put_back (saved x from to) wl l0) (with_receiver callee.is_static y s) b (Fiber_at lo (Saved n self []) (Saved p2 y vs2 ∷ de) true false) w ps r.has (omega (arith, low)) (receiver_there w.heap callee.is_static (receiver x callee from) y s recv (all_there W w.heap (below x callee from) s fits)))
+
+        jumps : Reach (added (instr.Goto ((form m).at from)) 3 ∷ rest) c q (WRun m q l0 [] b (Fiber_at lo (Saved n self (kept_slots (saved x from to) wl (kept_stack (below x callee from) s []))) (Saved p2 y vs2 ∷ de) true false) w ps) (put_back (saved x from to) wl l0) (again callee y s) b (Fiber_at lo (Saved n self []) (Saved p2 y vs2 ∷ de) true false) w ps → (d : ℕ) × (d + q ≤ c + longest) × To c (WRun m q l0 [] b (Fiber_at lo (Saved n self (kept_slots (saved x from to) wl (kept_stack (below x callee from) s []))) (Saved p2 y vs2 ∷ de) true false) w ps) d (WRun m ((form m).at from) (put_back (saved x from to) wl l0) (again callee y s) b (Fiber_at lo (Saved n self []) (Saved p2 y vs2 ∷ de) true false) w ps)
+        jumps r =
+            let g = r.has in
+            let few = r.few in
+            let grows = (facts m).grows r.place g.0 (instr.Goto ((form m).at from)) false g.1 in
+            let within = (facts m).within r.place g.0 (instr.Goto ((form m).at from)) g.1 in (
+              suc r.count,
+              omega (arith, few, grows, within),
+              path.joins set W marks most Q runs r.way
+                  (path.one set W marks most Q runs r.count m r.place (put_back (saved x from to) wl l0) (again callee y s) b (Fiber_at lo (Saved n self []) (Saved p2 y vs2 ∷ de) true false) w ps (instr.Goto ((form m).at from)) g.0 false (Goes ((form m).at from) (put_back (saved x from to) wl l0) (again callee y s) w.heap) g.1 refl
+                  (add.goto W (own_of W m) g.0 (put_back (saved x from to) wl l0) (again callee y s) w.heap ((form m).at from))
+                  (path.goes_room set.program W m b w.heap ((form m).at from) (put_back (saved x from to) wl l0) (again callee y s) w.heap (omega (arith, low))) (again_there w.heap callee (below x callee from) (receiver x callee from) y s fits recv) (λ on. (on, refl, refl))),
+            )
 
   -- ---- one frame comes back
 
