@@ -1,5 +1,5 @@
 -- Loops over the elements of a list.
-use Rattle.std.proofs.Common.{◌≡◌, ℕ, suc, ◌+◌, ◌-◌, ◌<◌, ◌≤◌, Bool, true, false, if◌then◌else◌, List, [], ◌∷◌, ◌++◌, length, get_or, take, drop, drop-cons, add-one, append_assoc, sym, ap, ◌∙◌, arith}
+use Rattle.std.proofs.Common.{◌≡◌, ℕ, suc, ◌+◌, ◌-◌, ◌<◌, ◌≤◌, Bool, true, false, if◌then◌else◌, List, [], ◌∷◌, ◌++◌, length, get_or, take, drop, drop-cons, add-one, append_assoc, refl, sym, ap, ◌∙◌, arith}
 use Rattle.std.proofs.lemmas.List.{append-nil, drop_all}
 use Rattle.std.specs.Prelude.{sum_by}
 use Rattle.std.specs.List.{flat_map}
@@ -54,6 +54,25 @@ behind_first xs = take (length xs - 1) (drop 1 xs)
 
 pub all_behind : {A : Type 0} (x : A) (xs : List A) → behind_first (x ∷ xs) ≡ xs
 all_behind x xs = let all : length (x ∷ xs) - 1 ≡ length xs = omega arith in rw all (take-length xs)
+
+-- where one list has ended, there is no pair
+pub no_plain : (infos : List MemberInfo) (ps ms : List Method) (cs : List (List Bool)) → length ps < 1 → pairs_of infos ps ms cs ≡ []
+no_plain [] ps ms cs lt = refl
+no_plain (i ∷ infos) [] ms cs lt = refl
+no_plain (i ∷ infos) (p ∷ ps) ms cs lt = absurd (omega arith)
+
+pub no_woven : (infos : List MemberInfo) (ps ms : List Method) (cs : List (List Bool)) → length ms < 1 → pairs_of infos ps ms cs ≡ []
+no_woven [] ps ms cs lt = refl
+no_woven (i ∷ infos) [] ms cs lt = refl
+no_woven (i ∷ infos) (p ∷ ps) [] cs lt = refl
+no_woven (i ∷ infos) (p ∷ ps) (m ∷ ms) cs lt = absurd (omega arith)
+
+pub no_counted : (infos : List MemberInfo) (ps ms : List Method) (cs : List (List Bool)) → length cs < 1 → pairs_of infos ps ms cs ≡ []
+no_counted [] ps ms cs lt = refl
+no_counted (i ∷ infos) [] ms cs lt = refl
+no_counted (i ∷ infos) (p ∷ ps) [] cs lt = refl
+no_counted (i ∷ infos) (p ∷ ps) (m ∷ ms) [] lt = refl
+no_counted (i ∷ infos) (p ∷ ps) (m ∷ ms) (c ∷ cs) lt = absurd (omega arith)
 
 -- the methods of a file with those of the two programs, behind one method more
 pub paired : (size : MemberInfo → Method → ℕ) (infos : List MemberInfo) (ps ms : List Method) (cs : List (List Bool)) (i : ℕ) (info d : MemberInfo) (p : Method) (sum next whole : ℕ)

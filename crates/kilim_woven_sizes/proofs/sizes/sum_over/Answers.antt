@@ -4,7 +4,7 @@ use Rattle.std.specs.Prelude.{sum_by}
 use Rattle.kilim_classfile.specs.declared.class_file.MemberInfo.{MemberInfo}
 use Rattle.kilim_woven_sizes.specs.Parts.{measured}
 use Rattle.kilim_woven_sizes.specs.file_laws.form.WovenFile.{MethodPair, pairs_of}
-use Rattle.kilim_woven_sizes.proofs.Loops.{paired}
+use Rattle.kilim_woven_sizes.proofs.Loops.{no_counted, no_plain, no_woven, paired}
 use Rattle.kilim_woven_sizes.proofs.sizes.sum_over.Goals as goal
 
 pub loop-info-preserved : goal.loop-info-preserved
@@ -20,3 +20,24 @@ returns c =
     let left : sum_by size (pairs_of (drop c.loop-info.info-index c.args.infos.now) c.loop-info.ps.now c.loop-info.ms.now c.loop-info.cs.now) ≡ 0 =
     ap (λ (infos : List MemberInfo). sum_by size (pairs_of infos c.loop-info.ps.now c.loop-info.ms.now c.loop-info.cs.now)) (drop_all c.loop-info.info-index c.args.infos.now c.loop-info-test.false) in
     omega (arith, left, c.loop-info.invariant)
+
+pub returns-in_default : goal.returns-in_default
+returns-in_default c =
+    let size = λ (x : MethodPair). measured c.args.measure.now c.args.program.now x.info x.plain in
+    let infos = drop c.loop-info.info-index c.args.infos.now in
+    let none : sum_by size (pairs_of infos c.loop-info.ps.now c.loop-info.ms.now c.loop-info.cs.now) ≡ 0 = ap (sum_by size) (no_plain infos c.loop-info.ps.now c.loop-info.ms.now c.loop-info.cs.now c.in_default.len_below) in
+    omega (arith, none, c.loop-info.invariant)
+
+pub returns-in_default-ms : goal.returns-in_default-ms
+returns-in_default-ms c =
+    let size = λ (x : MethodPair). measured c.args.measure.now c.args.program.now x.info x.plain in
+    let infos = drop c.loop-info.info-index c.args.infos.now in
+    let none : sum_by size (pairs_of infos c.loop-info.ps.now c.loop-info.ms.now c.loop-info.cs.now) ≡ 0 = ap (sum_by size) (no_woven infos c.loop-info.ps.now c.loop-info.ms.now c.loop-info.cs.now c.in_default-ms.len_below) in
+    omega (arith, none, c.loop-info.invariant)
+
+pub returns-in_default-cs : goal.returns-in_default-cs
+returns-in_default-cs c =
+    let size = λ (x : MethodPair). measured c.args.measure.now c.args.program.now x.info x.plain in
+    let infos = drop c.loop-info.info-index c.args.infos.now in
+    let none : sum_by size (pairs_of infos c.loop-info.ps.now c.loop-info.ms.now c.loop-info.cs.now) ≡ 0 = ap (sum_by size) (no_counted infos c.loop-info.ps.now c.loop-info.ms.now c.loop-info.cs.now c.in_default-cs.len_below) in
+    omega (arith, none, c.loop-info.invariant)
