@@ -77,6 +77,11 @@ lent_filled (Some u ∷ cs) zero t e = absurd (cc)
 lent_filled (None ∷ cs) (suc n) t e = lent_filled cs n t e
 lent_filled (Some u ∷ cs) (suc n) t e = let h = lent_filled cs n t e in omega arith
 
+pub seat_there : {A : Type 0} (cells : List A) (seat : ℕ) (cell : A) → slice_get cells seat ≡ Some cell → seat < length cells
+seat_there [] seat cell e = absurd (cc)
+seat_there (c ∷ cells) zero cell e = omega arith
+seat_there (c ∷ cells) (suc seat) cell e = let h = seat_there cells seat cell e in omega arith
+
 pub all_free : (cells : List (Option ℕ)) → ((k : ℕ) → k < length cells → slice_get cells k ≡ Some None) → lent_of cells ≡ []
 all_free [] free = refl
 all_free (None ∷ cs) free = all_free cs (λ k h. free (suc k) (omega arith))

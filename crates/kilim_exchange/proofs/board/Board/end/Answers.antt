@@ -1,5 +1,5 @@
-use Rattle.std.proofs.Common.{arith, length, refl}
-use Rattle.kilim_exchange.proofs.Seats.{lent_no_more}
+use Rattle.std.proofs.Common.{ℕ, ◌<◌, arith, length, refl, sym, subst}
+use Rattle.kilim_exchange.proofs.Seats.{lent_no_more, seat_there}
 use Rattle.kilim_fibers.specs.waiting.Mailboxes.{mail_of}
 use Rattle.kilim_fibers.proofs.waiting.Named.{counted_same}
 use Rattle.kilim_fibers.proofs.waiting.Lists.{longer}
@@ -15,3 +15,6 @@ returns-clause-roomy g c =
 
 pub returns-clause-effect : goal.returns-clause-effect
 returns-clause-effect g c = record { journal = c.note.ensures; tasks = refl; mails = λ box. refl; ready = refl; parked = refl; cells = refl; stopped = refl }
+
+pub index_mut-requires : goal.index_mut-requires
+index_mut-requires g c = subst (λ (n : ℕ). c.args.seat < n) (sym c.args.self.now.cells.ok.0) (seat_there c.args.self.now.cells.items c.args.seat _ c.requires.lent)

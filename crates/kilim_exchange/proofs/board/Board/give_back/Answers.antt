@@ -1,7 +1,7 @@
-use Rattle.std.proofs.Common.{arith, length, ◌≡◌, ◌==◌, true, false, ◌∙◌, sym, refl}
+use Rattle.std.proofs.Common.{ℕ, ◌<◌, arith, length, subst, ◌≡◌, ◌==◌, true, false, ◌∙◌, sym, refl}
 use Rattle.kilim_fibers.specs.waiting.Mailboxes.{mail_of}
 use Rattle.kilim_exchange.specs.Seen.{seen}
-use Rattle.kilim_exchange.proofs.Seats.{lent_emptied}
+use Rattle.kilim_exchange.proofs.Seats.{lent_emptied, seat_there}
 use Rattle.kilim_exchange.proofs.Closing.{give_stands}
 use Rattle.kilim_exchange.proofs.Boards.{gives_parked, gives_ready, gives_none}
 use Rattle.kilim_fibers.proofs.waiting.Lists.{longer}
@@ -81,3 +81,6 @@ returns-else-is_empty-clause-stands g c = λ set st rests at.
 pub returns-in-None-clause-stands : goal.returns-in-None-clause-stands
 returns-in-None-clause-stands g c = λ set st rests at.
     give_stands g.F.Fibers.task_of g.F.Fibers.course_of g.F.Fibers.holds set (seen c.args.self.now) _ c.args.seat c.args.fiber c.args.waits c.requires.lent (returns-in-None-clause-effect g c) st rests at
+
+pub index_mut-requires : goal.index_mut-requires
+index_mut-requires g c = subst (λ (n : ℕ). c.args.seat < n) (sym c.args.self.now.cells.ok.0) (seat_there c.args.self.now.cells.items c.args.seat _ c.requires.lent)
