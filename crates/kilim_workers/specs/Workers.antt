@@ -1,5 +1,5 @@
 -- What a worker is given, and what it leaves.
-use Rattle.std.specs.Prelude.{◌≡◌, []}
+use Rattle.std.specs.Prelude.{◌≡◌, ◌≤◌, ℕ, [], replicate}
 use Rattle.kilim_classes.specs.declared.machine.run.Limits.{Limits}
 use Rattle.kilim_exchange.specs.declared.board.Board as kept
 use Rattle.kilim_thread_model.specs.State.{Setting}
@@ -22,3 +22,10 @@ module _ {F : Type 0} (turn : Turn (kept.Board F)) where
     pub pass : IsPassOf board_cells turn after
     pub seat : seat_of after ≡ seat_of before
     pub empty : shows after ≡ []
+
+-- 1 to 16 workers may run this board: there is a setting of the run, which the code serves, and no task is lent
+pub record MayRun {F C : Type 0} (serves : Setting → C → Type 0) (Of : Setting → Type 0) (code : C) (limits : Limits) (n : ℕ) (board : kept.Board F) : Type 0 where
+  pub workers : (1 ≤ n) × (n ≤ 16)
+  pub some : (set : Setting) × Of set
+  pub run : RunsOn serves Of code limits
+  pub free : board_cells board ≡ replicate n []

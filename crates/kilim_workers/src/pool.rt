@@ -9,7 +9,7 @@ ghost use Rattle.kilim_turn.specs.Turns.{seat_of, shows, IsPassOf, AreAllOf};
 ghost use Rattle.kilim_workers.specs.Codes.{board_cells};
 ghost use Rattle.kilim_workers.specs.worker_pool.Pool.{IsOf};
 ghost use Rattle.kilim_workers.specs.Runs.{RunsOn};
-ghost use Rattle.kilim_workers.specs.Workers.{MayWork, HasWorked};
+ghost use Rattle.kilim_workers.specs.Workers.{MayRun, MayWork, HasWorked};
 
 use crate::run::{Run, RunBoard};
 use crate::worker::run_worker;
@@ -71,10 +71,7 @@ fn run_round<F: Fibers + Send, K: Run + Send, R: Threads + Wait + Sync, G: Gate>
 ) -> Result<RunBoard<F, K>, NoMemory>
 where
     F::Code: Sync,
-    requires workers { (1 ≤ workers) × (workers ≤ 16) }
-    requires some { (set : Setting) × K.of set }
-    requires run { RunsOn F.serves K.of code.now limits.now }
-    requires free { board_cells board ≡ replicate workers [] }
+    requires may { MayRun F.serves K.of code.now limits.now workers board }
     ensures { IfOk result (λ b. board_cells b ≡ replicate workers []) }
 {
     match Turn::open(alloc, board, workers) {
@@ -129,10 +126,7 @@ fn run_rounds<F: Fibers + Send, K: Run + Send, R: Threads + Wait + Sync, G: Gate
 ) -> Result<Vec<Entry>, NoMemory>
 where
     F::Code: Sync,
-    requires workers { (1 ≤ workers) × (workers ≤ 16) }
-    requires some { (set : Setting) × K.of set }
-    requires run { RunsOn F.serves K.of code.now limits.now }
-    requires free { board_cells board ≡ replicate workers [] }
+    requires may { MayRun F.serves K.of code.now limits.now workers board }
     ensures { (set : Setting) → K.of set → IfOk result (λ es. MovedWhole set es.items) }
 {
     let mut board = board;

@@ -12,5 +12,10 @@ new-requires g c = record {
   stands = λ set is. c.in-Ok.ensures.stands set (c.requires.run set is).run;
 }
 
-pub run_rounds-requires-clause-run : goal.run_rounds-requires-clause-run
-run_rounds-requires-clause-run g c κs _ = λ set is. let r = c.requires.run set is in (r.run.served, r.is-limits)
+pub run_rounds-requires-clause-may : goal.run_rounds-requires-clause-may
+run_rounds-requires-clause-may g c κs _ = record {
+  workers = c.requires.workers;
+  some = c.requires.some;
+  run = λ set is. let r = c.requires.run set is in (r.run.served, r.is-limits);
+  free = c.in-Ok-new.ensures;
+}

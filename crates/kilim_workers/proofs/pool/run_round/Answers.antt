@@ -8,14 +8,14 @@ use Rattle.kilim_workers.proofs.Rounds.{shows_free, free_shows, long}
 use Rattle.kilim_workers.proofs.pool.run_round.Goals as goal
 
 pub open-requires : goal.open-requires
-open-requires g c = record { some = c.requires.workers.0; few = c.requires.workers.1; seats = sym (ap length c.requires.free ∙ long c.args.workers) }
+open-requires g c = record { some = c.requires.may.workers.0; few = c.requires.may.workers.1; seats = sym (ap length c.requires.may.free ∙ long c.args.workers) }
 
 pub work_each-requires-clause-all : goal.work_each-requires-clause-all
 work_each-requires-clause-all g c κs _ = subst (λ (l : List Pass). AreAllOf board_cells c.in-Ok.turn l) (sym c.as_mut_slice.ensures.value) c.in-Ok.ensures.passes
 
 pub work_each-requires-clause-free : goal.work_each-requires-clause-free
 work_each-requires-clause-free g c κs _ =
-    subst (λ (l : List Pass). All (λ (p : Pass). shows p ≡ []) l) (sym c.as_mut_slice.ensures.value) (shows_free c.in-Ok.passes.items c.args.workers (c.in-Ok.ensures.cells ∙ c.requires.free))
+    subst (λ (l : List Pass). All (λ (p : Pass). shows p ≡ []) l) (sym c.as_mut_slice.ensures.value) (shows_free c.in-Ok.passes.items c.args.workers (c.in-Ok.ensures.cells ∙ c.requires.may.free))
 
 pub close-requires : goal.close-requires
 close-requires g c =
@@ -33,3 +33,12 @@ returns-in-Ok g c =
     let same = ap (λ (l : List Pass). map shows l) (written_back c.in-Ok.passes.len c.work_each.new.passes _ (size ∙ e.len)) in
     let many = size ∙ (ap length e.value ∙ (c.in-Ok.ensures.passes.1 ∙ c.in-Ok.ensures.seats)) in
     c.close.ensures ∙ (same ∙ (free_shows c.work_each.new.passes free ∙ ap (λ n. replicate {A = List ℕ} n []) many))
+
+pub work_each-requires-clause-workers : goal.work_each-requires-clause-workers
+work_each-requires-clause-workers g c κs _ = let some = c.requires.may.workers.0 in omega arith
+
+pub work_each-requires-clause-some : goal.work_each-requires-clause-some
+work_each-requires-clause-some g c κs _ = c.requires.may.some
+
+pub work_each-requires-clause-run : goal.work_each-requires-clause-run
+work_each-requires-clause-run g c κs _ = c.requires.may.run

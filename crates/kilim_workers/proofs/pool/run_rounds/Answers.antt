@@ -1,13 +1,13 @@
 use Rattle.kilim_workers.proofs.pool.run_rounds.Goals as goal
 
-pub run_round-requires-clause-workers : goal.run_round-requires-clause-workers
-run_round-requires-clause-workers g c κs _ = c.requires.workers
+pub loop-init : goal.loop-init
+loop-init g c = c.requires.may.free
 
-pub run_round-requires-clause-some : goal.run_round-requires-clause-some
-run_round-requires-clause-some g c κs _ = c.requires.some
+pub run_round-requires-clause-may : goal.run_round-requires-clause-may
+run_round-requires-clause-may g c κs _ = let may = c.requires.may in record { workers = may.workers; some = may.some; run = may.run; free = c.loop.invariant }
 
-pub run_round-requires-clause-run : goal.run_round-requires-clause-run
-run_round-requires-clause-run g c κs _ = c.requires.run
+pub is_quiet-requires-clause-some : goal.is_quiet-requires-clause-some
+is_quiet-requires-clause-some g c = c.requires.may.some
 
-pub run_round-requires-clause-free : goal.run_round-requires-clause-free
-run_round-requires-clause-free g c κs _ = c.loop.invariant
+pub is_quiet-requires-clause-workers : goal.is_quiet-requires-clause-workers
+is_quiet-requires-clause-workers g c = c.requires.may.workers.0
