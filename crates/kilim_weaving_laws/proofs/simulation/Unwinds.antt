@@ -142,37 +142,39 @@ module _ (set : Setting) (W : Program) (marks : List (List Bool)) (most : ℕ) (
         → Holds set W marks form m l0 l y → AllFit W w.heap (below x callee from) s → SlotsFit W w.heap (saved x from to) l → has q (leave x n callee from to rest) → length s + 4 ≤ stack_limit W m → CallerFits W b → IsThere w.heap y → w.kept ≡ None
         → Returned m c q (WRun m q l s b (Fiber_at lo (Saved p0 y0 []) de re pa) w ps) b (Fiber_at lo (Saved n y (kept_slots (saved x from to) l (kept_stack (below x callee from) s []))) de re pa) w ps
     leaves rest n callee from to l0 l s y c q b lo p0 y0 de re pa w ps holds fits slots h low caller self_there kept =
-        let sl = length s in
-        let limit = stack_limit W m in
-        let vs = kept_stack (below x callee from) s [] in
-        let us = kept_slots (saved x from to) l vs in
-        let i3 = load_fiber x ∷ calls_static x 6 ∷ dummy_return x.method.result rest in
-        let i2 = self_item x ∷ i3 in
-        let i1 = number_item n ∷ i2 in
-        let f1 = Fiber_at lo (Saved p0 y0 us) de re pa in
-        let f2 = Fiber_at lo (Saved n y us) de re pa in
-        let r1 = stretch.saves_stack set W marks most Q runs members form facts m (below x callee from) (save_locals x (saved x from to) i1) c q l s b lo p0 y0 [] de re pa w ps holds.fiber fits h (tally.has_next sl limit low) in
-        let r2 = stretch.saves_locals set W marks most Q runs members form facts m (saved x from to) i1 r1.count r1.place l b lo p0 y0 vs de re pa w ps holds.fiber slots r1.has (tally.has_two sl limit low) in
-        let r3 = numbers n i2 r2.count r2.place l b f1 w ps r2.has (tally.has_one sl limit low) in
-        let r4 = selves l0 l (value.Int (pos n) ∷ []) y i3 r3.count r3.place b f1 w ps holds r3.has (tally.has_two sl limit low) (tt, tt) in
-        let h4 = r4.has in
-        let r5 = stretch.fiber_goes set W marks most Q runs members form facts m (dummy_return x.method.result rest) r4.count r4.place h4.0 l (y ∷ value.Int (pos n) ∷ []) l [] b f1 f2 w ps holds.fiber h4.1 (tally.above_two sl limit low) (self_there, (tt, tt))
-        (stretch.member_goes set W marks most Q runs members form facts m (dummy_return x.method.result rest) (suc r4.count) h4.0 h4.2.0 (instr.Invokestatic (member set.program 6)) (member set.program 6) (value.Int (pos n) ∷ y ∷ value.Fiber ∷ []) Place l (value.Fiber ∷ y ∷ value.Int (pos n) ∷ []) [] l [] b f1 f2 f2 None w ps h4.2.1
-        (members.place (own_of W m) h4.2.0 (value.Int (pos n)) y l [] w.heap) (members.named 6 Place refl) refl (tally.above_none sl limit low) (tt, (self_there, (tt, tt)))
-        (here (dummy_return x.method.result rest) (suc (suc r4.count)) h4.2.0 l [] b f2 w ps h4.2.2)) in
-        let z = returns_dummy x.method.result rest r5.count r5.place l b f2 w ps r5.has (tally.has_one sl limit low) caller kept in
-        let far2 = tally.joined c q r1.count r1.place r2.count r2.place r1.few r2.few in
-        let far3 = tally.joined c q r2.count r2.place r3.count r3.place far2 r3.few in
-        let far4 = tally.joined c q r3.count r3.place r4.count r4.place far3 r4.few in
-        let far5 = tally.joined c q r4.count r4.place r5.count r5.place far4 r5.few in
-        record {
-          result = z.0;
-          drops = z.1;
-          held = z.5;
-          count = z.2;
-          few = tally.joined c q r5.count r5.place z.2 longest far5 z.3;
-          way = path.joins set W marks most Q runs r1.way (path.joins set W marks most Q runs r2.way (path.joins set W marks most Q runs r3.way (path.joins set W marks most Q runs r4.way (path.joins set W marks most Q runs r5.way z.4))));
-        }
+        returned (place_behind (self_behind (number_behind (locals_behind (stretch.saves_stack set W marks most Q runs members form facts m (below x callee from) (save_locals x (saved x from to) (number_item n ∷ self_item x ∷ load_fiber x ∷ calls_static x 6 ∷ dummy_return x.method.result rest)) c q l s b lo p0 y0 [] de re pa w ps holds.fiber fits h (tally.has_next (length s) (stack_limit W m) low))))))
+      where
+        locals_behind : Reach (save_locals x (saved x from to) (number_item n ∷ self_item x ∷ load_fiber x ∷ calls_static x 6 ∷ dummy_return x.method.result rest)) c q (WRun m q l s b (Fiber_at lo (Saved p0 y0 []) de re pa) w ps) l [] b (Fiber_at lo (Saved p0 y0 (kept_stack (below x callee from) s [])) de re pa) w ps → Reach (number_item n ∷ self_item x ∷ load_fiber x ∷ calls_static x 6 ∷ dummy_return x.method.result rest) c q (WRun m q l s b (Fiber_at lo (Saved p0 y0 []) de re pa) w ps) l [] b (Fiber_at lo (Saved p0 y0 (kept_slots (saved x from to) l (kept_stack (below x callee from) s []))) de re pa) w ps
+        locals_behind r =
+            path.then_reach set W marks most Q runs m (save_locals x (saved x from to) (number_item n ∷ self_item x ∷ load_fiber x ∷ calls_static x 6 ∷ dummy_return x.method.result rest)) (number_item n ∷ self_item x ∷ load_fiber x ∷ calls_static x 6 ∷ dummy_return x.method.result rest) c q (WRun m q l s b (Fiber_at lo (Saved p0 y0 []) de re pa) w ps) l [] l [] b (Fiber_at lo (Saved p0 y0 (kept_stack (below x callee from) s [])) de re pa) (Fiber_at lo (Saved p0 y0 (kept_slots (saved x from to) l (kept_stack (below x callee from) s []))) de re pa) w ps r
+            (stretch.saves_locals set W marks most Q runs members form facts m (saved x from to) (number_item n ∷ self_item x ∷ load_fiber x ∷ calls_static x 6 ∷ dummy_return x.method.result rest) r.count r.place l b lo p0 y0 (kept_stack (below x callee from) s []) de re pa w ps holds.fiber slots r.has (tally.has_two (length s) (stack_limit W m) low))
+
+        number_behind : Reach (number_item n ∷ self_item x ∷ load_fiber x ∷ calls_static x 6 ∷ dummy_return x.method.result rest) c q (WRun m q l s b (Fiber_at lo (Saved p0 y0 []) de re pa) w ps) l [] b (Fiber_at lo (Saved p0 y0 (kept_slots (saved x from to) l (kept_stack (below x callee from) s []))) de re pa) w ps → Reach (self_item x ∷ load_fiber x ∷ calls_static x 6 ∷ dummy_return x.method.result rest) c q (WRun m q l s b (Fiber_at lo (Saved p0 y0 []) de re pa) w ps) l (value.Int (pos n) ∷ []) b (Fiber_at lo (Saved p0 y0 (kept_slots (saved x from to) l (kept_stack (below x callee from) s []))) de re pa) w ps
+        number_behind r = path.then_reach set W marks most Q runs m (number_item n ∷ self_item x ∷ load_fiber x ∷ calls_static x 6 ∷ dummy_return x.method.result rest) (self_item x ∷ load_fiber x ∷ calls_static x 6 ∷ dummy_return x.method.result rest) c q (WRun m q l s b (Fiber_at lo (Saved p0 y0 []) de re pa) w ps) l [] l (value.Int (pos n) ∷ []) b (Fiber_at lo (Saved p0 y0 (kept_slots (saved x from to) l (kept_stack (below x callee from) s []))) de re pa) (Fiber_at lo (Saved p0 y0 (kept_slots (saved x from to) l (kept_stack (below x callee from) s []))) de re pa) w ps r (numbers n (self_item x ∷ load_fiber x ∷ calls_static x 6 ∷ dummy_return x.method.result rest) r.count r.place l b (Fiber_at lo (Saved p0 y0 (kept_slots (saved x from to) l (kept_stack (below x callee from) s []))) de re pa) w ps r.has (tally.has_one (length s) (stack_limit W m) low))
+
+        self_behind : Reach (self_item x ∷ load_fiber x ∷ calls_static x 6 ∷ dummy_return x.method.result rest) c q (WRun m q l s b (Fiber_at lo (Saved p0 y0 []) de re pa) w ps) l (value.Int (pos n) ∷ []) b (Fiber_at lo (Saved p0 y0 (kept_slots (saved x from to) l (kept_stack (below x callee from) s []))) de re pa) w ps → Reach (load_fiber x ∷ calls_static x 6 ∷ dummy_return x.method.result rest) c q (WRun m q l s b (Fiber_at lo (Saved p0 y0 []) de re pa) w ps) l (y ∷ value.Int (pos n) ∷ []) b (Fiber_at lo (Saved p0 y0 (kept_slots (saved x from to) l (kept_stack (below x callee from) s []))) de re pa) w ps
+        self_behind r = path.then_reach set W marks most Q runs m (self_item x ∷ load_fiber x ∷ calls_static x 6 ∷ dummy_return x.method.result rest) (load_fiber x ∷ calls_static x 6 ∷ dummy_return x.method.result rest) c q (WRun m q l s b (Fiber_at lo (Saved p0 y0 []) de re pa) w ps) l (value.Int (pos n) ∷ []) l (y ∷ value.Int (pos n) ∷ []) b (Fiber_at lo (Saved p0 y0 (kept_slots (saved x from to) l (kept_stack (below x callee from) s []))) de re pa) (Fiber_at lo (Saved p0 y0 (kept_slots (saved x from to) l (kept_stack (below x callee from) s []))) de re pa) w ps r (selves l0 l (value.Int (pos n) ∷ []) y (load_fiber x ∷ calls_static x 6 ∷ dummy_return x.method.result rest) r.count r.place b (Fiber_at lo (Saved p0 y0 (kept_slots (saved x from to) l (kept_stack (below x callee from) s []))) de re pa) w ps holds r.has (tally.has_two (length s) (stack_limit W m) low) (tt, tt))
+
+        place_behind : Reach (load_fiber x ∷ calls_static x 6 ∷ dummy_return x.method.result rest) c q (WRun m q l s b (Fiber_at lo (Saved p0 y0 []) de re pa) w ps) l (y ∷ value.Int (pos n) ∷ []) b (Fiber_at lo (Saved p0 y0 (kept_slots (saved x from to) l (kept_stack (below x callee from) s []))) de re pa) w ps → Reach (dummy_return x.method.result rest) c q (WRun m q l s b (Fiber_at lo (Saved p0 y0 []) de re pa) w ps) l [] b (Fiber_at lo (Saved n y (kept_slots (saved x from to) l (kept_stack (below x callee from) s []))) de re pa) w ps
+        place_behind r =
+            let g = r.has in
+            path.then_reach set W marks most Q runs m (load_fiber x ∷ calls_static x 6 ∷ dummy_return x.method.result rest) (dummy_return x.method.result rest) c q (WRun m q l s b (Fiber_at lo (Saved p0 y0 []) de re pa) w ps) l (y ∷ value.Int (pos n) ∷ []) l [] b (Fiber_at lo (Saved p0 y0 (kept_slots (saved x from to) l (kept_stack (below x callee from) s []))) de re pa) (Fiber_at lo (Saved n y (kept_slots (saved x from to) l (kept_stack (below x callee from) s []))) de re pa) w ps r
+            (stretch.fiber_goes set W marks most Q runs members form facts m (dummy_return x.method.result rest) r.count r.place g.0 l (y ∷ value.Int (pos n) ∷ []) l [] b (Fiber_at lo (Saved p0 y0 (kept_slots (saved x from to) l (kept_stack (below x callee from) s []))) de re pa) (Fiber_at lo (Saved n y (kept_slots (saved x from to) l (kept_stack (below x callee from) s []))) de re pa) w ps holds.fiber g.1 (tally.above_two (length s) (stack_limit W m) low) (self_there, (tt, tt))
+            (stretch.member_goes set W marks most Q runs members form facts m (dummy_return x.method.result rest) (suc r.count) g.0 g.2.0 (instr.Invokestatic (member set.program 6)) (member set.program 6) (value.Int (pos n) ∷ y ∷ value.Fiber ∷ []) Place l (value.Fiber ∷ y ∷ value.Int (pos n) ∷ []) [] l [] b (Fiber_at lo (Saved p0 y0 (kept_slots (saved x from to) l (kept_stack (below x callee from) s []))) de re pa) (Fiber_at lo (Saved n y (kept_slots (saved x from to) l (kept_stack (below x callee from) s []))) de re pa) (Fiber_at lo (Saved n y (kept_slots (saved x from to) l (kept_stack (below x callee from) s []))) de re pa) None w ps g.2.1
+            (members.place (own_of W m) g.2.0 (value.Int (pos n)) y l [] w.heap) (members.named 6 Place refl) refl (tally.above_none (length s) (stack_limit W m) low) (tt, (self_there, (tt, tt)))
+            (here (dummy_return x.method.result rest) (suc (suc r.count)) g.2.0 l [] b (Fiber_at lo (Saved n y (kept_slots (saved x from to) l (kept_stack (below x callee from) s []))) de re pa) w ps g.2.2)))
+
+        returned : Reach (dummy_return x.method.result rest) c q (WRun m q l s b (Fiber_at lo (Saved p0 y0 []) de re pa) w ps) l [] b (Fiber_at lo (Saved n y (kept_slots (saved x from to) l (kept_stack (below x callee from) s []))) de re pa) w ps → Returned m c q (WRun m q l s b (Fiber_at lo (Saved p0 y0 []) de re pa) w ps) b (Fiber_at lo (Saved n y (kept_slots (saved x from to) l (kept_stack (below x callee from) s []))) de re pa) w ps
+        returned r =
+            let z = returns_dummy x.method.result rest r.count r.place l b (Fiber_at lo (Saved n y (kept_slots (saved x from to) l (kept_stack (below x callee from) s []))) de re pa) w ps r.has (tally.has_one (length s) (stack_limit W m) low) caller kept in
+            record {
+              result = z.0;
+              drops = z.1;
+              held = z.5;
+              count = z.2;
+              few = tally.joined c q r.count r.place z.2 longest r.few z.3;
+              way = path.joins set W marks most Q runs r.way z.4;
+            }
 
     -- what the call gave is dropped
     drops : (result : Option Ty) (v : Option Value) (rest : List Item) (c q : ℕ) (l s : List Value) (b : List Activation) (f : Fib) (w : World) (ps : List ℕ) → Drops result v → has q (drop_result result rest) → length s ≤ stack_limit W m → AreThere w.heap (push v s)
