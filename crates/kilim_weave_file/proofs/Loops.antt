@@ -65,6 +65,28 @@ behind_first xs = take (length xs - 1) (drop 1 xs)
 all_behind : {A : Type 0} (x : A) (xs : List A) → behind_first (x ∷ xs) ≡ xs
 all_behind x xs = let all : length (x ∷ xs) - 1 ≡ length xs = omega arith in rw all (take-length xs)
 
+-- where one list has ended, there is no pair
+none_more : {A : Type 0} (f : MethodPair → List A) (pairs : List MethodPair) (now whole : List A) → pairs ≡ [] → now ++ flat_map f pairs ≡ whole → now ≡ whole
+none_more {A = A} f pairs now whole none so_far = sym (append-nil now) ∙ (ap (λ (ps : List MethodPair). now ++ flat_map f ps) (sym none) ∙ so_far)
+
+pub no_plain : {A : Type 0} (f : MethodPair → List A) (infos : List MemberInfo) (ps ms : List Method) (cs : List (List Bool)) (now whole : List A) → length ps < 1 → now ++ flat_map f (pairs_of infos ps ms cs) ≡ whole → now ≡ whole
+no_plain f [] ps ms cs now whole lt so_far = none_more f [] now whole refl so_far
+no_plain f (i ∷ infos) [] ms cs now whole lt so_far = none_more f [] now whole refl so_far
+no_plain f (i ∷ infos) (p ∷ ps) ms cs now whole lt so_far = absurd (omega (arith, lt))
+
+pub no_woven : {A : Type 0} (f : MethodPair → List A) (infos : List MemberInfo) (ps ms : List Method) (cs : List (List Bool)) (now whole : List A) → length ms < 1 → now ++ flat_map f (pairs_of infos ps ms cs) ≡ whole → now ≡ whole
+no_woven f [] ps ms cs now whole lt so_far = none_more f [] now whole refl so_far
+no_woven f (i ∷ infos) [] ms cs now whole lt so_far = none_more f [] now whole refl so_far
+no_woven f (i ∷ infos) (p ∷ ps) [] cs now whole lt so_far = none_more f [] now whole refl so_far
+no_woven f (i ∷ infos) (p ∷ ps) (m ∷ ms) cs now whole lt so_far = absurd (omega (arith, lt))
+
+pub no_counted : {A : Type 0} (f : MethodPair → List A) (infos : List MemberInfo) (ps ms : List Method) (cs : List (List Bool)) (now whole : List A) → length cs < 1 → now ++ flat_map f (pairs_of infos ps ms cs) ≡ whole → now ≡ whole
+no_counted f [] ps ms cs now whole lt so_far = none_more f [] now whole refl so_far
+no_counted f (i ∷ infos) [] ms cs now whole lt so_far = none_more f [] now whole refl so_far
+no_counted f (i ∷ infos) (p ∷ ps) [] cs now whole lt so_far = none_more f [] now whole refl so_far
+no_counted f (i ∷ infos) (p ∷ ps) (m ∷ ms) [] now whole lt so_far = none_more f [] now whole refl so_far
+no_counted f (i ∷ infos) (p ∷ ps) (m ∷ ms) (c ∷ cs) now whole lt so_far = absurd (omega (arith, lt))
+
 -- the methods of a file with those of the two programs, behind one method more
 pub paired : {A : Type 0} (f : MethodPair → List A) (infos : List MemberInfo) (ps ms : List Method) (cs : List (List Bool)) (i : ℕ) (info d : MemberInfo) (p m : Method) (marks none : List Bool) (now next whole : List A)
     → i < length infos → info ≡ get_or infos i d → 1 ≤ length ps → p ≡ get_or ps 0 p → 1 ≤ length ms → m ≡ get_or ms 0 m → 1 ≤ length cs → marks ≡ get_or cs 0 none

@@ -1,8 +1,8 @@
-use Rattle.std.proofs.Common.{◌<◌, ◌++◌, List, length, get_or, ap, subst, ◌∙◌, ◌≤◌, refl}
+use Rattle.std.proofs.Common.{◌<◌, ◌++◌, List, drop, length, get_or, ap, subst, ◌∙◌, ◌≤◌, refl}
 use Rattle.std.specs.List.{flat_map}
 use Rattle.kilim_classfile.specs.declared.class_file.MemberInfo.{MemberInfo}
 use Rattle.kilim_woven_sizes.specs.file_laws.form.WovenFile.{member_needs, pairs_of}
-use Rattle.kilim_weave_file.proofs.Loops.{paired, all_made}
+use Rattle.kilim_weave_file.proofs.Loops.{no_counted, no_plain, no_woven, paired, all_made}
 use Rattle.kilim_weave_file.proofs.weaving.push_members.Goals as goal
 
 pub loop-info-preserved : goal.loop-info-preserved
@@ -20,3 +20,21 @@ returns c =
     all_made (λ (infos : List MemberInfo). flat_map f (pairs_of infos c.loop-info.ps.now c.loop-info.ms.now c.loop-info.cs.now)) c.loop-info.into
     (c.args.into.now ++ flat_map f (pairs_of c.args.file.now.methods c.args.plains.now c.args.wovens.now c.args.counted.now)) c.args.file.now.methods c.loop-info.info-index refl
     (subst (λ (xs : List MemberInfo). length xs ≤ c.loop-info.info-index) c.as_slice-info-items.ensures c.loop-info-test.false) c.loop-info.invariant
+
+pub returns-in_default : goal.returns-in_default
+returns-in_default c =
+    let f = member_needs c.args.program.now c.args.file.now in
+    no_plain f (drop c.loop-info.info-index c.args.file.now.methods) c.loop-info.ps.now c.loop-info.ms.now c.loop-info.cs.now c.loop-info.into
+    (c.args.into.now ++ flat_map f (pairs_of c.args.file.now.methods c.args.plains.now c.args.wovens.now c.args.counted.now)) c.in_default.len_below c.loop-info.invariant
+
+pub returns-in_default-ms : goal.returns-in_default-ms
+returns-in_default-ms c =
+    let f = member_needs c.args.program.now c.args.file.now in
+    no_woven f (drop c.loop-info.info-index c.args.file.now.methods) c.loop-info.ps.now c.loop-info.ms.now c.loop-info.cs.now c.loop-info.into
+    (c.args.into.now ++ flat_map f (pairs_of c.args.file.now.methods c.args.plains.now c.args.wovens.now c.args.counted.now)) c.in_default-ms.len_below c.loop-info.invariant
+
+pub returns-in_default-cs : goal.returns-in_default-cs
+returns-in_default-cs c =
+    let f = member_needs c.args.program.now c.args.file.now in
+    no_counted f (drop c.loop-info.info-index c.args.file.now.methods) c.loop-info.ps.now c.loop-info.ms.now c.loop-info.cs.now c.loop-info.into
+    (c.args.into.now ++ flat_map f (pairs_of c.args.file.now.methods c.args.plains.now c.args.wovens.now c.args.counted.now)) c.in_default-cs.len_below c.loop-info.invariant
