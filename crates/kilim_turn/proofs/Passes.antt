@@ -1,5 +1,5 @@
 -- Passes, one by one and all together.
-use Rattle.std.proofs.Common.{◌≡◌, ◌⊎◌, inl, inr, ℕ, zero, suc, ◌+◌, ◌<◌, List, [], ◌∷◌, ◌++◌, length, map, get_or, take, sym, refl, ap, ◌∙◌, subst, Option, Some, option_to_list, arith, zero-add, zero-le, length-append, append_assoc, length-set, get_or-set_other, ext_get_or, slice_set}
+use Rattle.std.proofs.Common.{◌≡◌, ◌⊎◌, inl, inr, ℕ, zero, suc, ◌+◌, ◌<◌, List, [], ◌∷◌, ◌++◌, length, map, get_or, take, sym, refl, ap, ◌∙◌, subst, Option, Some, option_to_list, arith, zero-add, zero-le, length-append, append_assoc, append-nil, length-set, get_or-set_other, ext_get_or, slice_set}
 use lib.ListN.{length-map, get_or-map}
 use lib.Seq.{map-set, take-append_seam}
 use Rattle.std.proofs.lemmas.List.{get_or_append_left, get_or_at}
@@ -29,6 +29,10 @@ last_of z q all left rest left' p are e e' =
     let more : i < length all = rw is (omega (arith, length-append left' (p ∷ rest))) in
     let here : get_or all i p ≡ p = ap (λ (l : List Pass). get_or l i p) is ∙ get_or_at left' p rest p i refl in
     (subst (IsOutside z q) here (are.2 i p more), sym (ap (λ (x : Pass). x.number) here) ∙ are.3 i p more)
+
+-- and so has the last of all
+pub last_one : (z : TableId) (q : ℕ) (all left : List Pass) (p : Pass) → AreAllAt z q all → all ≡ left ++ p ∷ [] → IsOutside z q p × (p.number ≡ length left)
+last_one z q all left p are e = last_of z q all (left ++ p ∷ []) [] left p are (e ∙ sym (append-nil (left ++ p ∷ []))) refl
 
 -- what was popped
 pub popped : (old new : List Pass) (r : Option Pass) (p : Pass) → old ≡ new ++ option_to_list r → r ≡ Some p → old ≡ new ++ p ∷ []

@@ -1,7 +1,7 @@
-use Rattle.std.proofs.Common.{length, arith, ap, ◌∙◌, ◌∷◌}
+use Rattle.std.proofs.Common.{length, arith, ap, ◌∙◌, ◌∷◌, []}
 use Rattle.kilim_turn.specs.Rule.{Lies}
 use Rattle.kilim_turn.proofs.Keeps.{takes_over}
-use Rattle.kilim_turn.proofs.Passes.{last_of, popped, seat_is, over_is, behind, one_less}
+use Rattle.kilim_turn.proofs.Passes.{last_of, last_one, popped, seat_is, over_is, behind, one_less}
 use Rattle.kilim_turn.proofs.closing.gather.Goals as goal
 
 pub join_seat-requires : goal.join_seat-requires
@@ -37,4 +37,21 @@ loop-pass-preserved g c =
       split = behind _ _ _ _ _ v.split e;
       same = j.0 ∙ (i.0 ∙ l.0.same);
       knows = over_is _ _ _ c.in-Some.pass v.rest _ _ _ _ own v.knows j.2;
+    }
+
+pub into_seat-seat-requires : goal.into_seat-seat-requires
+into_seat-seat-requires g c =
+    let e = popped _ _ _ _ c.pop.ensures.items c.unwrap-last.ensures in
+    (_, (last_one _ _ _ _ _ c.requires.all e).0.knows)
+
+pub loop-pass-init : goal.loop-pass-init
+loop-pass-init g c =
+    let last = c.unwrap-last.result in
+    let i = c.into_seat-seat.ensures in
+    let e = popped _ _ _ _ c.pop.ensures.items c.unwrap-last.ensures in
+    let l = last_one _ _ _ _ _ c.requires.all e in record {
+      rest = last ∷ [];
+      split = e;
+      same = i.0 ∙ l.0.same;
+      knows = seat_is _ _ _ last c.into_seat-seat.result.me l.0 l.1 i.2 i.3;
     }

@@ -17,3 +17,12 @@ returns-clause-cells g c =
     let key = c.in-Ok-vacant.ensures in
     let same = ap g.B.Cells.cells (ap (λ k. k.value) key.5 ∙ c.of-key.ensures) in
     shown_all _ _ _ _ (f.count ∙ (c.requires.seats ∙ ap length (sym same))) f.made ∙ same
+
+pub fill-passes-requires-clause-seats : goal.fill-passes-requires-clause-seats
+fill-passes-requires-clause-seats g c = let same = ap (λ k. k.value) c.in-Ok-vacant.ensures.5 ∙ c.of-key.ensures in c.requires.seats ∙ ap (λ b. length (g.B.Cells.cells b)) (sym same)
+
+pub fill-passes-requires-clause-value : goal.fill-passes-requires-clause-value
+fill-passes-requires-clause-value g c = let same = ap (λ k. k.value) c.in-Ok-vacant.ensures.5 ∙ c.of-key.ensures in ap g.B.Cells.cells (sym same)
+
+pub returns-clause-seats : goal.returns-clause-seats
+returns-clause-seats g c = let same = ap (λ k. k.value) c.in-Ok-vacant.ensures.5 ∙ c.of-key.ensures in ap (λ b. length (g.B.Cells.cells b)) same ∙ sym c.requires.seats
