@@ -52,7 +52,10 @@ pub enum FailedCall {
 fn copy_of(alloc: Global, name: &str) -> Result<Seq<u8>, AllocError>
     ensures { IfOk result (λ copy. copy ≡ name.now) }
 {
-    Ok(Seq::from_vec(Vec::from_slice(alloc, name.as_bytes())?))
+    match Vec::from_slice(alloc, name.as_bytes()) {
+        Ok(bytes) => Ok(Seq::from_vec(bytes)),
+        Err(_) => Err(AllocError),
+    }
 }
 
 // The fault of a call that fails, which is noted; for want of memory it isn't.

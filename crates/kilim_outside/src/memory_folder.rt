@@ -1,6 +1,6 @@
 //! Folders in memory, which tell what they hold.
 
-ghost use Rattle.std.specs.Prelude.{◌≡◌, ◌∷◌, ◌++◌, [], Some, take, OnOk, OnErr};
+ghost use Rattle.std.specs.Prelude.{◌≡◌, ◌∷◌, ◌++◌, [], Some, take, IfOk, OnOk, OnErr};
 ghost use Rattle.std.specs.Prelude.{find, nat_eq};
 ghost use Rattle.std.specs.Cmp.Lexicographic.{pointwise};
 ghost use Rattle.std.specs.Option.{option_copied};
@@ -9,7 +9,7 @@ ghost use Rattle.kilim_outside.specs.Files.{files_of, file_limit, content_of};
 use crate::folder::{Folder, FolderFault};
 use crate::limits::file_limit;
 use kilim_units::Seq;
-use std::alloc::AllocError;
+use std::alloc::{AllocError, Global};
 
 /// A file in memory: its name and its content, both as bytes.
 #[derive(Drop)]
@@ -60,21 +60,29 @@ fn append_content(files: &[NamedFile], name: &[u8], into: &mut Vec<u8>) -> Resul
     into.extend_from_slice(front(content(files, name), file_limit()))
 }
 
-// A copy of the file in front of the others: of one name the first counts.
-fn put_file(files: &mut Seq<NamedFile>, name: &[u8], bytes: &[u8]) -> Result<(), AllocError>
-    ensures ok { OnOk result (files.new ≡ record { name = name.now; bytes = bytes.now } ∷ files.old) }
-    ensures err { OnErr result (files.new ≡ files.old) }
+// A copy of a file.
+fn named_file(alloc: Global, name: &[u8], bytes: &[u8]) -> Result<NamedFile, AllocError>
+    ensures { IfOk result (λ file. file ≡ record { name = name.now; bytes = bytes.now }) }
 {
-    let alloc = *files.items.allocator();
     let Ok(name) = Vec::from_slice(alloc, name) else {
         return Err(AllocError);
     };
     let Ok(bytes) = Vec::from_slice(alloc, bytes) else {
         return Err(AllocError);
     };
-    let file = NamedFile {
+    Ok(NamedFile {
         name: Seq::from_vec(name),
         bytes: Seq::from_vec(bytes),
+    })
+}
+
+// A copy of the file in front of the others: of one name the first counts.
+fn put_file(files: &mut Seq<NamedFile>, name: &[u8], bytes: &[u8]) -> Result<(), AllocError>
+    ensures ok { OnOk result (files.new ≡ record { name = name.now; bytes = bytes.now } ∷ files.old) }
+    ensures err { OnErr result (files.new ≡ files.old) }
+{
+    let Ok(file) = named_file(*files.items.allocator(), name, bytes) else {
+        return Err(AllocError);
     };
     match files.items.insert(0, file) {
         Ok(()) => Ok(()),
