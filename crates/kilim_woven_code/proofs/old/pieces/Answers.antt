@@ -1,6 +1,8 @@
-use Rattle.std.proofs.Common.{◌≡◌, ◌∙◌, ◌+◌, ◌-◌, ℕ, Bool, Option, ap, sym, arith, take, drop}
+use Rattle.std.proofs.Common.{◌≡◌, ◌≤◌, ◌∙◌, ◌+◌, ◌-◌, ℕ, Bool, List, Option, ap, sym, arith, length, take, drop}
+use Rattle.std.proofs.lemmas.List.{drop_all, take_all}
 use Rattle.std.specs.Option.{option_copied}
 use Rattle.kilim_classes.specs.declared.class.Method.{Method}
+use Rattle.kilim_classes.specs.declared.instr.Instr.{Instr}
 use Rattle.kilim_typing.specs.woven_form.Weight.{calls_in}
 use Rattle.kilim_typing.specs.woven_form.Woven.{count, piece, pieces}
 use Rattle.kilim_woven_pieces.specs.Meant.{meant}
@@ -14,6 +16,17 @@ number_before-mine-requires c = let i = c.loop-left.invariant.1 in omega (arith,
 
 pub piece-requires : goal.piece-requires
 piece-requires c = c.in-Ok.ensures c.entry_of-entry.result.now c.entry_of-entry.ensures
+
+pub loop-left-init : goal.loop-left-init
+loop-left-init c =
+    let p = c.args.plan.now.program.now in
+    let code = c.args.plan.now.method.now.code in
+    let n = c.len-left.result in
+    let all : length code ≤ n = omega (arith, c.len-left.ensures) in (
+      omega (arith, c.len-left.ensures),
+      c.requires.number ∙ sym (ap (λ (es : List (ℕ × Instr)). 1 + calls_in p es) (take_all n code all)),
+      sym (ap (λ (es : List (ℕ × Instr)). pieces (meant c.args.plan.now) (first_here p code n) c.args.number es (items_of c.args.items.now)) (drop_all n code all)),
+    )
 
 pub loop-left-preserved : goal.loop-left-preserved
 loop-left-preserved c =

@@ -1,5 +1,7 @@
-use Rattle.std.proofs.Common.{◌≡◌, ◌∙◌, ◌+◌, ◌-◌, ℕ, Option, ap, sym, arith, take, drop}
+use Rattle.std.proofs.Common.{◌≡◌, ◌≤◌, ◌∙◌, ◌+◌, ◌-◌, ℕ, List, Option, ap, sym, arith, length, take, drop}
+use Rattle.std.proofs.lemmas.List.{drop_all, take_all}
 use Rattle.kilim_classes.specs.declared.class.Method.{Method}
+use Rattle.kilim_classes.specs.declared.instr.Instr.{Instr}
 use Rattle.kilim_typing.specs.woven_form.Weight.{calls_in}
 use Rattle.kilim_typing.specs.woven_form.Woven.{blocks, count}
 use Rattle.kilim_woven_pieces.specs.Meant.{meant}
@@ -12,6 +14,16 @@ number_before-mine-requires c = let i = c.loop-left.invariant.1 in omega (arith,
 
 pub block-requires : goal.block-requires
 block-requires c = c.in-Ok.ensures c.entry_of-entry.result.now c.entry_of-entry.ensures
+
+pub loop-left-init : goal.loop-left-init
+loop-left-init c =
+    let code = c.args.plan.now.method.now.code in
+    let n = c.len-left.result in
+    let all : length code ≤ n = omega (arith, c.len-left.ensures) in (
+      omega (arith, c.len-left.ensures),
+      c.requires.number ∙ sym (ap (λ (es : List (ℕ × Instr)). 1 + calls_in c.args.plan.now.program.now es) (take_all n code all)),
+      c.requires.none ∙ sym (ap (λ (es : List (ℕ × Instr)). blocks (meant c.args.plan.now) c.args.number es) (drop_all n code all)),
+    )
 
 pub loop-left-preserved : goal.loop-left-preserved
 loop-left-preserved c =
