@@ -8,3 +8,4 @@ pub mod AttributeFormat
 pub mod Sized
 pub mod Fronts
 pub mod ByForm
+pub mod Filled
