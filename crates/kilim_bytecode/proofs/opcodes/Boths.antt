@@ -17,6 +17,13 @@ module _ {A C : Type 0} (make : A → C) (one : InstrReader A) (bytes : List ℕ
   pub made_fails : (fault : OpFault) → one bytes ≡ Err fault → made make one bytes ≡ Err fault
   made_fails fault e = ap made_of_one e
 
+module _ {A B C : Type 0} (make : A × B → C) (one : InstrReader A) (bytes : List ℕ) (fault : OpFault) (e : one bytes ≡ Err fault) where
+  pub followed_stops : (others : A → InstrReader B) → made make (followed one others) bytes ≡ Err fault
+  followed_stops others = ap (λ (r : Read A). (r >>= λ (p : A × List ℕ). others p.0 p.1 >>= λ (y : B × List ℕ). Ok ((p.0, y.0), y.1)) >>= λ (z : (A × B) × List ℕ). Ok (make z.0, z.1)) e
+
+  pub both_stops : (other : InstrReader B) → made make (both one other) bytes ≡ Err fault
+  both_stops other = followed_stops (λ a. other)
+
 module _ {A B C : Type 0} (make : A × B → C) (one : InstrReader A) (bytes : List ℕ) (x : A) (rest : List ℕ) (e : one bytes ≡ Ok (x, rest)) where
   abbrev pair_of : A → B × List ℕ → Read (A × B)
   pair_of a y = Ok ((a, y.0), y.1)

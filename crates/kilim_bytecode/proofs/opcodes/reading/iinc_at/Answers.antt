@@ -4,7 +4,7 @@ use Rattle.std.proofs.lemmas.Int.{to_z-of_z}
 use Rattle.std.specs.Int.{w8}
 use Rattle.kilim_bytecode.specs.declared.opcodes.instr.RawInstr.TheVariants.{Iinc}
 use Rattle.kilim_bytecode.specs.opcodes.Reading.{unsigned_at, integer_at, operands_at}
-use Rattle.kilim_bytecode.proofs.opcodes.Boths.{both_made, both_fails}
+use Rattle.kilim_bytecode.proofs.opcodes.Boths.{both_made, both_fails, both_stops}
 use Rattle.kilim_bytecode.proofs.opcodes.reading.iinc_at.Goals as goal
 
 pub returns-in-Ok-i8_at : goal.returns-in-Ok-i8_at
@@ -16,3 +16,7 @@ returns-in-Ok-i8_at c =
 pub returns-in-Err-i8_at : goal.returns-in-Err-i8_at
 unfolding operands_at
 returns-in-Err-i8_at c = both_fails (λ (x : ℕ × ℤ). Iinc c.args.op x.0 x.1) (unsigned_at w8) c.args.bytes.now c.in-Ok.slot c.in-Ok.rest.now c.in-Ok.ensures (integer_at w8) c.in-Err-i8_at.fault c.in-Err-i8_at.ensures
+
+pub returns-in-Err : goal.returns-in-Err
+unfolding operands_at
+returns-in-Err c = both_stops (λ (x : ℕ × ℤ). Iinc c.args.op x.0 x.1) (unsigned_at w8) c.args.bytes.now c.in-Err.fault c.in-Err.ensures (integer_at w8)

@@ -5,7 +5,7 @@ use Rattle.std.proofs.lemmas.Int.{to_z-of_z}
 use Rattle.kilim_grammar.specs.Reader.{both, many}
 use Rattle.kilim_bytecode.specs.declared.opcodes.instr.RawInstr.TheVariants.{TableSwitch}
 use Rattle.kilim_bytecode.specs.opcodes.Reading.{target_at, range_at, targets_in, table_at}
-use Rattle.kilim_bytecode.proofs.opcodes.Boths.{followed_made, followed_fails}
+use Rattle.kilim_bytecode.proofs.opcodes.Boths.{followed_made, followed_fails, followed_stops}
 use Rattle.kilim_bytecode.proofs.opcodes.switches.table_at.Goals as goal
 
 pub returns-in-Ok-targets_at : goal.returns-in-Ok-targets_at
@@ -32,3 +32,9 @@ returns-in-Err-targets_at c =
           (followed_fails (λ (x : (ℤ × (ℤ × ℤ)) × List ℤ). TableSwitch c.args.op x.0.0 x.0.1.0 x.1) (both (target_at c.args.op c.args.at w32) (range_at c.args.op)) c.args.bytes.now (c.in-Ok.default, (c.in-Ok.low, c.in-Ok.high)) c.in-Ok.rest.now c.in-Ok.ensures.read (λ (head : ℤ × (ℤ × ℤ)). many (target_at c.args.op c.args.at w32) (targets_in head.1))
           c.in-Err-targets_at.fault (rw count at fault))
     ]
+
+pub returns-in-Err : goal.returns-in-Err
+unfolding table_at
+returns-in-Err c =
+    inr
+    (followed_stops (λ (x : (ℤ × (ℤ × ℤ)) × List ℤ). TableSwitch c.args.op x.0.0 x.0.1.0 x.1) (both (target_at c.args.op c.args.at w32) (range_at c.args.op)) c.args.bytes.now c.in-Err.fault c.in-Err.ensures.read (λ (head : ℤ × (ℤ × ℤ)). many (target_at c.args.op c.args.at w32) (targets_in head.1)))
