@@ -1,5 +1,5 @@
 -- What an operation on two numbers leaves.
-use Rattle.std.proofs.Common.{◌≡◌, ◌∙◌, sym, ap, ℕ, ℤ, pos, Bool, true, false, List, ◌∷◌}
+use Rattle.std.proofs.Common.{◌≡◌, ◌∙◌, sym, ap, ℕ, ℤ, pos, Bool, List, ◌∷◌}
 use Rattle.std.specs.Prelude.{if◌then◌else◌}
 use Rattle.std.specs.Ordering.{int_eq}
 use Rattle.std.proofs.lemmas.Bool.Decides.{Decides-int_eq}
@@ -10,7 +10,7 @@ use Rattle.kilim_classes.specs.declared.value.Value.TheVariants.{Int, Long}
 use Rattle.kilim_classes.specs.Program.{Program}
 use Rattle.kilim_classes.specs.declared.machine.cause.EndCause.TheVariants as cause
 use Rattle.kilim_classes.specs.machine.Machine.{Objects}
-use Rattle.kilim_classes.specs.machine.Effect.{Effect, Goes, Raises, on_int, on_long}
+use Rattle.kilim_classes.specs.machine.Effect.{Goes, Raises, on_int, on_long}
 use Rattle.kilim_classes.specs.machine.Does.{compared, does, int_binary, int_division, long_binary, long_division, long_shift}
 use Rattle.kilim_machine_parts.specs.frames.Stacked.{Stacked}
 use Rattle.kilim_rows.proofs.Matches.{differ}

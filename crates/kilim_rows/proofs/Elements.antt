@@ -1,5 +1,5 @@
 -- Elements that an instruction reads or writes, and the place out of bounds.
-use Rattle.std.proofs.Common.{◌≡◌, ◌∙◌, sym, ap, refl, ℕ, ℤ, pos, negsuc, Bool, true, false, true≢false, List, ◌∷◌, Option, Some, None, is_some, slice_get}
+use Rattle.std.proofs.Common.{◌≡◌, ◌∙◌, sym, ap, refl, ℕ, ℤ, pos, negsuc, true, false, true≢false, List, ◌∷◌, Option, Some, None, is_some, slice_get}
 use Rattle.std.specs.Prelude.{slice_set}
 use Rattle.std.specs.FinMap.{get, insert}
 use Rattle.kilim_classes.specs.declared.class.Method.{Method}
@@ -11,7 +11,7 @@ use Rattle.kilim_classes.specs.Program.{Program}
 use Rattle.kilim_classes.specs.declared.machine.cause.EndCause.TheVariants as cause
 use Rattle.kilim_classes.specs.declared.machine.value.Object.{Object}
 use Rattle.kilim_classes.specs.machine.Machine.{Objects}
-use Rattle.kilim_classes.specs.machine.Effect.{Effect, Goes, Raises, as_int, as_long, at_index, at_place, on_int, on_long, on_object, with_some}
+use Rattle.kilim_classes.specs.machine.Effect.{Effect, Goes, Raises, as_int, as_long, at_index, at_place, on_int, on_object, with_some}
 use Rattle.kilim_classes.specs.machine.Does.{does, loads_int, narrowed_int, stores_int, with_element}
 use Rattle.kilim_machine_parts.specs.Words as words
 use Rattle.kilim_machine_parts.specs.Words.{changed_to, element_at}

@@ -1,5 +1,5 @@
 -- An int as an index: where it is within a list, and where it is past it.
-use Rattle.std.proofs.Common.{◌≡◌, ◌∙◌, sym, ap, refl, ℕ, zero, suc, ◌<◌, ◌≤◌, ℤ, pos, negsuc, true, false, true≢false, List, [], ◌∷◌, Option, Some, None, is_some, length, get_or, slice_get, arith}
+use Rattle.std.proofs.Common.{◌≡◌, sym, ap, refl, ℕ, zero, suc, ◌<◌, ◌≤◌, ℤ, pos, negsuc, true, false, true≢false, List, [], ◌∷◌, Option, Some, None, is_some, length, get_or, slice_get, arith}
 use Rattle.std.specs.Prelude.{nat_abs, IsSome}
 use Rattle.std.specs.FinMap.{get}
 use Rattle.std.proofs.lemmas.Option.{slice_get_past}

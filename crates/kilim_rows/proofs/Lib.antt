@@ -6,3 +6,4 @@ mod Indices
 mod Matches
 mod Pairs
 mod Slots
+mod Space

@@ -1,5 +1,5 @@
 -- The target of a match, entry by entry.
-use Rattle.std.proofs.Common.{◌≡◌, ◌∙◌, sym, ap, refl, cond, Decides, ℕ, ◌+◌, ◌<◌, ℤ, Bool, true, false, List, ◌∷◌, length, drop, get_or}
+use Rattle.std.proofs.Common.{◌≡◌, ◌∙◌, sym, ap, refl, cond, Decides, ℕ, ◌+◌, ◌<◌, ℤ, Bool, true, false, List, length, drop, get_or}
 use Rattle.std.proofs.lemmas.List.{drop_more}
 use Rattle.std.proofs.lemmas.Bool.Decides.{Decides-int_eq}
 use Rattle.std.specs.Ordering.{int_eq}

@@ -1,4 +1,4 @@
-use Rattle.std.proofs.Common.{rules, ◌≡◌, ◌∙◌, sym, FitsSigned, w32, ℤ, pos, true, false}
+use Rattle.std.proofs.Common.{rules, ◌≡◌, ◌∙◌, sym, FitsSigned, w32, true, false}
 use Rattle.std.proofs.lemmas.Int.{to_z-of_z}
 use Rattle.kilim_rows.specs.Operations.{holds}
 use Rattle.kilim_rows.proofs.Comparing.{jumps_by_two}
