@@ -3,3 +3,4 @@ mod Invokes
 mod News
 mod Operands
 mod Tables
+mod Texts

@@ -1,5 +1,5 @@
 -- What the rows of the table come to, by the operations that their instructions name.
-use Rattle.std.proofs.Common.{◌≡◌, ◌⊎◌, inl, inr, refl, sym, ap, ℕ, ◌<◌, pos, false, true≢false, List, [], ◌∷◌, Option, Some, None, length, arith}
+use Rattle.std.proofs.Common.{◌≡◌, ◌⊎◌, inl, inr, refl, ap, ℕ, ◌<◌, pos, false, true≢false, List, [], ◌∷◌, Option, Some, None, length, arith}
 use Rattle.kilim_classes.specs.declared.class.Method.{Method}
 use Rattle.kilim_classes.specs.declared.instr.Instr.{Instr}
 use Rattle.kilim_classes.specs.declared.instr.Instr.TheVariants.{Iadd, Isub, Imul, Iand, Ior, Ixor, Ladd, Lsub, Lmul, Land, Lor, Lxor, Ishl, Ishr, Iushr, Lshl, Lshr, Lushr, Ineg, I2b, I2c, I2s, Ifeq, Ifne, Iflt, Ifge, Ifgt, Ifle, IfIcmpeq, IfIcmpne, IfIcmplt, IfIcmpge, IfIcmpgt, IfIcmple, Iaload, Baload, Caload, Saload, Bastore, Castore, Sastore, Ireturn, Lreturn, Areturn}

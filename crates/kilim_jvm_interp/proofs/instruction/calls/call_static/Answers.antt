@@ -1,4 +1,4 @@
-use Rattle.std.proofs.Common.{◌≡◌, ◌∙◌, sym, ap, refl, ◌<◌, ◌≤◌, ◌+◌, Bool, true, false, Some, None, length, slice_get, option_copied, arith}
+use Rattle.std.proofs.Common.{◌≡◌, ◌∙◌, sym, refl, true, false, Some}
 use Rattle.kilim_classes.specs.Names.{method_at}
 use Rattle.kilim_classes.specs.machine.Natives.{is_handed_out}
 use Rattle.kilim_jvm_interp.proofs.instruction.Invokes.{static_asks, static_calls}

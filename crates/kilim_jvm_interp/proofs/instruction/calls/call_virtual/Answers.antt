@@ -1,4 +1,4 @@
-use Rattle.std.proofs.Common.{◌≡◌, ◌∙◌, sym, true, Some, arith}
+use Rattle.std.proofs.Common.{◌≡◌, ◌∙◌, sym, true, Some}
 use Rattle.kilim_classes.specs.Names.{method_at}
 use Rattle.kilim_classes.specs.machine.Natives.{is_text_method}
 use Rattle.kilim_jvm_interp.proofs.instruction.Invokes.{text_row}
