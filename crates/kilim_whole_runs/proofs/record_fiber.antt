@@ -1,4 +1,5 @@
 pub mod Coming
+pub mod Ends
 pub mod Beginning
 pub mod Resuming
 pub mod Resting

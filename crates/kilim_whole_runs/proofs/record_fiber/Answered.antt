@@ -30,7 +30,7 @@ use Rattle.kilim_woven_fiber.specs.declared.body.Body.{Body}
 use Rattle.kilim_woven_fiber.specs.declared.code.Code.{Code}
 use Rattle.kilim_weaving_laws.specs.Fibers.{Holds}
 use Rattle.kilim_weaving_laws.specs.Nexts.{Behind, CanReceive}
-use Rattle.kilim_whole_runs.specs.record_fiber.Calls.{Answered, AnswerSuits, Found, Noted, Passed, Refused, Taken, takes_value}
+use Rattle.kilim_whole_runs.specs.record_fiber.Calls.{Answered, AnswerSuits, Found, IsAnswerTo, Noted, Passed, Refused, Taken, takes_value}
 use Rattle.kilim_whole_runs.specs.record_fiber.Clauses.{Went}
 use Rattle.kilim_whole_runs.specs.record_fiber.Fiber.{task_of, course_of, wished, AskedOf, CanGoOn, HoldsFiber, ServesCode, StandsAs}
 use Rattle.kilim_whole_runs.specs.declared.record_fiber.fiber.Asked.{Asked}
@@ -44,6 +44,9 @@ on_ok (Err x) P Q go w = w
 -- what comes of an answer that is known, to what is known to be asked
 pub answer_is : {A E : Type 0} (p W : Program) (q known : Asked) (a given : Answer) (old new : Fiber) (r : Result A E) → q ≡ known → a ≡ given → OnOk r (Answered p W known given old new) → OnOk r (Answered p W q a old new)
 answer_is p W q known a given old new r e d w = subst (λ (z : Asked). OnOk r (Answered p W z a old new)) (sym e) (subst (λ (z : Answer). OnOk r (Answered p W known z old new)) (sym d) w)
+
+pub answer_now : (p W : Program) (q known : Asked) (a given : Answer) (old new : Fiber) → q ≡ known → a ≡ given → Answered p W known given old new → Answered p W q a old new
+answer_now p W q known a given old new e d w = subst (λ (z : Asked). Answered p W z a old new) (sym e) (subst (λ (z : Answer). Answered p W known z old new) (sym d) w)
 
 -- ---- what may be answered
 
@@ -68,6 +71,42 @@ pub room_for : (code : Code) (old : Fiber) (a : Answer) (q : Asked) → q ≡ ol
 room_for code old a q e can takes =
     let held = can.asks.is-asked in
     room_by code.program code.counted can.set old.task (course_of old) can.asks.wishes.lone old.body old.asked held.goes (ap takes_value (sym e) ∙ takes)
+
+-- it is an answer to what was asked
+fits_asked : (p : Program) (q : Asked) (wish : Wish) (a : Answer) (deed : Option Deed) → Some wish ≡ wished q → Fits p wish a deed → IsAnswerTo q a
+fits_asked p asked.Nothing wish a deed e fits = absurd (none-some wish (sym e))
+fits_asked p (asked.Put box shape) wish a deed e fits = put_fits a (subst (λ (z : Wish). Fits p z a deed) (same_Some _ _ e) fits)
+  where
+    put_fits : (a : Answer) → Fits p (ToPut box shape.value) a deed → IsAnswerTo (asked.Put box shape) a
+    put_fits (answer.Sent n) f = tt
+    put_fits _ f = absurd f
+fits_asked p (asked.Take box) wish a deed e fits = take_fits a (subst (λ (z : Wish). Fits p z a deed) (same_Some _ _ e) fits)
+  where
+    take_fits : (a : Answer) → Fits p (ToTake box) a deed → IsAnswerTo (asked.Take box) a
+    take_fits (answer.Message tree n) f = tt
+    take_fits answer.Nothing f = tt
+    take_fits _ f = absurd f
+fits_asked p (asked.Probe box) wish a deed e fits = probe_fits a (subst (λ (z : Wish). Fits p z a deed) (same_Some _ _ e) fits)
+  where
+    probe_fits : (a : Answer) → Fits p (ToProbe box) a deed → IsAnswerTo (asked.Probe box) a
+    probe_fits (answer.Message tree n) f = tt
+    probe_fits answer.Nothing f = tt
+    probe_fits _ f = absurd f
+fits_asked p (asked.Start shape) wish a deed e fits = start_fits a (subst (λ (z : Wish). Fits p z a deed) (same_Some _ _ e) fits)
+  where
+    start_fits : (a : Answer) → Fits p (ToStart shape.value) a deed → IsAnswerTo (asked.Start shape) a
+    start_fits (answer.Started n) f = tt
+    start_fits _ f = absurd f
+fits_asked p (asked.Print shape) wish a deed e fits = print_fits a (subst (λ (z : Wish). Fits p z a deed) (same_Some _ _ e) fits)
+  where
+    print_fits : (a : Answer) → Fits p (ToPrint shape.value) a deed → IsAnswerTo (asked.Print shape) a
+    print_fits answer.Done f = tt
+    print_fits _ f = absurd f
+
+pub answers_asked : (code : Code) (old : Fiber) (a : Answer) (q : Asked) → q ≡ old.asked → CanAnswer task_of course_of (AskedOf code.program code.counted) ServesCode code old a → IsAnswerTo q a
+answers_asked code old a q e can =
+    let asks = can.asks in
+    fits_asked can.set.program q can.wish a can.deed (sym asks.wishes.next ∙ (asks.is-asked.wish ∙ ap wished (sym e))) can.fits
 
 -- ---- what comes of it
 

@@ -68,8 +68,8 @@ module _ (code : Code) (limits : Limits) where
 
   -- ---- the branches of the call
 
-  pub idle_rests : (old new : Fiber) (r : Result (Wants Fiber) NoMemory) → IfOk r (λ w. EndsIdle limits old new w) → IfOk r (λ w. Gives old new w)
-  idle_rests old new r e = on_ok r (λ w. EndsIdle limits old new w) (λ w. Gives old new w) (λ w x. giving old new w _ x.ends tt) e
+  pub idle_rests : (old new : Fiber) (w : Wants Fiber) → EndsIdle limits old new w → Gives old new w
+  idle_rests old new w e = giving old new w _ e.ends tt
 
   refused_gives : (f mid new : Fiber) (box : BoxName) (a : Came) (w : Wants Fiber) → f.idle ≡ false → mid ≡ record f { body = mid.body } → MayRun f → NoFrameIsLeft a mid.body → Came_to f mid.body a → RestsAt box a mid new w → Gives f new w
   refused_gives f mid new box a w busy same can none comes e =
@@ -94,7 +94,7 @@ module _ (code : Code) (limits : Limits) where
     gives (came.Starts tree shape) w none comes e = giving f (after (came.Starts tree shape)) w (wants.Start e.0 shape) e.1 tt
     gives (came.Prints shape) w none comes e = giving f (after (came.Prints shape)) w _ e.0 tt
     gives came.Rests w none comes e = giving f (after came.Rests) w (wants.Rest None) e (rests f b busy none can comes q f.refused None)
-    gives (came.Ends why) w none comes e = giving f (after (came.Ends why)) w _ e.0 tt
+    gives (came.Ends why) w none comes e = giving f (after (came.Ends why)) w _ e tt
 
   wants_gives : (f mid new : Fiber) (a : Came) (w : Wants Fiber) → f.idle ≡ false → mid ≡ record f { body = mid.body } → MayRun f → NoFrameIsLeft a mid.body → Came_to f mid.body a → HasWanted code.program limits f.body.count a mid new w → Gives f new w
   wants_gives f mid new a w busy same can none comes e =

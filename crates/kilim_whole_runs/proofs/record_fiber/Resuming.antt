@@ -12,7 +12,9 @@ use Rattle.kilim_classes.specs.declared.machine.run.Limits.{Limits}
 use Rattle.kilim_classes.specs.declared.machine.value.Object.{Object}
 use Rattle.kilim_classes.specs.declared.machine.value.Token.{Token}
 use Rattle.kilim_units.specs.declared.memory.NoMemory.{NoMemory}
-use Rattle.kilim_thread_model.specs.Course.{next_action}
+use Rattle.kilim_thread_model.specs.Course.{next_action, stands_at}
+use Rattle.kilim_thread_model.specs.Lone.{get_at}
+use Rattle.kilim_whole_runs.proofs.record_fiber.Ends.{own_end, own_wish}
 use Rattle.kilim_thread_model.specs.State.{Setting}
 use Rattle.kilim_woven_runs.specs.fiber_kin.Acts.{IsSound}
 use Rattle.kilim_fibers.specs.Fibers.{Asks, CanRun, Resumed, RestsRightly, StandsFor, StartsAtNone, StartsFresh}
@@ -103,7 +105,19 @@ module _ (code : Code) (limits : Limits) where
         next = ap wish_of held.1 ∙ (ap end_wish why ∙ ends_by (nat_le limits.steps 0));
       }
 
-  idle_gives : (old new : Fiber) (w : Wants Fiber) → old.idle ≡ true → EndsIdle limits old new w → Gives old new w
+  -- no take of it was refused, and it counted no more than it may
+  pub idle_unasked : (f : Fiber) → f.idle ≡ true → CanRun task_of course_of (HoldsFiber code.program code.counted) ServesCode code limits f → f.refused ≡ None
+  unfolding stands_at
+  idle_unasked f idle can = by f.refused refl
+    where
+      held : EndsNext can.set f.task can.stands.lone (idle_cause can.set)
+      held = subst (λ (z : Bool). StandsAs code.program code.counted can.set f.task (course_of f) can.stands.lone z f.body) idle can.stands.held.body
+
+      by : (o : Option BoxName) → f.refused ≡ o → o ≡ None
+      by None e = refl
+      by (Some box) e = absurd (none-some box (sym (ap get_at held.1) ∙ (can.stands.held.refused box e).1))
+
+  pub idle_gives : (old new : Fiber) (w : Wants Fiber) → old.idle ≡ true → EndsIdle limits old new w → Gives old new w
   idle_gives old new w idle e =
       subst (λ (z : Wants Fiber). Gives old new z) (sym e.ends)
       (subst (λ (z : Fiber). Gives old z (wants.End idle_end)) (sym e.same) (record {
@@ -179,6 +193,7 @@ module _ (code : Code) (limits : Limits) where
           frames = may.frames;
           roomy = roomy;
           few = let few = may.few in let same = ap (λ (l : Limits). l.steps) is-limits in omega (arith, few, same);
+          room = may.room;
           is-main = s.held.is-main;
         };
       }
@@ -232,8 +247,8 @@ module _ (code : Code) (limits : Limits) where
           subst (λ (z : Option BoxName). StandsIn set (record f { body = b; asked = q; refused = z; rests = true })) (sym none) (stands q (omega (arith, lt)) set is-limits s (comes set served is-limits s)))
           (none, lt, refl) tt tt)
       gives (came.Ends why) q w comes more-rested may e =
-          wanting (came.Ends why) q w (wants.End why) e.0 (gives_by (came.Ends why) q (wants.End why)
-          (λ set served is-limits s. let has = comes set served is-limits s in record { lone = s.lone; is = s.is; next = ap wish_of has.1 ∙ e.1 }) none tt tt)
+          wanting (came.Ends why) q w (wants.End why) e (gives_by (came.Ends why) q (wants.End why)
+          (λ set served is-limits s. let has = comes set served is-limits s in record { lone = s.lone; is = s.is; next = ap wish_of has.1 ∙ own_wish why (own_end set f.task s.lone why has.0 has.1) }) none tt tt)
 
   -- ---- the branches of the call
 
@@ -248,9 +263,6 @@ module _ (code : Code) (limits : Limits) where
       ((set : Setting) → ServesCode set code → set.limits ≡ limits → (s : StandsIn set f) → CameTo code.program code.counted set f.task (course_of f) s.lone mid.body a) → RestsAt box a mid new w → Gives f new w
   rest_gives f mid new box a w busy same roomy more most refused comes e =
       refused_gives f mid.body busy roomy more most box a new w (sym (ap (λ (m : Fiber). m.refused) same) ∙ refused) comes (subst (λ (m : Fiber). RestsAt box a m new w) same e)
-
-  pub idle_ok : (old new : Fiber) (r : Result (Wants Fiber) NoMemory) → old.idle ≡ true → IfOk r (λ w. EndsIdle limits old new w) → IfOk r (λ w. Gives old new w)
-  idle_ok old new r idle e = on_ok r (λ w. EndsIdle limits old new w) (λ w. Gives old new w) (λ w x. idle_gives old new w idle x) e
 
   pub want_ok : (f mid new : Fiber) (a : Came) (r : Result (Wants Fiber) NoMemory) → f.idle ≡ false → mid ≡ record f { body = mid.body } → RoomyIn code.program mid.body.frames → f.body.count ≤ mid.body.count → mid.body.count ≤ limits.steps → mid.refused ≡ None →
       ((set : Setting) → ServesCode set code → set.limits ≡ limits → (s : StandsIn set f) → CameTo code.program code.counted set f.task (course_of f) s.lone mid.body a) → IfOk r (λ w. HasWanted code.program limits f.body.count a mid new w) → IfOk r (λ w. Gives f new w)

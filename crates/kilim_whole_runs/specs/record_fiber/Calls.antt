@@ -1,5 +1,5 @@
 -- What the calls of a fiber do.
-use Rattle.std.specs.Prelude.{◌≤◌, nat_le, if◌then◌else◌, ◌≡◌, ◌<◌, ◌++◌, ◌∷◌, [], ℕ, Bool, true, false, List, Some, None}
+use Rattle.std.specs.Prelude.{◌≤◌, ◌+◌, ◌^◌, nat_le, if◌then◌else◌, ◌≡◌, ◌<◌, ◌++◌, ◌∷◌, [], ℕ, Bool, true, false, List, Some, None}
 use Rattle.std.specs.List.{AllByRecursion}
 use Rattle.kilim_classes.specs.Program.{Program}
 use Rattle.kilim_classes.specs.declared.names.BoxName.{BoxName}
@@ -14,7 +14,7 @@ use Rattle.kilim_thread_model.specs.Course.{plain}
 use Rattle.kilim_thread_model.specs.declared.deed.Beginning.{Beginning}
 use Rattle.kilim_thread_model.specs.declared.deed.Beginning.TheVariants.{Begun}
 use Rattle.kilim_thread_model.specs.declared.deed.Deed.{Deed}
-use Rattle.kilim_fibers.specs.Wishes.{ToPut, ToTake, ToProbe, ToStart, ToPrint, ToEnd, end_wish}
+use Rattle.kilim_fibers.specs.Wishes.{ToPut, ToTake, ToProbe, ToStart, ToPrint}
 use Rattle.kilim_fibers.specs.declared.Answer.{Answer}
 use Rattle.kilim_fibers.specs.declared.Answer.TheVariants as answer
 use Rattle.kilim_fibers.specs.declared.Wants.{Wants}
@@ -61,7 +61,7 @@ WantsBy W main (came.Probes box) w a = (w ≡ wants.Probe box) × (wished a ≡ 
 WantsBy W main (came.Starts tree shape) w a = (new : Fiber) × (w ≡ wants.Start new shape) × (wished a ≡ Some (ToStart shape)) × IsBegun W main tree shape new
 WantsBy W main (came.Prints shape) w a = (w ≡ wants.Print shape) × (wished a ≡ Some (ToPrint shape))
 WantsBy W main came.Rests w a = w ≡ wants.Rest None
-WantsBy W main (came.Ends why) w a = (w ≡ wants.End why) × (end_wish why ≡ Some (ToEnd why))
+WantsBy W main (came.Ends why) w a = w ≡ wants.End why
 
 -- a deed more, and what it doesn't touch
 pub record Noted (old new : Fiber) (d : Deed) : Type 0 where
@@ -111,6 +111,17 @@ Answered p W (asked.Start shape) (answer.Started n) old new = Passed W old new (
 Answered p W (asked.Print shape) answer.Done old new = Passed W old new (plain (act.Print shape.value)) (counted (behind_at 0 old.body))
 Answered p W a b old new = ⊥
 
+-- such an answer comes where that was asked
+abbrev pub IsAnswerTo : Asked → Answer → Type 0
+IsAnswerTo (asked.Put box shape) (answer.Sent n) = Unit {0}
+IsAnswerTo (asked.Take box) (answer.Message tree n) = Unit {0}
+IsAnswerTo (asked.Take box) answer.Nothing = Unit {0}
+IsAnswerTo (asked.Probe box) (answer.Message tree n) = Unit {0}
+IsAnswerTo (asked.Probe box) answer.Nothing = Unit {0}
+IsAnswerTo (asked.Start shape) (answer.Started n) = Unit {0}
+IsAnswerTo (asked.Print shape) answer.Done = Unit {0}
+IsAnswerTo a b = ⊥
+
 -- a tree that comes has a shape
 abbrev pub AnswerSuits : Program → Answer → Type 0
 AnswerSuits p (answer.Message tree n) = AllByRecursion (Suits p) tree
@@ -138,6 +149,7 @@ is_rest c = false
 pub record MayAsk (limits : Limits) (f : Fiber) : Type 0 where
   pub frames : HasFrames f.body.frames
   pub few : f.body.count < limits.steps
+  pub room : f.body.count + 1 < 2 ^ 64
 
 pub record EndsIdle (limits : Limits) (old new : Fiber) (w : Wants Fiber) : Type 0 where
   pub ends : w ≡ wants.End (if nat_le limits.steps 0 then cause.Spent else cause.Done)

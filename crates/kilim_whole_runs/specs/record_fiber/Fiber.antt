@@ -1,5 +1,5 @@
 -- When a fiber over records stands for the thread of its course.
-use Rattle.std.specs.Prelude.{◌≡◌, ◌<◌, ◌≤◌, ℕ, nat_le, if◌then◌else◌, Bool, true, false, List, Option, Some, None}
+use Rattle.std.specs.Prelude.{◌≡◌, ◌<◌, ◌≤◌, ◌+◌, ◌^◌, ℕ, nat_le, if◌then◌else◌, Bool, true, false, List, Option, Some, None}
 use Rattle.kilim_classes.specs.Program.{Program}
 use Rattle.kilim_classes.specs.declared.names.BoxName.{BoxName}
 use Rattle.kilim_classes.specs.declared.value.Value.TheVariants.{Null}
@@ -83,6 +83,7 @@ pub record AskedOf (W : Program) (marks : List (List Bool)) (set : Setting) (f :
   pub frames : HasFrames f.body.frames
   pub roomy : RoomyIn W f.body.frames
   pub few : f.body.count < set.limits.steps
+  pub room : f.body.count + 1 < 2 ^ 64
   pub is-main : set.main ≡ f.main
 
 -- ---- the code

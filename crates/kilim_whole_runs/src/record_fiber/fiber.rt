@@ -1,6 +1,6 @@
 //! A fiber.
 
-ghost use Rattle.std.specs.Prelude.{◌≡◌, ◌<◌, ◌+◌, ◌^◌, true, false, Some, None, ℕ, IfOk, OnOk};
+ghost use Rattle.std.specs.Prelude.{◌≡◌, ◌<◌, ◌≤◌, ◌+◌, ◌^◌, true, false, Some, None, ℕ, IfOk, OnOk};
 ghost use Rattle.kilim_classes.specs.declared.value.Value.TheVariants as a_value;
 ghost use Rattle.kilim_thread_model.specs.State.{Setting};
 ghost use Rattle.std.specs.Prelude.{List, [], Option};
@@ -8,16 +8,16 @@ ghost use Rattle.kilim_thread_model.specs.declared.deed.Beginning.TheVariants.{B
 ghost use Rattle.kilim_thread_model.specs.declared.deed.Deed.{Deed};
 ghost use Rattle.kilim_fibers.specs.Fibers.{Asks, CanAnswer, CanRun, Fits, IsNewCourse, StandsFor};
 ghost use Rattle.kilim_weaving_laws.specs.woven_kin.Nexts.{counted, with_result};
+ghost use Rattle.kilim_woven_fiber.specs.Reach.{IsWanting};
 ghost use Rattle.kilim_woven_fiber.specs.Body.{behind_at, RoomyIn, RoomIn, HasFrames};
 ghost use Rattle.std.specs.List.{AllByRecursion};
-ghost use Rattle.kilim_fibers.specs.Wishes.{ToEnd, Wish, end_wish};
-ghost use Rattle.kilim_fibers.specs.declared.Wants.TheVariants as wants;
+ghost use Rattle.kilim_fibers.specs.Wishes.{Wish};
 ghost use Rattle.kilim_tree_move.specs.Shaping.{Suits};
 ghost use Rattle.kilim_whole_runs.specs.record_fiber.Past.{deed_of};
 ghost use Rattle.kilim_whole_runs.specs.record_fiber.Fiber.{task_of, course_of, HoldsFiber, AskedOf, ServesCode};
 ghost use Rattle.kilim_whole_runs.specs.record_fiber.Records.{records_of};
 ghost use Rattle.kilim_whole_runs.specs.record_fiber.Clauses.{Resumes, RestsInRecords, Went};
-ghost use Rattle.kilim_whole_runs.specs.record_fiber.Calls.{IsNew, IsBegun, EndsIdle, RestsAt, HasWanted, MayAsk, asks_by, is_rest, WantsBy, Passed, Taken, Found, Refused, Answered, AnswerSuits, takes_value};
+ghost use Rattle.kilim_whole_runs.specs.record_fiber.Calls.{IsNew, IsBegun, EndsIdle, RestsAt, HasWanted, MayAsk, asks_by, is_rest, IsAnswerTo, WantsBy, Passed, Taken, Found, Refused, Answered, AnswerSuits, takes_value};
 
 use crate::record_fiber::past::{Did, Past, begun, no_past, note};
 use kilim_classes::machine::{EndCause, Limits, Shape};
@@ -98,16 +98,6 @@ fn begun_fiber(
     Ok((new_fiber(alloc, main, beginning, body), shape))
 }
 
-// An end. No task ends for want of tasks by itself.
-fn ended(cause: EndCause) -> Result<(Wants<Fiber>, Asked), NoMemory>
-    ensures { IfOk result (λ both. (both.0 ≡ wants.End cause) × (end_wish cause ≡ Some (ToEnd cause))) }
-{
-    match cause {
-        EndCause::Tasks => Err(NoMemory),
-        cause => Ok((Wants::End(cause), Asked::Nothing)),
-    }
-}
-
 // What is wanted by what a body came to, and asked then: nothing where it rests or ends.
 fn wanted(
     alloc: Global,
@@ -115,10 +105,11 @@ fn wanted(
     main: ClassId,
     came: Came,
 ) -> Result<(Wants<Fiber>, Asked), NoMemory>
+    requires { IsWanting came ≡ true }
     ensures { IfOk result (λ both. WantsBy program.now main came both.0 both.1) }
 {
     match came {
-        Came::On => Err(NoMemory),
+        Came::On => unreachable!(),
         Came::Puts(mailbox, tree, shape) => {
             let kept = Snapshot::of(&shape);
             Ok((Wants::Put(mailbox, tree, shape), Asked::Put(mailbox, kept)))
@@ -137,45 +128,31 @@ fn wanted(
             Ok((Wants::Print(shape), Asked::Print(kept)))
         }
         Came::Rests => Ok((Wants::Rest(None), Asked::Nothing)),
-        Came::Ends(cause) => ended(cause),
+        Came::Ends(cause) => Ok((Wants::End(cause), Asked::Nothing)),
     }
-}
-
-// An answer to something else, which doesn't come.
-fn mistaken(answer: Answer) -> NoMemory {
-    drop(answer);
-    NoMemory
 }
 
 impl Fiber {
     // It goes on behind what it asked, and notes the deed.
-    fn pass_on(&mut self, code: &Code, did: Did) -> Result<(), NoMemory>
+    fn pass_on(&mut self, code: &Code, did: Did)
         requires frames { HasFrames self.old.body.frames }
         requires roomy { RoomyIn code.now.program self.old.body.frames }
-        ensures { OnOk result (Passed code.now.program self.old self.new (deed_of did) (counted (behind_at 0 self.old.body))) }
+        requires few { self.old.body.count + 1 < 2 ^ 64 }
+        ensures { Passed code.now.program self.old self.new (deed_of did) (counted (behind_at 0 self.old.body)) }
     {
-        if self.body.count == u64::MAX {
-            drop(did);
-            return Err(NoMemory);
-        }
         done(&code.program, &mut self.body);
         note(&mut self.past, did);
-        Ok(())
     }
 
     // The same with null.
-    fn pass_none(&mut self, code: &Code, did: Did) -> Result<(), NoMemory>
+    fn pass_none(&mut self, code: &Code, did: Did)
         requires roomy { RoomyIn code.now.program self.old.body.frames }
         requires room { RoomIn code.now.program self.old.body.frames }
-        ensures { OnOk result (Passed code.now.program self.old self.new (deed_of did) (with_result (Some a_value.Null) (counted (behind_at 0 self.old.body)))) }
+        requires few { self.old.body.count + 1 < 2 ^ 64 }
+        ensures { Passed code.now.program self.old self.new (deed_of did) (with_result (Some a_value.Null) (counted (behind_at 0 self.old.body))) }
     {
-        if self.body.count == u64::MAX {
-            drop(did);
-            return Err(NoMemory);
-        }
         found_none(&code.program, &mut self.body);
         note(&mut self.past, did);
-        Ok(())
     }
 
     // A message comes to a `get`.
@@ -189,12 +166,9 @@ impl Fiber {
         requires suits { AllByRecursion (Suits code.now.plain) tree }
         requires roomy { RoomyIn code.now.program self.old.body.frames }
         requires room { RoomIn code.now.program self.old.body.frames }
+        requires few { self.old.body.count + 1 < 2 ^ 64 }
         ensures { OnOk result (Taken code.now.plain code.now.program self.old self.new mailbox tree number) }
     {
-        if self.body.count == u64::MAX {
-            drop(tree);
-            return Err(NoMemory);
-        }
         let Ok(shape) = take(self.alloc, &code.plain, &code.program, tree, &mut self.body) else {
             return Err(NoMemory);
         };
@@ -216,12 +190,9 @@ impl Fiber {
         requires suits { AllByRecursion (Suits code.now.plain) tree }
         requires roomy { RoomyIn code.now.program self.old.body.frames }
         requires room { RoomIn code.now.program self.old.body.frames }
+        requires few { self.old.body.count + 1 < 2 ^ 64 }
         ensures { OnOk result (Found code.now.plain code.now.program self.old self.new mailbox tree number) }
     {
-        if self.body.count == u64::MAX {
-            drop(tree);
-            return Err(NoMemory);
-        }
         let Ok(shape) = found(&code.plain, &code.program, tree, &mut self.body) else {
             return Err(NoMemory);
         };
@@ -252,47 +223,60 @@ impl Fiber {
         requires roomy { RoomyIn code.now.program self.old.body.frames }
         requires room { takes_value asked ≡ true → RoomIn code.now.program self.old.body.frames }
         requires suits { AnswerSuits code.now.plain answer }
+        requires few { self.old.body.count + 1 < 2 ^ 64 }
+        requires fits { IsAnswerTo asked answer }
         ensures { OnOk result (Answered code.now.plain code.now.program asked answer self.old self.new) }
     {
         match asked {
             Asked::Put(mailbox, shape) => match answer {
-                Answer::Sent(number) => self.pass_on(code, Did::Put(mailbox, number, shape)),
-                other => Err(mistaken(other)),
+                Answer::Sent(number) => {
+                    self.pass_on(code, Did::Put(mailbox, number, shape));
+                    Ok(())
+                }
+                _ => unreachable!(),
             },
             Asked::Take(mailbox) => match answer {
                 Answer::Message(tree, number) => self.receive(code, mailbox, tree, number),
                 Answer::Nothing => self.refuse(code, mailbox),
-                other => Err(mistaken(other)),
+                _ => unreachable!(),
             },
             Asked::Probe(mailbox) => match answer {
                 Answer::Message(tree, number) => self.find(code, mailbox, tree, number),
-                Answer::Nothing => self.pass_none(code, Did::Empty(mailbox)),
-                other => Err(mistaken(other)),
+                Answer::Nothing => {
+                    self.pass_none(code, Did::Empty(mailbox));
+                    Ok(())
+                }
+                _ => unreachable!(),
             },
             Asked::Start(shape) => match answer {
-                Answer::Started(number) => self.pass_on(code, Did::Start(number, shape)),
-                other => Err(mistaken(other)),
+                Answer::Started(number) => {
+                    self.pass_on(code, Did::Start(number, shape));
+                    Ok(())
+                }
+                _ => unreachable!(),
             },
             Asked::Print(shape) => match answer {
-                Answer::Done => self.pass_on(code, Did::Print(shape)),
-                other => Err(mistaken(other)),
+                Answer::Done => {
+                    self.pass_on(code, Did::Print(shape));
+                    Ok(())
+                }
+                _ => unreachable!(),
             },
-            Asked::Nothing => Err(mistaken(answer)),
+            Asked::Nothing => unreachable!(),
         }
     }
 
     // Its `execute` is built in: its task is over at once.
-    fn end_idle(&mut self, limits: &Limits) -> Result<Wants<Fiber>, NoMemory>
-        ensures { IfOk result (λ w. EndsIdle limits.now self.old self.new w) }
+    fn end_idle(&mut self, limits: &Limits) -> Wants<Fiber>
+        requires none { self.old.refused ≡ None }
+        requires most { self.old.body.count ≤ limits.now.steps }
+        ensures { EndsIdle limits.now self.old self.new result }
     {
-        if self.refused.is_some() || self.body.count > limits.steps {
-            return Err(NoMemory);
-        }
         self.rests = false;
         if limits.steps == 0 {
-            Ok(Wants::End(EndCause::Spent))
+            Wants::End(EndCause::Spent)
         } else {
-            Ok(Wants::End(EndCause::Done))
+            Wants::End(EndCause::Done)
         }
     }
 
@@ -318,6 +302,7 @@ impl Fiber {
         before: u64,
         came: Came,
     ) -> Result<Wants<Fiber>, NoMemory>
+        requires wanting { IsWanting came ≡ true }
         ensures { IfOk result (λ w. HasWanted code.now.program limits.now before came self.old self.new w) }
     {
         if !self.may_want(limits, before, &came) {
@@ -358,7 +343,7 @@ impl Fiber {
         ensures rests { IfOk result (λ w. RestsInRecords code.now limits.now self.old self.new w) }
     {
         if self.idle {
-            return self.end_idle(limits);
+            return Ok(self.end_idle(limits));
         }
         let before = self.body.count;
         let Ok(came) = reach(

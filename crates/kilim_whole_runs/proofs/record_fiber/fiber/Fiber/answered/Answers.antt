@@ -3,11 +3,11 @@ use Rattle.kilim_fibers.specs.declared.Answer.{Answer}
 use Rattle.kilim_fibers.specs.declared.Answer.TheVariants as answer
 use Rattle.kilim_whole_runs.specs.record_fiber.Calls.{AnswerSuits, takes_value}
 use Rattle.kilim_whole_runs.specs.declared.record_fiber.fiber.Asked.TheVariants as asked
-use Rattle.kilim_whole_runs.proofs.record_fiber.Answered.{answer_is}
+use Rattle.kilim_whole_runs.proofs.record_fiber.Answered.{answer_is, answer_now}
 use Rattle.kilim_whole_runs.proofs.record_fiber.fiber.Fiber.answered.Goals as goal
 
 pub returns-in-Sent : goal.returns-in-Sent
-returns-in-Sent c = answer_is c.args.code.now.plain c.args.code.now.program c.args.asked (asked.Put c.in-Put.mailbox c.in-Put.shape) c.args.answer (answer.Sent c.in-Sent.number) c.args.self.now c.pass_on.new.self c.pass_on.result c.in-Put.is c.in-Sent.is c.pass_on.ensures
+returns-in-Sent c = answer_now c.args.code.now.plain c.args.code.now.program c.args.asked (asked.Put c.in-Put.mailbox c.in-Put.shape) c.args.answer (answer.Sent c.in-Sent.number) c.args.self.now c.pass_on.new.self c.in-Put.is c.in-Sent.is c.pass_on.ensures
 
 pub receive-requires-clause-suits : goal.receive-requires-clause-suits
 receive-requires-clause-suits c = subst (λ (a : Answer). AnswerSuits c.args.code.now.plain a) c.in-Message.is c.requires.suits
@@ -37,10 +37,10 @@ pub pass_none-requires-clause-room : goal.pass_none-requires-clause-room
 pass_none-requires-clause-room c = c.requires.room (ap takes_value c.in-Probe.is)
 
 pub returns-in-Nothing-answer-2 : goal.returns-in-Nothing-answer-2
-returns-in-Nothing-answer-2 c = answer_is c.args.code.now.plain c.args.code.now.program c.args.asked (asked.Probe c.in-Probe.mailbox) c.args.answer answer.Nothing c.args.self.now c.pass_none.new.self c.pass_none.result c.in-Probe.is c.in-Nothing-answer-2.is c.pass_none.ensures
+returns-in-Nothing-answer-2 c = answer_now c.args.code.now.plain c.args.code.now.program c.args.asked (asked.Probe c.in-Probe.mailbox) c.args.answer answer.Nothing c.args.self.now c.pass_none.new.self c.in-Probe.is c.in-Nothing-answer-2.is c.pass_none.ensures
 
 pub returns-in-Started : goal.returns-in-Started
-returns-in-Started c = answer_is c.args.code.now.plain c.args.code.now.program c.args.asked (asked.Start c.in-Start.shape) c.args.answer (answer.Started c.in-Started.number) c.args.self.now c.pass_on-in-Started.new.self c.pass_on-in-Started.result c.in-Start.is c.in-Started.is c.pass_on-in-Started.ensures
+returns-in-Started c = answer_now c.args.code.now.plain c.args.code.now.program c.args.asked (asked.Start c.in-Start.shape) c.args.answer (answer.Started c.in-Started.number) c.args.self.now c.pass_on-in-Started.new.self c.in-Start.is c.in-Started.is c.pass_on-in-Started.ensures
 
 pub returns-in-Done : goal.returns-in-Done
-returns-in-Done c = answer_is c.args.code.now.plain c.args.code.now.program c.args.asked (asked.Print c.in-Print.shape) c.args.answer answer.Done c.args.self.now c.pass_on-in-Done.new.self c.pass_on-in-Done.result c.in-Print.is c.in-Done.is c.pass_on-in-Done.ensures
+returns-in-Done c = answer_now c.args.code.now.plain c.args.code.now.program c.args.asked (asked.Print c.in-Print.shape) c.args.answer answer.Done c.args.self.now c.pass_on-in-Done.new.self c.in-Print.is c.in-Done.is c.pass_on-in-Done.ensures

@@ -4,11 +4,17 @@ use Rattle.kilim_woven_fiber.specs.Body.{standing_at}
 use Rattle.kilim_woven_fiber.specs.Steps.{setting_of}
 use Rattle.kilim_whole_runs.proofs.record_fiber.Rested.{idle_rests, refused_rests, wants_rests}
 use Rattle.kilim_whole_runs.proofs.record_fiber.Resting.{none_is_left}
-use Rattle.kilim_whole_runs.proofs.record_fiber.Resuming.{came_by, idle_ok, ready, rest_ok, want_ok}
+use Rattle.kilim_whole_runs.proofs.record_fiber.Resuming.{came_by, idle_gives, idle_unasked, ready, rest_ok, want_ok}
 use Rattle.kilim_whole_runs.proofs.record_fiber.fiber.Fiber.resume.Goals as goal
 
+pub end_idle-requires-clause-none : goal.end_idle-requires-clause-none
+end_idle-requires-clause-none c = idle_unasked c.args.code.now c.args.limits.now c.args.self.now c.if-self.true c.requires
+
+pub end_idle-requires-clause-most : goal.end_idle-requires-clause-most
+end_idle-requires-clause-most c = subst (λ (l : Limits). c.args.self.now.body.count ≤ l.steps) c.requires.is-limits c.requires.stands.held.most
+
 pub returns-then-self-clause-gives : goal.returns-then-self-clause-gives
-returns-then-self-clause-gives c = idle_ok c.args.code.now c.args.limits.now c.args.self.now c.end_idle.new.self c.end_idle.result c.if-self.true c.end_idle.ensures
+returns-then-self-clause-gives c = idle_gives c.args.code.now c.args.limits.now c.args.self.now c.end_idle.new.self c.end_idle.result c.if-self.true c.end_idle.ensures
 
 pub returns-then-self-clause-rests : goal.returns-then-self-clause-rests
 returns-then-self-clause-rests c = idle_rests c.args.code.now c.args.limits.now c.args.self.now c.end_idle.new.self c.end_idle.result c.end_idle.ensures
