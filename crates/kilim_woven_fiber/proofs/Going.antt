@@ -28,7 +28,7 @@ use Rattle.kilim_marked_runs.specs.declared.runs.Halted.{Halted}
 use Rattle.kilim_marked_runs.specs.declared.runs.Halted.TheVariants as halted
 use Rattle.kilim_woven_runs.specs.Fibers.{is_rewinding}
 use Rattle.kilim_weaving_laws.specs.woven_kin.Standing.{Standing}
-use Rattle.kilim_weaving_laws.specs.woven_kin.Nexts.{Next, Goes, Ends, asks_next, finish_next, found_next, next_by, next_of, opens_next, spent_or, stood, ticked}
+use Rattle.kilim_weaving_laws.specs.woven_kin.Nexts.{Next, Goes, Ends, Stands, asks_next, finish_next, found_next, next_by, next_of, opens_next, spent_or, stood, ticked}
 use Rattle.kilim_weaving_laws.specs.woven_kin.Alike.{is_end, spends, spends_at}
 use Rattle.kilim_woven_fiber.specs.Body.{behind_at, calls_in, operands_of, standing_at}
 use Rattle.kilim_woven_fiber.specs.Comes.{CanGive}
@@ -175,16 +175,24 @@ module _ (set : Setting) (W : Program) (marks : List (List Bool)) (t : ℕ) (b :
     opened is left e =
         (opens_fit W top below h h _ _ (fine_here is left) e.0, to_next _ _ (ap (opens_next t counts) (behind_is e.1.heap)) (comes_by n mark top below h (move.Opens (answered new) h) is left e.0 refl goes))
 
+    -- what comes next isn't where no verified code comes
+    stands_never : {x : Next} → ComesTo set W marks t first x → x ≡ Stands → ⊥
+    stands_never c e = (ready c.mid c.goes).never c.free c.is-free (c.is ∙ e)
+
+    asked_comes : (id : MethodId) → IsMark W marks top.method top.place mark → IsLeft n mark → Steps (moves W top below h) (stepped.AtNative (asked_of id new)) (top ∷ below) new h k → ComesTo set W marks t first (asks_next set (behind_at 0 (after n new k)) (operands_of new) (native_of W id))
+    asked_comes id is left e = to_next _ _ (ap (λ (z : Standing). asks_next set z (operands_of new) (native_of W id)) (behind_is e.1.heap)) (comes_by n mark top below h (move.Asks id (operands_of new) (answered new) h) is left e.0 refl goes)
+
     asked : (id : MethodId) → (new.operands ≤ length new.top.stack.values) → IsMark W marks top.method top.place mark → IsLeft n mark → Steps (moves W top below h) (stepped.AtNative (asked_of id new)) (top ∷ below) new h k → HasGone set W marks t first (after n new k) counts (halted.Asks id)
     asked id there is left e =
         let fits = subst (MoveFits set.program W h) e.0 (fits_here is left) in
         record {
           operands = there;
           can = record {
+            made = record { set = set; is-limits = refl; never = λ never. stands_never (asked_comes id is left e) never };
             room = λ gives. fits.0 gives;
             gives = λ root at given. subst (λ (z : Objects). CanGive set.program z at) (sym e.1.heap) (fits.1 root at given);
           };
-          comes = to_next _ _ (ap (λ (z : Standing). asks_next set z (operands_of new) (native_of W id)) (behind_is e.1.heap)) (comes_by n mark top below h (move.Asks id (operands_of new) (answered new) h) is left e.0 refl goes);
+          comes = asked_comes id is left e;
         }
 
     returned : IsMark W marks top.method top.place mark → IsLeft n mark → Steps (moves W top below h) stepped.Returned (top ∷ below) new h k → HasGone set W marks t first (after n new k) counts halted.Returned

@@ -12,11 +12,16 @@ use Rattle.kilim_classes.specs.machine.Natives as native
 use Rattle.kilim_classes.specs.machine.Shapes.{shape_of}
 use Rattle.kilim_classes.specs.machine.Trees.{Root}
 use Rattle.kilim_thread_model.specs.Kept.{given}
+use Rattle.kilim_thread_model.specs.State.{Setting}
+use Rattle.kilim_classes.specs.declared.machine.run.Limits.{Limits}
+use Rattle.kilim_weaving_laws.specs.woven_kin.Standing.{Standing}
+use Rattle.kilim_woven_runs.specs.declared.fiber_records.natives.natives.Native as declared_native
+use Rattle.kilim_woven_runs.specs.declared.fiber_records.natives.natives.Native.TheVariants as code
 use Rattle.kilim_tree_move.specs.Room.{RoomFor}
 use Rattle.kilim_tree_move.specs.Walk.{AllThere}
 use Rattle.kilim_tree_move.specs.Moved.{Fits, CanLeave, IsTooLarge, TakenOut}
 use Rattle.kilim_tree_move.specs.Shaping.{Suits}
-use Rattle.kilim_weaving_laws.specs.woven_kin.Nexts.{Next, Goes, Puts, Gets, Probes, Starts, Prints, Rests, Ends, counted, paused_at, taken_at}
+use Rattle.kilim_weaving_laws.specs.woven_kin.Nexts.{Next, Goes, Puts, Gets, Probes, Starts, Prints, Rests, Ends, Stands, asks_next, counted, paused_at, taken_at}
 use Rattle.kilim_woven_fiber.specs.Body.{standing_at, behind_at, RoomIn}
 use Rattle.kilim_woven_fiber.specs.declared.body.Body.{Body}
 use Rattle.kilim_woven_fiber.specs.declared.body.Came.{Came}
@@ -79,13 +84,25 @@ gives_result (Some (native.OfFiber Restore)) = true
 gives_result (Some (native.OfFiber Receiver)) = true
 gives_result n = false
 
+-- no member of `kilim/Fiber`
+abbrev pub is_other : declared_native.Native → Bool
+is_other (code.OfFiber member) = false
+is_other n = true
+
 -- a value that is put
 abbrev pub IsGivenBy : Program → Objects → Value → Type 0
 IsGivenBy p heap (Ref m) = CanGive p heap m
 IsGivenBy p heap v = Unit {0}
 
+-- It is a call that verified code makes: in a setting with these limits it isn't where no such code comes.
+pub record IsMade (limits : Limits) (l : Standing) (args : List Value) (n : Option Native) : Type 0 where
+  pub set : Setting
+  pub is-limits : set.limits ≡ limits
+  pub never : asks_next set l args n ≡ Stands → ⊥
+
 -- What is known where a built-in method is called: p is the program that was woven, W the woven one.
-pub record CanAsk (p W : Program) (n : Option Native) (args : List Value) (b : Body) : Type 0 where
+pub record CanAsk (p W : Program) (limits : Limits) (n : Option Native) (args : List Value) (b : Body) : Type 0 where
+  pub made : IsMade limits (behind_at 0 b) args n
   pub room : gives_result n ≡ true → RoomIn W b.frames
   pub gives : (root : Root) (m : ℕ) → given n args ≡ Some (root, m) → CanGive p b.heap m
 

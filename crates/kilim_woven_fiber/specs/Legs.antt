@@ -26,7 +26,7 @@ pub record ComesTo (set : Setting) (W : Program) (marks : List (List Bool)) (t :
 -- a built-in method is called, and is to be asked
 pub record IsAsking (set : Setting) (W : Program) (marks : List (List Bool)) (t : ℕ) (first : Standing) (mid : Body) (call : MethodId) : Type 0 where
   pub operands : HasOperands mid.frames
-  pub can : CanAsk set.program W (native_of W call) (operands_in mid.frames) mid
+  pub can : CanAsk set.program W set.limits (native_of W call) (operands_in mid.frames) mid
   pub comes : ComesTo set W marks t first (asks_next set (behind_at 0 mid) (operands_in mid.frames) (native_of W call))
 
 -- what comes next where a run ended, of a body with the frames and the heap that the run left

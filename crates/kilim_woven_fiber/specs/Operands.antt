@@ -1,5 +1,5 @@
 -- The operands of a built-in method that is called.
-use Rattle.std.specs.Prelude.{◌≡◌, List, [], ◌∷◌}
+use Rattle.std.specs.Prelude.{◌≡◌, ◌<◌, List, [], ◌∷◌, length}
 use Rattle.kilim_classes.specs.declared.value.Value.{Value}
 use Rattle.kilim_machine_parts.specs.declared.frames.frames.Frames.{Frames}
 use Rattle.kilim_woven_fiber.specs.Body.{operands_of}
@@ -11,7 +11,7 @@ abbrev pub AreCopies : List Value → Operands → Type 0
 AreCopies args copied.None = args ≡ []
 AreCopies args (copied.One value) = args ≡ value ∷ []
 AreCopies args (copied.Two first second) = args ≡ first ∷ second ∷ []
-AreCopies args copied.More = Unit {0}
+AreCopies args copied.More = 2 < length args
 
 abbrev pub AreOperands : Frames → Operands → Type 0
 AreOperands frames found = AreCopies (operands_of frames) found

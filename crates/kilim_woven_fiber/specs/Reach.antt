@@ -23,7 +23,7 @@ pub data GoesTo (set : Setting) (W : Program) (marks : List (List Bool)) (t : �
 
 -- wherever it comes
 abbrev pub IsReadyOn : Setting → Program → List (List Bool) → ℕ → Standing → Type 0
-IsReadyOn set W marks t first = (m : Standing) → GoesTo set W marks t first m → IsReadyAt set W marks m
+IsReadyOn set W marks t first = (m : Standing) → GoesTo set W marks t first m → IsReadyAt set W marks t m
 
 -- it doesn't go on by itself
 abbrev pub IsWanting : Came → Bool

@@ -18,7 +18,8 @@ use Rattle.kilim_jvm_interp.specs.Run.{IsFine}
 use Rattle.kilim_jvm_interp.specs.Step.{stack_limit}
 use Rattle.kilim_woven_runs.specs.Fibers.{first_receiver}
 use Rattle.kilim_weaving_laws.specs.woven_kin.Standing.{Standing}
-use Rattle.kilim_weaving_laws.specs.woven_kin.Alike.{spends_at}
+use Rattle.kilim_weaving_laws.specs.woven_kin.Alike.{HasFree, spends_at}
+use Rattle.kilim_weaving_laws.specs.woven_kin.Nexts.{Stands, next_of}
 use Rattle.kilim_woven_fiber.specs.Comes.{CanGive, gives_result}
 use Rattle.kilim_woven_fiber.specs.declared.code.Code.{Code}
 
@@ -38,11 +39,12 @@ ReceiverThere h (Ref n) = (o : Object) × (get h n ≡ Some o)
 ReceiverThere h v = Unit {0}
 
 -- What is known of it: unless it is spent, its next instruction isn't stuck and has room for what it leaves on the stack, there is room for a
--- result, and what is given away is a tree; and where it rests, the receiver of its first frame is there.
-pub record IsReadyAt (set : Setting) (W : Program) (marks : List (List Bool)) (m : Standing) : Type 0 where
+-- result, and what is given away is a tree; and where it rests, the receiver of its first frame is there. It is never where no verified code comes.
+pub record IsReadyAt (set : Setting) (W : Program) (marks : List (List Bool)) (t : ℕ) (m : Standing) : Type 0 where
   pub fine : (top : Activation) (below : List Activation) → m.frames ≡ top ∷ below → spends_at set W marks m top ≡ false → IsFine W top below m.heap
   pub fits : (top : Activation) (below : List Activation) → m.frames ≡ top ∷ below → spends_at set W marks m top ≡ false → MoveFits set.program W m.heap (moves W top below m.heap)
   pub rests : m.frames ≡ [] → ReceiverThere m.heap (first_receiver m.fiber)
+  pub never : (free : ℕ) → HasFree set W marks t (record m { next = free }) → next_of set W marks t (record m { next = free }) ≡ Stands → ⊥
 
 -- the setting of the code itself: shapes are told by the program that was woven
 abbrev pub setting_of : Code → Limits → ClassId → Setting

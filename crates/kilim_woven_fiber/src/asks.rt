@@ -1,16 +1,17 @@
 //! A built-in method that is called.
 
-ghost use Rattle.std.specs.Prelude.{◌≡◌, ◌<◌, ◌+◌, ◌^◌, ◌∷◌, [], true, length, Some, IfOk, OnOk};
+ghost use Rattle.std.specs.Prelude.{◌≡◌, ◌<◌, ◌+◌, ◌^◌, ◌∷◌, [], true, length, Some, None, IfOk, OnOk};
 ghost use Rattle.kilim_classes.specs.declared.value.Value.TheVariants as a_value;
 ghost use Rattle.kilim_classes.specs.machine.Natives as a_native;
+ghost use Rattle.kilim_classes.specs.Program.{Program as AProgram};
 ghost use Rattle.kilim_classes.specs.machine.Natives.{native_of};
 ghost use Rattle.kilim_classes.specs.machine.Shapes.{shape_of};
 ghost use Rattle.kilim_thread_model.specs.State.{Setting};
 ghost use Rattle.kilim_thread_model.specs.Lone.{narrowed, arg_at, printed};
-ghost use Rattle.kilim_weaving_laws.specs.woven_kin.Nexts.{Goes, counted, with_result, arg_next, print_next, put_next, message_next, start_next, native_next, asks_next, yield_next, spent_or, paused_at, taken_at, Gets};
+ghost use Rattle.kilim_weaving_laws.specs.woven_kin.Nexts.{Goes, Stands, counted, with_result, arg_next, get_next, print_next, put_next, message_next, start_next, native_next, asks_next, yield_next, spent_or};
 ghost use Rattle.kilim_woven_runs.specs.Fibers.{is_rewinding};
 ghost use Rattle.kilim_woven_fiber.specs.Body.{standing_at, behind_at, operands_in, RoomyIn, RoomIn, HasFrames, HasOperands};
-ghost use Rattle.kilim_woven_fiber.specs.Comes.{CanGive, IsGivenBy, CanAsk, Comes, HasRoomFor, IsNear};
+ghost use Rattle.kilim_woven_fiber.specs.Comes.{CanGive, IsGivenBy, IsMade, CanAsk, Comes, HasRoomFor, IsNear, is_other};
 ghost use Rattle.kilim_woven_fiber.specs.Operands.{AreCopies};
 ghost use Rattle.kilim_woven_runs.specs.fiber_records.natives.Natives.{meaning};
 
@@ -110,15 +111,16 @@ fn arg(program: &Program, limits: &Limits, index: &i32, body: &mut Body) -> Came
 }
 
 // The token of a printed value; other values aren't printed in verified code.
-fn printed(value: &Value) -> Result<Option<Token>, NoMemory>
-    ensures { IfOk result (λ token. token ≡ printed value.now) }
+fn printed(value: &Value) -> Result<Token, NoMemory>
+    requires { printed value.now ≡ None → ⊥ }
+    ensures { IfOk result (λ token. printed value.now ≡ Some token) }
 {
     match value {
-        Value::Int(n) => Ok(Some(Token::Int(*n))),
-        Value::Long(n) => Ok(Some(Token::Long(*n))),
-        Value::Null => Ok(Some(Token::Null)),
-        Value::Text(units) => Ok(Some(Token::Text(units.clone()?))),
-        Value::Ref(_) | Value::Box(_) | Value::Fiber => Ok(None),
+        Value::Int(n) => Ok(Token::Int(*n)),
+        Value::Long(n) => Ok(Token::Long(*n)),
+        Value::Null => Ok(Token::Null),
+        Value::Text(units) => Ok(Token::Text(units.clone()?)),
+        Value::Ref(_) | Value::Box(_) | Value::Fiber => unreachable!(),
     }
 }
 
@@ -134,12 +136,13 @@ fn one_token(alloc: Global, token: Token) -> Result<Shape, NoMemory>
 
 // `print`
 fn print(alloc: Global, program: &Program, value: &Value, body: &Body) -> Result<Came, NoMemory>
+    requires made { printed value.now ≡ None → ⊥ }
     ensures comes { IfOk result (λ came. Comes 0 (print_next (behind_at 0 body.now) (printed value.now)) body.now came) }
     ensures room { IfOk result (λ came. HasRoomFor program.now body.now came) }
 {
     let _ = program;
     let _ = body;
-    let Ok(Some(token)) = printed(value) else {
+    let Ok(token) = printed(value) else {
         return Err(NoMemory);
     };
     match one_token(alloc, token) {
@@ -181,6 +184,7 @@ fn put(
     body: &mut Body,
 ) -> Result<Came, NoMemory>
     requires roomy { RoomyIn program.now body.old.frames }
+    requires made { (p : AProgram) × (message_next p (behind_at 0 body.old) mailbox message.now ≡ Stands → ⊥) }
     requires gives { IsGivenBy plain.now body.old.heap message.now }
     ensures comes { IfOk result (λ came. Comes 0 (message_next plain.now (behind_at 0 body.old) mailbox message.now) body.new came) }
     ensures roomy { OnOk result (RoomyIn program.now body.new.frames) }
@@ -190,7 +194,7 @@ fn put(
     match message {
         Value::Null => Ok(Came::Ends(EndCause::Null)),
         Value::Ref(root) => put_tree(alloc, plain, program, mailbox, *root, body),
-        _ => Err(NoMemory),
+        _ => unreachable!(),
     }
 }
 
@@ -247,7 +251,8 @@ fn ask_of_none(
     requires frames { HasFrames body.old.frames }
     requires roomy { RoomyIn program.now body.old.frames }
     requires counts { body.old.count + 1 < 2 ^ 64 }
-    requires can { CanAsk plain.now program.now (Some (meaning native)) [] body.old }
+    requires other { is_other native ≡ true }
+    requires can { CanAsk plain.now program.now limits.now (Some (meaning native)) [] body.old }
     ensures comes { (set : Setting) → set.program ≡ plain.now → set.limits ≡ limits.now → IfOk result (λ came. Comes 0 (native_next set (behind_at 0 body.old) (meaning native) []) body.new came) }
     ensures roomy { OnOk result (RoomyIn program.now body.new.frames) }
     ensures counted { OnOk result (IsNear body.old.count body.new.count) }
@@ -255,7 +260,7 @@ fn ask_of_none(
 {
     match native {
         Native::ArgCount => Ok(count_args(program, limits, body)),
-        _ => Err(NoMemory),
+        _ => unreachable!(),
     }
 }
 
@@ -264,13 +269,15 @@ fn ask_of_fiber(
     alloc: Global,
     plain: &Program,
     program: &Program,
+    limits: &Limits,
     native: Native,
     body: &mut Body,
 ) -> Result<Came, NoMemory>
     requires frames { HasFrames body.old.frames }
     requires roomy { RoomyIn program.now body.old.frames }
     requires counts { body.old.count + 1 < 2 ^ 64 }
-    requires can { CanAsk plain.now program.now (Some (meaning native)) (a_value.Fiber ∷ []) body.old }
+    requires other { is_other native ≡ true }
+    requires can { CanAsk plain.now program.now limits.now (Some (meaning native)) (a_value.Fiber ∷ []) body.old }
     ensures comes { (set : Setting) → set.program ≡ plain.now → IfOk result (λ came. Comes 0 (native_next set (behind_at 0 body.old) (meaning native) (a_value.Fiber ∷ [])) body.new came) }
     ensures roomy { OnOk result (RoomyIn program.now body.new.frames) }
     ensures counted { OnOk result (IsNear body.old.count body.new.count) }
@@ -278,7 +285,7 @@ fn ask_of_fiber(
 {
     match native {
         Native::Yield => Ok(yield_now(alloc, program, body)),
-        _ => Err(NoMemory),
+        _ => unreachable!(),
     }
 }
 
@@ -295,18 +302,29 @@ fn ask_of_one(
     requires frames { HasFrames body.old.frames }
     requires roomy { RoomyIn program.now body.old.frames }
     requires counts { body.old.count + 1 < 2 ^ 64 }
-    requires can { CanAsk plain.now program.now (Some (meaning native)) (value.now ∷ []) body.old }
+    requires unlike { value.now ≡ a_value.Fiber → ⊥ }
+    requires other { is_other native ≡ true }
+    requires can { CanAsk plain.now program.now limits.now (Some (meaning native)) (value.now ∷ []) body.old }
     ensures comes { (set : Setting) → set.program ≡ plain.now → set.limits ≡ limits.now → IfOk result (λ came. Comes 0 (native_next set (behind_at 0 body.old) (meaning native) (value.now ∷ [])) body.new came) }
     ensures roomy { OnOk result (RoomyIn program.now body.new.frames) }
     ensures counted { OnOk result (IsNear body.old.count body.new.count) }
     ensures room { IfOk result (λ came. HasRoomFor program.now body.new came) }
 {
-    match (native, value) {
-        (Native::Start, Value::Ref(root)) => start(alloc, plain, program, *root, body),
-        (Native::Getnb, Value::Box(mailbox)) => Ok(Came::Probes(*mailbox)),
-        (Native::Print, value) => print(alloc, program, value, body),
-        (Native::Arg, Value::Int(index)) => Ok(arg(program, limits, index, body)),
-        _ => Err(NoMemory),
+    match native {
+        Native::Start => match value {
+            Value::Ref(root) => start(alloc, plain, program, *root, body),
+            _ => unreachable!(),
+        },
+        Native::Getnb => match value {
+            Value::Box(mailbox) => Ok(Came::Probes(*mailbox)),
+            _ => unreachable!(),
+        },
+        Native::Print => print(alloc, program, value, body),
+        Native::Arg => match value {
+            Value::Int(index) => Ok(arg(program, limits, index, body)),
+            _ => unreachable!(),
+        },
+        _ => unreachable!(),
     }
 }
 
@@ -322,7 +340,8 @@ fn ask_with_fiber(
     requires frames { HasFrames body.old.frames }
     requires roomy { RoomyIn program.now body.old.frames }
     requires counts { body.old.count + 1 < 2 ^ 64 }
-    requires can { CanAsk plain.now program.now (Some (meaning native)) (value.now ∷ a_value.Fiber ∷ []) body.old }
+    requires other { is_other native ≡ true }
+    requires can { CanAsk plain.now program.now limits.now (Some (meaning native)) (value.now ∷ a_value.Fiber ∷ []) body.old }
     ensures comes { (set : Setting) → set.program ≡ plain.now → set.limits ≡ limits.now → IfOk result (λ came. Comes 0 (native_next set (behind_at 0 body.old) (meaning native) (value.now ∷ a_value.Fiber ∷ [])) body.new came) }
     ensures roomy { OnOk result (RoomyIn program.now body.new.frames) }
     ensures counted { OnOk result (IsNear body.old.count body.new.count) }
@@ -333,22 +352,25 @@ fn ask_with_fiber(
             go_on(program, body);
             Ok(Came::On)
         }
-        (Native::Get, Value::Box(mailbox)) => Ok(takes(program, limits, *mailbox, body)),
-        _ => Err(NoMemory),
+        (Native::Get, _) => Ok(takes(program, limits, value, body)),
+        _ => unreachable!(),
     }
 }
 
 // `get`: a task that has done its instructions takes nothing any more.
-fn takes(program: &Program, limits: &Limits, mailbox: BoxName, body: &Body) -> Came
-    requires { RoomIn program.now body.now.frames }
-    ensures comes { (set : Setting) → set.limits ≡ limits.now → Comes 0 (spent_or set true body.now.count (Gets mailbox (paused_at mailbox (behind_at 0 body.now)) (taken_at (behind_at 0 body.now)))) body.now result }
+fn takes(program: &Program, limits: &Limits, value: &Value, body: &Body) -> Came
+    requires room { RoomIn program.now body.now.frames }
+    requires made { IsMade limits.now (behind_at 0 body.now) (value.now ∷ a_value.Fiber ∷ []) (Some a_native.Get) }
+    ensures comes { (set : Setting) → set.limits ≡ limits.now → Comes 0 (spent_or set true body.now.count (get_next (behind_at 0 body.now) value.now)) body.now result }
     ensures room { HasRoomFor program.now body.now result }
 {
     let _ = program;
     if body.count >= limits.steps {
-        Came::Ends(EndCause::Spent)
-    } else {
-        Came::Takes(mailbox)
+        return Came::Ends(EndCause::Spent);
+    }
+    match value {
+        Value::Box(mailbox) => Came::Takes(*mailbox),
+        _ => unreachable!(),
     }
 }
 
@@ -357,6 +379,7 @@ fn ask_of_two(
     alloc: Global,
     plain: &Program,
     program: &Program,
+    limits: &Limits,
     native: Native,
     first: &Value,
     second: &Value,
@@ -365,15 +388,20 @@ fn ask_of_two(
     requires frames { HasFrames body.old.frames }
     requires roomy { RoomyIn program.now body.old.frames }
     requires counts { body.old.count + 1 < 2 ^ 64 }
-    requires can { CanAsk plain.now program.now (Some (meaning native)) (first.now ∷ second.now ∷ []) body.old }
+    requires other { is_other native ≡ true }
+    requires unlike { second.now ≡ a_value.Fiber → ⊥ }
+    requires can { CanAsk plain.now program.now limits.now (Some (meaning native)) (first.now ∷ second.now ∷ []) body.old }
     ensures comes { (set : Setting) → set.program ≡ plain.now → IfOk result (λ came. Comes 0 (native_next set (behind_at 0 body.old) (meaning native) (first.now ∷ second.now ∷ [])) body.new came) }
     ensures roomy { OnOk result (RoomyIn program.now body.new.frames) }
     ensures counted { OnOk result (IsNear body.old.count body.new.count) }
     ensures room { IfOk result (λ came. HasRoomFor program.now body.new came) }
 {
-    match (native, first) {
-        (Native::Put, Value::Box(mailbox)) => put(alloc, plain, program, *mailbox, second, body),
-        _ => Err(NoMemory),
+    match native {
+        Native::Put => match first {
+            Value::Box(mailbox) => put(alloc, plain, program, *mailbox, second, body),
+            _ => unreachable!(),
+        },
+        _ => unreachable!(),
     }
 }
 
@@ -390,14 +418,15 @@ fn ask_of_any_one(
     requires frames { HasFrames body.old.frames }
     requires roomy { RoomyIn program.now body.old.frames }
     requires counts { body.old.count + 1 < 2 ^ 64 }
-    requires can { CanAsk plain.now program.now (Some (meaning native)) (value.now ∷ []) body.old }
+    requires other { is_other native ≡ true }
+    requires can { CanAsk plain.now program.now limits.now (Some (meaning native)) (value.now ∷ []) body.old }
     ensures comes { (set : Setting) → set.program ≡ plain.now → set.limits ≡ limits.now → IfOk result (λ came. Comes 0 (native_next set (behind_at 0 body.old) (meaning native) (value.now ∷ [])) body.new came) }
     ensures roomy { OnOk result (RoomyIn program.now body.new.frames) }
     ensures counted { OnOk result (IsNear body.old.count body.new.count) }
     ensures room { IfOk result (λ came. HasRoomFor program.now body.new came) }
 {
     match value {
-        Value::Fiber => ask_of_fiber(alloc, plain, program, native, body),
+        Value::Fiber => ask_of_fiber(alloc, plain, program, limits, native, body),
         value => ask_of_one(alloc, plain, program, limits, native, value, body),
     }
 }
@@ -416,7 +445,8 @@ fn ask_of_any_two(
     requires frames { HasFrames body.old.frames }
     requires roomy { RoomyIn program.now body.old.frames }
     requires counts { body.old.count + 1 < 2 ^ 64 }
-    requires can { CanAsk plain.now program.now (Some (meaning native)) (first.now ∷ second.now ∷ []) body.old }
+    requires other { is_other native ≡ true }
+    requires can { CanAsk plain.now program.now limits.now (Some (meaning native)) (first.now ∷ second.now ∷ []) body.old }
     ensures comes { (set : Setting) → set.program ≡ plain.now → set.limits ≡ limits.now → IfOk result (λ came. Comes 0 (native_next set (behind_at 0 body.old) (meaning native) (first.now ∷ second.now ∷ [])) body.new came) }
     ensures roomy { OnOk result (RoomyIn program.now body.new.frames) }
     ensures counted { OnOk result (IsNear body.old.count body.new.count) }
@@ -424,7 +454,7 @@ fn ask_of_any_two(
 {
     match second {
         Value::Fiber => ask_with_fiber(plain, program, limits, native, first, body),
-        second => ask_of_two(alloc, plain, program, native, first, second, body),
+        second => ask_of_two(alloc, plain, program, limits, native, first, second, body),
     }
 }
 
@@ -442,7 +472,8 @@ fn ask_with(
     requires operands { AreCopies (operands_in body.old.frames) operands.now }
     requires roomy { RoomyIn program.now body.old.frames }
     requires counts { body.old.count + 1 < 2 ^ 64 }
-    requires can { CanAsk plain.now program.now (Some (meaning native)) (operands_in body.old.frames) body.old }
+    requires other { is_other native ≡ true }
+    requires can { CanAsk plain.now program.now limits.now (Some (meaning native)) (operands_in body.old.frames) body.old }
     ensures comes { (set : Setting) → set.program ≡ plain.now → set.limits ≡ limits.now → IfOk result (λ came. Comes 0 (native_next set (behind_at 0 body.old) (meaning native) (operands_in body.old.frames)) body.new came) }
     ensures roomy { OnOk result (RoomyIn program.now body.new.frames) }
     ensures counted { OnOk result (IsNear body.old.count body.new.count) }
@@ -454,7 +485,7 @@ fn ask_with(
         Operands::Two(first, second) => {
             ask_of_any_two(alloc, plain, program, limits, native, first, second, body)
         }
-        Operands::More => Err(NoMemory),
+        Operands::More => unreachable!(),
     }
 }
 
@@ -471,7 +502,8 @@ fn ask_other(
     requires operands { HasOperands body.old.frames }
     requires roomy { RoomyIn program.now body.old.frames }
     requires counts { body.old.count + 1 < 2 ^ 64 }
-    requires can { CanAsk plain.now program.now (Some (meaning native)) (operands_in body.old.frames) body.old }
+    requires other { is_other native ≡ true }
+    requires can { CanAsk plain.now program.now limits.now (Some (meaning native)) (operands_in body.old.frames) body.old }
     ensures comes { (set : Setting) → set.program ≡ plain.now → set.limits ≡ limits.now → IfOk result (λ came. Comes 0 (native_next set (behind_at 0 body.old) (meaning native) (operands_in body.old.frames)) body.new came) }
     ensures roomy { OnOk result (RoomyIn program.now body.new.frames) }
     ensures counted { OnOk result (IsNear body.old.count body.new.count) }
@@ -500,7 +532,7 @@ pub fn ask(
     requires operands { HasOperands body.old.frames }
     requires roomy { RoomyIn code.now.program body.old.frames }
     requires counts { body.old.count + 1 < 2 ^ 64 }
-    requires can { CanAsk code.now.plain code.now.program (native_of code.now.program method) (operands_in body.old.frames) body.old }
+    requires can { CanAsk code.now.plain code.now.program limits.now (native_of code.now.program method) (operands_in body.old.frames) body.old }
     ensures comes { (set : Setting) → set.program ≡ code.now.plain → set.limits ≡ limits.now → IfOk result (λ came. Comes 0 (asks_next set (behind_at 0 body.old) (operands_in body.old.frames) (native_of code.now.program method)) body.new came) }
     ensures roomy { OnOk result (RoomyIn code.now.program body.new.frames) }
     ensures counted { OnOk result (IsNear body.old.count body.new.count) }

@@ -6,7 +6,7 @@ ghost use Rattle.kilim_classes.specs.machine.Natives as native;
 ghost use Rattle.kilim_weaving_laws.specs.woven_kin.Nexts.{member_next, with_result};
 ghost use Rattle.kilim_woven_fiber.specs.Body.{behind_at, operands_in, standing_at, HasFrames, RoomyIn, RoomIn};
 ghost use Rattle.kilim_woven_fiber.specs.Comes.{Comes, HasRoomFor, gives_result};
-ghost use Rattle.kilim_woven_runs.specs.fiber_records.Members.{did, Does};
+ghost use Rattle.kilim_woven_runs.specs.fiber_records.Members.{did, Does, NotDone};
 ghost use Rattle.kilim_woven_runs.specs.fiber_records.natives.Natives.{member_meant};
 
 use crate::body::{Body, Came};
@@ -46,9 +46,9 @@ pub fn pass_with(program: &Program, body: &mut Body, value: Value)
     give(program, frames, value);
 }
 
-// What a member that has the fiber alone does to the records, and its result. One that isn't called so in verified code is answered
-// want of memory.
+// What a member that has the fiber alone does to the records, and its result.
 fn result_of(alloc: Global, member: Member, records: &mut Records) -> Result<Value, NoMemory>
+    requires { did (member_meant member) (a_value.Fiber ∷ []) records.old ≡ NotDone → ⊥ }
     ensures { IfOk result (λ value. did (member_meant member) (a_value.Fiber ∷ []) records.old ≡ Does records.new (Some value)) }
 {
     match member {
@@ -63,24 +63,26 @@ fn result_of(alloc: Global, member: Member, records: &mut Records) -> Result<Val
             Ok(Value::Fiber)
         }
         Member::Up => {
-            let Ok(Some(pauses)) = records.up() else {
+            let Ok(found) = records.up() else {
                 return Err(NoMemory);
             };
+            let Some(pauses) = found else { unreachable!() };
             Ok(Value::Int(i32::from(pauses)))
         }
         Member::Restore => {
             let Some(value) = records.restore() else {
-                return Err(NoMemory);
+                unreachable!()
             };
             Ok(value)
         }
         Member::Receiver => {
-            let Ok(Some(value)) = records.receiver() else {
+            let Ok(found) = records.receiver() else {
                 return Err(NoMemory);
             };
+            let Some(value) = found else { unreachable!() };
             Ok(value)
         }
-        Member::Save | Member::Place => Err(NoMemory),
+        Member::Save | Member::Place => unreachable!(),
     }
 }
 
@@ -93,6 +95,7 @@ fn ask_alone(
 ) -> Result<Came, NoMemory>
     requires roomy { RoomyIn program.now body.old.frames }
     requires room { gives_result (Some (native.OfFiber (member_meant member))) ≡ true → RoomIn program.now body.old.frames }
+    requires done { did (member_meant member) (a_value.Fiber ∷ []) body.old.records ≡ NotDone → ⊥ }
     ensures comes { IfOk result (λ came. Comes 0 (member_next (member_meant member) (a_value.Fiber ∷ []) (behind_at 0 body.old)) body.new came) }
     ensures roomy { OnOk result (RoomyIn program.now body.new.frames) }
     ensures count { OnOk result (body.new.count ≡ body.old.count) }
@@ -145,7 +148,7 @@ fn place(program: &Program, body: &mut Body) -> Result<Came, NoMemory>
     Ok(Came::On)
 }
 
-/// A member. One that isn't called so in verified code is answered want of memory.
+/// A member.
 pub fn ask_member(
     alloc: Global,
     program: &Program,
@@ -155,6 +158,7 @@ pub fn ask_member(
     requires frames { HasFrames body.old.frames }
     requires roomy { RoomyIn program.now body.old.frames }
     requires room { gives_result (Some (native.OfFiber (member_meant member))) ≡ true → RoomIn program.now body.old.frames }
+    requires done { did (member_meant member) (operands_in body.old.frames) body.old.records ≡ NotDone → ⊥ }
     ensures comes { IfOk result (λ came. Comes 0 (member_next (member_meant member) (operands_in body.old.frames) (behind_at 0 body.old)) body.new came) }
     ensures roomy { OnOk result (RoomyIn program.now body.new.frames) }
     ensures count { OnOk result (body.new.count ≡ body.old.count) }

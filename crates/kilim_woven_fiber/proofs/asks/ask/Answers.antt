@@ -18,7 +18,7 @@ returns-in-OfFiber-clause-comes c = λ set is-program is-limits.
     c.ask_member.ensures.comes
 
 pub ask_other-requires-clause-can : goal.ask_other-requires-clause-can
-ask_other-requires-clause-can c = known_by c.args.code.now.plain c.args.code.now.program c.args.body.now (operands_in c.args.body.now.frames) (native_of c.args.code.now.program c.args.method) (meaning c.in-Some.native) c.in-Some.ensures c.requires.can
+ask_other-requires-clause-can c = known_by c.args.code.now.plain c.args.code.now.program c.args.limits.now c.args.body.now (operands_in c.args.body.now.frames) (native_of c.args.code.now.program c.args.method) (meaning c.in-Some.native) c.in-Some.ensures c.requires.can
 
 pub returns-in_default-native : goal.returns-in_default-native
 returns-in_default-native c = record {

@@ -4,17 +4,19 @@ use Rattle.kilim_classes.specs.declared.value.Value.TheVariants.{Fiber}
 use Rattle.kilim_weaving_laws.specs.woven_kin.Nexts.{native_next}
 use Rattle.std.proofs.Common.{Some, ap, sym, subst}
 use Rattle.kilim_woven_fiber.specs.Body.{behind_at}
-use Rattle.kilim_woven_fiber.specs.Comes.{Comes, gives_result}
+use Rattle.kilim_woven_fiber.specs.Comes.{Comes, IsMade, gives_result}
 use Rattle.kilim_woven_runs.specs.fiber_records.natives.Natives.{meaning}
 use Rattle.kilim_woven_runs.specs.declared.fiber_records.natives.natives.Native.{Native}
 use Rattle.kilim_woven_runs.specs.declared.fiber_records.natives.natives.Native.TheVariants as code
 use Rattle.kilim_woven_fiber.proofs.asks.ask_with_fiber.Goals as goal
 
-pub returns-in-Get-Box-clause-comes : goal.returns-in-Get-Box-clause-comes
-returns-in-Get-Box-clause-comes c = λ set is-program is-limits.
-    subst (λ (n : Native). Comes 0 (native_next set (behind_at 0 c.args.body.now) (meaning n) (c.args.value.now ∷ Fiber ∷ [])) c.args.body.now c.takes.result) (sym c.in-Get-Box.is-0)
-    (subst (λ (v : Value). Comes 0 (native_next set (behind_at 0 c.args.body.now) (meaning code.Get) (v ∷ Fiber ∷ [])) c.args.body.now c.takes.result) (sym c.in-Get-Box.is-1)
-    (c.takes.ensures.comes set is-limits))
+pub returns-in-Get-default-clause-comes : goal.returns-in-Get-default-clause-comes
+returns-in-Get-default-clause-comes c = λ set is-program is-limits.
+    subst (λ (n : Native). Comes 0 (native_next set (behind_at 0 c.args.body.now) (meaning n) (c.args.value.now ∷ Fiber ∷ [])) c.args.body.now c.takes.result) (sym c.in-Get-default.is-0)
+    (c.takes.ensures.comes set is-limits)
 
-pub takes-requires : goal.takes-requires
-takes-requires c = c.requires.can.room (ap (λ (n : Native). gives_result (Some (meaning n))) c.in-Get-Box.is-0)
+pub takes-requires-clause-room : goal.takes-requires-clause-room
+takes-requires-clause-room c = c.requires.can.room (ap (λ (n : Native). gives_result (Some (meaning n))) c.in-Get-default.is-0)
+
+pub takes-requires-clause-made : goal.takes-requires-clause-made
+takes-requires-clause-made c = subst (λ (n : Native). IsMade c.args.limits.now (behind_at 0 c.args.body.now) (c.args.value.now ∷ Fiber ∷ []) (Some (meaning n))) c.in-Get-default.is-0 c.requires.can.made

@@ -7,10 +7,5 @@ use Rattle.kilim_woven_fiber.proofs.members.result_of.Goals as goal
 pub returns-in-Ok : goal.returns-in-Ok
 returns-in-Ok c = result_by c.args.member code.Down c.args.records.now _ Fiber _ c.in-Down.is c.in-Ok.ensures refl
 
-pub returns-in-Some : goal.returns-in-Some
-returns-in-Some c = result_by c.args.member code.Restore c.args.records.now _ c.in-Some.value _ c.in-Restore.is c.in-Some.ensures refl
-
-pub returns-in-Ok-Some-receiver : goal.returns-in-Ok-Some-receiver
-returns-in-Ok-Some-receiver c =
-    let told = rw c.in-Ok-Some-receiver.field-0-is at c.in-Ok-Some-receiver.ensures in
-    result_by c.args.member code.Receiver c.args.records.now _ c.in-Ok-Some-receiver.value _ c.in-Receiver.is told refl
+pub returns-in-Some-restore : goal.returns-in-Some-restore
+returns-in-Some-restore c = result_by c.args.member code.Restore c.args.records.now _ c.in-Some-restore.value _ c.in-Restore.is c.in-Some-restore.ensures refl
