@@ -3,3 +3,4 @@ pub mod Asking
 pub mod Reaching
 pub mod Going
 pub mod Rewinding
+mod Called

@@ -22,7 +22,7 @@ use Rattle.kilim_tree_move.specs.Walk.{AllThere}
 use Rattle.kilim_tree_move.specs.Moved.{Fits, CanLeave, IsTooLarge, TakenOut}
 use Rattle.kilim_tree_move.specs.Shaping.{Suits}
 use Rattle.kilim_weaving_laws.specs.woven_kin.Nexts.{Next, Goes, Puts, Gets, Probes, Starts, Prints, Rests, Ends, Stands, asks_next, counted, paused_at, taken_at}
-use Rattle.kilim_woven_fiber.specs.Body.{standing_at, behind_at, RoomIn}
+use Rattle.kilim_woven_fiber.specs.Body.{standing_at, behind_at, HasFrames, RoomIn}
 use Rattle.kilim_woven_fiber.specs.declared.body.Body.{Body}
 use Rattle.kilim_woven_fiber.specs.declared.body.Came.{Came}
 use Rattle.kilim_woven_fiber.specs.declared.body.Came.TheVariants as came
@@ -106,8 +106,11 @@ pub record CanAsk (p W : Program) (limits : Limits) (n : Option Native) (args : 
   pub room : gives_result n ≡ true → RoomIn W b.frames
   pub gives : (root : Root) (m : ℕ) → given n args ≡ Some (root, m) → CanGive p b.heap m
 
--- where it takes or looks for a message, there is room for that
+-- where it takes or looks for a message, there is room for that; and where it asks something it has frames
 abbrev pub HasRoomFor : Program → Body → Came → Type 0
 HasRoomFor W new (came.Takes box) = RoomIn W new.frames
 HasRoomFor W new (came.Probes box) = RoomIn W new.frames
+HasRoomFor W new (came.Puts box tree shape) = HasFrames new.frames
+HasRoomFor W new (came.Starts tree shape) = HasFrames new.frames
+HasRoomFor W new (came.Prints shape) = HasFrames new.frames
 HasRoomFor W new c = Unit {0}

@@ -136,6 +136,7 @@ fn one_token(alloc: Global, token: Token) -> Result<Shape, NoMemory>
 
 // `print`
 fn print(alloc: Global, program: &Program, value: &Value, body: &Body) -> Result<Came, NoMemory>
+    requires frames { HasFrames body.now.frames }
     requires made { printed value.now ≡ None → ⊥ }
     ensures comes { IfOk result (λ came. Comes 0 (print_next (behind_at 0 body.now) (printed value.now)) body.now came) }
     ensures room { IfOk result (λ came. HasRoomFor program.now body.now came) }
@@ -160,6 +161,7 @@ fn put_tree(
     root: u32,
     body: &mut Body,
 ) -> Result<Came, NoMemory>
+    requires frames { HasFrames body.old.frames }
     requires roomy { RoomyIn program.now body.old.frames }
     requires gives { CanGive plain.now body.old.heap root }
     ensures comes { IfOk result (λ came. Comes 0 (put_next (behind_at 0 body.old) mailbox root (shape_of plain.now body.old.heap root)) body.new came) }
@@ -183,6 +185,7 @@ fn put(
     message: &Value,
     body: &mut Body,
 ) -> Result<Came, NoMemory>
+    requires frames { HasFrames body.old.frames }
     requires roomy { RoomyIn program.now body.old.frames }
     requires made { (p : AProgram) × (message_next p (behind_at 0 body.old) mailbox message.now ≡ Stands → ⊥) }
     requires gives { IsGivenBy plain.now body.old.heap message.now }
@@ -206,6 +209,7 @@ fn start(
     root: u32,
     body: &mut Body,
 ) -> Result<Came, NoMemory>
+    requires frames { HasFrames body.old.frames }
     requires roomy { RoomyIn program.now body.old.frames }
     requires gives { CanGive plain.now body.old.heap root }
     ensures comes { IfOk result (λ came. Comes 0 (start_next (behind_at 0 body.old) root (shape_of plain.now body.old.heap root)) body.new came) }

@@ -1,6 +1,6 @@
 //! A body runs up to the next thing that it wants.
 
-ghost use Rattle.std.specs.Prelude.{◌≡◌, ◌≤◌, ◌&&◌, true, IfOk, OnOk};
+ghost use Rattle.std.specs.Prelude.{◌≡◌, ◌≤◌, ◌<◌, ◌^◌, ◌&&◌, true, IfOk, OnOk};
 ghost use Rattle.kilim_woven_fiber.specs.Body.{standing_at, HasFrames, RoomyIn};
 ghost use Rattle.kilim_woven_fiber.specs.Comes.{HasRoomFor};
 ghost use Rattle.kilim_woven_fiber.specs.Legs.{HasGone};
@@ -119,6 +119,7 @@ pub fn reach(
     ensures roomy { OnOk result (RoomyIn code.now.program body.new.frames) }
     ensures counted { OnOk result (body.old.count ≤ body.new.count) }
     ensures most { OnOk result (body.new.count ≤ limits.now.steps) }
+    ensures limit { OnOk result (limits.now.steps < 2 ^ 64) }
 {
     for _ in 0..MOST_LEGS {
         let Ok(came) = leg(alloc, code, limits, main, task, body) else {

@@ -4,13 +4,13 @@ ghost use Rattle.std.specs.Prelude.{◌≡◌, ◌∷◌, [], true, Some, IfOk, 
 ghost use Rattle.kilim_classes.specs.declared.value.Value.TheVariants as a_value;
 ghost use Rattle.kilim_classes.specs.machine.Natives as native;
 ghost use Rattle.kilim_weaving_laws.specs.woven_kin.Nexts.{member_next, with_result};
-ghost use Rattle.kilim_woven_fiber.specs.Body.{behind_at, operands_in, standing_at, HasFrames, RoomyIn, RoomIn};
+ghost use Rattle.kilim_woven_fiber.specs.Body.{behind_at, operands_in, standing_at, HasFrames, HasOperands, RoomyIn, RoomIn};
 ghost use Rattle.kilim_woven_fiber.specs.Comes.{Comes, HasRoomFor, gives_result};
 ghost use Rattle.kilim_woven_runs.specs.fiber_records.Members.{did, Does, NotDone};
 ghost use Rattle.kilim_woven_runs.specs.fiber_records.natives.Natives.{member_meant};
 
 use crate::body::{Body, Came};
-use crate::operands::{is_alone, take_place, take_value};
+use crate::operands::{take_place, take_value};
 use crate::pass::{give, pass};
 use kilim_classes::{Program, Value};
 use kilim_units::NoMemory;
@@ -112,6 +112,8 @@ fn ask_alone(
 fn save(program: &Program, body: &mut Body) -> Result<Came, NoMemory>
     requires frames { HasFrames body.old.frames }
     requires roomy { RoomyIn program.now body.old.frames }
+    requires operands { HasOperands body.old.frames }
+    requires done { did native.Save (operands_in body.old.frames) body.old.records ≡ NotDone → ⊥ }
     ensures comes { IfOk result (λ came. Comes 0 (member_next native.Save (operands_in body.old.frames) (behind_at 0 body.old)) body.new came) }
     ensures roomy { OnOk result (RoomyIn program.now body.new.frames) }
     ensures count { OnOk result (body.new.count ≡ body.old.count) }
@@ -120,9 +122,7 @@ fn save(program: &Program, body: &mut Body) -> Result<Came, NoMemory>
     let Some(frames) = &mut body.frames else {
         unreachable!()
     };
-    let Some(value) = take_value(program, frames) else {
-        return Err(NoMemory);
-    };
+    let value = take_value(program, frames);
     let Ok(()) = body.records.save(value) else {
         return Err(NoMemory);
     };
@@ -130,22 +130,22 @@ fn save(program: &Program, body: &mut Body) -> Result<Came, NoMemory>
 }
 
 // `place`: the receiver is moved off the stack.
-fn place(program: &Program, body: &mut Body) -> Result<Came, NoMemory>
+fn place(program: &Program, body: &mut Body) -> Came
     requires frames { HasFrames body.old.frames }
     requires roomy { RoomyIn program.now body.old.frames }
-    ensures comes { IfOk result (λ came. Comes 0 (member_next native.Place (operands_in body.old.frames) (behind_at 0 body.old)) body.new came) }
-    ensures roomy { OnOk result (RoomyIn program.now body.new.frames) }
-    ensures count { OnOk result (body.new.count ≡ body.old.count) }
-    ensures room { IfOk result (λ came. HasRoomFor program.now body.new came) }
+    requires operands { HasOperands body.old.frames }
+    requires done { did native.Place (operands_in body.old.frames) body.old.records ≡ NotDone → ⊥ }
+    ensures comes { Comes 0 (member_next native.Place (operands_in body.old.frames) (behind_at 0 body.old)) body.new result }
+    ensures roomy { RoomyIn program.now body.new.frames }
+    ensures count { body.new.count ≡ body.old.count }
+    ensures room { HasRoomFor program.now body.new result }
 {
     let Some(frames) = &mut body.frames else {
         unreachable!()
     };
-    let Some((number, receiver)) = take_place(program, frames) else {
-        return Err(NoMemory);
-    };
+    let (number, receiver) = take_place(program, frames);
     body.records.place(number, receiver);
-    Ok(Came::On)
+    Came::On
 }
 
 /// A member.
@@ -158,6 +158,7 @@ pub fn ask_member(
     requires frames { HasFrames body.old.frames }
     requires roomy { RoomyIn program.now body.old.frames }
     requires room { gives_result (Some (native.OfFiber (member_meant member))) ≡ true → RoomIn program.now body.old.frames }
+    requires operands { HasOperands body.old.frames }
     requires done { did (member_meant member) (operands_in body.old.frames) body.old.records ≡ NotDone → ⊥ }
     ensures comes { IfOk result (λ came. Comes 0 (member_next (member_meant member) (operands_in body.old.frames) (behind_at 0 body.old)) body.new came) }
     ensures roomy { OnOk result (RoomyIn program.now body.new.frames) }
@@ -166,15 +167,7 @@ pub fn ask_member(
 {
     match member {
         Member::Save => save(program, body),
-        Member::Place => place(program, body),
-        member => {
-            let Some(frames) = &body.frames else {
-                unreachable!()
-            };
-            if !is_alone(frames) {
-                return Err(NoMemory);
-            }
-            ask_alone(alloc, program, member, body)
-        }
+        Member::Place => Ok(place(program, body)),
+        member => ask_alone(alloc, program, member, body),
     }
 }

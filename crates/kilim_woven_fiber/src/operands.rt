@@ -1,6 +1,6 @@
 //! The operands of a built-in method that is called: they stay on the stack until the fiber goes on behind the call.
 
-ghost use Rattle.std.specs.Prelude.{◌≡◌, ◌<◌, ◌≤◌, ◌^◌, ◌∷◌, [], true, pos, length, slice_get, Some, IfOk, IfSome};
+ghost use Rattle.std.specs.Prelude.{◌≡◌, ◌<◌, ◌≤◌, ◌^◌, ◌∷◌, [], ℕ, pos, length, slice_get, Some, IfOk};
 ghost use Rattle.kilim_classes.specs.declared.value.Value.TheVariants as a_value;
 ghost use Rattle.kilim_machine_parts.specs.frames.Calls.{calls_of, answered};
 ghost use Rattle.kilim_jvm_interp.specs.Step.{AreRoomy};
@@ -56,77 +56,54 @@ pub fn copy_operands(frames: &Frames) -> Result<Operands, NoMemory>
     }
 }
 
-fn is_fiber(value: &Value) -> bool
-    ensures { result ≡ true → value.now ≡ a_value.Fiber }
-{
-    match value {
-        Value::Fiber => true,
-        _ => false,
-    }
-}
-
-// Whether there are so many operands, the fiber the last one.
-fn has_last(frames: &Frames, count: usize) -> bool
-    requires { 0 < count }
-    ensures { result ≡ true → (frames.now.operands ≡ count) × (count ≤ length frames.now.top.stack.values) × (slice_get frames.now.top.stack.values 0 ≡ Some a_value.Fiber) }
-{
-    frames.operands == count
-        && count <= frames.top.stack.len()
-        && is_fiber(frames.top.stack.peek(0))
-}
-
-/// Whether the fiber is the one operand.
-pub fn is_alone(frames: &Frames) -> bool
-    ensures { result ≡ true → operands_of frames.now ≡ a_value.Fiber ∷ [] }
-{
-    has_last(frames, 1)
-}
-
 /// Goes on behind a member that has a value and the fiber. The value leaves the stack.
-pub fn take_value(program: &Program, frames: &mut Frames) -> Option<Value>
-    requires { AreRoomy program.now frames.old }
+pub fn take_value(program: &Program, frames: &mut Frames) -> Value
+    requires roomy { AreRoomy program.now frames.old }
+    requires two { frames.old.operands ≡ 2 }
+    requires there { 2 ≤ length frames.old.top.stack.values }
+    requires last { slice_get frames.old.top.stack.values 0 ≡ Some a_value.Fiber }
     ensures roomy { AreRoomy program.now frames.new }
-    ensures value { IfSome result (λ value. (operands_of frames.old ≡ value ∷ a_value.Fiber ∷ []) × (calls_of frames.new ≡ answered frames.old)) }
+    ensures value { operands_of frames.old ≡ result ∷ a_value.Fiber ∷ [] }
+    ensures calls { calls_of frames.new ≡ answered frames.old }
 {
     let _ = program;
-    if !has_last(frames, 2) {
-        return None;
-    }
     frames.top.stack.drop_top(1);
     let value = frames.top.stack.pop();
     frames.top.pc = frames.next;
-    Some(value)
+    value
 }
 
-// The number that an int is, where it isn't negative.
-fn number_of(value: &Value) -> Option<u32>
-    ensures { IfSome result (λ number. (value.now ≡ a_value.Int (pos number)) × (number < 2 ^ 31)) }
+// The number that an int is, which isn't negative.
+fn number_of(value: &Value) -> u32
+    requires { (n : ℕ) × (value.now ≡ a_value.Int (pos n)) }
+    ensures { (value.now ≡ a_value.Int (pos result)) × (result < 2 ^ 31) }
 {
     match value {
         Value::Int(number) => match u32::try_from(*number) {
-            Ok(number) => Some(number),
-            Err(_) => None,
+            Ok(number) => number,
+            Err(_) => unreachable!(),
         },
-        _ => None,
+        _ => unreachable!(),
     }
 }
 
 /// Goes on behind a member that has a number, a value and the fiber. The value leaves the stack.
-pub fn take_place(program: &Program, frames: &mut Frames) -> Option<(u32, Value)>
-    requires { AreRoomy program.now frames.old }
+pub fn take_place(program: &Program, frames: &mut Frames) -> (u32, Value)
+    requires roomy { AreRoomy program.now frames.old }
+    requires three { frames.old.operands ≡ 3 }
+    requires there { 3 ≤ length frames.old.top.stack.values }
+    requires last { slice_get frames.old.top.stack.values 0 ≡ Some a_value.Fiber }
+    requires first { (n : ℕ) × (slice_get frames.old.top.stack.values 2 ≡ Some (a_value.Int (pos n))) }
     ensures roomy { AreRoomy program.now frames.new }
-    ensures place { IfSome result (λ place. (operands_of frames.old ≡ a_value.Int (pos place.0) ∷ place.1 ∷ a_value.Fiber ∷ []) × (calls_of frames.new ≡ answered frames.old) × (place.0 < 2 ^ 31)) }
+    ensures place { operands_of frames.old ≡ a_value.Int (pos result.0) ∷ result.1 ∷ a_value.Fiber ∷ [] }
+    ensures small { result.0 < 2 ^ 31 }
+    ensures calls { calls_of frames.new ≡ answered frames.old }
 {
     let _ = program;
-    if !has_last(frames, 3) {
-        return None;
-    }
-    let Some(number) = number_of(frames.top.stack.peek(2)) else {
-        return None;
-    };
+    let number = number_of(frames.top.stack.peek(2));
     frames.top.stack.drop_top(1);
     let receiver = frames.top.stack.pop();
     frames.top.stack.drop_top(1);
     frames.top.pc = frames.next;
-    Some((number, receiver))
+    (number, receiver)
 }

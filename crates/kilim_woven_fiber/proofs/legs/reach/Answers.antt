@@ -1,4 +1,4 @@
-use Rattle.std.proofs.Common.{◌≤◌, refl, arith}
+use Rattle.std.proofs.Common.{◌≤◌, refl, arith, rules}
 use Rattle.kilim_woven_fiber.specs.Body.{standing_at}
 use Rattle.kilim_woven_fiber.specs.Reach.{AtFirst}
 use Rattle.kilim_woven_fiber.specs.Steps.{setting_of}
@@ -36,5 +36,6 @@ returns-in_default-came c =
           let a : c.args.body.now.count ≤ c.loop.body.count = c.loop.invariant.counted in
           let m : c.loop.body.count ≤ c.leg.new.body.count = c.in-Ok.ensures.counted in
           omega arith;
+      limit = search rules;
       most = let over = c.if-body-limits.false in omega arith;
     }

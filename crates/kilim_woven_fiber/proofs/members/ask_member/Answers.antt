@@ -1,10 +1,12 @@
-use Rattle.std.proofs.Common.{List, ap, sym, ◌∙◌}
+use Rattle.std.proofs.Common.{◌≡◌, List, ap, sym, subst}
 use Rattle.kilim_classes.specs.declared.value.Value.{Value}
 use Rattle.kilim_weaving_laws.specs.woven_kin.Nexts.{member_next}
 use Rattle.kilim_woven_fiber.specs.Body.{behind_at, operands_in}
 use Rattle.kilim_woven_runs.specs.declared.fiber_records.natives.natives.Member.{Member}
 use Rattle.kilim_woven_runs.specs.fiber_records.natives.Natives.{member_meant}
 use Rattle.kilim_woven_fiber.proofs.Asking.{come_by}
+use Rattle.kilim_woven_fiber.proofs.Called.{alone_args}
+use Rattle.kilim_woven_runs.specs.fiber_records.Members.{NotDone, did}
 use Rattle.kilim_woven_fiber.proofs.members.ask_member.Goals as goal
 
 pub returns-in-Save : goal.returns-in-Save
@@ -16,20 +18,17 @@ returns-in-Save c = record {
   room = c.save.ensures.room;
 }
 
-pub returns-in-Place : goal.returns-in-Place
-returns-in-Place c = record {
-  comes =
-      come_by 0 c.place.new.body c.place.result _ _ (ap (λ (m : Member). member_next (member_meant m) (operands_in c.args.body.now.frames) (behind_at 0 c.args.body.now)) (sym c.in-Place.is)) c.place.ensures.comes;
-  roomy = c.place.ensures.roomy;
-  count = c.place.ensures.count;
-  room = c.place.ensures.room;
-}
+pub ask_alone-requires-clause-done : goal.ask_alone-requires-clause-done
+ask_alone-requires-clause-done c =
+    let args = alone_args c.args.member (operands_in c.args.body.now.frames) c.args.body.now.records c.in_default.not-Save c.in_default.not-Place c.requires.done in
+    subst (λ (z : List Value). did (member_meant c.args.member) z c.args.body.now.records ≡ NotDone → ⊥) args c.requires.done
 
-pub returns-else-not-is_alone : goal.returns-else-not-is_alone
-returns-else-not-is_alone c = record {
+pub returns-in_default : goal.returns-in_default
+returns-in_default c = record {
   comes =
       come_by 0 c.ask_alone.new.body c.ask_alone.result _ _
-      (ap (λ (args : List Value). member_next (member_meant c.args.member) args (behind_at 0 c.args.body.now)) (sym (ap operands_in c.in-Some.is ∙ c.is_alone.ensures c.if-not-is_alone.false))) c.ask_alone.ensures.comes;
+      (ap (λ (args : List Value). member_next (member_meant c.args.member) args (behind_at 0 c.args.body.now)) (sym (alone_args c.args.member (operands_in c.args.body.now.frames) c.args.body.now.records c.in_default.not-Save c.in_default.not-Place c.requires.done)))
+      c.ask_alone.ensures.comes;
   roomy = c.ask_alone.ensures.roomy;
   count = c.ask_alone.ensures.count;
   room = c.ask_alone.ensures.room;
