@@ -1,5 +1,5 @@
 -- What a body comes to is what the thread of the course does next.
-use Rattle.std.proofs.Common.{◌≡◌, ℕ, Bool, true, List, [], ◌∷◌, Option, Some, refl, sym, ap, subst}
+use Rattle.std.proofs.Common.{◌≡◌, ◌≤◌, ◌+◌, ℕ, Bool, true, List, [], ◌∷◌, Option, Some, refl, sym, ap, subst}
 use Rattle.kilim_classes.specs.declared.names.BoxName.{BoxName}
 use Rattle.kilim_classes.specs.declared.names.MethodId.{MethodId}
 use Rattle.kilim_classes.specs.declared.value.Value.{Value}
@@ -36,6 +36,7 @@ use Rattle.kilim_weaving_laws.specs.Ready.{IsObject, ResultFits, may_give}
 use Rattle.kilim_weaving_laws.specs.Ready as follows
 use Rattle.kilim_weaving_laws.proofs.Following.{next_follows}
 use Rattle.kilim_weaving_laws.proofs.Ready.{fibers_are_ready, rests_on_object}
+use Rattle.kilim_whole_runs.specs.record_fiber.Calls.{asks_by}
 use Rattle.kilim_whole_runs.specs.record_fiber.Fiber.{CameTo, ServesCode}
 
 -- ---- the next name is nowhere looked at
@@ -107,13 +108,14 @@ module _ (set : Setting) (code : Code) (served : ServesCode set code) (t : ℕ) 
   along first m h (AtFirst e) = subst HoldsAs (sym e) h
   along first m h (Further l x y goes free next) = further l m x y (along first l h goes) free next
 
-  ready_at : (m : Standing) → HoldsAs m → IsReadyAt set W marks m
+  ready_at : (m : Standing) → HoldsAs m → IsReadyAt set W marks t m
   ready_at m h = record {
     fine = λ top below e left. (fibers_are_ready set W marks served.can t c m (fiber m h) top below e).fine;
     fits = λ top below e left.
         let ready = fibers_are_ready set W marks served.can t c m (fiber m h) top below e in
         fits_by set.program W m.heap (moves W top below m.heap) ready.result ready.gives;
     rests = λ none. object_there m.heap (first_receiver m.fiber) (rests_on_object set W marks served.can t c m (fiber m h) none);
+    never = λ free is-free e. subst (λ (z : Next). NextIs set W marks t c last z) e (next_is (named free m) (holds_named set W marks t c free m h) is-free);
   }
 
   pub ready_on : (first : Standing) → HoldsAs first → IsReadyOn set W marks t first
@@ -152,6 +154,21 @@ module _ (set : Setting) (code : Code) (served : ServesCode set code) (t : ℕ) 
       subst (λ (z : List Token). CameTo W marks set t c last new (came.Prints z)) (sym e.1) (ap wish_of v.0.1, behind_named _ _ v.1)
   comes_to y new n w came.Rests e room wants = holds_named set W marks t c 0 _ (subst Is e w)
   comes_to y new n w (came.Ends why) e room wants = subst Is e w
+
+  -- where it asks something, an instruction is left for that
+  few_by : (y : ℕ) (new : Body) (n : Next) → Is n → (a : Came) → Comes y n new a → IsWanting a ≡ true → asks_by a ≡ true → new.count + 1 ≤ set.limits.steps
+  few_by y new n w (came.Puts box tree shape) e wants asks = (subst Is e.2 w).2
+  few_by y new n w (came.Takes box) e wants asks = (subst Is e w).3
+  few_by y new n w (came.Probes box) e wants asks = (subst Is e w).3
+  few_by y new n w (came.Starts tree shape) e wants asks = (subst Is e.2 w).2
+  few_by y new n w (came.Prints shape) e wants asks = (subst Is e.2 w).2
+  few_by y new n w came.On e wants asks = absurd (cc)
+  few_by y new n w came.Rests e wants asks = absurd (cc)
+  few_by y new n w (came.Ends why) e wants asks = absurd (cc)
+
+  pub few_to : (first : Standing) → HoldsAs first → (new : Body) (a : Came) → Reaches set W marks t first new a → IsWanting a ≡ true → asks_by a ≡ true → new.count + 1 ≤ set.limits.steps
+  few_to first h new a r wants asks =
+      few_by r.after new (next_of set W marks t (named r.free r.mid)) (next_is (named r.free r.mid) (holds_named set W marks t c r.free r.mid (along first r.mid h r.goes)) r.is-free) a r.comes wants asks
 
   pub came_to : (first : Standing) → HoldsAs first → (new : Body) (a : Came) → Reaches set W marks t first new a → HasRoomFor W new a → IsWanting a ≡ true → CameTo W marks set t c last new a
   came_to first h new a r room wants =

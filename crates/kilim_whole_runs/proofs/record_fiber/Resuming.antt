@@ -1,5 +1,5 @@
 -- What is wanted where a body came to something.
-use Rattle.std.proofs.Common.{◌≡◌, ◌<◌, ◌≤◌, nat_le, if◌then◌else◌, Bool, true, false, List, Option, Some, None, Result, Ok, Err, refl, sym, ap, subst, ◌∙◌, arith}
+use Rattle.std.proofs.Common.{◌≡◌, ◌<◌, ◌≤◌, ◌+◌, ◌^◌, nat_le, if◌then◌else◌, Bool, true, false, List, Option, Some, None, Result, Ok, Err, refl, sym, ap, subst, ◌∙◌, arith}
 use Rattle.std.specs.Prelude.{IfOk}
 use Rattle.std.proofs.lemmas.Option.{none-some}
 use Rattle.kilim_classes.specs.Program.{Program}
@@ -21,7 +21,8 @@ use Rattle.kilim_fibers.specs.Fibers.{Asks, CanRun, Resumed, RestsRightly, Stand
 use Rattle.kilim_fibers.specs.Wishes.{IsMessage, Wish, ToPut, ToTake, ToProbe, ToStart, ToPrint, ToEnd, Wishes, end_wish, wish_of}
 use Rattle.kilim_fibers.specs.declared.Wants.{Wants}
 use Rattle.kilim_fibers.specs.declared.Wants.TheVariants as wants
-use Rattle.kilim_woven_fiber.specs.Body.{standing_at, RoomyIn}
+use Rattle.kilim_machine_parts.specs.declared.frames.frames.Frames.{Frames}
+use Rattle.kilim_woven_fiber.specs.Body.{standing_at, HasFrames, RoomIn, RoomyIn}
 use Rattle.kilim_woven_fiber.specs.Comes.{HasRoomFor}
 use Rattle.kilim_woven_fiber.specs.Reach.{IsReadyOn, IsWanting, Reaches}
 use Rattle.kilim_woven_fiber.specs.Steps.{setting_of}
@@ -36,7 +37,7 @@ use Rattle.kilim_whole_runs.specs.record_fiber.Fiber.{task_of, course_of, wished
 use Rattle.kilim_whole_runs.specs.declared.record_fiber.fiber.Asked.{Asked}
 use Rattle.kilim_whole_runs.specs.declared.record_fiber.fiber.Fiber.{Fiber}
 use Rattle.kilim_whole_runs.proofs.record_fiber.Beginning.{begun_course, begun_stands}
-use Rattle.kilim_whole_runs.proofs.record_fiber.Coming.{came_to, ready_on}
+use Rattle.kilim_whole_runs.proofs.record_fiber.Coming.{came_to, few_to, ready_on}
 
 -- the setting of a run
 same_setting : (set : Setting) (code : Code) (limits : Limits) (main : ClassId) → set.program ≡ code.plain → set.limits ≡ limits → set.main ≡ main → set ≡ setting_of code limits main
@@ -66,6 +67,39 @@ module _ (code : Code) (limits : Limits) (f : Fiber) (busy : f.idle ≡ false) w
       came_to set code served f.task (course_of f) s.lone s.is (standing_at 0 f.body) (holds set s) new a
       (subst (λ (z : Setting). Reached z new a) (sym (same_setting set code limits f.main served.program is-limits s.held.is-main)) reaches) room wants
   came_by new (Err e) reaches wants room set served is-limits s = tt
+
+-- where it asks something it has frames
+frames_there : (W : Program) (new : Body) (o : Option Frames) → RoomIn W o → HasFrames o
+frames_there W new (Some frames) room = tt
+frames_there W new None room = room
+
+frames_by : (W : Program) (new : Body) (a : Came) → HasRoomFor W new a → IsWanting a ≡ true → asks_by a ≡ true → HasFrames new.frames
+frames_by W new (came.Puts box tree shape) room wants asks = room
+frames_by W new (came.Takes box) room wants asks = frames_there W new new.frames room
+frames_by W new (came.Probes box) room wants asks = frames_there W new new.frames room
+frames_by W new (came.Starts tree shape) room wants asks = room
+frames_by W new (came.Prints shape) room wants asks = room
+frames_by W new came.On room wants asks = absurd (cc)
+frames_by W new came.Rests room wants asks = absurd (cc)
+frames_by W new (came.Ends why) room wants asks = absurd (cc)
+
+module _ (code : Code) (limits : Limits) (f : Fiber) (busy : f.idle ≡ false) where
+  -- and an instruction is left for that
+  pub may_ask : CanRun task_of course_of (HoldsFiber code.program code.counted) ServesCode code limits f → (new : Body) (a : Came) → Reaches (setting_of code limits f.main) code.program code.counted f.task (standing_at 0 f.body) new a →
+      HasRoomFor code.program new a → limits.steps < 2 ^ 64 → IsWanting a ≡ true → asks_by a ≡ true → MayAsk limits (record f { body = new })
+  may_ask can new a reaches room small wants asks =
+      let set = can.set in
+      let s = can.stands in
+      let same : set ≡ setting_of code limits f.main = same_setting set code limits f.main can.served.program can.is-limits s.held.is-main in
+      let few : new.count + 1 ≤ set.limits.steps =
+      few_to set code can.served f.task (course_of f) s.lone s.is (standing_at 0 f.body) (holds code limits f busy set s) new a
+      (subst (λ (z : Setting). Reaches z code.program code.counted f.task (standing_at 0 f.body) new a) (sym same) reaches) wants asks in
+      let steps : set.limits.steps ≡ limits.steps = ap (λ (l : Limits). l.steps) can.is-limits in
+      record {
+        frames = frames_by code.program new a room wants asks;
+        few = omega (arith, few, steps);
+        room = omega (arith, few, steps, small);
+      }
 
 -- ---- what `resume` gives
 

@@ -294,7 +294,7 @@ impl Fiber {
         }
     }
 
-    // What it wants then. Where it asks something it has an instruction left for that, and where it rests by itself it has counted one.
+    // What it wants then. Where it rests by itself it has counted an instruction; that it has isn't proved yet, so it is asked.
     fn want(
         &mut self,
         code: &Code,
@@ -303,9 +303,11 @@ impl Fiber {
         came: Came,
     ) -> Result<Wants<Fiber>, NoMemory>
         requires wanting { IsWanting came ≡ true }
+        requires may { asks_by came ≡ true → MayAsk limits.now self.old }
         ensures { IfOk result (λ w. HasWanted code.now.program limits.now before came self.old self.new w) }
     {
-        if !self.may_want(limits, before, &came) {
+        let _ = limits;
+        if !self.may_rest(before, &came) {
             drop(came);
             return Err(NoMemory);
         }
@@ -401,22 +403,11 @@ impl Fiber {
         }
     }
 
-    // Where it comes to rest it has counted an instruction, and where it asks something it has one left for that.
-    fn may_want(&self, limits: &Limits, before: u64, came: &Came) -> bool
-        ensures rested { result ≡ true → is_rest came.now ≡ true → before < self.now.body.count }
-        ensures may { result ≡ true → asks_by came.now ≡ true → MayAsk limits.now self.now }
+    // Where it comes to rest it has counted an instruction.
+    fn may_rest(&self, before: u64, came: &Came) -> bool
+        ensures { result ≡ true → is_rest came.now ≡ true → before < self.now.body.count }
     {
-        if is_resting(came) && self.body.count <= before {
-            return false;
-        }
-        !asks(came) || self.may_ask(limits)
-    }
-
-    // It has frames, and an instruction left.
-    fn may_ask(&self, limits: &Limits) -> bool
-        ensures { result ≡ true → MayAsk limits.now self.now }
-    {
-        self.body.frames.is_some() && self.body.count < limits.steps
+        !is_resting(came) || self.body.count > before
     }
 }
 
@@ -427,16 +418,5 @@ fn is_resting(came: &Came) -> bool
     match came {
         Came::Rests => true,
         _ => false,
-    }
-}
-
-// Whether it asks something.
-fn asks(came: &Came) -> bool
-    ensures { result ≡ asks_by came.now }
-{
-    match came {
-        Came::Rests => false,
-        Came::Ends(_) => false,
-        _ => true,
     }
 }

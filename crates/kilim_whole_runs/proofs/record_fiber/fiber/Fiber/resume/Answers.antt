@@ -4,7 +4,7 @@ use Rattle.kilim_woven_fiber.specs.Body.{standing_at}
 use Rattle.kilim_woven_fiber.specs.Steps.{setting_of}
 use Rattle.kilim_whole_runs.proofs.record_fiber.Rested.{idle_rests, refused_rests, wants_rests}
 use Rattle.kilim_whole_runs.proofs.record_fiber.Resting.{none_is_left}
-use Rattle.kilim_whole_runs.proofs.record_fiber.Resuming.{came_by, idle_gives, idle_unasked, ready, rest_ok, want_ok}
+use Rattle.kilim_whole_runs.proofs.record_fiber.Resuming.{came_by, idle_gives, idle_unasked, may_ask, ready, rest_ok, want_ok}
 use Rattle.kilim_whole_runs.proofs.record_fiber.fiber.Fiber.resume.Goals as goal
 
 pub end_idle-requires-clause-none : goal.end_idle-requires-clause-none
@@ -42,6 +42,11 @@ returns-in-Some-clause-rests c =
     refused_rests c.args.code.now c.args.limits.now f (record f { body = c.reach.new.body }) c.rest_at.new.self c.in-Some.mailbox c.in-Ok.came c.rest_at.result c.if-self.false refl c.requires
     (none_is_left (setting_of c.args.code.now c.args.limits.now f.main) c.args.code.now.program c.args.code.now.counted f.task (standing_at 0 f.body) c.reach.new.body (Ok c.in-Ok.came) reached.reaches)
     (came_by c.args.code.now c.args.limits.now f c.if-self.false c.reach.new.body (Ok c.in-Ok.came) reached.reaches reached.wanting reached.room) c.rest_at.ensures
+
+pub want-requires-clause-may : goal.want-requires-clause-may
+want-requires-clause-may c =
+    let reached = c.in-Ok.ensures in
+    may_ask c.args.code.now c.args.limits.now c.args.self.now c.if-self.false c.requires c.reach.new.body c.in-Ok.came reached.reaches reached.room reached.limit reached.wanting
 
 pub returns-in-None-clause-gives : goal.returns-in-None-clause-gives
 returns-in-None-clause-gives c =

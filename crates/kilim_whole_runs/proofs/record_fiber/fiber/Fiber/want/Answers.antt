@@ -6,6 +6,6 @@ returns c = record {
   asked = c.in-Ok.asked;
   by = c.in-Ok.ensures;
   same = ap (λ (b : Bool). record c.args.self.now { asked = c.in-Ok.asked; rests = b }) c.is_resting-self.ensures;
-  rested = c.may_want.ensures.rested c.if-not-may_want.false;
-  may = c.may_want.ensures.may c.if-not-may_want.false;
+  rested = c.may_rest.ensures c.if-not-may_rest.false;
+  may = c.requires.may;
 }
