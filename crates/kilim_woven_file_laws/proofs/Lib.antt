@@ -8,3 +8,4 @@ pub mod Parts
 pub mod Annotated
 pub mod Sizes
 pub mod Texts
+pub mod Views

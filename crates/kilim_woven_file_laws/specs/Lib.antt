@@ -3,6 +3,7 @@ pub mod Descriptors
 pub mod Resolving
 pub mod Standing
 pub mod Laws
+pub mod Views
 pub mod form
 pub mod pool
 pub mod link_examples

@@ -8,11 +8,18 @@ pub mod pool;
 ghost use Rattle.kilim_woven_file_laws.specs.Descriptors.{DescriptorsApart};
 ghost use Rattle.kilim_woven_file_laws.specs.Laws.{CodeIsReadBack, FramesAreReadBack, MethodsLinkAgain, ParametersAreMore, PlainMethodsAreFound};
 
+ghost use Rattle.kilim_woven_file_laws.specs.Views.{ViewsStay};
+
 use kilim_link_spec::decoded_is_decode;
 
 /// A law, and no work: no two descriptors get one with the fiber, and none in plain form has it.
 pub fn descriptors_are_apart()
     ensures { DescriptorsApart }
+{}
+
+/// A law, and no work: what a class shows of itself is the same in woven form, but for the descriptors of the methods that pause.
+pub fn views_stay()
+    ensures { ViewsStay }
 {}
 
 /// A law, and no work: a method is found in woven form where it was found before, with the fiber where it pauses.

@@ -104,6 +104,9 @@ class_name : (old : List Entry) (name : ℕ) → refers_well old (Class name) �
 unfolding refers_well
 class_name old name h = h
 
+pub class_named : (old : List Entry) (name : ℕ) → refers_well old (Class name) ≡ true → (units : List ℕ) × (entry_at old name ≡ Some (Utf8 units))
+class_named old name h = utf8_there (entry_at old name) (class_name old name h)
+
 pair_names : (old : List Entry) (n d : ℕ) → refers_well old (NameAndType n d) ≡ true → (is_utf8 (entry_at old n) && is_utf8 (entry_at old d)) ≡ true
 unfolding refers_well
 pair_names old n d h = h
