@@ -12,7 +12,7 @@ use Rattle.kilim_weaving_laws.specs.woven_kin.Alike.{makes_at}
 use Rattle.kilim_woven_fiber.specs.Body.{calls_in, standing_at}
 use Rattle.kilim_woven_fiber.specs.Comes.{Comes}
 use Rattle.kilim_woven_fiber.specs.Legs.{ComesTo}
-use Rattle.kilim_woven_fiber.specs.Reach.{GoesTo, AtFirst, Further, IsWanting, Reaches, HasReached}
+use Rattle.kilim_woven_fiber.specs.Reach.{GoesTo, AtFirst, Further, IsReadyOn, IsWanting, Reaches, HasReached}
 use Rattle.kilim_woven_fiber.specs.declared.body.Body.{Body}
 use Rattle.kilim_woven_fiber.specs.declared.body.Came.{Came}
 use Rattle.kilim_woven_fiber.specs.declared.body.Came.TheVariants as came
@@ -63,6 +63,12 @@ rests_next set W marks t b none = record {
   where
     not_both : false ≡ true → ⊥
     not_both e = cc
+
+-- and it has an `execute` to go on with
+pub rests_made : (set : Setting) (W : Program) (marks : List (List Bool)) (t : ℕ) (b : Body) → b.frames ≡ None → IsReadyOn set W marks t (standing_at 0 b) → executes_on W b.heap (first_receiver b.records) ≡ None → ⊥
+rests_made set W marks t b none ready e =
+    let r = rests_next set W marks t b none in
+    (ready r.mid r.goes).never r.free r.is-free (r.is ∙ ap (resumes_next W (standing_at 0 b)) e)
 
 -- ---- what it comes to
 

@@ -1,6 +1,6 @@
 //! What a fiber runs: its frames, or its records where it rests, its heap and its counts. It runs up to the next thing that it wants.
 
-ghost use Rattle.std.specs.Prelude.{◌≡◌, ◌<◌, ◌+◌, ◌^◌, ◌∷◌, [], ℕ, None, Some, IfOk, IfSome, OnOk};
+ghost use Rattle.std.specs.Prelude.{◌≡◌, ◌<◌, ◌+◌, ◌^◌, ◌∷◌, [], ℕ, None, Some, IfOk, OnOk};
 ghost use Rattle.kilim_classes.specs.declared.names.MethodId.{MethodId};
 ghost use Rattle.kilim_classes.specs.declared.value.Value.TheVariants as a_value;
 ghost use Rattle.kilim_classes.specs.machine.Moves.{entered};
@@ -148,17 +148,21 @@ fn left(program: &Program, body: &mut Body) -> Came
 }
 
 // The method `execute` of the object that a receiver is.
-fn execute_for(code: &Code, heap: &Heap, receiver: &Value) -> Option<MethodId>
-    requires { ReceiverThere heap.now receiver.now }
-    ensures { IfSome result (λ method. executes_on code.now.program heap.now receiver.now ≡ Some method) }
+fn execute_for(code: &Code, heap: &Heap, receiver: &Value) -> MethodId
+    requires there { ReceiverThere heap.now receiver.now }
+    requires made { executes_on code.now.program heap.now receiver.now ≡ None → ⊥ }
+    ensures { executes_on code.now.program heap.now receiver.now ≡ Some result }
 {
     let Value::Ref(name) = receiver else {
-        return None;
+        unreachable!()
     };
     let Base::Class(class) = heap.class(*name).base else {
-        return None;
+        unreachable!()
     };
-    code.execute(class)
+    let Some(method) = code.execute(class) else {
+        unreachable!()
+    };
+    method
 }
 
 // The frames of the method `execute` of a receiver, which is handed the fiber.
@@ -168,14 +172,12 @@ fn execute_frames(
     heap: &Heap,
     receiver: Value,
 ) -> Result<Frames, NoMemory>
-    requires { ReceiverThere heap.now receiver }
+    requires there { ReceiverThere heap.now receiver }
+    requires made { executes_on code.now.program heap.now receiver ≡ None → ⊥ }
     ensures frames { IfOk result (λ frames. (method : MethodId) × (executes_on code.now.program heap.now receiver ≡ Some method) × (calls_of frames ≡ entered code.now.program method (receiver ∷ a_value.Fiber ∷ []) ∷ [])) }
     ensures roomy { IfOk result (λ frames. AreRoomy code.now.program frames) }
 {
-    let Some(method) = execute_for(code, heap, &receiver) else {
-        drop(receiver);
-        return Err(NoMemory);
-    };
+    let method = execute_for(code, heap, &receiver);
     let Ok(args) = receiver_with_fiber(alloc, receiver) else {
         return Err(NoMemory);
     };
@@ -192,6 +194,7 @@ fn stand_at(frames: Frames, body: &mut Body)
 /// Where it rests it goes on with `execute`, and rewinds.
 pub(crate) fn rewind(alloc: Global, code: &Code, body: &mut Body) -> Result<Came, NoMemory>
     requires there { ReceiverThere body.old.heap (first_receiver body.old.records) }
+    requires made { executes_on code.now.program body.old.heap (first_receiver body.old.records) ≡ None → ⊥ }
     ensures comes { IfOk result (λ came. Comes 0 (resumes_next code.now.program (standing_at 0 body.old) (executes_on code.now.program body.old.heap (first_receiver body.old.records))) body.new came) }
     ensures roomy { OnOk result (RoomyIn code.now.program body.new.frames) }
     ensures counted { OnOk result (IsNear body.old.count body.new.count) }

@@ -11,7 +11,7 @@ use kilim_classes::{ClassId, MethodId, Program};
 use kilim_marked_runs::Places;
 use kilim_units::{NoMemory, Seq};
 use kilim_woven_runs::fiber_records::natives::{
-    Native, execute_at, execute_table, native_at, native_table,
+    Native, execute_at, execute_of, execute_table, native_at, native_table,
 };
 use std::alloc::Global;
 
@@ -95,8 +95,18 @@ impl Code {
         native_at(self.natives.as_slice(), method)
     }
 
-    /// The method `execute` that objects of a class have.
+    /// The method `execute` that objects of a class have. Where the table has none it is looked for.
     pub(crate) fn execute(&self, class: ClassId) -> Option<MethodId>
+        ensures { result ≡ execute_of self.now.program class }
+    {
+        match self.told(class) {
+            Some(method) => Some(method),
+            None => execute_of(&self.program, class),
+        }
+    }
+
+    // What the table has.
+    fn told(&self, class: ClassId) -> Option<MethodId>
         ensures { IfSome result (λ method. execute_of self.now.program class ≡ Some method) }
     {
         execute_at(self.executes.as_slice(), class)

@@ -1,4 +1,5 @@
-use Rattle.std.proofs.Common.{sym, subst}
+use Rattle.std.proofs.Common.{◌≡◌, None, sym, subst}
+use Rattle.kilim_woven_runs.specs.Fibers.{executes_on}
 use Rattle.kilim_classes.specs.declared.value.Value.{Value}
 use Rattle.kilim_woven_fiber.specs.Body.{RoomyIn}
 use Rattle.kilim_woven_fiber.specs.Steps.{ReceiverThere}
@@ -6,8 +7,11 @@ use Rattle.kilim_woven_fiber.specs.declared.body.Body.{Body}
 use Rattle.kilim_woven_fiber.proofs.Rewinding.{goes_on}
 use Rattle.kilim_woven_fiber.proofs.body.rewind.Goals as goal
 
-pub execute_frames-requires : goal.execute_frames-requires
-execute_frames-requires c = subst (λ (v : Value). ReceiverThere c.args.body.now.heap v) (sym c.in-Ok.ensures) c.requires.there
+pub execute_frames-requires-clause-there : goal.execute_frames-requires-clause-there
+execute_frames-requires-clause-there c = subst (λ (v : Value). ReceiverThere c.args.body.now.heap v) (sym c.in-Ok.ensures) c.requires.there
+
+pub execute_frames-requires-clause-made : goal.execute_frames-requires-clause-made
+execute_frames-requires-clause-made c = subst (λ (v : Value). executes_on c.args.code.now.program c.args.body.now.heap v ≡ None → ⊥) (sym c.in-Ok.ensures) c.requires.made
 
 pub returns-clause-comes : goal.returns-clause-comes
 returns-clause-comes c =

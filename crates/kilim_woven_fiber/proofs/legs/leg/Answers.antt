@@ -6,13 +6,16 @@ use Rattle.kilim_woven_fiber.specs.Legs.{HasGone}
 use Rattle.kilim_woven_fiber.specs.Reach.{AtFirst}
 use Rattle.kilim_woven_fiber.specs.Steps.{setting_of}
 use Rattle.kilim_woven_fiber.specs.declared.body.Came.TheVariants as came
-use Rattle.kilim_woven_fiber.proofs.Reaching.{came_next, came_ok, rests_next}
+use Rattle.kilim_woven_fiber.proofs.Reaching.{came_next, came_ok, rests_made, rests_next}
 use Rattle.kilim_woven_fiber.proofs.legs.leg.Goals as goal
 
 -- ---- where it rests
 
 pub rewind-requires : goal.rewind-requires
-rewind-requires c = record { there = (c.requires.ready (standing_at 0 c.args.body.now) (AtFirst refl)).rests (ap calls_in c.in_default.is) }
+rewind-requires c = record {
+  there = (c.requires.ready (standing_at 0 c.args.body.now) (AtFirst refl)).rests (ap calls_in c.in_default.is);
+  made = rests_made (setting_of c.args.code.now c.args.limits.now c.args.main) c.args.code.now.program c.args.code.now.counted c.args.task c.args.body.now c.in_default.is c.requires.ready;
+}
 
 pub returns-in_default-clause-reached : goal.returns-in_default-clause-reached
 returns-in_default-clause-reached c =
