@@ -9,3 +9,5 @@ pub mod Annotated
 pub mod Sizes
 pub mod Texts
 pub mod Views
+pub mod Worlds
+pub mod BuiltIns

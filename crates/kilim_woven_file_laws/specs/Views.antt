@@ -1,11 +1,15 @@
 -- What a class shows of itself is the same in woven form, but for the descriptors of the methods that pause.
-use Rattle.std.specs.Prelude.{◌≡◌, List, [], ◌∷◌}
+use Rattle.std.specs.Prelude.{◌≡◌, ◌<◌, ℕ, List, [], ◌∷◌, length, map}
+use Rattle.std.specs.List.{AllByRecursion}
+use Rattle.kilim_classes.specs.declared.names.ClassId.{ClassId}
 use Rattle.kilim_classes.specs.Program.{Program}
 use Rattle.kilim_classfile.specs.declared.class_file.ClassFile.{ClassFile}
 use Rattle.kilim_classfile.specs.declared.class_file.MemberInfo.{MemberInfo}
 use Rattle.kilim_classfile.specs.Text.{PartsFit}
 use Rattle.kilim_link_spec.specs.declared.view.ClassView.{ClassView}
-use Rattle.kilim_link_spec.specs.World.{is_pausable, view_of_file}
+use Rattle.kilim_link_spec.specs.World.{World, declared_fields, declared_methods, field_in, first_field, first_found, first_method, built_ins, is_pausable, view_of_built_in, view_of_file}
+use Rattle.kilim_classes.specs.BuiltIn.{built_in_classes_in}
+use Rattle.kilim_classes.specs.declared.class.Form.TheVariants.{Plain, Woven}
 use Rattle.kilim_woven_sizes.specs.file_laws.form.Texts.{woven_descriptor}
 use Rattle.kilim_woven_sizes.specs.file_laws.form.WovenFile.{MethodPair, woven_file}
 use Rattle.kilim_woven_file_laws.specs.Members.{AllSame}
@@ -28,3 +32,29 @@ PairsAre file _ _ = ⊥
 
 abbrev pub ViewsStay : Type 0
 ViewsStay = (w : Program) (file : ClassFile) (xs : List MethodPair) → PartsFit file → PairsAre file file.methods xs → SameView (view_of_file file) (view_of_file (woven_file w file xs))
+
+-- ---- of all classes
+
+-- each class of a list shows the same as that of its number in the other list, which may have more behind them
+abbrev pub AllViews : List ClassView → List ClassView → Type 0
+AllViews [] vs = Unit {0}
+AllViews (u ∷ us) [] = ⊥
+AllViews (u ∷ us) (v ∷ vs) = SameView u v × AllViews us vs
+
+-- the members of a class have the same numbers, and are the same but for the fiber
+pub record SameMembers (u v : World) (c : ClassId) : Type 0 where
+  pub method_numbers : first_method v c ≡ first_method u c
+  pub field_numbers : first_field v c ≡ first_field u c
+  pub methods : AllSame woven_descriptor (declared_methods u c) (declared_methods v c)
+  pub fields : declared_fields v c ≡ declared_fields u c
+
+abbrev pub MembersStay : Type 0
+MembersStay = (u v : World) → AllViews u.classes v.classes → (c : ClassId) → c.0 < length u.classes → SameMembers u v c
+
+-- a field or a method is found where it was
+abbrev pub FieldsAreFound : Type 0
+FieldsAreFound = (u v : World) → AllViews u.classes v.classes → (cs : List ClassId) → AllByRecursion (λ (c : ClassId). c.0 < length u.classes) cs → (name descriptor : List ℕ) → first_found (field_in v name descriptor) cs ≡ first_found (field_in u name descriptor) cs
+
+-- The built-in classes show the same in woven form, but for the fiber; `kilim/Fiber` stands behind them.
+abbrev pub BuiltInsStay : Type 0
+BuiltInsStay = AllViews (map (view_of_built_in (built_ins Plain)) (built_in_classes_in Plain 0 0)) (map (view_of_built_in (built_ins Woven)) (built_in_classes_in Woven 0 0))

@@ -8,7 +8,7 @@ pub mod pool;
 ghost use Rattle.kilim_woven_file_laws.specs.Descriptors.{DescriptorsApart};
 ghost use Rattle.kilim_woven_file_laws.specs.Laws.{CodeIsReadBack, FramesAreReadBack, MethodsLinkAgain, ParametersAreMore, PlainMethodsAreFound};
 
-ghost use Rattle.kilim_woven_file_laws.specs.Views.{ViewsStay};
+ghost use Rattle.kilim_woven_file_laws.specs.Views.{BuiltInsStay, FieldsAreFound, MembersStay, ViewsStay};
 
 use kilim_link_spec::decoded_is_decode;
 
@@ -20,6 +20,21 @@ pub fn descriptors_are_apart()
 /// A law, and no work: what a class shows of itself is the same in woven form, but for the descriptors of the methods that pause.
 pub fn views_stay()
     ensures { ViewsStay }
+{}
+
+/// A law, and no work: the built-in classes show the same in woven form, but for the fiber.
+pub fn built_ins_stay()
+    ensures { BuiltInsStay }
+{}
+
+/// A law, and no work: where each class shows the same, its members keep their numbers, and the methods are the same but for the fiber.
+pub fn members_stay()
+    ensures { MembersStay }
+{}
+
+/// A law, and no work: and a field is found where it was.
+pub fn fields_are_found()
+    ensures { FieldsAreFound }
 {}
 
 /// A law, and no work: a method is found in woven form where it was found before, with the fiber where it pauses.
