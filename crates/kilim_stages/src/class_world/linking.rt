@@ -44,16 +44,13 @@ fn parts_of(
     no_fault_is_a_program();
     linked_in_parts();
     let Some(classes) = linked_classes(alloc, world, files)? else {
-        prove!(false);
-        return Err(NoMemory);
+        unreachable!()
     };
     let Some(fields) = linked_fields(alloc, world, files)? else {
-        prove!(false);
-        return Err(NoMemory);
+        unreachable!()
     };
     let Some(methods) = linked_methods(alloc, world, files)? else {
-        prove!(false);
-        return Err(NoMemory);
+        unreachable!()
     };
     Ok(Parts {
         classes,
