@@ -1,17 +1,20 @@
 -- The members of classes keep their numbers where each class shows the same.
-use Rattle.std.proofs.Common.{◌≡◌, ◌<◌, ◌≤◌, ◌+◌, ℕ, zero, suc, List, [], ◌∷◌, length, Option, Some, None, option_map, refl, sym, ap, ◌∙◌, arith, take}
+use Rattle.std.proofs.Common.{◌≡◌, ◌<◌, ◌≤◌, ◌+◌, ◌++◌, ℕ, zero, suc, Bool, true, false, if◌then◌else◌, List, [], ◌∷◌, length, Option, Some, None, option_map, refl, sym, ap, ◌∙◌, arith, take}
 use Rattle.std.specs.List.{AllByRecursion, position_from}
 use Rattle.std.specs.Prelude.{slice_get, sum_by}
 use Rattle.std.proofs.lemmas.List.Sums.{sum_by-cons}
 use Rattle.kilim_classes.specs.declared.names.ClassId.{ClassId}
-use Rattle.kilim_classes.specs.declared.names.FieldId.{FieldId}
+use Rattle.std.specs.Str.{bytes_eq}
+use Rattle.std.proofs.lemmas.Option.{none-some}
+use Rattle.kilim_classes.specs.BuiltIn.{class_id}
+use Rattle.kilim_classes.specs.Names.{class_from}
 use Rattle.kilim_link_spec.specs.declared.view.ClassView.{ClassView}
 use Rattle.kilim_link_spec.specs.declared.view.DeclaredField.{DeclaredField}
 use Rattle.kilim_link_spec.specs.declared.view.DeclaredMethod.{DeclaredMethod}
-use Rattle.kilim_link_spec.specs.World.{World, field_id, field_in, fields_at, first_found, is_field, methods_at, or_else}
+use Rattle.kilim_link_spec.specs.World.{World, field_id, field_in, fields_at, first_found, is_field, is_message_by, methods_at, or_else, outline_with, outlined}
 use Rattle.kilim_woven_sizes.specs.file_laws.form.Texts.{woven_descriptor}
 use Rattle.kilim_woven_file_laws.specs.Members.{AllSame}
-use Rattle.kilim_woven_file_laws.specs.Views.{AllViews, FieldsAreFound, MembersStay, SameMembers, SameView}
+use Rattle.kilim_woven_file_laws.specs.Views.{AllViews, ClassesAreFound, FieldsAreFound, MembersStay, SameMembers, SameView, ViewsJoin}
 
 same_length : (ms ns : List DeclaredMethod) → AllSame woven_descriptor ms ns → length ns ≡ length ms
 same_length [] [] all = refl
@@ -57,3 +60,25 @@ field_same u v all name descriptor c lt =
 pub fields_are_found : FieldsAreFound
 fields_are_found u v all [] lt name descriptor = refl
 fields_are_found u v all (c ∷ cs) lt name descriptor = λ i. or_else (field_same u v all name descriptor c lt.0 i) (fields_are_found u v all cs lt.1 name descriptor i)
+
+-- ---- classes
+
+pub views_join : ViewsJoin
+views_join [] [] bs cs all same behind = behind
+views_join [] (v ∷ vs) bs cs all same behind = absurd (let never : suc (length vs) ≡ 0 = same in cc)
+views_join (u ∷ us) [] bs cs all same behind = absurd all
+views_join (u ∷ us) (v ∷ vs) bs cs all same behind = (all.0, views_join us vs bs cs all.1 (omega (arith, same)) behind)
+
+by_test : (b : Bool) (here x y : Option ClassId) (c : ClassId) → (x ≡ Some c → y ≡ Some c) → (if b then here else x) ≡ Some c → (if b then here else y) ≡ Some c
+by_test true here x y c later e = e
+by_test false here x y c later e = later e
+
+class_by : (f g : List ClassView) (mark other : ClassId → ClassView → Bool) (us vs : List ClassView) → AllViews us vs → (name : List ℕ) (n k : ℕ) (c : ClassId) → class_from (outlined f mark n us) name k ≡ Some c → class_from (outlined g other n vs) name k ≡ Some c
+class_by f g mark other [] vs all name n k c found = absurd (none-some c found)
+class_by f g mark other (u ∷ us) [] all name n k c found = absurd all
+class_by f g mark other (u ∷ us) (v ∷ vs) all name n k c found =
+    ap (λ (t : List ℕ). if bytes_eq t name then Some (class_id k) else class_from (outlined g other (n + 1) vs) name (suc k)) all.0.name
+    ∙ by_test (bytes_eq u.name name) (Some (class_id k)) (class_from (outlined f mark (n + 1) us) name (suc k)) (class_from (outlined g other (n + 1) vs) name (suc k)) c (λ e. class_by f g mark other us vs all.1 name (n + 1) (suc k) c e) found
+
+pub classes_are_found : ClassesAreFound
+classes_are_found f g us vs all name c found = class_by us vs (λ d x. is_message_by (outline_with f us (λ e y. y.is_marked)) d) (λ d x. is_message_by (outline_with g vs (λ e y. y.is_marked)) d) us vs all name 0 0 c found

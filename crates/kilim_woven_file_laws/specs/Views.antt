@@ -1,5 +1,5 @@
 -- What a class shows of itself is the same in woven form, but for the descriptors of the methods that pause.
-use Rattle.std.specs.Prelude.{◌≡◌, ◌<◌, ℕ, List, [], ◌∷◌, length, map}
+use Rattle.std.specs.Prelude.{◌≡◌, ◌<◌, ℕ, List, [], ◌∷◌, ◌++◌, length, map, Some}
 use Rattle.std.specs.List.{AllByRecursion}
 use Rattle.kilim_classes.specs.declared.names.ClassId.{ClassId}
 use Rattle.kilim_classes.specs.Program.{Program}
@@ -7,7 +7,8 @@ use Rattle.kilim_classfile.specs.declared.class_file.ClassFile.{ClassFile}
 use Rattle.kilim_classfile.specs.declared.class_file.MemberInfo.{MemberInfo}
 use Rattle.kilim_classfile.specs.Text.{PartsFit}
 use Rattle.kilim_link_spec.specs.declared.view.ClassView.{ClassView}
-use Rattle.kilim_link_spec.specs.World.{World, declared_fields, declared_methods, field_in, first_field, first_found, first_method, built_ins, is_pausable, view_of_built_in, view_of_file}
+use Rattle.kilim_link_spec.specs.World.{World, class_of, world_with, declared_fields, declared_methods, field_in, first_field, first_found, first_method, built_ins, is_pausable, view_of_built_in, view_of_file}
+use Rattle.kilim_classes.specs.declared.class.Form.{Form}
 use Rattle.kilim_classes.specs.BuiltIn.{built_in_classes_in}
 use Rattle.kilim_classes.specs.declared.class.Form.TheVariants.{Plain, Woven}
 use Rattle.kilim_woven_sizes.specs.file_laws.form.Texts.{woven_descriptor}
@@ -58,3 +59,11 @@ FieldsAreFound = (u v : World) → AllViews u.classes v.classes → (cs : List C
 -- The built-in classes show the same in woven form, but for the fiber; `kilim/Fiber` stands behind them.
 abbrev pub BuiltInsStay : Type 0
 BuiltInsStay = AllViews (map (view_of_built_in (built_ins Plain)) (built_in_classes_in Plain 0 0)) (map (view_of_built_in (built_ins Woven)) (built_in_classes_in Woven 0 0))
+
+-- a class is found where it was
+abbrev pub ClassesAreFound : Type 0
+ClassesAreFound = (f g : Form) (us vs : List ClassView) → AllViews us vs → (name : List ℕ) (c : ClassId) → class_of (world_with f us) name ≡ Some c → class_of (world_with g vs) name ≡ Some c
+
+-- two lists behind as many classes
+abbrev pub ViewsJoin : Type 0
+ViewsJoin = (us vs bs cs : List ClassView) → AllViews us vs → length vs ≡ length us → AllViews bs cs → AllViews (us ++ bs) (vs ++ cs)

@@ -8,7 +8,7 @@ pub mod pool;
 ghost use Rattle.kilim_woven_file_laws.specs.Descriptors.{DescriptorsApart};
 ghost use Rattle.kilim_woven_file_laws.specs.Laws.{CodeIsReadBack, FramesAreReadBack, MethodsLinkAgain, ParametersAreMore, PlainMethodsAreFound};
 
-ghost use Rattle.kilim_woven_file_laws.specs.Views.{BuiltInsStay, FieldsAreFound, MembersStay, ViewsStay};
+ghost use Rattle.kilim_woven_file_laws.specs.Views.{BuiltInsStay, ClassesAreFound, FieldsAreFound, MembersStay, ViewsJoin, ViewsStay};
 
 use kilim_link_spec::decoded_is_decode;
 
@@ -25,6 +25,16 @@ pub fn views_stay()
 /// A law, and no work: the built-in classes show the same in woven form, but for the fiber.
 pub fn built_ins_stay()
     ensures { BuiltInsStay }
+{}
+
+/// A law, and no work: lists of classes that show the same can be put together.
+pub fn views_join()
+    ensures { ViewsJoin }
+{}
+
+/// A law, and no work: a class is found where it was.
+pub fn classes_are_found()
+    ensures { ClassesAreFound }
 {}
 
 /// A law, and no work: where each class shows the same, its members keep their numbers, and the methods are the same but for the fiber.
