@@ -3,3 +3,4 @@ pub mod WovenFiles
 pub mod Reports
 pub mod Parts
 pub mod Laws
+pub mod Theorem
