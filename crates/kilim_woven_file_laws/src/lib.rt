@@ -7,7 +7,6 @@ pub mod pool;
 
 ghost use Rattle.kilim_woven_file_laws.specs.Descriptors.{DescriptorsApart};
 ghost use Rattle.kilim_woven_file_laws.specs.Laws.{CodeIsReadBack, FramesAreReadBack, MethodsLinkAgain, ParametersAreMore, PlainMethodsAreFound};
-
 ghost use Rattle.kilim_woven_file_laws.specs.Views.{BuiltInsStay, ClassesAreFound, FieldsAreFound, MembersStay, ViewsJoin, ViewsStay};
 
 use kilim_link_spec::decoded_is_decode;
