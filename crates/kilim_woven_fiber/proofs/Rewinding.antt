@@ -11,7 +11,7 @@ use Rattle.kilim_units.specs.declared.memory.NoMemory.{NoMemory}
 use Rattle.kilim_machine_parts.specs.declared.frames.frames.Frames.{Frames}
 use Rattle.kilim_machine_parts.specs.frames.Calls.{calls_of}
 use Rattle.kilim_woven_runs.specs.Fibers.{Fib, executes_on, first_receiver, resumed}
-use Rattle.kilim_weaving_laws.specs.woven_kin.Nexts.{Next, Goes, resumes_next}
+use Rattle.kilim_weaving_laws.specs.woven_kin.Nexts.{Goes, resumes_next}
 use Rattle.kilim_woven_fiber.specs.Body.{calls_in, standing_at}
 use Rattle.kilim_woven_fiber.specs.declared.body.Body.{Body}
 

@@ -1,5 +1,5 @@
 -- What a class shows of itself is the same in woven form, but for the descriptors of the methods that pause.
-use Rattle.std.proofs.Common.{◌≡◌, ℕ, zero, suc, Bool, true, false, cond, not, ◌==◌, if◌then◌else◌, List, [], ◌∷◌, ◌++◌, map, Option, Some, None, refl, sym, ap, subst, ◌∙◌}
+use Rattle.std.proofs.Common.{◌≡◌, ℕ, zero, suc, Bool, true, false, not, ◌==◌, if◌then◌else◌, List, [], ◌∷◌, ◌++◌, map, Option, Some, refl, sym, ap, subst, ◌∙◌}
 use Rattle.std.specs.List.{AllByRecursion, cons_option, filter_map, flat_map, list_any}
 use Rattle.std.specs.Prelude.{codes, ◌||◌}
 use Rattle.std.specs.Str.{bytes_eq}
@@ -22,18 +22,17 @@ use Rattle.kilim_constant_pool.specs.declared.entry.Entry.{Entry}
 use Rattle.kilim_constant_pool.specs.declared.entry.Entry.TheVariants as entry
 use Rattle.kilim_constant_pool.specs.Entries.{entry_at, is_bad, is_class, is_utf8, refers_well, slot, slots_of}
 use Rattle.kilim_constant_pool.specs.Spelling.{PoolFits}
-use Rattle.kilim_link_spec.specs.declared.view.DeclaredField.{DeclaredField}
 use Rattle.kilim_link_spec.specs.declared.view.DeclaredMethod.{DeclaredMethod}
-use Rattle.kilim_link_spec.specs.World.{class_text, declared_field, declared_method, interface_names, is_pausable, lists_pausable, member_descriptor, view_of_file}
+use Rattle.kilim_link_spec.specs.World.{class_text, declared_field, declared_method, is_pausable, lists_pausable, member_descriptor, view_of_file}
 use Rattle.kilim_class_fits.specs.declared.pool_needs.need.Need.{Need}
 use Rattle.kilim_class_fits.specs.declared.pool_needs.need.Need.TheVariants.{AText}
-use Rattle.kilim_class_fits.specs.pool_needs.Adding.{text_index, with_needs}
+use Rattle.kilim_class_fits.specs.pool_needs.Adding.{text_index}
 use Rattle.kilim_class_fits.proofs.pool_needs.growth.Pools.{none_bad}
 use Rattle.kilim_woven_sizes.specs.file_laws.form.Texts.{woven_descriptor}
 use Rattle.kilim_woven_sizes.specs.file_laws.form.WovenFile.{MethodPair, attribute_with, info_needs, member_needs, rewritten, woven_attribute, woven_file, woven_info, woven_member, woven_pool}
 use Rattle.kilim_woven_file_laws.specs.Members.{AllSame, SameButFiber, pausing}
 use Rattle.kilim_woven_file_laws.specs.Views.{PairsAre, SameView, ViewsStay}
-use Rattle.kilim_woven_file_laws.specs.pool.Pools.{ClassesAreNamed, Names, PoolGrows, RefersWell}
+use Rattle.kilim_woven_file_laws.specs.pool.Pools.{ClassesAreNamed, Names, RefersWell}
 use Rattle.kilim_woven_file_laws.proofs.pool.Growing.{Grown, needs_added}
 use Rattle.kilim_woven_file_laws.proofs.pool.Naming.{class_named, class_text_stays, grows, plain_text_stays, text_at}
 

@@ -1,6 +1,6 @@
 -- The members of classes keep their numbers where each class shows the same.
-use Rattle.std.proofs.Common.{◌≡◌, ◌<◌, ◌≤◌, ◌+◌, ◌++◌, ℕ, zero, suc, Bool, true, false, if◌then◌else◌, List, [], ◌∷◌, length, Option, Some, None, option_map, refl, sym, ap, ◌∙◌, arith, take}
-use Rattle.std.specs.List.{AllByRecursion, position_from}
+use Rattle.std.proofs.Common.{◌≡◌, ◌<◌, ◌+◌, ℕ, zero, suc, Bool, true, false, if◌then◌else◌, List, [], ◌∷◌, length, Option, Some, option_map, refl, sym, ap, ◌∙◌, arith, take}
+use Rattle.std.specs.List.{position_from}
 use Rattle.std.specs.Prelude.{slice_get, sum_by}
 use Rattle.std.proofs.lemmas.List.Sums.{sum_by-cons}
 use Rattle.kilim_classes.specs.declared.names.ClassId.{ClassId}
@@ -9,12 +9,11 @@ use Rattle.std.proofs.lemmas.Option.{none-some}
 use Rattle.kilim_classes.specs.BuiltIn.{class_id}
 use Rattle.kilim_classes.specs.Names.{class_from}
 use Rattle.kilim_link_spec.specs.declared.view.ClassView.{ClassView}
-use Rattle.kilim_link_spec.specs.declared.view.DeclaredField.{DeclaredField}
 use Rattle.kilim_link_spec.specs.declared.view.DeclaredMethod.{DeclaredMethod}
-use Rattle.kilim_link_spec.specs.World.{World, field_id, field_in, fields_at, first_found, is_field, is_message_by, methods_at, or_else, outline_with, outlined}
+use Rattle.kilim_link_spec.specs.World.{World, field_id, field_in, fields_at, is_field, is_message_by, methods_at, or_else, outline_with, outlined}
 use Rattle.kilim_woven_sizes.specs.file_laws.form.Texts.{woven_descriptor}
 use Rattle.kilim_woven_file_laws.specs.Members.{AllSame}
-use Rattle.kilim_woven_file_laws.specs.Views.{AllViews, ClassesAreFound, FieldsAreFound, MembersStay, SameMembers, SameView, ViewsJoin}
+use Rattle.kilim_woven_file_laws.specs.Views.{AllViews, ClassesAreFound, FieldsAreFound, MembersStay, SameView, ViewsJoin}
 
 same_length : (ms ns : List DeclaredMethod) → AllSame woven_descriptor ms ns → length ns ≡ length ms
 same_length [] [] all = refl

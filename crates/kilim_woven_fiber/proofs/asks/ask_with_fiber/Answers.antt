@@ -1,5 +1,4 @@
 use Rattle.std.proofs.Common.{◌∷◌, []}
-use Rattle.kilim_classes.specs.declared.value.Value.{Value}
 use Rattle.kilim_classes.specs.declared.value.Value.TheVariants.{Fiber}
 use Rattle.kilim_weaving_laws.specs.woven_kin.Nexts.{native_next}
 use Rattle.std.proofs.Common.{Some, ap, sym, subst}
@@ -7,7 +6,6 @@ use Rattle.kilim_woven_fiber.specs.Body.{behind_at}
 use Rattle.kilim_woven_fiber.specs.Comes.{Comes, IsMade, gives_result}
 use Rattle.kilim_woven_runs.specs.fiber_records.natives.Natives.{meaning}
 use Rattle.kilim_woven_runs.specs.declared.fiber_records.natives.natives.Native.{Native}
-use Rattle.kilim_woven_runs.specs.declared.fiber_records.natives.natives.Native.TheVariants as code
 use Rattle.kilim_woven_fiber.proofs.asks.ask_with_fiber.Goals as goal
 
 pub returns-in-Get-default-clause-comes : goal.returns-in-Get-default-clause-comes
