@@ -1,5 +1,5 @@
 -- What a fiber keeps where it rests: no frame, but a record for each frame that it left, and then the leaf's.
-use Rattle.std.specs.Prelude.{◌≡◌, ◌+◌, ℕ, Bool, true, false, List, [], ◌∷◌, Option, None, length}
+use Rattle.std.specs.Prelude.{◌≡◌, ◌+◌, ℕ, Bool, true, false, [], ◌∷◌, Option, None, length}
 use Rattle.kilim_isolation_laws.specs.typed_threads.fine.Typed.{frames_of}
 use Rattle.kilim_woven_runs.specs.fiber_records.Members.{deeper_of}
 use Rattle.kilim_machine_parts.specs.declared.frames.frames.Frames.{Frames}
