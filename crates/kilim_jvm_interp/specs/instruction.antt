@@ -1,3 +1,4 @@
 pub mod Calls
 pub mod Making
+pub mod Near
 pub mod Operations

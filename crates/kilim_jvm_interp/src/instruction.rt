@@ -2,8 +2,10 @@
 
 mod calls;
 mod making;
+mod near;
 mod operations;
 mod table;
 
 pub use making::new_object;
+pub use near::act_near;
 pub use table::act;

@@ -4,6 +4,6 @@ mod frame;
 mod frames;
 mod stack;
 
-pub use frame::{Frame, Locals};
+pub use frame::{Frame, Locals, no_frame};
 pub use frames::{Callers, Frames};
 pub use stack::Stack;

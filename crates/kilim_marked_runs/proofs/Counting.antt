@@ -123,6 +123,8 @@ module _ (p : Program) (counted : List (List Bool)) (live : Bool) where
       same = is.same;
     },
   )
+  leg_of own marks limit left fuel first h f x halt.Far new k there are more runs is = (more, moved_to first h (limit - left) (calls_of f) (calls_of new) x k is.frames is.heap runs)
+  leg_of own marks limit left fuel first h f x halt.On new k there are more runs is = absurd is
   leg_of own marks limit left fuel first h f x halt.Lost new k there are more runs is = tt
 
   -- ---- from the steps of one frame to those of a task

@@ -1,3 +1,4 @@
 mod Counting
 mod Doing
 mod Marks
+mod Near

@@ -43,7 +43,7 @@ within [] n x is = absurd (none-some x is)
 within (y ∷ ys) zero x is = omega arith
 within (y ∷ ys) (suc n) x is = let less = within ys n x is in omega (arith, less)
 
-first_at : (code : List (ℕ × Instr)) (end n : ℕ) (e : ℕ × Instr) → slice_get code n ≡ Some e → first_place (drop n code) end ≡ e.0
+pub first_at : (code : List (ℕ × Instr)) (end n : ℕ) (e : ℕ × Instr) → slice_get code n ≡ Some e → first_place (drop n code) end ≡ e.0
 first_at [] end n e is = absurd (none-some e is)
 first_at (c ∷ cs) end zero e is = ap (λ (z : ℕ × Instr). z.0) (same_Some _ _ is)
 first_at (c ∷ cs) end (suc n) e is = first_at cs end n e is
@@ -54,6 +54,9 @@ is_number code marks end p n e b rising is has at = record {
   stands = first_at code end n e is ∙ at;
   has = marked_at code marks end p n e b rising is has at;
 }
+
+pub number_here : (code : List (ℕ × Instr)) (marks : List Bool) (end n : ℕ) (e : ℕ × Instr) (b : Bool) → Rising code → slice_get code n ≡ Some e → slice_get marks n ≡ Some b → IsNumber code marks end (first_place (drop n code) end) n b
+number_here code marks end n e b rising is has = is_number code marks end (first_place (drop n code) end) n e b rising is has (sym (first_at code end n e is))
 
 -- the mark in a method is the one in the program
 pub mark_in : (p : Program) (counted : List (List Bool)) (m : MethodId) (own : Method) (marks : List Bool) (place : ℕ) (mark : Bool) → method_at p m ≡ Some own → marks_of counted m ≡ marks →

@@ -1,6 +1,7 @@
 -- What the parts of `run_counted` say: one instruction, the steps of one frame, and what settles the last of them. Its own clauses don't rest on it.
-use Rattle.std.specs.Prelude.{◌≡◌, ℕ, ◌-◌, ◌<◌, ◌≤◌, Bool, true, ◌&&◌, List, ◌∷◌, Option, Some, None, length}
+use Rattle.std.specs.Prelude.{◌≡◌, ℕ, ◌-◌, ◌<◌, ◌≤◌, Bool, true, ◌&&◌, List, ◌∷◌, Option, Some, None, drop, length}
 use Rattle.kilim_classes.specs.declared.class.Method.{Method}
+use Rattle.kilim_classes.specs.Lengths.{first_place}
 use Rattle.kilim_classes.specs.Program.{Program}
 use Rattle.kilim_classes.specs.machine.Machine.{Activation, Objects}
 use Rattle.kilim_classes.specs.machine.Moves.{Move, effect_of, moves}
@@ -54,11 +55,24 @@ abbrev pub HasHalted : Program → Method → List Bool → Bool → ℕ → Fra
 HasHalted p own marks live left old h halt.Stops new k = IsStill old new h k
 HasHalted p own marks live left old h halt.Spent new k = IsOver own marks live left old h new k
 HasHalted p own marks live left old h (halt.Leaves mark moved next) new k = IsOpen p own marks live left old h mark moved next new k
+HasHalted p own marks live left old h halt.Far new k = IsStill old new h k
+HasHalted p own marks live left old h halt.On new k = ⊥
 HasHalted p own marks live left old h halt.Lost new k = Unit {0}
 
 abbrev pub Does : Program → Method → List Bool → Bool → ℕ → Frames → Objects → One → Frames → Objects → Type 0
 Does p own marks live left old h (Goes counts near) new k = HasGone p own marks live left old h counts new k
 Does p own marks live left old h (Halts halt) new k = HasHalted p own marks live left old h halt new k
+
+-- ---- one instruction, with the frame in variables of its own
+
+-- the frames, with that one on top, at the instruction of a number
+abbrev pub standing : Method → Frames → Frame → ℕ → Frames
+standing own frames frame at = record frames { top = record frame { pc = first_place (drop at own.code) own.code_length } }
+
+abbrev pub DoesNear : Program → Method → List Bool → Bool → ℕ → Frames → Frame → ℕ → Objects → One → Frame → Objects → Type 0
+DoesNear p own marks live left frames before at h (Goes counts next) after k =
+    (next < length own.code) × HasGone p own marks live left (standing own frames before at) h counts (standing own frames after next) k
+DoesNear p own marks live left frames before at h (Halts halt) after k = HasHalted p own marks live left (standing own frames before at) h halt (standing own frames after at) k
 
 -- ---- the steps of one frame
 
@@ -84,6 +98,8 @@ abbrev pub IsHalt : Program → Method → List (List Bool) → Bool → ℕ →
 IsHalt p own counted live limit first h left fuel halt.Stops new k = CountedRunsTo p counted live first h (limit - left) (calls_of new) k
 IsHalt p own counted live limit first h left fuel halt.Spent new k = HasSpent p counted live limit first h left new k
 IsHalt p own counted live limit first h left fuel (halt.Leaves mark moved next) new k = (0 < fuel) × IsUnsettled p own counted live limit first h left mark moved next new k
+IsHalt p own counted live limit first h left fuel halt.Far new k = (0 < fuel) × CountedRunsTo p counted live first h (limit - left) (calls_of new) k
+IsHalt p own counted live limit first h left fuel halt.On new k = (0 < fuel) × CountedRunsTo p counted live first h (limit - left) (calls_of new) k
 IsHalt p own counted live limit first h left fuel halt.Lost new k = Unit {0}
 
 pub record IsCountedLeg (p : Program) (own : Method) (counted : List (List Bool)) (live : Bool) (limit most : ℕ) (first : List Activation) (h : Objects) (left fuel : ℕ) (halt : Halt) (new : Frames) (k : Objects) : Type 0 where

@@ -1,6 +1,7 @@
 //! Instructions and their marks by their places.
 
-ghost use Rattle.std.specs.Prelude.{◌≡◌, ◌<◌, IfSome, Some, length, slice_get};
+ghost use Rattle.std.specs.Prelude.{◌≡◌, ◌<◌, IfSome, Some, drop, length, slice_get};
+ghost use Rattle.kilim_classes.specs.Lengths.{first_place};
 ghost use Rattle.kilim_classes.specs.lookups.Places.{Rising};
 ghost use Rattle.kilim_woven_runs.specs.Fibers.{marks_of};
 ghost use Rattle.kilim_marked_runs.specs.Marks.{IsNumber};
@@ -89,6 +90,33 @@ fn flag_at(marks: &[bool], at: usize) -> bool
     ensures { slice_get marks.now at ≡ Some result }
 {
     marks[at]
+}
+
+/// The mark of the instruction of a number, which stands at its place.
+#[tactic(auto, using(crate::proofs::Marks::number_here))]
+#[inline(always)]
+pub(crate) fn mark_of(code: &[(u32, Instr)], marks: &[bool], end: u32, at: usize) -> bool
+    requires rising { Rising code.now }
+    requires within { at < length code.now }
+    requires marked { at < length marks.now }
+    ensures { IsNumber code.now marks.now end (first_place (drop at code.now) end) at result }
+{
+    let _ = end;
+    let entry = entry_at(code, at);
+    let _place = entry.0;
+    flag_at(marks, at)
+}
+
+/// The place of the instruction of a number.
+#[tactic(auto, using(crate::proofs::Marks::first_at))]
+#[inline(always)]
+pub(crate) fn place_at(code: &[(u32, Instr)], end: u32, at: usize) -> u32
+    requires { at < length code.now }
+    ensures { result ≡ first_place (drop at code.now) end }
+{
+    let _ = end;
+    let entry = entry_at(code, at);
+    entry.0
 }
 
 // The mark of the instruction of that number, if it stands at the place.

@@ -1,6 +1,8 @@
 //! Several steps of a task, one after the other, some of which count.
 
-ghost use Rattle.std.specs.Prelude.{◌≡◌, ◌<◌, ◌≤◌, ◌&&◌, ◌∷◌, Bool, true, false, Some, IfOk, OnOk};
+ghost use Rattle.std.specs.Prelude.{◌≡◌, ◌<◌, ◌≤◌, ◌+◌, ◌&&◌, ◌∷◌, Bool, true, false, Some, IfOk, IfSome, OnOk, drop, length};
+ghost use Rattle.kilim_classes.specs.Lengths.{first_place};
+ghost use Rattle.kilim_classes.specs.lookups.Places.{Rising};
 ghost use Rattle.kilim_classes.specs.Names.{method_at};
 ghost use Rattle.kilim_machine_parts.specs.declared.frames.frame.Frame.{Frame as AFrame};
 ghost use Rattle.kilim_machine_parts.specs.frames.Calls.{activation, below_of, calls_of};
@@ -12,20 +14,21 @@ ghost use Rattle.kilim_classes.specs.machine.Moves.{move_by};
 ghost use Rattle.kilim_rows.specs.Outcome.{Shows};
 ghost use Rattle.kilim_woven_runs.specs.Fibers.{marks_of};
 ghost use Rattle.kilim_marked_runs.specs.Counted.{HasCountedRun, IsCountedSafe, tick_if};
-ghost use Rattle.kilim_marked_runs.specs.Legs.{Does, IsCountedLeg, Settles};
+ghost use Rattle.kilim_marked_runs.specs.Legs.{Does, DoesNear, IsCountedLeg, Settles, standing};
 ghost use Rattle.kilim_marked_runs.specs.Marks.{IsMarked};
 
-use crate::places::{Places, marks_of, number_at, number_near};
+use crate::places::{Places, mark_of, marks_of, number_at, number_near, place_at};
 use kilim_classes::lookups::{code_rises, instr_at, method_at};
 use kilim_classes::machine::EndCause;
-use kilim_classes::{Method, MethodId, Program};
-use kilim_jvm_interp::instruction::act;
+use kilim_classes::{Instr, Method, MethodId, Program};
+use kilim_jvm_interp::instruction::{act, act_near};
 use kilim_jvm_interp::{Stepped, await_answer, settle};
 use kilim_machine_parts::Heap;
-use kilim_machine_parts::frames::Frames;
+use kilim_machine_parts::frames::{Frame, Frames, no_frame};
 use kilim_rows::Moved;
 use kilim_units::{NoMemory, Seq};
 use std::alloc::Global;
+use std::mem::replace;
 
 // One run makes at most so many steps, whether they count or not.
 const MOST_TOGETHER: u64 = 67_108_864;
@@ -66,6 +69,10 @@ enum Halt {
     Spent,
     // The mark of the next instruction, and what came of it, which isn't settled yet; with the place behind it.
     Leaves(bool, Moved, u32),
+    // The next instruction is none of those that the loop does.
+    Far,
+    // One step is done that the loop doesn't do, and isn't taken off yet.
+    On,
     // The next place has no mark.
     Lost,
 }
@@ -113,7 +120,6 @@ fn less_if(counts: bool, left: u64) -> u64
 }
 
 // One instruction of the top frame, unless it counts and none is left that may.
-#[inline(always)]
 fn do_one(
     alloc: Global,
     program: &Program,
@@ -164,6 +170,167 @@ fn do_one(
     }
 }
 
+// The number behind one, where there is one.
+#[inline(always)]
+fn number_behind(code: &[(u32, Instr)], at: usize) -> Option<usize>
+    requires { at < length code.now }
+    ensures { IfSome result (λ next. (next ≡ at + 1) × (next < length code.now)) }
+{
+    if at + 1 < code.len() {
+        Some(at + 1)
+    } else {
+        None
+    }
+}
+
+// The number of the instruction at a place that is jumped to.
+#[inline(always)]
+fn number_of(
+    code: &[(u32, Instr)],
+    marks: &[bool],
+    end: u32,
+    table: &[u32],
+    to: u32,
+) -> Option<usize>
+    requires { Rising code.now }
+    ensures { IfSome result (λ at. (at < length code.now) × (first_place (drop at code.now) end ≡ to)) }
+{
+    match number_at(code, marks, end, to, number_near(table, to)) {
+        Some(found) => Some(found.0),
+        None => None,
+    }
+}
+
+// One instruction of a frame, by its number, unless it counts and none is left that may. `frames` are those below.
+#[inline(always)]
+fn do_near(
+    program: &Program,
+    own: &Method,
+    code: &[(u32, Instr)],
+    marks: &[bool],
+    table: &[u32],
+    live: bool,
+    left: u64,
+    frames: &Frames,
+    frame: &mut Frame,
+    heap: &mut Heap,
+    at: usize,
+) -> One
+    requires own { method_at program.now frame.old.method ≡ Some own.now }
+    requires code { code.now ≡ own.now.code }
+    requires rising { Rising code.now }
+    requires within { at < length code.now }
+    requires marked { length marks.now ≡ length code.now }
+    requires fine { (mark : Bool) → IsMarked own.now.code marks.now own.now.code_length (first_place (drop at own.now.code) own.now.code_length) mark → ((mark && live) ≡ true → 0 < left) → IsFine program.now (activation (standing own.now frames.now frame.old at).top) (below_of frames.now) heap.old }
+    requires roomy { AreRoomy program.now (standing own.now frames.now frame.old at) }
+    ensures roomy { AreRoomy program.now (standing own.now frames.now frame.new at) }
+    ensures same { frame.new.method ≡ frame.old.method }
+    ensures does { DoesNear program.now own.now marks.now live left frames.now frame.old at heap.old result frame.new heap.new }
+{
+    let _ = frames;
+    let end = own.code_length;
+    let mark = mark_of(code, marks, end, at);
+    let costs = counts_by(mark, live);
+    if is_spent(costs, left) {
+        return One::Halts(Halt::Spent);
+    }
+    let found = instr_at(code, end, at);
+    match act_near(found.0, program, own, found.1, frame, heap) {
+        Some(Moved::Next) => match number_behind(code, at) {
+            Some(next) => One::Goes(costs, next),
+            None => One::Halts(Halt::Lost),
+        },
+        Some(Moved::Jump(to)) => match number_of(code, marks, end, table, to) {
+            Some(next) => One::Goes(costs, next),
+            None => One::Halts(Halt::Lost),
+        },
+        Some(moved) => {
+            let mark = mark_of(code, marks, end, at);
+            let behind = instr_at(code, end, at);
+            One::Halts(Halt::Leaves(mark, moved, behind.1))
+        }
+        None => One::Halts(Halt::Far),
+    }
+}
+
+// Puts a frame back on top, at a place.
+#[inline(always)]
+fn put_back(frames: &mut Frames, frame: Frame, place: u32)
+    ensures { frames.new ≡ record frames.old { top = record frame { pc = place } } }
+{
+    let mut frame = frame;
+    frame.pc = place;
+    frames.top = frame;
+}
+
+// Steps of the top frame, at most so many that count, and so many at all, up to the first that isn't done here.
+fn run_near(
+    alloc: Global,
+    program: &Program,
+    own: &Method,
+    marks: &[bool],
+    table: &[u32],
+    counted: &Seq<Seq<bool>>,
+    live: bool,
+    frames: &mut Frames,
+    heap: &mut Heap,
+    limit: u64,
+    most: u64,
+) -> Leg
+    requires own { method_at program.now frames.old.top.method ≡ Some own.now }
+    requires marks { marks_of counted.now frames.old.top.method ≡ marks.now }
+    requires safe { IsCountedSafe program.now counted.now live limit (calls_of frames.old) heap.old }
+    requires roomy { AreRoomy program.now frames.old }
+    ensures roomy { AreRoomy program.now frames.new }
+    ensures same { frames.new.top.method ≡ frames.old.top.method }
+    ensures leg { IsCountedLeg program.now own.now counted.now live limit most (calls_of frames.old) heap.old result.left result.fuel result.halt frames.new heap.new }
+{
+    let _ = counted;
+    code_rises(program, frames.top.method, own);
+    let code = own.code.as_slice();
+    let end = own.code_length;
+    if marks.len() != code.len() {
+        return Leg {
+            left: limit,
+            fuel: most,
+            halt: Halt::Lost,
+        };
+    }
+    let Some(first) = number_of(code, marks, end, table, frames.top.pc) else {
+        return Leg {
+            left: limit,
+            fuel: most,
+            halt: Halt::Lost,
+        };
+    };
+    let mut at = first;
+    let mut left = limit;
+    let mut fuel = most;
+    let method = frames.top.method;
+    let mut frame = replace(&mut frames.top, no_frame(alloc, method));
+    while fuel > 0 {
+        match do_near(
+            program, own, code, marks, table, live, left, frames, &mut frame, heap, at,
+        ) {
+            One::Goes(counts, next) => {
+                at = next;
+                left = less_if(counts, left);
+                fuel -= 1;
+            }
+            One::Halts(halt) => {
+                put_back(frames, frame, place_at(code, end, at));
+                return Leg { left, fuel, halt };
+            }
+        }
+    }
+    put_back(frames, frame, place_at(code, end, at));
+    Leg {
+        left,
+        fuel: 0,
+        halt: Halt::Stops,
+    }
+}
+
 // Steps of the top frame, at most so many that count, and so many at all.
 fn run_frame(
     alloc: Global,
@@ -185,26 +352,31 @@ fn run_frame(
     ensures roomy { AreRoomy program.now frames.new }
     ensures leg { IsCountedLeg program.now own.now counted.now live limit most (calls_of frames.old) heap.old result.left result.fuel result.halt frames.new heap.new }
 {
-    let _ = counted;
-    let mut hint = number_near(table, frames.top.pc);
-    let mut left = limit;
-    let mut fuel = most;
-    while fuel > 0 {
-        match do_one(
-            alloc, program, own, marks, table, live, left, frames, heap, hint,
-        ) {
-            One::Goes(counts, near) => {
-                hint = near;
-                left = less_if(counts, left);
-                fuel -= 1;
+    let leg = run_near(
+        alloc, program, own, marks, table, counted, live, frames, heap, limit, most,
+    );
+    match leg.halt {
+        Halt::Far => {
+            let hint = number_near(table, frames.top.pc);
+            match do_one(
+                alloc, program, own, marks, table, live, leg.left, frames, heap, hint,
+            ) {
+                One::Goes(counts, near) => {
+                    let _near = near;
+                    Leg {
+                        left: less_if(counts, leg.left),
+                        fuel: leg.fuel,
+                        halt: Halt::On,
+                    }
+                }
+                One::Halts(halt) => Leg {
+                    left: leg.left,
+                    fuel: leg.fuel,
+                    halt,
+                },
             }
-            One::Halts(halt) => return Leg { left, fuel, halt },
         }
-    }
-    Leg {
-        left,
-        fuel: 0,
-        halt: Halt::Stops,
+        _ => leg,
     }
 }
 
@@ -291,6 +463,12 @@ pub fn run_counted(
                 });
             }
             Halt::Lost => return Err(NoMemory),
+            // `run_frame` has done what is far
+            Halt::Far => return Err(NoMemory),
+            Halt::On => {
+                left = leg.left;
+                fuel = leg.fuel - 1;
+            }
             Halt::Leaves(mark, moved, next) => {
                 let Ok(halted) = go_on(alloc, program, own, moved, next, frames) else {
                     return Err(NoMemory);

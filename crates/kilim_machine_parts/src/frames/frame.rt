@@ -56,6 +56,16 @@ impl Locals {
         })
     }
 
+    /// No locals. Takes no memory.
+    #[inline(always)]
+    pub fn none(alloc: Global) -> Locals
+        ensures { result ≡ [] }
+    {
+        Locals {
+            items: Vec::new(alloc),
+        }
+    }
+
     /// Puts a value into a slot. Takes no memory.
     #[inline(always)]
     pub fn set(&mut self, slot: usize, value: Value)
@@ -74,6 +84,19 @@ pub struct Frame {
     pub pc: u32,
     pub locals: Locals,
     pub stack: Stack,
+}
+
+/// A frame of that method without locals and operands, which stands for one that was taken out. Takes no memory.
+#[inline(always)]
+pub fn no_frame(alloc: Global, method: MethodId) -> Frame
+    ensures { result.method ≡ method }
+{
+    Frame {
+        method,
+        pc: 0,
+        locals: Locals::none(alloc),
+        stack: Stack::none(alloc),
+    }
 }
 
 // Values in their slots, with room for so many.

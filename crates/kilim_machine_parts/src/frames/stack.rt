@@ -39,6 +39,17 @@ impl Stack {
         Ok(Stack { values, room })
     }
 
+    /// An empty stack without room. Takes no memory.
+    #[inline(always)]
+    pub fn none(alloc: Global) -> Stack
+        ensures { result ≡ record { values = []; room = 0 } }
+    {
+        Stack {
+            values: Vec::new(alloc),
+            room: 0,
+        }
+    }
+
     /// Puts a value on top. Takes no memory.
     #[inline(always)]
     pub fn push(&mut self, value: Value)
@@ -121,6 +132,7 @@ impl Stack {
     }
 
     /// The number of values.
+    #[inline(always)]
     pub fn len(&self) -> usize
         ensures { result ≡ length self.now.values }
     {

@@ -2,7 +2,7 @@ use Rattle.std.proofs.Common.{◌∙◌, refl, sym, ◌-◌, arith}
 use Rattle.kilim_machine_parts.specs.frames.Calls.{activation, calls_of}
 use Rattle.kilim_classes.specs.machine.Moves.{effect_of}
 use Rattle.kilim_marked_runs.specs.Counted.{AtFirst}
-use Rattle.kilim_marked_runs.proofs.Counting.{can_go_on, further, halts, has_spent, has_stopped, no_more, safe_on}
+use Rattle.kilim_marked_runs.proofs.Counting.{behind, can_go_on, further, halts, has_spent, has_stopped, no_more, safe_on}
 use Rattle.kilim_marked_runs.proofs.runs.run_counted.Goals as goal
 
 pub steps-init : goal.steps-init
@@ -55,4 +55,16 @@ steps-preserved c =
           c.steps.invariant.runs c.steps.invariant.few c.run_frame-leg.ensures.leg.few c.in-Leaves.mark c.in-Leaves.moved c.in-Leaves.next rest c.go_on.new.frames c.counts_by.result c.less_if-left.result c.counts_by.ensures c.less_if-left.ensures (rw c.in-None.is at settles);
       roomy = c.in-Ok.ensures.roomy;
       few = omega (arith, fewer, c.run_frame-leg.ensures.leg.few, c.steps.invariant.few);
+    }
+
+pub steps-preserved-in-On : goal.steps-preserved-in-On
+steps-preserved-in-On c =
+    let told = rw c.in-On.is at c.run_frame-leg.ensures.leg.is in
+    let less = c.run_frame-leg.ensures.leg.few in
+    let few = c.steps.invariant.few in
+    record {
+      runs = behind c.args.program.now c.args.counted.now c.args.live (calls_of c.args.frames.now) c.args.heap.now (c.args.limit - c.steps.left) (c.steps.left - c.run_frame-leg.result.left) (c.args.limit - c.run_frame-leg.result.left) (calls_of c.steps.frames) c.steps.heap
+          (calls_of c.run_frame-leg.new.frames) c.run_frame-leg.new.heap c.steps.invariant.runs told.1 (omega (arith, less, few));
+      roomy = c.run_frame-leg.ensures.roomy;
+      few = omega (arith, less, few);
     }
