@@ -1,4 +1,4 @@
-//! Answers of the public calls on journals and trees, for a table of cases: README.md has them, and the program kilim_tables runs them.
+//! Answers of the public calls on journals and trees, for a table of cases: README.md has them, and the program kilim_cases runs them.
 
 mod arrived;
 mod cases;

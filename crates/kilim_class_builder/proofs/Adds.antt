@@ -3,13 +3,13 @@ use Rattle.std.proofs.Common.{◌≡◌, ◌≢◌, ◌⊎◌, inl, inr, ◌==�
 use Rattle.std.specs.Prelude.{IfOk, ◌↔◌}
 use Rattle.std.proofs.lemmas.Bool.{ltb-false, ltb-true}
 use Rattle.std.proofs.lemmas.Slice.Eq.{bytes_eq-Decides}
-use Rattle.kilim_grammar.specs.Reader.{ReadsUnless}
-use Rattle.kilim_constant_pool.specs.declared.entry.Entry.{Entry}
-use Rattle.kilim_constant_pool.specs.declared.entry.Entry.TheVariants.{Utf8, Class}
-use Rattle.kilim_constant_pool.specs.declared.fault.AddFault.{AddFault}
-use Rattle.kilim_constant_pool.specs.declared.fault.AddFault.TheVariants as add
-use Rattle.kilim_constant_pool.specs.Adding.{Adds, IsAbsent, IsFirstIndex, IsFull}
-use Rattle.kilim_constant_pool.specs.Entries.{count_of, entry_at, slot, slots_of, width_of}
+use Rattle.kilim_class_grammar.specs.Reader.{ReadsUnless}
+use Rattle.kilim_class_pool.specs.declared.entry.Entry.{Entry}
+use Rattle.kilim_class_pool.specs.declared.entry.Entry.TheVariants.{Utf8, Class}
+use Rattle.kilim_class_pool.specs.declared.fault.AddFault.{AddFault}
+use Rattle.kilim_class_pool.specs.declared.fault.AddFault.TheVariants as add
+use Rattle.kilim_class_pool.specs.Adding.{Adds, IsAbsent, IsFirstIndex, IsFull}
+use Rattle.kilim_class_pool.specs.Entries.{count_of, entry_at, slot, slots_of, width_of}
 use Rattle.kilim_class_builder.specs.Adding.{added_by, class_by, index_from, index_in, is_class_of, is_text, passes, text_added}
 
 abbrev Slots : Type 0

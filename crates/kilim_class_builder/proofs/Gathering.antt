@@ -1,11 +1,11 @@
 -- Attributes put one behind the other are the attributes of a method.
 use Rattle.std.proofs.Common.{◌≡◌, ℕ, List, [], ◌++◌, Option, Result, Ok, Err, refl, sym, ap, ◌∙◌, append_assoc}
 use Rattle.std.specs.Prelude.{string_bytes}
-use Rattle.kilim_attributes.specs.declared.attribute.Attribute.{Attribute}
-use Rattle.kilim_classfile.specs.declared.class_file.MemberInfo.{MemberInfo}
-use Rattle.kilim_constant_pool.specs.declared.entry.Entry.{Entry}
-use Rattle.kilim_constant_pool.specs.declared.fault.AddFault.{AddFault}
-use Rattle.kilim_grammar.specs.Reader.{◌>>=◌}
+use Rattle.kilim_class_attributes.specs.declared.attribute.Attribute.{Attribute}
+use Rattle.kilim_class_file.specs.declared.class_file.MemberInfo.{MemberInfo}
+use Rattle.kilim_class_pool.specs.declared.entry.Entry.{Entry}
+use Rattle.kilim_class_pool.specs.declared.fault.AddFault.{AddFault}
+use Rattle.kilim_class_grammar.specs.Reader.{◌>>=◌}
 use Rattle.kilim_class_builder.specs.declared.source.MethodSource.{MethodSource}
 use Rattle.kilim_class_builder.specs.Adding.{text_added}
 use Rattle.kilim_class_builder.specs.Gathered.{appended, gathered, head_added, marks_added}

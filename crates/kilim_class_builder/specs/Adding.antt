@@ -1,12 +1,12 @@
 -- Entries that are looked for in a pool, and added at its end where they aren't there.
 use Rattle.std.specs.Prelude.{ℕ, suc, ◌+◌, ◌^◌, ◌==◌, nat_lt, Bool, false, if◌then◌else◌, List, [], ◌∷◌, ◌++◌, Option, Some, None, Result, Ok, Err}
 use Rattle.std.specs.Str.{bytes_eq}
-use Rattle.kilim_grammar.specs.Reader.{◌>>=◌}
-use Rattle.kilim_constant_pool.specs.declared.entry.Entry.{Entry}
-use Rattle.kilim_constant_pool.specs.declared.entry.Entry.TheVariants.{Utf8, Class}
-use Rattle.kilim_constant_pool.specs.declared.fault.AddFault.{AddFault}
-use Rattle.kilim_constant_pool.specs.declared.fault.AddFault.TheVariants.{Full}
-use Rattle.kilim_constant_pool.specs.Entries.{count_of, slots_of}
+use Rattle.kilim_class_grammar.specs.Reader.{◌>>=◌}
+use Rattle.kilim_class_pool.specs.declared.entry.Entry.{Entry}
+use Rattle.kilim_class_pool.specs.declared.entry.Entry.TheVariants.{Utf8, Class}
+use Rattle.kilim_class_pool.specs.declared.fault.AddFault.{AddFault}
+use Rattle.kilim_class_pool.specs.declared.fault.AddFault.TheVariants.{Full}
+use Rattle.kilim_class_pool.specs.Entries.{count_of, slots_of}
 
 -- What is found in a pool, or added, with the pool that then is; or the fault.
 abbrev pub Adding : Type 0 → Type 0

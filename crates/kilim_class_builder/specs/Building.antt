@@ -1,10 +1,10 @@
 -- The class file that is built, call by call (JVMS 4.1).
 use Rattle.std.specs.Prelude.{◌≡◌, ◌⊎◌, ℕ, List, [], ◌∷◌, ◌++◌, Result, Ok, Err, codes}
-use Rattle.kilim_classfile.specs.declared.class_file.ClassFile.{ClassFile}
-use Rattle.kilim_constant_pool.specs.declared.entry.Entry.{Entry}
-use Rattle.kilim_constant_pool.specs.declared.fault.AddFault.{AddFault}
-use Rattle.kilim_constant_pool.specs.declared.fault.AddFault.TheVariants.{Memory}
-use Rattle.kilim_grammar.specs.Reader.{◌>>=◌}
+use Rattle.kilim_class_file.specs.declared.class_file.ClassFile.{ClassFile}
+use Rattle.kilim_class_pool.specs.declared.entry.Entry.{Entry}
+use Rattle.kilim_class_pool.specs.declared.fault.AddFault.{AddFault}
+use Rattle.kilim_class_pool.specs.declared.fault.AddFault.TheVariants.{Memory}
+use Rattle.kilim_class_grammar.specs.Reader.{◌>>=◌}
 use Rattle.kilim_class_builder.specs.declared.source.MethodSource.{MethodSource}
 use Rattle.kilim_class_builder.specs.Adding.{class_added}
 use Rattle.kilim_class_builder.specs.Members.{field_added, method_added}

@@ -2,22 +2,22 @@
 -- that the pool names at that index.
 use Rattle.std.specs.Prelude.{ℕ, suc, ◌-◌, ◌==◌, Bool, true, false, if◌then◌else◌, List, [], ◌∷◌, ◌++◌, map, Option, Some, None, codes}
 use Rattle.std.specs.List.{flat_map}
-use Rattle.kilim_attribute_parts.specs.declared.frame.Frame.{Frame as Entered}
-use Rattle.kilim_attribute_parts.specs.declared.frame.Frame.TheVariants.{Full as FullFrame}
-use Rattle.kilim_attribute_parts.specs.declared.frame.VerificationType.{VerificationType}
-use Rattle.kilim_attribute_parts.specs.declared.frame.VerificationType.TheVariants as slot
-use Rattle.kilim_classes.specs.declared.ty.Base.{Base}
-use Rattle.kilim_classes.specs.declared.ty.Base.TheVariants as base
-use Rattle.kilim_classes.specs.declared.ty.Ty.{Ty}
-use Rattle.kilim_classes.specs.declared.verified.Frame.{Frame}
-use Rattle.kilim_classes.specs.declared.verified.VType.{VType}
-use Rattle.kilim_classes.specs.declared.verified.VType.TheVariants.{Top, Int, Long, Null, UninitThis, Uninit, Object}
-use Rattle.kilim_classes.specs.Names.{array_descriptor}
-use Rattle.kilim_classfile.specs.Parts.{text_of}
-use Rattle.kilim_constant_pool.specs.declared.entry.Entry.{Entry}
-use Rattle.kilim_constant_pool.specs.declared.entry.Entry.TheVariants.{Class}
-use Rattle.kilim_constant_pool.specs.Entries.{entry_at}
-use Rattle.kilim_class_fits.specs.pool_needs.Adding.{class_index}
+use Rattle.kilim_class_attributes.specs.declared.parts.frame.Frame.{Frame as Entered}
+use Rattle.kilim_class_attributes.specs.declared.parts.frame.Frame.TheVariants.{Full as FullFrame}
+use Rattle.kilim_class_attributes.specs.declared.parts.frame.VerificationType.{VerificationType}
+use Rattle.kilim_class_attributes.specs.declared.parts.frame.VerificationType.TheVariants as slot
+use Rattle.kilim_program.specs.declared.ty.Base.{Base}
+use Rattle.kilim_program.specs.declared.ty.Base.TheVariants as base
+use Rattle.kilim_program.specs.declared.ty.Ty.{Ty}
+use Rattle.kilim_program.specs.declared.verified.Frame.{Frame}
+use Rattle.kilim_program.specs.declared.verified.VType.{VType}
+use Rattle.kilim_program.specs.declared.verified.VType.TheVariants.{Top, Int, Long, Null, UninitThis, Uninit, Object}
+use Rattle.kilim_program.specs.Names.{array_descriptor}
+use Rattle.kilim_class_file.specs.Parts.{text_of}
+use Rattle.kilim_class_pool.specs.declared.entry.Entry.{Entry}
+use Rattle.kilim_class_pool.specs.declared.entry.Entry.TheVariants.{Class}
+use Rattle.kilim_class_pool.specs.Entries.{entry_at}
+use Rattle.kilim_class_making.specs.pool_needs.Adding.{class_index}
 
 -- ---- names
 

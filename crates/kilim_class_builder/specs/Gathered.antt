@@ -1,10 +1,10 @@
 -- The attributes of a method in one list, each behind those before it, and the method with them.
 use Rattle.std.specs.Prelude.{List, [], ◌++◌, Option, Result, Ok, string_bytes}
-use Rattle.kilim_attributes.specs.declared.attribute.Attribute.{Attribute}
-use Rattle.kilim_classfile.specs.declared.class_file.MemberInfo.{MemberInfo}
-use Rattle.kilim_constant_pool.specs.declared.entry.Entry.{Entry}
-use Rattle.kilim_constant_pool.specs.declared.fault.AddFault.{AddFault}
-use Rattle.kilim_grammar.specs.Reader.{◌>>=◌}
+use Rattle.kilim_class_attributes.specs.declared.attribute.Attribute.{Attribute}
+use Rattle.kilim_class_file.specs.declared.class_file.MemberInfo.{MemberInfo}
+use Rattle.kilim_class_pool.specs.declared.entry.Entry.{Entry}
+use Rattle.kilim_class_pool.specs.declared.fault.AddFault.{AddFault}
+use Rattle.kilim_class_grammar.specs.Reader.{◌>>=◌}
 use Rattle.kilim_class_builder.specs.declared.source.MethodSource.{MethodSource}
 use Rattle.kilim_class_builder.specs.Adding.{Adding, text_added}
 use Rattle.kilim_class_builder.specs.Members.{code_added, exceptions_added, listed, member, parameters_added, receiver_added, utf16_of}

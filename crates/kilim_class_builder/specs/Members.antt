@@ -3,23 +3,23 @@ use Rattle.std.specs.Prelude.{ℕ, ◌+◌, Bool, true, false, if◌then◌else�
 use Rattle.std.specs.Char.Escape.{encode_utf16}
 use Rattle.std.specs.List.{flat_map, list_any}
 use Rattle.std.specs.Str.{chars}
-use Rattle.kilim_attribute_parts.specs.declared.annotation.AnnotationPart.{AnnotationPart}
-use Rattle.kilim_attribute_parts.specs.declared.annotation.AnnotationPart.TheVariants.{Annotation, Annotations, Parameters}
-use Rattle.kilim_attributes.specs.declared.attribute.Attribute.{Attribute}
-use Rattle.kilim_attributes.specs.declared.attribute.CodeAttribute.{CodeAttribute}
-use Rattle.kilim_attributes.specs.declared.attribute.CodeInfo.TheVariants as inside
-use Rattle.kilim_attributes.specs.declared.attribute.Info.{Info}
-use Rattle.kilim_attributes.specs.declared.attribute.Info.TheVariants as info
-use Rattle.kilim_classes.specs.declared.ty.Qualifier.{Qualifier}
-use Rattle.kilim_classes.specs.declared.ty.Qualifier.TheVariants.{Free, Cuttable, Safe}
-use Rattle.kilim_classes.specs.declared.verified.Frame.{Frame}
-use Rattle.kilim_classfile.specs.declared.class_file.MemberInfo.{MemberInfo}
-use Rattle.kilim_classfile.specs.Parts.{is_bodiless}
-use Rattle.kilim_constant_pool.specs.declared.entry.Entry.{Entry}
-use Rattle.kilim_constant_pool.specs.declared.fault.AddFault.{AddFault}
-use Rattle.kilim_grammar.specs.Reader.{◌>>=◌}
-use Rattle.kilim_bytecode.specs.declared.opcodes.instr.RawInstr.{RawInstr}
-use Rattle.kilim_bytecode.specs.opcodes.Instr.{instr_text}
+use Rattle.kilim_class_attributes.specs.declared.parts.annotation.AnnotationPart.{AnnotationPart}
+use Rattle.kilim_class_attributes.specs.declared.parts.annotation.AnnotationPart.TheVariants.{Annotation, Annotations, Parameters}
+use Rattle.kilim_class_attributes.specs.declared.attribute.Attribute.{Attribute}
+use Rattle.kilim_class_attributes.specs.declared.attribute.CodeAttribute.{CodeAttribute}
+use Rattle.kilim_class_attributes.specs.declared.attribute.CodeInfo.TheVariants as inside
+use Rattle.kilim_class_attributes.specs.declared.attribute.Info.{Info}
+use Rattle.kilim_class_attributes.specs.declared.attribute.Info.TheVariants as info
+use Rattle.kilim_program.specs.declared.ty.Qualifier.{Qualifier}
+use Rattle.kilim_program.specs.declared.ty.Qualifier.TheVariants.{Free, Cuttable, Safe}
+use Rattle.kilim_program.specs.declared.verified.Frame.{Frame}
+use Rattle.kilim_class_file.specs.declared.class_file.MemberInfo.{MemberInfo}
+use Rattle.kilim_class_file.specs.Parts.{is_bodiless}
+use Rattle.kilim_class_pool.specs.declared.entry.Entry.{Entry}
+use Rattle.kilim_class_pool.specs.declared.fault.AddFault.{AddFault}
+use Rattle.kilim_class_grammar.specs.Reader.{◌>>=◌}
+use Rattle.kilim_class_code.specs.declared.opcodes.instr.RawInstr.{RawInstr}
+use Rattle.kilim_class_code.specs.opcodes.Instr.{instr_text}
 use Rattle.kilim_class_builder.specs.declared.source.MethodSource.{MethodSource}
 use Rattle.kilim_class_builder.specs.Adding.{Adding, class_added, classes_added, text_added}
 use Rattle.kilim_class_builder.specs.Frames.{frames_names, full_frames}

@@ -1,11 +1,11 @@
 //! Entries that are looked for, and added.
 
 ghost use Rattle.std.specs.Prelude.{◌≡◌, ◌∷◌, [], IfOk};
-ghost use Rattle.kilim_constant_pool.specs.declared.fault.AddFault.TheVariants as add;
-ghost use Rattle.kilim_grammar.specs.Reader.{ReadsUnless};
+ghost use Rattle.kilim_class_pool.specs.declared.fault.AddFault.TheVariants as add;
+ghost use Rattle.kilim_class_grammar.specs.Reader.{ReadsUnless};
 ghost use Rattle.kilim_class_builder.specs.Adding.{class_added, class_by, classes_added, text_added};
 
-use kilim_constant_pool::{AddFault, Entry, Pool};
+use kilim_class_pool::{AddFault, Entry, Pool};
 use kilim_units::{Seq, Units};
 use std::alloc::{AllocError, Global};
 

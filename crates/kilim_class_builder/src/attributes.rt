@@ -2,18 +2,18 @@
 
 ghost use Rattle.std.specs.Prelude.{◌≡◌, ◌<◌, ◌++◌, ◌∷◌, [], length, IfErr, IfOk, OnOk};
 ghost use Rattle.std.specs.List.{flat_map, list_any};
-ghost use Rattle.kilim_attribute_parts.specs.declared.annotation.AnnotationPart.TheVariants.{Annotation, Annotations};
-ghost use Rattle.kilim_constant_pool.specs.declared.fault.AddFault.TheVariants as add;
-ghost use Rattle.kilim_grammar.specs.Reader.{ReadsUnless};
+ghost use Rattle.kilim_class_attributes.specs.declared.parts.annotation.AnnotationPart.TheVariants.{Annotation, Annotations};
+ghost use Rattle.kilim_class_pool.specs.declared.fault.AddFault.TheVariants as add;
+ghost use Rattle.kilim_class_grammar.specs.Reader.{ReadsUnless};
 ghost use Rattle.kilim_class_builder.specs.Adding.{text_added};
 ghost use Rattle.kilim_class_builder.specs.Gathered.{appended};
 ghost use Rattle.kilim_class_builder.specs.Members.{all_parts, annotation_of, annotations_added, exceptions_added, given_added, is_given, is_same, is_some_of, parameter_parts, parameters_added, qualifier_text, receiver_added, used_added};
 
 use crate::adding::{add_ascii_class, add_text, one};
-use kilim_attribute_parts::AnnotationPart;
-use kilim_attributes::{Attribute, Info};
-use kilim_classes::Qualifier;
-use kilim_constant_pool::{AddFault, Pool};
+use kilim_class_attributes::parts::AnnotationPart;
+use kilim_class_attributes::{Attribute, Info};
+use kilim_class_pool::{AddFault, Pool};
+use kilim_program::Qualifier;
 use kilim_units::{NoMemory, Seq};
 use std::alloc::{AllocError, Global};
 

@@ -1,11 +1,11 @@
 //! The builder.
 
 ghost use Rattle.std.specs.Prelude.{◌≡◌, ◌↔◌, Err, Ok, IfOk, OnErr};
-ghost use Rattle.kilim_classfile.specs.declared.class_file.ClassFile.{ClassFile};
-ghost use Rattle.kilim_classfile.specs.Text.{ClassFits};
-ghost use Rattle.kilim_constant_pool.specs.Adding.{Adds, IsFull};
-ghost use Rattle.kilim_constant_pool.specs.declared.fault.AddFault.TheVariants as add;
-ghost use Rattle.kilim_grammar.specs.Reader.{ReadsUnless};
+ghost use Rattle.kilim_class_file.specs.declared.class_file.ClassFile.{ClassFile};
+ghost use Rattle.kilim_class_file.specs.Text.{ClassFits};
+ghost use Rattle.kilim_class_pool.specs.Adding.{Adds, IsFull};
+ghost use Rattle.kilim_class_pool.specs.declared.fault.AddFault.TheVariants as add;
+ghost use Rattle.kilim_class_grammar.specs.Reader.{ReadsUnless};
 ghost use Rattle.kilim_class_builder.specs.Adding.{class_added};
 ghost use Rattle.kilim_class_builder.specs.Building.{Makes, begun, with_field, with_message, with_method};
 ghost use Rattle.kilim_class_builder.specs.Members.{utf16_of};
@@ -14,9 +14,9 @@ use crate::adding::{add_ascii_class, add_class, one};
 use crate::methods::{field, method};
 use crate::names::utf16_of;
 use crate::source::MethodSource;
-use kilim_class_fits::fits;
-use kilim_classfile::ClassFile;
-use kilim_constant_pool::{AddFault, Entry, Pool};
+use kilim_class_file::ClassFile;
+use kilim_class_making::fits;
+use kilim_class_pool::{AddFault, Entry, Pool};
 use kilim_units::{NoMemory, Seq};
 use std::alloc::Global;
 use std::marker::Model;

@@ -1,29 +1,29 @@
 //! Code and its frames.
 
 ghost use Rattle.std.specs.Prelude.{◌≡◌, ◌<◌, ◌++◌, ◌∷◌, [], Some, length, IfErr, IfOk, OnOk};
-ghost use Rattle.kilim_attributes.specs.declared.attribute.CodeInfo.TheVariants as inside;
-ghost use Rattle.kilim_constant_pool.specs.declared.fault.AddFault.TheVariants as add;
-ghost use Rattle.kilim_grammar.specs.Reader.{ReadsUnless};
-ghost use Rattle.kilim_bytecode.specs.opcodes.Instr.{instr_text};
+ghost use Rattle.kilim_class_attributes.specs.declared.attribute.CodeInfo.TheVariants as inside;
+ghost use Rattle.kilim_class_pool.specs.declared.fault.AddFault.TheVariants as add;
+ghost use Rattle.kilim_class_grammar.specs.Reader.{ReadsUnless};
+ghost use Rattle.kilim_class_code.specs.opcodes.Instr.{instr_text};
 ghost use Rattle.kilim_class_builder.specs.Adding.{classes_added};
 ghost use Rattle.kilim_class_builder.specs.Frames.{frames_names, full_frames};
 ghost use Rattle.kilim_class_builder.specs.Members.{attribute, body_added, code_with, source_text, table_added};
 
 use crate::adding::{add_classes, add_text};
 use crate::frames::{frames_names, full_frames};
-use kilim_attribute_parts::Frame as Entered;
-use kilim_attributes::{Attribute, Code, CodeAttribute, CodeInfo, Info};
-use kilim_bytecode::opcodes::RawInstr;
-use kilim_class_fits::code_bytes::code_bytes;
-use kilim_classes::Frame;
-use kilim_constant_pool::{AddFault, Pool};
+use kilim_class_attributes::parts::Frame as Entered;
+use kilim_class_attributes::{Attribute, Code, CodeAttribute, CodeInfo, Info};
+use kilim_class_code::opcodes::RawInstr;
+use kilim_class_making::code_bytes::code_bytes;
+use kilim_class_pool::{AddFault, Pool};
+use kilim_program::Frame;
 use kilim_units::{NoMemory, Seq, Units};
 use std::alloc::{AllocError, Global};
 
 // ---- bytes
 
 // The bytes of an instruction at a place.
-#[tactic(auto, unfolding(kilim_bytecode::specs::Code::code_text))]
+#[tactic(auto, unfolding(kilim_class_code::specs::Code::code_text))]
 fn instr_bytes(alloc: Global, at: u32, instr: RawInstr) -> Result<Seq<u8>, NoMemory>
     ensures { IfOk result (λ bytes. bytes ≡ instr_text at instr) }
 {

@@ -2,15 +2,15 @@
 
 ghost use Rattle.std.specs.Prelude.{◌≡◌, ◌<◌, ◌-◌, ◌++◌, ◌∷◌, List, suc, length, map, slice_get, Some, false, IfOk, OnOk, codes, option_copied};
 ghost use Rattle.std.specs.List.{flat_map};
-ghost use Rattle.kilim_classfile.specs.Parts.{text_of};
-ghost use Rattle.kilim_classes.specs.declared.verified.VType.{VType};
-ghost use Rattle.kilim_constant_pool.specs.Entries.{entry_at};
+ghost use Rattle.kilim_class_file.specs.Parts.{text_of};
+ghost use Rattle.kilim_program.specs.declared.verified.VType.{VType};
+ghost use Rattle.kilim_class_pool.specs.Entries.{entry_at};
 ghost use Rattle.kilim_class_builder.specs.Frames.{array_names, array_text, base_text, class_number, frame_names, frames_names, full_frame, full_frames, is_long, name_in, object_index, slot_type, written};
 
-use kilim_attribute_parts::{Frame as Entered, VerificationType};
-use kilim_class_fits::pool_needs::{Need, index_of};
-use kilim_classes::{Base, Frame, Ty, VType};
-use kilim_constant_pool::{Entry, Pool};
+use kilim_class_attributes::parts::{Frame as Entered, VerificationType};
+use kilim_class_making::pool_needs::{Need, index_of};
+use kilim_class_pool::{Entry, Pool};
+use kilim_program::{Base, Frame, Ty, VType};
 use kilim_units::{NoMemory, Seq, Units};
 use std::alloc::Global;
 
@@ -20,7 +20,7 @@ const BRACKET: u16 = 91;
 // ---- names
 
 // Adds the units of a Utf8; none where another entry stands there.
-#[tactic(auto, unfolding(kilim_classfile::specs::Parts::text_of))]
+#[tactic(auto, unfolding(kilim_class_file::specs::Parts::text_of))]
 fn push_text(out: &mut Vec<u16>, pool: &Pool, index: u16) -> Result<(), NoMemory>
     ensures { OnOk result (out.new.items ≡ out.old.items ++ text_of pool.now index) }
 {

@@ -1,9 +1,9 @@
 //! Fields and methods.
 
 ghost use Rattle.std.specs.Prelude.{◌≡◌, ◌++◌, OnOk};
-ghost use Rattle.kilim_classfile.specs.Parts.{is_bodiless};
-ghost use Rattle.kilim_constant_pool.specs.declared.fault.AddFault.TheVariants as add;
-ghost use Rattle.kilim_grammar.specs.Reader.{ReadsUnless};
+ghost use Rattle.kilim_class_file.specs.Parts.{is_bodiless};
+ghost use Rattle.kilim_class_pool.specs.declared.fault.AddFault.TheVariants as add;
+ghost use Rattle.kilim_class_grammar.specs.Reader.{ReadsUnless};
 ghost use Rattle.kilim_class_builder.specs.Adding.{text_added};
 ghost use Rattle.kilim_class_builder.specs.Gathered.{appended, head_added, marks_added};
 ghost use Rattle.kilim_class_builder.specs.Members.{code_added, field_added, listed, method_added, utf16_of};
@@ -13,11 +13,11 @@ use crate::attributes::{exceptions, parameters, receiver};
 use crate::code::{body, bytes_or_fault};
 use crate::names::utf16_of;
 use crate::source::MethodSource;
-use kilim_attributes::Attribute;
-use kilim_bytecode::opcodes::RawInstr;
-use kilim_classes::Frame;
-use kilim_classfile::MemberInfo;
-use kilim_constant_pool::{AddFault, Pool};
+use kilim_class_attributes::Attribute;
+use kilim_class_code::opcodes::RawInstr;
+use kilim_class_file::MemberInfo;
+use kilim_class_pool::{AddFault, Pool};
+use kilim_program::Frame;
 use kilim_units::Seq;
 use std::alloc::{AllocError, Global};
 

@@ -1,7 +1,7 @@
 //! Methods as they are given to a builder.
 
-use kilim_bytecode::opcodes::RawInstr;
-use kilim_classes::{Frame, Qualifier};
+use kilim_class_code::opcodes::RawInstr;
+use kilim_program::{Frame, Qualifier};
 
 /// A method. Without code it is abstract or native: then `code` and `frames` aren't looked at.
 #[derive(Drop)]

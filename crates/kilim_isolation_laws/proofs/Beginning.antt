@@ -5,42 +5,42 @@ use Rattle.std.specs.FinMap.{empty, get, insert, get-empty}
 use Rattle.std.specs.List.{list_any}
 use Rattle.std.specs.Str.{bytes_eq}
 use Rattle.std.proofs.lemmas.Bool.{and_parts, eq-eqb, eqb-true, not-true, or_left}
-use Rattle.kilim_classes.specs.declared.class.Field.{Field}
-use Rattle.kilim_classes.specs.declared.class.Method.{Method}
-use Rattle.kilim_classes.specs.declared.names.ClassId.{ClassId}
-use Rattle.kilim_classes.specs.declared.names.FieldId.{FieldId}
-use Rattle.kilim_classes.specs.declared.names.MethodId.{MethodId}
-use Rattle.kilim_classes.specs.declared.ty.Base.{Base}
-use Rattle.kilim_classes.specs.declared.ty.Base.TheVariants as base
-use Rattle.kilim_classes.specs.declared.ty.Kind.TheVariants as kind
-use Rattle.kilim_classes.specs.declared.ty.Qualifier.TheVariants.{Cuttable, Free}
-use Rattle.kilim_classes.specs.declared.ty.Ty.{Ty}
-use Rattle.kilim_classes.specs.declared.value.Value.{Value}
-use Rattle.kilim_classes.specs.declared.value.Value.TheVariants.{Null, Ref}
-use Rattle.kilim_classes.specs.Program.{Program}
-use Rattle.kilim_classes.specs.BuiltIn.{class_id, class_type}
-use Rattle.kilim_classes.specs.Kinds.{class_kind}
-use Rattle.kilim_classes.specs.Names.{class_at, class_name, field_of, first_that, is_empty, is_named_task, is_task, line_of, method_at, methods_of, ◌>>=◌}
-use Rattle.kilim_classes.specs.Same.{is_constructor, selected}
-use Rattle.kilim_classes.specs.declared.machine.value.Object.{Object}
-use Rattle.kilim_classes.specs.declared.machine.value.Token.{Token}
-use Rattle.kilim_classes.specs.machine.Machine.{Activation, Objects}
-use Rattle.kilim_classes.specs.machine.Members.{constructor_of, execute_of, is_concrete, is_own_constructor, is_plain_method, is_task_execute, object_fields}
-use Rattle.kilim_classes.specs.machine.Moves.{entered}
-use Rattle.kilim_classes.specs.machine.Objects.{first_field, first_value, first_value_of, new_object}
-use Rattle.kilim_classes.specs.machine.Shapes.{field_in}
-use Rattle.kilim_classes.specs.machine.Trees.{OfTask, built, is_root, with_objects}
-use Rattle.kilim_thread_model.specs.declared.deed.Beginning.{Beginning}
-use Rattle.kilim_thread_model.specs.Course.{lone_begun, lone_built, lone_in}
-use Rattle.kilim_thread_model.specs.declared.deed.Beginning.TheVariants.{Begun, Boot}
-use Rattle.kilim_thread_model.specs.Lone.{Lone}
-use Rattle.kilim_thread_model.specs.State.{Alive, Setting, begun_in, begun_on, class_of, execute_frames, is_fit}
-use Rattle.kilim_typing.specs.typing_laws.Laws.{typing_at}
+use Rattle.kilim_program.specs.declared.class.Field.{Field}
+use Rattle.kilim_program.specs.declared.class.Method.{Method}
+use Rattle.kilim_program.specs.declared.names.ClassId.{ClassId}
+use Rattle.kilim_program.specs.declared.names.FieldId.{FieldId}
+use Rattle.kilim_program.specs.declared.names.MethodId.{MethodId}
+use Rattle.kilim_program.specs.declared.ty.Base.{Base}
+use Rattle.kilim_program.specs.declared.ty.Base.TheVariants as base
+use Rattle.kilim_program.specs.declared.ty.Kind.TheVariants as kind
+use Rattle.kilim_program.specs.declared.ty.Qualifier.TheVariants.{Cuttable, Free}
+use Rattle.kilim_program.specs.declared.ty.Ty.{Ty}
+use Rattle.kilim_program.specs.declared.value.Value.{Value}
+use Rattle.kilim_program.specs.declared.value.Value.TheVariants.{Null, Ref}
+use Rattle.kilim_program.specs.Program.{Program}
+use Rattle.kilim_program.specs.BuiltIn.{class_id, class_type}
+use Rattle.kilim_program.specs.Kinds.{class_kind}
+use Rattle.kilim_program.specs.Names.{class_at, class_name, field_of, first_that, is_empty, is_named_task, is_task, line_of, method_at, methods_of, ◌>>=◌}
+use Rattle.kilim_program.specs.Same.{is_constructor, selected}
+use Rattle.kilim_run_state.specs.declared.value.Object.{Object}
+use Rattle.kilim_run_state.specs.declared.value.Token.{Token}
+use Rattle.kilim_run_state.specs.Machine.{Activation, Objects}
+use Rattle.kilim_program.specs.Members.{constructor_of, execute_of, is_concrete, is_own_constructor, is_plain_method, is_task_execute, object_fields}
+use Rattle.kilim_run_machine.specs.Moves.{entered}
+use Rattle.kilim_run_state.specs.Objects.{first_field, first_value, first_value_of, new_object}
+use Rattle.kilim_run_state.specs.Shapes.{field_in}
+use Rattle.kilim_run_state.specs.Trees.{OfTask, built, is_root, with_objects}
+use Rattle.kilim_run_model.specs.declared.deed.Beginning.{Beginning}
+use Rattle.kilim_run_model.specs.Course.{lone_begun, lone_built, lone_in}
+use Rattle.kilim_run_model.specs.declared.deed.Beginning.TheVariants.{Begun, Boot}
+use Rattle.kilim_run_model.specs.Lone.{Lone}
+use Rattle.kilim_run_model.specs.State.{Alive, Setting, begun_in, begun_on, class_of, execute_frames, is_fit}
+use Rattle.kilim_type_laws.specs.Laws.{typing_at}
 use Rattle.kilim_isolation_laws.specs.forest.Heap.{IsForest, Up}
-use Rattle.kilim_typing.specs.typing_laws.fits.Chosen.{IsChosen}
-use Rattle.kilim_typing.specs.typing_laws.fits.Fits.{Classes, Wanted}
-use Rattle.kilim_typing.proofs.typing_laws.fits.ClassMethods.{IsAmong, names_owner}
-use Rattle.kilim_typing.proofs.typing_laws.fits.Finding.{finds}
+use Rattle.kilim_type_laws.specs.members.Chosen.{IsChosen}
+use Rattle.kilim_type_sound.specs.Fits.{Classes, Wanted}
+use Rattle.kilim_type_laws.proofs.members.ClassMethods.{IsAmong, names_owner}
+use Rattle.kilim_type_laws.proofs.members.Finding.{finds}
 use Rattle.kilim_isolation_laws.specs.typed_threads.fine.Typed.{FitsAs, IsVerified}
 use Rattle.kilim_isolation_laws.proofs.typed_threads.Executing.{same_class}
 use Rattle.kilim_isolation_laws.proofs.typed_threads.Read.{built_is}

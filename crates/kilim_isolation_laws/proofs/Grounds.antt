@@ -3,37 +3,38 @@ use Rattle.std.proofs.Common.{◌≡◌, ℕ, zero, suc, ◌-◌, Bool, true, fa
 use Rattle.std.specs.Prelude.{◌&&◌, slice_get}
 use Rattle.std.specs.FinMap.{get}
 use Rattle.std.proofs.lemmas.Bool.{and_parts}
-use Rattle.kilim_classes.specs.declared.class.Method.{Method}
-use Rattle.kilim_classes.specs.declared.instr.Instr.{Instr}
-use Rattle.kilim_classes.specs.declared.instr.Instr.TheVariants.{Anewarray, Newarray}
-use Rattle.kilim_classes.specs.declared.names.MethodId.{MethodId}
-use Rattle.kilim_classes.specs.declared.ty.Ty.{Ty}
-use Rattle.kilim_classes.specs.declared.value.Value.{Value}
-use Rattle.kilim_classes.specs.declared.value.Value.TheVariants as value
-use Rattle.kilim_classes.specs.declared.verified.VType.{VType}
-use Rattle.kilim_classes.specs.declared.verified.VType.TheVariants.{Int, Long, Null, Object, Top, Uninit, UninitThis}
-use Rattle.kilim_classes.specs.Program.{Program}
-use Rattle.kilim_classes.specs.Keeps.{Keeps, code_is_whole}
-use Rattle.kilim_classes.specs.Lengths.{code_ends, code_stands, fetched, first_place, has_length, is_primitive, is_reference, targets_stand}
-use Rattle.kilim_classes.specs.Names.{method_at}
-use Rattle.kilim_classes.specs.declared.machine.value.Object.{Object as HeapObject}
-use Rattle.kilim_classes.specs.machine.Effect.{is_wide, named_type}
-use Rattle.kilim_classes.specs.machine.Machine.{Objects}
-use Rattle.kilim_typing.specs.Step.{is_long, peek}
-use Rattle.kilim_typing.specs.Typed.{IsWellTyped, edges, has_code}
-use Rattle.kilim_typing.specs.typing_laws.Laws.{typing_at}
-use Rattle.kilim_typing.proofs.typing_laws.ByPlace.{typed_by_place}
-use Rattle.kilim_paths.specs.Paths.{Has, Reaches}
-use Rattle.kilim_shape_graph.specs.declared.graph.Graph.{Graph}
-use Rattle.kilim_isolation_check.specs.Faults.{IsAccepted}
-use Rattle.kilim_isolation_check.specs.Laws.{GoesOn}
-use Rattle.kilim_isolation_check.specs.Walks.{entry_graph, exits_to, machine_of}
+use Rattle.kilim_program.specs.declared.class.Method.{Method}
+use Rattle.kilim_program.specs.declared.instr.Instr.{Instr}
+use Rattle.kilim_program.specs.declared.instr.Instr.TheVariants.{Anewarray, Newarray}
+use Rattle.kilim_program.specs.declared.names.MethodId.{MethodId}
+use Rattle.kilim_program.specs.declared.ty.Ty.{Ty}
+use Rattle.kilim_program.specs.declared.value.Value.{Value}
+use Rattle.kilim_program.specs.declared.value.Value.TheVariants as value
+use Rattle.kilim_program.specs.declared.verified.VType.{VType}
+use Rattle.kilim_program.specs.declared.verified.VType.TheVariants.{Int, Long, Null, Object, Top, Uninit, UninitThis}
+use Rattle.kilim_program.specs.Program.{Program}
+use Rattle.kilim_program.specs.Keeps.{Keeps, code_is_whole}
+use Rattle.kilim_program.specs.Lengths.{code_ends, code_stands, fetched, first_place, has_length, is_primitive, is_reference, targets_stand}
+use Rattle.kilim_program.specs.Names.{method_at}
+use Rattle.kilim_run_state.specs.declared.value.Object.{Object as HeapObject}
+use Rattle.kilim_run_machine.specs.Effect.{is_wide}
+use Rattle.kilim_program.specs.Members.{named_type}
+use Rattle.kilim_run_state.specs.Machine.{Objects}
+use Rattle.kilim_type_spec.specs.Step.{is_long, peek}
+use Rattle.kilim_type_spec.specs.Typed.{IsWellTyped, edges, has_code}
+use Rattle.kilim_type_laws.specs.Laws.{typing_at}
+use Rattle.kilim_type_laws.proofs.ByPlace.{typed_by_place}
+use Rattle.kilim_isolation_paths.specs.Paths.{Has, Reaches}
+use Rattle.kilim_isolation_graph.specs.declared.graph.Graph.{Graph}
+use Rattle.kilim_isolation.specs.Faults.{IsAccepted}
+use Rattle.kilim_isolation.specs.Laws.{GoesOn}
+use Rattle.kilim_isolation.specs.Walks.{entry_graph, exits_to, machine_of}
 use Rattle.kilim_isolation_laws.proofs.reached_objects.walk.Methods.{every_method_goes}
 use Rattle.kilim_isolation_laws.proofs.reached_objects.walk.Walks.{walks_by_types}
-use Rattle.kilim_typing.specs.typing_laws.fits.Fits.{Classes, HeapFits, has_type, have_types, is_made, is_of}
-use Rattle.kilim_typing.specs.typing_laws.fits.Fits as fits
-use Rattle.kilim_typing.proofs.typing_laws.fits.Bodies.{starts}
-use Rattle.kilim_typing.proofs.typing_laws.fits.FromKeeps.{all_at}
+use Rattle.kilim_type_sound.specs.Fits.{Classes, HeapFits, has_type, have_types, is_made, is_of}
+use Rattle.kilim_type_sound.specs.Fits as fits
+use Rattle.kilim_type_sound.proofs.Bodies.{starts}
+use Rattle.kilim_type_laws.proofs.members.FromKeeps.{all_at}
 use Rattle.kilim_isolation_laws.specs.graph_rows.Facts.{IsOfType, IsVerified, IsWhole, class_in, class_of}
 use Rattle.kilim_isolation_laws.proofs.sorts.Keeping.{program_keeps}
 use Rattle.kilim_isolation_laws.specs.reached_objects.graphs.Threads.{IsSound, MethodKeeps, Passes}

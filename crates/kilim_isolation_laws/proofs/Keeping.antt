@@ -2,24 +2,24 @@
 use Rattle.std.proofs.Common.{◌≡◌, ℕ, true, true≢false, List, [], ◌∷◌, Option, Some, None, refl, sym, ap, subst, ◌∙◌}
 use Rattle.std.specs.FinMap.{get}
 use Rattle.std.proofs.lemmas.Bool.{and_parts}
-use Rattle.kilim_classes.specs.declared.class.Form.TheVariants.{Plain}
-use Rattle.kilim_classes.specs.BuiltIn.{class_type}
-use Rattle.kilim_classes.specs.Keeps.{Keeps}
-use Rattle.kilim_classes.specs.Names.{is_task}
-use Rattle.kilim_classes.specs.Program.{Program}
-use Rattle.kilim_classes.specs.declared.machine.value.Object.{Object}
-use Rattle.kilim_classes.specs.machine.Machine.{Activation, Objects}
-use Rattle.kilim_classes.specs.machine.Members.{execute_of, is_concrete}
-use Rattle.kilim_thread_model.specs.State.{Alive, Ended, Setting, Thread, begun_on, is_fit}
-use Rattle.kilim_thread_model.specs.Lone.{Lone, Next, Goes, Puts, Gets, Probes, Starts, Prints, Ends, Stands, next_move}
-use Rattle.kilim_thread_model.specs.Course.{Course, Done, Follows, IsLone, Moves, Quiet, Stays, done_by, next_action}
-use Rattle.kilim_thread_model.specs.declared.deed.Deed.{Deed}
-use Rattle.kilim_typing.specs.Typed.{IsWellTyped}
-use Rattle.kilim_typing.specs.typing_laws.Laws.{typing_at}
-use Rattle.kilim_typing.proofs.typing_laws.ByPlace.{typed_by_place}
-use Rattle.kilim_isolation_check.specs.Faults.{IsAccepted}
-use Rattle.kilim_typing.specs.typing_laws.fits.Fits.{Classes, Fits, HeapFits, Verified, Wanted}
-use Rattle.kilim_typing.proofs.typing_laws.fits.Grounds.{are_verified, are_wanted}
+use Rattle.kilim_program.specs.declared.class.Form.TheVariants.{Plain}
+use Rattle.kilim_program.specs.BuiltIn.{class_type}
+use Rattle.kilim_program.specs.Keeps.{Keeps}
+use Rattle.kilim_program.specs.Names.{is_task}
+use Rattle.kilim_program.specs.Program.{Program}
+use Rattle.kilim_run_state.specs.declared.value.Object.{Object}
+use Rattle.kilim_run_state.specs.Machine.{Activation, Objects}
+use Rattle.kilim_program.specs.Members.{execute_of, is_concrete}
+use Rattle.kilim_run_model.specs.State.{Alive, Ended, Setting, Thread, begun_on, is_fit}
+use Rattle.kilim_run_model.specs.Lone.{Lone, Next, Goes, Puts, Gets, Probes, Starts, Prints, Ends, Stands, next_move}
+use Rattle.kilim_run_model.specs.Course.{Course, Done, Follows, IsLone, Moves, Quiet, Stays, done_by, next_action}
+use Rattle.kilim_run_model.specs.declared.deed.Deed.{Deed}
+use Rattle.kilim_type_spec.specs.Typed.{IsWellTyped}
+use Rattle.kilim_type_laws.specs.Laws.{typing_at}
+use Rattle.kilim_type_laws.proofs.ByPlace.{typed_by_place}
+use Rattle.kilim_isolation.specs.Faults.{IsAccepted}
+use Rattle.kilim_type_sound.specs.Fits.{Classes, Fits, HeapFits, Verified, Wanted}
+use Rattle.kilim_type_sound.proofs.Grounds.{are_verified, are_wanted}
 use Rattle.kilim_isolation_laws.specs.typed_threads.fine.Typed.{IsVerified, StackIsThere, TopIsThere, frames_of}
 use Rattle.kilim_isolation_laws.proofs.typed_threads.Moving.{deeds_stay_typed, moves_stay_typed}
 use Rattle.kilim_isolation_laws.proofs.typed_threads.Threads.{action_splits, beginnings_are_typed, is_acting}

@@ -3,48 +3,48 @@ use Rattle.std.proofs.Common.{◌≡◌, inl, inr, ℕ, ◌+◌, ◌≤◌, ℤ,
 use Rattle.std.specs.Prelude.{◌&&◌, nat_le, nat_lt}
 use Rattle.std.specs.FinMap.{get}
 use Rattle.std.proofs.lemmas.Bool.{and_parts}
-use Rattle.kilim_classes.specs.declared.class.Method.{Method}
-use Rattle.kilim_classes.specs.declared.names.BoxName.{BoxName}
-use Rattle.kilim_classes.specs.declared.names.ClassId.{ClassId}
-use Rattle.kilim_classes.specs.declared.names.MethodId.{MethodId}
-use Rattle.kilim_classes.specs.declared.ty.Kind.{Kind}
-use Rattle.kilim_classes.specs.declared.ty.Kind.TheVariants as kind
-use Rattle.kilim_classes.specs.declared.ty.Qualifier.TheVariants.{Free, Safe}
-use Rattle.kilim_classes.specs.declared.ty.Ty.{Ty}
-use Rattle.kilim_classes.specs.declared.value.Value.{Value}
-use Rattle.kilim_classes.specs.declared.value.Value.TheVariants.{Int, Null, Ref, Box}
-use Rattle.kilim_classes.specs.declared.verified.VType.{VType}
-use Rattle.kilim_classes.specs.BuiltIn.{class_id, class_type, int_type}
-use Rattle.kilim_classes.specs.Kinds.{class_kind, is_tree_kind, kind_of}
-use Rattle.kilim_classes.specs.Names.{method_at}
-use Rattle.kilim_classes.specs.Program.{Program}
-use Rattle.kilim_classes.specs.declared.machine.cause.EndCause.TheVariants as cause
-use Rattle.kilim_classes.specs.declared.machine.value.Object.{Object}
-use Rattle.kilim_classes.specs.declared.machine.value.Token.{Token}
-use Rattle.kilim_classes.specs.machine.Machine.{Objects, Activation}
-use Rattle.kilim_classes.specs.machine.Members.{execute_of}
-use Rattle.kilim_classes.specs.machine.Moves.{Move, moves, push_value}
-use Rattle.kilim_classes.specs.machine.Moves as move
-use Rattle.kilim_classes.specs.machine.Natives.{Native, native_of}
-use Rattle.kilim_classes.specs.machine.Natives as native
-use Rattle.kilim_classes.specs.machine.Shapes.{shape_of}
-use Rattle.kilim_classes.specs.machine.Trees.{OfMessage, built, tree_names, with_objects, without}
-use Rattle.kilim_journal.specs.declared.entry.Act.{Act}
-use Rattle.kilim_journal.specs.declared.entry.Act.TheVariants.{Put, Take, Empty, Start, Print, End}
-use Rattle.kilim_thread_model.specs.State.{Setting, Thread, Alive, Ended, begun_on, is_fit}
-use Rattle.kilim_thread_model.specs.Lone.{Lone, Next, Goes, Puts, Gets, Probes, Starts, Prints, Ends, Stands, arg_at, arg_next, asks_next, begins_next, box_limit, ended, finish_next, frames_next, message_next, native_next, next_by, next_move, on_heap, opens_next, over, print_next, printed, pushed, put_next, start_next, thread_next, went}
-use Rattle.kilim_thread_model.specs.Course.{Done, done_by, probes_deed, puts_deed, received, starts_deed, takes_deed, tree_came, tree_left}
-use Rattle.kilim_thread_model.specs.declared.deed.Deed.{Deed}
-use Rattle.kilim_typing.specs.Step.{vtype}
-use Rattle.kilim_typing.specs.Typed.{has_code}
-use Rattle.kilim_typing.specs.typing_laws.Laws.{typing_at}
+use Rattle.kilim_program.specs.declared.class.Method.{Method}
+use Rattle.kilim_program.specs.declared.names.BoxName.{BoxName}
+use Rattle.kilim_program.specs.declared.names.ClassId.{ClassId}
+use Rattle.kilim_program.specs.declared.names.MethodId.{MethodId}
+use Rattle.kilim_program.specs.declared.ty.Kind.{Kind}
+use Rattle.kilim_program.specs.declared.ty.Kind.TheVariants as kind
+use Rattle.kilim_program.specs.declared.ty.Qualifier.TheVariants.{Free, Safe}
+use Rattle.kilim_program.specs.declared.ty.Ty.{Ty}
+use Rattle.kilim_program.specs.declared.value.Value.{Value}
+use Rattle.kilim_program.specs.declared.value.Value.TheVariants.{Int, Null, Ref, Box}
+use Rattle.kilim_program.specs.declared.verified.VType.{VType}
+use Rattle.kilim_program.specs.BuiltIn.{class_id, class_type, int_type}
+use Rattle.kilim_program.specs.Kinds.{class_kind, is_tree_kind, kind_of}
+use Rattle.kilim_program.specs.Names.{method_at}
+use Rattle.kilim_program.specs.Program.{Program}
+use Rattle.kilim_run_state.specs.declared.cause.EndCause.TheVariants as cause
+use Rattle.kilim_run_state.specs.declared.value.Object.{Object}
+use Rattle.kilim_run_state.specs.declared.value.Token.{Token}
+use Rattle.kilim_run_state.specs.Machine.{Objects, Activation}
+use Rattle.kilim_program.specs.Members.{execute_of}
+use Rattle.kilim_run_machine.specs.Moves.{Move, moves, push_value}
+use Rattle.kilim_run_machine.specs.Moves as move
+use Rattle.kilim_run_machine.specs.Natives.{Native, native_of}
+use Rattle.kilim_run_machine.specs.Natives as native
+use Rattle.kilim_run_state.specs.Shapes.{shape_of}
+use Rattle.kilim_run_state.specs.Trees.{OfMessage, built, tree_names, with_objects, without}
+use Rattle.kilim_run_journal.specs.declared.entry.Act.{Act}
+use Rattle.kilim_run_journal.specs.declared.entry.Act.TheVariants.{Put, Take, Empty, Start, Print, End}
+use Rattle.kilim_run_model.specs.State.{Setting, Thread, Alive, Ended, begun_on, is_fit}
+use Rattle.kilim_run_model.specs.Lone.{Lone, Next, Goes, Puts, Gets, Probes, Starts, Prints, Ends, Stands, arg_at, arg_next, asks_next, begins_next, box_limit, ended, finish_next, frames_next, message_next, native_next, next_by, next_move, on_heap, opens_next, over, print_next, printed, pushed, put_next, start_next, thread_next, went}
+use Rattle.kilim_run_model.specs.Course.{Done, done_by, probes_deed, puts_deed, received, starts_deed, takes_deed, tree_came, tree_left}
+use Rattle.kilim_run_model.specs.declared.deed.Deed.{Deed}
+use Rattle.kilim_type_spec.specs.Step.{vtype}
+use Rattle.kilim_type_spec.specs.Typed.{has_code}
+use Rattle.kilim_type_laws.specs.Laws.{typing_at}
 use Rattle.kilim_isolation_laws.specs.forest.Heap.{IsForest}
-use Rattle.kilim_shape_graph.specs.declared.entry.Parameter.{Parameter}
-use Rattle.kilim_shape_graph.specs.Entry.{parameters_of, quality}
-use Rattle.kilim_typing.specs.typing_laws.fits.Fits.{Classes, Fits, FramesFit, HeapFits, Nothing, Wanted, have_types, is_of}
-use Rattle.kilim_typing.specs.typing_laws.fits.Sound.{AsksFit, MoveFits, native_types}
-use Rattle.kilim_typing.proofs.typing_laws.fits.Grounds.{facts_hold}
-use Rattle.kilim_typing.proofs.typing_laws.fits.Theorem.{moves_fit}
+use Rattle.kilim_isolation_graph.specs.declared.entry.Parameter.{Parameter}
+use Rattle.kilim_isolation_graph.specs.Entry.{parameters_of, quality}
+use Rattle.kilim_type_sound.specs.Fits.{Classes, Fits, FramesFit, HeapFits, Nothing, Wanted, have_types, is_of}
+use Rattle.kilim_type_sound.specs.Sound.{AsksFit, MoveFits, native_types}
+use Rattle.kilim_type_sound.proofs.Grounds.{facts_hold}
+use Rattle.kilim_type_sound.proofs.Theorem.{moves_fit}
 use Rattle.kilim_isolation_laws.specs.typed_threads.fine.Typed.{FitsAs, IsVerified, StackIsThere, TopIsThere, frames_of}
 use Rattle.kilim_isolation_laws.proofs.typed_threads.fine.Natives.{gives, native_gives}
 use Rattle.kilim_isolation_laws.specs.graph_rows.Holds.{IsOf, Tree, Trees, object_sort, trees, type_sort}
@@ -181,15 +181,15 @@ module _ (set : Setting) (wanted : Wanted) (listed : Listed) (sound : IsSound se
           puts : Rattle.kilim_isolation_laws.proofs.Natives.Puts number fits.callee
           puts = put_is p is.keeps is.form id fits.callee fits.is known
 
-          types : native_types fits.callee ≡ Rattle.kilim_typing.specs.Step.class_vtype (class_id (number + 5)) ∷ vtype message ∷ []
+          types : native_types fits.callee ≡ Rattle.kilim_type_spec.specs.Step.class_vtype (class_id (number + 5)) ∷ vtype message ∷ []
           types =
-              ap (λ (z : Bool). Rattle.kilim_typing.specs.typing_laws.fits.Sound.native_types (record fits.callee { is_static = z })) puts.0
-              ∙ (ap (λ (c : ClassId). Rattle.kilim_typing.specs.typing_laws.fits.Sound.native_types (record fits.callee { is_static = false; owner = c })) puts.1
-              ∙ ap (λ (tys : List Ty). Rattle.kilim_typing.specs.typing_laws.fits.Sound.native_types (record fits.callee { is_static = false; owner = class_id (number + 5); params = tys })) puts.3)
+              ap (λ (z : Bool). Rattle.kilim_type_sound.specs.Sound.native_types (record fits.callee { is_static = z })) puts.0
+              ∙ (ap (λ (c : ClassId). Rattle.kilim_type_sound.specs.Sound.native_types (record fits.callee { is_static = false; owner = c })) puts.1
+              ∙ ap (λ (tys : List Ty). Rattle.kilim_type_sound.specs.Sound.native_types (record fits.callee { is_static = false; owner = class_id (number + 5); params = tys })) puts.3)
 
           typed : is_of p (of root) message ≡ true
           typed =
-              let a : have_types p fits.callee of (Rattle.kilim_typing.specs.Step.class_vtype (class_id (number + 5)) ∷ vtype message ∷ []) (Box box ∷ Ref root ∷ []) ≡ true = subst (λ (vs : List Value). have_types p fits.callee of (Rattle.kilim_typing.specs.Step.class_vtype (class_id (number + 5)) ∷ vtype message ∷ []) vs ≡ true) own (subst (λ (ts : List VType). have_types p fits.callee of ts args ≡ true) types arguments) in
+              let a : have_types p fits.callee of (Rattle.kilim_type_spec.specs.Step.class_vtype (class_id (number + 5)) ∷ vtype message ∷ []) (Box box ∷ Ref root ∷ []) ≡ true = subst (λ (vs : List Value). have_types p fits.callee of (Rattle.kilim_type_spec.specs.Step.class_vtype (class_id (number + 5)) ∷ vtype message ∷ []) vs ≡ true) own (subst (λ (ts : List VType). have_types p fits.callee of ts args ≡ true) types arguments) in
               (and_parts (is_of p (of root) message) true (and_parts _ (is_of p (of root) message && true) a).1).0
 
           gives_it : Gives p (parameters_of fits.callee) args root
@@ -209,15 +209,15 @@ module _ (set : Setting) (wanted : Wanted) (listed : Listed) (sound : IsSound se
           starts : Rattle.kilim_isolation_laws.proofs.Natives.Begins number Free fits.callee
           starts = start_is p is.keeps is.form id fits.callee fits.is known
 
-          types : native_types fits.callee ≡ Rattle.kilim_typing.specs.Step.class_vtype (class_id (number + 4)) ∷ []
+          types : native_types fits.callee ≡ Rattle.kilim_type_spec.specs.Step.class_vtype (class_id (number + 4)) ∷ []
           types =
-              ap (λ (z : Bool). Rattle.kilim_typing.specs.typing_laws.fits.Sound.native_types (record fits.callee { is_static = z })) starts.0
-              ∙ (ap (λ (c : ClassId). Rattle.kilim_typing.specs.typing_laws.fits.Sound.native_types (record fits.callee { is_static = false; owner = c })) starts.1
-              ∙ ap (λ (tys : List Ty). Rattle.kilim_typing.specs.typing_laws.fits.Sound.native_types (record fits.callee { is_static = false; owner = class_id (number + 4); params = tys })) starts.3)
+              ap (λ (z : Bool). Rattle.kilim_type_sound.specs.Sound.native_types (record fits.callee { is_static = z })) starts.0
+              ∙ (ap (λ (c : ClassId). Rattle.kilim_type_sound.specs.Sound.native_types (record fits.callee { is_static = false; owner = c })) starts.1
+              ∙ ap (λ (tys : List Ty). Rattle.kilim_type_sound.specs.Sound.native_types (record fits.callee { is_static = false; owner = class_id (number + 4); params = tys })) starts.3)
 
           typed : is_of p (of root) (class_type (number + 4)) ≡ true
           typed =
-              let a : have_types p fits.callee of (Rattle.kilim_typing.specs.Step.class_vtype (class_id (number + 4)) ∷ []) (Ref root ∷ []) ≡ true = subst (λ (vs : List Value). have_types p fits.callee of (Rattle.kilim_typing.specs.Step.class_vtype (class_id (number + 4)) ∷ []) vs ≡ true) own (subst (λ (ts : List VType). have_types p fits.callee of ts args ≡ true) types arguments) in
+              let a : have_types p fits.callee of (Rattle.kilim_type_spec.specs.Step.class_vtype (class_id (number + 4)) ∷ []) (Ref root ∷ []) ≡ true = subst (λ (vs : List Value). have_types p fits.callee of (Rattle.kilim_type_spec.specs.Step.class_vtype (class_id (number + 4)) ∷ []) vs ≡ true) own (subst (λ (ts : List VType). have_types p fits.callee of ts args ≡ true) types arguments) in
               (and_parts (is_of p (of root) (class_type (number + 4))) true a).0
 
           gives_it : Gives p (parameters_of fits.callee) args root

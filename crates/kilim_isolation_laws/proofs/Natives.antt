@@ -4,31 +4,31 @@ use Rattle.std.specs.Prelude.{◌&&◌, ◌||◌, codes}
 use Rattle.std.specs.List.{AllByRecursion, list_any}
 use Rattle.std.specs.Str.{bytes_eq}
 use Rattle.std.proofs.lemmas.Bool.{or_left}
-use Rattle.kilim_classes.specs.declared.class.Form.TheVariants.{Plain}
-use Rattle.kilim_classes.specs.declared.class.Class.{Class}
-use Rattle.kilim_classes.specs.declared.class.Method.{Method}
-use Rattle.kilim_classes.specs.declared.names.ClassId.{ClassId}
-use Rattle.kilim_classes.specs.declared.names.MethodId.{MethodId}
-use Rattle.kilim_classes.specs.declared.ty.Base.{Base}
-use Rattle.kilim_classes.specs.declared.ty.Base.TheVariants as base
-use Rattle.kilim_classes.specs.declared.ty.Kind.{Kind}
-use Rattle.kilim_classes.specs.declared.ty.Kind.TheVariants as kind
-use Rattle.kilim_classes.specs.declared.ty.Qualifier.{Qualifier}
-use Rattle.kilim_classes.specs.declared.ty.Qualifier.TheVariants.{Cuttable, Free, Safe}
-use Rattle.kilim_classes.specs.declared.ty.Ty.{Ty}
-use Rattle.kilim_classes.specs.Program.{Program}
-use Rattle.kilim_classes.specs.BuiltIn.{built_in_methods_in, class_id, class_type}
-use Rattle.kilim_classes.specs.Fits.{fits_type, is_named}
-use Rattle.kilim_classes.specs.Keeps.{Keeps}
-use Rattle.kilim_classes.specs.Kinds.{class_kind, is_message, is_value_class}
-use Rattle.kilim_classes.specs.Names.{class_at, class_name, is_named_task, is_task, method_at, ◌>>=◌}
-use Rattle.kilim_classes.specs.Same.{is_constructor}
-use Rattle.kilim_classes.specs.machine.Natives.{Native, native_method, native_named, native_of, natives}
-use Rattle.kilim_classes.specs.machine.Natives as native
+use Rattle.kilim_program.specs.declared.class.Form.TheVariants.{Plain}
+use Rattle.kilim_program.specs.declared.class.Class.{Class}
+use Rattle.kilim_program.specs.declared.class.Method.{Method}
+use Rattle.kilim_program.specs.declared.names.ClassId.{ClassId}
+use Rattle.kilim_program.specs.declared.names.MethodId.{MethodId}
+use Rattle.kilim_program.specs.declared.ty.Base.{Base}
+use Rattle.kilim_program.specs.declared.ty.Base.TheVariants as base
+use Rattle.kilim_program.specs.declared.ty.Kind.{Kind}
+use Rattle.kilim_program.specs.declared.ty.Kind.TheVariants as kind
+use Rattle.kilim_program.specs.declared.ty.Qualifier.{Qualifier}
+use Rattle.kilim_program.specs.declared.ty.Qualifier.TheVariants.{Cuttable, Free, Safe}
+use Rattle.kilim_program.specs.declared.ty.Ty.{Ty}
+use Rattle.kilim_program.specs.Program.{Program}
+use Rattle.kilim_program.specs.BuiltIn.{built_in_methods_in, class_id, class_type}
+use Rattle.kilim_program.specs.Fits.{fits_type, is_named}
+use Rattle.kilim_program.specs.Keeps.{Keeps}
+use Rattle.kilim_program.specs.Kinds.{class_kind, is_message, is_value_class}
+use Rattle.kilim_program.specs.Names.{class_at, class_name, is_named_task, is_task, method_at, ◌>>=◌}
+use Rattle.kilim_program.specs.Same.{is_constructor}
+use Rattle.kilim_run_machine.specs.Natives.{Native, native_method, native_named, native_of, natives}
+use Rattle.kilim_run_machine.specs.Natives as native
 use Rattle.kilim_lemmas.proofs.Texts.{same_text}
-use Rattle.kilim_shape_graph.specs.Entry.{declared_parameters, parameters_of}
+use Rattle.kilim_isolation_graph.specs.Entry.{declared_parameters, parameters_of}
 use Rattle.kilim_isolation_rules.specs.Calls.{is_owned}
-use Rattle.kilim_typing.proofs.typing_laws.fits.BuiltInMembers.{NamedAt, named_at}
+use Rattle.kilim_type_sound.proofs.BuiltInMembers.{NamedAt, named_at}
 use Rattle.kilim_isolation_laws.proofs.typed_threads.fine.Natives.{built_in_one, first, task_name}
 use Rattle.kilim_isolation_laws.proofs.typed_threads.Booting.{line_begins}
 use Rattle.kilim_isolation_laws.specs.graph_rows.Holds.{Sort, Tree, Trees, object_sort, sort_by}
@@ -157,7 +157,7 @@ module _ (p : Program) (keeps : Keeps p) (form : p.form ≡ Plain) where
       flows x kind.Value f e = absurd (cc)
       flows x kind.Private f e = absurd (cc)
 
-      by : (d : ℕ) (b : Base) → c.dims ≡ d → c.base ≡ b → Rattle.kilim_classes.specs.Fits.type_assignable p d b 0 (base.Class k) ≡ true → object_sort p c ≡ Tree 0 Trees
+      by : (d : ℕ) (b : Base) → c.dims ≡ d → c.base ≡ b → Rattle.kilim_program.specs.Fits.type_assignable p d b 0 (base.Class k) ≡ true → object_sort p c ≡ Tree 0 Trees
       by zero (base.Class a) ed eb e =
           ap (λ (d : ℕ). object_sort p (record { dims = d; base = c.base })) ed ∙ (ap (λ (b : Base). object_sort p (record { dims = 0; base = b })) eb ∙ tree_of_task a (flows (class_kind p a) (class_kind p k) ((classes_flow p keeps).kinds a k e) tree))
       by (suc d) b ed eb e = absurd (let x = sym tree ∙ (classes_flow p keeps).object (base.Class k) e in cc)

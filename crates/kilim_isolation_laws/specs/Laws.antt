@@ -1,16 +1,16 @@
 -- Each thread of an accepted program stands with its shape graphs.
 use Rattle.std.specs.Prelude.{◌≡◌, ℕ, true}
-use Rattle.kilim_classes.specs.declared.class.Form.TheVariants.{Plain}
-use Rattle.kilim_classes.specs.Keeps.{Keeps}
-use Rattle.kilim_classes.specs.Program.{Program}
-use Rattle.kilim_thread_model.specs.Course.{Course, IsLone, Quiet}
-use Rattle.kilim_thread_model.specs.Lone.{Lone}
-use Rattle.kilim_thread_model.specs.State.{Setting, is_fit}
-use Rattle.kilim_typing.specs.Typed.{IsWellTyped}
-use Rattle.kilim_typing.specs.typing_laws.Laws.{typing_at}
-use Rattle.kilim_pausable_graph.specs.Pausing.{frames_at}
-use Rattle.kilim_isolation_check.specs.Faults.{IsAccepted}
-use Rattle.kilim_typing.specs.typing_laws.fits.Fits.{Classes}
+use Rattle.kilim_program.specs.declared.class.Form.TheVariants.{Plain}
+use Rattle.kilim_program.specs.Keeps.{Keeps}
+use Rattle.kilim_program.specs.Program.{Program}
+use Rattle.kilim_run_model.specs.Course.{Course, IsLone, Quiet}
+use Rattle.kilim_run_model.specs.Lone.{Lone}
+use Rattle.kilim_run_model.specs.State.{Setting, is_fit}
+use Rattle.kilim_type_spec.specs.Typed.{IsWellTyped}
+use Rattle.kilim_type_laws.specs.Laws.{typing_at}
+use Rattle.kilim_isolation_pauses.specs.Pausing.{frames_at}
+use Rattle.kilim_isolation.specs.Faults.{IsAccepted}
+use Rattle.kilim_type_sound.specs.Fits.{Classes}
 use Rattle.kilim_isolation_laws.specs.typed_threads.fine.Typed.{FitsAs}
 use Rattle.kilim_isolation_laws.specs.reached_objects.graphs.Threads.{Listed}
 use Rattle.kilim_isolation_laws.specs.reached_objects.Laws.{typed}

@@ -1,15 +1,15 @@
 -- A thread of an accepted program, with its shape graphs.
 use Rattle.std.specs.Prelude.{◌≡◌, ℕ, Option, Some}
-use Rattle.kilim_classes.specs.declared.class.Method.{Method}
-use Rattle.kilim_classes.specs.declared.names.ClassId.{ClassId}
-use Rattle.kilim_classes.specs.declared.names.MethodId.{MethodId}
-use Rattle.kilim_classes.specs.declared.ty.Qualifier.TheVariants.{Free}
-use Rattle.kilim_classes.specs.Names.{method_at}
-use Rattle.kilim_classes.specs.Program.{Program}
-use Rattle.kilim_classes.specs.machine.Machine.{Objects}
-use Rattle.kilim_classes.specs.machine.Members.{constructor_of}
-use Rattle.kilim_thread_model.specs.Lone.{Lone}
-use Rattle.kilim_thread_model.specs.State.{Alive, Ended, Thread}
+use Rattle.kilim_program.specs.declared.class.Method.{Method}
+use Rattle.kilim_program.specs.declared.names.ClassId.{ClassId}
+use Rattle.kilim_program.specs.declared.names.MethodId.{MethodId}
+use Rattle.kilim_program.specs.declared.ty.Qualifier.TheVariants.{Free}
+use Rattle.kilim_program.specs.Names.{method_at}
+use Rattle.kilim_program.specs.Program.{Program}
+use Rattle.kilim_run_state.specs.Machine.{Objects}
+use Rattle.kilim_program.specs.Members.{constructor_of}
+use Rattle.kilim_run_model.specs.Lone.{Lone}
+use Rattle.kilim_run_model.specs.State.{Alive, Ended, Thread}
 use Rattle.kilim_isolation_laws.specs.reached_objects.graphs.Threads.{FramesFit, Listed, Typings}
 
 -- The constructor with which a run begins doesn't get its object to give away. (The receiver of a constructor is cuttable, always.)

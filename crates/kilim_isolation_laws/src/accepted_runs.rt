@@ -10,7 +10,7 @@ ghost use Rattle.kilim_isolation_laws.specs.accepted_runs.Laws.{AcceptedIsIsolat
 use crate::accepted_runs::begins::mains_begin;
 use crate::accepted_runs::plain::linked_is_plain;
 use crate::kept::accepted_is_kept;
-use kilim_thread_model::one_heap::none_shares;
+use kilim_run_model::one_heap::none_shares;
 
 /// A law, and no work: with a fit main class a linked, accepted program makes a run of an accepted program, whatever its limits are.
 pub fn accepted_is_run()

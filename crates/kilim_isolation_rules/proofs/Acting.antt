@@ -1,11 +1,11 @@
 -- What the table of steps says of an instruction, by what it does.
 use Rattle.std.proofs.Common.{◌≡◌, refl, ap}
-use Rattle.kilim_classes.specs.declared.class.Method.{Method}
-use Rattle.kilim_classes.specs.declared.instr.Instr.{Instr}
-use Rattle.kilim_classes.specs.declared.instr.Instr.TheVariants.{Nop, Iinc, Goto, GotoW, AconstNull, Iconst, Lconst, Bipush, Sipush, Iload, Lload, Ldc, LdcW, Ldc2W, Ineg, Lneg, I2l, L2i, I2b, I2c, I2s, Arraylength, Instanceof, Ifeq, Ifne, Iflt, Ifge, Ifgt, Ifle, Ifnull, Ifnonnull, Tableswitch, Lookupswitch, Iadd, Ladd, Isub, Lsub, Imul, Lmul, Idiv, Ldiv, Irem, Lrem, Ishl, Lshl, Ishr, Lshr, Iushr, Lushr, Iand, Land, Ior, Lor, Ixor, Lxor, Lcmp, Iaload, Laload, Baload, Caload, Saload, IfIcmpeq, IfIcmpne, IfIcmplt, IfIcmpge, IfIcmpgt, IfIcmple, IfAcmpeq, IfAcmpne, Iastore, Lastore, Bastore, Castore, Sastore, Aload, Astore, Istore, Lstore, Pop, Pop2, Dup, DupX1, DupX2, Dup2, Dup2X1, Dup2X2, Swap, New, Newarray, Anewarray, Getstatic, Getfield, Putfield, Aaload, Aastore, Invokevirtual, Invokespecial, Invokestatic, Areturn, Ireturn, Lreturn, Return, Checkcast, Athrow}
-use Rattle.kilim_classes.specs.Program.{Program}
-use Rattle.kilim_typing.specs.Step.{Types, row}
-use Rattle.kilim_shape_graph.specs.declared.graph.Graph.{Graph}
+use Rattle.kilim_program.specs.declared.class.Method.{Method}
+use Rattle.kilim_program.specs.declared.instr.Instr.{Instr}
+use Rattle.kilim_program.specs.declared.instr.Instr.TheVariants.{Nop, Iinc, Goto, GotoW, AconstNull, Iconst, Lconst, Bipush, Sipush, Iload, Lload, Ldc, LdcW, Ldc2W, Ineg, Lneg, I2l, L2i, I2b, I2c, I2s, Arraylength, Instanceof, Ifeq, Ifne, Iflt, Ifge, Ifgt, Ifle, Ifnull, Ifnonnull, Tableswitch, Lookupswitch, Iadd, Ladd, Isub, Lsub, Imul, Lmul, Idiv, Ldiv, Irem, Lrem, Ishl, Lshl, Ishr, Lshr, Iushr, Lushr, Iand, Land, Ior, Lor, Ixor, Lxor, Lcmp, Iaload, Laload, Baload, Caload, Saload, IfIcmpeq, IfIcmpne, IfIcmplt, IfIcmpge, IfIcmpgt, IfIcmple, IfAcmpeq, IfAcmpne, Iastore, Lastore, Bastore, Castore, Sastore, Aload, Astore, Istore, Lstore, Pop, Pop2, Dup, DupX1, DupX2, Dup2, Dup2X1, Dup2X2, Swap, New, Newarray, Anewarray, Getstatic, Getfield, Putfield, Aaload, Aastore, Invokevirtual, Invokespecial, Invokestatic, Areturn, Ireturn, Lreturn, Return, Checkcast, Athrow}
+use Rattle.kilim_program.specs.Program.{Program}
+use Rattle.kilim_type_spec.specs.Step.{Types, row}
+use Rattle.kilim_isolation_graph.specs.declared.graph.Graph.{Graph}
 use Rattle.kilim_isolation_rules.specs.Actions.{action, deed_by, passing_action, word_action}
 use Rattle.kilim_isolation_rules.specs.Marks.{plain}
 use Rattle.kilim_isolation_rules.specs.Rules.{deed}

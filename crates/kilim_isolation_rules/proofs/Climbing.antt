@@ -1,10 +1,10 @@
 -- Ways up known parents, and nodes by their numbers.
 use Rattle.std.proofs.Common.{◌≡◌, ℕ, zero, suc, ◌+◌, ◌-◌, ◌<◌, Bool, true, false, ◌||◌, eqb, List, [], ◌∷◌, ◌++◌, Option, Some, None, refl, sym, ap, ◌∙◌, arith}
 use Rattle.std.proofs.lemmas.Bool.Decides.{nat_tests}
-use Rattle.kilim_shape_graph.specs.declared.node.Label.{Label}
-use Rattle.kilim_shape_graph.specs.declared.node.Node.{Node}
-use Rattle.kilim_shape_graph.specs.Nodes.{listed}
-use Rattle.kilim_shape_graph.proofs.Lists.{listed_push}
+use Rattle.kilim_isolation_graph.specs.declared.node.Label.{Label}
+use Rattle.kilim_isolation_graph.specs.declared.node.Node.{Node}
+use Rattle.kilim_isolation_graph.specs.Nodes.{listed}
+use Rattle.kilim_isolation_graph.proofs.Lists.{listed_push}
 use Rattle.kilim_isolation_rules.specs.Steps.{rises, climbs}
 
 differs : (n k : ℕ) → (n ≡ k → ⊥) → eqb n k ≡ false

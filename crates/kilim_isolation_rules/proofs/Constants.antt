@@ -1,10 +1,10 @@
 -- What the ldc forms push.
 use Rattle.std.proofs.Common.{◌≡◌, refl}
-use Rattle.kilim_classes.specs.declared.value.Value.{Value}
-use Rattle.kilim_classes.specs.declared.value.Value.TheVariants.{Int, Long, Text}
-use Rattle.kilim_classes.specs.Program.{Program}
-use Rattle.kilim_typing.specs.Step.{Types, constant_row, long_constant_row}
-use Rattle.kilim_shape_graph.specs.declared.graph.Graph.{Graph}
+use Rattle.kilim_program.specs.declared.value.Value.{Value}
+use Rattle.kilim_program.specs.declared.value.Value.TheVariants.{Int, Long, Text}
+use Rattle.kilim_program.specs.Program.{Program}
+use Rattle.kilim_type_spec.specs.Step.{Types, constant_row, long_constant_row}
+use Rattle.kilim_isolation_graph.specs.declared.graph.Graph.{Graph}
 use Rattle.kilim_isolation_rules.specs.Rules.{by_types, passed_by}
 
 pub constant_passes : (p : Program) (value : Value) (g : Graph) (f : Types) → by_types g f (constant_row p value) ≡ passed_by 0 1 g

@@ -2,12 +2,12 @@
 use Rattle.std.proofs.Common.{◌≡◌, ℕ, zero, suc, ◌+◌, ◌-◌, ◌<◌, ◌≤◌, Bool, true, false, min, List, [], ◌∷◌, ◌++◌, length, get_or, set, drop, Option, Some, None, refl, sym, ap, ◌∙◌, ◌⊎◌, inl, inr, arith, append_assoc}
 use Rattle.std.specs.Prelude.{◌||◌}
 use Rattle.std.proofs.lemmas.List.{append-nil, drop-drop}
-use Rattle.kilim_classes.specs.declared.ty.Qualifier.{Qualifier}
-use Rattle.kilim_classes.specs.declared.ty.Ty.{Ty}
-use Rattle.kilim_classes.specs.declared.verified.VType.{VType}
-use Rattle.kilim_classes.specs.Program.{Program}
-use Rattle.kilim_shape_graph.specs.Graphs.{with_slot}
-use Rattle.kilim_shape_graph.proofs.Lists.{drop_at, drop_end}
+use Rattle.kilim_program.specs.declared.ty.Qualifier.{Qualifier}
+use Rattle.kilim_program.specs.declared.ty.Ty.{Ty}
+use Rattle.kilim_program.specs.declared.verified.VType.{VType}
+use Rattle.kilim_program.specs.Program.{Program}
+use Rattle.kilim_isolation_graph.specs.Graphs.{with_slot}
+use Rattle.kilim_isolation_graph.proofs.Lists.{drop_at, drop_end}
 use Rattle.kilim_isolation_rules.specs.declared.deed.Passed.{Passed}
 use Rattle.kilim_isolation_rules.specs.Calls.{parameters}
 use Rattle.kilim_isolation_rules.specs.Marks.{any_mixes, mixes}

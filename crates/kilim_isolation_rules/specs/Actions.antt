@@ -1,20 +1,20 @@
 -- The table of steps by what an instruction does, as the code reads it: no clause of `transfer` cites this.
 use Rattle.std.specs.Prelude.{ℕ, suc, Bool, true, false, List, [], ◌∷◌, ◌++◌, Option, Some, None, length, drop, replicate}
-use Rattle.kilim_classes.specs.declared.class.Method.{Method}
-use Rattle.kilim_classes.specs.declared.ty.Kind.TheVariants as kind
-use Rattle.kilim_classes.specs.declared.class.Field.{Field}
-use Rattle.kilim_classes.specs.declared.ty.Ty.{Ty}
-use Rattle.kilim_classes.specs.declared.verified.VType.{VType}
-use Rattle.kilim_classes.specs.declared.verified.VType.TheVariants.{Object}
-use Rattle.kilim_classes.specs.Program.{Program}
-use Rattle.kilim_classes.specs.Names.{method_at, field_of}
-use Rattle.kilim_classes.specs.Kinds.{class_kind, kind_of}
-use Rattle.kilim_classes.specs.declared.instr.Instr.{Instr}
-use Rattle.kilim_classes.specs.declared.instr.Instr.TheVariants.{Nop, Iinc, Goto, GotoW, AconstNull, Iconst, Lconst, Bipush, Sipush, Iload, Lload, Ldc, LdcW, Ldc2W, Ineg, Lneg, I2l, L2i, I2b, I2c, I2s, Arraylength, Instanceof, Ifeq, Ifne, Iflt, Ifge, Ifgt, Ifle, Ifnull, Ifnonnull, Tableswitch, Lookupswitch, IfIcmpeq, IfIcmpne, IfIcmplt, IfIcmpge, IfIcmpgt, IfIcmple, IfAcmpeq, IfAcmpne, Iastore, Lastore, Bastore, Castore, Sastore, Aload, Astore, Istore, Lstore, Pop, Pop2, Dup, DupX1, DupX2, Dup2, Dup2X1, Dup2X2, Swap, New, Newarray, Anewarray, Getstatic, Getfield, Putfield, Aaload, Aastore, Invokevirtual, Invokespecial, Invokestatic, Areturn, Ireturn, Lreturn, Return, Checkcast, Athrow}
-use Rattle.kilim_typing.specs.Step.{Types, peek, array_ty, field_row}
-use Rattle.kilim_typing.specs.Step as type
-use Rattle.kilim_shape_graph.specs.declared.graph.Graph.{Graph}
-use Rattle.kilim_shape_graph.specs.Graphs.{slot, with_slot, push, popped}
+use Rattle.kilim_program.specs.declared.class.Method.{Method}
+use Rattle.kilim_program.specs.declared.ty.Kind.TheVariants as kind
+use Rattle.kilim_program.specs.declared.class.Field.{Field}
+use Rattle.kilim_program.specs.declared.ty.Ty.{Ty}
+use Rattle.kilim_program.specs.declared.verified.VType.{VType}
+use Rattle.kilim_program.specs.declared.verified.VType.TheVariants.{Object}
+use Rattle.kilim_program.specs.Program.{Program}
+use Rattle.kilim_program.specs.Names.{method_at, field_of}
+use Rattle.kilim_program.specs.Kinds.{class_kind, kind_of}
+use Rattle.kilim_program.specs.declared.instr.Instr.{Instr}
+use Rattle.kilim_program.specs.declared.instr.Instr.TheVariants.{Nop, Iinc, Goto, GotoW, AconstNull, Iconst, Lconst, Bipush, Sipush, Iload, Lload, Ldc, LdcW, Ldc2W, Ineg, Lneg, I2l, L2i, I2b, I2c, I2s, Arraylength, Instanceof, Ifeq, Ifne, Iflt, Ifge, Ifgt, Ifle, Ifnull, Ifnonnull, Tableswitch, Lookupswitch, IfIcmpeq, IfIcmpne, IfIcmplt, IfIcmpge, IfIcmpgt, IfIcmple, IfAcmpeq, IfAcmpne, Iastore, Lastore, Bastore, Castore, Sastore, Aload, Astore, Istore, Lstore, Pop, Pop2, Dup, DupX1, DupX2, Dup2, Dup2X1, Dup2X2, Swap, New, Newarray, Anewarray, Getstatic, Getfield, Putfield, Aaload, Aastore, Invokevirtual, Invokespecial, Invokestatic, Areturn, Ireturn, Lreturn, Return, Checkcast, Athrow}
+use Rattle.kilim_type_spec.specs.Step.{Types, peek, array_ty, field_row}
+use Rattle.kilim_type_spec.specs.Step as type
+use Rattle.kilim_isolation_graph.specs.declared.graph.Graph.{Graph}
+use Rattle.kilim_isolation_graph.specs.Graphs.{slot, with_slot, push, popped}
 use Rattle.kilim_isolation_rules.specs.declared.action.Action.{Action}
 use Rattle.kilim_isolation_rules.specs.declared.action.Action.TheVariants.{Passes, LoadsReference, StoresReference, StoresValue, Shuffles, MakesObject, MakesValues, MakesReferences, GetsStatic, GetsField, PutsField, GetsElement, PutsElement, Calls, ReturnsReference, Returns, Casts}
 use Rattle.kilim_isolation_rules.specs.declared.action.Words.{Words}

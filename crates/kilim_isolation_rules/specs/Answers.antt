@@ -1,7 +1,7 @@
 -- What a step answers.
 use Rattle.std.specs.Prelude.{◌≡◌, ℕ, Option, Some, None, Result, Ok, Err}
-use Rattle.kilim_typing.specs.Step.{Types}
-use Rattle.kilim_shape_graph.specs.declared.graph.Graph.{Graph}
+use Rattle.kilim_type_spec.specs.Step.{Types}
+use Rattle.kilim_isolation_graph.specs.declared.graph.Graph.{Graph}
 use Rattle.kilim_isolation_rules.specs.declared.rules.StepFault.{StepFault}
 use Rattle.kilim_isolation_rules.specs.declared.rules.StepFault.TheVariants.{Rule, Memory}
 

@@ -1,21 +1,21 @@
 -- Reading and storing fields and elements.
 use Rattle.std.specs.Prelude.{ℕ, zero, suc, ◌+◌, ◌-◌, Bool, true, false, not, ◌||◌, ◌&&◌, ◌==◌, if◌then◌else◌, List, [], ◌∷◌, Option, Some, None, length}
-use Rattle.kilim_classes.specs.declared.class.Field.{Field}
-use Rattle.kilim_classes.specs.declared.names.FieldId.{FieldId}
-use Rattle.kilim_classes.specs.declared.ty.Kind.{Kind}
-use Rattle.kilim_classes.specs.declared.ty.Kind.TheVariants as kind
-use Rattle.kilim_classes.specs.declared.verified.VType.{VType}
-use Rattle.kilim_classes.specs.declared.verified.VType.TheVariants.{Object}
-use Rattle.kilim_classes.specs.Program.{Program}
-use Rattle.kilim_classes.specs.Kinds.{kind_of}
-use Rattle.kilim_typing.specs.Step.{peek}
-use Rattle.kilim_shape_graph.specs.declared.graph.Graph.{Graph}
-use Rattle.kilim_shape_graph.specs.declared.node.Label.{Label}
-use Rattle.kilim_shape_graph.specs.declared.node.Label.TheVariants as label
-use Rattle.kilim_shape_graph.specs.declared.node.Node.{Node}
-use Rattle.kilim_shape_graph.specs.declared.node.Standing.TheVariants.{Inner, Safe}
-use Rattle.kilim_shape_graph.specs.Nodes.{is_root, is_safe, node_at, new_region}
-use Rattle.kilim_shape_graph.specs.Graphs.{slot, node_of, push, popped, added, changed}
+use Rattle.kilim_program.specs.declared.class.Field.{Field}
+use Rattle.kilim_program.specs.declared.names.FieldId.{FieldId}
+use Rattle.kilim_program.specs.declared.ty.Kind.{Kind}
+use Rattle.kilim_program.specs.declared.ty.Kind.TheVariants as kind
+use Rattle.kilim_program.specs.declared.verified.VType.{VType}
+use Rattle.kilim_program.specs.declared.verified.VType.TheVariants.{Object}
+use Rattle.kilim_program.specs.Program.{Program}
+use Rattle.kilim_program.specs.Kinds.{kind_of}
+use Rattle.kilim_type_spec.specs.Step.{peek}
+use Rattle.kilim_isolation_graph.specs.declared.graph.Graph.{Graph}
+use Rattle.kilim_isolation_graph.specs.declared.node.Label.{Label}
+use Rattle.kilim_isolation_graph.specs.declared.node.Label.TheVariants as label
+use Rattle.kilim_isolation_graph.specs.declared.node.Node.{Node}
+use Rattle.kilim_isolation_graph.specs.declared.node.Standing.TheVariants.{Inner, Safe}
+use Rattle.kilim_isolation_graph.specs.Nodes.{is_root, is_safe, node_at, new_region}
+use Rattle.kilim_isolation_graph.specs.Graphs.{slot, node_of, push, popped, added, changed}
 use Rattle.kilim_isolation_rules.specs.declared.deed.Deed.{Deed}
 use Rattle.kilim_isolation_rules.specs.Steps.{cut_node, join_node}
 use Rattle.kilim_isolation_rules.specs.Marks.{plain, is_tree}

@@ -1,19 +1,19 @@
 -- What an instruction does to a graph: a mark for each rule that it breaks, and the graph that it leaves.
 use Rattle.std.specs.Prelude.{ℕ, Bool, true, false, not, ◌||◌, ◌&&◌, List, [], ◌∷◌, Option, Some, None, length}
 use Rattle.std.specs.List.{list_any}
-use Rattle.kilim_classes.specs.declared.ty.Kind.{Kind}
-use Rattle.kilim_classes.specs.declared.ty.Kind.TheVariants as kind
-use Rattle.kilim_classes.specs.declared.verified.VType.{VType}
-use Rattle.kilim_classes.specs.declared.verified.VType.TheVariants.{Object}
-use Rattle.kilim_classes.specs.Program.{Program}
-use Rattle.kilim_classes.specs.Kinds.{kind_of, is_tree_kind, is_private_kind}
-use Rattle.kilim_typing.specs.Step.{Types}
-use Rattle.kilim_shape_graph.specs.declared.graph.Graph.{Graph}
-use Rattle.kilim_shape_graph.specs.declared.node.Node.{Node}
-use Rattle.kilim_shape_graph.specs.declared.node.Standing.{Standing}
-use Rattle.kilim_shape_graph.specs.declared.node.Standing.TheVariants.{Root}
-use Rattle.kilim_shape_graph.specs.Nodes.{is_root, is_safe, is_gone, new_region}
-use Rattle.kilim_shape_graph.specs.Graphs.{node_of, push, added}
+use Rattle.kilim_program.specs.declared.ty.Kind.{Kind}
+use Rattle.kilim_program.specs.declared.ty.Kind.TheVariants as kind
+use Rattle.kilim_program.specs.declared.verified.VType.{VType}
+use Rattle.kilim_program.specs.declared.verified.VType.TheVariants.{Object}
+use Rattle.kilim_program.specs.Program.{Program}
+use Rattle.kilim_program.specs.Kinds.{kind_of, is_tree_kind, is_private_kind}
+use Rattle.kilim_type_spec.specs.Step.{Types}
+use Rattle.kilim_isolation_graph.specs.declared.graph.Graph.{Graph}
+use Rattle.kilim_isolation_graph.specs.declared.node.Node.{Node}
+use Rattle.kilim_isolation_graph.specs.declared.node.Standing.{Standing}
+use Rattle.kilim_isolation_graph.specs.declared.node.Standing.TheVariants.{Root}
+use Rattle.kilim_isolation_graph.specs.Nodes.{is_root, is_safe, is_gone, new_region}
+use Rattle.kilim_isolation_graph.specs.Graphs.{node_of, push, added}
 use Rattle.kilim_isolation_rules.specs.declared.deed.Broken.{Broken}
 use Rattle.kilim_isolation_rules.specs.declared.deed.Deed.{Deed}
 

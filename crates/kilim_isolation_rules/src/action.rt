@@ -3,7 +3,7 @@
 ghost use Rattle.std.specs.Prelude.{◌≡◌};
 ghost use Rattle.kilim_isolation_rules.specs.Actions.{action, passing_action, word_action};
 
-use kilim_classes::{ClassId, FieldId, Instr, MethodId, Ty};
+use kilim_program::{ClassId, FieldId, Instr, MethodId, Ty};
 
 /// Which words pop, dup and swap forms take, pass over and give (JVMS 6.5, `pop` to `swap`).
 pub enum Words {

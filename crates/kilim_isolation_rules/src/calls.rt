@@ -2,19 +2,19 @@
 
 ghost use Rattle.std.specs.Prelude.{◌≡◌, ◌++◌, [], length, reverse, take, IfOk, OnOk, option_copied};
 ghost use Rattle.std.specs.List.{list_any};
-ghost use Rattle.kilim_classes.specs.Same.{is_constructor};
+ghost use Rattle.kilim_program.specs.Same.{is_constructor};
 ghost use Rattle.kilim_isolation_rules.specs.Calls as spec;
 ghost use Rattle.kilim_isolation_rules.specs.Marks.{marked};
-ghost use Rattle.kilim_shape_graph.specs.Graphs.{popped, slot};
-ghost use Rattle.kilim_typing.specs.Step.{peek};
+ghost use Rattle.kilim_isolation_graph.specs.Graphs.{popped, slot};
+ghost use Rattle.kilim_type_spec.specs.Step.{peek};
 
 use crate::deed::{Broken, Passed, none_broken};
 use crate::growth::{give, pop};
 use crate::marks::{mixes, names_no_root, names_safe};
 use crate::shuffles::first;
 use crate::steps::{cut, give_away};
-use kilim_classes::{Base, Method, Program, Qualifier, Ty, VType};
-use kilim_shape_graph::{Graph, quality, slot_at, turned, type_at};
+use kilim_isolation_graph::{Graph, quality, slot_at, turned, type_at};
+use kilim_program::{Base, Method, Program, Qualifier, Ty, VType};
 use kilim_units::{NoMemory, Seq};
 use std::alloc::Global;
 

@@ -3,8 +3,8 @@
 ghost use Rattle.std.specs.Prelude.{◌≡◌};
 ghost use Rattle.kilim_isolation_rules.specs.Marks as spec;
 
-use kilim_classes::{Qualifier, Ty, VType};
-use kilim_shape_graph::Graph;
+use kilim_isolation_graph::Graph;
+use kilim_program::{Qualifier, Ty, VType};
 
 /// What one instruction does to a graph: a mark for each rule that it breaks, and the graph that it leaves. That the stack
 /// it leaves names nothing that is gone is asked of the graph.

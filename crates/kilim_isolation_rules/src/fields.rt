@@ -8,8 +8,8 @@ use crate::deed::{Broken, none_broken};
 use crate::growth::{add, new_region, pop, push};
 use crate::marks::is_tree;
 use crate::steps::{cut, join};
-use kilim_classes::{Field, FieldId, Kind, Program, Ty, VType};
-use kilim_shape_graph::{Graph, Label, Node, Standing, slot_at, type_at};
+use kilim_isolation_graph::{Graph, Label, Node, Standing, slot_at, type_at};
+use kilim_program::{Field, FieldId, Kind, Program, Ty, VType};
 use kilim_units::{NoMemory, Seq};
 use std::alloc::Global;
 

@@ -1,13 +1,13 @@
 //! How a graph's slots change.
 
 ghost use Rattle.std.specs.Prelude.{◌≡◌, ◌∷◌, IfOk, OnOk};
-ghost use Rattle.kilim_shape_graph.specs.Graphs as spec;
-ghost use Rattle.kilim_shape_graph.specs.Nodes as list;
+ghost use Rattle.kilim_isolation_graph.specs.Graphs as spec;
+ghost use Rattle.kilim_isolation_graph.specs.Nodes as list;
 ghost use Rattle.kilim_isolation_rules.specs.Marks as marks;
 
 use crate::shuffles::behind;
-use kilim_classes::Kind;
-use kilim_shape_graph::{Graph, Node, Standing};
+use kilim_isolation_graph::{Graph, Node, Standing};
+use kilim_program::Kind;
 use kilim_units::{NoMemory, Seq};
 use std::alloc::Global;
 

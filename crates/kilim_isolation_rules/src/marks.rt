@@ -3,8 +3,8 @@
 ghost use Rattle.std.specs.Prelude.{◌≡◌};
 ghost use Rattle.kilim_isolation_rules.specs.Marks as spec;
 
-use kilim_classes::{Kind, Program, VType};
-use kilim_shape_graph::Graph;
+use kilim_isolation_graph::Graph;
+use kilim_program::{Kind, Program, VType};
 
 /// Whether a slot names what is gone.
 pub fn names_gone(graph: &Graph, name: Option<usize>) -> bool

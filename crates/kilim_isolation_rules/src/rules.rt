@@ -1,14 +1,14 @@
 //! The step of an instruction.
 
 ghost use Rattle.std.specs.Prelude.{◌≡◌, ◌++◌, [], None, Result, Ok, Err, MatchResult, replicate, IfOk, OnOk, option_copied};
-ghost use Rattle.kilim_classes.specs.declared.class.Method.{Method};
-ghost use Rattle.kilim_classes.specs.declared.ty.Base.TheVariants as Base;
-ghost use Rattle.kilim_classes.specs.Names.{field_of};
-ghost use Rattle.kilim_classes.specs.Program.{Program};
-ghost use Rattle.kilim_typing.specs.Step.{Types};
+ghost use Rattle.kilim_program.specs.declared.class.Method.{Method};
+ghost use Rattle.kilim_program.specs.declared.ty.Base.TheVariants as Base;
+ghost use Rattle.kilim_program.specs.Names.{field_of};
+ghost use Rattle.kilim_program.specs.Program.{Program};
+ghost use Rattle.kilim_type_spec.specs.Step.{Types};
 ghost use Rattle.kilim_isolation_rules.specs.Actions.{deed_by};
 ghost use Rattle.kilim_isolation_rules.specs.Actions as actions;
-ghost use Rattle.kilim_shape_graph.specs.Graphs.{popped};
+ghost use Rattle.kilim_isolation_graph.specs.Graphs.{popped};
 ghost use Rattle.kilim_isolation_rules.specs.Marks.{marked, plain};
 ghost use Rattle.kilim_isolation_rules.specs.Marks as marks;
 ghost use Rattle.kilim_isolation_rules.specs.Answers.{IsStep};
@@ -21,9 +21,9 @@ use crate::fields::{gets_element, gets_field, puts_element, puts_field};
 use crate::growth::{copied, give, pop, push, set_local};
 use crate::marks::{mixes, names_gone, names_no_root, stack_lives};
 use crate::shuffles::shuffled;
-use kilim_classes::lookups::method_at;
-use kilim_classes::{Base, ClassId, Field, FieldId, Instr, Kind, Method, Program, Ty, VType};
-use kilim_shape_graph::{Graph, slot_at, type_at};
+use kilim_isolation_graph::{Graph, slot_at, type_at};
+use kilim_program::lookups::method_at;
+use kilim_program::{Base, ClassId, Field, FieldId, Instr, Kind, Method, Program, Ty, VType};
 use kilim_units::{NoMemory, Seq};
 use std::alloc::Global;
 

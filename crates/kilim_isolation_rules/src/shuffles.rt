@@ -1,12 +1,12 @@
 //! Pop, dup and swap forms.
 
 ghost use Rattle.std.specs.Prelude.{◌≡◌, ◌++◌, [], take, drop, IfOk};
-ghost use Rattle.kilim_typing.specs.Step as type_step;
+ghost use Rattle.kilim_type_spec.specs.Step as type_step;
 ghost use Rattle.kilim_isolation_rules.specs.Actions.{form_of};
 ghost use Rattle.kilim_isolation_rules.specs.Rules as spec;
 
 use crate::action::Words;
-use kilim_classes::VType;
+use kilim_program::VType;
 use kilim_units::{NoMemory, Seq};
 use std::alloc::Global;
 

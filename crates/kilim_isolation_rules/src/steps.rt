@@ -2,9 +2,9 @@
 
 ghost use Rattle.std.specs.Prelude.{◌≡◌, None, length, IfOk};
 ghost use Rattle.kilim_isolation_rules.specs.Steps as spec;
-ghost use Rattle.kilim_shape_graph.specs.Nodes.{node_at, listed};
+ghost use Rattle.kilim_isolation_graph.specs.Nodes.{node_at, listed};
 
-use kilim_shape_graph::{Label, Node, Standing, node_at};
+use kilim_isolation_graph::{Label, Node, Standing, node_at};
 use kilim_units::{NoMemory, Seq};
 use std::alloc::Global;
 

@@ -1,7 +1,7 @@
 -- A member that is found for a reference in parts.
 use Rattle.std.proofs.Common.{◌≡◌, refl, ℕ, List, Option, Some, None, Result, Ok, sym, ap, subst, ◌∙◌}
 use Rattle.std.specs.Prelude.{IfOk}
-use Rattle.kilim_classes.specs.declared.instr.Instr.{Instr}
+use Rattle.kilim_program.specs.declared.instr.Instr.{Instr}
 use Rattle.kilim_link_spec.specs.declared.fault.MemberOf.{MemberOf}
 use Rattle.kilim_link_spec.specs.Code.{applied}
 

@@ -1,7 +1,7 @@
 -- The instructions without operands in groups, as the code asks for them.
 use Rattle.std.specs.Prelude.{ℕ, pos, negsuc, List, [], ◌∷◌, ◌++◌}
-use Rattle.kilim_classes.specs.declared.instr.Instr.{Instr}
-use Rattle.kilim_classes.specs.declared.instr.Instr.TheVariants as instr
+use Rattle.kilim_program.specs.declared.instr.Instr.{Instr}
+use Rattle.kilim_program.specs.declared.instr.Instr.TheVariants as instr
 
 abbrev pub constants_and_loads : List (ℕ × Instr)
 constants_and_loads = (0, instr.Nop) ∷ (1, instr.AconstNull) ∷ (2, instr.Iconst (negsuc 0)) ∷ (3, instr.Iconst (pos 0)) ∷ (4, instr.Iconst (pos 1)) ∷ (5, instr.Iconst (pos 2)) ∷ (6, instr.Iconst (pos 3)) ∷ (7, instr.Iconst (pos 4)) ∷ (8, instr.Iconst (pos 5)) ∷ (9, instr.Lconst (pos 0)) ∷ (10, instr.Lconst (pos 1)) ∷ (26, instr.Iload 0) ∷ (27, instr.Iload 1) ∷ (28, instr.Iload 2) ∷ (29, instr.Iload 3) ∷ (30, instr.Lload 0) ∷ (31, instr.Lload 1) ∷ (32, instr.Lload 2) ∷ (33, instr.Lload 3) ∷ []

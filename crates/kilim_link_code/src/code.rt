@@ -5,10 +5,10 @@ ghost use Rattle.kilim_link_spec.specs.Types.{each_of};
 ghost use Rattle.kilim_link_spec.specs.Code.{placed_in};
 
 use crate::instr::instr_in;
-use kilim_bytecode::opcodes::RawInstr;
-use kilim_classes::Instr;
-use kilim_constant_pool::Pool;
+use kilim_class_code::opcodes::RawInstr;
+use kilim_class_pool::Pool;
 use kilim_link_world::World;
+use kilim_program::Instr;
 use kilim_units::{NoMemory, Seq};
 use std::alloc::Global;
 

@@ -1,18 +1,18 @@
 //! Instructions, linked.
 
 ghost use Rattle.std.specs.Prelude.{◌≡◌, Some, option_map, IfOk};
-ghost use Rattle.kilim_classes.specs.declared.instr.Instr.TheVariants.{Tableswitch, Lookupswitch, Newarray};
+ghost use Rattle.kilim_program.specs.declared.instr.Instr.TheVariants.{Tableswitch, Lookupswitch, Newarray};
 ghost use Rattle.kilim_link_spec.specs.Types.{each_of};
 ghost use Rattle.kilim_link_spec.specs.Code.{row, jump_instrs, array_codes, applied, place_of, pair_in, operand_at, instr_with, instr_in};
 
 use crate::named::instr_with;
 use crate::places::{pairs_of, place_of, places_of};
 use crate::tables::{array_code, jump_instr, local_instr, plain_instr};
-use kilim_bytecode::opcodes::RawInstr;
-use kilim_classes::Instr;
-use kilim_constant_pool::Pool;
+use kilim_class_code::opcodes::RawInstr;
+use kilim_class_pool::Pool;
 use kilim_link_mentions::operand_at;
 use kilim_link_world::World;
+use kilim_program::Instr;
 use kilim_units::{NoMemory, Seq};
 use std::alloc::Global;
 

@@ -6,11 +6,11 @@ ghost use Rattle.kilim_link_spec.specs.Types.{class_named_by, named_by};
 ghost use Rattle.kilim_link_spec.specs.declared.named.Operand.TheVariants.{AField, AMethod};
 
 use crate::tables::{constant_instr, field_instr, method_instr, type_instr};
-use kilim_classes::{ClassId, FieldId, Instr, MethodId};
 use kilim_link_mentions::named_by;
 use kilim_link_spec::{MemberOf, Named, Operand};
-use kilim_link_types::{class_named_by, type_named};
+use kilim_link_world::types::{class_named_by, type_named};
 use kilim_link_world::{Signature, World};
+use kilim_program::{ClassId, FieldId, Instr, MethodId};
 use kilim_units::{NoMemory, Units};
 use std::alloc::Global;
 

@@ -4,7 +4,7 @@ ghost use Rattle.std.specs.Prelude.{◌≡◌, Some};
 ghost use Rattle.kilim_link_spec.specs.Code.{row, plain_instrs, local_instrs, jump_instrs, constant_instrs, field_instrs, method_instrs, type_instrs, array_codes, applied};
 ghost use Rattle.kilim_link_code.specs.Groups.{from_array_loads, from_local_stores, from_array_stores, from_arithmetic, from_shifts, conversions_and_returns};
 
-use kilim_classes::{Base, FieldId, Instr, MethodId, Ty, Value};
+use kilim_program::{Base, FieldId, Instr, MethodId, Ty, Value};
 
 // Conversions, a comparison, returns and the length of an array.
 fn conversions_and_returns(number: u8) -> Option<Instr>

@@ -6,12 +6,12 @@ use Rattle.std.specs.List.{list_any}
 use Rattle.std.specs.Str.{bytes_eq}
 use Rattle.std.proofs.lemmas.Bool.{lt-ltb, le-ltb}
 use Rattle.std.proofs.lemmas.List.{length-append, length-map}
-use Rattle.kilim_classfile.specs.declared.class_file.ClassFile.{ClassFile}
-use Rattle.kilim_classes.specs.declared.class.Class.{Class}
-use Rattle.kilim_classes.specs.declared.names.ClassId.{ClassId}
-use Rattle.kilim_classes.specs.BuiltIn.{class_id, built_in_classes_in}
-use Rattle.kilim_classes.specs.Names.{class_from, class_named}
-use Rattle.kilim_classes.specs.Program.{Program}
+use Rattle.kilim_class_file.specs.declared.class_file.ClassFile.{ClassFile}
+use Rattle.kilim_program.specs.declared.class.Class.{Class}
+use Rattle.kilim_program.specs.declared.names.ClassId.{ClassId}
+use Rattle.kilim_program.specs.BuiltIn.{class_id, built_in_classes_in}
+use Rattle.kilim_program.specs.Names.{class_from, class_named}
+use Rattle.kilim_program.specs.Program.{Program}
 use Rattle.kilim_link_spec.specs.declared.view.ClassView.{ClassView}
 use Rattle.kilim_link_spec.specs.World.{World, class_of, outlined, outline_with, outline_of, is_message_by, world_of, view_of_file, view_of_built_in, built_ins}
 

@@ -2,10 +2,10 @@
 use Rattle.std.proofs.Common.{◌≡◌, ℕ, suc, ◌+◌, ◌<◌, ◌≤◌, ◌^◌, List, ◌++◌, length, get_or, drop, map, Option, Some, None, refl, sym, ap, ◌∙◌, arith}
 use Rattle.std.proofs.lemmas.List.{length-append, length-map, at_drop_all}
 use Rattle.kilim_lemmas.proofs.Lists.{drop_at}
-use Rattle.kilim_classfile.specs.declared.class_file.ClassFile.{ClassFile}
-use Rattle.kilim_classes.specs.declared.class.Form.{Form}
-use Rattle.kilim_classes.specs.declared.class.Form.TheVariants.{Plain, Woven}
-use Rattle.kilim_classes.specs.BuiltIn.{class_id, built_in_classes_in}
+use Rattle.kilim_class_file.specs.declared.class_file.ClassFile.{ClassFile}
+use Rattle.kilim_program.specs.declared.class.Form.{Form}
+use Rattle.kilim_program.specs.declared.class.Form.TheVariants.{Plain, Woven}
+use Rattle.kilim_program.specs.BuiltIn.{class_id, built_in_classes_in}
 use Rattle.kilim_link_spec.specs.World.{World, world_of, view_of_file, view_of_built_in, built_ins}
 use Rattle.kilim_link_spec.specs.declared.fault.LinkFault.{LinkFault}
 use Rattle.kilim_link_spec.specs.Faults.{faults_in, first_fault, link_faults}

@@ -13,13 +13,13 @@ use Rattle.std.proofs.lemmas.Bool.{and_parts}
 use Rattle.kilim_lemmas.proofs.Texts.{text_turned}
 use Rattle.kilim_lemmas.proofs.Lists.{drop_at}
 use Rattle.kilim_lemmas.proofs.Orders.{both_eq}
-use Rattle.kilim_classfile.specs.declared.class_file.ClassFile.{ClassFile}
-use Rattle.kilim_classfile.specs.declared.class_file.MemberInfo.{MemberInfo}
+use Rattle.kilim_class_file.specs.declared.class_file.ClassFile.{ClassFile}
+use Rattle.kilim_class_file.specs.declared.class_file.MemberInfo.{MemberInfo}
 use Rattle.kilim_link_spec.specs.World.{member_name, member_descriptor}
 use Rattle.kilim_link_spec.specs.Faults.{repeated, same_member}
 use Rattle.kilim_link_spec.specs.Linked.{first_of}
-use Rattle.kilim_inherited.specs.declared.signature.Signature.{Signature}
-use Rattle.kilim_inherited.specs.Index.{signature_cmp, same_signature}
+use Rattle.kilim_link_inherited.specs.declared.signature.Signature.{Signature}
+use Rattle.kilim_link_inherited.specs.Index.{signature_cmp, same_signature}
 use Rattle.kilim_link_faults.specs.Seen.{met_in}
 use Rattle.kilim_link_faults.proofs.Firsts.{reverse_at}
 

@@ -1,12 +1,12 @@
 -- Parts of the lists of problems, as the code goes over them.
 use Rattle.std.specs.Prelude.{ℕ, Bool, not, List, ◌++◌, Option}
 use Rattle.std.specs.List.{flat_map}
-use Rattle.kilim_classfile.specs.declared.class_file.ClassFile.{ClassFile}
-use Rattle.kilim_classfile.specs.declared.class_file.MemberInfo.{MemberInfo}
-use Rattle.kilim_descriptors.specs.declared.types.FieldText.{FieldText}
-use Rattle.kilim_classes.specs.declared.names.ClassId.{ClassId}
-use Rattle.kilim_classes.specs.declared.ty.Ty.{Ty}
-use Rattle.kilim_classes.specs.Names.{◌>>=◌}
+use Rattle.kilim_class_file.specs.declared.class_file.ClassFile.{ClassFile}
+use Rattle.kilim_class_file.specs.declared.class_file.MemberInfo.{MemberInfo}
+use Rattle.kilim_class_descriptors.specs.declared.types.FieldText.{FieldText}
+use Rattle.kilim_program.specs.declared.names.ClassId.{ClassId}
+use Rattle.kilim_program.specs.declared.ty.Ty.{Ty}
+use Rattle.kilim_program.specs.Names.{◌>>=◌}
 use Rattle.kilim_link_spec.specs.declared.fault.Problem.{Problem}
 use Rattle.kilim_link_spec.specs.Faults.{may_hold, faults_in, left_out, both_kinds, field_kinds, override_differs, code_broken, descriptor_broken, super_kind, name_broken, abstract_left}
 use Rattle.kilim_link_spec.specs.declared.fault.LinkFault.{LinkFault}

@@ -7,11 +7,11 @@ ghost use Rattle.kilim_link_spec.specs.Faults.{class_missing, circular, both_kin
 ghost use Rattle.kilim_link_spec.specs.Qualified.{has_fiber};
 ghost use Rattle.kilim_link_spec.specs.Linked.{first_of};
 
-use kilim_classes::{ClassId, Form};
-use kilim_classfile::ClassFile;
+use kilim_class_file::ClassFile;
 use kilim_link_spec::{ClassView, Problem};
 use kilim_link_views::super_name;
 use kilim_link_world::World;
+use kilim_program::{ClassId, Form};
 use kilim_units::{NoMemory, Units};
 use std::alloc::Global;
 

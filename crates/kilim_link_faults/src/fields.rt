@@ -5,14 +5,14 @@ ghost use Rattle.kilim_link_spec.specs.Faults.{field_kinds, may_hold, member_of}
 ghost use Rattle.kilim_link_spec.specs.Linked.{first_of};
 ghost use Rattle.kilim_link_faults.specs.Parts.{holds_badly, type_of};
 
-use kilim_classes::{ClassId, Ty};
-use kilim_classfile::{ClassFile, MemberInfo, MemberName};
-use kilim_descriptors::FieldText;
+use kilim_class_descriptors::FieldText;
+use kilim_class_file::{ClassFile, MemberInfo, MemberName};
 use kilim_link_mentions::field_text;
 use kilim_link_spec::Problem;
-use kilim_link_types::type_in;
 use kilim_link_views::{member_descriptor, member_name};
 use kilim_link_world::World;
+use kilim_link_world::types::type_in;
+use kilim_program::{ClassId, Ty};
 use kilim_units::{NoMemory, Units};
 use std::alloc::Global;
 

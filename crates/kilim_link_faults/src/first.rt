@@ -12,14 +12,14 @@ use crate::class::{both_kinds, circular, class_missing, super_kind};
 use crate::fields::field_kinds;
 use crate::members::member_missing;
 use crate::twice::declared_twice;
-use kilim_classes::{ClassId, Form};
-use kilim_classfile::ClassFile;
+use kilim_class_file::ClassFile;
 use kilim_link_file_faults::{code_broken, descriptor_broken, left_out_problem, name_broken};
 use kilim_link_mentions::{class_names, members_named, mentions_of};
 use kilim_link_override_faults::{Ancestry, abstract_left, override_differs};
 use kilim_link_spec::{LinkFault, Mention, Problem};
 use kilim_link_views::own_name;
 use kilim_link_world::World;
+use kilim_program::{ClassId, Form};
 use kilim_units::{NoMemory, Seq, Units};
 use std::alloc::Global;
 

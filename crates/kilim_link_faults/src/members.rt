@@ -8,12 +8,12 @@ ghost use Rattle.kilim_link_spec.specs.Faults.{member_missing, lacks_member, own
 ghost use Rattle.kilim_link_spec.specs.Linked.{first_of};
 
 use crate::class::has_fiber;
-use kilim_classes::ClassId;
-use kilim_classfile::ClassFile;
+use kilim_class_file::ClassFile;
 use kilim_link_mentions::named_by;
 use kilim_link_override_faults::signature_of;
 use kilim_link_spec::{Member, MemberOf, Named, Problem};
 use kilim_link_world::World;
+use kilim_program::ClassId;
 use kilim_units::{NoMemory, Units};
 use std::alloc::Global;
 

@@ -8,11 +8,11 @@ ghost use Rattle.kilim_link_spec.specs.Linked.{first_of};
 ghost use Rattle.kilim_link_spec.specs.World.{member_name, member_descriptor, outline_of, world_of};
 ghost use Rattle.kilim_link_faults.specs.Seen.{seen_in};
 
-use kilim_classes::ClassId;
-use kilim_classfile::{ClassFile, MemberInfo};
+use kilim_class_file::{ClassFile, MemberInfo};
 use kilim_link_spec::{ClassView, Problem};
 use kilim_link_views::{member_descriptor, member_name, own_name};
 use kilim_link_world::{Signature, World};
+use kilim_program::ClassId;
 use kilim_units::{NoMemory, Units};
 use std::alloc::Global;
 use std::collections::BTreeMap;

@@ -1,7 +1,7 @@
 -- The left-out parts, by the tests for them.
 use Rattle.std.proofs.Common.{◌≡◌, List, [], ◌∷◌, ◌++◌, map, refl}
 use Rattle.std.specs.Prelude.{option_map}
-use Rattle.kilim_classfile.specs.declared.class_file.ClassFile.{ClassFile}
+use Rattle.kilim_class_file.specs.declared.class_file.ClassFile.{ClassFile}
 use Rattle.kilim_link_spec.specs.declared.fault.LeftOutPart.TheVariants as part
 use Rattle.kilim_link_spec.specs.World.{World, or_else}
 use Rattle.kilim_link_spec.specs.Linked.{first_of}

@@ -2,7 +2,7 @@
 use Rattle.std.proofs.Common.{◌≡◌, Bool, ◌||◌, ◌&&◌, nat_lt, List, [], ◌∷◌, ◌++◌, map, refl, ap, append_assoc}
 use Rattle.std.specs.List.{flat_map, list_any}
 use Rattle.kilim_lemmas.proofs.Lists.{map_append}
-use Rattle.kilim_descriptors.specs.declared.types.FieldText.{FieldText}
+use Rattle.kilim_class_descriptors.specs.declared.types.FieldText.{FieldText}
 use Rattle.kilim_link_spec.specs.declared.named.Mention.{Mention}
 use Rattle.kilim_link_spec.specs.LeftOut.{is_float_base, is_task_base}
 use Rattle.kilim_link_spec.specs.Mentions.{types_mentioned}

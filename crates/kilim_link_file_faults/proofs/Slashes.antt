@@ -1,7 +1,7 @@
 -- The parts of a name between slashes.
 use Rattle.std.proofs.Common.{◌≡◌, ℕ, Bool, true, false, not, ◌==◌, List, [], ◌∷◌, refl, ◌∙◌, sym}
 use Rattle.std.specs.List.{list_all, slice_split, onto_first}
-use Rattle.kilim_classes.specs.Names.{is_empty}
+use Rattle.kilim_program.specs.Names.{is_empty}
 use Rattle.kilim_link_file_faults.specs.Slashes.{parts_from}
 
 abbrev split : List ℕ → List (List ℕ)

@@ -1,6 +1,6 @@
 -- The types of descriptors and of arrays, of any number of dimensions.
 use Rattle.std.specs.Prelude.{nat_lt}
-use Rattle.kilim_descriptors.specs.declared.types.FieldText.{FieldText}
+use Rattle.kilim_class_descriptors.specs.declared.types.FieldText.{FieldText}
 pub use Rattle.kilim_link_file_faults.specs.declared.types.Shape.{Shape}
 
 -- whether a type is an array, and its element

@@ -2,7 +2,7 @@
 
 ghost use Rattle.std.specs.Prelude.{◌≡◌, IfOk, map};
 ghost use Rattle.std.specs.List.{flat_map, filter_map};
-ghost use Rattle.kilim_classes.specs.declared.names.ClassId.{ClassId};
+ghost use Rattle.kilim_program.specs.declared.names.ClassId.{ClassId};
 ghost use Rattle.kilim_link_mentions.specs.Decoded.{code_found};
 ghost use Rattle.kilim_link_spec.specs.World.{World};
 ghost use Rattle.kilim_link_spec.specs.Code.{index_in};
@@ -10,10 +10,10 @@ ghost use Rattle.kilim_link_spec.specs.Linked.{code_attribute, first_of};
 ghost use Rattle.kilim_link_spec.specs.LeftOut.{decoded_in};
 ghost use Rattle.kilim_link_spec.specs.Faults.{bad_index, code_fault, code_faults, code_broken};
 
-use kilim_bytecode::opcodes::{OpFault, RawInstr};
-use kilim_bytecode::{Body, CodeFault};
-use kilim_classfile::{ClassFile, MemberInfo, MemberName};
-use kilim_constant_pool::Pool;
+use kilim_class_code::opcodes::{OpFault, RawInstr};
+use kilim_class_code::{Body, CodeFault};
+use kilim_class_file::{ClassFile, MemberInfo, MemberName};
+use kilim_class_pool::Pool;
 use kilim_link_mentions::{code_attribute, decoded, index_in, operand_at};
 use kilim_link_spec::Problem;
 use kilim_link_views::{member_descriptor, member_name};

@@ -2,16 +2,16 @@
 
 ghost use Rattle.std.specs.Prelude.{◌≡◌, ◌+◌, nat_lt, IfOk};
 ghost use Rattle.std.specs.List.{flat_map};
-ghost use Rattle.kilim_descriptors.specs.Text.{slots_of};
-ghost use Rattle.kilim_classes.specs.declared.names.ClassId.{ClassId};
+ghost use Rattle.kilim_class_descriptors.specs.Text.{slots_of};
+ghost use Rattle.kilim_program.specs.declared.names.ClassId.{ClassId};
 ghost use Rattle.kilim_link_spec.specs.World.{World};
 ghost use Rattle.kilim_link_spec.specs.Linked.{first_of};
 ghost use Rattle.kilim_link_spec.specs.declared.named.Mention.TheVariants.{OfField, OfMethod};
 ghost use Rattle.kilim_link_spec.specs.Mentions.{mentions_of};
 ghost use Rattle.kilim_link_spec.specs.Faults.{descriptor_broken, is_no_method, named_badly, no_descriptors};
 
-use kilim_classfile::ClassFile;
-use kilim_descriptors::{MethodText, argument_slots};
+use kilim_class_descriptors::{MethodText, argument_slots};
+use kilim_class_file::ClassFile;
 use kilim_link_mentions::{field_text, method_text};
 use kilim_link_spec::{Mention, Named, Problem};
 use kilim_units::{NoMemory, Units};

@@ -3,21 +3,21 @@
 ghost use Rattle.std.specs.Prelude.{◌≡◌, ◌&&◌, not, IfOk};
 ghost use Rattle.std.specs.List.{list_any, filter_map};
 ghost use Rattle.std.specs.Option.{option_copied};
-ghost use Rattle.kilim_classes.specs.Keeps.{constant_fits};
+ghost use Rattle.kilim_program.specs.Keeps.{constant_fits};
 ghost use Rattle.kilim_link_spec.specs.Code.{constant_ref};
 ghost use Rattle.kilim_link_spec.specs.Linked.{constant_by, constant_of, first_of};
 ghost use Rattle.kilim_link_spec.specs.LeftOut.{has_its_constant, has_static_field};
 ghost use Rattle.kilim_link_spec.specs.World.{acc_static, has_flag};
 ghost use Rattle.kilim_link_file_faults.specs.Lefts.{field_type};
 
-use kilim_attributes::{Attribute, Info};
-use kilim_classes::{Ty, Value};
-use kilim_classfile::{ClassFile, MemberInfo};
-use kilim_constant_pool::{Entry, Pool};
+use kilim_class_attributes::{Attribute, Info};
+use kilim_class_file::{ClassFile, MemberInfo};
+use kilim_class_pool::{Entry, Pool};
 use kilim_link_mentions::field_text;
-use kilim_link_types::type_in;
 use kilim_link_views::{has_flag, member_descriptor, text_of};
 use kilim_link_world::World;
+use kilim_link_world::types::type_in;
+use kilim_program::{Ty, Value};
 use kilim_units::{NoMemory, Units};
 use std::alloc::Global;
 

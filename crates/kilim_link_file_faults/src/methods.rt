@@ -12,14 +12,14 @@ ghost use Rattle.kilim_link_spec.specs.Mentions.{class_names};
 ghost use Rattle.kilim_link_spec.specs.Qualified.{has_fiber, is_constructor_name};
 ghost use Rattle.kilim_link_spec.specs.World.{class_text, interface_names, is_pausable, member_name};
 
-use kilim_attributes::Code;
-use kilim_bytecode::opcodes::OpFault;
-use kilim_bytecode::{Body, CodeFault};
-use kilim_classes::Form;
-use kilim_classfile::{ClassFile, MemberInfo};
+use kilim_class_attributes::Code;
+use kilim_class_code::opcodes::OpFault;
+use kilim_class_code::{Body, CodeFault};
+use kilim_class_file::{ClassFile, MemberInfo};
 use kilim_link_mentions::{code_attribute, decoded};
 use kilim_link_views::{class_text, has_flag, is_pausable, is_text, member_name, own_name};
 use kilim_link_world::World;
+use kilim_program::Form;
 use kilim_units::{NoMemory, Units};
 use std::alloc::Global;
 

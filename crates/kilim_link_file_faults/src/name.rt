@@ -2,15 +2,15 @@
 
 ghost use Rattle.std.specs.Prelude.{◌≡◌, ◌==◌, ◌||◌, not, length, true, false, IfOk};
 ghost use Rattle.std.specs.List.{list_all, slice_split};
-ghost use Rattle.kilim_classes.specs.declared.names.ClassId.{ClassId};
-ghost use Rattle.kilim_classes.specs.Names.{is_empty};
-ghost use Rattle.kilim_mutf8.specs.Spelling.{spelling, unit_text};
+ghost use Rattle.kilim_program.specs.declared.names.ClassId.{ClassId};
+ghost use Rattle.kilim_program.specs.Names.{is_empty};
+ghost use Rattle.kilim_class_mutf8.specs.Spelling.{spelling, unit_text};
 ghost use Rattle.kilim_link_spec.specs.World.{World};
 ghost use Rattle.kilim_link_spec.specs.Linked.{first_of};
 ghost use Rattle.kilim_link_spec.specs.Faults.{are_paired, is_class_name, is_high, is_low, name_broken};
 ghost use Rattle.kilim_link_file_faults.specs.Slashes.{parts_from};
 
-use kilim_classfile::ClassFile;
+use kilim_class_file::ClassFile;
 use kilim_link_spec::Problem;
 use kilim_link_views::own_name;
 use kilim_units::NoMemory;

@@ -8,10 +8,10 @@ ghost use Rattle.kilim_link_spec.specs.LeftOut.{differs_in, has_other_parameters
 ghost use Rattle.kilim_link_spec.specs.Types.{method_text};
 ghost use Rattle.kilim_link_spec.specs.World.{member_descriptor, parameter_parts};
 
-use kilim_attribute_parts::AnnotationPart;
-use kilim_attributes::{Attribute, Info};
-use kilim_classfile::{ClassFile, MemberInfo};
-use kilim_descriptors::MethodText;
+use kilim_class_attributes::parts::AnnotationPart;
+use kilim_class_attributes::{Attribute, Info};
+use kilim_class_descriptors::MethodText;
+use kilim_class_file::{ClassFile, MemberInfo};
 use kilim_link_mentions::method_text;
 use kilim_link_views::{member_descriptor, params_in};
 use kilim_units::{NoMemory, Seq, Units};

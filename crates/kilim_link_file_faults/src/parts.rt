@@ -2,7 +2,7 @@
 
 ghost use Rattle.std.specs.Prelude.{◌≡◌, map, IfOk};
 ghost use Rattle.std.specs.List.{flat_map};
-ghost use Rattle.kilim_classes.specs.declared.names.ClassId.{ClassId};
+ghost use Rattle.kilim_program.specs.declared.names.ClassId.{ClassId};
 ghost use Rattle.kilim_link_spec.specs.Linked.{first_of};
 ghost use Rattle.kilim_link_spec.specs.LeftOut.{has_other_parameters, has_static_field, if_left, left_out_parts};
 ghost use Rattle.kilim_link_spec.specs.Mentions.{class_names, mentions_of, types_mentioned};
@@ -17,7 +17,7 @@ use crate::methods::{
 };
 use crate::parameters::has_other_parameters;
 use crate::types::{Shape, has_float, has_task_array, shapes};
-use kilim_classfile::ClassFile;
+use kilim_class_file::ClassFile;
 use kilim_link_spec::{LeftOutPart, Mention, Problem};
 use kilim_link_views::has_flag;
 use kilim_link_world::World;

@@ -8,8 +8,8 @@ ghost use Rattle.kilim_link_spec.specs.Mentions.{all_types, element_types, menti
 ghost use Rattle.kilim_link_spec.specs.Types.{field_text, method_text, method_types, result_types, types_of_field, types_of_method};
 ghost use Rattle.kilim_link_file_faults.specs.Shapes.{shape_of};
 
-use kilim_classfile::ClassFile;
-use kilim_descriptors::{BaseText, FieldText, MethodText};
+use kilim_class_descriptors::{BaseText, FieldText, MethodText};
+use kilim_class_file::ClassFile;
 use kilim_link_mentions::{field_text, method_text};
 use kilim_link_spec::{Mention, Named};
 use kilim_link_world::World;

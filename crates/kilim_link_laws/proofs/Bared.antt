@@ -3,17 +3,17 @@ use Rattle.std.proofs.Common.{◌≡◌, ℕ, zero, suc, ◌==◌, nat_lt, Bool,
 use Rattle.std.proofs.lemmas.List.{length-map}
 use Rattle.std.specs.List.{list_any}
 use Rattle.kilim_lemmas.proofs.Lists.{any_same}
-use Rattle.kilim_classes.specs.declared.class.Class.{Class}
-use Rattle.kilim_classes.specs.declared.names.ClassId.{ClassId}
-use Rattle.kilim_classes.specs.declared.ty.Base.{Base}
-use Rattle.kilim_classes.specs.declared.ty.Base.TheVariants as base
-use Rattle.kilim_classes.specs.declared.ty.Kind.{Kind}
-use Rattle.kilim_classes.specs.declared.ty.Kind.TheVariants.{Value, Tree, Private}
-use Rattle.kilim_classes.specs.declared.ty.Ty.{Ty}
-use Rattle.kilim_classes.specs.Keeps.{ancestors_of, is_object, line_above, superclass_fits, superclass_of}
-use Rattle.kilim_classes.specs.Kinds.{array_kind, base_kind, class_kind, field_may_hold, is_marked, is_message, is_private_kind, is_task_array, is_task_base, is_task_type, is_tree_kind, is_value_class, is_value_kind, kind_of}
-use Rattle.kilim_classes.specs.Names.{◌>>=◌, class_at, class_name, is_named_task, is_task, line_of, line_up_to}
-use Rattle.kilim_classes.specs.Program.{Program}
+use Rattle.kilim_program.specs.declared.class.Class.{Class}
+use Rattle.kilim_program.specs.declared.names.ClassId.{ClassId}
+use Rattle.kilim_program.specs.declared.ty.Base.{Base}
+use Rattle.kilim_program.specs.declared.ty.Base.TheVariants as base
+use Rattle.kilim_program.specs.declared.ty.Kind.{Kind}
+use Rattle.kilim_program.specs.declared.ty.Kind.TheVariants.{Value, Tree, Private}
+use Rattle.kilim_program.specs.declared.ty.Ty.{Ty}
+use Rattle.kilim_program.specs.Keeps.{ancestors_of, is_object, line_above, superclass_fits, superclass_of}
+use Rattle.kilim_program.specs.Kinds.{array_kind, base_kind, class_kind, field_may_hold, is_marked, is_message, is_private_kind, is_task_array, is_task_base, is_task_type, is_tree_kind, is_value_class, is_value_kind, kind_of}
+use Rattle.kilim_program.specs.Names.{◌>>=◌, class_at, class_name, is_named_task, is_task, line_of, line_up_to}
+use Rattle.kilim_program.specs.Program.{Program}
 use Rattle.kilim_link_laws.specs.Bridge.{BaredAgrees, bare, bared}
 use Rattle.kilim_link_laws.proofs.Lists.{get_map}
 

@@ -4,28 +4,28 @@ use Rattle.std.specs.List.{cons_option, list_all}
 use Rattle.std.proofs.lemmas.Bool.{and_from, not_from_false}
 use Rattle.std.proofs.lemmas.Option.{same_Some, none-some}
 use Rattle.kilim_lemmas.proofs.Lists.{front_none, map_none, get_left}
-use Rattle.kilim_attributes.specs.declared.attribute.Attribute.{Attribute}
-use Rattle.kilim_attributes.specs.declared.attribute.Code.{Code}
-use Rattle.kilim_attributes.specs.declared.attribute.Info.{Info}
-use Rattle.kilim_attributes.specs.declared.attribute.Info.TheVariants as info
-use Rattle.kilim_attributes.specs.declared.attribute.Place.TheVariants as place
-use Rattle.kilim_attributes.specs.Attributes.{AttributeFits, InfoFits}
-use Rattle.kilim_attributes.specs.Codes.{CodeFits}
-use Rattle.kilim_attributes.specs.Lists.{EachAfter}
-use Rattle.kilim_classfile.specs.declared.class_file.ClassFile.{ClassFile}
-use Rattle.kilim_classfile.specs.declared.class_file.MemberInfo.{MemberInfo}
-use Rattle.kilim_classfile.specs.Parts.{differs, has_code, has_its_code, is_bodiless, is_code}
-use Rattle.kilim_classfile.specs.Text.{MethodFits}
-use Rattle.kilim_constant_pool.specs.declared.entry.Entry.{Entry}
-use Rattle.kilim_classes.specs.declared.class.Class.{Class}
-use Rattle.kilim_classes.specs.declared.class.Field.{Field}
-use Rattle.kilim_classes.specs.declared.class.Form.{Form}
-use Rattle.kilim_classes.specs.declared.class.Method.{Method}
-use Rattle.kilim_classes.specs.declared.names.ClassId.{ClassId}
-use Rattle.kilim_classes.specs.Program.{Program}
-use Rattle.kilim_classes.specs.BuiltIn.{built_in_classes_in, built_in_methods_in, class_id}
-use Rattle.kilim_classes.specs.Keeps.{EndsBuiltIn}
-use Rattle.kilim_classes.specs.Same.{same_flag}
+use Rattle.kilim_class_attributes.specs.declared.attribute.Attribute.{Attribute}
+use Rattle.kilim_class_attributes.specs.declared.attribute.Code.{Code}
+use Rattle.kilim_class_attributes.specs.declared.attribute.Info.{Info}
+use Rattle.kilim_class_attributes.specs.declared.attribute.Info.TheVariants as info
+use Rattle.kilim_class_attributes.specs.declared.attribute.Place.TheVariants as place
+use Rattle.kilim_class_attributes.specs.Attributes.{AttributeFits, InfoFits}
+use Rattle.kilim_class_attributes.specs.Codes.{CodeFits}
+use Rattle.kilim_class_attributes.specs.Lists.{EachAfter}
+use Rattle.kilim_class_file.specs.declared.class_file.ClassFile.{ClassFile}
+use Rattle.kilim_class_file.specs.declared.class_file.MemberInfo.{MemberInfo}
+use Rattle.kilim_class_file.specs.Parts.{differs, has_code, has_its_code, is_bodiless, is_code}
+use Rattle.kilim_class_file.specs.Text.{MethodFits}
+use Rattle.kilim_class_pool.specs.declared.entry.Entry.{Entry}
+use Rattle.kilim_program.specs.declared.class.Class.{Class}
+use Rattle.kilim_program.specs.declared.class.Field.{Field}
+use Rattle.kilim_program.specs.declared.class.Form.{Form}
+use Rattle.kilim_program.specs.declared.class.Method.{Method}
+use Rattle.kilim_program.specs.declared.names.ClassId.{ClassId}
+use Rattle.kilim_program.specs.Program.{Program}
+use Rattle.kilim_program.specs.BuiltIn.{built_in_classes_in, built_in_methods_in, class_id}
+use Rattle.kilim_program.specs.Keeps.{EndsBuiltIn}
+use Rattle.kilim_program.specs.Same.{same_flag}
 use Rattle.kilim_link_spec.specs.Code.{code_of, decoded}
 use Rattle.kilim_link_spec.specs.Faults.{abstract_left, is_left_here}
 use Rattle.kilim_link_spec.specs.Frames.{frames_in}

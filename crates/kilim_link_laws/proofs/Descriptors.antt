@@ -1,17 +1,17 @@
--- A text that reads as a descriptor is the text of what is read. (kilim_descriptors proves more, with no law to call.)
+-- A text that reads as a descriptor is the text of what is read. (kilim_class_descriptors proves more, with no law to call.)
 use Rattle.std.proofs.Common.{◌≡◌, ℕ, zero, suc, ◌+◌, Bool, true, false, cond, ltb, eqb, List, [], ◌∷◌, ◌++◌, length, Option, Some, None, Result, Ok, Err, refl, sym, ap, ◌∙◌, append_assoc, append-nil, arith}
 use Rattle.std.specs.Prelude.{replicate}
 use Rattle.std.specs.List.{flat_map}
 use Rattle.std.proofs.lemmas.Bool.{eqb-true}
 use Rattle.std.proofs.lemmas.Option.{same_Some, none-some}
-use Rattle.kilim_descriptors.specs.declared.types.BaseText.{BaseText}
-use Rattle.kilim_descriptors.specs.declared.types.BaseText.TheVariants.{Bool as Boolean, Byte, Char, Short, Int, Long, Float, Double}
-use Rattle.kilim_descriptors.specs.declared.types.FieldText.{FieldText}
-use Rattle.kilim_descriptors.specs.declared.types.MethodText.{MethodText}
-use Rattle.kilim_descriptors.specs.Text.{base_text, result_text, field_text as text_of_field, method_text as text_of_method}
-use Rattle.kilim_descriptors.specs.Reading.{◌>>=◌, after_param, all_of, base_at, class_at, class_of, field_at, field_behind, in_dims, param_at, params_at, result_at, split_name, whole_field, whole_method, with_unit}
+use Rattle.kilim_class_descriptors.specs.declared.types.BaseText.{BaseText}
+use Rattle.kilim_class_descriptors.specs.declared.types.BaseText.TheVariants.{Bool as Boolean, Byte, Char, Short, Int, Long, Float, Double}
+use Rattle.kilim_class_descriptors.specs.declared.types.FieldText.{FieldText}
+use Rattle.kilim_class_descriptors.specs.declared.types.MethodText.{MethodText}
+use Rattle.kilim_class_descriptors.specs.Text.{base_text, result_text, field_text as text_of_field, method_text as text_of_method}
+use Rattle.kilim_class_descriptors.specs.Reading.{◌>>=◌, after_param, all_of, base_at, class_at, class_of, field_at, field_behind, in_dims, param_at, params_at, result_at, split_name, whole_field, whole_method, with_unit}
 use Rattle.kilim_link_spec.specs.Types.{field_text, method_text}
-use Rattle.kilim_descriptors.specs.Exact.{spelled_by}
+use Rattle.kilim_class_descriptors.specs.Exact.{spelled_by}
 
 -- what was taken from the front is spelled there
 abbrev Took : {A : Type 0} → (A → List ℕ) → List ℕ → Result (A × List ℕ) ℕ → Type 0

@@ -3,7 +3,7 @@ use Rattle.std.proofs.Common.{◌≡◌, ◌≢◌, ℕ, zero, suc, ◌^◌, ◌
 use Rattle.std.specs.Int.{bit_at}
 use Rattle.std.proofs.lemmas.Bool.{cases_eq, cases_lt, not-false}
 use Rattle.std.proofs.lemmas.Nat.Bits.{bit_at-pow_other, bit_at-pow_same, bit_at-zero, bit_at_above, bit_at_and, bit_at_cat_high, bit_at_cat_low, same_from_bits}
-use Rattle.kilim_classfile.specs.Parts.{is_bodiless}
+use Rattle.kilim_class_file.specs.Parts.{is_bodiless}
 use Rattle.kilim_link_spec.specs.World.{acc_abstract, acc_native, has_flag}
 
 -- no bit is set but these

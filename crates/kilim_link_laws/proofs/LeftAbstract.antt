@@ -4,19 +4,19 @@ use Rattle.std.specs.List.{flat_map, list_all, list_any}
 use Rattle.std.proofs.lemmas.Bool.{and_left, not-true, not_from_false, or_left, or_right}
 use Rattle.std.proofs.lemmas.List.{length-append}
 use Rattle.kilim_lemmas.proofs.Lists.{front_none, rest_none, map_none, get_some}
-use Rattle.kilim_classfile.specs.declared.class_file.ClassFile.{ClassFile}
-use Rattle.kilim_classes.specs.declared.class.Class.{Class}
-use Rattle.kilim_classes.specs.declared.class.Field.{Field}
-use Rattle.kilim_classes.specs.declared.class.Form.{Form}
-use Rattle.kilim_classes.specs.declared.class.Form.TheVariants.{Plain, Woven}
-use Rattle.kilim_classes.specs.declared.class.Method.{Method}
-use Rattle.kilim_classes.specs.declared.names.ClassId.{ClassId}
-use Rattle.kilim_classes.specs.declared.names.MethodId.{MethodId}
-use Rattle.kilim_classes.specs.Program.{Program}
-use Rattle.kilim_classes.specs.BuiltIn.{built_in_classes_in, built_in_methods_in, class_id}
-use Rattle.kilim_classes.specs.Keeps.{ancestors_of, is_left_abstract, is_same_id, line_above, none_is_left_abstract, superclass_of}
-use Rattle.kilim_classes.specs.Names.{class_at, line_of, line_up_to, method_at, methods_of}
-use Rattle.kilim_classes.specs.Same.{selected}
+use Rattle.kilim_class_file.specs.declared.class_file.ClassFile.{ClassFile}
+use Rattle.kilim_program.specs.declared.class.Class.{Class}
+use Rattle.kilim_program.specs.declared.class.Field.{Field}
+use Rattle.kilim_program.specs.declared.class.Form.{Form}
+use Rattle.kilim_program.specs.declared.class.Form.TheVariants.{Plain, Woven}
+use Rattle.kilim_program.specs.declared.class.Method.{Method}
+use Rattle.kilim_program.specs.declared.names.ClassId.{ClassId}
+use Rattle.kilim_program.specs.declared.names.MethodId.{MethodId}
+use Rattle.kilim_program.specs.Program.{Program}
+use Rattle.kilim_program.specs.BuiltIn.{built_in_classes_in, built_in_methods_in, class_id}
+use Rattle.kilim_program.specs.Keeps.{ancestors_of, is_left_abstract, is_same_id, line_above, none_is_left_abstract, superclass_of}
+use Rattle.kilim_program.specs.Names.{class_at, line_of, line_up_to, method_at, methods_of}
+use Rattle.kilim_program.specs.Same.{selected}
 use Rattle.kilim_link_spec.specs.Faults.{abstract_left, is_left_here, left_above, left_inherited}
 use Rattle.kilim_link_spec.specs.Laws.{LinkedInParts, NoProblem, NoneHasAProblem, NoneOfEachKind}
 use Rattle.kilim_link_spec.specs.Linked.{program_with}

@@ -1,8 +1,8 @@
 -- Of a class without a problem nothing is left out.
 use Rattle.std.proofs.Common.{◌≡◌, Bool, true, false, not, [], refl}
 use Rattle.kilim_lemmas.proofs.Lists.{front_none, rest_none, map_none}
-use Rattle.kilim_classfile.specs.declared.class_file.ClassFile.{ClassFile}
-use Rattle.kilim_classes.specs.declared.names.ClassId.{ClassId}
+use Rattle.kilim_class_file.specs.declared.class_file.ClassFile.{ClassFile}
+use Rattle.kilim_program.specs.declared.names.ClassId.{ClassId}
 use Rattle.kilim_link_spec.specs.declared.fault.LeftOutPart.{LeftOutPart}
 use Rattle.kilim_link_spec.specs.Faults.{has_fiber_name, has_float, has_handlers, has_initializer, has_interface, has_method_flag, has_other_parameters, has_pausable_constructor, has_static_field, has_task_array, if_left, left_out, left_out_ops, left_out_parts}
 use Rattle.kilim_link_spec.specs.Laws.{NoProblem}

@@ -3,7 +3,7 @@ use Rattle.std.proofs.Common.{◌≡◌, ℕ, zero, suc, ◌+◌, ◌<◌, ◌�
 use Rattle.std.specs.List.{list_all, list_any}
 use Rattle.std.proofs.lemmas.Bool.{and_from, and_parts, or_parts, or_from, not_from_false, not-true}
 use Rattle.std.proofs.lemmas.Option.{same_Some, none-some}
-use Rattle.kilim_classes.specs.Same.{all_differ}
+use Rattle.kilim_program.specs.Same.{all_differ}
 
 -- ---- elements at places
 

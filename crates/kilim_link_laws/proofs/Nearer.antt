@@ -6,20 +6,20 @@ use Rattle.std.proofs.lemmas.Option.{same_Some, none-some, slice_get_within}
 use Rattle.kilim_lemmas.proofs.Lists.{front_none, rest_none, get_right, get_left, get_some}
 use Rattle.kilim_lemmas.proofs.Truth.{rest_is_false}
 use Rattle.kilim_lemmas.proofs.Texts.{text_is, same_text}
-use Rattle.kilim_classfile.specs.declared.class_file.ClassFile.{ClassFile}
-use Rattle.kilim_classes.specs.declared.class.Class.{Class}
-use Rattle.kilim_classes.specs.declared.class.Field.{Field}
-use Rattle.kilim_classes.specs.declared.class.Form.{Form}
-use Rattle.kilim_classes.specs.declared.class.Method.{Method}
-use Rattle.kilim_classes.specs.declared.names.ClassId.{ClassId}
-use Rattle.kilim_classes.specs.declared.names.MethodId.{MethodId}
-use Rattle.kilim_classes.specs.declared.ty.Base.{Base}
-use Rattle.kilim_classes.specs.declared.ty.Base.TheVariants as base
-use Rattle.kilim_classes.specs.declared.ty.Ty.{Ty}
-use Rattle.kilim_classes.specs.Program.{Program}
-use Rattle.kilim_classes.specs.Keeps.{is_left_abstract, is_same_id}
-use Rattle.kilim_classes.specs.Names.{class_at, first_that, line_of, method_at, methods_of}
-use Rattle.kilim_classes.specs.Same.{answers, same_base, same_result, same_signature, same_type, same_types, selected}
+use Rattle.kilim_class_file.specs.declared.class_file.ClassFile.{ClassFile}
+use Rattle.kilim_program.specs.declared.class.Class.{Class}
+use Rattle.kilim_program.specs.declared.class.Field.{Field}
+use Rattle.kilim_program.specs.declared.class.Form.{Form}
+use Rattle.kilim_program.specs.declared.class.Method.{Method}
+use Rattle.kilim_program.specs.declared.names.ClassId.{ClassId}
+use Rattle.kilim_program.specs.declared.names.MethodId.{MethodId}
+use Rattle.kilim_program.specs.declared.ty.Base.{Base}
+use Rattle.kilim_program.specs.declared.ty.Base.TheVariants as base
+use Rattle.kilim_program.specs.declared.ty.Ty.{Ty}
+use Rattle.kilim_program.specs.Program.{Program}
+use Rattle.kilim_program.specs.Keeps.{is_left_abstract, is_same_id}
+use Rattle.kilim_program.specs.Names.{class_at, first_that, line_of, method_at, methods_of}
+use Rattle.kilim_program.specs.Same.{answers, same_base, same_result, same_signature, same_type, same_types, selected}
 use Rattle.kilim_link_spec.specs.Faults.{is_left_above, left_above}
 use Rattle.kilim_link_spec.specs.Linked.{program_with}
 use Rattle.kilim_link_spec.specs.World.{World, declared_methods, is_message_by, is_method, methods_at, outline_with, world_of}

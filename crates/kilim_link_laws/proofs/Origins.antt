@@ -6,17 +6,17 @@ use Rattle.std.proofs.lemmas.List.{length-append, length-map}
 use Rattle.std.proofs.lemmas.Option.{same_Some}
 use Rattle.kilim_lemmas.proofs.Lists.{get_right, get_some}
 use Rattle.kilim_lemmas.proofs.Truth.{or_false}
-use Rattle.kilim_classfile.specs.declared.class_file.ClassFile.{ClassFile}
-use Rattle.kilim_classes.specs.declared.class.Class.{Class}
-use Rattle.kilim_classes.specs.declared.class.Field.{Field}
-use Rattle.kilim_classes.specs.declared.class.Form.{Form}
-use Rattle.kilim_classes.specs.declared.class.Method.{Method}
-use Rattle.kilim_classes.specs.declared.names.ClassId.{ClassId}
-use Rattle.kilim_classes.specs.Program.{Program}
-use Rattle.kilim_classes.specs.BuiltIn.{built_in_classes_in, class_id}
-use Rattle.kilim_classes.specs.Keeps.{ancestors_of, each_class, each_class_from, line_above, superclass_of}
-use Rattle.kilim_classes.specs.Kinds.{is_marked, is_message}
-use Rattle.kilim_classes.specs.Names.{class_at, class_name, is_named_task, is_task, line_of}
+use Rattle.kilim_class_file.specs.declared.class_file.ClassFile.{ClassFile}
+use Rattle.kilim_program.specs.declared.class.Class.{Class}
+use Rattle.kilim_program.specs.declared.class.Field.{Field}
+use Rattle.kilim_program.specs.declared.class.Form.{Form}
+use Rattle.kilim_program.specs.declared.class.Method.{Method}
+use Rattle.kilim_program.specs.declared.names.ClassId.{ClassId}
+use Rattle.kilim_program.specs.Program.{Program}
+use Rattle.kilim_program.specs.BuiltIn.{built_in_classes_in, class_id}
+use Rattle.kilim_program.specs.Keeps.{ancestors_of, each_class, each_class_from, line_above, superclass_of}
+use Rattle.kilim_program.specs.Kinds.{is_marked, is_message}
+use Rattle.kilim_program.specs.Names.{class_at, class_name, is_named_task, is_task, line_of}
 use Rattle.kilim_link_spec.specs.Linked.{linked_class, program_with}
 use Rattle.kilim_link_spec.specs.World.{World, world_of}
 use Rattle.kilim_link_laws.specs.Bridge.{Agree, bare}

@@ -6,19 +6,19 @@ use Rattle.std.proofs.lemmas.Option.{same_Some}
 use Rattle.kilim_lemmas.proofs.Lists.{map_none, get_some}
 use Rattle.kilim_lemmas.proofs.Texts.{same_text}
 use Rattle.kilim_lemmas.proofs.Truth.{rest_is_false}
-use Rattle.kilim_classfile.specs.declared.class_file.ClassFile.{ClassFile}
-use Rattle.kilim_classes.specs.declared.class.Class.{Class}
-use Rattle.kilim_classes.specs.declared.class.Field.{Field}
-use Rattle.kilim_classes.specs.declared.class.Form.{Form}
-use Rattle.kilim_classes.specs.declared.class.Form.TheVariants.{Plain, Woven}
-use Rattle.kilim_classes.specs.declared.class.Method.{Method}
-use Rattle.kilim_classes.specs.declared.names.ClassId.{ClassId}
-use Rattle.kilim_classes.specs.declared.names.MethodId.{MethodId}
-use Rattle.kilim_classes.specs.Program.{Program}
-use Rattle.kilim_classes.specs.BuiltIn.{built_in_classes_in, built_in_methods_in, class_id}
-use Rattle.kilim_classes.specs.Keeps.{agrees as method_agrees, agrees_with, ancestors_of, overriding_agrees, overrides}
-use Rattle.kilim_classes.specs.Names.{class_at, method_at, methods_of}
-use Rattle.kilim_classes.specs.Same.{is_constructor, same_flag, same_signature}
+use Rattle.kilim_class_file.specs.declared.class_file.ClassFile.{ClassFile}
+use Rattle.kilim_program.specs.declared.class.Class.{Class}
+use Rattle.kilim_program.specs.declared.class.Field.{Field}
+use Rattle.kilim_program.specs.declared.class.Form.{Form}
+use Rattle.kilim_program.specs.declared.class.Form.TheVariants.{Plain, Woven}
+use Rattle.kilim_program.specs.declared.class.Method.{Method}
+use Rattle.kilim_program.specs.declared.names.ClassId.{ClassId}
+use Rattle.kilim_program.specs.declared.names.MethodId.{MethodId}
+use Rattle.kilim_program.specs.Program.{Program}
+use Rattle.kilim_program.specs.BuiltIn.{built_in_classes_in, built_in_methods_in, class_id}
+use Rattle.kilim_program.specs.Keeps.{agrees as method_agrees, agrees_with, ancestors_of, overriding_agrees, overrides}
+use Rattle.kilim_program.specs.Names.{class_at, method_at, methods_of}
+use Rattle.kilim_program.specs.Same.{is_constructor, same_flag, same_signature}
 use Rattle.kilim_link_spec.specs.Faults.{agrees, differs_from, override_differs, overrides_badly, same_qualified}
 use Rattle.kilim_link_spec.specs.Laws.{LinkedInParts, NoProblem, NoneHasAProblem, NoneOfEachKind}
 use Rattle.kilim_link_spec.specs.Linked.{linked_method, program_with}

@@ -6,17 +6,17 @@ use Rattle.std.proofs.lemmas.List.{length-append, length-map, take_at}
 use Rattle.std.proofs.lemmas.Option.{same_Some, slice_get_within}
 use Rattle.kilim_lemmas.proofs.Lists.{get_right, get_left}
 use Rattle.kilim_lemmas.proofs.Truth.{rest_is_false}
-use Rattle.kilim_classfile.specs.declared.class_file.ClassFile.{ClassFile}
-use Rattle.kilim_classes.specs.declared.class.Class.{Class}
-use Rattle.kilim_classes.specs.declared.class.Field.{Field}
-use Rattle.kilim_classes.specs.declared.class.Form.{Form}
-use Rattle.kilim_classes.specs.declared.class.Form.TheVariants.{Plain, Woven}
-use Rattle.kilim_classes.specs.declared.class.Method.{Method}
-use Rattle.kilim_classes.specs.declared.names.ClassId.{ClassId}
-use Rattle.kilim_classes.specs.Program.{Program}
-use Rattle.kilim_classes.specs.BuiltIn.{built_in_classes_in, class_id}
-use Rattle.kilim_classes.specs.Keeps.{is_open_superclass, own_class_fits, own_classes_fit, own_count}
-use Rattle.kilim_classes.specs.Names.{class_name}
+use Rattle.kilim_class_file.specs.declared.class_file.ClassFile.{ClassFile}
+use Rattle.kilim_program.specs.declared.class.Class.{Class}
+use Rattle.kilim_program.specs.declared.class.Field.{Field}
+use Rattle.kilim_program.specs.declared.class.Form.{Form}
+use Rattle.kilim_program.specs.declared.class.Form.TheVariants.{Plain, Woven}
+use Rattle.kilim_program.specs.declared.class.Method.{Method}
+use Rattle.kilim_program.specs.declared.names.ClassId.{ClassId}
+use Rattle.kilim_program.specs.Program.{Program}
+use Rattle.kilim_program.specs.BuiltIn.{built_in_classes_in, class_id}
+use Rattle.kilim_program.specs.Keeps.{is_open_superclass, own_class_fits, own_classes_fit, own_count}
+use Rattle.kilim_program.specs.Names.{class_name}
 use Rattle.kilim_link_spec.specs.Faults.{is_fiber, is_open, is_open_class, may_extend}
 use Rattle.kilim_link_spec.specs.Laws.{LinkedInParts, NoneHasAProblem, NoneOfEachKind}
 use Rattle.kilim_link_spec.specs.Linked.{linked_class, program_with}

@@ -1,15 +1,15 @@
 -- The built-in methods where the first class has a number are those where it has number 0, with all class numbers so much higher.
 use Rattle.std.proofs.Common.{◌≡◌, ℕ, ◌+◌, Bool, true, ◌&&◌, ◌==◌, List, [], ◌∷◌, map, slice_get, Option, Some, None, option_map, bytes_eq, refl, sym, ap, ◌∙◌, ⊎_elim, add-zero, eq-eqb, ne_eqb, arith}
 use Rattle.std.proofs.lemmas.Bool.{cases_eq}
-use Rattle.kilim_classes.specs.declared.class.Form.{Form}
-use Rattle.kilim_classes.specs.declared.class.Form.TheVariants.{Plain, Woven}
-use Rattle.kilim_classes.specs.declared.class.Method.{Method}
-use Rattle.kilim_classes.specs.declared.names.ClassId.{ClassId}
-use Rattle.kilim_classes.specs.declared.ty.Base.{Base}
-use Rattle.kilim_classes.specs.declared.ty.Base.TheVariants as base
-use Rattle.kilim_classes.specs.declared.ty.Ty.{Ty}
-use Rattle.kilim_classes.specs.BuiltIn.{built_in_methods_in, class_id}
-use Rattle.kilim_classes.specs.Same.{all_differ, same_base, same_method, same_result, same_type, same_types}
+use Rattle.kilim_program.specs.declared.class.Form.{Form}
+use Rattle.kilim_program.specs.declared.class.Form.TheVariants.{Plain, Woven}
+use Rattle.kilim_program.specs.declared.class.Method.{Method}
+use Rattle.kilim_program.specs.declared.names.ClassId.{ClassId}
+use Rattle.kilim_program.specs.declared.ty.Base.{Base}
+use Rattle.kilim_program.specs.declared.ty.Base.TheVariants as base
+use Rattle.kilim_program.specs.declared.ty.Ty.{Ty}
+use Rattle.kilim_program.specs.BuiltIn.{built_in_methods_in, class_id}
+use Rattle.kilim_program.specs.Same.{all_differ, same_base, same_method, same_result, same_type, same_types}
 use Rattle.kilim_link_laws.proofs.Lists.{origin}
 
 abbrev pub shift_class : ℕ → ClassId → ClassId

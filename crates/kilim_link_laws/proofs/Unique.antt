@@ -6,15 +6,15 @@ use Rattle.std.proofs.lemmas.Option.{same_Some}
 use Rattle.kilim_lemmas.proofs.Lists.{front_none}
 use Rattle.kilim_lemmas.proofs.Truth.{rest_is_false}
 use Rattle.kilim_lemmas.proofs.Texts.{text_is, same_text}
-use Rattle.kilim_classfile.specs.declared.class_file.ClassFile.{ClassFile}
-use Rattle.kilim_classes.specs.declared.class.Class.{Class}
-use Rattle.kilim_classes.specs.declared.class.Field.{Field}
-use Rattle.kilim_classes.specs.declared.class.Form.{Form}
-use Rattle.kilim_classes.specs.declared.class.Form.TheVariants.{Plain, Woven}
-use Rattle.kilim_classes.specs.declared.class.Method.{Method}
-use Rattle.kilim_classes.specs.declared.names.ClassId.{ClassId}
-use Rattle.kilim_classes.specs.BuiltIn.{built_in_classes_in, class_id}
-use Rattle.kilim_classes.specs.Same.{all_differ}
+use Rattle.kilim_class_file.specs.declared.class_file.ClassFile.{ClassFile}
+use Rattle.kilim_program.specs.declared.class.Class.{Class}
+use Rattle.kilim_program.specs.declared.class.Field.{Field}
+use Rattle.kilim_program.specs.declared.class.Form.{Form}
+use Rattle.kilim_program.specs.declared.class.Form.TheVariants.{Plain, Woven}
+use Rattle.kilim_program.specs.declared.class.Method.{Method}
+use Rattle.kilim_program.specs.declared.names.ClassId.{ClassId}
+use Rattle.kilim_program.specs.BuiltIn.{built_in_classes_in, class_id}
+use Rattle.kilim_program.specs.Same.{all_differ}
 use Rattle.kilim_link_spec.specs.Faults.{declared_twice, is_built_in_name}
 use Rattle.kilim_link_spec.specs.Laws.{NoProblem}
 use Rattle.kilim_link_spec.specs.World.{World, built_ins, class_of, is_message_by, number_of, outline_with, own_name, view_of_built_in, view_of_file, world_of}

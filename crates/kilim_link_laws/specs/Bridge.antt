@@ -1,15 +1,15 @@
 -- What the outline of a world says of the program that its files link to.
 use Rattle.std.specs.Prelude.{◌≡◌, List, [], map, Option}
-use Rattle.kilim_classfile.specs.declared.class_file.ClassFile.{ClassFile}
-use Rattle.kilim_classes.specs.declared.class.Class.{Class}
-use Rattle.kilim_classes.specs.declared.class.Form.{Form}
-use Rattle.kilim_classes.specs.declared.names.ClassId.{ClassId}
-use Rattle.kilim_classes.specs.declared.ty.Kind.{Kind}
-use Rattle.kilim_classes.specs.declared.ty.Ty.{Ty}
-use Rattle.kilim_classes.specs.Keeps.{ancestors_of, is_object, superclass_fits}
-use Rattle.kilim_classes.specs.Kinds.{class_kind, kind_of, is_message, is_task_type, is_task_array, field_may_hold}
-use Rattle.kilim_classes.specs.Names.{class_name, line_of, is_task}
-use Rattle.kilim_classes.specs.Program.{Program}
+use Rattle.kilim_class_file.specs.declared.class_file.ClassFile.{ClassFile}
+use Rattle.kilim_program.specs.declared.class.Class.{Class}
+use Rattle.kilim_program.specs.declared.class.Form.{Form}
+use Rattle.kilim_program.specs.declared.names.ClassId.{ClassId}
+use Rattle.kilim_program.specs.declared.ty.Kind.{Kind}
+use Rattle.kilim_program.specs.declared.ty.Ty.{Ty}
+use Rattle.kilim_program.specs.Keeps.{ancestors_of, is_object, superclass_fits}
+use Rattle.kilim_program.specs.Kinds.{class_kind, kind_of, is_message, is_task_type, is_task_array, field_may_hold}
+use Rattle.kilim_program.specs.Names.{class_name, line_of, is_task}
+use Rattle.kilim_program.specs.Program.{Program}
 use Rattle.kilim_link_spec.specs.LinksWell.{LinksWell}
 use Rattle.kilim_link_spec.specs.World.{world_of}
 

@@ -1,11 +1,11 @@
 -- The facts of programs, of files that link well: those of classes and members.
 use Rattle.std.specs.Prelude.{◌≡◌, Bool, true, not, List}
 use Rattle.std.specs.List.{list_all}
-use Rattle.kilim_classfile.specs.declared.class_file.ClassFile.{ClassFile}
-use Rattle.kilim_classes.specs.declared.class.Form.{Form}
-use Rattle.kilim_classes.specs.Keeps.{EndsBuiltIn, fields_fit, members_are_owned, names_differ, none_is_both, none_is_its_ancestor, none_is_left_abstract, none_is_named_as_array, overriding_agrees, own_classes_fit, superclasses_fit}
-use Rattle.kilim_classes.specs.Names.{is_empty}
-use Rattle.kilim_classes.specs.Program.{Program}
+use Rattle.kilim_class_file.specs.declared.class_file.ClassFile.{ClassFile}
+use Rattle.kilim_program.specs.declared.class.Form.{Form}
+use Rattle.kilim_program.specs.Keeps.{EndsBuiltIn, fields_fit, members_are_owned, names_differ, none_is_both, none_is_its_ancestor, none_is_left_abstract, none_is_named_as_array, overriding_agrees, own_classes_fit, superclasses_fit}
+use Rattle.kilim_program.specs.Names.{is_empty}
+use Rattle.kilim_program.specs.Program.{Program}
 use Rattle.kilim_link_spec.specs.LinksWell.{LinksWell}
 
 -- a class's name isn't empty

@@ -2,8 +2,8 @@
 
 ghost use Rattle.kilim_link_laws.specs.code_laws.Facts.{CodeIsWhole, ConstantsFit, FramesAreProper, FramesIncrease, IdsArePlaces, MethodsAreSound, NoFaultLinks, NoTaskArrays, NoneHasHandlers, ReceiversAreCuttable};
 
-use kilim_bytecode::opcodes::{lengths, one_spelling};
-use kilim_bytecode::targets_are_places;
+use kilim_class_code::opcodes::{lengths, one_spelling};
+use kilim_class_code::targets_are_places;
 use kilim_link_spec::{linked_in_parts, none_has_a_problem, none_of_each_kind};
 
 /// A law, and no work: the places of a method's frames increase.

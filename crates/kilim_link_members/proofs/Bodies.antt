@@ -1,16 +1,16 @@
 -- What a method comes to, part by part.
 use Rattle.std.proofs.Common.{◌≡◌, ℕ, List, length, Option, Some, None, Result, refl, sym, ap, subst, ◌∙◌}
 use Rattle.std.specs.Prelude.{IfOk}
-use Rattle.kilim_attributes.specs.declared.attribute.Code.{Code}
-use Rattle.kilim_classfile.specs.declared.class_file.ClassFile.{ClassFile}
-use Rattle.kilim_classfile.specs.declared.class_file.MemberInfo.{MemberInfo}
-use Rattle.kilim_classes.specs.declared.class.Method.{Method}
-use Rattle.kilim_classes.specs.declared.instr.Instr.{Instr}
-use Rattle.kilim_classes.specs.declared.names.ClassId.{ClassId}
-use Rattle.kilim_classes.specs.declared.ty.Ty.{Ty}
-use Rattle.kilim_classes.specs.declared.verified.Frame.{Frame}
-use Rattle.kilim_classes.specs.Names.{◌>>=◌}
-use Rattle.kilim_descriptors.specs.declared.types.MethodText.{MethodText}
+use Rattle.kilim_class_attributes.specs.declared.attribute.Code.{Code}
+use Rattle.kilim_class_file.specs.declared.class_file.ClassFile.{ClassFile}
+use Rattle.kilim_class_file.specs.declared.class_file.MemberInfo.{MemberInfo}
+use Rattle.kilim_program.specs.declared.class.Method.{Method}
+use Rattle.kilim_program.specs.declared.instr.Instr.{Instr}
+use Rattle.kilim_program.specs.declared.names.ClassId.{ClassId}
+use Rattle.kilim_program.specs.declared.ty.Ty.{Ty}
+use Rattle.kilim_program.specs.declared.verified.Frame.{Frame}
+use Rattle.kilim_program.specs.Names.{◌>>=◌}
+use Rattle.kilim_class_descriptors.specs.declared.types.MethodText.{MethodText}
 use Rattle.kilim_link_spec.specs.Code.{code_of, decoded}
 use Rattle.kilim_link_spec.specs.Frames.{frames_in}
 use Rattle.kilim_link_spec.specs.Linked.{body_in, body_with, code_attribute, linked_method, method_with}

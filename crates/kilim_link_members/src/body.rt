@@ -5,15 +5,15 @@ ghost use Rattle.kilim_link_spec.specs.World.{declared_method};
 ghost use Rattle.kilim_link_spec.specs.Code.{decoded, code_of};
 ghost use Rattle.kilim_link_spec.specs.Linked.{no_body, body_in};
 
-use kilim_attributes::Code;
-use kilim_classes::{ClassId, Instr};
-use kilim_classfile::{ClassFile, MemberInfo};
-use kilim_constant_pool::Pool;
+use crate::frames::frames_in;
+use kilim_class_attributes::Code;
+use kilim_class_file::{ClassFile, MemberInfo};
+use kilim_class_pool::Pool;
 use kilim_link_code::code_of;
-use kilim_link_frames::frames_in;
 use kilim_link_mentions::decoded;
 use kilim_link_spec::{Body, DeclaredMethod};
 use kilim_link_world::World;
+use kilim_program::{ClassId, Instr};
 use kilim_units::{NoMemory, Seq};
 use std::alloc::Global;
 

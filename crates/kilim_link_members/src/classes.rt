@@ -2,14 +2,14 @@
 
 ghost use Rattle.std.specs.Prelude.{◌≡◌, ◌+◌, Some, map, IfOk};
 ghost use Rattle.std.specs.List.{range_with_len};
-ghost use Rattle.kilim_classes.specs.BuiltIn.{method_id};
+ghost use Rattle.kilim_program.specs.BuiltIn.{method_id};
 ghost use Rattle.kilim_link_spec.specs.World.{class_of, super_name, field_id};
 ghost use Rattle.kilim_link_spec.specs.Linked.{linked_class};
 
-use kilim_classes::{Class, ClassId, FieldId, MethodId};
-use kilim_classfile::ClassFile;
+use kilim_class_file::ClassFile;
 use kilim_link_views::{has_flag, own_name, super_name};
 use kilim_link_world::World;
+use kilim_program::{Class, ClassId, FieldId, MethodId};
 use kilim_units::{NoMemory, Seq, Units};
 use std::alloc::Global;
 

@@ -2,19 +2,19 @@
 
 ghost use Rattle.std.specs.Prelude.{◌≡◌, Some, None, if◌then◌else◌, IfOk};
 ghost use Rattle.std.specs.List.{filter_map};
-ghost use Rattle.kilim_constant_pool.specs.Entries.{entry_at};
+ghost use Rattle.kilim_class_pool.specs.Entries.{entry_at};
 ghost use Rattle.kilim_link_spec.specs.World.{has_flag, acc_static};
 ghost use Rattle.kilim_link_spec.specs.Code.{constant_ref};
 ghost use Rattle.kilim_link_spec.specs.Linked.{constant_by, first_of, constant_of, field_with, linked_field};
 
-use kilim_attributes::{Attribute, Info};
-use kilim_classes::{ClassId, Field, Ty, Value};
-use kilim_classfile::{ClassFile, MemberInfo};
-use kilim_constant_pool::{Entry, Pool};
+use kilim_class_attributes::{Attribute, Info};
+use kilim_class_file::{ClassFile, MemberInfo};
+use kilim_class_pool::{Entry, Pool};
 use kilim_link_mentions::field_text;
-use kilim_link_types::type_in;
 use kilim_link_views::{has_flag, member_descriptor, member_name, text_of};
 use kilim_link_world::World;
+use kilim_link_world::types::type_in;
+use kilim_program::{ClassId, Field, Ty, Value};
 use kilim_units::{NoMemory, Units};
 use std::alloc::Global;
 

@@ -9,9 +9,9 @@ ghost use Rattle.kilim_link_members.specs.Each.{if_all};
 use crate::classes::{linked_class, next};
 use crate::fields::linked_field;
 use crate::methods::linked_method;
-use kilim_classes::{Class, ClassId, Field, Method};
-use kilim_classfile::ClassFile;
+use kilim_class_file::ClassFile;
 use kilim_link_world::World;
+use kilim_program::{Class, ClassId, Field, Method};
 use kilim_units::{NoMemory, Seq};
 use std::alloc::Global;
 

@@ -5,6 +5,7 @@ mod body;
 mod classes;
 mod fields;
 mod files;
+pub mod frames;
 mod methods;
 mod types;
 

@@ -8,14 +8,14 @@ ghost use Rattle.kilim_link_spec.specs.Linked.{method_with, linked_method};
 
 use crate::body::body_in;
 use crate::types::{result_in, types_in};
-use kilim_classes::{ClassId, Method, Ty};
-use kilim_classfile::{ClassFile, MemberInfo};
-use kilim_descriptors::MethodText;
+use kilim_class_descriptors::MethodText;
+use kilim_class_file::{ClassFile, MemberInfo};
 use kilim_link_mentions::{code_attribute, method_text};
 use kilim_link_spec::{Body, DeclaredMethod, Qualified};
-use kilim_link_types::qualified;
 use kilim_link_views::declared_method;
 use kilim_link_world::World;
+use kilim_link_world::types::qualified;
+use kilim_program::{ClassId, Method, Ty};
 use kilim_units::{NoMemory, Seq, Units};
 use std::alloc::Global;
 

@@ -3,10 +3,10 @@
 ghost use Rattle.std.specs.Prelude.{◌≡◌, IfOk, option_copied};
 ghost use Rattle.kilim_link_spec.specs.Types.{types_in, result_in};
 
-use kilim_classes::Ty;
-use kilim_descriptors::FieldText;
-use kilim_link_types::type_in;
+use kilim_class_descriptors::FieldText;
 use kilim_link_world::World;
+use kilim_link_world::types::type_in;
+use kilim_program::Ty;
 use kilim_units::{NoMemory, Seq};
 use std::alloc::Global;
 

@@ -3,7 +3,7 @@ use Rattle.std.proofs.Common.{◌≡◌, ℕ, ◌+◌, ◌<◌, List, [], ◌∷
 use Rattle.std.specs.List.{flat_map}
 use Rattle.std.proofs.lemmas.List.{take_more, map_more, map_push, flat_map_more, take_all}
 use Rattle.std.proofs.lemmas.Grind.{flat_map-append}
-use Rattle.kilim_descriptors.specs.declared.types.FieldText.{FieldText}
+use Rattle.kilim_class_descriptors.specs.declared.types.FieldText.{FieldText}
 use Rattle.kilim_link_spec.specs.Types.{type_names}
 
 pub three : {A : Type 0} (before : List A) (x : A) (xs ys : List A) → before ++ x ∷ [] ++ xs ++ ys ≡ before ++ (x ∷ (xs ++ ys))

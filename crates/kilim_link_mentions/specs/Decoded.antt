@@ -1,8 +1,8 @@
 -- What decoded code is answered as.
 use Rattle.std.specs.Prelude.{List, Result, Ok, Err}
-use Rattle.kilim_bytecode.specs.declared.body.Body.{Body}
-use Rattle.kilim_bytecode.specs.declared.fault.CodeFault.{CodeFault}
-use Rattle.kilim_bytecode.specs.Code.{Placed}
+use Rattle.kilim_class_code.specs.declared.body.Body.{Body}
+use Rattle.kilim_class_code.specs.declared.fault.CodeFault.{CodeFault}
+use Rattle.kilim_class_code.specs.Code.{Placed}
 
 -- the instructions of a code array, or its fault
 abbrev pub code_found : Result Body CodeFault → Result (List Placed) CodeFault

@@ -8,10 +8,10 @@ ghost use Rattle.kilim_link_spec.specs.Linked.{code_attribute, code_in, first_of
 ghost use Rattle.kilim_link_spec.specs.Mentions.{instrs_in, instrs_of};
 ghost use Rattle.kilim_link_mentions.specs.Decoded.{code_found};
 
-use kilim_attributes::{Attribute, Code, Info};
-use kilim_bytecode::opcodes::RawInstr;
-use kilim_bytecode::{Body, CodeFault, decode};
-use kilim_classfile::MemberInfo;
+use kilim_class_attributes::{Attribute, Code, Info};
+use kilim_class_code::opcodes::RawInstr;
+use kilim_class_code::{Body, CodeFault, decode};
+use kilim_class_file::MemberInfo;
 use kilim_link_spec::decoded_is_decode;
 use kilim_units::{NoMemory, Seq};
 use std::alloc::Global;

@@ -4,9 +4,9 @@ ghost use Rattle.std.specs.Prelude.{◌≡◌, IfOk};
 ghost use Rattle.std.specs.Option.{option_copied};
 ghost use Rattle.kilim_link_spec.specs.Code.{constant_ref};
 
-use kilim_classes::Value;
-use kilim_constant_pool::{Entry, Pool};
+use kilim_class_pool::{Entry, Pool};
 use kilim_link_views::text_of;
+use kilim_program::Value;
 use kilim_units::{NoMemory, Units};
 use std::alloc::Global;
 

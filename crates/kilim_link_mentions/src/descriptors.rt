@@ -3,7 +3,7 @@
 ghost use Rattle.std.specs.Prelude.{◌≡◌, IfOk};
 ghost use Rattle.kilim_link_spec.specs.Types.{field_text, method_text, named_by};
 
-use kilim_descriptors::{FieldText, MethodText, any_field, any_method};
+use kilim_class_descriptors::{FieldText, MethodText, any_field, any_method};
 use kilim_link_spec::Named;
 use kilim_units::{NoMemory, Units};
 use std::alloc::Global;

@@ -7,8 +7,8 @@ ghost use Rattle.kilim_link_spec.specs.Frames.{table_in};
 ghost use Rattle.kilim_link_spec.specs.Mentions.{frames_if, mentions_of_slot, slots_of_frame};
 
 use crate::descriptors::named_by;
-use kilim_attributes::{Code, CodeAttribute, CodeInfo, Frame, VerificationType};
-use kilim_constant_pool::Pool;
+use kilim_class_attributes::{Code, CodeAttribute, CodeInfo, Frame, VerificationType};
+use kilim_class_pool::Pool;
 use kilim_link_spec::Mention;
 use kilim_link_views::class_text;
 use kilim_units::{NoMemory, Seq};

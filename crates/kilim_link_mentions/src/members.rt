@@ -6,9 +6,9 @@ ghost use Rattle.kilim_link_spec.specs.Mentions.{instrs_of, members_named, membe
 
 use crate::code::instrs_of;
 use crate::operands::operand_of;
-use kilim_bytecode::opcodes::RawInstr;
-use kilim_classfile::{ClassFile, MemberInfo};
-use kilim_constant_pool::Pool;
+use kilim_class_code::opcodes::RawInstr;
+use kilim_class_file::{ClassFile, MemberInfo};
+use kilim_class_pool::Pool;
 use kilim_link_spec::{Member, Operand};
 use kilim_units::{NoMemory, Seq};
 use std::alloc::Global;

@@ -7,7 +7,7 @@ ghost use Rattle.kilim_link_spec.specs.Types.{base_names, field_text, method_tex
 ghost use Rattle.kilim_link_spec.specs.Mentions.{element_types, named_types, names_mentioned, plain_names, types_mentioned};
 
 use crate::descriptors::{field_text, method_text};
-use kilim_descriptors::{BaseText, FieldText, MethodText};
+use kilim_class_descriptors::{BaseText, FieldText, MethodText};
 use kilim_link_spec::{Mention, Named};
 use kilim_units::{NoMemory, Seq, Units};
 use std::alloc::Global;

@@ -2,7 +2,7 @@
 
 ghost use Rattle.std.specs.Prelude.{◌≡◌, Some, IfOk, option_map};
 ghost use Rattle.std.specs.Option.{option_copied};
-ghost use Rattle.kilim_classfile.specs.Parts.{text_of};
+ghost use Rattle.kilim_class_file.specs.Parts.{text_of};
 ghost use Rattle.kilim_link_spec.specs.World.{class_text};
 ghost use Rattle.kilim_link_spec.specs.declared.named.Operand.TheVariants.{AConstant, AField, AMethod, AType};
 ghost use Rattle.kilim_link_spec.specs.Code.{operand_at, index_operand, constant_ref, ref_with, field_ref, method_ref, any_method_ref, class_ref, unless_array};
@@ -11,8 +11,8 @@ ghost use Rattle.kilim_link_spec.specs.Mentions.{operand_of};
 use crate::code::index_in;
 use crate::constants::constant_ref;
 use crate::descriptors::named_by;
-use kilim_bytecode::opcodes::RawInstr;
-use kilim_constant_pool::{Entry, Pool};
+use kilim_class_code::opcodes::RawInstr;
+use kilim_class_pool::{Entry, Pool};
 use kilim_link_spec::{MemberOf, Named, Operand};
 use kilim_link_views::{class_text, text_of};
 use kilim_units::{NoMemory, Units};

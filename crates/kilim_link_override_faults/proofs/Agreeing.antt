@@ -1,8 +1,8 @@
 -- Tests of several parts.
 use Rattle.std.proofs.Common.{◌≡◌, Bool, true, false, refl, List, ◌≢◌, suc, length, [], ◌∷◌, ap}
 use Rattle.std.specs.Prelude.{◌&&◌}
-use Rattle.kilim_classes.specs.declared.ty.Qualifier.{Qualifier}
-use Rattle.kilim_classes.specs.Same.{same_qualifier, same_qualifiers}
+use Rattle.kilim_program.specs.declared.ty.Qualifier.{Qualifier}
+use Rattle.kilim_program.specs.Same.{same_qualifier, same_qualifiers}
 
 pub both_of : (a b c d e : Bool) → (a && (b && c)) ≡ true → e ≡ d → e ≡ (a && (b && (c && d)))
 both_of true true true d e t is = is

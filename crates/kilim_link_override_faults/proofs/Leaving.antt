@@ -8,13 +8,13 @@ use Rattle.std.proofs.lemmas.List.{take-append-drop}
 use Rattle.std.proofs.lemmas.List.Folds.{list_any-append}
 use Rattle.std.proofs.lemmas.Slice.Eq.{bytes_eq-Decides}
 use Rattle.kilim_lemmas.proofs.Lists.{drop_at}
-use Rattle.kilim_classes.specs.declared.names.ClassId.{ClassId}
-use Rattle.kilim_classes.specs.Keeps.{ancestors_of}
+use Rattle.kilim_program.specs.declared.names.ClassId.{ClassId}
+use Rattle.kilim_program.specs.Keeps.{ancestors_of}
 use Rattle.kilim_link_spec.specs.declared.view.DeclaredMethod.{DeclaredMethod}
 use Rattle.kilim_link_spec.specs.Faults.{is_left_above, left_above}
 use Rattle.kilim_link_spec.specs.World.{World, declared_methods, is_method}
-use Rattle.kilim_inherited.specs.Inherited.{said_or}
-use Rattle.kilim_inherited.specs.Known.{known, KeysNamed, KnowsNone, KnowsSome}
+use Rattle.kilim_link_inherited.specs.Inherited.{said_or}
+use Rattle.kilim_link_inherited.specs.Known.{known, KeysNamed, KnowsNone, KnowsSome}
 use Rattle.kilim_link_override_faults.specs.declared.heritage.Heritage.{Heritage}
 use Rattle.kilim_link_override_faults.specs.Parts.{shared_as, stands_in, is_nearer, is_left_over, is_class, StandsBehind}
 use Rattle.kilim_link_override_faults.specs.Heritage.{Inherits, LeavesNone, LeavesSome, is_shared_abstract, asks_for, left_in, first_shared}

@@ -1,10 +1,10 @@
 -- Lines of classes that are cut.
 use Rattle.std.proofs.Common.{◌≡◌, ℕ, zero, suc, ◌≤◌, Bool, List, [], ◌∷◌, Option, Some, None, refl, sym, ap, ◌∙◌, length, filter, arith}
-use Rattle.kilim_classes.specs.declared.class.Class.{Class}
-use Rattle.kilim_classes.specs.declared.names.ClassId.{ClassId}
-use Rattle.kilim_classes.specs.Keeps.{superclass_of, line_above, ancestors_of}
-use Rattle.kilim_classes.specs.Names.{◌>>=◌, class_at, line_up_to}
-use Rattle.kilim_classes.specs.Program.{Program}
+use Rattle.kilim_program.specs.declared.class.Class.{Class}
+use Rattle.kilim_program.specs.declared.names.ClassId.{ClassId}
+use Rattle.kilim_program.specs.Keeps.{superclass_of, line_above, ancestors_of}
+use Rattle.kilim_program.specs.Names.{◌>>=◌, class_at, line_up_to}
+use Rattle.kilim_program.specs.Program.{Program}
 use Rattle.kilim_link_spec.specs.Linked.{first_of}
 use Rattle.kilim_link_override_faults.proofs.Firsts.{first_is, first_isnt}
 use Rattle.kilim_link_override_faults.proofs.Truth.{cases}

@@ -5,10 +5,10 @@ use Rattle.std.specs.List.{list_any}
 use Rattle.std.specs.Str.{bytes_eq}
 use Rattle.std.proofs.lemmas.Bool.{and_from}
 use Rattle.kilim_lemmas.proofs.Texts.{text_is}
-use Rattle.kilim_classes.specs.declared.names.ClassId.{ClassId}
-use Rattle.kilim_classes.specs.declared.ty.Qualifier.{Qualifier}
-use Rattle.kilim_classes.specs.declared.ty.Qualifier.TheVariants.{Free, Cuttable, Safe}
-use Rattle.kilim_classes.specs.Same.{same_flag, same_qualifier, same_qualifiers}
+use Rattle.kilim_program.specs.declared.names.ClassId.{ClassId}
+use Rattle.kilim_program.specs.declared.ty.Qualifier.{Qualifier}
+use Rattle.kilim_program.specs.declared.ty.Qualifier.TheVariants.{Free, Cuttable, Safe}
+use Rattle.kilim_program.specs.Same.{same_flag, same_qualifier, same_qualifiers}
 use Rattle.kilim_link_spec.specs.Faults.{agrees, differs_from, same_qualified}
 use Rattle.kilim_link_spec.specs.Qualified.{qualified}
 use Rattle.kilim_link_spec.specs.declared.named.Qualified.{Qualified}

@@ -6,13 +6,13 @@ use Rattle.std.proofs.lemmas.List.{length-append}
 use Rattle.std.proofs.lemmas.List.Folds.{list_any-append}
 use Rattle.kilim_lemmas.proofs.Lists.{drop_at}
 use Rattle.kilim_units.specs.declared.memory.NoMemory.{NoMemory}
-use Rattle.kilim_classes.specs.declared.names.ClassId.{ClassId}
-use Rattle.kilim_classes.specs.Keeps.{ancestors_of}
+use Rattle.kilim_program.specs.declared.names.ClassId.{ClassId}
+use Rattle.kilim_program.specs.Keeps.{ancestors_of}
 use Rattle.kilim_link_spec.specs.declared.view.DeclaredMethod.{DeclaredMethod}
 use Rattle.kilim_link_spec.specs.World.{World, declared_methods, is_method}
 use Rattle.kilim_link_spec.specs.Faults.{agrees, differs_from, inherited, left_above}
 use Rattle.kilim_link_spec.specs.Linked.{first_of}
-use Rattle.kilim_inherited.specs.Index.{places_from}
+use Rattle.kilim_link_inherited.specs.Index.{places_from}
 use Rattle.kilim_link_override_faults.specs.Parts.{is_so, passes_at, other_differs, differs_in, is_shared, stands_in, nearer_than, is_nearer, is_left_over}
 use Rattle.kilim_link_override_faults.proofs.Agreeing.{swapped, turned}
 use Rattle.kilim_link_override_faults.proofs.Firsts.{flat_map_at, here, later}

@@ -6,18 +6,18 @@ use Rattle.std.specs.Option.{option_and_then, option_or}
 use Rattle.std.proofs.lemmas.Bool.{eq-eqb, eqb-true}
 use Rattle.std.proofs.lemmas.List.{length-append}
 use Rattle.kilim_lemmas.proofs.Lists.{drop_at}
-use Rattle.kilim_classes.specs.declared.names.ClassId.{ClassId}
-use Rattle.kilim_classes.specs.BuiltIn.{class_id}
-use Rattle.kilim_classes.specs.Keeps.{ancestors_of}
-use Rattle.kilim_classes.specs.Names.{line_of}
+use Rattle.kilim_program.specs.declared.names.ClassId.{ClassId}
+use Rattle.kilim_program.specs.BuiltIn.{class_id}
+use Rattle.kilim_program.specs.Keeps.{ancestors_of}
+use Rattle.kilim_program.specs.Names.{line_of}
 use Rattle.kilim_link_spec.specs.declared.view.ClassView.{ClassView}
 use Rattle.kilim_link_spec.specs.declared.view.DeclaredMethod.{DeclaredMethod}
 use Rattle.kilim_link_spec.specs.Linked.{first_of}
 use Rattle.kilim_link_spec.specs.World.{World, declared_methods, methods_at, is_method}
-use Rattle.kilim_inherited.specs.Inherited.{said_or}
-use Rattle.kilim_inherited.specs.declared.nearest.Nearest.{Nearest}
-use Rattle.kilim_inherited.specs.declared.said.Said.{Said}
-use Rattle.kilim_inherited.specs.Nearest.{said_by, said_of, says}
+use Rattle.kilim_link_inherited.specs.Inherited.{said_or}
+use Rattle.kilim_link_inherited.specs.declared.nearest.Nearest.{Nearest}
+use Rattle.kilim_link_inherited.specs.declared.said.Said.{Said}
+use Rattle.kilim_link_inherited.specs.Nearest.{said_by, said_of, says}
 use Rattle.kilim_link_override_faults.specs.declared.heritage.Heritage.{Heritage}
 use Rattle.kilim_link_override_faults.specs.declared.heritage.Place.{Place}
 use Rattle.kilim_link_override_faults.specs.Parts.{is_shared, shared_as, stands_in}

@@ -5,9 +5,9 @@ use Rattle.std.specs.List.{list_any}
 use Rattle.std.specs.Str.{bytes_eq}
 use Rattle.kilim_lemmas.proofs.Truth.{rest_is_false}
 use Rattle.kilim_lemmas.proofs.Texts.{text_is}
-use Rattle.kilim_classes.specs.declared.names.ClassId.{ClassId}
-use Rattle.kilim_classes.specs.Keeps.{superclass_of, ancestors_of}
-use Rattle.kilim_classes.specs.Names.{class_at}
+use Rattle.kilim_program.specs.declared.names.ClassId.{ClassId}
+use Rattle.kilim_program.specs.Keeps.{superclass_of, ancestors_of}
+use Rattle.kilim_program.specs.Names.{class_at}
 use Rattle.kilim_link_spec.specs.Faults.{agrees, differs_from, inherited}
 use Rattle.kilim_link_spec.specs.Linked.{first_of}
 use Rattle.kilim_link_spec.specs.Qualified.{is_constructor_name}

@@ -4,18 +4,18 @@ use Rattle.std.specs.Prelude.{◌&&◌, ◌||◌, if◌then◌else◌, IfOk, is_
 use Rattle.std.specs.List.{list_any}
 use Rattle.std.proofs.lemmas.List.{append-nil}
 use Rattle.kilim_units.specs.declared.memory.NoMemory.{NoMemory}
-use Rattle.kilim_classes.specs.declared.names.ClassId.{ClassId}
-use Rattle.kilim_classes.specs.BuiltIn.{class_id}
-use Rattle.kilim_classes.specs.Keeps.{superclass_of, line_above, ancestors_of}
-use Rattle.kilim_classes.specs.Names.{class_at, line_of}
+use Rattle.kilim_program.specs.declared.names.ClassId.{ClassId}
+use Rattle.kilim_program.specs.BuiltIn.{class_id}
+use Rattle.kilim_program.specs.Keeps.{superclass_of, line_above, ancestors_of}
+use Rattle.kilim_program.specs.Names.{class_at, line_of}
 use Rattle.kilim_link_spec.specs.declared.view.ClassView.{ClassView}
 use Rattle.kilim_link_spec.specs.declared.view.DeclaredMethod.{DeclaredMethod}
 use Rattle.kilim_link_spec.specs.World.{World, declared_methods, methods_at, is_method}
-use Rattle.kilim_inherited.specs.Inherited.{said_or, line_in, up_in, from_above}
-use Rattle.kilim_inherited.specs.declared.nearest.Nearest.{Nearest}
-use Rattle.kilim_inherited.specs.declared.said.Said.{Said}
-use Rattle.kilim_inherited.specs.Nearest.{said_by, said_of, says, nearest}
-use Rattle.kilim_inherited.specs.Known.{known, Tells}
+use Rattle.kilim_link_inherited.specs.Inherited.{said_or, line_in, up_in, from_above}
+use Rattle.kilim_link_inherited.specs.declared.nearest.Nearest.{Nearest}
+use Rattle.kilim_link_inherited.specs.declared.said.Said.{Said}
+use Rattle.kilim_link_inherited.specs.Nearest.{said_by, said_of, says, nearest}
+use Rattle.kilim_link_inherited.specs.Known.{known, Tells}
 use Rattle.kilim_link_override_faults.specs.declared.heritage.Place.{Place}
 use Rattle.kilim_link_override_faults.specs.Apart.{is_apart, has_apart, says_apart, apart_from}
 use Rattle.kilim_link_override_faults.specs.Parts.{is_shared}

@@ -5,12 +5,12 @@ use Rattle.std.specs.Str.{bytes_eq}
 use Rattle.std.proofs.lemmas.Slice.Eq.{bytes_eq-Decides}
 use Rattle.std.proofs.lemmas.Bool.{and_from}
 use Rattle.kilim_lemmas.proofs.Texts.{text_is}
-use Rattle.kilim_classes.specs.declared.names.ClassId.{ClassId}
-use Rattle.kilim_classes.specs.declared.ty.Qualifier.{Qualifier}
-use Rattle.kilim_classes.specs.declared.ty.Qualifier.TheVariants.{Free, Cuttable, Safe}
-use Rattle.kilim_classes.specs.Kinds.{class_kind, is_tree_kind}
-use Rattle.kilim_classes.specs.Names.{is_task}
-use Rattle.kilim_classes.specs.Same.{same_qualifier, same_qualifiers}
+use Rattle.kilim_program.specs.declared.names.ClassId.{ClassId}
+use Rattle.kilim_program.specs.declared.ty.Qualifier.{Qualifier}
+use Rattle.kilim_program.specs.declared.ty.Qualifier.TheVariants.{Free, Cuttable, Safe}
+use Rattle.kilim_program.specs.Kinds.{class_kind, is_tree_kind}
+use Rattle.kilim_program.specs.Names.{is_task}
+use Rattle.kilim_program.specs.Same.{same_qualifier, same_qualifiers}
 use Rattle.kilim_link_spec.specs.Faults.{same_qualified}
 use Rattle.kilim_link_spec.specs.Qualified.{qualified, qualified_by, receiver_by, params_by, params_of, is_constructor_name, has_fiber}
 use Rattle.kilim_link_spec.specs.Types.{method_text}

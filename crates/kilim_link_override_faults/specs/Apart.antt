@@ -1,15 +1,15 @@
 -- Methods that differ from the nearest one that they override, or from one beside them.
 use Rattle.std.specs.Prelude.{ℕ, ◌+◌, Bool, false, ◌&&◌, ◌||◌, not, if◌then◌else◌, List, [], ◌∷◌, Option, Some, None}
 use Rattle.std.specs.List.{list_any}
-use Rattle.kilim_classes.specs.declared.names.ClassId.{ClassId}
-use Rattle.kilim_classes.specs.BuiltIn.{class_id}
-use Rattle.kilim_classes.specs.Keeps.{ancestors_of}
+use Rattle.kilim_program.specs.declared.names.ClassId.{ClassId}
+use Rattle.kilim_program.specs.BuiltIn.{class_id}
+use Rattle.kilim_program.specs.Keeps.{ancestors_of}
 use Rattle.kilim_link_spec.specs.Faults.{agrees}
 use Rattle.kilim_link_spec.specs.Qualified.{is_constructor_name}
 use Rattle.kilim_link_spec.specs.declared.view.ClassView.{ClassView}
 use Rattle.kilim_link_spec.specs.declared.view.DeclaredMethod.{DeclaredMethod}
 use Rattle.kilim_link_spec.specs.World.{World, declared_methods, is_method}
-use Rattle.kilim_inherited.specs.declared.said.Said.{Said}
+use Rattle.kilim_link_inherited.specs.declared.said.Said.{Said}
 use Rattle.kilim_link_override_faults.specs.Parts.{alike}
 use Rattle.kilim_link_override_faults.specs.Heritage.{first_declared, first_shared, sayings}
 

@@ -2,18 +2,18 @@
 use Rattle.std.specs.Prelude.{◌≡◌, ℕ, ◌+◌, ◌==◌, Bool, true, ◌&&◌, not, is_some, if◌then◌else◌, List, [], ◌∷◌, ◌++◌, map, filter, length, slice_get, Option, Some, None, option_map}
 use Rattle.std.specs.List.{list_any, position_from}
 use Rattle.std.specs.Option.{option_and_then, option_or}
-use Rattle.kilim_classes.specs.declared.names.ClassId.{ClassId}
-use Rattle.kilim_classes.specs.BuiltIn.{class_id}
-use Rattle.kilim_classes.specs.Keeps.{ancestors_of}
-use Rattle.kilim_classes.specs.Names.{line_of}
+use Rattle.kilim_program.specs.declared.names.ClassId.{ClassId}
+use Rattle.kilim_program.specs.BuiltIn.{class_id}
+use Rattle.kilim_program.specs.Keeps.{ancestors_of}
+use Rattle.kilim_program.specs.Names.{line_of}
 use Rattle.kilim_link_spec.specs.declared.view.ClassView.{ClassView}
 use Rattle.kilim_link_spec.specs.declared.view.DeclaredMethod.{DeclaredMethod}
 use Rattle.kilim_link_spec.specs.Linked.{first_of}
 use Rattle.kilim_link_spec.specs.World.{World, declared_methods, is_method}
-use Rattle.kilim_inherited.specs.Inherited.{said_or}
-use Rattle.kilim_inherited.specs.declared.nearest.Nearest.{Nearest}
-use Rattle.kilim_inherited.specs.declared.said.Said.{Said}
-use Rattle.kilim_inherited.specs.Known.{known, AllNamed}
+use Rattle.kilim_link_inherited.specs.Inherited.{said_or}
+use Rattle.kilim_link_inherited.specs.declared.nearest.Nearest.{Nearest}
+use Rattle.kilim_link_inherited.specs.declared.said.Said.{Said}
+use Rattle.kilim_link_inherited.specs.Known.{known, AllNamed}
 use Rattle.kilim_link_override_faults.specs.declared.heritage.Heritage.{Heritage}
 use Rattle.kilim_link_override_faults.specs.declared.heritage.Place.{Place}
 use Rattle.kilim_link_override_faults.specs.Parts.{is_shared, shared_as, stands_in}

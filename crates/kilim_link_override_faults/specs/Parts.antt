@@ -2,8 +2,8 @@
 use Rattle.std.specs.Prelude.{◌≡◌, ℕ, Bool, true, false, not, ◌&&◌, ◌==◌, List, [], ◌∷◌, ◌++◌, map, Option, Some, None, slice_get, codes}
 use Rattle.std.specs.List.{list_any, flat_map}
 use Rattle.std.specs.Str.{bytes_eq}
-use Rattle.kilim_classes.specs.declared.names.ClassId.{ClassId}
-use Rattle.kilim_classes.specs.Same.{same_flag}
+use Rattle.kilim_program.specs.declared.names.ClassId.{ClassId}
+use Rattle.kilim_program.specs.Same.{same_flag}
 use Rattle.kilim_link_spec.specs.Faults.{is_left_above, agrees, differs_from, same_qualified}
 use Rattle.kilim_link_spec.specs.Qualified.{is_constructor_name, qualified}
 use Rattle.kilim_link_spec.specs.World.{World, declared_methods, is_method}

@@ -6,7 +6,7 @@ ghost use Rattle.kilim_link_spec.specs.World.{declared_methods};
 ghost use Rattle.kilim_link_spec.specs.Faults.{abstract_left, is_left_here, left_above, left_inherited};
 ghost use Rattle.kilim_link_spec.specs.Linked.{first_of};
 ghost use Rattle.kilim_link_override_faults.specs.Parts.{is_shared, stands_in, is_nearer, is_left_over, passes_at, is_class, StandsBehind};
-ghost use Rattle.kilim_classes.specs.Keeps.{ancestors_of};
+ghost use Rattle.kilim_program.specs.Keeps.{ancestors_of};
 ghost use Rattle.kilim_link_override_faults.specs.Ancestry.{Knows};
 ghost use Rattle.kilim_link_override_faults.specs.Heritage.{Inherits, first_shared};
 
@@ -14,11 +14,11 @@ use crate::ancestry::Ancestry;
 use crate::heritage::Heritage;
 use crate::overrides::{declared_of, methods_of};
 use crate::signature::signature_of;
-use kilim_classes::ClassId;
-use kilim_classfile::ClassFile;
+use kilim_class_file::ClassFile;
 use kilim_link_spec::{DeclaredMethod, Problem};
 use kilim_link_views::has_flag;
 use kilim_link_world::{Signature, World};
+use kilim_program::ClassId;
 use kilim_units::NoMemory;
 use std::alloc::Global;
 

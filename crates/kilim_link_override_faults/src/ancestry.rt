@@ -2,15 +2,15 @@
 
 ghost use Rattle.std.specs.Prelude.{◌≡◌, ◌∷◌, ◌<◌, ◌^◌, IfOk, length};
 ghost use Rattle.std.specs.List.{list_any};
-ghost use Rattle.kilim_classes.specs.Keeps.{ancestors_of};
+ghost use Rattle.kilim_program.specs.Keeps.{ancestors_of};
 ghost use Rattle.kilim_link_override_faults.specs.Ancestry.{Knows};
 ghost use Rattle.kilim_link_override_faults.specs.Apart.{has_apart};
 
 use crate::apart::apart_of;
 use crate::heritage::Heritage;
-use kilim_classes::ClassId;
-use kilim_inherited::Nearest;
+use kilim_link_inherited::Nearest;
 use kilim_link_world::{Signature, World};
+use kilim_program::ClassId;
 use kilim_units::NoMemory;
 use std::alloc::Global;
 

@@ -9,10 +9,10 @@ ghost use Rattle.kilim_link_override_faults.specs.Heritage.{Finds, Inherits, say
 use crate::heritage::{Heritage, say};
 use crate::overrides::{agrees, alike};
 use crate::signature::signature_of;
-use kilim_classes::ClassId;
-use kilim_inherited::{Nearest, Said};
+use kilim_link_inherited::{Nearest, Said};
 use kilim_link_spec::{ClassView, DeclaredMethod};
 use kilim_link_world::{Signature, World};
+use kilim_program::ClassId;
 use kilim_units::{NoMemory, Seq};
 use std::alloc::Global;
 

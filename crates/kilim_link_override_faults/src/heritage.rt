@@ -1,7 +1,7 @@
 //! What classes inherit: the nearest one that declares a method, and whether an abstract one is left.
 
 ghost use Rattle.std.specs.Prelude.{◌≡◌, ◌<◌, ◌^◌, ◌++◌, ◌∷◌, [], Some, None, true, false, IfOk, OnOk, length, option_copied, option_map};
-ghost use Rattle.kilim_classes.specs.Keeps.{ancestors_of};
+ghost use Rattle.kilim_program.specs.Keeps.{ancestors_of};
 ghost use Rattle.kilim_link_spec.specs.Faults.{left_above};
 ghost use Rattle.kilim_link_spec.specs.World.{declared_methods};
 ghost use Rattle.kilim_link_override_faults.specs.Parts.{is_shared};
@@ -9,10 +9,10 @@ ghost use Rattle.kilim_link_override_faults.specs.Heritage.{Finds, Inherits, say
 
 use crate::overrides::methods_of;
 use crate::signature::signature_of;
-use kilim_classes::ClassId;
-use kilim_inherited::{Nearest, Said};
+use kilim_link_inherited::{Nearest, Said};
 use kilim_link_spec::{ClassView, DeclaredMethod};
 use kilim_link_world::{Signature, World};
+use kilim_program::ClassId;
 use kilim_units::{NoMemory, Seq};
 use std::alloc::Global;
 

@@ -2,7 +2,7 @@
 
 ghost use Rattle.std.specs.Prelude.{◌≡◌, ◌&&◌, not, false, Contains, IfOk, filter, option_copied};
 ghost use Rattle.std.specs.List.{list_any};
-ghost use Rattle.kilim_classes.specs.Same.{same_flag, same_qualifier, same_qualifiers};
+ghost use Rattle.kilim_program.specs.Same.{same_flag, same_qualifier, same_qualifiers};
 ghost use Rattle.kilim_link_spec.specs.World.{declared_methods};
 ghost use Rattle.kilim_link_spec.specs.Qualified.{qualified, is_constructor_name};
 ghost use Rattle.kilim_link_spec.specs.Faults.{override_differs, overrides_badly, agrees, same_qualified, declared_of, differs_from, inherited};
@@ -12,12 +12,12 @@ ghost use Rattle.kilim_link_override_faults.specs.Parts.{has_no_marks, is_unmark
 
 use crate::ancestry::Ancestry;
 use crate::signature::signature_of;
-use kilim_classes::{ClassId, Qualifier};
-use kilim_classfile::{ClassFile, MemberName};
+use kilim_class_file::{ClassFile, MemberName};
 use kilim_link_mentions::method_text;
 use kilim_link_spec::{DeclaredMethod, Marks, Problem, Qualified};
-use kilim_link_types::qualified;
+use kilim_link_world::types::qualified;
 use kilim_link_world::{Signature, World};
+use kilim_program::{ClassId, Qualifier};
 use kilim_units::NoMemory;
 use std::alloc::Global;
 

@@ -2,18 +2,18 @@
 use Rattle.std.proofs.Common.{◌≡◌, ℕ, zero, suc, ◌+◌, ◌-◌, ◌<◌, ◌≤◌, ℤ, List, [], ◌∷◌, ◌++◌, length, Option, Some, None, Result, Ok, Err, refl, sym, ap, subst, ◌∙◌, append_assoc, arith}
 use Rattle.std.specs.Prelude.{◌≢◌}
 use Rattle.std.proofs.lemmas.List.{append-nil, length-append}
-use Rattle.kilim_grammar.specs.Reader.{◌>>=◌, with_fault}
-use Rattle.kilim_bytecode.specs.declared.opcodes.fault.OpFault.{OpFault}
-use Rattle.kilim_bytecode.specs.declared.opcodes.fault.OpFault.TheVariants as op
-use Rattle.kilim_bytecode.specs.declared.opcodes.instr.RawInstr.{RawInstr}
-use Rattle.kilim_bytecode.specs.declared.opcodes.instr.RawInstr.TheVariants.{Plain}
-use Rattle.kilim_bytecode.specs.opcodes.Instr.{instr_text, instr_len}
-use Rattle.kilim_bytecode.specs.opcodes.Reading.{instr_at}
-use Rattle.kilim_bytecode.specs.opcodes.Exact.{OneSpelling, Lengths}
-use Rattle.kilim_bytecode.specs.declared.fault.CodeFault.{CodeFault}
-use Rattle.kilim_bytecode.specs.declared.fault.CodeFault.TheVariants.{Op, MidTarget, FallsOff, Memory}
-use Rattle.kilim_bytecode.specs.Code.{Placed, placed_text, code_text, StandsFrom, falls_off}
-use Rattle.kilim_bytecode.specs.Exact.{IsCode, OpFails, TargetFails, EndFails, HasFault, target_or_end, body_fault, op_fault}
+use Rattle.kilim_class_grammar.specs.Reader.{◌>>=◌, with_fault}
+use Rattle.kilim_class_code.specs.declared.opcodes.fault.OpFault.{OpFault}
+use Rattle.kilim_class_code.specs.declared.opcodes.fault.OpFault.TheVariants as op
+use Rattle.kilim_class_code.specs.declared.opcodes.instr.RawInstr.{RawInstr}
+use Rattle.kilim_class_code.specs.declared.opcodes.instr.RawInstr.TheVariants.{Plain}
+use Rattle.kilim_class_code.specs.opcodes.Instr.{instr_text, instr_len}
+use Rattle.kilim_class_code.specs.opcodes.Reading.{instr_at}
+use Rattle.kilim_class_code.specs.opcodes.Exact.{OneSpelling, Lengths}
+use Rattle.kilim_class_code.specs.declared.fault.CodeFault.{CodeFault}
+use Rattle.kilim_class_code.specs.declared.fault.CodeFault.TheVariants.{Op, MidTarget, FallsOff, Memory}
+use Rattle.kilim_class_code.specs.Code.{Placed, placed_text, code_text, StandsFrom, falls_off}
+use Rattle.kilim_class_code.specs.Exact.{IsCode, OpFails, TargetFails, EndFails, HasFault, target_or_end, body_fault, op_fault}
 use Rattle.kilim_link_spec.specs.Code.{instrs_from, unless_fault, checked_body, decoded}
 use Rattle.kilim_link_spec.specs.Laws.{DecodedIsDecode}
 

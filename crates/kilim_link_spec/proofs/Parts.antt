@@ -1,14 +1,14 @@
 -- The parts of a linked program, and the kinds of problems, taken apart.
 use Rattle.std.proofs.Common.{◌≡◌, List, [], ◌∷◌, ◌++◌, Option, Some, None, map, ℕ, suc, refl}
-use Rattle.kilim_classes.specs.declared.class.Class.{Class}
-use Rattle.kilim_classes.specs.declared.class.Field.{Field}
-use Rattle.kilim_classes.specs.declared.class.Form.{Form}
-use Rattle.kilim_classes.specs.declared.class.Method.{Method}
-use Rattle.kilim_classes.specs.Names.{◌>>=◌}
-use Rattle.kilim_classes.specs.Program.{Program}
-use Rattle.kilim_classfile.specs.declared.class_file.ClassFile.{ClassFile}
+use Rattle.kilim_program.specs.declared.class.Class.{Class}
+use Rattle.kilim_program.specs.declared.class.Field.{Field}
+use Rattle.kilim_program.specs.declared.class.Form.{Form}
+use Rattle.kilim_program.specs.declared.class.Method.{Method}
+use Rattle.kilim_program.specs.Names.{◌>>=◌}
+use Rattle.kilim_program.specs.Program.{Program}
+use Rattle.kilim_class_file.specs.declared.class_file.ClassFile.{ClassFile}
 use Rattle.std.specs.List.{flat_map}
-use Rattle.kilim_classes.specs.BuiltIn.{class_id}
+use Rattle.kilim_program.specs.BuiltIn.{class_id}
 use Rattle.kilim_link_spec.specs.Faults.{faults_in, link_faults, problems_of}
 use Rattle.kilim_link_spec.specs.Laws.{LinkedInParts, NoneOfEachKind, EachIsWithout, NoneHasAProblem}
 use Rattle.kilim_link_spec.specs.Linked.{linked_class, linked_field, linked_method, members, numbered, program_of, program_with}

@@ -2,9 +2,9 @@
 -- inside of them.
 use Rattle.std.specs.Prelude.{ℕ, zero, suc, ◌+◌, List, [], ◌∷◌}
 use Rattle.std.specs.List.{flat_map}
-use Rattle.kilim_attribute_parts.specs.declared.annotation.AnnotationPart.{AnnotationPart}
-use Rattle.kilim_attribute_parts.specs.declared.annotation.AnnotationPart.TheVariants.{Annotations, Annotation}
-use Rattle.kilim_attribute_parts.specs.Annotations.{asked}
+use Rattle.kilim_class_attributes.specs.declared.parts.annotation.AnnotationPart.{AnnotationPart}
+use Rattle.kilim_class_attributes.specs.declared.parts.annotation.AnnotationPart.TheVariants.{Annotations, Annotation}
+use Rattle.kilim_class_attributes.specs.parts.Annotations.{asked}
 
 -- The outermost parts: counts of parameters and of annotations, and annotations. An annotation asks for its pairs, and
 -- each of these for what follows it; so many parts are still to be passed over.

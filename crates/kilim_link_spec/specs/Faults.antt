@@ -3,24 +3,24 @@
 use Rattle.std.specs.Prelude.{ℕ, ◌+◌, Bool, true, false, ◌&&◌, ◌||◌, not, ◌==◌, nat_lt, nat_le, if◌then◌else◌, List, [], ◌∷◌, ◌++◌, map, filter, length, take, Option, Some, None, is_none, is_some, Result, Ok, Err, codes}
 use Rattle.std.specs.List.{list_all, list_any, flat_map, filter_map, slice_split}
 use Rattle.std.specs.Str.{bytes_eq}
-use Rattle.kilim_bytecode.specs.declared.fault.CodeFault.{CodeFault}
-use Rattle.kilim_bytecode.specs.declared.fault.CodeFault.TheVariants as code
-use Rattle.kilim_bytecode.specs.Code.{Placed}
-use Rattle.kilim_classfile.specs.declared.class_file.ClassFile.{ClassFile}
-use Rattle.kilim_classfile.specs.declared.class_file.MemberInfo.{MemberInfo}
-use Rattle.kilim_classfile.specs.declared.fault.MemberName.{MemberName}
-use Rattle.kilim_constant_pool.specs.declared.entry.Entry.{Entry}
-use Rattle.kilim_descriptors.specs.declared.types.MethodText.{MethodText}
-use Rattle.kilim_descriptors.specs.Text.{slots_of}
-use Rattle.kilim_mutf8.specs.Spelling.{spelling}
-use Rattle.kilim_bytecode.specs.declared.opcodes.fault.OpFault.TheVariants as op
-use Rattle.kilim_classes.specs.declared.class.Form.{Form}
-use Rattle.kilim_classes.specs.declared.names.ClassId.{ClassId}
-use Rattle.kilim_classes.specs.declared.ty.Ty.{Ty}
-use Rattle.kilim_classes.specs.Names.{◌>>=◌, is_task, is_empty}
-use Rattle.kilim_classes.specs.Kinds.{class_kind, field_may_hold, is_message}
-use Rattle.kilim_classes.specs.Keeps.{ancestors_of, superclass_fits}
-use Rattle.kilim_classes.specs.Same.{same_flag, same_qualifier, same_qualifiers}
+use Rattle.kilim_class_code.specs.declared.fault.CodeFault.{CodeFault}
+use Rattle.kilim_class_code.specs.declared.fault.CodeFault.TheVariants as code
+use Rattle.kilim_class_code.specs.Code.{Placed}
+use Rattle.kilim_class_file.specs.declared.class_file.ClassFile.{ClassFile}
+use Rattle.kilim_class_file.specs.declared.class_file.MemberInfo.{MemberInfo}
+use Rattle.kilim_class_file.specs.declared.fault.MemberName.{MemberName}
+use Rattle.kilim_class_pool.specs.declared.entry.Entry.{Entry}
+use Rattle.kilim_class_descriptors.specs.declared.types.MethodText.{MethodText}
+use Rattle.kilim_class_descriptors.specs.Text.{slots_of}
+use Rattle.kilim_class_mutf8.specs.Spelling.{spelling}
+use Rattle.kilim_class_code.specs.declared.opcodes.fault.OpFault.TheVariants as op
+use Rattle.kilim_program.specs.declared.class.Form.{Form}
+use Rattle.kilim_program.specs.declared.names.ClassId.{ClassId}
+use Rattle.kilim_program.specs.declared.ty.Ty.{Ty}
+use Rattle.kilim_program.specs.Names.{◌>>=◌, is_task, is_empty}
+use Rattle.kilim_program.specs.Kinds.{class_kind, field_may_hold, is_message}
+use Rattle.kilim_program.specs.Keeps.{ancestors_of, superclass_fits}
+use Rattle.kilim_program.specs.Same.{same_flag, same_qualifier, same_qualifiers}
 use Rattle.kilim_link_spec.specs.declared.fault.LinkFault.{LinkFault}
 use Rattle.kilim_link_spec.specs.declared.fault.LinkFault.TheVariants as fault
 use Rattle.kilim_link_spec.specs.declared.fault.Problem.{Problem}

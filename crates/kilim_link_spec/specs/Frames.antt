@@ -1,22 +1,22 @@
 -- The declared frames of a method (JVMS 4.7.4), by slots.
 use Rattle.std.specs.Prelude.{ℕ, ◌+◌, ◌-◌, ◌==◌, if◌then◌else◌, List, [], ◌∷◌, ◌++◌, length, take, map, Option, Some, None, option_map}
 use Rattle.std.specs.List.{flat_map}
-use Rattle.kilim_attribute_parts.specs.declared.frame.Frame.{Frame as FrameForm}
-use Rattle.kilim_attribute_parts.specs.declared.frame.Frame.TheVariants.{Same, SameLocals1StackItem, SameLocals1StackItemExtended, Chop, SameExtended, Append, Full}
-use Rattle.kilim_attribute_parts.specs.declared.frame.VerificationType.{VerificationType}
-use Rattle.kilim_attribute_parts.specs.declared.frame.VerificationType.TheVariants as entry
-use Rattle.kilim_attributes.specs.declared.attribute.Code.{Code}
-use Rattle.kilim_attributes.specs.declared.attribute.CodeInfo.{CodeInfo}
-use Rattle.kilim_attributes.specs.declared.attribute.CodeInfo.TheVariants.{StackMapTable, Raw}
-use Rattle.kilim_classfile.specs.declared.class_file.ClassFile.{ClassFile}
-use Rattle.kilim_constant_pool.specs.declared.entry.Entry.{Entry as PoolEntry}
-use Rattle.kilim_classes.specs.declared.names.ClassId.{ClassId}
-use Rattle.kilim_classes.specs.declared.ty.Base.{Base}
-use Rattle.kilim_classes.specs.declared.ty.Base.TheVariants as base
-use Rattle.kilim_classes.specs.declared.ty.Ty.{Ty}
-use Rattle.kilim_classes.specs.declared.verified.Frame.{Frame}
-use Rattle.kilim_classes.specs.declared.verified.VType.{VType}
-use Rattle.kilim_classes.specs.declared.verified.VType.TheVariants.{Top, Int, Long, Null, UninitThis, Uninit, Object}
+use Rattle.kilim_class_attributes.specs.declared.parts.frame.Frame.{Frame as FrameForm}
+use Rattle.kilim_class_attributes.specs.declared.parts.frame.Frame.TheVariants.{Same, SameLocals1StackItem, SameLocals1StackItemExtended, Chop, SameExtended, Append, Full}
+use Rattle.kilim_class_attributes.specs.declared.parts.frame.VerificationType.{VerificationType}
+use Rattle.kilim_class_attributes.specs.declared.parts.frame.VerificationType.TheVariants as entry
+use Rattle.kilim_class_attributes.specs.declared.attribute.Code.{Code}
+use Rattle.kilim_class_attributes.specs.declared.attribute.CodeInfo.{CodeInfo}
+use Rattle.kilim_class_attributes.specs.declared.attribute.CodeInfo.TheVariants.{StackMapTable, Raw}
+use Rattle.kilim_class_file.specs.declared.class_file.ClassFile.{ClassFile}
+use Rattle.kilim_class_pool.specs.declared.entry.Entry.{Entry as PoolEntry}
+use Rattle.kilim_program.specs.declared.names.ClassId.{ClassId}
+use Rattle.kilim_program.specs.declared.ty.Base.{Base}
+use Rattle.kilim_program.specs.declared.ty.Base.TheVariants as base
+use Rattle.kilim_program.specs.declared.ty.Ty.{Ty}
+use Rattle.kilim_program.specs.declared.verified.Frame.{Frame}
+use Rattle.kilim_program.specs.declared.verified.VType.{VType}
+use Rattle.kilim_program.specs.declared.verified.VType.TheVariants.{Top, Int, Long, Null, UninitThis, Uninit, Object}
 use Rattle.kilim_link_spec.specs.World.{World, DeclaredMethod, class_text}
 use Rattle.kilim_link_spec.specs.Types.{method_text, typed, type_in, type_named, named_by, each_of, itself}
 use Rattle.kilim_link_spec.specs.Qualified.{is_constructor_name, params_of}

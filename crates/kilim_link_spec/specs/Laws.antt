@@ -1,16 +1,16 @@
 -- Laws of the definitions.
 use Rattle.std.specs.Prelude.{◌≡◌, ℕ, suc, List, [], ◌∷◌, Some, None, Ok, Err}
-use Rattle.kilim_bytecode.specs.declared.fault.CodeFault.{CodeFault}
-use Rattle.kilim_bytecode.specs.Code.{Placed}
-use Rattle.kilim_bytecode.specs.Exact.{IsCode, HasFault, body_fault}
-use Rattle.kilim_classfile.specs.declared.class_file.ClassFile.{ClassFile}
-use Rattle.kilim_classes.specs.declared.class.Class.{Class}
-use Rattle.kilim_classes.specs.declared.class.Field.{Field}
-use Rattle.kilim_classes.specs.declared.class.Form.{Form}
-use Rattle.kilim_classes.specs.declared.class.Method.{Method}
-use Rattle.kilim_classes.specs.declared.names.ClassId.{ClassId}
-use Rattle.kilim_classes.specs.Program.{Program}
-use Rattle.kilim_classes.specs.BuiltIn.{class_id}
+use Rattle.kilim_class_code.specs.declared.fault.CodeFault.{CodeFault}
+use Rattle.kilim_class_code.specs.Code.{Placed}
+use Rattle.kilim_class_code.specs.Exact.{IsCode, HasFault, body_fault}
+use Rattle.kilim_class_file.specs.declared.class_file.ClassFile.{ClassFile}
+use Rattle.kilim_program.specs.declared.class.Class.{Class}
+use Rattle.kilim_program.specs.declared.class.Field.{Field}
+use Rattle.kilim_program.specs.declared.class.Form.{Form}
+use Rattle.kilim_program.specs.declared.class.Method.{Method}
+use Rattle.kilim_program.specs.declared.names.ClassId.{ClassId}
+use Rattle.kilim_program.specs.Program.{Program}
+use Rattle.kilim_program.specs.BuiltIn.{class_id}
 use Rattle.kilim_link_spec.specs.Code.{decoded}
 use Rattle.kilim_link_spec.specs.Faults.{first_fault, link_faults, problems_of, declared_twice, class_missing, circular, member_missing, left_out, both_kinds, field_kinds, override_differs, code_broken, descriptor_broken, super_kind, name_broken, abstract_left}
 use Rattle.kilim_link_spec.specs.Linked.{Linked, linked_class, linked_field, linked_method, members, numbered, program_with}

@@ -2,20 +2,20 @@
 use Rattle.std.specs.Prelude.{ℕ, Bool, true, false, ◌&&◌, ◌||◌, not, ◌==◌, nat_lt, List, [], ◌∷◌, ◌++◌, map, length, Option, Some, None, Result, Err, codes}
 use Rattle.std.specs.List.{list_any, flat_map, filter_map}
 use Rattle.std.specs.Str.{bytes_eq}
-use Rattle.kilim_attributes.specs.declared.attribute.Code.{Code}
-use Rattle.kilim_bytecode.specs.declared.fault.CodeFault.{CodeFault}
-use Rattle.kilim_bytecode.specs.declared.fault.CodeFault.TheVariants as code
-use Rattle.kilim_bytecode.specs.Code.{Placed}
-use Rattle.kilim_classfile.specs.declared.class_file.ClassFile.{ClassFile}
-use Rattle.kilim_classfile.specs.declared.class_file.MemberInfo.{MemberInfo}
-use Rattle.kilim_descriptors.specs.declared.types.BaseText.{BaseText}
-use Rattle.kilim_descriptors.specs.declared.types.BaseText.TheVariants as text
-use Rattle.kilim_descriptors.specs.declared.types.MethodText.{MethodText}
-use Rattle.kilim_bytecode.specs.declared.opcodes.fault.OpFault.TheVariants as op
-use Rattle.kilim_classes.specs.declared.names.ClassId.{ClassId}
-use Rattle.kilim_classes.specs.declared.ty.Ty.{Ty}
-use Rattle.kilim_classes.specs.Names.{◌>>=◌, is_task, is_empty}
-use Rattle.kilim_classes.specs.Keeps.{constant_fits}
+use Rattle.kilim_class_attributes.specs.declared.attribute.Code.{Code}
+use Rattle.kilim_class_code.specs.declared.fault.CodeFault.{CodeFault}
+use Rattle.kilim_class_code.specs.declared.fault.CodeFault.TheVariants as code
+use Rattle.kilim_class_code.specs.Code.{Placed}
+use Rattle.kilim_class_file.specs.declared.class_file.ClassFile.{ClassFile}
+use Rattle.kilim_class_file.specs.declared.class_file.MemberInfo.{MemberInfo}
+use Rattle.kilim_class_descriptors.specs.declared.types.BaseText.{BaseText}
+use Rattle.kilim_class_descriptors.specs.declared.types.BaseText.TheVariants as text
+use Rattle.kilim_class_descriptors.specs.declared.types.MethodText.{MethodText}
+use Rattle.kilim_class_code.specs.declared.opcodes.fault.OpFault.TheVariants as op
+use Rattle.kilim_program.specs.declared.names.ClassId.{ClassId}
+use Rattle.kilim_program.specs.declared.ty.Ty.{Ty}
+use Rattle.kilim_program.specs.Names.{◌>>=◌, is_task, is_empty}
+use Rattle.kilim_program.specs.Keeps.{constant_fits}
 use Rattle.kilim_link_spec.specs.declared.fault.LeftOutPart.{LeftOutPart}
 use Rattle.kilim_link_spec.specs.declared.fault.LeftOutPart.TheVariants as part
 use Rattle.kilim_link_spec.specs.World.{World, own_name, interface_names, member_name, member_descriptor, has_flag, acc_static, acc_synchronized, acc_native, acc_interface, acc_super, declared_method, parameter_parts, class_of}

@@ -3,20 +3,20 @@
 -- no entry of a kind that its instruction takes. Entries of the pool that nothing refers to name nothing.
 use Rattle.std.specs.Prelude.{ℕ, suc, Bool, false, ◌==◌, if◌then◌else◌, List, [], ◌∷◌, ◌++◌, map, Option, Some, None, Result, Ok, Err}
 use Rattle.std.specs.List.{flat_map}
-use Rattle.kilim_attribute_parts.specs.declared.frame.Frame.{Frame as FrameForm}
-use Rattle.kilim_attribute_parts.specs.declared.frame.Frame.TheVariants.{SameLocals1StackItem, SameLocals1StackItemExtended, Append, Full}
-use Rattle.kilim_attribute_parts.specs.declared.frame.VerificationType.{VerificationType}
-use Rattle.kilim_attribute_parts.specs.declared.frame.VerificationType.TheVariants as entry
-use Rattle.kilim_attributes.specs.declared.attribute.Code.{Code}
-use Rattle.kilim_bytecode.specs.declared.fault.CodeFault.{CodeFault}
-use Rattle.kilim_bytecode.specs.Code.{Placed}
-use Rattle.kilim_classfile.specs.declared.class_file.ClassFile.{ClassFile}
-use Rattle.kilim_classfile.specs.declared.class_file.MemberInfo.{MemberInfo}
-use Rattle.kilim_constant_pool.specs.declared.entry.Entry.{Entry}
-use Rattle.kilim_descriptors.specs.declared.types.BaseText.TheVariants as text
-use Rattle.kilim_descriptors.specs.declared.types.FieldText.{FieldText}
-use Rattle.kilim_bytecode.specs.declared.opcodes.instr.RawInstr.{RawInstr}
-use Rattle.kilim_classes.specs.Names.{◌>>=◌}
+use Rattle.kilim_class_attributes.specs.declared.parts.frame.Frame.{Frame as FrameForm}
+use Rattle.kilim_class_attributes.specs.declared.parts.frame.Frame.TheVariants.{SameLocals1StackItem, SameLocals1StackItemExtended, Append, Full}
+use Rattle.kilim_class_attributes.specs.declared.parts.frame.VerificationType.{VerificationType}
+use Rattle.kilim_class_attributes.specs.declared.parts.frame.VerificationType.TheVariants as entry
+use Rattle.kilim_class_attributes.specs.declared.attribute.Code.{Code}
+use Rattle.kilim_class_code.specs.declared.fault.CodeFault.{CodeFault}
+use Rattle.kilim_class_code.specs.Code.{Placed}
+use Rattle.kilim_class_file.specs.declared.class_file.ClassFile.{ClassFile}
+use Rattle.kilim_class_file.specs.declared.class_file.MemberInfo.{MemberInfo}
+use Rattle.kilim_class_pool.specs.declared.entry.Entry.{Entry}
+use Rattle.kilim_class_descriptors.specs.declared.types.BaseText.TheVariants as text
+use Rattle.kilim_class_descriptors.specs.declared.types.FieldText.{FieldText}
+use Rattle.kilim_class_code.specs.declared.opcodes.instr.RawInstr.{RawInstr}
+use Rattle.kilim_program.specs.Names.{◌>>=◌}
 use Rattle.kilim_link_spec.specs.World.{acc_static, has_flag, super_name, interface_names, member_descriptor, class_text}
 use Rattle.kilim_link_spec.specs.Types.{Named, AClass, AnArray, Malformed, named_by, field_text, method_text, type_names, types_of_field, types_of_method}
 use Rattle.kilim_link_spec.specs.Code.{MemberRef, Operand, AConstant, AField, AMethod, AType, index_in, operand_at, decoded}

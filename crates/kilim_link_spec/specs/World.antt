@@ -2,27 +2,27 @@
 use Rattle.std.specs.Prelude.{ℕ, ◌+◌, Bool, true, false, ◌&&◌, not, ◌==◌, bit_and, List, [], ◌∷◌, ◌++◌, map, length, take, slice_get, sum_by, Option, Some, None, option_map, codes}
 use Rattle.std.specs.List.{list_any, flat_map, filter_map, position_from}
 use Rattle.std.specs.Str.{bytes_eq}
-use Rattle.kilim_classes.specs.declared.class.Class.{Class}
-use Rattle.kilim_classes.specs.declared.class.Form.{Form}
-use Rattle.kilim_classes.specs.declared.class.Method.{Method}
-use Rattle.kilim_classes.specs.declared.names.ClassId.{ClassId}
-use Rattle.kilim_classes.specs.declared.names.FieldId.{FieldId}
-use Rattle.kilim_classes.specs.declared.names.MethodId.{MethodId}
-use Rattle.kilim_classes.specs.declared.ty.Qualifier.{Qualifier}
-use Rattle.kilim_classes.specs.declared.ty.Ty.{Ty}
-use Rattle.kilim_classes.specs.Program.{Program}
-use Rattle.kilim_classes.specs.BuiltIn.{class_id, method_id, built_in_classes_in, built_in_methods_in, is_final_built_in}
-use Rattle.kilim_classes.specs.Kinds.{is_marked}
-use Rattle.kilim_classes.specs.Names.{◌>>=◌, class_at, class_name, class_named, descriptor, line_of, method_at}
-use Rattle.kilim_constant_pool.specs.declared.entry.Entry.{Entry}
-use Rattle.kilim_constant_pool.specs.declared.entry.Entry.TheVariants as entry
-use Rattle.kilim_constant_pool.specs.Entries.{entry_at}
-use Rattle.kilim_attribute_parts.specs.declared.annotation.AnnotationPart.{AnnotationPart}
-use Rattle.kilim_attributes.specs.declared.attribute.Info.{Info}
-use Rattle.kilim_attributes.specs.declared.attribute.Info.TheVariants as info
-use Rattle.kilim_classfile.specs.declared.class_file.ClassFile.{ClassFile}
-use Rattle.kilim_classfile.specs.declared.class_file.MemberInfo.{MemberInfo}
-use Rattle.kilim_classfile.specs.Parts.{text_of}
+use Rattle.kilim_program.specs.declared.class.Class.{Class}
+use Rattle.kilim_program.specs.declared.class.Form.{Form}
+use Rattle.kilim_program.specs.declared.class.Method.{Method}
+use Rattle.kilim_program.specs.declared.names.ClassId.{ClassId}
+use Rattle.kilim_program.specs.declared.names.FieldId.{FieldId}
+use Rattle.kilim_program.specs.declared.names.MethodId.{MethodId}
+use Rattle.kilim_program.specs.declared.ty.Qualifier.{Qualifier}
+use Rattle.kilim_program.specs.declared.ty.Ty.{Ty}
+use Rattle.kilim_program.specs.Program.{Program}
+use Rattle.kilim_program.specs.BuiltIn.{class_id, method_id, built_in_classes_in, built_in_methods_in, is_final_built_in}
+use Rattle.kilim_program.specs.Kinds.{is_marked}
+use Rattle.kilim_program.specs.Names.{◌>>=◌, class_at, class_name, class_named, descriptor, line_of, method_at}
+use Rattle.kilim_class_pool.specs.declared.entry.Entry.{Entry}
+use Rattle.kilim_class_pool.specs.declared.entry.Entry.TheVariants as entry
+use Rattle.kilim_class_pool.specs.Entries.{entry_at}
+use Rattle.kilim_class_attributes.specs.declared.parts.annotation.AnnotationPart.{AnnotationPart}
+use Rattle.kilim_class_attributes.specs.declared.attribute.Info.{Info}
+use Rattle.kilim_class_attributes.specs.declared.attribute.Info.TheVariants as info
+use Rattle.kilim_class_file.specs.declared.class_file.ClassFile.{ClassFile}
+use Rattle.kilim_class_file.specs.declared.class_file.MemberInfo.{MemberInfo}
+use Rattle.kilim_class_file.specs.Parts.{text_of}
 use Rattle.kilim_link_spec.specs.Annotations.{types_on_member, params_in}
 pub use Rattle.kilim_link_spec.specs.declared.view.Marks.{Marks}
 pub use Rattle.kilim_link_spec.specs.declared.view.Marks.TheVariants.{Stated, Annotated}

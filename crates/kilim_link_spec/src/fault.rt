@@ -2,8 +2,8 @@
 
 ghost use Rattle.std.specs.Prelude.{◌≡◌};
 
-use kilim_bytecode::CodeFault;
-use kilim_classfile::MemberName;
+use kilim_class_code::CodeFault;
+use kilim_class_file::MemberName;
 use kilim_units::Units;
 use std::alloc::{AllocError, AllocFailed};
 

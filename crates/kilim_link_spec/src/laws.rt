@@ -3,14 +3,14 @@
 ghost use Rattle.kilim_link_spec.specs.Laws.{DecodedIsDecode, LinkedInParts, NoneHasAProblem, NoneIsNamed, NoneOfEachKind};
 ghost use Rattle.kilim_link_spec.specs.Linked.{OneProgram};
 
-use kilim_bytecode::opcodes::{lengths, one_spelling};
+use kilim_class_code::opcodes::{lengths, one_spelling};
 
 /// A law, and no work: no class files link to two programs.
 pub fn one_program()
     ensures { OneProgram }
 {}
 
-/// A law, and no work: the definition of decoded code is met by what `kilim_bytecode::decode` answers.
+/// A law, and no work: the definition of decoded code is met by what `kilim_class_code::decode` answers.
 pub fn decoded_is_decode()
     ensures { DecodedIsDecode }
 {

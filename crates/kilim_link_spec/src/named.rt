@@ -1,8 +1,8 @@
 //! What a class file names.
 
 use crate::fault::MemberOf;
-use kilim_classes::{Frame, Instr, Qualifier, VType, Value};
-use kilim_descriptors::FieldText;
+use kilim_class_descriptors::FieldText;
+use kilim_program::{Frame, Instr, Qualifier, VType, Value};
 use kilim_units::{Seq, Units};
 
 /// What a class entry of a pool names (JVMS 4.4.1).

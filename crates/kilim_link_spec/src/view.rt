@@ -1,6 +1,6 @@
 //! The classes that are linked, as they are declared: before names are looked up.
 
-use kilim_classes::Qualifier;
+use kilim_program::Qualifier;
 use kilim_units::{Seq, Units};
 
 /// What a method may do with what it is handed, as it is known before the kinds of classes are.

@@ -1,12 +1,12 @@
 -- The built-in classes and methods alone are a program.
 use Rattle.std.proofs.Common.{◌≡◌, List, []}
-use Rattle.kilim_classes.specs.declared.class.Class.{Class}
-use Rattle.kilim_classes.specs.declared.class.Form.{Form}
-use Rattle.kilim_classes.specs.declared.class.Form.TheVariants.{Plain, Woven}
-use Rattle.kilim_classes.specs.declared.class.Method.{Method}
-use Rattle.kilim_classes.specs.BuiltIn.{built_in_classes_in, built_in_methods_in}
-use Rattle.kilim_classes.specs.Examples.{BuiltInKeeps, built_in_program}
-use Rattle.kilim_classes.specs.Keeps.{Keeps}
+use Rattle.kilim_program.specs.declared.class.Class.{Class}
+use Rattle.kilim_program.specs.declared.class.Form.{Form}
+use Rattle.kilim_program.specs.declared.class.Form.TheVariants.{Plain, Woven}
+use Rattle.kilim_program.specs.declared.class.Method.{Method}
+use Rattle.kilim_program.specs.BuiltIn.{built_in_classes_in, built_in_methods_in}
+use Rattle.kilim_program.specs.Examples.{BuiltInKeeps, built_in_program}
+use Rattle.kilim_program.specs.Keeps.{Keeps}
 
 in_form : BuiltInKeeps → (form : Form) → Keeps (built_in_program form)
 in_form law Plain = law.plain

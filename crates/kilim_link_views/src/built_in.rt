@@ -2,15 +2,15 @@
 
 ghost use Rattle.std.specs.Prelude.{◌≡◌, ◌++◌, ◌∷◌, [], map, option_map, option_to_list, codes, IfOk, OnOk};
 ghost use Rattle.std.specs.List.{flat_map, filter_map};
-ghost use Rattle.kilim_classes.specs.BuiltIn.{built_in_classes_in, is_final_built_in};
-ghost use Rattle.kilim_classes.specs.Names.{class_name, base_descriptor, descriptor, method_at};
+ghost use Rattle.kilim_program.specs.BuiltIn.{built_in_classes_in, is_final_built_in};
+ghost use Rattle.kilim_program.specs.Names.{class_name, base_descriptor, descriptor, method_at};
 ghost use Rattle.kilim_link_spec.specs.declared.view.Marks.TheVariants.{Stated};
 ghost use Rattle.kilim_link_spec.specs.World.{result_descriptor, method_descriptor, declared_built_in, view_of_built_in, built_ins};
 
 use crate::built_ins::{built_in_classes, built_in_methods};
-use kilim_classes::lookups::{class_at, method_at};
-use kilim_classes::{Base, Class, ClassId, Form, Method, MethodId, Program, Ty, built_in_keeps};
 use kilim_link_spec::{ClassView, DeclaredMethod, Marks};
+use kilim_program::lookups::{class_at, method_at};
+use kilim_program::{Base, Class, ClassId, Form, Method, MethodId, Program, Ty, built_in_keeps};
 use kilim_units::{NoMemory, Seq, Units};
 use std::alloc::Global;
 

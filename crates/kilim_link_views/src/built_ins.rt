@@ -1,6 +1,6 @@
 //! The built-in classes and their methods, as values of a program.
 //!
-//! What they are is defined in `kilim_classes::machine` (`specs/BuiltIn.antt`). They stand behind the classes of the files: so
+//! What they are is defined in `kilim_run_machine` (`specs/BuiltIn.antt`). They stand behind the classes of the files: so
 //! the first of them, and the first of their methods, have any numbers.
 
 mod classes;

@@ -7,7 +7,7 @@ ghost use Rattle.kilim_link_spec.specs.World.{interface_names, view_of_file};
 
 use crate::members::{declared_fields, declared_methods};
 use crate::names::{has_flag, is_any_named, own_name, super_name};
-use kilim_classfile::ClassFile;
+use kilim_class_file::ClassFile;
 use kilim_link_spec::ClassView;
 use kilim_units::{NoMemory, Units};
 use std::alloc::Global;

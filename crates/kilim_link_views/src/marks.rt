@@ -3,17 +3,17 @@
 ghost use Rattle.std.specs.Prelude.{◌≡◌, ◌++◌, ◌∷◌, [], zero, map, option_to_list, IfOk, OnOk};
 ghost use Rattle.std.specs.List.{flat_map, filter_map};
 ghost use Rattle.std.specs.Option.{option_copied};
-ghost use Rattle.kilim_attribute_parts.specs.Annotations.{asked};
-ghost use Rattle.kilim_classfile.specs.Parts.{text_of};
+ghost use Rattle.kilim_class_attributes.specs.parts.Annotations.{asked};
+ghost use Rattle.kilim_class_file.specs.Parts.{text_of};
 ghost use Rattle.kilim_link_spec.specs.Annotations.{outermost, types_before, lists_of, annotation_type, types_on_member, params_in};
 ghost use Rattle.kilim_link_views.specs.Opened.{opened};
 ghost use Rattle.kilim_link_spec.specs.World.{annotation_parts, annotation_types, parameter_parts, parameter_types};
 
 use crate::names::text_of;
-use kilim_attribute_parts::AnnotationPart;
-use kilim_attributes::Info;
-use kilim_classfile::MemberInfo;
-use kilim_constant_pool::Pool;
+use kilim_class_attributes::Info;
+use kilim_class_attributes::parts::AnnotationPart;
+use kilim_class_file::MemberInfo;
+use kilim_class_pool::Pool;
 use kilim_units::{NoMemory, Seq, Units};
 use std::alloc::Global;
 

@@ -6,9 +6,9 @@ ghost use Rattle.kilim_link_spec.specs.World.{annotation_types, parameter_types,
 
 use crate::marks::{annotation_types, parameter_types};
 use crate::names::{has_flag, is_any_named, member_descriptor, member_name};
-use kilim_attributes::Info;
-use kilim_classfile::{ClassFile, MemberInfo};
-use kilim_constant_pool::Pool;
+use kilim_class_attributes::Info;
+use kilim_class_file::{ClassFile, MemberInfo};
+use kilim_class_pool::Pool;
 use kilim_link_spec::{DeclaredField, DeclaredMethod, Marks};
 use kilim_units::{NoMemory, Seq, Units};
 use std::alloc::Global;

@@ -3,14 +3,14 @@
 ghost use Rattle.std.specs.Prelude.{◌≡◌};
 ghost use Rattle.std.specs.List.{list_any};
 ghost use Rattle.std.specs.Str.{bytes_eq};
-ghost use Rattle.kilim_classfile.specs.Parts.{text_of};
+ghost use Rattle.kilim_class_file.specs.Parts.{text_of};
 ghost use Rattle.kilim_link_spec.specs.World.{class_text, own_name, super_name, member_name, member_descriptor, has_flag};
 
-use kilim_classfile::{ClassFile, MemberInfo};
-use kilim_constant_pool::{Entry, Pool};
+use kilim_class_file::{ClassFile, MemberInfo};
+use kilim_class_pool::{Entry, Pool};
 
 /// The units of the Utf8 of an index; none where another entry stands there (JVMS 4.4.7). Takes constant time.
-#[tactic(auto, unfolding(kilim_classfile::specs::Parts::text_of))]
+#[tactic(auto, unfolding(kilim_class_file::specs::Parts::text_of))]
 pub fn text_of(pool: &Pool, index: u16) -> &[u16]
     ensures { result.now ≡ text_of pool.now index }
 {

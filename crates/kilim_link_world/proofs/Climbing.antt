@@ -7,16 +7,16 @@ use Rattle.std.proofs.lemmas.Bool.{cases_Bool, cases_lt, eqb-true}
 use Rattle.std.proofs.lemmas.List.{length-map}
 use Rattle.std.proofs.lemmas.Option.{slice_get-map, slice_get_past, slice_get_within}
 use Rattle.kilim_lemmas.proofs.Lists.{any_same}
-use Rattle.kilim_classes.specs.declared.class.Class.{Class}
-use Rattle.kilim_classes.specs.declared.names.ClassId.{ClassId}
-use Rattle.kilim_classes.specs.Keeps.{superclass_of}
-use Rattle.kilim_classes.specs.Kinds.{is_marked}
-use Rattle.kilim_classes.specs.Names.{class_at, line_of, line_up_to}
-use Rattle.kilim_classes.specs.Program.{Program}
-use Rattle.kilim_inherited.specs.declared.entry.Entry.{Entry}
-use Rattle.kilim_inherited.specs.Trees.{Forest}
-use Rattle.kilim_inherited.specs.Inherited.{inherited, line_in, line_up, said_at, said_of, said_or, up_in}
-use Rattle.kilim_inherited.specs.Roots.{inherits, IsRight}
+use Rattle.kilim_program.specs.declared.class.Class.{Class}
+use Rattle.kilim_program.specs.declared.names.ClassId.{ClassId}
+use Rattle.kilim_program.specs.Keeps.{superclass_of}
+use Rattle.kilim_program.specs.Kinds.{is_marked}
+use Rattle.kilim_program.specs.Names.{class_at, line_of, line_up_to}
+use Rattle.kilim_program.specs.Program.{Program}
+use Rattle.kilim_link_inherited.specs.declared.entry.Entry.{Entry}
+use Rattle.kilim_link_inherited.specs.Trees.{Forest}
+use Rattle.kilim_link_inherited.specs.Inherited.{inherited, line_in, line_up, said_at, said_of, said_or, up_in}
+use Rattle.kilim_link_inherited.specs.Roots.{inherits, IsRight}
 use Rattle.kilim_link_world.specs.Agrees.{each_below}
 use Rattle.kilim_link_world.specs.Outlining.{mark_at}
 use Rattle.kilim_link_world.specs.Superclasses.{AreSuperclasses, mark_entries, own_key}

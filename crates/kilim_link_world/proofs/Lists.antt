@@ -6,7 +6,7 @@ use Rattle.std.proofs.lemmas.Option.{slice_get_within, same_Some}
 use Rattle.std.proofs.lemmas.List.{length-take}
 use Rattle.kilim_lemmas.proofs.Lists.{take_next}
 use Rattle.kilim_link_spec.specs.World.{or_else}
-use Rattle.kilim_inherited.specs.Index.{places_from}
+use Rattle.kilim_link_inherited.specs.Index.{places_from}
 
 pub or_none : {A : Type 0} (o : Option A) → o ≡ or_else o None
 or_none None = refl

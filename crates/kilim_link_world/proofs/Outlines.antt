@@ -6,12 +6,12 @@ use Rattle.std.specs.Str.{bytes_eq}
 use Rattle.std.proofs.lemmas.Option.{slice_get-map, slice_get_within}
 use Rattle.std.proofs.lemmas.List.{length-take}
 use Rattle.kilim_lemmas.proofs.Lists.{take_next}
-use Rattle.kilim_classes.specs.declared.class.Form.{Form}
-use Rattle.kilim_classes.specs.declared.class.Class.{Class}
-use Rattle.kilim_classes.specs.declared.names.ClassId.{ClassId}
-use Rattle.kilim_classes.specs.BuiltIn.{class_id}
-use Rattle.kilim_classes.specs.Names.{◌>>=◌, class_from, class_named}
-use Rattle.kilim_classes.specs.Program.{Program}
+use Rattle.kilim_program.specs.declared.class.Form.{Form}
+use Rattle.kilim_program.specs.declared.class.Class.{Class}
+use Rattle.kilim_program.specs.declared.names.ClassId.{ClassId}
+use Rattle.kilim_program.specs.BuiltIn.{class_id}
+use Rattle.kilim_program.specs.Names.{◌>>=◌, class_from, class_named}
+use Rattle.kilim_program.specs.Program.{Program}
 use Rattle.kilim_link_spec.specs.declared.view.ClassView.{ClassView}
 use Rattle.kilim_link_spec.specs.World.{number_of, outlined, outline_of, outline_with, is_message_by}
 use Rattle.kilim_link_world.specs.declared.ids.Ids.{Ids}

@@ -9,10 +9,10 @@ use Rattle.std.proofs.lemmas.List.Sums.{sum_by-append, sum_by-cons}
 use Rattle.kilim_lemmas.proofs.Lists.{get_last, get_front, take_next}
 use Rattle.kilim_link_spec.specs.World.{is_method, methods_at, or_else}
 use Rattle.kilim_link_spec.specs.declared.view.ClassView.{ClassView}
-use Rattle.kilim_inherited.specs.Index.{places_from, positions, same_signature}
-use Rattle.kilim_inherited.specs.declared.index.Index.{Index}
-use Rattle.kilim_inherited.specs.declared.said.Said.{Said}
-use Rattle.kilim_inherited.specs.Nearest.{said_by, said_of}
+use Rattle.kilim_link_inherited.specs.Index.{places_from, positions, same_signature}
+use Rattle.kilim_link_inherited.specs.declared.index.Index.{Index}
+use Rattle.kilim_link_inherited.specs.declared.said.Said.{Said}
+use Rattle.kilim_link_inherited.specs.Nearest.{said_by, said_of}
 use Rattle.kilim_link_world.specs.Agrees.{indexed, placed, places_at}
 use Rattle.kilim_link_world.proofs.Lists.{position_next}
 

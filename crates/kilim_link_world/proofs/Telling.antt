@@ -2,14 +2,14 @@
 use Rattle.std.proofs.Common.{◌≡◌, ℕ, ◌+◌, List, [], ◌∷◌, Option, Some, None, refl, ap, ◌∙◌}
 use Rattle.std.specs.Prelude.{option_map, slice_get, sum_by, take}
 use Rattle.std.specs.List.{position_from}
-use Rattle.kilim_classes.specs.declared.names.ClassId.{ClassId}
-use Rattle.kilim_classes.specs.BuiltIn.{method_id}
-use Rattle.kilim_inherited.specs.Inherited.{said_or, line_in}
+use Rattle.kilim_program.specs.declared.names.ClassId.{ClassId}
+use Rattle.kilim_program.specs.BuiltIn.{method_id}
+use Rattle.kilim_link_inherited.specs.Inherited.{said_or, line_in}
 use Rattle.kilim_link_spec.specs.World.{World, first_found, or_else, field_id, find_field, find_method, is_method, is_field, method_in, methods_at, field_in, fields_at}
-use Rattle.kilim_inherited.specs.declared.nearest.Nearest.{Nearest}
-use Rattle.kilim_inherited.specs.declared.said.Said.{Said}
-use Rattle.kilim_inherited.specs.Nearest.{says, nearest}
-use Rattle.kilim_inherited.specs.Known.{known, Tells}
+use Rattle.kilim_link_inherited.specs.declared.nearest.Nearest.{Nearest}
+use Rattle.kilim_link_inherited.specs.declared.said.Said.{Said}
+use Rattle.kilim_link_inherited.specs.Nearest.{says, nearest}
+use Rattle.kilim_link_inherited.specs.Known.{known, Tells}
 use Rattle.kilim_link_world.specs.Agrees.{method_count, field_count, placed}
 use Rattle.kilim_link_world.specs.Superclasses.{AreSuperclasses}
 

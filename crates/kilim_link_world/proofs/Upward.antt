@@ -1,10 +1,10 @@
 -- Lines of classes, step by step.
 use Rattle.std.proofs.Common.{◌≡◌, ℕ, zero, suc, ◌-◌, ◌<◌, List, [], ◌∷◌, ◌++◌, Option, Some, None, refl, sym, ap, ◌∙◌, arith, append_assoc}
-use Rattle.kilim_classes.specs.declared.class.Class.{Class}
-use Rattle.kilim_classes.specs.declared.names.ClassId.{ClassId}
-use Rattle.kilim_classes.specs.Keeps.{superclass_of}
-use Rattle.kilim_classes.specs.Names.{◌>>=◌, class_at, line_up_to}
-use Rattle.kilim_classes.specs.Program.{Program}
+use Rattle.kilim_program.specs.declared.class.Class.{Class}
+use Rattle.kilim_program.specs.declared.names.ClassId.{ClassId}
+use Rattle.kilim_program.specs.Keeps.{superclass_of}
+use Rattle.kilim_program.specs.Names.{◌>>=◌, class_at, line_up_to}
+use Rattle.kilim_program.specs.Program.{Program}
 
 abbrev pub line_rest : Program → ℕ → Option ClassId → List ClassId
 line_rest p n None = []

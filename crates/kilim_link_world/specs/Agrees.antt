@@ -1,22 +1,22 @@
 -- What a world keeps beside its classes, so that names are looked up in maps.
 use Rattle.std.specs.Prelude.{◌≡◌, ℕ, zero, suc, ◌+◌, ◌<◌, ◌==◌, List, [], ◌∷◌, ◌++◌, length, take, sum_by, slice_get, option_map, Option, Some, None, is_some}
 use Rattle.std.specs.List.{list_any}
-use Rattle.kilim_classes.specs.declared.class.Form.{Form}
-use Rattle.kilim_classes.specs.declared.names.ClassId.{ClassId}
-use Rattle.kilim_classes.specs.BuiltIn.{method_id}
-use Rattle.kilim_classes.specs.Names.{line_of}
-use Rattle.kilim_classes.specs.Program.{Program}
+use Rattle.kilim_program.specs.declared.class.Form.{Form}
+use Rattle.kilim_program.specs.declared.names.ClassId.{ClassId}
+use Rattle.kilim_program.specs.BuiltIn.{method_id}
+use Rattle.kilim_program.specs.Names.{line_of}
+use Rattle.kilim_program.specs.Program.{Program}
 use Rattle.kilim_link_spec.specs.World.{outline_of, methods_at, is_method, field_id, find_method, find_field}
 use Rattle.kilim_link_spec.specs.declared.view.ClassView.{ClassView}
-use Rattle.kilim_inherited.specs.Trees.{Forest}
-use Rattle.kilim_inherited.specs.Roots.{inherits}
-use Rattle.kilim_inherited.specs.declared.nearest.Nearest.{Nearest}
-use Rattle.kilim_inherited.specs.Known.{known}
+use Rattle.kilim_link_inherited.specs.Trees.{Forest}
+use Rattle.kilim_link_inherited.specs.Roots.{inherits}
+use Rattle.kilim_link_inherited.specs.declared.nearest.Nearest.{Nearest}
+use Rattle.kilim_link_inherited.specs.Known.{known}
 use Rattle.kilim_link_world.specs.declared.ids.Ids.{Ids}
-use Rattle.kilim_inherited.specs.declared.index.Index.{Index}
+use Rattle.kilim_link_inherited.specs.declared.index.Index.{Index}
 use Rattle.kilim_link_world.specs.Ids.{id_in, named_in}
 use Rattle.kilim_link_world.specs.Superclasses.{AreSuperclasses}
-use Rattle.kilim_inherited.specs.Index.{positions, places_from}
+use Rattle.kilim_link_inherited.specs.Index.{positions, places_from}
 
 -- what is made of each number below a bound, in order
 abbrev pub each_below : {A : Type 0} → (ℕ → A) → ℕ → List A

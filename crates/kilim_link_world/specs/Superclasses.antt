@@ -1,11 +1,11 @@
 -- The superclass of each class, and which class is above which.
 use Rattle.std.specs.Prelude.{◌≡◌, ℕ, Bool, true, false, List, [], ◌∷◌, length, Option, Some}
-use Rattle.kilim_classes.specs.declared.names.ClassId.{ClassId}
-use Rattle.kilim_classes.specs.Keeps.{superclass_of}
-use Rattle.kilim_classes.specs.Names.{class_at, line_of}
-use Rattle.kilim_classes.specs.Program.{Program}
-use Rattle.kilim_inherited.specs.declared.entry.Entry.{Entry}
-use Rattle.kilim_inherited.specs.Inherited.{line_in, up_in}
+use Rattle.kilim_program.specs.declared.names.ClassId.{ClassId}
+use Rattle.kilim_program.specs.Keeps.{superclass_of}
+use Rattle.kilim_program.specs.Names.{class_at, line_of}
+use Rattle.kilim_program.specs.Program.{Program}
+use Rattle.kilim_link_inherited.specs.declared.entry.Entry.{Entry}
+use Rattle.kilim_link_inherited.specs.Inherited.{line_in, up_in}
 
 -- These are the superclasses of all classes, so that their lines are those of the classes.
 pub record AreSuperclasses (outline : Program) (ups : List (Option ClassId)) : Type 0 where

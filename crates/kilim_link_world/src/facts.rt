@@ -1,11 +1,11 @@
 //! What the classes of a world are.
 
 ghost use Rattle.std.specs.Prelude.{◌≡◌};
-ghost use Rattle.kilim_classes.specs.Names.{is_task};
-ghost use Rattle.kilim_classes.specs.Kinds.{class_kind, kind_of, is_message};
+ghost use Rattle.kilim_program.specs.Names.{is_task};
+ghost use Rattle.kilim_program.specs.Kinds.{class_kind, kind_of, is_message};
 
 use crate::world::World;
-use kilim_classes::{ClassId, Kind, Ty};
+use kilim_program::{ClassId, Kind, Ty};
 
 impl World {
     /// Whether a class is `kilim/Task` or a subclass of it (own).

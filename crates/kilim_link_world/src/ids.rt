@@ -2,12 +2,12 @@
 
 ghost use Rattle.std.specs.Prelude.{◌≡◌, ◌<◌, ◌^◌, List, ℕ, length, if◌then◌else◌, Some, None, option_map, IfOk, OnOk};
 ghost use Rattle.std.specs.Str.{bytes_eq};
-ghost use Rattle.kilim_classes.specs.BuiltIn.{class_id};
+ghost use Rattle.kilim_program.specs.BuiltIn.{class_id};
 ghost use Rattle.kilim_link_spec.specs.World.{or_else};
 ghost use Rattle.kilim_link_world.specs.Ids.{id_in, named_in};
 
-use kilim_classes::ClassId;
 use kilim_link_spec::ClassView;
+use kilim_program::ClassId;
 use kilim_units::{NoMemory, Units};
 use std::alloc::Global;
 use std::collections::BTreeMap;

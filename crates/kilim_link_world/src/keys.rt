@@ -2,7 +2,7 @@
 
 ghost use Rattle.std.specs.Prelude.{◌≡◌, IfOk};
 
-use kilim_inherited::Signature;
+use kilim_link_inherited::Signature;
 use kilim_units::{NoMemory, Units};
 
 /// A name and a descriptor as a key.

@@ -2,14 +2,14 @@
 
 ghost use Rattle.std.specs.Prelude.{◌≡◌, Some, codes, length, option_copied};
 ghost use Rattle.std.specs.Str.{bytes_eq};
-ghost use Rattle.kilim_classes.specs.declared.ty.Kind.TheVariants as kind;
-ghost use Rattle.kilim_classes.specs.Names.{class_at, class_name, is_task};
-ghost use Rattle.kilim_classes.specs.Kinds.{is_value_class, class_kind, base_kind, kind_of, array_kind, is_message, is_task_base, is_task_type, is_value_kind, is_tree_kind, is_private_kind, field_may_hold};
-ghost use Rattle.kilim_classes.specs.Keeps.{superclass_of, is_object, superclass_fits, is_int_like, is_long, is_string_base, constant_fits};
+ghost use Rattle.kilim_program.specs.declared.ty.Kind.TheVariants as kind;
+ghost use Rattle.kilim_program.specs.Names.{class_at, class_name, is_task};
+ghost use Rattle.kilim_program.specs.Kinds.{is_value_class, class_kind, base_kind, kind_of, array_kind, is_message, is_task_base, is_task_type, is_value_kind, is_tree_kind, is_private_kind, field_may_hold};
+ghost use Rattle.kilim_program.specs.Keeps.{superclass_of, is_object, superclass_fits, is_int_like, is_long, is_string_base, constant_fits};
 
 use crate::outline::Outline;
 use crate::tasks::mark_in;
-use kilim_classes::{Base, Class, ClassId, Kind, Ty, Value};
+use kilim_program::{Base, Class, ClassId, Kind, Ty, Value};
 use kilim_units::Units;
 
 fn is_value_class(name: &Units) -> bool

@@ -15,10 +15,11 @@ mod outlining;
 mod parts;
 mod search;
 mod tasks;
+pub mod types;
 mod views;
 mod world;
 
 pub use ids::Ids;
-pub use kilim_inherited::{Index, Signature};
+pub use kilim_link_inherited::{Index, Signature};
 pub use outline::Outline;
 pub use world::World;

@@ -1,12 +1,12 @@
 //! Which classes stand in the lines of others.
 
 ghost use Rattle.std.specs.Prelude.{◌≡◌, ◌<◌, ◌^◌, IfOk, length};
-ghost use Rattle.kilim_inherited.specs.Roots.{IsRight};
+ghost use Rattle.kilim_link_inherited.specs.Roots.{IsRight};
 ghost use Rattle.kilim_link_world.specs.Agrees.{each_below};
 ghost use Rattle.kilim_link_world.specs.Superclasses.{own_key};
 
-use kilim_classes::ClassId;
-use kilim_inherited::{Entry, Inherited};
+use kilim_link_inherited::{Entry, Inherited};
+use kilim_program::ClassId;
 use kilim_units::{NoMemory, Seq};
 use std::alloc::Global;
 

@@ -1,11 +1,11 @@
 //! Superclasses: of each class, and all the way up.
 
 ghost use Rattle.std.specs.Prelude.{◌≡◌, IfOk, map};
-ghost use Rattle.kilim_classes.specs.Names.{line_of};
+ghost use Rattle.kilim_program.specs.Names.{line_of};
 ghost use Rattle.kilim_link_world.specs.Superclasses.{AreSuperclasses};
 
 use crate::outline::Outline;
-use kilim_classes::{Class, ClassId};
+use kilim_program::{Class, ClassId};
 use kilim_units::{NoMemory, Seq};
 use std::alloc::Global;
 

@@ -2,16 +2,16 @@
 
 ghost use Rattle.std.specs.Prelude.{◌≡◌, ◌<◌, ◌≤◌, ◌^◌, IfOk, is_some, length, map};
 ghost use Rattle.std.specs.List.{list_any};
-ghost use Rattle.kilim_classes.specs.BuiltIn.{class_id};
-ghost use Rattle.kilim_inherited.specs.Inherited.{line_in};
-ghost use Rattle.kilim_inherited.specs.Roots.{inherits, IsRight};
+ghost use Rattle.kilim_program.specs.BuiltIn.{class_id};
+ghost use Rattle.kilim_link_inherited.specs.Inherited.{line_in};
+ghost use Rattle.kilim_link_inherited.specs.Roots.{inherits, IsRight};
 ghost use Rattle.kilim_link_world.specs.Agrees.{each_below};
 ghost use Rattle.kilim_link_world.specs.Outlining.{mark_at};
 ghost use Rattle.kilim_link_world.specs.Superclasses.{mark_entries};
 
 use crate::lines::superclasses_of;
-use kilim_classes::{Class, ClassId};
-use kilim_inherited::{Entry, Inherited};
+use kilim_link_inherited::{Entry, Inherited};
+use kilim_program::{Class, ClassId};
 use kilim_units::{NoMemory, Seq};
 use std::alloc::Global;
 

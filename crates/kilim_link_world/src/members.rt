@@ -3,10 +3,10 @@
 ghost use Rattle.std.specs.Prelude.{◌≡◌, ◌<◌, ◌^◌, List, ℕ, IfOk, length, slice_get, sum_by};
 ghost use Rattle.kilim_link_spec.specs.World.{is_method, methods_at};
 ghost use Rattle.kilim_link_world.specs.Agrees.{method_count, field_count, firsts_of, indexed};
-ghost use Rattle.kilim_inherited.specs.Index.{positions, places_from};
+ghost use Rattle.kilim_link_inherited.specs.Index.{positions, places_from};
 
 use crate::keys::key_of;
-use kilim_inherited::Index;
+use kilim_link_inherited::Index;
 use kilim_link_spec::{ClassView, DeclaredMethod};
 use kilim_units::{NoMemory, Seq};
 use std::alloc::Global;

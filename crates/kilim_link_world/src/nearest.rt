@@ -2,20 +2,20 @@
 
 ghost use Rattle.std.specs.Prelude.{◌≡◌, ◌+◌, ◌<◌, ◌≤◌, ◌^◌, List, ℕ, IfOk, length, option_map, slice_get, sum_by, take};
 ghost use Rattle.std.specs.List.{position_from};
-ghost use Rattle.kilim_classes.specs.declared.names.ClassId as ids;
-ghost use Rattle.kilim_classes.specs.declared.class.Form.{Form};
-ghost use Rattle.kilim_classes.specs.BuiltIn.{method_id};
-ghost use Rattle.kilim_classes.specs.Program.{Program};
+ghost use Rattle.kilim_program.specs.declared.names.ClassId as ids;
+ghost use Rattle.kilim_program.specs.declared.class.Form.{Form};
+ghost use Rattle.kilim_program.specs.BuiltIn.{method_id};
+ghost use Rattle.kilim_program.specs.Program.{Program};
 ghost use Rattle.kilim_link_spec.specs.World.{is_method, is_field, methods_at, fields_at, field_id, find_method, find_field};
-ghost use Rattle.kilim_inherited.specs.Known.{known};
-ghost use Rattle.kilim_inherited.specs.Nearest.{said_by, says};
+ghost use Rattle.kilim_link_inherited.specs.Known.{known};
+ghost use Rattle.kilim_link_inherited.specs.Nearest.{said_by, says};
 ghost use Rattle.kilim_link_world.specs.Agrees.{method_count, field_count, placed};
 ghost use Rattle.kilim_link_world.specs.Superclasses.{AreSuperclasses};
 
 use crate::keys::key_of;
-use kilim_classes::ClassId;
-use kilim_inherited::{Nearest, Said};
+use kilim_link_inherited::{Nearest, Said};
 use kilim_link_spec::{ClassView, DeclaredField, DeclaredMethod};
+use kilim_program::ClassId;
 use kilim_units::{NoMemory, Seq};
 use std::alloc::Global;
 

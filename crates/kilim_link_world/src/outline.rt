@@ -1,6 +1,6 @@
 //! Classes without their members.
 
-use kilim_classes::{Class, Form};
+use kilim_program::{Class, Form};
 use kilim_units::Seq;
 use std::marker::Model;
 
@@ -15,9 +15,9 @@ pub struct Outline {
 
 impl Model for Outline {
     ghost use Rattle.std.specs.Prelude.{◌≡◌, length};
-    ghost use Rattle.kilim_classes.specs.BuiltIn.{class_id};
-    ghost use Rattle.kilim_classes.specs.Names.{is_task};
-    ghost use Rattle.kilim_classes.specs.Program as parts;
+    ghost use Rattle.kilim_program.specs.BuiltIn.{class_id};
+    ghost use Rattle.kilim_program.specs.Names.{is_task};
+    ghost use Rattle.kilim_program.specs.Program as parts;
     ghost use Rattle.kilim_link_world.specs.Agrees.{each_below};
     ghost use Rattle.kilim_link_world.specs.Outlining.{bare};
 

@@ -8,8 +8,8 @@ ghost use Rattle.kilim_link_world.specs.Outlining.{superclass_in, without_member
 use crate::ids::Ids;
 use crate::outline::Outline;
 use crate::tasks::{message_marks, task_marks};
-use kilim_classes::{Class, ClassId, Form};
 use kilim_link_spec::ClassView;
+use kilim_program::{Class, ClassId, Form};
 use kilim_units::{NoMemory, Seq, Units};
 use std::alloc::Global;
 

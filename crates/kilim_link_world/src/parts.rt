@@ -2,13 +2,13 @@
 
 ghost use Rattle.std.specs.Prelude.{◌≡◌, ◌<◌, ◌==◌, ◌^◌, List, ℕ, IfOk, is_some, length, option_map, slice_get, sum_by};
 ghost use Rattle.std.specs.List.{list_any};
-ghost use Rattle.kilim_classes.specs.declared.names.ClassId as number;
-ghost use Rattle.kilim_classes.specs.BuiltIn.{method_id};
-ghost use Rattle.kilim_classes.specs.Names.{line_of};
-ghost use Rattle.kilim_classes.specs.Program.{Program};
-ghost use Rattle.kilim_inherited.specs.Index.{places_from};
-ghost use Rattle.kilim_inherited.specs.Known.{known};
-ghost use Rattle.kilim_inherited.specs.Roots.{inherits};
+ghost use Rattle.kilim_program.specs.declared.names.ClassId as number;
+ghost use Rattle.kilim_program.specs.BuiltIn.{method_id};
+ghost use Rattle.kilim_program.specs.Names.{line_of};
+ghost use Rattle.kilim_program.specs.Program.{Program};
+ghost use Rattle.kilim_link_inherited.specs.Index.{places_from};
+ghost use Rattle.kilim_link_inherited.specs.Known.{known};
+ghost use Rattle.kilim_link_inherited.specs.Roots.{inherits};
 ghost use Rattle.kilim_link_spec.specs.World.{outline_of, is_method, methods_at, field_id, find_method, find_field};
 ghost use Rattle.kilim_link_world.specs.Agrees.{Agrees, method_count, field_count, firsts_of, indexed};
 ghost use Rattle.kilim_link_world.specs.Ids.{id_in, named_in};
@@ -19,9 +19,9 @@ use crate::lineages::lineages_of;
 use crate::members::{field_firsts, method_firsts, method_indices};
 use crate::nearest::{nearest_fields, nearest_methods};
 use crate::outline::Outline;
-use kilim_classes::{ClassId, Form};
-use kilim_inherited::{Index, Inherited, Nearest};
+use kilim_link_inherited::{Index, Inherited, Nearest};
 use kilim_link_spec::ClassView;
+use kilim_program::{ClassId, Form};
 use kilim_units::{NoMemory, Seq};
 use std::alloc::Global;
 

@@ -1,12 +1,12 @@
 //! Members by their places and numbers.
 
 ghost use Rattle.std.specs.Prelude.{◌≡◌, ◌<◌, ◌-◌, length, min, option_map, slice_index};
-ghost use Rattle.kilim_classes.specs.BuiltIn.{method_id};
+ghost use Rattle.kilim_program.specs.BuiltIn.{method_id};
 ghost use Rattle.kilim_link_spec.specs.World.{field_id};
 ghost use Rattle.kilim_link_world.specs.Agrees.{indexed};
 
-use kilim_classes::{ClassId, FieldId, MethodId};
-use kilim_inherited::{Index, Signature};
+use kilim_link_inherited::{Index, Signature};
+use kilim_program::{ClassId, FieldId, MethodId};
 use kilim_units::Seq;
 
 /// The places of a member among those of its class, none where it has none.

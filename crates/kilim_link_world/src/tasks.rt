@@ -2,15 +2,15 @@
 
 ghost use Rattle.std.specs.Prelude.{◌≡◌, ◌<◌, ◌^◌, IfOk, codes, length, map};
 ghost use Rattle.std.specs.Str.{bytes_eq};
-ghost use Rattle.kilim_classes.specs.declared.class.Form.{Form};
-ghost use Rattle.kilim_classes.specs.BuiltIn.{class_id};
-ghost use Rattle.kilim_classes.specs.Names.{is_task};
+ghost use Rattle.kilim_program.specs.declared.class.Form.{Form};
+ghost use Rattle.kilim_program.specs.BuiltIn.{class_id};
+ghost use Rattle.kilim_program.specs.Names.{is_task};
 ghost use Rattle.kilim_link_spec.specs.World.{is_message_by};
 ghost use Rattle.kilim_link_world.specs.Agrees.{each_below};
 ghost use Rattle.kilim_link_world.specs.Outlining.{bare, mark_at};
 
 use crate::marks::inherited_marks;
-use kilim_classes::{Class, ClassId};
+use kilim_program::{Class, ClassId};
 use kilim_units::{NoMemory, Seq};
 use std::alloc::Global;
 

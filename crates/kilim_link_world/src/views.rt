@@ -1,13 +1,13 @@
 //! The classes as they are declared.
 
 ghost use Rattle.std.specs.Prelude.{◌≡◌, ◌++◌, IfOk, map};
-ghost use Rattle.kilim_classes.specs.BuiltIn.{built_in_classes_in};
+ghost use Rattle.kilim_program.specs.BuiltIn.{built_in_classes_in};
 ghost use Rattle.kilim_link_spec.specs.World.{built_ins, view_of_built_in, view_of_file};
 
-use kilim_classes::Form;
-use kilim_classfile::ClassFile;
+use kilim_class_file::ClassFile;
 use kilim_link_spec::ClassView;
 use kilim_link_views::{built_in_views, view_of_file};
+use kilim_program::Form;
 use kilim_units::{NoMemory, Seq};
 use std::alloc::Global;
 

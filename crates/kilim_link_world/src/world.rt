@@ -2,22 +2,22 @@
 
 ghost use Rattle.std.specs.Prelude.{◌≡◌, ◌<◌, ◌≤◌, ◌^◌, IfOk, length, option_copied, sum_by};
 ghost use Rattle.std.specs.List.{AllByRecursion};
-ghost use Rattle.kilim_classfile.specs.Text.{ClassFits};
+ghost use Rattle.kilim_class_file.specs.Text.{ClassFits};
 ghost use Rattle.kilim_link_spec.specs.Faults.{is_circular};
 ghost use Rattle.kilim_link_spec.specs.World.{world_of, world_with, class_of, view_at, declared_methods, first_method, first_field, is_method, find_method, find_field};
-ghost use Rattle.kilim_classes.specs.Keeps.{ancestors_of};
+ghost use Rattle.kilim_program.specs.Keeps.{ancestors_of};
 ghost use Rattle.kilim_link_world.specs.Agrees.{method_count, field_count};
 ghost use Rattle.kilim_link_world.specs.Superclasses.{AreSuperclasses};
-ghost use Rattle.kilim_inherited.specs.Index.{places_from};
+ghost use Rattle.kilim_link_inherited.specs.Index.{places_from};
 
 use crate::outline::Outline;
 use crate::parts::{Parts, parts_of};
 use crate::search::{field_of, first_in, method_of, places_in};
 use crate::views::views_of;
-use kilim_classes::{ClassId, FieldId, Form, MethodId};
-use kilim_classfile::ClassFile;
-use kilim_inherited::Signature;
+use kilim_class_file::ClassFile;
+use kilim_link_inherited::Signature;
 use kilim_link_spec::ClassView;
+use kilim_program::{ClassId, FieldId, Form, MethodId};
 use kilim_units::{NoMemory, Seq, Units};
 use std::alloc::Global;
 use std::marker::Model;

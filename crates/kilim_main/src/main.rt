@@ -1,8 +1,8 @@
 //! The command `kilim`: runs class files of isolation-typed actors.
 #![tactic(auto)]
 
+use kilim_command::complain;
 use kilim_top::command;
-use kilim_top_parts::complain;
 use std::process::ExitCode;
 
 fn main(rt: HostRuntime) -> ExitCode {

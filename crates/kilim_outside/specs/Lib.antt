@@ -1,4 +1,4 @@
 pub mod Files
 pub mod Causes
 pub mod Asked
-pub mod words
+pub mod written

@@ -12,7 +12,7 @@ mod memory_folder;
 mod memory_sink;
 mod real;
 mod sink;
-pub mod words;
+pub mod written;
 
 pub use folder::{FailedCall, Folder, FolderFault};
 pub use gate::{Gate, OpenGate};

@@ -1,13 +1,13 @@
 -- The line of a class file that can't be read: the name of the file as the words give it, and its first fault.
 use Rattle.std.specs.Prelude.{◌≡◌, ℕ, List, [], ◌∷◌, ◌++◌, codes}
 use Rattle.std.specs.Fmt.{decimal}
-use Rattle.kilim_constant_pool.specs.declared.fault.PoolFault.{PoolFault}
-use Rattle.kilim_constant_pool.specs.declared.fault.PoolFault.TheVariants as of_pool
-use Rattle.kilim_attribute_parts.specs.declared.fault.AttributeFault.{AttributeFault}
-use Rattle.kilim_attribute_parts.specs.declared.fault.AttributeFault.TheVariants as of_attribute
-use Rattle.kilim_attribute_parts.specs.Names as attribute_name
-use Rattle.kilim_classfile.specs.declared.fault.ClassFault.{ClassFault}
-use Rattle.kilim_classfile.specs.declared.fault.ClassFault.TheVariants as fault
+use Rattle.kilim_class_pool.specs.declared.fault.PoolFault.{PoolFault}
+use Rattle.kilim_class_pool.specs.declared.fault.PoolFault.TheVariants as of_pool
+use Rattle.kilim_class_attributes.specs.declared.parts.fault.AttributeFault.{AttributeFault}
+use Rattle.kilim_class_attributes.specs.declared.parts.fault.AttributeFault.TheVariants as of_attribute
+use Rattle.kilim_class_attributes.specs.parts.Names as attribute_name
+use Rattle.kilim_class_file.specs.declared.fault.ClassFault.{ClassFault}
+use Rattle.kilim_class_file.specs.declared.fault.ClassFault.TheVariants as fault
 use Rattle.kilim_reports.specs.Names.{method_text}
 
 -- a word and a number, or two

@@ -2,8 +2,8 @@
 -- brackets, whatever it names.
 use Rattle.std.specs.Prelude.{ℕ, List, [], ◌++◌, codes}
 use Rattle.std.specs.Fmt.{decimal}
-use Rattle.kilim_bytecode.specs.declared.fault.CodeFault.{CodeFault}
-use Rattle.kilim_bytecode.specs.declared.fault.CodeFault.TheVariants as code
+use Rattle.kilim_class_code.specs.declared.fault.CodeFault.{CodeFault}
+use Rattle.kilim_class_code.specs.declared.fault.CodeFault.TheVariants as code
 use Rattle.kilim_link_spec.specs.declared.fault.LeftOutPart.{LeftOutPart}
 use Rattle.kilim_link_spec.specs.declared.fault.LeftOutPart.TheVariants as part
 use Rattle.kilim_link_spec.specs.declared.fault.MemberOf.{MemberOf}

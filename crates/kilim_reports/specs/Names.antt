@@ -4,7 +4,7 @@ use Rattle.std.specs.Prelude.{◌≡◌, ℕ, Bool, ◌||◌, ◌==◌, if◌the
 use Rattle.std.specs.List.{flat_map}
 use Rattle.std.specs.Str.{bytes_eq}
 use Rattle.kilim_units.specs.NameText.{name_unit, name_text}
-use Rattle.kilim_classfile.specs.declared.fault.MemberName.{MemberName}
+use Rattle.kilim_class_file.specs.declared.fault.MemberName.{MemberName}
 
 unfoldable pub member_name_text : List ℕ → List ℕ
 member_name_text name = if bytes_eq name (codes "<init>") then codes "<init>" else name_text name

@@ -2,12 +2,12 @@
 use Rattle.std.specs.Prelude.{ℕ, List, [], ◌∷◌, ◌++◌, Option, Some, None, codes}
 use Rattle.std.specs.Fmt.{decimal}
 use Rattle.std.specs.List.{flat_map}
-use Rattle.kilim_classes.specs.declared.class.Method.{Method}
-use Rattle.kilim_classes.specs.declared.names.MethodId.{MethodId}
-use Rattle.kilim_classes.specs.Names.{class_name, method_at}
-use Rattle.kilim_classes.specs.Program.{Program}
+use Rattle.kilim_program.specs.declared.class.Method.{Method}
+use Rattle.kilim_program.specs.declared.names.MethodId.{MethodId}
+use Rattle.kilim_program.specs.Names.{class_name, method_at}
+use Rattle.kilim_program.specs.Program.{Program}
 use Rattle.kilim_link_spec.specs.World.{method_descriptor}
-use Rattle.kilim_pausable_graph.specs.declared.report.Report.{Report}
+use Rattle.kilim_isolation_pauses.specs.declared.report.Report.{Report}
 use Rattle.kilim_reports.specs.Names.{member_name_text, descriptor_text}
 
 -- the class that declares it, and its name and descriptor

@@ -7,9 +7,9 @@ ghost use Rattle.kilim_reports.specs.Names.{method_text};
 use crate::lines::push_number;
 use crate::names::push_method;
 use crate::texts::{push, push_both};
-use kilim_attribute_parts::AttributeFault;
-use kilim_classfile::{ClassFault, MemberName};
-use kilim_constant_pool::PoolFault;
+use kilim_class_attributes::parts::AttributeFault;
+use kilim_class_file::{ClassFault, MemberName};
+use kilim_class_pool::PoolFault;
 use kilim_units::NoMemory;
 use std::alloc::Global;
 

@@ -3,17 +3,17 @@
 ghost use Rattle.std.specs.Prelude.{◌≡◌, ◌++◌, IfOk, OnOk, codes};
 ghost use Rattle.std.specs.Fmt.{decimal};
 ghost use Rattle.std.specs.List.{flat_map};
-ghost use Rattle.kilim_classes.specs.Names.{class_name, method_at};
+ghost use Rattle.kilim_program.specs.Names.{class_name, method_at};
 ghost use Rattle.kilim_link_spec.specs.World.{method_descriptor};
 ghost use Rattle.kilim_reports.specs.Names.{member_name_text, descriptor_text};
 ghost use Rattle.kilim_reports.specs.RuleLines as spec;
 
 use crate::names::{push_member_name, push_named};
 use crate::texts::push;
-use kilim_classes::lookups::{class_at, method_at};
-use kilim_classes::{ClassId, Method, MethodId, Program};
+use kilim_isolation_pauses::Report;
 use kilim_link_views::method_descriptor;
-use kilim_pausable_graph::Report;
+use kilim_program::lookups::{class_at, method_at};
+use kilim_program::{ClassId, Method, MethodId, Program};
 use kilim_units::NoMemory;
 use std::alloc::Global;
 

@@ -6,7 +6,7 @@ ghost use Rattle.kilim_reports.specs.Names.{member_name_text, descriptor_unit, d
 ghost use Rattle.kilim_units.specs.NameText.{name_text};
 
 use crate::texts::push;
-use kilim_classfile::MemberName;
+use kilim_class_file::MemberName;
 use kilim_units::{NoMemory, Units, push_name};
 use std::alloc::Global;
 

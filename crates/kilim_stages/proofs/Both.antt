@@ -1,19 +1,19 @@
 -- No files are both accepted and reported, and they link to no two programs.
 use Rattle.std.proofs.Common.{◌≡◌, ◌⊎◌, ℕ, suc, List, [], ◌∷◌, length, Option, Some, None, Result, Ok, Err, refl, sym, ap, subst, ◌∙◌, inl, inr}
 use Rattle.std.specs.List.{AllByRecursion}
-use Rattle.kilim_classes.specs.declared.class.Form.TheVariants.{Plain}
-use Rattle.kilim_classes.specs.declared.names.MethodId.{MethodId}
-use Rattle.kilim_classes.specs.Program.{Program}
-use Rattle.kilim_classfile.specs.declared.class_file.ClassFile.{ClassFile}
-use Rattle.kilim_classfile.specs.declared.fault.ClassFault.{ClassFault}
-use Rattle.kilim_classfile.specs.Text.{ClassFits}
-use Rattle.kilim_classfile.specs.Reading.{read_class}
-use Rattle.kilim_classfile.specs.Law.{ClassFilesAreSpelled}
+use Rattle.kilim_program.specs.declared.class.Form.TheVariants.{Plain}
+use Rattle.kilim_program.specs.declared.names.MethodId.{MethodId}
+use Rattle.kilim_program.specs.Program.{Program}
+use Rattle.kilim_class_file.specs.declared.class_file.ClassFile.{ClassFile}
+use Rattle.kilim_class_file.specs.declared.fault.ClassFault.{ClassFault}
+use Rattle.kilim_class_file.specs.Text.{ClassFits}
+use Rattle.kilim_class_file.specs.Reading.{read_class}
+use Rattle.kilim_class_file.specs.Law.{ClassFilesAreSpelled}
 use Rattle.kilim_link_spec.specs.declared.fault.LinkFault.{LinkFault}
 use Rattle.kilim_link_spec.specs.Faults as link
 use Rattle.kilim_link_spec.specs.Linked.{Linked, OneProgram, first_of}
-use Rattle.kilim_typing.specs.Faults.{first_type_fault}
-use Rattle.kilim_isolation_check.specs.Faults.{AreReports}
+use Rattle.kilim_type_spec.specs.Faults.{first_type_fault}
+use Rattle.kilim_isolation.specs.Faults.{AreReports}
 use Rattle.kilim_stages.specs.ProgramOf.{IsFile, AreFiles, IsProgramOf}
 use Rattle.kilim_stages.specs.Accepted.{IsAcceptedOf, typed_of}
 use Rattle.kilim_stages.specs.Reports.{or_fault, first_fault, IsStageReport}

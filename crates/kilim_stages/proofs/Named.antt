@@ -1,8 +1,8 @@
 -- Class files by their names: the classes of the first files, and the first file that is none.
 use Rattle.std.proofs.Common.{◌≡◌, ℕ, zero, suc, ◌+◌, ◌<◌, List, [], ◌∷◌, ◌++◌, Option, Some, None, Result, Ok, Err, refl, sym, ap, subst, ◌∙◌, length, map, take, drop, slice_index_or, arith}
-use Rattle.kilim_classfile.specs.declared.class_file.ClassFile.{ClassFile}
-use Rattle.kilim_classfile.specs.declared.fault.ClassFault.{ClassFault}
-use Rattle.kilim_classfile.specs.Reading.{read_class}
+use Rattle.kilim_class_file.specs.declared.class_file.ClassFile.{ClassFile}
+use Rattle.kilim_class_file.specs.declared.fault.ClassFault.{ClassFault}
+use Rattle.kilim_class_file.specs.Reading.{read_class}
 use Rattle.kilim_stages.specs.declared.refusal.Refusal.{Refusal}
 use Rattle.kilim_stages.specs.declared.refusal.Refusal.TheVariants as refusals
 use Rattle.kilim_stages.specs.ProgramOf.{IsFile, AreFiles}

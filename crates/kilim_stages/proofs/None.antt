@@ -1,24 +1,24 @@
 -- An accepted program has no reports.
 use Rattle.std.proofs.Common.{◌≡◌, ◌≢◌, ◌∙◌, sym, refl, subst, ap, ℕ, Bool, true, false, List, [], ◌∷◌, ◌++◌, Option, Some, None, Result, Ok, Err}
-use Rattle.kilim_classes.specs.declared.class.Method.{Method}
-use Rattle.kilim_classes.specs.declared.names.MethodId.{MethodId}
-use Rattle.kilim_classes.specs.declared.verified.Frame.{Frame}
-use Rattle.kilim_classes.specs.Names.{method_at}
-use Rattle.kilim_classes.specs.Program.{Program}
-use Rattle.kilim_typing.specs.Typed.{has_code}
-use Rattle.kilim_typing.specs.TypedProgram.{TypedProgram}
-use Rattle.kilim_paths.specs.declared.report.Explored.{Explored}
-use Rattle.kilim_paths.specs.declared.report.Explored.TheVariants.{Faults, Crowded}
-use Rattle.kilim_paths.specs.declared.report.Report as paths
-use Rattle.kilim_paths.specs.Answer.{AreFaults, IsAnswer, IsReported}
-use Rattle.kilim_paths.specs.Folds.{FoldFails}
-use Rattle.kilim_paths.specs.Paths.{Machine, IsCrowded, Has}
-use Rattle.kilim_paths.proofs.Same.{fold_of}
-use Rattle.kilim_shape_graph.specs.declared.graph.Graph.{Graph}
-use Rattle.kilim_pausable_graph.specs.declared.report.Report.{Report}
-use Rattle.kilim_pausable_graph.specs.Pausing.{all_methods, frames_at, reports_of}
-use Rattle.kilim_isolation_check.specs.Faults.{ArePathReports, ArePathsIf, ArePathsOf, AreReports, AreReportsOf, AreReportsOfAll, IsAccepted, earlier, later, merged, shown}
-use Rattle.kilim_isolation_check.specs.Walks.{entry_graph, machine_of}
+use Rattle.kilim_program.specs.declared.class.Method.{Method}
+use Rattle.kilim_program.specs.declared.names.MethodId.{MethodId}
+use Rattle.kilim_program.specs.declared.verified.Frame.{Frame}
+use Rattle.kilim_program.specs.Names.{method_at}
+use Rattle.kilim_program.specs.Program.{Program}
+use Rattle.kilim_type_spec.specs.Typed.{has_code}
+use Rattle.kilim_type_spec.specs.TypedProgram.{TypedProgram}
+use Rattle.kilim_isolation_paths.specs.declared.report.Explored.{Explored}
+use Rattle.kilim_isolation_paths.specs.declared.report.Explored.TheVariants.{Faults, Crowded}
+use Rattle.kilim_isolation_paths.specs.declared.report.Report as paths
+use Rattle.kilim_isolation_paths.specs.Answer.{AreFaults, IsAnswer, IsReported}
+use Rattle.kilim_isolation_paths.specs.Folds.{FoldFails}
+use Rattle.kilim_isolation_paths.specs.Paths.{Machine, IsCrowded, Has}
+use Rattle.kilim_isolation_paths.proofs.Same.{fold_of}
+use Rattle.kilim_isolation_graph.specs.declared.graph.Graph.{Graph}
+use Rattle.kilim_isolation_pauses.specs.declared.report.Report.{Report}
+use Rattle.kilim_isolation_pauses.specs.Pausing.{all_methods, frames_at, reports_of}
+use Rattle.kilim_isolation.specs.Faults.{ArePathReports, ArePathsIf, ArePathsOf, AreReports, AreReportsOf, AreReportsOfAll, IsAccepted, earlier, later, merged, shown}
+use Rattle.kilim_isolation.specs.Walks.{entry_graph, machine_of}
 
 append_none : {A : Type 0} (xs ys : List A) → xs ++ ys ≡ [] → (xs ≡ []) × (ys ≡ [])
 append_none [] ys e = (refl, e)

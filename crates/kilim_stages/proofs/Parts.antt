@@ -1,11 +1,11 @@
 -- From stage to stage: what is handed on, and what is reported.
 use Rattle.std.proofs.Common.{◌≡◌, ◌⊎◌, ℕ, List, Option, Some, None, Result, Ok, Err, refl, sym, ap, subst, ◌∙◌, inl, inr}
 use Rattle.std.specs.Prelude.{IfOk}
-use Rattle.kilim_classes.specs.Program.{Program}
-use Rattle.kilim_classfile.specs.declared.class_file.ClassFile.{ClassFile}
-use Rattle.kilim_isolation_check.specs.IsolatedProgram.{IsolatedProgram}
-use Rattle.kilim_isolation_check.specs.Faults.{IsAccepted}
-use Rattle.kilim_typing.specs.TypedProgram.{TypedProgram}
+use Rattle.kilim_program.specs.Program.{Program}
+use Rattle.kilim_class_file.specs.declared.class_file.ClassFile.{ClassFile}
+use Rattle.kilim_isolation.specs.IsolatedProgram.{IsolatedProgram}
+use Rattle.kilim_isolation.specs.Faults.{IsAccepted}
+use Rattle.kilim_type_spec.specs.TypedProgram.{TypedProgram}
 use Rattle.kilim_stages.specs.declared.refusal.Refusal.{Refusal}
 use Rattle.kilim_stages.specs.declared.refusal.Refusal.TheVariants as refusal
 use Rattle.kilim_stages.specs.ProgramOf.{AreFiles, IsProgramOf}

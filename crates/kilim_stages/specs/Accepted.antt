@@ -1,10 +1,10 @@
 -- Which programs are accepted: no rule of typing is broken, and no rule of isolation or pausing.
 use Rattle.std.specs.Prelude.{◌≡◌, ℕ, List, None}
-use Rattle.kilim_classes.specs.Program.{Program}
-use Rattle.kilim_typing.specs.Typed.{listed_frames}
-use Rattle.kilim_typing.specs.Faults.{first_type_fault}
-use Rattle.kilim_typing.specs.TypedProgram.{TypedProgram}
-use Rattle.kilim_isolation_check.specs.Faults.{IsAccepted}
+use Rattle.kilim_program.specs.Program.{Program}
+use Rattle.kilim_type_spec.specs.Typed.{listed_frames}
+use Rattle.kilim_type_spec.specs.Faults.{first_type_fault}
+use Rattle.kilim_type_spec.specs.TypedProgram.{TypedProgram}
+use Rattle.kilim_isolation.specs.Faults.{IsAccepted}
 use Rattle.kilim_stages.specs.ProgramOf.{IsProgramOf}
 
 -- the program with the frames of verification at its places

@@ -1,6 +1,6 @@
 -- Laws: the same bytes link to no two programs, and no files are both accepted and reported.
 use Rattle.std.specs.Prelude.{◌≡◌, ℕ, List}
-use Rattle.kilim_classes.specs.Program.{Program}
+use Rattle.kilim_program.specs.Program.{Program}
 use Rattle.kilim_stages.specs.ProgramOf.{IsProgramOf}
 use Rattle.kilim_stages.specs.Accepted.{IsAcceptedOf}
 use Rattle.kilim_stages.specs.Reports.{IsStageReport}

@@ -3,5 +3,4 @@ pub mod Accepted
 pub mod Reports
 pub mod Laws
 pub mod Parts
-pub mod class_world
 pub mod woven_stage

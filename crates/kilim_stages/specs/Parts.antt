@@ -1,25 +1,25 @@
 -- How the stages hand on what they answer. No clause of `accepted` cites what stands here but `IfReport`.
 use Rattle.std.specs.Prelude.{◌≡◌, ◌≢◌, ℕ, List, [], Option, Some, None, Result, Ok, Err, ◌⊎◌}
-use Rattle.kilim_classes.specs.declared.class.Form.TheVariants.{Plain}
-use Rattle.kilim_classes.specs.declared.names.MethodId.{MethodId}
-use Rattle.kilim_classes.specs.Program.{Program}
-use Rattle.kilim_classfile.specs.declared.class_file.ClassFile.{ClassFile}
-use Rattle.kilim_classfile.specs.declared.fault.ClassFault.{ClassFault}
-use Rattle.kilim_classfile.specs.Reading.{read_class}
+use Rattle.kilim_program.specs.declared.class.Form.TheVariants.{Plain}
+use Rattle.kilim_program.specs.declared.names.MethodId.{MethodId}
+use Rattle.kilim_program.specs.Program.{Program}
+use Rattle.kilim_class_file.specs.declared.class_file.ClassFile.{ClassFile}
+use Rattle.kilim_class_file.specs.declared.fault.ClassFault.{ClassFault}
+use Rattle.kilim_class_file.specs.Reading.{read_class}
 use Rattle.kilim_reports.specs.ClassLines.{class_line}
 use Rattle.kilim_link_spec.specs.declared.fault.LinkFault.TheVariants.{InClass}
 use Rattle.kilim_link_spec.specs.declared.fault.Problem.{Problem}
 use Rattle.kilim_link_spec.specs.Faults.{link_faults, first_fault}
 use Rattle.kilim_link_spec.specs.Linked.{Linked}
 use Rattle.kilim_reports.specs.LinkLines.{link_line}
-use Rattle.kilim_typing.specs.Faults.{first_type_fault}
-use Rattle.kilim_isolation_check.specs.Faults.{AreReports, IsAccepted}
-use Rattle.kilim_isolation_check.specs.IsolatedProgram.{IsolatedProgram}
-use Rattle.kilim_pausable_graph.specs.declared.report.Report.{Report}
+use Rattle.kilim_type_spec.specs.Faults.{first_type_fault}
+use Rattle.kilim_isolation.specs.Faults.{AreReports, IsAccepted}
+use Rattle.kilim_isolation.specs.IsolatedProgram.{IsolatedProgram}
+use Rattle.kilim_isolation_pauses.specs.declared.report.Report.{Report}
 use Rattle.kilim_reports.specs.RuleLines.{fault_lines, type_line}
 use Rattle.kilim_stages.specs.declared.refusal.Refusal.{Refusal}
 use Rattle.kilim_stages.specs.declared.refusal.Refusal.TheVariants as refusal
-use Rattle.kilim_typing.specs.TypedProgram.{TypedProgram}
+use Rattle.kilim_type_spec.specs.TypedProgram.{TypedProgram}
 use Rattle.kilim_stages.specs.Accepted.{typed_of, Accepts}
 
 -- where a report was made in place of a value, this is said of its text

@@ -1,9 +1,9 @@
 -- The class files with some bytes, and the program to which they link.
 use Rattle.std.specs.Prelude.{◌≡◌, ℕ, List, [], ◌∷◌}
-use Rattle.kilim_classfile.specs.declared.class_file.ClassFile.{ClassFile}
-use Rattle.kilim_classfile.specs.Text.{class_text, ClassFits}
-use Rattle.kilim_classes.specs.declared.class.Form.TheVariants.{Plain}
-use Rattle.kilim_classes.specs.Program.{Program}
+use Rattle.kilim_class_file.specs.declared.class_file.ClassFile.{ClassFile}
+use Rattle.kilim_class_file.specs.Text.{class_text, ClassFits}
+use Rattle.kilim_program.specs.declared.class.Form.TheVariants.{Plain}
+use Rattle.kilim_program.specs.Program.{Program}
 use Rattle.kilim_link_spec.specs.Faults.{link_faults}
 use Rattle.kilim_link_spec.specs.Linked.{Linked}
 

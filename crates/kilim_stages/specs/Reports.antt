@@ -1,20 +1,20 @@
 -- The reports of the stages that come before a program is accepted: reading, linking, typing, and the rules of isolation and
 -- pausing. The first stage that has a fault is reported.
 use Rattle.std.specs.Prelude.{◌≡◌, ◌≢◌, ℕ, List, [], ◌∷◌, Option, Some, None, Result, Ok, Err, ◌⊎◌}
-use Rattle.kilim_classes.specs.declared.class.Form.TheVariants.{Plain}
-use Rattle.kilim_classes.specs.declared.names.MethodId.{MethodId}
-use Rattle.kilim_classes.specs.Program.{Program}
-use Rattle.kilim_classfile.specs.declared.class_file.ClassFile.{ClassFile}
-use Rattle.kilim_classfile.specs.declared.fault.ClassFault.{ClassFault}
-use Rattle.kilim_classfile.specs.Reading.{read_class}
+use Rattle.kilim_program.specs.declared.class.Form.TheVariants.{Plain}
+use Rattle.kilim_program.specs.declared.names.MethodId.{MethodId}
+use Rattle.kilim_program.specs.Program.{Program}
+use Rattle.kilim_class_file.specs.declared.class_file.ClassFile.{ClassFile}
+use Rattle.kilim_class_file.specs.declared.fault.ClassFault.{ClassFault}
+use Rattle.kilim_class_file.specs.Reading.{read_class}
 use Rattle.kilim_reports.specs.ClassLines.{class_line}
 use Rattle.kilim_link_spec.specs.declared.fault.LinkFault.TheVariants.{InClass}
 use Rattle.kilim_link_spec.specs.declared.fault.Problem.{Problem}
 use Rattle.kilim_link_spec.specs.Faults as link
 use Rattle.kilim_reports.specs.LinkLines.{link_line}
-use Rattle.kilim_typing.specs.Faults.{first_type_fault}
-use Rattle.kilim_isolation_check.specs.Faults.{AreReports}
-use Rattle.kilim_pausable_graph.specs.declared.report.Report.{Report}
+use Rattle.kilim_type_spec.specs.Faults.{first_type_fault}
+use Rattle.kilim_isolation.specs.Faults.{AreReports}
+use Rattle.kilim_isolation_pauses.specs.declared.report.Report.{Report}
 use Rattle.kilim_reports.specs.RuleLines.{fault_lines, type_line}
 use Rattle.kilim_stages.specs.ProgramOf.{AreFiles, IsProgramOf}
 use Rattle.kilim_stages.specs.Accepted.{typed_of}

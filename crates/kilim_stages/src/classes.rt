@@ -3,14 +3,14 @@
 ghost use Rattle.std.specs.Prelude.{◌≡◌, Ok, length, map, IfOk};
 ghost use Rattle.std.specs.List.{AllByRecursion};
 ghost use Rattle.std.specs.String.{string_bytes};
-ghost use Rattle.kilim_classfile.specs.Reading.{read_class};
+ghost use Rattle.kilim_class_file.specs.Reading.{read_class};
 ghost use Rattle.kilim_reports.specs.ClassLines.{class_line};
 ghost use Rattle.kilim_stages.specs.Parts.{Refused, IfReport, IsFaultLine};
 ghost use Rattle.kilim_stages.specs.Reports.{IsClassReport};
 ghost use Rattle.kilim_stages.specs.ProgramOf.{IsFile, AreFiles};
 
 use crate::refusal::Refusal;
-use kilim_classfile::{ClassFault, ClassFile};
+use kilim_class_file::{ClassFault, ClassFile};
 use kilim_units::Seq;
 use std::alloc::Global;
 
@@ -30,7 +30,7 @@ fn class_file(alloc: Global, name: &str, bytes: &[u8]) -> Result<ClassFile, Refu
     ensures read { IfOk result (λ file. read_class bytes.now ≡ Ok file) }
     ensures report { IfReport result (λ text. IsFaultLine name.now bytes.now text) }
 {
-    match kilim_classfile::read(alloc, bytes) {
+    match kilim_class_file::read(alloc, bytes) {
         Ok(file) => Ok(file),
         Err(ClassFault::Memory) => Err(Refusal::NoMemory),
         Err(fault) => Err(refused(alloc, name, &fault)),

@@ -2,10 +2,10 @@
 
 ghost use Rattle.std.specs.Prelude.{◌≡◌, length};
 ghost use Rattle.std.specs.List.{filter};
-ghost use Rattle.kilim_typing.specs.Typed.{has_code};
+ghost use Rattle.kilim_type_spec.specs.Typed.{has_code};
 
-use kilim_classes::{Method, Program};
-use kilim_isolation_check::Isolated;
+use kilim_isolation::Isolated;
+use kilim_program::{Method, Program};
 
 fn has_code(method: &Method) -> bool
     ensures { result ≡ has_code method.now }

@@ -2,7 +2,7 @@
 
 ghost use Rattle.kilim_stages.specs.Laws.{NeverBoth, OneProgramOf};
 
-use kilim_classfile::class_file_is_spelled;
+use kilim_class_file::class_file_is_spelled;
 use kilim_link_spec::one_program;
 
 /// A law, and no work: the same bytes link to no two programs.

@@ -2,7 +2,6 @@
 //! linking, typing, and the rules of isolation and pausing.
 #![tactic(auto)]
 
-pub mod class_world;
 mod classes;
 mod counts;
 mod laws;

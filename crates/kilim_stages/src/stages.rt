@@ -3,23 +3,23 @@
 ghost use Rattle.std.specs.Prelude.{◌≡◌, ◌≤◌, length, map, IfOk};
 ghost use Rattle.std.specs.List.{AllByRecursion};
 ghost use Rattle.std.specs.String.{string_bytes};
-ghost use Rattle.kilim_classfile.specs.Text.{ClassFits};
+ghost use Rattle.kilim_class_file.specs.Text.{ClassFits};
 ghost use Rattle.kilim_reports.specs.LinkLines.{link_line};
 ghost use Rattle.kilim_reports.specs.RuleLines.{fault_lines, type_line};
 ghost use Rattle.kilim_stages.specs.Accepted.{IsAcceptedOf};
 ghost use Rattle.kilim_stages.specs.Parts.{Refused, IfReport, IsAcceptedBy, IsAcceptedFrom, IsIsolated, IsLinkLine, IsReportOf, IsReportOfClasses, IsTypeLine, IsTyped, LinksTo, AreRuleLinesOf};
 ghost use Rattle.kilim_stages.specs.Reports.{IsStageReport};
 
-use crate::class_world::link;
 use crate::classes::classes_of;
 use crate::refusal::Refusal;
-use kilim_classes::{Form, MethodId, Program};
-use kilim_classfile::ClassFile;
-use kilim_isolation_check::{CheckFault, Isolated, Report, check_program};
+use kilim_class_file::ClassFile;
+use kilim_isolation::{CheckFault, Isolated, Report, check_program};
+use kilim_link::link;
 use kilim_link_spec::{LinkFault, Problem};
+use kilim_program::{Form, MethodId, Program};
 use kilim_reports::{fault_lines, link_line, type_line};
+use kilim_type_spec::Typed;
 use kilim_type_verify::{TypeFault, verify};
-use kilim_typing::Typed;
 use kilim_units::{Seq, Units};
 use std::alloc::Global;
 

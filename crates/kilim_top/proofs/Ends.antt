@@ -2,8 +2,8 @@
 use Rattle.std.proofs.Common.{◌≡◌, ◌⊎◌, ◌<◌, ◌≤◌, ℕ, List, Option, Some, None, refl, sym, subst, inl, inr, arith}
 use Rattle.kilim_outside.specs.declared.folder.FailedCall.{FailedCall}
 use Rattle.kilim_outside.specs.Files.{Files}
-use Rattle.kilim_outside.specs.words.Words.{Request, files_read}
-use Rattle.kilim_top_parts.specs.Reads.{OneFailed}
+use Rattle.kilim_command.specs.grammar.Words.{Request, files_read}
+use Rattle.kilim_command.specs.Reads.{OneFailed}
 use Rattle.kilim_top.specs.Outcome.{FailedAtMost, HasReport, IsFit, Outside, Promises, shown}
 use Rattle.kilim_top.proofs.TopLaws.{not_still, some_work}
 

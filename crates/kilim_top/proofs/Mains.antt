@@ -1,10 +1,10 @@
 -- The main class.
 use Rattle.std.proofs.Common.{◌≡◌, ℕ, Bool, true, false, cond, List, Option, Some, None, refl, sym, subst}
-use Rattle.kilim_classes.specs.declared.names.ClassId.{ClassId}
-use Rattle.kilim_classes.specs.Names.{class_named}
-use Rattle.kilim_classes.specs.Program.{Program}
-use Rattle.kilim_classes.specs.main_class.Main.{fit_class_named, if_fit}
-use Rattle.kilim_classes.specs.machine.Members.{is_fit_main}
+use Rattle.kilim_program.specs.declared.names.ClassId.{ClassId}
+use Rattle.kilim_program.specs.Names.{class_named}
+use Rattle.kilim_program.specs.Program.{Program}
+use Rattle.kilim_program.specs.main_class.Main.{fit_class_named, if_fit}
+use Rattle.kilim_program.specs.Members.{is_fit_main}
 
 pub record Fit (p : Program) (o : Option ClassId) (c : ClassId) : Type 0 where
   pub named : o ≡ Some c

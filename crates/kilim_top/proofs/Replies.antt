@@ -2,11 +2,11 @@
 use Rattle.std.proofs.Common.{◌≡◌, ℕ, ℤ, ◌≤◌, true, List, [], length, Option, Some, None, Result, Ok, Err, refl, sym, ap, subst, inl, inr, ◌∙◌}
 use Rattle.std.specs.Prelude.{IfOk}
 use Rattle.kilim_units.specs.declared.memory.NoMemory.{NoMemory}
-use Rattle.kilim_classes.specs.declared.names.ClassId.{ClassId}
-use Rattle.kilim_classes.specs.Names.{class_named}
-use Rattle.kilim_classes.specs.Program.{Program}
-use Rattle.kilim_classes.specs.declared.machine.run.Limits.{Limits}
-use Rattle.kilim_classes.specs.machine.Members.{is_fit_main}
+use Rattle.kilim_program.specs.declared.names.ClassId.{ClassId}
+use Rattle.kilim_program.specs.Names.{class_named}
+use Rattle.kilim_program.specs.Program.{Program}
+use Rattle.kilim_run_state.specs.declared.run.Limits.{Limits}
+use Rattle.kilim_program.specs.Members.{is_fit_main}
 use Rattle.kilim_stages.specs.Accepted.{IsAcceptedOf}
 use Rattle.kilim_stages.specs.Laws.{NeverBoth, OneProgramOf}
 use Rattle.kilim_stages.specs.Parts.{Refused}
@@ -14,30 +14,30 @@ use Rattle.kilim_stages.specs.Reports.{IsStageReport}
 use Rattle.kilim_stages.specs.declared.refusal.Refusal.{Refusal}
 use Rattle.kilim_stages.specs.declared.refusal.Refusal.TheVariants as refusal
 use Rattle.kilim_top.specs.demo.Demo.{demo_texts, IsDemoReport}
-use Rattle.kilim_weave_command.specs.Laws.{AcceptedFilesAreIsolated, NeverWeavableAndReported}
-use Rattle.kilim_weave_command.specs.Weaving.{IsWeaving}
-use Rattle.kilim_weave_command.specs.woven_files.Reports.{IsWeaveReport}
-use Rattle.kilim_weaver.specs.Faults.{weave_fault}
-use Rattle.kilim_weaver.specs.declared.weaving.Woven.{Woven}
-use Rattle.kilim_outside.specs.words.Words.{Request, Check, Weave, Run, Demo}
+use Rattle.kilim_weave_file_command.specs.Laws.{AcceptedFilesAreIsolated, NeverWeavableAndReported}
+use Rattle.kilim_weave_file_command.specs.Weaving.{IsWeaving}
+use Rattle.kilim_weave_file_command.specs.woven_files.Reports.{IsWeaveReport}
+use Rattle.kilim_weave.specs.Faults.{weave_fault}
+use Rattle.kilim_weave.specs.declared.weaving.Woven.{Woven}
+use Rattle.kilim_command.specs.grammar.Words.{Request, Check, Weave, Run, Demo}
 use Rattle.kilim_stages.specs.woven_stage.Laws.{WovenIsNotReported}
 use Rattle.kilim_stages.specs.woven_stage.Reports.{IsWovenReport}
 use Rattle.kilim_stages.specs.woven_stage.Stage.{IsWithMain, IsWovenOf}
 use Rattle.kilim_stages.specs.declared.woven_stage.stage.WovenProgram.{WovenProgram}
-use Rattle.kilim_written_files.specs.OutputFile.{OutputFile}
+use Rattle.kilim_outside.specs.written.OutputFile.{OutputFile}
 use Rattle.kilim_top.specs.declared.answer.Reply.{Reply}
 use Rattle.kilim_top.specs.declared.answer.Ready.{Ready}
 use Rattle.kilim_top.specs.declared.answer.Ready.TheVariants as ready
 use Rattle.kilim_top.specs.Inside.Answer.{IsMainOf, IsNoMain, IsReadyFor, IsReadyOf, IsRefusedBy, IsReplyFor, IsToRun, IsWithoutMain}
 use Rattle.kilim_top.specs.Outcome.{IsDone, IsFitFor, IsFitRun, IsReport, coded_methods}
-use Rattle.kilim_top_parts.specs.Report.{accepted_line, named_line, utf16_of}
-use Rattle.kilim_top_parts.specs.RunText.{demo_number, run_text}
-use Rattle.kilim_top_parts.specs.Words.{limits_of}
-use Rattle.kilim_thread_model.specs.State.{Setting}
-use Rattle.kilim_journal.specs.declared.entry.Entry.{Entry}
+use Rattle.kilim_command.specs.Report.{accepted_line, named_line, utf16_of}
+use Rattle.kilim_command.specs.RunText.{demo_number, run_text}
+use Rattle.kilim_command.specs.Words.{limits_of}
+use Rattle.kilim_run_model.specs.State.{Setting}
+use Rattle.kilim_run_journal.specs.declared.entry.Entry.{Entry}
 use Rattle.kilim_top.specs.Served.{WovenIsServed}
-use Rattle.kilim_whole_runs.specs.Runs.{IsJournalOf, setting_of}
-use Rattle.kilim_classes.specs.main_class.Main.{fit_class_named}
+use Rattle.kilim_run.specs.Runs.{IsJournalOf, setting_of}
+use Rattle.kilim_program.specs.main_class.Main.{fit_class_named}
 use Rattle.kilim_top.proofs.Mains.{fit_named, none_named}
 use Rattle.kilim_top.proofs.WholeRun.{to_run}
 

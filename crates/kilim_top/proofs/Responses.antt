@@ -2,11 +2,11 @@
 use Rattle.std.proofs.Common.{◌≡◌, ◌⊎◌, ℕ, List, [], Some, sym, subst, inl, inr, arith}
 use Rattle.kilim_outside.specs.Causes.{Appended}
 use Rattle.kilim_stages.specs.Laws.{NeverBoth, OneProgramOf}
-use Rattle.kilim_weave_command.specs.Laws.{NeverWeavableAndReported}
-use Rattle.kilim_outside.specs.words.Words.{Request, Check, Weave, Run, Demo}
+use Rattle.kilim_weave_file_command.specs.Laws.{NeverWeavableAndReported}
+use Rattle.kilim_command.specs.grammar.Words.{Request, Check, Weave, Run, Demo}
 use Rattle.kilim_stages.specs.woven_stage.Laws.{WovenIsNotReported}
-use Rattle.kilim_written_files.specs.OutputFile.{OutputFile}
-use Rattle.kilim_written_files.specs.Written.{HaveOwnPaths, WroteFiles}
+use Rattle.kilim_outside.specs.written.OutputFile.{OutputFile}
+use Rattle.kilim_outside.specs.written.Written.{HaveOwnPaths, WroteFiles}
 use Rattle.kilim_top.specs.Inside.Answer.{IsReplyFor}
 use Rattle.kilim_top.specs.Inside.Respond.{Responded}
 use Rattle.kilim_top.specs.Outcome.{AsksForFiles, HowFar, IsDone, IsFault, IsReport, IsToWrite, Outside}

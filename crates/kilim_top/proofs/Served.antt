@@ -1,16 +1,16 @@
 -- The woven form of an accepted program to which class files link serves its runs.
 use Rattle.std.proofs.Common.{◌≤◌, ℕ, List, length, sym, subst}
 use Rattle.kilim_isolation_laws.specs.accepted_runs.Laws.{AcceptedIsRun}
-use Rattle.kilim_stages.specs.class_world.Keeping.{LinksKeep}
-use Rattle.kilim_classes.specs.declared.class.Form.TheVariants.{Plain}
-use Rattle.kilim_classes.specs.Program.{Program}
+use Rattle.kilim_link.specs.Keeping.{LinksKeep}
+use Rattle.kilim_program.specs.declared.class.Form.TheVariants.{Plain}
+use Rattle.kilim_program.specs.Program.{Program}
 use Rattle.kilim_link_spec.specs.LinksWell.{LinksWell}
 use Rattle.kilim_stages.specs.Accepted.{IsAcceptedOf}
 use Rattle.kilim_stages.proofs.Both.{all_fit, as_many}
 use Rattle.kilim_type_verify.proofs.Verified.{well_typed}
-use Rattle.kilim_weaving_laws.specs.woven_served.Served.{RunsServe}
+use Rattle.kilim_fiber_laws.specs.woven_served.Served.{RunsServe}
 use Rattle.kilim_top.specs.Served.{WovenIsServed}
-use Rattle.kilim_whole_runs.specs.Runs.{setting_of}
+use Rattle.kilim_run.specs.Runs.{setting_of}
 
 links_well : (files : List (List ℕ)) (p : Program) → length files ≤ 1000 → (is : IsAcceptedOf files p) → LinksWell is.of_files.classes Plain p
 links_well files p few is = record {

@@ -3,7 +3,7 @@ use Rattle.std.proofs.Common.{◌≡◌, ◌⊎◌, ℕ, List, [], Option, Some,
 use Rattle.std.specs.Prelude.{IfSome}
 use Rattle.kilim_outside.specs.Causes.{Rose}
 use Rattle.kilim_outside.specs.Files.{Files}
-use Rattle.kilim_outside.specs.words.Words.{Request}
+use Rattle.kilim_command.specs.grammar.Words.{Request}
 use Rattle.kilim_top.specs.Outcome.{HasReport, IsFit, Outside, Promises, ReadFailed, shown}
 use Rattle.kilim_top.proofs.TopLaws.{faulty, not_still, six}
 

@@ -5,10 +5,10 @@ use Rattle.kilim_outside.specs.Causes.{Rose}
 use Rattle.kilim_outside.specs.declared.folder.FailedCall.{FailedCall}
 use Rattle.kilim_outside.specs.declared.folder.FailedCall.TheVariants.{Write}
 use Rattle.kilim_outside.specs.Files.{Files}
-use Rattle.kilim_outside.specs.words.Words.{Request, files_read}
-use Rattle.kilim_written_files.specs.OutputFile.{OutputFile}
+use Rattle.kilim_command.specs.grammar.Words.{Request, files_read}
+use Rattle.kilim_outside.specs.written.OutputFile.{OutputFile}
 use Rattle.kilim_top.specs.Inside.Respond.{Wrote0, Wrote1, WroteFrontOf, Responded}
-use Rattle.kilim_top_parts.specs.Reads.{WereRead}
+use Rattle.kilim_command.specs.Reads.{WereRead}
 use Rattle.kilim_top.specs.Outcome.{AsksForFiles, FailedAtMost, HasReport, HowFar, InFiles, InText, IsDone, IsFault, IsFit, IsFitFor, IsReport, IsToWrite, Outside, Promises, WriteFailed, WroteFront, WroteReport, WroteSomeFiles, WroteText, read_of, shown}
 
 pub same_length : {A : Type 0} (f : A → List ℕ) (contents : Option Files) (names : List A) (files : List (List ℕ)) → WereRead contents (map f names) files → length names ≡ length files

@@ -1,25 +1,25 @@
 -- The text of an accepted program's run is the journal of a whole run.
 use Rattle.std.proofs.Common.{◌≡◌, ◌≤◌, ℕ, ℤ, true, List, Some, None, length, refl, sym, subst}
-use Rattle.kilim_classes.specs.Names.{class_named}
-use Rattle.kilim_classes.specs.Program.{Program}
-use Rattle.kilim_classes.specs.declared.names.ClassId.{ClassId}
-use Rattle.kilim_classes.specs.declared.machine.run.Limits.{Limits}
-use Rattle.kilim_classes.specs.machine.Members.{is_fit_main}
+use Rattle.kilim_program.specs.Names.{class_named}
+use Rattle.kilim_program.specs.Program.{Program}
+use Rattle.kilim_program.specs.declared.names.ClassId.{ClassId}
+use Rattle.kilim_run_state.specs.declared.run.Limits.{Limits}
+use Rattle.kilim_program.specs.Members.{is_fit_main}
 use Rattle.kilim_stages.specs.Accepted.{IsAcceptedOf}
-use Rattle.kilim_thread_model.specs.State.{Setting}
-use Rattle.kilim_weave_command.specs.Laws.{AcceptedFilesAreIsolated}
-use Rattle.kilim_weaver.specs.Faults.{weave_fault}
-use Rattle.kilim_weaver.specs.declared.weaving.Woven.{Woven}
+use Rattle.kilim_run_model.specs.State.{Setting}
+use Rattle.kilim_weave_file_command.specs.Laws.{AcceptedFilesAreIsolated}
+use Rattle.kilim_weave.specs.Faults.{weave_fault}
+use Rattle.kilim_weave.specs.declared.weaving.Woven.{Woven}
 use Rattle.kilim_top.specs.Served.{WovenIsServed}
-use Rattle.kilim_whole_runs.specs.Runs.{setting_of}
-use Rattle.kilim_outside.specs.words.Words.{Run}
-use Rattle.kilim_weaving_laws.specs.Served.{CanServe}
+use Rattle.kilim_run.specs.Runs.{setting_of}
+use Rattle.kilim_command.specs.grammar.Words.{Run}
+use Rattle.kilim_fiber_laws.specs.Served.{CanServe}
 use Rattle.kilim_stages.specs.woven_stage.Stage.{IsWovenOf}
 use Rattle.kilim_stages.specs.declared.woven_stage.stage.WovenProgram.{WovenProgram}
 use Rattle.kilim_top.specs.Inside.Answer.{IsMainOf, IsTextOf, IsToRun}
 use Rattle.kilim_top.specs.Outcome.{IsFitRun, IsIsolatedRun, IsWholeRun}
-use Rattle.kilim_top_parts.specs.Report.{utf16_of}
-use Rattle.kilim_top_parts.specs.Words.{limits_of}
+use Rattle.kilim_command.specs.Report.{utf16_of}
+use Rattle.kilim_command.specs.Words.{limits_of}
 
 fit_run : (main : List ℕ) (files : List (List ℕ)) (p : Program) (class : ClassId) → IsAcceptedOf files p → weave_fault p ≡ None → class_named p (utf16_of main) ≡ Some class → is_fit_main p class ≡ true → IsFitRun main files
 fit_run main files p class of none named fit = record { program = p; accepted = of; none = none; class = class; named = named; fit = fit }

@@ -1,40 +1,40 @@
 -- What the top call promises: what each status says of what was read, and of what was written. From `Promises` it is three
--- steps to what a whole run is: `WroteText`, `IsWholeRun`, and `Whole` of kilim_thread_model.
+-- steps to what a whole run is: `WroteText`, `IsWholeRun`, and `Whole` of kilim_run_model.
 use Rattle.std.specs.Prelude.{◌≡◌, ℕ, true, List, [], ◌∷◌, ◌++◌, take, map, length, Option, Some, None, Contains, ◌≤◌, ◌↔◌, ◌⊎◌}
 use Rattle.std.specs.List.{filter}
-use Rattle.kilim_classes.specs.Program.{Program}
-use Rattle.kilim_classes.specs.declared.class.Method.{Method}
-use Rattle.kilim_classes.specs.declared.names.ClassId.{ClassId}
-use Rattle.kilim_classes.specs.declared.names.MethodId.{MethodId}
-use Rattle.kilim_classes.specs.Names.{class_named, method_at}
-use Rattle.kilim_journal.specs.declared.entry.Entry.{Entry}
-use Rattle.kilim_journal.specs.Text.{journal_text}
-use Rattle.kilim_journal.specs.Readable.{IsReadable, JournalFits}
+use Rattle.kilim_program.specs.Program.{Program}
+use Rattle.kilim_program.specs.declared.class.Method.{Method}
+use Rattle.kilim_program.specs.declared.names.ClassId.{ClassId}
+use Rattle.kilim_program.specs.declared.names.MethodId.{MethodId}
+use Rattle.kilim_program.specs.Names.{class_named, method_at}
+use Rattle.kilim_run_journal.specs.declared.entry.Entry.{Entry}
+use Rattle.kilim_run_journal.specs.Text.{journal_text}
+use Rattle.kilim_run_journal.specs.Readable.{IsReadable, JournalFits}
 use Rattle.kilim_outside.specs.declared.folder.FailedCall.{FailedCall}
 use Rattle.kilim_outside.specs.declared.folder.FailedCall.TheVariants.{Read, Write}
 use Rattle.kilim_outside.specs.Files.{Files, content_of, file_limit}
 use Rattle.kilim_outside.specs.Causes.{Appended, Rose}
-use Rattle.kilim_classes.specs.declared.machine.run.Limits.{Limits}
-use Rattle.kilim_classes.specs.machine.Members.{is_fit_main}
-use Rattle.kilim_thread_model.specs.Reach.{Liveness, PlaysIsolated}
-use Rattle.kilim_thread_model.specs.Runs.{Whole}
-use Rattle.kilim_thread_model.specs.State.{Setting}
-use Rattle.kilim_typing.specs.Typed.{Live, has_code}
-use Rattle.kilim_outside.specs.words.Words.{Request, Check, Weave, Run, Demo, files_read}
-use Rattle.kilim_written_files.specs.OutputFile.{OutputFile}
-use Rattle.kilim_written_files.specs.Written.{HasFailed, StoppedAtFile, WroteFiles}
-use Rattle.kilim_weave_command.specs.Weaving.{IsWeavable, IsWeaving}
-use Rattle.kilim_weaver.specs.Faults.{weave_fault}
-use Rattle.kilim_weave_command.specs.woven_files.Reports.{IsWeaveReport}
+use Rattle.kilim_run_state.specs.declared.run.Limits.{Limits}
+use Rattle.kilim_program.specs.Members.{is_fit_main}
+use Rattle.kilim_run_model.specs.Reach.{Liveness, PlaysIsolated}
+use Rattle.kilim_run_model.specs.Runs.{Whole}
+use Rattle.kilim_run_model.specs.State.{Setting}
+use Rattle.kilim_type_spec.specs.Typed.{Live, has_code}
+use Rattle.kilim_command.specs.grammar.Words.{Request, Check, Weave, Run, Demo, files_read}
+use Rattle.kilim_outside.specs.written.OutputFile.{OutputFile}
+use Rattle.kilim_outside.specs.written.Written.{HasFailed, StoppedAtFile, WroteFiles}
+use Rattle.kilim_weave_file_command.specs.Weaving.{IsWeavable, IsWeaving}
+use Rattle.kilim_weave.specs.Faults.{weave_fault}
+use Rattle.kilim_weave_file_command.specs.woven_files.Reports.{IsWeaveReport}
 use Rattle.kilim_stages.specs.woven_stage.Reports.{IsMethodReport}
 use Rattle.kilim_top.specs.demo.Demo.{demo_texts, IsDemoLine, IsDemoReport}
 use Rattle.kilim_stages.specs.Accepted.{IsAcceptedOf}
 use Rattle.kilim_stages.specs.Reports.{IsStageReport}
-use Rattle.kilim_top_parts.specs.declared.status.TheConstants.{DONE, REPORTED, USAGE, UNREAD, UNWRITTEN, NO_MEMORY}
-use Rattle.kilim_top_parts.specs.Reads.{WereRead}
-use Rattle.kilim_top_parts.specs.Report.{utf16_of, main_line, accepted_line}
-use Rattle.kilim_top_parts.specs.Words.{limits_of}
-use Rattle.kilim_top_parts.specs.Writing.{AppendedFront}
+use Rattle.kilim_command.specs.declared.status.TheConstants.{DONE, REPORTED, USAGE, UNREAD, UNWRITTEN, NO_MEMORY}
+use Rattle.kilim_command.specs.Reads.{WereRead}
+use Rattle.kilim_command.specs.Report.{utf16_of, main_line, accepted_line}
+use Rattle.kilim_command.specs.Words.{limits_of}
+use Rattle.kilim_command.specs.Writing.{AppendedFront}
 
 -- what is run
 abbrev pub run_of : Program → ClassId → Limits → Setting

@@ -1,14 +1,14 @@
 -- Whose runs can be made.
 use Rattle.std.specs.Prelude.{◌≡◌, ◌≤◌, ℕ, true, List, length}
-use Rattle.kilim_classes.specs.declared.names.ClassId.{ClassId}
-use Rattle.kilim_classes.specs.Program.{Program}
-use Rattle.kilim_classes.specs.declared.machine.run.Limits.{Limits}
-use Rattle.kilim_classes.specs.machine.Members.{is_fit_main}
+use Rattle.kilim_program.specs.declared.names.ClassId.{ClassId}
+use Rattle.kilim_program.specs.Program.{Program}
+use Rattle.kilim_run_state.specs.declared.run.Limits.{Limits}
+use Rattle.kilim_program.specs.Members.{is_fit_main}
 use Rattle.kilim_stages.specs.Accepted.{IsAcceptedOf}
-use Rattle.kilim_weaver.specs.declared.weaving.Woven.{Woven}
-use Rattle.kilim_weaver.specs.Weaves.{Weaves}
-use Rattle.kilim_weaving_laws.specs.Served.{CanServe}
-use Rattle.kilim_whole_runs.specs.Runs.{setting_of}
+use Rattle.kilim_weave.specs.declared.weaving.Woven.{Woven}
+use Rattle.kilim_weave.specs.Weaves.{Weaves}
+use Rattle.kilim_fiber_laws.specs.Served.{CanServe}
+use Rattle.kilim_run.specs.Runs.{setting_of}
 
 -- What weaving makes of the accepted program to which class files link serves each run of it with a fit main class.
 abbrev pub WovenIsServed : Type 0

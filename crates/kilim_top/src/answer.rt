@@ -2,22 +2,22 @@
 
 ghost use Rattle.std.specs.Prelude.{◌≡◌, ◌≤◌, IfOk, length, map};
 ghost use Rattle.std.specs.String.{string_bytes};
-ghost use Rattle.kilim_outside.specs.words.Parts.{meant, numbers_of};
-ghost use Rattle.kilim_outside.specs.words.Words.{Check, Run, Weave, files_read};
+ghost use Rattle.kilim_command.specs.grammar.Parts.{meant, numbers_of};
+ghost use Rattle.kilim_command.specs.grammar.Words.{Check, Run, Weave, files_read};
 ghost use Rattle.kilim_top.specs.Inside.Answer.{IsReadyFor, IsReadyOf, IsRefusedBy, IsWithoutMain};
 
 use crate::demo::demo_ready;
 use crate::laws::woven_is_served;
-use kilim_classes::machine::Limits;
-use kilim_classes::{ClassId, Program};
-use kilim_outside::words::{Asked, RunWords, WeaveWords};
+use kilim_command::grammar::{Asked, RunWords, WeaveWords};
+use kilim_command::{DONE, REPORTED, Start, accepted_line, no_main, start_of};
+use kilim_outside::written::OutputFile;
+use kilim_program::{ClassId, Program};
+use kilim_run_state::Limits;
 use kilim_stages::woven_stage::{WovenProgram, with_main, woven_program};
 use kilim_stages::{Refusal, accepted, coded_methods};
-use kilim_top_parts::{DONE, REPORTED, Start, accepted_line, no_main, start_of};
 use kilim_units::{NoMemory, Seq};
-use kilim_weave_command::{accepted_files_are_isolated, weave_files};
-use kilim_weaver::Woven;
-use kilim_written_files::OutputFile;
+use kilim_weave::Woven;
+use kilim_weave_file_command::{accepted_files_are_isolated, weave_files};
 use std::alloc::Global;
 
 /// Files to be written, a text to be written behind them, and the status where all was written whole.

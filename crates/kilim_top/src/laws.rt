@@ -2,9 +2,9 @@
 
 ghost use Rattle.kilim_top.specs.Served.{WovenIsServed};
 
+use kilim_fiber_laws::woven_served::runs_serve;
 use kilim_isolation_laws::accepted_runs::accepted_is_run;
-use kilim_stages::class_world::links_keep;
-use kilim_weaving_laws::woven_served::runs_serve;
+use kilim_link::links_keep;
 
 /// A law, and no work: of class files that link to an accepted program the woven form can be run, whatever the main class, if it is fit, and
 /// the limits are.

@@ -10,7 +10,7 @@ mod runs;
 mod top;
 mod work;
 
-pub use kilim_top_parts::{DONE, NO_MEMORY, REPORTED, UNREAD, UNWRITTEN, USAGE};
+pub use kilim_command::{DONE, NO_MEMORY, REPORTED, UNREAD, UNWRITTEN, USAGE};
 pub use laws::woven_is_served;
 pub use program::command;
 pub use top::{kilim, kilim_alone, kilim_in_memory};

@@ -1,8 +1,8 @@
 //! The command: the top call over the disk and standard output, and the texts that the program writes by itself.
 
 use crate::top::kilim;
+use kilim_command::{own_text, show, words};
 use kilim_outside::{DiskFolder, OpenGate, OutSink};
-use kilim_top_parts::{own_text, show, words};
 use std::alloc::{AllocGlobal, Global};
 use std::rt::{Env, Files};
 use std::sync::Wait;

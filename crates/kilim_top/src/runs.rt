@@ -1,19 +1,19 @@
 //! Runs of what is ready.
 
 ghost use Rattle.std.specs.Prelude.{◌≡◌, ◌≤◌, [], IfOk, length};
-ghost use Rattle.kilim_journal.specs.Readable.{IsReadable};
-ghost use Rattle.kilim_outside.specs.words.Parts.{meant};
-ghost use Rattle.kilim_outside.specs.words.Words.{files_read};
+ghost use Rattle.kilim_run_journal.specs.Readable.{IsReadable};
+ghost use Rattle.kilim_command.specs.grammar.Parts.{meant};
+ghost use Rattle.kilim_command.specs.grammar.Words.{files_read};
 ghost use Rattle.kilim_top.specs.Inside.Answer.{IsReplyFor};
-ghost use Rattle.kilim_top_parts.specs.RunText.{run_text};
+ghost use Rattle.kilim_command.specs.RunText.{run_text};
 
 use crate::answer::{Ready, Reply, prepare};
-use kilim_journal::Entry;
+use kilim_command::grammar::Asked;
+use kilim_command::{DONE, demo_number, text_of_run, workers_of};
 use kilim_outside::Gate;
-use kilim_outside::words::Asked;
-use kilim_top_parts::{DONE, demo_number, text_of_run, workers_of};
+use kilim_run::{run_alone, run_with};
+use kilim_run_journal::Entry;
 use kilim_units::{NoMemory, Seq};
-use kilim_whole_runs::{run_alone, run_with};
 use std::alloc::Global;
 use std::sync::Wait;
 use std::thread::Threads;

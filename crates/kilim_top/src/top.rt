@@ -3,14 +3,14 @@
 ghost use Rattle.std.specs.Prelude.{◌≡◌, ◌⊎◌, Some, None, [], map, IsSome, IfSome};
 ghost use Rattle.std.specs.String.{string_bytes};
 ghost use Rattle.kilim_outside.specs.Files.{files_of};
-ghost use Rattle.kilim_outside.specs.words.Words.{request_of};
-ghost use Rattle.kilim_top_parts.specs.Words.{NeedsWorkers};
+ghost use Rattle.kilim_command.specs.grammar.Words.{request_of};
+ghost use Rattle.kilim_command.specs.Words.{NeedsWorkers};
 ghost use Rattle.kilim_top.specs.Outcome.{IsFit, HasReport, Promises, shown};
 
 use crate::work::{work_alone, work_with};
-use kilim_outside::words::request;
+use kilim_command::grammar::request;
+use kilim_command::{DONE, NO_MEMORY, REPORTED, UNREAD, USAGE, workers_of};
 use kilim_outside::{Folder, Gate, SteadyFolder, SteadySink, TextSink};
-use kilim_top_parts::{DONE, NO_MEMORY, REPORTED, UNREAD, USAGE, workers_of};
 use std::alloc::Global;
 use std::sync::Wait;
 use std::thread::Threads;

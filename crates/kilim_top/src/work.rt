@@ -1,22 +1,22 @@
 //! The work that the words ask for.
 
 ghost use Rattle.std.specs.Prelude.{◌≡◌, ◌≤◌, Some, length};
-ghost use Rattle.kilim_outside.specs.words.Parts.{meant};
-ghost use Rattle.kilim_outside.specs.words.Words.{files_read};
+ghost use Rattle.kilim_command.specs.grammar.Parts.{meant};
+ghost use Rattle.kilim_command.specs.grammar.Words.{files_read};
 ghost use Rattle.kilim_top.specs.Inside.Answer.{IsReplyFor};
 ghost use Rattle.kilim_top.specs.Inside.Respond.{Responded};
 ghost use Rattle.kilim_top.specs.Outcome.{Promises, shown};
 
 use crate::answer::Reply;
 use crate::runs::{reply_alone, reply_with};
-use kilim_outside::words::Asked;
+use kilim_command::grammar::Asked;
+use kilim_command::{NO_MEMORY, UNREAD, UNWRITTEN, read_all, write_all};
+use kilim_outside::written::write_files;
 use kilim_outside::{Folder, FolderFault, Gate, SinkFault, TextSink};
 use kilim_stages::woven_stage::woven_is_not_reported;
 use kilim_stages::{never_both, one_program_of};
-use kilim_top_parts::{NO_MEMORY, UNREAD, UNWRITTEN, read_all, write_all};
 use kilim_units::Seq;
-use kilim_weave_command::never_weavable_and_reported;
-use kilim_written_files::write_files;
+use kilim_weave_file_command::never_weavable_and_reported;
 use std::alloc::Global;
 use std::sync::Wait;
 use std::thread::Threads;

@@ -1,11 +1,11 @@
 -- Rows of calls, by the method that is called.
 use Rattle.std.proofs.Common.{◌≡◌, ℕ, Bool, true, false, ap, sym, subst, ◌∙◌, Option, Some, Result}
-use Rattle.kilim_classes.specs.declared.class.Method.{Method}
-use Rattle.kilim_classes.specs.declared.names.MethodId.{MethodId}
-use Rattle.kilim_classes.specs.Names.{method_at}
-use Rattle.kilim_classes.specs.Program.{Program}
-use Rattle.kilim_classes.specs.Same.{is_constructor}
-use Rattle.kilim_typing.specs.Step.{Types, by_row, special_by, special_row}
+use Rattle.kilim_program.specs.declared.class.Method.{Method}
+use Rattle.kilim_program.specs.declared.names.MethodId.{MethodId}
+use Rattle.kilim_program.specs.Names.{method_at}
+use Rattle.kilim_program.specs.Program.{Program}
+use Rattle.kilim_program.specs.Same.{is_constructor}
+use Rattle.kilim_type_spec.specs.Step.{Types, by_row, special_by, special_row}
 use Rattle.kilim_type_step.specs.declared.fault.StepFault.{StepFault}
 use Rattle.kilim_type_step.specs.Answers.{answers}
 

@@ -1,10 +1,10 @@
 -- What calls take.
 use Rattle.std.proofs.Common.{◌≡◌, ℕ, ◌+◌, ◌-◌, ◌<◌, ◌≤◌, refl, ap, sym, ◌∙◌, arith, List, [], ◌∷◌, ◌++◌, length, map, take, reverse, get_or}
 use Rattle.std.proofs.lemmas.List.{map-append, reverse-append, append_assoc, append-nil, take_more, take_all, length-map, length-reverse}
-use Rattle.kilim_classes.specs.declared.class.Method.{Method}
-use Rattle.kilim_classes.specs.declared.ty.Ty.{Ty}
-use Rattle.kilim_classes.specs.declared.verified.VType.TheVariants.{Top}
-use Rattle.kilim_typing.specs.Step.{Operand, Is, vtype, arguments}
+use Rattle.kilim_program.specs.declared.class.Method.{Method}
+use Rattle.kilim_program.specs.declared.ty.Ty.{Ty}
+use Rattle.kilim_program.specs.declared.verified.VType.TheVariants.{Top}
+use Rattle.kilim_type_spec.specs.Step.{Operand, Is, vtype, arguments}
 use Rattle.kilim_type_step.specs.declared.operands.Taken.{Taken}
 use Rattle.kilim_type_step.specs.declared.operands.Taken.TheVariants as taken
 use Rattle.kilim_type_step.specs.Operands.{operand_of, operands_of, anything}

@@ -1,14 +1,14 @@
 -- Calls of constructors.
 use Rattle.std.proofs.Common.{◌≡◌, ℕ, suc, ◌+◌, Bool, true, false, ◌||◌, ◌&&◌, ◌==◌, cond, refl, ap, sym, ◌∙◌, arith, List, [], ◌∷◌, ◌++◌, length, drop, slice_get, Option, Some, None, Result, Ok, Err}
-use Rattle.kilim_classes.specs.declared.class.Method.{Method}
+use Rattle.kilim_program.specs.declared.class.Method.{Method}
 use Rattle.std.proofs.lemmas.Bool.{eq-eqb, ne_eqb}
-use Rattle.kilim_classes.specs.declared.instr.Instr.{Instr}
-use Rattle.kilim_classes.specs.declared.names.ClassId.{ClassId}
-use Rattle.kilim_classes.specs.declared.verified.VType.{VType}
-use Rattle.kilim_classes.specs.declared.verified.VType.TheVariants.{Top, Int, Long, Null, UninitThis, Uninit, Object}
-use Rattle.kilim_classes.specs.Names.{class_at}
-use Rattle.kilim_classes.specs.Program.{Program}
-use Rattle.kilim_typing.specs.Step.{Types, Further, needs, rule, further, constructed, replaced, class_vtype, is_class, superclass_at, made_at, made_by}
+use Rattle.kilim_program.specs.declared.instr.Instr.{Instr}
+use Rattle.kilim_program.specs.declared.names.ClassId.{ClassId}
+use Rattle.kilim_program.specs.declared.verified.VType.{VType}
+use Rattle.kilim_program.specs.declared.verified.VType.TheVariants.{Top, Int, Long, Null, UninitThis, Uninit, Object}
+use Rattle.kilim_program.specs.Names.{class_at}
+use Rattle.kilim_program.specs.Program.{Program}
+use Rattle.kilim_type_spec.specs.Step.{Types, Further, needs, rule, further, constructed, replaced, class_vtype, is_class, superclass_at, made_at, made_by}
 use Rattle.kilim_type_step.specs.Answers.{class_made, left_by_made}
 use Rattle.kilim_type_step.proofs.Rows.{front_is, past, operands_long}
 use Rattle.kilim_type_step.specs.Operands.{operands_of}

@@ -1,11 +1,11 @@
 -- Stores, elements of arrays, and pop, dup and swap forms, by what is on the stack.
 use Rattle.std.proofs.Common.{◌≡◌, ℕ, ◌+◌, refl, ap, sym, ◌∙◌, List, [], ◌∷◌, drop, slice_get, Option, Some, None, Result, Ok, Err}
 use Rattle.std.specs.Prelude.{nat_le}
-use Rattle.kilim_classes.specs.declared.class.Method.{Method}
-use Rattle.kilim_classes.specs.declared.verified.VType.{VType}
-use Rattle.kilim_classes.specs.Program.{Program}
-use Rattle.kilim_typing.specs.Step.{Types, Operand, meets, rule, store, stored, size, element}
-use Rattle.kilim_classes.specs.declared.verified.VType.TheVariants.{Top, Int, Long, Null, UninitThis, Uninit, Object}
+use Rattle.kilim_program.specs.declared.class.Method.{Method}
+use Rattle.kilim_program.specs.declared.verified.VType.{VType}
+use Rattle.kilim_program.specs.Program.{Program}
+use Rattle.kilim_type_spec.specs.Step.{Types, Operand, meets, rule, store, stored, size, element}
+use Rattle.kilim_program.specs.declared.verified.VType.TheVariants.{Top, Int, Long, Null, UninitThis, Uninit, Object}
 use Rattle.kilim_type_step.specs.Answers.{element_by}
 use Rattle.kilim_type_step.proofs.Rows.{front_is, past}
 

@@ -2,11 +2,11 @@
 use Rattle.std.proofs.Common.{◌≡◌, ℕ, ◌+◌, ◌<◌, ◌||◌, refl, ap, sym, ◌∙◌, arith, List, [], ◌∷◌, ◌++◌, length, drop, get_or}
 use Rattle.std.proofs.lemmas.List.{drop_more, drop_all, append_assoc, append-nil}
 use Rattle.std.specs.List.{list_any}
-use Rattle.kilim_classes.specs.declared.ty.Ty.{Ty}
-use Rattle.kilim_classes.specs.declared.verified.VType.{VType}
-use Rattle.kilim_classes.specs.declared.verified.VType.TheVariants.{Long, UninitThis}
-use Rattle.kilim_typing.specs.Step.{is_same, is_unset_this, vtype}
-use Rattle.kilim_typing.specs.Typed.{param_slots, slots_of_type}
+use Rattle.kilim_program.specs.declared.ty.Ty.{Ty}
+use Rattle.kilim_program.specs.declared.verified.VType.{VType}
+use Rattle.kilim_program.specs.declared.verified.VType.TheVariants.{Long, UninitThis}
+use Rattle.kilim_type_spec.specs.Step.{is_same, is_unset_this, vtype}
+use Rattle.kilim_type_spec.specs.Typed.{param_slots, slots_of_type}
 
 slots_before : (t : VType) (rest : List VType) → slots_of_type t rest ≡ slots_of_type t [] ++ rest
 slots_before Long rest = refl

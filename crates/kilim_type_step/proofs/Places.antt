@@ -1,13 +1,13 @@
 -- Rows that don't depend on the place.
 use Rattle.std.proofs.Common.{◌≡◌, ℕ, List, [], Result, sym, subst, refl}
-use Rattle.kilim_classes.specs.declared.class.Method.{Method}
-use Rattle.kilim_classes.specs.declared.instr.Instr.{Instr}
-use Rattle.kilim_classes.specs.declared.instr.Instr.TheVariants.{Athrow}
-use Rattle.kilim_classes.specs.declared.value.Value.{Value}
-use Rattle.kilim_classes.specs.declared.value.Value.TheVariants as value
-use Rattle.kilim_classes.specs.Program.{Program}
-use Rattle.kilim_typing.specs.Step.{Form, Operand, Row, Shuffles, Takes, Types, missing, row, type_step, by_row, constant_row, long_constant_row}
-use Rattle.kilim_classes.specs.declared.verified.VType.{VType}
+use Rattle.kilim_program.specs.declared.class.Method.{Method}
+use Rattle.kilim_program.specs.declared.instr.Instr.{Instr}
+use Rattle.kilim_program.specs.declared.instr.Instr.TheVariants.{Athrow}
+use Rattle.kilim_program.specs.declared.value.Value.{Value}
+use Rattle.kilim_program.specs.declared.value.Value.TheVariants as value
+use Rattle.kilim_program.specs.Program.{Program}
+use Rattle.kilim_type_spec.specs.Step.{Form, Operand, Row, Shuffles, Takes, Types, missing, row, type_step, by_row, constant_row, long_constant_row}
+use Rattle.kilim_program.specs.declared.verified.VType.{VType}
 use Rattle.kilim_type_step.specs.Answers.{answers}
 use Rattle.kilim_type_step.specs.declared.fault.StepFault.{StepFault}
 

@@ -2,9 +2,9 @@
 use Rattle.std.proofs.Common.{◌≡◌, ℕ, ◌+◌, ◌<◌, ◌≤◌, Bool, if◌then◌else◌, List, ◌∷◌, length, drop, get_or, Option, Some, None, sym, ap, ◌∙◌}
 use Rattle.std.proofs.lemmas.Bool.{eq-eqb, ne_eqb}
 use Rattle.std.proofs.lemmas.List.{drop_more, drop_all}
-use Rattle.kilim_classes.specs.declared.verified.Frame.{Frame}
-use Rattle.kilim_typing.specs.Step.{Types}
-use Rattle.kilim_typing.specs.Typed.{frame_in, frame_types}
+use Rattle.kilim_program.specs.declared.verified.Frame.{Frame}
+use Rattle.kilim_type_spec.specs.Step.{Types}
+use Rattle.kilim_type_spec.specs.Typed.{frame_in, frame_types}
 
 frame_front : (items all : List (ℕ × Frame)) (i : ℕ) (e d : ℕ × Frame) → items ≡ all → i < length items → e ≡ get_or items i d → drop i all ≡ e ∷ drop (i + 1) all
 frame_front items all i e d same lt is =

@@ -3,9 +3,9 @@ use Rattle.std.proofs.Common.{◌≡◌, ℕ, ◌+◌, ◌-◌, ◌<◌, ◌≤�
 use Rattle.std.specs.Prelude.{nat_le}
 use Rattle.std.proofs.lemmas.Bool.{cases_lt, lt-leb, le-leb}
 use Rattle.std.proofs.lemmas.List.{drop_more, drop_all, append_assoc, append-nil, reverse-append, reverse-reverse}
-use Rattle.kilim_classes.specs.declared.verified.VType.{VType}
-use Rattle.kilim_classes.specs.declared.verified.VType.TheVariants.{Top, Int, Long, Null, UninitThis, Uninit, Object}
-use Rattle.kilim_typing.specs.Step.{Types, words, off, then_off, shuffled, with_stack, Drops, Copies, Swaps}
+use Rattle.kilim_program.specs.declared.verified.VType.{VType}
+use Rattle.kilim_program.specs.declared.verified.VType.TheVariants.{Top, Int, Long, Null, UninitThis, Uninit, Object}
+use Rattle.kilim_type_spec.specs.Step.{Types, words, off, then_off, shuffled, with_stack, Drops, Copies, Swaps}
 use Rattle.kilim_type_step.proofs.Types.{words_reverse}
 use Rattle.kilim_type_step.specs.Answers.{answers}
 use Rattle.kilim_type_step.specs.Forms.{SplitFails, count_off, number}

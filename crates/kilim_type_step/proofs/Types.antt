@@ -4,10 +4,10 @@ use Rattle.std.proofs.lemmas.List.{reverse-append, length-reverse, length-take, 
 use Rattle.std.proofs.lemmas.Bool.{cases_lt}
 use Rattle.std.proofs.lemmas.List.Folds.{list_any-append}
 use Rattle.std.specs.List.{list_any}
-use Rattle.kilim_classes.specs.declared.ty.Ty.{Ty}
-use Rattle.kilim_classes.specs.declared.verified.VType.{VType}
-use Rattle.kilim_classes.specs.declared.verified.VType.TheVariants.{Top, Int, Long, Null, UninitThis, Uninit, Object}
-use Rattle.kilim_typing.specs.Step.{dims_vtype, words, size, replaced, one_replaced, is_same, is_long, poke, peek, split_at, split_long, with_half}
+use Rattle.kilim_program.specs.declared.ty.Ty.{Ty}
+use Rattle.kilim_program.specs.declared.verified.VType.{VType}
+use Rattle.kilim_program.specs.declared.verified.VType.TheVariants.{Top, Int, Long, Null, UninitThis, Uninit, Object}
+use Rattle.kilim_type_spec.specs.Step.{dims_vtype, words, size, replaced, one_replaced, is_same, is_long, poke, peek, split_at, split_long, with_half}
 
 pub array_vtype : (ty : Ty) (n : ℕ) → 0 < n → dims_vtype ty n ≡ Object ty
 array_vtype ty zero lt = absurd (omega arith)

@@ -1,8 +1,8 @@
 -- Pop, dup and swap forms of the code as those of the definitions.
 use Rattle.std.specs.Prelude.{◌≡◌, ℕ, zero, suc, List, Option, Some, None, Result, Ok, Err}
-use Rattle.kilim_classes.specs.declared.verified.VType.{VType}
-use Rattle.kilim_classes.specs.declared.verified.VType.TheVariants.{Long}
-use Rattle.kilim_typing.specs.Step.{off, Form, Drops, Copies, Swaps}
+use Rattle.kilim_program.specs.declared.verified.VType.{VType}
+use Rattle.kilim_program.specs.declared.verified.VType.TheVariants.{Long}
+use Rattle.kilim_type_spec.specs.Step.{off, Form, Drops, Copies, Swaps}
 use Rattle.kilim_type_step.specs.declared.fault.StepFault.{StepFault}
 use Rattle.kilim_type_step.specs.declared.fault.StepFault.TheVariants.{Rule, Memory}
 use Rattle.kilim_type_step.specs.declared.shuffles.Words.{Words}

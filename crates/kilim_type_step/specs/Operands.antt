@@ -1,8 +1,8 @@
 -- Operands of the code as those of the definitions.
 use Rattle.std.specs.Prelude.{ℕ, zero, suc, true, List, [], ◌∷◌, ◌++◌, map}
-use Rattle.kilim_classes.specs.declared.ty.Base.TheVariants as base
-use Rattle.kilim_classes.specs.declared.verified.VType.TheVariants.{Top}
-use Rattle.kilim_typing.specs.Step.{Operand, Is, AReference, Initialized, ArrayOf, References, AnArray, Own, Further, needs, is_object, class_vtype}
+use Rattle.kilim_program.specs.declared.ty.Base.TheVariants as base
+use Rattle.kilim_program.specs.declared.verified.VType.TheVariants.{Top}
+use Rattle.kilim_type_spec.specs.Step.{Operand, Is, AReference, Initialized, ArrayOf, References, AnArray, Own, Further, needs, is_object, class_vtype}
 use Rattle.kilim_type_step.specs.declared.operands.Taken.{Taken}
 use Rattle.kilim_type_step.specs.declared.operands.Taken.TheVariants as taken
 use Rattle.kilim_type_step.specs.declared.operands.Also.{Also}

@@ -1,7 +1,7 @@
 -- Tests of types in the words of the code.
 use Rattle.std.specs.Prelude.{Bool, true, false}
-use Rattle.kilim_classes.specs.declared.verified.VType.{VType}
-use Rattle.kilim_classes.specs.declared.verified.VType.TheVariants.{Null, UninitThis, Uninit, Object}
+use Rattle.kilim_program.specs.declared.verified.VType.{VType}
+use Rattle.kilim_program.specs.declared.verified.VType.TheVariants.{Null, UninitThis, Uninit, Object}
 
 abbrev pub is_reference : VType → Bool
 is_reference Null = true

@@ -1,15 +1,15 @@
 //! Rows that take types from the stack and give one.
 
 ghost use Rattle.std.specs.Prelude.{◌≡◌, ◌++◌, ◌∷◌, [], ◌&&◌, length, drop, option_to_list, OnOk};
-ghost use Rattle.kilim_typing.specs.Step.{all_meet, has_operands, has_room, room_for, is_object, class_vtype, by_row, Is, Takes, Leaves};
-ghost use Rattle.kilim_classes.specs.Same.{is_constructor};
+ghost use Rattle.kilim_type_spec.specs.Step.{all_meet, has_operands, has_room, room_for, is_object, class_vtype, by_row, Is, Takes, Leaves};
+ghost use Rattle.kilim_program.specs.Same.{is_constructor};
 ghost use Rattle.kilim_type_step.specs.Answers.{answers, failing};
 ghost use Rattle.kilim_type_step.specs.Operands.{operands_of, further_of, furthers_of, anything};
 
 use crate::fault::StepFault;
 use crate::operands::{Also, Taken, class_vtype, meets};
 use crate::state::{State, size};
-use kilim_classes::{ClassId, Method, Program, VType};
+use kilim_program::{ClassId, Method, Program, VType};
 use std::alloc::AllocError;
 
 // The rules, by their numbers.

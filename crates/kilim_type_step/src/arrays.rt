@@ -1,7 +1,7 @@
 //! Elements of arrays of references.
 
 ghost use Rattle.std.specs.Prelude.{◌≡◌, true, Option};
-ghost use Rattle.kilim_typing.specs.Step.{by_row, type_step, Element};
+ghost use Rattle.kilim_type_spec.specs.Step.{by_row, type_step, Element};
 ghost use Rattle.kilim_type_step.specs.Answers.{answers, element_by};
 ghost use Rattle.kilim_type_step.specs.Families.{is_reference_element};
 
@@ -10,7 +10,7 @@ use crate::constants::object_type;
 use crate::fault::StepFault;
 use crate::operands::{Taken, vtype};
 use crate::state::State;
-use kilim_classes::{Instr, Method, Program, Ty, VType};
+use kilim_program::{Instr, Method, Program, Ty, VType};
 use std::alloc::AllocError;
 
 const INT: Taken = Taken::Is(VType::Int);
@@ -54,7 +54,7 @@ fn take_element(program: &Program, method: &Method, state: &mut State) -> Result
 }
 
 /// Loads and stores of references.
-#[tactic(auto, unfolding(kilim_typing::specs::Step::row))]
+#[tactic(auto, unfolding(kilim_type_spec::specs::Step::row))]
 pub fn on_reference_element(
     program: &Program,
     method: &Method,

@@ -1,8 +1,8 @@
 //! Constants.
 
 ghost use Rattle.std.specs.Prelude.{◌≡◌, true, IfOk, IfErr};
-ghost use Rattle.kilim_classes.specs.Names.{class_named};
-ghost use Rattle.kilim_typing.specs.Step.{by_row, type_step, text_type, object_type, vtype_of_class, constant_row, long_constant_row};
+ghost use Rattle.kilim_program.specs.Names.{class_named};
+ghost use Rattle.kilim_type_spec.specs.Step.{by_row, type_step, text_type, object_type, vtype_of_class, constant_row, long_constant_row};
 ghost use Rattle.kilim_type_step.specs.Answers.{answers};
 ghost use Rattle.kilim_type_step.specs.Families.{is_constant};
 
@@ -10,8 +10,8 @@ use crate::apply::{WRONG_CONSTANT, apply};
 use crate::fault::StepFault;
 use crate::operands::{Also, class_vtype};
 use crate::state::State;
-use kilim_classes::lookups::class_named;
-use kilim_classes::{Instr, Method, Program, VType, Value};
+use kilim_program::lookups::class_named;
+use kilim_program::{Instr, Method, Program, VType, Value};
 use kilim_units::NoMemory;
 
 // The type of the class of that name. Want of memory comes only where there are too many classes.
@@ -88,7 +88,7 @@ fn on_two_words(
 }
 
 /// Constants of the pool.
-#[tactic(auto, unfolding(kilim_typing::specs::Step::row), using(crate::proofs::Places::constant_place, crate::proofs::Places::long_place))]
+#[tactic(auto, unfolding(kilim_type_spec::specs::Step::row), using(crate::proofs::Places::constant_place, crate::proofs::Places::long_place))]
 pub fn on_constant(
     program: &Program,
     method: &Method,

@@ -1,8 +1,8 @@
 //! Calls of constructors.
 
 ghost use Rattle.std.specs.Prelude.{◌≡◌, ◌+◌, ◌<◌, ◌∷◌, ◌++◌, [], Some, suc, drop, length, slice_get, option_to_list, OnOk};
-ghost use Rattle.kilim_typing.specs.Step.{by_row, made_at, made_by, needs, superclass_at, class_vtype, has_operands, room_for, is_class, Constructs};
-ghost use Rattle.kilim_classes.specs.Names.{class_at};
+ghost use Rattle.kilim_type_spec.specs.Step.{by_row, made_at, made_by, needs, superclass_at, class_vtype, has_operands, room_for, is_class, Constructs};
+ghost use Rattle.kilim_program.specs.Names.{class_at};
 ghost use Rattle.kilim_type_step.specs.Answers.{answers, class_made, initialized, left_by_made};
 ghost use Rattle.kilim_type_step.specs.Operands.{operands_of};
 
@@ -13,8 +13,8 @@ use crate::apply::{
 use crate::fault::StepFault;
 use crate::operands::{Taken, class_vtype};
 use crate::state::State;
-use kilim_classes::lookups::class_at;
-use kilim_classes::{ClassId, Instr, Method, Program, VType};
+use kilim_program::lookups::class_at;
+use kilim_program::{ClassId, Instr, Method, Program, VType};
 use std::alloc::AllocError;
 
 fn entry_at(code: &[(u32, Instr)], at: usize) -> &(u32, Instr)

@@ -3,14 +3,14 @@
 ghost use Rattle.std.specs.Prelude.{◌≡◌, ◌++◌, [], not, ◌&&◌, option_copied, IfOk, OnOk};
 ghost use Rattle.std.specs.List.{list_any};
 ghost use Rattle.std.specs.Option.{option_map};
-ghost use Rattle.kilim_classes.specs.Same.{is_constructor};
-ghost use Rattle.kilim_typing.specs.Step.{is_unset_this};
-ghost use Rattle.kilim_typing.specs.Typed.{declared, entry, frame_types, param_slots, slots_of_type, this_types};
+ghost use Rattle.kilim_program.specs.Same.{is_constructor};
+ghost use Rattle.kilim_type_spec.specs.Step.{is_unset_this};
+ghost use Rattle.kilim_type_spec.specs.Typed.{declared, entry, frame_types, param_slots, slots_of_type, this_types};
 
 use crate::members::is_constructor;
 use crate::operands::{class_vtype, vtype};
 use crate::state::{State, is_among};
-use kilim_classes::{Frame, Method, Ty, VType};
+use kilim_program::{Frame, Method, Ty, VType};
 use std::alloc::{AllocError, Global};
 
 // The type of the receiver behind those that are there, where there is one.

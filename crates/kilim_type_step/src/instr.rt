@@ -1,7 +1,7 @@
 //! The type step: one instruction.
 
 ghost use Rattle.std.specs.Prelude.{◌≡◌};
-ghost use Rattle.kilim_typing.specs.Step.{type_step};
+ghost use Rattle.kilim_type_spec.specs.Step.{type_step};
 ghost use Rattle.kilim_type_step.specs.Answers.{answers};
 
 use crate::arrays::on_reference_element;
@@ -15,7 +15,7 @@ use crate::plain::on_plain;
 use crate::returns::on_return;
 use crate::shuffles::on_shuffle;
 use crate::state::State;
-use kilim_classes::{Instr, Method, Program};
+use kilim_program::{Instr, Method, Program};
 use std::alloc::Global;
 
 /// What the instruction at a place of a method makes of the types there (JVMS 4.10.1.9), or the least rule but 1, 2

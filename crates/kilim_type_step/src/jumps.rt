@@ -1,7 +1,7 @@
 //! Jumps that test references.
 
 ghost use Rattle.std.specs.Prelude.{◌≡◌, true};
-ghost use Rattle.kilim_typing.specs.Step.{type_step};
+ghost use Rattle.kilim_type_spec.specs.Step.{type_step};
 ghost use Rattle.kilim_type_step.specs.Answers.{answers};
 ghost use Rattle.kilim_type_step.specs.Families.{is_reference_jump};
 
@@ -9,10 +9,10 @@ use crate::apply::apply;
 use crate::fault::StepFault;
 use crate::operands::{Also, Taken};
 use crate::state::State;
-use kilim_classes::{Instr, Method, Program};
+use kilim_program::{Instr, Method, Program};
 
 /// Comparisons of references, with each other and with null.
-#[tactic(auto, unfolding(kilim_typing::specs::Step::row))]
+#[tactic(auto, unfolding(kilim_type_spec::specs::Step::row))]
 pub fn on_reference_jump(
     program: &Program,
     method: &Method,

@@ -1,7 +1,7 @@
 //! Loads and stores of locals.
 
 ghost use Rattle.std.specs.Prelude.{◌≡◌, true};
-ghost use Rattle.kilim_typing.specs.Step.{by_row, type_step, pushed, Loads, Stores, Adds};
+ghost use Rattle.kilim_type_spec.specs.Step.{by_row, type_step, pushed, Loads, Stores, Adds};
 ghost use Rattle.kilim_type_step.specs.Answers.{answers};
 ghost use Rattle.kilim_type_step.specs.Operands.{operand_of};
 ghost use Rattle.kilim_type_step.specs.Families.{is_local};
@@ -10,7 +10,7 @@ use crate::apply::{MISSING_OPERAND, STACK_TOO_HIGH, WRONG_LOCAL, WRONG_OPERAND, 
 use crate::fault::StepFault;
 use crate::operands::{Taken, meets};
 use crate::state::{State, size};
-use kilim_classes::{Instr, Method, Program, VType};
+use kilim_program::{Instr, Method, Program, VType};
 use std::alloc::AllocError;
 
 fn pushed(taken: Taken) -> VType
@@ -86,7 +86,7 @@ fn change(program: &Program, method: &Method, state: &mut State, slot: u16) -> R
 }
 
 /// Loads and stores of locals, and `iinc`.
-#[tactic(auto, unfolding(kilim_typing::specs::Step::row))]
+#[tactic(auto, unfolding(kilim_type_spec::specs::Step::row))]
 pub fn on_local(
     program: &Program,
     method: &Method,

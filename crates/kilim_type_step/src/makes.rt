@@ -1,8 +1,8 @@
 //! New objects and arrays, and casts.
 
 ghost use Rattle.std.specs.Prelude.{◌≡◌, true};
-ghost use Rattle.kilim_typing.specs.Step.{by_row, type_step, may_make, Makes};
-ghost use Rattle.kilim_classes.specs.Names.{class_at};
+ghost use Rattle.kilim_type_spec.specs.Step.{by_row, type_step, may_make, Makes};
+ghost use Rattle.kilim_program.specs.Names.{class_at};
 ghost use Rattle.kilim_type_step.specs.Answers.{answers};
 ghost use Rattle.kilim_type_step.specs.Families.{is_made};
 
@@ -11,8 +11,8 @@ use crate::constants::object_type;
 use crate::fault::StepFault;
 use crate::operands::{Also, Taken};
 use crate::state::State;
-use kilim_classes::lookups::class_at;
-use kilim_classes::{Base, ClassId, Instr, Method, Program, Ty, VType};
+use kilim_program::lookups::class_at;
+use kilim_program::{Base, ClassId, Instr, Method, Program, Ty, VType};
 use std::alloc::AllocError;
 
 const INT: Taken = Taken::Is(VType::Int);
@@ -62,7 +62,7 @@ fn make(
 }
 
 // An array of references, by the type of its elements.
-#[tactic(auto, unfolding(kilim_typing::specs::Step::row))]
+#[tactic(auto, unfolding(kilim_type_spec::specs::Step::row))]
 fn make_array(
     program: &Program,
     method: &Method,
@@ -92,7 +92,7 @@ fn make_array(
 }
 
 /// New objects and arrays, and casts.
-#[tactic(auto, unfolding(kilim_typing::specs::Step::row))]
+#[tactic(auto, unfolding(kilim_type_spec::specs::Step::row))]
 pub fn on_made(
     program: &Program,
     method: &Method,

@@ -1,10 +1,10 @@
 //! Fields and calls.
 
 ghost use Rattle.std.specs.Prelude.{◌≡◌, ◌++◌, ◌∷◌, [], ◌&&◌, not, true, false, IfOk, option_to_list, option_copied, Some};
-ghost use Rattle.kilim_typing.specs.Step.{by_row, type_step, may_name, holder, field_row, missing, arguments, result_types, static_row, virtual_row, special_fits, special_by, Is, class_vtype};
-ghost use Rattle.kilim_classes.specs.Same.{is_constructor};
-ghost use Rattle.kilim_classes.specs.Names.{field_of};
-ghost use Rattle.kilim_classes.specs.declared.names.MethodId.{MethodId};
+ghost use Rattle.kilim_type_spec.specs.Step.{by_row, type_step, may_name, holder, field_row, missing, arguments, result_types, static_row, virtual_row, special_fits, special_by, Is, class_vtype};
+ghost use Rattle.kilim_program.specs.Same.{is_constructor};
+ghost use Rattle.kilim_program.specs.Names.{field_of};
+ghost use Rattle.kilim_program.specs.declared.names.MethodId.{MethodId};
 ghost use Rattle.kilim_type_step.specs.Answers.{answers};
 ghost use Rattle.kilim_type_step.specs.Operands.{operand_of, operands_of};
 ghost use Rattle.kilim_type_step.specs.Families.{is_member, is_field};
@@ -14,8 +14,8 @@ use crate::construct::construct;
 use crate::fault::StepFault;
 use crate::operands::{Also, Taken, class_vtype, vtype};
 use crate::state::State;
-use kilim_classes::lookups::{class_at, method_at, selected};
-use kilim_classes::{ClassId, Field, FieldId, Instr, Method, MethodId, Program, VType};
+use kilim_program::lookups::{class_at, method_at, selected};
+use kilim_program::{ClassId, Field, FieldId, Instr, Method, MethodId, Program, VType};
 use std::alloc::{AllocError, Global};
 
 // A private member is of the own class.
@@ -236,7 +236,7 @@ fn on_virtual(
 }
 
 // What a call from a superclass up selects isn't abstract.
-#[tactic(auto, unfolding(kilim_typing::specs::Step::special_fits))]
+#[tactic(auto, unfolding(kilim_type_spec::specs::Step::special_fits))]
 fn special_fits(program: &Program, method: &Method, id: MethodId, callee: &Method) -> bool
     ensures { result ≡ special_fits program.now method.now id callee.now }
 {
@@ -315,7 +315,7 @@ fn on_constructor(
 }
 
 /// Fields and calls.
-#[tactic(auto, using(crate::proofs::Called::constructor_called, crate::proofs::Called::special_called), unfolding(kilim_typing::specs::Step::row))]
+#[tactic(auto, using(crate::proofs::Called::constructor_called, crate::proofs::Called::special_called), unfolding(kilim_type_spec::specs::Step::row))]
 pub fn on_member(
     alloc: Global,
     program: &Program,

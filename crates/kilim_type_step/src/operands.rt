@@ -1,13 +1,13 @@
 //! What instructions take.
 
 ghost use Rattle.std.specs.Prelude.{◌≡◌, ◌∷◌, [], not};
-ghost use Rattle.kilim_classes.specs.Same.{same_base};
-ghost use Rattle.kilim_typing.specs.Step.{meets, vtype, class_vtype, is_array_of, is_array_of_references, is_unset};
+ghost use Rattle.kilim_program.specs.Same.{same_base};
+ghost use Rattle.kilim_type_spec.specs.Step.{meets, vtype, class_vtype, is_array_of, is_array_of_references, is_unset};
 ghost use Rattle.kilim_type_step.specs.Operands.{operand_of};
 ghost use Rattle.kilim_type_step.specs.Tests.{is_reference};
 
-use kilim_classes::{Base, ClassId, Program, Ty, VType};
-use kilim_typing::assignable;
+use kilim_program::{Base, ClassId, Program, Ty, VType};
+use kilim_type_spec::assignable;
 
 /// What an instruction takes from a slot.
 #[derive(Clone, Copy)]
@@ -130,7 +130,7 @@ fn is_initialized(t: VType) -> bool
 }
 
 /// Whether a type is such as an instruction takes. Takes no memory.
-#[tactic(auto, unfolding(kilim_typing::specs::Step::meets))]
+#[tactic(auto, unfolding(kilim_type_spec::specs::Step::meets))]
 pub fn meets(program: &Program, taken: Taken, t: VType) -> bool
     ensures { result ≡ meets program.now (operand_of taken) t }
 {

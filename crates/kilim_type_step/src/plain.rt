@@ -1,9 +1,9 @@
 //! Instructions whose operands depend on nothing: arithmetic, constants, jumps, and elements of arrays of primitive types.
 
 ghost use Rattle.std.specs.Prelude.{◌≡◌, true, [], option_to_list};
-ghost use Rattle.kilim_classes.specs.declared.class.Method.{Method};
-ghost use Rattle.kilim_classes.specs.Program.{Program};
-ghost use Rattle.kilim_typing.specs.Step.{row, type_step, Takes};
+ghost use Rattle.kilim_program.specs.declared.class.Method.{Method};
+ghost use Rattle.kilim_program.specs.Program.{Program};
+ghost use Rattle.kilim_type_spec.specs.Step.{row, type_step, Takes};
 ghost use Rattle.kilim_type_step.specs.Answers.{answers};
 ghost use Rattle.kilim_type_step.specs.Families.{is_arithmetic, is_plain};
 ghost use Rattle.kilim_type_step.specs.Operands.{operands_of};
@@ -12,7 +12,7 @@ use crate::apply::apply;
 use crate::fault::StepFault;
 use crate::operands::Taken;
 use crate::state::State;
-use kilim_classes::{Base, Instr, Method, Program, VType};
+use kilim_program::{Base, Instr, Method, Program, VType};
 
 const INT: Taken = Taken::Is(VType::Int);
 
@@ -54,7 +54,7 @@ const STORED_CHAR: &[Taken] = &[INT, INT, Taken::ArrayOf(Base::Char)];
 const STORED_SHORT: &[Taken] = &[INT, INT, Taken::ArrayOf(Base::Short)];
 
 // What an instruction of arithmetic takes, and what it gives.
-#[tactic(auto, unfolding(kilim_typing::specs::Step::row))]
+#[tactic(auto, unfolding(kilim_type_spec::specs::Step::row))]
 fn arithmetic_row(instr: &Instr) -> (&'static [Taken], Option<VType>)
     requires { is_arithmetic instr.now ≡ true }
     ensures { (p : Program) (m : Method) → row p m instr.now ≡ Takes (operands_of result.0.now) (option_to_list result.1) [] }
@@ -90,7 +90,7 @@ fn arithmetic_row(instr: &Instr) -> (&'static [Taken], Option<VType>)
 }
 
 // What a constant, a jump, an element's instruction or one of arithmetic takes, and what it gives.
-#[tactic(auto, unfolding(kilim_typing::specs::Step::row))]
+#[tactic(auto, unfolding(kilim_type_spec::specs::Step::row))]
 fn plain_row(instr: &Instr) -> (&'static [Taken], Option<VType>)
     requires { is_plain instr.now ≡ true }
     ensures { (p : Program) (m : Method) → row p m instr.now ≡ Takes (operands_of result.0.now) (option_to_list result.1) [] }

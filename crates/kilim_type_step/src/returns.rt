@@ -1,7 +1,7 @@
 //! Returns.
 
 ghost use Rattle.std.specs.Prelude.{◌≡◌, true};
-ghost use Rattle.kilim_typing.specs.Step.{type_step, is_int, has_int, has_long};
+ghost use Rattle.kilim_type_spec.specs.Step.{type_step, is_int, has_int, has_long};
 ghost use Rattle.kilim_type_step.specs.Answers.{answers};
 ghost use Rattle.kilim_type_step.specs.Families.{is_return};
 
@@ -9,7 +9,7 @@ use crate::apply::{WRONG_RETURN, leave};
 use crate::fault::StepFault;
 use crate::operands::{Also, Taken, vtype};
 use crate::state::{State, is_long};
-use kilim_classes::{Instr, Method, Program, Ty, VType};
+use kilim_program::{Instr, Method, Program, Ty, VType};
 
 fn is_int(t: VType) -> bool
     ensures { result ≡ is_int t }
@@ -43,7 +43,7 @@ fn has_long(ty: Option<Ty>) -> bool
     }
 }
 
-#[tactic(auto, unfolding(kilim_typing::specs::Step::row))]
+#[tactic(auto, unfolding(kilim_type_spec::specs::Step::row))]
 fn on_areturn(
     program: &Program,
     method: &Method,
@@ -65,7 +65,7 @@ fn on_areturn(
 }
 
 /// Returns.
-#[tactic(auto, unfolding(kilim_typing::specs::Step::row))]
+#[tactic(auto, unfolding(kilim_type_spec::specs::Step::row))]
 pub fn on_return(
     program: &Program,
     method: &Method,

@@ -1,9 +1,9 @@
 //! Pop, dup and swap forms.
 
 ghost use Rattle.std.specs.Prelude.{◌≡◌, ◌+◌, ◌≤◌, ◌++◌, true, MatchResult, OnOk, Ok};
-ghost use Rattle.kilim_classes.specs.declared.class.Method.{Method};
-ghost use Rattle.kilim_classes.specs.Program.{Program};
-ghost use Rattle.kilim_typing.specs.Step.{by_row, row, type_step, off, shuffled, with_stack, words, Shuffles, form_words, form_adds, form_room};
+ghost use Rattle.kilim_program.specs.declared.class.Method.{Method};
+ghost use Rattle.kilim_program.specs.Program.{Program};
+ghost use Rattle.kilim_type_spec.specs.Step.{by_row, row, type_step, off, shuffled, with_stack, words, Shuffles, form_words, form_adds, form_room};
 ghost use Rattle.kilim_type_step.specs.Answers.{answers};
 ghost use Rattle.kilim_type_step.specs.Forms.{form_of, count_off, number, SplitFails};
 ghost use Rattle.kilim_type_step.specs.Families.{is_shuffle};
@@ -11,7 +11,7 @@ ghost use Rattle.kilim_type_step.specs.Families.{is_shuffle};
 use crate::apply::{MISSING_OPERAND, STACK_TOO_HIGH};
 use crate::fault::StepFault;
 use crate::state::State;
-use kilim_classes::{Instr, Method, Program, VType};
+use kilim_program::{Instr, Method, Program, VType};
 use std::alloc::{AllocError, Global};
 
 const SPLIT_LONG: u8 = 7;
@@ -240,7 +240,7 @@ fn shuffle_words(
 }
 
 // The form of an instruction.
-#[tactic(auto, unfolding(kilim_typing::specs::Step::row))]
+#[tactic(auto, unfolding(kilim_type_spec::specs::Step::row))]
 fn shuffle_of(instr: &Instr) -> Shuffle
     requires { is_shuffle instr.now ≡ true }
     ensures { (p : Program) (m : Method) → row p m instr.now ≡ Shuffles (form_of result) }

@@ -2,9 +2,9 @@
 
 ghost use Rattle.std.specs.Prelude.{◌≡◌, ◌+◌, ◌-◌, ◌^◌, ◌∷◌, ◌++◌, [], take, ◌<◌, ◌≤◌, nat_le, length, drop, Option, Some, false, slice_get, IfOk, OnOk, reverse};
 ghost use Rattle.std.specs.List.{list_any};
-ghost use Rattle.kilim_typing.specs.Step.{peek, poke, stored, words, size, replaced, is_same, is_long, split_long, with_half};
+ghost use Rattle.kilim_type_spec.specs.Step.{peek, poke, stored, words, size, replaced, is_same, is_long, split_long, with_half};
 
-use kilim_classes::VType;
+use kilim_program::VType;
 use std::alloc::{AllocError, Global};
 use std::marker::Model;
 
@@ -19,7 +19,7 @@ pub struct State {
 
 impl Model for State {
     ghost use Rattle.std.specs.Prelude.{reverse};
-    ghost use Rattle.kilim_typing.specs.Step.{Types};
+    ghost use Rattle.kilim_type_spec.specs.Step.{Types};
 
     ghost Value = { Types };
 

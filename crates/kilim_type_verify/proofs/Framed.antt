@@ -5,15 +5,15 @@ use Rattle.std.specs.List.{list_all, list_any}
 use Rattle.std.proofs.lemmas.Bool.{eq-eqb, ne_eqb, cases_lt, lt-ltb, le-ltb}
 use Rattle.std.proofs.lemmas.List.{drop_more, drop-drop, append_assoc}
 use Rattle.std.proofs.lemmas.Option.{slice_get_within, get_or_from_slice_get}
-use Rattle.kilim_classes.specs.declared.class.Method.{Method}
-use Rattle.kilim_classes.specs.declared.instr.Instr.{Instr}
-use Rattle.kilim_classes.specs.declared.verified.Frame.{Frame}
-use Rattle.kilim_classes.specs.declared.verified.VType.{VType}
-use Rattle.kilim_classes.specs.Lengths.{is_code_place}
-use Rattle.kilim_classes.specs.Same.{is_constructor}
-use Rattle.kilim_typing.specs.Step.{peek, is_top, is_long, is_unset_this, words}
-use Rattle.kilim_typing.specs.Typed.{frame_fits, stands_at_new, halves, is_proper, padded}
-use Rattle.kilim_typing.specs.Faults.{frame_fault}
+use Rattle.kilim_program.specs.declared.class.Method.{Method}
+use Rattle.kilim_program.specs.declared.instr.Instr.{Instr}
+use Rattle.kilim_program.specs.declared.verified.Frame.{Frame}
+use Rattle.kilim_program.specs.declared.verified.VType.{VType}
+use Rattle.kilim_program.specs.Lengths.{is_code_place}
+use Rattle.kilim_program.specs.Same.{is_constructor}
+use Rattle.kilim_type_spec.specs.Step.{peek, is_top, is_long, is_unset_this, words}
+use Rattle.kilim_type_spec.specs.Typed.{frame_fits, stands_at_new, halves, is_proper, padded}
+use Rattle.kilim_type_spec.specs.Faults.{frame_fault}
 use Rattle.kilim_type_verify.specs.Frames.{half_at, locals_fit, types_fit}
 
 front_is : {A : Type 0} → (s : List A) (k : ℕ) (t : A) → slice_get s k ≡ Some t → drop k s ≡ t ∷ drop (k + 1) s

@@ -3,12 +3,12 @@ use Rattle.std.proofs.Common.{◌≡◌, ℕ, Bool, true, false, not, ◌==◌, 
 use Rattle.std.specs.Prelude.{if◌then◌else◌}
 use Rattle.std.specs.Option.{option_map}
 use Rattle.std.proofs.lemmas.Bool.{eqb-true}
-use Rattle.kilim_classes.specs.declared.class.Method.{Method}
-use Rattle.kilim_classes.specs.declared.instr.Instr.{Instr}
-use Rattle.kilim_classes.specs.Names.{is_empty}
-use Rattle.kilim_classes.specs.Program.{Program}
-use Rattle.kilim_typing.specs.Typed.{has_code, entry, frames_from, frames_of, listed}
-use Rattle.kilim_typing.specs.Faults.{body_fault, comes_first, earlier, frame_fault, method_fault}
+use Rattle.kilim_program.specs.declared.class.Method.{Method}
+use Rattle.kilim_program.specs.declared.instr.Instr.{Instr}
+use Rattle.kilim_program.specs.Names.{is_empty}
+use Rattle.kilim_program.specs.Program.{Program}
+use Rattle.kilim_type_spec.specs.Typed.{has_code, entry, frames_from, frames_of, listed}
+use Rattle.kilim_type_spec.specs.Faults.{body_fault, comes_first, earlier, frame_fault, method_fault}
 use Rattle.kilim_type_verify.specs.declared.walk.Walked.{Walked}
 use Rattle.kilim_type_verify.specs.declared.walk.Walked.TheVariants.{Frames, Fault}
 use Rattle.kilim_type_verify.specs.Walks.{BodyWalked, MethodWalked}

@@ -2,13 +2,13 @@
 use Rattle.std.proofs.Common.{◌≡◌, ℕ, Bool, true, false, ◌||◌, ◌&&◌, not, refl, ap, sym, ◌∙◌, List, [], ◌∷◌, ◌++◌, Option, Some, None, Result, Ok, Err}
 use Rattle.std.specs.Prelude.{is_some, nat_le, cond}
 use Rattle.std.specs.List.{list_all}
-use Rattle.kilim_classes.specs.declared.class.Method.{Method}
-use Rattle.kilim_classes.specs.declared.instr.Instr.{Instr}
-use Rattle.kilim_classes.specs.Lengths.{jump_targets, ends_path}
-use Rattle.kilim_classes.specs.Program.{Program}
-use Rattle.kilim_typing.specs.Step.{Types}
-use Rattle.kilim_typing.specs.Typed.{declared}
-use Rattle.kilim_typing.specs.Faults.{lesser, fails_unless, flows_into_declared, next_places, begins_declared, targets_declared, instr_rule}
+use Rattle.kilim_program.specs.declared.class.Method.{Method}
+use Rattle.kilim_program.specs.declared.instr.Instr.{Instr}
+use Rattle.kilim_program.specs.Lengths.{jump_targets, ends_path}
+use Rattle.kilim_program.specs.Program.{Program}
+use Rattle.kilim_type_spec.specs.Step.{Types}
+use Rattle.kilim_type_spec.specs.Typed.{declared}
+use Rattle.kilim_type_spec.specs.Faults.{lesser, fails_unless, flows_into_declared, next_places, begins_declared, targets_declared, instr_rule}
 use Rattle.kilim_type_verify.specs.Places.{behind_declared, declared_all, behind_flows, flow_all, place_of, IsStepped}
 
 -- ---- the place behind

@@ -5,16 +5,16 @@ use Rattle.std.proofs.lemmas.Bool.{and_parts}
 use Rattle.std.proofs.lemmas.List.{drop_more, drop_all, take_all, map-append}
 use Rattle.std.proofs.lemmas.Option.{slice_get_within, get_or_from_slice_get}
 use Rattle.kilim_lemmas.proofs.Lists.{take_next}
-use Rattle.kilim_classes.specs.declared.class.Method.{Method}
-use Rattle.kilim_classes.specs.declared.names.MethodId.{MethodId}
-use Rattle.kilim_classes.specs.declared.verified.Frame.{Frame}
-use Rattle.kilim_classes.specs.Keeps.{Keeps, code_is_whole}
-use Rattle.kilim_classes.specs.Lengths.{code_stands, targets_stand, code_ends}
-use Rattle.kilim_classes.specs.Names.{method_at}
-use Rattle.kilim_classes.specs.Program.{Program}
-use Rattle.kilim_typing.specs.Typed.{IsWellTyped, listed, frames_of, listed_frames}
-use Rattle.kilim_typing.specs.Faults.{method_fault, in_method, faults_from, first_type_fault}
-use Rattle.kilim_typing.proofs.FromFaults.{no_fault_is_well_typed}
+use Rattle.kilim_program.specs.declared.class.Method.{Method}
+use Rattle.kilim_program.specs.declared.names.MethodId.{MethodId}
+use Rattle.kilim_program.specs.declared.verified.Frame.{Frame}
+use Rattle.kilim_program.specs.Keeps.{Keeps, code_is_whole}
+use Rattle.kilim_program.specs.Lengths.{code_stands, targets_stand, code_ends}
+use Rattle.kilim_program.specs.Names.{method_at}
+use Rattle.kilim_program.specs.Program.{Program}
+use Rattle.kilim_type_spec.specs.Typed.{IsWellTyped, listed, frames_of, listed_frames}
+use Rattle.kilim_type_spec.specs.Faults.{method_fault, in_method, faults_from, first_type_fault}
+use Rattle.kilim_type_spec.proofs.FromFaults.{no_fault_is_well_typed}
 
 front_is : {A : Type 0} → (s : List A) (k : ℕ) (t : A) → slice_get s k ≡ Some t → drop k s ≡ t ∷ drop (k + 1) s
 front_is s k t e = drop_more s k t (slice_get_within s k t e) ∙ ap (λ x. x ∷ drop (k + 1) s) (get_or_from_slice_get s k t t e)

@@ -3,14 +3,14 @@ use Rattle.std.proofs.Common.{◌≡◌, ℕ, ◌+◌, ◌≤◌, Bool, true, fa
 use Rattle.std.specs.Prelude.{unwrap_or, nat_le, cond}
 use Rattle.std.proofs.lemmas.List.{drop_more, drop_all, append_assoc}
 use Rattle.std.proofs.lemmas.Option.{slice_get_within, get_or_from_slice_get}
-use Rattle.kilim_classes.specs.declared.class.Method.{Method}
-use Rattle.kilim_classes.specs.declared.instr.Instr.{Instr}
-use Rattle.kilim_classes.specs.declared.verified.Frame.{Frame}
-use Rattle.kilim_classes.specs.Lengths.{ends_path}
-use Rattle.kilim_classes.specs.Program.{Program}
-use Rattle.kilim_typing.specs.Step.{Types, type_step}
-use Rattle.kilim_typing.specs.Typed.{arriving, declared, goes_on, flows_on, left_by, listed, no_types, frames_from}
-use Rattle.kilim_typing.specs.Faults.{lesser, fails_unless, targets_declared, instr_rule, fault_or, walk_fault}
+use Rattle.kilim_program.specs.declared.class.Method.{Method}
+use Rattle.kilim_program.specs.declared.instr.Instr.{Instr}
+use Rattle.kilim_program.specs.declared.verified.Frame.{Frame}
+use Rattle.kilim_program.specs.Lengths.{ends_path}
+use Rattle.kilim_program.specs.Program.{Program}
+use Rattle.kilim_type_spec.specs.Step.{Types, type_step}
+use Rattle.kilim_type_spec.specs.Typed.{arriving, declared, goes_on, flows_on, left_by, listed, no_types, frames_from}
+use Rattle.kilim_type_spec.specs.Faults.{lesser, fails_unless, targets_declared, instr_rule, fault_or, walk_fault}
 use Rattle.kilim_type_verify.specs.declared.walk.Visited.TheVariants.{Goes, Fails}
 use Rattle.kilim_type_verify.specs.Places.{place_of, IsStepped}
 use Rattle.kilim_type_verify.specs.Walks.{VisitedUnder}

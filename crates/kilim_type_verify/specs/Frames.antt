@@ -1,12 +1,12 @@
 -- Rule 12 in parts.
 use Rattle.std.specs.Prelude.{ℕ, ◌+◌, Bool, ◌||◌, ◌&&◌, not, nat_lt, nat_le, List, length}
 use Rattle.std.specs.List.{list_all, list_any}
-use Rattle.kilim_classes.specs.declared.class.Method.{Method}
-use Rattle.kilim_classes.specs.declared.verified.Frame.{Frame}
-use Rattle.kilim_classes.specs.declared.verified.VType.{VType}
-use Rattle.kilim_classes.specs.Same.{is_constructor}
-use Rattle.kilim_typing.specs.Step.{peek, is_top, is_long, is_unset_this, words}
-use Rattle.kilim_typing.specs.Typed.{stands_at_new, halves, is_proper}
+use Rattle.kilim_program.specs.declared.class.Method.{Method}
+use Rattle.kilim_program.specs.declared.verified.Frame.{Frame}
+use Rattle.kilim_program.specs.declared.verified.VType.{VType}
+use Rattle.kilim_program.specs.Same.{is_constructor}
+use Rattle.kilim_type_spec.specs.Step.{peek, is_top, is_long, is_unset_this, words}
+use Rattle.kilim_type_spec.specs.Typed.{stands_at_new, halves, is_proper}
 
 -- a long at a slot has its second half behind it
 abbrev pub half_at : List VType → ℕ → Bool

@@ -1,12 +1,12 @@
 -- Rules 1 and 2 by the targets of an instruction and the place behind it.
 use Rattle.std.specs.Prelude.{◌≡◌, ℕ, Bool, true, ◌||◌, ◌&&◌, not, List, [], ◌∷◌, Option, Some, None, is_some, Result, Ok}
 use Rattle.std.specs.List.{list_all}
-use Rattle.kilim_classes.specs.declared.class.Method.{Method}
-use Rattle.kilim_classes.specs.declared.instr.Instr.{Instr}
-use Rattle.kilim_classes.specs.Program.{Program}
-use Rattle.kilim_typing.specs.Step.{Types}
-use Rattle.kilim_typing.specs.Typed.{declared}
-use Rattle.kilim_typing.specs.Faults.{flows_into_declared}
+use Rattle.kilim_program.specs.declared.class.Method.{Method}
+use Rattle.kilim_program.specs.declared.instr.Instr.{Instr}
+use Rattle.kilim_program.specs.Program.{Program}
+use Rattle.kilim_type_spec.specs.Step.{Types}
+use Rattle.kilim_type_spec.specs.Typed.{declared}
+use Rattle.kilim_type_spec.specs.Faults.{flows_into_declared}
 
 abbrev pub behind_declared : Method → Bool → Option ℕ → Bool
 behind_declared m ends None = true

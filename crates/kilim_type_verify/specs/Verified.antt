@@ -1,9 +1,9 @@
 -- What verifying a program answers.
 use Rattle.std.specs.Prelude.{◌≡◌, Some, None, Result, Ok, Err}
-use Rattle.kilim_classes.specs.Program.{Program}
-use Rattle.kilim_typing.specs.Typed.{IsWellTyped, listed_frames}
-use Rattle.kilim_typing.specs.Faults.{first_type_fault}
-use Rattle.kilim_typing.specs.TypedProgram.{TypedProgram}
+use Rattle.kilim_program.specs.Program.{Program}
+use Rattle.kilim_type_spec.specs.Typed.{IsWellTyped, listed_frames}
+use Rattle.kilim_type_spec.specs.Faults.{first_type_fault}
+use Rattle.kilim_type_spec.specs.TypedProgram.{TypedProgram}
 use Rattle.kilim_type_verify.specs.declared.programs.TypeFault.{TypeFault}
 use Rattle.kilim_type_verify.specs.declared.programs.TypeFault.TheVariants.{Rule, Memory}
 use Rattle.kilim_type_verify.specs.declared.programs.Methods.{Methods}

@@ -1,12 +1,12 @@
 -- What the code answers of an instruction and of a method, by the definitions.
 use Rattle.std.specs.Prelude.{◌≡◌, ℕ, List, [], ◌∷◌, ◌++◌, Option, Some, None, unwrap_or, map}
-use Rattle.kilim_classes.specs.declared.class.Method.{Method}
-use Rattle.kilim_classes.specs.declared.instr.Instr.{Instr}
-use Rattle.kilim_classes.specs.declared.verified.Frame.{Frame}
-use Rattle.kilim_classes.specs.Program.{Program}
-use Rattle.kilim_typing.specs.Step.{Types}
-use Rattle.kilim_typing.specs.Typed.{left_by, listed, no_types, frames_from, frames_of}
-use Rattle.kilim_typing.specs.Faults.{lesser, place_rule, walk_fault, method_fault, body_fault}
+use Rattle.kilim_program.specs.declared.class.Method.{Method}
+use Rattle.kilim_program.specs.declared.instr.Instr.{Instr}
+use Rattle.kilim_program.specs.declared.verified.Frame.{Frame}
+use Rattle.kilim_program.specs.Program.{Program}
+use Rattle.kilim_type_spec.specs.Step.{Types}
+use Rattle.kilim_type_spec.specs.Typed.{left_by, listed, no_types, frames_from, frames_of}
+use Rattle.kilim_type_spec.specs.Faults.{lesser, place_rule, walk_fault, method_fault, body_fault}
 use Rattle.kilim_type_verify.specs.declared.walk.Visited.{Visited}
 use Rattle.kilim_type_verify.specs.declared.walk.Visited.TheVariants.{Goes, Fails}
 use Rattle.kilim_type_verify.specs.declared.walk.Walked.{Walked}

@@ -1,13 +1,13 @@
 //! The frame with which a method begins.
 
 ghost use Rattle.std.specs.Prelude.{◌≡◌, nat_le, sum_by};
-ghost use Rattle.kilim_classes.specs.Same.{argument_slots, type_slots};
-ghost use Rattle.kilim_typing.specs.Typed.{entry};
-ghost use Rattle.kilim_typing.specs.Faults.{entry_rule};
+ghost use Rattle.kilim_program.specs.Same.{argument_slots, type_slots};
+ghost use Rattle.kilim_type_spec.specs.Typed.{entry};
+ghost use Rattle.kilim_type_spec.specs.Faults.{entry_rule};
 
 use crate::flows::flows_to;
 use crate::place::{fails_unless, lesser};
-use kilim_classes::{Method, Program, Ty};
+use kilim_program::{Method, Program, Ty};
 use kilim_type_step::{State, size, vtype};
 
 const NO_FLOW: u8 = 1;

@@ -2,13 +2,13 @@
 
 ghost use Rattle.std.specs.Prelude.{◌≡◌, is_some};
 ghost use Rattle.std.specs.List.{list_all};
-ghost use Rattle.kilim_typing.specs.Typed.{declared, frame_types, all_assignable};
-ghost use Rattle.kilim_typing.specs.Faults.{locals_flow, flows_into, flows_into_declared};
+ghost use Rattle.kilim_type_spec.specs.Typed.{declared, frame_types, all_assignable};
+ghost use Rattle.kilim_type_spec.specs.Faults.{locals_flow, flows_into, flows_into_declared};
 
 use crate::stated::is_declared;
-use kilim_classes::{Frame, Method, Program, VType};
+use kilim_program::{Frame, Method, Program, VType};
+use kilim_type_spec::assignable;
 use kilim_type_step::{State, declared_at, has_unset_this, type_at};
-use kilim_typing::assignable;
 
 fn locals_flow(program: &Program, from: &[VType], to: &[VType]) -> bool
     ensures { result ≡ locals_flow program.now from.now to.now }

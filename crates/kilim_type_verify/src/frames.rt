@@ -2,14 +2,14 @@
 
 ghost use Rattle.std.specs.Prelude.{◌≡◌, ◌<◌, ℕ, Some, IfOk, length, slice_get, option_map};
 ghost use Rattle.std.specs.List.{list_all, list_any};
-ghost use Rattle.kilim_classes.specs.Lengths.{is_code_place};
-ghost use Rattle.kilim_typing.specs.Step.{is_top, is_long};
-ghost use Rattle.kilim_typing.specs.Typed.{frame_fits, stands_at_new, halves, is_proper, listed, padded};
-ghost use Rattle.kilim_typing.specs.Faults.{frame_fault};
+ghost use Rattle.kilim_program.specs.Lengths.{is_code_place};
+ghost use Rattle.kilim_type_spec.specs.Step.{is_top, is_long};
+ghost use Rattle.kilim_type_spec.specs.Typed.{frame_fits, stands_at_new, halves, is_proper, listed, padded};
+ghost use Rattle.kilim_type_spec.specs.Faults.{frame_fault};
 ghost use Rattle.kilim_type_verify.specs.Frames.{half_at, locals_fit, types_fit};
 
 use crate::stated::entry_at;
-use kilim_classes::{Frame, Instr, Method, VType};
+use kilim_program::{Frame, Instr, Method, VType};
 use kilim_type_step::{State, are_within, has_unset_this, is_constructor, made_at, type_at, vtype};
 use kilim_units::Seq;
 use std::alloc::{AllocError, Global};

@@ -1,17 +1,17 @@
 //! One instruction: the least rule but 12 that fails there, or what it leaves.
 
 ghost use Rattle.std.specs.Prelude.{◌≡◌, IfOk};
-ghost use Rattle.kilim_classes.specs.Lengths.{jump_targets};
-ghost use Rattle.kilim_typing.specs.Step.{type_step};
-ghost use Rattle.kilim_typing.specs.Faults.{lesser, fails_unless, instr_rule, targets_declared};
+ghost use Rattle.kilim_program.specs.Lengths.{jump_targets};
+ghost use Rattle.kilim_type_spec.specs.Step.{type_step};
+ghost use Rattle.kilim_type_spec.specs.Faults.{lesser, fails_unless, instr_rule, targets_declared};
 ghost use Rattle.kilim_type_verify.specs.Places.{declared_all, flow_all, place_of, IsStepped};
-ghost use Rattle.kilim_classes.specs.declared.instr.Instr.{Instr};
+ghost use Rattle.kilim_program.specs.declared.instr.Instr.{Instr};
 ghost use Rattle.std.specs.Prelude.{List, ℕ};
 
 use crate::flows::{are_declared, flow_to_all, flows_to};
 use crate::stated::is_declared;
-use kilim_classes::{Instr, Method, Program};
-use kilim_liveness::{ends_path, jump_targets};
+use kilim_program::{Instr, Method, Program};
+use kilim_type_flow::{ends_path, jump_targets};
 use kilim_type_step::{State, StepFault, type_step};
 use kilim_units::NoMemory;
 use std::alloc::Global;

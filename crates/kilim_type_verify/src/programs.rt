@@ -4,9 +4,9 @@ ghost use Rattle.std.specs.Prelude.{◌≡◌, ◌<◌, Some, IfOk, length, slic
 ghost use Rattle.kilim_type_verify.specs.Verified.{IsVerified, MethodsWalked};
 
 use crate::walk::{Walked, walk};
-use kilim_classes::{Frame, Method, MethodId, Program};
+use kilim_program::{Frame, Method, MethodId, Program};
+use kilim_type_spec::Typed;
 use kilim_type_step::discard;
-use kilim_typing::Typed;
 use kilim_units::{NoMemory, Seq};
 use std::alloc::Global;
 

@@ -1,9 +1,9 @@
 //! Declared frames.
 
 ghost use Rattle.std.specs.Prelude.{◌≡◌, ◌<◌, Some, is_some, length, slice_get};
-ghost use Rattle.kilim_typing.specs.Typed.{declared};
+ghost use Rattle.kilim_type_spec.specs.Typed.{declared};
 
-use kilim_classes::{Frame, Method};
+use kilim_program::{Frame, Method};
 use kilim_type_step::declared_at;
 
 /// The entry of a number.

@@ -1,19 +1,19 @@
 //! A method's code, in order.
 
 ghost use Rattle.std.specs.Prelude.{◌≡◌, ◌<◌, ◌+◌, ◌++◌, ◌∷◌, [], true, List, ℕ, length, drop, Some, None, IfOk, OnOk, option_map};
-ghost use Rattle.kilim_classes.specs.declared.instr.Instr.{Instr};
-ghost use Rattle.kilim_classes.specs.Program.{Program};
-ghost use Rattle.kilim_classes.specs.declared.class.Method.{Method};
-ghost use Rattle.kilim_typing.specs.Typed.{arriving, declared, goes_on, has_code, listed};
-ghost use Rattle.kilim_typing.specs.Faults.{comes_first, frame_fault};
+ghost use Rattle.kilim_program.specs.declared.instr.Instr.{Instr};
+ghost use Rattle.kilim_program.specs.Program.{Program};
+ghost use Rattle.kilim_program.specs.declared.class.Method.{Method};
+ghost use Rattle.kilim_type_spec.specs.Typed.{arriving, declared, goes_on, has_code, listed};
+ghost use Rattle.kilim_type_spec.specs.Faults.{comes_first, frame_fault};
 ghost use Rattle.kilim_type_verify.specs.Places.{place_of};
 ghost use Rattle.kilim_type_verify.specs.Walks.{VisitedUnder, CodeWalked, BodyWalked, MethodWalked};
 
 use crate::entry::entry_rule;
 use crate::frames::{NO_FIT, code_at, frame_fault, listed};
 use crate::place::{NO_FRAME, fails_unless, is_followed, lesser, step};
-use kilim_classes::{Frame, Instr, Method, Program};
-use kilim_liveness::ends_path;
+use kilim_program::{Frame, Instr, Method, Program};
+use kilim_type_flow::ends_path;
 use kilim_type_step::{State, declared_at, entry_state, state_of};
 use kilim_units::NoMemory;
 use std::alloc::{AllocError, Global};

@@ -6,7 +6,7 @@ mod seq;
 mod shown;
 mod units;
 
-pub use memory::NoMemory;
+pub use memory::{NoMemory, no_room, unmet};
 pub use seq::Seq;
 pub use shown::{name_text, push_escape, push_name};
 pub use units::Units;

@@ -1,9 +1,9 @@
 -- The locals of a frame, one by one.
 use Rattle.std.proofs.Common.{◌≡◌, false, List, [], ◌∷◌, refl, ap}
-use Rattle.kilim_classes.specs.declared.verified.VType.{VType}
-use Rattle.kilim_classes.specs.declared.verified.VType.TheVariants.{Top, Int, Long, Null, UninitThis, Uninit, Object}
+use Rattle.kilim_program.specs.declared.verified.VType.{VType}
+use Rattle.kilim_program.specs.declared.verified.VType.TheVariants.{Top, Int, Long, Null, UninitThis, Uninit, Object}
 use Rattle.kilim_weave_file.specs.Parts.{entries_from}
-use Rattle.kilim_woven_sizes.specs.file_laws.form.FullFrames.{entries}
+use Rattle.kilim_weave_file_spec.specs.FullFrames.{entries}
 
 pub entries_are : (ts : List VType) → entries_from false ts ≡ entries ts
 entries_are [] = refl

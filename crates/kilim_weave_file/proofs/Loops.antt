@@ -3,9 +3,9 @@ use Rattle.std.proofs.Common.{◌≡◌, ℕ, zero, suc, ◌+◌, ◌-◌, ◌<�
 use Rattle.std.specs.List.{flat_map, list_any}
 use Rattle.std.proofs.Math.Seq.{take-length}
 use Rattle.std.proofs.lemmas.List.{append-nil, drop_all}
-use Rattle.kilim_classes.specs.declared.class.Method.{Method}
-use Rattle.kilim_classfile.specs.declared.class_file.MemberInfo.{MemberInfo}
-use Rattle.kilim_woven_sizes.specs.file_laws.form.WovenFile.{MethodPair, pairs_of}
+use Rattle.kilim_program.specs.declared.class.Method.{Method}
+use Rattle.kilim_class_file.specs.declared.class_file.MemberInfo.{MemberInfo}
+use Rattle.kilim_weave_file_spec.specs.WovenFile.{MethodPair, pairs_of}
 
 pub ahead : {X A : Type 0} (f : X → List A) (now next whole : List A) (xs : List X) (i : ℕ) (x d : X) → i < length xs → x ≡ get_or xs i d → now ++ flat_map f (drop i xs) ≡ whole
     → next ≡ now ++ f x → next ++ flat_map f (drop (i + 1) xs) ≡ whole

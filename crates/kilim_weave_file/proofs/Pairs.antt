@@ -1,16 +1,16 @@
 -- The methods of a file, one more.
 use Rattle.std.proofs.Common.{◌≡◌, ℕ, ◌+◌, arith, Bool, List, [], ◌∷◌, ◌++◌, length, slice_get, map, Option, Some, None, refl, sym, ap, ◌∙◌}
 use Rattle.std.specs.List.{flat_map}
-use Rattle.kilim_classes.specs.declared.class.Method.{Method}
-use Rattle.kilim_classes.specs.Program.{Program}
-use Rattle.kilim_classfile.specs.declared.class_file.ClassFile.{ClassFile}
-use Rattle.kilim_constant_pool.specs.declared.entry.Entry.{Entry}
-use Rattle.kilim_class_fits.specs.declared.pool_needs.need.Need.{Need}
-use Rattle.kilim_class_fits.specs.pool_needs.Adding.{with_needs}
-use Rattle.kilim_classfile.specs.declared.class_file.MemberInfo.{MemberInfo}
-use Rattle.kilim_class_fits.proofs.pool_needs.Searching.{some_same, none_is_some}
+use Rattle.kilim_program.specs.declared.class.Method.{Method}
+use Rattle.kilim_program.specs.Program.{Program}
+use Rattle.kilim_class_file.specs.declared.class_file.ClassFile.{ClassFile}
+use Rattle.kilim_class_pool.specs.declared.entry.Entry.{Entry}
+use Rattle.kilim_class_making.specs.declared.pool_needs.need.Need.{Need}
+use Rattle.kilim_class_making.specs.pool_needs.Adding.{with_needs}
+use Rattle.kilim_class_file.specs.declared.class_file.MemberInfo.{MemberInfo}
+use Rattle.kilim_class_making.proofs.pool_needs.Searching.{some_same, none_is_some}
 use Rattle.kilim_weave_file.specs.Parts.{member_by}
-use Rattle.kilim_woven_sizes.specs.file_laws.form.WovenFile.{MethodPair, member_needs, pairs_of, woven_file, woven_member, woven_pool}
+use Rattle.kilim_weave_file_spec.specs.WovenFile.{MethodPair, member_needs, pairs_of, woven_file, woven_member, woven_pool}
 
 abbrev one : MemberInfo → Method → Method → List Bool → List MethodPair
 one i p m c = record { info = i; plain = p; method = m; counted = c } ∷ []

@@ -1,14 +1,14 @@
 -- The two bounds, by their parts.
 use Rattle.std.proofs.Common.{◌≡◌, ℕ, ◌+◌, ◌*◌, Bool, List, length, ap, ◌∙◌}
 use Rattle.std.specs.Prelude.{sum_by}
-use Rattle.kilim_classes.specs.declared.class.Method.{Method}
-use Rattle.kilim_classes.specs.Program.{Program}
-use Rattle.kilim_classfile.specs.declared.class_file.ClassFile.{ClassFile}
-use Rattle.kilim_classfile.specs.declared.class_file.MemberInfo.{MemberInfo}
-use Rattle.kilim_classfile.specs.Text.{class_text as file_text}
-use Rattle.kilim_constant_pool.specs.Entries.{count_of}
-use Rattle.kilim_woven_sizes.specs.file_laws.form.Sizes.{added_entries, entry_bytes, file_size, longest_text, method_bytes, pool_sum}
-use Rattle.kilim_woven_sizes.specs.file_laws.form.WovenFile.{pairs_of}
+use Rattle.kilim_program.specs.declared.class.Method.{Method}
+use Rattle.kilim_program.specs.Program.{Program}
+use Rattle.kilim_class_file.specs.declared.class_file.ClassFile.{ClassFile}
+use Rattle.kilim_class_file.specs.declared.class_file.MemberInfo.{MemberInfo}
+use Rattle.kilim_class_file.specs.Text.{class_text as file_text}
+use Rattle.kilim_class_pool.specs.Entries.{count_of}
+use Rattle.kilim_weave_file_spec.specs.Sizes.{added_entries, entry_bytes, file_size, longest_text, method_bytes, pool_sum}
+use Rattle.kilim_weave_file_spec.specs.WovenFile.{pairs_of}
 
 pub sum_is : (p : Program) (file : ClassFile) (infos : List MemberInfo) (ps ms : List Method) (cs : List (List Bool)) (count added sum : ℕ) → infos ≡ file.methods → count ≡ count_of file.constant_pool →
     added ≡ added_entries p (pairs_of infos ps ms cs) → sum ≡ count + added → sum ≡ pool_sum p file (pairs_of file.methods ps ms cs)

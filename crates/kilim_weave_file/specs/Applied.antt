@@ -1,10 +1,10 @@
 -- What is answered where a class file is to be woven.
 use Rattle.std.specs.Prelude.{◌≡◌, ℕ, ◌<◌, ◌≤◌, List, Result, Ok, Err}
-use Rattle.kilim_classes.specs.Program.{Program}
-use Rattle.kilim_classfile.specs.declared.class_file.ClassFile.{ClassFile}
-use Rattle.kilim_classfile.specs.Text.{size_limit}
-use Rattle.kilim_woven_sizes.specs.file_laws.form.Sizes.{file_size, pool_sum}
-use Rattle.kilim_woven_sizes.specs.file_laws.form.WovenFile.{MethodPair, woven_file}
+use Rattle.kilim_program.specs.Program.{Program}
+use Rattle.kilim_class_file.specs.declared.class_file.ClassFile.{ClassFile}
+use Rattle.kilim_class_file.specs.Text.{size_limit}
+use Rattle.kilim_weave_file_spec.specs.Sizes.{file_size, pool_sum}
+use Rattle.kilim_weave_file_spec.specs.WovenFile.{MethodPair, woven_file}
 use Rattle.kilim_weave_file.specs.declared.fault.ApplyFault.{ApplyFault}
 use Rattle.kilim_weave_file.specs.declared.fault.ApplyFault.TheVariants.{PoolFull, FileTooLarge, Memory}
 

@@ -1,13 +1,13 @@
 -- Parts of the definitions of woven files, named for the functions that make them.
 use Rattle.std.specs.Prelude.{Bool, true, false, List, [], ◌∷◌, Option, Some, None}
-use Rattle.kilim_classes.specs.declared.class.Method.{Method}
-use Rattle.kilim_classes.specs.declared.verified.VType.{VType}
-use Rattle.kilim_classes.specs.Program.{Program}
-use Rattle.kilim_classfile.specs.declared.class_file.ClassFile.{ClassFile}
-use Rattle.kilim_classfile.specs.declared.class_file.MemberInfo.{MemberInfo}
-use Rattle.kilim_constant_pool.specs.declared.entry.Entry.{Entry}
-use Rattle.kilim_typing.specs.Step.{is_long}
-use Rattle.kilim_woven_sizes.specs.file_laws.form.WovenFile.{woven_member}
+use Rattle.kilim_program.specs.declared.class.Method.{Method}
+use Rattle.kilim_program.specs.declared.verified.VType.{VType}
+use Rattle.kilim_program.specs.Program.{Program}
+use Rattle.kilim_class_file.specs.declared.class_file.ClassFile.{ClassFile}
+use Rattle.kilim_class_file.specs.declared.class_file.MemberInfo.{MemberInfo}
+use Rattle.kilim_class_pool.specs.declared.entry.Entry.{Entry}
+use Rattle.kilim_type_spec.specs.Step.{is_long}
+use Rattle.kilim_weave_file_spec.specs.WovenFile.{woven_member}
 
 -- the locals of a frame, one by one: the next one is the half of a long, or it isn't
 abbrev pub entries_from : Bool → List VType → List VType

@@ -3,19 +3,19 @@
 ghost use Rattle.std.specs.Prelude.{◌≡◌, ◌++◌, ◌∷◌, [], None, if◌then◌else◌, IfOk, OnOk};
 ghost use Rattle.kilim_link_spec.specs.Code.{decoded};
 ghost use Rattle.kilim_link_spec.specs.Mentions.{instrs_if};
-ghost use Rattle.kilim_bytecode.specs.Code.{code_text};
-ghost use Rattle.kilim_woven_sizes.specs.file_laws.form.Raw.{added_raw, moved_raw, raw_code};
-ghost use Rattle.kilim_woven_sizes.specs.file_laws.form.WovenFile.{has_calls, table_by, table_with, woven_code};
+ghost use Rattle.kilim_class_code.specs.Code.{code_text};
+ghost use Rattle.kilim_weave_file_spec.specs.Raw.{added_raw, moved_raw, raw_code};
+ghost use Rattle.kilim_weave_file_spec.specs.WovenFile.{has_calls, table_by, table_with, woven_code};
 
 use crate::forms::{added_raw, moved_raw};
 use crate::frames::full_frames;
 use crate::needs::{has_calls, instrs_if, old_table, table_units};
-use kilim_attributes::{Code, CodeAttribute, CodeInfo};
-use kilim_bytecode::opcodes::RawInstr;
-use kilim_class_fits::code_bytes::code_bytes;
-use kilim_class_fits::pool_needs::text_index;
-use kilim_classes::{Instr, Method, Program};
-use kilim_constant_pool::Pool;
+use kilim_class_attributes::{Code, CodeAttribute, CodeInfo};
+use kilim_class_code::opcodes::RawInstr;
+use kilim_class_making::code_bytes::code_bytes;
+use kilim_class_making::pool_needs::text_index;
+use kilim_class_pool::Pool;
+use kilim_program::{Instr, Method, Program};
 use kilim_units::{NoMemory, Seq};
 use std::alloc::Global;
 
@@ -58,7 +58,7 @@ fn push_added(
 }
 
 // The instructions of a woven code in their forms; the counted ones are the old ones, in order.
-#[tactic(auto, unfolding(kilim_woven_sizes::specs::file_laws::form::Raw::raw_code))]
+#[tactic(auto, unfolding(kilim_weave_file_spec::specs::Raw::raw_code))]
 fn push_raw(
     alloc: Global,
     into: &mut Seq<(u32, RawInstr)>,

@@ -1,14 +1,14 @@
 //! Instructions in the forms in which they are written.
 
 ghost use Rattle.std.specs.Prelude.{◌≡◌, ◌+◌, ◌≤◌, pos, map, IfOk};
-ghost use Rattle.kilim_bytecode.specs.declared.opcodes.instr.RawInstr.TheVariants as raw;
-ghost use Rattle.kilim_woven_sizes.specs.file_laws.form.Raw.{added_need, added_raw, index_or, int_form, local_form, long_form, moved_raw, old_need, pair_number, place_number, shortest, switched, target_of};
+ghost use Rattle.kilim_class_code.specs.declared.opcodes.instr.RawInstr.TheVariants as raw;
+ghost use Rattle.kilim_weave_file_spec.specs.Raw.{added_need, added_raw, index_or, int_form, local_form, long_form, moved_raw, old_need, pair_number, place_number, shortest, switched, target_of};
 
 use crate::needs::{added_need, old_need};
-use kilim_bytecode::opcodes::RawInstr;
-use kilim_class_fits::pool_needs::{Need, index_of};
-use kilim_classes::{Instr, Program};
-use kilim_constant_pool::Pool;
+use kilim_class_code::opcodes::RawInstr;
+use kilim_class_making::pool_needs::{Need, index_of};
+use kilim_class_pool::Pool;
+use kilim_program::{Instr, Program};
 use kilim_units::{NoMemory, Seq};
 use std::alloc::Global;
 
@@ -190,7 +190,7 @@ fn moved_index(
 
 /// An old instruction at its new place, with the indices of the new pool: it keeps its form and its index, but for jumps,
 /// switches, loads, stores and pausable calls. The old pool says what it names.
-#[tactic(auto, unfolding(kilim_woven_sizes::specs::file_laws::form::Raw::moved_raw))]
+#[tactic(auto, unfolding(kilim_weave_file_spec::specs::Raw::moved_raw))]
 pub fn moved_raw(
     alloc: Global,
     program: &Program,
@@ -238,7 +238,7 @@ fn added_index(
 }
 
 /// An instruction that weaving adds, with the indices of the new pool.
-#[tactic(auto, unfolding(kilim_woven_sizes::specs::file_laws::form::Raw::added_raw))]
+#[tactic(auto, unfolding(kilim_weave_file_spec::specs::Raw::added_raw))]
 pub fn added_raw(
     alloc: Global,
     program: &Program,

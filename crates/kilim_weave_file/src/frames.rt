@@ -1,19 +1,19 @@
 //! Declared frames, all in the full form (JVMS 4.7.4).
 
 ghost use Rattle.std.specs.Prelude.{◌≡◌, ◌<◌, ◌-◌, ◌++◌, ◌∷◌, [], List, suc, length, map, slice_get, Some, IfOk};
-ghost use Rattle.kilim_attribute_parts.specs.declared.frame.VerificationType.TheVariants as slot;
-ghost use Rattle.kilim_classes.specs.declared.verified.VType.{VType};
-ghost use Rattle.kilim_classes.specs.declared.verified.VType.TheVariants.{Object};
-ghost use Rattle.kilim_typing.specs.Step.{is_long};
+ghost use Rattle.kilim_class_attributes.specs.declared.parts.frame.VerificationType.TheVariants as slot;
+ghost use Rattle.kilim_program.specs.declared.verified.VType.{VType};
+ghost use Rattle.kilim_program.specs.declared.verified.VType.TheVariants.{Object};
+ghost use Rattle.kilim_type_spec.specs.Step.{is_long};
 ghost use Rattle.kilim_weave_file.specs.Parts.{entries_from};
-ghost use Rattle.kilim_woven_sizes.specs.file_laws.form.FullFrames.{entries, full_frame, full_frames, slot_type};
+ghost use Rattle.kilim_weave_file_spec.specs.FullFrames.{entries, full_frame, full_frames, slot_type};
 
-use kilim_attribute_parts::{Frame as Entered, VerificationType};
-use kilim_class_fits::pool_needs::{Need, index_of};
-use kilim_classes::{Frame, Program, Ty, VType};
-use kilim_constant_pool::Pool;
+use kilim_class_attributes::parts::{Frame as Entered, VerificationType};
+use kilim_class_making::pool_needs::{Need, index_of};
+use kilim_class_pool::Pool;
+use kilim_program::{Frame, Program, Ty, VType};
 use kilim_units::{NoMemory, Seq};
-use kilim_woven_sizes::type_name;
+use kilim_weave_file_sizes::type_name;
 use std::alloc::Global;
 
 // The entry of a class is found by the text of its name.
@@ -178,7 +178,7 @@ fn push_frame(
 }
 
 /// The frames of a table, in their order.
-#[tactic(auto, unfolding(kilim_woven_sizes::specs::file_laws::form::FullFrames::full_frames))]
+#[tactic(auto, unfolding(kilim_weave_file_spec::specs::FullFrames::full_frames))]
 pub fn full_frames(
     alloc: Global,
     program: &Program,

@@ -10,5 +10,5 @@ mod needs;
 mod weaving;
 
 pub use fault::ApplyFault;
-pub use kilim_woven_sizes::longest_text;
+pub use kilim_weave_file_sizes::longest_text;
 pub use weaving::apply;

@@ -1,23 +1,23 @@
 //! Woven methods.
 
 ghost use Rattle.std.specs.Prelude.{◌≡◌, ◌++◌, ◌∷◌, [], Some, IfOk, OnOk};
-ghost use Rattle.kilim_attributes.specs.declared.attribute.Info.TheVariants as what;
+ghost use Rattle.kilim_class_attributes.specs.declared.attribute.Info.TheVariants as what;
 ghost use Rattle.std.specs.List.{cons_option, filter_map};
-ghost use Rattle.kilim_class_fits.specs.pool_needs.Adding.{text_index};
+ghost use Rattle.kilim_class_making.specs.pool_needs.Adding.{text_index};
 ghost use Rattle.kilim_link_spec.specs.World.{member_descriptor};
-ghost use Rattle.kilim_woven_sizes.specs.file_laws.form.Texts.{woven_descriptor};
-ghost use Rattle.kilim_woven_sizes.specs.file_laws.form.WovenFile.{attribute_with, one_parameter_more, rewritten, woven_attribute, woven_code, woven_info};
+ghost use Rattle.kilim_weave_file_spec.specs.Texts.{woven_descriptor};
+ghost use Rattle.kilim_weave_file_spec.specs.WovenFile.{attribute_with, one_parameter_more, rewritten, woven_attribute, woven_code, woven_info};
 
 use crate::code::woven_code;
 use crate::needs::text_of;
-use kilim_attribute_parts::AnnotationPart;
-use kilim_attributes::{Attribute, Code, Info};
-use kilim_class_fits::pool_needs::text_index;
-use kilim_classes::{Method, Program};
-use kilim_classfile::{ClassFile, MemberInfo};
-use kilim_constant_pool::Pool;
+use kilim_class_attributes::parts::AnnotationPart;
+use kilim_class_attributes::{Attribute, Code, Info};
+use kilim_class_file::{ClassFile, MemberInfo};
+use kilim_class_making::pool_needs::text_index;
+use kilim_class_pool::Pool;
+use kilim_program::{Method, Program};
 use kilim_units::{NoMemory, Seq, Units};
-use kilim_woven_sizes::woven_descriptor;
+use kilim_weave_file_sizes::woven_descriptor;
 use std::alloc::Global;
 
 // One parameter more, without annotations (JVMS 4.7.18). A count of 255 has no room for one: it would be answered as want of memory.

@@ -2,23 +2,23 @@
 
 ghost use Rattle.std.specs.Prelude.{◌≡◌, ◌++◌, Some, None, IfOk, OnOk, codes, option_copied};
 ghost use Rattle.std.specs.List.{filter_map, flat_map};
-ghost use Rattle.kilim_attributes.specs.declared.attribute.Attribute.{Attribute};
-ghost use Rattle.kilim_classfile.specs.Parts.{text_of};
+ghost use Rattle.kilim_class_attributes.specs.declared.attribute.Attribute.{Attribute};
+ghost use Rattle.kilim_class_file.specs.Parts.{text_of};
 ghost use Rattle.kilim_link_spec.specs.Code.{decoded};
 ghost use Rattle.kilim_link_spec.specs.Mentions.{instrs_if};
-ghost use Rattle.kilim_woven_sizes.specs.file_laws.form.FullFrames.{frame_needs, frames_needs, type_needs};
-ghost use Rattle.kilim_woven_sizes.specs.file_laws.form.Raw.{added_need, call_by, call_need, code_needs, listed, old_need};
-ghost use Rattle.kilim_woven_sizes.specs.file_laws.form.Texts.{needed_method};
-ghost use Rattle.kilim_woven_sizes.specs.file_laws.form.WovenFile.{has_calls, head_of, info_needs, instrs_needs, old_table, table_name, table_need};
+ghost use Rattle.kilim_weave_file_spec.specs.FullFrames.{frame_needs, frames_needs, type_needs};
+ghost use Rattle.kilim_weave_file_spec.specs.Raw.{added_need, call_by, call_need, code_needs, listed, old_need};
+ghost use Rattle.kilim_weave_file_spec.specs.Texts.{needed_method};
+ghost use Rattle.kilim_weave_file_spec.specs.WovenFile.{has_calls, head_of, info_needs, instrs_needs, old_table, table_name, table_need};
 
-use kilim_attributes::{Attribute, Code, CodeAttribute, CodeInfo, Info};
-use kilim_bytecode::opcodes::RawInstr;
-use kilim_class_fits::pool_needs::Need;
-use kilim_classes::{Frame, Instr, Method, MethodId, Program, VType};
-use kilim_constant_pool::{Entry, Pool};
+use kilim_class_attributes::{Attribute, Code, CodeAttribute, CodeInfo, Info};
+use kilim_class_code::opcodes::RawInstr;
+use kilim_class_making::pool_needs::Need;
+use kilim_class_pool::{Entry, Pool};
 use kilim_link_mentions::decoded;
+use kilim_program::{Frame, Instr, Method, MethodId, Program, VType};
 use kilim_units::{NoMemory, Seq, Units};
-use kilim_woven_sizes::{is_pausable_call, needed_method, type_name, woven_descriptor};
+use kilim_weave_file_sizes::{is_pausable_call, needed_method, type_name, woven_descriptor};
 use std::alloc::Global;
 
 // ---- calls
@@ -36,7 +36,7 @@ pub fn has_calls(program: &Program, method: &Method) -> bool
 }
 
 // The units of a Utf8 (JVMS 4.4.7); none where another entry stands there.
-#[tactic(auto, unfolding(kilim_classfile::specs::Parts::text_of))]
+#[tactic(auto, unfolding(kilim_class_file::specs::Parts::text_of))]
 pub fn text_of(alloc: Global, pool: &Pool, index: u16) -> Result<Units, NoMemory>
     ensures { IfOk result (λ units. units ≡ text_of pool.now index) }
 {

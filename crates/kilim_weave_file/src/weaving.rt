@@ -2,27 +2,27 @@
 
 ghost use Rattle.std.specs.Prelude.{◌≡◌, ◌++◌, ◌∷◌, length, map, slice_get, option_copied, Some, IfOk, OnOk};
 ghost use Rattle.std.specs.List.{flat_map};
-ghost use Rattle.kilim_attributes.specs.declared.attribute.Attribute.{Attribute};
+ghost use Rattle.kilim_class_attributes.specs.declared.attribute.Attribute.{Attribute};
 ghost use Rattle.kilim_link_spec.specs.World.{member_descriptor};
-ghost use Rattle.kilim_class_fits.specs.declared.pool_needs.need.Need.TheVariants.{AText};
-ghost use Rattle.kilim_class_fits.specs.pool_needs.Adding.{with_needs};
-ghost use Rattle.kilim_woven_sizes.specs.file_laws.form.Texts.{woven_descriptor};
-ghost use Rattle.kilim_classfile.specs.Text.{ClassFits, class_text};
-ghost use Rattle.kilim_woven_sizes.specs.file_laws.form.Sizes.{longest_text};
-ghost use Rattle.kilim_woven_sizes.specs.file_laws.form.WovenFile.{info_needs, member_needs, pairs_of, woven_file, woven_member};
+ghost use Rattle.kilim_class_making.specs.declared.pool_needs.need.Need.TheVariants.{AText};
+ghost use Rattle.kilim_class_making.specs.pool_needs.Adding.{with_needs};
+ghost use Rattle.kilim_weave_file_spec.specs.Texts.{woven_descriptor};
+ghost use Rattle.kilim_class_file.specs.Text.{ClassFits, class_text};
+ghost use Rattle.kilim_weave_file_spec.specs.Sizes.{longest_text};
+ghost use Rattle.kilim_weave_file_spec.specs.WovenFile.{info_needs, member_needs, pairs_of, woven_file, woven_member};
 ghost use Rattle.kilim_weave_file.specs.Parts.{member_by};
 ghost use Rattle.kilim_weave_file.specs.Applied.{Applied, SizesFit};
 
 use crate::fault::ApplyFault;
 use crate::members::{member_text, rewritten};
 use crate::needs::push_attributes;
-use kilim_class_fits::fits;
-use kilim_class_fits::pool_needs::{Need, with_needs};
-use kilim_classes::{Method, Program};
-use kilim_classfile::{ClassFile, MemberInfo, read, write};
-use kilim_constant_pool::Pool;
+use kilim_class_file::{ClassFile, MemberInfo, read, write};
+use kilim_class_making::fits;
+use kilim_class_making::pool_needs::{Need, with_needs};
+use kilim_class_pool::Pool;
+use kilim_program::{Method, Program};
 use kilim_units::{NoMemory, Seq};
-use kilim_woven_sizes::{added_entries, methods_bytes, plus, size_by};
+use kilim_weave_file_sizes::{added_entries, methods_bytes, plus, size_by};
 use std::alloc::Global;
 use std::mem::replace;
 

@@ -3,11 +3,11 @@ use Rattle.std.proofs.Common.{◌≡◌, ℕ, List, [], ◌∷◌, ◌++◌, Non
 use Rattle.std.specs.List.{flat_map}
 use Rattle.std.specs.FinMap.{get, insert}
 use Rattle.std.proofs.lemmas.List.{append-nil}
-use Rattle.kilim_classes.specs.declared.machine.value.Object.{Object}
-use Rattle.kilim_classes.specs.machine.Machine.{Objects}
-use Rattle.kilim_machine_parts.proofs.Maps.{got-there}
-use Rattle.kilim_tree_move.specs.Walk.{refs, Leads}
-use Rattle.kilim_tree_move.proofs.Stacks.{pop_reversed}
+use Rattle.kilim_run_state.specs.declared.value.Object.{Object}
+use Rattle.kilim_run_state.specs.Machine.{Objects}
+use Rattle.kilim_run_state.proofs.Maps.{got-there}
+use Rattle.kilim_run_trees.specs.Walk.{refs, Leads}
+use Rattle.kilim_run_trees.proofs.Stacks.{pop_reversed}
 use Rattle.kilim_case_text.specs.run_tables.Chains.{AreBelow, IsOwn}
 use Rattle.kilim_case_text.proofs.run_tables.Chained.{still_in, new_place}
 

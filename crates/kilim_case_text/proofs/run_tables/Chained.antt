@@ -3,13 +3,13 @@ use Rattle.std.proofs.Common.{◌≡◌, ℕ, List, [], ◌∷◌, ◌++◌, Opt
 use Rattle.std.specs.List.{AllByRecursion}
 use Rattle.std.specs.FinMap.{get, insert}
 use Rattle.std.proofs.lemmas.List.{append-nil}
-use Rattle.kilim_classes.specs.declared.names.FieldId.{FieldId}
-use Rattle.kilim_classes.specs.declared.value.Value.{Value}
-use Rattle.kilim_classes.specs.declared.value.Value.TheVariants.{Null, Ref}
-use Rattle.kilim_classes.specs.declared.machine.value.Object.{Object}
-use Rattle.kilim_classes.specs.machine.Machine.{Objects}
-use Rattle.kilim_machine_parts.proofs.Maps.{got-there, got-other}
-use Rattle.kilim_tree_move.specs.Walk.{value_refs, refs, field_refs, element_refs, Leads, AreIn, places}
+use Rattle.kilim_program.specs.declared.names.FieldId.{FieldId}
+use Rattle.kilim_program.specs.declared.value.Value.{Value}
+use Rattle.kilim_program.specs.declared.value.Value.TheVariants.{Null, Ref}
+use Rattle.kilim_run_state.specs.declared.value.Object.{Object}
+use Rattle.kilim_run_state.specs.Machine.{Objects}
+use Rattle.kilim_run_state.proofs.Maps.{got-there, got-other}
+use Rattle.kilim_run_trees.specs.Walk.{value_refs, refs, field_refs, element_refs, Leads, AreIn, places}
 use Rattle.kilim_case_text.specs.run_tables.Chains.{IsBelow, IsOwn}
 
 pub one_field : (fields : List (FieldId × Value)) (elements : List Value) (f : FieldId) (next : Value) → fields ≡ [] ++ (f, next) ∷ [] → elements ≡ [] → field_refs fields ++ element_refs elements ≡ value_refs next

@@ -5,10 +5,10 @@ use Rattle.std.specs.List.{AllByRecursion}
 use Rattle.std.specs.Ordering.{nat_cmp, eq_by_cmp}
 use Rattle.std.specs.Cmp.{nat_cmp_total}
 use Rattle.std.specs.FinMap.{get, insert, empty, get-insert, get-empty}
-use Rattle.kilim_classes.specs.declared.machine.value.Object.{Object}
-use Rattle.kilim_classes.specs.machine.Machine.{Objects}
-use Rattle.kilim_machine_parts.proofs.Maps.{got-there}
-use Rattle.kilim_tree_move.specs.Walk.{refs, Leads, AreIn, AllThere}
+use Rattle.kilim_run_state.specs.declared.value.Object.{Object}
+use Rattle.kilim_run_state.specs.Machine.{Objects}
+use Rattle.kilim_run_state.proofs.Maps.{got-there}
+use Rattle.kilim_run_trees.specs.Walk.{refs, Leads, AreIn, AllThere}
 use Rattle.kilim_case_text.specs.run_tables.Chains.{IsFull, IsFullAt}
 
 abbrev AreThere : Objects → List ℕ → Type 0

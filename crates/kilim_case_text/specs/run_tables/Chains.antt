@@ -2,11 +2,11 @@
 use Rattle.std.specs.Prelude.{◌≡◌, ℕ, List, [], Some, IsSome}
 use Rattle.std.specs.List.{AllByRecursion}
 use Rattle.std.specs.FinMap.{get}
-use Rattle.kilim_classes.specs.declared.value.Value.{Value}
-use Rattle.kilim_classes.specs.declared.machine.value.Object.{Object}
-use Rattle.kilim_classes.specs.machine.Machine.{Objects}
-use Rattle.kilim_machine_parts.specs.Places.{AllDiffer}
-use Rattle.kilim_tree_move.specs.Walk.{value_refs, refs, Leads, AreIn, IsTree, places}
+use Rattle.kilim_program.specs.declared.value.Value.{Value}
+use Rattle.kilim_run_state.specs.declared.value.Object.{Object}
+use Rattle.kilim_run_state.specs.Machine.{Objects}
+use Rattle.kilim_run_state.specs.Places.{AllDiffer}
+use Rattle.kilim_run_trees.specs.Walk.{value_refs, refs, Leads, AreIn, IsTree, places}
 
 -- objects below a value, none of which is met twice
 pub record IsBelow (heap : Objects) (value : Value) : Type 0 where

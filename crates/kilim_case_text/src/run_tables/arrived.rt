@@ -1,12 +1,11 @@
 //! A tree as it stands in a heap: a word for each object, in preorder.
 
 ghost use Rattle.std.specs.Prelude.{◌≡◌, ◌++◌, [], reverse, IfSome};
-ghost use Rattle.kilim_tree_move.specs.Walk.{value_refs, field_refs, element_refs, refs, AllThere};
+ghost use Rattle.kilim_run_trees.specs.Walk.{value_refs, field_refs, element_refs, refs, AllThere};
 
 use crate::Text;
-use kilim_classes::machine::Object;
-use kilim_classes::{Base, FieldId, Value};
-use kilim_machine_parts::Heap;
+use kilim_program::{Base, FieldId, Value};
+use kilim_run_state::{Heap, Object};
 use std::alloc::Global;
 
 /// No tree that came in has more objects.

@@ -1,16 +1,15 @@
 //! Trees by the words of a case: a word for each object, in preorder.
 
 ghost use Rattle.std.specs.Prelude.{◌≡◌, ◌++◌, ◌∷◌, [], true, reverse, IfSome};
-ghost use Rattle.kilim_tree_move.specs.Walk.{value_refs, field_refs, element_refs, refs};
+ghost use Rattle.kilim_run_trees.specs.Walk.{value_refs, field_refs, element_refs, refs};
 ghost use Rattle.kilim_case_text.specs.run_tables.Chains.{AreBelow, IsOwn};
 
 use crate::Text;
 use crate::run_tables::arrived::push_tree;
 use crate::run_tables::trees::{node, push_moved, taken};
-use kilim_classes::machine::Object;
-use kilim_classes::{Base, BoxName, ClassId, FieldId, Ty, Value};
-use kilim_machine_parts::Heap;
-use kilim_tree_move::{Tree, put_in};
+use kilim_program::{Base, BoxName, ClassId, FieldId, Ty, Value};
+use kilim_run_state::{Heap, Object};
+use kilim_run_trees::{Tree, put_in};
 use kilim_units::Seq;
 use std::alloc::Global;
 

@@ -1,10 +1,10 @@
 //! Journals that are read and written again.
 
 ghost use Rattle.std.specs.List.{AllByRecursion};
-ghost use Rattle.kilim_journal.specs.Read.{IsEntry};
+ghost use Rattle.kilim_run_journal.specs.Read.{IsEntry};
 
 use crate::{Text, read_file};
-use kilim_journal::{Entry, TextFault, read_text, text};
+use kilim_run_journal::{Entry, TextFault, read_text, text};
 use std::alloc::Global;
 use std::rt::Files;
 

@@ -2,15 +2,14 @@
 
 ghost use Rattle.std.specs.Prelude.{◌≡◌, [], ◌∷◌, IfSome, IsSome};
 ghost use Rattle.std.specs.FinMap.{get};
-ghost use Rattle.kilim_tree_move.specs.Walk.{refs, AllThere};
+ghost use Rattle.kilim_run_trees.specs.Walk.{refs, AllThere};
 ghost use Rattle.kilim_case_text.specs.run_tables.Chains.{IsFull, IsFullAt};
 
 use crate::Text;
 use crate::run_tables::trees::node;
-use kilim_classes::machine::Object;
-use kilim_classes::{Base, ClassId, FieldId, Ty, Value};
-use kilim_machine_parts::Heap;
-use kilim_tree_move::{MoveFault, reserve_tree};
+use kilim_program::{Base, ClassId, FieldId, Ty, Value};
+use kilim_run_state::{Heap, Object};
+use kilim_run_trees::{MoveFault, reserve_tree};
 use kilim_units::Seq;
 use std::alloc::Global;
 

@@ -1,14 +1,13 @@
 //! Trees that are moved.
 
 ghost use Rattle.std.specs.Prelude.{◌≡◌, IfSome};
-ghost use Rattle.kilim_tree_move.specs.Walk.{value_refs, refs};
+ghost use Rattle.kilim_run_trees.specs.Walk.{value_refs, refs};
 ghost use Rattle.kilim_case_text.specs.run_tables.Chains.{IsBelow, IsOwn};
 
 use crate::Text;
-use kilim_classes::machine::Object;
-use kilim_classes::{Base, ClassId, FieldId, Ty, Value};
-use kilim_machine_parts::Heap;
-use kilim_tree_move::{MoveFault, Tree, put_in, reserve_tree, take_out};
+use kilim_program::{Base, ClassId, FieldId, Ty, Value};
+use kilim_run_state::{Heap, Object};
+use kilim_run_trees::{MoveFault, Tree, put_in, reserve_tree, take_out};
 use kilim_units::Seq;
 use std::alloc::Global;
 

@@ -1,15 +1,15 @@
 -- What linking, verification and the isolation rules give of a program's runs.
 use Rattle.std.proofs.Common.{◌≡◌, true, List}
-use Rattle.kilim_classes.specs.declared.class.Form.TheVariants.{Plain}
-use Rattle.kilim_classes.specs.declared.names.ClassId.{ClassId}
-use Rattle.kilim_classes.specs.Keeps.{Keeps}
-use Rattle.kilim_classes.specs.Program.{Program}
-use Rattle.kilim_classfile.specs.declared.class_file.ClassFile.{ClassFile}
-use Rattle.kilim_classes.specs.declared.machine.run.Limits.{Limits}
-use Rattle.kilim_classes.specs.machine.Members.{is_fit_main}
-use Rattle.kilim_thread_model.specs.one_heap.Laws.{NoneShares}
-use Rattle.kilim_typing.specs.Typed.{IsWellTyped}
-use Rattle.kilim_isolation_check.specs.Faults.{IsAccepted}
+use Rattle.kilim_program.specs.declared.class.Form.TheVariants.{Plain}
+use Rattle.kilim_program.specs.declared.names.ClassId.{ClassId}
+use Rattle.kilim_program.specs.Keeps.{Keeps}
+use Rattle.kilim_program.specs.Program.{Program}
+use Rattle.kilim_class_file.specs.declared.class_file.ClassFile.{ClassFile}
+use Rattle.kilim_run_state.specs.declared.run.Limits.{Limits}
+use Rattle.kilim_program.specs.Members.{is_fit_main}
+use Rattle.kilim_run_model.specs.one_heap.Laws.{NoneShares}
+use Rattle.kilim_type_spec.specs.Typed.{IsWellTyped}
+use Rattle.kilim_isolation.specs.Faults.{IsAccepted}
 use Rattle.kilim_link_spec.specs.LinksWell.{LinksWell}
 use Rattle.kilim_isolation_laws.specs.accepted_runs.plain.Laws.{LinkedIsPlain}
 use Rattle.kilim_isolation_laws.specs.accepted_runs.begins.Begins.{MainsBegin}

@@ -3,23 +3,24 @@ use Rattle.std.proofs.Common.{◌≡◌, ℕ, zero, suc, Bool, true, false, cond
 use Rattle.std.specs.Prelude.{ℤ, pos, negsuc, reverse, slice_get}
 use Rattle.std.specs.FinMap.{get}
 use Rattle.std.proofs.lemmas.Bool.{false≢true}
-use Rattle.kilim_classes.specs.declared.class.Method.{Method}
-use Rattle.kilim_classes.specs.Program.{Program}
-use Rattle.kilim_classes.specs.declared.instr.Instr.{Instr}
-use Rattle.kilim_classes.specs.declared.instr.Instr.TheVariants.{Invokevirtual, Invokespecial, Invokestatic}
-use Rattle.kilim_classes.specs.declared.names.BoxName.{BoxName}
-use Rattle.kilim_classes.specs.declared.names.MethodId.{MethodId}
-use Rattle.kilim_classes.specs.declared.ty.Ty.{Ty}
-use Rattle.kilim_classes.specs.declared.value.Value.{Value}
-use Rattle.kilim_classes.specs.declared.value.Value.TheVariants.{Int, Long, Null, Ref, Text, Box, Fiber}
-use Rattle.kilim_classes.specs.Names.{method_at}
-use Rattle.kilim_classes.specs.Lengths.{fetched}
-use Rattle.kilim_classes.specs.declared.machine.value.Object.{Object}
-use Rattle.kilim_classes.specs.machine.Machine.{Objects, Activation}
-use Rattle.kilim_classes.specs.machine.Natives.{is_built_in_constructor, is_handed_out, is_text_method}
-use Rattle.kilim_classes.specs.machine.Effect.{Effect, Goes, Makes, Opens, Calls, Asks, Returns, Raises, Ends, Stuck, with_some, on_value, on_values, on_receiver, as_receiver, as_class, named_type, text_of}
-use Rattle.kilim_classes.specs.machine.Does.{does, chosen, calls_method, calls_on, special, calls_text, takes_element, text_answers, at_unit, unit_at}
-use Rattle.kilim_classes.specs.machine.Moves.{effect_of, effect_in, effect_found}
+use Rattle.kilim_program.specs.declared.class.Method.{Method}
+use Rattle.kilim_program.specs.Program.{Program}
+use Rattle.kilim_program.specs.declared.instr.Instr.{Instr}
+use Rattle.kilim_program.specs.declared.instr.Instr.TheVariants.{Invokevirtual, Invokespecial, Invokestatic}
+use Rattle.kilim_program.specs.declared.names.BoxName.{BoxName}
+use Rattle.kilim_program.specs.declared.names.MethodId.{MethodId}
+use Rattle.kilim_program.specs.declared.ty.Ty.{Ty}
+use Rattle.kilim_program.specs.declared.value.Value.{Value}
+use Rattle.kilim_program.specs.declared.value.Value.TheVariants.{Int, Long, Null, Ref, Text, Box, Fiber}
+use Rattle.kilim_program.specs.Names.{method_at}
+use Rattle.kilim_program.specs.Lengths.{fetched}
+use Rattle.kilim_run_state.specs.declared.value.Object.{Object}
+use Rattle.kilim_run_state.specs.Machine.{Objects, Activation}
+use Rattle.kilim_run_machine.specs.Natives.{is_built_in_constructor, is_handed_out, is_text_method}
+use Rattle.kilim_run_machine.specs.Effect.{Effect, Goes, Makes, Opens, Calls, Asks, Returns, Raises, Ends, Stuck, with_some, on_value, on_values, on_receiver, as_receiver, as_class, text_of}
+use Rattle.kilim_program.specs.Members.{named_type}
+use Rattle.kilim_run_machine.specs.Does.{does, chosen, calls_method, calls_on, special, calls_text, takes_element, text_answers, at_unit, unit_at}
+use Rattle.kilim_run_machine.specs.Moves.{effect_of, effect_in, effect_found}
 use Rattle.kilim_isolation_laws.proofs.at_rest.Quiet.{NoAsk, AsksNothing, is_call, no_if, no_when, no_some, no_value, no_int, no_receiver, no_on_int, no_on_object, no_on_receiver, no_index, no_ask}
 
 -- what a mailbox alone is asked, the other one asks too, on its own heap

@@ -3,19 +3,20 @@ use Rattle.std.proofs.Common.{◌≡◌, ℕ, zero, suc, Bool, true, false, cond
 use Rattle.std.specs.Prelude.{nat_lt, not, slice_get}
 use Rattle.std.specs.Ordering.{int_eq}
 use Rattle.std.specs.FinMap.{get}
-use Rattle.kilim_classes.specs.declared.class.Method.{Method}
-use Rattle.kilim_classes.specs.Program.{Program}
-use Rattle.kilim_classes.specs.declared.instr.Instr.{Instr}
-use Rattle.kilim_classes.specs.declared.instr.Instr.TheVariants.{Nop, AconstNull, Iconst, Lconst, Bipush, Sipush, Ldc, LdcW, Ldc2W, Iload, Lload, Aload, Iaload, Laload, Aaload, Baload, Caload, Saload, Istore, Lstore, Astore, Iastore, Lastore, Aastore, Bastore, Castore, Sastore, Pop, Pop2, Dup, DupX1, DupX2, Dup2, Dup2X1, Dup2X2, Swap, Iadd, Ladd, Isub, Lsub, Imul, Lmul, Idiv, Ldiv, Irem, Lrem, Ineg, Lneg, Ishl, Lshl, Ishr, Lshr, Iushr, Lushr, Iand, Land, Ior, Lor, Ixor, Lxor, Iinc, I2l, L2i, I2b, I2c, I2s, Lcmp, Ifeq, Ifne, Iflt, Ifge, Ifgt, Ifle, IfIcmpeq, IfIcmpne, IfIcmplt, IfIcmpge, IfIcmpgt, IfIcmple, IfAcmpeq, IfAcmpne, Goto, Tableswitch, Lookupswitch, Ireturn, Lreturn, Areturn, Return, Getstatic, Getfield, Putfield, Invokevirtual, Invokespecial, Invokestatic, New, Newarray, Anewarray, Arraylength, Checkcast, Instanceof, Ifnull, Ifnonnull, GotoW, Athrow}
-use Rattle.kilim_classes.specs.declared.ty.Ty.{Ty}
-use Rattle.kilim_classes.specs.declared.value.Value.{Value}
-use Rattle.kilim_classes.specs.declared.value.Value.TheVariants.{Int, Long, Null, Ref, Text, Box, Fiber}
-use Rattle.kilim_classes.specs.declared.machine.value.Object.{Object}
-use Rattle.kilim_classes.specs.machine.Machine.{Objects}
-use Rattle.kilim_classes.specs.machine.Shapes.{field_in}
-use Rattle.kilim_classes.specs.Names.{field_of}
-use Rattle.kilim_classes.specs.machine.Effect.{Effect, Goes, Makes, Opens, Calls, Asks, Returns, Raises, Ends, Stuck, with_some, on_value, on_values, on_receiver, as_reference, as_receiver, as_int, as_long, on_int, on_two_ints, on_long, on_two_longs, is_wide, wide_or, on_word, on_two_words, on_reference, as_object, on_object, as_class, at_index, at_place, when, on_constant, named_type}
-use Rattle.kilim_classes.specs.machine.Does.{does, cast_fits, element_type, is_mailbox, makes_array, array_limit}
+use Rattle.kilim_program.specs.declared.class.Method.{Method}
+use Rattle.kilim_program.specs.Program.{Program}
+use Rattle.kilim_program.specs.declared.instr.Instr.{Instr}
+use Rattle.kilim_program.specs.declared.instr.Instr.TheVariants.{Nop, AconstNull, Iconst, Lconst, Bipush, Sipush, Ldc, LdcW, Ldc2W, Iload, Lload, Aload, Iaload, Laload, Aaload, Baload, Caload, Saload, Istore, Lstore, Astore, Iastore, Lastore, Aastore, Bastore, Castore, Sastore, Pop, Pop2, Dup, DupX1, DupX2, Dup2, Dup2X1, Dup2X2, Swap, Iadd, Ladd, Isub, Lsub, Imul, Lmul, Idiv, Ldiv, Irem, Lrem, Ineg, Lneg, Ishl, Lshl, Ishr, Lshr, Iushr, Lushr, Iand, Land, Ior, Lor, Ixor, Lxor, Iinc, I2l, L2i, I2b, I2c, I2s, Lcmp, Ifeq, Ifne, Iflt, Ifge, Ifgt, Ifle, IfIcmpeq, IfIcmpne, IfIcmplt, IfIcmpge, IfIcmpgt, IfIcmple, IfAcmpeq, IfAcmpne, Goto, Tableswitch, Lookupswitch, Ireturn, Lreturn, Areturn, Return, Getstatic, Getfield, Putfield, Invokevirtual, Invokespecial, Invokestatic, New, Newarray, Anewarray, Arraylength, Checkcast, Instanceof, Ifnull, Ifnonnull, GotoW, Athrow}
+use Rattle.kilim_program.specs.declared.ty.Ty.{Ty}
+use Rattle.kilim_program.specs.declared.value.Value.{Value}
+use Rattle.kilim_program.specs.declared.value.Value.TheVariants.{Int, Long, Null, Ref, Text, Box, Fiber}
+use Rattle.kilim_run_state.specs.declared.value.Object.{Object}
+use Rattle.kilim_run_state.specs.Machine.{Objects}
+use Rattle.kilim_run_state.specs.Shapes.{field_in}
+use Rattle.kilim_program.specs.Names.{field_of}
+use Rattle.kilim_run_machine.specs.Effect.{Effect, Goes, Makes, Opens, Calls, Asks, Returns, Raises, Ends, Stuck, with_some, on_value, on_values, on_receiver, as_reference, as_receiver, as_int, as_long, on_int, on_two_ints, on_long, on_two_longs, is_wide, wide_or, on_word, on_two_words, on_reference, as_object, on_object, as_class, at_index, at_place, when, on_constant}
+use Rattle.kilim_program.specs.Members.{named_type}
+use Rattle.kilim_run_machine.specs.Does.{does, cast_fits, element_type, is_mailbox, makes_array, array_limit}
 
 abbrev pub AsksNothing : Effect → Type 0
 AsksNothing (Goes place locals stack heap) = Unit {0}

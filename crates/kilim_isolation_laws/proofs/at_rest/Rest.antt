@@ -1,18 +1,18 @@
 -- Threads come to rest in one way.
 use Rattle.std.proofs.Common.{◌≡◌, ℕ, zero, suc, ◌+◌, ◌<◌, ◌≤◌, Bool, true, false, cond, List, [], ◌∷◌, Option, Some, None, ◌⊎◌, inl, inr, length, refl, sym, ap, subst, ◌∙◌, arith}
 use Rattle.std.specs.Prelude.{◌&&◌, nat_lt, is_some, slice_get, slice_set}
-use Rattle.kilim_classes.specs.declared.machine.cause.EndCause.TheVariants as cause
-use Rattle.kilim_classes.specs.declared.machine.value.Token.{Token}
-use Rattle.kilim_classes.specs.declared.names.BoxName.{BoxName}
-use Rattle.kilim_classes.specs.machine.Machine.{Activation}
-use Rattle.kilim_journal.specs.declared.entry.Act.{Act}
-use Rattle.kilim_journal.specs.declared.entry.Act.TheVariants.{End}
-use Rattle.kilim_journal.specs.declared.entry.Entry.{Entry}
-use Rattle.kilim_thread_model.specs.State.{Setting, Mailbox, Thread, Alive, Ended, State, execute_frames}
-use Rattle.kilim_thread_model.specs.Lone.{Lone, Next, Goes, Puts, Gets, Probes, Starts, Prints, Ends, Stands, ended, next_move, get_at}
-use Rattle.kilim_thread_model.specs.Turn.{Moved, quiet, acted, lone_of, with_lone, gets, probes, starts, starts_with, task_limit, moved_by, thread_moved, moved}
-use Rattle.kilim_thread_model.specs.Runs.{unless_acted, before_action, settled_from, settled, where_empty, if_empty, waits_at, is_at_rest, all_at_rest, waits_from, AtRest}
-use Rattle.kilim_thread_model.proofs.Alone.{rests_still}
+use Rattle.kilim_run_state.specs.declared.cause.EndCause.TheVariants as cause
+use Rattle.kilim_run_state.specs.declared.value.Token.{Token}
+use Rattle.kilim_program.specs.declared.names.BoxName.{BoxName}
+use Rattle.kilim_run_state.specs.Machine.{Activation}
+use Rattle.kilim_run_journal.specs.declared.entry.Act.{Act}
+use Rattle.kilim_run_journal.specs.declared.entry.Act.TheVariants.{End}
+use Rattle.kilim_run_journal.specs.declared.entry.Entry.{Entry}
+use Rattle.kilim_run_model.specs.State.{Setting, Mailbox, Thread, Alive, Ended, State, execute_frames}
+use Rattle.kilim_run_model.specs.Lone.{Lone, Next, Goes, Puts, Gets, Probes, Starts, Prints, Ends, Stands, ended, next_move, get_at}
+use Rattle.kilim_run_model.specs.Turn.{Moved, quiet, acted, lone_of, with_lone, gets, probes, starts, starts_with, task_limit, moved_by, thread_moved, moved}
+use Rattle.kilim_run_model.specs.Runs.{unless_acted, before_action, settled_from, settled, where_empty, if_empty, waits_at, is_at_rest, all_at_rest, waits_from, AtRest}
+use Rattle.kilim_run_model.proofs.Alone.{rests_still}
 use Rattle.kilim_lemmas.proofs.Lists.{set_other}
 use Rattle.kilim_isolation_laws.specs.at_rest.Laws.{OneRest}
 use Rattle.kilim_isolation_laws.proofs.at_rest.Stays.{get_stays}

@@ -1,24 +1,24 @@
 -- A thread at the `get` of a mailbox stands there on every heap.
 use Rattle.std.proofs.Common.{◌≡◌, ℕ, zero, suc, ◌+◌, Bool, true, false, cond, List, [], ◌∷◌, Option, Some, None, length, refl, sym, ap, subst, ◌∙◌}
 use Rattle.std.specs.Prelude.{ℤ, nat_lt, nat_le}
-use Rattle.kilim_classes.specs.declared.machine.cause.EndCause.TheVariants as cause
-use Rattle.kilim_classes.specs.declared.machine.value.Token.{Token}
-use Rattle.kilim_classes.specs.Program.{Program}
-use Rattle.kilim_classes.specs.declared.names.BoxName.{BoxName}
-use Rattle.kilim_classes.specs.declared.names.MethodId.{MethodId}
-use Rattle.kilim_classes.specs.declared.value.Value.{Value}
-use Rattle.kilim_classes.specs.declared.value.Value.TheVariants.{Int, Long, Null, Ref, Text, Box, Fiber}
-use Rattle.kilim_classes.specs.machine.Machine.{Objects, Activation}
-use Rattle.kilim_classes.specs.machine.Members.{execute_of}
-use Rattle.kilim_classes.specs.machine.Natives.{Native, native_of}
-use Rattle.kilim_classes.specs.machine.Natives as native
-use Rattle.kilim_classes.specs.machine.Effect.{Effect}
-use Rattle.kilim_classes.specs.machine.Effect as effect
-use Rattle.kilim_classes.specs.machine.Moves.{Move, Change, frame_limit, push_value, moves, move_by, called, returned, effect_of}
-use Rattle.kilim_classes.specs.machine.Moves as move
-use Rattle.kilim_classes.specs.machine.Shapes.{shape_of}
-use Rattle.kilim_thread_model.specs.State.{Setting, Thread, Alive, Ended, begun_on}
-use Rattle.kilim_thread_model.specs.Lone.{Lone, Next, Goes, Gets, box_limit, went, over, put_next, message_next, start_next, print_next, printed, arg_next, arg_at, native_next, asks_next, begins_next, finish_next, on_heap, next_by, frames_next, thread_next, next_move, get_at}
+use Rattle.kilim_run_state.specs.declared.cause.EndCause.TheVariants as cause
+use Rattle.kilim_run_state.specs.declared.value.Token.{Token}
+use Rattle.kilim_program.specs.Program.{Program}
+use Rattle.kilim_program.specs.declared.names.BoxName.{BoxName}
+use Rattle.kilim_program.specs.declared.names.MethodId.{MethodId}
+use Rattle.kilim_program.specs.declared.value.Value.{Value}
+use Rattle.kilim_program.specs.declared.value.Value.TheVariants.{Int, Long, Null, Ref, Text, Box, Fiber}
+use Rattle.kilim_run_state.specs.Machine.{Objects, Activation}
+use Rattle.kilim_program.specs.Members.{execute_of}
+use Rattle.kilim_run_machine.specs.Natives.{Native, native_of}
+use Rattle.kilim_run_machine.specs.Natives as native
+use Rattle.kilim_run_machine.specs.Effect.{Effect}
+use Rattle.kilim_run_machine.specs.Effect as effect
+use Rattle.kilim_run_machine.specs.Moves.{Move, Change, frame_limit, push_value, moves, move_by, called, returned, effect_of}
+use Rattle.kilim_run_machine.specs.Moves as move
+use Rattle.kilim_run_state.specs.Shapes.{shape_of}
+use Rattle.kilim_run_model.specs.State.{Setting, Thread, Alive, Ended, begun_on}
+use Rattle.kilim_run_model.specs.Lone.{Lone, Next, Goes, Gets, box_limit, went, over, put_next, message_next, start_next, print_next, printed, arg_next, arg_at, native_next, asks_next, begins_next, finish_next, on_heap, next_by, frames_next, thread_next, next_move, get_at}
 use Rattle.kilim_isolation_laws.specs.at_rest.Laws.{GetStays}
 use Rattle.kilim_isolation_laws.proofs.at_rest.Asked.{SameAsk, AsksSame, effect_same}
 

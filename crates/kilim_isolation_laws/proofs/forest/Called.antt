@@ -3,7 +3,7 @@ use Rattle.std.proofs.Common.{◌≡◌, ℕ, zero, suc, ◌<◌, Bool, true, fa
 use Rattle.kilim_isolation_laws.specs.forest.Heap.{Heap, IsForest}
 use Rattle.kilim_isolation_laws.specs.forest.Relation.{Standing, Root, Inner, Safe, Gone, is_gone, is_safe, Label, Node, Named, Names, Owns, Relates, Frames}
 use Rattle.kilim_isolation_laws.specs.forest.Steps.{IsTidy, Argument, Free, Cuttable, after_arguments, Qualifier, is_owned, entry_node, more_arguments, arguments, number_or, IsCall}
-use Rattle.kilim_classes.specs.declared.ty.Qualifier.TheVariants as qualifier
+use Rattle.kilim_program.specs.declared.ty.Qualifier.TheVariants as qualifier
 use Rattle.kilim_isolation_laws.proofs.forest.Paths.{some_is}
 use Rattle.kilim_isolation_laws.proofs.forest.Store.{both_ways, is_same, is_not_same}
 use Rattle.kilim_isolation_laws.proofs.forest.Less.{IsLess, lives}

@@ -1,22 +1,22 @@
 -- A node comes, and the topmost slot names it; and what else a step does to slots.
 use Rattle.std.proofs.Common.{◌≡◌, ℕ, suc, ◌+◌, ◌<◌, ◌==◌, true, false, true≢false, eqb, cond, List, [], ◌∷◌, ◌++◌, map, length, Option, Some, None, refl, sym, ap, subst, ◌∙◌, ◌⊎◌, inl, inr, arith}
 use Rattle.std.specs.List.{list_any}
-use Rattle.kilim_classes.specs.declared.class.Method.{Method}
-use Rattle.kilim_classes.specs.declared.names.FieldId.{FieldId}
-use Rattle.kilim_classes.specs.declared.value.Value.{Value}
-use Rattle.kilim_classes.specs.declared.verified.VType.{VType}
-use Rattle.kilim_classes.specs.Program.{Program}
-use Rattle.kilim_classes.specs.machine.Machine.{Objects}
-use Rattle.kilim_typing.specs.Step.{Types, peek}
+use Rattle.kilim_program.specs.declared.class.Method.{Method}
+use Rattle.kilim_program.specs.declared.names.FieldId.{FieldId}
+use Rattle.kilim_program.specs.declared.value.Value.{Value}
+use Rattle.kilim_program.specs.declared.verified.VType.{VType}
+use Rattle.kilim_program.specs.Program.{Program}
+use Rattle.kilim_run_state.specs.Machine.{Objects}
+use Rattle.kilim_type_spec.specs.Step.{Types, peek}
 use Rattle.kilim_isolation_laws.specs.forest.Relation.{Root, is_gone, Label, Field, Element, Node, Named, Frames}
 use Rattle.kilim_isolation_laws.specs.forest.Steps.{pick, set_node}
 use Rattle.kilim_isolation_laws.specs.forest.Canonical.{node_at}
 use Rattle.kilim_isolation_laws.proofs.forest.Store.{both_ways, is_same, is_not_same, same_is}
 use Rattle.kilim_isolation_laws.specs.forest.Steps.{IsNearly_tidy}
 use Rattle.kilim_isolation_laws.proofs.forest.Moves.{set_named}
-use Rattle.kilim_shape_graph.specs.declared.graph.Graph.{Graph}
-use Rattle.kilim_shape_graph.specs.Graphs.{slot, added}
-use Rattle.kilim_shape_graph.specs.Nodes.{new_region}
+use Rattle.kilim_isolation_graph.specs.declared.graph.Graph.{Graph}
+use Rattle.kilim_isolation_graph.specs.Graphs.{slot, added}
+use Rattle.kilim_isolation_graph.specs.Nodes.{new_region}
 use Rattle.kilim_isolation_rules.specs.Marks.{names_gone}
 use Rattle.kilim_isolation_rules.specs.Fields.{is_child, same_label, known_child, child_by}
 use Rattle.kilim_isolation_laws.specs.graph_rows.Holds.{sort, Fits, named_sort, refers, AreSlots, named_by, value_at, Waiting, waiting_named, Holds, trees}

@@ -3,33 +3,33 @@ use Rattle.std.proofs.Common.{◌≡◌, ℕ, zero, suc, ℤ, ◌+◌, ◌*◌, 
 use Rattle.std.specs.List.{list_any}
 use Rattle.std.specs.Prelude.{drop, slice_get, slice_set}
 use Rattle.std.specs.FinMap.{get, insert}
-use Rattle.kilim_classes.specs.declared.instr.Instr.TheVariants as instr
-use Rattle.kilim_classes.specs.declared.ty.Kind.TheVariants as kind
-use Rattle.kilim_classes.specs.declared.ty.Base.TheVariants as base
-use Rattle.kilim_classes.specs.declared.verified.VType.TheVariants as vtype
-use Rattle.kilim_classes.specs.declared.class.Method.{Method}
-use Rattle.kilim_classes.specs.declared.ty.Kind.{Kind}
-use Rattle.kilim_classes.specs.declared.ty.Ty.{Ty}
-use Rattle.kilim_classes.specs.declared.machine.value.Object.{Object}
-use Rattle.kilim_classes.specs.declared.value.Value.{Value}
-use Rattle.kilim_classes.specs.Program.{Program}
-use Rattle.kilim_classes.specs.machine.Machine.{Objects}
-use Rattle.kilim_classes.specs.declared.ty.Base.{Base}
-use Rattle.kilim_classes.specs.declared.value.Value.TheVariants.{Int, Ref}
-use Rattle.kilim_classes.specs.declared.verified.VType.{VType}
-use Rattle.kilim_classes.specs.Kinds.{kind_of, is_tree_kind, is_private_kind}
-use Rattle.kilim_classes.specs.Fits.{fits_type}
-use Rattle.kilim_classes.specs.Lengths.{jump_targets, ends_path}
-use Rattle.kilim_classes.specs.machine.Does.{does, element_type, cast_fits}
-use Rattle.kilim_typing.specs.Step.{Types, peek, assignable, Is, References, meets, all_meet, object_type, is_array_of_references, dims_vtype, base_vtype, row}
+use Rattle.kilim_program.specs.declared.instr.Instr.TheVariants as instr
+use Rattle.kilim_program.specs.declared.ty.Kind.TheVariants as kind
+use Rattle.kilim_program.specs.declared.ty.Base.TheVariants as base
+use Rattle.kilim_program.specs.declared.verified.VType.TheVariants as vtype
+use Rattle.kilim_program.specs.declared.class.Method.{Method}
+use Rattle.kilim_program.specs.declared.ty.Kind.{Kind}
+use Rattle.kilim_program.specs.declared.ty.Ty.{Ty}
+use Rattle.kilim_run_state.specs.declared.value.Object.{Object}
+use Rattle.kilim_program.specs.declared.value.Value.{Value}
+use Rattle.kilim_program.specs.Program.{Program}
+use Rattle.kilim_run_state.specs.Machine.{Objects}
+use Rattle.kilim_program.specs.declared.ty.Base.{Base}
+use Rattle.kilim_program.specs.declared.value.Value.TheVariants.{Int, Ref}
+use Rattle.kilim_program.specs.declared.verified.VType.{VType}
+use Rattle.kilim_program.specs.Kinds.{kind_of, is_tree_kind, is_private_kind}
+use Rattle.kilim_program.specs.Fits.{fits_type}
+use Rattle.kilim_program.specs.Lengths.{jump_targets, ends_path}
+use Rattle.kilim_run_machine.specs.Does.{does, element_type, cast_fits}
+use Rattle.kilim_type_spec.specs.Step.{Types, peek, assignable, Is, References, meets, all_meet, object_type, is_array_of_references, dims_vtype, base_vtype, row}
 use Rattle.kilim_isolation_laws.specs.forest.Heap.{IsSet_at}
 use Rattle.kilim_isolation_laws.specs.forest.Relation.{is_gone, Element}
 use Rattle.kilim_isolation_laws.specs.forest.Canonical.{node_at}
-use Rattle.kilim_shape_graph.specs.declared.graph.Graph.{Graph}
-use Rattle.kilim_shape_graph.specs.Graphs.{slot, popped}
+use Rattle.kilim_isolation_graph.specs.declared.graph.Graph.{Graph}
+use Rattle.kilim_isolation_graph.specs.Graphs.{slot, popped}
 use Rattle.kilim_isolation_rules.specs.Rules.{deed}
 use Rattle.kilim_isolation_rules.specs.Marks.{names_gone, is_tree, is_private}
-use Rattle.kilim_shape_graph.specs.Nodes.{is_root}
+use Rattle.kilim_isolation_graph.specs.Nodes.{is_root}
 use Rattle.kilim_isolation_rules.specs.Fields.{stored, stores, element_kind}
 use Rattle.kilim_isolation_laws.specs.graph_rows.Outcome.{Left}
 use Rattle.kilim_isolation_laws.proofs.graph_rows.Settle.{not_true}

@@ -2,46 +2,46 @@
 use Rattle.std.proofs.Common.{◌≡◌, ℕ, zero, suc, ◌+◌, ◌<◌, ◌==◌, Bool, true, false, true≢false, ◌&&◌, ◌||◌, cond, List, [], ◌∷◌, ◌++◌, map, length, Option, Some, None, refl, sym, ap, subst, ◌∙◌, inr, arith}
 use Rattle.std.specs.List.{list_any}
 use Rattle.std.specs.Prelude.{replicate, drop, ◌-◌}
-use Rattle.kilim_classes.specs.declared.ty.Kind.TheVariants as kind
-use Rattle.kilim_classes.specs.declared.verified.VType.TheVariants as vtype
-use Rattle.kilim_typing.specs.Step as type
-use Rattle.kilim_classes.specs.declared.class.Method.{Method}
-use Rattle.kilim_classes.specs.declared.names.MethodId.{MethodId}
-use Rattle.kilim_classes.specs.declared.ty.Kind.{Kind}
-use Rattle.kilim_classes.specs.declared.ty.Ty.{Ty}
-use Rattle.kilim_classes.specs.declared.value.Value.{Value}
-use Rattle.kilim_classes.specs.declared.value.Value.TheVariants.{Int, Long, Null, Ref, Text, Box, Fiber}
-use Rattle.kilim_classes.specs.declared.verified.VType.{VType}
-use Rattle.kilim_classes.specs.Program.{Program}
-use Rattle.kilim_classes.specs.BuiltIn.{class_type}
-use Rattle.kilim_classes.specs.Kinds.{kind_of, is_tree_kind}
-use Rattle.kilim_classes.specs.machine.Machine.{Objects}
-use Rattle.kilim_classes.specs.Names.{method_at}
-use Rattle.kilim_classes.specs.Same.{is_constructor}
-use Rattle.kilim_classes.specs.machine.Effect.{is_wide}
-use Rattle.kilim_classes.specs.machine.Moves.{slots_of}
-use Rattle.kilim_typing.specs.Step.{Types, peek, class_vtype}
-use Rattle.kilim_typing.specs.Typed.{entry, param_slots, slots_of_type}
+use Rattle.kilim_program.specs.declared.ty.Kind.TheVariants as kind
+use Rattle.kilim_program.specs.declared.verified.VType.TheVariants as vtype
+use Rattle.kilim_type_spec.specs.Step as type
+use Rattle.kilim_program.specs.declared.class.Method.{Method}
+use Rattle.kilim_program.specs.declared.names.MethodId.{MethodId}
+use Rattle.kilim_program.specs.declared.ty.Kind.{Kind}
+use Rattle.kilim_program.specs.declared.ty.Ty.{Ty}
+use Rattle.kilim_program.specs.declared.value.Value.{Value}
+use Rattle.kilim_program.specs.declared.value.Value.TheVariants.{Int, Long, Null, Ref, Text, Box, Fiber}
+use Rattle.kilim_program.specs.declared.verified.VType.{VType}
+use Rattle.kilim_program.specs.Program.{Program}
+use Rattle.kilim_program.specs.BuiltIn.{class_type}
+use Rattle.kilim_program.specs.Kinds.{kind_of, is_tree_kind}
+use Rattle.kilim_run_state.specs.Machine.{Objects}
+use Rattle.kilim_program.specs.Names.{method_at}
+use Rattle.kilim_program.specs.Same.{is_constructor}
+use Rattle.kilim_run_machine.specs.Effect.{is_wide}
+use Rattle.kilim_run_state.specs.Machine.{slots_of}
+use Rattle.kilim_type_spec.specs.Step.{Types, peek, class_vtype}
+use Rattle.kilim_type_spec.specs.Typed.{entry, param_slots, slots_of_type}
 use Rattle.kilim_isolation_laws.specs.forest.Heap.{Heap}
 use Rattle.kilim_isolation_laws.specs.forest.Relation.{Root, is_gone, is_safe, Label, Node, Named, Frames}
 use Rattle.kilim_isolation_laws.specs.forest.Steps.{IsCall, Qualifier, after_arguments, entry_node}
 use Rattle.kilim_isolation_rules.specs.Calls.{is_owned, arguments}
-use Rattle.kilim_classes.specs.declared.ty.Qualifier.TheVariants as qualifier
+use Rattle.kilim_program.specs.declared.ty.Qualifier.TheVariants as qualifier
 use Rattle.kilim_isolation_laws.specs.forest.Canonical.{node_at}
 use Rattle.kilim_isolation_laws.proofs.forest.Store.{same_is}
 use Rattle.kilim_isolation_laws.specs.forest.Steps.{IsNearly_tidy}
 use Rattle.kilim_isolation_laws.proofs.forest.Less.{IsLess}
 use Rattle.kilim_isolation_laws.proofs.forest.View.{respects_less}
 use Rattle.kilim_isolation_laws.proofs.forest.Called.{owned_region, root_free, no_parent}
-use Rattle.kilim_shape_graph.specs.declared.graph.Graph.{Graph}
-use Rattle.kilim_shape_graph.specs.Graphs.{slot, popped}
-use Rattle.kilim_shape_graph.specs.Nodes.{listed, is_root}
+use Rattle.kilim_isolation_graph.specs.declared.graph.Graph.{Graph}
+use Rattle.kilim_isolation_graph.specs.Graphs.{slot, popped}
+use Rattle.kilim_isolation_graph.specs.Nodes.{listed, is_root}
 use Rattle.kilim_isolation_rules.specs.declared.deed.Passed.{Passed}
-use Rattle.kilim_shape_graph.specs.Entry.{parameters_of, declared_parameters, quality_from, tree_name, name_slots, entry_names, entry_nodes}
+use Rattle.kilim_isolation_graph.specs.Entry.{parameters_of, declared_parameters, quality_from, tree_name, name_slots, entry_names, entry_nodes}
 use Rattle.kilim_isolation_rules.specs.Calls.{quality_in, is_free, is_cuttable, same_region, shares, any_two, after_call, given_result}
 use Rattle.kilim_isolation_laws.proofs.graph_rows.Passing.{IsAfter, after_is, behind, called, passed_at, quality_at}
 use Rattle.kilim_isolation_rules.specs.Marks.{names_no_root, names_safe}
-use Rattle.kilim_shape_graph.specs.declared.entry.Parameter.{Parameter}
+use Rattle.kilim_isolation_graph.specs.declared.entry.Parameter.{Parameter}
 use Rattle.kilim_isolation_laws.specs.graph_rows.Holds.{Sort, Anything, Wide, Word, Own, Tree, sort, object_sort, type_sort, sort_of_vtype, Fits, unnamed, named_sort, refers, SlotFits, AreSlots, SlotsFit, named_by, value_at, Waiting, waiting_named, WaitFits, AllWait, Holds, Stands, trees}
 use Rattle.kilim_isolation_laws.specs.forest.Laws.{IsPlace}
 use Rattle.kilim_isolation_laws.specs.graph_rows.Outcome.{ArgsFit, CallHolds, NativeHolds}
@@ -302,14 +302,14 @@ pub data IsDeclared (ty : Ty) (t : VType) : Type 0 where
 declared_is : (ty : Ty) → IsDeclared ty (type.vtype ty)
 declared_is ty = by ty.dims
   where
-    of_base : (b : Rattle.kilim_classes.specs.declared.ty.Base.Base) → IsDeclared ty (type.base_vtype ty b)
-    of_base Rattle.kilim_classes.specs.declared.ty.Base.TheVariants.Bool = IsInt refl
-    of_base Rattle.kilim_classes.specs.declared.ty.Base.TheVariants.Byte = IsInt refl
-    of_base Rattle.kilim_classes.specs.declared.ty.Base.TheVariants.Char = IsInt refl
-    of_base Rattle.kilim_classes.specs.declared.ty.Base.TheVariants.Short = IsInt refl
-    of_base Rattle.kilim_classes.specs.declared.ty.Base.TheVariants.Int = IsInt refl
-    of_base Rattle.kilim_classes.specs.declared.ty.Base.TheVariants.Long = IsLong refl
-    of_base (Rattle.kilim_classes.specs.declared.ty.Base.TheVariants.Class c) = IsObject refl
+    of_base : (b : Rattle.kilim_program.specs.declared.ty.Base.Base) → IsDeclared ty (type.base_vtype ty b)
+    of_base Rattle.kilim_program.specs.declared.ty.Base.TheVariants.Bool = IsInt refl
+    of_base Rattle.kilim_program.specs.declared.ty.Base.TheVariants.Byte = IsInt refl
+    of_base Rattle.kilim_program.specs.declared.ty.Base.TheVariants.Char = IsInt refl
+    of_base Rattle.kilim_program.specs.declared.ty.Base.TheVariants.Short = IsInt refl
+    of_base Rattle.kilim_program.specs.declared.ty.Base.TheVariants.Int = IsInt refl
+    of_base Rattle.kilim_program.specs.declared.ty.Base.TheVariants.Long = IsLong refl
+    of_base (Rattle.kilim_program.specs.declared.ty.Base.TheVariants.Class c) = IsObject refl
 
     by : (d : ℕ) → IsDeclared ty (type.dims_vtype ty d)
     by zero = of_base ty.base
@@ -419,7 +419,7 @@ padded [] (suc count) (suc j) = padded [] count j
 padded (x ∷ xs) count zero = refl
 padded (x ∷ xs) count (suc j) = padded xs count j
 
-declared_types : (tys : List Ty) (qs : List Rattle.kilim_classes.specs.declared.ty.Qualifier.Qualifier) → length qs ≡ length tys → types_of (declared_parameters tys qs) ≡ param_slots tys
+declared_types : (tys : List Ty) (qs : List Rattle.kilim_program.specs.declared.ty.Qualifier.Qualifier) → length qs ≡ length tys → types_of (declared_parameters tys qs) ≡ param_slots tys
 declared_types [] [] e = refl
 declared_types (ty ∷ tys) (q ∷ qs) e = ap (slots_of_type (type.vtype ty)) (declared_types tys qs (omega arith))
 declared_types [] (q ∷ qs) e = absurd (omega arith)
@@ -506,7 +506,7 @@ module _ (p : Program) (m : Method) (f : Types) (g : Graph) (at : ℕ → Option
     types = shape;
     graph = graph;
     at = λ n. value_by at (passed_at args n);
-    entered = call_begins types k (Rattle.kilim_classes.specs.machine.Moves.slots_in (method_at p id) - length (slots_of vs)) rest s;
+    entered = call_begins types k (Rattle.kilim_run_machine.specs.Moves.slots_in (method_at p id) - length (slots_of vs)) rest s;
   }
 
   pub native_holds : (id : MethodId) (k : ℕ) (rest : List Value) (f1 : Types) (g1 : Graph) → method_at p id ≡ Some callee → AreSlots p m h (named_by g at) (length g.nodes) (drop k f.stack) (drop k g.stack) rest →

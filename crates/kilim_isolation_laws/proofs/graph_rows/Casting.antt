@@ -3,25 +3,25 @@ use Rattle.std.proofs.Common.{◌≡◌, ℕ, Bool, true, false, true≢false, �
 use Rattle.std.specs.List.{list_any}
 use Rattle.std.specs.Prelude.{drop, slice_get}
 use Rattle.std.specs.FinMap.{get}
-use Rattle.kilim_classes.specs.declared.instr.Instr.TheVariants as instr
-use Rattle.kilim_classes.specs.declared.ty.Kind.TheVariants as kind
-use Rattle.kilim_classes.specs.declared.verified.VType.TheVariants as vtype
-use Rattle.kilim_classes.specs.declared.class.Method.{Method}
-use Rattle.kilim_classes.specs.declared.ty.Kind.{Kind}
-use Rattle.kilim_classes.specs.declared.ty.Ty.{Ty}
-use Rattle.kilim_classes.specs.declared.value.Value.{Value}
-use Rattle.kilim_classes.specs.declared.verified.VType.{VType}
-use Rattle.kilim_classes.specs.Program.{Program}
-use Rattle.kilim_classes.specs.Kinds.{kind_of, is_tree_kind}
-use Rattle.kilim_classes.specs.machine.Machine.{Objects}
-use Rattle.kilim_classes.specs.Lengths.{jump_targets, ends_path}
-use Rattle.kilim_classes.specs.machine.Effect.{is_wide}
-use Rattle.kilim_classes.specs.Fits.{fits_type}
-use Rattle.kilim_classes.specs.machine.Does.{does, cast_fits}
-use Rattle.kilim_typing.specs.Step.{Types, peek, assignable, Is, meets, all_meet, object_type, vtype_of_class, row}
+use Rattle.kilim_program.specs.declared.instr.Instr.TheVariants as instr
+use Rattle.kilim_program.specs.declared.ty.Kind.TheVariants as kind
+use Rattle.kilim_program.specs.declared.verified.VType.TheVariants as vtype
+use Rattle.kilim_program.specs.declared.class.Method.{Method}
+use Rattle.kilim_program.specs.declared.ty.Kind.{Kind}
+use Rattle.kilim_program.specs.declared.ty.Ty.{Ty}
+use Rattle.kilim_program.specs.declared.value.Value.{Value}
+use Rattle.kilim_program.specs.declared.verified.VType.{VType}
+use Rattle.kilim_program.specs.Program.{Program}
+use Rattle.kilim_program.specs.Kinds.{kind_of, is_tree_kind}
+use Rattle.kilim_run_state.specs.Machine.{Objects}
+use Rattle.kilim_program.specs.Lengths.{jump_targets, ends_path}
+use Rattle.kilim_run_machine.specs.Effect.{is_wide}
+use Rattle.kilim_program.specs.Fits.{fits_type}
+use Rattle.kilim_run_machine.specs.Does.{does, cast_fits}
+use Rattle.kilim_type_spec.specs.Step.{Types, peek, assignable, Is, meets, all_meet, object_type, vtype_of_class, row}
 use Rattle.kilim_isolation_laws.specs.forest.Relation.{Named}
-use Rattle.kilim_shape_graph.specs.declared.graph.Graph.{Graph}
-use Rattle.kilim_shape_graph.specs.Graphs.{slot}
+use Rattle.kilim_isolation_graph.specs.declared.graph.Graph.{Graph}
+use Rattle.kilim_isolation_graph.specs.Graphs.{slot}
 use Rattle.kilim_isolation_rules.specs.Rules.{deed, cast_mixes}
 use Rattle.kilim_isolation_rules.specs.Marks.{mixes, is_tree, is_private, names_gone}
 use Rattle.kilim_isolation_laws.specs.graph_rows.Holds.{Sort, Anything, Word, Own, Tree, Stuff, sort, sort_by, object_sort, refers, SlotFits, AreSlots, named_by, Waiting, KindsFlow, FlowsTo, IsOf}
@@ -66,9 +66,9 @@ tree_sorted p m (vtype.Uninit at) to e (inl is) d y w = absurd (true≢false (sy
 tree_sorted p m (vtype.Uninit at) to e (inr is) d y w = absurd (true≢false (sym e ∙ ap (assignable p (vtype.Uninit at)) is.1))
 
 pub object_is : (p : Program) → (object_type p ≡ vtype.Null) ⊎ ((ty : Ty) × (object_type p ≡ vtype.Object ty))
-object_is p = by (Rattle.kilim_classes.specs.Names.class_named p (Rattle.std.specs.Prelude.codes "java/lang/Object"))
+object_is p = by (Rattle.kilim_program.specs.Names.class_named p (Rattle.std.specs.Prelude.codes "java/lang/Object"))
   where
-    by : (c : Option Rattle.kilim_classes.specs.declared.names.ClassId.ClassId) → (vtype_of_class c ≡ vtype.Null) ⊎ ((ty : Ty) × (vtype_of_class c ≡ vtype.Object ty))
+    by : (c : Option Rattle.kilim_program.specs.declared.names.ClassId.ClassId) → (vtype_of_class c ≡ vtype.Null) ⊎ ((ty : Ty) × (vtype_of_class c ≡ vtype.Object ty))
     by None = inl refl
     by (Some c) = inr (_, refl)
 
@@ -78,7 +78,7 @@ known_of p m (vtype.Object a) to e is w = not_anything p a (kind_of p a) w
 known_of p m vtype.Null to e is w = absurd (cc)
 known_of p m vtype.Int to e is w = absurd (cc)
 known_of p m vtype.Long to e is w = absurd (cc)
-known_of p m vtype.UninitThis to e is w = not_anything p (Rattle.kilim_classes.specs.BuiltIn.class_type m.owner.0) (kind_of p (Rattle.kilim_classes.specs.BuiltIn.class_type m.owner.0)) w
+known_of p m vtype.UninitThis to e is w = not_anything p (Rattle.kilim_program.specs.BuiltIn.class_type m.owner.0) (kind_of p (Rattle.kilim_program.specs.BuiltIn.class_type m.owner.0)) w
 known_of p m vtype.Top to e (inl is) w = true≢false (sym e ∙ ap (assignable p vtype.Top) is)
 known_of p m vtype.Top to e (inr is) w = true≢false (sym e ∙ ap (assignable p vtype.Top) is.1)
 known_of p m (vtype.Uninit at) to e (inl is) w = true≢false (sym e ∙ ap (assignable p (vtype.Uninit at)) is)

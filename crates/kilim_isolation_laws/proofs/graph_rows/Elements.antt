@@ -3,29 +3,29 @@ use Rattle.std.proofs.Common.{◌≡◌, ℕ, zero, suc, ℤ, ◌+◌, ◌*◌, 
 use Rattle.std.specs.List.{list_any}
 use Rattle.std.specs.Prelude.{drop, slice_get}
 use Rattle.std.specs.FinMap.{get}
-use Rattle.kilim_classes.specs.declared.instr.Instr.TheVariants as instr
-use Rattle.kilim_classes.specs.declared.ty.Base.TheVariants as base
-use Rattle.kilim_classes.specs.declared.ty.Kind.TheVariants as kind
-use Rattle.kilim_classes.specs.declared.verified.VType.TheVariants as vtype
-use Rattle.kilim_typing.specs.Step as type
-use Rattle.kilim_classes.specs.declared.class.Method.{Method}
-use Rattle.kilim_classes.specs.declared.ty.Base.{Base}
-use Rattle.kilim_classes.specs.declared.ty.Kind.{Kind}
-use Rattle.kilim_classes.specs.declared.ty.Ty.{Ty}
-use Rattle.kilim_classes.specs.declared.machine.value.Object.{Object}
-use Rattle.kilim_classes.specs.declared.value.Value.{Value}
-use Rattle.kilim_classes.specs.declared.value.Value.TheVariants.{Int, Ref}
-use Rattle.kilim_classes.specs.declared.verified.VType.{VType}
-use Rattle.kilim_classes.specs.Program.{Program}
-use Rattle.kilim_classes.specs.Kinds.{kind_of, base_kind, array_kind}
-use Rattle.kilim_classes.specs.machine.Machine.{Objects}
-use Rattle.kilim_classes.specs.Lengths.{jump_targets, ends_path}
-use Rattle.kilim_classes.specs.machine.Does.{does, element_type}
-use Rattle.kilim_typing.specs.Step.{Types, peek, Operand, Is, References, meets, all_meet, is_array_of_references, by_row, row, type_step, dims_vtype, base_vtype, element, with_element}
+use Rattle.kilim_program.specs.declared.instr.Instr.TheVariants as instr
+use Rattle.kilim_program.specs.declared.ty.Base.TheVariants as base
+use Rattle.kilim_program.specs.declared.ty.Kind.TheVariants as kind
+use Rattle.kilim_program.specs.declared.verified.VType.TheVariants as vtype
+use Rattle.kilim_type_spec.specs.Step as type
+use Rattle.kilim_program.specs.declared.class.Method.{Method}
+use Rattle.kilim_program.specs.declared.ty.Base.{Base}
+use Rattle.kilim_program.specs.declared.ty.Kind.{Kind}
+use Rattle.kilim_program.specs.declared.ty.Ty.{Ty}
+use Rattle.kilim_run_state.specs.declared.value.Object.{Object}
+use Rattle.kilim_program.specs.declared.value.Value.{Value}
+use Rattle.kilim_program.specs.declared.value.Value.TheVariants.{Int, Ref}
+use Rattle.kilim_program.specs.declared.verified.VType.{VType}
+use Rattle.kilim_program.specs.Program.{Program}
+use Rattle.kilim_program.specs.Kinds.{kind_of, base_kind, array_kind}
+use Rattle.kilim_run_state.specs.Machine.{Objects}
+use Rattle.kilim_program.specs.Lengths.{jump_targets, ends_path}
+use Rattle.kilim_run_machine.specs.Does.{does, element_type}
+use Rattle.kilim_type_spec.specs.Step.{Types, peek, Operand, Is, References, meets, all_meet, is_array_of_references, by_row, row, type_step, dims_vtype, base_vtype, element, with_element}
 use Rattle.kilim_isolation_laws.specs.forest.Relation.{is_gone, Element, Named}
 use Rattle.kilim_isolation_laws.specs.forest.Canonical.{node_at}
-use Rattle.kilim_shape_graph.specs.declared.graph.Graph.{Graph}
-use Rattle.kilim_shape_graph.specs.Graphs.{slot, push, popped}
+use Rattle.kilim_isolation_graph.specs.declared.graph.Graph.{Graph}
+use Rattle.kilim_isolation_graph.specs.Graphs.{slot, push, popped}
 use Rattle.kilim_isolation_rules.specs.Rules.{deed}
 use Rattle.kilim_isolation_rules.specs.Marks.{names_gone}
 use Rattle.kilim_isolation_rules.specs.Fields.{child_by, reads, element_kind}
@@ -201,7 +201,7 @@ element_passed f f1 (i ∷ vtype.Uninit at ∷ ts) e = absurd (cc)
 pub array_dims : (ty : Ty) → is_array_of_references ty ≡ true → (d : ℕ) × (ty.dims ≡ suc d)
 array_dims ty e = by ty.dims e
   where
-    by : (k : ℕ) → (Rattle.std.specs.Prelude.nat_lt 1 k || (k == 1 && Rattle.kilim_classes.specs.Fits.is_reference_base ty.base)) ≡ true → (d : ℕ) × (k ≡ suc d)
+    by : (k : ℕ) → (Rattle.std.specs.Prelude.nat_lt 1 k || (k == 1 && Rattle.kilim_program.specs.Fits.is_reference_base ty.base)) ≡ true → (d : ℕ) × (k ≡ suc d)
     by zero w = absurd (true≢false (sym w))
     by (suc d) w = (d, refl)
 

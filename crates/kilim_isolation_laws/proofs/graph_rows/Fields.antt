@@ -1,26 +1,26 @@
 -- Rows that read a field or an element of a tree.
 use Rattle.std.proofs.Common.{◌≡◌, ℕ, zero, suc, ◌==◌, Bool, true, false, true≢false, not, cond, List, ◌∷◌, map, length, Option, Some, None, refl, sym, ap, subst, ◌∙◌}
 use Rattle.std.specs.FinMap.{get}
-use Rattle.kilim_classes.specs.declared.ty.Base.TheVariants as base
-use Rattle.kilim_classes.specs.declared.ty.Kind.TheVariants as kind
-use Rattle.kilim_typing.specs.Step as type
-use Rattle.kilim_classes.specs.declared.class.Method.{Method}
-use Rattle.kilim_classes.specs.declared.ty.Base.{Base}
-use Rattle.kilim_classes.specs.declared.ty.Kind.{Kind}
-use Rattle.kilim_classes.specs.declared.ty.Ty.{Ty}
-use Rattle.kilim_classes.specs.declared.machine.value.Object.{Object}
-use Rattle.kilim_classes.specs.declared.value.Value.{Value}
-use Rattle.kilim_classes.specs.declared.value.Value.TheVariants.{Ref}
-use Rattle.kilim_classes.specs.declared.verified.VType.{VType}
-use Rattle.kilim_classes.specs.Program.{Program}
-use Rattle.kilim_classes.specs.Kinds.{kind_of, base_kind, array_kind}
-use Rattle.kilim_classes.specs.machine.Machine.{Objects}
-use Rattle.kilim_typing.specs.Step.{Types, peek, dims_vtype, base_vtype}
+use Rattle.kilim_program.specs.declared.ty.Base.TheVariants as base
+use Rattle.kilim_program.specs.declared.ty.Kind.TheVariants as kind
+use Rattle.kilim_type_spec.specs.Step as type
+use Rattle.kilim_program.specs.declared.class.Method.{Method}
+use Rattle.kilim_program.specs.declared.ty.Base.{Base}
+use Rattle.kilim_program.specs.declared.ty.Kind.{Kind}
+use Rattle.kilim_program.specs.declared.ty.Ty.{Ty}
+use Rattle.kilim_run_state.specs.declared.value.Object.{Object}
+use Rattle.kilim_program.specs.declared.value.Value.{Value}
+use Rattle.kilim_program.specs.declared.value.Value.TheVariants.{Ref}
+use Rattle.kilim_program.specs.declared.verified.VType.{VType}
+use Rattle.kilim_program.specs.Program.{Program}
+use Rattle.kilim_program.specs.Kinds.{kind_of, base_kind, array_kind}
+use Rattle.kilim_run_state.specs.Machine.{Objects}
+use Rattle.kilim_type_spec.specs.Step.{Types, peek, dims_vtype, base_vtype}
 use Rattle.kilim_isolation_laws.specs.forest.Relation.{Root, Inner, Safe, is_gone, is_safe, Label, Named}
 use Rattle.kilim_isolation_laws.specs.forest.Canonical.{node_at}
 use Rattle.kilim_isolation_laws.proofs.forest.Paths.{some_is}
 use Rattle.kilim_isolation_laws.proofs.forest.Moves.{get_keeps, get_safe_keeps}
-use Rattle.kilim_shape_graph.specs.declared.graph.Graph.{Graph}
+use Rattle.kilim_isolation_graph.specs.declared.graph.Graph.{Graph}
 use Rattle.kilim_isolation_rules.specs.Fields.{child_by, got, got_safe, read_from}
 use Rattle.kilim_isolation_laws.specs.graph_rows.Holds.{Sort, Anything, Wide, Word, Own, Tree, sort, object_sort, sort_by, type_sort, sort_of_vtype, Fits, unnamed, named_sort, refers, refers_in, SlotFits, AreSlots, SlotsFit, named_by, value_at, Waiting, waiting_named, Holds, Stands, trees, IsOf, MayHold, held_by, tree_held, held_at, half, is_tree_object, is_tree_sort}
 use Rattle.kilim_isolation_laws.specs.forest.Laws.{IsPlace}

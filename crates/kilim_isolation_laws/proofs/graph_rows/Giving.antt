@@ -1,23 +1,23 @@
 -- A put or a start: the tree leaves the heap.
 use Rattle.std.proofs.Common.{◌≡◌, ℕ, ◌+◌, ◌*◌, ◌<◌, true, false, true≢false, List, [], ◌∷◌, map, length, Option, Some, None, refl, sym, ap, subst, ◌∙◌, ◌⊎◌, inl, inr}
 use Rattle.std.specs.FinMap.{get}
-use Rattle.kilim_classes.specs.declared.class.Method.{Method}
-use Rattle.kilim_classes.specs.declared.machine.value.Object.{Object}
-use Rattle.kilim_classes.specs.declared.value.Value.{Value}
-use Rattle.kilim_classes.specs.declared.verified.VType.{VType}
-use Rattle.kilim_classes.specs.Program.{Program}
-use Rattle.kilim_classes.specs.machine.Machine.{Objects}
-use Rattle.kilim_classes.specs.machine.Does.{element_type}
-use Rattle.kilim_typing.specs.Step.{Types, peek}
+use Rattle.kilim_program.specs.declared.class.Method.{Method}
+use Rattle.kilim_run_state.specs.declared.value.Object.{Object}
+use Rattle.kilim_program.specs.declared.value.Value.{Value}
+use Rattle.kilim_program.specs.declared.verified.VType.{VType}
+use Rattle.kilim_program.specs.Program.{Program}
+use Rattle.kilim_run_state.specs.Machine.{Objects}
+use Rattle.kilim_run_machine.specs.Does.{element_type}
+use Rattle.kilim_type_spec.specs.Step.{Types, peek}
 use Rattle.kilim_isolation_laws.specs.forest.Heap.{Below, Here, Then, IsForest, IsWithout}
 use Rattle.kilim_isolation_laws.specs.forest.Relation.{Root, is_gone, Node, Named, Names, Frames}
 use Rattle.kilim_isolation_laws.specs.forest.Steps.{gone_node}
 use Rattle.kilim_isolation_laws.specs.forest.Canonical.{node_at}
 use Rattle.kilim_isolation_laws.proofs.forest.Less.{IsLess}
 use Rattle.kilim_isolation_laws.proofs.forest.Moves.{put_keeps, gone_less}
-use Rattle.kilim_shape_graph.specs.declared.graph.Graph.{Graph}
-use Rattle.kilim_shape_graph.specs.Graphs.{slot, changed, node_of}
-use Rattle.kilim_shape_graph.specs.Nodes.{listed}
+use Rattle.kilim_isolation_graph.specs.declared.graph.Graph.{Graph}
+use Rattle.kilim_isolation_graph.specs.Graphs.{slot, changed, node_of}
+use Rattle.kilim_isolation_graph.specs.Nodes.{listed}
 use Rattle.kilim_isolation_laws.specs.graph_rows.Holds.{Sort, Anything, Wide, Word, Own, Tree, sort, object_sort, type_sort, field_sort, Fits, unnamed, named_sort, refers, refers_in, SlotFits, AreSlots, named_by, value_at, Waiting, waiting_named, AllWait, Stands, HeapFits, ObjectFits, MayHold, trees, IsOf, tree_held, held_at, held_by, is_tree_object, is_tree_sort}
 use Rattle.kilim_isolation_laws.specs.forest.Laws.{IsPlace}
 use Rattle.kilim_isolation_laws.specs.graph_rows.Facts.{IsGivenAway, GivesKeep}

@@ -7,13 +7,13 @@ use Rattle.std.specs.Ordering.{nat_cmp, eq_by_cmp, is_eq}
 use Rattle.std.specs.Cmp.{nat_cmp_is}
 use Rattle.std.specs.declared.cmp.Ordering.{Ordering}
 use Rattle.std.specs.declared.cmp.Ordering.TheVariants.{Less, Equal, Greater}
-use Rattle.kilim_classes.specs.declared.names.FieldId.{FieldId}
-use Rattle.kilim_classes.specs.declared.machine.value.Object.{Object}
-use Rattle.kilim_classes.specs.declared.value.Value.{Value}
-use Rattle.kilim_classes.specs.Program.{Program}
-use Rattle.kilim_classes.specs.machine.Machine.{Objects}
-use Rattle.kilim_classes.specs.machine.Shapes.{field_in}
-use Rattle.kilim_classes.specs.machine.Does.{with_field, element_type}
+use Rattle.kilim_program.specs.declared.names.FieldId.{FieldId}
+use Rattle.kilim_run_state.specs.declared.value.Object.{Object}
+use Rattle.kilim_program.specs.declared.value.Value.{Value}
+use Rattle.kilim_program.specs.Program.{Program}
+use Rattle.kilim_run_state.specs.Machine.{Objects}
+use Rattle.kilim_run_state.specs.Shapes.{field_in}
+use Rattle.kilim_run_machine.specs.Does.{with_field, element_type}
 use Rattle.kilim_isolation_laws.specs.forest.Heap.{Heap, IsForest, IsSet_at, IsMore_objects}
 use Rattle.kilim_isolation_laws.specs.forest.Relation.{is_gone, Named, RespectsAll, Frames}
 use Rattle.kilim_isolation_laws.proofs.forest.Forests.{ends_fewer}

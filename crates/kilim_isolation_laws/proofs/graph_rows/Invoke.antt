@@ -1,16 +1,16 @@
 -- Calls: the arguments on the stack, and the method that runs.
-use Rattle.kilim_classes.specs.BuiltIn.{class_type}
-use Rattle.kilim_classes.specs.Fits.{fits_type}
-use Rattle.kilim_classes.specs.Names.{method_at}
-use Rattle.kilim_classes.specs.Program.{Program}
-use Rattle.kilim_classes.specs.Same.{is_constructor}
-use Rattle.kilim_classes.specs.declared.class.Method.{Method}
-use Rattle.kilim_classes.specs.declared.instr.Instr.{Instr}
-use Rattle.kilim_classes.specs.declared.names.MethodId.{MethodId}
-use Rattle.kilim_classes.specs.declared.ty.Ty.{Ty}
-use Rattle.kilim_classes.specs.declared.value.Value.{Value}
-use Rattle.kilim_classes.specs.declared.verified.VType.TheVariants as vtype
-use Rattle.kilim_classes.specs.declared.verified.VType.{VType}
+use Rattle.kilim_program.specs.BuiltIn.{class_type}
+use Rattle.kilim_program.specs.Fits.{fits_type}
+use Rattle.kilim_program.specs.Names.{method_at}
+use Rattle.kilim_program.specs.Program.{Program}
+use Rattle.kilim_program.specs.Same.{is_constructor}
+use Rattle.kilim_program.specs.declared.class.Method.{Method}
+use Rattle.kilim_program.specs.declared.instr.Instr.{Instr}
+use Rattle.kilim_program.specs.declared.names.MethodId.{MethodId}
+use Rattle.kilim_program.specs.declared.ty.Ty.{Ty}
+use Rattle.kilim_program.specs.declared.value.Value.{Value}
+use Rattle.kilim_program.specs.declared.verified.VType.TheVariants as vtype
+use Rattle.kilim_program.specs.declared.verified.VType.{VType}
 use Rattle.kilim_isolation_laws.specs.forest.Canonical.{node_at}
 use Rattle.kilim_isolation_laws.specs.forest.Relation.{is_gone}
 use Rattle.kilim_isolation_laws.proofs.graph_rows.Calling.{call_holds, caller_holds, caller_slots, native_holds}
@@ -29,19 +29,19 @@ use Rattle.kilim_isolation_rules.specs.Marks.{mixes, names_gone, names_no_root, 
 use Rattle.kilim_isolation_rules.specs.Rules.{deed}
 use Rattle.kilim_isolation_rules.specs.declared.deed.Deed.{Deed}
 use Rattle.kilim_isolation_rules.specs.declared.deed.Passed.{Passed}
-use Rattle.kilim_classes.specs.machine.Does.{calls_method}
-use Rattle.kilim_classes.specs.machine.Machine.{Objects}
-use Rattle.kilim_shape_graph.specs.Entry.{quality, parameters_of, declared_parameters}
-use Rattle.kilim_shape_graph.specs.Graphs.{slot, popped}
-use Rattle.kilim_shape_graph.specs.declared.graph.Graph.{Graph}
-use Rattle.kilim_typing.specs.Step as type
-use Rattle.kilim_classes.specs.Kinds.{kind_of}
-use Rattle.kilim_classes.specs.declared.ty.Kind.TheVariants as kind
-use Rattle.kilim_classes.specs.declared.value.Value.TheVariants.{Int}
-use Rattle.kilim_typing.specs.Typed.{Among, edges}
-use Rattle.kilim_shape_graph.specs.Graphs.{push}
+use Rattle.kilim_run_machine.specs.Does.{calls_method}
+use Rattle.kilim_run_state.specs.Machine.{Objects}
+use Rattle.kilim_isolation_graph.specs.Entry.{quality, parameters_of, declared_parameters}
+use Rattle.kilim_isolation_graph.specs.Graphs.{slot, popped}
+use Rattle.kilim_isolation_graph.specs.declared.graph.Graph.{Graph}
+use Rattle.kilim_type_spec.specs.Step as type
+use Rattle.kilim_program.specs.Kinds.{kind_of}
+use Rattle.kilim_program.specs.declared.ty.Kind.TheVariants as kind
+use Rattle.kilim_program.specs.declared.value.Value.TheVariants.{Int}
+use Rattle.kilim_type_spec.specs.Typed.{Among, edges}
+use Rattle.kilim_isolation_graph.specs.Graphs.{push}
 use Rattle.kilim_isolation_rules.specs.Marks.{given}
-use Rattle.kilim_typing.specs.Step.{Types, peek, assignable, Operand, Is, meets, all_meet, arguments, class_vtype, by_row, row, type_step, virtual_row, virtual_rules, result_types, missing}
+use Rattle.kilim_type_spec.specs.Step.{Types, peek, assignable, Operand, Is, meets, all_meet, arguments, class_vtype, by_row, row, type_step, virtual_row, virtual_rules, result_types, missing}
 use Rattle.std.proofs.Common.{◌≡◌, ℕ, ℤ, zero, suc, ◌+◌, true, false, true≢false, not, ◌&&◌, cond, List, [], ◌∷◌, ◌++◌, map, length, reverse, Option, Some, None, refl, sym, ap, subst, ◌∙◌, arith}
 use Rattle.std.proofs.lemmas.List.{length-reverse}
 use Rattle.std.specs.List.{list_any}

@@ -1,24 +1,24 @@
 -- The rows of calls.
-use Rattle.kilim_classes.specs.BuiltIn.{class_id}
-use Rattle.kilim_classes.specs.BuiltIn.{class_type}
-use Rattle.kilim_classes.specs.Kinds.{class_kind, is_tree_kind}
-use Rattle.kilim_classes.specs.Kinds.{kind_of}
-use Rattle.kilim_classes.specs.Lengths.{jump_targets, ends_path}
-use Rattle.kilim_classes.specs.Names.{class_at, is_empty}
-use Rattle.kilim_classes.specs.Names.{method_at}
-use Rattle.kilim_classes.specs.Program.{Program}
-use Rattle.kilim_classes.specs.Same.{is_constructor}
-use Rattle.kilim_classes.specs.declared.class.Method.{Method}
-use Rattle.kilim_classes.specs.declared.instr.Instr.TheVariants as instr
-use Rattle.kilim_classes.specs.declared.instr.Instr.{Instr}
-use Rattle.kilim_classes.specs.declared.names.ClassId.{ClassId}
-use Rattle.kilim_classes.specs.declared.names.MethodId.{MethodId}
-use Rattle.kilim_classes.specs.declared.ty.Kind.TheVariants as kind
-use Rattle.kilim_classes.specs.declared.ty.Ty.{Ty}
-use Rattle.kilim_classes.specs.declared.value.Value.TheVariants.{Int}
-use Rattle.kilim_classes.specs.declared.value.Value.{Value}
-use Rattle.kilim_classes.specs.declared.verified.VType.TheVariants as vtype
-use Rattle.kilim_classes.specs.declared.verified.VType.{VType}
+use Rattle.kilim_program.specs.BuiltIn.{class_id}
+use Rattle.kilim_program.specs.BuiltIn.{class_type}
+use Rattle.kilim_program.specs.Kinds.{class_kind, is_tree_kind}
+use Rattle.kilim_program.specs.Kinds.{kind_of}
+use Rattle.kilim_program.specs.Lengths.{jump_targets, ends_path}
+use Rattle.kilim_program.specs.Names.{class_at, is_empty}
+use Rattle.kilim_program.specs.Names.{method_at}
+use Rattle.kilim_program.specs.Program.{Program}
+use Rattle.kilim_program.specs.Same.{is_constructor}
+use Rattle.kilim_program.specs.declared.class.Method.{Method}
+use Rattle.kilim_program.specs.declared.instr.Instr.TheVariants as instr
+use Rattle.kilim_program.specs.declared.instr.Instr.{Instr}
+use Rattle.kilim_program.specs.declared.names.ClassId.{ClassId}
+use Rattle.kilim_program.specs.declared.names.MethodId.{MethodId}
+use Rattle.kilim_program.specs.declared.ty.Kind.TheVariants as kind
+use Rattle.kilim_program.specs.declared.ty.Ty.{Ty}
+use Rattle.kilim_program.specs.declared.value.Value.TheVariants.{Int}
+use Rattle.kilim_program.specs.declared.value.Value.{Value}
+use Rattle.kilim_program.specs.declared.verified.VType.TheVariants as vtype
+use Rattle.kilim_program.specs.declared.verified.VType.{VType}
 use Rattle.kilim_isolation_laws.proofs.forest.Store.{both_ways}
 use Rattle.kilim_isolation_laws.specs.forest.Canonical.{node_at}
 use Rattle.kilim_isolation_laws.specs.forest.Relation.{is_gone, Named}
@@ -40,23 +40,23 @@ use Rattle.kilim_isolation_rules.specs.Calls.{quality_in, parameters, receiver, 
 use Rattle.kilim_isolation_rules.specs.Marks.{mixes, names_gone}
 use Rattle.kilim_isolation_rules.specs.Rules.{deed}
 use Rattle.kilim_isolation_rules.specs.declared.deed.Passed.{Passed}
-use Rattle.kilim_classes.specs.machine.Does.{calls_method, calls_text}
-use Rattle.kilim_classes.specs.machine.Does.{does, calls_on, chosen}
-use Rattle.kilim_classes.specs.machine.Does.{special, text_answers, at_unit, unit_at, is_text, bit, int_length}
-use Rattle.kilim_classes.specs.machine.Effect.{Effect, Calls, Asks}
-use Rattle.kilim_classes.specs.machine.Effect.{Goes, text_of}
-use Rattle.kilim_classes.specs.machine.Machine.{Objects}
-use Rattle.kilim_classes.specs.machine.Natives.{is_built_in_constructor, is_handed_out}
-use Rattle.kilim_classes.specs.machine.Does.{takes_element}
+use Rattle.kilim_run_machine.specs.Does.{calls_method, calls_text}
+use Rattle.kilim_run_machine.specs.Does.{does, calls_on, chosen}
+use Rattle.kilim_run_machine.specs.Does.{special, text_answers, at_unit, unit_at, is_text, bit, int_length}
+use Rattle.kilim_run_machine.specs.Effect.{Effect, Calls, Asks}
+use Rattle.kilim_run_machine.specs.Effect.{Goes, text_of}
+use Rattle.kilim_run_state.specs.Machine.{Objects}
+use Rattle.kilim_run_machine.specs.Natives.{is_built_in_constructor, is_handed_out}
+use Rattle.kilim_run_machine.specs.Does.{takes_element}
 use Rattle.kilim_isolation_laws.proofs.graph_rows.Invoke.{cuttable, free, graph, shared}
-use Rattle.kilim_classes.specs.machine.Natives.{is_text_method}
-use Rattle.kilim_shape_graph.specs.Entry.{parameters_of, declared_parameters}
-use Rattle.kilim_shape_graph.specs.Graphs.{slot, popped}
-use Rattle.kilim_shape_graph.specs.declared.graph.Graph.{Graph}
-use Rattle.kilim_typing.specs.Step as type
-use Rattle.kilim_typing.specs.Step.{Types, peek, assignable, Operand, Is, meets, all_meet, arguments, class_vtype, by_row, row, type_step, virtual_row, virtual_rules, result_types, missing}
-use Rattle.kilim_typing.specs.Step.{is_class, made_at, one_replaced, replaced, special_fits, special_rules, special_row, superclass_at, is_same}
-use Rattle.kilim_typing.specs.Typed.{Among, edges}
+use Rattle.kilim_run_machine.specs.Natives.{is_text_method}
+use Rattle.kilim_isolation_graph.specs.Entry.{parameters_of, declared_parameters}
+use Rattle.kilim_isolation_graph.specs.Graphs.{slot, popped}
+use Rattle.kilim_isolation_graph.specs.declared.graph.Graph.{Graph}
+use Rattle.kilim_type_spec.specs.Step as type
+use Rattle.kilim_type_spec.specs.Step.{Types, peek, assignable, Operand, Is, meets, all_meet, arguments, class_vtype, by_row, row, type_step, virtual_row, virtual_rules, result_types, missing}
+use Rattle.kilim_type_spec.specs.Step.{is_class, made_at, one_replaced, replaced, special_fits, special_rules, special_row, superclass_at, is_same}
+use Rattle.kilim_type_spec.specs.Typed.{Among, edges}
 use Rattle.std.proofs.Common.{◌==◌, ◌≡◌, ℕ, ℤ, pos, negsuc, zero, suc, ◌+◌, Bool, true, false, true≢false, not, ◌&&◌, ◌||◌, cond, List, [], ◌∷◌, ◌++◌, length, reverse, Option, Some, None, Ok, refl, sym, ap, subst, ◌∙◌, ◌⊎◌, inl, inr, arith}
 use Rattle.std.proofs.lemmas.List.{length-reverse}
 use Rattle.std.specs.List.{list_any}
@@ -259,7 +259,7 @@ module _ (p : Program) (k : ProgramKeeps p) (m : Method) (pl to : ℕ) (f f1 : T
           of_int (pos i) = of_unit (slice_get units i)
       answers_h w units (v ∷ u ∷ as1) = tt
 
-      pub virtual_h : EI (instr.Invokevirtual id) (cond (is_text_method p named) (calls_text named (reverse vs) to ls rest h r) (Rattle.kilim_classes.specs.machine.Effect.as_class p r h (calls_on p named id (reverse vs) to ls rest h r)))
+      pub virtual_h : EI (instr.Invokevirtual id) (cond (is_text_method p named) (calls_text named (reverse vs) to ls rest h r) (Rattle.kilim_run_machine.specs.Effect.as_class p r h (calls_on p named id (reverse vs) to ls rest h r)))
       virtual_h = cond_h (EI (instr.Invokevirtual id)) tt (λ c. tt) (λ c. tt) (is_text_method p named) _ _
           (λ text. receiver_h (EI (instr.Invokevirtual id)) tt (λ c. tt) (λ c. tt) r _ (λ narrow. some_h (EI (instr.Invokevirtual id)) tt (λ c. tt) (λ c. tt) (text_of r) _ (λ units q. answers_h (number_left text) units (reverse vs))))
           (λ plain. class_of_h (EI (instr.Invokevirtual id)) tt (λ c. tt) (λ c. tt) p r h _ (λ class of. by class of))
@@ -377,10 +377,10 @@ module _ (p : Program) (k : ProgramKeeps p) (m : Method) (pl to : ℕ) (f f1 : T
       constructs_left : named.built_in ≡ false → EI (instr.Invokespecial id) (calls_method (method_at p (special p m named id)) (special p m named id) (r ∷ reverse vs) to ls rest h)
       constructs_left own = subst (λ z. EI (instr.Invokespecial id) (calls_method (method_at p z) z (r ∷ reverse vs) to ls rest h)) (sym itself)
           (subst (λ z. EI (instr.Invokespecial id) (calls_method z id (r ∷ reverse vs) to ls rest h)) (sym is)
-          (subst (λ b. EI (instr.Invokespecial id) (cond b (Rattle.kilim_classes.specs.machine.Effect.Asks id (r ∷ reverse vs) to ls rest h) (Rattle.kilim_classes.specs.machine.Effect.Calls id (r ∷ reverse vs) to ls rest h))) (sym own) (special_edge, call)))
+          (subst (λ b. EI (instr.Invokespecial id) (cond b (Rattle.kilim_run_machine.specs.Effect.Asks id (r ∷ reverse vs) to ls rest h) (Rattle.kilim_run_machine.specs.Effect.Calls id (r ∷ reverse vs) to ls rest h))) (sym own) (special_edge, call)))
         where
           itself : special p m named id ≡ id
-          itself = ap (λ b. cond (b || named.owner.0 == m.owner.0) id (Rattle.kilim_classes.specs.machine.Does.above_of p named id (Rattle.kilim_classes.specs.machine.Does.superclass_of (class_at p m.owner)))) con
+          itself = ap (λ b. cond (b || named.owner.0 == m.owner.0) id (Rattle.kilim_run_machine.specs.Does.above_of p named id (Rattle.kilim_run_machine.specs.Does.superclass_of (class_at p m.owner)))) con
 
           same : object_sort p (class_type built.2.made.0) ≡ object_sort p (class_type named.owner.0)
           same = same_sort (λ b q. true≢false (sym b ∙ own))
@@ -527,7 +527,7 @@ module _ (p : Program) (k : ProgramKeeps p) (m : Method) (pl to : ℕ) (f f1 : T
     unfolding does
     invokestatic_h take_h = some_h (EI (instr.Invokestatic id)) tt (λ c. tt) (λ c. tt) (method_at p id) _ (λ named is. cond_h (EI (instr.Invokestatic id)) tt (λ c. tt) (λ c. tt) (is_handed_out p named) _ _
         (λ out. values_h (EI (instr.Invokestatic id)) tt (λ c. tt) (λ c. tt) (length named.params) st _ (λ vs rest e size.
-        subst (λ b. EI (instr.Invokestatic id) (cond b (Rattle.kilim_classes.specs.machine.Effect.Asks id (reverse vs) to ls rest h) (Rattle.kilim_classes.specs.machine.Effect.Calls id (reverse vs) to ls rest h))) (and_left named.built_in _ out) (static_left named is vs rest e size)))
+        subst (λ b. EI (instr.Invokestatic id) (cond b (Rattle.kilim_run_machine.specs.Effect.Asks id (reverse vs) to ls rest h) (Rattle.kilim_run_machine.specs.Effect.Calls id (reverse vs) to ls rest h))) (and_left named.built_in _ out) (static_left named is vs rest e size)))
         (λ other. cond_h (EI (instr.Invokestatic id)) tt (λ c. tt) (λ c. tt) named.built_in _ _ (λ built. take_h named is (is_static named is) other built)
         (λ own. values_h (EI (instr.Invokestatic id)) tt (λ c. tt) (λ c. tt) (length named.params) st _ (λ vs rest e size.
-        subst (λ b. EI (instr.Invokestatic id) (cond b (Rattle.kilim_classes.specs.machine.Effect.Asks id (reverse vs) to ls rest h) (Rattle.kilim_classes.specs.machine.Effect.Calls id (reverse vs) to ls rest h))) own (static_left named is vs rest e size)))))
+        subst (λ b. EI (instr.Invokestatic id) (cond b (Rattle.kilim_run_machine.specs.Effect.Asks id (reverse vs) to ls rest h) (Rattle.kilim_run_machine.specs.Effect.Calls id (reverse vs) to ls rest h))) own (static_left named is vs rest e size)))))

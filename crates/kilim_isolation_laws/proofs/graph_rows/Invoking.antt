@@ -4,21 +4,21 @@ use Rattle.std.specs.List.{list_any}
 use Rattle.std.specs.Prelude.{take}
 use Rattle.std.proofs.lemmas.List.{reverse-reverse, length-reverse}
 use mathlib.Core.List.{reverse_aux}
-use Rattle.kilim_classes.specs.declared.verified.VType.TheVariants as vtype
-use Rattle.kilim_typing.specs.Step as type
-use Rattle.kilim_classes.specs.declared.class.Method.{Method}
-use Rattle.kilim_classes.specs.declared.ty.Qualifier.{Qualifier}
-use Rattle.kilim_classes.specs.declared.ty.Ty.{Ty}
-use Rattle.kilim_classes.specs.declared.value.Value.{Value}
-use Rattle.kilim_classes.specs.declared.verified.VType.{VType}
-use Rattle.kilim_classes.specs.Program.{Program}
-use Rattle.kilim_classes.specs.machine.Machine.{Objects}
-use Rattle.kilim_classes.specs.machine.Effect.{Effect, Ends, Raises, Stuck, on_values}
-use Rattle.kilim_typing.specs.Step.{Types, peek, assignable, Operand, Is, meets, all_meet, arguments, class_vtype}
+use Rattle.kilim_program.specs.declared.verified.VType.TheVariants as vtype
+use Rattle.kilim_type_spec.specs.Step as type
+use Rattle.kilim_program.specs.declared.class.Method.{Method}
+use Rattle.kilim_program.specs.declared.ty.Qualifier.{Qualifier}
+use Rattle.kilim_program.specs.declared.ty.Ty.{Ty}
+use Rattle.kilim_program.specs.declared.value.Value.{Value}
+use Rattle.kilim_program.specs.declared.verified.VType.{VType}
+use Rattle.kilim_program.specs.Program.{Program}
+use Rattle.kilim_run_state.specs.Machine.{Objects}
+use Rattle.kilim_run_machine.specs.Effect.{Effect, Ends, Raises, Stuck, on_values}
+use Rattle.kilim_type_spec.specs.Step.{Types, peek, assignable, Operand, Is, meets, all_meet, arguments, class_vtype}
 use Rattle.kilim_isolation_laws.specs.forest.Relation.{is_gone, Named}
-use Rattle.kilim_shape_graph.specs.Graphs.{slot}
+use Rattle.kilim_isolation_graph.specs.Graphs.{slot}
 use Rattle.kilim_isolation_rules.specs.declared.deed.Passed.{Passed}
-use Rattle.kilim_shape_graph.specs.Entry.{declared_parameters}
+use Rattle.kilim_isolation_graph.specs.Entry.{declared_parameters}
 use Rattle.kilim_isolation_rules.specs.Calls.{parameters}
 use Rattle.kilim_isolation_rules.specs.Marks.{mixes}
 use Rattle.kilim_isolation_laws.specs.graph_rows.Holds.{sort, SlotFits, AreSlots, KindsFlow}
@@ -27,7 +27,7 @@ use Rattle.kilim_isolation_laws.proofs.graph_rows.Words.{value_h}
 use Rattle.kilim_isolation_laws.proofs.graph_rows.Fields.{slot_sort}
 use Rattle.kilim_isolation_laws.proofs.graph_rows.Leaving.{mix_of}
 use Rattle.kilim_isolation_laws.specs.graph_rows.Outcome.{ArgsFit}
-use Rattle.kilim_classes.specs.declared.machine.cause.EndCause.{EndCause}
+use Rattle.kilim_run_state.specs.declared.cause.EndCause.{EndCause}
 
 -- so many values
 pub values_h : (P : Effect → Type 0) (stuck : P Stuck) (raises : (c : EndCause) → P (Raises c)) (ends : (c : EndCause) → P (Ends c)) (n : ℕ) (s : List Value) (go : List Value → List Value → Effect) →

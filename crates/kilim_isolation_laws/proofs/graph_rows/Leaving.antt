@@ -2,30 +2,30 @@
 use Rattle.std.proofs.Common.{◌≡◌, ℕ, zero, suc, ℤ, ◌==◌, Bool, true, false, true≢false, not, cond, ◌&&◌, List, [], ◌∷◌, length, Option, Some, None, Result, Ok, refl, sym, ap, subst, ◌∙◌}
 use Rattle.std.specs.List.{list_any}
 use Rattle.std.specs.Prelude.{drop, slice_get, is_none}
-use Rattle.kilim_classes.specs.declared.instr.Instr.TheVariants as instr
-use Rattle.kilim_classes.specs.declared.ty.Base.TheVariants as base
-use Rattle.kilim_classes.specs.declared.ty.Kind.TheVariants as kind
-use Rattle.kilim_classes.specs.declared.verified.VType.TheVariants as vtype
-use Rattle.kilim_typing.specs.Step as type
-use Rattle.kilim_classes.specs.declared.class.Method.{Method}
-use Rattle.kilim_classes.specs.declared.instr.Instr.{Instr}
-use Rattle.kilim_classes.specs.declared.ty.Base.{Base}
-use Rattle.kilim_classes.specs.declared.ty.Ty.{Ty}
-use Rattle.kilim_classes.specs.declared.value.Value.{Value}
-use Rattle.kilim_classes.specs.declared.value.Value.TheVariants.{Int, Long}
-use Rattle.kilim_classes.specs.declared.verified.VType.{VType}
-use Rattle.kilim_classes.specs.Program.{Program}
-use Rattle.kilim_classes.specs.Kinds.{kind_of}
-use Rattle.kilim_classes.specs.machine.Machine.{Objects}
-use Rattle.kilim_classes.specs.machine.Does.{does, narrowed_int, narrowed_result}
-use Rattle.kilim_typing.specs.Step.{Types, peek, assignable, Operand, Further, Is, meets, all_meet, further, rule, by_row, row, type_step, returns_object, has_object, result_types, is_object, has_int, has_long, is_int, is_long, dims_vtype, base_vtype}
+use Rattle.kilim_program.specs.declared.instr.Instr.TheVariants as instr
+use Rattle.kilim_program.specs.declared.ty.Base.TheVariants as base
+use Rattle.kilim_program.specs.declared.ty.Kind.TheVariants as kind
+use Rattle.kilim_program.specs.declared.verified.VType.TheVariants as vtype
+use Rattle.kilim_type_spec.specs.Step as type
+use Rattle.kilim_program.specs.declared.class.Method.{Method}
+use Rattle.kilim_program.specs.declared.instr.Instr.{Instr}
+use Rattle.kilim_program.specs.declared.ty.Base.{Base}
+use Rattle.kilim_program.specs.declared.ty.Ty.{Ty}
+use Rattle.kilim_program.specs.declared.value.Value.{Value}
+use Rattle.kilim_program.specs.declared.value.Value.TheVariants.{Int, Long}
+use Rattle.kilim_program.specs.declared.verified.VType.{VType}
+use Rattle.kilim_program.specs.Program.{Program}
+use Rattle.kilim_program.specs.Kinds.{kind_of}
+use Rattle.kilim_run_state.specs.Machine.{Objects}
+use Rattle.kilim_run_machine.specs.Does.{does, narrowed_int, narrowed_result}
+use Rattle.kilim_type_spec.specs.Step.{Types, peek, assignable, Operand, Further, Is, meets, all_meet, further, rule, by_row, row, type_step, returns_object, has_object, result_types, is_object, has_int, has_long, is_int, is_long, dims_vtype, base_vtype}
 use Rattle.kilim_isolation_laws.specs.forest.Relation.{Root, is_gone, Names}
 use Rattle.kilim_isolation_laws.specs.forest.Canonical.{node_at}
-use Rattle.kilim_shape_graph.specs.declared.graph.Graph.{Graph}
-use Rattle.kilim_shape_graph.specs.Graphs.{slot, node_of}
+use Rattle.kilim_isolation_graph.specs.declared.graph.Graph.{Graph}
+use Rattle.kilim_isolation_graph.specs.Graphs.{slot, node_of}
 use Rattle.kilim_isolation_rules.specs.Rules.{deed, result_mixes}
 use Rattle.kilim_isolation_rules.specs.Marks.{mixes, is_tree, names_gone, names_no_root, names_one}
-use Rattle.kilim_shape_graph.specs.Nodes.{is_root}
+use Rattle.kilim_isolation_graph.specs.Nodes.{is_root}
 use Rattle.kilim_isolation_laws.specs.graph_rows.Holds.{sort, type_sort, sort_of_vtype, Fits, unnamed, refers, SlotFits, named_by, Waiting, KindsFlow}
 use Rattle.kilim_isolation_laws.specs.graph_rows.Outcome.{ReturnHolds}
 use Rattle.kilim_isolation_laws.proofs.graph_rows.Settle.{not_true, and_left, and_right, flow_slot}
@@ -37,7 +37,7 @@ use Rattle.kilim_isolation_laws.proofs.graph_rows.Reading.{slot_peeked, slot_liv
 use Rattle.kilim_isolation_laws.proofs.graph_rows.Putting.{slot_value, not_false, root_is, none_some}
 
 leaves_passed : (p : Program) (m : Method) (at : ℕ) (takes : List Operand) (also : List Further) (f f1 : Types) → by_row p m at (type.Leaves takes also) f ≡ Ok f1 →
-    (all_meet p takes f.stack ≡ true) × (further {A = Types} p also f.stack (rule 11 (not (f.unset && Rattle.kilim_classes.specs.Same.is_constructor m)) (Ok (record f { stack = [] }))) ≡ Ok f1)
+    (all_meet p takes f.stack ≡ true) × (further {A = Types} p also f.stack (rule 11 (not (f.unset && Rattle.kilim_program.specs.Same.is_constructor m)) (Ok (record f { stack = [] }))) ≡ Ok f1)
 leaves_passed p m at takes also f f1 e =
     let a = rule_passed 3 (type.has_operands (length takes) f.stack) _ f1 e in
     let b = rule_passed 5 (all_meet p takes f.stack) _ f1 a.1 in
@@ -123,7 +123,7 @@ module _ (p : Program) (flow : KindsFlow p) (m : Method) (pl to : ℕ) (f f1 : T
   areturn_value (Some ty) w = value_holds ty w
 
 module _ (p : Program) (flow : KindsFlow p) (m : Method) (pl to : ℕ) (f f1 : Types) (g g1 : Graph) (at : ℕ → Option ℕ) (h : Objects) (ls st : List Value) (below : List Waiting) (after : Option Types) where
-  abbrev EI : Instr → Rattle.kilim_classes.specs.machine.Effect.Effect → Type 0
+  abbrev EI : Instr → Rattle.kilim_run_machine.specs.Effect.Effect → Type 0
   EI i e = E p m pl to f f1 g g1 at h ls st below after i e
 
   pub areturn_h : IsStep p m pl to f f1 g g1 at h ls st below after instr.Areturn → EI instr.Areturn (does p m instr.Areturn to ls st h)

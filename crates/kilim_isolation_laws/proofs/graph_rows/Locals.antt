@@ -1,23 +1,23 @@
 -- Rows that load and store locals.
 use Rattle.std.proofs.Common.{◌≡◌, ℕ, zero, suc, ℤ, ◌+◌, Bool, true, false, true≢false, ◌&&◌, List, [], ◌∷◌, length, Option, Some, None, Ok, refl, sym, ap, subst, ◌∙◌, ◌⊎◌, inl, inr, arith}
 use Rattle.std.specs.Prelude.{drop, slice_get, slice_set, nat_lt, nat_le}
-use Rattle.kilim_classes.specs.declared.instr.Instr.TheVariants as instr
-use Rattle.kilim_classes.specs.declared.verified.VType.TheVariants as vtype
-use Rattle.kilim_typing.specs.Step as type
-use Rattle.kilim_classes.specs.declared.class.Method.{Method}
-use Rattle.kilim_classes.specs.declared.instr.Instr.{Instr}
-use Rattle.kilim_classes.specs.declared.value.Value.{Value}
-use Rattle.kilim_classes.specs.declared.value.Value.TheVariants.{Int, Long}
-use Rattle.kilim_classes.specs.declared.verified.VType.{VType}
-use Rattle.kilim_classes.specs.Program.{Program}
-use Rattle.kilim_classes.specs.machine.Machine.{Objects}
-use Rattle.kilim_classes.specs.Lengths.{jump_targets, ends_path}
-use Rattle.kilim_classes.specs.machine.Effect.{Effect}
-use Rattle.kilim_classes.specs.machine.Does.{does}
-use Rattle.kilim_typing.specs.Step.{Types, peek, poke, stored, with_half, split_long, split_at, assignable, Operand, Is, AReference, meets, store, loaded, by_row, row, type_step}
+use Rattle.kilim_program.specs.declared.instr.Instr.TheVariants as instr
+use Rattle.kilim_program.specs.declared.verified.VType.TheVariants as vtype
+use Rattle.kilim_type_spec.specs.Step as type
+use Rattle.kilim_program.specs.declared.class.Method.{Method}
+use Rattle.kilim_program.specs.declared.instr.Instr.{Instr}
+use Rattle.kilim_program.specs.declared.value.Value.{Value}
+use Rattle.kilim_program.specs.declared.value.Value.TheVariants.{Int, Long}
+use Rattle.kilim_program.specs.declared.verified.VType.{VType}
+use Rattle.kilim_program.specs.Program.{Program}
+use Rattle.kilim_run_state.specs.Machine.{Objects}
+use Rattle.kilim_program.specs.Lengths.{jump_targets, ends_path}
+use Rattle.kilim_run_machine.specs.Effect.{Effect}
+use Rattle.kilim_run_machine.specs.Does.{does}
+use Rattle.kilim_type_spec.specs.Step.{Types, peek, poke, stored, with_half, split_long, split_at, assignable, Operand, Is, AReference, meets, store, loaded, by_row, row, type_step}
 use Rattle.kilim_isolation_laws.specs.forest.Relation.{Named}
-use Rattle.kilim_shape_graph.specs.declared.graph.Graph.{Graph}
-use Rattle.kilim_shape_graph.specs.Graphs.{slot, with_slot, push}
+use Rattle.kilim_isolation_graph.specs.declared.graph.Graph.{Graph}
+use Rattle.kilim_isolation_graph.specs.Graphs.{slot, with_slot, push}
 use Rattle.kilim_isolation_rules.specs.Rules.{deed}
 use Rattle.kilim_isolation_laws.specs.graph_rows.Holds.{Sort, Word, sort, Fits, unnamed, SlotFits, AreSlots, named_by, value_at, Waiting, Holds, Stands}
 use Rattle.kilim_isolation_laws.specs.graph_rows.Outcome.{Left}

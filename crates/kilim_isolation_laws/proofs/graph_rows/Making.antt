@@ -4,40 +4,40 @@ use Rattle.std.specs.List.{list_any}
 use Rattle.std.specs.Prelude.{slice_get, codes}
 use Rattle.std.specs.Str.{bytes_eq}
 use Rattle.std.specs.FinMap.{get, insert}
-use Rattle.kilim_classes.specs.declared.instr.Instr.TheVariants as instr
-use Rattle.kilim_classes.specs.declared.ty.Base.TheVariants as base
-use Rattle.kilim_classes.specs.declared.ty.Kind.TheVariants as kind
-use Rattle.kilim_classes.specs.declared.verified.VType.TheVariants as vtype
-use Rattle.kilim_typing.specs.Step as type
-use Rattle.kilim_classes.specs.declared.class.Field.{Field}
-use Rattle.kilim_classes.specs.declared.class.Method.{Method}
-use Rattle.kilim_classes.specs.declared.names.ClassId.{ClassId}
-use Rattle.kilim_classes.specs.declared.names.FieldId.{FieldId}
-use Rattle.kilim_classes.specs.declared.ty.Base.{Base}
-use Rattle.kilim_classes.specs.declared.ty.Kind.{Kind}
-use Rattle.kilim_classes.specs.declared.ty.Ty.{Ty}
-use Rattle.kilim_classes.specs.declared.machine.value.Object.{Object}
-use Rattle.kilim_classes.specs.declared.value.Value.{Value}
-use Rattle.kilim_classes.specs.declared.value.Value.TheVariants.{Null, Ref, Box}
-use Rattle.kilim_classes.specs.declared.verified.VType.{VType}
-use Rattle.kilim_classes.specs.Program.{Program}
-use Rattle.kilim_classes.specs.BuiltIn.{class_type}
-use Rattle.kilim_classes.specs.Kinds.{kind_of, class_kind, is_value_class, is_message}
-use Rattle.kilim_classes.specs.Names.{field_of, class_name, is_task, class_at}
-use Rattle.kilim_classes.specs.machine.Members.{object_fields}
-use Rattle.kilim_classes.specs.machine.Machine.{Objects}
-use Rattle.kilim_classes.specs.Lengths.{jump_targets, ends_path}
-use Rattle.kilim_classes.specs.machine.Does.{does, is_mailbox}
-use Rattle.kilim_classes.specs.machine.Shapes.{field_in}
-use Rattle.kilim_classes.specs.machine.Objects.{new_object, first_field, first_value, first_value_of}
-use Rattle.kilim_typing.specs.Step.{Types, peek, is_same, replaced, one_replaced, dims_vtype, base_vtype, made_at, made_by, may_make, by_row, Makes as MakesRow, row, type_step}
+use Rattle.kilim_program.specs.declared.instr.Instr.TheVariants as instr
+use Rattle.kilim_program.specs.declared.ty.Base.TheVariants as base
+use Rattle.kilim_program.specs.declared.ty.Kind.TheVariants as kind
+use Rattle.kilim_program.specs.declared.verified.VType.TheVariants as vtype
+use Rattle.kilim_type_spec.specs.Step as type
+use Rattle.kilim_program.specs.declared.class.Field.{Field}
+use Rattle.kilim_program.specs.declared.class.Method.{Method}
+use Rattle.kilim_program.specs.declared.names.ClassId.{ClassId}
+use Rattle.kilim_program.specs.declared.names.FieldId.{FieldId}
+use Rattle.kilim_program.specs.declared.ty.Base.{Base}
+use Rattle.kilim_program.specs.declared.ty.Kind.{Kind}
+use Rattle.kilim_program.specs.declared.ty.Ty.{Ty}
+use Rattle.kilim_run_state.specs.declared.value.Object.{Object}
+use Rattle.kilim_program.specs.declared.value.Value.{Value}
+use Rattle.kilim_program.specs.declared.value.Value.TheVariants.{Null, Ref, Box}
+use Rattle.kilim_program.specs.declared.verified.VType.{VType}
+use Rattle.kilim_program.specs.Program.{Program}
+use Rattle.kilim_program.specs.BuiltIn.{class_type}
+use Rattle.kilim_program.specs.Kinds.{kind_of, class_kind, is_value_class, is_message}
+use Rattle.kilim_program.specs.Names.{field_of, class_name, is_task, class_at}
+use Rattle.kilim_program.specs.Members.{object_fields}
+use Rattle.kilim_run_state.specs.Machine.{Objects}
+use Rattle.kilim_program.specs.Lengths.{jump_targets, ends_path}
+use Rattle.kilim_run_machine.specs.Does.{does, is_mailbox}
+use Rattle.kilim_run_state.specs.Shapes.{field_in}
+use Rattle.kilim_run_state.specs.Objects.{new_object, first_field, first_value, first_value_of}
+use Rattle.kilim_type_spec.specs.Step.{Types, peek, is_same, replaced, one_replaced, dims_vtype, base_vtype, made_at, made_by, may_make, by_row, Makes as MakesRow, row, type_step}
 use Rattle.kilim_isolation_laws.specs.forest.Heap.{Below, Here, Then}
 use Rattle.kilim_isolation_laws.specs.forest.Relation.{Root, Named, Names, Relates, Frames}
 use Rattle.kilim_isolation_laws.proofs.forest.Paths.{some_is}
 use Rattle.kilim_isolation_laws.proofs.forest.Moves.{set_named, root_keeps, AllBelow}
-use Rattle.kilim_shape_graph.specs.declared.graph.Graph.{Graph}
-use Rattle.kilim_shape_graph.specs.Graphs.{slot, added, push}
-use Rattle.kilim_shape_graph.specs.Nodes.{new_region}
+use Rattle.kilim_isolation_graph.specs.declared.graph.Graph.{Graph}
+use Rattle.kilim_isolation_graph.specs.Graphs.{slot, added, push}
+use Rattle.kilim_isolation_graph.specs.Nodes.{new_region}
 use Rattle.kilim_isolation_rules.specs.Rules.{deed}
 use Rattle.kilim_isolation_rules.specs.Marks.{given, root_node}
 use Rattle.kilim_isolation_laws.specs.graph_rows.Holds.{Sort, Anything, Wide, Word, Own, Tree, sort, sort_by, object_sort, type_sort, sort_of_vtype, made_sort, field_sort, field_sort_of, Fits, unnamed, named_sort, refers, refers_in, SlotFits, AreSlots, SlotsFit, named_by, value_at, Waiting, waiting_named, AllWait, Holds, Stands, HeapFits, ObjectFits, trees, IsOf, MayHold, held_by, tree_held, held_at, half, is_tree_object, is_tree_sort}
@@ -336,11 +336,11 @@ module _ (p : Program) (m : Method) (pl to : ℕ) (f f1 : Types) (g g1 : Graph) 
       refused false true x w = true≢false (sym w)
       refused false false x w = true≢false (sym w)
 
-      by : (o : Option Rattle.kilim_classes.specs.declared.class.Class.Class) → may_make p c o ≡ true → ⊥
+      by : (o : Option Rattle.kilim_program.specs.declared.class.Class.Class) → may_make p c o ≡ true → ⊥
       by None w = true≢false (sym w)
-      by (Some class) w = refused class.is_abstract (bytes_eq (class_name p c) (codes "kilim/Message")) (Rattle.kilim_classes.specs.Fits.is_named p (codes "kilim/Sys") c || Rattle.kilim_classes.specs.Fits.is_named p (codes "kilim/Fiber") c) (ap (λ y. not (class.is_abstract || (bytes_eq (class_name p c) (codes "kilim/Message") || (y || (Rattle.kilim_classes.specs.Fits.is_named p (codes "kilim/Sys") c || Rattle.kilim_classes.specs.Fits.is_named p (codes "kilim/Fiber") c))))) (sym string) ∙ w)
+      by (Some class) w = refused class.is_abstract (bytes_eq (class_name p c) (codes "kilim/Message")) (Rattle.kilim_program.specs.Fits.is_named p (codes "kilim/Sys") c || Rattle.kilim_program.specs.Fits.is_named p (codes "kilim/Fiber") c) (ap (λ y. not (class.is_abstract || (bytes_eq (class_name p c) (codes "kilim/Message") || (y || (Rattle.kilim_program.specs.Fits.is_named p (codes "kilim/Sys") c || Rattle.kilim_program.specs.Fits.is_named p (codes "kilim/Fiber") c))))) (sym string) ∙ w)
 
-  mailbox_left : is_mailbox p c ≡ true → (box : Rattle.kilim_classes.specs.declared.names.BoxName.BoxName) → Left p m f1 g1 h ls (Box box ∷ st) below
+  mailbox_left : is_mailbox p c ≡ true → (box : Rattle.kilim_program.specs.declared.names.BoxName.BoxName) → Left p m f1 g1 h ls (Box box ∷ st) below
   mailbox_left is box = back (push None g) h (Box box ∷ st) (graph_is ∙ ap (λ z. given z g) value) (
     at,
     record {

@@ -2,31 +2,31 @@
 use Rattle.std.proofs.Common.{◌≡◌, ℕ, zero, suc, ℤ, pos, negsuc, Bool, true, false, true≢false, Ok, List, [], ◌∷◌, length, Option, Some, None, refl, sym, ap, subst, ◌∙◌, inl}
 use Rattle.std.specs.FinMap.{get, insert}
 use Rattle.std.specs.Prelude.{drop, nat_lt, replicate, slice_get}
-use Rattle.kilim_classes.specs.declared.class.Method.{Method}
-use Rattle.kilim_classes.specs.declared.instr.Instr.{Instr}
-use Rattle.kilim_classes.specs.declared.instr.Instr.TheVariants as instr
-use Rattle.kilim_classes.specs.declared.names.ClassId.{ClassId}
-use Rattle.kilim_classes.specs.declared.names.FieldId.{FieldId}
-use Rattle.kilim_classes.specs.declared.ty.Base.{Base}
-use Rattle.kilim_classes.specs.declared.ty.Base.TheVariants as base
-use Rattle.kilim_classes.specs.declared.ty.Kind.{Kind}
-use Rattle.kilim_classes.specs.declared.ty.Kind.TheVariants as kind
-use Rattle.kilim_classes.specs.declared.ty.Ty.{Ty}
-use Rattle.kilim_classes.specs.declared.value.Value.{Value}
-use Rattle.kilim_classes.specs.declared.value.Value.TheVariants.{Int, Null, Ref}
-use Rattle.kilim_classes.specs.declared.verified.VType.TheVariants as vtype
-use Rattle.kilim_classes.specs.Kinds.{array_kind, base_kind, kind_of}
-use Rattle.kilim_classes.specs.Lengths.{ends_path, is_primitive, is_reference, is_reference_type, jump_targets}
-use Rattle.kilim_classes.specs.Program.{Program}
-use Rattle.kilim_classes.specs.machine.Does.{array_limit, array_of, does, element_type, makes_array}
-use Rattle.kilim_classes.specs.machine.Effect.{Effect}
-use Rattle.kilim_classes.specs.machine.Machine.{Objects}
-use Rattle.kilim_classes.specs.machine.Objects.{first_value_of, new_array}
-use Rattle.kilim_classes.specs.machine.Shapes.{field_in}
-use Rattle.kilim_typing.specs.Step as type
-use Rattle.kilim_typing.specs.Step.{Further, Is, Takes, Types, row, type_step}
-use Rattle.kilim_shape_graph.specs.declared.graph.Graph.{Graph}
-use Rattle.kilim_shape_graph.specs.Graphs.{popped}
+use Rattle.kilim_program.specs.declared.class.Method.{Method}
+use Rattle.kilim_program.specs.declared.instr.Instr.{Instr}
+use Rattle.kilim_program.specs.declared.instr.Instr.TheVariants as instr
+use Rattle.kilim_program.specs.declared.names.ClassId.{ClassId}
+use Rattle.kilim_program.specs.declared.names.FieldId.{FieldId}
+use Rattle.kilim_program.specs.declared.ty.Base.{Base}
+use Rattle.kilim_program.specs.declared.ty.Base.TheVariants as base
+use Rattle.kilim_program.specs.declared.ty.Kind.{Kind}
+use Rattle.kilim_program.specs.declared.ty.Kind.TheVariants as kind
+use Rattle.kilim_program.specs.declared.ty.Ty.{Ty}
+use Rattle.kilim_program.specs.declared.value.Value.{Value}
+use Rattle.kilim_program.specs.declared.value.Value.TheVariants.{Int, Null, Ref}
+use Rattle.kilim_program.specs.declared.verified.VType.TheVariants as vtype
+use Rattle.kilim_program.specs.Kinds.{array_kind, base_kind, kind_of}
+use Rattle.kilim_program.specs.Lengths.{ends_path, is_primitive, is_reference, is_reference_type, jump_targets}
+use Rattle.kilim_program.specs.Program.{Program}
+use Rattle.kilim_run_machine.specs.Does.{array_limit, array_of, does, element_type, makes_array}
+use Rattle.kilim_run_machine.specs.Effect.{Effect}
+use Rattle.kilim_run_state.specs.Machine.{Objects}
+use Rattle.kilim_run_state.specs.Objects.{first_value_of, new_array}
+use Rattle.kilim_run_state.specs.Shapes.{field_in}
+use Rattle.kilim_type_spec.specs.Step as type
+use Rattle.kilim_type_spec.specs.Step.{Further, Is, Takes, Types, row, type_step}
+use Rattle.kilim_isolation_graph.specs.declared.graph.Graph.{Graph}
+use Rattle.kilim_isolation_graph.specs.Graphs.{popped}
 use Rattle.kilim_isolation_rules.specs.Rules.{deed}
 use Rattle.kilim_isolation_rules.specs.Marks.{given}
 use Rattle.kilim_isolation_laws.specs.graph_rows.Holds.{AreSlots, Fits, MayHold, ObjectFits, Waiting, held_by, is_tree_sort, named_by, object_sort, refers, refers_in, sort, sort_by, sort_of_vtype, type_sort}
@@ -142,7 +142,7 @@ module _ (p : Program) (m : Method) (pl to : ℕ) (f f1 : Types) (g g1 : Graph) 
     pub array_made : Left p m f1 g1 (insert h n (new_array (record { dims = suc d; base = b }) v count)) ls (Ref n ∷ rest) below
     array_made = by (kind_of p (record { dims = suc d; base = b })) refl
 
-  makes_h : (i : Instr) (ty : Ty) (v : Value) (x : ℤ) (rest : List Value) → ((count : ℕ) → EI i (Rattle.kilim_classes.specs.machine.Effect.Makes (new_array ty v count) to ls rest h)) → EI i (makes_array ty v x to ls rest h)
+  makes_h : (i : Instr) (ty : Ty) (v : Value) (x : ℤ) (rest : List Value) → ((count : ℕ) → EI i (Rattle.kilim_run_machine.specs.Effect.Makes (new_array ty v count) to ls rest h)) → EI i (makes_array ty v x to ls rest h)
   makes_h i ty v (negsuc n) rest w = tt
   makes_h i ty v (pos n) rest w = cond_h (EI i) tt (λ c. tt) (λ c. tt) (nat_lt array_limit n) _ _ (λ large. tt) (λ small. w n)
 

@@ -9,7 +9,7 @@ use Rattle.kilim_isolation_laws.proofs.forest.View.{IsView, view_relates, respec
 use Rattle.kilim_isolation_laws.proofs.forest.Frames.{respects_each}
 use Rattle.kilim_isolation_laws.specs.forest.Steps.{IsNearly_tidy}
 use Rattle.kilim_isolation_laws.proofs.forest.Canon.{same_index, member_at, firsts_once, in_firsts, member_map}
-use Rattle.kilim_shape_graph.specs.Nodes.{listed, new_region}
+use Rattle.kilim_isolation_graph.specs.Nodes.{listed, new_region}
 
 -- ---- lists of nodes
 

@@ -4,31 +4,31 @@ use Rattle.std.specs.FinMap.{get, insert}
 use Rattle.std.specs.List.{list_any}
 use Rattle.std.specs.Int.{int_wrapping_add, w32}
 use Rattle.std.specs.Prelude.{drop, nat_lt, slice_get, slice_set}
-use Rattle.kilim_classes.specs.declared.class.Method.{Method}
-use Rattle.kilim_classes.specs.declared.instr.Instr.{Instr}
-use Rattle.kilim_classes.specs.declared.instr.Instr.TheVariants as instr
-use Rattle.kilim_classes.specs.declared.ty.Base.{Base}
-use Rattle.kilim_classes.specs.declared.ty.Base.TheVariants as base
-use Rattle.kilim_classes.specs.declared.ty.Ty.{Ty}
-use Rattle.kilim_classes.specs.declared.names.ClassId.{ClassId}
-use Rattle.kilim_classes.specs.declared.value.Value.{Value}
-use Rattle.kilim_classes.specs.declared.value.Value.TheVariants.{Int, Long, Null, Ref, Text, Box, Fiber}
-use Rattle.kilim_classes.specs.declared.verified.VType.{VType}
-use Rattle.kilim_classes.specs.declared.verified.VType.TheVariants as vtype
-use Rattle.kilim_classes.specs.Lengths.{ends_path, jump_targets}
-use Rattle.kilim_classes.specs.Program.{Program}
-use Rattle.kilim_classes.specs.Same.{same_base}
-use Rattle.kilim_classes.specs.declared.machine.value.Object.{Object}
-use Rattle.kilim_classes.specs.machine.Does.{does, element_type}
-use Rattle.kilim_classes.specs.machine.Effect.{Effect, is_wide}
-use Rattle.kilim_classes.specs.machine.Machine.{Objects}
-use Rattle.kilim_typing.specs.Step as type
-use Rattle.kilim_typing.specs.Step.{ArrayOf, Is, Operand, Takes, Types, assignable, is_array_of, meets, peek, row, type_step}
+use Rattle.kilim_program.specs.declared.class.Method.{Method}
+use Rattle.kilim_program.specs.declared.instr.Instr.{Instr}
+use Rattle.kilim_program.specs.declared.instr.Instr.TheVariants as instr
+use Rattle.kilim_program.specs.declared.ty.Base.{Base}
+use Rattle.kilim_program.specs.declared.ty.Base.TheVariants as base
+use Rattle.kilim_program.specs.declared.ty.Ty.{Ty}
+use Rattle.kilim_program.specs.declared.names.ClassId.{ClassId}
+use Rattle.kilim_program.specs.declared.value.Value.{Value}
+use Rattle.kilim_program.specs.declared.value.Value.TheVariants.{Int, Long, Null, Ref, Text, Box, Fiber}
+use Rattle.kilim_program.specs.declared.verified.VType.{VType}
+use Rattle.kilim_program.specs.declared.verified.VType.TheVariants as vtype
+use Rattle.kilim_program.specs.Lengths.{ends_path, jump_targets}
+use Rattle.kilim_program.specs.Program.{Program}
+use Rattle.kilim_program.specs.Same.{same_base}
+use Rattle.kilim_run_state.specs.declared.value.Object.{Object}
+use Rattle.kilim_run_machine.specs.Does.{does, element_type}
+use Rattle.kilim_run_machine.specs.Effect.{Effect, is_wide}
+use Rattle.kilim_run_state.specs.Machine.{Objects}
+use Rattle.kilim_type_spec.specs.Step as type
+use Rattle.kilim_type_spec.specs.Step.{ArrayOf, Is, Operand, Takes, Types, assignable, is_array_of, meets, peek, row, type_step}
 use Rattle.kilim_isolation_laws.specs.forest.Canonical.{node_at}
 use Rattle.kilim_isolation_laws.specs.forest.Relation.{is_gone}
 use Rattle.kilim_isolation_laws.proofs.forest.Store.{is_same}
-use Rattle.kilim_shape_graph.specs.declared.graph.Graph.{Graph}
-use Rattle.kilim_shape_graph.specs.Graphs.{slot}
+use Rattle.kilim_isolation_graph.specs.declared.graph.Graph.{Graph}
+use Rattle.kilim_isolation_graph.specs.Graphs.{slot}
 use Rattle.kilim_isolation_rules.specs.declared.deed.Deed.{Deed}
 use Rattle.kilim_isolation_rules.specs.Rules.{by_types, deed}
 use Rattle.kilim_isolation_rules.specs.Marks.{names_gone}
@@ -122,9 +122,9 @@ module _ (p : Program) (m : Method) (pl to : ℕ) (f f1 : Types) (g g1 : Graph) 
         word_tree : (d : ℕ) (s : Stuff) → Word ≡ Tree d s → ⊥
         word_tree d s q = cc
     element_is (vtype.Object ty) q a = elim (of_slot p h (named_by g at) (length g.nodes) (sort p m (peek f.stack 2)) (slot g.stack 2) n array lives
-        (λ any. not_anything p ty (Rattle.kilim_classes.specs.Kinds.kind_of p ty) (sym (ap (sort p m) q ∙ object_is ty) ∙ any))) [
+        (λ any. not_anything p ty (Rattle.kilim_program.specs.Kinds.kind_of p ty) (sym (ap (sort p m) q ∙ object_is ty) ∙ any))) [
           | inl v ↦ elements_same p object.class ty 0 v.0 v.1 dims (sym (ap (sort p m) q ∙ object_is ty) ∙ v.2) (same_object (Tree v.0 v.1) v.3) ∙ mine
-          | inr v ↦ absurd (no_own (sym mine ∙ private_sort p (element_type ty) (own_elements p ty (sort_private p ty (Rattle.kilim_classes.specs.Kinds.kind_of p ty) (sym (ap (sort p m) q ∙ object_is ty) ∙ v.0)))))
+          | inr v ↦ absurd (no_own (sym mine ∙ private_sort p (element_type ty) (own_elements p ty (sort_private p ty (Rattle.kilim_program.specs.Kinds.kind_of p ty) (sym (ap (sort p m) q ∙ object_is ty) ∙ v.0)))))
         ]
       where
         dims : ty.dims ≡ 1

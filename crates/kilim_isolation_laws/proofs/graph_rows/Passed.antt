@@ -1,12 +1,12 @@
 -- What a step that passes says.
 use Rattle.std.proofs.Common.{◌≡◌, ℕ, Bool, true, false, not, ◌&&◌, ◌||◌, List, [], ◌∷◌, ◌++◌, Option, Result, Ok, length, refl}
 use Rattle.std.specs.Prelude.{drop}
-use Rattle.kilim_classes.specs.declared.class.Method.{Method}
-use Rattle.kilim_classes.specs.declared.instr.Instr.{Instr}
-use Rattle.kilim_classes.specs.declared.verified.VType.{VType}
-use Rattle.kilim_classes.specs.Program.{Program}
-use Rattle.kilim_typing.specs.Step.{Types, Operand, Further, Takes, rule, further, all_meet, has_operands, room_for, by_row}
-use Rattle.kilim_shape_graph.specs.declared.graph.Graph.{Graph}
+use Rattle.kilim_program.specs.declared.class.Method.{Method}
+use Rattle.kilim_program.specs.declared.instr.Instr.{Instr}
+use Rattle.kilim_program.specs.declared.verified.VType.{VType}
+use Rattle.kilim_program.specs.Program.{Program}
+use Rattle.kilim_type_spec.specs.Step.{Types, Operand, Further, Takes, rule, further, all_meet, has_operands, room_for, by_row}
+use Rattle.kilim_isolation_graph.specs.declared.graph.Graph.{Graph}
 use Rattle.kilim_isolation_rules.specs.Rules.{deed, moves, any_flow_mixes, left_by}
 use Rattle.kilim_isolation_rules.specs.Marks.{stack_lives}
 use Rattle.kilim_isolation_laws.proofs.graph_rows.Settle.{not_true, or_left, or_right}

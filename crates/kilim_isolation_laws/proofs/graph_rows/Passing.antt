@@ -1,7 +1,7 @@
 -- The graph after the arguments of a call, and what they leave behind.
 use Rattle.std.proofs.Common.{if◌then◌else◌, ◌≡◌, ℕ, zero, suc, ◌≤◌, ◌==◌, Bool, true, false, cond, List, [], ◌∷◌, length, Option, Some, None, refl, sym, ap, subst, ◌∙◌, inl, inr}
-use Rattle.kilim_classes.specs.declared.ty.Qualifier.TheVariants as qualifier
-use Rattle.kilim_classes.specs.Program.{Program}
+use Rattle.kilim_program.specs.declared.ty.Qualifier.TheVariants as qualifier
+use Rattle.kilim_program.specs.Program.{Program}
 use Rattle.kilim_isolation_laws.specs.forest.Heap.{Heap, IsForest}
 use Rattle.kilim_isolation_laws.specs.forest.Relation.{Gone, is_gone, Label, Node, Named, Names, Owns, Frames}
 use Rattle.kilim_isolation_laws.specs.forest.Steps.{IsTidy, IsCall, Qualifier, Argument, Free, Cuttable, cut_node, gone_node, entry_node, after_argument, after_arguments, more_arguments, number_or, is_owned}
@@ -11,8 +11,8 @@ use Rattle.kilim_isolation_laws.proofs.forest.Called.{of_named, owned, owned_of,
 use Rattle.kilim_isolation_laws.proofs.forest.Calls.{IsAfter_call}
 use Rattle.kilim_isolation_laws.proofs.forest.Less.{IsLess, lives}
 use Rattle.kilim_isolation_laws.proofs.forest.Moves.{call_keeps}
-use Rattle.kilim_shape_graph.specs.declared.graph.Graph.{Graph}
-use Rattle.kilim_shape_graph.specs.Nodes.{listed}
+use Rattle.kilim_isolation_graph.specs.declared.graph.Graph.{Graph}
+use Rattle.kilim_isolation_graph.specs.Nodes.{listed}
 use Rattle.kilim_isolation_rules.specs.declared.deed.Passed.{Passed}
 use Rattle.kilim_isolation_rules.specs.Calls as calls
 use Rattle.kilim_isolation_rules.specs.Calls.{arguments, quality_in}

@@ -2,23 +2,23 @@
 use Rattle.std.proofs.Common.{◌≡◌, ℕ, zero, suc, ℤ, pos, negsuc, Bool, true, false, not, List, [], ◌∷◌, ◌++◌, Option, Some, None, Ok, length, refl, sym, ap, subst, ◌∙◌, inl, inr}
 use Rattle.std.specs.Prelude.{drop, replicate, slice_get}
 use Rattle.std.specs.Ordering.{int_eq}
-use Rattle.kilim_classes.specs.declared.instr.Instr.TheVariants as instr
-use Rattle.kilim_classes.specs.declared.verified.VType.TheVariants as vtype
-use Rattle.kilim_classes.specs.declared.machine.cause.EndCause.{EndCause}
-use Rattle.kilim_classes.specs.declared.class.Method.{Method}
-use Rattle.kilim_classes.specs.declared.instr.Instr.{Instr}
-use Rattle.kilim_classes.specs.declared.value.Value.{Value}
-use Rattle.kilim_classes.specs.declared.value.Value.TheVariants.{Int, Long, Null}
-use Rattle.kilim_classes.specs.declared.verified.VType.{VType}
-use Rattle.kilim_classes.specs.Program.{Program}
-use Rattle.kilim_classes.specs.machine.Machine.{Objects}
-use Rattle.kilim_classes.specs.Lengths.{jump_targets, ends_path}
-use Rattle.kilim_classes.specs.machine.Effect.{Effect, Goes, Ends, is_wide}
-use Rattle.kilim_classes.specs.machine.Does.{does, int_binary, int_unary, int_division, long_binary, long_division, int_jump, compare_jump, reference_jump, null_jump, place_if, same_reference, is_null, table_target, target_or}
-use Rattle.kilim_typing.specs.Step.{Types, peek, Operand, Further, Row, Takes, ints, longs, gives_int, gives_long, row, type_step}
-use Rattle.kilim_typing.specs.Typed.{edges, Among}
+use Rattle.kilim_program.specs.declared.instr.Instr.TheVariants as instr
+use Rattle.kilim_program.specs.declared.verified.VType.TheVariants as vtype
+use Rattle.kilim_run_state.specs.declared.cause.EndCause.{EndCause}
+use Rattle.kilim_program.specs.declared.class.Method.{Method}
+use Rattle.kilim_program.specs.declared.instr.Instr.{Instr}
+use Rattle.kilim_program.specs.declared.value.Value.{Value}
+use Rattle.kilim_program.specs.declared.value.Value.TheVariants.{Int, Long, Null}
+use Rattle.kilim_program.specs.declared.verified.VType.{VType}
+use Rattle.kilim_program.specs.Program.{Program}
+use Rattle.kilim_run_state.specs.Machine.{Objects}
+use Rattle.kilim_program.specs.Lengths.{jump_targets, ends_path}
+use Rattle.kilim_run_machine.specs.Effect.{Effect, Goes, Ends, is_wide}
+use Rattle.kilim_run_machine.specs.Does.{does, int_binary, int_unary, int_division, long_binary, long_division, int_jump, compare_jump, reference_jump, null_jump, place_if, same_reference, is_null, table_target, target_or}
+use Rattle.kilim_type_spec.specs.Step.{Types, peek, Operand, Further, Row, Takes, ints, longs, gives_int, gives_long, row, type_step}
+use Rattle.kilim_type_spec.specs.Typed.{edges, Among}
 use Rattle.kilim_isolation_laws.specs.forest.Relation.{Named}
-use Rattle.kilim_shape_graph.specs.declared.graph.Graph.{Graph}
+use Rattle.kilim_isolation_graph.specs.declared.graph.Graph.{Graph}
 use Rattle.kilim_isolation_rules.specs.declared.deed.Deed.{Deed}
 use Rattle.kilim_isolation_rules.specs.Marks.{plain}
 use Rattle.kilim_isolation_rules.specs.Rules.{by_types, deed, moves}
@@ -92,7 +92,7 @@ module _ (p : Program) (m : Method) (pl to : ℕ) (f f1 : Types) (g g1 : Graph) 
   pub plain_left : (i : Instr) → IsStep i → (takes : List Operand) (gives : List VType) (also : List Further) → IsPlain i takes gives also → (vs rest : List Value) → drop (length takes) st ≡ rest →
       AllFitHere gives vs → Left p m f1 g1 h ls (vs ++ rest) below
   plain_left i s takes gives also is vs rest e fits =
-      let t = takes_passed p m pl takes gives also f f1 (subst (λ r. Rattle.kilim_typing.specs.Step.by_row p m pl r f ≡ Ok f1) is.0 s.1) in
+      let t = takes_passed p m pl takes gives also f f1 (subst (λ r. Rattle.kilim_type_spec.specs.Step.by_row p m pl r f ≡ Ok f1) is.0 s.1) in
       let q = moves_passed p m g f i after g1 s.2 in
       let graph = q.graph ∙ ap (λ (d : Deed). d.graph) is.1 ∙ ap (by_types g f) is.0 in (
         at,
@@ -105,7 +105,7 @@ module _ (p : Program) (m : Method) (pl to : ℕ) (f f1 : Types) (g g1 : Graph) 
             }))),
       )
 
-  abbrev stuck : (i : Instr) → E i Rattle.kilim_classes.specs.machine.Effect.Stuck
+  abbrev stuck : (i : Instr) → E i Rattle.kilim_run_machine.specs.Effect.Stuck
   stuck i = tt
 
   abbrev ends : (i : Instr) (c : EndCause) → E i (Ends c)
@@ -135,8 +135,8 @@ module _ (p : Program) (m : Method) (pl to : ℕ) (f f1 : Types) (g g1 : Graph) 
   int_division_h i s is a op = two_ints_h (E i) tt (λ c. tt) (λ c. tt) st _ (λ x y rest e. cond_h (E i) tt (λ c. tt) (λ c. tt) (int_eq y (pos 0)) _ _ (λ z. tt)
       (λ z. (a, plain_left i s ints (vtype.Int ∷ []) [] is (Int (op x y) ∷ []) rest (ap (drop 2) e) (word_int (op x y), tt))))
 
-  pub int_unary_h : (i : Instr) → IsStep i → IsPlain i (Rattle.kilim_typing.specs.Step.Is vtype.Int ∷ []) (vtype.Int ∷ []) [] → Among (edges i to) to → (op : ℤ → ℤ) → E i (int_unary op to ls st h)
-  int_unary_h i s is a op = on_int_h (E i) tt (λ c. tt) (λ c. tt) st _ (λ x rest e. (a, plain_left i s (Rattle.kilim_typing.specs.Step.Is vtype.Int ∷ []) (vtype.Int ∷ []) [] is (Int (op x) ∷ []) rest (ap (drop 1) e) (word_int (op x), tt)))
+  pub int_unary_h : (i : Instr) → IsStep i → IsPlain i (Rattle.kilim_type_spec.specs.Step.Is vtype.Int ∷ []) (vtype.Int ∷ []) [] → Among (edges i to) to → (op : ℤ → ℤ) → E i (int_unary op to ls st h)
+  int_unary_h i s is a op = on_int_h (E i) tt (λ c. tt) (λ c. tt) st _ (λ x rest e. (a, plain_left i s (Rattle.kilim_type_spec.specs.Step.Is vtype.Int ∷ []) (vtype.Int ∷ []) [] is (Int (op x) ∷ []) rest (ap (drop 1) e) (word_int (op x), tt)))
 
   pub long_binary_h : (i : Instr) → IsStep i → IsPlain i longs (vtype.Long ∷ []) [] → Among (edges i to) to → (op : ℤ → ℤ → ℤ) → E i (long_binary op to ls st h)
   long_binary_h i s is a op = two_longs_h (E i) tt (λ c. tt) (λ c. tt) st _ (λ x y rest e. (a, plain_left i s longs (vtype.Long ∷ []) [] is (Long (op x y) ∷ []) rest (ap (drop 2) e) (wide_long (op x y), tt)))
@@ -145,8 +145,8 @@ module _ (p : Program) (m : Method) (pl to : ℕ) (f f1 : Types) (g g1 : Graph) 
   long_division_h i s is a op = two_longs_h (E i) tt (λ c. tt) (λ c. tt) st _ (λ x y rest e. cond_h (E i) tt (λ c. tt) (λ c. tt) (int_eq y (pos 0)) _ _ (λ z. tt)
       (λ z. (a, plain_left i s longs (vtype.Long ∷ []) [] is (Long (op x y) ∷ []) rest (ap (drop 2) e) (wide_long (op x y), tt))))
 
-  pub int_jump_h : (i : Instr) → IsStep i → IsPlain i (Rattle.kilim_typing.specs.Step.Is vtype.Int ∷ []) [] [] → (t : ℕ) → Among (edges i to) t → Among (edges i to) to → (test : ℤ → Bool) → E i (int_jump test t to ls st h)
-  int_jump_h i s is t a b test = on_int_h (E i) tt (λ c. tt) (λ c. tt) st _ (λ x rest e. (among_if (test x) t to (edges i to) a b, plain_left i s (Rattle.kilim_typing.specs.Step.Is vtype.Int ∷ []) [] [] is [] rest (ap (drop 1) e) tt))
+  pub int_jump_h : (i : Instr) → IsStep i → IsPlain i (Rattle.kilim_type_spec.specs.Step.Is vtype.Int ∷ []) [] [] → (t : ℕ) → Among (edges i to) t → Among (edges i to) to → (test : ℤ → Bool) → E i (int_jump test t to ls st h)
+  int_jump_h i s is t a b test = on_int_h (E i) tt (λ c. tt) (λ c. tt) st _ (λ x rest e. (among_if (test x) t to (edges i to) a b, plain_left i s (Rattle.kilim_type_spec.specs.Step.Is vtype.Int ∷ []) [] [] is [] rest (ap (drop 1) e) tt))
 
   pub compare_jump_h : (i : Instr) → IsStep i → IsPlain i ints [] [] → (t : ℕ) → Among (edges i to) t → Among (edges i to) to → (test : ℤ → ℤ → Bool) → E i (compare_jump test t to ls st h)
   compare_jump_h i s is t a b test = two_ints_h (E i) tt (λ c. tt) (λ c. tt) st _ (λ x y rest e. (among_if (test x y) t to (edges i to) a b, plain_left i s ints [] [] is [] rest (ap (drop 2) e) tt))
@@ -225,11 +225,11 @@ module _ (p : Program) (m : Method) (pl to : ℕ) (f f1 : Types) (g g1 : Graph) 
 
   pub i2l_h : IsStep instr.I2l → E instr.I2l (does p m instr.I2l to ls st h)
   unfolding does row deed ends_path jump_targets
-  i2l_h s = on_int_h (E instr.I2l) tt (λ c. tt) (λ c. tt) st _ (λ x rest e. (inl refl, plain_left instr.I2l s (Rattle.kilim_typing.specs.Step.Is vtype.Int ∷ []) (vtype.Long ∷ []) [] (refl, refl) (Long x ∷ []) rest (ap (drop 1) e) (wide_long x, tt)))
+  i2l_h s = on_int_h (E instr.I2l) tt (λ c. tt) (λ c. tt) st _ (λ x rest e. (inl refl, plain_left instr.I2l s (Rattle.kilim_type_spec.specs.Step.Is vtype.Int ∷ []) (vtype.Long ∷ []) [] (refl, refl) (Long x ∷ []) rest (ap (drop 1) e) (wide_long x, tt)))
 
   pub l2i_h : IsStep instr.L2i → E instr.L2i (does p m instr.L2i to ls st h)
   unfolding does row deed ends_path jump_targets
-  l2i_h s = on_long_h (E instr.L2i) tt (λ c. tt) (λ c. tt) st _ (λ x rest e. (inl refl, plain_left instr.L2i s (Rattle.kilim_typing.specs.Step.Is vtype.Long ∷ []) (vtype.Int ∷ []) [] (refl, refl) (Int _ ∷ []) rest (ap (drop 1) e) (word_int _, tt)))
+  l2i_h s = on_long_h (E instr.L2i) tt (λ c. tt) (λ c. tt) st _ (λ x rest e. (inl refl, plain_left instr.L2i s (Rattle.kilim_type_spec.specs.Step.Is vtype.Long ∷ []) (vtype.Int ∷ []) [] (refl, refl) (Int _ ∷ []) rest (ap (drop 1) e) (word_int _, tt)))
 
   pub ladd_h : IsStep instr.Ladd → E instr.Ladd (does p m instr.Ladd to ls st h)
   unfolding does row deed ends_path jump_targets
@@ -282,13 +282,13 @@ module _ (p : Program) (m : Method) (pl to : ℕ) (f f1 : Types) (g g1 : Graph) 
   pub tableswitch_h : (d : ℕ) (low : ℤ) (ts : List ℕ) → IsStep (instr.Tableswitch d low ts) → E (instr.Tableswitch d low ts) (does p m (instr.Tableswitch d low ts) to ls st h)
   unfolding does row deed ends_path jump_targets
   tableswitch_h d low ts s = on_int_h (E (instr.Tableswitch d low ts)) tt (λ c. tt) (λ c. tt) st _ (λ x rest e.
-      (among_table ts _ d, plain_left (instr.Tableswitch d low ts) s (Rattle.kilim_typing.specs.Step.Is vtype.Int ∷ []) [] [] (refl, refl) [] rest (ap (drop 1) e) tt))
+      (among_table ts _ d, plain_left (instr.Tableswitch d low ts) s (Rattle.kilim_type_spec.specs.Step.Is vtype.Int ∷ []) [] [] (refl, refl) [] rest (ap (drop 1) e) tt))
 
   pub arraylength_h : IsStep instr.Arraylength → E instr.Arraylength (does p m instr.Arraylength to ls st h)
   unfolding does row deed ends_path jump_targets
   arraylength_h s = object_h (E instr.Arraylength) tt (λ c. tt) (λ c. tt) st h _ (λ n object rest e _. (inl refl, plain_left instr.Arraylength s _ (vtype.Int ∷ []) [] (refl, refl) (Int _ ∷ []) rest (ap (drop 1) e) (word_int _, tt)))
 
-  pub instanceof_h : (ty : Rattle.kilim_classes.specs.declared.ty.Ty.Ty) → IsStep (instr.Instanceof ty) → E (instr.Instanceof ty) (does p m (instr.Instanceof ty) to ls st h)
+  pub instanceof_h : (ty : Rattle.kilim_program.specs.declared.ty.Ty.Ty) → IsStep (instr.Instanceof ty) → E (instr.Instanceof ty) (does p m (instr.Instanceof ty) to ls st h)
   unfolding does row deed ends_path jump_targets
   instanceof_h ty s = value_h (E (instr.Instanceof ty)) tt (λ c. tt) (λ c. tt) st _ (λ v rest e. class_h (E (instr.Instanceof ty)) tt (λ c. tt) (λ c. tt) p v h _ (λ class _.
       (inl refl, plain_left (instr.Instanceof ty) s _ (vtype.Int ∷ []) [] (refl, refl) (Int _ ∷ []) rest (ap (drop 1) e) (word_int _, tt))))

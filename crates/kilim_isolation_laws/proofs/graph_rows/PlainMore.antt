@@ -3,33 +3,33 @@ use Rattle.std.proofs.Common.{◌≡◌, ℕ, zero, suc, ℤ, ◌==◌, Bool, tr
 use Rattle.std.specs.Prelude.{codes, drop}
 use Rattle.std.specs.Ordering.{int_eq}
 use Rattle.std.specs.Str.{bytes_eq}
-use Rattle.kilim_classes.specs.declared.class.Field.{Field}
-use Rattle.kilim_classes.specs.declared.class.Method.{Method}
-use Rattle.kilim_classes.specs.declared.instr.Instr.{Instr}
-use Rattle.kilim_classes.specs.declared.instr.Instr.TheVariants as instr
-use Rattle.kilim_classes.specs.declared.names.ClassId.{ClassId}
-use Rattle.kilim_classes.specs.declared.names.FieldId.{FieldId}
-use Rattle.kilim_classes.specs.declared.ty.Base.{Base}
-use Rattle.kilim_classes.specs.declared.ty.Base.TheVariants as base
-use Rattle.kilim_classes.specs.declared.ty.Kind.TheVariants as kind
-use Rattle.kilim_classes.specs.declared.ty.Ty.{Ty}
-use Rattle.kilim_classes.specs.declared.value.Value.{Value}
-use Rattle.kilim_classes.specs.declared.value.Value.TheVariants.{Int, Long, Null, Ref, Text, Box, Fiber}
-use Rattle.kilim_classes.specs.declared.verified.VType.{VType}
-use Rattle.kilim_classes.specs.declared.verified.VType.TheVariants as vtype
-use Rattle.kilim_classes.specs.Program.{Program}
-use Rattle.kilim_classes.specs.BuiltIn.{class_type}
-use Rattle.kilim_classes.specs.Keeps.{constant_fits, is_int_like, is_long, is_string_base}
-use Rattle.kilim_classes.specs.Kinds.{array_kind, base_kind, class_kind, is_message}
-use Rattle.kilim_classes.specs.Lengths.{ends_path, jump_targets}
-use Rattle.kilim_classes.specs.Names.{class_name, class_named, field_of, is_task}
-use Rattle.kilim_classes.specs.machine.Machine.{Objects}
-use Rattle.kilim_classes.specs.machine.Effect.{Effect, Goes, on_constant}
-use Rattle.kilim_classes.specs.machine.Does.{does, match_target}
-use Rattle.kilim_typing.specs.Step as type
-use Rattle.kilim_typing.specs.Step.{Is, Takes, Types, row, text_type, type_step}
-use Rattle.kilim_typing.specs.Typed.{Among}
-use Rattle.kilim_shape_graph.specs.declared.graph.Graph.{Graph}
+use Rattle.kilim_program.specs.declared.class.Field.{Field}
+use Rattle.kilim_program.specs.declared.class.Method.{Method}
+use Rattle.kilim_program.specs.declared.instr.Instr.{Instr}
+use Rattle.kilim_program.specs.declared.instr.Instr.TheVariants as instr
+use Rattle.kilim_program.specs.declared.names.ClassId.{ClassId}
+use Rattle.kilim_program.specs.declared.names.FieldId.{FieldId}
+use Rattle.kilim_program.specs.declared.ty.Base.{Base}
+use Rattle.kilim_program.specs.declared.ty.Base.TheVariants as base
+use Rattle.kilim_program.specs.declared.ty.Kind.TheVariants as kind
+use Rattle.kilim_program.specs.declared.ty.Ty.{Ty}
+use Rattle.kilim_program.specs.declared.value.Value.{Value}
+use Rattle.kilim_program.specs.declared.value.Value.TheVariants.{Int, Long, Null, Ref, Text, Box, Fiber}
+use Rattle.kilim_program.specs.declared.verified.VType.{VType}
+use Rattle.kilim_program.specs.declared.verified.VType.TheVariants as vtype
+use Rattle.kilim_program.specs.Program.{Program}
+use Rattle.kilim_program.specs.BuiltIn.{class_type}
+use Rattle.kilim_program.specs.Keeps.{constant_fits, is_int_like, is_long, is_string_base}
+use Rattle.kilim_program.specs.Kinds.{array_kind, base_kind, class_kind, is_message}
+use Rattle.kilim_program.specs.Lengths.{ends_path, jump_targets}
+use Rattle.kilim_program.specs.Names.{class_name, class_named, field_of, is_task}
+use Rattle.kilim_run_state.specs.Machine.{Objects}
+use Rattle.kilim_run_machine.specs.Effect.{Effect, Goes, on_constant}
+use Rattle.kilim_run_machine.specs.Does.{does, match_target}
+use Rattle.kilim_type_spec.specs.Step as type
+use Rattle.kilim_type_spec.specs.Step.{Is, Takes, Types, row, text_type, type_step}
+use Rattle.kilim_type_spec.specs.Typed.{Among}
+use Rattle.kilim_isolation_graph.specs.declared.graph.Graph.{Graph}
 use Rattle.kilim_isolation_rules.specs.Rules.{deed}
 use Rattle.kilim_isolation_laws.specs.graph_rows.Holds.{Fits, Holds, Sort, Stands, Waiting, Word, sort, sort_of_vtype, unnamed}
 use Rattle.kilim_isolation_laws.proofs.graph_rows.Making.{not_zero}

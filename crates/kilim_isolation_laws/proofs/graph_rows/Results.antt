@@ -1,31 +1,31 @@
 -- What a call gives comes on top of the caller's stack.
 use Rattle.std.proofs.Common.{◌≡◌, ℕ, ◌<◌, true, false, List, [], ◌∷◌, ◌++◌, map, length, Option, Some, None, refl, sym, ap, subst, ◌∙◌, inr, arith}
-use Rattle.kilim_classes.specs.declared.ty.Kind.TheVariants as kind
-use Rattle.kilim_classes.specs.declared.class.Method.{Method}
-use Rattle.kilim_classes.specs.declared.ty.Kind.{Kind}
-use Rattle.kilim_classes.specs.declared.ty.Ty.{Ty}
-use Rattle.kilim_classes.specs.declared.value.Value.{Value}
-use Rattle.kilim_classes.specs.Program.{Program}
-use Rattle.kilim_classes.specs.Kinds.{kind_of}
-use Rattle.kilim_classes.specs.machine.Machine.{Objects}
-use Rattle.kilim_typing.specs.Step.{Types, vtype, result_types}
+use Rattle.kilim_program.specs.declared.ty.Kind.TheVariants as kind
+use Rattle.kilim_program.specs.declared.class.Method.{Method}
+use Rattle.kilim_program.specs.declared.ty.Kind.{Kind}
+use Rattle.kilim_program.specs.declared.ty.Ty.{Ty}
+use Rattle.kilim_program.specs.declared.value.Value.{Value}
+use Rattle.kilim_program.specs.Program.{Program}
+use Rattle.kilim_program.specs.Kinds.{kind_of}
+use Rattle.kilim_run_state.specs.Machine.{Objects}
+use Rattle.kilim_type_spec.specs.Step.{Types, vtype, result_types}
 use Rattle.kilim_isolation_laws.specs.forest.Heap.{Heap, Below, IsForest}
 use Rattle.kilim_isolation_laws.specs.forest.Relation.{Root, is_gone, Label, Node, Named, Names, RespectsAll, Frames}
 use Rattle.kilim_isolation_laws.specs.forest.Canonical.{node_at}
 use Rattle.kilim_isolation_laws.proofs.forest.Grow.{root_relates}
 use Rattle.kilim_isolation_laws.proofs.forest.Moves.{set_named, set_here, set_there, set_respects, AllBelow, below_root}
-use Rattle.kilim_shape_graph.specs.declared.graph.Graph.{Graph}
-use Rattle.kilim_shape_graph.specs.Nodes.{new_region}
+use Rattle.kilim_isolation_graph.specs.declared.graph.Graph.{Graph}
+use Rattle.kilim_isolation_graph.specs.Nodes.{new_region}
 use Rattle.kilim_isolation_rules.specs.Marks.{given, root_node}
 use Rattle.kilim_isolation_rules.specs.Calls.{given_result}
-use Rattle.kilim_shape_graph.specs.Graphs.{added, push, node_of}
+use Rattle.kilim_isolation_graph.specs.Graphs.{added, push, node_of}
 use Rattle.kilim_isolation_laws.specs.graph_rows.Holds.{sort, type_sort, Fits, unnamed, named_sort, refers, named_by, Waiting, waiting_named, Holds, Stands, trees}
 use Rattle.kilim_isolation_laws.specs.forest.Laws.{IsPlace}
 use Rattle.kilim_isolation_laws.proofs.graph_rows.Nodes.{region_fresh, end_absent}
 use Rattle.kilim_isolation_laws.proofs.graph_rows.Added.{added_holds}
 use Rattle.kilim_isolation_laws.proofs.graph_rows.Fields.{slot_sort, no_tree_sort, tree_sort}
 use Rattle.kilim_isolation_laws.specs.graph_rows.Outcome.{Left, ReturnHolds}
-use Rattle.kilim_classes.specs.declared.verified.VType.{VType}
+use Rattle.kilim_program.specs.declared.verified.VType.{VType}
 
 -- a Root that comes, to a graph whose known parents are nodes of it
 module _ (h : Heap) (u : Named) (ls : List Named) (forest : IsForest h) (fs : Frames IsPlace h (u ∷ ls)) (k new : ℕ) (value : Option ℕ) (fresh : is_gone (u.node k).standing ≡ true)

@@ -2,23 +2,23 @@
 use Rattle.std.proofs.Common.{◌≡◌, ℕ, zero, suc, ◌<◌, Bool, true, false, true≢false, not, ◌&&◌, ◌||◌, Option, Some, None, List, [], ◌∷◌, ◌++◌, map, length, reverse, eqb, refl, ap, sym, subst, ◌∙◌, ◌⊎◌, inl, inr}
 use Rattle.std.specs.List.{list_any}
 use mathlib.Core.List.{reverse_aux}
-use Rattle.kilim_classes.specs.declared.verified.VType.TheVariants as vtype
-use Rattle.kilim_classes.specs.declared.class.Method.{Method}
-use Rattle.kilim_classes.specs.declared.value.Value.{Value}
-use Rattle.kilim_classes.specs.declared.verified.VType.{VType}
-use Rattle.kilim_classes.specs.Program.{Program}
-use Rattle.kilim_classes.specs.machine.Machine.{Objects}
-use Rattle.kilim_typing.specs.Step.{Types, peek, assignable}
-use Rattle.kilim_typing.specs.Typed.{FlowsInto, all_assignable}
+use Rattle.kilim_program.specs.declared.verified.VType.TheVariants as vtype
+use Rattle.kilim_program.specs.declared.class.Method.{Method}
+use Rattle.kilim_program.specs.declared.value.Value.{Value}
+use Rattle.kilim_program.specs.declared.verified.VType.{VType}
+use Rattle.kilim_program.specs.Program.{Program}
+use Rattle.kilim_run_state.specs.Machine.{Objects}
+use Rattle.kilim_type_spec.specs.Step.{Types, peek, assignable}
+use Rattle.kilim_type_spec.specs.Typed.{FlowsInto, all_assignable}
 use Rattle.kilim_isolation_laws.specs.forest.Relation.{is_gone, Node, Named}
 use Rattle.kilim_isolation_laws.specs.forest.Steps.{either, IsTidy}
 use Rattle.kilim_isolation_laws.specs.forest.Canonical.{node_at, number_at, index_of, member, firsts, canonical_nodes}
 use Rattle.kilim_isolation_laws.proofs.forest.Store.{same_is}
 use Rattle.kilim_isolation_laws.proofs.forest.Canon.{number_of_index, in_firsts, member_tail}
 use Rattle.kilim_isolation_laws.proofs.forest.Nulls.{canonical_keeps}
-use Rattle.kilim_shape_graph.specs.declared.graph.Graph.{Graph}
-use Rattle.kilim_shape_graph.specs.Graphs.{slot}
-use Rattle.kilim_shape_graph.specs.Canonical.{named, slots_of, renumbered, canonical, kept_name, kept_names, cleared}
+use Rattle.kilim_isolation_graph.specs.declared.graph.Graph.{Graph}
+use Rattle.kilim_isolation_graph.specs.Graphs.{slot}
+use Rattle.kilim_isolation_graph.specs.Canonical.{named, slots_of, renumbered, canonical, kept_name, kept_names, cleared}
 use Rattle.kilim_isolation_rules.specs.Marks.{mixes, any_mixes, flow_mixes, names_gone, stack_lives, is_tree}
 use Rattle.kilim_isolation_laws.specs.graph_rows.Holds.{Sort, Anything, Wide, Word, Own, Tree, sort, Fits, unnamed, named_sort, SlotFits, AreSlots, SlotsFit, named_by, value_at, Waiting, Holds, Stands, FlowsTo, IsReference, KindsFlow, trees}
 use Rattle.kilim_isolation_laws.specs.forest.Laws.{IsPlace}

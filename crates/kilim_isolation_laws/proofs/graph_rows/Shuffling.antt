@@ -2,23 +2,23 @@
 use Rattle.std.proofs.Common.{◌≡◌, ℕ, true, false, true≢false, List, [], ◌∷◌, ◌++◌, length, Option, Some, None, Result, Ok, refl, sym, ap, subst, ◌∙◌, ◌⊎◌, inl, inr}
 use Rattle.std.specs.List.{list_any}
 use Rattle.std.specs.Prelude.{drop, nat_le}
-use Rattle.kilim_classes.specs.declared.instr.Instr.TheVariants as instr
-use Rattle.kilim_classes.specs.declared.verified.VType.TheVariants as vtype
-use Rattle.kilim_typing.specs.Step as type
-use Rattle.kilim_classes.specs.declared.class.Method.{Method}
-use Rattle.kilim_classes.specs.declared.instr.Instr.{Instr}
-use Rattle.kilim_classes.specs.declared.value.Value.{Value}
-use Rattle.kilim_classes.specs.declared.verified.VType.{VType}
-use Rattle.kilim_classes.specs.Program.{Program}
-use Rattle.kilim_classes.specs.machine.Machine.{Objects}
-use Rattle.kilim_classes.specs.Lengths.{jump_targets, ends_path}
-use Rattle.kilim_classes.specs.machine.Effect.{Effect, is_wide}
-use Rattle.kilim_classes.specs.machine.Does.{does}
-use Rattle.kilim_typing.specs.Step.{Types, peek, size, off, above, with_stack, Form, Drops, Copies, Swaps, form_words, words, by_row, row, type_step}
+use Rattle.kilim_program.specs.declared.instr.Instr.TheVariants as instr
+use Rattle.kilim_program.specs.declared.verified.VType.TheVariants as vtype
+use Rattle.kilim_type_spec.specs.Step as type
+use Rattle.kilim_program.specs.declared.class.Method.{Method}
+use Rattle.kilim_program.specs.declared.instr.Instr.{Instr}
+use Rattle.kilim_program.specs.declared.value.Value.{Value}
+use Rattle.kilim_program.specs.declared.verified.VType.{VType}
+use Rattle.kilim_program.specs.Program.{Program}
+use Rattle.kilim_run_state.specs.Machine.{Objects}
+use Rattle.kilim_program.specs.Lengths.{jump_targets, ends_path}
+use Rattle.kilim_run_machine.specs.Effect.{Effect, is_wide}
+use Rattle.kilim_run_machine.specs.Does.{does}
+use Rattle.kilim_type_spec.specs.Step.{Types, peek, size, off, above, with_stack, Form, Drops, Copies, Swaps, form_words, words, by_row, row, type_step}
 use Rattle.kilim_isolation_laws.specs.forest.Relation.{is_gone}
 use Rattle.kilim_isolation_laws.specs.forest.Canonical.{node_at}
-use Rattle.kilim_shape_graph.specs.declared.graph.Graph.{Graph}
-use Rattle.kilim_shape_graph.specs.Graphs.{slot}
+use Rattle.kilim_isolation_graph.specs.declared.graph.Graph.{Graph}
+use Rattle.kilim_isolation_graph.specs.Graphs.{slot}
 use Rattle.kilim_isolation_rules.specs.Rules.{deed, moves, items, shuffled}
 use Rattle.kilim_isolation_rules.specs.Marks.{names_gone}
 use Rattle.kilim_isolation_laws.specs.graph_rows.Holds.{sort, SlotFits, AreSlots, named_by, Waiting, Holds, Stands}

@@ -1,11 +1,11 @@
 -- A tree, or null, is stored into a field or an element of a tree.
 use Rattle.std.proofs.Common.{if◌then◌else◌, ◌≡◌, ℕ, zero, suc, ◌<◌, ◌==◌, true, false, true≢false, List, [], ◌∷◌, map, length, Option, Some, None, refl, sym, ap, subst, ◌∙◌, inl, inr, arith}
-use Rattle.kilim_classes.specs.declared.class.Method.{Method}
-use Rattle.kilim_classes.specs.declared.value.Value.{Value}
-use Rattle.kilim_classes.specs.declared.verified.VType.{VType}
-use Rattle.kilim_classes.specs.Program.{Program}
-use Rattle.kilim_classes.specs.machine.Machine.{Objects}
-use Rattle.kilim_typing.specs.Step.{Types, peek}
+use Rattle.kilim_program.specs.declared.class.Method.{Method}
+use Rattle.kilim_program.specs.declared.value.Value.{Value}
+use Rattle.kilim_program.specs.declared.verified.VType.{VType}
+use Rattle.kilim_program.specs.Program.{Program}
+use Rattle.kilim_run_state.specs.Machine.{Objects}
+use Rattle.kilim_type_spec.specs.Step.{Types, peek}
 use Rattle.kilim_isolation_laws.specs.forest.Heap.{Below, IsForest, IsSet_at, IsUnder}
 use Rattle.kilim_isolation_laws.specs.forest.Relation.{Root, Inner, is_gone, is_safe, Label, Node, Named, Names, Owns, RespectsAll, Frames}
 use Rattle.kilim_isolation_laws.specs.forest.Steps.{join_node}
@@ -19,9 +19,9 @@ use Rattle.kilim_isolation_laws.proofs.forest.Forests.{cut_path, cut_top}
 use Rattle.kilim_isolation_laws.proofs.forest.Store.{has_some}
 use Rattle.kilim_isolation_laws.proofs.forest.Moves.{AllBelow}
 use Rattle.kilim_isolation_laws.proofs.forest.Stored.{stored}
-use Rattle.kilim_shape_graph.specs.declared.graph.Graph.{Graph}
-use Rattle.kilim_shape_graph.specs.Graphs.{slot, changed}
-use Rattle.kilim_shape_graph.specs.Nodes.{listed, new_region}
+use Rattle.kilim_isolation_graph.specs.declared.graph.Graph.{Graph}
+use Rattle.kilim_isolation_graph.specs.Graphs.{slot, changed}
+use Rattle.kilim_isolation_graph.specs.Nodes.{listed, new_region}
 use Rattle.kilim_isolation_rules.specs.Fields.{cut, child_by, without_child}
 use Rattle.kilim_isolation_laws.specs.graph_rows.Holds.{sort, AreSlots, named_by, value_at, Waiting, waiting_named, AllWait, Holds, Stands, HeapFits, trees}
 use Rattle.kilim_isolation_laws.specs.forest.Laws.{IsPlace}

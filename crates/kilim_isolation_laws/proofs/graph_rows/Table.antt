@@ -1,10 +1,10 @@
 -- All rows, as one table.
 use Rattle.std.proofs.Common.{◌≡◌, ℕ, cond, List, [], ◌∷◌, Option, Some, None, sym, ap, ◌∙◌, inl, inr}
-use Rattle.kilim_classes.specs.declared.instr.Instr.TheVariants as instr
-use Rattle.kilim_classes.specs.declared.instr.Instr.{Instr}
-use Rattle.kilim_classes.specs.Lengths.{fetched}
-use Rattle.kilim_classes.specs.machine.Does.{does}
-use Rattle.kilim_typing.specs.Step.{made_at, made_by}
+use Rattle.kilim_program.specs.declared.instr.Instr.TheVariants as instr
+use Rattle.kilim_program.specs.declared.instr.Instr.{Instr}
+use Rattle.kilim_program.specs.Lengths.{fetched}
+use Rattle.kilim_run_machine.specs.Does.{does}
+use Rattle.kilim_type_spec.specs.Step.{made_at, made_by}
 use Rattle.kilim_isolation_laws.proofs.forest.Store.{both_ways}
 use Rattle.kilim_isolation_laws.specs.graph_rows.Facts.{RowsHold}
 use Rattle.kilim_isolation_laws.proofs.graph_rows.Arrays.{aastore_h}
@@ -27,15 +27,15 @@ use Rattle.kilim_isolation_laws.proofs.graph_rows.Words2.{dup2_h, dup2_x1_h, dup
 made_here : (code : List (ℕ × Instr)) (end pl to : ℕ) (i : Instr) → fetched code end pl ≡ Some (i, to) → made_at code pl ≡ made_by i
 made_here [] end pl to i e = absurd (cc)
 made_here (x ∷ code) end pl to i e = elim (both_ways (Rattle.std.specs.Prelude.◌==◌ x.0 pl)) [
-  | inl it ↦ ap (λ b. cond b (made_by x.1) (made_at code pl)) it ∙ ap made_by (first_is x.1 (ap (λ b. cond b (Some (x.1, Rattle.kilim_classes.specs.Lengths.first_place code end)) (fetched code end pl)) (sym it) ∙ e))
-  | inr other ↦ ap (λ b. cond b (made_by x.1) (made_at code pl)) other ∙ made_here code end pl to i (ap (λ b. cond b (Some (x.1, Rattle.kilim_classes.specs.Lengths.first_place code end)) (fetched code end pl)) (sym other) ∙ e)
+  | inl it ↦ ap (λ b. cond b (made_by x.1) (made_at code pl)) it ∙ ap made_by (first_is x.1 (ap (λ b. cond b (Some (x.1, Rattle.kilim_program.specs.Lengths.first_place code end)) (fetched code end pl)) (sym it) ∙ e))
+  | inr other ↦ ap (λ b. cond b (made_by x.1) (made_at code pl)) other ∙ made_here code end pl to i (ap (λ b. cond b (Some (x.1, Rattle.kilim_program.specs.Lengths.first_place code end)) (fetched code end pl)) (sym other) ∙ e)
 ]
   where
     instr_or : Option (Instr × ℕ) → Instr → Instr
     instr_or None d = d
     instr_or (Some y) d = y.0
 
-    first_is : (j : Instr) → ◌≡◌ {A = Option (Instr × ℕ)} (Some (j, Rattle.kilim_classes.specs.Lengths.first_place code end)) (Some (i, to)) → j ≡ i
+    first_is : (j : Instr) → ◌≡◌ {A = Option (Instr × ℕ)} (Some (j, Rattle.kilim_program.specs.Lengths.first_place code end)) (Some (i, to)) → j ≡ i
     first_is j w = ap (λ z. instr_or z j) w
 
 pub rows_hold : RowsHold

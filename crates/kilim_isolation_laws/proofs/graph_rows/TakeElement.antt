@@ -3,38 +3,38 @@ use Rattle.std.proofs.Common.{◌≡◌, ℕ, ◌+◌, ◌*◌, ◌<◌, ℤ, tr
 use Rattle.std.specs.FinMap.{get}
 use Rattle.std.specs.List.{list_any}
 use Rattle.std.specs.Prelude.{drop, slice_get, take}
-use Rattle.kilim_classes.specs.declared.class.Method.{Method}
-use Rattle.kilim_classes.specs.declared.instr.Instr.TheVariants as instr
-use Rattle.kilim_classes.specs.declared.names.MethodId.{MethodId}
-use Rattle.kilim_classes.specs.declared.ty.Base.TheVariants as base
-use Rattle.kilim_classes.specs.declared.ty.Kind.TheVariants as kind
-use Rattle.kilim_classes.specs.declared.ty.Qualifier.TheVariants as qualifier
-use Rattle.kilim_classes.specs.declared.ty.Ty.{Ty}
-use Rattle.kilim_classes.specs.declared.value.Value.{Value}
-use Rattle.kilim_classes.specs.declared.value.Value.TheVariants.{Int, Null, Ref}
-use Rattle.kilim_classes.specs.declared.verified.VType.{VType}
-use Rattle.kilim_classes.specs.declared.verified.VType.TheVariants as vtype
-use Rattle.kilim_classes.specs.BuiltIn.{class_type, plain_type}
-use Rattle.kilim_classes.specs.Kinds.{class_kind, kind_of}
-use Rattle.kilim_classes.specs.Lengths.{ends_path, jump_targets}
-use Rattle.kilim_classes.specs.Names.{method_at}
-use Rattle.kilim_classes.specs.Program.{Program}
-use Rattle.kilim_classes.specs.declared.machine.value.Object.{Object}
-use Rattle.kilim_classes.specs.machine.Does.{element_type, takes_element}
-use Rattle.kilim_classes.specs.machine.Effect.{Effect}
-use Rattle.kilim_classes.specs.machine.Machine.{Objects}
-use Rattle.kilim_typing.specs.Step as type
-use Rattle.kilim_typing.specs.Step.{Is, Operand, Types, all_meet, arguments, assignable, by_row, meets, peek, result_types, row, type_step}
-use Rattle.kilim_typing.specs.Typed.{Among, edges}
+use Rattle.kilim_program.specs.declared.class.Method.{Method}
+use Rattle.kilim_program.specs.declared.instr.Instr.TheVariants as instr
+use Rattle.kilim_program.specs.declared.names.MethodId.{MethodId}
+use Rattle.kilim_program.specs.declared.ty.Base.TheVariants as base
+use Rattle.kilim_program.specs.declared.ty.Kind.TheVariants as kind
+use Rattle.kilim_program.specs.declared.ty.Qualifier.TheVariants as qualifier
+use Rattle.kilim_program.specs.declared.ty.Ty.{Ty}
+use Rattle.kilim_program.specs.declared.value.Value.{Value}
+use Rattle.kilim_program.specs.declared.value.Value.TheVariants.{Int, Null, Ref}
+use Rattle.kilim_program.specs.declared.verified.VType.{VType}
+use Rattle.kilim_program.specs.declared.verified.VType.TheVariants as vtype
+use Rattle.kilim_program.specs.BuiltIn.{class_type, plain_type}
+use Rattle.kilim_program.specs.Kinds.{class_kind, kind_of}
+use Rattle.kilim_program.specs.Lengths.{ends_path, jump_targets}
+use Rattle.kilim_program.specs.Names.{method_at}
+use Rattle.kilim_program.specs.Program.{Program}
+use Rattle.kilim_run_state.specs.declared.value.Object.{Object}
+use Rattle.kilim_run_machine.specs.Does.{element_type, takes_element}
+use Rattle.kilim_run_machine.specs.Effect.{Effect}
+use Rattle.kilim_run_state.specs.Machine.{Objects}
+use Rattle.kilim_type_spec.specs.Step as type
+use Rattle.kilim_type_spec.specs.Step.{Is, Operand, Types, all_meet, arguments, assignable, by_row, meets, peek, result_types, row, type_step}
+use Rattle.kilim_type_spec.specs.Typed.{Among, edges}
 use Rattle.kilim_isolation_laws.specs.forest.Canonical.{node_at}
 use Rattle.kilim_isolation_laws.specs.forest.Heap.{IsSet_at}
 use Rattle.kilim_isolation_laws.specs.forest.Relation.{Element, Label, Names, Node, is_gone, is_safe}
 use Rattle.kilim_isolation_laws.specs.forest.Laws.{IsPlace}
 use Rattle.kilim_isolation_laws.proofs.forest.Moves.{AllBelow}
 use Rattle.kilim_isolation_laws.proofs.forest.Store.{no_parent_is}
-use Rattle.kilim_shape_graph.specs.declared.graph.Graph.{Graph}
-use Rattle.kilim_shape_graph.specs.Entry.{quality}
-use Rattle.kilim_shape_graph.specs.Graphs.{added, changed, popped, slot}
+use Rattle.kilim_isolation_graph.specs.declared.graph.Graph.{Graph}
+use Rattle.kilim_isolation_graph.specs.Entry.{quality}
+use Rattle.kilim_isolation_graph.specs.Graphs.{added, changed, popped, slot}
 use Rattle.kilim_isolation_rules.specs.declared.deed.Deed.{Deed}
 use Rattle.kilim_isolation_rules.specs.Calls as rules
 use Rattle.kilim_isolation_rules.specs.Calls.{after_call, all_passed, calls, calls_with, given_result, is_cuttable, parameters, quality_in, receiver, takes_from}
@@ -87,7 +87,7 @@ module _ (p : Program) (k : ProgramKeeps p) (m : Method) (pl to : ℕ) (f f1 : T
   edge = inl refl
 
   messages_kind : kind_of p (record { dims = 1; base = base.Class w.class }) ≡ kind.Tree
-  messages_kind = ap Rattle.kilim_classes.specs.Kinds.array_kind w.tree
+  messages_kind = ap Rattle.kilim_program.specs.Kinds.array_kind w.tree
 
   messages_sort : object_sort p (record { dims = 1; base = base.Class w.class }) ≡ Tree 1 Trees
   messages_sort = ap (λ z. sort_by p (record { dims = 1; base = base.Class w.class }) z) messages_kind ∙ ap (λ z. Tree 1 (Rattle.kilim_isolation_laws.specs.graph_rows.Holds.stuff_of p (base.Class w.class) z)) w.tree
@@ -111,7 +111,7 @@ module _ (p : Program) (k : ProgramKeeps p) (m : Method) (pl to : ℕ) (f f1 : T
           ∙ ap (λ z. parameters (record { dims = 1; base = base.Class w.class } ∷ plain_type base.Int ∷ []) (qualifier.Cuttable ∷ qualifier.Safe ∷ []) (x1 ∷ x0 ∷ []) (reverse (take 2 z))) ft
 
       quality_is : quality p (record { dims = 1; base = base.Class w.class }) qualifier.Cuttable ≡ Some qualifier.Cuttable
-      quality_is = ap (λ z. cond (Rattle.kilim_classes.specs.Kinds.is_tree_kind z) (Some qualifier.Cuttable) None) messages_kind
+      quality_is = ap (λ z. cond (Rattle.kilim_program.specs.Kinds.is_tree_kind z) (Some qualifier.Cuttable) None) messages_kind
 
       passed : Rattle.kilim_isolation_laws.proofs.graph_rows.Passed.IsPassed p m g f (instr.Invokestatic id) after g1
       passed = moves_passed p m g f (instr.Invokestatic id) after g1 s.2

@@ -1,20 +1,20 @@
 -- A message is taken: its tree comes into the heap.
 use Rattle.std.proofs.Common.{◌≡◌, ℕ, true, true≢false, List, [], ◌∷◌, map, length, Option, Some, None, refl, sym, ap, subst, ◌∙◌, ◌⊎◌, inl, inr}
 use Rattle.std.specs.FinMap.{get}
-use Rattle.kilim_classes.specs.declared.class.Method.{Method}
-use Rattle.kilim_classes.specs.declared.machine.value.Object.{Object}
-use Rattle.kilim_classes.specs.declared.value.Value.{Value}
-use Rattle.kilim_classes.specs.declared.value.Value.TheVariants.{Ref}
-use Rattle.kilim_classes.specs.declared.verified.VType.{VType}
-use Rattle.kilim_classes.specs.Program.{Program}
-use Rattle.kilim_classes.specs.machine.Machine.{Objects}
-use Rattle.kilim_typing.specs.Step.{Types, peek}
+use Rattle.kilim_program.specs.declared.class.Method.{Method}
+use Rattle.kilim_run_state.specs.declared.value.Object.{Object}
+use Rattle.kilim_program.specs.declared.value.Value.{Value}
+use Rattle.kilim_program.specs.declared.value.Value.TheVariants.{Ref}
+use Rattle.kilim_program.specs.declared.verified.VType.{VType}
+use Rattle.kilim_program.specs.Program.{Program}
+use Rattle.kilim_run_state.specs.Machine.{Objects}
+use Rattle.kilim_type_spec.specs.Step.{Types, peek}
 use Rattle.kilim_isolation_laws.specs.forest.Heap.{Below, Here, Then, IsMore_objects}
 use Rattle.kilim_isolation_laws.specs.forest.Relation.{Named, Names, Relates, Frames}
 use Rattle.kilim_isolation_laws.proofs.forest.Paths.{some_is}
 use Rattle.kilim_isolation_laws.proofs.forest.Moves.{AllBelow}
-use Rattle.kilim_shape_graph.specs.declared.graph.Graph.{Graph}
-use Rattle.kilim_shape_graph.specs.Graphs.{slot, added}
+use Rattle.kilim_isolation_graph.specs.declared.graph.Graph.{Graph}
+use Rattle.kilim_isolation_graph.specs.Graphs.{slot, added}
 use Rattle.kilim_isolation_rules.specs.Marks.{root_node}
 use Rattle.kilim_isolation_laws.specs.graph_rows.Holds.{Tree, sort, Fits, named_sort, named_by, value_at, Waiting, waiting_named, Holds, HeapFits, trees, IsOf, Stuff, is_tree_object, is_tree_sort, held_at}
 use Rattle.kilim_isolation_laws.specs.forest.Laws.{IsPlace}

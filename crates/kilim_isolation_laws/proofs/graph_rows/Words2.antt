@@ -1,20 +1,20 @@
 -- All forms of pop, dup and swap.
 use Rattle.std.proofs.Common.{◌≡◌, ℕ, suc, true, false, true≢false, List, [], ◌∷◌, ◌++◌, length, Option, Some, Ok, refl, sym, ap, subst, ◌∙◌, inl}
 use Rattle.std.specs.Prelude.{drop, slice_get, take}
-use Rattle.kilim_classes.specs.declared.class.Method.{Method}
-use Rattle.kilim_classes.specs.declared.instr.Instr.{Instr}
-use Rattle.kilim_classes.specs.declared.instr.Instr.TheVariants as instr
-use Rattle.kilim_classes.specs.declared.value.Value.{Value}
-use Rattle.kilim_classes.specs.declared.verified.VType.{VType}
-use Rattle.kilim_classes.specs.declared.verified.VType.TheVariants as vtype
-use Rattle.kilim_classes.specs.Lengths.{ends_path, jump_targets}
-use Rattle.kilim_classes.specs.Program.{Program}
-use Rattle.kilim_classes.specs.machine.Does.{does}
-use Rattle.kilim_classes.specs.machine.Effect.{Effect, Goes, is_wide, on_two_words, on_word}
-use Rattle.kilim_classes.specs.machine.Machine.{Objects}
-use Rattle.kilim_typing.specs.Step as type
-use Rattle.kilim_typing.specs.Step.{Copies, Drops, Swaps, Types, is_long, off, peek, row, then_off, type_step}
-use Rattle.kilim_shape_graph.specs.declared.graph.Graph.{Graph}
+use Rattle.kilim_program.specs.declared.class.Method.{Method}
+use Rattle.kilim_program.specs.declared.instr.Instr.{Instr}
+use Rattle.kilim_program.specs.declared.instr.Instr.TheVariants as instr
+use Rattle.kilim_program.specs.declared.value.Value.{Value}
+use Rattle.kilim_program.specs.declared.verified.VType.{VType}
+use Rattle.kilim_program.specs.declared.verified.VType.TheVariants as vtype
+use Rattle.kilim_program.specs.Lengths.{ends_path, jump_targets}
+use Rattle.kilim_program.specs.Program.{Program}
+use Rattle.kilim_run_machine.specs.Does.{does}
+use Rattle.kilim_run_machine.specs.Effect.{Effect, Goes, is_wide, on_two_words, on_word}
+use Rattle.kilim_run_state.specs.Machine.{Objects}
+use Rattle.kilim_type_spec.specs.Step as type
+use Rattle.kilim_type_spec.specs.Step.{Copies, Drops, Swaps, Types, is_long, off, peek, row, then_off, type_step}
+use Rattle.kilim_isolation_graph.specs.declared.graph.Graph.{Graph}
 use Rattle.kilim_isolation_rules.specs.Rules.{copied, deed, items, shuffled}
 use Rattle.kilim_isolation_laws.specs.graph_rows.Holds.{AreSlots, Stands, Waiting, named_by}
 use Rattle.kilim_isolation_laws.specs.graph_rows.Outcome.{Left}

@@ -2,27 +2,28 @@
 use Rattle.std.proofs.Common.{◌≡◌, ◌⊎◌, inl, inr, ℕ, zero, suc, ◌-◌, ◌==◌, ℤ, Bool, true, false, not, ◌&&◌, ◌||◌, cond, eqb, List, [], ◌∷◌, map, Option, Some, None, refl, sym, ap, subst, ◌∙◌, true≢false, arith}
 use Rattle.std.specs.Prelude.{codes, if◌then◌else◌}
 use Rattle.std.proofs.lemmas.Bool.{and_parts, eq-eqb, ne_eqb}
-use Rattle.kilim_classes.specs.declared.class.Field.{Field}
-use Rattle.kilim_classes.specs.declared.names.ClassId.{ClassId}
-use Rattle.kilim_classes.specs.declared.names.FieldId.{FieldId}
-use Rattle.kilim_classes.specs.declared.ty.Base.{Base}
-use Rattle.kilim_classes.specs.declared.ty.Base.TheVariants as base
-use Rattle.kilim_classes.specs.declared.ty.Kind.{Kind}
-use Rattle.kilim_classes.specs.declared.ty.Kind.TheVariants as kind
-use Rattle.kilim_classes.specs.declared.ty.Ty.{Ty}
-use Rattle.kilim_classes.specs.declared.value.Value.{Value}
-use Rattle.kilim_classes.specs.declared.value.Value.TheVariants as value
-use Rattle.kilim_classes.specs.Program.{Program}
-use Rattle.kilim_classes.specs.Fits.{fits_type}
-use Rattle.kilim_classes.specs.Kinds.{array_kind, base_kind, is_private_kind, kind_of}
-use Rattle.kilim_classes.specs.Names.{class_named, field_of}
-use Rattle.kilim_classes.specs.declared.machine.value.Token.{Token}
-use Rattle.kilim_classes.specs.declared.machine.value.Token.TheVariants as token
-use Rattle.kilim_classes.specs.machine.Effect.{is_wide, named_class}
-use Rattle.kilim_classes.specs.machine.Members.{object_fields}
-use Rattle.kilim_classes.specs.machine.Objects.{first_field}
-use Rattle.kilim_classes.specs.machine.Shapes.{field_in, fields_in_order}
-use Rattle.kilim_classes.specs.machine.Trees.{Awaits, Fields, Elements, content_types, field_types, int_fits, is_class, is_long, is_of, is_whole_class, value_fits}
+use Rattle.kilim_program.specs.declared.class.Field.{Field}
+use Rattle.kilim_program.specs.declared.names.ClassId.{ClassId}
+use Rattle.kilim_program.specs.declared.names.FieldId.{FieldId}
+use Rattle.kilim_program.specs.declared.ty.Base.{Base}
+use Rattle.kilim_program.specs.declared.ty.Base.TheVariants as base
+use Rattle.kilim_program.specs.declared.ty.Kind.{Kind}
+use Rattle.kilim_program.specs.declared.ty.Kind.TheVariants as kind
+use Rattle.kilim_program.specs.declared.ty.Ty.{Ty}
+use Rattle.kilim_program.specs.declared.value.Value.{Value}
+use Rattle.kilim_program.specs.declared.value.Value.TheVariants as value
+use Rattle.kilim_program.specs.Program.{Program}
+use Rattle.kilim_program.specs.Fits.{fits_type}
+use Rattle.kilim_program.specs.Kinds.{array_kind, base_kind, is_private_kind, kind_of}
+use Rattle.kilim_program.specs.Names.{class_named, field_of}
+use Rattle.kilim_run_state.specs.declared.value.Token.{Token}
+use Rattle.kilim_run_state.specs.declared.value.Token.TheVariants as token
+use Rattle.kilim_run_machine.specs.Effect.{is_wide}
+use Rattle.kilim_program.specs.Members.{named_class}
+use Rattle.kilim_program.specs.Members.{object_fields}
+use Rattle.kilim_run_state.specs.Objects.{first_field}
+use Rattle.kilim_run_state.specs.Shapes.{field_in, fields_in_order}
+use Rattle.kilim_run_state.specs.Trees.{Awaits, Fields, Elements, content_types, field_types, int_fits, is_class, is_long, is_of, is_whole_class, value_fits}
 use Rattle.kilim_isolation_laws.specs.graph_rows.Facts.{ProgramKeeps}
 use Rattle.kilim_isolation_laws.specs.graph_rows.Holds.{Anything, Own, Sort, Tree, Wide, Word, field_sort, field_sort_of, is_tree_sort, object_sort, refers, sort_by, type_sort}
 use Rattle.kilim_isolation_laws.proofs.heaps.Reading.{IsLeaf}

@@ -1,12 +1,12 @@
 -- A heap with the objects of a tree that is built.
 use Rattle.std.proofs.Common.{◌≡◌, ◌⊎◌, inl, inr, ℕ, zero, suc, ◌+◌, ◌<◌, ◌≤◌, true, true≢false, List, [], ◌∷◌, length, Option, Some, None, refl, sym, ap, ◌∙◌, arith}
 use Rattle.std.specs.FinMap.{get, insert}
-use Rattle.kilim_classes.specs.declared.ty.Ty.{Ty}
-use Rattle.kilim_classes.specs.declared.value.Value.{Value}
-use Rattle.kilim_classes.specs.Program.{Program}
-use Rattle.kilim_classes.specs.declared.machine.value.Object.{Object}
-use Rattle.kilim_classes.specs.machine.Machine.{Objects}
-use Rattle.kilim_classes.specs.machine.Trees.{with_objects}
+use Rattle.kilim_program.specs.declared.ty.Ty.{Ty}
+use Rattle.kilim_program.specs.declared.value.Value.{Value}
+use Rattle.kilim_program.specs.Program.{Program}
+use Rattle.kilim_run_state.specs.declared.value.Object.{Object}
+use Rattle.kilim_run_state.specs.Machine.{Objects}
+use Rattle.kilim_run_state.specs.Trees.{with_objects}
 use Rattle.kilim_isolation_laws.specs.forest.Heap.{Ends, IsForest, Up}
 use Rattle.kilim_isolation_laws.specs.graph_rows.Facts.{IsTaken, ProgramKeeps, class_in}
 use Rattle.kilim_isolation_laws.specs.graph_rows.Holds.{Anything, Fits, IsOf, ObjectFits, Own, Sort, Tree, Trees, Wide, Word, held_at, is_tree_object, object_sort, tree_held, trees}

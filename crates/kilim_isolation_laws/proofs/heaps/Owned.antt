@@ -4,14 +4,14 @@ use Rattle.std.specs.Prelude.{if◌then◌else◌, slice_get}
 use Rattle.std.proofs.lemmas.Bool.{eq-eqb, ne_eqb, eqb-true}
 use Rattle.std.proofs.lemmas.Bool.Decides.{eqb_tells}
 use Rattle.std.proofs.lemmas.List.{length-append}
-use Rattle.kilim_classes.specs.declared.names.FieldId.{FieldId}
-use Rattle.kilim_classes.specs.declared.ty.Base.{Base}
-use Rattle.kilim_classes.specs.declared.value.Value.{Value}
-use Rattle.kilim_classes.specs.declared.value.Value.TheVariants.{Int, Long, Null, Ref, Text, Box, Fiber}
-use Rattle.kilim_classes.specs.Program.{Program}
-use Rattle.kilim_classes.specs.declared.machine.value.Object.{Object}
-use Rattle.kilim_classes.specs.machine.Shapes.{field_in, fields_in_order}
-use Rattle.kilim_classes.specs.machine.Trees.{object_of, with_keys}
+use Rattle.kilim_program.specs.declared.names.FieldId.{FieldId}
+use Rattle.kilim_program.specs.declared.ty.Base.{Base}
+use Rattle.kilim_program.specs.declared.value.Value.{Value}
+use Rattle.kilim_program.specs.declared.value.Value.TheVariants.{Int, Long, Null, Ref, Text, Box, Fiber}
+use Rattle.kilim_program.specs.Program.{Program}
+use Rattle.kilim_run_state.specs.declared.value.Object.{Object}
+use Rattle.kilim_run_state.specs.Shapes.{field_in, fields_in_order}
+use Rattle.kilim_run_state.specs.Trees.{object_of, with_keys}
 use Rattle.kilim_isolation_laws.specs.graph_rows.Holds.{field_id, half, held_by, refers, refers_in}
 use Rattle.kilim_isolation_laws.proofs.graph_rows.Heaps.{place_is}
 

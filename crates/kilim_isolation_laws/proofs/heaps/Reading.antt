@@ -3,16 +3,16 @@
 use Rattle.std.proofs.Common.{◌≡◌, ℕ, zero, suc, ◌+◌, Bool, true, false, cond, List, [], ◌∷◌, ◌++◌, length, Option, Some, None, refl, sym, ap, subst, ◌∙◌}
 use Rattle.std.specs.Prelude.{◌&&◌, if◌then◌else◌}
 use Rattle.std.proofs.lemmas.Bool.{and_parts}
-use Rattle.kilim_classes.specs.declared.ty.Ty.{Ty}
-use Rattle.kilim_classes.specs.declared.value.Value.{Value}
-use Rattle.kilim_classes.specs.declared.value.Value.TheVariants as value
-use Rattle.kilim_classes.specs.Fits.{fits_type}
-use Rattle.kilim_classes.specs.Names.{◌>>=◌}
-use Rattle.kilim_classes.specs.Program.{Program}
-use Rattle.kilim_classes.specs.declared.machine.value.Object.{Object}
-use Rattle.kilim_classes.specs.declared.machine.value.Token.{Token}
-use Rattle.kilim_classes.specs.declared.machine.value.Token.TheVariants as token
-use Rattle.kilim_classes.specs.machine.Trees.{Awaits, Fields, Elements, Read, Reads, Root, allowed_below, allowed_from, and_then, awaited, behind, behind_token, built, closed, content_types, is_allowed, is_root, is_whole_class, leaf, object_of, opened, read_value, read_values, root_alone, type_named, value_fits}
+use Rattle.kilim_program.specs.declared.ty.Ty.{Ty}
+use Rattle.kilim_program.specs.declared.value.Value.{Value}
+use Rattle.kilim_program.specs.declared.value.Value.TheVariants as value
+use Rattle.kilim_program.specs.Fits.{fits_type}
+use Rattle.kilim_program.specs.Names.{◌>>=◌}
+use Rattle.kilim_program.specs.Program.{Program}
+use Rattle.kilim_run_state.specs.declared.value.Object.{Object}
+use Rattle.kilim_run_state.specs.declared.value.Token.{Token}
+use Rattle.kilim_run_state.specs.declared.value.Token.TheVariants as token
+use Rattle.kilim_run_state.specs.Trees.{Awaits, Fields, Elements, Read, Reads, Root, allowed_below, allowed_from, and_then, awaited, behind, behind_token, built, closed, content_types, is_allowed, is_root, is_whole_class, leaf, object_of, opened, read_value, read_values, root_alone, type_named, value_fits}
 
 some_is : {A : Type 0} (x y : A) → Some x ≡ Some y → x ≡ y
 some_is x y e = cc

@@ -2,21 +2,21 @@
 use Rattle.std.proofs.Common.{◌≡◌, ◌⊎◌, inl, inr, ℕ, zero, suc, Bool, true, false, not, ◌&&◌, ◌||◌, eqb, List, [], Option, Some, None, refl, sym, ap, ◌∙◌, true≢false, arith}
 use Rattle.std.specs.Prelude.{if◌then◌else◌}
 use Rattle.std.proofs.lemmas.Bool.{and_parts, ne_eqb}
-use Rattle.kilim_classes.specs.declared.class.Class.{Class}
-use Rattle.kilim_classes.specs.declared.class.Method.{Method}
-use Rattle.kilim_classes.specs.declared.names.ClassId.{ClassId}
-use Rattle.kilim_classes.specs.declared.ty.Base.{Base}
-use Rattle.kilim_classes.specs.declared.ty.Base.TheVariants as base
-use Rattle.kilim_classes.specs.declared.ty.Kind.{Kind}
-use Rattle.kilim_classes.specs.declared.ty.Kind.TheVariants as kind
-use Rattle.kilim_classes.specs.declared.ty.Ty.{Ty}
-use Rattle.kilim_classes.specs.declared.verified.VType.TheVariants as vtype
-use Rattle.kilim_classes.specs.Program.{Program}
-use Rattle.kilim_classes.specs.Fits.{fits_type, type_assignable}
-use Rattle.kilim_classes.specs.Kinds.{array_kind, base_kind, class_kind, is_message, is_private_kind, is_value_class, kind_of}
-use Rattle.kilim_classes.specs.Lengths.{is_reference_type}
-use Rattle.kilim_classes.specs.Names.{class_at, class_name, is_task}
-use Rattle.kilim_classes.specs.machine.Trees.{is_class, is_whole_class}
+use Rattle.kilim_program.specs.declared.class.Class.{Class}
+use Rattle.kilim_program.specs.declared.class.Method.{Method}
+use Rattle.kilim_program.specs.declared.names.ClassId.{ClassId}
+use Rattle.kilim_program.specs.declared.ty.Base.{Base}
+use Rattle.kilim_program.specs.declared.ty.Base.TheVariants as base
+use Rattle.kilim_program.specs.declared.ty.Kind.{Kind}
+use Rattle.kilim_program.specs.declared.ty.Kind.TheVariants as kind
+use Rattle.kilim_program.specs.declared.ty.Ty.{Ty}
+use Rattle.kilim_program.specs.declared.verified.VType.TheVariants as vtype
+use Rattle.kilim_program.specs.Program.{Program}
+use Rattle.kilim_program.specs.Fits.{fits_type, type_assignable}
+use Rattle.kilim_program.specs.Kinds.{array_kind, base_kind, class_kind, is_message, is_private_kind, is_value_class, kind_of}
+use Rattle.kilim_program.specs.Lengths.{is_reference_type}
+use Rattle.kilim_program.specs.Names.{class_at, class_name, is_task}
+use Rattle.kilim_run_state.specs.Trees.{is_class, is_whole_class}
 use Rattle.kilim_isolation_rules.specs.Marks.{is_tree}
 use Rattle.kilim_isolation_laws.specs.graph_rows.Holds.{Anything, KindsFlow, MayHold, Own, Sort, Tree, Wide, Word, is_tree_sort, object_sort, sort_by, type_sort}
 use Rattle.kilim_isolation_laws.proofs.graph_rows.Casting.{flows_by, same_sort}

@@ -1,14 +1,14 @@
 -- Each thread of an accepted program is kept.
 use Rattle.std.proofs.Common.{◌≡◌, ℕ, true, Option, Some, subst}
 use Rattle.std.specs.FinMap.{get}
-use Rattle.kilim_classes.specs.declared.machine.value.Object.{Object}
-use Rattle.kilim_classes.specs.machine.Machine.{Objects}
-use Rattle.kilim_thread_model.specs.Kept.{IsKept, Kept}
-use Rattle.kilim_thread_model.specs.Lone.{Lone}
-use Rattle.kilim_thread_model.specs.Reach.{Below, Liveness, OptionNames}
-use Rattle.kilim_thread_model.specs.State.{Alive, Ended, Setting, Thread}
-use Rattle.kilim_typing.specs.typing_laws.Laws.{typing_at}
-use Rattle.kilim_typing.specs.typing_laws.fits.Fits.{Classes, Fits}
+use Rattle.kilim_run_state.specs.declared.value.Object.{Object}
+use Rattle.kilim_run_state.specs.Machine.{Objects}
+use Rattle.kilim_run_model.specs.Kept.{IsKept, Kept}
+use Rattle.kilim_run_model.specs.Lone.{Lone}
+use Rattle.kilim_run_model.specs.Reach.{Below, Liveness, OptionNames}
+use Rattle.kilim_run_model.specs.State.{Alive, Ended, Setting, Thread}
+use Rattle.kilim_type_laws.specs.Laws.{typing_at}
+use Rattle.kilim_type_sound.specs.Fits.{Classes, Fits}
 use Rattle.kilim_isolation_laws.specs.typed_threads.fine.Typed.{frames_of}
 use Rattle.kilim_isolation_laws.specs.reached_objects.Laws.{AreLive}
 use Rattle.kilim_isolation_laws.proofs.reached_objects.Frames.{reached_are_there}

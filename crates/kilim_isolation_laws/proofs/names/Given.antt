@@ -3,14 +3,14 @@ use Rattle.std.proofs.Common.{◌≡◌, ◌⊎◌, inl, inr, ℕ, true, cond, L
 use Rattle.std.specs.Prelude.{count_by, nat_le}
 use Rattle.std.specs.FinMap.{get, remove}
 use Rattle.std.proofs.lemmas.Bool.Decides.{eqb_tells}
-use Rattle.kilim_classes.specs.declared.value.Value.TheVariants.{Ref}
-use Rattle.kilim_classes.specs.Names.{◌>>=◌}
-use Rattle.kilim_classes.specs.Program.{Program}
-use Rattle.kilim_classes.specs.declared.machine.value.Token.{Token}
-use Rattle.kilim_classes.specs.machine.Machine.{Objects}
-use Rattle.kilim_classes.specs.machine.Shapes.{is_open, shape_by, shape_of, tree_limit, value_tokens}
-use Rattle.kilim_classes.specs.machine.Trees.{tree_names, value_names, without}
-use Rattle.kilim_thread_model.specs.Kept.{IsIn}
+use Rattle.kilim_program.specs.declared.value.Value.TheVariants.{Ref}
+use Rattle.kilim_program.specs.Names.{◌>>=◌}
+use Rattle.kilim_program.specs.Program.{Program}
+use Rattle.kilim_run_state.specs.declared.value.Token.{Token}
+use Rattle.kilim_run_state.specs.Machine.{Objects}
+use Rattle.kilim_run_state.specs.Shapes.{is_open, shape_by, shape_of, tree_limit, value_tokens}
+use Rattle.kilim_run_state.specs.Trees.{tree_names, value_names, without}
+use Rattle.kilim_run_model.specs.Kept.{IsIn}
 use Rattle.kilim_isolation_laws.specs.graph_rows.Holds.{is_tree_object, is_tree_sort, trees}
 use Rattle.kilim_lemmas.proofs.Maps.{out_there, out_other}
 use Rattle.kilim_isolation_laws.specs.names.Laws.{GivenTreesLeave}

@@ -3,27 +3,27 @@ use Rattle.std.proofs.Common.{◌≡◌, ◌⊎◌, inl, inr, ℕ, zero, suc, �
 use Rattle.std.specs.Prelude.{slice_get}
 use Rattle.std.specs.FinMap.{get}
 use Rattle.std.proofs.lemmas.Bool.{eqb-true, ne_eqb}
-use Rattle.kilim_classes.specs.declared.names.ClassId.{ClassId}
-use Rattle.kilim_classes.specs.declared.names.FieldId.{FieldId}
-use Rattle.kilim_classes.specs.declared.ty.Base.{Base}
-use Rattle.kilim_classes.specs.declared.ty.Base.TheVariants as base
-use Rattle.kilim_classes.specs.declared.value.Value.{Value}
-use Rattle.kilim_classes.specs.declared.value.Value.TheVariants.{Int, Long, Null, Ref, Text, Box, Fiber}
-use Rattle.kilim_classes.specs.Keeps.{Keeps}
-use Rattle.kilim_classes.specs.Names.{◌>>=◌}
-use Rattle.kilim_classes.specs.Program.{Program}
-use Rattle.kilim_classes.specs.declared.machine.value.Object.{Object}
-use Rattle.kilim_classes.specs.declared.machine.value.Token.{Token}
-use Rattle.kilim_classes.specs.declared.machine.value.Token.TheVariants as token
-use Rattle.kilim_classes.specs.machine.Machine.{Objects}
-use Rattle.kilim_classes.specs.machine.Members.{object_fields, shown_name}
-use Rattle.kilim_classes.specs.machine.Shapes.{content_tokens, field_in, fields_in_order, joined_tokens, value_tokens}
-use Rattle.kilim_classes.specs.machine.Trees.{content_names, joined_names, names_in, names_where, value_names}
-use Rattle.kilim_thread_model.specs.Kept.{IsIn, IsOnce}
+use Rattle.kilim_program.specs.declared.names.ClassId.{ClassId}
+use Rattle.kilim_program.specs.declared.names.FieldId.{FieldId}
+use Rattle.kilim_program.specs.declared.ty.Base.{Base}
+use Rattle.kilim_program.specs.declared.ty.Base.TheVariants as base
+use Rattle.kilim_program.specs.declared.value.Value.{Value}
+use Rattle.kilim_program.specs.declared.value.Value.TheVariants.{Int, Long, Null, Ref, Text, Box, Fiber}
+use Rattle.kilim_program.specs.Keeps.{Keeps}
+use Rattle.kilim_program.specs.Names.{◌>>=◌}
+use Rattle.kilim_program.specs.Program.{Program}
+use Rattle.kilim_run_state.specs.declared.value.Object.{Object}
+use Rattle.kilim_run_state.specs.declared.value.Token.{Token}
+use Rattle.kilim_run_state.specs.declared.value.Token.TheVariants as token
+use Rattle.kilim_run_state.specs.Machine.{Objects}
+use Rattle.kilim_program.specs.Members.{object_fields, shown_name}
+use Rattle.kilim_run_state.specs.Shapes.{content_tokens, field_in, fields_in_order, joined_tokens, value_tokens}
+use Rattle.kilim_run_state.specs.Trees.{content_names, joined_names, names_in, names_where, value_names}
+use Rattle.kilim_run_model.specs.Kept.{IsIn, IsOnce}
 use Rattle.kilim_isolation_laws.specs.forest.Heap.{Below, Heap, Here, IsForest, Then}
 use Rattle.kilim_isolation_laws.proofs.forest.Paths.{joined, never_round, one_step, under_below}
-use Rattle.kilim_typing.specs.typing_laws.fits.Fits.{Classes, ContentFits, FieldsFit, HeapFits}
-use Rattle.kilim_typing.proofs.typing_laws.fits.ClassMethods.{IsAmong}
+use Rattle.kilim_type_sound.specs.Fits.{Classes, ContentFits, FieldsFit, HeapFits}
+use Rattle.kilim_type_laws.proofs.members.ClassMethods.{IsAmong}
 use Rattle.kilim_isolation_laws.specs.graph_rows.Holds.{Anything, Own, Sort, Tree, Wide, Word, field_id, half, held_at, held_by, is_tree_object, is_tree_sort, object_sort, refers_in, tree_held, trees}
 use Rattle.kilim_isolation_laws.proofs.graph_rows.Heaps.{half_even, half_odd}
 use Rattle.kilim_isolation_laws.proofs.tree_types.Apart.{AreApart, fields_apart}

@@ -3,40 +3,40 @@ use Rattle.std.proofs.Common.{◌≡◌, ◌⊎◌, inl, inr, ℕ, suc, ◌+◌,
 use Rattle.std.specs.Prelude.{slice_get}
 use Rattle.std.specs.FinMap.{get}
 use Rattle.std.proofs.lemmas.Bool.{and_parts}
-use Rattle.kilim_classes.specs.declared.class.Method.{Method}
-use Rattle.kilim_classes.specs.declared.names.MethodId.{MethodId}
-use Rattle.kilim_classes.specs.declared.ty.Kind.{Kind}
-use Rattle.kilim_classes.specs.declared.ty.Kind.TheVariants as kind
-use Rattle.kilim_classes.specs.declared.ty.Ty.{Ty}
-use Rattle.kilim_classes.specs.declared.value.Value.{Value}
-use Rattle.kilim_classes.specs.declared.value.Value.TheVariants.{Ref}
-use Rattle.kilim_classes.specs.declared.value.Value.TheVariants as value
-use Rattle.kilim_classes.specs.declared.verified.VType.{VType}
-use Rattle.kilim_classes.specs.declared.verified.VType.TheVariants.{Top, Int, Long, Null, UninitThis, Uninit, Object}
-use Rattle.kilim_classes.specs.Kinds.{kind_of}
-use Rattle.kilim_classes.specs.Names.{method_at}
-use Rattle.kilim_classes.specs.Program.{Program}
-use Rattle.kilim_classes.specs.declared.machine.value.Object.{Object as HeapObject}
-use Rattle.kilim_classes.specs.machine.Machine.{Activation, Objects}
-use Rattle.kilim_thread_model.specs.Reach.{Below, FramesName, LiveNames, Liveness, MaybeNames, Names as NamesOne, SomeNames}
-use Rattle.kilim_typing.specs.Step.{Types, assignable, is_top, peek, result_types, vtype}
-use Rattle.kilim_typing.specs.Typed.{FlowsInto, GoesOn, Live, ReadsIt, all_assignable, declared, has_code}
-use Rattle.kilim_typing.specs.typing_laws.Laws.{typing_at}
-use Rattle.kilim_typing.proofs.typing_laws.ByPlace.{typed_by_place}
-use Rattle.kilim_typing.proofs.typing_laws.Itself.{flows_itself}
-use Rattle.kilim_paths.specs.Paths.{Reaches}
+use Rattle.kilim_program.specs.declared.class.Method.{Method}
+use Rattle.kilim_program.specs.declared.names.MethodId.{MethodId}
+use Rattle.kilim_program.specs.declared.ty.Kind.{Kind}
+use Rattle.kilim_program.specs.declared.ty.Kind.TheVariants as kind
+use Rattle.kilim_program.specs.declared.ty.Ty.{Ty}
+use Rattle.kilim_program.specs.declared.value.Value.{Value}
+use Rattle.kilim_program.specs.declared.value.Value.TheVariants.{Ref}
+use Rattle.kilim_program.specs.declared.value.Value.TheVariants as value
+use Rattle.kilim_program.specs.declared.verified.VType.{VType}
+use Rattle.kilim_program.specs.declared.verified.VType.TheVariants.{Top, Int, Long, Null, UninitThis, Uninit, Object}
+use Rattle.kilim_program.specs.Kinds.{kind_of}
+use Rattle.kilim_program.specs.Names.{method_at}
+use Rattle.kilim_program.specs.Program.{Program}
+use Rattle.kilim_run_state.specs.declared.value.Object.{Object as HeapObject}
+use Rattle.kilim_run_state.specs.Machine.{Activation, Objects}
+use Rattle.kilim_run_model.specs.Reach.{Below, FramesName, LiveNames, Liveness, MaybeNames, Names as NamesOne, SomeNames}
+use Rattle.kilim_type_spec.specs.Step.{Types, assignable, is_top, peek, result_types, vtype}
+use Rattle.kilim_type_spec.specs.Typed.{FlowsInto, GoesOn, Live, ReadsIt, all_assignable, declared, has_code}
+use Rattle.kilim_type_laws.specs.Laws.{typing_at}
+use Rattle.kilim_type_laws.proofs.ByPlace.{typed_by_place}
+use Rattle.kilim_type_laws.proofs.Itself.{flows_itself}
+use Rattle.kilim_isolation_paths.specs.Paths.{Reaches}
 use Rattle.kilim_isolation_laws.specs.forest.Relation.{Frames}
 use Rattle.kilim_isolation_laws.specs.forest.Laws.{IsPlace}
-use Rattle.kilim_shape_graph.specs.declared.graph.Graph.{Graph}
-use Rattle.kilim_shape_graph.specs.Canonical.{canonical_at}
-use Rattle.kilim_shape_graph.specs.Graphs.{node_of, slot}
-use Rattle.kilim_shape_graph.specs.Nodes.{is_gone}
+use Rattle.kilim_isolation_graph.specs.declared.graph.Graph.{Graph}
+use Rattle.kilim_isolation_graph.specs.Canonical.{canonical_at}
+use Rattle.kilim_isolation_graph.specs.Graphs.{node_of, slot}
+use Rattle.kilim_isolation_graph.specs.Nodes.{is_gone}
 use Rattle.kilim_isolation_rules.specs.Calls.{given_result}
 use Rattle.kilim_isolation_rules.specs.Marks.{given}
-use Rattle.kilim_pausable_graph.specs.Pausing.{frames_at}
-use Rattle.kilim_isolation_check.specs.Walks.{entry_graph, machine_of}
-use Rattle.kilim_typing.specs.typing_laws.fits.Fits as fits
-use Rattle.kilim_typing.specs.typing_laws.fits.Fits.{AValue, AreThere, Awaited, BelowFit, Classes, FrameFits, Holds, Nothing, StackFits, Wanted, has_type, have_types, result_awaited, result_of}
+use Rattle.kilim_isolation_pauses.specs.Pausing.{frames_at}
+use Rattle.kilim_isolation.specs.Walks.{entry_graph, machine_of}
+use Rattle.kilim_type_sound.specs.Fits as fits
+use Rattle.kilim_type_sound.specs.Fits.{AValue, AreThere, Awaited, BelowFit, Classes, FrameFits, Holds, Nothing, StackFits, Wanted, has_type, have_types, result_awaited, result_of}
 use Rattle.kilim_isolation_laws.specs.reached_objects.live.Laws.{IsAcceptedBy, IsThere as LiveIsThere}
 use Rattle.kilim_isolation_laws.proofs.reached_objects.live.Gone.{result_stays}
 use Rattle.kilim_isolation_laws.proofs.reached_objects.live.Live.{live_is_there}

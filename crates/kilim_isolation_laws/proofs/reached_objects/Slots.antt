@@ -3,23 +3,23 @@ use Rattle.std.proofs.Common.{◌≡◌, inl, inr, ℕ, zero, suc, ◌+◌, ◌<
 use Rattle.std.specs.Prelude.{slice_get}
 use Rattle.std.specs.List.{list_any}
 use Rattle.std.proofs.lemmas.Bool.{and_parts, eqb-true}
-use Rattle.kilim_classes.specs.declared.class.Method.{Method}
-use Rattle.kilim_classes.specs.declared.names.ClassId.{ClassId}
-use Rattle.kilim_classes.specs.declared.value.Value.{Value}
-use Rattle.kilim_classes.specs.declared.value.Value.TheVariants.{Ref}
-use Rattle.kilim_classes.specs.declared.verified.VType.{VType}
-use Rattle.kilim_classes.specs.declared.verified.VType.TheVariants.{Top, Int, Long, Null, UninitThis, Uninit, Object}
-use Rattle.kilim_classes.specs.Program.{Program}
-use Rattle.kilim_classes.specs.BuiltIn.{class_type}
-use Rattle.kilim_classes.specs.machine.Machine.{Objects}
-use Rattle.kilim_thread_model.specs.Reach.{LiveNames, SomeNames}
-use Rattle.kilim_typing.specs.Step.{assignable, made_at}
-use Rattle.kilim_typing.specs.Typed.{all_assignable}
-use Rattle.kilim_typing.specs.typing_laws.fits.Fits.{Classes, has_type, have_types, is_made}
+use Rattle.kilim_program.specs.declared.class.Method.{Method}
+use Rattle.kilim_program.specs.declared.names.ClassId.{ClassId}
+use Rattle.kilim_program.specs.declared.value.Value.{Value}
+use Rattle.kilim_program.specs.declared.value.Value.TheVariants.{Ref}
+use Rattle.kilim_program.specs.declared.verified.VType.{VType}
+use Rattle.kilim_program.specs.declared.verified.VType.TheVariants.{Top, Int, Long, Null, UninitThis, Uninit, Object}
+use Rattle.kilim_program.specs.Program.{Program}
+use Rattle.kilim_program.specs.BuiltIn.{class_type}
+use Rattle.kilim_run_state.specs.Machine.{Objects}
+use Rattle.kilim_run_model.specs.Reach.{LiveNames, SomeNames}
+use Rattle.kilim_type_spec.specs.Step.{assignable, made_at}
+use Rattle.kilim_type_spec.specs.Typed.{all_assignable}
+use Rattle.kilim_type_sound.specs.Fits.{Classes, has_type, have_types, is_made}
 use Rattle.kilim_isolation_laws.specs.forest.Relation.{Named}
-use Rattle.kilim_shape_graph.specs.declared.graph.Graph.{Graph}
-use Rattle.kilim_shape_graph.specs.Graphs.{node_of, slot}
-use Rattle.kilim_shape_graph.specs.Nodes.{is_gone}
+use Rattle.kilim_isolation_graph.specs.declared.graph.Graph.{Graph}
+use Rattle.kilim_isolation_graph.specs.Graphs.{node_of, slot}
+use Rattle.kilim_isolation_graph.specs.Nodes.{is_gone}
 use Rattle.kilim_isolation_rules.specs.Marks.{names_gone}
 use Rattle.kilim_isolation_laws.specs.graph_rows.Holds.{Anything, AreSlots, Own, SlotFits, Sort, Tree, Wide, Word, made_sort, named_sort, sort, unnamed}
 use Rattle.kilim_isolation_laws.proofs.reached_objects.Held.{IsThere, names_ref, object_any, ref_there}

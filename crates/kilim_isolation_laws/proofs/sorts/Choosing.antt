@@ -4,36 +4,36 @@ use Rattle.std.specs.Prelude.{◌||◌, not, slice_get, codes}
 use Rattle.std.specs.List.{list_any}
 use Rattle.std.specs.Str.{bytes_eq}
 use Rattle.std.proofs.lemmas.Bool.{and_parts, eqb-true}
-use Rattle.kilim_classes.specs.declared.class.Form.TheVariants.{Plain, Woven}
-use Rattle.kilim_classes.specs.declared.class.Class.{Class}
-use Rattle.kilim_classes.specs.declared.class.Form.{Form}
-use Rattle.kilim_classes.specs.declared.class.Method.{Method}
-use Rattle.kilim_classes.specs.declared.names.ClassId.{ClassId}
-use Rattle.kilim_classes.specs.declared.names.MethodId.{MethodId}
-use Rattle.kilim_classes.specs.declared.ty.Base.{Base}
-use Rattle.kilim_classes.specs.declared.ty.Base.TheVariants as base
-use Rattle.kilim_classes.specs.declared.ty.Kind.{Kind}
-use Rattle.kilim_classes.specs.declared.ty.Kind.TheVariants as kind
-use Rattle.kilim_classes.specs.declared.ty.Qualifier.{Qualifier}
-use Rattle.kilim_classes.specs.declared.ty.Ty.{Ty}
-use Rattle.kilim_classes.specs.Program.{Program}
-use Rattle.kilim_classes.specs.BuiltIn.{built_in_classes_in, built_in_methods_in, class_type}
-use Rattle.kilim_classes.specs.Fits.{fits_type, is_named, type_assignable}
-use Rattle.kilim_classes.specs.Kinds.{class_kind, is_message, is_tree_kind}
-use Rattle.kilim_classes.specs.Keeps.{Keeps, method_is_sound}
-use Rattle.kilim_classes.specs.Names.{class_at, line_of, method_at}
-use Rattle.kilim_classes.specs.Same.{is_constructor, selected}
-use Rattle.kilim_classes.specs.machine.Does.{above_of, chosen, chosen_by, chosen_on, special}
-use Rattle.kilim_classes.specs.machine.Does as does
-use Rattle.kilim_typing.specs.Step.{is_above, is_superclass_method, may_name, special_fits, superclass_at}
-use Rattle.kilim_typing.specs.Step as step
+use Rattle.kilim_program.specs.declared.class.Form.TheVariants.{Plain, Woven}
+use Rattle.kilim_program.specs.declared.class.Class.{Class}
+use Rattle.kilim_program.specs.declared.class.Form.{Form}
+use Rattle.kilim_program.specs.declared.class.Method.{Method}
+use Rattle.kilim_program.specs.declared.names.ClassId.{ClassId}
+use Rattle.kilim_program.specs.declared.names.MethodId.{MethodId}
+use Rattle.kilim_program.specs.declared.ty.Base.{Base}
+use Rattle.kilim_program.specs.declared.ty.Base.TheVariants as base
+use Rattle.kilim_program.specs.declared.ty.Kind.{Kind}
+use Rattle.kilim_program.specs.declared.ty.Kind.TheVariants as kind
+use Rattle.kilim_program.specs.declared.ty.Qualifier.{Qualifier}
+use Rattle.kilim_program.specs.declared.ty.Ty.{Ty}
+use Rattle.kilim_program.specs.Program.{Program}
+use Rattle.kilim_program.specs.BuiltIn.{built_in_classes_in, built_in_methods_in, class_type}
+use Rattle.kilim_program.specs.Fits.{fits_type, is_named, type_assignable}
+use Rattle.kilim_program.specs.Kinds.{class_kind, is_message, is_tree_kind}
+use Rattle.kilim_program.specs.Keeps.{Keeps, method_is_sound}
+use Rattle.kilim_program.specs.Names.{class_at, line_of, method_at}
+use Rattle.kilim_program.specs.Same.{is_constructor, selected}
+use Rattle.kilim_run_machine.specs.Does.{above_of, chosen, chosen_by, chosen_on, special}
+use Rattle.kilim_run_machine.specs.Does as does
+use Rattle.kilim_type_spec.specs.Step.{is_above, is_superclass_method, may_name, special_fits, superclass_at}
+use Rattle.kilim_type_spec.specs.Step as step
 use Rattle.kilim_lemmas.proofs.Lists.{get_right}
-use Rattle.kilim_shape_graph.specs.Entry.{quality}
-use Rattle.kilim_typing.specs.typing_laws.fits.Chosen.{IsChosen}
-use Rattle.kilim_typing.proofs.typing_laws.fits.ClassMethods.{IsAmong, owner_has}
-use Rattle.kilim_typing.proofs.typing_laws.fits.Finding.{finds}
-use Rattle.kilim_typing.proofs.typing_laws.fits.FromKeeps.{all_at}
-use Rattle.kilim_typing.proofs.typing_laws.fits.Through.{cases, message_at, message_top, object_at, object_top}
+use Rattle.kilim_isolation_graph.specs.Entry.{quality}
+use Rattle.kilim_type_laws.specs.members.Chosen.{IsChosen}
+use Rattle.kilim_type_laws.proofs.members.ClassMethods.{IsAmong, owner_has}
+use Rattle.kilim_type_laws.proofs.members.Finding.{finds}
+use Rattle.kilim_type_laws.proofs.members.FromKeeps.{all_at}
+use Rattle.kilim_type_laws.proofs.members.Through.{cases, message_at, message_top, object_at, object_top}
 use Rattle.kilim_isolation_laws.specs.graph_rows.Holds.{Sort, sort_by, type_sort}
 use Rattle.kilim_isolation_laws.specs.graph_rows.Facts.{Agrees, ChoosesWell}
 use Rattle.kilim_isolation_laws.proofs.sorts.Lines.{in_line}

@@ -4,33 +4,33 @@ use Rattle.std.specs.Prelude.{◌&&◌, ◌||◌, not, slice_get, codes}
 use Rattle.std.specs.List.{flat_map}
 use Rattle.std.specs.Str.{bytes_eq}
 use Rattle.std.proofs.lemmas.Bool.{and_parts, eqb-true, eq-eqb}
-use Rattle.kilim_classes.specs.declared.class.Class.{Class}
-use Rattle.kilim_classes.specs.declared.class.Field.{Field}
-use Rattle.kilim_classes.specs.declared.names.ClassId.{ClassId}
-use Rattle.kilim_classes.specs.declared.names.FieldId.{FieldId}
-use Rattle.kilim_classes.specs.declared.ty.Base.{Base}
-use Rattle.kilim_classes.specs.declared.ty.Base.TheVariants as base
-use Rattle.kilim_classes.specs.declared.ty.Kind.{Kind}
-use Rattle.kilim_classes.specs.declared.ty.Kind.TheVariants as kind
-use Rattle.kilim_classes.specs.declared.ty.Ty.{Ty}
-use Rattle.kilim_classes.specs.declared.value.Value.{Value}
-use Rattle.kilim_classes.specs.Program.{Program}
-use Rattle.kilim_classes.specs.BuiltIn.{class_id, class_type}
-use Rattle.kilim_classes.specs.Kinds.{class_kind, field_may_hold, is_private_kind, is_task_type, is_tree_kind, is_value_kind, kind_of}
-use Rattle.kilim_classes.specs.Fits.{is_named}
-use Rattle.kilim_classes.specs.Keeps.{Keeps, fields_fit, members_are_owned, owned_from}
-use Rattle.kilim_classes.specs.Names.{class_at, field_of, fields_of, line_of}
-use Rattle.kilim_classes.specs.machine.Members.{is_instance_field, object_fields}
-use Rattle.kilim_classes.specs.machine.Objects.{first_field, new_object}
-use Rattle.kilim_classes.specs.machine.Shapes.{field_in}
+use Rattle.kilim_program.specs.declared.class.Class.{Class}
+use Rattle.kilim_program.specs.declared.class.Field.{Field}
+use Rattle.kilim_program.specs.declared.names.ClassId.{ClassId}
+use Rattle.kilim_program.specs.declared.names.FieldId.{FieldId}
+use Rattle.kilim_program.specs.declared.ty.Base.{Base}
+use Rattle.kilim_program.specs.declared.ty.Base.TheVariants as base
+use Rattle.kilim_program.specs.declared.ty.Kind.{Kind}
+use Rattle.kilim_program.specs.declared.ty.Kind.TheVariants as kind
+use Rattle.kilim_program.specs.declared.ty.Ty.{Ty}
+use Rattle.kilim_program.specs.declared.value.Value.{Value}
+use Rattle.kilim_program.specs.Program.{Program}
+use Rattle.kilim_program.specs.BuiltIn.{class_id, class_type}
+use Rattle.kilim_program.specs.Kinds.{class_kind, field_may_hold, is_private_kind, is_task_type, is_tree_kind, is_value_kind, kind_of}
+use Rattle.kilim_program.specs.Fits.{is_named}
+use Rattle.kilim_program.specs.Keeps.{Keeps, fields_fit, members_are_owned, owned_from}
+use Rattle.kilim_program.specs.Names.{class_at, field_of, fields_of, line_of}
+use Rattle.kilim_program.specs.Members.{is_instance_field, object_fields}
+use Rattle.kilim_run_state.specs.Objects.{first_field, new_object}
+use Rattle.kilim_run_state.specs.Shapes.{field_in}
 use Rattle.std.proofs.lemmas.Grind.{flat_map-append}
 use Rattle.std.proofs.lemmas.List.{reverse-append}
 use Rattle.kilim_lemmas.proofs.Texts.{text_is}
-use Rattle.kilim_typing.proofs.typing_laws.fits.ClassMethods.{IsAmong, any_among, owner_is}
-use Rattle.kilim_typing.proofs.typing_laws.fits.FromKeeps.{all_at}
-use Rattle.kilim_typing.proofs.typing_laws.fits.Through.{each_at, object_at, object_top}
+use Rattle.kilim_type_laws.proofs.members.ClassMethods.{IsAmong, any_among, owner_is}
+use Rattle.kilim_type_laws.proofs.members.FromKeeps.{all_at}
+use Rattle.kilim_type_laws.proofs.members.Through.{each_at, object_at, object_top}
 use Rattle.kilim_isolation_laws.proofs.sorts.Lines.{in_line}
-use Rattle.kilim_typing.specs.Step as type
+use Rattle.kilim_type_spec.specs.Step as type
 use Rattle.kilim_isolation_laws.specs.graph_rows.Holds.{MayHold, Wide, Word, field_sort, field_sort_of, object_sort, sort_by, sort_of_vtype, type_sort}
 
 among_either : {A : Type 0} (x : A) (xs ys : List A) → IsAmong x (xs ++ ys) → IsAmong x xs ⊎ IsAmong x ys

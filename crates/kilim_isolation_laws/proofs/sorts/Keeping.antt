@@ -1,24 +1,24 @@
 -- All that the rows of the shape graphs rest on.
 use Rattle.std.proofs.Common.{◌≡◌, ◌⊎◌, inl, inr, ℕ, true, Option, Some, None, refl, sym, subst}
 use Rattle.std.specs.Prelude.{codes}
-use Rattle.kilim_classes.specs.declared.class.Class.{Class}
-use Rattle.kilim_classes.specs.declared.class.Method.{Method}
-use Rattle.kilim_classes.specs.declared.names.ClassId.{ClassId}
-use Rattle.kilim_classes.specs.declared.names.MethodId.{MethodId}
-use Rattle.kilim_classes.specs.declared.ty.Base.TheVariants as base
-use Rattle.kilim_classes.specs.declared.ty.Kind.TheVariants as kind
-use Rattle.kilim_classes.specs.declared.ty.Ty.{Ty}
-use Rattle.kilim_classes.specs.declared.verified.VType.TheVariants.{Int}
-use Rattle.kilim_classes.specs.Program.{Program}
-use Rattle.kilim_classes.specs.BuiltIn.{class_id, class_type, plain_type}
-use Rattle.kilim_classes.specs.Fits.{is_named}
-use Rattle.kilim_classes.specs.Kinds.{class_kind, kind_of}
-use Rattle.kilim_classes.specs.Keeps.{Keeps}
-use Rattle.kilim_classes.specs.Names.{class_at, method_at, ◌>>=◌}
-use Rattle.kilim_typing.specs.Step.{superclass_at, vtype}
-use Rattle.kilim_typing.specs.typing_laws.fits.Facts.{IsCharAt, IsEquals, IsLength, TextKind}
-use Rattle.kilim_typing.proofs.typing_laws.fits.ValueClasses.{found_name}
-use Rattle.kilim_typing.proofs.typing_laws.fits.Grounds.{facts_hold}
+use Rattle.kilim_program.specs.declared.class.Class.{Class}
+use Rattle.kilim_program.specs.declared.class.Method.{Method}
+use Rattle.kilim_program.specs.declared.names.ClassId.{ClassId}
+use Rattle.kilim_program.specs.declared.names.MethodId.{MethodId}
+use Rattle.kilim_program.specs.declared.ty.Base.TheVariants as base
+use Rattle.kilim_program.specs.declared.ty.Kind.TheVariants as kind
+use Rattle.kilim_program.specs.declared.ty.Ty.{Ty}
+use Rattle.kilim_program.specs.declared.verified.VType.TheVariants.{Int}
+use Rattle.kilim_program.specs.Program.{Program}
+use Rattle.kilim_program.specs.BuiltIn.{class_id, class_type, plain_type}
+use Rattle.kilim_program.specs.Fits.{is_named}
+use Rattle.kilim_program.specs.Kinds.{class_kind, kind_of}
+use Rattle.kilim_program.specs.Keeps.{Keeps}
+use Rattle.kilim_program.specs.Names.{class_at, method_at, ◌>>=◌}
+use Rattle.kilim_type_spec.specs.Step.{superclass_at, vtype}
+use Rattle.kilim_type_sound.specs.Facts.{IsCharAt, IsEquals, IsLength, TextKind}
+use Rattle.kilim_type_laws.proofs.members.ValueClasses.{found_name}
+use Rattle.kilim_type_sound.proofs.Grounds.{facts_hold}
 use Rattle.kilim_isolation_laws.specs.graph_rows.Holds.{object_sort}
 use Rattle.kilim_isolation_laws.specs.graph_rows.Facts.{ProgramKeeps}
 use Rattle.kilim_isolation_laws.proofs.sorts.Choosing.{chooses_well, class_sort, of_object, sizes}

@@ -1,16 +1,16 @@
 -- How kinds flow, from how those of classes do.
 use Rattle.std.proofs.Common.{◌≡◌, ℕ, zero, suc, ◌==◌, Bool, true, false, true≢false, ◌&&◌, cond, refl, sym, ap, subst, ◌∙◌, ◌⊎◌, inl, inr}
-use Rattle.kilim_classes.specs.declared.ty.Base.TheVariants as base
-use Rattle.kilim_classes.specs.declared.ty.Kind.TheVariants as kind
-use Rattle.kilim_classes.specs.declared.verified.VType.TheVariants as vtype
-use Rattle.kilim_classes.specs.declared.names.ClassId.{ClassId}
-use Rattle.kilim_classes.specs.declared.ty.Base.{Base}
-use Rattle.kilim_classes.specs.declared.ty.Kind.{Kind}
-use Rattle.kilim_classes.specs.declared.ty.Ty.{Ty}
-use Rattle.kilim_classes.specs.Program.{Program}
-use Rattle.kilim_classes.specs.Kinds.{kind_of, base_kind, class_kind, array_kind, is_tree_kind, is_private_kind}
-use Rattle.kilim_classes.specs.Fits.{class_assignable, base_assignable, is_object_base, type_assignable, fits_type}
-use Rattle.kilim_typing.specs.Step.{assignable}
+use Rattle.kilim_program.specs.declared.ty.Base.TheVariants as base
+use Rattle.kilim_program.specs.declared.ty.Kind.TheVariants as kind
+use Rattle.kilim_program.specs.declared.verified.VType.TheVariants as vtype
+use Rattle.kilim_program.specs.declared.names.ClassId.{ClassId}
+use Rattle.kilim_program.specs.declared.ty.Base.{Base}
+use Rattle.kilim_program.specs.declared.ty.Kind.{Kind}
+use Rattle.kilim_program.specs.declared.ty.Ty.{Ty}
+use Rattle.kilim_program.specs.Program.{Program}
+use Rattle.kilim_program.specs.Kinds.{kind_of, base_kind, class_kind, array_kind, is_tree_kind, is_private_kind}
+use Rattle.kilim_program.specs.Fits.{class_assignable, base_assignable, is_object_base, type_assignable, fits_type}
+use Rattle.kilim_type_spec.specs.Step.{assignable}
 use Rattle.kilim_isolation_laws.proofs.forest.Store.{is_same}
 use Rattle.kilim_isolation_rules.specs.Marks.{mixes}
 use Rattle.kilim_isolation_laws.specs.graph_rows.Holds.{Sort, Anything, Wide, Word, Own, Tree, Stuff, Longs, Words, Trees, stuff_of, sort, sort_by, object_sort, made_sort, FlowsTo, KindsFlow}
@@ -200,7 +200,7 @@ kinds_flow p c m (vtype.Uninit a) vtype.Int e mix = absurd (true≢false (sym e)
 kinds_flow p c m (vtype.Uninit a) vtype.Long e mix = absurd (true≢false (sym e))
 kinds_flow p c m (vtype.Uninit a) vtype.Null e mix = absurd (true≢false (sym e))
 kinds_flow p c m (vtype.Uninit a) vtype.UninitThis e mix = absurd (true≢false (sym e))
-kinds_flow p c m (vtype.Uninit a) (vtype.Uninit b) e mix = inr (inr (ap (λ z. made_sort p (Rattle.kilim_typing.specs.Step.made_at m.code z)) (is_same a b e)))
+kinds_flow p c m (vtype.Uninit a) (vtype.Uninit b) e mix = inr (inr (ap (λ z. made_sort p (Rattle.kilim_type_spec.specs.Step.made_at m.code z)) (is_same a b e)))
 kinds_flow p c m (vtype.Uninit a) (vtype.Object b) e mix = absurd (true≢false (sym e))
 kinds_flow p c m (vtype.Object a) vtype.Top e mix = inl refl
 kinds_flow p c m (vtype.Object a) vtype.Int e mix = absurd (true≢false (sym e))

@@ -4,22 +4,22 @@ use Rattle.std.specs.Prelude.{◌&&◌, ◌||◌, not, slice_get, codes}
 use Rattle.std.specs.List.{list_any, list_all, AllByRecursion}
 use Rattle.std.specs.Str.{bytes_eq}
 use Rattle.std.proofs.lemmas.Bool.{and_parts, eqb-true, ltb-true}
-use Rattle.kilim_classes.specs.declared.class.Class.{Class}
-use Rattle.kilim_classes.specs.declared.class.Form.TheVariants.{Plain, Woven}
-use Rattle.kilim_classes.specs.declared.class.Form.{Form}
-use Rattle.kilim_classes.specs.declared.names.ClassId.{ClassId}
-use Rattle.kilim_classes.specs.declared.ty.Kind.{Kind}
-use Rattle.kilim_classes.specs.declared.ty.Kind.TheVariants as kind
-use Rattle.kilim_classes.specs.Program.{Program}
-use Rattle.kilim_classes.specs.BuiltIn.{built_in_classes_in, class_id}
-use Rattle.kilim_classes.specs.Kinds.{class_kind, is_marked, is_message, is_private_kind, is_value_class}
-use Rattle.kilim_classes.specs.Names.{◌>>=◌, class_at, class_name, is_named_task, is_task, line_up_to}
-use Rattle.kilim_classes.specs.Keeps.{Keeps, is_object, is_open_superclass, own_class_fits, own_count, superclass_fits, superclasses_fit}
+use Rattle.kilim_program.specs.declared.class.Class.{Class}
+use Rattle.kilim_program.specs.declared.class.Form.TheVariants.{Plain, Woven}
+use Rattle.kilim_program.specs.declared.class.Form.{Form}
+use Rattle.kilim_program.specs.declared.names.ClassId.{ClassId}
+use Rattle.kilim_program.specs.declared.ty.Kind.{Kind}
+use Rattle.kilim_program.specs.declared.ty.Kind.TheVariants as kind
+use Rattle.kilim_program.specs.Program.{Program}
+use Rattle.kilim_program.specs.BuiltIn.{built_in_classes_in, class_id}
+use Rattle.kilim_program.specs.Kinds.{class_kind, is_marked, is_message, is_private_kind, is_value_class}
+use Rattle.kilim_program.specs.Names.{◌>>=◌, class_at, class_name, is_named_task, is_task, line_up_to}
+use Rattle.kilim_program.specs.Keeps.{Keeps, is_object, is_open_superclass, own_class_fits, own_count, superclass_fits, superclasses_fit}
 use Rattle.kilim_lemmas.proofs.Lists.{get_right, get_some}
 use Rattle.kilim_lemmas.proofs.Texts.{text_is}
-use Rattle.kilim_typing.proofs.typing_laws.fits.FromKeeps.{all_at}
-use Rattle.kilim_typing.proofs.typing_laws.fits.Through.{each_at, object_at, object_top}
-use Rattle.kilim_typing.proofs.typing_laws.fits.ValueClasses.{IsPlain, UpIs, all_of_at, apart, built_plain, own_counted, own_fits}
+use Rattle.kilim_type_laws.proofs.members.FromKeeps.{all_at}
+use Rattle.kilim_type_laws.proofs.members.Through.{each_at, object_at, object_top}
+use Rattle.kilim_type_laws.proofs.members.ValueClasses.{IsPlain, UpIs, all_of_at, apart, built_plain, own_counted, own_fits}
 
 abbrev pub up : Program → ClassId → Option ClassId
 up p c = class_at p c >>= λ (class : Class). class.superclass

@@ -3,20 +3,20 @@ use Rattle.std.proofs.Common.{◌≡◌, ◌⊎◌, inl, inr, ℕ, Bool, true, f
 use Rattle.std.specs.Prelude.{◌||◌, codes, slice_get}
 use Rattle.std.specs.List.{list_any}
 use Rattle.std.proofs.lemmas.Bool.{eq-eqb, or_left, or_right}
-use Rattle.kilim_classes.specs.declared.names.ClassId.{ClassId}
-use Rattle.kilim_classes.specs.declared.ty.Base.{Base}
-use Rattle.kilim_classes.specs.declared.ty.Base.TheVariants as base
-use Rattle.kilim_classes.specs.declared.ty.Kind.{Kind}
-use Rattle.kilim_classes.specs.declared.ty.Kind.TheVariants as kind
-use Rattle.kilim_classes.specs.declared.class.Form.TheVariants.{Plain, Woven}
-use Rattle.kilim_classes.specs.declared.class.Form.{Form}
-use Rattle.kilim_classes.specs.Program.{Program}
-use Rattle.kilim_classes.specs.BuiltIn.{built_in_classes_in}
-use Rattle.kilim_classes.specs.Fits.{class_assignable, is_named, is_object_base}
-use Rattle.kilim_classes.specs.Kinds.{base_kind, class_kind, is_marked, is_message}
-use Rattle.kilim_classes.specs.Keeps.{Keeps}
-use Rattle.kilim_classes.specs.Names.{line_of, line_up_to}
-use Rattle.kilim_typing.proofs.typing_laws.fits.Through.{cases, message_at, message_top}
+use Rattle.kilim_program.specs.declared.names.ClassId.{ClassId}
+use Rattle.kilim_program.specs.declared.ty.Base.{Base}
+use Rattle.kilim_program.specs.declared.ty.Base.TheVariants as base
+use Rattle.kilim_program.specs.declared.ty.Kind.{Kind}
+use Rattle.kilim_program.specs.declared.ty.Kind.TheVariants as kind
+use Rattle.kilim_program.specs.declared.class.Form.TheVariants.{Plain, Woven}
+use Rattle.kilim_program.specs.declared.class.Form.{Form}
+use Rattle.kilim_program.specs.Program.{Program}
+use Rattle.kilim_program.specs.BuiltIn.{built_in_classes_in}
+use Rattle.kilim_program.specs.Fits.{class_assignable, is_named, is_object_base}
+use Rattle.kilim_program.specs.Kinds.{base_kind, class_kind, is_marked, is_message}
+use Rattle.kilim_program.specs.Keeps.{Keeps}
+use Rattle.kilim_program.specs.Names.{line_of, line_up_to}
+use Rattle.kilim_type_laws.proofs.members.Through.{cases, message_at, message_top}
 use Rattle.kilim_isolation_laws.proofs.sorts.KindsOfClasses.{ClassFlow, ClassesFlow}
 use Rattle.kilim_isolation_laws.proofs.sorts.Lines.{in_line, message_kind, object_is_private, up}
 

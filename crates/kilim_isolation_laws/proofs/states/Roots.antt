@@ -4,24 +4,24 @@ use Rattle.std.specs.Prelude.{◌&&◌, ◌||◌, not, slice_get, codes}
 use Rattle.std.specs.List.{list_any}
 use Rattle.std.specs.Str.{bytes_eq}
 use Rattle.std.proofs.lemmas.Bool.{eqb-true, or_left}
-use Rattle.kilim_classes.specs.declared.class.Class.{Class}
-use Rattle.kilim_classes.specs.declared.class.Form.TheVariants.{Plain, Woven}
-use Rattle.kilim_classes.specs.declared.class.Form.{Form}
-use Rattle.kilim_classes.specs.declared.names.ClassId.{ClassId}
-use Rattle.kilim_classes.specs.declared.ty.Base.{Base}
-use Rattle.kilim_classes.specs.declared.ty.Base.TheVariants as base
-use Rattle.kilim_classes.specs.declared.ty.Kind.{Kind}
-use Rattle.kilim_classes.specs.declared.ty.Kind.TheVariants as kind
-use Rattle.kilim_classes.specs.declared.ty.Ty.{Ty}
-use Rattle.kilim_classes.specs.BuiltIn.{built_in_classes_in, class_id, class_type}
-use Rattle.kilim_classes.specs.Fits.{class_assignable, fits_type, is_named, type_assignable}
-use Rattle.kilim_classes.specs.Keeps.{Keeps, none_is_both}
-use Rattle.kilim_classes.specs.Kinds.{class_kind, is_marked, is_message, is_value_class}
-use Rattle.kilim_classes.specs.Names.{◌>>=◌, class_at, class_name, is_named_task, is_task, line_of, line_up_to}
-use Rattle.kilim_classes.specs.Program.{Program}
-use Rattle.kilim_classes.specs.machine.Trees.{OfMessage, OfTask, is_root}
-use Rattle.kilim_typing.proofs.typing_laws.fits.BuiltInMembers.{NamedAt, named_at}
-use Rattle.kilim_typing.proofs.typing_laws.fits.Through.{cases, each_at, message_at, message_top}
+use Rattle.kilim_program.specs.declared.class.Class.{Class}
+use Rattle.kilim_program.specs.declared.class.Form.TheVariants.{Plain, Woven}
+use Rattle.kilim_program.specs.declared.class.Form.{Form}
+use Rattle.kilim_program.specs.declared.names.ClassId.{ClassId}
+use Rattle.kilim_program.specs.declared.ty.Base.{Base}
+use Rattle.kilim_program.specs.declared.ty.Base.TheVariants as base
+use Rattle.kilim_program.specs.declared.ty.Kind.{Kind}
+use Rattle.kilim_program.specs.declared.ty.Kind.TheVariants as kind
+use Rattle.kilim_program.specs.declared.ty.Ty.{Ty}
+use Rattle.kilim_program.specs.BuiltIn.{built_in_classes_in, class_id, class_type}
+use Rattle.kilim_program.specs.Fits.{class_assignable, fits_type, is_named, type_assignable}
+use Rattle.kilim_program.specs.Keeps.{Keeps, none_is_both}
+use Rattle.kilim_program.specs.Kinds.{class_kind, is_marked, is_message, is_value_class}
+use Rattle.kilim_program.specs.Names.{◌>>=◌, class_at, class_name, is_named_task, is_task, line_of, line_up_to}
+use Rattle.kilim_program.specs.Program.{Program}
+use Rattle.kilim_run_state.specs.Trees.{OfMessage, OfTask, is_root}
+use Rattle.kilim_type_sound.proofs.BuiltInMembers.{NamedAt, named_at}
+use Rattle.kilim_type_laws.proofs.members.Through.{cases, each_at, message_at, message_top}
 use Rattle.kilim_isolation_laws.proofs.sorts.Lines.{message_kind, object_is_private, step_up}
 use Rattle.kilim_isolation_laws.proofs.typed_threads.fine.Natives.{first, object_name, task_name}
 use Rattle.kilim_isolation_laws.proofs.typed_threads.Booting.{line_begins}

@@ -2,43 +2,43 @@
 use Rattle.std.proofs.Common.{◌≡◌, inl, inr, ℕ, ◌+◌, Bool, true, false, cond, List, [], ◌∷◌, ◌++◌, map, Option, Some, None, refl, sym, ap, subst, ◌∙◌}
 use Rattle.std.specs.Prelude.{◌||◌}
 use Rattle.std.proofs.lemmas.Bool.{and_parts}
-use Rattle.kilim_classes.specs.declared.class.Method.{Method}
-use Rattle.kilim_classes.specs.declared.names.ClassId.{ClassId}
-use Rattle.kilim_classes.specs.declared.names.MethodId.{MethodId}
-use Rattle.kilim_classes.specs.declared.ty.Kind.{Kind}
-use Rattle.kilim_classes.specs.declared.ty.Kind.TheVariants as kind
-use Rattle.kilim_classes.specs.declared.ty.Qualifier.{Qualifier}
-use Rattle.kilim_classes.specs.declared.ty.Qualifier.TheVariants as qualifier
-use Rattle.kilim_classes.specs.declared.ty.Ty.{Ty}
-use Rattle.kilim_classes.specs.declared.value.Value.{Value}
-use Rattle.kilim_classes.specs.declared.value.Value.TheVariants.{Ref, Box}
-use Rattle.kilim_classes.specs.declared.names.BoxName.{BoxName}
-use Rattle.kilim_classes.specs.declared.verified.VType.{VType}
-use Rattle.kilim_classes.specs.BuiltIn.{class_id, class_type}
-use Rattle.kilim_classes.specs.Fits.{fits_type}
-use Rattle.kilim_classes.specs.Kinds.{class_kind, is_message, is_tree_kind, is_value_class}
-use Rattle.kilim_classes.specs.Names.{is_task}
-use Rattle.kilim_classes.specs.Program.{Program}
-use Rattle.kilim_classes.specs.machine.Machine.{Activation, Objects}
-use Rattle.kilim_classes.specs.machine.Moves.{Move, moves}
-use Rattle.kilim_classes.specs.machine.Moves as move
-use Rattle.kilim_classes.specs.machine.Natives.{Native, native_of}
-use Rattle.kilim_classes.specs.machine.Natives as native
-use Rattle.kilim_classes.specs.machine.Shapes.{tree_limit}
-use Rattle.kilim_classes.specs.machine.Trees.{OfMessage, OfTask, Root, is_root, tree_names}
-use Rattle.kilim_thread_model.specs.State.{Setting, Thread}
-use Rattle.kilim_thread_model.specs.Kept.{GivesTree, IsGivenTree, given}
-use Rattle.kilim_typing.specs.Step.{class_vtype, vtype}
-use Rattle.kilim_typing.specs.typing_laws.Laws.{typing_at}
-use Rattle.kilim_shape_graph.specs.declared.entry.Parameter.{Parameter}
-use Rattle.kilim_shape_graph.specs.Entry.{declared_parameters, parameters_of, quality}
+use Rattle.kilim_program.specs.declared.class.Method.{Method}
+use Rattle.kilim_program.specs.declared.names.ClassId.{ClassId}
+use Rattle.kilim_program.specs.declared.names.MethodId.{MethodId}
+use Rattle.kilim_program.specs.declared.ty.Kind.{Kind}
+use Rattle.kilim_program.specs.declared.ty.Kind.TheVariants as kind
+use Rattle.kilim_program.specs.declared.ty.Qualifier.{Qualifier}
+use Rattle.kilim_program.specs.declared.ty.Qualifier.TheVariants as qualifier
+use Rattle.kilim_program.specs.declared.ty.Ty.{Ty}
+use Rattle.kilim_program.specs.declared.value.Value.{Value}
+use Rattle.kilim_program.specs.declared.value.Value.TheVariants.{Ref, Box}
+use Rattle.kilim_program.specs.declared.names.BoxName.{BoxName}
+use Rattle.kilim_program.specs.declared.verified.VType.{VType}
+use Rattle.kilim_program.specs.BuiltIn.{class_id, class_type}
+use Rattle.kilim_program.specs.Fits.{fits_type}
+use Rattle.kilim_program.specs.Kinds.{class_kind, is_message, is_tree_kind, is_value_class}
+use Rattle.kilim_program.specs.Names.{is_task}
+use Rattle.kilim_program.specs.Program.{Program}
+use Rattle.kilim_run_state.specs.Machine.{Activation, Objects}
+use Rattle.kilim_run_machine.specs.Moves.{Move, moves}
+use Rattle.kilim_run_machine.specs.Moves as move
+use Rattle.kilim_run_machine.specs.Natives.{Native, native_of}
+use Rattle.kilim_run_machine.specs.Natives as native
+use Rattle.kilim_run_state.specs.Shapes.{tree_limit}
+use Rattle.kilim_run_state.specs.Trees.{OfMessage, OfTask, Root, is_root, tree_names}
+use Rattle.kilim_run_model.specs.State.{Setting, Thread}
+use Rattle.kilim_run_model.specs.Kept.{GivesTree, IsGivenTree, given}
+use Rattle.kilim_type_spec.specs.Step.{class_vtype, vtype}
+use Rattle.kilim_type_laws.specs.Laws.{typing_at}
+use Rattle.kilim_isolation_graph.specs.declared.entry.Parameter.{Parameter}
+use Rattle.kilim_isolation_graph.specs.Entry.{declared_parameters, parameters_of, quality}
 use Rattle.kilim_isolation_rules.specs.Calls.{is_owned}
 use Rattle.kilim_isolation_laws.specs.forest.Heap.{IsForest}
-use Rattle.kilim_typing.specs.typing_laws.fits.Fits.{Classes, Fits, HeapFits, Wanted, has_type, have_types, is_of}
-use Rattle.kilim_typing.specs.typing_laws.fits.Sound.{AsksFit, native_types}
-use Rattle.kilim_typing.specs.typing_laws.fits.Sound as sound
-use Rattle.kilim_typing.proofs.typing_laws.fits.Grounds.{facts_hold}
-use Rattle.kilim_typing.proofs.typing_laws.fits.Theorem.{moves_fit}
+use Rattle.kilim_type_sound.specs.Fits.{Classes, Fits, HeapFits, Wanted, has_type, have_types, is_of}
+use Rattle.kilim_type_sound.specs.Sound.{AsksFit, native_types}
+use Rattle.kilim_type_sound.specs.Sound as sound
+use Rattle.kilim_type_sound.proofs.Grounds.{facts_hold}
+use Rattle.kilim_type_sound.proofs.Theorem.{moves_fit}
 use Rattle.kilim_isolation_laws.specs.graph_rows.Holds.{trees}
 use Rattle.kilim_isolation_laws.specs.reached_objects.graphs.Threads.{AskFits, Gives, Listed, MoveFits}
 use Rattle.kilim_isolation_laws.specs.typed_threads.fine.Typed.{IsVerified, TopIsThere, frames_of}

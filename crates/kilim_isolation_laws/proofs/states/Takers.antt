@@ -2,17 +2,17 @@
 use Rattle.std.proofs.Common.{◌≡◌, ℕ, ◌+◌, true, false, List, [], ◌∷◌, length, Option, Some, None, refl, sym, ap, subst, ◌∙◌}
 use Rattle.std.specs.Prelude.{codes, if◌then◌else◌}
 use Rattle.std.specs.List.{AllByRecursion}
-use Rattle.kilim_classes.specs.declared.class.Form.TheVariants.{Plain}
-use Rattle.kilim_classes.specs.declared.class.Method.{Method}
-use Rattle.kilim_classes.specs.declared.names.MethodId.{MethodId}
-use Rattle.kilim_classes.specs.declared.ty.Qualifier.TheVariants.{Free}
-use Rattle.kilim_classes.specs.BuiltIn.{built_in_methods_in, class_id, class_type}
-use Rattle.kilim_classes.specs.Keeps.{Keeps}
-use Rattle.kilim_classes.specs.Names.{◌>>=◌, class_name, method_at}
-use Rattle.kilim_classes.specs.Program.{Program}
-use Rattle.kilim_classes.specs.machine.Natives.{Native, natives, native_named, native_method, native_of}
-use Rattle.kilim_classes.specs.machine.Natives as native
-use Rattle.kilim_typing.proofs.typing_laws.fits.BuiltInMembers.{NamedAt, named_at}
+use Rattle.kilim_program.specs.declared.class.Form.TheVariants.{Plain}
+use Rattle.kilim_program.specs.declared.class.Method.{Method}
+use Rattle.kilim_program.specs.declared.names.MethodId.{MethodId}
+use Rattle.kilim_program.specs.declared.ty.Qualifier.TheVariants.{Free}
+use Rattle.kilim_program.specs.BuiltIn.{built_in_methods_in, class_id, class_type}
+use Rattle.kilim_program.specs.Keeps.{Keeps}
+use Rattle.kilim_program.specs.Names.{◌>>=◌, class_name, method_at}
+use Rattle.kilim_program.specs.Program.{Program}
+use Rattle.kilim_run_machine.specs.Natives.{Native, natives, native_named, native_method, native_of}
+use Rattle.kilim_run_machine.specs.Natives as native
+use Rattle.kilim_type_sound.proofs.BuiltInMembers.{NamedAt, named_at}
 use Rattle.kilim_isolation_laws.proofs.typed_threads.fine.Natives.{built_in_one, first, object_name, task_name}
 
 pub record PutIs (n : ℕ) (m : Method) : Type 0 where

@@ -4,32 +4,32 @@ use Rattle.std.specs.Prelude.{◌&&◌, ◌||◌, not, ◌-◌, nat_le, codes, c
 use Rattle.std.specs.FinMap.{get}
 use Rattle.std.specs.List.{list_all}
 use Rattle.std.proofs.lemmas.Bool.{and_parts, and_from, eqb-true, ltb-true}
-use Rattle.kilim_classes.specs.declared.class.Class.{Class}
-use Rattle.kilim_classes.specs.declared.class.Field.{Field}
-use Rattle.kilim_classes.specs.declared.names.ClassId.{ClassId}
-use Rattle.kilim_classes.specs.declared.names.FieldId.{FieldId}
-use Rattle.kilim_classes.specs.declared.ty.Base.{Base}
-use Rattle.kilim_classes.specs.declared.ty.Base.TheVariants as base
-use Rattle.kilim_classes.specs.declared.ty.Ty.{Ty}
-use Rattle.kilim_classes.specs.declared.value.Value.{Value}
-use Rattle.kilim_classes.specs.declared.value.Value.TheVariants as value
-use Rattle.kilim_classes.specs.Program.{Program}
-use Rattle.kilim_classes.specs.Fits.{fits_type, is_reference_base}
-use Rattle.kilim_classes.specs.Keeps.{Keeps, has_base}
-use Rattle.kilim_classes.specs.Kinds.{is_value_class}
-use Rattle.kilim_classes.specs.Names.{◌>>=◌, class_at, field_of}
-use Rattle.kilim_classes.specs.declared.machine.value.Object.{Object}
-use Rattle.kilim_classes.specs.declared.machine.value.Token.{Token}
-use Rattle.kilim_classes.specs.declared.machine.value.Token.TheVariants as token
-use Rattle.kilim_classes.specs.machine.Effect.{named_type}
-use Rattle.kilim_classes.specs.machine.Machine.{Objects}
-use Rattle.kilim_classes.specs.machine.Members.{is_concrete, object_fields, shown_name}
-use Rattle.kilim_classes.specs.machine.Shapes.{content_tokens, field_in, fields_in_order, is_open, joined_tokens, shape_by, tree_limit, value_tokens}
-use Rattle.kilim_classes.specs.machine.Trees.{Awaits, Fields, Elements, Root, allowed_below, allowed_from, awaited, behind_token, content_types, field_types, is_allowed, is_class, is_long, is_root, is_whole_class, opened, type_named, value_fits}
-use Rattle.kilim_classes.specs.machine.Trees as trees
-use Rattle.kilim_thread_model.specs.Kept.{Finds}
-use Rattle.kilim_typing.specs.typing_laws.fits.Fits.{Classes, ContentFits, FieldFits, FieldsFit, HeapFits, ObjectFits, has_objects, is_long_base, is_of, is_value_of}
-use Rattle.kilim_typing.specs.typing_laws.fits.Fits as fits
+use Rattle.kilim_program.specs.declared.class.Class.{Class}
+use Rattle.kilim_program.specs.declared.class.Field.{Field}
+use Rattle.kilim_program.specs.declared.names.ClassId.{ClassId}
+use Rattle.kilim_program.specs.declared.names.FieldId.{FieldId}
+use Rattle.kilim_program.specs.declared.ty.Base.{Base}
+use Rattle.kilim_program.specs.declared.ty.Base.TheVariants as base
+use Rattle.kilim_program.specs.declared.ty.Ty.{Ty}
+use Rattle.kilim_program.specs.declared.value.Value.{Value}
+use Rattle.kilim_program.specs.declared.value.Value.TheVariants as value
+use Rattle.kilim_program.specs.Program.{Program}
+use Rattle.kilim_program.specs.Fits.{fits_type, is_reference_base}
+use Rattle.kilim_program.specs.Keeps.{Keeps, has_base}
+use Rattle.kilim_program.specs.Kinds.{is_value_class}
+use Rattle.kilim_program.specs.Names.{◌>>=◌, class_at, field_of}
+use Rattle.kilim_run_state.specs.declared.value.Object.{Object}
+use Rattle.kilim_run_state.specs.declared.value.Token.{Token}
+use Rattle.kilim_run_state.specs.declared.value.Token.TheVariants as token
+use Rattle.kilim_program.specs.Members.{named_type}
+use Rattle.kilim_run_state.specs.Machine.{Objects}
+use Rattle.kilim_program.specs.Members.{is_concrete, object_fields, shown_name}
+use Rattle.kilim_run_state.specs.Shapes.{content_tokens, field_in, fields_in_order, is_open, joined_tokens, shape_by, tree_limit, value_tokens}
+use Rattle.kilim_run_state.specs.Trees.{Awaits, Fields, Elements, Root, allowed_below, allowed_from, awaited, behind_token, content_types, field_types, is_allowed, is_class, is_long, is_root, is_whole_class, opened, type_named, value_fits}
+use Rattle.kilim_run_state.specs.Trees as trees
+use Rattle.kilim_run_model.specs.Kept.{Finds}
+use Rattle.kilim_type_sound.specs.Fits.{Classes, ContentFits, FieldFits, FieldsFit, HeapFits, ObjectFits, has_objects, is_long_base, is_of, is_value_of}
+use Rattle.kilim_type_sound.specs.Fits as fits
 use Rattle.kilim_lemmas.proofs.Lists.{get_some}
 use Rattle.kilim_isolation_laws.specs.tree_types.Laws.{AreNamedPlainly, TreesAreAllowed}
 use Rattle.kilim_isolation_laws.proofs.tree_types.Formed.{finds_of, objects_formed, values_of}

@@ -6,18 +6,18 @@ use Rattle.std.specs.Str.{bytes_eq}
 use Rattle.std.proofs.lemmas.Bool.{and_parts, eq-eqb}
 use Rattle.std.proofs.lemmas.Grind.{flat_map-append}
 use Rattle.std.proofs.lemmas.List.{reverse-append}
-use Rattle.kilim_classes.specs.declared.class.Class.{Class}
-use Rattle.kilim_classes.specs.declared.class.Field.{Field}
-use Rattle.kilim_classes.specs.declared.names.ClassId.{ClassId}
-use Rattle.kilim_classes.specs.declared.names.FieldId.{FieldId}
-use Rattle.kilim_classes.specs.Program.{Program}
-use Rattle.kilim_classes.specs.BuiltIn.{class_id}
-use Rattle.kilim_classes.specs.Names.{class_at, field_of, fields_of, line_of}
-use Rattle.kilim_classes.specs.Keeps.{Keeps, members_are_owned, owned_from}
-use Rattle.kilim_classes.specs.machine.Members.{is_instance_field, object_fields}
+use Rattle.kilim_program.specs.declared.class.Class.{Class}
+use Rattle.kilim_program.specs.declared.class.Field.{Field}
+use Rattle.kilim_program.specs.declared.names.ClassId.{ClassId}
+use Rattle.kilim_program.specs.declared.names.FieldId.{FieldId}
+use Rattle.kilim_program.specs.Program.{Program}
+use Rattle.kilim_program.specs.BuiltIn.{class_id}
+use Rattle.kilim_program.specs.Names.{class_at, field_of, fields_of, line_of}
+use Rattle.kilim_program.specs.Keeps.{Keeps, members_are_owned, owned_from}
+use Rattle.kilim_program.specs.Members.{is_instance_field, object_fields}
 use Rattle.kilim_lemmas.proofs.Texts.{text_is}
-use Rattle.kilim_typing.proofs.typing_laws.fits.ClassMethods.{IsAmong, owner_is}
-use Rattle.kilim_typing.proofs.typing_laws.fits.Through.{distinct, each_at}
+use Rattle.kilim_type_laws.proofs.members.ClassMethods.{IsAmong, owner_is}
+use Rattle.kilim_type_laws.proofs.members.Through.{distinct, each_at}
 
 -- ---- lists in which nothing stands twice
 

@@ -2,27 +2,27 @@
 use Rattle.std.proofs.Common.{◌≡◌, inl, inr, ℕ, zero, suc, Bool, true, false, cond, eqb, List, [], ◌∷◌, ◌++◌, length, map, Option, Some, None, refl, sym, ap, subst, ◌∙◌, arith, append_assoc}
 use Rattle.std.specs.Str.{bytes_eq}
 use Rattle.std.proofs.lemmas.Bool.{and_parts, eq-eqb, eqb-true, ltb-true, false_from_ne_true}
-use Rattle.kilim_classes.specs.declared.class.Class.{Class}
-use Rattle.kilim_classes.specs.declared.names.ClassId.{ClassId}
-use Rattle.kilim_classes.specs.declared.names.FieldId.{FieldId}
-use Rattle.kilim_classes.specs.declared.ty.Base.{Base}
-use Rattle.kilim_classes.specs.declared.ty.Base.TheVariants as base
-use Rattle.kilim_classes.specs.declared.ty.Ty.{Ty}
-use Rattle.kilim_classes.specs.declared.value.Value.{Value}
-use Rattle.kilim_classes.specs.Program.{Program}
-use Rattle.kilim_classes.specs.Keeps.{Keeps, has_base, names_differ}
-use Rattle.kilim_classes.specs.Names.{class_at}
-use Rattle.kilim_classes.specs.Same.{all_differ}
-use Rattle.kilim_classes.specs.declared.machine.value.Object.{Object}
-use Rattle.kilim_classes.specs.machine.Members.{is_concrete, object_fields, shown_name}
-use Rattle.kilim_classes.specs.machine.Shapes.{field_in, fields_in_order}
-use Rattle.kilim_classes.specs.machine.Trees.{object_of, type_named, with_keys}
-use Rattle.kilim_thread_model.specs.Kept.{Finds, IsFormed}
+use Rattle.kilim_program.specs.declared.class.Class.{Class}
+use Rattle.kilim_program.specs.declared.names.ClassId.{ClassId}
+use Rattle.kilim_program.specs.declared.names.FieldId.{FieldId}
+use Rattle.kilim_program.specs.declared.ty.Base.{Base}
+use Rattle.kilim_program.specs.declared.ty.Base.TheVariants as base
+use Rattle.kilim_program.specs.declared.ty.Ty.{Ty}
+use Rattle.kilim_program.specs.declared.value.Value.{Value}
+use Rattle.kilim_program.specs.Program.{Program}
+use Rattle.kilim_program.specs.Keeps.{Keeps, has_base, names_differ}
+use Rattle.kilim_program.specs.Names.{class_at}
+use Rattle.kilim_program.specs.Same.{all_differ}
+use Rattle.kilim_run_state.specs.declared.value.Object.{Object}
+use Rattle.kilim_program.specs.Members.{is_concrete, object_fields, shown_name}
+use Rattle.kilim_run_state.specs.Shapes.{field_in, fields_in_order}
+use Rattle.kilim_run_state.specs.Trees.{object_of, type_named, with_keys}
+use Rattle.kilim_run_model.specs.Kept.{Finds, IsFormed}
 use Rattle.kilim_lemmas.proofs.Lists.{get_some}
-use Rattle.kilim_typing.specs.typing_laws.fits.Fits.{Classes, ContentFits, FieldsFit, has_objects}
-use Rattle.kilim_typing.proofs.typing_laws.fits.ClassMethods.{IsAmong}
-use Rattle.kilim_thread_model.specs.kin.trees.Laws.{IsPlaced}
-use Rattle.kilim_thread_model.proofs.kin.trees.NamedTypes.{array_is_named, class_is_named}
+use Rattle.kilim_type_sound.specs.Fits.{Classes, ContentFits, FieldsFit, has_objects}
+use Rattle.kilim_type_laws.proofs.members.ClassMethods.{IsAmong}
+use Rattle.kilim_run_model.specs.kin.trees.Laws.{IsPlaced}
+use Rattle.kilim_run_model.proofs.kin.trees.NamedTypes.{array_is_named, class_is_named}
 use Rattle.kilim_isolation_laws.specs.tree_types.Laws.{AreNamedPlainly, ObjectsAreFormed}
 use Rattle.kilim_isolation_laws.proofs.tree_types.Apart.{AreApart, fields_apart}
 

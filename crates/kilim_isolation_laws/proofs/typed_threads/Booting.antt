@@ -4,38 +4,38 @@ use Rattle.std.specs.Prelude.{◌&&◌, ◌||◌, not, is_none, slice_get, codes
 use Rattle.std.specs.List.{flat_map, list_any, list_all}
 use Rattle.std.specs.Str.{bytes_eq}
 use Rattle.std.proofs.lemmas.Bool.{and_parts, and_from, eq-eqb, eqb-true, not-true}
-use Rattle.kilim_classes.specs.declared.class.Class.{Class}
-use Rattle.kilim_classes.specs.declared.class.Field.{Field}
-use Rattle.kilim_classes.specs.declared.class.Form.TheVariants.{Plain, Woven}
-use Rattle.kilim_classes.specs.declared.class.Form.{Form}
-use Rattle.kilim_classes.specs.declared.class.Method.{Method}
-use Rattle.kilim_classes.specs.declared.names.ClassId.{ClassId}
-use Rattle.kilim_classes.specs.declared.names.FieldId.{FieldId}
-use Rattle.kilim_classes.specs.declared.names.MethodId.{MethodId}
-use Rattle.kilim_classes.specs.declared.ty.Base.{Base}
-use Rattle.kilim_classes.specs.declared.ty.Base.TheVariants as base
-use Rattle.kilim_classes.specs.declared.ty.Ty.{Ty}
-use Rattle.kilim_classes.specs.declared.value.Value.TheVariants as value
-use Rattle.kilim_classes.specs.BuiltIn.{built_in_classes_in, built_in_methods_in, class_id, class_type}
-use Rattle.kilim_classes.specs.Fits.{fits_type, is_reference_base}
-use Rattle.kilim_classes.specs.Keeps.{Keeps, is_left_abstract, is_same_id, none_is_left_abstract}
-use Rattle.kilim_classes.specs.Names.{◌>>=◌, class_at, class_name, field_of, fields_of, first_that, is_empty, is_named_task, is_task, line_of, line_up_to, method_at, methods_of}
-use Rattle.kilim_classes.specs.Program.{Program}
-use Rattle.kilim_classes.specs.Same.{answers, same_result, same_signature, same_types, selected}
-use Rattle.kilim_classes.specs.machine.Machine.{Objects, Activation}
-use Rattle.kilim_classes.specs.machine.Members.{constructor_of, is_concrete, is_fit_main, is_instance_field, is_own_constructor, is_plain_method}
-use Rattle.kilim_classes.specs.machine.Moves.{entered}
-use Rattle.kilim_classes.specs.machine.Objects.{first_field, first_value, first_value_of, new_object}
-use Rattle.kilim_thread_model.specs.State.{begun_in, begun_on}
+use Rattle.kilim_program.specs.declared.class.Class.{Class}
+use Rattle.kilim_program.specs.declared.class.Field.{Field}
+use Rattle.kilim_program.specs.declared.class.Form.TheVariants.{Plain, Woven}
+use Rattle.kilim_program.specs.declared.class.Form.{Form}
+use Rattle.kilim_program.specs.declared.class.Method.{Method}
+use Rattle.kilim_program.specs.declared.names.ClassId.{ClassId}
+use Rattle.kilim_program.specs.declared.names.FieldId.{FieldId}
+use Rattle.kilim_program.specs.declared.names.MethodId.{MethodId}
+use Rattle.kilim_program.specs.declared.ty.Base.{Base}
+use Rattle.kilim_program.specs.declared.ty.Base.TheVariants as base
+use Rattle.kilim_program.specs.declared.ty.Ty.{Ty}
+use Rattle.kilim_program.specs.declared.value.Value.TheVariants as value
+use Rattle.kilim_program.specs.BuiltIn.{built_in_classes_in, built_in_methods_in, class_id, class_type}
+use Rattle.kilim_program.specs.Fits.{fits_type, is_reference_base}
+use Rattle.kilim_program.specs.Keeps.{Keeps, is_left_abstract, is_same_id, none_is_left_abstract}
+use Rattle.kilim_program.specs.Names.{◌>>=◌, class_at, class_name, field_of, fields_of, first_that, is_empty, is_named_task, is_task, line_of, line_up_to, method_at, methods_of}
+use Rattle.kilim_program.specs.Program.{Program}
+use Rattle.kilim_program.specs.Same.{answers, same_result, same_signature, same_types, selected}
+use Rattle.kilim_run_state.specs.Machine.{Objects, Activation}
+use Rattle.kilim_program.specs.Members.{constructor_of, is_concrete, is_fit_main, is_instance_field, is_own_constructor, is_plain_method}
+use Rattle.kilim_run_machine.specs.Moves.{entered}
+use Rattle.kilim_run_state.specs.Objects.{first_field, first_value, first_value_of, new_object}
+use Rattle.kilim_run_model.specs.State.{begun_in, begun_on}
 use Rattle.kilim_lemmas.proofs.Lists.{get_right}
 use Rattle.kilim_lemmas.proofs.Texts.{text_is}
-use Rattle.kilim_typing.specs.typing_laws.fits.Fits.{Classes, FieldFits, FieldsFit, Fits, HeapFits, ObjectFits, Typing, Verified, Wanted, has_objects, is_of, is_value_of}
-use Rattle.kilim_typing.proofs.typing_laws.fits.Bodies.{bodies}
-use Rattle.kilim_typing.proofs.typing_laws.fits.ClassMethods.{IsAmong, among_left, any_among, names_owner}
-use Rattle.kilim_typing.proofs.typing_laws.fits.FromKeeps.{all_weaker, among_both, itself, own_body}
-use Rattle.kilim_typing.proofs.typing_laws.fits.Grounds.{facts_hold}
-use Rattle.kilim_typing.proofs.typing_laws.fits.Grown.{beginnings_fit}
-use Rattle.kilim_typing.proofs.typing_laws.fits.Through.{each_at}
+use Rattle.kilim_type_sound.specs.Fits.{Classes, FieldFits, FieldsFit, Fits, HeapFits, ObjectFits, Typing, Verified, Wanted, has_objects, is_of, is_value_of}
+use Rattle.kilim_type_sound.proofs.Bodies.{bodies}
+use Rattle.kilim_type_laws.proofs.members.ClassMethods.{IsAmong, among_left, any_among, names_owner}
+use Rattle.kilim_type_laws.proofs.members.FromKeeps.{all_weaker, among_both, itself, own_body}
+use Rattle.kilim_type_sound.proofs.Grounds.{facts_hold}
+use Rattle.kilim_type_sound.proofs.Grown.{beginnings_fit}
+use Rattle.kilim_type_laws.proofs.members.Through.{each_at}
 use Rattle.kilim_isolation_laws.proofs.typed_threads.fine.Natives.{first, object_name}
 use Rattle.kilim_isolation_laws.proofs.typed_threads.Executing.{same_class}
 

@@ -3,18 +3,18 @@ use Rattle.std.proofs.Common.{◌≡◌, ◌⊎◌, inl, inr, ℕ, zero, suc, �
 use Rattle.std.specs.FinMap.{get, insert, remove}
 use Rattle.std.proofs.lemmas.Bool.{eq-eqb, ne_eqb}
 use Rattle.std.proofs.lemmas.Bool.Decides.{eqb_tells}
-use Rattle.kilim_classes.specs.declared.ty.Base.{Base}
-use Rattle.kilim_classes.specs.declared.ty.Base.TheVariants as base
-use Rattle.kilim_classes.specs.declared.ty.Ty.{Ty}
-use Rattle.kilim_classes.specs.Lengths.{is_reference_type}
-use Rattle.kilim_classes.specs.Program.{Program}
-use Rattle.kilim_classes.specs.declared.machine.value.Object.{Object}
-use Rattle.kilim_classes.specs.machine.Machine.{Objects}
-use Rattle.kilim_classes.specs.machine.Trees.{with_objects, without}
+use Rattle.kilim_program.specs.declared.ty.Base.{Base}
+use Rattle.kilim_program.specs.declared.ty.Base.TheVariants as base
+use Rattle.kilim_program.specs.declared.ty.Ty.{Ty}
+use Rattle.kilim_program.specs.Lengths.{is_reference_type}
+use Rattle.kilim_program.specs.Program.{Program}
+use Rattle.kilim_run_state.specs.declared.value.Object.{Object}
+use Rattle.kilim_run_state.specs.Machine.{Objects}
+use Rattle.kilim_run_state.specs.Trees.{with_objects, without}
 use Rattle.kilim_lemmas.proofs.Maps.{put_there, put_other, out_there, out_other}
-use Rattle.kilim_typing.specs.typing_laws.fits.Fits.{Classes, ContentFits, HeapFits, ObjectFits}
-use Rattle.kilim_typing.specs.typing_laws.fits.Law.{Extends, with_class}
-use Rattle.kilim_typing.proofs.typing_laws.fits.Grown.{came}
+use Rattle.kilim_type_sound.specs.Fits.{Classes, ContentFits, HeapFits, ObjectFits}
+use Rattle.kilim_type_sound.specs.Law.{Extends, with_class}
+use Rattle.kilim_type_sound.proofs.Grown.{came}
 use Rattle.kilim_isolation_laws.proofs.typed_threads.Read.{AllFit, Placed}
 
 none_some : {A : Type 0} (x : A) → None ≡ Some x → ⊥

@@ -4,30 +4,30 @@ use Rattle.std.specs.Prelude.{◌||◌, slice_get, codes}
 use Rattle.std.specs.List.{AllByRecursion, list_any}
 use Rattle.std.specs.Str.{bytes_eq}
 use Rattle.std.proofs.lemmas.Bool.{and_parts, eq-eqb, or_left}
-use Rattle.kilim_classes.specs.declared.class.Form.TheVariants.{Plain}
-use Rattle.kilim_classes.specs.declared.class.Method.{Method}
-use Rattle.kilim_classes.specs.declared.names.ClassId.{ClassId}
-use Rattle.kilim_classes.specs.declared.names.MethodId.{MethodId}
-use Rattle.kilim_classes.specs.declared.ty.Base.{Base}
-use Rattle.kilim_classes.specs.declared.ty.Base.TheVariants as base
-use Rattle.kilim_classes.specs.declared.ty.Ty.{Ty}
-use Rattle.kilim_classes.specs.declared.value.Value.TheVariants.{Ref}
-use Rattle.kilim_classes.specs.BuiltIn.{built_in_methods_in, class_id, class_type}
-use Rattle.kilim_classes.specs.Fits.{fits_type}
-use Rattle.kilim_classes.specs.Keeps.{Keeps}
-use Rattle.kilim_classes.specs.Names.{◌>>=◌, class_at, class_name, first_that, is_named_task, is_task, line_of, method_at}
-use Rattle.kilim_classes.specs.Program.{Program}
-use Rattle.kilim_classes.specs.Same.{is_constructor, selected}
-use Rattle.kilim_classes.specs.machine.Does.{chosen, chosen_by}
-use Rattle.kilim_classes.specs.machine.Machine.{Objects, Activation}
-use Rattle.kilim_classes.specs.machine.Members.{execute_of, is_concrete, is_task_execute}
-use Rattle.kilim_classes.specs.machine.Moves.{entered}
-use Rattle.kilim_thread_model.specs.State.{begun_in, begun_on}
-use Rattle.kilim_typing.specs.typing_laws.fits.Facts.{Selected}
-use Rattle.kilim_typing.specs.typing_laws.fits.Fits.{Classes, Fits, HeapFits, Typing, Verified, Wanted, is_of}
-use Rattle.kilim_typing.proofs.typing_laws.fits.Grounds.{facts_hold}
-use Rattle.kilim_typing.proofs.typing_laws.fits.Grown.{beginnings_fit}
-use Rattle.kilim_typing.proofs.typing_laws.fits.ValueClasses.{type_is}
+use Rattle.kilim_program.specs.declared.class.Form.TheVariants.{Plain}
+use Rattle.kilim_program.specs.declared.class.Method.{Method}
+use Rattle.kilim_program.specs.declared.names.ClassId.{ClassId}
+use Rattle.kilim_program.specs.declared.names.MethodId.{MethodId}
+use Rattle.kilim_program.specs.declared.ty.Base.{Base}
+use Rattle.kilim_program.specs.declared.ty.Base.TheVariants as base
+use Rattle.kilim_program.specs.declared.ty.Ty.{Ty}
+use Rattle.kilim_program.specs.declared.value.Value.TheVariants.{Ref}
+use Rattle.kilim_program.specs.BuiltIn.{built_in_methods_in, class_id, class_type}
+use Rattle.kilim_program.specs.Fits.{fits_type}
+use Rattle.kilim_program.specs.Keeps.{Keeps}
+use Rattle.kilim_program.specs.Names.{◌>>=◌, class_at, class_name, first_that, is_named_task, is_task, line_of, method_at}
+use Rattle.kilim_program.specs.Program.{Program}
+use Rattle.kilim_program.specs.Same.{is_constructor, selected}
+use Rattle.kilim_run_machine.specs.Does.{chosen, chosen_by}
+use Rattle.kilim_run_state.specs.Machine.{Objects, Activation}
+use Rattle.kilim_program.specs.Members.{execute_of, is_concrete, is_task_execute}
+use Rattle.kilim_run_machine.specs.Moves.{entered}
+use Rattle.kilim_run_model.specs.State.{begun_in, begun_on}
+use Rattle.kilim_type_sound.specs.Facts.{Selected}
+use Rattle.kilim_type_sound.specs.Fits.{Classes, Fits, HeapFits, Typing, Verified, Wanted, is_of}
+use Rattle.kilim_type_sound.proofs.Grounds.{facts_hold}
+use Rattle.kilim_type_sound.proofs.Grown.{beginnings_fit}
+use Rattle.kilim_type_laws.proofs.members.ValueClasses.{type_is}
 use Rattle.kilim_isolation_laws.proofs.typed_threads.fine.Natives.{built_in_one, first, task_name}
 
 some_same : {A : Type 0} (x y : A) → Some x ≡ Some y → x ≡ y

@@ -4,49 +4,49 @@ use Rattle.std.specs.Prelude.{◌||◌, nat_le, nat_lt, codes}
 use Rattle.std.specs.List.{list_any}
 use Rattle.std.specs.Str.{bytes_eq}
 use Rattle.std.proofs.lemmas.Bool.{and_parts, and_from, eqb-true, or_left}
-use Rattle.kilim_classes.specs.declared.class.Class.{Class}
-use Rattle.kilim_classes.specs.declared.class.Form.TheVariants.{Plain}
-use Rattle.kilim_classes.specs.declared.class.Method.{Method}
-use Rattle.kilim_classes.specs.declared.names.BoxName.{BoxName}
-use Rattle.kilim_classes.specs.declared.names.ClassId.{ClassId}
-use Rattle.kilim_classes.specs.declared.names.MethodId.{MethodId}
-use Rattle.kilim_classes.specs.declared.ty.Base.{Base}
-use Rattle.kilim_classes.specs.declared.ty.Base.TheVariants as base
-use Rattle.kilim_classes.specs.declared.ty.Ty.{Ty}
-use Rattle.kilim_classes.specs.declared.value.Value.{Value}
-use Rattle.kilim_classes.specs.declared.value.Value.TheVariants.{Int, Null, Ref, Box}
-use Rattle.kilim_classes.specs.BuiltIn.{class_id, class_type, int_type}
-use Rattle.kilim_classes.specs.Fits.{fits_type, is_named}
-use Rattle.kilim_classes.specs.Keeps.{Keeps}
-use Rattle.kilim_classes.specs.Kinds.{is_marked, is_message}
-use Rattle.kilim_classes.specs.Names.{class_at, is_task, line_of}
-use Rattle.kilim_classes.specs.Program.{Program}
-use Rattle.kilim_classes.specs.declared.machine.cause.EndCause.{EndCause}
-use Rattle.kilim_classes.specs.declared.machine.cause.EndCause.TheVariants as cause
-use Rattle.kilim_classes.specs.declared.machine.value.Object.{Object}
-use Rattle.kilim_classes.specs.declared.machine.value.Token.{Token}
-use Rattle.kilim_classes.specs.machine.Machine.{Objects, Activation}
-use Rattle.kilim_classes.specs.machine.Members.{execute_of, is_concrete}
-use Rattle.kilim_classes.specs.machine.Moves.{Move, moves, push_value}
-use Rattle.kilim_classes.specs.machine.Moves as move
-use Rattle.kilim_classes.specs.machine.Natives.{Native, native_of}
-use Rattle.kilim_classes.specs.machine.Natives as native
-use Rattle.kilim_classes.specs.machine.Shapes.{shape_of}
-use Rattle.kilim_classes.specs.machine.Trees.{OfMessage, built, is_root, tree_names, with_objects, without}
-use Rattle.kilim_journal.specs.declared.entry.Act.{Act}
-use Rattle.kilim_journal.specs.declared.entry.Act.TheVariants.{Put, Take, Empty, Start, Print, End}
-use Rattle.kilim_thread_model.specs.State.{Setting, Thread, Alive, Ended, begun_on, is_fit}
-use Rattle.kilim_thread_model.specs.Lone.{Lone, Next, Goes, Puts, Gets, Probes, Starts, Prints, Ends, Stands, arg_at, arg_next, asks_next, begins_next, box_limit, ended, finish_next, frames_next, message_next, native_next, next_by, next_move, on_heap, opens_next, over, print_next, printed, pushed, put_next, start_next, thread_next, went}
-use Rattle.kilim_thread_model.specs.Course.{Done, done_by, probes_deed, puts_deed, received, starts_deed, takes_deed, tree_came, tree_left}
-use Rattle.kilim_thread_model.specs.declared.deed.Deed.{Deed}
-use Rattle.kilim_typing.specs.Step.{vtype}
-use Rattle.kilim_typing.specs.typing_laws.fits.Fits.{Classes, Fits, HeapFits, Typing, Wanted, has_type, is_of}
-use Rattle.kilim_typing.specs.typing_laws.fits.Law.{AnswersFit, Extends, with_class}
-use Rattle.kilim_typing.specs.typing_laws.fits.Sound.{AsksFit, MoveFits}
-use Rattle.kilim_typing.proofs.typing_laws.fits.BuiltInMembers.{NamedAt, named_at}
-use Rattle.kilim_typing.proofs.typing_laws.fits.Grounds.{facts_hold}
-use Rattle.kilim_typing.proofs.typing_laws.fits.Grown.{all_answers_fit}
-use Rattle.kilim_typing.proofs.typing_laws.fits.Theorem.{moves_fit}
+use Rattle.kilim_program.specs.declared.class.Class.{Class}
+use Rattle.kilim_program.specs.declared.class.Form.TheVariants.{Plain}
+use Rattle.kilim_program.specs.declared.class.Method.{Method}
+use Rattle.kilim_program.specs.declared.names.BoxName.{BoxName}
+use Rattle.kilim_program.specs.declared.names.ClassId.{ClassId}
+use Rattle.kilim_program.specs.declared.names.MethodId.{MethodId}
+use Rattle.kilim_program.specs.declared.ty.Base.{Base}
+use Rattle.kilim_program.specs.declared.ty.Base.TheVariants as base
+use Rattle.kilim_program.specs.declared.ty.Ty.{Ty}
+use Rattle.kilim_program.specs.declared.value.Value.{Value}
+use Rattle.kilim_program.specs.declared.value.Value.TheVariants.{Int, Null, Ref, Box}
+use Rattle.kilim_program.specs.BuiltIn.{class_id, class_type, int_type}
+use Rattle.kilim_program.specs.Fits.{fits_type, is_named}
+use Rattle.kilim_program.specs.Keeps.{Keeps}
+use Rattle.kilim_program.specs.Kinds.{is_marked, is_message}
+use Rattle.kilim_program.specs.Names.{class_at, is_task, line_of}
+use Rattle.kilim_program.specs.Program.{Program}
+use Rattle.kilim_run_state.specs.declared.cause.EndCause.{EndCause}
+use Rattle.kilim_run_state.specs.declared.cause.EndCause.TheVariants as cause
+use Rattle.kilim_run_state.specs.declared.value.Object.{Object}
+use Rattle.kilim_run_state.specs.declared.value.Token.{Token}
+use Rattle.kilim_run_state.specs.Machine.{Objects, Activation}
+use Rattle.kilim_program.specs.Members.{execute_of, is_concrete}
+use Rattle.kilim_run_machine.specs.Moves.{Move, moves, push_value}
+use Rattle.kilim_run_machine.specs.Moves as move
+use Rattle.kilim_run_machine.specs.Natives.{Native, native_of}
+use Rattle.kilim_run_machine.specs.Natives as native
+use Rattle.kilim_run_state.specs.Shapes.{shape_of}
+use Rattle.kilim_run_state.specs.Trees.{OfMessage, built, is_root, tree_names, with_objects, without}
+use Rattle.kilim_run_journal.specs.declared.entry.Act.{Act}
+use Rattle.kilim_run_journal.specs.declared.entry.Act.TheVariants.{Put, Take, Empty, Start, Print, End}
+use Rattle.kilim_run_model.specs.State.{Setting, Thread, Alive, Ended, begun_on, is_fit}
+use Rattle.kilim_run_model.specs.Lone.{Lone, Next, Goes, Puts, Gets, Probes, Starts, Prints, Ends, Stands, arg_at, arg_next, asks_next, begins_next, box_limit, ended, finish_next, frames_next, message_next, native_next, next_by, next_move, on_heap, opens_next, over, print_next, printed, pushed, put_next, start_next, thread_next, went}
+use Rattle.kilim_run_model.specs.Course.{Done, done_by, probes_deed, puts_deed, received, starts_deed, takes_deed, tree_came, tree_left}
+use Rattle.kilim_run_model.specs.declared.deed.Deed.{Deed}
+use Rattle.kilim_type_spec.specs.Step.{vtype}
+use Rattle.kilim_type_sound.specs.Fits.{Classes, Fits, HeapFits, Typing, Wanted, has_type, is_of}
+use Rattle.kilim_type_sound.specs.Law.{AnswersFit, Extends, with_class}
+use Rattle.kilim_type_sound.specs.Sound.{AsksFit, MoveFits}
+use Rattle.kilim_type_sound.proofs.BuiltInMembers.{NamedAt, named_at}
+use Rattle.kilim_type_sound.proofs.Grounds.{facts_hold}
+use Rattle.kilim_type_sound.proofs.Grown.{all_answers_fit}
+use Rattle.kilim_type_sound.proofs.Theorem.{moves_fit}
 use Rattle.kilim_isolation_laws.specs.typed_threads.fine.Typed.{FitsAs, IsVerified, StackIsThere, TopIsThere, frames_of}
 use Rattle.kilim_isolation_laws.proofs.typed_threads.fine.Natives.{first, gives, native_gives}
 use Rattle.kilim_isolation_laws.specs.typed_threads.Typed.{Further}

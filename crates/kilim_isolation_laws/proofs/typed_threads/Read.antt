@@ -3,30 +3,30 @@ use Rattle.std.proofs.Common.{◌≡◌, ℕ, zero, suc, ◌+◌, ◌<◌, ℤ, 
 use Rattle.std.specs.Prelude.{◌&&◌, ◌||◌, not, ◌-◌, slice_get, codes, if◌then◌else◌}
 use Rattle.std.specs.List.{list_all}
 use Rattle.std.proofs.lemmas.Bool.{and_parts, and_from, lt-ltb, ne_eqb}
-use Rattle.kilim_classes.specs.declared.class.Class.{Class}
-use Rattle.kilim_classes.specs.declared.class.Field.{Field}
-use Rattle.kilim_classes.specs.declared.names.ClassId.{ClassId}
-use Rattle.kilim_classes.specs.declared.names.FieldId.{FieldId}
-use Rattle.kilim_classes.specs.declared.ty.Base.{Base}
-use Rattle.kilim_classes.specs.declared.ty.Base.TheVariants as base
-use Rattle.kilim_classes.specs.declared.ty.Ty.{Ty}
-use Rattle.kilim_classes.specs.declared.value.Value.{Value}
-use Rattle.kilim_classes.specs.declared.value.Value.TheVariants as value
-use Rattle.kilim_classes.specs.Program.{Program}
-use Rattle.kilim_classes.specs.Fits.{fits_type, is_reference_base}
-use Rattle.kilim_classes.specs.Keeps.{has_base, has_class}
-use Rattle.kilim_classes.specs.Kinds.{is_value_class}
-use Rattle.kilim_classes.specs.Names.{◌>>=◌, class_at, field_of}
-use Rattle.kilim_classes.specs.declared.machine.value.Object.{Object}
-use Rattle.kilim_classes.specs.declared.machine.value.Token.{Token}
-use Rattle.kilim_classes.specs.declared.machine.value.Token.TheVariants as token
-use Rattle.kilim_classes.specs.machine.Effect.{named_type}
-use Rattle.kilim_classes.specs.machine.Members.{is_concrete, is_instance_field, object_fields}
-use Rattle.kilim_classes.specs.machine.Shapes.{fields_in_order}
-use Rattle.kilim_classes.specs.machine.Trees.{Awaits, Fields, Elements, Read, Reads, Root, allowed_below, allowed_from, and_then, awaited, behind, behind_token, built, closed, content_types, field_types, is_allowed, is_class, is_long, is_root, is_whole_class, leaf, object_of, opened, read_value, read_values, root_alone, type_named, value_fits, with_keys}
-use Rattle.kilim_classes.specs.machine.Trees as trees
-use Rattle.kilim_typing.specs.typing_laws.fits.Fits.{Classes, ContentFits, FieldFits, FieldsFit, ObjectFits, has_objects, is_long_base, is_of, is_value_of}
-use Rattle.kilim_typing.specs.typing_laws.fits.Fits as fits
+use Rattle.kilim_program.specs.declared.class.Class.{Class}
+use Rattle.kilim_program.specs.declared.class.Field.{Field}
+use Rattle.kilim_program.specs.declared.names.ClassId.{ClassId}
+use Rattle.kilim_program.specs.declared.names.FieldId.{FieldId}
+use Rattle.kilim_program.specs.declared.ty.Base.{Base}
+use Rattle.kilim_program.specs.declared.ty.Base.TheVariants as base
+use Rattle.kilim_program.specs.declared.ty.Ty.{Ty}
+use Rattle.kilim_program.specs.declared.value.Value.{Value}
+use Rattle.kilim_program.specs.declared.value.Value.TheVariants as value
+use Rattle.kilim_program.specs.Program.{Program}
+use Rattle.kilim_program.specs.Fits.{fits_type, is_reference_base}
+use Rattle.kilim_program.specs.Keeps.{has_base, has_class}
+use Rattle.kilim_program.specs.Kinds.{is_value_class}
+use Rattle.kilim_program.specs.Names.{◌>>=◌, class_at, field_of}
+use Rattle.kilim_run_state.specs.declared.value.Object.{Object}
+use Rattle.kilim_run_state.specs.declared.value.Token.{Token}
+use Rattle.kilim_run_state.specs.declared.value.Token.TheVariants as token
+use Rattle.kilim_program.specs.Members.{named_type}
+use Rattle.kilim_program.specs.Members.{is_concrete, is_instance_field, object_fields}
+use Rattle.kilim_run_state.specs.Shapes.{fields_in_order}
+use Rattle.kilim_run_state.specs.Trees.{Awaits, Fields, Elements, Read, Reads, Root, allowed_below, allowed_from, and_then, awaited, behind, behind_token, built, closed, content_types, field_types, is_allowed, is_class, is_long, is_root, is_whole_class, leaf, object_of, opened, read_value, read_values, root_alone, type_named, value_fits, with_keys}
+use Rattle.kilim_run_state.specs.Trees as trees
+use Rattle.kilim_type_sound.specs.Fits.{Classes, ContentFits, FieldFits, FieldsFit, ObjectFits, has_objects, is_long_base, is_of, is_value_of}
+use Rattle.kilim_type_sound.specs.Fits as fits
 
 -- ---- words of two definitions that are the same
 

@@ -2,25 +2,25 @@
 use Rattle.std.proofs.Common.{◌≡◌, ℕ, zero, suc, ◌≤◌, arith, Bool, true, false, List, [], ◌∷◌, ◌++◌, length, Option, Some, None, refl, sym, ap, subst, ◌∙◌}
 use Rattle.std.specs.FinMap.{empty, get, insert, get-empty}
 use Rattle.std.proofs.lemmas.Bool.{and_parts, eqb-true}
-use Rattle.kilim_classes.specs.declared.ty.Base.{Base}
-use Rattle.kilim_classes.specs.declared.ty.Base.TheVariants as base
-use Rattle.kilim_classes.specs.declared.ty.Ty.{Ty}
-use Rattle.kilim_classes.specs.BuiltIn.{class_type}
-use Rattle.kilim_classes.specs.Names.{◌>>=◌, class_at, is_task}
-use Rattle.kilim_classes.specs.Program.{Program}
-use Rattle.kilim_classes.specs.declared.machine.value.Object.{Object}
-use Rattle.kilim_classes.specs.declared.machine.value.Token.{Token}
-use Rattle.kilim_classes.specs.machine.Machine.{Objects, Activation}
-use Rattle.kilim_classes.specs.machine.Members.{constructor_of, execute_of, is_concrete}
-use Rattle.kilim_classes.specs.machine.Objects.{new_object}
-use Rattle.kilim_classes.specs.machine.Trees.{OfTask, built, is_root, is_whole_class, with_objects}
-use Rattle.kilim_thread_model.specs.State.{Setting, begun_on, class_of, execute_frames, is_fit}
-use Rattle.kilim_thread_model.specs.Lone.{Lone, Next, Goes, Puts, Gets, Probes, Starts, Prints, Ends, Stands, next_move}
-use Rattle.kilim_thread_model.specs.Course.{Course, Done, Follows, IsLone, Moves, Quiet, Stays, done_by, lone_begun, lone_built, lone_in, next_action, next_or, next_within}
-use Rattle.kilim_thread_model.specs.declared.deed.Beginning.{Beginning}
-use Rattle.kilim_thread_model.specs.declared.deed.Beginning.TheVariants.{Boot, Begun}
-use Rattle.kilim_thread_model.specs.declared.deed.Deed.{Deed}
-use Rattle.kilim_typing.specs.typing_laws.fits.Fits.{Classes, Fits, HeapFits, Typing, Wanted}
+use Rattle.kilim_program.specs.declared.ty.Base.{Base}
+use Rattle.kilim_program.specs.declared.ty.Base.TheVariants as base
+use Rattle.kilim_program.specs.declared.ty.Ty.{Ty}
+use Rattle.kilim_program.specs.BuiltIn.{class_type}
+use Rattle.kilim_program.specs.Names.{◌>>=◌, class_at, is_task}
+use Rattle.kilim_program.specs.Program.{Program}
+use Rattle.kilim_run_state.specs.declared.value.Object.{Object}
+use Rattle.kilim_run_state.specs.declared.value.Token.{Token}
+use Rattle.kilim_run_state.specs.Machine.{Objects, Activation}
+use Rattle.kilim_program.specs.Members.{constructor_of, execute_of, is_concrete}
+use Rattle.kilim_run_state.specs.Objects.{new_object}
+use Rattle.kilim_run_state.specs.Trees.{OfTask, built, is_root, is_whole_class, with_objects}
+use Rattle.kilim_run_model.specs.State.{Setting, begun_on, class_of, execute_frames, is_fit}
+use Rattle.kilim_run_model.specs.Lone.{Lone, Next, Goes, Puts, Gets, Probes, Starts, Prints, Ends, Stands, next_move}
+use Rattle.kilim_run_model.specs.Course.{Course, Done, Follows, IsLone, Moves, Quiet, Stays, done_by, lone_begun, lone_built, lone_in, next_action, next_or, next_within}
+use Rattle.kilim_run_model.specs.declared.deed.Beginning.{Beginning}
+use Rattle.kilim_run_model.specs.declared.deed.Beginning.TheVariants.{Boot, Begun}
+use Rattle.kilim_run_model.specs.declared.deed.Deed.{Deed}
+use Rattle.kilim_type_sound.specs.Fits.{Classes, Fits, HeapFits, Typing, Wanted}
 use Rattle.kilim_isolation_laws.specs.typed_threads.fine.Typed.{IsVerified}
 use Rattle.kilim_isolation_laws.specs.typed_threads.Typed.{Further, IsTyped, StacksAreThere}
 use Rattle.kilim_isolation_laws.specs.typed_threads.Law.{BeginningsAreTyped, ThreadsAreTyped}

@@ -1,16 +1,16 @@
 -- Runs of a program to which class files link, and which verification and the isolation rules accept.
 use Rattle.std.specs.Prelude.{◌≡◌, List, true}
-use Rattle.kilim_classes.specs.declared.class.Form.TheVariants.{Plain}
-use Rattle.kilim_classes.specs.declared.names.ClassId.{ClassId}
-use Rattle.kilim_classes.specs.Keeps.{Keeps}
-use Rattle.kilim_classes.specs.Program.{Program}
-use Rattle.kilim_classfile.specs.declared.class_file.ClassFile.{ClassFile}
-use Rattle.kilim_classes.specs.declared.machine.run.Limits.{Limits}
-use Rattle.kilim_classes.specs.machine.Members.{is_fit_main}
-use Rattle.kilim_thread_model.specs.State.{Setting}
-use Rattle.kilim_thread_model.specs.Reach.{Liveness, PlaysIsolated}
-use Rattle.kilim_typing.specs.Typed.{IsWellTyped, listed_frames}
-use Rattle.kilim_isolation_check.specs.Faults.{IsAccepted}
+use Rattle.kilim_program.specs.declared.class.Form.TheVariants.{Plain}
+use Rattle.kilim_program.specs.declared.names.ClassId.{ClassId}
+use Rattle.kilim_program.specs.Keeps.{Keeps}
+use Rattle.kilim_program.specs.Program.{Program}
+use Rattle.kilim_class_file.specs.declared.class_file.ClassFile.{ClassFile}
+use Rattle.kilim_run_state.specs.declared.run.Limits.{Limits}
+use Rattle.kilim_program.specs.Members.{is_fit_main}
+use Rattle.kilim_run_model.specs.State.{Setting}
+use Rattle.kilim_run_model.specs.Reach.{Liveness, PlaysIsolated}
+use Rattle.kilim_type_spec.specs.Typed.{IsWellTyped, listed_frames}
+use Rattle.kilim_isolation.specs.Faults.{IsAccepted}
 use Rattle.kilim_link_spec.specs.LinksWell.{LinksWell}
 use Rattle.kilim_isolation_laws.specs.reached_objects.Laws.{AreLive}
 use Rattle.kilim_isolation_laws.specs.Laws.{IsRunOfAccepted}

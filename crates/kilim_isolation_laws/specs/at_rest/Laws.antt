@@ -1,10 +1,10 @@
 -- Rest is one thing.
 use Rattle.std.specs.Prelude.{◌≡◌, ℕ, List, Option, Some}
-use Rattle.kilim_classes.specs.declared.names.BoxName.{BoxName}
-use Rattle.kilim_journal.specs.declared.entry.Entry.{Entry}
-use Rattle.kilim_thread_model.specs.State.{Setting, State}
-use Rattle.kilim_thread_model.specs.Lone.{Lone, next_move, get_at}
-use Rattle.kilim_thread_model.specs.Runs.{AtRest}
+use Rattle.kilim_program.specs.declared.names.BoxName.{BoxName}
+use Rattle.kilim_run_journal.specs.declared.entry.Entry.{Entry}
+use Rattle.kilim_run_model.specs.State.{Setting, State}
+use Rattle.kilim_run_model.specs.Lone.{Lone, next_move, get_at}
+use Rattle.kilim_run_model.specs.Runs.{AtRest}
 
 -- A thread that stands at the `get` of a mailbox stands there on every heap.
 abbrev pub GetStays : Type 0

@@ -2,12 +2,12 @@
 use Rattle.std.specs.Prelude.{◌≡◌, ℕ, Bool, true, false, ◌⊎◌, Option, Some, None, List, [], ◌∷◌, All}
 use Rattle.kilim_isolation_laws.specs.forest.Heap.{Heap, Below, IsUnder}
 -- the words of graphs, under one roof
-pub use Rattle.kilim_shape_graph.specs.declared.node.Standing.{Standing}
-pub use Rattle.kilim_shape_graph.specs.declared.node.Standing.TheVariants.{Root, Inner, Safe, Gone}
-pub use Rattle.kilim_shape_graph.specs.declared.node.Label.{Label}
-pub use Rattle.kilim_shape_graph.specs.declared.node.Label.TheVariants.{Field, Element}
-pub use Rattle.kilim_shape_graph.specs.declared.node.Node.{Node}
-pub use Rattle.kilim_shape_graph.specs.Nodes.{is_gone, is_safe}
+pub use Rattle.kilim_isolation_graph.specs.declared.node.Standing.{Standing}
+pub use Rattle.kilim_isolation_graph.specs.declared.node.Standing.TheVariants.{Root, Inner, Safe, Gone}
+pub use Rattle.kilim_isolation_graph.specs.declared.node.Label.{Label}
+pub use Rattle.kilim_isolation_graph.specs.declared.node.Label.TheVariants.{Field, Element}
+pub use Rattle.kilim_isolation_graph.specs.declared.node.Node.{Node}
+pub use Rattle.kilim_isolation_graph.specs.Nodes.{is_gone, is_safe}
 
 -- a graph, and for each node the object that it stands for, or none where it stands for null
 pub record Named : Type 0 where

@@ -2,9 +2,9 @@
 use Rattle.std.specs.Prelude.{◌≡◌, ℕ, zero, suc, Bool, true, false, not, ◌||◌, if◌then◌else◌, Option, Some, None, List, [], ◌∷◌, eqb, ◌<◌}
 use Rattle.kilim_isolation_laws.specs.forest.Heap.{Heap}
 use Rattle.kilim_isolation_laws.specs.forest.Relation.{Standing, Root, Inner, Safe, Gone, is_gone, is_safe, Label, Node, Named, Names, Owns}
-pub use Rattle.kilim_classes.specs.declared.ty.Qualifier.{Qualifier as Access}
-use Rattle.kilim_classes.specs.declared.ty.Qualifier.TheVariants as qualifier
-pub use Rattle.kilim_shape_graph.specs.Entry.{entry_node}
+pub use Rattle.kilim_program.specs.declared.ty.Qualifier.{Qualifier as Access}
+use Rattle.kilim_program.specs.declared.ty.Qualifier.TheVariants as qualifier
+pub use Rattle.kilim_isolation_graph.specs.Entry.{entry_node}
 pub use Rattle.kilim_isolation_rules.specs.Steps.{rises, climbs, is_part, is_that, is_left, no_parent, cut_node, join_node, gone_node, Argument, Free, Cuttable}
 pub use Rattle.kilim_isolation_rules.specs.Calls.{is_owned, more_arguments}
 

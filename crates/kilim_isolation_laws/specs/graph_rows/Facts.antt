@@ -1,48 +1,49 @@
 -- Facts of a program that the rows rest on, and the laws of the rows that are proved.
 use Rattle.std.specs.Prelude.{◌≡◌, ◌⊎◌, ◌<◌, ℕ, true, false, List, [], ◌∷◌, Option, Some, None, Ok, codes, length, slice_get}
 use Rattle.std.specs.FinMap.{get}
-use Rattle.kilim_classes.specs.declared.class.Method.{Method}
-use Rattle.kilim_classes.specs.declared.instr.Instr.{Instr}
-use Rattle.kilim_classes.specs.declared.names.ClassId.{ClassId}
-use Rattle.kilim_classes.specs.declared.names.FieldId.{FieldId}
-use Rattle.kilim_classes.specs.declared.names.MethodId.{MethodId}
-use Rattle.kilim_classes.specs.declared.ty.Ty.{Ty}
-use Rattle.kilim_classes.specs.declared.machine.value.Object.{Object as HeapObject}
-use Rattle.kilim_classes.specs.declared.value.Value.{Value}
-use Rattle.kilim_classes.specs.declared.value.Value.TheVariants.{Ref}
-use Rattle.kilim_classes.specs.declared.verified.VType.{VType}
-use Rattle.kilim_classes.specs.Program.{Program}
-use Rattle.kilim_classes.specs.BuiltIn.{class_type, plain_type}
-use Rattle.kilim_classes.specs.Kinds.{class_kind, kind_of}
-use Rattle.kilim_classes.specs.declared.ty.Base.TheVariants as base
-use Rattle.kilim_classes.specs.declared.ty.Kind.TheVariants as kind
-use Rattle.kilim_classes.specs.declared.ty.Qualifier.TheVariants as qualifier
-use Rattle.kilim_classes.specs.declared.value.Value.TheVariants as value
-use Rattle.kilim_classes.specs.declared.verified.VType.TheVariants.{Int, Null, Object}
-use Rattle.kilim_classes.specs.machine.Effect.{is_wide, named_type}
-use Rattle.kilim_classes.specs.machine.Natives.{is_handed_out, is_text_method}
-use Rattle.kilim_classes.specs.machine.Machine.{Objects}
-use Rattle.kilim_classes.specs.Names.{class_at, class_name, class_named, field_of, method_at}
-use Rattle.kilim_classes.specs.Keeps.{constant_fits}
-use Rattle.kilim_classes.specs.declared.class.Field.{Field}
-use Rattle.kilim_classes.specs.declared.instr.Instr.TheVariants.{Anewarray, Newarray}
+use Rattle.kilim_program.specs.declared.class.Method.{Method}
+use Rattle.kilim_program.specs.declared.instr.Instr.{Instr}
+use Rattle.kilim_program.specs.declared.names.ClassId.{ClassId}
+use Rattle.kilim_program.specs.declared.names.FieldId.{FieldId}
+use Rattle.kilim_program.specs.declared.names.MethodId.{MethodId}
+use Rattle.kilim_program.specs.declared.ty.Ty.{Ty}
+use Rattle.kilim_run_state.specs.declared.value.Object.{Object as HeapObject}
+use Rattle.kilim_program.specs.declared.value.Value.{Value}
+use Rattle.kilim_program.specs.declared.value.Value.TheVariants.{Ref}
+use Rattle.kilim_program.specs.declared.verified.VType.{VType}
+use Rattle.kilim_program.specs.Program.{Program}
+use Rattle.kilim_program.specs.BuiltIn.{class_type, plain_type}
+use Rattle.kilim_program.specs.Kinds.{class_kind, kind_of}
+use Rattle.kilim_program.specs.declared.ty.Base.TheVariants as base
+use Rattle.kilim_program.specs.declared.ty.Kind.TheVariants as kind
+use Rattle.kilim_program.specs.declared.ty.Qualifier.TheVariants as qualifier
+use Rattle.kilim_program.specs.declared.value.Value.TheVariants as value
+use Rattle.kilim_program.specs.declared.verified.VType.TheVariants.{Int, Null, Object}
+use Rattle.kilim_run_machine.specs.Effect.{is_wide}
+use Rattle.kilim_program.specs.Members.{named_type}
+use Rattle.kilim_run_machine.specs.Natives.{is_handed_out, is_text_method}
+use Rattle.kilim_run_state.specs.Machine.{Objects}
+use Rattle.kilim_program.specs.Names.{class_at, class_name, class_named, field_of, method_at}
+use Rattle.kilim_program.specs.Keeps.{constant_fits}
+use Rattle.kilim_program.specs.declared.class.Field.{Field}
+use Rattle.kilim_program.specs.declared.instr.Instr.TheVariants.{Anewarray, Newarray}
 use Rattle.std.specs.Str.{bytes_eq}
-use Rattle.kilim_classes.specs.Lengths.{fetched, is_primitive, is_reference}
-use Rattle.kilim_classes.specs.machine.Does.{does, chosen, special}
-use Rattle.kilim_classes.specs.machine.Shapes.{field_in}
-use Rattle.kilim_classes.specs.machine.Objects.{new_object}
-use Rattle.kilim_typing.specs.Step.{Types, is_long, may_name, peek, special_fits, superclass_at, type_step, vtype}
-use Rattle.kilim_typing.specs.Typed.{edges}
+use Rattle.kilim_program.specs.Lengths.{fetched, is_primitive, is_reference}
+use Rattle.kilim_run_machine.specs.Does.{does, chosen, special}
+use Rattle.kilim_run_state.specs.Shapes.{field_in}
+use Rattle.kilim_run_state.specs.Objects.{new_object}
+use Rattle.kilim_type_spec.specs.Step.{Types, is_long, may_name, peek, special_fits, superclass_at, type_step, vtype}
+use Rattle.kilim_type_spec.specs.Typed.{edges}
 use Rattle.kilim_isolation_laws.specs.forest.Heap.{Below, IsForest}
 use Rattle.kilim_isolation_laws.specs.forest.Relation.{Label, Names, Root}
 use Rattle.kilim_isolation_laws.specs.forest.Steps.{gone_node}
 use Rattle.kilim_isolation_laws.specs.forest.Canonical.{node_at}
-use Rattle.kilim_shape_graph.specs.declared.graph.Graph.{Graph}
-use Rattle.kilim_classes.specs.Same.{is_constructor}
-use Rattle.kilim_classes.specs.Fits.{fits_type}
+use Rattle.kilim_isolation_graph.specs.declared.graph.Graph.{Graph}
+use Rattle.kilim_program.specs.Same.{is_constructor}
+use Rattle.kilim_program.specs.Fits.{fits_type}
 use Rattle.kilim_isolation_rules.specs.Rules.{moves}
-use Rattle.kilim_shape_graph.specs.Entry.{quality}
-use Rattle.kilim_shape_graph.specs.Graphs.{changed, node_of, added}
+use Rattle.kilim_isolation_graph.specs.Entry.{quality}
+use Rattle.kilim_isolation_graph.specs.Graphs.{changed, node_of, added}
 use Rattle.kilim_isolation_rules.specs.Marks.{root_node}
 use Rattle.kilim_isolation_laws.specs.graph_rows.Holds.{Holds, Waiting, Stands, KindsFlow, MayHold, Stuff, Tree, IsOf, ObjectFits, AreSlots, named_by, sort, object_sort, field_sort, type_sort, trees}
 use Rattle.kilim_isolation_laws.specs.graph_rows.Outcome.{Left, EffectHolds}

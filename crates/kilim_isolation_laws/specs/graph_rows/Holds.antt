@@ -1,38 +1,38 @@
 -- How the slots of a frame, its graph and the heap go together.
 use Rattle.std.specs.Prelude.{◌≡◌, ◌⊎◌, ℕ, zero, suc, ◌<◌, Bool, true, false, List, [], ◌∷◌, Option, Some, None, length, map, slice_get}
 use Rattle.std.specs.FinMap.{get}
-use Rattle.kilim_classes.specs.declared.ty.Base.TheVariants as base
-use Rattle.kilim_classes.specs.declared.ty.Kind.TheVariants as kind
-use Rattle.kilim_classes.specs.declared.verified.VType.TheVariants as vtype
-use Rattle.kilim_typing.specs.Step as type
-use Rattle.kilim_classes.specs.declared.class.Field.{Field}
-use Rattle.kilim_classes.specs.declared.class.Method.{Method}
-use Rattle.kilim_classes.specs.declared.names.ClassId.{ClassId}
-use Rattle.kilim_classes.specs.declared.names.FieldId.{FieldId}
-use Rattle.kilim_classes.specs.declared.ty.Base.{Base}
-use Rattle.kilim_classes.specs.declared.ty.Kind.{Kind}
-use Rattle.kilim_classes.specs.declared.ty.Ty.{Ty}
-use Rattle.kilim_classes.specs.declared.machine.value.Object.{Object}
-use Rattle.kilim_classes.specs.declared.value.Value.{Value}
-use Rattle.kilim_classes.specs.declared.value.Value.TheVariants.{Int, Long, Null, Ref, Text, Box, Fiber}
-use Rattle.kilim_classes.specs.declared.verified.VType.{VType}
-use Rattle.kilim_classes.specs.Program.{Program}
-use Rattle.kilim_classes.specs.BuiltIn.{class_type}
-use Rattle.kilim_classes.specs.machine.Machine.{Objects}
-use Rattle.kilim_classes.specs.Names.{field_of}
-use Rattle.kilim_classes.specs.Kinds.{base_kind, kind_of}
-use Rattle.kilim_classes.specs.machine.Effect.{is_wide}
-use Rattle.kilim_classes.specs.machine.Shapes.{field_in}
-use Rattle.kilim_classes.specs.machine.Does.{element_type}
-use Rattle.kilim_typing.specs.Step.{Types, peek, assignable, made_at}
+use Rattle.kilim_program.specs.declared.ty.Base.TheVariants as base
+use Rattle.kilim_program.specs.declared.ty.Kind.TheVariants as kind
+use Rattle.kilim_program.specs.declared.verified.VType.TheVariants as vtype
+use Rattle.kilim_type_spec.specs.Step as type
+use Rattle.kilim_program.specs.declared.class.Field.{Field}
+use Rattle.kilim_program.specs.declared.class.Method.{Method}
+use Rattle.kilim_program.specs.declared.names.ClassId.{ClassId}
+use Rattle.kilim_program.specs.declared.names.FieldId.{FieldId}
+use Rattle.kilim_program.specs.declared.ty.Base.{Base}
+use Rattle.kilim_program.specs.declared.ty.Kind.{Kind}
+use Rattle.kilim_program.specs.declared.ty.Ty.{Ty}
+use Rattle.kilim_run_state.specs.declared.value.Object.{Object}
+use Rattle.kilim_program.specs.declared.value.Value.{Value}
+use Rattle.kilim_program.specs.declared.value.Value.TheVariants.{Int, Long, Null, Ref, Text, Box, Fiber}
+use Rattle.kilim_program.specs.declared.verified.VType.{VType}
+use Rattle.kilim_program.specs.Program.{Program}
+use Rattle.kilim_program.specs.BuiltIn.{class_type}
+use Rattle.kilim_run_state.specs.Machine.{Objects}
+use Rattle.kilim_program.specs.Names.{field_of}
+use Rattle.kilim_program.specs.Kinds.{base_kind, kind_of}
+use Rattle.kilim_run_machine.specs.Effect.{is_wide}
+use Rattle.kilim_run_state.specs.Shapes.{field_in}
+use Rattle.kilim_run_machine.specs.Does.{element_type}
+use Rattle.kilim_type_spec.specs.Step.{Types, peek, assignable, made_at}
 use Rattle.kilim_isolation_laws.specs.forest.Heap.{Heap, IsForest}
 use Rattle.kilim_isolation_laws.specs.forest.Relation.{is_gone, Label, Named, Frames}
 use Rattle.kilim_isolation_laws.specs.forest.Steps.{IsTidy}
 use Rattle.kilim_isolation_laws.specs.forest.Steps.{IsNearly_tidy}
 use Rattle.kilim_isolation_laws.specs.forest.Canonical.{node_at}
 pub use Rattle.kilim_isolation_laws.specs.forest.Laws.{IsPlace}
-use Rattle.kilim_shape_graph.specs.declared.graph.Graph.{Graph}
-use Rattle.kilim_shape_graph.specs.Graphs.{slot}
+use Rattle.kilim_isolation_graph.specs.declared.graph.Graph.{Graph}
+use Rattle.kilim_isolation_graph.specs.Graphs.{slot}
 use Rattle.kilim_isolation_rules.specs.Marks.{mixes, stack_lives}
 
 -- ---- sorts: what a slot of a verified type may hold

@@ -2,27 +2,27 @@
 use Rattle.std.specs.Prelude.{◌≡◌, ℕ, false, List, [], ◌∷◌, ◌++◌, Option, Some, None, drop, length, map}
 use Rattle.std.specs.FinMap.{get, insert}
 use Rattle.std.specs.List.{list_any}
-use Rattle.kilim_classes.specs.declared.ty.Kind.TheVariants as kind
-use Rattle.kilim_classes.specs.declared.class.Method.{Method}
-use Rattle.kilim_classes.specs.declared.names.BoxName.{BoxName}
-use Rattle.kilim_classes.specs.declared.names.MethodId.{MethodId}
-use Rattle.kilim_classes.specs.declared.ty.Ty.{Ty}
-use Rattle.kilim_classes.specs.declared.value.Value.{Value}
-use Rattle.kilim_classes.specs.declared.value.Value.TheVariants.{Ref, Box}
-use Rattle.kilim_classes.specs.Program.{Program}
-use Rattle.kilim_classes.specs.machine.Machine.{Objects}
-use Rattle.kilim_classes.specs.Names.{method_at}
-use Rattle.kilim_classes.specs.machine.Effect.{Effect, Goes, Makes, Opens, Calls, Asks, Returns, Raises, Ends, Stuck}
-use Rattle.kilim_typing.specs.Step.{Types, result_types}
-use Rattle.kilim_typing.specs.Typed.{entry, Among}
+use Rattle.kilim_program.specs.declared.ty.Kind.TheVariants as kind
+use Rattle.kilim_program.specs.declared.class.Method.{Method}
+use Rattle.kilim_program.specs.declared.names.BoxName.{BoxName}
+use Rattle.kilim_program.specs.declared.names.MethodId.{MethodId}
+use Rattle.kilim_program.specs.declared.ty.Ty.{Ty}
+use Rattle.kilim_program.specs.declared.value.Value.{Value}
+use Rattle.kilim_program.specs.declared.value.Value.TheVariants.{Ref, Box}
+use Rattle.kilim_program.specs.Program.{Program}
+use Rattle.kilim_run_state.specs.Machine.{Objects}
+use Rattle.kilim_program.specs.Names.{method_at}
+use Rattle.kilim_run_machine.specs.Effect.{Effect, Goes, Makes, Opens, Calls, Asks, Returns, Raises, Ends, Stuck}
+use Rattle.kilim_type_spec.specs.Step.{Types, result_types}
+use Rattle.kilim_type_spec.specs.Typed.{entry, Among}
 use Rattle.kilim_isolation_laws.specs.forest.Relation.{Frames, Named, Names, Node, Root, is_gone}
-use Rattle.kilim_classes.specs.Kinds.{kind_of}
-use Rattle.kilim_shape_graph.specs.declared.graph.Graph.{Graph}
+use Rattle.kilim_program.specs.Kinds.{kind_of}
+use Rattle.kilim_isolation_graph.specs.declared.graph.Graph.{Graph}
 use Rattle.kilim_isolation_rules.specs.Calls.{after_call, given_result, is_not_free, quality_in}
 use Rattle.kilim_isolation_rules.specs.declared.deed.Passed.{Passed}
-use Rattle.kilim_shape_graph.specs.declared.entry.Parameter.{Parameter}
-use Rattle.kilim_shape_graph.specs.Graphs.{node_of, popped}
-use Rattle.kilim_shape_graph.specs.Entry.{entry_nodes, parameters_of, quality}
+use Rattle.kilim_isolation_graph.specs.declared.entry.Parameter.{Parameter}
+use Rattle.kilim_isolation_graph.specs.Graphs.{node_of, popped}
+use Rattle.kilim_isolation_graph.specs.Entry.{entry_nodes, parameters_of, quality}
 use Rattle.kilim_isolation_laws.specs.graph_rows.Holds.{AreSlots, Holds, IsPlace, Stands, WaitFits, Waiting, trees, waiting_named, named_by, SlotFits, type_sort, refers, Fits}
 
 -- the frame holds, whatever its nodes stand for
@@ -40,7 +40,7 @@ pub record CallHolds (p : Program) (m : Method) (f : Types) (g : Graph) (h : Obj
   pub types : f ≡ record caller.types { stack = result_types callee.result ++ caller.types.stack }
   pub graph : g ≡ given_result p callee.result caller.graph
   pub at : ℕ → Option ℕ
-  pub entered : Holds p callee (entry callee) (entry_nodes p callee) at h (Rattle.kilim_classes.specs.machine.Moves.entered p id args).locals [] (caller ∷ below)
+  pub entered : Holds p callee (entry callee) (entry_nodes p callee) at h (Rattle.kilim_run_machine.specs.Moves.entered p id args).locals [] (caller ∷ below)
 
 -- a value that is returned: a tree is the root of a whole one, or null
 abbrev pub ReturnHolds : Program → Method → Graph → (ℕ → Option ℕ) → Objects → Option Ty → Option Value → Type 0

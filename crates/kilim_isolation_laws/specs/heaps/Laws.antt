@@ -1,11 +1,11 @@
 -- A tree that comes into a heap.
 use Rattle.std.specs.Prelude.{◌≡◌, ◌≤◌, ℕ, List, Some, None}
 use Rattle.std.specs.FinMap.{get}
-use Rattle.kilim_classes.specs.Program.{Program}
-use Rattle.kilim_classes.specs.declared.machine.value.Object.{Object}
-use Rattle.kilim_classes.specs.declared.machine.value.Token.{Token}
-use Rattle.kilim_classes.specs.machine.Machine.{Objects}
-use Rattle.kilim_classes.specs.machine.Trees.{Root, built, with_objects}
+use Rattle.kilim_program.specs.Program.{Program}
+use Rattle.kilim_run_state.specs.declared.value.Object.{Object}
+use Rattle.kilim_run_state.specs.declared.value.Token.{Token}
+use Rattle.kilim_run_state.specs.Machine.{Objects}
+use Rattle.kilim_run_state.specs.Trees.{Root, built, with_objects}
 use Rattle.kilim_isolation_laws.specs.forest.Heap.{IsForest}
 use Rattle.kilim_isolation_laws.specs.graph_rows.Facts.{IsTaken, ProgramKeeps}
 use Rattle.kilim_isolation_laws.specs.graph_rows.Holds.{Trees, trees}

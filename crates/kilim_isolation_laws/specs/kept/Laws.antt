@@ -1,7 +1,7 @@
 -- What every thread of an accepted program keeps.
-use Rattle.kilim_thread_model.specs.Kept.{Kept}
-use Rattle.kilim_thread_model.specs.Reach.{Liveness}
-use Rattle.kilim_thread_model.specs.State.{Setting}
+use Rattle.kilim_run_model.specs.Kept.{Kept}
+use Rattle.kilim_run_model.specs.Reach.{Liveness}
+use Rattle.kilim_run_model.specs.State.{Setting}
 use Rattle.kilim_isolation_laws.specs.reached_objects.Laws.{AreLive}
 use Rattle.kilim_isolation_laws.specs.Laws.{IsRunOfAccepted}
 

@@ -1,14 +1,14 @@
 -- The names of a tree that leaves a heap.
 use Rattle.std.specs.Prelude.{◌≡◌, ℕ, List, Some}
-use Rattle.kilim_classes.specs.Keeps.{Keeps}
-use Rattle.kilim_classes.specs.Program.{Program}
-use Rattle.kilim_classes.specs.declared.machine.value.Token.{Token}
-use Rattle.kilim_classes.specs.machine.Machine.{Objects}
-use Rattle.kilim_classes.specs.machine.Shapes.{shape_of}
-use Rattle.kilim_classes.specs.machine.Trees.{tree_names, without}
-use Rattle.kilim_thread_model.specs.Kept.{IsOnce}
+use Rattle.kilim_program.specs.Keeps.{Keeps}
+use Rattle.kilim_program.specs.Program.{Program}
+use Rattle.kilim_run_state.specs.declared.value.Token.{Token}
+use Rattle.kilim_run_state.specs.Machine.{Objects}
+use Rattle.kilim_run_state.specs.Shapes.{shape_of}
+use Rattle.kilim_run_state.specs.Trees.{tree_names, without}
+use Rattle.kilim_run_model.specs.Kept.{IsOnce}
 use Rattle.kilim_isolation_laws.specs.forest.Heap.{IsForest}
-use Rattle.kilim_typing.specs.typing_laws.fits.Fits.{Classes, HeapFits}
+use Rattle.kilim_type_sound.specs.Fits.{Classes, HeapFits}
 use Rattle.kilim_isolation_laws.specs.graph_rows.Facts.{IsGivenAway}
 use Rattle.kilim_isolation_laws.specs.graph_rows.Holds.{IsOf, Tree, Trees, trees}
 

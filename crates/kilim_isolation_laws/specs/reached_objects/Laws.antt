@@ -1,20 +1,20 @@
 -- What a thread of accepted code reaches is in its heap.
 use Rattle.std.specs.Prelude.{◌≡◌, ◌⊎◌, ℕ, true, List, ◌∷◌, Option, Some}
 use Rattle.std.specs.FinMap.{get}
-use Rattle.kilim_classes.specs.declared.class.Method.{Method}
-use Rattle.kilim_classes.specs.declared.names.MethodId.{MethodId}
-use Rattle.kilim_classes.specs.Keeps.{Keeps}
-use Rattle.kilim_classes.specs.Names.{method_at}
-use Rattle.kilim_classes.specs.Program.{Program}
-use Rattle.kilim_classes.specs.declared.machine.value.Object.{Object}
-use Rattle.kilim_classes.specs.machine.Machine.{Activation, Objects}
-use Rattle.kilim_thread_model.specs.Reach.{Below, FramesName, Liveness, MaybeNames}
-use Rattle.kilim_typing.specs.Typed.{IsWellTyped, Live, listed_frames}
-use Rattle.kilim_typing.specs.typing_laws.Laws.{typing_at}
-use Rattle.kilim_typing.specs.TypedProgram.{TypedProgram}
-use Rattle.kilim_pausable_graph.specs.Pausing.{frames_at}
-use Rattle.kilim_isolation_check.specs.Faults.{IsAccepted}
-use Rattle.kilim_typing.specs.typing_laws.fits.Fits.{AreThere, Classes, Fits, Verified, Wanted}
+use Rattle.kilim_program.specs.declared.class.Method.{Method}
+use Rattle.kilim_program.specs.declared.names.MethodId.{MethodId}
+use Rattle.kilim_program.specs.Keeps.{Keeps}
+use Rattle.kilim_program.specs.Names.{method_at}
+use Rattle.kilim_program.specs.Program.{Program}
+use Rattle.kilim_run_state.specs.declared.value.Object.{Object}
+use Rattle.kilim_run_state.specs.Machine.{Activation, Objects}
+use Rattle.kilim_run_model.specs.Reach.{Below, FramesName, Liveness, MaybeNames}
+use Rattle.kilim_type_spec.specs.Typed.{IsWellTyped, Live, listed_frames}
+use Rattle.kilim_type_laws.specs.Laws.{typing_at}
+use Rattle.kilim_type_spec.specs.TypedProgram.{TypedProgram}
+use Rattle.kilim_isolation_pauses.specs.Pausing.{frames_at}
+use Rattle.kilim_isolation.specs.Faults.{IsAccepted}
+use Rattle.kilim_type_sound.specs.Fits.{AreThere, Classes, Fits, Verified, Wanted}
 use Rattle.kilim_isolation_laws.specs.reached_objects.graphs.Threads.{FramesFit}
 
 -- the program with the frames that verification lists

@@ -1,14 +1,14 @@
 -- What a thread whose frames stand gives away is a tree, and its objects are as their classes declare.
 use Rattle.std.specs.Prelude.{◌≡◌, ℕ, List, ◌∷◌, Some}
 use Rattle.std.specs.FinMap.{get}
-use Rattle.kilim_classes.specs.declared.machine.value.Object.{Object}
-use Rattle.kilim_classes.specs.machine.Machine.{Activation}
-use Rattle.kilim_classes.specs.machine.Moves.{moves}
-use Rattle.kilim_thread_model.specs.State.{Setting, Alive}
-use Rattle.kilim_thread_model.specs.Lone.{Lone}
-use Rattle.kilim_thread_model.specs.Kept.{GivesTree, IsFormed}
-use Rattle.kilim_typing.specs.typing_laws.Laws.{typing_at}
-use Rattle.kilim_typing.specs.typing_laws.fits.Fits.{Classes, Wanted}
+use Rattle.kilim_run_state.specs.declared.value.Object.{Object}
+use Rattle.kilim_run_state.specs.Machine.{Activation}
+use Rattle.kilim_run_machine.specs.Moves.{moves}
+use Rattle.kilim_run_model.specs.State.{Setting, Alive}
+use Rattle.kilim_run_model.specs.Lone.{Lone}
+use Rattle.kilim_run_model.specs.Kept.{GivesTree, IsFormed}
+use Rattle.kilim_type_laws.specs.Laws.{typing_at}
+use Rattle.kilim_type_sound.specs.Fits.{Classes, Wanted}
 use Rattle.kilim_isolation_laws.specs.typed_threads.fine.Typed.{FitsAs, IsVerified, StackIsThere}
 use Rattle.kilim_isolation_laws.specs.reached_objects.graphs.Threads.{FramesFit, Listed, MoveFits}
 use Rattle.kilim_isolation_laws.specs.tree_types.Laws.{AreNamedPlainly}

@@ -1,20 +1,20 @@
 -- What is known of objects and trees in a heap that fits.
 use Rattle.std.specs.Prelude.{◌≡◌, ℕ, true, List, Some}
 use Rattle.std.specs.FinMap.{get}
-use Rattle.kilim_classes.specs.declared.class.Class.{Class}
-use Rattle.kilim_classes.specs.declared.names.ClassId.{ClassId}
-use Rattle.kilim_classes.specs.declared.ty.Ty.{Ty}
-use Rattle.kilim_classes.specs.Keeps.{Keeps}
-use Rattle.kilim_classes.specs.Names.{class_at}
-use Rattle.kilim_classes.specs.Program.{Program}
-use Rattle.kilim_classes.specs.declared.machine.value.Object.{Object}
-use Rattle.kilim_classes.specs.declared.machine.value.Token.{Token}
-use Rattle.kilim_classes.specs.machine.Machine.{Objects}
-use Rattle.kilim_classes.specs.machine.Shapes.{shape_of}
-use Rattle.kilim_classes.specs.machine.Trees.{Root, is_allowed, is_root}
-use Rattle.kilim_thread_model.specs.Kept.{IsFormed}
-use Rattle.kilim_typing.specs.typing_laws.fits.Fits.{Classes, HeapFits}
-use Rattle.kilim_thread_model.specs.kin.trees.Laws.{IsPlain}
+use Rattle.kilim_program.specs.declared.class.Class.{Class}
+use Rattle.kilim_program.specs.declared.names.ClassId.{ClassId}
+use Rattle.kilim_program.specs.declared.ty.Ty.{Ty}
+use Rattle.kilim_program.specs.Keeps.{Keeps}
+use Rattle.kilim_program.specs.Names.{class_at}
+use Rattle.kilim_program.specs.Program.{Program}
+use Rattle.kilim_run_state.specs.declared.value.Object.{Object}
+use Rattle.kilim_run_state.specs.declared.value.Token.{Token}
+use Rattle.kilim_run_state.specs.Machine.{Objects}
+use Rattle.kilim_run_state.specs.Shapes.{shape_of}
+use Rattle.kilim_run_state.specs.Trees.{Root, is_allowed, is_root}
+use Rattle.kilim_run_model.specs.Kept.{IsFormed}
+use Rattle.kilim_type_sound.specs.Fits.{Classes, HeapFits}
+use Rattle.kilim_run_model.specs.kin.trees.Laws.{IsPlain}
 
 -- No class's name is empty, or begins as an array's descriptor does.
 abbrev pub AreNamedPlainly : Program → Type 0

@@ -1,12 +1,12 @@
 -- Threads of verified code go on fitting the frames of verification.
 use Rattle.std.specs.Prelude.{◌≡◌, ℕ, true, Some}
-use Rattle.kilim_typing.specs.typing_laws.fits.Fits.{Classes, Typing, Wanted}
-use Rattle.kilim_journal.specs.declared.entry.Act.{Act}
-use Rattle.kilim_thread_model.specs.State.{Setting, is_fit}
-use Rattle.kilim_thread_model.specs.Lone.{Lone, Goes, next_move}
-use Rattle.kilim_thread_model.specs.Course.{Course, IsLone, Quiet, done_by, lone_begun}
-use Rattle.kilim_thread_model.specs.declared.deed.Beginning.{Beginning}
-use Rattle.kilim_thread_model.specs.declared.deed.Deed.{Deed}
+use Rattle.kilim_type_sound.specs.Fits.{Classes, Typing, Wanted}
+use Rattle.kilim_run_journal.specs.declared.entry.Act.{Act}
+use Rattle.kilim_run_model.specs.State.{Setting, is_fit}
+use Rattle.kilim_run_model.specs.Lone.{Lone, Goes, next_move}
+use Rattle.kilim_run_model.specs.Course.{Course, IsLone, Quiet, done_by, lone_begun}
+use Rattle.kilim_run_model.specs.declared.deed.Beginning.{Beginning}
+use Rattle.kilim_run_model.specs.declared.deed.Deed.{Deed}
 use Rattle.kilim_isolation_laws.specs.typed_threads.fine.Typed.{FitsAs, IsVerified, StackIsThere}
 use Rattle.kilim_isolation_laws.specs.typed_threads.Typed.{Further, IsTyped, StacksAreThere}
 

@@ -1,9 +1,9 @@
 -- Words for threads that go on fitting.
-use Rattle.kilim_typing.specs.typing_laws.fits.Fits.{Classes, Typing, Wanted}
-use Rattle.kilim_typing.specs.typing_laws.fits.Law.{Extends}
-use Rattle.kilim_thread_model.specs.State.{Setting}
-use Rattle.kilim_thread_model.specs.Lone.{Lone}
-use Rattle.kilim_thread_model.specs.Course.{Course, IsLone, Quiet}
+use Rattle.kilim_type_sound.specs.Fits.{Classes, Typing, Wanted}
+use Rattle.kilim_type_sound.specs.Law.{Extends}
+use Rattle.kilim_run_model.specs.State.{Setting}
+use Rattle.kilim_run_model.specs.Lone.{Lone}
+use Rattle.kilim_run_model.specs.Course.{Course, IsLone, Quiet}
 use Rattle.std.specs.Prelude.{ℕ}
 use Rattle.kilim_isolation_laws.specs.typed_threads.fine.Typed.{FitsAs, StackIsThere}
 

@@ -3,16 +3,16 @@ use Rattle.std.proofs.Common.{◌≡◌, ℕ, ◌+◌, ◌<◌, ◌≤◌, Bool,
 use Rattle.std.specs.Prelude.{◌&&◌, nat_lt}
 use Rattle.std.specs.List.{list_all}
 use Rattle.std.proofs.lemmas.Bool.{and_from, and_parts, lt-ltb, ltb-true}
-use Rattle.kilim_classes.specs.declared.class.Form.{Form}
-use Rattle.kilim_classes.specs.declared.class.Form.TheVariants.{Plain, Woven}
-use Rattle.kilim_classes.specs.declared.instr.Instr.{Instr}
-use Rattle.kilim_classes.specs.declared.names.ClassId.{ClassId}
-use Rattle.kilim_classes.specs.declared.ty.Base.{Base}
-use Rattle.kilim_classes.specs.declared.ty.Base.TheVariants as base
-use Rattle.kilim_classes.specs.declared.ty.Ty.{Ty}
-use Rattle.kilim_classes.specs.BuiltIn.{built_in_class, built_in_classes_in, built_in_methods_in, class_id, methods_from}
-use Rattle.kilim_classes.specs.Keeps.{class_ids_there, has_base, has_class, has_method, has_superclass, has_type, types_of_method}
-use Rattle.kilim_classes.specs.Program.{Program}
+use Rattle.kilim_program.specs.declared.class.Form.{Form}
+use Rattle.kilim_program.specs.declared.class.Form.TheVariants.{Plain, Woven}
+use Rattle.kilim_program.specs.declared.instr.Instr.{Instr}
+use Rattle.kilim_program.specs.declared.names.ClassId.{ClassId}
+use Rattle.kilim_program.specs.declared.ty.Base.{Base}
+use Rattle.kilim_program.specs.declared.ty.Base.TheVariants as base
+use Rattle.kilim_program.specs.declared.ty.Ty.{Ty}
+use Rattle.kilim_program.specs.BuiltIn.{built_in_class, built_in_classes_in, built_in_methods_in, class_id, methods_from}
+use Rattle.kilim_program.specs.Keeps.{class_ids_there, has_base, has_class, has_method, has_superclass, has_type, types_of_method}
+use Rattle.kilim_program.specs.Program.{Program}
 use Rattle.kilim_link_laws.proofs.code_laws.Lists.{list_all_same}
 
 -- ---- by whether a class is there

@@ -1,19 +1,19 @@
 -- The code in a class file that has a text is bytes.
 use Rattle.std.proofs.Common.{List, [], ◌∷◌, ◌++◌, Option, Some, None}
 use Rattle.std.specs.List.{filter_map, cons_option, AllByRecursion}
-use Rattle.kilim_attributes.specs.declared.attribute.Attribute.{Attribute}
-use Rattle.kilim_attributes.specs.declared.attribute.Code.{Code}
-use Rattle.kilim_attributes.specs.declared.attribute.Info.{Info}
-use Rattle.kilim_attributes.specs.declared.attribute.Info.TheVariants as info
-use Rattle.kilim_attributes.specs.declared.attribute.Place.{Place}
-use Rattle.kilim_attributes.specs.declared.attribute.Place.TheVariants as place
-use Rattle.kilim_attributes.specs.Attributes.{AttributeFits, InfoFits}
-use Rattle.kilim_attributes.specs.Lists.{EachAfter}
-use Rattle.kilim_classfile.specs.declared.class_file.ClassFile.{ClassFile}
-use Rattle.kilim_classfile.specs.declared.class_file.MemberInfo.{MemberInfo}
-use Rattle.kilim_classfile.specs.Text.{ClassFits, MethodFits}
-use Rattle.kilim_constant_pool.specs.declared.entry.Entry.{Entry}
-use Rattle.kilim_grammar.specs.Format.{IsBytes}
+use Rattle.kilim_class_attributes.specs.declared.attribute.Attribute.{Attribute}
+use Rattle.kilim_class_attributes.specs.declared.attribute.Code.{Code}
+use Rattle.kilim_class_attributes.specs.declared.attribute.Info.{Info}
+use Rattle.kilim_class_attributes.specs.declared.attribute.Info.TheVariants as info
+use Rattle.kilim_class_attributes.specs.declared.attribute.Place.{Place}
+use Rattle.kilim_class_attributes.specs.declared.attribute.Place.TheVariants as place
+use Rattle.kilim_class_attributes.specs.Attributes.{AttributeFits, InfoFits}
+use Rattle.kilim_class_attributes.specs.Lists.{EachAfter}
+use Rattle.kilim_class_file.specs.declared.class_file.ClassFile.{ClassFile}
+use Rattle.kilim_class_file.specs.declared.class_file.MemberInfo.{MemberInfo}
+use Rattle.kilim_class_file.specs.Text.{ClassFits, MethodFits}
+use Rattle.kilim_class_pool.specs.declared.entry.Entry.{Entry}
+use Rattle.kilim_class_grammar.specs.Format.{IsBytes}
 use Rattle.kilim_link_spec.specs.Linked.{code_attribute, code_in, first_of}
 use Rattle.kilim_link_laws.proofs.code_laws.Lists.{all_map}
 

@@ -1,17 +1,17 @@
 -- The code of a method without a fault is code of the program.
 use Rattle.std.proofs.Common.{◌≡◌, ℕ, true, List, [], ◌∷◌, Option, Some, None, Result, Ok, Err, refl}
 use Rattle.std.specs.List.{flat_map, AllByRecursion}
-use Rattle.kilim_attributes.specs.declared.attribute.Code.{Code}
-use Rattle.kilim_bytecode.specs.declared.fault.CodeFault.{CodeFault}
-use Rattle.kilim_bytecode.specs.declared.fault.CodeFault.TheVariants as code
-use Rattle.kilim_bytecode.specs.Code.{Placed, targets_of, is_place}
-use Rattle.kilim_bytecode.specs.Exact.{TargetsArePlaces}
-use Rattle.kilim_classfile.specs.declared.class_file.ClassFile.{ClassFile}
-use Rattle.kilim_classfile.specs.declared.class_file.MemberInfo.{MemberInfo}
-use Rattle.kilim_constant_pool.specs.declared.entry.Entry.{Entry}
-use Rattle.kilim_bytecode.specs.declared.opcodes.fault.OpFault.TheVariants as op
-use Rattle.kilim_classes.specs.declared.instr.Instr.{Instr}
-use Rattle.kilim_classes.specs.declared.names.ClassId.{ClassId}
+use Rattle.kilim_class_attributes.specs.declared.attribute.Code.{Code}
+use Rattle.kilim_class_code.specs.declared.fault.CodeFault.{CodeFault}
+use Rattle.kilim_class_code.specs.declared.fault.CodeFault.TheVariants as code
+use Rattle.kilim_class_code.specs.Code.{Placed, targets_of, is_place}
+use Rattle.kilim_class_code.specs.Exact.{TargetsArePlaces}
+use Rattle.kilim_class_file.specs.declared.class_file.ClassFile.{ClassFile}
+use Rattle.kilim_class_file.specs.declared.class_file.MemberInfo.{MemberInfo}
+use Rattle.kilim_class_pool.specs.declared.entry.Entry.{Entry}
+use Rattle.kilim_class_code.specs.declared.opcodes.fault.OpFault.TheVariants as op
+use Rattle.kilim_program.specs.declared.instr.Instr.{Instr}
+use Rattle.kilim_program.specs.declared.names.ClassId.{ClassId}
 use Rattle.kilim_link_spec.specs.Code.{decoded, code_of, index_in, placed_in, instr_in}
 use Rattle.kilim_link_spec.specs.Faults.{bad_index, code_fault, decoded_in, left_out_op}
 use Rattle.kilim_link_spec.specs.Linked.{body_in, body_with, first_of, no_body}

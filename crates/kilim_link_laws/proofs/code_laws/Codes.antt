@@ -4,13 +4,13 @@ use Rattle.std.specs.Prelude.{◌&&◌, ◌==◌, if◌then◌else◌, slice_get
 use Rattle.std.specs.List.{list_all, AllByRecursion}
 use Rattle.std.proofs.lemmas.Bool.{and_from, or_cases, or_left, or_right, eq-eqb, eqb-true, false≢true}
 use Rattle.std.proofs.lemmas.Option.{same_Some}
-use Rattle.kilim_constant_pool.specs.declared.entry.Entry.{Entry}
-use Rattle.kilim_bytecode.specs.opcodes.Instr.{instr_len}
-use Rattle.kilim_bytecode.specs.Code.{Placed, StandsFrom, is_place, targets_of, ends, falls, falls_off, mid_target}
-use Rattle.kilim_bytecode.specs.Exact.{body_fault, target_or_end, TargetsArePlaces}
-use Rattle.kilim_classes.specs.declared.instr.Instr.{Instr}
-use Rattle.kilim_classes.specs.Lengths.{has_length, code_stands, is_code_place, targets_stand, jump_targets, code_ends}
-use Rattle.kilim_classes.specs.Lengths.{first_place}
+use Rattle.kilim_class_pool.specs.declared.entry.Entry.{Entry}
+use Rattle.kilim_class_code.specs.opcodes.Instr.{instr_len}
+use Rattle.kilim_class_code.specs.Code.{Placed, StandsFrom, is_place, targets_of, ends, falls, falls_off, mid_target}
+use Rattle.kilim_class_code.specs.Exact.{body_fault, target_or_end, TargetsArePlaces}
+use Rattle.kilim_program.specs.declared.instr.Instr.{Instr}
+use Rattle.kilim_program.specs.Lengths.{has_length, code_stands, is_code_place, targets_stand, jump_targets, code_ends}
+use Rattle.kilim_program.specs.Lengths.{first_place}
 use Rattle.kilim_link_spec.specs.Code.{instr_in, placed_in}
 use Rattle.kilim_link_spec.specs.Types.{each_of}
 use Rattle.kilim_link_spec.specs.World.{World}

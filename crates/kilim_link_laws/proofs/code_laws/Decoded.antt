@@ -1,16 +1,16 @@
 -- What is decoded is what the bytes are the text of.
 use Rattle.std.proofs.Common.{◌≡◌, ℕ, zero, suc, ◌+◌, ◌-◌, ◌<◌, ◌≤◌, List, [], ◌∷◌, ◌++◌, length, Option, Some, None, Result, Ok, Err, refl, ap, subst, ◌∙◌, arith}
 use Rattle.std.proofs.lemmas.List.{length-append}
-use Rattle.kilim_grammar.specs.Format.{IsBytes}
-use Rattle.kilim_grammar.specs.Reader.{◌>>=◌, with_fault}
-use Rattle.kilim_bytecode.specs.declared.opcodes.instr.RawInstr.{RawInstr}
-use Rattle.kilim_bytecode.specs.declared.opcodes.instr.RawInstr.TheVariants.{Plain}
-use Rattle.kilim_bytecode.specs.opcodes.Instr.{instr_text, instr_len}
-use Rattle.kilim_bytecode.specs.opcodes.Reading.{instr_at}
-use Rattle.kilim_bytecode.specs.opcodes.Exact.{OneSpelling, Lengths}
-use Rattle.kilim_bytecode.specs.declared.fault.CodeFault.{CodeFault}
-use Rattle.kilim_bytecode.specs.Code.{Placed, code_text, StandsFrom}
-use Rattle.kilim_bytecode.specs.Exact.{IsCode, body_fault, op_fault}
+use Rattle.kilim_class_grammar.specs.Format.{IsBytes}
+use Rattle.kilim_class_grammar.specs.Reader.{◌>>=◌, with_fault}
+use Rattle.kilim_class_code.specs.declared.opcodes.instr.RawInstr.{RawInstr}
+use Rattle.kilim_class_code.specs.declared.opcodes.instr.RawInstr.TheVariants.{Plain}
+use Rattle.kilim_class_code.specs.opcodes.Instr.{instr_text, instr_len}
+use Rattle.kilim_class_code.specs.opcodes.Reading.{instr_at}
+use Rattle.kilim_class_code.specs.opcodes.Exact.{OneSpelling, Lengths}
+use Rattle.kilim_class_code.specs.declared.fault.CodeFault.{CodeFault}
+use Rattle.kilim_class_code.specs.Code.{Placed, code_text, StandsFrom}
+use Rattle.kilim_class_code.specs.Exact.{IsCode, body_fault, op_fault}
 use Rattle.kilim_link_spec.specs.Code.{instrs_from, unless_fault, checked_body, decoded}
 
 abbrev pub ok : {A : Type 0} (F : Type 0) → A → Result A F

@@ -1,9 +1,9 @@
 -- What is known of each file where there is no fault.
 use Rattle.std.proofs.Common.{ℕ, suc, List, [], ◌∷◌}
 use Rattle.std.specs.List.{AllByRecursion}
-use Rattle.kilim_classfile.specs.declared.class_file.ClassFile.{ClassFile}
-use Rattle.kilim_classes.specs.BuiltIn.{class_id}
-use Rattle.kilim_classes.specs.declared.names.ClassId.{ClassId}
+use Rattle.kilim_class_file.specs.declared.class_file.ClassFile.{ClassFile}
+use Rattle.kilim_program.specs.BuiltIn.{class_id}
+use Rattle.kilim_program.specs.declared.names.ClassId.{ClassId}
 use Rattle.kilim_link_spec.specs.Laws.{NoProblem, NoneOfEachKind, EachIsWithout}
 use Rattle.kilim_link_spec.specs.World.{World}
 use Rattle.kilim_link_laws.proofs.code_laws.Lists.{EachFile}

@@ -3,18 +3,18 @@ use Rattle.std.proofs.Common.{◌≡◌, ℕ, zero, suc, Bool, true, false, ℤ,
 use Rattle.std.specs.Prelude.{◌-◌, ◌+◌}
 use Rattle.std.specs.Int.{w8, w16, w32}
 use Rattle.std.specs.List.{AllByRecursion}
-use Rattle.kilim_grammar.specs.Reader.{Reader, ◌>>=◌, with_fault, checked, made, tested, both, followed, many}
-use Rattle.kilim_bytecode.specs.declared.opcodes.fault.OpFault.{OpFault}
-use Rattle.kilim_bytecode.specs.declared.opcodes.forms.OpForm.{OpForm}
-use Rattle.kilim_bytecode.specs.declared.opcodes.forms.OpForm.TheVariants as form
-use Rattle.kilim_bytecode.specs.declared.opcodes.instr.RawInstr.{RawInstr}
-use Rattle.kilim_bytecode.specs.declared.opcodes.instr.RawInstr.TheVariants as raw
-use Rattle.kilim_bytecode.specs.opcodes.Instr.{HasForm, is_array_code, padding}
-use Rattle.kilim_bytecode.specs.opcodes.Reading.{instr_at, listed_at, operands_at, wide_at, wide_operands_at, array_fault, behind_zeros, zeros_at, table_at, lookup_at, target_at, range_at, targets_in, count_at, pairs_at, unsigned_at, integer_at}
-use Rattle.kilim_bytecode.specs.opcodes.Table.{form_of}
-use Rattle.kilim_bytecode.specs.declared.fault.CodeFault.{CodeFault}
-use Rattle.kilim_bytecode.specs.Code.{Placed}
-use Rattle.kilim_bytecode.specs.Exact.{op_fault, body_fault}
+use Rattle.kilim_class_grammar.specs.Reader.{Reader, ◌>>=◌, with_fault, checked, made, tested, both, followed, many}
+use Rattle.kilim_class_code.specs.declared.opcodes.fault.OpFault.{OpFault}
+use Rattle.kilim_class_code.specs.declared.opcodes.forms.OpForm.{OpForm}
+use Rattle.kilim_class_code.specs.declared.opcodes.forms.OpForm.TheVariants as form
+use Rattle.kilim_class_code.specs.declared.opcodes.instr.RawInstr.{RawInstr}
+use Rattle.kilim_class_code.specs.declared.opcodes.instr.RawInstr.TheVariants as raw
+use Rattle.kilim_class_code.specs.opcodes.Instr.{HasForm, is_array_code, padding}
+use Rattle.kilim_class_code.specs.opcodes.Reading.{instr_at, listed_at, operands_at, wide_at, wide_operands_at, array_fault, behind_zeros, zeros_at, table_at, lookup_at, target_at, range_at, targets_in, count_at, pairs_at, unsigned_at, integer_at}
+use Rattle.kilim_class_code.specs.opcodes.Table.{form_of}
+use Rattle.kilim_class_code.specs.declared.fault.CodeFault.{CodeFault}
+use Rattle.kilim_class_code.specs.Code.{Placed}
+use Rattle.kilim_class_code.specs.Exact.{op_fault, body_fault}
 use Rattle.kilim_link_spec.specs.Code.{instrs_from, decoded, checked_body, unless_fault}
 use Rattle.kilim_link_laws.proofs.code_laws.Decoded.{ok, ok_is, bound, without_fault}
 

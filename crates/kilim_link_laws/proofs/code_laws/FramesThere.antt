@@ -3,17 +3,17 @@ use Rattle.std.proofs.Common.{ℕ, zero, suc, ◌-◌, Bool, true, false, List, 
 use Rattle.std.specs.Prelude.{if◌then◌else◌}
 use Rattle.std.specs.List.{AllByRecursion}
 use Rattle.std.proofs.lemmas.Bool.{false≢true}
-use Rattle.kilim_attribute_parts.specs.declared.frame.Frame.{Frame as FrameForm}
-use Rattle.kilim_attribute_parts.specs.declared.frame.Frame.TheVariants.{Same, SameLocals1StackItem, SameLocals1StackItemExtended, Chop, SameExtended, Append, Full}
-use Rattle.kilim_attribute_parts.specs.declared.frame.VerificationType.{VerificationType}
-use Rattle.kilim_attribute_parts.specs.declared.frame.VerificationType.TheVariants as entry
-use Rattle.kilim_attributes.specs.declared.attribute.Code.{Code}
-use Rattle.kilim_classfile.specs.declared.class_file.ClassFile.{ClassFile}
-use Rattle.kilim_constant_pool.specs.declared.entry.Entry.{Entry}
-use Rattle.kilim_classes.specs.declared.names.ClassId.{ClassId}
-use Rattle.kilim_classes.specs.declared.verified.Frame.{Frame}
-use Rattle.kilim_classes.specs.declared.verified.VType.{VType}
-use Rattle.kilim_classes.specs.declared.verified.VType.TheVariants.{Top, Int, Long, Null, UninitThis, Uninit, Object}
+use Rattle.kilim_class_attributes.specs.declared.parts.frame.Frame.{Frame as FrameForm}
+use Rattle.kilim_class_attributes.specs.declared.parts.frame.Frame.TheVariants.{Same, SameLocals1StackItem, SameLocals1StackItemExtended, Chop, SameExtended, Append, Full}
+use Rattle.kilim_class_attributes.specs.declared.parts.frame.VerificationType.{VerificationType}
+use Rattle.kilim_class_attributes.specs.declared.parts.frame.VerificationType.TheVariants as entry
+use Rattle.kilim_class_attributes.specs.declared.attribute.Code.{Code}
+use Rattle.kilim_class_file.specs.declared.class_file.ClassFile.{ClassFile}
+use Rattle.kilim_class_pool.specs.declared.entry.Entry.{Entry}
+use Rattle.kilim_program.specs.declared.names.ClassId.{ClassId}
+use Rattle.kilim_program.specs.declared.verified.Frame.{Frame}
+use Rattle.kilim_program.specs.declared.verified.VType.{VType}
+use Rattle.kilim_program.specs.declared.verified.VType.TheVariants.{Top, Int, Long, Null, UninitThis, Uninit, Object}
 use Rattle.kilim_link_spec.specs.Frames.{slot_in, slot_of_type, receiver_entry, entry_locals, entries_of, delta_of, place_after, frame_of, frame_with, frames_from, frames_in, tables_in}
 use Rattle.kilim_link_spec.specs.declared.named.Entries.{Entries}
 use Rattle.kilim_link_spec.specs.Mentions.{mentions_of_slot}

@@ -5,9 +5,9 @@ use Rattle.std.specs.Prelude.{◌&&◌, ◌||◌, not}
 use Rattle.std.specs.List.{list_any, AllByRecursion}
 use Rattle.std.proofs.lemmas.Bool.{or_parts, false≢true}
 use Rattle.kilim_lemmas.proofs.Lists.{map_none}
-use Rattle.kilim_classfile.specs.declared.class_file.ClassFile.{ClassFile}
-use Rattle.kilim_descriptors.specs.declared.types.FieldText.{FieldText}
-use Rattle.kilim_classes.specs.declared.names.ClassId.{ClassId}
+use Rattle.kilim_class_file.specs.declared.class_file.ClassFile.{ClassFile}
+use Rattle.kilim_class_descriptors.specs.declared.types.FieldText.{FieldText}
+use Rattle.kilim_program.specs.declared.names.ClassId.{ClassId}
 use Rattle.kilim_link_spec.specs.declared.fault.Problem.TheVariants as problem
 use Rattle.kilim_link_spec.specs.Faults.{class_missing, descriptor_broken, has_float, is_fiber, is_float_base, is_float_mention, is_missing, no_descriptors}
 use Rattle.kilim_link_spec.specs.Laws.{NoProblem}

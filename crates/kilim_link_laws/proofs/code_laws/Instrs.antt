@@ -7,17 +7,17 @@ use Rattle.std.specs.Option.{option_map}
 use Rattle.std.proofs.lemmas.Bool.{false≢true, and_from, or_left, or_right, lt-ltb, eq-eqb, eqb-true}
 use Rattle.std.proofs.lemmas.Int.{ints}
 use Rattle.std.proofs.lemmas.Option.{same_Some, none-some}
-use Rattle.kilim_constant_pool.specs.declared.entry.Entry.{Entry}
-use Rattle.kilim_bytecode.specs.declared.opcodes.forms.OpForm.{OpForm}
-use Rattle.kilim_bytecode.specs.declared.opcodes.forms.OpForm.TheVariants as form
-use Rattle.kilim_bytecode.specs.declared.opcodes.instr.RawInstr.{RawInstr}
-use Rattle.kilim_bytecode.specs.declared.opcodes.instr.RawInstr.TheVariants as raw
-use Rattle.kilim_bytecode.specs.opcodes.Instr.{padding, instr_len, high_of, InstrFits, TargetFits, PairsFit, IsAbove}
-use Rattle.kilim_bytecode.specs.opcodes.Table.{rows, form_of}
-use Rattle.kilim_classes.specs.declared.instr.Instr.{Instr}
-use Rattle.kilim_classes.specs.declared.instr.Instr.TheVariants.{Bipush, Sipush, Iinc, Tableswitch, Lookupswitch, Newarray, New}
-use Rattle.kilim_classes.specs.declared.names.ClassId.{ClassId}
-use Rattle.kilim_classes.specs.Lengths.{has_length, is_far, is_iinc_length, is_jump_length, is_loaded, is_local_length, is_primitive, is_reference, is_table, matches_increase}
+use Rattle.kilim_class_pool.specs.declared.entry.Entry.{Entry}
+use Rattle.kilim_class_code.specs.declared.opcodes.forms.OpForm.{OpForm}
+use Rattle.kilim_class_code.specs.declared.opcodes.forms.OpForm.TheVariants as form
+use Rattle.kilim_class_code.specs.declared.opcodes.instr.RawInstr.{RawInstr}
+use Rattle.kilim_class_code.specs.declared.opcodes.instr.RawInstr.TheVariants as raw
+use Rattle.kilim_class_code.specs.opcodes.Instr.{padding, instr_len, high_of, InstrFits, TargetFits, PairsFit, IsAbove}
+use Rattle.kilim_class_code.specs.opcodes.Table.{rows, form_of}
+use Rattle.kilim_program.specs.declared.instr.Instr.{Instr}
+use Rattle.kilim_program.specs.declared.instr.Instr.TheVariants.{Bipush, Sipush, Iinc, Tableswitch, Lookupswitch, Newarray, New}
+use Rattle.kilim_program.specs.declared.names.ClassId.{ClassId}
+use Rattle.kilim_program.specs.Lengths.{has_length, is_far, is_iinc_length, is_jump_length, is_loaded, is_local_length, is_primitive, is_reference, is_table, matches_increase}
 use Rattle.kilim_link_spec.specs.Code.{instr_in, instr_with, typed_instr, applied, row, place_of, pair_in, plain_instrs, local_instrs, jump_instrs, field_instrs, method_instrs, type_instrs, constant_instrs, array_codes, operand_at, field_found, method_found}
 use Rattle.kilim_link_spec.specs.declared.named.Operand.{Operand}
 use Rattle.kilim_link_spec.specs.declared.named.Operand.TheVariants.{AConstant, AField, AMethod, AType}

@@ -6,19 +6,19 @@ use Rattle.std.proofs.lemmas.Bool.Decides.{nat_tests}
 use Rattle.std.proofs.lemmas.Bool.{or_cases, eqb-true, agree_below_at, false≢true}
 use Rattle.std.proofs.lemmas.Option.{same_Some, none-some}
 use Rattle.kilim_lemmas.proofs.Truth.{rest_is_false}
-use Rattle.kilim_bytecode.specs.Code.{Placed, targets_of, is_place}
-use Rattle.kilim_classfile.specs.declared.class_file.ClassFile.{ClassFile}
-use Rattle.kilim_constant_pool.specs.declared.entry.Entry.{Entry}
-use Rattle.kilim_constant_pool.specs.Entries.{entry_at}
-use Rattle.kilim_bytecode.specs.declared.opcodes.forms.OpForm.{OpForm}
-use Rattle.kilim_bytecode.specs.declared.opcodes.forms.OpForm.TheVariants as form
-use Rattle.kilim_bytecode.specs.declared.opcodes.instr.RawInstr.{RawInstr}
-use Rattle.kilim_bytecode.specs.declared.opcodes.instr.RawInstr.TheVariants as raw
-use Rattle.kilim_bytecode.specs.opcodes.Instr.{is_array_code}
-use Rattle.kilim_bytecode.specs.opcodes.Table.{rows, form_of}
-use Rattle.kilim_classes.specs.declared.instr.Instr.TheVariants.{Bipush, Sipush, Iinc, New}
-use Rattle.kilim_classes.specs.declared.value.Value.{Value}
-use Rattle.kilim_classes.specs.declared.names.ClassId.{ClassId}
+use Rattle.kilim_class_code.specs.Code.{Placed, targets_of, is_place}
+use Rattle.kilim_class_file.specs.declared.class_file.ClassFile.{ClassFile}
+use Rattle.kilim_class_pool.specs.declared.entry.Entry.{Entry}
+use Rattle.kilim_class_pool.specs.Entries.{entry_at}
+use Rattle.kilim_class_code.specs.declared.opcodes.forms.OpForm.{OpForm}
+use Rattle.kilim_class_code.specs.declared.opcodes.forms.OpForm.TheVariants as form
+use Rattle.kilim_class_code.specs.declared.opcodes.instr.RawInstr.{RawInstr}
+use Rattle.kilim_class_code.specs.declared.opcodes.instr.RawInstr.TheVariants as raw
+use Rattle.kilim_class_code.specs.opcodes.Instr.{is_array_code}
+use Rattle.kilim_class_code.specs.opcodes.Table.{rows, form_of}
+use Rattle.kilim_program.specs.declared.instr.Instr.TheVariants.{Bipush, Sipush, Iinc, New}
+use Rattle.kilim_program.specs.declared.value.Value.{Value}
+use Rattle.kilim_program.specs.declared.names.ClassId.{ClassId}
 use Rattle.kilim_link_spec.specs.Code.{instr_in, instr_with, applied, row, place_of, pair_in, plain_instrs, local_instrs, jump_instrs, field_instrs, method_instrs, type_instrs, constant_instrs, array_codes, index_operand, index_in, operand_at, field_found, method_found, constant_ref, field_ref, method_ref, any_method_ref, class_ref, unless_array}
 use Rattle.kilim_link_spec.specs.declared.named.Operand.{Operand}
 use Rattle.kilim_link_spec.specs.declared.named.Operand.TheVariants.{AConstant, AField, AMethod, AType}

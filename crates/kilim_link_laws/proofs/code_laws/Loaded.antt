@@ -2,17 +2,17 @@
 use Rattle.std.proofs.Common.{◌≡◌, ℕ, Bool, true, false, List, Option, Some, None, refl}
 use Rattle.std.specs.Prelude.{◌||◌, ◌==◌, if◌then◌else◌}
 use Rattle.std.specs.Option.{option_map}
-use Rattle.kilim_constant_pool.specs.declared.entry.Entry.{Entry}
-use Rattle.kilim_constant_pool.specs.declared.entry.Entry.TheVariants as entry
-use Rattle.kilim_constant_pool.specs.Entries.{entry_at}
-use Rattle.kilim_classes.specs.Lengths.{is_loaded}
+use Rattle.kilim_class_pool.specs.declared.entry.Entry.{Entry}
+use Rattle.kilim_class_pool.specs.declared.entry.Entry.TheVariants as entry
+use Rattle.kilim_class_pool.specs.Entries.{entry_at}
+use Rattle.kilim_program.specs.Lengths.{is_loaded}
 use Rattle.kilim_link_spec.specs.Code.{constant_ref, field_ref, method_ref, any_method_ref, class_ref, unless_array, operand_at}
 use Rattle.kilim_link_spec.specs.declared.fault.MemberOf.{MemberOf as MemberRef}
 use Rattle.kilim_link_spec.specs.declared.named.Operand.{Operand}
 use Rattle.kilim_link_spec.specs.declared.named.Operand.TheVariants.{AConstant, AField, AMethod, AType}
 use Rattle.kilim_link_spec.specs.declared.named.Named.{Named}
 use Rattle.kilim_link_spec.specs.declared.named.Named.TheVariants.{AClass, AnArray, Malformed}
-use Rattle.kilim_classfile.specs.Parts.{text_of}
+use Rattle.kilim_class_file.specs.Parts.{text_of}
 use Rattle.kilim_link_laws.proofs.code_laws.References.{HasDims, named_has_dims}
 
 -- a constant that an instruction loads, and a type that it names

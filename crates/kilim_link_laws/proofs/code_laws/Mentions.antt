@@ -1,11 +1,11 @@
 -- What holds of each mention of a file holds of those of its parts.
 use Rattle.std.proofs.Common.{ℕ, List, ◌++◌, map}
 use Rattle.std.specs.List.{flat_map, AllByRecursion}
-use Rattle.kilim_attribute_parts.specs.declared.frame.Frame.{Frame as FrameForm}
-use Rattle.kilim_attribute_parts.specs.declared.frame.VerificationType.{VerificationType}
-use Rattle.kilim_bytecode.specs.Code.{Placed}
-use Rattle.kilim_classfile.specs.declared.class_file.ClassFile.{ClassFile}
-use Rattle.kilim_classfile.specs.declared.class_file.MemberInfo.{MemberInfo}
+use Rattle.kilim_class_attributes.specs.declared.parts.frame.Frame.{Frame as FrameForm}
+use Rattle.kilim_class_attributes.specs.declared.parts.frame.VerificationType.{VerificationType}
+use Rattle.kilim_class_code.specs.Code.{Placed}
+use Rattle.kilim_class_file.specs.declared.class_file.ClassFile.{ClassFile}
+use Rattle.kilim_class_file.specs.declared.class_file.MemberInfo.{MemberInfo}
 use Rattle.kilim_link_spec.specs.Linked.{code_attribute}
 use Rattle.kilim_link_spec.specs.Mentions.{mentions_of, mentions_of_method, mentions_of_instr, mentions_of_slot, instrs_of, frames_if, slots_of_frame, this_slots}
 use Rattle.kilim_link_spec.specs.declared.named.Mention.{Mention}

@@ -7,23 +7,23 @@ use Rattle.std.proofs.lemmas.List.Folds.{list_all-append}
 use Rattle.std.proofs.lemmas.List.Sums.{sum_by-cons}
 use Rattle.std.proofs.lemmas.Option.{same_Some, none-some}
 use Rattle.kilim_lemmas.proofs.Lists.{map_none}
-use Rattle.kilim_classfile.specs.declared.class_file.ClassFile.{ClassFile}
-use Rattle.kilim_classfile.specs.declared.class_file.MemberInfo.{MemberInfo}
-use Rattle.kilim_descriptors.specs.declared.types.BaseText.{BaseText}
-use Rattle.kilim_descriptors.specs.declared.types.BaseText.TheVariants as text
-use Rattle.kilim_descriptors.specs.declared.types.FieldText.{FieldText}
-use Rattle.kilim_descriptors.specs.declared.types.MethodText.{MethodText}
-use Rattle.kilim_descriptors.specs.Text.{slots, slots_of, base_slots, is_wide}
-use Rattle.kilim_classes.specs.declared.class.Form.{Form}
-use Rattle.kilim_classes.specs.declared.class.Form.TheVariants.{Plain, Woven}
-use Rattle.kilim_classes.specs.declared.class.Method.{Method}
-use Rattle.kilim_classes.specs.declared.names.ClassId.{ClassId}
-use Rattle.kilim_classes.specs.declared.ty.Base.{Base}
-use Rattle.kilim_classes.specs.declared.ty.Base.TheVariants as base
-use Rattle.kilim_classes.specs.declared.ty.Ty.{Ty}
-use Rattle.kilim_classes.specs.BuiltIn.{built_in_methods_in}
-use Rattle.kilim_classes.specs.Keeps.{method_is_sound}
-use Rattle.kilim_classes.specs.Same.{argument_slots, type_slots, is_wide_base}
+use Rattle.kilim_class_file.specs.declared.class_file.ClassFile.{ClassFile}
+use Rattle.kilim_class_file.specs.declared.class_file.MemberInfo.{MemberInfo}
+use Rattle.kilim_class_descriptors.specs.declared.types.BaseText.{BaseText}
+use Rattle.kilim_class_descriptors.specs.declared.types.BaseText.TheVariants as text
+use Rattle.kilim_class_descriptors.specs.declared.types.FieldText.{FieldText}
+use Rattle.kilim_class_descriptors.specs.declared.types.MethodText.{MethodText}
+use Rattle.kilim_class_descriptors.specs.Text.{slots, slots_of, base_slots, is_wide}
+use Rattle.kilim_program.specs.declared.class.Form.{Form}
+use Rattle.kilim_program.specs.declared.class.Form.TheVariants.{Plain, Woven}
+use Rattle.kilim_program.specs.declared.class.Method.{Method}
+use Rattle.kilim_program.specs.declared.names.ClassId.{ClassId}
+use Rattle.kilim_program.specs.declared.ty.Base.{Base}
+use Rattle.kilim_program.specs.declared.ty.Base.TheVariants as base
+use Rattle.kilim_program.specs.declared.ty.Ty.{Ty}
+use Rattle.kilim_program.specs.BuiltIn.{built_in_methods_in}
+use Rattle.kilim_program.specs.Keeps.{method_is_sound}
+use Rattle.kilim_program.specs.Same.{argument_slots, type_slots, is_wide_base}
 use Rattle.kilim_link_spec.specs.Faults.{no_descriptors, is_no_method, descriptor_broken}
 use Rattle.kilim_link_spec.specs.declared.fault.Problem.TheVariants as problem
 use Rattle.kilim_link_spec.specs.Laws.{LinkedInParts, NoProblem, NoneHasAProblem, NoneOfEachKind}

@@ -6,25 +6,25 @@ use Rattle.std.proofs.lemmas.Bool.{and_from, false≢true, not_from_false, or_fr
 use Rattle.std.proofs.lemmas.List.Folds.{list_all-append, list_all-map}
 use Rattle.std.proofs.lemmas.Option.{same_Some, none-some}
 use Rattle.kilim_lemmas.proofs.Lists.{get_right}
-use Rattle.kilim_classfile.specs.declared.class_file.ClassFile.{ClassFile}
-use Rattle.kilim_descriptors.specs.declared.types.BaseText.{BaseText}
-use Rattle.kilim_descriptors.specs.declared.types.BaseText.TheVariants as text
-use Rattle.kilim_descriptors.specs.declared.types.FieldText.{FieldText}
-use Rattle.kilim_classes.specs.declared.class.Class.{Class}
-use Rattle.kilim_classes.specs.declared.class.Field.{Field}
-use Rattle.kilim_classes.specs.declared.class.Form.{Form}
-use Rattle.kilim_classes.specs.declared.class.Form.TheVariants.{Plain, Woven}
-use Rattle.kilim_classes.specs.declared.class.Method.{Method}
-use Rattle.kilim_classes.specs.declared.names.ClassId.{ClassId}
-use Rattle.kilim_classes.specs.declared.ty.Base.{Base}
-use Rattle.kilim_classes.specs.declared.ty.Base.TheVariants as base
-use Rattle.kilim_classes.specs.declared.ty.Ty.{Ty}
-use Rattle.kilim_classes.specs.BuiltIn.{class_id, built_in_classes_in, built_in_methods_in}
-use Rattle.kilim_classes.specs.Keeps.{no_task_arrays, types_of_method}
-use Rattle.kilim_classes.specs.Kinds.{is_task_array, is_task_base}
-use Rattle.kilim_classes.specs.Lengths.{is_primitive}
-use Rattle.kilim_classes.specs.Names.{◌>>=◌, class_at, is_named_task, is_task, line_up_to}
-use Rattle.kilim_classes.specs.Program.{Program}
+use Rattle.kilim_class_file.specs.declared.class_file.ClassFile.{ClassFile}
+use Rattle.kilim_class_descriptors.specs.declared.types.BaseText.{BaseText}
+use Rattle.kilim_class_descriptors.specs.declared.types.BaseText.TheVariants as text
+use Rattle.kilim_class_descriptors.specs.declared.types.FieldText.{FieldText}
+use Rattle.kilim_program.specs.declared.class.Class.{Class}
+use Rattle.kilim_program.specs.declared.class.Field.{Field}
+use Rattle.kilim_program.specs.declared.class.Form.{Form}
+use Rattle.kilim_program.specs.declared.class.Form.TheVariants.{Plain, Woven}
+use Rattle.kilim_program.specs.declared.class.Method.{Method}
+use Rattle.kilim_program.specs.declared.names.ClassId.{ClassId}
+use Rattle.kilim_program.specs.declared.ty.Base.{Base}
+use Rattle.kilim_program.specs.declared.ty.Base.TheVariants as base
+use Rattle.kilim_program.specs.declared.ty.Ty.{Ty}
+use Rattle.kilim_program.specs.BuiltIn.{class_id, built_in_classes_in, built_in_methods_in}
+use Rattle.kilim_program.specs.Keeps.{no_task_arrays, types_of_method}
+use Rattle.kilim_program.specs.Kinds.{is_task_array, is_task_base}
+use Rattle.kilim_program.specs.Lengths.{is_primitive}
+use Rattle.kilim_program.specs.Names.{◌>>=◌, class_at, is_named_task, is_task, line_up_to}
+use Rattle.kilim_program.specs.Program.{Program}
 use Rattle.kilim_link_spec.specs.Faults.{has_task_array, is_task_name, is_task_base as is_task_text}
 use Rattle.kilim_link_spec.specs.Laws.{LinkedInParts, NoProblem, NoneHasAProblem, NoneOfEachKind}
 use Rattle.kilim_link_spec.specs.Linked.{linked_class, linked_field, linked_method}

@@ -4,17 +4,17 @@ use Rattle.std.specs.Prelude.{◌||◌, not, if◌then◌else◌}
 use Rattle.std.specs.List.{list_all, AllByRecursion}
 use Rattle.std.proofs.lemmas.Bool.{and_from}
 use Rattle.std.proofs.lemmas.List.Folds.{list_all-append}
-use Rattle.kilim_classfile.specs.declared.class_file.ClassFile.{ClassFile}
-use Rattle.kilim_classfile.specs.declared.class_file.MemberInfo.{MemberInfo}
-use Rattle.kilim_classes.specs.declared.class.Form.{Form}
-use Rattle.kilim_classes.specs.declared.class.Form.TheVariants.{Plain, Woven}
-use Rattle.kilim_classes.specs.declared.class.Method.{Method}
-use Rattle.kilim_classes.specs.declared.names.ClassId.{ClassId}
-use Rattle.kilim_classes.specs.declared.ty.Qualifier.{Qualifier}
-use Rattle.kilim_classes.specs.declared.ty.Qualifier.TheVariants.{Cuttable, Safe}
-use Rattle.kilim_classes.specs.BuiltIn.{built_in_methods_in}
-use Rattle.kilim_classes.specs.Kinds.{class_kind, is_tree_kind}
-use Rattle.kilim_classes.specs.Same.{is_constructor, same_qualifier}
+use Rattle.kilim_class_file.specs.declared.class_file.ClassFile.{ClassFile}
+use Rattle.kilim_class_file.specs.declared.class_file.MemberInfo.{MemberInfo}
+use Rattle.kilim_program.specs.declared.class.Form.{Form}
+use Rattle.kilim_program.specs.declared.class.Form.TheVariants.{Plain, Woven}
+use Rattle.kilim_program.specs.declared.class.Method.{Method}
+use Rattle.kilim_program.specs.declared.names.ClassId.{ClassId}
+use Rattle.kilim_program.specs.declared.ty.Qualifier.{Qualifier}
+use Rattle.kilim_program.specs.declared.ty.Qualifier.TheVariants.{Cuttable, Safe}
+use Rattle.kilim_program.specs.BuiltIn.{built_in_methods_in}
+use Rattle.kilim_program.specs.Kinds.{class_kind, is_tree_kind}
+use Rattle.kilim_program.specs.Same.{is_constructor, same_qualifier}
 use Rattle.kilim_link_spec.specs.Laws.{LinkedInParts}
 use Rattle.kilim_link_spec.specs.Linked.{linked_method, method_with}
 use Rattle.kilim_link_spec.specs.Qualified.{annotated_as, default_receiver, qualified}

@@ -2,15 +2,15 @@
 use Rattle.std.proofs.Common.{◌≡◌, ℕ, zero, suc, ◌+◌, ◌<◌, ◌≤◌, Bool, true, false, List, [], ◌∷◌, length, Option, Some, None, Result, Ok, Err, refl, ap, sym, subst, arith}
 use Rattle.std.specs.Prelude.{◌==◌, nat_lt, if◌then◌else◌}
 use Rattle.std.proofs.lemmas.Option.{same_Some, none-some}
-use Rattle.kilim_descriptors.specs.declared.types.BaseText.{BaseText}
-use Rattle.kilim_descriptors.specs.declared.types.FieldText.{FieldText}
-use Rattle.kilim_descriptors.specs.Exact.{spelled_by}
-use Rattle.kilim_descriptors.specs.Reading.{all_of, base_at, field_at, field_behind, in_dims, whole_field, ◌>>=◌}
-use Rattle.kilim_classes.specs.declared.names.ClassId.{ClassId}
-use Rattle.kilim_classes.specs.declared.ty.Base.{Base}
-use Rattle.kilim_classes.specs.declared.ty.Base.TheVariants as base
-use Rattle.kilim_classes.specs.declared.ty.Ty.{Ty}
-use Rattle.kilim_classes.specs.Lengths.{is_reference, is_reference_type}
+use Rattle.kilim_class_descriptors.specs.declared.types.BaseText.{BaseText}
+use Rattle.kilim_class_descriptors.specs.declared.types.FieldText.{FieldText}
+use Rattle.kilim_class_descriptors.specs.Exact.{spelled_by}
+use Rattle.kilim_class_descriptors.specs.Reading.{all_of, base_at, field_at, field_behind, in_dims, whole_field, ◌>>=◌}
+use Rattle.kilim_program.specs.declared.names.ClassId.{ClassId}
+use Rattle.kilim_program.specs.declared.ty.Base.{Base}
+use Rattle.kilim_program.specs.declared.ty.Base.TheVariants as base
+use Rattle.kilim_program.specs.declared.ty.Ty.{Ty}
+use Rattle.kilim_program.specs.Lengths.{is_reference, is_reference_type}
 use Rattle.kilim_link_spec.specs.Types.{array_or_malformed, base_in, field_text, named_by, type_named, typed}
 use Rattle.kilim_link_spec.specs.declared.named.Named.{Named}
 use Rattle.kilim_link_spec.specs.declared.named.Named.TheVariants.{AClass, AnArray, Malformed}

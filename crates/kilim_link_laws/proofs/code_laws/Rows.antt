@@ -5,8 +5,8 @@ use Rattle.std.specs.List.{list_all, find, AllByRecursion}
 use Rattle.std.specs.Option.{option_map}
 use Rattle.std.proofs.lemmas.Bool.{and_parts, eqb-true, ltb-true, leb-true, agree_below, agree_below_at}
 use Rattle.std.proofs.lemmas.Option.{same_Some, none-some}
-use Rattle.kilim_bytecode.specs.declared.opcodes.forms.OpForm.{OpForm}
-use Rattle.kilim_bytecode.specs.opcodes.Table.{Row, rows, form_of}
+use Rattle.kilim_class_code.specs.declared.opcodes.forms.OpForm.{OpForm}
+use Rattle.kilim_class_code.specs.opcodes.Table.{Row, rows, form_of}
 use Rattle.kilim_link_spec.specs.Code.{row}
 
 pub each_passes : {A : Type 0} (test : A → Bool) (xs : List A) → list_all test xs ≡ true → AllByRecursion (λ x. test x ≡ true) xs

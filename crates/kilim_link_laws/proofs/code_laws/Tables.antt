@@ -5,8 +5,8 @@ use Rattle.std.specs.List.{AllByRecursion, list_all}
 use Rattle.std.specs.Option.{option_map}
 use Rattle.std.proofs.lemmas.Bool.{false≢true}
 use Rattle.std.proofs.lemmas.Option.{same_Some, none-some}
-use Rattle.kilim_classes.specs.declared.instr.Instr.{Instr}
-use Rattle.kilim_classes.specs.declared.instr.Instr.TheVariants.{Tableswitch, Lookupswitch}
+use Rattle.kilim_program.specs.declared.instr.Instr.{Instr}
+use Rattle.kilim_program.specs.declared.instr.Instr.TheVariants.{Tableswitch, Lookupswitch}
 use Rattle.kilim_link_spec.specs.Code.{applied, row, place_of, pair_in}
 use Rattle.kilim_link_spec.specs.Types.{each_of}
 use Rattle.kilim_link_laws.proofs.code_laws.Rows.{each_passes, rows_hold, mapped}

@@ -5,22 +5,22 @@ use Rattle.std.specs.List.{list_all, flat_map, AllByRecursion}
 use Rattle.std.proofs.lemmas.Bool.{and_from, eqb-true}
 use Rattle.std.proofs.lemmas.List.Folds.{list_all-append}
 use Rattle.std.proofs.lemmas.Option.{same_Some, none-some}
-use Rattle.kilim_attribute_parts.specs.declared.frame.Frame.{Frame as FrameForm}
-use Rattle.kilim_attribute_parts.specs.declared.frame.Frame.TheVariants.{Same, SameLocals1StackItem, SameLocals1StackItemExtended, Chop, SameExtended, Append, Full}
-use Rattle.kilim_attribute_parts.specs.declared.frame.VerificationType.{VerificationType}
-use Rattle.kilim_attribute_parts.specs.declared.frame.VerificationType.TheVariants as entry
-use Rattle.kilim_attributes.specs.declared.attribute.Code.{Code}
-use Rattle.kilim_classfile.specs.declared.class_file.ClassFile.{ClassFile}
-use Rattle.kilim_constant_pool.specs.declared.entry.Entry.{Entry}
-use Rattle.kilim_descriptors.specs.declared.types.FieldText.{FieldText}
-use Rattle.kilim_classes.specs.declared.names.ClassId.{ClassId}
-use Rattle.kilim_classes.specs.declared.ty.Base.{Base}
-use Rattle.kilim_classes.specs.declared.ty.Base.TheVariants as base
-use Rattle.kilim_classes.specs.declared.ty.Ty.{Ty}
-use Rattle.kilim_classes.specs.declared.verified.Frame.{Frame}
-use Rattle.kilim_classes.specs.declared.verified.VType.{VType}
-use Rattle.kilim_classes.specs.declared.verified.VType.TheVariants.{Top, Int, Long, Null, UninitThis, Uninit, Object}
-use Rattle.kilim_classes.specs.Keeps.{types_of_slot, types_of_frame}
+use Rattle.kilim_class_attributes.specs.declared.parts.frame.Frame.{Frame as FrameForm}
+use Rattle.kilim_class_attributes.specs.declared.parts.frame.Frame.TheVariants.{Same, SameLocals1StackItem, SameLocals1StackItemExtended, Chop, SameExtended, Append, Full}
+use Rattle.kilim_class_attributes.specs.declared.parts.frame.VerificationType.{VerificationType}
+use Rattle.kilim_class_attributes.specs.declared.parts.frame.VerificationType.TheVariants as entry
+use Rattle.kilim_class_attributes.specs.declared.attribute.Code.{Code}
+use Rattle.kilim_class_file.specs.declared.class_file.ClassFile.{ClassFile}
+use Rattle.kilim_class_pool.specs.declared.entry.Entry.{Entry}
+use Rattle.kilim_class_descriptors.specs.declared.types.FieldText.{FieldText}
+use Rattle.kilim_program.specs.declared.names.ClassId.{ClassId}
+use Rattle.kilim_program.specs.declared.ty.Base.{Base}
+use Rattle.kilim_program.specs.declared.ty.Base.TheVariants as base
+use Rattle.kilim_program.specs.declared.ty.Ty.{Ty}
+use Rattle.kilim_program.specs.declared.verified.Frame.{Frame}
+use Rattle.kilim_program.specs.declared.verified.VType.{VType}
+use Rattle.kilim_program.specs.declared.verified.VType.TheVariants.{Top, Int, Long, Null, UninitThis, Uninit, Object}
+use Rattle.kilim_program.specs.Keeps.{types_of_slot, types_of_frame}
 use Rattle.kilim_link_spec.specs.Frames.{slot_in, slot_of_type, slot_of_base, receiver_entry, entry_locals, entries_of, delta_of, place_after, placed_frame, frame_of, frame_with, local_slots, frames_from, frames_in, tables_in}
 use Rattle.kilim_link_spec.specs.declared.named.Entries.{Entries}
 use Rattle.kilim_link_spec.specs.Mentions.{mentions_of_slot}

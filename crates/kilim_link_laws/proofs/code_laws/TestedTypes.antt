@@ -4,14 +4,14 @@ use Rattle.std.specs.List.{list_all, flat_map, AllByRecursion}
 use Rattle.std.proofs.lemmas.Bool.{and_from, and_parts}
 use Rattle.std.proofs.lemmas.List.Folds.{list_all-append}
 use Rattle.std.proofs.lemmas.Option.{same_Some, none-some}
-use Rattle.kilim_descriptors.specs.declared.types.BaseText.TheVariants as text
-use Rattle.kilim_descriptors.specs.declared.types.FieldText.{FieldText}
-use Rattle.kilim_classes.specs.declared.names.ClassId.{ClassId}
-use Rattle.kilim_classes.specs.declared.ty.Base.{Base}
-use Rattle.kilim_classes.specs.declared.ty.Base.TheVariants as base
-use Rattle.kilim_classes.specs.declared.ty.Ty.{Ty}
-use Rattle.kilim_classes.specs.Keeps.{array_of}
-use Rattle.kilim_classes.specs.Lengths.{is_primitive}
+use Rattle.kilim_class_descriptors.specs.declared.types.BaseText.TheVariants as text
+use Rattle.kilim_class_descriptors.specs.declared.types.FieldText.{FieldText}
+use Rattle.kilim_program.specs.declared.names.ClassId.{ClassId}
+use Rattle.kilim_program.specs.declared.ty.Base.{Base}
+use Rattle.kilim_program.specs.declared.ty.Base.TheVariants as base
+use Rattle.kilim_program.specs.declared.ty.Ty.{Ty}
+use Rattle.kilim_program.specs.Keeps.{array_of}
+use Rattle.kilim_program.specs.Lengths.{is_primitive}
 use Rattle.kilim_link_spec.specs.Mentions.{types_mentioned}
 use Rattle.kilim_link_spec.specs.declared.named.Mention.{Mention}
 use Rattle.kilim_link_spec.specs.declared.named.Mention.TheVariants.{OfClass, OfElement}

@@ -3,11 +3,11 @@ use Rattle.std.proofs.Common.{◌≡◌, ℕ, Bool, true, false, List, [], ◌�
 use Rattle.std.specs.Prelude.{if◌then◌else◌}
 use Rattle.std.specs.List.{flat_map, AllByRecursion}
 use Rattle.std.proofs.lemmas.Bool.{false≢true}
-use Rattle.kilim_descriptors.specs.declared.types.BaseText.{BaseText}
-use Rattle.kilim_descriptors.specs.declared.types.BaseText.TheVariants as text
-use Rattle.kilim_descriptors.specs.declared.types.FieldText.{FieldText}
-use Rattle.kilim_descriptors.specs.declared.types.MethodText.{MethodText}
-use Rattle.kilim_classes.specs.declared.ty.Base.TheVariants as base
+use Rattle.kilim_class_descriptors.specs.declared.types.BaseText.{BaseText}
+use Rattle.kilim_class_descriptors.specs.declared.types.BaseText.TheVariants as text
+use Rattle.kilim_class_descriptors.specs.declared.types.FieldText.{FieldText}
+use Rattle.kilim_class_descriptors.specs.declared.types.MethodText.{MethodText}
+use Rattle.kilim_program.specs.declared.ty.Base.TheVariants as base
 use Rattle.kilim_link_spec.specs.Faults.{is_float_base, is_no_method}
 use Rattle.kilim_link_spec.specs.Mentions.{plain_names, types_mentioned}
 use Rattle.kilim_link_spec.specs.declared.named.Mention.{Mention}

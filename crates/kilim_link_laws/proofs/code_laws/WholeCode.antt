@@ -5,23 +5,23 @@ use Rattle.std.specs.List.{list_all}
 use Rattle.std.proofs.lemmas.Bool.{and_from}
 use Rattle.std.proofs.lemmas.List.Folds.{list_all-append}
 use Rattle.std.proofs.lemmas.Option.{same_Some, none-some}
-use Rattle.kilim_attributes.specs.declared.attribute.Code.{Code}
-use Rattle.kilim_bytecode.specs.declared.fault.CodeFault.{CodeFault}
-use Rattle.kilim_bytecode.specs.Code.{Placed}
-use Rattle.kilim_bytecode.specs.Exact.{TargetsArePlaces}
-use Rattle.kilim_classfile.specs.declared.class_file.ClassFile.{ClassFile}
-use Rattle.kilim_classfile.specs.declared.class_file.MemberInfo.{MemberInfo}
-use Rattle.kilim_classfile.specs.Text.{ClassFits}
-use Rattle.kilim_constant_pool.specs.declared.entry.Entry.{Entry}
-use Rattle.kilim_bytecode.specs.opcodes.Exact.{OneSpelling, Lengths}
-use Rattle.kilim_classes.specs.declared.class.Form.{Form}
-use Rattle.kilim_classes.specs.declared.class.Form.TheVariants.{Plain, Woven}
-use Rattle.kilim_classes.specs.declared.class.Method.{Method}
-use Rattle.kilim_classes.specs.declared.instr.Instr.{Instr}
-use Rattle.kilim_classes.specs.declared.names.ClassId.{ClassId}
-use Rattle.kilim_classes.specs.BuiltIn.{built_in_methods_in}
-use Rattle.kilim_classes.specs.Keeps.{code_is_whole}
-use Rattle.kilim_classes.specs.Lengths.{code_stands, targets_stand, code_ends}
+use Rattle.kilim_class_attributes.specs.declared.attribute.Code.{Code}
+use Rattle.kilim_class_code.specs.declared.fault.CodeFault.{CodeFault}
+use Rattle.kilim_class_code.specs.Code.{Placed}
+use Rattle.kilim_class_code.specs.Exact.{TargetsArePlaces}
+use Rattle.kilim_class_file.specs.declared.class_file.ClassFile.{ClassFile}
+use Rattle.kilim_class_file.specs.declared.class_file.MemberInfo.{MemberInfo}
+use Rattle.kilim_class_file.specs.Text.{ClassFits}
+use Rattle.kilim_class_pool.specs.declared.entry.Entry.{Entry}
+use Rattle.kilim_class_code.specs.opcodes.Exact.{OneSpelling, Lengths}
+use Rattle.kilim_program.specs.declared.class.Form.{Form}
+use Rattle.kilim_program.specs.declared.class.Form.TheVariants.{Plain, Woven}
+use Rattle.kilim_program.specs.declared.class.Method.{Method}
+use Rattle.kilim_program.specs.declared.instr.Instr.{Instr}
+use Rattle.kilim_program.specs.declared.names.ClassId.{ClassId}
+use Rattle.kilim_program.specs.BuiltIn.{built_in_methods_in}
+use Rattle.kilim_program.specs.Keeps.{code_is_whole}
+use Rattle.kilim_program.specs.Lengths.{code_stands, targets_stand, code_ends}
 use Rattle.kilim_link_spec.specs.Code.{decoded, code_of, placed_in}
 use Rattle.kilim_link_spec.specs.Laws.{LinkedInParts}
 use Rattle.kilim_link_spec.specs.Linked.{body_in, no_body, code_attribute, linked_method}

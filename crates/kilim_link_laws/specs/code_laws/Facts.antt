@@ -1,20 +1,20 @@
 -- Facts of programs that are linked.
 use Rattle.std.specs.Prelude.{◌≡◌, ◌||◌, not, if◌then◌else◌, Bool, true, List, []}
 use Rattle.std.specs.List.{list_all}
-use Rattle.kilim_classfile.specs.declared.class_file.ClassFile.{ClassFile}
+use Rattle.kilim_class_file.specs.declared.class_file.ClassFile.{ClassFile}
 use Rattle.kilim_link_spec.specs.Faults.{link_faults}
 use Rattle.kilim_link_spec.specs.Linked.{Linked}
 use Rattle.kilim_link_spec.specs.LinksWell.{LinksWell}
 use Rattle.kilim_link_spec.specs.World.{world_of}
-use Rattle.kilim_classes.specs.declared.class.Form.{Form}
-use Rattle.kilim_classes.specs.declared.class.Method.{Method}
-use Rattle.kilim_classes.specs.declared.names.ClassId.{ClassId}
-use Rattle.kilim_classes.specs.declared.ty.Qualifier.TheVariants.{Cuttable, Safe}
-use Rattle.kilim_classes.specs.Keeps.{code_is_whole, constants_fit, frames_are_proper, ids_are_places, method_is_sound, no_task_arrays}
-use Rattle.kilim_classes.specs.Lengths.{places_increase}
-use Rattle.kilim_classes.specs.Names.{is_empty, is_task}
-use Rattle.kilim_classes.specs.Program.{Program}
-use Rattle.kilim_classes.specs.Same.{is_constructor, same_qualifier}
+use Rattle.kilim_program.specs.declared.class.Form.{Form}
+use Rattle.kilim_program.specs.declared.class.Method.{Method}
+use Rattle.kilim_program.specs.declared.names.ClassId.{ClassId}
+use Rattle.kilim_program.specs.declared.ty.Qualifier.TheVariants.{Cuttable, Safe}
+use Rattle.kilim_program.specs.Keeps.{code_is_whole, constants_fit, frames_are_proper, ids_are_places, method_is_sound, no_task_arrays}
+use Rattle.kilim_program.specs.Lengths.{places_increase}
+use Rattle.kilim_program.specs.Names.{is_empty, is_task}
+use Rattle.kilim_program.specs.Program.{Program}
+use Rattle.kilim_program.specs.Same.{is_constructor, same_qualifier}
 
 -- The places of each method's frames increase.
 abbrev pub FramesIncrease : Type 0

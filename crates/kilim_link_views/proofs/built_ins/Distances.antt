@@ -1,7 +1,7 @@
 -- The methods at distances from a first one, one by one.
 use Rattle.std.proofs.Common.{◌≡◌, ℕ, ◌+◌, ◌<◌, List, [], ◌∷◌, ◌++◌, length, take, get_or, refl, ap, ◌∙◌, add-one}
 use Rattle.std.proofs.Math.Seq.{take-suc}
-use Rattle.kilim_classes.specs.BuiltIn.{method_id, methods_from}
+use Rattle.kilim_program.specs.BuiltIn.{method_id, methods_from}
 
 from_append : (first : ℕ) (xs : List ℕ) (n : ℕ) → methods_from first (xs ++ n ∷ []) ≡ methods_from first xs ++ method_id (first + n) ∷ []
 from_append first [] n = refl

@@ -1,12 +1,12 @@
 //! The classes.
 
 ghost use Rattle.std.specs.Prelude.{◌≡◌, ◌<◌, ◌^◌, ℕ, ◌++◌, ◌∷◌, [], map, Some, OnOk, IfOk};
-ghost use Rattle.kilim_classes.specs.BuiltIn.{class_id, methods_from, fiber_classes, built_in_classes_in};
+ghost use Rattle.kilim_program.specs.BuiltIn.{class_id, methods_from, fiber_classes, built_in_classes_in};
 ghost use Rattle.kilim_link_views.specs.built_ins.Rows.{class_of};
 
 use crate::built_ins::parts::text;
 use crate::built_ins::rows::{CLASSES, ClassRow, FIBER_CLASSES, OBJECT_CLASS};
-use kilim_classes::{Class, ClassId, Form, MethodId};
+use kilim_program::{Class, ClassId, Form, MethodId};
 use kilim_units::{NoMemory, Seq};
 use std::alloc::Global;
 

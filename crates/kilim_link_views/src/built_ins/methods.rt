@@ -1,12 +1,12 @@
 //! The methods, class by class.
 
 ghost use Rattle.std.specs.Prelude.{◌≡◌, ◌<◌, ◌^◌, ℕ, ◌++◌, ◌∷◌, [], map, OnOk, IfOk};
-ghost use Rattle.kilim_classes.specs.BuiltIn.{built_in_methods_in, fiber_methods};
+ghost use Rattle.kilim_program.specs.BuiltIn.{built_in_methods_in, fiber_methods};
 ghost use Rattle.kilim_link_views.specs.built_ins.Rows.{params_of, marks_of, fiber_kinds, fiber_marks, method_of};
 
 use crate::built_ins::parts::{gives_of, push_types, text};
 use crate::built_ins::rows::{FIBER_METHODS, Kind, METHODS, MethodRow};
-use kilim_classes::{ClassId, Form, Method, Qualifier, Ty};
+use kilim_program::{ClassId, Form, Method, Qualifier, Ty};
 use kilim_units::{NoMemory, Seq};
 use std::alloc::Global;
 

@@ -4,7 +4,7 @@ ghost use Rattle.std.specs.Prelude.{◌≡◌, ◌<◌, ◌^◌, ◌++◌, map, 
 ghost use Rattle.kilim_link_views.specs.built_ins.Rows.{type_of};
 
 use crate::built_ins::rows::Kind;
-use kilim_classes::{Base, ClassId, Ty};
+use kilim_program::{Base, ClassId, Ty};
 use kilim_units::{NoMemory, Units};
 use std::alloc::Global;
 

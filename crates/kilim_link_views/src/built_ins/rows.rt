@@ -1,6 +1,6 @@
 //! The built-in classes and methods as rows. A class is named by its distance from the first one, a method likewise.
 
-use kilim_classes::Qualifier;
+use kilim_program::Qualifier;
 
 /// The type of a parameter or of a result.
 #[derive(Clone, Copy)]

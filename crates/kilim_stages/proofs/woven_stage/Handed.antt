@@ -1,9 +1,9 @@
 -- From an accepted program to its woven form, or to the line of its first method that can't be woven.
 use Rattle.std.proofs.Common.{◌≡◌, ℕ, List, None, Result, Ok, Err, sym, subst, inr}
 use Rattle.std.specs.Prelude.{IfOk}
-use Rattle.kilim_classes.specs.Program.{Program}
-use Rattle.kilim_weaver.specs.Faults.{weave_fault}
-use Rattle.kilim_weaver.specs.Weaves.{Weaves}
+use Rattle.kilim_program.specs.Program.{Program}
+use Rattle.kilim_weave.specs.Faults.{weave_fault}
+use Rattle.kilim_weave.specs.Weaves.{Weaves}
 use Rattle.kilim_stages.specs.Accepted.{IsAcceptedOf}
 use Rattle.kilim_stages.specs.Parts.{IfReport}
 use Rattle.kilim_stages.specs.declared.refusal.Refusal.{Refusal}

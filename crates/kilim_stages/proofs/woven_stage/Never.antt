@@ -1,8 +1,8 @@
 -- Class files whose accepted program can be woven aren't reported.
 use Rattle.std.proofs.Common.{◌≡◌, Option, Some, None, subst, inl, inr}
-use Rattle.kilim_classes.specs.Program.{Program}
+use Rattle.kilim_program.specs.Program.{Program}
 use Rattle.kilim_stages.specs.Laws.{NeverBoth, OneProgramOf}
-use Rattle.kilim_weaver.specs.Faults.{weave_fault}
+use Rattle.kilim_weave.specs.Faults.{weave_fault}
 use Rattle.kilim_stages.specs.woven_stage.Laws.{WovenIsNotReported}
 
 none_some : {A : Type 0} (x : A) (o : Option A) → o ≡ None → o ≡ Some x → ⊥

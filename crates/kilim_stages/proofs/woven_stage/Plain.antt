@@ -1,7 +1,7 @@
 -- An accepted program is plain.
 use Rattle.std.proofs.Common.{◌≡◌, ℕ, List, ap}
-use Rattle.kilim_classes.specs.declared.class.Form.TheVariants.{Plain}
-use Rattle.kilim_classes.specs.Program.{Program}
+use Rattle.kilim_program.specs.declared.class.Form.TheVariants.{Plain}
+use Rattle.kilim_program.specs.Program.{Program}
 use Rattle.kilim_link_spec.specs.Laws.{LinkedInParts}
 use Rattle.kilim_stages.specs.Accepted.{IsAcceptedOf}
 

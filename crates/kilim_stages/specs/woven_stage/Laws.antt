@@ -1,8 +1,8 @@
 -- A law: class files whose accepted program can be woven aren't reported.
 use Rattle.std.specs.Prelude.{◌≡◌, ℕ, List, None}
-use Rattle.kilim_classes.specs.Program.{Program}
+use Rattle.kilim_program.specs.Program.{Program}
 use Rattle.kilim_stages.specs.Accepted.{IsAcceptedOf}
-use Rattle.kilim_weaver.specs.Faults.{weave_fault}
+use Rattle.kilim_weave.specs.Faults.{weave_fault}
 use Rattle.kilim_stages.specs.woven_stage.Reports.{IsWovenReport}
 
 abbrev pub WovenIsNotReported : Type 0

@@ -1,9 +1,9 @@
 -- How the parts of the stage hand on what they answer. No clause of `woven_program` cites what stands here.
 use Rattle.std.specs.Prelude.{◌≡◌, ℕ, List, Some, None}
-use Rattle.kilim_classes.specs.Program.{Program}
-use Rattle.kilim_weaver.specs.declared.fault.WeaveFault.{WeaveFault}
-use Rattle.kilim_weaver.specs.Faults.{weave_fault}
-use Rattle.kilim_weaver.specs.Weaves.{Weaves}
+use Rattle.kilim_program.specs.Program.{Program}
+use Rattle.kilim_weave.specs.declared.fault.WeaveFault.{WeaveFault}
+use Rattle.kilim_weave.specs.Faults.{weave_fault}
+use Rattle.kilim_weave.specs.Weaves.{Weaves}
 use Rattle.kilim_stages.specs.declared.woven_stage.stage.WovenProgram.{WovenProgram}
 use Rattle.kilim_stages.specs.woven_stage.Reports.{IsMethodLine}
 

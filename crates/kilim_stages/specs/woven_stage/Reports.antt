@@ -1,15 +1,15 @@
 -- The reports of class files whose program isn't woven. The first stage that has a fault is reported.
 use Rattle.std.specs.Prelude.{◌≡◌, ℕ, List, ◌++◌, Some, codes, ◌⊎◌}
 use Rattle.std.specs.Fmt.{decimal}
-use Rattle.kilim_classes.specs.declared.names.MethodId.{MethodId}
-use Rattle.kilim_classes.specs.Names.{method_at}
-use Rattle.kilim_classes.specs.Program.{Program}
+use Rattle.kilim_program.specs.declared.names.MethodId.{MethodId}
+use Rattle.kilim_program.specs.Names.{method_at}
+use Rattle.kilim_program.specs.Program.{Program}
 use Rattle.kilim_reports.specs.RuleLines.{words_of}
 use Rattle.kilim_stages.specs.Accepted.{IsAcceptedOf}
 use Rattle.kilim_stages.specs.Reports.{IsStageReport}
-use Rattle.kilim_weaver.specs.declared.fault.WeaveFault.{WeaveFault}
-use Rattle.kilim_weaver.specs.declared.fault.WeaveFault.TheVariants as fault
-use Rattle.kilim_weaver.specs.Faults.{weave_fault}
+use Rattle.kilim_weave.specs.declared.fault.WeaveFault.{WeaveFault}
+use Rattle.kilim_weave.specs.declared.fault.WeaveFault.TheVariants as fault
+use Rattle.kilim_weave.specs.Faults.{weave_fault}
 
 -- ---- lines, each with its line feed
 

@@ -1,13 +1,13 @@
 -- The accepted program of some class files, and its woven form.
 use Rattle.std.specs.Prelude.{◌≡◌, ℕ, List, Option, Some, None}
-use Rattle.kilim_classes.specs.declared.names.ClassId.{ClassId}
-use Rattle.kilim_classes.specs.main_class.Main.{fit_class_named}
-use Rattle.kilim_classes.specs.Program.{Program}
+use Rattle.kilim_program.specs.declared.names.ClassId.{ClassId}
+use Rattle.kilim_program.specs.main_class.Main.{fit_class_named}
+use Rattle.kilim_program.specs.Program.{Program}
 use Rattle.kilim_stages.specs.Accepted.{IsAcceptedOf}
 use Rattle.kilim_stages.specs.declared.woven_stage.stage.WovenProgram.{WovenProgram}
-use Rattle.kilim_weaver.specs.declared.weaving.Woven.{Woven}
-use Rattle.kilim_weaver.specs.Faults.{weave_fault}
-use Rattle.kilim_weaver.specs.Weaves.{Weaves}
+use Rattle.kilim_weave.specs.declared.weaving.Woven.{Woven}
+use Rattle.kilim_weave.specs.Faults.{weave_fault}
+use Rattle.kilim_weave.specs.Weaves.{Weaves}
 
 -- The class files with these bytes link to the program, which is accepted. Each of its methods can be woven, and this is its woven form.
 pub record IsWovenOf (files : List (List ℕ)) (p : Program) (w : Woven) : Type 0 where

@@ -4,8 +4,8 @@ ghost use Rattle.std.specs.Prelude.{IfOk};
 ghost use Rattle.kilim_stages.specs.woven_stage.Stage.{IsWithMain};
 
 use crate::woven_stage::WovenProgram;
-use kilim_classes::ClassId;
-use kilim_classes::main_class::fit_main;
+use kilim_program::ClassId;
+use kilim_program::main_class::fit_main;
 use kilim_units::NoMemory;
 
 /// The program as it is, with its main class: the first class of that name, if it is fit to be one. It is None where there is no such class,

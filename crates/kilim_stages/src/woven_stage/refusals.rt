@@ -1,16 +1,16 @@
 //! The lines of methods that can't be woven.
 
 ghost use Rattle.std.specs.Prelude.{◌≡◌, ◌++◌, IfOk, codes};
-ghost use Rattle.kilim_classes.specs.Names.{method_at};
+ghost use Rattle.kilim_program.specs.Names.{method_at};
 ghost use Rattle.kilim_reports.specs.RuleLines.{words_of};
 ghost use Rattle.kilim_stages.specs.Parts.{Refused};
 ghost use Rattle.kilim_stages.specs.woven_stage.Reports.{IsMethodLine, arguments_line, too_long_line};
 
 use crate::Refusal;
-use kilim_classes::{MethodId, Program};
+use kilim_program::{MethodId, Program};
 use kilim_reports::{joined, push_number, words_of};
 use kilim_units::NoMemory;
-use kilim_weaver::WeaveFault;
+use kilim_weave::WeaveFault;
 use std::alloc::Global;
 
 // ---- lines

@@ -3,18 +3,18 @@
 ghost use Rattle.std.specs.Prelude.{◌≡◌, ◌≤◌, length, map, IfOk};
 ghost use Rattle.std.specs.String.{string_bytes};
 ghost use Rattle.kilim_stages.specs.Parts.{IfReport};
-ghost use Rattle.kilim_weaver.specs.Weaves.{IsWoven};
+ghost use Rattle.kilim_weave.specs.Weaves.{IsWoven};
 ghost use Rattle.kilim_stages.specs.woven_stage.Parts.{IsMethodLineOf, IsWovenBy};
 ghost use Rattle.kilim_stages.specs.woven_stage.Reports.{IsWovenReport};
 ghost use Rattle.kilim_stages.specs.woven_stage.Stage.{IsWovenOf};
 
 use crate::woven_stage::refusals::method_refusal;
 use crate::{Refusal, accepted};
-use kilim_classes::{Form, Program};
-use kilim_isolation_check::Isolated;
+use kilim_isolation::Isolated;
 use kilim_link_spec::linked_in_parts;
+use kilim_program::{Form, Program};
 use kilim_units::Seq;
-use kilim_weaver::{WeaveFault, Woven, weave};
+use kilim_weave::{WeaveFault, Woven, weave};
 use std::alloc::Global;
 
 /// An accepted program and its woven form.

@@ -1,15 +1,15 @@
 -- The class files of the demo are class files: no report is that of one that isn't.
 use Rattle.std.proofs.Common.{◌≡◌, inl, inr, ℕ, List, [], ◌∷◌, Option, Some, None, Result, Ok, Err, map, refl, ap, subst, ◌∙◌}
 use Rattle.std.specs.List.{AllByRecursion}
-use Rattle.kilim_classfile.specs.declared.class_file.ClassFile.{ClassFile}
-use Rattle.kilim_classfile.specs.declared.fault.ClassFault.{ClassFault}
-use Rattle.kilim_classfile.specs.Law.{ClassFilesAreSpelled}
-use Rattle.kilim_classfile.specs.Text.{class_text, ClassFits}
+use Rattle.kilim_class_file.specs.declared.class_file.ClassFile.{ClassFile}
+use Rattle.kilim_class_file.specs.declared.fault.ClassFault.{ClassFault}
+use Rattle.kilim_class_file.specs.Law.{ClassFilesAreSpelled}
+use Rattle.kilim_class_file.specs.Text.{class_text, ClassFits}
 use Rattle.kilim_stages.specs.Reports.{IsClassReport, first_fault, or_fault}
 use Rattle.kilim_stages.specs.declared.refusal.Refusal.{Refusal}
 use Rattle.kilim_stages.specs.declared.refusal.Refusal.TheVariants as refusal
 use Rattle.kilim_stages.specs.Parts.{IfReport}
-use Rattle.kilim_program_maker.specs.Demo.{demo_of}
+use Rattle.kilim_demo.specs.Demo.{demo_of}
 use Rattle.kilim_stages.specs.woven_stage.Reports.{IsWovenReport}
 use Rattle.kilim_top.specs.demo.Demo.{demo_texts, IsDemoReport}
 

@@ -2,23 +2,23 @@
 use Rattle.std.proofs.Common.{◌≡◌, ◌≤◌, ℕ, List, Option, Some, Result, Ok, Err, length, sym, subst, arith}
 use Rattle.std.proofs.lemmas.List.{length-map}
 use Rattle.std.specs.Prelude.{IfOk}
-use Rattle.kilim_classes.specs.declared.names.ClassId.{ClassId}
-use Rattle.kilim_classes.specs.Program.{Program}
-use Rattle.kilim_classfile.specs.Text.{class_text}
-use Rattle.kilim_journal.specs.declared.entry.Entry.{Entry}
-use Rattle.kilim_classes.specs.main_class.Main.{fit_class_named}
-use Rattle.kilim_classes.specs.declared.machine.run.Limits.{Limits}
-use Rattle.kilim_program_maker.specs.Demo.{demo_of}
-use Rattle.kilim_program_maker.specs.Laws.{DemoIsShort}
+use Rattle.kilim_program.specs.declared.names.ClassId.{ClassId}
+use Rattle.kilim_program.specs.Program.{Program}
+use Rattle.kilim_class_file.specs.Text.{class_text}
+use Rattle.kilim_run_journal.specs.declared.entry.Entry.{Entry}
+use Rattle.kilim_program.specs.main_class.Main.{fit_class_named}
+use Rattle.kilim_run_state.specs.declared.run.Limits.{Limits}
+use Rattle.kilim_demo.specs.Demo.{demo_of}
+use Rattle.kilim_demo.specs.Laws.{DemoIsShort}
 use Rattle.kilim_stages.specs.declared.refusal.Refusal.{Refusal}
-use Rattle.kilim_thread_model.specs.Runs.{Whole}
-use Rattle.kilim_weaver.specs.declared.weaving.Woven.{Woven}
+use Rattle.kilim_run_model.specs.Runs.{Whole}
+use Rattle.kilim_weave.specs.declared.weaving.Woven.{Woven}
 use Rattle.kilim_top.specs.Served.{WovenIsServed}
-use Rattle.kilim_whole_runs.specs.Runs.{IsJournalOf, setting_of}
-use Rattle.kilim_weaving_laws.specs.Served.{CanServe}
+use Rattle.kilim_run.specs.Runs.{IsJournalOf, setting_of}
+use Rattle.kilim_fiber_laws.specs.Served.{CanServe}
 use Rattle.kilim_stages.specs.declared.woven_stage.stage.WovenProgram.{WovenProgram}
 use Rattle.kilim_stages.specs.woven_stage.Stage.{IsWithMain, IsWovenOf}
-use Rattle.kilim_top_parts.specs.DemoLine.{demo_line}
+use Rattle.kilim_command.specs.DemoLine.{demo_line}
 use Rattle.kilim_top.specs.demo.Demo.{demo_limits, demo_texts, main_name, IsDemoLine}
 use Rattle.kilim_top.specs.demo.Ready.{IsReady}
 use Rattle.kilim_top.proofs.Mains.{fit_named}

@@ -1,26 +1,26 @@
 -- What is answered for an accepted program, and for the bytes of files.
 use Rattle.std.specs.Prelude.{◌≡◌, ℕ, true, List, [], Option, Some, ◌⊎◌}
-use Rattle.kilim_classes.specs.declared.names.ClassId.{ClassId}
-use Rattle.kilim_classes.specs.Names.{class_named}
-use Rattle.kilim_classes.specs.Program.{Program}
+use Rattle.kilim_program.specs.declared.names.ClassId.{ClassId}
+use Rattle.kilim_program.specs.Names.{class_named}
+use Rattle.kilim_program.specs.Program.{Program}
 use Rattle.kilim_top.specs.demo.Demo.{demo_limits, IsDemoReport}
 use Rattle.kilim_top.specs.demo.Ready.{IsReady}
-use Rattle.kilim_journal.specs.declared.entry.Entry.{Entry}
-use Rattle.kilim_classes.specs.declared.machine.run.Limits.{Limits}
-use Rattle.kilim_classes.specs.machine.Members.{is_fit_main}
+use Rattle.kilim_run_journal.specs.declared.entry.Entry.{Entry}
+use Rattle.kilim_run_state.specs.declared.run.Limits.{Limits}
+use Rattle.kilim_program.specs.Members.{is_fit_main}
 use Rattle.kilim_stages.specs.declared.refusal.Refusal.{Refusal}
 use Rattle.kilim_stages.specs.declared.refusal.Refusal.TheVariants as refusal
-use Rattle.kilim_thread_model.specs.State.{Setting}
-use Rattle.kilim_weaver.specs.declared.weaving.Woven.{Woven}
-use Rattle.kilim_whole_runs.specs.Runs.{IsJournalOf, setting_of}
-use Rattle.kilim_outside.specs.words.Words.{Request}
-use Rattle.kilim_weaving_laws.specs.Served.{CanServe}
+use Rattle.kilim_run_model.specs.State.{Setting}
+use Rattle.kilim_weave.specs.declared.weaving.Woven.{Woven}
+use Rattle.kilim_run.specs.Runs.{IsJournalOf, setting_of}
+use Rattle.kilim_command.specs.grammar.Words.{Request}
+use Rattle.kilim_fiber_laws.specs.Served.{CanServe}
 use Rattle.kilim_stages.specs.declared.woven_stage.stage.WovenProgram.{WovenProgram}
-use Rattle.kilim_written_files.specs.OutputFile.{OutputFile}
+use Rattle.kilim_outside.specs.written.OutputFile.{OutputFile}
 use Rattle.kilim_top.specs.declared.answer.Ready.{Ready}
 use Rattle.kilim_top.specs.declared.answer.Ready.TheVariants as ready
-use Rattle.kilim_top_parts.specs.Report.{named_line}
-use Rattle.kilim_top_parts.specs.RunText.{demo_number, run_text}
+use Rattle.kilim_command.specs.Report.{named_line}
+use Rattle.kilim_command.specs.RunText.{demo_number, run_text}
 use Rattle.kilim_top.specs.Outcome.{IsDone, IsReport}
 
 -- the text of the journal of a whole run

@@ -1,9 +1,9 @@
 -- What was written for the bytes of files with these names.
 use Rattle.std.specs.Prelude.{◌≡◌, ◌≤◌, ℕ, List, Some, ◌⊎◌}
 use Rattle.kilim_outside.specs.Causes.{Appended}
-use Rattle.kilim_outside.specs.words.Words.{Request}
-use Rattle.kilim_written_files.specs.OutputFile.{OutputFile}
-use Rattle.kilim_written_files.specs.Written.{WroteFiles}
+use Rattle.kilim_command.specs.grammar.Words.{Request}
+use Rattle.kilim_outside.specs.written.OutputFile.{OutputFile}
+use Rattle.kilim_outside.specs.written.Written.{WroteFiles}
 use Rattle.kilim_top.specs.Outcome.{AsksForFiles, HowFar, IsDone, IsFault, IsFitFor, IsReport, IsToWrite, Outside}
 
 pub record Wrote0 (work : Request) (files : List (List ℕ)) (old new : Outside) : Type 0 where

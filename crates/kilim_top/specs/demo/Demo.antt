@@ -1,20 +1,20 @@
 -- The run of the demo of a number, and what is written of it (own).
 use Rattle.std.specs.Prelude.{◌≡◌, ℕ, true, List, [], map, Some, None, ◌⊎◌, codes}
-use Rattle.kilim_classes.specs.Program.{Program}
-use Rattle.kilim_classes.specs.declared.names.ClassId.{ClassId}
-use Rattle.kilim_classes.specs.Names.{class_named}
-use Rattle.kilim_classfile.specs.Text.{class_text}
-use Rattle.kilim_journal.specs.declared.entry.Entry.{Entry}
-use Rattle.kilim_classes.specs.declared.machine.run.Limits.{Limits}
-use Rattle.kilim_classes.specs.machine.Members.{is_fit_main}
-use Rattle.kilim_program_maker.specs.Demo.{demo_of}
+use Rattle.kilim_program.specs.Program.{Program}
+use Rattle.kilim_program.specs.declared.names.ClassId.{ClassId}
+use Rattle.kilim_program.specs.Names.{class_named}
+use Rattle.kilim_class_file.specs.Text.{class_text}
+use Rattle.kilim_run_journal.specs.declared.entry.Entry.{Entry}
+use Rattle.kilim_run_state.specs.declared.run.Limits.{Limits}
+use Rattle.kilim_program.specs.Members.{is_fit_main}
+use Rattle.kilim_demo.specs.Demo.{demo_of}
 use Rattle.kilim_stages.specs.Accepted.{IsAcceptedOf}
 use Rattle.kilim_stages.specs.Reports.{IsLinkReport, IsTypeReport, IsRulesReport}
-use Rattle.kilim_thread_model.specs.Runs.{Whole}
-use Rattle.kilim_thread_model.specs.State.{Setting}
-use Rattle.kilim_weaver.specs.Faults.{weave_fault}
+use Rattle.kilim_run_model.specs.Runs.{Whole}
+use Rattle.kilim_run_model.specs.State.{Setting}
+use Rattle.kilim_weave.specs.Faults.{weave_fault}
 use Rattle.kilim_stages.specs.woven_stage.Reports.{IsMethodReport}
-use Rattle.kilim_top_parts.specs.DemoLine.{demo_line}
+use Rattle.kilim_command.specs.DemoLine.{demo_line}
 
 -- the bytes of its class files, in their order
 unfoldable pub demo_texts : ℕ → List (List ℕ)

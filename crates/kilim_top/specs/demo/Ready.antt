@@ -1,13 +1,13 @@
 -- What is run, and how the stages hand on what they answer.
 use Rattle.std.specs.Prelude.{◌≡◌, ℕ, Some, None}
-use Rattle.kilim_classes.specs.Program.{Program}
-use Rattle.kilim_classes.specs.declared.names.ClassId.{ClassId}
-use Rattle.kilim_classes.specs.main_class.Main.{fit_class_named}
+use Rattle.kilim_program.specs.Program.{Program}
+use Rattle.kilim_program.specs.declared.names.ClassId.{ClassId}
+use Rattle.kilim_program.specs.main_class.Main.{fit_class_named}
 use Rattle.kilim_stages.specs.Accepted.{IsAcceptedOf}
-use Rattle.kilim_weaver.specs.declared.weaving.Woven.{Woven}
-use Rattle.kilim_weaver.specs.Faults.{weave_fault}
-use Rattle.kilim_whole_runs.specs.Runs.{setting_of}
-use Rattle.kilim_weaving_laws.specs.Served.{CanServe}
+use Rattle.kilim_weave.specs.declared.weaving.Woven.{Woven}
+use Rattle.kilim_weave.specs.Faults.{weave_fault}
+use Rattle.kilim_run.specs.Runs.{setting_of}
+use Rattle.kilim_fiber_laws.specs.Served.{CanServe}
 use Rattle.kilim_top.specs.demo.Demo.{demo_limits, demo_texts, main_name}
 
 -- the program is that of the demo, it is accepted, each of its methods can be woven, this is its main class, and its woven form can be run

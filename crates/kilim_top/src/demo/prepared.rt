@@ -8,10 +8,10 @@ ghost use Rattle.kilim_top.specs.Inside.Answer.{IsDemoReady};
 
 use crate::answer::{Ready, refused};
 use crate::laws::woven_is_served;
-use kilim_classes::ClassId;
-use kilim_classes::machine::Limits;
-use kilim_classfile::class_file_is_spelled;
-use kilim_program_maker::{demo_fits, make_texts, no_names};
+use kilim_class_file::class_file_is_spelled;
+use kilim_demo::{demo_fits, make_texts, no_names};
+use kilim_program::ClassId;
+use kilim_run_state::Limits;
 use kilim_stages::Refusal;
 use kilim_stages::woven_stage::{WovenProgram, with_main, woven_program};
 use kilim_units::{NoMemory, Seq};

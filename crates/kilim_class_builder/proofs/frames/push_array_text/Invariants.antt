@@ -1,5 +1,5 @@
 use Rattle.std.proofs.Common.{◌≡◌, ◌++◌, ◌-◌}
-use Rattle.kilim_classes.specs.Names.{array_descriptor}
+use Rattle.kilim_program.specs.Names.{array_descriptor}
 use Rattle.kilim_class_builder.specs.Frames.{base_text}
 use Rattle.kilim_class_builder.proofs.frames.push_array_text.Given as goal
 

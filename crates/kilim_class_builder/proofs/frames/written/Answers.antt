@@ -1,5 +1,5 @@
 use Rattle.std.proofs.Common.{◌+◌, ◌++◌, List, ap, drop, sym, ◌∙◌, arith, refl, false}
-use Rattle.kilim_classes.specs.declared.verified.VType.{VType}
+use Rattle.kilim_program.specs.declared.verified.VType.{VType}
 use Rattle.kilim_class_builder.specs.Frames.{written}
 use Rattle.kilim_class_builder.proofs.Lists.{drop_next}
 use Rattle.kilim_class_builder.proofs.Loops.{all_made}

@@ -4,15 +4,15 @@ use Rattle.std.specs.Prelude.{◌||◌, not, if◌then◌else◌, is_none, slice
 use Rattle.std.specs.List.{list_all}
 use Rattle.std.specs.Str.{bytes_eq}
 use Rattle.std.proofs.lemmas.Bool.{and_parts}
-use Rattle.kilim_classes.specs.declared.class.Method.{Method}
-use Rattle.kilim_classes.specs.declared.names.ClassId.{ClassId}
-use Rattle.kilim_classes.specs.declared.names.MethodId.{MethodId}
-use Rattle.kilim_classes.specs.declared.ty.Qualifier.{Qualifier}
-use Rattle.kilim_classes.specs.declared.ty.Qualifier.TheVariants.{Free, Cuttable, Safe}
-use Rattle.kilim_classes.specs.Names.{method_at, methods_of, first_that, is_empty}
-use Rattle.kilim_classes.specs.Program.{Program}
-use Rattle.kilim_classes.specs.Same.{is_constructor, same_qualifier}
-use Rattle.kilim_classes.specs.machine.Members.{is_plain_method}
+use Rattle.kilim_program.specs.declared.class.Method.{Method}
+use Rattle.kilim_program.specs.declared.names.ClassId.{ClassId}
+use Rattle.kilim_program.specs.declared.names.MethodId.{MethodId}
+use Rattle.kilim_program.specs.declared.ty.Qualifier.{Qualifier}
+use Rattle.kilim_program.specs.declared.ty.Qualifier.TheVariants.{Free, Cuttable, Safe}
+use Rattle.kilim_program.specs.Names.{method_at, methods_of, first_that, is_empty}
+use Rattle.kilim_program.specs.Program.{Program}
+use Rattle.kilim_program.specs.Same.{is_constructor, same_qualifier}
+use Rattle.kilim_program.specs.Members.{is_plain_method}
 use Rattle.kilim_link_laws.specs.code_laws.Facts.{cuts_its_receiver}
 use Rattle.kilim_isolation_laws.specs.accepted_runs.begins.Begins.{MainBegins}
 

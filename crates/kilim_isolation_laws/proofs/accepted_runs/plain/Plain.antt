@@ -3,16 +3,16 @@ use Rattle.std.proofs.Common.{◌≡◌, ◌≢◌, ℕ, zero, suc, Bool, true, 
 use Rattle.std.specs.Prelude.{not, slice_get, ◌==◌}
 use Rattle.std.specs.List.{list_all}
 use Rattle.std.proofs.lemmas.Bool.{and_parts, eq-eqb}
-use Rattle.kilim_classes.specs.declared.class.Class.{Class}
-use Rattle.kilim_classes.specs.declared.class.Form.TheVariants.{Plain}
-use Rattle.kilim_classes.specs.Keeps.{Keeps, begins_as_array, none_is_named_as_array}
-use Rattle.kilim_classes.specs.Names.{is_empty}
-use Rattle.kilim_classes.specs.Program.{Program}
-use Rattle.kilim_classfile.specs.declared.class_file.ClassFile.{ClassFile}
+use Rattle.kilim_program.specs.declared.class.Class.{Class}
+use Rattle.kilim_program.specs.declared.class.Form.TheVariants.{Plain}
+use Rattle.kilim_program.specs.Keeps.{Keeps, begins_as_array, none_is_named_as_array}
+use Rattle.kilim_program.specs.Names.{is_empty}
+use Rattle.kilim_program.specs.Program.{Program}
+use Rattle.kilim_class_file.specs.declared.class_file.ClassFile.{ClassFile}
 use Rattle.kilim_link_spec.specs.Laws.{LinkedInParts}
 use Rattle.kilim_link_spec.specs.LinksWell.{LinksWell}
 use Rattle.kilim_link_laws.specs.Facts.{EachIsNamed, each_is_named}
-use Rattle.kilim_thread_model.specs.kin.trees.Laws.{IsPlain}
+use Rattle.kilim_run_model.specs.kin.trees.Laws.{IsPlain}
 use Rattle.kilim_isolation_laws.specs.tree_types.Laws.{AreNamedPlainly}
 
 same_test : {A : Type 0} (test : A → Bool) (x y : A) → Some y ≡ Some x → test y ≡ true → test x ≡ true

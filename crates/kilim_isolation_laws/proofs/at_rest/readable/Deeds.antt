@@ -1,19 +1,19 @@
 -- The deeds of a course can be read.
 use Rattle.std.proofs.Common.{◌≡◌, ℕ, Bool, true, List, [], ◌∷◌, ◌++◌, Option, Some, None, refl, sym, ap, subst, ◌∙◌}
 use Rattle.std.specs.List.{AllByRecursion}
-use Rattle.kilim_classes.specs.declared.names.BoxName.{BoxName}
-use Rattle.kilim_classes.specs.declared.machine.value.Object.{Object}
-use Rattle.kilim_classes.specs.declared.machine.value.Token.{Token}
-use Rattle.kilim_classes.specs.machine.Trees.{built, OfMessage}
-use Rattle.kilim_journal.specs.declared.entry.Act.{Act}
-use Rattle.kilim_journal.specs.declared.entry.Act.TheVariants as act
-use Rattle.kilim_journal.specs.Readable.{is_object, is_readable_act}
-use Rattle.kilim_classes.specs.Program.{Program}
-use Rattle.kilim_thread_model.specs.State.{Setting}
-use Rattle.kilim_thread_model.specs.declared.deed.Deed.{Deed}
-use Rattle.kilim_thread_model.specs.Course.{Course, Done, Follows, IsLone, done_by, next_action, probes_deed, puts_deed, starts_deed, takes_deed, tree_came}
-use Rattle.kilim_thread_model.specs.Lone.{Lone, Next}
-use Rattle.kilim_thread_model.specs.Lone as next
+use Rattle.kilim_program.specs.declared.names.BoxName.{BoxName}
+use Rattle.kilim_run_state.specs.declared.value.Object.{Object}
+use Rattle.kilim_run_state.specs.declared.value.Token.{Token}
+use Rattle.kilim_run_state.specs.Trees.{built, OfMessage}
+use Rattle.kilim_run_journal.specs.declared.entry.Act.{Act}
+use Rattle.kilim_run_journal.specs.declared.entry.Act.TheVariants as act
+use Rattle.kilim_run_journal.specs.Readable.{is_object, is_readable_act}
+use Rattle.kilim_program.specs.Program.{Program}
+use Rattle.kilim_run_model.specs.State.{Setting}
+use Rattle.kilim_run_model.specs.declared.deed.Deed.{Deed}
+use Rattle.kilim_run_model.specs.Course.{Course, Done, Follows, IsLone, done_by, next_action, probes_deed, puts_deed, starts_deed, takes_deed, tree_came}
+use Rattle.kilim_run_model.specs.Lone.{Lone, Next}
+use Rattle.kilim_run_model.specs.Lone as next
 use Rattle.kilim_isolation_laws.proofs.at_rest.readable.Nexts.{CanRead, action_read}
 
 abbrev pub IsReadableDeed : Deed → Type 0

@@ -1,24 +1,24 @@
 -- What a thread does next carries shapes that can be read.
 use Rattle.std.proofs.Common.{◌≡◌, ℕ, zero, suc, ◌+◌, ℤ, Bool, true, false, cond, List, [], ◌∷◌, Option, Some, None, refl, sym, ap, subst}
 use Rattle.std.specs.Prelude.{nat_lt, nat_le}
-use Rattle.kilim_classes.specs.Program.{Program}
-use Rattle.kilim_classes.specs.declared.names.BoxName.{BoxName}
-use Rattle.kilim_classes.specs.declared.value.Value.{Value}
-use Rattle.kilim_classes.specs.declared.value.Value.TheVariants.{Int, Long, Null, Ref, Text, Box, Fiber}
-use Rattle.kilim_classes.specs.declared.machine.cause.EndCause.TheVariants as cause
-use Rattle.kilim_classes.specs.declared.machine.value.Token.{Token}
-use Rattle.kilim_classes.specs.machine.Machine.{Activation}
-use Rattle.kilim_classes.specs.machine.Members.{execute_of}
-use Rattle.kilim_classes.specs.machine.Natives.{Native, native_of}
-use Rattle.kilim_classes.specs.machine.Natives as native
-use Rattle.kilim_classes.specs.machine.Shapes.{shape_of}
-use Rattle.kilim_classes.specs.machine.Moves.{Move, push_value, moves}
-use Rattle.kilim_classes.specs.machine.Moves as move
-use Rattle.kilim_journal.specs.Readable.{is_object, is_plain_value}
-use Rattle.kilim_thread_model.specs.State.{Setting, Thread, Alive, Ended, begun_on}
-use Rattle.kilim_thread_model.specs.Course.{next_action, next_or, next_within}
-use Rattle.kilim_thread_model.specs.Lone.{Lone, Next, next_move, thread_next, frames_next, next_by, opens_next, finish_next, begins_next, asks_next, native_next, message_next, put_next, start_next, print_next, printed, arg_next, arg_at, over, went, on_heap, box_limit}
-use Rattle.kilim_thread_model.specs.Lone as next
+use Rattle.kilim_program.specs.Program.{Program}
+use Rattle.kilim_program.specs.declared.names.BoxName.{BoxName}
+use Rattle.kilim_program.specs.declared.value.Value.{Value}
+use Rattle.kilim_program.specs.declared.value.Value.TheVariants.{Int, Long, Null, Ref, Text, Box, Fiber}
+use Rattle.kilim_run_state.specs.declared.cause.EndCause.TheVariants as cause
+use Rattle.kilim_run_state.specs.declared.value.Token.{Token}
+use Rattle.kilim_run_state.specs.Machine.{Activation}
+use Rattle.kilim_program.specs.Members.{execute_of}
+use Rattle.kilim_run_machine.specs.Natives.{Native, native_of}
+use Rattle.kilim_run_machine.specs.Natives as native
+use Rattle.kilim_run_state.specs.Shapes.{shape_of}
+use Rattle.kilim_run_machine.specs.Moves.{Move, push_value, moves}
+use Rattle.kilim_run_machine.specs.Moves as move
+use Rattle.kilim_run_journal.specs.Readable.{is_object, is_plain_value}
+use Rattle.kilim_run_model.specs.State.{Setting, Thread, Alive, Ended, begun_on}
+use Rattle.kilim_run_model.specs.Course.{next_action, next_or, next_within}
+use Rattle.kilim_run_model.specs.Lone.{Lone, Next, next_move, thread_next, frames_next, next_by, opens_next, finish_next, begins_next, asks_next, native_next, message_next, put_next, start_next, print_next, printed, arg_next, arg_at, over, went, on_heap, box_limit}
+use Rattle.kilim_run_model.specs.Lone as next
 use Rattle.kilim_isolation_laws.proofs.at_rest.readable.Shapes.{shape_is_object}
 
 abbrev pub CanRead : Next → Type 0

@@ -4,22 +4,22 @@ use Rattle.std.specs.Prelude.{◌&&◌, not, nat_lt, slice_get, slice_set, ◌==
 use Rattle.std.specs.List.{AllByRecursion}
 use Rattle.std.proofs.lemmas.Bool.{eqb-true, eqb-false}
 use Rattle.std.proofs.lemmas.List.{append-nil}
-use Rattle.kilim_classes.specs.Names.{◌>>=◌}
-use Rattle.kilim_classes.specs.declared.names.BoxName.{BoxName}
-use Rattle.kilim_classes.specs.declared.machine.value.Token.{Token}
-use Rattle.kilim_journal.specs.declared.entry.Act.{Act}
-use Rattle.kilim_journal.specs.declared.entry.Act.TheVariants as act
-use Rattle.kilim_journal.specs.declared.entry.Entry.{Entry}
-use Rattle.kilim_journal.specs.Readable.{IsReadable, is_readable_act}
+use Rattle.kilim_program.specs.Names.{◌>>=◌}
+use Rattle.kilim_program.specs.declared.names.BoxName.{BoxName}
+use Rattle.kilim_run_state.specs.declared.value.Token.{Token}
+use Rattle.kilim_run_journal.specs.declared.entry.Act.{Act}
+use Rattle.kilim_run_journal.specs.declared.entry.Act.TheVariants as act
+use Rattle.kilim_run_journal.specs.declared.entry.Entry.{Entry}
+use Rattle.kilim_run_journal.specs.Readable.{IsReadable, is_readable_act}
 use Rattle.kilim_lemmas.proofs.Lists.{get_left, get_some, set_other, set_there}
-use Rattle.kilim_thread_model.specs.State.{Setting, with_mailbox, with_message, with_queue}
-use Rattle.kilim_thread_model.specs.declared.deed.Deed.{Deed}
-use Rattle.kilim_thread_model.specs.Course.{Course, IsLone, has_ended, plain}
-use Rattle.kilim_thread_model.specs.Lone.{Lone}
-use Rattle.kilim_thread_model.specs.Runs.{wait_entry}
-use Rattle.kilim_thread_model.specs.Turn.{task_limit}
-use Rattle.kilim_thread_model.specs.Moving.{Books, Moving, MovedAtRest, MovedReplay, books_after, books_by, books_empty, books_from, books_put, books_taken, first_books, further, is_tasks, waits_at, waits_from, with_deed}
-use Rattle.kilim_thread_model.specs.declared.deed.Beginning.TheVariants.{Begun}
+use Rattle.kilim_run_model.specs.State.{Setting, with_mailbox, with_message, with_queue}
+use Rattle.kilim_run_model.specs.declared.deed.Deed.{Deed}
+use Rattle.kilim_run_model.specs.Course.{Course, IsLone, has_ended, plain}
+use Rattle.kilim_run_model.specs.Lone.{Lone}
+use Rattle.kilim_run_model.specs.Runs.{wait_entry}
+use Rattle.kilim_run_model.specs.Turn.{task_limit}
+use Rattle.kilim_run_model.specs.Moving.{Books, Moving, MovedAtRest, MovedReplay, books_after, books_by, books_empty, books_from, books_put, books_taken, first_books, further, is_tasks, waits_at, waits_from, with_deed}
+use Rattle.kilim_run_model.specs.declared.deed.Beginning.TheVariants.{Begun}
 use Rattle.kilim_isolation_laws.specs.at_rest.readable.Laws.{RunsAreReadable}
 use Rattle.kilim_isolation_laws.proofs.at_rest.readable.Deeds.{IsReadableDeed, course_read}
 

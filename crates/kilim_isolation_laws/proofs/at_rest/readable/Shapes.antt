@@ -1,18 +1,18 @@
 -- The shape of an object is one object in preorder.
 use Rattle.std.proofs.Common.{◌≡◌, ℕ, zero, suc, Bool, true, false, cond, List, [], ◌∷◌, ◌++◌, Option, Some, None, refl, sym, ap, ◌∙◌, append_assoc}
 use Rattle.std.specs.Prelude.{nat_le, ◌==◌, count_by}
-use Rattle.kilim_classes.specs.Names.{◌>>=◌}
-use Rattle.kilim_classes.specs.Program.{Program}
-use Rattle.kilim_classes.specs.declared.names.FieldId.{FieldId}
-use Rattle.kilim_classes.specs.declared.value.Value.{Value}
-use Rattle.kilim_classes.specs.declared.value.Value.TheVariants as value
-use Rattle.kilim_classes.specs.declared.machine.value.Object.{Object}
-use Rattle.kilim_classes.specs.declared.machine.value.Token.{Token}
-use Rattle.kilim_classes.specs.declared.machine.value.Token.TheVariants as token
-use Rattle.kilim_classes.specs.machine.Members.{shown_name}
-use Rattle.kilim_classes.specs.machine.Machine.{Objects}
-use Rattle.kilim_classes.specs.machine.Shapes.{content_tokens, field_in, fields_in_order, is_open, joined_tokens, shape_by, shape_of, tree_limit, value_tokens}
-use Rattle.kilim_journal.specs.Readable.{ends_with_its_value, is_object}
+use Rattle.kilim_program.specs.Names.{◌>>=◌}
+use Rattle.kilim_program.specs.Program.{Program}
+use Rattle.kilim_program.specs.declared.names.FieldId.{FieldId}
+use Rattle.kilim_program.specs.declared.value.Value.{Value}
+use Rattle.kilim_program.specs.declared.value.Value.TheVariants as value
+use Rattle.kilim_run_state.specs.declared.value.Object.{Object}
+use Rattle.kilim_run_state.specs.declared.value.Token.{Token}
+use Rattle.kilim_run_state.specs.declared.value.Token.TheVariants as token
+use Rattle.kilim_program.specs.Members.{shown_name}
+use Rattle.kilim_run_state.specs.Machine.{Objects}
+use Rattle.kilim_run_state.specs.Shapes.{content_tokens, field_in, fields_in_order, is_open, joined_tokens, shape_by, shape_of, tree_limit, value_tokens}
+use Rattle.kilim_run_journal.specs.Readable.{ends_with_its_value, is_object}
 use Rattle.std.specs.FinMap.{get}
 
 some_is : {A : Type 0} (x y : A) → Some x ≡ Some y → x ≡ y

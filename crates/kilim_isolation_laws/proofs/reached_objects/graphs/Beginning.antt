@@ -1,23 +1,23 @@
 -- A method begins on an object.
 use Rattle.std.specs.Prelude.{replicate}
 use Rattle.std.proofs.Common.{if◌then◌else◌, ◌≡◌, ℕ, zero, suc, ◌-◌, Bool, true, false, true≢false, cond, List, [], ◌∷◌, ◌++◌, map, length, Option, Some, None, refl, sym, ap, subst, ◌∙◌, ◌⊎◌, inl, inr, arith}
-use Rattle.kilim_classes.specs.declared.class.Method.{Method}
-use Rattle.kilim_classes.specs.declared.names.MethodId.{MethodId}
-use Rattle.kilim_classes.specs.declared.ty.Kind.{Kind}
-use Rattle.kilim_classes.specs.declared.ty.Kind.TheVariants as kind
-use Rattle.kilim_classes.specs.declared.ty.Qualifier.{Qualifier}
-use Rattle.kilim_classes.specs.declared.ty.Qualifier.TheVariants as qualifier
-use Rattle.kilim_classes.specs.declared.value.Value.TheVariants.{Null, Ref}
-use Rattle.kilim_classes.specs.declared.verified.VType.TheVariants as vtype
-use Rattle.kilim_classes.specs.BuiltIn.{class_type}
-use Rattle.kilim_classes.specs.Kinds.{is_tree_kind, kind_of}
-use Rattle.kilim_classes.specs.Names.{method_at}
-use Rattle.kilim_classes.specs.Program.{Program}
-use Rattle.kilim_classes.specs.Same.{is_constructor}
-use Rattle.kilim_classes.specs.machine.Machine.{Objects}
-use Rattle.kilim_classes.specs.machine.Moves.{entered, slots_in}
-use Rattle.kilim_typing.specs.Step.{class_vtype, peek}
-use Rattle.kilim_typing.specs.Typed.{entry, this_types}
+use Rattle.kilim_program.specs.declared.class.Method.{Method}
+use Rattle.kilim_program.specs.declared.names.MethodId.{MethodId}
+use Rattle.kilim_program.specs.declared.ty.Kind.{Kind}
+use Rattle.kilim_program.specs.declared.ty.Kind.TheVariants as kind
+use Rattle.kilim_program.specs.declared.ty.Qualifier.{Qualifier}
+use Rattle.kilim_program.specs.declared.ty.Qualifier.TheVariants as qualifier
+use Rattle.kilim_program.specs.declared.value.Value.TheVariants.{Null, Ref}
+use Rattle.kilim_program.specs.declared.verified.VType.TheVariants as vtype
+use Rattle.kilim_program.specs.BuiltIn.{class_type}
+use Rattle.kilim_program.specs.Kinds.{is_tree_kind, kind_of}
+use Rattle.kilim_program.specs.Names.{method_at}
+use Rattle.kilim_program.specs.Program.{Program}
+use Rattle.kilim_program.specs.Same.{is_constructor}
+use Rattle.kilim_run_state.specs.Machine.{Objects}
+use Rattle.kilim_run_machine.specs.Moves.{entered, slots_in}
+use Rattle.kilim_type_spec.specs.Step.{class_vtype, peek}
+use Rattle.kilim_type_spec.specs.Typed.{entry, this_types}
 use Rattle.kilim_isolation_laws.specs.forest.Canonical.{absent, node_at}
 use Rattle.kilim_isolation_laws.specs.forest.Heap.{IsUnder}
 use Rattle.kilim_isolation_laws.specs.forest.Laws.{IsPlace}
@@ -25,9 +25,9 @@ use Rattle.kilim_isolation_laws.specs.forest.Relation.{Frames, Label, Named, Nod
 use Rattle.kilim_isolation_laws.proofs.forest.Called.{no_parent, root_free}
 use Rattle.kilim_isolation_laws.proofs.forest.Paths.{never_round, some_is}
 use Rattle.kilim_isolation_laws.specs.forest.Steps.{IsNearly_tidy}
-use Rattle.kilim_shape_graph.specs.Entry.{declared_parameters, entry_names, entry_node, entry_nodes, parameters_of, quality, quality_from, tree_name}
-use Rattle.kilim_shape_graph.specs.Graphs.{slot}
-use Rattle.kilim_shape_graph.specs.Nodes.{listed}
+use Rattle.kilim_isolation_graph.specs.Entry.{declared_parameters, entry_names, entry_node, entry_nodes, parameters_of, quality, quality_from, tree_name}
+use Rattle.kilim_isolation_graph.specs.Graphs.{slot}
+use Rattle.kilim_isolation_graph.specs.Nodes.{listed}
 use Rattle.kilim_isolation_laws.specs.graph_rows.Holds.{AllWait, Fits, HeapFits, Holds, IsOf, SlotFits, Sort, Tree, Trees, WaitFits, Waiting, named_by, object_sort, refers, sort, sort_by, trees, value_at, waiting_named, is_tree_object, is_tree_sort}
 use Rattle.kilim_isolation_laws.specs.reached_objects.graphs.Threads.{BeginningsKeep, BeginsOn, keeper, keepers}
 use Rattle.kilim_isolation_laws.proofs.reached_objects.graphs.Thread.{method_begins}
@@ -179,8 +179,8 @@ module _ (p : Program) (m : Method) (kept : Option ℕ) (h : Objects) (n : ℕ) 
       (by (is_constructor m) j)
     where
       types_are : (entry m).locals ≡ (if◌then◌else◌ (is_constructor m) vtype.UninitThis (class_vtype m.owner)) ∷ []
-      types_are = ap (λ s. cond s [] (cond (is_constructor m) vtype.UninitThis (class_vtype m.owner) ∷ []) ++ Rattle.kilim_typing.specs.Typed.param_slots m.params) b.instance
-          ∙ ap (λ ps. (cond (is_constructor m) vtype.UninitThis (class_vtype m.owner) ∷ []) ++ Rattle.kilim_typing.specs.Typed.param_slots ps) b.plain
+      types_are = ap (λ s. cond s [] (cond (is_constructor m) vtype.UninitThis (class_vtype m.owner) ∷ []) ++ Rattle.kilim_type_spec.specs.Typed.param_slots m.params) b.instance
+          ∙ ap (λ ps. (cond (is_constructor m) vtype.UninitThis (class_vtype m.owner) ∷ []) ++ Rattle.kilim_type_spec.specs.Typed.param_slots ps) b.plain
 
       receiver : SlotFits p h (record { node = node_at (entry_node (Some m.receiver) 0 ∷ []); at = λ j. Some n }) 1 (object_sort p (class_type m.owner.0)) (Some 0) (Ref n)
       receiver = (refl, omega arith, (λ live. subst (λ z. Fits p h (Rattle.kilim_isolation_laws.specs.graph_rows.Holds.named_sort z) (Ref n)) (sym b.owner) (refl, λ o e. subst (λ z. IsOf p h z (Tree 0 Trees)) (some_is n o e) b.is)))

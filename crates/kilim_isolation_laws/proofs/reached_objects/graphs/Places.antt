@@ -1,34 +1,34 @@
 -- From what an instruction leaves to the frame at the next place.
 use Rattle.std.proofs.Common.{◌≡◌, ℕ, Bool, true, false, true≢false, not, ◌||◌, List, [], ◌∷◌, Option, Some, None, Result, Ok, Err, refl, sym, ap, subst, ◌∙◌}
 use Rattle.std.specs.List.{list_any}
-use Rattle.kilim_classes.specs.declared.verified.VType.TheVariants as vtype
-use Rattle.kilim_typing.specs.Step as type
-use Rattle.kilim_classes.specs.declared.class.Method.{Method}
-use Rattle.kilim_classes.specs.declared.instr.Instr.{Instr}
-use Rattle.kilim_classes.specs.declared.names.MethodId.{MethodId}
-use Rattle.kilim_classes.specs.declared.value.Value.{Value}
-use Rattle.kilim_classes.specs.declared.value.Value.TheVariants.{Ref, Box}
-use Rattle.kilim_classes.specs.declared.verified.VType.{VType}
-use Rattle.kilim_classes.specs.Program.{Program}
-use Rattle.kilim_classes.specs.machine.Machine.{Objects}
-use Rattle.kilim_classes.specs.Names.{method_at}
-use Rattle.kilim_typing.specs.Step.{Types, peek, Row, by_row, row, type_step, is_same, replaced, one_replaced, may_make}
-use Rattle.kilim_shape_graph.specs.declared.graph.Graph.{Graph}
-use Rattle.kilim_shape_graph.specs.Graphs.{slot}
-use Rattle.kilim_shape_graph.specs.Canonical.{canonical, cleared, canonical_at, kept_name, kept_names}
+use Rattle.kilim_program.specs.declared.verified.VType.TheVariants as vtype
+use Rattle.kilim_type_spec.specs.Step as type
+use Rattle.kilim_program.specs.declared.class.Method.{Method}
+use Rattle.kilim_program.specs.declared.instr.Instr.{Instr}
+use Rattle.kilim_program.specs.declared.names.MethodId.{MethodId}
+use Rattle.kilim_program.specs.declared.value.Value.{Value}
+use Rattle.kilim_program.specs.declared.value.Value.TheVariants.{Ref, Box}
+use Rattle.kilim_program.specs.declared.verified.VType.{VType}
+use Rattle.kilim_program.specs.Program.{Program}
+use Rattle.kilim_run_state.specs.Machine.{Objects}
+use Rattle.kilim_program.specs.Names.{method_at}
+use Rattle.kilim_type_spec.specs.Step.{Types, peek, Row, by_row, row, type_step, is_same, replaced, one_replaced, may_make}
+use Rattle.kilim_isolation_graph.specs.declared.graph.Graph.{Graph}
+use Rattle.kilim_isolation_graph.specs.Graphs.{slot}
+use Rattle.kilim_isolation_graph.specs.Canonical.{canonical, cleared, canonical_at, kept_name, kept_names}
 use Rattle.kilim_isolation_rules.specs.Rules.{any_flow_mixes, left_by}
 use Rattle.kilim_isolation_rules.specs.Marks.{mixes, any_mixes, flow_mixes, names_gone, stack_lives}
 use Rattle.kilim_isolation_laws.specs.graph_rows.Holds.{Waiting, Holds, Stands, KindsFlow}
 use Rattle.kilim_isolation_laws.proofs.graph_rows.Settle.{not_true, or_left, or_right, slots_cleared, canonical_stands, canonical_at_objects}
 use Rattle.kilim_isolation_laws.proofs.graph_rows.Passed.{rule_passed, ok_is}
 use Rattle.kilim_isolation_laws.specs.reached_objects.graphs.Threads.{Becomes}
-use Rattle.kilim_classes.specs.declared.instr.Instr.TheVariants as instr
-use Rattle.kilim_classes.specs.declared.value.Value.TheVariants as value
-use Rattle.kilim_classes.specs.declared.class.Field.{Field}
-use Rattle.kilim_classes.specs.declared.names.FieldId.{FieldId}
-use Rattle.kilim_classes.specs.declared.names.ClassId.{ClassId}
-use Rattle.kilim_classes.specs.Names.{class_at, field_of}
-use Rattle.kilim_classes.specs.Same.{is_constructor}
+use Rattle.kilim_program.specs.declared.instr.Instr.TheVariants as instr
+use Rattle.kilim_program.specs.declared.value.Value.TheVariants as value
+use Rattle.kilim_program.specs.declared.class.Field.{Field}
+use Rattle.kilim_program.specs.declared.names.FieldId.{FieldId}
+use Rattle.kilim_program.specs.declared.names.ClassId.{ClassId}
+use Rattle.kilim_program.specs.Names.{class_at, field_of}
+use Rattle.kilim_program.specs.Same.{is_constructor}
 
 kept_lives : (g : Graph) (types : List VType) (xs : List (Option ℕ)) → list_any (names_gone g) xs ≡ false → list_any (names_gone g) (kept_names types xs) ≡ false
 kept_lives g types [] e = refl

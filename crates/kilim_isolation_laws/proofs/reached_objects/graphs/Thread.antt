@@ -2,34 +2,34 @@
 use Rattle.std.proofs.Common.{◌≡◌, ℕ, suc, Bool, true, false, not, cond, List, [], ◌∷◌, ◌++◌, map, length, Option, Some, None, Ok, refl, sym, ap, subst, ◌∙◌, inl, inr}
 use Rattle.std.specs.Prelude.{drop, nat_lt}
 use Rattle.std.specs.FinMap.{insert}
-use Rattle.kilim_classes.specs.declared.class.Method.{Method}
-use Rattle.kilim_classes.specs.declared.instr.Instr.{Instr}
-use Rattle.kilim_classes.specs.declared.names.MethodId.{MethodId}
-use Rattle.kilim_classes.specs.declared.ty.Ty.{Ty}
-use Rattle.kilim_classes.specs.declared.value.Value.{Value}
-use Rattle.kilim_classes.specs.declared.value.Value.TheVariants.{Box, Ref}
-use Rattle.kilim_classes.specs.Program.{Program}
-use Rattle.kilim_classes.specs.Lengths.{fetched}
-use Rattle.kilim_classes.specs.Names.{method_at}
-use Rattle.kilim_classes.specs.machine.Effect.{Effect, Goes, Makes, Opens, Calls, Asks, Returns, Raises, Ends, Stuck}
-use Rattle.kilim_classes.specs.machine.Machine.{Activation, Objects}
-use Rattle.kilim_classes.specs.machine.Moves.{Move, effect_found, effect_in, entered, frame_limit, goes_on, move_by, moves, push_result, returned}
-use Rattle.kilim_typing.specs.Step.{Types, result_types, type_step, vtype}
-use Rattle.kilim_typing.specs.Typed.{Among, declared, edges, entry, has_code}
+use Rattle.kilim_program.specs.declared.class.Method.{Method}
+use Rattle.kilim_program.specs.declared.instr.Instr.{Instr}
+use Rattle.kilim_program.specs.declared.names.MethodId.{MethodId}
+use Rattle.kilim_program.specs.declared.ty.Ty.{Ty}
+use Rattle.kilim_program.specs.declared.value.Value.{Value}
+use Rattle.kilim_program.specs.declared.value.Value.TheVariants.{Box, Ref}
+use Rattle.kilim_program.specs.Program.{Program}
+use Rattle.kilim_program.specs.Lengths.{fetched}
+use Rattle.kilim_program.specs.Names.{method_at}
+use Rattle.kilim_run_machine.specs.Effect.{Effect, Goes, Makes, Opens, Calls, Asks, Returns, Raises, Ends, Stuck}
+use Rattle.kilim_run_state.specs.Machine.{Activation, Objects}
+use Rattle.kilim_run_machine.specs.Moves.{Move, effect_found, effect_in, entered, frame_limit, goes_on, move_by, moves, push_result, returned}
+use Rattle.kilim_type_spec.specs.Step.{Types, result_types, type_step, vtype}
+use Rattle.kilim_type_spec.specs.Typed.{Among, declared, edges, entry, has_code}
 use Rattle.kilim_isolation_laws.specs.forest.Canonical.{node_at}
 use Rattle.kilim_isolation_laws.specs.forest.Relation.{Names, Root}
 use Rattle.kilim_isolation_laws.proofs.forest.Moves.{AllBelow}
-use Rattle.kilim_paths.specs.Paths.{Has, Reaches}
-use Rattle.kilim_shape_graph.specs.declared.graph.Graph.{Graph}
-use Rattle.kilim_shape_graph.specs.Canonical.{canonical_at}
-use Rattle.kilim_shape_graph.specs.Entry.{entry_nodes, parameters_of}
-use Rattle.kilim_shape_graph.specs.Graphs.{popped}
+use Rattle.kilim_isolation_paths.specs.Paths.{Has, Reaches}
+use Rattle.kilim_isolation_graph.specs.declared.graph.Graph.{Graph}
+use Rattle.kilim_isolation_graph.specs.Canonical.{canonical_at}
+use Rattle.kilim_isolation_graph.specs.Entry.{entry_nodes, parameters_of}
+use Rattle.kilim_isolation_graph.specs.Graphs.{popped}
 use Rattle.kilim_isolation_rules.specs.Calls.{after_call, arguments, given_result}
 use Rattle.kilim_isolation_rules.specs.Calls as calls
 use Rattle.kilim_isolation_rules.specs.Marks.{flow_mixes, given, stack_lives}
 use Rattle.kilim_isolation_rules.specs.Rules.{any_flow_mixes, deed, left_by}
 use Rattle.kilim_isolation_rules.specs.Steps.{Free}
-use Rattle.kilim_isolation_check.specs.Walks.{declared_to, entry_graph, entry_mixes, exits_to, machine_of}
+use Rattle.kilim_isolation.specs.Walks.{declared_to, entry_graph, entry_mixes, exits_to, machine_of}
 use Rattle.kilim_isolation_laws.specs.graph_rows.Holds.{Holds, KindsFlow, Stands, Waiting, named_by, refers, trees, waiting_named}
 use Rattle.kilim_isolation_laws.specs.graph_rows.Outcome.{EffectHolds, Left, NativeHolds, ReturnHolds}
 use Rattle.kilim_isolation_laws.proofs.graph_rows.Fields.{slot_sort}

@@ -1,13 +1,13 @@
 -- What flows along the code of a well-typed method.
 use Rattle.std.proofs.Common.{◌≡◌, ℕ, ◌==◌, Bool, true, false, true≢false, ◌||◌, cond, List, [], ◌∷◌, Option, Some, None, Ok, refl, sym, ap, subst, ◌∙◌, inl, inr}
 use Rattle.std.specs.List.{list_all}
-use Rattle.kilim_classes.specs.declared.class.Method.{Method}
-use Rattle.kilim_classes.specs.declared.instr.Instr.{Instr}
-use Rattle.kilim_classes.specs.declared.verified.Frame.{Frame}
-use Rattle.kilim_classes.specs.Program.{Program}
-use Rattle.kilim_classes.specs.Lengths.{fetched, first_place, jump_targets, ends_path, is_code_place}
-use Rattle.kilim_typing.specs.Step.{Types, type_step}
-use Rattle.kilim_typing.specs.Typed.{declared, frame_in, frame_types, frame_fits, entry, Among, Jumps, Here, goes_on, TypedBy, WellTypedBy}
+use Rattle.kilim_program.specs.declared.class.Method.{Method}
+use Rattle.kilim_program.specs.declared.instr.Instr.{Instr}
+use Rattle.kilim_program.specs.declared.verified.Frame.{Frame}
+use Rattle.kilim_program.specs.Program.{Program}
+use Rattle.kilim_program.specs.Lengths.{fetched, first_place, jump_targets, ends_path, is_code_place}
+use Rattle.kilim_type_spec.specs.Step.{Types, type_step}
+use Rattle.kilim_type_spec.specs.Typed.{declared, frame_in, frame_types, frame_fits, entry, Among, Jumps, Here, goes_on, TypedBy, WellTypedBy}
 use Rattle.kilim_isolation_laws.proofs.forest.Store.{both_ways, is_same}
 use Rattle.kilim_isolation_laws.specs.reached_objects.graphs.Threads.{Becomes, TypesFlow}
 use Rattle.kilim_isolation_laws.proofs.graph_rows.Settle.{and_left, and_right}

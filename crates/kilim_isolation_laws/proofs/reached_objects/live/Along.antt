@@ -1,20 +1,20 @@
 -- What holds of each graph that a path leads to a place.
 use Rattle.std.proofs.Common.{◌≡◌, inl, inr, ℕ, zero, suc, Bool, true, false, not, List, [], ◌∷◌, map, Option, Some, None, Result, Ok, Err, refl, sym, ap, subst}
 use Rattle.std.specs.Prelude.{slice_get}
-use Rattle.kilim_classes.specs.declared.class.Method.{Method}
-use Rattle.kilim_classes.specs.declared.instr.Instr.{Instr}
-use Rattle.kilim_classes.specs.declared.verified.Frame.{Frame}
-use Rattle.kilim_classes.specs.Lengths.{fetched}
-use Rattle.kilim_classes.specs.Program.{Program}
-use Rattle.kilim_typing.specs.Typed.{Among, declared, edges}
-use Rattle.kilim_typing.proofs.typing_laws.Tops.{passed}
-use Rattle.kilim_paths.specs.Paths.{ArrivesBy, Has, Leads, Reaches}
-use Rattle.kilim_shape_graph.specs.declared.graph.Graph.{Graph}
-use Rattle.kilim_shape_graph.specs.Canonical.{canonical_at}
-use Rattle.kilim_shape_graph.specs.Entry.{entry_nodes}
+use Rattle.kilim_program.specs.declared.class.Method.{Method}
+use Rattle.kilim_program.specs.declared.instr.Instr.{Instr}
+use Rattle.kilim_program.specs.declared.verified.Frame.{Frame}
+use Rattle.kilim_program.specs.Lengths.{fetched}
+use Rattle.kilim_program.specs.Program.{Program}
+use Rattle.kilim_type_spec.specs.Typed.{Among, declared, edges}
+use Rattle.kilim_type_laws.proofs.Tops.{passed}
+use Rattle.kilim_isolation_paths.specs.Paths.{ArrivesBy, Has, Leads, Reaches}
+use Rattle.kilim_isolation_graph.specs.declared.graph.Graph.{Graph}
+use Rattle.kilim_isolation_graph.specs.Canonical.{canonical_at}
+use Rattle.kilim_isolation_graph.specs.Entry.{entry_nodes}
 use Rattle.kilim_isolation_rules.specs.declared.deed.Deed.{Deed}
 use Rattle.kilim_isolation_rules.specs.Rules.{judged, moves}
-use Rattle.kilim_isolation_check.specs.Walks.{canonical_of, declared_to, entry_graph, exits_at, exits_of, exits_to, machine_of, step, step_by, types_at}
+use Rattle.kilim_isolation.specs.Walks.{canonical_of, declared_to, entry_graph, exits_at, exits_of, exits_to, machine_of, step, step_by, types_at}
 use Rattle.kilim_isolation_laws.proofs.reached_objects.live.Nodes.{IsClean, clean_at}
 
 -- ---- exits

@@ -1,20 +1,20 @@
 -- A parameter that names a node is of a class or an array type.
 use Rattle.std.proofs.Common.{◌≡◌, ℕ, zero, suc, ◌-◌, Bool, true, false, ◌==◌, if◌then◌else◌, true≢false, List, [], ◌∷◌, ◌++◌, length, replicate, Option, Some, None, refl, sym}
-use Rattle.kilim_classes.specs.declared.class.Method.{Method}
-use Rattle.kilim_classes.specs.declared.ty.Base.{Base}
-use Rattle.kilim_classes.specs.declared.ty.Base.TheVariants as base
-use Rattle.kilim_classes.specs.declared.ty.Qualifier.{Qualifier}
-use Rattle.kilim_classes.specs.declared.ty.Ty.{Ty}
-use Rattle.kilim_classes.specs.declared.verified.VType.{VType}
-use Rattle.kilim_classes.specs.declared.verified.VType.TheVariants.{Top, Int, Long, Null, UninitThis, Uninit, Object}
-use Rattle.kilim_classes.specs.BuiltIn.{class_type}
-use Rattle.kilim_classes.specs.Kinds.{array_kind, base_kind, is_tree_kind, kind_of}
-use Rattle.kilim_classes.specs.Program.{Program}
-use Rattle.kilim_classes.specs.Same.{is_constructor}
-use Rattle.kilim_typing.specs.Step.{base_vtype, class_vtype, dims_vtype, peek, vtype}
-use Rattle.kilim_typing.specs.Typed.{entry, param_slots, slots_of_type}
-use Rattle.kilim_shape_graph.specs.Entry.{declared_parameters, entry_names, entry_nodes, name_slots, parameters_of, tree_name}
-use Rattle.kilim_shape_graph.specs.Graphs.{slot}
+use Rattle.kilim_program.specs.declared.class.Method.{Method}
+use Rattle.kilim_program.specs.declared.ty.Base.{Base}
+use Rattle.kilim_program.specs.declared.ty.Base.TheVariants as base
+use Rattle.kilim_program.specs.declared.ty.Qualifier.{Qualifier}
+use Rattle.kilim_program.specs.declared.ty.Ty.{Ty}
+use Rattle.kilim_program.specs.declared.verified.VType.{VType}
+use Rattle.kilim_program.specs.declared.verified.VType.TheVariants.{Top, Int, Long, Null, UninitThis, Uninit, Object}
+use Rattle.kilim_program.specs.BuiltIn.{class_type}
+use Rattle.kilim_program.specs.Kinds.{array_kind, base_kind, is_tree_kind, kind_of}
+use Rattle.kilim_program.specs.Program.{Program}
+use Rattle.kilim_program.specs.Same.{is_constructor}
+use Rattle.kilim_type_spec.specs.Step.{base_vtype, class_vtype, dims_vtype, peek, vtype}
+use Rattle.kilim_type_spec.specs.Typed.{entry, param_slots, slots_of_type}
+use Rattle.kilim_isolation_graph.specs.Entry.{declared_parameters, entry_names, entry_nodes, name_slots, parameters_of, tree_name}
+use Rattle.kilim_isolation_graph.specs.Graphs.{slot}
 use Rattle.kilim_isolation_laws.specs.reached_objects.live.Laws.{is_number}
 
 base_no_number : (p : Program) (ty : Ty) (b : Base) → is_tree_kind (base_kind p b) ≡ true → is_number (base_vtype ty b) ≡ false

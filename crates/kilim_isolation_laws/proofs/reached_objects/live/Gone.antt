@@ -1,27 +1,27 @@
 -- No instruction brings back a node that is gone.
 use Rattle.std.proofs.Common.{◌≡◌, inl, inr, ℕ, suc, ◌+◌, ◌<◌, ◌≤◌, Bool, true, false, not, if◌then◌else◌, true≢false, Option, Some, None, List, [], ◌∷◌, ◌++◌, length, eqb, refl, ap, sym, subst, ◌∙◌, arith}
-use Rattle.kilim_classes.specs.declared.class.Field.{Field}
-use Rattle.kilim_classes.specs.declared.class.Method.{Method}
-use Rattle.kilim_classes.specs.declared.instr.Instr.{Instr}
-use Rattle.kilim_classes.specs.declared.instr.Instr.TheVariants.{Aload, Astore, Aaload, Aastore, Areturn, Getfield, Putfield, Invokevirtual, Invokespecial, Invokestatic, New, Newarray, Anewarray, Checkcast}
-use Rattle.kilim_classes.specs.declared.names.FieldId.{FieldId}
-use Rattle.kilim_classes.specs.declared.ty.Kind.{Kind}
-use Rattle.kilim_classes.specs.declared.ty.Kind.TheVariants as kind
-use Rattle.kilim_classes.specs.declared.ty.Ty.{Ty}
-use Rattle.kilim_classes.specs.declared.verified.VType.{VType}
-use Rattle.kilim_classes.specs.declared.verified.VType.TheVariants.{Long}
-use Rattle.kilim_classes.specs.Kinds.{class_kind, kind_of}
-use Rattle.kilim_classes.specs.Names.{field_of, method_at}
-use Rattle.kilim_classes.specs.Program.{Program}
-use Rattle.kilim_typing.specs.Step.{Types, Row, Takes, Element, Shuffles, Loads, Stores, Adds, Makes, Constructs, Leaves, Is, array_ty, peek, row}
-use Rattle.kilim_shape_graph.specs.declared.graph.Graph.{Graph}
-use Rattle.kilim_shape_graph.specs.declared.node.Label.{Label}
-use Rattle.kilim_shape_graph.specs.declared.node.Label.TheVariants as label
-use Rattle.kilim_shape_graph.specs.declared.node.Node.{Node}
-use Rattle.kilim_shape_graph.specs.declared.node.Standing.{Standing}
-use Rattle.kilim_shape_graph.specs.declared.node.Standing.TheVariants.{Root, Inner, Safe, Gone}
-use Rattle.kilim_shape_graph.specs.Graphs.{node_of, popped, slot}
-use Rattle.kilim_shape_graph.specs.Nodes.{is_gone, is_root, is_safe, listed, new_region, node_at}
+use Rattle.kilim_program.specs.declared.class.Field.{Field}
+use Rattle.kilim_program.specs.declared.class.Method.{Method}
+use Rattle.kilim_program.specs.declared.instr.Instr.{Instr}
+use Rattle.kilim_program.specs.declared.instr.Instr.TheVariants.{Aload, Astore, Aaload, Aastore, Areturn, Getfield, Putfield, Invokevirtual, Invokespecial, Invokestatic, New, Newarray, Anewarray, Checkcast}
+use Rattle.kilim_program.specs.declared.names.FieldId.{FieldId}
+use Rattle.kilim_program.specs.declared.ty.Kind.{Kind}
+use Rattle.kilim_program.specs.declared.ty.Kind.TheVariants as kind
+use Rattle.kilim_program.specs.declared.ty.Ty.{Ty}
+use Rattle.kilim_program.specs.declared.verified.VType.{VType}
+use Rattle.kilim_program.specs.declared.verified.VType.TheVariants.{Long}
+use Rattle.kilim_program.specs.Kinds.{class_kind, kind_of}
+use Rattle.kilim_program.specs.Names.{field_of, method_at}
+use Rattle.kilim_program.specs.Program.{Program}
+use Rattle.kilim_type_spec.specs.Step.{Types, Row, Takes, Element, Shuffles, Loads, Stores, Adds, Makes, Constructs, Leaves, Is, array_ty, peek, row}
+use Rattle.kilim_isolation_graph.specs.declared.graph.Graph.{Graph}
+use Rattle.kilim_isolation_graph.specs.declared.node.Label.{Label}
+use Rattle.kilim_isolation_graph.specs.declared.node.Label.TheVariants as label
+use Rattle.kilim_isolation_graph.specs.declared.node.Node.{Node}
+use Rattle.kilim_isolation_graph.specs.declared.node.Standing.{Standing}
+use Rattle.kilim_isolation_graph.specs.declared.node.Standing.TheVariants.{Root, Inner, Safe, Gone}
+use Rattle.kilim_isolation_graph.specs.Graphs.{node_of, popped, slot}
+use Rattle.kilim_isolation_graph.specs.Nodes.{is_gone, is_root, is_safe, listed, new_region, node_at}
 use Rattle.kilim_isolation_rules.specs.declared.deed.Passed.{Passed}
 use Rattle.kilim_isolation_rules.specs.Calls.{after_argument, after_arguments, after_call, all_passed, arguments, calls, given_result, takes_from}
 use Rattle.kilim_isolation_rules.specs.Fields.{child_by, cut, element_kind, got, got_safe, gets_field, is_child, joined as joined_graph, known_child, puts_field, read_from, reads, stored, stores, without_child}

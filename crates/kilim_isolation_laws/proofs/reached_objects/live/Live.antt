@@ -3,30 +3,30 @@
 use Rattle.std.proofs.Common.{◌≡◌, ℕ, Bool, true, false, eqb, refl, ap, sym, ◌∙◌, subst, true≢false, List, Option, Some, None, Ok}
 use Rattle.std.specs.Prelude.{nat_lt}
 use Rattle.std.proofs.lemmas.Bool.{and_parts, eqb-true}
-use Rattle.kilim_classes.specs.declared.class.Method.{Method}
-use Rattle.kilim_classes.specs.declared.instr.Instr.{Instr}
-use Rattle.kilim_classes.specs.declared.instr.Instr.TheVariants.{Iload, Lload, Aload, Iinc}
-use Rattle.kilim_classes.specs.declared.names.MethodId.{MethodId}
-use Rattle.kilim_classes.specs.declared.verified.Frame.{Frame}
-use Rattle.kilim_classes.specs.declared.verified.VType.{VType}
-use Rattle.kilim_classes.specs.declared.verified.VType.TheVariants.{Top, Int, Long, Null, UninitThis, Uninit, Object}
-use Rattle.kilim_classes.specs.Lengths.{fetched, is_code_place}
-use Rattle.kilim_classes.specs.Program.{Program}
-use Rattle.kilim_typing.specs.Step.{Types, Operand, Is, Loads, Adds, by_row, is_top, meets, peek, row, type_step}
-use Rattle.kilim_typing.specs.Typed.{Among, GoesOn, Live, ReadsIt, declared, edges, entry, reads}
-use Rattle.kilim_typing.proofs.typing_laws.Edges.{edges_flow, stands_at}
-use Rattle.kilim_typing.proofs.typing_laws.Lives.{live_is_typed}
-use Rattle.kilim_typing.proofs.typing_laws.Tops.{passed}
-use Rattle.kilim_paths.specs.Paths.{Reaches}
-use Rattle.kilim_paths.proofs.Accepted.{reaches_more}
-use Rattle.kilim_shape_graph.specs.declared.graph.Graph.{Graph}
-use Rattle.kilim_shape_graph.specs.Canonical.{canonical_at}
-use Rattle.kilim_shape_graph.specs.Entry.{entry_nodes}
-use Rattle.kilim_shape_graph.specs.Graphs.{node_of, slot}
-use Rattle.kilim_shape_graph.specs.Nodes.{is_gone}
+use Rattle.kilim_program.specs.declared.class.Method.{Method}
+use Rattle.kilim_program.specs.declared.instr.Instr.{Instr}
+use Rattle.kilim_program.specs.declared.instr.Instr.TheVariants.{Iload, Lload, Aload, Iinc}
+use Rattle.kilim_program.specs.declared.names.MethodId.{MethodId}
+use Rattle.kilim_program.specs.declared.verified.Frame.{Frame}
+use Rattle.kilim_program.specs.declared.verified.VType.{VType}
+use Rattle.kilim_program.specs.declared.verified.VType.TheVariants.{Top, Int, Long, Null, UninitThis, Uninit, Object}
+use Rattle.kilim_program.specs.Lengths.{fetched, is_code_place}
+use Rattle.kilim_program.specs.Program.{Program}
+use Rattle.kilim_type_spec.specs.Step.{Types, Operand, Is, Loads, Adds, by_row, is_top, meets, peek, row, type_step}
+use Rattle.kilim_type_spec.specs.Typed.{Among, GoesOn, Live, ReadsIt, declared, edges, entry, reads}
+use Rattle.kilim_type_laws.proofs.Edges.{edges_flow, stands_at}
+use Rattle.kilim_type_laws.proofs.Lives.{live_is_typed}
+use Rattle.kilim_type_laws.proofs.Tops.{passed}
+use Rattle.kilim_isolation_paths.specs.Paths.{Reaches}
+use Rattle.kilim_isolation_paths.proofs.Accepted.{reaches_more}
+use Rattle.kilim_isolation_graph.specs.declared.graph.Graph.{Graph}
+use Rattle.kilim_isolation_graph.specs.Canonical.{canonical_at}
+use Rattle.kilim_isolation_graph.specs.Entry.{entry_nodes}
+use Rattle.kilim_isolation_graph.specs.Graphs.{node_of, slot}
+use Rattle.kilim_isolation_graph.specs.Nodes.{is_gone}
 use Rattle.kilim_isolation_rules.specs.Marks.{names_gone}
 use Rattle.kilim_isolation_rules.specs.Rules.{any_flow_mixes, deed, left_by, moves}
-use Rattle.kilim_isolation_check.specs.Walks.{declared_to, machine_of, types_at}
+use Rattle.kilim_isolation.specs.Walks.{declared_to, machine_of, types_at}
 use Rattle.kilim_isolation_laws.specs.reached_objects.live.Laws.{IsAcceptedBy, IsThere, LiveIsThere, NamedIsNoNumber, is_number}
 use Rattle.kilim_isolation_laws.proofs.reached_objects.live.Along.{BreaksNone, among_exit, begins_with, clean, exit_at, judged_none, reached, some_exit, stepped}
 use Rattle.kilim_isolation_laws.proofs.reached_objects.live.Entry.{entry_named}
@@ -46,7 +46,7 @@ module _ (p : Program) (id : MethodId) (m : Method) (typing : ℕ → Types) (fs
     pub breaks_none : BreaksNone (deed p m g (types_at m fs at) i) (deed p m g (types_at m fs at) i).graph
     pub comes : (q : ℕ) → to ≡ Some q → Reaches (machine_of p m fs a.goes.first) q (canonical_at (declared m q) (deed p m g (types_at m fs at) i).graph)
 
-  pub passes : (at next : ℕ) (i : Instr) (g : Graph) (to : Option ℕ) → Reaches (machine_of p m fs a.goes.first) at g → fetched m.code m.code_length at ≡ Some (i, next) → Rattle.kilim_paths.specs.Paths.Has (Rattle.kilim_isolation_check.specs.Walks.exits_to (edges i next)) to → Passes at i g to
+  pub passes : (at next : ℕ) (i : Instr) (g : Graph) (to : Option ℕ) → Reaches (machine_of p m fs a.goes.first) at g → fetched m.code m.code_length at ≡ Some (i, next) → Rattle.kilim_isolation_paths.specs.Paths.Has (Rattle.kilim_isolation.specs.Walks.exits_to (edges i next)) to → Passes at i g to
   unfolding moves
   passes at next i g to r is exit =
       let goes = a.goes.goes at g to r (exit_at m at next i to is exit) in
@@ -56,8 +56,8 @@ module _ (p : Program) (id : MethodId) (m : Method) (typing : ℕ → Types) (fs
         moves_on = s.1 ∙ ap (λ (z : Graph). Ok z) (sym b.graph);
         breaks_none = record { free = b.free; there = b.there; graph = refl };
         comes = λ q e. subst (λ (z : Graph). Reaches (machine_of p m fs a.goes.first) q z) (sym (ap (canonical_at (declared m q)) b.graph ∙ (ap (λ (o : Option ℕ). canonical_at (declared_to m o) s.0) (sym e) ∙ s.2)))
-            (reaches_more (machine_of p m fs a.goes.first) at g q goes.0 r (subst (λ (o : Option ℕ). Rattle.kilim_paths.specs.Paths.Has (Rattle.kilim_isolation_check.specs.Walks.exits_at m at) o) e (exit_at m at next i to is exit))
-            (subst (λ (o : Option ℕ). Rattle.kilim_isolation_check.specs.Walks.step p m fs at g o ≡ Ok goes.0) e goes.1));
+            (reaches_more (machine_of p m fs a.goes.first) at g q goes.0 r (subst (λ (o : Option ℕ). Rattle.kilim_isolation_paths.specs.Paths.Has (Rattle.kilim_isolation.specs.Walks.exits_at m at) o) e (exit_at m at next i to is exit))
+            (subst (λ (o : Option ℕ). Rattle.kilim_isolation.specs.Walks.step p m fs at g o ≡ Ok goes.0) e goes.1));
       }
 
   -- ---- names and numbers

@@ -1,32 +1,32 @@
 -- What instructions leave of the names of locals and of their types: what isn't written stays, and no number comes to a name.
 use Rattle.std.proofs.Common.{◌≡◌, inl, inr, ℕ, zero, suc, Bool, true, false, ◌||◌, if◌then◌else◌, eqb, refl, ap, sym, ◌∙◌, subst, true≢false, List, [], ◌∷◌, length, drop, Option, Some, None, Result, Ok, Err}
 use Rattle.std.proofs.lemmas.Bool.{eq-eqb, eqb-true}
-use Rattle.kilim_classes.specs.declared.class.Field.{Field}
-use Rattle.kilim_classes.specs.declared.class.Method.{Method}
-use Rattle.kilim_classes.specs.declared.instr.Instr.{Instr}
-use Rattle.kilim_classes.specs.declared.instr.Instr.TheVariants.{Ldc, LdcW, Ldc2W, Aload, Istore, Lstore, Astore, Getstatic, Getfield, Putfield, Invokevirtual, Invokespecial, Invokestatic, New, Newarray, Anewarray, Aaload, Aastore, Areturn, Checkcast}
-use Rattle.kilim_classes.specs.declared.names.ClassId.{ClassId}
-use Rattle.kilim_classes.specs.declared.names.FieldId.{FieldId}
-use Rattle.kilim_classes.specs.declared.names.MethodId.{MethodId}
-use Rattle.kilim_classes.specs.declared.ty.Kind.{Kind}
-use Rattle.kilim_classes.specs.declared.ty.Kind.TheVariants as kind
-use Rattle.kilim_classes.specs.declared.ty.Ty.{Ty}
-use Rattle.kilim_classes.specs.declared.value.Value.{Value}
-use Rattle.kilim_classes.specs.declared.value.Value.TheVariants.{Int as IntValue, Long as LongValue, Text as TextValue}
-use Rattle.kilim_classes.specs.declared.verified.VType.{VType}
-use Rattle.kilim_classes.specs.declared.verified.VType.TheVariants.{Top, Int, Long, Null, UninitThis, Uninit, Object}
-use Rattle.kilim_classes.specs.Kinds.{class_kind, kind_of}
-use Rattle.kilim_classes.specs.Names.{field_of, method_at}
-use Rattle.kilim_classes.specs.Program.{Program}
-use Rattle.kilim_classes.specs.Same.{is_constructor}
-use Rattle.kilim_typing.specs.Step.{Types, Operand, Is, AReference, Further, Row, Takes, Element, Shuffles, Loads, Stores, Adds, Makes, Constructs, Leaves, array_ty, peek, poke, is_long, is_same, split_at, split_long, with_half, stored, one_replaced, replaced, meets, rule, shuffled, with_stack, store, element, with_element, class_vtype, constructed, by_row, row, type_step, constant_row, long_constant_row, field_row, static_row, virtual_row, special_row, special_by}
-use Rattle.kilim_typing.specs.Typed.{writes}
-use Rattle.kilim_typing.proofs.typing_laws.Tops.{passed, past}
-use Rattle.kilim_shape_graph.specs.declared.graph.Graph.{Graph}
-use Rattle.kilim_shape_graph.specs.declared.node.Label.{Label}
-use Rattle.kilim_shape_graph.specs.declared.node.Label.TheVariants as label
-use Rattle.kilim_shape_graph.specs.Graphs.{node_of, popped, slot, with_slot}
-use Rattle.kilim_shape_graph.specs.Nodes.{is_safe}
+use Rattle.kilim_program.specs.declared.class.Field.{Field}
+use Rattle.kilim_program.specs.declared.class.Method.{Method}
+use Rattle.kilim_program.specs.declared.instr.Instr.{Instr}
+use Rattle.kilim_program.specs.declared.instr.Instr.TheVariants.{Ldc, LdcW, Ldc2W, Aload, Istore, Lstore, Astore, Getstatic, Getfield, Putfield, Invokevirtual, Invokespecial, Invokestatic, New, Newarray, Anewarray, Aaload, Aastore, Areturn, Checkcast}
+use Rattle.kilim_program.specs.declared.names.ClassId.{ClassId}
+use Rattle.kilim_program.specs.declared.names.FieldId.{FieldId}
+use Rattle.kilim_program.specs.declared.names.MethodId.{MethodId}
+use Rattle.kilim_program.specs.declared.ty.Kind.{Kind}
+use Rattle.kilim_program.specs.declared.ty.Kind.TheVariants as kind
+use Rattle.kilim_program.specs.declared.ty.Ty.{Ty}
+use Rattle.kilim_program.specs.declared.value.Value.{Value}
+use Rattle.kilim_program.specs.declared.value.Value.TheVariants.{Int as IntValue, Long as LongValue, Text as TextValue}
+use Rattle.kilim_program.specs.declared.verified.VType.{VType}
+use Rattle.kilim_program.specs.declared.verified.VType.TheVariants.{Top, Int, Long, Null, UninitThis, Uninit, Object}
+use Rattle.kilim_program.specs.Kinds.{class_kind, kind_of}
+use Rattle.kilim_program.specs.Names.{field_of, method_at}
+use Rattle.kilim_program.specs.Program.{Program}
+use Rattle.kilim_program.specs.Same.{is_constructor}
+use Rattle.kilim_type_spec.specs.Step.{Types, Operand, Is, AReference, Further, Row, Takes, Element, Shuffles, Loads, Stores, Adds, Makes, Constructs, Leaves, array_ty, peek, poke, is_long, is_same, split_at, split_long, with_half, stored, one_replaced, replaced, meets, rule, shuffled, with_stack, store, element, with_element, class_vtype, constructed, by_row, row, type_step, constant_row, long_constant_row, field_row, static_row, virtual_row, special_row, special_by}
+use Rattle.kilim_type_spec.specs.Typed.{writes}
+use Rattle.kilim_type_laws.proofs.Tops.{passed, past}
+use Rattle.kilim_isolation_graph.specs.declared.graph.Graph.{Graph}
+use Rattle.kilim_isolation_graph.specs.declared.node.Label.{Label}
+use Rattle.kilim_isolation_graph.specs.declared.node.Label.TheVariants as label
+use Rattle.kilim_isolation_graph.specs.Graphs.{node_of, popped, slot, with_slot}
+use Rattle.kilim_isolation_graph.specs.Nodes.{is_safe}
 use Rattle.kilim_isolation_rules.specs.Calls.{after_argument, after_arguments, after_call, all_passed, arguments, calls, given_result, takes_from}
 use Rattle.kilim_isolation_rules.specs.Fields.{child_by, element_kind, got, got_safe, gets_field, puts_field, read_from, reads, stored as stored_deed, stores}
 use Rattle.kilim_isolation_rules.specs.Marks.{given}

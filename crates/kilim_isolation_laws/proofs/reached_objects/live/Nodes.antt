@@ -1,14 +1,14 @@
 -- Lists of nodes, and what the canonical form keeps.
 use Rattle.std.proofs.Common.{◌≡◌, ◌⊎◌, inl, inr, ℕ, zero, suc, ◌<◌, Bool, true, false, true≢false, Option, Some, None, List, [], ◌∷◌, ◌++◌, map, length, reverse, eqb, refl, ap, sym, subst, ◌∙◌, arith}
-use Rattle.kilim_classes.specs.declared.verified.VType.{VType}
-use Rattle.kilim_classes.specs.declared.verified.VType.TheVariants.{Top, Int, Long, Null, UninitThis, Uninit, Object}
-use Rattle.kilim_typing.specs.Step.{Types, is_top, peek}
-use Rattle.kilim_shape_graph.specs.declared.graph.Graph.{Graph}
-use Rattle.kilim_shape_graph.specs.declared.node.Label.{Label}
-use Rattle.kilim_shape_graph.specs.declared.node.Node.{Node}
-use Rattle.kilim_shape_graph.specs.Canonical.{canonical, canonical_at, canonical_node, cleared, index_of, is_among, kept_name, kept_names, named, order_of, parent_in, renumbered, slots_of}
-use Rattle.kilim_shape_graph.specs.Graphs.{node_of, slot}
-use Rattle.kilim_shape_graph.specs.Nodes.{absent, is_gone, listed, node_at}
+use Rattle.kilim_program.specs.declared.verified.VType.{VType}
+use Rattle.kilim_program.specs.declared.verified.VType.TheVariants.{Top, Int, Long, Null, UninitThis, Uninit, Object}
+use Rattle.kilim_type_spec.specs.Step.{Types, is_top, peek}
+use Rattle.kilim_isolation_graph.specs.declared.graph.Graph.{Graph}
+use Rattle.kilim_isolation_graph.specs.declared.node.Label.{Label}
+use Rattle.kilim_isolation_graph.specs.declared.node.Node.{Node}
+use Rattle.kilim_isolation_graph.specs.Canonical.{canonical, canonical_at, canonical_node, cleared, index_of, is_among, kept_name, kept_names, named, order_of, parent_in, renumbered, slots_of}
+use Rattle.kilim_isolation_graph.specs.Graphs.{node_of, slot}
+use Rattle.kilim_isolation_graph.specs.Nodes.{absent, is_gone, listed, node_at}
 use Rattle.kilim_isolation_laws.specs.forest.Canonical.{number_at}
 use Rattle.kilim_isolation_laws.specs.forest.Steps.{either, pick}
 use Rattle.kilim_isolation_laws.proofs.forest.Canon.{in_firsts, member_tail}

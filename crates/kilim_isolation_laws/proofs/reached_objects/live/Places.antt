@@ -2,17 +2,17 @@
 use Rattle.std.proofs.Common.{◌≡◌, ℕ, zero, suc, Bool, true, false, not, ◌||◌, eqb, refl, ap, sym, ◌∙◌, subst, true≢false, List, [], ◌∷◌, Option, Some, None, slice_get}
 use Rattle.std.specs.List.{list_all}
 use Rattle.std.proofs.lemmas.Bool.{and_parts, eqb-true}
-use Rattle.kilim_classes.specs.declared.class.Method.{Method}
-use Rattle.kilim_classes.specs.declared.instr.Instr.{Instr}
-use Rattle.kilim_classes.specs.declared.names.MethodId.{MethodId}
-use Rattle.kilim_classes.specs.declared.verified.VType.{VType}
-use Rattle.kilim_classes.specs.declared.verified.VType.TheVariants.{Top, Int, Long, Null, UninitThis, Uninit, Object}
-use Rattle.kilim_classes.specs.Keeps.{Keeps, code_is_whole}
-use Rattle.kilim_classes.specs.Lengths.{code_stands, ends_path, is_code_place}
-use Rattle.kilim_classes.specs.Names.{is_empty, method_at}
-use Rattle.kilim_classes.specs.Program.{Program}
-use Rattle.kilim_typing.specs.Step.{Types, assignable, peek}
-use Rattle.kilim_typing.specs.Typed.{Here, TypedBy, WellTypedBy, declared, entry, goes_on, has_code}
+use Rattle.kilim_program.specs.declared.class.Method.{Method}
+use Rattle.kilim_program.specs.declared.instr.Instr.{Instr}
+use Rattle.kilim_program.specs.declared.names.MethodId.{MethodId}
+use Rattle.kilim_program.specs.declared.verified.VType.{VType}
+use Rattle.kilim_program.specs.declared.verified.VType.TheVariants.{Top, Int, Long, Null, UninitThis, Uninit, Object}
+use Rattle.kilim_program.specs.Keeps.{Keeps, code_is_whole}
+use Rattle.kilim_program.specs.Lengths.{code_stands, ends_path, is_code_place}
+use Rattle.kilim_program.specs.Names.{is_empty, method_at}
+use Rattle.kilim_program.specs.Program.{Program}
+use Rattle.kilim_type_spec.specs.Step.{Types, assignable, peek}
+use Rattle.kilim_type_spec.specs.Typed.{Here, TypedBy, WellTypedBy, declared, entry, goes_on, has_code}
 use Rattle.kilim_isolation_laws.proofs.forest.Store.{is_same}
 use Rattle.kilim_isolation_laws.specs.reached_objects.live.Laws.{is_number}
 

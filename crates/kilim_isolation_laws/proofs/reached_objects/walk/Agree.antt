@@ -1,22 +1,22 @@
 -- Types that agree in each slot of the locals and in the stack: what one lets pass the other does, and what is left agrees.
 use Rattle.std.proofs.Common.{◌≡◌, ℕ, zero, suc, Bool, true, false, ◌&&◌, refl, ap, sym, ◌∙◌, subst, true≢false, List, [], ◌∷◌, length, drop, Option, Some, None, Result, Ok, Err}
 use Rattle.std.specs.Prelude.{nat_lt}
-use Rattle.kilim_classes.specs.declared.class.Field.{Field}
-use Rattle.kilim_classes.specs.declared.class.Method.{Method}
-use Rattle.kilim_classes.specs.declared.instr.Instr.{Instr}
-use Rattle.kilim_classes.specs.declared.instr.Instr.TheVariants.{Ldc, LdcW, Ldc2W, Getstatic, Getfield, Putfield, Invokevirtual, Invokespecial, Invokestatic, Ireturn, Lreturn, Areturn, Return}
-use Rattle.kilim_classes.specs.declared.names.ClassId.{ClassId}
-use Rattle.kilim_classes.specs.declared.names.MethodId.{MethodId}
-use Rattle.kilim_classes.specs.declared.value.Value.{Value}
-use Rattle.kilim_classes.specs.declared.value.Value.TheVariants.{Int as IntValue, Long as LongValue, Text as TextValue}
-use Rattle.kilim_classes.specs.declared.verified.VType.{VType}
-use Rattle.kilim_classes.specs.declared.verified.VType.TheVariants.{Top, Int, Long, Null, UninitThis, Uninit, Object}
-use Rattle.kilim_classes.specs.Names.{field_of, method_at}
-use Rattle.kilim_classes.specs.Program.{Program}
-use Rattle.kilim_classes.specs.Same.{is_constructor}
-use Rattle.kilim_typing.specs.Step.{Types, Operand, Is, Further, Row, Takes, Element, Shuffles, Loads, Stores, Adds, Makes, Constructs, Leaves, all_meet, by_row, class_vtype, constant_row, constructed, element, field_row, further, is_long, is_same, loaded, long_constant_row, meets, one_replaced, peek, poke, replaced, row, rule, shuffled, special_by, special_row, split_at, split_long, static_row, store, stored, virtual_row, with_element, with_half, with_stack}
-use Rattle.kilim_typing.specs.Typed.{Among, edges}
-use Rattle.kilim_classes.specs.Lengths.{ends_path, jump_targets}
+use Rattle.kilim_program.specs.declared.class.Field.{Field}
+use Rattle.kilim_program.specs.declared.class.Method.{Method}
+use Rattle.kilim_program.specs.declared.instr.Instr.{Instr}
+use Rattle.kilim_program.specs.declared.instr.Instr.TheVariants.{Ldc, LdcW, Ldc2W, Getstatic, Getfield, Putfield, Invokevirtual, Invokespecial, Invokestatic, Ireturn, Lreturn, Areturn, Return}
+use Rattle.kilim_program.specs.declared.names.ClassId.{ClassId}
+use Rattle.kilim_program.specs.declared.names.MethodId.{MethodId}
+use Rattle.kilim_program.specs.declared.value.Value.{Value}
+use Rattle.kilim_program.specs.declared.value.Value.TheVariants.{Int as IntValue, Long as LongValue, Text as TextValue}
+use Rattle.kilim_program.specs.declared.verified.VType.{VType}
+use Rattle.kilim_program.specs.declared.verified.VType.TheVariants.{Top, Int, Long, Null, UninitThis, Uninit, Object}
+use Rattle.kilim_program.specs.Names.{field_of, method_at}
+use Rattle.kilim_program.specs.Program.{Program}
+use Rattle.kilim_program.specs.Same.{is_constructor}
+use Rattle.kilim_type_spec.specs.Step.{Types, Operand, Is, Further, Row, Takes, Element, Shuffles, Loads, Stores, Adds, Makes, Constructs, Leaves, all_meet, by_row, class_vtype, constant_row, constructed, element, field_row, further, is_long, is_same, loaded, long_constant_row, meets, one_replaced, peek, poke, replaced, row, rule, shuffled, special_by, special_row, split_at, split_long, static_row, store, stored, virtual_row, with_element, with_half, with_stack}
+use Rattle.kilim_type_spec.specs.Typed.{Among, edges}
+use Rattle.kilim_program.specs.Lengths.{ends_path, jump_targets}
 
 -- ---- locals
 

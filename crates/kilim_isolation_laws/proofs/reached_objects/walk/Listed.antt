@@ -1,18 +1,18 @@
 -- The frames of a typed program are listed, one for each instruction.
 use Rattle.std.proofs.Common.{◌≡◌, ℕ, zero, suc, Bool, true, false, ◌||◌, cond, eqb, refl, ap, sym, ◌∙◌, true≢false, List, [], ◌∷◌, map, Option, Some, None, slice_get}
-use Rattle.kilim_classes.specs.declared.class.Method.{Method}
-use Rattle.kilim_classes.specs.declared.instr.Instr.{Instr}
-use Rattle.kilim_classes.specs.declared.names.MethodId.{MethodId}
-use Rattle.kilim_classes.specs.declared.verified.Frame.{Frame}
-use Rattle.kilim_classes.specs.Lengths.{is_code_place}
-use Rattle.kilim_classes.specs.Names.{method_at}
-use Rattle.kilim_classes.specs.Program.{Program}
-use Rattle.kilim_typing.specs.Step.{Types}
-use Rattle.kilim_typing.specs.Typed.{arriving, declared, entry, frame_among as types_among, frames_from, frames_of, left_by, listed, typing_of}
-use Rattle.kilim_typing.specs.typing_laws.Laws.{typing_in}
-use Rattle.kilim_typing.specs.TypedProgram.{KeepsTyped, TypedProgram}
-use Rattle.kilim_pausable_graph.specs.Pausing.{frames_at}
-use Rattle.kilim_isolation_check.specs.Walks.{frame_among}
+use Rattle.kilim_program.specs.declared.class.Method.{Method}
+use Rattle.kilim_program.specs.declared.instr.Instr.{Instr}
+use Rattle.kilim_program.specs.declared.names.MethodId.{MethodId}
+use Rattle.kilim_program.specs.declared.verified.Frame.{Frame}
+use Rattle.kilim_program.specs.Lengths.{is_code_place}
+use Rattle.kilim_program.specs.Names.{method_at}
+use Rattle.kilim_program.specs.Program.{Program}
+use Rattle.kilim_type_spec.specs.Step.{Types}
+use Rattle.kilim_type_spec.specs.Typed.{arriving, declared, entry, frame_among as types_among, frames_from, frames_of, left_by, listed, typing_of}
+use Rattle.kilim_type_laws.specs.Laws.{typing_in}
+use Rattle.kilim_type_spec.specs.TypedProgram.{KeepsTyped, TypedProgram}
+use Rattle.kilim_isolation_pauses.specs.Pausing.{frames_at}
+use Rattle.kilim_isolation.specs.Walks.{frame_among}
 use Rattle.kilim_isolation_laws.specs.reached_objects.walk.Laws.{FramesAreListed}
 
 abbrev AsLong : List (ℕ × Instr) → List Types → Type 0

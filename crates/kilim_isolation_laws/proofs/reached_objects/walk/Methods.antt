@@ -1,15 +1,15 @@
 -- Every method of a program is among its classes' methods.
 use Rattle.std.proofs.Common.{◌≡◌, inl, inr, ℕ, zero, suc, refl, ap, sym, subst, List, [], ◌∷◌, ◌++◌, Option, Some, None, slice_get}
 use Rattle.std.specs.List.{flat_map}
-use Rattle.kilim_classes.specs.declared.class.Class.{Class}
-use Rattle.kilim_classes.specs.declared.class.Method.{Method}
-use Rattle.kilim_classes.specs.declared.names.MethodId.{MethodId}
-use Rattle.kilim_classes.specs.Keeps.{Keeps}
-use Rattle.kilim_classes.specs.Names.{class_at, method_at}
-use Rattle.kilim_classes.specs.Program.{Program}
-use Rattle.kilim_typing.proofs.typing_laws.fits.ClassMethods.{IsAmong, owner_lists}
-use Rattle.kilim_pausable_graph.specs.Pausing.{all_methods}
-use Rattle.kilim_isolation_check.proofs.Accepting.{goes_on}
+use Rattle.kilim_program.specs.declared.class.Class.{Class}
+use Rattle.kilim_program.specs.declared.class.Method.{Method}
+use Rattle.kilim_program.specs.declared.names.MethodId.{MethodId}
+use Rattle.kilim_program.specs.Keeps.{Keeps}
+use Rattle.kilim_program.specs.Names.{class_at, method_at}
+use Rattle.kilim_program.specs.Program.{Program}
+use Rattle.kilim_type_laws.proofs.members.ClassMethods.{IsAmong, owner_lists}
+use Rattle.kilim_isolation_pauses.specs.Pausing.{all_methods}
+use Rattle.kilim_isolation.proofs.Accepting.{goes_on}
 use Rattle.kilim_isolation_laws.specs.reached_objects.walk.Laws.{EveryMethodGoes}
 
 among_left : {A : Type 0} (x : A) (xs ys : List A) → IsAmong x xs → IsAmong x (xs ++ ys)

@@ -1,14 +1,14 @@
 -- Types that agree are the same to the isolation rules.
 use Rattle.std.proofs.Common.{◌≡◌, ℕ, suc, Bool, false, ◌||◌, refl, ap, sym, ◌∙◌, subst, List, [], ◌∷◌, Option, Some, None, Result, Ok, Err}
-use Rattle.kilim_classes.specs.declared.class.Method.{Method}
-use Rattle.kilim_classes.specs.declared.instr.Instr.{Instr}
-use Rattle.kilim_classes.specs.declared.instr.Instr.TheVariants.{Aload, Astore, Aaload, Aastore, Areturn, Getfield, Putfield, Invokevirtual, Invokespecial, Invokestatic, New, Newarray, Anewarray, Checkcast}
-use Rattle.kilim_classes.specs.declared.verified.VType.{VType}
-use Rattle.kilim_classes.specs.declared.verified.VType.TheVariants.{Top, Long}
-use Rattle.kilim_classes.specs.Program.{Program}
-use Rattle.kilim_typing.specs.Step.{Types, Row, Takes, Element, Shuffles, Loads, Stores, Adds, Makes, Constructs, Leaves, Is, peek, row}
-use Rattle.kilim_typing.specs.Typed.{Among, edges}
-use Rattle.kilim_shape_graph.specs.declared.graph.Graph.{Graph}
+use Rattle.kilim_program.specs.declared.class.Method.{Method}
+use Rattle.kilim_program.specs.declared.instr.Instr.{Instr}
+use Rattle.kilim_program.specs.declared.instr.Instr.TheVariants.{Aload, Astore, Aaload, Aastore, Areturn, Getfield, Putfield, Invokevirtual, Invokespecial, Invokestatic, New, Newarray, Anewarray, Checkcast}
+use Rattle.kilim_program.specs.declared.verified.VType.{VType}
+use Rattle.kilim_program.specs.declared.verified.VType.TheVariants.{Top, Long}
+use Rattle.kilim_program.specs.Program.{Program}
+use Rattle.kilim_type_spec.specs.Step.{Types, Row, Takes, Element, Shuffles, Loads, Stores, Adds, Makes, Constructs, Leaves, Is, peek, row}
+use Rattle.kilim_type_spec.specs.Typed.{Among, edges}
+use Rattle.kilim_isolation_graph.specs.declared.graph.Graph.{Graph}
 use Rattle.kilim_isolation_rules.specs.Marks.{any_mixes, flow_mixes, mixes, plain}
 use Rattle.kilim_isolation_rules.specs.Rules.{any_flow_mixes, by_types, deed, left_by}
 use Rattle.kilim_isolation_laws.proofs.reached_objects.walk.Agree.{Agree, AgreeLeft, agree_with, AgreeLocals, no_leave, row_agree}

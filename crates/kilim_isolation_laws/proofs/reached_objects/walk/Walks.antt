@@ -1,24 +1,24 @@
 -- The rules let pass under the types at the places what they let pass under the listed frames.
 use Rattle.std.proofs.Common.{◌≡◌, ℕ, Bool, true, false, not, ◌||◌, cond, eqb, refl, ap, sym, ◌∙◌, subst, true≢false, List, [], ◌∷◌, Option, Some, None, Ok}
-use Rattle.kilim_classes.specs.declared.class.Method.{Method}
-use Rattle.kilim_classes.specs.declared.instr.Instr.{Instr}
-use Rattle.kilim_classes.specs.declared.verified.Frame.{Frame}
-use Rattle.kilim_classes.specs.declared.verified.VType.{VType}
-use Rattle.kilim_classes.specs.Lengths.{fetched, first_place, is_code_place}
-use Rattle.kilim_classes.specs.Program.{Program}
-use Rattle.kilim_typing.specs.Step.{Types, peek}
-use Rattle.kilim_typing.specs.Typed.{declared, edges}
-use Rattle.kilim_typing.specs.typing_laws.Laws.{typing_at}
-use Rattle.kilim_typing.proofs.typing_laws.ByPlace.{typed_by_place}
-use Rattle.kilim_typing.proofs.typing_laws.Listed.{listed_frames_show}
-use Rattle.kilim_typing.proofs.typing_laws.Tops.{passed}
-use Rattle.kilim_paths.specs.Paths.{Has, Reaches}
-use Rattle.kilim_shape_graph.specs.declared.graph.Graph.{Graph}
-use Rattle.kilim_shape_graph.specs.Canonical.{canonical_at}
+use Rattle.kilim_program.specs.declared.class.Method.{Method}
+use Rattle.kilim_program.specs.declared.instr.Instr.{Instr}
+use Rattle.kilim_program.specs.declared.verified.Frame.{Frame}
+use Rattle.kilim_program.specs.declared.verified.VType.{VType}
+use Rattle.kilim_program.specs.Lengths.{fetched, first_place, is_code_place}
+use Rattle.kilim_program.specs.Program.{Program}
+use Rattle.kilim_type_spec.specs.Step.{Types, peek}
+use Rattle.kilim_type_spec.specs.Typed.{declared, edges}
+use Rattle.kilim_type_laws.specs.Laws.{typing_at}
+use Rattle.kilim_type_laws.proofs.ByPlace.{typed_by_place}
+use Rattle.kilim_type_laws.proofs.Listed.{listed_frames_show}
+use Rattle.kilim_type_laws.proofs.Tops.{passed}
+use Rattle.kilim_isolation_paths.specs.Paths.{Has, Reaches}
+use Rattle.kilim_isolation_graph.specs.declared.graph.Graph.{Graph}
+use Rattle.kilim_isolation_graph.specs.Canonical.{canonical_at}
 use Rattle.kilim_isolation_rules.specs.declared.deed.Deed.{Deed}
 use Rattle.kilim_isolation_rules.specs.Rules.{any_flow_mixes, deed, judged, left_by, moves}
-use Rattle.kilim_pausable_graph.specs.Pausing.{frames_at}
-use Rattle.kilim_isolation_check.specs.Walks.{declared_to, exits_to, machine_of, types_at, types_of}
+use Rattle.kilim_isolation_pauses.specs.Pausing.{frames_at}
+use Rattle.kilim_isolation.specs.Walks.{declared_to, exits_to, machine_of, types_at, types_of}
 use Rattle.kilim_isolation_laws.specs.reached_objects.live.Laws.{IsAcceptedBy}
 use Rattle.kilim_isolation_laws.proofs.reached_objects.live.Along.{exit_among}
 use Rattle.kilim_isolation_laws.proofs.reached_objects.live.Live.{passes}

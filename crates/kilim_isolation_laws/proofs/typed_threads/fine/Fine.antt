@@ -2,35 +2,36 @@
 use Rattle.std.proofs.Common.{◌≡◌, ℕ, ◌+◌, ◌<◌, ◌≤◌, Bool, true, false, cond, eqb, List, [], ◌∷◌, length, Option, Some, None, refl, sym, ap, subst, ◌∙◌, arith}
 use Rattle.std.specs.Prelude.{◌||◌, is_some, nat_lt, codes}
 use Rattle.std.proofs.lemmas.Bool.{and_parts}
-use Rattle.kilim_classes.specs.declared.class.Method.{Method}
-use Rattle.kilim_classes.specs.declared.instr.Instr.{Instr}
-use Rattle.kilim_classes.specs.declared.names.MethodId.{MethodId}
-use Rattle.kilim_classes.specs.declared.ty.Ty.{Ty}
-use Rattle.kilim_classes.specs.declared.value.Value.{Value}
-use Rattle.kilim_classes.specs.declared.verified.VType.{VType}
-use Rattle.kilim_classes.specs.Lengths.{fetched, first_place, is_code_place}
-use Rattle.kilim_classes.specs.Names.{method_at}
-use Rattle.kilim_classes.specs.Program.{Program}
-use Rattle.kilim_classes.specs.declared.machine.cause.EndCause.TheVariants as cause
-use Rattle.kilim_classes.specs.machine.Effect.{Effect, named_type}
-use Rattle.kilim_classes.specs.machine.Effect as effect
-use Rattle.kilim_classes.specs.machine.Machine.{Objects, Activation}
-use Rattle.kilim_classes.specs.machine.Moves.{effect_in, effect_found, effect_of, entered, frame_limit, goes_on, move_by, moves, receiver_of, returned}
-use Rattle.kilim_classes.specs.machine.Moves as move
-use Rattle.kilim_classes.specs.machine.Natives.{Native, native_of}
-use Rattle.kilim_classes.specs.machine.Natives as native
-use Rattle.kilim_rows.specs.Outcome.{is_stuck}
-use Rattle.kilim_typing.specs.Step.{Types, made_at, made_by, result_types, words}
-use Rattle.kilim_jvm_interp.specs.Step.{CallerFits, FitsStack, limit_in, stack_limit}
-use Rattle.kilim_jvm_interp.specs.Run.{IsFine}
-use Rattle.kilim_thread_model.specs.State.{Setting, Thread, Alive}
-use Rattle.kilim_typing.specs.typing_laws.fits.Fits.{Classes, Typing, Wanted, Awaited, AReference, AValue, BelowFit, FrameFits, Fits, AreThere, HeapFits, Nothing, StackFits, has_type, have_types, result_awaited, result_of}
-use Rattle.kilim_typing.specs.typing_laws.fits.Sound.{EffectFits, GoesOn}
-use Rattle.kilim_typing.proofs.typing_laws.fits.Grounds.{facts_hold}
-use Rattle.kilim_typing.proofs.typing_laws.fits.Narrowed.{narrows}
-use Rattle.kilim_typing.proofs.typing_laws.fits.Table.{table_fits}
-use Rattle.kilim_typing.proofs.typing_laws.fits.Walk.{Stands, stands_at}
-use Rattle.kilim_woven_runs.specs.fiber_kin.Served.{ResultFits, gives_value}
+use Rattle.kilim_program.specs.declared.class.Method.{Method}
+use Rattle.kilim_program.specs.declared.instr.Instr.{Instr}
+use Rattle.kilim_program.specs.declared.names.MethodId.{MethodId}
+use Rattle.kilim_program.specs.declared.ty.Ty.{Ty}
+use Rattle.kilim_program.specs.declared.value.Value.{Value}
+use Rattle.kilim_program.specs.declared.verified.VType.{VType}
+use Rattle.kilim_program.specs.Lengths.{fetched, first_place, is_code_place}
+use Rattle.kilim_program.specs.Names.{method_at}
+use Rattle.kilim_program.specs.Program.{Program}
+use Rattle.kilim_run_state.specs.declared.cause.EndCause.TheVariants as cause
+use Rattle.kilim_run_machine.specs.Effect.{Effect}
+use Rattle.kilim_program.specs.Members.{named_type}
+use Rattle.kilim_run_machine.specs.Effect as effect
+use Rattle.kilim_run_state.specs.Machine.{Objects, Activation}
+use Rattle.kilim_run_machine.specs.Moves.{effect_in, effect_found, effect_of, entered, frame_limit, goes_on, move_by, moves, receiver_of, returned}
+use Rattle.kilim_run_machine.specs.Moves as move
+use Rattle.kilim_run_machine.specs.Natives.{Native, native_of}
+use Rattle.kilim_run_machine.specs.Natives as native
+use Rattle.kilim_run_rows.specs.Outcome.{is_stuck}
+use Rattle.kilim_type_spec.specs.Step.{Types, made_at, made_by, result_types, words}
+use Rattle.kilim_run_interp.specs.Step.{CallerFits, FitsStack, limit_in, stack_limit}
+use Rattle.kilim_run_interp.specs.Run.{IsFine}
+use Rattle.kilim_run_model.specs.State.{Setting, Thread, Alive}
+use Rattle.kilim_type_sound.specs.Fits.{Classes, Typing, Wanted, Awaited, AReference, AValue, BelowFit, FrameFits, Fits, AreThere, HeapFits, Nothing, StackFits, has_type, have_types, result_awaited, result_of}
+use Rattle.kilim_type_sound.specs.Sound.{EffectFits, GoesOn}
+use Rattle.kilim_type_sound.proofs.Grounds.{facts_hold}
+use Rattle.kilim_type_sound.proofs.Narrowed.{narrows}
+use Rattle.kilim_type_sound.proofs.Table.{table_fits}
+use Rattle.kilim_type_sound.proofs.Walk.{Stands, stands_at}
+use Rattle.kilim_fiber_spec.specs.fiber_kin.Served.{ResultFits, gives_value}
 use Rattle.kilim_isolation_laws.specs.typed_threads.fine.Typed.{IsVerified, TopIsThere, frames_of}
 use Rattle.kilim_isolation_laws.specs.typed_threads.fine.Law.{FittingIsFine}
 use Rattle.kilim_isolation_laws.proofs.typed_threads.fine.Heights.{low_stack, some_size, step_low}

@@ -4,20 +4,20 @@ use mathlib.Core.List.{reverse_aux}
 use Rattle.std.specs.Prelude.{nat_le}
 use Rattle.std.specs.List.{list_all}
 use Rattle.std.proofs.lemmas.Bool.{and_parts, eqb-true, leb-true}
-use Rattle.kilim_classes.specs.declared.class.Method.{Method}
-use Rattle.kilim_classes.specs.declared.instr.Instr.{Instr}
-use Rattle.kilim_classes.specs.declared.names.ClassId.{ClassId}
-use Rattle.kilim_classes.specs.declared.verified.Frame.{Frame}
-use Rattle.kilim_classes.specs.declared.verified.VType.{VType}
-use Rattle.kilim_classes.specs.declared.verified.VType.TheVariants.{Top, Int, Long, Null, UninitThis, Uninit, Object}
-use Rattle.kilim_classes.specs.Lengths.{ends_path, is_code_place}
-use Rattle.kilim_classes.specs.Program.{Program}
-use Rattle.kilim_typing.specs.Step.{Types, Operand, Row, Takes, Element, Shuffles, Loads, Stores, Adds, Makes, Constructs, Leaves, Further, Form, form_room, has_room, room_for, is_same, one_replaced, peek, pushed, size, replaced, stored, class_vtype, by_row, row, with_stack, with_element, element, shuffled, store, constructed, words}
-use Rattle.kilim_typing.specs.Typed.{Here, TypedBy, WellTypedBy, declared, entry, frame_fits, frame_in, frame_types, goes_on}
-use Rattle.kilim_typing.proofs.typing_laws.Tops.{passed, past}
-use Rattle.kilim_typing.proofs.woven_form.woven_types.Crux.{FirmRow}
-use Rattle.kilim_typing.proofs.woven_form.woven_types.Forms.{form_low, given_low, element_low, words_append}
-use Rattle.kilim_typing.proofs.woven_form.woven_types.Old.{firm_row}
+use Rattle.kilim_program.specs.declared.class.Method.{Method}
+use Rattle.kilim_program.specs.declared.instr.Instr.{Instr}
+use Rattle.kilim_program.specs.declared.names.ClassId.{ClassId}
+use Rattle.kilim_program.specs.declared.verified.Frame.{Frame}
+use Rattle.kilim_program.specs.declared.verified.VType.{VType}
+use Rattle.kilim_program.specs.declared.verified.VType.TheVariants.{Top, Int, Long, Null, UninitThis, Uninit, Object}
+use Rattle.kilim_program.specs.Lengths.{ends_path, is_code_place}
+use Rattle.kilim_program.specs.Program.{Program}
+use Rattle.kilim_type_spec.specs.Step.{Types, Operand, Row, Takes, Element, Shuffles, Loads, Stores, Adds, Makes, Constructs, Leaves, Further, Form, form_room, has_room, room_for, is_same, one_replaced, peek, pushed, size, replaced, stored, class_vtype, by_row, row, with_stack, with_element, element, shuffled, store, constructed, words}
+use Rattle.kilim_type_spec.specs.Typed.{Here, TypedBy, WellTypedBy, declared, entry, frame_fits, frame_in, frame_types, goes_on}
+use Rattle.kilim_type_laws.proofs.Tops.{passed, past}
+use Rattle.kilim_weave_laws.proofs.woven_types.Crux.{FirmRow}
+use Rattle.kilim_weave_laws.proofs.woven_types.Forms.{form_low, given_low, element_low, words_append}
+use Rattle.kilim_weave_laws.proofs.woven_types.Old.{firm_row}
 
 -- ---- words
 

@@ -2,19 +2,19 @@
 use Rattle.std.proofs.Common.{◌≡◌, ℕ, ◌+◌, true, List, length, Option, Some, None, refl, sym, ap, subst, ◌∙◌, arith}
 use Rattle.std.specs.Prelude.{slice_get, codes, if◌then◌else◌}
 use Rattle.std.specs.List.{AllByRecursion}
-use Rattle.kilim_classes.specs.declared.class.Form.TheVariants.{Plain}
-use Rattle.kilim_classes.specs.declared.class.Form.{Form}
-use Rattle.kilim_classes.specs.declared.class.Method.{Method}
-use Rattle.kilim_classes.specs.declared.names.MethodId.{MethodId}
-use Rattle.kilim_classes.specs.declared.ty.Ty.{Ty}
-use Rattle.kilim_classes.specs.BuiltIn.{built_in_methods_in, class_id, class_type, int_type}
-use Rattle.kilim_classes.specs.Keeps.{Keeps}
-use Rattle.kilim_classes.specs.Names.{◌>>=◌, class_name, method_at}
-use Rattle.kilim_classes.specs.Program.{Program}
-use Rattle.kilim_classes.specs.machine.Natives.{Native, natives, native_named, native_method, native_of}
-use Rattle.kilim_classes.specs.machine.Natives as native
-use Rattle.kilim_typing.proofs.typing_laws.fits.BuiltInMembers.{NamedAt, built_in_at, named_at, none_built_in}
-use Rattle.kilim_typing.proofs.typing_laws.fits.ValueClasses.{all_of_at}
+use Rattle.kilim_program.specs.declared.class.Form.TheVariants.{Plain}
+use Rattle.kilim_program.specs.declared.class.Form.{Form}
+use Rattle.kilim_program.specs.declared.class.Method.{Method}
+use Rattle.kilim_program.specs.declared.names.MethodId.{MethodId}
+use Rattle.kilim_program.specs.declared.ty.Ty.{Ty}
+use Rattle.kilim_program.specs.BuiltIn.{built_in_methods_in, class_id, class_type, int_type}
+use Rattle.kilim_program.specs.Keeps.{Keeps}
+use Rattle.kilim_program.specs.Names.{◌>>=◌, class_name, method_at}
+use Rattle.kilim_program.specs.Program.{Program}
+use Rattle.kilim_run_machine.specs.Natives.{Native, natives, native_named, native_method, native_of}
+use Rattle.kilim_run_machine.specs.Natives as native
+use Rattle.kilim_type_sound.proofs.BuiltInMembers.{NamedAt, built_in_at, named_at, none_built_in}
+use Rattle.kilim_type_laws.proofs.members.ValueClasses.{all_of_at}
 
 -- the type of its result, where the first built-in class has this number
 abbrev pub gives : ℕ → Native → Option Ty

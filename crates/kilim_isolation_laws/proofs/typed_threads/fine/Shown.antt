@@ -5,27 +5,27 @@ use Rattle.std.specs.List.{AllByRecursion, list_all}
 use Rattle.std.specs.Str.{bytes_eq}
 use Rattle.std.specs.FinMap.{get}
 use Rattle.std.proofs.lemmas.Bool.{and_parts, not-true}
-use Rattle.kilim_classes.specs.declared.class.Class.{Class}
-use Rattle.kilim_classes.specs.declared.class.Field.{Field}
-use Rattle.kilim_classes.specs.declared.class.Form.TheVariants.{Plain}
-use Rattle.kilim_classes.specs.declared.class.Form.{Form}
-use Rattle.kilim_classes.specs.declared.names.FieldId.{FieldId}
-use Rattle.kilim_classes.specs.declared.ty.Base.{Base}
-use Rattle.kilim_classes.specs.declared.ty.Base.TheVariants as base
-use Rattle.kilim_classes.specs.declared.ty.Ty.{Ty}
-use Rattle.kilim_classes.specs.declared.value.Value.{Value}
-use Rattle.kilim_classes.specs.declared.value.Value.TheVariants as value
-use Rattle.kilim_classes.specs.BuiltIn.{built_in_classes_in}
-use Rattle.kilim_classes.specs.Keeps.{Keeps, is_open_superclass, own_class_fits}
-use Rattle.kilim_classes.specs.Names.{class_from, field_of}
-use Rattle.kilim_classes.specs.Program.{Program}
-use Rattle.kilim_classes.specs.declared.machine.value.Object.{Object}
-use Rattle.kilim_classes.specs.machine.Effect.{named_class, named_type}
-use Rattle.kilim_classes.specs.machine.Machine.{Objects}
-use Rattle.kilim_classes.specs.machine.Members.{object_fields}
-use Rattle.kilim_tree_move.specs.Shaping.{IsShown, field_values, held}
-use Rattle.kilim_typing.specs.typing_laws.fits.Fits.{Classes, ContentFits, FieldFits, FieldsFit, HeapFits, is_of, is_value_of}
-use Rattle.kilim_typing.proofs.typing_laws.fits.ValueClasses.{own_fits}
+use Rattle.kilim_program.specs.declared.class.Class.{Class}
+use Rattle.kilim_program.specs.declared.class.Field.{Field}
+use Rattle.kilim_program.specs.declared.class.Form.TheVariants.{Plain}
+use Rattle.kilim_program.specs.declared.class.Form.{Form}
+use Rattle.kilim_program.specs.declared.names.FieldId.{FieldId}
+use Rattle.kilim_program.specs.declared.ty.Base.{Base}
+use Rattle.kilim_program.specs.declared.ty.Base.TheVariants as base
+use Rattle.kilim_program.specs.declared.ty.Ty.{Ty}
+use Rattle.kilim_program.specs.declared.value.Value.{Value}
+use Rattle.kilim_program.specs.declared.value.Value.TheVariants as value
+use Rattle.kilim_program.specs.BuiltIn.{built_in_classes_in}
+use Rattle.kilim_program.specs.Keeps.{Keeps, is_open_superclass, own_class_fits}
+use Rattle.kilim_program.specs.Names.{class_from, field_of}
+use Rattle.kilim_program.specs.Program.{Program}
+use Rattle.kilim_run_state.specs.declared.value.Object.{Object}
+use Rattle.kilim_program.specs.Members.{named_class, named_type}
+use Rattle.kilim_run_state.specs.Machine.{Objects}
+use Rattle.kilim_program.specs.Members.{object_fields}
+use Rattle.kilim_run_trees.specs.Shaping.{IsShown, field_values, held}
+use Rattle.kilim_type_sound.specs.Fits.{Classes, ContentFits, FieldFits, FieldsFit, HeapFits, is_of, is_value_of}
+use Rattle.kilim_type_laws.proofs.members.ValueClasses.{own_fits}
 
 abbrev fiber_name : List ℕ
 fiber_name = codes "kilim/Fiber"

@@ -1,15 +1,15 @@
 -- The constructor with which task 0 begins.
 use Rattle.std.specs.Prelude.{◌≡◌, List, Some}
-use Rattle.kilim_classes.specs.declared.class.Form.{Form}
-use Rattle.kilim_classes.specs.declared.class.Method.{Method}
-use Rattle.kilim_classes.specs.declared.names.ClassId.{ClassId}
-use Rattle.kilim_classes.specs.declared.names.MethodId.{MethodId}
-use Rattle.kilim_classes.specs.declared.ty.Qualifier.TheVariants.{Free}
-use Rattle.kilim_classes.specs.Names.{method_at}
-use Rattle.kilim_classes.specs.Program.{Program}
-use Rattle.kilim_classfile.specs.declared.class_file.ClassFile.{ClassFile}
+use Rattle.kilim_program.specs.declared.class.Form.{Form}
+use Rattle.kilim_program.specs.declared.class.Method.{Method}
+use Rattle.kilim_program.specs.declared.names.ClassId.{ClassId}
+use Rattle.kilim_program.specs.declared.names.MethodId.{MethodId}
+use Rattle.kilim_program.specs.declared.ty.Qualifier.TheVariants.{Free}
+use Rattle.kilim_program.specs.Names.{method_at}
+use Rattle.kilim_program.specs.Program.{Program}
+use Rattle.kilim_class_file.specs.declared.class_file.ClassFile.{ClassFile}
 use Rattle.kilim_link_spec.specs.LinksWell.{LinksWell}
-use Rattle.kilim_classes.specs.machine.Members.{constructor_of}
+use Rattle.kilim_program.specs.Members.{constructor_of}
 
 -- its receiver isn't free, so the object stays that task's own
 abbrev pub MainBegins : Program → ClassId → Type 0

@@ -1,6 +1,6 @@
 -- In no interleaving of an accepted program is an object reached by two threads.
-use Rattle.kilim_thread_model.specs.Reach.{Liveness, PlaysIsolated}
-use Rattle.kilim_thread_model.specs.State.{Setting}
+use Rattle.kilim_run_model.specs.Reach.{Liveness, PlaysIsolated}
+use Rattle.kilim_run_model.specs.State.{Setting}
 use Rattle.kilim_isolation_laws.specs.reached_objects.Laws.{AreLive}
 use Rattle.kilim_isolation_laws.specs.Laws.{IsRunOfAccepted}
 

@@ -2,38 +2,38 @@
 -- call, with the graph right after the call.
 use Rattle.std.specs.Prelude.{◌≡◌, ◌⊎◌, ℕ, true, false, List, [], ◌∷◌, ◌++◌, Option, Some, None, Ok}
 use Rattle.std.specs.FinMap.{get, insert}
-use Rattle.kilim_classes.specs.declared.class.Method.{Method}
-use Rattle.kilim_classes.specs.declared.instr.Instr.{Instr}
-use Rattle.kilim_classes.specs.declared.names.BoxName.{BoxName}
-use Rattle.kilim_classes.specs.declared.names.MethodId.{MethodId}
-use Rattle.kilim_classes.specs.declared.ty.Kind.TheVariants as kind
-use Rattle.kilim_classes.specs.declared.ty.Qualifier.TheVariants as qualifier
-use Rattle.kilim_classes.specs.declared.ty.Ty.{Ty}
-use Rattle.kilim_classes.specs.declared.value.Value.{Value}
-use Rattle.kilim_classes.specs.declared.value.Value.TheVariants.{Box, Ref}
-use Rattle.kilim_classes.specs.declared.verified.Frame.{Frame}
-use Rattle.kilim_classes.specs.Program.{Program}
-use Rattle.kilim_classes.specs.BuiltIn.{built_in_constructor, class_id, class_type}
-use Rattle.kilim_classes.specs.Kinds.{kind_of}
-use Rattle.kilim_classes.specs.Lengths.{fetched}
-use Rattle.kilim_classes.specs.Names.{method_at}
-use Rattle.kilim_classes.specs.machine.Machine.{Activation, Objects}
-use Rattle.kilim_classes.specs.machine.Moves.{Move, entered, moves, push_value}
-use Rattle.kilim_classes.specs.machine.Moves as move
-use Rattle.kilim_typing.specs.Step.{Types, result_types, type_step}
-use Rattle.kilim_typing.specs.Typed.{Among, FlowsInto, declared, edges, entry, has_code, no_types}
+use Rattle.kilim_program.specs.declared.class.Method.{Method}
+use Rattle.kilim_program.specs.declared.instr.Instr.{Instr}
+use Rattle.kilim_program.specs.declared.names.BoxName.{BoxName}
+use Rattle.kilim_program.specs.declared.names.MethodId.{MethodId}
+use Rattle.kilim_program.specs.declared.ty.Kind.TheVariants as kind
+use Rattle.kilim_program.specs.declared.ty.Qualifier.TheVariants as qualifier
+use Rattle.kilim_program.specs.declared.ty.Ty.{Ty}
+use Rattle.kilim_program.specs.declared.value.Value.{Value}
+use Rattle.kilim_program.specs.declared.value.Value.TheVariants.{Box, Ref}
+use Rattle.kilim_program.specs.declared.verified.Frame.{Frame}
+use Rattle.kilim_program.specs.Program.{Program}
+use Rattle.kilim_program.specs.BuiltIn.{built_in_constructor, class_id, class_type}
+use Rattle.kilim_program.specs.Kinds.{kind_of}
+use Rattle.kilim_program.specs.Lengths.{fetched}
+use Rattle.kilim_program.specs.Names.{method_at}
+use Rattle.kilim_run_state.specs.Machine.{Activation, Objects}
+use Rattle.kilim_run_machine.specs.Moves.{Move, entered, moves, push_value}
+use Rattle.kilim_run_machine.specs.Moves as move
+use Rattle.kilim_type_spec.specs.Step.{Types, result_types, type_step}
+use Rattle.kilim_type_spec.specs.Typed.{Among, FlowsInto, declared, edges, entry, has_code, no_types}
 use Rattle.kilim_isolation_laws.specs.forest.Heap.{IsForest}
 use Rattle.kilim_isolation_laws.specs.forest.Relation.{Safe}
-use Rattle.kilim_paths.specs.Paths.{Has, Reaches}
-use Rattle.kilim_shape_graph.specs.declared.entry.Parameter.{Parameter}
-use Rattle.kilim_shape_graph.specs.declared.graph.Graph.{Graph}
-use Rattle.kilim_shape_graph.specs.Canonical.{canonical_at}
-use Rattle.kilim_shape_graph.specs.Entry.{parameters_of, quality}
+use Rattle.kilim_isolation_paths.specs.Paths.{Has, Reaches}
+use Rattle.kilim_isolation_graph.specs.declared.entry.Parameter.{Parameter}
+use Rattle.kilim_isolation_graph.specs.declared.graph.Graph.{Graph}
+use Rattle.kilim_isolation_graph.specs.Canonical.{canonical_at}
+use Rattle.kilim_isolation_graph.specs.Entry.{parameters_of, quality}
 use Rattle.kilim_isolation_rules.specs.Calls.{given_result, is_owned}
 use Rattle.kilim_isolation_rules.specs.Marks.{flow_mixes, stack_lives}
 use Rattle.kilim_isolation_rules.specs.Rules as rules
 use Rattle.kilim_isolation_rules.specs.Rules.{deed}
-use Rattle.kilim_isolation_check.specs.Walks.{declared_to, entry_graph, exits_to, machine_of}
+use Rattle.kilim_isolation.specs.Walks.{declared_to, entry_graph, exits_to, machine_of}
 use Rattle.kilim_isolation_laws.specs.graph_rows.Holds.{Fits, HeapFits, IsOf, Stands, Tree, Trees, Waiting, object_sort, refers, trees, type_sort}
 use Rattle.kilim_isolation_laws.specs.graph_rows.Facts.{IsGivenAway, IsTaken, IsVerified, ProgramKeeps}
 

@@ -1,20 +1,20 @@
 -- Live locals on the paths of accepted methods. Neither a heap nor a machine is spoken of.
 use Rattle.std.specs.Prelude.{◌≡◌, ℕ, Bool, true, false, ◌||◌, List, Some}
-use Rattle.kilim_classes.specs.declared.class.Method.{Method}
-use Rattle.kilim_classes.specs.declared.names.MethodId.{MethodId}
-use Rattle.kilim_classes.specs.declared.verified.Frame.{Frame}
-use Rattle.kilim_classes.specs.declared.verified.VType.{VType}
-use Rattle.kilim_classes.specs.Keeps.{Keeps}
-use Rattle.kilim_classes.specs.Names.{method_at}
-use Rattle.kilim_classes.specs.Program.{Program}
-use Rattle.kilim_typing.specs.Step.{Types, peek, is_int, is_long, is_top}
-use Rattle.kilim_typing.specs.Typed.{Live, WellTypedBy, has_code}
-use Rattle.kilim_paths.specs.Paths.{Reaches}
-use Rattle.kilim_shape_graph.specs.declared.graph.Graph.{Graph}
-use Rattle.kilim_shape_graph.specs.Graphs.{node_of, slot}
-use Rattle.kilim_shape_graph.specs.Nodes.{is_gone}
-use Rattle.kilim_isolation_check.specs.Laws.{GoesOn}
-use Rattle.kilim_isolation_check.specs.Walks.{machine_of}
+use Rattle.kilim_program.specs.declared.class.Method.{Method}
+use Rattle.kilim_program.specs.declared.names.MethodId.{MethodId}
+use Rattle.kilim_program.specs.declared.verified.Frame.{Frame}
+use Rattle.kilim_program.specs.declared.verified.VType.{VType}
+use Rattle.kilim_program.specs.Keeps.{Keeps}
+use Rattle.kilim_program.specs.Names.{method_at}
+use Rattle.kilim_program.specs.Program.{Program}
+use Rattle.kilim_type_spec.specs.Step.{Types, peek, is_int, is_long, is_top}
+use Rattle.kilim_type_spec.specs.Typed.{Live, WellTypedBy, has_code}
+use Rattle.kilim_isolation_paths.specs.Paths.{Reaches}
+use Rattle.kilim_isolation_graph.specs.declared.graph.Graph.{Graph}
+use Rattle.kilim_isolation_graph.specs.Graphs.{node_of, slot}
+use Rattle.kilim_isolation_graph.specs.Nodes.{is_gone}
+use Rattle.kilim_isolation.specs.Laws.{GoesOn}
+use Rattle.kilim_isolation.specs.Walks.{machine_of}
 
 abbrev pub is_number : VType → Bool
 is_number t = is_int t || is_long t

@@ -1,25 +1,25 @@
 -- The isolation rules walk over listed frames. What they let pass passes under the types at the places, too.
 use Rattle.std.specs.Prelude.{◌≡◌, ℕ, List, Option, Some, Ok, true}
-use Rattle.kilim_classes.specs.declared.class.Method.{Method}
-use Rattle.kilim_classes.specs.declared.instr.Instr.{Instr}
-use Rattle.kilim_classes.specs.declared.names.MethodId.{MethodId}
-use Rattle.kilim_classes.specs.declared.verified.Frame.{Frame}
-use Rattle.kilim_classes.specs.Keeps.{Keeps}
-use Rattle.kilim_classes.specs.Lengths.{fetched, is_code_place}
-use Rattle.kilim_classes.specs.Names.{method_at}
-use Rattle.kilim_classes.specs.Program.{Program}
-use Rattle.kilim_typing.specs.Step.{Types}
-use Rattle.kilim_typing.specs.Typed.{declared, edges, has_code, listed}
-use Rattle.kilim_typing.specs.typing_laws.Laws.{typing_at}
-use Rattle.kilim_typing.specs.TypedProgram.{KeepsTyped, TypedProgram}
-use Rattle.kilim_paths.specs.Paths.{Has, Reaches}
-use Rattle.kilim_shape_graph.specs.declared.graph.Graph.{Graph}
-use Rattle.kilim_shape_graph.specs.Canonical.{canonical_at}
+use Rattle.kilim_program.specs.declared.class.Method.{Method}
+use Rattle.kilim_program.specs.declared.instr.Instr.{Instr}
+use Rattle.kilim_program.specs.declared.names.MethodId.{MethodId}
+use Rattle.kilim_program.specs.declared.verified.Frame.{Frame}
+use Rattle.kilim_program.specs.Keeps.{Keeps}
+use Rattle.kilim_program.specs.Lengths.{fetched, is_code_place}
+use Rattle.kilim_program.specs.Names.{method_at}
+use Rattle.kilim_program.specs.Program.{Program}
+use Rattle.kilim_type_spec.specs.Step.{Types}
+use Rattle.kilim_type_spec.specs.Typed.{declared, edges, has_code, listed}
+use Rattle.kilim_type_laws.specs.Laws.{typing_at}
+use Rattle.kilim_type_spec.specs.TypedProgram.{KeepsTyped, TypedProgram}
+use Rattle.kilim_isolation_paths.specs.Paths.{Has, Reaches}
+use Rattle.kilim_isolation_graph.specs.declared.graph.Graph.{Graph}
+use Rattle.kilim_isolation_graph.specs.Canonical.{canonical_at}
 use Rattle.kilim_isolation_rules.specs.Rules.{deed, moves}
-use Rattle.kilim_pausable_graph.specs.Pausing.{frames_at}
-use Rattle.kilim_isolation_check.specs.Faults.{IsAccepted}
-use Rattle.kilim_isolation_check.specs.Laws.{GoesOn}
-use Rattle.kilim_isolation_check.specs.Walks.{declared_to, exits_to, frame_among, machine_of}
+use Rattle.kilim_isolation_pauses.specs.Pausing.{frames_at}
+use Rattle.kilim_isolation.specs.Faults.{IsAccepted}
+use Rattle.kilim_isolation.specs.Laws.{GoesOn}
+use Rattle.kilim_isolation.specs.Walks.{declared_to, exits_to, frame_among, machine_of}
 
 -- the frame that is listed for a place shows the types there
 abbrev pub FramesAreListed : Type 0

@@ -1,8 +1,8 @@
 -- A thread that fits is fine.
-use Rattle.kilim_typing.specs.typing_laws.fits.Fits.{Classes, Typing, Wanted}
-use Rattle.kilim_thread_model.specs.State.{Setting}
-use Rattle.kilim_thread_model.specs.Lone.{Lone}
-use Rattle.kilim_woven_runs.specs.fiber_kin.Served.{IsFineThread}
+use Rattle.kilim_type_sound.specs.Fits.{Classes, Typing, Wanted}
+use Rattle.kilim_run_model.specs.State.{Setting}
+use Rattle.kilim_run_model.specs.Lone.{Lone}
+use Rattle.kilim_fiber_spec.specs.fiber_kin.Served.{IsFineThread}
 use Rattle.kilim_isolation_laws.specs.typed_threads.fine.Typed.{IsVerified, FitsAs, StackIsThere}
 
 -- A thread of verified code that fits the frames of verification, and whose top stack's references are in its heap, isn't stuck at its

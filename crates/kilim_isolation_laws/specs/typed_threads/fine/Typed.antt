@@ -1,12 +1,12 @@
 -- Threads whose frames and heap fit the frames of verification.
 use Rattle.std.specs.Prelude.{◌≡◌, ◌≤◌, ℕ, List, [], ◌∷◌, Some, None}
-use Rattle.kilim_classes.specs.declared.class.Form.TheVariants.{Plain}
-use Rattle.kilim_classes.specs.BuiltIn.{class_type}
-use Rattle.kilim_classes.specs.Keeps.{Keeps}
-use Rattle.kilim_classes.specs.machine.Machine.{Objects, Activation}
-use Rattle.kilim_typing.specs.typing_laws.fits.Fits.{Classes, Typing, Wanted, Fits, AreThere, Verified}
-use Rattle.kilim_thread_model.specs.State.{Setting, Thread, Alive, Ended}
-use Rattle.kilim_thread_model.specs.Lone.{Lone}
+use Rattle.kilim_program.specs.declared.class.Form.TheVariants.{Plain}
+use Rattle.kilim_program.specs.BuiltIn.{class_type}
+use Rattle.kilim_program.specs.Keeps.{Keeps}
+use Rattle.kilim_run_state.specs.Machine.{Objects, Activation}
+use Rattle.kilim_type_sound.specs.Fits.{Classes, Typing, Wanted, Fits, AreThere, Verified}
+use Rattle.kilim_run_model.specs.State.{Setting, Thread, Alive, Ended}
+use Rattle.kilim_run_model.specs.Lone.{Lone}
 
 -- a program in plain form, verified by these frames and wanted locals
 pub record IsVerified (set : Setting) (typing : Typing) (live : Wanted) : Type 0 where

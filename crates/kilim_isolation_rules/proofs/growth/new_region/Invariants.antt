@@ -1,5 +1,5 @@
 use Rattle.std.proofs.Common.{◌≡◌, max, drop}
-use Rattle.kilim_shape_graph.specs.Nodes.{new_region}
+use Rattle.kilim_isolation_graph.specs.Nodes.{new_region}
 use Rattle.kilim_isolation_rules.proofs.growth.new_region.Given as goal
 
 abbrev pub invariant-loop-node : goal.invariant-loop-node

@@ -1,5 +1,5 @@
 use Rattle.std.proofs.Common.{rules, ◌∙◌, ap, List, Option, ℕ}
-use Rattle.kilim_shape_graph.specs.Graphs.{with_slot}
+use Rattle.kilim_isolation_graph.specs.Graphs.{with_slot}
 use Rattle.kilim_isolation_rules.proofs.Slots.{slot_more, slot_set}
 use Rattle.kilim_isolation_rules.proofs.growth.set_slot.Goals as goal
 

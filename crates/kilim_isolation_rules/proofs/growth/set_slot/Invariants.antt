@@ -1,5 +1,5 @@
 use Rattle.std.proofs.Common.{◌≡◌, ◌+◌, ◌-◌, length}
-use Rattle.kilim_shape_graph.specs.Graphs.{with_slot}
+use Rattle.kilim_isolation_graph.specs.Graphs.{with_slot}
 use Rattle.kilim_isolation_rules.proofs.growth.set_slot.Given as goal
 
 abbrev pub invariant-loop-slots : goal.invariant-loop-slots

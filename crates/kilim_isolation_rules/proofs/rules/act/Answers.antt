@@ -1,5 +1,5 @@
 use Rattle.std.proofs.Common.{◌∙◌, List, ap, sym}
-use Rattle.kilim_classes.specs.declared.verified.VType.{VType}
+use Rattle.kilim_program.specs.declared.verified.VType.{VType}
 use Rattle.kilim_isolation_rules.specs.declared.action.Action.{Action}
 use Rattle.kilim_isolation_rules.specs.Actions.{cast, deed_by}
 use Rattle.kilim_isolation_rules.proofs.rules.act.Goals as goal

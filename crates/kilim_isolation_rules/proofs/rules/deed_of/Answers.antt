@@ -1,5 +1,5 @@
 use Rattle.std.proofs.Common.{◌∙◌, ap, sym}
-use Rattle.kilim_shape_graph.specs.declared.graph.Graph.{Graph}
+use Rattle.kilim_isolation_graph.specs.declared.graph.Graph.{Graph}
 use Rattle.kilim_isolation_rules.specs.declared.action.Action.{Action}
 use Rattle.kilim_isolation_rules.specs.Actions.{deed_by}
 use Rattle.kilim_isolation_rules.proofs.Acting.{acts}

@@ -1,6 +1,6 @@
 use Rattle.std.proofs.Common.{ap}
-use Rattle.kilim_shape_graph.specs.declared.node.Node.{Node}
-use Rattle.kilim_shape_graph.specs.Nodes.{node_at}
+use Rattle.kilim_isolation_graph.specs.declared.node.Node.{Node}
+use Rattle.kilim_isolation_graph.specs.Nodes.{node_at}
 use Rattle.kilim_isolation_rules.specs.Steps.{climbs}
 use Rattle.kilim_isolation_rules.proofs.Climbing.{climb_more}
 use Rattle.kilim_isolation_rules.proofs.steps.climbs.Goals as goal

@@ -1,6 +1,6 @@
 use Rattle.std.proofs.Common.{◌≡◌, ◌++◌, drop, length}
 use Rattle.kilim_isolation_rules.specs.Steps.{climbs}
-use Rattle.kilim_shape_graph.specs.Nodes.{node_at}
+use Rattle.kilim_isolation_graph.specs.Nodes.{node_at}
 use Rattle.kilim_isolation_rules.proofs.steps.climbs.Given as goal
 
 abbrev pub invariant-loop-left : goal.invariant-loop-left

@@ -1,5 +1,5 @@
 use Rattle.std.proofs.Common.{length}
-use Rattle.kilim_shape_graph.specs.Nodes.{node_at}
+use Rattle.kilim_isolation_graph.specs.Nodes.{node_at}
 use Rattle.kilim_isolation_rules.specs.Steps.{cut_node}
 use Rattle.kilim_isolation_rules.proofs.Climbing.{listed_more}
 use Rattle.kilim_isolation_rules.proofs.steps.cut.Goals as goal

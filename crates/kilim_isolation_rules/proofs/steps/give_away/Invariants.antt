@@ -1,6 +1,6 @@
 use Rattle.std.proofs.Common.{◌≡◌, ◌++◌, drop, length}
 use Rattle.kilim_isolation_rules.specs.Steps.{gone_node}
-use Rattle.kilim_shape_graph.specs.Nodes.{node_at, listed}
+use Rattle.kilim_isolation_graph.specs.Nodes.{node_at, listed}
 use Rattle.kilim_isolation_rules.proofs.steps.give_away.Given as goal
 
 abbrev pub invariant-loop-number : goal.invariant-loop-number

@@ -1,7 +1,7 @@
 use Rattle.std.proofs.Common.{List, ℕ, Option, ap, ◌∙◌}
 use Rattle.std.specs.Prelude.{option_map}
 use Rattle.std.proofs.lemmas.Int.{to_z-of_z}
-use Rattle.kilim_classes.specs.declared.instr.Instr.TheVariants.{Tableswitch}
+use Rattle.kilim_program.specs.declared.instr.Instr.TheVariants.{Tableswitch}
 use Rattle.kilim_link_spec.specs.Code.{applied, place_of}
 use Rattle.kilim_link_code.proofs.instr.table_switch.Goals as goal
 

@@ -3,7 +3,7 @@ use Rattle.std.specs.Prelude.{◌||◌, is_some}
 use Rattle.std.specs.BTreeMap.{get}
 use Rattle.std.specs.Ordering.{is_eq}
 use Rattle.std.proofs.lemmas.Bool.{cases_Bool}
-use Rattle.kilim_inherited.specs.Index.{signature_cmp, same_signature}
+use Rattle.kilim_link_inherited.specs.Index.{signature_cmp, same_signature}
 use Rattle.kilim_link_faults.specs.Seen.{seen_in}
 use Rattle.kilim_link_faults.proofs.Repeats.{same_is, key_is, turned_is}
 use Rattle.kilim_link_faults.proofs.twice.add_seen.Goals as goal

@@ -2,7 +2,7 @@ use Rattle.std.proofs.Common.{[], sym, ap, ◌∙◌, reverse, take, List}
 use Rattle.std.specs.Prelude.{◌||◌, ◌&&◌, Bool}
 use Rattle.std.specs.Str.{bytes_eq}
 use Rattle.std.proofs.lemmas.List.{at_drop_all}
-use Rattle.kilim_classfile.specs.declared.class_file.MemberInfo.{MemberInfo}
+use Rattle.kilim_class_file.specs.declared.class_file.MemberInfo.{MemberInfo}
 use Rattle.kilim_link_spec.specs.Faults.{repeated, same_member}
 use Rattle.kilim_link_spec.specs.Linked.{first_of}
 use Rattle.kilim_link_spec.specs.World.{member_name}

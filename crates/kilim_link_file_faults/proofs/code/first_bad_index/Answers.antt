@@ -1,5 +1,5 @@
 use Rattle.std.proofs.Common.{refl}
-use Rattle.kilim_bytecode.specs.Code.{Placed}
+use Rattle.kilim_class_code.specs.Code.{Placed}
 use Rattle.kilim_link_spec.specs.Code.{index_in}
 use Rattle.kilim_link_spec.specs.Faults.{bad_index}
 use Rattle.kilim_link_file_faults.proofs.Loops.{first_at, first_behind, none_first}

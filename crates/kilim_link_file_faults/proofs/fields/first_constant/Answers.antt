@@ -1,5 +1,5 @@
 use Rattle.std.proofs.Common.{refl}
-use Rattle.kilim_attributes.specs.declared.attribute.Attribute.{Attribute}
+use Rattle.kilim_class_attributes.specs.declared.attribute.Attribute.{Attribute}
 use Rattle.kilim_link_spec.specs.Linked.{constant_by}
 use Rattle.kilim_link_file_faults.proofs.Loops.{found_first, found_later, none_found}
 use Rattle.kilim_link_file_faults.proofs.fields.first_constant.Goals as goal

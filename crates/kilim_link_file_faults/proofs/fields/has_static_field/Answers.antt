@@ -1,6 +1,6 @@
 use Rattle.std.proofs.Common.{◌&&◌, not}
-use Rattle.kilim_classes.specs.Names.{◌>>=◌}
-use Rattle.kilim_classfile.specs.declared.class_file.MemberInfo.{MemberInfo}
+use Rattle.kilim_program.specs.Names.{◌>>=◌}
+use Rattle.kilim_class_file.specs.declared.class_file.MemberInfo.{MemberInfo}
 use Rattle.kilim_link_spec.specs.World.{acc_static, has_flag, member_descriptor}
 use Rattle.kilim_link_spec.specs.Types.{field_text, type_in}
 use Rattle.kilim_link_spec.specs.LeftOut.{has_its_constant}

@@ -1,6 +1,6 @@
 use Rattle.std.proofs.Common.{◌≡◌, ◌&&◌, not, drop}
 use Rattle.std.specs.List.{list_any}
-use Rattle.kilim_classes.specs.Names.{◌>>=◌}
+use Rattle.kilim_program.specs.Names.{◌>>=◌}
 use Rattle.kilim_link_spec.specs.LeftOut.{has_its_constant, has_static_field}
 use Rattle.kilim_link_spec.specs.Types.{field_text, type_in}
 use Rattle.kilim_link_spec.specs.World.{acc_static, has_flag, member_descriptor}

@@ -1,6 +1,6 @@
 use Rattle.std.proofs.Common.{refl}
 use Rattle.std.specs.List.{filter_map}
-use Rattle.kilim_classfile.specs.declared.class_file.MemberInfo.{MemberInfo}
+use Rattle.kilim_class_file.specs.declared.class_file.MemberInfo.{MemberInfo}
 use Rattle.kilim_link_spec.specs.Linked.{code_attribute}
 use Rattle.kilim_link_spec.specs.LeftOut.{decoded_in, left_out_op}
 use Rattle.kilim_link_file_faults.proofs.Loops.{first_at, first_behind, none_first}

@@ -1,5 +1,5 @@
 use Rattle.std.proofs.Common.{ap, ◌∙◌}
-use Rattle.kilim_classfile.specs.declared.class_file.MemberInfo.{MemberInfo}
+use Rattle.kilim_class_file.specs.declared.class_file.MemberInfo.{MemberInfo}
 use Rattle.kilim_link_spec.specs.Linked.{code_attribute}
 use Rattle.kilim_link_spec.specs.LeftOut.{has_row}
 use Rattle.kilim_link_file_faults.proofs.Loops.{found_at, passed_at, none_passes}

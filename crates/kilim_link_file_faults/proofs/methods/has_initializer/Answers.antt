@@ -1,6 +1,6 @@
 use Rattle.std.proofs.Common.{List, ℕ, codes, ap, ◌∙◌}
 use Rattle.std.specs.Str.{bytes_eq}
-use Rattle.kilim_classfile.specs.declared.class_file.MemberInfo.{MemberInfo}
+use Rattle.kilim_class_file.specs.declared.class_file.MemberInfo.{MemberInfo}
 use Rattle.kilim_link_spec.specs.World.{member_name}
 use Rattle.kilim_link_file_faults.proofs.Loops.{found_at, passed_at, none_passes}
 use Rattle.kilim_link_file_faults.proofs.methods.has_initializer.Goals as goal

@@ -1,4 +1,4 @@
-use Rattle.kilim_classfile.specs.declared.class_file.MemberInfo.{MemberInfo}
+use Rattle.kilim_class_file.specs.declared.class_file.MemberInfo.{MemberInfo}
 use Rattle.kilim_link_spec.specs.World.{has_flag}
 use Rattle.kilim_link_file_faults.proofs.Loops.{found_at, passed_at, none_passes}
 use Rattle.kilim_link_file_faults.proofs.methods.has_method_flag.Goals as goal

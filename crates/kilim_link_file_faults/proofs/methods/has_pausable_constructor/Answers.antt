@@ -1,5 +1,5 @@
 use Rattle.std.proofs.Common.{◌&&◌}
-use Rattle.kilim_classfile.specs.declared.class_file.MemberInfo.{MemberInfo}
+use Rattle.kilim_class_file.specs.declared.class_file.MemberInfo.{MemberInfo}
 use Rattle.kilim_link_spec.specs.Qualified.{is_constructor_name}
 use Rattle.kilim_link_spec.specs.World.{member_name, is_pausable}
 use Rattle.kilim_link_file_faults.proofs.Loops.{found_at, passed_at, none_passes}

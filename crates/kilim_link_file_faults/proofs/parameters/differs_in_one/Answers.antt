@@ -2,7 +2,7 @@ use Rattle.std.proofs.Common.{List, length, sym, ◌∙◌}
 use Rattle.std.specs.List.{filter_map, list_any}
 use Rattle.std.specs.Option.{option_copied}
 use Rattle.std.proofs.lemmas.List.{at_drop_all}
-use Rattle.kilim_attributes.specs.declared.attribute.Attribute.{Attribute}
+use Rattle.kilim_class_attributes.specs.declared.attribute.Attribute.{Attribute}
 use Rattle.kilim_link_spec.specs.Annotations.{params_in}
 use Rattle.kilim_link_spec.specs.LeftOut.{differs_in}
 use Rattle.kilim_link_spec.specs.World.{parameter_parts}

@@ -1,6 +1,6 @@
 use Rattle.std.proofs.Common.{length}
 use Rattle.std.specs.List.{list_any, filter_map}
-use Rattle.kilim_classfile.specs.declared.class_file.MemberInfo.{MemberInfo}
+use Rattle.kilim_class_file.specs.declared.class_file.MemberInfo.{MemberInfo}
 use Rattle.kilim_link_spec.specs.Annotations.{params_in}
 use Rattle.kilim_link_spec.specs.LeftOut.{differs_in}
 use Rattle.kilim_link_spec.specs.Types.{method_text}

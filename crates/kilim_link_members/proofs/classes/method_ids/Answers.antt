@@ -1,4 +1,4 @@
-use Rattle.kilim_classes.specs.BuiltIn.{method_id}
+use Rattle.kilim_program.specs.BuiltIn.{method_id}
 use Rattle.kilim_link_members.proofs.Numbers.{one_more}
 use Rattle.kilim_link_members.proofs.classes.method_ids.Goals as goal
 

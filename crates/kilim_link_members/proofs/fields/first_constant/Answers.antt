@@ -1,4 +1,4 @@
-use Rattle.kilim_attributes.specs.declared.attribute.Attribute.{Attribute}
+use Rattle.kilim_class_attributes.specs.declared.attribute.Attribute.{Attribute}
 use Rattle.kilim_link_spec.specs.Linked.{constant_by}
 use Rattle.kilim_link_members.proofs.Firsts.{found_first, found_later, none_found}
 use Rattle.kilim_link_members.proofs.fields.first_constant.Goals as goal

@@ -1,6 +1,6 @@
 use Rattle.std.proofs.Common.{◌≡◌, Option, ap, subst, sym, ◌∙◌}
 use Rattle.std.specs.Prelude.{IfOk}
-use Rattle.kilim_classes.specs.declared.class.Method.{Method}
+use Rattle.kilim_program.specs.declared.class.Method.{Method}
 use Rattle.kilim_link_spec.specs.Linked.{body_in}
 use Rattle.kilim_link_spec.specs.Types.{result_in, types_in}
 use Rattle.kilim_link_members.proofs.Bodies.{no_result, no_types, no_body, has_all}

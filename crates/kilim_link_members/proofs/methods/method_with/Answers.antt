@@ -1,5 +1,5 @@
 use Rattle.std.proofs.Common.{Some, Option, false, [], ap, ◌∙◌}
-use Rattle.kilim_classes.specs.declared.class.Method.{Method}
+use Rattle.kilim_program.specs.declared.class.Method.{Method}
 use Rattle.kilim_link_spec.specs.declared.view.DeclaredMethod.{DeclaredMethod}
 use Rattle.kilim_link_spec.specs.Qualified.{qualified}
 use Rattle.kilim_link_members.proofs.methods.method_with.Goals as goal

@@ -1,5 +1,5 @@
 use Rattle.std.specs.List.{flat_map}
-use Rattle.kilim_attributes.specs.declared.attribute.CodeAttribute.{CodeAttribute}
+use Rattle.kilim_class_attributes.specs.declared.attribute.CodeAttribute.{CodeAttribute}
 use Rattle.kilim_link_spec.specs.Frames.{table_in}
 use Rattle.kilim_link_spec.specs.Mentions.{mentions_of_slot, slots_of_frame}
 use Rattle.kilim_link_mentions.proofs.Joined.{pushed_twice, all_pushed_twice}

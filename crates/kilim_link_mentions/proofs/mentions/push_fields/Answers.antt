@@ -1,5 +1,5 @@
 use Rattle.std.proofs.Common.{List, ℕ, ap, ◌∙◌}
-use Rattle.kilim_classfile.specs.declared.class_file.MemberInfo.{MemberInfo}
+use Rattle.kilim_class_file.specs.declared.class_file.MemberInfo.{MemberInfo}
 use Rattle.kilim_link_spec.specs.World.{member_descriptor}
 use Rattle.kilim_link_spec.specs.declared.named.Mention.TheVariants.{OfField}
 use Rattle.kilim_link_mentions.proofs.Joined.{mapped, all_mapped}

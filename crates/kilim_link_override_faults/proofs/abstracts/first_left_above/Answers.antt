@@ -1,8 +1,8 @@
 use Rattle.std.proofs.Common.{get_or, take, filter, sym, ap, ◌∙◌}
 use Rattle.std.specs.Option.{option_copied}
 use Rattle.std.proofs.lemmas.List.{get_or_default}
-use Rattle.kilim_classes.specs.BuiltIn.{class_id}
-use Rattle.kilim_classes.specs.Keeps.{ancestors_of}
+use Rattle.kilim_program.specs.BuiltIn.{class_id}
+use Rattle.kilim_program.specs.Keeps.{ancestors_of}
 use Rattle.kilim_link_spec.specs.Faults.{left_above}
 use Rattle.kilim_link_spec.specs.Linked.{first_of}
 use Rattle.kilim_link_spec.specs.World.{declared_methods}

@@ -1,6 +1,6 @@
 use Rattle.std.proofs.Common.{◌≡◌, ℕ, ◌+◌, ◌<◌, List, [], ◌∷◌, ◌++◌, length, get_or, drop, Some, refl, sym, ap, ◌∙◌, append_assoc, arith}
-use Rattle.kilim_classes.specs.BuiltIn.{class_id}
-use Rattle.kilim_inherited.specs.declared.said.Said.{Said}
+use Rattle.kilim_program.specs.BuiltIn.{class_id}
+use Rattle.kilim_link_inherited.specs.declared.said.Said.{Said}
 use Rattle.kilim_link_spec.specs.World.{World}
 use Rattle.kilim_link_spec.specs.declared.view.ClassView.{ClassView}
 use Rattle.kilim_link_override_faults.specs.Apart.{apart_from, is_apart}

@@ -1,6 +1,6 @@
 use Rattle.std.proofs.Common.{ap, ◌∙◌}
-use Rattle.kilim_inherited.specs.declared.nearest.Nearest.{Nearest}
-use Rattle.kilim_inherited.specs.Known.{Tells}
+use Rattle.kilim_link_inherited.specs.declared.nearest.Nearest.{Nearest}
+use Rattle.kilim_link_inherited.specs.Known.{Tells}
 use Rattle.kilim_link_override_faults.specs.Apart.{says_apart, apart_from}
 use Rattle.kilim_link_override_faults.specs.Heritage.{Finds}
 use Rattle.kilim_link_override_faults.proofs.Telling.{ok_then, apart_fits, finds_apart}

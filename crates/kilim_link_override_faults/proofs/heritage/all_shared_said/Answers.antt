@@ -1,8 +1,8 @@
 use Rattle.std.proofs.Common.{◌≡◌, ◌+◌, ◌++◌, List, length, get_or, drop, sym, ap, ◌∙◌, append-nil, arith}
 use Rattle.std.proofs.lemmas.List.{at_drop_all}
-use Rattle.kilim_classes.specs.BuiltIn.{class_id}
+use Rattle.kilim_program.specs.BuiltIn.{class_id}
 use Rattle.kilim_link_spec.specs.declared.view.DeclaredMethod.{DeclaredMethod}
-use Rattle.kilim_inherited.specs.declared.said.Said.{Said}
+use Rattle.kilim_link_inherited.specs.declared.said.Said.{Said}
 use Rattle.kilim_link_spec.specs.declared.view.ClassView.{ClassView}
 use Rattle.kilim_link_override_faults.specs.Heritage.{numbered, places_in, all_numbered, all_places}
 use Rattle.kilim_link_override_faults.proofs.Placing.{said_more, places_more}

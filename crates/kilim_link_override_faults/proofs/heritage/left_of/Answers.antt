@@ -1,6 +1,6 @@
 use Rattle.std.proofs.Common.{ap, ◌∙◌}
-use Rattle.kilim_inherited.specs.declared.nearest.Nearest.{Nearest}
-use Rattle.kilim_inherited.specs.Known.{Tells}
+use Rattle.kilim_link_inherited.specs.declared.nearest.Nearest.{Nearest}
+use Rattle.kilim_link_inherited.specs.Known.{Tells}
 use Rattle.kilim_link_override_faults.specs.Heritage.{Finds, says_left, left_by_class}
 use Rattle.kilim_link_override_faults.proofs.Telling.{ok_then, left_fits, finds_left}
 use Rattle.kilim_link_override_faults.proofs.heritage.left_of.Goals as goal

@@ -1,5 +1,5 @@
 use Rattle.std.proofs.Common.{◌≡◌, drop}
-use Rattle.kilim_classes.specs.Same.{same_qualifiers}
+use Rattle.kilim_program.specs.Same.{same_qualifiers}
 use Rattle.kilim_link_override_faults.proofs.overrides.same_qualifiers.Given as goal
 
 abbrev pub invariant-loop-i : goal.invariant-loop-i

@@ -1,4 +1,4 @@
-use Rattle.kilim_classes.specs.Names.{method_at}
+use Rattle.kilim_program.specs.Names.{method_at}
 use Rattle.kilim_link_spec.specs.World.{declared_built_in}
 use Rattle.kilim_link_views.proofs.Found.{found_step}
 use Rattle.std.proofs.Common.{◌∙◌, ap, map}

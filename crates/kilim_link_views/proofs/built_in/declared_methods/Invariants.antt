@@ -1,6 +1,6 @@
 use Rattle.std.proofs.Common.{◌≡◌, map, take}
 use Rattle.std.specs.List.{filter_map}
-use Rattle.kilim_classes.specs.Names.{method_at}
+use Rattle.kilim_program.specs.Names.{method_at}
 use Rattle.kilim_link_spec.specs.World.{declared_built_in}
 use Rattle.kilim_link_views.proofs.built_in.declared_methods.Given as goal
 

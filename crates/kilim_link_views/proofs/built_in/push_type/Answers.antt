@@ -1,5 +1,5 @@
 use Rattle.std.proofs.Common.{◌++◌, arith}
-use Rattle.kilim_classes.specs.Names.{array_descriptor, base_descriptor}
+use Rattle.kilim_program.specs.Names.{array_descriptor, base_descriptor}
 use Rattle.kilim_link_views.proofs.Dimensions.{array_more}
 use Rattle.kilim_link_views.proofs.built_in.push_type.Goals as goal
 

@@ -1,5 +1,5 @@
 use Rattle.std.proofs.Common.{refl, ◌∙◌, ap, ◌++◌}
-use Rattle.kilim_classes.specs.Names.{descriptor}
+use Rattle.kilim_program.specs.Names.{descriptor}
 use Rattle.kilim_link_views.proofs.Loops.{behind}
 use Rattle.std.proofs.lemmas.List.{take_all}
 use Rattle.std.specs.List.{flat_map}

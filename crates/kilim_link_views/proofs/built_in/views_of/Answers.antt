@@ -1,5 +1,5 @@
 use Rattle.std.proofs.Common.{refl, ap, ◌∙◌, map}
-use Rattle.kilim_classes.specs.Program.{Program}
+use Rattle.kilim_program.specs.Program.{Program}
 use Rattle.kilim_link_spec.specs.World.{view_of_built_in}
 use Rattle.kilim_link_views.proofs.Loops.{mapped_in, taken_in}
 use Rattle.kilim_link_views.proofs.built_in.views_of.Goals as goal

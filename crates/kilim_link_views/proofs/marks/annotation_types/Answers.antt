@@ -1,6 +1,6 @@
 use Rattle.std.proofs.Common.{map, ◌∙◌, ap}
-use Rattle.kilim_attributes.specs.declared.attribute.Attribute.{Attribute}
-use Rattle.kilim_classfile.specs.Parts.{text_of}
+use Rattle.kilim_class_attributes.specs.declared.attribute.Attribute.{Attribute}
+use Rattle.kilim_class_file.specs.Parts.{text_of}
 use Rattle.kilim_link_spec.specs.Annotations.{types_on_member}
 use Rattle.kilim_link_spec.specs.World.{annotation_parts}
 use Rattle.kilim_link_views.proofs.Loops.{joined_in, taken_in}

@@ -1,6 +1,6 @@
 use Rattle.std.proofs.Common.{◌∙◌, ap}
 use Rattle.std.proofs.Common.{ℕ, List, map}
-use Rattle.kilim_classfile.specs.Parts.{text_of}
+use Rattle.kilim_class_file.specs.Parts.{text_of}
 use Rattle.kilim_link_views.proofs.Loops.{mapped}
 use Rattle.std.proofs.lemmas.List.{take_all}
 use Rattle.kilim_link_views.proofs.marks.each_texts.Goals as goal

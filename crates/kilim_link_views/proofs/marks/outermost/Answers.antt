@@ -1,6 +1,6 @@
 use Rattle.std.proofs.Common.{List, ◌++◌, sym, ◌∙◌, append-nil}
 use Rattle.std.proofs.lemmas.List.{at_drop_all}
-use Rattle.kilim_attribute_parts.specs.declared.annotation.AnnotationPart.{AnnotationPart}
+use Rattle.kilim_class_attributes.specs.declared.parts.annotation.AnnotationPart.{AnnotationPart}
 use Rattle.kilim_link_spec.specs.Annotations.{outermost}
 use Rattle.kilim_link_views.proofs.marks.outermost.Goals as goal
 

@@ -1,8 +1,8 @@
 use Rattle.std.proofs.Common.{List, ℕ, ◌++◌, map, ap, ◌∙◌}
 use Rattle.std.specs.Prelude.{option_to_list}
-use Rattle.kilim_attribute_parts.specs.declared.annotation.AnnotationPart.{AnnotationPart}
-use Rattle.kilim_attributes.specs.declared.attribute.Attribute.{Attribute}
-use Rattle.kilim_classfile.specs.Parts.{text_of}
+use Rattle.kilim_class_attributes.specs.declared.parts.annotation.AnnotationPart.{AnnotationPart}
+use Rattle.kilim_class_attributes.specs.declared.attribute.Attribute.{Attribute}
+use Rattle.kilim_class_file.specs.Parts.{text_of}
 use Rattle.kilim_link_spec.specs.Annotations.{params_in}
 use Rattle.kilim_link_spec.specs.World.{parameter_parts}
 use Rattle.kilim_link_views.proofs.Found.{found_step}

@@ -1,8 +1,8 @@
 use Rattle.std.proofs.Common.{List, ◌++◌, map, ap, ◌∙◌}
 use Rattle.std.specs.List.{flat_map}
 use Rattle.std.proofs.lemmas.List.{take_all}
-use Rattle.kilim_attribute_parts.specs.declared.annotation.AnnotationPart.{AnnotationPart}
-use Rattle.kilim_classfile.specs.Parts.{text_of}
+use Rattle.kilim_class_attributes.specs.declared.parts.annotation.AnnotationPart.{AnnotationPart}
+use Rattle.kilim_class_file.specs.Parts.{text_of}
 use Rattle.kilim_link_spec.specs.Annotations.{annotation_type}
 use Rattle.kilim_link_views.proofs.marks.push_types.Goals as goal
 

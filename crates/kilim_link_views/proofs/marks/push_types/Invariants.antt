@@ -1,6 +1,6 @@
 use Rattle.std.proofs.Common.{◌≡◌, ◌++◌, map, take}
 use Rattle.std.specs.List.{flat_map}
-use Rattle.kilim_classfile.specs.Parts.{text_of}
+use Rattle.kilim_class_file.specs.Parts.{text_of}
 use Rattle.kilim_link_spec.specs.Annotations.{annotation_type}
 use Rattle.kilim_link_views.proofs.marks.push_types.Given as goal
 

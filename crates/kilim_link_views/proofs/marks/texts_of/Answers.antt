@@ -1,5 +1,5 @@
 use Rattle.std.proofs.Common.{refl, ◌∙◌, ap, map}
-use Rattle.kilim_classfile.specs.Parts.{text_of}
+use Rattle.kilim_class_file.specs.Parts.{text_of}
 use Rattle.kilim_link_views.proofs.Loops.{mapped}
 use Rattle.std.proofs.lemmas.List.{take_all}
 use Rattle.kilim_link_views.proofs.marks.texts_of.Goals as goal

@@ -1,4 +1,4 @@
-use Rattle.kilim_attributes.specs.declared.attribute.Attribute.{Attribute}
+use Rattle.kilim_class_attributes.specs.declared.attribute.Attribute.{Attribute}
 use Rattle.kilim_link_spec.specs.World.{lists_pausable}
 use Rattle.kilim_link_views.proofs.Any.{found_at, passed_at}
 use Rattle.std.proofs.Common.{sym, ◌∙◌}

@@ -1,5 +1,5 @@
 use Rattle.std.proofs.Common.{List, length, ap, ◌∙◌, arith}
-use Rattle.kilim_inherited.specs.declared.entry.Entry.{Entry}
+use Rattle.kilim_link_inherited.specs.declared.entry.Entry.{Entry}
 use Rattle.kilim_link_world.specs.Superclasses.{own_key}
 use Rattle.kilim_link_world.proofs.Below.{length_below}
 use Rattle.kilim_link_world.proofs.lineages.lineages_of.Goals as goal

@@ -1,11 +1,11 @@
 use Rattle.std.proofs.Common.{◌≡◌, ℕ, Bool, List, Option, length, map, ◌∙◌, subst}
 use Rattle.std.specs.Prelude.{IfOk, is_some}
 use Rattle.std.specs.List.{list_any}
-use Rattle.kilim_classes.specs.declared.names.ClassId.{ClassId}
-use Rattle.kilim_classes.specs.BuiltIn.{class_id}
-use Rattle.kilim_inherited.specs.declared.entry.Entry.{Entry}
-use Rattle.kilim_inherited.specs.Inherited.{line_in}
-use Rattle.kilim_inherited.specs.Roots.{inherits, IsRight}
+use Rattle.kilim_program.specs.declared.names.ClassId.{ClassId}
+use Rattle.kilim_program.specs.BuiltIn.{class_id}
+use Rattle.kilim_link_inherited.specs.declared.entry.Entry.{Entry}
+use Rattle.kilim_link_inherited.specs.Inherited.{line_in}
+use Rattle.kilim_link_inherited.specs.Roots.{inherits, IsRight}
 use Rattle.kilim_link_world.specs.Outlining.{mark_at}
 use Rattle.kilim_link_world.specs.Superclasses.{mark_entries}
 use Rattle.kilim_link_world.proofs.Climbing.{marks_are, same_below}

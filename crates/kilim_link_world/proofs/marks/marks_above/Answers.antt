@@ -1,9 +1,9 @@
 use Rattle.std.proofs.Common.{List, length, ap, ◌∙◌, subst, arith}
 use Rattle.std.specs.Prelude.{IfOk}
 use Rattle.std.proofs.lemmas.List.{length-map}
-use Rattle.kilim_inherited.specs.declared.entry.Entry.{Entry}
-use Rattle.kilim_inherited.specs.Roots.{IsRight}
-use Rattle.kilim_inherited.specs.Trees.{Forest}
+use Rattle.kilim_link_inherited.specs.declared.entry.Entry.{Entry}
+use Rattle.kilim_link_inherited.specs.Roots.{IsRight}
+use Rattle.kilim_link_inherited.specs.Trees.{Forest}
 use Rattle.kilim_link_world.specs.Superclasses.{mark_entries}
 use Rattle.kilim_link_world.proofs.marks.marks_above.Goals as goal
 

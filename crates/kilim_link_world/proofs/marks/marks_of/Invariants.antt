@@ -1,7 +1,7 @@
 use Rattle.std.proofs.Common.{◌≡◌, ◌-◌, ◌≤◌}
 use Rattle.std.specs.Prelude.{is_some}
-use Rattle.kilim_classes.specs.BuiltIn.{class_id}
-use Rattle.kilim_inherited.specs.Roots.{inherits}
+use Rattle.kilim_program.specs.BuiltIn.{class_id}
+use Rattle.kilim_link_inherited.specs.Roots.{inherits}
 use Rattle.kilim_link_world.specs.Agrees.{each_below}
 use Rattle.kilim_link_world.proofs.marks.marks_of.Given as goal
 

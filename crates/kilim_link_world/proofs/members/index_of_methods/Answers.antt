@@ -4,7 +4,7 @@ use Rattle.std.specs.Prelude.{◌&&◌}
 use Rattle.std.specs.Str.{bytes_eq}
 use Rattle.std.proofs.lemmas.Option.{slice_get_read}
 use Rattle.kilim_link_spec.specs.World.{is_method}
-use Rattle.kilim_inherited.specs.Index.{positions, places_from}
+use Rattle.kilim_link_inherited.specs.Index.{positions, places_from}
 use Rattle.kilim_link_world.proofs.Lists.{index_next}
 use Rattle.kilim_link_world.proofs.members.index_of_methods.Goals as goal
 

@@ -1,6 +1,6 @@
 use Rattle.std.proofs.Common.{◌≡◌, ◌-◌, ◌≤◌, List, ℕ, length, take}
 use Rattle.kilim_link_spec.specs.World.{is_method}
-use Rattle.kilim_inherited.specs.Index.{positions, places_from}
+use Rattle.kilim_link_inherited.specs.Index.{positions, places_from}
 use Rattle.kilim_link_world.proofs.members.index_of_methods.Given as goal
 
 abbrev pub invariant-loop-i : goal.invariant-loop-i

@@ -3,8 +3,8 @@ use Rattle.std.specs.Prelude.{slice_get}
 use Rattle.std.proofs.lemmas.List.{take_all}
 use Rattle.std.proofs.Common.{◌<◌, List, length, get_or, ap, ◌∙◌, arith}
 use Rattle.std.proofs.lemmas.Option.{slice_get-get_or}
-use Rattle.kilim_inherited.specs.declared.index.Index.{Index}
-use Rattle.kilim_inherited.specs.Index.{places_from}
+use Rattle.kilim_link_inherited.specs.declared.index.Index.{Index}
+use Rattle.kilim_link_inherited.specs.Index.{places_from}
 use Rattle.kilim_link_spec.specs.World.{is_method, methods_at}
 use Rattle.kilim_link_spec.specs.declared.view.DeclaredMethod.{DeclaredMethod}
 use Rattle.kilim_link_world.specs.Agrees.{indexed}

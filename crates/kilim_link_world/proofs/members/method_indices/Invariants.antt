@@ -2,7 +2,7 @@ use Rattle.std.proofs.Common.{◌≡◌, ◌-◌, ◌≤◌, List, ℕ, length, 
 use Rattle.std.specs.Prelude.{slice_get}
 use Rattle.kilim_link_spec.specs.World.{is_method, methods_at}
 use Rattle.kilim_link_world.specs.Agrees.{indexed}
-use Rattle.kilim_inherited.specs.Index.{places_from}
+use Rattle.kilim_link_inherited.specs.Index.{places_from}
 use Rattle.kilim_link_world.proofs.members.method_indices.Given as goal
 
 abbrev pub invariant-loop-i : goal.invariant-loop-i

@@ -7,8 +7,8 @@ use Rattle.std.specs.List.{position_from}
 use Rattle.std.proofs.lemmas.Option.{slice_get-get_or}
 use Rattle.kilim_link_spec.specs.declared.view.DeclaredField.{DeclaredField}
 use Rattle.kilim_link_spec.specs.World.{is_field, fields_at}
-use Rattle.kilim_inherited.specs.declared.said.Said.{Said}
-use Rattle.kilim_inherited.specs.Nearest.{said_by, said_of}
+use Rattle.kilim_link_inherited.specs.declared.said.Said.{Said}
+use Rattle.kilim_link_inherited.specs.Nearest.{said_by, said_of}
 use Rattle.kilim_link_world.specs.Agrees.{field_count, placed}
 use Rattle.kilim_link_world.proofs.Saying.{class_next, total_next, length_next}
 use Rattle.kilim_link_world.proofs.nearest.all_fields_said.Goals as goal

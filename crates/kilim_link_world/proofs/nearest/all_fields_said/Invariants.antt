@@ -2,7 +2,7 @@ use Rattle.std.proofs.Common.{◌≡◌, ◌-◌, ◌≤◌, List, ℕ, length, 
 use Rattle.std.specs.Prelude.{slice_get, sum_by}
 use Rattle.std.specs.List.{position_from}
 use Rattle.kilim_link_spec.specs.World.{is_field, fields_at}
-use Rattle.kilim_inherited.specs.Nearest.{said_of}
+use Rattle.kilim_link_inherited.specs.Nearest.{said_of}
 use Rattle.kilim_link_world.specs.Agrees.{field_count, placed}
 use Rattle.kilim_link_world.proofs.nearest.all_fields_said.Given as goal
 

@@ -1,7 +1,7 @@
 use Rattle.std.proofs.Common.{◌≡◌, ◌-◌, ◌≤◌, List, ℕ, length, take}
 use Rattle.std.specs.List.{position_from}
 use Rattle.kilim_link_spec.specs.World.{is_field}
-use Rattle.kilim_inherited.specs.Nearest.{said_by}
+use Rattle.kilim_link_inherited.specs.Nearest.{said_by}
 use Rattle.kilim_link_world.specs.Agrees.{placed}
 use Rattle.kilim_link_world.proofs.nearest.fields_said.Given as goal
 

@@ -5,8 +5,8 @@ use Rattle.std.proofs.lemmas.List.{take_all}
 use Rattle.std.proofs.Common.{◌<◌, ◌+◌, List, ℕ, length, Some, refl, ap, ◌∙◌, arith}
 use Rattle.std.proofs.lemmas.Option.{slice_get_read}
 use Rattle.kilim_link_spec.specs.World.{is_method}
-use Rattle.kilim_inherited.specs.declared.said.Said.{Said}
-use Rattle.kilim_inherited.specs.Nearest.{said_by}
+use Rattle.kilim_link_inherited.specs.declared.said.Said.{Said}
+use Rattle.kilim_link_inherited.specs.Nearest.{said_by}
 use Rattle.kilim_link_world.proofs.Saying.{said_next}
 use Rattle.kilim_link_world.proofs.nearest.methods_said.Goals as goal
 

@@ -1,14 +1,14 @@
 use Rattle.std.proofs.Common.{◌≡◌, List, ℕ, length, ap, subst, arith}
 use Rattle.std.specs.Prelude.{IfOk, option_map}
 use Rattle.std.proofs.lemmas.Result.{IfOk-weaker}
-use Rattle.kilim_classes.specs.declared.class.Form.{Form}
-use Rattle.kilim_classes.specs.declared.names.ClassId.{ClassId}
-use Rattle.kilim_classes.specs.BuiltIn.{method_id}
-use Rattle.kilim_classes.specs.Program.{Program}
+use Rattle.kilim_program.specs.declared.class.Form.{Form}
+use Rattle.kilim_program.specs.declared.names.ClassId.{ClassId}
+use Rattle.kilim_program.specs.BuiltIn.{method_id}
+use Rattle.kilim_program.specs.Program.{Program}
 use Rattle.kilim_link_spec.specs.World.{find_method}
-use Rattle.kilim_inherited.specs.Known.{known, Tells}
-use Rattle.kilim_inherited.specs.declared.nearest.Nearest.{Nearest}
-use Rattle.kilim_inherited.specs.declared.said.Said.{Said}
+use Rattle.kilim_link_inherited.specs.Known.{known, Tells}
+use Rattle.kilim_link_inherited.specs.declared.nearest.Nearest.{Nearest}
+use Rattle.kilim_link_inherited.specs.declared.said.Said.{Said}
 use Rattle.kilim_link_world.specs.Superclasses.{AreSuperclasses}
 use Rattle.kilim_link_world.proofs.Telling.{method_told}
 use Rattle.kilim_link_world.proofs.nearest.nearest_methods.Goals as goal

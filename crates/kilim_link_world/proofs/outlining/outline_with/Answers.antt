@@ -1,7 +1,7 @@
 use Rattle.std.proofs.Common.{◌≡◌, List, length, ap, ◌∙◌, subst, arith}
-use Rattle.kilim_classes.specs.declared.class.Class.{Class}
-use Rattle.kilim_classes.specs.BuiltIn.{class_id}
-use Rattle.kilim_classes.specs.Names.{is_task}
+use Rattle.kilim_program.specs.declared.class.Class.{Class}
+use Rattle.kilim_program.specs.BuiltIn.{class_id}
+use Rattle.kilim_program.specs.Names.{is_task}
 use Rattle.kilim_link_world.specs.Agrees.{each_below}
 use Rattle.kilim_link_world.specs.Outlining.{bare, mark_at}
 use Rattle.kilim_link_world.proofs.Outlines.{length_outlined}

@@ -2,7 +2,7 @@ use Rattle.std.proofs.lemmas.List.{take_all}
 use Rattle.std.proofs.Common.{◌<◌, Bool, false, List, [], ◌∷◌, ◌++◌, length, Option, refl, take, sym, ap, ◌∙◌, arith}
 use Rattle.std.specs.Prelude.{unwrap_or}
 use Rattle.std.proofs.lemmas.Option.{slice_get_read}
-use Rattle.kilim_classes.specs.declared.class.Class.{Class}
+use Rattle.kilim_program.specs.declared.class.Class.{Class}
 use Rattle.kilim_link_spec.specs.World.{outlined}
 use Rattle.kilim_link_world.specs.Outlining.{mark_at}
 use Rattle.kilim_link_world.proofs.Outlines.{outlined_next}

@@ -1,6 +1,6 @@
 use Rattle.std.proofs.Common.{◌≡◌, List, Option, length, ap, ◌∙◌, subst, arith}
-use Rattle.kilim_classes.specs.declared.names.ClassId.{ClassId}
-use Rattle.kilim_inherited.specs.Roots.{IsRight}
+use Rattle.kilim_program.specs.declared.names.ClassId.{ClassId}
+use Rattle.kilim_link_inherited.specs.Roots.{IsRight}
 use Rattle.kilim_link_world.specs.Agrees.{each_below}
 use Rattle.kilim_link_world.specs.Superclasses.{own_key}
 use Rattle.kilim_link_world.proofs.Climbing.{lineages_are}

@@ -1,6 +1,6 @@
 use Rattle.std.proofs.Common.{codes}
 use Rattle.std.specs.Str.{bytes_eq}
-use Rattle.kilim_classes.specs.declared.class.Class.{Class}
+use Rattle.kilim_program.specs.declared.class.Class.{Class}
 use Rattle.kilim_link_world.proofs.Loops.{mapped, all_mapped}
 use Rattle.kilim_link_world.proofs.tasks.named_tasks.Goals as goal
 

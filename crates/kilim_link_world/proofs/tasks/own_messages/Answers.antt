@@ -1,5 +1,5 @@
 use Rattle.std.proofs.Common.{refl}
-use Rattle.kilim_classes.specs.declared.class.Class.{Class}
+use Rattle.kilim_program.specs.declared.class.Class.{Class}
 use Rattle.kilim_link_world.proofs.Loops.{mapped, all_mapped}
 use Rattle.kilim_link_world.proofs.tasks.own_messages.Goals as goal
 

@@ -3,11 +3,11 @@ use Rattle.std.proofs.lemmas.List.{length-map}
 use Rattle.std.specs.Prelude.{codes}
 use Rattle.std.specs.List.{list_any}
 use Rattle.std.specs.Str.{bytes_eq}
-use Rattle.kilim_classes.specs.declared.class.Class.{Class}
-use Rattle.kilim_classes.specs.declared.class.Form.{Form}
-use Rattle.kilim_classes.specs.BuiltIn.{class_id}
-use Rattle.kilim_classes.specs.Names.{class_at, is_named_task, is_task}
-use Rattle.kilim_inherited.specs.Inherited.{line_in}
+use Rattle.kilim_program.specs.declared.class.Class.{Class}
+use Rattle.kilim_program.specs.declared.class.Form.{Form}
+use Rattle.kilim_program.specs.BuiltIn.{class_id}
+use Rattle.kilim_program.specs.Names.{class_at, is_named_task, is_task}
+use Rattle.kilim_link_inherited.specs.Inherited.{line_in}
 use Rattle.kilim_link_world.specs.Agrees.{each_below}
 use Rattle.kilim_link_world.specs.Outlining.{bare, mark_at}
 use Rattle.kilim_link_world.proofs.Climbing.{for_each, passed_down, same_below, task_named}

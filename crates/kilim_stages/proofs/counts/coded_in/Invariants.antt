@@ -1,6 +1,6 @@
 use Rattle.std.proofs.Common.{◌≡◌, ◌≤◌, take, length}
 use Rattle.std.specs.List.{filter}
-use Rattle.kilim_typing.specs.Typed.{has_code}
+use Rattle.kilim_type_spec.specs.Typed.{has_code}
 use Rattle.kilim_stages.proofs.counts.coded_in.Given as goal
 
 abbrev pub invariant-loop-method : goal.invariant-loop-method

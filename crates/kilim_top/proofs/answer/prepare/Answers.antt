@@ -2,9 +2,9 @@ use Rattle.std.proofs.Common.{◌∙◌, ap, length, subst, sym}
 use Rattle.std.specs.Prelude.{IfOk}
 use Rattle.std.specs.String.{string_bytes}
 use Rattle.std.proofs.lemmas.List.{length-map}
-use Rattle.kilim_outside.specs.declared.words.asked.Asked.{Asked}
-use Rattle.kilim_outside.specs.words.Parts.{meant}
-use Rattle.kilim_outside.specs.words.Words.{files_read}
+use Rattle.kilim_command.specs.declared.grammar.asked.Asked.{Asked}
+use Rattle.kilim_command.specs.grammar.Parts.{meant}
+use Rattle.kilim_command.specs.grammar.Words.{files_read}
 use Rattle.kilim_top.specs.declared.answer.Ready.{Ready}
 use Rattle.kilim_top.specs.Inside.Answer.{IsReadyFor}
 use Rattle.kilim_top.proofs.Demos.{demo_prepared}

@@ -1,6 +1,6 @@
 use Rattle.std.proofs.Common.{map}
 use Rattle.std.specs.String.{string_bytes}
-use Rattle.kilim_outside.specs.words.Parts.{numbers_of}
+use Rattle.kilim_command.specs.grammar.Parts.{numbers_of}
 use Rattle.kilim_top.proofs.Replies.{ready_run, refused_run}
 use Rattle.kilim_top.proofs.answer.run_ready.Goals as goal
 

@@ -1,6 +1,6 @@
 use Rattle.std.proofs.Common.{subst}
-use Rattle.kilim_whole_runs.specs.Runs.{setting_of}
-use Rattle.kilim_outside.specs.words.Parts.{meant}
+use Rattle.kilim_run.specs.Runs.{setting_of}
+use Rattle.kilim_command.specs.grammar.Parts.{meant}
 use Rattle.kilim_top.specs.declared.answer.Ready.{Ready}
 use Rattle.kilim_top.specs.Inside.Answer.{IsReadyFor}
 use Rattle.kilim_top.proofs.Replies.{ran}

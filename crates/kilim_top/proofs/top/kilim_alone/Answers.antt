@@ -1,7 +1,7 @@
 use Rattle.std.proofs.Common.{map, rules}
 use Rattle.std.specs.String.{string_bytes}
-use Rattle.kilim_outside.specs.words.Parts.{meant}
-use Rattle.kilim_outside.specs.words.Words.{request_of}
+use Rattle.kilim_command.specs.grammar.Parts.{meant}
+use Rattle.kilim_command.specs.grammar.Words.{request_of}
 use Rattle.kilim_top.proofs.Ends.{asked_for, not_in_grammar}
 use Rattle.kilim_top.proofs.top.kilim_alone.Goals as goal
 

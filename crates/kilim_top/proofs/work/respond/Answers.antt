@@ -1,7 +1,7 @@
 use Rattle.std.proofs.Common.{Err, ap, refl, subst, sym}
 use Rattle.kilim_outside.specs.declared.sink.SinkFault.{SinkFault}
-use Rattle.kilim_outside.specs.words.Parts.{meant}
-use Rattle.kilim_written_files.specs.Written.{HaveOwnPaths}
+use Rattle.kilim_command.specs.grammar.Parts.{meant}
+use Rattle.kilim_outside.specs.written.Written.{HaveOwnPaths}
 use Rattle.kilim_top.specs.Outcome.{InFiles, InText}
 use Rattle.kilim_top.proofs.Responses.{reply_as, reply_paths, responded_short, responded_unwritten, responded_whole}
 use Rattle.kilim_top.proofs.work.respond.Goals as goal

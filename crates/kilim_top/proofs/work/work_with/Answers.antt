@@ -1,8 +1,8 @@
 use Rattle.std.proofs.Common.{◌≤◌, ℕ, Err, ap, inl, map, subst}
 use Rattle.std.specs.String.{string_bytes}
 use Rattle.kilim_outside.specs.declared.folder.FolderFault.{FolderFault}
-use Rattle.kilim_outside.specs.words.Parts.{meant}
-use Rattle.kilim_outside.specs.words.Words.{files_read}
+use Rattle.kilim_command.specs.grammar.Parts.{meant}
+use Rattle.kilim_command.specs.grammar.Words.{files_read}
 use Rattle.kilim_top.proofs.Ends.{not_read, read_short, short}
 use Rattle.kilim_top.proofs.TopLaws.{many_read, responded, same_outside, were_read_as}
 use Rattle.kilim_top.proofs.work.work_with.Goals as goal

@@ -1,5 +1,5 @@
 use Rattle.std.proofs.Common.{◌≡◌, drop}
-use Rattle.kilim_typing.specs.Step.{all_meet}
+use Rattle.kilim_type_spec.specs.Step.{all_meet}
 use Rattle.kilim_type_step.specs.Operands.{operands_of}
 use Rattle.kilim_type_step.proofs.apply.all_meet.Given as goal
 

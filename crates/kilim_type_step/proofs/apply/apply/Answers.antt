@@ -1,6 +1,6 @@
 use Rattle.std.proofs.Common.{◌∙◌, Ok, ap, sym, drop, rules}
 use Rattle.std.specs.Option.{option_to_list}
-use Rattle.kilim_typing.specs.Step.{Types, room_for}
+use Rattle.kilim_type_spec.specs.Step.{Types, room_for}
 use Rattle.kilim_type_step.specs.Operands.{furthers_of}
 use Rattle.kilim_type_step.proofs.Rows.{further_breaks, further_holds, operands_long, passes_three, stops_at_operands, stops_at_room}
 use Rattle.kilim_type_step.proofs.apply.apply.Goals as goal

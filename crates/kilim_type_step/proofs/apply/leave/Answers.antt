@@ -1,5 +1,5 @@
 use Rattle.std.proofs.Common.{[], Ok, not, Bool, ap, sym, ◌∙◌, rules}
-use Rattle.kilim_typing.specs.Step.{Types, rule}
+use Rattle.kilim_type_spec.specs.Step.{Types, rule}
 use Rattle.kilim_type_step.specs.Operands.{furthers_of}
 use Rattle.kilim_type_step.proofs.Rows.{further_breaks, further_holds, passes_two}
 use Rattle.kilim_type_step.proofs.apply.leave.Goals as goal

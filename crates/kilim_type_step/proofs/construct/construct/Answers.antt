@@ -1,6 +1,6 @@
 use Rattle.std.proofs.Common.{◌∷◌, [], sym, length}
 use Rattle.std.specs.Option.{option_to_list}
-use Rattle.kilim_typing.specs.Step.{needs}
+use Rattle.kilim_type_spec.specs.Step.{needs}
 use Rattle.kilim_type_step.specs.Operands.{operands_of}
 use Rattle.kilim_type_step.proofs.Constructing.{passes_four, constructs_abstract, constructs_fits, constructs_none, constructs_not}
 use Rattle.kilim_type_step.proofs.construct.construct.Goals as goal

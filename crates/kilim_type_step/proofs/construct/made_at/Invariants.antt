@@ -1,5 +1,5 @@
 use Rattle.std.proofs.Common.{◌≡◌, drop}
-use Rattle.kilim_typing.specs.Step.{made_at}
+use Rattle.kilim_type_spec.specs.Step.{made_at}
 use Rattle.kilim_type_step.proofs.construct.made_at.Given as goal
 
 abbrev pub invariant-loop-index : goal.invariant-loop-index

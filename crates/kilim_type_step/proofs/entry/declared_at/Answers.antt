@@ -1,5 +1,5 @@
 use Rattle.std.proofs.Common.{ap, length, arith}
-use Rattle.kilim_typing.specs.Typed.{frame_in}
+use Rattle.kilim_type_spec.specs.Typed.{frame_in}
 use Rattle.kilim_type_step.proofs.Searched.{search_end, search_here, search_more}
 use Rattle.kilim_type_step.proofs.entry.declared_at.Goals as goal
 

@@ -1,5 +1,5 @@
 use Rattle.std.proofs.Common.{◌≡◌, drop}
-use Rattle.kilim_typing.specs.Typed.{frame_in}
+use Rattle.kilim_type_spec.specs.Typed.{frame_in}
 use Rattle.kilim_type_step.proofs.entry.declared_at.Given as goal
 
 abbrev pub invariant-loop-entry : goal.invariant-loop-entry

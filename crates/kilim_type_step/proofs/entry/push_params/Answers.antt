@@ -1,6 +1,6 @@
 use Rattle.std.proofs.Common.{◌∙◌, ◌++◌, ◌+◌, [], List, ap, sym, drop, arith}
-use Rattle.kilim_classes.specs.declared.verified.VType.{VType}
-use Rattle.kilim_typing.specs.Typed.{param_slots, slots_of_type}
+use Rattle.kilim_program.specs.declared.verified.VType.{VType}
+use Rattle.kilim_type_spec.specs.Typed.{param_slots, slots_of_type}
 use Rattle.kilim_type_step.proofs.Parameters.{param_on, params_end}
 use Rattle.kilim_type_step.proofs.entry.push_params.Goals as goal
 

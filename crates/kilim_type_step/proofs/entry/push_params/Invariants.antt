@@ -1,5 +1,5 @@
 use Rattle.std.proofs.Common.{◌≡◌, ◌++◌, drop}
-use Rattle.kilim_typing.specs.Typed.{param_slots}
+use Rattle.kilim_type_spec.specs.Typed.{param_slots}
 use Rattle.kilim_type_step.proofs.entry.push_params.Given as goal
 
 abbrev pub invariant-loop-ty : goal.invariant-loop-ty

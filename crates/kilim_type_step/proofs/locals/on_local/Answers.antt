@@ -1,5 +1,5 @@
-use Rattle.kilim_classes.specs.declared.instr.Instr.TheVariants.{Iload, Lload, Aload, Istore, Lstore, Astore}
-use Rattle.kilim_typing.specs.Step.{row}
+use Rattle.kilim_program.specs.declared.instr.Instr.TheVariants.{Iload, Lload, Aload, Istore, Lstore, Astore}
+use Rattle.kilim_type_spec.specs.Step.{row}
 use Rattle.kilim_type_step.proofs.Places.{instr_is}
 use Rattle.kilim_type_step.proofs.locals.on_local.Goals as goal
 

@@ -1,5 +1,5 @@
-use Rattle.kilim_classes.specs.declared.instr.Instr.TheVariants.{New, Newarray}
-use Rattle.kilim_typing.specs.Step.{row}
+use Rattle.kilim_program.specs.declared.instr.Instr.TheVariants.{New, Newarray}
+use Rattle.kilim_type_spec.specs.Step.{row}
 use Rattle.kilim_type_step.proofs.Places.{instr_is}
 use Rattle.kilim_type_step.proofs.makes.on_made.Goals as goal
 

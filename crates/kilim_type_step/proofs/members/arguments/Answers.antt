@@ -1,6 +1,6 @@
 use Rattle.std.proofs.Common.{◌∙◌, ◌++◌, ◌∷◌, [], ◌-◌, List, ap, reverse, take, arith}
-use Rattle.kilim_classes.specs.declared.ty.Ty.{Ty}
-use Rattle.kilim_classes.specs.declared.verified.VType.{VType}
+use Rattle.kilim_program.specs.declared.ty.Ty.{Ty}
+use Rattle.kilim_program.specs.declared.verified.VType.{VType}
 use Rattle.kilim_type_step.specs.declared.operands.Taken.{Taken}
 use Rattle.kilim_type_step.specs.declared.operands.Taken.TheVariants as taken
 use Rattle.kilim_type_step.specs.Operands.{operands_of}

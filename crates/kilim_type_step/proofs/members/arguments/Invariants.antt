@@ -1,6 +1,6 @@
 use Rattle.std.proofs.Common.{◌≡◌, ◌++◌, ◌≤◌, length, map, take, reverse}
-use Rattle.kilim_classes.specs.declared.ty.Ty.{Ty}
-use Rattle.kilim_typing.specs.Step.{Is, vtype}
+use Rattle.kilim_program.specs.declared.ty.Ty.{Ty}
+use Rattle.kilim_type_spec.specs.Step.{Is, vtype}
 use Rattle.kilim_type_step.specs.Operands.{operands_of}
 use Rattle.kilim_type_step.proofs.members.arguments.Given as goal
 

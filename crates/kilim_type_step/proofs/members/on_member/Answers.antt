@@ -1,6 +1,6 @@
 use Rattle.std.proofs.Common.{sym, subst}
-use Rattle.kilim_classes.specs.declared.instr.Instr.{Instr}
-use Rattle.kilim_typing.specs.Step.{type_step, row}
+use Rattle.kilim_program.specs.declared.instr.Instr.{Instr}
+use Rattle.kilim_type_spec.specs.Step.{type_step, row}
 use Rattle.kilim_type_step.specs.Answers.{answers}
 use Rattle.kilim_type_step.proofs.Called.{constructor_called}
 use Rattle.kilim_type_step.proofs.members.on_member.Goals as goal

@@ -1,6 +1,6 @@
 use Rattle.std.proofs.Common.{◌++◌, ◌∷◌, [], ap, ◌∙◌}
-use Rattle.kilim_classes.specs.declared.verified.VType.{VType}
-use Rattle.kilim_typing.specs.Step.{Is, arguments}
+use Rattle.kilim_program.specs.declared.verified.VType.{VType}
+use Rattle.kilim_type_spec.specs.Step.{Is, arguments}
 use Rattle.kilim_type_step.specs.Operands.{operands_of}
 use Rattle.kilim_type_step.specs.declared.operands.Taken.TheVariants as taken
 use Rattle.kilim_type_step.proofs.Calls.{receiver_on}

@@ -1,5 +1,5 @@
 use Rattle.std.proofs.Common.{option_to_list}
-use Rattle.kilim_typing.specs.Step.{row}
+use Rattle.kilim_type_spec.specs.Step.{row}
 use Rattle.kilim_type_step.specs.Operands.{operands_of}
 use Rattle.kilim_type_step.proofs.Places.{plain_place}
 use Rattle.kilim_type_step.proofs.plain.on_plain.Goals as goal

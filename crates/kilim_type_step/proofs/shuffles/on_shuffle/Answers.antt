@@ -1,4 +1,4 @@
-use Rattle.kilim_typing.specs.Step.{row}
+use Rattle.kilim_type_spec.specs.Step.{row}
 use Rattle.kilim_type_step.specs.Forms.{form_of}
 use Rattle.kilim_type_step.proofs.Places.{shuffle_place}
 use Rattle.kilim_type_step.proofs.shuffles.on_shuffle.Goals as goal

@@ -1,5 +1,5 @@
 use Rattle.std.proofs.Common.{◌≡◌, ◌+◌, drop}
-use Rattle.kilim_typing.specs.Step.{words}
+use Rattle.kilim_type_spec.specs.Step.{words}
 use Rattle.kilim_type_step.proofs.state.are_within.Given as goal
 
 abbrev pub invariant-loop-t : goal.invariant-loop-t

@@ -1,6 +1,6 @@
 use Rattle.std.proofs.Common.{◌∙◌, List, ap, rules}
-use Rattle.kilim_classes.specs.declared.verified.VType.{VType}
-use Rattle.kilim_typing.specs.Step.{poke}
+use Rattle.kilim_program.specs.declared.verified.VType.{VType}
+use Rattle.kilim_type_spec.specs.Step.{poke}
 use Rattle.kilim_type_step.proofs.Types.{poke_more}
 use Rattle.kilim_type_step.proofs.state.poke.Goals as goal
 

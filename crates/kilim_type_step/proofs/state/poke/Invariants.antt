@@ -1,5 +1,5 @@
 use Rattle.std.proofs.Common.{◌≡◌, ◌-◌, vec_len}
-use Rattle.kilim_typing.specs.Step.{poke}
+use Rattle.kilim_type_spec.specs.Step.{poke}
 use Rattle.kilim_type_step.proofs.state.poke.Given as goal
 
 abbrev pub invariant-loop-types : goal.invariant-loop-types

@@ -1,6 +1,6 @@
 use Rattle.std.proofs.Common.{◌∙◌, sym, ap, arith, length}
 use Rattle.std.proofs.lemmas.List.{set-get_or}
-use Rattle.kilim_classes.specs.declared.verified.VType.TheVariants.{Top}
+use Rattle.kilim_program.specs.declared.verified.VType.TheVariants.{Top}
 use Rattle.kilim_type_step.proofs.Types.{step_set, step_kept}
 use Rattle.kilim_type_step.proofs.state.replace.Goals as goal
 use Rattle.kilim_type_step.proofs.state.replace.Goals.{then-is_same, else-is_same}

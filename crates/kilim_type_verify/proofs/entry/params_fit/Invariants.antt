@@ -1,6 +1,6 @@
 use Rattle.std.proofs.Common.{◌≡◌, ◌+◌, drop}
 use Rattle.std.specs.Prelude.{sum_by}
-use Rattle.kilim_classes.specs.Same.{type_slots}
+use Rattle.kilim_program.specs.Same.{type_slots}
 use Rattle.kilim_type_verify.proofs.entry.params_fit.Given as goal
 
 abbrev pub invariant-loop-ty : goal.invariant-loop-ty

@@ -1,7 +1,7 @@
 use Rattle.std.proofs.Common.{◌≡◌, drop}
 use Rattle.std.specs.List.{list_all}
 use Rattle.std.specs.Prelude.{is_some}
-use Rattle.kilim_typing.specs.Typed.{declared}
+use Rattle.kilim_type_spec.specs.Typed.{declared}
 use Rattle.kilim_type_verify.proofs.flows.are_declared.Given as goal
 
 abbrev pub invariant-loop-at : goal.invariant-loop-at

@@ -1,8 +1,8 @@
 use Rattle.std.proofs.Common.{◌∙◌, sym, ap, arith, refl}
 use Rattle.std.proofs.lemmas.List.{drop_all}
 use Rattle.std.specs.List.{list_all}
-use Rattle.kilim_typing.specs.Typed.{declared}
-use Rattle.kilim_typing.specs.Faults.{flows_into_declared}
+use Rattle.kilim_type_spec.specs.Typed.{declared}
+use Rattle.kilim_type_spec.specs.Faults.{flows_into_declared}
 use Rattle.kilim_type_verify.proofs.Every.{fails_at, holds_at}
 use Rattle.kilim_type_verify.proofs.flows.flow_to_all.Goals as goal
 

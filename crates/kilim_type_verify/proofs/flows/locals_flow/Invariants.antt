@@ -1,5 +1,5 @@
 use Rattle.std.proofs.Common.{◌≡◌, drop}
-use Rattle.kilim_typing.specs.Faults.{locals_flow}
+use Rattle.kilim_type_spec.specs.Faults.{locals_flow}
 use Rattle.kilim_type_verify.proofs.flows.locals_flow.Given as goal
 
 abbrev pub invariant-loop-slot : goal.invariant-loop-slot

@@ -1,7 +1,7 @@
 use Rattle.std.proofs.Common.{◌∙◌, sym, ap, arith, refl}
 use Rattle.std.proofs.lemmas.List.{drop_all}
 use Rattle.std.specs.List.{list_all}
-use Rattle.kilim_typing.specs.Typed.{stands_at_new}
+use Rattle.kilim_type_spec.specs.Typed.{stands_at_new}
 use Rattle.kilim_type_verify.proofs.Every.{fails_at, holds_at}
 use Rattle.kilim_type_verify.proofs.frames.all_at_new.Goals as goal
 

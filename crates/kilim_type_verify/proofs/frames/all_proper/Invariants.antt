@@ -1,6 +1,6 @@
 use Rattle.std.proofs.Common.{◌≡◌, drop}
 use Rattle.std.specs.List.{list_all}
-use Rattle.kilim_typing.specs.Typed.{is_proper}
+use Rattle.kilim_type_spec.specs.Typed.{is_proper}
 use Rattle.kilim_type_verify.proofs.frames.all_proper.Given as goal
 
 abbrev pub invariant-loop-t : goal.invariant-loop-t

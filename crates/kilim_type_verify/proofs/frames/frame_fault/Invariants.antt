@@ -1,5 +1,5 @@
 use Rattle.std.proofs.Common.{◌≡◌, drop}
-use Rattle.kilim_typing.specs.Faults.{frame_fault}
+use Rattle.kilim_type_spec.specs.Faults.{frame_fault}
 use Rattle.kilim_type_verify.proofs.frames.frame_fault.Given as goal
 
 abbrev pub invariant-loop-index : goal.invariant-loop-index

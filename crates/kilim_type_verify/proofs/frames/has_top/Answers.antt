@@ -1,7 +1,7 @@
 use Rattle.std.proofs.Common.{◌∙◌, sym, ap, arith, refl}
 use Rattle.std.proofs.lemmas.List.{drop_all}
 use Rattle.std.specs.List.{list_any}
-use Rattle.kilim_typing.specs.Step.{is_top}
+use Rattle.kilim_type_spec.specs.Step.{is_top}
 use Rattle.kilim_type_verify.proofs.Every.{found_at, passed_at}
 use Rattle.kilim_type_verify.proofs.frames.has_top.Goals as goal
 

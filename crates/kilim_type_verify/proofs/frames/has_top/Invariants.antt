@@ -1,6 +1,6 @@
 use Rattle.std.proofs.Common.{◌≡◌, drop}
 use Rattle.std.specs.List.{list_any}
-use Rattle.kilim_typing.specs.Step.{is_top}
+use Rattle.kilim_type_spec.specs.Step.{is_top}
 use Rattle.kilim_type_verify.proofs.frames.has_top.Given as goal
 
 abbrev pub invariant-loop-t : goal.invariant-loop-t

@@ -1,5 +1,5 @@
 use Rattle.std.proofs.Common.{◌≡◌, drop}
-use Rattle.kilim_classes.specs.Lengths.{is_code_place}
+use Rattle.kilim_program.specs.Lengths.{is_code_place}
 use Rattle.kilim_type_verify.proofs.frames.is_code_place.Given as goal
 
 abbrev pub invariant-loop-index : goal.invariant-loop-index

@@ -1,6 +1,6 @@
 use Rattle.std.proofs.Common.{◌≡◌, ◌∙◌, ap, refl, reverse, sym}
 use Rattle.std.proofs.lemmas.List.{reverse-reverse}
-use Rattle.kilim_typing.specs.Typed.{padded}
+use Rattle.kilim_type_spec.specs.Typed.{padded}
 use Rattle.kilim_type_verify.proofs.frames.listed.Goals as goal
 
 pub returns : goal.returns

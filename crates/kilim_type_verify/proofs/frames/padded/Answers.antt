@@ -1,6 +1,6 @@
 use Rattle.std.proofs.Common.{◌≡◌, ◌∙◌, ◌+◌, ◌-◌, ◌++◌, ◌∷◌, [], sym, ap, drop, arith}
 use Rattle.std.proofs.lemmas.List.{append-nil}
-use Rattle.kilim_typing.specs.Typed.{padded}
+use Rattle.kilim_type_spec.specs.Typed.{padded}
 use Rattle.kilim_type_verify.proofs.Framed.{padded_on}
 use Rattle.kilim_type_verify.proofs.frames.padded.Goals as goal
 

@@ -1,5 +1,5 @@
 use Rattle.std.proofs.Common.{◌≡◌, ◌++◌, ◌-◌, drop}
-use Rattle.kilim_typing.specs.Typed.{padded}
+use Rattle.kilim_type_spec.specs.Typed.{padded}
 use Rattle.kilim_type_verify.proofs.frames.padded.Given as goal
 
 abbrev pub invariant-loop-at : goal.invariant-loop-at

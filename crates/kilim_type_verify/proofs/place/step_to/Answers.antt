@@ -1,5 +1,5 @@
 use Rattle.std.proofs.Common.{true, false, refl}
-use Rattle.kilim_typing.specs.Step.{type_step}
+use Rattle.kilim_type_spec.specs.Step.{type_step}
 use Rattle.kilim_type_verify.proofs.Rules.{no_flow, no_frame, stepped}
 use Rattle.kilim_type_verify.proofs.place.step_to.Goals as goal
 

@@ -1,5 +1,5 @@
 use Rattle.std.proofs.Common.{refl, ◌∙◌, subst}
-use Rattle.kilim_classes.specs.Keeps.{Keeps}
+use Rattle.kilim_program.specs.Keeps.{Keeps}
 use Rattle.kilim_type_verify.proofs.Verified.{well_typed}
 use Rattle.kilim_type_verify.proofs.programs.verify.Goals as goal
 

@@ -1,5 +1,5 @@
 use Rattle.std.proofs.Common.{◌≡◌, ◌∙◌, ap, length, arith}
-use Rattle.kilim_classes.specs.Program.{Program}
+use Rattle.kilim_program.specs.Program.{Program}
 use Rattle.kilim_type_verify.proofs.Verified.{fault_of, fault_on, frames_of_all, frames_on, none_of}
 use Rattle.kilim_type_verify.proofs.programs.walk_methods.Goals as goal
 

@@ -1,7 +1,7 @@
 use Rattle.std.proofs.Common.{◌≡◌, drop, take, map}
-use Rattle.kilim_classes.specs.declared.class.Method.{Method}
-use Rattle.kilim_typing.specs.Typed.{listed, frames_of}
-use Rattle.kilim_typing.specs.Faults.{faults_from}
+use Rattle.kilim_program.specs.declared.class.Method.{Method}
+use Rattle.kilim_type_spec.specs.Typed.{listed, frames_of}
+use Rattle.kilim_type_spec.specs.Faults.{faults_from}
 use Rattle.kilim_type_verify.proofs.programs.walk_methods.Given as goal
 
 abbrev pub invariant-loop-number : goal.invariant-loop-number

@@ -1,8 +1,8 @@
 use Rattle.std.proofs.Common.{◌+◌, ◌++◌, List, ℕ, ap, arith, sym, ◌∙◌, drop, map, Some}
 use Rattle.std.proofs.lemmas.List.{append-nil, drop_all}
-use Rattle.kilim_classes.specs.declared.instr.Instr.{Instr}
-use Rattle.kilim_typing.specs.Typed.{frames_from, listed}
-use Rattle.kilim_typing.specs.Faults.{walk_fault}
+use Rattle.kilim_program.specs.declared.instr.Instr.{Instr}
+use Rattle.kilim_type_spec.specs.Typed.{frames_from, listed}
+use Rattle.kilim_type_spec.specs.Faults.{walk_fault}
 use Rattle.kilim_type_verify.proofs.Walked.{fault_at, fault_on, frames_on}
 use Rattle.kilim_type_verify.proofs.walk.walk_code.Goals as goal
 

@@ -1,6 +1,6 @@
 use Rattle.std.proofs.Common.{◌≡◌, ◌++◌, drop, map}
-use Rattle.kilim_typing.specs.Typed.{frames_from, listed}
-use Rattle.kilim_typing.specs.Faults.{walk_fault}
+use Rattle.kilim_type_spec.specs.Typed.{frames_from, listed}
+use Rattle.kilim_type_spec.specs.Faults.{walk_fault}
 use Rattle.kilim_type_verify.proofs.walk.walk_code.Given as goal
 
 abbrev pub invariant-loop-index : goal.invariant-loop-index

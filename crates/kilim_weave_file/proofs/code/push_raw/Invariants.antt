@@ -1,5 +1,5 @@
 use Rattle.std.proofs.Common.{◌≡◌, ◌++◌, drop}
-use Rattle.kilim_woven_sizes.specs.file_laws.form.Raw.{raw_code}
+use Rattle.kilim_weave_file_spec.specs.Raw.{raw_code}
 use Rattle.kilim_weave_file.proofs.code.push_raw.Given as goal
 
 abbrev pub invariant-loop-entry : goal.invariant-loop-entry

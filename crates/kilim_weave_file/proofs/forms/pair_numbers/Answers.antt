@@ -3,7 +3,7 @@ use Rattle.std.specs.Int.{w32, w64}
 use Rattle.std.specs.Prelude.{FitsSigned}
 use Rattle.std.proofs.lemmas.Int.{to_z-of_z}
 use Rattle.std.proofs.lemmas.List.{take_all}
-use Rattle.kilim_woven_sizes.specs.file_laws.form.Raw.{pair_number}
+use Rattle.kilim_weave_file_spec.specs.Raw.{pair_number}
 use Rattle.kilim_weave_file.proofs.Loops.{mapped}
 use Rattle.kilim_weave_file.proofs.forms.pair_numbers.Goals as goal
 

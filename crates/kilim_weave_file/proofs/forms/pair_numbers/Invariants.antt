@@ -1,5 +1,5 @@
 use Rattle.std.proofs.Common.{◌≡◌, map, take}
-use Rattle.kilim_woven_sizes.specs.file_laws.form.Raw.{pair_number}
+use Rattle.kilim_weave_file_spec.specs.Raw.{pair_number}
 use Rattle.kilim_weave_file.proofs.forms.pair_numbers.Given as goal
 
 abbrev pub invariant-loop-pair : goal.invariant-loop-pair

@@ -1,5 +1,5 @@
 use Rattle.std.proofs.Common.{◌≡◌, map, take}
-use Rattle.kilim_woven_sizes.specs.file_laws.form.Raw.{place_number}
+use Rattle.kilim_weave_file_spec.specs.Raw.{place_number}
 use Rattle.kilim_weave_file.proofs.forms.place_numbers.Given as goal
 
 abbrev pub invariant-loop-to : goal.invariant-loop-to

@@ -1,8 +1,8 @@
 use Rattle.std.proofs.Common.{◌≡◌, ℕ, ◌+◌, ◌≤◌, Bool, List, [], ◌++◌, length, ap, drop, sym, ◌∙◌, arith}
 use Rattle.std.proofs.lemmas.List.{append-nil, length-drop, nil_from_length}
-use Rattle.kilim_classes.specs.declared.verified.VType.{VType}
+use Rattle.kilim_program.specs.declared.verified.VType.{VType}
 use Rattle.kilim_weave_file.specs.Parts.{entries_from}
-use Rattle.kilim_woven_sizes.specs.file_laws.form.FullFrames.{entries}
+use Rattle.kilim_weave_file_spec.specs.FullFrames.{entries}
 use Rattle.kilim_weave_file.proofs.Entries.{entries_are}
 use Rattle.kilim_weave_file.proofs.Lists.{drop_next}
 use Rattle.kilim_weave_file.proofs.frames.entries.Goals as goal

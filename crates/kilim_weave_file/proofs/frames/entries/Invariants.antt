@@ -1,6 +1,6 @@
 use Rattle.std.proofs.Common.{◌≡◌, ◌++◌, drop}
 use Rattle.kilim_weave_file.specs.Parts.{entries_from}
-use Rattle.kilim_woven_sizes.specs.file_laws.form.FullFrames.{entries}
+use Rattle.kilim_weave_file_spec.specs.FullFrames.{entries}
 use Rattle.kilim_weave_file.proofs.frames.entries.Given as goal
 
 abbrev pub invariant-loop-index : goal.invariant-loop-index

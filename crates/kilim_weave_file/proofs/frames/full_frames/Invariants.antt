@@ -1,5 +1,5 @@
 use Rattle.std.proofs.Common.{◌≡◌, ◌++◌, drop}
-use Rattle.kilim_woven_sizes.specs.file_laws.form.FullFrames.{full_frames}
+use Rattle.kilim_weave_file_spec.specs.FullFrames.{full_frames}
 use Rattle.kilim_weave_file.proofs.frames.full_frames.Given as goal
 
 abbrev pub invariant-loop-entry : goal.invariant-loop-entry

@@ -1,5 +1,5 @@
 use Rattle.std.proofs.Common.{get_or, map, refl}
-use Rattle.kilim_woven_sizes.specs.file_laws.form.FullFrames.{slot_type}
+use Rattle.kilim_weave_file_spec.specs.FullFrames.{slot_type}
 use Rattle.kilim_weave_file.proofs.Loops.{mapped_ahead, all_made}
 use Rattle.kilim_weave_file.proofs.frames.slot_types.Goals as goal
 

@@ -1,5 +1,5 @@
 use Rattle.std.proofs.Common.{◌≡◌, ◌++◌, drop, map}
-use Rattle.kilim_woven_sizes.specs.file_laws.form.FullFrames.{slot_type}
+use Rattle.kilim_weave_file_spec.specs.FullFrames.{slot_type}
 use Rattle.kilim_weave_file.proofs.frames.slot_types.Given as goal
 
 abbrev pub invariant-loop-of : goal.invariant-loop-of

@@ -1,7 +1,7 @@
 use Rattle.std.proofs.Common.{◌++◌, List, [], ap, ◌∙◌}
 use Rattle.std.specs.List.{cons_option, filter_map}
-use Rattle.kilim_attributes.specs.declared.attribute.Attribute.{Attribute}
-use Rattle.kilim_woven_sizes.specs.file_laws.form.WovenFile.{woven_attribute}
+use Rattle.kilim_class_attributes.specs.declared.attribute.Attribute.{Attribute}
+use Rattle.kilim_weave_file_spec.specs.WovenFile.{woven_attribute}
 use Rattle.kilim_weave_file.proofs.Lists.{filter_map_last}
 use Rattle.kilim_weave_file.proofs.members.woven_attributes.Goals as goal
 

@@ -1,6 +1,6 @@
 use Rattle.std.proofs.Common.{◌≡◌}
 use Rattle.std.specs.List.{filter_map}
-use Rattle.kilim_woven_sizes.specs.file_laws.form.WovenFile.{woven_attribute}
+use Rattle.kilim_weave_file_spec.specs.WovenFile.{woven_attribute}
 use Rattle.kilim_weave_file.proofs.members.woven_attributes.Given as goal
 
 abbrev pub invariant-loop-attribute : goal.invariant-loop-attribute

@@ -1,5 +1,5 @@
 use Rattle.std.proofs.Common.{ap, sym}
-use Rattle.kilim_woven_sizes.specs.file_laws.form.WovenFile.{woven_info}
+use Rattle.kilim_weave_file_spec.specs.WovenFile.{woven_info}
 use Rattle.kilim_weave_file.proofs.members.woven_info.Goals as goal
 
 pub returns-in-Exceptions : goal.returns-in-Exceptions

@@ -1,8 +1,8 @@
 use Rattle.std.proofs.Common.{ℕ, ◌≤◌, ◌∙◌, List, ap, length, subst, sym}
 use Rattle.std.proofs.lemmas.List.{drop_all}
 use Rattle.std.specs.List.{list_any}
-use Rattle.kilim_classes.specs.declared.instr.Instr.{Instr}
-use Rattle.kilim_woven_sizes.specs.file_laws.form.Raw.{is_pausable_call}
+use Rattle.kilim_program.specs.declared.instr.Instr.{Instr}
+use Rattle.kilim_weave_file_spec.specs.Raw.{is_pausable_call}
 use Rattle.kilim_weave_file.proofs.Loops.{found_at, passed_at}
 use Rattle.kilim_weave_file.proofs.needs.has_calls.Goals as goal
 

@@ -1,7 +1,7 @@
 use Rattle.std.proofs.Common.{◌≡◌, drop}
 use Rattle.std.specs.List.{list_any}
-use Rattle.kilim_woven_sizes.specs.file_laws.form.Raw.{is_pausable_call}
-use Rattle.kilim_woven_sizes.specs.file_laws.form.WovenFile.{has_calls}
+use Rattle.kilim_weave_file_spec.specs.Raw.{is_pausable_call}
+use Rattle.kilim_weave_file_spec.specs.WovenFile.{has_calls}
 use Rattle.kilim_weave_file.proofs.needs.has_calls.Given as goal
 
 abbrev pub invariant-loop-entry : goal.invariant-loop-entry

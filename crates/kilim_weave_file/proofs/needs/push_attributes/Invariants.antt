@@ -1,7 +1,7 @@
 use Rattle.std.proofs.Common.{◌≡◌, ◌++◌, drop}
 use Rattle.std.specs.List.{flat_map}
-use Rattle.kilim_attributes.specs.declared.attribute.Attribute.{Attribute}
-use Rattle.kilim_woven_sizes.specs.file_laws.form.WovenFile.{info_needs}
+use Rattle.kilim_class_attributes.specs.declared.attribute.Attribute.{Attribute}
+use Rattle.kilim_weave_file_spec.specs.WovenFile.{info_needs}
 use Rattle.kilim_weave_file.proofs.needs.push_attributes.Given as goal
 
 abbrev pub invariant-loop-attribute : goal.invariant-loop-attribute

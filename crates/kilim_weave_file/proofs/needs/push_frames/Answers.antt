@@ -1,7 +1,7 @@
 use Rattle.std.proofs.Common.{ℕ, ◌++◌, refl}
 use Rattle.std.specs.List.{flat_map}
-use Rattle.kilim_classes.specs.declared.verified.Frame.{Frame}
-use Rattle.kilim_woven_sizes.specs.file_laws.form.FullFrames.{frame_needs}
+use Rattle.kilim_program.specs.declared.verified.Frame.{Frame}
+use Rattle.kilim_weave_file_spec.specs.FullFrames.{frame_needs}
 use Rattle.kilim_weave_file.proofs.Loops.{ahead, all_made}
 use Rattle.kilim_weave_file.proofs.needs.push_frames.Goals as goal
 

@@ -1,5 +1,5 @@
 use Rattle.std.proofs.Common.{◌≡◌, ◌++◌, drop}
-use Rattle.kilim_woven_sizes.specs.file_laws.form.FullFrames.{frames_needs}
+use Rattle.kilim_weave_file_spec.specs.FullFrames.{frames_needs}
 use Rattle.kilim_weave_file.proofs.needs.push_frames.Given as goal
 
 abbrev pub invariant-loop-entry : goal.invariant-loop-entry

@@ -1,6 +1,6 @@
 use Rattle.std.proofs.Common.{◌≡◌, ◌++◌, drop}
 use Rattle.std.specs.List.{flat_map}
-use Rattle.kilim_woven_sizes.specs.file_laws.form.FullFrames.{type_needs}
+use Rattle.kilim_weave_file_spec.specs.FullFrames.{type_needs}
 use Rattle.kilim_weave_file.proofs.needs.push_types.Given as goal
 
 abbrev pub invariant-loop-ty : goal.invariant-loop-ty

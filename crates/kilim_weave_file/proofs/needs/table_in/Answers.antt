@@ -1,8 +1,8 @@
 use Rattle.std.proofs.Common.{◌∙◌, List, ap, sym}
 use Rattle.std.proofs.lemmas.List.{drop_all}
 use Rattle.std.specs.List.{filter_map}
-use Rattle.kilim_attributes.specs.declared.attribute.CodeAttribute.{CodeAttribute}
-use Rattle.kilim_woven_sizes.specs.file_laws.form.WovenFile.{head_of, table_name}
+use Rattle.kilim_class_attributes.specs.declared.attribute.CodeAttribute.{CodeAttribute}
+use Rattle.kilim_weave_file_spec.specs.WovenFile.{head_of, table_name}
 use Rattle.kilim_weave_file.proofs.needs.table_in.Goals as goal
 
 pub returns : goal.returns

@@ -1,6 +1,6 @@
 use Rattle.std.proofs.Common.{◌≡◌, drop}
 use Rattle.std.specs.List.{filter_map}
-use Rattle.kilim_woven_sizes.specs.file_laws.form.WovenFile.{head_of, table_name}
+use Rattle.kilim_weave_file_spec.specs.WovenFile.{head_of, table_name}
 use Rattle.kilim_weave_file.proofs.needs.table_in.Given as goal
 
 abbrev pub invariant-loop-attribute : goal.invariant-loop-attribute

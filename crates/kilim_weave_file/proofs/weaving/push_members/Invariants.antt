@@ -1,6 +1,6 @@
 use Rattle.std.proofs.Common.{◌≡◌, ◌++◌, drop}
 use Rattle.std.specs.List.{flat_map}
-use Rattle.kilim_woven_sizes.specs.file_laws.form.WovenFile.{member_needs, pairs_of}
+use Rattle.kilim_weave_file_spec.specs.WovenFile.{member_needs, pairs_of}
 use Rattle.kilim_weave_file.proofs.weaving.push_members.Given as goal
 
 abbrev pub invariant-loop-info : goal.invariant-loop-info

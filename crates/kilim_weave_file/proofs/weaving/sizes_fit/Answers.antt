@@ -1,6 +1,6 @@
 use Rattle.std.proofs.Common.{◌≡◌, arith, rules}
-use Rattle.kilim_constant_pool.specs.Entries.{count_of}
-use Rattle.kilim_classfile.specs.Text.{size_limit}
+use Rattle.kilim_class_pool.specs.Entries.{count_of}
+use Rattle.kilim_class_file.specs.Text.{size_limit}
 use Rattle.kilim_weave_file.specs.Applied.{most_entries}
 use Rattle.kilim_weave_file.proofs.Sums.{size_is, sum_is}
 use Rattle.kilim_weave_file.proofs.weaving.sizes_fit.Goals as goal

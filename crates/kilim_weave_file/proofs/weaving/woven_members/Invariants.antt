@@ -1,5 +1,5 @@
 use Rattle.std.proofs.Common.{◌≡◌, length, map}
-use Rattle.kilim_woven_sizes.specs.file_laws.form.WovenFile.{pairs_of, woven_member}
+use Rattle.kilim_weave_file_spec.specs.WovenFile.{pairs_of, woven_member}
 use Rattle.kilim_weave_file.proofs.weaving.woven_members.Given as goal
 
 abbrev pub invariant-loop-info : goal.invariant-loop-info

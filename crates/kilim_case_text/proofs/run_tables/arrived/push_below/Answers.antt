@@ -1,5 +1,5 @@
 use Rattle.std.proofs.Common.{arith, refl}
-use Rattle.kilim_tree_move.proofs.Sizes.{next_met}
+use Rattle.kilim_run_trees.proofs.Sizes.{next_met}
 use Rattle.kilim_case_text.proofs.run_tables.arrived.push_below.Goals as goal
 
 pub loop-at-preserved : goal.loop-at-preserved

@@ -1,5 +1,5 @@
 use Rattle.std.proofs.Common.{◌≤◌, ◌-◌, reverse}
-use Rattle.kilim_tree_move.proofs.Walks.{Met}
+use Rattle.kilim_run_trees.proofs.Walks.{Met}
 use Rattle.kilim_case_text.proofs.run_tables.arrived.push_below.Given as goal
 
 abbrev pub invariant-loop-at : goal.invariant-loop-at

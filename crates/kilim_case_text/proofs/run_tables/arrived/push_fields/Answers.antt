@@ -1,6 +1,6 @@
 use Rattle.std.proofs.Common.{◌≡◌, ◌<◌, ◌+◌, ◌-◌, length, arith, get_or, refl}
-use Rattle.kilim_tree_move.specs.Walk.{value_refs}
-use Rattle.kilim_tree_move.proofs.Stacks.{one_by_one, reverse_refs}
+use Rattle.kilim_run_trees.specs.Walk.{value_refs}
+use Rattle.kilim_run_trees.proofs.Stacks.{one_by_one, reverse_refs}
 use Rattle.kilim_case_text.proofs.run_tables.arrived.push_fields.Goals as goal
 
 pub loop-k-preserved : goal.loop-k-preserved

@@ -1,5 +1,5 @@
 use Rattle.std.proofs.Common.{◌≡◌, ◌≤◌, ◌++◌, length, reverse, drop}
-use Rattle.kilim_tree_move.specs.Walk.{field_refs}
+use Rattle.kilim_run_trees.specs.Walk.{field_refs}
 use Rattle.kilim_case_text.proofs.run_tables.arrived.push_fields.Given as goal
 
 abbrev pub invariant-loop-k : goal.invariant-loop-k

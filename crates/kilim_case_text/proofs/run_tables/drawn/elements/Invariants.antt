@@ -1,5 +1,5 @@
 use Rattle.std.proofs.Common.{◌≡◌, ◌++◌, reverse}
-use Rattle.kilim_tree_move.specs.Walk.{element_refs}
+use Rattle.kilim_run_trees.specs.Walk.{element_refs}
 use Rattle.kilim_case_text.proofs.run_tables.drawn.elements.Given as goal
 
 abbrev pub invariant-loop-part : goal.invariant-loop-part

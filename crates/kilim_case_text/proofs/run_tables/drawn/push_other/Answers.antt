@@ -1,4 +1,4 @@
-use Rattle.kilim_tree_move.proofs.Callers.{all_there}
+use Rattle.kilim_run_trees.proofs.Callers.{all_there}
 use Rattle.kilim_case_text.proofs.run_tables.drawn.push_other.Goals as goal
 
 pub push_tree-requires : goal.push_tree-requires

@@ -1,4 +1,4 @@
-use Rattle.kilim_tree_move.proofs.Callers.{all_there, can_leave}
+use Rattle.kilim_run_trees.proofs.Callers.{all_there, can_leave}
 use Rattle.kilim_case_text.proofs.run_tables.trees.taken.Goals as goal
 
 pub reserve_tree-requires : goal.reserve_tree-requires

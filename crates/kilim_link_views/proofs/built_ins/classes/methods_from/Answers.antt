@@ -1,7 +1,7 @@
 use Rattle.std.proofs.Common.{◌+◌, ◌++◌, ◌∷◌, [], sym, ap, ◌∙◌, List, ℕ, take}
 use Rattle.std.proofs.lemmas.List.{take_all}
-use Rattle.kilim_classes.specs.BuiltIn.{method_id, methods_from}
-use Rattle.kilim_classes.specs.declared.names.MethodId.{MethodId}
+use Rattle.kilim_program.specs.BuiltIn.{method_id, methods_from}
+use Rattle.kilim_program.specs.declared.names.MethodId.{MethodId}
 use Rattle.kilim_link_views.proofs.built_ins.Distances.{from_more}
 use Rattle.kilim_link_views.proofs.built_ins.classes.methods_from.Goals as goal
 

@@ -1,5 +1,5 @@
 use Rattle.std.proofs.Common.{◌≡◌, take}
-use Rattle.kilim_classes.specs.BuiltIn.{methods_from}
+use Rattle.kilim_program.specs.BuiltIn.{methods_from}
 use Rattle.kilim_link_views.proofs.built_ins.classes.methods_from.Given as goal
 
 abbrev pub invariant-loop-distance : goal.invariant-loop-distance

@@ -1,5 +1,5 @@
 use Rattle.std.proofs.Common.{Some, refl, ◌∙◌, ap, ◌++◌, map}
-use Rattle.kilim_classes.specs.BuiltIn.{class_id}
+use Rattle.kilim_program.specs.BuiltIn.{class_id}
 use Rattle.kilim_link_views.specs.built_ins.Rows.{class_of}
 use Rattle.kilim_link_views.proofs.built_ins.Loops.{mapped}
 use Rattle.std.proofs.lemmas.List.{take_all}

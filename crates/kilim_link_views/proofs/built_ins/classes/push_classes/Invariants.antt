@@ -1,5 +1,5 @@
 use Rattle.std.proofs.Common.{◌≡◌, ◌++◌, map, take, Some}
-use Rattle.kilim_classes.specs.BuiltIn.{class_id}
+use Rattle.kilim_program.specs.BuiltIn.{class_id}
 use Rattle.kilim_link_views.specs.built_ins.Rows.{class_of}
 use Rattle.kilim_link_views.proofs.built_ins.classes.push_classes.Given as goal
 

@@ -1,6 +1,6 @@
 use Rattle.std.proofs.Common.{◌+◌, ◌++◌, ◌∷◌, [], ap, ◌∙◌, true, false}
-use Rattle.kilim_classes.specs.BuiltIn.{class_id}
-use Rattle.kilim_classes.specs.declared.class.Method.{Method}
+use Rattle.kilim_program.specs.BuiltIn.{class_id}
+use Rattle.kilim_program.specs.declared.class.Method.{Method}
 use Rattle.kilim_link_views.proofs.built_ins.methods.push_method.Goals as goal
 
 pub returns : goal.returns

@@ -1,5 +1,5 @@
 use Rattle.std.proofs.Common.{ap, ◌∙◌}
-use Rattle.kilim_classes.specs.Names.{is_task}
+use Rattle.kilim_program.specs.Names.{is_task}
 use Rattle.kilim_link_world.specs.Outlining.{bare}
 use Rattle.kilim_link_world.proofs.Marked.{task_is}
 use Rattle.kilim_link_world.proofs.outline.Outline.is_task.Goals as goal

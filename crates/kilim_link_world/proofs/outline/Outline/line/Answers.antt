@@ -1,7 +1,7 @@
 use Rattle.std.proofs.Common.{◌≡◌, ◌-◌, ◌<◌, ◌++◌, List, Some, sym, ap, ◌∙◌, arith}
-use Rattle.kilim_classes.specs.declared.names.ClassId.{ClassId}
-use Rattle.kilim_classes.specs.Keeps.{superclass_of}
-use Rattle.kilim_classes.specs.Names.{class_at, line_up_to}
+use Rattle.kilim_program.specs.declared.names.ClassId.{ClassId}
+use Rattle.kilim_program.specs.Keeps.{superclass_of}
+use Rattle.kilim_program.specs.Names.{class_at, line_up_to}
 use Rattle.kilim_link_world.proofs.Upward.{line_up}
 use Rattle.kilim_link_world.proofs.outline.Outline.line.Goals as goal
 

@@ -1,5 +1,5 @@
 use Rattle.std.proofs.Common.{◌≡◌, ◌++◌}
-use Rattle.kilim_classes.specs.Names.{line_of, line_up_to}
+use Rattle.kilim_program.specs.Names.{line_of, line_up_to}
 use Rattle.kilim_link_world.proofs.outline.Outline.line.Given as goal
 
 abbrev pub invariant-loop-left : goal.invariant-loop-left

@@ -1,8 +1,8 @@
 use Rattle.std.proofs.Common.{◌≡◌, List, Option, map, ap, ◌∙◌, subst}
 use Rattle.std.specs.Prelude.{IfOk}
-use Rattle.kilim_classes.specs.declared.class.Class.{Class}
-use Rattle.kilim_classes.specs.declared.names.ClassId.{ClassId}
-use Rattle.kilim_classes.specs.Program.{Program}
+use Rattle.kilim_program.specs.declared.class.Class.{Class}
+use Rattle.kilim_program.specs.declared.names.ClassId.{ClassId}
+use Rattle.kilim_program.specs.Program.{Program}
 use Rattle.kilim_link_world.proofs.Climbing.{superclasses_ok}
 use Rattle.kilim_link_world.proofs.outline.Outline.superclasses.Goals as goal
 

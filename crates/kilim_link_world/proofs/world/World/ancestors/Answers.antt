@@ -1,9 +1,9 @@
 use Rattle.std.proofs.Common.{◌≡◌, List, Some, sym, ap, ◌∙◌, subst}
 use Rattle.std.specs.Prelude.{IfOk}
-use Rattle.kilim_classes.specs.declared.names.ClassId.{ClassId}
-use Rattle.kilim_classes.specs.Keeps.{line_above, superclass_of}
-use Rattle.kilim_classes.specs.Names.{class_at, line_of}
-use Rattle.kilim_classes.specs.Program.{Program}
+use Rattle.kilim_program.specs.declared.names.ClassId.{ClassId}
+use Rattle.kilim_program.specs.Keeps.{line_above, superclass_of}
+use Rattle.kilim_program.specs.Names.{class_at, line_of}
+use Rattle.kilim_program.specs.Program.{Program}
 use Rattle.kilim_link_world.proofs.world.World.ancestors.Goals as goal
 
 pub returns-in-Some : goal.returns-in-Some

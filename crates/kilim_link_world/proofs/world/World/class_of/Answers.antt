@@ -1,6 +1,6 @@
 use Rattle.std.proofs.Common.{sym, ap, ◌∙◌}
 use Rattle.std.specs.Prelude.{option_map}
-use Rattle.kilim_classes.specs.BuiltIn.{class_id}
+use Rattle.kilim_program.specs.BuiltIn.{class_id}
 use Rattle.kilim_link_spec.specs.World.{class_of}
 use Rattle.kilim_link_world.proofs.Outlines.{class_named_is}
 use Rattle.kilim_link_world.proofs.world.World.class_of.Goals as goal

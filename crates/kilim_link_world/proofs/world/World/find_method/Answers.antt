@@ -1,6 +1,6 @@
 use Rattle.std.proofs.Common.{ap, ◌∙◌}
 use Rattle.std.specs.Prelude.{option_map}
-use Rattle.kilim_classes.specs.BuiltIn.{method_id}
+use Rattle.kilim_program.specs.BuiltIn.{method_id}
 use Rattle.kilim_link_spec.specs.World.{find_method}
 use Rattle.kilim_link_world.proofs.world.World.find_method.Goals as goal
 

@@ -1,10 +1,10 @@
 use Rattle.std.proofs.Common.{◌≡◌, ◌<◌, ◌==◌, ℕ, Option, Some, length, sym, ap, ◌∙◌, arith}
 use Rattle.std.specs.Prelude.{is_some}
 use Rattle.std.specs.List.{list_any}
-use Rattle.kilim_classes.specs.declared.names.ClassId.{ClassId}
-use Rattle.kilim_classes.specs.Keeps.{line_above, superclass_of}
-use Rattle.kilim_classes.specs.Names.{class_at, line_of}
-use Rattle.kilim_classes.specs.Program.{Program}
+use Rattle.kilim_program.specs.declared.names.ClassId.{ClassId}
+use Rattle.kilim_program.specs.Keeps.{line_above, superclass_of}
+use Rattle.kilim_program.specs.Names.{class_at, line_of}
+use Rattle.kilim_program.specs.Program.{Program}
 use Rattle.kilim_link_spec.specs.Faults.{is_circular}
 use Rattle.kilim_link_world.proofs.Climbing.{class_within}
 use Rattle.kilim_link_world.proofs.Outlines.{length_outline}

@@ -1,5 +1,5 @@
 use Rattle.std.proofs.Common.{List, Option, length, sym, ap, ◌∙◌, subst}
-use Rattle.kilim_classes.specs.declared.names.ClassId.{ClassId}
+use Rattle.kilim_program.specs.declared.names.ClassId.{ClassId}
 use Rattle.kilim_link_world.specs.Superclasses.{AreSuperclasses}
 use Rattle.kilim_link_world.proofs.Outlines.{length_outline}
 use Rattle.kilim_link_world.proofs.world.World.superclasses.Goals as goal

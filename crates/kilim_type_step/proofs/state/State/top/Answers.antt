@@ -1,6 +1,6 @@
 use Rattle.std.proofs.Common.{◌≡◌, ◌∙◌, ◌-◌, ap, sym, arith, drop, length, length-drop, reverse, take}
 use Rattle.std.proofs.lemmas.List.{take_all}
-use Rattle.kilim_typing.specs.Step.{Types}
+use Rattle.kilim_type_spec.specs.Step.{Types}
 use Rattle.kilim_type_step.proofs.Types.{top_reversed}
 use Rattle.kilim_type_step.proofs.state.State.top.Goals as goal
 

@@ -1,8 +1,0 @@
-use Rattle.std.proofs.Common.{◌≡◌, ◌-◌}
-use Rattle.kilim_grammar.specs.Reader.{many}
-use Rattle.kilim_grammar.proofs.Loops.{with_front}
-use Rattle.kilim_attribute_parts.specs.Frames.{type_at}
-use Rattle.kilim_attribute_parts.proofs.frame_reading.types_at.Given as goal
-
-abbrev pub invariant-loop : goal.invariant-loop
-invariant-loop l = with_front l.types (many (type_at l.pool) (l.count - l.counter) l.rest) ≡ many (type_at l.pool) l.count l.bytes

@@ -1,5 +1,0 @@
-use Rattle.kilim_bytecode.proofs.Codes as codes
-use Rattle.kilim_bytecode.proofs.laws.one_code.Goals as goal
-
-pub returns : goal.returns
-returns c = codes.one_code c.one_spelling.ensures

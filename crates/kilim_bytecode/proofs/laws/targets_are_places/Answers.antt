@@ -1,7 +1,0 @@
-use Rattle.kilim_bytecode.proofs.Marking.{passed}
-use Rattle.kilim_bytecode.specs.Code.{is_place, mid_target}
-use Rattle.kilim_bytecode.proofs.laws.targets_are_places.Goals as goal
-
-pub returns : goal.returns
-unfolding mid_target
-returns c = λ code e. passed (is_place code) code e

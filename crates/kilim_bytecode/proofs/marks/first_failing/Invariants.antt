@@ -1,7 +1,0 @@
-use Rattle.std.proofs.Common.{◌≡◌, drop}
-use Rattle.kilim_bytecode.specs.Code.{first_failing}
-use Rattle.kilim_bytecode.specs.Marks.{is_marked}
-use Rattle.kilim_bytecode.proofs.marks.first_failing.Given as goal
-
-abbrev pub invariant-loop-at : goal.invariant-loop-at
-invariant-loop-at l = first_failing (is_marked l.marks) (drop l.at-index l.code) ≡ first_failing (is_marked l.marks) l.code

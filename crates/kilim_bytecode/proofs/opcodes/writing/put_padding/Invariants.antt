@@ -1,5 +1,0 @@
-use Rattle.std.proofs.Common.{◌≡◌, ◌++◌, replicate}
-use Rattle.kilim_bytecode.proofs.opcodes.writing.put_padding.Given as goal
-
-abbrev pub invariant-loop : goal.invariant-loop
-invariant-loop l = l.into.items ≡ l.fn.into.items ++ replicate l.counter 0

@@ -1,6 +1,0 @@
-use Rattle.std.proofs.Common.{◌≡◌, take}
-use Rattle.kilim_bytecode.specs.Code.{code_text}
-use Rattle.kilim_bytecode.proofs.writing.encode.Given as goal
-
-abbrev pub invariant-loop-at : goal.invariant-loop-at
-invariant-loop-at l = l.bytes.items ≡ code_text (take l.at-index l.at-items)

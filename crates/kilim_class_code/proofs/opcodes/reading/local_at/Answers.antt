@@ -1,0 +1,13 @@
+use Rattle.std.specs.Int.{w8}
+use Rattle.kilim_class_code.specs.declared.opcodes.instr.RawInstr.TheVariants.{Local}
+use Rattle.kilim_class_code.specs.opcodes.Reading.{unsigned_at, operands_at}
+use Rattle.kilim_class_code.proofs.opcodes.Boths.{made_one, made_fails}
+use Rattle.kilim_class_code.proofs.opcodes.reading.local_at.Goals as goal
+
+pub returns-in-Ok : goal.returns-in-Ok
+unfolding operands_at
+returns-in-Ok c = made_one (Local c.args.op) (unsigned_at w8) c.args.bytes.now c.in-Ok.slot c.in-Ok.rest.now c.in-Ok.ensures
+
+pub returns-in-Err : goal.returns-in-Err
+unfolding operands_at
+returns-in-Err c = made_fails (Local c.args.op) (unsigned_at w8) c.args.bytes.now c.in-Err.fault c.in-Err.ensures

@@ -1,0 +1,21 @@
+use Rattle.std.proofs.Common.{inr}
+use Rattle.kilim_class_grammar.specs.Reader.{many}
+use Rattle.kilim_class_grammar.proofs.Loops.{goes_on, stops, is_done}
+use Rattle.kilim_class_file.specs.declared.fault.ClassFault.TheVariants as fault
+use Rattle.kilim_class_file.specs.Reading.{class_index_at}
+use Rattle.kilim_class_file.proofs.reading.so_many_classes_at.Goals as goal
+
+pub returns-in-Err : goal.returns-in-Err
+returns-in-Err c =
+    let one = class_index_at c.args.len c.args.pool.now in
+    stops one fault.Memory c.in-Err.fault c.loop.classes c.args.count c.loop.counter c.loop.rest.now (many one c.args.count c.args.bytes.now) c.loop-test.true (inr c.in-Err.ensures) c.loop.invariant
+
+pub loop-preserved : goal.loop-preserved
+loop-preserved c =
+    let one = class_index_at c.args.len c.args.pool.now in
+    rw c.in_ok-push-in-Ok.ensures.ok (goes_on one c.loop.classes c.args.count c.loop.counter c.loop.rest.now c.in-Ok.class c.in-Ok.after.now (many one c.args.count c.args.bytes.now) c.loop-test.true c.in-Ok.ensures c.loop.invariant)
+
+pub returns : goal.returns
+returns c =
+    let one = class_index_at c.args.len c.args.pool.now in
+    is_done one c.loop.classes c.args.count c.loop.counter c.loop.rest.now (many one c.args.count c.args.bytes.now) c.loop-test.false c.loop.invariant

@@ -1,5 +1,0 @@
-use Rattle.kilim_class_fits.proofs.pool_needs.growth.Files.{file_too}
-use Rattle.kilim_class_fits.proofs.pool_needs.growth.files_stay.Goals as goal
-
-pub returns : goal.returns
-returns c = λ file pool fits extends well. file_too file pool fits extends well

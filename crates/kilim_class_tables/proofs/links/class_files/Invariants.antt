@@ -1,6 +1,0 @@
-use Rattle.std.specs.List.{AllByRecursion}
-use Rattle.kilim_classfile.specs.Text.{ClassFits}
-use Rattle.kilim_class_tables.proofs.links.class_files.Given as goal
-
-abbrev pub invariant-loop-word : goal.invariant-loop-word
-invariant-loop-word g l = AllByRecursion ClassFits l.files.items

@@ -1,5 +1,0 @@
-use Rattle.kilim_classes.proofs.BuiltInPrograms.{built_in_keeps}
-use Rattle.kilim_classes.proofs.laws.built_in_keeps.Goals as goal
-
-pub returns : goal.returns
-returns c = built_in_keeps

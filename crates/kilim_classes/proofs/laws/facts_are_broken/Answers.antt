@@ -1,5 +1,0 @@
-use Rattle.kilim_classes.proofs.BrokenPrograms.{facts_are_broken}
-use Rattle.kilim_classes.proofs.laws.facts_are_broken.Goals as goal
-
-pub returns : goal.returns
-returns c = facts_are_broken

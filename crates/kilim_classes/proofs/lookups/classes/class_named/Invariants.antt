@@ -1,6 +1,0 @@
-use Rattle.std.proofs.Common.{◌≡◌, drop}
-use Rattle.kilim_classes.specs.Names.{class_from}
-use Rattle.kilim_classes.proofs.lookups.classes.class_named.Given as goal
-
-abbrev pub invariant-loop-at : goal.invariant-loop-at
-invariant-loop-at l = class_from (drop l.at l.program.classes) l.name l.at ≡ class_from l.fn.program.classes l.fn.name 0

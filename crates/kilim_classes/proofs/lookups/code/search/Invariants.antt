@@ -1,6 +1,0 @@
-use Rattle.std.proofs.Common.{◌≡◌, ℕ, drop}
-use Rattle.kilim_classes.specs.Lengths.{fetched}
-use Rattle.kilim_classes.proofs.lookups.code.search.Given as goal
-
-abbrev pub invariant-loop-at : goal.invariant-loop-at
-invariant-loop-at l = fetched (drop l.at l.code) l.end l.place ≡ fetched l.code l.end l.place

@@ -1,5 +1,0 @@
-use Rattle.kilim_classfile.proofs.WholeClass.{are_spelled}
-use Rattle.kilim_classfile.proofs.reading.class_file_is_spelled.Goals as goal
-
-pub returns : goal.returns
-returns c = are_spelled c.pool_is_spelled.ensures c.attributes_are_spelled.ensures

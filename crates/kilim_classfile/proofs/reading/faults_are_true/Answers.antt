@@ -1,5 +1,0 @@
-use Rattle.kilim_classfile.proofs.FaultLaws.{faults_are_true}
-use Rattle.kilim_classfile.proofs.reading.faults_are_true.Goals as goal
-
-pub returns : goal.returns
-returns c = faults_are_true c.parts_are_spelled.ensures c.pool_is_cut_or_broken.ensures.stays c.attributes_are_cut_or_broken.ensures.stays

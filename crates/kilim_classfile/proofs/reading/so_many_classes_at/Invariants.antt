@@ -1,8 +1,0 @@
-use Rattle.std.proofs.Common.{◌≡◌, ◌-◌}
-use Rattle.kilim_grammar.specs.Reader.{many}
-use Rattle.kilim_grammar.proofs.Loops.{with_front}
-use Rattle.kilim_classfile.specs.Reading.{class_index_at}
-use Rattle.kilim_classfile.proofs.reading.so_many_classes_at.Given as goal
-
-abbrev pub invariant-loop : goal.invariant-loop
-invariant-loop l = with_front l.classes (many (class_index_at l.len l.pool) (l.count - l.counter) l.rest) ≡ many (class_index_at l.len l.pool) l.count l.bytes

@@ -1,9 +1,0 @@
-use Rattle.std.proofs.Common.{◌++◌, arith}
-use Rattle.kilim_classes.specs.Names.{array_descriptor, base_descriptor}
-use Rattle.kilim_code_builder.proofs.stack_maps.Names.{array_more}
-use Rattle.kilim_code_builder.proofs.stack_maps.texts.push_type.Goals as goal
-
-pub loop-preserved : goal.loop-preserved
-loop-preserved c =
-    array_more c.args.ty.dims c.loop.counter (base_descriptor c.args.program.now c.args.ty.base) c.loop.out.items c.push.new.self.items
-    (c.args.out.now.items ++ array_descriptor c.args.ty.dims (base_descriptor c.args.program.now c.args.ty.base)) (omega arith) c.in_ok-push.ensures.items c.loop.invariant

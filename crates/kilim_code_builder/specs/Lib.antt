@@ -1,3 +1,0 @@
-pub mod Building
-pub mod Laws
-pub mod stack_maps

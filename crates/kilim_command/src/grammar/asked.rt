@@ -1,0 +1,358 @@
+//! What the words ask for.
+
+ghost use Rattle.std.specs.Prelude.{◌≡◌, ◌≤◌, ◌<◌, ◌&&◌, ◌∷◌, true, nat_lt, nat_le, is_some, length, map, take, drop, IfOk, IfSome, codes};
+ghost use Rattle.std.specs.Option.{option_copied, option_map};
+ghost use Rattle.std.specs.List.{list_all};
+ghost use Rattle.std.specs.Str.{bytes_eq};
+ghost use Rattle.std.specs.String.{string_bytes};
+ghost use Rattle.kilim_command.specs.grammar.Numbers.{int_by};
+ghost use Rattle.kilim_command.specs.grammar.Parts.{is_int, meant, numbers_of};
+ghost use Rattle.kilim_command.specs.grammar.Words.{are_files, args_in, check_request, count_hyphened, count_plain, demo_request, demo_with, files_read, ints_of, is_file, is_hyphened, is_option, request_of, run_behind, run_of, run_request, run_with, value_behind, is_weave_option, weave_of, weave_request, weave_with};
+
+use crate::grammar::numbers::int_of;
+use crate::grammar::options::{
+    are_demo_options, are_options, are_weave_options, demo_number, number_or, text_in,
+};
+use kilim_units::{NoMemory, Seq};
+use std::alloc::Global;
+
+/// What `weave` is given.
+#[derive(Drop)]
+pub struct WeaveWords<'a> {
+    /// The directory below which the woven files are written.
+    pub to: &'a str,
+    pub files: &'a [String],
+}
+
+/// What `run` is given.
+#[derive(Drop)]
+pub struct RunWords<'a> {
+    /// The name of the main class.
+    pub main: &'a str,
+    /// From 1 to 16.
+    pub workers: u64,
+    /// The most instructions of each task.
+    pub steps: u64,
+    /// The words behind `--`, of which each writes an integer of 32 bits.
+    pub args: &'a [String],
+    pub files: &'a [String],
+}
+
+/// What `demo` is given.
+#[derive(Clone, Copy)]
+pub struct DemoWords {
+    pub number: u64,
+    /// From 1 to 16.
+    pub workers: u64,
+}
+
+/// What the words ask for, as the words that were given.
+#[derive(Drop)]
+pub enum Asked<'a> {
+    /// To check these files.
+    Check(&'a [String]),
+    Weave(WeaveWords<'a>),
+    Run(RunWords<'a>),
+    Demo(DemoWords),
+}
+
+impl Asked<'_> {
+    /// The words that name files.
+    pub fn files(&self) -> &[String]
+        ensures { map string_bytes result.now ≡ files_read (meant self.now) }
+    {
+        match self {
+            Asked::Check(files) => files,
+            Asked::Weave(weave) => weave.files,
+            Asked::Run(run) => run.files,
+            Asked::Demo(_) => &[],
+        }
+    }
+}
+
+fn is_hyphened(word: &str) -> bool
+    ensures { result ≡ is_hyphened word.now }
+{
+    match word.as_bytes() {
+        [] => false,
+        [b, ..] => *b == b'-',
+    }
+}
+
+fn is_file(word: &str) -> bool
+    ensures { result ≡ is_file word.now }
+{
+    match word.as_bytes() {
+        [] => false,
+        [b, ..] => *b != b'-',
+    }
+}
+
+// How many words stand first that begin with a hyphen.
+fn count_hyphened(words: &[String]) -> usize
+    ensures count { result ≡ count_hyphened (map string_bytes words.now) }
+    ensures within { result ≤ length words.now }
+{
+    for (i, word) in words.iter().enumerate() {
+        if !is_hyphened(word.as_str()) {
+            return i;
+        }
+    }
+    words.len()
+}
+
+// How many words stand first that don't.
+fn count_plain(words: &[String]) -> usize
+    ensures count { result ≡ count_plain (map string_bytes words.now) }
+    ensures within { result ≤ length words.now }
+{
+    for (i, word) in words.iter().enumerate() {
+        if is_hyphened(word.as_str()) {
+            return i;
+        }
+    }
+    words.len()
+}
+
+fn all_files(files: &[String]) -> bool
+    ensures { result ≡ list_all (λ file. is_file (string_bytes file)) files.now }
+{
+    for file in files {
+        if !is_file(file.as_str()) {
+            return false;
+        }
+    }
+    true
+}
+
+fn are_words(files: &[String]) -> bool
+    ensures few { result ≡ true → length files.now ≤ 1000 }
+    ensures are { result ≡ (nat_lt 0 (length files.now) && (nat_le (length files.now) 1000 && list_all (λ file. is_file (string_bytes file)) files.now)) }
+{
+    !files.is_empty() && files.len() <= 1000 && all_files(files)
+}
+
+#[tactic(auto, using(crate::proofs::grammar::Mapped::are_words))]
+fn are_files(files: &[String]) -> bool
+    ensures are { result ≡ are_files (map string_bytes files.now) }
+    ensures few { result ≡ true → length files.now ≤ 1000 }
+{
+    are_words(files)
+}
+
+fn is_int(word: &str) -> bool
+    ensures { result ≡ is_some (int_by word.now (value_behind (codes "-") word.now)) }
+{
+    int_of(word).is_some()
+}
+
+fn all_ints(words: &[String]) -> bool
+    ensures { result ≡ list_all (λ word. is_int (string_bytes word)) words.now }
+{
+    for word in words {
+        if !is_int(word.as_str()) {
+            return false;
+        }
+    }
+    true
+}
+
+// The words, where each of them writes an integer.
+#[tactic(auto, using(crate::proofs::grammar::Ints::taken, crate::proofs::grammar::Ints::refused))]
+fn ints_in(words: &[String]) -> Option<&[String]>
+    ensures { option_map (λ ws. numbers_of (map string_bytes ws)) (option_copied result) ≡ ints_of (map string_bytes words.now) }
+{
+    if all_ints(words) { Some(words) } else { None }
+}
+
+/// The integers that these words write, in their order; none where a word writes none. `request` answers words of which each
+/// does. The error is want of memory alone.
+pub fn integers(alloc: Global, words: &[String]) -> Result<Seq<i32>, NoMemory>
+    ensures { IfOk result (λ ints. ints ≡ numbers_of (map string_bytes words.now)) }
+{
+    let mut ints = Vec::new(alloc);
+    for word in words {
+        match int_of(word.as_str()) {
+            Some(n) => {
+                let Ok(()) = ints.push(n) else {
+                    return Err(NoMemory);
+                };
+            }
+            None => return Ok(Seq::new(alloc)),
+        }
+    }
+    Ok(Seq::from_vec(ints))
+}
+
+fn is_mark(word: &str) -> bool
+    ensures { result ≡ bytes_eq word.now (codes "--") }
+{
+    word == "--"
+}
+
+fn args_in(words: &[String]) -> Option<&[String]>
+    ensures { option_map (λ ws. numbers_of (map string_bytes ws)) (option_copied result) ≡ args_in (map string_bytes words.now) }
+{
+    match words {
+        [] => Some(words),
+        [mark, words @ ..] => {
+            if is_mark(mark.as_str()) && words.len() <= 100 {
+                ints_in(words)
+            } else {
+                None
+            }
+        }
+    }
+}
+
+fn check_request(files: &[String]) -> Option<Asked<'_>>
+    ensures few { IfSome result (λ asked. length (files_read (meant asked)) ≤ 1000) }
+    ensures request { option_map meant result ≡ check_request (map string_bytes files.now) }
+{
+    if are_files(files) {
+        Some(Asked::Check(files))
+    } else {
+        None
+    }
+}
+
+// Whether the options of `weave` are well, and the files.
+fn can_weave(options: &[String], files: &[String]) -> bool
+    ensures can { result ≡ (list_all is_weave_option (map string_bytes options.now) && are_files (map string_bytes files.now)) }
+    ensures few { result ≡ true → length files.now ≤ 1000 }
+{
+    are_weave_options(options) && are_files(files)
+}
+
+fn weave_with<'a>(files: &'a [String], to: Option<&'a str>) -> Option<Asked<'a>>
+    ensures files { IfSome result (λ asked. files_read (meant asked) ≡ map string_bytes files.now) }
+    ensures request { option_map meant result ≡ weave_with (map string_bytes files.now) (option_copied to.entry) }
+{
+    match to {
+        Some(to) => Some(Asked::Weave(WeaveWords { to, files })),
+        None => None,
+    }
+}
+
+fn weave_of<'a>(options: &'a [String], files: &'a [String]) -> Option<Asked<'a>>
+    ensures few { IfSome result (λ asked. length (files_read (meant asked)) ≤ 1000) }
+    ensures request { option_map meant result ≡ weave_of (map string_bytes options.now) (map string_bytes files.now) }
+{
+    if !can_weave(options, files) {
+        return None;
+    }
+    weave_with(files, text_in("--to=", options))
+}
+
+fn weave_request(words: &[String]) -> Option<Asked<'_>>
+    ensures few { IfSome result (λ asked. length (files_read (meant asked)) ≤ 1000) }
+    ensures request { option_map meant result ≡ weave_request (map string_bytes words.now) }
+{
+    let (options, files) = words.split_at(count_hyphened(words));
+    weave_of(options, files)
+}
+
+// Whether the options are well, and the files.
+fn are_well(options: &[String], files: &[String]) -> bool
+    ensures well { result ≡ (list_all is_option (map string_bytes options.now) && are_files (map string_bytes files.now)) }
+    ensures few { result ≡ true → length files.now ≤ 1000 }
+{
+    are_options(options) && are_files(files)
+}
+
+fn run_of<'a>(options: &'a [String], files: &'a [String], behind: &'a [String]) -> Option<Asked<'a>>
+    ensures few { IfSome result (λ asked. length (files_read (meant asked)) ≤ 1000) }
+    ensures request { option_map meant result ≡ run_of (map string_bytes options.now) (map string_bytes files.now) (map string_bytes behind.now) }
+{
+    if !are_well(options, files) {
+        return None;
+    }
+    let main = text_in("--main=", options);
+    let workers = number_or(1, 16, "--workers=", options);
+    let steps = number_or(1000000, 100000000, "--steps=", options);
+    run_with(files, main, workers, steps, args_in(behind))
+}
+
+fn run_with<'a>(
+    files: &'a [String],
+    main: Option<&'a str>,
+    workers: Option<u64>,
+    steps: Option<u64>,
+    args: Option<&'a [String]>,
+) -> Option<Asked<'a>>
+    ensures files { IfSome result (λ asked. files_read (meant asked) ≡ map string_bytes files.now) }
+    ensures request { option_map meant result ≡ run_with (map string_bytes files.now) (option_copied main.entry) workers steps (option_map (λ ws. numbers_of (map string_bytes ws)) (option_copied args.entry)) }
+{
+    match (main, workers, steps, args) {
+        (Some(main), Some(workers), Some(steps), Some(args)) => Some(Asked::Run(RunWords {
+            main,
+            workers,
+            steps,
+            args,
+            files,
+        })),
+        _ => None,
+    }
+}
+
+fn run_behind<'a>(options: &'a [String], others: &'a [String]) -> Option<Asked<'a>>
+    ensures few { IfSome result (λ asked. length (files_read (meant asked)) ≤ 1000) }
+    ensures request { option_map meant result ≡ run_behind (map string_bytes options.now) (map string_bytes others.now) }
+{
+    let (files, behind) = others.split_at(count_plain(others));
+    run_of(options, files, behind)
+}
+
+fn run_request(words: &[String]) -> Option<Asked<'_>>
+    ensures few { IfSome result (λ asked. length (files_read (meant asked)) ≤ 1000) }
+    ensures request { option_map meant result ≡ run_request (map string_bytes words.now) }
+{
+    let (options, others) = words.split_at(count_hyphened(words));
+    run_behind(options, others)
+}
+
+fn demo_with<'a>(number: Option<u64>, workers: Option<u64>) -> Option<Asked<'a>>
+    ensures few { IfSome result (λ asked. length (files_read (meant asked)) ≤ 1000) }
+    ensures request { option_map meant result ≡ demo_with number workers }
+{
+    match (number, workers) {
+        (Some(number), Some(workers)) => Some(Asked::Demo(DemoWords { number, workers })),
+        _ => None,
+    }
+}
+
+fn demo_request<'a>(words: &'a [String]) -> Option<Asked<'a>>
+    ensures few { IfSome result (λ asked. length (files_read (meant asked)) ≤ 1000) }
+    ensures request { option_map meant result ≡ demo_request (map string_bytes words.now) }
+{
+    if !are_demo_options(words) {
+        return None;
+    }
+    demo_with(demo_number(words), number_or(1, 16, "--workers=", words))
+}
+
+// What a command asks for with the words behind it.
+fn asked_by<'a>(command: &str, words: &'a [String]) -> Option<Asked<'a>>
+    ensures few { IfSome result (λ asked. length (files_read (meant asked)) ≤ 1000) }
+    ensures request { option_map meant result ≡ request_of (command.now ∷ map string_bytes words.now) }
+{
+    match command {
+        "check" => check_request(words),
+        "weave" => weave_request(words),
+        "run" => run_request(words),
+        "demo" => demo_request(words),
+        _ => None,
+    }
+}
+
+/// What the words ask for, or nothing where they aren't in the grammar (specs/Words.antt). At most 1,000 files are named.
+/// It takes no memory.
+pub fn request(words: &[String]) -> Option<Asked<'_>>
+    ensures few { IfSome result (λ asked. length (files_read (meant asked)) ≤ 1000) }
+    ensures request { option_map meant result ≡ request_of (map string_bytes words.now) }
+{
+    match words {
+        [] => None,
+        [command, rest @ ..] => asked_by(command.as_str(), rest),
+    }
+}

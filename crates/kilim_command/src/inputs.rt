@@ -1,0 +1,48 @@
+//! The bytes of the files that the words name.
+
+ghost use Rattle.std.specs.Prelude.{◌≡◌, map, IfOk};
+ghost use Rattle.std.specs.String.{string_bytes};
+ghost use Rattle.kilim_outside.specs.Causes.{FolderCause};
+ghost use Rattle.kilim_outside.specs.declared.folder.FailedCall.TheVariants.{Read};
+ghost use Rattle.kilim_command.specs.Reads.{ReadsCause, WasRead, WereRead};
+
+use kilim_outside::{Folder, FolderFault};
+use kilim_units::Seq;
+use std::alloc::Global;
+
+#[tactic(auto, using(crate::proofs::Named::was_read))]
+fn read_one<F: Folder>(alloc: Global, name: &str, files: &mut F) -> Result<Seq<u8>, FolderFault>
+    ensures read { IfOk result (λ bytes. WasRead (F.contents files.old) name.now bytes) }
+    ensures contents { F.contents files.new ≡ F.contents files.old }
+    ensures cause { FolderCause (Read name.now) (F.faults files.old) (F.faults files.new) result }
+{
+    let mut bytes = Vec::new(alloc);
+    match files.read(name, &mut bytes) {
+        Ok(()) => Ok(Seq::from_vec(bytes)),
+        Err(fault) => Err(fault),
+    }
+}
+
+/// Reads the files of these names in order, up to the first that can't be read.
+pub fn read_all<F: Folder>(
+    alloc: Global,
+    names: &[String],
+    files: &mut F,
+) -> Result<Seq<Seq<u8>>, FolderFault>
+    ensures read { IfOk result (λ read. WereRead (F.contents files.old) (map string_bytes names.now) read) }
+    ensures contents { F.contents files.new ≡ F.contents files.old }
+    ensures cause { ReadsCause (map string_bytes names.now) (F.faults files.old) (F.faults files.new) result }
+{
+    let mut read = Seq::new(alloc);
+    for name in names {
+        match read_one(alloc, name.as_str(), files) {
+            Ok(bytes) => {
+                let Ok(()) = read.push(bytes) else {
+                    return Err(FolderFault::NoMemory);
+                };
+            }
+            Err(fault) => return Err(fault),
+        }
+    }
+    Ok(read)
+}

@@ -1,0 +1,6 @@
+use Rattle.std.proofs.Common.{◌≡◌, ◌++◌, ◌-◌}
+use Rattle.kilim_demo.specs.MainClass.{boxes_from}
+use Rattle.kilim_demo.proofs.main_class.push_boxes.Given as goal
+
+abbrev pub invariant-loop-k : goal.invariant-loop-k
+invariant-loop-k l = l.code.items ++ boxes_from l.k (l.count - l.k) ≡ l.fn.code.items ++ boxes_from 0 l.count

@@ -1,9 +1,0 @@
-use Rattle.std.specs.Prelude.{◌≤◌, drop, length}
-use Rattle.kilim_exchange.specs.Board.{AreBoxes}
-use Rattle.kilim_exchange.proofs.board.parked_boxes.Given as goal
-
-abbrev pub invariant-loop-left : goal.invariant-loop-left
-invariant-loop-left g l = AreBoxes g.F.Fibers.task_of (drop l.left l.waiters) l.tasks l.boxes.items × (l.left ≤ length l.waiters)
-
-abbrev pub decreases-loop-left : goal.decreases-loop-left
-decreases-loop-left g l = l.left

@@ -1,5 +1,0 @@
-use Rattle.kilim_exchange.proofs.Queues as queues
-use Rattle.kilim_exchange.proofs.laws.mailboxes_are_threads.Goals as goal
-
-pub returns : goal.returns
-returns c = λ setting journal s box replay. queues.mailboxes_are_threads setting journal s box replay

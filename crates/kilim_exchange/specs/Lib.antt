@@ -1,4 +1,0 @@
-pub mod Places
-pub mod Board
-pub mod Seen
-pub mod Laws

@@ -1,0 +1,170 @@
+-- Where a woven fiber comes to rest it has no frame.
+use Rattle.std.proofs.Common.{◌≡◌, ℕ, ℤ, pos, Bool, true, false, cond, not, List, [], ◌∷◌, Option, Some, None, Result, Ok, Err, refl, subst, ◌+◌}
+use Rattle.std.specs.Prelude.{IfOk, nat_le, nat_lt, ◌&&◌}
+use Rattle.kilim_program.specs.declared.instr.Instr.{Instr}
+use Rattle.kilim_program.specs.declared.names.BoxName.{BoxName}
+use Rattle.kilim_program.specs.declared.names.MethodId.{MethodId}
+use Rattle.kilim_program.specs.declared.value.Value.{Value}
+use Rattle.kilim_program.specs.declared.value.Value.TheVariants.{Int, Ref, Box, Fiber}
+use Rattle.kilim_program.specs.Program.{Program}
+use Rattle.kilim_run_state.specs.declared.frames.frames.Frames.{Frames}
+use Rattle.kilim_run_state.specs.declared.cause.EndCause.TheVariants as cause
+use Rattle.kilim_run_state.specs.declared.value.Token.{Token}
+use Rattle.kilim_run_state.specs.Machine.{Activation}
+use Rattle.kilim_program.specs.Members.{execute_of}
+use Rattle.kilim_run_machine.specs.Moves.{Move, moves, push_result, push_value}
+use Rattle.kilim_run_machine.specs.Moves as move
+use Rattle.kilim_run_machine.specs.Natives.{Native, FiberMember, Pc, Down, Up, Save, Place, Restore, Receiver, native_of}
+use Rattle.kilim_run_machine.specs.Natives as native
+use Rattle.kilim_run_state.specs.Shapes.{shape_of}
+use Rattle.kilim_run_model.specs.Lone.{arg_at, box_limit, printed}
+use Rattle.kilim_run_model.specs.State.{Setting}
+use Rattle.kilim_units.specs.declared.memory.NoMemory.{NoMemory}
+use Rattle.kilim_fiber_body.specs.Body.{calls_in}
+use Rattle.kilim_fiber_body.specs.Comes.{Comes}
+use Rattle.kilim_fiber_body.specs.Reach.{Reaches, named}
+use Rattle.kilim_fiber_body.specs.declared.body.Body.{Body}
+use Rattle.kilim_fiber_body.specs.declared.body.Came.{Came}
+use Rattle.kilim_fiber_body.specs.declared.body.Came.TheVariants as came
+use Rattle.kilim_fiber_laws.specs.woven_kin.Nexts.{Next, Goes, Rests, Ends, Stands, arg_next, asks_next, begins_next, begun_with, found_next, finish_next, get_next, message_next, native_next, next_by, next_in, next_of, opens_next, print_next, put_next, resumes_next, spent_or, start_next, stood, ticked, yield_next}
+use Rattle.kilim_fiber_laws.specs.woven_kin.Standing.{Standing}
+use Rattle.kilim_fiber_spec.specs.Fibers.{Fib, Fiber_at, Saved, executes_on, first_receiver, is_pausing, is_rewinding, member_does, wfetch}
+use Rattle.kilim_fiber.specs.Records.{NoFrameIsLeft}
+
+-- ---- the table
+
+abbrev pub HasNone : Next → Type 0
+HasNone (Rests g) = g.frames ≡ []
+HasNone x = Unit {0}
+
+module _ (set : Setting) (W : Program) (t : ℕ) where
+  spent_none : (counts : Bool) (done : ℕ) (x : Next) → HasNone x → HasNone (spent_or set counts done x)
+  spent_none counts done x e = by (counts && nat_le set.limits.steps done)
+    where
+      by : (z : Bool) → HasNone (cond z (Ends cause.Spent) x)
+      by true = tt
+      by false = e
+
+  ticked_none : (counts : Bool) (z : Standing) → HasNone (Goes (ticked counts z))
+  ticked_none counts z = tt
+
+  module _ (z : Standing) where
+    put_none : (box : BoxName) (n : ℕ) (o : Option (List Token)) → HasNone (put_next z box n o)
+    put_none box n None = tt
+    put_none box n (Some shape) = tt
+
+    message_none : (box : BoxName) (v : Value) → HasNone (message_next set.program z box v)
+    message_none box (Ref n) = put_none box n (shape_of set.program z.heap n)
+    message_none box _ = tt
+
+    start_none : (n : ℕ) (o : Option (List Token)) → HasNone (start_next z n o)
+    start_none n None = tt
+    start_none n (Some shape) = tt
+
+    print_none : (o : Option Token) → HasNone (print_next z o)
+    print_none None = tt
+    print_none (Some token) = tt
+
+    arg_none : (o : Option ℤ) → HasNone (arg_next z o)
+    arg_none None = tt
+    arg_none (Some n) = tt
+
+    get_none : (v : Value) → HasNone (get_next z v)
+    get_none (Box box) = tt
+    get_none _ = tt
+
+    yield_none : (again : Bool) → HasNone (yield_next again z)
+    yield_none true = tt
+    yield_none false = tt
+
+    member_none : (member : FiberMember) (args : List Value) (f : Fib) → HasNone (member_does Stands (λ g v. Goes (record z { fiber = g; frames = push_result v z.frames })) member args f)
+    member_none Pc (Fiber ∷ []) (Fiber_at lo (Saved q x vs) de re pa) = tt
+    member_none Down (Fiber ∷ []) (Fiber_at lo r [] re pa) = tt
+    member_none Down (Fiber ∷ []) (Fiber_at lo r (d ∷ de) re pa) = tt
+    member_none Up (Fiber ∷ []) (Fiber_at [] r de re pa) = tt
+    member_none Up (Fiber ∷ []) (Fiber_at (k ∷ lo) r de re pa) = tt
+    member_none Save (v ∷ Fiber ∷ []) (Fiber_at lo (Saved q x vs) de re pa) = tt
+    member_none Place (Int (pos n) ∷ y ∷ Fiber ∷ []) (Fiber_at lo (Saved q x vs) de re pa) = tt
+    member_none Restore (Fiber ∷ []) (Fiber_at lo (Saved q x []) de re pa) = tt
+    member_none Restore (Fiber ∷ []) (Fiber_at lo (Saved q x (v ∷ vs)) de re pa) = tt
+    member_none Receiver (Fiber ∷ []) (Fiber_at lo r [] re pa) = tt
+    member_none Receiver (Fiber ∷ []) (Fiber_at lo r (Saved q x vs ∷ de) re pa) = tt
+    member_none _ _ _ = tt
+
+    native_none : (n : Native) (args : List Value) → HasNone (native_next set z n args)
+    native_none native.Execute (Ref n ∷ Fiber ∷ []) = tt
+    native_none native.Getnb (Box box ∷ []) = tt
+    native_none native.ArgCount [] = tt
+    native_none native.Start (Ref n ∷ []) = start_none n (shape_of set.program z.heap n)
+    native_none native.Put (Box box ∷ v ∷ []) = message_none box v
+    native_none native.Get (v ∷ Fiber ∷ []) = spent_none true z.done (get_next z v) (get_none v)
+    native_none native.Print (v ∷ []) = print_none (printed v)
+    native_none native.Yield (Fiber ∷ []) = yield_none (is_rewinding z.fiber)
+    native_none native.Arg (Int i ∷ []) = arg_none (arg_at set.limits.args i)
+    native_none (native.OfFiber member) args = member_none member args z.fiber
+    native_none _ _ = tt
+
+    asks_none : (n : Option Native) (args : List Value) → HasNone (asks_next set z args n)
+    asks_none None args = tt
+    asks_none (Some n) args = native_none n args
+
+    begins_none : (o : Option (List Activation)) → HasNone (begins_next z o)
+    begins_none None = tt
+    begins_none (Some []) = tt
+    begins_none (Some (top ∷ below)) = tt
+
+    -- only here it rests
+    finish_none : (o : Option ℕ) → HasNone (finish_next set W z o)
+    finish_none None = elim (is_pausing z.fiber) as (λ (b : Bool). HasNone (cond b (Rests (record z { frames = [] })) (Ends cause.Done))) [ true ↦ refl | false ↦ tt ]
+    finish_none (Some n) = begins_none (begun_with W (execute_of W set.main) (Ref n ∷ Fiber ∷ []))
+
+    opens_none : (counts : Bool) → HasNone (opens_next t counts z)
+    opens_none counts =
+        elim (nat_lt z.boxes box_limit) as (λ (b : Bool). HasNone (cond b (Goes (ticked counts (record z { frames = push_value (Box (record { task = t; number = z.boxes })) z.frames; boxes = z.boxes + 1 }))) (Ends cause.Boxes))) [ true ↦ tt | false ↦ tt ]
+
+  by_none : (x : Standing) (counts : Bool) (m : Move) → HasNone (next_by set W t counts x m)
+  by_none x counts (move.Runs change frames heap) = tt
+  by_none x counts (move.Makes o frames heap) = tt
+  by_none x counts (move.Opens frames heap) = opens_none (stood x frames heap) counts
+  by_none x counts (move.Asks id args frames heap) = asks_none (stood x frames heap) (native_of W id) args
+  by_none x counts (move.Returns heap) = finish_none (record x { heap = heap }) x.kept
+  by_none x counts (move.Raises why) = tt
+  by_none x counts (move.Ends why) = tt
+  by_none x counts move.Stuck = tt
+
+  module _ (x : Standing) where
+    found_none : (top : Activation) (below : List Activation) (o : Option (Instr × ℕ × Bool)) → HasNone (found_next set W t x top below o)
+    found_none top below None = tt
+    found_none top below (Some found) =
+        let counts : Bool = found.2 && not (is_rewinding x.fiber) in
+        spent_none counts x.done (next_by set W t counts x (moves W top below x.heap)) (by_none x counts (moves W top below x.heap))
+
+    resumes_none : (o : Option MethodId) → HasNone (resumes_next W x o)
+    resumes_none None = tt
+    resumes_none (Some m) = tt
+
+    frames_none : (marks : List (List Bool)) (fs : List Activation) → HasNone (next_in set W marks t x fs)
+    frames_none marks [] = resumes_none (executes_on W x.heap (first_receiver x.fiber))
+    frames_none marks (top ∷ below) = found_none top below (wfetch set W marks top.method top.place)
+
+  pub next_has_none : (marks : List (List Bool)) (x : Standing) → HasNone (next_of set W marks t x)
+  unfolding next_of
+  next_has_none marks x = frames_none x marks x.frames
+
+-- ---- the body
+
+no_frame : (o : Option Frames) → calls_in o ≡ [] → o ≡ None
+no_frame None e = refl
+no_frame (Some frames) e = absurd (cc)
+
+module _ (set : Setting) (W : Program) (marks : List (List Bool)) (t : ℕ) (first : Standing) (new : Body) where
+  comes_none : (x : ℕ) (n : Next) → HasNone n → (a : Came) → Comes x n new a → NoFrameIsLeft a new
+  comes_none x n none came.Rests e = no_frame new.frames (subst HasNone e none)
+  comes_none x n none _ e = tt
+
+  none_by : (a : Came) → Reaches set W marks t first new a → NoFrameIsLeft a new
+  none_by a r = comes_none r.after (next_of set W marks t (named r.free r.mid)) (next_has_none set W t marks (named r.free r.mid)) a r.comes
+
+  pub none_is_left : (r : Result Came NoMemory) → IfOk r (λ a. Reaches set W marks t first new a) → IfOk r (λ a. NoFrameIsLeft a new)
+  none_is_left (Ok a) reaches = none_by a reaches
+  none_is_left (Err e) reaches = tt

@@ -1,0 +1,163 @@
+-- What is asked of a built-in method.
+use Rattle.std.proofs.Common.{◌≡◌, ◌<◌, ◌≤◌, ℕ, true, length, arith, List, [], ◌∷◌, Option, Some, None, Result, refl, sym, ap, subst, ◌∙◌}
+use Rattle.std.specs.Prelude.{IfOk, pos}
+use Rattle.kilim_program.specs.declared.names.BoxName.{BoxName}
+use Rattle.kilim_program.specs.declared.value.Value.{Value}
+use Rattle.kilim_program.specs.declared.value.Value.TheVariants.{Int, Long, Null, Ref, Text, Box, Fiber}
+use Rattle.kilim_program.specs.Program.{Program}
+use Rattle.kilim_run_state.specs.declared.value.Object.{Object}
+use Rattle.kilim_run_state.specs.declared.value.Token.{Token}
+use Rattle.kilim_run_state.specs.Machine.{Objects}
+use Rattle.kilim_run_machine.specs.Moves.{push_result}
+use Rattle.kilim_run_machine.specs.Natives as native
+use Rattle.kilim_run_state.specs.Shapes.{shape_of}
+use Rattle.kilim_run_state.specs.Trees.{OfMessage}
+use Rattle.kilim_units.specs.declared.memory.NoMemory.{NoMemory}
+use Rattle.kilim_run_model.specs.State.{Setting}
+use Rattle.kilim_run_state.specs.declared.run.Limits.{Limits}
+use Rattle.kilim_fiber_laws.specs.woven_kin.Standing.{Standing}
+use Rattle.kilim_fiber_laws.specs.woven_kin.Nexts.{Next, Goes, Stands, native_next, asks_next, member_next, message_next}
+use Rattle.kilim_fiber_body.specs.Operands.{AreCopies}
+use Rattle.kilim_fiber_body.specs.declared.operands.Operands.{Operands}
+use Rattle.kilim_fiber_body.specs.declared.operands.Operands.TheVariants as copied
+use Rattle.kilim_fiber_body.specs.Comes.{CanAsk, IsMade, is_other, IsGivenBy, GiftIs, IsGift, Comes, gives_result}
+use Rattle.kilim_fiber_spec.specs.Fibers.{Fib, Fiber_at, Saved, member_does}
+use Rattle.kilim_fiber_steps.specs.records.Members.{Did, NotDone, Does, did}
+use Rattle.kilim_fiber_steps.specs.records.natives.Natives.{meaning, member_meant}
+use Rattle.kilim_fiber_body.specs.declared.body.Body.{Body}
+use Rattle.kilim_fiber_body.specs.declared.body.Came.{Came}
+use Rattle.kilim_fiber_body.specs.declared.gifts.Gift.{Gift}
+use Rattle.kilim_fiber_body.specs.declared.gifts.Gift.TheVariants as gift
+use Rattle.kilim_fiber_steps.specs.declared.records.natives.natives.Member.{Member}
+use Rattle.kilim_fiber_steps.specs.declared.records.natives.natives.Native.{Native}
+use Rattle.kilim_fiber_steps.specs.declared.records.natives.natives.Native.TheVariants as code
+
+-- what comes, of the same next thing
+pub come_by : (x : ℕ) (new : Body) (r : Result Came NoMemory) (a b : Next) → a ≡ b → IfOk r (λ came. Comes x a new came) → IfOk r (λ came. Comes x b new came)
+come_by x new r a b e done = subst (λ (z : Next). IfOk r (λ came. Comes x z new came)) e done
+
+-- ---- a gift
+
+pub given_is : (W : Program) (root : ℕ) (h k : Objects) (g : Gift) (tree : List Object) (shape : List Token) → g ≡ gift.Tree tree shape → GiftIs W root h k g → IsGift W root h k tree shape
+given_is W root h k g tree shape e is = subst (λ g. GiftIs W root h k g) e is
+
+pub too_large : (W : Program) (root : ℕ) (h k : Objects) (g : Gift) → g ≡ gift.TooLarge → GiftIs W root h k g → shape_of W h root ≡ None
+too_large W root h k g e is = (subst (λ g. GiftIs W root h k g) e is).0
+
+given_by : (p W : Program) (limits : Limits) (b : Body) (box : BoxName) (v : Value) → CanAsk p W limits (Some native.Put) (Box box ∷ v ∷ []) b → IsGivenBy p b.heap v
+given_by p W limits b box (Int n) can = tt
+given_by p W limits b box (Long n) can = tt
+given_by p W limits b box Null can = tt
+given_by p W limits b box (Ref n) can = can.gives OfMessage n refl
+given_by p W limits b box (Text units) can = tt
+given_by p W limits b box (Box other) can = tt
+given_by p W limits b box Fiber can = tt
+
+pub put_given : (p W : Program) (limits : Limits) (b : Body) (n : Native) (box : BoxName) (first v : Value) → n ≡ code.Put → first ≡ Box box → CanAsk p W limits (Some (meaning n)) (first ∷ v ∷ []) b → IsGivenBy p b.heap v
+put_given p W limits b n box first v is-put is-box can =
+    given_by p W limits b box v (subst (λ (w : Value). CanAsk p W limits (Some native.Put) (w ∷ v ∷ []) b) is-box (subst (λ (n : Native). CanAsk p W limits (Some (meaning n)) (first ∷ v ∷ []) b) is-put can))
+
+-- what a member does, as what comes next
+abbrev next_by : Standing → Did → Next
+next_by l NotDone = Stands
+next_by l (Does h w) = Goes (record l { fiber = h; frames = push_result w l.frames })
+
+member_same : (l : Standing) (member : native.FiberMember) (args : List Value) (f : Fib) → next_by l (did member args f) ≡ member_does Stands (λ h w. Goes (record l { fiber = h; frames = push_result w l.frames })) member args f
+member_same l native.Pc (Fiber ∷ []) (Fiber_at lo (Saved q x vs) de re pa) = refl
+member_same l native.Down (Fiber ∷ []) (Fiber_at lo r [] re pa) = refl
+member_same l native.Down (Fiber ∷ []) (Fiber_at lo r (d ∷ de) re pa) = refl
+member_same l native.Up (Fiber ∷ []) (Fiber_at [] r de re pa) = refl
+member_same l native.Up (Fiber ∷ []) (Fiber_at (k ∷ lo) r de re pa) = refl
+member_same l native.Save (v ∷ Fiber ∷ []) (Fiber_at lo (Saved q x vs) de re pa) = refl
+member_same l native.Place (Int (pos n) ∷ y ∷ Fiber ∷ []) (Fiber_at lo (Saved q x vs) de re pa) = refl
+member_same l native.Restore (Fiber ∷ []) (Fiber_at lo (Saved q x []) de re pa) = refl
+member_same l native.Restore (Fiber ∷ []) (Fiber_at lo (Saved q x (v ∷ vs)) de re pa) = refl
+member_same l native.Receiver (Fiber ∷ []) (Fiber_at lo r [] re pa) = refl
+member_same l native.Receiver (Fiber ∷ []) (Fiber_at lo r (Saved q x vs ∷ de) re pa) = refl
+member_same l _ _ _ = refl
+
+stands_by : (member : native.FiberMember) (args : List Value) (l : Standing) → did member args l.fiber ≡ NotDone → member_next member args l ≡ Stands
+stands_by member args l e = sym (member_same l member args l.fiber) ∙ ap (next_by l) e
+
+pub put_made : (limits : Limits) (l : Standing) (n : Native) (box : BoxName) (first v : Value) → n ≡ code.Put → first ≡ Box box → IsMade limits l (first ∷ v ∷ []) (Some (meaning n)) → (q : Program) × (message_next q l box v ≡ Stands → ⊥)
+put_made limits l n box first v is-put is-box made =
+    let same : IsMade limits l (Box box ∷ v ∷ []) (Some native.Put) = subst (λ (w : Value). IsMade limits l (w ∷ v ∷ []) (Some native.Put)) is-box (subst (λ (n : Native). IsMade limits l (first ∷ v ∷ []) (Some (meaning n))) is-put made) in
+    (same.set.program, same.never)
+
+-- ---- calls that verified code makes
+
+-- one of a method that is no member of `kilim/Fiber` has at most two arguments
+pub made_few : (set : Setting) (l : Standing) (n : Native) (args : List Value) → is_other n ≡ true → (native_next set l (meaning n) args ≡ Stands → ⊥) → length args ≤ 2
+made_few set l code.Execute (Ref n ∷ Fiber ∷ []) o m = omega arith
+made_few set l code.Start (Ref n ∷ []) o m = omega arith
+made_few set l code.Put (Box box ∷ v ∷ []) o m = omega arith
+made_few set l code.Get (v ∷ Fiber ∷ []) o m = omega arith
+made_few set l code.Getnb (Box box ∷ []) o m = omega arith
+made_few set l code.Print (v ∷ []) o m = omega arith
+made_few set l code.Yield (Fiber ∷ []) o m = omega arith
+made_few set l code.ArgCount [] o m = omega arith
+made_few set l code.Arg (Int i ∷ []) o m = omega arith
+made_few set l (code.OfFiber member) args o m = absurd (cc)
+made_few set l _ _ o m = absurd (m refl)
+
+pub other_by : (n : Native) → ((member : Member) → n ≡ code.OfFiber member → ⊥) → is_other n ≡ true
+other_by (code.OfFiber member) none = absurd (none member refl)
+other_by _ none = refl
+
+-- a member that is called so does something
+pub done_by : (limits : Limits) (member : native.FiberMember) (args : List Value) (f : Fib) (l : Standing) (o : Option native.Native) → o ≡ Some (native.OfFiber member) → l.fiber ≡ f → IsMade limits l args o → did member args f ≡ NotDone → ⊥
+done_by limits member args f l o e is made none =
+    let same : IsMade limits l args (Some (native.OfFiber member)) = subst (IsMade limits l args) e made in
+    same.never (stands_by member args l (ap (did member args) is ∙ none))
+
+-- ---- the same method, the same arguments
+
+pub native_same : (set : Setting) (l : Standing) (n m : Native) (args brgs : List Value) → n ≡ m → args ≡ brgs → native_next set l (meaning m) brgs ≡ native_next set l (meaning n) args
+native_same set l n m args brgs e d = λ i. native_next set l (meaning (sym e i)) (sym d i)
+
+pub asked_same : (set : Setting) (l : Standing) (args : List Value) (o : Option native.Native) (n : native.Native) → o ≡ Some n → native_next set l n args ≡ asks_next set l args o
+asked_same set l args o n e = ap (λ (z : Option native.Native). asks_next set l args z) (sym e)
+
+-- of a method that is known, with these arguments
+pub known_by : (p W : Program) (limits : Limits) (b : Body) (args : List Value) (o : Option native.Native) (n : native.Native) → o ≡ Some n → CanAsk p W limits o args b → CanAsk p W limits (Some n) args b
+known_by p W limits b args o n e can = subst (λ o. CanAsk p W limits o args b) e can
+
+pub with_args : (p W : Program) (limits : Limits) (b : Body) (args brgs : List Value) (n : native.Native) → args ≡ brgs → CanAsk p W limits (Some n) args b → CanAsk p W limits (Some n) brgs b
+with_args p W limits b args brgs n e can = subst (λ args. CanAsk p W limits (Some n) args b) e can
+
+pub args_same : (set : Setting) (l : Standing) (n : native.Native) (args brgs : List Value) → args ≡ brgs → native_next set l n brgs ≡ native_next set l n args
+args_same set l n args brgs e = ap (native_next set l n) (sym e)
+
+-- ---- the operands, as they are told
+
+pub told_none : (args : List Value) (found : Operands) → found ≡ copied.None → AreCopies args found → args ≡ []
+told_none args found e are = subst (AreCopies args) e are
+
+pub told_more : (args : List Value) (found : Operands) → found ≡ copied.More → AreCopies args found → 2 < length args
+told_more args found e are = subst (AreCopies args) e are
+
+pub told_one : (args : List Value) (found : Operands) (v : Value) → found ≡ copied.One v → AreCopies args found → args ≡ v ∷ []
+told_one args found v e are = subst (AreCopies args) e are
+
+pub told_two : (args : List Value) (found : Operands) (v w : Value) → found ≡ copied.Two v w → AreCopies args found → args ≡ v ∷ w ∷ []
+told_two args found v w e are = subst (AreCopies args) e are
+
+-- ---- a member that has the fiber alone
+
+-- what it does is what the woven fiber does next
+pub member_by : (member : native.FiberMember) (args : List Value) (f g : Fib) (v : Option Value) (l : Standing) → did member args f ≡ Does g v → l.fiber ≡ f → member_next member args l ≡ Goes (record l { fiber = g; frames = push_result v l.frames })
+member_by member args f g v l e is = sym (member_same l member args l.fiber) ∙ ap (next_by l) (ap (did member args) is ∙ e)
+
+-- its result, where the member is known
+pub result_by : (m known : Member) (f g : Fib) (v w : Value) → m ≡ known → did (member_meant known) (Fiber ∷ []) f ≡ Does g (Some v) → v ≡ w → did (member_meant m) (Fiber ∷ []) f ≡ Does g (Some w)
+result_by m known f g v w is done same = ap (λ (z : Member). did (member_meant z) (Fiber ∷ []) f) is ∙ (done ∙ ap (λ (z : Value). Does g (Some z)) same)
+
+-- one with a result has room for it
+pub gives_by : (member : native.FiberMember) (f g : Fib) (v : Value) → did member (Fiber ∷ []) f ≡ Does g (Some v) → gives_result (Some (native.OfFiber member)) ≡ true
+gives_by native.Pc f g v e = refl
+gives_by native.Down f g v e = refl
+gives_by native.Up f g v e = refl
+gives_by native.Restore f g v e = refl
+gives_by native.Receiver f g v e = refl
+gives_by native.Save f g v e = absurd (let never : NotDone ≡ Does g (Some v) = e in cc)
+gives_by native.Place f g v e = absurd (let never : NotDone ≡ Does g (Some v) = e in cc)

@@ -1,0 +1,169 @@
+-- From the beginning of a task on, the calls of all frames can be made again at a pause.
+use Rattle.std.proofs.Common.{◌≡◌, ◌≢◌, inl, ℕ, zero, suc, Bool, true, false, List, [], ◌∷◌, Option, Some, None, refl, sym, ap, subst, ◌∙◌}
+use Rattle.std.specs.Prelude.{slice_get}
+use Rattle.std.proofs.lemmas.Bool.{and_from, and_parts, false≢true}
+use Rattle.std.proofs.lemmas.Option.{none-some}
+use Rattle.kilim_program.specs.declared.class.Method.{Method}
+use Rattle.kilim_program.specs.declared.instr.Instr.{Instr}
+use Rattle.kilim_program.specs.declared.instr.Instr.TheVariants as instr
+use Rattle.kilim_program.specs.declared.names.BoxName.{BoxName}
+use Rattle.kilim_program.specs.declared.names.ClassId.{ClassId}
+use Rattle.kilim_program.specs.declared.names.MethodId.{MethodId}
+use Rattle.kilim_program.specs.declared.value.Value.{Value}
+use Rattle.kilim_program.specs.declared.value.Value.TheVariants.{Box, Fiber, Int, Long, Null, Ref, Text}
+use Rattle.kilim_program.specs.Lengths.{ends_path, fetched, jump_targets}
+use Rattle.kilim_program.specs.Names.{is_task, method_at}
+use Rattle.kilim_program.specs.Program.{Program}
+use Rattle.kilim_type_sound.specs.Fits.{Classes, IsThere}
+use Rattle.kilim_type_sound.proofs.Grounds.{facts_hold}
+use Rattle.kilim_type_sound.proofs.Walk.{stands_at}
+use Rattle.kilim_isolation_laws.proofs.kept.Serving.{accepted_is_kept}
+use Rattle.kilim_run_machine.specs.Does.{does}
+use Rattle.kilim_run_machine.specs.Effect.{Asks}
+use Rattle.kilim_program.specs.Members.{execute_of}
+use Rattle.kilim_run_machine.specs.Natives.{Native, native_of}
+use Rattle.kilim_run_machine.specs.Natives as native
+use Rattle.kilim_isolation_laws.specs.Laws.{IsRunOfAccepted}
+use Rattle.kilim_isolation_laws.proofs.Keeping.{is_verified}
+use Rattle.kilim_run_model.specs.Kept.{Kept}
+use Rattle.kilim_run_model.specs.Reach.{Here}
+use Rattle.kilim_run_model.specs.State.{Setting}
+use Rattle.kilim_type_spec.specs.Typed.{GoesOn, Live}
+use Rattle.kilim_type_laws.specs.Laws.{typing_at}
+use Rattle.kilim_fiber_laws.proofs.woven_served.accepted.Along.{all_of_course}
+use Rattle.kilim_fiber_laws.specs.woven_served.accepted.Law.{CanPause}
+use Rattle.kilim_fiber_laws.proofs.courses.answers.Answers.{natives_answer}
+use Rattle.kilim_fiber_laws.proofs.receivers.called.Along.{calls_stand}
+use Rattle.kilim_fiber_laws.specs.receivers.called.Law.{CalledAs, TypedAs}
+use Rattle.kilim_fiber_laws.proofs.courses.Receives.{receives_typed}
+use Rattle.kilim_fiber_laws.specs.courses.Law.{IsOfCourse}
+use Rattle.kilim_weave_spec.specs.Woven.{pausable_callee}
+use Rattle.kilim_fiber_spec.specs.lone.Law.{lone_at, lone_frames}
+use Rattle.kilim_weave_laws.specs.woven_programs.Law.{KeepsPauses}
+use Rattle.kilim_fiber_laws.proofs.woven_served.ready.Chained.{live_in, ready_below, self_of_first}
+use Rattle.kilim_fiber_laws.proofs.woven_served.ready.Leaf.{IsSound, fit_get, fit_yield}
+use Rattle.kilim_fiber_laws.proofs.woven_served.ready.There.{AllThere, local_of, rest_of, stack_of}
+use Rattle.kilim_fiber_laws.proofs.receivers.Along.{receivers_stay}
+use Rattle.kilim_fiber_laws.specs.receivers.Law.{IsBegun, SelvesIn}
+use Rattle.kilim_fiber_spec.specs.alike.Shares.{Agree}
+use Rattle.kilim_fiber_spec.specs.Acts.{Lost, Over, World, asks, native_does, with_heap}
+use Rattle.kilim_fiber_spec.specs.Fibers.{frame}
+use Rattle.kilim_fiber_spec.specs.Form.{Facts}
+use Rattle.kilim_fiber_spec.specs.Links.{AllStand, AreReady, Fit, Forms, Leaf, Link, Lk, code, u_frames}
+use Rattle.kilim_fiber_spec.specs.Serves.{From, SelvesAreThere, is_leaf, leaf_receiver}
+use Rattle.kilim_fiber_spec.specs.Thread.{Run, Stop, Thread, code_in, fetch, own_of, push, steps}
+use Rattle.kilim_fiber_laws.specs.stands.Law.{IsFormOf}
+
+-- the task's thread begins; one that is over has nothing lost
+abbrev is_run : Thread → Bool
+is_run (Run m p l s x b w) = true
+is_run (Stop o) = false
+
+none_found : (x : Instr × ℕ) → None ≡ Some x → ⊥
+none_found x e = cc
+
+-- a slot that is live behind a call is live at it
+live_before : (p : Program) (i : Instr) (callee own : Method) (q to j : ℕ) → pausable_callee p i ≡ Some callee → fetched own.code own.code_length q ≡ Some (i, to) → Live own j to → Live own j q
+unfolding ends_path jump_targets
+live_before p (instr.Invokevirtual id) callee own q to j hp f live = GoesOn q to to (instr.Invokevirtual id) f refl (inl refl) live
+live_before p (instr.Invokespecial id) callee own q to j hp f live = GoesOn q to to (instr.Invokespecial id) f refl (inl refl) live
+live_before p (instr.Invokestatic id) callee own q to j hp f live = GoesOn q to to (instr.Invokestatic id) f refl (inl refl) live
+live_before p i callee own q to j hp f live = absurd (none-some callee hp)
+
+-- ---- what `get` and `yield` take, where the thread isn't lost
+
+module _ (set : Setting) (w : World) (go : World → Option Value → Thread) where
+  box_args : (args : List Value) → native_does set w Stop go native.Get args ≢ Stop Lost → (b : BoxName) × (args ≡ Box b ∷ [])
+  box_args (Box b ∷ []) n = (b, refl)
+  box_args [] n = absurd (n refl)
+  box_args (Box b ∷ v ∷ vs) n = absurd (n refl)
+  box_args (Int x ∷ vs) n = absurd (n refl)
+  box_args (Long x ∷ vs) n = absurd (n refl)
+  box_args (Null ∷ vs) n = absurd (n refl)
+  box_args (Ref k ∷ vs) n = absurd (n refl)
+  box_args (Text units ∷ vs) n = absurd (n refl)
+  box_args (Fiber ∷ vs) n = absurd (n refl)
+
+  no_args : (args : List Value) → native_does set w Stop go native.Yield args ≢ Stop Lost → args ≡ []
+  no_args [] n = refl
+  no_args (v ∷ vs) n = absurd (n refl)
+
+module _ (set : Setting) (run : IsRunOfAccepted set) (pauses : KeepsPauses set.program) (sound : IsSound set.program) (W : Program) (marks : List (List Bool)) (form : Forms set W marks)
+    (is_form : (m : MethodId) (a : Method) → method_at set.program m ≡ Some a → IsFormOf set.program W (code set W marks) m (form m) a) (agree : Agree set.program W) (facts : (m : MethodId) → Facts set.program W (code set W marks) (form m))
+    (executes_same : (c : ClassId) → is_task set.program c ≡ true → execute_of W c ≡ execute_of set.program c) where
+  kept : Kept (live_in set run pauses W marks form is_form agree facts executes_same) set
+  kept = accepted_is_kept set run (live_in set run pauses W marks form is_form agree facts executes_same) (λ id m at k there live.
+      let both = and_parts (form id).has_calls ((form id).live at k) live in
+      ((is_form id m there).live both.0 at k).0 both.1)
+
+  module _ (m : MethodId) (p to : ℕ) (i : Instr) (callee : Method) (l s s2 args wl : List Value) (x : Value) (old : ℕ) (was : Value) (links : List Link) (w : World) (c : MethodId) (f : fetch set.program m p ≡ Some (i, to)) (hp : pausable_callee set.program i ≡ Some callee)
+      (d : does set.program (own_of set.program m) i to l s w.heap ≡ Asks c args to l s2 w.heap) (stand : AllStand set W marks form links) (course : IsOfCourse set (Run m p l s x (u_frames links) w)) (of : Classes) (typed : TypedAs set of (Run m p l s x (u_frames links) w))
+      (called : CalledAs set of (Run m p l s x (u_frames links) w)) (selves : SelvesIn set (Run m p l s x (u_frames links) w)) where
+    there : AllThere w.heap (live_in set run pauses W marks form is_form agree facts executes_same) (frame m p l s ∷ lone_frames (u_frames links))
+    there = λ n names. (kept w.task course.0 course.1 (lone_at m p l s (u_frames links) w) course.2 course.3).there n n (inl names) (Here refl)
+
+    below : (w.kept ≡ None) × AreReady set W marks form w.heap (Rattle.kilim_fiber_spec.specs.Links.Inner m) x links
+    below =
+        ready_below set run pauses W marks form is_form agree facts executes_same of w.heap typed.fits.heap links m x w.kept ((facts m).group p to i callee f hp).pausable called selves
+        (rest_of w.heap (live_in set run pauses W marks form is_form agree facts executes_same) (frame m p l s) (lone_frames (u_frames links)) there) stand
+
+    own_fetched : fetched typed.fits.frames.0.method.code typed.fits.frames.0.method.code_length p ≡ Some (i, to)
+    own_fetched = ap (λ (o : Option Method). code_in o p) (sym typed.fits.frames.0.there) ∙ f
+
+    self_here : IsThere w.heap x
+    self_here = self_of_first set w.heap (u_frames links) m x selves ((facts m).group p to i callee f hp).pausable
+
+    -- a local that is live behind the call is in the heap
+    locals : (j : ℕ) → (form m).live to j ≡ true → (v : Value) → slice_get l j ≡ Some v → IsThere w.heap v
+    locals j live v at =
+        let group = (facts m).group p to i callee f hp in
+        let table = (is_form m typed.fits.frames.0.method typed.fits.frames.0.there).live group.has_calls in
+        let before = (table p j).1 (live_before set.program i callee typed.fits.frames.0.method p to j hp own_fetched ((table to j).0 live)) in
+        local_of w.heap (live_in set run pauses W marks form is_form agree facts executes_same) (frame m p l s) (lone_frames (u_frames links)) there j (and_from (form m).has_calls ((form m).live p j) group.has_calls before) v at
+
+    fit : (leaf : Native) → native_of set.program c ≡ Some leaf → is_leaf leaf ≡ true → Fit set W marks form w.heap (Leaf leaf) (leaf_receiver leaf args) (Lk m p to i callee s2 l wl x old was)
+    fit leaf named is =
+        let top = typed.fits.frames.0 in
+        let v = is_verified set run.keeps run.form run.well run.accepted run.main run.begins in
+        let inside = stack_of w.heap (live_in set run pauses W marks form is_form agree facts executes_same) (frame m p l s) (lone_frames (u_frames links)) there in
+        let at = stands_at set.program top.method (typing_at set.program m) (v.verified.typed m top.method top.there top.code) p i to own_fetched in
+        let receives = receives_typed set.program (facts_hold set.program run.keeps).order top.method of w.heap typed.fits.heap p i (typing_at set.program m p) at.after s top.stack at.step in
+        let unlost : asks set (with_heap w w.heap) Stop (λ after r. Run m to l (push r s2) x (u_frames links) after) (native_of set.program c) args ≢ Stop Lost =
+        natives_answer set (typing_at set.program) (λ id at k. true) v of m p to to i l s l s2 args x (u_frames links) w w.heap c top typed.fits.heap inside f d in
+        by leaf named is at.after at.step receives inside (subst (λ (o : Option Native). asks set (with_heap w w.heap) Stop (λ after r. Run m to l (push r s2) x (u_frames links) after) o args ≢ Stop Lost) named unlost)
+      where
+        by : (leaf : Native) → native_of set.program c ≡ Some leaf → is_leaf leaf ≡ true → (g : _) → Rattle.kilim_type_spec.specs.Step.type_step set.program typed.fits.frames.0.method p i (typing_at set.program m p) ≡ Rattle.std.proofs.Common.Ok g → Rattle.kilim_fiber_spec.specs.Rows.Receives set.program i s w.heap →
+            Rattle.kilim_type_sound.specs.Fits.AreThere w.heap s → native_does set (with_heap w w.heap) Stop (λ after r. Run m to l (push r s2) x (u_frames links) after) leaf args ≢ Stop Lost → Fit set W marks form w.heap (Leaf leaf) (leaf_receiver leaf args) (Lk m p to i callee s2 l wl x old was)
+        by native.Get named is g step receives inside unlost =
+            let b = box_args set (with_heap w w.heap) (λ after r. Run m to l (push r s2) x (u_frames links) after) args unlost in
+            fit_get set run pauses sound W marks form is_form agree of w.heap typed.fits.heap m typed.fits.frames.0.method typed.fits.frames.0.there p to l s typed.fits.frames.0.stack inside g callee c args s2 i f hp receives (λ k. typed.fits.frames.0.locals.slots k refl) locals wl x old was self_here d named step b.0 b.1
+        by native.Yield named is g step receives inside unlost =
+            fit_yield set run pauses sound W marks form is_form agree of w.heap typed.fits.heap m typed.fits.frames.0.method typed.fits.frames.0.there p to l s typed.fits.frames.0.stack inside g callee c args s2 i f hp receives (λ k. typed.fits.frames.0.locals.slots k refl) locals wl x old was self_here d named
+            (no_args set (with_heap w w.heap) (λ after r. Run m to l (push r s2) x (u_frames links) after) args unlost)
+        by leaf named is g step receives inside unlost = absurd (false≢true is)
+
+    ready : (leaf : Native) → native_of set.program c ≡ Some leaf → is_leaf leaf ≡ true → (w.kept ≡ None) × AreReady set W marks form w.heap (Leaf leaf) (leaf_receiver leaf args) (Lk m p to i callee s2 l wl x old was ∷ links)
+    ready leaf named is = (below.0, (fit leaf named is, below.1))
+
+  selves_there : (first : Thread) → IsBegun set first → SelvesAreThere set (From set first)
+  selves_there first begun m p l s x b w from pausable = self_of_first set w.heap b m x (subst (λ (t : Thread). SelvesIn set t) from.1 (receivers_stay set run first begun from.0)) pausable
+
+  pub can_pause : (first : Thread) → IsBegun set first → IsOfCourse set first → CanPause set W marks form (From set first)
+  can_pause first begun course = (
+    selves_there first begun,
+    λ m p to i callee l s s2 args wl x old was links w c leaf from f hp d named is stand.
+        let stands = calls_stand set run first begun from.0 in
+        ready m p to i callee l s s2 args wl x old was links w c f hp d stand (subst (λ (t : Thread). IsOfCourse set t) from.1 (all_of_course set from.0 first course)) stands.0 (subst (λ (t : Thread). TypedAs set stands.0 t) from.1 stands.1)
+        (subst (λ (t : Thread). CalledAs set stands.0 t) from.1 stands.2) (subst (λ (t : Thread). SelvesIn set t) from.1 (receivers_stay set run first begun from.0)) leaf named is,
+  )
+
+  stays : (n : ℕ) (o : Over) → steps set n (Stop o) ≡ Stop o
+  stays zero o = refl
+  stays (suc n) o = stays n o
+
+  -- one that is over pauses nowhere
+  pub over_pauses : (o : Over) → CanPause set W marks form (From set (Stop o))
+  over_pauses o = (
+    λ m p l s x b w from pausable. absurd (false≢true (ap is_run (sym (stays from.0 o) ∙ from.1))),
+    λ m p to i callee l s s2 args wl x old was links w c leaf from f hp d named is stand. absurd (false≢true (ap is_run (sym (stays from.0 o) ∙ from.1))),
+  )

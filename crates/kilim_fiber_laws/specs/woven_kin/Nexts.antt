@@ -1,0 +1,180 @@
+-- What a woven fiber does next: the one table of that, computed from the fiber alone. It leaves open what others decide. The woven
+-- machine of kilim_fiber_spec, which reads that from lists, and a fiber that is run both follow what stands here.
+use Rattle.std.specs.Prelude.{ℕ, ◌+◌, ℤ, nat_lt, nat_le, Bool, true, false, not, ◌&&◌, if◌then◌else◌, List, ◌∷◌, Option, Some, None, length, []}
+use Rattle.std.specs.FinMap.{insert}
+use Rattle.kilim_program.specs.declared.class.Method.{Method}
+use Rattle.kilim_program.specs.declared.instr.Instr.{Instr}
+use Rattle.kilim_program.specs.declared.names.BoxName.{BoxName}
+use Rattle.kilim_program.specs.declared.names.MethodId.{MethodId}
+use Rattle.kilim_program.specs.declared.value.Value.{Value}
+use Rattle.kilim_program.specs.declared.value.Value.TheVariants.{Int, Null, Ref, Box, Fiber}
+use Rattle.kilim_program.specs.Names.{method_at}
+use Rattle.kilim_program.specs.Program.{Program}
+use Rattle.kilim_run_state.specs.declared.cause.EndCause.{EndCause}
+use Rattle.kilim_run_state.specs.declared.cause.EndCause.TheVariants as cause
+use Rattle.kilim_run_state.specs.declared.value.Token.{Token}
+use Rattle.kilim_run_state.specs.Machine.{Objects, Activation}
+use Rattle.kilim_program.specs.Members.{execute_of}
+use Rattle.kilim_run_machine.specs.Moves.{Move, moves, entered, push_value, push_result}
+use Rattle.kilim_run_machine.specs.Moves as move
+use Rattle.kilim_run_machine.specs.Natives.{Native, FiberMember, native_of}
+use Rattle.kilim_run_machine.specs.Natives as native
+use Rattle.kilim_run_state.specs.Shapes.{shape_of}
+use Rattle.kilim_run_model.specs.State.{Setting}
+use Rattle.kilim_run_model.specs.Lone.{box_limit, printed, narrowed, arg_at}
+use Rattle.kilim_fiber_spec.specs.Fibers.{executes_on, first_receiver, is_pausing, is_rewinding, member_does, pausing, resumed, rewound, wfetch}
+use Rattle.kilim_fiber_laws.specs.woven_kin.Standing.{Standing}
+
+-- It goes on by itself, or acts, and then stands as told but for what others decide: the result of a take isn't on its stack yet, and
+-- a tree that leaves is still in the heap. At a `get` it either pauses, if the mailbox is empty, or takes. Where its last frame returns
+-- while it pauses, it rests. Or it is where no verified code comes.
+pub data Next : Type 0 where
+  Goes : (after : Standing) → Next
+  Puts : (box : BoxName) (root : ℕ) (shape : List Token) (after : Standing) → Next
+  Gets : (box : BoxName) (paused after : Standing) → Next
+  Probes : (box : BoxName) (after : Standing) → Next
+  Starts : (root : ℕ) (shape : List Token) (after : Standing) → Next
+  Prints : (token : Token) (after : Standing) → Next
+  Rests : (after : Standing) → Next
+  Ends : (cause : EndCause) → Next
+  Stands : Next
+
+-- ---- how it stands then
+
+abbrev pub counted : Standing → Standing
+counted l = record l { done = l.done + 1 }
+
+-- an instruction counts or not
+abbrev pub ticked : Bool → Standing → Standing
+ticked true l = counted l
+ticked false l = l
+
+abbrev pub with_result : Option Value → Standing → Standing
+with_result v l = record l { frames = push_result v l.frames }
+
+-- A counted instruction is done where instructions are left.
+abbrev pub spent_or : Setting → Bool → ℕ → Next → Next
+spent_or set counts done next = if counts && nat_le set.limits.steps done then Ends cause.Spent else next
+
+-- ---- built-in methods, with the fiber behind the call, which isn't counted yet
+
+abbrev pub put_next : Standing → BoxName → ℕ → Option (List Token) → Next
+put_next l box n None = Ends cause.Large
+put_next l box n (Some shape) = Puts box n shape (counted l)
+
+abbrev pub message_next : Program → Standing → BoxName → Value → Next
+message_next p l box Null = Ends cause.Null
+message_next p l box (Ref n) = put_next l box n (shape_of p l.heap n)
+message_next p l box v = Stands
+
+abbrev pub start_next : Standing → ℕ → Option (List Token) → Next
+start_next l n None = Ends cause.Large
+start_next l n (Some shape) = Starts n shape (counted l)
+
+abbrev pub print_next : Standing → Option Token → Next
+print_next l None = Stands
+print_next l (Some token) = Prints token (counted l)
+
+abbrev pub arg_next : Standing → Option ℤ → Next
+arg_next l None = Ends cause.Index
+arg_next l (Some n) = Goes (with_result (Some (Int n)) (counted l))
+
+-- a `get` of a mailbox, which a task that has done its instructions doesn't make any more
+abbrev pub paused_at : BoxName → Standing → Standing
+paused_at box l = record l { frames = push_value Null l.frames; fiber = pausing (Box box) l.fiber }
+
+abbrev pub taken_at : Standing → Standing
+taken_at l = record (counted l) { fiber = rewound l.fiber }
+
+-- a `yield` made again returns; one that is made counts and pauses
+abbrev pub yield_next : Bool → Standing → Next
+yield_next true l = Goes (record l { fiber = rewound l.fiber })
+yield_next false l = Goes (record (counted l) { fiber = pausing Null l.fiber })
+
+-- a member of `kilim/Fiber`
+abbrev pub member_next : FiberMember → List Value → Standing → Next
+member_next member args l = member_does Stands (λ f v. Goes (record l { fiber = f; frames = push_result v l.frames })) member args l.fiber
+
+abbrev pub get_next : Standing → Value → Next
+get_next l (Box box) = Gets box (paused_at box l) (taken_at l)
+get_next l v = Stands
+
+-- The receiver is the first of the arguments, and isn't null; those that can pause have the fiber as their last one. Other
+-- arguments than these don't come in verified code. Shapes are those of the program that was woven.
+abbrev pub native_next : Setting → Standing → Native → List Value → Next
+native_next set l native.Execute (Ref n ∷ Fiber ∷ []) = Goes (counted l)
+native_next set l native.Start (Ref n ∷ []) = start_next l n (shape_of set.program l.heap n)
+native_next set l native.Put (Box box ∷ message ∷ []) = message_next set.program l box message
+native_next set l native.Get (v ∷ Fiber ∷ []) = spent_or set true l.done (get_next l v)
+native_next set l native.Getnb (Box box ∷ []) = Probes box (counted l)
+native_next set l native.Print (v ∷ []) = print_next l (printed v)
+native_next set l native.Yield (Fiber ∷ []) = yield_next (is_rewinding l.fiber) l
+native_next set l native.ArgCount [] = Goes (with_result (Some (Int (narrowed (length set.limits.args)))) (counted l))
+native_next set l native.Arg (Int i ∷ []) = arg_next l (arg_at set.limits.args i)
+native_next set l (native.OfFiber member) args = member_next member args l
+native_next set l n args = Stands
+
+abbrev pub asks_next : Setting → Standing → List Value → Option Native → Next
+asks_next set l args None = Stands
+asks_next set l args (Some n) = native_next set l n args
+
+-- ---- moves
+
+-- a new mailbox, named by the task and its number among the task's mailboxes
+abbrev pub opens_next : ℕ → Bool → Standing → Next
+opens_next t counts l =
+    if nat_lt l.boxes box_limit then Goes (ticked counts (record l { frames = push_value (Box (record { task = t; number = l.boxes })) l.frames; boxes = l.boxes + 1 })) else Ends cause.Boxes
+
+-- the frames with which a method begins: none where it is built in
+abbrev pub begun_in : Program → MethodId → List Value → Option Method → Option (List Activation)
+begun_in W m args None = None
+begun_in W m args (Some method) = Some (if method.built_in then [] else entered W m args ∷ [])
+
+abbrev pub begun_with : Program → Option MethodId → List Value → Option (List Activation)
+begun_with W None args = None
+begun_with W (Some m) args = begun_in W m args (method_at W m)
+
+-- The constructor of task 0 returned: `execute` begins on the object that it kept. Where it is the built-in one, the task is done.
+abbrev pub begins_next : Standing → Option (List Activation) → Next
+begins_next l None = Stands
+begins_next l (Some []) = Ends cause.Done
+begins_next l (Some (frame ∷ frames)) = Goes (record (counted l) { frames = frame ∷ frames; kept = None })
+
+-- the last frame returned
+abbrev pub finish_next : Setting → Program → Standing → Option ℕ → Next
+finish_next set W l None = if is_pausing l.fiber then Rests (record l { frames = [] }) else Ends cause.Done
+finish_next set W l (Some n) = begins_next l (begun_with W (execute_of W set.main) (Ref n ∷ Fiber ∷ []))
+
+abbrev pub stood : Standing → List Activation → Objects → Standing
+stood l frames heap = record l { frames = frames; heap = heap }
+
+abbrev pub next_by : Setting → Program → ℕ → Bool → Standing → Move → Next
+next_by set W t counts l (move.Runs change frames heap) = Goes (ticked counts (stood l frames heap))
+next_by set W t counts l (move.Makes object frames heap) =
+    Goes (ticked counts (record l { frames = push_value (Ref l.next) frames; heap = insert heap l.next object; next = l.next + 1 }))
+next_by set W t counts l (move.Opens frames heap) = opens_next t counts (stood l frames heap)
+next_by set W t counts l (move.Asks m args frames heap) = asks_next set (stood l frames heap) args (native_of W m)
+next_by set W t counts l (move.Returns heap) = finish_next set W (record l { heap = heap }) l.kept
+next_by set W t counts l (move.Raises cause) = Ends cause
+next_by set W t counts l (move.Ends cause) = Ends cause
+next_by set W t counts l move.Stuck = Stands
+
+-- An instruction counts where it is marked, and the fiber isn't rewinding.
+abbrev pub found_next : Setting → Program → ℕ → Standing → Activation → List Activation → Option (Instr × ℕ × Bool) → Next
+found_next set W t l top below None = Stands
+found_next set W t l top below (Some found) =
+    let counts = found.2 && not (is_rewinding l.fiber) in
+    spent_or set counts l.done (next_by set W t counts l (moves W top below l.heap))
+
+-- where it rests, it goes on with `execute`, and rewinds
+abbrev pub resumes_next : Program → Standing → Option MethodId → Next
+resumes_next W l None = Stands
+resumes_next W l (Some m) = Goes (record l { frames = entered W m (first_receiver l.fiber ∷ Fiber ∷ []) ∷ []; fiber = resumed l.fiber })
+
+abbrev pub next_in : Setting → Program → List (List Bool) → ℕ → Standing → List Activation → Next
+next_in set W marks t l [] = resumes_next W l (executes_on W l.heap (first_receiver l.fiber))
+next_in set W marks t l (top ∷ below) = found_next set W t l top below (wfetch set W marks top.method top.place)
+
+-- what the fiber of the task of that number does next; W is the woven program, with its marks
+unfoldable pub next_of : Setting → Program → List (List Bool) → ℕ → Standing → Next
+next_of set W marks t l = next_in set W marks t l l.frames

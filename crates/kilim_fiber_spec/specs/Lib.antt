@@ -1,0 +1,14 @@
+pub mod Acts
+pub mod Thread
+pub mod Fibers
+pub mod Form
+pub mod Links
+pub mod Runs
+pub mod Rooms
+pub mod Rows
+pub mod Serves
+pub mod Law
+pub mod examples
+pub mod lone
+pub mod alike
+pub mod fiber_kin

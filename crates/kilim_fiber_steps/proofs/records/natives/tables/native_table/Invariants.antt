@@ -1,0 +1,6 @@
+use Rattle.std.proofs.Common.{◌≡◌, length}
+use Rattle.kilim_fiber_steps.specs.records.natives.Tables.{AreNatives}
+use Rattle.kilim_fiber_steps.proofs.records.natives.tables.native_table.Given as goal
+
+abbrev pub invariant-loop-at : goal.invariant-loop-at
+invariant-loop-at l = record { tell : AreNatives l.program l.table.items; long : length l.table.items ≡ l.at }

@@ -1,0 +1,23 @@
+use Rattle.std.proofs.Common.{◌∷◌}
+use Rattle.kilim_run_state.specs.frames.Calls.{activation, below_of}
+use Rattle.kilim_run_machine.specs.Moves.{move_by}
+use Rattle.kilim_fiber_steps.proofs.Counting.{asks_by}
+use Rattle.kilim_fiber_steps.proofs.runs.go_on.Goals as goal
+
+pub returns-in-Asked-clause-settles : goal.returns-in-Asked-clause-settles
+returns-in-Asked-clause-settles c e before h k shows same =
+    let told = rw c.in-Asked.is at shows in
+    asks_by (move_by c.args.program.now e (activation before) (below_of c.args.frames.now)) c.in-Asked.id c.in-Asked.count c.args.next c.args.frames.now c.await_answer.new.frames
+    (activation before ∷ below_of c.args.frames.now) h k c.await_answer.ensures.kept told.0 (c.await_answer.ensures.steps c.args.program.now c.args.own.now c.in-Asked.id e before h k told same)
+
+pub returns-in-Went-clause-settles : goal.returns-in-Went-clause-settles
+returns-in-Went-clause-settles c e before h k shows same = rw c.in-Went.is at (c.in-Ok.ensures.steps e before h k shows same)
+
+pub returns-in-NewBox-clause-settles : goal.returns-in-NewBox-clause-settles
+returns-in-NewBox-clause-settles c e before h k shows same = rw c.in-NewBox.is at (c.in-Ok.ensures.steps e before h k shows same)
+
+pub returns-in-Returned-clause-settles : goal.returns-in-Returned-clause-settles
+returns-in-Returned-clause-settles c e before h k shows same = rw c.in-Returned.is at (c.in-Ok.ensures.steps e before h k shows same)
+
+pub returns-in-Ended-clause-settles : goal.returns-in-Ended-clause-settles
+returns-in-Ended-clause-settles c e before h k shows same = rw c.in-Ended.is at (c.in-Ok.ensures.steps e before h k shows same)

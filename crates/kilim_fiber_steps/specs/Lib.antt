@@ -1,0 +1,4 @@
+pub mod Counted
+pub mod Legs
+pub mod Marks
+pub mod records

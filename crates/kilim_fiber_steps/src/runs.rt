@@ -1,0 +1,490 @@
+//! Several steps of a task, one after the other, some of which count.
+
+ghost use Rattle.std.specs.Prelude.{◌≡◌, ◌<◌, ◌≤◌, ◌+◌, ◌&&◌, ◌∷◌, Bool, true, false, Some, IfOk, IfSome, OnOk, drop, length};
+ghost use Rattle.kilim_program.specs.Lengths.{first_place};
+ghost use Rattle.kilim_program.specs.lookups.Places.{Rising};
+ghost use Rattle.kilim_program.specs.Names.{method_at};
+ghost use Rattle.kilim_run_state.specs.declared.frames.frame.Frame.{Frame as AFrame};
+ghost use Rattle.kilim_run_state.specs.frames.Calls.{activation, below_of, calls_of};
+ghost use Rattle.kilim_run_interp.specs.Run.{IsFine};
+ghost use Rattle.kilim_run_interp.specs.Step.{AreRoomy, CanSettle};
+ghost use Rattle.kilim_run_machine.specs.Effect.{Effect};
+ghost use Rattle.kilim_run_state.specs.Machine.{Objects};
+ghost use Rattle.kilim_run_machine.specs.Moves.{move_by};
+ghost use Rattle.kilim_run_rows.specs.Outcome.{Shows};
+ghost use Rattle.kilim_fiber_spec.specs.Fibers.{marks_of};
+ghost use Rattle.kilim_fiber_steps.specs.Counted.{HasCountedRun, IsCountedSafe, tick_if};
+ghost use Rattle.kilim_fiber_steps.specs.Legs.{Does, DoesNear, IsCountedLeg, Settles, standing};
+ghost use Rattle.kilim_fiber_steps.specs.Marks.{IsMarked};
+
+use crate::places::{Places, mark_of, marks_of, number_at, number_near, place_at};
+use kilim_program::lookups::{code_rises, instr_at, method_at};
+use kilim_program::{Instr, Method, MethodId, Program};
+use kilim_run_interp::instruction::{act, act_near};
+use kilim_run_interp::{Stepped, await_answer, settle};
+use kilim_run_rows::Moved;
+use kilim_run_state::frames::{Frame, Frames, no_frame};
+use kilim_run_state::{EndCause, Heap};
+use kilim_units::{NoMemory, Seq};
+use std::alloc::Global;
+use std::mem::replace;
+
+// One run makes at most so many steps, whether they count or not.
+const MOST_TOGETHER: u64 = 67_108_864;
+
+/// What ended a run of steps. Where the frames wait for an answer, nothing else was changed.
+#[derive(Clone, Copy)]
+pub enum Halted {
+    /// The task went on as far as one run goes, and may go on.
+    Stops,
+    /// The next instruction counts, and as many are counted as may be.
+    Spent,
+    /// It wants a new mailbox.
+    NewBox,
+    /// It calls a built-in method that is handed out. The arguments are the operands that the frames tell, on the stack of
+    /// the top frame.
+    Asks(MethodId),
+    /// The last frame returns.
+    Returned,
+    /// The task ends.
+    Ended(EndCause),
+}
+
+/// How many steps were counted, and what ended them.
+#[derive(Clone, Copy)]
+pub struct CountedRun {
+    pub steps: u64,
+    /// The mark of the next instruction; of no account where the run only stops.
+    pub mark: bool,
+    pub halted: Halted,
+}
+
+// What ends the steps of one frame.
+#[derive(Clone, Copy)]
+enum Halt {
+    // No step is left.
+    Stops,
+    // The next instruction counts, and as many are counted as may be.
+    Spent,
+    // The mark of the next instruction, and what came of it, which isn't settled yet; with the place behind it.
+    Leaves(bool, Moved, u32),
+    // The next instruction is none of those that the loop does.
+    Far,
+    // One step is done that the loop doesn't do, and isn't taken off yet.
+    On,
+    // The next place has no mark.
+    Lost,
+}
+
+// What came of one instruction.
+#[derive(Clone, Copy)]
+enum One {
+    // The frame goes on: whether the instruction counted, and what is likely the number of the next one.
+    Goes(bool, usize),
+    Halts(Halt),
+}
+
+// Steps of one frame: how many are left that count, and how many at all, and what ended them.
+#[derive(Clone, Copy)]
+struct Leg {
+    left: u64,
+    fuel: u64,
+    halt: Halt,
+}
+
+// Whether an instruction with that mark counts.
+#[inline(always)]
+fn counts_by(mark: bool, live: bool) -> bool
+    ensures { result ≡ (mark && live) }
+{
+    mark && live
+}
+
+// Whether it counts, and none is left that may.
+#[inline(always)]
+fn is_spent(counts: bool, left: u64) -> bool
+    ensures yes { result ≡ true → (counts ≡ true) × (left ≡ 0) }
+    ensures no { result ≡ false → counts ≡ true → 0 < left }
+{
+    counts && left == 0
+}
+
+// One less is left, if an instruction counted.
+#[inline(always)]
+fn less_if(counts: bool, left: u64) -> u64
+    requires { counts ≡ true → 0 < left }
+    ensures { left ≡ tick_if counts result }
+{
+    if counts { left - 1 } else { left }
+}
+
+// One instruction of the top frame, unless it counts and none is left that may.
+fn do_one(
+    alloc: Global,
+    program: &Program,
+    own: &Method,
+    marks: &[bool],
+    table: &[u32],
+    live: bool,
+    left: u64,
+    frames: &mut Frames,
+    heap: &mut Heap,
+    hint: usize,
+) -> One
+    requires own { method_at program.now frames.old.top.method ≡ Some own.now }
+    requires fine { (mark : Bool) → IsMarked own.now.code marks.now own.now.code_length frames.old.top.pc mark → ((mark && live) ≡ true → 0 < left) → IsFine program.now (activation frames.old.top) (below_of frames.old) heap.old }
+    requires roomy { AreRoomy program.now frames.old }
+    ensures roomy { AreRoomy program.now frames.new }
+    ensures same { frames.new.top.method ≡ frames.old.top.method }
+    ensures does { Does program.now own.now marks.now live left frames.old heap.old result frames.new heap.new }
+{
+    code_rises(program, frames.top.method, own);
+    let code = own.code.as_slice();
+    let end = own.code_length;
+    let Some((at, mark)) = number_at(code, marks, end, frames.top.pc, hint) else {
+        return One::Halts(Halt::Lost);
+    };
+    let counts = counts_by(mark, live);
+    if is_spent(counts, left) {
+        return One::Halts(Halt::Spent);
+    }
+    let found = instr_at(code, end, at);
+    let next = found.1;
+    let moved = act(alloc, found.0, program, own, next, &mut frames.top, heap);
+    match moved {
+        Moved::Next => {
+            frames.top.pc = next;
+            One::Goes(counts, at + 1)
+        }
+        Moved::Made(name) => {
+            let _made = name;
+            frames.top.pc = next;
+            One::Goes(counts, at + 1)
+        }
+        Moved::Jump(to) => {
+            frames.top.pc = to;
+            One::Goes(counts, number_near(table, to))
+        }
+        _ => One::Halts(Halt::Leaves(mark, moved, next)),
+    }
+}
+
+// The number behind one, where there is one.
+#[inline(always)]
+fn number_behind(code: &[(u32, Instr)], at: usize) -> Option<usize>
+    requires { at < length code.now }
+    ensures { IfSome result (λ next. (next ≡ at + 1) × (next < length code.now)) }
+{
+    if at + 1 < code.len() {
+        Some(at + 1)
+    } else {
+        None
+    }
+}
+
+// The number of the instruction at a place that is jumped to.
+#[inline(always)]
+fn number_of(
+    code: &[(u32, Instr)],
+    marks: &[bool],
+    end: u32,
+    table: &[u32],
+    to: u32,
+) -> Option<usize>
+    requires { Rising code.now }
+    ensures { IfSome result (λ at. (at < length code.now) × (first_place (drop at code.now) end ≡ to)) }
+{
+    match number_at(code, marks, end, to, number_near(table, to)) {
+        Some(found) => Some(found.0),
+        None => None,
+    }
+}
+
+// One instruction of a frame, by its number, unless it counts and none is left that may. `frames` are those below.
+#[inline(always)]
+fn do_near(
+    program: &Program,
+    own: &Method,
+    code: &[(u32, Instr)],
+    marks: &[bool],
+    table: &[u32],
+    live: bool,
+    left: u64,
+    frames: &Frames,
+    frame: &mut Frame,
+    heap: &mut Heap,
+    at: usize,
+) -> One
+    requires own { method_at program.now frame.old.method ≡ Some own.now }
+    requires code { code.now ≡ own.now.code }
+    requires rising { Rising code.now }
+    requires within { at < length code.now }
+    requires marked { length marks.now ≡ length code.now }
+    requires fine { (mark : Bool) → IsMarked own.now.code marks.now own.now.code_length (first_place (drop at own.now.code) own.now.code_length) mark → ((mark && live) ≡ true → 0 < left) → IsFine program.now (activation (standing own.now frames.now frame.old at).top) (below_of frames.now) heap.old }
+    requires roomy { AreRoomy program.now (standing own.now frames.now frame.old at) }
+    ensures roomy { AreRoomy program.now (standing own.now frames.now frame.new at) }
+    ensures same { frame.new.method ≡ frame.old.method }
+    ensures does { DoesNear program.now own.now marks.now live left frames.now frame.old at heap.old result frame.new heap.new }
+{
+    let _ = frames;
+    let end = own.code_length;
+    let mark = mark_of(code, marks, end, at);
+    let costs = counts_by(mark, live);
+    if is_spent(costs, left) {
+        return One::Halts(Halt::Spent);
+    }
+    let found = instr_at(code, end, at);
+    match act_near(found.0, program, own, found.1, frame, heap) {
+        Some(Moved::Next) => match number_behind(code, at) {
+            Some(next) => One::Goes(costs, next),
+            None => One::Halts(Halt::Lost),
+        },
+        Some(Moved::Jump(to)) => match number_of(code, marks, end, table, to) {
+            Some(next) => One::Goes(costs, next),
+            None => One::Halts(Halt::Lost),
+        },
+        Some(moved) => {
+            let mark = mark_of(code, marks, end, at);
+            let behind = instr_at(code, end, at);
+            One::Halts(Halt::Leaves(mark, moved, behind.1))
+        }
+        None => One::Halts(Halt::Far),
+    }
+}
+
+// Puts a frame back on top, at a place.
+#[inline(always)]
+fn put_back(frames: &mut Frames, frame: Frame, place: u32)
+    ensures { frames.new ≡ record frames.old { top = record frame { pc = place } } }
+{
+    let mut frame = frame;
+    frame.pc = place;
+    frames.top = frame;
+}
+
+// Steps of the top frame, at most so many that count, and so many at all, up to the first that isn't done here.
+fn run_near(
+    alloc: Global,
+    program: &Program,
+    own: &Method,
+    marks: &[bool],
+    table: &[u32],
+    counted: &Seq<Seq<bool>>,
+    live: bool,
+    frames: &mut Frames,
+    heap: &mut Heap,
+    limit: u64,
+    most: u64,
+) -> Leg
+    requires own { method_at program.now frames.old.top.method ≡ Some own.now }
+    requires marks { marks_of counted.now frames.old.top.method ≡ marks.now }
+    requires safe { IsCountedSafe program.now counted.now live limit (calls_of frames.old) heap.old }
+    requires roomy { AreRoomy program.now frames.old }
+    ensures roomy { AreRoomy program.now frames.new }
+    ensures same { frames.new.top.method ≡ frames.old.top.method }
+    ensures leg { IsCountedLeg program.now own.now counted.now live limit most (calls_of frames.old) heap.old result.left result.fuel result.halt frames.new heap.new }
+{
+    let _ = counted;
+    code_rises(program, frames.top.method, own);
+    let code = own.code.as_slice();
+    let end = own.code_length;
+    if marks.len() != code.len() {
+        return Leg {
+            left: limit,
+            fuel: most,
+            halt: Halt::Lost,
+        };
+    }
+    let Some(first) = number_of(code, marks, end, table, frames.top.pc) else {
+        return Leg {
+            left: limit,
+            fuel: most,
+            halt: Halt::Lost,
+        };
+    };
+    let mut at = first;
+    let mut left = limit;
+    let mut fuel = most;
+    let method = frames.top.method;
+    let mut frame = replace(&mut frames.top, no_frame(alloc, method));
+    while fuel > 0 {
+        match do_near(
+            program, own, code, marks, table, live, left, frames, &mut frame, heap, at,
+        ) {
+            One::Goes(counts, next) => {
+                at = next;
+                left = less_if(counts, left);
+                fuel -= 1;
+            }
+            One::Halts(halt) => {
+                put_back(frames, frame, place_at(code, end, at));
+                return Leg { left, fuel, halt };
+            }
+        }
+    }
+    put_back(frames, frame, place_at(code, end, at));
+    Leg {
+        left,
+        fuel: 0,
+        halt: Halt::Stops,
+    }
+}
+
+// Steps of the top frame, at most so many that count, and so many at all.
+fn run_frame(
+    alloc: Global,
+    program: &Program,
+    own: &Method,
+    marks: &[bool],
+    table: &[u32],
+    counted: &Seq<Seq<bool>>,
+    live: bool,
+    frames: &mut Frames,
+    heap: &mut Heap,
+    limit: u64,
+    most: u64,
+) -> Leg
+    requires own { method_at program.now frames.old.top.method ≡ Some own.now }
+    requires marks { marks_of counted.now frames.old.top.method ≡ marks.now }
+    requires safe { IsCountedSafe program.now counted.now live limit (calls_of frames.old) heap.old }
+    requires roomy { AreRoomy program.now frames.old }
+    ensures roomy { AreRoomy program.now frames.new }
+    ensures leg { IsCountedLeg program.now own.now counted.now live limit most (calls_of frames.old) heap.old result.left result.fuel result.halt frames.new heap.new }
+{
+    let leg = run_near(
+        alloc, program, own, marks, table, counted, live, frames, heap, limit, most,
+    );
+    match leg.halt {
+        Halt::Far => {
+            let hint = number_near(table, frames.top.pc);
+            match do_one(
+                alloc, program, own, marks, table, live, leg.left, frames, heap, hint,
+            ) {
+                One::Goes(counts, near) => {
+                    let _near = near;
+                    Leg {
+                        left: less_if(counts, leg.left),
+                        fuel: leg.fuel,
+                        halt: Halt::On,
+                    }
+                }
+                One::Halts(halt) => Leg {
+                    left: leg.left,
+                    fuel: leg.fuel,
+                    halt,
+                },
+            }
+        }
+        _ => leg,
+    }
+}
+
+// Settles what came of an instruction: what halts the run, or nothing where the task goes on.
+fn go_on(
+    alloc: Global,
+    program: &Program,
+    own: &Method,
+    moved: Moved,
+    next: u32,
+    frames: &mut Frames,
+) -> Result<Option<Halted>, NoMemory>
+    requires can { CanSettle program.now moved frames.old }
+    requires roomy { AreRoomy program.now frames.old }
+    ensures roomy { OnOk result (AreRoomy program.now frames.new) }
+    ensures settles { (e : Effect) (before : AFrame) (h k : Objects) → Shows own.now e next moved before frames.old.top h k → before.method ≡ frames.old.top.method → IfOk result (λ halted. Settles (move_by program.now e (activation before) (below_of frames.old)) halted (activation before ∷ below_of frames.old) frames.new h k) }
+{
+    if let Moved::Asked(id, count) = moved {
+        await_answer(count, next, frames);
+        return Ok(Some(Halted::Asks(id)));
+    }
+    let Ok(stepped) = settle(alloc, program, own, moved, next, frames) else {
+        return Err(NoMemory);
+    };
+    match stepped {
+        Stepped::Went => Ok(None),
+        Stepped::NewBox => Ok(Some(Halted::NewBox)),
+        Stepped::Returned => Ok(Some(Halted::Returned)),
+        Stepped::Ended(cause) => Ok(Some(Halted::Ended(cause))),
+        // such a call was asked above
+        Stepped::AtNative(call) => {
+            let _call = call;
+            Err(NoMemory)
+        }
+    }
+}
+
+/// Steps of a task, of instructions of whatever mark, as long as it goes on. The steps are those that `settle` of
+/// kilim_run_interp makes of what an instruction comes to. Where the fiber is live, those count whose instruction is marked, at most so many. Want of
+/// memory is also answered where a place has no mark.
+pub fn run_counted(
+    alloc: Global,
+    program: &Program,
+    counted: &Seq<Seq<bool>>,
+    places: &Places,
+    live: bool,
+    frames: &mut Frames,
+    heap: &mut Heap,
+    limit: u64,
+) -> Result<CountedRun, NoMemory>
+    requires safe { IsCountedSafe program.now counted.now live limit (calls_of frames.old) heap.old }
+    requires roomy { AreRoomy program.now frames.old }
+    ensures roomy { OnOk result (AreRoomy program.now frames.new) }
+    ensures run { IfOk result (λ ran. HasCountedRun program.now counted.now live limit (calls_of frames.old) heap.old ran.steps ran.mark ran.halted frames.new heap.new) }
+{
+    let mut left = limit;
+    let mut fuel = MOST_TOGETHER;
+    'steps: loop {
+        let method = frames.top.method;
+        let Some(own) = method_at(program, method) else {
+            return Err(NoMemory);
+        };
+        let Some(marks) = marks_of(counted, method) else {
+            return Err(NoMemory);
+        };
+        let marks = marks.as_slice();
+        let table = places.of_method(method);
+        let leg = run_frame(
+            alloc, program, own, marks, table, counted, live, frames, heap, left, fuel,
+        );
+        match leg.halt {
+            Halt::Stops => {
+                return Ok(CountedRun {
+                    steps: limit - leg.left,
+                    mark: false,
+                    halted: Halted::Stops,
+                });
+            }
+            Halt::Spent => {
+                return Ok(CountedRun {
+                    steps: limit - leg.left,
+                    mark: true,
+                    halted: Halted::Spent,
+                });
+            }
+            Halt::Lost => return Err(NoMemory),
+            // `run_frame` has done what is far
+            Halt::Far => return Err(NoMemory),
+            Halt::On => {
+                left = leg.left;
+                fuel = leg.fuel - 1;
+            }
+            Halt::Leaves(mark, moved, next) => {
+                let Ok(halted) = go_on(alloc, program, own, moved, next, frames) else {
+                    return Err(NoMemory);
+                };
+                match halted {
+                    Some(halted) => {
+                        return Ok(CountedRun {
+                            steps: limit - leg.left,
+                            mark,
+                            halted,
+                        });
+                    }
+                    None => {}
+                }
+                left = less_if(counts_by(mark, live), leg.left);
+                fuel = leg.fuel - 1;
+            }
+        }
+    }
+}

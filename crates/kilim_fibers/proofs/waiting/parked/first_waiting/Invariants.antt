@@ -1,5 +1,0 @@
-use Rattle.kilim_fibers.proofs.waiting.WaitLists.{NoneWaits}
-use Rattle.kilim_fibers.proofs.waiting.parked.first_waiting.Given as goal
-
-abbrev pub invariant-loop-i : goal.invariant-loop-i
-invariant-loop-i g l = NoneWaits l.waiters l.mailbox l.i

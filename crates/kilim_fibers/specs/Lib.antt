@@ -1,3 +1,0 @@
-pub mod Wishes
-pub mod Fibers
-pub mod waiting

@@ -1,4 +1,0 @@
-use Rattle.kilim_inherited.proofs.lookup.+has_any.Given as goal
-
-abbrev pub decreases-has_any : goal.decreases-has_any
-decreases-has_any l = l.levels

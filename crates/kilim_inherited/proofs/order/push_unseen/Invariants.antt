@@ -1,4 +1,0 @@
-use Rattle.kilim_inherited.proofs.order.push_unseen.Given as goal
-
-abbrev pub decreases-loop-left : goal.decreases-loop-left
-decreases-loop-left l = l.left

@@ -1,4 +1,0 @@
-use Rattle.kilim_inherited.proofs.put.+put.Given as goal
-
-abbrev pub decreases-put : goal.decreases-put
-decreases-put l = l.levels

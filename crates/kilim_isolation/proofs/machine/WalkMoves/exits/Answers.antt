@@ -1,0 +1,10 @@
+use Rattle.std.proofs.Common.{◌<◌, ℕ, List, Option, sym, subst}
+use Rattle.std.specs.List.{AllByRecursion}
+use Rattle.std.specs.Option.{IfSome}
+use Rattle.kilim_isolation.proofs.Inside.{exits_inside}
+use Rattle.kilim_isolation.proofs.machine.WalkMoves.exits.Goals as goal
+
+pub returns-clause-within : goal.returns-clause-within
+returns-clause-within c =
+    subst (λ (xs : List (Option ℕ)). AllByRecursion (λ x. IfSome x (λ q. q < c.args.self.now.method.now.code_length)) xs) (sym c.in-Ok.ensures)
+    (exits_inside c.args.self.now.method.now c.args.place c.args.self.now.whole)

@@ -1,0 +1,152 @@
+-- Worked examples, computed: what the paths of small methods give.
+use Rattle.std.specs.Prelude.{◌≡◌, ℕ, Bool, true, false, List, [], ◌∷◌, ◌++◌, Some, None, Result, Ok, Err, codes, pos, map, slice_get}
+use Rattle.kilim_program.specs.declared.class.Class.{Class}
+use Rattle.kilim_program.specs.declared.class.Field.{Field}
+use Rattle.kilim_program.specs.declared.class.Form.TheVariants.{Plain}
+use Rattle.kilim_program.specs.declared.class.Method.{Method}
+use Rattle.kilim_program.specs.declared.instr.Instr.{Instr}
+use Rattle.kilim_program.specs.declared.instr.Instr.TheVariants.{AconstNull, Iconst, Aload, Iload, Astore, Dup, Getfield, Putfield, Invokevirtual, Invokespecial, Invokestatic, New, Return}
+use Rattle.kilim_program.specs.declared.names.FieldId.{FieldId}
+use Rattle.kilim_program.specs.declared.names.MethodId.{MethodId}
+use Rattle.kilim_program.specs.declared.ty.Ty.{Ty}
+use Rattle.kilim_program.specs.declared.ty.Qualifier.{Qualifier}
+use Rattle.kilim_program.specs.declared.ty.Qualifier.TheVariants.{Cuttable, Safe}
+use Rattle.kilim_program.specs.Program.{Program}
+use Rattle.kilim_program.specs.BuiltIn.{class_id, method_id, class_type, int_type, built_in_classes, built_in_methods}
+use Rattle.kilim_type_spec.specs.Typed.{frames_of, listed}
+use Rattle.kilim_isolation_paths.specs.Folds.{folded}
+use Rattle.kilim_isolation_paths.specs.Paths.{Machine}
+use Rattle.kilim_isolation_graph.specs.declared.graph.Graph.{Graph}
+use Rattle.kilim_isolation.specs.Walks.{entry_graph, machine_of}
+
+-- the graph at the last place of a path, or the place and the rule of the first fault
+abbrev pub Walked : Type 0
+Walked = Result (ℕ × Graph) (ℕ × ℕ)
+
+-- with the step out of the last place, where that is a return
+abbrev pub with_last : Machine Graph → Walked → Walked
+with_last m (Err e) = Err e
+with_last m (Ok last) = elim (m.moves last.0 last.1 None) [ Ok g ↦ Ok last | Err n ↦ Err (last.0, n) ]
+
+abbrev pub walked_from : Program → Method → List ℕ → Result Graph ℕ → Walked
+walked_from p m rest (Err n) = Err (0, n)
+walked_from p m rest (Ok g) = folded (machine_of p m (map (listed m) (frames_of p m)) g) 0 g rest
+
+-- a path of a method, by the method's number; it begins at place 0
+abbrev pub along : Program → ℕ → List ℕ → Walked
+along p k rest = elim (slice_get p.methods k) [ None ↦ Err (0, 0) | Some m ↦ walked_from p m rest (entry_graph p m) ]
+
+abbrev pub field_id : ℕ → FieldId
+field_id n = record { 0 = n }
+
+abbrev pub is_ok : Walked → Bool
+is_ok (Ok g) = true
+is_ok (Err e) = false
+
+-- classes T (0), M (1) and N (2), the built-in ones from 3 on; methods: of T the constructor (0), execute (1), g (2) and
+-- h (3), of M the constructor (4), of N the constructor (5), the built-in ones from 6 on
+abbrev pub class : List ℕ → ℕ → Bool → List FieldId → List MethodId → Class
+class name up message fields methods = record { name = name; superclass = Some (class_id up); is_abstract = false; message = message; fields = fields; methods = methods }
+
+abbrev pub own_classes : List Class
+own_classes =
+    class (codes "T") 7 false (field_id 0 ∷ []) (method_id 0 ∷ method_id 1 ∷ method_id 2 ∷ method_id 3 ∷ [])
+    ∷ class (codes "M") 3 true (field_id 1 ∷ []) (method_id 4 ∷ [])
+    ∷ class (codes "N") 3 true (field_id 2 ∷ field_id 3 ∷ []) (method_id 5 ∷ [])
+    ∷ []
+
+abbrev pub field : List ℕ → Ty → ℕ → Field
+field name ty owner = record { name = name; ty = ty; owner = class_id owner; is_static = false; is_private = false; constant = None }
+
+abbrev pub own_fields : List Field
+own_fields = field (codes "box") (class_type 8) 0 ∷ field (codes "v") int_type 1 ∷ field (codes "f") (class_type 2) 2 ∷ field (codes "v") int_type 2 ∷ []
+
+abbrev pub method : List ℕ → ℕ → Bool → List Ty → Qualifier → List Qualifier → ℕ → List (ℕ × Instr) → Method
+method name owner is_static params receiver qualifiers end code = record {
+  name = name;
+  owner = class_id owner;
+  params = params;
+  result = None;
+  is_static = is_static;
+  is_private = false;
+  is_abstract = false;
+  built_in = false;
+  pausable = false;
+  receiver = receiver;
+  qualifiers = qualifiers;
+  max_stack = 4;
+  max_locals = 8;
+  code_length = end;
+  code = code;
+  frames = [];
+  handlers = [];
+}
+
+abbrev pub methods : ℕ → List (ℕ × Instr) → ℕ → List (ℕ × Instr) → List Method
+methods execute_end execute g_end g =
+    method (codes "<init>") 0 false [] Cuttable [] 5 ((0, Aload 0) ∷ (1, Invokespecial (method_id 10)) ∷ (4, Return) ∷ [])
+    ∷ method (codes "execute") 0 false [] Cuttable [] execute_end execute
+    ∷ method (codes "g") 0 true (class_type 2 ∷ []) Safe (Cuttable ∷ []) g_end g
+    ∷ method (codes "h") 0 true (class_type 2 ∷ class_type 2 ∷ []) Safe (Cuttable ∷ Safe ∷ []) 1 ((0, Return) ∷ [])
+    ∷ method (codes "<init>") 1 false (int_type ∷ []) Cuttable (Safe ∷ []) 10 ((0, Aload 0) ∷ (1, Invokespecial (method_id 6)) ∷ (4, Aload 0) ∷ (5, Iload 1) ∷ (6, Putfield (field_id 1)) ∷ (9, Return) ∷ [])
+    ∷ method (codes "<init>") 2 false [] Cuttable [] 5 ((0, Aload 0) ∷ (1, Invokespecial (method_id 6)) ∷ (4, Return) ∷ [])
+    ∷ built_in_methods 3
+
+abbrev pub program : ℕ → List (ℕ × Instr) → ℕ → List (ℕ × Instr) → Program
+program execute_end execute g_end g = record { classes = own_classes ++ built_in_classes 3 6; methods = methods execute_end execute g_end g; fields = own_fields; form = Plain }
+
+abbrev pub none : List (ℕ × Instr)
+none = (0, Return) ∷ []
+
+abbrev pub code_put_then_use : List (ℕ × Instr)
+code_put_then_use = (0, New (class_id 1)) ∷ (3, Dup) ∷ (4, Iconst (pos 1)) ∷ (5, Invokespecial (method_id 4)) ∷ (8, Astore 1) ∷ (9, Aload 0) ∷ (10, Getfield (field_id 0)) ∷ (13, Aload 1) ∷ (14, Invokevirtual (method_id 14)) ∷ (17, Aload 1) ∷ (18, Getfield (field_id 1)) ∷ (21, Invokestatic (method_id 17)) ∷ (24, Return) ∷ []
+
+abbrev pub run_put_then_use : Walked
+run_put_then_use = along (program 25 code_put_then_use 1 none) 1 (3 ∷ 4 ∷ 5 ∷ 8 ∷ 9 ∷ 10 ∷ 13 ∷ 14 ∷ 17 ∷ 18 ∷ [])
+
+abbrev pub code_second_name : List (ℕ × Instr)
+code_second_name = (0, New (class_id 2)) ∷ (3, Dup) ∷ (4, Invokespecial (method_id 5)) ∷ (7, Astore 1) ∷ (8, Aload 1) ∷ (9, Getfield (field_id 2)) ∷ (12, Astore 2) ∷ (13, Aload 1) ∷ (14, Getfield (field_id 2)) ∷ (17, Astore 3) ∷ (18, Aload 1) ∷ (19, AconstNull) ∷ (20, Putfield (field_id 2)) ∷ (23, Aload 0) ∷ (24, Getfield (field_id 0)) ∷ (27, Aload 2) ∷ (28, Invokevirtual (method_id 14)) ∷ (31, Aload 3) ∷ (32, Getfield (field_id 3)) ∷ (35, Invokestatic (method_id 17)) ∷ (38, Return) ∷ []
+
+abbrev pub run_second_name : Walked
+run_second_name = along (program 39 code_second_name 1 none) 1 (3 ∷ 4 ∷ 7 ∷ 8 ∷ 9 ∷ 12 ∷ 13 ∷ 14 ∷ 17 ∷ 18 ∷ 19 ∷ 20 ∷ 23 ∷ 24 ∷ 27 ∷ 28 ∷ 31 ∷ 32 ∷ [])
+
+abbrev pub code_cut_and_put : List (ℕ × Instr)
+code_cut_and_put = (0, New (class_id 2)) ∷ (3, Dup) ∷ (4, Invokespecial (method_id 5)) ∷ (7, Astore 1) ∷ (8, Aload 1) ∷ (9, Getfield (field_id 2)) ∷ (12, Astore 2) ∷ (13, Aload 2) ∷ (14, Getfield (field_id 2)) ∷ (17, Astore 3) ∷ (18, Aload 2) ∷ (19, AconstNull) ∷ (20, Putfield (field_id 2)) ∷ (23, Aload 1) ∷ (24, Aload 3) ∷ (25, Putfield (field_id 2)) ∷ (28, Aload 0) ∷ (29, Getfield (field_id 0)) ∷ (32, Aload 2) ∷ (33, Invokevirtual (method_id 14)) ∷ (36, Return) ∷ []
+
+abbrev pub run_cut_and_put : Walked
+run_cut_and_put = along (program 37 code_cut_and_put 1 none) 1 (3 ∷ 4 ∷ 7 ∷ 8 ∷ 9 ∷ 12 ∷ 13 ∷ 14 ∷ 17 ∷ 18 ∷ 19 ∷ 20 ∷ 23 ∷ 24 ∷ 25 ∷ 28 ∷ 29 ∷ 32 ∷ 33 ∷ 36 ∷ [])
+
+abbrev pub code_into_itself : List (ℕ × Instr)
+code_into_itself = (0, New (class_id 2)) ∷ (3, Dup) ∷ (4, Invokespecial (method_id 5)) ∷ (7, Astore 1) ∷ (8, Aload 1) ∷ (9, Aload 1) ∷ (10, Putfield (field_id 2)) ∷ (13, Return) ∷ []
+
+abbrev pub run_into_itself : Walked
+run_into_itself = along (program 14 code_into_itself 1 none) 1 (3 ∷ 4 ∷ 7 ∷ 8 ∷ 9 ∷ 10 ∷ 13 ∷ [])
+
+abbrev pub code_cuttable_stored : List (ℕ × Instr)
+code_cuttable_stored = (0, New (class_id 2)) ∷ (3, Dup) ∷ (4, Invokespecial (method_id 5)) ∷ (7, Astore 1) ∷ (8, Aload 1) ∷ (9, Aload 0) ∷ (10, Putfield (field_id 2)) ∷ (13, Return) ∷ []
+
+abbrev pub run_cuttable_stored : Walked
+run_cuttable_stored = along (program 1 none 14 code_cuttable_stored) 2 (3 ∷ 4 ∷ 7 ∷ 8 ∷ 9 ∷ 10 ∷ 13 ∷ [])
+
+abbrev pub code_passed_twice : List (ℕ × Instr)
+code_passed_twice = (0, New (class_id 2)) ∷ (3, Dup) ∷ (4, Invokespecial (method_id 5)) ∷ (7, Astore 1) ∷ (8, Aload 1) ∷ (9, Aload 1) ∷ (10, Invokestatic (method_id 3)) ∷ (13, Return) ∷ []
+
+abbrev pub run_passed_twice : Walked
+run_passed_twice = along (program 14 code_passed_twice 1 none) 1 (3 ∷ 4 ∷ 7 ∷ 8 ∷ 9 ∷ 10 ∷ 13 ∷ [])
+
+abbrev pub code_new_message : List (ℕ × Instr)
+code_new_message = (0, New (class_id 1)) ∷ (3, Dup) ∷ (4, Iconst (pos 1)) ∷ (5, Invokespecial (method_id 4)) ∷ (8, Astore 1) ∷ (9, Aload 0) ∷ (10, Getfield (field_id 0)) ∷ (13, Aload 1) ∷ (14, Invokevirtual (method_id 14)) ∷ (17, New (class_id 1)) ∷ (20, Dup) ∷ (21, Iconst (pos 2)) ∷ (22, Invokespecial (method_id 4)) ∷ (25, Astore 1) ∷ (26, Aload 1) ∷ (27, Getfield (field_id 1)) ∷ (30, Invokestatic (method_id 17)) ∷ (33, Return) ∷ []
+
+abbrev pub run_new_message : Walked
+run_new_message = along (program 34 code_new_message 1 none) 1 (3 ∷ 4 ∷ 5 ∷ 8 ∷ 9 ∷ 10 ∷ 13 ∷ 14 ∷ 17 ∷ 20 ∷ 21 ∷ 22 ∷ 25 ∷ 26 ∷ 27 ∷ 30 ∷ 33 ∷ [])
+
+-- what they say: a message put and used, the second name of a cut child, a child cut and put, a root into itself, a cuttable
+-- parameter into a new object, one object passed as cuttable and safe, a variable with a new message
+pub record ExamplesHold : Type 0 where
+  pub put_then_use : run_put_then_use ≡ Err (17, 2)
+  pub second_name : run_second_name ≡ Err (31, 2)
+  pub cut_and_put : is_ok run_cut_and_put ≡ true
+  pub into_itself : run_into_itself ≡ Err (10, 4)
+  pub cuttable_stored : run_cuttable_stored ≡ Err (10, 1)
+  pub passed_twice : run_passed_twice ≡ Err (10, 5)
+  pub new_message : is_ok run_new_message ≡ true

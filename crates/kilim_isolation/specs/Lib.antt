@@ -1,0 +1,11 @@
+pub mod Walks
+pub mod Tables
+pub mod Mark
+pub mod Faults
+pub mod Judged
+pub mod Answers
+pub mod IsolatedProgram
+pub mod Examples
+pub mod Laws
+pub mod Checked
+pub mod Made

@@ -1,0 +1,142 @@
+//! The step of an instruction on a path.
+
+ghost use Rattle.std.specs.Prelude.{◌≡◌, IfOk, option_copied};
+ghost use Rattle.std.specs.Option.{option_map};
+ghost use Rattle.kilim_type_spec.specs.Typed.{frame_types};
+ghost use Rattle.kilim_isolation_rules.specs.Answers.{IsLeft, IsStep};
+ghost use Rattle.kilim_isolation_rules.specs.Marks.{flow_mixes};
+ghost use Rattle.kilim_isolation_rules.specs.Rules as spec;
+ghost use Rattle.kilim_isolation.specs.Made.{is_new};
+
+use kilim_isolation_graph::{Graph, turned};
+use kilim_isolation_rules::{Deed, StepFault, any_mixes, deed_of, judge};
+use kilim_program::{Frame, Instr, Method, Program, VType};
+use kilim_type_step::{State, StepFault as TypeFault, state_of, type_step};
+use kilim_units::NoMemory;
+use std::alloc::Global;
+
+fn is_new(instr: &Instr) -> bool
+    ensures { result ≡ is_new instr.now }
+{
+    match instr {
+        Instr::New(_) => true,
+        _ => false,
+    }
+}
+
+// The types that an instruction leaves, or none where it breaks a rule of typing.
+#[tactic(auto, using(crate::proofs::Left::left_new, crate::proofs::Left::left_else))]
+fn left(
+    alloc: Global,
+    program: &Program,
+    method: &Method,
+    before: &Frame,
+    instr: &Instr,
+) -> Result<Option<State>, NoMemory>
+    ensures { IfOk result (λ left. IsLeft (spec.left_by program.now method.now instr.now (frame_types before.now)) left) }
+{
+    let Ok(mut state) = state_of(alloc, before) else {
+        return Err(NoMemory);
+    };
+    if is_new(instr) {
+        let Ok(()) = state.push(VType::Top) else {
+            return Err(NoMemory);
+        };
+        return Ok(Some(state));
+    }
+    match type_step(alloc, program, method, 0, instr, &mut state) {
+        Ok(()) => Ok(Some(state)),
+        Err(TypeFault::Rule(_)) => Ok(None),
+        Err(TypeFault::Memory) => Err(NoMemory),
+    }
+}
+
+// Whether a tree becomes private where types flow into a declared frame.
+fn mixes_into(
+    alloc: Global,
+    program: &Program,
+    state: &State,
+    frame: &Frame,
+) -> Result<bool, NoMemory>
+    ensures { IfOk result (λ mix. mix ≡ flow_mixes program.now state.now (frame_types frame.now)) }
+{
+    let Ok(from) = turned::<VType>(alloc, state.stack()) else {
+        return Err(NoMemory);
+    };
+    let Ok(into) = turned::<VType>(alloc, frame.stack.as_slice()) else {
+        return Err(NoMemory);
+    };
+    Ok(
+        any_mixes(program, state.locals(), frame.locals.as_slice())
+            || any_mixes(program, &from, &into),
+    )
+}
+
+// Whether a tree becomes private in the frame that is declared at the next place, where one is.
+fn flows_mix(
+    alloc: Global,
+    program: &Program,
+    method: &Method,
+    before: &Frame,
+    instr: &Instr,
+    after: Option<&Frame>,
+) -> Result<bool, NoMemory>
+    ensures { IfOk result (λ mix. mix ≡ spec.any_flow_mixes program.now (spec.left_by program.now method.now instr.now (frame_types before.now)) (option_map frame_types (option_copied after.entry))) }
+{
+    let Some(frame) = after else {
+        return Ok(false);
+    };
+    match left(alloc, program, method, before, instr) {
+        Ok(Some(state)) => {
+            let mixes = mixes_into(alloc, program, &state, frame);
+            drop(state);
+            mixes
+        }
+        Ok(None) => Ok(false),
+        Err(NoMemory) => Err(NoMemory),
+    }
+}
+
+// What an instruction does to a graph.
+fn deed(
+    alloc: Global,
+    program: &Program,
+    method: &Method,
+    graph: &Graph,
+    before: &Frame,
+    instr: &Instr,
+) -> Result<Deed, NoMemory>
+    ensures { IfOk result (λ deed. deed ≡ spec.deed program.now method.now graph.now (frame_types before.now) instr.now) }
+{
+    let Ok(types) = turned::<VType>(alloc, before.stack.as_slice()) else {
+        return Err(NoMemory);
+    };
+    let deed = deed_of(alloc, program, method, graph, &types, instr);
+    drop(types);
+    deed
+}
+
+/// The graph that an instruction leaves, or the least of the rules 1 to 7 and 9 that it breaks. `before` is the verified frame at
+/// the instruction, `after` the one that is declared at the next place of the path, or none. The graph is the one before its
+/// canonical form at the next place is taken.
+#[tactic(auto, unfolding(kilim_isolation_rules::specs::Rules::moves))]
+pub fn transfer(
+    alloc: Global,
+    program: &Program,
+    method: &Method,
+    graph: &Graph,
+    before: &Frame,
+    instr: &Instr,
+    after: Option<&Frame>,
+) -> Result<Graph, StepFault>
+    ensures { IsStep (spec.moves program.now method.now graph.now (frame_types before.now) instr.now (option_map frame_types (option_copied after.entry))) result }
+{
+    let flows = match flows_mix(alloc, program, method, before, instr, after) {
+        Ok(flows) => flows,
+        Err(NoMemory) => return Err(StepFault::Memory),
+    };
+    match deed(alloc, program, method, graph, before, instr) {
+        Ok(deed) => judge(deed, flows),
+        Err(NoMemory) => Err(StepFault::Memory),
+    }
+}

@@ -1,0 +1,126 @@
+//! The steps of a method's instructions.
+
+ghost use Rattle.std.specs.Prelude.{◌≡◌, ◌<◌, true, length, Some, None, Ok, Err, IfOk, option_copied};
+ghost use Rattle.std.specs.Option.{option_map, IfSome};
+ghost use Rattle.kilim_program.specs.Keeps.{code_is_whole};
+ghost use Rattle.kilim_program.specs.Names.{method_at};
+ghost use Rattle.kilim_type_spec.specs.Typed.{frame_types};
+ghost use Rattle.kilim_isolation_graph.specs.Canonical.{canonical_at};
+ghost use Rattle.kilim_isolation_rules.specs.Answers.{IsStep};
+ghost use Rattle.kilim_isolation.specs.Answers.{IsStepOf};
+ghost use Rattle.kilim_isolation.specs.Tables.{IsTable, places_of};
+ghost use Rattle.kilim_isolation.specs.Walks as spec;
+
+use crate::exits::exits_of;
+use crate::tables::{declared_by, fetch, frame_by};
+use crate::transfer;
+use kilim_isolation_graph::Graph;
+use kilim_isolation_rules::StepFault;
+use kilim_program::{Frame, Instr, Method, MethodId, Program};
+use kilim_units::{NoMemory, Seq};
+use std::alloc::Global;
+
+/// A law, and no work: the code of a program's method is whole.
+pub fn whole(program: &Program, id: MethodId, method: &Method)
+    requires { method_at program.now id ≡ Some method.now }
+    ensures { code_is_whole method.now ≡ true }
+{
+    let _classes = &program.classes;
+}
+
+/// The exits of a place.
+pub fn exits_at(
+    alloc: Global,
+    method: &Method,
+    code_at: &[usize],
+    place: u32,
+) -> Result<Seq<Option<u32>>, NoMemory>
+    requires table { IsTable code_at.now (places_of method.now.code) method.now.code_length }
+    requires place { place < method.now.code_length }
+    ensures { IfOk result (λ exits. exits ≡ spec.exits_at method.now place) }
+{
+    match fetch(method, code_at, place) {
+        None => Ok(Seq::new(alloc)),
+        Some((instr, next)) => exits_of(alloc, instr, next),
+    }
+}
+
+fn canonical(alloc: Global, graph: &Graph, after: Option<&Frame>) -> Result<Graph, StepFault>
+    ensures { IsStep (Ok (canonical_at (option_map frame_types (option_copied after.entry)) graph.now)) result }
+{
+    match graph.canonical(alloc, after) {
+        Ok(graph) => Ok(graph),
+        Err(NoMemory) => Err(StepFault::Memory),
+    }
+}
+
+// A step of an instruction, with the verified frame there.
+fn step_by(
+    alloc: Global,
+    program: &Program,
+    method: &Method,
+    graph: &Graph,
+    before: &Frame,
+    instr: &Instr,
+    after: Option<&Frame>,
+) -> Result<Graph, StepFault>
+    ensures { IsStepOf program.now method.now graph.now (frame_types before.now) instr.now (option_map frame_types (option_copied after.entry)) result }
+{
+    match transfer(alloc, program, method, graph, before, instr, after) {
+        Ok(left) => {
+            let stepped = canonical(alloc, &left, after);
+            drop(left);
+            stepped
+        }
+        Err(fault) => Err(fault),
+    }
+}
+
+// The frame that is declared at the place of an exit, or none.
+fn declared_to<'a>(method: &'a Method, frames_at: &[usize], exit: Option<u32>) -> Option<&'a Frame>
+    requires table { IsTable frames_at.now (places_of method.now.frames) method.now.code_length }
+    requires place { IfSome exit (λ to. to < method.now.code_length) }
+    ensures { option_map frame_types (option_copied result) ≡ spec.declared_to method.now exit }
+{
+    match exit {
+        None => None,
+        Some(to) => declared_by(method, frames_at, to),
+    }
+}
+
+/// The step at a place towards an exit: the graph there in its canonical form, or the least rule that is broken.
+#[tactic(auto, unfolding(crate::specs::Walks::step))]
+pub fn step(
+    alloc: Global,
+    program: &Program,
+    method: &Method,
+    code_at: &[usize],
+    frames_at: &[usize],
+    frames: &[Frame],
+    place: u32,
+    graph: &Graph,
+    exit: Option<u32>,
+) -> Result<Graph, StepFault>
+    requires code { IsTable code_at.now (places_of method.now.code) method.now.code_length }
+    requires declared { IsTable frames_at.now (places_of method.now.frames) method.now.code_length }
+    requires place { place < method.now.code_length }
+    requires exit { IfSome exit (λ to. to < method.now.code_length) }
+    ensures { IsStep (spec.step program.now method.now frames.now place graph.now exit) result }
+{
+    let Some((instr, _)) = fetch(method, code_at, place) else {
+        return Err(StepFault::Rule(0));
+    };
+    let after = declared_to(method, frames_at, exit);
+    match frame_by(method, code_at, frames, place) {
+        Some(before) => step_by(alloc, program, method, graph, before, instr, after),
+        None => {
+            let nothing = Frame {
+                locals: Seq::new(alloc),
+                stack: Seq::new(alloc),
+            };
+            let stepped = step_by(alloc, program, method, graph, &nothing, instr, after);
+            drop(nothing);
+            stepped
+        }
+    }
+}

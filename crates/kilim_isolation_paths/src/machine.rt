@@ -1,0 +1,48 @@
+//! Machines whose paths are searched.
+
+ghost use Rattle.std.specs.Prelude.{◌≡◌, ◌<◌, ◌≤◌, ◌++◌, ◌∷◌, [], ℕ, List, Option, Result, length, slice_get, IsTrue, ◌↔◌, IfOk, OnOk, OnErr, IfSome};
+ghost use Rattle.std.specs.List.{AllByRecursion, AllZip};
+ghost use Rattle.kilim_isolation_paths.specs.Paths.{Machine, Has};
+
+use kilim_units::{NoMemory, Seq};
+
+/// A state that can be compared.
+pub trait State: Drop {
+    fn is_same(&self, other: &Self) -> bool
+        ensures { IsTrue result ↔ (self.now ≡ other.now) };
+}
+
+/// Places, the exits of each, and the steps.
+pub trait Moves {
+    type State: State;
+
+    /// What it is.
+    ghost means: { Self → Machine Self.State };
+
+    /// What is known of a state that reaches a place.
+    ghost fits: { Self → ℕ → Self.State → Type 0 };
+
+    fn size(&self) -> usize
+        ensures { result ≡ (means self.now).size };
+
+    fn entry(&self) -> Result<Self::State, NoMemory>
+        ensures place { 0 < (means self.now).size }
+        ensures state { IfOk result (λ s. (s ≡ (means self.now).entry) × fits self.now 0 s) };
+
+    /// The exits of a place: to a next place, or out.
+    fn exits(&self, place: u32) -> Result<Seq<Option<u32>>, NoMemory>
+        requires { place < (means self.now).size }
+        ensures exits { IfOk result (λ xs. xs ≡ (means self.now).exits place) }
+        ensures within { IfOk result (λ xs. AllByRecursion (λ x. IfSome x (λ q. q < (means self.now).size)) xs) };
+
+    fn step(
+        &self,
+        place: u32,
+        state: &Self::State,
+        exit: Option<u32>,
+    ) -> Result<Result<Self::State, u8>, NoMemory>
+        requires fits { fits self.now place state.now }
+        requires exit { Has ((means self.now).exits place) exit }
+        ensures step { IfOk result (λ r. r ≡ (means self.now).moves place state.now exit) }
+        ensures fits { IfOk result (λ r. IfOk r (λ t. IfSome exit (λ q. fits self.now q t))) };
+}

@@ -1,0 +1,115 @@
+//! The states that were found.
+
+ghost use Rattle.std.specs.Prelude.{◌≡◌, ◌<◌, ◌≤◌, ◌++◌, ◌∷◌, [], ℕ, List, Option, Result, length, slice_get, IsTrue, ◌↔◌, IfOk, OnOk, OnErr, IfSome};
+ghost use Rattle.std.specs.List.{AllByRecursion, AllZip};
+ghost use Rattle.kilim_isolation_paths.specs.Paths.{Has};
+ghost use Rattle.kilim_isolation_paths.specs.Search.{states_at, IsAt};
+ghost use Rattle.kilim_isolation_paths.specs.Stored.{positions};
+
+use crate::machine::State;
+use kilim_units::NoMemory;
+use std::alloc::Global;
+use std::marker::Model;
+
+/// A state that reached a place, and the entry from which it came.
+#[derive(Drop)]
+pub struct Reached<S> {
+    pub place: u32,
+    pub state: S,
+    pub from: usize,
+}
+
+/// The entries, and for each place which of them stand there.
+#[derive(Drop)]
+pub struct Store<S> {
+    entries: Vec<Reached<S>>,
+    rows: Vec<Vec<usize>>,
+}
+
+impl<S> Model for Store<S> {
+    ghost use Rattle.std.specs.Prelude.{length};
+    ghost use Rattle.kilim_isolation_paths.specs.Stored.{Stored, AreRows};
+
+    ghost Value = { Stored S };
+
+    ghost view = { λ s. record { entries = s.entries.items; size = length s.rows.items } };
+
+    ghost invariant = { λ s. AreRows s.entries.items s.rows.items };
+}
+
+impl<S: State> Store<S> {
+    pub fn new(alloc: Global, size: usize) -> Result<Store<S>, NoMemory>
+        ensures { IfOk result (λ s. s ≡ record { entries = []; size = size }) }
+    {
+        let mut rows = Vec::new(alloc);
+        for _ in 0..size {
+            let Ok(()) = rows.push(Vec::new(alloc)) else {
+                return Err(NoMemory);
+            };
+        }
+        Ok(Store {
+            entries: Vec::new(alloc),
+            rows,
+        })
+    }
+
+    pub fn len(&self) -> usize
+        ensures { result ≡ length self.now.entries }
+    {
+        self.entries.len()
+    }
+
+    pub fn get(&self, at: usize) -> &Reached<S>
+        requires { at < length self.now.entries }
+        ensures { IsAt self.now.entries at result.now }
+    {
+        &self.entries[at]
+    }
+
+    /// Where the entries of the place stand.
+    pub fn row(&self, place: u32) -> &[usize]
+        requires { place < self.now.size }
+        ensures { result.now ≡ positions place 0 self.now.entries }
+    {
+        &self.rows[place as usize]
+    }
+
+    /// Whether the state was found at the place.
+    pub fn has(&self, place: u32, state: &S) -> bool
+        requires { place < self.now.size }
+        ensures { IsTrue result ↔ Has (states_at place self.now.entries) state.now }
+    {
+        for k in self.row(place) {
+            if self.get(*k).state.is_same(state) {
+                return true;
+            }
+        }
+        false
+    }
+
+    /// How many states were found at the place.
+    pub fn count(&self, place: u32) -> usize
+        requires { place < self.now.size }
+        ensures { result ≡ length (states_at place self.now.entries) }
+    {
+        self.row(place).len()
+    }
+
+    pub fn push(&mut self, place: u32, state: S, from: usize) -> Result<(), NoMemory>
+        requires { place < self.old.size }
+        ensures ok { OnOk result (self.new ≡ record self.old { entries = self.old.entries ++ record { place = place; state = state; from = from } ∷ [] }) }
+        ensures err { OnErr result (self.new ≡ self.old) }
+    {
+        let at = self.entries.len();
+        let Ok(()) = self.entries.push(Reached { place, state, from }) else {
+            return Err(NoMemory);
+        };
+        match self.rows[place as usize].push(at) {
+            Ok(()) => Ok(()),
+            Err(_) => {
+                self.entries.truncate(at);
+                Err(NoMemory)
+            }
+        }
+    }
+}

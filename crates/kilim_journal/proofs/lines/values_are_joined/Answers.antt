@@ -1,5 +1,0 @@
-use Rattle.kilim_journal.proofs.Joined.{values_are_joined}
-use Rattle.kilim_journal.proofs.lines.values_are_joined.Goals as goal
-
-pub returns : goal.returns
-returns c = values_are_joined

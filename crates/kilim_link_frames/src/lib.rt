@@ -1,9 +1,0 @@
-//! The declared frames of methods, linked: by slots, each with its place.
-#![tactic(auto)]
-
-mod begin;
-mod entries;
-mod frames;
-mod slots;
-
-pub use frames::frames_in;

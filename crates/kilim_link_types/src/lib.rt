@@ -1,9 +1,0 @@
-//! Types and qualifiers by the texts of class files, where classes are looked up in a world.
-#![tactic(auto)]
-
-mod marks;
-mod methods;
-mod types;
-
-pub use methods::qualified;
-pub use types::{class_named_by, type_in, type_named};

@@ -1,5 +1,0 @@
-use Rattle.kilim_liveness.specs.Marks.{BeforeSoFar}
-use Rattle.kilim_liveness.proofs.before.befores.Given as goal
-
-abbrev pub invariant-loop-at : goal.invariant-loop-at
-invariant-loop-at l = BeforeSoFar l.fn.method l.fn.size l.at l.rows.items

@@ -1,5 +1,0 @@
-use Rattle.kilim_liveness.specs.Listing.{EdgesUpTo}
-use Rattle.kilim_liveness.proofs.list.edges.Given as goal
-
-abbrev pub invariant-loop-at : goal.invariant-loop-at
-invariant-loop-at l = EdgesUpTo l.fn.method l.at l.pairs.items

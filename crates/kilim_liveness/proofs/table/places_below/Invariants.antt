@@ -1,6 +1,0 @@
-use Rattle.std.proofs.Common.{◌<◌}
-use Rattle.kilim_liveness.specs.Marks.{EachUpTo}
-use Rattle.kilim_liveness.proofs.table.places_below.Given as goal
-
-abbrev pub invariant-loop-at : goal.invariant-loop-at
-invariant-loop-at l = EachUpTo l.at l.fn.method.code (λ e. e.0 < l.most)

@@ -1,6 +1,0 @@
-use Rattle.std.proofs.Common.{◌≡◌}
-use Rattle.kilim_classes.specs.machine.Moves.{slots_of}
-use Rattle.kilim_machine_parts.proofs.frames.frame.laid.Given as goal
-
-abbrev pub invariant-loop-value : goal.invariant-loop-value
-invariant-loop-value l = l.items ≡ slots_of l.yielded

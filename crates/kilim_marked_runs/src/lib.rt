@@ -1,8 +1,0 @@
-//! The interpreter on a program with a mark for each instruction: many steps, of which the marked ones count.
-#![tactic(auto)]
-
-mod places;
-mod runs;
-
-pub use places::Places;
-pub use runs::{CountedRun, Halted, run_counted};

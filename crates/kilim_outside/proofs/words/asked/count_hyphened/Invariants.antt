@@ -1,7 +1,0 @@
-use Rattle.std.proofs.Common.{◌≡◌, ◌+◌, map, drop}
-use Rattle.std.specs.String.{string_bytes}
-use Rattle.kilim_outside.specs.words.Words.{count_hyphened}
-use Rattle.kilim_outside.proofs.words.asked.count_hyphened.Given as goal
-
-abbrev pub invariant-loop-i : goal.invariant-loop-i
-invariant-loop-i l = l.i + count_hyphened (map string_bytes (drop l.i l.words)) ≡ count_hyphened (map string_bytes l.words)

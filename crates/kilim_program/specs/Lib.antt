@@ -1,0 +1,13 @@
+pub mod Program
+pub mod Names
+pub mod BuiltIn
+pub mod Kinds
+pub mod Same
+pub mod Fits
+pub mod Lengths
+pub mod Keeps
+pub mod Examples
+pub mod Broken
+pub mod lookups
+pub mod main_class
+pub mod Members

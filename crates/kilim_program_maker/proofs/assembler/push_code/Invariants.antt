@@ -1,6 +1,0 @@
-use Rattle.std.proofs.Common.{◌≡◌, ◌++◌, drop}
-use Rattle.kilim_program_maker.specs.Assembler.{code_of}
-use Rattle.kilim_program_maker.proofs.assembler.push_code.Given as goal
-
-abbrev pub invariant-loop-op : goal.invariant-loop-op
-invariant-loop-op l = l.code.items ++ code_of (drop l.op-index l.ops) ≡ l.fn.code.items ++ code_of l.ops

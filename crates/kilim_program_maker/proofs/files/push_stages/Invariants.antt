@@ -1,6 +1,0 @@
-use Rattle.std.proofs.Common.{◌≡◌, ◌++◌, ◌+◌, drop}
-use Rattle.kilim_program_maker.specs.Demo.{stage_files}
-use Rattle.kilim_program_maker.proofs.files.push_stages.Given as goal
-
-abbrev pub invariant-loop-index : goal.invariant-loop-index
-invariant-loop-index l = l.files.items ++ stage_files (l.index + 1) l.messages (drop l.index l.stages) ≡ l.fn.files.items ++ stage_files 1 l.messages l.stages

@@ -1,8 +1,0 @@
-use Rattle.kilim_program_maker.proofs.Fits.{demo_fits, demo_is_short}
-use Rattle.kilim_program_maker.proofs.laws.demo_fits.Goals as goal
-
-pub returns-clause-fits : goal.returns-clause-fits
-returns-clause-fits c = demo_fits c.class_file_is_spelled.ensures
-
-pub returns-clause-short : goal.returns-clause-short
-returns-clause-short c = demo_is_short

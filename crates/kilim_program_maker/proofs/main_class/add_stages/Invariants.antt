@@ -1,6 +1,0 @@
-use Rattle.std.proofs.Common.{◌≡◌, ◌++◌, ◌+◌, ◌-◌}
-use Rattle.kilim_program_maker.specs.MainClass.{stage_entries_from}
-use Rattle.kilim_program_maker.proofs.main_class.add_stages.Given as goal
-
-abbrev pub invariant-loop-k : goal.invariant-loop-k
-invariant-loop-k l = l.pool ++ stage_entries_from (l.k + 1) (l.stages - l.k) ≡ l.fn.pool ++ stage_entries_from 1 l.stages

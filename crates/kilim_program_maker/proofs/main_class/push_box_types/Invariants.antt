@@ -1,6 +1,0 @@
-use Rattle.std.proofs.Common.{◌≡◌, ◌++◌, ◌-◌}
-use Rattle.kilim_program_maker.specs.MainClass.{box_types}
-use Rattle.kilim_program_maker.proofs.main_class.push_box_types.Given as goal
-
-abbrev pub invariant-loop : goal.invariant-loop
-invariant-loop l = l.types ++ box_types (l.count - l.counter) ≡ l.fn.types ++ box_types l.count

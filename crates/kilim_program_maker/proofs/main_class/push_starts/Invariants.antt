@@ -1,6 +1,0 @@
-use Rattle.std.proofs.Common.{◌≡◌, ◌++◌, ◌-◌}
-use Rattle.kilim_program_maker.specs.MainClass.{starts_from}
-use Rattle.kilim_program_maker.proofs.main_class.push_starts.Given as goal
-
-abbrev pub invariant-loop-k : goal.invariant-loop-k
-invariant-loop-k l = l.code.items ++ starts_from l.k (l.count - l.k) ≡ l.fn.code.items ++ starts_from 0 l.count

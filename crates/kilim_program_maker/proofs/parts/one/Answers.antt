@@ -1,5 +1,0 @@
-use Rattle.std.proofs.Common.{[], ◌∷◌, ◌++◌, ap, ◌∙◌}
-use Rattle.kilim_program_maker.proofs.parts.one.Goals as goal
-
-pub returns : goal.returns
-returns g c = c.in-Ok.ensures.ok ∙ ap (λ xs. xs ++ c.args.first ∷ []) c.new-items.ensures

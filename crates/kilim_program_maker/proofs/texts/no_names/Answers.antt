@@ -1,5 +1,0 @@
-use Rattle.kilim_program_maker.proofs.Loops.{one_longer}
-use Rattle.kilim_program_maker.proofs.texts.no_names.Goals as goal
-
-pub loop-preserved : goal.loop-preserved
-loop-preserved c = one_longer c.loop.names c.push.new.self c.loop.counter _ c.loop.invariant c.in-Ok.ensures.ok

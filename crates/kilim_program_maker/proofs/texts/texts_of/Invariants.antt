@@ -1,6 +1,0 @@
-use Rattle.std.proofs.Common.{◌≡◌, map, take}
-use Rattle.kilim_classfile.specs.Text.{class_text}
-use Rattle.kilim_program_maker.proofs.texts.texts_of.Given as goal
-
-abbrev pub invariant-loop-file : goal.invariant-loop-file
-invariant-loop-file l = l.texts ≡ map class_text (take l.file-index l.files)

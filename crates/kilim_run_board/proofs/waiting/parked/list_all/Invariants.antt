@@ -1,0 +1,7 @@
+use Rattle.std.proofs.Common.{◌≡◌, ◌++◌}
+use Rattle.std.specs.VecDeque.{deque_items}
+use Rattle.kilim_run_board.specs.waiting.Parked.{in_order}
+use Rattle.kilim_run_board.proofs.waiting.parked.list_all.Given as goal
+
+abbrev pub invariant-loop-name : goal.invariant-loop-name
+invariant-loop-name g l = l.waiters.items ++ in_order deque_items l.name-iterator ≡ in_order deque_items l.fn.queues.entries

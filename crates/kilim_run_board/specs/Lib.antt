@@ -1,0 +1,7 @@
+pub mod Places
+pub mod Board
+pub mod Seen
+pub mod Laws
+pub mod fibers
+pub mod mailbox
+pub mod waiting

@@ -1,0 +1,37 @@
+use Rattle.std.proofs.Common.{◌≡◌, ◌∙◌, sym, ap, refl, ◌<◌, ◌≤◌, ◌+◌, Bool, true, false, Option, Some, None, length, take, drop, reverse, slice_get, arith}
+use Rattle.kilim_run_interp.specs.declared.instruction.calls.Target.TheVariants.{NoReceiver, WithCode, BuiltIn, Nowhere}
+use Rattle.kilim_run_interp.specs.instruction.Calls.{Reaches}
+use Rattle.kilim_run_interp.proofs.instruction.Invokes.{virtual_there, virtual_found, virtual_calls, virtual_asks, virtual_null, virtual_nowhere}
+use Rattle.kilim_run_interp.proofs.instruction.calls.call_chosen.Goals as goal
+
+pub unreachable-requires : goal.unreachable-requires
+unreachable-requires c =
+    let less = virtual_there c.args.program.now c.args.own.now c.args.method c.args.named.now c.args.next c.args.frame.now.locals c.args.frame.now.stack.values c.args.heap.now c.requires.there c.requires.other c.requires.fine in
+    omega (arith, less, c.len-count.ensures, c.len-height.ensures, c.if-count-height.true)
+
+pub reached-requires : goal.reached-requires
+reached-requires c = virtual_found c.args.program.now c.args.own.now c.args.method c.args.named.now c.args.next c.args.frame.now.locals c.args.frame.now.stack.values c.args.heap.now c.requires.there c.peek.result.now c.requires.other (rw c.len-count.ensures at c.peek.ensures) c.requires.fine
+
+pub returns-in-WithCode : goal.returns-in-WithCode
+returns-in-WithCode c =
+    let less = virtual_there c.args.program.now c.args.own.now c.args.method c.args.named.now c.args.next c.args.frame.now.locals c.args.frame.now.stack.values c.args.heap.now c.requires.there c.requires.other c.requires.fine in
+    let reaches : Reaches c.args.program.now c.args.named.now c.args.method c.peek.result.now c.args.heap.now (WithCode c.in-WithCode.id) = rw c.in-WithCode.is at c.reached.ensures in
+    let calls = virtual_calls c.args.program.now c.args.own.now c.args.method c.args.named.now c.args.next c.args.frame.now.locals c.args.frame.now.stack.values c.args.heap.now c.requires.there c.peek.result.now c.in-WithCode.id c.requires.other (rw c.len-count.ensures at c.peek.ensures) reaches in
+    record { step = rw c.len-count.ensures (omega (arith, less), calls, record { frame = refl; heap = refl }) }
+
+pub returns-in-BuiltIn : goal.returns-in-BuiltIn
+returns-in-BuiltIn c =
+    let less = virtual_there c.args.program.now c.args.own.now c.args.method c.args.named.now c.args.next c.args.frame.now.locals c.args.frame.now.stack.values c.args.heap.now c.requires.there c.requires.other c.requires.fine in
+    let reaches : Reaches c.args.program.now c.args.named.now c.args.method c.peek.result.now c.args.heap.now (BuiltIn c.in-BuiltIn.id) = rw c.in-BuiltIn.is at c.reached.ensures in
+    let asks = virtual_asks c.args.program.now c.args.own.now c.args.method c.args.named.now c.args.next c.args.frame.now.locals c.args.frame.now.stack.values c.args.heap.now c.requires.there c.peek.result.now c.in-BuiltIn.id c.requires.other (rw c.len-count.ensures at c.peek.ensures) reaches in
+    record { step = rw c.len-count.ensures (omega (arith, less), asks, record { frame = refl; heap = refl }) }
+
+pub returns-in-NoReceiver : goal.returns-in-NoReceiver
+returns-in-NoReceiver c =
+    let reaches : Reaches c.args.program.now c.args.named.now c.args.method c.peek.result.now c.args.heap.now NoReceiver = rw c.in-NoReceiver.is at c.reached.ensures in
+    record { step = virtual_null c.args.program.now c.args.own.now c.args.method c.args.named.now c.args.next c.args.frame.now.locals c.args.frame.now.stack.values c.args.heap.now c.requires.there c.peek.result.now c.requires.other (rw c.len-count.ensures at c.peek.ensures) reaches }
+
+pub unreachable-requires-in-Nowhere : goal.unreachable-requires-in-Nowhere
+unreachable-requires-in-Nowhere c =
+    let reaches : Reaches c.args.program.now c.args.named.now c.args.method c.peek.result.now c.args.heap.now Nowhere = rw c.in-Nowhere.is at c.reached.ensures in
+    virtual_nowhere c.args.program.now c.args.own.now c.args.method c.args.named.now c.args.next c.args.frame.now.locals c.args.frame.now.stack.values c.args.heap.now c.requires.there c.peek.result.now c.requires.other (rw c.len-count.ensures at c.peek.ensures) reaches c.requires.fine

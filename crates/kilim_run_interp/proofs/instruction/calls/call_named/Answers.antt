@@ -1,0 +1,49 @@
+use Rattle.std.proofs.Common.{◌≡◌, ◌∙◌, sym, ap, refl, ◌<◌, ◌≤◌, ◌+◌, Bool, true, false, Option, Some, None, List, length, take, drop, reverse, slice_get, option_copied, arith}
+use Rattle.kilim_program.specs.declared.class.Method.{Method}
+use Rattle.kilim_program.specs.declared.instr.Instr.TheVariants.{Invokespecial}
+use Rattle.kilim_program.specs.declared.names.MethodId.{MethodId}
+use Rattle.kilim_program.specs.declared.value.Value.{Value}
+use Rattle.kilim_program.specs.Names.{method_at}
+use Rattle.kilim_run_machine.specs.Effect.{Asks, Calls}
+use Rattle.kilim_run_machine.specs.Does.{does, is_null, special, calls_method}
+use Rattle.kilim_run_rows.specs.Outcome.{is_stuck}
+use Rattle.kilim_run_interp.proofs.instruction.Invokes.{special_there, special_null, special_goes, is_there, asks_built_in, calls_code}
+use Rattle.kilim_run_interp.proofs.instruction.calls.call_named.Goals as goal
+
+pub unreachable-requires : goal.unreachable-requires
+unreachable-requires c =
+    let less = special_there c.args.program.now c.args.own.now c.args.method c.args.named.now c.args.next c.args.frame.now.locals c.args.frame.now.stack.values c.args.heap.now c.requires.there c.requires.other c.requires.fine in
+    omega (arith, less, c.len-count.ensures, c.len-height.ensures, c.if-count-height.true)
+
+pub returns-then-target : goal.returns-then-target
+returns-then-target c =
+    let at : slice_get c.args.frame.now.stack.values (length c.args.named.now.params) ≡ Some c.peek.result.now = rw c.len-count.ensures at c.peek.ensures in
+    let less = special_there c.args.program.now c.args.own.now c.args.method c.args.named.now c.args.next c.args.frame.now.locals c.args.frame.now.stack.values c.args.heap.now c.requires.there c.requires.other c.requires.fine in
+    let row = special_goes c.args.program.now c.args.own.now c.args.method c.args.named.now c.args.next c.args.frame.now.locals c.args.frame.now.stack.values c.args.heap.now c.requires.there c.peek.result.now c.requires.other at (sym c.is_none.ensures ∙ c.if-is_none.false) c.requires.fine in
+    let there : method_at c.args.program.now (special c.args.program.now c.args.own.now c.args.named.now c.args.method) ≡ Some c.in-Some.target.now = ap (λ (id : MethodId). method_at c.args.program.now id) (sym c.special-id.ensures) ∙ sym c.in-Some.ensures in
+    let asks = asks_built_in (method_at c.args.program.now (special c.args.program.now c.args.own.now c.args.named.now c.args.method)) c.in-Some.target.now (special c.args.program.now c.args.own.now c.args.named.now c.args.method)
+    (reverse (take (length c.args.named.now.params + 1) c.args.frame.now.stack.values)) c.args.next c.args.frame.now.locals (drop (length c.args.named.now.params + 1) c.args.frame.now.stack.values) c.args.heap.now there c.if-target.true in
+    record { step = rw (c.len-count.ensures, c.special-id.ensures) (omega (arith, less), row ∙ asks, record { frame = refl; heap = refl }) }
+
+pub returns-else-target : goal.returns-else-target
+returns-else-target c =
+    let at : slice_get c.args.frame.now.stack.values (length c.args.named.now.params) ≡ Some c.peek.result.now = rw c.len-count.ensures at c.peek.ensures in
+    let less = special_there c.args.program.now c.args.own.now c.args.method c.args.named.now c.args.next c.args.frame.now.locals c.args.frame.now.stack.values c.args.heap.now c.requires.there c.requires.other c.requires.fine in
+    let row = special_goes c.args.program.now c.args.own.now c.args.method c.args.named.now c.args.next c.args.frame.now.locals c.args.frame.now.stack.values c.args.heap.now c.requires.there c.peek.result.now c.requires.other at (sym c.is_none.ensures ∙ c.if-is_none.false) c.requires.fine in
+    let there : method_at c.args.program.now (special c.args.program.now c.args.own.now c.args.named.now c.args.method) ≡ Some c.in-Some.target.now = ap (λ (id : MethodId). method_at c.args.program.now id) (sym c.special-id.ensures) ∙ sym c.in-Some.ensures in
+    let calls = calls_code (method_at c.args.program.now (special c.args.program.now c.args.own.now c.args.named.now c.args.method)) c.in-Some.target.now (special c.args.program.now c.args.own.now c.args.named.now c.args.method)
+    (reverse (take (length c.args.named.now.params + 1) c.args.frame.now.stack.values)) c.args.next c.args.frame.now.locals (drop (length c.args.named.now.params + 1) c.args.frame.now.stack.values) c.args.heap.now there c.if-target.false in
+    record { step = rw (c.len-count.ensures, c.special-id.ensures) (omega (arith, less), row ∙ calls, record { frame = refl; heap = refl }) }
+
+pub returns-then-is_none : goal.returns-then-is_none
+returns-then-is_none c =
+    record { step = special_null c.args.program.now c.args.own.now c.args.method c.args.named.now c.args.next c.args.frame.now.locals c.args.frame.now.stack.values c.args.heap.now c.requires.there c.peek.result.now c.requires.other (rw c.len-count.ensures at c.peek.ensures) (sym c.is_none.ensures ∙ c.if-is_none.true) c.requires.fine }
+
+pub unreachable-requires-in_default : goal.unreachable-requires-in_default
+unreachable-requires-in_default c =
+    let at : slice_get c.args.frame.now.stack.values (length c.args.named.now.params) ≡ Some c.peek.result.now = rw c.len-count.ensures at c.peek.ensures in
+    let row = special_goes c.args.program.now c.args.own.now c.args.method c.args.named.now c.args.next c.args.frame.now.locals c.args.frame.now.stack.values c.args.heap.now c.requires.there c.peek.result.now c.requires.other at (sym c.is_none.ensures ∙ c.if-is_none.false) c.requires.fine in
+    let none : method_at c.args.program.now (special c.args.program.now c.args.own.now c.args.named.now c.args.method) ≡ None = ap (λ (id : MethodId). method_at c.args.program.now id) (sym c.special-id.ensures) ∙ (sym c.method_at.ensures ∙ ap option_copied c.in_default.is) in
+    is_there (method_at c.args.program.now (special c.args.program.now c.args.own.now c.args.named.now c.args.method)) (special c.args.program.now c.args.own.now c.args.named.now c.args.method)
+    (reverse (take (length c.args.named.now.params + 1) c.args.frame.now.stack.values)) c.args.next c.args.frame.now.locals (drop (length c.args.named.now.params + 1) c.args.frame.now.stack.values) c.args.heap.now
+    (ap is_stuck (sym row) ∙ c.requires.fine) none

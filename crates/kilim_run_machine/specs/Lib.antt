@@ -1,0 +1,5 @@
+pub mod Natives
+pub mod Effect
+pub mod Does
+pub mod Moves
+pub mod Found

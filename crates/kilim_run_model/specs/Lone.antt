@@ -1,0 +1,190 @@
+-- What one thread does next: the one table of that. It is computed from the thread and the heap on which it works alone, and
+-- leaves open what others decide. The shared machine (Turn) gives it the one heap, a thread on a heap of its own
+-- (Course) has its own, and both follow what stands here.
+--
+--     a built-in method   with           what the thread does next
+--     execute, yield                     goes on
+--     put                 an object      puts its tree; a null is raised, too large a tree ends the task
+--     get, getnb                         gets, probes: others decide whether a message is there
+--     start               a task object  starts it; too large a tree ends the task; others decide whether there are too many tasks
+--     print               a value        prints its token
+--     argCount, arg                      goes on with a number; an index past the end is raised
+use Rattle.std.specs.Prelude.{ℕ, ℤ, pos, negsuc, ◌+◌, ◌%◌, ◌^◌, nat_lt, nat_le, if◌then◌else◌, List, [], ◌∷◌, Option, Some, None, length, slice_get}
+use Rattle.std.specs.Int.{w32, cast_signed}
+use Rattle.std.specs.FinMap.{insert}
+use Rattle.kilim_run_state.specs.declared.cause.EndCause.{EndCause}
+use Rattle.kilim_run_state.specs.declared.cause.EndCause.TheVariants as cause
+use Rattle.kilim_program.specs.Program.{Program}
+use Rattle.kilim_program.specs.declared.names.BoxName.{BoxName}
+use Rattle.kilim_run_state.specs.declared.value.Token.{Token}
+use Rattle.kilim_run_state.specs.declared.value.Token.TheVariants as token
+use Rattle.kilim_program.specs.declared.value.Value.{Value}
+use Rattle.kilim_program.specs.declared.value.Value.TheVariants.{Int, Long, Null, Ref, Text, Box}
+use Rattle.kilim_run_state.specs.Machine.{Objects, Activation}
+use Rattle.kilim_program.specs.Members.{execute_of}
+use Rattle.kilim_run_machine.specs.Natives.{Native, native_of}
+use Rattle.kilim_run_machine.specs.Natives as native
+use Rattle.kilim_run_machine.specs.Moves.{Move, moves, push_value}
+use Rattle.kilim_run_machine.specs.Moves as move
+use Rattle.kilim_run_state.specs.Shapes.{shape_of}
+use Rattle.kilim_run_model.specs.State.{Setting, Thread, Alive, Ended, begun_on}
+
+-- the most mailboxes that a task makes
+abbrev pub box_limit : ℕ
+box_limit = 1000
+
+-- a thread, and the heap on which it works
+pub record Lone : Type 0 where
+  pub heap : Objects
+  -- the next object's name: no name is used twice
+  pub next : ℕ
+  pub thread : Thread
+  -- the object of task 0, which it keeps until its `execute` begins
+  pub kept : Option ℕ
+
+-- What it does next. It goes on by itself; or it acts, and then stands as told but for what others decide: the result of a
+-- take isn't on its stack yet, and a tree that leaves is still in the heap; or it stands still.
+pub data Next : Type 0 where
+  Goes : (after : Lone) → Next
+  Puts : (box : BoxName) (root : ℕ) (shape : List Token) (after : Lone) → Next
+  Gets : (box : BoxName) (after : Lone) → Next
+  Probes : (box : BoxName) (after : Lone) → Next
+  Starts : (root : ℕ) (shape : List Token) (after : Lone) → Next
+  Prints : (token : Token) (after : Lone) → Next
+  Ends : (cause : EndCause) (after : Lone) → Next
+  -- it has ended; or it is where no verified code comes
+  Stands : Next
+
+-- ---- how a thread stands then
+
+-- it has done one more instruction, and stands at these frames
+abbrev pub went : Lone → List Activation → ℕ → ℕ → Lone
+went l frames done boxes = record l { thread = Alive frames (done + 1) boxes }
+
+-- a value on top of its stack
+abbrev pub pushed_on : Value → Thread → Thread
+pushed_on v (Alive frames done boxes) = Alive (push_value v frames) done boxes
+pushed_on v (Ended cause) = Ended cause
+
+abbrev pub pushed : Value → Lone → Lone
+pushed v l = record l { thread = pushed_on v l.thread }
+
+-- a thread that has ended keeps nothing
+abbrev pub ended : Lone → EndCause → Lone
+ended l cause = record l { thread = Ended cause; kept = None }
+
+abbrev pub over : Lone → EndCause → Next
+over l cause = Ends cause (ended l cause)
+
+-- Something is wrong with a value, of an instruction or of a built-in method: the task ends.
+abbrev pub raised : Lone → EndCause → Next
+raised l cause = over l cause
+
+-- ---- built-in methods, with the thread behind the call
+
+abbrev pub put_next : Lone → BoxName → ℕ → Option (List Token) → Next
+put_next after box n None = over after cause.Large
+put_next after box n (Some shape) = Puts box n shape after
+
+abbrev pub message_next : Program → Lone → BoxName → Value → Next
+message_next p after box Null = raised after cause.Null
+message_next p after box (Ref n) = put_next after box n (shape_of p after.heap n)
+message_next p after box v = Stands
+
+abbrev pub start_next : Lone → ℕ → Option (List Token) → Next
+start_next after n None = over after cause.Large
+start_next after n (Some shape) = Starts n shape after
+
+-- the token of a printed value
+abbrev pub printed : Value → Option Token
+printed (Int n) = Some (token.Int n)
+printed (Long n) = Some (token.Long n)
+printed Null = Some token.Null
+printed (Text units) = Some (token.Text units)
+printed v = None
+
+abbrev pub print_next : Lone → Option Token → Next
+print_next after None = Stands
+print_next after (Some t) = Prints t after
+
+-- the low 32 bits as a signed number
+abbrev pub narrowed : ℕ → ℤ
+narrowed n = cast_signed w32 (n % 2 ^ 32)
+
+abbrev pub arg_at : List ℤ → ℤ → Option ℤ
+arg_at args (pos i) = slice_get args i
+arg_at args (negsuc i) = None
+
+abbrev pub arg_next : Lone → Option ℤ → Next
+arg_next after None = raised after cause.Index
+arg_next after (Some n) = Goes (pushed (Int n) after)
+
+-- The receiver is the first of the arguments, and isn't null. Other arguments than these don't come in verified code, nor
+-- does a member of `kilim/Fiber` in code that isn't woven: the thread then stands still.
+abbrev pub native_next : Setting → Lone → Native → List Value → Next
+native_next setting after native.Execute (Ref n ∷ []) = Goes after
+native_next setting after native.Start (Ref n ∷ []) = start_next after n (shape_of setting.program after.heap n)
+native_next setting after native.Put (Box box ∷ message ∷ []) = message_next setting.program after box message
+native_next setting after native.Get (Box box ∷ []) = Gets box after
+native_next setting after native.Getnb (Box box ∷ []) = Probes box after
+native_next setting after native.Print (v ∷ []) = print_next after (printed v)
+native_next setting after native.Yield [] = Goes after
+native_next setting after native.ArgCount [] = Goes (pushed (Int (narrowed (length setting.limits.args))) after)
+native_next setting after native.Arg (Int i ∷ []) = arg_next after (arg_at setting.limits.args i)
+native_next setting after n args = Stands
+
+abbrev pub asks_next : Setting → Lone → List Value → Option Native → Next
+asks_next setting after args None = Stands
+asks_next setting after args (Some n) = native_next setting after n args
+
+-- ---- moves
+
+-- a new mailbox, named by the task and its number among the task's mailboxes
+abbrev pub opens_next : ℕ → Lone → List Activation → ℕ → ℕ → Next
+opens_next t l frames done boxes =
+    if nat_lt boxes box_limit then Goes (went l (push_value (Box (record { task = t; number = boxes })) frames) done (boxes + 1)) else over l cause.Boxes
+
+-- Where the constructor of task 0 returns, the frame of `execute` begins on the object that it keeps; the
+-- beginning counts as no instruction. Where `execute` is the built-in one, which has no frame, the task is done.
+abbrev pub begins_next : Lone → ℕ → ℕ → Option (List Activation) → Next
+begins_next l done boxes None = Stands
+begins_next l done boxes (Some []) = over l cause.Done
+begins_next l done boxes (Some (frame ∷ frames)) = Goes (record (went l (frame ∷ frames) done boxes) { kept = None })
+
+-- the last frame returned: that of task 0's constructor, or that of `execute`
+abbrev pub finish_next : Setting → Lone → ℕ → ℕ → Option ℕ → Next
+finish_next setting l done boxes None = over l cause.Done
+finish_next setting l done boxes (Some n) = begins_next l done boxes (begun_on setting.program (execute_of setting.program setting.main) n)
+
+abbrev pub on_heap : Lone → Objects → Lone
+on_heap l heap = record l { heap = heap }
+
+abbrev pub next_by : Setting → ℕ → Lone → ℕ → ℕ → Move → Next
+next_by setting t l done boxes (move.Runs change frames heap) = Goes (went (on_heap l heap) frames done boxes)
+next_by setting t l done boxes (move.Makes object frames heap) =
+    Goes (went (record l { heap = insert heap l.next object; next = l.next + 1 }) (push_value (Ref l.next) frames) done boxes)
+next_by setting t l done boxes (move.Opens frames heap) = opens_next t (on_heap l heap) frames done boxes
+next_by setting t l done boxes (move.Asks m args frames heap) = asks_next setting (went (on_heap l heap) frames done boxes) args (native_of setting.program m)
+next_by setting t l done boxes (move.Returns heap) = finish_next setting (on_heap l heap) done boxes l.kept
+next_by setting t l done boxes (move.Raises cause) = raised l cause
+next_by setting t l done boxes (move.Ends cause) = over l cause
+next_by setting t l done boxes move.Stuck = Stands
+
+-- a task that was started with the built-in `execute` is done in its first move
+abbrev pub frames_next : Setting → ℕ → Lone → List Activation → ℕ → ℕ → Next
+frames_next setting t l [] done boxes = over l cause.Done
+frames_next setting t l (top ∷ below) done boxes = next_by setting t l done boxes (moves setting.program top below l.heap)
+
+-- A thread that has done all of its instructions is spent, before anything else is looked at.
+abbrev pub thread_next : Setting → ℕ → Lone → Thread → Next
+thread_next setting t l (Ended cause) = Stands
+thread_next setting t l (Alive frames done boxes) = if nat_le setting.limits.steps done then over l cause.Spent else frames_next setting t l frames done boxes
+
+-- what the thread of the task of that number does next
+unfoldable pub next_move : Setting → ℕ → Lone → Next
+next_move setting t l = thread_next setting t l l.thread
+
+-- the mailbox at whose `get` it stands, whatever the mailbox holds; it has instructions left then
+abbrev pub get_at : Next → Option BoxName
+get_at (Gets box after) = Some box
+get_at next = None

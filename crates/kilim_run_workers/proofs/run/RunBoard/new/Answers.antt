@@ -1,0 +1,9 @@
+use Rattle.kilim_run_board.specs.Seen.{seen}
+use Rattle.kilim_run_workers.proofs.Effects.{cells_new}
+use Rattle.kilim_run_workers.proofs.run.RunBoard.new.Goals as goal
+
+pub returns-in-Ok : goal.returns-in-Ok
+returns-in-Ok g c = cells_new (seen c.in-Ok.board) c.args.main c.args.seats c.in-Ok.ensures.board
+
+pub invariant_of-result : goal.invariant_of-result
+invariant_of-result g c = (c.in-Ok.ensures.roomy, λ set is. c.in-Ok.ensures.stands set c.requires.task c.requires.course (c.requires.stands set is))

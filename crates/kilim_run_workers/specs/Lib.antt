@@ -1,0 +1,4 @@
+pub mod Runs
+pub mod Codes
+pub mod Workers
+pub mod one_worker

@@ -1,0 +1,10 @@
+//! The workers.
+#![tactic(auto)]
+
+mod many_workers;
+pub mod one_worker;
+mod run;
+mod worker;
+
+pub use many_workers::run_pool;
+pub use run::{Run, RunBoard};

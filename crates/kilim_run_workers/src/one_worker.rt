@@ -1,0 +1,140 @@
+//! The runner: one worker takes every turn, until no fiber is ready.
+
+ghost use Rattle.std.specs.Prelude.{◌≡◌, ◌<◌, ◌≤◌, ◌∷◌, [], ℕ, Bool, true, false, Option, Some, None, OnOk, IfOk, List};
+ghost use Rattle.kilim_run_model.specs.State.{Setting};
+ghost use Rattle.kilim_run_board.specs.Seen.{MovedWhole, seen};
+ghost use Rattle.kilim_run_workers.specs.one_worker.Pool.{IsOf, IsLending, IsResting, NextIs, IsCalm, EmptyAt, Falls, todo, left};
+
+use kilim_outside::Gate;
+use kilim_program::{BoxName, ClassId};
+use kilim_run_board::fibers::{Fibers, Wants};
+use kilim_run_board::{Acted, Board, Lent};
+use kilim_run_journal::Entry;
+use kilim_run_state::Limits;
+use kilim_units::NoMemory;
+use std::alloc::Global;
+
+/// What a lent fiber comes to.
+#[derive(Drop)]
+pub(crate) enum Next {
+    /// It was answered, and goes on.
+    On,
+    /// Its task has ended.
+    Over,
+    /// It rests: at the `get` of an empty mailbox, or since it yielded.
+    Rests(Option<BoxName>),
+}
+
+// Runs a lent fiber up to the next thing that it wants, and does that.
+fn advance<F: Fibers>(
+    board: &mut Board<F>,
+    fiber: &mut F,
+    code: &F::Code,
+    limits: &Limits,
+    main: ClassId,
+) -> Result<Next, NoMemory>
+    requires some { (set : Setting) × IsOf F.serves code.now main limits.now set }
+    requires lending { IsLending F.task_of F.course_of F.holds (IsOf F.serves code.now main limits.now) board.old fiber.old }
+    requires calm { IsCalm F.refused (seen board.old) }
+    requires waits { EmptyAt F.refused board.old fiber.old }
+    ensures next { IfOk result (λ next. NextIs F.task_of F.course_of F.holds (IsOf F.serves code.now main limits.now) board.new fiber.new next) }
+    ensures falls { IfOk result (λ next. Falls F.count_of F.refused limits.now.steps (todo F.count_of F.refused limits.now.steps board.old fiber.old) board.new fiber.new next) }
+{
+    let Ok(wants) = fiber.resume(code, limits) else {
+        return Err(NoMemory);
+    };
+    match wants {
+        Wants::Rest(waits) => Ok(Next::Rests(waits)),
+        Wants::End(cause) => {
+            let wants = Wants::End(cause);
+            let Ok(()) = board.reserve(&wants) else {
+                drop(wants);
+                return Err(NoMemory);
+            };
+            board.act(0, wants);
+            Ok(Next::Over)
+        }
+        wants => {
+            let Ok(()) = board.reserve(&wants) else {
+                drop(wants);
+                return Err(NoMemory);
+            };
+            match board.act(0, wants) {
+                Acted::Answer(answer) => match fiber.answer(code, answer) {
+                    Ok(()) => Ok(Next::On),
+                    Err(fault) => Err(fault),
+                },
+                Acted::OutOfTasks => Ok(Next::Over),
+            }
+        }
+    }
+}
+
+// Runs a lent fiber until it rests or ends.
+fn run_fiber<F: Fibers>(
+    board: &mut Board<F>,
+    fiber: F,
+    code: &F::Code,
+    limits: &Limits,
+    main: ClassId,
+) -> Result<(), NoMemory>
+    requires some { (set : Setting) × IsOf F.serves code.now main limits.now set }
+    requires lending { IsLending F.task_of F.course_of F.holds (IsOf F.serves code.now main limits.now) board.old fiber }
+    requires calm { IsCalm F.refused (seen board.old) }
+    requires waits { EmptyAt F.refused board.old fiber }
+    ensures rest { OnOk result (IsResting F.task_of F.course_of F.holds (IsOf F.serves code.now main limits.now) board.new) }
+    ensures falls { OnOk result (IsCalm F.refused (seen board.new) × (left F.count_of limits.now.steps (seen board.new) ≤ todo F.count_of F.refused limits.now.steps board.old fiber)) }
+{
+    let mut fiber = fiber;
+    loop {
+        let Ok(next) = advance(board, &mut fiber, code, limits, main) else {
+            return Err(NoMemory);
+        };
+        match next {
+            Next::On => {}
+            Next::Over => return Ok(()),
+            Next::Rests(waits) => {
+                board.give_back(0, fiber, waits);
+                return Ok(());
+            }
+        }
+    }
+}
+
+/// Runs a program to rest with one worker: the entries of a whole run of moved messages, and who waits at its end. It takes
+/// no turn, waits for nobody and returns. Before each fiber that it runs it passes the gate, which changes nothing.
+///
+/// The error is want of memory alone.
+pub fn run_one<F: Fibers, G: Gate>(
+    alloc: Global,
+    code: &F::Code,
+    main: ClassId,
+    limits: &Limits,
+    gate: &G,
+) -> Result<Vec<Entry>, NoMemory>
+    requires { (set : Setting) × IsOf F.serves code.now main limits.now set }
+    ensures { (set : Setting) → IsOf F.serves code.now main limits.now set → IfOk result (λ es. MovedWhole set es.items) }
+{
+    let Ok(fiber) = F::boot(alloc, code, main) else {
+        return Err(NoMemory);
+    };
+    let mut board = match Board::new(alloc, fiber, 1) {
+        Ok(board) => board,
+        Err(_) => return Err(NoMemory),
+    };
+    loop {
+        match board.lend(0) {
+            Lent::Fiber(fiber) => {
+                gate.pass(fiber.task(), fiber.records());
+                match run_fiber(&mut board, fiber, code, limits, main) {
+                    Ok(()) => {}
+                    Err(fault) => {
+                        drop(board);
+                        return Err(fault);
+                    }
+                }
+            }
+            _ => return board.finish(),
+        }
+    }
+}

@@ -1,7 +1,0 @@
-use Rattle.std.proofs.Common.{rules, reverse}
-use Rattle.kilim_shape_graph.proofs.Lists.{named_both}
-use Rattle.kilim_shape_graph.proofs.canonical.slots_of.Goals as goal
-
-pub returns : goal.returns
-returns c =
-    named_both c.args.graph.now.locals c.in-Ok.stack.items (reverse c.args.graph.now.stack) c.push_named.new.named c.push_named-2.new.named (search rules) (search rules) (search rules)

@@ -1,0 +1,10 @@
+//! A woven fiber does what the unwoven thread does: a law, and no code that does work.
+
+pub mod beginnings;
+
+ghost use Rattle.kilim_fiber_laws.specs.simulation.Law.{WovenSimulates};
+
+/// A law, and no work: a woven fiber does what the unwoven thread does.
+pub fn woven_simulates()
+    ensures { WovenSimulates }
+{}

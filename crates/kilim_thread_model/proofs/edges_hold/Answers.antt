@@ -1,5 +1,0 @@
-use Rattle.kilim_thread_model.proofs.Edges.{edges}
-use Rattle.kilim_thread_model.proofs.edges_hold.Goals as goal
-
-pub returns : goal.returns
-returns c = edges

@@ -1,5 +1,0 @@
-use Rattle.kilim_thread_model.proofs.Examples.{examples}
-use Rattle.kilim_thread_model.proofs.examples_hold.Goals as goal
-
-pub returns : goal.returns
-returns c = examples

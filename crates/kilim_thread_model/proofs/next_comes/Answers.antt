@@ -1,5 +1,0 @@
-use Rattle.kilim_thread_model.proofs.Alone as alone
-use Rattle.kilim_thread_model.proofs.next_comes.Goals as goal
-
-pub returns : goal.returns
-returns c = alone.next_comes

@@ -1,5 +1,0 @@
-use Rattle.kilim_thread_model.proofs.one_heap.Isolation.{plays_isolated}
-use Rattle.kilim_thread_model.proofs.one_heap.none_shares.Goals as goal
-
-pub returns : goal.returns
-returns c = plays_isolated

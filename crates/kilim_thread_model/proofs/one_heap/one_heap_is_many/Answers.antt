@@ -1,5 +1,0 @@
-use Rattle.kilim_thread_model.proofs.one_heap.OneHeap.{one_heap_is_many}
-use Rattle.kilim_thread_model.proofs.one_heap.one_heap_is_many.Goals as goal
-
-pub returns : goal.returns
-returns c = one_heap_is_many

@@ -1,5 +1,0 @@
-use Rattle.kilim_thread_model.proofs.Steps as steps
-use Rattle.kilim_thread_model.proofs.one_replay.Goals as goal
-
-pub returns : goal.returns
-returns c = λ setting s es a b p q. steps.one_replay setting s es a b p q

@@ -1,5 +1,0 @@
-use Rattle.kilim_tree_move.proofs.mailbox.Queues as queues
-use Rattle.kilim_tree_move.proofs.mailbox.calls_are_one_thread.Goals as goal
-
-pub returns : goal.returns
-returns c = queues.calls_are_one_thread

@@ -1,5 +1,0 @@
-use Rattle.kilim_tree_move.proofs.Emitting.{described, ok_into}
-use Rattle.kilim_tree_move.proofs.shapes.push_descriptor.Goals as goal
-
-pub returns : goal.returns
-returns c = ok_into c.push_base.result _ _ c.push_base.ensures (described _ _ _ _ _ c.in-Ok.ensures)

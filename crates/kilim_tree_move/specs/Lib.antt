@@ -1,7 +1,0 @@
-pub mod Walk
-pub mod Room
-pub mod Moved
-pub mod Steps
-pub mod Shaping
-pub mod Emitted
-pub mod mailbox

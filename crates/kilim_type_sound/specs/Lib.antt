@@ -1,0 +1,4 @@
+pub mod Fits
+pub mod Sound
+pub mod Facts
+pub mod Law

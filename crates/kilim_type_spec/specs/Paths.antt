@@ -1,0 +1,33 @@
+-- The flow edges of a method, and the paths along them (JVMS 4.10.1.6: which instruction may come behind which).
+use Rattle.std.specs.Prelude.{◌≡◌, ℕ, List, [], ◌∷◌, Some, map}
+use Rattle.kilim_program.specs.declared.class.Method.{Method}
+use Rattle.kilim_program.specs.declared.instr.Instr.{Instr}
+use Rattle.kilim_program.specs.Lengths.{fetched}
+use Rattle.kilim_type_spec.specs.Typed.{Among, edges}
+
+-- how control goes along an edge
+pub data EdgeKind : Type 0 where
+  -- the instruction is done, and goes on behind it or jumps
+  Done : EdgeKind
+
+pub record Edge : Type 0 where
+  pub from : ℕ
+  pub to : ℕ
+  pub kind : EdgeKind
+
+-- from an instruction at a place, behind which the code goes on at the next: a call goes to the next place, a return has no edge
+abbrev pub edges_at : ℕ → Instr → ℕ → List Edge
+edges_at at i next = map (λ to. record { from = at; to = to; kind = Done }) (edges i next)
+
+pub data IsEdge (m : Method) : Edge → Type 0 where
+  Leads : (at next to : ℕ) (i : Instr) → fetched m.code m.code_length at ≡ Some (i, next) → Among (edges i next) to → IsEdge m (record { from = at; to = to; kind = Done })
+
+-- places that follow edges from a place on
+abbrev pub Follows : Method → ℕ → List ℕ → Type 0
+Follows m at [] = Unit {0}
+Follows m at (to ∷ rest) = ((kind : EdgeKind) × IsEdge m (record { from = at; to = to; kind = kind })) × Follows m to rest
+
+-- a path of a method: it begins with place 0
+abbrev pub IsPath : Method → List ℕ → Type 0
+IsPath m [] = ⊥
+IsPath m (at ∷ rest) = (at ≡ 0) × Follows m at rest

@@ -1,5 +1,0 @@
-use Rattle.kilim_typing.proofs.FromFaults.{no_fault_is_well_typed}
-use Rattle.kilim_typing.proofs.no_fault_is_well_typed.Goals as goal
-
-pub returns : goal.returns
-returns c = no_fault_is_well_typed

@@ -1,5 +1,0 @@
-use Rattle.kilim_typing.proofs.woven_form.woven_program.labels.Labels.{labelled}
-use Rattle.kilim_typing.proofs.woven_form.woven_program.labels.labels_are_found.Goals as goal
-
-pub returns : goal.returns
-returns c = labelled

@@ -1,5 +1,0 @@
-use Rattle.kilim_typing.proofs.woven_form.woven_programs.classes.Together.{woven_classes}
-use Rattle.kilim_typing.proofs.woven_form.woven_programs.classes.woven_classes_keep.Goals as goal
-
-pub returns : goal.returns
-returns c = woven_classes

@@ -1,5 +1,0 @@
-use Rattle.kilim_typing.proofs.woven_form.woven_programs.keeps.Whole.{woven_methods}
-use Rattle.kilim_typing.proofs.woven_form.woven_programs.keeps.woven_methods_keep.Goals as goal
-
-pub returns : goal.returns
-returns c = woven_methods

@@ -1,5 +1,0 @@
-use Rattle.kilim_typing.proofs.woven_form.woven_programs.kept.Together.{kept}
-use Rattle.kilim_typing.proofs.woven_form.woven_programs.kept.woven_is_kept.Goals as goal
-
-pub returns : goal.returns
-returns c = kept

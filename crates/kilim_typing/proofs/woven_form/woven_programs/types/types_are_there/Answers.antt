@@ -1,5 +1,0 @@
-use Rattle.kilim_typing.proofs.woven_form.woven_programs.types.Together.{all_there}
-use Rattle.kilim_typing.proofs.woven_form.woven_programs.types.types_are_there.Goals as goal
-
-pub returns : goal.returns
-returns c = all_there

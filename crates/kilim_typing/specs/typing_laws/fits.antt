@@ -1,5 +1,0 @@
-pub mod Fits
-pub mod Sound
-pub mod Facts
-pub mod Law
-pub mod Chosen

@@ -1,9 +1,0 @@
-pub mod Woven
-pub mod Weight
-pub mod Form
-pub mod Samples
-pub mod Examples
-pub mod shape
-pub mod woven_program
-pub mod woven_programs
-pub mod woven_types

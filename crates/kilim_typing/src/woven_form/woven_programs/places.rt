@@ -1,8 +1,0 @@
-//! The ids and types of a woven program: laws, and no code that does work.
-
-ghost use Rattle.kilim_typing.specs.woven_form.woven_programs.places.Law.{WovenPlacesKeep};
-
-/// A law, and no work: each id in a woven program is a place in its list, and no type in it is an array of tasks.
-pub fn woven_places_keep()
-    ensures { WovenPlacesKeep }
-{}

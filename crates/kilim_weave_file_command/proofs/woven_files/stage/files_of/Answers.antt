@@ -1,0 +1,18 @@
+use Rattle.std.proofs.lemmas.Result.{IfOk-weaker}
+use Rattle.kilim_weave_file_command.proofs.woven_files.Handed.{few_files, fit_files, size_report, woven_one}
+use Rattle.kilim_weave_file_command.proofs.woven_files.stage.files_of.Goals as goal
+
+pub returns-in-Ok-clause-woven : goal.returns-in-Ok-clause-woven
+returns-in-Ok-clause-woven c =
+    IfOk-weaker c.woven_classes.result _ _ (λ outputs from. woven_one c.args.files.now c.args.program.now c.requires.accepted c.requires.none c.in-Ok.classes c.in-Ok.ensures c.args.woven.now outputs.items c.requires.weaves from)
+    (rw c.as_slice.ensures at c.woven_classes.ensures.woven)
+
+pub returns-in-Ok-clause-report : goal.returns-in-Ok-clause-report
+returns-in-Ok-clause-report c =
+    size_report c.args.files.now c.args.program.now c.requires.accepted c.requires.none c.in-Ok.classes c.in-Ok.ensures c.woven_classes.result (rw c.as_slice.ensures at c.woven_classes.ensures.report)
+
+pub woven_classes-requires-clause-few : goal.woven_classes-requires-clause-few
+woven_classes-requires-clause-few c = few_files c.args.files.now c.in-Ok.classes c.as_slice.result.now c.as_slice.ensures c.in-Ok.ensures c.requires.few
+
+pub woven_classes-requires-clause-fit : goal.woven_classes-requires-clause-fit
+woven_classes-requires-clause-fit c = fit_files c.args.files.now c.in-Ok.classes c.as_slice.result.now c.as_slice.ensures c.in-Ok.ensures

@@ -1,0 +1,9 @@
+use Rattle.std.proofs.Common.{sym, ◌∙◌}
+use Rattle.kilim_weave_file_sizes.proofs.same_programs.Compared.{all_same, same_more}
+use Rattle.kilim_weave_file_sizes.proofs.same_programs.members.same_methods.Goals as goal
+
+pub loop-x-preserved : goal.loop-x-preserved
+loop-x-preserved c = same_more c.args.one.now c.args.other.now c.loop-x.rest.now c.loop-x.x-index _ _ c.loop-x-test.true c.in-len1-up.len_at_least (sym c.x-item.is ∙ (c.same_method.ensures c.if-not-same_method.false ∙ c.y-item.is)) c.loop-x.invariant
+
+pub returns : goal.returns
+returns c = all_same c.args.one.now c.args.other.now c.loop-x.rest.now c.loop-x.x-index c.is_empty.result c.loop-x-test.false c.is_empty.ensures c.loop-x.invariant

@@ -1,4 +1,0 @@
-//! A woven fiber does what the thread of its course does: definitions, lemmas, and a law. kilim_weaving_statements states the others.
-#![tactic(auto)]
-
-pub mod woven_served;

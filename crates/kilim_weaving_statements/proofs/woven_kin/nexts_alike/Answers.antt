@@ -1,5 +1,0 @@
-use Rattle.kilim_weaving_laws.proofs.woven_kin.Following.{next_kin}
-use Rattle.kilim_weaving_statements.proofs.woven_kin.nexts_alike.Goals as goal
-
-pub returns : goal.returns
-returns c = λ set W marks t l f like whole free. next_kin set W marks t l f like whole free

@@ -1,5 +1,0 @@
-use Rattle.kilim_weaving_laws.proofs.woven_served.ready.Whole.{woven_forms_serve}
-use Rattle.kilim_weaving_statements.proofs.woven_served.ready.woven_forms_serve.Goals as goal
-
-pub returns : goal.returns
-returns c = woven_forms_serve

@@ -1,8 +1,0 @@
-//! A program, its woven form and a thread meet all that crate::stands::serves asks: an example, and no code that does work.
-
-ghost use Rattle.kilim_weaving_statements.specs.stands.example.Example.{LoopMeetsAll};
-
-/// A law, and no work: the example of `specs/Example.antt`.
-pub fn loop_meets_all()
-    ensures { LoopMeetsAll }
-{}

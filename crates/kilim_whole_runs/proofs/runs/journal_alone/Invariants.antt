@@ -1,4 +1,0 @@
-use Rattle.kilim_whole_runs.proofs.runs.journal_alone.Given as goal
-
-abbrev pub ghosts-named_alone : goal.ghosts-named_alone
-ghosts-named_alone g a = record { program = a.code.now.program; counted = a.code.now.counted }

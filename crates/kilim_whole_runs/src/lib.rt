@@ -1,8 +1,0 @@
-//! Whole runs of an accepted program, by its woven form: its journal.
-#![tactic(auto)]
-
-mod named;
-pub mod record_fiber;
-mod runs;
-
-pub use runs::{run_alone, run_with};

@@ -1,7 +1,0 @@
-//! Fibers that keep records while they rest: a task on a heap of its own, which runs woven code.
-
-mod fiber;
-pub mod named;
-mod past;
-
-pub use fiber::Fiber;

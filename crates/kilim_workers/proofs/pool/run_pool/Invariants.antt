@@ -1,5 +1,0 @@
-use Rattle.kilim_workers.specs.worker_pool.Pool.{IsOf}
-use Rattle.kilim_workers.proofs.pool.run_pool.Given as goal
-
-abbrev pub ghosts-run_of : goal.ghosts-run_of
-ghosts-run_of g a = record { of = IsOf g.F.Fibers.serves a.code.now a.main a.limits.now }

@@ -1,7 +1,0 @@
-use Rattle.std.proofs.Common.{◌≡◌, []}
-use Rattle.std.specs.Prelude.{replicate}
-use Rattle.kilim_workers.specs.Codes.{board_cells}
-use Rattle.kilim_workers.proofs.pool.run_rounds.Given as goal
-
-abbrev pub invariant-loop : goal.invariant-loop
-invariant-loop g l = board_cells l.board ≡ replicate l.fn.workers []

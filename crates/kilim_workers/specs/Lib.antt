@@ -1,4 +1,0 @@
-pub mod Runs
-pub mod Codes
-pub mod Workers
-pub mod worker_pool

@@ -1,8 +1,0 @@
-use Rattle.std.proofs.Common.{◌≡◌, ◌++◌, drop}
-use Rattle.kilim_liveness.specs.Table.{live_in}
-use Rattle.kilim_typing.specs.woven_form.Woven.{saved_from}
-use Rattle.kilim_woven_code.proofs.group.saved.Given as goal
-
-abbrev pub invariant-loop-at : goal.invariant-loop-at
-invariant-loop-at l =
-    l.saved.items ++ saved_from (live_in l.fn.plan.live.now l.fn.next) l.at (drop l.at l.locals) ≡ saved_from (live_in l.fn.plan.live.now l.fn.next) 0 l.locals

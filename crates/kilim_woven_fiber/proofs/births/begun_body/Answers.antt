@@ -1,5 +1,0 @@
-use Rattle.kilim_woven_fiber.proofs.Roots.{root_there}
-use Rattle.kilim_woven_fiber.proofs.births.begun_body.Goals as goal
-
-pub class-requires : goal.class-requires
-class-requires c = root_there c.new-heap.result c.args.tree c.put_in.new.heap c.in-Ok.root c.in-Ok.ensures.ok

@@ -1,5 +1,0 @@
-use Rattle.kilim_woven_file_laws.proofs.Instrs.{code_back}
-use Rattle.kilim_woven_file_laws.proofs.code_is_read_back.Goals as goal
-
-pub returns : goal.returns
-returns c = λ w u v agree old pool same texts at code marks rs h. code_back w u v agree old pool same texts at code marks rs h

@@ -1,5 +1,0 @@
-use Rattle.kilim_woven_file_laws.proofs.link_examples.EdgeFiles.{edges_hold}
-use Rattle.kilim_woven_file_laws.proofs.link_examples.edges_hold.Goals as goal
-
-pub returns : goal.returns
-returns c = edges_hold

@@ -1,5 +1,0 @@
-use Rattle.kilim_woven_file_laws.proofs.link_examples.InstructionTable as table
-use Rattle.kilim_woven_file_laws.proofs.link_examples.instructions_agree.Goals as goal
-
-pub returns : goal.returns
-returns c = table.instructions_agree

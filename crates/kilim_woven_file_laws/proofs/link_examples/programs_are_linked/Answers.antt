@@ -1,5 +1,0 @@
-use Rattle.kilim_woven_file_laws.proofs.link_examples.MorePrograms.{programs_are_linked}
-use Rattle.kilim_woven_file_laws.proofs.link_examples.programs_are_linked.Goals as goal
-
-pub returns : goal.returns
-returns c = programs_are_linked

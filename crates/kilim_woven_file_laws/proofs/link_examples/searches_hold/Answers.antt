@@ -1,5 +1,0 @@
-use Rattle.kilim_woven_file_laws.proofs.link_examples.Searching.{searches_hold}
-use Rattle.kilim_woven_file_laws.proofs.link_examples.searches_hold.Goals as goal
-
-pub returns : goal.returns
-returns c = searches_hold

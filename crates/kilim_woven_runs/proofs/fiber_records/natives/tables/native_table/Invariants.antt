@@ -1,6 +1,0 @@
-use Rattle.std.proofs.Common.{◌≡◌, length}
-use Rattle.kilim_woven_runs.specs.fiber_records.natives.Tables.{AreNatives}
-use Rattle.kilim_woven_runs.proofs.fiber_records.natives.tables.native_table.Given as goal
-
-abbrev pub invariant-loop-at : goal.invariant-loop-at
-invariant-loop-at l = record { tell : AreNatives l.program l.table.items; long : length l.table.items ≡ l.at }

@@ -1,5 +1,0 @@
-use Rattle.kilim_woven_runs.proofs.lone.Steps.{steps}
-use Rattle.kilim_woven_runs.proofs.lone.thread_is_lone.Goals as goal
-
-pub returns : goal.returns
-returns c = λ set m p l s x b w. steps set m p l s x b w

@@ -1,8 +1,0 @@
-//! The thread beside the woven machine is the thread of kilim_thread_model: a law, and no code that does work.
-
-ghost use Rattle.kilim_woven_runs.specs.lone.Law.{ThreadIsLone};
-
-/// A law, and no work: a step of the thread is what the thread on its own heap does next.
-pub fn thread_is_lone()
-    ensures { ThreadIsLone }
-{}

@@ -1,6 +1,0 @@
-use Rattle.std.proofs.Common.{rules}
-use Rattle.kilim_woven_sizes.proofs.same_programs.Compared.{same_lists}
-use Rattle.kilim_woven_sizes.proofs.same_programs.lists.same_tys.Goals as goal
-
-pub returns : goal.returns
-returns c = same_lists _ (λ a b h. search rules) c.args.one.now c.args.other.now c.eq.result c.eq.ensures

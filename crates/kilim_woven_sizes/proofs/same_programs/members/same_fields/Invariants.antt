@@ -1,5 +1,0 @@
-use Rattle.std.proofs.Common.{◌≡◌, ◌++◌, take}
-use Rattle.kilim_woven_sizes.proofs.same_programs.members.same_fields.Given as goal
-
-abbrev pub invariant-loop-x : goal.invariant-loop-x
-invariant-loop-x l = take l.x-index l.one ++ l.rest ≡ l.other

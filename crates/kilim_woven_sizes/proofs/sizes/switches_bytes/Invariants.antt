@@ -1,6 +1,0 @@
-use Rattle.std.proofs.Common.{◌≡◌, ◌+◌, drop}
-use Rattle.kilim_typing.specs.woven_form.Weight.{switches_bytes}
-use Rattle.kilim_woven_sizes.proofs.sizes.switches_bytes.Given as goal
-
-abbrev pub invariant-loop-entry : goal.invariant-loop-entry
-invariant-loop-entry l = l.sum + switches_bytes (drop l.entry-index l.code) ≡ switches_bytes l.code

@@ -1,8 +1,0 @@
-//! A list of files is written into a folder, one after the other.
-#![tactic(auto)]
-
-mod output_file;
-mod writing;
-
-pub use output_file::OutputFile;
-pub use writing::write_files;
