@@ -14,6 +14,8 @@ use Rattle.kilim_run_state.specs.declared.value.Token.{Token}
 use Rattle.kilim_run_model.specs.State.{Setting}
 use Rattle.kilim_run_model.specs.Lone.{Lone}
 use Rattle.kilim_run_model.specs.Course.{Course, plain, IsLone, stands_at}
+use Rattle.kilim_run_model.specs.declared.waits.Waits.{Waits}
+use Rattle.kilim_run_model.specs.declared.waits.Waits.TheVariants as wait
 use Rattle.kilim_run_model.specs.Moving.{further}
 use Rattle.kilim_run_model.specs.declared.deed.Deed.{Deed}
 use Rattle.kilim_run_trees.specs.Moved.{tree_heap}
@@ -36,6 +38,11 @@ use Rattle.kilim_fiber.specs.Fiber.{task_of, course_of, wished, AskedOf, CanGoOn
 use Rattle.kilim_fiber.specs.declared.fiber.Asked.{Asked}
 use Rattle.kilim_fiber.specs.declared.fiber.Asked.TheVariants as asked
 use Rattle.kilim_fiber.specs.declared.fiber.Fiber.{Fiber}
+
+-- to take from a mailbox
+abbrev to_take : Option BoxName → Option Waits
+to_take None = None
+to_take (Some box) = Some (wait.Take box)
 
 on_ok : {A E : Type 0} (r : Result A E) (P Q : Type 0) → (P → Q) → OnOk r P → OnOk r Q
 on_ok (Ok x) P Q go w = go w
@@ -193,7 +200,7 @@ module _ (set : Setting) (code : Code) (old : Fiber) (x : Asked) (new : Fiber) (
       (receive n tree w.shape has.mid.heap has.root (message_sound p tree w.shape (subst (IsMessage p tree) same message)) has.received.put)
 
   -- it pauses at the take
-  refused_so : (box : BoxName) (deed : Option Deed) → Refused W mid new box → Holds set W marks old.task (course_of old) (paused_at box (behind_at 0 old.body)) → stands_at set old.task last ≡ Some box → deed ≡ None → Went code set old (ToTake box) deed new
+  refused_so : (box : BoxName) (deed : Option Deed) → Refused W mid new box → Holds set W marks old.task (course_of old) (paused_at box (behind_at 0 old.body)) → stands_at set old.task last ≡ Some (wait.Take box) → deed ≡ None → Went code set old (ToTake box) deed new
   refused_so box deed w holds at e =
       let few = held.few in
       let some = w.some in
@@ -209,7 +216,7 @@ module _ (set : Setting) (code : Code) (old : Fiber) (x : Asked) (new : Fiber) (
         is-main = held.is-main ∙ sym w.main;
         refused = λ other d. (
           omega (arith, some, count),
-          ap (λ (t : ℕ). stands_at set t last) w.task ∙ (at ∙ (sym w.refused ∙ d)),
+          ap (λ (t : ℕ). stands_at set t last) w.task ∙ (at ∙ ap to_take (sym w.refused ∙ d)),
         );
       } in
       let lone : IsLone set new.task (course_of new) last = subst (λ (c : Course). IsLone set new.task c last) (sym w.course) (subst (λ (t : ℕ). IsLone set t (course_of old) last) (sym w.task) is) in

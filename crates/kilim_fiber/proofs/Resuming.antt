@@ -13,6 +13,7 @@ use Rattle.kilim_run_state.specs.declared.value.Object.{Object}
 use Rattle.kilim_run_state.specs.declared.value.Token.{Token}
 use Rattle.kilim_units.specs.declared.memory.NoMemory.{NoMemory}
 use Rattle.kilim_run_model.specs.Course.{next_action, stands_at}
+use Rattle.kilim_run_model.specs.declared.waits.Waits.TheVariants as wait
 use Rattle.kilim_run_model.specs.Lone.{get_at}
 use Rattle.kilim_fiber.proofs.Ends.{own_end, own_wish}
 use Rattle.kilim_run_model.specs.State.{Setting}
@@ -149,7 +150,7 @@ module _ (code : Code) (limits : Limits) where
 
       by : (o : Option BoxName) → f.refused ≡ o → o ≡ None
       by None e = refl
-      by (Some box) e = absurd (none-some box (sym (ap get_at held.1) ∙ (can.stands.held.refused box e).1))
+      by (Some box) e = absurd (none-some (wait.Take box) (sym (ap get_at held.1) ∙ (can.stands.held.refused box e).1))
 
   pub idle_gives : (old new : Fiber) (w : Wants Fiber) → old.idle ≡ true → EndsIdle limits old new w → Gives old new w
   idle_gives old new w idle e =

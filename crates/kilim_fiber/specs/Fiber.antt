@@ -10,6 +10,7 @@ use Rattle.kilim_run_model.specs.State.{Setting}
 use Rattle.kilim_run_model.specs.Lone.{Lone}
 use Rattle.kilim_run_model.specs.Lone as thread
 use Rattle.kilim_run_model.specs.Course.{Course, plain, next_action, stands_at}
+use Rattle.kilim_run_model.specs.declared.waits.Waits.TheVariants as wait
 use Rattle.kilim_run_board.specs.fibers.Wishes.{Wish, ToPut, ToTake, ToProbe, ToStart, ToPrint, wish_of}
 use Rattle.kilim_fiber_laws.specs.woven_kin.Nexts.{counted, paused_at, taken_at, with_result}
 use Rattle.kilim_fiber_body.specs.Body.{standing_at, behind_at, RoomyIn, RoomIn, HasFrames}
@@ -63,13 +64,13 @@ pub record HoldsFiber (W : Program) (marks : List (List Bool)) (set : Setting) (
   pub most : f.body.count ≤ set.limits.steps
   pub is-main : set.main ≡ f.main
   -- where a take of it was just refused, it stands at a `get` of that mailbox, and not at its first instruction
-  pub refused : (box : BoxName) → f.refused ≡ Some box → (0 < f.body.count) × (stands_at set f.task last ≡ Some box)
+  pub refused : (box : BoxName) → f.refused ≡ Some box → (0 < f.body.count) × (stands_at set f.task last ≡ Some (wait.Take box))
 
 -- behind each answer that fits its wish it is a fiber of the further course
 abbrev pub CanGoOn : Program → List (List Bool) → Setting → ℕ → Course → Lone → Body → Option Wish → Type 0
 CanGoOn W marks set t c last b (Some (ToPut box shape)) = (n : ℕ) → Behind set W marks t c (plain (act.Put box n shape)) (counted (behind_at 0 b))
 CanGoOn W marks set t c last b (Some (ToTake box)) =
-    Holds set W marks t c (paused_at box (behind_at 0 b)) × CanReceive set W marks t c box (taken_at (behind_at 0 b)) × (stands_at set t last ≡ Some box) × RoomIn W b.frames
+    Holds set W marks t c (paused_at box (behind_at 0 b)) × CanReceive set W marks t c box (taken_at (behind_at 0 b)) × (stands_at set t last ≡ Some (wait.Take box)) × RoomIn W b.frames
 CanGoOn W marks set t c last b (Some (ToProbe box)) =
     Behind set W marks t c (plain (act.Empty box)) (with_result (Some Null) (counted (behind_at 0 b))) × CanReceive set W marks t c box (counted (behind_at 0 b)) × RoomIn W b.frames
 CanGoOn W marks set t c last b (Some (ToStart shape)) = (n : ℕ) → Behind set W marks t c (plain (act.Start n shape)) (counted (behind_at 0 b))

@@ -111,6 +111,8 @@ module _ (set : Setting) (t : ℕ) where
 
 abbrev pub IsAction : ℕ → Action → Next → Type 0
 IsAction n (action.Puts box root shape) x = (after : Lone) × (x ≡ thread.Puts box root shape after)
+IsAction n (action.PutWaits box root shape) x = (after : Lone) × (x ≡ thread.PutWaits box root shape after)
+IsAction n (action.Bounds box most) x = (after : Lone) × (x ≡ thread.Bounds box most after)
 IsAction n (action.Gets box) x = (after : Lone) × (x ≡ thread.Gets box after) × (after.next ≡ n)
 IsAction n (action.Probes box) x = (after : Lone) × (x ≡ thread.Probes box after) × (after.next ≡ n)
 IsAction n (action.Starts root shape) x = (after : Lone) × (x ≡ thread.Starts root shape after)
@@ -120,6 +122,8 @@ IsAction n (action.Ends why) x = (after : Lone) × (x ≡ thread.Ends why after)
 acting : (n : ℕ) (x : Next) → Keeps n x → (a : Action) (o : Option Lone) → wanted x ≡ Some (a, o) → IsAction n a x × (is_act x ≡ true)
 acting n (thread.Goes after) k a o e = absurd (none-some (a, o) e)
 acting n (thread.Puts box root shape after) k a o e = (subst (λ (z : Action × Option Lone). IsAction n z.0 (thread.Puts box root shape after)) (same_Some _ _ e) (after, refl), refl)
+acting n (thread.PutWaits box root shape after) k a o e = (subst (λ (z : Action × Option Lone). IsAction n z.0 (thread.PutWaits box root shape after)) (same_Some _ _ e) (after, refl), refl)
+acting n (thread.Bounds box most after) k a o e = (subst (λ (z : Action × Option Lone). IsAction n z.0 (thread.Bounds box most after)) (same_Some _ _ e) (after, refl), refl)
 acting n (thread.Gets box after) k a o e = (subst (λ (z : Action × Option Lone). IsAction n z.0 (thread.Gets box after)) (same_Some _ _ e) (after, refl, k), refl)
 acting n (thread.Probes box after) k a o e = (subst (λ (z : Action × Option Lone). IsAction n z.0 (thread.Probes box after)) (same_Some _ _ e) (after, refl, k), refl)
 acting n (thread.Starts root shape after) k a o e = (subst (λ (z : Action × Option Lone). IsAction n z.0 (thread.Starts root shape after)) (same_Some _ _ e) (after, refl), refl)
@@ -143,6 +147,8 @@ module _ (limit : ℕ) where
   all_within : (d : ℕ) → d < limit → (x : Next) → Within d x
   all_within d lt (thread.Goes after) = tt
   all_within d lt (thread.Puts box root shape after) = lt
+  all_within d lt (thread.PutWaits box root shape after) = lt
+  all_within d lt (thread.Bounds box most after) = lt
   all_within d lt (thread.Gets box after) = lt
   all_within d lt (thread.Probes box after) = lt
   all_within d lt (thread.Starts root shape after) = lt
@@ -153,6 +159,8 @@ module _ (limit : ℕ) where
   left_of : (d : ℕ) (x : Next) → Within d x → (a : Action) (o : Option Lone) → wanted x ≡ Some (a, o) → IsLeft d a
   left_of d (thread.Goes after) k a o e = absurd (none-some (a, o) e)
   left_of d (thread.Puts box root shape after) k a o e = subst (λ (z : Action × Option Lone). IsLeft d z.0) (same_Some _ _ e) k
+  left_of d (thread.PutWaits box root shape after) k a o e = subst (λ (z : Action × Option Lone). IsLeft d z.0) (same_Some _ _ e) k
+  left_of d (thread.Bounds box most after) k a o e = subst (λ (z : Action × Option Lone). IsLeft d z.0) (same_Some _ _ e) k
   left_of d (thread.Gets box after) k a o e = subst (λ (z : Action × Option Lone). IsLeft d z.0) (same_Some _ _ e) k
   left_of d (thread.Probes box after) k a o e = subst (λ (z : Action × Option Lone). IsLeft d z.0) (same_Some _ _ e) k
   left_of d (thread.Starts root shape after) k a o e = subst (λ (z : Action × Option Lone). IsLeft d z.0) (same_Some _ _ e) k

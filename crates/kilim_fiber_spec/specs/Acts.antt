@@ -40,6 +40,8 @@ pub record World : Type 0 where
 -- what a task wants of others next; `root` is the object whose tree is put or started
 pub data Action : Type 0 where
   Puts : (box : BoxName) (root : ℕ) (shape : List Token) → Action
+  PutWaits : (box : BoxName) (root : ℕ) (shape : List Token) → Action
+  Bounds : (box : BoxName) (most : ℕ) → Action
   Gets : (box : BoxName) → Action
   Probes : (box : BoxName) → Action
   Starts : (root : ℕ) (shape : List Token) → Action
@@ -91,9 +93,10 @@ module _ {S : Type 0} (set : Setting) (w : World) (over : Over → S) where
   gave n act rest = record (behind act rest) { heap = without w.heap (tree_names set.program w.heap n) }
 
   module _ (go : World → Option Value → S) where
-    -- others decide the number of a put, and of a start, or that there are too many tasks
+    -- others decide the number of a put, or that its mailbox is full, and the number of a start, or that there are too many tasks
     abbrev pub put_by : BoxName → List Token → ℕ → Act → List Deed → S
     put_by box shape n (Put b k s) rest = go (gave n (Put box k shape) rest) None
+    put_by box shape n (End c) rest = last cause.Full rest
     put_by box shape n act rest = over Astray
 
     abbrev pub puts : BoxName → ℕ → Option (List Token) → S

@@ -11,7 +11,7 @@ use Rattle.kilim_run_state.specs.declared.value.Object.{Object}
 use Rattle.kilim_run_state.specs.Machine.{Activation, Objects}
 use Rattle.kilim_program.specs.Members.{execute_of, is_concrete}
 use Rattle.kilim_run_model.specs.State.{Alive, Ended, Setting, Thread, begun_on, is_fit}
-use Rattle.kilim_run_model.specs.Lone.{Lone, Next, Goes, Puts, Gets, Probes, Starts, Prints, Ends, Stands, next_move}
+use Rattle.kilim_run_model.specs.Lone.{Lone, Next, Goes, Puts, PutWaits, Bounds, Gets, Probes, Starts, Prints, Ends, Stands, next_move}
 use Rattle.kilim_run_model.specs.Course.{Course, Done, Follows, IsLone, Moves, Quiet, Stays, done_by, next_action}
 use Rattle.kilim_run_model.specs.declared.deed.Deed.{Deed}
 use Rattle.kilim_type_spec.specs.Typed.{IsWellTyped}
@@ -40,6 +40,8 @@ did_act : (set : Setting) (x : Next) (d : Deed) (y : Done) â†’ done_by set x d â
 did_act set (Goes l) d y e = absurd (cc)
 did_act set Stands d y e = absurd (cc)
 did_act set (Puts box root shape l) d y e = refl
+did_act set (PutWaits box root shape l) d y e = refl
+did_act set (Bounds box most l) d y e = refl
 did_act set (Gets box l) d y e = refl
 did_act set (Probes box l) d y e = refl
 did_act set (Starts root shape l) d y e = refl

@@ -30,10 +30,10 @@ use Rattle.kilim_run_machine.specs.Natives as native
 use Rattle.kilim_run_state.specs.Shapes.{shape_of}
 use Rattle.kilim_run_state.specs.Trees.{OfMessage, built, tree_names, with_objects, without}
 use Rattle.kilim_run_journal.specs.declared.entry.Act.{Act}
-use Rattle.kilim_run_journal.specs.declared.entry.Act.TheVariants.{Put, Take, Empty, Start, Print, End}
+use Rattle.kilim_run_journal.specs.declared.entry.Act.TheVariants.{Put, Take, Empty, Start, Print, End, Bound}
 use Rattle.kilim_run_model.specs.State.{Setting, Thread, Alive, Ended, begun_on, is_fit}
-use Rattle.kilim_run_model.specs.Lone.{Lone, Next, Goes, Puts, Gets, Probes, Starts, Prints, Ends, Stands, arg_at, arg_next, asks_next, begins_next, box_limit, ended, finish_next, frames_next, message_next, native_next, next_by, next_move, on_heap, opens_next, over, print_next, printed, pushed, put_next, start_next, thread_next, went}
-use Rattle.kilim_run_model.specs.Course.{Done, done_by, probes_deed, puts_deed, received, starts_deed, takes_deed, tree_came, tree_left}
+use Rattle.kilim_run_model.specs.Lone.{Lone, Next, Goes, Puts, PutWaits, Bounds, Gets, Probes, Starts, Prints, Ends, Stands, arg_at, arg_next, asks_next, begins_next, box_limit, ended, finish_next, frames_next, message_next, native_next, next_by, next_move, on_heap, opens_next, over, print_next, printed, pushed, put_next, start_next, thread_next, went}
+use Rattle.kilim_run_model.specs.Course.{Done, done_by, fills_deed, probes_deed, puts_deed, received, starts_deed, takes_deed, tree_came, tree_left}
 use Rattle.kilim_run_model.specs.declared.deed.Deed.{Deed}
 use Rattle.kilim_type_spec.specs.Step.{vtype}
 use Rattle.kilim_type_spec.specs.Typed.{has_code}
@@ -109,6 +109,8 @@ module _ (set : Setting) (wanted : Wanted) (listed : Listed) (sound : IsSound se
   abbrev NextStands : Next → Type 0
   NextStands (Goes after) = (of : Classes) → On of after → Stood after
   NextStands (Puts box root shape after) = Stood (tree_left p root after)
+  NextStands (PutWaits box root shape after) = Stood (tree_left p root after)
+  NextStands (Bounds box most after) = Stood after
   NextStands (Gets box after) = Receives after
   NextStands (Probes box after) = Receives after × Stood (pushed Null after)
   NextStands (Starts root shape after) = Stood (tree_left p root after)
@@ -315,6 +317,12 @@ module _ (set : Setting) (wanted : Wanted) (listed : Listed) (sound : IsSound se
   puts_stand box root shape l (Put b q s) act after f e = did_stands (Put box q shape) act (tree_left p root l) after e f
   puts_stand box root shape l _ act after f e = absurd (cc)
 
+  -- a put that a full mailbox ends
+  fills_stand : (box : BoxName) (root : ℕ) (shape : List Token) (l : Lone) (own act : Act) (after : Lone) → Stood (tree_left p root l) → Did (fills_deed p box root shape l own) act after → Stood after
+  fills_stand box root shape l (Put b q s) act after f e = puts_stand box root shape l (Put b q s) act after f e
+  fills_stand box root shape l (End why) act after f e = did_stands (End cause.Full) act (ended l cause.Full) after e tt
+  fills_stand box root shape l _ act after f e = absurd (cc)
+
   starts_stand : (root : ℕ) (shape : List Token) (l : Lone) (own act : Act) (after : Lone) → Stood (tree_left p root l) → Did (starts_deed p root shape l own) act after → Stood after
   starts_stand root shape l (Start q s) act after f e = did_stands (Start q shape) act (tree_left p root l) after e f
   starts_stand root shape l (End why) act after f e = did_stands (End cause.Tasks) act (ended l cause.Tasks) after e tt
@@ -335,7 +343,9 @@ module _ (set : Setting) (wanted : Wanted) (listed : Listed) (sound : IsSound se
 
   deed_stands : (next : Next) (d : Deed) (act : Act) (after : Lone) → NextStands next → Did (done_by set next d) act after → Stood after
   deed_stands (Goes l) d act after f e = absurd (cc)
-  deed_stands (Puts box root shape l) d act after f e = puts_stand box root shape l d.act act after f e
+  deed_stands (Puts box root shape l) d act after f e = fills_stand box root shape l d.act act after f e
+  deed_stands (PutWaits box root shape l) d act after f e = puts_stand box root shape l d.act act after f e
+  deed_stands (Bounds box most l) d act after f e = did_stands (Bound box most) act l after e f
   deed_stands (Gets box l) d act after f e = takes_stand box l d d.act act after f e
   deed_stands (Probes box l) d act after f e = probes_stand box l d d.act act after f e
   deed_stands (Starts root shape l) d act after f e = starts_stand root shape l d.act act after f e

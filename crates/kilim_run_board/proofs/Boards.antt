@@ -9,48 +9,54 @@ use Rattle.kilim_program.specs.declared.names.BoxName.{BoxName}
 use Rattle.kilim_run_state.specs.declared.value.Token.{Token}
 use Rattle.kilim_run_journal.specs.declared.entry.Act.TheVariants.{Put, Start}
 use Rattle.kilim_program.specs.Names.{◌>>=◌}
-use Rattle.kilim_run_model.specs.State.{Setting, same_box, with_mailbox}
+use Rattle.kilim_run_model.specs.State.{Setting, is_full, is_full_at, same_box, with_mailbox, with_message, with_queue}
+use Rattle.kilim_run_model.specs.declared.waits.Waits.{Waits}
+use Rattle.kilim_run_model.specs.declared.waits.Waits.TheVariants as wait
 use Rattle.kilim_run_model.specs.Turn.{task_limit}
 use Rattle.kilim_run_model.specs.Runs.{wait_entry, where_empty}
 use Rattle.kilim_run_board.specs.Places.{Ready, Lent, Parked, Place, is_task, is_at, is_parked_at, is_astray, is_out, Stood}
-use Rattle.kilim_run_board.specs.Board.{Board, lent_of, ready_of, parked_of, places_of, alive_course, is_alive, lone_stands, stands_in, to_serve, HoldsQueue, HoldsPost, IsOwn, BoardStands, parked_box, closing, Parks, GivesBack}
+use Rattle.kilim_run_board.specs.Board.{Board, lent_of, ready_of, parked_of, places_of, alive_course, is_alive, lone_stands, stands_in, may_wait, due_in, HoldsQueue, HoldsPost, IsOwn, BoardStands, parked_box, closing, Parks, GivesBack}
 use Rattle.kilim_run_board.specs.waiting.Parked.{woken, ready_after, parked_after}
 use Rattle.kilim_run_board.specs.waiting.Mailboxes.{SameMails, Tree, Post, Mail}
 use Rattle.kilim_run_board.specs.Seen.{GiveAnswers, gives_at}
 use Rattle.kilim_run_board.specs.declared.waiting.parked.Waiter.{Waiter}
 use Rattle.kilim_run_board.specs.waiting.Parked.{StandsBehind}
-use Rattle.kilim_run_board.proofs.Places.{front, stood_shuffled, only_there, is_alive as front_alive, lent, given_back, parked, acts, puts, wakes, ended, comes, fewer_messages, unseen, at_rest, one_box, front_no}
+use Rattle.kilim_run_board.proofs.Places.{front, stood_shuffled, only_there, is_alive as front_alive, lent, given_back, parked, acts, alone, wakes, Changes, ended, comes, less_due, unseen, at_rest, one_place, front_no}
+use Rattle.kilim_run_board.proofs.Dues.{put_changes, take_changes}
 use Rattle.kilim_run_board.proofs.waiting.Names.{both_ways, same_name, box_itself}
 use Rattle.kilim_lemmas.proofs.Lists.{set_there, set_length, get_front, get_last}
 use Rattle.kilim_run_board.proofs.waiting.Lists.{get_set_other, get_past, got_within, length_pushed}
-use Rattle.kilim_run_board.proofs.Replays.{some_injective, ends_pushed, replay_on, replay_started}
+use Rattle.kilim_run_board.proofs.Replays.{some_injective, ends_pushed, not_full, replay_on, replay_started}
 use Rattle.kilim_run_board.proofs.Deeds.{end_is}
 use Rattle.kilim_run_board.proofs.Seats.{counted_apart, at_seat, seated, at_the_back, at_mailbox, at_the_front, IsWoken, woken_is, woken_all, nobody_waits}
-use Rattle.kilim_run_model.specs.Lone.{Lone, Next, Goes, Puts, Gets, Probes, Starts, Prints, Ends, Stands, get_at}
+use Rattle.kilim_run_model.specs.Lone.{Lone, Next, Goes, Puts, PutWaits, Bounds, Gets, Probes, Starts, Prints, Ends, Stands, get_at}
 use Rattle.kilim_run_model.specs.Course.{next_action, done_by, Course, IsLone, is_end, has_ended, stands_at, plain}
 use Rattle.kilim_run_model.specs.declared.deed.Deed.{Deed}
 use Rattle.kilim_run_model.specs.declared.deed.Beginning.TheVariants.{Begun}
-use Rattle.kilim_run_model.specs.Moving.{Books, MovedReplay, MovedAtRest, books_after, books_by, if_empty, waits_at, waits_from, all_at_rest, further}
-use Rattle.kilim_run_board.specs.fibers.Wishes.{IsMessage, Wish, ToPut, ToTake, ToProbe, ToStart, ToPrint, wish_of}
+use Rattle.kilim_run_model.specs.Moving.{Books, MovedReplay, MovedAtRest, FullHere, books_after, books_by, if_waits, waits_at, waits_from, all_at_rest, further}
+use Rattle.kilim_run_board.specs.fibers.Wishes.{IsMessage, Wish, ToPut, ToPutWait, ToBound, ToTake, ToProbe, ToStart, ToPrint, wish_of}
 use Rattle.kilim_run_board.specs.fibers.Fibers.{StandsFor}
 
 abbrev bit : Bool → ℕ
 bit b = cond b 1 0
 
--- ---- the next action and the mailbox at whose `get` a thread stands
+-- ---- the next action and what a thread may have to wait for
 
-abbrev pub box_of_wish : Wish → Option BoxName
-box_of_wish (ToTake box) = Some box
-box_of_wish w = None
+abbrev pub wait_of_wish : Wish → Option Waits
+wait_of_wish (ToTake box) = Some (wait.Take box)
+wait_of_wish (ToPutWait box shape) = Some (wait.Put box)
+wait_of_wish w = None
 
-pub get_of_wish : (n : Next) (w : Wish) → wish_of n ≡ Some w → get_at n ≡ box_of_wish w
+pub get_of_wish : (n : Next) (w : Wish) → wish_of n ≡ Some w → get_at n ≡ wait_of_wish w
 get_of_wish (Goes l) w e = absurd (cc)
-get_of_wish (Puts box root shape l) w e = ap box_of_wish (some_injective (ToPut box shape) w e)
-get_of_wish (Gets box l) w e = ap box_of_wish (some_injective (ToTake box) w e)
-get_of_wish (Probes box l) w e = ap box_of_wish (some_injective (ToProbe box) w e)
-get_of_wish (Starts root shape l) w e = ap box_of_wish (some_injective (ToStart shape) w e)
-get_of_wish (Prints shape l) w e = ap box_of_wish (some_injective (ToPrint (shape ∷ [])) w e)
-get_of_wish (Ends why l) w e = ap box_of_wish (sym (end_is why w e).0)
+get_of_wish (Puts box root shape l) w e = ap wait_of_wish (some_injective (ToPut box shape) w e)
+get_of_wish (PutWaits box root shape l) w e = ap wait_of_wish (some_injective (ToPutWait box shape) w e)
+get_of_wish (Bounds box most l) w e = ap wait_of_wish (some_injective (ToBound box most) w e)
+get_of_wish (Gets box l) w e = ap wait_of_wish (some_injective (ToTake box) w e)
+get_of_wish (Probes box l) w e = ap wait_of_wish (some_injective (ToProbe box) w e)
+get_of_wish (Starts root shape l) w e = ap wait_of_wish (some_injective (ToStart shape) w e)
+get_of_wish (Prints shape l) w e = ap wait_of_wish (some_injective (ToPrint (shape ∷ [])) w e)
+get_of_wish (Ends why l) w e = ap wait_of_wish (sym (end_is why w e).0)
 get_of_wish Stands w e = absurd (cc)
 
 -- ---- what a fiber is given back as
@@ -92,26 +98,28 @@ no_more (x ∷ xs) e = absurd (omega arith)
 itself : (n : ℕ) → (n == n) ≡ true
 itself n = grind (arith, nat_tests)
 
--- ---- what is asked to be served
+-- ---- who is parked
 
-pub serves_other : (stopped : Bool) (posts : BoxName → Post) (box x : BoxName) (post : Post) → same_box x box ≡ false → to_serve stopped (with_mailbox posts box post) x ≡ to_serve stopped posts x
-serves_other true posts box x post e = refl
-serves_other false posts box x post e = ap (λ y. length (if y then post else posts x).queue) e
+none_ready : {F : Type 0} (task : F → ℕ) (w : Waits) (fs : List F) → count_by (is_parked_at w) (ready_of task fs) ≡ 0
+none_ready task w [] = refl
+none_ready task w (f ∷ fs) = front_no (is_parked_at w) (record { spot = Ready; task = task f }) (ready_of task fs) refl ∙ none_ready task w fs
 
-serves_here : (stopped : Bool) (posts : BoxName → Post) (box : BoxName) (puts : ℕ) (m : ℕ × List Token) → to_serve stopped (with_mailbox posts box (record { puts = puts; queue = (posts box).queue ++ m ∷ [] })) box ≤ to_serve stopped posts box + 1
-serves_here true posts box puts m = omega arith
-serves_here false posts box puts m =
-    let e : length (with_mailbox posts box (record { puts = puts; queue = (posts box).queue ++ m ∷ [] }) box).queue ≡ length ((posts box).queue ++ m ∷ []) = ap (λ y. length (if y then record { puts = puts; queue = (posts box).queue ++ m ∷ [] } else posts box).queue) (box_itself box) in
-    let f : length ((posts box).queue ++ m ∷ []) ≡ suc (length (posts box).queue) = length_pushed (posts box).queue m in omega arith
+none_lent : (w : Waits) (cells : List (Option ℕ)) → count_by (is_parked_at w) (lent_of cells) ≡ 0
+none_lent w [] = refl
+none_lent w (None ∷ cs) = none_lent w cs
+none_lent w (Some t ∷ cs) = front_no (is_parked_at w) (record { spot = Lent; task = t }) (lent_of cs) refl ∙ none_lent w cs
 
-none_ready : {F : Type 0} (task : F → ℕ) (box : BoxName) (fs : List F) → count_by (is_parked_at box) (ready_of task fs) ≡ 0
-none_ready task box [] = refl
-none_ready task box (f ∷ fs) = front_no (is_parked_at box) (record { spot = Ready; task = task f }) (ready_of task fs) refl ∙ none_ready task box fs
+-- nobody is parked to put
+none_putting : {F : Type 0} (task : F → ℕ) (box : BoxName) (ws : List (Waiter F)) → count_by (is_parked_at (wait.Put box)) (parked_of task ws) ≡ 0
+none_putting task box [] = refl
+none_putting task box (w ∷ ws) = front_no (is_parked_at (wait.Put box)) (record { spot = Parked (wait.Take w.mailbox); task = task w.fiber }) (parked_of task ws) refl ∙ none_putting task box ws
 
-none_lent : (box : BoxName) (cells : List (Option ℕ)) → count_by (is_parked_at box) (lent_of cells) ≡ 0
-none_lent box [] = refl
-none_lent box (None ∷ cs) = none_lent box cs
-none_lent box (Some t ∷ cs) = front_no (is_parked_at box) (record { spot = Lent; task = t }) (lent_of cs) refl ∙ none_lent box cs
+nobody_there : {F : Type 0} (task : F → ℕ) (w : Waits) (ready : List F) (cells : List (Option ℕ)) (ws : List (Waiter F)) → count_by (is_parked_at w) (parked_of task ws) ≡ 0 → count_by (is_parked_at w) (places_of task ready cells ws) ≡ 0
+nobody_there task w ready cells ws none =
+    let e : count_by (is_parked_at w) (places_of task ready cells ws) ≡ count_by (is_parked_at w) (ready_of task ready) + (count_by (is_parked_at w) (lent_of cells) + count_by (is_parked_at w) (parked_of task ws)) =
+    counted_apart (is_parked_at w) (ready_of task ready) (lent_of cells ++ parked_of task ws) ∙ ap (λ n. count_by (is_parked_at w) (ready_of task ready) + n) (counted_apart (is_parked_at w) (lent_of cells) (parked_of task ws)) in
+    let e0 = none_ready task w ready in
+    let e1 = none_lent w cells in omega arith
 
 pub holds_with : (p : Program) (mails : BoxName → Mail) (posts : BoxName → Post) (box : BoxName) (mail : Mail) (post : Post) → ((x : BoxName) → HoldsPost p (mails x) (posts x)) → HoldsPost p mail post →
     (x : BoxName) → HoldsPost p (with_mailbox mails box mail x) (with_mailbox posts box post x)
@@ -120,6 +128,16 @@ holds_with p mails posts box mail post all one x = held_by (same_box x box)
     held_by : (y : Bool) → HoldsPost p (if y then mail else mails x) (if y then post else posts x)
     held_by true = one
     held_by false = all x
+
+queue_length : (p : Program) (ms : List (ℕ × Tree)) (qs : List (ℕ × List Token)) → HoldsQueue p ms qs → length ms ≡ length qs
+queue_length p [] [] held = refl
+queue_length p [] (q ∷ qs) held = absurd held
+queue_length p (m ∷ ms) [] held = absurd held
+queue_length p (m ∷ ms) (q ∷ qs) held = ap suc (queue_length p ms qs held.2)
+
+-- both are full, or none
+pub full_alike : (p : Program) (mail : Mail) (post : Post) → HoldsPost p mail post → is_full mail ≡ is_full post
+full_alike p mail post held = ap (λ m. is_full_at m (length mail.queue)) held.most ∙ ap (is_full_at post.most) (queue_length p mail.queue post.queue held.queue)
 
 queue_pushed : (p : Program) (ms : List (ℕ × Tree)) (qs : List (ℕ × List Token)) (m : ℕ × Tree) (q : ℕ × List Token) → HoldsQueue p ms qs → m.0 ≡ q.0 → IsMessage p m.1 q.1 → HoldsQueue p (ms ++ m ∷ []) (qs ++ q ∷ [])
 queue_pushed p [] [] m q held same is = (same, is, tt)
@@ -145,13 +163,13 @@ module _ {F : Type 0} (task : F → ℕ) (course : F → Course) (holds : Settin
     alive = st.alive;
     found = λ going. st.found (sym stopped ∙ going);
     stood =
-        let s : Stood st.there (stands_in set st.state.lones) (to_serve b'.stopped st.state.books.mailboxes) (places_of task b.ready b.cells b.parked) =
-        subst (λ x. Stood st.there (stands_in set st.state.lones) (to_serve x st.state.books.mailboxes) (places_of task b.ready b.cells b.parked)) (sym stopped) st.stood in
-        let s1 : Stood st.there (stands_in set st.state.lones) (to_serve b'.stopped st.state.books.mailboxes) (places_of task b'.ready b.cells b.parked) =
-        subst (λ x. Stood st.there (stands_in set st.state.lones) (to_serve b'.stopped st.state.books.mailboxes) (places_of task x b.cells b.parked)) (sym ready) s in
-        let s2 : Stood st.there (stands_in set st.state.lones) (to_serve b'.stopped st.state.books.mailboxes) (places_of task b'.ready b'.cells b.parked) =
-        subst (λ x. Stood st.there (stands_in set st.state.lones) (to_serve b'.stopped st.state.books.mailboxes) (places_of task b'.ready x b.parked)) (sym cells) s1 in
-        subst (λ x. Stood st.there (stands_in set st.state.lones) (to_serve b'.stopped st.state.books.mailboxes) (places_of task b'.ready b'.cells x)) (sym parked) s2;
+        let s : Stood st.there (stands_in set st.state.lones) (may_wait st.state.books.mailboxes) (due_in b'.stopped st.state.books.mailboxes) (places_of task b.ready b.cells b.parked) =
+        subst (λ x. Stood st.there (stands_in set st.state.lones) (may_wait st.state.books.mailboxes) (due_in x st.state.books.mailboxes) (places_of task b.ready b.cells b.parked)) (sym stopped) st.stood in
+        let s1 : Stood st.there (stands_in set st.state.lones) (may_wait st.state.books.mailboxes) (due_in b'.stopped st.state.books.mailboxes) (places_of task b'.ready b.cells b.parked) =
+        subst (λ x. Stood st.there (stands_in set st.state.lones) (may_wait st.state.books.mailboxes) (due_in b'.stopped st.state.books.mailboxes) (places_of task x b.cells b.parked)) (sym ready) s in
+        let s2 : Stood st.there (stands_in set st.state.lones) (may_wait st.state.books.mailboxes) (due_in b'.stopped st.state.books.mailboxes) (places_of task b'.ready b'.cells b.parked) =
+        subst (λ x. Stood st.there (stands_in set st.state.lones) (may_wait st.state.books.mailboxes) (due_in b'.stopped st.state.books.mailboxes) (places_of task b'.ready x b.parked)) (sym cells) s1 in
+        subst (λ x. Stood st.there (stands_in set st.state.lones) (may_wait st.state.books.mailboxes) (due_in b'.stopped st.state.books.mailboxes) (places_of task b'.ready b'.cells x)) (sym parked) s2;
     ready = subst (λ fs. AllByRecursion (Own st.state.books.courses) fs) (sym ready) st.ready;
     parked = subst (λ fs. AllByRecursion (λ (w : Waiter F). Own st.state.books.courses w.fiber) fs) (sym parked) st.parked;
   }
@@ -176,8 +194,8 @@ module _ {F : Type 0} (task : F → ℕ) (course : F → Course) (holds : Settin
     there = st.there;
     alive = st.alive;
     found = st.found;
-    stood = stood_shuffled st.there (stands_in set st.state.lones) (to_serve b.stopped st.state.books.mailboxes) _ _ (seated task fs b.cells b.parked seat (task f) free)
-        (lent st.there (stands_in set st.state.lones) (to_serve b.stopped st.state.books.mailboxes) (task f) (places_of task fs b.cells b.parked) st.stood);
+    stood = stood_shuffled st.there (stands_in set st.state.lones) (may_wait st.state.books.mailboxes) (due_in b.stopped st.state.books.mailboxes) _ _ (seated task fs b.cells b.parked seat (task f) free)
+        (lent st.there (stands_in set st.state.lones) (may_wait st.state.books.mailboxes) (due_in b.stopped st.state.books.mailboxes) (task f) (places_of task fs b.cells b.parked) st.stood);
     ready = st.ready.1;
     parked = st.parked;
   }
@@ -199,7 +217,7 @@ module _ {F : Type 0} (task : F → ℕ) (course : F → Course) (holds : Settin
       (ws : List (Waiter F)) → count_by (is_task t) (parked_of task ws) ≡ 0 → AllByRecursion (λ (w : Waiter F). Own courses w.fiber) ws → AllByRecursion (λ (w : Waiter F). Own courses' w.fiber) ws
   parked_own t courses courses' kept [] none all = tt
   parked_own t courses courses' kept (w ∷ ws) none all =
-      let e : count_by (is_task t) (parked_of task (w ∷ ws)) ≡ bit (task w.fiber == t) + count_by (is_task t) (parked_of task ws) = front (is_task t) (record { spot = Parked w.mailbox; task = task w.fiber }) (parked_of task ws) in
+      let e : count_by (is_task t) (parked_of task (w ∷ ws)) ≡ bit (task w.fiber == t) + count_by (is_task t) (parked_of task ws) = front (is_task t) (record { spot = Parked (wait.Take w.mailbox); task = task w.fiber }) (parked_of task ws) in
       (others_own t courses courses' kept w.fiber (bit_none (task w.fiber == t) (omega arith)) all.0, parked_own t courses courses' kept ws (omega arith) all.1)
 
   module _ (b : Board F) (st : Stand b) (seat t : ℕ) (is-lent : slice_get b.cells seat ≡ Some (Some t)) where
@@ -209,20 +227,23 @@ module _ {F : Type 0} (task : F → ℕ) (course : F → Course) (holds : Settin
     abbrev others : List Place
     others = places_of task b.ready (slice_set b.cells seat None) b.parked
 
-    abbrev messages : BoxName → ℕ
-    messages = to_serve b.stopped st.state.books.mailboxes
+    abbrev may : Waits → Bool
+    may = may_wait st.state.books.mailboxes
 
-    abbrev stands : ℕ → Option BoxName
+    abbrev due : Waits → ℕ
+    due = due_in b.stopped st.state.books.mailboxes
+
+    abbrev stands : ℕ → Option Waits
     stands = stands_in set st.state.lones
 
-    lent_front : Stood st.there stands messages (record { spot = Lent; task = t } ∷ others)
-    lent_front = stood_shuffled st.there stands messages (places_of task b.ready b.cells b.parked) (record { spot = Lent; task = t } ∷ others) (at_seat task b.ready b.cells b.parked seat t is-lent) st.stood
+    lent_front : Stood st.there stands may due (record { spot = Lent; task = t } ∷ others)
+    lent_front = stood_shuffled st.there stands may due (places_of task b.ready b.cells b.parked) (record { spot = Lent; task = t } ∷ others) (at_seat task b.ready b.cells b.parked seat t is-lent) st.stood
 
     elsewhere : count_by (is_task t) others ≡ 0
-    elsewhere = only_there st.there stands messages (record { spot = Lent; task = t }) others lent_front
+    elsewhere = only_there st.there stands may due (record { spot = Lent; task = t }) others lent_front
 
     pub is_there : st.there t ≡ true
-    is_there = front_alive st.there stands messages (record { spot = Lent; task = t }) others lent_front
+    is_there = front_alive st.there stands may due (record { spot = Lent; task = t }) others lent_front
 
     elsewhere_split : count_by (is_task t) others ≡ count_by (is_task t) (ready_of task b.ready) + (count_by (is_task t) (lent_of cells) + count_by (is_task t) (parked_of task b.parked))
     elsewhere_split = counted_apart (is_task t) (ready_of task b.ready) (lent_of cells ++ parked_of task b.parked) ∙ ap (λ n. count_by (is_task t) (ready_of task b.ready) + n) (counted_apart (is_task t) (lent_of cells) (parked_of task b.parked))
@@ -243,14 +264,14 @@ module _ {F : Type 0} (task : F → ℕ) (course : F → Course) (holds : Settin
       there = st.there;
       alive = st.alive;
       found = st.found;
-      stood = stood_shuffled st.there stands messages (record { spot = Ready; task = task f } ∷ others) (places_of task (b.ready ++ f ∷ []) cells b.parked) (at_the_back task b.ready cells b.parked f)
-          (subst (λ u. Stood st.there stands messages (record { spot = Ready; task = u } ∷ others)) (sym same) (given_back st.there stands messages t others lent_front));
+      stood = stood_shuffled st.there stands may due (record { spot = Ready; task = task f } ∷ others) (places_of task (b.ready ++ f ∷ []) cells b.parked) (at_the_back task b.ready cells b.parked f)
+          (subst (λ u. Stood st.there stands may due (record { spot = Ready; task = u } ∷ others)) (sym same) (given_back st.there stands may due t others lent_front));
       ready = all_pushed (Own st.state.books.courses) b.ready f st.ready own;
       parked = st.parked;
     }
 
     -- the lent fiber is parked
-    pub back_parked : (f : F) (box : BoxName) (parked' : List (Waiter F)) → StandsBehind (record { mailbox = box; fiber = f }) b.parked parked' → task f ≡ t → Own st.state.books.courses f → is_at (stands t) box ≡ true → messages box ≡ 0 →
+    pub back_parked : (f : F) (box : BoxName) (parked' : List (Waiter F)) → StandsBehind (record { mailbox = box; fiber = f }) b.parked parked' → task f ≡ t → Own st.state.books.courses f → is_at (stands t) (wait.Take box) ≡ true → due (wait.Take box) ≡ 0 →
         Stand (without_cell b seat b.ready parked')
     back_parked f box parked' behind same own at-it empty = record {
       state = st.state;
@@ -260,9 +281,9 @@ module _ {F : Type 0} (task : F → ℕ) (course : F → Course) (holds : Settin
       there = st.there;
       alive = st.alive;
       found = st.found;
-      stood = stood_shuffled st.there stands messages (record { spot = Parked box; task = task f } ∷ others) (places_of task b.ready cells parked')
+      stood = stood_shuffled st.there stands may due (record { spot = Parked (wait.Take box); task = task f } ∷ others) (places_of task b.ready cells parked')
           (at_mailbox task b.ready cells b.parked parked' (record { mailbox = box; fiber = f }) behind)
-          (subst (λ u. Stood st.there stands messages (record { spot = Parked box; task = u } ∷ others)) (sym same) (parked st.there stands messages t box others at-it empty lent_front));
+          (subst (λ u. Stood st.there stands may due (record { spot = Parked (wait.Take box); task = u } ∷ others)) (sym same) (parked st.there stands may due t (wait.Take box) others at-it refl empty lent_front));
       ready = st.ready;
       parked = all_behind (λ (w : Waiter F). Own st.state.books.courses w.fiber) (record { mailbox = box; fiber = f }) b.parked parked' behind st.parked own;
     }
@@ -292,7 +313,7 @@ module _ {F : Type 0} (task : F → ℕ) (course : F → Course) (holds : Settin
       there = there_without st.there;
       alive = λ u e. st.alive u (there_less st.there u e).1;
       found = λ e. absurd (cc);
-      stood = ended st.there stands (λ box. 0) (there_without st.there) t others gone (there_kept st.there) (λ box. inr refl) (fewer_messages st.there stands messages (λ box. 0) (record { spot = Lent; task = t } ∷ others) (λ box. omega arith) lent_front);
+      stood = ended st.there stands may (λ w. 0) (there_without st.there) t others gone (there_kept st.there) (λ w. inr refl) (less_due st.there stands may due (λ w. 0) (record { spot = Lent; task = t } ∷ others) (λ w. omega arith) lent_front);
       ready = st.ready;
       parked = st.parked;
     }
@@ -340,43 +361,59 @@ module _ {F : Type 0} (task : F → ℕ) (course : F → Course) (holds : Settin
         | inr isnt ↦ st.found running u (sym (alive_kept posts u isnt) ∙ e)
       ]
 
+      seat_back : (ready : List F) (ws : List (Waiter F)) → IsPermutation (record { spot = Lent; task = t } ∷ places_of task ready cells ws) (places_of task ready b.cells ws)
+      seat_back ready ws = IsPermutation-sym _ _ (at_seat task ready b.cells ws seat t is-lent)
+
       -- an act that changes no fiber's place
-      pub noted_board : (posts : BoxName → Post) (mails : BoxName → Mail) → is_end d.act ≡ false →
-          books_after st.state.books (record { task = t; act = d.act }) ≡ Some (record { courses = courses'; mailboxes = posts }) →
-          ((box : BoxName) → HoldsPost set.program (mails box) (posts box)) →
-          ((box : BoxName) → (to_serve b.stopped posts box + bit (is_at (stands t) box) ≤ messages box) ⊎ (to_serve b.stopped posts box ≤ 0)) →
+      abbrev WithNote : (BoxName → Post) → (BoxName → Mail) → Type 0
+      WithNote posts mails =
+          is_end d.act ≡ false → books_after st.state.books (record { task = t; act = d.act }) ≡ Some (record { courses = courses'; mailboxes = posts }) → ((box : BoxName) → HoldsPost set.program (mails box) (posts box)) →
           Stand (record { journal = b.journal ++ record { task = t; act = d.act } ∷ []; tasks = b.tasks; ready = b.ready; parked = b.parked; cells = b.cells; mails = mails; stopped = b.stopped })
-      noted_board posts mails going goes held no_more = record {
+
+      noted_by : (posts : BoxName → Post) (mails : BoxName → Mail) → Stood st.there (stands_in set lones') (may_wait posts) (due_in b.stopped posts) (record { spot = Lent; task = t } ∷ others) → WithNote posts mails
+      noted_by posts mails stood going goes held = record {
         state = record { books = record { courses = courses'; mailboxes = posts }; lones = lones' };
-        replay = replay_on set b.journal st.state st.replay t c l last d there-c there-l done (record { task = t; act = d.act }) posts goes;
+        replay = replay_on set b.journal st.state st.replay t c l last d there-c there-l done (record { task = t; act = d.act }) posts (not_full set st.state.books t d.act going) goes;
         tasks = st.tasks ∙ sym (set_length st.state.books.courses t (further c d));
         mails = held;
         there = st.there;
         alive = going_alive going posts;
         found = λ running. going_found running posts;
-        stood = stood_shuffled st.there (stands_in set lones') (to_serve b.stopped posts) _ _ (at_seat_back)
-            (acts st.there stands messages (stands_in set lones') (to_serve b.stopped posts) t stands_kept others no_more lent_front);
+        stood = stood_shuffled st.there (stands_in set lones') (may_wait posts) (due_in b.stopped posts) _ _ (seat_back b.ready b.parked) stood;
         ready = ready_kept;
         parked = parked_kept;
       }
-        where
-          at_seat_back : IsPermutation (record { spot = Lent; task = t } ∷ others) (places_of task b.ready b.cells b.parked)
-          at_seat_back = IsPermutation-sym _ _ (at_seat task b.ready b.cells b.parked seat t is-lent)
 
-      seat_back : (ready : List F) (ws : List (Waiter F)) → IsPermutation (record { spot = Lent; task = t } ∷ places_of task ready cells ws) (places_of task ready b.cells ws)
-      seat_back ready ws = IsPermutation-sym _ _ (at_seat task ready b.cells ws seat t is-lent)
+      -- the mailboxes are as they were
+      pub noted_board : ((w : Waits) → is_at (stands t) w ≡ false) → WithNote st.state.books.mailboxes b.mails
+      noted_board away =
+          noted_by st.state.books.mailboxes b.mails
+          (acts st.there stands may due (stands_in set lones') may due t stands_kept others (λ w e. e) (λ w. inl (let e : bit (is_at (stands t) w) ≡ 0 = ap bit (away w) in omega arith)) lent_front)
+
+      -- a take
+      pub taken_board : (box : BoxName) (mails : BoxName → Mail) (first : ℕ × List Token) (queue : List (ℕ × List Token)) → (stands t ≡ None) ⊎ (stands t ≡ Some (wait.Take box)) → (st.state.books.mailboxes box).queue ≡ first ∷ queue →
+          WithNote (with_mailbox st.state.books.mailboxes box (with_queue (st.state.books.mailboxes box) queue)) mails
+      taken_board box mails first queue at some =
+          let posts : BoxName → Post = with_mailbox st.state.books.mailboxes box (with_queue (st.state.books.mailboxes box) queue) in
+          noted_by posts mails
+          (alone st.there stands may due (stands_in set lones') (may_wait posts) (due_in b.stopped posts) t stands_kept (wait.Put box) (take_changes b.stopped st.state.books.mailboxes box first queue (stands t) at some).leaves others
+          (nobody_there task (wait.Put box) b.ready cells b.parked (none_putting task box b.parked)) lent_front)
 
       -- ---- a put
 
-      module _ (box : BoxName) (tree : Tree) (shape : List Token) (is-put : d ≡ plain (Put box (b.mails box).puts shape)) (message : IsMessage set.program tree shape) (away : (x : BoxName) → is_at (stands t) x ≡ false) where
+      module _ (box : BoxName) (tree : Tree) (shape : List Token) (is-put : d ≡ plain (Put box (b.mails box).puts shape)) (message : IsMessage set.program tree shape) (at : (stands t ≡ None) ⊎ (stands t ≡ Some (wait.Put box)))
+          (free : is_full (b.mails box) ≡ false) where
         abbrev post' : Post
-        post' = record { puts = (st.state.books.mailboxes box).puts + 1; queue = (st.state.books.mailboxes box).queue ++ ((st.state.books.mailboxes box).puts, shape) ∷ [] }
+        post' = with_message (st.state.books.mailboxes box) shape
 
         abbrev posts' : BoxName → Post
         posts' = with_mailbox st.state.books.mailboxes box post'
 
         abbrev mails' : BoxName → Mail
-        mails' = with_mailbox b.mails box (record { puts = (b.mails box).puts + 1; queue = (b.mails box).queue ++ ((b.mails box).puts, tree) ∷ [] })
+        mails' = with_mailbox b.mails box (with_message (b.mails box) tree)
+
+        has_room : is_full (st.state.books.mailboxes box) ≡ false
+        has_room = sym (full_alike set.program (b.mails box) (st.state.books.mailboxes box) (st.mails box)) ∙ free
 
         put_going : is_end d.act ≡ false
         put_going = ap (λ (x : Deed). is_end x.act) is-put
@@ -384,24 +421,25 @@ module _ {F : Type 0} (task : F → ℕ) (course : F → Course) (holds : Settin
         put_books : books_after st.state.books (record { task = t; act = d.act }) ≡ Some (record { courses = courses'; mailboxes = posts' })
         put_books =
             let same : (b.mails box).puts ≡ (st.state.books.mailboxes box).puts = (st.mails box).puts in
-            let yes-it-is : ((b.mails box).puts == (st.state.books.mailboxes box).puts) ≡ true = grind (arith, nat_tests) in
+            let counted : ((b.mails box).puts == (st.state.books.mailboxes box).puts) ≡ true = grind (arith, nat_tests) in
+            let yes-it-is : ((b.mails box).puts == (st.state.books.mailboxes box).puts && not (is_full (st.state.books.mailboxes box))) ≡ true = ap (λ y. y && not (is_full (st.state.books.mailboxes box))) counted ∙ ap not has_room in
             ap (λ (x : Deed). books_after st.state.books (record { task = t; act = x.act })) is-put
             ∙ (ap (λ o. o >>= λ (x : Course). books_by st.state.books t x (Put box (b.mails box).puts shape)) there-c
             ∙ (ap (λ y. if y then Some (record { courses = slice_set st.state.books.courses t (further c (plain (Put box (b.mails box).puts shape))); mailboxes = posts' }) else None) yes-it-is
             ∙ ap (λ x. Some (record { courses = slice_set st.state.books.courses t (further c x); mailboxes = posts' })) (sym is-put)))
 
         put_held : (x : BoxName) → HoldsPost set.program (mails' x) (posts' x)
-        put_held = holds_with set.program b.mails st.state.books.mailboxes box (record { puts = (b.mails box).puts + 1; queue = (b.mails box).queue ++ ((b.mails box).puts, tree) ∷ [] }) post' st.mails
-            (record { puts = ap (λ n. n + 1) (st.mails box).puts; queue = queue_pushed set.program (b.mails box).queue (st.state.books.mailboxes box).queue ((b.mails box).puts, tree) ((st.state.books.mailboxes box).puts, shape) (st.mails box).queue (st.mails box).puts message })
+        put_held = holds_with set.program b.mails st.state.books.mailboxes box (with_message (b.mails box) tree) post' st.mails
+            (record { most = (st.mails box).most; puts = ap (λ n. n + 1) (st.mails box).puts; queue = queue_pushed set.program (b.mails box).queue (st.state.books.mailboxes box).queue ((b.mails box).puts, tree) ((st.state.books.mailboxes box).puts, shape) (st.mails box).queue (st.mails box).puts message })
 
         abbrev put_board : List F → List (Waiter F) → Board F
         put_board ready ws = record { journal = b.journal ++ record { task = t; act = d.act } ∷ []; tasks = b.tasks; ready = ready; parked = ws; cells = b.cells; mails = mails'; stopped = b.stopped }
 
-        put_rest : (ready : List F) (ws : List (Waiter F)) → Stood st.there (stands_in set lones') (to_serve b.stopped posts') (places_of task ready b.cells ws) →
+        put_rest : (ready : List F) (ws : List (Waiter F)) → Stood st.there (stands_in set lones') (may_wait posts') (due_in b.stopped posts') (places_of task ready b.cells ws) →
             AllByRecursion (Own courses') ready → AllByRecursion (λ (w : Waiter F). Own courses' w.fiber) ws → Stand (put_board ready ws)
         put_rest ready ws stood ready-own parked-own = record {
           state = record { books = record { courses = courses'; mailboxes = posts' }; lones = lones' };
-          replay = replay_on set b.journal st.state st.replay t c l last d there-c there-l done (record { task = t; act = d.act }) posts' put_books;
+          replay = replay_on set b.journal st.state st.replay t c l last d there-c there-l done (record { task = t; act = d.act }) posts' (not_full set st.state.books t d.act put_going) put_books;
           tasks = st.tasks ∙ sym (set_length st.state.books.courses t (further c d));
           mails = put_held;
           there = st.there;
@@ -412,19 +450,14 @@ module _ {F : Type 0} (task : F → ℕ) (course : F → Course) (holds : Settin
           parked = parked-own;
         }
 
-        fewer_elsewhere : (x : BoxName) → same_box x box ≡ false → to_serve b.stopped posts' x ≤ messages x
-        fewer_elsewhere x isnt = let e = serves_other b.stopped st.state.books.mailboxes box x post' isnt in omega arith
+        changes : Changes may (may_wait posts') due (due_in b.stopped posts') (stands t) (wait.Take box)
+        changes = put_changes b.stopped st.state.books.mailboxes box shape (stands t) at has_room
 
         put_alone : woken box b.parked ≡ None → Stand (put_board b.ready b.parked)
         put_alone nobody =
-            let e : count_by (is_parked_at box) others ≡ count_by (is_parked_at box) (ready_of task b.ready) + (count_by (is_parked_at box) (lent_of cells) + count_by (is_parked_at box) (parked_of task b.parked)) =
-            counted_apart (is_parked_at box) (ready_of task b.ready) (lent_of cells ++ parked_of task b.parked) ∙ ap (λ n. count_by (is_parked_at box) (ready_of task b.ready) + n) (counted_apart (is_parked_at box) (lent_of cells) (parked_of task b.parked)) in
-            let e0 = none_ready task box b.ready in
-            let e1 = none_lent box cells in
-            let e2 = nobody_waits task box b.parked nobody in
             put_rest b.ready b.parked
-            (stood_shuffled st.there (stands_in set lones') (to_serve b.stopped posts') (record { spot = Lent; task = t } ∷ others) (places_of task b.ready b.cells b.parked) (seat_back b.ready b.parked)
-            (puts st.there stands messages (stands_in set lones') (to_serve b.stopped posts') t stands_kept box others away fewer_elsewhere (omega arith) lent_front))
+            (stood_shuffled st.there (stands_in set lones') (may_wait posts') (due_in b.stopped posts') (record { spot = Lent; task = t } ∷ others) (places_of task b.ready b.cells b.parked) (seat_back b.ready b.parked)
+            (alone st.there stands may due (stands_in set lones') (may_wait posts') (due_in b.stopped posts') t stands_kept (wait.Take box) changes.leaves others (nobody_there task (wait.Take box) b.ready cells b.parked (nobody_waits task box b.parked nobody)) lent_front))
             ready_kept parked_kept
 
         put_wakes : (found : Waiter F × List (Waiter F)) → woken box b.parked ≡ Some found → Stand (put_board (b.ready ++ found.0.fiber ∷ []) found.1)
@@ -432,16 +465,15 @@ module _ {F : Type 0} (task : F → ℕ) (course : F → Course) (holds : Settin
             let w : IsWoken task box b.parked found = woken_is task box b.parked found is in
             let name : box ≡ found.0.mailbox = same_name box found.0.mailbox w.at in
             let own = woken_all task (λ (w : Waiter F). Own courses' w.fiber) box b.parked found is parked_kept in
-            let before : Stood st.there stands messages (record { spot = Lent; task = t } ∷ record { spot = Parked found.0.mailbox; task = task found.0.fiber } ∷ places_of task b.ready cells found.1) =
-            stood_shuffled st.there stands messages (record { spot = Lent; task = t } ∷ others) (record { spot = Lent; task = t } ∷ record { spot = Parked found.0.mailbox; task = task found.0.fiber } ∷ places_of task b.ready cells found.1)
-            (IsPermutation-cons (record { spot = Lent; task = t }) others (record { spot = Parked found.0.mailbox; task = task found.0.fiber } ∷ places_of task b.ready cells found.1) (at_the_front task b.ready cells box b.parked found w)) lent_front in
-            let here : to_serve b.stopped posts' found.0.mailbox ≤ messages found.0.mailbox + 1 = subst (λ x. to_serve b.stopped posts' x ≤ messages x + 1) name (serves_here b.stopped st.state.books.mailboxes box ((st.state.books.mailboxes box).puts + 1) ((st.state.books.mailboxes box).puts, shape)) in
-            let there-too : (x : BoxName) → same_box x found.0.mailbox ≡ false → to_serve b.stopped posts' x ≤ messages x = λ x isnt. fewer_elsewhere x (ap (same_box x) name ∙ isnt) in
-            let after : Stood st.there (stands_in set lones') (to_serve b.stopped posts') (record { spot = Lent; task = t } ∷ record { spot = Ready; task = task found.0.fiber } ∷ places_of task b.ready cells found.1) =
-            wakes st.there stands messages (stands_in set lones') (to_serve b.stopped posts') t stands_kept found.0.mailbox (task found.0.fiber) (places_of task b.ready cells found.1) away here there-too before in
+            let before : Stood st.there stands may due (record { spot = Lent; task = t } ∷ record { spot = Parked (wait.Take found.0.mailbox); task = task found.0.fiber } ∷ places_of task b.ready cells found.1) =
+            stood_shuffled st.there stands may due (record { spot = Lent; task = t } ∷ others) (record { spot = Lent; task = t } ∷ record { spot = Parked (wait.Take found.0.mailbox); task = task found.0.fiber } ∷ places_of task b.ready cells found.1)
+            (IsPermutation-cons (record { spot = Lent; task = t }) others (record { spot = Parked (wait.Take found.0.mailbox); task = task found.0.fiber } ∷ places_of task b.ready cells found.1) (at_the_front task b.ready cells box b.parked found w)) lent_front in
+            let there-too : Changes may (may_wait posts') due (due_in b.stopped posts') (stands t) (wait.Take found.0.mailbox) = subst (λ x. Changes may (may_wait posts') due (due_in b.stopped posts') (stands t) (wait.Take x)) name changes in
+            let after : Stood st.there (stands_in set lones') (may_wait posts') (due_in b.stopped posts') (record { spot = Lent; task = t } ∷ record { spot = Ready; task = task found.0.fiber } ∷ places_of task b.ready cells found.1) =
+            wakes st.there stands may due (stands_in set lones') (may_wait posts') (due_in b.stopped posts') t stands_kept (wait.Take found.0.mailbox) there-too (task found.0.fiber) (places_of task b.ready cells found.1) before in
             put_rest (b.ready ++ found.0.fiber ∷ []) found.1
-            (stood_shuffled st.there (stands_in set lones') (to_serve b.stopped posts') (record { spot = Lent; task = t } ∷ places_of task (b.ready ++ found.0.fiber ∷ []) cells found.1) (places_of task (b.ready ++ found.0.fiber ∷ []) b.cells found.1) (seat_back (b.ready ++ found.0.fiber ∷ []) found.1)
-            (stood_shuffled st.there (stands_in set lones') (to_serve b.stopped posts') (record { spot = Lent; task = t } ∷ record { spot = Ready; task = task found.0.fiber } ∷ places_of task b.ready cells found.1) (record { spot = Lent; task = t } ∷ places_of task (b.ready ++ found.0.fiber ∷ []) cells found.1)
+            (stood_shuffled st.there (stands_in set lones') (may_wait posts') (due_in b.stopped posts') (record { spot = Lent; task = t } ∷ places_of task (b.ready ++ found.0.fiber ∷ []) cells found.1) (places_of task (b.ready ++ found.0.fiber ∷ []) b.cells found.1) (seat_back (b.ready ++ found.0.fiber ∷ []) found.1)
+            (stood_shuffled st.there (stands_in set lones') (may_wait posts') (due_in b.stopped posts') (record { spot = Lent; task = t } ∷ record { spot = Ready; task = task found.0.fiber } ∷ places_of task b.ready cells found.1) (record { spot = Lent; task = t } ∷ places_of task (b.ready ++ found.0.fiber ∷ []) cells found.1)
             (IsPermutation-cons (record { spot = Lent; task = t }) (record { spot = Ready; task = task found.0.fiber } ∷ places_of task b.ready cells found.1) (places_of task (b.ready ++ found.0.fiber ∷ []) cells found.1) (at_the_back task b.ready cells found.1 found.0.fiber)) after))
             (all_pushed (Own courses') b.ready found.0.fiber ready_kept own.0) own.1
 
@@ -454,19 +486,19 @@ module _ {F : Type 0} (task : F → ℕ) (course : F → Course) (holds : Settin
 
       -- ---- an end
 
-      pub ended_board : is_end d.act ≡ true → ((x : BoxName) → is_at (stands t) x ≡ false) →
+      pub ended_board : is_end d.act ≡ true → FullHere set st.state.books (record { task = t; act = d.act }) → ((w : Waits) → is_at (stands t) w ≡ false) →
           books_after st.state.books (record { task = t; act = d.act }) ≡ Some (record { courses = courses'; mailboxes = st.state.books.mailboxes }) →
           Stand (record { journal = b.journal ++ record { task = t; act = d.act } ∷ []; tasks = b.tasks; ready = b.ready; parked = b.parked; cells = slice_set b.cells seat None; mails = b.mails; stopped = b.stopped })
-      ended_board over away goes = record {
+      ended_board over full away goes = record {
         state = record { books = record { courses = courses'; mailboxes = st.state.books.mailboxes }; lones = lones' };
-        replay = replay_on set b.journal st.state st.replay t c l last d there-c there-l done (record { task = t; act = d.act }) st.state.books.mailboxes goes;
+        replay = replay_on set b.journal st.state st.replay t c l last d there-c there-l done (record { task = t; act = d.act }) st.state.books.mailboxes full goes;
         tasks = st.tasks ∙ sym (set_length st.state.books.courses t (further c d));
         mails = st.mails;
         there = there_without st.there;
         alive = λ u e. let h : ((u == t) ≡ false) × (st.there u ≡ true) = there_less st.there u e in alive_kept st.state.books.mailboxes u h.0 ∙ st.alive u h.1;
         found = λ running u e. found_ended running u e (both_ways (u == t));
-        stood = unseen (there_without st.there) stands messages (stands_in set lones') messages t stands_kept others elsewhere (λ x. omega arith)
-            (ended st.there stands messages (there_without st.there) t others gone (there_kept st.there) (λ x. inl (away x)) lent_front);
+        stood = unseen (there_without st.there) stands may due (stands_in set lones') may due t stands_kept others elsewhere (λ w e. e) (λ w. omega arith)
+            (ended st.there stands may due (there_without st.there) t others gone (there_kept st.there) (λ w. inl (away w)) lent_front);
         ready = ready_kept;
         parked = parked_kept;
       }
@@ -479,7 +511,7 @@ module _ {F : Type 0} (task : F → ℕ) (course : F → Course) (holds : Settin
 
       -- ---- a start
 
-      module _ (f : F) (shape : List Token) (is-start : d ≡ plain (Start b.tasks shape)) (few : nat_lt b.tasks task_limit ≡ true) (away : (x : BoxName) → is_at (stands t) x ≡ false)
+      module _ (f : F) (shape : List Token) (is-start : d ≡ plain (Start b.tasks shape)) (few : nat_lt b.tasks task_limit ≡ true) (away : (w : Waits) → is_at (stands t) w ≡ false)
           (numbered : task f ≡ b.tasks) (begins : course f ≡ record { beginning = Begun shape; deeds = [] }) (new : StandsFor task course holds set f) where
         abbrev k : ℕ
         k = length st.state.books.courses
@@ -572,21 +604,21 @@ module _ {F : Type 0} (task : F → ℕ) (course : F → Course) (holds : Settin
         stands_new : stands_in set lones' k ≡ None
         stands_new = ap (lone_stands set k) (get_past lones' k (let m = many-lones in omega arith))
 
-        start_stood : Stood there'' (stands_in set lones'') messages (places_of task (b.ready ++ f ∷ []) b.cells b.parked)
+        start_stood : Stood there'' (stands_in set lones'') may due (places_of task (b.ready ++ f ∷ []) b.cells b.parked)
         start_stood =
             let here : Place = record { spot = Lent; task = t } in
-            let s1 : Stood st.there (stands_in set lones') messages (here ∷ others) =
-            acts st.there stands messages (stands_in set lones') messages t stands_kept others (λ x. inl (let e : bit (is_at (stands t) x) ≡ 0 = ap bit (away x) in omega arith)) lent_front in
-            let s2 : Stood there'' (stands_in set lones') messages (record { spot = Ready; task = k } ∷ here ∷ others) =
-            comes st.there (stands_in set lones') messages there'' k (here ∷ others) not_there there_new there_old s1 in
-            let s3 : Stood there'' (stands_in set lones'') messages (record { spot = Lent; task = k } ∷ here ∷ others) =
-            acts there'' (stands_in set lones') messages (stands_in set lones'') messages k (λ u isnt. ap (lone_stands set u) (old_lone u isnt)) (here ∷ others)
-            (λ x. inl (let e : bit (is_at (stands_in set lones' k) x) ≡ 0 = ap (λ o. bit (is_at o x)) stands_new in omega arith))
-            (lent there'' (stands_in set lones') messages k (here ∷ others) s2) in
-            let s4 : Stood there'' (stands_in set lones'') messages (record { spot = Ready; task = k } ∷ here ∷ others) = given_back there'' (stands_in set lones'') messages k (here ∷ others) s3 in
-            let s5 : Stood there'' (stands_in set lones'') messages (record { spot = Ready; task = task f } ∷ here ∷ others) = subst (λ n. Stood there'' (stands_in set lones'') messages (record { spot = Ready; task = n } ∷ here ∷ others)) (sym (numbered ∙ st.tasks)) s4 in
-            stood_shuffled there'' (stands_in set lones'') messages (record { spot = Ready; task = task f } ∷ places_of task b.ready b.cells b.parked) (places_of task (b.ready ++ f ∷ []) b.cells b.parked) (at_the_back task b.ready b.cells b.parked f)
-            (stood_shuffled there'' (stands_in set lones'') messages (record { spot = Ready; task = task f } ∷ here ∷ others) (record { spot = Ready; task = task f } ∷ places_of task b.ready b.cells b.parked)
+            let s1 : Stood st.there (stands_in set lones') may due (here ∷ others) =
+            acts st.there stands may due (stands_in set lones') may due t stands_kept others (λ w e. e) (λ w. inl (let e : bit (is_at (stands t) w) ≡ 0 = ap bit (away w) in omega arith)) lent_front in
+            let s2 : Stood there'' (stands_in set lones') may due (record { spot = Ready; task = k } ∷ here ∷ others) =
+            comes st.there (stands_in set lones') may due there'' k (here ∷ others) not_there there_new there_old s1 in
+            let s3 : Stood there'' (stands_in set lones'') may due (record { spot = Lent; task = k } ∷ here ∷ others) =
+            acts there'' (stands_in set lones') may due (stands_in set lones'') may due k (λ u isnt. ap (lone_stands set u) (old_lone u isnt)) (here ∷ others) (λ w e. e)
+            (λ w. inl (let e : bit (is_at (stands_in set lones' k) w) ≡ 0 = ap (λ o. bit (is_at o w)) stands_new in omega arith))
+            (lent there'' (stands_in set lones') may due k (here ∷ others) s2) in
+            let s4 : Stood there'' (stands_in set lones'') may due (record { spot = Ready; task = k } ∷ here ∷ others) = given_back there'' (stands_in set lones'') may due k (here ∷ others) s3 in
+            let s5 : Stood there'' (stands_in set lones'') may due (record { spot = Ready; task = task f } ∷ here ∷ others) = subst (λ n. Stood there'' (stands_in set lones'') may due (record { spot = Ready; task = n } ∷ here ∷ others)) (sym (numbered ∙ st.tasks)) s4 in
+            stood_shuffled there'' (stands_in set lones'') may due (record { spot = Ready; task = task f } ∷ places_of task b.ready b.cells b.parked) (places_of task (b.ready ++ f ∷ []) b.cells b.parked) (at_the_back task b.ready b.cells b.parked f)
+            (stood_shuffled there'' (stands_in set lones'') may due (record { spot = Ready; task = task f } ∷ here ∷ others) (record { spot = Ready; task = task f } ∷ places_of task b.ready b.cells b.parked)
             (IsPermutation-cons (record { spot = Ready; task = task f }) (here ∷ others) (places_of task b.ready b.cells b.parked) (seat_back b.ready b.parked)) s5)
 
         start_alive : (u : ℕ) → there'' u ≡ true → is_alive books'' u ≡ true
@@ -615,7 +647,7 @@ module _ {F : Type 0} (task : F → ℕ) (course : F → Course) (holds : Settin
         pub started_board : Stand (record { journal = b.journal ++ record { task = t; act = d.act } ∷ []; tasks = b.tasks + 1; ready = b.ready ++ f ∷ []; parked = b.parked; cells = b.cells; mails = b.mails; stopped = b.stopped })
         started_board = record {
           state = record { books = books''; lones = lones'' };
-          replay = replay_started set b.journal st.state st.replay t c l last d there-c there-l done (record { task = t; act = d.act }) st.state.books.mailboxes first-course new.lone new-lone start_books;
+          replay = replay_started set b.journal st.state st.replay t c l last d there-c there-l done (record { task = t; act = d.act }) st.state.books.mailboxes first-course new.lone (not_full set st.state.books t d.act start_going) new-lone start_books;
           tasks = let e = st.tasks in let m = many in let p : length courses'' ≡ suc (length courses') = length_pushed courses' first-course in omega arith;
           mails = st.mails;
           there = there'';
@@ -633,7 +665,7 @@ module _ {F : Type 0} (task : F → ℕ) (course : F → Course) (holds : Settin
   parked_of_all t (w ∷ ws) some = elim (both_ways (task w.fiber == t)) [
     | inl is ↦ (w.mailbox, ap (λ y. if y then Some w.mailbox else parked_box task ws t) is)
     | inr isnt ↦
-        let f = front_no (is_task t) (record { spot = Parked w.mailbox; task = task w.fiber }) (parked_of task ws) isnt in
+        let f = front_no (is_task t) (record { spot = Parked (wait.Take w.mailbox); task = task w.fiber }) (parked_of task ws) isnt in
         let h : (box : BoxName) × (parked_box task ws t ≡ Some box) = parked_of_all t ws (omega arith) in
         (h.0, ap (λ y. if y then Some w.mailbox else parked_box task ws t) isnt ∙ h.1)
   ]
@@ -641,20 +673,20 @@ module _ {F : Type 0} (task : F → ℕ) (course : F → Course) (holds : Settin
   not_parked_box : (t : ℕ) (ws : List (Waiter F)) → count_by (is_task t) (parked_of task ws) ≡ 0 → parked_box task ws t ≡ None
   not_parked_box t [] none = refl
   not_parked_box t (w ∷ ws) none =
-      let e : count_by (is_task t) (parked_of task (w ∷ ws)) ≡ bit (task w.fiber == t) + count_by (is_task t) (parked_of task ws) = front (is_task t) (record { spot = Parked w.mailbox; task = task w.fiber }) (parked_of task ws) in
+      let e : count_by (is_task t) (parked_of task (w ∷ ws)) ≡ bit (task w.fiber == t) + count_by (is_task t) (parked_of task ws) = front (is_task t) (record { spot = Parked (wait.Take w.mailbox); task = task w.fiber }) (parked_of task ws) in
       let isnt : (task w.fiber == t) ≡ false = bit_none (task w.fiber == t) (omega arith) in
       ap (λ y. if y then Some w.mailbox else parked_box task ws t) isnt ∙ not_parked_box t ws (omega arith)
 
-  parked_rightly : (stands : ℕ → Option BoxName) (t : ℕ) (box : BoxName) (ws : List (Waiter F)) → count_by (is_astray stands) (parked_of task ws) ≡ 0 → parked_box task ws t ≡ Some box → is_at (stands t) box ≡ true
+  parked_rightly : (stands : ℕ → Option Waits) (t : ℕ) (box : BoxName) (ws : List (Waiter F)) → count_by (is_astray stands) (parked_of task ws) ≡ 0 → parked_box task ws t ≡ Some box → is_at (stands t) (wait.Take box) ≡ true
   parked_rightly stands t box [] none e = absurd (cc)
   parked_rightly stands t box (w ∷ ws) none e =
-      let f : count_by (is_astray stands) (parked_of task (w ∷ ws)) ≡ bit (not (is_at (stands (task w.fiber)) w.mailbox)) + count_by (is_astray stands) (parked_of task ws) = front (is_astray stands) (record { spot = Parked w.mailbox; task = task w.fiber }) (parked_of task ws) in
+      let f : count_by (is_astray stands) (parked_of task (w ∷ ws)) ≡ bit (not (is_at (stands (task w.fiber)) (wait.Take w.mailbox))) + count_by (is_astray stands) (parked_of task ws) = front (is_astray stands) (record { spot = Parked (wait.Take w.mailbox); task = task w.fiber }) (parked_of task ws) in
       elim (both_ways (task w.fiber == t)) [
         | inl is ↦
             let same : task w.fiber ≡ t = grind (arith, nat_tests) in
             let name : w.mailbox ≡ box = some_injective w.mailbox box (sym (ap (λ y. if y then Some w.mailbox else parked_box task ws t) is) ∙ e) in
-            let right : not (is_at (stands (task w.fiber)) w.mailbox) ≡ false = bit_none (not (is_at (stands (task w.fiber)) w.mailbox)) (omega arith) in
-            subst (λ x. is_at (stands t) x ≡ true) name (subst (λ u. is_at (stands u) w.mailbox ≡ true) same (not_false (is_at (stands (task w.fiber)) w.mailbox) right))
+            let right : not (is_at (stands (task w.fiber)) (wait.Take w.mailbox)) ≡ false = bit_none (not (is_at (stands (task w.fiber)) (wait.Take w.mailbox))) (omega arith) in
+            subst (λ x. is_at (stands t) (wait.Take x) ≡ true) name (subst (λ u. is_at (stands u) (wait.Take w.mailbox) ≡ true) same (not_false (is_at (stands (task w.fiber)) (wait.Take w.mailbox)) right))
         | inr isnt ↦ parked_rightly stands t box ws (omega arith) (sym (ap (λ y. if y then Some w.mailbox else parked_box task ws t) isnt) ∙ e)
       ]
 
@@ -665,15 +697,15 @@ module _ {F : Type 0} (task : F → ℕ) (course : F → Course) (holds : Settin
     queues : BoxName → ℕ
     queues box = length (st.state.books.mailboxes box).queue
 
-    quiet_stood : Stood st.there (stands_in set st.state.lones) (to_serve false st.state.books.mailboxes) (parked_of task b.parked)
+    quiet_stood : Stood st.there (stands_in set st.state.lones) (may_wait st.state.books.mailboxes) (due_in false st.state.books.mailboxes) (parked_of task b.parked)
     quiet_stood =
-        let s : Stood st.there (stands_in set st.state.lones) (to_serve false st.state.books.mailboxes) (places_of task b.ready b.cells b.parked) = subst (λ x. Stood st.there (stands_in set st.state.lones) (to_serve x st.state.books.mailboxes) (places_of task b.ready b.cells b.parked)) running st.stood in
-        let s1 : Stood st.there (stands_in set st.state.lones) (to_serve false st.state.books.mailboxes) (lent_of b.cells ++ parked_of task b.parked) = subst (λ x. Stood st.there (stands_in set st.state.lones) (to_serve false st.state.books.mailboxes) (ready_of task x ++ (lent_of b.cells ++ parked_of task b.parked))) nobody-ready s in
-        subst (λ x. Stood st.there (stands_in set st.state.lones) (to_serve false st.state.books.mailboxes) (x ++ parked_of task b.parked)) nobody-lent s1
+        let s : Stood st.there (stands_in set st.state.lones) (may_wait st.state.books.mailboxes) (due_in false st.state.books.mailboxes) (places_of task b.ready b.cells b.parked) = subst (λ x. Stood st.there (stands_in set st.state.lones) (may_wait st.state.books.mailboxes) (due_in x st.state.books.mailboxes) (places_of task b.ready b.cells b.parked)) running st.stood in
+        let s1 : Stood st.there (stands_in set st.state.lones) (may_wait st.state.books.mailboxes) (due_in false st.state.books.mailboxes) (lent_of b.cells ++ parked_of task b.parked) = subst (λ x. Stood st.there (stands_in set st.state.lones) (may_wait st.state.books.mailboxes) (due_in false st.state.books.mailboxes) (ready_of task x ++ (lent_of b.cells ++ parked_of task b.parked))) nobody-ready s in
+        subst (λ x. Stood st.there (stands_in set st.state.lones) (may_wait st.state.books.mailboxes) (due_in false st.state.books.mailboxes) (x ++ parked_of task b.parked)) nobody-lent s1
 
     none_out : (ws : List (Waiter F)) → count_by is_out (parked_of task ws) ≡ 0
     none_out [] = refl
-    none_out (w ∷ ws) = front_no is_out (record { spot = Parked w.mailbox; task = task w.fiber }) (parked_of task ws) refl ∙ none_out ws
+    none_out (w ∷ ws) = front_no is_out (record { spot = Parked (wait.Take w.mailbox); task = task w.fiber }) (parked_of task ws) refl ∙ none_out ws
 
     -- what the close says of a task is where its thread waits
     waits_rightly : (t : ℕ) (c : Course) (l : Lone) → slice_get st.state.books.courses t ≡ Some c → slice_get st.state.lones t ≡ Some l →
@@ -691,12 +723,12 @@ module _ {F : Type 0} (task : F → ℕ) (course : F → Course) (holds : Settin
             let alive : st.there t ≡ true = st.found running t (ap alive_course is-c ∙ ap not e) in
             let one : count_by (is_task t) (parked_of task b.parked) ≡ 1 = quiet_stood.placed t ∙ ap (λ y. cond y 1 0) alive in
             let p : (box : BoxName) × (parked_box task b.parked t ≡ Some box) = parked_of_all t b.parked (omega arith) in
-            let at-it : stands_in set st.state.lones t ≡ Some p.0 = one_box (stands_in set st.state.lones t) p.0 (parked_rightly (stands_in set st.state.lones) t p.0 b.parked quiet_stood.astray p.1) in
-            let r : (box : BoxName) × (stands_in set st.state.lones t ≡ Some box) × (to_serve false st.state.books.mailboxes box ≡ 0) = at_rest st.there (stands_in set st.state.lones) (to_serve false st.state.books.mailboxes) t (parked_of task b.parked) (none_out b.parked) alive quiet_stood in
-            let same : r.0 ≡ p.0 = some_injective r.0 p.0 (sym r.1 ∙ at-it) in
-            let empty : length (st.state.books.mailboxes p.0).queue ≡ 0 = subst (λ x. length (st.state.books.mailboxes x).queue ≡ 0) same r.2 in
-            let lone-stands : stands_at set t l ≡ Some p.0 = sym (ap (lone_stands set t) is-l) ∙ at-it in
-            let waits : waits_at set st.state.books t l ≡ Some p.0 = ap (if_empty st.state.books) lone-stands ∙ ap (λ q. where_empty q p.0) (no_more (st.state.books.mailboxes p.0).queue empty) in
+            let at-it : stands_in set st.state.lones t ≡ Some (wait.Take p.0) = one_place (stands_in set st.state.lones t) (wait.Take p.0) (parked_rightly (stands_in set st.state.lones) t p.0 b.parked quiet_stood.astray p.1) in
+            let r = at_rest st.there (stands_in set st.state.lones) (may_wait st.state.books.mailboxes) (due_in false st.state.books.mailboxes) t (parked_of task b.parked) (none_out b.parked) alive quiet_stood in
+            let same : r.0 ≡ wait.Take p.0 = some_injective r.0 (wait.Take p.0) (sym r.1 ∙ at-it) in
+            let empty : length (st.state.books.mailboxes p.0).queue ≡ 0 = subst (λ w. due_in false st.state.books.mailboxes w ≡ 0) same r.2 in
+            let lone-stands : stands_at set t l ≡ Some (wait.Take p.0) = sym (ap (lone_stands set t) is-l) ∙ at-it in
+            let waits : waits_at set st.state.books t l ≡ Some p.0 = ap (if_waits st.state.books) lone-stands ∙ ap (λ q. where_empty q p.0) (no_more (st.state.books.mailboxes p.0).queue empty) in
             (p.1 ∙ sym waits, ap is_some waits)
 
     closes_from : (t : ℕ) (cs : List Course) (ls : List Lone) → length ls ≡ length cs →

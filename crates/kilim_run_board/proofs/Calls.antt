@@ -11,13 +11,15 @@ use Rattle.kilim_run_journal.specs.declared.entry.Act.{Act}
 use Rattle.kilim_run_journal.specs.declared.entry.Act.TheVariants as act
 use Rattle.kilim_run_journal.specs.declared.entry.Entry.{Entry}
 use Rattle.kilim_program.specs.Names.{◌>>=◌}
-use Rattle.kilim_run_model.specs.State.{Setting, same_box, with_mailbox}
+use Rattle.kilim_run_model.specs.State.{Setting, is_full, with_mailbox, with_message, with_queue}
+use Rattle.kilim_run_model.specs.declared.waits.Waits.{Waits}
+use Rattle.kilim_run_model.specs.declared.waits.Waits.TheVariants as wait
 use Rattle.kilim_run_model.specs.Turn.{task_limit}
 use Rattle.kilim_run_model.specs.Moving.{books_taken, books_empty}
 use Rattle.kilim_run_board.specs.fibers.Fibers.{NewCourse, StandsFor}
 use Rattle.kilim_run_board.specs.declared.fibers.Answer.TheVariants as answer
 use Rattle.kilim_run_board.specs.Places.{is_at}
-use Rattle.kilim_run_board.specs.Board.{Board, stands_in, to_serve, HoldsQueue, IsOwn, BoardStands, Lends, GivesBack, Parks, Stops, PutsMessage, TakesMessage, Notes, StartsTask, EndsTask}
+use Rattle.kilim_run_board.specs.Board.{Board, stands_in, due_in, HoldsQueue, IsOwn, BoardStands, Lends, GivesBack, Parks, Stops, PutsMessage, TakesMessage, Notes, StartsTask, EndsTask}
 use Rattle.kilim_run_board.specs.waiting.Mailboxes.{Tree, Post, Mail}
 use Rattle.kilim_run_board.specs.declared.fibers.Wants.{Wants}
 use Rattle.kilim_run_board.specs.declared.fibers.Wants.TheVariants as wants
@@ -30,12 +32,12 @@ use Rattle.kilim_run_board.proofs.waiting.Lists.{got_within}
 use Rattle.kilim_run_board.proofs.Replays.{some_injective, lone_of, books_on}
 use Rattle.kilim_run_model.proofs.Alone.{one_lone}
 use Rattle.kilim_run_board.proofs.Deeds.{IsDone, put_done, take_done, probe_done, empty_done, start_done, full_done, print_done, end_done, never_tasks}
-use Rattle.kilim_run_board.proofs.Boards.{same_board, lent_first, back_ready, back_parked, stopped_board, noted_board, put_stands, ended_board, started_board, get_of_wish, box_of_wish, serves_other, holds_with}
+use Rattle.kilim_run_board.proofs.Boards.{same_board, lent_first, back_ready, back_parked, stopped_board, noted_board, put_stands, taken_board, ended_board, started_board, get_of_wish, wait_of_wish, full_alike, holds_with}
 use Rattle.kilim_run_model.specs.Lone.{Lone}
 use Rattle.kilim_run_model.specs.Course.{next_action, Course, IsLone, is_end, stands_at, plain}
 use Rattle.kilim_run_model.specs.declared.deed.Deed.{Deed}
 use Rattle.kilim_run_model.specs.declared.deed.Beginning.TheVariants.{Begun}
-use Rattle.kilim_run_model.specs.Moving.{Books, books_from, books_after, books_by, is_tasks, first_books, further}
+use Rattle.kilim_run_model.specs.Moving.{Books, FullHere, books_from, books_after, books_by, is_tasks, first_books, further}
 use Rattle.kilim_run_board.specs.fibers.Wishes.{IsMessage, Wish, ToPut, ToTake, ToProbe, ToStart, ToPrint, ToEnd, wish_of, Wishes}
 
 abbrev bit : Bool → ℕ
@@ -82,19 +84,19 @@ module _ {F : Type 0} (task : F → ℕ) (course : F → Course) (holds : Settin
   queue_empty p [] (q ∷ qs) held e = absurd held
   queue_empty p (m ∷ ms) qs held e = absurd (cc)
 
-  to_serve_empty : (stopped : Bool) (posts : BoxName → Post) (box : BoxName) → (posts box).queue ≡ [] → to_serve stopped posts box ≡ 0
-  to_serve_empty true posts box e = refl
-  to_serve_empty false posts box e = ap length e
+  none_due : (stopped : Bool) (posts : BoxName → Post) (box : BoxName) → (posts box).queue ≡ [] → due_in stopped posts (wait.Take box) ≡ 0
+  none_due true posts box e = refl
+  none_due false posts box e = ap length e
 
-  pub parks_stands : (b b' : Board F) (seat : ℕ) (f : F) (box : BoxName) → slice_get b.cells seat ≡ Some (Some (task f)) → (stands : StandsFor task course holds set f) → CourseAt b (task f) (course f) → stands_at set (task f) stands.lone ≡ Some box → (b.mails box).queue ≡ [] →
+  pub parks_stands : (b b' : Board F) (seat : ℕ) (f : F) (box : BoxName) → slice_get b.cells seat ≡ Some (Some (task f)) → (stands : StandsFor task course holds set f) → CourseAt b (task f) (course f) → stands_at set (task f) stands.lone ≡ Some (wait.Take box) → (b.mails box).queue ≡ [] →
       Parks b seat b' f box → Stand b → Stand b'
   parks_stands b b' seat f box lent stands at stands-there empty parks st =
       let there-c = course_of_state b st (task f) (course f) at in
       let l : (l : Lone) × (slice_get st.state.lones (task f) ≡ Some l) × IsLone set (task f) (course f) l = lone_of set b.journal st.state st.replay (task f) (course f) there-c in
       let same : stands.lone ≡ l.0 = one_lone set (task f) (course f) stands.lone l.0 stands.is l.2 in
-      let where-it-is : stands_in set st.state.lones (task f) ≡ Some box = ap (λ (o : Option Lone). elim o [ None ↦ None | Some x ↦ stands_at set (task f) x ]) l.1 ∙ (ap (stands_at set (task f)) (sym same) ∙ stands-there) in
-      let at-it : is_at (stands_in set st.state.lones (task f)) box ≡ true = ap (λ o. is_at o box) where-it-is ∙ box_itself box in
-      let none : to_serve b.stopped st.state.books.mailboxes box ≡ 0 = to_serve_empty b.stopped st.state.books.mailboxes box (queue_empty set.program (b.mails box).queue (st.state.books.mailboxes box).queue (st.mails box).queue empty) in
+      let where-it-is : stands_in set st.state.lones (task f) ≡ Some (wait.Take box) = ap (λ (o : Option Lone). elim o [ None ↦ None | Some x ↦ stands_at set (task f) x ]) l.1 ∙ (ap (stands_at set (task f)) (sym same) ∙ stands-there) in
+      let at-it : is_at (stands_in set st.state.lones (task f)) (wait.Take box) ≡ true = ap (λ o. is_at o (wait.Take box)) where-it-is ∙ box_itself box in
+      let none : due_in b.stopped st.state.books.mailboxes (wait.Take box) ≡ 0 = none_due b.stopped st.state.books.mailboxes box (queue_empty set.program (b.mails box).queue (st.state.books.mailboxes box).queue (st.mails box).queue empty) in
       let b1 : Board F = record { journal = b.journal; tasks = b.tasks; ready = b.ready; parked = b'.parked; cells = slice_set b.cells seat None; mails = b.mails; stopped = b.stopped } in
       let st1 : Stand b1 = back_parked task course holds set b st seat (task f) lent f box b'.parked parks.parked refl (own_of b st f stands at) at-it none in
       same_board task course holds set b1 b' parks.run.journal parks.run.tasks parks.ready refl parks.cells parks.run.mails parks.stopped st1
@@ -116,12 +118,12 @@ module _ {F : Type 0} (task : F → ℕ) (course : F → Course) (holds : Settin
     pub next : wish_of (next_action set t lone.0) ≡ Some wish
     next = ap (λ l. wish_of (next_action set t l)) (sym (one_lone set t c wishes.lone lone.0 wishes.is lone.2)) ∙ wishes.next
 
-    stands-there : stands_in set st.state.lones t ≡ box_of_wish wish
+    stands-there : stands_in set st.state.lones t ≡ wait_of_wish wish
     unfolding stands_at
     stands-there = ap (λ (o : Option Lone). elim o [ None ↦ None | Some x ↦ stands_at set t x ]) lone.1 ∙ get_of_wish (next_action set t lone.0) wish next
 
-    away : box_of_wish wish ≡ None → (box : BoxName) → is_at (stands_in set st.state.lones t) box ≡ false
-    away none box = ap (λ o. is_at o box) (stands-there ∙ none)
+    away : wait_of_wish wish ≡ None → (w : Waits) → is_at (stands_in set st.state.lones t) w ≡ false
+    away none w = ap (λ o. is_at o w) (stands-there ∙ none)
 
     -- what the journal says then
     now_at : (e : Entry) (courses : List Course) (posts : BoxName → Post) (d : Deed) → b'.journal ≡ b.journal ++ e ∷ [] → books_after st.state.books e ≡ Some (record { courses = courses; mailboxes = posts }) → slice_get courses t ≡ Some (further c d) → CourseAt b' t (further c d)
@@ -134,31 +136,37 @@ module _ {F : Type 0} (task : F → ℕ) (course : F → Course) (holds : Settin
     to_course a = ap (λ o. o >>= λ (x : Course). books_by st.state.books t x a) there-c
 
     -- a print, or the probe of an empty mailbox
-    notes_stands : (a : Act) → is_end a ≡ false → box_of_wish wish ≡ None → IsDone set (next_action set t lone.0) (plain a) →
+    notes_stands : (a : Act) → is_end a ≡ false → wait_of_wish wish ≡ None → IsDone set (next_action set t lone.0) (plain a) →
         books_by st.state.books t c a ≡ Some (record { courses = slice_set st.state.books.courses t (further c (plain a)); mailboxes = st.state.books.mailboxes }) → Notes b t b' a → Stand b' × CourseAt b' t (further c (plain a))
     notes_stands a going none done books notes =
         let b1 : Board F = record { journal = b.journal ++ record { task = t; act = a } ∷ []; tasks = b.tasks; ready = b.ready; parked = b.parked; cells = b.cells; mails = b.mails; stopped = b.stopped } in
-        let st1 : Stand b1 = noted_board task course holds set b st seat t lent c there-c lone.0 lone.1 (plain a) done.0 done.1 st.state.books.mailboxes b.mails going (to_course a ∙ books) st.mails
-        (λ box. inl (let e : bit (is_at (stands_in set st.state.lones t) box) ≡ 0 = ap bit (away none box) in omega arith)) in (
+        let st1 : Stand b1 = noted_board task course holds set b st seat t lent c there-c lone.0 lone.1 (plain a) done.0 done.1 (away none) going (to_course a ∙ books) st.mails in (
           same_board task course holds set b1 b' notes.journal notes.tasks notes.spots.ready notes.spots.parked notes.spots.cells notes.mails notes.spots.stopped st1,
           now_at (record { task = t; act = a }) (slice_set st.state.books.courses t (further c (plain a))) st.state.books.mailboxes (plain a) notes.journal (to_course a ∙ books) (here_now (plain a)),
         )
 
     pub prints_stands : (shape : List Token) → wish ≡ ToPrint shape → Notes b t b' (act.Print shape) → Stand b' × CourseAt b' t (further c (plain (act.Print shape)))
-    prints_stands shape is notes = notes_stands (act.Print shape) refl (ap box_of_wish is) (print_done set (next_action set t lone.0) shape (next ∙ ap (λ w. Some w) is)) refl notes
+    prints_stands shape is notes = notes_stands (act.Print shape) refl (ap wait_of_wish is) (print_done set (next_action set t lone.0) shape (next ∙ ap (λ w. Some w) is)) refl notes
 
     pub empty_stands : (box : BoxName) → wish ≡ ToProbe box → (b.mails box).queue ≡ [] → Notes b t b' (act.Empty box) → Stand b' × CourseAt b' t (further c (plain (act.Empty box)))
     empty_stands box is empty notes =
-        notes_stands (act.Empty box) refl (ap box_of_wish is) (empty_done set (next_action set t lone.0) box (next ∙ ap (λ w. Some w) is))
+        notes_stands (act.Empty box) refl (ap wait_of_wish is) (empty_done set (next_action set t lone.0) box (next ∙ ap (λ w. Some w) is))
         (ap (books_empty st.state.books t c box) (queue_empty set.program (b.mails box).queue (st.state.books.mailboxes box).queue (st.mails box).queue empty)) notes
 
-    -- an end
-    pub ends_stands : (why : EndCause) → IsDone set (next_action set t lone.0) (plain (act.End why)) → box_of_wish wish ≡ None → (is_tasks why ≡ true → b.tasks ≡ task_limit) → EndsTask b seat t b' why → Stand b'
-    ends_stands why done none full ends =
+    -- An end: where a put ends its task, the mailbox is full.
+    pub ends_stands : (why : EndCause) → ((box : BoxName) (shape : List Token) → wish ≡ ToPut box shape → is_full (st.state.books.mailboxes box) ≡ true) → IsDone set (next_action set t lone.0) (plain (act.End why)) → wait_of_wish wish ≡ None → (is_tasks why ≡ true → b.tasks ≡ task_limit) → EndsTask b seat t b' why → Stand b'
+    ends_stands why filled done none full ends =
         let b1 : Board F = record { journal = b.journal ++ record { task = t; act = act.End why } ∷ []; tasks = b.tasks; ready = b.ready; parked = b.parked; cells = slice_set b.cells seat None; mails = b.mails; stopped = b.stopped } in
-        let st1 : Stand b1 = ended_board task course holds set b st seat t lent c there-c lone.0 lone.1 (plain (act.End why)) done.0 done.1 refl (away none) (to_course (act.End why) ∙ counted why full) in
+        let st1 : Stand b1 = ended_board task course holds set b st seat t lent c there-c lone.0 lone.1 (plain (act.End why)) done.0 done.1 refl full_here (away none) (to_course (act.End why) ∙ counted why full) in
         same_board task course holds set b1 b' ends.journal ends.tasks ends.ready ends.parked ends.cells ends.mails ends.stopped st1
       where
+        full_here : FullHere set st.state.books (record { task = t; act = act.End why })
+        full_here ends-full c2 is-c l is-l box root shape after puts =
+            let same-c : c ≡ c2 = some_injective c c2 (sym there-c ∙ is-c) in
+            let same-l : lone.0 ≡ l = one_lone set t c lone.0 l lone.2 (subst (λ x. IsLone set t x l) (sym same-c) is-l) in
+            let same : Some wish ≡ Some (ToPut box shape) = sym next ∙ (ap (λ x. wish_of (next_action set t x)) same-l ∙ ap wish_of puts) in
+            filled box shape (some_injective wish (ToPut box shape) same)
+
         counted : (why : EndCause) → (is_tasks why ≡ true → b.tasks ≡ task_limit) → books_by st.state.books t c (act.End why) ≡ Some (record { courses = slice_set st.state.books.courses t (further c (plain (act.End why))); mailboxes = st.state.books.mailboxes })
         counted cause.Done full = refl
         counted cause.Spent full = refl
@@ -178,14 +186,15 @@ module _ {F : Type 0} (task : F → ℕ) (course : F → Course) (holds : Settin
             ap (λ y. if not y then None else Some (record { courses = slice_set st.state.books.courses t (further c (plain (act.End cause.Tasks))); mailboxes = st.state.books.mailboxes })) e
 
     -- a put
-    pub puts_stands : (box : BoxName) (tree : Tree) (shape : List Token) → wish ≡ ToPut box shape → IsMessage set.program tree shape → PutsMessage b t b' box tree shape → Stand b' × CourseAt b' t (further c (plain (act.Put box (b.mails box).puts shape)))
-    puts_stands box tree shape is message puts =
+    pub puts_stands : (box : BoxName) (tree : Tree) (shape : List Token) → wish ≡ ToPut box shape → IsMessage set.program tree shape → is_full (b.mails box) ≡ false → PutsMessage b t b' box tree shape → Stand b' × CourseAt b' t (further c (plain (act.Put box (b.mails box).puts shape)))
+    puts_stands box tree shape is message free puts =
         let d : Deed = plain (act.Put box (b.mails box).puts shape) in
         let done : IsDone set (next_action set t lone.0) d = put_done set (next_action set t lone.0) box shape (b.mails box).puts (next ∙ ap (λ w. Some w) is) in
-        let none : (x : BoxName) → is_at (stands_in set st.state.lones t) x ≡ false = away (ap box_of_wish is) in
-        let st1 = put_stands task course holds set b st seat t lent c there-c lone.0 lone.1 d done.0 done.1 box tree shape refl message none in
-        let same : ((b.mails box).puts == (st.state.books.mailboxes box).puts) ≡ true = let f = (st.mails box).puts in grind (arith, nat_tests) in
-        let posts : BoxName → Post = with_mailbox st.state.books.mailboxes box (record { puts = (st.state.books.mailboxes box).puts + 1; queue = (st.state.books.mailboxes box).queue ++ ((st.state.books.mailboxes box).puts, shape) ∷ [] }) in (
+        let st1 = put_stands task course holds set b st seat t lent c there-c lone.0 lone.1 d done.0 done.1 box tree shape refl message (inl (stands-there ∙ ap wait_of_wish is)) free in
+        let counted : ((b.mails box).puts == (st.state.books.mailboxes box).puts) ≡ true = let f = (st.mails box).puts in grind (arith, nat_tests) in
+        let has_room : is_full (st.state.books.mailboxes box) ≡ false = sym (full_alike set.program (b.mails box) (st.state.books.mailboxes box) (st.mails box)) ∙ free in
+        let same : ((b.mails box).puts == (st.state.books.mailboxes box).puts && not (is_full (st.state.books.mailboxes box))) ≡ true = ap (λ y. y && not (is_full (st.state.books.mailboxes box))) counted ∙ ap not has_room in
+        let posts : BoxName → Post = with_mailbox st.state.books.mailboxes box (with_message (st.state.books.mailboxes box) shape) in (
           same_board task course holds set _ b' puts.journal puts.tasks puts.ready puts.parked puts.cells puts.mails puts.stopped st1,
           now_at (record { task = t; act = d.act }) (slice_set st.state.books.courses t (further c d)) posts d puts.journal
               (to_course d.act ∙ ap (λ y. if y then Some (record { courses = slice_set st.state.books.courses t (further c d); mailboxes = posts }) else None) same) (here_now d),
@@ -196,8 +205,8 @@ module _ {F : Type 0} (task : F → ℕ) (course : F → Course) (holds : Settin
         Stand b' × ((shape : List Token) × IsMessage set.program tree shape × CourseAt b' t (further c (record { act = act.Take box n; taken = shape })))
     takes_stands box n tree rest is takes = taken_by (st.state.books.mailboxes box).queue refl (subst (λ q. HoldsQueue set.program q (st.state.books.mailboxes box).queue) takes.queue (st.mails box).queue)
       where
-        wish_box : (box_of_wish wish ≡ Some box) ⊎ (box_of_wish wish ≡ None)
-        wish_box = elim is [ inl e ↦ inl (ap box_of_wish e) | inr e ↦ inr (ap box_of_wish e) ]
+        stands-at : (stands_in set st.state.lones t ≡ None) ⊎ (stands_in set st.state.lones t ≡ Some (wait.Take box))
+        stands-at = elim is [ inl e ↦ inr (stands-there ∙ ap wait_of_wish e) | inr e ↦ inl (stands-there ∙ ap wait_of_wish e) ]
 
         taken_by : (q : List (ℕ × List Token)) → (st.state.books.mailboxes box).queue ≡ q → HoldsQueue set.program ((n, tree) ∷ rest) q → Stand b' × ((shape : List Token) × IsMessage set.program tree shape × CourseAt b' t (further c (record { act = act.Take box n; taken = shape })))
         taken_by [] is-q held = absurd held
@@ -207,35 +216,16 @@ module _ {F : Type 0} (task : F → ℕ) (course : F → Course) (holds : Settin
               | inl e ↦ take_done set (next_action set t lone.0) box first.1 n (next ∙ ap (λ w. Some w) e) held.1.allowed
               | inr e ↦ probe_done set (next_action set t lone.0) box first.1 n (next ∙ ap (λ w. Some w) e) held.1.allowed
             ] in
-            let posts : BoxName → Post = with_mailbox st.state.books.mailboxes box (record { puts = (st.state.books.mailboxes box).puts; queue = others }) in
-            let mails : BoxName → Mail = with_mailbox b.mails box (record { puts = (b.mails box).puts; queue = rest }) in
+            let posts : BoxName → Post = with_mailbox st.state.books.mailboxes box (with_queue (st.state.books.mailboxes box) others) in
+            let mails : BoxName → Mail = with_mailbox b.mails box (with_queue (b.mails box) rest) in
             let same : (first.0 == n) ≡ true = let f = held.0 in grind (arith, nat_tests) in
             let goes : books_by st.state.books t c (act.Take box n) ≡ Some (record { courses = slice_set st.state.books.courses t (further c d); mailboxes = posts }) =
             ap (books_taken st.state.books t c box n) is-q ∙ ap (λ y. if y then Some (record { courses = slice_set st.state.books.courses t (further c d); mailboxes = posts }) else None) same in
-            let st1 = noted_board task course holds set b st seat t lent c there-c lone.0 lone.1 d done.0 done.1 posts mails refl (to_course d.act ∙ goes)
-            (holds_with set.program b.mails st.state.books.mailboxes box (record { puts = (b.mails box).puts; queue = rest }) (record { puts = (st.state.books.mailboxes box).puts; queue = others }) st.mails (record { puts = (st.mails box).puts; queue = held.2 }))
-            (served b.stopped first others is-q) in (
+            let st1 = taken_board task course holds set b st seat t lent c there-c lone.0 lone.1 d done.0 done.1 box mails first others stands-at is-q refl (to_course d.act ∙ goes)
+            (holds_with set.program b.mails st.state.books.mailboxes box (with_queue (b.mails box) rest) (with_queue (st.state.books.mailboxes box) others) st.mails (record { most = (st.mails box).most; puts = (st.mails box).puts; queue = held.2 })) in (
               same_board task course holds set _ b' takes.journal takes.tasks takes.spots.ready takes.spots.parked takes.spots.cells takes.mails takes.spots.stopped st1,
               (first.1, held.1, now_at (record { task = t; act = d.act }) (slice_set st.state.books.courses t (further c d)) posts d takes.journal (to_course d.act ∙ goes) (here_now d)),
             )
-          where
-            served : (stopped : Bool) (first : ℕ × List Token) (others : List (ℕ × List Token)) → (st.state.books.mailboxes box).queue ≡ first ∷ others → (x : BoxName) →
-                (to_serve stopped (with_mailbox st.state.books.mailboxes box (record { puts = (st.state.books.mailboxes box).puts; queue = others })) x + bit (is_at (stands_in set st.state.lones t) x) ≤ to_serve stopped st.state.books.mailboxes x)
-                ⊎ (to_serve stopped (with_mailbox st.state.books.mailboxes box (record { puts = (st.state.books.mailboxes box).puts; queue = others })) x ≤ 0)
-            served true first others is-q x = inr (omega arith)
-            served false first others is-q x = elim (both_ways (same_box x box)) [
-              | inl here ↦ inl (
-                  let e : x ≡ box = same_name x box here in
-                  let f : length (st.state.books.mailboxes x).queue ≡ suc (length others) = ap (λ y. length (st.state.books.mailboxes y).queue) e ∙ ap length is-q in
-                  let g : to_serve false (with_mailbox st.state.books.mailboxes box (record { puts = (st.state.books.mailboxes box).puts; queue = others })) x ≡ length others = ap (λ y. length (if y then record { puts = (st.state.books.mailboxes box).puts; queue = others } else st.state.books.mailboxes x).queue) here in
-                  let h = at_most_one (is_at (stands_in set st.state.lones t) x) in omega arith)
-              | inr other ↦ inl (
-                  let g = serves_other false st.state.books.mailboxes box x (record { puts = (st.state.books.mailboxes box).puts; queue = others }) other in
-                  let h : bit (is_at (stands_in set st.state.lones t) x) ≡ 0 = elim wish_box [
-                    | inl e ↦ ap bit (ap (λ o. is_at o x) (stands-there ∙ e) ∙ other)
-                    | inr e ↦ ap bit (away e x)
-                  ] in omega arith)
-            ]
 
     -- a start
     pub starts_stands : (f : F) (shape : List Token) → wish ≡ ToStart shape → b.tasks < task_limit → task f ≡ b.tasks → NewCourse course f shape → StandsFor task course holds set f → StartsTask b t b' f shape →
@@ -244,7 +234,7 @@ module _ {F : Type 0} (task : F → ℕ) (course : F → Course) (holds : Settin
         let d : Deed = plain (act.Start b.tasks shape) in
         let done : IsDone set (next_action set t lone.0) d = start_done set (next_action set t lone.0) shape b.tasks (next ∙ ap (λ w. Some w) is) in
         let below : nat_lt b.tasks task_limit ≡ true = grind (arith, nat_tests) in
-        let st1 = started_board task course holds set b st seat t lent c there-c lone.0 lone.1 d done.0 done.1 f shape refl below (away (ap box_of_wish is)) numbered begins stands in
+        let st1 = started_board task course holds set b st seat t lent c there-c lone.0 lone.1 d done.0 done.1 f shape refl below (away (ap wait_of_wish is)) numbered begins stands in
         let new : Course = record { beginning = Begun shape; deeds = [] } in
         let counted : (b.tasks == length st.state.books.courses && nat_lt b.tasks task_limit) ≡ true = let g = st.tasks in ap (λ y. y && nat_lt b.tasks task_limit) (let h : (b.tasks == length st.state.books.courses) ≡ true = grind (arith, nat_tests) in h) ∙ below in (
           same_board task course holds set _ b' starts.journal starts.tasks starts.ready starts.parked starts.cells starts.mails starts.stopped st1,
@@ -268,7 +258,7 @@ module _ {F : Type 0} (task : F → ℕ) (course : F → Course) (count : F → 
   pub act_stands : (b b' : Board F) (seat t : ℕ) (c : Course) (w : Wants F) (a : Acted) → ActAnswers Numbered b seat t b' w a → slice_get b.cells seat ≡ Some (Some t) → CourseAt b t c → ActMeets task course holds set t c w → BoardStands task course holds set b →
       BoardStands task course holds set b' × IsAnswered set b' t c (wish_in w) a
   act_stands b b' seat t c (wants.Put box tree shape) (acted.Answer (answer.Sent n)) did lent at meets st =
-      let r = puts_stands task course holds set b b' st seat t lent c at (ToPut box shape) meets.0 box tree shape refl meets.1 did.1 in
+      let r = puts_stands task course holds set b b' st seat t lent c at (ToPut box shape) meets.0 box tree shape refl meets.1 did.1 did.2 in
       (r.0, (Some (plain (act.Put box n shape)), refl, subst (λ k. CourseAt b' t (further c (plain (act.Put box k shape)))) (sym did.0) r.1))
   act_stands b b' seat t c (wants.Put box tree shape) (acted.Answer answer.Done) did lent at meets st = absurd did
   act_stands b b' seat t c (wants.Put box tree shape) (acted.Answer (answer.Message x n)) did lent at meets st = absurd did
@@ -299,7 +289,7 @@ module _ {F : Type 0} (task : F → ℕ) (course : F → Course) (count : F → 
   act_stands b b' seat t c (wants.Start f shape) acted.OutOfTasks did lent at meets st =
       let l = lone task course holds set b b' st seat t lent c at (ToStart shape) meets.0 in
       let n = next task course holds set b b' st seat t lent c at (ToStart shape) meets.0 in
-      (ends_stands task course holds set b b' st seat t lent c at (ToStart shape) meets.0 cause.Tasks (full_done set (next_action set t l.0) shape n) refl (λ _. did.0) did.1, tt)
+      (ends_stands task course holds set b b' st seat t lent c at (ToStart shape) meets.0 cause.Tasks (λ box x e. absurd (cc)) (full_done set (next_action set t l.0) shape n) refl (λ _. did.0) did.1, tt)
   act_stands b b' seat t c (wants.Start f shape) (acted.Answer answer.Done) did lent at meets st = absurd did
   act_stands b b' seat t c (wants.Start f shape) (acted.Answer (answer.Sent n)) did lent at meets st = absurd did
   act_stands b b' seat t c (wants.Start f shape) (acted.Answer (answer.Message x n)) did lent at meets st = absurd did
@@ -315,7 +305,7 @@ module _ {F : Type 0} (task : F → ℕ) (course : F → Course) (count : F → 
   act_stands b b' seat t c (wants.End why) (acted.Answer answer.Done) did lent at meets st =
       let l = lone task course holds set b b' st seat t lent c at (ToEnd why) meets in
       let n = next task course holds set b b' st seat t lent c at (ToEnd why) meets in
-      (ends_stands task course holds set b b' st seat t lent c at (ToEnd why) meets why (end_done set (next_action set t l.0) why n) refl (λ is. absurd (let h = never_tasks (next_action set t l.0) why n in let k : true ≡ false = sym is ∙ h in cc)) did, tt)
+      (ends_stands task course holds set b b' st seat t lent c at (ToEnd why) meets why (λ box x e. absurd (cc)) (end_done set (next_action set t l.0) why n) refl (λ is. absurd (let h = never_tasks (next_action set t l.0) why n in let k : true ≡ false = sym is ∙ h in cc)) did, tt)
   act_stands b b' seat t c (wants.End why) (acted.Answer (answer.Sent n)) did lent at meets st = absurd did
   act_stands b b' seat t c (wants.End why) (acted.Answer (answer.Message x n)) did lent at meets st = absurd did
   act_stands b b' seat t c (wants.End why) (acted.Answer answer.Nothing) did lent at meets st = absurd did

@@ -11,7 +11,7 @@ use Rattle.kilim_run_model.specs.Runs.{wait_entry}
 use Rattle.kilim_run_board.specs.fibers.Fibers.{StandsFor}
 use Rattle.kilim_run_board.specs.declared.waiting.parked.Waiter.{Waiter}
 use Rattle.kilim_run_board.specs.Places.{Ready, is_task, Stood}
-use Rattle.kilim_run_board.specs.Board.{Board, BoardStands, is_alive, stands_in, to_serve, lent_of, closing, parked_box, AreBoxes, IsQuiet}
+use Rattle.kilim_run_board.specs.Board.{Board, BoardStands, is_alive, stands_in, may_wait, due_in, lent_of, closing, parked_box, AreBoxes, IsQuiet}
 use Rattle.std.specs.Vec.{vec_capacity}
 use Rattle.std.specs.VecDeque.{deque_capacity}
 use Rattle.kilim_run_state.specs.declared.value.Token.{Token}
@@ -61,7 +61,7 @@ module _ {F : Type 0} (task : F → ℕ) (course : F → Course) (holds : Settin
 
   pub new_stands : (b : Board F) (f : F) (seats : ℕ) → IsNewBoard b f seats → task f ≡ 0 → course f ≡ record { beginning = Boot; deeds = [] } → StandsFor task course holds set f → Stand b
   new_stands b f seats new zero-it-is boots stands =
-      let b1 : Board F = record { journal = []; tasks = 1; ready = f ∷ []; parked = []; cells = replicate seats None; mails = λ box. record { puts = 0; queue = [] }; stopped = false } in
+      let b1 : Board F = record { journal = []; tasks = 1; ready = f ∷ []; parked = []; cells = replicate seats None; mails = λ box. record { most = None; puts = 0; queue = [] }; stopped = false } in
       same_board task course holds set b1 b new.journal new.tasks new.ready new.parked new.cells new.mails new.stopped (first_stands b1 refl)
     where
       lone-of-f : IsLone set 0 (record { beginning = Boot; deeds = [] }) stands.lone
@@ -77,12 +77,13 @@ module _ {F : Type 0} (task : F → ℕ) (course : F → Course) (holds : Settin
           some_is c e = cc
       lones (suc t) c l e g = absurd (cc)
 
-      first_stood : Stood (λ u. 0 == u) (stands_in set (stands.lone ∷ [])) (to_serve false first_books.mailboxes) (record { spot = Ready; task = task f } ∷ (lent_of (replicate seats None) ++ []))
-      first_stood = subst (λ l. Stood (λ u. 0 == u) (stands_in set (stands.lone ∷ [])) (to_serve false first_books.mailboxes) (record { spot = Ready; task = task f } ∷ (l ++ []))) (sym (none_lent seats))
+      first_stood : Stood (λ u. 0 == u) (stands_in set (stands.lone ∷ [])) (may_wait first_books.mailboxes) (due_in false first_books.mailboxes) (record { spot = Ready; task = task f } ∷ (lent_of (replicate seats None) ++ []))
+      first_stood = subst (λ l. Stood (λ u. 0 == u) (stands_in set (stands.lone ∷ [])) (may_wait first_books.mailboxes) (due_in false first_books.mailboxes) (record { spot = Ready; task = task f } ∷ (l ++ []))) (sym (none_lent seats))
           (record {
             placed = λ u. front (is_task u) (record { spot = Ready; task = task f }) [] ∙ ap (λ b. cond b 1 0 + 0) (ap (λ n. n == u) zero-it-is) ∙ plus_none (cond (0 == u) 1 0);
             astray = refl;
-            served = λ box some. absurd (omega arith);
+            held = λ w some. absurd (omega arith);
+            served = λ w some. absurd (omega arith);
           })
         where
           plus_none : (n : ℕ) → n + 0 ≡ n
@@ -96,12 +97,12 @@ module _ {F : Type 0} (task : F → ℕ) (course : F → Course) (holds : Settin
       only_found zero e = refl
       only_found (suc t) e = absurd (cc)
 
-      first_stands : (b1 : Board F) → b1 ≡ record { journal = []; tasks = 1; ready = f ∷ []; parked = []; cells = replicate seats None; mails = λ box. record { puts = 0; queue = [] }; stopped = false } → Stand b1
+      first_stands : (b1 : Board F) → b1 ≡ record { journal = []; tasks = 1; ready = f ∷ []; parked = []; cells = replicate seats None; mails = λ box. record { most = None; puts = 0; queue = [] }; stopped = false } → Stand b1
       first_stands b1 e = subst Stand (sym e) (record {
         state = record { books = first_books; lones = stands.lone ∷ [] };
-        replay = record { books = refl; each = refl; lones = lones };
+        replay = record { books = refl; full = tt; each = refl; lones = lones };
         tasks = refl;
-        mails = λ box. record { puts = refl; queue = tt };
+        mails = λ box. record { most = refl; puts = refl; queue = tt };
         there = λ u. 0 == u;
         alive = only_alive;
         found = λ _. only_found;

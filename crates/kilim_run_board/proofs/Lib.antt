@@ -1,4 +1,5 @@
 pub mod Places
+pub mod Dues
 pub mod Allowed
 pub mod Replays
 pub mod Seats

@@ -8,7 +8,7 @@ use Rattle.kilim_run_state.specs.declared.value.Token.{Token}
 use Rattle.kilim_run_journal.specs.declared.entry.Act.{Act}
 use Rattle.kilim_run_journal.specs.declared.entry.Act.TheVariants.{Put, Take, Empty, Start, Print, End, Wait, Bound}
 use Rattle.kilim_run_journal.specs.declared.entry.Entry.{Entry}
-use Rattle.kilim_run_model.specs.State.{same_box, with_message, with_queue, with_mailbox}
+use Rattle.kilim_run_model.specs.State.{same_box, with_message, with_queue, with_mailbox, bounded, is_full}
 use Rattle.kilim_run_model.specs.Course.{Course, plain}
 use Rattle.kilim_run_model.specs.Turn.{task_limit}
 use Rattle.kilim_run_model.specs.declared.deed.Beginning.TheVariants.{Begun}
@@ -27,6 +27,10 @@ if_some false x last e = absurd (cc)
 if_none : (y : Bool) (x last : Books) → (if y then None else Some x) ≡ Some last → x ≡ last
 if_none true x last e = absurd (cc)
 if_none false x last e = let f : Some x ≡ Some last = e in cc
+
+both_true : (a b : Bool) → (a && b) ≡ true → (a ≡ true) × (b ≡ true)
+both_true true b e = (refl, e)
+both_true false b e = absurd (cc)
 
 bind_some : {A B : Type 0} (o : Option A) (f : A → Option B) (y : B) → (o >>= f) ≡ Some y → (x : A) × (o ≡ Some x) × (f x ≡ Some y)
 bind_some None f y e = absurd (cc)
@@ -126,6 +130,14 @@ module _ (box : BoxName) (b : Books) (c : Counts) (counted : IsCounted (b.mailbo
     | inr isnt ↦ record { next = c; notes = λ after order. unsaid other (Takes n) after isnt order; held = apart other (with_queue (b.mailboxes other) rest) isnt }
   ]
 
+  bound_goes : (other : BoxName) (most : ℕ) (courses : List Course) → Goes box c (Bound other most) (record { courses = courses; mailboxes = with_mailbox b.mailboxes other (bounded (b.mailboxes other) most) })
+  bound_goes other most courses = elim (both_ways (same_box box other)) [
+    | inl is ↦
+        let held : IsCounted (b.mailboxes other) c = there other is in
+        record { next = c; notes = λ rest order. order; held = here other (bounded (b.mailboxes other) most) c is (record { puts = held.puts; numbered = held.numbered; waits = held.waits }) }
+    | inr isnt ↦ record { next = c; notes = λ rest order. order; held = apart other (bounded (b.mailboxes other) most) isnt }
+  ]
+
   empty_goes : (other : BoxName) (courses : List Course) → (b.mailboxes other).queue ≡ [] → Goes box c (Empty other) (record { courses = courses; mailboxes = b.mailboxes })
   empty_goes other courses none = elim (both_ways (same_box box other)) [
     | inl is ↦
@@ -157,8 +169,8 @@ module _ (box : BoxName) (b : Books) (c : Counts) (counted : IsCounted (b.mailbo
   goes : (t : ℕ) (course : Course) (a : Act) (last : Books) → books_by b t course a ≡ Some last → Goes box c a last
   goes t course (Put other n shape) last e =
       let courses : List Course = with_deed b.courses t course (plain (Put other n shape)) in
-      let h = if_some (n == (b.mailboxes other).puts) (record { courses = courses; mailboxes = with_mailbox b.mailboxes other (with_message (b.mailboxes other) shape) }) last e in
-      subst (Goes box c (Put other n shape)) h.1 (put_goes other n shape courses h.0)
+      let h = if_some (n == (b.mailboxes other).puts && not (is_full (b.mailboxes other))) (record { courses = courses; mailboxes = with_mailbox b.mailboxes other (with_message (b.mailboxes other) shape) }) last e in
+      subst (Goes box c (Put other n shape)) h.1 (put_goes other n shape courses (both_true (n == (b.mailboxes other).puts) (not (is_full (b.mailboxes other))) h.0).0)
   goes t course (Take other n) last e = taken_by t course other n last (b.mailboxes other).queue refl e
   goes t course (Empty other) last e = empty_by t course other last (b.mailboxes other).queue refl e
   goes t course (Start n shape) last e =
@@ -172,7 +184,9 @@ module _ (box : BoxName) (b : Books) (c : Counts) (counted : IsCounted (b.mailbo
       let courses : List Course = with_deed b.courses t course (plain (End why)) in
       subst (Goes box c (End why)) (if_none (is_tasks why && not (length b.courses == task_limit)) (record { courses = courses; mailboxes = b.mailboxes }) last e) (silent (End why) courses refl)
   goes t course (Wait other) last e = absurd (cc)
-  goes t course (Bound other n) last e = absurd (cc)
+  goes t course (Bound other n) last e =
+      let courses : List Course = with_deed b.courses t course (plain (Bound other n)) in
+      subst (Goes box c (Bound other n)) (same_books (record { courses = courses; mailboxes = with_mailbox b.mailboxes other (bounded (b.mailboxes other) n) }) last e) (bound_goes other n courses)
 
 -- ---- all entries
 

@@ -1,8 +1,9 @@
 -- A journal that goes on by one entry.
-use Rattle.std.proofs.Common.{◌≡◌, ℕ, suc, ◌<◌, ◌≤◌, ◌==◌, nat_lt, List, [], ◌∷◌, ◌++◌, Option, Some, None, refl, sym, ap, subst, ◌∙◌, inl, inr, arith}
+use Rattle.std.proofs.Common.{◌≡◌, ℕ, suc, ◌<◌, ◌≤◌, ◌==◌, nat_lt, true, false, List, [], ◌∷◌, ◌++◌, Option, Some, None, refl, sym, ap, subst, ◌∙◌, inl, inr, arith}
 use Rattle.std.specs.Prelude.{length, slice_get, slice_set}
 use Rattle.std.proofs.lemmas.Bool.Decides.{nat_tests}
 use Rattle.kilim_program.specs.declared.names.BoxName.{BoxName}
+use Rattle.kilim_run_journal.specs.declared.entry.Act.{Act}
 use Rattle.kilim_run_journal.specs.declared.entry.Entry.{Entry}
 use Rattle.kilim_program.specs.Names.{◌>>=◌}
 use Rattle.kilim_run_model.specs.State.{Setting}
@@ -13,7 +14,8 @@ use Rattle.kilim_run_model.specs.Lone.{Lone}
 use Rattle.kilim_run_model.specs.Course.{next_action, done_by, Course, IsLone, Follows, is_end, ends_in}
 use Rattle.kilim_run_model.specs.declared.deed.Deed.{Deed}
 use Rattle.kilim_run_board.specs.waiting.Mailboxes.{Post}
-use Rattle.kilim_run_model.specs.Moving.{Books, Moving, MovedReplay, books_after, books_from, first_books, further}
+use Rattle.kilim_run_model.specs.Moving.{Books, Moving, MovedReplay, FullHere, books_after, books_from, first_books, further}
+use Rattle.kilim_run_model.proofs.one_heap.Beside.{full_then}
 
 pub some_injective : {A : Type 0} (x y : A) → Some x ≡ Some y → x ≡ y
 some_injective x y e = cc
@@ -37,6 +39,12 @@ books_on b mid last (f ∷ es) e is goes = books_on_in (books_after b f) refl (�
     books_on_in : (o : Option Books) → books_after b f ≡ o → ((x : Books) → books_from x es ≡ Some mid → books_from x (es ++ e ∷ []) ≡ Some last) → books_from b (f ∷ (es ++ e ∷ [])) ≡ Some last
     books_on_in None g later = absurd (let h : None ≡ Some mid = ap (λ o. o >>= λ (x : Books). books_from x es) (sym g) ∙ is in cc)
     books_on_in (Some x) g later = ap (λ o. o >>= λ (y : Books). books_from y (es ++ e ∷ [])) g ∙ later x (sym (ap (λ o. o >>= λ (y : Books). books_from y es) g) ∙ is)
+
+-- ---- a full mailbox
+
+-- what is no end tells of none
+pub not_full : (set : Setting) (b : Books) (t : ℕ) (a : Act) → is_end a ≡ false → FullHere set b (record { task = t; act = a })
+not_full set b t a going full = absurd (let h : false ≡ true = sym going ∙ ap is_end full in cc)
 
 -- ---- a task goes on
 
@@ -93,16 +101,22 @@ module _ (set : Setting) (journal : List Entry) (s : Moving) (replay : MovedRepl
     each_on = set_length s.lones t last ∙ (replay.each ∙ sym (set_length s.books.courses t (further c d)))
 
     -- by an act that begins no task
-    pub replay_on : (e : Entry) (posts : BoxName → Post) → books_after s.books e ≡ Some (record { courses = slice_set s.books.courses t (further c d); mailboxes = posts }) →
+    pub replay_on : (e : Entry) (posts : BoxName → Post) → FullHere set s.books e → books_after s.books e ≡ Some (record { courses = slice_set s.books.courses t (further c d); mailboxes = posts }) →
         MovedReplay set (journal ++ e ∷ []) (record { books = record { courses = slice_set s.books.courses t (further c d); mailboxes = posts }; lones = slice_set s.lones t last })
-    replay_on e posts goes = record { books = books_on first_books s.books _ journal e replay.books goes; each = each_on; lones = lones_on }
+    replay_on e posts full goes = record {
+      books = books_on first_books s.books _ journal e replay.books goes;
+      full = full_then set journal e first_books s.books replay.books replay.full full;
+      each = each_on;
+      lones = lones_on;
+    }
 
     -- by a start
-    pub replay_started : (e : Entry) (posts : BoxName → Post) (new : Course) (first : Lone) → IsLone set (length s.books.courses) new first →
+    pub replay_started : (e : Entry) (posts : BoxName → Post) (new : Course) (first : Lone) → FullHere set s.books e → IsLone set (length s.books.courses) new first →
         books_after s.books e ≡ Some (record { courses = slice_set s.books.courses t (further c d) ++ new ∷ []; mailboxes = posts }) →
         MovedReplay set (journal ++ e ∷ []) (record { books = record { courses = slice_set s.books.courses t (further c d) ++ new ∷ []; mailboxes = posts }; lones = slice_set s.lones t last ++ first ∷ [] })
-    replay_started e posts new first is goes = record {
+    replay_started e posts new first full is goes = record {
       books = books_on first_books s.books _ journal e replay.books goes;
+      full = full_then set journal e first_books s.books replay.books replay.full full;
       each = pushed_each (slice_set s.lones t last) (slice_set s.books.courses t (further c d)) first new each_on;
       lones = lones_started;
     }

@@ -6,6 +6,7 @@ use Rattle.std.proofs.lemmas.List.Sums.{sum_by-append}
 use Rattle.std.proofs.lemmas.List.Sorted.{IsPermutation-refl, IsPermutation-sym, IsPermutation-trans, IsPermutation-cons, IsPermutation-middle, IsPermutation-append_left, IsPermutation-append_right}
 use Rattle.kilim_program.specs.declared.names.BoxName.{BoxName}
 use Rattle.kilim_run_model.specs.State.{same_box}
+use Rattle.kilim_run_model.specs.declared.waits.Waits.TheVariants as wait
 use Rattle.kilim_run_board.specs.Places.{Ready, Lent, Parked, Place, is_parked_at}
 use Rattle.kilim_run_board.specs.Board.{lent_of, ready_of, parked_of, places_of}
 use Rattle.kilim_run_board.specs.waiting.Parked.{woken}
@@ -22,7 +23,7 @@ abbrev ready_place : ℕ → Place
 ready_place t = record { spot = Ready; task = t }
 
 abbrev parked_place : BoxName → ℕ → Place
-parked_place box t = record { spot = Parked box; task = t }
+parked_place box t = record { spot = Parked (wait.Take box); task = t }
 
 abbrev bit : Bool → ℕ
 bit b = cond b 1 0
@@ -194,16 +195,16 @@ module _ {F : Type 0} (task : F → ℕ) where
       below None g again e = absurd (cc)
       below (Some x) g again e = let h = again x g in subst (λ (y : Waiter F × List (Waiter F)). P y.0 × AllByRecursion P y.1) (some_is (x.0, w ∷ x.1) found e) (h.0, (all.0, h.1))
 
-  pub nobody_waits : (box : BoxName) (ws : List (Waiter F)) → woken box ws ≡ None → count_by (is_parked_at box) (parked_of task ws) ≡ 0
+  pub nobody_waits : (box : BoxName) (ws : List (Waiter F)) → woken box ws ≡ None → count_by (is_parked_at (wait.Take box)) (parked_of task ws) ≡ 0
   nobody_waits box [] e = refl
   nobody_waits box (w ∷ ws) e = elim (both_ways (same_box box w.mailbox)) [
     | inl is ↦ absurd (let h : Some (w, ws) ≡ None = sym (ap (picked w ws (woken box ws)) is) ∙ e in cc)
     | inr isnt ↦ below (woken box ws) refl isnt (λ g. nobody_waits box ws g) (sym (ap (picked w ws (woken box ws)) isnt) ∙ e)
   ]
     where
-      below : (o : Option (Waiter F × List (Waiter F))) → woken box ws ≡ o → same_box box w.mailbox ≡ false → (woken box ws ≡ None → count_by (is_parked_at box) (parked_of task ws) ≡ 0) → picked w ws o false ≡ None → count_by (is_parked_at box) (parked_of task (w ∷ ws)) ≡ 0
+      below : (o : Option (Waiter F × List (Waiter F))) → woken box ws ≡ o → same_box box w.mailbox ≡ false → (woken box ws ≡ None → count_by (is_parked_at (wait.Take box)) (parked_of task ws) ≡ 0) → picked w ws o false ≡ None → count_by (is_parked_at (wait.Take box)) (parked_of task (w ∷ ws)) ≡ 0
       below None g isnt again e =
-          let f : count_by (is_parked_at box) (parked_place w.mailbox (task w.fiber) ∷ parked_of task ws) ≡ bit (same_box box w.mailbox) + count_by (is_parked_at box) (parked_of task ws) = front (is_parked_at box) (parked_place w.mailbox (task w.fiber)) (parked_of task ws) in
+          let f : count_by (is_parked_at (wait.Take box)) (parked_place w.mailbox (task w.fiber) ∷ parked_of task ws) ≡ bit (same_box box w.mailbox) + count_by (is_parked_at (wait.Take box)) (parked_of task ws) = front (is_parked_at (wait.Take box)) (parked_place w.mailbox (task w.fiber)) (parked_of task ws) in
           let h = again g in
           let z : bit (same_box box w.mailbox) ≡ 0 = ap bit isnt in omega arith
       below (Some x) g isnt again e = absurd (cc)

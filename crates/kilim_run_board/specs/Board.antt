@@ -1,5 +1,5 @@
 -- What the board of tasks stands for.
-use Rattle.std.specs.Prelude.{◌≡◌, ℕ, zero, suc, ◌+◌, Bool, true, false, not, ◌==◌, if◌then◌else◌, List, [], ◌∷◌, ◌++◌, Option, Some, None, length, slice_get, slice_set, ◌<◌, slice_index_or}
+use Rattle.std.specs.Prelude.{◌≡◌, ℕ, zero, suc, ◌+◌, ◌-◌, Bool, true, false, not, ◌==◌, if◌then◌else◌, List, [], ◌∷◌, ◌++◌, Option, Some, None, length, slice_get, slice_set, ◌<◌, slice_index_or, is_some}
 use Rattle.std.specs.List.{AllByRecursion}
 use Rattle.kilim_run_state.specs.declared.cause.EndCause.{EndCause}
 use Rattle.kilim_program.specs.Program.{Program}
@@ -19,6 +19,8 @@ use Rattle.kilim_run_board.specs.fibers.Fibers.{StandsFor}
 use Rattle.kilim_run_model.specs.Lone.{Lone}
 use Rattle.kilim_run_model.specs.Course.{Course, has_ended, stands_at}
 use Rattle.kilim_run_model.specs.Moving.{Books, Moving, MovedReplay}
+use Rattle.kilim_run_model.specs.declared.waits.Waits.{Waits}
+use Rattle.kilim_run_model.specs.declared.waits.Waits.TheVariants as wait
 
 -- ---- the board as contracts see it
 
@@ -48,7 +50,7 @@ ready_of task (f ∷ fs) = record { spot = Ready; task = task f } ∷ ready_of t
 
 abbrev pub parked_of : {F : Type 0} → (F → ℕ) → List (Waiter F) → List Place
 parked_of task [] = []
-parked_of task (w ∷ ws) = record { spot = Parked w.mailbox; task = task w.fiber } ∷ parked_of task ws
+parked_of task (w ∷ ws) = record { spot = Parked (wait.Take w.mailbox); task = task w.fiber } ∷ parked_of task ws
 
 abbrev pub places_of : {F : Type 0} → (F → ℕ) → List F → List (Option ℕ) → List (Waiter F) → List Place
 places_of task ready cells parked = ready_of task ready ++ (lent_of cells ++ parked_of task parked)
@@ -61,17 +63,31 @@ alive_course (Some c) = not (has_ended c)
 abbrev pub is_alive : Books → ℕ → Bool
 is_alive books t = alive_course (slice_get books.courses t)
 
-abbrev pub lone_stands : Setting → ℕ → Option Lone → Option BoxName
+abbrev pub lone_stands : Setting → ℕ → Option Lone → Option Waits
 lone_stands setting t None = None
 lone_stands setting t (Some l) = stands_at setting t l
 
-abbrev pub stands_in : Setting → List Lone → ℕ → Option BoxName
+abbrev pub stands_in : Setting → List Lone → ℕ → Option Waits
 stands_in setting lones t = lone_stands setting t (slice_get lones t)
 
--- how many messages are to have a taker; on a stopped board it isn't asked
-abbrev pub to_serve : Bool → (BoxName → Post) → BoxName → ℕ
-to_serve true posts box = 0
-to_serve false posts box = length (posts box).queue
+-- nobody waits to put where there is no bound
+abbrev pub may_wait : (BoxName → Post) → Waits → Bool
+may_wait posts (wait.Take box) = true
+may_wait posts (wait.Put box) = is_some (posts box).most
+
+-- how many more messages it may hold
+abbrev pub room_at : Option ℕ → ℕ → ℕ
+room_at None n = 0
+room_at (Some most) n = most - n
+
+-- how many messages are to have a taker, and how many free places a putter
+abbrev pub due : (BoxName → Post) → Waits → ℕ
+due posts (wait.Take box) = length (posts box).queue
+due posts (wait.Put box) = room_at (posts box).most (length (posts box).queue)
+
+-- on a stopped board it isn't asked
+abbrev pub due_in : Bool → (BoxName → Post) → Waits → ℕ
+due_in stopped posts w = if stopped then 0 else due posts w
 
 -- ---- what it stands for
 
@@ -82,6 +98,7 @@ HoldsQueue p (m ∷ ms) [] = ⊥
 HoldsQueue p (m ∷ ms) (q ∷ qs) = (m.0 ≡ q.0) × IsMessage p m.1 q.1 × HoldsQueue p ms qs
 
 pub record HoldsPost (p : Program) (mail : Mail) (post : Post) : Type 0 where
+  pub most : mail.most ≡ post.most
   pub puts : mail.puts ≡ post.puts
   pub queue : HoldsQueue p mail.queue post.queue
 
@@ -95,13 +112,13 @@ pub record BoardStands {F : Type 0} (task : F → ℕ) (course : F → Course) (
   pub state : Moving
   pub replay : MovedReplay setting b.journal state
   pub tasks : b.tasks ≡ length state.books.courses
-  -- the mailboxes hold its queues and counts, with allowed messages
+  -- the mailboxes hold its queues, counts and bounds, with allowed messages
   pub mails : (box : BoxName) → HoldsPost setting.program (b.mails box) (state.books.mailboxes box)
   -- Which tasks are in a place: each that hasn't ended is in exactly one. On a stopped board some may be in none.
   pub there : ℕ → Bool
   pub alive : (t : ℕ) → there t ≡ true → is_alive state.books t ≡ true
   pub found : b.stopped ≡ false → (t : ℕ) → is_alive state.books t ≡ true → there t ≡ true
-  pub stood : Stood there (stands_in setting state.lones) (to_serve b.stopped state.books.mailboxes) (places_of task b.ready b.cells b.parked)
+  pub stood : Stood there (stands_in setting state.lones) (may_wait state.books.mailboxes) (due_in b.stopped state.books.mailboxes) (places_of task b.ready b.cells b.parked)
   -- each fiber that is ready or parked stands for its task's part of the journal
   pub ready : AllByRecursion (IsOwn task course holds setting state.books.courses) b.ready
   pub parked : AllByRecursion (λ (w : Waiter F). IsOwn task course holds setting state.books.courses w.fiber) b.parked

@@ -3,7 +3,7 @@ use Rattle.std.specs.Prelude.{◌≡◌, ◌≢◌, ℕ, ◌+◌, ◌≤◌, ◌
 use Rattle.std.specs.Vec.{vec_capacity}
 use Rattle.std.specs.VecDeque.{deque_capacity}
 use Rattle.kilim_program.specs.declared.names.BoxName.{BoxName}
-use Rattle.kilim_run_model.specs.State.{same_box}
+use Rattle.kilim_run_model.specs.State.{is_full, same_box}
 use Rattle.kilim_run_board.specs.declared.waiting.parked.Waiter.{Waiter}
 use Rattle.kilim_run_board.specs.declared.board.Board as kept
 use Rattle.kilim_run_board.specs.declared.board.Lent.{Lent}
@@ -70,7 +70,7 @@ pub record IsNumbered {F : Type 0} (task : F → ℕ) (course : F → Course) (c
   pub stands : (set : Setting) → StandsFor task course holds set f → StandsFor task course holds set f'
 
 abbrev pub ActAnswers : {F : Type 0} → (F → F → ℕ → Type 0) → Board F → (seat t : ℕ) → Board F → Wants F → Acted → Type 0
-ActAnswers numbered b seat t b' (wants.Put box tree shape) (acted.Answer (answer.Sent n)) = (n ≡ (b.mails box).puts) × PutsMessage b t b' box tree shape
+ActAnswers numbered b seat t b' (wants.Put box tree shape) (acted.Answer (answer.Sent n)) = (n ≡ (b.mails box).puts) × (is_full (b.mails box) ≡ false) × PutsMessage b t b' box tree shape
 ActAnswers numbered b seat t b' (wants.Take box) (acted.Answer (answer.Message tree n)) = (rest : List (ℕ × Tree)) × TakesMessage b t b' box n tree rest
 ActAnswers numbered b seat t b' (wants.Take box) (acted.Answer answer.Nothing) = ((b.mails box).queue ≡ []) × SameBoard b b'
 ActAnswers numbered b seat t b' (wants.Probe box) (acted.Answer (answer.Message tree n)) = (rest : List (ℕ × Tree)) × TakesMessage b t b' box n tree rest
@@ -154,7 +154,7 @@ pub record IsNewBoard {F : Type 0} (b : Board F) (f : F) (seats : ℕ) : Type 0 
   pub ready : b.ready ≡ f ∷ []
   pub parked : b.parked ≡ []
   pub cells : b.cells ≡ replicate seats None
-  pub mails : (box : BoxName) → b.mails box ≡ record { puts = 0; queue = [] }
+  pub mails : (box : BoxName) → b.mails box ≡ record { most = None; puts = 0; queue = [] }
   pub stopped : b.stopped ≡ false
 
 -- The journal of a whole run of the moved machine: entries that lead to a state that is at rest, and the waits of that state.

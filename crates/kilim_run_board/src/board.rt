@@ -3,7 +3,7 @@
 ghost use Rattle.std.specs.Prelude.{◌≡◌, ◌≢◌, ◌<◌, ◌≤◌, ◌+◌, ℕ, true, false, Some, None, OnOk, IfOk, IfErr, IfNone, IfSome, List, [], ◌∷◌, ◌++◌, length, slice_get, slice_set, slice_index_or, replicate};
 ghost use Rattle.std.specs.Vec.{vec_capacity};
 ghost use Rattle.std.specs.VecDeque.{deque_capacity};
-ghost use Rattle.kilim_run_model.specs.State.{Setting};
+ghost use Rattle.kilim_run_model.specs.State.{Setting, is_full};
 ghost use Rattle.kilim_run_model.specs.Turn.{task_limit};
 ghost use Rattle.kilim_run_model.specs.Course.{Course};
 ghost use Rattle.kilim_run_model.specs.declared.deed.Beginning.TheVariants.{Boot, Begun};
@@ -146,6 +146,7 @@ impl<F: Fibers> Board<F> {
         requires journal { length self.old.journal.items < vec_capacity self.old.journal }
         requires room { HasRoom self.old.mailboxes mailbox }
         ensures number { result ≡ ((seen self.old).mails mailbox).puts }
+        ensures free { is_full ((seen self.old).mails mailbox) ≡ false }
         ensures effect { PutsMessage (seen self.old) task (seen self.new) mailbox tree shape }
         ensures roomy { IsRoomy self.new }
     {

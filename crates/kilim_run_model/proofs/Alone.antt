@@ -16,10 +16,10 @@ use Rattle.kilim_run_machine.specs.Natives as native
 use Rattle.kilim_run_machine.specs.Moves.{Move, moves, push_value}
 use Rattle.kilim_run_machine.specs.Moves as move
 use Rattle.kilim_run_state.specs.Shapes.{shape_of}
-use Rattle.kilim_run_model.specs.State.{Setting, Thread, Alive, Ended, State, begun_on}
-use Rattle.kilim_run_model.specs.Lone.{Lone, Next, Goes, Puts, Gets, Probes, Starts, Prints, Ends, Stands, box_limit, went, pushed, pushed_on, over, put_next, message_next, start_next, print_next, printed, arg_next, arg_at, native_next, asks_next, opens_next, begins_next, finish_next, on_heap, next_by, frames_next, thread_next, next_move, get_at}
-use Rattle.kilim_run_model.specs.Turn.{quiet, gets, lone_of, moved_by, thread_moved, moved}
-use Rattle.kilim_run_model.specs.Runs.{where_empty, if_empty, waits_at, is_at_rest}
+use Rattle.kilim_run_model.specs.State.{Setting, Thread, Alive, Ended, State, begun_on, is_full}
+use Rattle.kilim_run_model.specs.Lone.{Lone, Next, Goes, Puts, PutWaits, Bounds, Gets, Probes, Starts, Prints, Ends, Stands, box_limit, went, pushed, pushed_on, over, put_next, message_next, start_next, print_next, printed, arg_next, arg_at, native_next, asks_next, opens_next, begins_next, finish_next, on_heap, next_by, frames_next, thread_next, next_move, get_at}
+use Rattle.kilim_run_model.specs.Turn.{quiet, gets, lone_of, moved_by, thread_moved, moved, puts, with_lone}
+use Rattle.kilim_run_model.specs.Runs.{where_empty, if_waits, waits_at, is_at_rest}
 use Rattle.kilim_run_model.specs.Course.{Deed, Course, next_or, next_within, next_action, done_by, Done, Follows, IsLone, lone_begun}
 use Rattle.kilim_run_model.specs.Alone.{NextComes, OneLone, RestsStill}
 
@@ -32,6 +32,8 @@ HasDone n (Ended cause) = ⊥
 abbrev Counts : ℕ → Next → Type 0
 Counts n (Goes after) = HasDone n after.thread
 Counts n (Puts box root shape after) = Unit {0}
+Counts n (PutWaits box root shape after) = Unit {0}
+Counts n (Bounds box most after) = Unit {0}
 Counts n (Gets box after) = Unit {0}
 Counts n (Probes box after) = Unit {0}
 Counts n (Starts root shape after) = Unit {0}
@@ -139,6 +141,8 @@ same_by : (set : Setting) (t m n : ℕ) (l : Lone) → ((after : Lone) → next_
     (x : Next) → next_move set t l ≡ x → next_or x (next_within set t m) ≡ next_or x (next_within set t n)
 same_by set t m n l goes_same (Goes after) e = goes_same after e
 same_by set t m n l goes_same (Puts box root shape after) e = refl
+same_by set t m n l goes_same (PutWaits box root shape after) e = refl
+same_by set t m n l goes_same (Bounds box most after) e = refl
 same_by set t m n l goes_same (Gets box after) e = refl
 same_by set t m n l goes_same (Probes box after) e = refl
 same_by set t m n l goes_same (Starts root shape after) e = refl
@@ -191,9 +195,15 @@ no_message : (box : BoxName) (queue : List (ℕ × ℕ)) → is_some (where_empt
 no_message box [] h = refl
 no_message box (first ∷ rest) h = absurd (cc)
 
-stays_at : (set : Setting) (s : State) (t : ℕ) (x : Next) → is_some (if_empty s (get_at x)) ≡ true → moved_by set s t x ≡ quiet s
+is_filled : (full : Bool) (box : BoxName) → is_some (cond full (Some box) None) ≡ true → full ≡ true
+is_filled true box h = refl
+is_filled false box h = absurd (cc)
+
+stays_at : (set : Setting) (s : State) (t : ℕ) (x : Next) → is_some (if_waits s (get_at x)) ≡ true → moved_by set s t x ≡ quiet s
 stays_at set s t (Goes after) h = absurd (cc)
 stays_at set s t (Puts box root shape after) h = absurd (cc)
+stays_at set s t (PutWaits box root shape after) h = ap (λ (z : Bool). cond z (quiet s) (puts (with_lone s t after) box root shape)) (is_filled (is_full (s.mailboxes box)) box h)
+stays_at set s t (Bounds box most after) h = absurd (cc)
 stays_at set s t (Gets box after) h = ap (λ (queue : List (ℕ × ℕ)). gets s t box after queue) (no_message box (s.mailboxes box).queue h)
 stays_at set s t (Probes box after) h = absurd (cc)
 stays_at set s t (Starts root shape after) h = absurd (cc)

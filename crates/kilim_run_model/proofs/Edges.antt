@@ -15,8 +15,9 @@ use Rattle.kilim_run_machine.specs.Moves as move
 use Rattle.kilim_run_state.specs.Shapes.{tree_limit, is_open, shape_by}
 use Rattle.kilim_run_model.specs.State.{Setting, Thread, Alive, State, same_box, with_queue, execute_frames}
 use Rattle.kilim_run_model.specs.Lone.{Lone, Next, Goes, ended, pushed, narrowed, over, frames_next, thread_next, next_move, get_at, message_next, put_next, start_next, arg_next, arg_at}
+use Rattle.kilim_run_model.specs.declared.waits.Waits.TheVariants as wait
 use Rattle.kilim_run_model.specs.Turn.{Moved, acted, lone_of, with_lone, starts, starts_with, moved_by}
-use Rattle.kilim_run_model.specs.Runs.{where_empty, if_empty, waits_at}
+use Rattle.kilim_run_model.specs.Runs.{where_empty, if_waits, waits_at}
 use Rattle.kilim_run_model.specs.Edges.{EdgesHold, FirstIsTaken, LastFrame, LastTask, LargestTree, LastStep, NullThenLargeThenTasks, Arguments, WhoWaits}
 
 last_frame : LastFrame
@@ -79,11 +80,11 @@ who_waits : WhoWaits
 unfolding next_move
 who_waits setting s t box frames done boxes = (
   λ after stands.
-      let asks : waits_at setting s t (Alive frames done boxes) ≡ if_empty s (Some box) = ap (λ (next : Next). if_empty s (get_at next)) stands in
+      let asks : waits_at setting s t (Alive frames done boxes) ≡ if_waits s (Some (wait.Take box)) = ap (λ (next : Next). if_waits s (get_at next)) stands in
       (λ none. asks ∙ ap (λ (queue : List (ℕ × ℕ)). where_empty queue box) none, λ first rest some. asks ∙ ap (λ (queue : List (ℕ × ℕ)). where_empty queue box) some),
   λ none.
       let l = lone_of s t (Alive frames done boxes) in
-      ap (λ (b : Bool). if_empty s (get_at (cond b (over l Spent) (frames_next setting t l frames done boxes)))) (le-leb setting.limits.steps done none),
+      ap (λ (b : Bool). if_waits s (get_at (cond b (over l Spent) (frames_next setting t l frames done boxes)))) (le-leb setting.limits.steps done none),
 )
 
 same_box_is : (box : BoxName) → same_box box box ≡ true

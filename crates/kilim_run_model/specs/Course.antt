@@ -8,13 +8,14 @@ use Rattle.kilim_run_state.specs.declared.value.Object.{Object}
 use Rattle.kilim_run_state.specs.declared.value.Token.{Token}
 use Rattle.kilim_program.specs.declared.value.Value.TheVariants.{Null, Ref}
 use Rattle.kilim_run_journal.specs.declared.entry.Act.{Act}
-use Rattle.kilim_run_journal.specs.declared.entry.Act.TheVariants.{Put, Take, Empty, Start, Print, End}
+use Rattle.kilim_run_journal.specs.declared.entry.Act.TheVariants.{Bound, Put, Take, Empty, Start, Print, End}
 use Rattle.kilim_run_state.specs.Machine.{Objects, Activation}
 use Rattle.kilim_program.specs.Members.{constructor_of}
 use Rattle.kilim_run_state.specs.Objects.{new_object}
 use Rattle.kilim_run_state.specs.Trees.{tree_names, without, with_objects, built, OfMessage, OfTask}
 use Rattle.kilim_run_model.specs.State.{Setting, Alive, begun_on, execute_frames}
-use Rattle.kilim_run_model.specs.Lone.{Lone, Next, Goes, Puts, Gets, Probes, Starts, Prints, Ends, Stands, pushed, ended, next_move, get_at}
+use Rattle.kilim_run_model.specs.Lone.{Lone, Next, Goes, Puts, PutWaits, Bounds, Gets, Probes, Starts, Prints, Ends, Stands, pushed, ended, next_move, get_at}
+use Rattle.kilim_run_model.specs.declared.waits.Waits.{Waits}
 pub use Rattle.kilim_run_model.specs.declared.deed.Deed.{Deed}
 pub use Rattle.kilim_run_model.specs.declared.deed.Beginning.{Beginning}
 use Rattle.kilim_run_model.specs.declared.deed.Beginning.TheVariants.{Boot, Begun}
@@ -67,8 +68,8 @@ next_within setting t (suc n) l = next_or (next_move setting t l) (next_within s
 unfoldable pub next_action : Setting → ℕ → Lone → Next
 next_action setting t l = next_within setting t (suc setting.limits.steps) l
 
--- the mailbox at whose `get` the thread stands once it has run to its next action, whatever the mailbox holds
-unfoldable pub stands_at : Setting → ℕ → Lone → Option BoxName
+-- what the thread may have to wait for once it has run to its next action, whatever the mailbox holds
+unfoldable pub stands_at : Setting → ℕ → Lone → Option Waits
 stands_at setting t l = get_at (next_action setting t l)
 
 -- ---- an action
@@ -99,6 +100,12 @@ abbrev pub puts_deed : Program → BoxName → ℕ → List Token → Lone → A
 puts_deed p box root shape l (Put b n s) = did (Put box n shape) (tree_left p root l)
 puts_deed p box root shape l act = None
 
+-- a `put`, which a full mailbox ends
+abbrev pub fills_deed : Program → BoxName → ℕ → List Token → Lone → Act → Option Done
+fills_deed p box root shape l (Put b n s) = did (Put box n shape) (tree_left p root l)
+fills_deed p box root shape l (End why) = did (End cause.Full) (ended l cause.Full)
+fills_deed p box root shape l act = None
+
 abbrev pub starts_deed : Program → ℕ → List Token → Lone → Act → Option Done
 starts_deed p root shape l (Start n s) = did (Start n shape) (tree_left p root l)
 starts_deed p root shape l (End why) = did (End cause.Tasks) (ended l cause.Tasks)
@@ -106,7 +113,9 @@ starts_deed p root shape l act = None
 
 abbrev pub done_by : Setting → Next → Deed → Option Done
 done_by setting (Goes l) d = None
-done_by setting (Puts box root shape l) d = puts_deed setting.program box root shape l d.act
+done_by setting (Puts box root shape l) d = fills_deed setting.program box root shape l d.act
+done_by setting (PutWaits box root shape l) d = puts_deed setting.program box root shape l d.act
+done_by setting (Bounds box most l) d = did (Bound box most) l
 done_by setting (Gets box l) d = takes_deed setting.program box l d d.act
 done_by setting (Probes box l) d = probes_deed setting.program box l d d.act
 done_by setting (Starts root shape l) d = starts_deed setting.program root shape l d.act

@@ -28,6 +28,8 @@ use Rattle.kilim_run_machine.specs.Moves.{Move, moves, push_value}
 use Rattle.kilim_run_machine.specs.Moves as move
 use Rattle.kilim_run_state.specs.Shapes.{shape_of}
 use Rattle.kilim_run_model.specs.State.{Setting, Thread, Alive, Ended, begun_on}
+use Rattle.kilim_run_model.specs.declared.waits.Waits.{Waits}
+use Rattle.kilim_run_model.specs.declared.waits.Waits.TheVariants as wait
 
 -- the most mailboxes that a task makes
 abbrev pub box_limit : ℕ
@@ -46,7 +48,11 @@ pub record Lone : Type 0 where
 -- take isn't on its stack yet, and a tree that leaves is still in the heap; or it stands still.
 pub data Next : Type 0 where
   Goes : (after : Lone) → Next
+  -- A put that ends the task where the mailbox is full, and one that waits there; and a mailbox gets a bound. No built-in method does one of
+  -- the last two yet.
   Puts : (box : BoxName) (root : ℕ) (shape : List Token) (after : Lone) → Next
+  PutWaits : (box : BoxName) (root : ℕ) (shape : List Token) (after : Lone) → Next
+  Bounds : (box : BoxName) (most : ℕ) (after : Lone) → Next
   Gets : (box : BoxName) (after : Lone) → Next
   Probes : (box : BoxName) (after : Lone) → Next
   Starts : (root : ℕ) (shape : List Token) (after : Lone) → Next
@@ -184,7 +190,8 @@ thread_next setting t l (Alive frames done boxes) = if nat_le setting.limits.ste
 unfoldable pub next_move : Setting → ℕ → Lone → Next
 next_move setting t l = thread_next setting t l l.thread
 
--- the mailbox at whose `get` it stands, whatever the mailbox holds; it has instructions left then
-abbrev pub get_at : Next → Option BoxName
-get_at (Gets box after) = Some box
+-- what it may have to wait for where it stands: at a `get`, or at a put that waits; it has instructions left then
+abbrev pub get_at : Next → Option Waits
+get_at (Gets box after) = Some (wait.Take box)
+get_at (PutWaits box root shape after) = Some (wait.Put box)
 get_at next = None

@@ -9,12 +9,14 @@ use Rattle.kilim_run_journal.specs.declared.entry.Act.{Act}
 use Rattle.kilim_run_journal.specs.declared.entry.Act.TheVariants.{Put, Take, Empty, Start, Print, End, Wait, Bound}
 use Rattle.kilim_run_journal.specs.declared.entry.Entry.{Entry}
 use Rattle.kilim_program.specs.Names.{◌>>=◌}
-use Rattle.kilim_run_model.specs.State.{Setting, Mailbox, empty_mailbox, with_message, with_queue, with_mailbox}
-use Rattle.kilim_run_model.specs.Lone.{Lone}
+use Rattle.kilim_run_model.specs.State.{Setting, Mailbox, empty_mailbox, with_message, with_queue, bounded, is_full, with_mailbox}
+use Rattle.kilim_run_model.specs.Lone.{Lone, Puts}
 use Rattle.kilim_run_model.specs.Turn.{task_limit}
-use Rattle.kilim_run_model.specs.Runs.{where_empty, wait_entry}
-use Rattle.kilim_run_model.specs.Course.{Deed, Course, plain, IsLone, has_ended, stands_at}
+use Rattle.kilim_run_model.specs.Runs.{where_empty, wait_entry, where_full}
+use Rattle.kilim_run_model.specs.Course.{Deed, Course, plain, IsLone, has_ended, next_action, stands_at}
 use Rattle.kilim_run_model.specs.declared.deed.Beginning.TheVariants.{Boot, Begun}
+use Rattle.kilim_run_model.specs.declared.waits.Waits.{Waits}
+use Rattle.kilim_run_model.specs.declared.waits.Waits.TheVariants as wait
 
 -- what a journal says alone: a course for each task, by its number, and the mailboxes
 pub record Books : Type 0 where
@@ -35,7 +37,7 @@ with_deed courses t c d = slice_set courses t (further c d)
 -- next number, below 10,000; an end for want of tasks needs 10,000.
 abbrev pub books_put : Books → ℕ → Course → BoxName → ℕ → List Token → Option Books
 books_put b t c box n shape =
-    if n == (b.mailboxes box).puts then
+    if n == (b.mailboxes box).puts && not (is_full (b.mailboxes box)) then
     Some (record { courses = with_deed b.courses t c (plain (Put box n shape)); mailboxes = with_mailbox b.mailboxes box (with_message (b.mailboxes box) shape) })
     else None
 
@@ -54,6 +56,12 @@ abbrev pub is_tasks : EndCause → Bool
 is_tasks cause.Tasks = true
 is_tasks why = false
 
+-- an end that others decide: for want of tasks, or at a full mailbox
+abbrev pub is_others : EndCause → Bool
+is_others cause.Tasks = true
+is_others cause.Full = true
+is_others why = false
+
 abbrev pub books_by : Books → ℕ → Course → Act → Option Books
 books_by b t c (Put box n shape) = books_put b t c box n shape
 books_by b t c (Take box n) = books_taken b t c box n (b.mailboxes box).queue
@@ -67,8 +75,7 @@ books_by b t c (End why) =
     if is_tasks why && not (length b.courses == task_limit) then None
     else Some (record b { courses = with_deed b.courses t c (plain (End why)) })
 books_by b t c (Wait box) = None
--- no thread bounds a mailbox yet
-books_by b t c (Bound box n) = None
+books_by b t c (Bound box n) = Some (record { courses = with_deed b.courses t c (plain (Bound box n)); mailboxes = with_mailbox b.mailboxes box (bounded (b.mailboxes box) n) })
 
 abbrev pub books_after : Books → Entry → Option Books
 books_after b e = slice_get b.courses e.task >>= λ (c : Course). books_by b e.task c e.act
@@ -82,21 +89,34 @@ pub record Moving : Type 0 where
   pub books : Books
   pub lones : List Lone
 
+-- Where an entry tells that a put ended its task, the mailbox of that put is full by then. The entry itself names no mailbox.
+abbrev pub FullHere : Setting → Books → Entry → Type 0
+FullHere setting b e =
+    e.act ≡ End cause.Full → (c : Course) → slice_get b.courses e.task ≡ Some c → (l : Lone) → IsLone setting e.task c l → (box : BoxName) (root : ℕ) (shape : List Token) (after : Lone) → next_action setting e.task l ≡ Puts box root shape after → is_full (b.mailboxes box) ≡ true
+
+-- so does each entry of a journal, from these books on
+abbrev pub FullSaid : Setting → Books → List Entry → Type 0
+FullSaid setting b [] = Unit {0}
+FullSaid setting b (e ∷ es) = FullHere setting b e × ((mid : Books) → books_after b e ≡ Some mid → FullSaid setting mid es)
+
 pub record MovedReplay (setting : Setting) (journal : List Entry) (s : Moving) : Type 0 where
   pub books : books_from first_books journal ≡ Some s.books
+  -- an end for a full mailbox comes at one
+  pub full : FullSaid setting first_books journal
   -- the thread of each course, by their number
   pub each : length s.lones ≡ length s.books.courses
   pub lones : (t : ℕ) (c : Course) (l : Lone) → slice_get s.books.courses t ≡ Some c → slice_get s.lones t ≡ Some l → IsLone setting t c l
 
 -- ---- at rest
 
-abbrev pub if_empty : Books → Option BoxName → Option BoxName
-if_empty b None = None
-if_empty b (Some box) = where_empty (b.mailboxes box).queue box
+abbrev pub if_waits : Books → Option Waits → Option BoxName
+if_waits b None = None
+if_waits b (Some (wait.Take box)) = where_empty (b.mailboxes box).queue box
+if_waits b (Some (wait.Put box)) = where_full (b.mailboxes box) box
 
--- the empty mailbox at whose `get` the thread stands
+-- the mailbox at which the thread waits
 abbrev pub waits_at : Setting → Books → ℕ → Lone → Option BoxName
-waits_at setting b t l = if_empty b (stands_at setting t l)
+waits_at setting b t l = if_waits b (stands_at setting t l)
 
 abbrev pub all_at_rest : Setting → Books → ℕ → List Course → List Lone → Bool
 all_at_rest setting b t (c ∷ cs) (l ∷ ls) = (has_ended c || is_some (waits_at setting b t l)) && all_at_rest setting b (suc t) cs ls

@@ -1,11 +1,13 @@
 -- Runs: in any order, and in that of a journal; and which journals are those of whole runs.
-use Rattle.std.specs.Prelude.{◌≡◌, ℕ, zero, suc, ◌+◌, Bool, true, false, ◌&&◌, List, [], ◌∷◌, ◌++◌, Option, Some, None, is_some}
+use Rattle.std.specs.Prelude.{◌≡◌, ℕ, zero, suc, ◌+◌, Bool, true, false, ◌&&◌, if◌then◌else◌, List, [], ◌∷◌, ◌++◌, Option, Some, None, is_some}
 use Rattle.kilim_program.specs.declared.names.BoxName.{BoxName}
 use Rattle.kilim_run_journal.specs.declared.entry.Act.{Act}
 use Rattle.kilim_run_journal.specs.declared.entry.Act.TheVariants.{Wait}
 use Rattle.kilim_run_journal.specs.declared.entry.Entry.{Entry}
-use Rattle.kilim_run_model.specs.State.{Setting, is_fit, Thread, Alive, Ended, State, first_state, noted}
+use Rattle.kilim_run_model.specs.State.{Setting, is_fit, Thread, Alive, Ended, Mailbox, is_full, State, first_state, noted}
 use Rattle.kilim_run_model.specs.Lone.{next_move, get_at}
+use Rattle.kilim_run_model.specs.declared.waits.Waits.{Waits}
+use Rattle.kilim_run_model.specs.declared.waits.Waits.TheVariants as wait
 use Rattle.kilim_run_model.specs.Turn.{lone_of, moved, turn}
 
 -- ---- any order
@@ -68,13 +70,18 @@ abbrev pub where_empty : {A : Type 0} → List A → BoxName → Option BoxName
 where_empty [] box = Some box
 where_empty (first ∷ rest) box = None
 
-abbrev pub if_empty : State → Option BoxName → Option BoxName
-if_empty s None = None
-if_empty s (Some box) = where_empty (s.mailboxes box).queue box
+abbrev pub where_full : {A : Type 0} → Mailbox A → BoxName → Option BoxName
+where_full mailbox box = if is_full mailbox then Some box else None
 
--- the empty mailbox at which a thread waits: it stands at its `get`, and has instructions left
+abbrev pub if_waits : State → Option Waits → Option BoxName
+if_waits s None = None
+if_waits s (Some (wait.Take box)) = where_empty (s.mailboxes box).queue box
+if_waits s (Some (wait.Put box)) = where_full (s.mailboxes box) box
+
+-- The mailbox at which a thread waits: it is empty and the thread stands at its `get`, or it is full and the thread stands at a put that
+-- waits; and instructions are left.
 abbrev pub waits_at : Setting → State → ℕ → Thread → Option BoxName
-waits_at setting s t thread = if_empty s (get_at (next_move setting t (lone_of s t thread)))
+waits_at setting s t thread = if_waits s (get_at (next_move setting t (lone_of s t thread)))
 
 -- a thread has ended or waits
 abbrev pub is_at_rest : Setting → State → ℕ → Thread → Bool

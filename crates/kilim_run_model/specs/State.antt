@@ -1,6 +1,6 @@
 -- The shared machine: threads over one heap, mailboxes, and a journal. There are no fibers here, no
 -- records and no regions.
-use Rattle.std.specs.Prelude.{ℕ, ◌+◌, ◌^◌, ◌<◌, Bool, ◌&&◌, ◌==◌, if◌then◌else◌, List, [], ◌∷◌, ◌++◌, Option, Some, None, FitsSigned}
+use Rattle.std.specs.Prelude.{ℕ, ◌+◌, ◌^◌, ◌<◌, nat_le, Bool, false, ◌&&◌, ◌==◌, if◌then◌else◌, List, [], ◌∷◌, ◌++◌, Option, Some, None, length, FitsSigned}
 use Rattle.std.specs.Int.{w32}
 use Rattle.std.specs.List.{AllByRecursion}
 use Rattle.std.specs.FinMap.{empty, insert, get}
@@ -41,21 +41,34 @@ pub record LimitsFit (limits : Limits) : Type 0 where
 
 -- ---- mailboxes, whatever they hold
 
--- how many messages were put into it, and those that wait there, with their numbers
+-- how many messages it may hold, if it has a bound, how many were put into it, and those that wait there, with their numbers
 pub record Mailbox (A : Type 0) : Type 0 where
+  pub most : Option ℕ
   pub puts : ℕ
   pub queue : List (ℕ × A)
 
 abbrev pub empty_mailbox : {A : Type 0} → Mailbox A
-empty_mailbox = record { puts = 0; queue = [] }
+empty_mailbox = record { most = None; puts = 0; queue = [] }
 
 -- One more message, behind the others. Its number is how many were put before it.
 abbrev pub with_message : {A : Type 0} → Mailbox A → A → Mailbox A
-with_message mailbox x = record { puts = mailbox.puts + 1; queue = mailbox.queue ++ (mailbox.puts, x) ∷ [] }
+with_message mailbox x = record mailbox { puts = mailbox.puts + 1; queue = mailbox.queue ++ (mailbox.puts, x) ∷ [] }
 
 -- these are left in it
 abbrev pub with_queue : {A : Type 0} → Mailbox A → List (ℕ × A) → Mailbox A
-with_queue mailbox queue = record { puts = mailbox.puts; queue = queue }
+with_queue mailbox queue = record mailbox { queue = queue }
+
+-- it is bounded, and holds as many messages as it may
+abbrev pub is_full_at : Option ℕ → ℕ → Bool
+is_full_at None n = false
+is_full_at (Some most) n = nat_le most n
+
+abbrev pub is_full : {A : Type 0} → Mailbox A → Bool
+is_full mailbox = is_full_at mailbox.most (length mailbox.queue)
+
+-- it gets a bound
+abbrev pub bounded : {A : Type 0} → Mailbox A → ℕ → Mailbox A
+bounded mailbox most = record mailbox { most = Some most }
 
 abbrev pub same_box : BoxName → BoxName → Bool
 same_box a b = a.task == b.task && a.number == b.number

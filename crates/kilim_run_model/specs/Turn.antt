@@ -5,10 +5,10 @@ use Rattle.kilim_program.specs.declared.names.BoxName.{BoxName}
 use Rattle.kilim_run_state.specs.declared.value.Token.{Token}
 use Rattle.kilim_program.specs.declared.value.Value.TheVariants.{Null, Ref}
 use Rattle.kilim_run_journal.specs.declared.entry.Act.{Act}
-use Rattle.kilim_run_journal.specs.declared.entry.Act.TheVariants.{Put, Take, Empty, Start, Print, End}
+use Rattle.kilim_run_journal.specs.declared.entry.Act.TheVariants.{Bound, Put, Take, Empty, Start, Print, End}
 use Rattle.kilim_run_state.specs.Machine.{Activation}
-use Rattle.kilim_run_model.specs.State.{Setting, Thread, Alive, State, with_message, with_queue, with_mailbox, execute_frames, noted}
-use Rattle.kilim_run_model.specs.Lone.{Lone, Next, Goes, Puts, Gets, Probes, Starts, Prints, Ends, Stands, pushed, ended, next_move}
+use Rattle.kilim_run_model.specs.State.{Setting, Thread, Alive, State, with_message, with_queue, with_mailbox, bounded, is_full, execute_frames, noted}
+use Rattle.kilim_run_model.specs.Lone.{Lone, Next, Goes, Puts, PutWaits, Bounds, Gets, Probes, Starts, Prints, Ends, Stands, pushed, ended, next_move}
 
 -- the most tasks
 abbrev pub task_limit : ℕ
@@ -71,7 +71,9 @@ starts setting s t root shape after =
 
 abbrev pub moved_by : Setting → State → ℕ → Next → Moved
 moved_by setting s t (Goes after) = quiet (with_lone s t after)
-moved_by setting s t (Puts box root shape after) = puts (with_lone s t after) box root shape
+moved_by setting s t (Puts box root shape after) = if is_full (s.mailboxes box) then acted (with_lone s t (ended after cause.Full)) (End cause.Full) else puts (with_lone s t after) box root shape
+moved_by setting s t (PutWaits box root shape after) = if is_full (s.mailboxes box) then quiet s else puts (with_lone s t after) box root shape
+moved_by setting s t (Bounds box most after) = acted (record (with_lone s t after) { mailboxes = with_mailbox s.mailboxes box (bounded (s.mailboxes box) most) }) (Bound box most)
 moved_by setting s t (Gets box after) = gets s t box after (s.mailboxes box).queue
 moved_by setting s t (Probes box after) = probes s t box after (s.mailboxes box).queue
 moved_by setting s t (Starts root shape after) = starts setting s t root shape after

@@ -12,9 +12,11 @@ mod deed;
 pub mod kin;
 pub mod one_heap;
 mod small_programs;
+mod waits;
 
 pub use deed::{Beginning, Deed};
 pub use small_programs::Small;
+pub use waits::Waits;
 
 /// A law, and no work: the run of a small program prints its numbers in order, and is done.
 pub fn small_run_is_whole()

@@ -1,7 +1,7 @@
 //! Threads over one shared heap, and the same threads each on a heap of its own. Definitions in `specs/`, and laws about
 //! them, which no program calls to do work.
 
-ghost use Rattle.kilim_run_model.specs.one_heap.Laws.{MovedIsWhole, MovesAreBooked, MovesMatch, NextMovesAreKin, NoOwnTasks, NoneShares, OneHeapIsMany, PlaysReplay};
+ghost use Rattle.kilim_run_model.specs.one_heap.Laws.{MovedIsWhole, MovesAreBooked, MovesMatch, NextMovesAreKin, NoOwnEnds, NoneShares, OneHeapIsMany, PlaysReplay};
 
 /// A law, and no work: a thread does next the same on a heap of its own as on a heap that it shares, but for the names
 /// of objects.
@@ -15,9 +15,9 @@ pub fn moves_match()
     ensures { MovesMatch }
 {}
 
-/// A law, and no work: a thread's own end is never that for want of tasks.
-pub fn no_own_tasks()
-    ensures { NoOwnTasks }
+/// A law, and no work: a thread's own end is never one that others decide: for want of tasks, or at a full mailbox.
+pub fn no_own_ends()
+    ensures { NoOwnEnds }
 {}
 
 /// A law, and no work: a move over many heaps keeps each thread that of its course, and the mailboxes those that the

@@ -82,7 +82,7 @@ module _ {F : Type 0} (b b' : Board F) (seat : ℕ) where
     is_actable count t c (wants.End why) m none = tt
 
     pub acted_as : (numbered : F → F → ℕ → Type 0) (t : ℕ) (c : Course) (w : Wants F) (a : Acted) → slice_get b.cells seat ≡ Some (Some t) → ActAnswers numbered b seat t b' w a → ((set : Setting) → Of set → IsAnswered set b' t c (wish_in w) a) → ActedAs Of t c (cell_at (cells_of b') seat) (wish_in w) a
-    acted_as numbered t c (wants.Put box tree shape) (acted.Answer (answer.Sent n)) there did ans = λ set is. let x = ans set is in (x.0, x.1, lent_cell b' seat t (course_after c x.0) (ap (λ cs. slice_get cs seat) did.1.cells ∙ there) x.2)
+    acted_as numbered t c (wants.Put box tree shape) (acted.Answer (answer.Sent n)) there did ans = λ set is. let x = ans set is in (x.0, x.1, lent_cell b' seat t (course_after c x.0) (ap (λ cs. slice_get cs seat) did.2.cells ∙ there) x.2)
     acted_as numbered t c (wants.Take box) (acted.Answer (answer.Message tree n)) there did ans = λ set is. let x = ans set is in (x.0, x.1, lent_cell b' seat t (course_after c x.0) (ap (λ cs. slice_get cs seat) did.1.spots.cells ∙ there) x.2)
     acted_as numbered t c (wants.Take box) (acted.Answer answer.Nothing) there did ans = λ set is. let x = ans set is in (x.0, x.1, lent_cell b' seat t (course_after c x.0) (ap (λ cs. slice_get cs seat) did.1.spots.cells ∙ there) x.2)
     acted_as numbered t c (wants.Probe box) (acted.Answer (answer.Message tree n)) there did ans = λ set is. let x = ans set is in (x.0, x.1, lent_cell b' seat t (course_after c x.0) (ap (λ cs. slice_get cs seat) did.1.spots.cells ∙ there) x.2)

@@ -8,7 +8,7 @@ use Rattle.kilim_run_state.specs.declared.value.Token.{Token}
 use Rattle.kilim_run_journal.specs.declared.entry.Act.{Act}
 use Rattle.kilim_run_journal.specs.declared.entry.Act.TheVariants.{Put, Take, Empty, Start, Print, End, Wait, Bound}
 use Rattle.kilim_run_journal.specs.declared.entry.Entry.{Entry}
-use Rattle.kilim_run_model.specs.State.{Setting}
+use Rattle.kilim_run_model.specs.State.{Setting, is_full}
 use Rattle.kilim_run_model.specs.Turn.{task_limit}
 use Rattle.kilim_run_model.specs.Moving.{books_taken, books_empty, with_deed}
 use Rattle.kilim_run_board.specs.declared.fibers.Wants.{Wants}
@@ -81,7 +81,7 @@ entry_last b mid last (f ∷ es) e is goes = entry_in (λ x i g. entry_last x mi
 
 -- by the task of an entry
 kept_by : (b last : Books) (t u : ℕ) (c : Course) (act : Act) → (u == t) ≡ false → u < length b.courses → books_by b t c act ≡ Some last → slice_get last.courses u ≡ slice_get b.courses u
-kept_by b last t u c (Put box n shape) ne lt e = put_in (n == (b.mailboxes box).puts) _ e
+kept_by b last t u c (Put box n shape) ne lt e = put_in (n == (b.mailboxes box).puts && not (is_full (b.mailboxes box))) _ e
   where
     put_in : (y : Bool) (p : BoxName → Post) → (if y then Some (record { courses = with_deed b.courses t c (plain (Put box n shape)); mailboxes = p }) else None) ≡ Some last → slice_get last.courses u ≡ slice_get b.courses u
     put_in true p g = ap (λ (x : Books). slice_get x.courses u) (sym (some_injective _ last g)) ∙ get_set_other b.courses t u _ ne
@@ -114,7 +114,7 @@ kept_by b last t u c (End cause) ne lt e = end_if (is_tasks cause && not (length
     end_if true g = absurd (let h : None ≡ Some last = g in cc)
     end_if false g = ap (λ (z : Books). slice_get z.courses u) (sym (some_injective _ last g)) ∙ get_set_other b.courses t u _ ne
 kept_by b last t u c (Wait box) ne lt e = absurd (let h : None ≡ Some last = e in cc)
-kept_by b last t u c (Bound box n) ne lt e = absurd (let h : None ≡ Some last = e in cc)
+kept_by b last t u c (Bound box n) ne lt e = ap (λ (z : Books). slice_get z.courses u) (sym (some_injective _ last e)) ∙ get_set_other b.courses t u _ ne
 
 course_kept : (b last : Books) (e : Entry) (u : ℕ) → (u == e.task) ≡ false → u < length b.courses → books_after b e ≡ Some last → slice_get last.courses u ≡ slice_get b.courses u
 course_kept b last e u ne lt goes = in_task (slice_get b.courses e.task) goes
@@ -219,7 +219,7 @@ module _ {F : Type 0} (b b' : Board F) (seat : ℕ) where
     nothing_made same = let e = cells_same same.run.journal same.spots.cells in record { seats = ap length e; others = λ k ne. ap (λ l. cell_at l k) e }
 
     pub act_others : (numbered : F → F → ℕ → Type 0) (t : ℕ) (w : Wants F) (a : Acted) → slice_get b.cells seat ≡ Some (Some t) → ActAnswers numbered b seat t b' w a → KeepsOthers seat (cells_of b) (cells_of b')
-    act_others numbered t (wants.Put box tree shape) (acted.Answer (answer.Sent n)) lent did = entry_made t _ lent did.1.journal (inl did.1.cells)
+    act_others numbered t (wants.Put box tree shape) (acted.Answer (answer.Sent n)) lent did = entry_made t _ lent did.2.journal (inl did.2.cells)
     act_others numbered t (wants.Take box) (acted.Answer (answer.Message tree n)) lent did = entry_made t _ lent did.1.journal (inl did.1.spots.cells)
     act_others numbered t (wants.Take box) (acted.Answer answer.Nothing) lent did = nothing_made did.1
     act_others numbered t (wants.Probe box) (acted.Answer (answer.Message tree n)) lent did = entry_made t _ lent did.1.journal (inl did.1.spots.cells)

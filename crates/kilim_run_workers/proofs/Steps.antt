@@ -16,7 +16,7 @@ use Rattle.kilim_run_workers.specs.Runs.{fiber_numbers, AllStand, ActedAs, RunsO
 use Rattle.kilim_run_model.specs.Lone.{Lone}
 use Rattle.kilim_run_model.specs.Course.{Course}
 use Rattle.kilim_run_model.specs.declared.deed.Deed.{Deed}
-use Rattle.kilim_run_board.specs.fibers.Wishes.{Wish, ToPut, ToTake, ToProbe, ToStart, ToPrint, ToEnd}
+use Rattle.kilim_run_board.specs.fibers.Wishes.{Wish, ToPut, ToPutWait, ToBound, ToTake, ToProbe, ToStart, ToPrint, ToEnd}
 
 -- where it rests
 pub rested : {F : Type 0} (task : F → ℕ) (course : F → Course) (holds asked : Setting → F → Lone → Type 0) (set : Setting) (f : F) (waits : Option BoxName) → Resumed task course holds asked set f (wants.Rest waits) → RestsAs task course holds set f waits
@@ -58,6 +58,8 @@ module _ (Of : Setting → Type 0) (t : ℕ) (c : Course) (cell : List ℕ) wher
   full : (o : Option Wish) → ActedAs Of t c cell o acted.OutOfTasks → cell ≡ []
   full None did = absurd did
   full (Some (ToPut box shape)) did = did
+  full (Some (ToPutWait box shape)) did = did
+  full (Some (ToBound box most)) did = did
   full (Some (ToTake box)) did = did
   full (Some (ToProbe box)) did = did
   full (Some (ToStart shape)) did = did

@@ -9,7 +9,7 @@ use Rattle.kilim_run_journal.specs.declared.entry.Act.{Act}
 use Rattle.kilim_run_journal.specs.declared.entry.Act.TheVariants.{Put, Take, Empty, Start, End}
 use Rattle.kilim_run_model.proofs.one_heap.Booking.{action_is, is_act}
 use Rattle.kilim_run_state.specs.Trees.{OfMessage, built}
-use Rattle.kilim_run_model.specs.Course.{Course, Done, Follows, IsLone, Moves, Quiet, Stays, done_by, next_action, probes_deed, puts_deed, starts_deed, takes_deed, tree_came}
+use Rattle.kilim_run_model.specs.Course.{Course, Done, Follows, IsLone, Moves, Quiet, Stays, done_by, fills_deed, next_action, probes_deed, puts_deed, starts_deed, takes_deed, tree_came}
 use Rattle.kilim_run_model.specs.Lone.{Lone, Next, next_move}
 use Rattle.kilim_run_model.specs.Lone as next
 use Rattle.kilim_run_model.specs.State.{Setting}
@@ -41,8 +41,13 @@ takes_again set n box l d y is (Take b k) e = by (built set.program OfMessage l.
     by (Some objects) same e = from_same set n d _ y e (is k _ (ap (tree_came box k l) same))
 takes_again set n box l d y is act e = absurd (none-some y e)
 
-puts_again : (set : Setting) (box : BoxName) (root : ℕ) (shape : List Token) (l : Lone) (d : Deed) (y : Done) (act : Act) → puts_deed set.program box root shape l act ≡ Some y → Again set (next.Puts box root shape l) d y
-puts_again set box root shape l d y (Put b k s) e = from_same set (next.Puts box root shape l) d _ y e refl
+fills_again : (set : Setting) (box : BoxName) (root : ℕ) (shape : List Token) (l : Lone) (d : Deed) (y : Done) (act : Act) → fills_deed set.program box root shape l act ≡ Some y → Again set (next.Puts box root shape l) d y
+fills_again set box root shape l d y (Put b k s) e = from_same set (next.Puts box root shape l) d _ y e refl
+fills_again set box root shape l d y (End why) e = from_same set (next.Puts box root shape l) d _ y e refl
+fills_again set box root shape l d y act e = absurd (none-some y e)
+
+puts_again : (set : Setting) (box : BoxName) (root : ℕ) (shape : List Token) (l : Lone) (d : Deed) (y : Done) (act : Act) → puts_deed set.program box root shape l act ≡ Some y → Again set (next.PutWaits box root shape l) d y
+puts_again set box root shape l d y (Put b k s) e = from_same set (next.PutWaits box root shape l) d _ y e refl
 puts_again set box root shape l d y act e = absurd (none-some y e)
 
 starts_again : (set : Setting) (root : ℕ) (shape : List Token) (l : Lone) (d : Deed) (y : Done) (act : Act) → starts_deed set.program root shape l act ≡ Some y → Again set (next.Starts root shape l) d y
@@ -57,7 +62,9 @@ probes_again set box l d y act e = absurd (none-some y e)
 
 pub done_again : (set : Setting) (n : Next) (d : Deed) (y : Done) → done_by set n d ≡ Some y → Again set n d y
 done_again set (next.Goes l) d y e = absurd (none-some y e)
-done_again set (next.Puts box root shape l) d y e = puts_again set box root shape l d y d.act e
+done_again set (next.Puts box root shape l) d y e = fills_again set box root shape l d y d.act e
+done_again set (next.PutWaits box root shape l) d y e = puts_again set box root shape l d y d.act e
+done_again set (next.Bounds box most l) d y e = from_same set (next.Bounds box most l) d _ y e refl
 done_again set (next.Gets box l) d y e = takes_again set (next.Gets box l) box l d y (λ k after e. e) d.act e
 done_again set (next.Probes box l) d y e = probes_again set box l d y d.act e
 done_again set (next.Starts root shape l) d y e = starts_again set root shape l d y d.act e
@@ -118,6 +125,8 @@ module _ (set : Setting) (k : ℕ) (here : Lone) (c : Course) (last : Lone) (lon
   next_on : (n : Next) → next_move set k here ≡ n → (ds : List Deed) (as1 : List Act) (t : Thread) → IsNext set ds as1 k n t → IsOfCourse set t
   next_on (next.Goes after) e ds as1 t a = moved after e ds as1 t a
   next_on (next.Puts box root shape l) e ds as1 t a = acts_on (next.Puts box root shape l) e refl ds as1 t a
+  next_on (next.PutWaits box root shape l) e ds as1 t a = acts_on (next.PutWaits box root shape l) e refl ds as1 t a
+  next_on (next.Bounds box most l) e ds as1 t a = acts_on (next.Bounds box most l) e refl ds as1 t a
   next_on (next.Gets box l) e ds as1 t a = acts_on (next.Gets box l) e refl ds as1 t a
   next_on (next.Probes box l) e ds as1 t a = acts_on (next.Probes box l) e refl ds as1 t a
   next_on (next.Starts root shape l) e ds as1 t a = acts_on (next.Starts root shape l) e refl ds as1 t a

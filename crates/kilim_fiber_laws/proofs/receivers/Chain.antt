@@ -129,6 +129,8 @@ module _ (set : Setting) (run : IsRunOfAccepted set) where
     next_on : (n : Next) → next_move set k here ≡ n → (ds : List Deed) (as1 : List Act) (t : Thread) → IsNext set ds as1 k n t → WellFurther of t
     next_on (next.Goes after) e ds as1 t a = moved after e ds as1 t a
     next_on (next.Puts box root shape l) e ds as1 t a = acts_on (next.Puts box root shape l) e ds as1 t a
+    next_on (next.PutWaits box root shape l) e ds as1 t a = acts_on (next.PutWaits box root shape l) e ds as1 t a
+    next_on (next.Bounds box most l) e ds as1 t a = acts_on (next.Bounds box most l) e ds as1 t a
     next_on (next.Gets box l) e ds as1 t a = acts_on (next.Gets box l) e ds as1 t a
     next_on (next.Probes box l) e ds as1 t a = acts_on (next.Probes box l) e ds as1 t a
     next_on (next.Starts root shape l) e ds as1 t a = acts_on (next.Starts root shape l) e ds as1 t a

@@ -232,6 +232,7 @@ module _ (set : Setting) (run : IsRunOfAccepted set) (of : Classes) (next : ℕ)
     put_so : (box : BoxName) (root : ℕ) → native_of set.program c ≡ Some native.Put → args ≡ Box box ∷ Ref root ∷ [] → (shape : List Token) → shape_of set.program h root ≡ Some shape → (act : Act) (rest : List Deed) → HeldIn set run (put_by set w Stop go box shape root act rest)
     put_so box root known own shape e (Put a k z) rest =
         goes_away native.Put known refl root shape (class_id (n set.program run.keeps run.form + 2)) (message_kind set.program run.keeps run.form) (put_given kept (frame m q l s ∷ lone_frames b) full box root known own).0 (λ k frames fits. (put_given k frames fits box root known own).1) e _ (gone_heap root)
+    put_so box root known own shape e (End why) rest = at_last cause.Full rest
     put_so box root known own shape e act rest = tt
 
     puts_so : (box : BoxName) (root : ℕ) → native_of set.program c ≡ Some native.Put → args ≡ Box box ∷ Ref root ∷ [] → (o : Option (List Token)) → shape_of set.program h root ≡ o → HeldIn set run (puts set w Stop go box root o)

@@ -76,6 +76,7 @@ module _ {S : Type 0} (set : Setting) (w : World) (over : Over → S) (go : Worl
 
   put_same : (box : BoxName) (shape : List Token) (n : ℕ) (act : Act) (rest : List Deed) → Same (put_by set w over go box shape n act rest) (put_by set w IsOver GoesOn box shape n act rest)
   put_same box shape n (Put b k s) rest = (refl, refl)
+  put_same box shape n (End c) rest = last_same cause.Full rest
   put_same box shape n act rest = (refl, tt)
 
   puts_same : (box : BoxName) (n : ℕ) (o : Option (List Token)) → Same (puts set w over go box n o) (puts set w IsOver GoesOn box n o)

@@ -29,7 +29,7 @@ use Rattle.kilim_run_state.specs.Trees.{OfMessage, built}
 use Rattle.kilim_run_model.specs.State.{Setting, Alive, begun_in, begun_on}
 use Rattle.kilim_run_model.specs.Lone.{Lone, Next, arg_at, arg_next, asks_next, begins_next, box_limit, ended, finish_next, frames_next, message_next, native_next, next_by, next_move, on_heap, opens_next, print_next, printed, put_next, start_next, thread_next, went}
 use Rattle.kilim_run_model.specs.Lone as next
-use Rattle.kilim_run_model.specs.Course.{puts_deed, probes_deed, starts_deed, takes_deed, tree_came}
+use Rattle.kilim_run_model.specs.Course.{fills_deed, probes_deed, starts_deed, takes_deed, tree_came}
 use Rattle.kilim_run_model.specs.declared.deed.Deed.{Deed}
 use Rattle.kilim_fiber_spec.specs.Acts.{World, Over, Wants, Finished, Astray, Lost, counted, with_heap, ending, spending, last, put_by, puts, puts_value, start_by, starts, receives, take_by, takes, probe_by, probes, prints, gives_arg, native_does, asks, makes, opens_box}
 use Rattle.kilim_fiber_spec.specs.Acts as action
@@ -71,13 +71,17 @@ module _ (set : Setting) where
     puts_next box n None = ends w after cause.Large
     puts_next box n (Some shape) = by w.deeds
       where
-        told : (d : Deed) (rest : List Deed) (act : Act) → IsDone rest w.acts w.task (puts_deed set.program box n shape after act) (put_by set w Stop go box shape n act rest)
+        lasts : (rest : List Deed) → IsLast cause.Full rest (last set w Stop cause.Full rest)
+        lasts [] = (w, refl)
+        lasts (d ∷ rest) = refl
+
+        told : (d : Deed) (rest : List Deed) (act : Act) → IsDone rest w.acts w.task (fills_deed set.program box n shape after act) (put_by set w Stop go box shape n act rest)
         told d rest (Put c k z) = (refl, refl, refl, refl)
         told d rest (Take c k) = refl
         told d rest (Empty c) = refl
         told d rest (Start k z) = refl
         told d rest (Print z) = refl
-        told d rest (End c) = refl
+        told d rest (End c) = lasts rest
         told d rest (Wait c) = refl
         told d rest (Bound c k) = refl
 

@@ -39,6 +39,8 @@ SameHeap w l = (w.heap ≡ l.heap) × (w.next ≡ l.next)
 abbrev pub wanted : Next → Option (Action × Option Lone)
 wanted (next.Goes after) = None
 wanted (next.Puts box root shape after) = Some (action.Puts box root shape, Some after)
+wanted (next.PutWaits box root shape after) = Some (action.PutWaits box root shape, Some after)
+wanted (next.Bounds box most after) = Some (action.Bounds box most, Some after)
 wanted (next.Gets box after) = Some (action.Gets box, Some after)
 wanted (next.Probes box after) = Some (action.Probes box, Some after)
 wanted (next.Starts root shape after) = Some (action.Starts root shape, Some after)

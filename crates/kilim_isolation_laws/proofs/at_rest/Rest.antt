@@ -8,10 +8,12 @@ use Rattle.kilim_run_state.specs.Machine.{Activation}
 use Rattle.kilim_run_journal.specs.declared.entry.Act.{Act}
 use Rattle.kilim_run_journal.specs.declared.entry.Act.TheVariants.{End}
 use Rattle.kilim_run_journal.specs.declared.entry.Entry.{Entry}
-use Rattle.kilim_run_model.specs.State.{Setting, Mailbox, Thread, Alive, Ended, State, execute_frames}
-use Rattle.kilim_run_model.specs.Lone.{Lone, Next, Goes, Puts, Gets, Probes, Starts, Prints, Ends, Stands, ended, next_move, get_at}
-use Rattle.kilim_run_model.specs.Turn.{Moved, quiet, acted, lone_of, with_lone, gets, probes, starts, starts_with, task_limit, moved_by, thread_moved, moved}
-use Rattle.kilim_run_model.specs.Runs.{unless_acted, before_action, settled_from, settled, where_empty, if_empty, waits_at, is_at_rest, all_at_rest, waits_from, AtRest}
+use Rattle.kilim_run_model.specs.State.{Setting, Mailbox, Thread, Alive, Ended, State, execute_frames, is_full}
+use Rattle.kilim_run_model.specs.declared.waits.Waits.{Waits}
+use Rattle.kilim_run_model.specs.declared.waits.Waits.TheVariants as wait
+use Rattle.kilim_run_model.specs.Lone.{Lone, Next, Goes, Puts, PutWaits, Bounds, Gets, Probes, Starts, Prints, Ends, Stands, ended, next_move, get_at}
+use Rattle.kilim_run_model.specs.Turn.{Moved, quiet, acted, lone_of, with_lone, gets, probes, puts, starts, starts_with, task_limit, moved_by, thread_moved, moved}
+use Rattle.kilim_run_model.specs.Runs.{unless_acted, before_action, settled_from, settled, where_empty, where_full, if_waits, waits_at, is_at_rest, all_at_rest, waits_from, AtRest}
 use Rattle.kilim_run_model.proofs.Alone.{rests_still}
 use Rattle.kilim_lemmas.proofs.Lists.{set_other}
 use Rattle.kilim_isolation_laws.specs.at_rest.Laws.{OneRest}
@@ -48,7 +50,10 @@ module _ (set : Setting) (s : State) (t : ℕ) where
 
   next_keeps : (x : Next) → (moved_by set s t x).act ≡ None → Keeps t s (moved_by set s t x).state
   next_keeps (Goes after) e = record { others = λ u other. set_other s.threads t u after.thread other; boxes = refl }
-  next_keeps (Puts box root shape after) e = absurd (cc)
+  next_keeps (Puts box root shape after) e =
+      either_keeps (is_full (s.mailboxes box)) (acted (with_lone s t (ended after cause.Full)) (End cause.Full)) (puts (with_lone s t after) box root shape) (λ x. absurd (cc)) (λ x. absurd (cc)) e
+  next_keeps (PutWaits box root shape after) e = either_keeps (is_full (s.mailboxes box)) (quiet s) (puts (with_lone s t after) box root shape) (λ x. stays t s) (λ x. absurd (cc)) e
+  next_keeps (Bounds box most after) e = absurd (cc)
   next_keeps (Gets box after) e = gets_keep box after (s.mailboxes box).queue e
   next_keeps (Probes box after) e = probes_keep box after (s.mailboxes box).queue e
   next_keeps (Starts root shape after) e =
@@ -127,14 +132,14 @@ module _ (set : Setting) where
 
   -- ---- who rests in the end rested right after it settled
 
-  empty_there : (a : State) (boxes : BoxName → Mailbox ℕ) (box : BoxName) → boxes ≡ a.mailboxes → is_some (where_empty (boxes box).queue box) ≡ true → is_some (if_empty a (Some box)) ≡ true
-  empty_there a boxes box e rests = ap (λ (f : BoxName → Mailbox ℕ). is_some (where_empty (f box).queue box)) (sym e) ∙ rests
+  waits_there : (f a : State) (w : Waits) → f.mailboxes ≡ a.mailboxes → is_some (if_waits f (Some w)) ≡ true → is_some (if_waits a (Some w)) ≡ true
+  waits_there f a (wait.Take box) e rests = ap (λ (boxes : BoxName → Mailbox ℕ). is_some (where_empty (boxes box).queue box)) (sym e) ∙ rests
+  waits_there f a (wait.Put box) e rests = ap (λ (boxes : BoxName → Mailbox ℕ). is_some (where_full (boxes box) box)) (sym e) ∙ rests
 
-  rests_by : (f a : State) (t : ℕ) (th : Thread) (o : Option BoxName) → get_at (next_move set t (lone_of f t th)) ≡ o → f.mailboxes ≡ a.mailboxes → is_some (if_empty f o) ≡ true →
-      is_some (if_empty a (get_at (next_move set t (lone_of a t th)))) ≡ true
+  rests_by : (f a : State) (t : ℕ) (th : Thread) (o : Option Waits) → get_at (next_move set t (lone_of f t th)) ≡ o → f.mailboxes ≡ a.mailboxes → is_some (if_waits f o) ≡ true →
+      is_some (if_waits a (get_at (next_move set t (lone_of a t th)))) ≡ true
   rests_by f a t th None at same rests = absurd (cc)
-  rests_by f a t th (Some box) at same rests =
-      ap (λ (o : Option BoxName). is_some (if_empty a o)) (get_stays set t (lone_of f t th) (lone_of a t th) box refl at) ∙ empty_there a f.mailboxes box same rests
+  rests_by f a t th (Some w) at same rests = ap (λ (o : Option Waits). is_some (if_waits a o)) (get_stays set t (lone_of f t th) (lone_of a t th) w refl at) ∙ waits_there f a w same rests
 
   rests_back : (f a : State) (t : ℕ) (th : Thread) → f.mailboxes ≡ a.mailboxes → is_at_rest set f t th ≡ true → is_at_rest set a t th ≡ true
   rests_back f a t (Ended cause) same rests = refl

@@ -1,4 +1,4 @@
--- A thread at the `get` of a mailbox stands there on every heap.
+-- A thread that stands where it may have to wait stands there on every heap.
 use Rattle.std.proofs.Common.{◌≡◌, ℕ, zero, suc, ◌+◌, Bool, true, false, cond, List, [], ◌∷◌, Option, Some, None, length, refl, sym, ap, subst, ◌∙◌}
 use Rattle.std.specs.Prelude.{ℤ, nat_lt, nat_le}
 use Rattle.kilim_run_state.specs.declared.cause.EndCause.TheVariants as cause
@@ -19,6 +19,8 @@ use Rattle.kilim_run_machine.specs.Moves as move
 use Rattle.kilim_run_state.specs.Shapes.{shape_of}
 use Rattle.kilim_run_model.specs.State.{Setting, Thread, Alive, Ended, begun_on}
 use Rattle.kilim_run_model.specs.Lone.{Lone, Next, Goes, Gets, box_limit, went, over, put_next, message_next, start_next, print_next, printed, arg_next, arg_at, native_next, asks_next, begins_next, finish_next, on_heap, next_by, frames_next, thread_next, next_move, get_at}
+use Rattle.kilim_run_model.specs.declared.waits.Waits.{Waits}
+use Rattle.kilim_run_model.specs.declared.waits.Waits.TheVariants as wait
 use Rattle.kilim_isolation_laws.specs.at_rest.Laws.{GetStays}
 use Rattle.kilim_isolation_laws.proofs.at_rest.Asked.{SameAsk, AsksSame, effect_same}
 
@@ -59,93 +61,100 @@ moves_same p top below h k m box vs frames h2 e = by_same p top below k (effect_
 
 -- ---- what is next
 
-record GetsAt (box : BoxName) (nat : Native) (args : List Value) : Type 0 where
+-- it waits at the `get` of a mailbox
+record GetsAt (w : Waits) (nat : Native) (args : List Value) : Type 0 where
+  box : BoxName
+  at : w ≡ wait.Take box
   is_get : nat ≡ native.Get
   of_box : args ≡ Box box ∷ []
 
-no_put : (after : Lone) (b : BoxName) (n : ℕ) (shape : Option (List Token)) (box : BoxName) → get_at (put_next after b n shape) ≡ Some box → ⊥
-no_put after b n None box e = absurd (cc)
-no_put after b n (Some shape) box e = absurd (cc)
+no_put : (after : Lone) (b : BoxName) (n : ℕ) (shape : Option (List Token)) (w : Waits) → get_at (put_next after b n shape) ≡ Some w → ⊥
+no_put after b n None w e = absurd (cc)
+no_put after b n (Some shape) w e = absurd (cc)
 
-no_message : (p : Program) (after : Lone) (b : BoxName) (v : Value) (box : BoxName) → get_at (message_next p after b v) ≡ Some box → ⊥
-no_message p after b Null box e = absurd (cc)
-no_message p after b (Ref n) box e = no_put after b n (shape_of p after.heap n) box e
-no_message p after b v box e = absurd (cc)
+no_message : (p : Program) (after : Lone) (b : BoxName) (v : Value) (w : Waits) → get_at (message_next p after b v) ≡ Some w → ⊥
+no_message p after b Null w e = absurd (cc)
+no_message p after b (Ref n) w e = no_put after b n (shape_of p after.heap n) w e
+no_message p after b v w e = absurd (cc)
 
-no_start : (after : Lone) (n : ℕ) (shape : Option (List Token)) (box : BoxName) → get_at (start_next after n shape) ≡ Some box → ⊥
-no_start after n None box e = absurd (cc)
-no_start after n (Some shape) box e = absurd (cc)
+no_start : (after : Lone) (n : ℕ) (shape : Option (List Token)) (w : Waits) → get_at (start_next after n shape) ≡ Some w → ⊥
+no_start after n None w e = absurd (cc)
+no_start after n (Some shape) w e = absurd (cc)
 
-no_print : (after : Lone) (t : Option Token) (box : BoxName) → get_at (print_next after t) ≡ Some box → ⊥
-no_print after None box e = absurd (cc)
-no_print after (Some t) box e = absurd (cc)
+no_print : (after : Lone) (t : Option Token) (w : Waits) → get_at (print_next after t) ≡ Some w → ⊥
+no_print after None w e = absurd (cc)
+no_print after (Some t) w e = absurd (cc)
 
-no_arg : (after : Lone) (x : Option ℤ) (box : BoxName) → get_at (arg_next after x) ≡ Some box → ⊥
-no_arg after None box e = absurd (cc)
-no_arg after (Some x) box e = absurd (cc)
+no_arg : (after : Lone) (x : Option ℤ) (w : Waits) → get_at (arg_next after x) ≡ Some w → ⊥
+no_arg after None w e = absurd (cc)
+no_arg after (Some x) w e = absurd (cc)
 
-native_gets : (set : Setting) (after : Lone) (nat : Native) (args : List Value) (box : BoxName) → get_at (native_next set after nat args) ≡ Some box → GetsAt box nat args
-native_gets set after native.Execute (Ref n ∷ []) box e = absurd (cc)
-native_gets set after native.Start (Ref n ∷ []) box e = absurd (no_start after n (shape_of set.program after.heap n) box e)
-native_gets set after native.Put (Box b ∷ message ∷ []) box e = absurd (no_message set.program after b message box e)
-native_gets set after native.Get (Box b ∷ []) box e = record { is_get = refl; of_box = let same : b ≡ box = cc in ap (λ (x : BoxName). Box x ∷ []) same }
-native_gets set after native.Getnb (Box b ∷ []) box e = absurd (cc)
-native_gets set after native.Print (v ∷ []) box e = absurd (no_print after (printed v) box e)
-native_gets set after native.Yield [] box e = absurd (cc)
-native_gets set after native.ArgCount [] box e = absurd (cc)
-native_gets set after native.Arg (Int i ∷ []) box e = absurd (no_arg after (arg_at set.limits.args i) box e)
-native_gets set after nat args box e = absurd (cc)
+native_gets : (set : Setting) (after : Lone) (nat : Native) (args : List Value) (w : Waits) → get_at (native_next set after nat args) ≡ Some w → GetsAt w nat args
+native_gets set after native.Execute (Ref n ∷ []) w e = absurd (cc)
+native_gets set after native.Start (Ref n ∷ []) w e = absurd (no_start after n (shape_of set.program after.heap n) w e)
+native_gets set after native.Put (Box b ∷ message ∷ []) w e = absurd (no_message set.program after b message w e)
+native_gets set after native.Get (Box b ∷ []) w e = record { box = b; at = cc; is_get = refl; of_box = refl }
+native_gets set after native.Getnb (Box b ∷ []) w e = absurd (cc)
+native_gets set after native.Print (v ∷ []) w e = absurd (no_print after (printed v) w e)
+native_gets set after native.Yield [] w e = absurd (cc)
+native_gets set after native.ArgCount [] w e = absurd (cc)
+native_gets set after native.Arg (Int i ∷ []) w e = absurd (no_arg after (arg_at set.limits.args i) w e)
+native_gets set after nat args w e = absurd (cc)
 
-no_begin : (l : Lone) (done boxes : ℕ) (frames : Option (List Activation)) (box : BoxName) → get_at (begins_next l done boxes frames) ≡ Some box → ⊥
-no_begin l done boxes None box e = absurd (cc)
-no_begin l done boxes (Some []) box e = absurd (cc)
-no_begin l done boxes (Some (frame ∷ frames)) box e = absurd (cc)
+no_begin : (l : Lone) (done boxes : ℕ) (frames : Option (List Activation)) (w : Waits) → get_at (begins_next l done boxes frames) ≡ Some w → ⊥
+no_begin l done boxes None w e = absurd (cc)
+no_begin l done boxes (Some []) w e = absurd (cc)
+no_begin l done boxes (Some (frame ∷ frames)) w e = absurd (cc)
 
-no_finish : (set : Setting) (l : Lone) (done boxes : ℕ) (kept : Option ℕ) (box : BoxName) → get_at (finish_next set l done boxes kept) ≡ Some box → ⊥
-no_finish set l done boxes None box e = absurd (cc)
-no_finish set l done boxes (Some n) box e = no_begin l done boxes (begun_on set.program (execute_of set.program set.main) n) box e
+no_finish : (set : Setting) (l : Lone) (done boxes : ℕ) (kept : Option ℕ) (w : Waits) → get_at (finish_next set l done boxes kept) ≡ Some w → ⊥
+no_finish set l done boxes None w e = absurd (cc)
+no_finish set l done boxes (Some n) w e = no_begin l done boxes (begun_on set.program (execute_of set.program set.main) n) w e
 
-no_open : (b : Bool) (x y : Lone) (box : BoxName) → get_at (cond b (Goes x) (over y cause.Boxes)) ≡ Some box → ⊥
-no_open true x y box e = absurd (cc)
-no_open false x y box e = absurd (cc)
+no_open : (b : Bool) (x y : Lone) (w : Waits) → get_at (cond b (Goes x) (over y cause.Boxes)) ≡ Some w → ⊥
+no_open true x y w e = absurd (cc)
+no_open false x y w e = absurd (cc)
 
-asked_get : (set : Setting) (x y : Lone) (args : List Value) (nat : Option Native) (box : BoxName) → get_at (asks_next set x args nat) ≡ Some box → (args ≡ Box box ∷ []) × (get_at (asks_next set y args nat) ≡ Some box)
-asked_get set x y args None box e = absurd (cc)
-asked_get set x y args (Some nat) box e =
-    let found = native_gets set x nat args box e in
-    (found.of_box, ap (λ (n : Native). get_at (native_next set y n args)) found.is_get ∙ ap (λ (vs : List Value). get_at (native_next set y native.Get vs)) found.of_box)
+asked_get : (set : Setting) (x y : Lone) (args : List Value) (nat : Option Native) (w : Waits) → get_at (asks_next set x args nat) ≡ Some w → (box : BoxName) × (args ≡ Box box ∷ []) × (get_at (asks_next set y args nat) ≡ Some w)
+asked_get set x y args None w e = absurd (cc)
+asked_get set x y args (Some nat) w e =
+    let found = native_gets set x nat args w e in
+    (
+      found.box,
+      found.of_box,
+      ap (λ (n : Native). get_at (native_next set y n args)) found.is_get ∙ (ap (λ (vs : List Value). get_at (native_next set y native.Get vs)) found.of_box ∙ ap (λ (z : Waits). Some z) (sym found.at)),
+    )
 
 module _ (set : Setting) (t : ℕ) (a b : Lone) (done boxes : ℕ) where
-  move_gets : (ma mb : Move) (box : BoxName) →
-      ((m : MethodId) (vs : List Value) (frames : List Activation) (heap : Objects) → ma ≡ move.Asks m (Box box ∷ vs) frames heap → mb ≡ move.Asks m (Box box ∷ vs) frames b.heap) →
-      get_at (next_by set t a done boxes ma) ≡ Some box → get_at (next_by set t b done boxes mb) ≡ Some box
-  move_gets (move.Runs change frames heap) mb box same e = absurd (cc)
-  move_gets (move.Makes object frames heap) mb box same e = absurd (cc)
-  move_gets (move.Opens frames heap) mb box same e = absurd (no_open (nat_lt boxes box_limit) (went (on_heap a heap) (push_value (Box (record { task = t; number = boxes })) frames) done (boxes + 1)) (on_heap a heap) box e)
-  move_gets (move.Asks m args frames heap) mb box same e =
-      let found = asked_get set (went (on_heap a heap) frames done boxes) (went (on_heap b b.heap) frames done boxes) args (native_of set.program m) box e in
-      let there = same m [] frames heap (ap (λ (vs : List Value). move.Asks m vs frames heap) found.0) in
+  move_gets : (ma mb : Move) (w : Waits) →
+      ((box : BoxName) (m : MethodId) (vs : List Value) (frames : List Activation) (heap : Objects) → ma ≡ move.Asks m (Box box ∷ vs) frames heap → mb ≡ move.Asks m (Box box ∷ vs) frames b.heap) →
+      get_at (next_by set t a done boxes ma) ≡ Some w → get_at (next_by set t b done boxes mb) ≡ Some w
+  move_gets (move.Runs change frames heap) mb w same e = absurd (cc)
+  move_gets (move.Makes object frames heap) mb w same e = absurd (cc)
+  move_gets (move.Opens frames heap) mb w same e = absurd (no_open (nat_lt boxes box_limit) (went (on_heap a heap) (push_value (Box (record { task = t; number = boxes })) frames) done (boxes + 1)) (on_heap a heap) w e)
+  move_gets (move.Asks m args frames heap) mb w same e =
+      let found = asked_get set (went (on_heap a heap) frames done boxes) (went (on_heap b b.heap) frames done boxes) args (native_of set.program m) w e in
+      let there = same found.0 m [] frames heap (ap (λ (vs : List Value). move.Asks m vs frames heap) found.1) in
       ap (λ (x : Move). get_at (next_by set t b done boxes x)) there
-      ∙ (ap (λ (vs : List Value). get_at (asks_next set (went (on_heap b b.heap) frames done boxes) vs (native_of set.program m))) (sym found.0) ∙ found.1)
-  move_gets (move.Returns heap) mb box same e = absurd (no_finish set (on_heap a heap) done boxes a.kept box e)
-  move_gets (move.Raises cause) mb box same e = absurd (cc)
-  move_gets (move.Ends cause) mb box same e = absurd (cc)
-  move_gets move.Stuck mb box same e = absurd (cc)
+      ∙ (ap (λ (vs : List Value). get_at (asks_next set (went (on_heap b b.heap) frames done boxes) vs (native_of set.program m))) (sym found.1) ∙ found.2)
+  move_gets (move.Returns heap) mb w same e = absurd (no_finish set (on_heap a heap) done boxes a.kept w e)
+  move_gets (move.Raises cause) mb w same e = absurd (cc)
+  move_gets (move.Ends cause) mb w same e = absurd (cc)
+  move_gets move.Stuck mb w same e = absurd (cc)
 
-  frames_get : (frames : List Activation) (box : BoxName) → get_at (frames_next set t a frames done boxes) ≡ Some box → get_at (frames_next set t b frames done boxes) ≡ Some box
-  frames_get [] box e = absurd (cc)
-  frames_get (top ∷ below) box e =
-      move_gets (moves set.program top below a.heap) (moves set.program top below b.heap) box (λ m vs frames heap is. moves_same set.program top below a.heap b.heap m box vs frames heap is) e
+  frames_get : (frames : List Activation) (w : Waits) → get_at (frames_next set t a frames done boxes) ≡ Some w → get_at (frames_next set t b frames done boxes) ≡ Some w
+  frames_get [] w e = absurd (cc)
+  frames_get (top ∷ below) w e =
+      move_gets (moves set.program top below a.heap) (moves set.program top below b.heap) w (λ box m vs frames heap is. moves_same set.program top below a.heap b.heap m box vs frames heap is) e
 
-  spent_get : (spent : Bool) (frames : List Activation) (box : BoxName) → get_at (cond spent (over a cause.Spent) (frames_next set t a frames done boxes)) ≡ Some box →
-      get_at (cond spent (over b cause.Spent) (frames_next set t b frames done boxes)) ≡ Some box
-  spent_get true frames box e = absurd (cc)
-  spent_get false frames box e = frames_get frames box e
+  spent_get : (spent : Bool) (frames : List Activation) (w : Waits) → get_at (cond spent (over a cause.Spent) (frames_next set t a frames done boxes)) ≡ Some w →
+      get_at (cond spent (over b cause.Spent) (frames_next set t b frames done boxes)) ≡ Some w
+  spent_get true frames w e = absurd (cc)
+  spent_get false frames w e = frames_get frames w e
 
-thread_gets : (set : Setting) (t : ℕ) (a b : Lone) (th : Thread) (box : BoxName) → get_at (thread_next set t a th) ≡ Some box → get_at (thread_next set t b th) ≡ Some box
-thread_gets set t a b (Ended cause) box e = absurd (cc)
-thread_gets set t a b (Alive frames done boxes) box e = spent_get set t a b done boxes (nat_le set.limits.steps done) frames box e
+thread_gets : (set : Setting) (t : ℕ) (a b : Lone) (th : Thread) (w : Waits) → get_at (thread_next set t a th) ≡ Some w → get_at (thread_next set t b th) ≡ Some w
+thread_gets set t a b (Ended cause) w e = absurd (cc)
+thread_gets set t a b (Alive frames done boxes) w e = spent_get set t a b done boxes (nat_le set.limits.steps done) frames w e
 
 pub get_stays : GetStays
 unfolding next_move
-get_stays set t a b box same e = ap (λ (th : Thread). get_at (thread_next set t b th)) (sym same) ∙ thread_gets set t a b a.thread box e
+get_stays set t a b w same e = ap (λ (th : Thread). get_at (thread_next set t b th)) (sym same) ∙ thread_gets set t a b a.thread w e

@@ -34,10 +34,10 @@ use Rattle.kilim_run_machine.specs.Natives as native
 use Rattle.kilim_run_state.specs.Shapes.{shape_of}
 use Rattle.kilim_run_state.specs.Trees.{OfMessage, built, is_root, tree_names, with_objects, without}
 use Rattle.kilim_run_journal.specs.declared.entry.Act.{Act}
-use Rattle.kilim_run_journal.specs.declared.entry.Act.TheVariants.{Put, Take, Empty, Start, Print, End}
+use Rattle.kilim_run_journal.specs.declared.entry.Act.TheVariants.{Put, Take, Empty, Start, Print, End, Bound}
 use Rattle.kilim_run_model.specs.State.{Setting, Thread, Alive, Ended, begun_on, is_fit}
-use Rattle.kilim_run_model.specs.Lone.{Lone, Next, Goes, Puts, Gets, Probes, Starts, Prints, Ends, Stands, arg_at, arg_next, asks_next, begins_next, box_limit, ended, finish_next, frames_next, message_next, native_next, next_by, next_move, on_heap, opens_next, over, print_next, printed, pushed, put_next, start_next, thread_next, went}
-use Rattle.kilim_run_model.specs.Course.{Done, done_by, probes_deed, puts_deed, received, starts_deed, takes_deed, tree_came, tree_left}
+use Rattle.kilim_run_model.specs.Lone.{Lone, Next, Goes, Puts, PutWaits, Bounds, Gets, Probes, Starts, Prints, Ends, Stands, arg_at, arg_next, asks_next, begins_next, box_limit, ended, finish_next, frames_next, message_next, native_next, next_by, next_move, on_heap, opens_next, over, print_next, printed, pushed, put_next, start_next, thread_next, went}
+use Rattle.kilim_run_model.specs.Course.{Done, done_by, fills_deed, probes_deed, puts_deed, received, starts_deed, takes_deed, tree_came, tree_left}
 use Rattle.kilim_run_model.specs.declared.deed.Deed.{Deed}
 use Rattle.kilim_type_spec.specs.Step.{vtype}
 use Rattle.kilim_type_sound.specs.Fits.{Classes, Fits, HeapFits, Typing, Wanted, has_type, is_of}
@@ -127,6 +127,8 @@ module _ (set : Setting) (typing : Typing) (live : Wanted) (of : Classes) (is : 
   abbrev NextFits : Next → Type 0
   NextFits (Goes after) = Further set typing live of after
   NextFits (Puts box root shape after) = On of after
+  NextFits (PutWaits box root shape after) = On of after
+  NextFits (Bounds box most after) = On of after
   NextFits (Gets box after) = Waits after
   NextFits (Probes box after) = Waits after
   NextFits (Starts root shape after) = On of after
@@ -281,6 +283,12 @@ module _ (set : Setting) (typing : Typing) (live : Wanted) (of : Classes) (is : 
   puts_fit box root shape l (Put b q s) act after on e = did_fits (Put box q shape) act (tree_left p root l) after e (same_further (tree_left p root l) (tree_left_fits root l on))
   puts_fit box root shape l _ act after on e = absurd (cc)
 
+  -- a put that a full mailbox ends
+  fills_fit : (box : BoxName) (root : ℕ) (shape : List Token) (l : Lone) (own act : Act) (after : Lone) → On of l → Did (fills_deed p box root shape l own) act after → Further set typing live of after
+  fills_fit box root shape l (Put b q s) act after on e = puts_fit box root shape l (Put b q s) act after on e
+  fills_fit box root shape l (End why) act after on e = did_fits (End cause.Full) act (ended l cause.Full) after e (same_further (ended l cause.Full) (over_fits l cause.Full on.fits.heap on.fresh))
+  fills_fit box root shape l _ act after on e = absurd (cc)
+
   starts_fit : (root : ℕ) (shape : List Token) (l : Lone) (own act : Act) (after : Lone) → On of l → Did (starts_deed p root shape l own) act after → Further set typing live of after
   starts_fit root shape l (Start q s) act after on e = did_fits (Start q shape) act (tree_left p root l) after e (same_further (tree_left p root l) (tree_left_fits root l on))
   starts_fit root shape l (End why) act after on e = did_fits (End cause.Tasks) act (ended l cause.Tasks) after e (same_further (ended l cause.Tasks) (over_fits l cause.Tasks on.fits.heap on.fresh))
@@ -316,7 +324,9 @@ module _ (set : Setting) (typing : Typing) (live : Wanted) (of : Classes) (is : 
 
   deed_fits : (next : Next) (d : Deed) (act : Act) (after : Lone) → NextFits next → Did (done_by set next d) act after → Further set typing live of after
   deed_fits (Goes l) d act after f e = absurd (cc)
-  deed_fits (Puts box root shape l) d act after f e = puts_fit box root shape l d.act act after f e
+  deed_fits (Puts box root shape l) d act after f e = fills_fit box root shape l d.act act after f e
+  deed_fits (PutWaits box root shape l) d act after f e = puts_fit box root shape l d.act act after f e
+  deed_fits (Bounds box most l) d act after f e = did_fits (Bound box most) act l after e (same_further l f)
   deed_fits (Gets box l) d act after f e = takes_fit box l d d.act act after f e
   deed_fits (Probes box l) d act after f e = probes_fit box l d d.act act after f e
   deed_fits (Starts root shape l) d act after f e = starts_fit root shape l d.act act after f e

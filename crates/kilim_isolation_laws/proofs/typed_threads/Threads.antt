@@ -15,7 +15,7 @@ use Rattle.kilim_program.specs.Members.{constructor_of, execute_of, is_concrete}
 use Rattle.kilim_run_state.specs.Objects.{new_object}
 use Rattle.kilim_run_state.specs.Trees.{OfTask, built, is_root, is_whole_class, with_objects}
 use Rattle.kilim_run_model.specs.State.{Setting, begun_on, class_of, execute_frames, is_fit}
-use Rattle.kilim_run_model.specs.Lone.{Lone, Next, Goes, Puts, Gets, Probes, Starts, Prints, Ends, Stands, next_move}
+use Rattle.kilim_run_model.specs.Lone.{Lone, Next, Goes, Puts, PutWaits, Bounds, Gets, Probes, Starts, Prints, Ends, Stands, next_move}
 use Rattle.kilim_run_model.specs.Course.{Course, Done, Follows, IsLone, Moves, Quiet, Stays, done_by, lone_begun, lone_built, lone_in, next_action, next_or, next_within}
 use Rattle.kilim_run_model.specs.declared.deed.Beginning.{Beginning}
 use Rattle.kilim_run_model.specs.declared.deed.Beginning.TheVariants.{Boot, Begun}
@@ -144,6 +144,8 @@ within_splits set t (suc n) a x e acts = by (next_move set t a) refl e (λ b f. 
     by : (y : Next) → next_move set t a ≡ y → next_or y (next_within set t n) ≡ x → ((b : Lone) → next_within set t n b ≡ x → Splits set t b x) → Splits set t a x
     by (Goes b) m e again = further b m (again b e)
     by (Puts box root shape l) m e again = here _ m e
+    by (PutWaits box root shape l) m e again = here _ m e
+    by (Bounds box most l) m e again = here _ m e
     by (Gets box l) m e again = here _ m e
     by (Probes box l) m e again = here _ m e
     by (Starts root shape l) m e again = here _ m e
@@ -161,6 +163,8 @@ did_act : (set : Setting) (x : Next) (d : Deed) (y : Done) → done_by set x d �
 did_act set (Goes l) d y e = absurd (cc)
 did_act set Stands d y e = absurd (cc)
 did_act set (Puts box root shape l) d y e = refl
+did_act set (PutWaits box root shape l) d y e = refl
+did_act set (Bounds box most l) d y e = refl
 did_act set (Gets box l) d y e = refl
 did_act set (Probes box l) d y e = refl
 did_act set (Starts root shape l) d y e = refl

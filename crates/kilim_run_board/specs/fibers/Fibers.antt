@@ -13,7 +13,8 @@ use Rattle.kilim_run_model.specs.Course.{Course, plain, IsLone, stands_at}
 use Rattle.kilim_run_model.specs.declared.deed.Deed.{Deed}
 use Rattle.kilim_run_model.specs.declared.deed.Beginning.TheVariants.{Begun}
 use Rattle.kilim_run_model.specs.Moving.{further}
-use Rattle.kilim_run_board.specs.fibers.Wishes.{IsMessage, Wish, ToPut, ToTake, ToProbe, ToStart, ToPrint, ToEnd, Wishes}
+use Rattle.kilim_run_model.specs.declared.waits.Waits.TheVariants as wait
+use Rattle.kilim_run_board.specs.fibers.Wishes.{IsMessage, Wish, ToPut, ToPutWait, ToBound, ToTake, ToProbe, ToStart, ToPrint, ToEnd, Wishes}
 use Rattle.kilim_run_board.specs.declared.fibers.Wants.{Wants}
 use Rattle.kilim_run_board.specs.declared.fibers.Wants.TheVariants as wants
 use Rattle.kilim_run_board.specs.declared.fibers.Answer.{Answer}
@@ -35,7 +36,7 @@ pub record StandsFor {F : Type 0} (task : F → ℕ) (course : F → Course) (ho
 -- and that thread stands at a `get` of this mailbox
 pub record StandsAt {F : Type 0} (task : F → ℕ) (course : F → Course) (holds : Setting → F → Lone → Type 0) (set : Setting) (f : F) (box : BoxName) : Type 0 where
   pub stands : StandsFor task course holds set f
-  pub at : stands_at set (task f) stands.lone ≡ Some box
+  pub at : stands_at set (task f) stands.lone ≡ Some (wait.Take box)
 
 -- the thread of the fiber's course stands right before this action
 pub record Asks {F : Type 0} (task : F → ℕ) (course : F → Course) (asked : Setting → F → Lone → Type 0) (set : Setting) (f : F) (wish : Wish) : Type 0 where
@@ -92,6 +93,8 @@ StartsAtNone count w = Unit {0}
 -- The deed that an answer makes, if it makes one. Other answers don't fit.
 abbrev pub Fits : Program → Wish → Answer → Option Deed → Type 0
 Fits p (ToPut box shape) (answer.Sent n) d = d ≡ Some (plain (act.Put box n shape))
+Fits p (ToPutWait box shape) (answer.Sent n) d = d ≡ Some (plain (act.Put box n shape))
+Fits p (ToBound box most) answer.Done d = d ≡ Some (plain (act.Bound box most))
 Fits p (ToTake box) (answer.Message tree n) d = (shape : List Token) × IsMessage p tree shape × (d ≡ Some (record { act = act.Take box n; taken = shape }))
 Fits p (ToTake box) answer.Nothing d = d ≡ None
 Fits p (ToProbe box) (answer.Message tree n) d = (shape : List Token) × IsMessage p tree shape × (d ≡ Some (record { act = act.Take box n; taken = shape }))

@@ -11,7 +11,7 @@ use Rattle.kilim_run_state.specs.Shapes.{shape_of}
 use Rattle.kilim_run_state.specs.Trees.{OfMessage, is_allowed}
 use Rattle.kilim_run_model.specs.Kept.{IsFormed}
 use Rattle.kilim_run_model.specs.State.{Setting}
-use Rattle.kilim_run_model.specs.Lone.{Lone, Next, Goes, Puts, Gets, Probes, Starts, Prints, Ends, Stands}
+use Rattle.kilim_run_model.specs.Lone.{Lone, Next, Goes, Puts, PutWaits, Bounds, Gets, Probes, Starts, Prints, Ends, Stands}
 use Rattle.kilim_run_model.specs.Course.{Course, IsLone, next_action}
 use Rattle.kilim_run_trees.specs.Moved.{tree_heap}
 use Rattle.kilim_run_trees.specs.Shaping.{Suits}
@@ -24,24 +24,30 @@ pub record IsMessage (p : Program) (tree : List Object) (shape : List Token) : T
   pub formed : AllByRecursion (IsFormed p) tree
   pub suits : AllByRecursion (Suits p) tree
 
--- an action, but for what others decide: whether a message is there, under which number it stands, which number a new
--- task has
+-- an action, but for what others decide: whether a message is there, whether a mailbox is full, under which number a message stands,
+-- which number a new task has
 pub data Wish : Type 0 where
   ToPut : (box : BoxName) (shape : List Token) → Wish
+  -- a put that waits where the mailbox is full
+  ToPutWait : (box : BoxName) (shape : List Token) → Wish
+  ToBound : (box : BoxName) (most : ℕ) → Wish
   ToTake : (box : BoxName) → Wish
   ToProbe : (box : BoxName) → Wish
   ToStart : (shape : List Token) → Wish
   ToPrint : (shape : List Token) → Wish
   ToEnd : (cause : EndCause) → Wish
 
--- no thread ends for want of tasks by itself: that is decided at its start
+-- no thread ends for want of tasks or of room in a mailbox by itself: that is decided at its start or put
 abbrev pub end_wish : EndCause → Option Wish
 end_wish cause.Tasks = None
+end_wish cause.Full = None
 end_wish why = Some (ToEnd why)
 
 abbrev pub wish_of : Next → Option Wish
 wish_of (Goes after) = None
 wish_of (Puts box root shape after) = Some (ToPut box shape)
+wish_of (PutWaits box root shape after) = Some (ToPutWait box shape)
+wish_of (Bounds box most after) = Some (ToBound box most)
 wish_of (Gets box after) = Some (ToTake box)
 wish_of (Probes box after) = Some (ToProbe box)
 wish_of (Starts root shape after) = Some (ToStart shape)

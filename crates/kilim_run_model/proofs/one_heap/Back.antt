@@ -16,11 +16,11 @@ use Rattle.kilim_run_state.specs.Trees.{OfMessage, built}
 use Rattle.kilim_run_journal.specs.declared.entry.Act.{Act}
 use Rattle.kilim_run_journal.specs.declared.entry.Act.TheVariants.{Put, Take, Empty, Start, Print, End, Wait, Bound}
 use Rattle.kilim_run_journal.specs.declared.entry.Entry.{Entry}
-use Rattle.kilim_run_model.specs.State.{Setting, Mailbox}
-use Rattle.kilim_run_model.specs.Lone.{Lone, Next, Goes, Puts, Gets, Probes, Starts, Prints, Ends, Stands, ended, next_move}
+use Rattle.kilim_run_model.specs.State.{Setting, Mailbox, is_full}
+use Rattle.kilim_run_model.specs.Lone.{Lone, Next, Goes, Puts, PutWaits, Bounds, Gets, Probes, Starts, Prints, Ends, Stands, ended, next_move}
 use Rattle.kilim_run_model.specs.Turn.{task_limit}
 use Rattle.kilim_run_model.specs.Course.{Course, Done, did, plain, tree_left, lone_begun, next_action, tree_came, done_by, Follows, IsLone, Quiet, Moves}
-use Rattle.kilim_run_model.specs.Moving.{Books, Moving, MovedReplay, further, with_deed, is_tasks, books_taken, books_empty, books_by, books_from}
+use Rattle.kilim_run_model.specs.Moving.{Books, Moving, MovedReplay, further, with_deed, is_tasks, books_taken, books_empty, books_by, books_from, FullSaid}
 use Rattle.kilim_run_model.specs.declared.deed.Deed.{Deed}
 use Rattle.kilim_run_model.specs.declared.deed.Beginning.TheVariants.{Begun}
 use Rattle.kilim_run_model.proofs.Alone.{AreLeft, all_left, one_lone}
@@ -122,7 +122,7 @@ module _ (b : Books) (t : ℕ) (c : Course) (is : slice_get b.courses t ≡ Some
 
   pub grown : (a : Act) (later : Books) → books_by b t c a ≡ Some later → Grown b t c a later
   unfolding is_start
-  grown (Put box n shape) later e = set_grown (Put box n shape) later (ap (λ (z : Books). z.courses) (sym (cond_some (n == (b.mailboxes box).puts) _ later e).1)) refl
+  grown (Put box n shape) later e = set_grown (Put box n shape) later (ap (λ (z : Books). z.courses) (sym (cond_some (n == (b.mailboxes box).puts && not (is_full (b.mailboxes box))) _ later e).1)) refl
   grown (Take box n) later e =
       let w = taken_first b t c box n (b.mailboxes box).queue later e in
       set_grown (Take box n) later (w.4 ∙ ap (λ (q : List (ℕ × List Token)). with_deed b.courses t c (record { act = Take box n; taken = first_shape q })) (sym w.2)) refl
@@ -131,7 +131,7 @@ module _ (b : Books) (t : ℕ) (c : Course) (is : slice_get b.courses t ≡ Some
   grown (Print shape) later e = set_grown (Print shape) later (ap (λ (z : Books). z.courses) (sym (same_Some _ _ e))) refl
   grown (End why) later e = set_grown (End why) later (ap (λ (z : Books). z.courses) (sym (cond_none (is_tasks why && not (length b.courses == task_limit)) _ later e).1)) refl
   grown (Wait box) later e = absurd (none-some later e)
-  grown (Bound box n) later e = absurd (none-some later e)
+  grown (Bound box n) later e = set_grown (Bound box n) later (ap (λ (z : Books). z.courses) (sym (same_Some _ _ e))) refl
 
 pub record Extends (bf : Books) (t : ℕ) (c : Course) : Type 0 where
   pub course : Course
@@ -204,13 +204,32 @@ came : (box : BoxName) (n : ℕ) (l : Lone) (o : Option (List Object)) (act : Ac
 came box n l None act k e = absurd (none-some _ e)
 came box n l (Some os) act k e = (os, refl, did_act _ _ k act e)
 
+-- a `put` that ends its task does so at a full mailbox
+abbrev Filling : Books → Next → Act → Type 0
+Filling b x a = (box : BoxName) (root : ℕ) (shape : List Token) (l : Lone) → x ≡ Puts box root shape l → a ≡ End cause.Full → is_full (b.mailboxes box) ≡ true
+
 module _ (set : Setting) (m : Parted) (b : Books) (booked : Booked set m b) (t : ℕ) (c : Course) (later : Books) where
-  put_now : (box : BoxName) (root : ℕ) (shape : List Token) (l : Lone) (bx : BoxName) (n : ℕ) (s : List Token) → Put box n shape ≡ Put bx n s → books_by b t c (Put bx n s) ≡ Some later → (by_next set m t (Puts box root shape l)).act ≡ Some (Put bx n s)
+  put_now : (box : BoxName) (root : ℕ) (shape : List Token) (l : Lone) (bx : BoxName) (n : ℕ) (s : List Token) → Put box n shape ≡ Put bx n s → books_by b t c (Put bx n s) ≡ Some later →
+      ((parted.puts (parted.with_lone m t (tree_left set.program root l)) box shape).act ≡ Some (Put bx n s)) × (is_full (m.mailboxes box) ≡ false)
   unfolding box_of
   put_now box root shape l bx n s q says =
       let same : box ≡ bx = same_Some _ _ (ap box_of q) in
-      let count : n ≡ (b.mailboxes bx).puts = eqb-true n (b.mailboxes bx).puts (cond_some (n == (b.mailboxes bx).puts) _ later says).0 in
-      ap (λ (z : ℕ). Some (Put box z shape)) (ap (λ (z : Mailbox (List Token)). z.puts) (booked.mail box) ∙ (ap (λ (z : BoxName). (b.mailboxes z).puts) same ∙ sym count)) ∙ ap Some q
+      let w = both_true (n == (b.mailboxes bx).puts) (not (is_full (b.mailboxes bx))) (cond_some (n == (b.mailboxes bx).puts && not (is_full (b.mailboxes bx))) _ later says).0 in
+      let count : n ≡ (b.mailboxes bx).puts = eqb-true n (b.mailboxes bx).puts w.0 in
+      let mail : m.mailboxes box ≡ b.mailboxes bx = booked.mail box ∙ ap (λ (z : BoxName). b.mailboxes z) same in (
+        ap (λ (z : ℕ). Some (Put box z shape)) (ap (λ (z : Mailbox (List Token)). z.puts) mail ∙ sym count) ∙ ap Some q,
+        ap (λ (z : Mailbox (List Token)). is_full z) mail ∙ not_true (is_full (b.mailboxes bx)) w.1,
+      )
+    where
+      not_true : (z : Bool) → not z ≡ true → z ≡ false
+      not_true true e = absurd (cc)
+      not_true false e = refl
+
+  -- a `put` that a full mailbox ends
+  filled_now : (box : BoxName) (root : ℕ) (shape : List Token) (l : Lone) (why : EndCause) → End cause.Full ≡ End why → is_full (b.mailboxes box) ≡ true → (by_next set m t (Puts box root shape l)).act ≡ Some (End why)
+  filled_now box root shape l why q full =
+      ap (λ (z : Bool). (cond z (parted.acted (parted.with_lone m t (ended l cause.Full)) (End cause.Full)) (parted.puts (parted.with_lone m t (tree_left set.program root l)) box shape)).act) (ap (λ (z : Mailbox (List Token)). is_full z) (booked.mail box) ∙ full)
+      ∙ ap Some q
 
   take_now : (box bx : BoxName) (n : ℕ) (l : Lone) (os : List Object) → box ≡ bx → (first : ℕ × List Token) (rest : List (ℕ × List Token)) → first.0 ≡ n → built set.program OfMessage l.next first.1 ≡ Some os →
       (parted.takes set m t box l first rest).act ≡ Some (Take bx n)
@@ -271,21 +290,29 @@ module _ (set : Setting) (m : Parted) (b : Books) (booked : Booked set m b) (t :
   abbrev Starting : Act → Type 0
   Starting a = (n : ℕ) (shape : List Token) → a ≡ Start n shape → (new : Lone) × (lone_begun set (Begun shape) ≡ Some new)
 
-  acts_now : (x : Next) (a : Act) (k : Lone) → done_by set x (deed_of b a) ≡ Some (record { act = (deed_of b a).act; after = k }) → books_by b t c a ≡ Some later → Starting a → (by_next set m t x).act ≡ Some a
-  acts_now (Goes l) a k e says starts = absurd (none-some _ e)
-  acts_now (Puts box root shape l) (Put bx n s) k e says starts = put_now box root shape l bx n s (did_act _ _ k _ e) says
-  acts_now (Puts box root shape l) _ k e says starts = absurd (none-some _ e)
-  acts_now (Gets box l) (Take bx n) k e says starts = (get_now box bx n l k e says).0
-  acts_now (Gets box l) _ k e says starts = absurd (none-some _ e)
-  acts_now (Probes box l) (Take bx n) k e says starts = (get_now box bx n l k e says).1
-  acts_now (Probes box l) (Empty bx) k e says starts = empty_now box bx l (did_act _ _ k _ e) says
-  acts_now (Probes box l) _ k e says starts = absurd (none-some _ e)
-  acts_now (Starts root shape l) (Start n s) k e says starts = let w = starts n s refl in start_now root shape l n s (did_act _ _ k _ e) says w.0 w.1
-  acts_now (Starts root shape l) (End why) k e says starts = full_now root shape l why (did_act _ _ k _ e) says
-  acts_now (Starts root shape l) _ k e says starts = absurd (none-some _ e)
-  acts_now (Prints token l) a k e says starts = ap Some (did_act _ _ k _ e ∙ deed_act b a)
-  acts_now (Ends why l) a k e says starts = ap Some (did_act _ _ k _ e ∙ deed_act b a)
-  acts_now Stands a k e says starts = absurd (none-some _ e)
+  acts_now : (x : Next) (a : Act) (k : Lone) → Filling b x a → done_by set x (deed_of b a) ≡ Some (record { act = (deed_of b a).act; after = k }) → books_by b t c a ≡ Some later → Starting a → (by_next set m t x).act ≡ Some a
+  acts_now (Goes l) a k fills e says starts = absurd (none-some _ e)
+  acts_now (Puts box root shape l) (Put bx n s) k fills e says starts =
+      let w = put_now box root shape l bx n s (did_act _ _ k _ e) says in
+      ap (λ (z : Bool). (cond z (parted.acted (parted.with_lone m t (ended l cause.Full)) (End cause.Full)) (parted.puts (parted.with_lone m t (tree_left set.program root l)) box shape)).act) w.1 ∙ w.0
+  acts_now (Puts box root shape l) (End why) k fills e says starts = filled_now box root shape l why (did_act _ _ k _ e) (fills box root shape l refl (sym (did_act _ _ k _ e)))
+  acts_now (PutWaits box root shape l) (Put bx n s) k fills e says starts =
+      let w = put_now box root shape l bx n s (did_act _ _ k _ e) says in
+      ap (λ (z : Bool). (cond z (parted.quiet m) (parted.puts (parted.with_lone m t (tree_left set.program root l)) box shape)).act) w.1 ∙ w.0
+  acts_now (PutWaits box root shape l) _ k fills e says starts = absurd (none-some _ e)
+  acts_now (Bounds box most l) a k fills e says starts = ap Some (did_act _ _ k _ e ∙ deed_act b a)
+  acts_now (Puts box root shape l) _ k fills e says starts = absurd (none-some _ e)
+  acts_now (Gets box l) (Take bx n) k fills e says starts = (get_now box bx n l k e says).0
+  acts_now (Gets box l) _ k fills e says starts = absurd (none-some _ e)
+  acts_now (Probes box l) (Take bx n) k fills e says starts = (get_now box bx n l k e says).1
+  acts_now (Probes box l) (Empty bx) k fills e says starts = empty_now box bx l (did_act _ _ k _ e) says
+  acts_now (Probes box l) _ k fills e says starts = absurd (none-some _ e)
+  acts_now (Starts root shape l) (Start n s) k fills e says starts = let w = starts n s refl in start_now root shape l n s (did_act _ _ k _ e) says w.0 w.1
+  acts_now (Starts root shape l) (End why) k fills e says starts = full_now root shape l why (did_act _ _ k _ e) says
+  acts_now (Starts root shape l) _ k fills e says starts = absurd (none-some _ e)
+  acts_now (Prints token l) a k fills e says starts = ap Some (did_act _ _ k _ e ∙ deed_act b a)
+  acts_now (Ends why l) a k fills e says starts = ap Some (did_act _ _ k _ e ∙ deed_act b a)
+  acts_now Stands a k fills e says starts = absurd (none-some _ e)
 
 -- ---- up to that deed
 
@@ -319,11 +346,12 @@ module _ (set : Setting) where
   went_booked m b t l after is e booked = subst (λ (p : Parting). KeepsBooks set b t p.state p.act) (parts_by set m t l (Goes after) is e) (step_booked set (no_own_tasks set) m b t booked)
 
   module _ (b later : Books) (t : ℕ) (c : Course) (is_c : slice_get b.courses t ≡ Some c) (a : Act) (says : books_by b t c a ≡ Some later) (last k : Lone)
-      (does : done_by set (next_action set t last) (deed_of b a) ≡ Some (record { act = (deed_of b a).act; after = k })) (starts : (n : ℕ) (shape : List Token) → a ≡ Start n shape → (new : Lone) × (lone_begun set (Begun shape) ≡ Some new)) where
+      (does : done_by set (next_action set t last) (deed_of b a) ≡ Some (record { act = (deed_of b a).act; after = k })) (starts : (n : ℕ) (shape : List Token) → a ≡ Start n shape → (new : Lone) × (lone_begun set (Begun shape) ≡ Some new))
+      (fills : Filling b (next_action set t last) a) where
     act_here : (m : Parted) (n : ℕ) (l : Lone) → Booked set m b → slice_get m.lones t ≡ Some l → Quiet set t last l → is_act (next_move set t l) ≡ true → Acts m t a (suc n) later
     act_here m n l booked is q act =
         let x = next_move set t l in
-        let now = acts_now set m b booked t c later x a k (ap (λ (y : Next). done_by set y (deed_of b a)) (sym (action_is set t last l x q refl act)) ∙ does) says starts in
+        let now = acts_now set m b booked t c later x a k (λ box root shape after is f. fills box root shape after (action_is set t last l x q refl act ∙ is) f) (ap (λ (y : Next). done_by set y (deed_of b a)) (sym (action_is set t last l x q refl act)) ∙ does) says starts in
         now_acts m t a n b later c is_c says (step_booked set (no_own_tasks set) m b t booked) (ap (λ (p : Parting). p.act) (parts_by set m t l x is refl) ∙ now)
 
     act_comes : (n : ℕ) (m : Parted) (l : Lone) → Booked set m b → slice_get m.lones t ≡ Some l → AreLeft set.limits.steps n l.thread → Quiet set t last l → Acts m t a (suc n) later
@@ -359,15 +387,15 @@ module _ (set : Setting) where
         let k = lone_of_course (length b.courses) w.course w.is in
         (k.1.first, ap (lone_begun set) (sym w.begins) ∙ k.1.begins)
 
-    pub back : (es : List Entry) (m : Parted) (b : Books) → Booked set m b → books_from b es ≡ Some v.books → (apart : Parted) × PartedReplays set m es apart
-    back [] m b booked says = (m, refl)
-    back (e ∷ es) m b booked says =
+    pub back : (es : List Entry) (m : Parted) (b : Books) → Booked set m b → FullSaid set b es → books_from b es ≡ Some v.books → (apart : Parted) × PartedReplays set m es apart
+    back [] m b booked full says = (m, refl)
+    back (e ∷ es) m b booked full says =
         let w = entered b e es v.books says in
         let g = grown b e.task w.course w.is e.act w.later w.by in
         let l = get_some m.lones e.task (let lt = slice_get_within b.courses e.task w.course w.is in let count = booked.count in omega (arith, lt, count)) in
         let of = booked.each e.task l.0 w.course l.1 w.is in
         let ext = grows es w.later v.books w.rest e.task (further w.course (deed_of b e.act)) g.there in
         let does = does_next b e.task w.course of.last of.is (deed_of b e.act) ext in
-        let acts = act_comes b w.later e.task w.course w.is e.act w.by of.last does.0 does.1 (begins_next b w.later e.task w.course e.act es g w.rest) set.limits.steps m l.0 booked l.1 (all_left set.limits.steps l.0.thread) of.quiet in
-        let r = back es acts.mid w.later acts.booked w.rest in
+        let acts = act_comes b w.later e.task w.course w.is e.act w.by of.last does.0 does.1 (begins_next b w.later e.task w.course e.act es g w.rest) (λ box root shape after is act. full.0 act w.course w.is of.last of.is box root shape after is) set.limits.steps m l.0 booked l.1 (all_left set.limits.steps l.0.thread) of.quiet in
+        let r = back es acts.mid w.later acts.booked (full.1 w.later (ap (λ (o : Option Course). o >>= λ (z : Course). books_by b e.task z e.act) w.is ∙ w.by)) w.rest in
         (r.0, (suc set.limits.steps, acts.mid, acts.acts, r.1))

@@ -1,6 +1,6 @@
 -- The two machines side by side, along journals and along schedules.
-use Rattle.std.proofs.Common.{◌≡◌, ℕ, zero, suc, List, [], ◌∷◌, ◌++◌, length, Option, Some, None, refl, sym, ap, subst, ◌∙◌, arith}
-use Rattle.std.specs.Prelude.{slice_get, nat_lt, Bool, true, false, cond}
+use Rattle.std.proofs.Common.{◌≡◌, inl, inr, ℕ, zero, suc, List, [], ◌∷◌, ◌++◌, length, Option, Some, None, refl, sym, ap, subst, ◌∙◌, arith}
+use Rattle.std.specs.Prelude.{slice_get, nat_lt, Bool, true, false, cond, ◌⊎◌}
 use Rattle.std.proofs.lemmas.Option.{same_Some, none-some, slice_get_within}
 use Rattle.kilim_lemmas.proofs.Lists.{get_some}
 use Rattle.kilim_program.specs.declared.names.BoxName.{BoxName}
@@ -12,15 +12,15 @@ use Rattle.kilim_run_state.specs.Trees.{OfMessage, built}
 use Rattle.kilim_run_journal.specs.declared.entry.Act.{Act}
 use Rattle.kilim_run_journal.specs.declared.entry.Act.TheVariants.{End}
 use Rattle.kilim_run_journal.specs.declared.entry.Entry.{Entry}
-use Rattle.kilim_run_model.specs.State.{Setting, Thread, State, first_state}
+use Rattle.kilim_run_model.specs.State.{Setting, Thread, State, first_state, is_full, Mailbox}
 use Rattle.kilim_run_model.specs.State as one
-use Rattle.kilim_run_model.specs.Lone.{Lone, Next, Goes, Puts, Gets, Probes, Starts, Prints, Ends, Stands, ended, next_move}
+use Rattle.kilim_run_model.specs.Lone.{Lone, Next, Goes, Puts, PutWaits, Bounds, Gets, Probes, Starts, Prints, Ends, Stands, ended, next_move}
 use Rattle.kilim_run_model.specs.Turn.{task_limit, moved}
 use Rattle.kilim_run_model.specs.Turn as one_turn
 use Rattle.kilim_run_model.specs.Runs.{Replays}
 use Rattle.kilim_run_model.specs.Runs as shared
-use Rattle.kilim_run_model.specs.Course.{tree_left, lone_begun}
-use Rattle.kilim_run_model.specs.Moving.{Books, first_books, books_after, books_from}
+use Rattle.kilim_run_model.specs.Course.{Course, IsLone, next_action, tree_left, lone_begun}
+use Rattle.kilim_run_model.specs.Moving.{Books, first_books, books_after, books_from, FullHere, FullSaid}
 use Rattle.kilim_run_model.specs.declared.deed.Beginning.TheVariants.{Boot, Begun}
 use Rattle.kilim_run_model.specs.Reach.{Liveness}
 use Rattle.kilim_run_model.specs.Kept.{IsKept, Kept}
@@ -34,7 +34,8 @@ use Rattle.kilim_run_model.specs.one_heap.Laws.{KeepsBooks}
 use Rattle.kilim_run_model.proofs.one_heap.First.{first_tied, first_booked}
 use Rattle.kilim_run_model.proofs.one_heap.Steps.{step}
 use Rattle.kilim_run_model.proofs.one_heap.OwnEnds.{no_own_tasks}
-use Rattle.kilim_run_model.proofs.one_heap.Booking.{step_booked}
+use Rattle.kilim_run_model.proofs.one_heap.Booking.{action_is, is_act, step_booked}
+use Rattle.kilim_run_model.proofs.Alone.{one_lone}
 use Rattle.kilim_run_model.proofs.one_heap.Wholes.{is_whole}
 
 -- ---- the books of one more entry
@@ -79,7 +80,11 @@ module _ (set : Setting) (m : Parted) (t : ℕ) where
 
   next_same : (x : Next) → Same (by_next set m t x)
   next_same (Goes after) = refl
-  next_same (Puts box root shape after) = refl
+  next_same (Puts box root shape after) =
+      elim (is_full (m.mailboxes box)) as (λ (z : Bool). Same (cond z (parted.acted (parted.with_lone m t (ended after cause.Full)) (End cause.Full)) (parted.puts (parted.with_lone m t (tree_left set.program root after)) box shape))) [ true ↦ refl | false ↦ refl ]
+  next_same (PutWaits box root shape after) =
+      elim (is_full (m.mailboxes box)) as (λ (z : Bool). Same (cond z (parted.quiet m) (parted.puts (parted.with_lone m t (tree_left set.program root after)) box shape))) [ true ↦ refl | false ↦ refl ]
+  next_same (Bounds box most after) = refl
   next_same (Gets box after) = gets_same box after (m.mailboxes box).queue
   next_same (Probes box after) = probes_same box after (m.mailboxes box).queue
   next_same (Starts root shape after) = starts_same root shape after
@@ -101,10 +106,11 @@ pub record Beside (set : Setting) (m : Parted) (s : State) : Type 0 where
   pub tied : Tied set m s
   pub books : Books
   pub says : books_from first_books m.journal ≡ Some books
+  pub full : FullSaid set first_books m.journal
   pub booked : Booked set m books
 
 pub first_beside : (set : Setting) (l : Lone) → lone_begun set Boot ≡ Some l → Beside set (first_parted set) (first_state set)
-first_beside set l e = record { tied = first_tied set; books = first_books; says = refl; booked = first_booked set l e }
+first_beside set l e = record { tied = first_tied set; books = first_books; says = refl; full = tt; booked = first_booked set l e }
 
 party_noted : (owner : ℕ → Owner) (s : State) (t u : ℕ) (act : Act) (a : Option Lone) (x : Option Thread) → Party owner s u a x → Party owner (one.noted s t act) u a x
 party_noted owner s t u act None None w = tt
@@ -140,13 +146,61 @@ abbrev pub After : Setting → Parted → State → ℕ → Option Act → Type 
 After set m s t None = Beside set m s
 After set m s t (Some act) = Beside set (parted.noted m t act) (one.noted s t act)
 
+-- ---- a full mailbox
+
+-- one more entry
+pub full_then : (set : Setting) (es : List Entry) (e : Entry) (first b : Books) → books_from first es ≡ Some b → FullSaid set first es → FullHere set b e → FullSaid set first (es ++ e ∷ [])
+full_then set [] e first b says full here = (subst (λ (z : Books). FullHere set z e) (sym (same_Some _ _ says)) here, λ mid next. tt)
+full_then set (x ∷ es) e first b says full here =
+    (full.0, λ mid next. full_then set es e mid b (sym (ap (λ (o : Option Books). o >>= λ (z : Books). books_from z es) next) ∙ says) (full.1 mid next) here)
+
+module _ (set : Setting) (m : Parted) (b : Books) (booked : Booked set m b) (t : ℕ) where
+  full_by : (box : BoxName) (root : ℕ) (shape : List Token) (after : Lone) → (by_next set m t (Puts box root shape after)).act ≡ Some (End cause.Full) → is_full (m.mailboxes box) ≡ true
+  full_by box root shape after e = tell (is_full (m.mailboxes box)) refl e
+    where
+      tell : (z : Bool) → is_full (m.mailboxes box) ≡ z → (cond z (parted.acted (parted.with_lone m t (ended after cause.Full)) (End cause.Full)) (parted.puts (parted.with_lone m t (tree_left set.program root after)) box shape)).act ≡ Some (End cause.Full) → is_full (m.mailboxes box) ≡ true
+      tell true is e = is
+      tell false is e = absurd (cc)
+
+  acts_or : (x : Next) → ((after : Lone) × (x ≡ Goes after)) ⊎ (is_act x ≡ true)
+  acts_or (Goes after) = inl (after, refl)
+  acts_or (Puts box root shape after) = inr refl
+  acts_or (PutWaits box root shape after) = inr refl
+  acts_or (Bounds box most after) = inr refl
+  acts_or (Gets box after) = inr refl
+  acts_or (Probes box after) = inr refl
+  acts_or (Starts root shape after) = inr refl
+  acts_or (Prints token after) = inr refl
+  acts_or (Ends why after) = inr refl
+  acts_or Stands = inr refl
+
+  full_lone : (a : Lone) (o : Act) → slice_get m.lones t ≡ Some a → (by_next set m t (next_move set t a)).act ≡ Some o → FullHere set b (record { task = t; act = o })
+  full_lone a o is acts why c is_c l of box root shape after next =
+      let mine = booked.each t a c is is_c in
+      let same : l ≡ mine.last = one_lone set t c l mine.last of mine.is in
+      elim (acts_or (next_move set t a)) [
+        | inl goes ↦ absurd (let none = sym (ap (λ (x : Next). (by_next set m t x).act) goes.1) ∙ acts in none-some _ none)
+        | inr act ↦
+            let x : next_move set t a ≡ Puts box root shape after = sym (action_is set t mine.last a (next_move set t a) mine.quiet refl act) ∙ (ap (next_action set t) (sym same) ∙ next) in
+            ap (λ (z : Mailbox (List Token)). is_full z) (sym (booked.mail box)) ∙ full_by box root shape after (ap (λ (y : Next). (by_next set m t y).act) (sym x) ∙ (acts ∙ ap (λ (z : Act). Some z) why))
+      ]
+
+  full_option : (o : Option Lone) (act : Act) → slice_get m.lones t ≡ o → (lone_parts set m t o).act ≡ Some act → FullHere set b (record { task = t; act = act })
+  full_option None act is acts = absurd (none-some act acts)
+  full_option (Some a) act is acts = full_lone a act is acts
+
+  pub full_here : (act : Act) → (parts set m t).act ≡ Some act → FullHere set b (record { task = t; act = act })
+  unfolding parts
+  full_here act acts = full_option (slice_get m.lones t) act refl acts
+
 module _ (live : Liveness) (set : Setting) (kept : Kept live set) where
-  after_moves : (m mid : Parted) (s : State) (t : ℕ) (b : Books) → books_from first_books m.journal ≡ Some b → mid.journal ≡ m.journal → Tied set mid s → (o : Option Act) → KeepsBooks set b t mid o → After set mid s t o
-  after_moves m mid s t b says same tied None w = record { tied = tied; books = b; says = ap (books_from first_books) same ∙ says; booked = w }
-  after_moves m mid s t b says same tied (Some act) w = record {
+  after_moves : (m mid : Parted) (s : State) (t : ℕ) (b : Books) → books_from first_books m.journal ≡ Some b → FullSaid set first_books m.journal → mid.journal ≡ m.journal → Tied set mid s → (o : Option Act) → ((act : Act) → o ≡ Some act → FullHere set b (record { task = t; act = act })) → KeepsBooks set b t mid o → After set mid s t o
+  after_moves m mid s t b says full same tied None here w = record { tied = tied; books = b; says = ap (books_from first_books) same ∙ says; full = subst (FullSaid set first_books) (sym same) full; booked = w }
+  after_moves m mid s t b says full same tied (Some act) here w = record {
     tied = tied_noted set mid s t act tied;
     books = w.0;
     says = ap (λ (j : List Entry). books_from first_books (j ++ record { task = t; act = act } ∷ [])) same ∙ books_then first_books b w.0 m.journal (record { task = t; act = act }) says w.1;
+    full = subst (λ (j : List Entry). FullSaid set first_books (j ++ record { task = t; act = act } ∷ [])) (sym same) (full_then set m.journal (record { task = t; act = act }) first_books b says full (here act refl));
     booked = booked_noted set mid t act w.0 w.2;
   }
 
@@ -154,7 +208,7 @@ module _ (live : Liveness) (set : Setting) (kept : Kept live set) where
   beside_moves m s t b =
       let w = step set (shapes_give set.program) m s b.tied t (λ l e. is_whole live set l (kept_of live set kept m b.books b.booked t l e)) in
       let q = step_booked set (no_own_tasks set) m b.books t b.booked in
-      (w.0, after_moves m (parts set m t).state (moved set s t).state t b.books b.says (parts_same set m t) w.1 (parts set m t).act q)
+      (w.0, after_moves m (parts set m t).state (moved set s t).state t b.books b.says b.full (parts_same set m t) w.1 (parts set m t).act (full_here set m b.books b.booked t) q)
 
   -- ---- up to the next action
 

@@ -14,9 +14,9 @@ use Rattle.kilim_run_state.specs.declared.value.Object.{Object}
 use Rattle.kilim_run_state.specs.declared.value.Token.{Token}
 use Rattle.kilim_run_state.specs.Trees.{built, OfMessage}
 use Rattle.kilim_run_journal.specs.declared.entry.Act.{Act}
-use Rattle.kilim_run_journal.specs.declared.entry.Act.TheVariants.{Put, Take, Empty, Start, Print, End}
-use Rattle.kilim_run_model.specs.State.{Setting, Mailbox, same_box, with_message, with_queue, with_mailbox}
-use Rattle.kilim_run_model.specs.Lone.{Lone, Next, Goes, Puts, Gets, Probes, Starts, Prints, Ends, Stands, pushed, ended, next_move}
+use Rattle.kilim_run_journal.specs.declared.entry.Act.TheVariants.{Put, Take, Empty, Start, Print, End, Bound}
+use Rattle.kilim_run_model.specs.State.{Setting, Mailbox, same_box, with_message, with_queue, with_mailbox, is_full, bounded}
+use Rattle.kilim_run_model.specs.Lone.{Lone, Next, Goes, Puts, PutWaits, Bounds, Gets, Probes, Starts, Prints, Ends, Stands, pushed, ended, next_move}
 use Rattle.kilim_run_model.specs.Turn.{task_limit}
 use Rattle.kilim_run_model.specs.Course.{Course, plain, received, tree_left, lone_begun, next_or, next_within, next_action, done_by, tree_came, takes_deed, probes_deed, Follows, Quiet, Stays, Moves}
 use Rattle.kilim_run_model.specs.Moving.{Books, further, with_deed, is_tasks, books_taken, books_empty, books_by}
@@ -48,6 +48,8 @@ moves_in set t a l (Moves b q e) =
 or_act : (x : Next) (go : Lone → Next) → is_act x ≡ true → next_or x go ≡ x
 or_act (Goes after) go e = absurd (cc)
 or_act (Puts box root shape after) go e = refl
+or_act (PutWaits box root shape after) go e = refl
+or_act (Bounds box most after) go e = refl
 or_act (Gets box after) go e = refl
 or_act (Probes box after) go e = refl
 or_act (Starts root shape after) go e = refl
@@ -137,15 +139,17 @@ module _ (set : Setting) where
     abbrev After : Parted → Option Act → Type 0
     After after o = AfterOf set b t c after o
 
-    put_booked : (box : BoxName) (root : ℕ) (shape : List Token) (after : Lone) → next_move set t a ≡ Puts box root shape after →
+    put_booked : (x : Next) (box : BoxName) (root : ℕ) (shape : List Token) (after : Lone) → next_move set t a ≡ x → is_act x ≡ true → ((n : ℕ) → done_by set x (plain (Put box n shape)) ≡ Some (record { act = Put box n shape; after = tree_left set.program root after })) → is_full (m.mailboxes box) ≡ false →
         After (parted.puts (parted.with_lone m t (tree_left set.program root after)) box shape).state (parted.puts (parted.with_lone m t (tree_left set.program root after)) box shape).act
-    put_booked box root shape after e =
-        let d = plain (Put box (m.mailboxes box).puts shape) in (
-          record { courses = with_deed b.courses t c d; mailboxes = with_mailbox b.mailboxes box (with_message (b.mailboxes box) shape) },
-          ap (λ (z : Bool). cond z (Some (record { courses = with_deed b.courses t c d; mailboxes = with_mailbox b.mailboxes box (with_message (b.mailboxes box) shape) })) None)
-              (eq-eqb (m.mailboxes box).puts (b.mailboxes box).puts (ap (λ (z : Mailbox (List Token)). z.puts) (booked.mail box))),
-          did_booked (tree_left set.program root after) d _ _ (did_so t c a (tree_left set.program root after) d (Puts box root shape after) mine e refl refl)
-              (one_changed box _ _ (ap (λ (z : Mailbox (List Token)). with_message z shape) (booked.mail box))),
+    put_booked x box root shape after e act does free =
+        let d = plain (Put box (m.mailboxes box).puts shape) in
+        let later : Books = record { courses = with_deed b.courses t c d; mailboxes = with_mailbox b.mailboxes box (with_message (b.mailboxes box) shape) } in
+        let same = booked.mail box in (
+          later,
+          ap (λ (z : Bool). cond (z && not (is_full (b.mailboxes box))) (Some later) None) (eq-eqb (m.mailboxes box).puts (b.mailboxes box).puts (ap (λ (z : Mailbox (List Token)). z.puts) same))
+              ∙ ap (λ (z : Bool). cond (not z) (Some later) None) (ap (λ (z : Mailbox (List Token)). is_full z) (sym same) ∙ free),
+          did_booked (tree_left set.program root after) d _ _ (did_so t c a (tree_left set.program root after) d x mine e act (does (m.mailboxes box).puts))
+              (one_changed box _ _ (ap (λ (z : Mailbox (List Token)). with_message z shape) same)),
         )
 
     taken_booked : (x : Next) (box : BoxName) (after : Lone) (first : ℕ × List Token) (rest : List (ℕ × List Token)) → next_move set t a ≡ x → is_act x ≡ true →
@@ -252,9 +256,39 @@ module _ (set : Setting) where
     end_says : (why : EndCause) → is_tasks why ≡ false → books_by b t c (End why) ≡ Some (record b { courses = with_deed b.courses t c (plain (End why)) })
     end_says why e = ap (λ (z : Bool). cond (z && not (length b.courses == task_limit)) None (Some (record b { courses = with_deed b.courses t c (plain (End why)) }))) e
 
+    puts_booked : (box : BoxName) (root : ℕ) (shape : List Token) (after : Lone) → next_move set t a ≡ Puts box root shape after → After (by_next set m t (Puts box root shape after)).state (by_next set m t (Puts box root shape after)).act
+    puts_booked box root shape after e =
+        let At : Bool → Type 0 = λ z.
+        let p = cond z (parted.acted (parted.with_lone m t (ended after cause.Full)) (End cause.Full)) (parted.puts (parted.with_lone m t (tree_left set.program root after)) box shape) in
+        After p.state p.act in
+        elim (cases_Bool (is_full (m.mailboxes box))) [
+          | inl w ↦ subst At (sym w) (plain_booked (Puts box root shape after) (End cause.Full) (ended after cause.Full) e refl refl (end_says cause.Full refl))
+          | inr w ↦ subst At (sym w) (put_booked (Puts box root shape after) box root shape after e refl (λ n. refl) w)
+        ]
+
+    wait_booked : (box : BoxName) (root : ℕ) (shape : List Token) (after : Lone) → next_move set t a ≡ PutWaits box root shape after → After (by_next set m t (PutWaits box root shape after)).state (by_next set m t (PutWaits box root shape after)).act
+    wait_booked box root shape after e =
+        let At : Bool → Type 0 = λ z.
+        let p = cond z (parted.quiet m) (parted.puts (parted.with_lone m t (tree_left set.program root after)) box shape) in
+        After p.state p.act in
+        elim (cases_Bool (is_full (m.mailboxes box))) [
+          | inl w ↦ subst At (sym w) booked
+          | inr w ↦ subst At (sym w) (put_booked (PutWaits box root shape after) box root shape after e refl (λ n. refl) w)
+        ]
+
+    bound_booked : (box : BoxName) (most : ℕ) (after : Lone) → next_move set t a ≡ Bounds box most after → After (by_next set m t (Bounds box most after)).state (by_next set m t (Bounds box most after)).act
+    bound_booked box most after e =
+        let d = plain (Bound box most) in (
+          record { courses = with_deed b.courses t c d; mailboxes = with_mailbox b.mailboxes box (bounded (b.mailboxes box) most) },
+          refl,
+          did_booked after d _ _ (did_so t c a after d (Bounds box most after) mine e refl refl) (one_changed box _ _ (ap (λ (z : Mailbox (List Token)). bounded z most) (booked.mail box))),
+        )
+
     next_booked : ((why : EndCause) (after : Lone) → next_move set t a ≡ Ends why after → is_tasks why ≡ false) → (x : Next) → next_move set t a ≡ x → After (by_next set m t x).state (by_next set m t x).act
     next_booked own (Goes after) e = goes_booked after (went_on t c a after mine e)
-    next_booked own (Puts box root shape after) e = put_booked box root shape after e
+    next_booked own (Puts box root shape after) e = puts_booked box root shape after e
+    next_booked own (PutWaits box root shape after) e = wait_booked box root shape after e
+    next_booked own (Bounds box most after) e = bound_booked box most after e
     next_booked own (Gets box after) e = get_booked box after e (m.mailboxes box).queue refl
     next_booked own (Probes box after) e = probe_booked box after e (m.mailboxes box).queue refl
     next_booked own (Starts root shape after) e = start_booked root shape after e

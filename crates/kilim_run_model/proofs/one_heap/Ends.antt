@@ -19,10 +19,10 @@ use Rattle.kilim_run_machine.specs.Moves as move
 use Rattle.kilim_run_state.specs.Shapes.{shape_of}
 use Rattle.kilim_run_state.specs.Trees.{OfMessage, OfTask, built}
 use Rattle.kilim_run_journal.specs.declared.entry.Act.{Act}
-use Rattle.kilim_run_journal.specs.declared.entry.Act.TheVariants.{Put, Take, Empty, Start, Print, End}
+use Rattle.kilim_run_journal.specs.declared.entry.Act.TheVariants.{Bound, Put, Take, Empty, Start, Print, End}
 use Rattle.kilim_run_model.specs.State.{Setting, Thread, Alive, Ended, begun_on}
-use Rattle.kilim_run_model.specs.Lone.{Lone, Next, Goes, Puts, Gets, Probes, Starts, Prints, Ends, Stands, box_limit, went, pushed, pushed_on, ended, over, put_next, message_next, start_next, print_next, printed, arg_next, arg_at, native_next, asks_next, begins_next, finish_next, on_heap, next_by, frames_next, thread_next, next_move}
-use Rattle.kilim_run_model.specs.Course.{Course, Done, did, received, tree_left, lone_in, lone_built, lone_begun, next_or, next_within, next_action, tree_came, takes_deed, probes_deed, puts_deed, starts_deed, done_by, Follows, Quiet, Stays, Moves, is_end, ends_in, has_ended}
+use Rattle.kilim_run_model.specs.Lone.{Lone, Next, Goes, Puts, PutWaits, Bounds, Gets, Probes, Starts, Prints, Ends, Stands, box_limit, went, pushed, pushed_on, ended, over, put_next, message_next, start_next, print_next, printed, arg_next, arg_at, native_next, asks_next, begins_next, finish_next, on_heap, next_by, frames_next, thread_next, next_move}
+use Rattle.kilim_run_model.specs.Course.{Course, Done, did, received, tree_left, lone_in, lone_built, lone_begun, next_or, next_within, next_action, tree_came, takes_deed, probes_deed, puts_deed, fills_deed, starts_deed, done_by, Follows, Quiet, Stays, Moves, is_end, ends_in, has_ended}
 use Rattle.kilim_run_model.specs.declared.deed.Deed.{Deed}
 use Rattle.kilim_run_model.specs.declared.deed.Beginning.{Beginning}
 use Rattle.kilim_run_model.specs.declared.deed.Beginning.TheVariants.{Boot, Begun}
@@ -36,6 +36,8 @@ is_ended (Ended cause) = true
 abbrev So : Next → Type 0
 So (Goes l) = is_ended l.thread ≡ false
 So (Puts box root shape l) = is_ended l.thread ≡ false
+So (PutWaits box root shape l) = is_ended l.thread ≡ false
+So (Bounds box most l) = is_ended l.thread ≡ false
 So (Gets box l) = is_ended l.thread ≡ false
 So (Probes box l) = is_ended l.thread ≡ false
 So (Starts root shape l) = is_ended l.thread ≡ false
@@ -122,6 +124,8 @@ next_so set t l = thread_so set t l l.thread
 or_so : (x : Next) (go : Lone → Next) → So x → ((l : Lone) → So (go l)) → So (next_or x go)
 or_so (Goes l) go h each = each l
 or_so (Puts box root shape l) go h each = h
+or_so (PutWaits box root shape l) go h each = h
+or_so (Bounds box most l) go h each = h
 or_so (Gets box l) go h each = h
 or_so (Probes box l) go h each = h
 or_so (Starts root shape l) go h each = h
@@ -162,6 +166,11 @@ puts_is : (p : Program) (box : BoxName) (root : ℕ) (shape : List Token) (l : L
 puts_is p box root shape l (Put b n s) k act h e = did_is (Put box n shape) (tree_left p root l) k act e (sym h)
 puts_is p box root shape l _ k act h e = absurd (none-some _ e)
 
+fills_is : (p : Program) (box : BoxName) (root : ℕ) (shape : List Token) (l : Lone) (a : Act) (k : Lone) (act : Act) → is_ended l.thread ≡ false → fills_deed p box root shape l a ≡ Some (record { act = act; after = k }) → is_end act ≡ is_ended k.thread
+fills_is p box root shape l (Put b n s) k act h e = did_is (Put box n shape) (tree_left p root l) k act e (sym h)
+fills_is p box root shape l (End why) k act h e = did_is (End cause.Full) (ended l cause.Full) k act e refl
+fills_is p box root shape l _ k act h e = absurd (none-some _ e)
+
 came_is : (box : BoxName) (n : ℕ) (l : Lone) (o : Option (List Object)) (k : Lone) (act : Act) → is_ended l.thread ≡ false → tree_came box n l o ≡ Some (record { act = act; after = k }) → is_end act ≡ is_ended k.thread
 came_is box n l None k act h e = absurd (none-some _ e)
 came_is box n l (Some os) k act h e = did_is (Take box n) (received l os) k act e (sym (pushed_is (Ref l.next) l.thread ∙ h))
@@ -182,7 +191,9 @@ starts_is p root shape l _ k act h e = absurd (none-some _ e)
 
 done_is : (set : Setting) (x : Next) (d : Deed) (l : Lone) → So x → done_by set x d ≡ Some (record { act = d.act; after = l }) → is_end d.act ≡ is_ended l.thread
 done_is set (Goes k) d l h e = absurd (none-some _ e)
-done_is set (Puts box root shape k) d l h e = puts_is set.program box root shape k d.act l d.act h e
+done_is set (Puts box root shape k) d l h e = fills_is set.program box root shape k d.act l d.act h e
+done_is set (PutWaits box root shape k) d l h e = puts_is set.program box root shape k d.act l d.act h e
+done_is set (Bounds box most k) d l h e = did_is (Bound box most) k l d.act e (sym h)
 done_is set (Gets box k) d l h e = takes_is set.program box k d d.act l d.act h e
 done_is set (Probes box k) d l h e = probes_is set.program box k d d.act l d.act h e
 done_is set (Starts root shape k) d l h e = starts_is set.program root shape k d.act l d.act h e

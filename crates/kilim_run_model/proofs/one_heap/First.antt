@@ -127,7 +127,7 @@ module _ (set : Setting) where
       fresh = λ x le. is_nobodys x le;
       count = count0 begun;
       parties = parties0 begun (begun_kin set.program of0 0 0 is0 (constructor_of set.program set.main));
-      boxes = λ box. record { counts = refl; first = 0; queued = refl };
+      boxes = λ box. record { most = refl; counts = refl; first = 0; queued = refl };
       journal = refl;
     };
   }

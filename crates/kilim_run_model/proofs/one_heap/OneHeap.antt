@@ -18,10 +18,10 @@ one_heap_is_many live set fit kept es =
       λ last replays.
           let w = replays_parted live set kept (first_parted set) (first_state set) es last first replays in
           let journal = replays_journal set (first_parted set) es w.0 w.1 in
-          let v = moving_of set w.0 w.2.books w.0.journal w.2.says w.2.booked in
+          let v = moving_of set w.0 w.2.books w.0.journal w.2.full w.2.says w.2.booked in
           (v.0, subst (λ (j : List Entry). MovedReplay set j v.0) journal v.1, same_rests live set kept w.0 last w.2 v.0 v.1),
       λ v moved.
-          let apart = back set es v moved es (first_parted set) first_books (first_booked set l.0 l.1) moved.books in
+          let apart = back set es v moved es (first_parted set) first_books (first_booked set l.0 l.1) moved.full moved.books in
           let w = replays_shared live set kept (first_parted set) (first_state set) es apart.0 first apart.1 in
           let journal = replays_journal set (first_parted set) es apart.0 apart.1 in
           (w.0, w.1, same_rests live set kept apart.0 w.0 w.2 v (subst (λ (j : List Entry). MovedReplay set j v) (sym journal) moved)),
@@ -37,8 +37,8 @@ plays_replay live set fit kept schedule =
     let l = first_there set fit in
     let b = plays_beside live set kept (first_parted set) (first_state set) schedule (first_beside set l.0 l.1) in
     let m = played_from set (first_parted set) schedule in
-    let v = moving_of set m b.books m.journal b.says b.booked in
-    let apart = back set m.journal v.0 v.1 m.journal (first_parted set) first_books (first_booked set l.0 l.1) v.1.books in
+    let v = moving_of set m b.books m.journal b.full b.says b.booked in
+    let apart = back set m.journal v.0 v.1 m.journal (first_parted set) first_books (first_booked set l.0 l.1) v.1.full v.1.books in
     let w = replays_shared live set kept (first_parted set) (first_state set) m.journal apart.0 (first_beside set l.0 l.1) apart.1 in
     let journal = replays_journal set (first_parted set) m.journal apart.0 apart.1 in (
       w.0,

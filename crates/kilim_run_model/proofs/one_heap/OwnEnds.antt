@@ -1,4 +1,4 @@
--- No thread ends by itself for want of tasks: that is decided at its start.
+-- No thread ends by itself for want of tasks, or at a full mailbox: that is decided at its start, or at its put.
 use Rattle.std.proofs.Common.{◌≡◌, ℕ, zero, suc, ◌+◌, ℤ, pos, negsuc, Bool, true, false, not, cond, List, [], ◌∷◌, ◌++◌, length, reverse, Option, Some, None, refl, subst}
 use Rattle.std.specs.Prelude.{slice_get, nat_lt, nat_le, codes}
 use Rattle.std.specs.FinMap.{get}
@@ -33,13 +33,13 @@ use Rattle.kilim_run_machine.specs.Moves as move
 use Rattle.kilim_run_model.specs.State.{Setting, Thread, Alive, Ended, begun_on}
 use Rattle.kilim_run_model.specs.Lone.{Lone, Next, next_move, thread_next, frames_next, next_by, opens_next, finish_next, begins_next, asks_next, native_next, message_next, put_next, start_next, print_next, printed, arg_next, arg_at, over, raised, went, on_heap, box_limit}
 use Rattle.kilim_run_model.specs.Lone as next
-use Rattle.kilim_run_model.specs.Moving.{is_tasks}
+use Rattle.kilim_run_model.specs.Moving.{is_others, is_tasks}
 
 -- ---- effects
 
 abbrev Fine : Effect → Type 0
-Fine (effect.Raises c) = is_tasks c ≡ false
-Fine (effect.Ends c) = is_tasks c ≡ false
+Fine (effect.Raises c) = is_others c ≡ false
+Fine (effect.Ends c) = is_others c ≡ false
 Fine e = Unit {0}
 
 some_fine : {A : Type 0} (o : Option A) (go : A → Effect) → ((x : A) → Fine (go x)) → Fine (with_some o go)
@@ -309,8 +309,8 @@ module _ (p : Program) (own : Method) (next : ℕ) (ls vs : List Value) (h : Obj
 -- ---- moves
 
 abbrev MoveFine : Move → Type 0
-MoveFine (move.Raises c) = is_tasks c ≡ false
-MoveFine (move.Ends c) = is_tasks c ≡ false
+MoveFine (move.Raises c) = is_others c ≡ false
+MoveFine (move.Ends c) = is_others c ≡ false
 MoveFine m = Unit {0}
 
 called_fine : (p : Program) (m : MethodId) (args : List Value) (fs : List Activation) (h : Objects) → MoveFine (called p m args fs h)
@@ -346,7 +346,7 @@ moves_fine p top below h = effect_fine p (effect_of p top h) top below (in_fine 
 -- ---- what a thread does next
 
 abbrev NextFine : Next → Type 0
-NextFine (next.Ends c after) = is_tasks c ≡ false
+NextFine (next.Ends c after) = is_others c ≡ false
 NextFine x = Unit {0}
 
 put_fine : (l : Lone) (box : BoxName) (n : ℕ) (o : Option (List Token)) → NextFine (put_next l box n o)
@@ -420,6 +420,13 @@ next_fine : (set : Setting) (t : ℕ) (l : Lone) → NextFine (next_move set t l
 unfolding next_move
 next_fine set t l = thread_fine set t l l.thread
 
--- A thread's own end is never that for want of tasks.
+-- a thread's own end is never one that others decide
+pub no_own_ends : (set : Setting) (t : ℕ) (l : Lone) (why : EndCause) (after : Lone) → next_move set t l ≡ next.Ends why after → is_others why ≡ false
+no_own_ends set t l why after e = subst NextFine e (next_fine set t l)
+
+not_tasks : (why : EndCause) → is_others why ≡ false → is_tasks why ≡ false
+not_tasks cause.Tasks own = absurd (cc)
+not_tasks why own = refl
+
 pub no_own_tasks : (set : Setting) (t : ℕ) (l : Lone) (why : EndCause) (after : Lone) → next_move set t l ≡ next.Ends why after → is_tasks why ≡ false
-no_own_tasks set t l why after e = subst NextFine e (next_fine set t l)
+no_own_tasks set t l why after e = not_tasks why (no_own_ends set t l why after e)

@@ -7,8 +7,10 @@ use Rattle.kilim_program.specs.declared.names.BoxName.{BoxName}
 use Rattle.kilim_run_state.specs.declared.value.Token.{Token}
 use Rattle.kilim_run_state.specs.Machine.{Objects}
 use Rattle.kilim_run_journal.specs.declared.entry.Entry.{Entry}
-use Rattle.kilim_run_model.specs.State.{Setting, Thread, Alive, Ended, State, Mailbox}
-use Rattle.kilim_run_model.specs.Lone.{Lone, Next, Goes, Puts, Gets, Probes, Starts, Prints, Ends, Stands, next_move, get_at}
+use Rattle.kilim_run_model.specs.State.{Setting, Thread, Alive, Ended, State, Mailbox, is_full, is_full_at}
+use Rattle.kilim_run_model.specs.Lone.{Lone, Next, Goes, Puts, PutWaits, Bounds, Gets, Probes, Starts, Prints, Ends, Stands, next_move, get_at}
+use Rattle.kilim_run_model.specs.declared.waits.Waits.{Waits}
+use Rattle.kilim_run_model.specs.declared.waits.Waits.TheVariants as wait
 use Rattle.kilim_run_model.specs.Turn.{lone_of}
 use Rattle.kilim_run_model.specs.Runs.{where_empty, wait_entry}
 use Rattle.kilim_run_model.specs.Runs as shared
@@ -27,7 +29,9 @@ use Rattle.kilim_run_model.proofs.one_heap.Ends.{is_ended, still, ended_is}
 get_kin : (p : Program) (owner : ℕ → Owner) (t : ℕ) (k0 : Objects) (x y : Next) → NextKin p owner t k0 x y → get_at x ≡ get_at y
 get_kin p owner t k0 (Goes a) (Goes b) e = refl
 get_kin p owner t k0 (Puts box n shape a) (Puts other m again b) e = refl
-get_kin p owner t k0 (Gets box a) (Gets other b) e = ap Some e.0
+get_kin p owner t k0 (PutWaits box n shape a) (PutWaits other m again b) e = ap (λ (z : BoxName). Some (wait.Put z)) e.0
+get_kin p owner t k0 (Bounds box most a) (Bounds other least b) e = refl
+get_kin p owner t k0 (Gets box a) (Gets other b) e = ap (λ (z : BoxName). Some (wait.Take z)) e.0
 get_kin p owner t k0 (Probes box a) (Probes other b) e = refl
 get_kin p owner t k0 (Starts n shape a) (Starts m again b) e = refl
 get_kin p owner t k0 (Prints token a) (Prints again b) e = refl
@@ -36,9 +40,11 @@ get_kin p owner t k0 Stands Stands e = refl
 get_kin p owner t k0 _ _ e = absurd e
 
 -- who stands at a get doesn't go on by itself
-get_act : (x : Next) (box : BoxName) → get_at x ≡ Some box → is_act x ≡ true
+get_act : (x : Next) (box : Waits) → get_at x ≡ Some box → is_act x ≡ true
 get_act (Goes a) box e = absurd (none-some box e)
 get_act (Puts b n shape a) box e = refl
+get_act (PutWaits b n shape a) box e = refl
+get_act (Bounds b most a) box e = refl
 get_act (Gets b a) box e = refl
 get_act (Probes b a) box e = refl
 get_act (Starts n shape a) box e = refl
@@ -58,11 +64,25 @@ module _ (set : Setting) (m : Parted) (s : State) (tied : Tied set m s) (b : Boo
   empties box i end [] (c ∷ names) w = absurd w
   empties box i end (a ∷ shapes) [] w = absurd w
 
-  empty_both : (o : Option BoxName) → moving.if_empty b o ≡ shared.if_empty s o
+  queued_length : (box : BoxName) (end i : ℕ) (shapes : List (ℕ × List Token)) (names : List (ℕ × ℕ)) → Queued set.program tied.owner s.heap box end i shapes names → length shapes ≡ length names
+  queued_length box end i [] [] w = refl
+  queued_length box end i (a ∷ shapes) (c ∷ names) w = ap suc (queued_length box end (suc i) shapes names w.1)
+  queued_length box end i [] (c ∷ names) w = absurd w
+  queued_length box end i (a ∷ shapes) [] w = absurd w
+
+  full_both : (box : BoxName) → is_full (b.mailboxes box) ≡ is_full (s.mailboxes box)
+  full_both box =
+      let was = tied.by.boxes box in
+      ap (λ (z : Mailbox (List Token)). is_full z) (sym (booked.mail box))
+      ∙ (ap (λ (z : Option ℕ). is_full_at z (length (m.mailboxes box).queue)) was.most
+      ∙ ap (is_full_at (s.mailboxes box).most) (queued_length box (s.mailboxes box).puts was.first (m.mailboxes box).queue (s.mailboxes box).queue was.queued))
+
+  empty_both : (o : Option Waits) → moving.if_waits b o ≡ shared.if_waits s o
   empty_both None = refl
-  empty_both (Some box) =
+  empty_both (Some (wait.Take box)) =
       ap (λ (z : Mailbox (List Token)). where_empty z.queue box) (sym (booked.mail box))
       ∙ empties box (tied.by.boxes box).first (s.mailboxes box).puts (m.mailboxes box).queue (s.mailboxes box).queue (tied.by.boxes box).queued
+  empty_both (Some (wait.Put box)) = ap (λ (z : Bool). cond z (Some box) None) (full_both box)
 
   -- one thread, on both sides
   pub record Sides (t : ℕ) (th : Thread) (c : Course) (k : Lone) : Type 0 where
@@ -76,8 +96,8 @@ module _ (set : Setting) (m : Parted) (s : State) (tied : Tied set m s) (b : Boo
     same_waits : is_act (next_move set t l) ≡ true → moving.waits_at set b t of.last ≡ shared.waits_at set s t th
     unfolding stands_at
     same_waits act =
-        ap (λ (x : Next). moving.if_empty b (get_at x)) (action_is set t of.last l (next_move set t l) of.quiet refl act)
-        ∙ (empty_both (get_at (next_move set t l)) ∙ ap (shared.if_empty s) same_get)
+        ap (λ (x : Next). moving.if_waits b (get_at x)) (action_is set t of.last l (next_move set t l) of.quiet refl act)
+        ∙ (empty_both (get_at (next_move set t l)) ∙ ap (shared.if_waits s) same_get)
 
     ends_both : has_ended c ≡ is_ended th
     ends_both = ended_is set t c l of ∙ threads_end party.0 l.thread th party.1.threads
@@ -87,7 +107,7 @@ module _ (set : Setting) (m : Parted) (s : State) (tied : Tied set m s) (b : Boo
         let ends : has_ended c ≡ true = ends_both ∙ ap is_ended e in
         record {
           rest = ap (λ (z : Bool). z || is_some (moving.waits_at set b t of.last)) (sym ends);
-          waits = ap (λ (x : Next). shared.if_empty s (get_at x)) (still set t (lone_of s t (Ended why)) refl) ∙ ap (λ (z : Bool). cond z None (moving.waits_at set b t of.last)) (sym ends);
+          waits = ap (λ (x : Next). shared.if_waits s (get_at x)) (still set t (lone_of s t (Ended why)) refl) ∙ ap (λ (z : Bool). cond z None (moving.waits_at set b t of.last)) (sym ends);
         }
     sides_by (Alive fs done boxes) e act =
         let ends : has_ended c ≡ false = ends_both ∙ ap is_ended e in
@@ -100,7 +120,7 @@ module _ (set : Setting) (m : Parted) (s : State) (tied : Tied set m s) (b : Boo
     pub sides : is_act (next_move set t l) ≡ true → Sides t th c of.last
     sides act = sides_by th refl act
 
-    some_box : (o : Option BoxName) → is_some (shared.if_empty s o) ≡ true → (box : BoxName) × (o ≡ Some box)
+    some_box : (o : Option Waits) → is_some (shared.if_waits s o) ≡ true → (box : Waits) × (o ≡ Some box)
     some_box None e = absurd (cc)
     some_box (Some box) e = (box, refl)
 

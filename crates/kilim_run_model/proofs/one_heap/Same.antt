@@ -11,7 +11,7 @@ use Rattle.kilim_run_model.specs.Lone.{Lone, next_move}
 use Rattle.kilim_run_model.specs.Runs.{AtRest}
 use Rattle.kilim_run_model.specs.Runs as shared
 use Rattle.kilim_run_model.specs.Course.{Course, IsLone}
-use Rattle.kilim_run_model.specs.Moving.{Books, Moving, MovedReplay, MovedAtRest, first_books, books_from}
+use Rattle.kilim_run_model.specs.Moving.{Books, Moving, MovedReplay, MovedAtRest, first_books, books_from, FullSaid}
 use Rattle.kilim_run_model.specs.Reach.{Liveness}
 use Rattle.kilim_run_model.specs.Kept.{Kept}
 use Rattle.kilim_run_model.proofs.Alone.{one_lone}
@@ -143,9 +143,9 @@ module _ (set : Setting) where
   lasts i (l ∷ ls) [] e each = absurd (omega (arith, e))
 
   -- what is booked is moved
-  pub moving_of : (m : Parted) (b : Books) (journal : List Entry) → books_from first_books journal ≡ Some b → Booked set m b → (v : Moving) × MovedReplay set journal v
-  moving_of m b journal says booked =
+  pub moving_of : (m : Parted) (b : Books) (journal : List Entry) → FullSaid set first_books journal → books_from first_books journal ≡ Some b → Booked set m b → (v : Moving) × MovedReplay set journal v
+  moving_of m b journal full says booked =
       let w = lasts 0 m.lones b.courses booked.count (λ j l c is_l is_c. subst (λ (n : ℕ). IsOf set n c l) (let z : j ≡ 0 + j = omega arith in z) (booked.each j l c is_l is_c)) in (
         record { books = b; lones = w.0 },
-        record { books = says; each = w.1; lones = λ t c k is_c is_k. subst (λ (n : ℕ). IsLone set n c k) (let z : 0 + t ≡ t = omega arith in z) (w.2 t c k is_c is_k) },
+        record { books = says; full = full; each = w.1; lones = λ t c k is_c is_k. subst (λ (n : ℕ). IsLone set n c k) (let z : 0 + t ≡ t = omega arith in z) (w.2 t c k is_c is_k) },
       )

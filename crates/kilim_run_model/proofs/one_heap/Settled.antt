@@ -11,8 +11,8 @@ use Rattle.kilim_run_state.specs.declared.value.Token.{Token}
 use Rattle.kilim_run_state.specs.Trees.{OfMessage, built}
 use Rattle.kilim_run_journal.specs.declared.entry.Act.{Act}
 use Rattle.kilim_run_journal.specs.declared.entry.Act.TheVariants.{End}
-use Rattle.kilim_run_model.specs.State.{Setting, Thread, State}
-use Rattle.kilim_run_model.specs.Lone.{Lone, Next, Goes, Puts, Gets, Probes, Starts, Prints, Ends, Stands, ended, next_move}
+use Rattle.kilim_run_model.specs.State.{Setting, Thread, State, is_full}
+use Rattle.kilim_run_model.specs.Lone.{Lone, Next, Goes, Puts, PutWaits, Bounds, Gets, Probes, Starts, Prints, Ends, Stands, ended, next_move}
 use Rattle.kilim_run_model.specs.Turn.{task_limit, moved}
 use Rattle.kilim_run_model.specs.Runs as shared
 use Rattle.kilim_run_model.specs.Course.{tree_left, lone_begun}
@@ -111,7 +111,17 @@ module _ (set : Setting) (m : Parted) (t : ℕ) where
 
   next_halts : (x : Next) → is_act x ≡ true → Halts m (by_next set m t x)
   next_halts (Goes after) e = absurd (cc)
-  next_halts (Puts box root shape after) e = inl (_, refl)
+  next_halts (Puts box root shape after) e =
+      elim (is_full (m.mailboxes box)) as (λ (z : Bool). Halts m (cond z (parted.acted (parted.with_lone m t (ended after cause.Full)) (End cause.Full)) (parted.puts (parted.with_lone m t (tree_left set.program root after)) box shape))) [
+        | true ↦ inl (_, refl)
+        | false ↦ inl (_, refl)
+      ]
+  next_halts (PutWaits box root shape after) e =
+      elim (is_full (m.mailboxes box)) as (λ (z : Bool). Halts m (cond z (parted.quiet m) (parted.puts (parted.with_lone m t (tree_left set.program root after)) box shape))) [
+        | true ↦ inr refl
+        | false ↦ inl (_, refl)
+      ]
+  next_halts (Bounds box most after) e = inl (_, refl)
   next_halts (Gets box after) e = gets_halts box after (m.mailboxes box).queue
   next_halts (Probes box after) e = probes_halts box after (m.mailboxes box).queue
   next_halts (Starts root shape after) e = starts_halts root shape after
@@ -157,6 +167,8 @@ module _ (set : Setting) where
   next_is : (t : ℕ) (l : Lone) (x : Next) → next_move set t l ≡ x → ((after : Lone) × (next_move set t l ≡ Goes after)) ⊎ (is_act (next_move set t l) ≡ true)
   next_is t l (Goes after) e = inl (after, e)
   next_is t l (Puts box root shape after) e = inr (ap is_act e)
+  next_is t l (PutWaits box root shape after) e = inr (ap is_act e)
+  next_is t l (Bounds box most after) e = inr (ap is_act e)
   next_is t l (Gets box after) e = inr (ap is_act e)
   next_is t l (Probes box after) e = inr (ap is_act e)
   next_is t l (Starts root shape after) e = inr (ap is_act e)

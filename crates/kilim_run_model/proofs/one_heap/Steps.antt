@@ -23,8 +23,8 @@ use Rattle.kilim_program.specs.Members.{execute_of}
 use Rattle.kilim_run_state.specs.Trees.{Root, OfMessage, tree_names, value_names, names_in, without, with_objects, built}
 use Rattle.kilim_run_state.specs.Trees as trees
 use Rattle.kilim_run_state.specs.Shapes.{tree_limit}
-use Rattle.kilim_run_journal.specs.declared.entry.Act.TheVariants.{Put, Take, Start, Print, End}
-use Rattle.kilim_run_model.specs.State.{Setting, Thread, Alive, Ended, State, Mailbox, begun_on, class_of, execute_frames, with_message, with_queue, with_mailbox}
+use Rattle.kilim_run_journal.specs.declared.entry.Act.TheVariants.{Put, Take, Start, Print, End, Bound}
+use Rattle.kilim_run_model.specs.State.{Setting, Thread, Alive, Ended, State, Mailbox, begun_on, class_of, execute_frames, with_message, with_queue, with_mailbox, is_full, is_full_at, bounded}
 use Rattle.kilim_run_model.specs.Lone.{Lone, Next, pushed, pushed_on, ended, next_move}
 use Rattle.kilim_run_model.specs.Lone as next
 use Rattle.kilim_run_model.specs.Turn.{Moved, kept_by, lone_of, task_limit, moved_by, thread_moved, moved}
@@ -204,6 +204,7 @@ module _ (set : Setting) (gives : ShapesGive set.program) (m : Parted) (s : Stat
             })
             (boxes_one p mine c.heap m.mailboxes s.mailboxes box _ _
             (record {
+              most = (tied.by.boxes box).most;
               counts = (tied.by.boxes box).counts;
               first = suc i;
               queued = queued_kept owner mine s.heap c.heap p box (s.mailboxes box).puts (suc i) rest names
@@ -294,6 +295,7 @@ module _ (set : Setting) (gives : ShapesGive set.program) (m : Parted) (s : Stat
         tied_as set _ _ at (tied_gone OfMessage n y shape b c g to (with_mailbox m.mailboxes box (with_message (m.mailboxes box) shape)) (with_mailbox s.mailboxes box (with_message (s.mailboxes box) y))
             (boxes_one p at c.heap m.mailboxes s.mailboxes box _ _
             (record {
+              most = was.most;
               counts = ap (λ (i : ℕ). i + 1) was.counts;
               first = was.first;
               queued = subst (λ (i : ℕ). Queued p at c.heap box i was.first ((m.mailboxes box).queue ++ ((m.mailboxes box).puts, shape) ∷ []) ((s.mailboxes box).queue ++ (puts, y) ∷ [])) (sym (add-one puts))
@@ -379,11 +381,65 @@ module _ (set : Setting) (gives : ShapesGive set.program) (m : Parted) (s : Stat
 
   -- ---- all moves
 
+  queued_length : (box : BoxName) (end i : ℕ) (xs : List (ℕ × List Token)) (ys : List (ℕ × ℕ)) → Queued p owner s.heap box end i xs ys → length xs ≡ length ys
+  queued_length box end i [] [] q = refl
+  queued_length box end i (first ∷ shapes) (one ∷ names) q = ap suc (queued_length box end (suc i) shapes names q.1)
+  queued_length box end i [] (one ∷ names) q = absurd q
+  queued_length box end i (first ∷ shapes) [] q = absurd q
+
+  full_same : (box : BoxName) → is_full (m.mailboxes box) ≡ is_full (s.mailboxes box)
+  full_same box =
+      let was = tied.by.boxes box in
+      ap (λ (z : Option ℕ). is_full_at z (length (m.mailboxes box).queue)) was.most ∙ ap (is_full_at (s.mailboxes box).most) (queued_length box (s.mailboxes box).puts was.first (m.mailboxes box).queue (s.mailboxes box).queue was.queued)
+
+  puts_kin : (box : BoxName) (n y : ℕ) (shape : List Token) (b c : Lone) → Giving p OfMessage owner t s.heap n y shape b c → Match set (by_next set m t (next.Puts box n shape b)) (moved_by set s t (next.Puts box y shape c))
+  puts_kin box n y shape b c g =
+      subst (λ (z : Bool). Match set (by_next set m t (next.Puts box n shape b)) (cond z (shared.acted (shared.with_lone s t (ended c cause.Full)) (End cause.Full)) (shared.puts (shared.with_lone s t c) box y shape))) (full_same box)
+      (elim (is_full (m.mailboxes box)) as (λ (z : Bool). Match set
+      (cond z (parted.acted (parted.with_lone m t (ended b cause.Full)) (End cause.Full)) (parted.puts (parted.with_lone m t (tree_left p n b)) box shape))
+      (cond z (shared.acted (shared.with_lone s t (ended c cause.Full)) (End cause.Full)) (shared.puts (shared.with_lone s t c) box y shape))) [
+        | true ↦ (refl, onward (ended b cause.Full) (ended c cause.Full) (ended_kin cause.Full g.of b c g.kin))
+        | false ↦ put_kin box n y shape b c g
+      ])
+
+  wait_kin : (box : BoxName) (n y : ℕ) (shape : List Token) (b c : Lone) → Giving p OfMessage owner t s.heap n y shape b c → Match set (by_next set m t (next.PutWaits box n shape b)) (moved_by set s t (next.PutWaits box y shape c))
+  wait_kin box n y shape b c g =
+      subst (λ (z : Bool). Match set (by_next set m t (next.PutWaits box n shape b)) (cond z (shared.quiet s) (shared.puts (shared.with_lone s t c) box y shape))) (full_same box)
+      (elim (is_full (m.mailboxes box)) as (λ (z : Bool). Match set
+      (cond z (parted.quiet m) (parted.puts (parted.with_lone m t (tree_left p n b)) box shape))
+      (cond z (shared.quiet s) (shared.puts (shared.with_lone s t c) box y shape))) [
+        | true ↦ (refl, tied)
+        | false ↦ put_kin box n y shape b c g
+      ])
+
+  bounds_kin : (box : BoxName) (most : ℕ) (b c : Lone) → Before owner t s.heap b c → Match set (by_next set m t (next.Bounds box most b)) (moved_by set s t (next.Bounds box most c))
+  bounds_kin box most b c e =
+      let w = onward b c (of_before b c e) in
+      let was = w.by.boxes box in (
+        refl,
+        record {
+          owner = w.owner;
+          by = record {
+            fresh = w.by.fresh;
+            count = w.by.count;
+            parties = w.by.parties;
+            boxes = boxes_one p w.owner c.heap m.mailboxes s.mailboxes box _ _ (record { most = refl; counts = was.counts; first = was.first; queued = was.queued }) (λ d f. w.by.boxes d);
+            journal = w.by.journal;
+          };
+        },
+      )
+
   moved_kin : (v w : Next) → NextKin p owner t s.heap v w → Match set (by_next set m t v) (moved_by set s t w)
   moved_kin (next.Goes b) (next.Goes c) e = (refl, onward b c e)
   moved_kin (next.Puts box n shape b) (next.Puts other y again c) e =
       subst (λ (z : BoxName). Match set (by_next set m t (next.Puts box n shape b)) (moved_by set s t (next.Puts z y again c))) e.0
-      (subst (λ (z : List Token). Match set (by_next set m t (next.Puts box n shape b)) (moved_by set s t (next.Puts box y z c))) e.1 (put_kin box n y shape b c e.2))
+      (subst (λ (z : List Token). Match set (by_next set m t (next.Puts box n shape b)) (moved_by set s t (next.Puts box y z c))) e.1 (puts_kin box n y shape b c e.2))
+  moved_kin (next.PutWaits box n shape b) (next.PutWaits other y again c) e =
+      subst (λ (z : BoxName). Match set (by_next set m t (next.PutWaits box n shape b)) (moved_by set s t (next.PutWaits z y again c))) e.0
+      (subst (λ (z : List Token). Match set (by_next set m t (next.PutWaits box n shape b)) (moved_by set s t (next.PutWaits box y z c))) e.1 (wait_kin box n y shape b c e.2))
+  moved_kin (next.Bounds box most b) (next.Bounds other least c) e =
+      subst (λ (z : BoxName). Match set (by_next set m t (next.Bounds box most b)) (moved_by set s t (next.Bounds z least c))) e.0
+      (subst (λ (z : ℕ). Match set (by_next set m t (next.Bounds box most b)) (moved_by set s t (next.Bounds box z c))) e.1 (bounds_kin box most b c e.2))
   moved_kin (next.Gets box b) (next.Gets other c) e =
       subst (λ (z : BoxName). Match set (by_next set m t (next.Gets box b)) (moved_by set s t (next.Gets z c))) e.0
       (gets_kin box b c e.1 (tied.by.boxes box).first (m.mailboxes box).queue (s.mailboxes box).queue (tied.by.boxes box).queued)

@@ -64,7 +64,7 @@ boxes_one p later k ms ss box shapes names here others b = elim (box_tells b box
 ]
 
 pub box_kept : (p : Program) (owner later : ℕ → Owner) (k l : Objects) (box : BoxName) (shapes : Mailbox (List Token)) (names : Mailbox ℕ) → ((i : ℕ) → Spares owner k later l (OfPlace box i)) → Boxes p owner k box shapes names → Boxes p later l box shapes names
-box_kept p owner later k l box shapes names spares b = record { counts = b.counts; first = b.first; queued = queued_kept owner later k l p box names.puts b.first shapes.queue names.queue (λ j e. spares j) b.queued }
+box_kept p owner later k l box shapes names spares b = record { most = b.most; counts = b.counts; first = b.first; queued = queued_kept owner later k l p box names.puts b.first shapes.queue names.queue (λ j e. spares j) b.queued }
 
 pub queued_more : (p : Program) (owner : ℕ → Owner) (k : Objects) (box : BoxName) (end i : ℕ) (shapes : List (ℕ × List Token)) (names : List (ℕ × ℕ)) (number : ℕ) (shape : List Token) (y : ℕ) →
     Queued p owner k box end i shapes names → number ≡ end → (xs : List ℕ) → IsTree p OfMessage k (y ∷ xs) shape → ((z : ℕ) → IsIn z (y ∷ xs) → owner z ≡ OfPlace box end) →

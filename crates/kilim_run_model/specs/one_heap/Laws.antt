@@ -8,7 +8,7 @@ use Rattle.kilim_run_model.specs.Kept.{Kept}
 use Rattle.kilim_run_state.specs.declared.cause.EndCause.{EndCause}
 use Rattle.kilim_run_journal.specs.declared.entry.Act.{Act}
 use Rattle.kilim_run_model.specs.Lone.{Lone, Ends, next_move}
-use Rattle.kilim_run_model.specs.Moving.{Books, Moving, MovedReplay, MovedAtRest, is_tasks, books_after}
+use Rattle.kilim_run_model.specs.Moving.{Books, Moving, MovedReplay, MovedAtRest, is_others, books_after}
 use Rattle.kilim_run_model.specs.one_heap.Booked.{Booked}
 use Rattle.kilim_run_model.specs.Turn.{moved}
 use Rattle.kilim_run_model.specs.kin.Kin.{Names, Owner}
@@ -25,9 +25,9 @@ NextMovesAreKin = (setting : Setting) (of : Names) (owner : ℕ → Owner) (t : 
 abbrev pub MovesMatch : Type 0
 MovesMatch = (setting : Setting) (m : Parted) (s : State) → Tied setting m s → (t : ℕ) → ((l : Lone) → slice_get m.lones t ≡ Some l → IsWholeThread setting l.heap l.thread) → Match setting (parts setting m t) (moved setting s t)
 
--- A thread's own end is never that for want of tasks: that is decided at its start.
-abbrev pub NoOwnTasks : Type 0
-NoOwnTasks = (setting : Setting) (t : ℕ) (l : Lone) (why : EndCause) (after : Lone) → next_move setting t l ≡ Ends why after → is_tasks why ≡ false
+-- A thread's own end is never one that others decide: for want of tasks, which is decided at its start, or at a full mailbox.
+abbrev pub NoOwnEnds : Type 0
+NoOwnEnds = (setting : Setting) (t : ℕ) (l : Lone) (why : EndCause) (after : Lone) → next_move setting t l ≡ Ends why after → is_others why ≡ false
 
 -- Without an action the books are the same, with one they are those after its entry.
 abbrev pub KeepsBooks : Setting → Books → ℕ → Parted → Option Act → Type 0

@@ -10,7 +10,7 @@ use Rattle.kilim_run_machine.specs.Moves as move
 use Rattle.kilim_run_state.specs.Shapes.{shape_of}
 use Rattle.kilim_run_state.specs.Trees.{Root, OfMessage, OfTask}
 use Rattle.kilim_run_model.specs.State.{Setting, Thread, Alive, Ended}
-use Rattle.kilim_run_model.specs.Lone.{Lone, Next, Goes, Puts, Gets, Probes, Starts, Prints, Ends, Stands}
+use Rattle.kilim_run_model.specs.Lone.{Lone, Next, Goes, Puts, PutWaits, Bounds, Gets, Probes, Starts, Prints, Ends, Stands}
 use Rattle.kilim_run_model.specs.Kept.{given}
 use Rattle.kilim_run_model.specs.kin.Kin.{Names, Owner, OfNobody, FramesKin, NameKin, Alike, AreHeld, IsThere}
 use Rattle.kilim_run_model.specs.kin.Kin as owned
@@ -57,6 +57,8 @@ pub record Giving (p : Program) (root : Root) (owner : ℕ → Owner) (t : ℕ) 
 abbrev pub NextKin : Program → (ℕ → Owner) → ℕ → Objects → Next → Next → Type 0
 NextKin p owner t k0 (Goes a) (Goes b) = Onward owner t k0 a b
 NextKin p owner t k0 (Puts box n shape a) (Puts other m again b) = (box ≡ other) × (shape ≡ again) × Giving p OfMessage owner t k0 n m shape a b
+NextKin p owner t k0 (PutWaits box n shape a) (PutWaits other m again b) = (box ≡ other) × (shape ≡ again) × Giving p OfMessage owner t k0 n m shape a b
+NextKin p owner t k0 (Bounds box most a) (Bounds other least b) = (box ≡ other) × (most ≡ least) × Before owner t k0 a b
 NextKin p owner t k0 (Gets box a) (Gets other b) = (box ≡ other) × Before owner t k0 a b
 NextKin p owner t k0 (Probes box a) (Probes other b) = (box ≡ other) × Before owner t k0 a b
 NextKin p owner t k0 (Starts n shape a) (Starts m again b) = (shape ≡ again) × Giving p OfTask owner t k0 n m shape a b

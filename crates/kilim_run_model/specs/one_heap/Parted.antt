@@ -7,11 +7,11 @@ use Rattle.kilim_run_state.specs.declared.value.Object.{Object}
 use Rattle.kilim_run_state.specs.declared.value.Token.{Token}
 use Rattle.kilim_program.specs.declared.value.Value.TheVariants.{Null}
 use Rattle.kilim_run_journal.specs.declared.entry.Act.{Act}
-use Rattle.kilim_run_journal.specs.declared.entry.Act.TheVariants.{Put, Take, Empty, Start, Print, End}
+use Rattle.kilim_run_journal.specs.declared.entry.Act.TheVariants.{Bound, Put, Take, Empty, Start, Print, End}
 use Rattle.kilim_run_journal.specs.declared.entry.Entry.{Entry}
 use Rattle.kilim_run_state.specs.Trees.{built, OfMessage}
-use Rattle.kilim_run_model.specs.State.{Setting, Mailbox, empty_mailbox, with_message, with_queue, with_mailbox}
-use Rattle.kilim_run_model.specs.Lone.{Lone, Next, Goes, Puts, Gets, Probes, Starts, Prints, Ends, Stands, pushed, ended, next_move}
+use Rattle.kilim_run_model.specs.State.{Setting, Mailbox, empty_mailbox, with_message, with_queue, with_mailbox, bounded, is_full}
+use Rattle.kilim_run_model.specs.Lone.{Lone, Next, Goes, Puts, PutWaits, Bounds, Gets, Probes, Starts, Prints, Ends, Stands, pushed, ended, next_move}
 use Rattle.kilim_run_model.specs.Turn.{task_limit}
 use Rattle.kilim_run_model.specs.Course.{received, tree_left, lone_begun}
 use Rattle.kilim_run_model.specs.declared.deed.Beginning.TheVariants.{Boot, Begun}
@@ -73,7 +73,9 @@ starts set m t root shape after =
 
 abbrev pub by_next : Setting → Parted → ℕ → Next → Parting
 by_next set m t (Goes after) = quiet (with_lone m t after)
-by_next set m t (Puts box root shape after) = puts (with_lone m t (tree_left set.program root after)) box shape
+by_next set m t (Puts box root shape after) = if is_full (m.mailboxes box) then acted (with_lone m t (ended after cause.Full)) (End cause.Full) else puts (with_lone m t (tree_left set.program root after)) box shape
+by_next set m t (PutWaits box root shape after) = if is_full (m.mailboxes box) then quiet m else puts (with_lone m t (tree_left set.program root after)) box shape
+by_next set m t (Bounds box most after) = acted (record (with_lone m t after) { mailboxes = with_mailbox m.mailboxes box (bounded (m.mailboxes box) most) }) (Bound box most)
 by_next set m t (Gets box after) = gets set m t box after (m.mailboxes box).queue
 by_next set m t (Probes box after) = probes set m t box after (m.mailboxes box).queue
 by_next set m t (Starts root shape after) = starts set m t root shape after

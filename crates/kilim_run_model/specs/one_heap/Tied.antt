@@ -31,6 +31,7 @@ Queued p owner k box end i (a ∷ rest) (b ∷ bs) =
 Queued p owner k box end i rest bs = ⊥
 
 pub record Boxes (p : Program) (owner : ℕ → Owner) (k : Objects) (box : BoxName) (shapes : Mailbox (List Token)) (names : Mailbox ℕ) : Type 0 where
+  pub most : shapes.most ≡ names.most
   pub counts : shapes.puts ≡ names.puts
   pub first : ℕ
   pub queued : Queued p owner k box names.puts first shapes.queue names.queue

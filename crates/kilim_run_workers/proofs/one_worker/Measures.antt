@@ -86,7 +86,7 @@ module _ {F : Type 0} (task : F → ℕ) (count : F → ℕ) (n : ℕ) where
 
   -- an act adds two at most
   pub act_left : (numbered : F → F → ℕ → Type 0) (b b' : Board F) (seat t : ℕ) (w : Wants F) (a : Acted) → ActAnswers numbered b seat t b' w a → left b' ≤ left b + 2
-  act_left numbered b b' seat t (wants.Put box tree shape) (acted.Answer (answer.Sent k)) did = put_left b b' t box tree shape did.1
+  act_left numbered b b' seat t (wants.Put box tree shape) (acted.Answer (answer.Sent k)) did = put_left b b' t box tree shape did.2
   act_left numbered b b' seat t (wants.Take box) (acted.Answer (answer.Message tree k)) did = let e = same_left b b' did.1.spots.ready did.1.spots.parked did.1.tasks in omega arith
   act_left numbered b b' seat t (wants.Take box) (acted.Answer answer.Nothing) did = let e = same_left b b' did.1.spots.ready did.1.spots.parked did.1.run.tasks in omega arith
   act_left numbered b b' seat t (wants.Probe box) (acted.Answer (answer.Message tree k)) did = let e = same_left b b' did.1.spots.ready did.1.spots.parked did.1.tasks in omega arith
@@ -185,7 +185,7 @@ module _ {F : Type 0} (refused : F → Option BoxName) where
       record { ready = subst (AllByRecursion IsCalmFiber) (sym puts.ready) h.0; parked = subst (AllByRecursion IsCalmWaiter) (sym puts.parked) h.1 }
 
   pub act_calm : (rests : F → Bool) (numbered : F → F → ℕ → Type 0) → ((f f' : F) (k : ℕ) → numbered f f' k → refused f' ≡ refused f) → (b b' : Board F) (seat t : ℕ) (w : Wants F) (a : Acted) → ActAnswers numbered b seat t b' w a → StartsFresh rests refused w → IsCalm b → IsCalm b'
-  act_calm rests numbered same b b' seat t (wants.Put box tree shape) (acted.Answer (answer.Sent k)) did fresh calm = put_calm b b' t box tree shape did.1 calm
+  act_calm rests numbered same b b' seat t (wants.Put box tree shape) (acted.Answer (answer.Sent k)) did fresh calm = put_calm b b' t box tree shape did.2 calm
   act_calm rests numbered same b b' seat t (wants.Take box) (acted.Answer (answer.Message tree k)) did fresh calm = same_calm b b' did.1.spots.ready did.1.spots.parked calm
   act_calm rests numbered same b b' seat t (wants.Take box) (acted.Answer answer.Nothing) did fresh calm = same_calm b b' did.1.spots.ready did.1.spots.parked calm
   act_calm rests numbered same b b' seat t (wants.Probe box) (acted.Answer (answer.Message tree k)) did fresh calm = same_calm b b' did.1.spots.ready did.1.spots.parked calm

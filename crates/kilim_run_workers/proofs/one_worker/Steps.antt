@@ -80,7 +80,7 @@ module _ {F : Type 0} (task : F → ℕ) (course : F → Course) (holds asked : 
 
 module _ {F : Type 0} (numbered : F → F → ℕ → Type 0) (b b' : Board F) (seat t : ℕ) where
   pub goes_keeps : (w : Wants F) (a : Answer) → IsGoing w → ActAnswers numbered b seat t b' w (acted.Answer a) → (b'.cells ≡ b.cells) × (b'.stopped ≡ b.stopped)
-  goes_keeps (wants.Put box tree shape) (answer.Sent n) goes did = (did.1.cells, did.1.stopped)
+  goes_keeps (wants.Put box tree shape) (answer.Sent n) goes did = (did.2.cells, did.2.stopped)
   goes_keeps (wants.Take box) (answer.Message tree n) goes did = (did.1.spots.cells, did.1.spots.stopped)
   goes_keeps (wants.Take box) answer.Nothing goes did = (did.1.spots.cells, did.1.spots.stopped)
   goes_keeps (wants.Probe box) (answer.Message tree n) goes did = (did.1.spots.cells, did.1.spots.stopped)

@@ -60,6 +60,7 @@ module _ (set : Setting) (w : World) (go : World → Option Value → Thread) (o
 
   put_so : (box : BoxName) (shape : List Token) (n : ℕ) (act : Act) (rest : List Deed) → is_lost (put_by set w Stop go box shape n act rest) ≡ false
   put_so box shape n (Put b k s) rest = on _ _
+  put_so box shape n (End c) rest = at_last cause.Full rest
   put_so box shape n act rest = refl
 
   puts_so : (box : BoxName) (n : ℕ) (o : Option (List Token)) → is_lost (puts set w Stop go box n o) ≡ false

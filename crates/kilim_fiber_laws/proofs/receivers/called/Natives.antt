@@ -39,6 +39,7 @@ module _ (set : Setting) (Q : Thread → Type 0) (over : (o : Over) → Q (Stop 
   module _ (go : World → Option Value → Thread) (on : (after : World) (v : Option Value) → after.kept ≡ w.kept → Q (go after v)) where
     put_so : (box : BoxName) (shape : List Token) (n : ℕ) (act : Act) (rest : List Deed) → Q (put_by set w Stop go box shape n act rest)
     put_so box shape n (Put b k s) rest = on _ _ refl
+    put_so box shape n (End c) rest = at_last cause.Full rest
     put_so box shape n act rest = over Astray
 
     puts_so : (box : BoxName) (n : ℕ) (o : Option (List Token)) → Q (puts set w Stop go box n o)

@@ -193,6 +193,8 @@ module _ (set : Setting) (k : ℕ) (b : Beginning) (ds0 : List Deed) where
     pub next_along : (ds : List Deed) → Held l ds acts → (n : Next) → next_move set k l ≡ n → (t : Thread) → Shows (world_at k l ds acts) t → IsNext set ds acts k n t → Along t
     next_along ds held (next.Goes after) e t shows at = moved after e ds held t at
     next_along ds held (next.Puts box root shape after) e t shows at = acts_at (next.Puts box root shape after) e refl ds held t shows at
+    next_along ds held (next.PutWaits box root shape after) e t shows at = acts_at (next.PutWaits box root shape after) e refl ds held t shows at
+    next_along ds held (next.Bounds box most after) e t shows at = acts_at (next.Bounds box most after) e refl ds held t shows at
     next_along ds held (next.Gets box after) e t shows at = acts_at (next.Gets box after) e refl ds held t shows at
     next_along ds held (next.Probes box after) e t shows at = acts_at (next.Probes box after) e refl ds held t shows at
     next_along ds held (next.Starts root shape after) e t shows at = acts_at (next.Starts root shape after) e refl ds held t shows at

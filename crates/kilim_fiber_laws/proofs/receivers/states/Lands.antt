@@ -57,6 +57,8 @@ acts_within set k (suc n) l d y x e did = by (next_move set k l) refl e (λ afte
         let a = later after same in
         record { here = a.here; quiet = quiet_on set k l after a.here (Moves l (Stays refl) is) a.quiet; is = a.is }
     by (next.Puts box root shape after) is same later = record { here = l; quiet = Stays refl; is = is ∙ same }
+    by (next.PutWaits box root shape after) is same later = record { here = l; quiet = Stays refl; is = is ∙ same }
+    by (next.Bounds box most after) is same later = record { here = l; quiet = Stays refl; is = is ∙ same }
     by (next.Gets box after) is same later = record { here = l; quiet = Stays refl; is = is ∙ same }
     by (next.Probes box after) is same later = record { here = l; quiet = Stays refl; is = is ∙ same }
     by (next.Starts root shape after) is same later = record { here = l; quiet = Stays refl; is = is ∙ same }
@@ -123,6 +125,8 @@ module _ (set : Setting) (k : ℕ) where
   pub next_acted : (n : Next) → is_action n ≡ true → (ds : List Deed) (acts : List Act) (t : Thread) → IsNext set ds acts k n t → IsActed set ds acts k n t
   next_acted (next.Goes after) e ds acts t is = absurd (false≢true e)
   next_acted (next.Puts box root shape after) e ds acts t is = is
+  next_acted (next.PutWaits box root shape after) e ds acts t is = is
+  next_acted (next.Bounds box most after) e ds acts t is = is
   next_acted (next.Gets box after) e ds acts t is = is
   next_acted (next.Probes box after) e ds acts t is = is
   next_acted (next.Starts root shape after) e ds acts t is = is
@@ -133,6 +137,8 @@ module _ (set : Setting) (k : ℕ) where
   pub deed_acts : (n : Next) (d : Deed) (y : Done) → done_by set n d ≡ Some y → is_action n ≡ true
   deed_acts (next.Goes after) d y e = absurd (none-some y e)
   deed_acts (next.Puts box root shape after) d y e = refl
+  deed_acts (next.PutWaits box root shape after) d y e = refl
+  deed_acts (next.Bounds box most after) d y e = refl
   deed_acts (next.Gets box after) d y e = refl
   deed_acts (next.Probes box after) d y e = refl
   deed_acts (next.Starts root shape after) d y e = refl

@@ -99,6 +99,8 @@ module _ (set : Setting) (k : ℕ) (b : Beginning) where
     by_next : (l : Lone) → IsOf set k (course set k b ds) l → Lands set k l [] (acts_of ds []) t → (x : Next) → next_move set k l ≡ x → ((after : Lone) → next_move set k l ≡ next.Goes after → Reaches) → Reaches
     by_next l of lands (next.Goes after) e go = go after e
     by_next l of lands (next.Puts box root shape after) e go = stands l of (next.Puts box root shape after) e _ _ refl
+    by_next l of lands (next.PutWaits box root shape after) e go = stands l of (next.PutWaits box root shape after) e _ _ refl
+    by_next l of lands (next.Bounds box most after) e go = stands l of (next.Bounds box most after) e _ _ refl
     by_next l of lands (next.Gets box after) e go = stands l of (next.Gets box after) e _ _ refl
     by_next l of lands (next.Probes box after) e go = stands l of (next.Probes box after) e _ _ refl
     by_next l of lands (next.Starts root shape after) e go = stands l of (next.Starts root shape after) e _ _ refl

@@ -142,6 +142,8 @@ module _ (set : Setting) (k : ℕ) (b : Beginning) (ds : List Deed) (l : Lone) (
   wants_action : (n : Next) (x : Action × Option Lone) → wanted n ≡ Some x → is_action n ≡ true
   wants_action (next.Goes after) x e = absurd (none-some x e)
   wants_action (next.Puts box root shape after) x e = refl
+  wants_action (next.PutWaits box root shape after) x e = refl
+  wants_action (next.Bounds box most after) x e = refl
   wants_action (next.Gets box after) x e = refl
   wants_action (next.Probes box after) x e = refl
   wants_action (next.Starts root shape after) x e = refl

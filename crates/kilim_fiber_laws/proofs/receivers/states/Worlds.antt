@@ -63,6 +63,7 @@ module _ (set : Setting) where
 
       put_so : (box : BoxName) (shape : List Token) (n : ℕ) (act : Act) (rest : List Deed) → Shows w (put_by set w Stop go box shape n act rest)
       put_so box shape n (Put c k z) rest = tt
+      put_so box shape n (End why) rest = at_last cause.Full rest
       put_so box shape n act rest = tt
 
       puts_so : (box : BoxName) (n : ℕ) (o : Option (List Token)) → Shows w (puts set w Stop go box n o)

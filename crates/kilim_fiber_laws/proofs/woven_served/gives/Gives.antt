@@ -73,6 +73,8 @@ module _ (set : Setting) where
   module _ (w : World) (m : MethodId) (q : ℕ) (l s : List Value) (x : Value) (b : List Frame) where
     put_so : (box : BoxName) (shape : List Token) (n : ℕ) (act : Act) (rest : List Deed) → Hands (put_by set w Stop (λ after v. Run m q l (push v s) x b after) box shape n act rest)
     put_so box shape n (Put c k z) rest = tt
+    put_so box shape n (End c) [] = tt
+    put_so box shape n (End c) (d ∷ rest) = tt
     put_so box shape n act rest = tt
 
     start_so : (shape : List Token) (n : ℕ) (act : Act) (rest : List Deed) → Hands (start_by set w Stop (λ after v. Run m q l (push v s) x b after) shape n act rest)

@@ -11,7 +11,7 @@ use Rattle.kilim_run_journal.specs.Readable.{is_object, is_readable_act}
 use Rattle.kilim_program.specs.Program.{Program}
 use Rattle.kilim_run_model.specs.State.{Setting}
 use Rattle.kilim_run_model.specs.declared.deed.Deed.{Deed}
-use Rattle.kilim_run_model.specs.Course.{Course, Done, Follows, IsLone, done_by, next_action, probes_deed, puts_deed, starts_deed, takes_deed, tree_came}
+use Rattle.kilim_run_model.specs.Course.{Course, Done, Follows, IsLone, done_by, fills_deed, next_action, probes_deed, puts_deed, starts_deed, takes_deed, tree_came}
 use Rattle.kilim_run_model.specs.Lone.{Lone, Next}
 use Rattle.kilim_run_model.specs.Lone as next
 use Rattle.kilim_isolation_laws.proofs.at_rest.readable.Nexts.{CanRead, action_read}
@@ -40,6 +40,11 @@ puts_read : (p : Program) (box : BoxName) (root : ℕ) (shape : List Token) (l :
 puts_read p box root shape l (act.Put b n s) e = e
 puts_read p box root shape l a e = tt
 
+fills_read : (p : Program) (box : BoxName) (root : ℕ) (shape : List Token) (l : Lone) (a : Act) → is_object shape ≡ true → ReadDone (fills_deed p box root shape l a)
+fills_read p box root shape l (act.Put b n s) e = e
+fills_read p box root shape l (act.End why) e = refl
+fills_read p box root shape l a e = tt
+
 starts_read : (p : Program) (root : ℕ) (shape : List Token) (l : Lone) (a : Act) → is_object shape ≡ true → ReadDone (starts_deed p root shape l a)
 starts_read p root shape l (act.Start n s) e = e
 starts_read p root shape l (act.End why) e = refl
@@ -47,7 +52,9 @@ starts_read p root shape l a e = tt
 
 done_read : (set : Setting) (n : Next) (d : Deed) → CanRead n → ReadDone (done_by set n d)
 done_read set (next.Goes l) d c = tt
-done_read set (next.Puts box root shape l) d c = puts_read set.program box root shape l d.act c
+done_read set (next.Puts box root shape l) d c = fills_read set.program box root shape l d.act c
+done_read set (next.PutWaits box root shape l) d c = puts_read set.program box root shape l d.act c
+done_read set (next.Bounds box most l) d c = refl
 done_read set (next.Gets box l) d c = takes_read set.program box l d d.act
 done_read set (next.Probes box l) d c = probes_read set.program box l d d.act
 done_read set (next.Starts root shape l) d c = starts_read set.program root shape l d.act c

@@ -23,6 +23,7 @@ use Rattle.kilim_isolation_laws.proofs.at_rest.readable.Shapes.{shape_is_object}
 
 abbrev pub CanRead : Next → Type 0
 CanRead (next.Puts box root shape after) = is_object shape ≡ true
+CanRead (next.PutWaits box root shape after) = is_object shape ≡ true
 CanRead (next.Starts root shape after) = is_object shape ≡ true
 CanRead (next.Prints token after) = is_plain_value (token ∷ []) ≡ true
 CanRead x = Unit {0}
@@ -99,6 +100,8 @@ move_can set t l = thread_read set t l l.thread
 or_read : (n : Next) (go : Lone → Next) → CanRead n → ((l : Lone) → CanRead (go l)) → CanRead (next_or n go)
 or_read (next.Goes after) go c each = each after
 or_read (next.Puts box root shape after) go c each = c
+or_read (next.PutWaits box root shape after) go c each = c
+or_read (next.Bounds box most after) go c each = c
 or_read (next.Gets box after) go c each = c
 or_read (next.Probes box after) go c each = c
 or_read (next.Starts root shape after) go c each = c

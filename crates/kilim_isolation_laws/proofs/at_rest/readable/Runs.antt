@@ -12,7 +12,7 @@ use Rattle.kilim_run_journal.specs.declared.entry.Act.TheVariants as act
 use Rattle.kilim_run_journal.specs.declared.entry.Entry.{Entry}
 use Rattle.kilim_run_journal.specs.Readable.{IsReadable, is_readable_act}
 use Rattle.kilim_lemmas.proofs.Lists.{get_left, get_some, set_other, set_there}
-use Rattle.kilim_run_model.specs.State.{Setting, with_mailbox, with_message, with_queue}
+use Rattle.kilim_run_model.specs.State.{Setting, bounded, is_full, with_mailbox, with_message, with_queue}
 use Rattle.kilim_run_model.specs.declared.deed.Deed.{Deed}
 use Rattle.kilim_run_model.specs.Course.{Course, IsLone, has_ended, plain}
 use Rattle.kilim_run_model.specs.Lone.{Lone}
@@ -40,7 +40,7 @@ alone : (cs : List Course) → cs ≡ cs ++ []
 alone cs = sym (append-nil cs)
 
 put_longer : (b : Books) (t : ℕ) (c : Course) (box : BoxName) (n : ℕ) (shape : List Token) (mid : Books) → books_put b t c box n shape ≡ Some mid → Longer b t c (act.Put box n shape) mid
-put_longer b t c box n shape mid e = by (n == (b.mailboxes box).puts) e
+put_longer b t c box n shape mid e = by (n == (b.mailboxes box).puts && not (is_full (b.mailboxes box))) e
   where
     next : Books
     next = record { courses = with_deed b.courses t c (plain (act.Put box n shape)); mailboxes = with_mailbox b.mailboxes box (with_message (b.mailboxes box) shape) }
@@ -86,7 +86,10 @@ by_longer b t c (act.End why) mid e = by (is_tasks why && not (length b.courses 
     by true e = absurd (cc)
     by false e = longer b t c (act.End why) (plain (act.End why)) [] next mid refl (alone next.courses) e
 by_longer b t c (act.Wait box) mid e = absurd (cc)
-by_longer b t c (act.Bound box n) mid e = absurd (cc)
+by_longer b t c (act.Bound box n) mid e = longer b t c (act.Bound box n) (plain (act.Bound box n)) [] next mid refl (alone next.courses) e
+  where
+    next : Books
+    next = record { courses = with_deed b.courses t c (plain (act.Bound box n)); mailboxes = with_mailbox b.mailboxes box (bounded (b.mailboxes box) n) }
 
 -- ---- courses grow
 
