@@ -23,7 +23,7 @@ use Rattle.kilim_run_board.specs.declared.waiting.parked.Waiter.{Waiter}
 use Rattle.kilim_run_board.specs.waiting.Parked.{StandsBehind}
 use Rattle.kilim_run_board.proofs.Places.{front, stood_shuffled, only_there, is_alive as front_alive, lent, given_back, parked, acts, alone, wakes, Changes, ended, comes, less_due, unseen, at_rest, one_place, front_no}
 use Rattle.kilim_run_board.proofs.Dues.{put_changes, take_changes}
-use Rattle.kilim_run_board.proofs.waiting.Names.{both_ways, same_name, box_itself}
+use Rattle.kilim_run_board.proofs.waiting.Names.{both_ways, same_name}
 use Rattle.kilim_lemmas.proofs.Lists.{set_there, set_length, get_front, get_last}
 use Rattle.kilim_run_board.proofs.waiting.Lists.{get_set_other, get_past, got_within, length_pushed}
 use Rattle.kilim_run_board.proofs.Replays.{some_injective, ends_pushed, not_full, replay_on, replay_started}

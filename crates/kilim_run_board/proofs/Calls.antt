@@ -1,5 +1,5 @@
 -- Each call keeps what the board stands for, and its answer fits.
-use Rattle.std.proofs.Common.{◌≡◌, ℕ, suc, ◌+◌, ◌<◌, ◌≤◌, nat_lt, Bool, true, false, not, cond, ◌&&◌, ◌==◌, List, [], ◌∷◌, ◌++◌, Option, Some, None, refl, sym, ap, subst, ◌∙◌, ◌⊎◌, inl, inr, arith}
+use Rattle.std.proofs.Common.{◌≡◌, ℕ, ◌<◌, ◌≤◌, nat_lt, Bool, true, false, not, cond, ◌&&◌, ◌==◌, List, [], ◌∷◌, ◌++◌, Option, Some, None, refl, sym, ap, subst, ◌∙◌, ◌⊎◌, inl, inr, arith}
 use Rattle.std.specs.Prelude.{length, slice_get, slice_set, if◌then◌else◌}
 use Rattle.std.proofs.lemmas.Bool.Decides.{nat_tests}
 use Rattle.kilim_run_state.specs.declared.cause.EndCause.{EndCause}
@@ -26,7 +26,7 @@ use Rattle.kilim_run_board.specs.declared.fibers.Wants.TheVariants as wants
 use Rattle.kilim_run_board.specs.declared.board.Acted.{Acted}
 use Rattle.kilim_run_board.specs.declared.board.Acted.TheVariants as acted
 use Rattle.kilim_run_board.specs.Seen.{CourseAt, SameBoard, IsNumbered, ActAnswers, ActMeets, IsAnswered, wish_in}
-use Rattle.kilim_run_board.proofs.waiting.Names.{both_ways, same_name, box_itself}
+use Rattle.kilim_run_board.proofs.waiting.Names.{box_itself}
 use Rattle.kilim_lemmas.proofs.Lists.{set_there, get_front}
 use Rattle.kilim_run_board.proofs.waiting.Lists.{got_within}
 use Rattle.kilim_run_board.proofs.Replays.{some_injective, lone_of, books_on}

@@ -1,16 +1,16 @@
 -- What a put and a take change of what is due, and what is due where a task has to wait.
-use Rattle.std.proofs.Common.{◌≡◌, ℕ, zero, suc, ◌+◌, ◌-◌, ◌<◌, ◌≤◌, nat_le, Bool, true, false, cond, List, [], ◌∷◌, ◌++◌, Option, Some, None, length, refl, sym, ap, subst, ◌∙◌, ◌⊎◌, inl, inr, arith}
+use Rattle.std.proofs.Common.{◌≡◌, ℕ, zero, suc, ◌+◌, ◌-◌, ◌≤◌, Bool, true, false, List, [], ◌∷◌, ◌++◌, Option, Some, None, length, refl, sym, ap, ◌∙◌, ◌⊎◌, inl, inr, arith}
 use Rattle.std.specs.Prelude.{is_some, if◌then◌else◌}
 use Rattle.std.proofs.lemmas.Bool.Decides.{nat_tests}
 use Rattle.kilim_program.specs.declared.names.BoxName.{BoxName}
 use Rattle.kilim_run_state.specs.declared.value.Token.{Token}
-use Rattle.kilim_run_model.specs.State.{Mailbox, same_box, with_mailbox, with_message, with_queue, is_full, is_full_at}
+use Rattle.kilim_run_model.specs.State.{same_box, with_mailbox, with_message, with_queue, is_full, is_full_at}
 use Rattle.kilim_run_model.specs.declared.waits.Waits.{Waits}
 use Rattle.kilim_run_model.specs.declared.waits.Waits.TheVariants as wait
 use Rattle.kilim_run_board.specs.Places.{same_wait, is_at}
-use Rattle.kilim_run_board.specs.Board.{may_wait, room_at, due, due_in}
+use Rattle.kilim_run_board.specs.Board.{may_wait, room_at, due_in}
 use Rattle.kilim_run_board.specs.waiting.Mailboxes.{Post}
-use Rattle.kilim_run_board.proofs.Places.{Leaves, Changes, bit}
+use Rattle.kilim_run_board.proofs.Places.{Changes, bit}
 use Rattle.kilim_run_board.proofs.waiting.Names.{both_ways, same_name, box_itself}
 use Rattle.kilim_run_board.proofs.waiting.Lists.{length_pushed}
 

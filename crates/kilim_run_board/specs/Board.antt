@@ -8,7 +8,7 @@ use Rattle.kilim_run_state.specs.declared.value.Token.{Token}
 use Rattle.kilim_run_journal.specs.declared.entry.Act.{Act}
 use Rattle.kilim_run_journal.specs.declared.entry.Act.TheVariants.{Put, Take, Start, End}
 use Rattle.kilim_run_journal.specs.declared.entry.Entry.{Entry}
-use Rattle.kilim_run_model.specs.State.{Setting, same_box, with_mailbox, with_message, with_queue}
+use Rattle.kilim_run_model.specs.State.{Setting, with_mailbox, with_message, with_queue}
 use Rattle.kilim_run_model.specs.Runs.{wait_entry}
 use Rattle.kilim_run_board.specs.declared.waiting.parked.Waiter.{Waiter}
 use Rattle.kilim_run_board.specs.Places.{Ready, Lent, Parked, Place, Stood}

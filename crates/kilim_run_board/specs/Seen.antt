@@ -1,10 +1,9 @@
 -- The board of the program as contracts see it.
-use Rattle.std.specs.Prelude.{◌≡◌, ◌≢◌, ℕ, ◌+◌, ◌≤◌, ◌<◌, Bool, true, false, ◌==◌, if◌then◌else◌, List, [], ◌∷◌, Option, Some, None, length, slice_get, suc, ◌++◌, replicate}
+use Rattle.std.specs.Prelude.{◌≡◌, ◌≢◌, ℕ, ◌+◌, ◌≤◌, ◌<◌, Bool, true, false, ◌==◌, List, [], ◌∷◌, Option, Some, None, length, slice_get, ◌++◌, replicate}
 use Rattle.std.specs.Vec.{vec_capacity}
 use Rattle.std.specs.VecDeque.{deque_capacity}
 use Rattle.kilim_program.specs.declared.names.BoxName.{BoxName}
-use Rattle.kilim_run_model.specs.State.{is_full, same_box}
-use Rattle.kilim_run_board.specs.declared.waiting.parked.Waiter.{Waiter}
+use Rattle.kilim_run_model.specs.State.{is_full}
 use Rattle.kilim_run_board.specs.declared.board.Board as kept
 use Rattle.kilim_run_board.specs.declared.board.Lent.{Lent}
 use Rattle.kilim_run_board.specs.declared.board.Lent.TheVariants as lent

@@ -1,8 +1,7 @@
 -- A thread that is alone, and one that rests.
-use Rattle.std.proofs.Common.{◌≡◌, ℕ, zero, suc, ◌+◌, ◌<◌, ◌≤◌, Bool, true, false, cond, List, [], ◌∷◌, Option, Some, None, refl, sym, ap, subst, ◌∙◌, arith}
-use Rattle.std.specs.Prelude.{ℤ, nat_lt, nat_le, is_some, slice_get}
+use Rattle.std.proofs.Common.{◌≡◌, ℕ, zero, suc, ◌+◌, ◌≤◌, Bool, true, false, cond, List, [], ◌∷◌, Option, Some, None, refl, sym, ap, subst, ◌∙◌, arith}
+use Rattle.std.specs.Prelude.{ℤ, nat_lt, nat_le, is_some}
 use Rattle.std.proofs.lemmas.Bool.{le-leb}
-use Rattle.kilim_run_state.specs.declared.cause.EndCause.{EndCause}
 use Rattle.kilim_run_state.specs.declared.cause.EndCause.TheVariants as cause
 use Rattle.kilim_run_state.specs.declared.value.Token.{Token}
 use Rattle.kilim_program.specs.Program.{Program}
@@ -17,10 +16,10 @@ use Rattle.kilim_run_machine.specs.Moves.{Move, moves, push_value}
 use Rattle.kilim_run_machine.specs.Moves as move
 use Rattle.kilim_run_state.specs.Shapes.{shape_of}
 use Rattle.kilim_run_model.specs.State.{Setting, Thread, Alive, Ended, State, begun_on, is_full}
-use Rattle.kilim_run_model.specs.Lone.{Lone, Next, Goes, Puts, PutWaits, Bounds, Gets, Probes, Starts, Prints, Ends, Stands, box_limit, went, pushed, pushed_on, over, put_next, message_next, start_next, print_next, printed, arg_next, arg_at, native_next, asks_next, opens_next, begins_next, finish_next, on_heap, next_by, frames_next, thread_next, next_move, get_at}
+use Rattle.kilim_run_model.specs.Lone.{Lone, Next, Goes, Puts, PutWaits, Bounds, Gets, Probes, Starts, Prints, Ends, Stands, box_limit, went, pushed_on, over, put_next, message_next, start_next, print_next, printed, arg_next, arg_at, native_next, asks_next, begins_next, finish_next, on_heap, next_by, frames_next, thread_next, next_move, get_at}
 use Rattle.kilim_run_model.specs.Turn.{quiet, gets, lone_of, moved_by, thread_moved, moved, puts, with_lone}
-use Rattle.kilim_run_model.specs.Runs.{where_empty, if_waits, waits_at, is_at_rest}
-use Rattle.kilim_run_model.specs.Course.{Deed, Course, next_or, next_within, next_action, done_by, Done, Follows, IsLone, lone_begun}
+use Rattle.kilim_run_model.specs.Runs.{where_empty, if_waits}
+use Rattle.kilim_run_model.specs.Course.{Deed, next_or, next_within, next_action, Done, Follows}
 use Rattle.kilim_run_model.specs.Alone.{NextComes, OneLone, RestsStill}
 
 -- ---- where a thread goes on by itself, it has counted one instruction more

@@ -1,11 +1,11 @@
 -- A tree of a shape is built under any names.
-use Rattle.std.proofs.Common.{◌≡◌, ℕ, zero, suc, ◌+◌, Bool, true, false, cond, List, [], ◌∷◌, ◌++◌, length, length-append, Option, Some, None, refl, sym, ap, subst, ◌∙◌, arith}
+use Rattle.std.proofs.Common.{◌≡◌, ℕ, zero, suc, ◌+◌, Bool, true, false, cond, List, [], ◌∷◌, length, length-append, Option, Some, None, refl, sym, ap, subst, ◌∙◌, arith}
 use Rattle.kilim_program.specs.Program.{Program}
 use Rattle.kilim_program.specs.declared.ty.Ty.{Ty}
 use Rattle.kilim_run_state.specs.declared.value.Object.{Object}
 use Rattle.kilim_run_state.specs.declared.value.Token.{Token}
 use Rattle.kilim_run_state.specs.declared.value.Token.TheVariants as token
-use Rattle.kilim_run_state.specs.Trees.{Read, Reads, Root, type_named, object_of, closed, behind, and_then, read_value, read_values, is_allowed, root_alone, built}
+use Rattle.kilim_run_state.specs.Trees.{Read, Reads, type_named, closed, behind, and_then, read_value, read_values, is_allowed, root_alone, built}
 use Rattle.kilim_run_model.specs.Alone.{BuiltAnywhere}
 
 -- what was read under other names: as many objects, and the same is left

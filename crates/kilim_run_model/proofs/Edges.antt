@@ -1,22 +1,21 @@
 -- The machine at its edges.
-use Rattle.std.proofs.Common.{◌≡◌, ℕ, suc, ◌+◌, ◌<◌, ◌≤◌, Bool, true, false, cond, List, [], ◌∷◌, Option, Some, None, length, refl, sym, ap, ◌∙◌, arith}
+use Rattle.std.proofs.Common.{◌≡◌, ℕ, ◌<◌, ◌≤◌, Bool, true, cond, List, [], ◌∷◌, Option, Some, None, length, refl, ap, ◌∙◌, arith}
 use Rattle.std.specs.Prelude.{◌==◌, ◌&&◌, ℤ, pos, nat_lt, nat_le, count_by}
 use Rattle.std.proofs.lemmas.Bool.{lt-leb, le-leb, lt-ltb, le-ltb, eq-eqb}
-use Rattle.kilim_run_state.specs.declared.cause.EndCause.TheVariants.{Boxes, Depth, Done, Index, Large, Null, Spent, Tasks}
+use Rattle.kilim_run_state.specs.declared.cause.EndCause.TheVariants.{Depth, Spent, Tasks}
 use Rattle.kilim_run_state.specs.declared.value.Token.{Token}
 use Rattle.kilim_program.specs.declared.value.Value.TheVariants as value
 use Rattle.kilim_program.specs.declared.names.BoxName.{BoxName}
 use Rattle.kilim_program.specs.Names.{◌>>=◌}
-use Rattle.kilim_run_journal.specs.declared.entry.Act.{Act}
 use Rattle.kilim_run_journal.specs.declared.entry.Act.TheVariants.{Start, End}
 use Rattle.kilim_run_state.specs.Machine.{Activation}
 use Rattle.kilim_run_machine.specs.Moves.{Move, called, entered, receiver_of, Enters}
 use Rattle.kilim_run_machine.specs.Moves as move
 use Rattle.kilim_run_state.specs.Shapes.{tree_limit, is_open, shape_by}
-use Rattle.kilim_run_model.specs.State.{Setting, Thread, Alive, State, same_box, with_queue, execute_frames}
-use Rattle.kilim_run_model.specs.Lone.{Lone, Next, Goes, ended, pushed, narrowed, over, frames_next, thread_next, next_move, get_at, message_next, put_next, start_next, arg_next, arg_at}
+use Rattle.kilim_run_model.specs.State.{Alive, same_box, with_queue, execute_frames}
+use Rattle.kilim_run_model.specs.Lone.{Next, Goes, ended, pushed, narrowed, over, frames_next, next_move, get_at, put_next, start_next, arg_next, arg_at}
 use Rattle.kilim_run_model.specs.declared.waits.Waits.TheVariants as wait
-use Rattle.kilim_run_model.specs.Turn.{Moved, acted, lone_of, with_lone, starts, starts_with, moved_by}
+use Rattle.kilim_run_model.specs.Turn.{acted, lone_of, with_lone, starts_with, moved_by}
 use Rattle.kilim_run_model.specs.Runs.{where_empty, if_waits, waits_at}
 use Rattle.kilim_run_model.specs.Edges.{EdgesHold, FirstIsTaken, LastFrame, LastTask, LargestTree, LastStep, NullThenLargeThenTasks, Arguments, WhoWaits}
 

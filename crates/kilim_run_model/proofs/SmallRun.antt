@@ -22,9 +22,9 @@ use Rattle.kilim_run_state.specs.Objects.{new_object}
 use Rattle.kilim_run_model.specs.State.{is_fit, Setting, Alive, Ended, State, empty_mailbox, first_state}
 use Rattle.kilim_run_model.specs.Lone.{next_move}
 use Rattle.kilim_run_model.specs.Turn.{moved, quiet, acted}
-use Rattle.kilim_run_model.specs.Runs.{acted_within, before_action, Replays, AtRest, Whole}
+use Rattle.kilim_run_model.specs.Runs.{acted_within, before_action, Replays, Whole}
 use Rattle.kilim_run_model.specs.Small.{Small, print_int, print_code, small_constructor, small_execute, small_program, small_setting, print_entry, done_entry, small_journal}
-use Rattle.kilim_run_model.proofs.Steps.{step, quietly, at_once, ended_settles}
+use Rattle.kilim_run_model.proofs.Steps.{step, quietly, at_once}
 
 -- ---- places in the code
 

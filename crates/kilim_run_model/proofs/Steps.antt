@@ -15,9 +15,9 @@ use Rattle.kilim_run_machine.specs.Effect.{Effect}
 use Rattle.kilim_run_machine.specs.Does.{does}
 use Rattle.kilim_program.specs.Lengths.{fetched}
 use Rattle.kilim_run_machine.specs.Moves.{effect_found, effect_in, effect_of, move_by, moves}
-use Rattle.kilim_run_model.specs.State.{Setting, Thread, Alive, Ended, State, noted}
-use Rattle.kilim_run_model.specs.Lone.{Lone, Next, over, next_by, frames_next, thread_next, next_move}
-use Rattle.kilim_run_model.specs.Turn.{Moved, quiet, acted, lone_of, moved_by, thread_moved, moved}
+use Rattle.kilim_run_model.specs.State.{Setting, Alive, Ended, State, noted}
+use Rattle.kilim_run_model.specs.Lone.{Lone, over, next_by, frames_next, thread_next, next_move}
+use Rattle.kilim_run_model.specs.Turn.{quiet, acted, lone_of, moved_by, thread_moved, moved}
 use Rattle.kilim_run_model.specs.Runs.{acted_or, acted_within, before_action, Replays}
 
 -- the effect is that of the instruction that stands at the frame's place

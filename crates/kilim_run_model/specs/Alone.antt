@@ -1,5 +1,5 @@
 -- Laws of a thread that is alone, and of one that rests.
-use Rattle.std.specs.Prelude.{◌≡◌, ℕ, ◌<◌, true, List, Option, Some, length, slice_get}
+use Rattle.std.specs.Prelude.{◌≡◌, ℕ, ◌<◌, true, List, Some, length, slice_get}
 use Rattle.kilim_program.specs.Program.{Program}
 use Rattle.kilim_run_state.specs.declared.value.Object.{Object}
 use Rattle.kilim_run_state.specs.declared.value.Token.{Token}

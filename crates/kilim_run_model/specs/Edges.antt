@@ -1,5 +1,5 @@
 -- The machine at its edges: each fact beside its neighbour, where something else happens.
-use Rattle.std.specs.Prelude.{◌≡◌, ℕ, suc, ◌+◌, ◌<◌, ◌≤◌, ◌∷◌, ◌++◌, ℤ, pos, negsuc, List, [], Option, Some, None, length, count_by, codes}
+use Rattle.std.specs.Prelude.{◌≡◌, ℕ, suc, ◌+◌, ◌<◌, ◌≤◌, ◌∷◌, ℤ, pos, negsuc, List, [], Option, Some, None, length, count_by}
 use Rattle.kilim_run_state.specs.declared.cause.EndCause.TheVariants.{Boxes, Depth, Done, Index, Large, Null, Spent, Tasks}
 use Rattle.kilim_program.specs.Program.{Program}
 use Rattle.kilim_program.specs.declared.names.BoxName.{BoxName}
@@ -15,9 +15,9 @@ use Rattle.kilim_run_machine.specs.Moves.{called, entered, receiver_of, push_val
 use Rattle.kilim_run_machine.specs.Moves as move
 use Rattle.kilim_run_machine.specs.Natives as native
 use Rattle.kilim_run_state.specs.Shapes.{value_tokens, tree_limit, is_open, shape_by, shape_of}
-use Rattle.kilim_run_model.specs.State.{Setting, Mailbox, empty_mailbox, with_message, Thread, Alive, Ended, State, execute_frames}
-use Rattle.kilim_run_model.specs.Lone.{Lone, Next, Goes, Gets, Ends, went, pushed, ended, over, raised, native_next, opens_next, begins_next, finish_next, frames_next, thread_next, next_move, printed, arg_at}
-use Rattle.kilim_run_model.specs.Turn.{Moved, quiet, acted, lone_of, with_lone, gets, probes, starts, moved_by}
+use Rattle.kilim_run_model.specs.State.{Setting, empty_mailbox, with_message, Alive, State, execute_frames}
+use Rattle.kilim_run_model.specs.Lone.{Lone, Goes, Gets, went, pushed, ended, over, raised, native_next, opens_next, begins_next, finish_next, frames_next, thread_next, next_move, printed}
+use Rattle.kilim_run_model.specs.Turn.{quiet, acted, lone_of, with_lone, gets, probes, starts, moved_by}
 use Rattle.kilim_run_model.specs.Runs.{waits_at}
 
 -- ---- limits

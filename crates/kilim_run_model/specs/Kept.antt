@@ -1,5 +1,5 @@
 -- What accepted code keeps: whatever a thread reaches is in its own heap, and what it gives away next is a whole tree.
-use Rattle.std.specs.Prelude.{◌≡◌, ℕ, zero, suc, ◌<◌, ◌==◌, ◌⊎◌, true, List, [], ◌∷◌, Option, Some, None}
+use Rattle.std.specs.Prelude.{◌≡◌, ℕ, ◌==◌, ◌⊎◌, true, List, [], ◌∷◌, Option, Some, None}
 use Rattle.std.specs.FinMap.{get}
 use Rattle.kilim_program.specs.Program.{Program}
 use Rattle.kilim_program.specs.declared.names.FieldId.{FieldId}
@@ -15,7 +15,7 @@ use Rattle.kilim_run_machine.specs.Moves.{Move, moves}
 use Rattle.kilim_run_machine.specs.Moves as move
 use Rattle.kilim_run_state.specs.Shapes.{field_in, fields_in_order, shape_of}
 use Rattle.kilim_run_state.specs.Trees.{Root, OfMessage, OfTask, is_allowed, tree_names, object_of, type_named}
-use Rattle.kilim_run_model.specs.State.{Setting, Thread, Alive, Ended}
+use Rattle.kilim_run_model.specs.State.{Setting, Alive}
 use Rattle.kilim_run_model.specs.Lone.{Lone}
 use Rattle.kilim_run_model.specs.Course.{Course, IsLone, Quiet}
 use Rattle.kilim_run_model.specs.Reach.{Liveness, OptionNames, Below}

@@ -1,9 +1,9 @@
 -- What waits in a mailbox are the puts that weren't taken, in order.
-use Rattle.std.proofs.Common.{◌≡◌, ℕ, zero, suc, ◌+◌, ◌<◌, List, [], ◌∷◌, ◌++◌, Option, Some, None, refl, sym, ap, subst, ◌∙◌, arith}
+use Rattle.std.proofs.Common.{◌≡◌, ℕ, suc, ◌+◌, ◌<◌, List, [], ◌∷◌, ◌++◌, Option, Some, None, sym, subst, ◌∙◌, arith}
 use Rattle.kilim_run_state.specs.declared.value.Object.{Object}
-use Rattle.kilim_run_journal.specs.OneThread.{Note, Puts, Takes, Empties, AreInOrder, AreOneThread}
+use Rattle.kilim_run_journal.specs.OneThread.{Note, Puts, Takes, Empties, AreInOrder}
 use Rattle.kilim_run_board.specs.mailbox.Mailbox.{Content}
-use Rattle.kilim_run_board.specs.mailbox.Calls.{IsCall, AreCalls, notes_of_calls, CallsAreOneThread}
+use Rattle.kilim_run_board.specs.mailbox.Calls.{AreCalls, notes_of_calls, CallsAreOneThread}
 
 -- the numbers from so many takes up to so many puts
 abbrev Waits : ℕ → ℕ → List (ℕ × List Object) → Type 0

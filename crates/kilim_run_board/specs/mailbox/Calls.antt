@@ -1,5 +1,5 @@
 -- Calls of a mailbox, one after the other.
-use Rattle.std.specs.Prelude.{◌≡◌, ℕ, ◌+◌, List, [], ◌∷◌, ◌++◌, Option, Some, None}
+use Rattle.std.specs.Prelude.{◌≡◌, ◌+◌, List, [], ◌∷◌, ◌++◌, Option, Some, None}
 use Rattle.kilim_run_state.specs.declared.value.Object.{Object}
 use Rattle.kilim_run_journal.specs.OneThread.{Note, Puts, Takes, Empties, AreOneThread}
 use Rattle.kilim_run_board.specs.mailbox.Mailbox.{Content}

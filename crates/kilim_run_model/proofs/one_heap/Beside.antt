@@ -19,7 +19,7 @@ use Rattle.kilim_run_model.specs.Turn.{task_limit, moved}
 use Rattle.kilim_run_model.specs.Turn as one_turn
 use Rattle.kilim_run_model.specs.Runs.{Replays}
 use Rattle.kilim_run_model.specs.Runs as shared
-use Rattle.kilim_run_model.specs.Course.{Course, IsLone, next_action, tree_left, lone_begun}
+use Rattle.kilim_run_model.specs.Course.{next_action, tree_left, lone_begun}
 use Rattle.kilim_run_model.specs.Moving.{Books, first_books, books_after, books_from, FullHere, FullSaid}
 use Rattle.kilim_run_model.specs.declared.deed.Beginning.TheVariants.{Boot, Begun}
 use Rattle.kilim_run_model.specs.Reach.{Liveness}

@@ -23,8 +23,8 @@ use Rattle.kilim_program.specs.Members.{execute_of}
 use Rattle.kilim_run_state.specs.Trees.{Root, OfMessage, tree_names, value_names, names_in, without, with_objects, built}
 use Rattle.kilim_run_state.specs.Trees as trees
 use Rattle.kilim_run_state.specs.Shapes.{tree_limit}
-use Rattle.kilim_run_journal.specs.declared.entry.Act.TheVariants.{Put, Take, Start, Print, End, Bound}
-use Rattle.kilim_run_model.specs.State.{Setting, Thread, Alive, Ended, State, Mailbox, begun_on, class_of, execute_frames, with_message, with_queue, with_mailbox, is_full, is_full_at, bounded}
+use Rattle.kilim_run_journal.specs.declared.entry.Act.TheVariants.{Put, Take, Start, Print, End}
+use Rattle.kilim_run_model.specs.State.{Setting, Thread, Alive, Ended, State, Mailbox, begun_on, class_of, execute_frames, with_message, with_queue, with_mailbox, is_full, is_full_at}
 use Rattle.kilim_run_model.specs.Lone.{Lone, Next, pushed, pushed_on, ended, next_move}
 use Rattle.kilim_run_model.specs.Lone as next
 use Rattle.kilim_run_model.specs.Turn.{Moved, kept_by, lone_of, task_limit, moved_by, thread_moved, moved}
