@@ -31,7 +31,7 @@ use Rattle.kilim_lemmas.proofs.Lists.{set_there, get_front}
 use Rattle.kilim_run_board.proofs.waiting.Lists.{got_within}
 use Rattle.kilim_run_board.proofs.Replays.{some_injective, lone_of, books_on}
 use Rattle.kilim_run_model.proofs.Alone.{one_lone}
-use Rattle.kilim_run_board.proofs.Deeds.{IsDone, put_done, take_done, probe_done, empty_done, start_done, full_done, print_done, end_done, never_tasks}
+use Rattle.kilim_run_board.proofs.Deeds.{IsDone, put_done, take_done, probe_done, empty_done, start_done, full_done, filled_done, print_done, end_done, never_tasks}
 use Rattle.kilim_run_board.proofs.Boards.{same_board, lent_first, back_ready, back_parked, stopped_board, noted_board, put_stands, taken_board, ended_board, started_board, get_of_wish, wait_of_wish, full_alike, holds_with}
 use Rattle.kilim_run_model.specs.Lone.{Lone}
 use Rattle.kilim_run_model.specs.Course.{next_action, Course, IsLone, is_end, stands_at, plain}
@@ -43,9 +43,10 @@ use Rattle.kilim_run_board.specs.fibers.Wishes.{IsMessage, Wish, ToPut, ToTake, 
 abbrev bit : Bool → ℕ
 bit b = cond b 1 0
 
-at_most_one : (b : Bool) → bit b ≤ 1
-at_most_one true = omega arith
-at_most_one false = omega arith
+-- the mailbox of a put
+abbrev put_box : BoxName → Wish → BoxName
+put_box other (ToPut box shape) = box
+put_box other wish = other
 
 module _ {F : Type 0} (task : F → ℕ) (course : F → Course) (holds : Setting → F → Lone → Type 0) (set : Setting) where
   abbrev Stand : Board F → Type 0
@@ -265,6 +266,14 @@ module _ {F : Type 0} (task : F → ℕ) (course : F → Course) (count : F → 
   act_stands b b' seat t c (wants.Put box tree shape) (acted.Answer answer.Nothing) did lent at meets st = absurd did
   act_stands b b' seat t c (wants.Put box tree shape) (acted.Answer (answer.Started k)) did lent at meets st = absurd did
   act_stands b b' seat t c (wants.Put box tree shape) acted.OutOfTasks did lent at meets st = absurd did
+  act_stands b b' seat t c (wants.Put box tree shape) acted.OutOfRoom did lent at meets st =
+      let l = lone task course holds set b b' st seat t lent c at (ToPut box shape) meets.0 in
+      let n = next task course holds set b b' st seat t lent c at (ToPut box shape) meets.0 in
+      let same : is_full (b.mails box) ≡ is_full (st.state.books.mailboxes box) = full_alike set.program (b.mails box) (st.state.books.mailboxes box) (st.mails box) in (
+        ends_stands task course holds set b b' st seat t lent c at (ToPut box shape) meets.0 cause.Full
+            (λ other x e. ap (λ (z : BoxName). is_full (st.state.books.mailboxes z)) (sym (ap (put_box other) e)) ∙ (sym same ∙ did.0)) (filled_done set (next_action set t l.0) box shape n) refl (λ is. absurd (cc)) did.1,
+        tt,
+      )
   act_stands b b' seat t c (wants.Take box) (acted.Answer (answer.Message tree n)) did lent at meets st =
       let r = takes_stands task course holds set b b' st seat t lent c at (ToTake box) meets box n tree did.0 (inl refl) did.1 in
       (r.0, (Some (record { act = act.Take box n; taken = r.1.0 }), (r.1.0, r.1.1, refl), r.1.2))
@@ -273,6 +282,7 @@ module _ {F : Type 0} (task : F → ℕ) (course : F → Course) (count : F → 
   act_stands b b' seat t c (wants.Take box) (acted.Answer answer.Done) did lent at meets st = absurd did
   act_stands b b' seat t c (wants.Take box) (acted.Answer (answer.Sent n)) did lent at meets st = absurd did
   act_stands b b' seat t c (wants.Take box) (acted.Answer (answer.Started k)) did lent at meets st = absurd did
+  act_stands b b' seat t c (wants.Take box) acted.OutOfRoom did lent at meets st = absurd did
   act_stands b b' seat t c (wants.Take box) acted.OutOfTasks did lent at meets st = absurd did
   act_stands b b' seat t c (wants.Probe box) (acted.Answer (answer.Message tree n)) did lent at meets st =
       let r = takes_stands task course holds set b b' st seat t lent c at (ToProbe box) meets box n tree did.0 (inr refl) did.1 in
@@ -282,10 +292,12 @@ module _ {F : Type 0} (task : F → ℕ) (course : F → Course) (count : F → 
   act_stands b b' seat t c (wants.Probe box) (acted.Answer answer.Done) did lent at meets st = absurd did
   act_stands b b' seat t c (wants.Probe box) (acted.Answer (answer.Sent n)) did lent at meets st = absurd did
   act_stands b b' seat t c (wants.Probe box) (acted.Answer (answer.Started k)) did lent at meets st = absurd did
+  act_stands b b' seat t c (wants.Probe box) acted.OutOfRoom did lent at meets st = absurd did
   act_stands b b' seat t c (wants.Probe box) acted.OutOfTasks did lent at meets st = absurd did
   act_stands b b' seat t c (wants.Start f shape) (acted.Answer (answer.Started k)) did lent at meets st =
       let r = starts_stands task course holds set b b' st seat t lent c at (ToStart shape) meets.0 did.0 shape refl did.3 (did.1.number ∙ did.2) (did.1.same ∙ meets.1) (did.1.stands set meets.2) did.4 in
       (r.0, (Some (plain (act.Start k shape)), refl, subst (λ n. CourseAt b' t (further c (plain (act.Start n shape)))) (sym did.2) r.1))
+  act_stands b b' seat t c (wants.Start f shape) acted.OutOfRoom did lent at meets st = absurd did
   act_stands b b' seat t c (wants.Start f shape) acted.OutOfTasks did lent at meets st =
       let l = lone task course holds set b b' st seat t lent c at (ToStart shape) meets.0 in
       let n = next task course holds set b b' st seat t lent c at (ToStart shape) meets.0 in
@@ -300,6 +312,7 @@ module _ {F : Type 0} (task : F → ℕ) (course : F → Course) (count : F → 
   act_stands b b' seat t c (wants.Print shape) (acted.Answer (answer.Message x n)) did lent at meets st = absurd did
   act_stands b b' seat t c (wants.Print shape) (acted.Answer answer.Nothing) did lent at meets st = absurd did
   act_stands b b' seat t c (wants.Print shape) (acted.Answer (answer.Started k)) did lent at meets st = absurd did
+  act_stands b b' seat t c (wants.Print shape) acted.OutOfRoom did lent at meets st = absurd did
   act_stands b b' seat t c (wants.Print shape) acted.OutOfTasks did lent at meets st = absurd did
   act_stands b b' seat t c (wants.Rest waits) a did lent at meets st = absurd meets
   act_stands b b' seat t c (wants.End why) (acted.Answer answer.Done) did lent at meets st =
@@ -310,4 +323,5 @@ module _ {F : Type 0} (task : F → ℕ) (course : F → Course) (count : F → 
   act_stands b b' seat t c (wants.End why) (acted.Answer (answer.Message x n)) did lent at meets st = absurd did
   act_stands b b' seat t c (wants.End why) (acted.Answer answer.Nothing) did lent at meets st = absurd did
   act_stands b b' seat t c (wants.End why) (acted.Answer (answer.Started k)) did lent at meets st = absurd did
+  act_stands b b' seat t c (wants.End why) acted.OutOfRoom did lent at meets st = absurd did
   act_stands b b' seat t c (wants.End why) acted.OutOfTasks did lent at meets st = absurd did

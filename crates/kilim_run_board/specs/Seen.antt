@@ -70,6 +70,7 @@ pub record IsNumbered {F : Type 0} (task : F → ℕ) (course : F → Course) (c
 
 abbrev pub ActAnswers : {F : Type 0} → (F → F → ℕ → Type 0) → Board F → (seat t : ℕ) → Board F → Wants F → Acted → Type 0
 ActAnswers numbered b seat t b' (wants.Put box tree shape) (acted.Answer (answer.Sent n)) = (n ≡ (b.mails box).puts) × (is_full (b.mails box) ≡ false) × PutsMessage b t b' box tree shape
+ActAnswers numbered b seat t b' (wants.Put box tree shape) acted.OutOfRoom = (is_full (b.mails box) ≡ true) × EndsTask b seat t b' cause.Full
 ActAnswers numbered b seat t b' (wants.Take box) (acted.Answer (answer.Message tree n)) = (rest : List (ℕ × Tree)) × TakesMessage b t b' box n tree rest
 ActAnswers numbered b seat t b' (wants.Take box) (acted.Answer answer.Nothing) = ((b.mails box).queue ≡ []) × SameBoard b b'
 ActAnswers numbered b seat t b' (wants.Probe box) (acted.Answer (answer.Message tree n)) = (rest : List (ℕ × Tree)) × TakesMessage b t b' box n tree rest
@@ -131,6 +132,7 @@ IsAnswered set b' t c (Some (ToEnd why)) (acted.Answer a) = Unit {0}
 IsAnswered set b' t c (Some wish) (acted.Answer a) = (deed : Option Deed) × Fits set.program wish a deed × CourseAt b' t (course_after c deed)
 IsAnswered set b' t c None (acted.Answer a) = ⊥
 IsAnswered set b' t c wish acted.OutOfTasks = Unit {0}
+IsAnswered set b' t c wish acted.OutOfRoom = Unit {0}
 
 abbrev pub ProbeAnswers : {F : Type 0} → Board F → ℕ → Board F → BoxName → Acted → Type 0
 ProbeAnswers b t b' box (acted.Answer (answer.Message tree n)) = (rest : List (ℕ × Tree)) × TakesMessage b t b' box n tree rest

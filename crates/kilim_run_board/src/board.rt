@@ -62,6 +62,8 @@ pub enum Acted {
     Answer(Answer),
     /// A start where 10,000 tasks are there: the task has ended.
     OutOfTasks,
+    /// A put into a mailbox that is full: the task has ended.
+    OutOfRoom,
 }
 
 // Whether no fiber is lent.
@@ -140,13 +142,13 @@ impl<F: Fibers> Board<F> {
         self.stopped = true;
     }
 
-    // A put.
+    // A put into a mailbox that isn't full.
     fn put(&mut self, task: u32, mailbox: BoxName, tree: Tree, shape: Shape) -> u64
         requires roomy { IsRoomy self.old }
         requires journal { length self.old.journal.items < vec_capacity self.old.journal }
         requires room { HasRoom self.old.mailboxes mailbox }
+        requires free { is_full ((seen self.old).mails mailbox) ≡ false }
         ensures number { result ≡ ((seen self.old).mails mailbox).puts }
-        ensures free { is_full ((seen self.old).mails mailbox) ≡ false }
         ensures effect { PutsMessage (seen self.old) task (seen self.new) mailbox tree shape }
         ensures roomy { IsRoomy self.new }
     {
@@ -237,8 +239,8 @@ impl<F: Fibers> Board<F> {
     }
 
     /// The act of the task that is lent to the seat, for which there is room: one entry of the journal, but none for a take on an
-    /// empty mailbox, which is answered `Nothing`. A start where 10,000 tasks are there is the task's end, `OutOfTasks`; an end
-    /// empties the cell. Takes no memory.
+    /// empty mailbox, which is answered `Nothing`. A start where 10,000 tasks are there is the task's end, `OutOfTasks`, and so is
+    /// a put into a full mailbox, `OutOfRoom`; an end empties the cell. Takes no memory.
     pub fn act(&mut self, seat: usize, wants: Wants<F>) -> Acted
         requires lent { (t : ℕ) × (slice_get self.old.cells.items seat ≡ Some (Some t)) }
         requires roomy { IsRoomy self.old }
@@ -265,9 +267,7 @@ impl<F: Fibers> Board<F> {
         ensures roomy { IsRoomy self.new }
     {
         match wants {
-            Wants::Put(mailbox, tree, shape) => Acted::Answer(Answer::Sent(self.put(
-                task, mailbox, tree, shape,
-            ))),
+            Wants::Put(mailbox, tree, shape) => self.put_or_end(seat, task, mailbox, tree, shape),
             Wants::Take(mailbox) => match self.take(task, mailbox) {
                 Some((number, tree)) => Acted::Answer(Answer::Message(tree, number)),
                 None => Acted::Answer(Answer::Nothing),
@@ -283,6 +283,29 @@ impl<F: Fibers> Board<F> {
                 self.end(seat, task, cause);
                 Acted::Answer(Answer::Done)
             }
+        }
+    }
+
+    // A put, or the end of the task where the mailbox is full.
+    fn put_or_end(
+        &mut self,
+        seat: usize,
+        task: u32,
+        mailbox: BoxName,
+        tree: Tree,
+        shape: Shape,
+    ) -> Acted
+        requires lent { slice_get self.old.cells.items seat ≡ Some (Some task) }
+        requires roomy { IsRoomy self.old }
+        requires room { (length self.old.journal.items < vec_capacity self.old.journal) × HasRoom self.old.mailboxes mailbox }
+        ensures effect { ActAnswers (IsNumbered F.task_of F.course_of F.count_of F.refused F.holds) (seen self.old) seat task (seen self.new) (wanted.Put mailbox tree shape) result }
+        ensures roomy { IsRoomy self.new }
+    {
+        if self.mailboxes.is_full(mailbox) {
+            self.end(seat, task, EndCause::Full);
+            Acted::OutOfRoom
+        } else {
+            Acted::Answer(Answer::Sent(self.put(task, mailbox, tree, shape)))
         }
     }
 

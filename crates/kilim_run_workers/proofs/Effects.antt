@@ -89,6 +89,7 @@ module _ {F : Type 0} (b b' : Board F) (seat : ℕ) where
     acted_as numbered t c (wants.Probe box) (acted.Answer answer.Nothing) there did ans = λ set is. let x = ans set is in (x.0, x.1, lent_cell b' seat t (course_after c x.0) (ap (λ cs. slice_get cs seat) did.1.spots.cells ∙ there) x.2)
     acted_as numbered t c (wants.Start f shape) (acted.Answer (answer.Started k)) there did ans = λ set is. let x = ans set is in (x.0, x.1, lent_cell b' seat t (course_after c x.0) (ap (λ cs. slice_get cs seat) did.4.cells ∙ there) x.2)
     acted_as numbered t c (wants.Start f shape) acted.OutOfTasks there did ans = emptied (Some t) there did.1.cells
+    acted_as numbered t c (wants.Put box tree shape) acted.OutOfRoom there did ans = emptied (Some t) there did.1.cells
     acted_as numbered t c (wants.Print shape) (acted.Answer answer.Done) there did ans = λ set is. let x = ans set is in (x.0, x.1, lent_cell b' seat t (course_after c x.0) (ap (λ cs. slice_get cs seat) did.spots.cells ∙ there) x.2)
     acted_as numbered t c (wants.End why) (acted.Answer answer.Done) there did ans = emptied (Some t) there did.cells
     acted_as numbered t c _ _ there did ans = absurd did

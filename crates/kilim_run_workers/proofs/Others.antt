@@ -226,6 +226,7 @@ module _ {F : Type 0} (b b' : Board F) (seat : ℕ) where
     act_others numbered t (wants.Probe box) (acted.Answer answer.Nothing) lent did = entry_made t _ lent did.1.journal (inl did.1.spots.cells)
     act_others numbered t (wants.Start f shape) (acted.Answer (answer.Started k)) lent did = entry_made t _ lent did.4.journal (inl did.4.cells)
     act_others numbered t (wants.Start f shape) acted.OutOfTasks lent did = entry_made t _ lent did.1.journal (inr did.1.cells)
+    act_others numbered t (wants.Put box tree shape) acted.OutOfRoom lent did = entry_made t _ lent did.1.journal (inr did.1.cells)
     act_others numbered t (wants.Print shape) (acted.Answer answer.Done) lent did = entry_made t _ lent did.journal (inl did.spots.cells)
     act_others numbered t (wants.End why) (acted.Answer answer.Done) lent did = entry_made t _ lent did.journal (inr did.cells)
     act_others numbered t _ _ lent did = absurd did

@@ -12,11 +12,12 @@ use Rattle.kilim_run_board.specs.declared.board.Acted.TheVariants as acted
 use Rattle.kilim_run_board.specs.Seen.{RestsAs, wish_in}
 use Rattle.kilim_run_workers.proofs.one_worker.Steps.{IsGoing}
 use Rattle.kilim_run_workers.specs.Codes.{lent_numbers}
+use Rattle.kilim_run_workers.proofs.one_worker.Measures.{IsOver}
 use Rattle.kilim_run_workers.specs.Runs.{fiber_numbers, AllStand, ActedAs, RunsOn}
 use Rattle.kilim_run_model.specs.Lone.{Lone}
 use Rattle.kilim_run_model.specs.Course.{Course}
 use Rattle.kilim_run_model.specs.declared.deed.Deed.{Deed}
-use Rattle.kilim_run_board.specs.fibers.Wishes.{Wish, ToPut, ToPutWait, ToBound, ToTake, ToProbe, ToStart, ToPrint, ToEnd}
+use Rattle.kilim_run_board.specs.fibers.Wishes.{Wish, ToPut, ToTake, ToProbe, ToStart, ToPrint, ToEnd}
 
 -- where it rests
 pub rested : {F : Type 0} (task : F → ℕ) (course : F → Course) (holds asked : Setting → F → Lone → Type 0) (set : Setting) (f : F) (waits : Option BoxName) → Resumed task course holds asked set f (wants.Rest waits) → RestsAs task course holds set f waits
@@ -53,18 +54,14 @@ module _ {F C : Type 0} (task : F → ℕ) (course : F → Course) (holds asked 
         λ set is. let q = all set is in (answered set q.wish q.deed (runs set is).0 q.asks q.fits).1,
       )
 
--- a start where there is no task left
+-- a start where there is no task left, or a put into a full mailbox
 module _ (Of : Setting → Type 0) (t : ℕ) (c : Course) (cell : List ℕ) where
-  full : (o : Option Wish) → ActedAs Of t c cell o acted.OutOfTasks → cell ≡ []
-  full None did = absurd did
-  full (Some (ToPut box shape)) did = did
-  full (Some (ToPutWait box shape)) did = did
-  full (Some (ToBound box most)) did = did
-  full (Some (ToTake box)) did = did
-  full (Some (ToProbe box)) did = did
-  full (Some (ToStart shape)) did = did
-  full (Some (ToPrint shape)) did = did
-  full (Some (ToEnd why)) did = did
+  over : (o : Option Wish) (a : Acted) → IsOver a → ActedAs Of t c cell o a → cell ≡ []
+  over None a ends did = absurd did
+  over (Some (ToEnd why)) a ends did = did
+  over (Some w) (acted.Answer x) ends did = absurd ends
+  over (Some w) acted.OutOfTasks ends did = did
+  over (Some w) acted.OutOfRoom ends did = did
 
-  pub is_full : (o : Option Wish) (a : Acted) → a ≡ acted.OutOfTasks → ActedAs Of t c cell o a → cell ≡ []
-  is_full o a is did = full o (subst (λ a. ActedAs Of t c cell o a) is did)
+  pub is_over : (o : Option Wish) (a b : Acted) → a ≡ b → IsOver b → ActedAs Of t c cell o a → cell ≡ []
+  is_over o a b is ends did = over o b ends (subst (λ x. ActedAs Of t c cell o x) is did)

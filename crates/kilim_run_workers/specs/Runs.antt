@@ -52,6 +52,7 @@ abbrev pub ActedAs : (Setting → Type 0) → ℕ → Course → List ℕ → Op
 ActedAs Of t c cell (Some (ToEnd why)) a = cell ≡ []
 ActedAs Of t c cell (Some wish) (acted.Answer a) = (set : Setting) → Of set → (deed : Option Deed) × Fits set.program wish a deed × (cell ≡ lent_numbers t (course_after c deed))
 ActedAs Of t c cell (Some wish) acted.OutOfTasks = cell ≡ []
+ActedAs Of t c cell (Some wish) acted.OutOfRoom = cell ≡ []
 ActedAs Of t c cell None a = ⊥
 
 -- The code serves each setting of the run, and these are its limits.

@@ -65,6 +65,7 @@ fn advance<F: Fibers>(
                     Err(fault) => Err(fault),
                 },
                 Acted::OutOfTasks => Ok(Next::Over),
+                Acted::OutOfRoom => Ok(Next::Over),
             }
         }
     }

@@ -136,6 +136,7 @@ fn advance<F: Fibers, K: Run, R: Wait>(
                     Err(fault) => Err(fault),
                 },
                 Acted::OutOfTasks => Ok(Next::Over),
+                Acted::OutOfRoom => Ok(Next::Over),
             }
         }
     }

@@ -8,7 +8,7 @@ use Rattle.std.specs.Ordering.{nat_cmp, ordering_then, is_eq}
 use Rattle.std.specs.BTreeMap.{BTreeMap, get, UpdatesBy, is_at}
 use Rattle.std.specs.Map.{lookup}
 use Rattle.kilim_program.specs.declared.names.BoxName.{BoxName}
-use Rattle.kilim_run_model.specs.State.{is_full, same_box, with_mailbox, with_message, with_queue}
+use Rattle.kilim_run_model.specs.State.{same_box, with_mailbox, with_message, with_queue}
 use Rattle.kilim_run_board.specs.mailbox.Mailbox.{Content}
 use Rattle.kilim_run_board.specs.waiting.Mailboxes.{Tree, Mail, SameMails, key_cmp, mail_in}
 use Rattle.kilim_run_board.proofs.waiting.Names.{both_ways, same_name}
@@ -66,16 +66,11 @@ with_itself ms name mail is box = by (both_ways (same_box box name))
     by (inl e) = ap (λ b. cond b mail (ms box)) e ∙ (sym is ∙ ap ms (sym (same_name box name e)))
     by (inr e) = ap (λ b. cond b mail (ms box)) e
 
-abbrev mailbox_of : ℕ → List (ℕ × Tree) → Mail
-mailbox_of puts queue = record { most = None; puts = puts; queue = queue }
+abbrev mailbox_of : Option ℕ → ℕ → List (ℕ × Tree) → Mail
+mailbox_of most puts queue = record { most = most; puts = puts; queue = queue }
 
-pub mail_is : (c : Content) (n : ℕ) (queue : List (ℕ × Tree)) → c.puts ≡ n → c.queue ≡ queue → mail_in (Some c) ≡ record { most = None; puts = n; queue = queue }
-mail_is c n queue e f = ap (λ (x : ℕ). mailbox_of x c.queue) e ∙ ap (mailbox_of n) f
-
--- no mailbox has a bound
-pub never_full : (o : Option Content) → is_full (mail_in o) ≡ false
-never_full None = refl
-never_full (Some c) = refl
+pub mail_is : (c : Content) (m : Option ℕ) (n : ℕ) (queue : List (ℕ × Tree)) → c.most ≡ m → c.puts ≡ n → c.queue ≡ queue → mail_in (Some c) ≡ record { most = m; puts = n; queue = queue }
+mail_is c m n queue d e f = ap (λ (x : Option ℕ). mailbox_of x c.puts c.queue) d ∙ (ap (λ (x : ℕ). mailbox_of m x c.queue) e ∙ ap (mailbox_of m n) f)
 
 pub named_some : (m : BTreeMap Key Content) (name : BoxName) (c : Content) → at m name ≡ Some c → mails m name ≡ mail_in (Some c)
 named_some m name c is = ap mail_in is

@@ -30,7 +30,7 @@ named m box = get key_cmp m.by_name (box.task, box.number)
 -- a mailbox that no act has named is empty
 abbrev pub mail_in : Option Content → Mail
 mail_in None = empty_mailbox
-mail_in (Some c) = record { most = None; puts = c.puts; queue = c.queue }
+mail_in (Some c) = record { most = c.most; puts = c.puts; queue = c.queue }
 
 abbrev pub mail_of : Mailboxes → BoxName → Mail
 mail_of m box = mail_in (named m box)

@@ -1,7 +1,7 @@
 //! The mailboxes of the board.
 
-ghost use Rattle.std.specs.Prelude.{◌≡◌, ◌<◌, ◌+◌, ◌^◌, ◌==◌, None, IfSome, IfNone, OnOk, ◌∷◌, [], length};
-ghost use Rattle.kilim_run_model.specs.State.{with_message, with_queue, with_mailbox};
+ghost use Rattle.std.specs.Prelude.{◌≡◌, ◌<◌, ◌+◌, ◌^◌, ◌==◌, false, None, IfSome, IfNone, OnOk, ◌∷◌, [], length};
+ghost use Rattle.kilim_run_model.specs.State.{is_full, with_message, with_queue, with_mailbox};
 ghost use Rattle.kilim_run_board.specs.waiting.Mailboxes.{named, mail_of, SameMails, HasRoom};
 
 use crate::mailbox::Mailbox;
@@ -41,6 +41,16 @@ impl Mailboxes {
         }
     }
 
+    /// Whether a mailbox is full.
+    pub fn is_full(&self, name: BoxName) -> bool
+        ensures { result ≡ is_full (mail_of self.now name) }
+    {
+        match self.by_name.get(&(name.task, name.number)) {
+            Some(mailbox) => mailbox.full(),
+            None => false,
+        }
+    }
+
     /// Makes room for one message in a mailbox.
     pub fn reserve_message(&mut self, name: BoxName) -> Result<(), NoMemory>
         ensures same { SameMails (mail_of self.old) (mail_of self.new) }
@@ -68,10 +78,11 @@ impl Mailboxes {
         Ok(())
     }
 
-    /// Puts a message into a mailbox that has room, and says its number. Takes no memory.
+    /// Puts a message into a mailbox that has room and isn't full, and says its number. Takes no memory.
     pub fn put_message(&mut self, name: BoxName, tree: Tree) -> u64
         requires room { HasRoom self.old name }
         requires few { (mail_of self.old name).puts + 1 < 2 ^ 64 }
+        requires free { is_full (mail_of self.old name) ≡ false }
         ensures number { result ≡ (mail_of self.old name).puts }
         ensures mails { SameMails (with_mailbox (mail_of self.old) name (with_message (mail_of self.old name) tree)) (mail_of self.new) }
     {

@@ -20,6 +20,12 @@ use Rattle.kilim_run_board.specs.Board.{Board, GivesBack, Parks, PutsMessage, St
 use Rattle.kilim_run_board.specs.waiting.Parked.{woken, ready_after, parked_after}
 use Rattle.kilim_run_board.specs.waiting.Mailboxes.{Tree, Mail}
 
+-- an act that ends the task, though it wanted something else
+abbrev pub IsOver : Acted → Type 0
+IsOver (acted.Answer a) = ⊥
+IsOver acted.OutOfTasks = Unit {0}
+IsOver acted.OutOfRoom = Unit {0}
+
 module _ {F : Type 0} (task : F → ℕ) (count : F → ℕ) (n : ℕ) where
   abbrev weight : F → ℕ
   weight f = pool.weight count n f
@@ -93,6 +99,7 @@ module _ {F : Type 0} (task : F → ℕ) (count : F → ℕ) (n : ℕ) where
   act_left numbered b b' seat t (wants.Probe box) (acted.Answer answer.Nothing) did = let e = same_left b b' did.1.spots.ready did.1.spots.parked did.1.tasks in omega arith
   act_left numbered b b' seat t (wants.Start f shape) (acted.Answer (answer.Started k)) did = let e = start_left b b' t did.0 shape did.3 did.4 in omega arith
   act_left numbered b b' seat t (wants.Start f shape) acted.OutOfTasks did = let e = same_left b b' did.1.ready did.1.parked did.1.tasks in omega arith
+  act_left numbered b b' seat t (wants.Put box tree shape) acted.OutOfRoom did = let e = same_left b b' did.1.ready did.1.parked did.1.tasks in omega arith
   act_left numbered b b' seat t (wants.Print shape) (acted.Answer answer.Done) did = let e = same_left b b' did.spots.ready did.spots.parked did.tasks in omega arith
   act_left numbered b b' seat t (wants.End why) (acted.Answer answer.Done) did = let e = same_left b b' did.ready did.parked did.tasks in omega arith
   act_left numbered b b' seat t _ _ did = absurd did
@@ -118,9 +125,11 @@ module _ {F : Type 0} (task : F → ℕ) (count : F → ℕ) (n : ℕ) where
       let h = weight_among w parks.parked.before parks.parked.after in
       let k : (task_limit - b'.tasks) * (3 * n + 2) ≡ (task_limit - b.tasks) * (3 * n + 2) = ap (λ k. (task_limit - k) * (3 * n + 2)) parks.run.tasks in omega arith
 
-  pub full_left : (numbered : F → F → ℕ → Type 0) (b b' : Board F) (seat t : ℕ) (w : Wants F) → ActAnswers numbered b seat t b' w acted.OutOfTasks → left b' ≡ left b
-  full_left numbered b b' seat t (wants.Start f shape) did = same_left b b' did.1.ready did.1.parked did.1.tasks
-  full_left numbered b b' seat t _ did = absurd did
+  pub over_left : (numbered : F → F → ℕ → Type 0) (b b' : Board F) (seat t : ℕ) (w : Wants F) (a : Acted) → IsOver a → ActAnswers numbered b seat t b' w a → left b' ≡ left b
+  over_left numbered b b' seat t w (acted.Answer x) over did = absurd over
+  over_left numbered b b' seat t (wants.Start f shape) acted.OutOfTasks over did = same_left b b' did.1.ready did.1.parked did.1.tasks
+  over_left numbered b b' seat t (wants.Put box tree shape) acted.OutOfRoom over did = same_left b b' did.1.ready did.1.parked did.1.tasks
+  over_left numbered b b' seat t _ _ over did = absurd did
 
   -- a take that is answered nothing adds none
   pub nothing_left : (numbered : F → F → ℕ → Type 0) (b b' : Board F) (seat t : ℕ) (box : BoxName) → ActAnswers numbered b seat t b' (wants.Take box) (acted.Answer answer.Nothing) → (left b' ≡ left b) × ((b'.mails box).queue ≡ [])
@@ -195,6 +204,7 @@ module _ {F : Type 0} (refused : F → Option BoxName) where
     parked = subst (AllByRecursion IsCalmWaiter) (sym did.4.parked) calm.parked;
   }
   act_calm rests numbered same b b' seat t (wants.Start f shape) acted.OutOfTasks did fresh calm = same_calm b b' did.1.ready did.1.parked calm
+  act_calm rests numbered same b b' seat t (wants.Put box tree shape) acted.OutOfRoom did fresh calm = same_calm b b' did.1.ready did.1.parked calm
   act_calm rests numbered same b b' seat t (wants.Print shape) (acted.Answer answer.Done) did fresh calm = same_calm b b' did.spots.ready did.spots.parked calm
   act_calm rests numbered same b b' seat t (wants.End why) (acted.Answer answer.Done) did fresh calm = same_calm b b' did.ready did.parked calm
   act_calm rests numbered same b b' seat t _ _ did fresh calm = absurd did

@@ -19,7 +19,7 @@ use Rattle.kilim_run_board.specs.declared.board.Lent.TheVariants as lent
 use Rattle.kilim_run_board.specs.Board.{Board, BoardStands, IsQuiet, lent_of, Parks}
 use Rattle.kilim_run_board.specs.waiting.Mailboxes.{Tree}
 use Rattle.kilim_run_workers.specs.one_worker.Pool.{IsOf, IsLending, IsResting, IsCalm, EmptyAt, todo, left, one_if_none}
-use Rattle.kilim_run_workers.proofs.one_worker.Measures.{same_left, act_left, back_left, park_left, nothing_left, same_calm, act_calm, back_calm, park_calm}
+use Rattle.kilim_run_workers.proofs.one_worker.Measures.{IsOver, same_left, act_left, back_left, park_left, nothing_left, same_calm, act_calm, back_calm, park_calm}
 use Rattle.kilim_run_board.specs.Seen.{seen, IsRoomy, LendAnswers, GiveAnswers, gives_at, LentStands, CourseAt, SameBoard, ActAnswers, ActMeets, IsActable, IsAnswered, RestsAs, wish_in}
 use Rattle.kilim_run_model.specs.Lone.{Lone}
 use Rattle.kilim_run_model.specs.Course.{Course}
@@ -91,11 +91,11 @@ module _ {F : Type 0} (numbered : F → F → ℕ → Type 0) (b b' : Board F) (
   goes_keeps (wants.Rest o) a goes did = absurd goes
   goes_keeps _ _ goes did = absurd did
 
-  pub full_ends : (w : Wants F) → IsGoing w → ActAnswers numbered b seat t b' w acted.OutOfTasks → (b'.cells ≡ slice_set b.cells seat None) × (b'.stopped ≡ b.stopped)
-  full_ends (wants.Start f shape) goes did = (did.1.cells, did.1.stopped)
-  full_ends (wants.End why) goes did = absurd goes
-  full_ends (wants.Rest o) goes did = absurd goes
-  full_ends _ goes did = absurd did
+  pub over_ends : (w : Wants F) (a : Acted) → IsOver a → ActAnswers numbered b seat t b' w a → (b'.cells ≡ slice_set b.cells seat None) × (b'.stopped ≡ b.stopped)
+  over_ends w (acted.Answer x) over did = absurd over
+  over_ends (wants.Start f shape) acted.OutOfTasks over did = (did.1.cells, did.1.stopped)
+  over_ends (wants.Put box tree shape) acted.OutOfRoom over did = (did.1.cells, did.1.stopped)
+  over_ends _ _ over did = absurd did
 
   pub end_ends : (why : EndCause) (a : Acted) → ActAnswers numbered b seat t b' (wants.End why) a → (b'.cells ≡ slice_set b.cells seat None) × (b'.stopped ≡ b.stopped)
   end_ends why (acted.Answer answer.Done) did = (did.cells, did.stopped)
@@ -158,13 +158,13 @@ module _ {F C : Type 0} (task : F → ℕ) (course : F → Course) (holds asked 
               (d.0, r.1, subst (λ t. CourseAt (seen b') t (course f')) (sym same-task) (subst (λ c. CourseAt (seen b') (task f) c) (sym r.0) q.now));
         }
 
-    pub is_full : (numbered : F → F → ℕ → Type 0) (b' : kept.Board F) → IsGoing w → Does b' acted.OutOfTasks → IsRoomy b' → ActAnswers numbered (seen b) 0 (task f) (seen b') w acted.OutOfTasks → IsResting task course holds Of b'
-    is_full numbered b' goes does roomy did =
-        let k = full_ends numbered (seen b) (seen b') 0 (task f) w goes did in record {
+    pub is_over : (numbered : F → F → ℕ → Type 0) (b' : kept.Board F) (a : Acted) → IsGoing w → IsOver a → Does b' a → IsRoomy b' → ActAnswers numbered (seen b) 0 (task f) (seen b') w a → IsResting task course holds Of b'
+    is_over numbered b' a goes over does roomy did =
+        let k = over_ends numbered (seen b) (seen b') 0 (task f) w a over did in record {
           roomy = roomy;
           cells = k.0 ∙ ap (λ cs. slice_set cs 0 None) now.cells;
           running = k.1 ∙ now.running;
-          stands = λ set is. (done_now b' acted.OutOfTasks goes does set is).0;
+          stands = λ set is. (done_now b' a goes does set is).0;
         }
 
   pub is_ended : (numbered : F → F → ℕ → Type 0) (b b' : kept.Board F) (f : F) (w : Wants F) (why : EndCause) (a : Acted) → w ≡ wants.End why → IsResumed b f w →

@@ -1,8 +1,8 @@
 use Rattle.std.proofs.Common.{ap, ◌∙◌, subst}
 use Rattle.std.specs.Prelude.{slice_get}
 use Rattle.kilim_run_board.specs.Seen.{IsNumbered}
-use Rattle.kilim_run_workers.proofs.one_worker.Steps.{going, actable, resumed, lent_now, done_now, asked_by, can_answer, goes_on, is_full, is_ended, counted, going_none, falls_on, falls_over, falls_rest, rests_now}
-use Rattle.kilim_run_workers.proofs.one_worker.Measures.{full_left, act_calm, same_calm}
+use Rattle.kilim_run_workers.proofs.one_worker.Steps.{going, actable, resumed, lent_now, done_now, asked_by, can_answer, goes_on, is_over, is_ended, counted, going_none, falls_on, falls_over, falls_rest, rests_now}
+use Rattle.kilim_run_workers.proofs.one_worker.Measures.{over_left, act_calm, same_calm}
 use Rattle.std.proofs.Common.{◌≤◌}
 use Rattle.kilim_run_state.specs.declared.run.Limits.{Limits}
 use Rattle.kilim_run_board.specs.declared.board.Acted.TheVariants as acted
@@ -42,8 +42,14 @@ returns-in-Ok-answer-clause-next g c =
 pub returns-in-OutOfTasks-clause-next : goal.returns-in-OutOfTasks-clause-next
 returns-in-OutOfTasks-clause-next g c =
     let now = (resumed g.F.Fibers.task_of g.F.Fibers.course_of g.F.Fibers.holds g.F.Fibers.asked g.F.Fibers.serves c.args.code.now c.args.main c.args.limits.now c.args.board.now c.reserve-in_default-wants.new.self c.args.fiber.now c.resume.new.self c.in-Ok.wants c.requires.lending c.in-Ok-reserve-2.ensures.same c.in-Ok-reserve-2.ensures.roomy c.in-Ok-reserve-2.ensures.stands c.in-Ok.ensures.task c.in-Ok.ensures.course c.in-Ok.ensures.wants) in
-    is_full g.F.Fibers.task_of g.F.Fibers.course_of g.F.Fibers.holds g.F.Fibers.asked g.F.Fibers.serves c.args.code.now c.args.main c.args.limits.now c.reserve-in_default-wants.new.self c.resume.new.self c.in-Ok.wants now (IsNumbered g.F.Fibers.task_of g.F.Fibers.course_of g.F.Fibers.count_of g.F.Fibers.refused g.F.Fibers.holds) c.act-in_default-wants.new.self (going c.in-Ok.wants c.in_default-wants.not-Rest c.in_default-wants.not-End) c.in-OutOfTasks.ensures.stands c.in-OutOfTasks.ensures.roomy
+    is_over g.F.Fibers.task_of g.F.Fibers.course_of g.F.Fibers.holds g.F.Fibers.asked g.F.Fibers.serves c.args.code.now c.args.main c.args.limits.now c.reserve-in_default-wants.new.self c.resume.new.self c.in-Ok.wants now (IsNumbered g.F.Fibers.task_of g.F.Fibers.course_of g.F.Fibers.count_of g.F.Fibers.refused g.F.Fibers.holds) c.act-in_default-wants.new.self acted.OutOfTasks (going c.in-Ok.wants c.in_default-wants.not-Rest c.in_default-wants.not-End) tt c.in-OutOfTasks.ensures.stands c.in-OutOfTasks.ensures.roomy
     (c.in-OutOfTasks.ensures.effect (g.F.Fibers.task_of c.resume.new.self) (lent_now g.F.Fibers.task_of g.F.Fibers.course_of g.F.Fibers.holds g.F.Fibers.asked g.F.Fibers.serves c.args.code.now c.args.main c.args.limits.now c.reserve-in_default-wants.new.self c.resume.new.self c.in-Ok.wants now))
+
+pub returns-in-OutOfRoom-clause-next : goal.returns-in-OutOfRoom-clause-next
+returns-in-OutOfRoom-clause-next g c =
+    let now = (resumed g.F.Fibers.task_of g.F.Fibers.course_of g.F.Fibers.holds g.F.Fibers.asked g.F.Fibers.serves c.args.code.now c.args.main c.args.limits.now c.args.board.now c.reserve-in_default-wants.new.self c.args.fiber.now c.resume.new.self c.in-Ok.wants c.requires.lending c.in-Ok-reserve-2.ensures.same c.in-Ok-reserve-2.ensures.roomy c.in-Ok-reserve-2.ensures.stands c.in-Ok.ensures.task c.in-Ok.ensures.course c.in-Ok.ensures.wants) in
+    is_over g.F.Fibers.task_of g.F.Fibers.course_of g.F.Fibers.holds g.F.Fibers.asked g.F.Fibers.serves c.args.code.now c.args.main c.args.limits.now c.reserve-in_default-wants.new.self c.resume.new.self c.in-Ok.wants now (IsNumbered g.F.Fibers.task_of g.F.Fibers.course_of g.F.Fibers.count_of g.F.Fibers.refused g.F.Fibers.holds) c.act-in_default-wants.new.self acted.OutOfRoom (going c.in-Ok.wants c.in_default-wants.not-Rest c.in_default-wants.not-End) tt c.in-OutOfRoom.ensures.stands c.in-OutOfRoom.ensures.roomy
+    (c.in-OutOfRoom.ensures.effect (g.F.Fibers.task_of c.resume.new.self) (lent_now g.F.Fibers.task_of g.F.Fibers.course_of g.F.Fibers.holds g.F.Fibers.asked g.F.Fibers.serves c.args.code.now c.args.main c.args.limits.now c.reserve-in_default-wants.new.self c.resume.new.self c.in-Ok.wants now))
 
 pub returns-in-Ok-answer-clause-falls : goal.returns-in-Ok-answer-clause-falls
 returns-in-Ok-answer-clause-falls g c =
@@ -67,8 +73,17 @@ returns-in-OutOfTasks-clause-falls g c =
     let did = c.in-OutOfTasks.ensures.effect (g.F.Fibers.task_of c.resume.new.self) (lent_now g.F.Fibers.task_of g.F.Fibers.course_of g.F.Fibers.holds g.F.Fibers.asked g.F.Fibers.serves c.args.code.now c.args.main c.args.limits.now c.reserve-in_default-wants.new.self c.resume.new.self c.in-Ok.wants now) in
     let same = c.in-Ok-reserve-2.ensures.same in
     falls_over g.F.Fibers.task_of g.F.Fibers.count_of g.F.Fibers.rests g.F.Fibers.refused c.args.limits.now.steps (IsNumbered g.F.Fibers.task_of g.F.Fibers.course_of g.F.Fibers.count_of g.F.Fibers.refused g.F.Fibers.holds) (λ f f' k num. num.refuses) c.args.board.now c.reserve-in_default-wants.new.self c.act-in_default-wants.new.self c.args.fiber.now same
-    (full_left g.F.Fibers.task_of g.F.Fibers.count_of c.args.limits.now.steps (IsNumbered g.F.Fibers.task_of g.F.Fibers.course_of g.F.Fibers.count_of g.F.Fibers.refused g.F.Fibers.holds) (seen c.reserve-in_default-wants.new.self) (seen c.act-in_default-wants.new.self) 0 (g.F.Fibers.task_of c.resume.new.self) c.in-Ok.wants did)
+    (over_left g.F.Fibers.task_of g.F.Fibers.count_of c.args.limits.now.steps (IsNumbered g.F.Fibers.task_of g.F.Fibers.course_of g.F.Fibers.count_of g.F.Fibers.refused g.F.Fibers.holds) (seen c.reserve-in_default-wants.new.self) (seen c.act-in_default-wants.new.self) 0 (g.F.Fibers.task_of c.resume.new.self) c.in-Ok.wants acted.OutOfTasks tt did)
     (act_calm g.F.Fibers.refused g.F.Fibers.rests (IsNumbered g.F.Fibers.task_of g.F.Fibers.course_of g.F.Fibers.count_of g.F.Fibers.refused g.F.Fibers.holds) (λ f f' k num. num.refuses) (seen c.reserve-in_default-wants.new.self) (seen c.act-in_default-wants.new.self) 0 (g.F.Fibers.task_of c.resume.new.self) c.in-Ok.wants acted.OutOfTasks did c.in-Ok.ensures.fresh (same_calm g.F.Fibers.refused (seen c.args.board.now) (seen c.reserve-in_default-wants.new.self) same.spots.ready same.spots.parked c.requires.calm))
+
+pub returns-in-OutOfRoom-clause-falls : goal.returns-in-OutOfRoom-clause-falls
+returns-in-OutOfRoom-clause-falls g c =
+    let now = (resumed g.F.Fibers.task_of g.F.Fibers.course_of g.F.Fibers.holds g.F.Fibers.asked g.F.Fibers.serves c.args.code.now c.args.main c.args.limits.now c.args.board.now c.reserve-in_default-wants.new.self c.args.fiber.now c.resume.new.self c.in-Ok.wants c.requires.lending c.in-Ok-reserve-2.ensures.same c.in-Ok-reserve-2.ensures.roomy c.in-Ok-reserve-2.ensures.stands c.in-Ok.ensures.task c.in-Ok.ensures.course c.in-Ok.ensures.wants) in
+    let did = c.in-OutOfRoom.ensures.effect (g.F.Fibers.task_of c.resume.new.self) (lent_now g.F.Fibers.task_of g.F.Fibers.course_of g.F.Fibers.holds g.F.Fibers.asked g.F.Fibers.serves c.args.code.now c.args.main c.args.limits.now c.reserve-in_default-wants.new.self c.resume.new.self c.in-Ok.wants now) in
+    let same = c.in-Ok-reserve-2.ensures.same in
+    falls_over g.F.Fibers.task_of g.F.Fibers.count_of g.F.Fibers.rests g.F.Fibers.refused c.args.limits.now.steps (IsNumbered g.F.Fibers.task_of g.F.Fibers.course_of g.F.Fibers.count_of g.F.Fibers.refused g.F.Fibers.holds) (λ f f' k num. num.refuses) c.args.board.now c.reserve-in_default-wants.new.self c.act-in_default-wants.new.self c.args.fiber.now same
+    (over_left g.F.Fibers.task_of g.F.Fibers.count_of c.args.limits.now.steps (IsNumbered g.F.Fibers.task_of g.F.Fibers.course_of g.F.Fibers.count_of g.F.Fibers.refused g.F.Fibers.holds) (seen c.reserve-in_default-wants.new.self) (seen c.act-in_default-wants.new.self) 0 (g.F.Fibers.task_of c.resume.new.self) c.in-Ok.wants acted.OutOfRoom tt did)
+    (act_calm g.F.Fibers.refused g.F.Fibers.rests (IsNumbered g.F.Fibers.task_of g.F.Fibers.course_of g.F.Fibers.count_of g.F.Fibers.refused g.F.Fibers.holds) (λ f f' k num. num.refuses) (seen c.reserve-in_default-wants.new.self) (seen c.act-in_default-wants.new.self) 0 (g.F.Fibers.task_of c.resume.new.self) c.in-Ok.wants acted.OutOfRoom did c.in-Ok.ensures.fresh (same_calm g.F.Fibers.refused (seen c.args.board.now) (seen c.reserve-in_default-wants.new.self) same.spots.ready same.spots.parked c.requires.calm))
 
 pub returns-in-Rest-clause-falls : goal.returns-in-Rest-clause-falls
 returns-in-Rest-clause-falls g c = λ after gives.

@@ -4,8 +4,9 @@ use Rattle.kilim_run_workers.proofs.one_worker.Steps.{going, meets}
 use Rattle.kilim_run_board.specs.Seen.{wish_in}
 use Rattle.kilim_run_turn.specs.Turns.{shows}
 use Rattle.kilim_run_workers.specs.Codes.{lent_numbers}
+use Rattle.kilim_run_board.specs.declared.board.Acted.TheVariants as acted
 use Rattle.kilim_run_workers.specs.Runs.{ActedAs}
-use Rattle.kilim_run_workers.proofs.Steps.{asked_in, is_full, rested, went_on}
+use Rattle.kilim_run_workers.proofs.Steps.{asked_in, is_over, rested, went_on}
 use Rattle.kilim_run_workers.proofs.worker.advance.Goals as goal
 
 pub resume-requires : goal.resume-requires
@@ -97,6 +98,14 @@ pub returns-in-OutOfTasks : goal.returns-in-OutOfTasks
 returns-in-OutOfTasks g c = record {
   pass = c.in-Ok-act-2.ensures.pass;
   seat = c.in-Ok-act-2.ensures.seat;
-  next = is_full g.K.Run.of (g.F.Fibers.task_of c.resume.new.self) (g.F.Fibers.course_of c.resume.new.self) (shows c.act-in_default-wants.new.pass) (wish_in c.in-Ok.wants) _ c.in-OutOfTasks.is c.in-Ok-act-2.ensures.acted;
+  next = is_over g.K.Run.of (g.F.Fibers.task_of c.resume.new.self) (g.F.Fibers.course_of c.resume.new.self) (shows c.act-in_default-wants.new.pass) (wish_in c.in-Ok.wants) _ acted.OutOfTasks c.in-OutOfTasks.is tt c.in-Ok-act-2.ensures.acted;
+  refused = tt;
+}
+
+pub returns-in-OutOfRoom : goal.returns-in-OutOfRoom
+returns-in-OutOfRoom g c = record {
+  pass = c.in-Ok-act-2.ensures.pass;
+  seat = c.in-Ok-act-2.ensures.seat;
+  next = is_over g.K.Run.of (g.F.Fibers.task_of c.resume.new.self) (g.F.Fibers.course_of c.resume.new.self) (shows c.act-in_default-wants.new.pass) (wish_in c.in-Ok.wants) _ acted.OutOfRoom c.in-OutOfRoom.is tt c.in-Ok-act-2.ensures.acted;
   refused = tt;
 }

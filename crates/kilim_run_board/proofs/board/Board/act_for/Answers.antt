@@ -6,11 +6,11 @@ use Rattle.kilim_run_board.proofs.board.Board.act_for.Goals as goal
 
 pub returns-in-Put-clause-effect : goal.returns-in-Put-clause-effect
 returns-in-Put-clause-effect g c =
-    subst (λ w. ActAnswers (IsNumbered g.F.Fibers.task_of g.F.Fibers.course_of g.F.Fibers.count_of g.F.Fibers.refused g.F.Fibers.holds) (seen c.args.self.now) c.args.seat c.args.task (seen c.put.new.self) w (acted.Answer (answer.Sent c.put.result)))
-    (sym c.in-Put.is) (c.put.ensures.number, c.put.ensures.free, c.put.ensures.effect)
+    subst (λ w. ActAnswers (IsNumbered g.F.Fibers.task_of g.F.Fibers.course_of g.F.Fibers.count_of g.F.Fibers.refused g.F.Fibers.holds) (seen c.args.self.now) c.args.seat c.args.task (seen c.put_or_end.new.self) w c.put_or_end.result)
+    (sym c.in-Put.is) c.put_or_end.ensures.effect
 
 pub returns-in-Put-clause-roomy : goal.returns-in-Put-clause-roomy
-returns-in-Put-clause-roomy g c = c.put.ensures.roomy
+returns-in-Put-clause-roomy g c = c.put_or_end.ensures.roomy
 
 pub returns-in-Some-clause-effect : goal.returns-in-Some-clause-effect
 returns-in-Some-clause-effect g c =

@@ -1,6 +1,6 @@
 use Rattle.std.proofs.Common.{arith, length}
-use Rattle.kilim_run_board.specs.waiting.Mailboxes.{mail_of, named}
-use Rattle.kilim_run_board.proofs.waiting.Named.{counted_put, never_full}
+use Rattle.kilim_run_board.specs.waiting.Mailboxes.{mail_of}
+use Rattle.kilim_run_board.proofs.waiting.Named.{counted_put}
 use Rattle.kilim_run_board.proofs.waiting.Lists.{longer}
 use Rattle.kilim_run_board.proofs.board.Board.put.Goals as goal
 
@@ -9,9 +9,6 @@ put_message-number-requires-clause-few g c =
     let a = c.requires.roomy.counted c.args.mailbox in
     let ok = c.args.self.now.journal.ok in let small = c.args.self.now.journal.small in
     let j = c.requires.journal in omega arith
-
-pub returns-clause-free : goal.returns-clause-free
-returns-clause-free g c = never_full (named c.args.self.now.mailboxes c.args.mailbox)
 
 pub returns-clause-roomy : goal.returns-clause-roomy
 returns-clause-roomy g c =

@@ -9,5 +9,5 @@ returns-clause-mails c = λ box.
     let old = c.in-Some.mailbox.now in
     let named : mail_of c.args.self.now c.args.name ≡ mail_in (Some old) = ap mail_in (sym c.in-Some.ensures.value) in
     written c.args.self.now.by_name (c.get_mut.follows.lender c.put.new.self) c.args.name c.put.new.self (with_message (mail_in (Some old)) c.args.tree) ((c.get_mut.follows.holds c.put.new.self).3 (search rules))
-    (mail_is c.put.new.self (old.puts + 1) (old.queue ++ (old.puts, c.args.tree) ∷ []) c.put.ensures.puts c.put.ensures.queue) box
+    (mail_is c.put.new.self old.most (old.puts + 1) (old.queue ++ (old.puts, c.args.tree) ∷ []) c.put.ensures.most c.put.ensures.puts c.put.ensures.queue) box
     ∙ ap (λ (m : Mail). with_mailbox (mail_of c.args.self.now) c.args.name (with_message m c.args.tree) box) (sym named)

@@ -8,5 +8,5 @@ returns-in-Some-clause-same c = λ box.
     let old = c.in-Some.mailbox.now in
     let named : mail_of c.args.self.now c.args.name ≡ mail_in (Some old) = ap mail_in (sym c.in-Some.ensures.value) in
     written c.args.self.now.by_name (c.get_mut.follows.lender c.reserve.new.self) c.args.name c.reserve.new.self (mail_in (Some old)) ((c.get_mut.follows.holds c.reserve.new.self).3 (search rules))
-    (mail_is c.reserve.new.self old.puts old.queue c.reserve.ensures.puts c.reserve.ensures.queue) box
+    (mail_is c.reserve.new.self old.most old.puts old.queue c.reserve.ensures.most c.reserve.ensures.puts c.reserve.ensures.queue) box
     ∙ with_itself (mails c.args.self.now.by_name) c.args.name (mail_in (Some old)) named box
