@@ -129,6 +129,7 @@ module _ (set : Setting) (W : Program) (t : ℕ) where
   by_none x counts (move.Asks id args frames heap) = asks_none (stood x frames heap) (native_of W id) args
   by_none x counts (move.Returns heap) = finish_none (record x { heap = heap }) x.kept
   by_none x counts (move.Raises why) = tt
+  by_none x counts (move.Throws object class why) = tt
   by_none x counts (move.Ends why) = tt
   by_none x counts move.Stuck = tt
 

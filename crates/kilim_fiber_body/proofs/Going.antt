@@ -202,6 +202,7 @@ module _ (set : Setting) (W : Program) (marks : List (List Bool)) (t : ℕ) (b :
 
     ended_by : (why : EndCause) (w : Move) → IsMark W marks top.method top.place mark → IsLeft n mark → moves W top below h ≡ w → cause_of w ≡ Some why → ComesTo set W marks t first (Ends why)
     ended_by why (move.Raises other) is left e same = to_next _ _ (ap Ends (same_Some _ _ same)) (comes_by n mark top below h (move.Raises other) is left e refl goes)
+    ended_by why (move.Throws object class other) is left e same = to_next _ _ (ap Ends (same_Some _ _ same)) (comes_by n mark top below h (move.Throws object class other) is left e refl goes)
     ended_by why (move.Ends other) is left e same = to_next _ _ (ap Ends (same_Some _ _ same)) (comes_by n mark top below h (move.Ends other) is left e refl goes)
     ended_by why (move.Runs change frames heap) is left e same = absurd (none-some why same)
     ended_by why (move.Makes object frames heap) is left e same = absurd (none-some why same)

@@ -5,7 +5,7 @@ use Rattle.std.specs.Prelude.{nat_le, nat_lt}
 use Rattle.std.proofs.lemmas.Option.{none-some, same_Some}
 use Rattle.kilim_program.specs.declared.names.BoxName.{BoxName}
 use Rattle.kilim_program.specs.declared.value.Value.{Value}
-use Rattle.kilim_program.specs.declared.value.Value.TheVariants.{Int, Ref, Box}
+use Rattle.kilim_program.specs.declared.value.Value.TheVariants.{Int, Ref, Box, Null}
 use Rattle.kilim_run_model.proofs.one_heap.Booking.{action_is, is_act}
 use Rattle.kilim_run_state.specs.declared.cause.EndCause.TheVariants as cause
 use Rattle.kilim_run_state.specs.declared.value.Token.{Token}
@@ -20,6 +20,8 @@ use Rattle.kilim_run_model.proofs.Alone.{one_lone}
 use Rattle.kilim_run_model.specs.Course.{Course, IsLone, Quiet, next_action}
 use Rattle.kilim_run_model.specs.Lone.{Lone, Next, arg_at, arg_next, asks_next, begins_next, box_limit, finish_next, frames_next, message_next, native_next, next_by, next_move, on_heap, opens_next, over, print_next, printed, put_next, start_next, thread_next, went}
 use Rattle.kilim_run_model.specs.Lone as thread
+use Rattle.kilim_run_model.proofs.Raised.{raised_has, raises_has, throws_has}
+use Rattle.kilim_run_machine.specs.Raising.{thrown}
 use Rattle.kilim_run_model.specs.State.{Alive, Ended, Setting, Thread, begun_on}
 use Rattle.kilim_fiber_spec.specs.lone.Law.{wanted}
 use Rattle.kilim_fiber_spec.specs.Acts.{Action, World}
@@ -41,6 +43,7 @@ module _ (set : Setting) (t : ℕ) where
 
     message_keeps : (box : BoxName) (v : Value) → Keeps l.next (message_next set.program l box v)
     message_keeps box (Ref n) = put_keeps box n (shape_of set.program l.heap n)
+    message_keeps box Null = raised_has (Keeps l.next) l cause.Null tt set.program (λ object f fs frames done boxes e. tt)
     message_keeps box _ = tt
 
     start_keeps : (n : ℕ) (o : Option (List Token)) → Keeps l.next (start_next l n o)
@@ -51,8 +54,8 @@ module _ (set : Setting) (t : ℕ) where
     print_keeps None = tt
     print_keeps (Some token) = tt
 
-    arg_keeps : (o : Option ℤ) → Keeps l.next (arg_next l o)
-    arg_keeps None = tt
+    arg_keeps : (o : Option ℤ) → Keeps l.next (arg_next set.program l o)
+    arg_keeps None = raised_has (Keeps l.next) l cause.Index tt set.program (λ object f fs frames done boxes e. tt)
     arg_keeps (Some n) = tt
 
     native_keeps : (n : Native) (args : List Value) → Keeps l.next (native_next set l n args)
@@ -84,19 +87,20 @@ module _ (set : Setting) (t : ℕ) where
   opens_keeps n l frames done boxes =
       elim (nat_lt boxes box_limit) as (λ (z : Bool). Keeps n (cond z (thread.Goes (went l (push_value (Box (record { task = t; number = boxes })) frames) done (boxes + 1))) (over l cause.Boxes))) [ true ↦ tt | false ↦ tt ]
 
-  by_keeps : (l : Lone) (done boxes : ℕ) (m : Move) → Keeps l.next (next_by set t l done boxes m)
-  by_keeps l done boxes (move.Runs change frames heap) = tt
-  by_keeps l done boxes (move.Makes o frames heap) = tt
-  by_keeps l done boxes (move.Opens frames heap) = opens_keeps l.next (on_heap l heap) frames done boxes
-  by_keeps l done boxes (move.Asks m args frames heap) = asks_keeps (went (on_heap l heap) frames done boxes) (native_of set.program m) args
-  by_keeps l done boxes (move.Returns heap) = finish_keeps l.next (on_heap l heap) done boxes l.kept
-  by_keeps l done boxes (move.Raises why) = tt
-  by_keeps l done boxes (move.Ends why) = tt
-  by_keeps l done boxes move.Stuck = tt
+  by_keeps : (l : Lone) (done boxes : ℕ) (top : Activation) (below : List Activation) (m : Move) → Keeps l.next (next_by set t l done boxes top below m)
+  by_keeps l done boxes top below (move.Runs change frames heap) = tt
+  by_keeps l done boxes top below (move.Makes o frames heap) = tt
+  by_keeps l done boxes top below (move.Opens frames heap) = opens_keeps l.next (on_heap l heap) frames done boxes
+  by_keeps l done boxes top below (move.Asks m args frames heap) = asks_keeps (went (on_heap l heap) frames done boxes) (native_of set.program m) args
+  by_keeps l done boxes top below (move.Returns heap) = finish_keeps l.next (on_heap l heap) done boxes l.kept
+  by_keeps l done boxes top below (move.Raises why) = raises_has (Keeps l.next) l why tt set.program done boxes top below (λ object f fs. tt)
+  by_keeps l done boxes top below (move.Throws object class why) = throws_has (Keeps l.next) l why tt (done + 1) boxes (thrown set.program class (Ref object) top below) (λ f fs. tt)
+  by_keeps l done boxes top below (move.Ends why) = tt
+  by_keeps l done boxes top below move.Stuck = tt
 
   frames_keep : (l : Lone) (fs : List Activation) (done boxes : ℕ) → Keeps l.next (frames_next set t l fs done boxes)
   frames_keep l [] done boxes = tt
-  frames_keep l (top ∷ below) done boxes = by_keeps l done boxes (moves set.program top below l.heap)
+  frames_keep l (top ∷ below) done boxes = by_keeps l done boxes top below (moves set.program top below l.heap)
 
   thread_keeps : (l : Lone) (th : Thread) → Keeps l.next (thread_next set t l th)
   thread_keeps l (Ended why) = tt

@@ -125,6 +125,7 @@ module _ (set : Setting) (W : Program) (marks : List (List Bool)) (t : ℕ) wher
   by_whole x counts (move.Asks id args frames heap) g = asks_whole (stood x frames heap) (native_of W id) args g
   by_whole x counts (move.Returns heap) g = finish_whole (record x { heap = heap }) x.kept
   by_whole x counts (move.Raises why) g = tt
+  by_whole x counts (move.Throws object class why) g = tt
   by_whole x counts (move.Ends why) g = tt
   by_whole x counts move.Stuck g = tt
 

@@ -79,6 +79,7 @@ module _ (P W : Program) (top : Activation) (below : List Activation) (h : Objec
   by_gives (effect.Calls m args q l s k) gives same = called_gives m args (goes_on top q l s ∷ below) k
   by_gives (effect.Returns v k) gives same = returned_gives v below k
   by_gives (effect.Raises why) gives same = tt
+  by_gives (effect.Throws object class why) gives same = tt
   by_gives (effect.Ends why) gives same = tt
   by_gives effect.Stuck gives same = tt
 
@@ -102,6 +103,7 @@ gives_whole P W (move.Makes o frames heap) g = tt
 gives_whole P W (move.Opens frames heap) g = tt
 gives_whole P W (move.Returns heap) g = tt
 gives_whole P W (move.Raises why) g = tt
+gives_whole P W (move.Throws object class why) g = tt
 gives_whole P W (move.Ends why) g = tt
 gives_whole P W move.Stuck g = tt
 

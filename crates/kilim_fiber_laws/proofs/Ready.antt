@@ -79,6 +79,7 @@ module _ (W : Program) (top : Activation) (below : List Activation) where
   move_fits (effect.Asks m args q l s h) result member = asks_fit m (goes_on top q l s ∷ below) result member
   move_fits (effect.Returns v h) result member = returned_fits v below h
   move_fits (effect.Raises why) result member = tt
+  move_fits (effect.Throws object class why) result member = tt
   move_fits (effect.Ends why) result member = tt
   move_fits effect.Stuck result member = tt
 
@@ -101,6 +102,7 @@ module _ (W : Program) (of : Names) where
   fits_kin good h k (move.Opens fs x) (move.Opens gs y) e fits = tt
   fits_kin good h k (move.Returns x) (move.Returns y) e fits = tt
   fits_kin good h k (move.Raises c) (move.Raises d) e fits = tt
+  fits_kin good h k (move.Throws n i c) (move.Throws x j d) e fits = tt
   fits_kin good h k (move.Ends c) (move.Ends d) e fits = tt
   fits_kin good h k move.Stuck move.Stuck e fits = tt
   fits_kin good h k _ _ e fits = absurd e

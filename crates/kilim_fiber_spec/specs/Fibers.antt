@@ -14,7 +14,7 @@ use Rattle.kilim_program.specs.Names.{◌>>=◌, method_at}
 use Rattle.kilim_program.specs.Members.{execute_of}
 use Rattle.kilim_run_machine.specs.Natives.{Native, native_of, FiberMember, Pc, Down, Up, Save, Place, Restore, Receiver}
 use Rattle.kilim_run_machine.specs.Natives as native
-use Rattle.kilim_run_machine.specs.Effect.{Effect, Goes, Makes, Opens, Calls, Asks, Returns, Raises, Ends, Stuck}
+use Rattle.kilim_run_machine.specs.Effect.{Effect, Goes, Makes, Opens, Calls, Asks, Returns, Raises, Throws, Ends, Stuck}
 use Rattle.kilim_run_machine.specs.Does.{does}
 use Rattle.kilim_run_machine.specs.Moves.{frame_limit, entered}
 use Rattle.kilim_program.specs.Lengths.{first_place}
@@ -246,6 +246,7 @@ module _ (set : Setting) (W : Program) (marks : List (List Bool)) where
   weffect counts (Asks c args p l s heap) m b f w ps = wasks (λ f2 after rest v. WRun m p l (push v s) b f2 after rest) (member_of W c) (native_of W c) args f (with_heap w heap) ps
   weffect counts (Returns v heap) m b f w ps = wreturns counts v b f (with_heap w heap) ps
   weffect counts (Raises cause) m b f w ps = ending set w WStop cause
+  weffect counts (Throws object class cause) m b f w ps = ending set w WStop cause
   weffect counts (Ends cause) m b f w ps = ending set w WStop cause
   weffect counts Stuck m b f w ps = WStop Lost
 

@@ -16,7 +16,7 @@ use Rattle.kilim_program.specs.declared.ty.Ty.{Ty}
 use Rattle.kilim_program.specs.BuiltIn.{class_type}
 use Rattle.kilim_program.specs.Fits.{fits_type}
 use Rattle.kilim_program.specs.Members.{named_type}
-use Rattle.kilim_run_machine.specs.Effect.{Effect, Goes, Makes, Opens, Calls, Asks, Returns, Raises, Ends, Stuck}
+use Rattle.kilim_run_machine.specs.Effect.{Effect, Goes, Makes, Opens, Calls, Asks, Returns, Raises, Throws, Ends, Stuck}
 use Rattle.kilim_fiber_spec.specs.Form.{is_pausable}
 use Rattle.kilim_fiber_spec.specs.Fibers.{member_of}
 
@@ -29,6 +29,7 @@ elsewhere at wl (Calls c args q l s heap) = Calls c args (at q) wl s heap
 elsewhere at wl (Asks c args q l s heap) = Asks c args (at q) wl s heap
 elsewhere at wl (Returns v heap) = Returns v heap
 elsewhere at wl (Raises cause) = Raises cause
+elsewhere at wl (Throws object class cause) = Throws object class cause
 elsewhere at wl (Ends cause) = Ends cause
 elsewhere at wl Stuck = Stuck
 

@@ -12,7 +12,7 @@ use Rattle.kilim_program.specs.Program.{Program}
 use Rattle.kilim_program.specs.Names.{method_at}
 use Rattle.kilim_program.specs.Members.{execute_of}
 use Rattle.kilim_run_machine.specs.Natives.{native_of}
-use Rattle.kilim_run_machine.specs.Effect.{Effect, Goes, Makes, Opens, Calls, Asks, Returns, Raises, Ends, Stuck}
+use Rattle.kilim_run_machine.specs.Effect.{Effect, Goes, Makes, Opens, Calls, Asks, Returns, Raises, Throws, Ends, Stuck}
 use Rattle.kilim_run_machine.specs.Does.{does}
 use Rattle.kilim_run_machine.specs.Moves.{frame_limit, entered}
 use Rattle.kilim_program.specs.Lengths.{fetched}
@@ -123,6 +123,7 @@ module _ (set : Setting) where
   effect_does (Asks c args p l s heap) m x b w = asks set (with_heap w heap) Stop (λ after v. Run m p l (push v s) x b after) (native_of set.program c) args
   effect_does (Returns v heap) m x b w = returns v b (with_heap w heap)
   effect_does (Raises cause) m x b w = ending set w Stop cause
+  effect_does (Throws object class cause) m x b w = ending set w Stop cause
   effect_does (Ends cause) m x b w = ending set w Stop cause
   effect_does Stuck m x b w = Stop Lost
 

@@ -31,6 +31,7 @@ use Rattle.kilim_run_state.specs.Shapes.{shape_of}
 use Rattle.kilim_run_state.specs.Trees.{OfMessage, built, tree_names, with_objects, without}
 use Rattle.kilim_run_journal.specs.declared.entry.Act.{Act}
 use Rattle.kilim_run_journal.specs.declared.entry.Act.TheVariants.{Put, Take, Empty, Start, Print, End, Bound}
+use Rattle.kilim_run_model.proofs.Raised.{raised_over, raises_over, throws_over}
 use Rattle.kilim_run_model.specs.State.{Setting, Thread, Alive, Ended, begun_on, is_fit}
 use Rattle.kilim_run_model.specs.Lone.{Lone, Next, Goes, Puts, PutWaits, Bounds, Gets, Probes, Starts, Prints, Ends, Stands, arg_at, arg_next, asks_next, begins_next, box_limit, ended, finish_next, frames_next, message_next, native_next, next_by, next_move, on_heap, opens_next, over, print_next, printed, pushed, put_next, start_next, thread_next, went}
 use Rattle.kilim_run_model.specs.Course.{Done, done_by, fills_deed, probes_deed, puts_deed, received, starts_deed, takes_deed, tree_came, tree_left}
@@ -200,7 +201,7 @@ module _ (set : Setting) (wanted : Wanted) (listed : Listed) (sound : IsSound se
               (inr (not_owned (is_tree_kind (kind_of p (class_type (number + 5)))), inl (quality_free (class_id (number + 2)) (message_kind p is.keeps is.form), refl, tt))))
 
       message_stands : (box : BoxName) (v : Value) → native_of p id ≡ Some native.Put → args ≡ Box box ∷ v ∷ [] → NextStands (message_next p behind box v)
-      message_stands box Null known own = tt
+      message_stands box Null known own = subst NextStands (sym (raised_over p is.keeps.handlers behind cause.Null)) tt
       message_stands box (Ref root) known own = put_stands box root known own (shape_of p h root) refl
       message_stands box _ known own = tt
 
@@ -230,8 +231,8 @@ module _ (set : Setting) (wanted : Wanted) (listed : Listed) (sound : IsSound se
       print_stands None e = tt
       print_stands (Some token) e = e
 
-      arg_stands : (o : Option ℤ) → ((x : ℤ) → Stood (pushed (Int x) behind)) → NextStands (arg_next behind o)
-      arg_stands None e = tt
+      arg_stands : (o : Option ℤ) → ((x : ℤ) → Stood (pushed (Int x) behind)) → NextStands (arg_next p behind o)
+      arg_stands None e = subst NextStands (sym (raised_over p is.keeps.handlers behind cause.Index)) tt
       arg_stands (Some x) e = λ more on. e x
 
       native_stands : (k : Native) (own : List Value) → native_of p id ≡ Some k → args ≡ own → NextStands (native_next set behind k own)
@@ -270,24 +271,25 @@ module _ (set : Setting) (wanted : Wanted) (listed : Listed) (sound : IsSound se
       finish_stands h heap None e fits = tt
       finish_stands h heap (Some q) e fits = begins_stand h q e fits heap (begun_on p (execute_of p set.main) q) refl
 
-      move_stands : (m : Move) → MoveFits p (typing_at p) wanted of m → graphs.MoveFits p (typing_at p) listed l.kept m → NextStands (next_by set t l done boxes m)
-      move_stands (move.Runs change frames h) typed fits = λ more on. fits (top_coded more frames on.fits.frames)
-      move_stands (move.Makes object frames h) typed fits = λ more on. fits l.next (by (get h l.next) refl)
+      move_stands : (top : Activation) (below : List Activation) (m : Move) → MoveFits p (typing_at p) wanted of m → graphs.MoveFits p (typing_at p) listed l.kept m → NextStands (next_by set t l done boxes top below m)
+      move_stands top below (move.Runs change frames h) typed fits = λ more on. fits (top_coded more frames on.fits.frames)
+      move_stands top below (move.Makes object frames h) typed fits = λ more on. fits l.next (by (get h l.next) refl)
         where
           by : (o : Option Object) → get h l.next ≡ o → o ≡ None
           by None at = refl
           by (Some other) at = absurd (let e = sym (typed.2.classes l.next other at) ∙ fresh l.next (omega arith) in cc)
-      move_stands (move.Opens frames h) typed fits = opens_stand frames h fits
-      move_stands (move.Asks id args frames h) typed fits = asks_stand id args frames h typed fits (native_of p id) refl
-      move_stands (move.Returns h) typed fits = finish_stands h typed l.kept refl fits
-      move_stands (move.Raises c) typed fits = tt
-      move_stands (move.Ends c) typed fits = tt
-      move_stands move.Stuck typed fits = tt
+      move_stands top below (move.Opens frames h) typed fits = opens_stand frames h fits
+      move_stands top below (move.Asks id args frames h) typed fits = asks_stand id args frames h typed fits (native_of p id) refl
+      move_stands top below (move.Returns h) typed fits = finish_stands h typed l.kept refl fits
+      move_stands top below (move.Raises c) typed fits = subst NextStands (sym (raises_over p is.keeps.handlers l c done boxes top below)) tt
+      move_stands top below (move.Throws object class c) typed fits = subst NextStands (sym (throws_over p is.keeps.handlers l c (done + 1) boxes object class top below)) tt
+      move_stands top below (move.Ends c) typed fits = tt
+      move_stands top below move.Stuck typed fits = tt
 
       frames_stand : (frames : List Activation) → Fits p (typing_at p) wanted of frames l.heap → TopIsThere l.heap frames → StandOn l.kept l.heap frames → NextStands (frames_next set t l frames done boxes)
       frames_stand [] f there fits = tt
       frames_stand (top ∷ below) f there fits =
-          move_stands (moves p top below l.heap) (moves_fit p (typing_at p) wanted of (facts_hold p is.keeps) is.verified top below l.heap f there)
+          move_stands top below (moves p top below l.heap) (moves_fit p (typing_at p) wanted of (facts_hold p is.keeps) is.verified top below l.heap f there)
           (moves_keep p (typing_at p) listed l.kept top below l.heap sound (top_verified of top below l.heap f) fits)
 
   abbrev BeginsKept : Classes → Lone → Type 0

@@ -33,6 +33,7 @@ height_fits p (effect.Asks id args place ls st h) m below fits = fits
 height_fits p (effect.Returns None h) m below fits = omega arith
 height_fits p (effect.Returns (Some v) h) m below fits = omega arith
 height_fits p (effect.Raises c) m below fits = omega arith
+height_fits p (effect.Throws object class c) m below fits = omega arith
 height_fits p (effect.Ends c) m below fits = omega arith
 height_fits p effect.Stuck m below fits = omega arith
 

@@ -12,7 +12,7 @@ use Rattle.kilim_run_state.specs.declared.value.Object.{Object}
 use Rattle.kilim_run_state.specs.Machine.{Activation, Objects}
 use Rattle.kilim_run_machine.specs.Effect.{Effect}
 use Rattle.kilim_run_machine.specs.Effect as effect
-use Rattle.kilim_run_machine.specs.Moves.{Change, Move, Runs, Makes, Opens, Asks, Returns, Raises, Ends, push_value}
+use Rattle.kilim_run_machine.specs.Moves.{Change, Move, Runs, Makes, Opens, Asks, Returns, Raises, Throws, Ends, push_value}
 use Rattle.kilim_run_state.specs.declared.frames.frame.Frame.{Frame}
 use Rattle.kilim_run_state.specs.declared.frames.frames.Frames.{Frames}
 use Rattle.kilim_run_state.specs.frames.Calls.{answered, below_of, calls_of}
@@ -22,9 +22,10 @@ use Rattle.kilim_run_rows.specs.Outcome.{height}
 use Rattle.kilim_run_interp.specs.declared.machine.Stepped.{Stepped}
 use Rattle.kilim_run_interp.specs.declared.machine.Stepped.TheVariants.{Went, NewBox, AtNative, Returned, Ended}
 
--- the cause with which a move raises or ends
+-- the cause with which a move raises, throws or ends
 abbrev pub cause_of : Move → Option EndCause
 cause_of (Raises cause) = Some cause
+cause_of (Throws object class cause) = Some cause
 cause_of (Ends cause) = Some cause
 cause_of m = None
 

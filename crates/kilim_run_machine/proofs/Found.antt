@@ -32,4 +32,7 @@ found = record {
   built_in = (refl, refl, refl, refl, refl, refl, refl);
   behind = (refl, refl, refl, refl);
   receivers = (refl, refl);
+  handlers = (refl, refl, refl, refl, refl, refl);
+  unwinds = (refl, refl, refl, refl, refl, refl);
+  words = (refl, refl, refl, refl, refl, refl, refl, refl);
 }

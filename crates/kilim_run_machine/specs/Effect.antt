@@ -4,6 +4,7 @@ use Rattle.std.specs.Prelude.{ℕ, zero, suc, ℤ, pos, negsuc, Bool, true, fals
 use Rattle.std.specs.FinMap.{get}
 use Rattle.kilim_program.specs.declared.ty.Ty.{Ty}
 use Rattle.kilim_program.specs.Program.{Program}
+use Rattle.kilim_program.specs.declared.names.ClassId.{ClassId}
 use Rattle.kilim_program.specs.declared.names.MethodId.{MethodId}
 use Rattle.kilim_run_state.specs.declared.cause.EndCause.{EndCause}
 use Rattle.kilim_run_state.specs.declared.cause.EndCause.TheVariants as cause
@@ -28,6 +29,8 @@ pub data Effect : Type 0 where
   -- Something is wrong with a value: null, index, size, cast, store or zero. What then becomes of the task is told in one
   -- place, above the frames.
   Raises : (cause : EndCause) → Effect
+  -- An object of that class is thrown. Where nothing catches it, the task ends with the cause.
+  Throws : (object : ℕ) (class : ClassId) (cause : EndCause) → Effect
   -- the task ends
   Ends : (cause : EndCause) → Effect
   -- what no verified code does

@@ -1,10 +1,11 @@
--- What is found in a program made by hand: fields, `execute`, what is handed out, the call of a frame; each beside an
--- answer that is wrong.
-use Rattle.std.specs.Prelude.{◌≡◌, ℕ, pos, negsuc, Bool, true, false, List, [], ◌∷◌, ◌++◌, Option, Some, None, map, is_some, codes}
+-- What is found in a program made by hand: fields, `execute`, what is handed out, the call of a frame, what catches an exception;
+-- each beside an answer that is wrong.
+use Rattle.std.specs.Prelude.{◌≡◌, ℕ, pos, Bool, true, false, List, [], ◌∷◌, ◌++◌, Option, Some, None, map, is_some, codes}
 use Rattle.std.specs.List.{list_all}
 use Rattle.kilim_program.specs.declared.class.Class.{Class}
 use Rattle.kilim_program.specs.declared.class.Field.{Field}
 use Rattle.kilim_program.specs.declared.class.Form.{Form}
+use Rattle.kilim_program.specs.declared.class.Handler.{Handler}
 use Rattle.kilim_program.specs.declared.class.Form.TheVariants.{Plain, Woven}
 use Rattle.kilim_program.specs.declared.class.Method.{Method}
 use Rattle.kilim_program.specs.declared.instr.Instr.{Instr}
@@ -16,17 +17,19 @@ use Rattle.kilim_program.specs.declared.ty.Ty.{Ty}
 use Rattle.kilim_program.specs.declared.ty.Qualifier.TheVariants.{Cuttable, Safe}
 use Rattle.kilim_program.specs.declared.value.Value.TheVariants.{Int, Long, Null, Ref}
 use Rattle.kilim_program.specs.Program.{Program}
-use Rattle.kilim_program.specs.BuiltIn.{class_id, method_id, plain_type, int_type, built_in_class, built_in_method, built_in_classes_in, built_in_methods_in}
+use Rattle.kilim_program.specs.BuiltIn.{class_id, method_id, plain_type, int_type, built_in_method, built_in_classes_in, built_in_methods_in}
 use Rattle.kilim_program.specs.Examples.{built_in_program}
 use Rattle.kilim_program.specs.Same.{same_flag}
 use Rattle.kilim_run_state.specs.declared.value.Object.{Object}
 use Rattle.kilim_run_state.specs.declared.value.Token.TheVariants as token
-use Rattle.kilim_run_state.specs.Machine.{stands_behind}
+use Rattle.kilim_run_state.specs.Machine.{Activation, stands_behind}
+use Rattle.kilim_run_state.specs.declared.cause.EndCause.TheVariants as cause
 use Rattle.kilim_program.specs.Members.{object_fields, execute_of}
 use Rattle.kilim_run_state.specs.Objects.{new_object}
 use Rattle.kilim_run_state.specs.Shapes.{value_tokens}
 use Rattle.kilim_run_machine.specs.Natives.{is_built_in_constructor, is_handed_out, native_method}
 use Rattle.kilim_run_machine.specs.Moves.{receiver_of}
+use Rattle.kilim_run_machine.specs.Raising.{array_index, handler_of, raised_class, text_index, thrown, thrown_cause, unwound}
 
 -- ---- the program
 
@@ -132,6 +135,63 @@ Behind =
 abbrev pub Receivers : Type 0
 Receivers = (receiver_of by_hand (method_id 0) (Ref 3 ∷ Null ∷ []) ≡ Some (Ref 3)) × (receiver_of by_hand (method_id 13) (Int (pos 1) ∷ []) ≡ None)
 
+-- ---- exceptions
+
+abbrev pub entry : ℕ → ℕ → ℕ → Option ClassId → Handler
+entry start end at catch = record { start = start; end = end; at = at; catch = catch }
+
+-- for `B`, for `A`, and for all, with ranges that overlap
+abbrev pub table : List Handler
+table = entry 0 4 10 (Some (class_id 1)) ∷ entry 0 8 20 (Some (class_id 0)) ∷ entry 4 5 30 None ∷ []
+
+-- The first entry whose range has the place and whose class is that of the object or above it; the end of a range is outside.
+abbrev pub Handlers : Type 0
+Handlers =
+    (handler_of by_hand (class_id 1) 0 table ≡ Some (entry 0 4 10 (Some (class_id 1))))
+    × (handler_of by_hand (class_id 0) 0 table ≡ Some (entry 0 8 20 (Some (class_id 0))))
+    × (handler_of by_hand (class_id 1) 4 table ≡ Some (entry 0 8 20 (Some (class_id 0))))
+    × (handler_of by_hand (class_id 2) 4 table ≡ Some (entry 4 5 30 None))
+    × (handler_of by_hand (class_id 2) 5 table ≡ None)
+    × (handler_of by_hand (class_id 0) 8 table ≡ None)
+
+-- the first method has a call at 1, and catches there what is an `A`
+abbrev pub catching : Method
+catching = record (own_execute 2 false) { code = three_instructions; code_length = 5; handlers = entry 1 4 4 (Some (class_id 0)) ∷ [] }
+
+abbrev pub with_table : Program
+with_table = record by_hand { methods = catching ∷ by_hand.methods }
+
+abbrev pub standing : ℕ → Activation
+standing place = record { method = method_id 0; place = place; locals = Int (pos 7) ∷ []; stack = Int (pos 8) ∷ [] }
+
+abbrev pub landed : Activation
+landed = record { method = method_id 0; place = 4; locals = Int (pos 7) ∷ []; stack = Ref 3 ∷ [] }
+
+-- A top frame is tried at its own place and a lower one at its call; a frame that doesn't catch is dropped.
+abbrev pub Unwinds : Type 0
+Unwinds =
+    (thrown with_table (class_id 1) (Ref 3) (standing 1) [] ≡ landed ∷ [])
+    × (thrown with_table (class_id 1) (Ref 3) (standing 4) [] ≡ [])
+    × (thrown with_table (class_id 1) (Ref 3) (standing 0) (standing 4 ∷ standing 1 ∷ []) ≡ landed ∷ standing 1 ∷ [])
+    × (unwound with_table (class_id 1) (Ref 3) (standing 1 ∷ standing 4 ∷ []) ≡ landed ∷ [])
+    × (unwound with_table (class_id 2) (Ref 3) (standing 4 ∷ []) ≡ [])
+    × (unwound by_hand (class_id 1) (Ref 3) (standing 4 ∷ []) ≡ [])
+
+abbrev pub named : List ℕ → Program
+named name = record by_hand { classes = class_with name 5 [] [] ∷ [] }
+
+-- Each of the six causes has its class, and an index three; what is thrown by code has the word of exactly these.
+abbrev pub Words : Type 0
+Words =
+    (thrown_cause (named (codes "java/lang/ArithmeticException")) (class_id 0) ≡ cause.Zero)
+    × (thrown_cause (named (codes "java/lang/IndexOutOfBoundsException")) (class_id 0) ≡ cause.Index)
+    × (thrown_cause (named (codes "java/lang/StringIndexOutOfBoundsException")) (class_id 0) ≡ cause.Index)
+    × (thrown_cause (named (codes "java/lang/RuntimeException")) (class_id 0) ≡ cause.Thrown)
+    × (raised_class (named (codes "java/lang/ArithmeticException")) array_index cause.Zero ≡ Some (class_id 0))
+    × (raised_class (named array_index) array_index cause.Index ≡ Some (class_id 0))
+    × (raised_class (named array_index) text_index cause.Index ≡ None)
+    × (raised_class (named (codes "java/lang/ArithmeticException")) array_index cause.Spent ≡ None)
+
 pub record IsFound : Type 0 where
   pub fields : Fields
   pub shape : Shape
@@ -139,3 +199,6 @@ pub record IsFound : Type 0 where
   pub built_in : HandedOut
   pub behind : Behind
   pub receivers : Receivers
+  pub handlers : Handlers
+  pub unwinds : Unwinds
+  pub words : Words

@@ -6,6 +6,7 @@ use Rattle.kilim_run_state.specs.declared.cause.EndCause.TheVariants as cause
 use Rattle.kilim_program.specs.declared.class.Method.{Method}
 use Rattle.kilim_program.specs.Program.{Program}
 use Rattle.kilim_program.specs.declared.instr.Instr.{Instr}
+use Rattle.kilim_program.specs.declared.names.ClassId.{ClassId}
 use Rattle.kilim_program.specs.declared.names.MethodId.{MethodId}
 use Rattle.kilim_run_state.specs.declared.value.Object.{Object}
 use Rattle.kilim_program.specs.declared.value.Value.{Value}
@@ -80,6 +81,8 @@ pub data Move : Type 0 where
   Returns : (heap : Objects) → Move
   -- something is wrong with a value
   Raises : (cause : EndCause) → Move
+  -- an object of that class is thrown
+  Throws : (object : ℕ) (class : ClassId) (cause : EndCause) → Move
   -- the task ends
   Ends : (cause : EndCause) → Move
   -- what no verified code does
@@ -112,6 +115,7 @@ move_by p (effect.Calls m args place locals stack heap) top below = called p m a
 move_by p (effect.Asks m args place locals stack heap) top below = Asks m args (goes_on top place locals stack ∷ below) heap
 move_by p (effect.Returns value heap) top below = returned value below heap
 move_by p (effect.Raises cause) top below = Raises cause
+move_by p (effect.Throws object class cause) top below = Throws object class cause
 move_by p (effect.Ends cause) top below = Ends cause
 move_by p effect.Stuck top below = Stuck
 

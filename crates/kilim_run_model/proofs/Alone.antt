@@ -16,11 +16,13 @@ use Rattle.kilim_run_machine.specs.Moves.{Move, moves, push_value}
 use Rattle.kilim_run_machine.specs.Moves as move
 use Rattle.kilim_run_state.specs.Shapes.{shape_of}
 use Rattle.kilim_run_model.specs.State.{Setting, Thread, Alive, Ended, State, begun_on, is_full}
-use Rattle.kilim_run_model.specs.Lone.{Lone, Next, Goes, Puts, PutWaits, Bounds, Gets, Probes, Starts, Prints, Ends, Stands, box_limit, went, pushed_on, over, put_next, message_next, start_next, print_next, printed, arg_next, arg_at, native_next, asks_next, begins_next, finish_next, on_heap, next_by, frames_next, thread_next, next_move, get_at}
+use Rattle.kilim_run_model.specs.Lone.{Lone, Next, Goes, Puts, PutWaits, Bounds, Gets, Probes, Starts, Prints, Ends, Stands, box_limit, went, pushed_on, over, put_next, message_next, start_next, print_next, printed, arg_next, arg_at, native_next, asks_next, begins_next, finish_next, on_heap, next_by, frames_next, thread_next, next_move, get_at, pushed, raised, opens_next}
 use Rattle.kilim_run_model.specs.Turn.{quiet, gets, lone_of, moved_by, thread_moved, moved, puts, with_lone}
 use Rattle.kilim_run_model.specs.Runs.{where_empty, if_waits}
 use Rattle.kilim_run_model.specs.Course.{Deed, next_or, next_within, next_action, Done, Follows}
 use Rattle.kilim_run_model.specs.Alone.{NextComes, OneLone, RestsStill}
+use Rattle.kilim_run_model.proofs.Raised.{raised_has, raises_has, throws_has}
+use Rattle.kilim_run_machine.specs.Raising.{thrown}
 
 -- ---- where a thread goes on by itself, it has counted one instruction more
 
@@ -56,29 +58,36 @@ start_counts : (n : ℕ) (after : Lone) (root : ℕ) (shape : Option (List Token
 start_counts n after root None = tt
 start_counts n after root (Some shape) = tt
 
-message_counts : (n : ℕ) (p : Program) (after : Lone) (box : BoxName) (v : Value) → Counts n (message_next p after box v)
-message_counts n p after box Null = tt
-message_counts n p after box (Ref root) = put_counts n after box root (shape_of p after.heap root)
-message_counts n p after box v = tt
+-- a handler of what is raised behind a call has counted it
+thread_counts : (n done boxes : ℕ) (frames : List Activation) (th : Thread) → HasDone n th → th ≡ Alive frames done boxes → done ≡ n
+thread_counts n done boxes frames th h e = subst (HasDone n) e h
+
+raised_counts : (n : ℕ) (p : Program) (after : Lone) (why : EndCause) → HasDone n after.thread → Counts n (raised p after why)
+raised_counts n p after why h = raised_has (Counts n) after why tt p (λ object f fs frames done boxes e. thread_counts n done boxes frames after.thread h e)
+
+message_counts : (n : ℕ) (p : Program) (after : Lone) (box : BoxName) (v : Value) → HasDone n after.thread → Counts n (message_next p after box v)
+message_counts n p after box Null h = raised_counts n p after cause.Null h
+message_counts n p after box (Ref root) h = put_counts n after box root (shape_of p after.heap root)
+message_counts n p after box v h = tt
 
 print_counts : (n : ℕ) (after : Lone) (t : Option Token) → Counts n (print_next after t)
 print_counts n after None = tt
 print_counts n after (Some t) = tt
 
-arg_counts : (n : ℕ) (after : Lone) (x : Option ℤ) → HasDone n after.thread → Counts n (arg_next after x)
-arg_counts n after None h = tt
-arg_counts n after (Some x) h = pushed_counts n (Int x) after.thread h
+arg_counts : (n : ℕ) (p : Program) (after : Lone) (x : Option ℤ) → HasDone n after.thread → Counts n (arg_next p after x)
+arg_counts n p after None h = raised_counts n p after cause.Index h
+arg_counts n p after (Some x) h = pushed_counts n (Int x) after.thread h
 
 native_counts : (n : ℕ) (set : Setting) (after : Lone) (nat : Native) (args : List Value) → HasDone n after.thread → Counts n (native_next set after nat args)
 native_counts n set after native.Execute (Ref r ∷ []) h = h
 native_counts n set after native.Start (Ref r ∷ []) h = start_counts n after r (shape_of set.program after.heap r)
-native_counts n set after native.Put (Box box ∷ message ∷ []) h = message_counts n set.program after box message
+native_counts n set after native.Put (Box box ∷ message ∷ []) h = message_counts n set.program after box message h
 native_counts n set after native.Get (Box box ∷ []) h = tt
 native_counts n set after native.Getnb (Box box ∷ []) h = tt
 native_counts n set after native.Print (v ∷ []) h = print_counts n after (printed v)
 native_counts n set after native.Yield [] h = h
 native_counts n set after native.ArgCount [] h = pushed_counts n _ after.thread h
-native_counts n set after native.Arg (Int i ∷ []) h = arg_counts n after (arg_at set.limits.args i) h
+native_counts n set after native.Arg (Int i ∷ []) h = arg_counts n set.program after (arg_at set.limits.args i) h
 native_counts n set after nat args h = tt
 
 asks_counts : (n : ℕ) (set : Setting) (after : Lone) (args : List Value) (nat : Option Native) → HasDone n after.thread → Counts n (asks_next set after args nat)
@@ -94,19 +103,20 @@ finish_counts : (set : Setting) (l : Lone) (done boxes : ℕ) (kept : Option ℕ
 finish_counts set l done boxes None = tt
 finish_counts set l done boxes (Some n) = begins_counts l done boxes (begun_on set.program (execute_of set.program set.main) n)
 
-move_counts : (set : Setting) (t : ℕ) (l : Lone) (done boxes : ℕ) (m : Move) → Counts (done + 1) (next_by set t l done boxes m)
-move_counts set t l done boxes (move.Runs change frames heap) = refl
-move_counts set t l done boxes (move.Makes object frames heap) = refl
-move_counts set t l done boxes (move.Opens frames heap) = either (done + 1) (nat_lt boxes box_limit) _ _ refl tt
-move_counts set t l done boxes (move.Asks m args frames heap) = asks_counts (done + 1) set (went (on_heap l heap) frames done boxes) args (native_of set.program m) refl
-move_counts set t l done boxes (move.Returns heap) = finish_counts set (on_heap l heap) done boxes l.kept
-move_counts set t l done boxes (move.Raises cause) = tt
-move_counts set t l done boxes (move.Ends cause) = tt
-move_counts set t l done boxes move.Stuck = tt
+move_counts : (set : Setting) (t : ℕ) (l : Lone) (done boxes : ℕ) (top : Activation) (below : List Activation) (m : Move) → Counts (done + 1) (next_by set t l done boxes top below m)
+move_counts set t l done boxes top below (move.Runs change frames heap) = refl
+move_counts set t l done boxes top below (move.Makes object frames heap) = refl
+move_counts set t l done boxes top below (move.Opens frames heap) = either (done + 1) (nat_lt boxes box_limit) _ _ refl tt
+move_counts set t l done boxes top below (move.Asks m args frames heap) = asks_counts (done + 1) set (went (on_heap l heap) frames done boxes) args (native_of set.program m) refl
+move_counts set t l done boxes top below (move.Returns heap) = finish_counts set (on_heap l heap) done boxes l.kept
+move_counts set t l done boxes top below (move.Raises cause) = raises_has (Counts (done + 1)) l cause tt set.program done boxes top below (λ object f fs. refl)
+move_counts set t l done boxes top below (move.Throws n c cause) = throws_has (Counts (done + 1)) l cause tt (done + 1) boxes (thrown set.program c (Ref n) top below) (λ f fs. refl)
+move_counts set t l done boxes top below (move.Ends cause) = tt
+move_counts set t l done boxes top below move.Stuck = tt
 
 frames_count : (set : Setting) (t : ℕ) (l : Lone) (frames : List Activation) (done boxes : ℕ) → Counts (done + 1) (frames_next set t l frames done boxes)
 frames_count set t l [] done boxes = tt
-frames_count set t l (top ∷ below) done boxes = move_counts set t l done boxes (moves set.program top below l.heap)
+frames_count set t l (top ∷ below) done boxes = move_counts set t l done boxes top below (moves set.program top below l.heap)
 
 alive_counts : (set : Setting) (t : ℕ) (l : Lone) (frames : List Activation) (done boxes : ℕ) → Counts (done + 1) (thread_next set t l (Alive frames done boxes))
 alive_counts set t l frames done boxes = either (done + 1) (nat_le set.limits.steps done) (over l cause.Spent) _ tt (frames_count set t l frames done boxes)

@@ -2,7 +2,7 @@
 use Rattle.std.proofs.Common.{◌≡◌, ℕ, ◌<◌, ◌≤◌, Bool, true, cond, List, [], ◌∷◌, Option, Some, None, length, refl, ap, ◌∙◌, arith}
 use Rattle.std.specs.Prelude.{◌==◌, ◌&&◌, ℤ, pos, nat_lt, nat_le, count_by}
 use Rattle.std.proofs.lemmas.Bool.{lt-leb, le-leb, lt-ltb, le-ltb, eq-eqb}
-use Rattle.kilim_run_state.specs.declared.cause.EndCause.TheVariants.{Depth, Spent, Tasks}
+use Rattle.kilim_run_state.specs.declared.cause.EndCause.TheVariants.{Depth, Spent, Tasks, Boxes, Done, Index, Large, Null, Zero}
 use Rattle.kilim_run_state.specs.declared.value.Token.{Token}
 use Rattle.kilim_program.specs.declared.value.Value.TheVariants as value
 use Rattle.kilim_program.specs.declared.names.BoxName.{BoxName}
@@ -12,8 +12,9 @@ use Rattle.kilim_run_state.specs.Machine.{Activation}
 use Rattle.kilim_run_machine.specs.Moves.{Move, called, entered, receiver_of, Enters}
 use Rattle.kilim_run_machine.specs.Moves as move
 use Rattle.kilim_run_state.specs.Shapes.{tree_limit, is_open, shape_by}
-use Rattle.kilim_run_model.specs.State.{Alive, same_box, with_queue, execute_frames}
-use Rattle.kilim_run_model.specs.Lone.{Next, Goes, ended, pushed, narrowed, over, frames_next, next_move, get_at, put_next, start_next, arg_next, arg_at}
+use Rattle.kilim_run_model.specs.State.{Alive, same_box, with_queue, execute_frames, Setting, Thread, State}
+use Rattle.kilim_run_model.specs.Lone.{Next, Goes, ended, pushed, narrowed, over, frames_next, next_move, get_at, put_next, start_next, arg_next, arg_at, Lone, thread_next, message_next}
+use Rattle.kilim_run_model.proofs.Raised.{raised_over, raises_over}
 use Rattle.kilim_run_model.specs.declared.waits.Waits.TheVariants as wait
 use Rattle.kilim_run_model.specs.Turn.{acted, lone_of, with_lone, starts_with, moved_by}
 use Rattle.kilim_run_model.specs.Runs.{where_empty, if_waits, waits_at}
@@ -69,8 +70,8 @@ null_then_large setting s t after box n = (
 
 arguments : Arguments
 arguments setting after a b e = (
-  ap (λ (args : List ℤ). arg_next after (arg_at args (pos 1))) e,
-  ap (λ (args : List ℤ). arg_next after (arg_at args (pos 2))) e,
+  ap (λ (args : List ℤ). arg_next setting.program after (arg_at args (pos 1))) e,
+  ap (λ (args : List ℤ). arg_next setting.program after (arg_at args (pos 2))) e,
   refl,
   ap (λ (args : List ℤ). Goes (pushed (value.Int (narrowed (length args))) after)) e,
 )
@@ -105,7 +106,12 @@ edges = record {
   box_is_empty = λ s t box after. (refl, refl);
   null_then_large_then_tasks = null_then_large;
   arguments = arguments;
-  raised_ends = λ setting s t l. refl;
+  raised_ends = λ setting s t l object top f below fs done boxes. (
+    λ none. ap (moved_by setting s t) (raised_over setting.program none l Null),
+    λ none. raises_over setting.program none l Zero done boxes top below,
+    refl,
+    refl,
+  );
   endings = λ setting t l frame done boxes. (refl, refl, refl, refl);
   value_is_printed = λ n x units. (refl, refl, refl, refl, refl);
   who_waits = who_waits;

@@ -4,3 +4,4 @@ pub mod Examples
 pub mod Edges
 pub mod Alone
 pub mod Anywhere
+pub mod Raised

@@ -33,17 +33,17 @@ moves_at p top below heap e is = ap (λ (x : Effect). move_by p x top below) is
 next_at : (set : Setting) (t : ℕ) (l : Lone) (top : Activation) (below : List Activation) (done boxes : ℕ) (method : Method) (found : Instr × ℕ) →
     l.thread ≡ Alive (top ∷ below) done boxes → done < set.limits.steps →
     method_at set.program top.method ≡ Some method → fetched method.code method.code_length top.place ≡ Some found →
-    next_move set t l ≡ next_by set t l done boxes (move_by set.program (does set.program method found.0 found.1 top.locals top.stack l.heap) top below)
+    next_move set t l ≡ next_by set t l done boxes top below (move_by set.program (does set.program method found.0 found.1 top.locals top.stack l.heap) top below)
 unfolding next_move
 next_at set t l top below done boxes method found is-alive left is-method is-found =
     ap (thread_next set t l) is-alive
     ∙ (ap (λ (b : Bool). cond b (over l cause.Spent) (frames_next set t l (top ∷ below) done boxes)) (lt-leb set.limits.steps done left)
-    ∙ ap (next_by set t l done boxes) (moves_at set.program top below l.heap (does set.program method found.0 found.1 top.locals top.stack l.heap) (effect_at set.program top l.heap method found is-method is-found)))
+    ∙ ap (next_by set t l done boxes top below) (moves_at set.program top below l.heap (does set.program method found.0 found.1 top.locals top.stack l.heap) (effect_at set.program top l.heap method found is-method is-found)))
 
 pub step : (set : Setting) (s : State) (t : ℕ) (top : Activation) (below : List Activation) (done boxes : ℕ) (method : Method) (found : Instr × ℕ) →
     slice_get s.threads t ≡ Some (Alive (top ∷ below) done boxes) → done < set.limits.steps →
     method_at set.program top.method ≡ Some method → fetched method.code method.code_length top.place ≡ Some found →
-    moved set s t ≡ moved_by set s t (next_by set t (lone_of s t (Alive (top ∷ below) done boxes)) done boxes (move_by set.program (does set.program method found.0 found.1 top.locals top.stack s.heap) top below))
+    moved set s t ≡ moved_by set s t (next_by set t (lone_of s t (Alive (top ∷ below) done boxes)) done boxes top below (move_by set.program (does set.program method found.0 found.1 top.locals top.stack s.heap) top below))
 unfolding moved
 step set s t top below done boxes method found is-alive left is-method is-found =
     ap (thread_moved set s t) is-alive

@@ -3,3 +3,4 @@ pub mod Renamed
 pub mod Words
 pub mod Rows
 pub mod Moving
+pub mod Thrown

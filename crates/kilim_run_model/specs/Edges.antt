@@ -1,6 +1,7 @@
 -- The machine at its edges: each fact beside its neighbour, where something else happens.
-use Rattle.std.specs.Prelude.{◌≡◌, ℕ, suc, ◌+◌, ◌<◌, ◌≤◌, ◌∷◌, ℤ, pos, negsuc, List, [], Option, Some, None, length, count_by}
-use Rattle.kilim_run_state.specs.declared.cause.EndCause.TheVariants.{Boxes, Depth, Done, Index, Large, Null, Spent, Tasks}
+use Rattle.std.specs.Prelude.{◌≡◌, ℕ, suc, ◌+◌, ◌<◌, ◌≤◌, ◌∷◌, ℤ, pos, negsuc, List, [], Option, Some, None, length, count_by, ◌++◌, codes}
+use Rattle.kilim_run_state.specs.declared.cause.EndCause.TheVariants.{Boxes, Depth, Done, Index, Large, Null, Spent, Tasks, Zero}
+use Rattle.std.specs.FinMap.{insert}
 use Rattle.kilim_program.specs.Program.{Program}
 use Rattle.kilim_program.specs.declared.names.BoxName.{BoxName}
 use Rattle.kilim_program.specs.declared.names.MethodId.{MethodId}
@@ -13,11 +14,12 @@ use Rattle.kilim_run_journal.specs.declared.entry.Act.TheVariants.{Take, Empty, 
 use Rattle.kilim_run_state.specs.Machine.{Objects, Activation}
 use Rattle.kilim_run_machine.specs.Moves.{called, entered, receiver_of, push_value, Enters}
 use Rattle.kilim_run_machine.specs.Moves as move
+use Rattle.kilim_run_machine.specs.Raising.{NoTables}
 use Rattle.kilim_run_machine.specs.Natives as native
 use Rattle.kilim_run_state.specs.Shapes.{value_tokens, tree_limit, is_open, shape_by, shape_of}
-use Rattle.kilim_run_model.specs.State.{Setting, empty_mailbox, with_message, Alive, State, execute_frames}
-use Rattle.kilim_run_model.specs.Lone.{Lone, Goes, Gets, went, pushed, ended, over, raised, native_next, opens_next, begins_next, finish_next, frames_next, thread_next, next_move, printed}
-use Rattle.kilim_run_model.specs.Turn.{quiet, acted, lone_of, with_lone, gets, probes, starts, moved_by}
+use Rattle.kilim_run_model.specs.State.{Setting, empty_mailbox, with_message, Alive, State, execute_frames, Mailbox, Thread, Ended}
+use Rattle.kilim_run_model.specs.Lone.{Lone, Goes, Gets, went, pushed, ended, over, raised, native_next, opens_next, begins_next, finish_next, frames_next, thread_next, next_move, printed, Next, Ends, raises_by, raises_next, arg_at}
+use Rattle.kilim_run_model.specs.Turn.{quiet, acted, lone_of, with_lone, gets, probes, starts, moved_by, Moved}
 use Rattle.kilim_run_model.specs.Runs.{waits_at}
 
 -- ---- limits
@@ -68,7 +70,7 @@ EmptyMailbox = (s : State) (t : ℕ) (box : BoxName) (after : Lone) → (gets s 
 -- A null is raised whatever else; too large a tree ends the task, also where there are too many tasks.
 abbrev pub NullThenLargeThenTasks : Type 0
 NullThenLargeThenTasks = (setting : Setting) (s : State) (t : ℕ) (after : Lone) (box : BoxName) (n : ℕ) →
-    (native_next setting after native.Put (value.Box box ∷ value.Null ∷ []) ≡ raised after Null)
+    (native_next setting after native.Put (value.Box box ∷ value.Null ∷ []) ≡ raised setting.program after Null)
     × (shape_of setting.program after.heap n ≡ None → native_next setting after native.Put (value.Box box ∷ value.Ref n ∷ []) ≡ over after Large)
     × (shape_of setting.program after.heap n ≡ None → moved_by setting s t (native_next setting after native.Start (value.Ref n ∷ [])) ≡ acted (with_lone s t (ended after Large)) (End Large))
 
@@ -76,13 +78,18 @@ NullThenLargeThenTasks = (setting : Setting) (s : State) (t : ℕ) (after : Lone
 abbrev pub Arguments : Type 0
 Arguments = (setting : Setting) (after : Lone) (a b : ℤ) → setting.limits.args ≡ a ∷ b ∷ [] →
     (native_next setting after native.Arg (value.Int (pos 1) ∷ []) ≡ Goes (pushed (value.Int b) after))
-    × (native_next setting after native.Arg (value.Int (pos 2) ∷ []) ≡ raised after Index)
-    × (native_next setting after native.Arg (value.Int (negsuc 0) ∷ []) ≡ raised after Index)
+    × (native_next setting after native.Arg (value.Int (pos 2) ∷ []) ≡ raised setting.program after Index)
+    × (native_next setting after native.Arg (value.Int (negsuc 0) ∷ []) ≡ raised setting.program after Index)
     × (native_next setting after native.ArgCount [] ≡ Goes (pushed (value.Int (pos 2)) after))
 
--- what is raised ends the task, today
+-- What is raised ends the task where no method has an exception table, by an instruction and by a built-in method; no object is made.
+-- Where a frame is left, the object is there, and the task stands there.
 abbrev pub RaisedEnds : Type 0
-RaisedEnds = (setting : Setting) (s : State) (t : ℕ) (l : Lone) → moved_by setting s t (raised l Null) ≡ acted (with_lone s t (ended l Null)) (End Null)
+RaisedEnds = (setting : Setting) (s : State) (t : ℕ) (l : Lone) (object : Object) (top f : Activation) (below fs : List Activation) (done boxes : ℕ) →
+    (NoTables setting.program → moved_by setting s t (raised setting.program l Null) ≡ acted (with_lone s t (ended l Null)) (End Null))
+    × (NoTables setting.program → raises_next setting.program l done boxes top below Zero ≡ over l Zero)
+    × (raises_by l object Null done boxes [] ≡ over l Null)
+    × (raises_by l object Null done boxes (f ∷ fs) ≡ Goes (record l { heap = insert l.heap l.next object; next = l.next + 1; thread = Alive (f ∷ fs) done boxes }))
 
 -- ---- beginnings and ends
 

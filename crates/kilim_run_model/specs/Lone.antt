@@ -16,6 +16,8 @@ use Rattle.kilim_run_state.specs.declared.cause.EndCause.{EndCause}
 use Rattle.kilim_run_state.specs.declared.cause.EndCause.TheVariants as cause
 use Rattle.kilim_program.specs.Program.{Program}
 use Rattle.kilim_program.specs.declared.names.BoxName.{BoxName}
+use Rattle.kilim_program.specs.declared.names.ClassId.{ClassId}
+use Rattle.kilim_run_state.specs.declared.value.Object.{Object}
 use Rattle.kilim_run_state.specs.declared.value.Token.{Token}
 use Rattle.kilim_run_state.specs.declared.value.Token.TheVariants as token
 use Rattle.kilim_program.specs.declared.value.Value.{Value}
@@ -26,6 +28,8 @@ use Rattle.kilim_run_machine.specs.Natives.{Native, native_of}
 use Rattle.kilim_run_machine.specs.Natives as native
 use Rattle.kilim_run_machine.specs.Moves.{Move, moves, push_value}
 use Rattle.kilim_run_machine.specs.Moves as move
+use Rattle.kilim_run_machine.specs.Raising.{index_at, other_index, raised_class, thrown, unwound}
+use Rattle.kilim_run_state.specs.Objects.{new_object}
 use Rattle.kilim_run_state.specs.Shapes.{shape_of}
 use Rattle.kilim_run_model.specs.State.{Setting, Thread, Alive, Ended, begun_on}
 use Rattle.kilim_run_model.specs.declared.waits.Waits.{Waits}
@@ -82,9 +86,37 @@ ended l cause = record l { thread = Ended cause; kept = None }
 abbrev pub over : Lone → EndCause → Next
 over l cause = Ends cause (ended l cause)
 
--- Something is wrong with a value, of an instruction or of a built-in method: the task ends.
-abbrev pub raised : Lone → EndCause → Next
-raised l cause = over l cause
+-- ---- exceptions: where no frame is left the task ends, and nothing is made
+
+-- with a new object, at these frames
+abbrev pub made_at : Lone → Object → List Activation → ℕ → ℕ → Lone
+made_at l object frames done boxes = record l { heap = insert l.heap l.next object; next = l.next + 1; thread = Alive frames done boxes }
+
+-- an object is thrown, which goes to these frames
+abbrev pub throws_by : Lone → EndCause → ℕ → ℕ → (left : List Activation) → Next
+throws_by l why done boxes [] = over l why
+throws_by l why done boxes (f ∷ fs) = Goes (record l { thread = Alive (f ∷ fs) done boxes })
+
+-- a new object is
+abbrev pub raises_by : Lone → Object → EndCause → ℕ → ℕ → (left : List Activation) → Next
+raises_by l object why done boxes [] = over l why
+raises_by l object why done boxes (f ∷ fs) = Goes (made_at l object (f ∷ fs) done boxes)
+
+abbrev pub raises_of : Program → Lone → EndCause → ℕ → ℕ → (ClassId → List Activation) → Option ClassId → Next
+raises_of p l why done boxes left None = over l why
+raises_of p l why done boxes left (Some c) = raises_by l (new_object p c) why done boxes (left c)
+
+-- Something is wrong with a value of the instruction at which the top frame stands. The instruction is counted.
+abbrev pub raises_next : Program → Lone → ℕ → ℕ → Activation → List Activation → EndCause → Next
+raises_next p l done boxes top below why = raises_of p l why (done + 1) boxes (λ c. thrown p c (Ref l.next) top below) (raised_class p (index_at p top) why)
+
+-- something is wrong with a value of a built-in method, with the thread behind its call
+abbrev pub raised_in : Program → Lone → EndCause → Thread → Next
+raised_in p after why (Ended cause) = over after why
+raised_in p after why (Alive frames done boxes) = raises_of p after why done boxes (λ c. unwound p c (Ref after.next) frames) (raised_class p other_index why)
+
+abbrev pub raised : Program → Lone → EndCause → Next
+raised p after why = raised_in p after why after.thread
 
 -- ---- built-in methods, with the thread behind the call
 
@@ -93,7 +125,7 @@ put_next after box n None = over after cause.Large
 put_next after box n (Some shape) = Puts box n shape after
 
 abbrev pub message_next : Program → Lone → BoxName → Value → Next
-message_next p after box Null = raised after cause.Null
+message_next p after box Null = raised p after cause.Null
 message_next p after box (Ref n) = put_next after box n (shape_of p after.heap n)
 message_next p after box v = Stands
 
@@ -121,9 +153,9 @@ abbrev pub arg_at : List ℤ → ℤ → Option ℤ
 arg_at args (pos i) = slice_get args i
 arg_at args (negsuc i) = None
 
-abbrev pub arg_next : Lone → Option ℤ → Next
-arg_next after None = raised after cause.Index
-arg_next after (Some n) = Goes (pushed (Int n) after)
+abbrev pub arg_next : Program → Lone → Option ℤ → Next
+arg_next p after None = raised p after cause.Index
+arg_next p after (Some n) = Goes (pushed (Int n) after)
 
 -- The receiver is the first of the arguments, and isn't null. Other arguments than these don't come in verified code, nor
 -- does a member of `kilim/Fiber` in code that isn't woven: the thread then stands still.
@@ -136,7 +168,7 @@ native_next setting after native.Getnb (Box box ∷ []) = Probes box after
 native_next setting after native.Print (v ∷ []) = print_next after (printed v)
 native_next setting after native.Yield [] = Goes after
 native_next setting after native.ArgCount [] = Goes (pushed (Int (narrowed (length setting.limits.args))) after)
-native_next setting after native.Arg (Int i ∷ []) = arg_next after (arg_at setting.limits.args i)
+native_next setting after native.Arg (Int i ∷ []) = arg_next setting.program after (arg_at setting.limits.args i)
 native_next setting after n args = Stands
 
 abbrev pub asks_next : Setting → Lone → List Value → Option Native → Next
@@ -165,21 +197,23 @@ finish_next setting l done boxes (Some n) = begins_next l done boxes (begun_on s
 abbrev pub on_heap : Lone → Objects → Lone
 on_heap l heap = record l { heap = heap }
 
-abbrev pub next_by : Setting → ℕ → Lone → ℕ → ℕ → Move → Next
-next_by setting t l done boxes (move.Runs change frames heap) = Goes (went (on_heap l heap) frames done boxes)
-next_by setting t l done boxes (move.Makes object frames heap) =
+-- `top` and `below` are the frames before the move
+abbrev pub next_by : Setting → ℕ → Lone → ℕ → ℕ → Activation → List Activation → Move → Next
+next_by setting t l done boxes top below (move.Runs change frames heap) = Goes (went (on_heap l heap) frames done boxes)
+next_by setting t l done boxes top below (move.Makes object frames heap) =
     Goes (went (record l { heap = insert heap l.next object; next = l.next + 1 }) (push_value (Ref l.next) frames) done boxes)
-next_by setting t l done boxes (move.Opens frames heap) = opens_next t (on_heap l heap) frames done boxes
-next_by setting t l done boxes (move.Asks m args frames heap) = asks_next setting (went (on_heap l heap) frames done boxes) args (native_of setting.program m)
-next_by setting t l done boxes (move.Returns heap) = finish_next setting (on_heap l heap) done boxes l.kept
-next_by setting t l done boxes (move.Raises cause) = raised l cause
-next_by setting t l done boxes (move.Ends cause) = over l cause
-next_by setting t l done boxes move.Stuck = Stands
+next_by setting t l done boxes top below (move.Opens frames heap) = opens_next t (on_heap l heap) frames done boxes
+next_by setting t l done boxes top below (move.Asks m args frames heap) = asks_next setting (went (on_heap l heap) frames done boxes) args (native_of setting.program m)
+next_by setting t l done boxes top below (move.Returns heap) = finish_next setting (on_heap l heap) done boxes l.kept
+next_by setting t l done boxes top below (move.Raises cause) = raises_next setting.program l done boxes top below cause
+next_by setting t l done boxes top below (move.Throws n class cause) = throws_by l cause (done + 1) boxes (thrown setting.program class (Ref n) top below)
+next_by setting t l done boxes top below (move.Ends cause) = over l cause
+next_by setting t l done boxes top below move.Stuck = Stands
 
 -- a task that was started with the built-in `execute` is done in its first move
 abbrev pub frames_next : Setting → ℕ → Lone → List Activation → ℕ → ℕ → Next
 frames_next setting t l [] done boxes = over l cause.Done
-frames_next setting t l (top ∷ below) done boxes = next_by setting t l done boxes (moves setting.program top below l.heap)
+frames_next setting t l (top ∷ below) done boxes = next_by setting t l done boxes top below (moves setting.program top below l.heap)
 
 -- A thread that has done all of its instructions is spent, before anything else is looked at.
 abbrev pub thread_next : Setting → ℕ → Lone → Thread → Next

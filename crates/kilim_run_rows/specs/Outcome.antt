@@ -7,7 +7,7 @@ use Rattle.kilim_program.specs.declared.value.Value.TheVariants.{Ref}
 use Rattle.kilim_run_state.specs.declared.value.Object.{Object}
 use Rattle.kilim_run_state.specs.Machine.{Objects}
 use Rattle.kilim_run_machine.specs.Does.{narrowed_result}
-use Rattle.kilim_run_machine.specs.Effect.{Effect, Goes, Makes, Opens, Calls, Asks, Returns, Raises, Ends, Stuck}
+use Rattle.kilim_run_machine.specs.Effect.{Effect, Goes, Makes, Opens, Calls, Asks, Returns, Raises, Throws, Ends, Stuck}
 use Rattle.kilim_run_state.specs.Words.{element_at}
 use Rattle.kilim_run_state.specs.declared.frames.frame.Frame.{Frame}
 use Rattle.kilim_run_rows.specs.declared.outcome.Moved.{Moved}
@@ -21,6 +21,7 @@ is_stuck (Calls m args place locals stack heap) = false
 is_stuck (Asks m args place locals stack heap) = false
 is_stuck (Returns value heap) = false
 is_stuck (Raises cause) = false
+is_stuck (Throws object class cause) = false
 is_stuck (Ends cause) = false
 is_stuck Stuck = true
 
@@ -33,6 +34,7 @@ height (Calls m args place locals stack heap) = length stack
 height (Asks m args place locals stack heap) = length stack
 height (Returns value heap) = 0
 height (Raises cause) = 0
+height (Throws object class cause) = 0
 height (Ends cause) = 0
 height Stuck = 0
 

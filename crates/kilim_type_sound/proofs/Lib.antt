@@ -24,3 +24,4 @@ pub mod TextClass
 pub mod OwnFields
 pub mod Selecting
 pub mod Grounds
+pub mod Caught

@@ -20,7 +20,7 @@ use Rattle.kilim_run_state.specs.Machine.{Objects, Activation}
 use Rattle.kilim_program.specs.Lengths.{is_code_place}
 use Rattle.kilim_program.specs.Names.{method_at}
 use Rattle.kilim_program.specs.Same.{argument_slots, type_slots, is_wide_base, is_constructor}
-use Rattle.kilim_run_machine.specs.Effect.{Effect, Goes, Makes, Opens, Calls, Asks, Returns, Raises, Ends, Stuck, is_wide}
+use Rattle.kilim_run_machine.specs.Effect.{Effect, Goes, Makes, Opens, Calls, Asks, Returns, Raises, Throws, Ends, Stuck, is_wide}
 use Rattle.kilim_run_state.specs.Machine.{slots_of}
 use Rattle.kilim_run_machine.specs.Moves.{slots_in, entered, push_value, push_result, called, returned, move_by, frame_limit}
 use Rattle.kilim_run_machine.specs.Moves as moves
@@ -319,5 +319,6 @@ module _ (p : Program) (typing : Typing) (live : Wanted) (verified : Verified p 
     move_fits (Asks id args place ls vs h) c = record { callee = c.callee; there = c.there; built_in = c.built_in; arguments = c.arguments; frames = (goes (result_awaited c.callee.result) place ls vs h c.goes, callers_of); heap = c.goes.heap }
     move_fits (Returns v h) g = returns m.result v h below g.0 g.1 callers
     move_fits (Raises c) g = tt
+    move_fits (Throws object class c) g = g
     move_fits (Ends c) g = tt
     move_fits Stuck g = absurd g

@@ -2,3 +2,4 @@ pub mod Fits
 pub mod Sound
 pub mod Facts
 pub mod Law
+pub mod Caught

@@ -5,9 +5,10 @@ use Rattle.kilim_program.specs.declared.names.MethodId.{MethodId}
 use Rattle.kilim_program.specs.declared.value.Value.{Value}
 use Rattle.kilim_program.specs.declared.verified.VType.{VType}
 use Rattle.kilim_program.specs.Program.{Program}
+use Rattle.kilim_program.specs.BuiltIn.{class_type}
 use Rattle.kilim_run_state.specs.Machine.{Objects, Activation}
 use Rattle.kilim_program.specs.Names.{method_at}
-use Rattle.kilim_run_machine.specs.Effect.{Effect, Goes, Makes, Opens, Calls, Asks, Returns, Raises, Ends, Stuck}
+use Rattle.kilim_run_machine.specs.Effect.{Effect, Goes, Makes, Opens, Calls, Asks, Returns, Raises, Throws, Ends, Stuck}
 use Rattle.kilim_program.specs.Members.{named_type}
 use Rattle.kilim_run_machine.specs.Moves.{Move}
 use Rattle.kilim_run_machine.specs.Moves as move
@@ -53,6 +54,7 @@ module _ (p : Program) (m : Method) (of : Classes) (live : ℕ → ℕ → Bool)
   EffectFits (Asks id args place ls vs h) = NativeFits id args place ls vs h
   EffectFits (Returns v h) = (have_types p m of (result_types m.result) (option_to_list v) ≡ true) × HeapFits p of h
   EffectFits (Raises cause) = Unit {0}
+  EffectFits (Throws object class cause) = of object ≡ Some (class_type class.0)
   EffectFits (Ends cause) = Unit {0}
   EffectFits Stuck = ⊥
 
@@ -73,5 +75,6 @@ MoveFits p typing live of (move.Opens frames h) = FramesFit p typing live of (AR
 MoveFits p typing live of (move.Asks id args frames h) = AsksFit p typing live of id args frames h
 MoveFits p typing live of (move.Returns h) = HeapFits p of h
 MoveFits p typing live of (move.Raises cause) = Unit {0}
+MoveFits p typing live of (move.Throws object class cause) = of object ≡ Some (class_type class.0)
 MoveFits p typing live of (move.Ends cause) = Unit {0}
 MoveFits p typing live of move.Stuck = ⊥

@@ -1,11 +1,18 @@
 //! Verified code never gets stuck: laws about the definitions of typing and of the machine. No program calls them to do work.
 #![tactic(auto)]
 
+ghost use Rattle.kilim_type_sound.specs.Caught.{ThrowsFit};
 ghost use Rattle.kilim_type_sound.specs.Law.{AllAnswersFit, AreVerified, AreWanted, BeginningsFit, FactsHold, MovesFit};
 
 /// A law, and no work: the next move of frames that fit the frames of verification is one, and what it leaves fits.
 pub fn moves_fit()
     ensures { MovesFit }
+{}
+
+/// A law, and no work: where an object is thrown at an instruction of frames that fit, and what verification says of exception tables
+/// holds, the frames from the first that catches it on fit.
+pub fn throws_fit()
+    ensures { ThrowsFit }
 {}
 
 /// A law, and no work: what fits goes on fitting where what a frame waits for comes, and where objects come and go.

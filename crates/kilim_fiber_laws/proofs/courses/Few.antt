@@ -10,7 +10,7 @@ use Rattle.kilim_program.specs.declared.value.Value.{Value}
 use Rattle.kilim_program.specs.declared.value.Value.TheVariants.{Ref}
 use Rattle.kilim_program.specs.Names.{method_at}
 use Rattle.kilim_run_machine.specs.Does.{does}
-use Rattle.kilim_run_machine.specs.Effect.{Asks, Calls, Effect, Ends, Goes, Makes, Opens, Raises, Returns, Stuck}
+use Rattle.kilim_run_machine.specs.Effect.{Asks, Calls, Effect, Ends, Goes, Makes, Opens, Raises, Throws, Returns, Stuck}
 use Rattle.kilim_program.specs.Members.{execute_of}
 use Rattle.kilim_run_machine.specs.Moves.{entered, frame_limit}
 use Rattle.kilim_run_machine.specs.Natives.{Native, native_of}
@@ -73,6 +73,7 @@ module _ (set : Setting) where
   effect_few (Asks c args p l s heap) m x b w h = asked (with_heap w heap) (λ after v. Run m p l (push v s) x b after) (λ after v. h) (native_of set.program c) args
   effect_few (Returns v heap) m x b w h = returned v b (with_heap w heap) h
   effect_few (Raises why) m x b w h = ended w why
+  effect_few (Throws object class why) m x b w h = ended w why
   effect_few (Ends why) m x b w h = ended w why
   effect_few Stuck m x b w h = tt
 

@@ -29,6 +29,7 @@ use Rattle.kilim_type_sound.proofs.Walk.{stands_at}
 use Rattle.kilim_type_sound.specs.Sound.{CallFits, EffectFits, argument_types}
 use Rattle.kilim_type_sound.specs.Fits.{AreThere, Classes, ContentFits, HeapFits, IsThere, Typing, Wanted, has_objects, has_type, have_types, is_made, refers}
 use Rattle.kilim_run_state.specs.declared.value.Object.{Object as HeapObject}
+use Rattle.kilim_run_machine.specs.Raising.{NoTables}
 use Rattle.kilim_run_machine.specs.Does.{does}
 use Rattle.kilim_run_machine.specs.Effect.{Calls, Effect, Stuck}
 use Rattle.kilim_program.specs.Members.{named_type}
@@ -157,9 +158,9 @@ steps_last : (set : Setting) (n : ℕ) (t : Thread) → steps set n (step set t)
 steps_last set zero t = refl
 steps_last set (suc n) t = steps_last set n (step set t)
 
-all_of_course : (set : Setting) (n : ℕ) (t : Thread) → IsOfCourse set t → IsOfCourse set (steps set n t)
-all_of_course set zero t is = is
-all_of_course set (suc n) t is = all_of_course set n (step set t) (goes_on set t is)
+all_of_course : (set : Setting) → NoTables set.program → (n : ℕ) (t : Thread) → IsOfCourse set t → IsOfCourse set (steps set n t)
+all_of_course set none zero t is = is
+all_of_course set none (suc n) t is = all_of_course set none n (step set t) (goes_on set none t is)
 
 all_few : (set : Setting) (n : ℕ) (t : Thread) → HasFew t → HasFew (steps set n t)
 all_few set zero t few = few
@@ -222,7 +223,7 @@ module _ (set : Setting) (typing : Typing) (wanted : Wanted) (live : Liveness) (
 
   module _ (W : Program) (marks : List (List Bool)) (form : Forms set W marks) (first : Thread) (begins : IsOfCourse set first) (few : HasFew first) (stands : first ≢ Stop Lost) (rest : Rest set W marks form (From set first)) where
     at_all : (t : Thread) → From set first t → IsOfCourse set t
-    at_all t f = subst (λ (z : Thread). IsOfCourse set z) f.1 (all_of_course set f.0 first begins)
+    at_all t f = subst (λ (z : Thread). IsOfCourse set z) f.1 (all_of_course set is.keeps.handlers f.0 first begins)
 
     few_at : (t : Thread) → From set first t → HasFew t
     few_at t f = subst HasFew f.1 (all_few set f.0 first few)

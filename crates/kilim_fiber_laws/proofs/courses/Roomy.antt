@@ -27,7 +27,7 @@ use Rattle.kilim_run_model.proofs.one_heap.Wholes.{is_whole}
 use Rattle.kilim_run_model.specs.one_heap.Lones.{WholeMove}
 use Rattle.kilim_run_machine.specs.Does.{does}
 use Rattle.kilim_run_rows.specs.Outcome.{is_stuck}
-use Rattle.kilim_run_machine.specs.Effect.{Effect, Goes, Makes, Opens, Calls, Asks, Returns, Raises, Ends, Stuck}
+use Rattle.kilim_run_machine.specs.Effect.{Effect, Goes, Makes, Opens, Calls, Asks, Returns, Raises, Throws, Ends, Stuck}
 use Rattle.kilim_run_state.specs.Machine.{Activation, Objects}
 use Rattle.kilim_run_machine.specs.Moves.{effect_found, effect_in, effect_of, move_by, moves}
 use Rattle.kilim_run_machine.specs.Natives.{Native, native_of}
@@ -110,6 +110,7 @@ module _ (set : Setting) (typing : Typing) (wanted : Wanted) (is : IsVerified se
     result_room (Calls c args q l2 s2 heap) d = tt
     result_room (Returns v heap) d = tt
     result_room (Raises cause) d = tt
+    result_room (Throws object class cause) d = tt
     result_room (Ends cause) d = tt
     result_room Stuck d = tt
 
@@ -202,6 +203,7 @@ module _ (set : Setting) (live : Liveness) (m : MethodId) (p : ℕ) (l s : List 
   gives_by (Calls c args q l2 s2 heap) d = tt
   gives_by (Returns v heap) d = tt
   gives_by (Raises cause) d = tt
+  gives_by (Throws object class cause) d = tt
   gives_by (Ends cause) d = tt
   gives_by Stuck d = tt
 

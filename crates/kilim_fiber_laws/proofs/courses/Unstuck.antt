@@ -10,7 +10,7 @@ use Rattle.kilim_program.specs.declared.value.Value.{Value}
 use Rattle.kilim_program.specs.declared.value.Value.TheVariants.{Box, Ref}
 use Rattle.kilim_program.specs.Names.{method_at}
 use Rattle.kilim_run_machine.specs.Does.{does}
-use Rattle.kilim_run_machine.specs.Effect.{Asks, Calls, Effect, Ends, Goes, Makes, Opens, Raises, Returns, Stuck}
+use Rattle.kilim_run_machine.specs.Effect.{Asks, Calls, Effect, Ends, Goes, Makes, Opens, Raises, Throws, Returns, Stuck}
 use Rattle.kilim_run_state.specs.Machine.{Objects}
 use Rattle.kilim_program.specs.Members.{execute_of}
 use Rattle.kilim_run_machine.specs.Moves.{entered, frame_limit}
@@ -82,6 +82,7 @@ module _ (set : Setting) where
     effect_not (Asks c args p l s heap) m x b w n a = a c args p l s heap refl
     effect_not (Returns v heap) m x b w n a = returned v b (with_heap w heap)
     effect_not (Raises why) m x b w n a = ended w why
+    effect_not (Throws object class why) m x b w n a = ended w why
     effect_not (Ends why) m x b w n a = ended w why
     effect_not Stuck m x b w n a = absurd (n refl)
 

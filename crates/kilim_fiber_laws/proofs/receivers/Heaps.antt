@@ -17,7 +17,7 @@ use Rattle.kilim_program.specs.declared.value.Value.TheVariants.{Box, Fiber, Int
 use Rattle.kilim_program.specs.Names.{field_of, method_at}
 use Rattle.kilim_program.specs.Program.{Program}
 use Rattle.kilim_run_state.specs.Machine.{Objects}
-use Rattle.kilim_run_machine.specs.Effect.{Effect, Goes, Makes, Opens, Calls, Asks, Returns, Raises, Ends, Stuck, with_some, on_value, on_values, as_class, as_reference, as_receiver, as_int, as_long, when, wide_or, as_object, at_place, at_index, on_constant}
+use Rattle.kilim_run_machine.specs.Effect.{Effect, Goes, Makes, Opens, Calls, Asks, Returns, Raises, Throws, Ends, Stuck, with_some, on_value, on_values, as_class, as_reference, as_receiver, as_int, as_long, when, wide_or, as_object, at_place, at_index, on_constant}
 use Rattle.kilim_run_machine.specs.Does.{at_unit, calls_method, calls_on, calls_text, cast_fits, chosen, does, element_type, makes_array, array_limit, takes_element, text_answers, unit_at, with_element}
 use Rattle.kilim_run_machine.specs.Natives.{is_handed_out}
 use Rattle.kilim_run_state.specs.Objects.{new_array}
@@ -288,6 +288,7 @@ module _ (h : Objects) where
   reheaped_keeps (Asks c args p l s k) e = sym (ap heap_in e)
   reheaped_keeps (Returns v k) e = sym (ap heap_in e)
   reheaped_keeps (Raises c) e = tt
+  reheaped_keeps (Throws object class c) e = tt
   reheaped_keeps (Ends c) e = tt
   reheaped_keeps Stuck e = tt
 

@@ -18,7 +18,7 @@ use Rattle.kilim_run_state.specs.declared.cause.EndCause.{EndCause}
 use Rattle.kilim_run_state.specs.declared.cause.EndCause.TheVariants as cause
 use Rattle.kilim_run_state.specs.declared.value.Object.{Object}
 use Rattle.kilim_run_machine.specs.Does.{does}
-use Rattle.kilim_run_machine.specs.Effect.{Asks, Calls, Effect, Ends, Goes, Makes, Opens, Raises, Returns, Stuck}
+use Rattle.kilim_run_machine.specs.Effect.{Asks, Calls, Effect, Ends, Goes, Makes, Opens, Raises, Throws, Returns, Stuck}
 use Rattle.kilim_run_state.specs.Machine.{Activation, Objects}
 use Rattle.kilim_program.specs.Members.{constructor_of, execute_of, is_concrete, is_own_constructor}
 use Rattle.kilim_run_machine.specs.Moves.{entered, frame_limit, move_by}
@@ -208,6 +208,7 @@ module _ (set : Setting) (run : IsRunOfAccepted set) where
   effect_held of m p l s x b w is i to f held (Asks c args q l2 s2 h) t g k d later = asks_held of m p l s x b w is i to f held c args q l2 s2 h t g k
   effect_held of m p l s x b w is i to f held (Returns v h) t g k d later = returns_held of m p l s x b w is held v h t g k later
   effect_held of m p l s x b w is i to f held (Raises why) t g k d later = ended w why
+  effect_held of m p l s x b w is i to f held (Throws object class why) t g k d later = ended w why
   effect_held of m p l s x b w is i to f held (Ends why) t g k d later = ended w why
   effect_held of m p l s x b w is i to f held Stuck t g k d later = tt
 

@@ -15,7 +15,7 @@ use Rattle.kilim_program.specs.Names.{method_at}
 use Rattle.kilim_program.specs.Members.{execute_of}
 use Rattle.kilim_run_machine.specs.Natives.{Native, native_of}
 use Rattle.kilim_run_machine.specs.Natives as native
-use Rattle.kilim_run_machine.specs.Effect.{Effect, Goes, Makes, Opens, Calls, Asks, Returns, Raises, Ends, Stuck}
+use Rattle.kilim_run_machine.specs.Effect.{Effect, Goes, Makes, Opens, Calls, Asks, Returns, Raises, Throws, Ends, Stuck}
 use Rattle.kilim_run_state.specs.Machine.{slots_of}
 use Rattle.kilim_run_machine.specs.Moves.{entered, frame_limit}
 use Rattle.kilim_run_model.specs.State.{Setting}
@@ -234,6 +234,7 @@ module _ (set : Setting) (W : Program) (marks : List (List Bool)) (most : ℕ) (
           let n = tw.natives k args q l2 s2 heap refl in
           natives c few m p l s wl x ov links old was w ps fine here_ok u (native_of set.program k) (native_of W k) (member_of W k) args q s2 l2 tw.locals heap ok n.0 (rows.same_natives k n.0) n.1 eu ew (record { alike = tw.alike q l2 refl; held = tw.held q l2 refl; stacked = fine.stacked })
       by (Returns v heap) tw eu ew = plain_returns begin_takes c few m p l s wl x ov links old was w ps u v heap fine ok eu ew here_ok held
+      by (Throws object class cause) tw eu ew = ends c few m p l s wl x ov links old was w ps fine here_ok u w cause eu ew
       by (Raises cause) tw eu ew = ends c few m p l s wl x ov links old was w ps fine here_ok u w cause eu ew
       by (Ends cause) tw eu ew = ends c few m p l s wl x ov links old was w ps fine here_ok u w cause eu ew
       by Stuck tw eu ew = absurd (ok eu)

@@ -13,7 +13,7 @@ use Rattle.kilim_run_state.specs.Machine.{Activation}
 use Rattle.kilim_program.specs.Names.{method_at}
 use Rattle.kilim_program.specs.Members.{execute_of}
 use Rattle.kilim_run_machine.specs.Natives.{Native, native_of}
-use Rattle.kilim_run_machine.specs.Effect.{Effect, Goes, Makes, Opens, Calls, Asks, Returns, Raises, Ends, Stuck}
+use Rattle.kilim_run_machine.specs.Effect.{Effect, Goes, Makes, Opens, Calls, Asks, Returns, Raises, Throws, Ends, Stuck}
 use Rattle.kilim_run_machine.specs.Does.{does}
 use Rattle.kilim_run_machine.specs.Moves.{frame_limit}
 use Rattle.kilim_run_model.specs.State.{Setting}
@@ -85,6 +85,7 @@ module _ (set : Setting) where
   effect_counted (Returns v heap) m x [] w = finishes_counted w (with_heap w heap) w.kept refl
   effect_counted (Returns v heap) m x (At m2 p2 l2 s2 x2 ∷ b) w = refl
   effect_counted (Raises cause) m x b w = end_counted w w cause
+  effect_counted (Throws object class cause) m x b w = end_counted w w cause
   effect_counted (Ends cause) m x b w = end_counted w w cause
   effect_counted Stuck m x b w = tt
 

@@ -8,7 +8,7 @@ use Rattle.kilim_program.specs.declared.instr.Instr.{Instr}
 use Rattle.kilim_program.specs.declared.names.MethodId.{MethodId}
 use Rattle.kilim_program.specs.declared.value.Value.{Value}
 use Rattle.kilim_program.specs.Program.{Program}
-use Rattle.kilim_run_machine.specs.Effect.{Effect, Goes, Makes, Opens, Calls, Asks, Returns, Raises, Ends, Stuck}
+use Rattle.kilim_run_machine.specs.Effect.{Effect, Goes, Makes, Opens, Calls, Asks, Returns, Raises, Throws, Ends, Stuck}
 use Rattle.kilim_run_state.specs.Machine.{Activation, Objects}
 use Rattle.kilim_run_machine.specs.Natives.{FiberMember, Native}
 use Rattle.kilim_run_machine.specs.Does.{does}
@@ -72,6 +72,7 @@ module _ (set : Setting) (W : Program) (marks : List (List Bool)) (most : ℕ) (
   moved_room m at wl ov links now (Returns None heap) n r w = (record { unstuck = refl; fits = tt; result = tt }, tt, tt)
   moved_room m at wl ov links now (Returns (Some v) heap) n r w = (record { unstuck = refl; fits = callers ov links r.fits; result = tt }, tt, tt)
   moved_room m at wl ov links now (Raises why) n r w = (record { unstuck = refl; fits = omega arith; result = tt }, tt, tt)
+  moved_room m at wl ov links now (Throws object class why) n r w = (record { unstuck = refl; fits = omega arith; result = tt }, tt, tt)
   moved_room m at wl ov links now (Ends why) n r w = (record { unstuck = refl; fits = omega arith; result = tt }, tt, tt)
   moved_room m at wl ov links now Stuck n r w = (record { unstuck = r.unstuck; fits = omega arith; result = tt }, tt, tt)
 

@@ -368,6 +368,7 @@ module _ (set : Setting) (W : Program) (of : Names) (t : ℕ) (a b : Standing) (
       (asks_kin fs gs e.2 (native_of W m) args brgs e.1 (λ root i d. subst (λ (z : Objects). IsWholeTree p root z i) e.3 (whole root i d))))
   move_kin good counts (move.Returns h) (move.Returns k) e whole free = here (λ z. by counts a (move.Returns z)) (λ z. by counts b (move.Returns z)) h k e.0 e.1 (finish_kin a.kept b.kept kin.kept)
   move_kin good counts (move.Raises x) (move.Raises y) e whole free = e
+  move_kin good counts (move.Throws n c x) (move.Throws z d y) e whole free = e.cause
   move_kin good counts (move.Ends x) (move.Ends y) e whole free = e
   move_kin good counts move.Stuck w e whole free = tt
   move_kin good counts _ _ e whole free = absurd e
@@ -382,6 +383,7 @@ module _ (set : Setting) (W : Program) (of : Names) (t : ℕ) (a b : Standing) (
   making_goes counts (move.Asks n brgs gs k) e = absurd (cc)
   making_goes counts (move.Returns k) e = absurd (cc)
   making_goes counts (move.Raises y) e = absurd (cc)
+  making_goes counts (move.Throws object class y) e = absurd (cc)
   making_goes counts (move.Ends y) e = absurd (cc)
   making_goes counts move.Stuck e = absurd (cc)
 

@@ -7,6 +7,7 @@ use Rattle.kilim_program.specs.declared.value.Value.{Value}
 use Rattle.kilim_program.specs.Program.{Program}
 use Rattle.kilim_isolation_laws.specs.typed_threads.fine.Typed.{IsVerified}
 use Rattle.kilim_type_sound.specs.Fits.{Typing, Wanted}
+use Rattle.kilim_run_machine.specs.Raising.{NoTables}
 use Rattle.kilim_run_machine.specs.Does.{does}
 use Rattle.kilim_run_machine.specs.Effect.{Asks}
 use Rattle.kilim_run_state.specs.Machine.{Objects}
@@ -35,7 +36,7 @@ abbrev pub CoursesBegin : Type 0
 CoursesBegin = (set : Setting) (b : Beginning) (m : MethodId) (p : ℕ) (l s : List Value) (x : Value) (below : List Frame) (w : World) → lone_begun set b ≡ Some (lone_at m p l s below w) → IsOfCourse set (Run m p l s x below w)
 
 abbrev pub CoursesGoOn : Type 0
-CoursesGoOn = (set : Setting) (t : Thread) → IsOfCourse set t → IsOfCourse set (step set t)
+CoursesGoOn = (set : Setting) → NoTables set.program → (t : Thread) → IsOfCourse set t → IsOfCourse set (step set t)
 
 -- it has at most 512 frames
 abbrev pub HasFew : Thread → Type 0

@@ -156,6 +156,7 @@ next_by set W t counts l (move.Opens frames heap) = opens_next t counts (stood l
 next_by set W t counts l (move.Asks m args frames heap) = asks_next set (stood l frames heap) args (native_of W m)
 next_by set W t counts l (move.Returns heap) = finish_next set W (record l { heap = heap }) l.kept
 next_by set W t counts l (move.Raises cause) = Ends cause
+next_by set W t counts l (move.Throws object class cause) = Ends cause
 next_by set W t counts l (move.Ends cause) = Ends cause
 next_by set W t counts l move.Stuck = Stands
 

@@ -12,7 +12,7 @@ use Rattle.kilim_program.specs.declared.value.Value.{Value}
 use Rattle.kilim_program.specs.declared.value.Value.TheVariants.{Int, Long, Ref, Text}
 use Rattle.kilim_program.specs.Program.{Program}
 use Rattle.kilim_run_state.specs.Machine.{Objects}
-use Rattle.kilim_run_machine.specs.Effect.{Effect, Goes, Makes, Opens, Calls, Asks, Returns, Raises, Ends, Stuck, with_some, on_value, on_values, as_reference, as_receiver, as_int, as_long, when, wide_or, as_object, at_place, at_index, on_constant}
+use Rattle.kilim_run_machine.specs.Effect.{Effect, Goes, Makes, Opens, Calls, Asks, Returns, Raises, Throws, Ends, Stuck, with_some, on_value, on_values, as_reference, as_receiver, as_int, as_long, when, wide_or, as_object, at_place, at_index, on_constant}
 use Rattle.kilim_run_machine.specs.Does.{does, makes_array, array_limit}
 use Rattle.kilim_run_state.specs.Objects.{new_array}
 use Rattle.kilim_weave_spec.specs.Woven.{moved_instr}
@@ -298,6 +298,7 @@ goes_elsewhere at wl (Calls c args p k s heap) q l h = ap (λ (o : Option (ℕ �
 goes_elsewhere at wl (Asks c args p k s heap) q l h = ap (λ (o : Option (ℕ × List Value)). Some (at (place_in q o), wl)) h
 goes_elsewhere at wl (Returns v heap) q l h = absurd (cc)
 goes_elsewhere at wl (Raises c) q l h = absurd (cc)
+goes_elsewhere at wl (Throws object class c) q l h = absurd (cc)
 goes_elsewhere at wl (Ends c) q l h = absurd (cc)
 goes_elsewhere at wl Stuck q l h = absurd (cc)
 

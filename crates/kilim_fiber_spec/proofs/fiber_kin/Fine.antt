@@ -35,6 +35,7 @@ module _ (p : Program) (good : ℕ → Type 0) (of : Names) (h k : Objects) wher
   stuck_kin (effect.Asks m args a ls vs x) (effect.Asks n brgs b ms ws y) w = refl
   stuck_kin (effect.Returns v x) (effect.Returns u y) w = refl
   stuck_kin (effect.Raises c) (effect.Raises d) w = refl
+  stuck_kin (effect.Throws n k c) (effect.Throws x l d) w = refl
   stuck_kin (effect.Ends c) (effect.Ends d) w = refl
   stuck_kin effect.Stuck effect.Stuck w = refl
   stuck_kin _ _ w = absurd w
@@ -58,6 +59,7 @@ module _ (p : Program) (good : ℕ → Type 0) (of : Names) (h k : Objects) wher
   fits_at m fs gs below (effect.Returns None x) (effect.Returns (Some u) y) w le = absurd w.0
   fits_at m fs gs below (effect.Returns (Some v) x) (effect.Returns None y) w le = absurd w.0
   fits_at m fs gs below (effect.Raises c) (effect.Raises d) w le = le
+  fits_at m fs gs below (effect.Throws n k c) (effect.Throws x l d) w le = le
   fits_at m fs gs below (effect.Ends c) (effect.Ends d) w le = le
   fits_at m fs gs below effect.Stuck effect.Stuck w le = le
   fits_at m fs gs below _ _ w le = absurd w
@@ -110,6 +112,7 @@ open_by p top below (effect.Returns v h) g gs heap le e = absurd (not_returned b
     not_returned [] e = cc
     not_returned (f ∷ fs) e = cc
 open_by p top below (effect.Raises c) g gs heap le e = absurd (cc)
+open_by p top below (effect.Throws object class c) g gs heap le e = absurd (cc)
 open_by p top below (effect.Ends c) g gs heap le e = absurd (cc)
 open_by p top below effect.Stuck g gs heap le e = absurd (cc)
 

@@ -30,6 +30,8 @@ use Rattle.kilim_run_model.specs.State.{Setting, Alive, begun_in, begun_on}
 use Rattle.kilim_run_model.specs.Lone.{Lone, Next, arg_at, arg_next, asks_next, begins_next, box_limit, ended, finish_next, frames_next, message_next, native_next, next_by, next_move, on_heap, opens_next, print_next, printed, put_next, start_next, thread_next, went}
 use Rattle.kilim_run_model.specs.Lone as next
 use Rattle.kilim_run_model.specs.Course.{fills_deed, probes_deed, starts_deed, takes_deed, tree_came}
+use Rattle.kilim_run_model.proofs.Raised.{raised_over, raises_over, throws_over}
+use Rattle.kilim_run_machine.specs.Raising.{NoTables}
 use Rattle.kilim_run_model.specs.declared.deed.Deed.{Deed}
 use Rattle.kilim_fiber_spec.specs.Acts.{World, Over, Wants, Finished, Astray, Lost, counted, with_heap, ending, spending, last, put_by, puts, puts_value, start_by, starts, receives, take_by, takes, probe_by, probes, prints, gives_arg, native_does, asks, makes, opens_box}
 use Rattle.kilim_fiber_spec.specs.Acts as action
@@ -41,7 +43,7 @@ same_length : (b : List Frame) → length (lone_frames b) ≡ length b
 same_length [] = refl
 same_length (At m p l s x ∷ b) = ap suc (same_length b)
 
-module _ (set : Setting) where
+module _ (set : Setting) (none : NoTables set.program) where
   abbrev N : World → Next → Thread → Type 0
   N w n t = IsNext set w.deeds w.acts w.task n t
 
@@ -90,7 +92,7 @@ module _ (set : Setting) where
         by (d ∷ rest) = told d rest d.act
 
     messages : (box : BoxName) (v : Value) → N w (message_next set.program after box v) (puts_value set w Stop go box v)
-    messages box Null = ends w after cause.Null
+    messages box Null = subst (λ (n : Next). N w n (ending set w Stop cause.Null)) (sym (raised_over set.program none after cause.Null)) (ends w after cause.Null)
     messages box (Ref n) = puts_next box n (shape_of set.program w.heap n)
     messages box (Int z) = refl
     messages box (Long z) = refl
@@ -167,8 +169,8 @@ module _ (set : Setting) where
         by [] = (w, refl, (refl, refl))
         by (d ∷ rest) = (refl, refl, refl, refl)
 
-    args_next : (o : Option ℤ) → N w (arg_next after o) (gives_arg set w Stop go o)
-    args_next None = ends w after cause.Index
+    args_next : (o : Option ℤ) → N w (arg_next set.program after o) (gives_arg set w Stop go o)
+    args_next None = subst (λ (n : Next). N w n (ending set w Stop cause.Index)) (sym (raised_over set.program none after cause.Index)) (ends w after cause.Index)
     args_next (Some n) = (refl, refl, refl, refl)
 
     natives_next : (n : Native) (args : List Value) → N w (native_next set after n args) (native_does set w Stop go n args)
@@ -220,7 +222,7 @@ module _ (set : Setting) where
   -- ---- all effects
 
   effects : (e : Effect) (m : MethodId) (p : ℕ) (l s : List Value) (x : Value) (b : List Frame) (w : World)
-      → N w (next_by set w.task (lone_at m p l s b w) w.done w.boxes (move_by set.program e (frame m p l s) (lone_frames b))) (effect_does set e m x b w)
+      → N w (next_by set w.task (lone_at m p l s b w) w.done w.boxes (frame m p l s) (lone_frames b) (move_by set.program e (frame m p l s) (lone_frames b))) (effect_does set e m x b w)
   effects (effect.Goes q l2 s2 heap) m p l s x b w = (refl, refl, refl, refl)
   effects (effect.Makes object q l2 s2 heap) m p l s x b w = (refl, refl, refl, refl)
   effects (effect.Opens q l2 s2 heap) m p l s x b w = by (nat_lt w.boxes box_limit)
@@ -230,11 +232,11 @@ module _ (set : Setting) where
       by true = (refl, refl, refl, refl)
       by false = ends (with_heap w heap) (on_heap (lone_at m p l s b w) heap) cause.Boxes
   effects (effect.Calls c args q l2 s2 heap) m p l s x b w =
-      subst (λ (n : ℕ). N w (next_by set w.task (lone_at m p l s b w) w.done w.boxes (if nat_lt (suc (length (lone_frames b))) frame_limit then move.Runs (move.Enters (receiver_of set.program c args)) (entered set.program c args ∷ frame m q l2 s2 ∷ lone_frames b) heap else move.Ends cause.Depth))
+      subst (λ (n : ℕ). N w (next_by set w.task (lone_at m p l s b w) w.done w.boxes (frame m p l s) (lone_frames b) (if nat_lt (suc (length (lone_frames b))) frame_limit then move.Runs (move.Enters (receiver_of set.program c args)) (entered set.program c args ∷ frame m q l2 s2 ∷ lone_frames b) heap else move.Ends cause.Depth))
       (if nat_lt (suc n) frame_limit then Run c 0 (entered set.program c args).locals [] (self_of set.program c args) (At m q l2 s2 x ∷ b) (counted (with_heap w heap)) else ending set (with_heap w heap) Stop cause.Depth)) (same_length b)
       (by (nat_lt (suc (length (lone_frames b))) frame_limit))
     where
-      by : (t : Bool) → N w (next_by set w.task (lone_at m p l s b w) w.done w.boxes (if t then move.Runs (move.Enters (receiver_of set.program c args)) (entered set.program c args ∷ frame m q l2 s2 ∷ lone_frames b) heap else move.Ends cause.Depth))
+      by : (t : Bool) → N w (next_by set w.task (lone_at m p l s b w) w.done w.boxes (frame m p l s) (lone_frames b) (if t then move.Runs (move.Enters (receiver_of set.program c args)) (entered set.program c args ∷ frame m q l2 s2 ∷ lone_frames b) heap else move.Ends cause.Depth))
           (if t then Run c 0 (entered set.program c args).locals [] (self_of set.program c args) (At m q l2 s2 x ∷ b) (counted (with_heap w heap)) else ending set (with_heap w heap) Stop cause.Depth)
       by true = (refl, refl, refl, refl)
       by false = ends_in w.deeds w.acts w.task (with_heap w heap) (ended (lone_at m p l s b w) cause.Depth) cause.Depth refl
@@ -242,7 +244,10 @@ module _ (set : Setting) where
   effects (effect.Returns v heap) m p l s x [] w = finishes_same (with_heap w heap) m p l s [] w.kept refl
   effects (effect.Returns None heap) m p l s x (At m2 p2 l2 s2 x2 ∷ b) w = (refl, refl, refl, refl)
   effects (effect.Returns (Some v) heap) m p l s x (At m2 p2 l2 s2 x2 ∷ b) w = (refl, refl, refl, refl)
-  effects (effect.Raises c) m p l s x b w = ends w (lone_at m p l s b w) c
+  effects (effect.Raises c) m p l s x b w =
+      subst (λ (n : Next). N w n (ending set w Stop c)) (sym (raises_over set.program none (lone_at m p l s b w) c w.done w.boxes (frame m p l s) (lone_frames b))) (ends w (lone_at m p l s b w) c)
+  effects (effect.Throws n k c) m p l s x b w =
+      subst (λ (z : Next). N w z (ending set w Stop c)) (sym (throws_over set.program none (lone_at m p l s b w) c (w.done + 1) w.boxes n k (frame m p l s) (lone_frames b))) (ends w (lone_at m p l s b w) c)
   effects (effect.Ends c) m p l s x b w = ends w (lone_at m p l s b w) c
   effects effect.Stuck m p l s x b w = refl
 
@@ -250,12 +255,12 @@ module _ (set : Setting) where
   unfolding next_move moves
   steps m p l s x b w = spent (nat_le set.limits.steps w.done)
     where
-      found : (own : Method) (o : Option (Instr × ℕ)) → N w (next_by set w.task (lone_at m p l s b w) w.done w.boxes (move_by set.program (effect_found set.program own (frame m p l s) w.heap o) (frame m p l s) (lone_frames b)))
+      found : (own : Method) (o : Option (Instr × ℕ)) → N w (next_by set w.task (lone_at m p l s b w) w.done w.boxes (frame m p l s) (lone_frames b) (move_by set.program (effect_found set.program own (frame m p l s) w.heap o) (frame m p l s) (lone_frames b)))
           (elim o [ None ↦ Stop Lost | Some i ↦ effect_does set (does set.program own i.0 i.1 l s w.heap) m x b w ])
       found own None = refl
       found own (Some i) = effects (does set.program own i.0 i.1 l s w.heap) m p l s x b w
 
-      method : (o : Option Method) → N w (next_by set w.task (lone_at m p l s b w) w.done w.boxes (move_by set.program (effect_in set.program (frame m p l s) w.heap o) (frame m p l s) (lone_frames b)))
+      method : (o : Option Method) → N w (next_by set w.task (lone_at m p l s b w) w.done w.boxes (frame m p l s) (lone_frames b) (move_by set.program (effect_in set.program (frame m p l s) w.heap o) (frame m p l s) (lone_frames b)))
           (elim (code_in o p) [ None ↦ Stop Lost | Some i ↦ effect_does set (does set.program (own_in o) i.0 i.1 l s w.heap) m x b w ])
       method None = refl
       method (Some own) = found own (fetched own.code own.code_length p)
@@ -264,7 +269,7 @@ module _ (set : Setting) where
       same None = refl
       same (Some i) = refl
 
-      spent : (t : Bool) → N w (if t then next.Ends cause.Spent (ended (lone_at m p l s b w) cause.Spent) else next_by set w.task (lone_at m p l s b w) w.done w.boxes (moves set.program (frame m p l s) (lone_frames b) w.heap))
+      spent : (t : Bool) → N w (if t then next.Ends cause.Spent (ended (lone_at m p l s b w) cause.Spent) else next_by set w.task (lone_at m p l s b w) w.done w.boxes (frame m p l s) (lone_frames b) (moves set.program (frame m p l s) (lone_frames b) w.heap))
           (if t then ending set w Stop cause.Spent else found_does set (fetch set.program m p) m l s x b w)
       spent true = ends w (lone_at m p l s b w) cause.Spent
-      spent false = subst (λ (t : Thread). N w (next_by set w.task (lone_at m p l s b w) w.done w.boxes (move_by set.program (effect_of set.program (frame m p l s) w.heap) (frame m p l s) (lone_frames b))) t) (same (fetch set.program m p)) (method (method_at set.program m))
+      spent false = subst (λ (t : Thread). N w (next_by set w.task (lone_at m p l s b w) w.done w.boxes (frame m p l s) (lone_frames b) (move_by set.program (effect_of set.program (frame m p l s) w.heap) (frame m p l s) (lone_frames b))) t) (same (fetch set.program m p)) (method (method_at set.program m))

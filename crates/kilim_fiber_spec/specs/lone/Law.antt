@@ -6,6 +6,7 @@ use Rattle.kilim_program.specs.declared.value.Value.{Value}
 use Rattle.kilim_run_journal.specs.declared.entry.Act.{Act}
 use Rattle.kilim_run_journal.specs.declared.entry.Act.TheVariants.{End}
 use Rattle.kilim_run_state.specs.Machine.{Activation}
+use Rattle.kilim_run_machine.specs.Raising.{NoTables}
 use Rattle.kilim_run_model.specs.State.{Setting, Alive}
 use Rattle.kilim_run_model.specs.Lone.{Lone, Next, next_move}
 use Rattle.kilim_run_model.specs.Lone as next
@@ -80,8 +81,9 @@ IsNext set ds as1 k (next.Goes after) t = IsAt after ds as1 k t
 IsNext set ds as1 k next.Stands t = t ≡ Stop Lost
 IsNext set ds as1 k n t = IsActed set ds as1 k n t
 
--- A step of the thread is what the thread on its own heap does next, with what others decide read from the next deed.
+-- A step of the thread is what the thread on its own heap does next, with what others decide read from the next deed. No method has an
+-- exception table: what is raised or thrown ends both.
 abbrev pub ThreadIsLone : Type 0
 ThreadIsLone =
-    (set : Setting) (m : MethodId) (p : ℕ) (l s : List Value) (x : Value) (b : List Frame) (w : World) →
+    (set : Setting) → NoTables set.program → (m : MethodId) (p : ℕ) (l s : List Value) (x : Value) (b : List Frame) (w : World) →
     IsNext set w.deeds w.acts w.task (next_move set w.task (lone_at m p l s b w)) (step set (Run m p l s x b w))

@@ -17,7 +17,7 @@ use Rattle.kilim_program.specs.Lengths.{fetched}
 use Rattle.kilim_run_state.specs.declared.value.Object.{Object}
 use Rattle.kilim_run_state.specs.Machine.{Objects, Activation}
 use Rattle.kilim_run_machine.specs.Natives.{is_built_in_constructor, is_handed_out, is_text_method}
-use Rattle.kilim_run_machine.specs.Effect.{Effect, Goes, Makes, Opens, Calls, Asks, Returns, Raises, Ends, Stuck, with_some, on_value, on_values, on_receiver, as_receiver, as_class, text_of}
+use Rattle.kilim_run_machine.specs.Effect.{Effect, Goes, Makes, Opens, Calls, Asks, Returns, Raises, Throws, Ends, Stuck, with_some, on_value, on_values, on_receiver, as_receiver, as_class, text_of}
 use Rattle.kilim_program.specs.Members.{named_type}
 use Rattle.kilim_run_machine.specs.Does.{does, chosen, calls_method, calls_on, special, calls_text, takes_element, text_answers, at_unit, unit_at}
 use Rattle.kilim_run_machine.specs.Moves.{effect_of, effect_in, effect_found}
@@ -39,6 +39,7 @@ SameAsk k (Opens place locals stack heap) d = Unit {0}
 SameAsk k (Calls m args place locals stack heap) d = Unit {0}
 SameAsk k (Returns value heap) d = Unit {0}
 SameAsk k (Raises cause) d = Unit {0}
+SameAsk k (Throws object class cause) d = Unit {0}
 SameAsk k (Ends cause) d = Unit {0}
 SameAsk k Stuck d = Unit {0}
 
@@ -53,6 +54,7 @@ nothing_same k (Calls m args place locals stack heap) d h = tt
 nothing_same k (Asks m args place locals stack heap) d h = absurd h
 nothing_same k (Returns value heap) d h = tt
 nothing_same k (Raises cause) d h = tt
+nothing_same k (Throws object class cause) d h = tt
 nothing_same k (Ends cause) d h = tt
 nothing_same k Stuck d h = tt
 

@@ -1,7 +1,9 @@
 -- A thread that stands where it may have to wait stands there on every heap.
 use Rattle.std.proofs.Common.{◌≡◌, ℕ, zero, suc, ◌+◌, Bool, true, false, cond, List, [], ◌∷◌, Option, Some, None, length, refl, sym, ap, subst, ◌∙◌}
 use Rattle.std.specs.Prelude.{ℤ, nat_lt, nat_le}
+use Rattle.kilim_run_state.specs.declared.cause.EndCause.{EndCause}
 use Rattle.kilim_run_state.specs.declared.cause.EndCause.TheVariants as cause
+use Rattle.std.proofs.lemmas.Option.{none-some}
 use Rattle.kilim_run_state.specs.declared.value.Token.{Token}
 use Rattle.kilim_program.specs.Program.{Program}
 use Rattle.kilim_program.specs.declared.names.BoxName.{BoxName}
@@ -18,9 +20,11 @@ use Rattle.kilim_run_machine.specs.Moves.{Move, Change, frame_limit, push_value,
 use Rattle.kilim_run_machine.specs.Moves as move
 use Rattle.kilim_run_state.specs.Shapes.{shape_of}
 use Rattle.kilim_run_model.specs.State.{Setting, Thread, Alive, Ended, begun_on}
-use Rattle.kilim_run_model.specs.Lone.{Lone, Next, Goes, Gets, box_limit, went, over, put_next, message_next, start_next, print_next, printed, arg_next, arg_at, native_next, asks_next, begins_next, finish_next, on_heap, next_by, frames_next, thread_next, next_move, get_at}
+use Rattle.kilim_run_model.specs.Lone.{Lone, Next, Goes, Gets, box_limit, went, over, raised, put_next, message_next, start_next, print_next, printed, arg_next, arg_at, native_next, asks_next, begins_next, finish_next, on_heap, next_by, frames_next, thread_next, next_move, get_at}
 use Rattle.kilim_run_model.specs.declared.waits.Waits.{Waits}
 use Rattle.kilim_run_model.specs.declared.waits.Waits.TheVariants as wait
+use Rattle.kilim_run_model.proofs.Raised.{raised_has, raises_has, throws_has}
+use Rattle.kilim_run_machine.specs.Raising.{thrown}
 use Rattle.kilim_isolation_laws.specs.at_rest.Laws.{GetStays}
 use Rattle.kilim_isolation_laws.proofs.at_rest.Asked.{SameAsk, AsksSame, effect_same}
 
@@ -43,6 +47,7 @@ module _ (p : Program) (top : Activation) (below : List Activation) (k : Objects
   by_same (effect.Calls c args place locals stack heap) d m box vs frames h2 same e = absurd (no_call (nat_lt _ frame_limit) _ _ heap h2 m (Box box ∷ vs) frames e)
   by_same (effect.Returns value heap) d m box vs frames h2 same e = absurd (no_return value below heap h2 m (Box box ∷ vs) frames e)
   by_same (effect.Raises cause) d m box vs frames h2 same e = absurd (cc)
+  by_same (effect.Throws object class cause) d m box vs frames h2 same e = absurd (cc)
   by_same (effect.Ends cause) d m box vs frames h2 same e = absurd (cc)
   by_same effect.Stuck d m box vs frames h2 same e = absurd (cc)
   by_same (effect.Asks c [] place locals stack heap) d m box vs frames h2 same e = absurd (cc)
@@ -72,8 +77,11 @@ no_put : (after : Lone) (b : BoxName) (n : ℕ) (shape : Option (List Token)) (w
 no_put after b n None w e = absurd (cc)
 no_put after b n (Some shape) w e = absurd (cc)
 
+no_raise : (p : Program) (after : Lone) (why : EndCause) (w : Waits) → get_at (raised p after why) ≡ Some w → ⊥
+no_raise p after why w = raised_has (λ (x : Next). get_at x ≡ Some w → ⊥) after why (λ e. absurd (none-some _ e)) p (λ object f fs frames done boxes same e. absurd (none-some _ e))
+
 no_message : (p : Program) (after : Lone) (b : BoxName) (v : Value) (w : Waits) → get_at (message_next p after b v) ≡ Some w → ⊥
-no_message p after b Null w e = absurd (cc)
+no_message p after b Null w e = no_raise p after cause.Null w e
 no_message p after b (Ref n) w e = no_put after b n (shape_of p after.heap n) w e
 no_message p after b v w e = absurd (cc)
 
@@ -85,9 +93,9 @@ no_print : (after : Lone) (t : Option Token) (w : Waits) → get_at (print_next 
 no_print after None w e = absurd (cc)
 no_print after (Some t) w e = absurd (cc)
 
-no_arg : (after : Lone) (x : Option ℤ) (w : Waits) → get_at (arg_next after x) ≡ Some w → ⊥
-no_arg after None w e = absurd (cc)
-no_arg after (Some x) w e = absurd (cc)
+no_arg : (p : Program) (after : Lone) (x : Option ℤ) (w : Waits) → get_at (arg_next p after x) ≡ Some w → ⊥
+no_arg p after None w e = no_raise p after cause.Index w e
+no_arg p after (Some x) w e = absurd (cc)
 
 native_gets : (set : Setting) (after : Lone) (nat : Native) (args : List Value) (w : Waits) → get_at (native_next set after nat args) ≡ Some w → GetsAt w nat args
 native_gets set after native.Execute (Ref n ∷ []) w e = absurd (cc)
@@ -98,7 +106,7 @@ native_gets set after native.Getnb (Box b ∷ []) w e = absurd (cc)
 native_gets set after native.Print (v ∷ []) w e = absurd (no_print after (printed v) w e)
 native_gets set after native.Yield [] w e = absurd (cc)
 native_gets set after native.ArgCount [] w e = absurd (cc)
-native_gets set after native.Arg (Int i ∷ []) w e = absurd (no_arg after (arg_at set.limits.args i) w e)
+native_gets set after native.Arg (Int i ∷ []) w e = absurd (no_arg set.program after (arg_at set.limits.args i) w e)
 native_gets set after nat args w e = absurd (cc)
 
 no_begin : (l : Lone) (done boxes : ℕ) (frames : Option (List Activation)) (w : Waits) → get_at (begins_next l done boxes frames) ≡ Some w → ⊥
@@ -117,34 +125,34 @@ no_open false x y w e = absurd (cc)
 asked_get : (set : Setting) (x y : Lone) (args : List Value) (nat : Option Native) (w : Waits) → get_at (asks_next set x args nat) ≡ Some w → (box : BoxName) × (args ≡ Box box ∷ []) × (get_at (asks_next set y args nat) ≡ Some w)
 asked_get set x y args None w e = absurd (cc)
 asked_get set x y args (Some nat) w e =
-    let found = native_gets set x nat args w e in
-    (
+    let found = native_gets set x nat args w e in (
       found.box,
       found.of_box,
       ap (λ (n : Native). get_at (native_next set y n args)) found.is_get ∙ (ap (λ (vs : List Value). get_at (native_next set y native.Get vs)) found.of_box ∙ ap (λ (z : Waits). Some z) (sym found.at)),
     )
 
 module _ (set : Setting) (t : ℕ) (a b : Lone) (done boxes : ℕ) where
-  move_gets : (ma mb : Move) (w : Waits) →
+  move_gets : (top other : Activation) (below others : List Activation) (ma mb : Move) (w : Waits) →
       ((box : BoxName) (m : MethodId) (vs : List Value) (frames : List Activation) (heap : Objects) → ma ≡ move.Asks m (Box box ∷ vs) frames heap → mb ≡ move.Asks m (Box box ∷ vs) frames b.heap) →
-      get_at (next_by set t a done boxes ma) ≡ Some w → get_at (next_by set t b done boxes mb) ≡ Some w
-  move_gets (move.Runs change frames heap) mb w same e = absurd (cc)
-  move_gets (move.Makes object frames heap) mb w same e = absurd (cc)
-  move_gets (move.Opens frames heap) mb w same e = absurd (no_open (nat_lt boxes box_limit) (went (on_heap a heap) (push_value (Box (record { task = t; number = boxes })) frames) done (boxes + 1)) (on_heap a heap) w e)
-  move_gets (move.Asks m args frames heap) mb w same e =
+      get_at (next_by set t a done boxes top below ma) ≡ Some w → get_at (next_by set t b done boxes other others mb) ≡ Some w
+  move_gets top other below others (move.Runs change frames heap) mb w same e = absurd (cc)
+  move_gets top other below others (move.Makes object frames heap) mb w same e = absurd (cc)
+  move_gets top other below others (move.Opens frames heap) mb w same e = absurd (no_open (nat_lt boxes box_limit) (went (on_heap a heap) (push_value (Box (record { task = t; number = boxes })) frames) done (boxes + 1)) (on_heap a heap) w e)
+  move_gets top other below others (move.Asks m args frames heap) mb w same e =
       let found = asked_get set (went (on_heap a heap) frames done boxes) (went (on_heap b b.heap) frames done boxes) args (native_of set.program m) w e in
       let there = same found.0 m [] frames heap (ap (λ (vs : List Value). move.Asks m vs frames heap) found.1) in
-      ap (λ (x : Move). get_at (next_by set t b done boxes x)) there
+      ap (λ (x : Move). get_at (next_by set t b done boxes other others x)) there
       ∙ (ap (λ (vs : List Value). get_at (asks_next set (went (on_heap b b.heap) frames done boxes) vs (native_of set.program m))) (sym found.1) ∙ found.2)
-  move_gets (move.Returns heap) mb w same e = absurd (no_finish set (on_heap a heap) done boxes a.kept w e)
-  move_gets (move.Raises cause) mb w same e = absurd (cc)
-  move_gets (move.Ends cause) mb w same e = absurd (cc)
-  move_gets move.Stuck mb w same e = absurd (cc)
+  move_gets top other below others (move.Returns heap) mb w same e = absurd (no_finish set (on_heap a heap) done boxes a.kept w e)
+  move_gets top other below others (move.Raises cause) mb w same e = absurd (raises_has (λ (x : Next). get_at x ≡ Some w → ⊥) a cause (λ d. absurd (none-some _ d)) set.program done boxes top below (λ object f fs d. absurd (none-some _ d)) e)
+  move_gets top other below others (move.Throws object class cause) mb w same e = absurd (throws_has (λ (x : Next). get_at x ≡ Some w → ⊥) a cause (λ d. absurd (none-some _ d)) (done + 1) boxes (thrown set.program class (Ref object) top below) (λ f fs d. absurd (none-some _ d)) e)
+  move_gets top other below others (move.Ends cause) mb w same e = absurd (cc)
+  move_gets top other below others move.Stuck mb w same e = absurd (cc)
 
   frames_get : (frames : List Activation) (w : Waits) → get_at (frames_next set t a frames done boxes) ≡ Some w → get_at (frames_next set t b frames done boxes) ≡ Some w
   frames_get [] w e = absurd (cc)
   frames_get (top ∷ below) w e =
-      move_gets (moves set.program top below a.heap) (moves set.program top below b.heap) w (λ box m vs frames heap is. moves_same set.program top below a.heap b.heap m box vs frames heap is) e
+      move_gets top top below below (moves set.program top below a.heap) (moves set.program top below b.heap) w (λ box m vs frames heap is. moves_same set.program top below a.heap b.heap m box vs frames heap is) e
 
   spent_get : (spent : Bool) (frames : List Activation) (w : Waits) → get_at (cond spent (over a cause.Spent) (frames_next set t a frames done boxes)) ≡ Some w →
       get_at (cond spent (over b cause.Spent) (frames_next set t b frames done boxes)) ≡ Some w

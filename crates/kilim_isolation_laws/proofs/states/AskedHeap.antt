@@ -16,7 +16,7 @@ use Rattle.kilim_program.specs.Lengths.{fetched}
 use Rattle.kilim_run_state.specs.declared.cause.EndCause.TheVariants as cause
 use Rattle.kilim_run_state.specs.Machine.{Objects, Activation}
 use Rattle.kilim_run_machine.specs.Natives.{is_built_in_constructor, is_handed_out, is_text_method}
-use Rattle.kilim_run_machine.specs.Effect.{Effect, Goes, Makes, Opens, Calls, Asks, Returns, Raises, Ends, Stuck, with_some, on_value, on_values, on_receiver, as_receiver, as_class, text_of}
+use Rattle.kilim_run_machine.specs.Effect.{Effect, Goes, Makes, Opens, Calls, Asks, Returns, Raises, Throws, Ends, Stuck, with_some, on_value, on_values, on_receiver, as_receiver, as_class, text_of}
 use Rattle.kilim_run_machine.specs.Does.{does, chosen, calls_method, calls_on, special, calls_text, takes_element, text_answers, at_unit, unit_at}
 use Rattle.kilim_run_machine.specs.Moves.{Move, effect_of, effect_in, effect_found, entered, frame_limit, goes_on, move_by, moves, receiver_of, returned}
 use Rattle.kilim_run_machine.specs.Moves as move
@@ -38,6 +38,7 @@ module _ (h : Objects) where
   nothing_stays (Asks m args place locals stack heap) n = absurd n
   nothing_stays (Returns value heap) n = tt
   nothing_stays (Raises c) n = tt
+  nothing_stays (Throws object class c) n = tt
   nothing_stays (Ends c) n = tt
   nothing_stays Stuck n = tt
 
@@ -158,6 +159,7 @@ move_stays h p (Calls m args place ls st k) top below s = called_stays h p m arg
 move_stays h p (Asks m args place ls st k) top below s = s
 move_stays h p (Returns v k) top below s = returned_stays h v below k
 move_stays h p (Raises c) top below s = tt
+move_stays h p (Throws object class c) top below s = tt
 move_stays h p (Ends c) top below s = tt
 move_stays h p Stuck top below s = tt
 

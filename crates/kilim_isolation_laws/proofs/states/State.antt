@@ -150,6 +150,7 @@ module _ (set : Setting) (wanted : Wanted) (listed : Listed) (of : Classes) (is 
   move_gives kept (move.Opens frames k) typed asks same = tt
   move_gives kept (move.Returns k) typed asks same = tt
   move_gives kept (move.Raises c) typed asks same = tt
+  move_gives kept (move.Throws object class c) typed asks same = tt
   move_gives kept (move.Ends c) typed asks same = tt
   move_gives kept move.Stuck typed asks same = tt
 

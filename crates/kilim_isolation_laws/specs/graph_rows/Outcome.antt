@@ -12,7 +12,7 @@ use Rattle.kilim_program.specs.declared.value.Value.TheVariants.{Ref, Box}
 use Rattle.kilim_program.specs.Program.{Program}
 use Rattle.kilim_run_state.specs.Machine.{Objects}
 use Rattle.kilim_program.specs.Names.{method_at}
-use Rattle.kilim_run_machine.specs.Effect.{Effect, Goes, Makes, Opens, Calls, Asks, Returns, Raises, Ends, Stuck}
+use Rattle.kilim_run_machine.specs.Effect.{Effect, Goes, Makes, Opens, Calls, Asks, Returns, Raises, Throws, Ends, Stuck}
 use Rattle.kilim_type_spec.specs.Step.{Types, result_types}
 use Rattle.kilim_type_spec.specs.Typed.{entry, Among}
 use Rattle.kilim_isolation_laws.specs.forest.Relation.{Frames, Named, Names, Node, Root, is_gone}
@@ -83,5 +83,6 @@ EffectHolds p m next f g at below h0 nodes (Calls id args place locals stack h) 
 EffectHolds p m next f g at below h0 nodes (Asks id args place locals stack h) = Among next place × NativeHolds p m f g h id args locals stack below
 EffectHolds p m next f g at below h0 nodes (Returns value h) = ReturnHolds p m g at h m.result value × (h ≡ h0) × (g.nodes ≡ nodes)
 EffectHolds p m next f g at below h0 nodes (Raises cause) = Unit {0}
+EffectHolds p m next f g at below h0 nodes (Throws object class cause) = Unit {0}
 EffectHolds p m next f g at below h0 nodes (Ends cause) = Unit {0}
 EffectHolds p m next f g at below h0 nodes Stuck = Unit {0}

@@ -68,6 +68,7 @@ module _ (p : Program) (good : ℕ → Type 0) (of : Names) (owner : ℕ → Own
   move_kin top pot fs gs same below (effect.Asks m args a ls vs h) (effect.Asks n brgs b ms ws k) x = (x.0, x.1, (same, x.2, x.3, x.4, below), x.5, x.6, x.7)
   move_kin top pot fs gs same below (effect.Returns v h) (effect.Returns w k) x = returned_kin v w fs gs h k x.0 below x.1 x.2
   move_kin top pot fs gs same below (effect.Raises c) (effect.Raises d) x = x
+  move_kin top pot fs gs same below (effect.Throws n c why) (effect.Throws z d reason) x = x
   move_kin top pot fs gs same below (effect.Ends c) (effect.Ends d) x = x
   move_kin top pot fs gs same below effect.Stuck effect.Stuck x = tt
   move_kin top pot fs gs same below _ _ x = absurd x

@@ -47,12 +47,9 @@ held_turn good (v ∷ vs) cs e d = held_turn good vs (v ∷ cs) e.1 (e.0, d)
 held_reverse : (good : ℕ → Type 0) (vs : List Value) → AreHeld good vs → AreHeld good (reverse vs)
 held_reverse good vs e = held_turn good vs [] e tt
 
-module _ (p : Program) (own : Method) (good : ℕ → Type 0) (of : Names) (owner : ℕ → Owner) (t : ℕ) (h k : Objects) (alike : Alike of owner t k h k) (there : (n : ℕ) → good n → IsThere h n) where
-  abbrev EKin : Effect → Effect → Type 0
-  EKin e d = EffectKin good of owner t h k e d
+-- ---- values of new objects
 
-  -- ---- values of new objects
-
+module _ (p : Program) (of : Names) where
   zero_kin : (b : Base) → IsKin of (first_value_of b) (first_value_of b)
   zero_kin base.Long = refl
   zero_kin (base.Class c) = tt
@@ -73,8 +70,12 @@ module _ (p : Program) (own : Method) (good : ℕ → Type 0) (of : Names) (owne
       first_field_kin None = tt
       first_field_kin (Some field) = first_value_kin field.ty
 
-  new_kin : (c : ClassId) → ObjectsKin of (new_object p c) (new_object p c)
+  pub new_kin : (c : ClassId) → ObjectsKin of (new_object p c) (new_object p c)
   new_kin c = record { class = refl; fields = first_fields_kin (object_fields p c); elements = tt }
+
+module _ (p : Program) (own : Method) (good : ℕ → Type 0) (of : Names) (owner : ℕ → Owner) (t : ℕ) (h k : Objects) (alike : Alike of owner t k h k) (there : (n : ℕ) → good n → IsThere h n) where
+  abbrev EKin : Effect → Effect → Type 0
+  EKin e d = EffectKin good of owner t h k e d
 
   array_kin : (ty : Ty) (v : Value) (n : ℕ) → IsKin of v v → ObjectsKin of (new_array ty v n) (new_array ty v n)
   array_kin ty v n e = record { class = refl; fields = tt; elements = kin_replicate of n v v e }
@@ -233,6 +234,123 @@ module _ (p : Program) (own : Method) (good : ℕ → Type 0) (of : Names) (owne
 
     -- ---- the table
 
+    pop2_row : EKin (does p own instr.Pop2 next ls vs h) (does p own instr.Pop2 next ms ws k)
+    unfolding does
+    pop2_row = two_words_kin good of owner t h k alike there vs ws s (λ xs rs. effect.Goes next ls rs h) (λ xs rs. effect.Goes next ms rs k) (λ xs ys q rs ss r. (refl, l, r.0, alike))
+
+    dup_x1_row : EKin (does p own instr.DupX1 next ls vs h) (does p own instr.DupX1 next ms ws k)
+    unfolding does
+    dup_x1_row = word_kin good of owner t h k alike there vs ws s _ _ (λ v w q ts us u. word_kin good of owner t h k alike there ts us u _ _ (λ a b c rs ss r. (refl, l, (q.0, (c.0, (q.0, r.0))), alike)))
+
+    dup_x2_row : EKin (does p own instr.DupX2 next ls vs h) (does p own instr.DupX2 next ms ws k)
+    unfolding does
+    dup_x2_row = word_kin good of owner t h k alike there vs ws s _ _ (λ v w q ts us u. two_words_kin good of owner t h k alike there ts us u (λ xs rs. effect.Goes next ls (v ∷ (xs ++ v ∷ rs)) h) (λ xs rs. effect.Goes next ms (w ∷ (xs ++ w ∷ rs)) k) (λ xs ys c rs ss r. (refl, l, (q.0, kin_append of xs ys (v ∷ rs) (w ∷ ss) c (q.0, r.0)), alike)))
+
+    dup2_row : EKin (does p own instr.Dup2 next ls vs h) (does p own instr.Dup2 next ms ws k)
+    unfolding does
+    dup2_row = two_words_kin good of owner t h k alike there vs ws s (λ xs rs. effect.Goes next ls (xs ++ (xs ++ rs)) h) (λ xs rs. effect.Goes next ms (xs ++ (xs ++ rs)) k) (λ xs ys q rs ss r. (refl, l, kin_append of xs ys _ _ q (kin_append of xs ys rs ss q r.0), alike))
+
+    dup2_x1_row : EKin (does p own instr.Dup2X1 next ls vs h) (does p own instr.Dup2X1 next ms ws k)
+    unfolding does
+    dup2_x1_row = two_words_kin good of owner t h k alike there vs ws s (λ xs b. effect.on_word b (λ w rs. effect.Goes next ls (xs ++ w ∷ (xs ++ rs)) h)) (λ xs b. effect.on_word b (λ w rs. effect.Goes next ms (xs ++ w ∷ (xs ++ rs)) k)) (λ xs ys q ts us u. word_kin good of owner t h k alike there ts us u _ _ (λ v w c rs ss r. (refl, l, kin_append of xs ys (v ∷ (xs ++ rs)) (w ∷ (ys ++ ss)) q (c.0, kin_append of xs ys rs ss q r.0), alike)))
+
+    dup2_x2_row : EKin (does p own instr.Dup2X2 next ls vs h) (does p own instr.Dup2X2 next ms ws k)
+    unfolding does
+    dup2_x2_row = two_words_kin good of owner t h k alike there vs ws s (λ xs b. effect.on_two_words b (λ as1 rs. effect.Goes next ls (xs ++ (as1 ++ (xs ++ rs))) h)) (λ xs b. effect.on_two_words b (λ as1 rs. effect.Goes next ms (xs ++ (as1 ++ (xs ++ rs))) k)) (λ xs ys q ts us u. two_words_kin good of owner t h k alike there ts us u (λ as1 rs. effect.Goes next ls (xs ++ (as1 ++ (xs ++ rs))) h) (λ as1 rs. effect.Goes next ms (ys ++ (as1 ++ (ys ++ rs))) k) (λ as1 bs1 c rs ss r. (refl, l, kin_append of xs ys _ _ q (kin_append of as1 bs1 _ _ c (kin_append of xs ys rs ss q r.0)), alike)))
+
+    swap_row : EKin (does p own instr.Swap next ls vs h) (does p own instr.Swap next ms ws k)
+    unfolding does
+    swap_row = word_kin good of owner t h k alike there vs ws s _ _ (λ v w q ts us u. word_kin good of owner t h k alike there ts us u _ _ (λ a b c rs ss r. (refl, l, (c.0, (q.0, r.0)), alike)))
+
+    lcmp_row : EKin (does p own instr.Lcmp next ls vs h) (does p own instr.Lcmp next ms ws k)
+    unfolding does
+    lcmp_row = on_two_longs_kin good of owner t h k alike there vs ws s _ _ (λ x y rs ss r. (refl, l, (refl, r.0), alike))
+
+    getfield_row : (f : FieldId) → EKin (does p own (instr.Getfield f) next ls vs h) (does p own (instr.Getfield f) next ms ws k)
+    unfolding does
+    getfield_row f = object_kin good of owner t h k alike there vs ws s _ _ (λ n x o q held rs ss r. slot_kin good of owner t h k alike there _ _ (field_get o.fields q.fields f held.3.fields) _ _ (λ v w e. (refl, l, (e, r.0), alike)))
+
+    putfield_row : (f : FieldId) → EKin (does p own (instr.Putfield f) next ls vs h) (does p own (instr.Putfield f) next ms ws k)
+    unfolding does
+    putfield_row f = value_kin good of owner t h k alike there vs ws s _ _ (λ v w e ts us u. object_kin good of owner t h k alike there ts us u _ _ (λ n x o q held rs ss r. some_kin good of owner t h k alike there (field_of p f) _ _ (λ field.
+        slot_kin good of owner t h k alike there _ _ (field_get o.fields q.fields f held.3.fields) _ _ (λ a b d.
+        (refl, l, r.0, written good of owner t h k alike there n x o q held _ _ (record { class = held.3.class; fields = field_set o.fields q.fields f _ _ held.3.fields (narrowed_kin field.ty v w e.0); elements = held.3.elements }))))))
+
+    invokevirtual_row : (m : MethodId) → EKin (does p own (instr.Invokevirtual m) next ls vs h) (does p own (instr.Invokevirtual m) next ms ws k)
+    unfolding does
+    invokevirtual_row m = some_kin good of owner t h k alike there (method_at p m) _ _ (λ (method : Method). values_kin good of owner t h k alike there (length method.params) vs ws s _ _ (λ xs ys a ts us u. value_kin good of owner t h k alike there ts us u _ _ (λ v w e rs ss r.
+        cond_kin good of owner t h k alike there (is_text_method p method) (calls_text method (reverse xs) next ls rs h v) (calls_text method (reverse ys) next ms ss k w) (effect.as_class p v h (calls_on p method m (reverse xs) next ls rs h v)) (effect.as_class p w k (calls_on p method m (reverse ys) next ms ss k w))
+        (texts method (reverse xs) (reverse ys) rs ss v w (kin_reverse of xs ys a.0) r.0 e.0)
+        (class_kin good of owner t h k alike there p v w e _ _ (called_kin method m (reverse xs) (reverse ys) rs ss v w (kin_reverse of xs ys a.0) r.0 e.0 (e.1, held_reverse good xs a.1))))))
+
+    invokespecial_row : (m : MethodId) → EKin (does p own (instr.Invokespecial m) next ls vs h) (does p own (instr.Invokespecial m) next ms ws k)
+    unfolding does
+    invokespecial_row m = some_kin good of owner t h k alike there (method_at p m) _ _ (λ (method : Method). cond_kin good of owner t h k alike there (is_built_in_constructor method)
+        (effect.on_receiver vs (λ v rs. effect.Goes next ls rs h)) (effect.on_receiver ws (λ v rs. effect.Goes next ms rs k))
+        (effect.on_values (length method.params) vs (λ xs b. effect.on_receiver b (λ v rs. calls_method (method_at p (special p own method m)) (special p own method m) (v ∷ reverse xs) next ls rs h)))
+        (effect.on_values (length method.params) ws (λ xs b. effect.on_receiver b (λ v rs. calls_method (method_at p (special p own method m)) (special p own method m) (v ∷ reverse xs) next ms rs k)))
+        (on_receiver_kin good of owner t h k alike there vs ws s _ _ (λ v w q rs ss r. (refl, l, r.0, alike)))
+        (values_kin good of owner t h k alike there (length method.params) vs ws s _ _ (λ xs ys a ts us u. on_receiver_kin good of owner t h k alike there ts us u _ _ (λ v w q rs ss r.
+        method_kin (method_at p (special p own method m)) (special p own method m) (v ∷ reverse xs) (w ∷ reverse ys) rs ss (q.0, kin_reverse of xs ys a.0) (q.1, held_reverse good xs a.1) r.0))))
+
+    invokestatic_row : (m : MethodId) → EKin (does p own (instr.Invokestatic m) next ls vs h) (does p own (instr.Invokestatic m) next ms ws k)
+    unfolding does
+    invokestatic_row m = some_kin good of owner t h k alike there (method_at p m) _ _ (λ (method : Method). cond_kin good of owner t h k alike there (is_handed_out p method)
+        (effect.on_values (length method.params) vs (λ xs rs. effect.Asks m (reverse xs) next ls rs h)) (effect.on_values (length method.params) ws (λ xs rs. effect.Asks m (reverse xs) next ms rs k)) _ _
+        (values_kin good of owner t h k alike there (length method.params) vs ws s _ _ (λ xs ys a rs ss r. (refl, kin_reverse of xs ys a.0, refl, l, r.0, refl, refl, held_reverse good xs a.1)))
+        (cond_kin good of owner t h k alike there method.built_in
+        (effect.on_int vs (λ i b. effect.on_object b h (λ n o rs. effect.at_index o.elements i (λ j v. effect.Goes next ls (v ∷ rs) (insert h n (record o { elements = slice_set o.elements j Null }))))))
+        (effect.on_int ws (λ i b. effect.on_object b k (λ n o rs. effect.at_index o.elements i (λ j v. effect.Goes next ms (v ∷ rs) (insert k n (record o { elements = slice_set o.elements j Null }))))))
+        (effect.on_values (length method.params) vs (λ xs rs. effect.Calls m (reverse xs) next ls rs h)) (effect.on_values (length method.params) ws (λ xs rs. effect.Calls m (reverse xs) next ms rs k))
+        (on_int_kin good of owner t h k alike there vs ws s _ _ (λ i ts us u. object_kin good of owner t h k alike there ts us u _ _ (λ n x o q held rs ss r. index_kin good of owner t h k alike there o.elements q.elements held.3.elements i _ _ (λ j v w e.
+        (refl, l, (e, r.0), written good of owner t h k alike there n x o q held _ _ (record { class = held.3.class; fields = held.3.fields; elements = kin_set of o.elements q.elements j Null Null held.3.elements tt }))))))
+        (values_kin good of owner t h k alike there (length method.params) vs ws s _ _ (λ xs ys a rs ss r. (refl, kin_reverse of xs ys a.0, refl, l, r.0, refl, refl)))))
+
+    arraylength_row : EKin (does p own instr.Arraylength next ls vs h) (does p own instr.Arraylength next ms ws k)
+    unfolding does
+    arraylength_row = object_kin good of owner t h k alike there vs ws s _ _ (λ n x o q held rs ss r. (refl, l, (ap (λ (i : ℕ). cast_signed w32 (i % 2 ^ 32)) (kin_length of o.elements q.elements held.3.elements), r.0), alike))
+
+    checkcast_row : (ty : Ty) → EKin (does p own (instr.Checkcast ty) next ls vs h) (does p own (instr.Checkcast ty) next ms ws k)
+    unfolding does
+    checkcast_row ty = value_kin good of owner t h k alike there vs ws s _ _ (λ v w e rs ss r. class_kin good of owner t h k alike there p v w e _ _ (λ c. cond_kin good of owner t h k alike there (cast_fits p c ty) (effect.Goes next ls (v ∷ rs) h) (effect.Goes next ms (w ∷ ss) k) (effect.Raises cause.Cast) (effect.Raises cause.Cast) (refl, l, (e.0, r.0), alike) refl))
+
+    instanceof_row : (ty : Ty) → EKin (does p own (instr.Instanceof ty) next ls vs h) (does p own (instr.Instanceof ty) next ms ws k)
+    unfolding does
+    instanceof_row ty = value_kin good of owner t h k alike there vs ws s _ _ (λ v w e rs ss r. class_kin good of owner t h k alike there p v w e _ _ (λ c. (refl, l, (refl, r.0), alike)))
+
+    iaload_row : EKin (does p own instr.Iaload next ls vs h) (does p own instr.Iaload next ms ws k)
+    unfolding does
+    iaload_row = on_int_kin good of owner t h k alike there vs ws s _ _ (λ i ts us u. object_kin good of owner t h k alike there ts us u _ _ (λ n x o q held rs ss r. index_kin good of owner t h k alike there o.elements q.elements held.3.elements i _ _ (λ j v w e. int_kin good of owner t h k alike there v w e _ _ (λ y. (refl, l, (refl, r.0), alike)))))
+
+    aaload_row : EKin (does p own instr.Aaload next ls vs h) (does p own instr.Aaload next ms ws k)
+    unfolding does
+    aaload_row = on_int_kin good of owner t h k alike there vs ws s _ _ (λ i ts us u. object_kin good of owner t h k alike there ts us u _ _ (λ n x o q held rs ss r. index_kin good of owner t h k alike there o.elements q.elements held.3.elements i _ _ (λ j v w e. (refl, l, (e, r.0), alike))))
+
+    iastore_row : EKin (does p own instr.Iastore next ls vs h) (does p own instr.Iastore next ms ws k)
+    unfolding does
+    iastore_row = on_int_kin good of owner t h k alike there vs ws s _ _ (λ y as1 bs1 z. on_int_kin good of owner t h k alike there as1 bs1 z _ _ (λ i ts us u. object_kin good of owner t h k alike there ts us u _ _ (λ n x o q held rs ss r. index_kin good of owner t h k alike there o.elements q.elements held.3.elements i _ _ (λ j v w e.
+        (refl, l, r.0, written good of owner t h k alike there n x o q held _ _ (record { class = held.3.class; fields = held.3.fields; elements = kin_set of o.elements q.elements j _ _ held.3.elements refl }))))))
+
+    aastore_row : EKin (does p own instr.Aastore next ls vs h) (does p own instr.Aastore next ms ws k)
+    unfolding does
+    aastore_row = value_kin good of owner t h k alike there vs ws s _ _ (λ a b c as1 bs1 z. on_int_kin good of owner t h k alike there as1 bs1 z _ _ (λ i ts us u. object_kin good of owner t h k alike there ts us u _ _ (λ n x o q held rs ss r. index_kin good of owner t h k alike there o.elements q.elements held.3.elements i _ _ (λ j v w e.
+        class_kin good of owner t h k alike there p a b c _ _ (λ d. subst (λ (ty : Ty). EKin (cond (cast_fits p d (element_type o.class)) (effect.Goes next ls rs (insert h n (record o { elements = slice_set o.elements j a }))) (effect.Raises cause.Store)) (cond (cast_fits p d (element_type ty)) (effect.Goes next ms ss (insert k x (record q { elements = slice_set q.elements j b }))) (effect.Raises cause.Store))) held.3.class
+        (cond_kin good of owner t h k alike there (cast_fits p d (element_type o.class)) _ _ _ _
+        (refl, l, r.0, written good of owner t h k alike there n x o q held _ _ (record { class = held.3.class; fields = held.3.fields; elements = kin_set of o.elements q.elements j _ _ held.3.elements c.0 })) refl))))))
+
+    getstatic_row : (f : FieldId) → EKin (does p own (instr.Getstatic f) next ls vs h) (does p own (instr.Getstatic f) next ms ws k)
+    unfolding does
+    getstatic_row f = some_kin good of owner t h k alike there (field_of p f) _ _ (λ (field : Field). some_kin good of owner t h k alike there field.constant _ _ (λ v. constant_kin good of owner t h k alike there v _ _ (λ c e. (refl, l, (e, s.0), alike))))
+
+    laload_row : EKin (does p own instr.Laload next ls vs h) (does p own instr.Laload next ms ws k)
+    unfolding does
+    laload_row = on_int_kin good of owner t h k alike there vs ws s _ _ (λ i ts us u. object_kin good of owner t h k alike there ts us u _ _ (λ n x o q held rs ss r. index_kin good of owner t h k alike there o.elements q.elements held.3.elements i _ _ (λ j v w e. long_kin good of owner t h k alike there v w e _ _ (λ y. (refl, l, (refl, r.0), alike)))))
+
+    lastore_row : EKin (does p own instr.Lastore next ls vs h) (does p own instr.Lastore next ms ws k)
+    unfolding does
+    lastore_row = on_long_kin good of owner t h k alike there vs ws s _ _ (λ y as1 bs1 z. on_int_kin good of owner t h k alike there as1 bs1 z _ _ (λ i ts us u. object_kin good of owner t h k alike there ts us u _ _ (λ n x o q held rs ss r. index_kin good of owner t h k alike there o.elements q.elements held.3.elements i _ _ (λ j v w e.
+        (refl, l, r.0, written good of owner t h k alike there n x o q held _ _ (record { class = held.3.class; fields = held.3.fields; elements = kin_set of o.elements q.elements j _ _ held.3.elements refl }))))))
+
     row : (i : Instr) → EKin (does p own i next ls vs h) (does p own i next ms ws k)
     unfolding does
     row instr.Nop = (refl, l, s.0, alike)
@@ -249,14 +367,14 @@ module _ (p : Program) (own : Method) (good : ℕ → Type 0) (of : Names) (owne
     row (instr.Astore n) = on_reference_kin good of owner t h k alike there vs ws s _ _ (λ a b q rs ss r. slot_kin good of owner t h k alike there _ _ (kin_get of ls ms n l) _ _ (λ v w e. (refl, kin_set of ls ms n a b l q.0, r.0, alike)))
     row (instr.Iinc n d) = slot_kin good of owner t h k alike there _ _ (kin_get of ls ms n l) _ _ (λ v w e. int_kin good of owner t h k alike there v w e _ _ (λ x. (refl, kin_set of ls ms n _ _ l refl, s.0, alike)))
     row instr.Pop = word_kin good of owner t h k alike there vs ws s _ _ (λ v w q rs ss r. (refl, l, r.0, alike))
-    row instr.Pop2 = two_words_kin good of owner t h k alike there vs ws s (λ xs rs. effect.Goes next ls rs h) (λ xs rs. effect.Goes next ms rs k) (λ xs ys q rs ss r. (refl, l, r.0, alike))
+    row instr.Pop2 = pop2_row
     row instr.Dup = word_kin good of owner t h k alike there vs ws s _ _ (λ v w q rs ss r. (refl, l, (q.0, (q.0, r.0)), alike))
-    row instr.DupX1 = word_kin good of owner t h k alike there vs ws s _ _ (λ v w q ts us u. word_kin good of owner t h k alike there ts us u _ _ (λ a b c rs ss r. (refl, l, (q.0, (c.0, (q.0, r.0))), alike)))
-    row instr.DupX2 = word_kin good of owner t h k alike there vs ws s _ _ (λ v w q ts us u. two_words_kin good of owner t h k alike there ts us u (λ xs rs. effect.Goes next ls (v ∷ (xs ++ v ∷ rs)) h) (λ xs rs. effect.Goes next ms (w ∷ (xs ++ w ∷ rs)) k) (λ xs ys c rs ss r. (refl, l, (q.0, kin_append of xs ys (v ∷ rs) (w ∷ ss) c (q.0, r.0)), alike)))
-    row instr.Dup2 = two_words_kin good of owner t h k alike there vs ws s (λ xs rs. effect.Goes next ls (xs ++ (xs ++ rs)) h) (λ xs rs. effect.Goes next ms (xs ++ (xs ++ rs)) k) (λ xs ys q rs ss r. (refl, l, kin_append of xs ys _ _ q (kin_append of xs ys rs ss q r.0), alike))
-    row instr.Dup2X1 = two_words_kin good of owner t h k alike there vs ws s (λ xs b. effect.on_word b (λ w rs. effect.Goes next ls (xs ++ w ∷ (xs ++ rs)) h)) (λ xs b. effect.on_word b (λ w rs. effect.Goes next ms (xs ++ w ∷ (xs ++ rs)) k)) (λ xs ys q ts us u. word_kin good of owner t h k alike there ts us u _ _ (λ v w c rs ss r. (refl, l, kin_append of xs ys (v ∷ (xs ++ rs)) (w ∷ (ys ++ ss)) q (c.0, kin_append of xs ys rs ss q r.0), alike)))
-    row instr.Dup2X2 = two_words_kin good of owner t h k alike there vs ws s (λ xs b. effect.on_two_words b (λ as1 rs. effect.Goes next ls (xs ++ (as1 ++ (xs ++ rs))) h)) (λ xs b. effect.on_two_words b (λ as1 rs. effect.Goes next ms (xs ++ (as1 ++ (xs ++ rs))) k)) (λ xs ys q ts us u. two_words_kin good of owner t h k alike there ts us u (λ as1 rs. effect.Goes next ls (xs ++ (as1 ++ (xs ++ rs))) h) (λ as1 rs. effect.Goes next ms (ys ++ (as1 ++ (ys ++ rs))) k) (λ as1 bs1 c rs ss r. (refl, l, kin_append of xs ys _ _ q (kin_append of as1 bs1 _ _ c (kin_append of xs ys rs ss q r.0)), alike)))
-    row instr.Swap = word_kin good of owner t h k alike there vs ws s _ _ (λ v w q ts us u. word_kin good of owner t h k alike there ts us u _ _ (λ a b c rs ss r. (refl, l, (c.0, (q.0, r.0)), alike)))
+    row instr.DupX1 = dup_x1_row
+    row instr.DupX2 = dup_x2_row
+    row instr.Dup2 = dup2_row
+    row instr.Dup2X1 = dup2_x1_row
+    row instr.Dup2X2 = dup2_x2_row
+    row instr.Swap = swap_row
     row instr.Iadd = ints _
     row instr.Isub = ints _
     row instr.Imul = ints _
@@ -270,7 +388,7 @@ module _ (p : Program) (own : Method) (good : ℕ → Type 0) (of : Names) (owne
     row instr.L2i = on_long_kin good of owner t h k alike there vs ws s _ _ (λ x rs ss r. (refl, l, (refl, r.0), alike))
     row instr.Ladd = longs _
     row instr.Ldiv = longs_divide _
-    row instr.Lcmp = on_two_longs_kin good of owner t h k alike there vs ws s _ _ (λ x y rs ss r. (refl, l, (refl, r.0), alike))
+    row instr.Lcmp = lcmp_row
     row (instr.Ifeq to) = int_jumps _ to
     row (instr.Iflt to) = int_jumps _ to
     row (instr.IfIcmpeq to) = compare_jumps _ to
@@ -285,49 +403,25 @@ module _ (p : Program) (own : Method) (good : ℕ → Type 0) (of : Names) (owne
     row instr.Lreturn = on_long_kin good of owner t h k alike there vs ws s _ _ (λ x rs ss r. (refl, refl, refl))
     row instr.Areturn = on_reference_kin good of owner t h k alike there vs ws s _ _ (λ v w q rs ss r. (q.0, refl, refl))
     row instr.Return = (tt, refl, refl)
-    row (instr.Getfield f) = object_kin good of owner t h k alike there vs ws s _ _ (λ n x o q held rs ss r. slot_kin good of owner t h k alike there _ _ (field_get o.fields q.fields f held.3.fields) _ _ (λ v w e. (refl, l, (e, r.0), alike)))
-    row (instr.Putfield f) = value_kin good of owner t h k alike there vs ws s _ _ (λ v w e ts us u. object_kin good of owner t h k alike there ts us u _ _ (λ n x o q held rs ss r. some_kin good of owner t h k alike there (field_of p f) _ _ (λ field.
-        slot_kin good of owner t h k alike there _ _ (field_get o.fields q.fields f held.3.fields) _ _ (λ a b d.
-        (refl, l, r.0, written good of owner t h k alike there n x o q held _ _ (record { class = held.3.class; fields = field_set o.fields q.fields f _ _ held.3.fields (narrowed_kin field.ty v w e.0); elements = held.3.elements }))))))
-    row (instr.Invokevirtual m) = some_kin good of owner t h k alike there (method_at p m) _ _ (λ (method : Method). values_kin good of owner t h k alike there (length method.params) vs ws s _ _ (λ xs ys a ts us u. value_kin good of owner t h k alike there ts us u _ _ (λ v w e rs ss r.
-        cond_kin good of owner t h k alike there (is_text_method p method) (calls_text method (reverse xs) next ls rs h v) (calls_text method (reverse ys) next ms ss k w) (effect.as_class p v h (calls_on p method m (reverse xs) next ls rs h v)) (effect.as_class p w k (calls_on p method m (reverse ys) next ms ss k w))
-        (texts method (reverse xs) (reverse ys) rs ss v w (kin_reverse of xs ys a.0) r.0 e.0)
-        (class_kin good of owner t h k alike there p v w e _ _ (called_kin method m (reverse xs) (reverse ys) rs ss v w (kin_reverse of xs ys a.0) r.0 e.0 (e.1, held_reverse good xs a.1))))))
-    row (instr.Invokespecial m) = some_kin good of owner t h k alike there (method_at p m) _ _ (λ (method : Method). cond_kin good of owner t h k alike there (is_built_in_constructor method)
-        (effect.on_receiver vs (λ v rs. effect.Goes next ls rs h)) (effect.on_receiver ws (λ v rs. effect.Goes next ms rs k))
-        (effect.on_values (length method.params) vs (λ xs b. effect.on_receiver b (λ v rs. calls_method (method_at p (special p own method m)) (special p own method m) (v ∷ reverse xs) next ls rs h)))
-        (effect.on_values (length method.params) ws (λ xs b. effect.on_receiver b (λ v rs. calls_method (method_at p (special p own method m)) (special p own method m) (v ∷ reverse xs) next ms rs k)))
-        (on_receiver_kin good of owner t h k alike there vs ws s _ _ (λ v w q rs ss r. (refl, l, r.0, alike)))
-        (values_kin good of owner t h k alike there (length method.params) vs ws s _ _ (λ xs ys a ts us u. on_receiver_kin good of owner t h k alike there ts us u _ _ (λ v w q rs ss r.
-        method_kin (method_at p (special p own method m)) (special p own method m) (v ∷ reverse xs) (w ∷ reverse ys) rs ss (q.0, kin_reverse of xs ys a.0) (q.1, held_reverse good xs a.1) r.0))))
-    row (instr.Invokestatic m) = some_kin good of owner t h k alike there (method_at p m) _ _ (λ (method : Method). cond_kin good of owner t h k alike there (is_handed_out p method)
-        (effect.on_values (length method.params) vs (λ xs rs. effect.Asks m (reverse xs) next ls rs h)) (effect.on_values (length method.params) ws (λ xs rs. effect.Asks m (reverse xs) next ms rs k)) _ _
-        (values_kin good of owner t h k alike there (length method.params) vs ws s _ _ (λ xs ys a rs ss r. (refl, kin_reverse of xs ys a.0, refl, l, r.0, refl, refl, held_reverse good xs a.1)))
-        (cond_kin good of owner t h k alike there method.built_in
-        (effect.on_int vs (λ i b. effect.on_object b h (λ n o rs. effect.at_index o.elements i (λ j v. effect.Goes next ls (v ∷ rs) (insert h n (record o { elements = slice_set o.elements j Null }))))))
-        (effect.on_int ws (λ i b. effect.on_object b k (λ n o rs. effect.at_index o.elements i (λ j v. effect.Goes next ms (v ∷ rs) (insert k n (record o { elements = slice_set o.elements j Null }))))))
-        (effect.on_values (length method.params) vs (λ xs rs. effect.Calls m (reverse xs) next ls rs h)) (effect.on_values (length method.params) ws (λ xs rs. effect.Calls m (reverse xs) next ms rs k))
-        (on_int_kin good of owner t h k alike there vs ws s _ _ (λ i ts us u. object_kin good of owner t h k alike there ts us u _ _ (λ n x o q held rs ss r. index_kin good of owner t h k alike there o.elements q.elements held.3.elements i _ _ (λ j v w e.
-        (refl, l, (e, r.0), written good of owner t h k alike there n x o q held _ _ (record { class = held.3.class; fields = held.3.fields; elements = kin_set of o.elements q.elements j Null Null held.3.elements tt }))))))
-        (values_kin good of owner t h k alike there (length method.params) vs ws s _ _ (λ xs ys a rs ss r. (refl, kin_reverse of xs ys a.0, refl, l, r.0, refl, refl)))))
-    row (instr.New c) = cond_kin good of owner t h k alike there _ (effect.Opens next ls vs h) (effect.Opens next ms ws k) (effect.Makes (new_object p c) next ls vs h) (effect.Makes (new_object p c) next ms ws k) (refl, l, s.0, refl, refl) (new_kin c, refl, l, s.0, refl, refl)
-    row (instr.Newarray b) = arrays _ _ (zero_kin b)
+    row (instr.Getfield f) = getfield_row f
+    row (instr.Putfield f) = putfield_row f
+    row (instr.Invokevirtual m) = invokevirtual_row m
+    row (instr.Invokespecial m) = invokespecial_row m
+    row (instr.Invokestatic m) = invokestatic_row m
+    row (instr.New c) = cond_kin good of owner t h k alike there _ (effect.Opens next ls vs h) (effect.Opens next ms ws k) (effect.Makes (new_object p c) next ls vs h) (effect.Makes (new_object p c) next ms ws k) (refl, l, s.0, refl, refl) (new_kin p of c, refl, l, s.0, refl, refl)
+    row (instr.Newarray b) = arrays _ _ (zero_kin p of b)
     row (instr.Anewarray ty) = arrays _ _ tt
-    row instr.Arraylength = object_kin good of owner t h k alike there vs ws s _ _ (λ n x o q held rs ss r. (refl, l, (ap (λ (i : ℕ). cast_signed w32 (i % 2 ^ 32)) (kin_length of o.elements q.elements held.3.elements), r.0), alike))
-    row (instr.Checkcast ty) = value_kin good of owner t h k alike there vs ws s _ _ (λ v w e rs ss r. class_kin good of owner t h k alike there p v w e _ _ (λ c. cond_kin good of owner t h k alike there (cast_fits p c ty) (effect.Goes next ls (v ∷ rs) h) (effect.Goes next ms (w ∷ ss) k) (effect.Raises cause.Cast) (effect.Raises cause.Cast) (refl, l, (e.0, r.0), alike) refl))
-    row (instr.Instanceof ty) = value_kin good of owner t h k alike there vs ws s _ _ (λ v w e rs ss r. class_kin good of owner t h k alike there p v w e _ _ (λ c. (refl, l, (refl, r.0), alike)))
-    row instr.Iaload = on_int_kin good of owner t h k alike there vs ws s _ _ (λ i ts us u. object_kin good of owner t h k alike there ts us u _ _ (λ n x o q held rs ss r. index_kin good of owner t h k alike there o.elements q.elements held.3.elements i _ _ (λ j v w e. int_kin good of owner t h k alike there v w e _ _ (λ y. (refl, l, (refl, r.0), alike)))))
-    row instr.Aaload = on_int_kin good of owner t h k alike there vs ws s _ _ (λ i ts us u. object_kin good of owner t h k alike there ts us u _ _ (λ n x o q held rs ss r. index_kin good of owner t h k alike there o.elements q.elements held.3.elements i _ _ (λ j v w e. (refl, l, (e, r.0), alike))))
-    row instr.Iastore = on_int_kin good of owner t h k alike there vs ws s _ _ (λ y as1 bs1 z. on_int_kin good of owner t h k alike there as1 bs1 z _ _ (λ i ts us u. object_kin good of owner t h k alike there ts us u _ _ (λ n x o q held rs ss r. index_kin good of owner t h k alike there o.elements q.elements held.3.elements i _ _ (λ j v w e.
-        (refl, l, r.0, written good of owner t h k alike there n x o q held _ _ (record { class = held.3.class; fields = held.3.fields; elements = kin_set of o.elements q.elements j _ _ held.3.elements refl }))))))
-    row instr.Aastore = value_kin good of owner t h k alike there vs ws s _ _ (λ a b c as1 bs1 z. on_int_kin good of owner t h k alike there as1 bs1 z _ _ (λ i ts us u. object_kin good of owner t h k alike there ts us u _ _ (λ n x o q held rs ss r. index_kin good of owner t h k alike there o.elements q.elements held.3.elements i _ _ (λ j v w e.
-        class_kin good of owner t h k alike there p a b c _ _ (λ d. subst (λ (ty : Ty). EKin (cond (cast_fits p d (element_type o.class)) (effect.Goes next ls rs (insert h n (record o { elements = slice_set o.elements j a }))) (effect.Raises cause.Store)) (cond (cast_fits p d (element_type ty)) (effect.Goes next ms ss (insert k x (record q { elements = slice_set q.elements j b }))) (effect.Raises cause.Store))) held.3.class
-        (cond_kin good of owner t h k alike there (cast_fits p d (element_type o.class)) _ _ _ _
-        (refl, l, r.0, written good of owner t h k alike there n x o q held _ _ (record { class = held.3.class; fields = held.3.fields; elements = kin_set of o.elements q.elements j _ _ held.3.elements c.0 })) refl))))))
+    row instr.Arraylength = arraylength_row
+    row (instr.Checkcast ty) = checkcast_row ty
+    row (instr.Instanceof ty) = instanceof_row ty
+    row instr.Iaload = iaload_row
+    row instr.Aaload = aaload_row
+    row instr.Iastore = iastore_row
+    row instr.Aastore = aastore_row
     row (instr.Ldc v) = constant_kin good of owner t h k alike there v _ _ (λ c e. (refl, l, (e, s.0), alike))
     row (instr.LdcW v) = constant_kin good of owner t h k alike there v _ _ (λ c e. (refl, l, (e, s.0), alike))
     row (instr.Ldc2W v) = constant_kin good of owner t h k alike there v _ _ (λ c e. (refl, l, (e, s.0), alike))
-    row (instr.Getstatic f) = some_kin good of owner t h k alike there (field_of p f) _ _ (λ (field : Field). some_kin good of owner t h k alike there field.constant _ _ (λ v. constant_kin good of owner t h k alike there v _ _ (λ c e. (refl, l, (e, s.0), alike))))
+    row (instr.Getstatic f) = getstatic_row f
     row instr.Lsub = longs _
     row instr.Lmul = longs _
     row instr.Lrem = longs_divide _
@@ -354,12 +448,11 @@ module _ (p : Program) (own : Method) (good : ℕ → Type 0) (of : Names) (owne
     row (instr.IfIcmple to) = compare_jumps _ to
     row (instr.GotoW to) = (refl, l, s.0, alike)
     row (instr.Lookupswitch default entries) = on_int_kin good of owner t h k alike there vs ws s _ _ (λ x rs ss r. (refl, l, r.0, alike))
-    row instr.Laload = on_int_kin good of owner t h k alike there vs ws s _ _ (λ i ts us u. object_kin good of owner t h k alike there ts us u _ _ (λ n x o q held rs ss r. index_kin good of owner t h k alike there o.elements q.elements held.3.elements i _ _ (λ j v w e. long_kin good of owner t h k alike there v w e _ _ (λ y. (refl, l, (refl, r.0), alike)))))
+    row instr.Laload = laload_row
     row instr.Baload = int_loads
     row instr.Caload = int_loads
     row instr.Saload = int_loads
-    row instr.Lastore = on_long_kin good of owner t h k alike there vs ws s _ _ (λ y as1 bs1 z. on_int_kin good of owner t h k alike there as1 bs1 z _ _ (λ i ts us u. object_kin good of owner t h k alike there ts us u _ _ (λ n x o q held rs ss r. index_kin good of owner t h k alike there o.elements q.elements held.3.elements i _ _ (λ j v w e.
-        (refl, l, r.0, written good of owner t h k alike there n x o q held _ _ (record { class = held.3.class; fields = held.3.fields; elements = kin_set of o.elements q.elements j _ _ held.3.elements refl }))))))
+    row instr.Lastore = lastore_row
     row instr.Bastore = int_stores
     row instr.Castore = int_stores
     row instr.Sastore = int_stores

@@ -1,5 +1,5 @@
 -- A thread has ended just where the last deed of its course is an end.
-use Rattle.std.proofs.Common.{◌≡◌, ℕ, zero, suc, ℤ, Bool, true, false, cond, List, [], ◌∷◌, Option, Some, None, refl, sym, ap, subst, ◌∙◌, inl, inr}
+use Rattle.std.proofs.Common.{◌≡◌, ℕ, zero, suc, ◌+◌, ℤ, Bool, true, false, cond, List, [], ◌∷◌, Option, Some, None, refl, sym, ap, subst, ◌∙◌, inl, inr}
 use Rattle.std.specs.Prelude.{nat_lt, nat_le}
 use Rattle.std.proofs.lemmas.Bool.{cases_Bool}
 use Rattle.std.proofs.lemmas.Option.{same_Some, none-some}
@@ -16,6 +16,7 @@ use Rattle.kilim_run_machine.specs.Natives.{Native, native_of}
 use Rattle.kilim_run_machine.specs.Natives as native
 use Rattle.kilim_run_machine.specs.Moves.{Move, moves, push_value}
 use Rattle.kilim_run_machine.specs.Moves as move
+use Rattle.kilim_run_machine.specs.Raising.{thrown}
 use Rattle.kilim_run_state.specs.Shapes.{shape_of}
 use Rattle.kilim_run_state.specs.Trees.{OfMessage, OfTask, built}
 use Rattle.kilim_run_journal.specs.declared.entry.Act.{Act}
@@ -27,6 +28,7 @@ use Rattle.kilim_run_model.specs.declared.deed.Deed.{Deed}
 use Rattle.kilim_run_model.specs.declared.deed.Beginning.{Beginning}
 use Rattle.kilim_run_model.specs.declared.deed.Beginning.TheVariants.{Boot, Begun}
 use Rattle.kilim_run_model.specs.one_heap.Booked.{IsOf}
+use Rattle.kilim_run_model.proofs.Raised.{raised_has, raises_has, throws_has}
 
 abbrev pub is_ended : Thread → Bool
 is_ended (Alive frames done boxes) = false
@@ -62,7 +64,7 @@ start_so after root None h = refl
 start_so after root (Some shape) h = h
 
 message_so : (p : Program) (after : Lone) (box : BoxName) (v : Value) → is_ended after.thread ≡ false → So (message_next p after box v)
-message_so p after box Null h = refl
+message_so p after box Null h = raised_has So after cause.Null refl p (λ object f fs frames done boxes e. refl)
 message_so p after box (Ref root) h = put_so after box root (shape_of p after.heap root) h
 message_so p after box v h = tt
 
@@ -70,9 +72,9 @@ print_so : (after : Lone) (t : Option Token) → is_ended after.thread ≡ false
 print_so after None h = tt
 print_so after (Some t) h = h
 
-arg_so : (after : Lone) (x : Option ℤ) → is_ended after.thread ≡ false → So (arg_next after x)
-arg_so after None h = refl
-arg_so after (Some x) h = pushed_is (Int x) after.thread ∙ h
+arg_so : (p : Program) (after : Lone) (x : Option ℤ) → is_ended after.thread ≡ false → So (arg_next p after x)
+arg_so p after None h = raised_has So after cause.Index refl p (λ object f fs frames done boxes e. refl)
+arg_so p after (Some x) h = pushed_is (Int x) after.thread ∙ h
 
 native_so : (set : Setting) (after : Lone) (nat : Native) (args : List Value) → is_ended after.thread ≡ false → So (native_next set after nat args)
 native_so set after native.Execute (Ref r ∷ []) h = h
@@ -83,7 +85,7 @@ native_so set after native.Getnb (Box box ∷ []) h = h
 native_so set after native.Print (v ∷ []) h = print_so after (printed v) h
 native_so set after native.Yield [] h = h
 native_so set after native.ArgCount [] h = pushed_is _ after.thread ∙ h
-native_so set after native.Arg (Int i ∷ []) h = arg_so after (arg_at set.limits.args i) h
+native_so set after native.Arg (Int i ∷ []) h = arg_so set.program after (arg_at set.limits.args i) h
 native_so set after nat args h = tt
 
 asks_so : (set : Setting) (after : Lone) (args : List Value) (nat : Option Native) → is_ended after.thread ≡ false → So (asks_next set after args nat)
@@ -99,19 +101,20 @@ finish_so : (set : Setting) (l : Lone) (done boxes : ℕ) (kept : Option ℕ) �
 finish_so set l done boxes None = refl
 finish_so set l done boxes (Some n) = begins_so l done boxes (begun_on set.program (execute_of set.program set.main) n)
 
-move_so : (set : Setting) (t : ℕ) (l : Lone) (done boxes : ℕ) (m : Move) → So (next_by set t l done boxes m)
-move_so set t l done boxes (move.Runs change frames heap) = refl
-move_so set t l done boxes (move.Makes object frames heap) = refl
-move_so set t l done boxes (move.Opens frames heap) = either (nat_lt boxes box_limit) _ _ refl refl
-move_so set t l done boxes (move.Asks m args frames heap) = asks_so set (went (on_heap l heap) frames done boxes) args (native_of set.program m) refl
-move_so set t l done boxes (move.Returns heap) = finish_so set (on_heap l heap) done boxes l.kept
-move_so set t l done boxes (move.Raises cause) = refl
-move_so set t l done boxes (move.Ends cause) = refl
-move_so set t l done boxes move.Stuck = tt
+move_so : (set : Setting) (t : ℕ) (l : Lone) (done boxes : ℕ) (top : Activation) (below : List Activation) (m : Move) → So (next_by set t l done boxes top below m)
+move_so set t l done boxes top below (move.Runs change frames heap) = refl
+move_so set t l done boxes top below (move.Makes object frames heap) = refl
+move_so set t l done boxes top below (move.Opens frames heap) = either (nat_lt boxes box_limit) _ _ refl refl
+move_so set t l done boxes top below (move.Asks m args frames heap) = asks_so set (went (on_heap l heap) frames done boxes) args (native_of set.program m) refl
+move_so set t l done boxes top below (move.Returns heap) = finish_so set (on_heap l heap) done boxes l.kept
+move_so set t l done boxes top below (move.Raises cause) = raises_has So l cause refl set.program done boxes top below (λ object f fs. refl)
+move_so set t l done boxes top below (move.Throws n c cause) = throws_has So l cause refl (done + 1) boxes (thrown set.program c (Ref n) top below) (λ f fs. refl)
+move_so set t l done boxes top below (move.Ends cause) = refl
+move_so set t l done boxes top below move.Stuck = tt
 
 frames_so : (set : Setting) (t : ℕ) (l : Lone) (frames : List Activation) (done boxes : ℕ) → So (frames_next set t l frames done boxes)
 frames_so set t l [] done boxes = refl
-frames_so set t l (top ∷ below) done boxes = move_so set t l done boxes (moves set.program top below l.heap)
+frames_so set t l (top ∷ below) done boxes = move_so set t l done boxes top below (moves set.program top below l.heap)
 
 thread_so : (set : Setting) (t : ℕ) (l : Lone) (th : Thread) → So (thread_next set t l th)
 thread_so set t l (Ended cause) = tt

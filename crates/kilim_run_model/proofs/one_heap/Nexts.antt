@@ -6,6 +6,7 @@ use Rattle.std.proofs.lemmas.Bool.Decides.{leb_tells}
 use Rattle.kilim_program.specs.Program.{Program}
 use Rattle.kilim_program.specs.declared.class.Method.{Method}
 use Rattle.kilim_program.specs.declared.names.BoxName.{BoxName}
+use Rattle.kilim_program.specs.declared.names.ClassId.{ClassId}
 use Rattle.kilim_program.specs.declared.names.MethodId.{MethodId}
 use Rattle.kilim_program.specs.declared.value.Value.{Value}
 use Rattle.kilim_program.specs.declared.value.Value.TheVariants.{Int, Long, Null, Ref, Text, Box, Fiber}
@@ -20,18 +21,21 @@ use Rattle.kilim_run_machine.specs.Natives.{Native, native_of}
 use Rattle.kilim_run_machine.specs.Natives as native
 use Rattle.kilim_run_machine.specs.Moves.{Move, moves, entered, push_value}
 use Rattle.kilim_run_machine.specs.Moves as move
+use Rattle.kilim_run_machine.specs.Raising.{index_at, other_index, raised_class, thrown, unwound}
+use Rattle.kilim_run_state.specs.Objects.{new_object}
 use Rattle.kilim_run_state.specs.Shapes.{shape_of}
 use Rattle.kilim_run_state.specs.Trees.{Root, OfMessage, OfTask}
 use Rattle.kilim_run_model.specs.State.{Setting, Thread, Alive, Ended, begun_in, begun_on}
-use Rattle.kilim_run_model.specs.Lone.{Lone, Next, Stands, went, pushed, ended, over, raised, put_next, message_next, start_next, printed, print_next, narrowed, arg_at, arg_next, native_next, asks_next, box_limit, opens_next, begins_next, finish_next, on_heap, next_by, frames_next, thread_next, next_move}
+use Rattle.kilim_run_model.specs.Lone.{Lone, Next, Stands, went, pushed, ended, over, raised, raises_by, raises_of, raises_next, throws_by, put_next, message_next, start_next, printed, print_next, narrowed, arg_at, arg_next, native_next, asks_next, box_limit, opens_next, begins_next, finish_next, on_heap, next_by, frames_next, thread_next, next_move}
 use Rattle.kilim_run_model.specs.Lone as next
 use Rattle.kilim_run_model.specs.Kept.{given}
 use Rattle.kilim_run_model.specs.kin.Kin.{Names, Owner, OfNobody, IsKin, AreKin, ObjectsKin, FramesKin, NameKin, Alike, AreHeld, IsThere, StandsIn, MoveKin}
 use Rattle.kilim_run_model.specs.kin.Kin as owned
 use Rattle.kilim_run_model.proofs.kin.Kins.{kin_push, kin_entered, frames_up, name_up}
 use Rattle.kilim_run_model.proofs.kin.Renamed.{renamed, number_of, are_is}
-use Rattle.kilim_run_model.proofs.kin.Rows.{rows_kin}
+use Rattle.kilim_run_model.proofs.kin.Rows.{new_kin, rows_kin}
 use Rattle.kilim_run_model.proofs.kin.Moving.{moves_kin}
+use Rattle.kilim_run_model.proofs.kin.Thrown.{index_same, thrown_kin, unwound_kin}
 use Rattle.kilim_run_model.specs.kin.trees.TreeKin.{IsWholeTree}
 use Rattle.kilim_run_model.proofs.kin.trees.Shaped.{shape_kin}
 use Rattle.kilim_run_model.specs.one_heap.Lones.{ThreadKin, LonesKin, NextKin, WholeMove, IsWholeThread}
@@ -112,6 +116,52 @@ module _ (setting : Setting) (of : Names) (owner : ℕ → Owner) (t : ℕ) (a b
         };
       }
 
+  -- ---- what is raised or thrown, whatever frames stand now
+
+  throws_kin : (why : EndCause) (n m : ℕ) (fs gs : List Activation) → FramesKin of fs gs → Fits (throws_by a why n m fs) (throws_by b why n m gs)
+  throws_kin why n m [] [] e = over_kin why
+  throws_kin why n m (f ∷ fs) (g ∷ gs) e = goes_kin _ _ (record { threads = (e, refl, refl); heaps = kin.heaps; kept = kin.kept; below = kin.below; free = kin.free; keeps = kin.keeps })
+  throws_kin why n m [] (g ∷ gs) e = absurd e
+  throws_kin why n m (f ∷ fs) [] e = absurd e
+
+  abbrev more : Names
+  more = added of a.next b.next
+
+  more_frames : (fs gs : List Activation) → FramesKin of fs gs → FramesKin more fs gs
+  more_frames fs gs e = frames_up of more (added_old of a.next b.next kin.below) fs gs e
+
+  -- an object is made where a frame is left
+  module _ (x y : Thread) (why : EndCause) (n m : ℕ) where
+    left_kin : (o q : Object) → ObjectsKin of o q → (fs gs : List Activation) → FramesKin more fs gs → Fits (raises_by (record a { thread = x }) o why n m fs) (raises_by (record b { thread = y }) q why n m gs)
+    left_kin o q objects [] [] frames = (refl, record { of = of; kin = ended_kin why })
+    left_kin o q objects (f ∷ fs) (g ∷ gs) frames =
+        let free = kin.free b.next (le_refl b.next) in
+        record {
+          of = more;
+          later = added_owner owner b.next (owned.OfTask t);
+          only = owner_only owner b.next t free;
+          kin = record {
+            threads = (frames, refl, refl);
+            heaps = alike_added of a.next b.next kin.below owner t a.heap b.heap kin.heaps free o q objects;
+            kept = name_up of more (added_old of a.next b.next kin.below) a.kept b.kept kin.kept;
+            below = added_bound of a.next b.next kin.below;
+            free = λ z le. owner_old owner b.next (owned.OfTask t) z (λ e. absurd (omega (arith, le, e))) ∙ kin.free z (omega (arith, le));
+            keeps = kin.keeps;
+          };
+        }
+    left_kin o q objects [] (g ∷ gs) frames = absurd frames
+    left_kin o q objects (f ∷ fs) [] frames = absurd frames
+
+    of_kin : (left right : ClassId → List Activation) → ((c : ClassId) → FramesKin more (left c) (right c)) → (o : Option ClassId) → Fits (raises_of p (record a { thread = x }) why n m left o) (raises_of p (record b { thread = y }) why n m right o)
+    of_kin left right each None = (refl, record { of = of; kin = ended_kin why })
+    of_kin left right each (Some c) = left_kin (new_object p c) (new_object p c) (new_kin p of c) (left c) (right c) (each c)
+
+  raises_kin : (why : EndCause) (done boxes : ℕ) (top other : Activation) (fs gs : List Activation) → FramesKin of (top ∷ fs) (other ∷ gs) → Fits (raises_next p a done boxes top fs why) (raises_next p b done boxes other gs why)
+  raises_kin why done boxes top other fs gs e =
+      subst (λ (z : List ℕ). Fits (raises_next p a done boxes top fs why) (raises_of p b why (done + 1) boxes (λ c. thrown p c (Ref b.next) other gs) (raised_class p z why))) (index_same p top other e.0 e.1)
+      (of_kin a.thread b.thread why (done + 1) boxes (λ c. thrown p c (Ref a.next) top fs) (λ c. thrown p c (Ref b.next) other gs)
+      (λ c. thrown_kin p c more (Ref a.next) (Ref b.next) (added_new of a.next b.next) top other fs gs (more_frames (top ∷ fs) (other ∷ gs) e)) (raised_class p (index_at p top) why))
+
   opens_kin : (fs gs : List Activation) (done boxes : ℕ) → FramesKin of fs gs → Fits (opens_next t a fs done boxes) (opens_next t b gs done boxes)
   opens_kin fs gs done boxes frames =
       elim (nat_lt boxes box_limit) as (λ (c : Bool). Fits (cond c (next.Goes (went a (push_value (Box (record { task = t; number = boxes })) fs) done (boxes + 1))) (over a cause.Boxes))
@@ -153,6 +203,10 @@ module _ (setting : Setting) (of : Names) (owner : ℕ → Owner) (t : ℕ) (a b
     ends_so : (why : EndCause) → Fits (over c why) (over d why)
     ends_so why = (refl, record { of = of; kin = record { threads = refl; heaps = kin.heaps; kept = tt; below = kin.below; free = kin.free; keeps = λ n. refl } })
 
+    raised_so : (why : EndCause) → Fits (raised p c why) (raised p d why)
+    raised_so why = of_kin (Alive fs (done + 1) boxes) (Alive gs (done + 1) boxes) why (done + 1) boxes (λ k. unwound p k (Ref a.next) fs) (λ k. unwound p k (Ref b.next) gs)
+        (λ k. unwound_kin p k more (Ref a.next) (Ref b.next) (added_new of a.next b.next) fs gs (more_frames fs gs frames)) (raised_class p other_index why)
+
     onward_with : (v w : Value) → IsKin of v w → Fits (next.Goes (pushed v c)) (next.Goes (pushed w d))
     onward_with v w e = goes_kin _ _ (record { threads = (kin_push of v w fs gs e frames, refl, refl); heaps = kin.heaps; kept = kin.kept; below = kin.below; free = kin.free; keeps = kin.keeps })
 
@@ -170,7 +224,7 @@ module _ (setting : Setting) (of : Names) (owner : ℕ → Owner) (t : ℕ) (a b
 
     message_kin : (box : BoxName) (v : Value) → IsKin of v (renamed of v) → ((root : Root) (n : ℕ) → given (Some native.Put) (Box box ∷ v ∷ []) ≡ Some (root, n) → IsWholeTree p root a.heap n) →
         Fits (message_next p c box v) (message_next p d box (renamed of v))
-    message_kin box Null e whole = ends_so cause.Null
+    message_kin box Null e whole = raised_so cause.Null
     message_kin box (Ref n) e whole =
         let tree = whole OfMessage n refl in
         subst (λ (z : Option (List Token)). Fits (put_next c box n (shape_of p a.heap n)) (put_next d box (number_of (of n)) z)) (same_shape OfMessage n (number_of (of n)) e tree)
@@ -186,8 +240,8 @@ module _ (setting : Setting) (of : Names) (owner : ℕ → Owner) (t : ℕ) (a b
     print_kin None = tt
     print_kin (Some token) = (refl, record { of = of; kin = both })
 
-    arg_kin : (o : Option ℤ) → Fits (arg_next c o) (arg_next d o)
-    arg_kin None = ends_so cause.Index
+    arg_kin : (o : Option ℤ) → Fits (arg_next p c o) (arg_next p d o)
+    arg_kin None = raised_so cause.Index
     arg_kin (Some n) = onward_with (Int n) (Int n) refl
 
     native_kin : (n : Native) (args : List Value) → AreKin of args (map (renamed of) args) → ((root : Root) (i : ℕ) → given (Some n) args ≡ Some (root, i) → IsWholeTree p root a.heap i) →
@@ -214,31 +268,37 @@ module _ (setting : Setting) (of : Names) (owner : ℕ → Owner) (t : ℕ) (a b
   -- ---- all moves
 
   -- the heaps are those of before
-  here : (done boxes : ℕ) (f g : Objects → Move) (h k : Objects) → h ≡ a.heap → k ≡ b.heap → Fits (next_by setting t a done boxes (f a.heap)) (next_by setting t b done boxes (g b.heap)) →
-      Fits (next_by setting t a done boxes (f h)) (next_by setting t b done boxes (g k))
-  here done boxes f g h k e d w =
-      subst (λ (z : Objects). Fits (next_by setting t a done boxes (f h)) (next_by setting t b done boxes (g z))) (sym d)
-      (subst (λ (z : Objects). Fits (next_by setting t a done boxes (f z)) (next_by setting t b done boxes (g b.heap))) (sym e) w)
+  here : (done boxes : ℕ) (top other : Activation) (below others : List Activation) (f g : Objects → Move) (h k : Objects) → h ≡ a.heap → k ≡ b.heap →
+      Fits (next_by setting t a done boxes top below (f a.heap)) (next_by setting t b done boxes other others (g b.heap)) →
+      Fits (next_by setting t a done boxes top below (f h)) (next_by setting t b done boxes other others (g k))
+  here done boxes top other below others f g h k e d w =
+      subst (λ (z : Objects). Fits (next_by setting t a done boxes top below (f h)) (next_by setting t b done boxes other others (g z))) (sym d)
+      (subst (λ (z : Objects). Fits (next_by setting t a done boxes top below (f z)) (next_by setting t b done boxes other others (g b.heap))) (sym e) w)
 
-  move_kin : (good : ℕ → Type 0) (done boxes : ℕ) (v w : Move) → MoveKin good of owner t a.heap b.heap v w → WholeMove p a.heap v → Fits (next_by setting t a done boxes v) (next_by setting t b done boxes w)
-  move_kin good done boxes (move.Runs x fs h) (move.Runs y gs k) e whole = runs_kin h k fs gs done boxes e.1 e.2
-  move_kin good done boxes (move.Makes o fs h) (move.Makes q gs k) e whole =
-      here done boxes (λ z. move.Makes o fs z) (λ z. move.Makes q gs z) h k e.2 e.3 (makes_kin o q fs gs done boxes e.0 e.1)
-  move_kin good done boxes (move.Opens fs h) (move.Opens gs k) e whole = here done boxes (λ z. move.Opens fs z) (λ z. move.Opens gs z) h k e.1 e.2 (opens_kin fs gs done boxes e.0)
-  move_kin good done boxes (move.Asks m args fs h) (move.Asks n brgs gs k) e whole =
-      here done boxes (λ z. move.Asks m args fs z) (λ z. move.Asks n brgs gs z) h k e.3 e.4
-      (subst (λ (z : MethodId). Fits (next_by setting t a done boxes (move.Asks m args fs a.heap)) (next_by setting t b done boxes (move.Asks z brgs gs b.heap))) e.0
+  move_kin : (good : ℕ → Type 0) (done boxes : ℕ) (top other : Activation) (below others : List Activation) → FramesKin of (top ∷ below) (other ∷ others) → (v w : Move) → MoveKin good of owner t a.heap b.heap v w → WholeMove p a.heap v →
+      Fits (next_by setting t a done boxes top below v) (next_by setting t b done boxes other others w)
+  move_kin good done boxes top other below others frames (move.Runs x fs h) (move.Runs y gs k) e whole = runs_kin h k fs gs done boxes e.1 e.2
+  move_kin good done boxes top other below others frames (move.Makes o fs h) (move.Makes q gs k) e whole =
+      here done boxes top other below others (λ z. move.Makes o fs z) (λ z. move.Makes q gs z) h k e.2 e.3 (makes_kin o q fs gs done boxes e.0 e.1)
+  move_kin good done boxes top other below others frames (move.Opens fs h) (move.Opens gs k) e whole = here done boxes top other below others (λ z. move.Opens fs z) (λ z. move.Opens gs z) h k e.1 e.2 (opens_kin fs gs done boxes e.0)
+  move_kin good done boxes top other below others frames (move.Asks m args fs h) (move.Asks n brgs gs k) e whole =
+      here done boxes top other below others (λ z. move.Asks m args fs z) (λ z. move.Asks n brgs gs z) h k e.3 e.4
+      (subst (λ (z : MethodId). Fits (next_by setting t a done boxes top below (move.Asks m args fs a.heap)) (next_by setting t b done boxes other others (move.Asks z brgs gs b.heap))) e.0
       (asks_kin fs gs done boxes e.2 (native_of p m) args brgs e.1 whole))
-  move_kin good done boxes (move.Returns h) (move.Returns k) e whole = here done boxes (λ z. move.Returns z) (λ z. move.Returns z) h k e.0 e.1 (finish_kin done boxes a.kept b.kept kin.kept)
-  move_kin good done boxes (move.Raises x) (move.Raises y) e whole = subst (λ (z : EndCause). Fits (raised a x) (raised b z)) e (over_kin x)
-  move_kin good done boxes (move.Ends x) (move.Ends y) e whole = subst (λ (z : EndCause). Fits (over a x) (over b z)) e (over_kin x)
-  move_kin good done boxes move.Stuck move.Stuck e whole = tt
-  move_kin good done boxes _ _ e whole = absurd e
+  move_kin good done boxes top other below others frames (move.Returns h) (move.Returns k) e whole = here done boxes top other below others (λ z. move.Returns z) (λ z. move.Returns z) h k e.0 e.1 (finish_kin done boxes a.kept b.kept kin.kept)
+  move_kin good done boxes top other below others frames (move.Raises x) (move.Raises y) e whole = subst (λ (z : EndCause). Fits (raises_next p a done boxes top below x) (raises_next p b done boxes other others z)) e (raises_kin x done boxes top other below others frames)
+  move_kin good done boxes top other below others frames (move.Throws n c x) (move.Throws z d y) e whole =
+      subst (λ (k : EndCause). Fits (throws_by a x (done + 1) boxes (thrown p c (Ref n) top below)) (throws_by b k (done + 1) boxes (thrown p d (Ref z) other others))) e.cause
+      (subst (λ (k : ClassId). Fits (throws_by a x (done + 1) boxes (thrown p c (Ref n) top below)) (throws_by b x (done + 1) boxes (thrown p k (Ref z) other others))) e.class
+      (throws_kin x (done + 1) boxes (thrown p c (Ref n) top below) (thrown p c (Ref z) other others) (thrown_kin p c of (Ref n) (Ref z) e.object top other below others frames)))
+  move_kin good done boxes top other below others frames (move.Ends x) (move.Ends y) e whole = subst (λ (z : EndCause). Fits (over a x) (over b z)) e (over_kin x)
+  move_kin good done boxes top other below others frames move.Stuck move.Stuck e whole = tt
+  move_kin good done boxes top other below others frames _ _ e whole = absurd e
 
   frames_kin : (fs gs : List Activation) (done boxes : ℕ) → done < setting.limits.steps → FramesKin of fs gs → IsWholeThread setting a.heap (Alive fs done boxes) → Fits (frames_next setting t a fs done boxes) (frames_next setting t b gs done boxes)
   frames_kin [] [] done boxes lt e whole = over_kin cause.Done
   frames_kin (top ∷ fs) (other ∷ gs) done boxes lt e whole =
-      move_kin (StandsIn a.heap top.stack) done boxes (moves p top fs a.heap) (moves p other gs b.heap)
+      move_kin (StandsIn a.heap top.stack) done boxes top other fs gs e (moves p top fs a.heap) (moves p other gs b.heap)
       (moves_kin p of owner t a.heap b.heap kin.heaps (rows_kin p) top other (whole lt).0 fs gs e) (whole lt).1
   frames_kin _ _ done boxes lt e whole = absurd e
 

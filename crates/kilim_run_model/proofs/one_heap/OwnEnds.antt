@@ -34,11 +34,14 @@ use Rattle.kilim_run_model.specs.State.{Setting, Thread, Alive, Ended, begun_on}
 use Rattle.kilim_run_model.specs.Lone.{Lone, Next, next_move, thread_next, frames_next, next_by, opens_next, finish_next, begins_next, asks_next, native_next, message_next, put_next, start_next, print_next, printed, arg_next, arg_at, over, raised, went, on_heap, box_limit}
 use Rattle.kilim_run_model.specs.Lone as next
 use Rattle.kilim_run_model.specs.Moving.{is_others, is_tasks}
+use Rattle.kilim_run_model.proofs.Raised.{raised_has, raises_has, throws_has}
+use Rattle.kilim_run_machine.specs.Raising.{thrown}
 
 -- ---- effects
 
 abbrev Fine : Effect → Type 0
 Fine (effect.Raises c) = is_others c ≡ false
+Fine (effect.Throws n k c) = is_others c ≡ false
 Fine (effect.Ends c) = is_others c ≡ false
 Fine e = Unit {0}
 
@@ -310,6 +313,7 @@ module _ (p : Program) (own : Method) (next : ℕ) (ls vs : List Value) (h : Obj
 
 abbrev MoveFine : Move → Type 0
 MoveFine (move.Raises c) = is_others c ≡ false
+MoveFine (move.Throws n k c) = is_others c ≡ false
 MoveFine (move.Ends c) = is_others c ≡ false
 MoveFine m = Unit {0}
 
@@ -328,6 +332,7 @@ effect_fine p (effect.Calls m args a ls vs h) top below f = called_fine p m args
 effect_fine p (effect.Asks m args a ls vs h) top below f = tt
 effect_fine p (effect.Returns v h) top below f = returned_fine v below h
 effect_fine p (effect.Raises c) top below f = f
+effect_fine p (effect.Throws n k c) top below f = f
 effect_fine p (effect.Ends c) top below f = f
 effect_fine p effect.Stuck top below f = tt
 
@@ -354,7 +359,7 @@ put_fine l box n None = refl
 put_fine l box n (Some shape) = tt
 
 message_fine : (p : Program) (l : Lone) (box : BoxName) (v : Value) → NextFine (message_next p l box v)
-message_fine p l box Null = refl
+message_fine p l box Null = raised_has NextFine l cause.Null refl p (λ object f fs frames done boxes e. tt)
 message_fine p l box (Ref n) = put_fine l box n (shape_of p l.heap n)
 message_fine p l box v = tt
 
@@ -366,9 +371,9 @@ print_fine : (l : Lone) (o : Option Token) → NextFine (print_next l o)
 print_fine l None = tt
 print_fine l (Some t) = tt
 
-arg_fine : (l : Lone) (o : Option ℤ) → NextFine (arg_next l o)
-arg_fine l None = refl
-arg_fine l (Some n) = tt
+arg_fine : (p : Program) (l : Lone) (o : Option ℤ) → NextFine (arg_next p l o)
+arg_fine p l None = raised_has NextFine l cause.Index refl p (λ object f fs frames done boxes e. tt)
+arg_fine p l (Some n) = tt
 
 native_fine : (set : Setting) (l : Lone) (n : Native) (args : List Value) → NextFine (native_next set l n args)
 native_fine set l native.Execute (Ref n ∷ []) = tt
@@ -379,7 +384,7 @@ native_fine set l native.Getnb (Box box ∷ []) = tt
 native_fine set l native.Print (v ∷ []) = print_fine l (printed v)
 native_fine set l native.Yield [] = tt
 native_fine set l native.ArgCount [] = tt
-native_fine set l native.Arg (Int i ∷ []) = arg_fine l (arg_at set.limits.args i)
+native_fine set l native.Arg (Int i ∷ []) = arg_fine set.program l (arg_at set.limits.args i)
 native_fine set l n args = tt
 
 asks_fine : (set : Setting) (l : Lone) (args : List Value) (o : Option Native) → NextFine (asks_next set l args o)
@@ -398,19 +403,20 @@ finish_fine set l done boxes (Some n) = begins_fine l done boxes (begun_on set.p
 opens_fine : (t : ℕ) (l : Lone) (fs : List Activation) (done boxes : ℕ) → NextFine (opens_next t l fs done boxes)
 opens_fine t l fs done boxes = elim (nat_lt boxes box_limit) as (λ (b : Bool). NextFine (cond b (next.Goes (went l (push_value (Box (record { task = t; number = boxes })) fs) done (boxes + 1))) (over l cause.Boxes))) [ true ↦ tt | false ↦ refl ]
 
-move_fine : (set : Setting) (t : ℕ) (l : Lone) (done boxes : ℕ) (m : Move) → MoveFine m → NextFine (next_by set t l done boxes m)
-move_fine set t l done boxes (move.Runs c fs h) f = tt
-move_fine set t l done boxes (move.Makes o fs h) f = tt
-move_fine set t l done boxes (move.Opens fs h) f = opens_fine t (on_heap l h) fs done boxes
-move_fine set t l done boxes (move.Asks m args fs h) f = asks_fine set (went (on_heap l h) fs done boxes) args (native_of set.program m)
-move_fine set t l done boxes (move.Returns h) f = finish_fine set (on_heap l h) done boxes l.kept
-move_fine set t l done boxes (move.Raises c) f = f
-move_fine set t l done boxes (move.Ends c) f = f
-move_fine set t l done boxes move.Stuck f = tt
+move_fine : (set : Setting) (t : ℕ) (l : Lone) (done boxes : ℕ) (top : Activation) (below : List Activation) (m : Move) → MoveFine m → NextFine (next_by set t l done boxes top below m)
+move_fine set t l done boxes top below (move.Runs c fs h) f = tt
+move_fine set t l done boxes top below (move.Makes o fs h) f = tt
+move_fine set t l done boxes top below (move.Opens fs h) f = opens_fine t (on_heap l h) fs done boxes
+move_fine set t l done boxes top below (move.Asks m args fs h) f = asks_fine set (went (on_heap l h) fs done boxes) args (native_of set.program m)
+move_fine set t l done boxes top below (move.Returns h) f = finish_fine set (on_heap l h) done boxes l.kept
+move_fine set t l done boxes top below (move.Raises c) f = raises_has NextFine l c f set.program done boxes top below (λ object g fs. tt)
+move_fine set t l done boxes top below (move.Throws n k c) f = throws_has NextFine l c f (done + 1) boxes (thrown set.program k (Ref n) top below) (λ g fs. tt)
+move_fine set t l done boxes top below (move.Ends c) f = f
+move_fine set t l done boxes top below move.Stuck f = tt
 
 frames_fine : (set : Setting) (t : ℕ) (l : Lone) (fs : List Activation) (done boxes : ℕ) → NextFine (frames_next set t l fs done boxes)
 frames_fine set t l [] done boxes = refl
-frames_fine set t l (top ∷ below) done boxes = move_fine set t l done boxes (moves set.program top below l.heap) (moves_fine set.program top below l.heap)
+frames_fine set t l (top ∷ below) done boxes = move_fine set t l done boxes top below (moves set.program top below l.heap) (moves_fine set.program top below l.heap)
 
 thread_fine : (set : Setting) (t : ℕ) (l : Lone) (th : Thread) → NextFine (thread_next set t l th)
 thread_fine set t l (Ended c) = tt

@@ -73,6 +73,7 @@ args_of h top (move.Makes o frames heap) e = tt
 args_of h top (move.Opens frames heap) e = tt
 args_of h top (move.Returns heap) e = tt
 args_of h top (move.Raises c) e = tt
+args_of h top (move.Throws n k c) e = tt
 args_of h top (move.Ends c) e = tt
 args_of h top move.Stuck e = tt
 
@@ -139,6 +140,7 @@ module _ (p : Program) (h : Objects) where
   gives top all (move.Opens frames heap) s g = tt
   gives top all (move.Returns heap) s g = tt
   gives top all (move.Raises c) s g = tt
+  gives top all (move.Throws n k c) s g = tt
   gives top all (move.Ends c) s g = tt
   gives top all move.Stuck s g = tt
 

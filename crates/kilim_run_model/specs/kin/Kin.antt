@@ -2,6 +2,8 @@
 use Rattle.std.specs.Prelude.{◌≡◌, ℕ, List, [], ◌∷◌, Option, Some, None, ◌⊎◌}
 use Rattle.std.specs.FinMap.{get}
 use Rattle.kilim_program.specs.declared.names.BoxName.{BoxName}
+use Rattle.kilim_program.specs.declared.names.ClassId.{ClassId}
+use Rattle.kilim_run_state.specs.declared.cause.EndCause.{EndCause}
 use Rattle.kilim_program.specs.declared.names.FieldId.{FieldId}
 use Rattle.kilim_run_state.specs.declared.value.Object.{Object}
 use Rattle.kilim_program.specs.declared.value.Value.{Value}
@@ -71,6 +73,12 @@ pub record Alike (of : Names) (owner : ℕ → Owner) (t : ℕ) (k0 h k : Object
   pub apart : (n m x : ℕ) (o q : Object) → of n ≡ Some x → of m ≡ Some x → get h n ≡ Some o → get h m ≡ Some q → n ≡ m
   pub rest : (x : ℕ) → (get k x ≡ get k0 x) ⊎ (owner x ≡ OfTask t)
 
+-- a thrown object, its class, and the end if nothing catches it
+pub record ThrownKin (of : Names) (n x : ℕ) (k l : ClassId) (c d : EndCause) : Type 0 where
+  pub object : of n ≡ Some x
+  pub class : k ≡ l
+  pub cause : c ≡ d
+
 -- what the values name is good
 abbrev pub IsHeld : (ℕ → Type 0) → Value → Type 0
 IsHeld good (Ref n) = good n
@@ -102,6 +110,7 @@ module _ (good : ℕ → Type 0) (of : Names) (owner : ℕ → Owner) (t : ℕ) 
   EffectKin (effect.Asks m args a ls vs h) (effect.Asks n brgs b ms ws k) = (m ≡ n) × AreKin of args brgs × (a ≡ b) × AreKin of ls ms × AreKin of vs ws × (h ≡ h0) × (k ≡ k0) × AreHeld good args
   EffectKin (effect.Returns v h) (effect.Returns w k) = MaybeKin of v w × (h ≡ h0) × (k ≡ k0)
   EffectKin (effect.Raises c) (effect.Raises d) = c ≡ d
+  EffectKin (effect.Throws n k c) (effect.Throws x l d) = ThrownKin of n x k l c d
   EffectKin (effect.Ends c) (effect.Ends d) = c ≡ d
   EffectKin effect.Stuck effect.Stuck = Unit {0}
   EffectKin e d = ⊥
@@ -119,6 +128,7 @@ module _ (good : ℕ → Type 0) (of : Names) (owner : ℕ → Owner) (t : ℕ) 
   MoveKin (move.Asks m args fs h) (move.Asks n brgs gs k) = (m ≡ n) × AreKin of args brgs × FramesKin of fs gs × (h ≡ h0) × (k ≡ k0) × AreHeld good args
   MoveKin (move.Returns h) (move.Returns k) = (h ≡ h0) × (k ≡ k0)
   MoveKin (move.Raises c) (move.Raises d) = c ≡ d
+  MoveKin (move.Throws n k c) (move.Throws x l d) = ThrownKin of n x k l c d
   MoveKin (move.Ends c) (move.Ends d) = c ≡ d
   MoveKin move.Stuck move.Stuck = Unit {0}
   MoveKin v w = ⊥

@@ -31,7 +31,7 @@ use Rattle.kilim_type_sound.proofs.Grounds.{facts_hold}
 use Rattle.kilim_type_sound.proofs.TextClass.{alone}
 use Rattle.kilim_run_state.specs.declared.value.Object.{Object as HeapObject}
 use Rattle.kilim_run_machine.specs.Does.{above_of, at_unit, calls_method, calls_on, calls_text, chosen, does, special, superclass_of, takes_element, text_answers, unit_at}
-use Rattle.kilim_run_machine.specs.Effect.{Asks, Calls, Effect, Ends, Goes, Makes, Opens, Raises, Returns, Stuck, as_class, as_int, as_receiver, on_value, on_values, text_of, when, with_some}
+use Rattle.kilim_run_machine.specs.Effect.{Asks, Calls, Effect, Ends, Goes, Makes, Opens, Raises, Throws, Returns, Stuck, as_class, as_int, as_receiver, on_value, on_values, text_of, when, with_some}
 use Rattle.kilim_program.specs.Members.{named_type}
 use Rattle.kilim_run_state.specs.Machine.{Objects}
 use Rattle.kilim_run_machine.specs.Natives.{is_built_in_constructor, is_handed_out, is_take, is_text_method}
@@ -158,6 +158,7 @@ module _ (p : Program) (h : Objects) where
   asked_quiet (Calls c args q l s heap) k = tt
   asked_quiet (Returns v heap) k = tt
   asked_quiet (Raises c) k = tt
+  asked_quiet (Throws object class c) k = tt
   asked_quiet (Ends c) k = tt
   asked_quiet Stuck k = tt
 

@@ -33,7 +33,7 @@ use Rattle.kilim_type_sound.proofs.Grown.{type_grown}
 use Rattle.kilim_isolation_pauses.specs.Pausing.{called}
 use Rattle.kilim_run_state.specs.declared.value.Object.{Object as HeapObject}
 use Rattle.kilim_run_machine.specs.Does.{above_of, at_unit, calls_method, calls_on, calls_text, chosen, does, special, superclass_of, takes_element, text_answers, unit_at}
-use Rattle.kilim_run_machine.specs.Effect.{Asks, Calls, Effect, Ends, Goes, Makes, Opens, Raises, Returns, Stuck, as_class, as_receiver, on_value, on_values, with_some}
+use Rattle.kilim_run_machine.specs.Effect.{Asks, Calls, Effect, Ends, Goes, Makes, Opens, Raises, Throws, Returns, Stuck, as_class, as_receiver, on_value, on_values, with_some}
 use Rattle.kilim_program.specs.Members.{named_type}
 use Rattle.kilim_run_state.specs.Machine.{Objects}
 use Rattle.kilim_run_machine.specs.Natives.{is_built_in_constructor, is_handed_out, is_text_method}
@@ -187,6 +187,7 @@ module _ (p : Program) (keeps : Keeps p) (form : p.form ≡ Plain) (of : Classes
   from_quiet (Opens q l2 s2 k) e = tt
   from_quiet (Returns v k) e = tt
   from_quiet (Raises c) e = tt
+  from_quiet (Throws object class c) e = tt
   from_quiet (Ends c) e = tt
   from_quiet Stuck e = tt
 

@@ -20,7 +20,7 @@ use Rattle.kilim_type_sound.proofs.Table.{table_fits}
 use Rattle.kilim_type_sound.proofs.Walk.{stands_at}
 use Rattle.kilim_run_state.specs.declared.cause.EndCause.TheVariants as cause
 use Rattle.kilim_run_machine.specs.Does.{does}
-use Rattle.kilim_run_machine.specs.Effect.{Asks, Calls, Effect, Ends, Goes, Makes, Opens, Raises, Returns, Stuck}
+use Rattle.kilim_run_machine.specs.Effect.{Asks, Calls, Effect, Ends, Goes, Makes, Opens, Raises, Throws, Returns, Stuck}
 use Rattle.kilim_run_state.specs.Machine.{Objects}
 use Rattle.kilim_program.specs.Members.{constructor_of, execute_of, is_concrete, is_own_constructor}
 use Rattle.kilim_run_machine.specs.Moves.{entered, frame_limit}
@@ -63,6 +63,7 @@ enters_of p of own wanted reached g (Opens q l s h) fits = tt
 enters_of p of own wanted reached g (Asks c args q l s h) fits = tt
 enters_of p of own wanted reached g (Returns v h) fits = tt
 enters_of p of own wanted reached g (Raises why) fits = tt
+enters_of p of own wanted reached g (Throws object class why) fits = tt
 enters_of p of own wanted reached g (Ends why) fits = tt
 enters_of p of own wanted reached g Stuck fits = tt
 
@@ -88,6 +89,7 @@ module _ (set : Setting) (run : IsRunOfAccepted set) where
     calls_grown m (Asks c args q l s h) k = tt
     calls_grown m (Returns v h) k = tt
     calls_grown m (Raises why) k = tt
+    calls_grown m (Throws object class why) k = tt
     calls_grown m (Ends why) k = tt
     calls_grown m Stuck k = tt
 
@@ -99,6 +101,7 @@ module _ (set : Setting) (run : IsRunOfAccepted set) where
     enters_grown (Asks c args q l s h) k = tt
     enters_grown (Returns v h) k = tt
     enters_grown (Raises why) k = tt
+    enters_grown (Throws object class why) k = tt
     enters_grown (Ends why) k = tt
     enters_grown Stuck k = tt
 
@@ -153,6 +156,7 @@ module _ (set : Setting) (run : IsRunOfAccepted set) where
           asks_so set (CalledAs set more) (λ o. tt) (with_heap w h) (λ after v. Run m q l (push v s) x b after) (λ after v e. went q l (push v s) after e) (native_of set.program c) args
       effect_called (Returns v h) from enters = returned v h m x b w main all
       effect_called (Raises why) from enters = ended set (CalledAs set more) (λ o. tt) w why
+      effect_called (Throws object class why) from enters = ended set (CalledAs set more) (λ o. tt) w why
       effect_called (Ends why) from enters = ended set (CalledAs set more) (λ o. tt) w why
       effect_called Stuck from enters = tt
 

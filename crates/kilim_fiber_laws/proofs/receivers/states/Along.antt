@@ -17,6 +17,7 @@ use Rattle.kilim_run_model.specs.Lone as next
 use Rattle.kilim_run_model.specs.State.{Setting}
 use Rattle.kilim_fiber_laws.proofs.courses.GoesOn.{done_again, follows_one, told}
 use Rattle.kilim_fiber_spec.proofs.lone.Steps.{steps}
+use Rattle.kilim_run_machine.specs.Raising.{NoTables}
 use Rattle.kilim_fiber_spec.specs.lone.Law.{IsActed, IsAt, IsBehind, IsDone, IsLast, IsNext, IsWanted, lone_at, wanted}
 use Rattle.kilim_fiber_spec.specs.Acts.{Action, Astray, Finished, Lost, Over, Wants, World}
 use Rattle.kilim_fiber_spec.specs.Thread.{Frame, Run, Stop, Thread, step}
@@ -202,13 +203,13 @@ module _ (set : Setting) (k : ℕ) (b : Beginning) (ds0 : List Deed) where
     next_along ds held (next.Ends why after) e t shows at = acts_at (next.Ends why after) e refl ds held t shows at
     next_along ds held next.Stands e t shows at = over Lost t tt at
 
-  step_along : (t : Thread) → Along t → Along (step set t)
-  step_along (Stop o) along = along
-  step_along (Run m p l s x below w) along =
+  step_along : NoTables set.program → (t : Thread) → Along t → Along (step set t)
+  step_along none (Stop o) along = along
+  step_along none (Run m p l s x below w) along =
       next_along (lone_at m p l s below w) w.acts w.deeds along.1 (next_move set k (lone_at m p l s below w)) refl (step set (Run m p l s x below w))
       (subst (λ (j : ℕ). Shows (world_at j (lone_at m p l s below w) w.deeds w.acts) (step set (Run m p l s x below w))) along.0 (step_shows set m p l s x below w))
-      (subst (λ (j : ℕ). IsNext set w.deeds w.acts j (next_move set j (lone_at m p l s below w)) (step set (Run m p l s x below w))) along.0 (steps set m p l s x below w))
+      (subst (λ (j : ℕ). IsNext set w.deeds w.acts j (next_move set j (lone_at m p l s below w)) (step set (Run m p l s x below w))) along.0 (steps set none m p l s x below w))
 
-  pub steps_along : (n : ℕ) (t : Thread) → Along t → Along (thread.steps set n t)
-  steps_along zero t along = along
-  steps_along (suc n) t along = steps_along n (step set t) (step_along t along)
+  pub steps_along : NoTables set.program → (n : ℕ) (t : Thread) → Along t → Along (thread.steps set n t)
+  steps_along none zero t along = along
+  steps_along none (suc n) t along = steps_along none n (step set t) (step_along none t along)

@@ -17,6 +17,7 @@ use Rattle.kilim_fiber_laws.proofs.courses.GoesOn.{follows_one}
 use Rattle.kilim_fiber_spec.specs.lone.Law.{IsNext, wanted}
 use Rattle.kilim_fiber_spec.specs.Acts.{Action, Lost, World}
 use Rattle.kilim_fiber_spec.specs.Thread.{Stop, Thread, steps}
+use Rattle.kilim_run_machine.specs.Raising.{NoTables}
 use Rattle.kilim_fiber_laws.proofs.receivers.states.Along.{append_append, append_none}
 use Rattle.kilim_fiber_laws.proofs.receivers.states.Lands.{Acting, Lands, acts_next, course, ends_on, lands_quiet, none_behind}
 use Rattle.kilim_fiber_laws.specs.receivers.states.Law.{EndsBy, StandsBefore, acts_of, world_at}
@@ -108,9 +109,9 @@ module _ (set : Setting) (k : ℕ) (b : Beginning) where
     by_next l of lands (next.Ends why after) e go = stands l of (next.Ends why after) e _ _ refl
     by_next l of lands next.Stands e go = inl (lands.at, subst (λ (x : Next). IsNext set [] (acts_of ds []) k x (steps set lands.at t)) e lands.next)
 
-    pub run_on : (n : ℕ) (l : Lone) → AreLeft set.limits.steps n l.thread → IsOf set k (course set k b ds) l → Lands set k l [] (acts_of ds []) t → Reaches
+    pub run_on : NoTables set.program → (n : ℕ) (l : Lone) → AreLeft set.limits.steps n l.thread → IsOf set k (course set k b ds) l → Lands set k l [] (acts_of ds []) t → Reaches
     unfolding next_move
-    run_on zero l left of lands = by_next l of lands (next_move set k l) refl (λ after e. absurd (none_left set k l after l.thread left e))
-    run_on (suc n) l left of lands =
+    run_on none zero l left of lands = by_next l of lands (next_move set k l) refl (λ after e. absurd (none_left set k l after l.thread left e))
+    run_on none (suc n) l left of lands =
         by_next l of lands (next_move set k l) refl
-        (λ after e. run_on n after (one_less set k l after l.thread n left e) (record { last = of.last; is = of.is; quiet = Moves l of.quiet e }) (lands_quiet set k l after [] (acts_of ds []) t (Moves l (Stays refl) e) lands))
+        (λ after e. run_on none n after (one_less set k l after l.thread n left e) (record { last = of.last; is = of.is; quiet = Moves l of.quiet e }) (lands_quiet set k none l after [] (acts_of ds []) t (Moves l (Stays refl) e) lands))

@@ -15,7 +15,7 @@ use Rattle.kilim_run_state.specs.declared.cause.EndCause.TheVariants as cause
 use Rattle.kilim_run_state.specs.declared.value.Object.{Object}
 use Rattle.kilim_run_state.specs.declared.value.Token.{Token}
 use Rattle.kilim_run_machine.specs.Does.{does}
-use Rattle.kilim_run_machine.specs.Effect.{Asks, Calls, Effect, Ends, Goes, Makes, Opens, Raises, Returns, Stuck}
+use Rattle.kilim_run_machine.specs.Effect.{Asks, Calls, Effect, Ends, Goes, Makes, Opens, Raises, Throws, Returns, Stuck}
 use Rattle.kilim_run_state.specs.Machine.{Objects}
 use Rattle.kilim_program.specs.Members.{execute_of}
 use Rattle.kilim_run_machine.specs.Moves.{entered, frame_limit}
@@ -165,6 +165,7 @@ module _ (set : Setting) where
       same w h k (asks set (with_heap w h) Stop (λ after v. Run m q l (push v s) x b after) (native_of set.program c) args) (asks_so (with_heap w h) m q l s x b (native_of set.program c) args)
   effects (Returns v h) m x b w k = same w h k (returns set v b (with_heap w h)) (returned (with_heap w h) v b)
   effects (Raises why) m x b w k = ended w why
+  effects (Throws object class why) m x b w k = ended w why
   effects (Ends why) m x b w k = ended w why
   effects Stuck m x b w k = tt
 

@@ -348,6 +348,7 @@ module _ (set : Setting) (W : Program) (marks : List (List Bool)) (t : ℕ) wher
     by_effect (effect.Asks m args p l s h) = asks_so (record x { heap = h }) top.method p l s below (native_of W m) args
     by_effect (effect.Returns v h) = returns v h below
     by_effect (effect.Raises why) = ends_at x why
+    by_effect (effect.Throws object class why) = ends_at x why
     by_effect (effect.Ends why) = ends_at x why
     by_effect effect.Stuck = λ acts more. refl
 

@@ -11,6 +11,7 @@ use Rattle.kilim_program.specs.Names.{method_at}
 use Rattle.kilim_program.specs.Program.{Program}
 use Rattle.kilim_isolation_laws.proofs.kept.Serving.{accepted_is_kept}
 use Rattle.kilim_run_state.specs.declared.cause.EndCause.TheVariants as cause
+use Rattle.kilim_run_machine.specs.Raising.{NoTables}
 use Rattle.kilim_run_machine.specs.Does.{does}
 use Rattle.kilim_run_machine.specs.Effect.{Asks}
 use Rattle.kilim_run_state.specs.Machine.{Objects}
@@ -54,16 +55,16 @@ abbrev is_stopped : Thread → Bool
 is_stopped (Run m p l s x b w) = false
 is_stopped (Stop o) = true
 
-pub all_of_course : (set : Setting) (n : ℕ) (t : Thread) → IsOfCourse set t → IsOfCourse set (steps set n t)
-all_of_course set zero t is = is
-all_of_course set (suc n) t is = all_of_course set n (step set t) (goes_on set t is)
+pub all_of_course : (set : Setting) → NoTables set.program → (n : ℕ) (t : Thread) → IsOfCourse set t → IsOfCourse set (steps set n t)
+all_of_course set none zero t is = is
+all_of_course set none (suc n) t is = all_of_course set none n (step set t) (goes_on set none t is)
 
 module _ (set : Setting) (run : IsRunOfAccepted set) where
   pub pauses : KeepsPauses set.program
   pauses = accepted_keeps (typed set.program) run.keeps (record { typed = run.well; frames = refl }) run.accepted
 
   at_all : (first t : Thread) → IsOfCourse set first → From set first t → IsOfCourse set t
-  at_all first t is f = subst (λ (z : Thread). IsOfCourse set z) f.1 (all_of_course set f.0 first is)
+  at_all first t is f = subst (λ (z : Thread). IsOfCourse set z) f.1 (all_of_course set run.keeps.handlers f.0 first is)
 
   -- a built-in method gets arguments that it takes
   answered : (m : MethodId) (p to q : ℕ) (i : Instr) (l s l2 s2 args : List Value) (x : Value) (b : List Frame) (w : World) (heap : Objects) (c : MethodId) → IsOfCourse set (Run m p l s x b w) → fetch set.program m p ≡ Some (i, to)

@@ -17,7 +17,7 @@ use Rattle.kilim_run_state.specs.declared.cause.EndCause.TheVariants as cause
 use Rattle.kilim_run_state.specs.declared.value.Object.{Object}
 use Rattle.kilim_run_state.specs.declared.value.Token.{Token}
 use Rattle.kilim_run_machine.specs.Does.{does}
-use Rattle.kilim_run_machine.specs.Effect.{Asks, Calls, Effect, Ends, Goes, Makes, Opens, Raises, Returns, Stuck}
+use Rattle.kilim_run_machine.specs.Effect.{Asks, Calls, Effect, Ends, Goes, Makes, Opens, Raises, Throws, Returns, Stuck}
 use Rattle.kilim_run_state.specs.Machine.{Objects}
 use Rattle.kilim_program.specs.Members.{execute_of}
 use Rattle.kilim_run_machine.specs.Moves.{entered, frame_limit, move_by, moves}
@@ -194,6 +194,7 @@ module _ (set : Setting) where
   effect_hands (Asks c args q l s h) m x b w g = asks_so (with_heap w h) m q l s x b (native_of set.program c) args g
   effect_hands (Returns v h) m x b w g = returned v b (with_heap w h)
   effect_hands (Raises why) m x b w g = ended w why
+  effect_hands (Throws object class why) m x b w g = ended w why
   effect_hands (Ends why) m x b w g = ended w why
   effect_hands Stuck m x b w g = tt
 
@@ -216,6 +217,7 @@ module _ (set : Setting) (run : IsRunOfAccepted set) where
     gives_of (Calls c args q l2 s2 h) g same = tt
     gives_of (Returns v h) g same = tt
     gives_of (Raises why) g same = tt
+    gives_of (Throws object class why) g same = tt
     gives_of (Ends why) g same = tt
     gives_of Stuck g same = tt
 
@@ -235,7 +237,7 @@ module _ (set : Setting) (run : IsRunOfAccepted set) where
 
   all_hand : (n : ℕ) (t : Thread) → IsOfCourse set t → Hands set t → Hands set (steps set n t)
   all_hand zero t of_course hands = hands
-  all_hand (suc n) t of_course hands = all_hand n (step set t) (goes_on set t of_course) (step_hands t of_course hands)
+  all_hand (suc n) t of_course hands = all_hand n (step set t) (goes_on set run.keeps.handlers t of_course) (step_hands t of_course hands)
 
 pub threads_hand : (set : Setting) → IsRunOfAccepted set → (first : Thread) → IsBegun set first → (n : ℕ) (o : Over) → steps set n first ≡ Stop o → HandsOut set o
 threads_hand set run (Run m p l s x b w) begun n o e = subst (λ (z : Thread). Hands set z) e (all_hand set run n (Run m p l s x b w) (course set run (Run m p l s x b w) begun) tt)
@@ -248,7 +250,7 @@ woven_gives set run short lives is =
       served.1,
       λ first k t fine from j o e.
           let ends = ((served.1.serves first k).ends t fine from o).1 (j, e) in
-          handed t ends.0 o (subst (λ (z : Thread). IsOfCourse set z) from.1 (all_of_course set from.0 first (course set run first k))) ends.1,
+          handed t ends.0 o (subst (λ (z : Thread). IsOfCourse set z) from.1 (all_of_course set run.keeps.handlers from.0 first (course set run first k))) ends.1,
       λ first begun n o e. threads_hand set run first begun n o e,
     )
   where

@@ -153,7 +153,7 @@ module _ (set : Setting) (run : IsRunOfAccepted set) (pauses : KeepsPauses set.p
     selves_there first begun,
     λ m p to i callee l s s2 args wl x old was links w c leaf from f hp d named is stand.
         let stands = calls_stand set run first begun from.0 in
-        ready m p to i callee l s s2 args wl x old was links w c f hp d stand (subst (λ (t : Thread). IsOfCourse set t) from.1 (all_of_course set from.0 first course)) stands.0 (subst (λ (t : Thread). TypedAs set stands.0 t) from.1 stands.1)
+        ready m p to i callee l s s2 args wl x old was links w c f hp d stand (subst (λ (t : Thread). IsOfCourse set t) from.1 (all_of_course set run.keeps.handlers from.0 first course)) stands.0 (subst (λ (t : Thread). TypedAs set stands.0 t) from.1 stands.1)
         (subst (λ (t : Thread). CalledAs set stands.0 t) from.1 stands.2) (subst (λ (t : Thread). SelvesIn set t) from.1 (receivers_stay set run first begun from.0)) leaf named is,
   )
 

@@ -6,6 +6,7 @@ use Rattle.kilim_program.specs.declared.value.Value.TheVariants.{Ref}
 use Rattle.kilim_program.specs.Names.{◌>>=◌}
 use Rattle.kilim_run_journal.specs.declared.entry.Act.{Act}
 use Rattle.kilim_run_journal.specs.declared.entry.Act.TheVariants.{End}
+use Rattle.kilim_run_machine.specs.Raising.{NoTables}
 use Rattle.kilim_run_model.specs.one_heap.Booked.{IsOf}
 use Rattle.kilim_run_state.specs.declared.cause.EndCause.{EndCause}
 use Rattle.kilim_run_state.specs.declared.value.Object.{Object}
@@ -111,6 +112,6 @@ pub record FollowsCourse (set : Setting) (k : ℕ) (c : Course) (Comes : Over �
 -- as such a thread does.
 abbrev pub ThreadFollows : Type 0
 ThreadFollows =
-    (set : Setting) → is_fit set ≡ true → (k : ℕ) (c : Course) (l : Lone) → lone_begun set c.beginning ≡ Some l →
+    (set : Setting) → NoTables set.program → is_fit set ≡ true → (k : ℕ) (c : Course) (l : Lone) → lone_begun set c.beginning ≡ Some l →
     FollowsCourse set k c (λ o. (n : ℕ) × (steps set n (first_thread set c.beginning (world_at k l c.deeds [])) ≡ Stop o))
     × ((n : ℕ) → ThreadAlong set k c (steps set n (first_thread set c.beginning (world_at k l c.deeds []))))

@@ -16,6 +16,8 @@ use Rattle.kilim_run_machine.specs.Moves.{Move, push_value, moves}
 use Rattle.kilim_run_machine.specs.Moves as move
 use Rattle.kilim_run_journal.specs.Readable.{is_object, is_plain_value}
 use Rattle.kilim_run_model.specs.State.{Setting, Thread, Alive, Ended, begun_on}
+use Rattle.kilim_run_model.proofs.Raised.{raised_has, raises_has, throws_has}
+use Rattle.kilim_run_machine.specs.Raising.{thrown}
 use Rattle.kilim_run_model.specs.Course.{next_action, next_or, next_within}
 use Rattle.kilim_run_model.specs.Lone.{Lone, Next, next_move, thread_next, frames_next, next_by, opens_next, finish_next, begins_next, asks_next, native_next, message_next, put_next, start_next, print_next, printed, arg_next, arg_at, over, went, on_heap, box_limit}
 use Rattle.kilim_run_model.specs.Lone as next
@@ -33,6 +35,7 @@ put_read p l box n None e = tt
 put_read p l box n (Some shape) e = shape_is_object p l.heap n shape e
 
 message_read : (p : Program) (l : Lone) (box : BoxName) (v : Value) → CanRead (message_next p l box v)
+message_read p l box Null = raised_has CanRead l cause.Null tt p (λ object f fs frames done boxes e. tt)
 message_read p l box (Ref n) = put_read p l box n (shape_of p l.heap n) refl
 message_read p l box v = tt
 
@@ -47,9 +50,9 @@ print_read l Null = refl
 print_read l (Text units) = refl
 print_read l v = tt
 
-arg_read : (l : Lone) (o : Option ℤ) → CanRead (arg_next l o)
-arg_read l None = tt
-arg_read l (Some n) = tt
+arg_read : (p : Program) (l : Lone) (o : Option ℤ) → CanRead (arg_next p l o)
+arg_read p l None = raised_has CanRead l cause.Index tt p (λ object f fs frames done boxes e. tt)
+arg_read p l (Some n) = tt
 
 native_read : (set : Setting) (l : Lone) (n : Native) (args : List Value) → CanRead (native_next set l n args)
 native_read set l native.Execute (Ref n ∷ []) = tt
@@ -60,7 +63,7 @@ native_read set l native.Getnb (Box box ∷ []) = tt
 native_read set l native.Print (v ∷ []) = print_read l v
 native_read set l native.Yield [] = tt
 native_read set l native.ArgCount [] = tt
-native_read set l native.Arg (Int i ∷ []) = arg_read l (arg_at set.limits.args i)
+native_read set l native.Arg (Int i ∷ []) = arg_read set.program l (arg_at set.limits.args i)
 native_read set l n args = tt
 
 asks_read : (set : Setting) (l : Lone) (args : List Value) (o : Option Native) → CanRead (asks_next set l args o)
@@ -79,15 +82,17 @@ finish_read set l done boxes (Some n) = begins_read l done boxes (begun_on set.p
 opens_read : (t : ℕ) (l : Lone) (fs : List Activation) (done boxes : ℕ) → CanRead (opens_next t l fs done boxes)
 opens_read t l fs done boxes = elim (nat_lt boxes box_limit) as (λ (b : Bool). CanRead (cond b (next.Goes (went l (push_value (Box (record { task = t; number = boxes })) fs) done (boxes + 1))) (over l cause.Boxes))) [ true ↦ tt | false ↦ tt ]
 
-move_read : (set : Setting) (t : ℕ) (l : Lone) (done boxes : ℕ) (m : Move) → CanRead (next_by set t l done boxes m)
-move_read set t l done boxes (move.Opens fs h) = opens_read t (on_heap l h) fs done boxes
-move_read set t l done boxes (move.Asks m args fs h) = asks_read set (went (on_heap l h) fs done boxes) args (native_of set.program m)
-move_read set t l done boxes (move.Returns h) = finish_read set (on_heap l h) done boxes l.kept
-move_read set t l done boxes m = tt
+move_read : (set : Setting) (t : ℕ) (l : Lone) (done boxes : ℕ) (top : Activation) (below : List Activation) (m : Move) → CanRead (next_by set t l done boxes top below m)
+move_read set t l done boxes top below (move.Opens fs h) = opens_read t (on_heap l h) fs done boxes
+move_read set t l done boxes top below (move.Asks m args fs h) = asks_read set (went (on_heap l h) fs done boxes) args (native_of set.program m)
+move_read set t l done boxes top below (move.Returns h) = finish_read set (on_heap l h) done boxes l.kept
+move_read set t l done boxes top below (move.Raises c) = raises_has CanRead l c tt set.program done boxes top below (λ object f fs. tt)
+move_read set t l done boxes top below (move.Throws n c why) = throws_has CanRead l why tt (done + 1) boxes (thrown set.program c (Ref n) top below) (λ f fs. tt)
+move_read set t l done boxes top below m = tt
 
 frames_read : (set : Setting) (t : ℕ) (l : Lone) (fs : List Activation) (done boxes : ℕ) → CanRead (frames_next set t l fs done boxes)
 frames_read set t l [] done boxes = tt
-frames_read set t l (top ∷ below) done boxes = move_read set t l done boxes (moves set.program top below l.heap)
+frames_read set t l (top ∷ below) done boxes = move_read set t l done boxes top below (moves set.program top below l.heap)
 
 thread_read : (set : Setting) (t : ℕ) (l : Lone) (th : Thread) → CanRead (thread_next set t l th)
 thread_read set t l (Ended c) = tt

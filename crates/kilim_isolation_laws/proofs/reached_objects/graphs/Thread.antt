@@ -11,7 +11,7 @@ use Rattle.kilim_program.specs.declared.value.Value.TheVariants.{Box, Ref}
 use Rattle.kilim_program.specs.Program.{Program}
 use Rattle.kilim_program.specs.Lengths.{fetched}
 use Rattle.kilim_program.specs.Names.{method_at}
-use Rattle.kilim_run_machine.specs.Effect.{Effect, Goes, Makes, Opens, Calls, Asks, Returns, Raises, Ends, Stuck}
+use Rattle.kilim_run_machine.specs.Effect.{Effect, Goes, Makes, Opens, Calls, Asks, Returns, Raises, Throws, Ends, Stuck}
 use Rattle.kilim_run_state.specs.Machine.{Activation, Objects}
 use Rattle.kilim_run_machine.specs.Moves.{Move, effect_found, effect_in, entered, frame_limit, goes_on, move_by, moves, push_result, returned}
 use Rattle.kilim_type_spec.specs.Step.{Types, result_types, type_step, vtype}
@@ -306,6 +306,7 @@ module _ (p : Program) (typings : Typings) (listed : Listed) (kept : Option ℕ)
     move_fits (Asks id args place ls st h') w = asks id args place w.0 ls st h' w.1
     move_fits (Returns value h') w = goes_back value h' w.1 w.2 w.0 frames t.below t.top_fits.stands t.waits
     move_fits (Raises cause) w = tt
+    move_fits (Throws object class cause) w = tt
     move_fits (Ends cause) w = tt
     move_fits Stuck w = tt
 

@@ -168,6 +168,7 @@ module _ (set : Setting) (typing : Typing) (live : Wanted) (is : IsVerified set 
     unstuck (effect.Asks id args place ls vs k) s = refl
     unstuck (effect.Returns v k) s = refl
     unstuck (effect.Raises c) s = refl
+    unstuck (effect.Throws object class c) s = refl
     unstuck (effect.Ends c) s = refl
     unstuck effect.Stuck s = absurd s.fits
 
@@ -193,6 +194,7 @@ module _ (set : Setting) (typing : Typing) (live : Wanted) (is : IsVerified set 
         by None e t = absurd (cc)
         by (Some ty) e t = callers_room m.result ty below e callers
     fits_stack (effect.Raises c) s = omega arith
+    fits_stack (effect.Throws object class c) s = omega arith
     fits_stack (effect.Ends c) s = omega arith
     fits_stack effect.Stuck s = absurd s.fits
 
@@ -222,6 +224,7 @@ module _ (set : Setting) (typing : Typing) (live : Wanted) (is : IsVerified set 
     result_fits (effect.Asks id args place ls vs k) s = λ e. native_room id args place ls vs k s e
     result_fits (effect.Returns v k) s = returned_fits v k below
     result_fits (effect.Raises c) s = tt
+    result_fits (effect.Throws object class c) s = tt
     result_fits (effect.Ends c) s = tt
     result_fits effect.Stuck s = absurd s.fits
 

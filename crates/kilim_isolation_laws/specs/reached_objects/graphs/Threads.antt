@@ -177,6 +177,7 @@ MoveFits p typings listed kept (move.Opens frames h) = (box : BoxName) → Frame
 MoveFits p typings listed kept (move.Asks id args frames h) = AskFits p typings listed kept id args frames h
 MoveFits p typings listed kept (move.Returns h) = EndFits p kept h
 MoveFits p typings listed kept (move.Raises cause) = Unit {0}
+MoveFits p typings listed kept (move.Throws object class cause) = Unit {0}
 MoveFits p typings listed kept (move.Ends cause) = Unit {0}
 MoveFits p typings listed kept move.Stuck = Unit {0}
 

@@ -152,6 +152,7 @@ module _ (set : Setting) (W : Program) (t : ℕ) (x : Standing) where
   by_ok counts (move.Asks id args frames h) = asks_ok frames h (native_of W id) args
   by_ok counts (move.Returns h) = finish_ok h x.kept
   by_ok counts (move.Raises why) = tt
+  by_ok counts (move.Throws object class why) = tt
   by_ok counts (move.Ends why) = tt
   by_ok counts move.Stuck = tt
 

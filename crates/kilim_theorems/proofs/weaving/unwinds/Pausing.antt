@@ -143,6 +143,7 @@ module _ (set : Setting) (W : Program) (t : ℕ) where
   by_still x counts (move.Asks id args frames heap) e = asks_still (stood x frames heap) e (native_of W id) args
   by_still x counts (move.Returns heap) e = finish_still (record x { heap = heap }) e x.kept
   by_still x counts (move.Raises why) e = tt
+  by_still x counts (move.Throws object class why) e = tt
   by_still x counts (move.Ends why) e = tt
   by_still x counts move.Stuck e = tt
 
