@@ -6,7 +6,7 @@ public final class Sys {
     private Sys() {}
 
     /**
-     * Prints a number.
+     * Prints a number. A {@code char} and a {@code boolean} have no print of their own: a {@code char} prints its number.
      *
      * @param number an {@code int}: the line has its digits
      */
@@ -43,7 +43,7 @@ public final class Sys {
     }
 
     /**
-     * An argument of the command line.
+     * An argument of the command line. A place without one ends the task, as {@code end index}.
      *
      * @param place its place, counted from 0
      * @return the argument
@@ -53,7 +53,10 @@ public final class Sys {
     }
 
     /**
-     * Cuts an element from an array: it is read, and null takes its place.
+     * Cuts an element from an array: it is read, and null takes its place. Of an array of arrays none can be taken: hold each in a
+     * message.
+     *
+     * <p>A null array ends the task, as {@code end null}; a place that it doesn't have ends it, as {@code end index}.
      *
      * @param array an array from which may be cut
      * @param place the place of the element, counted from 0

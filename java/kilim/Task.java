@@ -12,12 +12,17 @@ public class Task {
 
     /**
      * Gives the task, and all that hangs from it, away to be run: it may not be used afterwards.
+     *
+     * <p>The 10,001st task of a run isn't started: the task that calls this ends, as {@code end tasks}. Where more than 65,536 objects
+     * hang from the task, the caller ends as {@code end large}, and on a null as {@code end null}.
      */
     @Free
     public void start() {}
 
     /**
-     * The work of the task; the one of this class does nothing.
+     * The work of the task; the one of this class does nothing. Where it returns the task ends, as {@code end done}. It ends before, as
+     * {@code end spent}, where it has done as many instructions as it may, and as {@code end depth} where 512 calls haven't
+     * returned and one more comes.
      *
      * @throws Pausable never: it says that the work may pause
      */
