@@ -1,0 +1,5 @@
+pub mod Rows
+pub mod Shapes
+pub mod Places
+pub mod Faults
+pub mod Drawn
