@@ -62,7 +62,7 @@ pub fn text_of<'a>(sheet: Sheet<'a>, row: &Row) -> &'a [u8] {
     line_of(sheet.bytes, sheet.starts, row.line)
 }
 
-/// A label behind a mark, with the whole line as its title.
+/// A label behind a mark, with the whole line as its title. White around the letters keeps them readable where an arrow crosses them.
 pub fn push_label<'a>(
     out: &mut Vec<u8>,
     at: (usize, usize),
@@ -80,7 +80,7 @@ pub fn push_label<'a>(
             Piece::Number(at.1.saturating_add(4)),
             Piece::Text("\" fill=\""),
             Piece::Text(colour),
-            Piece::Text("\">"),
+            Piece::Text("\" stroke=\"#fff\" stroke-width=\"3\" paint-order=\"stroke\">"),
             Piece::Shown(front(text, LABEL)),
             Piece::Text(rest),
             Piece::Text("<title>"),
@@ -96,7 +96,7 @@ pub fn push_head(out: &mut Vec<u8>, sheet: Sheet<'_>) -> Result<(), NoMemory> {
         out,
         &[
             Piece::Text("<svg xmlns=\"http://www.w3.org/2000/svg\" width=\""),
-            Piece::Number(x_of(sheet.columns.len())),
+            Piece::Number(x_of(sheet.columns.len()).saturating_add(ROW)),
             Piece::Text("\" height=\""),
             Piece::Number(y_of(sheet.rows.len()).saturating_add(ROW)),
             Piece::Text("\" font-family=\"sans-serif\" font-size=\"11\">\n"),
