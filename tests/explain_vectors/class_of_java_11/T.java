@@ -1,0 +1,4 @@
+import kilim.*;
+
+public class T extends Task {
+}

@@ -1,0 +1,10 @@
+import kilim.*;
+
+public class T extends Task {
+    static int made;
+
+    public void execute() throws Pausable {
+        Sys.print(made);
+        made = made + 1;
+    }
+}

@@ -1,0 +1,6 @@
+import kilim.*;
+
+public class T extends Task {
+    public T(int count) {
+    }
+}

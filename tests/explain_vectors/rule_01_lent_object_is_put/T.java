@@ -1,0 +1,7 @@
+import kilim.*;
+
+public class T extends Task {
+    static void give(N n, Mailbox to) {
+        to.put(n);
+    }
+}

@@ -1,0 +1,7 @@
+import kilim.*;
+
+public class T extends Task {
+    static void clear(N n) {
+        n.next = null;
+    }
+}

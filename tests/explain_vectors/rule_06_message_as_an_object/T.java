@@ -1,0 +1,7 @@
+import kilim.*;
+
+public class T extends Task {
+    static Object same(@Free N n) {
+        return n;
+    }
+}

@@ -1,0 +1,8 @@
+import kilim.*;
+
+public class A {
+    static int next() throws Pausable {
+        Sys.yield();
+        return 1;
+    }
+}

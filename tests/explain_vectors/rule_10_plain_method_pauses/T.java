@@ -1,0 +1,7 @@
+import kilim.*;
+
+public class T extends Task {
+    static int twice() {
+        return 2 * A.next();
+    }
+}
