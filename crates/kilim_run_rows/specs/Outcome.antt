@@ -64,8 +64,8 @@ pub record IsStill (before after : Frame) (old new : Objects) : Type 0 where
   pub frame : after ≡ before
   pub heap : new ≡ old
 
--- That effect is the one that an outcome tells, with the frame and the heap before and after it. Want of memory tells
--- nothing.
+-- That effect is the one that an outcome tells, with the frame and the heap before and after it. Where the task raises or ends, the heap
+-- stays as it was. Want of memory tells nothing.
 abbrev pub Shows : Method → Effect → ℕ → Moved → Frame → Frame → Objects → Objects → Type 0
 Shows own e next Next before after old new = e ≡ Goes next after.locals after.stack.values new
 Shows own e next (Jump to) before after old new = e ≡ Goes to after.locals after.stack.values new
@@ -77,8 +77,8 @@ Shows own e next (Asked m n) before after old new =
     (n ≤ length after.stack.values) × (e ≡ Asks m (reverse (take n after.stack.values)) next after.locals (drop n after.stack.values) new) × IsStill before after old new
 Shows own e next Returned before after old new = (e ≡ Returns None new) × IsStill before after old new
 Shows own e next ReturnedValue before after old new = (0 < length after.stack.values) × (e ≡ Returns (returned_by own after.stack.values) new) × IsStill before after old new
-Shows own e next (Raised cause) before after old new = e ≡ Raises cause
-Shows own e next (Ended cause) before after old new = e ≡ Ends cause
+Shows own e next (Raised cause) before after old new = (e ≡ Raises cause) × (new ≡ old)
+Shows own e next (Ended cause) before after old new = (e ≡ Ends cause) × (new ≡ old)
 Shows own e next NoMemory before after old new = Unit {0}
 
 -- the frame is of the same method, and its stack has the same room

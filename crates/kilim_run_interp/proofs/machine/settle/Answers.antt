@@ -33,11 +33,13 @@ returns-in-Opened-clause-steps c e before h k shows same =
 
 pub returns-in-Raised-clause-steps : goal.returns-in-Raised-clause-steps
 returns-in-Raised-clause-steps c e before h k shows same =
-    raises c.args.program.now e before c.args.frames.now.top (below_of c.args.frames.now) h k c.in-Raised.cause (rw c.in-Raised.is at shows)
+    let told = rw c.in-Raised.is at shows in
+    raises c.args.program.now e before c.args.frames.now.top (below_of c.args.frames.now) h k c.in-Raised.cause (told.0)
 
 pub returns-in-Ended-clause-steps : goal.returns-in-Ended-clause-steps
 returns-in-Ended-clause-steps c e before h k shows same =
-    ends c.args.program.now e before c.args.frames.now.top (below_of c.args.frames.now) h k c.in-Ended.cause (rw c.in-Ended.is at shows)
+    let told = rw c.in-Ended.is at shows in
+    ends c.args.program.now e before c.args.frames.now.top (below_of c.args.frames.now) h k c.in-Ended.cause (told.0)
 
 pub returns-in-Called-clause-steps : goal.returns-in-Called-clause-steps
 returns-in-Called-clause-steps c e before h k shows same =

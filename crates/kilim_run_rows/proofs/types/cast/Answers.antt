@@ -1,4 +1,4 @@
-use Rattle.std.proofs.Common.{◌∙◌, sym}
+use Rattle.std.proofs.Common.{refl, ◌∙◌, sym}
 use Rattle.kilim_run_rows.proofs.Classes.{cast_found, cast_passes, cast_refused, cast_there}
 use Rattle.kilim_run_rows.proofs.types.cast.Goals as goal
 
@@ -14,6 +14,8 @@ returns-then-cast_fits-clause-step c =
     (rw c.in-Ok.is at c.type_of.ensures) (sym c.cast_fits.ensures ∙ c.if-cast_fits.true)
 
 pub returns-else-cast_fits-clause-step : goal.returns-else-cast_fits-clause-step
-returns-else-cast_fits-clause-step c =
-    cast_refused c.args.program.now c.args.own.now c.args.ty.now c.args.next c.args.frame.now.locals c.args.frame.now.stack.values c.args.heap.now c.peek.result.now c.peek.ensures c.in-Ok.class
-    (rw c.in-Ok.is at c.type_of.ensures) (sym c.cast_fits.ensures ∙ c.if-cast_fits.false)
+returns-else-cast_fits-clause-step c = (
+  cast_refused c.args.program.now c.args.own.now c.args.ty.now c.args.next c.args.frame.now.locals c.args.frame.now.stack.values c.args.heap.now c.peek.result.now c.peek.ensures c.in-Ok.class
+      (rw c.in-Ok.is at c.type_of.ensures) (sym c.cast_fits.ensures ∙ c.if-cast_fits.false),
+  refl,
+)

@@ -1,4 +1,4 @@
-use Rattle.std.proofs.Common.{◌≡◌, ◌∙◌, sym, ap, rules, FitsSigned, w32, pos, List, ◌∷◌, false, true, nat_lt, arith}
+use Rattle.std.proofs.Common.{refl, ◌≡◌, ◌∙◌, sym, ap, rules, FitsSigned, w32, pos, List, ◌∷◌, false, true, nat_lt, arith}
 use Rattle.std.proofs.lemmas.Int.{to_z-of_z}
 use Rattle.kilim_program.specs.declared.value.Value.{Value}
 use Rattle.kilim_program.specs.declared.value.Value.TheVariants.{Int}
@@ -41,4 +41,4 @@ returns-then-is_too_long-clause-step c =
     let many : nat_lt array_limit c.length_of-length.result ≡ true = sym c.is_too_long.ensures ∙ c.if-is_too_long.true in
     let fits : FitsSigned w32 c.pop_int-size.result = search rules in
     let size : c.pop_int-size.result ≡ pos c.length_of-length.result = simp to_z-of_z at c.length_of-length.ensures in
-    large_row c.args.ty c.args.element.now c.pop_int-size.result c.length_of-length.result c.args.next c.args.frame.now.locals c.args.frame.now.stack.values c.pop_int-size.new.self.values c.args.heap.now is size many
+    (large_row c.args.ty c.args.element.now c.pop_int-size.result c.length_of-length.result c.args.next c.args.frame.now.locals c.args.frame.now.stack.values c.pop_int-size.new.self.values c.args.heap.now is size many, refl)
