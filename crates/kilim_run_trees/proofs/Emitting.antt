@@ -52,7 +52,7 @@ field_long : (es : List (FieldId × Value)) → length (field_values es) ≡ len
 field_long [] = refl
 field_long (e ∷ es) = ap suc (field_long es)
 
-in_fields : (es : List (FieldId × Value)) (vs : List Value) (n : ℕ) (d : FieldId × Value) (d' : Value) → n < length es → (get_or es n d).1 ≡ get_or (field_values es ++ vs) n d'
+pub in_fields : (es : List (FieldId × Value)) (vs : List Value) (n : ℕ) (d : FieldId × Value) (d' : Value) → n < length es → (get_or es n d).1 ≡ get_or (field_values es ++ vs) n d'
 in_fields [] vs n d d' lt = absurd (omega arith)
 in_fields (e ∷ es) vs zero d d' lt = refl
 in_fields (e ∷ es) vs (suc n) d d' lt = let lt' : n < length es = omega arith in in_fields es vs n d d' lt'
@@ -63,7 +63,7 @@ zero_plus n = omega arith
 suc_plus : (m n : ℕ) → suc (m + n) ≡ suc m + n
 suc_plus m n = omega arith
 
-in_elements : (es : List (FieldId × Value)) (vs : List Value) (n : ℕ) (d : Value) → get_or vs n d ≡ get_or (field_values es ++ vs) (length es + n) d
+pub in_elements : (es : List (FieldId × Value)) (vs : List Value) (n : ℕ) (d : Value) → get_or vs n d ≡ get_or (field_values es ++ vs) (length es + n) d
 in_elements [] vs n d = ap (λ k. get_or vs k d) (zero_plus n)
 in_elements (e ∷ es) vs n d = in_elements es vs n d ∙ ap (λ k. get_or (e.1 ∷ (field_values es ++ vs)) k d) (suc_plus (length es) n)
 
@@ -103,7 +103,7 @@ ok_as (Err x) P Q p f = tt
 pub described : (old mid new base : List ℕ) (n : ℕ) → mid ≡ old ++ brackets n → new ≡ mid ++ base → new ≡ old ++ array_descriptor n base
 described old mid new base n m e = e ∙ (ap (λ xs. xs ++ base) m ∙ (append_assoc old (brackets n) base ∙ ap (λ xs. old ++ xs) (sym (array_brackets n base))))
 
-drop_all : {A : Type 0} (xs : List A) (n : ℕ) → length xs ≤ n → drop n xs ≡ []
+pub drop_all : {A : Type 0} (xs : List A) (n : ℕ) → length xs ≤ n → drop n xs ≡ []
 drop_all [] zero h = refl
 drop_all [] (suc n) h = refl
 drop_all (x ∷ xs) zero h = absurd (omega arith)
@@ -146,7 +146,7 @@ found_at p os j o e = found_from p os 0 j o (ap (get (tree_heap os)) (sym (zero_
 abbrev pub Rest : Program → List Object → ℕ → List (ℕ × ℕ) → List Token → Type 0
 Rest p os d fs rest = to_come p (tree_heap os) d os fs ≡ Some rest
 
-shown_more : (vs ws : List Value) (v : Value) (after : List Item) → vs ≡ v ∷ ws → all_shown vs after ≡ Shows v ∷ all_shown ws after
+pub shown_more : (vs ws : List Value) (v : Value) (after : List Item) → vs ≡ v ∷ ws → all_shown vs after ≡ Shows v ∷ all_shown ws after
 shown_more vs ws v after e = ap (λ vs. all_shown vs after) e
 
 -- the values of the top object are done
@@ -173,7 +173,7 @@ value_next p os d at next after fs rest v r lt is af =
     let b = bind_some (to_come p (tree_heap os) d os ((at, after) ∷ fs)) (λ others. Some (a.0 ++ others)) rest a.2 in
     record { own = a.0; others = b.0; shows = a.1; left = b.1; all = let q : Some (a.0 ++ b.0) ≡ Some rest = b.2 in let h : a.0 ++ b.0 ≡ rest = cc in sym h }
 
-joined_items : (p : Program) (heap : Objects) (d : ℕ) (vs : List Value) (items : List Item) (c rest : List Token) → joined_tokens (heap_tokens p heap d) vs ≡ Some c → joined_tokens (item_tokens p heap d) items ≡ Some rest → joined_tokens (item_tokens p heap d) (all_shown vs items) ≡ Some (c ++ rest)
+pub joined_items : (p : Program) (heap : Objects) (d : ℕ) (vs : List Value) (items : List Item) (c rest : List Token) → joined_tokens (heap_tokens p heap d) vs ≡ Some c → joined_tokens (item_tokens p heap d) items ≡ Some rest → joined_tokens (item_tokens p heap d) (all_shown vs items) ≡ Some (c ++ rest)
 joined_items p heap d [] items c rest e f = let none : List Token = [] in let q : Some none ≡ Some c = e in let h : none ≡ c = cc in f ∙ ap (λ c. Some (c ++ rest)) h
 joined_items p heap d (v ∷ vs) items c rest e f =
     let a = bind_some (heap_tokens p heap d v) (λ first. joined_tokens (heap_tokens p heap d) vs >>= λ others. Some (first ++ others)) c e in
@@ -237,11 +237,11 @@ pub record Emitting (p : Program) (os : List Object) (d : ℕ) (tokens : List To
 abbrev pub AllFit : Program → List Object → Type 0
 AllFit p os = (j : ℕ) (o : Object) → get (tree_heap os) j ≡ Some o → Suits p o
 
-nothing_more : (tokens : List Token) → tokens ++ [] ≡ tokens
+pub nothing_more : (tokens : List Token) → tokens ++ [] ≡ tokens
 nothing_more [] = refl
 nothing_more (t ∷ ts) = ap (λ xs. t ∷ xs) (nothing_more ts)
 
-turn_one : (fs : List (ℕ × ℕ)) (f : ℕ × ℕ) (gs : List (ℕ × ℕ)) → fs ≡ gs ++ f ∷ [] → reverse fs ≡ f ∷ reverse gs
+pub turn_one : (fs : List (ℕ × ℕ)) (f : ℕ × ℕ) (gs : List (ℕ × ℕ)) → fs ≡ gs ++ f ∷ [] → reverse fs ≡ f ∷ reverse gs
 turn_one fs f gs e = ap reverse e ∙ reverse-append gs (f ∷ [])
 
 -- at the beginning

@@ -226,7 +226,7 @@ from_tokens p heap suit (suc d) (Ref n) ts e =
 
 -- ---- both together
 
-each_suits : (p : Program) (heap : Objects) → AllSuit p heap → (es : List (ℕ × Object)) → AreIn heap es → EachSuits p es
+pub each_suits : (p : Program) (heap : Objects) → AllSuit p heap → (es : List (ℕ × Object)) → AreIn heap es → EachSuits p es
 each_suits p heap suit [] a = tt
 each_suits p heap suit (e ∷ es) a = (suit e.0 e.1 a.0, each_suits p heap suit es a.1)
 

@@ -4,3 +4,4 @@ pub mod Moved
 pub mod Steps
 pub mod Shaping
 pub mod Emitted
+pub mod Standing

@@ -7,6 +7,7 @@ mod put;
 mod reserve;
 mod room;
 mod shapes;
+mod standing;
 mod take;
 mod tree;
 
@@ -16,5 +17,6 @@ pub use put::put_in;
 pub use reserve::reserve_tree;
 pub use room::Room;
 pub use shapes::shape;
+pub use standing::shape_at;
 pub use take::take_out;
 pub use tree::Tree;

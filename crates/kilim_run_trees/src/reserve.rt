@@ -75,7 +75,7 @@ fn reserve_refs(stack: &mut Vec<u32>, object: &Object) -> bool
 }
 
 // How many objects are below a place.
-fn tree_size(alloc: Global, heap: &Heap, root: u32) -> Result<usize, MoveFault>
+pub(crate) fn tree_size(alloc: Global, heap: &Heap, root: u32) -> Result<usize, MoveFault>
     requires { AllThere heap.now root }
     ensures ok { IfOk result (λ n. IsSize heap.now root n) }
     ensures err { IfErr result (λ fault. IsFault heap.now root fault) }

@@ -28,7 +28,11 @@ fn push_letter(out: &mut Vec<u16>, letter: u8) -> Result<(), AllocError>
 }
 
 // An object, and how many of its values are done.
-fn push_frame(frames: &mut Vec<(u32, usize)>, at: u32, next: usize) -> Result<(), NoMemory>
+pub(crate) fn push_frame(
+    frames: &mut Vec<(u32, usize)>,
+    at: u32,
+    next: usize,
+) -> Result<(), NoMemory>
     ensures { OnOk result (frames.new.items ≡ frames.old.items ++ (at, next) ∷ []) }
 {
     frames.push((at, next))?;
@@ -121,7 +125,7 @@ fn base_shown(alloc: Global, program: &Program, base: Base) -> Result<Units, All
     }
 }
 
-fn shown(alloc: Global, program: &Program, ty: Ty) -> Result<Units, AllocError>
+pub(crate) fn shown(alloc: Global, program: &Program, ty: Ty) -> Result<Units, AllocError>
     ensures { IfOk result (λ name. name ≡ shown_name program.now ty) }
 {
     if ty.dims == 0 {
@@ -144,7 +148,7 @@ fn push_text(tokens: &mut Shape, units: &Units) -> Result<(), AllocError>
 }
 
 // A value that is no object has one token.
-fn push_plain(tokens: &mut Shape, value: &Value) -> Result<(), AllocError>
+pub(crate) fn push_plain(tokens: &mut Shape, value: &Value) -> Result<(), AllocError>
     ensures { OnOk result (tokens.new ≡ tokens.old ++ plain_tokens value.now) }
 {
     match value {
