@@ -21,9 +21,9 @@ use Rattle.kilim_isolation_laws.proofs.at_rest.Stays.{get_stays}
 
 -- ---- a move without an action changes one thread, and no mailbox
 
-record Keeps (t : ℕ) (s after : State) : Type 0 where
-  others : (u : ℕ) → (u ≡ t → ⊥) → slice_get after.threads u ≡ slice_get s.threads u
-  boxes : after.mailboxes ≡ s.mailboxes
+pub record Keeps (t : ℕ) (s after : State) : Type 0 where
+  pub others : (u : ℕ) → (u ≡ t → ⊥) → slice_get after.threads u ≡ slice_get s.threads u
+  pub boxes : after.mailboxes ≡ s.mailboxes
 
 stays : (t : ℕ) (s : State) → Keeps t s s
 stays t s = record { others = λ u other. refl; boxes = refl }
@@ -76,7 +76,7 @@ module _ (set : Setting) where
   unless_keeps s later t None f = f refl
   unless_keeps s later t (Some act) f = stays t s
 
-  before_keeps : (n : ℕ) (s : State) (t : ℕ) → Keeps t s (before_action set n s t)
+  pub before_keeps : (n : ℕ) (s : State) (t : ℕ) → Keeps t s (before_action set n s t)
   unfolding before_action
   before_keeps zero s t = stays t s
   before_keeps (suc n) s t =
@@ -84,12 +84,12 @@ module _ (set : Setting) where
       (λ none. further t s (moved set s t).state (before_action set n (moved set s t).state t) (move_keeps set s t none) (before_keeps n (moved set s t).state t))
 
   -- settling the threads from a number on leaves those before it
-  settled_others : (n : ℕ) (s : State) (t : ℕ) (list : List Thread) (u : ℕ) → u < t → slice_get (settled_from set n s t list).threads u ≡ slice_get s.threads u
+  pub settled_others : (n : ℕ) (s : State) (t : ℕ) (list : List Thread) (u : ℕ) → u < t → slice_get (settled_from set n s t list).threads u ≡ slice_get s.threads u
   settled_others n s t [] u lt = refl
   settled_others n s t (thread ∷ threads) u lt =
       settled_others n (before_action set n s t) (t + 1) threads u (omega arith) ∙ (before_keeps n s t).others u (λ e. absurd (omega arith))
 
-  settled_boxes : (n : ℕ) (s : State) (t : ℕ) (list : List Thread) → (settled_from set n s t list).mailboxes ≡ s.mailboxes
+  pub settled_boxes : (n : ℕ) (s : State) (t : ℕ) (list : List Thread) → (settled_from set n s t list).mailboxes ≡ s.mailboxes
   settled_boxes n s t [] = refl
   settled_boxes n s t (thread ∷ threads) = settled_boxes n (before_action set n s t) (t + 1) threads ∙ (before_keeps n s t).boxes
 
@@ -179,7 +179,7 @@ module _ (set : Setting) where
       let parts = and_parts (is_at_rest set f t thread) (all_at_rest set f (t + 1) threads) all in
       each_rests f threads (t + 1) i u th (omega arith) parts.1 at
 
-  same_settled : (s : State) (m n : ℕ) → m ≤ n → all_at_rest set (settled set m s) 0 (settled set m s).threads ≡ true → settled set n s ≡ settled set m s
+  pub same_settled : (s : State) (m n : ℕ) → m ≤ n → all_at_rest set (settled set m s) 0 (settled set m s).threads ≡ true → settled set n s ≡ settled set m s
   same_settled s m n le all =
       let far = is_further m n le in
       ap (λ (k : ℕ). settled set k s) far.is ∙ more_settles m far.by s.threads s 0 (λ u th at. each_rests (settled set m s) (settled set m s).threads 0 u u th (omega arith) all at)

@@ -98,7 +98,7 @@ thread_read : (set : Setting) (t : ℕ) (l : Lone) (th : Thread) → CanRead (th
 thread_read set t l (Ended c) = tt
 thread_read set t l (Alive fs done boxes) = elim (nat_le set.limits.steps done) as (λ (b : Bool). CanRead (cond b (over l cause.Spent) (frames_next set t l fs done boxes))) [ true ↦ tt | false ↦ frames_read set t l fs done boxes ]
 
-move_can : (set : Setting) (t : ℕ) (l : Lone) → CanRead (next_move set t l)
+pub move_can : (set : Setting) (t : ℕ) (l : Lone) → CanRead (next_move set t l)
 unfolding next_move
 move_can set t l = thread_read set t l l.thread
 

@@ -1,0 +1,4 @@
+pub mod One
+pub mod Leads
+pub mod Samples
+pub mod Settling

@@ -1,0 +1,6 @@
+pub mod Stay
+pub mod Nexts
+pub mod Full
+pub mod Closed
+pub mod Shared
+pub mod Going

@@ -1,0 +1,4 @@
+pub mod Verdicts
+pub mod Leads
+pub mod Samples
+pub mod shared
