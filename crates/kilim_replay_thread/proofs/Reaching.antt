@@ -1,0 +1,271 @@
+-- What a task comes to is what its thread does next.
+use Rattle.std.proofs.Common.{◌≡◌, ℕ, ◌+◌, ◌-◌, ◌<◌, ◌≤◌, Bool, true, false, cond, List, [], ◌∷◌, Option, Some, None, Result, Ok, Err, refl, sym, ap, subst, ◌∙◌, arith, rules}
+use Rattle.std.specs.Prelude.{nat_le, is_some, IfOk, OnOk}
+use Rattle.std.proofs.lemmas.Bool.{lt-leb}
+use Rattle.kilim_program.specs.declared.names.MethodId.{MethodId}
+use Rattle.kilim_program.specs.declared.value.Value.{Value}
+use Rattle.kilim_run_state.specs.declared.cause.EndCause.{EndCause}
+use Rattle.kilim_run_state.specs.declared.cause.EndCause.TheVariants as cause
+use Rattle.kilim_run_state.specs.frames.Calls.{answered}
+use Rattle.kilim_run_state.specs.Machine.{Activation, Objects}
+use Rattle.kilim_run_machine.specs.Moves.{Move, moves}
+use Rattle.kilim_run_machine.specs.Moves as move
+use Rattle.kilim_run_machine.specs.Natives.{native_of}
+use Rattle.kilim_run_interp.specs.Step.{IsSame as SameFrames, cause_of}
+use Rattle.kilim_run_model.specs.State.{Setting, Alive}
+use Rattle.kilim_run_model.specs.Lone.{Lone, Next, Goes, Ends, asks_next, finish_next, frames_next, next_by, next_move, opens_next, over, thread_next}
+use Rattle.kilim_run_model.specs.Course.{Quiet, Stays, Moves}
+use Rattle.kilim_fiber_spec.specs.fiber_kin.Served.{HasRoom, ResultFits}
+use Rattle.kilim_fiber_spec.proofs.fiber_kin.Fine.{opens_fit}
+use Rattle.kilim_replay_laws.specs.shared.Shared.{AskedAreThere, Serves}
+use Rattle.kilim_replay_laws.specs.shared.Runs.{CanGo}
+use Rattle.kilim_replay_thread.specs.Live.{HasFrames, RoomIn, RoomBehind, answered_in, behind_at, calls_in, ended_at, kept_for, lone_at, operands_in, operands_of}
+use Rattle.kilim_replay_thread.specs.Comes.{CanAsk, Comes, HasRunOn, IsNear, IsSame}
+use Rattle.kilim_replay_thread.specs.Reach.{Ended, IsComing, Reaches, Stood, WentOn}
+use Rattle.kilim_replay_thread.specs.Thread.{HasRun, IsSafe, thread_on}
+use Rattle.kilim_replay_thread.specs.declared.runs.Halted.{Halted}
+use Rattle.kilim_replay_thread.specs.declared.task.Came.{Came}
+use Rattle.kilim_replay_thread.specs.declared.task.Came.TheVariants as came
+use Rattle.kilim_replay_thread.specs.declared.task.Live.{Live}
+use Rattle.kilim_replay_thread.specs.declared.task.World.{World}
+use Rattle.kilim_replay_thread.proofs.Steps.{runs_are_quiet}
+
+-- ---- moves without an action
+
+module _ (set : Setting) (t : ℕ) where
+  pub quiet_on : (a b c : Lone) → Quiet set t a b → Quiet set t b c → Quiet set t a c
+  quiet_on a b c q (Stays e) = subst (Quiet set t a) e q
+  quiet_on a b c q (Moves d r e) = Moves d (quiet_on a b d q r) e
+
+  pub can_on : (a b : Lone) → CanGo set t a → Quiet set t a b → CanGo set t b
+  can_on a b can q m r = can m (quiet_on a b m q r)
+
+  pub serves_here : (a : Lone) → CanGo set t a → Serves set a
+  serves_here a can = can a (Stays refl)
+
+  -- ---- before an instruction
+
+  spent_by : (z : Bool) (l : Lone) (n : Next) → z ≡ true → cond z (over l cause.Spent) n ≡ over l cause.Spent
+  spent_by z l n e = ap (λ (b : Bool). cond b (over l cause.Spent) n) e
+
+  le_true : (m n : ℕ) → m ≤ n → nat_le m n ≡ true
+  le_true m n h = search rules
+
+  spent_move : (w : World) (l : Live) → set.limits.steps ≤ l.done → next_move set t (lone_at t w l) ≡ Ends cause.Spent (ended_at w cause.Spent)
+  unfolding next_move
+  spent_move w l le = spent_by (nat_le set.limits.steps l.done) (lone_at t w l) (frames_next set t (lone_at t w l) (calls_in l.frames) l.done l.boxes) (le_true set.limits.steps l.done le)
+
+  not_spent : (w : World) (l : Live) (frames : List Activation) → l.done < set.limits.steps → calls_in l.frames ≡ frames → next_move set t (lone_at t w l) ≡ frames_next set t (lone_at t w l) frames l.done l.boxes
+  unfolding next_move
+  not_spent w l frames lt are =
+      ap (λ (b : Bool). cond b (over (lone_at t w l) cause.Spent) (frames_next set t (lone_at t w l) (calls_in l.frames) l.done l.boxes)) (lt-leb set.limits.steps l.done lt)
+      ∙ ap (λ (fs : List Activation). frames_next set t (lone_at t w l) fs l.done l.boxes) are
+
+  pub spent_now : (w : World) (l : Live) → set.limits.steps ≤ l.done → Ended set t (lone_at t w l) (Ends cause.Spent (ended_at w cause.Spent))
+  spent_now w l le = record { mid = lone_at t w l; quiet = Stays refl; does = spent_move w l le }
+
+  pub done_now : (w : World) (l : Live) → l.done < set.limits.steps → l.frames ≡ None → Ended set t (lone_at t w l) (Ends cause.Done (ended_at w cause.Done))
+  done_now w l lt none = record { mid = lone_at t w l; quiet = Stays refl; does = not_spent w l [] lt (ap calls_in none) }
+
+  pub safe_on : (w : World) (l : Live) → CanGo set t (lone_at t w l) → l.done < set.limits.steps → IsSafe set.program (set.limits.steps - l.done) (calls_in l.frames) w.heap w.next
+  safe_on w l can lt n top below k after few runs =
+      let left : l.done + n ≤ set.limits.steps = omega (arith, few) in
+      let less : l.done + n < set.limits.steps = omega (arith, few) in
+      (can (thread_on k after (kept_for t w.kept) (top ∷ below) (l.done + n) l.boxes) (runs_are_quiet set t (calls_in l.frames) (top ∷ below) w.heap k w.next after n l.done l.boxes (kept_for t w.kept) runs left)).fine.steps top below (l.done + n) l.boxes refl less
+
+  -- ---- many instructions
+
+  module _ (w : World) (l : Live) (w' : World) (mid : Live) (can : CanGo set t (lone_at t w l)) (lt : l.done < set.limits.steps) (h : Halted) (ran : HasRunOn set.program set.limits.steps w l w' mid h) where
+    abbrev r : HasRun set.program (set.limits.steps - l.done) (calls_in l.frames) w.heap w.next ran.steps h ran.frames w'.heap w'.next
+    r = ran.ran
+
+    abbrev there : Lone
+    there = thread_on r.heap w'.next (kept_for t w.kept) r.calls (l.done + ran.steps) l.boxes
+
+    to_there : Quiet set t (lone_at t w l) there
+    to_there = let most = r.most in runs_are_quiet set t (calls_in l.frames) r.calls w.heap r.heap w.next w'.next ran.steps l.done l.boxes (kept_for t w.kept) r.runs (omega (arith, most, lt))
+
+    -- the frames at which it stands
+    pub record Top : Type 0 where
+      pub top : Activation
+      pub below : List Activation
+      pub are : r.calls ≡ top ∷ below
+      pub few : ran.steps < set.limits.steps - l.done
+
+    -- where nothing was changed by the last instruction
+    module _ (at : Top) (same : SameFrames (at.top ∷ at.below) ran.frames r.heap w'.heap) where
+      calls_are : calls_in mid.frames ≡ at.top ∷ at.below
+      calls_are = ap calls_in ran.are ∙ same.frames
+
+      lone_is : there ≡ lone_at t w' mid
+      lone_is = λ i. record {
+        heap = sym same.heap i;
+        next = w'.next;
+        thread = Alive ((at.are ∙ sym calls_are) i) (sym ran.counted i) (sym ran.boxes i);
+        kept = kept_for t (sym ran.kept i);
+      }
+
+      pub to_mid : Quiet set t (lone_at t w l) (lone_at t w' mid)
+      to_mid = subst (Quiet set t (lone_at t w l)) lone_is to_there
+
+      pub few_done : mid.done < set.limits.steps
+      few_done = let a = at.few in let b = ran.counted in omega (arith, a, b)
+
+      pub has_frames : HasFrames mid.frames
+      has_frames = subst HasFrames (sym ran.are) tt
+
+      pub next_is : (m : Objects → Move) → moves set.program at.top at.below r.heap ≡ m r.heap → next_move set t (lone_at t w' mid) ≡ next_by set t (lone_at t w' mid) mid.done mid.boxes (m w'.heap)
+      next_is m e =
+          not_spent w' mid (at.top ∷ at.below) few_done calls_are
+          ∙ ap (next_by set t (lone_at t w' mid) mid.done mid.boxes) (subst (λ (x : Objects). moves set.program at.top at.below x ≡ m x) (sym same.heap) e)
+
+      move_is : (m : Objects → Move) → moves set.program at.top at.below r.heap ≡ m r.heap → moves set.program at.top at.below w'.heap ≡ m w'.heap
+      move_is m e = subst (λ (x : Objects). moves set.program at.top at.below x ≡ m x) (sym same.heap) e
+
+      behind_is : answered_in mid.frames ≡ answered ran.frames
+      behind_is = ap answered_in ran.are
+
+      alive_is : (lone_at t w' mid).thread ≡ Alive (at.top ∷ at.below) mid.done mid.boxes
+      alive_is = ap (λ (fs : List Activation). Alive fs mid.done mid.boxes) calls_are
+
+      serves : Serves set (lone_at t w' mid)
+      serves = can (lone_at t w' mid) to_mid
+
+      -- a new mailbox
+      pub opens_at : moves set.program at.top at.below r.heap ≡ move.Opens (answered ran.frames) r.heap → Stood set t (lone_at t w l) w' mid (opens_next t (lone_at t w' mid) (answered_in mid.frames) mid.done mid.boxes) × RoomIn set.program mid.frames
+      opens_at e =
+          let m : Objects → Move = λ (x : Objects). move.Opens (answered ran.frames) x in
+          let room : RoomBehind set.program ran.frames = opens_fit set.program at.top at.below w'.heap w'.heap _ _ (serves.fine.steps at.top at.below mid.done mid.boxes alive_is few_done) (move_is m e) in (
+            record { quiet = to_mid; does = next_is m e ∙ ap (λ (fs : List Activation). opens_next t (lone_at t w' mid) fs mid.done mid.boxes) (sym behind_is); few = few_done },
+            subst (RoomIn set.program) (sym ran.are) room,
+          )
+
+      -- the last frame returns
+      pub returns_at : moves set.program at.top at.below r.heap ≡ move.Returns r.heap → Stood set t (lone_at t w l) w' mid (finish_next set (lone_at t w' mid) mid.done mid.boxes (kept_for t w'.kept))
+      returns_at e = record { quiet = to_mid; does = next_is (λ (x : Objects). move.Returns x) e; few = few_done }
+
+      -- a built-in method
+      has_room : (fs : List Activation) (g : Activation) (gs : List Activation) → fs ≡ g ∷ gs → HasRoom set fs → HasRoom set (g ∷ gs)
+      has_room fs g gs e room = subst (HasRoom set) e room
+
+      pub asks_at : (id : MethodId) → moves set.program at.top at.below r.heap ≡ move.Asks id (operands_of ran.frames) (answered ran.frames) r.heap →
+          Stood set t (lone_at t w l) w' mid (asks_next set (behind_at t w' mid) (operands_in mid.frames) (native_of set.program id)) × CanAsk set.program (native_of set.program id) (operands_in mid.frames) w' mid
+      asks_at id e =
+          let m : Objects → Move = λ (x : Objects). move.Asks id (operands_of ran.frames) (answered ran.frames) x in
+          let args : operands_in mid.frames ≡ operands_of ran.frames = ap operands_in ran.are in
+          let own = native_of set.program id in
+          let fits : ResultFits set (m w'.heap) = subst (ResultFits set) (move_is m e) (serves.fine.result at.top at.below mid.done mid.boxes alive_is few_done) in
+          let there : AskedAreThere w'.heap (m w'.heap) = subst (AskedAreThere w'.heap) (move_is m e) (serves.asked at.top at.below mid.done mid.boxes alive_is) in (
+            record {
+              quiet = to_mid;
+              does = next_is m e ∙ (λ i. asks_next set (record { heap = w'.heap; next = w'.next; thread = Alive (sym behind_is i) (mid.done + 1) mid.boxes; kept = kept_for t w'.kept }) (sym args i) own);
+              few = few_done;
+            },
+            record {
+              room = λ gives. subst (RoomIn set.program) (sym ran.are) (fits gives);
+              there = subst (λ (vs : List Value). Rattle.kilim_type_sound.specs.Fits.AreThere w'.heap vs) (sym args) there;
+              heap = serves.heap;
+            },
+          )
+
+    -- an instruction ends it
+    pub ends_at : (top : Activation) (below : List Activation) (c : EndCause) → r.calls ≡ top ∷ below → ran.steps < set.limits.steps - l.done → cause_of (moves set.program top below r.heap) ≡ Some c → w'.heap ≡ r.heap → Ended set t (lone_at t w l) (Ends c (ended_at w' c))
+    unfolding next_move
+    ends_at top below c are few e same =
+        let less : l.done + ran.steps < set.limits.steps = omega (arith, few) in
+        record { mid = there; quiet = to_there; does = ends_move less ∙ ap (λ (x : Objects). Ends c (record { heap = x; next = w'.next; thread = Rattle.kilim_run_model.specs.State.Ended c; kept = None })) (sym same) }
+      where
+        ends_by : (m : Move) → cause_of m ≡ Some c → next_by set t there (l.done + ran.steps) l.boxes m ≡ over there c
+        ends_by (move.Raises d) f = ap (over there) (some_same d c f)
+          where
+            some_same : (a b : EndCause) → Some a ≡ Some b → a ≡ b
+            some_same a b g = cc
+        ends_by (move.Ends d) f = ap (over there) (some_same d c f)
+          where
+            some_same : (a b : EndCause) → Some a ≡ Some b → a ≡ b
+            some_same a b g = cc
+        ends_by (move.Runs change fs k) f = absurd (cc)
+        ends_by (move.Makes o fs k) f = absurd (cc)
+        ends_by (move.Opens fs k) f = absurd (cc)
+        ends_by (move.Asks m args fs k) f = absurd (cc)
+        ends_by (move.Returns k) f = absurd (cc)
+        ends_by move.Stuck f = absurd (cc)
+
+        ends_move : l.done + ran.steps < set.limits.steps → next_move set t there ≡ over there c
+        ends_move less =
+            ap (λ (b : Bool). cond b (over there cause.Spent) (frames_next set t there r.calls (l.done + ran.steps) l.boxes)) (lt-leb set.limits.steps (l.done + ran.steps) less)
+            ∙ (ap (λ (fs : List Activation). frames_next set t there fs (l.done + ran.steps) l.boxes) are ∙ ends_by (moves set.program top below r.heap) e)
+
+    -- all of its instructions are done
+    pub spent_at : ran.steps ≡ set.limits.steps - l.done → w'.heap ≡ r.heap → Ended set t (lone_at t w l) (Ends cause.Spent (ended_at w' cause.Spent))
+    unfolding next_move
+    spent_at all same =
+        let full : set.limits.steps ≤ l.done + ran.steps = omega (arith, all, lt) in
+        record { mid = there; quiet = to_there; does = spent_move_at full ∙ ap (λ (x : Objects). Ends cause.Spent (record { heap = x; next = w'.next; thread = Rattle.kilim_run_model.specs.State.Ended cause.Spent; kept = None })) (sym same) }
+      where
+        spent_move_at : set.limits.steps ≤ l.done + ran.steps → next_move set t there ≡ over there cause.Spent
+        spent_move_at full = spent_by (nat_le set.limits.steps (l.done + ran.steps)) there (frames_next set t there r.calls (l.done + ran.steps) l.boxes) (le_true set.limits.steps (l.done + ran.steps) full)
+
+  -- ---- what came of it
+
+  module _ (first : Lone) (done : ℕ) (w' : World) (mid : Live) (least : done ≤ mid.done) where
+    -- where nothing was changed
+    pub same_stood : (next : World → Live → Next) (w'' : World) (l'' : Live) → Stood set t first w' mid (next w' mid) → IsSame w' mid w'' l'' → Stood set t first w'' l'' (next w'' l'')
+    same_stood next w'' l'' s same =
+        subst (λ (x : World). Stood set t first x l'' (next x l'')) (sym same.world) (subst (λ (x : Live). Stood set t first w' x (next w' x)) (sym same.live) s)
+
+    with_next : (n m : Next) → n ≡ m → Stood set t first w' mid n → Stood set t first w' mid m
+    with_next n m e s = record { quiet = s.quiet; does = s.does ∙ e; few = s.few }
+
+    pub came_by : (n : Next) (w'' : World) (l'' : Live) (c : Came) → Stood set t first w' mid n → IsNear mid.done l''.done → Comes t n w' mid w'' l'' c → Reaches set t first done w'' l'' c
+    came_by n w'' l'' came.On s near f =
+        let a = f.counted in
+        let b = near.most in
+        let d = s.few in
+        record { quiet = Moves (lone_at t w' mid) s.quiet (s.does ∙ f.goes); more = omega (arith, a, least); most = omega (arith, b, d) }
+    came_by n w'' l'' (came.Puts box root shape) s near f = same_stood (λ x y. Rattle.kilim_run_model.specs.Lone.Puts box root shape (behind_at t x y)) w'' l'' (with_next n _ f.0 s) f.1
+    came_by n w'' l'' (came.Takes box) s near f = same_stood (λ x y. Rattle.kilim_run_model.specs.Lone.Gets box (behind_at t x y)) w'' l'' (with_next n _ f.0 s) f.1
+    came_by n w'' l'' (came.Probes box) s near f = same_stood (λ x y. Rattle.kilim_run_model.specs.Lone.Probes box (behind_at t x y)) w'' l'' (with_next n _ f.0 s) f.1
+    came_by n w'' l'' (came.Starts root shape) s near f = same_stood (λ x y. Rattle.kilim_run_model.specs.Lone.Starts root shape (behind_at t x y)) w'' l'' (with_next n _ f.0 s) f.1
+    came_by n w'' l'' (came.Prints shape) s near f = (f.0, f.1, same_stood (λ x y. Rattle.kilim_run_model.specs.Lone.Prints f.0 (behind_at t x y)) w'' l'' (with_next n _ f.2 s) f.3)
+    came_by n w'' l'' (came.Ends why) s near f = record { mid = lone_at t w' mid; quiet = s.quiet; does = s.does ∙ (f.0 ∙ ap (λ (x : World). Ends why (ended_at x why)) (sym f.1)) }
+
+  -- ---- from an earlier place on
+
+  quiet_from : (a b : Lone) → Quiet set t a b → (c : Lone) → Quiet set t b c → Quiet set t a c
+  quiet_from a b q c r = quiet_on a b c q r
+
+  pub reach_on : (a b : Lone) (early late : ℕ) (w : World) (l : Live) (c : Came) → Quiet set t a b → early ≤ late → Reaches set t b late w l c → Reaches set t a early w l c
+  reach_on a b early late w l came.On q le r = let m = r.more in record { quiet = quiet_on a b (lone_at t w l) q r.quiet; more = omega (arith, m, le); most = r.most }
+  reach_on a b early late w l (came.Puts box root shape) q le r = record { quiet = quiet_on a b (lone_at t w l) q r.quiet; does = r.does; few = r.few }
+  reach_on a b early late w l (came.Takes box) q le r = record { quiet = quiet_on a b (lone_at t w l) q r.quiet; does = r.does; few = r.few }
+  reach_on a b early late w l (came.Probes box) q le r = record { quiet = quiet_on a b (lone_at t w l) q r.quiet; does = r.does; few = r.few }
+  reach_on a b early late w l (came.Starts root shape) q le r = record { quiet = quiet_on a b (lone_at t w l) q r.quiet; does = r.does; few = r.few }
+  reach_on a b early late w l (came.Prints shape) q le r = (r.0, r.1, record { quiet = quiet_on a b (lone_at t w l) q r.2.quiet; does = r.2.does; few = r.2.few })
+  reach_on a b early late w l (came.Ends why) q le r = record { mid = r.mid; quiet = quiet_on a b r.mid q r.quiet; does = r.does }
+
+-- ---- answers
+
+pub none_there : {A : Type 0} (o : Option A) → is_some o ≡ false → o ≡ None
+none_there None e = refl
+none_there (Some x) e = absurd (cc)
+
+-- what holds of an answer that isn't want of memory
+pub over_ok : {A E : Type 0} (P Q : A → Type 0) (R : Type 0) (r : Result A E) → IfOk r P → OnOk r R → ((a : A) → P a → R → Q a) → IfOk r Q
+over_ok P Q R (Ok a) p x f = f a p x
+over_ok P Q R (Err e) p x f = tt
+
+pub fewer : (steps old new : ℕ) → old < new → new ≤ steps → steps - new < steps - old
+fewer steps old new lt le = omega arith
+
+pub coming_by : (c : Came) → (c ≡ came.On → ⊥) → IsComing c
+coming_by came.On out = absurd (out refl)
+coming_by (came.Puts box root shape) out = tt
+coming_by (came.Takes box) out = tt
+coming_by (came.Probes box) out = tt
+coming_by (came.Starts root shape) out = tt
+coming_by (came.Prints shape) out = tt
+coming_by (came.Ends why) out = tt
+
+pub went_by : (set : Setting) (t : ℕ) (first : Lone) (done : ℕ) (w : World) (l : Live) (c : Came) → c ≡ came.On → Reaches set t first done w l c → WentOn set t first done w l
+went_by set t first done w l c e r = subst (Reaches set t first done w l) e r

@@ -1,0 +1,81 @@
+use Rattle.std.proofs.Common.{arith, refl, subst}
+use Rattle.kilim_run_machine.specs.Natives.{native_of}
+use Rattle.kilim_run_model.specs.Lone.{asks_next, finish_next, opens_next}
+use Rattle.kilim_replay_thread.specs.Comes.{Comes, HasRunOn, IsNear}
+use Rattle.kilim_replay_thread.specs.Live.{answered_in, behind_at, kept_for, lone_at, operands_in}
+use Rattle.kilim_replay_thread.specs.Reach.{Reaches, setting_of}
+use Rattle.kilim_replay_thread.specs.declared.runs.Halted.{Halted}
+use Rattle.kilim_replay_thread.proofs.Arms.{asked_arm, ended_arm, opened_arm, returned_arm, spent_arm}
+use Rattle.kilim_replay_thread.proofs.Reaching.{came_by, done_now, none_there, over_ok, safe_on, spent_now}
+use Rattle.kilim_replay_thread.proofs.advance.advance.Goals as goal
+
+pub returns-then-live-limits-clause-reaches : goal.returns-then-live-limits-clause-reaches
+returns-then-live-limits-clause-reaches c = spent_now (setting_of c.args.program.now c.args.main c.args.limits.now) c.args.task c.args.world.now c.args.live.now (omega arith)
+
+pub returns-then-is_none-clause-reaches : goal.returns-then-is_none-clause-reaches
+returns-then-is_none-clause-reaches c = done_now (setting_of c.args.program.now c.args.main c.args.limits.now) c.args.task c.args.world.now c.args.live.now c.if-live-limits.false (none_there c.args.live.now.frames c.if-is_none.ensures)
+
+pub run_on-requires-clause-safe : goal.run_on-requires-clause-safe
+run_on-requires-clause-safe c = safe_on (setting_of c.args.program.now c.args.main c.args.limits.now) c.args.task c.args.world.now c.args.live.now c.requires.can c.if-live-limits.false
+
+pub returns-in-Spent-clause-reaches : goal.returns-in-Spent-clause-reaches
+returns-in-Spent-clause-reaches c =
+    spent_arm (setting_of c.args.program.now c.args.main c.args.limits.now) c.args.task c.args.world.now c.args.live.now c.run_on.new.world c.run_on.new.live c.requires.can c.if-live-limits.false
+    (subst (λ (h : Halted). HasRunOn c.args.program.now c.args.limits.now.steps c.args.world.now c.args.live.now c.run_on.new.world c.run_on.new.live h) c.in-Spent.is c.in-Ok.ensures.run)
+
+pub open-requires-clause-room : goal.open-requires-clause-room
+open-requires-clause-room c =
+    (opened_arm (setting_of c.args.program.now c.args.main c.args.limits.now) c.args.task c.args.world.now c.args.live.now c.run_on.new.world c.run_on.new.live c.requires.can c.if-live-limits.false
+    (subst (λ (h : Halted). HasRunOn c.args.program.now c.args.limits.now.steps c.args.world.now c.args.live.now c.run_on.new.world c.run_on.new.live h) c.in-NewBox.is c.in-Ok.ensures.run)).1
+
+pub returns-in-NewBox-clause-reaches : goal.returns-in-NewBox-clause-reaches
+returns-in-NewBox-clause-reaches c =
+    let set = setting_of c.args.program.now c.args.main c.args.limits.now in
+    let w' = c.run_on.new.world in
+    let mid = c.run_on.new.live in
+    came_by set c.args.task (lone_at c.args.task c.args.world.now c.args.live.now) c.args.live.now.done w' mid (omega (arith, c.in-Ok.ensures.run.counted)) (opens_next c.args.task (lone_at c.args.task w' mid) (answered_in mid.frames) mid.done mid.boxes)
+    w' c.open.new.live c.open.result
+    (opened_arm set c.args.task c.args.world.now c.args.live.now w' mid c.requires.can c.if-live-limits.false
+    (subst (λ (h : Halted). HasRunOn c.args.program.now c.args.limits.now.steps c.args.world.now c.args.live.now w' mid h) c.in-NewBox.is c.in-Ok.ensures.run)).0
+    c.open.ensures.counted c.open.ensures.comes
+
+pub ask-requires-clause-operands : goal.ask-requires-clause-operands
+ask-requires-clause-operands c =
+    (asked_arm (setting_of c.args.program.now c.args.main c.args.limits.now) c.args.task c.args.world.now c.args.live.now c.run_on.new.world c.run_on.new.live c.requires.can c.if-live-limits.false c.in-Asks.method
+    (subst (λ (h : Halted). HasRunOn c.args.program.now c.args.limits.now.steps c.args.world.now c.args.live.now c.run_on.new.world c.run_on.new.live h) c.in-Asks.is c.in-Ok.ensures.run)).operands
+
+pub ask-requires-clause-can : goal.ask-requires-clause-can
+ask-requires-clause-can c =
+    (asked_arm (setting_of c.args.program.now c.args.main c.args.limits.now) c.args.task c.args.world.now c.args.live.now c.run_on.new.world c.run_on.new.live c.requires.can c.if-live-limits.false c.in-Asks.method
+    (subst (λ (h : Halted). HasRunOn c.args.program.now c.args.limits.now.steps c.args.world.now c.args.live.now c.run_on.new.world c.run_on.new.live h) c.in-Asks.is c.in-Ok.ensures.run)).knows
+
+pub returns-in-Asks-clause-reaches : goal.returns-in-Asks-clause-reaches
+returns-in-Asks-clause-reaches c =
+    let set = setting_of c.args.program.now c.args.main c.args.limits.now in
+    let w' = c.run_on.new.world in
+    let mid = c.run_on.new.live in
+    let next = asks_next set (behind_at c.args.task w' mid) (operands_in mid.frames) (native_of c.args.program.now c.in-Asks.method) in
+    let at =
+    asked_arm set c.args.task c.args.world.now c.args.live.now w' mid c.requires.can c.if-live-limits.false c.in-Asks.method
+    (subst (λ (h : Halted). HasRunOn c.args.program.now c.args.limits.now.steps c.args.world.now c.args.live.now w' mid h) c.in-Asks.is c.in-Ok.ensures.run) in
+    over_ok (λ came. Comes c.args.task next w' mid w' c.ask.new.live came) (λ came. Reaches set c.args.task (lone_at c.args.task c.args.world.now c.args.live.now) c.args.live.now.done w' c.ask.new.live came)
+    (IsNear mid.done c.ask.new.live.done) c.ask.result (c.ask.ensures.comes set refl refl) c.ask.ensures.counted
+    (λ came comes near. came_by set c.args.task (lone_at c.args.task c.args.world.now c.args.live.now) c.args.live.now.done w' mid (omega (arith, c.in-Ok.ensures.run.counted)) next w' c.ask.new.live came at.stood near comes)
+
+pub returns-in-Returned-clause-reaches : goal.returns-in-Returned-clause-reaches
+returns-in-Returned-clause-reaches c =
+    let set = setting_of c.args.program.now c.args.main c.args.limits.now in
+    let w' = c.run_on.new.world in
+    let mid = c.run_on.new.live in
+    let next = finish_next set (lone_at c.args.task w' mid) mid.done mid.boxes (kept_for c.args.task w'.kept) in
+    over_ok (λ came. Comes c.args.task next w' mid c.leave.new.world c.leave.new.live came) (λ came. Reaches set c.args.task (lone_at c.args.task c.args.world.now c.args.live.now) c.args.live.now.done c.leave.new.world c.leave.new.live came)
+    (IsNear mid.done c.leave.new.live.done) c.leave.result (c.leave.ensures.comes set refl refl) c.leave.ensures.counted
+    (λ came comes near.
+    came_by set c.args.task (lone_at c.args.task c.args.world.now c.args.live.now) c.args.live.now.done w' mid (omega (arith, c.in-Ok.ensures.run.counted)) next c.leave.new.world c.leave.new.live came
+    (returned_arm set c.args.task c.args.world.now c.args.live.now w' mid c.requires.can c.if-live-limits.false
+    (subst (λ (h : Halted). HasRunOn c.args.program.now c.args.limits.now.steps c.args.world.now c.args.live.now w' mid h) c.in-Returned.is c.in-Ok.ensures.run)) near comes)
+
+pub returns-in-Ended-clause-reaches : goal.returns-in-Ended-clause-reaches
+returns-in-Ended-clause-reaches c =
+    ended_arm (setting_of c.args.program.now c.args.main c.args.limits.now) c.args.task c.args.world.now c.args.live.now c.run_on.new.world c.run_on.new.live c.requires.can c.if-live-limits.false c.in-Ended.cause
+    (subst (λ (h : Halted). HasRunOn c.args.program.now c.args.limits.now.steps c.args.world.now c.args.live.now c.run_on.new.world c.run_on.new.live h) c.in-Ended.is c.in-Ok.ensures.run)

@@ -1,0 +1,88 @@
+-- What a task comes to at a built-in method, against what a thread does next there.
+use Rattle.std.specs.Prelude.{◌≡◌, ◌<◌, ◌≤◌, ◌+◌, ◌-◌, ℕ, true, List, [], ◌∷◌, Option, Some}
+use Rattle.kilim_program.specs.Program.{Program}
+use Rattle.kilim_program.specs.declared.value.Value.{Value}
+use Rattle.kilim_program.specs.declared.value.Value.TheVariants.{Ref}
+use Rattle.kilim_run_state.specs.declared.frames.frames.Frames.{Frames}
+use Rattle.kilim_run_state.specs.declared.value.Token.{Token}
+use Rattle.kilim_run_state.specs.Machine.{Objects}
+use Rattle.kilim_run_state.specs.Words.{IsThere}
+use Rattle.kilim_run_machine.specs.Natives.{Native}
+use Rattle.kilim_run_model.specs.Lone.{Next, Goes, Puts, Gets, Probes, Starts, Prints, Ends}
+use Rattle.kilim_run_trees.specs.Shaping.{AllSuit}
+use Rattle.kilim_run_trees.specs.Walk.{AllThere}
+use Rattle.kilim_type_sound.specs.Fits.{AreThere}
+use Rattle.kilim_fiber_spec.specs.fiber_kin.Served.{gives_value}
+use Rattle.kilim_replay_laws.specs.shared.Shared.{HeapServes}
+use Rattle.kilim_replay_thread.specs.Live.{HasFrames, RoomIn, behind_at, calls_in, ended_at, lone_at}
+use Rattle.kilim_replay_thread.specs.Thread.{HasRun}
+use Rattle.kilim_replay_thread.specs.declared.runs.Halted.{Halted}
+use Rattle.kilim_replay_thread.specs.declared.task.Came.{Came}
+use Rattle.kilim_replay_thread.specs.declared.task.Came.TheVariants as came
+use Rattle.kilim_replay_thread.specs.declared.task.Live.{Live}
+use Rattle.kilim_replay_thread.specs.declared.task.World.{World}
+
+-- ---- a tree that is shown
+
+pub record CanShow (p : Program) (h : Objects) (root : ℕ) : Type 0 where
+  pub there : AllThere h root
+  pub suits : AllSuit p h
+
+abbrev pub IsShownValue : Program → Objects → Value → Type 0
+IsShownValue p h (Ref n) = CanShow p h n
+IsShownValue p h v = Unit {0}
+
+-- ---- what comes
+
+-- the same count, or one instruction more
+pub record IsNear (old new : ℕ) : Type 0 where
+  pub least : old ≤ new
+  pub most : new ≤ old + 1
+
+-- one instruction further
+pub record IsFurther (t : ℕ) (next : Next) (old : Live) (w : World) (new : Live) : Type 0 where
+  pub goes : next ≡ Goes (lone_at t w new)
+  pub counted : old.done < new.done
+
+-- nothing was changed
+pub record IsSame (w : World) (l : Live) (w' : World) (l' : Live) : Type 0 where
+  pub world : w' ≡ w
+  pub live : l' ≡ l
+
+-- The thread of that task does the same next. What it does is still to be done, but for an end.
+abbrev pub Comes : ℕ → Next → World → Live → World → Live → Came → Type 0
+Comes t next w l w' l' came.On = IsFurther t next l w' l'
+Comes t next w l w' l' (came.Puts box root shape) = (next ≡ Puts box root shape (behind_at t w l)) × IsSame w l w' l'
+Comes t next w l w' l' (came.Takes box) = (next ≡ Gets box (behind_at t w l)) × IsSame w l w' l'
+Comes t next w l w' l' (came.Probes box) = (next ≡ Probes box (behind_at t w l)) × IsSame w l w' l'
+Comes t next w l w' l' (came.Starts root shape) = (next ≡ Starts root shape (behind_at t w l)) × IsSame w l w' l'
+Comes t next w l w' l' (came.Prints shape) = (token : Token) × (shape ≡ token ∷ []) × (next ≡ Prints token (behind_at t w l)) × IsSame w l w' l'
+Comes t next w l w' l' (came.Ends why) = (next ≡ Ends why (ended_at w why)) × (w' ≡ w)
+
+-- It stands at an instruction, and there is room for the result that it is to get. The task object is there.
+abbrev pub HasRoomFor : Program → World → Live → Came → Type 0
+HasRoomFor p w l came.On = Unit {0}
+HasRoomFor p w l (came.Puts box root shape) = HasFrames l.frames
+HasRoomFor p w l (came.Takes box) = RoomIn p l.frames
+HasRoomFor p w l (came.Probes box) = RoomIn p l.frames
+HasRoomFor p w l (came.Starts root shape) = HasFrames l.frames × IsThere w.heap root
+HasRoomFor p w l (came.Prints shape) = HasFrames l.frames
+HasRoomFor p w l (came.Ends why) = Unit {0}
+
+-- what is known where a built-in method is called
+pub record CanAsk (p : Program) (n : Option Native) (args : List Value) (w : World) (l : Live) : Type 0 where
+  pub room : gives_value n ≡ true → RoomIn p l.frames
+  pub there : AreThere w.heap args
+  pub heap : HeapServes p w.heap
+
+-- ---- many instructions
+
+-- The steps up to a limit, the steps that were made, and what ended them.
+pub record HasRunOn (p : Program) (limit : ℕ) (w : World) (l : Live) (w' : World) (l' : Live) (halted : Halted) : Type 0 where
+  pub frames : Frames
+  pub are : l'.frames ≡ Some frames
+  pub steps : ℕ
+  pub counted : l'.done ≡ l.done + steps
+  pub ran : HasRun p (limit - l.done) (calls_in l.frames) w.heap w.next steps halted frames w'.heap w'.next
+  pub boxes : l'.boxes ≡ l.boxes
+  pub kept : w'.kept ≡ w.kept

@@ -1,0 +1,6 @@
+pub mod Thread
+pub mod Live
+pub mod Operands
+pub mod Comes
+pub mod Begins
+pub mod Reach

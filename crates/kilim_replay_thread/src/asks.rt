@@ -1,0 +1,367 @@
+//! A built-in method that is called.
+
+ghost use Rattle.std.specs.Prelude.{◌≡◌, ◌<◌, ◌≤◌, ◌+◌, ◌^◌, ◌∷◌, [], length, Some, IfOk, OnOk};
+ghost use Rattle.kilim_program.specs.declared.value.Value.TheVariants as a_value;
+ghost use Rattle.kilim_run_machine.specs.Natives.{native_of};
+ghost use Rattle.kilim_run_state.specs.Shapes.{shape_of};
+ghost use Rattle.kilim_run_model.specs.State.{Setting};
+ghost use Rattle.kilim_run_model.specs.Lone.{Goes, pushed, narrowed, arg_at, arg_next, printed, print_next, message_next, put_next, start_next, native_next, asks_next};
+ghost use Rattle.kilim_fiber_steps.specs.records.natives.Natives.{meaning};
+ghost use Rattle.kilim_replay_laws.specs.shared.Shared.{HeapServes};
+ghost use Rattle.kilim_replay_thread.specs.Comes.{CanAsk, CanShow, Comes, HasRoomFor, IsNear, IsShownValue};
+ghost use Rattle.kilim_replay_thread.specs.Live.{HasFrames, HasOperands, RoomIn, RoomyIn, behind_at, operands_in};
+ghost use Rattle.kilim_replay_thread.specs.Operands.{AreCopies};
+
+use crate::operands::{Operands, copy_operands};
+use crate::pass::{go_on, go_on_with};
+use crate::task::{Came, Live, World};
+use kilim_fiber_steps::records::natives::{Native, native_of};
+use kilim_program::{BoxName, MethodId, Program, Value};
+use kilim_run_state::{EndCause, Limits, Shape, Token};
+use kilim_run_trees::shape_at;
+use kilim_units::{NoMemory, Seq, unmet};
+use std::alloc::Global;
+
+// The low 32 bits as a signed number.
+fn narrowed(n: usize) -> i32
+    ensures { result ≡ narrowed n }
+{
+    let low = (n % 4_294_967_296) as u32;
+    low.cast_signed()
+}
+
+// `argCount`
+fn count_args(program: &Program, limits: &Limits, task: u32, world: &World, live: &mut Live) -> Came
+    requires roomy { RoomyIn program.now live.old.frames }
+    requires room { RoomIn program.now live.old.frames }
+    requires counts { live.old.done + 1 < 2 ^ 64 }
+    ensures comes { Comes task (Goes (pushed (a_value.Int (narrowed (length limits.now.args))) (behind_at task world.now live.old))) world.now live.old world.now live.new result }
+    ensures roomy { RoomyIn program.now live.new.frames }
+    ensures counted { IsNear live.old.done live.new.done }
+    ensures room { HasRoomFor program.now world.now live.new result }
+{
+    let _ = task;
+    let _ = world;
+    go_on_with(program, live, Value::Int(narrowed(limits.args.len())));
+    Came::On
+}
+
+// The number of an index among the arguments.
+fn arg_at(args: &Seq<i32>, index: &i32) -> Option<i32>
+    ensures { result ≡ arg_at args.now index.now }
+{
+    match usize::try_from(*index) {
+        Ok(at) => args.as_slice().get(at).copied(),
+        Err(_) => None,
+    }
+}
+
+// `arg`
+fn arg(
+    program: &Program,
+    limits: &Limits,
+    index: &i32,
+    task: u32,
+    world: &World,
+    live: &mut Live,
+) -> Came
+    requires roomy { RoomyIn program.now live.old.frames }
+    requires room { RoomIn program.now live.old.frames }
+    requires counts { live.old.done + 1 < 2 ^ 64 }
+    ensures comes { Comes task (arg_next (behind_at task world.now live.old) (arg_at limits.now.args index.now)) world.now live.old world.now live.new result }
+    ensures roomy { RoomyIn program.now live.new.frames }
+    ensures counted { IsNear live.old.done live.new.done }
+    ensures room { HasRoomFor program.now world.now live.new result }
+{
+    let _ = task;
+    let _ = world;
+    match arg_at(&limits.args, index) {
+        Some(number) => {
+            go_on_with(program, live, Value::Int(number));
+            Came::On
+        }
+        None => Came::Ends(EndCause::Index),
+    }
+}
+
+// The token of a printed value; no verified code prints another one.
+fn printed(value: &Value) -> Result<Option<Token>, NoMemory>
+    ensures { IfOk result (λ token. token ≡ printed value.now) }
+{
+    match value {
+        Value::Int(n) => Ok(Some(Token::Int(*n))),
+        Value::Long(n) => Ok(Some(Token::Long(*n))),
+        Value::Null => Ok(Some(Token::Null)),
+        Value::Text(units) => match units.clone() {
+            Ok(copy) => Ok(Some(Token::Text(copy))),
+            Err(_) => Err(NoMemory),
+        },
+        Value::Ref(_) | Value::Box(_) | Value::Fiber => Ok(None),
+    }
+}
+
+fn one_token(alloc: Global, token: Token) -> Result<Shape, NoMemory>
+    ensures { IfOk result (λ shape. shape ≡ token ∷ []) }
+{
+    let mut shape = Seq::new(alloc);
+    let Ok(()) = shape.push(token) else {
+        return Err(NoMemory);
+    };
+    Ok(shape)
+}
+
+// `print`
+fn print(
+    alloc: Global,
+    program: &Program,
+    value: &Value,
+    task: u32,
+    world: &World,
+    live: &Live,
+) -> Result<Came, NoMemory>
+    requires frames { HasFrames live.now.frames }
+    ensures comes { IfOk result (λ came. Comes task (print_next (behind_at task world.now live.now) (printed value.now)) world.now live.now world.now live.now came) }
+    ensures room { IfOk result (λ came. HasRoomFor program.now world.now live.now came) }
+{
+    let _ = program;
+    let _ = task;
+    let _ = world;
+    let _ = live;
+    match printed(value) {
+        Ok(Some(token)) => match one_token(alloc, token) {
+            Ok(shape) => Ok(Came::Prints(shape)),
+            Err(fault) => Err(fault),
+        },
+        // unmet: `print` is declared of ints, longs and strings alone
+        Ok(None) => Err(unmet()),
+        Err(fault) => Err(fault),
+    }
+}
+
+// `put` of a message
+fn put_tree(
+    alloc: Global,
+    program: &Program,
+    mailbox: BoxName,
+    root: u32,
+    task: u32,
+    world: &World,
+    live: &Live,
+) -> Result<Came, NoMemory>
+    requires frames { HasFrames live.now.frames }
+    requires shown { CanShow program.now world.now.heap root }
+    ensures comes { IfOk result (λ came. Comes task (put_next (behind_at task world.now live.now) mailbox root (shape_of program.now world.now.heap root)) world.now live.now world.now live.now came) }
+    ensures room { IfOk result (λ came. HasRoomFor program.now world.now live.now came) }
+{
+    let _ = task;
+    let _ = live;
+    match shape_at(alloc, program, &world.heap, root) {
+        Ok(Some(shape)) => Ok(Came::Puts(mailbox, root, shape)),
+        Ok(None) => Ok(Came::Ends(EndCause::Large)),
+        Err(fault) => Err(fault),
+    }
+}
+
+// `put`
+fn put(
+    alloc: Global,
+    program: &Program,
+    mailbox: BoxName,
+    message: &Value,
+    task: u32,
+    world: &World,
+    live: &Live,
+) -> Result<Came, NoMemory>
+    requires frames { HasFrames live.now.frames }
+    requires shown { IsShownValue program.now world.now.heap message.now }
+    ensures comes { IfOk result (λ came. Comes task (message_next program.now (behind_at task world.now live.now) mailbox message.now) world.now live.now world.now live.now came) }
+    ensures room { IfOk result (λ came. HasRoomFor program.now world.now live.now came) }
+{
+    match message {
+        Value::Null => Ok(Came::Ends(EndCause::Null)),
+        Value::Ref(root) => put_tree(alloc, program, mailbox, *root, task, world, live),
+        // unmet: `put` is declared of messages
+        _ => Err(unmet()),
+    }
+}
+
+// `start`
+fn start(
+    alloc: Global,
+    program: &Program,
+    root: u32,
+    task: u32,
+    world: &World,
+    live: &Live,
+) -> Result<Came, NoMemory>
+    requires frames { HasFrames live.now.frames }
+    requires shown { CanShow program.now world.now.heap root }
+    ensures comes { IfOk result (λ came. Comes task (start_next (behind_at task world.now live.now) root (shape_of program.now world.now.heap root)) world.now live.now world.now live.now came) }
+    ensures room { IfOk result (λ came. HasRoomFor program.now world.now live.now came) }
+{
+    let _ = task;
+    let _ = live;
+    match shape_at(alloc, program, &world.heap, root) {
+        Ok(Some(shape)) => Ok(Came::Starts(root, shape)),
+        Ok(None) => Ok(Came::Ends(EndCause::Large)),
+        Err(fault) => Err(fault),
+    }
+}
+
+// A method without arguments.
+fn ask_of_none(
+    program: &Program,
+    limits: &Limits,
+    native: Native,
+    task: u32,
+    world: &World,
+    live: &mut Live,
+) -> Result<Came, NoMemory>
+    requires frames { HasFrames live.old.frames }
+    requires roomy { RoomyIn program.now live.old.frames }
+    requires counts { live.old.done + 1 < 2 ^ 64 }
+    requires can { CanAsk program.now (Some (meaning native)) [] world.now live.old }
+    ensures comes { (set : Setting) → set.program ≡ program.now → set.limits ≡ limits.now → IfOk result (λ came. Comes task (native_next set (behind_at task world.now live.old) (meaning native) []) world.now live.old world.now live.new came) }
+    ensures roomy { OnOk result (RoomyIn program.now live.new.frames) }
+    ensures counted { OnOk result (IsNear live.old.done live.new.done) }
+    ensures room { IfOk result (λ came. HasRoomFor program.now world.now live.new came) }
+{
+    match native {
+        Native::Yield => {
+            go_on(program, live);
+            Ok(Came::On)
+        }
+        Native::ArgCount => Ok(count_args(program, limits, task, world, live)),
+        // unmet: the other built-in methods that are handed out have arguments
+        _ => Err(unmet()),
+    }
+}
+
+// A method of one argument, which may be its receiver.
+fn ask_of_one(
+    alloc: Global,
+    program: &Program,
+    limits: &Limits,
+    native: Native,
+    value: &Value,
+    task: u32,
+    world: &World,
+    live: &mut Live,
+) -> Result<Came, NoMemory>
+    requires frames { HasFrames live.old.frames }
+    requires roomy { RoomyIn program.now live.old.frames }
+    requires counts { live.old.done + 1 < 2 ^ 64 }
+    requires can { CanAsk program.now (Some (meaning native)) (value.now ∷ []) world.now live.old }
+    ensures comes { (set : Setting) → set.program ≡ program.now → set.limits ≡ limits.now → IfOk result (λ came. Comes task (native_next set (behind_at task world.now live.old) (meaning native) (value.now ∷ [])) world.now live.old world.now live.new came) }
+    ensures roomy { OnOk result (RoomyIn program.now live.new.frames) }
+    ensures counted { OnOk result (IsNear live.old.done live.new.done) }
+    ensures room { IfOk result (λ came. HasRoomFor program.now world.now live.new came) }
+{
+    match (native, value) {
+        (Native::Execute, Value::Ref(_)) => {
+            go_on(program, live);
+            Ok(Came::On)
+        }
+        (Native::Start, Value::Ref(root)) => start(alloc, program, *root, task, world, live),
+        (Native::Get, Value::Box(mailbox)) => Ok(Came::Takes(*mailbox)),
+        (Native::Getnb, Value::Box(mailbox)) => Ok(Came::Probes(*mailbox)),
+        (Native::Print, value) => print(alloc, program, value, task, world, live),
+        (Native::Arg, Value::Int(index)) => Ok(arg(program, limits, index, task, world, live)),
+        // unmet: verified code passes values of the declared types, and no null as the receiver
+        _ => Err(unmet()),
+    }
+}
+
+// A method of two arguments.
+fn ask_of_two(
+    alloc: Global,
+    program: &Program,
+    native: Native,
+    first: &Value,
+    second: &Value,
+    task: u32,
+    world: &World,
+    live: &Live,
+) -> Result<Came, NoMemory>
+    requires frames { HasFrames live.now.frames }
+    requires can { CanAsk program.now (Some (meaning native)) (first.now ∷ second.now ∷ []) world.now live.now }
+    ensures comes { (set : Setting) → set.program ≡ program.now → IfOk result (λ came. Comes task (native_next set (behind_at task world.now live.now) (meaning native) (first.now ∷ second.now ∷ [])) world.now live.now world.now live.now came) }
+    ensures room { IfOk result (λ came. HasRoomFor program.now world.now live.now came) }
+{
+    match (native, first) {
+        (Native::Put, Value::Box(mailbox)) => {
+            put(alloc, program, *mailbox, second, task, world, live)
+        }
+        // unmet: `put` alone has two arguments, of which the first is a mailbox that isn't null
+        _ => Err(unmet()),
+    }
+}
+
+// The method, with copies of its operands.
+fn ask_with(
+    alloc: Global,
+    program: &Program,
+    limits: &Limits,
+    native: Native,
+    operands: &Operands,
+    task: u32,
+    world: &World,
+    live: &mut Live,
+) -> Result<Came, NoMemory>
+    requires frames { HasFrames live.old.frames }
+    requires operands { AreCopies (operands_in live.old.frames) operands.now }
+    requires roomy { RoomyIn program.now live.old.frames }
+    requires counts { live.old.done + 1 < 2 ^ 64 }
+    requires can { CanAsk program.now (Some (meaning native)) (operands_in live.old.frames) world.now live.old }
+    ensures comes { (set : Setting) → set.program ≡ program.now → set.limits ≡ limits.now → IfOk result (λ came. Comes task (native_next set (behind_at task world.now live.old) (meaning native) (operands_in live.old.frames)) world.now live.old world.now live.new came) }
+    ensures roomy { OnOk result (RoomyIn program.now live.new.frames) }
+    ensures counted { OnOk result (IsNear live.old.done live.new.done) }
+    ensures room { IfOk result (λ came. HasRoomFor program.now world.now live.new came) }
+{
+    match operands {
+        Operands::None => ask_of_none(program, limits, native, task, world, live),
+        Operands::One(value) => ask_of_one(
+            alloc, program, limits, native, value, task, world, live,
+        ),
+        Operands::Two(first, second) => ask_of_two(
+            alloc, program, native, first, second, task, world, live,
+        ),
+        // unmet: no built-in method of a plain program has more than two arguments
+        Operands::More => Err(unmet()),
+    }
+}
+
+/// A built-in method that is called, with the operands that the frames tell.
+pub fn ask(
+    alloc: Global,
+    program: &Program,
+    limits: &Limits,
+    method: MethodId,
+    task: u32,
+    world: &World,
+    live: &mut Live,
+) -> Result<Came, NoMemory>
+    requires frames { HasFrames live.old.frames }
+    requires operands { HasOperands live.old.frames }
+    requires roomy { RoomyIn program.now live.old.frames }
+    requires counts { live.old.done + 1 < 2 ^ 64 }
+    requires can { CanAsk program.now (native_of program.now method) (operands_in live.old.frames) world.now live.old }
+    ensures comes { (set : Setting) → set.program ≡ program.now → set.limits ≡ limits.now → IfOk result (λ came. Comes task (asks_next set (behind_at task world.now live.old) (operands_in live.old.frames) (native_of program.now method)) world.now live.old world.now live.new came) }
+    ensures roomy { OnOk result (RoomyIn program.now live.new.frames) }
+    ensures counted { OnOk result (IsNear live.old.done live.new.done) }
+    ensures room { IfOk result (λ came. HasRoomFor program.now world.now live.new came) }
+{
+    let Some(native) = native_of(program, method) else {
+        // unmet: such a method is one of those that are handed out
+        return Err(unmet());
+    };
+    let Some(frames) = &live.frames else {
+        unreachable!()
+    };
+    let Ok(operands) = copy_operands(frames) else {
+        return Err(NoMemory);
+    };
+    let asked = ask_with(alloc, program, limits, native, &operands, task, world, live);
+    drop(operands);
+    asked
+}
