@@ -1,4 +1,4 @@
 mod Shapes
-mod Nexts
+pub mod Nexts
 mod Deeds
 pub mod Runs
