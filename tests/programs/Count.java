@@ -1,6 +1,6 @@
 import kilim.*;
 
-/** Counts, five simple instructions a turn. */
+/** Counts, six simple instructions a turn. */
 class Count extends Task {
     public void execute() throws Pausable {
         Sys.print(counted(Sys.arg(0)));

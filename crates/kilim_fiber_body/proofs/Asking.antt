@@ -76,7 +76,7 @@ member_same l native.Receiver (Fiber ∷ []) (Fiber_at lo r [] re pa) = refl
 member_same l native.Receiver (Fiber ∷ []) (Fiber_at lo r (Saved q x vs ∷ de) re pa) = refl
 member_same l _ _ _ = refl
 
-stands_by : (member : native.FiberMember) (args : List Value) (l : Standing) → did member args l.fiber ≡ NotDone → member_next member args l ≡ Stands
+pub stands_by : (member : native.FiberMember) (args : List Value) (l : Standing) → did member args l.fiber ≡ NotDone → member_next member args l ≡ Stands
 stands_by member args l e = sym (member_same l member args l.fiber) ∙ ap (next_by l) e
 
 pub put_made : (limits : Limits) (l : Standing) (n : Native) (box : BoxName) (first v : Value) → n ≡ code.Put → first ≡ Box box → IsMade limits l (first ∷ v ∷ []) (Some (meaning n)) → (q : Program) × (message_next q l box v ≡ Stands → ⊥)

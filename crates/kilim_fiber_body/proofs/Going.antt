@@ -37,7 +37,7 @@ use Rattle.kilim_fiber_body.specs.Reach.{AtFirst, Further, GoesTo, IsReadyOn}
 use Rattle.kilim_fiber_body.specs.Steps.{MoveFits}
 use Rattle.kilim_fiber_body.specs.declared.body.Body.{Body}
 
-not_both : {b : Bool} → b ≡ true → b ≡ false → ⊥
+pub not_both : {b : Bool} → b ≡ true → b ≡ false → ⊥
 not_both e d = cc
 
 -- ---- counts
@@ -73,48 +73,49 @@ few_before false limit n m few e = (omega (arith, few, e), λ d. absurd (not_bot
 
 -- ---- the fiber
 
-module _ (set : Setting) (W : Program) (marks : List (List Bool)) (t : ℕ) (b : Body) (live : Bool) (live-is : live ≡ not (is_rewinding b.records)) (limit : ℕ) (all : b.count + limit ≡ set.limits.steps) where
-  abbrev at_ : ℕ → ℕ → List Activation → Objects → Standing
-  at_ x n calls k = record { frames = calls; fiber = b.records; heap = k; next = x; done = b.count + n; boxes = b.boxes; kept = b.kept }
+-- from these frames, this heap and this count, with what else a body has
+module _ (set : Setting) (W : Program) (marks : List (List Bool)) (t : ℕ) (b : Body) (cs : List Activation) (hs : Objects) (ds : ℕ) (live : Bool) (live-is : live ≡ not (is_rewinding b.records)) (limit : ℕ) (all : ds + limit ≡ set.limits.steps) where
+  abbrev pub at_ : ℕ → ℕ → List Activation → Objects → Standing
+  at_ x n calls k = record { frames = calls; fiber = b.records; heap = k; next = x; done = ds + n; boxes = b.boxes; kept = b.kept }
 
-  abbrev first : Standing
-  first = standing_at 0 b
+  abbrev pub first : Standing
+  first = record { frames = cs; fiber = b.records; heap = hs; next = 0; done = ds; boxes = b.boxes; kept = b.kept }
 
   -- the next instruction has that mark, and may be done
-  abbrev IsLeft : ℕ → Bool → Type 0
+  abbrev pub IsLeft : ℕ → Bool → Type 0
   IsLeft n mark = (mark && live) ≡ true → n < limit
 
   -- what comes next, by the next move
   spent_or_next : (x n : ℕ) (mark : Bool) (top : Activation) (below : List Activation) (k : Objects) → IsMark W marks top.method top.place mark →
-      next_of set W marks t (at_ x n (top ∷ below) k) ≡ spent_or set (mark && live) (b.count + n) (next_by set W t (mark && live) (at_ x n (top ∷ below) k) (moves W top below k))
+      next_of set W marks t (at_ x n (top ∷ below) k) ≡ spent_or set (mark && live) (ds + n) (next_by set W t (mark && live) (at_ x n (top ∷ below) k) (moves W top below k))
   unfolding next_of
   spent_or_next x n mark top below k is =
       let l = at_ x n (top ∷ below) k in
       ap (λ (z : Option (Instr × ℕ × Bool)). found_next set W t l top below z) is.at
-      ∙ (ap (λ (z : Bool). spent_or set (z && not (is_rewinding b.records)) (b.count + n) (next_by set W t (z && not (is_rewinding b.records)) l (moves W top below k))) is.is
-      ∙ ap (λ (z : Bool). spent_or set (mark && z) (b.count + n) (next_by set W t (mark && z) l (moves W top below k))) (sym live-is))
+      ∙ (ap (λ (z : Bool). spent_or set (z && not (is_rewinding b.records)) (ds + n) (next_by set W t (z && not (is_rewinding b.records)) l (moves W top below k))) is.is
+      ∙ ap (λ (z : Bool). spent_or set (mark && z) (ds + n) (next_by set W t (mark && z) l (moves W top below k))) (sym live-is))
 
-  next_here : (x n : ℕ) (mark : Bool) (top : Activation) (below : List Activation) (k : Objects) → IsMark W marks top.method top.place mark → IsLeft n mark →
+  pub next_here : (x n : ℕ) (mark : Bool) (top : Activation) (below : List Activation) (k : Objects) → IsMark W marks top.method top.place mark → IsLeft n mark →
       next_of set W marks t (at_ x n (top ∷ below) k) ≡ next_by set W t (mark && live) (at_ x n (top ∷ below) k) (moves W top below k)
   next_here x n mark top below k is left =
       spent_or_next x n mark top below k is
-      ∙ ap (λ (z : Bool). cond z (Ends cause.Spent) (next_by set W t (mark && live) (at_ x n (top ∷ below) k) (moves W top below k))) (unspent (mark && live) set.limits.steps b.count limit n all left)
+      ∙ ap (λ (z : Bool). cond z (Ends cause.Spent) (next_by set W t (mark && live) (at_ x n (top ∷ below) k) (moves W top below k))) (unspent (mark && live) set.limits.steps ds limit n all left)
 
-  not_spent : (n : ℕ) (mark : Bool) (top : Activation) (below : List Activation) (k : Objects) → IsMark W marks top.method top.place mark → IsLeft n mark → spends_at set W marks (at_ 0 n (top ∷ below) k) top ≡ false
+  pub not_spent : (n : ℕ) (mark : Bool) (top : Activation) (below : List Activation) (k : Objects) → IsMark W marks top.method top.place mark → IsLeft n mark → spends_at set W marks (at_ 0 n (top ∷ below) k) top ≡ false
   not_spent n mark top below k is left =
       ap (λ (z : Option (Instr × ℕ × Bool)). spends set z (at_ 0 n (top ∷ below) k)) is.at
-      ∙ (ap (λ (z : Bool). (z && not (is_rewinding b.records)) && nat_le set.limits.steps (b.count + n)) is.is
-      ∙ (ap (λ (z : Bool). (mark && z) && nat_le set.limits.steps (b.count + n)) (sym live-is) ∙ unspent (mark && live) set.limits.steps b.count limit n all left))
+      ∙ (ap (λ (z : Bool). (z && not (is_rewinding b.records)) && nat_le set.limits.steps (ds + n)) is.is
+      ∙ (ap (λ (z : Bool). (mark && z) && nat_le set.limits.steps (ds + n)) (sym live-is) ∙ unspent (mark && live) set.limits.steps ds limit n all left))
 
   -- one instruction further
   further_on : (n : ℕ) (mark : Bool) (top : Activation) (below : List Activation) (k : Objects) (calls : List Activation) (y : Objects) → IsMark W marks top.method top.place mark → IsLeft n mark →
       GoesTo set W marks t first (at_ 0 n (top ∷ below) k) → IsWent (moves W top below k) calls k y → GoesTo set W marks t first (at_ 0 (tick_if (mark && live) n) calls y)
   further_on n mark top below k calls y is left goes (RanOn change e) =
       Further (at_ 0 n (top ∷ below) k) 0 0 goes (λ end makes. absurd (not_both makes (ap is_making e)))
-      (next_here 0 n mark top below k is left ∙ (ap (next_by set W t (mark && live) (at_ 0 n (top ∷ below) k)) e ∙ ap Goes (one_ticked (mark && live) (at_ 0 n calls y) b.count n)))
+      (next_here 0 n mark top below k is left ∙ (ap (next_by set W t (mark && live) (at_ 0 n (top ∷ below) k)) e ∙ ap Goes (one_ticked (mark && live) (at_ 0 n calls y) ds n)))
   further_on n mark top below k calls y is left goes (MadeOne object at before e pushed free now) =
       Further (at_ 0 n (top ∷ below) k) at (at + 1) goes (λ end makes. free)
-      (next_here at n mark top below k is left ∙ (ap (next_by set W t (mark && live) (at_ at n (top ∷ below) k)) e ∙ (ap Goes (one_ticked (mark && live) (at_ (at + 1) n (push_value (Ref at) before) (insert k at object)) b.count n)
+      (next_here at n mark top below k is left ∙ (ap (next_by set W t (mark && live) (at_ at n (top ∷ below) k)) e ∙ (ap Goes (one_ticked (mark && live) (at_ (at + 1) n (push_value (Ref at) before) (insert k at object)) ds n)
       ∙ (λ i. Goes (at_ (at + 1) (tick_if (mark && live) n) (sym pushed i) (sym now i))))))
 
   step_on : (n m : ℕ) (mark : Bool) (mid : List Activation) (x : Objects) (calls : List Activation) (k : Objects) → IsLeft m mark → n ≡ tick_if (mark && live) m → NextHas W marks mark mid → StepsTo W mid x calls k → GoesTo set W marks t first (at_ 0 m mid x) → GoesTo set W marks t first (at_ 0 n calls k)
@@ -122,23 +123,23 @@ module _ (set : Setting) (W : Program) (marks : List (List Bool)) (t : ℕ) (b :
   step_on n m mark (top ∷ below) x calls k left more has step goes =
       subst (λ (q : ℕ). GoesTo set W marks t first (at_ 0 q calls k)) (sym more) (further_on m mark top below x calls k has left goes step)
 
-  goes_on : (n : ℕ) (calls : List Activation) (k : Objects) → n ≤ limit → CountedRunsTo W marks live (calls_in b.frames) b.heap n calls k → GoesTo set W marks t first (at_ 0 n calls k)
+  pub goes_on : (n : ℕ) (calls : List Activation) (k : Objects) → n ≤ limit → CountedRunsTo W marks live (cs) hs n calls k → GoesTo set W marks t first (at_ 0 n calls k)
   goes_on n calls k few (counted.AtFirst z same heap) =
-      let e = none_more b.count n z in
+      let e = none_more ds n z in
       AtFirst (λ i. record { frames = same i; fiber = b.records; heap = heap i; next = 0; done = e i; boxes = b.boxes; kept = b.kept })
   goes_on n calls k few (counted.Further mark m mid x runs has step more) =
       let before = few_before (mark && live) limit n m few more in
       step_on n m mark mid x calls k before.1 more has step (goes_on m mid x before.0 runs)
 
   -- each step is safe
-  pub safe_going : IsReadyOn set W marks t first → IsCountedSafe W marks live limit (calls_in b.frames) b.heap
+  pub safe_going : IsReadyOn set W marks t first → IsCountedSafe W marks live limit (cs) hs
   safe_going ready = λ n mark top below k few left runs has. (ready (at_ 0 n (top ∷ below) k) (goes_on n (top ∷ below) k few runs)).fine top below refl (not_spent n mark top below k has left)
 
   -- ---- what ends it
 
   -- the body with what the run left
-  abbrev after : ℕ → Frames → Objects → Body
-  after n new k = record b { frames = Some new; heap = k; count = b.count + n }
+  abbrev pub after : ℕ → Frames → Objects → Body
+  after n new k = record b { frames = Some new; heap = k; count = ds + n }
 
   -- a next move that makes no object
   comes_by : (n : ℕ) (mark : Bool) (top : Activation) (below : List Activation) (k : Objects) (w : Move) → IsMark W marks top.method top.place mark → IsLeft n mark → moves W top below k ≡ w → is_making w ≡ false → GoesTo set W marks t first (at_ 0 n (top ∷ below) k) →
@@ -214,7 +215,7 @@ module _ (set : Setting) (W : Program) (marks : List (List Bool)) (t : ℕ) (b :
     over : IsMark W marks top.method top.place mark → counts ≡ true → n ≡ limit → ComesTo set W marks t first (Ends cause.Spent)
     over is counts-is full =
         let next : next_of set W marks t l ≡ Ends cause.Spent =
-        spent_or_next 0 n mark top below h is ∙ ap (λ (z : Bool). cond z (Ends cause.Spent) (next_by set W t counts l (moves W top below h))) (spent counts set.limits.steps b.count limit n all counts-is full) in
+        spent_or_next 0 n mark top below h is ∙ ap (λ (z : Bool). cond z (Ends cause.Spent) (next_by set W t counts l (moves W top below h))) (spent counts set.limits.steps ds limit n all counts-is full) in
         record { mid = l; goes = goes; free = 0; is-free = λ end. absurd (not_both (ap is_end next) end); is = next }
 
   gone_on : (n : ℕ) (mark : Bool) (calls : List Activation) (h : Objects) (halt : Halted) (new : Frames) (k : Objects) → IsReadyOn set W marks t first → GoesTo set W marks t first (at_ 0 n calls h) → IsCountedLast W marks live limit n calls h mark halt new k →
@@ -231,5 +232,5 @@ module _ (set : Setting) (W : Program) (marks : List (List Bool)) (t : ℕ) (b :
   gone_on n mark [] h (halted.Ended why) new k ready goes r = absurd r.has
   gone_on n mark (top ∷ below) h (halted.Ended why) new k ready goes r = ended_by ready n mark top below h new k goes why (moves W top below h) r.has r.left refl r.step
 
-  pub gone_to : (n : ℕ) (mark : Bool) (halt : Halted) (new : Frames) (k : Objects) → IsReadyOn set W marks t first → HasCountedRun W marks live limit (calls_in b.frames) b.heap n mark halt new k → HasGone set W marks t first (after n new k) (mark && live) halt
+  pub gone_to : (n : ℕ) (mark : Bool) (halt : Halted) (new : Frames) (k : Objects) → IsReadyOn set W marks t first → HasCountedRun W marks live limit (cs) hs n mark halt new k → HasGone set W marks t first (after n new k) (mark && live) halt
   gone_to n mark halt new k ready run = gone_on n mark run.calls run.heap halt new k ready (goes_on n run.calls run.heap run.most run.runs) run.last

@@ -4,6 +4,7 @@ ghost use Rattle.std.specs.Prelude.{◌≡◌, IfOk, IfSome, Some};
 ghost use Rattle.std.proofs.Props.{props};
 ghost use Rattle.kilim_program.specs.Members.{execute_of};
 ghost use Rattle.kilim_run_machine.specs.Natives.{native_of};
+ghost use Rattle.kilim_run_interp.specs.instruction.Reached.{AreReached};
 ghost use Rattle.kilim_fiber_steps.specs.records.natives.Natives.{meaning};
 ghost use Rattle.kilim_fiber_steps.specs.records.natives.Tables.{AreExecutes, AreNatives};
 
@@ -12,6 +13,7 @@ use kilim_fiber_steps::records::natives::{
     Native, execute_at, execute_of, execute_table, native_at, native_table,
 };
 use kilim_program::{ClassId, MethodId, Program};
+use kilim_run_interp::instruction::{Reach, reach_table};
 use kilim_units::{NoMemory, Seq};
 use std::alloc::Global;
 
@@ -30,17 +32,21 @@ pub struct Code {
     natives: Vec<Option<Native>>,
     // the method `execute` that the objects of each class have
     executes: Vec<Option<MethodId>>,
+    // what calls of each method come to
+    reached: Vec<Reach>,
     ghost natives_are: { AreNatives program natives.items } by { Prim.hlevel props },
     ghost executes_are: { AreExecutes program executes.items } by { Prim.hlevel props },
+    ghost reached_are: { AreReached program reached.items } by { Prim.hlevel props },
 }
 
-// The tables of a woven program: the places, and which built-in method and which `execute` stand where.
+// The tables of a woven program: the places, and which built-in method and which `execute` stand where, and what calls come to.
 fn tables_of(
     alloc: Global,
     program: &Program,
-) -> Result<(Places, Vec<Option<Native>>, Vec<Option<MethodId>>), NoMemory>
+) -> Result<(Places, Vec<Option<Native>>, Vec<Option<MethodId>>, Vec<Reach>), NoMemory>
     ensures natives { IfOk result (λ tables. AreNatives program.now tables.1.items) }
     ensures executes { IfOk result (λ tables. AreExecutes program.now tables.2.items) }
+    ensures reached { IfOk result (λ tables. AreReached program.now tables.3.items) }
 {
     let Ok(places) = Places::new(alloc, program) else {
         return Err(NoMemory);
@@ -51,7 +57,10 @@ fn tables_of(
     let Ok(executes) = execute_table(alloc, program) else {
         return Err(NoMemory);
     };
-    Ok((places, natives, executes))
+    let Ok(reached) = reach_table(alloc, program) else {
+        return Err(NoMemory);
+    };
+    Ok((places, natives, executes, reached))
 }
 
 impl Code {
@@ -65,13 +74,14 @@ impl Code {
         ensures { IfOk result (λ code. (code.plain ≡ plain) × (code.program ≡ program) × (code.counted ≡ counted)) }
     {
         match tables_of(alloc, &program) {
-            Ok((places, natives, executes)) => Ok(Code {
+            Ok((places, natives, executes, reached)) => Ok(Code {
                 plain,
                 program,
                 counted,
                 places,
                 natives,
                 executes,
+                reached,
             }),
             Err(fault) => {
                 drop(plain);
@@ -85,6 +95,22 @@ impl Code {
     /// Lets the code go.
     pub fn end(self) {
         drop(self);
+    }
+
+    /// Which built-in method each method of the woven program is, where it is one that is handed out.
+    #[inline(always)]
+    pub(crate) fn natives(&self) -> &[Option<Native>]
+        ensures { AreNatives self.now.program result.now }
+    {
+        self.natives.as_slice()
+    }
+
+    /// What calls of each method of the woven program come to.
+    #[inline(always)]
+    pub(crate) fn reached(&self) -> &[Reach]
+        ensures { AreReached self.now.program result.now }
+    {
+        self.reached.as_slice()
     }
 
     /// The built-in method that a method of the woven program is, where it is one that is handed out.

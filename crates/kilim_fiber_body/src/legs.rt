@@ -26,7 +26,7 @@ fn counts_by(mark: bool, live: bool) -> bool
     mark && live
 }
 
-// Instructions one after the other, as long as they are no matter of records or of others: whether the next one counts, and what ended them.
+// Instructions one after the other, as long as they are no matter of others: whether the next one counts, and what ended them.
 fn go(
     alloc: Global,
     code: &Code,
@@ -45,7 +45,6 @@ fn go(
     ensures counted { OnOk result (body.old.count ≤ body.new.count) }
 {
     let _ = (main, task);
-    let live = !body.records.is_rewinding();
     let Some(frames) = &mut body.frames else {
         unreachable!()
     };
@@ -54,14 +53,17 @@ fn go(
         &code.program,
         &code.counted,
         &code.places,
-        live,
+        code.natives(),
+        code.reached(),
         frames,
+        &mut body.records,
         &mut body.heap,
         limits.steps - body.count,
     ) else {
         return Err(NoMemory);
     };
     body.count += ran.steps;
+    let live = !body.records.is_rewinding();
     Ok((counts_by(ran.mark, live), ran.halted))
 }
 

@@ -2,3 +2,5 @@ mod Counting
 mod Doing
 mod Marks
 mod Near
+mod Operands
+mod Woven

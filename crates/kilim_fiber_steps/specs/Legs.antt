@@ -12,12 +12,14 @@ use Rattle.kilim_run_rows.specs.declared.outcome.Moved.{Moved}
 use Rattle.kilim_run_rows.specs.Outcome.{Shows}
 use Rattle.kilim_run_interp.specs.Step.{IsWent, Steps}
 use Rattle.kilim_run_interp.specs.declared.machine.Stepped.TheVariants as stepped
-use Rattle.kilim_fiber_steps.specs.Counted.{CountedRunsTo, asked_of}
+use Rattle.kilim_fiber_steps.specs.Counted.{CountedRunsTo, asked_of, tick_if}
 use Rattle.kilim_fiber_steps.specs.Marks.{IsMark, IsMarked, NextHas}
 use Rattle.kilim_fiber_steps.specs.declared.runs.Halt.{Halt}
 use Rattle.kilim_fiber_steps.specs.declared.runs.Halt.TheVariants as halt
 use Rattle.kilim_fiber_steps.specs.declared.runs.Halted.{Halted}
 use Rattle.kilim_fiber_steps.specs.declared.runs.Halted.TheVariants as halted
+use Rattle.kilim_fiber_steps.specs.declared.runs.Near.{Near}
+use Rattle.kilim_fiber_steps.specs.declared.runs.Near.TheVariants as near
 use Rattle.kilim_fiber_steps.specs.declared.runs.One.{One}
 use Rattle.kilim_fiber_steps.specs.declared.runs.One.TheVariants.{Goes, Halts}
 
@@ -69,10 +71,21 @@ Does p own marks live left old h (Halts halt) new k = HasHalted p own marks live
 abbrev pub standing : Method → Frames → Frame → ℕ → Frames
 standing own frames frame at = record frames { top = record frame { pc = first_place (drop at own.code) own.code_length } }
 
-abbrev pub DoesNear : Program → Method → List Bool → Bool → ℕ → Frames → Frame → ℕ → Objects → One → Frame → Objects → Type 0
-DoesNear p own marks live left frames before at h (Goes counts next) after k =
-    (next < length own.code) × HasGone p own marks live left (standing own frames before at) h counts (standing own frames after next) k
-DoesNear p own marks live left frames before at h (Halts halt) after k = HasHalted p own marks live left (standing own frames before at) h halt (standing own frames after at) k
+-- it was done, and the frame goes on at the instruction of another number; and how many are left that may count
+pub record GoesNear (p : Program) (own : Method) (marks : List Bool) (live : Bool) (left : ℕ) (frames : Frames) (before : Frame) (at : ℕ) (h : Objects) (after : Frame) (next fewer : ℕ) (k : Objects) : Type 0 where
+  pub counts : Bool
+  pub within : next < length own.code
+  pub less : left ≡ tick_if counts fewer
+  pub gone : HasGone p own marks live left (standing own frames before at) h counts (standing own frames after next) k
+
+pub record HaltsNear (p : Program) (own : Method) (marks : List Bool) (live : Bool) (left : ℕ) (frames : Frames) (before : Frame) (at : ℕ) (h : Objects) (halt : Halt) (after : Frame) (next fewer : ℕ) (k : Objects) : Type 0 where
+  pub same : next ≡ at
+  pub kept : fewer ≡ left
+  pub is : HasHalted p own marks live left (standing own frames before at) h halt (standing own frames after at) k
+
+abbrev pub DoesNear : Program → Method → List Bool → Bool → ℕ → Frames → Frame → ℕ → Objects → Near → Frame → ℕ → ℕ → Objects → Type 0
+DoesNear p own marks live left frames before at h near.Goes after next fewer k = GoesNear p own marks live left frames before at h after next fewer k
+DoesNear p own marks live left frames before at h (near.Halts halt) after next fewer k = HaltsNear p own marks live left frames before at h halt after next fewer k
 
 -- ---- the steps of one frame
 

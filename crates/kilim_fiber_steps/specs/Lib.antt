@@ -1,4 +1,5 @@
 pub mod Counted
 pub mod Legs
+pub mod Woven
 pub mod Marks
 pub mod records

@@ -1,6 +1,6 @@
 //! Several steps of a task, one after the other, some of which count.
 
-ghost use Rattle.std.specs.Prelude.{◌≡◌, ◌<◌, ◌≤◌, ◌+◌, ◌&&◌, ◌∷◌, Bool, true, false, Some, IfOk, IfSome, OnOk, drop, length};
+ghost use Rattle.std.specs.Prelude.{◌≡◌, ◌<◌, ◌≤◌, ◌+◌, ◌&&◌, ◌∷◌, Bool, true, false, not, Some, IfOk, IfSome, OnOk, drop, length};
 ghost use Rattle.kilim_program.specs.Lengths.{first_place};
 ghost use Rattle.kilim_program.specs.lookups.Places.{Rising};
 ghost use Rattle.kilim_program.specs.Names.{method_at};
@@ -12,15 +12,24 @@ ghost use Rattle.kilim_run_machine.specs.Effect.{Effect};
 ghost use Rattle.kilim_run_state.specs.Machine.{Objects};
 ghost use Rattle.kilim_run_machine.specs.Moves.{move_by};
 ghost use Rattle.kilim_run_rows.specs.Outcome.{Shows};
-ghost use Rattle.kilim_fiber_spec.specs.Fibers.{marks_of};
-ghost use Rattle.kilim_fiber_steps.specs.Counted.{HasCountedRun, IsCountedSafe, tick_if};
+ghost use Rattle.kilim_run_machine.specs.Natives as native;
+ghost use Rattle.kilim_run_machine.specs.Natives.{native_of};
+ghost use Rattle.kilim_run_interp.specs.instruction.Reached.{AreReached};
+ghost use Rattle.kilim_fiber_spec.specs.Fibers.{is_rewinding, marks_of};
+ghost use Rattle.kilim_fiber_steps.specs.Counted.{IsCountedSafe, tick_if};
 ghost use Rattle.kilim_fiber_steps.specs.Legs.{Does, DoesNear, IsCountedLeg, Settles, standing};
 ghost use Rattle.kilim_fiber_steps.specs.Marks.{IsMarked};
+ghost use Rattle.kilim_fiber_steps.specs.Woven.{HasFiberRun, IsCall, IsFiberLeg, IsFiberSafe};
+ghost use Rattle.kilim_fiber_steps.specs.records.natives.Natives.{member_meant};
+ghost use Rattle.kilim_fiber_steps.specs.records.natives.Tables.{AreNatives};
 
+use crate::members::{do_member, do_yield};
 use crate::places::{Places, mark_of, marks_of, number_at, number_near, place_at};
+use crate::records::Records;
+use crate::records::natives::{Member, Native, native_at};
 use kilim_program::lookups::{code_rises, instr_at, method_at};
 use kilim_program::{Instr, Method, MethodId, Program};
-use kilim_run_interp::instruction::{act, act_near};
+use kilim_run_interp::instruction::{Reach, act, act_near, told};
 use kilim_run_interp::{Stepped, await_answer, settle};
 use kilim_run_rows::Moved;
 use kilim_run_state::frames::{Frame, Frames, no_frame};
@@ -84,12 +93,47 @@ enum One {
     Halts(Halt),
 }
 
+// What came of one instruction that is done in the loop over a frame.
+#[derive(Clone, Copy)]
+enum Near {
+    // The frame goes on.
+    Goes,
+    Halts(Halt),
+}
+
+// What the next instruction of a frame calls, as far as that is told by numbers.
+#[derive(Clone, Copy)]
+enum Call {
+    // A member of `kilim/Fiber`: with so many operands, and the number of the instruction behind it.
+    Member(Member, usize, usize),
+    // A `yield`, with the same. One that counts may.
+    Yields(usize, usize),
+    Halts(Halt),
+}
+
+// The same, with the number of the next instruction.
+#[derive(Clone, Copy)]
+struct Gone {
+    at: usize,
+    left: u64,
+    fuel: u64,
+    halt: Halt,
+}
+
 // Steps of one frame: how many are left that count, and how many at all, and what ended them.
 #[derive(Clone, Copy)]
 struct Leg {
     left: u64,
     fuel: u64,
     halt: Halt,
+}
+
+// Whether marked instructions count.
+#[inline(always)]
+fn is_live(records: &Records) -> bool
+    ensures { result ≡ not (is_rewinding records.now) }
+{
+    !records.is_rewinding()
 }
 
 // Whether an instruction with that mark counts.
@@ -200,7 +244,8 @@ fn number_of(
     }
 }
 
-// One instruction of a frame, by its number, unless it counts and none is left that may. `frames` are those below.
+// One instruction of a frame, by its number, unless it counts and none is left that may. `frames` are those below. Where the frame goes on, `at` is
+// the number of the next one.
 #[inline(always)]
 fn do_near(
     program: &Program,
@@ -209,46 +254,57 @@ fn do_near(
     marks: &[bool],
     table: &[u32],
     live: bool,
-    left: u64,
+    left: &mut u64,
     frames: &Frames,
     frame: &mut Frame,
     heap: &mut Heap,
-    at: usize,
-) -> One
+    at: &mut usize,
+) -> Near
     requires own { method_at program.now frame.old.method ≡ Some own.now }
     requires code { code.now ≡ own.now.code }
     requires rising { Rising code.now }
-    requires within { at < length code.now }
+    requires within { at.old < length code.now }
     requires marked { length marks.now ≡ length code.now }
-    requires fine { (mark : Bool) → IsMarked own.now.code marks.now own.now.code_length (first_place (drop at own.now.code) own.now.code_length) mark → ((mark && live) ≡ true → 0 < left) → IsFine program.now (activation (standing own.now frames.now frame.old at).top) (below_of frames.now) heap.old }
-    requires roomy { AreRoomy program.now (standing own.now frames.now frame.old at) }
-    ensures roomy { AreRoomy program.now (standing own.now frames.now frame.new at) }
+    requires fine { (mark : Bool) → IsMarked own.now.code marks.now own.now.code_length (first_place (drop at.old own.now.code) own.now.code_length) mark → ((mark && live) ≡ true → 0 < left.old) → IsFine program.now (activation (standing own.now frames.now frame.old at.old).top) (below_of frames.now) heap.old }
+    requires roomy { AreRoomy program.now (standing own.now frames.now frame.old at.old) }
+    ensures roomy { AreRoomy program.now (standing own.now frames.now frame.new at.new) }
     ensures same { frame.new.method ≡ frame.old.method }
-    ensures does { DoesNear program.now own.now marks.now live left frames.now frame.old at heap.old result frame.new heap.new }
+    ensures within { at.new < length code.now }
+    ensures does { DoesNear program.now own.now marks.now live left.old frames.now frame.old at.old heap.old result frame.new at.new left.new heap.new }
 {
     let _ = frames;
     let end = own.code_length;
-    let mark = mark_of(code, marks, end, at);
+    let mark = mark_of(code, marks, end, *at);
     let costs = counts_by(mark, live);
-    if is_spent(costs, left) {
-        return One::Halts(Halt::Spent);
+    if is_spent(costs, *left) {
+        return Near::Halts(Halt::Spent);
     }
-    let found = instr_at(code, end, at);
+    let found = instr_at(code, end, *at);
     match act_near(found.0, program, own, found.1, frame, heap) {
-        Some(Moved::Next) => match number_behind(code, at) {
-            Some(next) => One::Goes(costs, next),
-            None => One::Halts(Halt::Lost),
-        },
+        Some(Moved::Next) => {
+            let next = *at + 1;
+            if next < code.len() {
+                *at = next;
+                *left = less_if(costs, *left);
+                Near::Goes
+            } else {
+                Near::Halts(Halt::Lost)
+            }
+        }
         Some(Moved::Jump(to)) => match number_of(code, marks, end, table, to) {
-            Some(next) => One::Goes(costs, next),
-            None => One::Halts(Halt::Lost),
+            Some(next) => {
+                *at = next;
+                *left = less_if(costs, *left);
+                Near::Goes
+            }
+            None => Near::Halts(Halt::Lost),
         },
         Some(moved) => {
-            let mark = mark_of(code, marks, end, at);
-            let behind = instr_at(code, end, at);
-            One::Halts(Halt::Leaves(mark, moved, behind.1))
+            let mark = mark_of(code, marks, end, *at);
+            let behind = instr_at(code, end, *at);
+            Near::Halts(Halt::Leaves(mark, moved, behind.1))
         }
-        None => One::Halts(Halt::Far),
+        None => Near::Halts(Halt::Far),
     }
 }
 
@@ -262,7 +318,144 @@ fn put_back(frames: &mut Frames, frame: Frame, place: u32)
     frames.top = frame;
 }
 
-// Steps of the top frame, at most so many that count, and so many at all, up to the first that isn't done here.
+// Steps of a frame, at most so many that count, and so many at all, up to the first that isn't done here. `frames` are those below.
+#[inline(always)]
+fn go_near(
+    program: &Program,
+    own: &Method,
+    code: &[(u32, Instr)],
+    marks: &[bool],
+    table: &[u32],
+    counted: &Seq<Seq<bool>>,
+    live: bool,
+    frames: &Frames,
+    frame: &mut Frame,
+    heap: &mut Heap,
+    first: usize,
+    limit: u64,
+    most: u64,
+) -> Gone
+    requires own { method_at program.now frame.old.method ≡ Some own.now }
+    requires marks { marks_of counted.now frame.old.method ≡ marks.now }
+    requires code { code.now ≡ own.now.code }
+    requires rising { Rising code.now }
+    requires within { first < length code.now }
+    requires marked { length marks.now ≡ length code.now }
+    requires safe { IsCountedSafe program.now counted.now live limit (calls_of (standing own.now frames.now frame.old first)) heap.old }
+    requires roomy { AreRoomy program.now (standing own.now frames.now frame.old first) }
+    ensures roomy { AreRoomy program.now (standing own.now frames.now frame.new result.at) }
+    ensures same { frame.new.method ≡ frame.old.method }
+    ensures within { result.at < length code.now }
+    ensures leg { IsCountedLeg program.now own.now counted.now live limit most (calls_of (standing own.now frames.now frame.old first)) heap.old result.left result.fuel result.halt (standing own.now frames.now frame.new result.at) heap.new }
+{
+    let _ = counted;
+    let mut at = first;
+    let mut left = limit;
+    let mut fuel = most;
+    while fuel > 0 {
+        match do_near(
+            program, own, code, marks, table, live, &mut left, frames, frame, heap, &mut at,
+        ) {
+            Near::Goes => fuel -= 1,
+            Near::Halts(halt) => {
+                return Gone {
+                    at,
+                    left,
+                    fuel,
+                    halt,
+                };
+            }
+        }
+    }
+    Gone {
+        at,
+        left,
+        fuel: 0,
+        halt: Halt::Stops,
+    }
+}
+
+// The member of `kilim/Fiber` that a method is.
+#[inline(always)]
+fn member_at(program: &Program, natives: &[Option<Native>], method: MethodId) -> Option<Member>
+    requires { AreNatives program.now natives.now }
+    ensures { IfSome result (λ member. native_of program.now method ≡ Some (native.OfFiber (member_meant member))) }
+{
+    let _ = program;
+    match native_at(natives, method) {
+        Some(Native::OfFiber(member)) => Some(member),
+        _ => None,
+    }
+}
+
+// Whether a method is `yield`.
+#[inline(always)]
+fn is_yield(program: &Program, natives: &[Option<Native>], method: MethodId) -> bool
+    requires { AreNatives program.now natives.now }
+    ensures { result ≡ true → native_of program.now method ≡ Some native.Yield }
+{
+    let _ = program;
+    match native_at(natives, method) {
+        Some(Native::Yield) => true,
+        _ => false,
+    }
+}
+
+// What the next instruction of a frame calls, unless it counts and none is left that may. Nothing is done.
+#[inline(always)]
+fn call_near(
+    program: &Program,
+    own: &Method,
+    code: &[(u32, Instr)],
+    marks: &[bool],
+    natives: &[Option<Native>],
+    reached: &[Reach],
+    live: bool,
+    left: u64,
+    frames: &Frames,
+    frame: &Frame,
+    heap: &Heap,
+    at: usize,
+) -> Call
+    requires natives { AreNatives program.now natives.now }
+    requires reached { AreReached program.now reached.now }
+    requires own { method_at program.now frame.now.method ≡ Some own.now }
+    requires code { code.now ≡ own.now.code }
+    requires rising { Rising code.now }
+    requires within { at < length code.now }
+    requires marked { length marks.now ≡ length code.now }
+    requires fine { (mark : Bool) → IsMarked own.now.code marks.now own.now.code_length (first_place (drop at own.now.code) own.now.code_length) mark → ((mark && live) ≡ true → 0 < left) → IsFine program.now (activation (standing own.now frames.now frame.now at).top) (below_of frames.now) heap.now }
+    requires roomy { AreRoomy program.now (standing own.now frames.now frame.now at) }
+    ensures { IsCall program.now own.now marks.now live left frames.now frame.now at heap.now result }
+{
+    let _ = frames;
+    let end = own.code_length;
+    let mark = mark_of(code, marks, end, at);
+    let costs = counts_by(mark, live);
+    if is_spent(costs, left) {
+        return Call::Halts(Halt::Spent);
+    }
+    let found = instr_at(code, end, at);
+    let Some(moved) = told(reached, found.0, program, own, found.1, frame, heap) else {
+        return Call::Halts(Halt::Far);
+    };
+    if let Moved::Asked(id, count) = moved {
+        let Some(behind) = number_behind(code, at) else {
+            return Call::Halts(Halt::Lost);
+        };
+        if let Some(member) = member_at(program, natives, id) {
+            return Call::Member(member, count, behind);
+        }
+        if is_yield(program, natives, id) {
+            if !is_spent(live, left) {
+                return Call::Yields(count, behind);
+            }
+        }
+    }
+    Call::Halts(Halt::Leaves(mark, moved, found.1))
+}
+
+// Steps of the top frame, members of `kilim/Fiber` and `yield`, at most so many that count, and so many at all, up to the first that isn't done here.
 fn run_near(
     alloc: Global,
     program: &Program,
@@ -270,63 +463,90 @@ fn run_near(
     marks: &[bool],
     table: &[u32],
     counted: &Seq<Seq<bool>>,
-    live: bool,
+    natives: &[Option<Native>],
+    reached: &[Reach],
     frames: &mut Frames,
+    records: &mut Records,
     heap: &mut Heap,
     limit: u64,
     most: u64,
-) -> Leg
+) -> Result<Leg, NoMemory>
+    requires natives { AreNatives program.now natives.now }
+    requires reached { AreReached program.now reached.now }
     requires own { method_at program.now frames.old.top.method ≡ Some own.now }
     requires marks { marks_of counted.now frames.old.top.method ≡ marks.now }
-    requires safe { IsCountedSafe program.now counted.now live limit (calls_of frames.old) heap.old }
+    requires safe { IsFiberSafe program.now counted.now limit (calls_of frames.old) heap.old records.old }
     requires roomy { AreRoomy program.now frames.old }
-    ensures roomy { AreRoomy program.now frames.new }
-    ensures same { frames.new.top.method ≡ frames.old.top.method }
-    ensures leg { IsCountedLeg program.now own.now counted.now live limit most (calls_of frames.old) heap.old result.left result.fuel result.halt frames.new heap.new }
+    ensures roomy { OnOk result (AreRoomy program.now frames.new) }
+    ensures same { OnOk result (frames.new.top.method ≡ frames.old.top.method) }
+    ensures leg { IfOk result (λ leg. IsFiberLeg program.now own.now counted.now limit most (calls_of frames.old) heap.old records.old leg.left leg.fuel leg.halt frames.new heap.new records.new) }
 {
-    let _ = counted;
     code_rises(program, frames.top.method, own);
     let code = own.code.as_slice();
     let end = own.code_length;
     if marks.len() != code.len() {
-        return Leg {
+        return Ok(Leg {
             left: limit,
             fuel: most,
             halt: Halt::Lost,
-        };
+        });
     }
     let Some(first) = number_of(code, marks, end, table, frames.top.pc) else {
-        return Leg {
+        return Ok(Leg {
             left: limit,
             fuel: most,
             halt: Halt::Lost,
-        };
+        });
     };
     let mut at = first;
     let mut left = limit;
     let mut fuel = most;
     let method = frames.top.method;
     let mut frame = replace(&mut frames.top, no_frame(alloc, method));
-    while fuel > 0 {
-        match do_near(
-            program, own, code, marks, table, live, left, frames, &mut frame, heap, at,
-        ) {
-            One::Goes(counts, next) => {
-                at = next;
-                left = less_if(counts, left);
-                fuel -= 1;
-            }
-            One::Halts(halt) => {
-                put_back(frames, frame, place_at(code, end, at));
-                return Leg { left, fuel, halt };
+    'members: loop {
+        let live = is_live(records);
+        let gone = go_near(
+            program, own, code, marks, table, counted, live, frames, &mut frame, heap, at, left,
+            fuel,
+        );
+        match gone.halt {
+            Halt::Far => match call_near(
+                program, own, code, marks, natives, reached, live, gone.left, frames, &frame, heap,
+                gone.at,
+            ) {
+                Call::Member(member, count, behind) => {
+                    let Ok(()) = do_member(alloc, member, count, &mut frame, records) else {
+                        drop(frame);
+                        return Err(NoMemory);
+                    };
+                    at = behind;
+                    left = gone.left;
+                    fuel = gone.fuel - 1;
+                }
+                Call::Yields(count, behind) => {
+                    do_yield(alloc, live, count, &mut frame, records);
+                    at = behind;
+                    left = less_if(live, gone.left);
+                    fuel = gone.fuel - 1;
+                }
+                Call::Halts(halt) => {
+                    put_back(frames, frame, place_at(code, end, gone.at));
+                    return Ok(Leg {
+                        left: gone.left,
+                        fuel: gone.fuel,
+                        halt,
+                    });
+                }
+            },
+            halt => {
+                put_back(frames, frame, place_at(code, end, gone.at));
+                return Ok(Leg {
+                    left: gone.left,
+                    fuel: gone.fuel,
+                    halt,
+                });
             }
         }
-    }
-    put_back(frames, frame, place_at(code, end, at));
-    Leg {
-        left,
-        fuel: 0,
-        halt: Halt::Stops,
     }
 }
 
@@ -338,44 +558,52 @@ fn run_frame(
     marks: &[bool],
     table: &[u32],
     counted: &Seq<Seq<bool>>,
-    live: bool,
+    natives: &[Option<Native>],
+    reached: &[Reach],
     frames: &mut Frames,
+    records: &mut Records,
     heap: &mut Heap,
     limit: u64,
     most: u64,
-) -> Leg
+) -> Result<Leg, NoMemory>
+    requires natives { AreNatives program.now natives.now }
+    requires reached { AreReached program.now reached.now }
     requires own { method_at program.now frames.old.top.method ≡ Some own.now }
     requires marks { marks_of counted.now frames.old.top.method ≡ marks.now }
-    requires safe { IsCountedSafe program.now counted.now live limit (calls_of frames.old) heap.old }
+    requires safe { IsFiberSafe program.now counted.now limit (calls_of frames.old) heap.old records.old }
     requires roomy { AreRoomy program.now frames.old }
-    ensures roomy { AreRoomy program.now frames.new }
-    ensures leg { IsCountedLeg program.now own.now counted.now live limit most (calls_of frames.old) heap.old result.left result.fuel result.halt frames.new heap.new }
+    ensures roomy { OnOk result (AreRoomy program.now frames.new) }
+    ensures leg { IfOk result (λ leg. IsFiberLeg program.now own.now counted.now limit most (calls_of frames.old) heap.old records.old leg.left leg.fuel leg.halt frames.new heap.new records.new) }
 {
-    let leg = run_near(
-        alloc, program, own, marks, table, counted, live, frames, heap, limit, most,
-    );
+    let Ok(leg) = run_near(
+        alloc, program, own, marks, table, counted, natives, reached, frames, records, heap, limit,
+        most,
+    ) else {
+        return Err(NoMemory);
+    };
     match leg.halt {
         Halt::Far => {
+            let live = is_live(records);
             let hint = number_near(table, frames.top.pc);
             match do_one(
                 alloc, program, own, marks, table, live, leg.left, frames, heap, hint,
             ) {
                 One::Goes(counts, near) => {
                     let _near = near;
-                    Leg {
+                    Ok(Leg {
                         left: less_if(counts, leg.left),
                         fuel: leg.fuel,
                         halt: Halt::On,
-                    }
+                    })
                 }
-                One::Halts(halt) => Leg {
+                One::Halts(halt) => Ok(Leg {
                     left: leg.left,
                     fuel: leg.fuel,
                     halt,
-                },
+                }),
             }
         }
-        _ => leg,
+        _ => Ok(leg),
     }
 }
 
@@ -413,23 +641,27 @@ fn go_on(
     }
 }
 
-/// Steps of a task, of instructions of whatever mark, as long as it goes on. The steps are those that `settle` of
-/// kilim_run_interp makes of what an instruction comes to. Where the fiber is live, those count whose instruction is marked, at most so many. Want of
+/// Steps of a task by woven code, of instructions of whatever mark, as long as it goes on: those that `settle` of kilim_run_interp makes of what an
+/// instruction comes to, and members of `kilim/Fiber` and `yield`. While the fiber doesn't rewind, those instructions count that are marked, at most so many. Want of
 /// memory is also answered where a place has no mark.
 pub fn run_counted(
     alloc: Global,
     program: &Program,
     counted: &Seq<Seq<bool>>,
     places: &Places,
-    live: bool,
+    natives: &[Option<Native>],
+    reached: &[Reach],
     frames: &mut Frames,
+    records: &mut Records,
     heap: &mut Heap,
     limit: u64,
 ) -> Result<CountedRun, NoMemory>
-    requires safe { IsCountedSafe program.now counted.now live limit (calls_of frames.old) heap.old }
+    requires natives { AreNatives program.now natives.now }
+    requires reached { AreReached program.now reached.now }
+    requires safe { IsFiberSafe program.now counted.now limit (calls_of frames.old) heap.old records.old }
     requires roomy { AreRoomy program.now frames.old }
     ensures roomy { OnOk result (AreRoomy program.now frames.new) }
-    ensures run { IfOk result (λ ran. HasCountedRun program.now counted.now live limit (calls_of frames.old) heap.old ran.steps ran.mark ran.halted frames.new heap.new) }
+    ensures run { IfOk result (λ ran. HasFiberRun program.now counted.now limit (calls_of frames.old) heap.old records.old ran.steps ran.mark ran.halted frames.new heap.new records.new) }
 {
     let mut left = limit;
     let mut fuel = MOST_TOGETHER;
@@ -443,9 +675,12 @@ pub fn run_counted(
         };
         let marks = marks.as_slice();
         let table = places.of_method(method);
-        let leg = run_frame(
-            alloc, program, own, marks, table, counted, live, frames, heap, left, fuel,
-        );
+        let Ok(leg) = run_frame(
+            alloc, program, own, marks, table, counted, natives, reached, frames, records, heap,
+            left, fuel,
+        ) else {
+            return Err(NoMemory);
+        };
         match leg.halt {
             Halt::Stops => {
                 return Ok(CountedRun {
@@ -469,6 +704,7 @@ pub fn run_counted(
                 fuel = leg.fuel - 1;
             }
             Halt::Leaves(mark, moved, next) => {
+                let live = is_live(records);
                 let Ok(halted) = go_on(alloc, program, own, moved, next, frames) else {
                     return Err(NoMemory);
                 };

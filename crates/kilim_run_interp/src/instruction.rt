@@ -4,8 +4,10 @@ mod calls;
 mod making;
 mod near;
 mod operations;
+mod reached;
 mod table;
 
 pub use making::new_object;
 pub use near::act_near;
+pub use reached::{ByClass, Reach, reach_table, told};
 pub use table::act;

@@ -2,31 +2,21 @@
 use Rattle.std.proofs.Common.{◌≡◌, ◌⊎◌, inl, inr, refl, ap, ℕ, ◌<◌, pos, false, true≢false, List, [], ◌∷◌, Option, Some, None, length, arith}
 use Rattle.kilim_program.specs.declared.class.Method.{Method}
 use Rattle.kilim_program.specs.declared.instr.Instr.{Instr}
-use Rattle.kilim_program.specs.declared.instr.Instr.TheVariants.{Iadd, Isub, Imul, Iand, Ior, Ixor, Ladd, Lsub, Lmul, Land, Lor, Lxor, Ishl, Ishr, Iushr, Lshl, Lshr, Lushr, Ineg, I2b, I2c, I2s, Ifeq, Ifne, Iflt, Ifge, Ifgt, Ifle, IfIcmpeq, IfIcmpne, IfIcmplt, IfIcmpge, IfIcmpgt, IfIcmple, Iaload, Baload, Caload, Saload, Bastore, Castore, Sastore, Ireturn, Lreturn, Areturn}
+use Rattle.kilim_program.specs.declared.instr.Instr.TheVariants.{Ladd, Lsub, Lmul, Land, Lor, Lxor, Ishl, Ishr, Iushr, Lshl, Lshr, Lushr, Ineg, I2b, I2c, I2s, Iaload, Baload, Caload, Saload, Bastore, Castore, Sastore, Ireturn, Lreturn, Areturn}
 use Rattle.kilim_program.specs.declared.ty.Ty.{Ty}
 use Rattle.kilim_program.specs.declared.value.Value.{Value}
 use Rattle.kilim_program.specs.declared.value.Value.TheVariants.{Int, Long, Null, Ref, Text, Box, Fiber}
 use Rattle.kilim_program.specs.Program.{Program}
 use Rattle.kilim_run_state.specs.Machine.{Objects}
 use Rattle.kilim_run_machine.specs.Effect.{Returns}
-use Rattle.kilim_run_machine.specs.Does.{does, int_binary, int_unary, long_binary, long_shift, int_jump, compare_jump, loads_int, narrowed_result, stores_int}
+use Rattle.kilim_run_machine.specs.Does.{does, int_binary, int_unary, long_binary, long_shift, loads_int, narrowed_result, stores_int}
 use Rattle.kilim_run_state.specs.frames.Stacked.{is_int}
 use Rattle.kilim_run_rows.specs.declared.numbers.Binary.{Binary}
 use Rattle.kilim_run_rows.specs.declared.numbers.Shift.{Shift}
 use Rattle.kilim_run_rows.specs.declared.numbers.Unary.{Unary}
-use Rattle.kilim_run_rows.specs.declared.numbers.Test.{Test}
-use Rattle.kilim_run_rows.specs.Operations.{int_of, long_of, int_shift, long_shift_of, int_of_one, holds}
+use Rattle.kilim_run_rows.specs.Operations.{long_of, int_shift, long_shift_of, int_of_one}
 use Rattle.kilim_run_rows.specs.Outcome.{is_stuck, returned_by}
-use Rattle.kilim_run_interp.specs.instruction.Operations.{binary_of, jump_of, shift_of, unary_of}
-
-pub two_ints_row : (p : Program) (own : Method) (i : Instr) (o : Binary) (next : ℕ) (ls s : List Value) (h : Objects) → o ≡ binary_of i → (i ≡ Iadd) ⊎ ((i ≡ Isub) ⊎ ((i ≡ Imul) ⊎ ((i ≡ Iand) ⊎ ((i ≡ Ior) ⊎ (i ≡ Ixor))))) → does p own i next ls s h ≡ int_binary (int_of o) next ls s h
-unfolding does
-two_ints_row p own i o next ls s h names (inl e) = rw (names, e) refl
-two_ints_row p own i o next ls s h names (inr (inl e)) = rw (names, e) refl
-two_ints_row p own i o next ls s h names (inr (inr (inl e))) = rw (names, e) refl
-two_ints_row p own i o next ls s h names (inr (inr (inr (inl e)))) = rw (names, e) refl
-two_ints_row p own i o next ls s h names (inr (inr (inr (inr (inl e))))) = rw (names, e) refl
-two_ints_row p own i o next ls s h names (inr (inr (inr (inr (inr e))))) = rw (names, e) refl
+use Rattle.kilim_run_interp.specs.instruction.Operations.{binary_of, shift_of, unary_of}
 
 pub two_longs_row : (p : Program) (own : Method) (i : Instr) (o : Binary) (next : ℕ) (ls s : List Value) (h : Objects) → o ≡ binary_of i → (i ≡ Ladd) ⊎ ((i ≡ Lsub) ⊎ ((i ≡ Lmul) ⊎ ((i ≡ Land) ⊎ ((i ≡ Lor) ⊎ (i ≡ Lxor))))) → does p own i next ls s h ≡ long_binary (long_of o) next ls s h
 unfolding does
@@ -55,24 +45,6 @@ one_int_row p own i o next ls s h names (inl e) = rw (names, e) refl
 one_int_row p own i o next ls s h names (inr (inl e)) = rw (names, e) refl
 one_int_row p own i o next ls s h names (inr (inr (inl e))) = rw (names, e) refl
 one_int_row p own i o next ls s h names (inr (inr (inr e))) = rw (names, e) refl
-
-pub int_jump_row : (p : Program) (own : Method) (i : Instr) (o : Test × ℕ) (next : ℕ) (ls s : List Value) (h : Objects) → o ≡ jump_of i → ((to : ℕ) × (i ≡ Ifeq to)) ⊎ (((to : ℕ) × (i ≡ Ifne to)) ⊎ (((to : ℕ) × (i ≡ Iflt to)) ⊎ (((to : ℕ) × (i ≡ Ifge to)) ⊎ (((to : ℕ) × (i ≡ Ifgt to)) ⊎ ((to : ℕ) × (i ≡ Ifle to)))))) → does p own i next ls s h ≡ int_jump (λ a. holds o.0 a (pos 0)) o.1 next ls s h
-unfolding does
-int_jump_row p own i o next ls s h names (inl e) = rw (names, e.1) refl
-int_jump_row p own i o next ls s h names (inr (inl e)) = rw (names, e.1) refl
-int_jump_row p own i o next ls s h names (inr (inr (inl e))) = rw (names, e.1) refl
-int_jump_row p own i o next ls s h names (inr (inr (inr (inl e)))) = rw (names, e.1) refl
-int_jump_row p own i o next ls s h names (inr (inr (inr (inr (inl e))))) = rw (names, e.1) refl
-int_jump_row p own i o next ls s h names (inr (inr (inr (inr (inr e))))) = rw (names, e.1) refl
-
-pub compare_jump_row : (p : Program) (own : Method) (i : Instr) (o : Test × ℕ) (next : ℕ) (ls s : List Value) (h : Objects) → o ≡ jump_of i → ((to : ℕ) × (i ≡ IfIcmpeq to)) ⊎ (((to : ℕ) × (i ≡ IfIcmpne to)) ⊎ (((to : ℕ) × (i ≡ IfIcmplt to)) ⊎ (((to : ℕ) × (i ≡ IfIcmpge to)) ⊎ (((to : ℕ) × (i ≡ IfIcmpgt to)) ⊎ ((to : ℕ) × (i ≡ IfIcmple to)))))) → does p own i next ls s h ≡ compare_jump (holds o.0) o.1 next ls s h
-unfolding does
-compare_jump_row p own i o next ls s h names (inl e) = rw (names, e.1) refl
-compare_jump_row p own i o next ls s h names (inr (inl e)) = rw (names, e.1) refl
-compare_jump_row p own i o next ls s h names (inr (inr (inl e))) = rw (names, e.1) refl
-compare_jump_row p own i o next ls s h names (inr (inr (inr (inl e)))) = rw (names, e.1) refl
-compare_jump_row p own i o next ls s h names (inr (inr (inr (inr (inl e))))) = rw (names, e.1) refl
-compare_jump_row p own i o next ls s h names (inr (inr (inr (inr (inr e))))) = rw (names, e.1) refl
 
 pub int_load_row : (p : Program) (own : Method) (i : Instr) (next : ℕ) (ls s : List Value) (h : Objects) → (i ≡ Iaload) ⊎ ((i ≡ Baload) ⊎ ((i ≡ Caload) ⊎ (i ≡ Saload))) → does p own i next ls s h ≡ loads_int next ls s h
 unfolding does

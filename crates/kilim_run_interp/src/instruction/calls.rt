@@ -50,7 +50,7 @@ fn is_built_in_of(program: &Program, class: &[u8], method: &Method) -> bool
     }
 }
 
-fn is_text_method(program: &Program, method: &Method) -> bool
+pub(crate) fn is_text_method(program: &Program, method: &Method) -> bool
     ensures { result ≡ is_text_method program.now method.now }
 {
     is_built_in_of(program, b"java/lang/String", method)
@@ -62,7 +62,7 @@ fn is_take(program: &Program, method: &Method) -> bool
     is_built_in_of(program, b"kilim/Sys", method) && method.name.is_text(b"take")
 }
 
-fn is_handed_out(program: &Program, method: &Method) -> bool
+pub(crate) fn is_handed_out(program: &Program, method: &Method) -> bool
     ensures { result ≡ is_handed_out program.now method.now }
 {
     method.built_in
@@ -73,7 +73,7 @@ fn is_handed_out(program: &Program, method: &Method) -> bool
 
 // ---- which method is called
 
-fn chosen(program: &Program, named: &Method, method: MethodId, ty: Ty) -> MethodId
+pub(crate) fn chosen(program: &Program, named: &Method, method: MethodId, ty: Ty) -> MethodId
     ensures { result ≡ chosen program.now named.now method ty }
 {
     if named.is_private || ty.dims > 0 {

@@ -5,12 +5,12 @@ ghost use Rattle.kilim_run_machine.specs.Does.{does};
 ghost use Rattle.kilim_run_rows.specs.Outcome.{is_stuck, height, SameFrame};
 ghost use Rattle.kilim_run_interp.specs.instruction.Near.{ShowsNear};
 
-use crate::instruction::operations::{binary_of, jump_of, shift_of, unary_of};
+use crate::instruction::operations::{binary_of, shift_of, unary_of};
 use kilim_program::{Instr, Method, Program, Value};
 use kilim_run_rows::{
-    Division, Moved, array_length, cast, compare_longs, constant, copy_below_one, copy_below_two,
-    copy_two, copy_two_below_one, copy_two_below_two, copy_word, divide_ints, divide_longs,
-    increase, int_to_long, jump_by_match, jump_by_table, jump_on_int, jump_on_null,
+    Binary, Division, Moved, Test, array_length, cast, compare_longs, constant, copy_below_one,
+    copy_below_two, copy_two, copy_two_below_one, copy_two_below_two, copy_word, divide_ints,
+    divide_longs, increase, int_to_long, jump_by_match, jump_by_table, jump_on_int, jump_on_null,
     jump_on_references, jump_on_two_ints, load_constant, load_int, load_long, load_reference,
     long_to_int, negate_long, one_int, pop_two, pop_word, read_constant, read_field, read_int,
     read_long, read_reference, shift_int, shift_long, store_int, store_long, store_reference,
@@ -33,7 +33,7 @@ pub fn act_near(
 ) -> Option<Moved>
     requires fine { is_stuck (does program.now own.now instr.now next frame.old.locals frame.old.stack.values heap.old) ≡ false }
     requires room { height (does program.now own.now instr.now next frame.old.locals frame.old.stack.values heap.old) ≤ frame.old.stack.room }
-    ensures step { ShowsNear own.now (does program.now own.now instr.now next frame.old.locals frame.old.stack.values heap.old) next result frame.old frame.new heap.old heap.new }
+    ensures step { ShowsNear own.now instr.now (does program.now own.now instr.now next frame.old.locals frame.old.stack.values heap.old) next result frame.old frame.new heap.old heap.new }
     ensures same { SameFrame frame.old frame.new }
 {
     // Most instructions only read the heap.
@@ -75,9 +75,12 @@ pub fn act_near(
         Instr::Dup2X1 => Some(copy_two_below_one(program, own, next, frame, read)),
         Instr::Dup2X2 => Some(copy_two_below_two(program, own, next, frame, read)),
         Instr::Swap => Some(swap_words(program, own, next, frame, read)),
-        Instr::Iadd | Instr::Isub | Instr::Imul | Instr::Iand | Instr::Ior | Instr::Ixor => {
-            Some(two_ints(binary_of(instr), own, next, frame, read))
-        }
+        Instr::Iadd => Some(two_ints(Binary::Add, own, next, frame, read)),
+        Instr::Isub => Some(two_ints(Binary::Sub, own, next, frame, read)),
+        Instr::Imul => Some(two_ints(Binary::Mul, own, next, frame, read)),
+        Instr::Iand => Some(two_ints(Binary::And, own, next, frame, read)),
+        Instr::Ior => Some(two_ints(Binary::Or, own, next, frame, read)),
+        Instr::Ixor => Some(two_ints(Binary::Xor, own, next, frame, read)),
         Instr::Ladd | Instr::Lsub | Instr::Lmul | Instr::Land | Instr::Lor | Instr::Lxor => {
             Some(two_longs(binary_of(instr), own, next, frame, read))
         }
@@ -98,24 +101,18 @@ pub fn act_near(
         Instr::I2l => Some(int_to_long(program, own, next, frame, read)),
         Instr::L2i => Some(long_to_int(program, own, next, frame, read)),
         Instr::Lcmp => Some(compare_longs(program, own, next, frame, read)),
-        Instr::Ifeq(_)
-        | Instr::Ifne(_)
-        | Instr::Iflt(_)
-        | Instr::Ifge(_)
-        | Instr::Ifgt(_)
-        | Instr::Ifle(_) => {
-            let (test, to) = jump_of(instr);
-            Some(jump_on_int(test, to, own, next, frame, read))
-        }
-        Instr::IfIcmpeq(_)
-        | Instr::IfIcmpne(_)
-        | Instr::IfIcmplt(_)
-        | Instr::IfIcmpge(_)
-        | Instr::IfIcmpgt(_)
-        | Instr::IfIcmple(_) => {
-            let (test, to) = jump_of(instr);
-            Some(jump_on_two_ints(test, to, own, next, frame, read))
-        }
+        Instr::Ifeq(to) => Some(jump_on_int(Test::Eq, to, own, next, frame, read)),
+        Instr::Ifne(to) => Some(jump_on_int(Test::Ne, to, own, next, frame, read)),
+        Instr::Iflt(to) => Some(jump_on_int(Test::Lt, to, own, next, frame, read)),
+        Instr::Ifge(to) => Some(jump_on_int(Test::Ge, to, own, next, frame, read)),
+        Instr::Ifgt(to) => Some(jump_on_int(Test::Gt, to, own, next, frame, read)),
+        Instr::Ifle(to) => Some(jump_on_int(Test::Le, to, own, next, frame, read)),
+        Instr::IfIcmpeq(to) => Some(jump_on_two_ints(Test::Eq, to, own, next, frame, read)),
+        Instr::IfIcmpne(to) => Some(jump_on_two_ints(Test::Ne, to, own, next, frame, read)),
+        Instr::IfIcmplt(to) => Some(jump_on_two_ints(Test::Lt, to, own, next, frame, read)),
+        Instr::IfIcmpge(to) => Some(jump_on_two_ints(Test::Ge, to, own, next, frame, read)),
+        Instr::IfIcmpgt(to) => Some(jump_on_two_ints(Test::Gt, to, own, next, frame, read)),
+        Instr::IfIcmple(to) => Some(jump_on_two_ints(Test::Le, to, own, next, frame, read)),
         Instr::IfAcmpeq(to) => Some(jump_on_references(true, to, own, next, frame, read)),
         Instr::IfAcmpne(to) => Some(jump_on_references(false, to, own, next, frame, read)),
         Instr::Ifnull(to) => Some(jump_on_null(true, to, own, next, frame, read)),
@@ -136,11 +133,11 @@ pub fn act_near(
         Instr::Checkcast(ref ty) => Some(cast(ty, program, own, next, frame, read)),
         Instr::Instanceof(ref ty) => Some(test_type(ty, program, own, next, frame, read)),
         Instr::Athrow => unreachable!(),
-        Instr::Invokevirtual(_)
-        | Instr::Invokespecial(_)
-        | Instr::Invokestatic(_)
-        | Instr::New(_)
-        | Instr::Newarray(_)
-        | Instr::Anewarray(_) => None,
+        Instr::Invokevirtual(_) => None,
+        Instr::Invokespecial(_) => None,
+        Instr::Invokestatic(_) => None,
+        Instr::New(_) => None,
+        Instr::Newarray(_) => None,
+        Instr::Anewarray(_) => None,
     }
 }

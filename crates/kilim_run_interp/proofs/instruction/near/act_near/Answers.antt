@@ -1,7 +1,7 @@
 -- A row for each instruction: what its call requires, and what it ensures.
 use Rattle.std.proofs.Common.{refl, true≢false, arith}
 use Rattle.kilim_run_machine.specs.Does.{does}
-use Rattle.kilim_run_interp.proofs.instruction.Tables.{compare_jump_row, int_jump_row, int_load_row, int_shift_row, long_shift_row, narrow_store_row, one_int_row, two_ints_row, two_longs_row, value_returned}
+use Rattle.kilim_run_interp.proofs.instruction.Tables.{int_load_row, int_shift_row, long_shift_row, narrow_store_row, one_int_row, two_longs_row, value_returned}
 use Rattle.kilim_run_interp.proofs.instruction.near.act_near.Goals as goal
 
 pub returns-in-Nop : goal.returns-in-Nop
@@ -300,24 +300,14 @@ returns-in-Bastore c =
     let row = narrow_store_row c.args.program.now c.args.own.now c.args.instr.now c.args.next c.args.frame.now.locals c.args.frame.now.stack.values c.args.heap.now c.in-Bastore.is in
     record { step = rw row c.write_narrowed.ensures.step; same = c.write_narrowed.ensures.same }
 
-pub two_ints-requires : goal.two_ints-requires
-two_ints-requires c =
-    let row = two_ints_row c.args.program.now c.args.own.now c.args.instr.now c.binary_of.result c.args.next c.args.frame.now.locals c.args.frame.now.stack.values c.args.heap.now c.binary_of.ensures c.in-Iadd.is in
-    record { fine = rw row at c.requires.fine; room = rw row at c.requires.room }
-
-pub returns-in-Iadd : goal.returns-in-Iadd
-returns-in-Iadd c =
-    let row = two_ints_row c.args.program.now c.args.own.now c.args.instr.now c.binary_of.result c.args.next c.args.frame.now.locals c.args.frame.now.stack.values c.args.heap.now c.binary_of.ensures c.in-Iadd.is in
-    record { step = rw row c.two_ints.ensures.step; same = c.two_ints.ensures.same }
-
 pub two_longs-requires : goal.two_longs-requires
 two_longs-requires c =
-    let row = two_longs_row c.args.program.now c.args.own.now c.args.instr.now c.binary_of-in-Ladd.result c.args.next c.args.frame.now.locals c.args.frame.now.stack.values c.args.heap.now c.binary_of-in-Ladd.ensures c.in-Ladd.is in
+    let row = two_longs_row c.args.program.now c.args.own.now c.args.instr.now c.binary_of.result c.args.next c.args.frame.now.locals c.args.frame.now.stack.values c.args.heap.now c.binary_of.ensures c.in-Ladd.is in
     record { fine = rw row at c.requires.fine; room = rw row at c.requires.room }
 
 pub returns-in-Ladd : goal.returns-in-Ladd
 returns-in-Ladd c =
-    let row = two_longs_row c.args.program.now c.args.own.now c.args.instr.now c.binary_of-in-Ladd.result c.args.next c.args.frame.now.locals c.args.frame.now.stack.values c.args.heap.now c.binary_of-in-Ladd.ensures c.in-Ladd.is in
+    let row = two_longs_row c.args.program.now c.args.own.now c.args.instr.now c.binary_of.result c.args.next c.args.frame.now.locals c.args.frame.now.stack.values c.args.heap.now c.binary_of.ensures c.in-Ladd.is in
     record { step = rw row c.two_longs.ensures.step; same = c.two_longs.ensures.same }
 
 pub shift_int-requires : goal.shift_int-requires
@@ -350,26 +340,6 @@ returns-in-Ineg c =
     let row = one_int_row c.args.program.now c.args.own.now c.args.instr.now c.unary_of.result c.args.next c.args.frame.now.locals c.args.frame.now.stack.values c.args.heap.now c.unary_of.ensures c.in-Ineg.is in
     record { step = rw row c.one_int.ensures.step; same = c.one_int.ensures.same }
 
-pub jump_on_int-requires : goal.jump_on_int-requires
-jump_on_int-requires c =
-    let row = int_jump_row c.args.program.now c.args.own.now c.args.instr.now c.jump_of-test.result c.args.next c.args.frame.now.locals c.args.frame.now.stack.values c.args.heap.now c.jump_of-test.ensures c.in-Ifeq.is in
-    record { fine = rw row at c.requires.fine; room = rw row at c.requires.room }
-
-pub returns-in-Ifeq : goal.returns-in-Ifeq
-returns-in-Ifeq c =
-    let row = int_jump_row c.args.program.now c.args.own.now c.args.instr.now c.jump_of-test.result c.args.next c.args.frame.now.locals c.args.frame.now.stack.values c.args.heap.now c.jump_of-test.ensures c.in-Ifeq.is in
-    record { step = rw row c.jump_on_int.ensures.step; same = c.jump_on_int.ensures.same }
-
-pub jump_on_two_ints-requires : goal.jump_on_two_ints-requires
-jump_on_two_ints-requires c =
-    let row = compare_jump_row c.args.program.now c.args.own.now c.args.instr.now c.jump_of-test-in-IfIcmpeq.result c.args.next c.args.frame.now.locals c.args.frame.now.stack.values c.args.heap.now c.jump_of-test-in-IfIcmpeq.ensures c.in-IfIcmpeq.is in
-    record { fine = rw row at c.requires.fine; room = rw row at c.requires.room }
-
-pub returns-in-IfIcmpeq : goal.returns-in-IfIcmpeq
-returns-in-IfIcmpeq c =
-    let row = compare_jump_row c.args.program.now c.args.own.now c.args.instr.now c.jump_of-test-in-IfIcmpeq.result c.args.next c.args.frame.now.locals c.args.frame.now.stack.values c.args.heap.now c.jump_of-test-in-IfIcmpeq.ensures c.in-IfIcmpeq.is in
-    record { step = rw row c.jump_on_two_ints.ensures.step; same = c.jump_on_two_ints.ensures.same }
-
 pub returns-in-Ireturn : goal.returns-in-Ireturn
 returns-in-Ireturn c =
     let row = value_returned c.args.program.now c.args.own.now c.args.instr.now c.args.next c.args.frame.now.locals c.args.frame.now.stack.values c.args.heap.now c.in-Ireturn.is c.requires.fine in
@@ -382,3 +352,165 @@ returns-in-Return c = record { step = (rw c.in-Return.is, record { frame = refl;
 pub unreachable-requires : goal.unreachable-requires
 unfolding does
 unreachable-requires c = true≢false (rw c.in-Athrow.is at c.requires.fine)
+
+pub two_ints-requires : goal.two_ints-requires
+unfolding does
+two_ints-requires c = record { fine = rw c.in-Iadd.is at c.requires.fine; room = rw c.in-Iadd.is at c.requires.room }
+
+pub returns-in-Iadd : goal.returns-in-Iadd
+unfolding does
+returns-in-Iadd c = record { step = rw c.in-Iadd.is c.two_ints.ensures.step; same = c.two_ints.ensures.same }
+
+pub two_ints-requires-in-Isub : goal.two_ints-requires-in-Isub
+unfolding does
+two_ints-requires-in-Isub c = record { fine = rw c.in-Isub.is at c.requires.fine; room = rw c.in-Isub.is at c.requires.room }
+
+pub returns-in-Isub : goal.returns-in-Isub
+unfolding does
+returns-in-Isub c = record { step = rw c.in-Isub.is c.two_ints-in-Isub.ensures.step; same = c.two_ints-in-Isub.ensures.same }
+
+pub two_ints-requires-in-Imul : goal.two_ints-requires-in-Imul
+unfolding does
+two_ints-requires-in-Imul c = record { fine = rw c.in-Imul.is at c.requires.fine; room = rw c.in-Imul.is at c.requires.room }
+
+pub returns-in-Imul : goal.returns-in-Imul
+unfolding does
+returns-in-Imul c = record { step = rw c.in-Imul.is c.two_ints-in-Imul.ensures.step; same = c.two_ints-in-Imul.ensures.same }
+
+pub two_ints-requires-in-Iand : goal.two_ints-requires-in-Iand
+unfolding does
+two_ints-requires-in-Iand c = record { fine = rw c.in-Iand.is at c.requires.fine; room = rw c.in-Iand.is at c.requires.room }
+
+pub returns-in-Iand : goal.returns-in-Iand
+unfolding does
+returns-in-Iand c = record { step = rw c.in-Iand.is c.two_ints-in-Iand.ensures.step; same = c.two_ints-in-Iand.ensures.same }
+
+pub two_ints-requires-in-Ior : goal.two_ints-requires-in-Ior
+unfolding does
+two_ints-requires-in-Ior c = record { fine = rw c.in-Ior.is at c.requires.fine; room = rw c.in-Ior.is at c.requires.room }
+
+pub returns-in-Ior : goal.returns-in-Ior
+unfolding does
+returns-in-Ior c = record { step = rw c.in-Ior.is c.two_ints-in-Ior.ensures.step; same = c.two_ints-in-Ior.ensures.same }
+
+pub two_ints-requires-in-Ixor : goal.two_ints-requires-in-Ixor
+unfolding does
+two_ints-requires-in-Ixor c = record { fine = rw c.in-Ixor.is at c.requires.fine; room = rw c.in-Ixor.is at c.requires.room }
+
+pub returns-in-Ixor : goal.returns-in-Ixor
+unfolding does
+returns-in-Ixor c = record { step = rw c.in-Ixor.is c.two_ints-in-Ixor.ensures.step; same = c.two_ints-in-Ixor.ensures.same }
+
+pub jump_on_int-requires : goal.jump_on_int-requires
+unfolding does
+jump_on_int-requires c = record { fine = rw c.in-Ifeq.is at c.requires.fine; room = rw c.in-Ifeq.is at c.requires.room }
+
+pub returns-in-Ifeq : goal.returns-in-Ifeq
+unfolding does
+returns-in-Ifeq c = record { step = rw c.in-Ifeq.is c.jump_on_int.ensures.step; same = c.jump_on_int.ensures.same }
+
+pub jump_on_int-requires-in-Ifne : goal.jump_on_int-requires-in-Ifne
+unfolding does
+jump_on_int-requires-in-Ifne c = record { fine = rw c.in-Ifne.is at c.requires.fine; room = rw c.in-Ifne.is at c.requires.room }
+
+pub returns-in-Ifne : goal.returns-in-Ifne
+unfolding does
+returns-in-Ifne c = record { step = rw c.in-Ifne.is c.jump_on_int-in-Ifne.ensures.step; same = c.jump_on_int-in-Ifne.ensures.same }
+
+pub jump_on_int-requires-in-Iflt : goal.jump_on_int-requires-in-Iflt
+unfolding does
+jump_on_int-requires-in-Iflt c = record { fine = rw c.in-Iflt.is at c.requires.fine; room = rw c.in-Iflt.is at c.requires.room }
+
+pub returns-in-Iflt : goal.returns-in-Iflt
+unfolding does
+returns-in-Iflt c = record { step = rw c.in-Iflt.is c.jump_on_int-in-Iflt.ensures.step; same = c.jump_on_int-in-Iflt.ensures.same }
+
+pub jump_on_int-requires-in-Ifge : goal.jump_on_int-requires-in-Ifge
+unfolding does
+jump_on_int-requires-in-Ifge c = record { fine = rw c.in-Ifge.is at c.requires.fine; room = rw c.in-Ifge.is at c.requires.room }
+
+pub returns-in-Ifge : goal.returns-in-Ifge
+unfolding does
+returns-in-Ifge c = record { step = rw c.in-Ifge.is c.jump_on_int-in-Ifge.ensures.step; same = c.jump_on_int-in-Ifge.ensures.same }
+
+pub jump_on_int-requires-in-Ifgt : goal.jump_on_int-requires-in-Ifgt
+unfolding does
+jump_on_int-requires-in-Ifgt c = record { fine = rw c.in-Ifgt.is at c.requires.fine; room = rw c.in-Ifgt.is at c.requires.room }
+
+pub returns-in-Ifgt : goal.returns-in-Ifgt
+unfolding does
+returns-in-Ifgt c = record { step = rw c.in-Ifgt.is c.jump_on_int-in-Ifgt.ensures.step; same = c.jump_on_int-in-Ifgt.ensures.same }
+
+pub jump_on_int-requires-in-Ifle : goal.jump_on_int-requires-in-Ifle
+unfolding does
+jump_on_int-requires-in-Ifle c = record { fine = rw c.in-Ifle.is at c.requires.fine; room = rw c.in-Ifle.is at c.requires.room }
+
+pub returns-in-Ifle : goal.returns-in-Ifle
+unfolding does
+returns-in-Ifle c = record { step = rw c.in-Ifle.is c.jump_on_int-in-Ifle.ensures.step; same = c.jump_on_int-in-Ifle.ensures.same }
+
+pub jump_on_two_ints-requires : goal.jump_on_two_ints-requires
+unfolding does
+jump_on_two_ints-requires c = record { fine = rw c.in-IfIcmpeq.is at c.requires.fine; room = rw c.in-IfIcmpeq.is at c.requires.room }
+
+pub returns-in-IfIcmpeq : goal.returns-in-IfIcmpeq
+unfolding does
+returns-in-IfIcmpeq c = record { step = rw c.in-IfIcmpeq.is c.jump_on_two_ints.ensures.step; same = c.jump_on_two_ints.ensures.same }
+
+pub jump_on_two_ints-requires-in-IfIcmpne : goal.jump_on_two_ints-requires-in-IfIcmpne
+unfolding does
+jump_on_two_ints-requires-in-IfIcmpne c = record { fine = rw c.in-IfIcmpne.is at c.requires.fine; room = rw c.in-IfIcmpne.is at c.requires.room }
+
+pub returns-in-IfIcmpne : goal.returns-in-IfIcmpne
+unfolding does
+returns-in-IfIcmpne c = record { step = rw c.in-IfIcmpne.is c.jump_on_two_ints-in-IfIcmpne.ensures.step; same = c.jump_on_two_ints-in-IfIcmpne.ensures.same }
+
+pub jump_on_two_ints-requires-in-IfIcmplt : goal.jump_on_two_ints-requires-in-IfIcmplt
+unfolding does
+jump_on_two_ints-requires-in-IfIcmplt c = record { fine = rw c.in-IfIcmplt.is at c.requires.fine; room = rw c.in-IfIcmplt.is at c.requires.room }
+
+pub returns-in-IfIcmplt : goal.returns-in-IfIcmplt
+unfolding does
+returns-in-IfIcmplt c = record { step = rw c.in-IfIcmplt.is c.jump_on_two_ints-in-IfIcmplt.ensures.step; same = c.jump_on_two_ints-in-IfIcmplt.ensures.same }
+
+pub jump_on_two_ints-requires-in-IfIcmpge : goal.jump_on_two_ints-requires-in-IfIcmpge
+unfolding does
+jump_on_two_ints-requires-in-IfIcmpge c = record { fine = rw c.in-IfIcmpge.is at c.requires.fine; room = rw c.in-IfIcmpge.is at c.requires.room }
+
+pub returns-in-IfIcmpge : goal.returns-in-IfIcmpge
+unfolding does
+returns-in-IfIcmpge c = record { step = rw c.in-IfIcmpge.is c.jump_on_two_ints-in-IfIcmpge.ensures.step; same = c.jump_on_two_ints-in-IfIcmpge.ensures.same }
+
+pub jump_on_two_ints-requires-in-IfIcmpgt : goal.jump_on_two_ints-requires-in-IfIcmpgt
+unfolding does
+jump_on_two_ints-requires-in-IfIcmpgt c = record { fine = rw c.in-IfIcmpgt.is at c.requires.fine; room = rw c.in-IfIcmpgt.is at c.requires.room }
+
+pub returns-in-IfIcmpgt : goal.returns-in-IfIcmpgt
+unfolding does
+returns-in-IfIcmpgt c = record { step = rw c.in-IfIcmpgt.is c.jump_on_two_ints-in-IfIcmpgt.ensures.step; same = c.jump_on_two_ints-in-IfIcmpgt.ensures.same }
+
+pub jump_on_two_ints-requires-in-IfIcmple : goal.jump_on_two_ints-requires-in-IfIcmple
+unfolding does
+jump_on_two_ints-requires-in-IfIcmple c = record { fine = rw c.in-IfIcmple.is at c.requires.fine; room = rw c.in-IfIcmple.is at c.requires.room }
+
+pub returns-in-IfIcmple : goal.returns-in-IfIcmple
+unfolding does
+returns-in-IfIcmple c = record { step = rw c.in-IfIcmple.is c.jump_on_two_ints-in-IfIcmple.ensures.step; same = c.jump_on_two_ints-in-IfIcmple.ensures.same }
+
+pub returns-in-Invokevirtual : goal.returns-in-Invokevirtual
+returns-in-Invokevirtual c = record { step = (rw c.in-Invokevirtual.is, record { frame = refl; heap = refl }); same = record { method = refl; room = refl } }
+
+pub returns-in-Invokespecial : goal.returns-in-Invokespecial
+returns-in-Invokespecial c = record { step = (rw c.in-Invokespecial.is, record { frame = refl; heap = refl }); same = record { method = refl; room = refl } }
+
+pub returns-in-Invokestatic : goal.returns-in-Invokestatic
+returns-in-Invokestatic c = record { step = (rw c.in-Invokestatic.is, record { frame = refl; heap = refl }); same = record { method = refl; room = refl } }
+
+pub returns-in-New : goal.returns-in-New
+returns-in-New c = record { step = (rw c.in-New.is, record { frame = refl; heap = refl }); same = record { method = refl; room = refl } }
+
+pub returns-in-Newarray : goal.returns-in-Newarray
+returns-in-Newarray c = record { step = (rw c.in-Newarray.is, record { frame = refl; heap = refl }); same = record { method = refl; room = refl } }
+
+pub returns-in-Anewarray : goal.returns-in-Anewarray
+returns-in-Anewarray c = record { step = (rw c.in-Anewarray.is, record { frame = refl; heap = refl }); same = record { method = refl; room = refl } }
