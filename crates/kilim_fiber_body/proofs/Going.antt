@@ -30,7 +30,7 @@ use Rattle.kilim_fiber_spec.specs.Fibers.{is_rewinding}
 use Rattle.kilim_fiber_laws.specs.woven_kin.Standing.{Standing}
 use Rattle.kilim_fiber_laws.specs.woven_kin.Nexts.{Next, Goes, Ends, Stands, asks_next, finish_next, found_next, next_by, next_of, opens_next, spent_or, stood, ticked}
 use Rattle.kilim_fiber_laws.specs.woven_kin.Alike.{is_end, spends, spends_at}
-use Rattle.kilim_fiber_body.specs.Body.{behind_at, calls_in, operands_of, standing_at}
+use Rattle.kilim_fiber_body.specs.Body.{behind_at, operands_of, standing_at}
 use Rattle.kilim_fiber_body.specs.Comes.{CanGive}
 use Rattle.kilim_fiber_body.specs.Legs.{ComesTo, HasGone}
 use Rattle.kilim_fiber_body.specs.Reach.{AtFirst, Further, GoesTo, IsReadyOn}

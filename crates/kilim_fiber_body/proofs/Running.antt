@@ -1,5 +1,5 @@
 -- Instructions and members of `kilim/Fiber`, one after the other: what a run of them comes to is what the woven fiber comes to.
-use Rattle.std.proofs.Common.{◌≡◌, ◌∙◌, ◌<◌, ◌≤◌, ◌+◌, ◌-◌, ℕ, Bool, true, false, not, List, [], ◌∷◌, Option, Some, None, refl, sym, ap, subst, arith}
+use Rattle.std.proofs.Common.{◌≡◌, ◌∙◌, ◌<◌, ◌≤◌, ◌+◌, ◌-◌, ℕ, Bool, true, false, not, List, [], ◌∷◌, Some, refl, sym, ap, subst, arith}
 use Rattle.std.specs.Prelude.{◌&&◌}
 use Rattle.kilim_program.specs.declared.names.MethodId.{MethodId}
 use Rattle.kilim_program.specs.declared.value.Value.{Value}
@@ -15,9 +15,8 @@ use Rattle.kilim_run_model.specs.State.{Setting}
 use Rattle.kilim_run_interp.specs.Step.{CallerFits}
 use Rattle.kilim_fiber_spec.specs.Fibers.{Fib, is_rewinding}
 use Rattle.kilim_fiber_spec.specs.fiber_kin.Acts.{is_making}
-use Rattle.kilim_fiber_steps.specs.Marks.{IsMark, NextHas}
+use Rattle.kilim_fiber_steps.specs.Marks.{IsMark}
 use Rattle.kilim_fiber_steps.specs.Woven.{AtFirst, ByMember, ByPause, ByReturn, ByRun, FiberRunsTo, HasFiberRun, IsFiberSafe, MemberFits, MemberSteps, YieldSteps, gives_value}
-use Rattle.kilim_fiber_steps.specs.records.Members.{Does, NotDone, did}
 use Rattle.kilim_fiber_steps.specs.declared.runs.Halted.{Halted}
 use Rattle.kilim_fiber_steps.specs.declared.runs.Halted.TheVariants as halted
 use Rattle.kilim_fiber_laws.specs.woven_kin.Standing.{Standing}
@@ -112,7 +111,6 @@ module _ (set : Setting) (W : Program) (marks : List (List Bool)) (t : ℕ) wher
         (goes_on set W marks t (with_ g) mid x (b.count + m) (not (is_rewinding g)) refl (limit - m) there more calls k (omega (arith, sum, few)) steps))
     fiber_goes n calls k g (ByMember mark top below e runs has left step) =
         reach.Further (at_ n (top ∷ below) k e) 0 0 (fiber_goes n (top ∷ below) k e runs) (λ end makes. absurd (not_both makes (ap is_making step.asks))) (member_goes n mark top below k e calls g has left step)
-
     fiber_goes n calls k g (ByReturn mark top below e runs has again step new) =
         reach.Further (at_ n (top ∷ below) k e) 0 0 (fiber_goes n (top ∷ below) k e runs) (λ end makes. absurd (not_both makes (ap is_making step.asks)))
         (yield_comes n mark top below k e calls has (λ counts. absurd (never_counts mark (is_rewinding e) again counts)) step

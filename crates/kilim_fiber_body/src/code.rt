@@ -43,7 +43,15 @@ pub struct Code {
 fn tables_of(
     alloc: Global,
     program: &Program,
-) -> Result<(Places, Vec<Option<Native>>, Vec<Option<MethodId>>, Vec<Reach>), NoMemory>
+) -> Result<
+    (
+        Places,
+        Vec<Option<Native>>,
+        Vec<Option<MethodId>>,
+        Vec<Reach>,
+    ),
+    NoMemory,
+>
     ensures natives { IfOk result (λ tables. AreNatives program.now tables.1.items) }
     ensures executes { IfOk result (λ tables. AreExecutes program.now tables.2.items) }
     ensures reached { IfOk result (λ tables. AreReached program.now tables.3.items) }

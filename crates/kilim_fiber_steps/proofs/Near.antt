@@ -10,7 +10,7 @@ use Rattle.kilim_program.specs.Program.{Program}
 use Rattle.kilim_run_state.specs.Machine.{Objects}
 use Rattle.kilim_run_machine.specs.Does.{does}
 use Rattle.kilim_run_machine.specs.Effect.{Effect, Goes}
-use Rattle.kilim_run_machine.specs.Moves.{effect_of, moves}
+use Rattle.kilim_run_machine.specs.Moves.{moves}
 use Rattle.kilim_run_state.specs.declared.frames.frame.Frame.{Frame}
 use Rattle.kilim_run_state.specs.declared.frames.frames.Frames.{Frames}
 use Rattle.kilim_run_state.specs.frames.Calls.{activation, below_of, calls_of}
@@ -20,9 +20,8 @@ use Rattle.kilim_run_rows.specs.Outcome as outcome
 use Rattle.kilim_run_rows.specs.Outcome.{SameFrame, Shows, height, is_stuck}
 use Rattle.kilim_run_interp.specs.Step.{AreRoomy, IsWent}
 use Rattle.kilim_run_interp.specs.Run.{IsFine}
-use Rattle.kilim_fiber_steps.specs.Legs.{HasGone, HasHalted, IsOpen, IsStill, standing}
-use Rattle.kilim_fiber_steps.specs.Marks.{IsMarked, IsNumber}
-use Rattle.kilim_fiber_steps.specs.declared.runs.Halt.TheVariants as halt
+use Rattle.kilim_fiber_steps.specs.Legs.{IsOpen, IsStill, standing}
+use Rattle.kilim_fiber_steps.specs.Marks.{IsMarked}
 use Rattle.kilim_fiber_steps.proofs.Doing.{act_fine, act_room, goes_at, put_at, shows_of, still_roomy}
 
 abbrev pub at_place : Frame → ℕ → Frame

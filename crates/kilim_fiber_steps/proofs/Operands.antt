@@ -1,5 +1,5 @@
 -- With what operands a member of `kilim/Fiber` is called that does something, and what it leaves.
-use Rattle.std.proofs.Common.{◌≡◌, ◌≤◌, ℕ, suc, List, [], ◌∷◌, Option, Some, None, length, refl, sym, ap, subst, ◌∙◌, take, drop, reverse, true, ◌<◌, length-drop, Result, arith}
+use Rattle.std.proofs.Common.{◌≡◌, ◌≤◌, ℕ, List, [], ◌∷◌, Some, None, length, refl, sym, ap, subst, ◌∙◌, take, drop, reverse, true, ◌<◌, length-drop, Result, arith}
 use Rattle.std.specs.Prelude.{OnOk, pos, slice_get}
 use Rattle.std.proofs.lemmas.List.{length-reverse, length-take-le}
 use Rattle.std.proofs.lemmas.Option.{same_Some}
@@ -9,7 +9,6 @@ use Rattle.kilim_program.specs.declared.value.Value.TheVariants.{Int, Fiber}
 use Rattle.kilim_run_machine.specs.Natives as native
 use Rattle.kilim_run_state.specs.declared.frames.frame.Frame.{Frame}
 use Rattle.kilim_fiber_spec.specs.Fibers.{Fib}
-use Rattle.kilim_fiber_spec.specs.Thread.{push}
 use Rattle.kilim_fiber_steps.specs.Woven.{IsDone, gives_value}
 use Rattle.kilim_fiber_steps.specs.records.Members.{Does, NotDone, did}
 use Rattle.kilim_fiber_steps.specs.records.natives.Natives.{member_meant}
@@ -111,7 +110,6 @@ two_taken (x ∷ xs) v rest e last = let same : x ≡ Fiber = same_Some _ _ last
 three_taken : (xs : List Value) (v u : Value) (rest : List Value) → drop 1 xs ≡ v ∷ u ∷ rest → slice_get xs 0 ≡ Some Fiber → (reverse (take 3 xs) ≡ u ∷ v ∷ Fiber ∷ []) × (drop 3 xs ≡ rest)
 three_taken [] v u rest e last = absurd (cc)
 three_taken (x ∷ xs) v u rest e last = let same : x ≡ Fiber = same_Some _ _ last in let all : xs ≡ v ∷ u ∷ rest = e in rw (all, same) (refl, refl)
-
 
 -- a frame with another stack, and that with yet another
 under : (f g : Frame) (v : Value) → f ≡ record g { stack = record g.stack { values = v ∷ g.stack.values } } → (g ≡ record f { stack = record f.stack { values = g.stack.values } }) × (f.stack.values ≡ v ∷ g.stack.values)

@@ -22,9 +22,8 @@ use Rattle.kilim_run_interp.specs.Step.{AreRoomy, stack_limit}
 use Rattle.kilim_fiber_spec.specs.Fibers.{Fib, is_rewinding, marks_of, pausing, rewound}
 use Rattle.kilim_fiber_spec.specs.Thread.{push}
 use Rattle.kilim_fiber_steps.specs.Counted.{CountedRunsTo, IsCountedSafe, tick_if}
-use Rattle.kilim_fiber_steps.specs.Counted as counted
 use Rattle.kilim_fiber_steps.specs.Legs.{IsOpen, standing}
-use Rattle.kilim_fiber_steps.specs.Marks.{IsMarked, NextHas}
+use Rattle.kilim_fiber_steps.specs.Marks.{NextHas}
 use Rattle.kilim_fiber_steps.specs.Woven.{AtFirst, ByMember, ByPause, ByReturn, ByRun, CallsMember, CallsYield, FiberRunsTo, HasYielded, IsDone, IsFiberLeg, IsFiberSafe, MemberFits, YieldSteps, gives_value}
 use Rattle.kilim_fiber_steps.specs.records.Members.{NotDone, did}
 use Rattle.kilim_fiber_steps.specs.records.natives.Natives.{member_meant}
@@ -95,7 +94,6 @@ module _ (p : Program) (counted : List (List Bool)) where
       ByRun (m + q) more between y (fiber_behind limit left first h f m mid x g all runs q between y e rest) steps (omega (arith, sum)) (omega (arith, all, few))
   fiber_behind limit left first h f m mid x g all runs n calls k e (ByMember mark top below d rest has some step) =
       ByMember mark top below d (fiber_behind limit left first h f m mid x g all runs n (top ∷ below) k d rest) has (λ counts. let less : n < left = some counts in omega (arith, all, less)) step
-
   fiber_behind limit left first h f m mid x g all runs n calls k e (ByReturn mark top below d rest has again step new) =
       ByReturn mark top below d (fiber_behind limit left first h f m mid x g all runs n (top ∷ below) k d rest) has again step new
   fiber_behind limit left first h f m mid x g all runs n calls k e (ByPause q mark top below d rest has lives step new sum few) =
@@ -125,7 +123,7 @@ module _ (p : Program) (counted : List (List Bool)) where
     pub member_fits : IsFiberSafe p counted limit first h f → (did (member_meant member) (reverse (take count frame.stack.values)) e ≡ NotDone → ⊥) × (gives_value (member_meant member) ≡ true → length (drop count frame.stack.values) < stack_limit p frame.method)
     member_fits safe =
         let here = safe n call.mark (activation (standing own frames frame at).top) (below_of frames) k e (omega (arith, all)) some_left runs
-            (mark_in p counted frame.method own marks (first_place (drop at own.code) own.code_length) call.mark there are call.is) in
+        (mark_in p counted frame.method own marks (first_place (drop at own.code) own.code_length) call.mark there are call.is) in
         let fits = subst (MemberFits p e) call.asks here.fits in
         fits.member (member_meant member) call.of_fiber
 
@@ -156,7 +154,7 @@ module _ (p : Program) (counted : List (List Bool)) where
     pub yield_args : IsFiberSafe p counted limit first h f → reverse (take count frame.stack.values) ≡ Fiber ∷ []
     yield_args safe =
         let here = safe n call.mark (activation (standing own frames frame at).top) (below_of frames) k e (omega (arith, all))
-            (λ counts. let less : 0 < left = call.some (ap (λ (b : Bool). call.mark && b) live-is ∙ counts) in omega (arith, all, less)) runs has_mark in
+        (λ counts. let less : 0 < left = call.some (ap (λ (b : Bool). call.mark && b) live-is ∙ counts) in omega (arith, all, less)) runs has_mark in
         let fits = subst (MemberFits p e) call.asks here.fits in
         fits.yield call.of_fiber
 

@@ -1,5 +1,5 @@
 -- What the rows of calls say, with the operands as they stand on the stack.
-use Rattle.std.proofs.Common.{◌≡◌, ◌∙◌, sym, ap, refl, subst, ℕ, zero, suc, ◌+◌, ◌<◌, ◌≤◌, Bool, true, false, true≢false, cond, List, [], ◌∷◌, ◌++◌, Option, Some, None, length, take, drop, reverse, slice_get, is_some, arith, length-take}
+use Rattle.std.proofs.Common.{◌≡◌, ◌∙◌, sym, ap, refl, ℕ, ◌+◌, ◌<◌, ◌≤◌, true, false, true≢false, List, [], ◌∷◌, Option, Some, None, length, take, drop, reverse, slice_get, is_some, arith, length-take}
 use Rattle.std.proofs.lemmas.List.{length-reverse}
 use Rattle.kilim_program.specs.declared.ty.Ty.{Ty}
 use Rattle.std.specs.FinMap.{get}

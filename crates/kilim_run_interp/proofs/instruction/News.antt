@@ -1,12 +1,11 @@
 -- New objects and arrays.
-use Rattle.std.proofs.Common.{◌≡◌, ◌∙◌, sym, ap, refl, ℕ, ℤ, pos, ◌<◌, ◌≤◌, suc, Bool, true, false, List, ◌∷◌, None, length, nat_lt, arith}
-use Rattle.std.specs.FinMap.{get, insert}
+use Rattle.std.proofs.Common.{◌≡◌, ◌∙◌, sym, ap, ℕ, ℤ, pos, ◌<◌, ◌≤◌, suc, true, false, List, ◌∷◌, length, nat_lt, arith}
 use Rattle.kilim_program.specs.declared.class.Method.{Method}
 use Rattle.kilim_program.specs.declared.instr.Instr.TheVariants.{New}
 use Rattle.kilim_program.specs.declared.names.ClassId.{ClassId}
 use Rattle.kilim_program.specs.declared.ty.Ty.{Ty}
 use Rattle.kilim_program.specs.declared.value.Value.{Value}
-use Rattle.kilim_program.specs.declared.value.Value.TheVariants.{Int, Ref}
+use Rattle.kilim_program.specs.declared.value.Value.TheVariants.{Int}
 use Rattle.kilim_program.specs.Program.{Program}
 use Rattle.kilim_run_state.specs.declared.cause.EndCause.TheVariants as cause
 use Rattle.kilim_run_state.specs.declared.value.Object.{Object}

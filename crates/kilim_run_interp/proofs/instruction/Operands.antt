@@ -1,13 +1,8 @@
 -- The operands of calls, as they stand on the stack.
-use Rattle.std.proofs.Common.{◌≡◌, ◌∙◌, sym, ap, refl, subst, ℕ, zero, suc, ◌+◌, ◌<◌, ◌≤◌, Bool, true, false, true≢false, List, [], ◌∷◌, ◌++◌, Option, Some, None, length, take, drop, reverse, slice_get, arith}
+use Rattle.std.proofs.Common.{◌≡◌, ◌∙◌, sym, ap, refl, ℕ, zero, suc, ◌+◌, ◌<◌, ◌≤◌, false, true≢false, List, [], ◌∷◌, ◌++◌, Some, length, take, drop, reverse, slice_get, arith}
 use Rattle.std.proofs.lemmas.List.{reverse-append}
-use Rattle.kilim_program.specs.declared.class.Method.{Method}
-use Rattle.kilim_program.specs.declared.instr.Instr.TheVariants.{Invokevirtual}
-use Rattle.kilim_program.specs.declared.names.MethodId.{MethodId}
 use Rattle.kilim_program.specs.declared.value.Value.{Value}
-use Rattle.kilim_program.specs.Program.{Program}
-use Rattle.kilim_run_state.specs.Machine.{Objects}
-use Rattle.kilim_run_machine.specs.Effect.{Effect, Stuck, on_value, on_values}
+use Rattle.kilim_run_machine.specs.Effect.{Effect, on_values}
 use Rattle.kilim_run_interp.specs.instruction.Calls.{on_call}
 use Rattle.kilim_run_rows.specs.Outcome.{is_stuck}
 

@@ -1,5 +1,5 @@
 -- What the table of calls tells is what the table of instructions says.
-use Rattle.std.proofs.Common.{◌≡◌, ◌∙◌, sym, ap, refl, subst, ℕ, ◌+◌, ◌≤◌, Bool, true, false, true≢false, List, ◌∷◌, ◌++◌, [], Option, Some, None, length, take, drop, reverse, slice_get}
+use Rattle.std.proofs.Common.{◌≡◌, ◌∙◌, sym, ap, refl, subst, ℕ, ◌+◌, ◌≤◌, Bool, true, false, List, ◌∷◌, ◌++◌, [], Option, Some, None, length, take, drop, reverse, slice_get}
 use Rattle.std.specs.Prelude.{IfSome, codes, if◌then◌else◌}
 use Rattle.std.proofs.lemmas.Option.{same_Some, none-some}
 use Rattle.kilim_program.specs.declared.class.Method.{Method}

@@ -1,5 +1,5 @@
 -- What the rows of the table come to, by the operations that their instructions name.
-use Rattle.std.proofs.Common.{◌≡◌, ◌⊎◌, inl, inr, refl, ap, ℕ, ◌<◌, pos, false, true≢false, List, [], ◌∷◌, Option, Some, None, length, arith}
+use Rattle.std.proofs.Common.{◌≡◌, ◌⊎◌, inl, inr, refl, ap, ℕ, ◌<◌, false, true≢false, List, [], ◌∷◌, Option, Some, None, length, arith}
 use Rattle.kilim_program.specs.declared.class.Method.{Method}
 use Rattle.kilim_program.specs.declared.instr.Instr.{Instr}
 use Rattle.kilim_program.specs.declared.instr.Instr.TheVariants.{Ladd, Lsub, Lmul, Land, Lor, Lxor, Ishl, Ishr, Iushr, Lshl, Lshr, Lushr, Ineg, I2b, I2c, I2s, Iaload, Baload, Caload, Saload, Bastore, Castore, Sastore, Ireturn, Lreturn, Areturn}

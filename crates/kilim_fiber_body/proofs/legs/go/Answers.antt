@@ -1,7 +1,6 @@
-use Rattle.std.proofs.Common.{◌≡◌, ◌+◌, ◌-◌, Bool, Option, Some, not, ap, sym, subst, ◌∙◌}
+use Rattle.std.proofs.Common.{◌+◌, ◌-◌, Bool, Option, Some, not, ap, sym, subst, ◌∙◌}
 use Rattle.std.specs.Prelude.{◌&&◌}
 use Rattle.kilim_run_state.specs.declared.frames.frames.Frames.{Frames}
-use Rattle.kilim_fiber_spec.specs.Fibers.{is_rewinding}
 use Rattle.kilim_fiber_steps.specs.Woven.{HasFiberRun, IsFiberSafe}
 use Rattle.kilim_fiber_body.specs.Body.{calls_in, standing_at}
 use Rattle.kilim_fiber_body.specs.Legs.{HasGone}

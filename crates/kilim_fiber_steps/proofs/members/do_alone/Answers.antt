@@ -1,4 +1,4 @@
-use Rattle.std.proofs.Common.{◌≡◌, ◌<◌, ap, sym, subst, length, List, drop}
+use Rattle.std.proofs.Common.{◌<◌, sym, subst, length}
 use Rattle.kilim_run_state.specs.declared.frames.frame.Frame.{Frame}
 use Rattle.kilim_fiber_steps.specs.records.natives.Natives.{member_meant}
 use Rattle.kilim_fiber_steps.proofs.Operands.{alone_done, gives_by}

@@ -1,4 +1,4 @@
-use Rattle.std.proofs.Common.{◌≡◌, ◌<◌, ◌≤◌, ℕ, true, ap, subst, length, List, drop, reverse, take}
+use Rattle.std.proofs.Common.{◌≡◌, ◌<◌, ℕ, true, subst, length, List, drop, reverse, take}
 use Rattle.kilim_program.specs.declared.value.Value.{Value}
 use Rattle.kilim_fiber_steps.specs.Woven.{gives_value}
 use Rattle.kilim_fiber_steps.specs.records.Members.{NotDone, did}

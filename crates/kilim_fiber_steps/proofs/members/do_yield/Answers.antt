@@ -1,4 +1,4 @@
-use Rattle.std.proofs.Common.{◌≡◌, ◌<◌, ◌≤◌, ◌∙◌, ℕ, [], ◌∷◌, ap, subst, sym, drop, length, List, arith}
+use Rattle.std.proofs.Common.{◌≡◌, ◌≤◌, ◌∙◌, ℕ, [], ◌∷◌, ap, sym, drop, length, arith}
 use Rattle.kilim_program.specs.declared.value.Value.TheVariants.{Fiber}
 use Rattle.kilim_fiber_steps.proofs.Operands.{count_of}
 use Rattle.kilim_fiber_steps.proofs.members.do_yield.Goals as goal

@@ -1,4 +1,4 @@
-use Rattle.std.proofs.Common.{◌≡◌, ◌<◌, ◌≤◌, sym, subst, drop, length, length-drop, arith}
+use Rattle.std.proofs.Common.{◌<◌, ◌≤◌, sym, subst, length, length-drop, arith}
 use Rattle.kilim_run_state.specs.declared.frames.frame.Frame.{Frame}
 use Rattle.kilim_fiber_steps.proofs.Operands.{int_there, place_done, two_left}
 use Rattle.kilim_fiber_steps.proofs.members.place.Goals as goal

@@ -1,4 +1,4 @@
-use Rattle.std.proofs.Common.{◌≡◌, ◌∙◌, ◌<◌, refl, sym, ap, subst, ℕ, Bool, true, List, length, arith}
+use Rattle.std.proofs.Common.{◌≡◌, ◌∙◌, ◌<◌, refl, sym, ap, subst, ℕ, true, List, length, arith}
 use Rattle.std.specs.Prelude.{◌&&◌}
 use Rattle.kilim_program.specs.declared.instr.Instr.{Instr}
 use Rattle.kilim_run_rows.specs.declared.outcome.Moved.{Moved}
@@ -52,8 +52,8 @@ returns-in-Some-member_at c =
     let some : (c.mark_of-mark.result && c.args.live) ≡ true → 0 < c.args.left = λ e. c.is_spent.ensures.no c.if-is_spent.false (c.counts_by-costs.ensures ∙ e) in
     let is = marked_own c.args.own.now c.args.code.now c.args.marks.now c.args.at c.mark_of-mark.result c.requires.code c.mark_of-mark.ensures.has in
     let opened = near_open c.args.program.now c.args.own.now c.args.frames.now c.args.frame.now c.args.at c.args.heap.now c.args.code.now c.instr_at-found.result.0.now c.instr_at-found.result.1
-        (c.requires.fine c.mark_of-mark.result is some) c.requires.roomy c.requires.own c.requires.code c.instr_at-found.ensures.found c.args.frame.now c.args.heap.now (record { method = refl; room = refl })
-        c.args.marks.now c.args.live c.mark_of-mark.result c.args.left c.in-Some.moved c.in-Some.ensures is some in
+    (c.requires.fine c.mark_of-mark.result is some) c.requires.roomy c.requires.own c.requires.code c.instr_at-found.ensures.found c.args.frame.now c.args.heap.now (record { method = refl; room = refl })
+    c.args.marks.now c.args.live c.mark_of-mark.result c.args.left c.in-Some.moved c.in-Some.ensures is some in
     let asked = subst (λ (m : Moved). IsOpen c.args.program.now c.args.own.now c.args.marks.now c.args.live c.args.left (standing c.args.own.now c.args.frames.now c.args.frame.now c.args.at) c.args.heap.now c.mark_of-mark.result m c.instr_at-found.result.1 (standing c.args.own.now c.args.frames.now c.args.frame.now c.args.at) c.args.heap.now) c.in-Asked.is opened in
     let next = c.in-Some-number_behind.ensures in
     let same : length c.args.code.now ≡ length c.args.own.now.code = ap (λ (xs : List (ℕ × Instr)). length xs) c.requires.code in
@@ -66,8 +66,8 @@ returns-then-not-is_spent c =
     let some : (c.mark_of-mark.result && c.args.live) ≡ true → 0 < c.args.left = λ e. c.is_spent.ensures.no c.if-is_spent.false (c.counts_by-costs.ensures ∙ e) in
     let is = marked_own c.args.own.now c.args.code.now c.args.marks.now c.args.at c.mark_of-mark.result c.requires.code c.mark_of-mark.ensures.has in
     let opened = near_open c.args.program.now c.args.own.now c.args.frames.now c.args.frame.now c.args.at c.args.heap.now c.args.code.now c.instr_at-found.result.0.now c.instr_at-found.result.1
-        (c.requires.fine c.mark_of-mark.result is some) c.requires.roomy c.requires.own c.requires.code c.instr_at-found.ensures.found c.args.frame.now c.args.heap.now (record { method = refl; room = refl })
-        c.args.marks.now c.args.live c.mark_of-mark.result c.args.left c.in-Some.moved c.in-Some.ensures is some in
+    (c.requires.fine c.mark_of-mark.result is some) c.requires.roomy c.requires.own c.requires.code c.instr_at-found.ensures.found c.args.frame.now c.args.heap.now (record { method = refl; room = refl })
+    c.args.marks.now c.args.live c.mark_of-mark.result c.args.left c.in-Some.moved c.in-Some.ensures is some in
     let asked = subst (λ (m : Moved). IsOpen c.args.program.now c.args.own.now c.args.marks.now c.args.live c.args.left (standing c.args.own.now c.args.frames.now c.args.frame.now c.args.at) c.args.heap.now c.mark_of-mark.result m c.instr_at-found.result.1 (standing c.args.own.now c.args.frames.now c.args.frame.now c.args.at) c.args.heap.now) c.in-Asked.is opened in
     let next = c.in-Some-number_behind.ensures in
     let same : length c.args.code.now ≡ length c.args.own.now.code = ap (λ (xs : List (ℕ × Instr)). length xs) c.requires.code in

@@ -1,5 +1,4 @@
-use Rattle.std.proofs.Common.{◌≡◌, ◌∙◌, ◌≤◌, refl, sym, ap, subst, ℕ, List, drop, length, arith}
-use Rattle.kilim_program.specs.declared.instr.Instr.{Instr}
+use Rattle.std.proofs.Common.{◌∙◌, refl, sym, ap, subst, ℕ, drop, arith}
 use Rattle.kilim_program.specs.Lengths.{first_place}
 use Rattle.kilim_program.specs.Names.{method_at}
 use Rattle.kilim_run_state.specs.frames.Calls.{activation, below_of, calls_of}

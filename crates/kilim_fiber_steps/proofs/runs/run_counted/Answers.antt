@@ -1,4 +1,4 @@
-use Rattle.std.proofs.Common.{◌≡◌, ◌∙◌, ◌+◌, ◌-◌, refl, sym, ap, subst, Bool, not, arith}
+use Rattle.std.proofs.Common.{◌≡◌, ◌∙◌, ◌+◌, ◌-◌, refl, sym, ap, Bool, not, arith}
 use Rattle.std.specs.Prelude.{◌&&◌}
 use Rattle.kilim_run_state.specs.frames.Calls.{activation, calls_of}
 use Rattle.kilim_run_machine.specs.Moves.{effect_of}

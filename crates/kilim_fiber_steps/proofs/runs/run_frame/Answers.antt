@@ -1,11 +1,9 @@
-use Rattle.std.proofs.Common.{◌≡◌, ◌∙◌, ◌<◌, sym, ap, subst, Bool, true, not, arith}
+use Rattle.std.proofs.Common.{◌∙◌, sym, ap, subst, Bool, not, arith}
 use Rattle.std.specs.Prelude.{◌&&◌}
 use Rattle.kilim_program.specs.Names.{method_at}
 use Rattle.kilim_run_state.specs.frames.Calls.{activation, below_of, calls_of}
-use Rattle.kilim_run_interp.specs.Run.{IsFine}
 use Rattle.kilim_fiber_spec.specs.Fibers.{is_rewinding, marks_of}
 use Rattle.kilim_fiber_steps.specs.Legs.{Does}
-use Rattle.kilim_fiber_steps.specs.Marks.{IsMarked}
 use Rattle.kilim_fiber_steps.proofs.Counting.{fine_at, gone_on, leg_of, no_more}
 use Rattle.kilim_fiber_steps.proofs.Marks.{mark_in}
 use Rattle.kilim_fiber_steps.proofs.Woven.{counted_safe}

@@ -1,16 +1,15 @@
-use Rattle.std.proofs.Common.{◌≡◌, ◌∙◌, ◌≤◌, ◌<◌, ◌+◌, ◌-◌, refl, sym, ap, subst, ℕ, Bool, true, not, List, drop, length, arith}
-use Rattle.std.specs.Prelude.{◌&&◌}
+use Rattle.std.proofs.Common.{◌≡◌, ◌∙◌, ◌≤◌, ◌-◌, refl, sym, ap, subst, ℕ, Bool, List, drop, length, arith}
 use Rattle.kilim_program.specs.declared.instr.Instr.{Instr}
 use Rattle.kilim_program.specs.Lengths.{first_place}
 use Rattle.kilim_program.specs.Names.{method_at}
 use Rattle.kilim_run_state.specs.declared.frames.frame.Frame.{Frame}
 use Rattle.kilim_run_state.specs.declared.frames.frames.Frames.{Frames}
 use Rattle.kilim_run_state.specs.frames.Calls.{activation, below_of, calls_of}
-use Rattle.kilim_run_interp.specs.Step.{AreRoomy, stack_limit}
-use Rattle.kilim_fiber_spec.specs.Fibers.{is_rewinding, marks_of}
+use Rattle.kilim_run_interp.specs.Step.{stack_limit}
+use Rattle.kilim_fiber_spec.specs.Fibers.{marks_of}
 use Rattle.kilim_fiber_steps.specs.Counted.{CountedRunsTo, IsCountedSafe}
 use Rattle.kilim_fiber_steps.specs.Legs.{IsCountedLeg, IsHalt, standing}
-use Rattle.kilim_fiber_steps.specs.Woven.{AtFirst, CallsMember, CallsYield, FiberRunsTo, IsCall}
+use Rattle.kilim_fiber_steps.specs.Woven.{AtFirst, CallsMember, CallsYield, IsCall}
 use Rattle.kilim_fiber_steps.specs.records.natives.Natives.{member_meant}
 use Rattle.kilim_fiber_steps.proofs.Counting.{fine_at, leg_of, no_more}
 use Rattle.kilim_fiber_steps.proofs.Marks.{mark_in}
@@ -47,8 +46,8 @@ call_near-requires-clause-fine c =
     let first = calls_of (standing c.args.own.now c.members.frames c.members.frame c.members.at) in
     let told = rw c.in-Far.is at c.go_near-gone.ensures.leg.is in
     let safe = subst (λ (b : Bool). IsCountedSafe c.args.program.now c.args.counted.now b c.members.left (calls_of (standing c.args.own.now c.members.frames c.members.frame c.members.at)) c.members.heap) (sym c.is_live-live.ensures)
-        (counted_safe c.args.program.now c.args.counted.now c.args.limit c.members.left (calls_of c.args.frames.now) c.args.heap.now c.args.records.now (c.args.limit - c.members.left) (calls_of (standing c.args.own.now c.members.frames c.members.frame c.members.at)) c.members.heap c.members.records
-        (omega (arith, c.members.invariant.few)) c.requires.safe c.members.invariant.runs) in
+    (counted_safe c.args.program.now c.args.counted.now c.args.limit c.members.left (calls_of c.args.frames.now) c.args.heap.now c.args.records.now (c.args.limit - c.members.left) (calls_of (standing c.args.own.now c.members.frames c.members.frame c.members.at)) c.members.heap c.members.records
+    (omega (arith, c.members.invariant.few)) c.requires.safe c.members.invariant.runs) in
     let there = ap (method_at c.args.program.now) c.go_near-gone.ensures.same ∙ c.members.invariant.own in
     let are = ap (marks_of c.args.counted.now) c.go_near-gone.ensures.same ∙ c.members.invariant.marks in
     λ mark is some. fine_at c.args.program.now c.args.counted.now c.is_live-live.result c.members.left c.go_near-gone.result.left mark first c.members.heap (activation (standing c.args.own.now c.members.frames c.go_near-gone.new.frame c.go_near-gone.result.at).top) (below_of c.members.frames) c.go_near-gone.new.heap safe
@@ -65,7 +64,7 @@ returns-in-Halts-clause-leg c =
     let are = ap (marks_of c.args.counted.now) c.go_near-gone.ensures.same ∙ c.members.invariant.marks in
     let call : IsCall c.args.program.now c.args.own.now c.args.marks.now c.is_live-live.result c.go_near-gone.result.left c.members.frames c.go_near-gone.new.frame c.go_near-gone.result.at c.go_near-gone.new.heap c.call_near.result = c.call_near.ensures in
     let is = leg_of c.args.program.now c.args.counted.now c.is_live-live.result c.args.own.now c.args.marks.now c.members.left c.go_near-gone.result.left c.go_near-gone.result.fuel (calls_of (standing c.args.own.now c.members.frames c.members.frame c.members.at)) c.members.heap (standing c.args.own.now c.members.frames c.go_near-gone.new.frame c.go_near-gone.result.at) c.go_near-gone.new.heap c.in-Halts.halt (standing c.args.own.now c.members.frames c.go_near-gone.new.frame c.go_near-gone.result.at) c.go_near-gone.new.heap
-        there are told.0 told.1 (rw c.in-Halts.is at call) in
+    there are told.0 told.1 (rw c.in-Halts.is at call) in
     let leg : IsCountedLeg c.args.program.now c.args.own.now c.args.counted.now c.is_live-live.result c.members.left c.args.most (calls_of (standing c.args.own.now c.members.frames c.members.frame c.members.at)) c.members.heap c.go_near-gone.result.left c.go_near-gone.result.fuel c.in-Halts.halt c.put_back.new.frames c.go_near-gone.new.heap =
     record {
       few = few;
@@ -115,7 +114,7 @@ do_member-requires c =
     let member = subst (λ (b : Bool). CallsMember c.args.program.now c.args.own.now c.args.marks.now b c.go_near-gone.result.left c.members.frames c.go_near-gone.new.frame c.go_near-gone.result.at c.go_near-gone.new.heap c.in-Member.member c.in-Member.count c.in-Member.behind) c.is_live-live.ensures (rw c.in-Member.is at call) in
     let steps = subst (λ (b : Bool). CountedRunsTo c.args.program.now c.args.counted.now b (calls_of (standing c.args.own.now c.members.frames c.members.frame c.members.at)) c.members.heap (c.members.left - c.go_near-gone.result.left) (calls_of (standing c.args.own.now c.members.frames c.go_near-gone.new.frame c.go_near-gone.result.at)) c.go_near-gone.new.heap) c.is_live-live.ensures told.1 in
     let runs = ran_on c.args.program.now c.args.counted.now c.args.limit c.members.left (calls_of c.args.frames.now) c.args.heap.now c.args.records.now (c.args.limit - c.members.left) (calls_of (standing c.args.own.now c.members.frames c.members.frame c.members.at)) c.members.heap c.members.records (omega (arith, c.members.invariant.few)) c.requires.safe c.members.invariant.runs
-        (c.args.limit - c.go_near-gone.result.left) c.go_near-gone.result.left (calls_of (standing c.args.own.now c.members.frames c.go_near-gone.new.frame c.go_near-gone.result.at)) c.go_near-gone.new.heap steps few refl in
+    (c.args.limit - c.go_near-gone.result.left) c.go_near-gone.result.left (calls_of (standing c.args.own.now c.members.frames c.go_near-gone.new.frame c.go_near-gone.result.at)) c.go_near-gone.new.heap steps few refl in
     let fits = member_fits c.args.program.now c.args.counted.now c.args.own.now c.args.marks.now c.args.limit c.go_near-gone.result.left (calls_of c.args.frames.now) c.args.heap.now c.args.records.now (c.args.limit - c.go_near-gone.result.left) c.members.frames c.go_near-gone.new.frame c.go_near-gone.result.at c.go_near-gone.new.heap c.members.records c.in-Member.member c.in-Member.count c.in-Member.behind there are (omega (arith, few, c.members.invariant.few)) runs member c.requires.safe in
     let room = c.go_near-gone.ensures.roomy.top in
     record {
@@ -134,7 +133,7 @@ members-preserved-in-Member c =
     let member = subst (λ (b : Bool). CallsMember c.args.program.now c.args.own.now c.args.marks.now b c.go_near-gone.result.left c.members.frames c.go_near-gone.new.frame c.go_near-gone.result.at c.go_near-gone.new.heap c.in-Member.member c.in-Member.count c.in-Member.behind) c.is_live-live.ensures (rw c.in-Member.is at call) in
     let steps = subst (λ (b : Bool). CountedRunsTo c.args.program.now c.args.counted.now b (calls_of (standing c.args.own.now c.members.frames c.members.frame c.members.at)) c.members.heap (c.members.left - c.go_near-gone.result.left) (calls_of (standing c.args.own.now c.members.frames c.go_near-gone.new.frame c.go_near-gone.result.at)) c.go_near-gone.new.heap) c.is_live-live.ensures told.1 in
     let runs = ran_on c.args.program.now c.args.counted.now c.args.limit c.members.left (calls_of c.args.frames.now) c.args.heap.now c.args.records.now (c.args.limit - c.members.left) (calls_of (standing c.args.own.now c.members.frames c.members.frame c.members.at)) c.members.heap c.members.records (omega (arith, c.members.invariant.few)) c.requires.safe c.members.invariant.runs
-        (c.args.limit - c.go_near-gone.result.left) c.go_near-gone.result.left (calls_of (standing c.args.own.now c.members.frames c.go_near-gone.new.frame c.go_near-gone.result.at)) c.go_near-gone.new.heap steps few refl in
+    (c.args.limit - c.go_near-gone.result.left) c.go_near-gone.result.left (calls_of (standing c.args.own.now c.members.frames c.go_near-gone.new.frame c.go_near-gone.result.at)) c.go_near-gone.new.heap steps few refl in
     let same = done_method (member_meant c.in-Member.member) c.in-Member.count c.go_near-gone.new.frame c.do_member.new.frame c.members.records c.do_member.new.records c.in-Ok.ensures in
     let less = c.go_near-gone.ensures.leg.less in
     record {
@@ -175,7 +174,7 @@ do_yield-requires c =
     let yields : CallsYield c.args.program.now c.args.own.now c.args.marks.now c.is_live-live.result c.go_near-gone.result.left c.members.frames c.go_near-gone.new.frame c.go_near-gone.result.at c.go_near-gone.new.heap c.in-Yields.count c.in-Yields.behind = rw c.in-Yields.is at call in
     let steps = subst (λ (b : Bool). CountedRunsTo c.args.program.now c.args.counted.now b (calls_of (standing c.args.own.now c.members.frames c.members.frame c.members.at)) c.members.heap (c.members.left - c.go_near-gone.result.left) (calls_of (standing c.args.own.now c.members.frames c.go_near-gone.new.frame c.go_near-gone.result.at)) c.go_near-gone.new.heap) c.is_live-live.ensures told.1 in
     let runs = ran_on c.args.program.now c.args.counted.now c.args.limit c.members.left (calls_of c.args.frames.now) c.args.heap.now c.args.records.now (c.args.limit - c.members.left) (calls_of (standing c.args.own.now c.members.frames c.members.frame c.members.at)) c.members.heap c.members.records (omega (arith, c.members.invariant.few)) c.requires.safe c.members.invariant.runs
-        (c.args.limit - c.go_near-gone.result.left) c.go_near-gone.result.left (calls_of (standing c.args.own.now c.members.frames c.go_near-gone.new.frame c.go_near-gone.result.at)) c.go_near-gone.new.heap steps few refl in
+    (c.args.limit - c.go_near-gone.result.left) c.go_near-gone.result.left (calls_of (standing c.args.own.now c.members.frames c.go_near-gone.new.frame c.go_near-gone.result.at)) c.go_near-gone.new.heap steps few refl in
     record { there = yields.there; args = yield_args c.args.program.now c.args.counted.now c.args.own.now c.args.marks.now c.args.limit c.go_near-gone.result.left (calls_of c.args.frames.now) c.args.heap.now c.args.records.now (c.args.limit - c.go_near-gone.result.left) c.members.frames c.go_near-gone.new.frame c.go_near-gone.result.at c.go_near-gone.new.heap c.members.records c.in-Yields.count c.in-Yields.behind there are (omega (arith, few, c.members.invariant.few)) runs c.is_live-live.result c.is_live-live.ensures yields c.requires.safe }
 
 pub less_if-left-requires : goal.less_if-left-requires
@@ -194,7 +193,7 @@ members-preserved c =
     let yields : CallsYield c.args.program.now c.args.own.now c.args.marks.now c.is_live-live.result c.go_near-gone.result.left c.members.frames c.go_near-gone.new.frame c.go_near-gone.result.at c.go_near-gone.new.heap c.in-Yields.count c.in-Yields.behind = rw c.in-Yields.is at call in
     let steps = subst (λ (b : Bool). CountedRunsTo c.args.program.now c.args.counted.now b (calls_of (standing c.args.own.now c.members.frames c.members.frame c.members.at)) c.members.heap (c.members.left - c.go_near-gone.result.left) (calls_of (standing c.args.own.now c.members.frames c.go_near-gone.new.frame c.go_near-gone.result.at)) c.go_near-gone.new.heap) c.is_live-live.ensures told.1 in
     let runs = ran_on c.args.program.now c.args.counted.now c.args.limit c.members.left (calls_of c.args.frames.now) c.args.heap.now c.args.records.now (c.args.limit - c.members.left) (calls_of (standing c.args.own.now c.members.frames c.members.frame c.members.at)) c.members.heap c.members.records (omega (arith, c.members.invariant.few)) c.requires.safe c.members.invariant.runs
-        (c.args.limit - c.go_near-gone.result.left) c.go_near-gone.result.left (calls_of (standing c.args.own.now c.members.frames c.go_near-gone.new.frame c.go_near-gone.result.at)) c.go_near-gone.new.heap steps few refl in
+    (c.args.limit - c.go_near-gone.result.left) c.go_near-gone.result.left (calls_of (standing c.args.own.now c.members.frames c.go_near-gone.new.frame c.go_near-gone.result.at)) c.go_near-gone.new.heap steps few refl in
     let same = yield_method c.is_live-live.result c.in-Yields.count c.go_near-gone.new.frame c.do_yield.new.frame c.members.records c.do_yield.new.records c.do_yield.ensures in
     let less = c.go_near-gone.ensures.leg.less in
     let fewer = no_more c.is_live-live.result c.go_near-gone.result.left c.less_if-left.result c.less_if-left.ensures in

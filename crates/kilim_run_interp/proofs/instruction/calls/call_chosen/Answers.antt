@@ -1,4 +1,4 @@
-use Rattle.std.proofs.Common.{◌≡◌, ◌∙◌, sym, ap, refl, ◌<◌, ◌≤◌, ◌+◌, Bool, true, false, Option, Some, None, length, take, drop, reverse, slice_get, arith}
+use Rattle.std.proofs.Common.{refl, arith}
 use Rattle.kilim_run_interp.specs.declared.instruction.calls.Target.TheVariants.{NoReceiver, WithCode, BuiltIn, Nowhere}
 use Rattle.kilim_run_interp.specs.instruction.Calls.{Reaches}
 use Rattle.kilim_run_interp.proofs.instruction.Invokes.{virtual_there, virtual_found, virtual_calls, virtual_asks, virtual_null, virtual_nowhere}

@@ -1,11 +1,7 @@
-use Rattle.std.proofs.Common.{◌≡◌, ◌∙◌, sym, ap, refl, ◌<◌, ◌≤◌, ◌+◌, Bool, true, false, Option, Some, None, List, length, take, drop, reverse, slice_get, option_copied, arith}
-use Rattle.kilim_program.specs.declared.class.Method.{Method}
-use Rattle.kilim_program.specs.declared.instr.Instr.TheVariants.{Invokespecial}
+use Rattle.std.proofs.Common.{◌≡◌, ◌∙◌, sym, ap, refl, ◌+◌, Some, None, length, take, drop, reverse, slice_get, option_copied, arith}
 use Rattle.kilim_program.specs.declared.names.MethodId.{MethodId}
-use Rattle.kilim_program.specs.declared.value.Value.{Value}
 use Rattle.kilim_program.specs.Names.{method_at}
-use Rattle.kilim_run_machine.specs.Effect.{Asks, Calls}
-use Rattle.kilim_run_machine.specs.Does.{does, is_null, special, calls_method}
+use Rattle.kilim_run_machine.specs.Does.{special}
 use Rattle.kilim_run_rows.specs.Outcome.{is_stuck}
 use Rattle.kilim_run_interp.proofs.instruction.Invokes.{special_there, special_null, special_goes, is_there, asks_built_in, calls_code}
 use Rattle.kilim_run_interp.proofs.instruction.calls.call_named.Goals as goal

@@ -1,6 +1,5 @@
 use Rattle.std.proofs.Common.{refl, ◌≡◌, ◌∙◌, sym, ap, rules, FitsSigned, w32, pos, List, ◌∷◌, false, true, nat_lt, arith}
 use Rattle.std.proofs.lemmas.Int.{to_z-of_z}
-use Rattle.kilim_program.specs.declared.value.Value.{Value}
 use Rattle.kilim_program.specs.declared.value.Value.TheVariants.{Int}
 use Rattle.kilim_run_state.specs.frames.Stacked.{Stacked}
 use Rattle.kilim_run_state.specs.declared.value.Object.{Object}

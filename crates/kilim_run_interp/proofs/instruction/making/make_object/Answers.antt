@@ -1,8 +1,8 @@
-use Rattle.std.proofs.Common.{◌≡◌, ◌∙◌, sym, ap, false, arith}
+use Rattle.std.proofs.Common.{◌≡◌, ◌∙◌, sym, ap}
 use Rattle.kilim_program.specs.declared.instr.Instr.TheVariants.{New}
 use Rattle.kilim_run_state.specs.declared.value.Object.{Object}
 use Rattle.kilim_run_machine.specs.Effect.{Makes}
-use Rattle.kilim_run_machine.specs.Does.{does, is_mailbox}
+use Rattle.kilim_run_machine.specs.Does.{does}
 use Rattle.kilim_run_state.specs.Objects.{new_object}
 use Rattle.kilim_run_interp.proofs.instruction.News.{made_by, object_row, room_for}
 use Rattle.kilim_run_interp.proofs.instruction.making.make_object.Goals as goal

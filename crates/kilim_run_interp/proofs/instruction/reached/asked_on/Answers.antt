@@ -1,8 +1,4 @@
-use Rattle.std.proofs.Common.{◌≡◌, ◌∙◌, sym, ap, subst, Option, Some}
-use Rattle.std.specs.Prelude.{IfSome}
-use Rattle.kilim_program.specs.Members.{named_class}
-use Rattle.kilim_program.specs.declared.names.MethodId.{MethodId}
-use Rattle.kilim_run_interp.specs.instruction.Reached.{asked_type}
+use Rattle.std.proofs.Common.{◌∙◌, sym}
 use Rattle.kilim_run_interp.proofs.instruction.Reaching.{asked_some}
 use Rattle.kilim_run_interp.proofs.instruction.reached.asked_on.Goals as goal
 

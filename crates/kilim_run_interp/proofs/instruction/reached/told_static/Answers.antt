@@ -1,4 +1,4 @@
-use Rattle.std.proofs.Common.{◌∙◌, refl, sym}
+use Rattle.std.proofs.Common.{refl, sym}
 use Rattle.kilim_run_interp.proofs.instruction.Reaching.{asked_static, called_static}
 use Rattle.kilim_run_interp.proofs.instruction.reached.told_static.Goals as goal
 
