@@ -6,7 +6,7 @@ ghost use Rattle.kilim_command.specs.DemoLine.{back_of, demo_line, front_of, how
 
 use kilim_run_journal::{Act, Entry};
 use kilim_run_state::Token;
-use kilim_units::NoMemory;
+use kilim_units::{NoMemory, no_room};
 use std::alloc::Global;
 
 /// The kinds of entries that are counted.
@@ -78,7 +78,8 @@ fn tasks_of(journal: &[Entry]) -> Result<usize, NoMemory>
 {
     match count(Kind::Start, journal).checked_add(1) {
         Some(tasks) => Ok(tasks),
-        None => Err(NoMemory),
+        // room: 2^64 entries in memory
+        None => Err(no_room()),
     }
 }
 

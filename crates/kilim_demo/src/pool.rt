@@ -5,7 +5,7 @@ ghost use Rattle.kilim_class_pool.specs.declared.entry.Entry.TheVariants.{Utf8};
 ghost use Rattle.kilim_demo.specs.Constants.{entry_of};
 
 use kilim_class_pool::{Entry, Pool};
-use kilim_units::{NoMemory, Units};
+use kilim_units::{NoMemory, Units, unmet};
 use std::alloc::Global;
 
 /// An entry, as it stands in the code. Numbers are indices of the same pool.
@@ -72,7 +72,8 @@ fn add(pool: &mut Pool, entry: Entry) -> Result<(), NoMemory>
     match pool.add(entry) {
         Ok(_) => {
             if pool.count() == before {
-                Err(NoMemory)
+                // unmet: the entries of the demo's pools are different
+                Err(unmet())
             } else {
                 Ok(())
             }

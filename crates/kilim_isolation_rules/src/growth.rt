@@ -8,7 +8,7 @@ ghost use Rattle.kilim_isolation_rules.specs.Marks as marks;
 use crate::shuffles::behind;
 use kilim_isolation_graph::{Graph, Node, Standing};
 use kilim_program::Kind;
-use kilim_units::{NoMemory, Seq};
+use kilim_units::{NoMemory, Seq, no_room};
 use std::alloc::Global;
 
 /// The same graph.
@@ -100,7 +100,8 @@ pub fn new_region(nodes: &[Node]) -> Result<usize, NoMemory>
     let mut region = 0usize;
     for node in nodes {
         let Some(next) = node.region.checked_add(1) else {
-            return Err(NoMemory);
+            // room: 2^32 regions of a graph
+            return Err(no_room());
         };
         region = region.max(next);
     }

@@ -4,7 +4,7 @@ ghost use Rattle.std.specs.Prelude.{◌≡◌, IfOk};
 ghost use Rattle.kilim_link_spec.specs.Types.{each_of};
 ghost use Rattle.kilim_link_spec.specs.Code.{place_of, pair_in};
 
-use kilim_units::{NoMemory, Seq};
+use kilim_units::{NoMemory, Seq, no_room};
 use std::alloc::Global;
 
 /// A target as a place in bytes of the code, none where it is before the code. One of 4,294,967,296 or more, which no
@@ -17,7 +17,8 @@ pub fn place_of(to: &i64) -> Result<Option<u32>, NoMemory>
     }
     match u32::try_from(*to) {
         Ok(place) => Ok(Some(place)),
-        Err(_) => Err(NoMemory),
+        // room: code of 2^32 bytes
+        Err(_) => Err(no_room()),
     }
 }
 

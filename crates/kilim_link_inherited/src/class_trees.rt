@@ -12,7 +12,7 @@ use crate::node::{Node, add};
 use crate::order::{superclass_in, superclasses_first};
 use crate::put::put_entries;
 use kilim_program::ClassId;
-use kilim_units::{NoMemory, Seq};
+use kilim_units::{NoMemory, Seq, no_room};
 use std::alloc::Global;
 
 /// The tree of a class, none where it isn't made.
@@ -206,7 +206,8 @@ pub fn make_all(
 {
     for place in 0..roots.len() {
         let Ok(number) = u32::try_from(place) else {
-            return Err(NoMemory);
+            // room: 2^32 classes
+            return Err(no_room());
         };
         let Ok(()) = make_tree(alloc, nodes, roots, ups, entries, ClassId(number)) else {
             return Err(NoMemory);

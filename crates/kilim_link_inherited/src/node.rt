@@ -2,7 +2,7 @@
 
 ghost use Rattle.std.specs.Prelude.{◌≡◌, ◌++◌, ◌∷◌, [], length, slice_get, IfOk};
 
-use kilim_units::{NoMemory, Seq};
+use kilim_units::{NoMemory, Seq, no_room};
 
 /// A node of a tree of keys. A key goes down by its binary digits, the lowest first.
 #[derive(Clone, Copy)]
@@ -21,7 +21,8 @@ pub fn add(nodes: &mut Seq<Node>, node: Node) -> Result<u32, NoMemory>
 {
     let at = nodes.len();
     if at >= 0xffff_ffff {
-        return Err(NoMemory);
+        // room: 2^32 nodes of maps, some 25 GB
+        return Err(no_room());
     }
     nodes.push(node)?;
     Ok(at as u32)

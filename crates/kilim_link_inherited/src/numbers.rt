@@ -4,7 +4,7 @@ ghost use Rattle.std.specs.Prelude.{◌≡◌, List, ℕ, Some, None, IfOk};
 ghost use Rattle.kilim_link_inherited.specs.Numbers.{number_at, Numbered, Keeps};
 
 use crate::signature::Signature;
-use kilim_units::NoMemory;
+use kilim_units::{NoMemory, no_room};
 use std::alloc::Global;
 use std::collections::BTreeMap;
 
@@ -48,7 +48,8 @@ impl Numbers {
         }
         let number = self.next;
         if number == u32::MAX {
-            return Err(NoMemory);
+            // room: 2^32 names with descriptors
+            return Err(no_room());
         }
         let Ok(copy) = signature.copied() else {
             return Err(NoMemory);

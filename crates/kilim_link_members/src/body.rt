@@ -14,7 +14,7 @@ use kilim_link_mentions::decoded;
 use kilim_link_spec::{Body, DeclaredMethod};
 use kilim_link_world::World;
 use kilim_program::{ClassId, Instr};
-use kilim_units::{NoMemory, Seq};
+use kilim_units::{NoMemory, Seq, no_room};
 use std::alloc::Global;
 
 fn no_body(alloc: Global) -> Body
@@ -51,7 +51,8 @@ fn length_of(code: &Code) -> Result<u32, NoMemory>
 {
     match u32::try_from(code.code.len()) {
         Ok(count) => Ok(count),
-        Err(_) => Err(NoMemory),
+        // room: code of 2^32 bytes
+        Err(_) => Err(no_room()),
     }
 }
 

@@ -10,7 +10,7 @@ use kilim_class_file::ClassFile;
 use kilim_link_views::{has_flag, own_name, super_name};
 use kilim_link_world::World;
 use kilim_program::{Class, ClassId, FieldId, MethodId};
-use kilim_units::{NoMemory, Seq, Units};
+use kilim_units::{NoMemory, Seq, Units, no_room};
 use std::alloc::Global;
 
 // ACC_ABSTRACT (JVMS table 4.1-A).
@@ -22,7 +22,8 @@ pub fn next(number: u32) -> Result<u32, NoMemory>
 {
     match number.checked_add(1) {
         Some(n) => Ok(n),
-        None => Err(NoMemory),
+        // room: 2^32 classes, methods or fields
+        None => Err(no_room()),
     }
 }
 

@@ -13,7 +13,7 @@ use kilim_class_code::opcodes::RawInstr;
 use kilim_class_code::{Body, CodeFault, decode};
 use kilim_class_file::MemberInfo;
 use kilim_link_spec::decoded_is_decode;
-use kilim_units::{NoMemory, Seq};
+use kilim_units::{NoMemory, Seq, no_room};
 use std::alloc::Global;
 
 fn code_in(info: &Info) -> Option<&Code>
@@ -50,7 +50,8 @@ pub fn decoded(alloc: Global, code: &[u8]) -> Result<Result<Body, CodeFault>, No
 {
     decoded_is_decode();
     if code.len() >= 4_294_967_296 {
-        return Err(NoMemory);
+        // room: code of 2^32 bytes
+        return Err(no_room());
     }
     match decode(alloc, code) {
         Ok(body) => Ok(Ok(body)),

@@ -13,7 +13,7 @@ use kilim_link_inherited::{Nearest, Said};
 use kilim_link_spec::{ClassView, DeclaredMethod};
 use kilim_link_world::{Signature, World};
 use kilim_program::ClassId;
-use kilim_units::{NoMemory, Seq};
+use kilim_units::{NoMemory, Seq, no_room};
 use std::alloc::Global;
 
 /// Where a method is declared: its class, and its index among the methods of that class.
@@ -85,7 +85,8 @@ fn next_number(places: &Seq<Place>) -> Result<u32, NoMemory>
 {
     match u32::try_from(places.len()) {
         Ok(number) => Ok(number),
-        Err(_) => Err(NoMemory),
+        // room: 2^32 methods
+        Err(_) => Err(no_room()),
     }
 }
 

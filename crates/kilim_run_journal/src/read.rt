@@ -80,6 +80,7 @@ pub fn read_text(alloc: Global, bytes: &[u8]) -> Result<Vec<Entry>, TextFault>
             Err(_) => return Err(TextFault::Memory),
             Ok(None) => {
                 let Some(line) = entries.len().checked_add(1) else {
+                    // room: 2^64 lines in memory
                     return Err(TextFault::Memory);
                 };
                 return Err(TextFault::BadLine(line));

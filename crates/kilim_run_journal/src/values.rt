@@ -16,7 +16,7 @@ ghost use Rattle.kilim_run_journal.specs.Fronts.{AfterValue, IsEnded, unit_text,
 use crate::numbers::{after, box_at, is_number_unit, opens, signed_at};
 use crate::pieces::is_followed;
 use kilim_run_state::{Shape, Token};
-use kilim_units::{NoMemory, Seq, Units};
+use kilim_units::{NoMemory, Seq, Units, no_room};
 use std::alloc::Global;
 
 fn hex_value(digit: u8) -> Option<u16>
@@ -254,7 +254,8 @@ fn begun_behind(begun: usize, token: &Token) -> Result<Option<usize>, NoMemory>
     match token {
         Token::Open(_) => match begun.checked_add(1) {
             Some(now) => Ok(Some(now)),
-            None => Err(NoMemory),
+            // room: 2^64 tokens in memory
+            None => Err(no_room()),
         },
         Token::Close => Ok(begun.checked_sub(1)),
         _ => Ok(Some(begun)),

@@ -14,7 +14,7 @@ ghost use Rattle.kilim_run_trees.specs.Emitted.{plain_tokens, held_at, brackets,
 use crate::tree::Tree;
 use kilim_program::{Base, ClassId, Program, Ty, Value};
 use kilim_run_state::{Object, Shape, Token};
-use kilim_units::{NoMemory, Seq, Units};
+use kilim_units::{NoMemory, Seq, Units, no_room};
 use std::alloc::{AllocError, Global};
 
 /// The unit with which an array's descriptor begins, once for each dimension.
@@ -251,7 +251,8 @@ fn emit_into(
             }
             Some(value) => {
                 let Some(after) = next.checked_add(1) else {
-                    return Err(NoMemory);
+                    // room: 2^64 objects of a tree
+                    return Err(no_room());
                 };
                 let Ok(()) = push_frame(frames, at, after) else {
                     return Err(NoMemory);

@@ -7,7 +7,7 @@ use crate::walk::{Walked, walk};
 use kilim_program::{Frame, Method, MethodId, Program};
 use kilim_type_spec::Typed;
 use kilim_type_step::discard;
-use kilim_units::{NoMemory, Seq};
+use kilim_units::{NoMemory, Seq, no_room};
 use std::alloc::Global;
 
 /// Why a program isn't well typed, or wasn't verified.
@@ -55,7 +55,8 @@ fn walk_methods(alloc: Global, program: &Program) -> Result<Methods, NoMemory>
             }
             Walked::Fault(place, rule) => {
                 let Ok(id) = u32::try_from(number) else {
-                    return Err(NoMemory);
+                    // room: 2^32 methods
+                    return Err(no_room());
                 };
                 return Ok(Methods::Fault(MethodId(id), place, rule));
             }

@@ -11,7 +11,7 @@ use kilim_class_mutf8::write;
 use kilim_program::lookups::method_at;
 use kilim_program::{Class, Instr, Method, MethodId, Program};
 use kilim_reports::method_descriptor;
-use kilim_units::NoMemory;
+use kilim_units::{NoMemory, no_room};
 use kilim_weave_code::calls_in;
 use kilim_weave_method::argument_slots;
 use std::alloc::Global;
@@ -33,7 +33,8 @@ fn plus(a: u64, b: u64) -> Result<u64, NoMemory>
 {
     match a.checked_add(b) {
         Some(n) => Ok(n),
-        None => Err(NoMemory),
+        // room: a weight of 2^64
+        None => Err(no_room()),
     }
 }
 
@@ -42,7 +43,8 @@ fn times(a: u64, b: u64) -> Result<u64, NoMemory>
 {
     match a.checked_mul(b) {
         Some(n) => Ok(n),
-        None => Err(NoMemory),
+        // room: a weight of 2^64
+        None => Err(no_room()),
     }
 }
 

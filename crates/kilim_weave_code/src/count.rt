@@ -6,7 +6,7 @@ ghost use Rattle.kilim_weave_spec.specs.Woven as form;
 
 use crate::frames::entry_at;
 use kilim_program::{Instr, Method, Program};
-use kilim_units::NoMemory;
+use kilim_units::{NoMemory, no_room};
 use kilim_weave_pieces::pausable_callee;
 
 fn one_more(callee: Option<&Method>, count: u32) -> Result<u32, NoMemory>
@@ -16,7 +16,8 @@ fn one_more(callee: Option<&Method>, count: u32) -> Result<u32, NoMemory>
         None => Ok(count),
         Some(_) => match count.checked_add(1) {
             Some(more) => Ok(more),
-            None => Err(NoMemory),
+            // room: 2^32 calls in a method
+            None => Err(no_room()),
         },
     }
 }

@@ -12,7 +12,7 @@ ghost use Rattle.kilim_weave_pieces.specs.Meant.{Ready, meant};
 
 use kilim_program::{ClassId, Frame, Instr, Method, VType};
 use kilim_type_laws::listed_frames_show;
-use kilim_units::{NoMemory, Seq};
+use kilim_units::{NoMemory, Seq, unmet};
 use kilim_weave_pieces::{Places, Plan, class_vtype, type_at};
 use std::alloc::Global;
 
@@ -60,7 +60,8 @@ pub fn frame_at<'a>(plan: &Plan<'a>, at: usize) -> Result<&'a Frame, NoMemory>
     listed_frames_show();
     let frames = plan.frames;
     if at >= frames.len() {
-        return Err(NoMemory);
+        // unmet: the frames are listed for each instruction of code that is reached
+        return Err(unmet());
     }
     Ok(frame_of(frames, at))
 }

@@ -11,7 +11,7 @@ ghost use Rattle.kilim_weave_pieces.specs.Items.{items_of};
 use crate::copies::copied;
 use crate::frames::old_frame;
 use kilim_program::{Frame, Instr, Method, Ty, VType};
-use kilim_units::NoMemory;
+use kilim_units::{NoMemory, unmet};
 use kilim_weave_pieces::{
     Item, Items, Label, Plan, Size, add, call_fiber, dummy_of, local_size, pop_of, return_of,
     save_fiber, save_locals, save_stack, taken, type_at, vtype,
@@ -37,7 +37,8 @@ fn local_of(at: usize) -> Result<u16, NoMemory>
 {
     match u16::try_from(at) {
         Ok(slot) => Ok(slot),
-        Err(_) => Err(NoMemory),
+        // unmet: a method that isn't too long has at most 65,535 locals
+        Err(_) => Err(unmet()),
     }
 }
 
@@ -108,7 +109,8 @@ fn add_number(number: u32, items: &mut Items) -> Result<(), NoMemory>
     }
     match i16::try_from(number) {
         Ok(number) => add(items, Instr::Sipush(number), 3),
-        Err(_) => Err(NoMemory),
+        // unmet: a method that isn't too long has at most 32,767 pausable calls
+        Err(_) => Err(unmet()),
     }
 }
 

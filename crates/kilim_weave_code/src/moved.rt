@@ -7,7 +7,7 @@ ghost use Rattle.kilim_weave_pieces.specs.Places.{at_in};
 
 use crate::copies::copied;
 use kilim_program::Instr;
-use kilim_units::{NoMemory, Seq};
+use kilim_units::{NoMemory, Seq, no_room, unmet};
 use kilim_weave_pieces::{Places, Size, local_size};
 use std::alloc::Global;
 
@@ -147,7 +147,8 @@ pub fn jump_to(instr: &Instr, to: u32) -> Result<Instr, NoMemory>
         Instr::IfIcmple(_) => Ok(Instr::IfIcmple(to)),
         Instr::IfAcmpeq(_) => Ok(Instr::IfAcmpeq(to)),
         Instr::IfAcmpne(_) => Ok(Instr::IfAcmpne(to)),
-        _ => Err(NoMemory),
+        // unmet: the caller's match has the jumps alone
+        _ => Err(unmet()),
     }
 }
 
@@ -220,7 +221,8 @@ fn count_of(length: usize) -> Result<u32, NoMemory>
 {
     match u32::try_from(length) {
         Ok(count) => Ok(count),
-        Err(_) => Err(NoMemory),
+        // room: 2^32 targets of a switch
+        Err(_) => Err(no_room()),
     }
 }
 
@@ -263,6 +265,7 @@ pub fn old_size(instr: &Instr, place: u32, next: u32) -> Result<Size, NoMemory>
             let count = count_of(pairs.len())?;
             Ok(Size::Lookup(count))
         }
-        _ => Err(NoMemory),
+        // unmet: each instruction of the old code has a size
+        _ => Err(unmet()),
     }
 }

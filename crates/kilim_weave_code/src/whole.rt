@@ -11,7 +11,7 @@ use crate::count::calls_in;
 use crate::old::pieces;
 use crate::resume::blocks;
 use kilim_program::Instr;
-use kilim_units::{NoMemory, Seq};
+use kilim_units::{NoMemory, Seq, no_room};
 use kilim_weave_pieces::{Item, Items, Plan, Size, add, call_fiber, local_size};
 use std::alloc::Global;
 
@@ -41,7 +41,8 @@ fn add_switch(alloc: Global, plan: &Plan, calls: u32, items: &mut Items) -> Resu
         return Err(NoMemory);
     };
     let Ok(count) = u32::try_from(targets.len()) else {
-        return Err(NoMemory);
+        // room: 2^32 targets of a switch
+        return Err(no_room());
     };
     items.put(Item::Adds(
         Instr::Tableswitch(default, 1, targets),
@@ -107,7 +108,8 @@ fn put_all(
     ensures { OnOk result (items_of items.new ≡ form.woven_items (meant plan.now)) }
 {
     let Some(number) = calls.checked_add(1) else {
-        return Err(NoMemory);
+        // room: 2^32 calls in a method
+        return Err(no_room());
     };
     let Ok(()) = blocks(alloc, plan, number, items) else {
         return Err(NoMemory);

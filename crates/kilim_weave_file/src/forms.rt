@@ -9,7 +9,7 @@ use kilim_class_code::opcodes::RawInstr;
 use kilim_class_making::pool_needs::{Need, index_of};
 use kilim_class_pool::Pool;
 use kilim_program::{Instr, Program};
-use kilim_units::{NoMemory, Seq};
+use kilim_units::{NoMemory, Seq, unmet};
 use std::alloc::Global;
 
 const TABLESWITCH: u8 = 170;
@@ -38,7 +38,8 @@ fn int_form(n: i32) -> Result<RawInstr, NoMemory>
         return Ok(RawInstr::Plain(2));
     }
     if n > 5 {
-        return Err(NoMemory);
+        // unmet: weaving adds iconst up to 5 alone
+        return Err(unmet());
     }
     Ok(RawInstr::Plain(3 + n as u8))
 }
@@ -50,7 +51,8 @@ fn long_form(n: i64) -> Result<RawInstr, NoMemory>
         return Ok(RawInstr::Plain(9));
     }
     if n > 1 {
-        return Err(NoMemory);
+        // unmet: weaving adds lconst up to 1 alone
+        return Err(unmet());
     }
     Ok(RawInstr::Plain(9 + n as u8))
 }

@@ -12,7 +12,7 @@ use kilim_class_attributes::parts::{Frame as Entered, VerificationType};
 use kilim_class_making::pool_needs::{Need, index_of};
 use kilim_class_pool::Pool;
 use kilim_program::{Frame, Program, Ty, VType};
-use kilim_units::{NoMemory, Seq};
+use kilim_units::{NoMemory, Seq, unmet};
 use kilim_weave_file_sizes::type_name;
 use std::alloc::Global;
 
@@ -34,7 +34,8 @@ fn near_place(place: u32) -> Result<u16, NoMemory>
     ensures { IfOk result (λ n. n ≡ place) }
 {
     if place > 65_535 {
-        return Err(NoMemory);
+        // unmet: woven code is shorter than 65,536 bytes
+        return Err(unmet());
     }
     Ok(place as u16)
 }
@@ -203,7 +204,8 @@ fn near_next(place: u32) -> Result<u32, NoMemory>
     ensures { IfOk result (λ n. n ≡ suc place) }
 {
     if place > 65_535 {
-        return Err(NoMemory);
+        // unmet: woven code is shorter than 65,536 bytes
+        return Err(unmet());
     }
     Ok(place + 1)
 }

@@ -16,7 +16,7 @@ use kilim_class_file::{ClassFile, MemberInfo};
 use kilim_class_making::pool_needs::text_index;
 use kilim_class_pool::Pool;
 use kilim_program::{Method, Program};
-use kilim_units::{NoMemory, Seq, Units};
+use kilim_units::{NoMemory, Seq, Units, unmet};
 use kilim_weave_file_sizes::woven_descriptor;
 use std::alloc::Global;
 
@@ -32,7 +32,8 @@ fn one_parameter_more(parts: Seq<AnnotationPart>) -> Result<Seq<AnnotationPart>,
         return Ok(Seq::from_vec(items));
     };
     let Some(more) = count.checked_add(1) else {
-        return Err(NoMemory);
+        // unmet: a pausable method has at most 254 argument slots
+        return Err(unmet());
     };
     items[0] = AnnotationPart::Parameters(more);
     let Ok(()) = items.push(AnnotationPart::Annotations(0)) else {

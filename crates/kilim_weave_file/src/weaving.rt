@@ -21,7 +21,7 @@ use kilim_class_making::fits;
 use kilim_class_making::pool_needs::{Need, with_needs};
 use kilim_class_pool::Pool;
 use kilim_program::{Method, Program};
-use kilim_units::{NoMemory, Seq};
+use kilim_units::{NoMemory, Seq, unmet};
 use kilim_weave_file_sizes::{added_entries, methods_bytes, plus, size_by};
 use std::alloc::Global;
 use std::mem::replace;
@@ -173,7 +173,8 @@ fn member_at(
         ),
         _ => {
             drop(info);
-            Err(NoMemory)
+            // unmet: the lists of methods are as long as each other
+            Err(unmet())
         }
     }
 }
@@ -343,7 +344,8 @@ fn fitting(alloc: Global, file: ClassFile) -> Result<ClassFile, NoMemory>
         Ok(true) => Ok(file),
         _ => {
             drop(file);
-            Err(NoMemory)
+            // unmet: a woven file within its bounds has a text
+            Err(unmet())
         }
     }
 }

@@ -13,7 +13,7 @@ use kilim_class_file::MemberInfo;
 use kilim_class_mutf8::write;
 use kilim_program::{Class, Field, Instr, Method, Program};
 use kilim_reports::method_descriptor;
-use kilim_units::{NoMemory, Seq, Units};
+use kilim_units::{NoMemory, Seq, Units, no_room};
 use std::alloc::Global;
 
 // A sum that is no u64, which no program has, would be answered as want of memory.
@@ -22,7 +22,8 @@ pub fn plus(a: u64, b: u64) -> Result<u64, NoMemory>
 {
     match a.checked_add(b) {
         Some(n) => Ok(n),
-        None => Err(NoMemory),
+        // room: a size of 2^64
+        None => Err(no_room()),
     }
 }
 
@@ -31,7 +32,8 @@ fn times(a: u64, b: u64) -> Result<u64, NoMemory>
 {
     match a.checked_mul(b) {
         Some(n) => Ok(n),
-        None => Err(NoMemory),
+        // room: a size of 2^64
+        None => Err(no_room()),
     }
 }
 

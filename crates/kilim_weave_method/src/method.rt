@@ -20,7 +20,7 @@ use crate::slots::{argument_slots, fiber_slot, plus};
 use crate::{Laid, lay, nowhere, places_of};
 use kilim_program::{Base, ClassId, Frame, Method, Program, Qualifier, Ty};
 use kilim_type_flow::LiveTable;
-use kilim_units::{NoMemory, Seq};
+use kilim_units::{NoMemory, Seq, no_room};
 use kilim_weave_code::{Items, Places, Plan, woven_items};
 use kilim_weave_laws::shape::places_dont_matter;
 use std::alloc::Global;
@@ -46,7 +46,8 @@ pub fn number_of(count: usize) -> Result<u32, NoMemory>
 {
     match u32::try_from(count) {
         Ok(number) => Ok(number),
-        Err(_) => Err(NoMemory),
+        // room: 2^32 places, slots or instructions
+        Err(_) => Err(no_room()),
     }
 }
 

@@ -4,7 +4,7 @@ ghost use Rattle.std.specs.Prelude.{◌≡◌, ◌+◌, IfOk};
 ghost use Rattle.kilim_program.specs.Lengths.{switch_padding};
 ghost use Rattle.kilim_weave_pieces.specs.Items.{size_of};
 
-use kilim_units::NoMemory;
+use kilim_units::{NoMemory, no_room};
 use kilim_weave_code::Size;
 
 // The zeros behind the number of a switch at a place.
@@ -30,10 +30,12 @@ pub fn place_behind(at: u32, size: Size) -> Result<u32, NoMemory>
 {
     let length = length_of(at, size);
     let Some(behind) = u64::from(at).checked_add(length) else {
-        return Err(NoMemory);
+        // room: a place of 2^64
+        return Err(no_room());
     };
     match u32::try_from(behind) {
         Ok(next) => Ok(next),
-        Err(_) => Err(NoMemory),
+        // room: a place of 2^32
+        Err(_) => Err(no_room()),
     }
 }

@@ -5,7 +5,7 @@ ghost use Rattle.kilim_program.specs.Same.{argument_slots, type_slots};
 ghost use Rattle.kilim_weave_spec.specs.Woven.{fiber_slot, larger};
 
 use kilim_program::{Base, Method, Ty};
-use kilim_units::NoMemory;
+use kilim_units::{NoMemory, no_room};
 
 fn type_slots(ty: Ty) -> u16
     ensures { result ≡ type_slots ty }
@@ -32,7 +32,8 @@ pub fn plus(a: u16, b: u16) -> Result<u16, NoMemory>
 {
     match a.checked_add(b) {
         Some(sum) => Ok(sum),
-        None => Err(NoMemory),
+        // room: 2^32 slots
+        None => Err(no_room()),
     }
 }
 

@@ -11,7 +11,7 @@ use crate::item::{Item, Items, Size};
 use crate::plan::Plan;
 use kilim_program::lookups::method_at;
 use kilim_program::{Base, ClassId, Instr, Method, MethodId, Program, Ty, VType};
-use kilim_units::NoMemory;
+use kilim_units::{NoMemory, no_room};
 
 /// The verification type of a value of a declared type.
 pub fn vtype(ty: Ty) -> VType
@@ -129,7 +129,8 @@ fn member(plan: &Plan, number: u32) -> Result<MethodId, NoMemory>
 {
     match plan.member.checked_add(number) {
         Some(id) => Ok(MethodId(id)),
-        None => Err(NoMemory),
+        // room: 2^32 methods
+        None => Err(no_room()),
     }
 }
 
@@ -191,6 +192,7 @@ pub fn taken(callee: &Method) -> Result<usize, NoMemory>
     let receiver: usize = if callee.is_static { 0 } else { 1 };
     match callee.params.len().checked_add(receiver) {
         Some(count) => Ok(count),
-        None => Err(NoMemory),
+        // room: 2^64 parameters
+        None => Err(no_room()),
     }
 }

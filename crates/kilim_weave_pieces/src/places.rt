@@ -3,7 +3,7 @@
 ghost use Rattle.std.specs.Prelude.{◌≡◌, None, get_or, IfOk};
 ghost use Rattle.kilim_weave_pieces.specs.Places.{at_in, block_in};
 
-use kilim_units::NoMemory;
+use kilim_units::{NoMemory, no_room};
 use std::marker::Model;
 
 /// New places of old ones, and of resume blocks. Contracts see the tables.
@@ -40,7 +40,8 @@ impl Places {
             Some(new) => Ok(new),
             None => match self.end.checked_add(place) {
                 Some(new) => Ok(new),
-                None => Err(NoMemory),
+                // room: a place of 2^32
+                None => Err(no_room()),
             },
         }
     }

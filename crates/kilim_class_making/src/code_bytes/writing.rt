@@ -8,7 +8,7 @@ ghost use Rattle.kilim_class_code.specs.opcodes.Instr.{InstrFits, IsAbove, Pairs
 ghost use Rattle.kilim_class_code.specs.opcodes.Table.{form_of};
 
 use kilim_class_code::opcodes::{OpForm, RawInstr, form, write_instr};
-use kilim_units::{NoMemory, Seq};
+use kilim_units::{NoMemory, Seq, unmet};
 use std::alloc::Global;
 
 // A target whose distance has two bytes.
@@ -210,7 +210,8 @@ fn push_instr(into: &mut Vec<u8>, at: u32, instr: &RawInstr) -> Result<(), NoMem
     ensures { OnOk result (into.new.items ≡ into.old.items ++ instr_text at instr.now) }
 {
     if !fits(at, instr) {
-        return Err(NoMemory);
+        // unmet: each instruction of a woven body has a text at its place
+        return Err(unmet());
     }
     write_instr(instr, at as usize, into)
 }

@@ -6,7 +6,7 @@ ghost use Rattle.kilim_class_making.specs.pool_needs.Adding.{Test, class_behind,
 use crate::pool_needs::lookup::{class_index, pair_index, ref_index, text_index};
 use crate::pool_needs::need::Need;
 use kilim_class_pool::{Entry, Pool};
-use kilim_units::{NoMemory, Units};
+use kilim_units::{NoMemory, Units, unmet};
 
 // Appends an entry for which a search found none. A pool without room for it is answered as want of memory.
 fn append(pool: &mut Pool, entry: Entry) -> Result<(), NoMemory>
@@ -57,7 +57,8 @@ fn class_behind(pool: &mut Pool, name: &Units) -> Result<(), NoMemory>
     }
     let text = text_index(pool, name);
     if text == 0 {
-        return Err(NoMemory); // the name was added before
+        // unmet: the text of the name was added before
+        return Err(unmet());
     }
     append(pool, Entry::Class(text))
 }

@@ -17,7 +17,7 @@ use kilim_class_pool::Pool;
 use kilim_link_spec::{DeclaredMethod, Entries};
 use kilim_link_world::World;
 use kilim_program::{ClassId, Frame, VType};
-use kilim_units::{NoMemory, Seq};
+use kilim_units::{NoMemory, Seq, no_room};
 use std::alloc::Global;
 
 // The frames of a StackMapTable; none of another attribute.
@@ -144,7 +144,8 @@ fn place_after(before: Option<u32>, delta: u16) -> Result<u32, NoMemory>
     };
     match before.checked_add(u32::from(delta) + 1) {
         Some(place) => Ok(place),
-        None => Err(NoMemory),
+        // room: a frame's place of 2^32
+        None => Err(no_room()),
     }
 }
 

@@ -5,7 +5,7 @@ ghost use Rattle.kilim_program.specs.Names.{class_at, class_named, line_of};
 ghost use Rattle.kilim_program.specs.Same.{same_base};
 
 use crate::{Base, Class, ClassId, Program};
-use kilim_units::NoMemory;
+use kilim_units::{NoMemory, no_room};
 use std::alloc::Global;
 
 /// The class of an id, none past the end.
@@ -23,7 +23,8 @@ pub fn class_named(program: &Program, name: &[u8]) -> Result<Option<ClassId>, No
     for (at, class) in program.classes.as_slice().iter().enumerate() {
         if class.name.is_text(name) {
             let Ok(number) = u32::try_from(at) else {
-                return Err(NoMemory);
+                // room: 2^32 classes
+                return Err(no_room());
             };
             return Ok(Some(ClassId(number)));
         }

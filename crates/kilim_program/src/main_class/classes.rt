@@ -8,7 +8,7 @@ ghost use Rattle.kilim_program.specs.main_class.Main.{fit_class_named, own_in};
 
 use crate::lookups::{class_at, method_at};
 use crate::{ClassId, MethodId, Program};
-use kilim_units::NoMemory;
+use kilim_units::{NoMemory, no_room};
 
 // Whether a class has this name.
 fn is_named(units: &[u16], name: &[u16]) -> bool
@@ -33,7 +33,8 @@ fn named(program: &Program, name: &[u16]) -> Result<Option<ClassId>, NoMemory>
     for (at, class) in program.classes.as_slice().iter().enumerate() {
         if is_named(class.name.as_slice(), name) {
             let Ok(number) = u32::try_from(at) else {
-                return Err(NoMemory);
+                // room: 2^32 classes
+                return Err(no_room());
             };
             return Ok(Some(ClassId(number)));
         }

@@ -14,7 +14,7 @@ use kilim_program::ClassId;
 use kilim_run_state::Limits;
 use kilim_stages::Refusal;
 use kilim_stages::woven_stage::{WovenProgram, with_main, woven_program};
-use kilim_units::{NoMemory, Seq};
+use kilim_units::{NoMemory, Seq, unmet};
 use std::alloc::Global;
 
 /// How many instructions each task may do.
@@ -87,7 +87,8 @@ pub fn demo_ready(alloc: Global, number: u64) -> Result<Ready, NoMemory>
             Ok(Some((found, main))) => {
                 Ok(Ready::Run(found.plain, found.woven, main, limits(alloc)))
             }
-            Ok(None) => Err(NoMemory),
+            // unmet: the first class of the demo is fit to be the main class
+            Ok(None) => Err(unmet()),
             Err(_) => Err(NoMemory),
         },
         Err(refusal) => refused(alloc, refusal),

@@ -98,6 +98,7 @@ fn woven_next(
 {
     let count = file.methods.len();
     if !are_there(count, plains, wovens, counted) {
+        // unmet: files that link have as many methods as their program
         return Err(Refusal::NoMemory);
     }
     let own_plains = front(plains, count);
@@ -139,6 +140,7 @@ fn push_applied(
     for at in 0..files.len() {
         let file = file_at(files, at);
         let Some(class) = class_at(program, at) else {
+            // unmet: files that link have as many classes as their program
             return Err(Refusal::NoMemory);
         };
         let next = woven_next(

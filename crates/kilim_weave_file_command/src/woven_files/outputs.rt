@@ -17,7 +17,7 @@ use kilim_class_file::{ClassFile, write};
 use kilim_program::lookups::method_at;
 use kilim_program::{Class, MethodId, Program};
 use kilim_stages::Refusal;
-use kilim_units::{NoMemory, Seq};
+use kilim_units::{NoMemory, Seq, unmet};
 use kilim_weave::Woven;
 use std::alloc::Global;
 
@@ -83,7 +83,8 @@ fn outputs_of(
     for at in 0..files.len() {
         let file = file_at(files, at);
         let Some(class) = class_at(program, at) else {
-            return Err(NoMemory);
+            // unmet: files that link have as many classes as their program
+            return Err(unmet());
         };
         let Ok(output) = output_of(alloc, program, class, file) else {
             return Err(NoMemory);
@@ -108,7 +109,8 @@ fn linked_outputs(
     ensures links { IfOk result (λ outputs. IsWovenProgramOf (map (λ (o : WovenFile). o.bytes) outputs.items) woven.now) }
 {
     if !links_back(alloc, files, woven) {
-        return Err(NoMemory);
+        // unmet: the woven files link to the woven program
+        return Err(unmet());
     }
     outputs_of(alloc, files, program)
 }

@@ -8,7 +8,7 @@ use crate::woven_each::copy::{copy_classes, copy_fields, copy_methods, joined};
 use kilim_link_views::built_ins::{built_in_classes, built_in_methods};
 use kilim_program::{Class, Field, Form, Method, Program};
 use kilim_type_spec::Typed;
-use kilim_units::{NoMemory, Seq};
+use kilim_units::{NoMemory, Seq, no_room};
 use std::alloc::Global;
 
 /// How many built-in classes and methods a plain program has.
@@ -27,7 +27,8 @@ fn small(number: usize) -> Result<u32, NoMemory>
     if number < MOST {
         Ok(number as u32)
     } else {
-        Err(NoMemory)
+        // room: 2^31 classes
+        Err(no_room())
     }
 }
 

@@ -17,7 +17,7 @@ use crate::woven_each::kept::keeps;
 use kilim_program::{Form, Frame, Method, MethodId, Program};
 use kilim_type_laws::typed_by_place;
 use kilim_type_spec::Typed;
-use kilim_units::{NoMemory, Seq};
+use kilim_units::{NoMemory, Seq, no_room, unmet};
 use std::alloc::Global;
 
 /// Methods, and which of their instructions count.
@@ -46,7 +46,8 @@ fn id_of(at: usize) -> Result<MethodId, NoMemory>
 {
     match u32::try_from(at) {
         Ok(number) => Ok(MethodId(number)),
-        Err(_) => Err(NoMemory),
+        // room: 2^32 methods
+        Err(_) => Err(no_room()),
     }
 }
 
@@ -71,7 +72,8 @@ fn frames_of<'a>(
     keeps(program);
     match frames_at(frames, id.0 as usize) {
         Some(found) => Ok(found),
-        None => Err(NoMemory),
+        // unmet: there is a list of frames for each method
+        None => Err(unmet()),
     }
 }
 
