@@ -1,6 +1,7 @@
 -- Code arrays: the text of instructions one behind the other (JVMS 4.7.3), and what is asked of them (JVMS 4.9).
 use Rattle.std.specs.Prelude.{◌≡◌, ℕ, ◌+◌, ◌-◌, ◌==◌, ◌||◌, Bool, true, false, not, if◌then◌else◌, ℤ, pos, negsuc, List, [], ◌∷◌, length, map, slice_get, Option, Some, None}
 use Rattle.std.specs.List.{flat_map, find}
+use Rattle.kilim_class_code.specs.opcodes.Numbers as opcode
 use Rattle.kilim_class_code.specs.declared.opcodes.instr.RawInstr.{RawInstr}
 use Rattle.kilim_class_code.specs.declared.opcodes.instr.RawInstr.TheVariants.{Plain, Jump, WideJump, TableSwitch, LookupSwitch}
 use Rattle.kilim_class_code.specs.opcodes.Instr.{instr_text, instr_len, InstrFits}
@@ -53,8 +54,8 @@ mid_target code = first_failing (is_place code) code
 
 -- goto, goto_w, the switches and the returns
 unfoldable pub ends : RawInstr → Bool
-ends (Plain op) = op == 172 || op == 173 || op == 176 || op == 177
-ends (Jump op to) = op == 167
+ends (Plain op) = op == opcode.ireturn || op == opcode.lreturn || op == opcode.areturn || op == opcode.return
+ends (Jump op to) = op == opcode.goto
 ends (WideJump op to) = true
 ends (TableSwitch op default low targets) = true
 ends (LookupSwitch op default pairs) = true

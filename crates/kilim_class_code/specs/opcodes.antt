@@ -1,3 +1,4 @@
+pub mod Numbers
 pub mod Table
 pub mod Instr
 pub mod Reading

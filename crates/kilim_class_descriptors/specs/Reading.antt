@@ -2,6 +2,7 @@
 -- units that are left.
 use Rattle.std.specs.Prelude.{◌≡◌, ℕ, zero, suc, ◌+◌, ◌==◌, nat_lt, if◌then◌else◌, List, [], ◌∷◌, length, Option, Some, None, Result, Ok, Err}
 use Rattle.std.specs.Borrow.{Bor}
+use Rattle.kilim_units.specs.Characters.{left_parenthesis, right_parenthesis, semicolon, upper_b, upper_c, upper_d, upper_f, upper_i, upper_j, upper_l, upper_s, upper_v, upper_z, left_bracket}
 use Rattle.kilim_class_descriptors.specs.declared.types.BaseText.{BaseText}
 use Rattle.kilim_class_descriptors.specs.declared.types.BaseText.TheVariants.{Bool as Boolean, Byte, Char, Short, Int, Long, Float, Double, Class}
 use Rattle.kilim_class_descriptors.specs.declared.types.FieldText.{FieldText}
@@ -33,7 +34,7 @@ with_unit u (Some x) = Some (u ∷ x.0, x.1)
 
 abbrev pub split_name : List ℕ → Option (List ℕ × List ℕ)
 split_name [] = None
-split_name (u ∷ us) = if u == 59 then Some ([], us) else with_unit u (split_name us)
+split_name (u ∷ us) = if u == semicolon then Some ([], us) else with_unit u (split_name us)
 
 abbrev pub class_of : List ℕ → Option (List ℕ × List ℕ) → Result (BaseText × List ℕ) ℕ
 class_of units None = Err 0
@@ -47,15 +48,15 @@ class_at units = class_of units (split_name units)
 unfoldable pub base_at : Reader BaseText
 base_at [] = Err 0
 base_at (u ∷ rest) =
-    if u == 90 then Ok (Boolean, rest)
-    else (if u == 66 then Ok (Byte, rest)
-    else (if u == 67 then Ok (Char, rest)
-    else (if u == 83 then Ok (Short, rest)
-    else (if u == 73 then Ok (Int, rest)
-    else (if u == 74 then Ok (Long, rest)
-    else (if u == 70 then Ok (Float, rest)
-    else (if u == 68 then Ok (Double, rest)
-    else (if u == 76 then class_at rest
+    if u == upper_z then Ok (Boolean, rest)
+    else (if u == upper_b then Ok (Byte, rest)
+    else (if u == upper_c then Ok (Char, rest)
+    else (if u == upper_s then Ok (Short, rest)
+    else (if u == upper_i then Ok (Int, rest)
+    else (if u == upper_j then Ok (Long, rest)
+    else (if u == upper_f then Ok (Float, rest)
+    else (if u == upper_d then Ok (Double, rest)
+    else (if u == upper_l then class_at rest
     else Err (length (u ∷ rest))))))))))
 
 abbrev pub in_dims : ℕ → Result (BaseText × List ℕ) ℕ → Result (FieldText × List ℕ) ℕ
@@ -65,7 +66,7 @@ in_dims dims read = read >>= λ b. Ok (record { dims = dims; base = b.0 }, b.1)
 unfoldable pub field_behind : ℕ → Reader FieldText
 field_behind dims [] = in_dims dims (base_at [])
 field_behind dims (u ∷ rest) =
-    if u == 91 then (if nat_lt dims 255 then field_behind (dims + 1) rest else Err (length (u ∷ rest)))
+    if u == left_bracket then (if nat_lt dims 255 then field_behind (dims + 1) rest else Err (length (u ∷ rest)))
     else in_dims dims (base_at (u ∷ rest))
 
 unfoldable pub field_at : Reader FieldText
@@ -74,7 +75,7 @@ field_at units = field_behind 0 units
 -- the next parameter, or none at the closing parenthesis
 unfoldable pub param_at : Reader (Option FieldText)
 param_at [] = Err 0
-param_at (u ∷ rest) = if u == 41 then Ok (None, rest) else field_at (u ∷ rest) >>= λ f. Ok (Some f.0, f.1)
+param_at (u ∷ rest) = if u == right_parenthesis then Ok (None, rest) else field_at (u ∷ rest) >>= λ f. Ok (Some f.0, f.1)
 
 -- the parameters up to the closing parenthesis; each takes a unit, so as many turns as there are units are enough
 abbrev pub after_param : (List ℕ → Result (List FieldText × List ℕ) ℕ) → Option FieldText × List ℕ → Result (List FieldText × List ℕ) ℕ
@@ -87,7 +88,7 @@ params_at (suc n) units = param_at units >>= λ p. after_param (params_at n) p
 
 unfoldable pub result_at : Reader (Option FieldText)
 result_at [] = Err 0
-result_at (u ∷ rest) = if u == 86 then Ok (None, rest) else field_at (u ∷ rest) >>= λ f. Ok (Some f.0, f.1)
+result_at (u ∷ rest) = if u == upper_v then Ok (None, rest) else field_at (u ∷ rest) >>= λ f. Ok (Some f.0, f.1)
 
 -- all of the units
 abbrev pub all_of : {A : Type 0} → A × List ℕ → Result A ℕ
@@ -99,7 +100,7 @@ whole_field units = field_at units >>= λ f. all_of f
 unfoldable pub whole_method : List ℕ → Result MethodText ℕ
 whole_method [] = Err 0
 whole_method (u ∷ rest) =
-    if u == 40 then (do
+    if u == left_parenthesis then (do
       params ← params_at (length rest) rest
       result ← result_at params.1
       all_of (record { params = params.0; result = result.0 }, result.1))

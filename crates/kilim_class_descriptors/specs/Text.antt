@@ -2,6 +2,7 @@
 -- it is not empty and has no semicolon (own).
 use Rattle.std.specs.Prelude.{◌≡◌, ℕ, ◌^◌, ◌<◌, Bool, true, false, ◌==◌, not, if◌then◌else◌, List, [], ◌∷◌, ◌++◌, replicate, Option, Some, None, sum_by}
 use Rattle.std.specs.List.{flat_map, list_all, AllByRecursion}
+use Rattle.kilim_units.specs.Characters.{left_parenthesis, right_parenthesis, semicolon, upper_b, upper_c, upper_d, upper_f, upper_i, upper_j, upper_l, upper_s, upper_v, upper_z, left_bracket}
 use Rattle.kilim_class_descriptors.specs.declared.types.BaseText.{BaseText}
 use Rattle.kilim_class_descriptors.specs.declared.types.BaseText.TheVariants.{Bool as Boolean, Byte, Char, Short, Int, Long, Float, Double, Class}
 use Rattle.kilim_class_descriptors.specs.declared.types.FieldText.{FieldText}
@@ -9,28 +10,28 @@ use Rattle.kilim_class_descriptors.specs.declared.types.MethodText.{MethodText}
 
 -- Z B C S I J F D, and a class name between L and a semicolon
 abbrev pub base_text : BaseText → List ℕ
-base_text Boolean = 90 ∷ []
-base_text Byte = 66 ∷ []
-base_text Char = 67 ∷ []
-base_text Short = 83 ∷ []
-base_text Int = 73 ∷ []
-base_text Long = 74 ∷ []
-base_text Float = 70 ∷ []
-base_text Double = 68 ∷ []
-base_text (Class name) = 76 ∷ (name ++ 59 ∷ [])
+base_text Boolean = upper_z ∷ []
+base_text Byte = upper_b ∷ []
+base_text Char = upper_c ∷ []
+base_text Short = upper_s ∷ []
+base_text Int = upper_i ∷ []
+base_text Long = upper_j ∷ []
+base_text Float = upper_f ∷ []
+base_text Double = upper_d ∷ []
+base_text (Class name) = upper_l ∷ (name ++ semicolon ∷ [])
 
 -- an opening bracket for each dimension
 abbrev pub field_text : FieldText → List ℕ
-field_text f = replicate f.dims 91 ++ base_text f.base
+field_text f = replicate f.dims left_bracket ++ base_text f.base
 
 -- V for void
 abbrev pub result_text : Option FieldText → List ℕ
-result_text None = 86 ∷ []
+result_text None = upper_v ∷ []
 result_text (Some f) = field_text f
 
 -- the parameters in parentheses, and the result
 abbrev pub method_text : MethodText → List ℕ
-method_text m = 40 ∷ (flat_map field_text m.params ++ 41 ∷ result_text m.result)
+method_text m = left_parenthesis ∷ (flat_map field_text m.params ++ right_parenthesis ∷ result_text m.result)
 
 -- ---- what has a text
 
@@ -40,7 +41,7 @@ is_some_name (u ∷ us) = true
 
 -- a class name has no semicolon and isn't empty
 abbrev pub BaseFits : BaseText → Type 0
-BaseFits (Class name) = (is_some_name name ≡ true) × (list_all (λ u. not (u == 59)) name ≡ true)
+BaseFits (Class name) = (is_some_name name ≡ true) × (list_all (λ u. not (u == semicolon)) name ≡ true)
 BaseFits b = Unit {0}
 
 abbrev pub FieldFits : FieldText → Type 0

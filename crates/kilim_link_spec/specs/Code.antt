@@ -1,5 +1,6 @@
 -- Code in a program: bytes to instructions, and each index by what it names.
 use Rattle.std.specs.Prelude.{ℕ, zero, suc, ◌+◌, ◌-◌, ◌==◌, ◌||◌, ℤ, pos, negsuc, if◌then◌else◌, List, [], ◌∷◌, length, Option, Some, None, option_map, option_and_then, Result, Ok, Err}
+use Rattle.kilim_class_code.specs.opcodes.Numbers as opcode
 use Rattle.kilim_class_grammar.specs.Reader.{◌>>=◌, with_fault}
 use Rattle.kilim_class_code.specs.declared.opcodes.instr.RawInstr.{RawInstr}
 use Rattle.kilim_class_code.specs.declared.opcodes.instr.RawInstr.TheVariants as raw
@@ -95,12 +96,12 @@ constant_ref pool _ = None
 -- `invokevirtual`; `invokespecial`, `invokestatic`; `new`; `anewarray`, `checkcast`, `instanceof`.
 abbrev pub index_operand : List Entry → ℕ → Option Entry → Option Operand
 index_operand pool number e =
-    if number == 18 || number == 19 || number == 20 then option_map AConstant (constant_ref pool e)
-    else (if number == 178 || number == 180 || number == 181 then option_map AField (field_ref pool e)
-    else (if number == 182 then option_map AMethod (method_ref pool e)
-    else (if number == 183 || number == 184 then option_map AMethod (any_method_ref pool e)
-    else (if number == 187 then option_map AType (unless_array (class_ref pool e))
-    else (if number == 189 || number == 192 || number == 193 then option_map AType (class_ref pool e)
+    if number == opcode.ldc || number == opcode.ldc_w || number == opcode.ldc2_w then option_map AConstant (constant_ref pool e)
+    else (if number == opcode.getstatic || number == opcode.getfield || number == opcode.putfield then option_map AField (field_ref pool e)
+    else (if number == opcode.invokevirtual then option_map AMethod (method_ref pool e)
+    else (if number == opcode.invokespecial || number == opcode.invokestatic then option_map AMethod (any_method_ref pool e)
+    else (if number == opcode.new then option_map AType (unless_array (class_ref pool e))
+    else (if number == opcode.anewarray || number == opcode.checkcast || number == opcode.instanceof then option_map AType (class_ref pool e)
     else None)))))
 
 -- the number and the index of an instruction that has one
@@ -199,7 +200,7 @@ method_found w ref = option_and_then (λ c. find_method w c ref.name ref.descrip
 
 -- an instruction with a class or a type: `new` takes a class alone
 abbrev pub typed_instr : World → ℕ → Named → Option Instr
-typed_instr w number class = if number == 187 then option_map New (class_named_by w class) else applied (row type_instrs number) (type_named w class)
+typed_instr w number class = if number == opcode.new then option_map New (class_named_by w class) else applied (row type_instrs number) (type_named w class)
 
 -- an instruction with what its index names
 abbrev pub instr_with : World → ℕ → Option Operand → Option Instr

@@ -3,6 +3,7 @@
 use Rattle.std.specs.Prelude.{ℕ, ◌+◌, Bool, true, false, ◌&&◌, ◌||◌, not, ◌==◌, nat_lt, nat_le, if◌then◌else◌, List, [], ◌∷◌, ◌++◌, map, filter, length, take, Option, Some, None, is_none, is_some, Result, Ok, Err, codes}
 use Rattle.std.specs.List.{list_all, list_any, flat_map, filter_map, slice_split}
 use Rattle.std.specs.Str.{bytes_eq}
+use Rattle.kilim_units.specs.Characters.{full_stop, slash, semicolon, left_bracket}
 use Rattle.kilim_class_code.specs.declared.fault.CodeFault.{CodeFault}
 use Rattle.kilim_class_code.specs.declared.fault.CodeFault.TheVariants as code
 use Rattle.kilim_class_code.specs.Code.{Placed}
@@ -271,8 +272,8 @@ are_paired behind_high (u ∷ us) = same_flag behind_high (is_low u) && are_pair
 -- No part between slashes is empty, no `.`, `;` or `[` and no lone surrogate stands in it; a text of 65,000 bytes.
 unfoldable pub is_class_name : List ℕ → Bool
 is_class_name name =
-    list_all (λ p. not (is_empty p)) (slice_split (λ u. u == 47) name)
-    && (list_all (λ u. not (u == 46 || u == 59 || u == 91)) name
+    list_all (λ p. not (is_empty p)) (slice_split (λ u. u == slash) name)
+    && (list_all (λ u. not (u == full_stop || u == semicolon || u == left_bracket)) name
     && (are_paired false name
     && nat_le (length (spelling name)) 65000))
 

@@ -3,6 +3,7 @@
 -- no entry of a kind that its instruction takes. Entries of the pool that nothing refers to name nothing.
 use Rattle.std.specs.Prelude.{ℕ, suc, Bool, false, ◌==◌, if◌then◌else◌, List, [], ◌∷◌, ◌++◌, map, Option, Some, None, Result, Ok, Err}
 use Rattle.std.specs.List.{flat_map}
+use Rattle.kilim_class_code.specs.opcodes.Numbers as opcode
 use Rattle.kilim_class_attributes.specs.declared.parts.frame.Frame.{Frame as FrameForm}
 use Rattle.kilim_class_attributes.specs.declared.parts.frame.Frame.TheVariants.{SameLocals1StackItem, SameLocals1StackItemExtended, Append, Full}
 use Rattle.kilim_class_attributes.specs.declared.parts.frame.VerificationType.{VerificationType}
@@ -50,7 +51,7 @@ operand_of pool instr = index_in instr >>= operand_at pool
 -- the instruction is `anewarray`: what its index names are the elements of the array that it makes
 abbrev pub is_anewarray : Option (ℕ × ℕ) → Bool
 is_anewarray None = false
-is_anewarray (Some x) = x.0 == 189
+is_anewarray (Some x) = x.0 == opcode.anewarray
 
 -- the owner first, and then the descriptor
 abbrev pub mentions_of_operand : Bool → Option Operand → List Mention

@@ -1,5 +1,6 @@
 -- Types by the texts of descriptors and class names, and what they are in a program.
 use Rattle.std.specs.Prelude.{ℕ, ◌==◌, if◌then◌else◌, List, [], ◌∷◌, ◌++◌, Option, Some, None, option_map, Result, Ok, Err}
+use Rattle.kilim_units.specs.Characters.{left_bracket}
 use Rattle.kilim_class_descriptors.specs.declared.types.BaseText.{BaseText}
 use Rattle.kilim_class_descriptors.specs.declared.types.BaseText.TheVariants as text
 use Rattle.kilim_class_descriptors.specs.declared.types.FieldText.{FieldText}
@@ -32,7 +33,7 @@ array_or_malformed name (Some type) = AnArray type
 -- what a text names: an array where it begins with `[`
 abbrev pub named_by : List ℕ → Named
 named_by [] = AClass []
-named_by (u ∷ us) = if u == 91 then array_or_malformed (u ∷ us) (field_text (u ∷ us)) else AClass (u ∷ us)
+named_by (u ∷ us) = if u == left_bracket then array_or_malformed (u ∷ us) (field_text (u ∷ us)) else AClass (u ∷ us)
 
 -- ---- in a program; there are no float and double types in one
 

@@ -2,6 +2,7 @@
 use Rattle.std.specs.Prelude.{ℕ, Bool, true, false, ◌&&◌, ◌||◌, not, ◌==◌, if◌then◌else◌, List, [], ◌∷◌, ◌++◌, codes}
 use Rattle.std.specs.List.{flat_map}
 use Rattle.std.specs.Fmt.{decimal, signed_decimal}
+use Rattle.kilim_units.specs.Characters.{space, quotation_mark, backslash, tilde}
 use Rattle.kilim_program.specs.declared.names.BoxName.{BoxName}
 use Rattle.kilim_run_state.specs.declared.value.Token.{Token}
 use Rattle.kilim_run_state.specs.declared.value.Token.TheVariants.{Open, Close, Int, Long, Null, Text, Box}
@@ -17,7 +18,7 @@ box_text box = decimal box.task ++ (codes "." ++ decimal box.number)
 
 -- in a text the units 0x20 to 0x7E stand for themselves, but not the quotation mark and the backslash
 abbrev pub stands_in_text : ℕ → Bool
-stands_in_text u = is_within 32 126 u && not (u == 34 || u == 92)
+stands_in_text u = is_within space tilde u && not (u == quotation_mark || u == backslash)
 
 abbrev pub text_unit : ℕ → List ℕ
 text_unit u = if stands_in_text u then u ∷ [] else escape u
@@ -29,7 +30,7 @@ token_text Close = codes ")"
 token_text (Int n) = signed_decimal n
 token_text (Long n) = signed_decimal n ++ codes "L"
 token_text Null = codes "null"
-token_text (Text units) = 34 ∷ (flat_map text_unit units ++ 34 ∷ [])
+token_text (Text units) = quotation_mark ∷ (flat_map text_unit units ++ quotation_mark ∷ [])
 token_text (Box box) = codes "@" ++ box_text box
 
 -- a comma stands before a value that isn't the first of its object

@@ -1,5 +1,6 @@
 -- The woven code as bytes: each instruction in its form, with the pool's indices filled in.
 use Rattle.std.specs.Prelude.{ℕ, ◌+◌, Bool, true, false, nat_lt, if◌then◌else◌, ℤ, pos, negsuc, List, [], ◌∷◌, ◌++◌, map, Option, Some, None}
+use Rattle.kilim_class_code.specs.opcodes.Numbers as opcode
 use Rattle.kilim_class_code.specs.Code.{Placed}
 use Rattle.kilim_class_pool.specs.declared.entry.Entry.{Entry}
 use Rattle.kilim_class_pool.specs.declared.entry.Entry.TheVariants as entry
@@ -77,30 +78,30 @@ place_number n = pos n
 
 -- what weaving adds
 unfoldable pub added_raw : Program → List Entry → Instr → RawInstr
-added_raw w pool (Iload slot) = local_form 26 21 slot
-added_raw w pool (Lload slot) = local_form 30 22 slot
-added_raw w pool (Aload slot) = local_form 42 25 slot
-added_raw w pool (Istore slot) = local_form 59 54 slot
-added_raw w pool (Lstore slot) = local_form 63 55 slot
-added_raw w pool (Astore slot) = local_form 75 58 slot
-added_raw w pool AconstNull = raw.Plain 1
+added_raw w pool (Iload slot) = local_form opcode.iload_0 opcode.iload slot
+added_raw w pool (Lload slot) = local_form opcode.lload_0 opcode.lload slot
+added_raw w pool (Aload slot) = local_form opcode.aload_0 opcode.aload slot
+added_raw w pool (Istore slot) = local_form opcode.istore_0 opcode.istore slot
+added_raw w pool (Lstore slot) = local_form opcode.lstore_0 opcode.lstore slot
+added_raw w pool (Astore slot) = local_form opcode.astore_0 opcode.astore slot
+added_raw w pool AconstNull = raw.Plain opcode.aconst_null
 added_raw w pool (Iconst n) = int_form n
 added_raw w pool (Lconst n) = long_form n
-added_raw w pool (Bipush n) = raw.Byte 16 n
-added_raw w pool (Sipush n) = raw.Short 17 n
-added_raw w pool Pop = raw.Plain 87
-added_raw w pool Pop2 = raw.Plain 88
-added_raw w pool Ireturn = raw.Plain 172
-added_raw w pool Lreturn = raw.Plain 173
-added_raw w pool Areturn = raw.Plain 176
-added_raw w pool Return = raw.Plain 177
-added_raw w pool (Ifeq to) = raw.Jump 153 (pos to)
-added_raw w pool (Goto to) = raw.Jump 167 (pos to)
-added_raw w pool (Tableswitch default low targets) = raw.TableSwitch 170 (pos default) low (map place_number targets)
-added_raw w pool (Invokevirtual id) = raw.Index 182 (index_of pool (needed_method w id))
-added_raw w pool (Invokestatic id) = raw.Index 184 (index_of pool (needed_method w id))
-added_raw w pool (Checkcast ty) = raw.Index 192 (index_of pool (AClass (type_name w ty)))
-added_raw w pool i = raw.Plain 0
+added_raw w pool (Bipush n) = raw.Byte opcode.bipush n
+added_raw w pool (Sipush n) = raw.Short opcode.sipush n
+added_raw w pool Pop = raw.Plain opcode.pop
+added_raw w pool Pop2 = raw.Plain opcode.pop2
+added_raw w pool Ireturn = raw.Plain opcode.ireturn
+added_raw w pool Lreturn = raw.Plain opcode.lreturn
+added_raw w pool Areturn = raw.Plain opcode.areturn
+added_raw w pool Return = raw.Plain opcode.return
+added_raw w pool (Ifeq to) = raw.Jump opcode.ifeq (pos to)
+added_raw w pool (Goto to) = raw.Jump opcode.goto (pos to)
+added_raw w pool (Tableswitch default low targets) = raw.TableSwitch opcode.tableswitch (pos default) low (map place_number targets)
+added_raw w pool (Invokevirtual id) = raw.Index opcode.invokevirtual (index_of pool (needed_method w id))
+added_raw w pool (Invokestatic id) = raw.Index opcode.invokestatic (index_of pool (needed_method w id))
+added_raw w pool (Checkcast ty) = raw.Index opcode.checkcast (index_of pool (AClass (type_name w ty)))
+added_raw w pool i = raw.Plain opcode.nop
 
 -- where an old jump goes now
 abbrev pub target_of : Instr → ℕ
@@ -129,18 +130,18 @@ pair_number e = (e.0, pos e.1)
 
 -- a load or a store in its shortest form
 abbrev pub shortest : Instr → RawInstr → RawInstr
-shortest (Iload slot) r = local_form 26 21 slot
-shortest (Lload slot) r = local_form 30 22 slot
-shortest (Aload slot) r = local_form 42 25 slot
-shortest (Istore slot) r = local_form 59 54 slot
-shortest (Lstore slot) r = local_form 63 55 slot
-shortest (Astore slot) r = local_form 75 58 slot
+shortest (Iload slot) r = local_form opcode.iload_0 opcode.iload slot
+shortest (Lload slot) r = local_form opcode.lload_0 opcode.lload slot
+shortest (Aload slot) r = local_form opcode.aload_0 opcode.aload slot
+shortest (Istore slot) r = local_form opcode.istore_0 opcode.istore slot
+shortest (Lstore slot) r = local_form opcode.lstore_0 opcode.lstore slot
+shortest (Astore slot) r = local_form opcode.astore_0 opcode.astore slot
 shortest i r = r
 
 -- a switch where it goes now
 abbrev pub switched : Instr → RawInstr → RawInstr
-switched (Tableswitch default low targets) r = raw.TableSwitch 170 (pos default) low (map place_number targets)
-switched (Lookupswitch default pairs) r = raw.LookupSwitch 171 (pos default) (map pair_number pairs)
+switched (Tableswitch default low targets) r = raw.TableSwitch opcode.tableswitch (pos default) low (map place_number targets)
+switched (Lookupswitch default pairs) r = raw.LookupSwitch opcode.lookupswitch (pos default) (map pair_number pairs)
 switched i r = r
 
 -- An old instruction keeps its form and its index, but for jumps, loads, stores and pausable calls.

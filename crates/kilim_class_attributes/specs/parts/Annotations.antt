@@ -3,6 +3,7 @@
 use Rattle.std.specs.Prelude.{◌≡◌, ℕ, ◌<◌, ◌^◌, ◌==◌, Bool, true, ◌||◌, if◌then◌else◌, List, [], ◌∷◌, ◌++◌, length, replicate}
 use Rattle.std.specs.List.{flat_map}
 use Rattle.std.specs.Int.{w8, w16}
+use Rattle.kilim_units.specs.Characters.{at_sign, upper_b, upper_c, upper_d, upper_f, upper_i, upper_j, upper_s, upper_z, left_bracket, lower_c, lower_e, lower_s}
 use Rattle.kilim_class_grammar.specs.Reader.{Reader, number_at, given, both, made}
 use Rattle.kilim_class_grammar.specs.Spelling.{u1, u2}
 use Rattle.kilim_class_pool.specs.declared.entry.Entry.{Entry}
@@ -43,26 +44,26 @@ asks part = kinds_of (asked part)
 
 -- the kind of the constant of a tag: B, C, I, S and Z; D; F; J
 abbrev pub is_integer_tag : ℕ → Bool
-is_integer_tag tag = tag == 66 || (tag == 67 || (tag == 73 || (tag == 83 || tag == 90)))
+is_integer_tag tag = tag == upper_b || (tag == upper_c || (tag == upper_i || (tag == upper_s || tag == upper_z)))
 
 -- these, and s
 abbrev pub is_constant_tag : ℕ → Bool
-is_constant_tag tag = is_integer_tag tag || (tag == 68 || (tag == 70 || (tag == 74 || tag == 115)))
+is_constant_tag tag = is_integer_tag tag || (tag == upper_d || (tag == upper_f || (tag == upper_j || tag == lower_s)))
 
 abbrev pub constant_kind : ℕ → EntryKind
 constant_kind tag =
     if is_integer_tag tag then kind.Integer
-    else (if tag == 68 then kind.Double
-    else (if tag == 70 then kind.Float
-    else (if tag == 74 then kind.Long
+    else (if tag == upper_d then kind.Double
+    else (if tag == upper_f then kind.Float
+    else (if tag == upper_j then kind.Long
     else kind.Text)))
 
 abbrev pub value_tag : AnnotationPart → ℕ
 value_tag (Constant tag index) = tag
-value_tag (EnumConstant type name) = 101
-value_tag (Class descriptor) = 99
-value_tag Nested = 64
-value_tag (Array count) = 91
+value_tag (EnumConstant type name) = lower_e
+value_tag (Class descriptor) = lower_c
+value_tag Nested = at_sign
+value_tag (Array count) = left_bracket
 value_tag _ = 0
 
 abbrev pub behind_value_tag : AnnotationPart → List ℕ
@@ -115,10 +116,10 @@ two_texts_at pool ends = both (index_at pool kind.Text ends) (index_at pool kind
 unfoldable pub value_behind : List Entry → AttributeFault → ℕ → Reader AttributeFault AnnotationPart
 value_behind pool ends tag bytes =
     if is_constant_tag tag then made (Constant tag) (index_at pool (constant_kind tag) ends) bytes
-    else (if tag == 101 then made (λ x. EnumConstant x.0 x.1) (two_texts_at pool ends) bytes
-    else (if tag == 99 then made Class (index_at pool kind.Text ends) bytes
-    else (if tag == 64 then given Nested bytes
-    else (if tag == 91 then made Array (number_at ends w16) bytes
+    else (if tag == lower_e then made (λ x. EnumConstant x.0 x.1) (two_texts_at pool ends) bytes
+    else (if tag == lower_c then made Class (index_at pool kind.Text ends) bytes
+    else (if tag == at_sign then given Nested bytes
+    else (if tag == left_bracket then made Array (number_at ends w16) bytes
     else refused ends bytes))))
 
 unfoldable pub value_at : List Entry → AttributeFault → Reader AttributeFault AnnotationPart

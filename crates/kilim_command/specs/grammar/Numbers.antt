@@ -2,9 +2,10 @@
 use Rattle.std.specs.Prelude.{ℕ, ℤ, pos, neg_ℤ, Bool, true, false, ◌&&◌, ◌||◌, not, ◌==◌, nat_le, if◌then◌else◌, List, [], ◌∷◌, Option, Some, None}
 use Rattle.std.specs.List.{list_all}
 use Rattle.std.specs.Str.Parse.{digits_value}
+use Rattle.kilim_units.specs.Characters.{digit_0, digit_9}
 
 abbrev pub is_digit : ℕ → Bool
-is_digit b = nat_le 48 b && nat_le b 57
+is_digit b = nat_le digit_0 b && nat_le b digit_9
 
 abbrev pub is_alone : List ℕ → Bool
 is_alone [] = true
@@ -13,7 +14,7 @@ is_alone (b ∷ bs) = false
 -- one digit or more; a zero stands first only where it stands alone
 abbrev pub is_number : List ℕ → Bool
 is_number [] = false
-is_number (b ∷ bs) = list_all is_digit (b ∷ bs) && (not (b == 48) || is_alone bs)
+is_number (b ∷ bs) = list_all is_digit (b ∷ bs) && (not (b == digit_0) || is_alone bs)
 
 abbrev pub in_range : ℕ → ℕ → ℕ → Option ℕ
 in_range least most n = if nat_le least n && nat_le n most then Some n else None

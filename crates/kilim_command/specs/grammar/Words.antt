@@ -9,6 +9,7 @@
 use Rattle.std.specs.Prelude.{ℕ, suc, take, ℤ, Bool, false, ◌&&◌, ◌||◌, not, ◌==◌, nat_eq, nat_lt, nat_le, if◌then◌else◌, is_some, length, drop, List, [], ◌∷◌, Option, Some, None, codes}
 use Rattle.std.specs.List.{starts_with, list_all}
 use Rattle.std.specs.Str.{bytes_eq}
+use Rattle.kilim_units.specs.Characters.{hyphen}
 use Rattle.kilim_command.specs.grammar.Numbers.{number_in, int_by}
 
 -- what the words ask for
@@ -26,12 +27,12 @@ pub data Request : Type 0 where
 
 abbrev pub is_hyphened : List ℕ → Bool
 is_hyphened [] = false
-is_hyphened (b ∷ bs) = b == 45
+is_hyphened (b ∷ bs) = b == hyphen
 
 -- a word that names a file isn't empty, and doesn't begin with a hyphen
 abbrev pub is_file : List ℕ → Bool
 is_file [] = false
-is_file (b ∷ bs) = not (b == 45)
+is_file (b ∷ bs) = not (b == hyphen)
 
 -- what stands behind the front in a word that begins so: the value of an option NAME=VALUE
 abbrev pub value_behind : List ℕ → List ℕ → Option (List ℕ)
