@@ -14,18 +14,11 @@ chosen : {A : Type 0} (b : Bool) (x y z : A) → cond b x y ≡ z → ((b ≡ tr
 chosen true x y z e = inl (refl, e)
 chosen false x y z e = inr (refl, e)
 
-not_both : (a b : Bool) → (a && b) ≡ false → (a ≡ false) ⊎ (b ≡ false)
-not_both true b e = inr e
-not_both false b e = inl refl
-
 within : (low high b : ℕ) → (leb low b && ltb b high) ≡ true → (low ≤ b) × (b < high)
 within low high b e = let t = and_parts (leb low b) (ltb b high) e in (leb-true low b t.0, ltb-true b high t.1)
 
 is_within : (low high b : ℕ) → low ≤ b → b < high → (leb low b && ltb b high) ≡ true
 is_within low high b l h = rw (le-leb low b l, lt-ltb b high h) refl
-
-below : (low high b : ℕ) → b < low → (leb low b && ltb b high) ≡ false
-below low high b l = rw (lt-leb low b l) refl
 
 above : (low high b : ℕ) → low ≤ b → high ≤ b → (leb low b && ltb b high) ≡ false
 above low high b l h = rw (le-leb low b l, le-ltb b high h) refl

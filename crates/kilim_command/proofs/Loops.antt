@@ -3,10 +3,6 @@ use Rattle.std.proofs.Common.{◌≡◌, ℕ, ◌+◌, ◌<◌, List, [], ◌∷
 use Rattle.std.specs.List.{flat_map}
 use Rattle.std.proofs.lemmas.List.{take_more, map_more, flat_map_more}
 
-pub mapped : {X A : Type 0} (f : X → A) (now next : List A) (xs : List X) (i : ℕ) (x : X) (y : A) → i < length xs → x ≡ get_or xs i x → now ≡ map f (take i xs) → y ≡ f x → next ≡ now ++ y ∷ [] → next ≡ map f (take (i + 1) xs)
-mapped f now next xs i x y lt is so_far made step =
-    step ∙ (ap (λ ys. ys ++ y ∷ []) so_far ∙ (ap (λ z. map f (take i xs) ++ z ∷ []) (made ∙ ap f is) ∙ sym (map_more f xs i x lt)))
-
 behind : {X A : Type 0} (f : X → List A) (before now next : List A) (xs : List X) (i : ℕ) (x : X) → i < length xs → x ≡ get_or xs i x → now ≡ before ++ flat_map f (take i xs) → next ≡ now ++ f x → next ≡ before ++ flat_map f (take (i + 1) xs)
 behind f before now next xs i x lt is so_far step =
     step ∙ (ap (λ ys. ys ++ f x) so_far ∙ (ap (λ z. (before ++ flat_map f (take i xs)) ++ f z) is ∙ (flat_map_more f before (take i xs) (get_or xs i x) ∙ ap (λ ys. before ++ flat_map f ys) (sym (take_more xs i x lt)))))

@@ -7,10 +7,6 @@ use Rattle.kilim_command.specs.declared.line.Kind.TheVariants as kind
 use Rattle.kilim_command.specs.Kinds.{is_of}
 use Rattle.kilim_command.specs.DemoLine.{back_of, demo_line, front_of, how_many, is_print, is_put, is_start, is_take, sum_from, with_act}
 
-pub summed_more : (es : List Entry) (i : ℕ) (e : Entry) (sum next whole : ℤ) → i < length es → e ≡ get_or es i e → next ≡ with_act sum e.act → sum_from sum (drop i es) ≡ whole → sum_from next (drop (i + 1) es) ≡ whole
-summed_more es i e sum next whole lt is step so_far =
-    ap (λ s. sum_from s (drop (i + 1) es)) step ∙ (sym (ap (sum_from sum) (drop_at es i e lt is)) ∙ so_far)
-
 -- the line, by what was counted
 pub line_is : (number tasks puts takes prints : ℕ) (sum : ℤ) (journal : List Entry) (front back text : List ℕ) → tasks ≡ how_many is_start journal + 1 → puts ≡ how_many (is_of kind.Put) journal → takes ≡ how_many (is_of kind.Take) journal →
     prints ≡ how_many (is_of kind.Print) journal → sum ≡ sum_from (pos 0) journal → front ≡ front_of number tasks puts → back ≡ back_of takes prints sum → text ≡ front ++ back → text ≡ demo_line number journal

@@ -3,10 +3,6 @@ use Rattle.std.proofs.Common.{◌≡◌, ℕ, List, [], ◌++◌, Option, Some, 
 use Rattle.std.proofs.lemmas.List.{append-nil}
 use Rattle.kilim_outside.specs.Causes.{Appended}
 
-pub nothing_more : (old new : Option (List ℕ)) → new ≡ old → Appended old new []
-nothing_more None new e = e
-nothing_more (Some old) new e = e ∙ ap (λ (bs : List ℕ). Some bs) (sym (append-nil old))
-
 abbrev some : List ℕ → Option (List ℕ)
 some bs = Some bs
 

@@ -54,22 +54,3 @@ pub types_count : Counts types_from
 types_count k n = refl
 
 -- ---- along a list
-
-pub mapped_more : {A B : Type 0} (f : A → B) (xs : List A) (i : ℕ) (x : A) (y : B) (before done now : List B) → i < length xs → x ≡ get_or xs i x → y ≡ f x → now ≡ done ++ y ∷ [] → done ≡ before ++ map f (take i xs) → now ≡ before ++ map f (take (i + 1) xs)
-mapped_more f xs i x y before done now lt is e pushed so_far =
-    pushed
-    ∙ (ap (λ ys. ys ++ y ∷ []) so_far
-    ∙ (append_assoc before (map f (take i xs)) (y ∷ [])
-    ∙ ap (λ ys. before ++ ys) (ap (λ z. map f (take i xs) ++ z ∷ []) e ∙ sym (ap (map f) (take_at xs i x lt is) ∙ map_append f (take i xs) (x ∷ [])))))
-  where
-    map_append : {A B : Type 0} (f : A → B) (xs ys : List A) → map f (xs ++ ys) ≡ map f xs ++ map f ys
-    map_append f [] ys = refl
-    map_append f (x ∷ xs) ys = ap (λ zs. f x ∷ zs) (map_append f xs ys)
-
-pub files_more : (m : ℕ) (xs : List Stage) (i : ℕ) (x : Stage) (file : ClassFile) (done now whole : List ClassFile) → i < length xs → x ≡ get_or xs i x → file ≡ stage_file (i + 1) m x → now ≡ done ++ file ∷ [] →
-    done ++ stage_files (i + 1) m (drop i xs) ≡ whole → now ++ stage_files (i + 1 + 1) m (drop (i + 1) xs) ≡ whole
-files_more m xs i x file done now whole lt is e pushed so_far =
-    ap (λ ys. ys ++ stage_files (i + 1 + 1) m (drop (i + 1) xs)) pushed
-    ∙ (append_assoc done (file ∷ []) (stage_files (i + 1 + 1) m (drop (i + 1) xs))
-    ∙ (ap (λ f. done ++ (f ∷ stage_files (i + 1 + 1) m (drop (i + 1) xs))) e
-    ∙ (ap (λ ys. done ++ stage_files (i + 1) m ys) (sym (drop_at xs i x lt is)) ∙ so_far)))

@@ -60,25 +60,6 @@ answer_now p W q known a given old new e d w = subst (λ (z : Asked). Answered p
 message_sound : (p : Program) (tree : List Object) (shape : List Token) → IsMessage p tree shape → IsSound p OfMessage tree shape
 message_sound p tree shape s = record { has = s.has; allowed = s.allowed; formed = s.formed; suits = s.suits }
 
-suits_by : (p : Program) (wish : Wish) (a : Answer) (deed : Option Deed) → Fits p wish a deed → AnswerSuits p a
-suits_by p (ToTake box) (answer.Message tree n) deed (shape, message, e) = message.suits
-suits_by p (ToProbe box) (answer.Message tree n) deed (shape, message, e) = message.suits
-suits_by p wish (answer.Message tree n) deed fits = absurd fits
-suits_by p wish a deed fits = tt
-
-pub answer_suits : (code : Code) (old : Fiber) (a : Answer) → CanAnswer task_of course_of (AskedOf code.program code.counted) ServesCode code old a → AnswerSuits code.plain a
-answer_suits code old a can = subst (λ (p : Program). AnswerSuits p a) can.served.program (suits_by can.set.program can.wish a can.deed can.fits)
-
-room_by : (W : Program) (marks : List (List Bool)) (set : Setting) (t : ℕ) (c : Course) (last : Lone) (b : Body) (q : Asked) → CanGoOn W marks set t c last b (wished q) → takes_value q ≡ true → RoomIn W b.frames
-room_by W marks set t c last b (asked.Take box) go e = go.3
-room_by W marks set t c last b (asked.Probe box) go e = go.2
-room_by W marks set t c last b q go e = absurd (cc)
-
-pub room_for : (code : Code) (old : Fiber) (a : Answer) (q : Asked) → q ≡ old.asked → CanAnswer task_of course_of (AskedOf code.program code.counted) ServesCode code old a → takes_value q ≡ true → RoomIn code.program old.body.frames
-room_for code old a q e can takes =
-    let held = can.asks.is-asked in
-    room_by code.program code.counted can.set old.task (course_of old) can.asks.wishes.lone old.body old.asked held.goes (ap takes_value (sym e) ∙ takes)
-
 -- it is an answer to what was asked
 fits_asked : (p : Program) (q : Asked) (wish : Wish) (a : Answer) (deed : Option Deed) → Some wish ≡ wished q → Fits p wish a deed → IsAnswerTo q a
 fits_asked p asked.Nothing wish a deed e fits = absurd (none-some wish (sym e))

@@ -133,10 +133,6 @@ module _ (P W : Program) (wfetch : MethodId → ℕ → Option (Instr × ℕ × 
 abbrev pub members_in_order : List FiberMember
 members_in_order = Pc ∷ Down ∷ Up ∷ Save ∷ Save ∷ Save ∷ Place ∷ Restore ∷ Restore ∷ Restore ∷ Receiver ∷ []
 
-abbrev pub is_save : FiberMember → Bool
-is_save Save = true
-is_save _ = false
-
 abbrev pub takes_alone : FiberMember → Bool
 takes_alone Save = false
 takes_alone Place = false

@@ -50,12 +50,6 @@ goes_to (Calls c args q l s heap) = Some (q, l)
 goes_to (Asks c args q l s heap) = Some (q, l)
 goes_to effect = None
 
--- the methods that effects call
-abbrev pub CallsOne : Program → Effect → Type 0
-CallsOne p (Calls c args q l s heap) = is_pausable p c ≡ false
-CallsOne p (Asks c args q l s heap) = (member_of p c ≡ None)
-CallsOne p effect = Unit {0}
-
 -- no object of a class that the unwoven program hasn't
 abbrev pub is_old_base : Program → Base → Type 0
 is_old_base p (base.Class c) = c.0 < length p.classes

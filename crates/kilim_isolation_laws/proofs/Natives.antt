@@ -89,9 +89,6 @@ called_so test text (x ∷ ns) all class name k e is = by (bytes_eq class x.0) (
     by true false f g e again = again e
     by false b f g e again = again e
 
-task_at : (a b : ℕ) → NamedAt Plain a b 4 (codes "kilim/Task")
-task_at a b = record { class = _; at = refl; is = refl }
-
 message_at : (a b : ℕ) → NamedAt Plain a b 2 (codes "kilim/Message")
 message_at a b = record { class = _; at = refl; is = refl }
 

@@ -25,9 +25,6 @@ has_left xs ys x h = (h.0, get_left xs ys h.0 x h.1)
 pub has_last : {X : Type 0} (xs : List X) (y : X) → Has (xs ++ y ∷ []) y
 has_last xs y = (length xs, get_last xs y)
 
-pub has_push : {X : Type 0} (xs : List X) (y x : X) → Has (xs ++ y ∷ []) x → Has xs x ⊎ (y ≡ x)
-has_push xs y x h = elim (get_push xs y h.0 x h.1) [ inl a ↦ inl (h.0, a) | inr b ↦ inr b.1 ]
-
 pub has_in : {X : Type 0} (P : X → Type 0) (xs : List X) (x : X) → AllByRecursion P xs → Has xs x → P x
 has_in P [] x a h = absurd (cc (h.1))
 has_in P (y ∷ xs) x a (zero, h) = let e : y ≡ x = cc in subst P e a.0

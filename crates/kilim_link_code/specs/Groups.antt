@@ -3,9 +3,6 @@ use Rattle.std.specs.Prelude.{ℕ, pos, negsuc, List, [], ◌∷◌, ◌++◌}
 use Rattle.kilim_program.specs.declared.instr.Instr.{Instr}
 use Rattle.kilim_program.specs.declared.instr.Instr.TheVariants as instr
 
-abbrev pub constants_and_loads : List (ℕ × Instr)
-constants_and_loads = (0, instr.Nop) ∷ (1, instr.AconstNull) ∷ (2, instr.Iconst (negsuc 0)) ∷ (3, instr.Iconst (pos 0)) ∷ (4, instr.Iconst (pos 1)) ∷ (5, instr.Iconst (pos 2)) ∷ (6, instr.Iconst (pos 3)) ∷ (7, instr.Iconst (pos 4)) ∷ (8, instr.Iconst (pos 5)) ∷ (9, instr.Lconst (pos 0)) ∷ (10, instr.Lconst (pos 1)) ∷ (26, instr.Iload 0) ∷ (27, instr.Iload 1) ∷ (28, instr.Iload 2) ∷ (29, instr.Iload 3) ∷ (30, instr.Lload 0) ∷ (31, instr.Lload 1) ∷ (32, instr.Lload 2) ∷ (33, instr.Lload 3) ∷ []
-
 abbrev pub reference_and_array_loads : List (ℕ × Instr)
 reference_and_array_loads = (42, instr.Aload 0) ∷ (43, instr.Aload 1) ∷ (44, instr.Aload 2) ∷ (45, instr.Aload 3) ∷ (46, instr.Iaload) ∷ (47, instr.Laload) ∷ (50, instr.Aaload) ∷ (51, instr.Baload) ∷ (52, instr.Caload) ∷ (53, instr.Saload) ∷ []
 

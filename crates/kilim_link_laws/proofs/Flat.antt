@@ -33,10 +33,6 @@ none_flat_at f test [] none n x there = absurd (none-some x there)
 none_flat_at f test (y ∷ xs) none zero x there = ap (λ (z : _). list_any test (f z)) (sym (same_Some y x there)) ∙ (none_append test (f y) (flat_map f xs) none).0
 none_flat_at f test (y ∷ xs) none (suc n) x there = none_flat_at f test xs (none_append test (f y) (flat_map f xs) none).1 n x there
 
-pub none_flat : {A B : Type 0} (f : A → List B) (test : B → Bool) (xs : List A) → ((n : ℕ) (x : A) → slice_get xs n ≡ Some x → list_any test (f x) ≡ false) → list_any test (flat_map f xs) ≡ false
-none_flat f test [] each = refl
-none_flat f test (x ∷ xs) each = append_none test (f x) (flat_map f xs) (each 0 x refl) (none_flat f test xs (λ n y e. each (suc n) y e))
-
 pub flat_map-append : {A B : Type 0} (f : A → List B) (xs ys : List A) → flat_map f (xs ++ ys) ≡ flat_map f xs ++ flat_map f ys
 flat_map-append f [] ys = refl
 flat_map-append f (x ∷ xs) ys = ap (λ (zs : List _). f x ++ zs) (flat_map-append f xs ys) ∙ sym (append_assoc (f x) (flat_map f xs) (flat_map f ys))

@@ -40,11 +40,6 @@ origin f [] n y e = absurd (none-some y e)
 origin f (x ∷ xs) zero y e = record { of = x; at = refl; is = same_Some (f x) y e }
 origin f (x ∷ xs) (suc n) y e = let o = origin f xs n y e in record { of = o.of; at = o.at; is = o.is }
 
-pub get_past : {A : Type 0} (xs : List A) (n : ℕ) → length xs ≤ n → slice_get xs n ≡ None
-get_past [] n l = refl
-get_past (x ∷ xs) zero l = absurd (omega (arith, l))
-get_past (x ∷ xs) (suc n) l = get_past xs n (omega (arith, l))
-
 pub get_take : {A : Type 0} (xs : List A) (m n : ℕ) → n < m → slice_get (take m xs) n ≡ slice_get xs n
 get_take [] zero n l = refl
 get_take [] (suc m) n l = refl

@@ -65,19 +65,6 @@ pub record TwoParts {A B : Type 0} (make : A → Option B) (xs zs : List A) (ys 
   pub right_is : each_of make zs ≡ Some right
   pub is : ys ≡ left ++ right
 
-pub two_parts : {A B : Type 0} (make : A → Option B) (xs zs : List A) (ys : List B) → each_of make (xs ++ zs) ≡ Some ys → TwoParts make xs zs ys
-two_parts make [] zs ys e = record { left = []; right = ys; left_is = refl; right_is = e; is = refl }
-two_parts make (x ∷ xs) zs ys e =
-    let f = first_of (make x) (each_of make (xs ++ zs)) ys e in
-    let t = two_parts make xs zs f.rest f.rest_is in
-    record {
-      left = f.first ∷ t.left;
-      right = t.right;
-      left_is = ap (λ (a : Option _). with_first a (each_of make xs)) f.first_is ∙ ap (with_first (Some f.first)) t.left_is;
-      right_is = t.right_is;
-      is = f.is ∙ ap (λ (rs : List _). f.first ∷ rs) t.is;
-    }
-
 -- ---- files by their numbers
 
 pub numbered_at : {A : Type 0} (make : ClassFile → ClassId → A) (n : ℕ) (files : List ClassFile) (k : ℕ) (file : ClassFile) → slice_get files k ≡ Some file →

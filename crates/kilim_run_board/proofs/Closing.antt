@@ -34,13 +34,6 @@ nothing_there : {A : Type 0} (xs : List A) → (length xs == 0) ≡ true → xs 
 nothing_there [] e = refl
 nothing_there (x ∷ xs) e = absurd (let h : suc (length xs) ≡ 0 = grind (arith, nat_tests) in omega arith)
 
-one_after : {A : Type 0} (n : ℕ) (x : A) → replicate n x ++ x ∷ [] ≡ replicate (suc n) x
-one_after zero x = refl
-one_after (suc n) x = ap (λ l. x ∷ l) (one_after n x)
-
-pub one_more : {A : Type 0} (n : ℕ) (x : A) → replicate n x ++ x ∷ [] ≡ replicate (n + 1) x
-one_more n x = one_after n x ∙ ap (λ m. replicate m x) (let e : suc n ≡ n + 1 = omega arith in e)
-
 pub none_lent : (n : ℕ) → lent_of (replicate n None) ≡ []
 none_lent zero = refl
 none_lent (suc n) = none_lent n
@@ -182,14 +175,6 @@ module _ {F : Type 0} (task : F → ℕ) where
       joined : (a b c : List Entry) → a ++ (b ++ c) ≡ (a ++ b) ++ c
       joined [] b c = refl
       joined (x ∷ xs) b c = ap (λ l. x ∷ l) (joined xs b c)
-
-pub same_task : (cells : List (Option ℕ)) (seat t u : ℕ) → slice_get cells seat ≡ Some (Some t) → get_or cells seat None ≡ Some u → u ≡ t
-same_task [] seat t u e f = absurd (cc)
-same_task (x ∷ xs) zero t u e f = cc
-same_task (x ∷ xs) (suc n) t u e f = same_task xs n t u e f
-
-pub not_same : (a b : ℕ) → (a ≡ b → ⊥) → (a == b) ≡ false
-not_same a b n = elim (both_ways (a == b)) [ inl is ↦ absurd (n (grind (arith, nat_tests))) | inr isnt ↦ isnt ]
 
 pub same_cell : (cells : List (Option ℕ)) (seat t u : ℕ) (o : Option ℕ) → slice_get cells seat ≡ Some (Some t) → o ≡ get_or cells seat o → o ≡ Some u → u ≡ t
 same_cell cells seat t u o e f g = let h : get_or cells seat o ≡ Some t = get_or_from_slice_get cells seat (Some t) o e in let k : Some u ≡ Some t = sym g ∙ (f ∙ h) in cc

@@ -13,17 +13,6 @@ use Rattle.kilim_run_journal.proofs.Tokens.{is_ended, tokens_grouped, none_befor
 
 -- ---- commas
 
-pub no_comma : (t : Token) (x bytes : List ℕ) → bytes ≡ comma_before false t ++ (token_text t ++ x) → bytes ≡ token_text t ++ x
-no_comma t x bytes e = e ∙ ap (λ front. front ++ (token_text t ++ x)) (none_before t)
-
-pub comma_there : (t : Token) (x bytes rest : List ℕ) → bytes ≡ 44 ∷ rest → bytes ≡ comma_before true t ++ (token_text t ++ x) → rest ≡ token_text t ++ x
-comma_there Close x bytes rest at e = absurd (omega (arith, ap (λ bs. get_or bs 0 0) at, ap (λ bs. get_or bs 0 0) e))
-comma_there t x bytes rest at e = let same : 44 ∷ rest ≡ 44 ∷ (token_text t ++ x) = sym at ∙ e in cc
-
-pub comma_absent : (t : Token) (x bytes : List ℕ) → ((tail : List ℕ) → bytes ≡ 44 ∷ tail → ⊥) → bytes ≡ comma_before true t ++ (token_text t ++ x) → bytes ≡ token_text t ++ x
-comma_absent Close x bytes none e = e
-comma_absent t x bytes none e = absurd (none (token_text t ++ x) e)
-
 -- ---- tokens take some bytes
 
 longer : (a : List ℕ) (c : ℕ) (x : List ℕ) → length x < length (a ++ (c ∷ x))
@@ -86,9 +75,6 @@ pub record ShapeSoFar (bytes : List ℕ) (done : List Token) (begun : ℕ) (foll
   pub fits : ShapeFits done
   pub same : (ts : List Token) → ends_with_its_value begun ts ≡ ends_with_its_value 0 (done ++ ts)
   pub right : (ts : List Token) (x : List ℕ) → is_value ts ≡ true → ShapeFits ts → bytes ≡ shape_text ts ++ (10 ∷ x) → (left : List Token) × (ts ≡ done ++ left) × ShapeFits left × (rest ≡ tokens_text follows left ++ (10 ∷ x))
-
-pub shape_begins : (bytes : List ℕ) (done : List Token) → done ≡ [] → ShapeSoFar bytes done 0 false bytes
-shape_begins bytes done none = subst (λ done. ShapeSoFar bytes done 0 false bytes) (sym none) (record { fits = tt; same = λ ts. refl; right = λ ts x value fit e. (ts, refl, fit, e) })
 
 -- the next token of what is left
 pub record Left (bytes : List ℕ) (done : List Token) (begun : ℕ) (follows : Bool) (rest : List ℕ) (ts : List Token) (x : List ℕ) : Type 0 where

@@ -181,9 +181,6 @@ pub record Reading (bytes : List ℕ) (es : List Entry) (rest : List ℕ) : Type
   pub each : AllByRecursion IsEntry es
   pub split : bytes ≡ journal_text es ++ rest
 
-pub reading_begins : (bytes : List ℕ) (es : List Entry) → es ≡ [] → Reading bytes es bytes
-reading_begins bytes es none = subst (λ es. Reading bytes es bytes) (sym none) (record { each = tt; split = refl })
-
 one_more : (es : List Entry) (e : Entry) → AllByRecursion IsEntry es → IsEntry e → AllByRecursion IsEntry (es ++ e ∷ [])
 one_more [] e a h = (h, tt)
 one_more (d ∷ es) e a h = (a.0, one_more es e a.1 h)

@@ -24,9 +24,6 @@ all_more : (P : ℕ → Type 0) (fs : List ℕ) (q : ℕ) → AllByRecursion P f
 all_more P [] q a p = (p, tt)
 all_more P (x ∷ fs) q a p = (a.0, all_more P fs q a.1 p)
 
-pub units_begin : (bytes : List ℕ) (end : ℕ) (done : List ℕ) → done ≡ [] → UnitsSoFar bytes end done bytes
-units_begin bytes end done none = subst (λ done. UnitsSoFar bytes end done bytes) (sym none) (record { fits = tt; right = λ stands us x slash ends other fit e. (us, refl, fit, e) })
-
 grouped : (stands : ℕ → Bool) (u : ℕ) (us : List ℕ) (end : ℕ) (x : List ℕ) → flat_map (unit_text stands) (u ∷ us) ++ (end ∷ x) ≡ unit_text stands u ++ (flat_map (unit_text stands) us ++ (end ∷ x))
 grouped stands u us end x = append_assoc (unit_text stands u) (flat_map (unit_text stands) us) (end ∷ x)
 

@@ -196,10 +196,6 @@ one_lone set t c a b p q =
 
 -- ---- a thread that rests
 
-is_there : {A : Type 0} (o : Option A) → o ≡ None → is_some o ≡ true → ⊥
-is_there None e h = absurd (cc)
-is_there (Some x) e h = absurd (cc)
-
 no_message : (box : BoxName) (queue : List (ℕ × ℕ)) → is_some (where_empty queue box) ≡ true → queue ≡ []
 no_message box [] h = refl
 no_message box (first ∷ rest) h = absurd (cc)

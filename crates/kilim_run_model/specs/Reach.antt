@@ -48,10 +48,6 @@ abbrev pub FramesName : Liveness → List Activation → ℕ → Type 0
 FramesName live [] n = ⊥
 FramesName live (f ∷ fs) n = SomeNames f.stack n ⊎ (LiveNames (live f.method f.place) 0 f.locals n ⊎ FramesName live fs n)
 
-abbrev pub ThreadNames : Liveness → Thread → ℕ → Type 0
-ThreadNames live (Alive frames done boxes) n = FramesName live frames n
-ThreadNames live (Ended cause) n = ⊥
-
 abbrev pub MaybeNames : Option ℕ → ℕ → Type 0
 MaybeNames None n = ⊥
 MaybeNames (Some m) n = m ≡ n

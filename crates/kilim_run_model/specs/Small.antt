@@ -96,10 +96,6 @@ pub record IsSmallBy (p : Program) (s : Small) : Type 0 where
   pub is : p ≡ small_program s
   pub fits : SmallFits s
 
--- the program is one of these
-abbrev pub IsSmall : Program → Type 0
-IsSmall p = (s : Small) × IsSmallBy p s
-
 -- the run of that class, where a task may do so many instructions
 abbrev pub small_setting : Small → ℕ → Setting
 small_setting s steps = record { program = small_program s; main = class_id 0; limits = record { steps = steps; args = [] } }

@@ -34,11 +34,6 @@ pub record Setting : Type 0 where
 abbrev pub is_fit : Setting → Bool
 is_fit setting = is_fit_main setting.program setting.main
 
--- the numbers that a run is given are those of its types
-pub record LimitsFit (limits : Limits) : Type 0 where
-  pub steps : limits.steps < 2 ^ 64
-  pub args : AllByRecursion (FitsSigned w32) limits.args
-
 -- ---- mailboxes, whatever they hold
 
 -- how many messages it may hold, if it has a bound, how many were put into it, and those that wait there, with their numbers

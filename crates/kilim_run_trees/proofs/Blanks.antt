@@ -51,9 +51,6 @@ different_more (x ∷ fs) q d a = (all_more (λ y. x ≡ y → ⊥) fs q d.0 a.0
 turned : (p q : ℕ) → (p ≡ q → ⊥) → q ≡ p → ⊥
 turned p q ne e = ne (sym e)
 
-pub blank_none : (heap : Objects) (ns : List ℕ) → ns ≡ [] → Blanked heap heap ns
-blank_none heap ns e = subst (λ ns. Blanked heap heap ns) (sym e) (record { free = tt; once = tt; there = tt; others = λ n a. refl })
-
 not_there : (now : Objects) (q : ℕ) → get now q ≡ None → (m : ℕ) → IsThere now m → m ≡ q → ⊥
 not_there now q none m there e = let h : IsThere now q = subst (λ m. IsThere now m) e there in let nothing : Option Object = None in let bad : IsSome nothing = subst (λ o. IsSome o) none h in cc
 

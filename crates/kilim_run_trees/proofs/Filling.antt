@@ -125,11 +125,6 @@ filled_more heap ns os now after left before o new at d once f e r p a =
     let after_is : insert now h.place (renamed (at_places ns) o) ≡ after = ap (λ n. insert now n (renamed (at_places ns) o)) place_is ∙ (ap (insert now at) r ∙ sym a) in
     subst (λ now. Filling heap ns os now left) after_is h.after
 
-pub fill_there : (heap : Objects) (ns : List ℕ) (os : List Object) (now : Objects) (left before : List Object) (o : Object) (at d : ℕ) → AllDiffer ns → Filling heap ns os now before → before ≡ left ++ o ∷ [] → at ≡ get_or ns (length left) d → IsThere now at
-fill_there heap ns os now left before o at d once f e p =
-    let h = fill_next heap ns os now left before o once f e in
-    subst (λ n. IsThere now n) (sym (p ∙ h.there d)) h.is_there
-
 all_of_front : (P : Object → Type 0) (xs ys : List Object) → AllByRecursion P (xs ++ ys) → AllByRecursion P xs
 all_of_front P [] ys a = tt
 all_of_front P (x ∷ xs) ys a = (a.0, all_of_front P xs ys a.1)

@@ -11,9 +11,6 @@ use Rattle.kilim_run_trees.specs.Steps.{IsSize}
 use Rattle.kilim_run_trees.proofs.Walks.{Met, met_none, met_more, leads_longer}
 use Rattle.kilim_run_trees.proofs.Stacks.{pop_reversed, push_reversed}
 
-pub at_first : (heap : Objects) (root : ℕ) (none stack : List ℕ) → none ≡ [] → stack ≡ none ++ root ∷ [] → Met heap root (reverse stack) 0
-at_first heap root none stack e f = met_none heap root (reverse stack) (ap reverse (f ∙ ap (λ none. none ++ root ∷ []) e))
-
 pub met_at : (heap : Objects) (root at count : ℕ) (stack rest : List ℕ) → Met heap root (reverse stack) count → stack ≡ rest ++ at ∷ [] → Met heap root (at ∷ reverse rest) count
 met_at heap root at count stack rest m e = subst (λ pending. Met heap root pending count) (pop_reversed stack rest at e) m
 
@@ -23,9 +20,6 @@ too_large heap root at count stack rest m e full entries tree =
     let n = met_at heap root at count stack rest m e in
     let h = leads_longer heap (root ∷ []) n.entries entries at (reverse rest) n.leads n.are_in tree.leads tree.are_in in
     omega (arith, h, n.counted, full)
-
-pub there_now : (heap : Objects) (root at count : ℕ) (stack rest : List ℕ) → AllThere heap root → Met heap root (reverse stack) count → stack ≡ rest ++ at ∷ [] → IsSome (get heap at)
-there_now heap root at count stack rest all m e = let n = met_at heap root at count stack rest m e in all n.entries at (reverse rest) n.leads n.are_in
 
 pub next_met : (heap : Objects) (root at count : ℕ) (stack rest same after : List ℕ) (o : Object) → Met heap root (reverse stack) count → stack ≡ rest ++ at ∷ [] → get heap at ≡ Some o → same ≡ rest → after ≡ same ++ reverse (refs o) → Met heap root (reverse after) (count + 1)
 next_met heap root at count stack rest same after o m e g s a =

@@ -144,21 +144,9 @@ room_next heap root now at stack rest os o or sr t e g =
     let is : n.object ≡ o = same_object now at n.object o n.there g in
     (n.objects_fit, subst (λ o. length rest + length (refs o) ≤ sr) is (omega (arith, n.stack_fits, length-reverse rest)))
 
-no_more : (es : List (ℕ × Object)) → Leads [] es [] → es ≡ []
-no_more [] h = refl
-no_more (e ∷ es) h = absurd h
-
-pub all_taken : (heap : Objects) (root : ℕ) (now : Objects) (stack : List ℕ) (os : List Object) (or sr : ℕ) → Taking heap root now (reverse stack) os or sr → length stack ≡ 0 → Collected heap root now os
-all_taken heap root now stack os or sr t e =
-    let none : reverse stack ≡ [] = ap reverse (empty_of stack e) in
-    record { entries = t.met; tree = record { leads = subst (Leads (root ∷ []) t.met) none t.leads_met; are_in = t.met_in }; left = t.left; gathered = t.gathered }
-
 pub takes_first : (heap : Objects) (root : ℕ) (none stack : List ℕ) (os : List Object) (or sr sr' : ℕ) → CanCollect heap root or sr → none ≡ [] → stack ≡ none ++ root ∷ [] → os ≡ [] → sr' ≡ sr → Taking heap root heap (reverse stack) os or sr'
 takes_first heap root none stack os or sr sr' c n s o r =
     let is : root ∷ [] ≡ reverse stack = sym (ap reverse (s ∙ ap (λ none. none ++ root ∷ []) n)) in
     let t1 = subst (λ from. Taking heap root heap from [] or sr) is (take_none heap root or sr c) in
     let t2 = subst (λ os. Taking heap root heap (reverse stack) os or sr) (sym o) t1 in
     subst (λ sr. Taking heap root heap (reverse stack) os or sr) (sym r) t2
-
-pub not_empty : (heap : Objects) (root or sr : ℕ) → CanCollect heap root or sr → 0 < sr
-not_empty heap root or sr c = omega (arith, leads_short (root ∷ []) c.entries c.tree.leads, c.stack_fits)

@@ -21,9 +21,6 @@ use Rattle.kilim_run_trees.specs.Shaping.{held, field_values, IsShown, Suits, Al
 use Rattle.kilim_run_trees.proofs.Numbering.{append_nothing}
 use Rattle.kilim_run_trees.proofs.Walks.{leads_join}
 
-Tokens : Type 0
-Tokens = List Token
-
 pub bind_some : {A B : Type 0} (m : Option A) (k : A → Option B) (r : B) → (m >>= k) ≡ Some r → (a : A) × (m ≡ Some a) × (k a ≡ Some r)
 bind_some None k r e = absurd (cc)
 bind_some (Some a) k r e = (a, refl, e)

@@ -34,12 +34,6 @@ pub accepted_by : (p : Program) (t : TypedProgram) (r : Result IsolatedProgram R
 accepted_by p t (Ok i) typed isolated = accepted_one p t i typed isolated
 accepted_by p t (Err e) typed isolated = tt
 
-rule_lines : (p : Program) (t : TypedProgram) (text : List ℕ) → IsTyped p t → AreRuleLinesOf t text → IsReportOf p text
-rule_lines p t text typed lines = inr (record { typed = typed.none; lines = subst (λ (u : TypedProgram). AreRuleLinesOf u text) typed.is lines })
-
-pub reported_by : (p : Program) (t : TypedProgram) (r : Result IsolatedProgram Refusal) → IsTyped p t → IfReport r (AreRuleLinesOf t) → IfReport r (IsReportOf p)
-reported_by p t r typed lines = reported r (λ text l. rule_lines p t text typed l) lines
-
 -- ---- class files
 
 accepted_link : (cs : List ClassFile) (p : Program) (i : IsolatedProgram) → LinksTo cs p → IsAcceptedBy p i → IsAcceptedFrom cs i
@@ -50,9 +44,6 @@ accepted_link cs p i links is =
 pub accepted_from : (cs : List ClassFile) (p : Program) (r : Result IsolatedProgram Refusal) → LinksTo cs p → IfOk r (IsAcceptedBy p) → IfOk r (IsAcceptedFrom cs)
 accepted_from cs p (Ok i) links is = accepted_link cs p i links is
 accepted_from cs p (Err e) links is = tt
-
-pub reported_from : (cs : List ClassFile) (p : Program) (r : Result IsolatedProgram Refusal) → LinksTo cs p → IfReport r (IsReportOf p) → IfReport r (IsReportOfClasses cs)
-reported_from cs p r links said = reported r (λ text is. inr (record { program = p; links = links; report = is })) said
 
 -- ---- bytes
 
@@ -75,6 +66,3 @@ stage_report names files cs text are (inr r) = program_report names files cs r.p
 
 pub reported_files : (names files : List (List ℕ)) (cs : List ClassFile) (r : Result IsolatedProgram Refusal) → AreFiles files cs → IfReport r (IsReportOfClasses cs) → IfReport r (IsStageReport names files)
 reported_files names files cs r are said = reported r (λ text is. stage_report names files cs text are is) said
-
-pub class_report : {A : Type 0} (names files : List (List ℕ)) (r : Result A Refusal) → IfReport r (IsClassReport names files) → IfReport r (IsStageReport names files)
-class_report names files r said = reported r (λ text is. inl is) said

@@ -11,12 +11,6 @@ use Rattle.kilim_top.specs.Inside.Respond.{Wrote0, Wrote1, WroteFrontOf, Respond
 use Rattle.kilim_command.specs.Reads.{WereRead}
 use Rattle.kilim_top.specs.Outcome.{AsksForFiles, FailedAtMost, HasReport, HowFar, InFiles, InText, IsDone, IsFault, IsFit, IsFitFor, IsReport, IsToWrite, Outside, Promises, WriteFailed, WroteFront, WroteReport, WroteSomeFiles, WroteText, read_of, shown}
 
-pub same_length : {A : Type 0} (f : A → List ℕ) (contents : Option Files) (names : List A) (files : List (List ℕ)) → WereRead contents (map f names) files → length names ≡ length files
-same_length f contents [] [] were = refl
-same_length f contents (n ∷ names) (b ∷ files) were = ap suc (same_length f contents names files were.1)
-same_length f contents [] (b ∷ files) were = absurd were
-same_length f contents (n ∷ names) [] were = absurd were
-
 length_read : (contents : Option Files) (names files : List (List ℕ)) → WereRead contents names files → length names ≡ length files
 length_read contents [] [] were = refl
 length_read contents (n ∷ names) (b ∷ files) were = ap suc (length_read contents names files were.1)

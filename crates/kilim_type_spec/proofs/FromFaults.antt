@@ -82,10 +82,6 @@ jumps p m g (to ∷ tos) s e =
     let b = and_parts (flows_into_declared p g (declared m to)) (list_all (λ t. flows_into_declared p g (declared m t)) tos) e in
     (declared_flow p g (declared m to) a.0 b.0, jumps p m g tos a.1 b.1)
 
-and_assoc : (a b c : Bool) → ((a && b) && c) ≡ (a && (b && c))
-and_assoc true b c = refl
-and_assoc false b c = refl
-
 all_parts : (test : ℕ → Bool) (xs ys : List ℕ) → list_all test (xs ++ ys) ≡ true → (list_all test xs ≡ true) × (list_all test ys ≡ true)
 all_parts test [] ys e = (refl, e)
 all_parts test (x ∷ xs) ys e =

@@ -15,10 +15,6 @@ pub record Edge : Type 0 where
   pub to : ℕ
   pub kind : EdgeKind
 
--- from an instruction at a place, behind which the code goes on at the next: a call goes to the next place, a return has no edge
-abbrev pub edges_at : ℕ → Instr → ℕ → List Edge
-edges_at at i next = map (λ to. record { from = at; to = to; kind = Done }) (edges i next)
-
 pub data IsEdge (m : Method) : Edge → Type 0 where
   Leads : (at next to : ℕ) (i : Instr) → fetched m.code m.code_length at ≡ Some (i, next) → Among (edges i next) to → IsEdge m (record { from = at; to = to; kind = Done })
 
@@ -26,8 +22,3 @@ pub data IsEdge (m : Method) : Edge → Type 0 where
 abbrev pub Follows : Method → ℕ → List ℕ → Type 0
 Follows m at [] = Unit {0}
 Follows m at (to ∷ rest) = ((kind : EdgeKind) × IsEdge m (record { from = at; to = to; kind = kind })) × Follows m to rest
-
--- a path of a method: it begins with place 0
-abbrev pub IsPath : Method → List ℕ → Type 0
-IsPath m [] = ⊥
-IsPath m (at ∷ rest) = (at ≡ 0) × Follows m at rest

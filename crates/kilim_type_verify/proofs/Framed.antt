@@ -27,10 +27,6 @@ or_assoc : (a b c : Bool) → (a || (b || c)) ≡ ((a || b) || c)
 or_assoc true b c = refl
 or_assoc false b c = refl
 
-and_false : (a : Bool) → (a && false) ≡ false
-and_false true = refl
-and_false false = refl
-
 -- ---- places of code
 
 pub place_here : (code : List (ℕ × Instr)) (k at : ℕ) (e : ℕ × Instr) → slice_get code k ≡ Some e → e.0 ≡ at → is_code_place (drop k code) at ≡ true

@@ -97,10 +97,6 @@ above_at place [] i entry above found = absurd (cc)
 above_at place (e ∷ es) zero entry above found = grind (arith, above.0, found)
 above_at place (e ∷ es) (suc i) entry above found = above_at place es i entry above.1 found
 
-among_if : (b : Bool) (f g h : Types) → g ≡ f → (b ≡ true → h ≡ f) → cond b h g ≡ f
-among_if true f g h e when = when refl
-among_if false f g h e when = e
-
 eq_false : (a b : ℕ) → a < b → (a == b) ≡ false
 eq_false a b lt = ne_eqb a b (λ e. omega (arith, e, lt))
 

@@ -7,9 +7,6 @@ pub flat_map_append : {A B : Type 0} (f : A → List B) (xs ys : List A) → fla
 flat_map_append f [] ys = refl
 flat_map_append f (x ∷ xs) ys = ap (λ zs. f x ++ zs) (flat_map_append f xs ys) ∙ sym (append_assoc (f x) (flat_map f xs) (flat_map f ys))
 
-pub flat_map_last : {A B : Type 0} (f : A → List B) (old : List B) (xs : List A) (x : A) → (old ++ flat_map f xs) ++ f x ≡ old ++ flat_map f (xs ++ x ∷ [])
-flat_map_last f old xs x = append_assoc old (flat_map f xs) (f x) ∙ ap (λ zs. old ++ zs) (ap (λ zs. flat_map f xs ++ zs) (sym (append-nil (f x))) ∙ sym (flat_map_append f xs (x ∷ [])))
-
 first_option : {A : Type 0} (o : Option A) (xs : List A) → cons_option o xs ≡ cons_option o [] ++ xs
 first_option None xs = refl
 first_option (Some x) xs = refl

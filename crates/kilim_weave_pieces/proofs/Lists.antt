@@ -38,12 +38,6 @@ drop_whole (x ∷ xs) (suc n) le = drop_whole xs n (omega arith)
 
 -- ---- from the end
 
-take_all_of : {A : Type 0} (xs ys : List A) (n : ℕ) → n ≤ length xs → take n (xs ++ ys) ≡ take n xs
-take_all_of [] ys zero le = refl
-take_all_of [] ys (suc n) le = absurd (omega arith)
-take_all_of (x ∷ xs) ys zero le = refl
-take_all_of {A} (x ∷ xs) ys (suc n) le = ap (λ (zs : List A). x ∷ zs) (take_all_of xs ys n (omega arith))
-
 drop_past_of : {A : Type 0} (xs ys : List A) (n : ℕ) → n ≤ length xs → drop n (xs ++ ys) ≡ drop n xs ++ ys
 drop_past_of [] ys zero le = refl
 drop_past_of [] ys (suc n) le = absurd (omega arith)

@@ -32,12 +32,3 @@ pub last_is_own : (heap : Objects) (root : ℕ) (old rest : List ℕ) → AreBel
 last_is_own heap root old rest b e none =
     let one : reverse old ≡ root ∷ [] = pop_reversed old rest root e ∙ ap (λ xs. root ∷ reverse xs) none in
     record { entries = b.entries; tree = record { leads = subst (λ from. Leads from b.entries []) one b.leads; are_in = b.are_in }; once = b.once }
-
-flat_map_last : {A : Type 0} (f : A → List ℕ) (xs : List A) (x : A) → flat_map f (xs ++ x ∷ []) ≡ flat_map f xs ++ f x
-flat_map_last f [] x = append-nil (f x)
-flat_map_last f (y ∷ xs) x = ap (λ ys. f y ++ ys) (flat_map_last f xs x) ∙ sym (append_assoc (f y) (flat_map f xs) (f x))
-
--- one value more
-pub one_value : {A : Type 0} (f : A → List ℕ) (xs now : List A) (x : A) (first before after : List ℕ) → first ≡ flat_map f xs ++ before → before ≡ f x ++ after → now ≡ xs ++ x ∷ [] → first ≡ flat_map f now ++ after
-one_value f xs now x first before after e v is =
-    e ∙ (ap (λ ys. flat_map f xs ++ ys) v ∙ (sym (append_assoc (flat_map f xs) (f x) after) ∙ ap (λ ys. ys ++ after) (sym (ap (flat_map f) is ∙ flat_map_last f xs x))))

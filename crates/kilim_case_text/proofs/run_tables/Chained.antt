@@ -12,9 +12,6 @@ use Rattle.kilim_run_state.proofs.Maps.{got-there, got-other}
 use Rattle.kilim_run_trees.specs.Walk.{value_refs, refs, field_refs, element_refs, Leads, AreIn, places}
 use Rattle.kilim_case_text.specs.run_tables.Chains.{IsBelow, IsOwn}
 
-pub one_field : (fields : List (FieldId × Value)) (elements : List Value) (f : FieldId) (next : Value) → fields ≡ [] ++ (f, next) ∷ [] → elements ≡ [] → field_refs fields ++ element_refs elements ≡ value_refs next
-one_field fields elements f next e n = ap (λ fs. field_refs fs ++ element_refs elements) e ∙ (ap (λ es. (value_refs next ++ []) ++ element_refs es) n ∙ (append-nil (value_refs next ++ []) ∙ append-nil (value_refs next)))
-
 pub none_below : (heap : Objects) → IsBelow heap Null
 none_below heap = record { entries = []; leads = refl; are_in = tt; once = tt }
 
@@ -40,6 +37,3 @@ one_more heap after at o next b r free is =
       are_in = (got-there heap at o, still_in heap at o b.entries free b.are_in);
       once = (new_place heap at b.entries free b.are_in, b.once);
     })
-
-pub is_own : (heap : Objects) (root : ℕ) → IsBelow heap (Ref root) → IsOwn heap root
-is_own heap root b = record { entries = b.entries; tree = record { leads = b.leads; are_in = b.are_in }; once = b.once }

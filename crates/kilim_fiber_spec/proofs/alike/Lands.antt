@@ -36,11 +36,6 @@ pub q_value : (s : List Value) (go : Value → List Value → Effect) → hushed
 q_value [] go = refl
 q_value (v ∷ s) go = refl
 
-pub q_values : (n : ℕ) (s : List Value) (go : List Value → List Value → Effect) → hushed (on_values n s go) ≡ on_values n s (λ vs r. hushed (go vs r))
-q_values zero s go = refl
-q_values (suc n) [] go = refl
-q_values (suc n) (v ∷ s) go = q_values n s (λ vs below. go (v ∷ vs) below)
-
 pub q_int : (v : Value) (go : ℤ → Effect) → hushed (as_int v go) ≡ as_int v (λ x. hushed (go x))
 q_int (Int x) go = refl
 q_int v go = refl

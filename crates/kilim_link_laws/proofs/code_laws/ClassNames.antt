@@ -88,11 +88,3 @@ view_names files form =
     let views = map view_of_file files ++ map (view_of_built_in (built_ins form)) (built_in_classes_in form 0 0) in
     let marked = outline_with form views (λ c v. v.is_marked) in
     outlined_names views (λ c v. is_message_by marked c) 0 views
-
--- the name that a class has in the world
-pub shown_name : (files : List ClassFile) (form : Form) (p : Program) → Parts files form p → (c : ClassId) (v : ClassView) → slice_get (world_of files form).classes c.0 ≡ Some v → class_name p c ≡ v.name
-shown_name files form p parts c v at =
-    let w = world_of files form in
-    let same : map name_of p.classes ≡ map (λ (u : ClassView). u.name) w.classes = program_names files form p parts ∙ view_names files form in
-    shown (slice_get p.classes c.0)
-    ∙ ap text_or_none (sym (slice_get-map name_of p.classes c.0) ∙ (ap (λ (names : List (List ℕ)). slice_get names c.0) same ∙ (slice_get-map (λ (u : ClassView). u.name) w.classes c.0 ∙ ap (option_map (λ (u : ClassView). u.name)) at)))

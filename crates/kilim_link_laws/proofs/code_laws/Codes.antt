@@ -57,9 +57,6 @@ stands w pool at end (p ∷ code) es is e =
 
 -- ---- targets
 
-same_number : (a b : ℕ) → (a == b) ≡ true → (b == a) ≡ true
-same_number a b e = eq-eqb b a (sym (eqb-true a b e))
-
 place_there : (w : World) (pool : List Entry) (n : ℕ) (code : List Placed) (es : List (ℕ × Instr)) → each_of (placed_in w pool) code ≡ Some es → is_place code (pos n) ≡ true → is_code_place es n ≡ true
 unfolding is_place
 place_there w pool n [] es e h = absurd (false≢true h)

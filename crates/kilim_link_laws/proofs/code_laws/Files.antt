@@ -16,11 +16,6 @@ pub each_file_map : (P Q : ClassFile → ClassId → Type 0) → ((file : ClassF
 each_file_map P Q of n [] each = tt
 each_file_map P Q of n (file ∷ files) each = (of file (class_id n) each.0, each_file_map P Q of (suc n) files each.1)
 
--- what holds of each file, and what holds of each file with its number
-pub each_file_with : (F : ClassFile → Type 0) (P Q : ClassFile → ClassId → Type 0) → ((file : ClassFile) (c : ClassId) → F file → P file c → Q file c) → (n : ℕ) (files : List ClassFile) → AllByRecursion F files → EachFile P n files → EachFile Q n files
-each_file_with F P Q of n [] all each = tt
-each_file_with F P Q of n (file ∷ files) all each = (of file (class_id n) all.0 each.0, each_file_with F P Q of (suc n) files all.1 each.1)
-
 -- what holds of each file
 pub each_file_of : (F : ClassFile → Type 0) (Q : ClassFile → ClassId → Type 0) → ((file : ClassFile) (c : ClassId) → F file → Q file c) → (n : ℕ) (files : List ClassFile) → AllByRecursion F files → EachFile Q n files
 each_file_of F Q of n [] all = tt

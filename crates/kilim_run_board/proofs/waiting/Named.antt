@@ -72,9 +72,6 @@ mailbox_of most puts queue = record { most = most; puts = puts; queue = queue }
 pub mail_is : (c : Content) (m : Option ℕ) (n : ℕ) (queue : List (ℕ × Tree)) → c.most ≡ m → c.puts ≡ n → c.queue ≡ queue → mail_in (Some c) ≡ record { most = m; puts = n; queue = queue }
 mail_is c m n queue d e f = ap (λ (x : Option ℕ). mailbox_of x c.puts c.queue) d ∙ (ap (λ (x : ℕ). mailbox_of m x c.queue) e ∙ ap (mailbox_of m n) f)
 
-pub named_some : (m : BTreeMap Key Content) (name : BoxName) (c : Content) → at m name ≡ Some c → mails m name ≡ mail_in (Some c)
-named_some m name c is = ap mail_in is
-
 -- ---- no more puts than entries
 
 module _ (ms ms' : BoxName → Mail) (name : BoxName) where

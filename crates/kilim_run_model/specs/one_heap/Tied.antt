@@ -52,7 +52,3 @@ pub record Tied (set : Setting) (m : Parted) (s : State) : Type 0 where
 -- one move of the parted machine, and one of the shared machine
 abbrev pub Match : Setting → Parting → Moved → Type 0
 Match set a b = (a.act ≡ b.act) × Tied set a.state b.state
-
--- each thread is one that gives away whole trees alone
-abbrev pub AreWhole : Setting → Parted → Type 0
-AreWhole set m = (t : ℕ) (l : Lone) → slice_get m.lones t ≡ Some l → IsWholeThread set l.heap l.thread

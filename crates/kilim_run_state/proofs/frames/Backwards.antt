@@ -4,9 +4,6 @@ use Rattle.std.proofs.lemmas.List.{take-append-drop, reverse-append, reverse-rev
 use Rattle.std.proofs.Math.Seq.{take-append_seam, drop-append_seam}
 use Rattle.std.proofs.lemmas.Option.{slice_get_read}
 
-pub peeked : {A : Type 0} (xs : List A) (k : ℕ) (x : A) → k < length xs → x ≡ get_or xs (length xs - 1 - k) x → slice_get (reverse xs) k ≡ Some x
-peeked xs k x less is = slice_get_read (reverse xs) (length xs) k x (sym (length-reverse xs)) less (is ∙ sym (get_or-reverse xs k x less))
-
 -- as many as the back part has
 back_taken : {A : Type 0} (fs bs : List A) → reverse (take (length bs) (reverse (fs ++ bs))) ≡ bs
 back_taken fs bs =

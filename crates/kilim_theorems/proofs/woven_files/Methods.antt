@@ -57,12 +57,6 @@ same_back w u v agree old pool same (raw.NewArray number code) i none h = h
 same_back w u v agree old pool same (raw.TableSwitch number default low targets) i none h = h
 same_back w u v agree old pool same (raw.LookupSwitch number default pairs) i none h = h
 
-head_is : {A : Type 0} (x y : A) (xs ys : List A) → x ∷ xs ≡ y ∷ ys → x ≡ y
-head_is x y xs ys e = cc
-
-tail_is : {A : Type 0} (x y : A) (xs ys : List A) → x ∷ xs ≡ y ∷ ys → xs ≡ ys
-tail_is x y xs ys e = cc
-
 -- an instruction with its place
 placed_by : (w : Program) (u v : World) → WorldsAgree w u v → (old pool : List Entry) → SameOperands old pool → (r : Placed) (e : ℕ × Instr) → CallsNone w e.1 → (o : Option Instr) → instr_in u old r.1 ≡ o → option_map (λ i. (r.0, i)) o ≡ Some e → placed_in v pool r ≡ Some e
 placed_by w u v agree old pool same r e none None is h = absurd (none_is_some e h)

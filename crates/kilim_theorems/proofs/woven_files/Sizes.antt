@@ -16,9 +16,6 @@ size_by at short long slot true c = refl
 size_by at short long slot false true = refl
 size_by at short long slot false false = refl
 
-pub local_len : (at short long slot : ℕ) → instr_len at (local_form short long slot) ≡ local_size slot
-local_len at short long slot = size_by at short long slot (nat_lt slot 4) (nat_lt slot 256)
-
 fits_by : (at short long slot : ℕ) → ((k : ℕ) → k < 4 → HasForm (short + k) form.Plain) → HasForm long form.Local → slot < 2 ^ 16 → (b c : Bool) → nat_lt slot 4 ≡ b → nat_lt slot 256 ≡ c →
     InstrFits at (if b then raw.Plain (short + slot) else (if c then raw.Local long slot else raw.WideLocal long slot))
 unfolding InstrFits

@@ -63,9 +63,6 @@ whole : (w : World) (file : ClassFile) (c : ClassId) → name_broken w file c �
 unfolding name_broken
 whole w file c e = not_so (is_class_name (own_name file)) _ e
 
-none_left : {A : Type 0} (x : A) (xs : List A) → 0 ≡ length (x ∷ xs) → ⊥
-none_left x xs e = absurd (omega (arith, e))
-
 module _ (p : Program) (w : World) (of_each : NoneOfEachKind) where
   each_is_whole : (n : ℕ) (files : List ClassFile) (classes own more : List Class) → each_of itself (numbered (linked_class w) n files) ≡ Some own → EachIsWithout w n files → classes ≡ own ++ more →
       (fs : List ClassFile) (os : List WovenFile) → length fs ≡ length files → AreOutputs p classes fs os → AllByRecursion (λ (o : WovenFile). is_class_name o.class ≡ true) os

@@ -90,10 +90,6 @@ module _ (p w : Program) (files : List ClassFile) (i : ℕ) (file : ClassFile) (
 
 -- ---- the end
 
-pub all_woven : (w : Program) (files made all : List ClassFile) (i : ℕ) (ps ms : List Method) (cs : List (List Bool)) → length files ≤ i → made ++ woven_by w (drop i files) ps ms cs ≡ all → made ≡ all
-all_woven w files made all i ps ms cs le so_far =
-    sym (append-nil made) ∙ (ap (λ (fs : List ClassFile). made ++ woven_by w fs ps ms cs) (sym (drop_end files i le)) ∙ so_far)
-
 ended : (p : Program) (classes : List Class) (ps : List Method) → first_fault_in p classes [] ps ≡ None
 ended p [] ps = refl
 ended p (c ∷ cs) ps = refl

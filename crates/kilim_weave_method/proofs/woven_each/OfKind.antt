@@ -39,10 +39,6 @@ woven_by law p keeps id m at pausable calls live right r is =
 
 -- ---- code
 
-pub some_code : (p : Program) (es : List (ℕ × Instr)) → nat_lt 0 (calls_in p es) ≡ true → not (is_empty es) ≡ true
-some_code p [] h = absurd (cc)
-some_code p (e ∷ es) h = refl
-
 -- ---- frames
 
 map_at : {A B : Type 0} (f : A → B) (xs : List A) (k : ℕ) (x : A) → slice_get xs k ≡ Some x → slice_get (map f xs) k ≡ Some (f x)

@@ -45,9 +45,6 @@ use Rattle.kilim_fiber_spec.specs.Fibers.{frame}
 use Rattle.kilim_fiber_spec.specs.Links.{Both, Fw, u_stack, unwoven}
 use Rattle.kilim_fiber_spec.specs.Thread.{At, Frame, Run, Stop, Thread, begins, begins_in, effect_does, fetch, finishes, found_does, own_of, push, returns, self_of, step, steps}
 
-over_is : (o q : Over) → Stop o ≡ Stop q → o ≡ q
-over_is o q e = cc
-
 module _ (set : Setting) where
   abbrev pub Hands : Thread → Type 0
   Hands (Run m p l s x b w) = Unit {0}

@@ -18,9 +18,6 @@ use Rattle.kilim_run_state.specs.Machine.{Objects}
 use Rattle.kilim_run_machine.specs.Natives.{is_built_in_constructor, is_handed_out, is_text_method}
 use Rattle.kilim_fiber_spec.proofs.alike.Lands.{hushed, q_index, q_int, q_object, q_value}
 
-type_some : (x y : Ty) → Some x ≡ Some y → x ≡ y
-type_some x y e = cc
-
 -- ---- what an effect that asks comes from
 
 module _ (c : MethodId) (args : List Value) (q : ℕ) (l2 s2 : List Value) (h2 : Objects) where

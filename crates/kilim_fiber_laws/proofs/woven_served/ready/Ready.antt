@@ -59,9 +59,6 @@ abbrev is_run : Thread → Bool
 is_run (Run m p l s x b w) = true
 is_run (Stop o) = false
 
-none_found : (x : Instr × ℕ) → None ≡ Some x → ⊥
-none_found x e = cc
-
 -- a slot that is live behind a call is live at it
 live_before : (p : Program) (i : Instr) (callee own : Method) (q to j : ℕ) → pausable_callee p i ≡ Some callee → fetched own.code own.code_length q ≡ Some (i, to) → Live own j to → Live own j q
 unfolding ends_path jump_targets

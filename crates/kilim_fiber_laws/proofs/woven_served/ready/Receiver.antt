@@ -18,9 +18,6 @@ use Rattle.kilim_isolation_pauses.specs.Pausing.{called}
 use Rattle.kilim_type_spec.specs.Step.{Is, Operand, Types, all_meet, arguments, assignable, by_row, class_vtype, may_name, meets, result_types, row, special_by, special_fits, special_row, special_rules, static_row, static_rules, type_step, virtual_row, virtual_rules, vtype}
 use Rattle.kilim_weave_spec.specs.Woven.{first_of}
 
-method_is : (x y : Method) → Some x ≡ Some y → x ≡ y
-method_is x y e = cc
-
 count_in : (tys : List Ty) → length (map (λ ty. Is (vtype ty)) tys) ≡ length tys
 count_in [] = refl
 count_in (ty ∷ tys) = ap suc (count_in tys)

@@ -16,9 +16,6 @@ use Rattle.kilim_program.specs.Members.{name_in_base, shown_name}
 use Rattle.kilim_run_model.specs.kin.trees.Laws.{IsPlain, IsPlaced}
 use Rattle.kilim_run_state.specs.Trees.{type_named, array_named, before_end, type_with, class_base}
 
-same_name : Class → Class → Bool
-same_name a b = bytes_eq a.name b.name
-
 both_hold : (a b : Bool) → (a && b) ≡ true → (a ≡ true) × (b ≡ true)
 both_hold true true e = (refl, refl)
 both_hold true false e = absurd (cc)
