@@ -6,11 +6,6 @@ use Rattle.kilim_class_code.specs.declared.opcodes.instr.RawInstr.{RawInstr}
 use Rattle.kilim_class_code.specs.opcodes.Instr.{instr_text}
 use Rattle.kilim_class_builder.specs.Members.{source_text}
 
-pub drop_next : {A : Type 0} (xs : List A) (n : ℕ) (x : A) → slice_get xs n ≡ Some x → drop n xs ≡ x ∷ drop (n + 1) xs
-drop_next [] n x e = absurd (cc)
-drop_next {A} (y ∷ xs) zero x e = let s : y ≡ x = cc in ap (λ (z : A). z ∷ xs) s
-drop_next {A} (y ∷ xs) (suc n) x e = let number : suc (n + 1) ≡ suc n + 1 = omega arith in drop_next xs n x e ∙ ap (λ (j : ℕ). x ∷ drop j (y ∷ xs)) number
-
 pub array_more : (n k : ℕ) (base old new total : List ℕ) → k < n → new ≡ old ++ 91 ∷ [] → old ++ array_descriptor (n - k) base ≡ total → new ++ array_descriptor (n - (k + 1)) base ≡ total
 array_more n k base old new total lt is so_far =
     let e : suc (n - (k + 1)) ≡ n - k = omega arith in

@@ -17,15 +17,6 @@ more {A = A} f before now next xs i x d y lt is so_far made step =
     ∙ (ap (λ (t : List A). t ++ y ∷ []) so_far
     ∙ (append_assoc before (map f (take i xs)) (y ∷ []) ∙ ap (λ (t : List A). before ++ t) (ap (λ (z : A). map f (take i xs) ++ z ∷ []) (made ∙ ap f is) ∙ next_one f xs i d lt))))
 
-pub ahead : {X A : Type 0} (f : X → List A) (now next whole : List A) (xs : List X) (i : ℕ) (x d : X) → i < length xs → x ≡ get_or xs i d → now ++ flat_map f (drop i xs) ≡ whole
-    → next ≡ now ++ f x → next ++ flat_map f (drop (i + 1) xs) ≡ whole
-ahead {X = X} {A = A} f now next whole xs i x d lt is so_far step =
-    let rest : List A = flat_map f (drop (suc i) xs) in
-    rw add-one
-    (ap (λ (t : List A). t ++ rest) step
-    ∙ (append_assoc now (f x) rest
-    ∙ (ap (λ (z : X). now ++ (f z ++ rest)) is ∙ (ap (λ (ys : List X). now ++ flat_map f ys) (sym (drop-cons xs i d lt)) ∙ so_far))))
-
 pub copied_ahead : (now next whole xs : List ℕ) (i x : ℕ) → i < length xs → x ≡ get_or xs i 0 → now ++ drop i xs ≡ whole → next ≡ now ++ x ∷ [] → next ++ drop (i + 1) xs ≡ whole
 copied_ahead now next whole xs i x lt is so_far step =
     let rest : List ℕ = drop (suc i) xs in
@@ -42,11 +33,6 @@ mapped_ahead {X = X} {A = A} f now next whole xs i x d lt is so_far step =
     (ap (λ (t : List A). t ++ rest) step
     ∙ (append_assoc now (f x ∷ []) rest
     ∙ (ap (λ (z : X). now ++ (f z ∷ rest)) is ∙ (ap (λ (ys : List X). now ++ map f ys) (sym (drop-cons xs i d lt)) ∙ so_far))))
-
--- none is left, of what is made of the rest
-pub all_made : {X A : Type 0} (rest : List X → List A) (now whole : List A) (xs : List X) (i : ℕ) → rest [] ≡ [] → length xs ≤ i → now ++ rest (drop i xs) ≡ whole → now ≡ whole
-all_made {X = X} {A = A} rest now whole xs i none le so_far =
-    sym (append-nil now) ∙ (ap (λ (t : List A). now ++ t) (sym none) ∙ (ap (λ (ys : List X). now ++ rest ys) (sym (drop_all i xs le)) ∙ so_far))
 
 pub one_longer : {A : Type 0} (now next : List A) (n : ℕ) (x : A) → length now ≡ n → next ≡ now ++ x ∷ [] → length next ≡ n + 1
 one_longer now next n x is step = ap length step ∙ (length-append now (x ∷ []) ∙ ap (λ (k : ℕ). k + 1) is)

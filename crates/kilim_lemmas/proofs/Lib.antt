@@ -4,3 +4,4 @@ pub mod Lists
 pub mod Texts
 pub mod Orders
 pub mod Maps
+pub mod Walks

@@ -1,7 +1,8 @@
 -- Lists: their elements by place, their beginnings and their ends.
-use Rattle.std.proofs.Common.{◌≡◌, ℕ, zero, suc, ◌+◌, ◌<◌, Bool, true, false, List, [], ◌∷◌, ◌++◌, length, take, drop, map, get_or, slice_get, Option, Some, None, cond, refl, ap, sym, ◌∙◌, ◌≢◌, arith, drop-cons}
+use Rattle.std.proofs.Common.{◌≡◌, ℕ, zero, suc, ◌+◌, ◌<◌, Bool, true, false, List, [], ◌∷◌, ◌++◌, length, take, drop, map, get_or, slice_get, Option, Some, None, cond, refl, ap, sym, ◌∙◌, ◌≢◌, arith, drop-cons, subst}
 use Rattle.std.specs.Prelude.{◌||◌, slice_set}
-use Rattle.std.specs.List.{list_any}
+use Rattle.std.specs.List.{list_any, AllByRecursion}
+use Rattle.std.proofs.lemmas.Bool.{or_left, or_right}
 
 -- ---- elements by place
 
@@ -99,3 +100,36 @@ map_none f (x ∷ xs) e = absurd (cc)
 pub cond_none : {A : Type 0} (b : Bool) (y : A) (zs : List A) → cond b (y ∷ zs) zs ≡ [] → (b ≡ false) × (zs ≡ [])
 cond_none true y zs e = absurd (cc)
 cond_none false y zs e = (refl, e)
+
+pub map_at : {A B : Type 0} (f : A → B) (xs : List A) (k : ℕ) (x : A) → slice_get xs k ≡ Some x → slice_get (map f xs) k ≡ Some (f x)
+map_at f [] k x e = absurd (cc)
+map_at f (y ∷ xs) zero x e = let s : y ≡ x = cc in ap (λ z. Some (f z)) s
+map_at f (y ∷ xs) (suc k) x e = map_at f xs k x e
+
+pub drop_next : {A : Type 0} (xs : List A) (n : ℕ) (x : A) → slice_get xs n ≡ Some x → drop n xs ≡ x ∷ drop (n + 1) xs
+drop_next [] n x e = absurd (cc)
+drop_next {A} (y ∷ xs) zero x e = let s : y ≡ x = cc in ap (λ (z : A). z ∷ xs) s
+drop_next {A} (y ∷ xs) (suc n) x e = let number : suc (n + 1) ≡ suc n + 1 = omega arith in drop_next xs n x e ∙ ap (λ (j : ℕ). x ∷ drop j (y ∷ xs)) number
+
+pub append_none : {A : Type 0} (xs ys : List A) → xs ++ ys ≡ [] → (xs ≡ []) × (ys ≡ [])
+append_none [] ys e = (refl, e)
+append_none (x ∷ xs) ys e = absurd (cc)
+
+pub not_none : {A : Type 0} (x : A) (xs : List A) → x ∷ xs ≡ [] → ⊥
+not_none x xs e = cc
+
+pub of_each : {X : Type 0} (P : X → Type 0) (xs : List X) (i : ℕ) (d : X) → AllByRecursion P xs → i < length xs → P (get_or xs i d)
+of_each P [] i d all lt = absurd (omega arith)
+of_each P (x ∷ xs) zero d all lt = all.0
+of_each P (x ∷ xs) (suc i) d all lt = of_each P xs i d all.1 (omega arith)
+
+pub of_item : {X : Type 0} (P : X → Type 0) (xs : List X) (i : ℕ) (x d : X) → x ≡ get_or xs i d → AllByRecursion P xs → i < length xs → P x
+of_item P xs i x d is all lt = subst P (sym is) (of_each P xs i d all lt)
+
+pub all_kept : {A : Type 0} (f g : A → Bool) → ((x : A) → f x ≡ true → g x ≡ true) → (xs : List A) → list_any f xs ≡ true → list_any g xs ≡ true
+all_kept f g k [] e = e
+all_kept f g k (x ∷ xs) e = by (f x) refl e (λ r. all_kept f g k xs r)
+  where
+    by : (b : Bool) → f x ≡ b → (b || list_any f xs) ≡ true → (list_any f xs ≡ true → list_any g xs ≡ true) → (g x || list_any g xs) ≡ true
+    by true is e again = or_left (g x) _ (k x is)
+    by false is e again = or_right (g x) _ (again e)

@@ -1,6 +1,7 @@
 -- No files are both accepted and reported, and they link to no two programs.
 use Rattle.std.proofs.Common.{◌≡◌, ◌⊎◌, ℕ, suc, List, [], ◌∷◌, length, Option, Some, None, Result, Ok, Err, refl, sym, ap, subst, ◌∙◌, inl, inr}
 use Rattle.std.specs.List.{AllByRecursion}
+use Rattle.kilim_lemmas.proofs.Options.{none_no_some}
 use Rattle.kilim_program.specs.declared.class.Form.TheVariants.{Plain}
 use Rattle.kilim_program.specs.declared.names.MethodId.{MethodId}
 use Rattle.kilim_program.specs.Program.{Program}
@@ -39,9 +40,6 @@ well file = Ok file
 well_is : (f g : ClassFile) → well f ≡ well g → f ≡ g
 well_is f g e = cc
 
-none_some : {A : Type 0} (x : A) (o : Option A) → o ≡ None → o ≡ Some x → ⊥
-none_some x o p q = cc
-
 module _ (law : ClassFilesAreSpelled) where
   is_read : (bytes : List ℕ) (f : ClassFile) → IsFile bytes f → read_class bytes ≡ well f
   is_read bytes f is = ap read_class is.spelled ∙ law.again f is.fits
@@ -73,14 +71,14 @@ module _ (law : ClassFilesAreSpelled) where
 
     pub never_both : (names files : List (List ℕ)) (text : List ℕ) (p : Program) → IsAcceptedOf files p → IsStageReport names files text → ⊥
     unfolding link.first_fault
-    never_both names files text p is (inl class) = none_some (class.name, class.fault) (first_fault names files) (none_refused names files is.of_files.classes is.of_files.are_files) class.first
+    never_both names files text p is (inl class) = none_no_some (class.name, class.fault) (first_fault names files) (none_refused names files is.of_files.classes is.of_files.are_files) class.first
     never_both names files text p is (inr (inl report)) =
         let same = same_classes files is.of_files.classes report.classes is.of_files.are_files report.are_files in
         let none = subst (λ (cs : List ClassFile). link.link_faults cs Plain ≡ []) same is.of_files.none in
-        none_some _ (link.first_fault report.classes Plain) (ap (λ (faults : List LinkFault). first_of faults) none) report.first
+        none_no_some _ (link.first_fault report.classes Plain) (ap (λ (faults : List LinkFault). first_of faults) none) report.first
     never_both names files text p is (inr (inr (inl typing))) =
         let same = same_program files p typing.program is.of_files typing.of_files in
-        none_some (typing.method, typing.place, typing.rule) (first_type_fault typing.program) (subst (λ (q : Program). first_type_fault q ≡ None) same is.accepts.typed) typing.first
+        none_no_some (typing.method, typing.place, typing.rule) (first_type_fault typing.program) (subst (λ (q : Program). first_type_fault q ≡ None) same is.accepts.typed) typing.first
     never_both names files text p is (inr (inr (inr rules))) =
         let same = same_program files rules.program p rules.of_files is.of_files in
         rules.some (no_reports (typed_of p) rules.reports is.accepts.isolated (subst (λ (q : Program). AreReports (typed_of q) rules.reports) same rules.are_reports))

@@ -1,5 +1,6 @@
 -- An accepted program has no reports.
 use Rattle.std.proofs.Common.{◌≡◌, ◌≢◌, ◌∙◌, sym, refl, subst, ap, ℕ, Bool, true, false, List, [], ◌∷◌, ◌++◌, Option, Some, None, Result, Ok, Err}
+use Rattle.kilim_lemmas.proofs.Lists.{append_none, not_none}
 use Rattle.kilim_program.specs.declared.class.Method.{Method}
 use Rattle.kilim_program.specs.declared.names.MethodId.{MethodId}
 use Rattle.kilim_program.specs.declared.verified.Frame.{Frame}
@@ -19,13 +20,6 @@ use Rattle.kilim_isolation_pauses.specs.declared.report.Report.{Report}
 use Rattle.kilim_isolation_pauses.specs.Pausing.{all_methods, frames_at, reports_of}
 use Rattle.kilim_isolation.specs.Faults.{ArePathReports, ArePathsIf, ArePathsOf, AreReports, AreReportsOf, AreReportsOfAll, IsAccepted, earlier, later, merged, shown}
 use Rattle.kilim_isolation.specs.Walks.{entry_graph, machine_of}
-
-append_none : {A : Type 0} (xs ys : List A) → xs ++ ys ≡ [] → (xs ≡ []) × (ys ≡ [])
-append_none [] ys e = (refl, e)
-append_none (x ∷ xs) ys e = absurd (cc)
-
-not_none : {A : Type 0} (x : A) (xs : List A) → x ∷ xs ≡ [] → ⊥
-not_none x xs e = cc
 
 merged_none : (rs qs : List Report) → merged rs qs ≡ [] → (rs ≡ []) × (qs ≡ [])
 merged_none [] qs e = (refl, e)

@@ -1,18 +1,12 @@
 -- An accepted program has no report of the rules of pausing.
 use Rattle.std.proofs.Common.{◌≡◌, ◌∙◌, sym, refl, ap, List, [], ◌∷◌, ◌++◌}
 use Rattle.std.specs.List.{flat_map}
+use Rattle.kilim_lemmas.proofs.Lists.{append_none, not_none}
 use Rattle.kilim_program.specs.declared.names.MethodId.{MethodId}
 use Rattle.kilim_type_spec.specs.TypedProgram.{TypedProgram}
 use Rattle.kilim_isolation_pauses.specs.declared.report.Report.{Report}
 use Rattle.kilim_isolation_pauses.specs.Pausing.{all_methods, pausing_reports, reports_of}
 use Rattle.kilim_isolation.specs.Faults.{AreReports, AreReportsOf, AreReportsOfAll, IsAccepted, earlier, later, merged}
-
-append_none : {A : Type 0} (xs ys : List A) → xs ++ ys ≡ [] → (xs ≡ []) × (ys ≡ [])
-append_none [] ys e = (refl, e)
-append_none (x ∷ xs) ys e = absurd (cc)
-
-not_none : {A : Type 0} (x : A) (xs : List A) → x ∷ xs ≡ [] → ⊥
-not_none x xs e = cc
 
 merged_none : (rs qs : List Report) → merged rs qs ≡ [] → qs ≡ []
 merged_none [] qs e = e

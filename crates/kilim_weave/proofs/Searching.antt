@@ -12,7 +12,7 @@ use Rattle.kilim_program.specs.Names.{method_at}
 use Rattle.kilim_program.specs.Program.{Program}
 use Rattle.kilim_program.specs.Same.{argument_slots}
 use Rattle.kilim_type_laws.proofs.members.ClassMethods.{IsAmong, among_left, among_right, owner_has}
-use Rattle.kilim_lemmas.proofs.Lists.{get_some}
+use Rattle.kilim_lemmas.proofs.Lists.{get_some, drop_next}
 use Rattle.kilim_link_spec.specs.World.{method_descriptor}
 use Rattle.kilim_isolation_pauses.specs.Pausing.{all_methods}
 use Rattle.kilim_weave_spec.specs.Form.{has_calls}
@@ -80,11 +80,6 @@ none_full p keeps none id m at pausable =
 
 -- ---- the search
 
-next : {A : Type 0} (xs : List A) (n : ℕ) (x : A) → slice_get xs n ≡ Some x → drop n xs ≡ x ∷ drop (n + 1) xs
-next [] n x e = absurd (cc)
-next {A} (y ∷ xs) zero x e = let s : y ≡ x = cc in ap (λ (z : A). z ∷ xs) s
-next {A} (y ∷ xs) (suc n) x e = let number : suc (n + 1) ≡ suc n + 1 = omega arith in next xs n x e ∙ ap (λ (k : ℕ). x ∷ drop k (y ∷ xs)) number
-
 past : {A : Type 0} (n : ℕ) (xs : List A) → length xs ≤ n → drop n xs ≡ []
 past zero [] h = refl
 past (suc n) [] h = refl
@@ -93,10 +88,10 @@ past (suc n) (x ∷ xs) h = past n xs (omega arith)
 
 module _ (p : Program) (ids : List MethodId) where
   pub skipped : (k : ℕ) (id : MethodId) → slice_get ids k ≡ Some id → fault_of p id ≡ None → first_fault p ids ≡ first_fault p (drop k ids) → first_fault p ids ≡ first_fault p (drop (k + 1) ids)
-  skipped k id there none is = is ∙ (ap (first_fault p) (next ids k id there) ∙ ap (λ (o : Option WeaveFault). or_later o (first_fault p (drop (k + 1) ids))) none)
+  skipped k id there none is = is ∙ (ap (first_fault p) (drop_next ids k id there) ∙ ap (λ (o : Option WeaveFault). or_later o (first_fault p (drop (k + 1) ids))) none)
 
   pub is_first : (k : ℕ) (id : MethodId) (f : WeaveFault) → slice_get ids k ≡ Some id → fault_of p id ≡ Some f → first_fault p ids ≡ first_fault p (drop k ids) → Some f ≡ first_fault p ids
-  is_first k id f there found is = sym (is ∙ (ap (first_fault p) (next ids k id there) ∙ ap (λ (o : Option WeaveFault). or_later o (first_fault p (drop (k + 1) ids))) found))
+  is_first k id f there found is = sym (is ∙ (ap (first_fault p) (drop_next ids k id there) ∙ ap (λ (o : Option WeaveFault). or_later o (first_fault p (drop (k + 1) ids))) found))
 
   pub none_is_first : (k : ℕ) → length ids ≤ k → first_fault p ids ≡ first_fault p (drop k ids) → None ≡ first_fault p ids
   none_is_first k h is = sym (is ∙ ap (first_fault p) (past k ids h))
@@ -107,7 +102,7 @@ methods_from k cs = flat_map (λ class. class.methods) (drop k cs)
 
 module _ (p : Program) where
   one_class : (k : ℕ) (c : Class) → slice_get p.classes k ≡ Some c → first_fault p (methods_from k p.classes) ≡ or_later (first_fault p c.methods) (first_fault p (methods_from (k + 1) p.classes))
-  one_class k c there = ap (λ (cs : List Class). first_fault p (flat_map (λ class. class.methods) cs)) (next p.classes k c there) ∙ first_of_both p c.methods (methods_from (k + 1) p.classes)
+  one_class k c there = ap (λ (cs : List Class). first_fault p (flat_map (λ class. class.methods) cs)) (drop_next p.classes k c there) ∙ first_of_both p c.methods (methods_from (k + 1) p.classes)
 
   pub class_skipped : (k : ℕ) (c : Class) → slice_get p.classes k ≡ Some c → None ≡ first_fault p c.methods → weave_fault p ≡ first_fault p (methods_from k p.classes) → weave_fault p ≡ first_fault p (methods_from (k + 1) p.classes)
   class_skipped k c there none is = is ∙ (one_class k c there ∙ ap (λ (o : Option WeaveFault). or_later o (first_fault p (methods_from (k + 1) p.classes))) (sym none))

@@ -2,6 +2,7 @@
 use Rattle.std.proofs.Common.{Bor, ◌≡◌, ℕ, zero, suc, ◌+◌, ◌-◌, ◌<◌, ◌≤◌, Bool, List, [], ◌∷◌, ◌++◌, take, drop, slice_get, Option, Some, None, refl, ap, sym, ◌∙◌, arith, append_assoc}
 use Rattle.std.specs.Prelude.{is_some, if◌then◌else◌}
 use Rattle.std.specs.Option.{option_copied}
+use Rattle.kilim_lemmas.proofs.Lists.{drop_next}
 use Rattle.kilim_program.specs.declared.class.Method.{Method}
 use Rattle.kilim_program.specs.declared.instr.Instr.{Instr}
 use Rattle.kilim_program.specs.Lengths.{first_place}
@@ -9,7 +10,7 @@ use Rattle.kilim_program.specs.Program.{Program}
 use Rattle.kilim_weave_spec.specs.Weight.{calls_in, one_more}
 use Rattle.kilim_weave_spec.specs.Woven.{Item, Plan, block, blocks, count, pausable_callee, piece, pieces, resume_places}
 use Rattle.kilim_weave_pieces.specs.Shown.{calls_one, first_here}
-use Rattle.kilim_weave_pieces.proofs.Lists.{drop_next, take_next}
+use Rattle.kilim_weave_pieces.proofs.Lists.{take_next}
 
 -- ---- how many calls
 

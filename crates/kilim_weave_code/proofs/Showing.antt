@@ -2,6 +2,7 @@
 use Rattle.std.proofs.Common.{◌≡◌, ℕ, zero, suc, ◌+◌, ◌-◌, ◌<◌, ◌≤◌, Bool, true, false, cond, List, [], ◌∷◌, ◌++◌, length, take, drop, reverse, map, get_or, slice_get, Some, refl, ap, sym, subst, ◌∙◌, arith, append_assoc, eq-eqb}
 use Rattle.std.proofs.lemmas.Bool.{ne_eqb}
 use Rattle.std.specs.Prelude.{◌&&◌, ◌||◌, ◌==◌, not, if◌then◌else◌}
+use Rattle.kilim_lemmas.proofs.Lists.{drop_next}
 use Rattle.kilim_program.specs.declared.class.Method.{Method}
 use Rattle.kilim_program.specs.declared.instr.Instr.{Instr}
 use Rattle.kilim_program.specs.declared.verified.Frame.{Frame}
@@ -16,7 +17,7 @@ use Rattle.kilim_type_laws.specs.Laws.{ListedFramesShow}
 use Rattle.kilim_weave_spec.specs.Woven.{Plan, added_types, fiber_slot, first_of, kept_local, moved_type, old_frame, saved_from, slots_from}
 use Rattle.kilim_weave_pieces.specs.Listed.{Listed}
 use Rattle.kilim_weave_pieces.specs.Shown.{Shown}
-use Rattle.kilim_weave_pieces.proofs.Lists.{drop_next, drop_whole, map_around, reverse_drop, reverse_take}
+use Rattle.kilim_weave_pieces.proofs.Lists.{drop_whole, map_around, reverse_drop, reverse_take}
 
 -- ---- slots
 

@@ -18,8 +18,3 @@ filter_map_last f (y ∷ ys) x =
     ap (λ zs. zs ++ cons_option (f x) []) (first_option (f y) (filter_map f ys))
     ∙ (append_assoc (cons_option (f y) []) (filter_map f ys) (cons_option (f x) [])
     ∙ (ap (λ zs. cons_option (f y) [] ++ zs) (filter_map_last f ys x) ∙ sym (first_option (f y) (filter_map f (ys ++ x ∷ [])))))
-
-pub drop_next : {A : Type 0} (xs : List A) (n : ℕ) (x : A) → slice_get xs n ≡ Some x → drop n xs ≡ x ∷ drop (n + 1) xs
-drop_next [] n x e = absurd (cc)
-drop_next {A} (y ∷ xs) zero x e = let s : y ≡ x = cc in ap (λ (z : A). z ∷ xs) s
-drop_next {A} (y ∷ xs) (suc n) x e = let number : suc (n + 1) ≡ suc n + 1 = omega arith in drop_next xs n x e ∙ ap (λ (j : ℕ). x ∷ drop j (y ∷ xs)) number

@@ -7,15 +7,6 @@ use Rattle.kilim_program.specs.declared.class.Method.{Method}
 use Rattle.kilim_class_file.specs.declared.class_file.MemberInfo.{MemberInfo}
 use Rattle.kilim_weave_file_spec.specs.WovenFile.{MethodPair, pairs_of}
 
-pub ahead : {X A : Type 0} (f : X → List A) (now next whole : List A) (xs : List X) (i : ℕ) (x d : X) → i < length xs → x ≡ get_or xs i d → now ++ flat_map f (drop i xs) ≡ whole
-    → next ≡ now ++ f x → next ++ flat_map f (drop (i + 1) xs) ≡ whole
-ahead {X = X} {A = A} f now next whole xs i x d lt is so_far step =
-    let rest : List A = flat_map f (drop (suc i) xs) in
-    rw add-one
-    (ap (λ (t : List A). t ++ rest) step
-    ∙ (append_assoc now (f x) rest
-    ∙ (ap (λ (z : X). now ++ (f z ++ rest)) is ∙ (ap (λ (ys : List X). now ++ flat_map f ys) (sym (drop-cons xs i d lt)) ∙ so_far))))
-
 pub mapped_ahead : {X A : Type 0} (f : X → A) (now next whole : List A) (xs : List X) (i : ℕ) (x d : X) (y : A) → i < length xs → x ≡ get_or xs i d → now ++ map f (drop i xs) ≡ whole → y ≡ f x
     → next ≡ now ++ y ∷ [] → next ++ map f (drop (i + 1) xs) ≡ whole
 mapped_ahead {X = X} {A = A} f now next whole xs i x d y lt is so_far made step =
@@ -24,11 +15,6 @@ mapped_ahead {X = X} {A = A} f now next whole xs i x d y lt is so_far made step 
     (ap (λ (t : List A). t ++ rest) step
     ∙ (append_assoc now (y ∷ []) rest
     ∙ (ap (λ (z : A). now ++ (z ∷ rest)) (made ∙ ap f is) ∙ (ap (λ (ys : List X). now ++ map f ys) (sym (drop-cons xs i d lt)) ∙ so_far))))
-
--- none is left, of what is made of the rest
-pub all_made : {X A : Type 0} (rest : List X → List A) (now whole : List A) (xs : List X) (i : ℕ) → rest [] ≡ [] → length xs ≤ i → now ++ rest (drop i xs) ≡ whole → now ≡ whole
-all_made {X = X} {A = A} rest now whole xs i none le so_far =
-    sym (append-nil now) ∙ (ap (λ (t : List A). now ++ t) (sym none) ∙ (ap (λ (ys : List X). now ++ rest ys) (sym (drop_all i xs le)) ∙ so_far))
 
 -- so many elements, and one more
 next_one : {X A : Type 0} (f : X → A) (xs : List X) (i : ℕ) (d : X) → i < length xs → map f (take i xs) ++ f (get_or xs i d) ∷ [] ≡ map f (take (suc i) xs)

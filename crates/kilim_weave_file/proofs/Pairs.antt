@@ -1,6 +1,7 @@
 -- The methods of a file, one more.
 use Rattle.std.proofs.Common.{◌≡◌, ℕ, ◌+◌, arith, Bool, List, [], ◌∷◌, ◌++◌, length, slice_get, map, Option, Some, None, refl, sym, ap, ◌∙◌}
 use Rattle.std.specs.List.{flat_map}
+use Rattle.std.proofs.lemmas.Option.{none-some, same_Some}
 use Rattle.kilim_program.specs.declared.class.Method.{Method}
 use Rattle.kilim_program.specs.Program.{Program}
 use Rattle.kilim_class_file.specs.declared.class_file.ClassFile.{ClassFile}
@@ -8,7 +9,6 @@ use Rattle.kilim_class_pool.specs.declared.entry.Entry.{Entry}
 use Rattle.kilim_class_making.specs.declared.pool_needs.need.Need.{Need}
 use Rattle.kilim_class_making.specs.pool_needs.Adding.{with_needs}
 use Rattle.kilim_class_file.specs.declared.class_file.MemberInfo.{MemberInfo}
-use Rattle.kilim_class_making.proofs.pool_needs.Searching.{some_same, none_is_some}
 use Rattle.kilim_weave_file.specs.Parts.{member_by}
 use Rattle.kilim_weave_file_spec.specs.WovenFile.{MethodPair, member_needs, pairs_of, woven_file, woven_member, woven_pool}
 
@@ -21,15 +21,15 @@ here i p q m n c d ep em ec = ap (λ x. one i x m c) ep ∙ (ap (λ x. one i q x
 pub pairs_more : (is : List MemberInfo) (i : MemberInfo) (ps ms : List Method) (cs : List (List Bool)) (p m : Method) (c : List Bool) →
     slice_get ps (length is) ≡ Some p → slice_get ms (length is) ≡ Some m → slice_get cs (length is) ≡ Some c →
     pairs_of (is ++ i ∷ []) ps ms cs ≡ pairs_of is ps ms cs ++ record { info = i; plain = p; method = m; counted = c } ∷ []
-pairs_more [] i (q ∷ ps) (n ∷ ms) (d ∷ cs) p m c hp hm hc = here i q p n m d c (some_same q p hp) (some_same n m hm) (some_same d c hc)
-pairs_more [] i [] ms cs p m c hp hm hc = absurd (none_is_some p hp)
-pairs_more [] i (q ∷ ps) [] cs p m c hp hm hc = absurd (none_is_some m hm)
-pairs_more [] i (q ∷ ps) (n ∷ ms) [] p m c hp hm hc = absurd (none_is_some c hc)
+pairs_more [] i (q ∷ ps) (n ∷ ms) (d ∷ cs) p m c hp hm hc = here i q p n m d c (same_Some q p hp) (same_Some n m hm) (same_Some d c hc)
+pairs_more [] i [] ms cs p m c hp hm hc = absurd (none-some p hp)
+pairs_more [] i (q ∷ ps) [] cs p m c hp hm hc = absurd (none-some m hm)
+pairs_more [] i (q ∷ ps) (n ∷ ms) [] p m c hp hm hc = absurd (none-some c hc)
 pairs_more (x ∷ is) i (q ∷ ps) (n ∷ ms) (d ∷ cs) p m c hp hm hc =
     ap (λ xs. record { info = x; plain = q; method = n; counted = d } ∷ xs) (pairs_more is i ps ms cs p m c hp hm hc)
-pairs_more (x ∷ is) i [] ms cs p m c hp hm hc = absurd (none_is_some p hp)
-pairs_more (x ∷ is) i (q ∷ ps) [] cs p m c hp hm hc = absurd (none_is_some m hm)
-pairs_more (x ∷ is) i (q ∷ ps) (n ∷ ms) [] p m c hp hm hc = absurd (none_is_some c hc)
+pairs_more (x ∷ is) i [] ms cs p m c hp hm hc = absurd (none-some p hp)
+pairs_more (x ∷ is) i (q ∷ ps) [] cs p m c hp hm hc = absurd (none-some m hm)
+pairs_more (x ∷ is) i (q ∷ ps) (n ∷ ms) [] p m c hp hm hc = absurd (none-some c hc)
 
 map_append : {A B : Type 0} (f : A → B) (xs ys : List A) → map f (xs ++ ys) ≡ map f xs ++ map f ys
 map_append f [] ys = refl
@@ -40,12 +40,12 @@ member_there : (w : Program) (file : ClassFile) (pool : List Entry) (is : List M
     all ++ next ∷ [] ≡ map (woven_member w file pool) (pairs_of (is ++ i ∷ []) ps ms cs)
 member_there w file pool is i ps ms cs all next (Some p) (Some m) (Some c) hp hm hc h so_far =
     let f = woven_member w file pool in
-    ap (λ (x : MemberInfo). all ++ x ∷ []) (sym (some_same (f (record { info = i; plain = p; method = m; counted = c })) next h))
+    ap (λ (x : MemberInfo). all ++ x ∷ []) (sym (same_Some (f (record { info = i; plain = p; method = m; counted = c })) next h))
     ∙ (ap (λ (xs : List MemberInfo). xs ++ f (record { info = i; plain = p; method = m; counted = c }) ∷ []) so_far
     ∙ (sym (map_append f (pairs_of is ps ms cs) (one i p m c)) ∙ ap (λ (xs : List MethodPair). map f xs) (sym (pairs_more is i ps ms cs p m c hp hm hc))))
-member_there w file pool is i ps ms cs all next None om oc hp hm hc h so_far = absurd (none_is_some next h)
-member_there w file pool is i ps ms cs all next (Some p) None oc hp hm hc h so_far = absurd (none_is_some next h)
-member_there w file pool is i ps ms cs all next (Some p) (Some m) None hp hm hc h so_far = absurd (none_is_some next h)
+member_there w file pool is i ps ms cs all next None om oc hp hm hc h so_far = absurd (none-some next h)
+member_there w file pool is i ps ms cs all next (Some p) None oc hp hm hc h so_far = absurd (none-some next h)
+member_there w file pool is i ps ms cs all next (Some p) (Some m) None hp hm hc h so_far = absurd (none-some next h)
 
 pub members_more : (w : Program) (file : ClassFile) (pool : List Entry) (is : List MemberInfo) (i : MemberInfo) (ps ms : List Method) (cs : List (List Bool)) (all : List MemberInfo) (next : MemberInfo) (at : ℕ) (op om : Option Method) (oc : Option (List Bool)) →
     at ≡ length is → op ≡ slice_get ps at → om ≡ slice_get ms at → oc ≡ slice_get cs at → member_by w file pool i op om oc ≡ Some next → all ≡ map (woven_member w file pool) (pairs_of is ps ms cs) →

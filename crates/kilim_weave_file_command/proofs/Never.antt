@@ -1,5 +1,6 @@
 -- No class files can be woven and are reported.
 use Rattle.std.proofs.Common.{◌≡◌, ℕ, List, [], ◌∷◌, Option, Some, None, Result, Ok, refl, sym, ap, subst, ◌∙◌, inl, inr}
+use Rattle.kilim_lemmas.proofs.Options.{none_no_some}
 use Rattle.kilim_program.specs.Program.{Program}
 use Rattle.kilim_class_file.specs.declared.class_file.ClassFile.{ClassFile}
 use Rattle.kilim_class_file.specs.declared.fault.ClassFault.{ClassFault}
@@ -17,9 +18,6 @@ well file = Ok file
 
 well_is : (f g : ClassFile) → well f ≡ well g → f ≡ g
 well_is f g e = cc
-
-none_some : {A : Type 0} (x : A) (o : Option A) → o ≡ None → o ≡ Some x → ⊥
-none_some x o p q = cc
 
 module _ (law : ClassFilesAreSpelled) where
   is_read : (bytes : List ℕ) (f : ClassFile) → IsFile bytes f → read_class bytes ≡ well f
@@ -40,12 +38,12 @@ module _ (law : ClassFilesAreSpelled) where
         let program = one files can.program report.program can.accepted.of_files report.accepted.of_files in
         let classes = same_classes files can.classes report.classes can.are_files report.are_files in
         let fit = subst (λ (p : Program). first_size_fault p can.classes ≡ None) program can.fit in
-        none_some (report.class, report.fault) (first_size_fault report.program report.classes) (subst (λ (cs : List ClassFile). first_size_fault report.program cs ≡ None) classes fit) report.first
+        none_no_some (report.class, report.fault) (first_size_fault report.program report.classes) (subst (λ (cs : List ClassFile). first_size_fault report.program cs ≡ None) classes fit) report.first
 
     module _ (both : NeverBoth) where
       pub never : (names files : List (List ℕ)) (text : List ℕ) → IsWeavable files → IsWeaveReport names files text → ⊥
       never names files text can (inl stage) = both names files text can.program can.accepted stage
       never names files text can (inr (inl report)) =
           let program = one files can.program report.program can.accepted.of_files report.accepted.of_files in
-          none_some report.fault (weave_fault report.program) (subst (λ (p : Program). weave_fault p ≡ None) program can.none) report.first
+          none_no_some report.fault (weave_fault report.program) (subst (λ (p : Program). weave_fault p ≡ None) program can.none) report.first
       never names files text can (inr (inr report)) = none_too_large files can text report

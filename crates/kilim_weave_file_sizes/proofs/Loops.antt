@@ -28,19 +28,6 @@ passed rest next steps xs i x d n m whole lt is made so_far =
     ∙ (sym (steps x (drop (suc i) xs) n)
     ∙ (ap (λ z. rest (z ∷ drop (suc i) xs) n) is ∙ (ap (λ ys. rest ys n) (sym (drop-cons xs i d lt)) ∙ so_far))))
 
-pub ahead : {X A : Type 0} (f : X → List A) (now next whole : List A) (xs : List X) (i : ℕ) (x d : X) → i < length xs → x ≡ get_or xs i d → now ++ flat_map f (drop i xs) ≡ whole
-    → next ≡ now ++ f x → next ++ flat_map f (drop (i + 1) xs) ≡ whole
-ahead {X = X} {A = A} f now next whole xs i x d lt is so_far step =
-    let rest : List A = flat_map f (drop (suc i) xs) in
-    rw add-one
-    (ap (λ (t : List A). t ++ rest) step
-    ∙ (append_assoc now (f x) rest
-    ∙ (ap (λ (z : X). now ++ (f z ++ rest)) is ∙ (ap (λ (ys : List X). now ++ flat_map f ys) (sym (drop-cons xs i d lt)) ∙ so_far))))
-
--- none is left
-pub all_ahead : {X A : Type 0} (f : X → List A) (now whole : List A) (xs : List X) (i : ℕ) → length xs ≤ i → now ++ flat_map f (drop i xs) ≡ whole → now ≡ whole
-all_ahead {X = X} {A = A} f now whole xs i le so_far = sym (append-nil now) ∙ (ap (λ (ys : List X). now ++ flat_map f ys) (sym (drop_all i xs le)) ∙ so_far)
-
 pub summed : {X : Type 0} (size : X → ℕ) (total : List X → ℕ) → ((x : X) (xs : List X) → total (x ∷ xs) ≡ size x + total xs) → (xs : List X) (i : ℕ) (x d : X) (sum next whole : ℕ) → i < length xs → x ≡ get_or xs i d
     → next ≡ sum + size x → sum + total (drop i xs) ≡ whole → next + total (drop (i + 1) xs) ≡ whole
 summed {X = X} size total first xs i x d sum next whole lt is made so_far =

@@ -3,11 +3,11 @@ use Rattle.std.proofs.Common.{◌≡◌, ◌≢◌, ◌⊎◌, inl, inr, ◌≤�
 use Rattle.std.specs.Prelude.{◌==◌, if◌then◌else◌, is_some}
 use Rattle.std.proofs.lemmas.Bool.{ne_eqb}
 use Rattle.std.proofs.lemmas.List.{get_or-set_same}
+use Rattle.kilim_lemmas.proofs.Lists.{drop_next}
 use Rattle.kilim_program.specs.declared.verified.Frame.{Frame}
 use Rattle.kilim_type_spec.specs.Step.{Types}
 use Rattle.kilim_type_spec.specs.Typed.{frame_in, frame_types}
 use Rattle.kilim_weave_method.specs.Flags.{AreFlags}
-use Rattle.kilim_weave_method.proofs.Listing.{drop_next}
 
 pub none_raised : (flags : List Bool) (k : ℕ) → get_or (flags ++ false ∷ []) k false ≡ get_or flags k false
 none_raised [] zero = refl

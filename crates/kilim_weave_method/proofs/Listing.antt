@@ -11,11 +11,6 @@ next {A} (y ∷ xs) (suc n) x h = ap (λ (zs : List A). y ∷ zs) (next xs n x h
 pub take_next : {A : Type 0} (xs : List A) (n : ℕ) (x : A) → slice_get xs n ≡ Some x → take (n + 1) xs ≡ take n xs ++ x ∷ []
 take_next xs n x h = let one : suc n ≡ n + 1 = omega arith in ap (λ (k : ℕ). take k xs) (sym one) ∙ next xs n x h
 
-pub drop_next : {A : Type 0} (xs : List A) (n : ℕ) (x : A) → slice_get xs n ≡ Some x → drop n xs ≡ x ∷ drop (n + 1) xs
-drop_next [] n x e = absurd (cc)
-drop_next {A} (y ∷ xs) zero x e = let s : y ≡ x = cc in ap (λ (z : A). z ∷ xs) s
-drop_next {A} (y ∷ xs) (suc n) x e = let number : suc (n + 1) ≡ suc n + 1 = omega arith in drop_next xs n x e ∙ ap (λ (k : ℕ). x ∷ drop k (y ∷ xs)) number
-
 -- one more copy
 pub copied_more : {A : Type 0} (xs : List A) (n : ℕ) (x y : A) (done new : List A) → slice_get xs n ≡ Some x → done ≡ take n xs → y ≡ x → new ≡ done ++ y ∷ [] → new ≡ take (n + 1) xs
 copied_more {A} xs n x y done new there is same e =

@@ -17,7 +17,7 @@ use Rattle.kilim_program.specs.Keeps.{Keeps, code_is_whole}
 use Rattle.kilim_program.specs.Lengths.{code_ends, code_stands, is_code_place, targets_stand}
 use Rattle.kilim_program.specs.Names.{is_empty, method_at}
 use Rattle.kilim_program.specs.Program.{Program}
-use Rattle.kilim_lemmas.proofs.Lists.{front_none, get_some, rest_none}
+use Rattle.kilim_lemmas.proofs.Lists.{front_none, get_some, rest_none, map_at}
 use Rattle.kilim_isolation_pauses.specs.Pausing.{all_methods, arguments_of, below, called, frames_at, has_free_receiver, method_reports, pauses, pauses_in_plain, pausing_reports, report_if, reports_along, reports_at, reports_of, uninitialized_below}
 use Rattle.kilim_type_spec.specs.Step.{Types, is_unset, peek}
 use Rattle.kilim_type_spec.specs.Typed.{entry, frames_of, has_code, listed, typing_of}
@@ -41,11 +41,6 @@ flat_none : {A B : Type 0} (f : A → List B) (xs : List A) (x : A) → flat_map
 flat_none f [] x h i = absurd i
 flat_none f (y ∷ xs) x h (inl e) = ap f e ∙ front_none (f y) (flat_map f xs) h
 flat_none f (y ∷ xs) x h (inr i) = flat_none f xs x (rest_none (f y) (flat_map f xs) h) i
-
-map_at : {A B : Type 0} (f : A → B) (xs : List A) (k : ℕ) (x : A) → slice_get xs k ≡ Some x → slice_get (map f xs) k ≡ Some (f x)
-map_at f [] k x e = absurd (cc)
-map_at f (y ∷ xs) zero x e = let s : y ≡ x = cc in ap (λ z. Some (f z)) s
-map_at f (y ∷ xs) (suc k) x e = map_at f xs k x e
 
 among_classes : (cs : List Class) (k : ℕ) (c : Class) (id : MethodId) → slice_get cs k ≡ Some c → IsAmong id c.methods → IsAmong id (flat_map (λ class. class.methods) cs)
 among_classes [] k c id e i = absurd (cc)

@@ -2,11 +2,6 @@
 use Rattle.std.proofs.Common.{◌≡◌, ◌⊎◌, inl, inr, ◌-◌, ℕ, zero, suc, ◌+◌, ◌<◌, ◌≤◌, List, [], ◌∷◌, ◌++◌, length, take, drop, reverse, map, slice_get, Some, refl, ap, sym, ◌∙◌, arith}
 use Rattle.std.proofs.lemmas.List.{length-reverse, reverse-append}
 
-pub drop_next : {A : Type 0} (xs : List A) (n : ℕ) (x : A) → slice_get xs n ≡ Some x → drop n xs ≡ x ∷ drop (n + 1) xs
-drop_next [] n x e = absurd (cc)
-drop_next {A} (y ∷ xs) zero x e = let s : y ≡ x = cc in ap (λ (z : A). z ∷ xs) s
-drop_next {A} (y ∷ xs) (suc n) x e = let number : suc (n + 1) ≡ suc n + 1 = omega arith in drop_next xs n x e ∙ ap (λ (k : ℕ). x ∷ drop k (y ∷ xs)) number
-
 next : {A : Type 0} (xs : List A) (n : ℕ) (x : A) → slice_get xs n ≡ Some x → take (suc n) xs ≡ take n xs ++ x ∷ []
 next [] n x h = absurd (cc)
 next {A} (y ∷ xs) zero x h = ap (λ (z : A). z ∷ []) (let e : y ≡ x = cc in e)

@@ -1,10 +1,11 @@
 -- Saves and restores, one after the other.
 use Rattle.std.proofs.Common.{◌≡◌, ℕ, ℤ, ◌+◌, List, [], ◌∷◌, map, refl, take, drop, reverse, slice_get, Some, ap, sym, ◌∙◌}
+use Rattle.kilim_lemmas.proofs.Lists.{drop_next}
 use Rattle.kilim_program.specs.declared.ty.Ty.{Ty}
 use Rattle.kilim_program.specs.declared.verified.VType.{VType}
 use Rattle.kilim_type_spec.specs.Step.{vtype}
 use Rattle.kilim_weave_spec.specs.Woven.{Item, Plan, moved_pairs, added, dummies, dummy_of, restore, restore_local, restore_locals, restore_stack, save, save_local, save_locals, save_stack}
-use Rattle.kilim_weave_pieces.proofs.Lists.{drop_next, reverse_take}
+use Rattle.kilim_weave_pieces.proofs.Lists.{reverse_take}
 
 module _ (x : Plan) (before now new : List Item) where
   pub save_more : (stack : List VType) (at : ℕ) (t : VType) → slice_get stack at ≡ Some t → now ≡ save_stack x (reverse (take at stack)) before → new ≡ save x t now → new ≡ save_stack x (reverse (take (at + 1) stack)) before

@@ -5,12 +5,8 @@ use Rattle.std.specs.Int.{w32}
 use Rattle.std.specs.List.{flat_map, AllByRecursion}
 use Rattle.std.proofs.lemmas.Option.{slice_get-get_or}
 use Rattle.std.proofs.lemmas.List.{append-nil, drop_all}
+use Rattle.kilim_lemmas.proofs.Lists.{drop_next}
 use Rattle.kilim_class_code.specs.opcodes.Instr.{IsAbove, PairsFit, TargetFits}
-
-pub drop_next : {A : Type 0} (xs : List A) (n : ℕ) (x : A) → slice_get xs n ≡ Some x → drop n xs ≡ x ∷ drop (n + 1) xs
-drop_next [] n x e = absurd (cc)
-drop_next {A} (y ∷ xs) zero x e = let s : y ≡ x = cc in ap (λ (z : A). z ∷ xs) s
-drop_next {A} (y ∷ xs) (suc n) x e = let number : suc (n + 1) ≡ suc n + 1 = omega arith in drop_next xs n x e ∙ ap (λ (j : ℕ). x ∷ drop j (y ∷ xs)) number
 
 -- matches of a switch, one more
 pub pairs_step : (place : ℕ) (pairs : List (ℤ × ℤ)) (at : ℕ) (least : Option ℤ) (pair : ℤ × ℤ) (key : ℤ) → slice_get pairs at ≡ Some pair → key ≡ pair.0 → IsAbove least pair.0 → FitsSigned w32 pair.0 → TargetFits w32 place pair.1 →

@@ -2,11 +2,12 @@
 use Rattle.std.proofs.Common.{OnOk, Result, Ok, Err, ◌&&◌, ◌==◌, bytes_eq, eq-eqb, ◌≡◌, inl, inr, ℕ, zero, suc, ◌+◌, ◌<◌, ◌≤◌, Bool, true, false, cond, List, [], ◌∷◌, ◌++◌, length, Option, Some, None, option_map, refl, sym, ap, ◌∙◌, arith}
 use Rattle.std.specs.List.{position_from}
 use Rattle.std.proofs.lemmas.Slice.Eq.{bytes_eq-Decides}
+use Rattle.std.proofs.lemmas.Option.{none-some}
 use Rattle.kilim_class_pool.specs.declared.entry.Entry.{Entry}
 use Rattle.kilim_class_pool.specs.Entries.{slots_of, slot, entry_at, count_of}
 use Rattle.kilim_class_pool.specs.Adding.{Adds}
 use Rattle.kilim_class_making.specs.pool_needs.Adding.{Test, class_index, found, index_or_none, text_index, unless_found, with_call, with_class, with_method, with_text}
-use Rattle.kilim_class_making.proofs.pool_needs.Searching.{none_is_some, found_passes}
+use Rattle.kilim_class_making.proofs.pool_needs.Searching.{found_passes}
 
 abbrev Slots : Type 0
 Slots = List (Option Entry)
@@ -77,7 +78,7 @@ passes t pool h = passes_by t pool (found t pool) refl h
 
 fails_by : (t : Test) (n : ℕ) (x : Option Entry) (xs : Slots) → (position_from t (n + 1) xs ≡ None → (k : ℕ) → k < length xs → t (slot xs k) ≡ false) →
     (b : Bool) → t x ≡ b → cond b (Some n) (position_from t (n + 1) xs) ≡ None → (k : ℕ) → k < length (x ∷ xs) → t (slot (x ∷ xs) k) ≡ false
-fails_by t n x xs rest true is h k l = absurd (none_is_some n (sym h))
+fails_by t n x xs rest true is h k l = absurd (none-some n (sym h))
 fails_by t n x xs rest false is h zero l = is
 fails_by t n x xs rest false is h (suc k) l = rest h k (omega (arith, l))
 
@@ -86,18 +87,18 @@ position_fails t n [] h k l = absurd (omega (arith, l))
 position_fails t n (x ∷ xs) h k l = fails_by t n x xs (position_fails t (n + 1) xs) (t x) refl h k l
 
 slot_within : (xs : Slots) (k : ℕ) (e : Entry) → slot xs k ≡ Some e → k < length xs
-slot_within [] k e h = absurd (none_is_some e h)
+slot_within [] k e h = absurd (none-some e h)
 slot_within (x ∷ xs) zero e h = omega arith
 slot_within (x ∷ xs) (suc k) e h = let l = slot_within xs k e h in omega (arith, l)
 
 mapped_none : (o : Option ℕ) → option_map suc o ≡ None → o ≡ None
 mapped_none None h = refl
-mapped_none (Some n) h = absurd (none_is_some (suc n) (sym h))
+mapped_none (Some n) h = absurd (none-some (suc n) (sym h))
 
 -- an entry that passes is found
 pub not_there : (t : Test) (pool : List Entry) (index : ℕ) (e : Entry) → found t pool ≡ None → entry_at pool index ≡ Some e → t (Some e) ≡ true → ⊥
 unfolding found
-not_there t pool zero e none there h = none_is_some e there
+not_there t pool zero e none there h = none-some e there
 not_there t pool (suc k) e none there h =
     let f : t (slot (slots_of pool) k) ≡ false = position_fails t 0 (slots_of pool) (mapped_none (position_from t 0 (slots_of pool)) none) k (slot_within (slots_of pool) k e there) in
     let g : true ≡ false = sym h ∙ (ap t (sym there) ∙ f) in absurd (cc)

@@ -2,16 +2,11 @@
 use Rattle.std.proofs.Common.{◌≡◌, ℕ, zero, suc, ◌+◌, Bool, true, false, cond, List, [], ◌∷◌, ◌++◌, Option, Some, None, option_map, refl, sym, ap, ◌∙◌, arith}
 use Rattle.std.specs.List.{position_from}
 use Rattle.std.proofs.lemmas.List.{append-nil}
+use Rattle.std.proofs.lemmas.Option.{none-some, same_Some}
 use Rattle.kilim_class_pool.specs.declared.entry.Entry.{Entry}
 use Rattle.kilim_class_pool.specs.Entries.{slots_of, slots_of_entry, slot, entry_at}
 use Rattle.kilim_class_pool.proofs.SlotLaws.{slots-append}
 use Rattle.kilim_class_making.specs.pool_needs.Adding.{Test, found}
-
-pub some_same : {A : Type 0} (x y : A) → Some x ≡ Some y → x ≡ y
-some_same x y e = cc
-
-pub none_is_some : {A : Type 0} (x : A) → None ≡ Some x → ⊥
-none_is_some x e = cc
 
 abbrev Slots : Type 0
 Slots = List (Option Entry)
@@ -19,12 +14,12 @@ Slots = List (Option Entry)
 -- ---- entries stay
 
 slot_stays : (xs ys : Slots) (k : ℕ) (e : Entry) → slot xs k ≡ Some e → slot (xs ++ ys) k ≡ Some e
-slot_stays [] ys k e h = absurd (none_is_some e h)
+slot_stays [] ys k e h = absurd (none-some e h)
 slot_stays (x ∷ xs) ys zero e h = h
 slot_stays (x ∷ xs) ys (suc k) e h = slot_stays xs ys k e h
 
 pub stays : (old more : List Entry) (index : ℕ) (e : Entry) → entry_at old index ≡ Some e → entry_at (old ++ more) index ≡ Some e
-stays old more zero e h = absurd (none_is_some e h)
+stays old more zero e h = absurd (none-some e h)
 stays old more (suc k) e h = ap (λ (ss : Slots). slot ss k) (slots-append old more) ∙ slot_stays (slots_of old) (slots_of more) k e h
 
 -- ---- places in a list
@@ -35,7 +30,7 @@ left_by t n xs ys k rest true h = h
 left_by t n xs ys k rest false h = rest h
 
 pub position_left : (t : Test) (n : ℕ) (xs ys : Slots) (k : ℕ) → position_from t n xs ≡ Some k → position_from t n (xs ++ ys) ≡ Some k
-position_left t n [] ys k h = absurd (none_is_some k h)
+position_left t n [] ys k h = absurd (none-some k h)
 position_left t n (x ∷ xs) ys k h = left_by t n xs ys k (position_left t (n + 1) xs ys k) (t x) h
 
 -- a place of the list, of which the test holds
@@ -46,11 +41,11 @@ pub record Passes (t : Test) (n : ℕ) (xs : Slots) (k : ℕ) : Type 0 where
 
 passes_by : (t : Test) (n : ℕ) (x : Option Entry) (xs : Slots) (k : ℕ) → (position_from t (n + 1) xs ≡ Some k → Passes t (n + 1) xs k) →
     (b : Bool) → t x ≡ b → cond b (Some n) (position_from t (n + 1) xs) ≡ Some k → Passes t n (x ∷ xs) k
-passes_by t n x xs k rest true is h = record { place = 0; is = (let e = some_same n k h in omega (arith, e)); holds = is }
+passes_by t n x xs k rest true is h = record { place = 0; is = (let e = same_Some n k h in omega (arith, e)); holds = is }
 passes_by t n x xs k rest false is h = let r = rest h in record { place = suc r.place; is = (let e = r.is in omega (arith, e)); holds = r.holds }
 
 pub position_passes : (t : Test) (n : ℕ) (xs : Slots) (k : ℕ) → position_from t n xs ≡ Some k → Passes t n xs k
-position_passes t n [] k h = absurd (none_is_some k h)
+position_passes t n [] k h = absurd (none-some k h)
 position_passes t n (x ∷ xs) k h = passes_by t n x xs k (position_passes t (n + 1) xs k) (t x) refl h
 
 there_by : (t : Test) (n : ℕ) (rest : Option ℕ) → (k : ℕ) × (rest ≡ Some k) → (b : Bool) → (k : ℕ) × (cond b (Some n) rest ≡ Some k)
@@ -70,10 +65,10 @@ position_same t u n (x ∷ xs) same =
 
 passes_at : (test : Test) (pool : List Entry) (index : ℕ) (o : Option ℕ) → position_from test 0 (slots_of pool) ≡ o → option_map suc o ≡ Some index → test (entry_at pool index) ≡ true
 unfolding found
-passes_at test pool index None is h = absurd (none_is_some index h)
+passes_at test pool index None is h = absurd (none-some index h)
 passes_at test pool index (Some k) is h =
     let p = position_passes test 0 (slots_of pool) k is in
-    let e : suc p.place ≡ index = (let f = some_same (suc k) index h in let g = p.is in omega (arith, f, g)) in
+    let e : suc p.place ≡ index = (let f = same_Some (suc k) index h in let g = p.is in omega (arith, f, g)) in
     ap (λ i. test (entry_at pool i)) (sym e) ∙ p.holds
 
 pub found_passes : (test : Test) (pool : List Entry) (index : ℕ) → found test pool ≡ Some index → test (entry_at pool index) ≡ true
@@ -82,7 +77,7 @@ found_passes test pool index h = passes_at test pool index (position_from test 0
 
 left_at : (test : Test) (xs ys : Slots) (index : ℕ) (o : Option ℕ) → position_from test 0 xs ≡ o → option_map suc o ≡ Some index → option_map suc (position_from test 0 (xs ++ ys)) ≡ Some index
 unfolding found
-left_at test xs ys index None is h = absurd (none_is_some index h)
+left_at test xs ys index None is h = absurd (none-some index h)
 left_at test xs ys index (Some k) is h = ap (option_map suc) (position_left test 0 xs ys k is) ∙ h
 
 pub found_stays : (test : Test) (old more : List Entry) (index : ℕ) → found test old ≡ Some index → found test (old ++ more) ≡ Some index

@@ -2,15 +2,13 @@
 use Rattle.std.proofs.Common.{◌≡◌, ℕ, ◌+◌, Bool, true, false, cond, ◌&&◌, List, [], ◌∷◌, Option, Some, None, option_map, bytes_eq, refl, sym, ap, ◌∙◌}
 use Rattle.std.specs.List.{AllByRecursion, position_from}
 use Rattle.std.proofs.lemmas.Slice.Eq.{bytes_eq-Decides}
+use Rattle.kilim_lemmas.proofs.Texts.{text_is}
 use Rattle.kilim_program.specs.declared.names.ClassId.{ClassId}
 use Rattle.kilim_program.specs.declared.names.MethodId.{MethodId}
 use Rattle.kilim_program.specs.BuiltIn.{method_id}
 use Rattle.kilim_link_spec.specs.declared.view.DeclaredMethod.{DeclaredMethod}
 use Rattle.kilim_link_spec.specs.World.{World, declared_methods, first_method, is_method, method_in, first_found, or_else}
 use Rattle.kilim_theorems.specs.woven_files.Members.{pausing, SameButFiber, AllSame, Apart, SameClass, MethodsAreFound}
-
-text_same : (xs ys : List ℕ) → bytes_eq xs ys ≡ true → xs ≡ ys
-text_same xs ys e = (bytes_eq-Decides xs ys).0 e
 
 same_text : (xs ys : List ℕ) → xs ≡ ys → bytes_eq xs ys ≡ true
 same_text xs ys e = (bytes_eq-Decides xs ys).1 e
@@ -30,9 +28,9 @@ unlike woven Is apart false true x y ix iy differ same = apart.none y x iy ix (s
 texts_by : (woven : List ℕ → List ℕ) (Is : List ℕ → Type 0) → Apart woven Is → (p b : Bool) (x y : List ℕ) → Is x → Is y → (c : Bool) → bytes_eq x y ≡ c → (c ≡ true → p ≡ b) →
     bytes_eq (pausing woven p x) (pausing woven b y) ≡ c
 texts_by woven Is apart p b x y ix iy true is same =
-    same_text (pausing woven p x) (pausing woven b y) (ap (λ q. pausing woven q x) (same refl) ∙ ap (pausing woven b) (text_same x y is))
+    same_text (pausing woven p x) (pausing woven b y) (ap (λ q. pausing woven q x) (same refl) ∙ ap (pausing woven b) (text_is x y is))
 texts_by woven Is apart p b x y ix iy false is same =
-    module_of (bytes_eq (pausing woven p x) (pausing woven b y)) (λ e. unlike woven Is apart p b x y ix iy is (text_same (pausing woven p x) (pausing woven b y) e))
+    module_of (bytes_eq (pausing woven p x) (pausing woven b y)) (λ e. unlike woven Is apart p b x y ix iy is (text_is (pausing woven p x) (pausing woven b y) e))
 
 -- ---- one method
 

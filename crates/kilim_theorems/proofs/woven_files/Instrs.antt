@@ -1,5 +1,6 @@
 -- Old and added instructions, written in their forms, are themselves in the woven world.
 use Rattle.std.proofs.Common.{◌≡◌, ℕ, zero, suc, ◌+◌, Bool, true, false, ◌==◌, if◌then◌else◌, ℤ, pos, nat_lt, List, [], ◌∷◌, map, Option, Some, None, option_map, refl, sym, ap, subst, ◌∙◌, arith, ltb-true}
+use Rattle.std.proofs.lemmas.Option.{none-some, same_Some}
 use Rattle.kilim_class_pool.specs.declared.entry.Entry.{Entry}
 use Rattle.kilim_class_pool.specs.declared.entry.Entry.TheVariants as entry
 use Rattle.kilim_class_pool.specs.Entries.{entry_at}
@@ -33,7 +34,6 @@ use Rattle.kilim_weave_spec.specs.Woven.{moved_instr, moved_pairs}
 use Rattle.kilim_weave_file_spec.specs.Texts.{woven_descriptor, needed_method}
 use Rattle.kilim_weave_file_spec.specs.Raw.{pauses, is_pausable_call, local_form, shortest, target_of, moved_raw, old_need, call_need, call_by, index_or, switched, place_number, pair_number, added_raw, raw_code}
 use Rattle.kilim_theorems.specs.woven_files.Resolving.{WorldsAgree, IsFound}
-use Rattle.kilim_class_making.proofs.pool_needs.Searching.{some_same, none_is_some}
 use Rattle.kilim_theorems.proofs.woven_files.Resolved.{Calls, row_all, a_call, call_again, old_operand}
 use Rattle.kilim_theorems.specs.woven_files.Standing.{CallsNone, CallParts, NeedNamed, SameTexts, LdcCallsNone, OldNamed, AddedFits, CodeFits}
 
@@ -111,20 +111,20 @@ constants_stay : (at : ℕ → ℕ) (number : ℕ) (make : Value → Instr) → 
 constants_stay at number make h = row_all (λ n make. (value : Value) → Unmoved at (make value)) constant_instrs ((λ id. refl), ((λ id. refl), ((λ id. refl), tt))) number make h
 
 applied_unmoved : {A : Type 0} (at : ℕ → ℕ) (f : Option (A → Instr)) (x : Option A) (i : Instr) → ((make : A → Instr) → f ≡ Some make → (a : A) → Unmoved at (make a)) → applied f x ≡ Some i → Unmoved at i
-applied_unmoved at None x i each h = absurd (none_is_some i h)
-applied_unmoved at (Some f) None i each h = absurd (none_is_some i h)
-applied_unmoved at (Some f) (Some a) i each h = subst (Unmoved at) (some_same (f a) i h) (each f refl a)
+applied_unmoved at None x i each h = absurd (none-some i h)
+applied_unmoved at (Some f) None i each h = absurd (none-some i h)
+applied_unmoved at (Some f) (Some a) i each h = subst (Unmoved at) (same_Some (f a) i h) (each f refl a)
 
 new_unmoved : (at : ℕ → ℕ) (x : Option ClassId) (i : Instr) → option_map New x ≡ Some i → Unmoved at i
-new_unmoved at None i h = absurd (none_is_some i h)
-new_unmoved at (Some c) i h = subst (Unmoved at) (some_same (New c) i h) refl
+new_unmoved at None i h = absurd (none-some i h)
+new_unmoved at (Some c) i h = subst (Unmoved at) (same_Some (New c) i h) refl
 
 type_unmoved : (at : ℕ → ℕ) (u : World) (number : ℕ) (class : Named) (i : Instr) → (b : Bool) → (if b then option_map New (class_named_by u class) else applied (row type_instrs number) (type_named u class)) ≡ Some i → Unmoved at i
 type_unmoved at u number class i true h = new_unmoved at (class_named_by u class) i h
 type_unmoved at u number class i false h = applied_unmoved at (row type_instrs number) (type_named u class) i (types_stay at number) h
 
 operand_unmoved : (at : ℕ → ℕ) (u : World) (number : ℕ) (o : Option Operand) (i : Instr) → instr_with u number o ≡ Some i → Unmoved at i
-operand_unmoved at u number None i h = absurd (none_is_some i h)
+operand_unmoved at u number None i h = absurd (none-some i h)
 operand_unmoved at u number (Some (AConstant value)) i h = applied_unmoved at (row constant_instrs number) (Some value) i (constants_stay at number) h
 operand_unmoved at u number (Some (AField ref)) i h = applied_unmoved at (row field_instrs number) (field_found u ref) i (fields_stay at number) h
 operand_unmoved at u number (Some (AMethod ref)) i h = applied_unmoved at (row method_instrs number) (method_found u ref) i (methods_stay at number) h
@@ -132,7 +132,7 @@ operand_unmoved at u number (Some (AType class)) i h = type_unmoved at u number 
 
 -- a kept index
 kept_by : (w : Program) (u v : World) → WorldsAgree w u v → (old pool : List Entry) → SameOperands old pool → (number index : ℕ) (i : Instr) → CallsNone w i → (o : Option Operand) → operand_at old (number, index) ≡ o → instr_with u number o ≡ Some i → instr_with v number (operand_at pool (number, index)) ≡ Some i
-kept_by w u v agree old pool same number index i none None is h = absurd (none_is_some i h)
+kept_by w u v agree old pool same number index i none None is h = absurd (none-some i h)
 kept_by w u v agree old pool same number index i none (Some o) is h = ap (instr_with v number) (same number index o is) ∙ old_operand w u v agree number o i none h
 
 pub kept_index : (w : Program) (u v : World) → WorldsAgree w u v → (old pool : List Entry) → SameOperands old pool → (number index : ℕ) (i : Instr) → CallsNone w i →
@@ -152,25 +152,25 @@ abbrev WithNeed : List Entry → ℕ → Option Entry → MemberRef → Type 0
 WithNeed old class m ref = (name descriptor : ℕ) × (call_by old class m ≡ Some (ACall class name (woven_descriptor (text_of old descriptor)))) × (ref ≡ record { owner = class_text old class; name = text_of old name; descriptor = text_of old descriptor })
 
 member_parts : (old : List Entry) (class : ℕ) (m : Option Entry) (ref : MemberRef) → ref_with old class m ≡ Some ref → WithNeed old class m ref
-member_parts old class (Some (entry.NameAndType n d)) ref h = (n, d, refl, sym (some_same _ ref h))
-member_parts old class _ ref h = absurd (none_is_some ref h)
+member_parts old class (Some (entry.NameAndType n d)) ref h = (n, d, refl, sym (same_Some _ ref h))
+member_parts old class _ ref h = absurd (none-some ref h)
 
 method_parts : (old : List Entry) (e : Option Entry) (ref : MemberRef) → method_ref old e ≡ Some ref → CallParts old e ref
 method_parts old (Some (entry.Methodref class m)) ref h = let p = member_parts old class (entry_at old m) ref h in record { class = class; name = p.0; descriptor = p.1; need = p.2; is = p.3 }
-method_parts old _ ref h = absurd (none_is_some ref h)
+method_parts old _ ref h = absurd (none-some ref h)
 
 any_parts : (old : List Entry) (e : Option Entry) (ref : MemberRef) → any_method_ref old e ≡ Some ref → CallParts old e ref
 any_parts old (Some (entry.InterfaceMethodref class m)) ref h = let p = member_parts old class (entry_at old m) ref h in record { class = class; name = p.0; descriptor = p.1; need = p.2; is = p.3 }
 any_parts old (Some (entry.Methodref class m)) ref h = method_parts old (Some (entry.Methodref class m)) ref h
-any_parts old _ ref h = absurd (none_is_some ref h)
+any_parts old _ ref h = absurd (none-some ref h)
 
 -- which instruction a call is, by its number, and what its index names
 pub record CallRow (old : List Entry) (number : ℕ) : Type 0 where
   pub parts : (e : Option Entry) (ref : MemberRef) → index_operand old number e ≡ Some (AMethod ref) → CallParts old e ref
 
 mapped_some : {A B : Type 0} (f : A → B) (inj : (a b : A) → f a ≡ f b → a ≡ b) (x : Option A) (a : A) → option_map f x ≡ Some (f a) → x ≡ Some a
-mapped_some f inj None a h = absurd (none_is_some (f a) h)
-mapped_some f inj (Some b) a h = ap Some (inj b a (some_same (f b) (f a) h))
+mapped_some f inj None a h = absurd (none-some (f a) h)
+mapped_some f inj (Some b) a h = ap Some (inj b a (same_Some (f b) (f a) h))
 
 abbrev as_operand : MemberRef → Operand
 as_operand ref = AMethod ref
@@ -193,8 +193,8 @@ pub record TakesRef (pool : List Entry) (number : ℕ) : Type 0 where
 
 any_of : (pool : List Entry) (e : Option Entry) (ref : MemberRef) → method_ref pool e ≡ Some ref → any_method_ref pool e ≡ Some ref
 any_of pool (Some (entry.Methodref class m)) ref h = h
-any_of pool (Some (entry.InterfaceMethodref class m)) ref h = absurd (none_is_some ref h)
-any_of pool _ ref h = absurd (none_is_some ref h)
+any_of pool (Some (entry.InterfaceMethodref class m)) ref h = absurd (none-some ref h)
+any_of pool _ ref h = absurd (none-some ref h)
 
 takes_rows : (pool : List Entry) (number : ℕ) (make : MethodId → Instr) → row method_instrs number ≡ Some make → TakesRef pool number
 takes_rows pool number make h = row_all (λ n make. TakesRef pool n) method_instrs (
@@ -212,13 +212,13 @@ pauses_rows w number make h = row_all (λ n make. (id : MethodId) → is_pausabl
 -- nothing else calls a method
 
 never_applied : {A : Type 0} (w : Program) (f : Option (A → Instr)) (x : Option A) (i : Instr) → ((make : A → Instr) → f ≡ Some make → (a : A) → is_pausable_call w (make a) ≡ false) → applied f x ≡ Some i → is_pausable_call w i ≡ false
-never_applied w None x i each h = absurd (none_is_some i h)
-never_applied w (Some f) None i each h = absurd (none_is_some i h)
-never_applied w (Some f) (Some a) i each h = subst (λ j. is_pausable_call w j ≡ false) (some_same (f a) i h) (each f refl a)
+never_applied w None x i each h = absurd (none-some i h)
+never_applied w (Some f) None i each h = absurd (none-some i h)
+never_applied w (Some f) (Some a) i each h = subst (λ j. is_pausable_call w j ≡ false) (same_Some (f a) i h) (each f refl a)
 
 never_new : (w : Program) (x : Option ClassId) (i : Instr) → option_map New x ≡ Some i → is_pausable_call w i ≡ false
-never_new w None i h = absurd (none_is_some i h)
-never_new w (Some c) i h = subst (λ j. is_pausable_call w j ≡ false) (some_same (New c) i h) refl
+never_new w None i h = absurd (none-some i h)
+never_new w (Some c) i h = subst (λ j. is_pausable_call w j ≡ false) (same_Some (New c) i h) refl
 
 never_type : (w : Program) (u : World) (number : ℕ) (class : Named) (i : Instr) (b : Bool) → (if b then option_map New (class_named_by u class) else applied (row type_instrs number) (type_named u class)) ≡ Some i → is_pausable_call w i ≡ false
 never_type w u number class i true h = never_new w (class_named_by u class) i h
@@ -234,7 +234,7 @@ true_false : {A : Type 0} (b : Bool) → b ≡ true → b ≡ false → A
 true_false b t f = absurd (cc)
 
 is_call : (w : Program) (u : World) (old : List Entry) (number index : ℕ) (i : Instr) → is_pausable_call w i ≡ true → (o : Option Operand) → operand_at old (number, index) ≡ o → instr_with u number o ≡ Some i → IsCall old number index u i
-is_call w u old number index i p None is h = absurd (none_is_some i h)
+is_call w u old number index i p None is h = absurd (none-some i h)
 is_call w u old number index i p (Some (AConstant value)) is h =
     true_false (is_pausable_call w i) p (never_applied w (row constant_instrs number) (Some value) i (λ make is. row_all (λ n make. (a : Value) → is_pausable_call w (make a) ≡ false) constant_instrs ((λ a. refl), ((λ a. refl), ((λ a. refl), tt))) number make is) h)
 is_call w u old number index i p (Some (AField ref)) is h =
@@ -268,19 +268,19 @@ index_by w u v agree old pool same texts number index i h true p named = pausing
 index_by w u v agree old pool same texts number index i h false p named = kept_index w u v agree old pool same number index i (calls_none w i p) h
 
 slot_by : (v : World) (pool : List Entry) (at : ℕ → ℕ) (number slot : ℕ) (r : RawInstr) (i : Instr) (f : Option (ℕ → Instr)) → row local_instrs number ≡ f → applied f (Some slot) ≡ Some i → instr_in v pool (shortest (moved_instr at i) r) ≡ Some (moved_instr at i)
-slot_by v pool at number slot r i None is h = absurd (none_is_some i h)
-slot_by v pool at number slot r i (Some make) is h = subst (λ j. instr_in v pool (shortest (moved_instr at j) r) ≡ Some (moved_instr at j)) (some_same (make slot) i h) (locals_back v pool at number make is slot r)
+slot_by v pool at number slot r i None is h = absurd (none-some i h)
+slot_by v pool at number slot r i (Some make) is h = subst (λ j. instr_in v pool (shortest (moved_instr at j) r) ≡ Some (moved_instr at j)) (same_Some (make slot) i h) (locals_back v pool at number make is slot r)
 
 jump_by : (v : World) (pool : List Entry) (at : ℕ → ℕ) (number : ℕ) (i : Instr) (f : Option (ℕ → Instr)) (to : Option ℕ) → row jump_instrs number ≡ f → applied f to ≡ Some i →
     (instr_in v pool (raw.Jump number (pos (target_of (moved_instr at i)))) ≡ Some (moved_instr at i)) × (instr_in v pool (raw.WideJump number (pos (target_of (moved_instr at i)))) ≡ Some (moved_instr at i))
-jump_by v pool at number i None to is h = absurd (none_is_some i h)
-jump_by v pool at number i (Some make) None is h = absurd (none_is_some i h)
+jump_by v pool at number i None to is h = absurd (none-some i h)
+jump_by v pool at number i (Some make) None is h = absurd (none-some i h)
 jump_by v pool at number i (Some make) (Some to) is h =
-    subst (λ j. (instr_in v pool (raw.Jump number (pos (target_of (moved_instr at j)))) ≡ Some (moved_instr at j)) × (instr_in v pool (raw.WideJump number (pos (target_of (moved_instr at j)))) ≡ Some (moved_instr at j))) (some_same (make to) i h) (jumps_back v pool at number make is to)
+    subst (λ j. (instr_in v pool (raw.Jump number (pos (target_of (moved_instr at j)))) ≡ Some (moved_instr at j)) × (instr_in v pool (raw.WideJump number (pos (target_of (moved_instr at j)))) ≡ Some (moved_instr at j))) (same_Some (make to) i h) (jumps_back v pool at number make is to)
 
 array_by : (at : ℕ → ℕ) (x : Option Base) (i : Instr) → option_map Newarray x ≡ Some i → Unmoved at i
-array_by at None i h = absurd (none_is_some i h)
-array_by at (Some b) i h = subst (Unmoved at) (some_same (Newarray b) i h) refl
+array_by at None i h = absurd (none-some i h)
+array_by at (Some b) i h = subst (Unmoved at) (same_Some (Newarray b) i h) refl
 
 -- ---- switches
 
@@ -297,28 +297,28 @@ SwitchBack v pool at r i = instr_in v pool (switched (moved_instr at i) r) ≡ S
 
 table_back : (v : World) (pool : List Entry) (at : ℕ → ℕ) (r : RawInstr) (low : ℤ) (i : Instr) (d : Option ℕ) (ts : Option (List ℕ)) → applied (option_map (λ to. Tableswitch to low) d) ts ≡ Some i → SwitchBack v pool at r i
 unfolding SwitchBack instr_in
-table_back v pool at r low i None ts h = absurd (none_is_some i h)
-table_back v pool at r low i (Some d) None h = absurd (none_is_some i h)
+table_back v pool at r low i None ts h = absurd (none-some i h)
+table_back v pool at r low i (Some d) None h = absurd (none-some i h)
 table_back v pool at r low i (Some d) (Some ts) h =
-    subst (SwitchBack v pool at r) (some_same (Tableswitch d low ts) i h) (ap (applied (Some (Tableswitch (at d) low))) (places_back (map at ts)))
+    subst (SwitchBack v pool at r) (same_Some (Tableswitch d low ts) i h) (ap (applied (Some (Tableswitch (at d) low))) (places_back (map at ts)))
 
 lookup_back : (v : World) (pool : List Entry) (at : ℕ → ℕ) (r : RawInstr) (i : Instr) (d : Option ℕ) (ps : Option (List (ℤ × ℕ))) → applied (option_map (λ to. λ each. Lookupswitch to each) d) ps ≡ Some i → SwitchBack v pool at r i
 unfolding SwitchBack instr_in
-lookup_back v pool at r i None ps h = absurd (none_is_some i h)
-lookup_back v pool at r i (Some d) None h = absurd (none_is_some i h)
+lookup_back v pool at r i None ps h = absurd (none-some i h)
+lookup_back v pool at r i (Some d) None h = absurd (none-some i h)
 lookup_back v pool at r i (Some d) (Some ps) h =
-    subst (SwitchBack v pool at r) (some_same (Lookupswitch d ps) i h) (ap (applied (Some (Lookupswitch (at d)))) (pairs_back (moved_pairs at ps)))
+    subst (SwitchBack v pool at r) (same_Some (Lookupswitch d ps) i h) (ap (applied (Some (Lookupswitch (at d)))) (pairs_back (moved_pairs at ps)))
 
 pub old_back : (w : Program) (u v : World) → WorldsAgree w u v → (old pool : List Entry) → SameOperands old pool → SameTexts old pool → (at : ℕ → ℕ) (r : RawInstr) (i : Instr) →
     instr_in u old r ≡ Some i → LdcCallsNone w r i → OldNamed w old pool (moved_instr at i) r → instr_in v pool (moved_raw w old pool (moved_instr at i) r) ≡ Some (moved_instr at i)
 unfolding instr_in moved_raw SwitchBack
 old_back w u v agree old pool same texts at (raw.Plain number) i h ldc named = plain_back v pool at number i h
-old_back w u v agree old pool same texts at (raw.Byte number n) i h ldc named = subst (λ j. Some (Bipush n) ≡ Some (moved_instr at j)) (some_same (Bipush n) i h) refl
-old_back w u v agree old pool same texts at (raw.Short number n) i h ldc named = subst (λ j. Some (Sipush n) ≡ Some (moved_instr at j)) (some_same (Sipush n) i h) refl
+old_back w u v agree old pool same texts at (raw.Byte number n) i h ldc named = subst (λ j. Some (Bipush n) ≡ Some (moved_instr at j)) (same_Some (Bipush n) i h) refl
+old_back w u v agree old pool same texts at (raw.Short number n) i h ldc named = subst (λ j. Some (Sipush n) ≡ Some (moved_instr at j)) (same_Some (Sipush n) i h) refl
 old_back w u v agree old pool same texts at (raw.Local number slot) i h ldc named = slot_by v pool at number slot (raw.Local number slot) i (row local_instrs number) refl h
 old_back w u v agree old pool same texts at (raw.WideLocal number slot) i h ldc named = slot_by v pool at number slot (raw.WideLocal number slot) i (row local_instrs number) refl h
-old_back w u v agree old pool same texts at (raw.Iinc number slot n) i h ldc named = subst (λ j. Some (Iinc slot n) ≡ Some (moved_instr at j)) (some_same (Iinc slot n) i h) refl
-old_back w u v agree old pool same texts at (raw.WideIinc number slot n) i h ldc named = subst (λ j. Some (Iinc slot n) ≡ Some (moved_instr at j)) (some_same (Iinc slot n) i h) refl
+old_back w u v agree old pool same texts at (raw.Iinc number slot n) i h ldc named = subst (λ j. Some (Iinc slot n) ≡ Some (moved_instr at j)) (same_Some (Iinc slot n) i h) refl
+old_back w u v agree old pool same texts at (raw.WideIinc number slot n) i h ldc named = subst (λ j. Some (Iinc slot n) ≡ Some (moved_instr at j)) (same_Some (Iinc slot n) i h) refl
 old_back w u v agree old pool same texts at (raw.Jump number to) i h ldc named = (jump_by v pool at number i (row jump_instrs number) (place_of to) refl h).0
 old_back w u v agree old pool same texts at (raw.WideJump number to) i h ldc named = (jump_by v pool at number i (row jump_instrs number) (place_of to) refl h).1
 old_back w u v agree old pool same texts at (raw.NewArray number code) i h ldc named = h ∙ ap Some (sym (array_by at (row array_codes code) i h))

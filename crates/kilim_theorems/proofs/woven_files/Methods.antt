@@ -2,6 +2,7 @@
 use Rattle.std.proofs.Common.{◌≡◌, ℕ, Bool, true, false, if◌then◌else◌, List, [], ◌∷◌, ◌++◌, length, Option, Some, None, option_map, Ok, codes, refl, sym, ap, subst, ◌∙◌}
 use Rattle.std.specs.List.{AllByRecursion, flat_map}
 use Rattle.std.proofs.lemmas.List.{append-nil}
+use Rattle.std.proofs.lemmas.Option.{none-some, same_Some}
 use Rattle.kilim_class_attributes.specs.declared.attribute.Code.{Code}
 use Rattle.kilim_class_attributes.specs.declared.attribute.CodeAttribute.{CodeAttribute}
 use Rattle.kilim_class_attributes.specs.declared.parts.frame.Frame.{Frame as FrameForm}
@@ -33,7 +34,6 @@ use Rattle.kilim_weave_file_spec.specs.Raw.{raw_code}
 use Rattle.kilim_weave_file_spec.specs.FullFrames.{full_frames}
 use Rattle.kilim_theorems.specs.woven_files.Resolving.{WorldsAgree}
 use Rattle.kilim_weave_file_spec.specs.WovenFile.{MethodPair, woven_code, woven_bytes, table_by, old_table, has_calls}
-use Rattle.kilim_class_making.proofs.pool_needs.Searching.{some_same, none_is_some}
 use Rattle.kilim_theorems.proofs.woven_files.Instrs.{code_back, kept_index}
 use Rattle.kilim_theorems.proofs.woven_files.FramesBack.{frames_back}
 use Rattle.kilim_theorems.specs.woven_files.Standing.{CallsNone, FrameFound, Increase, CodeCallsNone, CodeStands, FramesStand}
@@ -59,18 +59,18 @@ same_back w u v agree old pool same (raw.LookupSwitch number default pairs) i no
 
 -- an instruction with its place
 placed_by : (w : Program) (u v : World) → WorldsAgree w u v → (old pool : List Entry) → SameOperands old pool → (r : Placed) (e : ℕ × Instr) → CallsNone w e.1 → (o : Option Instr) → instr_in u old r.1 ≡ o → option_map (λ i. (r.0, i)) o ≡ Some e → placed_in v pool r ≡ Some e
-placed_by w u v agree old pool same r e none None is h = absurd (none_is_some e h)
+placed_by w u v agree old pool same r e none None is h = absurd (none-some e h)
 placed_by w u v agree old pool same r e none (Some i) is h =
-    let x = some_same (r.0, i) e h in
+    let x = same_Some (r.0, i) e h in
     ap (option_map (λ j. (r.0, j))) (same_back w u v agree old pool same r.1 i (subst (λ (z : ℕ × Instr). CallsNone w z.1) (sym x) none) is) ∙ h
 
 kept_by : (w : Program) (u v : World) → WorldsAgree w u v → (old pool : List Entry) → SameOperands old pool → (r : Placed) (rs : List Placed) (code : List (ℕ × Instr)) → CodeCallsNone w code →
     ((more : List (ℕ × Instr)) → CodeCallsNone w more → each_of (placed_in u old) rs ≡ Some more → each_of (placed_in v pool) rs ≡ Some more) →
     (o : Option (ℕ × Instr)) (os : Option (List (ℕ × Instr))) → placed_in u old r ≡ o → each_of (placed_in u old) rs ≡ os → with_first o os ≡ Some code → each_of (placed_in v pool) (r ∷ rs) ≡ Some code
-kept_by w u v agree old pool same r rs code none rest None os fo fs h = absurd (none_is_some code h)
-kept_by w u v agree old pool same r rs code none rest (Some e) None fo fs h = absurd (none_is_some code h)
+kept_by w u v agree old pool same r rs code none rest None os fo fs h = absurd (none-some code h)
+kept_by w u v agree old pool same r rs code none rest (Some e) None fo fs h = absurd (none-some code h)
 kept_by w u v agree old pool same r rs code none rest (Some e) (Some es) fo fs h =
-    let x : e ∷ es ≡ code = some_same (e ∷ es) code h in
+    let x : e ∷ es ≡ code = same_Some (e ∷ es) code h in
     let n : CodeCallsNone w (e ∷ es) = subst (CodeCallsNone w) (sym x) none in
     ap (λ o. with_first o (each_of (placed_in v pool) rs)) (placed_by w u v agree old pool same r e n.0 (instr_in u old r.1) refl fo)
     ∙ (ap (with_first (Some e)) (rest es n.1 fs) ∙ h)

@@ -1,6 +1,7 @@
 -- The parts of a woven method: its descriptor, its types, its code.
 use Rattle.std.proofs.Common.{◌≡◌, ℕ, List, [], ◌∷◌, ◌++◌, map, Option, Some, None, option_map, filter_map, refl, sym, ap, ◌∙◌}
 use Rattle.std.specs.List.{cons_option}
+use Rattle.std.proofs.lemmas.Option.{none-some, same_Some}
 use Rattle.kilim_class_attributes.specs.declared.attribute.Attribute.{Attribute}
 use Rattle.kilim_class_attributes.specs.declared.attribute.Code.{Code}
 use Rattle.kilim_class_attributes.specs.declared.attribute.Info.{Info}
@@ -19,7 +20,6 @@ use Rattle.kilim_link_spec.specs.Laws.{DecodedIsDecode}
 use Rattle.kilim_link_spec.specs.Linked.{code_attribute, code_in, first_of, body_in, linked_method, method_with}
 use Rattle.kilim_weave_file_spec.specs.Texts.{fiber_text, with_fiber, woven_descriptor}
 use Rattle.kilim_weave_file_spec.specs.WovenFile.{MethodPair, woven_code, woven_attribute, woven_info, attribute_with, rewritten}
-use Rattle.kilim_class_making.proofs.pool_needs.Searching.{some_same, none_is_some}
 use Rattle.kilim_theorems.proofs.woven_files.pool.Naming.{text_at}
 use Rattle.kilim_theorems.proofs.woven_files.DescriptorsApart.{woven_read}
 use Rattle.kilim_theorems.proofs.woven_files.Methods.{body_back}
@@ -60,12 +60,12 @@ code_is w file pool x =
 
 types_by : (v : World) (o : Option Ty) (fs : List FieldText) (tys : List Ty) (last : FieldText) (ty : Ty) → ((ts : List Ty) → types_in v fs ≡ Some ts → types_in v (fs ++ last ∷ []) ≡ Some (ts ++ ty ∷ [])) →
     (os : Option (List Ty)) → types_in v fs ≡ os → with_first o os ≡ Some tys → with_first o (types_in v (fs ++ last ∷ [])) ≡ Some (tys ++ ty ∷ [])
-types_by v None fs tys last ty rest os is g = absurd (none_is_some tys g)
-types_by v (Some t) fs tys last ty rest None is g = absurd (none_is_some tys g)
-types_by v (Some t) fs tys last ty rest (Some ts) is g = ap (with_first (Some t)) (rest ts is) ∙ ap (λ xs. Some (xs ++ ty ∷ [])) (some_same (t ∷ ts) tys g)
+types_by v None fs tys last ty rest os is g = absurd (none-some tys g)
+types_by v (Some t) fs tys last ty rest None is g = absurd (none-some tys g)
+types_by v (Some t) fs tys last ty rest (Some ts) is g = ap (with_first (Some t)) (rest ts is) ∙ ap (λ xs. Some (xs ++ ty ∷ [])) (same_Some (t ∷ ts) tys g)
 
 pub types_with : (v : World) (fs : List FieldText) (tys : List Ty) (last : FieldText) (ty : Ty) → types_in v fs ≡ Some tys → type_in v last ≡ Some ty → types_in v (fs ++ last ∷ []) ≡ Some (tys ++ ty ∷ [])
-types_with v [] tys last ty h l = ap (λ o. with_first o (Some [])) l ∙ ap (λ ts. Some (ts ++ ty ∷ [])) (some_same [] tys h)
+types_with v [] tys last ty h l = ap (λ o. with_first o (Some [])) l ∙ ap (λ ts. Some (ts ++ ty ∷ [])) (same_Some [] tys h)
 types_with v (f ∷ fs) tys last ty h l = types_by v (type_in v f) fs tys last ty (λ ts is. types_with v fs ts last ty is l) (types_in v fs) refl h
 
 -- ---- the method

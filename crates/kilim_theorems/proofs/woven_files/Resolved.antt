@@ -1,5 +1,6 @@
 -- An index of old code that is kept names the same field, class, type, constant or method in the woven world.
 use Rattle.std.proofs.Common.{◌≡◌, ℕ, Bool, true, false, ◌==◌, if◌then◌else◌, List, [], ◌∷◌, Option, Some, None, option_map, refl, sym, ap, subst, ◌∙◌, eqb-true}
+use Rattle.std.proofs.lemmas.Option.{none-some, same_Some}
 use Rattle.kilim_program.specs.declared.instr.Instr.{Instr}
 use Rattle.kilim_program.specs.declared.instr.Instr.TheVariants.{New}
 use Rattle.kilim_program.specs.declared.names.MethodId.{MethodId}
@@ -16,18 +17,17 @@ use Rattle.kilim_theorems.specs.woven_files.Members.{pausing}
 use Rattle.kilim_weave_file_spec.specs.Texts.{woven_descriptor}
 use Rattle.kilim_weave_file_spec.specs.Raw.{pauses}
 use Rattle.kilim_theorems.specs.woven_files.Resolving.{WorldsAgree}
-use Rattle.kilim_class_making.proofs.pool_needs.Searching.{some_same, none_is_some}
 use Rattle.kilim_theorems.specs.woven_files.Standing.{CallsNone}
 
 -- ---- options
 
 applied_by : {A B : Type 0} (f : Option (A → B)) (x y : Option A) (b : B) → ((a : A) → x ≡ Some a → y ≡ Some a) → applied f x ≡ Some b → applied f y ≡ Some b
-applied_by None x y b same h = absurd (none_is_some b h)
-applied_by (Some f) None y b same h = absurd (none_is_some b h)
+applied_by None x y b same h = absurd (none-some b h)
+applied_by (Some f) None y b same h = absurd (none-some b h)
 applied_by (Some f) (Some a) y b same h = ap (applied (Some f)) (same a refl) ∙ h
 
 mapped_by : {A B : Type 0} (f : A → B) (x y : Option A) (b : B) → ((a : A) → x ≡ Some a → y ≡ Some a) → option_map f x ≡ Some b → option_map f y ≡ Some b
-mapped_by f None y b same h = absurd (none_is_some b h)
+mapped_by f None y b same h = absurd (none-some b h)
 mapped_by f (Some a) y b same h = ap (option_map f) (same a refl) ∙ h
 
 -- ---- what an operand is in the woven world
@@ -47,9 +47,9 @@ pub record Calls (number : ℕ) (ref : MemberRef) (u : World) (i : Instr) : Type
   pub is : i ≡ make id
 
 calls_by : (number : ℕ) (ref : MemberRef) (u : World) (i : Instr) (f : Option (MethodId → Instr)) (x : Option MethodId) → row method_instrs number ≡ f → method_found u ref ≡ x → applied f x ≡ Some i → Calls number ref u i
-calls_by number ref u i None x fr xr h = absurd (none_is_some i h)
-calls_by number ref u i (Some f) None fr xr h = absurd (none_is_some i h)
-calls_by number ref u i (Some f) (Some id) fr xr h = record { id = id; found = xr; make = f; row_is = fr; is = sym (some_same (f id) i h) }
+calls_by number ref u i None x fr xr h = absurd (none-some i h)
+calls_by number ref u i (Some f) None fr xr h = absurd (none-some i h)
+calls_by number ref u i (Some f) (Some id) fr xr h = record { id = id; found = xr; make = f; row_is = fr; is = sym (same_Some (f id) i h) }
 
 pub a_call : (number : ℕ) (ref : MemberRef) (u : World) (i : Instr) → instr_with u number (Some (AMethod ref)) ≡ Some i → Calls number ref u i
 a_call number ref u i h = calls_by number ref u i (row method_instrs number) (method_found u ref) refl refl h
@@ -71,11 +71,11 @@ AllRows P [] = Unit {0}
 AllRows P (r ∷ rs) = P r.0 r.1 × AllRows P rs
 
 row_by : {A : Type 0} (P : ℕ → A → Type 0) (r : ℕ × A) (rest : Option A) (number : ℕ) (a : A) → P r.0 r.1 → (rest ≡ Some a → P number a) → (b : Bool) → (r.0 == number) ≡ b → (if b then Some r.1 else rest) ≡ Some a → P number a
-row_by P r rest number a here later true is h = subst (P number) (some_same r.1 a h) (subst (λ n. P n r.1) (eqb-true r.0 number is) here)
+row_by P r rest number a here later true is h = subst (P number) (same_Some r.1 a h) (subst (λ n. P n r.1) (eqb-true r.0 number is) here)
 row_by P r rest number a here later false is h = later h
 
 pub row_all : {A : Type 0} (P : ℕ → A → Type 0) (table : List (ℕ × A)) → AllRows P table → (number : ℕ) (a : A) → row table number ≡ Some a → P number a
-row_all P [] all number a h = absurd (none_is_some a h)
+row_all P [] all number a h = absurd (none-some a h)
 row_all P (r ∷ rs) all number a h = row_by P r (row rs number) number a all.0 (row_all P rs all.1 number a) (r.0 == number) refl h
 
 row_pauses : (w : Program) (number : ℕ) (make : MethodId → Instr) → row method_instrs number ≡ Some make → Pausing w make

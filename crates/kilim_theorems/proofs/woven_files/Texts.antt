@@ -1,5 +1,6 @@
 -- Old classes and names of calls are the same in the larger pool.
 use Rattle.std.proofs.Common.{◌≡◌, ℕ, true, List, ◌++◌, Option, Some, refl, subst}
+use Rattle.std.proofs.lemmas.Option.{none-some, same_Some}
 use Rattle.kilim_class_pool.specs.declared.entry.Entry.{Entry}
 use Rattle.kilim_class_pool.specs.declared.entry.Entry.TheVariants as entry
 use Rattle.kilim_class_pool.specs.Entries.{entry_at, refers_well, is_member}
@@ -10,7 +11,6 @@ use Rattle.kilim_class_making.specs.declared.pool_needs.need.Need.TheVariants.{A
 use Rattle.kilim_theorems.specs.woven_files.pool.Pools.{RefersWell}
 use Rattle.kilim_weave_file_spec.specs.Raw.{call_need, call_by}
 use Rattle.kilim_weave_file_spec.specs.Texts.{woven_descriptor}
-use Rattle.kilim_class_making.proofs.pool_needs.Searching.{some_same, none_is_some}
 use Rattle.kilim_theorems.proofs.woven_files.pool.Naming.{ref_texts}
 use Rattle.kilim_theorems.specs.woven_files.Standing.{SameTexts}
 

@@ -1,6 +1,7 @@
 -- The class files of the demo are class files: no report is that of one that isn't.
 use Rattle.std.proofs.Common.{◌≡◌, inl, inr, ℕ, List, [], ◌∷◌, Option, Some, None, Result, Ok, Err, map, refl, ap, subst, ◌∙◌}
 use Rattle.std.specs.List.{AllByRecursion}
+use Rattle.kilim_lemmas.proofs.Options.{none_no_some}
 use Rattle.kilim_class_file.specs.declared.class_file.ClassFile.{ClassFile}
 use Rattle.kilim_class_file.specs.declared.fault.ClassFault.{ClassFault}
 use Rattle.kilim_class_file.specs.Law.{ClassFilesAreSpelled}
@@ -19,12 +20,9 @@ no_fault law (name ∷ names) [] fit = refl
 no_fault law (name ∷ names) (file ∷ files) fit =
     ap (λ (r : Result ClassFile ClassFault). or_fault name r (first_fault names (map class_text files))) (law.again file fit.0) ∙ no_fault law names files fit.1
 
-some_isnt : {A : Type 0} (x : A) (o : Option A) → o ≡ None → o ≡ Some x → ⊥
-some_isnt x o none some = cc
-
 unclassed : ClassFilesAreSpelled → (names texts : List (List ℕ)) (files : List ClassFile) (text : List ℕ) → AllByRecursion ClassFits files → texts ≡ map class_text files → IsClassReport names texts text → ⊥
 unclassed law names texts files text fit e report =
-    some_isnt (report.name, report.fault) (first_fault names texts) (ap (first_fault names) e ∙ no_fault law names files fit) report.first
+    none_no_some (report.name, report.fault) (first_fault names texts) (ap (first_fault names) e ∙ no_fault law names files fit) report.first
 
 pub reported : ClassFilesAreSpelled → (names : List (List ℕ)) (number : ℕ) (text : List ℕ) → AllByRecursion ClassFits (demo_of number) → IsWovenReport names (demo_texts number) text → IsDemoReport number text
 unfolding demo_texts

@@ -1,6 +1,7 @@
 -- The names of woven files are those of classes.
 use Rattle.std.proofs.Common.{◌≡◌, ℕ, suc, Bool, true, false, not, List, [], ◌∷◌, ◌++◌, length, Option, Some, None, refl, sym, ap, ◌∙◌, arith}
 use Rattle.std.specs.List.{AllByRecursion}
+use Rattle.std.proofs.lemmas.Option.{none-some}
 use Rattle.kilim_program.specs.declared.class.Class.{Class}
 use Rattle.kilim_program.specs.declared.class.Form.TheVariants.{Plain}
 use Rattle.kilim_program.specs.declared.names.ClassId.{ClassId}
@@ -32,12 +33,9 @@ record First {A : Type 0} (o : Option A) (os : Option (List A)) (cs : List A) : 
 same_list : {A : Type 0} (xs ys : List A) → Some xs ≡ Some ys → xs ≡ ys
 same_list xs ys e = cc
 
-none_is : {A : Type 0} (x : A) → None ≡ Some x → ⊥
-none_is x e = cc
-
 first_of : {A : Type 0} (o : Option A) (os : Option (List A)) (cs : List A) → with_first o os ≡ Some cs → First o os cs
-first_of None os cs e = absurd (none_is cs e)
-first_of (Some c) None cs e = absurd (none_is cs e)
+first_of None os cs e = absurd (none-some cs e)
+first_of (Some c) None cs e = absurd (none-some cs e)
 first_of (Some c) (Some ds) cs e = record { first = c; others = ds; is_first = refl; are_others = refl; are = sym (same_list (c ∷ ds) cs e) }
 
 same_name : (a b : Class) → Some a ≡ Some b → b.name ≡ a.name
@@ -47,7 +45,7 @@ same_name a b e = ap (λ (c : Class). c.name) (sym (same a b e))
     same a b e = cc
 
 named_so : (o : Option ClassId) (make : ClassId → Class) (name : List ℕ) (class : Class) → ((up : ClassId) → (make up).name ≡ name) → (o >>= (λ up. Some (make up))) ≡ Some class → class.name ≡ name
-named_so None make name class same e = absurd (none_is class e)
+named_so None make name class same e = absurd (none-some class e)
 named_so (Some up) make name class same e = same_name (make up) class e ∙ same up
 
 own_name_of : (w : World) (file : ClassFile) (c : ClassId) (class : Class) → linked_class w file c ≡ Some class → class.name ≡ own_name file

@@ -1,5 +1,6 @@
 -- No files are both woven and reported.
 use Rattle.std.proofs.Common.{◌≡◌, ℕ, List, [], ◌∷◌, Option, Some, None, Result, Ok, refl, sym, ap, subst, ◌∙◌, inl, inr}
+use Rattle.kilim_lemmas.proofs.Options.{none_no_some}
 use Rattle.kilim_program.specs.Program.{Program}
 use Rattle.kilim_class_file.specs.declared.class_file.ClassFile.{ClassFile}
 use Rattle.kilim_class_file.specs.declared.fault.ClassFault.{ClassFault}
@@ -16,9 +17,6 @@ well file = Ok file
 
 well_is : (f g : ClassFile) → well f ≡ well g → f ≡ g
 well_is f g e = cc
-
-none_some : {A : Type 0} (x : A) (o : Option A) → o ≡ None → o ≡ Some x → ⊥
-none_some x o p q = cc
 
 module _ (law : ClassFilesAreSpelled) where
   is_read : (bytes : List ℕ) (f : ClassFile) → IsFile bytes f → read_class bytes ≡ well f
@@ -43,4 +41,4 @@ module _ (law : ClassFilesAreSpelled) where
       let same = one files is.program report.program is.accepted.of_files report.accepted.of_files in
       let classes = same_classes files is.classes report.classes is.are_files report.are_files in
       let fit = subst (λ (q : Program). first_size_fault q is.classes ≡ None) same is.fit in
-      none_some (report.class, report.fault) (first_size_fault report.program report.classes) (subst (λ (cs : List ClassFile). first_size_fault report.program cs ≡ None) classes fit) report.first
+      none_no_some (report.class, report.fault) (first_size_fault report.program report.classes) (subst (λ (cs : List ClassFile). first_size_fault report.program cs ≡ None) classes fit) report.first

@@ -3,6 +3,7 @@ use Rattle.std.proofs.Common.{◌≡◌, ℕ, zero, suc, ◌+◌, ◌≤◌, Lis
 use Rattle.std.proofs.lemmas.List.{append_assoc, append-nil}
 use Rattle.std.specs.Prelude.{IfOk}
 use Rattle.std.specs.List.{AllByRecursion}
+use Rattle.std.proofs.lemmas.Option.{none-some, same_Some}
 use Rattle.kilim_program.specs.declared.class.Class.{Class}
 use Rattle.kilim_program.specs.declared.class.Method.{Method}
 use Rattle.kilim_program.specs.Program.{Program}
@@ -25,18 +26,12 @@ drop_end [] (suc i) le = refl
 drop_end (x ∷ xs) zero le = absurd (omega (arith, le))
 drop_end (x ∷ xs) (suc i) le = drop_end xs i (omega (arith, le))
 
-same_some : {A : Type 0} (x y : A) → Some x ≡ Some y → x ≡ y
-same_some x y e = cc
-
-none_some : {A : Type 0} (x : A) → None ≡ Some x → ⊥
-none_some x e = cc
-
 next : (i : ℕ) → suc i ≡ i + 1
 next i = omega arith
 
 drop_behind : {A : Type 0} (xs : List A) (i : ℕ) (x : A) → slice_get xs i ≡ Some x → drop i xs ≡ x ∷ drop (suc i) xs
-drop_behind [] i x e = absurd (none_some x e)
-drop_behind {A} (y ∷ xs) zero x e = ap (λ (z : A). z ∷ xs) (same_some y x e)
+drop_behind [] i x e = absurd (none-some x e)
+drop_behind {A} (y ∷ xs) zero x e = ap (λ (z : A). z ∷ xs) (same_Some y x e)
 drop_behind (y ∷ xs) (suc i) x e = drop_behind xs i x e
 
 pub drop_there : {A : Type 0} (xs : List A) (i : ℕ) (x : A) → slice_get xs i ≡ Some x → drop i xs ≡ x ∷ drop (i + 1) xs
@@ -51,8 +46,8 @@ module _ {A : Type 0} (P : A → Type 0) where
   one_more xs ys x is all here = subst (AllByRecursion P) (sym is) (one_more_of xs x all here)
 
   pub all_there : (xs : List A) (i : ℕ) (x : A) → AllByRecursion P xs → slice_get xs i ≡ Some x → P x
-  all_there [] i x all e = absurd (none_some x e)
-  all_there (y ∷ xs) zero x all e = subst P (same_some y x e) all.0
+  all_there [] i x all e = absurd (none-some x e)
+  all_there (y ∷ xs) zero x all e = subst P (same_Some y x e) all.0
   all_there (y ∷ xs) (suc i) x all e = all_there xs i x all.1 e
 
 -- ---- one class file, with its class and the methods that are left

@@ -1,6 +1,7 @@
 -- The files that are written.
 use Rattle.std.proofs.Common.{◌≡◌, ℕ, zero, suc, Bool, ◌+◌, ◌≤◌, List, [], ◌∷◌, ◌++◌, length, map, take, drop, slice_get, Some, None, Result, Ok, refl, sym, ap, subst, ◌∙◌, arith}
 use Rattle.std.specs.List.{AllByRecursion}
+use Rattle.std.proofs.lemmas.Option.{none-some, same_Some}
 use Rattle.kilim_program.specs.declared.class.Class.{Class}
 use Rattle.kilim_program.specs.declared.class.Form.TheVariants.{Woven}
 use Rattle.kilim_program.specs.declared.class.Method.{Method}
@@ -14,12 +15,6 @@ use Rattle.kilim_weave_file_command.specs.declared.woven_files.made.WovenFile.{W
 use Rattle.kilim_weave_file_command.specs.woven_files.Parts.{LinksBack}
 use Rattle.kilim_weave_file_command.specs.woven_files.WovenFiles.{AreOutputs, IsOutput, IsWovenProgramOf, woven_by}
 
-none_some : {A : Type 0} (x : A) → None ≡ Some x → ⊥
-none_some x e = cc
-
-same_some : {A : Type 0} (x y : A) → Some x ≡ Some y → x ≡ y
-same_some x y e = cc
-
 next : (i : ℕ) → suc i ≡ i + 1
 next i = omega arith
 
@@ -28,10 +23,10 @@ next i = omega arith
 module _ (p : Program) where
   more : (cs : List Class) (class : Class) (files : List ClassFile) (os : List WovenFile) (i : ℕ) (f : ClassFile) (o : WovenFile) → slice_get files i ≡ Some f → slice_get cs i ≡ Some class → AreOutputs p cs (take i files) os → IsOutput p class f o →
       AreOutputs p cs (take (suc i) files) (os ++ o ∷ [])
-  more cs class [] os i f o there class_there are is = absurd (none_some f there)
-  more [] class (g ∷ files) os i f o there class_there are is = absurd (none_some class class_there)
+  more cs class [] os i f o there class_there are is = absurd (none-some f there)
+  more [] class (g ∷ files) os i f o there class_there are is = absurd (none-some class class_there)
   more (c ∷ cs) class (g ∷ files) [] zero f o there class_there are is =
-      (subst (λ (x : ClassFile). IsOutput p c x o) (sym (same_some g f there)) (subst (λ (k : Class). IsOutput p k f o) (sym (same_some c class class_there)) is), tt)
+      (subst (λ (x : ClassFile). IsOutput p c x o) (sym (same_Some g f there)) (subst (λ (k : Class). IsOutput p k f o) (sym (same_Some c class class_there)) is), tt)
   more (c ∷ cs) class (g ∷ files) (q ∷ os) zero f o there class_there are is = absurd are
   more (c ∷ cs) class (g ∷ files) [] (suc i) f o there class_there are is = absurd are
   more (c ∷ cs) class (g ∷ files) (q ∷ os) (suc i) f o there class_there are is = (are.0, more cs class files os i f o there class_there are.1 is)

@@ -2,6 +2,8 @@
 use Rattle.std.proofs.Common.{◌≡◌, ℕ, zero, suc, Bool, true, not, List, [], ◌∷◌, Option, Some, map, slice_get, refl, sym, ap, subst, ◌∙◌}
 use Rattle.std.specs.Prelude.{◌&&◌, nat_lt}
 use Rattle.std.proofs.lemmas.Bool.{and_parts}
+use Rattle.std.proofs.lemmas.Option.{same_Some}
+use Rattle.kilim_lemmas.proofs.Lists.{map_at}
 use Rattle.kilim_program.specs.declared.class.Method.{Method}
 use Rattle.kilim_program.specs.declared.instr.Instr.{Instr}
 use Rattle.kilim_program.specs.declared.names.MethodId.{MethodId}
@@ -41,18 +43,10 @@ woven_by law p keeps id m at pausable calls live right r is =
 
 -- ---- frames
 
-map_at : {A B : Type 0} (f : A → B) (xs : List A) (k : ℕ) (x : A) → slice_get xs k ≡ Some x → slice_get (map f xs) k ≡ Some (f x)
-map_at f [] k x e = absurd (cc)
-map_at f (y ∷ xs) zero x e = let s : y ≡ x = cc in ap (λ z. Some (f z)) s
-map_at f (y ∷ xs) (suc k) x e = map_at f xs k x e
-
-some_is : {A : Type 0} (x y : A) → Some x ≡ Some y → x ≡ y
-some_is x y e = cc
-
 pub frames_are : TypedByPlace → (t : TypedProgram) → Keeps t.program → KeepsTyped t → (id : MethodId) (m : Method) → method_at t.program id ≡ Some m → has_code m ≡ true → (frames : List Frame) → slice_get t.frames id.0 ≡ Some frames → Listed t.program m frames
 frames_are law t keeps typed id m at code frames there = record {
   typed = subst (λ (o : Option Method). WellTypedBy t.program m (typing_in t.program o)) at (law t.program keeps typed.typed id m at code);
   are =
-      some_is frames (map (listed m) (frames_of t.program m))
+      same_Some frames (map (listed m) (frames_of t.program m))
       (sym there ∙ (ap (λ (fs : List (List Frame)). slice_get fs id.0) typed.frames ∙ map_at (λ (m : Method). map (listed m) (frames_of t.program m)) t.program.methods id.0 m at));
 }

@@ -1,8 +1,9 @@
 use Rattle.std.proofs.Common.{◌∙◌, ◌++◌, ap}
 use Rattle.std.proofs.lemmas.List.{take_all}
 use Rattle.std.specs.List.{flat_map}
+use Rattle.kilim_lemmas.proofs.Lists.{of_item}
 use Rattle.kilim_class_attributes.specs.Codes.{code_attribute_text, CodeAttributeIsSized}
-use Rattle.kilim_class_attributes.proofs.Writes.{behind, of_item}
+use Rattle.kilim_class_attributes.proofs.Writes.{behind}
 use Rattle.kilim_class_attributes.proofs.writing.push_code_attributes.Goals as goal
 
 pub loop-attribute-preserved : goal.loop-attribute-preserved

@@ -1,7 +1,7 @@
 use Rattle.std.proofs.Common.{get_or, refl}
 use Rattle.std.specs.List.{flat_map}
+use Rattle.kilim_lemmas.proofs.Walks.{ahead, all_made}
 use Rattle.kilim_class_builder.specs.Members.{all_parts, parameter_parts}
-use Rattle.kilim_class_builder.proofs.Loops.{ahead, all_made}
 use Rattle.kilim_class_builder.proofs.attributes.all_parts.Goals as goal
 
 pub loop-q-preserved : goal.loop-q-preserved

@@ -1,8 +1,8 @@
 use Rattle.std.proofs.Common.{ℕ, refl}
 use Rattle.std.specs.List.{flat_map}
+use Rattle.kilim_lemmas.proofs.Walks.{ahead, all_made}
 use Rattle.kilim_program.specs.declared.verified.Frame.{Frame}
 use Rattle.kilim_class_builder.specs.Frames.{frame_names, frames_names}
-use Rattle.kilim_class_builder.proofs.Loops.{ahead, all_made}
 use Rattle.kilim_class_builder.proofs.frames.frames_names.Goals as goal
 
 pub loop-entry-preserved : goal.loop-entry-preserved

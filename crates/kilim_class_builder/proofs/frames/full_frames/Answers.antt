@@ -1,9 +1,9 @@
 use Rattle.std.proofs.Common.{◌≡◌, ℕ, suc, ◌+◌, ◌-◌, ◌<◌, List, [], ◌∷◌, ◌++◌, length, get_or, drop, drop-cons, refl, sym, ap, ◌∙◌, add-one, append_assoc}
+use Rattle.kilim_lemmas.proofs.Walks.{all_made}
 use Rattle.kilim_class_attributes.specs.declared.parts.frame.Frame.{Frame as FrameForm}
 use Rattle.kilim_program.specs.declared.verified.Frame.{Frame}
 use Rattle.kilim_class_pool.specs.declared.entry.Entry.{Entry}
 use Rattle.kilim_class_builder.specs.Frames.{full_frame, full_frames}
-use Rattle.kilim_class_builder.proofs.Loops.{all_made}
 use Rattle.kilim_class_builder.proofs.frames.full_frames.Goals as goal
 
 -- the frames behind one more

@@ -1,7 +1,7 @@
 use Rattle.std.proofs.Common.{◌++◌, get_or, refl}
 use Rattle.std.specs.List.{flat_map}
+use Rattle.kilim_lemmas.proofs.Walks.{ahead, all_made}
 use Rattle.kilim_class_builder.specs.Frames.{array_names}
-use Rattle.kilim_class_builder.proofs.Loops.{ahead, all_made}
 use Rattle.kilim_class_builder.proofs.frames.push_arrays.Goals as goal
 
 pub loop-of-preserved : goal.loop-of-preserved

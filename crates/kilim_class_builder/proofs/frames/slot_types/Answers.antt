@@ -1,6 +1,7 @@
 use Rattle.std.proofs.Common.{get_or, map, refl}
+use Rattle.kilim_lemmas.proofs.Walks.{all_made}
 use Rattle.kilim_class_builder.specs.Frames.{slot_type}
-use Rattle.kilim_class_builder.proofs.Loops.{all_made, mapped_ahead}
+use Rattle.kilim_class_builder.proofs.Loops.{mapped_ahead}
 use Rattle.kilim_class_builder.proofs.frames.slot_types.Goals as goal
 
 pub loop-of-preserved : goal.loop-of-preserved

@@ -1,8 +1,8 @@
 use Rattle.std.proofs.Common.{◌+◌, ◌++◌, List, ap, drop, sym, ◌∙◌, arith, refl, false}
+use Rattle.kilim_lemmas.proofs.Lists.{drop_next}
+use Rattle.kilim_lemmas.proofs.Walks.{all_made}
 use Rattle.kilim_program.specs.declared.verified.VType.{VType}
 use Rattle.kilim_class_builder.specs.Frames.{written}
-use Rattle.kilim_class_builder.proofs.Lists.{drop_next}
-use Rattle.kilim_class_builder.proofs.Loops.{all_made}
 use Rattle.kilim_class_builder.proofs.frames.written.Goals as goal
 
 pub loop-index-preserved : goal.loop-index-preserved

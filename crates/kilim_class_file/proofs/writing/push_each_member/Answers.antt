@@ -1,9 +1,10 @@
 use Rattle.std.proofs.Common.{◌∙◌, ◌++◌, ap}
 use Rattle.std.proofs.lemmas.List.{take_all}
 use Rattle.std.specs.List.{flat_map}
+use Rattle.kilim_lemmas.proofs.Lists.{of_item}
 use Rattle.kilim_class_file.specs.Text.{member_text}
 use Rattle.kilim_class_file.specs.Writing.{MemberIsSized}
-use Rattle.kilim_class_file.proofs.Loops.{behind, of_item}
+use Rattle.kilim_class_file.proofs.Loops.{behind}
 use Rattle.kilim_class_file.proofs.writing.push_each_member.Goals as goal
 
 pub loop-member-preserved : goal.loop-member-preserved

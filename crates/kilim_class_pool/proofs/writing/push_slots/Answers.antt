@@ -1,7 +1,7 @@
 use Rattle.std.proofs.Common.{◌++◌}
 use Rattle.std.specs.List.{flat_map}
+use Rattle.kilim_lemmas.proofs.Walks.{ahead, all_ahead}
 use Rattle.kilim_class_pool.specs.Slots.{slot_text}
-use Rattle.kilim_class_pool.proofs.Loops.{ahead, all_ahead}
 use Rattle.kilim_class_pool.proofs.writing.push_slots.Goals as goal
 
 pub loop-slot-preserved : goal.loop-slot-preserved

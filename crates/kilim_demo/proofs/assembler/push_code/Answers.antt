@@ -1,6 +1,6 @@
 use Rattle.std.proofs.Common.{◌++◌, get_or, refl}
+use Rattle.kilim_lemmas.proofs.Walks.{ahead, all_made}
 use Rattle.kilim_demo.specs.Assembler.{bytes_of, code_of}
-use Rattle.kilim_demo.proofs.Loops.{ahead, all_made}
 use Rattle.kilim_demo.proofs.assembler.push_code.Goals as goal
 
 pub loop-op-preserved : goal.loop-op-preserved

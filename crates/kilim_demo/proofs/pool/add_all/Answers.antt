@@ -1,7 +1,8 @@
 use Rattle.std.proofs.Common.{List, ◌++◌, get_or, map, refl}
+use Rattle.kilim_lemmas.proofs.Walks.{all_made}
 use Rattle.kilim_demo.specs.declared.pool.Constant.{Constant}
 use Rattle.kilim_demo.specs.Constants.{entry_of}
-use Rattle.kilim_demo.proofs.Loops.{all_made, mapped_ahead}
+use Rattle.kilim_demo.proofs.Loops.{mapped_ahead}
 use Rattle.kilim_demo.proofs.pool.add_all.Goals as goal
 
 pub loop-constant-preserved : goal.loop-constant-preserved

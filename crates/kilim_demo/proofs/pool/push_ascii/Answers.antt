@@ -1,5 +1,6 @@
 use Rattle.std.proofs.Common.{List, ℕ, ◌++◌, refl}
-use Rattle.kilim_demo.proofs.Loops.{all_made, copied_ahead}
+use Rattle.kilim_lemmas.proofs.Walks.{all_made}
+use Rattle.kilim_demo.proofs.Loops.{copied_ahead}
 use Rattle.kilim_demo.proofs.pool.push_ascii.Goals as goal
 
 pub loop-byte-preserved : goal.loop-byte-preserved

@@ -1,6 +1,7 @@
 -- How many entries are added: each is new, so there are no more of them than those that may be needed.
 use Rattle.std.proofs.Common.{◌≡◌, ◌⊎◌, inl, inr, ℕ, zero, suc, ◌+◌, ◌≤◌, Bool, true, false, cond, List, [], ◌∷◌, ◌++◌, length, Option, Some, None, option_map, refl, sym, ap, subst, ◌∙◌, arith}
 use Rattle.std.specs.List.{AllByRecursion, position_from}
+use Rattle.std.proofs.lemmas.Option.{none-some}
 use Rattle.kilim_class_pool.specs.declared.entry.Entry.{Entry}
 use Rattle.kilim_class_pool.specs.declared.entry.Entry.TheVariants.{Utf8, Class, NameAndType, Methodref}
 use Rattle.kilim_class_pool.specs.Entries.{slots_of, slots_of_entry, slot, entry_at, count_of, width_of}
@@ -11,7 +12,7 @@ use Rattle.kilim_class_making.specs.declared.pool_needs.need.Need.TheVariants.{A
 use Rattle.kilim_class_making.specs.pool_needs.Adding.{Test, found, is_text, is_class_of, is_pair, is_ref, text_index, class_index, pair_index, index_or_none, unless_found, with_text, with_pair, with_ref, with_class, class_added, class_behind, with_member, with_call, with_method, with_need, with_needs}
 use Rattle.kilim_theorems.specs.woven_files.pool.Pools.{ClassesAreNamed, In, CoversMember, CoversCall, CoversClass, Covers}
 use Rattle.std.proofs.lemmas.List.{append_assoc}
-use Rattle.kilim_class_making.proofs.pool_needs.Searching.{none_is_some, stays, found_passes, found_stays}
+use Rattle.kilim_class_making.proofs.pool_needs.Searching.{stays, found_passes, found_stays}
 use Rattle.kilim_theorems.proofs.woven_files.pool.Growing.{Grown, bytes_same, both_same, text_added, pair_added, ref_added, member_added, call_added, class_is_added, need_added, needs_added, class_stays}
 
 -- ---- lists without repetition
@@ -89,21 +90,21 @@ added_count old pool2 added2 (Adding pool added e a plain) =
 -- ---- what isn't found isn't there
 
 none_by : (t : Test) (n : ℕ) (x : Option Entry) (xs : List (Option Entry)) → (b : Bool) → t x ≡ b → cond b (Some n) (position_from t (n + 1) xs) ≡ None → (t x ≡ false) × (position_from t (n + 1) xs ≡ None)
-none_by t n x xs true is h = absurd (none_is_some n (sym h))
+none_by t n x xs true is h = absurd (none-some n (sym h))
 none_by t n x xs false is h = (is, h)
 
 position_none : (t : Test) (n : ℕ) (xs : List (Option Entry)) (k : ℕ) (e : Entry) → position_from t n xs ≡ None → slot xs k ≡ Some e → t (Some e) ≡ true → ⊥
-position_none t n [] k e none there passes = none_is_some e there
+position_none t n [] k e none there passes = none-some e there
 position_none t n (x ∷ xs) zero e none there passes = let p = none_by t n x xs (t x) refl none in let c : false ≡ true = sym p.0 ∙ (ap t there ∙ passes) in absurd (cc)
 position_none t n (x ∷ xs) (suc k) e none there passes = position_none t (n + 1) xs k e (none_by t n x xs (t x) refl none).1 there passes
 
 mapped_none : (o : Option ℕ) → option_map suc o ≡ None → o ≡ None
 mapped_none None h = refl
-mapped_none (Some n) h = absurd (none_is_some (suc n) (sym h))
+mapped_none (Some n) h = absurd (none-some (suc n) (sym h))
 
 not_found : (test : Test) (pool : List Entry) (index : ℕ) (e : Entry) → found test pool ≡ None → entry_at pool index ≡ Some e → test (Some e) ≡ true → ⊥
 unfolding found
-not_found test pool zero e none there passes = none_is_some e there
+not_found test pool zero e none there passes = none-some e there
 not_found test pool (suc k) e none there passes = position_none test 0 (slots_of pool) k e (mapped_none (position_from test 0 (slots_of pool)) none) there passes
 
 -- ---- counted additions

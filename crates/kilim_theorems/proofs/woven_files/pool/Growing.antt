@@ -4,6 +4,8 @@ use Rattle.std.specs.List.{AllByRecursion}
 use Rattle.std.proofs.lemmas.Bool.{and_parts}
 use Rattle.std.proofs.lemmas.List.{append-nil, append_assoc}
 use Rattle.std.proofs.lemmas.Slice.Eq.{bytes_eq-Decides}
+use Rattle.std.proofs.lemmas.Option.{none-some, same_Some}
+use Rattle.kilim_lemmas.proofs.Texts.{text_is}
 use Rattle.kilim_class_pool.specs.declared.entry.Entry.{Entry}
 use Rattle.kilim_class_pool.specs.declared.entry.Entry.TheVariants.{Utf8, Class, Methodref, NameAndType}
 use Rattle.kilim_class_pool.specs.Entries.{slots_of, slots_of_entry, slot, entry_at}
@@ -12,15 +14,12 @@ use Rattle.kilim_class_making.specs.declared.pool_needs.need.Need.{Need}
 use Rattle.kilim_class_making.specs.declared.pool_needs.need.Need.TheVariants.{AText, AClass, AMethod, ACall}
 use Rattle.kilim_class_making.specs.pool_needs.Adding.{Test, found, is_text, is_class_of, is_pair, is_ref, text_index, class_index, pair_index, index_or_none, unless_found, with_text, with_pair, with_ref, with_class, class_added, class_behind, with_member, with_call, with_method, with_need, with_needs}
 use Rattle.kilim_theorems.specs.woven_files.pool.Pools.{ClassesAreNamed}
-use Rattle.kilim_class_making.proofs.pool_needs.Searching.{some_same, none_is_some, stays, found_passes, found_stays, found_same, found_last}
+use Rattle.kilim_class_making.proofs.pool_needs.Searching.{stays, found_passes, found_stays, found_same, found_last}
 
 -- ---- what passes
 
-text_same : (xs ys : List ℕ) → bytes_eq xs ys ≡ true → xs ≡ ys
-text_same xs ys e = (bytes_eq-Decides xs ys).0 e
-
 pub is_the_text : (units : List ℕ) (o : Option Entry) → is_text units o ≡ true → o ≡ Some (Utf8 units)
-is_the_text units (Some (Utf8 other)) e = ap (λ (us : List ℕ). Some (Utf8 us)) (text_same other units e)
+is_the_text units (Some (Utf8 other)) e = ap (λ (us : List ℕ). Some (Utf8 us)) (text_is other units e)
 is_the_text units _ e = absurd (cc)
 
 pub is_the_pair : (name descriptor : ℕ) (o : Option Entry) → is_pair name descriptor o ≡ true → o ≡ Some (NameAndType name descriptor)
@@ -61,8 +60,8 @@ class_stays old more name index named h =
 -- ---- classes stay named
 
 one_more : (old : List Entry) (e : Entry) (xs : List (Option Entry)) (k : ℕ) (x : Entry) → slot (xs ++ Some e ∷ []) k ≡ Some x → (slot xs k ≡ Some x) ⊎ (x ≡ e)
-one_more old e [] zero x h = inr (sym (some_same e x h))
-one_more old e [] (suc k) x h = absurd (none_is_some x h)
+one_more old e [] zero x h = inr (sym (same_Some e x h))
+one_more old e [] (suc k) x h = absurd (none-some x h)
 one_more old e (y ∷ xs) zero x h = inl h
 one_more old e (y ∷ xs) (suc k) x h = one_more old e xs k x h
 

@@ -2,6 +2,7 @@
 use Rattle.std.proofs.Common.{◌≡◌, ℕ, Bool, true, false, ◌&&◌, ◌||◌, ◌==◌, if◌then◌else◌, List, [], ◌∷◌, ◌++◌, Option, Some, None, option_map, refl, sym, ap, subst, ◌∙◌}
 use Rattle.std.specs.List.{AllByRecursion}
 use Rattle.std.proofs.lemmas.Bool.{and_parts}
+use Rattle.std.proofs.lemmas.Option.{none-some}
 use Rattle.kilim_class_pool.specs.declared.entry.Entry.{Entry}
 use Rattle.kilim_class_pool.specs.declared.entry.Entry.TheVariants.{Utf8, Integer, Float, Long, Double, Class, String, Fieldref, Methodref, InterfaceMethodref, NameAndType, MethodHandle, MethodType, InvokeDynamic}
 use Rattle.kilim_class_pool.specs.Entries.{entry_at, is_utf8, is_class, is_name_and_type, is_member, refers_well}
@@ -19,7 +20,7 @@ use Rattle.kilim_class_making.specs.declared.pool_needs.need.Need.{Need}
 use Rattle.kilim_class_making.specs.declared.pool_needs.need.Need.TheVariants.{AText, AClass, AMethod, ACall}
 use Rattle.kilim_class_making.specs.pool_needs.Adding.{found, is_text, is_class_of, is_pair, is_ref, text_index, class_index, pair_index, ref_index, member_index, index_or_none, with_needs}
 use Rattle.kilim_theorems.specs.woven_files.pool.Pools.{ClassesAreNamed, Names, PoolGrows, RefersWell, SameOperands}
-use Rattle.kilim_class_making.proofs.pool_needs.Searching.{none_is_some, stays, found_passes}
+use Rattle.kilim_class_making.proofs.pool_needs.Searching.{stays, found_passes}
 use Rattle.kilim_theorems.proofs.woven_files.pool.Growing.{is_the_text, is_the_pair, is_the_ref, is_the_class, Has, HasAll, HasMember, HasCall, needs_added}
 
 text_is : (pool : List Entry) (units : List ℕ) (index : ℕ) → found (is_text units) pool ≡ Some index → entry_at pool (text_index pool units) ≡ Some (Utf8 units)
@@ -175,7 +176,7 @@ operand_stays old more number (MethodType n) well h = refl
 operand_stays old more number (InvokeDynamic b n) well h = refl
 
 operand_at_stays : (old more : List Entry) (number index : ℕ) (o : Option Entry) → RefersWell old → entry_at old index ≡ o → (x : Operand) → index_operand old number o ≡ Some x → index_operand (old ++ more) number (entry_at (old ++ more) index) ≡ Some x
-operand_at_stays old more number index None well is x h = absurd (none_is_some x (sym (no_operand old number) ∙ h))
+operand_at_stays old more number index None well is x h = absurd (none-some x (sym (no_operand old number) ∙ h))
 operand_at_stays old more number index (Some e) well is x h =
     ap (index_operand (old ++ more) number) (stays old more index e is) ∙ (operand_stays old more number e well (well index e is) ∙ h)
 

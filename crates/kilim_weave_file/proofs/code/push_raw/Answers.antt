@@ -1,11 +1,12 @@
 use Rattle.std.proofs.Common.{◌≡◌, ℕ, Bool, true, false, List, [], ◌∷◌, ◌++◌, refl, ap, ◌∙◌}
 use Rattle.std.specs.Borrow.{Bor}
+use Rattle.kilim_lemmas.proofs.Walks.{all_made}
 use Rattle.kilim_class_code.specs.Code.{Placed}
 use Rattle.kilim_program.specs.declared.instr.Instr.{Instr}
 use Rattle.kilim_program.specs.Program.{Program}
 use Rattle.kilim_class_pool.specs.declared.entry.Entry.{Entry}
 use Rattle.kilim_weave_file_spec.specs.Raw.{added_raw, moved_raw, raw_code}
-use Rattle.kilim_weave_file.proofs.Loops.{of_added, of_old, all_made}
+use Rattle.kilim_weave_file.proofs.Loops.{of_added, of_old}
 use Rattle.kilim_weave_file.proofs.code.push_raw.Goals as goal
 use Rattle.kilim_weave_file.proofs.code.push_raw.Goals.{then-mark+in-len1-up-rest+in-Ok, else-mark+in-Ok-push_added}
 

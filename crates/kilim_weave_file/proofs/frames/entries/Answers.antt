@@ -1,10 +1,10 @@
 use Rattle.std.proofs.Common.{◌≡◌, ℕ, ◌+◌, ◌≤◌, Bool, List, [], ◌++◌, length, ap, drop, sym, ◌∙◌, arith}
 use Rattle.std.proofs.lemmas.List.{append-nil, length-drop, nil_from_length}
+use Rattle.kilim_lemmas.proofs.Lists.{drop_next}
 use Rattle.kilim_program.specs.declared.verified.VType.{VType}
 use Rattle.kilim_weave_file.specs.Parts.{entries_from}
 use Rattle.kilim_weave_file_spec.specs.FullFrames.{entries}
 use Rattle.kilim_weave_file.proofs.Entries.{entries_are}
-use Rattle.kilim_weave_file.proofs.Lists.{drop_next}
 use Rattle.kilim_weave_file.proofs.frames.entries.Goals as goal
 
 pub loop-index-preserved : goal.loop-index-preserved

@@ -1,10 +1,10 @@
 use Rattle.std.proofs.Common.{◌≡◌, ℕ, suc, ◌+◌, ◌-◌, ◌<◌, List, [], ◌∷◌, ◌++◌, length, get_or, drop, drop-cons, sym, ap, ◌∙◌, add-one, append_assoc, refl}
+use Rattle.kilim_lemmas.proofs.Walks.{all_made}
 use Rattle.kilim_class_attributes.specs.declared.parts.frame.Frame.{Frame as FrameForm}
 use Rattle.kilim_program.specs.declared.verified.Frame.{Frame}
 use Rattle.kilim_program.specs.Program.{Program}
 use Rattle.kilim_class_pool.specs.declared.entry.Entry.{Entry}
 use Rattle.kilim_weave_file_spec.specs.FullFrames.{full_frame, full_frames}
-use Rattle.kilim_weave_file.proofs.Loops.{all_made}
 use Rattle.kilim_weave_file.proofs.frames.full_frames.Goals as goal
 
 -- the frames behind one more

@@ -1,6 +1,7 @@
 use Rattle.std.proofs.Common.{get_or, map, refl}
+use Rattle.kilim_lemmas.proofs.Walks.{all_made}
 use Rattle.kilim_weave_file_spec.specs.FullFrames.{slot_type}
-use Rattle.kilim_weave_file.proofs.Loops.{mapped_ahead, all_made}
+use Rattle.kilim_weave_file.proofs.Loops.{mapped_ahead}
 use Rattle.kilim_weave_file.proofs.frames.slot_types.Goals as goal
 
 pub loop-of-preserved : goal.loop-of-preserved

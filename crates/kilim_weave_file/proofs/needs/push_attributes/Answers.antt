@@ -1,8 +1,8 @@
 use Rattle.std.proofs.Common.{◌++◌, refl}
 use Rattle.std.specs.List.{flat_map}
+use Rattle.kilim_lemmas.proofs.Walks.{ahead, all_made}
 use Rattle.kilim_class_attributes.specs.declared.attribute.Attribute.{Attribute}
 use Rattle.kilim_weave_file_spec.specs.WovenFile.{info_needs}
-use Rattle.kilim_weave_file.proofs.Loops.{ahead, all_made}
 use Rattle.kilim_weave_file.proofs.needs.push_attributes.Goals as goal
 
 pub loop-attribute-preserved : goal.loop-attribute-preserved

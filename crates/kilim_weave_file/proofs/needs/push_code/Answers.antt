@@ -1,10 +1,11 @@
 use Rattle.std.proofs.Common.{ℕ, List, ◌++◌, refl, ap, ◌∙◌}
 use Rattle.std.specs.Borrow.{Bor}
+use Rattle.kilim_lemmas.proofs.Walks.{all_made}
 use Rattle.kilim_class_code.specs.Code.{Placed}
 use Rattle.kilim_program.specs.declared.instr.Instr.{Instr}
 use Rattle.kilim_class_making.specs.declared.pool_needs.need.Need.{Need}
 use Rattle.kilim_weave_file_spec.specs.Raw.{added_need, code_needs, listed, old_need}
-use Rattle.kilim_weave_file.proofs.Loops.{of_added, of_old, all_made}
+use Rattle.kilim_weave_file.proofs.Loops.{of_added, of_old}
 use Rattle.kilim_weave_file.proofs.needs.push_code.Goals as goal
 use Rattle.kilim_weave_file.proofs.needs.push_code.Goals.{then-mark+in-len1-up-rest+in-Ok, else-mark+in-Ok-push_added}
 

@@ -1,8 +1,8 @@
 use Rattle.std.proofs.Common.{ℕ, ◌++◌, refl}
 use Rattle.std.specs.List.{flat_map}
+use Rattle.kilim_lemmas.proofs.Walks.{ahead, all_made}
 use Rattle.kilim_program.specs.declared.verified.Frame.{Frame}
 use Rattle.kilim_weave_file_spec.specs.FullFrames.{frame_needs}
-use Rattle.kilim_weave_file.proofs.Loops.{ahead, all_made}
 use Rattle.kilim_weave_file.proofs.needs.push_frames.Goals as goal
 
 pub loop-entry-preserved : goal.loop-entry-preserved

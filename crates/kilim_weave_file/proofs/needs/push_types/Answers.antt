@@ -1,7 +1,7 @@
 use Rattle.std.proofs.Common.{◌++◌, get_or, refl}
 use Rattle.std.specs.List.{flat_map}
+use Rattle.kilim_lemmas.proofs.Walks.{ahead, all_made}
 use Rattle.kilim_weave_file_spec.specs.FullFrames.{type_needs}
-use Rattle.kilim_weave_file.proofs.Loops.{ahead, all_made}
 use Rattle.kilim_weave_file.proofs.needs.push_types.Goals as goal
 
 pub loop-ty-preserved : goal.loop-ty-preserved

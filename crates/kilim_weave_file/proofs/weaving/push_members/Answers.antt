@@ -1,8 +1,9 @@
 use Rattle.std.proofs.Common.{◌<◌, ◌++◌, List, drop, length, get_or, ap, subst, ◌∙◌, ◌≤◌, refl}
 use Rattle.std.specs.List.{flat_map}
+use Rattle.kilim_lemmas.proofs.Walks.{all_made}
 use Rattle.kilim_class_file.specs.declared.class_file.MemberInfo.{MemberInfo}
 use Rattle.kilim_weave_file_spec.specs.WovenFile.{member_needs, pairs_of}
-use Rattle.kilim_weave_file.proofs.Loops.{no_counted, no_plain, no_woven, paired, all_made}
+use Rattle.kilim_weave_file.proofs.Loops.{no_counted, no_plain, no_woven, paired}
 use Rattle.kilim_weave_file.proofs.weaving.push_members.Goals as goal
 
 pub loop-info-preserved : goal.loop-info-preserved

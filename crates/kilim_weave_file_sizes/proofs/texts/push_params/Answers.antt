@@ -1,7 +1,7 @@
 use Rattle.std.proofs.Common.{◌++◌}
 use Rattle.std.specs.List.{flat_map}
+use Rattle.kilim_lemmas.proofs.Walks.{ahead, all_ahead}
 use Rattle.kilim_class_descriptors.specs.Text.{field_text}
-use Rattle.kilim_weave_file_sizes.proofs.Loops.{ahead, all_ahead}
 use Rattle.kilim_weave_file_sizes.proofs.texts.push_params.Goals as goal
 
 pub loop-field-preserved : goal.loop-field-preserved

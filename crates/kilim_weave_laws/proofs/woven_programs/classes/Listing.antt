@@ -12,10 +12,6 @@ pub all_joined : {A : Type 0} (test : A → Bool) (xs ys : List A) → list_all 
 all_joined test [] ys a b = b
 all_joined test (x ∷ xs) ys a b = let p = and_parts (test x) (list_all test xs) a in and_from (test x) _ p.0 (all_joined test xs ys p.1 b)
 
-pub all_kept : {A : Type 0} (f g : A → Bool) → ((x : A) → f x ≡ true → g x ≡ true) → (xs : List A) → list_all f xs ≡ true → list_all g xs ≡ true
-all_kept f g k [] e = refl
-all_kept f g k (x ∷ xs) e = let p = and_parts (f x) (list_all f xs) e in and_from (g x) _ (k x p.0) (all_kept f g k xs p.1)
-
 pub none_joined : {A : Type 0} (test : A → Bool) (xs ys : List A) → list_any test xs ≡ false → list_any test ys ≡ false → list_any test (xs ++ ys) ≡ false
 none_joined test [] ys a b = b
 none_joined test (x ∷ xs) ys a b = let p = or_parts (test x) (list_any test xs) a in or_from (test x) _ p.0 (none_joined test xs ys p.1 b)

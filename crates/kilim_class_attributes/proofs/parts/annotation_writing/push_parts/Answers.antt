@@ -1,6 +1,6 @@
 use Rattle.std.proofs.Common.{◌++◌, get_or, refl, ◌∙◌, ap}
+use Rattle.kilim_lemmas.proofs.Walks.{ahead, all_ahead}
 use Rattle.kilim_class_attributes.specs.parts.Annotations.{part_text, parts_text}
-use Rattle.kilim_class_attributes.proofs.parts.Loops.{ahead, all_ahead}
 use Rattle.kilim_class_attributes.proofs.parts.annotation_writing.push_parts.Goals as goal
 
 pub loop-part-preserved : goal.loop-part-preserved

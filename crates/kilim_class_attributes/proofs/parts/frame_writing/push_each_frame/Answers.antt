@@ -1,7 +1,8 @@
 use Rattle.std.proofs.Common.{◌++◌}
 use Rattle.std.specs.List.{flat_map}
+use Rattle.kilim_lemmas.proofs.Lists.{of_item}
+use Rattle.kilim_lemmas.proofs.Walks.{ahead, all_ahead}
 use Rattle.kilim_class_attributes.specs.parts.Frames.{FrameIsSized, frame_text}
-use Rattle.kilim_class_attributes.proofs.parts.Loops.{ahead, all_ahead, of_item}
 use Rattle.kilim_class_attributes.proofs.parts.frame_writing.push_each_frame.Goals as goal
 
 pub loop-frame-preserved : goal.loop-frame-preserved

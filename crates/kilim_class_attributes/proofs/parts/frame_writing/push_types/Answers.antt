@@ -1,6 +1,6 @@
 use Rattle.std.proofs.Common.{◌++◌, get_or, refl}
+use Rattle.kilim_lemmas.proofs.Walks.{ahead, all_ahead}
 use Rattle.kilim_class_attributes.specs.parts.Frames.{type_text, types_text}
-use Rattle.kilim_class_attributes.proofs.parts.Loops.{ahead, all_ahead}
 use Rattle.kilim_class_attributes.proofs.parts.frame_writing.push_types.Goals as goal
 
 pub loop-item-preserved : goal.loop-item-preserved
