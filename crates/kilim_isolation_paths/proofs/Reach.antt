@@ -36,6 +36,11 @@ pub stays : {S : Type 0} (m : Machine S) (es : List (Reached S)) → ((p q : ℕ
 stays m es c [] p s q t h d = subst (λ (x : ℕ). Has (states_at x es) t) d.0 (subst (λ (x : _). Has (states_at p es) x) d.1 h)
 stays m es c (n ∷ rest) p s q t h d = stays m es c rest n d.0 q t (c p n s d.0 h d.1 d.2) d.3
 
+pub states-push : {S : Type 0} (q : ℕ) (es : List (Reached S)) (e : Reached S) → states_at q (es ++ e ∷ []) ≡ cond (nat_eq e.place q) (states_at q es ++ e.state ∷ []) (states_at q es)
+states-push q [] e = refl
+states-push q (x ∷ es) e = elim (nat_eq x.place q) as (λ b. cond b (x.state ∷ states_at q (es ++ e ∷ [])) (states_at q (es ++ e ∷ [])) ≡ cond (nat_eq e.place q) (cond b (x.state ∷ states_at q es) (states_at q es) ++ e.state ∷ []) (cond b (x.state ∷ states_at q es) (states_at q es))) [
+  | true ↦ elim (nat_eq e.place q) as (λ c. (states_at q (es ++ e ∷ []) ≡ cond c (states_at q es ++ e.state ∷ []) (states_at q es)) → (x.state ∷ states_at q (es ++ e ∷ [])) ≡ cond c ((x.state ∷ states_at q es) ++ e.state ∷ []) (x.state ∷ states_at q es)) [ true ↦ λ r. ap (λ ss. x.state ∷ ss) r | false ↦ λ r. ap (λ ss. x.state ∷ ss) r ] (states-push q es e)
+  | false ↦ states-push q es e
 ]
 
 -- how many entries stand at the places below n

@@ -67,6 +67,12 @@ root_keeps roots c made = record { count = set_length roots c.0 made; made = λ 
 pub root_makes : (roots : List (Option ℕ)) (c : ClassId) (made : ℕ) → c.0 < length roots → is_some (root_at (slice_set roots c.0 (Some made)) c) ≡ true
 root_makes roots c made lt = set_makes roots c.0 made lt
 
+pub keeps_all : (a b c : List (Option ℕ)) → Keeps a b → Keeps b c → Keeps a c
+keeps_all a b c ab bc = record { count = bc.count ∙ ab.count; made = λ d is. bc.made d (ab.made d is) }
+
+pub keeps_same : (a : List (Option ℕ)) → Keeps a a
+keeps_same a = record { count = refl; made = λ d is. is }
+
 -- ---- what is put onto a base
 
 module _ (ups : List (Option ClassId)) (entries : List (List Entry)) (fit : length entries ≤ length ups) where
@@ -134,6 +140,17 @@ module _ (ups : List (Option ClassId)) (entries : List (List Entry)) (fit : leng
           ];
     }
 
+first_inside : (i : ℕ) → ChildrenWithin 1 (slice_get (Empty ∷ []) i)
+first_inside zero = tt
+first_inside (suc i) = tt
+
+-- before any tree is made
+pub sound_first : (ups : List (Option ClassId)) (entries : List (List Entry)) (nodes : List Node) (roots : List (Option ℕ)) → nodes ≡ Empty ∷ [] → ((c : ClassId) → root_at roots c ≡ None) → Sound ups entries nodes roots
+sound_first ups entries nodes roots is none = record {
+  table = subst IsTable (sym is) (record { begins = refl; inside = first_inside });
+  inside = λ c root e. absurd (let n = none c in cc);
+  values = λ c root e k. absurd (let n = none c in cc);
+  fits = λ c root e k le. absurd (let n = none c in cc);
 }
 
 -- what has something is a key

@@ -24,6 +24,9 @@ at_node nodes (suc levels) tree k = refl
 pub at_known : (nodes : List Node) (levels tree k : ℕ) (found : Option Node) → slice_get nodes tree ≡ found → value_at nodes levels tree k ≡ value_by (below_at nodes levels) found k
 at_known nodes levels tree k found is = at_node nodes levels tree k ∙ ap (λ (o : Option Node). value_by (below_at nodes levels) o k) is
 
+pub only_none : (key k : ℕ) → only_at key None k ≡ None
+only_none key k = elim (cases_Bool (key == k)) [ inl is ↦ rw is refl | inr isnt ↦ rw isnt refl ]
+
 -- the empty tree has nothing
 pub empty_has : (nodes : List Node) → IsTable nodes → (levels k : ℕ) → value_at nodes levels 0 k ≡ None
 empty_has nodes table levels k = at_known nodes levels 0 k (Some Empty) table.begins
@@ -53,6 +56,10 @@ makes_empty : (old : List Node) → IsTable old → Makes old old 0
 makes_empty [] table = absurd (let e = table.begins in cc)
 makes_empty (x ∷ xs) table = record { table = table; grown = grows_none (x ∷ xs); inside = omega arith }
 
+pub leaf_none : (old : List Node) (key : ℕ) → IsTable old → Makes old old 0 × HasOnly old 0 key None
+leaf_none old key table =
+    (makes_empty old table, λ levels k. empty_has old table levels k ∙ sym (only_none key k))
+
 -- one branch more
 pub branch_more : (old new : List Node) (even odd at : ℕ) → new ≡ old ++ Branch even odd ∷ [] → at ≡ length old → IsTable old → even < length old → odd < length old → Makes old new at × Joins old new even odd at
 branch_more old new even odd at is place table e o = (
@@ -65,7 +72,24 @@ branch_more old new even odd at is place table e o = (
 side_same : (tree k : ℕ) → side tree tree k ≡ tree
 side_same tree k = elim (cases_Bool (k % 2 == 0)) [ inl is ↦ rw is refl | inr isnt ↦ rw isnt refl ]
 
+pub branch_none : (old : List Node) → IsTable old → Makes old old 0 × Joins old old 0 0 0
+branch_none old table = (
+  makes_empty old table,
+  λ levels k.
+      empty_has old table (suc levels) k
+      ∙ sym (ap (λ (t : ℕ). value_at old levels t (k / 2)) (side_same 0 k) ∙ empty_has old table levels (k / 2)),
 )
+
+pub alone_none : (nodes : List Node) (tree key : ℕ) → slice_get nodes tree ≡ None → IsAlone nodes tree key
+alone_none nodes tree key is levels k differ = at_known nodes levels tree k None is
+
+pub alone_empty : (nodes : List Node) (tree key : ℕ) → slice_get nodes tree ≡ Some Empty → IsAlone nodes tree key
+alone_empty nodes tree key is levels k differ = at_known nodes levels tree k (Some Empty) is
+
+pub alone_leaf : (nodes : List Node) (tree key rest value : ℕ) → slice_get nodes tree ≡ Some (Leaf rest value) → rest ≡ key → IsAlone nodes tree key
+alone_leaf nodes tree key rest value is same levels k differ =
+    let other : (rest == k) ≡ false = ap (λ (n : ℕ). n == k) same ∙ differ in
+    at_known nodes levels tree k (Some (Leaf rest value)) is ∙ rw other refl
 
 pub side_even : (even odd k : ℕ) → (k % 2 == 0) ≡ true → side even odd k ≡ even
 side_even even odd k is = rw is refl

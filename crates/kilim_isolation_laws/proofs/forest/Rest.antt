@@ -13,6 +13,20 @@ use Rattle.kilim_isolation_laws.proofs.forest.Grow.{more_back}
 abbrev pub keeper : ℕ → Named
 keeper o = record { node = λ n. record { region = 0; standing = pick (eqb n 0) Safe Gone; head = false; parent = None }; at = λ n. Some o }
 
+pub no_parent_here : (p : ℕ × Label) → None ≡ Some p → ⊥
+no_parent_here p e = cc
+
+pub safe_no_root : (b : Bool) → pick b Safe Gone ≡ Root → ⊥
+safe_no_root true e = cc
+safe_no_root false e = cc
+
+pub keeper_relates : (IsPlace : ℕ → Label → Type 0) (h : Heap) (o : ℕ) → h.has o ≡ true → Relates IsPlace h (keeper o)
+keeper_relates IsPlace h o there = record {
+  there = λ n x w. ap h.has (sym (some_is o x w.1)) ∙ there;
+  apart = λ n m x y wn wm b. refl;
+  headed = λ n m x hd ln wm same. absurd (true≢false (sym hd));
+  edged = λ n m l e ln lm. absurd (no_parent_here (n, l) e);
+  whole = λ n x p i w root_is e. safe_no_root (eqb n 0) root_is;
 }
 
 -- new objects whose names grow downwards make a forest again
