@@ -16,7 +16,7 @@ use Rattle.kilim_program.specs.Fits.{is_named, class_assignable, base_assignable
 use Rattle.kilim_program.specs.Kinds.{is_marked, is_message}
 use Rattle.kilim_program.specs.Names.{◌>>=◌, class_at, class_name, line_of, line_up_to, methods_of, class_from, class_named}
 use Rattle.kilim_program.specs.Program.{Program}
-use Rattle.kilim_lemmas.proofs.Lists.{get_left, all_kept}
+use Rattle.kilim_lemmas.proofs.Lists.{get_left}
 use Rattle.kilim_type_laws.proofs.members.Through.{cases}
 use Rattle.kilim_type_spec.specs.Step.{assignable}
 
@@ -29,6 +29,14 @@ any_front test (x ∷ xs) zs e = by (test x) e (λ r. any_front test xs zs r)
     by : (b : Bool) → (b || list_any test xs) ≡ true → (list_any test xs ≡ true → list_any test (xs ++ zs) ≡ true) → (b || list_any test (xs ++ zs)) ≡ true
     by true e again = refl
     by false e again = again e
+
+pub any_kept : {A : Type 0} (f g : A → Bool) → ((x : A) → f x ≡ true → g x ≡ true) → (xs : List A) → list_any f xs ≡ true → list_any g xs ≡ true
+any_kept f g k [] e = e
+any_kept f g k (x ∷ xs) e = by (f x) refl e (λ r. any_kept f g k xs r)
+  where
+    by : (b : Bool) → f x ≡ b → (b || list_any f xs) ≡ true → (list_any f xs ≡ true → list_any g xs ≡ true) → (g x || list_any g xs) ≡ true
+    by true is e again = or_left (g x) _ (k x is)
+    by false is e again = or_right (g x) _ (again e)
 
 -- ---- an option of a class
 
@@ -163,7 +171,7 @@ module _ (P W : Program) (extra : Class) (grown : W.classes ≡ P.classes ++ ext
       cases (list_any (λ (c : ClassId). eqb c.0 b.0) (line_of P a)) (is_named P (codes "java/lang/Object") b) (is_named P (codes "kilim/Message") b) (list_any (is_message P) (line_of P a)) h
       (λ l. or_left _ _ (line_kept (λ (c : ClassId). eqb c.0 b.0) a l))
       (λ o. or_right _ _ (or_left _ _ (named_kept (codes "java/lang/Object") b refl o)))
-      (λ m k. or_right _ _ (or_right _ _ (and_from _ _ (named_kept (codes "kilim/Message") b refl m) (all_kept (is_message P) (is_message W) message_kept (line_of W a) (line_kept (is_message P) a k)))))
+      (λ m k. or_right _ _ (or_right _ _ (and_from _ _ (named_kept (codes "kilim/Message") b refl m) (any_kept (is_message P) (is_message W) message_kept (line_of W a) (line_kept (is_message P) a k)))))
 
   bases_kept : (a b : Base) → base_assignable P a b ≡ true → base_assignable W a b ≡ true
   bases_kept (base.Class a) (base.Class b) h = classes_kept a b h

@@ -29,7 +29,7 @@ use Rattle.kilim_program.specs.Lengths as lengths
 use Rattle.kilim_program.specs.Names.{class_at, class_from, class_name, class_named, method_at}
 use Rattle.kilim_program.specs.Program.{Program}
 use Rattle.kilim_program.specs.Same.{argument_slots, is_constructor, type_slots}
-use Rattle.kilim_lemmas.proofs.Lists.{get_right, get_some, all_kept}
+use Rattle.kilim_lemmas.proofs.Lists.{get_right, get_some}
 use Rattle.kilim_type_spec.specs.Step.{Types, peek, is_top, is_unset_this, is_object, words, assignable, base_vtype, dims_vtype, vtype_of_class, may_make, superclass_at}
 use Rattle.kilim_type_spec.specs.Typed.{IsWellTyped, WellTyped, declared, entry, frame_fits, frame_in, halves, has_code, is_proper, param_slots, stands_at_new, this_types, typing_of}
 use Rattle.kilim_weave_spec.specs.Form.{WovenForm, woven_as, has_calls, plan_of, only_with_fiber, first_class, first_method}
@@ -67,6 +67,10 @@ any_less test (x ∷ xs) ys e = let p = or_parts (test x) (list_any test (xs ++ 
     by : (b : Bool) → b ≡ false → list_any test xs ≡ false → (b || list_any test xs) ≡ false
     by true e r = absurd (cc)
     by false e r = r
+
+all_kept : {A : Type 0} (f g : A → Bool) → ((x : A) → f x ≡ true → g x ≡ true) → (xs : List A) → list_all f xs ≡ true → list_all g xs ≡ true
+all_kept f g k [] e = refl
+all_kept f g k (x ∷ xs) e = let p = and_parts (f x) (list_all f xs) e in and_from (g x) _ (k x p.0) (all_kept f g k xs p.1)
 
 -- a class that isn't among the first has a place behind them
 skips : (xs ys : List Class) (name : List ℕ) (n : ℕ) → ((k : ℕ) (c : Class) → slice_get xs k ≡ Some c → bytes_eq c.name name ≡ false) → class_from (xs ++ ys) name n ≡ class_from ys name (n + length xs)

@@ -3,7 +3,6 @@ use Rattle.std.proofs.Common.{◌≡◌, ℕ, ◌+◌, ◌≤◌, Bool, true, fa
 use Rattle.std.specs.Prelude.{◌&&◌, not, reverse, if◌then◌else◌}
 use Rattle.std.proofs.lemmas.Bool.{and_parts, and_from, leb-true, not-true}
 use Rattle.std.proofs.lemmas.List.{drop-map, length-map, map-append, reverse-append, length-append, length-reverse, append-nil}
-use Rattle.std.proofs.lemmas.Option.{none-some}
 use Rattle.kilim_program.specs.declared.class.Method.{Method}
 use Rattle.kilim_program.specs.declared.instr.Instr.{Instr}
 use Rattle.kilim_program.specs.declared.instr.Instr.TheVariants.{Invokevirtual, Invokespecial, Invokestatic}
@@ -20,6 +19,7 @@ use Rattle.kilim_weave_laws.specs.woven_types.Same.{Callee}
 use Rattle.kilim_weave_laws.specs.woven_types.Facts.{Whole}
 use Rattle.kilim_weave_laws.proofs.woven_types.Moved.{passed, passes, moved_operand}
 use Rattle.kilim_weave_laws.proofs.woven_types.Moved as moved
+use Rattle.kilim_weave_laws.proofs.woven_types.Nothing.{none_is}
 use Rattle.kilim_weave_laws.proofs.woven_types.Crux.{plain, ok_same}
 use Rattle.kilim_weave_laws.proofs.woven_types.Forms.{given_low}
 use Rattle.kilim_weave_laws.proofs.woven_types.Rows.{moved_arguments, moved_results, moved_receiver}
@@ -234,4 +234,4 @@ module _ (x : Plan) (W : Program) (w : Method) (whole : Whole x W w) where
       let named = if_named (method_at x.program id) callee n in
       let c = (whole.progs.changed id callee named.0 named.1).2 in
       special_call q id callee fl fs cl g named (ap (λ z. by_row x.program x.method q (special_by z x.program x.method id callee) (plain fl fs)) (sym c.plain) ∙ (ap (λ o. by_row x.program x.method q (special_row x.program x.method id o) (plain fl fs)) (sym named.0) ∙ e))
-  calls q i callee fl fs cl g n e = absurd (none-some callee n)
+  calls q i callee fl fs cl g n e = absurd (none_is callee n)

@@ -4,7 +4,6 @@ use Rattle.std.specs.Prelude.{◌&&◌, ◌||◌, nat_lt, ◌-◌, is_some, int_
 use Rattle.std.specs.List.{list_all}
 use Rattle.std.proofs.lemmas.Bool.{and_parts, false≢true, eqb-true}
 use Rattle.std.proofs.lemmas.Bool.Decides.{eqb_tells}
-use Rattle.std.proofs.lemmas.Option.{none-some}
 use Rattle.kilim_program.specs.declared.class.Method.{Method}
 use Rattle.kilim_program.specs.declared.instr.Instr.{Instr}
 use Rattle.kilim_program.specs.declared.instr.Instr.TheVariants.{New, Iconst, Lconst, Ldc, LdcW, Ldc2W, Iload, Lload, Aload, Istore, Lstore, Astore, Iinc, Ifeq, Ifne, Iflt, Ifge, Ifgt, Ifle, IfIcmpeq, IfIcmpne, IfIcmplt, IfIcmpge, IfIcmpgt, IfIcmple, IfAcmpeq, IfAcmpne, Goto, Tableswitch, Lookupswitch, Newarray, Anewarray, Checkcast, Instanceof, Ifnull, Ifnonnull, GotoW}
@@ -21,6 +20,7 @@ use Rattle.kilim_weave_laws.proofs.woven_types.Spans.{local_bytes}
 use Rattle.kilim_program.specs.Program.{Program}
 use Rattle.kilim_program.specs.Same.{is_constructor}
 use Rattle.kilim_weave_laws.proofs.woven_types.OldFacts.{GrowsTo, AllNew}
+use Rattle.kilim_weave_laws.proofs.woven_types.Nothing.{none_is}
 
 -- ---- instructions by place
 
@@ -76,8 +76,8 @@ module _ (x : Plan) (w : Method) where
       ((λ k e. absurd (calls_make_none i callee k n e)), codes_behind s.words q rest (subst (λ z. Codes x w q z) (s.is rest) c.1))
     where
       calls_make_none : (i : Instr) (callee : Method) (k : ClassId) → pausable_callee x.program i ≡ Some callee → made_by i ≡ Some k → ⊥
-      calls_make_none (New c) callee k n e = absurd (none-some callee n)
-      calls_make_none i callee k n e = absurd (none-some k e)
+      calls_make_none (New c) callee k n e = absurd (none_is callee n)
+      calls_make_none i callee k n e = absurd (none_is k e)
 
   made_in : (es : List (ℕ × Instr)) (first : Bool) (number q t : ℕ) (c : ClassId) (rest : List Item) → Codes x w q (pieces x first number es rest) → made_at es t ≡ Some c → made_at w.code (x.at t) ≡ Some c
   made_in [] first number q t c rest cs e = absurd (cc)

@@ -82,6 +82,10 @@ frame_here : (q r : ℕ) (before : Option Frame) (front rest : List (ℕ × Fram
 frame_here q r None front rest b a = frame_past q front rest b ∙ frame_above q rest a
 frame_here q r (Some frame) front rest b a = frame_past q front ((q, frame) ∷ rest) b ∙ (let e = eq-eqb q q refl in rw e refl)
 
+is_marked : Option Frame → Bool → Type 0
+is_marked before false = before ≡ None
+is_marked before true = Unit {0}
+
 module _ (x : Plan) (w : Method) where
   pub stands_lay : (b : Bool) (items : List Item) (q : ℕ) (before : Option Frame) (front : List (ℕ × Frame)) → w.frames ≡ front ++ with_frame q before (lay_frames q items) → Below q front → (b ≡ false → before ≡ None) → Sound b items → Labelled x q items → Stands x w q (types_if before) items
   stands_lay b [] q before front e below m s l = tt

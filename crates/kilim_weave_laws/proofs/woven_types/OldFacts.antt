@@ -5,7 +5,6 @@ use Rattle.std.specs.List.{list_all, list_any}
 use Rattle.std.proofs.lemmas.Bool.{and_parts, and_from, false≢true, leb-true, lt-ltb, not-true}
 use Rattle.std.proofs.lemmas.Bool.Decides.{eqb_tells}
 use Rattle.std.proofs.lemmas.List.{reverse-append}
-use Rattle.std.proofs.lemmas.Option.{none-some}
 use Rattle.kilim_program.specs.declared.class.Field.{Field}
 use Rattle.kilim_program.specs.declared.class.Method.{Method}
 use Rattle.kilim_program.specs.declared.instr.Instr.{Instr}
@@ -32,6 +31,7 @@ use Rattle.kilim_weave_laws.proofs.woven_types.Pieces.{call_straight}
 use Rattle.kilim_weave_laws.proofs.woven_types.Prologue.{entry_length}
 use Rattle.kilim_weave_laws.proofs.woven_types.Old.{firm_row}
 use Rattle.kilim_weave_laws.proofs.woven_types.Sane.{Sane, SaneRow, All, sane, sane_item, sane_vtype, sane_results, sane_row, FreshRow}
+use Rattle.kilim_weave_laws.proofs.woven_types.Nothing.{none_is}
 
 -- places grow
 abbrev pub GrowsTo : ℕ → List (ℕ × Instr) → Type 0
@@ -442,7 +442,7 @@ module _ (fresh : ℕ → Bool) where
       call_reads x (Invokevirtual id) callee k e = refl
       call_reads x (Invokespecial id) callee k e = refl
       call_reads x (Invokestatic id) callee k e = refl
-      call_reads x i callee k e = absurd (none-some callee e)
+      call_reads x i callee k e = absurd (none_is callee e)
   invert_live x p to k i callee here call (GoesOn p2 to' q i' f n a l) =
       let same : i' ≡ i = ap (found_instr i) (sym f ∙ here) in
       let next : to' ≡ to = ap (found_next to) (sym f ∙ here) in

@@ -5,7 +5,6 @@ use Rattle.std.specs.List.{list_any}
 use Rattle.std.proofs.lemmas.Bool.{and_parts, and_from, not-true}
 use Rattle.std.proofs.lemmas.Bool.Decides.{leb_tells}
 use Rattle.std.proofs.lemmas.List.{map-append, reverse-reverse}
-use Rattle.std.proofs.lemmas.Option.{none-some}
 use Rattle.kilim_program.specs.declared.class.Method.{Method}
 use Rattle.kilim_program.specs.declared.instr.Instr.{Instr}
 use Rattle.kilim_program.specs.declared.instr.Instr.TheVariants.{Lookupswitch, Ifeq, Invokevirtual, Invokespecial, Invokestatic}
@@ -34,6 +33,7 @@ use Rattle.kilim_weave_laws.proofs.woven_types.Calls.{call_takes}
 use Rattle.kilim_weave_laws.proofs.woven_types.Calls as calls
 use Rattle.kilim_weave_laws.proofs.woven_types.Forms.{words_drop}
 use Rattle.kilim_weave_laws.proofs.woven_types.Resumes.{Fine, fine_tail, no_top_savable, resume_runs}
+use Rattle.kilim_weave_laws.proofs.woven_types.Nothing.{none_is}
 
 -- ---- targets of moved instructions
 
@@ -63,7 +63,7 @@ unfolding jump_targets ends_path
 call_straight x (Invokevirtual id) callee e = record { targets = refl; goes = refl; writes_none = λ k. refl; edges_are = λ to. refl }
 call_straight x (Invokespecial id) callee e = record { targets = refl; goes = refl; writes_none = λ k. refl; edges_are = λ to. refl }
 call_straight x (Invokestatic id) callee e = record { targets = refl; goes = refl; writes_none = λ k. refl; edges_are = λ to. refl }
-call_straight x i callee e = absurd (none-some callee e)
+call_straight x i callee e = absurd (none_is callee e)
 
 -- ---- no frame of woven code has the mark of a constructor
 

@@ -142,3 +142,9 @@ module _ (x : Plan) (W : Program) (w : Method) (v : Weaving x W w) where
         },
         omega (arith, length_is, b),
       )
+
+-- where code is at most 32,767 bytes long, each jump of three bytes fits
+pub jump_fits : (at to most : ℕ) → at ≤ most → to ≤ most → most ≤ 32767 → is_jump_length at to 3 ≡ true
+jump_fits at to most a b m =
+    and_from (nat_lt to (at + 32768)) (nat_lt at (to + 32769) && true) (lt-ltb to (at + 32768) (omega (arith, a, b, m)))
+    (and_from (nat_lt at (to + 32769)) true (lt-ltb at (to + 32769) (omega (arith, a, b, m))) refl)

@@ -12,9 +12,22 @@ pub all_joined : {A : Type 0} (test : A → Bool) (xs ys : List A) → list_all 
 all_joined test [] ys a b = b
 all_joined test (x ∷ xs) ys a b = let p = and_parts (test x) (list_all test xs) a in and_from (test x) _ p.0 (all_joined test xs ys p.1 b)
 
+pub all_kept : {A : Type 0} (f g : A → Bool) → ((x : A) → f x ≡ true → g x ≡ true) → (xs : List A) → list_all f xs ≡ true → list_all g xs ≡ true
+all_kept f g k [] e = refl
+all_kept f g k (x ∷ xs) e = let p = and_parts (f x) (list_all f xs) e in and_from (g x) _ (k x p.0) (all_kept f g k xs p.1)
+
 pub none_joined : {A : Type 0} (test : A → Bool) (xs ys : List A) → list_any test xs ≡ false → list_any test ys ≡ false → list_any test (xs ++ ys) ≡ false
 none_joined test [] ys a b = b
 none_joined test (x ∷ xs) ys a b = let p = or_parts (test x) (list_any test xs) a in or_from (test x) _ p.0 (none_joined test xs ys p.1 b)
+
+pub none_of : {A : Type 0} (test : A → Bool) (xs : List A) → ((k : ℕ) (x : A) → slice_get xs k ≡ Some x → test x ≡ false) → list_any test xs ≡ false
+none_of test [] none = refl
+none_of test (x ∷ xs) none = or_from (test x) _ (none 0 x refl) (none_of test xs (λ k y e. none (suc k) y e))
+
+pub none_at : {A : Type 0} (test : A → Bool) (xs : List A) (k : ℕ) (x : A) → list_any test xs ≡ false → slice_get xs k ≡ Some x → test x ≡ false
+none_at test [] k x n e = absurd (cc)
+none_at test (y ∷ xs) zero x n e = subst (λ z. test z ≡ false) (let s : y ≡ x = cc in s) (or_parts (test y) (list_any test xs) n).0
+none_at test (y ∷ xs) (suc k) x n e = none_at test xs k x (or_parts (test y) (list_any test xs) n).1 e
 
 pub take_front : {A : Type 0} (n : ℕ) (xs ys : List A) → n ≤ length xs → take n (xs ++ ys) ≡ take n xs
 take_front zero xs ys h = refl

@@ -4,7 +4,6 @@ use Rattle.std.specs.Prelude.{◌||◌, nat_lt, codes}
 use Rattle.std.specs.List.{list_all}
 use Rattle.std.specs.Str.{bytes_eq}
 use Rattle.std.proofs.lemmas.Bool.{and_parts, and_from}
-use Rattle.kilim_lemmas.proofs.Lists.{all_kept}
 use Rattle.kilim_program.specs.declared.class.Class.{Class}
 use Rattle.kilim_program.specs.declared.class.Field.{Field}
 use Rattle.kilim_program.specs.declared.class.Form.TheVariants.{Plain}
@@ -23,7 +22,7 @@ use Rattle.kilim_weave_laws.proofs.woven_programs.Theorem.{fiber_parts, grown}
 use Rattle.kilim_weave_laws.specs.woven_programs.classes.Law.{WovenClassesKeep}
 use Rattle.kilim_weave_laws.proofs.woven_programs.classes.BuiltIns.{ends, files_after, files_before, own_after, own_before}
 use Rattle.kilim_weave_laws.proofs.woven_programs.classes.Differing.{members, names}
-use Rattle.kilim_weave_laws.proofs.woven_programs.classes.Listing.{all_joined}
+use Rattle.kilim_weave_laws.proofs.woven_programs.classes.Listing.{all_joined, all_kept}
 
 or_kept : (a b c d : Bool) → (a ≡ true → b ≡ true) → (c ≡ true → d ≡ true) → (a || c) ≡ true → (b || d) ≡ true
 or_kept true b c d k l h = ap (λ (z : Bool). z || d) (k refl)

@@ -4,7 +4,6 @@ use Rattle.std.specs.Prelude.{◌&&◌, not, ◌-◌, is_some, nat_le, nat_lt}
 use Rattle.std.specs.List.{list_all}
 use Rattle.std.proofs.lemmas.Bool.{and_parts, and_from}
 use Rattle.std.proofs.lemmas.Int.{ints}
-use Rattle.std.proofs.lemmas.Option.{none-some}
 use Rattle.kilim_program.specs.declared.class.Method.{Method}
 use Rattle.kilim_program.specs.declared.instr.Instr.{Instr}
 use Rattle.kilim_program.specs.declared.instr.Instr.TheVariants.{AconstNull, Iconst, Bipush, Sipush, Pop, Return, Checkcast, Aload, Astore, Goto, Ifeq, Invokespecial, Invokestatic, Invokevirtual, Tableswitch}
@@ -21,6 +20,9 @@ use Rattle.kilim_weave_spec.specs.Weight.{calls_in, one_more}
 use Rattle.kilim_weave_spec.specs.Woven.{Plan, Item, Mark, Does, added, below, block, blocks, count, drop_result, dummies, dummy_of, dummy_return, fiber_slot, first_of, group, leave, load_of, local_size, pausable_callee, piece, pieces, pop_of, receiver, receiver_of, restore, restore_local, restore_locals, restore_receiver, restore_stack, resume_code, resume_places, return_of, save, save_local, save_locals, save_stack, saved, saved_from, self_slot, store_of, woven_items}
 use Rattle.kilim_weave_laws.specs.woven_programs.keeps.Law.{reach}
 use Rattle.kilim_weave_laws.proofs.woven_programs.keeps.Lengths.{all_far, jump_fits, local_fits, near, old_fits, reach_is}
+
+none_is : {A : Type 0} (a : A) → None ≡ Some a → ⊥
+none_is a e = cc
 
 -- an instruction of that size, wherever it stands within reach and goes within reach
 abbrev pub Fit : Instr → (ℕ → ℕ) → Type 0
@@ -159,7 +161,7 @@ unfolding has_length
 call_fit p (Invokevirtual id) callee n q le is = refl
 call_fit p (Invokespecial id) callee n q le is = refl
 call_fit p (Invokestatic id) callee n q le is = refl
-call_fit p i callee n q le is = absurd (none-some callee n)
+call_fit p i callee n q le is = absurd (none_is callee n)
 
 -- ---- stretches
 

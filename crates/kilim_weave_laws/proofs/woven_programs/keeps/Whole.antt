@@ -1,5 +1,4 @@
 -- The code of each woven method is whole.
-use Rattle.kilim_lemmas.proofs.Lists.{all_kept}
 use Rattle.kilim_weave_laws.proofs.woven_programs.keeps.Frames.{fits_proper, in_order}
 use Rattle.kilim_weave_laws.proofs.woven_types.Codes.{whole_code}
 use Rattle.kilim_weave_laws.proofs.woven_types.Laying.{Grows, items_sound}
@@ -65,6 +64,10 @@ abbrev AllNear : List Item → Type 0
 AllNear [] = Unit {0}
 AllNear (Mark label frame ∷ rest) = AllNear rest
 AllNear (Does i size counted ∷ rest) = (list_all near (jump_targets i) ≡ true) × AllNear rest
+
+all_kept : {A : Type 0} (f g : A → Bool) → ((x : A) → f x ≡ true → g x ≡ true) → (xs : List A) → list_all f xs ≡ true → list_all g xs ≡ true
+all_kept f g k [] e = refl
+all_kept f g k (x ∷ xs) e = let p = and_parts (f x) (list_all f xs) e in and_from (g x) _ (k x p.0) (all_kept f g k xs p.1)
 
 targets_near : (test : ℕ → Bool) (items : List Item) (q : ℕ) → ((to : ℕ) → test to ≡ true → near to ≡ true) → list_all (λ e. list_all test (jump_targets e.1)) (lay q items) ≡ true → AllNear items
 targets_near test [] q k h = tt

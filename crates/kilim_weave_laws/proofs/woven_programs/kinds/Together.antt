@@ -17,7 +17,7 @@ use Rattle.kilim_program.specs.Keeps.{Keeps, all_types, ancestors_of, class_ids_
 use Rattle.kilim_program.specs.Kinds.{class_kind, field_may_hold, is_marked, is_message, is_private_kind, is_value_class}
 use Rattle.kilim_program.specs.Names.{◌>>=◌, class_at, class_name, is_named_task, is_task, line_of, line_up_to}
 use Rattle.kilim_program.specs.Program.{Program}
-use Rattle.kilim_lemmas.proofs.Lists.{get_last, get_right, map_at}
+use Rattle.kilim_lemmas.proofs.Lists.{get_last, get_right}
 use Rattle.kilim_weave_spec.specs.Form.{WovenForm, first_class}
 use Rattle.kilim_type_laws.proofs.members.FromKeeps.{all_at}
 use Rattle.kilim_type_laws.proofs.members.Through.{up}
@@ -47,6 +47,11 @@ or_true false y e = e
 all_with : {A : Type 0} (f g : A → Bool) (xs : List A) → ((k : ℕ) (x : A) → slice_get xs k ≡ Some x → g x ≡ f x) → list_all f xs ≡ true → list_all g xs ≡ true
 all_with f g [] same h = refl
 all_with f g (x ∷ xs) same h = let p = and_parts (f x) _ h in and_from (g x) _ (same 0 x refl ∙ p.0) (all_with f g xs (λ k y e. same (suc k) y e) p.1)
+
+map_at : {A B : Type 0} (f : A → B) (xs : List A) (k : ℕ) (x : A) → slice_get xs k ≡ Some x → slice_get (map f xs) k ≡ Some (f x)
+map_at f [] k x e = absurd (cc)
+map_at f (y ∷ xs) zero x e = let s : y ≡ x = cc in ap (λ z. Some (f z)) s
+map_at f (y ∷ xs) (suc k) x e = map_at f xs k x e
 
 module _ (P W : Program) (counted : List (List Bool)) (keeps : Keeps P) (plainly : P.form ≡ Plain) (form : WovenForm P W counted) where
   abbrev fiber : Class

@@ -3,7 +3,6 @@ use Rattle.std.proofs.Common.{◌≡◌, ℕ, suc, ◌+◌, ◌-◌, Bool, true,
 use Rattle.std.specs.Prelude.{◌&&◌, nat_lt, slice_get, option_to_list}
 use Rattle.std.specs.List.{list_all, flat_map}
 use Rattle.std.proofs.lemmas.Bool.{and_parts, and_from, lt-ltb}
-use Rattle.kilim_lemmas.proofs.Lists.{all_kept}
 use Rattle.kilim_program.specs.declared.class.Class.{Class}
 use Rattle.kilim_program.specs.declared.class.Field.{Field}
 use Rattle.kilim_program.specs.declared.class.Form.TheVariants.{Plain, Woven}
@@ -35,7 +34,7 @@ use Rattle.kilim_weave_laws.proofs.woven_programs.Methods.{members_behind}
 use Rattle.kilim_weave_laws.proofs.woven_programs.Naming.{all_parts}
 use Rattle.kilim_weave_laws.proofs.woven_programs.Theorem.{fiber_parts, first_is, grown, how_many}
 use Rattle.kilim_weave_laws.proofs.woven_programs.classes.BuiltIns.{first_methods}
-use Rattle.kilim_weave_laws.proofs.woven_programs.classes.Listing.{all_joined}
+use Rattle.kilim_weave_laws.proofs.woven_programs.classes.Listing.{all_joined, all_kept}
 use Rattle.kilim_weave_laws.proofs.woven_programs.kinds.Lines.{task_base_same}
 use Rattle.kilim_weave_laws.specs.woven_programs.places.Law.{WovenPlacesKeep}
 use Rattle.kilim_weave_laws.proofs.woven_programs.places.Items.{AllReady, S, items_here, laid, laid_frames, names}

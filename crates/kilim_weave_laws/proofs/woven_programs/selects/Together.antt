@@ -16,7 +16,7 @@ use Rattle.kilim_program.specs.Keeps.{Keeps, agrees_with, ancestors_of, each_cla
 use Rattle.kilim_program.specs.Names.{◌>>=◌, class_at, first_that, line_of, line_up_to, method_at, methods_of}
 use Rattle.kilim_program.specs.Program.{Program}
 use Rattle.kilim_program.specs.Same.{answers, argument_slots, is_constructor, same_flag, same_signature, selected}
-use Rattle.kilim_lemmas.proofs.Lists.{get_last, get_right, get_some, all_kept}
+use Rattle.kilim_lemmas.proofs.Lists.{get_last, get_right, get_some}
 use Rattle.kilim_weave_spec.specs.Form.{AllWoven, IsWoven, WovenForm, first_class, first_method}
 use Rattle.kilim_type_laws.proofs.members.ClassMethods.{IsAmong, names_owner}
 use Rattle.kilim_type_laws.proofs.members.Finding.{finds_chosen}
@@ -30,7 +30,7 @@ use Rattle.kilim_weave_laws.proofs.woven_programs.Selecting.{answers_back, answe
 use Rattle.kilim_weave_laws.proofs.woven_programs.Theorem.{fiber_parts, first_is, grown, how_many}
 use Rattle.kilim_weave_laws.proofs.woven_programs.classes.BuiltIns.{first_methods}
 use Rattle.kilim_weave_laws.proofs.woven_programs.classes.Differing.{AllOwned, fiber_owned}
-use Rattle.kilim_weave_laws.proofs.woven_programs.classes.Listing.{all_joined, each_joined, each_kept}
+use Rattle.kilim_weave_laws.proofs.woven_programs.classes.Listing.{all_joined, all_kept, each_joined, each_kept}
 use Rattle.kilim_weave_laws.proofs.woven_programs.kinds.Lines.{IsIn, ancestors_same, class_same, line_same, whole_same}
 use Rattle.kilim_weave_laws.specs.woven_programs.selects.Law.{WovenSelectsKeep}
 use Rattle.kilim_weave_laws.proofs.woven_programs.selects.Agreeing.{Kept, agreement, kept, other_name}

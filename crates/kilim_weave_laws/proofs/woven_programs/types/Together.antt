@@ -4,7 +4,6 @@ use Rattle.std.specs.Prelude.{◌&&◌, nat_lt, slice_get, codes, option_to_list
 use Rattle.std.specs.List.{list_all, flat_map}
 use Rattle.std.specs.Str.{bytes_eq}
 use Rattle.std.proofs.lemmas.Bool.{and_parts, and_from, lt-ltb}
-use Rattle.kilim_lemmas.proofs.Lists.{map_at}
 use Rattle.kilim_program.specs.declared.class.Class.{Class}
 use Rattle.kilim_program.specs.declared.class.Field.{Field}
 use Rattle.kilim_program.specs.declared.class.Method.{Method}
@@ -29,6 +28,11 @@ use Rattle.kilim_weave_laws.proofs.woven_programs.Naming.{all_parts, flat_part, 
 use Rattle.kilim_weave_laws.specs.woven_programs.types.Law.{StandAt, TypesAreThere, may_stand, stands}
 use Rattle.kilim_weave_laws.proofs.woven_programs.types.Rows.{holds, vtype_holds}
 use Rattle.kilim_weave_laws.proofs.woven_programs.types.Walk.{AllGood, entry_held, walk_held}
+
+map_at : {A B : Type 0} (f : A → B) (xs : List A) (k : ℕ) (x : A) → slice_get xs k ≡ Some x → slice_get (map f xs) k ≡ Some (f x)
+map_at f [] k x e = absurd (cc)
+map_at f (y ∷ xs) zero x e = let s : y ≡ x = cc in ap (λ z. Some (f z)) s
+map_at f (y ∷ xs) (suc k) x e = map_at f xs k x e
 
 both : {A : Type 0} (f g : A → Bool) (xs : List A) → list_all f xs ≡ true → list_all g xs ≡ true → list_all (λ x. f x && g x) xs ≡ true
 both f g [] a b = refl
