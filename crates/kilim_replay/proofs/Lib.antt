@@ -1,0 +1,10 @@
+pub mod Named
+pub mod Viewing
+pub mod Doing
+pub mod Stepping
+pub mod Folding
+pub mod Closing
+pub mod Counting
+pub mod Differing
+pub mod Ending
+pub mod Beginning
