@@ -19,7 +19,6 @@ ghost use Rattle.kilim_fiber.specs.Records.{records_of};
 ghost use Rattle.kilim_fiber.specs.Clauses.{Resumes, RestsInRecords, Went};
 ghost use Rattle.kilim_fiber.specs.Calls.{IsNew, IsBegun, EndsIdle, RestsAt, HasWanted, MayAsk, asks_by, is_rest, IsAnswerTo, WantsBy, Passed, Taken, Found, Refused, Answered, AnswerSuits, takes_value};
 
-use crate::apart::{Apart, put_apart};
 use crate::past::{Did, Past, begun, no_past, note};
 use kilim_fiber_body::{
     Body, Came, Code, begun_body, done, first_body, found, found_none, pause, reach, take,
@@ -88,7 +87,7 @@ fn begun_fiber(
     main: ClassId,
     tree: Tree,
     shape: Shape,
-) -> Result<(Apart, Shape), NoMemory>
+) -> Result<(Fiber, Shape), NoMemory>
     ensures fiber { IfOk result (λ both. IsBegun program.now main tree shape both.0) }
     ensures shape { IfOk result (λ both. both.1 ≡ shape) }
 {
@@ -96,11 +95,7 @@ fn begun_fiber(
         return Err(NoMemory);
     };
     let (beginning, shape) = begun(shape);
-    let Ok(fiber) = put_apart(alloc, new_fiber(alloc, main, beginning, body)) else {
-        drop(shape);
-        return Err(NoMemory);
-    };
-    Ok((fiber, shape))
+    Ok((new_fiber(alloc, main, beginning, body), shape))
 }
 
 // What is wanted by what a body came to, and asked then: nothing where it rests or ends.
@@ -109,7 +104,7 @@ fn wanted(
     program: &Program,
     main: ClassId,
     came: Came,
-) -> Result<(Wants<Apart>, Asked), NoMemory>
+) -> Result<(Wants<Fiber>, Asked), NoMemory>
     requires { IsWanting came ≡ true }
     ensures { IfOk result (λ both. WantsBy program.now main came both.0 both.1) }
 {
@@ -272,7 +267,7 @@ impl Fiber {
     }
 
     // Its `execute` is built in: its task is over at once.
-    fn end_idle(&mut self, limits: &Limits) -> Wants<Apart>
+    fn end_idle(&mut self, limits: &Limits) -> Wants<Fiber>
         requires none { self.old.refused ≡ None }
         requires most { self.old.body.count ≤ limits.now.steps }
         ensures { EndsIdle limits.now self.old self.new result }
@@ -286,7 +281,7 @@ impl Fiber {
     }
 
     // It was refused a message: it rests at that mailbox, and comes to nothing else.
-    fn rest_at(&mut self, mailbox: BoxName, came: Came) -> Result<Wants<Apart>, NoMemory>
+    fn rest_at(&mut self, mailbox: BoxName, came: Came) -> Result<Wants<Fiber>, NoMemory>
         ensures { IfOk result (λ w. RestsAt mailbox came self.old self.new w) }
     {
         match came {
@@ -306,7 +301,7 @@ impl Fiber {
         limits: &Limits,
         before: u64,
         came: Came,
-    ) -> Result<Wants<Apart>, NoMemory>
+    ) -> Result<Wants<Fiber>, NoMemory>
         requires wanting { IsWanting came ≡ true }
         requires may { asks_by came ≡ true → MayAsk limits.now self.old }
         ensures { IfOk result (λ w. HasWanted code.now.program limits.now before came self.old self.new w) }
@@ -344,7 +339,7 @@ impl Fiber {
     }
 
     /// Runs up to the next thing that it wants. After want of memory it may only be dropped.
-    pub fn resume(&mut self, code: &Code, limits: &Limits) -> Result<Wants<Apart>, NoMemory>
+    pub fn resume(&mut self, code: &Code, limits: &Limits) -> Result<Wants<Fiber>, NoMemory>
         requires { CanRun task_of course_of (HoldsFiber code.now.program code.now.counted) ServesCode code.now limits.now self.old }
         ensures gives { IfOk result (λ w. Resumes code.now limits.now self.old self.new w) }
         ensures rests { IfOk result (λ w. RestsInRecords code.now limits.now self.old self.new w) }

@@ -1,10 +1,8 @@
 //! Fibers that keep records while they rest: a task on a heap of its own, which runs woven code.
 #![tactic(auto)]
 
-mod apart;
 mod fiber;
 pub mod named;
 mod past;
 
-pub use apart::Apart;
 pub use fiber::Fiber;

@@ -6,7 +6,7 @@ ghost use Rattle.kilim_program.specs.declared.class.Form.TheVariants.{Plain};
 ghost use Rattle.kilim_fiber.specs.Fiber.{task_of, course_of, AskedOf, HoldsFiber};
 ghost use Rattle.kilim_fiber.specs.named.Named.{ServesNamed};
 
-use crate::Apart;
+use crate::Fiber;
 use kilim_fiber_body::Code;
 use kilim_program::ClassId;
 use kilim_run_board::fibers::{Answer, Fibers, Wants};
@@ -28,10 +28,10 @@ impl Woven for Brand {
     ghost counted = { [] };
 }
 
-/// A fiber that runs the woven program which `K` names, in a box. Contracts see the fiber.
+/// A fiber that runs the woven program which `K` names. Contracts see the fiber.
 #[derive(Drop)]
 pub struct Named<K: Woven> {
-    fiber: Apart,
+    fiber: Fiber,
     of: PhantomData<K>,
 }
 
@@ -47,7 +47,7 @@ impl<K: Woven> Model for Named<K> {
 }
 
 // Names the program of a fiber.
-fn name_program<K: Woven>(fiber: Apart) -> Named<K>
+fn name_program<K: Woven>(fiber: Fiber) -> Named<K>
     ensures { result ≡ fiber }
 {
     Named {
@@ -57,7 +57,7 @@ fn name_program<K: Woven>(fiber: Apart) -> Named<K>
 }
 
 // The same of a fiber that is wanted to start.
-fn with_program<K: Woven>(wants: Wants<Apart>) -> Wants<Named<K>>
+fn with_program<K: Woven>(wants: Wants<Fiber>) -> Wants<Named<K>>
     ensures { result ≡ wants }
 {
     match wants {
@@ -91,7 +91,7 @@ impl<K: Woven> Fibers for Named<K> {
     ghost rests = { λ f. f.rests };
 
     fn boot(alloc: Global, code: &Code, main: ClassId) -> Result<Named<K>, NoMemory> {
-        let Ok(fiber) = Apart::boot(alloc, code, main) else {
+        let Ok(fiber) = Fiber::boot(alloc, code, main) else {
             return Err(NoMemory);
         };
         Ok(name_program::<K>(fiber))

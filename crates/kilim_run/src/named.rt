@@ -10,6 +10,7 @@ use kilim_fiber::named::{Named, Woven};
 use kilim_fiber_body::Code;
 use kilim_outside::Gate;
 use kilim_program::ClassId;
+use kilim_run_board::boxed::Boxed;
 use kilim_run_journal::Entry;
 use kilim_run_state::Limits;
 use kilim_run_workers::one_worker::run_one;
@@ -30,7 +31,7 @@ pub fn named_alone<K: Woven, G: Gate>(
     requires some { (set : Setting) × IsOf (ServesNamed K.program K.counted) code.now main limits.now set }
     ensures { (set : Setting) → IsOf (ServesNamed K.program K.counted) code.now main limits.now set → IfOk result (λ es. MovedWhole set es.items) }
 {
-    run_one::<Named<K>, G>(alloc, code, main, limits, gate)
+    run_one::<Boxed<Named<K>>, G>(alloc, code, main, limits, gate)
 }
 
 /// The same by so many workers.
@@ -47,5 +48,5 @@ pub fn named_with<K: Woven + Send, R: Threads + Wait + Sync, G: Gate>(
     requires some { (set : Setting) × IsOf (ServesNamed K.program K.counted) code.now main limits.now set }
     ensures { (set : Setting) → IsOf (ServesNamed K.program K.counted) code.now main limits.now set → IfOk result (λ es. MovedWhole set es.items) }
 {
-    run_pool::<Named<K>, R, G>(rt, alloc, code, main, limits, workers, gate)
+    run_pool::<Boxed<Named<K>>, R, G>(rt, alloc, code, main, limits, workers, gate)
 }
