@@ -84,6 +84,10 @@ module _ (p : Program) (own : Method) (frames : Frames) (before : Frame) (at : �
     pub near_roomy : (to : ℕ) → AreRoomy p (put_at (standing own frames before at) after to)
     near_roomy to = still_roomy p own (standing own frames before at) x code at i next fine roomy there is_code found here after k kept to
 
+-- nothing was done
+pub near_still : (own : Method) (frames : Frames) (before after : Frame) (at : ℕ) (h k : Objects) → outcome.IsStill before after h k → IsStill (standing own frames before at) (standing own frames after at) h k
+near_still own frames before after at h k is = record { frames = ap (λ (f : Frame). calls_of (standing own frames f at)) is.frame; heap = is.heap }
+
 -- a frame that is put back stands at its instruction
 pub put_back_is : (own : Method) (frames : Frames) (frame : Frame) (at place : ℕ) (new : Frames) → new ≡ record frames { top = at_place frame place } → place ≡ first_place (drop at own.code) own.code_length → new ≡ standing own frames frame at
 put_back_is own frames frame at place new is e = is ∙ ap (λ (q : ℕ). record frames { top = at_place frame q }) e

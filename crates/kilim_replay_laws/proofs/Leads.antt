@@ -1,9 +1,10 @@
 -- A thread's moves without an action are those of the state.
-use Rattle.std.proofs.Common.{◌≡◌, ℕ, zero, suc, ℤ, Bool, true, false, cond, List, [], ◌∷◌, Option, Some, None, ◌⊎◌, inl, inr, refl, sym, ap, subst, ◌∙◌}
+use Rattle.std.proofs.Common.{◌≡◌, ℕ, zero, suc, ◌+◌, ℤ, Bool, true, false, cond, List, [], ◌∷◌, Option, Some, None, ◌⊎◌, inl, inr, refl, sym, ap, subst, ◌∙◌}
 use Rattle.std.specs.Prelude.{◌==◌, nat_le, nat_lt, slice_get, slice_set}
 use Rattle.kilim_lemmas.proofs.Lists.{set_there}
 use Rattle.kilim_program.specs.Program.{Program}
 use Rattle.kilim_program.specs.declared.names.BoxName.{BoxName}
+use Rattle.kilim_run_state.specs.declared.cause.EndCause.{EndCause}
 use Rattle.kilim_run_state.specs.declared.cause.EndCause.TheVariants as cause
 use Rattle.kilim_run_state.specs.declared.value.Token.{Token}
 use Rattle.kilim_program.specs.declared.value.Value.{Value}
@@ -12,14 +13,16 @@ use Rattle.kilim_run_state.specs.Machine.{Activation}
 use Rattle.kilim_program.specs.Members.{execute_of}
 use Rattle.kilim_run_machine.specs.Moves.{Move, moves}
 use Rattle.kilim_run_machine.specs.Moves as move
+use Rattle.kilim_run_machine.specs.Raising.{thrown}
 use Rattle.kilim_run_machine.specs.Natives.{Native, native_of}
 use Rattle.kilim_run_machine.specs.Natives as native
 use Rattle.kilim_run_state.specs.Shapes.{shape_of}
 use Rattle.kilim_run_model.specs.State.{Setting, Thread, Alive, Ended, State, begun_on}
-use Rattle.kilim_run_model.specs.Lone.{Lone, Next, Goes, arg_at, arg_next, asks_next, begins_next, box_limit, finish_next, frames_next, message_next, native_next, next_by, next_move, on_heap, over, print_next, printed, put_next, start_next, thread_next, went}
+use Rattle.kilim_run_model.specs.Lone.{Lone, Next, Goes, arg_at, arg_next, asks_next, begins_next, box_limit, finish_next, frames_next, message_next, native_next, next_by, next_move, on_heap, over, print_next, printed, put_next, raised, start_next, thread_next, went}
 use Rattle.kilim_run_model.specs.Turn.{Moved, quiet, lone_of, with_lone, moved_by, thread_moved, moved}
 use Rattle.kilim_run_model.specs.Runs.{acted_or, acted_within, unless_acted, before_action}
 use Rattle.kilim_run_model.specs.Course.{Quiet, Stays, Moves}
+use Rattle.kilim_run_model.proofs.Raised.{raised_has, raises_has, throws_has}
 use Rattle.kilim_replay_laws.specs.Leads.{more, Leads, ThreadsLead}
 
 some_same : {A : Type 0} (x y : A) → Some x ≡ Some y → x ≡ y
@@ -35,6 +38,9 @@ either : (k : Option ℕ) (b : Bool) (x y : Next) → KeptSame k x → KeptSame 
 either k true x y p q = p
 either k false x y p q = q
 
+raised_kept : (p : Program) (l : Lone) (why : EndCause) → KeptSame l.kept (raised p l why)
+raised_kept p l why = raised_has (KeptSame l.kept) l why tt p (λ object f fs frames done boxes e. inl refl)
+
 put_kept : (after : Lone) (box : BoxName) (root : ℕ) (o : Option (List Token)) (k : Option ℕ) → KeptSame k (put_next after box root o)
 put_kept after box root None k = tt
 put_kept after box root (Some shape) k = tt
@@ -43,29 +49,29 @@ start_kept : (after : Lone) (root : ℕ) (o : Option (List Token)) (k : Option �
 start_kept after root None k = tt
 start_kept after root (Some shape) k = tt
 
-message_kept : (p : Program) (after : Lone) (box : BoxName) (v : Value) (k : Option ℕ) → KeptSame k (message_next p after box v)
-message_kept p after box Null k = tt
-message_kept p after box (Ref root) k = put_kept after box root (shape_of p after.heap root) k
-message_kept p after box v k = tt
+message_kept : (p : Program) (after : Lone) (box : BoxName) (v : Value) → KeptSame after.kept (message_next p after box v)
+message_kept p after box Null = raised_kept p after cause.Null
+message_kept p after box (Ref root) = put_kept after box root (shape_of p after.heap root) after.kept
+message_kept p after box v = tt
 
 print_kept : (after : Lone) (o : Option Token) (k : Option ℕ) → KeptSame k (print_next after o)
 print_kept after None k = tt
 print_kept after (Some token) k = tt
 
-arg_kept : (after : Lone) (o : Option ℤ) → KeptSame after.kept (arg_next after o)
-arg_kept after None = tt
-arg_kept after (Some x) = inl refl
+arg_kept : (p : Program) (after : Lone) (o : Option ℤ) → KeptSame after.kept (arg_next p after o)
+arg_kept p after None = raised_kept p after cause.Index
+arg_kept p after (Some x) = inl refl
 
 native_kept : (set : Setting) (after : Lone) (n : Native) (args : List Value) → KeptSame after.kept (native_next set after n args)
 native_kept set after native.Execute (Ref r ∷ []) = inl refl
 native_kept set after native.Start (Ref r ∷ []) = start_kept after r (shape_of set.program after.heap r) after.kept
-native_kept set after native.Put (Box box ∷ message ∷ []) = message_kept set.program after box message after.kept
+native_kept set after native.Put (Box box ∷ message ∷ []) = message_kept set.program after box message
 native_kept set after native.Get (Box box ∷ []) = tt
 native_kept set after native.Getnb (Box box ∷ []) = tt
 native_kept set after native.Print (v ∷ []) = print_kept after (printed v) after.kept
 native_kept set after native.Yield [] = inl refl
 native_kept set after native.ArgCount [] = inl refl
-native_kept set after native.Arg (Int i ∷ []) = arg_kept after (arg_at set.limits.args i)
+native_kept set after native.Arg (Int i ∷ []) = arg_kept set.program after (arg_at set.limits.args i)
 native_kept set after n args = tt
 
 asks_kept : (set : Setting) (after : Lone) (args : List Value) (o : Option Native) → KeptSame after.kept (asks_next set after args o)
@@ -81,19 +87,20 @@ finish_kept : (set : Setting) (l : Lone) (done boxes : ℕ) (o : Option ℕ) (k 
 finish_kept set l done boxes None k = tt
 finish_kept set l done boxes (Some n) k = begins_kept l done boxes (begun_on set.program (execute_of set.program set.main) n) k
 
-move_kept : (set : Setting) (t : ℕ) (l : Lone) (done boxes : ℕ) (m : Move) → KeptSame l.kept (next_by set t l done boxes m)
-move_kept set t l done boxes (move.Runs change frames heap) = inl refl
-move_kept set t l done boxes (move.Makes object frames heap) = inl refl
-move_kept set t l done boxes (move.Opens frames heap) = either l.kept (nat_lt boxes box_limit) _ _ (inl refl) tt
-move_kept set t l done boxes (move.Asks m args frames heap) = asks_kept set (went (on_heap l heap) frames done boxes) args (native_of set.program m)
-move_kept set t l done boxes (move.Returns heap) = finish_kept set (on_heap l heap) done boxes l.kept l.kept
-move_kept set t l done boxes (move.Raises c) = tt
-move_kept set t l done boxes (move.Ends c) = tt
-move_kept set t l done boxes move.Stuck = tt
+move_kept : (set : Setting) (t : ℕ) (l : Lone) (done boxes : ℕ) (top : Activation) (below : List Activation) (m : Move) → KeptSame l.kept (next_by set t l done boxes top below m)
+move_kept set t l done boxes top below (move.Runs change frames heap) = inl refl
+move_kept set t l done boxes top below (move.Makes object frames heap) = inl refl
+move_kept set t l done boxes top below (move.Opens frames heap) = either l.kept (nat_lt boxes box_limit) _ _ (inl refl) tt
+move_kept set t l done boxes top below (move.Asks m args frames heap) = asks_kept set (went (on_heap l heap) frames done boxes) args (native_of set.program m)
+move_kept set t l done boxes top below (move.Returns heap) = finish_kept set (on_heap l heap) done boxes l.kept l.kept
+move_kept set t l done boxes top below (move.Raises c) = raises_has (KeptSame l.kept) l c tt set.program done boxes top below (λ object f fs. inl refl)
+move_kept set t l done boxes top below (move.Throws n class c) = throws_has (KeptSame l.kept) l c tt (done + 1) boxes (thrown set.program class (Ref n) top below) (λ f fs. inl refl)
+move_kept set t l done boxes top below (move.Ends c) = tt
+move_kept set t l done boxes top below move.Stuck = tt
 
 frames_kept : (set : Setting) (t : ℕ) (l : Lone) (frames : List Activation) (done boxes : ℕ) → KeptSame l.kept (frames_next set t l frames done boxes)
 frames_kept set t l [] done boxes = tt
-frames_kept set t l (top ∷ below) done boxes = move_kept set t l done boxes (moves set.program top below l.heap)
+frames_kept set t l (top ∷ below) done boxes = move_kept set t l done boxes top below (moves set.program top below l.heap)
 
 thread_kept : (set : Setting) (t : ℕ) (l : Lone) (th : Thread) → KeptSame l.kept (thread_next set t l th)
 thread_kept set t l (Ended c) = tt

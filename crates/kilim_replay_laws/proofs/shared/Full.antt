@@ -17,7 +17,11 @@ use Rattle.kilim_run_machine.specs.Natives.{Native, native_of}
 use Rattle.kilim_run_machine.specs.Natives as native
 use Rattle.kilim_run_state.specs.Shapes.{shape_of}
 use Rattle.kilim_run_model.specs.State.{Setting, Thread, Alive, Ended, begun_on}
-use Rattle.kilim_run_model.specs.Lone.{Lone, Next, Goes, Puts, PutWaits, Bounds, Gets, Probes, Starts, Prints, Ends, Stands, arg_at, arg_next, asks_next, begins_next, box_limit, finish_next, frames_next, message_next, native_next, next_by, next_move, on_heap, print_next, printed, put_next, start_next, thread_next, went}
+use Rattle.kilim_run_model.specs.Lone.{Lone, Next, Goes, Puts, PutWaits, Bounds, Gets, Probes, Starts, Prints, Ends, Stands, arg_at, arg_next, asks_next, begins_next, box_limit, finish_next, frames_next, message_next, native_next, next_by, next_move, on_heap, print_next, printed, put_next, raised, start_next, thread_next, went}
+use Rattle.kilim_run_model.proofs.Raised.{raised_has, raises_has, throws_has}
+use Rattle.kilim_run_machine.specs.Raising.{thrown}
+use Rattle.kilim_run_state.specs.declared.cause.EndCause.{EndCause}
+use Rattle.kilim_run_state.specs.declared.cause.EndCause.TheVariants as cause
 use Rattle.kilim_replay_laws.specs.shared.Shared.{AllIn, MoveKeeps, IsFull}
 use Rattle.kilim_replay_laws.proofs.shared.Stay.{moves_stay}
 
@@ -36,13 +40,35 @@ NextFull (Prints token after) = FullL after
 NextFull (Ends cause after) = FullL after
 NextFull Stands = Unit {0}
 
+module _ (l : Lone) (f : FullL l) where
+  kept_full : (h : Objects) → AllIn l.heap h → IsFull h l.next
+  kept_full h stay n lt = let o = f n lt in stay n o.0 o.1
+
+  made_full : (h : Objects) (object : Object) → AllIn l.heap h → IsFull (insert h l.next object) (l.next + 1)
+  made_full h object stay n lt = elim (eqb_tells n l.next) [
+    | inl z ↦ (object, subst (λ (j : ℕ). get (insert h l.next object) j ≡ Some object) (sym z.1) (put_there h l.next object))
+    | inr z ↦ let o = kept_full h stay n (below n l.next lt z.1) in (o.0, put_other h l.next object n z.1 ∙ o.1)
+  ]
+    where
+      below : (a b : ℕ) → a < b + 1 → (a ≡ b → ⊥) → a < b
+      below a b lt other = elim (nat_tells a b) [ inl e ↦ e | inr e ↦ absurd (other (omega (arith, lt, e))) ]
+        where
+          nat_tells : (a b : ℕ) → (a < b) ⊎ (b ≤ a)
+          nat_tells ℕ.zero ℕ.zero = inr (omega arith)
+          nat_tells ℕ.zero (suc b) = inl (omega arith)
+          nat_tells (suc a) ℕ.zero = inr (omega arith)
+          nat_tells (suc a) (suc b) = elim (nat_tells a b) [ inl e ↦ inl (omega (arith, e)) | inr e ↦ inr (omega (arith, e)) ]
+
 module _ (set : Setting) where
+  raised_full : (after : Lone) (why : EndCause) → FullL after → NextFull (raised set.program after why)
+  raised_full after why f = raised_has NextFull after why f set.program (λ object g gs frames done boxes e. made_full after f after.heap object (λ n o there. (o, there)))
+
   put_full : (after : Lone) (box : BoxName) (root : ℕ) (o : Option (List Token)) → FullL after → NextFull (put_next after box root o)
   put_full after box root None f = f
   put_full after box root (Some shape) f = f
 
   message_full : (after : Lone) (box : BoxName) (v : Value) → FullL after → NextFull (message_next set.program after box v)
-  message_full after box Null f = f
+  message_full after box Null f = raised_full after cause.Null f
   message_full after box (Ref root) f = put_full after box root (shape_of set.program after.heap root) f
   message_full after box _ f = tt
 
@@ -54,8 +80,8 @@ module _ (set : Setting) where
   print_full after None f = tt
   print_full after (Some token) f = f
 
-  arg_full : (after : Lone) (o : Option ℤ) → FullL after → NextFull (arg_next after o)
-  arg_full after None f = f
+  arg_full : (after : Lone) (o : Option ℤ) → FullL after → NextFull (arg_next set.program after o)
+  arg_full after None f = raised_full after cause.Index f
   arg_full after (Some x) f = f
 
   native_full : (after : Lone) (k : Native) (own : List Value) → FullL after → NextFull (native_next set after k own)
@@ -88,37 +114,20 @@ module _ (set : Setting) where
   finish_full l done boxes (Some q) f = begins_full l done boxes (begun_on set.program (execute_of set.program set.main) q) f
 
   module _ (t : ℕ) (l : Lone) (done boxes : ℕ) (f : FullL l) where
-    kept_full : (h : Objects) → AllIn l.heap h → IsFull h l.next
-    kept_full h stay n lt = let o = f n lt in stay n o.0 o.1
-
-    made_full : (h : Objects) (object : Object) → AllIn l.heap h → IsFull (insert h l.next object) (l.next + 1)
-    made_full h object stay n lt = elim (eqb_tells n l.next) [
-      | inl z ↦ (object, subst (λ (j : ℕ). get (insert h l.next object) j ≡ Some object) (sym z.1) (put_there h l.next object))
-      | inr z ↦ let o = kept_full h stay n (below n l.next lt z.1) in (o.0, put_other h l.next object n z.1 ∙ o.1)
-    ]
-      where
-        below : (a b : ℕ) → a < b + 1 → (a ≡ b → ⊥) → a < b
-        below a b lt other = elim (nat_tells a b) [ inl e ↦ e | inr e ↦ absurd (other (omega (arith, lt, e))) ]
-          where
-            nat_tells : (a b : ℕ) → (a < b) ⊎ (b ≤ a)
-            nat_tells ℕ.zero ℕ.zero = inr (omega arith)
-            nat_tells ℕ.zero (suc b) = inl (omega arith)
-            nat_tells (suc a) ℕ.zero = inr (omega arith)
-            nat_tells (suc a) (suc b) = elim (nat_tells a b) [ inl e ↦ inl (omega (arith, e)) | inr e ↦ inr (omega (arith, e)) ]
-
-    move_full : (m : Move) → MoveKeeps l.heap m → NextFull (next_by set t l done boxes m)
-    move_full (move.Runs change frames h) s = kept_full h s
-    move_full (move.Makes object frames h) s = made_full h object s
-    move_full (move.Opens frames h) s = either_full (nat_lt boxes box_limit) _ _ (kept_full h s) (kept_full h s)
-    move_full (move.Asks id args frames h) s = asks_full (went (on_heap l h) frames done boxes) args (native_of set.program id) (kept_full h s)
-    move_full (move.Returns h) s = finish_full (on_heap l h) done boxes l.kept (kept_full h s)
-    move_full (move.Raises c) s = f
-    move_full (move.Ends c) s = f
-    move_full move.Stuck s = tt
+    move_full : (top : Activation) (below : List Activation) (m : Move) → MoveKeeps l.heap m → NextFull (next_by set t l done boxes top below m)
+    move_full top below (move.Runs change frames h) s = kept_full l f h s
+    move_full top below (move.Makes object frames h) s = made_full l f h object s
+    move_full top below (move.Opens frames h) s = either_full (nat_lt boxes box_limit) _ _ (kept_full l f h s) (kept_full l f h s)
+    move_full top below (move.Asks id args frames h) s = asks_full (went (on_heap l h) frames done boxes) args (native_of set.program id) (kept_full l f h s)
+    move_full top below (move.Returns h) s = finish_full (on_heap l h) done boxes l.kept (kept_full l f h s)
+    move_full top below (move.Raises c) s = raises_has NextFull l c f set.program done boxes top below (λ object g gs. made_full l f l.heap object (λ n o there. (o, there)))
+    move_full top below (move.Throws n class c) s = throws_has NextFull l c f (done + 1) boxes (thrown set.program class (Ref n) top below) (λ g gs. f)
+    move_full top below (move.Ends c) s = f
+    move_full top below move.Stuck s = tt
 
     frames_full : (frames : List Activation) → NextFull (frames_next set t l frames done boxes)
     frames_full [] = f
-    frames_full (top ∷ below) = move_full (moves set.program top below l.heap) (moves_stay l.heap set.program top below)
+    frames_full (top ∷ below) = move_full top below (moves set.program top below l.heap) (moves_stay l.heap set.program top below)
 
   pub next_full : (t : ℕ) (l : Lone) → FullL l → NextFull (next_move set t l)
   unfolding next_move

@@ -1,5 +1,5 @@
 -- What a thread that fits does next, on any heap that has what its stack names.
-use Rattle.std.proofs.Common.{◌≡◌, ℕ, ◌+◌, ◌≤◌, ℤ, Bool, true, false, cond, List, [], ◌∷◌, Option, Some, None, refl, ap, subst, ◌∙◌, arith}
+use Rattle.std.proofs.Common.{◌≡◌, ℕ, ◌+◌, ◌≤◌, ℤ, Bool, true, false, cond, List, [], ◌∷◌, Option, Some, None, refl, sym, ap, subst, ◌∙◌, arith}
 use Rattle.std.specs.Prelude.{nat_le, nat_lt}
 use Rattle.std.proofs.Common.{◌++◌, map}
 use Rattle.kilim_program.specs.declared.verified.VType.{VType}
@@ -30,6 +30,7 @@ use Rattle.kilim_run_machine.specs.Natives as native
 use Rattle.kilim_run_state.specs.Shapes.{shape_of}
 use Rattle.kilim_run_model.specs.State.{Setting, Thread, Alive, Ended, begun_on, is_fit}
 use Rattle.kilim_run_model.specs.Lone.{Lone, Next, Goes, Puts, PutWaits, Bounds, Gets, Probes, Starts, Prints, Ends, Stands, arg_at, arg_next, asks_next, begins_next, box_limit, ended, finish_next, frames_next, message_next, native_next, next_by, next_move, on_heap, opens_next, over, print_next, printed, pushed, put_next, start_next, thread_next, went}
+use Rattle.kilim_run_model.proofs.Raised.{raised_over, raises_over, throws_over}
 use Rattle.kilim_type_spec.specs.Step.{vtype}
 use Rattle.kilim_type_sound.specs.Fits.{Classes, Fits, HeapFits, Typing, Wanted, has_type, is_of}
 use Rattle.kilim_type_sound.specs.Law.{AnswersFit, Extends, with_class}
@@ -126,7 +127,7 @@ module _ (set : Setting) (typing : Typing) (live : Wanted) (of : Classes) (is : 
         put_fits box root (Some shape) e typed = (e, typed)
 
         message_next_fits : (box : BoxName) (v : Value) → On of behind → ((root : ℕ) → v ≡ Ref root → is_of p (of root) (class_type (n + 2)) ≡ true) → NextFits (message_next p behind box v)
-        message_next_fits box Null e typed = over_fits behind cause.Null asks.heap fresh
+        message_next_fits box Null e typed = subst NextFits (sym (raised_over p is.keeps.handlers behind cause.Null)) (over_fits behind cause.Null asks.heap fresh)
         message_next_fits box (Ref root) e typed = put_fits box root (shape_of p h root) e (typed root refl)
         message_next_fits box _ e typed = tt
 
@@ -138,8 +139,8 @@ module _ (set : Setting) (typing : Typing) (live : Wanted) (of : Classes) (is : 
         print_fits None e = tt
         print_fits (Some token) e = e
 
-        arg_fits : (o : Option ℤ) → ((x : ℤ) → On of (pushed (Int x) behind)) → NextFits (arg_next behind o)
-        arg_fits None e = over_fits behind cause.Index asks.heap fresh
+        arg_fits : (o : Option ℤ) → ((x : ℤ) → On of (pushed (Int x) behind)) → NextFits (arg_next p behind o)
+        arg_fits None e = subst NextFits (sym (raised_over p is.keeps.handlers behind cause.Index)) (over_fits behind cause.Index asks.heap fresh)
         arg_fits (Some x) e = same_further (pushed (Int x) behind) (e x)
 
       message_typed : native_of p id ≡ Some native.Put → (box : BoxName) (v : Value) → args ≡ Box box ∷ v ∷ [] → (root : ℕ) → v ≡ Ref root → is_of p (of root) (class_type (n + 2)) ≡ true
@@ -198,9 +199,9 @@ module _ (set : Setting) (typing : Typing) (live : Wanted) (of : Classes) (is : 
         let b = and_parts (is_task p set.main) _ a.1 in
         begins_fit h heap (begun_on p (execute_of p set.main) q) (λ frames begun. execute_begins p is.keeps is.form typing live is.verified of h heap set.main q frames a.0 b.0 (kept q e) begun)
 
-    move_next : (m : Move) → MoveFits p typing live of m → HeapFits p of l.heap → NextFits (next_by set t l done boxes m)
-    move_next (move.Runs change frames h) m heap = same_further _ (on_frames frames h boxes (record { frames = m.0; heap = m.1 }))
-    move_next (move.Makes object frames h) m heap = record {
+    move_next : (top : Activation) (below : List Activation) (m : Move) → MoveFits p typing live of m → HeapFits p of l.heap → NextFits (next_by set t l done boxes top below m)
+    move_next top below (move.Runs change frames h) m heap = same_further _ (on_frames frames h boxes (record { frames = m.0; heap = m.1 }))
+    move_next top below (move.Makes object frames h) m heap = record {
       more = with_class of l.next object.class;
       grows = one_extends of l.next object.class (fresh l.next (omega arith));
       is = record {
@@ -209,16 +210,17 @@ module _ (set : Setting) (typing : Typing) (live : Wanted) (of : Classes) (is : 
         kept = λ q e. one_extends of l.next object.class (fresh l.next (omega arith)) q (class_type set.main.0) (kept q e);
       };
     }
-    move_next (move.Opens frames h) m heap = opens_fit frames h m
-    move_next (move.Asks id args frames h) m heap = asks_fit id args frames h m (native_of p id) refl
-    move_next (move.Returns h) m heap = finish_fits h m l.kept refl
-    move_next (move.Raises c) m heap = over_fits l c heap fresh
-    move_next (move.Ends c) m heap = over_fits l c heap fresh
-    move_next move.Stuck m heap = absurd m
+    move_next top below (move.Opens frames h) m heap = opens_fit frames h m
+    move_next top below (move.Asks id args frames h) m heap = asks_fit id args frames h m (native_of p id) refl
+    move_next top below (move.Returns h) m heap = finish_fits h m l.kept refl
+    move_next top below (move.Raises c) m heap = subst NextFits (sym (raises_over p is.keeps.handlers l c done boxes top below)) (over_fits l c heap fresh)
+    move_next top below (move.Throws q class c) m heap = subst NextFits (sym (throws_over p is.keeps.handlers l c (done + 1) boxes q class top below)) (over_fits l c heap fresh)
+    move_next top below (move.Ends c) m heap = over_fits l c heap fresh
+    move_next top below move.Stuck m heap = absurd m
 
     frames_next_fits : (frames : List Activation) → Fits p typing live of frames l.heap → TopIsThere l.heap frames → NextFits (frames_next set t l frames done boxes)
     frames_next_fits [] f there = over_fits l cause.Done f.heap fresh
-    frames_next_fits (top ∷ below) f there = move_next (moves p top below l.heap) (moves_fit p typing live of (facts_hold p is.keeps) is.verified top below l.heap f there) f.heap
+    frames_next_fits (top ∷ below) f there = move_next top below (moves p top below l.heap) (moves_fit p typing live of (facts_hold p is.keeps) is.verified top below l.heap f there) f.heap
 
   pub next_fits : (t : ℕ) (l : Lone) → On of l → StackIsThere l → NextFits (next_move set t l)
   unfolding next_move

@@ -320,6 +320,7 @@ module _ (set : Setting) (typing : Typing) (live : Wanted) (is : IsVerified set 
     asked_there (move.Opens frames h) f = tt
     asked_there (move.Returns h) f = tt
     asked_there (move.Raises c) f = tt
+    asked_there (move.Throws object class c) f = tt
     asked_there (move.Ends c) f = tt
     asked_there move.Stuck f = tt
 

@@ -16,7 +16,7 @@ use Rattle.kilim_run_state.specs.declared.value.Object.{Object}
 use Rattle.kilim_run_state.specs.Machine.{Objects}
 use Rattle.kilim_run_state.specs.Shapes.{field_in}
 use Rattle.kilim_program.specs.Names.{field_of}
-use Rattle.kilim_run_machine.specs.Effect.{Effect, Goes, Makes, Opens, Calls, Asks, Returns, Raises, Ends, Stuck, with_some, on_value, on_values, on_receiver, as_reference, as_receiver, as_int, as_long, on_int, on_two_ints, on_long, on_two_longs, is_wide, wide_or, on_word, on_two_words, on_reference, as_object, on_object, as_class, at_index, at_place, when, on_constant}
+use Rattle.kilim_run_machine.specs.Effect.{Effect, Goes, Makes, Opens, Calls, Asks, Returns, Raises, Throws, Ends, Stuck, with_some, on_value, on_values, on_receiver, as_reference, as_receiver, as_int, as_long, on_int, on_two_ints, on_long, on_two_longs, is_wide, wide_or, on_word, on_two_words, on_reference, as_object, on_object, as_class, at_index, at_place, when, on_constant}
 use Rattle.kilim_run_machine.specs.Does.{does, cast_fits, element_type, is_mailbox, makes_array, array_limit}
 use Rattle.kilim_program.specs.declared.names.MethodId.{MethodId}
 use Rattle.kilim_program.specs.Names.{method_at}
@@ -52,6 +52,7 @@ module _ (h : Objects) where
   HeapStays (Asks m args place locals stack heap) = AllStay h heap
   HeapStays (Returns value heap) = AllStay h heap
   HeapStays (Raises cause) = AllStay h h
+  HeapStays (Throws object class cause) = AllStay h h
   HeapStays (Ends cause) = AllStay h h
   HeapStays Stuck = AllStay h h
 
@@ -384,6 +385,7 @@ module _ (h : Objects) where
   by_stays p (Asks m args place locals stack k) top below s = s
   by_stays p (Returns v k) top below s = returned_stays v below k s
   by_stays p (Raises c) top below s = tt
+  by_stays p (Throws object class c) top below s = tt
   by_stays p (Ends c) top below s = tt
   by_stays p Stuck top below s = tt
 
