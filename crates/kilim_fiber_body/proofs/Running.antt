@@ -141,6 +141,7 @@ module _ (set : Setting) (W : Program) (marks : List (List Bool)) (t : ℕ) wher
     fits_by n mark top below k g ready goes is left (move.Opens frames heap) e fits = tt
     fits_by n mark top below k g ready goes is left (move.Returns heap) e fits = tt
     fits_by n mark top below k g ready goes is left (move.Raises cause) e fits = tt
+    fits_by n mark top below k g ready goes is left (move.Throws object class cause) e fits = tt
     fits_by n mark top below k g ready goes is left (move.Ends cause) e fits = tt
     fits_by n mark top below k g ready goes is left move.Stuck e fits = tt
 

@@ -14,6 +14,8 @@ use Rattle.kilim_run_machine.specs.Natives.{native_of}
 use Rattle.kilim_run_interp.specs.Step.{IsSame as SameFrames, cause_of}
 use Rattle.kilim_run_model.specs.State.{Setting, Alive}
 use Rattle.kilim_run_model.specs.Lone.{Lone, Next, Goes, Ends, asks_next, finish_next, frames_next, next_by, next_move, opens_next, over, thread_next}
+use Rattle.kilim_run_model.proofs.Raised.{raises_over, throws_over}
+use Rattle.kilim_run_machine.specs.Raising.{NoTables}
 use Rattle.kilim_run_model.specs.Course.{Quiet, Stays, Moves}
 use Rattle.kilim_fiber_spec.specs.fiber_kin.Served.{HasRoom, ResultFits}
 use Rattle.kilim_fiber_spec.proofs.fiber_kin.Fine.{opens_fit}
@@ -114,10 +116,10 @@ module _ (set : Setting) (t : ℕ) where
       pub has_frames : HasFrames mid.frames
       has_frames = subst HasFrames (sym ran.are) tt
 
-      pub next_is : (m : Objects → Move) → moves set.program at.top at.below r.heap ≡ m r.heap → next_move set t (lone_at t w' mid) ≡ next_by set t (lone_at t w' mid) mid.done mid.boxes (m w'.heap)
+      pub next_is : (m : Objects → Move) → moves set.program at.top at.below r.heap ≡ m r.heap → next_move set t (lone_at t w' mid) ≡ next_by set t (lone_at t w' mid) mid.done mid.boxes at.top at.below (m w'.heap)
       next_is m e =
           not_spent w' mid (at.top ∷ at.below) few_done calls_are
-          ∙ ap (next_by set t (lone_at t w' mid) mid.done mid.boxes) (subst (λ (x : Objects). moves set.program at.top at.below x ≡ m x) (sym same.heap) e)
+          ∙ ap (next_by set t (lone_at t w' mid) mid.done mid.boxes at.top at.below) (subst (λ (x : Objects). moves set.program at.top at.below x ≡ m x) (sym same.heap) e)
 
       move_is : (m : Objects → Move) → moves set.program at.top at.below r.heap ≡ m r.heap → moves set.program at.top at.below w'.heap ≡ m w'.heap
       move_is m e = subst (λ (x : Objects). moves set.program at.top at.below x ≡ m x) (sym same.heap) e
@@ -175,8 +177,15 @@ module _ (set : Setting) (t : ℕ) where
         let less : l.done + ran.steps < set.limits.steps = omega (arith, few) in
         record { mid = there; quiet = to_there; does = ends_move less ∙ ap (λ (x : Objects). Ends c (record { heap = x; next = w'.next; thread = Rattle.kilim_run_model.specs.State.Ended c; kept = None })) (sym same) }
       where
-        ends_by : (m : Move) → cause_of m ≡ Some c → next_by set t there (l.done + ran.steps) l.boxes m ≡ over there c
-        ends_by (move.Raises d) f = ap (over there) (some_same d c f)
+        none : NoTables set.program
+        none = (can there to_there).none
+
+        ends_by : (m : Move) → cause_of m ≡ Some c → next_by set t there (l.done + ran.steps) l.boxes top below m ≡ over there c
+        ends_by (move.Raises d) f = raises_over set.program none there d (l.done + ran.steps) l.boxes top below ∙ ap (over there) (some_same d c f)
+          where
+            some_same : (a b : EndCause) → Some a ≡ Some b → a ≡ b
+            some_same a b g = cc
+        ends_by (move.Throws q class d) f = throws_over set.program none there d (l.done + ran.steps + 1) l.boxes q class top below ∙ ap (over there) (some_same d c f)
           where
             some_same : (a b : EndCause) → Some a ≡ Some b → a ≡ b
             some_same a b g = cc

@@ -37,12 +37,12 @@ use Rattle.kilim_replay_thread.specs.declared.runs.Halted.TheVariants as halted
 use Rattle.kilim_replay_thread.specs.Thread.{HasRun, IsLast, IsOpen, IsSafe, Settles, is_plain, IsNamed, RanOn, MadeOne, StepsOn, RunsTo, AtFirst, Further, RunsAreQuiet, thread_on, is_asked, IsShown}
 
 module _ (set : Setting) (t : ℕ) (boxes : ℕ) (kept : Option ℕ) where
-  named_goes : (m : Move) (calls : List Activation) (h k : Objects) (next after done : ℕ) (frames : List Activation) → IsNamed m calls h k next after →
-      next_by set t (thread_on h next kept frames done boxes) done boxes m ≡ Goes (thread_on k after kept calls (done + 1) boxes)
-  named_goes m calls h k next after done frames (RanOn change is same) =
-      ap (next_by set t (thread_on h next kept frames done boxes) done boxes) is ∙ ap (λ (j : ℕ). Goes (thread_on k j kept calls (done + 1) boxes)) (sym same)
-  named_goes m calls h k next after done frames (MadeOne object before is pushed added same) =
-      ap (next_by set t (thread_on h next kept frames done boxes) done boxes) is
+  named_goes : (top : Activation) (below : List Activation) (m : Move) (calls : List Activation) (h k : Objects) (next after done : ℕ) (frames : List Activation) → IsNamed m calls h k next after →
+      next_by set t (thread_on h next kept frames done boxes) done boxes top below m ≡ Goes (thread_on k after kept calls (done + 1) boxes)
+  named_goes top below m calls h k next after done frames (RanOn change is same) =
+      ap (next_by set t (thread_on h next kept frames done boxes) done boxes top below) is ∙ ap (λ (j : ℕ). Goes (thread_on k j kept calls (done + 1) boxes)) (sym same)
+  named_goes top below m calls h k next after done frames (MadeOne object before is pushed added same) =
+      ap (next_by set t (thread_on h next kept frames done boxes) done boxes top below) is
       ∙ (ap (λ (cs : List Activation). Goes (thread_on (insert h next object) (next + 1) kept cs (done + 1) boxes)) (sym pushed)
       ∙ (ap (λ (x : Objects). Goes (thread_on x (next + 1) kept calls (done + 1) boxes)) (sym added)
       ∙ ap (λ (j : ℕ). Goes (thread_on k j kept calls (done + 1) boxes)) (sym same)))
@@ -52,7 +52,7 @@ module _ (set : Setting) (t : ℕ) (boxes : ℕ) (kept : Option ℕ) where
   step_goes [] calls h k next after done left s = absurd s
   step_goes (top ∷ below) calls h k next after done left s =
       ap (λ (z : Bool). cond z (over (thread_on h next kept (top ∷ below) done boxes) cause.Spent) (frames_next set t (thread_on h next kept (top ∷ below) done boxes) (top ∷ below) done boxes)) (lt-leb set.limits.steps done left)
-      ∙ named_goes (moves set.program top below h) calls h k next after done (top ∷ below) s
+      ∙ named_goes top below (moves set.program top below h) calls h k next after done (top ∷ below) s
 
   quiet : (first : List Activation) (h : Objects) (next done : ℕ) (calls : List Activation) (k : Objects) (after n : ℕ) → RunsTo set.program first h next n calls k after → done + n ≤ set.limits.steps → Quiet set t (thread_on h next kept first done boxes) (thread_on k after kept calls (done + n) boxes)
   quiet first h next done calls k after n (AtFirst none same heap names) le =
@@ -119,6 +119,7 @@ by_no p (effect.Calls m args place ls st h) top below n o gs y e = no_called _ _
 by_no p (effect.Asks m args place ls st h) top below n o gs y e = cc
 by_no p (effect.Returns v h) top below n o gs y e = no_returned v below h o gs y e
 by_no p (effect.Raises c) top below n o gs y e = cc
+by_no p (effect.Throws object class c) top below n o gs y e = cc
 by_no p (effect.Ends c) top below n o gs y e = cc
 by_no p effect.Stuck top below n o gs y e = cc
 
@@ -175,6 +176,7 @@ asks_not p (effect.Calls m own place ls st h) top below n id args gs y e = no_as
 asks_not p (effect.Asks m own place ls st h) top below n id args gs y e = n
 asks_not p (effect.Returns v h) top below n id args gs y e = no_returned_ask v below h id args gs y e
 asks_not p (effect.Raises c) top below n id args gs y e = cc
+asks_not p (effect.Throws object class c) top below n id args gs y e = cc
 asks_not p (effect.Ends c) top below n id args gs y e = cc
 asks_not p effect.Stuck top below n id args gs y e = cc
 

@@ -12,6 +12,7 @@ ghost use Rattle.kilim_replay_thread.specs.Comes.{CanAsk, CanShow, Comes, HasRoo
 ghost use Rattle.kilim_replay_thread.specs.Live.{HasFrames, HasOperands, RoomIn, RoomyIn, behind_at, operands_in};
 ghost use Rattle.kilim_replay_thread.specs.Operands.{AreCopies};
 
+use crate::kept::tables;
 use crate::operands::{Operands, copy_operands};
 use crate::pass::{go_on, go_on_with};
 use crate::task::{Came, Live, World};
@@ -68,13 +69,14 @@ fn arg(
     requires roomy { RoomyIn program.now live.old.frames }
     requires room { RoomIn program.now live.old.frames }
     requires counts { live.old.done + 1 < 2 ^ 64 }
-    ensures comes { Comes task (arg_next (behind_at task world.now live.old) (arg_at limits.now.args index.now)) world.now live.old world.now live.new result }
+    ensures comes { Comes task (arg_next program.now (behind_at task world.now live.old) (arg_at limits.now.args index.now)) world.now live.old world.now live.new result }
     ensures roomy { RoomyIn program.now live.new.frames }
     ensures counted { IsNear live.old.done live.new.done }
     ensures room { HasRoomFor program.now world.now live.new result }
 {
     let _ = task;
     let _ = world;
+    tables(program);
     match arg_at(&limits.args, index) {
         Some(number) => {
             go_on_with(program, live, Value::Int(number));
@@ -177,6 +179,7 @@ fn put(
     ensures comes { IfOk result (λ came. Comes task (message_next program.now (behind_at task world.now live.now) mailbox message.now) world.now live.now world.now live.now came) }
     ensures room { IfOk result (λ came. HasRoomFor program.now world.now live.now came) }
 {
+    tables(program);
     match message {
         Value::Null => Ok(Came::Ends(EndCause::Null)),
         Value::Ref(root) => put_tree(alloc, program, mailbox, *root, task, world, live),

@@ -4,6 +4,7 @@
 mod advance;
 mod asks;
 mod begin;
+mod kept;
 mod operands;
 mod pass;
 mod runs;
