@@ -3,10 +3,12 @@
 
 use kilim_command::complain;
 use kilim_top::command;
+use std::io::IsTerminal;
 use std::process::ExitCode;
 
 fn main(rt: HostRuntime) -> ExitCode {
-    let status = command(&rt);
+    let is_terminal = rt.stderr().is_terminal();
+    let status = command(&rt, is_terminal);
     complain(&rt, status);
     ExitCode::from(status)
 }
