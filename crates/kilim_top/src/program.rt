@@ -21,7 +21,9 @@ fn run<R: Threads + Wait + Sync + Clock + Files + Print + Eprint>(
             let mut files = DiskFolder::new(rt, alloc);
             let gate = AliveGate::new(rt, is_terminal);
             let mut out = ClearedSink::new(rt, &gate);
-            kilim(rt, alloc, words, &mut files, &mut out, &gate)
+            let status = kilim(rt, alloc, words, &mut files, &mut out, &gate);
+            gate.done();
+            status
         }
     }
 }
