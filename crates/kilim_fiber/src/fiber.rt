@@ -28,7 +28,7 @@ use kilim_run_board::fibers::{Answer, Wants};
 use kilim_run_model::Beginning;
 use kilim_run_state::{EndCause, Limits, Shape};
 use kilim_run_trees::Tree;
-use kilim_units::NoMemory;
+use kilim_units::{NoMemory, unmet};
 use std::alloc::Global;
 use std::snapshot::Snapshot;
 
@@ -210,7 +210,8 @@ impl Fiber {
         ensures { OnOk result (Refused code.now.program self.old self.new mailbox) }
     {
         if self.body.count == 0 {
-            return Err(NoMemory);
+            // unmet: a `get` has operands, and the first frame has none
+            return Err(unmet());
         }
         pause(self.alloc, &code.program, mailbox, &mut self.body);
         self.refused = Some(mailbox);
@@ -290,7 +291,8 @@ impl Fiber {
                 self.rests = true;
                 Ok(Wants::Rest(Some(mailbox)))
             }
-            _ => Err(NoMemory),
+            // unmet: a fiber that pauses goes on pausing, or rests
+            _ => Err(unmet()),
         }
     }
 
@@ -309,7 +311,8 @@ impl Fiber {
         let _ = limits;
         if !self.may_rest(before, &came) {
             drop(came);
-            return Err(NoMemory);
+            // unmet: where a fiber comes to pause by itself it has counted
+            return Err(unmet());
         }
         self.rests = is_resting(&came);
         let Ok((wants, asked)) = wanted(self.alloc, &code.program, self.main, came) else {
@@ -332,7 +335,8 @@ impl Fiber {
         };
         if body.idle {
             drop(body);
-            return Err(NoMemory);
+            // unmet: the main class is a class of a file, and its constructor isn't built in
+            return Err(unmet());
         }
         let boot = Beginning::Boot;
         Ok(new_fiber(alloc, main, Snapshot::of(&boot), body))

@@ -24,7 +24,7 @@ use crate::pass::{give, pass};
 use kilim_fiber_steps::records::natives::Native;
 use kilim_program::{BoxName, MethodId, Program, Value};
 use kilim_run_state::{EndCause, Limits, Shape, Token};
-use kilim_units::{NoMemory, Seq};
+use kilim_units::{NoMemory, Seq, unmet};
 use std::alloc::Global;
 
 /// It goes on behind a method without a result.
@@ -543,7 +543,8 @@ pub fn ask(
     ensures room { IfOk result (λ came. HasRoomFor code.now.program body.new came) }
 {
     let Some(native) = code.native(method) else {
-        return Err(NoMemory);
+        // unmet: such a method is one of those that are handed out
+        return Err(unmet());
     };
     match native {
         Native::OfFiber(member) => ask_member(alloc, &code.program, member, body),

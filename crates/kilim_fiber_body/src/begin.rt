@@ -12,7 +12,7 @@ use kilim_program::lookups::method_at;
 use kilim_program::{MethodId, Program, Value};
 use kilim_run_interp::new_frame;
 use kilim_run_state::frames::{Callers, Frames};
-use kilim_units::NoMemory;
+use kilim_units::{NoMemory, unmet};
 use std::alloc::Global;
 
 /// The frames with which a method with code begins.
@@ -62,10 +62,12 @@ pub fn begun_with(
     ensures roomy { IfOk result (λ frames. RoomyIn program.now frames) }
 {
     let Some(id) = id else {
-        return Err(NoMemory);
+        // unmet: a fit main class has a constructor, and a task class an `execute`
+        return Err(unmet());
     };
     let Some(method) = method_at(program, id) else {
-        return Err(NoMemory);
+        // unmet: members of a program name methods of it
+        return Err(unmet());
     };
     if method.built_in {
         return Ok(None);

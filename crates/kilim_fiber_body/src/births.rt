@@ -14,7 +14,7 @@ use kilim_run_interp::instruction::new_object;
 use kilim_run_state::Heap;
 use kilim_run_state::frames::Frames;
 use kilim_run_trees::{Tree, put_in};
-use kilim_units::NoMemory;
+use kilim_units::{NoMemory, unmet};
 use std::alloc::Global;
 
 fn new_body(
@@ -52,7 +52,8 @@ pub fn begun_body(alloc: Global, program: &Program, tree: Tree) -> Result<Body, 
         return Err(NoMemory);
     };
     let Base::Class(class) = heap.class(root).base else {
-        return Err(NoMemory);
+        // unmet: what is started is a task object, and no array
+        return Err(unmet());
     };
     let method = execute_of(program, class);
     let Ok(frames) = begun_on(alloc, program, method, root) else {

@@ -13,7 +13,7 @@ use crate::code::Code;
 use kilim_fiber_steps::{Halted, run_counted};
 use kilim_program::ClassId;
 use kilim_run_state::{EndCause, Limits};
-use kilim_units::NoMemory;
+use kilim_units::{NoMemory, no_room, unmet};
 use std::alloc::Global;
 
 /// More legs than a machine ever does.
@@ -91,7 +91,8 @@ fn leg(
         return Err(NoMemory);
     };
     if body.count == u64::MAX {
-        return Err(NoMemory);
+        // room: 2^64 - 1 instructions of a task
+        return Err(no_room());
     }
     match gone.1 {
         Halted::Stops => Ok(Came::On),
@@ -129,12 +130,14 @@ pub fn reach(
         };
         if body.count > limits.steps {
             drop(came);
-            return Err(NoMemory);
+            // unmet: a counted instruction is done only below the limit
+            return Err(unmet());
         }
         match came {
             Came::On => {}
             came => return Ok(came),
         }
     }
-    Err(NoMemory)
+    // unmet: in 67,108,864 steps a fiber comes to something that counts
+    Err(unmet())
 }

@@ -34,7 +34,7 @@ use kilim_run_interp::{Stepped, await_answer, settle};
 use kilim_run_rows::Moved;
 use kilim_run_state::frames::{Frame, Frames, no_frame};
 use kilim_run_state::{EndCause, Heap};
-use kilim_units::{NoMemory, Seq};
+use kilim_units::{NoMemory, Seq, unmet};
 use std::alloc::Global;
 use std::mem::replace;
 
@@ -633,10 +633,10 @@ fn go_on(
         Stepped::NewBox => Ok(Some(Halted::NewBox)),
         Stepped::Returned => Ok(Some(Halted::Returned)),
         Stepped::Ended(cause) => Ok(Some(Halted::Ended(cause))),
-        // such a call was asked above
         Stepped::AtNative(call) => {
             let _call = call;
-            Err(NoMemory)
+            // unmet: such a call was asked above
+            Err(unmet())
         }
     }
 }
@@ -668,10 +668,12 @@ pub fn run_counted(
     'steps: loop {
         let method = frames.top.method;
         let Some(own) = method_at(program, method) else {
-            return Err(NoMemory);
+            // unmet: frames are of methods of the program
+            return Err(unmet());
         };
         let Some(marks) = marks_of(counted, method) else {
-            return Err(NoMemory);
+            // unmet: each method has its marks
+            return Err(unmet());
         };
         let marks = marks.as_slice();
         let table = places.of_method(method);
@@ -696,9 +698,10 @@ pub fn run_counted(
                     halted: Halted::Spent,
                 });
             }
-            Halt::Lost => return Err(NoMemory),
-            // `run_frame` has done what is far
-            Halt::Far => return Err(NoMemory),
+            // unmet: each instruction at which a frame stands has a mark
+            Halt::Lost => return Err(unmet()),
+            // unmet: `run_frame` has done what is far
+            Halt::Far => return Err(unmet()),
             Halt::On => {
                 left = leg.left;
                 fuel = leg.fuel - 1;
