@@ -15,7 +15,7 @@ use Rattle.kilim_run_state.specs.declared.frames.frame.Frame.{Frame}
 use Rattle.kilim_run_state.specs.declared.frames.frames.Frames.{Frames}
 use Rattle.kilim_run_state.specs.frames.Calls.{activation, below_of, calls_of}
 use Rattle.kilim_run_rows.specs.declared.outcome.Moved.{Moved}
-use Rattle.kilim_run_rows.specs.declared.outcome.Moved.TheVariants.{Next, Jump, Made, Opened, Called, Asked, Returned, ReturnedValue, Raised, Ended, NoMemory}
+use Rattle.kilim_run_rows.specs.declared.outcome.Moved.TheVariants.{Next, Jump, Made, Opened, Called, Asked, Returned, ReturnedValue, Raised, Thrown, Ended, NoMemory}
 use Rattle.kilim_run_rows.specs.Outcome as outcome
 use Rattle.kilim_run_rows.specs.Outcome.{SameFrame, Shows, height, is_stuck}
 use Rattle.kilim_run_interp.specs.Step.{AreRoomy, IsWent}
@@ -41,6 +41,7 @@ shows_at own e next (Asked m n) before after h k q shows = (shows.0, shows.1, st
 shows_at own e next Returned before after h k q shows = (shows.0, still_at before after h k q shows.1)
 shows_at own e next ReturnedValue before after h k q shows = (shows.0, shows.1, still_at before after h k q shows.2)
 shows_at own e next (Raised cause) before after h k q shows = shows
+shows_at own e next (Thrown at class cause) before after h k q shows = shows
 shows_at own e next (Ended cause) before after h k q shows = shows
 shows_at own e next NoMemory before after h k q shows = tt
 

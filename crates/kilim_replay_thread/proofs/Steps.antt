@@ -133,6 +133,7 @@ plain_no own e behind (moved.Asked id n) before after h k z s = subst IsNoNew (s
 plain_no own e behind moved.Returned before after h k z s = subst IsNoNew (sym s.0) tt
 plain_no own e behind moved.ReturnedValue before after h k z s = subst IsNoNew (sym s.1) tt
 plain_no own e behind (moved.Raised c) before after h k z s = subst IsNoNew (sym s.0) tt
+plain_no own e behind (moved.Thrown at class c) before after h k z s = subst IsNoNew (sym s.0) tt
 plain_no own e behind (moved.Ended c) before after h k z s = subst IsNoNew (sym s.0) tt
 plain_no own e behind moved.NoMemory before after h k z s = absurd (cc)
 
@@ -151,6 +152,7 @@ ended_still p own e behind (moved.Asked id n) before after below h k c z s w = s
 ended_still p own e behind moved.Returned before after below h k c z s w = s.1.heap
 ended_still p own e behind moved.ReturnedValue before after below h k c z s w = s.2.heap
 ended_still p own e behind (moved.Raised cause) before after below h k c z s w = s.1
+ended_still p own e behind (moved.Thrown at class cause) before after below h k c z s w = s.1
 ended_still p own e behind (moved.Ended cause) before after below h k c z s w = s.1
 ended_still p own e behind moved.NoMemory before after below h k c z s w = absurd (cc)
 
@@ -190,6 +192,7 @@ other_no own e behind (moved.Asked id n) before after h k z o s = absurd (cc)
 other_no own e behind moved.Returned before after h k z o s = subst IsNoAsk (sym s.0) tt
 other_no own e behind moved.ReturnedValue before after h k z o s = subst IsNoAsk (sym s.1) tt
 other_no own e behind (moved.Raised c) before after h k z o s = subst IsNoAsk (sym s.0) tt
+other_no own e behind (moved.Thrown at class c) before after h k z o s = subst IsNoAsk (sym s.0) tt
 other_no own e behind (moved.Ended c) before after h k z o s = subst IsNoAsk (sym s.0) tt
 other_no own e behind moved.NoMemory before after h k z o s = absurd (cc)
 

@@ -16,7 +16,7 @@ use Rattle.kilim_run_state.specs.declared.frames.frame.Frame.{Frame}
 use Rattle.kilim_run_state.specs.declared.frames.frames.Frames.{Frames}
 use Rattle.kilim_run_state.specs.frames.Calls.{below_of}
 use Rattle.kilim_run_rows.specs.declared.outcome.Moved.{Moved}
-use Rattle.kilim_run_rows.specs.declared.outcome.Moved.TheVariants.{Next, Jump, Made, Opened, Called, Asked, Returned, ReturnedValue, Raised, Ended, NoMemory}
+use Rattle.kilim_run_rows.specs.declared.outcome.Moved.TheVariants.{Next, Jump, Made, Opened, Called, Asked, Returned, ReturnedValue, Raised, Thrown, Ended, NoMemory}
 use Rattle.kilim_run_rows.specs.Outcome.{Shows, height, returned_by}
 use Rattle.kilim_run_interp.specs.Step.{CallerFits, CanSettle, FitsStack, stack_limit}
 
@@ -52,5 +52,6 @@ can_settle p own e next (Asked id n) before f h k m shows fits = shows.0
 can_settle p own e next Returned before f h k m shows fits = tt
 can_settle p own e next ReturnedValue before f h k m shows fits = (shows.0, value_fits p own e m (below_of f) f.top.stack.values k shows.0 shows.1 fits)
 can_settle p own e next (Raised c) before f h k m shows fits = tt
+can_settle p own e next (Thrown at class c) before f h k m shows fits = tt
 can_settle p own e next (Ended c) before f h k m shows fits = tt
 can_settle p own e next NoMemory before f h k m shows fits = tt

@@ -1,11 +1,12 @@
 -- From what came of an instruction of the top frame to the machine's move.
 use Rattle.std.proofs.Common.{◌≡◌, ◌∙◌, sym, ap, subst, ℕ, List, ◌∷◌, Some}
+use Rattle.kilim_program.specs.declared.names.ClassId.{ClassId}
 use Rattle.kilim_program.specs.declared.names.MethodId.{MethodId}
 use Rattle.kilim_program.specs.declared.value.Value.{Value}
 use Rattle.kilim_program.specs.Program.{Program}
 use Rattle.kilim_run_state.specs.declared.cause.EndCause.{EndCause}
 use Rattle.kilim_run_state.specs.Machine.{Activation, Objects}
-use Rattle.kilim_run_machine.specs.Effect.{Effect, Goes, Raises, Ends}
+use Rattle.kilim_run_machine.specs.Effect.{Effect, Goes, Raises, Throws, Ends}
 use Rattle.kilim_run_machine.specs.Moves as move
 use Rattle.kilim_run_machine.specs.Moves.{move_by}
 use Rattle.kilim_run_state.specs.declared.frames.frame.Frame.{Frame}
@@ -47,6 +48,9 @@ module _ (p : Program) (e : Effect) (before after : Frame) (below : List Activat
 
   pub raises : (c : EndCause) → e ≡ Raises c → cause_of (move_by p e (activation before) below) ≡ Some c
   raises c is = ap (λ (x : Effect). cause_of (move_by p x (activation before) below)) is
+
+  pub throws : (n : ℕ) (class : ClassId) (c : EndCause) → e ≡ Throws n class c → cause_of (move_by p e (activation before) below) ≡ Some c
+  throws n class c is = ap (λ (x : Effect). cause_of (move_by p x (activation before) below)) is
 
   pub ends : (c : EndCause) → e ≡ Ends c → cause_of (move_by p e (activation before) below) ≡ Some c
   ends c is = ap (λ (x : Effect). cause_of (move_by p x (activation before) below)) is

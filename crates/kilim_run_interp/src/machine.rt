@@ -292,6 +292,7 @@ pub fn settle(
         Moved::Returned => Ok(leave(program, frames)),
         Moved::ReturnedValue => Ok(leave_with(program, own, frames)),
         Moved::Raised(cause) => Ok(Stepped::Ended(cause)),
+        Moved::Thrown(_, _, cause) => Ok(Stepped::Ended(cause)),
         Moved::Ended(cause) => Ok(Stepped::Ended(cause)),
         Moved::NoMemory => Err(NoMemory),
     }

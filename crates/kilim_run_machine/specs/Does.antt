@@ -29,10 +29,11 @@ use Rattle.kilim_program.specs.Fits.{fits_type}
 use Rattle.kilim_run_state.specs.declared.cause.EndCause.TheVariants as cause
 use Rattle.kilim_run_state.specs.declared.value.Object.{Object}
 use Rattle.kilim_run_state.specs.Machine.{Objects}
+use Rattle.kilim_run_machine.specs.Raising.{thrown_cause}
 use Rattle.kilim_run_machine.specs.Natives.{is_built_in_constructor, is_handed_out, is_text_method}
 use Rattle.kilim_run_state.specs.Objects.{first_value_of, new_array, new_object}
 use Rattle.kilim_run_state.specs.Shapes.{field_in}
-use Rattle.kilim_run_machine.specs.Effect.{Effect, Goes, Makes, Opens, Calls, Asks, Returns, Raises, Ends, Stuck, with_some, on_value, on_values, on_receiver, as_reference, as_receiver, as_int, as_long, on_int, on_two_ints, on_long, on_two_longs, on_word, on_two_words, on_reference, on_object, as_class, at_index, when, on_constant, text_of}
+use Rattle.kilim_run_machine.specs.Effect.{Effect, Goes, Makes, Opens, Calls, Asks, Returns, Raises, Throws, Ends, Stuck, with_some, on_value, on_values, on_receiver, as_reference, as_receiver, as_int, as_long, on_int, on_two_ints, on_long, on_two_longs, on_word, on_two_words, on_reference, as_object, on_object, as_class, at_index, when, on_constant, text_of}
 
 -- ---- numbers: ints have 32 bits and longs 64, and what passes these wraps (JVMS 2.11.3)
 
@@ -278,6 +279,11 @@ takes_element next locals stack heap =
     on_int stack (λ i below. on_object below heap (λ n object rest. at_index object.elements i (λ k v.
     Goes next locals (v ∷ rest) (insert heap n (with_element object k Null)))))
 
+-- verified code throws no array
+abbrev pub throws_object : Program → ℕ → ℕ → Base → Effect
+throws_object p n zero (base.Class c) = Throws n c (thrown_cause p c)
+throws_object p n dims b = Stuck
+
 -- ---- the table
 
 unfoldable pub does : Program → Method → Instr → ℕ → List Value → List Value → Objects → Effect
@@ -411,5 +417,5 @@ does p own (Anewarray ty) next locals stack heap = on_int stack (λ n rest. make
 does p own Arraylength next locals stack heap = on_object stack heap (λ n object rest. Goes next locals (Int (int_length (length object.elements)) ∷ rest) heap)
 does p own (Checkcast ty) next locals stack heap = on_value stack (λ v rest. as_class p v heap (λ class. if cast_fits p class ty then Goes next locals (v ∷ rest) heap else Raises cause.Cast))
 does p own (Instanceof ty) next locals stack heap = on_value stack (λ v rest. as_class p v heap (λ class. Goes next locals (Int (bit (is_instance p class ty)) ∷ rest) heap))
--- linking refuses it
-does p own Athrow next locals stack heap = Stuck
+-- an object of a class is thrown
+does p own Athrow next locals stack heap = on_object stack heap (λ n object rest. throws_object p n object.class.dims object.class.base)

@@ -1,6 +1,6 @@
 pub mod Natives
 pub mod Effect
-pub mod Does
 pub mod Raising
+pub mod Does
 pub mod Moves
 pub mod Found

@@ -11,7 +11,7 @@ use Rattle.kilim_run_machine.specs.Effect.{Effect, Goes, Stuck, is_wide, when, w
 use Rattle.kilim_run_machine.specs.Does.{does}
 use Rattle.kilim_run_state.specs.declared.frames.frame.Frame.{Frame}
 use Rattle.kilim_run_rows.specs.declared.outcome.Moved.{Moved}
-use Rattle.kilim_run_rows.specs.declared.outcome.Moved.TheVariants.{Next, Jump, Made, Opened, Called, Asked, Returned, ReturnedValue, Raised, Ended, NoMemory}
+use Rattle.kilim_run_rows.specs.declared.outcome.Moved.TheVariants.{Next, Jump, Made, Opened, Called, Asked, Returned, ReturnedValue, Raised, Thrown, Ended, NoMemory}
 use Rattle.kilim_run_rows.specs.Laid.{IsLaid, copied}
 use Rattle.kilim_run_rows.specs.Outcome.{height, is_stuck, Shows}
 
@@ -27,6 +27,7 @@ laid_shows own e next (Asked m n) old before after values h laid is = absurd lai
 laid_shows own e next Returned old before after values h laid is = absurd laid
 laid_shows own e next ReturnedValue old before after values h laid is = absurd laid
 laid_shows own e next (Raised cause) old before after values h laid is = absurd laid
+laid_shows own e next (Thrown at class cause) old before after values h laid is = absurd laid
 laid_shows own e next (Ended cause) old before after values h laid is = absurd laid
 laid_shows own e next NoMemory old before after values h laid is = tt
 

@@ -3,7 +3,7 @@ use Rattle.std.specs.Prelude.{◌≡◌, ℕ, List, ◌++◌, take, drop}
 use Rattle.kilim_program.specs.declared.value.Value.{Value}
 use Rattle.kilim_run_state.specs.declared.frames.frame.Frame.{Frame}
 use Rattle.kilim_run_rows.specs.declared.outcome.Moved.{Moved}
-use Rattle.kilim_run_rows.specs.declared.outcome.Moved.TheVariants.{Next, Jump, Made, Opened, Called, Asked, Returned, ReturnedValue, Raised, Ended, NoMemory}
+use Rattle.kilim_run_rows.specs.declared.outcome.Moved.TheVariants.{Next, Jump, Made, Opened, Called, Asked, Returned, ReturnedValue, Raised, Thrown, Ended, NoMemory}
 
 -- The frame goes on behind, with these values on its stack. Want of memory tells nothing.
 abbrev pub IsLaid : Moved → Frame → Frame → List Value → Type 0
@@ -16,6 +16,7 @@ IsLaid (Asked m n) before after values = ⊥
 IsLaid Returned before after values = ⊥
 IsLaid ReturnedValue before after values = ⊥
 IsLaid (Raised cause) before after values = ⊥
+IsLaid (Thrown at class cause) before after values = ⊥
 IsLaid (Ended cause) before after values = ⊥
 IsLaid NoMemory before after values = Unit {0}
 

@@ -11,7 +11,7 @@ use Rattle.kilim_run_machine.specs.Effect.{Effect, Goes, Makes, Opens, Calls, As
 use Rattle.kilim_run_state.specs.Words.{element_at}
 use Rattle.kilim_run_state.specs.declared.frames.frame.Frame.{Frame}
 use Rattle.kilim_run_rows.specs.declared.outcome.Moved.{Moved}
-use Rattle.kilim_run_rows.specs.declared.outcome.Moved.TheVariants.{Next, Jump, Made, Opened, Called, Asked, Returned, ReturnedValue, Raised, Ended, NoMemory}
+use Rattle.kilim_run_rows.specs.declared.outcome.Moved.TheVariants.{Next, Jump, Made, Opened, Called, Asked, Returned, ReturnedValue, Raised, Thrown, Ended, NoMemory}
 
 abbrev pub is_stuck : Effect → Bool
 is_stuck (Goes place locals stack heap) = false
@@ -78,6 +78,7 @@ Shows own e next (Asked m n) before after old new =
 Shows own e next Returned before after old new = (e ≡ Returns None new) × IsStill before after old new
 Shows own e next ReturnedValue before after old new = (0 < length after.stack.values) × (e ≡ Returns (returned_by own after.stack.values) new) × IsStill before after old new
 Shows own e next (Raised cause) before after old new = (e ≡ Raises cause) × (new ≡ old)
+Shows own e next (Thrown at class cause) before after old new = (e ≡ Throws at class cause) × (new ≡ old)
 Shows own e next (Ended cause) before after old new = (e ≡ Ends cause) × (new ≡ old)
 Shows own e next NoMemory before after old new = Unit {0}
 

@@ -7,6 +7,7 @@ mod locals;
 mod numbers;
 mod objects;
 mod outcome;
+mod throwing;
 mod types;
 mod words;
 
@@ -27,6 +28,7 @@ pub use objects::{
     read_reference, write_field, write_int, write_long, write_narrowed,
 };
 pub use outcome::Moved;
+pub use throwing::{throw_object, thrown_cause};
 pub use types::{cast, test_type, type_of, write_reference};
 pub use words::{
     copy_below_one, copy_below_two, copy_two, copy_two_below_one, copy_two_below_two, copy_word,

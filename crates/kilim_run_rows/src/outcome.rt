@@ -1,6 +1,6 @@
 //! What came of an instruction.
 
-use kilim_program::MethodId;
+use kilim_program::{ClassId, MethodId};
 use kilim_run_state::EndCause;
 
 /// What came of an instruction of a frame. Where it calls, asks or returns, the arguments or the value are still on the
@@ -25,6 +25,8 @@ pub enum Moved {
     ReturnedValue,
     /// Something is wrong with a value.
     Raised(EndCause),
+    /// An object of that class is thrown. Where nothing catches it, the task ends with the cause.
+    Thrown(u32, ClassId, EndCause),
     /// The task ends.
     Ended(EndCause),
     /// Want of memory: the frame may only be dropped.

@@ -10,6 +10,8 @@ use Rattle.kilim_program.specs.declared.class.Method.{Method}
 use Rattle.kilim_program.specs.declared.instr.Instr.{Instr}
 use Rattle.kilim_program.specs.declared.instr.Instr.TheVariants as instr
 use Rattle.kilim_program.specs.declared.names.MethodId.{MethodId}
+use Rattle.kilim_program.specs.declared.ty.Base.{Base}
+use Rattle.kilim_program.specs.declared.ty.Base.TheVariants as base
 use Rattle.kilim_program.specs.declared.ty.Ty.{Ty}
 use Rattle.kilim_run_state.specs.declared.value.Object.{Object}
 use Rattle.kilim_program.specs.declared.value.Value.{Value}
@@ -18,7 +20,7 @@ use Rattle.kilim_program.specs.Names.{field_of, method_at}
 use Rattle.kilim_program.specs.Program.{Program}
 use Rattle.kilim_run_state.specs.Machine.{Objects}
 use Rattle.kilim_run_machine.specs.Effect.{Effect, Goes, Makes, Opens, Calls, Asks, Returns, Raises, Throws, Ends, Stuck, with_some, on_value, on_values, as_class, as_reference, as_receiver, as_int, as_long, when, wide_or, as_object, at_place, at_index, on_constant}
-use Rattle.kilim_run_machine.specs.Does.{at_unit, calls_method, calls_on, calls_text, cast_fits, chosen, does, element_type, makes_array, array_limit, takes_element, text_answers, unit_at, with_element}
+use Rattle.kilim_run_machine.specs.Does.{at_unit, calls_method, calls_on, calls_text, cast_fits, chosen, does, element_type, makes_array, array_limit, takes_element, text_answers, throws_object, unit_at, with_element}
 use Rattle.kilim_run_machine.specs.Natives.{is_handed_out}
 use Rattle.kilim_run_state.specs.Objects.{new_array}
 use Rattle.kilim_run_state.specs.Shapes.{field_in}
@@ -144,6 +146,11 @@ r_answers name units (v ∷ w ∷ vs) to l s h = refl
 r_text : (named : Method) (args : List Value) (to : ℕ) (l s : List Value) (h : Objects) (v : Value) → reheap h (calls_text named args to l s h v) ≡ calls_text named args to l s h v
 r_text named args to l s h v = simp (r_receiver, r_some, r_answers)
 
+r_throws : (h : Objects) (p : Program) (n dims : ℕ) (b : Base) → reheap h (throws_object p n dims b) ≡ throws_object p n dims b
+r_throws h p n zero (base.Class c) = refl
+r_throws h p n zero b = refl
+r_throws h p n (suc d) b = refl
+
 module _ (P : Program) (own : Method) (l : List Value) (to : ℕ) (s : List Value) (heap : Objects) where
   reheaped_simple : (i : Instr) → is_simple i ≡ true → is_store i ≡ false → reheap heap (does P own i to l s heap) ≡ does P own i to l s heap
   unfolding does
@@ -241,6 +248,7 @@ module _ (P : Program) (own : Method) (l : List Value) (to : ℕ) (s : List Valu
   reheaped_simple (instr.Instanceof ty) h k = absurd (false≢true h)
   reheaped_simple instr.Aastore h k = absurd (false≢true h)
   reheaped_simple instr.Ireturn h k = absurd (false≢true h)
+  reheaped_simple instr.Athrow h k = absurd (false≢true h)
   reheaped_simple i h k = refl
 
 -- ---- no object is lost
@@ -371,6 +379,7 @@ module _ (P : Program) (own : Method) (l : List Value) (to : ℕ) (s : List Valu
   others (instr.New c) h k j = simp (r_if)
   others (instr.Checkcast ty) h k j = simp (r_value, r_class, r_if)
   others (instr.Instanceof ty) h k j = simp (r_value, r_class)
+  others instr.Athrow h k j = simp (r_value, r_object, r_throws)
   others (instr.Invokevirtual m) h k j = simp (r_some, r_values, r_value, r_if, r_text, r_class, r_calls_on)
   others (instr.Invokespecial m) h k j = simp (r_some, r_if, r_values, r_value, r_receiver, r_method)
   others (instr.Putfield f) h k j = absurd (false≢true (sym k))

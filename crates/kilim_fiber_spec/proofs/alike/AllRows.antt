@@ -30,7 +30,7 @@ use Rattle.kilim_run_state.specs.Objects.{new_object}
 use Rattle.kilim_program.specs.Lengths.{ends_path}
 use Rattle.kilim_fiber_spec.specs.Rows.{IsClean}
 use Rattle.kilim_fiber_spec.proofs.alike.Effects.{e_if}
-use Rattle.kilim_fiber_spec.proofs.alike.Lands.{q_constant, hushed, q_value, q_int, q_long, q_some, q_if, q_reference, q_object, q_index}
+use Rattle.kilim_fiber_spec.proofs.alike.Lands.{q_constant, hushed, q_value, q_int, q_long, q_some, q_if, q_reference, q_object, q_index, q_throws}
 use Rattle.kilim_fiber_spec.proofs.alike.TwinRows.{next_is, is_load}
 use Rattle.kilim_fiber_spec.proofs.alike.Hands.{hands}
 use Rattle.kilim_fiber_spec.proofs.alike.Shapes.{shapes}
@@ -78,6 +78,10 @@ module _ (set : Setting) (W : Program) (marks : List (List Bool)) (form : Forms 
   aastore_hushed : (own : Method) (to : ℕ) (l s : List Value) (heap : Objects) → hushed (does P own instr.Aastore to l s heap) ≡ does P own instr.Aastore to l s heap
   unfolding does
   aastore_hushed own to l s heap = simp (q_value, q_int, q_object, q_index, q_class, q_if)
+
+  throw_hushed : (own : Method) (to : ℕ) (l s : List Value) (heap : Objects) → hushed (does P own instr.Athrow to l s heap) ≡ does P own instr.Athrow to l s heap
+  unfolding does
+  throw_hushed own to l s heap = simp (q_value, q_object, q_throws)
 
   new_hushed : (own : Method) (c : ClassId) (to : ℕ) (l s : List Value) (heap : Objects) → hushed (does P own (instr.New c) to l s heap) ≡ does P own (instr.New c) to l s heap
   unfolding does
@@ -128,6 +132,9 @@ module _ (set : Setting) (W : Program) (marks : List (List Bool)) (form : Forms 
   twins m p to nx instr.Aastore l wl s x heap hf hp hn old clean alike held ok =
       more.twins_by set W marks form facts m p to nx instr.Aastore l wl s x heap hf hn (λ k. refl) (aastore_hushed (own_of P m) to l s heap)
       (λ at. more.same_aastore P P (own_of P m) (own_of P m) shared.self_agree at l heap old to l s clean.clean) (more.same_aastore P W (own_of P m) (own_of W m) shared.agree (form m).at wl heap old to l s clean.clean) alike held
+  twins m p to nx instr.Athrow l wl s x heap hf hp hn old clean alike held ok =
+      more.twins_by set W marks form facts m p to nx instr.Athrow l wl s x heap hf hn (λ k. refl) (throw_hushed (own_of P m) to l s heap)
+      (λ at. more.same_throw P P (own_of P m) (own_of P m) shared.self_agree at l heap old to l s) (more.same_throw P W (own_of P m) (own_of W m) shared.agree (form m).at wl heap old to l s) alike held
   twins m p to nx (instr.New c) l wl s x heap hf hp hn old clean alike held ok =
       let z = shared.makes m p to c hf in
       more.twins_by set W marks form facts m p to nx (instr.New c) l wl s x heap hf hn (λ k. refl) (new_hushed (own_of P m) c to l s heap)

@@ -126,6 +126,7 @@ is_simple (instr.New c) = false
 is_simple (instr.Checkcast ty) = false
 is_simple (instr.Instanceof ty) = false
 is_simple instr.Aastore = false
+is_simple instr.Athrow = false
 is_simple i = true
 
 module _ (at : ℕ → ℕ) (wl : List Value) where
@@ -235,4 +236,5 @@ module _ (P W : Program) (u v : Method) (at : ℕ → ℕ) (l wl : List Value) (
   same_simple (instr.Instanceof ty) h = absurd (false≢true h)
   same_simple instr.Aastore h = absurd (false≢true h)
   same_simple instr.Ireturn h = absurd (false≢true h)
+  same_simple instr.Athrow h = absurd (false≢true h)
   same_simple i h = refl

@@ -6,6 +6,8 @@ use Rattle.kilim_run_state.specs.declared.cause.EndCause.TheVariants as cause
 use Rattle.kilim_program.specs.declared.class.Method.{Method}
 use Rattle.kilim_program.specs.declared.instr.Instr.{Instr}
 use Rattle.kilim_program.specs.declared.instr.Instr.TheVariants as instr
+use Rattle.kilim_program.specs.declared.ty.Base.{Base}
+use Rattle.kilim_program.specs.declared.ty.Base.TheVariants as base
 use Rattle.kilim_program.specs.declared.ty.Ty.{Ty}
 use Rattle.kilim_run_state.specs.declared.value.Object.{Object}
 use Rattle.kilim_program.specs.declared.value.Value.{Value}
@@ -13,7 +15,7 @@ use Rattle.kilim_program.specs.declared.value.Value.TheVariants.{Int, Long, Ref,
 use Rattle.kilim_program.specs.Program.{Program}
 use Rattle.kilim_run_state.specs.Machine.{Objects}
 use Rattle.kilim_run_machine.specs.Effect.{Effect, Goes, Makes, Opens, Calls, Asks, Returns, Raises, Throws, Ends, Stuck, with_some, on_value, on_values, as_reference, as_receiver, as_int, as_long, when, wide_or, as_object, at_place, at_index, on_constant}
-use Rattle.kilim_run_machine.specs.Does.{does, makes_array, array_limit}
+use Rattle.kilim_run_machine.specs.Does.{does, makes_array, array_limit, throws_object}
 use Rattle.kilim_run_state.specs.Objects.{new_array}
 use Rattle.kilim_weave_spec.specs.Woven.{moved_instr}
 use Rattle.kilim_fiber_spec.specs.Rows.{elsewhere}
@@ -90,6 +92,11 @@ q_array : (ty : Ty) (v : Value) (n : ℤ) (nx : ℕ) (l s : List Value) (heap : 
 unfolding array_limit
 q_array ty v (negsuc n) nx l s heap = refl
 q_array ty v (pos n) nx l s heap = q_if (nat_lt array_limit n) (Ends cause.Large) (Makes (new_array ty v n) nx l s heap)
+
+pub q_throws : (P : Program) (n dims : ℕ) (b : Base) → hushed (throws_object P n dims b) ≡ throws_object P n dims b
+q_throws P n zero (base.Class c) = refl
+q_throws P n zero b = refl
+q_throws P n (suc d) b = refl
 
 module _ (P : Program) (own : Method) (l : List Value) (to : ℕ) (s : List Value) (heap : Objects) where
   pub hushed_simple : (i : Instr) → is_simple i ≡ true → hushed (does P own i to l s heap) ≡ does P own i to l s heap
@@ -188,6 +195,7 @@ module _ (P : Program) (own : Method) (l : List Value) (to : ℕ) (s : List Valu
   hushed_simple (instr.Instanceof ty) h = absurd (false≢true h)
   hushed_simple instr.Aastore h = absurd (false≢true h)
   hushed_simple instr.Ireturn h = absurd (false≢true h)
+  hushed_simple instr.Athrow h = absurd (false≢true h)
   hushed_simple i h = refl
 
 -- ---- where it goes: an instruction whose targets are moved by nothing does the same, so it goes to one of them

@@ -8,6 +8,8 @@ use Rattle.kilim_program.specs.declared.class.Method.{Method}
 use Rattle.kilim_program.specs.declared.instr.Instr.{Instr}
 use Rattle.kilim_program.specs.declared.instr.Instr.TheVariants as instr
 use Rattle.kilim_program.specs.declared.names.MethodId.{MethodId}
+use Rattle.kilim_program.specs.declared.ty.Base.{Base}
+use Rattle.kilim_program.specs.declared.ty.Base.TheVariants as base
 use Rattle.kilim_program.specs.declared.ty.Ty.{Ty}
 use Rattle.kilim_run_state.specs.declared.value.Object.{Object}
 use Rattle.kilim_program.specs.declared.value.Value.{Value}
@@ -16,8 +18,9 @@ use Rattle.kilim_program.specs.Program.{Program}
 use Rattle.kilim_run_state.specs.Machine.{Objects}
 use Rattle.kilim_program.specs.Names.{method_at}
 use Rattle.kilim_run_machine.specs.Natives.{Native, native_of}
-use Rattle.kilim_run_machine.specs.Effect.{Effect, Goes, Calls, Asks, Returns, Raises, Stuck}
-use Rattle.kilim_run_machine.specs.Does.{does}
+use Rattle.kilim_run_machine.specs.Effect.{Effect, Goes, Calls, Asks, Returns, Raises, Throws, Stuck}
+use Rattle.kilim_run_machine.specs.Does.{does, throws_object}
+use Rattle.kilim_run_machine.specs.Raising.{word_in, words}
 use Rattle.kilim_run_model.specs.State.{Setting}
 use Rattle.kilim_weave_spec.specs.Woven.{moved_instr}
 use Rattle.kilim_fiber_spec.specs.alike.Shares.{Agree, PlainCallee}
@@ -143,6 +146,21 @@ module _ (P Q : Program) (mine its : Method) (agree : Agree P Q) (at : ℕ → �
   same_static_field f to l s = let e = agree.fields f in
       ap (λ (o : Option Field). with_some o (λ field. with_some field.constant (λ v. on_constant v (λ c. Goes (at to) wl (c ∷ s) heap)))) e
       ∙ simp (e_some, e_constant)
+
+  same_thrown : (n dims : ℕ) (b : Base) → is_old_base P b → throws_object Q n dims b ≡ elsewhere at wl (throws_object P n dims b)
+  same_thrown n zero (base.Class c) is_old = ap (λ (name : List ℕ). Throws n c (word_in words name)) (agree.names c is_old)
+  same_thrown n zero b is_old = refl
+  same_thrown n (suc d) b is_old = refl
+
+  pub same_throw : (to : ℕ) (l s : List Value) → does Q its instr.Athrow (at to) wl s heap ≡ elsewhere at wl (does P mine instr.Athrow to l s heap)
+  unfolding does
+  same_throw to l [] = refl
+  same_throw to l (value.Ref n ∷ r) = by (get heap n) refl
+    where
+      by : (o : Option Object) → get heap n ≡ o → with_some o (λ object. throws_object Q n object.class.dims object.class.base) ≡ elsewhere at wl (with_some o (λ object. throws_object P n object.class.dims object.class.base))
+      by None e = refl
+      by (Some object) e = same_thrown n object.class.dims object.class.base (old n object e)
+  same_throw to l (v ∷ r) = refl
 
   pub same_ireturn : (to : ℕ) (l s : List Value) → its.result ≡ mine.result → does Q its instr.Ireturn (at to) wl s heap ≡ elsewhere at wl (does P mine instr.Ireturn to l s heap)
   unfolding does

@@ -1,5 +1,5 @@
 -- What a program and its woven form share, as far as instructions go: the premises of the law.
-use Rattle.std.specs.Prelude.{◌≡◌, ℕ, true, false, List, [], ◌∷◌, ◌++◌, Option, Some, None, codes, length}
+use Rattle.std.specs.Prelude.{◌≡◌, ◌<◌, ℕ, true, false, List, [], ◌∷◌, ◌++◌, Option, Some, None, codes, length}
 use Rattle.kilim_program.specs.declared.class.Method.{Method}
 use Rattle.kilim_program.specs.declared.instr.Instr.{Instr}
 use Rattle.kilim_program.specs.declared.instr.Instr.TheVariants as instr
@@ -10,7 +10,7 @@ use Rattle.kilim_program.specs.declared.ty.Ty.{Ty}
 use Rattle.kilim_program.specs.declared.value.Value.{Value}
 use Rattle.kilim_program.specs.BuiltIn.{class_type}
 use Rattle.kilim_program.specs.Fits.{fits_type}
-use Rattle.kilim_program.specs.Names.{field_of, method_at}
+use Rattle.kilim_program.specs.Names.{class_name, field_of, method_at}
 use Rattle.kilim_program.specs.Program.{Program}
 use Rattle.kilim_run_machine.specs.Does.{cast_fits, chosen, does, is_instance, is_mailbox, special}
 use Rattle.kilim_run_machine.specs.Effect.{Calls, Asks}
@@ -36,6 +36,7 @@ pub record Agree (P Q : Program) : Type 0 where
   pub box : (ty : Ty) → named_type P (codes "kilim/Mailbox") ≡ Some ty → is_old_base P ty.base
   pub same_text : named_type Q (codes "java/lang/String") ≡ named_type P (codes "java/lang/String")
   pub same_box : named_type Q (codes "kilim/Mailbox") ≡ named_type P (codes "kilim/Mailbox")
+  pub names : (c : ClassId) → c.0 < length P.classes → class_name Q c ≡ class_name P c
 
 -- a method and what it is in both programs
 pub record PlainCallee (P Q : Program) (mine its : Method) (i : Instr) (id : MethodId) (a : Method) : Type 0 where

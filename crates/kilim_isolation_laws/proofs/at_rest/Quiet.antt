@@ -7,6 +7,8 @@ use Rattle.kilim_program.specs.declared.class.Method.{Method}
 use Rattle.kilim_program.specs.Program.{Program}
 use Rattle.kilim_program.specs.declared.instr.Instr.{Instr}
 use Rattle.kilim_program.specs.declared.instr.Instr.TheVariants.{Nop, AconstNull, Iconst, Lconst, Bipush, Sipush, Ldc, LdcW, Ldc2W, Iload, Lload, Aload, Iaload, Laload, Aaload, Baload, Caload, Saload, Istore, Lstore, Astore, Iastore, Lastore, Aastore, Bastore, Castore, Sastore, Pop, Pop2, Dup, DupX1, DupX2, Dup2, Dup2X1, Dup2X2, Swap, Iadd, Ladd, Isub, Lsub, Imul, Lmul, Idiv, Ldiv, Irem, Lrem, Ineg, Lneg, Ishl, Lshl, Ishr, Lshr, Iushr, Lushr, Iand, Land, Ior, Lor, Ixor, Lxor, Iinc, I2l, L2i, I2b, I2c, I2s, Lcmp, Ifeq, Ifne, Iflt, Ifge, Ifgt, Ifle, IfIcmpeq, IfIcmpne, IfIcmplt, IfIcmpge, IfIcmpgt, IfIcmple, IfAcmpeq, IfAcmpne, Goto, Tableswitch, Lookupswitch, Ireturn, Lreturn, Areturn, Return, Getstatic, Getfield, Putfield, Invokevirtual, Invokespecial, Invokestatic, New, Newarray, Anewarray, Arraylength, Checkcast, Instanceof, Ifnull, Ifnonnull, GotoW, Athrow}
+use Rattle.kilim_program.specs.declared.ty.Base.{Base}
+use Rattle.kilim_program.specs.declared.ty.Base.TheVariants as base
 use Rattle.kilim_program.specs.declared.ty.Ty.{Ty}
 use Rattle.kilim_program.specs.declared.value.Value.{Value}
 use Rattle.kilim_program.specs.declared.value.Value.TheVariants.{Int, Long, Null, Ref, Text, Box, Fiber}
@@ -16,7 +18,7 @@ use Rattle.kilim_run_state.specs.Shapes.{field_in}
 use Rattle.kilim_program.specs.Names.{field_of}
 use Rattle.kilim_run_machine.specs.Effect.{Effect, Goes, Makes, Opens, Calls, Asks, Returns, Raises, Throws, Ends, Stuck, with_some, on_value, on_values, on_receiver, as_reference, as_receiver, as_int, as_long, on_int, on_two_ints, on_long, on_two_longs, is_wide, wide_or, on_word, on_two_words, on_reference, as_object, on_object, as_class, at_index, at_place, when, on_constant}
 use Rattle.kilim_program.specs.Members.{named_type}
-use Rattle.kilim_run_machine.specs.Does.{does, cast_fits, element_type, is_mailbox, makes_array, array_limit}
+use Rattle.kilim_run_machine.specs.Does.{does, cast_fits, element_type, is_mailbox, makes_array, array_limit, throws_object}
 
 abbrev pub AsksNothing : Effect → Type 0
 AsksNothing (Goes place locals stack heap) = Unit {0}
@@ -168,6 +170,11 @@ is_call (Invokespecial m) = true
 is_call (Invokestatic m) = true
 is_call i = false
 
+no_throw : (p : Program) (n dims : ℕ) (b : Base) → NoAsk (throws_object p n dims b)
+no_throw p n zero (base.Class c) = record { holds = tt }
+no_throw p n zero b = record { holds = tt }
+no_throw p n (suc d) b = record { holds = tt }
+
 pub no_ask : (p : Program) (own : Method) (i : Instr) (next : ℕ) (locals stack : List Value) (heap : Objects) → is_call i ≡ false → NoAsk (does p own i next locals stack heap)
 unfolding does
 no_ask p own Nop next locals stack heap e = (record { holds = tt })
@@ -273,4 +280,4 @@ no_ask p own (Anewarray ty) next locals stack heap e = no_on_int stack _ (λ n r
 no_ask p own Arraylength next locals stack heap e = no_on_object stack heap _ (λ n object rest. (record { holds = tt }))
 no_ask p own (Checkcast ty) next locals stack heap e = no_value stack _ (λ v rest. no_class p v heap _ (λ class. no_if (cast_fits p class ty) _ _ (record { holds = tt }) (record { holds = tt })))
 no_ask p own (Instanceof ty) next locals stack heap e = no_value stack _ (λ v rest. no_class p v heap _ (λ class. (record { holds = tt })))
-no_ask p own Athrow next locals stack heap e = (record { holds = tt })
+no_ask p own Athrow next locals stack heap e = no_on_object stack heap _ (λ n object rest. no_throw p n object.class.dims object.class.base)

@@ -7,6 +7,8 @@ use Rattle.kilim_program.specs.declared.verified.VType.TheVariants as vtype
 use Rattle.kilim_run_state.specs.declared.cause.EndCause.{EndCause}
 use Rattle.kilim_program.specs.declared.class.Method.{Method}
 use Rattle.kilim_program.specs.declared.instr.Instr.{Instr}
+use Rattle.kilim_program.specs.declared.ty.Base.{Base}
+use Rattle.kilim_program.specs.declared.ty.Base.TheVariants as base
 use Rattle.kilim_program.specs.declared.value.Value.{Value}
 use Rattle.kilim_program.specs.declared.value.Value.TheVariants.{Int, Long, Null}
 use Rattle.kilim_program.specs.declared.verified.VType.{VType}
@@ -14,7 +16,7 @@ use Rattle.kilim_program.specs.Program.{Program}
 use Rattle.kilim_run_state.specs.Machine.{Objects}
 use Rattle.kilim_program.specs.Lengths.{jump_targets, ends_path}
 use Rattle.kilim_run_machine.specs.Effect.{Effect, Goes, Ends, is_wide}
-use Rattle.kilim_run_machine.specs.Does.{does, int_binary, int_unary, int_division, long_binary, long_division, int_jump, compare_jump, reference_jump, null_jump, place_if, same_reference, is_null, table_target, target_or}
+use Rattle.kilim_run_machine.specs.Does.{does, int_binary, int_unary, int_division, long_binary, long_division, int_jump, compare_jump, reference_jump, null_jump, place_if, same_reference, is_null, table_target, target_or, throws_object}
 use Rattle.kilim_type_spec.specs.Step.{Types, peek, Operand, Further, Row, Takes, ints, longs, gives_int, gives_long, row, type_step}
 use Rattle.kilim_type_spec.specs.Typed.{edges, Among}
 use Rattle.kilim_isolation_laws.specs.forest.Relation.{Named}
@@ -287,6 +289,15 @@ module _ (p : Program) (m : Method) (pl to : ℕ) (f f1 : Types) (g g1 : Graph) 
   pub arraylength_h : IsStep instr.Arraylength → E instr.Arraylength (does p m instr.Arraylength to ls st h)
   unfolding does row deed ends_path jump_targets
   arraylength_h s = object_h (E instr.Arraylength) tt (λ c. tt) (λ c. tt) st h _ (λ n object rest e _. (inl refl, plain_left instr.Arraylength s _ (vtype.Int ∷ []) [] (refl, refl) (Int _ ∷ []) rest (ap (drop 1) e) (word_int _, tt)))
+
+  thrown_h : (n dims : ℕ) (b : Base) → E instr.Athrow (throws_object p n dims b)
+  thrown_h n zero (base.Class c) = tt
+  thrown_h n zero b = tt
+  thrown_h n (suc d) b = tt
+
+  pub athrow_h : E instr.Athrow (does p m instr.Athrow to ls st h)
+  unfolding does
+  athrow_h = object_h (E instr.Athrow) tt (λ c. tt) (λ c. tt) st h _ (λ n object rest e _. thrown_h n object.class.dims object.class.base)
 
   pub instanceof_h : (ty : Rattle.kilim_program.specs.declared.ty.Ty.Ty) → IsStep (instr.Instanceof ty) → E (instr.Instanceof ty) (does p m (instr.Instanceof ty) to ls st h)
   unfolding does row deed ends_path jump_targets

@@ -16,7 +16,7 @@ use Rattle.kilim_isolation_laws.proofs.graph_rows.Locals.{aload_h, astore_h, ilo
 use Rattle.kilim_isolation_laws.proofs.graph_rows.Making.{new_h}
 use Rattle.kilim_isolation_laws.proofs.graph_rows.NewArrays.{anewarray_h, newarray_h}
 use Rattle.kilim_isolation_laws.proofs.graph_rows.NumberArrays.{bastore_h, castore_h, iastore_h, iinc_h, lastore_h, sastore_h}
-use Rattle.kilim_isolation_laws.proofs.graph_rows.Plain.{arraylength_h, bipush_h, goto_h, i2b_h, i2l_h, iadd_h, iaload_h, iand_h, iconst_h, idiv_h, if_acmpeq_h, if_acmpne_h, if_icmpeq_h, if_icmplt_h, ifeq_h, iflt_h, ifnonnull_h, ifnull_h, imul_h, ineg_h, instanceof_h, irem_h, ishl_h, isub_h, l2i_h, ladd_h, lcmp_h, lconst_h, ldiv_h, nop_h, null_h, sipush_h, tableswitch_h}
+use Rattle.kilim_isolation_laws.proofs.graph_rows.Plain.{arraylength_h, athrow_h, bipush_h, goto_h, i2b_h, i2l_h, iadd_h, iaload_h, iand_h, iconst_h, idiv_h, if_acmpeq_h, if_acmpne_h, if_icmpeq_h, if_icmplt_h, ifeq_h, iflt_h, ifnonnull_h, ifnull_h, imul_h, ineg_h, instanceof_h, irem_h, ishl_h, isub_h, l2i_h, ladd_h, lcmp_h, lconst_h, ldiv_h, nop_h, null_h, sipush_h, tableswitch_h}
 use Rattle.kilim_isolation_laws.proofs.graph_rows.PlainMore.{baload_h, caload_h, getstatic_h, goto_w_h, i2c_h, i2s_h, if_icmpge_h, if_icmpgt_h, if_icmple_h, if_icmpne_h, ifge_h, ifgt_h, ifle_h, ifne_h, ior_h, ishr_h, iushr_h, ixor_h, laload_h, land_h, ldc2_w_h, ldc_h, ldc_w_h, lmul_h, lneg_h, lookupswitch_h, lor_h, lrem_h, lshl_h, lshr_h, lsub_h, lushr_h, lxor_h, saload_h}
 use Rattle.kilim_isolation_laws.proofs.graph_rows.Putting.{putfield_h}
 use Rattle.kilim_isolation_laws.proofs.graph_rows.Reading.{getfield_h}
@@ -143,4 +143,4 @@ rows_hold p k m pl to f f1 g g1 at h ls st below after (instr.Instanceof x) hd v
 rows_hold p k m pl to f f1 g g1 at h ls st below after (instr.Ifnull x) hd v typed moved here = ifnull_h p m pl to f f1 g g1 at h ls st below after x (hd, typed, moved)
 rows_hold p k m pl to f f1 g g1 at h ls st below after (instr.Ifnonnull x) hd v typed moved here = ifnonnull_h p m pl to f f1 g g1 at h ls st below after x (hd, typed, moved)
 rows_hold p k m pl to f f1 g g1 at h ls st below after (instr.GotoW x) hd v typed moved here = goto_w_h p k.constants k.text m pl to f f1 g g1 at h ls st below after x (hd, typed, moved)
-rows_hold p k m pl to f f1 g g1 at h ls st below after instr.Athrow hd v typed moved here = tt
+rows_hold p k m pl to f f1 g g1 at h ls st below after instr.Athrow hd v typed moved here = athrow_h p m pl to f f1 g g1 at h ls st below after

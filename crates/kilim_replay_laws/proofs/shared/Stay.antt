@@ -9,6 +9,8 @@ use Rattle.kilim_program.specs.declared.class.Method.{Method}
 use Rattle.kilim_program.specs.Program.{Program}
 use Rattle.kilim_program.specs.declared.instr.Instr.{Instr}
 use Rattle.kilim_program.specs.declared.instr.Instr.TheVariants.{Nop, AconstNull, Iconst, Lconst, Bipush, Sipush, Ldc, LdcW, Ldc2W, Iload, Lload, Aload, Iaload, Laload, Aaload, Baload, Caload, Saload, Istore, Lstore, Astore, Iastore, Lastore, Aastore, Bastore, Castore, Sastore, Pop, Pop2, Dup, DupX1, DupX2, Dup2, Dup2X1, Dup2X2, Swap, Iadd, Ladd, Isub, Lsub, Imul, Lmul, Idiv, Ldiv, Irem, Lrem, Ineg, Lneg, Ishl, Lshl, Ishr, Lshr, Iushr, Lushr, Iand, Land, Ior, Lor, Ixor, Lxor, Iinc, I2l, L2i, I2b, I2c, I2s, Lcmp, Ifeq, Ifne, Iflt, Ifge, Ifgt, Ifle, IfIcmpeq, IfIcmpne, IfIcmplt, IfIcmpge, IfIcmpgt, IfIcmple, IfAcmpeq, IfAcmpne, Goto, Tableswitch, Lookupswitch, Ireturn, Lreturn, Areturn, Return, Getstatic, Getfield, Putfield, Invokevirtual, Invokespecial, Invokestatic, New, Newarray, Anewarray, Arraylength, Checkcast, Instanceof, Ifnull, Ifnonnull, GotoW, Athrow}
+use Rattle.kilim_program.specs.declared.ty.Base.{Base}
+use Rattle.kilim_program.specs.declared.ty.Base.TheVariants as base
 use Rattle.kilim_program.specs.declared.ty.Ty.{Ty}
 use Rattle.kilim_program.specs.declared.value.Value.{Value}
 use Rattle.kilim_program.specs.declared.value.Value.TheVariants.{Int, Long, Null, Ref, Text, Box, Fiber}
@@ -17,7 +19,7 @@ use Rattle.kilim_run_state.specs.Machine.{Objects}
 use Rattle.kilim_run_state.specs.Shapes.{field_in}
 use Rattle.kilim_program.specs.Names.{field_of}
 use Rattle.kilim_run_machine.specs.Effect.{Effect, Goes, Makes, Opens, Calls, Asks, Returns, Raises, Throws, Ends, Stuck, with_some, on_value, on_values, on_receiver, as_reference, as_receiver, as_int, as_long, on_int, on_two_ints, on_long, on_two_longs, is_wide, wide_or, on_word, on_two_words, on_reference, as_object, on_object, as_class, at_index, at_place, when, on_constant}
-use Rattle.kilim_run_machine.specs.Does.{does, cast_fits, element_type, is_mailbox, makes_array, array_limit}
+use Rattle.kilim_run_machine.specs.Does.{does, cast_fits, element_type, is_mailbox, makes_array, array_limit, throws_object}
 use Rattle.kilim_program.specs.declared.names.MethodId.{MethodId}
 use Rattle.kilim_program.specs.Names.{method_at}
 use Rattle.kilim_program.specs.Lengths.{fetched}
@@ -185,6 +187,11 @@ module _ (h : Objects) where
   st_array ty v (negsuc n) next locals rest = record { holds = same }
   st_array ty v (pos n) next locals rest = st_if (nat_lt array_limit n) _ _ (record { holds = same }) (record { holds = same })
 
+  st_throw : (p : Program) (n dims : ℕ) (b : Base) → Stay (throws_object p n dims b)
+  st_throw p n zero (base.Class c) = record { holds = same }
+  st_throw p n zero b = record { holds = same }
+  st_throw p n (suc d) b = record { holds = same }
+
   -- ---- rows
 
   abbrev pub is_call : Instr → Bool
@@ -298,7 +305,7 @@ module _ (h : Objects) where
   st_ask p own Arraylength next locals stack e = st_on_object stack h _ (λ n object rest. (record { holds = same }))
   st_ask p own (Checkcast ty) next locals stack e = st_value stack _ (λ v rest. st_class p v h _ (λ class. st_if (cast_fits p class ty) _ _ (record { holds = same }) (record { holds = same })))
   st_ask p own (Instanceof ty) next locals stack e = st_value stack _ (λ v rest. st_class p v h _ (λ class. (record { holds = same })))
-  st_ask p own Athrow next locals stack e = (record { holds = same })
+  st_ask p own Athrow next locals stack e = st_on_object stack h _ (λ n object rest. st_throw p n object.class.dims object.class.base)
 
   -- ---- calls
 

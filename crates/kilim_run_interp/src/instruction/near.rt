@@ -14,8 +14,8 @@ use kilim_run_rows::{
     jump_on_references, jump_on_two_ints, load_constant, load_int, load_long, load_reference,
     long_to_int, negate_long, one_int, pop_two, pop_word, read_constant, read_field, read_int,
     read_long, read_reference, shift_int, shift_long, store_int, store_long, store_reference,
-    swap_words, test_type, two_ints, two_longs, write_field, write_int, write_long, write_narrowed,
-    write_reference,
+    swap_words, test_type, throw_object, two_ints, two_longs, write_field, write_int, write_long,
+    write_narrowed, write_reference,
 };
 use kilim_run_state::Heap;
 use kilim_run_state::frames::Frame;
@@ -132,7 +132,7 @@ pub fn act_near(
         Instr::Arraylength => Some(array_length(program, own, next, frame, read)),
         Instr::Checkcast(ref ty) => Some(cast(ty, program, own, next, frame, read)),
         Instr::Instanceof(ref ty) => Some(test_type(ty, program, own, next, frame, read)),
-        Instr::Athrow => unreachable!(),
+        Instr::Athrow => Some(throw_object(program, own, next, frame, read)),
         Instr::Invokevirtual(_) => None,
         Instr::Invokespecial(_) => None,
         Instr::Invokestatic(_) => None,

@@ -7,7 +7,7 @@ use Rattle.kilim_run_state.specs.Objects.{first_value_of, first_value, first_fie
 use Rattle.kilim_run_state.specs.Shapes.{field_in}
 use Rattle.kilim_run_model.proofs.kin.Words.{constant_kin}
 use mathlib.Core.List.{reverse_aux}
-use Rattle.std.proofs.Common.{◌≡◌, ℕ, ℤ, pos, negsuc, Bool, true, false, not, cond, List, [], ◌∷◌, ◌++◌, map, length, reverse, Option, Some, None, refl, sym, ap, subst, ◌∙◌, inl, inr, ◌==◌, ◌%◌, ◌^◌}
+use Rattle.std.proofs.Common.{◌≡◌, ℕ, zero, suc, ℤ, pos, negsuc, Bool, true, false, not, cond, List, [], ◌∷◌, ◌++◌, map, length, reverse, Option, Some, None, refl, sym, ap, subst, ◌∙◌, inl, inr, ◌==◌, ◌%◌, ◌^◌}
 use Rattle.std.specs.Prelude.{slice_get, slice_set, nat_lt}
 use Rattle.std.specs.Int.{cast_signed, w32}
 use Rattle.std.specs.Ordering.{int_eq}
@@ -33,7 +33,7 @@ use Rattle.kilim_program.specs.Names.{method_at, field_of}
 use Rattle.kilim_program.specs.Members.{object_fields}
 use Rattle.kilim_run_machine.specs.Effect.{Effect}
 use Rattle.kilim_run_machine.specs.Effect as effect
-use Rattle.kilim_run_machine.specs.Does.{does, int_binary, int_unary, int_division, long_binary, long_division, int_jump, compare_jump, reference_jump, null_jump, place_if, same_reference, is_null, with_field, narrowed_int, narrowed_to, array_limit, makes_array, calls_on, cast_fits, element_type}
+use Rattle.kilim_run_machine.specs.Does.{does, int_binary, int_unary, int_division, long_binary, long_division, int_jump, compare_jump, reference_jump, null_jump, place_if, same_reference, is_null, with_field, narrowed_int, narrowed_to, array_limit, makes_array, calls_on, cast_fits, element_type, throws_object}
 use Rattle.kilim_run_model.specs.kin.Kin.{Names, Owner, IsKin, AreKin, FieldsKin, ObjectsKin, MaybeKin, IsHeld, AreHeld, IsThere, IsAmong, StandsIn, Alike, EffectKin}
 use Rattle.kilim_run_model.specs.kin.Laws.{RowsKin}
 use Rattle.kilim_run_model.proofs.kin.Kins.{kin_append, kin_reverse, kin_get, kin_set, kin_replicate, kin_length}
@@ -76,6 +76,11 @@ module _ (p : Program) (of : Names) where
 module _ (p : Program) (own : Method) (good : ℕ → Type 0) (of : Names) (owner : ℕ → Owner) (t : ℕ) (h k : Objects) (alike : Alike of owner t k h k) (there : (n : ℕ) → good n → IsThere h n) where
   abbrev EKin : Effect → Effect → Type 0
   EKin e d = EffectKin good of owner t h k e d
+
+  throws_kin : (n x : ℕ) → of n ≡ Some x → (dims : ℕ) (b : Base) → EKin (throws_object p n dims b) (throws_object p x dims b)
+  throws_kin n x e zero (base.Class c) = record { object = e; class = refl; cause = refl }
+  throws_kin n x e zero b = tt
+  throws_kin n x e (suc d) b = tt
 
   array_kin : (ty : Ty) (v : Value) (n : ℕ) → IsKin of v v → ObjectsKin of (new_array ty v n) (new_array ty v n)
   array_kin ty v n e = record { class = refl; fields = tt; elements = kin_replicate of n v v e }
@@ -351,6 +356,11 @@ module _ (p : Program) (own : Method) (good : ℕ → Type 0) (of : Names) (owne
     lastore_row = on_long_kin good of owner t h k alike there vs ws s _ _ (λ y as1 bs1 z. on_int_kin good of owner t h k alike there as1 bs1 z _ _ (λ i ts us u. object_kin good of owner t h k alike there ts us u _ _ (λ n x o q held rs ss r. index_kin good of owner t h k alike there o.elements q.elements held.3.elements i _ _ (λ j v w e.
         (refl, l, r.0, written good of owner t h k alike there n x o q held _ _ (record { class = held.3.class; fields = held.3.fields; elements = kin_set of o.elements q.elements j _ _ held.3.elements refl }))))))
 
+    athrow_row : EKin (does p own instr.Athrow next ls vs h) (does p own instr.Athrow next ms ws k)
+    unfolding does
+    athrow_row = object_kin good of owner t h k alike there vs ws s _ _ (λ n x o q held rs ss r.
+        subst (λ (ty : Ty). EKin (throws_object p n o.class.dims o.class.base) (throws_object p x ty.dims ty.base)) held.3.class (throws_kin n x held.0 o.class.dims o.class.base))
+
     row : (i : Instr) → EKin (does p own i next ls vs h) (does p own i next ms ws k)
     unfolding does
     row instr.Nop = (refl, l, s.0, alike)
@@ -456,7 +466,7 @@ module _ (p : Program) (own : Method) (good : ℕ → Type 0) (of : Names) (owne
     row instr.Bastore = int_stores
     row instr.Castore = int_stores
     row instr.Sastore = int_stores
-    row instr.Athrow = tt
+    row instr.Athrow = athrow_row
 
 -- what stands on the stack stands on the stack
 all_stand : (h : Objects) (vs ws : List Value) → ((n : ℕ) → IsAmong ws n → IsAmong vs n) → AreHeld (IsThere h) ws → AreHeld (StandsIn h vs) ws

@@ -11,11 +11,13 @@ use Rattle.kilim_program.specs.declared.instr.Instr.{Instr}
 use Rattle.kilim_program.specs.declared.instr.Instr.TheVariants as instr
 use Rattle.kilim_program.specs.declared.names.BoxName.{BoxName}
 use Rattle.kilim_program.specs.declared.names.MethodId.{MethodId}
+use Rattle.kilim_program.specs.declared.ty.Base.{Base}
+use Rattle.kilim_program.specs.declared.ty.Base.TheVariants as base
 use Rattle.kilim_program.specs.declared.ty.Ty.{Ty}
 use Rattle.kilim_program.specs.declared.value.Value.{Value}
 use Rattle.kilim_program.specs.declared.value.Value.TheVariants.{Int, Long, Null, Ref, Text, Box, Fiber}
 use Rattle.kilim_program.specs.Lengths.{fetched}
-use Rattle.kilim_program.specs.Names.{method_at, field_of}
+use Rattle.kilim_program.specs.Names.{class_name, method_at, field_of}
 use Rattle.kilim_run_state.specs.declared.cause.EndCause.{EndCause}
 use Rattle.kilim_run_state.specs.declared.cause.EndCause.TheVariants as cause
 use Rattle.kilim_run_state.specs.declared.value.Object.{Object}
@@ -27,7 +29,7 @@ use Rattle.kilim_run_machine.specs.Natives as native
 use Rattle.kilim_run_state.specs.Shapes.{field_in, shape_of}
 use Rattle.kilim_run_machine.specs.Effect.{Effect, with_some, on_value, on_values, on_receiver, as_reference, as_receiver, as_int, as_long, on_int, on_two_ints, on_long, on_two_longs, is_wide, when, wide_or, on_word, on_two_words, on_reference, as_object, on_object, as_class, at_place, at_index, on_constant, text_of}
 use Rattle.kilim_run_machine.specs.Effect as effect
-use Rattle.kilim_run_machine.specs.Does.{does, makes_array, array_limit, calls_method, calls_on, chosen, special, unit_at, at_unit, text_answers, calls_text, loads_int, stores_int, cast_fits, element_type, is_mailbox}
+use Rattle.kilim_run_machine.specs.Does.{does, makes_array, array_limit, calls_method, calls_on, chosen, special, unit_at, at_unit, text_answers, calls_text, loads_int, stores_int, cast_fits, element_type, is_mailbox, throws_object}
 use Rattle.kilim_run_machine.specs.Moves.{Move, receiver_of, push_value, moves, move_by, called, returned, entered, goes_on, frame_limit, effect_found, effect_in, effect_of}
 use Rattle.kilim_run_machine.specs.Moves as move
 use Rattle.kilim_run_model.specs.State.{Setting, Thread, Alive, Ended, begun_on}
@@ -35,7 +37,7 @@ use Rattle.kilim_run_model.specs.Lone.{Lone, Next, next_move, thread_next, frame
 use Rattle.kilim_run_model.specs.Lone as next
 use Rattle.kilim_run_model.specs.Moving.{is_others, is_tasks}
 use Rattle.kilim_run_model.proofs.Raised.{raised_has, raises_has, throws_has}
-use Rattle.kilim_run_machine.specs.Raising.{thrown}
+use Rattle.kilim_run_machine.specs.Raising.{thrown, word_in, words}
 
 -- ---- effects
 
@@ -195,6 +197,20 @@ answers_fine name units (v ∷ w ∷ vs) go each = tt
 texts_fine : (named : Method) (args : List Value) (next : ℕ) (ls rs : List Value) (h : Objects) (v : Value) → Fine (calls_text named args next ls rs h v)
 texts_fine named args next ls rs h v = receiver_fine v _ (λ r. some_fine (text_of r) _ (λ units. answers_fine named.name units args _ (λ w. tt)))
 
+-- none of the words is that of an end that others decide
+abbrev NoOthers : List (List ℕ × EndCause) → Type 0
+NoOthers [] = Unit {0}
+NoOthers (e ∷ es) = (is_others e.1 ≡ false) × NoOthers es
+
+named_fine : (es : List (List ℕ × EndCause)) (name : List ℕ) → NoOthers es → is_others (word_in es name) ≡ false
+named_fine [] name a = refl
+named_fine (e ∷ es) name a = elim (bytes_eq name e.0) as (λ (b : Bool). is_others (cond b e.1 (word_in es name)) ≡ false) [ true ↦ a.0 | false ↦ named_fine es name a.1 ]
+
+throws_fine : (p : Program) (n dims : ℕ) (b : Base) → Fine (throws_object p n dims b)
+throws_fine p n zero (base.Class c) = named_fine words (class_name p c) (refl, (refl, (refl, (refl, (refl, (refl, (refl, (refl, tt))))))))
+throws_fine p n zero b = tt
+throws_fine p n (suc d) b = tt
+
 module _ (p : Program) (own : Method) (next : ℕ) (ls vs : List Value) (h : Objects) where
   loads_fine : Fine (loads_int next ls vs h)
   loads_fine = on_int_fine vs _ (λ i below. object_fine below h _ (λ n o rs. index_fine o.elements i _ (λ k v. int_fine v _ (λ x. tt))))
@@ -307,7 +323,7 @@ module _ (p : Program) (own : Method) (next : ℕ) (ls vs : List Value) (h : Obj
   row instr.Arraylength = object_fine vs h _ (λ n o rs. tt)
   row (instr.Checkcast ty) = value_fine vs _ (λ v rs. class_fine p v h _ (λ c. cond_fine (cast_fits p c ty) _ _ tt refl))
   row (instr.Instanceof ty) = value_fine vs _ (λ v rs. class_fine p v h _ (λ c. tt))
-  row instr.Athrow = tt
+  row instr.Athrow = object_fine vs h _ (λ n o rs. throws_fine p n o.class.dims o.class.base)
 
 -- ---- moves
 

@@ -39,7 +39,7 @@ use Rattle.kilim_type_spec.specs.Step.{Is, Types, arguments, class_vtype, may_na
 use Rattle.kilim_type_spec.specs.Typed.{has_code}
 use Rattle.kilim_fiber_spec.specs.Rows.{Receives, below_arguments, class_if}
 use Rattle.kilim_fiber_spec.proofs.alike.Effects.{is_simple}
-use Rattle.kilim_fiber_spec.proofs.alike.Lands.{hushed, hushed_simple, q_constant, q_if, q_index, q_int, q_long, q_object, q_reference, q_some, q_value}
+use Rattle.kilim_fiber_spec.proofs.alike.Lands.{hushed, hushed_simple, q_constant, q_if, q_index, q_int, q_long, q_object, q_reference, q_some, q_throws, q_value}
 use Rattle.kilim_fiber_laws.proofs.courses.answers.Texts.{NotNull, bare, own_text_is, text_alone}
 
 -- ---- instructions that call nothing
@@ -88,6 +88,7 @@ module _ (p : Program) (own : Method) (to : ℕ) (l s : List Value) (heap : Obje
   others (instr.New c) h k = simp (q_if)
   others (instr.Checkcast ty) h k = simp (q_value, q_class, q_if)
   others (instr.Instanceof ty) h k = simp (q_value, q_class)
+  others instr.Athrow h k = simp (q_value, q_object, q_throws)
   others instr.Aastore h k = simp (q_value, q_int, q_object, q_index, q_class, q_if)
   others (instr.Invokevirtual m) h k = absurd (false≢true (sym k))
   others (instr.Invokespecial m) h k = absurd (false≢true (sym k))

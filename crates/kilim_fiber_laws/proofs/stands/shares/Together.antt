@@ -98,6 +98,7 @@ module _ (set : Setting) (W : Program) (counted : List (List Bool)) (keeps : Kee
     box = λ ty e. names.named_old P W counted keeps plainly form (codes "kilim/Mailbox") ty e;
     same_text = refl;
     same_box = refl;
+    names = λ c h. refl;
   }
 
   agree : Agree P W
@@ -108,6 +109,7 @@ module _ (set : Setting) (W : Program) (counted : List (List Bool)) (keeps : Kee
     box = λ ty e. names.named_old P W counted keeps plainly form (codes "kilim/Mailbox") ty e;
     same_text = names.named_same P W counted keeps plainly form (codes "java/lang/String") refl;
     same_box = names.named_same P W counted keeps plainly form (codes "kilim/Mailbox") refl;
+    names = λ c h. lines.name_same P W keeps (theorem.fiber_parts P W counted keeps plainly form) (names.grown P W counted keeps plainly form) c h;
   }
 
   results : (m : MethodId) (p : ℕ) (found : _) → fetch P m p ≡ Some found → (own_of W m).result ≡ (own_of P m).result

@@ -9,7 +9,7 @@ use Rattle.kilim_run_interp.specs.Step.{Steps}
 use Rattle.kilim_run_interp.specs.declared.machine.Stepped.{Stepped}
 use Rattle.kilim_run_interp.specs.declared.machine.Stepped.TheVariants.{NewBox}
 use Rattle.kilim_run_interp.proofs.Results.{if_ok}
-use Rattle.kilim_run_interp.proofs.Settling.{goes_on_at, goes_on_made, from_still, raises, ends}
+use Rattle.kilim_run_interp.proofs.Settling.{goes_on_at, goes_on_made, from_still, raises, throws, ends}
 use Rattle.kilim_run_interp.proofs.machine.settle.Goals as goal
 
 pub returns-in-Next-clause-steps : goal.returns-in-Next-clause-steps
@@ -35,6 +35,11 @@ pub returns-in-Raised-clause-steps : goal.returns-in-Raised-clause-steps
 returns-in-Raised-clause-steps c e before h k shows same =
     let told = rw c.in-Raised.is at shows in
     raises c.args.program.now e before c.args.frames.now.top (below_of c.args.frames.now) h k c.in-Raised.cause (told.0)
+
+pub returns-in-Thrown-clause-steps : goal.returns-in-Thrown-clause-steps
+returns-in-Thrown-clause-steps c e before h k shows same =
+    let told = rw c.in-Thrown.is at shows in
+    throws c.args.program.now e before c.args.frames.now.top (below_of c.args.frames.now) h k _ _ c.in-Thrown.cause (told.0)
 
 pub returns-in-Ended-clause-steps : goal.returns-in-Ended-clause-steps
 returns-in-Ended-clause-steps c e before h k shows same =

@@ -1,5 +1,5 @@
 -- A row for each instruction: what its call requires, and what it ensures.
-use Rattle.std.proofs.Common.{refl, true≢false, arith}
+use Rattle.std.proofs.Common.{refl, arith}
 use Rattle.kilim_run_machine.specs.Does.{does}
 use Rattle.kilim_run_interp.proofs.instruction.Tables.{int_load_row, int_shift_row, long_shift_row, narrow_store_row, one_int_row, two_longs_row, value_returned}
 use Rattle.kilim_run_interp.proofs.instruction.near.act_near.Goals as goal
@@ -349,9 +349,11 @@ pub returns-in-Return : goal.returns-in-Return
 unfolding does
 returns-in-Return c = record { step = (rw c.in-Return.is, record { frame = refl; heap = refl }); same = record { method = refl; room = refl } }
 
-pub unreachable-requires : goal.unreachable-requires
-unfolding does
-unreachable-requires c = true≢false (rw c.in-Athrow.is at c.requires.fine)
+pub throw_object-requires : goal.throw_object-requires
+throw_object-requires c = rw c.in-Athrow.is at c.requires.fine
+
+pub returns-in-Athrow : goal.returns-in-Athrow
+returns-in-Athrow c = record { step = rw c.in-Athrow.is c.throw_object.ensures.step; same = c.throw_object.ensures.same }
 
 pub two_ints-requires : goal.two_ints-requires
 unfolding does
